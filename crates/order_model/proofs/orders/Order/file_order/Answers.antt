@@ -1,0 +1,13 @@
+use Rattle.std.proofs.Common.{◌≡◌, ℕ, List, ◌++◌, ◌∷◌, [], sym, ap, ◌∙◌, subst, arith}
+use Rattle.order_model.specs.Orders.{variables}
+use Rattle.order_model.specs.OrderFaults.{Accepts}
+use Rattle.order_model.proofs.OrderTypes.{accepts_variables, variables_more}
+use Rattle.order_model.proofs.orders.Order.file_order.Goals as goal
+
+pub loop-x-preserved : goal.loop-x-preserved
+loop-x-preserved c = c.in_ok-push.ensures.items ∙ ap (λ xs. xs ++ c.loop-x.x ∷ []) c.loop-x.invariant ∙ sym (variables_more c.loop-x.x)
+
+pub invariant_of-result : goal.invariant_of-result
+invariant_of-result c =
+    let e : c.loop-x.x ≡ c.args.n = omega arith in
+    subst Accepts (ap variables (sym e) ∙ sym c.loop-x.invariant) (accepts_variables c.args.n c.requires.some c.requires.few)

@@ -1,0 +1,6 @@
+use Rattle.std.proofs.Common.{ℕ, length}
+use Rattle.order_model.proofs.OrderTypes.{Seen}
+use Rattle.order_model.proofs.orders.has_repeat.Given as goal
+
+abbrev pub invariant-loop-x : goal.invariant-loop-x
+invariant-loop-x l = Seen l.variables l.x-index l.seen

@@ -1,0 +1,26 @@
+-- Which lists of variables are orders, and what is wrong with the others.
+--     Accepts xs      xs has 1 to 16 variables, and is an order of as many
+--     IsOutOfRange xs, Refuses xs fault      why xs is no order
+use Rattle.std.specs.Prelude.{◌≡◌, ℕ, ◌<◌, ◌≤◌, List, length}
+use Rattle.std.specs.List.{All}
+use Rattle.order_model.specs.declared.orders.BadOrder.{BadOrder}
+use Rattle.order_model.specs.declared.orders.BadOrder.TheVariants.{NotEach, OutOfRange, OutOfMemory}
+use Rattle.order_model.specs.Orders.{IsOrder}
+
+-- an order of 1 to 16 variables
+pub record Accepts (xs : List ℕ) : Type 0 where
+  pub some : 1 ≤ length xs
+  pub few : length xs ≤ 16
+  pub order : IsOrder (length xs) xs
+
+-- a list of 1 to 16 variables, each below its length
+pub record IsInRange (xs : List ℕ) : Type 0 where
+  pub some : 1 ≤ length xs
+  pub few : length xs ≤ 16
+  pub below : All (λ x. x < length xs) xs
+
+-- why a list is no order: being out of range comes first
+abbrev pub Refuses : List ℕ → BadOrder → Type 0
+Refuses xs OutOfRange = IsInRange xs → ⊥
+Refuses xs NotEach = IsInRange xs × (IsOrder (length xs) xs → ⊥)
+Refuses xs OutOfMemory = Unit {0}

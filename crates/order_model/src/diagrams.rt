@@ -1,0 +1,159 @@
+//! Ordered decision diagrams with several roots.
+
+ghost use Rattle.std.specs.Prelude.{◌≡◌, ◌<◌, ◌≤◌, ◌^◌, ℕ, length, slice_index};
+ghost use Rattle.order_model.specs.Functions.{point_of};
+ghost use Rattle.order_model.specs.Diagrams.{AreNodes, IsBefore, child_at, value, nodes_at, variable_count};
+ghost use Rattle.order_model.specs.declared.Node.{Node};
+ghost use Rattle.std.specs.List.{All};
+ghost use Rattle.order_model.specs.OrderedGraphs.{IsOrderedGraph, IsDiagramUnder, root_value};
+
+use crate::orders::Order;
+use crate::variables::VarIx;
+use crate::{Node, Ref};
+use std::marker::Model;
+
+/// The child of a node that the point with a number takes.
+fn child(variables: u8, node: Node, point: u32) -> Ref
+    requires variables { variables ≤ 16 }
+    requires node { node.variable < variables }
+    ensures { result ≡ child_at (point_of variables point) node }
+{
+    if (point >> node.variable) & 1 == 1 {
+        node.upper
+    } else {
+        node.lower
+    }
+}
+
+/// The value of a ref at the point with a number.
+pub fn eval(variables: u8, nodes: &[Node], root: Ref, point: u32) -> bool
+    requires variables { variables ≤ 16 }
+    requires nodes { AreNodes variables nodes.now }
+    requires root { IsBefore (length nodes.now) root }
+    ensures { result ≡ value nodes.now root (point_of variables point) }
+{
+    let mut here = root;
+    loop {
+        match here {
+            Ref::Terminal(value) => return value,
+            Ref::Place(place) => here = child(variables, nodes[place], point),
+        }
+    }
+}
+
+/// How many nodes each variable has.
+fn counts_by_variable(nodes: &[Node]) -> [u32; 16]
+    requires few { length nodes.now < 2 ^ 32 }
+    requires variables { All (λ (node : Node). node.variable < 16) nodes.now }
+    ensures { (x : ℕ) → x < 16 → slice_index result x ≡ variable_count nodes.now x }
+{
+    let mut counts = [0u32; 16];
+    for node in nodes {
+        let variable = node.variable as usize;
+        counts[variable] += 1;
+    }
+    counts
+}
+
+/// The counts of the variables in an order, top first, and zeros behind them.
+fn in_order(order: &[VarIx], counts: [u32; 16]) -> [u32; 16]
+    requires few { length order.now ≤ 16 }
+    requires variables { All (λ x. x < 16) order.now }
+    ensures counts { (i : ℕ) → i < length order.now → slice_index result i ≡ slice_index counts (slice_index order.now i) }
+    ensures others { (i : ℕ) → length order.now ≤ i → slice_index result i ≡ 0 }
+{
+    let mut levels = [0u32; 16];
+    for (level, x) in order.iter().enumerate() {
+        levels[level] = counts[*x as usize];
+    }
+    levels
+}
+
+/// A diagram with one root a function, and the order of its variables. Its size is the number of its nodes, used or not.
+#[derive(Debug, Drop)]
+pub struct Diagram {
+    order: Order,
+    nodes: Vec<Node>,
+    roots: Vec<Ref>,
+}
+
+impl Model for Diagram {
+    ghost use Rattle.order_model.specs.OrderedGraphs.{OrderedGraph, IsOrderedGraph as HoldsGraph};
+
+    ghost Value = { OrderedGraph };
+
+    ghost view = { λ d. record { order = d.order; graph = record { nodes = d.nodes.items; roots = d.roots.items } } };
+
+    ghost invariant = { λ d. HoldsGraph (record { order = d.order; graph = record { nodes = d.nodes.items; roots = d.roots.items } }) };
+}
+
+impl Diagram {
+    /// The diagram of some nodes, each behind its children.
+    pub fn new(order: Order, nodes: Vec<Node>, roots: Vec<Ref>) -> Diagram
+        requires few { length nodes.items < 2 ^ 32 }
+        requires diagram { IsDiagramUnder order nodes.items roots.items }
+        ensures order { result.order ≡ order }
+        ensures nodes { result.graph.nodes ≡ nodes.items }
+        ensures roots { result.graph.roots ≡ roots.items }
+    {
+        Diagram { order, nodes, roots }
+    }
+
+    /// The order of the variables, top first.
+    pub fn order(&self) -> &Order
+        ensures value { result.now ≡ self.now.order }
+        ensures diagram { IsOrderedGraph self.now }
+    {
+        &self.order
+    }
+
+    /// The nodes, each behind its children.
+    pub fn nodes(&self) -> &[Node]
+        ensures value { result.now ≡ self.now.graph.nodes }
+        ensures diagram { IsOrderedGraph self.now }
+    {
+        &self.nodes
+    }
+
+    /// The roots, one a function.
+    pub fn roots(&self) -> &[Ref]
+        ensures value { result.now ≡ self.now.graph.roots }
+        ensures diagram { IsOrderedGraph self.now }
+    {
+        &self.roots
+    }
+
+    /// How many nodes the diagram has.
+    pub fn size(&self) -> usize
+        ensures { result ≡ length self.now.graph.nodes }
+    {
+        self.nodes.len()
+    }
+
+    /// The value of an output at the point with a number.
+    pub fn eval(&self, output: usize, point: u32) -> bool
+        requires { output < length self.now.graph.roots }
+        ensures { result ≡ root_value self.now.graph output (point_of (length self.now.order) point) }
+    {
+        eval(self.order.len() as u8, &self.nodes, self.roots[output], point)
+    }
+
+    /// How many nodes each level has, top first; levels that the order doesn't have are given 0.
+    pub fn level_counts(&self) -> [u32; 16]
+        ensures counts { (i : ℕ) → i < length self.now.order → slice_index result i ≡ nodes_at self.now.graph (slice_index self.now.order i) }
+        ensures others { (i : ℕ) → length self.now.order ≤ i → slice_index result i ≡ 0 }
+    {
+        in_order(self.order.variables(), counts_by_variable(&self.nodes))
+    }
+
+    /// The order, the nodes and the roots.
+    pub fn into_parts(self) -> (Order, Vec<Node>, Vec<Ref>)
+        ensures order { result.0 ≡ self.order }
+        ensures nodes { result.1.items ≡ self.graph.nodes }
+        ensures roots { result.2.items ≡ self.graph.roots }
+        ensures diagram { IsOrderedGraph self }
+    {
+        let Diagram { order, nodes, roots } = self;
+        (order, nodes, roots)
+    }
+}

@@ -1,0 +1,14 @@
+//! What a caller does between a worker's claim and its result.
+
+/// Called by workers between the claim of an item and its result. Workers are numbered from 1.
+pub trait Gate: Sync {
+    fn between(&self, worker: u8, item: u32);
+}
+
+/// A gate that does nothing.
+#[derive(Clone, Copy, Debug)]
+pub struct NoGate;
+
+impl Gate for NoGate {
+    fn between(&self, _worker: u8, _item: u32) {}
+}

@@ -1,0 +1,145 @@
+//! Orders of the variables.
+
+ghost use Rattle.std.specs.Prelude.{◌≡◌, ◌↔◌, ◌<◌, ◌≤◌, ℕ, length, IfOk, IfErr, OnOk, IsTrue, IsFalse, List, nat_eq};
+ghost use Rattle.std.specs.Bool.{OnTrue};
+ghost use Rattle.std.specs.List.{All, IsDistinct};
+ghost use Rattle.order_model.specs.Orders.{IsOrder, has, place_in, variables as all_variables};
+ghost use Rattle.order_model.specs.OrderFaults.{Accepts, IsInRange, Refuses};
+
+use crate::variables::{Mask, VarIx};
+use std::alloc::{AllocError, Global};
+use std::marker::Model;
+use thiserror::Error;
+
+/// Why a list of variables is no order.
+#[derive(Clone, Copy, Debug, PartialEq, Eq, Error)]
+pub enum BadOrder {
+    /// Each variable is in range, and some variable is missing.
+    #[error("NotEach")]
+    NotEach,
+    /// The list has not 1 to 16 variables, or one is not below its length.
+    #[error("OutOfRange")]
+    OutOfRange,
+    #[error("OutOfMemory")]
+    OutOfMemory,
+}
+
+/// A variable order, top first: each variable of 0 to n-1 once, n being 1 to 16.
+#[derive(Debug, Drop)]
+pub struct Order {
+    variables: Vec<VarIx>,
+}
+
+impl Model for Order {
+    ghost Value = { List ℕ };
+
+    ghost view = { λ o. o.variables.items };
+
+    ghost invariant = { λ o. Accepts o.variables.items };
+}
+
+/// Whether a list has 1 to 16 variables, each below its length.
+fn is_in_range(variables: &[VarIx]) -> bool
+    ensures { IsTrue result ↔ IsInRange variables.now }
+{
+    let n = variables.len();
+    1 <= n && n <= 16 && variables.iter().all(|x| (*x as usize) < n)
+}
+
+/// Whether some variable stands in a list twice.
+fn has_repeat(variables: &[VarIx]) -> bool
+    requires { All (λ x. x < 16) variables.now }
+    ensures repeated { OnTrue result (IsDistinct nat_eq variables.now → ⊥) }
+    ensures distinct { IsFalse result → IsDistinct nat_eq variables.now }
+{
+    let mut seen: Mask = 0;
+    for x in variables {
+        if (seen >> *x) & 1 == 1 {
+            return true;
+        }
+        seen |= 1 << *x;
+    }
+    false
+}
+
+/// The place of a variable that stands in a list.
+fn place_in_list(variables: &[VarIx], x: VarIx) -> usize
+    requires distinct { IsDistinct nat_eq variables.now }
+    requires there { IsTrue (has variables.now x) }
+    ensures place { result ≡ place_in variables.now x }
+    ensures within { result < length variables.now }
+{
+    for (place, y) in variables.iter().enumerate() {
+        if *y == x {
+            return place;
+        }
+    }
+    unreachable!()
+}
+
+impl Order {
+    /// The order of a list, top first. A list that is out of range is told first.
+    pub fn try_from_slice(alloc: Global, variables: &[VarIx]) -> Result<Order, BadOrder>
+        ensures accepted { OnOk result (Accepts variables.now) }
+        ensures value { IfOk result (λ order. order ≡ variables.now) }
+        ensures refused { IfErr result (Refuses variables.now) }
+    {
+        if !is_in_range(variables) {
+            return Err(BadOrder::OutOfRange);
+        }
+        if has_repeat(variables) {
+            return Err(BadOrder::NotEach);
+        }
+        match variables.to_vec(alloc) {
+            Ok(variables) => Ok(Order { variables }),
+            Err(_) => Err(BadOrder::OutOfMemory),
+        }
+    }
+
+    /// The file order of n variables: 0, 1, .., n-1.
+    pub fn file_order(alloc: Global, n: u8) -> Result<Order, AllocError>
+        requires some { 1 ≤ n }
+        requires few { n ≤ 16 }
+        ensures { IfOk result (λ order. order ≡ all_variables n) }
+    {
+        let mut variables = Vec::with_capacity(alloc, n as usize)?;
+        for x in 0..n {
+            variables.push(x)?;
+        }
+        Ok(Order { variables })
+    }
+
+    /// How many variables there are.
+    pub fn len(&self) -> usize
+        ensures value { result ≡ length self.now }
+        ensures some { 1 ≤ result }
+        ensures few { result ≤ 16 }
+    {
+        self.variables.len()
+    }
+
+    /// The variables, top first.
+    pub fn variables(&self) -> &[VarIx]
+        ensures value { result.now ≡ self.now }
+        ensures order { IsOrder (length self.now) self.now }
+        ensures small { All (λ x. x < 16) self.now }
+    {
+        &self.variables
+    }
+
+    /// The place of a variable, counted from the top.
+    pub fn place_of(&self, x: VarIx) -> usize
+        requires { x < length self.now }
+        ensures place { result ≡ place_in self.now x }
+        ensures within { result < length self.now }
+    {
+        place_in_list(&self.variables, x)
+    }
+
+    /// The same order once more.
+    pub fn try_clone(&self, alloc: Global) -> Result<Order, AllocError>
+        ensures { IfOk result (λ order. order ≡ self.now) }
+    {
+        Ok(Order { variables: self.variables.to_vec(alloc)? })
+    }
+}

@@ -1,0 +1,50 @@
+//! Variables, sets of variables, and the number of workers.
+
+ghost use Rattle.std.specs.Prelude.{◌≡◌, ◌<◌, ◌≤◌, ℕ, ◌↔◌, IsSome, IfSome};
+
+use std::marker::Model;
+
+/// The number of a variable in the file's order: 0 to 15.
+pub type VarIx = u8;
+
+/// A set of variables: bit x stands for variable x.
+pub type Mask = u16;
+
+/// A number of workers: 1 to 64.
+#[derive(Clone, Copy, Debug, PartialEq, Eq)]
+pub struct Workers {
+    count: u8,
+}
+
+impl Model for Workers {
+    ghost Value = { ℕ };
+
+    ghost view = { λ w. w.count };
+
+    ghost invariant = { λ w. (1 ≤ w.count) × (w.count ≤ 64) };
+
+    ghost inverse = { λ n. record { count = n } };
+}
+
+impl Workers {
+    /// That many workers, where there may be so many.
+    pub fn new(count: u8) -> Option<Workers>
+        ensures some { IsSome result ↔ ((1 ≤ count) × (count ≤ 64)) }
+        ensures value { IfSome result (λ w. w ≡ count) }
+    {
+        if 1 <= count && count <= 64 {
+            Some(Workers { count })
+        } else {
+            None
+        }
+    }
+
+    /// How many workers there are.
+    pub fn count(self) -> u8
+        ensures value { result ≡ self }
+        ensures some { 1 ≤ result }
+        ensures most { result ≤ 64 }
+    {
+        self.count
+    }
+}
