@@ -1,0 +1,23 @@
+use Rattle.std.proofs.Common.{◌≡◌, ◌<◌, ◌+◌, ℕ, sym, ◌∙◌, arith, subst}
+use Rattle.order_model.proofs.PackedProblems.{MaskOfFirst, mask_none, mask_with_next, mask_without_next, some_dependence, dependence_is, essential_is}
+use Rattle.order_model.proofs.problem.Problem.essential.Goals as goal
+use Rattle.order_model.proofs.problem.Problem.essential.Goals.{then-has_dependence, else-has_dependence}
+
+pub loop-x-init : goal.loop-x-init
+loop-x-init c = mask_none (some_dependence c.args.self.now)
+
+pub loop-x-preserved : goal.loop-x-preserved
+loop-x-preserved c =
+    let small : c.loop-x.x < 16 = omega arith in
+    let is = dependence_is c.args.self.now c.loop-x.x in
+    elim c.if-has_dependence.branch [
+      | then-has_dependence w ↦ subst (λ (m : ℕ). MaskOfFirst (some_dependence c.args.self.now) (c.loop-x.x + 1) m) (sym w.mask-is)
+        (mask_with_next (some_dependence c.args.self.now) c.loop-x.x c.loop-x.mask small c.loop-x.invariant (is ∙ sym w.if-has_dependence.ensures))
+      | else-has_dependence w ↦ subst (λ (m : ℕ). MaskOfFirst (some_dependence c.args.self.now) (c.loop-x.x + 1) m) (sym w.mask-is)
+        (mask_without_next (some_dependence c.args.self.now) c.loop-x.x c.loop-x.mask small c.loop-x.invariant (is ∙ sym w.if-has_dependence.ensures))
+    ]
+
+pub returns : goal.returns
+returns c =
+    let e : c.loop-x.x ≡ c.args.self.now.inputs = omega arith in
+    essential_is c.args.self.now c.loop-x.mask (subst (λ (k : ℕ). MaskOfFirst (some_dependence c.args.self.now) k c.loop-x.mask) e c.loop-x.invariant)
