@@ -1,0 +1,6 @@
+pub mod Reading
+pub mod TextLemmas
+pub mod NameLemmas
+pub mod Digits
+pub mod TermLemmas
+pub mod RowLemmas

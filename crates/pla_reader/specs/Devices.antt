@@ -1,0 +1,11 @@
+-- What reading a device to its end answers.
+--     IsRead old new failures result      the bytes, or why there are none
+use Rattle.std.specs.Prelude.{◌≡◌, ℕ, ◌+◌, ◌<◌, List, length, Option, IfSome}
+use Rattle.pla_reader.specs.declared.devices.Refused.{Refused}
+use Rattle.pla_reader.specs.declared.devices.Refused.TheVariants.{TooLong, Device, OutOfMemory}
+
+-- why a refusal is given, by the bytes that the device had, and the number of failed calls before and after
+abbrev pub Refuses : ℕ → Option (List ℕ) → ℕ → ℕ → Refused → Type 0
+Refuses limit bytes before after TooLong = IfSome bytes (λ xs. limit < length xs) × (after ≡ before)
+Refuses limit bytes before after Device = after ≡ before + 1
+Refuses limit bytes before after OutOfMemory = after ≡ before
