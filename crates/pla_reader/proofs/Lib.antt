@@ -4,3 +4,5 @@ pub mod NameLemmas
 pub mod Digits
 pub mod TermLemmas
 pub mod RowLemmas
+pub mod LineLemmas
+pub mod ReadLemmas

@@ -7,4 +7,6 @@ pub mod Reading
 pub mod Masks
 pub mod Views
 pub mod Statements
+pub mod Progress
+pub mod Answering
 pub mod Devices

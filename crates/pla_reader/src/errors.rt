@@ -1,5 +1,6 @@
 //! Why an input is not read.
 
+use std::alloc::AllocError;
 use thiserror::Error;
 
 /// What is wrong with a line.
@@ -64,4 +65,15 @@ pub enum PlaError {
     /// An allocation was refused.
     #[error("OutOfMemory")]
     OutOfMemory,
+}
+
+impl From<AllocError> for PlaError {
+    ghost use Rattle.std.specs.Prelude.{◌≡◌};
+    ghost use Rattle.pla_reader.specs.declared.errors.PlaError.TheVariants.{OutOfMemory};
+
+    ghost from_gives = { λ _ e. e ≡ OutOfMemory };
+
+    fn from(_: AllocError) -> PlaError {
+        PlaError::OutOfMemory
+    }
 }

@@ -8,6 +8,7 @@ ghost use Rattle.pla_reader.specs.Statements.{line_of};
 use crate::lines::{content, next_word};
 
 /// What a line says, with the text behind its directive, or that of its term.
+#[derive(Drop)]
 pub enum Statement<'a> {
     Empty,
     Inputs(&'a [u8]),
