@@ -5,7 +5,7 @@
 --     cover_of lines      the cover of the lines
 use Rattle.std.specs.Prelude.{ℕ, Bool, true, false, cond, ◌==◌, List, [], ◌∷◌, ◌++◌, map, take, drop, Option, Some, None, decimal, filter_map, codes}
 use Rattle.std.specs.List.{range_with_len}
-use Rattle.pla_reader.specs.Products.{Product}
+use Rattle.order_model.specs.Products.{Product}
 use Rattle.pla_reader.specs.Text.{number_of}
 use Rattle.pla_reader.specs.Lines.{Line}
 use Rattle.pla_reader.specs.Lines.Line.{Inputs, Outputs, InputNames, OutputNames, LogicalType, Row}

@@ -1,6 +1,5 @@
 pub mod Text
 pub mod Lines
-pub mod Products
 pub mod Covers
 pub mod Faults
 pub mod Reading
@@ -9,4 +8,3 @@ pub mod Views
 pub mod Statements
 pub mod Progress
 pub mod Answering
-pub mod Devices

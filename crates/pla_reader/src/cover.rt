@@ -3,10 +3,10 @@
 ghost use Rattle.std.specs.Prelude.{◌≡◌, ◌≤◌, length, map};
 ghost use Rattle.std.specs.List.{All};
 ghost use Rattle.std.specs.String.{string_bytes};
-ghost use Rattle.pla_reader.specs.Products.{product_of};
+ghost use Rattle.order_model.specs.Products.{product_of};
 ghost use Rattle.pla_reader.specs.Masks.{Fits};
 
-use crate::term::Term;
+use order_model::Term;
 use std::marker::Model;
 
 /// A cover: 1 to 16 inputs and outputs, a name for each, and product terms.

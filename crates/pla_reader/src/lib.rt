@@ -2,7 +2,6 @@
 #![tactic(auto)]
 
 mod cover;
-mod devices;
 mod errors;
 pub mod laws;
 mod lines;
@@ -10,11 +9,8 @@ mod names;
 mod progress;
 mod reader;
 mod statements;
-mod term;
 mod terms;
 
 pub use cover::Cover;
-pub use devices::{CountedRead, Counting};
 pub use errors::{LineFault, PlaError};
 pub use reader::read_cover;
-pub use term::Term;

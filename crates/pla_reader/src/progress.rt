@@ -9,7 +9,7 @@ ghost use Rattle.pla_reader.specs.Text.{is_filled, words, positions, is_name};
 ghost use Rattle.pla_reader.specs.Lines.{Line};
 ghost use Rattle.pla_reader.specs.Lines.Line.{Inputs, Outputs, InputNames, OutputNames, LogicalType as TypeLine, Row};
 ghost use Rattle.pla_reader.specs.Covers.{first_number, numbered_names};
-ghost use Rattle.pla_reader.specs.Products.{product_of};
+ghost use Rattle.order_model.specs.Products.{product_of};
 ghost use Rattle.pla_reader.specs.Faults.{head_fault, naming_fault, type_fault, is_one_number};
 ghost use Rattle.pla_reader.specs.Statements.{line_of};
 ghost use Rattle.pla_reader.specs.Progress.{state_of, start, is_f, words_of, Agrees, IsSound, Taken, IsCoverOf, IsEndError};
@@ -19,7 +19,7 @@ use crate::errors::{LineFault, PlaError};
 use crate::lines::{count_words, has_names, number, only_word};
 use crate::names::{names, numbered};
 use crate::statements::{Statement, is_same};
-use crate::term::Term;
+use order_model::Term;
 use crate::terms::row;
 use std::alloc::{AllocError, Global};
 

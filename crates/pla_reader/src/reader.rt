@@ -4,7 +4,7 @@ ghost use Rattle.std.specs.Prelude.{◌≡◌, ◌+◌, ◌^◌, ◌<◌, IfSome
 ghost use Rattle.pla_reader.specs.Answering.{Answers, IsAnswer, failed_calls};
 
 use crate::cover::Cover;
-use crate::devices::{CountedRead, Refused, read_all};
+use order_model::{CountedRead, Refused, read_all};
 use crate::errors::PlaError;
 use crate::lines::first_line;
 use crate::progress::{LineError, Progress};

@@ -5,12 +5,12 @@ ghost use Rattle.std.specs.Int.{bit_at};
 ghost use Rattle.pla_reader.specs.Text.{positions};
 ghost use Rattle.pla_reader.specs.Covers.{literal_of, term_of};
 ghost use Rattle.pla_reader.specs.Faults.{input_fault, output_fault, term_fault};
-ghost use Rattle.pla_reader.specs.Products.{product_of};
+ghost use Rattle.order_model.specs.Products.{product_of};
 ghost use Rattle.pla_reader.specs.Masks.{Fits, ReadsInput, ReadsOutput};
 
 use crate::lines::skipped;
 use crate::errors::LineFault;
-use crate::term::Term;
+use order_model::Term;
 
 /// The masks of a term while it is read.
 #[derive(Clone, Copy)]
