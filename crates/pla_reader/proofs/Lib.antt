@@ -1,3 +1,4 @@
+mod Rows
 pub mod Reading
 pub mod TextLemmas
 pub mod NameLemmas
