@@ -1,0 +1,9 @@
+mod Rows
+pub mod Reading
+pub mod TextLemmas
+pub mod NameLemmas
+pub mod Digits
+pub mod TermLemmas
+pub mod RowLemmas
+pub mod LineLemmas
+pub mod ReadLemmas

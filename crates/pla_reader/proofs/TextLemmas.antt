@@ -1,0 +1,91 @@
+-- How lines and words begin.
+use Rattle.std.proofs.Common.{◌≡◌, ℕ, ◌+◌, ◌<◌, suc, refl, sym, ◌∙◌, ap, Bool, true, false, ◌==◌, List, [], ◌∷◌, length, take, drop, ◌-◌, arith, take_all, length-drop}
+use Rattle.std.specs.List.{slice_index_or, position_or_len, onto_first, slice_split, filter}
+use Rattle.pla_reader.specs.Text.{is_filled, lines_of, is_blank, words}
+
+abbrev is_feed : ℕ → Bool
+is_feed b = b == 10
+
+pub one_more : (k : ℕ) → 1 + k ≡ suc k
+one_more k = omega arith
+
+-- the first line of a text that isn't empty
+pub first_line_cons : (b : ℕ) (bs : List ℕ) → lines_of (b ∷ bs) ≡ take (position_or_len is_feed (b ∷ bs)) (b ∷ bs) ∷ lines_of (drop 1 (drop (position_or_len is_feed (b ∷ bs)) (b ∷ bs)))
+unfolding lines_of
+first_line_cons b [] = by (b == 10) refl where
+  by : (t : Bool) → (b == 10) ≡ t → lines_of (b ∷ []) ≡ take (position_or_len is_feed (b ∷ [])) (b ∷ []) ∷ lines_of (drop 1 (drop (position_or_len is_feed (b ∷ [])) (b ∷ [])))
+  by true e = rw e refl
+  by false e = rw e refl
+first_line_cons b (c ∷ cs) = by (b == 10) refl (first_line_cons c cs) where
+  by : (t : Bool) → (b == 10) ≡ t → lines_of (c ∷ cs) ≡ take (position_or_len is_feed (c ∷ cs)) (c ∷ cs) ∷ lines_of (drop 1 (drop (position_or_len is_feed (c ∷ cs)) (c ∷ cs))) →
+      lines_of (b ∷ c ∷ cs) ≡ take (position_or_len is_feed (b ∷ c ∷ cs)) (b ∷ c ∷ cs) ∷ lines_of (drop 1 (drop (position_or_len is_feed (b ∷ c ∷ cs)) (b ∷ c ∷ cs)))
+  by true e ih = rw e refl
+  by false e ih = rw e (rw (one_more (position_or_len is_feed (c ∷ cs))) (ap (onto_first b) ih))
+
+pub first_line_lem : (text : List ℕ) → 0 < length text → lines_of text ≡ take (position_or_len is_feed text) text ∷ lines_of (drop 1 (drop (position_or_len is_feed text) text))
+first_line_lem [] h = absurd (omega (arith, h))
+first_line_lem (b ∷ bs) h = first_line_cons b bs
+
+pub words_none : words [] ≡ []
+unfolding words
+words_none = refl
+
+-- a blank in front makes no word
+pub words_blank : (b : ℕ) (bs : List ℕ) → is_blank b ≡ true → words (b ∷ bs) ≡ words bs
+unfolding words
+words_blank b bs e = rw e refl
+
+-- the parts behind the first
+abbrev after_parts : List ℕ → List (List ℕ)
+after_parts [] = []
+after_parts (y ∷ ys) = slice_split is_blank ys
+
+split_front : (xs : List ℕ) → slice_split is_blank xs ≡ take (position_or_len is_blank xs) xs ∷ after_parts (drop (position_or_len is_blank xs) xs)
+split_front [] = refl
+split_front (x ∷ xs) = by (is_blank x) refl (split_front xs) where
+  by : (t : Bool) → is_blank x ≡ t → slice_split is_blank xs ≡ take (position_or_len is_blank xs) xs ∷ after_parts (drop (position_or_len is_blank xs) xs) →
+      slice_split is_blank (x ∷ xs) ≡ take (position_or_len is_blank (x ∷ xs)) (x ∷ xs) ∷ after_parts (drop (position_or_len is_blank (x ∷ xs)) (x ∷ xs))
+  by true e ih = rw e refl
+  by false e ih = rw e (rw (one_more (position_or_len is_blank xs)) (ap (onto_first x) ih))
+
+-- what is left begins with a blank, so its words are the parts behind
+after_words : (xs : List ℕ) → filter is_filled (after_parts (drop (position_or_len is_blank xs) xs)) ≡ words (drop (position_or_len is_blank xs) xs)
+unfolding words
+after_words [] = refl
+after_words (x ∷ xs) = by (is_blank x) refl (after_words xs) where
+  by : (t : Bool) → is_blank x ≡ t → filter is_filled (after_parts (drop (position_or_len is_blank xs) xs)) ≡ words (drop (position_or_len is_blank xs) xs) →
+      filter is_filled (after_parts (drop (position_or_len is_blank (x ∷ xs)) (x ∷ xs))) ≡ words (drop (position_or_len is_blank (x ∷ xs)) (x ∷ xs))
+  by true e ih = rw e (rw e refl)
+  by false e ih = rw e (rw (one_more (position_or_len is_blank xs)) ih)
+
+-- the first word of a line that begins with one
+pub words_word : (b : ℕ) (bs : List ℕ) → is_blank b ≡ false → words (b ∷ bs) ≡ take (position_or_len is_blank (b ∷ bs)) (b ∷ bs) ∷ words (drop (position_or_len is_blank (b ∷ bs)) (b ∷ bs))
+unfolding words
+words_word b bs e = rw e (rw (one_more (position_or_len is_blank bs)) (ap (λ parts. filter is_filled (onto_first b parts)) (split_front bs) ∙ ap (λ ws. (b ∷ take (position_or_len is_blank bs) bs) ∷ ws) (after_words bs)))
+
+-- a slice behind its first element
+pub behind_first : (xs : List ℕ) → take (length xs - 1) (drop 1 xs) ≡ drop 1 xs
+behind_first xs = take_all (length xs - 1) (drop 1 xs) (simp length-drop (omega arith))
+
+-- a line without its blank in front
+pub words_rest : (xs : List ℕ) → 0 < length xs → is_blank (slice_index_or xs 0 0) ≡ true → words xs ≡ words (take (length xs - 1) (drop 1 xs))
+words_rest [] some e = absurd (omega (arith, some))
+words_rest (b ∷ bs) some e = words_blank b bs e ∙ ap words (sym (behind_first (b ∷ bs)))
+
+pub words_front : (xs : List ℕ) → 0 < length xs → is_blank (slice_index_or xs 0 0) ≡ false → words xs ≡ take (position_or_len is_blank xs) xs ∷ words (drop (position_or_len is_blank xs) xs)
+words_front [] some e = absurd (omega (arith, some))
+words_front (b ∷ bs) some e = words_word b bs e
+
+pub words_of_none : (xs : List ℕ) → length xs ≡ 0 → words xs ≡ []
+words_of_none [] e = words_none
+words_of_none (b ∷ bs) e = absurd (omega (arith, e))
+
+-- the first line, from the parts round the line feed
+pub first_line_from : (text front back : List ℕ) (n : ℕ) → 0 < length text → n ≡ position_or_len is_feed text → front ≡ take n text → back ≡ drop n text →
+    lines_of text ≡ front ∷ lines_of (take (length back - 1) (drop 1 back))
+first_line_from text front back n some at e f = rw (behind_first back) (rw e (rw f (rw at (first_line_lem text some))))
+
+-- a word that begins with no blank has a byte
+pub word_some : (xs : List ℕ) → 0 < length xs → is_blank (slice_index_or xs 0 0) ≡ false → 0 < position_or_len is_blank xs
+word_some [] some e = absurd (omega (arith, some))
+word_some (b ∷ bs) some e = rw e (omega arith)

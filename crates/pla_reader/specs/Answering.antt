@@ -1,0 +1,34 @@
+-- What the reader of covers answers.
+--     Answers bytes result      the answer for the bytes of an input within the limit
+--     IsAnswer bytes result      the answer for the bytes that a device has left
+--     failed_calls result      how many calls of the device failed
+use Rattle.std.specs.Prelude.{ℕ, ◌≤◌, ◌<◌, List, length, Result, Ok, Err}
+use Rattle.pla_reader.specs.declared.cover.Cover.{Cover}
+use Rattle.pla_reader.specs.declared.errors.PlaError.{PlaError}
+use Rattle.pla_reader.specs.declared.errors.PlaError.TheVariants.{Line, TooLong, Device, OutOfMemory}
+use Rattle.pla_reader.specs.Reading.{Reads, FirstFault}
+
+-- the longest input
+abbrev pub longest : ℕ
+longest = 16777216
+
+-- the answer for the bytes of an input within the limit
+abbrev pub Answers : List ℕ → Result Cover PlaError → Type 0
+Answers bytes (Ok cover) = Reads bytes cover
+Answers bytes (Err (Line line fault)) = FirstFault bytes line fault
+Answers bytes (Err OutOfMemory) = Unit {0}
+Answers bytes (Err TooLong) = ⊥
+Answers bytes (Err Device) = ⊥
+
+-- the answer for the bytes that a device has left
+abbrev pub IsAnswer : List ℕ → Result Cover PlaError → Type 0
+IsAnswer bytes (Ok cover) = (length bytes ≤ longest) × Reads bytes cover
+IsAnswer bytes (Err (Line line fault)) = (length bytes ≤ longest) × FirstFault bytes line fault
+IsAnswer bytes (Err TooLong) = longest < length bytes
+IsAnswer bytes (Err Device) = Unit {0}
+IsAnswer bytes (Err OutOfMemory) = Unit {0}
+
+-- how many calls of the device failed
+abbrev pub failed_calls : Result Cover PlaError → ℕ
+failed_calls (Err Device) = 1
+failed_calls _ = 0

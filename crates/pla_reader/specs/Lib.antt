@@ -1,0 +1,10 @@
+pub mod Text
+pub mod Lines
+pub mod Covers
+pub mod Faults
+pub mod Reading
+pub mod Masks
+pub mod Views
+pub mod Statements
+pub mod Progress
+pub mod Answering

@@ -1,0 +1,57 @@
+-- What a line of a PLA description says.
+--     Line, line_said line      a line's meaning
+--     said bytes      the lines of an input
+--     description lines      those before the one that ends the description
+use Rattle.std.specs.Prelude.{ℕ, Bool, true, false, not, cond, ◌==◌, List, [], ◌∷◌, map, codes, slice_index, take_while, nat_eq}
+use Rattle.std.specs.Cmp.Lexicographic.{pointwise}
+use Rattle.pla_reader.specs.Text.{lines_of, content, words, positions}
+
+-- a directive with the words behind it, or a term with its positions
+pub data Line : Type 0 where
+  Empty : Line
+  Inputs Outputs InputNames OutputNames Products LogicalType : (given : List (List ℕ)) → Line
+  End UnknownWord : Line
+  Row : (bytes : List ℕ) → Line
+
+-- whether two texts are equal
+abbrev pub same : List ℕ → List ℕ → Bool
+same = pointwise nat_eq
+
+-- the meaning of a directive, by espresso(5)'s words for it
+unfoldable pub directive : List ℕ → List (List ℕ) → Line
+directive word given =
+    -- `.i d` specifies the number of input variables, `.o d` the number of output functions
+    cond (same word (codes ".i")) (Inputs given)
+    (cond (same word (codes ".o")) (Outputs given)
+    -- `.ilb s1 s2 .. sn` gives the names of the input variables, `.ob s1 s2 .. sn` those of the output functions
+    (cond (same word (codes ".ilb")) (InputNames given)
+    (cond (same word (codes ".ob")) (OutputNames given)
+    -- `.p d` specifies the number of product terms; the number is not used
+    (cond (same word (codes ".p")) (Products given)
+    -- `.type s` sets the logical interpretation of the output characters
+    (cond (same word (codes ".type")) (LogicalType given)
+    -- `.e` or `.end` optionally marks the end of the description
+    (cond (same word (codes ".e")) End
+    (cond (same word (codes ".end")) End UnknownWord)))))))
+
+-- the meaning of a line of these words: a directive where the first one begins with a point
+unfoldable pub meaning : List (List ℕ) → Line → Line
+meaning [] row = Empty
+meaning (word ∷ given) row = cond (slice_index word 0 == 46) (directive word given) row
+
+-- the meaning of a line
+unfoldable pub line_said : List ℕ → Line
+line_said line = meaning (words (content line)) (Row (positions (content line)))
+
+-- whether a line ends the description
+abbrev pub is_end : Line → Bool
+is_end End = true
+is_end _ = false
+
+-- what the lines of an input say
+unfoldable pub said : List ℕ → List Line
+said bytes = map line_said (lines_of bytes)
+
+-- the lines before the one that ends the description
+unfoldable pub description : List Line → List Line
+description lines = take_while (λ line. not (is_end line)) lines

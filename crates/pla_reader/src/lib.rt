@@ -1,0 +1,16 @@
+//! PLA descriptions (espresso(5), logical types f and fd) as covers.
+#![tactic(auto)]
+
+mod cover;
+mod errors;
+pub mod laws;
+mod lines;
+mod names;
+mod progress;
+mod reader;
+mod statements;
+mod terms;
+
+pub use cover::Cover;
+pub use errors::{LineFault, PlaError};
+pub use reader::read_cover;

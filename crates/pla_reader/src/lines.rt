@@ -1,0 +1,167 @@
+//! Lines, words and numbers.
+
+ghost use Rattle.std.specs.Prelude.{◌≡◌, ◌<◌, ◌≤◌, ◌==◌, ◌||◌, ◌∷◌, [], false, IsTrue, length, IfSome, IfNone, Some, None};
+ghost use Rattle.std.specs.List.{position_or_len, list_all};
+ghost use Rattle.pla_reader.specs.Text.{lines_of, is_blank, bar, words, content as content_of, only_word as one_word, is_number, number_of, is_name};
+
+/// How many bytes stand before a byte, or all of them.
+fn len_until(text: &[u8], byte: u8) -> usize
+    ensures value { result ≡ position_or_len (λ b. b == byte) text.now }
+    ensures bound { result ≤ length text.now }
+{
+    let mut len = 0;
+    let mut rest = text;
+    while let [b, more @ ..] = rest {
+        if *b == byte {
+            break;
+        }
+        len += 1;
+        rest = more;
+    }
+    len
+}
+
+/// Whether a byte is a blank.
+pub(crate) fn blank(b: u8) -> bool
+    ensures { result ≡ is_blank b }
+{
+    b == b' ' || (b == b'\t' || b == b'\r')
+}
+
+/// Whether a byte of a term is no position.
+pub(crate) fn skipped(b: u8) -> bool
+    ensures { result ≡ (is_blank b || b == bar) }
+{
+    blank(b) || b == b'|'
+}
+
+/// How many bytes stand before a blank, or all of them.
+fn word_len(text: &[u8]) -> usize
+    ensures value { result ≡ position_or_len is_blank text.now }
+    ensures bound { result ≤ length text.now }
+{
+    let mut len = 0;
+    let mut rest = text;
+    while let [b, more @ ..] = rest {
+        if blank(*b) {
+            break;
+        }
+        len += 1;
+        rest = more;
+    }
+    len
+}
+
+/// The first line of a text that isn't empty, and what follows its line feed.
+#[tactic(auto, using(crate::proofs::TextLemmas::first_line_lem))]
+pub(crate) fn first_line(text: &[u8]) -> (&[u8], &[u8])
+    requires { 0 < length text.now }
+    ensures line { lines_of text.now ≡ result.0.now ∷ lines_of result.1.now }
+    ensures shorter { length result.1.now < length text.now }
+{
+    let (line, rest) = text.split_at(len_until(text, b'\n'));
+    match rest {
+        [] => (line, rest),
+        [_, after @ ..] => (line, after),
+    }
+}
+
+/// A line up to its comment.
+pub(crate) fn content(line: &[u8]) -> &[u8]
+    ensures { result.now ≡ content_of line.now }
+{
+    let (front, _) = line.split_at(len_until(line, b'#'));
+    front
+}
+
+/// The first word of a line, and what follows it.
+#[tactic(auto, using(crate::proofs::TextLemmas::words_blank, crate::proofs::TextLemmas::words_word, crate::proofs::TextLemmas::words_none))]
+pub(crate) fn next_word(text: &[u8]) -> Option<(&[u8], &[u8])>
+    ensures none { IfNone result (words text.now ≡ []) }
+    ensures some { IfSome result (λ found. words text.now ≡ found.0.now ∷ words found.1.now) }
+    ensures shorter { IfSome result (λ found. length found.1.now < length text.now) }
+{
+    let mut rest = text;
+    while let [b, more @ ..] = rest {
+        if !blank(*b) {
+            let (word, after) = rest.split_at(word_len(rest));
+            return Some((word, after));
+        }
+        rest = more;
+    }
+    None
+}
+
+/// The word of a text that has just one.
+pub(crate) fn only_word(text: &[u8]) -> Option<&[u8]>
+    ensures some { IfSome result (λ word. one_word (words text.now) ≡ Some word.now) }
+    ensures none { IfNone result (one_word (words text.now) ≡ None) }
+{
+    let (word, after) = next_word(text)?;
+    match next_word(after) {
+        None => Some(word),
+        Some(_) => None,
+    }
+}
+
+/// How many words a text has.
+pub(crate) fn count_words(text: &[u8]) -> usize
+    ensures { result ≡ length (words text.now) }
+{
+    let mut count = 0;
+    let mut rest = text;
+    while let Some((_, after)) = next_word(rest) {
+        count += 1;
+        rest = after;
+    }
+    count
+}
+
+/// Whether each word of a text may be a name.
+pub(crate) fn has_names(text: &[u8]) -> bool
+    ensures { result ≡ list_all is_name (words text.now) }
+{
+    let mut rest = text;
+    while let Some((word, after)) = next_word(rest) {
+        if !is_graphic(word) {
+            return false;
+        }
+        rest = after;
+    }
+    true
+}
+
+/// Whether a word may be a name.
+fn is_graphic(word: &[u8]) -> bool
+    ensures { result ≡ is_name word.now }
+{
+    let mut rest = word;
+    while let [b, more @ ..] = rest {
+        if !b.is_ascii_graphic() {
+            return false;
+        }
+        rest = more;
+    }
+    true
+}
+
+/// The value of a number.
+#[tactic(auto, using(crate::proofs::Digits::digit_is, crate::proofs::Digits::pow_small))]
+pub(crate) fn number(word: &[u8]) -> Option<u32>
+    ensures some { IfSome result (λ value. IsTrue (is_number word.now) × (value ≡ number_of word.now)) }
+    ensures none { IfNone result (is_number word.now ≡ false) }
+{
+    if word.is_empty() || word.len() > 9 {
+        return None;
+    }
+    let mut value = 0u32;
+    let mut rest = word;
+    while let [b, more @ ..] = rest {
+        if !b.is_ascii_digit() {
+            return None;
+        }
+        value = value * 10 + (*b - b'0') as u32;
+        rest = more;
+    }
+    Some(value)
+}

@@ -1,0 +1,52 @@
+//! Covers from devices.
+
+ghost use Rattle.std.specs.Prelude.{◌≡◌, ◌+◌, ◌^◌, ◌<◌, IfSome};
+ghost use Rattle.pla_reader.specs.Answering.{Answers, IsAnswer, failed_calls};
+
+use crate::cover::Cover;
+use order_model::{CountedRead, Refused, read_all};
+use crate::errors::PlaError;
+use crate::lines::first_line;
+use crate::progress::{LineError, Progress};
+use crate::statements::statement_of;
+use std::alloc::Global;
+
+/// The cover of the bytes of an input, or its first fault.
+fn read_bytes(alloc: Global, bytes: &[u8]) -> Result<Cover, PlaError>
+    ensures { Answers bytes.now result }
+{
+    let mut progress = Progress::new(alloc);
+    let mut rest = bytes;
+    let mut number = 0;
+    while !rest.is_empty() {
+        let (line, after) = first_line(rest);
+        number += 1;
+        rest = after;
+        let statement = statement_of(line);
+        if statement.is_end() {
+            return progress.finish(alloc, number);
+        }
+        match progress.take(alloc, statement) {
+            Ok(()) => {}
+            Err(LineError::Memory) => return Err(PlaError::OutOfMemory),
+            Err(LineError::Fault(fault)) => return Err(PlaError::Line(number, fault)),
+        }
+    }
+    progress.finish(alloc, number)
+}
+
+/// Reads a PLA description (espresso(5), logical types f and fd) to its end, and gives its cover.
+///
+/// Nothing is decided before the last byte was read; time and memory are linear in the bytes.
+pub fn read_cover<R: CountedRead>(alloc: Global, reader: &mut R) -> Result<Cover, PlaError>
+    requires { R.failures reader.old < 2 ^ 32 }
+    ensures answer { IfSome (R.remaining reader.old) (λ bytes. IsAnswer bytes result) }
+    ensures calls { R.failures reader.new ≡ R.failures reader.old + failed_calls result }
+{
+    match read_all(alloc, reader, 16_777_216) {
+        Ok(bytes) => read_bytes(alloc, &bytes),
+        Err(Refused::TooLong) => Err(PlaError::TooLong),
+        Err(Refused::Device) => Err(PlaError::Device),
+        Err(Refused::OutOfMemory) => Err(PlaError::OutOfMemory),
+    }
+}

@@ -1,0 +1,89 @@
+//! What lines say.
+
+ghost use Rattle.std.specs.Prelude.{◌≡◌, ◌==◌, slice_index};
+ghost use Rattle.pla_reader.specs.Text.{words};
+ghost use Rattle.pla_reader.specs.Lines.{same, directive as directive_of, line_said, is_end as ends};
+ghost use Rattle.pla_reader.specs.Statements.{line_of};
+
+use crate::lines::{content, next_word};
+
+/// What a line says, with the text behind its directive, or that of its term.
+#[derive(Drop)]
+pub enum Statement<'a> {
+    Empty,
+    Inputs(&'a [u8]),
+    Outputs(&'a [u8]),
+    InputNames(&'a [u8]),
+    OutputNames(&'a [u8]),
+    Products(&'a [u8]),
+    Type(&'a [u8]),
+    End,
+    Unknown,
+    Row(&'a [u8]),
+}
+
+/// Whether two texts are equal.
+pub(crate) fn is_same(a: &[u8], b: &[u8]) -> bool
+    ensures { result ≡ same a.now b.now }
+{
+    a == b
+}
+
+/// Whether a word begins with a point.
+fn is_directive(word: &[u8]) -> bool
+    ensures { result ≡ (slice_index word.now 0 == 46) }
+{
+    match word {
+        [first, ..] => *first == b'.',
+        [] => false,
+    }
+}
+
+/// What a directive says, with the text behind it.
+#[tactic(auto, unfolding(crate::specs::Lines::directive))]
+fn directive<'a>(word: &[u8], given: &'a [u8]) -> Statement<'a>
+    ensures { line_of result ≡ directive_of word.now (words given.now) }
+{
+    if is_same(word, b".i") {
+        Statement::Inputs(given)
+    } else if is_same(word, b".o") {
+        Statement::Outputs(given)
+    } else if is_same(word, b".ilb") {
+        Statement::InputNames(given)
+    } else if is_same(word, b".ob") {
+        Statement::OutputNames(given)
+    } else if is_same(word, b".p") {
+        Statement::Products(given)
+    } else if is_same(word, b".type") {
+        Statement::Type(given)
+    } else if is_same(word, b".e") || is_same(word, b".end") {
+        Statement::End
+    } else {
+        Statement::Unknown
+    }
+}
+
+/// What a line says.
+#[tactic(auto, unfolding(crate::specs::Lines::line_said, crate::specs::Lines::meaning))]
+pub(crate) fn statement_of(line: &[u8]) -> Statement<'_>
+    ensures { line_of result ≡ line_said line.now }
+{
+    let text = content(line);
+    let Some((word, after)) = next_word(text) else {
+        return Statement::Empty;
+    };
+    if is_directive(word) {
+        directive(word, after)
+    } else {
+        Statement::Row(text)
+    }
+}
+
+impl Statement<'_> {
+    /// Whether a line ends the description.
+    pub(crate) fn is_end(&self) -> bool
+        ensures { result ≡ ends (line_of self.now) }
+    {
+        matches!(self, Statement::End)
+    }
+}
