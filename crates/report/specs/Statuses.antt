@@ -1,0 +1,23 @@
+-- Exit statuses, and how a refused file ends a run.
+use Rattle.std.specs.Prelude.{ℕ}
+use Rattle.pla_reader.specs.declared.errors.PlaError.{PlaError}
+use Rattle.pla_reader.specs.declared.errors.PlaError.TheVariants as pla
+use Rattle.report.specs.declared.outcome.Outcome.{Outcome}
+use Rattle.report.specs.declared.outcome.Outcome.TheVariants.{Done, Refused}
+use Rattle.report.specs.declared.outcome.Fault.{Fault}
+use Rattle.report.specs.declared.outcome.Fault.TheVariants.{Line, TooLong, OutOfMemory, Device}
+
+-- the exit status of an outcome
+abbrev pub status_of : Outcome → ℕ
+status_of Done = 0
+status_of (Refused (Line line fault)) = 3
+status_of (Refused TooLong) = 3
+status_of (Refused OutOfMemory) = 4
+status_of (Refused Device) = 5
+
+-- why a file that gives no cover is refused
+abbrev pub refusal_of : PlaError → Fault
+refusal_of (pla.Line line fault) = Line line fault
+refusal_of pla.TooLong = TooLong
+refusal_of pla.Device = Device
+refusal_of pla.OutOfMemory = OutOfMemory

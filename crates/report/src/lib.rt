@@ -1,0 +1,11 @@
+//! What the programs do with their files: texts, outcomes, runs and command lines.
+#![tactic(auto)]
+
+mod outcome;
+mod program;
+mod run;
+mod texts;
+
+pub use outcome::{Fault, Outcome};
+pub use program::minorder;
+pub use run::{RunPlan, run};

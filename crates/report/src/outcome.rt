@@ -1,0 +1,69 @@
+//! How a run ends.
+
+ghost use Rattle.std.specs.Prelude.{◌≡◌, IfSome, IfNone};
+ghost use Rattle.report.specs.Statuses.{status_of, refusal_of};
+
+use pla_reader::{LineFault, PlaError};
+use thiserror::Error;
+
+/// Why a run was refused. Its text is what the programs write behind their name.
+#[derive(Clone, Copy, Debug, PartialEq, Eq, Error)]
+pub enum Fault {
+    /// The first faulty line of the file, counted from 1, and its fault.
+    #[error("line {0}: {1}")]
+    Line(usize, LineFault),
+    /// The file has more than 16,777,216 bytes.
+    #[error("TooLong")]
+    TooLong,
+    /// An allocation was refused.
+    #[error("OutOfMemory")]
+    OutOfMemory,
+    /// A file was not opened or made, or a read or a write failed.
+    #[error("Device")]
+    Device,
+}
+
+/// How a run ends.
+#[derive(Clone, Copy, Debug, PartialEq, Eq)]
+pub enum Outcome {
+    /// All that was asked is written.
+    Done,
+    Refused(Fault),
+}
+
+impl Outcome {
+    /// The exit status: 0 done, 3 input refused, 4 want of memory, 5 a device failed.
+    pub fn status(self) -> u8
+        ensures { result ≡ status_of self }
+    {
+        match self {
+            Outcome::Done => 0,
+            Outcome::Refused(Fault::Line(_, _) | Fault::TooLong) => 3,
+            Outcome::Refused(Fault::OutOfMemory) => 4,
+            Outcome::Refused(Fault::Device) => 5,
+        }
+    }
+
+    /// Why the run was refused.
+    pub fn fault(self) -> Option<Fault>
+        ensures refused { IfSome result (λ fault. self ≡ Outcome.Refused fault) }
+        ensures done { IfNone result (self ≡ Outcome.Done) }
+    {
+        match self {
+            Outcome::Done => None,
+            Outcome::Refused(fault) => Some(fault),
+        }
+    }
+}
+
+/// Why a file that gives no cover is refused.
+pub(crate) fn fault_of(error: PlaError) -> Fault
+    ensures { result ≡ refusal_of error }
+{
+    match error {
+        PlaError::Line(line, fault) => Fault::Line(line, fault),
+        PlaError::TooLong => Fault::TooLong,
+        PlaError::Device => Fault::Device,
+        PlaError::OutOfMemory => Fault::OutOfMemory,
+    }
+}
