@@ -19,8 +19,8 @@ use crate::errors::{LineFault, PlaError};
 use crate::lines::{count_words, has_names, number, only_word};
 use crate::names::{names, numbered};
 use crate::statements::{Statement, is_same};
-use order_model::Term;
 use crate::terms::row;
+use order_model::Term;
 use std::alloc::{AllocError, Global};
 
 /// The logical type of a description.
@@ -122,7 +122,12 @@ fn logical_type(repeated: bool, late: bool, text: &[u8]) -> Result<LogicalType, 
 }
 
 /// The names given, or else numbered ones.
-fn given_or_numbered(alloc: Global, given: Option<Vec<String>>, front: &str, count: u8) -> Result<Vec<String>, AllocError>
+fn given_or_numbered(
+    alloc: Global,
+    given: Option<Vec<String>>,
+    front: &str,
+    count: u8,
+) -> Result<Vec<String>, AllocError>
     ensures { IfOk result (λ all. map string_bytes all.items ≡ unwrap_or (option_map (λ names. map string_bytes names.items) given) (numbered_names front.now count)) }
 {
     match given {

@@ -4,11 +4,11 @@ ghost use Rattle.std.specs.Prelude.{◌≡◌, ◌+◌, ◌^◌, ◌<◌, IfSome
 ghost use Rattle.pla_reader.specs.Answering.{Answers, IsAnswer, failed_calls};
 
 use crate::cover::Cover;
-use order_model::{CountedRead, Refused, read_all};
 use crate::errors::PlaError;
 use crate::lines::first_line;
 use crate::progress::{LineError, Progress};
 use crate::statements::statement_of;
+use order_model::{CountedRead, Refused, read_all};
 use std::alloc::Global;
 
 /// The cover of the bytes of an input, or its first fault.

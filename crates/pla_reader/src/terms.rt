@@ -8,8 +8,8 @@ ghost use Rattle.pla_reader.specs.Faults.{input_fault, output_fault, term_fault}
 ghost use Rattle.order_model.specs.Products.{product_of};
 ghost use Rattle.pla_reader.specs.Masks.{Fits, ReadsInput, ReadsOutput};
 
-use crate::lines::skipped;
 use crate::errors::LineFault;
+use crate::lines::skipped;
 use order_model::Term;
 
 /// The masks of a term while it is read.
