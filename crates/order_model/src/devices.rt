@@ -52,6 +52,14 @@ impl<T> Counting<T> {
     {
         Counting { inner, failed: 0 }
     }
+
+    /// The reader or writer itself.
+    pub fn into_inner(self) -> T
+        ensures { result ≡ self.inner }
+    {
+        let Counting { inner, failed: _ } = self;
+        inner
+    }
 }
 
 impl<T: Read> CountedRead for Counting<T> {

@@ -9,3 +9,6 @@ mod texts;
 pub use outcome::{Fault, Outcome};
 pub use program::minorder;
 pub use run::{RunPlan, run};
+
+#[cfg(test)]
+mod tests;
