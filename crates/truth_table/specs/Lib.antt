@@ -1,0 +1,6 @@
+pub mod Restrictions
+pub mod Rows
+pub mod Terms
+pub mod Fixing
+pub mod Numberings
+pub mod Assignments

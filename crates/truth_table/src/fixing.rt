@@ -1,0 +1,69 @@
+//! Variables fixed in packed truth tables.
+
+ghost use Rattle.std.specs.Prelude.{◌≡◌, ◌+◌, ◌-◌, ◌<◌, ◌≤◌, ◌^◌, ℕ, length, slice_index};
+ghost use Rattle.std.specs.Int.{bit_at};
+ghost use Rattle.order_model.specs.Functions.{from_table, restrict, table};
+ghost use Rattle.order_model.specs.Problems.{IsClean, table_in, words_per_table};
+ghost use Rattle.truth_table.specs.Fixing.{fixed_bit};
+
+use order_model::VarIx;
+
+/// The word whose bit b is 1 where bit x of b is 0.
+pub(crate) fn lower_half(x: VarIx) -> u64
+    requires { x < 6 }
+    ensures { (b : ℕ) → b < 64 → bit_at result b ≡ 1 - bit_at b x }
+{
+    match x {
+        0 => 0x5555_5555_5555_5555,
+        1 => 0x3333_3333_3333_3333,
+        2 => 0x0f0f_0f0f_0f0f_0f0f,
+        3 => 0x00ff_00ff_00ff_00ff,
+        4 => 0x0000_ffff_0000_ffff,
+        _ => 0x0000_0000_ffff_ffff,
+    }
+}
+
+/// The word that has at each point the value that a word has with variable x, below 6, made `upper`.
+fn fixed_word(word: u64, x: VarIx, upper: bool) -> u64
+    requires { x < 6 }
+    ensures { (k : ℕ) → k < 64 → bit_at result k ≡ bit_at word (fixed_bit x upper k) }
+{
+    let step = 1u32 << x;
+    let half = if upper { word >> step } else { word } & lower_half(x);
+    half | (half << step)
+}
+
+/// Gives each word what stands at its place with bit r made `upper`.
+fn fix_rows(words: &mut [u64], r: u8, upper: bool)
+    requires few { length words.old ≤ 1024 }
+    requires small { r < 10 }
+    requires room { (i : ℕ) → i < length words.old → bit_at i r ≡ 0 → i + 2 ^ r < length words.old }
+    ensures { (i : ℕ) → i < length words.old → slice_index words.new i ≡ slice_index words.old (fixed_bit r upper i) }
+{
+    let step = 1usize << r;
+    for i in 0..words.len() {
+        let is_upper = (i >> r) & 1 == 1;
+        if is_upper != upper {
+            words[i] = words[if upper { i + step } else { i - step }];
+        }
+    }
+}
+
+/// Fixes variable x in the packed truth table of a function of n variables.
+pub(crate) fn fix_variable(n: u8, words: &mut [u64], x: VarIx, upper: bool)
+    requires few { n ≤ 16 }
+    requires variable { x < n }
+    requires long { length words.old ≡ words_per_table n }
+    requires clean { IsClean n words.old }
+    ensures table { table_in n words.new ≡ table n (restrict x upper (from_table (table_in n words.old))) }
+    ensures long { length words.new ≡ words_per_table n }
+    ensures clean { IsClean n words.new }
+{
+    if x >= 6 {
+        fix_rows(words, x - 6, upper);
+    } else {
+        for word in words.iter_mut() {
+            *word = fixed_word(*word, x, upper);
+        }
+    }
+}

@@ -1,0 +1,55 @@
+//! Class numbers of subfunctions, level by level.
+
+ghost use Rattle.std.specs.Prelude.{◌≡◌, ◌+◌, ◌*◌, ◌<◌, ◌≤◌, ◌^◌, ℕ, length, IfOk};
+ghost use Rattle.std.specs.List.{All};
+ghost use Rattle.truth_table.specs.Assignments.{assignments};
+ghost use Rattle.truth_table.specs.Numberings.{IsNumbering, pairs_of, unequal_count};
+
+use indexmap::IndexSet;
+use order_model::VarIx;
+use std::alloc::{AllocError, Global};
+
+/// The numbers of pairs, and how many distinct pairs have unequal parts.
+#[derive(Debug, Drop)]
+pub(crate) struct Merged {
+    pub(crate) numbers: Vec<u32>,
+    pub(crate) unequal: u32,
+}
+
+/// Numbers the pairs of classes that stand side by side: the classes of the level above.
+pub(crate) fn merge(alloc: Global, classes: &[u32]) -> Result<Merged, AllocError>
+    requires few { length classes.now < 2 ^ 32 }
+    ensures numbers { IfOk result (λ r. IsNumbering (pairs_of classes.now) r.numbers.items) }
+    ensures unequal { IfOk result (λ r. r.unequal ≡ unequal_count (pairs_of classes.now)) }
+{
+    let half = classes.len() / 2;
+    let mut seen = IndexSet::with_capacity(alloc, half)?;
+    let mut numbers = Vec::with_capacity(alloc, half)?;
+    let mut unequal = 0u32;
+    for j in 0..half {
+        let lower = classes[2 * j];
+        let upper = classes[2 * j + 1];
+        let (number, is_new) = seen.insert_full((lower, upper))?;
+        if is_new && lower != upper {
+            unequal += 1;
+        }
+        numbers.push(number as u32)?;
+    }
+    Ok(Merged { numbers, unequal })
+}
+
+/// The numbers of the points of all assignments of some variables, the first variable as the highest bit of the place.
+pub(crate) fn assignment_points(alloc: Global, variables: &[VarIx]) -> Result<Vec<u32>, AllocError>
+    requires small { All (λ x. x < 16) variables.now }
+    requires few { length variables.now ≤ 16 }
+    ensures { IfOk result (λ v. v.items ≡ assignments variables.now) }
+{
+    let mut points = Vec::with_capacity(alloc, 1usize << variables.len())?;
+    points.push(0u32)?;
+    for x in variables.iter().rev() {
+        for i in 0..points.len() {
+            points.push(points[i] | 1 << *x)?;
+        }
+    }
+    Ok(points)
+}

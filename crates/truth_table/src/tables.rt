@@ -1,0 +1,116 @@
+//! Tables.
+
+ghost use Rattle.std.specs.Prelude.{◌≡◌, ◌<◌, ◌^◌, length, map, IfOk};
+ghost use Rattle.order_model.specs.Functions.{from_table, table};
+ghost use Rattle.order_model.specs.Levels.{level_counts};
+ghost use Rattle.order_model.specs.Orders.{members};
+ghost use Rattle.order_model.specs.Problems.{functions, outputs_of, table_at, value_at};
+ghost use Rattle.order_model.specs.Products.{product_functions};
+ghost use Rattle.truth_table.specs.Assignments.{values_at};
+ghost use Rattle.truth_table.specs.Restrictions.{fixed};
+ghost use Rattle.std.specs.List.{All};
+
+use crate::covering::packed_words;
+use crate::fixing::fix_variable;
+use crate::merging::{assignment_points, merge};
+use crate::row::Row;
+use order_model::packed::bit_of;
+use order_model::{Mask, Order, Problem};
+use pla_reader::Cover;
+use std::alloc::{AllocError, Global};
+use std::marker::Model;
+use std::thread::Threads;
+
+/// The truth tables of the outputs of a cover.
+#[derive(Debug, Drop)]
+pub struct Tables {
+    problem: Problem,
+}
+
+impl Model for Tables {
+    ghost use Rattle.order_model.specs.Problems.{TruthTables};
+
+    ghost Value = { TruthTables };
+
+    ghost view = { λ t. t.problem };
+}
+
+impl Tables {
+    /// The truth tables of a cover's outputs. Threads share the words of 64 points; the time is that of a step for each word and term.
+    pub fn of_cover<R: Threads + Sync>(rt: &R, alloc: Global, cover: &Cover) -> Result<Tables, AllocError>
+        ensures inputs { IfOk result (λ t. t.inputs ≡ cover.now.inputs) }
+        ensures tables { IfOk result (λ t. t.tables ≡ map (table cover.now.inputs) (product_functions cover.now.outputs cover.now.products)) }
+    {
+        let n = cover.inputs();
+        let m = cover.outputs();
+        let words = packed_words(rt, alloc, n, m, cover.terms())?;
+        Ok(Tables {
+            problem: Problem::from_words(n, m, words),
+        })
+    }
+
+    /// The problem of these truth tables.
+    pub fn problem(&self) -> &Problem
+        ensures { result.now ≡ self.now }
+    {
+        &self.problem
+    }
+
+    /// The value of an output at the point with a number.
+    pub fn value(&self, output: u8, point: u32) -> bool
+        requires output { output < outputs_of self.now }
+        requires point { point < 2 ^ self.now.inputs }
+        ensures { result ≡ value_at self.now output point }
+    {
+        self.problem.value(output, point)
+    }
+
+    /// An output with the variables of `care` fixed to the bits of `value`. The time is that of a step for each variable and word.
+    pub fn cofactor(&self, alloc: Global, output: u8, care: Mask, value: Mask) -> Result<Row, AllocError>
+        requires { output < outputs_of self.now }
+        ensures inputs { IfOk result (λ row. row.inputs ≡ self.now.inputs) }
+        ensures table { IfOk result (λ row. row.table ≡ table self.now.inputs (fixed (members self.now.inputs care) value (from_table (table_at self.now output)))) }
+    {
+        let n = self.problem.inputs();
+        let mut words = self.problem.words(output).to_vec(alloc)?;
+        for x in 0..n {
+            if (care >> x) & 1 == 1 {
+                fix_variable(n, &mut words, x, (value >> x) & 1 == 1);
+            }
+        }
+        Ok(Row::new(n, words))
+    }
+
+    /// The values of all outputs at some points, as 0 and 1.
+    fn values(&self, alloc: Global, points: &[u32]) -> Result<Vec<u32>, AllocError>
+        requires { All (λ k. k < 2 ^ self.now.inputs) points.now }
+        ensures { IfOk result (λ v. v.items ≡ values_at points.now self.now.tables) }
+    {
+        let mut values = Vec::new(alloc);
+        for output in 0..self.problem.outputs() {
+            let words = self.problem.words(output);
+            for point in points {
+                values.push(bit_of(words, *point as usize) as u32)?;
+            }
+        }
+        Ok(values)
+    }
+
+    /// The level counts under an order, top first, by plain cofactors: the subfunctions below each level are told apart,
+    /// from the bottom level up, and those that depend on the level's variable are counted.
+    pub fn widths_of(&self, alloc: Global, order: &Order) -> Result<Vec<u32>, AllocError>
+        requires { length order.now ≡ self.now.inputs }
+        ensures { IfOk result (λ v. v.items ≡ level_counts self.now.inputs (functions self.now) order.now) }
+    {
+        let n = order.len();
+        let points = assignment_points(alloc, order.variables())?;
+        let mut classes = self.values(alloc, &points)?;
+        let mut counts = vec![in alloc; 0u32; n]?;
+        for level in (0..n).rev() {
+            let above = merge(alloc, &classes)?;
+            counts[level] = above.unequal;
+            classes = above.numbers;
+        }
+        Ok(counts)
+    }
+}
