@@ -3,12 +3,12 @@
 
 mod outcome;
 mod program;
-mod run;
+mod runs;
 mod texts;
 
 pub use outcome::{Fault, Outcome};
 pub use program::minorder;
-pub use run::{RunPlan, run};
+pub use runs::{RunPlan, run};
 
 #[cfg(test)]
 mod tests;

@@ -3,7 +3,7 @@
 ghost use Rattle.std.specs.Prelude.{◌≡◌, ◌<◌, ◌^◌};
 
 use crate::outcome::{Fault, Outcome};
-use crate::run::{RunPlan, run};
+use crate::runs::{RunPlan, run};
 use order_model::{CountedRead, CountedWrite, Counting, Workers, write_whole};
 use std::alloc::Global;
 use std::fs;

@@ -6,6 +6,7 @@ use std::alloc::Global;
 use std::io;
 use std::io::{ErrorKind, Read, Write};
 use std::test::Fail;
+use std::thread::Threads;
 
 /// Files, and the two lines of their counts.
 static COUNTS: [(&[u8], &[u8]); 12] = [
@@ -76,7 +77,11 @@ impl Write for FailingWriter {
 }
 
 /// How a count of a reader's bytes ends, and what its writer then holds.
-fn counted<R: Read>(rt: &HostRuntime, reader: R, writer: FailingWriter) -> Result<(Outcome, FailingWriter), Fail> {
+fn counted<T: AllocGlobal + Threads + Sync, R: Read + Drop>(
+    rt: &T,
+    reader: R,
+    writer: FailingWriter,
+) -> Result<(Outcome, FailingWriter), Fail> {
     let workers = Workers::new(1).ok_or("one worker")?;
     let plan = RunPlan {
         workers,

@@ -1,6 +1,6 @@
 //! Runs of minorder, over any reader and writers.
 
-ghost use Rattle.std.specs.Prelude.{◌≡◌, ◌<◌, ◌≤◌, ◌^◌, IsTrue, IfOk, IfSome, string_bytes};
+ghost use Rattle.std.specs.Prelude.{◌≡◌, ◌<◌, ◌≤◌, ◌^◌, IsTrue, IfOk, IfSome, length, string_bytes};
 ghost use Rattle.report.specs.Texts.{count_text as text_of, file_order_levels};
 ghost use Rattle.report.specs.Runs.{Counts, FailsOnlyByDevice, WritesNothing};
 
