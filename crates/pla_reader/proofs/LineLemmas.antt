@@ -1,7 +1,7 @@
 -- What the program holds after a further line.
 use Rattle.std.proofs.Common.{◌≡◌, ℕ, ◌≤◌, refl, sym, ◌∙◌, ap, Bool, true, false, not, ◌&&◌, ◌==◌, List, [], ◌∷◌, ◌++◌, length, map, Option, Some, None, unwrap_or, is_some, filter_map, IfSome, ◌⊎◌, inl, inr, arith, rules, Result, Ok, Err, IsErrAnd}
 use Rattle.std.specs.Option.{option_to_list, option_map}
-use Rattle.std.specs.List.{All, list_all}
+use Rattle.std.specs.List.{All}
 use Rattle.std.proofs.lemmas.List.Elements.{filter_map-append, All-nil, All-append}
 use Rattle.std.proofs.lemmas.Bool.Decides.{nat_tests}
 use mathlib.Core.List.{append-nil, map-append}

@@ -1,19 +1,17 @@
 -- A cover that is read is well formed.
-use Rattle.std.proofs.Common.{◌≡◌, ℕ, ◌+◌, ◌≤◌, zero, suc, refl, sym, ◌∙◌, ap, Bool, true, false, not, cond, ◌&&◌, nat_lt, nat_le, List, [], ◌∷◌, ◌++◌, length, map, take, drop, codes, decimal, Option, Some, None, unwrap_or, is_some, filter_map, IfSome, ◌==◌, ◌≢◌, ◌<◌, ◌⊎◌, inl, inr, take_all, get_or, arith, rules}
+use Rattle.std.proofs.Common.{◌≡◌, ℕ, ◌+◌, ◌≤◌, zero, suc, refl, sym, ◌∙◌, ap, Bool, true, false, cond, ◌&&◌, nat_lt, nat_le, List, [], ◌∷◌, ◌++◌, length, map, take, drop, codes, decimal, Option, Some, None, unwrap_or, is_some, filter_map, IfSome, ◌==◌, ◌≢◌, ◌<◌, ◌⊎◌, inl, inr, take_all, get_or, arith, rules}
 use Rattle.std.specs.Option.{option_to_list, option_map}
 use Rattle.std.specs.List.{All, range_with_len, slice_index_or}
 use Rattle.std.proofs.lemmas.Bool.Decides.{nat_tests}
 use Rattle.std.proofs.lemmas.List.{length-map, length-take-le, length-drop, get_or-map}
 use Rattle.std.proofs.lemmas.List.Elements.{All-nil, All-append}
 use Rattle.std.proofs.lemmas.List.FromFn.{length-map-range_with_len}
-use Rattle.order_model.specs.Products.{Product}
 use Rattle.pla_reader.specs.declared.errors.LineFault.{LineFault}
 use Rattle.pla_reader.specs.declared.errors.LineFault.TheVariants.{InputCount, OutputCount, MissingHead}
 use Rattle.std.proofs.lemmas.Bool.{and_parts, cases_eq}
 use Rattle.std.proofs.Math.Seq.{take-suc}
-use mathlib.Core.List.{append_assoc}
-use Rattle.pla_reader.specs.Text.{only_word, is_number, number_of}
-use Rattle.pla_reader.specs.Lines.{Line, description, said}
+use Rattle.pla_reader.specs.Text.{is_number, number_of}
+use Rattle.pla_reader.specs.Lines.{Line, description}
 use Rattle.pla_reader.specs.Lines.Line.{Empty, Inputs, Outputs, InputNames, OutputNames, Products, LogicalType, End, UnknownWord, Row}
 use Rattle.pla_reader.specs.Covers.{NamedCover, input_count, output_count, input_naming, output_naming, row_bytes, IsProductOf, IsCover, first_number, first_or, inputs_of, outputs_of, numbered_names, term_of, literal_of, in_on_set, cover_of}
 use Rattle.pla_reader.specs.Faults.{comes, first_some, length_fault, term_fault, head_fault, naming_fault, fault_of, input_fault, output_fault, is_small, takes_dont_cares}

@@ -62,7 +62,7 @@ impl From<AllocError> for LineError {
 fn count(known: Option<u8>, text: &[u8], outside: LineFault) -> Result<u8, LineFault>
     ensures { MatchResult result
         (λ d. (head_fault (is_some known) (words text.now) outside ≡ None)
-            × (first_number (words text.now) ≡ Some d) × (1 ≤ d) × (d ≤ 16))
+        × (first_number (words text.now) ≡ Some d) × (1 ≤ d) × (d ≤ 16))
         (λ fault. head_fault (is_some known) (words text.now) outside ≡ Some fault) }
 {
     if known.is_some() {
@@ -89,7 +89,7 @@ fn is_number_alone(text: &[u8]) -> bool
 fn check_names(count: Option<u8>, repeated: bool, text: &[u8]) -> Result<(), LineFault>
     ensures { MatchResult result
         (λ done. (naming_fault (is_some count) repeated (unwrap_or count 0) (words text.now) ≡ None)
-            × (count ≡ Some (length (words text.now))) × (list_all is_name (words text.now) ≡ true))
+        × (count ≡ Some (length (words text.now))) × (list_all is_name (words text.now) ≡ true))
         (λ fault. naming_fault (is_some count) repeated (unwrap_or count 0) (words text.now) ≡ Some fault) }
 {
     let Some(count) = count else {
