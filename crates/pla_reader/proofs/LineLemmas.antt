@@ -1,7 +1,7 @@
 -- What the program holds after a further line.
 use Rattle.std.proofs.Common.{◌≡◌, ℕ, ◌≤◌, refl, sym, ◌∙◌, ap, Bool, true, false, not, ◌&&◌, ◌==◌, List, [], ◌∷◌, ◌++◌, length, map, Option, Some, None, unwrap_or, is_some, filter_map, IfSome, ◌⊎◌, inl, inr, arith, rules, Result, Ok, Err, IsErrAnd}
 use Rattle.std.specs.Option.{option_to_list, option_map}
-use Rattle.std.specs.List.{All, list_all}
+use Rattle.std.specs.List.{All}
 use Rattle.std.proofs.lemmas.List.Elements.{filter_map-append, All-nil, All-append}
 use Rattle.std.proofs.lemmas.Bool.Decides.{nat_tests}
 use mathlib.Core.List.{append-nil, map-append}
@@ -22,14 +22,14 @@ use Rattle.pla_reader.specs.Masks.{Fits}
 use Rattle.pla_reader.specs.Progress.{State, Agrees, IsSound, Taken, is_f, words_of}
 
 -- a further line that gives nothing, or something
-none_behind : {A : Type 0} (h : Line → Option A) (before : List Line) (line : Line) → h line ≡ None → filter_map h (before ++ line ∷ []) ≡ filter_map h before
+pub none_behind : {A : Type 0} (h : Line → Option A) (before : List Line) (line : Line) → h line ≡ None → filter_map h (before ++ line ∷ []) ≡ filter_map h before
 none_behind h before line e = filter_map-append h before (line ∷ []) ∙ rw e (append-nil (filter_map h before))
 
-one_behind : {A : Type 0} (h : Line → Option A) (before : List Line) (line : Line) (x : A) → h line ≡ Some x → filter_map h (before ++ line ∷ []) ≡ filter_map h before ++ x ∷ []
+pub one_behind : {A : Type 0} (h : Line → Option A) (before : List Line) (line : Line) (x : A) → h line ≡ Some x → filter_map h (before ++ line ∷ []) ≡ filter_map h before ++ x ∷ []
 one_behind h before line x e = filter_map-append h before (line ∷ []) ∙ rw e refl
 
 -- what was not known is what the further line gives
-first_given : {A : Type 0} (h : Line → Option A) (before : List Line) (line : Line) (known : Option A) (x : A) → filter_map h before ≡ option_to_list known → known ≡ None → h line ≡ Some x →
+pub first_given : {A : Type 0} (h : Line → Option A) (before : List Line) (line : Line) (known : Option A) (x : A) → filter_map h before ≡ option_to_list known → known ≡ None → h line ≡ Some x →
     filter_map h (before ++ line ∷ []) ≡ x ∷ []
 first_given h before line known x e none gives = one_behind h before line x gives ∙ ap (λ xs. xs ++ x ∷ []) e ∙ ap (λ k. option_to_list k ++ x ∷ []) none
 
@@ -90,7 +90,7 @@ unrepeated_type None late given e = refl
 unrepeated_type (Some x) late given e = absurd cc
 
 -- names wait for their count
-names_wait : (names : Option (List (List ℕ))) (old new : Option ℕ) → old ≡ None → IfSome names (λ ns. old ≡ Some (length ns)) → IfSome names (λ ns. new ≡ Some (length ns))
+pub names_wait : (names : Option (List (List ℕ))) (old new : Option ℕ) → old ≡ None → IfSome names (λ ns. old ≡ Some (length ns)) → IfSome names (λ ns. new ≡ Some (length ns))
 names_wait None old new e counted = tt
 names_wait (Some ns) old new e counted = absurd cc
 

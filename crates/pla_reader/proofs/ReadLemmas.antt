@@ -18,7 +18,6 @@ use Rattle.pla_reader.specs.declared.progress.LineError.TheVariants as line_erro
 use Rattle.pla_reader.specs.Text.{lines_of}
 use Rattle.pla_reader.specs.Lines.{Line, is_end, description, said, line_said}
 use Rattle.pla_reader.specs.Lines.Line.{Empty, Inputs, Outputs, InputNames, OutputNames, Products, LogicalType, End, UnknownWord, Row}
-use Rattle.order_model.specs.Products.{product_of}
 use Rattle.pla_reader.specs.Covers.{NamedCover, input_count, output_count, input_naming, output_naming, row_bytes, cover_of, term_of, inputs_of, outputs_of, first_or, numbered_names}
 use Rattle.pla_reader.specs.Faults.{fault_of}
 use Rattle.pla_reader.specs.Masks.{Fits}

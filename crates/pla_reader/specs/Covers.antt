@@ -3,8 +3,9 @@
 --     input_count line, .. , row_bytes line      what a line gives
 --     inputs_of lines, outputs_of lines      the numbers that the lines give
 --     cover_of lines      the cover of the lines
-use Rattle.std.specs.Prelude.{ℕ, Bool, true, false, cond, ◌==◌, List, [], ◌∷◌, ◌++◌, map, take, drop, Option, Some, None, decimal, filter_map, codes}
-use Rattle.std.specs.List.{range_with_len}
+--     IsCover cover      it is well formed
+use Rattle.std.specs.Prelude.{◌≡◌, ℕ, ◌≤◌, Bool, true, false, cond, ◌==◌, List, [], ◌∷◌, ◌++◌, map, take, drop, Option, Some, None, decimal, filter_map, codes, length}
+use Rattle.std.specs.List.{All, range_with_len}
 use Rattle.order_model.specs.Products.{Product}
 use Rattle.pla_reader.specs.Text.{number_of}
 use Rattle.pla_reader.specs.Lines.{Line}
@@ -85,3 +86,18 @@ cover_of lines = record {
   output_names = first_or (numbered_names (codes "y") (outputs_of lines)) (filter_map output_naming lines);
   products = map (term_of (inputs_of lines)) (filter_map row_bytes lines);
 }
+
+-- a product of n inputs and m outputs
+pub record IsProductOf (n m : ℕ) (product : Product) : Type 0 where
+  pub literals : length product.literals ≡ n
+  pub outputs : length product.outputs ≡ m
+
+-- a cover has 1 to 16 inputs and outputs, a name for each, and products of these
+pub record IsCover (cover : NamedCover) : Type 0 where
+  pub some_inputs : 1 ≤ cover.inputs
+  pub few_inputs : cover.inputs ≤ 16
+  pub some_outputs : 1 ≤ cover.outputs
+  pub few_outputs : cover.outputs ≤ 16
+  pub input_names : length cover.input_names ≡ cover.inputs
+  pub output_names : length cover.output_names ≡ cover.outputs
+  pub products : All (IsProductOf cover.inputs cover.outputs) cover.products

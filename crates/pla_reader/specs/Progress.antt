@@ -1,7 +1,7 @@
 -- How far the program's reading of the lines is.
 --     State, state_of progress      what the program holds
 --     Agrees before state      it is what the lines before give
---     Taken before line state result      the program's answer for a line
+--     Taken before line state result, Takes old line new result      the program's answer for a line
 --     IsCoverOf state cover, IsEndError state number error      its answer at the end of the description
 use Rattle.std.specs.Prelude.{◌≡◌, ℕ, ◌≤◌, Bool, true, false, List, [], ◌∷◌, ◌++◌, length, map, Option, Some, None, Result, Ok, Err, unwrap_or, filter_map, ◌&&◌, is_some, codes, IfSome}
 use Rattle.std.specs.Option.{option_to_list, option_map}
@@ -79,6 +79,10 @@ abbrev pub Taken : {U : Type 0} → List Line → Line → State → Result U Li
 Taken before line after (Ok u) = (fault_of before line ≡ None) × Agrees (before ++ line ∷ []) after
 Taken before line after (Err line_errors.Memory) = Unit {0}
 Taken before line after (Err (line_errors.Fault fault)) = fault_of before line ≡ Some fault
+
+-- the answer for a line is right, whatever lines came before
+abbrev pub Takes : {U : Type 0} → Progress → Line → Progress → Result U LineError → Type 0
+Takes old line new result = (before : List Line) → Agrees before (state_of old) → Taken before line (state_of new) result
 
 -- the cover is what the program holds, with numbered names where none came
 pub record IsCoverOf (s : State) (cover : NamedCover) : Type 0 where

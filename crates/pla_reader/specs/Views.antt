@@ -1,7 +1,7 @@
 -- What a contract sees of a cover.
 --     cover_view cover      the numbers, names and product terms that the fields hold
 --     IsWellFormed cover      1 to 16 inputs and outputs, a name for each, and terms of these
-use Rattle.std.specs.Prelude.{◌≡◌, ℕ, ◌≤◌, List, length, map}
+use Rattle.std.specs.Prelude.{◌≡◌, ◌≤◌, length, map}
 use Rattle.std.specs.List.{All}
 use Rattle.std.specs.String.{string_bytes}
 use Rattle.pla_reader.specs.declared.cover.Cover.TheInside.{Inside}

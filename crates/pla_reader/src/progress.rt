@@ -6,13 +6,12 @@ ghost use Rattle.std.specs.Option.{option_map};
 ghost use Rattle.std.specs.String.{string_bytes};
 ghost use Rattle.pla_reader.specs.declared.errors.LineFault.TheVariants.{MissingHead, BadNumber};
 ghost use Rattle.pla_reader.specs.Text.{is_filled, words, positions, is_name};
-ghost use Rattle.pla_reader.specs.Lines.{Line};
 ghost use Rattle.pla_reader.specs.Lines.Line.{Inputs, Outputs, InputNames, OutputNames, LogicalType as TypeLine, Row};
 ghost use Rattle.pla_reader.specs.Covers.{first_number, numbered_names};
 ghost use Rattle.order_model.specs.Products.{product_of};
 ghost use Rattle.pla_reader.specs.Faults.{head_fault, naming_fault, type_fault, is_one_number};
 ghost use Rattle.pla_reader.specs.Statements.{line_of};
-ghost use Rattle.pla_reader.specs.Progress.{state_of, start, is_f, words_of, Agrees, IsSound, Taken, IsCoverOf, IsEndError};
+ghost use Rattle.pla_reader.specs.Progress.{state_of, start, is_f, words_of, IsSound, Takes, IsCoverOf, IsEndError};
 
 use crate::cover::Cover;
 use crate::errors::{LineFault, PlaError};
@@ -62,7 +61,8 @@ impl From<AllocError> for LineError {
 /// The count that a directive gives.
 fn count(known: Option<u8>, text: &[u8], outside: LineFault) -> Result<u8, LineFault>
     ensures { MatchResult result
-        (λ d. (head_fault (is_some known) (words text.now) outside ≡ None) × (first_number (words text.now) ≡ Some d) × (1 ≤ d) × (d ≤ 16))
+        (λ d. (head_fault (is_some known) (words text.now) outside ≡ None)
+        × (first_number (words text.now) ≡ Some d) × (1 ≤ d) × (d ≤ 16))
         (λ fault. head_fault (is_some known) (words text.now) outside ≡ Some fault) }
 {
     if known.is_some() {
@@ -88,7 +88,8 @@ fn is_number_alone(text: &[u8]) -> bool
 /// The fault of names, by their number and whether earlier ones came.
 fn check_names(count: Option<u8>, repeated: bool, text: &[u8]) -> Result<(), LineFault>
     ensures { MatchResult result
-        (λ done. (naming_fault (is_some count) repeated (unwrap_or count 0) (words text.now) ≡ None) × (count ≡ Some (length (words text.now))) × (list_all is_name (words text.now) ≡ true))
+        (λ done. (naming_fault (is_some count) repeated (unwrap_or count 0) (words text.now) ≡ None)
+        × (count ≡ Some (length (words text.now))) × (list_all is_name (words text.now) ≡ true))
         (λ fault. naming_fault (is_some count) repeated (unwrap_or count 0) (words text.now) ≡ Some fault) }
 {
     let Some(count) = count else {
@@ -128,7 +129,8 @@ fn given_or_numbered(
     front: &str,
     count: u8,
 ) -> Result<Vec<String>, AllocError>
-    ensures { IfOk result (λ all. map string_bytes all.items ≡ unwrap_or (option_map (λ names. map string_bytes names.items) given) (numbered_names front.now count)) }
+    ensures { IfOk result (λ all. map string_bytes all.items
+        ≡ unwrap_or (option_map (λ names. map string_bytes names.items) given) (numbered_names front.now count)) }
 {
     match given {
         Some(names) => Ok(names),
@@ -176,21 +178,21 @@ impl Progress {
     }
 
     fn take_inputs(&mut self, text: &[u8]) -> Result<(), LineError>
-        ensures { (before : List Line) → Agrees before (state_of self.old) → Taken before (Inputs (words text.now)) (state_of self.new) result }
+        ensures { Takes self.old (Inputs (words text.now)) self.new result }
     {
         self.inputs = Some(count(self.inputs, text, LineFault::InputCount)?);
         Ok(())
     }
 
     fn take_outputs(&mut self, text: &[u8]) -> Result<(), LineError>
-        ensures { (before : List Line) → Agrees before (state_of self.old) → Taken before (Outputs (words text.now)) (state_of self.new) result }
+        ensures { Takes self.old (Outputs (words text.now)) self.new result }
     {
         self.outputs = Some(count(self.outputs, text, LineFault::OutputCount)?);
         Ok(())
     }
 
     fn take_input_names(&mut self, alloc: Global, text: &[u8]) -> Result<(), LineError>
-        ensures { (before : List Line) → Agrees before (state_of self.old) → Taken before (InputNames (words text.now)) (state_of self.new) result }
+        ensures { Takes self.old (InputNames (words text.now)) self.new result }
     {
         check_names(self.inputs, self.input_names.is_some(), text)?;
         self.input_names = Some(names(alloc, text)?);
@@ -198,7 +200,7 @@ impl Progress {
     }
 
     fn take_output_names(&mut self, alloc: Global, text: &[u8]) -> Result<(), LineError>
-        ensures { (before : List Line) → Agrees before (state_of self.old) → Taken before (OutputNames (words text.now)) (state_of self.new) result }
+        ensures { Takes self.old (OutputNames (words text.now)) self.new result }
     {
         check_names(self.outputs, self.output_names.is_some(), text)?;
         self.output_names = Some(names(alloc, text)?);
@@ -206,7 +208,7 @@ impl Progress {
     }
 
     fn take_type(&mut self, text: &[u8]) -> Result<(), LineError>
-        ensures { (before : List Line) → Agrees before (state_of self.old) → Taken before (TypeLine (words text.now)) (state_of self.new) result }
+        ensures { Takes self.old (TypeLine (words text.now)) self.new result }
     {
         let kind = logical_type(self.logical_type.is_some(), self.has_terms(), text)?;
         self.logical_type = Some(kind);
@@ -215,7 +217,7 @@ impl Progress {
 
     fn take_row(&mut self, text: &[u8]) -> Result<(), LineError>
         requires { IsSound (state_of self.old) }
-        ensures { (before : List Line) → Agrees before (state_of self.old) → Taken before (Row (positions text.now)) (state_of self.new) result }
+        ensures { Takes self.old (Row (positions text.now)) self.new result }
     {
         let (Some(inputs), Some(outputs)) = (self.inputs, self.outputs) else {
             return Err(LineError::Fault(LineFault::MissingHead));
@@ -230,7 +232,7 @@ impl Progress {
     /// Takes what the next line says.
     pub(crate) fn take(&mut self, alloc: Global, statement: Statement) -> Result<(), LineError>
         requires { IsSound (state_of self.old) }
-        ensures { (before : List Line) → Agrees before (state_of self.old) → Taken before (line_of statement.entry) (state_of self.new) result }
+        ensures { Takes self.old (line_of statement.entry) self.new result }
     {
         match statement {
             Statement::Empty | Statement::End => Ok(()),
@@ -251,7 +253,7 @@ impl Progress {
         }
     }
 
-    /// The cover of the lines read, where both counts came; `number` is the line that ends the description.
+    /// The cover of the lines read, where both counts came; the line that ends the description has the number.
     pub(crate) fn finish(self, alloc: Global, number: usize) -> Result<Cover, PlaError>
         requires { IsSound (state_of self) }
         ensures ok { IfOk result (IsCoverOf (state_of self)) }

@@ -69,7 +69,8 @@ pub(crate) fn row(n: u8, m: u8, takes_dont_cares: bool, line: &[u8]) -> Result<T
     requires inputs { n ≤ 16 }
     requires outputs { m ≤ 16 }
     ensures { MatchResult result
-        (λ term. (term_fault takes_dont_cares n m (positions line.now) ≡ None) × (product_of n m term ≡ term_of n (positions line.now)) × Fits n m term)
+        (λ term. (term_fault takes_dont_cares n m (positions line.now) ≡ None)
+        × (product_of n m term ≡ term_of n (positions line.now)) × Fits n m term)
         (λ fault. term_fault takes_dont_cares n m (positions line.now) ≡ Some fault) }
 {
     let mut masks = Masks {

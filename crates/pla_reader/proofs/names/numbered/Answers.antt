@@ -1,4 +1,4 @@
-use Rattle.std.proofs.Common.{◌≡◌, map, refl, ap, sym, ◌∙◌, ◌++◌, [], ◌∷◌, arith, rules}
+use Rattle.std.proofs.Common.{◌∙◌, [], ◌∷◌, rules}
 use Rattle.std.specs.String.{string_bytes}
 use Rattle.pla_reader.specs.Covers.{numbered_names}
 use Rattle.pla_reader.proofs.NameLemmas.{numbered_next}

@@ -1,6 +1,5 @@
 use Rattle.std.proofs.Common.{◌≡◌, ◌∙◌, ◌+◌, sym, ap, true, false, [], ◌∷◌, rules}
 use Rattle.pla_reader.specs.Lines.{Line, line_said, is_end, said}
-use Rattle.pla_reader.specs.Statements.{line_of}
 use Rattle.pla_reader.specs.Progress.{state_of}
 use Rattle.pla_reader.proofs.ReadLemmas.{Reached, reached_next, first_is_found, ends_at_end, ends_with_input, said_first, said_none, end_line, answers_end}
 use Rattle.pla_reader.proofs.reader.read_bytes.Goals as goal

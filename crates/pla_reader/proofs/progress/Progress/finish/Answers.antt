@@ -1,4 +1,4 @@
-use Rattle.std.proofs.Common.{◌≡◌, sym, ◌∙◌, codes, map, length}
+use Rattle.std.proofs.Common.{sym, ◌∙◌, codes}
 use Rattle.std.specs.String.{string_bytes}
 use Rattle.std.proofs.lemmas.List.{length-map}
 use Rattle.pla_reader.specs.Progress.{state_of}

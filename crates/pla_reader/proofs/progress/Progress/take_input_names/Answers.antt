@@ -1,5 +1,4 @@
-use Rattle.std.proofs.Common.{◌∙◌, map}
-use Rattle.std.specs.String.{string_bytes}
+use Rattle.std.proofs.Common.{◌∙◌}
 use Rattle.pla_reader.specs.Progress.{state_of}
 use Rattle.pla_reader.proofs.LineLemmas.{some_kept, refused, input_names_fault, takes_input_names}
 use Rattle.pla_reader.proofs.progress.Progress.take_input_names.Goals as goal

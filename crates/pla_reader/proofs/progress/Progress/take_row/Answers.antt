@@ -1,7 +1,5 @@
-use Rattle.std.proofs.Common.{◌≡◌, ◌∙◌, ◌&&◌, refl, ap, false, is_some}
-use Rattle.pla_reader.specs.Faults.{term_fault}
-use Rattle.pla_reader.specs.Text.{positions}
-use Rattle.pla_reader.specs.Progress.{state_of, is_f}
+use Rattle.std.proofs.Common.{◌≡◌, ◌∙◌, ◌&&◌, refl, false, is_some}
+use Rattle.pla_reader.specs.Progress.{state_of}
 use Rattle.pla_reader.proofs.LineLemmas.{and_false, refused, row_fault, headless_row, takes_row}
 use Rattle.pla_reader.proofs.progress.Progress.take_row.Goals as goal
 
