@@ -59,10 +59,13 @@ module _ (n : ℕ) (F : List Function) (p : List ℕ → Bool) (f : ℕ → List
   -- one place more in front, at which the test fails or the size is not below the one in hand
   later : (held : List ℕ) (a k : ℕ) (r : List ℕ) → (p (f a) ≡ true → size held ≤ size (f a)) → Outcome held (a + 1) k r → Outcome held a (suc k) r
   later held a k r h o = elim o [
-    | inl s ↦ inl (s.0, λ j g l t. elim (at_or_after a j g) [
-      | inl e ↦ let le = h (sym (ap (λ v. p (f v)) e) ∙ t) in let z = ap (λ v. size (f v)) e in omega arith
-      | inr q ↦ s.1 j q (omega arith) t
-    ])
+    | inl s ↦ inl (
+      s.0,
+      λ j g l t. elim (at_or_after a j g) [
+        | inl e ↦ let le = h (sym (ap (λ v. p (f v)) e) ∙ t) in let z = ap (λ v. size (f v)) e in omega arith
+        | inr q ↦ s.1 j q (omega arith) t
+      ],
+    )
     | inr s ↦ inr (s.0, extend a k s.0 s.1 (λ t. let le = h t in let lt = s.3 in omega arith), s.2, s.3)
   ]
 
@@ -131,8 +134,7 @@ pub best_at_best_place : (n : ℕ) (F : List Function) (P : List Pair) (order : 
 unfolding best placements
 best_at_best_place n F P order x o k lt =
     let own = own_place x order o.once ((o.all x).1 lt) in
-    let s = first_least n F (keeps P) (λ i. moved order x i) order (length order) 0 (place_in order x) (omega arith) (let l = own.1 in omega arith) (ap (keeps P) own.0 ∙ k) in
-    (
+    let s = first_least n F (keeps P) (λ i. moved order x i) order (length order) 0 (place_in order x) (omega arith) (let l = own.1 in omega arith) (ap (keeps P) own.0 ∙ k) in (
       s.0,
       record {
         within = (let l = s.1.to in omega arith);

@@ -89,10 +89,13 @@ module _ (count : ℕ → ℕ) where
   sorted_distinct : (xs : List ℕ) → IsSorted xs → IsDistinct nat_eq xs
   unfolding IsSorted IsDistinct
   sorted_distinct [] s = tt
-  sorted_distinct (y ∷ ys) s = (apart_from_absent y ys (elim (cases_Bool (has ys y)) [
-    | inl t ↦ absurd (before_differs y y (s.0 y t) (s.0 y t))
-    | inr e ↦ e
-  ]), sorted_distinct ys s.1)
+  sorted_distinct (y ∷ ys) s = (
+    apart_from_absent y ys (elim (cases_Bool (has ys y)) [
+      | inl t ↦ absurd (before_differs y y (s.0 y t) (s.0 y t))
+      | inr e ↦ e
+    ]),
+    sorted_distinct ys s.1,
+  )
 
   sorted_above : (u v : ℕ) (xs : List ℕ) → IsSorted xs → has xs u ≡ true → has xs v ≡ true → Before u v → is_above u v xs ≡ true
   unfolding IsSorted is_above
