@@ -56,6 +56,7 @@ module _ (xs : List ℕ) (below : All (λ x. x < length xs) xs) (once : IsDistin
           by : (b : Bool) → eqb q y ≡ b → (b || has xs q) ≡ true → q < length xs
           by true f g = let e = eqb-true q y f in omega arith
           by false f g = member_below q g
+
       too_many : suc (length xs) ≤ length xs → ⊥
       too_many k = omega arith
 

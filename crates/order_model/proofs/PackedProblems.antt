@@ -59,23 +59,28 @@ same_tables n m words ts l ls h = ext_get_or [] (tables_of n m words) ts (length
   where
     long : (j : ℕ) → j < m → length (get_or (tables_of n m words) j []) ≡ 2 ^ n
     long j b = ap length (table_of n m words j b) ∙ length-table_in n (words_of (words_per_table n) words j)
+
     one : (j : ℕ) → j < m → get_or (tables_of n m words) j [] ≡ get_or ts j []
     one j b = ext_get_or false _ _ (long j b ∙ sym (ls j b)) (λ k c. let c' = subst (λ (z : ℕ). k < z) (long j b) c in value_of n m words j k b c' ∙ h j k b c')
 
 pub tables_of_zeros : (n m : ℕ) → tables_of n m (replicate (m * words_per_table n) 0) ≡ replicate m (replicate (2 ^ n) false)
 tables_of_zeros n m = same_tables n m _ _ (length-replicate m _) (λ j b. ap length (get_or-replicate m j (replicate (2 ^ n) false) [] b) ∙ length-replicate (2 ^ n) false)
     (λ j k b c.
-      let p = point_inside n k c in
-      let q = block_inside (words_per_table n) m j b in
-      ap (λ z. eqb (bit_at z (k % 64)) 1) (get_or-replicate (m * words_per_table n) (j * words_per_table n + k / 64) 0 0 (omega arith))
-      ∙ ap (λ z. eqb z 1) (bit_at-zero (k % 64))
-      ∙ sym (ap (λ t. get_or t k false) (get_or-replicate m j (replicate (2 ^ n) false) [] b) ∙ get_or-replicate (2 ^ n) k false false c))
+    let p = point_inside n k c in
+    let q = block_inside (words_per_table n) m j b in
+    ap (λ z. eqb (bit_at z (k % 64)) 1) (get_or-replicate (m * words_per_table n) (j * words_per_table n + k / 64) 0 0 (omega arith))
+    ∙ ap (λ z. eqb z 1) (bit_at-zero (k % 64))
+    ∙ sym (ap (λ t. get_or t k false) (get_or-replicate m j (replicate (2 ^ n) false) [] b) ∙ get_or-replicate (2 ^ n) k false false c))
 
 -- a place of words tells the table and the word in it
 apart : (W i j a b : ℕ) → a < W → b < W → i * W + a ≡ j * W + b → i ≡ j
-apart W i j a b h k e = elim (cases_eq i j) [ inl f ↦ f | inr ne ↦ elim (cases_lt i j) [
+apart W i j a b h k e = elim (cases_eq i j) [
+  | inl f ↦ f
+  | inr ne ↦ elim (cases_lt i j) [
     | inl lt ↦ (let p = block_inside W j i lt in absurd (omega arith))
-    | inr ge ↦ (let p = block_inside W i j (omega arith) in absurd (omega arith)) ] ]
+    | inr ge ↦ (let p = block_inside W i j (omega arith) in absurd (omega arith))
+  ]
+]
 
 module _ (n m : ℕ) (words : List ℕ) (output point : ℕ) (inside : output < m) (within : point < 2 ^ n) (long : length words ≡ m * words_per_table n) where
   place : ℕ
@@ -102,13 +107,13 @@ module _ (n m : ℕ) (words : List ℕ) (output point : ℕ) (inside : output < 
     bit_changed j k b c ne = elim (cases_eq (j * words_per_table n + k / 64) (output * words_per_table n + point / 64)) [
       | inr other ↦ ap (λ z. eqb (bit_at z (k % 64)) 1) (get_or-set_other words (output * words_per_table n + point / 64) _ _ 0 other)
       | inl e ↦
-        let p = point_inside n k c in
-        let q = point_inside n point within in
-        let i : j ≡ output = apart (words_per_table n) j output (k / 64) (point / 64) p q e in
-        let f : k / 64 ≡ point / 64 = omega (arith, ap (λ z. z * words_per_table n) i) in
-        let d : k % 64 ≢ point % 64 = λ g. ne i (omega arith) in
-        ap (λ z. eqb (bit_at z (k % 64)) 1) (ap (λ z. get_or (changed word) z 0) e ∙ get_or-set_same words (output * words_per_table n + point / 64) _ 0 place_inside)
-        ∙ ap (λ z. eqb z 1) (elsewhere word (k % 64) d ∙ ap (λ z. bit_at z (k % 64)) (read ∙ ap (λ z. get_or words z 0) (sym e)))
+          let p = point_inside n k c in
+          let q = point_inside n point within in
+          let i : j ≡ output = apart (words_per_table n) j output (k / 64) (point / 64) p q e in
+          let f : k / 64 ≡ point / 64 = omega (arith, ap (λ z. z * words_per_table n) i) in
+          let d : k % 64 ≢ point % 64 = λ g. ne i (omega arith) in
+          ap (λ z. eqb (bit_at z (k % 64)) 1) (ap (λ z. get_or (changed word) z 0) e ∙ get_or-set_same words (output * words_per_table n + point / 64) _ 0 place_inside)
+          ∙ ap (λ z. eqb z 1) (elsewhere word (k % 64) d ∙ ap (λ z. bit_at z (k % 64)) (read ∙ ap (λ z. get_or words z 0) (sym e)))
     ]
 
     abbrev target : List (List Bool)
@@ -133,32 +138,33 @@ module _ (n m : ℕ) (words : List ℕ) (output point : ℕ) (inside : output < 
           | inl e ↦ ap (λ z. length (get_or target z [])) e ∙ ap length row_same ∙ length-set (get_or (tables_of n m words) output []) point true ∙ row_long output inside
           | inr ne ↦ ap length (row_other j ne) ∙ row_long j b
         ]
+
         values : (j k : ℕ) → j < m → k < 2 ^ n → eqb (bit_at (get_or (changed word) (j * words_per_table n + k / 64) 0) (k % 64)) 1 ≡ get_or (get_or target j []) k false
         values j k b c = elim (cases_eq j output) [
           | inr ne ↦ bit_changed j k b c (λ e _. ne e) ∙ sym (value_of n m words j k b c) ∙ sym (ap (λ t. get_or t k false) (row_other j ne))
           | inl e ↦ elim (cases_eq k point) [
             | inr other ↦
-              bit_changed j k b c (λ _. other) ∙ sym (value_of n m words j k b c) ∙ ap (λ z. get_or (get_or (tables_of n m words) z []) k false) e
-              ∙ sym (get_or-set_other (get_or (tables_of n m words) output []) point k true false other) ∙ sym (ap (λ t. get_or t k false) (ap (λ z. get_or target z []) e ∙ row_same))
+                bit_changed j k b c (λ _. other) ∙ sym (value_of n m words j k b c) ∙ ap (λ z. get_or (get_or (tables_of n m words) z []) k false) e
+                ∙ sym (get_or-set_other (get_or (tables_of n m words) output []) point k true false other) ∙ sym (ap (λ t. get_or t k false) (ap (λ z. get_or target z []) e ∙ row_same))
             | inl f ↦
-              ap (λ z. eqb (bit_at (get_or (changed word) (z * words_per_table n + k / 64) 0) (k % 64)) 1) e
-              ∙ ap (λ z. eqb (bit_at (get_or (changed word) (output * words_per_table n + z / 64) 0) (z % 64)) 1) f
-              ∙ ap (λ z. eqb (bit_at z (point % 64)) 1) (get_or-set_same words (output * words_per_table n + point / 64) _ 0 place_inside)
-              ∙ ap (λ z. eqb z 1) (here word)
-              ∙ sym (get_or-set_same (get_or (tables_of n m words) output []) point true false (omega (arith, row_long output inside)))
-              ∙ ap (λ z. get_or (set (get_or (tables_of n m words) output []) point true) z false) (sym f)
-              ∙ sym (ap (λ t. get_or t k false) (ap (λ z. get_or target z []) e ∙ row_same))
+                ap (λ z. eqb (bit_at (get_or (changed word) (z * words_per_table n + k / 64) 0) (k % 64)) 1) e
+                ∙ ap (λ z. eqb (bit_at (get_or (changed word) (output * words_per_table n + z / 64) 0) (z % 64)) 1) f
+                ∙ ap (λ z. eqb (bit_at z (point % 64)) 1) (get_or-set_same words (output * words_per_table n + point / 64) _ 0 place_inside)
+                ∙ ap (λ z. eqb z 1) (here word)
+                ∙ sym (get_or-set_same (get_or (tables_of n m words) output []) point true false (omega (arith, row_long output inside)))
+                ∙ ap (λ z. get_or (set (get_or (tables_of n m words) output []) point true) z false) (sym f)
+                ∙ sym (ap (λ t. get_or t k false) (ap (λ z. get_or target z []) e ∙ row_same))
           ]
         ]
 
     pub clean_set : IsClean n words → IsClean n (changed word)
     clean_set clean i b h big = elim (cases_eq i (output * words_per_table n + point / 64)) [
       | inl e ↦
-        ap (λ z. bit_at (get_or (changed word) z 0) b) e ∙ ap (λ z. bit_at z b) (get_or-set_same words (output * words_per_table n + point / 64) _ 0 place_inside)
-        ∙ elsewhere word b (omega arith) ∙ ap (λ z. bit_at z b) read ∙ clean (output * words_per_table n + point / 64) b place_inside big
+          ap (λ z. bit_at (get_or (changed word) z 0) b) e ∙ ap (λ z. bit_at z b) (get_or-set_same words (output * words_per_table n + point / 64) _ 0 place_inside)
+          ∙ elsewhere word b (omega arith) ∙ ap (λ z. bit_at z b) read ∙ clean (output * words_per_table n + point / 64) b place_inside big
       | inr ne ↦
-        let l = length-set words (output * words_per_table n + point / 64) (bit_or word (1 * 2 ^ (point % 64) % 18446744073709551616)) in
-        ap (λ z. bit_at z b) (get_or-set_other words (output * words_per_table n + point / 64) i _ 0 ne) ∙ clean i b (omega arith) big
+          let l = length-set words (output * words_per_table n + point / 64) (bit_or word (1 * 2 ^ (point % 64) % 18446744073709551616)) in
+          ap (λ z. bit_at z b) (get_or-set_other words (output * words_per_table n + point / 64) i _ 0 ne) ∙ clean i b (omega arith) big
     ]
 
     pub packed_set : IsPacked n m words → IsPacked n m (changed word)
@@ -189,12 +195,16 @@ module _ (n m : ℕ) (words : List ℕ) (packed : IsPacked n m words) where
       let l = length-tables_of n m words in
       let j' : j < m = omega arith in
       let a = block_inside (words_per_table n) m j j' in
-      let k = packed.long in
-      (omega arith, sym (table_of n m words j j'), block_long j j', λ i b d e.
-        let f = block_long j j' in
-        let i' : i < words_per_table n = omega arith in
-        ap (λ z. bit_at z b) (get_or-take (words_per_table n) (drop (j * words_per_table n) words) i 0 i' ∙ get_or-drop (j * words_per_table n) words i 0)
-        ∙ packed.clean (j * words_per_table n + i) b (omega arith) e)
+      let k = packed.long in (
+        omega arith,
+        sym (table_of n m words j j'),
+        block_long j j',
+        λ i b d e.
+            let f = block_long j j' in
+            let i' : i < words_per_table n = omega arith in
+            ap (λ z. bit_at z b) (get_or-take (words_per_table n) (drop (j * words_per_table n) words) i 0 i' ∙ get_or-drop (j * words_per_table n) words i 0)
+            ∙ packed.clean (j * words_per_table n + i) b (omega arith) e,
+      )
 
   pub block_facts : (size : ℕ) (t : TruthTables) (j : ℕ) → size ≡ words_per_table n → packed_tables n m words ≡ t → BlockFacts size t j
   block_facts size t j e v = subst (λ (s : ℕ). BlockFacts s t j) (sym e) (subst (λ (u : TruthTables). BlockFacts (words_per_table n) u j) v (block_here j))
@@ -208,9 +218,11 @@ module _ (n m : ℕ) (words : List ℕ) (packed : IsPacked n m words) where
   set_here : (output point : ℕ) → SetFacts (words_per_table n) (packed_tables n m words) output point
   set_here output point h k =
       let l = length-tables_of n m words in
-      let o : output < m = omega arith in
-      (place_inside n m words output point o k packed.long, λ word read.
-        (packed_set n m words output point o k packed.long word read packed, tables_of_set n m words output point o k packed.long word read))
+      let o : output < m = omega arith in (
+        place_inside n m words output point o k packed.long,
+        λ word read.
+            (packed_set n m words output point o k packed.long word read packed, tables_of_set n m words output point o k packed.long word read),
+      )
 
   pub set_facts : (size : ℕ) (t : TruthTables) (output point : ℕ) → size ≡ words_per_table n → packed_tables n m words ≡ t → SetFacts size t output point
   set_facts size t output point e v = subst (λ (s : ℕ). SetFacts s t output point) (sym e) (subst (λ (u : TruthTables). SetFacts (words_per_table n) u output point) v (set_here output point))
@@ -223,6 +235,7 @@ some_depends t x j h e = go t.tables j h e
     or_true : (b : Bool) → (b || true) ≡ true
     or_true true = refl
     or_true false = refl
+
     go : (ts : List (List Bool)) (i : ℕ) → i < length ts → depends t.inputs (from_table (get_or ts i [])) x ≡ true → list_any (λ f. depends t.inputs f x) (map from_table ts) ≡ true
     go [] i h e = absurd (omega arith)
     go (u ∷ ts) zero h e = ap (λ b. b || list_any (λ f. depends t.inputs f x) (map from_table ts)) e
@@ -271,8 +284,10 @@ mask_of_passing test n mask m = same_from_bits mask (mask_of (filter test (varia
     absent : (y : ℕ) → (b : Bool) → n ≤ y → has (variables n) y ≡ b → b ≡ false
     absent y false h e = refl
     absent y true h e = absurd (let l = (has_variables n y).0 e in omega arith)
+
     bits_there : (y : ℕ) → (b : Bool) → has (filter test (variables n)) y ≡ b → bit_at (mask_of (filter test (variables n))) y ≡ cond b 1 0
     bits_there y b e = bit-mask_of (filter test (variables n)) (distinct_filter test (variables n) (distinct_variables n)) y ∙ ap (λ z. cond z 1 0) e
+
     bits : (y : ℕ) → (y < n) ⊎ (n ≤ y) → bit_at mask y ≡ bit_at (mask_of (filter test (variables n))) y
     bits y (inl h) = m.below y h ∙ sym (bits_there y (test y) (has_filter test (variables n) y ∙ ap (λ b. b && test y) ((has_variables n y).1 h)))
     bits y (inr h) = m.above y h ∙ sym (bits_there y false (has_filter test (variables n) y ∙ ap (λ b. b && test y) (absent y (has (variables n) y) h refl)))

@@ -43,10 +43,12 @@ whole_words n = elim (cases_lt n 6) [ inl h ↦ inr (h, few n h) | inr h ↦ inl
     few (suc (suc (suc (suc zero)))) h = refl
     few (suc (suc (suc (suc (suc zero))))) h = refl
     few (suc (suc (suc (suc (suc (suc k)))))) h = absurd (omega arith)
+
     whole : 6 ≤ n → 2 ^ n ≡ 64 * 2 ^ (n - 6)
     whole h =
         let e : 6 + (n - 6) ≡ n = omega arith in
         sym (ap (λ z. 2 ^ z) e) ∙ pow-add 2 6 (n - 6)
+
     fill : 6 ≤ n → words_per_table n ≡ 2 ^ (n - 6)
     fill h =
         let w = whole h in
@@ -94,6 +96,7 @@ module _ (n x : ℕ) (words : List ℕ) (high : 6 ≤ x) (small : x < n) (long :
           let s = step_is in
           let l = rows.1 in
           omega arith
+
       same : depends n (from_table (table_in n words)) x ≡ false → (b : ℕ) → b < 64 → bit_at (get_or words i 0) b ≡ bit_at (get_or words (i + 2 ^ (x - 6)) 0) b
       same e b h =
           let w = within b h in
@@ -101,6 +104,7 @@ module _ (n x : ℕ) (words : List ℕ) (high : 6 ≤ x) (small : x < n) (long :
           (sym (value_at_word words i b h) ∙ sym (table_value n words (64 * i + b) (omega arith))
           ∙ table_same_values n (table_in n words) x (64 * i + b) small e (omega arith) (place_bit i b h ∙ off)
           ∙ table_value n words (64 * i + b + 2 ^ x) w ∙ above_value i b h)
+
       by : (d : Bool) → depends n (from_table (table_in n words)) x ≡ d → d ≡ true
       by true e = refl
       by false e = absurd (ne (same_from_bits_below 64 _ _ (fits i) (fits (i + 2 ^ (x - 6))) (same e)))
@@ -137,13 +141,13 @@ module _ (n x : ℕ) (words : List ℕ) (low : x < 6) (small : x < n) (long : le
   inside : IsClean n words → (i b : ℕ) → i < length words → b + 2 ^ x < 64 → (bit_at (get_or words i 0) b ≡ bit_at (get_or words i 0) (b + 2 ^ x) → ⊥) → 64 * i + b < 2 ^ n
   inside clean i b h room ne = elim (whole_words n) [
     | inl w ↦
-      let l = long ∙ w.2 in
-      let t = w.1 in
-      omega arith
+        let l = long ∙ w.2 in
+        let t = w.1 in
+        omega arith
     | inr w ↦ elim (cases_lt b (2 ^ n)) [
       | inl k ↦
-        let l = long ∙ w.1 in
-        omega arith
+          let l = long ∙ w.1 in
+          omega arith
       | inr k ↦ absurd (ne (clean i b h k ∙ sym (clean i (b + 2 ^ x) h (omega arith))))
     ]
   ]
@@ -161,12 +165,12 @@ module _ (n x : ℕ) (words : List ℕ) (low : x < 6) (small : x < n) (long : le
   count_enough : 2 ^ n ≤ 64 * length words
   count_enough = elim (whole_words n) [
     | inl w ↦
-      let l = long ∙ w.2 in
-      let t = w.1 in
-      omega arith
+        let l = long ∙ w.2 in
+        let t = w.1 in
+        omega arith
     | inr w ↦
-      let l = long in
-      omega arith
+        let l = long in
+        omega arith
   ]
 
   pub halves_alike : ((i b : ℕ) → i < length words → b + 2 ^ x < 64 → bit_at b x ≡ 0 → bit_at (get_or words i 0) b ≡ bit_at (get_or words i 0) (b + 2 ^ x)) →

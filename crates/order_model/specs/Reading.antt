@@ -1,5 +1,5 @@
--- What reading a device to its end answers.
---     IsRead old new failures result      the bytes, or why there are none
+-- Why reading a device to its end is refused.
+--     Refuses limit bytes before after fault      why there are no bytes
 use Rattle.std.specs.Prelude.{◌≡◌, ℕ, ◌+◌, ◌<◌, List, length, Option, IfSome}
 use Rattle.order_model.specs.declared.devices.Refused.{Refused}
 use Rattle.order_model.specs.declared.devices.Refused.TheVariants.{TooLong, Device, OutOfMemory}

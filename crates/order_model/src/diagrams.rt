@@ -96,7 +96,11 @@ impl Diagram {
         ensures nodes { result.graph.nodes ≡ nodes.items }
         ensures roots { result.graph.roots ≡ roots.items }
     {
-        Diagram { order, nodes, roots }
+        Diagram {
+            order,
+            nodes,
+            roots,
+        }
     }
 
     /// The order of the variables, top first.
@@ -135,7 +139,8 @@ impl Diagram {
         requires { output < length self.now.graph.roots }
         ensures { result ≡ root_value self.now.graph output (point_of (length self.now.order) point) }
     {
-        eval(self.order.len() as u8, &self.nodes, self.roots[output], point)
+        let variables = self.order.len() as u8;
+        eval(variables, &self.nodes, self.roots[output], point)
     }
 
     /// How many nodes each level has, top first; levels that the order doesn't have are given 0.
@@ -153,7 +158,6 @@ impl Diagram {
         ensures roots { result.2.items ≡ self.graph.roots }
         ensures diagram { IsOrderedGraph self }
     {
-        let Diagram { order, nodes, roots } = self;
-        (order, nodes, roots)
+        (self.order, self.nodes, self.roots)
     }
 }

@@ -140,6 +140,8 @@ impl Order {
     pub fn try_clone(&self, alloc: Global) -> Result<Order, AllocError>
         ensures { IfOk result (λ order. order ≡ self.now) }
     {
-        Ok(Order { variables: self.variables.to_vec(alloc)? })
+        Ok(Order {
+            variables: self.variables.to_vec(alloc)?,
+        })
     }
 }

@@ -46,14 +46,14 @@ impl Problem {
         })
     }
 
-    /// The problem whose m truth tables of n variables stand one behind the other in words of 64 points.
-    pub fn from_words(n: u8, m: u8, words: Vec<u64>) -> Problem
-        requires { IsPacked n m words.items }
-        ensures { result ≡ packed_tables n m words.items }
+    /// The problem whose truth tables stand one behind the other in words of 64 points.
+    pub fn from_words(inputs: u8, outputs: u8, words: Vec<u64>) -> Problem
+        requires { IsPacked inputs outputs words.items }
+        ensures { result ≡ packed_tables inputs outputs words.items }
     {
         Problem {
-            inputs: n,
-            outputs: m,
+            inputs,
+            outputs,
             words,
         }
     }

@@ -9,9 +9,9 @@ rows_differ-requires-clause-room c = rows_room c.args.n c.args.x c.args.words.no
 pub returns-then-x-ge6 : goal.returns-then-x-ge6
 returns-then-x-ge6 c = elim (cases_Bool c.rows_differ.result) [
   | inl t ↦
-    let word_fits : (i : ℕ) → get_or c.args.words.now i 0 < 2 ^ 64 = λ i. (let f = c.type_inv.words i in omega arith) in
-    let d = c.rows_differ.ensures.differ t in
-    t ∙ sym (rows_depend c.args.n c.args.x c.args.words.now c.if-x-ge6.true c.requires.variable c.requires.long (λ i. word_fits i) d.0 d.1 d.2 d.3)
+      let word_fits : (i : ℕ) → get_or c.args.words.now i 0 < 2 ^ 64 = λ i. (let f = c.type_inv.words i in omega arith) in
+      let d = c.rows_differ.ensures.differ t in
+      t ∙ sym (rows_depend c.args.n c.args.x c.args.words.now c.if-x-ge6.true c.requires.variable c.requires.long (λ i. word_fits i) d.0 d.1 d.2 d.3)
   | inr f ↦ f ∙ sym (rows_alike c.args.n c.args.x c.args.words.now c.if-x-ge6.true c.requires.variable c.requires.long (c.rows_differ.ensures.alike f))
 ]
 

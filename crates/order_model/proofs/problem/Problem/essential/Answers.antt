@@ -12,9 +12,9 @@ loop-x-preserved c =
     let is = dependence_is c.args.self.now c.loop-x.x in
     elim c.if-has_dependence.branch [
       | then-has_dependence w ↦ subst (λ (m : ℕ). MaskOfFirst (some_dependence c.args.self.now) (c.loop-x.x + 1) m) (sym w.mask-is)
-        (mask_with_next (some_dependence c.args.self.now) c.loop-x.x c.loop-x.mask small c.loop-x.invariant (is ∙ sym w.if-has_dependence.ensures))
+          (mask_with_next (some_dependence c.args.self.now) c.loop-x.x c.loop-x.mask small c.loop-x.invariant (is ∙ sym w.if-has_dependence.ensures))
       | else-has_dependence w ↦ subst (λ (m : ℕ). MaskOfFirst (some_dependence c.args.self.now) (c.loop-x.x + 1) m) (sym w.mask-is)
-        (mask_without_next (some_dependence c.args.self.now) c.loop-x.x c.loop-x.mask small c.loop-x.invariant (is ∙ sym w.if-has_dependence.ensures))
+          (mask_without_next (some_dependence c.args.self.now) c.loop-x.x c.loop-x.mask small c.loop-x.invariant (is ∙ sym w.if-has_dependence.ensures))
     ]
 
 pub returns : goal.returns
