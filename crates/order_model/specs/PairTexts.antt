@@ -2,7 +2,8 @@
 --     number_of word, pair_of part, listed text      the number of a word, the pair of a part between colons, the pairs of a text
 --     ParsesAs P n result      what is answered for the listed pairs, with n variables
 use Rattle.std.specs.Prelude.{◌≡◌, ℕ, ◌==◌, nat_eq, List, [], ◌∷◌, Option, Some, None, Result, Ok, Err, decimal}
-use Rattle.std.specs.List.{find, pointwise, slice_split, before_first, after_first}
+use Rattle.std.specs.List.{find, slice_split, before_first, after_first}
+use Rattle.std.specs.Cmp.Lexicographic.{pointwise}
 use Rattle.order_model.specs.declared.pairs.PairsFault.{PairsFault}
 use Rattle.order_model.specs.declared.pairs.PairsFault.TheVariants.{BadPair, PairOutOfRange, PairCycle}
 use Rattle.order_model.specs.Orders.{variables}

@@ -4,7 +4,7 @@ ghost use Rattle.std.specs.Prelude.{◌≡◌, ◌≢◌, ◌↔◌, ◌+◌, �
 ghost use Rattle.std.specs.Int.{bit_at};
 ghost use Rattle.order_model.specs.Orders.{has, members};
 ghost use Rattle.order_model.specs.Pairs.{has_pair, keeps, is_lawful, tops, sorted_pairs, IsFirstOrder, IsPairCycle};
-ghost use Rattle.order_model.specs.KeptPairs.{KeptPairs, pairs_in, HasBit, AreWithin, CanBeKept, HasNoCycle};
+ghost use Rattle.order_model.specs.KeptPairs.{KeptPairs, pairs_in, AreWithin, CanBeKept, HasNoCycle};
 ghost use Rattle.order_model.specs.PairTexts.{number_of, pair_of, listed, ParsesAs};
 
 use crate::orders::{BadOrder, Order};
@@ -154,8 +154,8 @@ impl Pairs {
         ensures most { result ≤ 240 }
     {
         let mut count = 0;
-        for mask in &self.below {
-            count += mask.count_ones();
+        for a in 0..self.inputs {
+            count += self.below[a as usize].count_ones();
         }
         count
     }
@@ -163,7 +163,7 @@ impl Pairs {
     /// The variables that must stand below a, as a mask.
     pub fn below(&self, a: VarIx) -> Mask
         requires { a < self.now.inputs }
-        ensures pairs { (b : ℕ) → HasBit (result ∷ []) 0 b ↔ IsTrue (has_pair self.now.pairs a b) }
+        ensures pairs { (b : ℕ) → (bit_at result b ≡ 1) ↔ IsTrue (has_pair self.now.pairs a b) }
         ensures within { result < 2 ^ self.now.inputs }
     {
         self.below[a as usize]
