@@ -10,6 +10,7 @@ use Rattle.std.specs.List.{flat_map, filter, list_all, All}
 use Rattle.std.proofs.lemmas.Bool.{cases_Bool, cases_lt, or_left, or_right, and_parts, false≢true, true≢false}
 use Rattle.std.proofs.Math.Nat.{div-add-mod, mod-lt, mul_comm}
 use Rattle.std.proofs.lemmas.Nat.Bits.{bit_at_and, bit_at-zero, bit_at-lt, bit_at_not, bit_at-trailing_zeros, same_from_bits, bit_at_cat_low, bit_at_above}
+use Rattle.std.proofs.lemmas.List.{get_or_past}
 use Rattle.std.proofs.lemmas.List.Elements.{recursion_from_All}
 use Rattle.order_model.specs.Orders.{has, variables, members}
 use Rattle.order_model.specs.Pairs.{Pair, has_pair, sorted_pairs, Leads, AreBelow}
@@ -234,3 +235,10 @@ nowhere a b l = by l
     by : {a b : ℕ} → Leads [] a b → ⊥
     by (by_one h) = false≢true h
     by (by_more h r) = false≢true h
+
+-- 16 masks speak of 16 variables
+pub within_16 : (below : List ℕ) → length below ≡ 16 → ((a : ℕ) → get_or below a 0 < 2 ^ 16) → AreWithin 16 below
+within_16 below long small a b e = (
+  elim (cases_lt a 16) [ inl l ↦ l | inr l ↦ absurd (not_one_from_zero (get_or below a 0) b (ap (λ m. bit_at m b) (get_or_past below a 0 (omega arith)) ∙ bit_at-zero b) e) ],
+  elim (cases_lt b 16) [ inl l ↦ l | inr l ↦ absurd (not_one_from_zero (get_or below a 0) b (bit_at_above (get_or below a 0) 16 b (small a) l) e) ],
+)

@@ -4,7 +4,7 @@ ghost use Rattle.std.specs.Prelude.{◌≡◌, ◌≢◌, ◌↔◌, ◌+◌, �
 ghost use Rattle.std.specs.Int.{bit_at};
 ghost use Rattle.order_model.specs.Orders.{has, members};
 ghost use Rattle.order_model.specs.Pairs.{has_pair, keeps, is_lawful, tops, sorted_pairs, IsFirstOrder, IsPairCycle};
-ghost use Rattle.order_model.specs.KeptPairs.{KeptPairs, pairs_in, AreWithin, CanBeKept, HasNoCycle};
+ghost use Rattle.order_model.specs.KeptPairs.{pairs_in, AreWithin, IsJoined, CanBeKept, HasNoCycle};
 ghost use Rattle.order_model.specs.PairTexts.{number_of, pair_of, listed, ParsesAs};
 
 use crate::orders::{BadOrder, Order};
@@ -88,7 +88,7 @@ fn are_within(below: &[Mask; 16], n: u8) -> bool
 /// Adds what is reached through k to what each variable reaches.
 fn join_through(reached: &mut [Mask; 16], k: VarIx)
     requires { k < 16 }
-    ensures { reached.new ≡ map (λ mask. cond (nat_eq (bit_at mask k) 1) (bit_or mask (slice_index reached.old k)) mask) reached.old }
+    ensures { IsJoined reached.old k reached.new }
 {
     let through = reached[k as usize];
     for mask in reached.iter_mut() {
@@ -107,7 +107,12 @@ fn least_on_cycle(below: &[Mask; 16]) -> Option<VarIx>
     for k in 0..16 {
         join_through(&mut reached, k);
     }
-    (0..16).find(|v| (reached[*v as usize] >> *v) & 1 == 1)
+    for v in 0..16 {
+        if (reached[v as usize] >> v) & 1 == 1 {
+            return Some(v);
+        }
+    }
+    None
 }
 
 impl Pairs {
