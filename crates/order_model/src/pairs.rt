@@ -232,7 +232,8 @@ impl Pairs {
         match Order::try_from_slice(alloc, &variables[..n as usize]) {
             Ok(order) => Ok(order),
             Err(BadOrder::OutOfMemory) => Err(AllocError),
-            Err(_) => unreachable!(),
+            Err(BadOrder::NotEach) => unreachable!(),
+            Err(BadOrder::OutOfRange) => unreachable!(),
         }
     }
 
