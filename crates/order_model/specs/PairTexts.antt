@@ -1,14 +1,15 @@
 -- Texts of pairs, as 2,0:1,0, and what is decided of them.
 --     number_of word, pair_of part, listed text      the number of a word, the pair of a part between colons, the pairs of a text
+--     AreMasksOf P below      the masks of the listed pairs
 --     ParsesAs P n result      what is answered for the listed pairs, with n variables
-use Rattle.std.specs.Prelude.{◌≡◌, ℕ, ◌==◌, nat_eq, List, [], ◌∷◌, Option, Some, None, Result, Ok, Err, decimal}
+use Rattle.std.specs.Prelude.{◌≡◌, ◌↔◌, IsTrue, ℕ, ◌==◌, nat_eq, List, [], ◌∷◌, Option, Some, None, Result, Ok, Err, decimal}
 use Rattle.std.specs.List.{find, slice_split, before_first, after_first}
 use Rattle.std.specs.Cmp.Lexicographic.{pointwise}
 use Rattle.order_model.specs.declared.pairs.PairsFault.{PairsFault}
 use Rattle.order_model.specs.declared.pairs.PairsFault.TheVariants.{BadPair, PairOutOfRange, PairCycle}
 use Rattle.order_model.specs.Orders.{variables}
-use Rattle.order_model.specs.Pairs.{Pair, AreBelow, IsPairCycle, sorted_pairs}
-use Rattle.order_model.specs.KeptPairs.{KeptPairs, HasNoCycle}
+use Rattle.order_model.specs.Pairs.{Pair, has_pair, AreBelow, IsPairCycle, sorted_pairs}
+use Rattle.order_model.specs.KeptPairs.{KeptPairs, HasBit, HasNoCycle}
 
 -- the number of a word: the one from 0 to 15 whose decimal it is
 unfoldable pub number_of : List ℕ → Option ℕ
@@ -36,6 +37,12 @@ pairs_of (part ∷ parts) = with_pair (pair_of part) (pairs_of parts)
 -- the pairs that a text lists, one in each part between its colons
 abbrev pub listed : List ℕ → Option (List Pair)
 listed text = pairs_of (slice_split (λ b. b == 58) text)
+
+-- the masks of the listed pairs: bit b of mask a stands for (a, b)
+abbrev pub AreMasksOf : Option (List Pair) → Option (List ℕ) → Type 0
+AreMasksOf None None = Unit {0}
+AreMasksOf (Some P) (Some below) = (a b : ℕ) → IsTrue (has_pair P a b) ↔ HasBit below a b
+AreMasksOf _ _ = ⊥
 
 -- what is answered for the listed pairs, with n variables: the first fault of the whole list, or the pairs, sorted
 abbrev pub ParsesAs : Option (List Pair) → ℕ → Result KeptPairs PairsFault → Type 0

@@ -1,11 +1,11 @@
 //! Pairs of variables that an order must keep.
 
-ghost use Rattle.std.specs.Prelude.{◌≡◌, ◌≢◌, ◌↔◌, ◌+◌, ◌-◌, ◌^◌, ◌<◌, ◌≤◌, ℕ, List, [], length, map, IsTrue, IsSome, IfSome, IfNone, IfOk, slice_index, bit_or, Bool, cond, nat_eq};
+ghost use Rattle.std.specs.Prelude.{◌≡◌, ◌==◌, ◌↔◌, ◌^◌, ◌<◌, ◌≤◌, ℕ, [], length, position, IsTrue, IfSome, IfNone, IfOk};
 ghost use Rattle.std.specs.Int.{bit_at};
 ghost use Rattle.order_model.specs.Orders.{has, members};
 ghost use Rattle.order_model.specs.Pairs.{has_pair, keeps, is_lawful, tops, sorted_pairs, IsFirstOrder, IsPairCycle};
 ghost use Rattle.order_model.specs.KeptPairs.{pairs_in, AreWithin, IsJoined, CanBeKept, HasNoCycle};
-ghost use Rattle.order_model.specs.PairTexts.{number_of, pair_of, listed, ParsesAs};
+ghost use Rattle.order_model.specs.PairTexts.{number_of, pair_of, listed, AreMasksOf, ParsesAs};
 
 use crate::orders::{BadOrder, Order};
 use crate::variables::{Mask, VarIx};
@@ -56,18 +56,28 @@ fn number(word: &[u8]) -> Option<VarIx>
     }
 }
 
+/// The place of the first comma.
+fn comma_place(part: &[u8]) -> Option<usize>
+    ensures first { result ≡ position (λ byte. byte == 44) part.now }
+    ensures within { IfSome result (λ place. place < length part.now) }
+{
+    part.iter().position(|byte| *byte == b',')
+}
+
 /// The pair of a part between colons.
 fn pair(part: &[u8]) -> Option<(VarIx, VarIx)>
     ensures { result ≡ pair_of part.now }
 {
-    let comma = part.iter().position(|byte| *byte == b',')?;
+    let comma = comma_place(part)?;
     let above = number(&part[..comma])?;
     let below = number(&part[comma + 1..])?;
     Some((above, below))
 }
 
 /// The masks of the pairs that a text lists.
-fn listed_masks(text: &[u8]) -> Option<[Mask; 16]> {
+fn listed_masks(text: &[u8]) -> Option<[Mask; 16]>
+    ensures { AreMasksOf (listed text.now) result }
+{
     let mut below = [0; 16];
     for part in text.split(|byte| *byte == b':') {
         let (a, b) = pair(part)?;

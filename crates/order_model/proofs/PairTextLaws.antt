@@ -1,0 +1,159 @@
+-- Numbers, pairs and lists of pairs in a text.
+--     number_is, number_refused, number_parts      the number of a word
+--     pair_without_comma, pair_at      the pair of a part
+--     ReadTo parts k below      the masks of the pairs of the first k parts
+--     read_none, read_more, read_all, read_fails      before the first part, one part more, after the last, a part without a pair
+--     bad, out_of_range, cycle, accepted, holds      what is answered
+use Rattle.std.proofs.Common.{◌≡◌, ◌≢◌, ◌↔◌, ℕ, zero, suc, ◌+◌, ◌-◌, ◌*◌, ◌/◌, ◌%◌, ◌^◌, ◌<◌, ◌≤◌, Bool, true, false, cond, ◌&&◌, ◌||◌, ◌⊎◌, inl, inr, List, [], ◌∷◌, ◌++◌, length, get_or, take, drop, set, refl, sym, ap, ap₂, ◌∙◌, subst, arith, nat_eq, eqb, eqb-true, eq-eqb, ne_eqb, ltb, le-ltb, lt-ltb, Option, Some, None, Ok, Err, bit_or, w16, lit<}
+use Rattle.std.specs.Prelude.{decimal}
+use Rattle.std.specs.Int.{bit_at}
+use Rattle.std.specs.List.{find, position, position_or_len, before_first, after_first, slice_split}
+use Rattle.std.specs.Cmp.Lexicographic.{pointwise, same_text}
+use Rattle.std.proofs.lemmas.Bool.{cases_Bool, cases_eq, cases_lt, or_cases, or_left, or_right, and_parts, and_from, false≢true, true≢false, ltb-true, ltb-false, false_from_ne_true}
+use Rattle.std.proofs.lemmas.Cmp.{nat_list_eq_equiv}
+use Rattle.std.proofs.lemmas.Fmt.{decimal_digit, decimal_step, decimal_injective}
+use Rattle.std.proofs.lemmas.List.{take_more, get_or-set_other, get_or-set_same}
+use Rattle.std.proofs.lemmas.Nat.Bits.{bit_at_set_same, bit_at_set_other}
+use Rattle.order_model.specs.declared.pairs.PairsFault.TheVariants.{BadPair, PairOutOfRange, PairCycle}
+use Rattle.order_model.specs.Orders.{has, variables}
+use Rattle.order_model.specs.Pairs.{Pair, has_pair, sorted_pairs, AreBelow, Leads, IsPairCycle}
+use Rattle.order_model.specs.KeptPairs.{pairs_in, HasBit, AreWithin, HasNoCycle, HoldsKept}
+use Rattle.order_model.specs.PairTexts.{number_of, both, pair_of, with_pair, pairs_of, AreMasksOf, ParsesAs}
+use Rattle.order_model.proofs.OrderLists.{has_variables}
+use Rattle.order_model.proofs.PairMasks.{Same, same_at, same_from, has_in, below_from, below_at, sorted_same, holds_masks, leads_same}
+
+-- ---- numbers
+
+find_only : (p : ℕ → Bool) (xs : List ℕ) (k : ℕ) → has xs k ≡ true → p k ≡ true → ((j : ℕ) → p j ≡ true → has xs j ≡ true → j ≡ k) → find p xs ≡ Some k
+find_only p [] k h e f = absurd (false≢true h)
+find_only p (x ∷ xs) k h e f = by (p x) refl (λ r. find_only p xs k r e (λ j q m. f j q (or_right _ _ m)))
+  where
+    by : (b : Bool) → p x ≡ b → (has xs k ≡ true → find p xs ≡ Some k) → cond b (Some x) (find p xs) ≡ Some k
+    by true t r = ap (λ (v : ℕ). Some v) (f x t (or_left _ _ (eq-eqb x x refl)))
+    by false t r = elim (or_cases (nat_eq k x) (has xs k) h) [
+      | inl s ↦ absurd (true≢false (sym e ∙ ap p (eqb-true k x s) ∙ t))
+      | inr m ↦ r m
+    ]
+
+find_none : (p : ℕ → Bool) (xs : List ℕ) → ((j : ℕ) → p j ≡ true → has xs j ≡ true → ⊥) → find p xs ≡ None
+find_none p [] f = refl
+find_none p (x ∷ xs) f = by (p x) refl (find_none p xs (λ j q m. f j q (or_right _ _ m)))
+  where
+    by : (b : Bool) → p x ≡ b → find p xs ≡ None → cond b (Some x) (find p xs) ≡ None
+    by true t r = absurd (f x t (or_left _ _ (eq-eqb x x refl)))
+    by false t r = r
+
+find_parts : (p : ℕ → Bool) (xs : List ℕ) (k : ℕ) → find p xs ≡ Some k → (has xs k ≡ true) × (p k ≡ true)
+find_parts p [] k e = let never : ◌≡◌ {A = Option ℕ} None (Some k) = e in cc
+find_parts p (x ∷ xs) k e = by (p x) refl e (find_parts p xs k)
+  where
+    by : (b : Bool) → p x ≡ b → cond b (Some x) (find p xs) ≡ Some k → (find p xs ≡ Some k → (has xs k ≡ true) × (p k ≡ true)) → (has (x ∷ xs) k ≡ true) × (p k ≡ true)
+    by true t s r = let same : x ≡ k = cc in (or_left _ _ (eq-eqb k x (sym same)), ap p (sym same) ∙ t)
+    by false t s r = let q = r s in (or_right _ _ q.0, q.1)
+
+same_word : (xs ys : List ℕ) → xs ≡ ys → pointwise nat_eq xs ys ≡ true
+same_word xs ys e = ap (pointwise nat_eq xs) (sym e) ∙ nat_list_eq_equiv.refl xs
+
+pub number_is : (word : List ℕ) (k : ℕ) → k < 16 → word ≡ decimal k → number_of word ≡ Some k
+unfolding number_of
+number_is word k h e =
+    find_only (λ j. pointwise nat_eq word (decimal j)) (variables 16) k ((has_variables 16 k).1 h) (same_word word (decimal k) e)
+    (λ j t m. let l : j < 16 = (has_variables 16 j).0 m in decimal_injective j k (below_64 j l) (below_64 k h) (sym (same_text word (decimal j) (sym t)) ∙ e))
+  where
+    below_64 : (j : ℕ) → j < 16 → j < 2 ^ 64
+    below_64 j l = omega arith
+
+pub number_parts : (word : List ℕ) (k : ℕ) → number_of word ≡ Some k → (k < 16) × (word ≡ decimal k)
+unfolding number_of
+number_parts word k e =
+    let s = find_parts (λ j. pointwise nat_eq word (decimal j)) (variables 16) k e in
+    ((has_variables 16 k).0 s.0, same_text word (decimal k) (sym s.1))
+
+number_none : (word : List ℕ) → ((k : ℕ) → k < 16 → word ≡ decimal k → ⊥) → number_of word ≡ None
+unfolding number_of
+number_none word f = find_none (λ j. pointwise nat_eq word (decimal j)) (variables 16) (λ j t m. f j ((has_variables 16 j).0 m) (same_text word (decimal j) (sym t)))
+
+-- the decimals of 10 to 15
+decimal_teen : (k : ℕ) → 10 ≤ k → k < 16 → decimal k ≡ 49 ∷ (38 + k) ∷ []
+decimal_teen k h l =
+    let q : k / 10 ≡ 1 = omega arith in
+    let r : 48 + k % 10 ≡ 38 + k = omega arith in
+    decimal_step k h (omega arith) ∙ ap₂ (λ (xs : List ℕ) (d : ℕ). xs ++ d ∷ []) (ap decimal q ∙ decimal_digit 1 (lit< tt)) r
+
+-- a word of one digit
+pub number_digit : (word : List ℕ) → length word ≡ 1 → 48 ≤ get_or word 0 0 → get_or word 0 0 < 58 → number_of word ≡ Some (get_or word 0 0 - 48)
+number_digit [] e l h = absurd (omega arith)
+number_digit (d ∷ []) e l h =
+    let v : 48 + (d - 48) ≡ d = omega arith in
+    let small : d - 48 < 10 = omega arith in
+    number_is (d ∷ []) (d - 48) (omega arith) (sym (decimal_digit (d - 48) small ∙ ap (λ (x : ℕ). x ∷ []) v))
+number_digit (d ∷ x ∷ xs) e l h = absurd (omega arith)
+
+-- a word of the digit 1 and one from 0 to 5
+pub number_teen : (word : List ℕ) → length word ≡ 2 → get_or word 0 0 ≡ 49 → 48 ≤ get_or word 1 0 → get_or word 1 0 < 54 → number_of word ≡ Some (10 + (get_or word 1 0 - 48))
+number_teen [] e f l h = absurd (omega arith)
+number_teen (x ∷ []) e f l h = absurd (omega arith)
+number_teen (x ∷ d ∷ []) e f l h =
+    let k : ℕ = 10 + (d - 48) in
+    let v : 38 + (10 + (d - 48)) ≡ d = omega arith in
+    number_is (x ∷ d ∷ []) (10 + (d - 48)) (omega arith) (sym (decimal_teen (10 + (d - 48)) (omega arith) (omega arith) ∙ ap₂ (λ (y z : ℕ). y ∷ z ∷ []) (sym f) v))
+number_teen (x ∷ d ∷ y ∷ ys) e f l h = absurd (omega arith)
+
+-- any other word
+pub number_refused : (word : List ℕ) → (length word ≡ 1 → 48 ≤ get_or word 0 0 → get_or word 0 0 < 58 → ⊥) → (length word ≡ 2 → get_or word 0 0 ≡ 49 → 48 ≤ get_or word 1 0 → get_or word 1 0 < 54 → ⊥) →
+    number_of word ≡ None
+number_refused word one two = number_none word (λ k h e. elim (cases_lt k 10) [
+  | inl l ↦
+      let is : word ≡ (48 + k) ∷ [] = e ∙ decimal_digit k l in
+      let first : get_or word 0 0 ≡ 48 + k = ap (λ xs. get_or xs 0 0) is in
+      one (ap length is) (omega arith) (omega arith)
+  | inr l ↦
+      let is : word ≡ 49 ∷ (38 + k) ∷ [] = e ∙ decimal_teen k l h in
+      let second : get_or word 1 0 ≡ 38 + k = ap (λ xs. get_or xs 1 0) is in
+      two (ap length is) (ap (λ xs. get_or xs 0 0) is) (omega arith) (omega arith)
+])
+
+-- ---- pairs
+
+both_none : (o : Option ℕ) → both o None ≡ None
+both_none None = refl
+both_none (Some a) = refl
+
+both_parts : (o q : Option ℕ) (a b : ℕ) → both o q ≡ Some (a, b) → (o ≡ Some a) × (q ≡ Some b)
+both_parts (Some x) (Some y) a b e = let same : ◌≡◌ {A = Pair} (x, y) (a, b) = cc in (ap (λ (p : Pair). Some p.0) same, ap (λ (p : Pair). Some p.1) same)
+both_parts (Some x) None a b e = let never : ◌≡◌ {A = Option Pair} None (Some (a, b)) = e in cc
+both_parts None q a b e = let never : ◌≡◌ {A = Option Pair} None (Some (a, b)) = e in cc
+
+pub pair_small : (part : List ℕ) (a b : ℕ) → pair_of part ≡ Some (a, b) → (a < 16) × (b < 16)
+pair_small part a b e =
+    let s = both_parts (number_of (before_first (λ x. eqb x 44) part)) (number_of (after_first (λ x. eqb x 44) part)) a b e in
+    ((number_parts (before_first (λ x. eqb x 44) part) a s.0).0, (number_parts (after_first (λ x. eqb x 44) part) b s.1).0)
+
+-- a part without a comma has no pair
+pub pair_without_comma : (part : List ℕ) → None ≡ position (λ x. eqb x 44) part → pair_of part ≡ None
+pair_without_comma part e = by (cases_lt (position_or_len (λ x. eqb x 44) part) (length part))
+  where
+    by : (position_or_len (λ x. eqb x 44) part < length part) ⊎ (length part ≤ position_or_len (λ x. eqb x 44) part) → pair_of part ≡ None
+    by (inl lt) =
+        let found : ◌≡◌ {A = Option ℕ} None (Some (position_or_len (λ x. eqb x 44) part)) = e ∙ ap (λ b. cond b (Some (position_or_len (λ x. eqb x 44) part)) None) (lt-ltb _ _ lt) in
+        absurd (let no : ⊥ = cc in no)
+    by (inr le) =
+        let empty : after_first (λ x. eqb x 44) part ≡ [] = drop_past part (position_or_len (λ x. eqb x 44) part + 1) (omega arith) in
+        let nothing : number_of [] ≡ None = number_refused [] (λ a b d. absurd (omega arith)) (λ a b d f. absurd (omega arith)) in
+        ap (both (number_of (before_first (λ x. eqb x 44) part))) (ap number_of empty ∙ nothing) ∙ both_none (number_of (before_first (λ x. eqb x 44) part))
+
+-- a part with a comma at place k has the numbers around it
+pub pair_at : (part : List ℕ) (k : ℕ) → Some k ≡ position (λ x. eqb x 44) part → pair_of part ≡ both (number_of (take k part)) (number_of (drop (k + 1) part))
+pair_at part k e = by (cases_lt (position_or_len (λ x. eqb x 44) part) (length part))
+  where
+    by : (position_or_len (λ x. eqb x 44) part < length part) ⊎ (length part ≤ position_or_len (λ x. eqb x 44) part) → pair_of part ≡ both (number_of (take k part)) (number_of (drop (k + 1) part))
+    by (inl lt) =
+        let found : ◌≡◌ {A = Option ℕ} (Some k) (Some (position_or_len (λ x. eqb x 44) part)) = e ∙ ap (λ b. cond b (Some (position_or_len (λ x. eqb x 44) part)) None) (lt-ltb _ _ lt) in
+        let same : position_or_len (λ x. eqb x 44) part ≡ k = cc in
+        ap (λ (j : ℕ). both (number_of (take j part)) (number_of (drop (j + 1) part))) same
+    by (inr le) =
+        let found : ◌≡◌ {A = Option ℕ} (Some k) None = e ∙ ap (λ b. cond b (Some (position_or_len (λ x. eqb x 44) part)) None) (le-ltb _ _ le) in
+        absurd (let no : ⊥ = cc in no)
+
+pub both_second_none : (o : Option ℕ) → both o None ≡ None
+both_second_none o = both_none o
