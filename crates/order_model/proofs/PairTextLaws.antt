@@ -4,7 +4,7 @@
 --     ReadTo parts k below      the masks of the pairs of the first k parts
 --     read_none, read_more, read_all, read_fails      before the first part, one part more, after the last, a part without a pair
 --     bad, out_of_range, cycle, accepted, holds      what is answered
-use Rattle.std.proofs.Common.{◌≡◌, ◌≢◌, ◌↔◌, ℕ, zero, suc, ◌+◌, ◌-◌, ◌*◌, ◌/◌, ◌%◌, ◌^◌, ◌<◌, ◌≤◌, Bool, true, false, cond, ◌&&◌, ◌||◌, ◌⊎◌, inl, inr, List, [], ◌∷◌, ◌++◌, length, get_or, take, drop, set, refl, sym, ap, ap₂, ◌∙◌, subst, arith, nat_eq, eqb, eqb-true, eq-eqb, ne_eqb, ltb, le-ltb, lt-ltb, Option, Some, None, Ok, Err, bit_or, w16, lit<}
+use Rattle.std.proofs.Common.{◌≡◌, ◌≢◌, ◌↔◌, ℕ, zero, suc, ◌+◌, ◌-◌, ◌*◌, ◌/◌, ◌%◌, ◌^◌, ◌<◌, ◌≤◌, Bool, true, false, cond, ◌&&◌, ◌||◌, ◌⊎◌, inl, inr, List, [], ◌∷◌, ◌++◌, length, get_or, take, drop, set, refl, sym, ap, ap₂, ◌∙◌, subst, arith, nat_eq, eqb, eqb-true, eq-eqb, ne_eqb, ltb, le-ltb, lt-ltb, Option, Some, None, Ok, Err, bit_or, w16, lit<, take_all}
 use Rattle.std.specs.Prelude.{decimal}
 use Rattle.std.specs.Int.{bit_at}
 use Rattle.std.specs.List.{find, position, position_or_len, before_first, after_first, slice_split}
@@ -12,7 +12,7 @@ use Rattle.std.specs.Cmp.Lexicographic.{pointwise, same_text}
 use Rattle.std.proofs.lemmas.Bool.{cases_Bool, cases_eq, cases_lt, or_cases, or_left, or_right, and_parts, and_from, false≢true, true≢false, ltb-true, ltb-false, false_from_ne_true}
 use Rattle.std.proofs.lemmas.Cmp.{nat_list_eq_equiv}
 use Rattle.std.proofs.lemmas.Fmt.{decimal_digit, decimal_step, decimal_injective}
-use Rattle.std.proofs.lemmas.List.{take_more, get_or-set_other, get_or-set_same}
+use Rattle.std.proofs.lemmas.List.{take_more, drop_all, length-set, get_or-set_other, get_or-set_same}
 use Rattle.std.proofs.lemmas.Nat.Bits.{bit_at_set_same, bit_at_set_other}
 use Rattle.order_model.specs.declared.pairs.PairsFault.TheVariants.{BadPair, PairOutOfRange, PairCycle}
 use Rattle.order_model.specs.Orders.{has, variables}
@@ -138,7 +138,7 @@ pair_without_comma part e = by (cases_lt (position_or_len (λ x. eqb x 44) part)
         let found : ◌≡◌ {A = Option ℕ} None (Some (position_or_len (λ x. eqb x 44) part)) = e ∙ ap (λ b. cond b (Some (position_or_len (λ x. eqb x 44) part)) None) (lt-ltb _ _ lt) in
         absurd (let no : ⊥ = cc in no)
     by (inr le) =
-        let empty : after_first (λ x. eqb x 44) part ≡ [] = drop_past part (position_or_len (λ x. eqb x 44) part + 1) (omega arith) in
+        let empty : after_first (λ x. eqb x 44) part ≡ [] = drop_all (position_or_len (λ x. eqb x 44) part + 1) part (omega arith) in
         let nothing : number_of [] ≡ None = number_refused [] (λ a b d. absurd (omega arith)) (λ a b d f. absurd (omega arith)) in
         ap (both (number_of (before_first (λ x. eqb x 44) part))) (ap number_of empty ∙ nothing) ∙ both_none (number_of (before_first (λ x. eqb x 44) part))
 
@@ -157,3 +157,113 @@ pair_at part k e = by (cases_lt (position_or_len (λ x. eqb x 44) part) (length 
 
 pub both_second_none : (o : Option ℕ) → both o None ≡ None
 both_second_none o = both_none o
+
+-- ---- lists of pairs
+
+-- one part more
+pairs_of-more : (xs : List (List ℕ)) (x : List ℕ) (P : List Pair) (p : Pair) → pairs_of xs ≡ Some P → pair_of x ≡ Some p → pairs_of (xs ++ x ∷ []) ≡ Some (P ++ p ∷ [])
+unfolding pairs_of
+pairs_of-more [] x P p e f =
+    let none : P ≡ [] = cc in
+    ap (λ o. with_pair o (Some [])) f ∙ ap (λ (Q : List Pair). Some (Q ++ p ∷ [])) (sym none)
+pairs_of-more (y ∷ xs) x P p e f = by (pair_of y) (pairs_of xs) P e (λ Q g. pairs_of-more xs x Q p g f)
+  where
+    by : (o : Option Pair) (os : Option (List Pair)) (Q : List Pair) → with_pair o os ≡ Some Q → ((R : List Pair) → os ≡ Some R → pairs_of (xs ++ x ∷ []) ≡ Some (R ++ p ∷ [])) → with_pair o (pairs_of (xs ++ x ∷ [])) ≡ Some (Q ++ p ∷ [])
+    by (Some q) (Some R) Q g r =
+        let same : q ∷ R ≡ Q = cc in
+        ap (with_pair (Some q)) (r R refl) ∙ ap (λ (S : List Pair). Some (S ++ p ∷ [])) same
+    by (Some q) None Q g r = let never : ◌≡◌ {A = Option (List Pair)} None (Some Q) = g in cc
+    by None os Q g r = let never : ◌≡◌ {A = Option (List Pair)} None (Some Q) = g in cc
+
+-- a part without a pair
+pairs_of-fails : (xs : List (List ℕ)) (k : ℕ) (d : List ℕ) → k < length xs → pair_of (get_or xs k d) ≡ None → pairs_of xs ≡ None
+unfolding pairs_of
+pairs_of-fails [] k d h e = absurd (omega arith)
+pairs_of-fails (x ∷ xs) zero d h e = ap (λ o. with_pair o (pairs_of xs)) e
+pairs_of-fails (x ∷ xs) (suc k) d h e = ap (with_pair (pair_of x)) (pairs_of-fails xs k d (omega arith) e) ∙ none (pair_of x)
+  where
+    none : (o : Option Pair) → with_pair o None ≡ None
+    none None = refl
+    none (Some p) = refl
+
+-- one pair more
+has_pair-more : (P : List Pair) (p : Pair) (a b : ℕ) → has_pair (P ++ p ∷ []) a b ≡ (has_pair P a b || (nat_eq a p.0 && nat_eq b p.1))
+has_pair-more [] p a b = last (nat_eq a p.0 && nat_eq b p.1)
+  where
+    last : (t : Bool) → (t || false) ≡ t
+    last true = refl
+    last false = refl
+has_pair-more (q ∷ P) p a b = ap (λ t. (nat_eq a q.0 && nat_eq b q.1) || t) (has_pair-more P p a b) ∙ regroup (nat_eq a q.0 && nat_eq b q.1) (has_pair P a b) (nat_eq a p.0 && nat_eq b p.1)
+  where
+    regroup : (x y z : Bool) → (x || (y || z)) ≡ ((x || y) || z)
+    regroup true y z = refl
+    regroup false y z = refl
+
+-- the masks with the bit of one pair more
+abbrev pub with_bit : List ℕ → ℕ → ℕ → List ℕ
+with_bit below a b = set below a (bit_or (get_or below a 0) (1 * 2 ^ b % 2 ^ 16))
+
+same_more : (P : List Pair) (below : List ℕ) (a b : ℕ) → a < length below → b < 16 → Same P below → Same (P ++ (a, b) ∷ []) (with_bit below a b)
+same_more P below a b h k s = same_from (P ++ (a, b) ∷ []) (with_bit below a b) (λ x y. (to x y, back x y))
+  where
+    here : get_or (with_bit below a b) a 0 ≡ bit_or (get_or below a 0) (1 * 2 ^ b % 2 ^ 16)
+    here = get_or-set_same below a (bit_or (get_or below a 0) (1 * 2 ^ b % 2 ^ 16)) 0 h
+
+    bits : (y : ℕ) → bit_at (get_or (with_bit below a b) a 0) y ≡ bit_at (bit_or (get_or below a 0) (1 * 2 ^ b % 2 ^ 16)) y
+    bits y = ap (λ m. bit_at m y) here
+
+    kept : (x y : ℕ) → ((x ≡ a) × (y ≡ b) → ⊥) → bit_at (get_or (with_bit below a b) x 0) y ≡ bit_at (get_or below x 0) y
+    kept x y no_pair = elim (cases_eq x a) [
+      | inl e ↦ ap (λ v. bit_at (get_or (with_bit below a b) v 0) y) e ∙ bits y ∙ bit_at_set_other w16 (get_or below a 0) b k y (λ f. no_pair (e, f)) ∙ ap (λ v. bit_at (get_or below v 0) y) (sym e)
+      | inr ne ↦ ap (λ m. bit_at m y) (get_or-set_other below a x (bit_or (get_or below a 0) (1 * 2 ^ b % 2 ^ 16)) 0 ne)
+    ]
+
+    to : (x y : ℕ) → has_pair (P ++ (a, b) ∷ []) x y ≡ true → HasBit (with_bit below a b) x y
+    to x y e = elim (cases_eq x a) [
+      | inl f ↦ elim (cases_eq y b) [
+        | inl g ↦ ap₂ (λ u v. bit_at (get_or (with_bit below a b) u 0) v) f g ∙ bits b ∙ bit_at_set_same w16 (get_or below a 0) b k
+        | inr ne ↦ old x y e (λ p. ne p.1)
+      ]
+      | inr ne ↦ old x y e (λ p. ne p.0)
+    ]
+      where
+        old : (x y : ℕ) → has_pair (P ++ (a, b) ∷ []) x y ≡ true → ((x ≡ a) × (y ≡ b) → ⊥) → HasBit (with_bit below a b) x y
+        old x y e no_pair =
+            kept x y no_pair ∙ (same_at P below s x y).0 (elim (or_cases (has_pair P x y) (nat_eq x a && nat_eq y b) (sym (has_pair-more P (a, b) x y) ∙ e)) [
+              | inl m ↦ m
+              | inr m ↦ let parts = and_parts (nat_eq x a) (nat_eq y b) m in absurd (no_pair (eqb-true x a parts.0, eqb-true y b parts.1))
+            ])
+
+    back : (x y : ℕ) → HasBit (with_bit below a b) x y → has_pair (P ++ (a, b) ∷ []) x y ≡ true
+    back x y e = has_pair-more P (a, b) x y ∙ elim (cases_Bool (nat_eq x a && nat_eq y b)) [
+      | inl t ↦ or_right _ _ t
+      | inr f ↦ or_left _ _ ((same_at P below s x y).1 (sym (kept x y (λ p. true≢false (sym (and_from _ _ (eq-eqb x a p.0) (eq-eqb y b p.1)) ∙ f))) ∙ e))
+    ]
+
+-- the masks of the pairs of the first k parts
+pub record ReadTo (parts : List (List ℕ)) (k : ℕ) (below : List ℕ) : Type 0 where
+  pub pairs : List Pair
+  pub read : pairs_of (take k parts) ≡ Some pairs
+  pub same : Same pairs below
+  pub long : length below ≡ 16
+
+pub read_none : (parts : List (List ℕ)) (below : List ℕ) → length below ≡ 16 → ((a b : ℕ) → HasBit below a b → ⊥) → ReadTo parts 0 below
+unfolding pairs_of
+read_none parts below long empty = record { pairs = []; read = refl; same = same_from [] below (λ a b. (λ h. absurd (false≢true h), λ e. absurd (empty a b e))); long = long }
+
+pub read_more : (parts : List (List ℕ)) (k : ℕ) (below part : List ℕ) (a b : ℕ) → ReadTo parts k below → k < length parts → part ≡ get_or parts k part → pair_of part ≡ Some (a, b) → ReadTo parts (k + 1) (with_bit below a b)
+read_more parts k below part a b r h e f =
+    let small = pair_small part a b f in
+    record {
+      pairs = r.pairs ++ (a, b) ∷ [];
+      read = ap pairs_of (take_more parts k part h) ∙ pairs_of-more (take k parts) (get_or parts k part) r.pairs (a, b) r.read (ap pair_of (sym e) ∙ f);
+      same = same_more r.pairs below a b (let l = r.long in let s = small.0 in omega arith) small.1 r.same;
+      long = length-set below a (bit_or (get_or below a 0) (1 * 2 ^ b % 2 ^ 16)) ∙ r.long;
+    }
+
+pub read_all : (parts : List (List ℕ)) (k : ℕ) (below : List ℕ) → ReadTo parts k below → length parts ≤ k → AreMasksOf (pairs_of parts) (Some below)
+read_all parts k below r h =
+    subst (λ (o : Option (List Pair)). AreMasksOf o (Some below)) (sym (ap pairs_of (sym (take_all k parts h)) ∙ r.read)) (same_at r.pairs below r.same)
+
+pub read_fails : (parts : List (List ℕ)) (k : ℕ) (part : List ℕ) → k < length parts → part ≡ get_or parts k part → pair_of part ≡ None → AreMasksOf (pairs_of parts) None
+read_fails parts k part h e f = subst (λ (o : Option (List Pair)). AreMasksOf o None) (sym (pairs_of-fails parts k part h (ap pair_of (sym e) ∙ f))) tt
