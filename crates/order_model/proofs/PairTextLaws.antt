@@ -267,3 +267,44 @@ read_all parts k below r h =
 
 pub read_fails : (parts : List (List ℕ)) (k : ℕ) (part : List ℕ) → k < length parts → part ≡ get_or parts k part → pair_of part ≡ None → AreMasksOf (pairs_of parts) None
 read_fails parts k part h e f = subst (λ (o : Option (List Pair)). AreMasksOf o None) (sym (pairs_of-fails parts k part h (ap pair_of (sym e) ∙ f))) tt
+
+-- ---- what is answered
+
+pub bad : (o : Option (List Pair)) (n : ℕ) → AreMasksOf o None → ParsesAs o n (Err BadPair)
+bad None n m = tt
+bad (Some P) n m = absurd m
+
+pub out_of_range : (o : Option (List Pair)) (below : List ℕ) (n : ℕ) → AreMasksOf o (Some below) → (AreWithin n below → ⊥) → ParsesAs o n (Err PairOutOfRange)
+out_of_range None below n m f = absurd m
+out_of_range (Some P) below n m f = λ small. f (λ a b e. below_at n P small a b ((m a b).1 e))
+
+-- the pairs of the text are those of 16 variables, where all are below n
+same_16 : (P : List Pair) (below : List ℕ) (n : ℕ) → n ≤ 16 → ((a b : ℕ) → (has_pair P a b ≡ true) ↔ HasBit below a b) → AreWithin n below →
+    (a b : ℕ) → (has_pair P a b ≡ true) ↔ (has_pair (pairs_in 16 below) a b ≡ true)
+same_16 P below n h s w a b = (
+  λ e. let bit = (s a b).0 e in let in' = w a b bit in (has_in 16 below a b).1 (let l = in'.0 in omega arith, let l = in'.1 in omega arith, bit),
+  λ e. (s a b).1 ((has_in 16 below a b).0 e).2,
+)
+
+pub cycle : (o : Option (List Pair)) (below : List ℕ) (n v : ℕ) → n ≤ 16 → AreMasksOf o (Some below) → AreWithin n below → IsPairCycle (pairs_in 16 below) v → ParsesAs o n (Err (PairCycle v))
+cycle None below n v h m w c = absurd m
+cycle (Some P) below n v h m w c = (
+  below_from n P (λ a b e. w a b ((m a b).0 e)),
+  record {
+    back = leads_same (λ a b. (same_16 P below n h m w a b).1) c.back;
+    least = λ u l e. c.least u l (leads_same (λ a b. (same_16 P below n h m w a b).0) e);
+  },
+)
+
+pub accepted : (o : Option (List Pair)) (below : List ℕ) (n : ℕ) → n ≤ 16 → AreMasksOf o (Some below) → AreWithin n below → HasNoCycle (pairs_in 16 below) →
+    ParsesAs o n (Ok (record { inputs = n; pairs = pairs_in n below }))
+accepted None below n h m w c = absurd m
+accepted (Some P) below n h m w c = (
+  below_from n P (λ a b e. w a b ((m a b).0 e)),
+  λ v l. c v (leads_same (λ a b. (same_16 P below n h m w a b).0) l),
+  ap (λ (Q : List Pair). record { inputs = n; pairs = Q }) (sym (sorted_same n P below (same_from P below m))),
+)
+
+pub holds : (o : Option (List Pair)) (below : List ℕ) (n : ℕ) → 1 ≤ n → n ≤ 16 → AreMasksOf o (Some below) → AreWithin n below → HasNoCycle (pairs_in 16 below) → HoldsKept n below
+holds None below n some few m w c = absurd m
+holds (Some P) below n some few m w c = holds_masks n P below some few w (same_from P below m) (λ v l. c v (leads_same (λ a b. (same_16 P below n few m w a b).0) l))

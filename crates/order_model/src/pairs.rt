@@ -91,8 +91,13 @@ fn are_within(below: &[Mask; 16], n: u8) -> bool
     requires { n ≤ 16 }
     ensures { IsTrue result ↔ AreWithin n below.now }
 {
-    let n = n as usize;
-    below.iter().enumerate().all(|(a, mask)| *mask == 0 || a < n && u32::from(*mask) < 1 << n)
+    for (a, mask) in below.iter().enumerate() {
+        let limit: u32 = if a < n as usize { 1 << n } else { 1 };
+        if u32::from(*mask) >= limit {
+            return false;
+        }
+    }
+    true
 }
 
 /// Adds what is reached through k to what each variable reaches.
