@@ -3,8 +3,11 @@
 --     keeps_in, unkept_in      whether an order keeps the pairs, by the bits of the masks
 --     length_members      a mask has as many members as ones
 --     rows_more, row_few      the number of pairs, one mask more; a mask has at most 15 of them
-use Rattle.std.proofs.Common.{◌≡◌, ◌≢◌, ◌↔◌, ℕ, zero, suc, ◌+◌, ◌-◌, ◌*◌, ◌/◌, ◌%◌, ◌^◌, ◌<◌, ◌≤◌, Bool, true, false, cond, ◌&&◌, ◌⊎◌, inl, inr, List, [], ◌∷◌, ◌++◌, map, length, get_or, refl, sym, ap, ap₂, ◌∙◌, subst, arith, nat_eq, eqb, eqb-true, eq-eqb, bit_and, w16, pow_pos, lt-ltb, le-ltb, ltb, count_ones, length-append, lit<, add-one, append-nil, append_assoc}
-use Rattle.std.proofs.lemmas.List.{length-map}
+--     row_pair, row_skip, row_end      the list of pairs, one variable and one mask more
+use Rattle.std.proofs.Common.{◌≡◌, ◌≢◌, ◌↔◌, ℕ, zero, suc, ◌+◌, ◌-◌, ◌*◌, ◌/◌, ◌%◌, ◌^◌, ◌<◌, ◌≤◌, Bool, true, false, cond, ◌&&◌, ◌⊎◌, inl, inr, List, [], ◌∷◌, ◌++◌, map, length, get_or, refl, sym, ap, ap₂, ◌∙◌, subst, arith, nat_eq, eqb, eqb-true, eq-eqb, ne_eqb, bit_and, w16, pow_pos, lt-ltb, le-ltb, ltb, count_ones, length-append, lit<, add-one, append-nil, append_assoc}
+use Rattle.std.proofs.lemmas.List.{length-map, map-append}
+use Rattle.std.proofs.lemmas.List.Elements.{filter-append}
+use Rattle.std.proofs.lemmas.Grind.{flat_map-append}
 use Rattle.std.specs.Int.{bit_at, bit_not}
 use Rattle.std.specs.List.{flat_map, filter, IsDistinct}
 use Rattle.std.proofs.lemmas.Bool.{cases_Bool, cases_order, cases_lt, and_parts, and_from, or_cases, false≢true, true≢false, false_from_ne_true}
@@ -111,14 +114,6 @@ broken_at n below order k seen o w s h l ne =
 
 -- ---- numbers of pairs
 
-filter-append : (p : ℕ → Bool) (xs ys : List ℕ) → filter p (xs ++ ys) ≡ filter p xs ++ filter p ys
-filter-append p [] ys = refl
-filter-append p (x ∷ xs) ys = by (p x) (filter-append p xs ys)
-  where
-    by : (b : Bool) → filter p (xs ++ ys) ≡ filter p xs ++ filter p ys → cond b (x ∷ filter p (xs ++ ys)) (filter p (xs ++ ys)) ≡ cond b (x ∷ filter p xs) (filter p xs) ++ filter p ys
-    by true e = ap (λ zs. x ∷ zs) e
-    by false e = e
-
 ones_zero : count_ones 0 ≡ 0
 ones_zero = let l = ones-le 0 0 (lit< tt) in omega arith
 
@@ -158,16 +153,12 @@ pub rows_none : (n : ℕ) (below : List ℕ) → length (rows_to n below 0) ≡ 
 unfolding rows_to
 rows_none n below = refl
 
-flat_map_append : (f : ℕ → List Pair) (xs ys : List ℕ) → flat_map f (xs ++ ys) ≡ flat_map f xs ++ flat_map f ys
-flat_map_append f [] ys = refl
-flat_map_append f (x ∷ xs) ys = ap (λ zs. f x ++ zs) (flat_map_append f xs ys) ∙ sym (append_assoc (f x) (flat_map f xs) (flat_map f ys))
-
 pub rows_more : (n : ℕ) (below : List ℕ) (k : ℕ) → get_or below k 0 < 2 ^ n → length (rows_to n below (k + 1)) ≡ length (rows_to n below k) + count_ones (get_or below k 0)
 unfolding rows_to
 rows_more n below k h =
     let f : ℕ → List Pair = λ a. map (λ (b : ℕ). (a, b)) (members n (get_or below a 0)) in
     let last : length (f k ++ []) ≡ count_ones (get_or below k 0) = ap length (append-nil (f k)) ∙ length-map (members n (get_or below k 0)) (λ (b : ℕ). (k, b)) ∙ length_members n (get_or below k 0) h in
-    ap (λ xs. length (flat_map f xs)) (variables_more k) ∙ ap length (flat_map_append f (variables k) (k ∷ [])) ∙ length-append (flat_map f (variables k)) (f k ++ []) ∙ ap (λ m. length (flat_map f (variables k)) + m) last
+    ap (λ xs. length (flat_map f xs)) (variables_more k) ∙ ap length (flat_map-append f (variables k) (k ∷ [])) ∙ length-append (flat_map f (variables k)) (f k ++ []) ∙ ap (λ m. length (flat_map f (variables k)) + m) last
 
 -- a variable isn't below itself, so a mask has at most 15 ones
 pub row_few : (n : ℕ) (below : List ℕ) (k : ℕ) → n ≤ 16 → k < n → HasNoCycle (pairs_in n below) → get_or below k 0 < 2 ^ n → count_ones (get_or below k 0) ≤ 15
@@ -181,6 +172,48 @@ row_few n below k few h acyclic small =
     ]) in
     let c = length_members n m small in
     omega arith
+
+-- the pairs of the first k masks, and of mask k those with one of the first j variables below
+pub row_to : ℕ → List ℕ → ℕ → ℕ → List Pair
+row_to n below k j = rows_to n below k ++ map (λ b. (k, b)) (filter (λ b. eqb (bit_at (get_or below k 0) b) 1) (variables j))
+
+pub row_start : (n : ℕ) (below : List ℕ) (k : ℕ) → row_to n below k 0 ≡ rows_to n below k
+unfolding row_to
+row_start n below k = append-nil (rows_to n below k)
+
+row_split : (n : ℕ) (below : List ℕ) (k j : ℕ) → row_to n below k (j + 1) ≡ rows_to n below k ++ (map (λ b. (k, b)) (filter (λ b. eqb (bit_at (get_or below k 0) b) 1) (variables j)) ++ map (λ b. (k, b)) (filter (λ b. eqb (bit_at (get_or below k 0) b) 1) (j ∷ [])))
+unfolding row_to
+row_split n below k j =
+    let p : ℕ → Bool = λ b. eqb (bit_at (get_or below k 0) b) 1 in
+    let f : ℕ → Pair = λ b. (k, b) in
+    ap (λ xs. rows_to n below k ++ xs)
+    (ap (λ xs. map f (filter p xs)) (variables_more j) ∙ ap (map f) (filter-append p (variables j) (j ∷ [])) ∙ map-append f (filter p (variables j)) (filter p (j ∷ [])))
+
+pub row_pair : (n : ℕ) (below : List ℕ) (k j : ℕ) → bit_at (get_or below k 0) j ≡ 1 → row_to n below k j ++ (k, j) ∷ [] ≡ row_to n below k (j + 1)
+unfolding row_to
+row_pair n below k j e =
+    let p : ℕ → Bool = λ b. eqb (bit_at (get_or below k 0) b) 1 in
+    let f : ℕ → Pair = λ b. (k, b) in
+    append_assoc (rows_to n below k) (map f (filter p (variables j))) ((k, j) ∷ [])
+    ∙ sym (row_split n below k j ∙ ap (λ t. rows_to n below k ++ (map f (filter p (variables j)) ++ map f (cond t (j ∷ []) []))) (eq-eqb (bit_at (get_or below k 0) j) 1 e))
+
+pub row_skip : (n : ℕ) (below : List ℕ) (k j : ℕ) → (bit_at (get_or below k 0) j ≡ 1 → ⊥) → row_to n below k j ≡ row_to n below k (j + 1)
+unfolding row_to
+row_skip n below k j ne =
+    let p : ℕ → Bool = λ b. eqb (bit_at (get_or below k 0) b) 1 in
+    let f : ℕ → Pair = λ b. (k, b) in
+    sym (row_split n below k j ∙ ap (λ t. rows_to n below k ++ (map f (filter p (variables j)) ++ map f (cond t (j ∷ []) []))) (ne_eqb (bit_at (get_or below k 0) j) 1 ne)
+    ∙ ap (λ xs. rows_to n below k ++ xs) (append-nil (map f (filter p (variables j)))))
+
+pub row_end : (n : ℕ) (below : List ℕ) (k : ℕ) → row_to n below k n ≡ rows_to n below (k + 1)
+unfolding row_to rows_to members
+row_end n below k =
+    let f : ℕ → List Pair = λ a. map (λ (b : ℕ). (a, b)) (members n (get_or below a 0)) in
+    sym (ap (flat_map f) (variables_more k) ∙ flat_map-append f (variables k) (k ∷ []) ∙ ap (λ xs. flat_map f (variables k) ++ xs) (append-nil (f k)))
+
+pub rows_start : (n : ℕ) (below : List ℕ) → rows_to n below 0 ≡ []
+unfolding rows_to
+rows_start n below = refl
 
 -- an order of n variables, of what is known of an equal list
 pub order_of : (n : ℕ) (xs ys : List ℕ) → xs ≡ ys → IsOrder (length ys) ys → length ys ≡ n → IsOrder n xs

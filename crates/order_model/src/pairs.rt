@@ -189,6 +189,22 @@ impl Pairs {
         self.below[a as usize]
     }
 
+    /// The pairs, by rising a and then b.
+    pub fn to_vec(&self, alloc: Global) -> Result<Vec<(VarIx, VarIx)>, AllocError>
+        ensures { IfOk result (λ pairs. pairs.items ≡ self.now.pairs) }
+    {
+        let mut pairs = Vec::new(alloc);
+        for a in 0..self.inputs {
+            let mask = self.below[a as usize];
+            for b in 0..self.inputs {
+                if (mask >> b) & 1 == 1 {
+                    pairs.push((a, b))?;
+                }
+            }
+        }
+        Ok(pairs)
+    }
+
     /// Whether an order keeps the pairs.
     pub fn keeps(&self, order: &Order) -> bool
         requires { length order.now ≡ self.now.inputs }

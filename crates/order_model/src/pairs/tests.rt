@@ -35,6 +35,7 @@ fn orders_keep_pairs(rt: HostRuntime) -> Result<(), Fail> {
     assert_eq!(rt; pairs.count(), 2);
     assert_eq!(rt; pairs.below(2), 1);
     assert_eq!(rt; pairs.below(0), 0);
+    assert_eq!(rt; pairs.to_vec(rt.alloc())?.as_slice(), [(1, 0), (2, 0)].as_slice());
     let kept = Order::try_from_slice(rt.alloc(), &[1, 2, 0])?;
     assert_eq!(rt; kept.len(), 3);
     assert!(rt; pairs.keeps(&kept));
