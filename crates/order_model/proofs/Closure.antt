@@ -2,7 +2,7 @@
 --     Reaches P k reached      the masks have the pairs, only what pairs lead to, and are closed under steps through the first k variables
 --     start, joined      the masks of the pairs, and one variable more
 --     all_reached      closed under all 16, the masks have all that pairs lead to
-use Rattle.std.proofs.Common.{◌≡◌, ◌≢◌, ◌↔◌, ℕ, ◌+◌, ◌<◌, ◌≤◌, true, cond, ◌⊎◌, inl, inr, List, map, length, get_or, refl, sym, ap, ◌∙◌, subst, arith, max, eqb, eq-eqb, ne_eqb, bit_or, set}
+use Rattle.std.proofs.Common.{◌≡◌, ◌↔◌, ℕ, ◌+◌, ◌<◌, ◌≤◌, true, cond, ◌⊎◌, inl, inr, List, length, get_or, refl, sym, ap, ◌∙◌, subst, arith, eqb, eq-eqb, ne_eqb, bit_or, set}
 use Rattle.std.specs.Int.{bit_at}
 use Rattle.std.proofs.lemmas.Bool.{cases_eq, cases_lt}
 use Rattle.std.proofs.lemmas.List.{get_or_past, get_or-set_other, get_or-set_same, length-set}
@@ -33,8 +33,7 @@ or_one : (m n b : ℕ) → (bit_at (bit_or m n) b ≡ 1) ↔ ((bit_at m b ≡ 1)
 or_one m n b =
     let s = bit_at_or m n b in
     let l = bit_at-lt m b in
-    let r = bit_at-lt n b in
-    (
+    let r = bit_at-lt n b in (
       λ e. elim (zero_or_one m b) [ inl z ↦ inr (omega arith) | inr o ↦ inl o ],
       λ e. elim e [ inl o ↦ omega arith | inr o ↦ omega arith ],
     )
@@ -45,14 +44,12 @@ module _ (reached : List ℕ) (k : ℕ) (later : List ℕ) (row : IsJoined reach
   joined_bit a b = elim (cases_eq (bit_at (get_or reached a 0) k) 1) [
     | inl e ↦
         let is : get_or later a 0 ≡ bit_or (get_or reached a 0) (get_or reached k 0) = row a ∙ ap (λ t. cond t (bit_or (get_or reached a 0) (get_or reached k 0)) (get_or reached a 0)) (eq-eqb _ _ e) in
-        let both = or_one (get_or reached a 0) (get_or reached k 0) b in
-        (
+        let both = or_one (get_or reached a 0) (get_or reached k 0) b in (
           λ h. elim (both.0 (sym (ap (λ m. bit_at m b) is) ∙ h)) [ inl x ↦ inl x | inr y ↦ inr (e, y) ],
           λ h. ap (λ m. bit_at m b) is ∙ both.1 (elim h [ inl x ↦ inl x | inr y ↦ inr y.1 ]),
         )
     | inr ne ↦
-        let is : get_or later a 0 ≡ get_or reached a 0 = row a ∙ ap (λ t. cond t (bit_or (get_or reached a 0) (get_or reached k 0)) (get_or reached a 0)) (ne_eqb _ _ ne) in
-        (
+        let is : get_or later a 0 ≡ get_or reached a 0 = row a ∙ ap (λ t. cond t (bit_or (get_or reached a 0) (get_or reached k 0)) (get_or reached a 0)) (ne_eqb _ _ ne) in (
           λ h. inl (sym (ap (λ m. bit_at m b) is) ∙ h),
           λ h. ap (λ m. bit_at m b) is ∙ elim h [ inl x ↦ x | inr y ↦ absurd (ne y.0) ],
         )

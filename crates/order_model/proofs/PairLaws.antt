@@ -4,19 +4,19 @@
 --     length_members      a mask has as many members as ones
 --     rows_more, row_few      the number of pairs, one mask more; a mask has at most 15 of them
 --     row_pair, row_skip, row_end      the list of pairs, one variable and one mask more
-use Rattle.std.proofs.Common.{◌≡◌, ◌≢◌, ◌↔◌, ℕ, zero, suc, ◌+◌, ◌-◌, ◌*◌, ◌/◌, ◌%◌, ◌^◌, ◌<◌, ◌≤◌, Bool, true, false, cond, ◌&&◌, ◌⊎◌, inl, inr, List, [], ◌∷◌, ◌++◌, map, length, get_or, refl, sym, ap, ap₂, ◌∙◌, subst, arith, nat_eq, eqb, eqb-true, eq-eqb, ne_eqb, bit_and, w16, pow_pos, lt-ltb, le-ltb, ltb, count_ones, length-append, lit<, add-one, append-nil, append_assoc}
+use Rattle.std.proofs.Common.{◌≡◌, ◌≢◌, ℕ, zero, suc, ◌+◌, ◌-◌, ◌*◌, ◌/◌, ◌%◌, ◌^◌, ◌<◌, ◌≤◌, Bool, true, false, cond, inl, inr, List, [], ◌∷◌, ◌++◌, map, length, get_or, refl, sym, ap, ap₂, ◌∙◌, subst, arith, nat_eq, eqb, eqb-true, eq-eqb, ne_eqb, bit_and, w16, pow_pos, lt-ltb, le-ltb, ltb, count_ones, length-append, lit<, add-one, append-nil, append_assoc}
 use Rattle.std.proofs.lemmas.List.{length-map, map-append}
 use Rattle.std.proofs.lemmas.List.Elements.{filter-append}
 use Rattle.std.proofs.lemmas.Grind.{flat_map-append}
 use Rattle.std.specs.Int.{bit_at, bit_not}
 use Rattle.std.specs.List.{flat_map, filter, IsDistinct}
-use Rattle.std.proofs.lemmas.Bool.{cases_Bool, cases_order, cases_lt, and_parts, and_from, or_cases, false≢true, true≢false, false_from_ne_true}
-use Rattle.std.proofs.lemmas.Nat.Bits.{bit_at-zero, bit_at-lt, bit_at_not, bit_at_above, bit_at_cat_low}
+use Rattle.std.proofs.lemmas.Bool.{cases_order, and_parts, and_from, or_cases, false≢true, false_from_ne_true}
+use Rattle.std.proofs.lemmas.Nat.Bits.{bit_at_not, bit_at_cat_low}
 use Rattle.std.proofs.Math.Nat.{div-add-mod, mod-lt, mul_comm, div-lt_iff_lt-mul, pow-succ'}
 use Rattle.std.proofs.lemmas.Nat.{ones_cat, ones-le, zero_from_ones, and_le_l, and_le_r}
 use Rattle.std.proofs.lemmas.Map.Steps.{length-le_from_distinct_below}
-use Rattle.order_model.specs.Orders.{has, variables, members, IsOrder, place_in}
-use Rattle.order_model.specs.Pairs.{Pair, has_pair, is_above, keeps, is_lawful, Leads}
+use Rattle.order_model.specs.Orders.{has, variables, members, IsOrder}
+use Rattle.order_model.specs.Pairs.{Pair, has_pair, is_above, keeps, is_lawful}
 use Rattle.order_model.specs.Pairs.Leads.{by_one}
 use Rattle.order_model.specs.KeptPairs.{pairs_in, HasBit, AreWithin, HasNoCycle}
 use Rattle.order_model.proofs.Sets.{Among}
@@ -25,7 +25,7 @@ use Rattle.order_model.proofs.Recurrence.{apart_from_absent}
 use Rattle.order_model.proofs.Masks.{has_members, distinct_members, members_small}
 use Rattle.order_model.proofs.PairLists.{lawful_at, lawful_from, keeps_at, keeps_from, above_places}
 use Rattle.order_model.proofs.PairSets.{pair_among, among_pair}
-use Rattle.order_model.proofs.OrderTypes.{index_of, variables_more, Seen, seen_more, seen_repeated}
+use Rattle.order_model.proofs.OrderTypes.{index_of, variables_more, Seen}
 use Rattle.order_model.proofs.PairMasks.{among_in, has_in, filter_same, some_bit, both_bits, and_bit, zero_or_one, not_one_from_zero}
 
 -- ---- lawful sets

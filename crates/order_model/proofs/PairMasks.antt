@@ -4,18 +4,18 @@
 --     leads_same      what leads where depends on which pairs there are alone
 --     holds_masks      masks that a struct may hold
 --     some_bit, both_bits, bit_outside      bits of a mask, of what two masks share, and of what one mask has outside another
-use Rattle.std.proofs.Common.{◌≡◌, ◌≢◌, ◌↔◌, ℕ, zero, suc, ◌+◌, ◌-◌, ◌*◌, ◌/◌, ◌%◌, ◌^◌, ◌<◌, ◌≤◌, pow_pos, pow_mono, replicate, Bool, true, false, cond, ◌⊎◌, inl, inr, List, [], ◌∷◌, map, length, get_or, refl, sym, ap, ap₂, ◌∙◌, subst, arith, nat_eq, eqb, eqb-true, eq-eqb, ◌++◌, min, bit_and, w16}
-use Rattle.std.specs.Int.{bit_at, bit_not}
-use Rattle.std.specs.List.{flat_map, filter, list_all, All}
+use Rattle.std.proofs.Common.{◌≡◌, ◌≢◌, ◌↔◌, ℕ, zero, suc, ◌+◌, ◌*◌, ◌/◌, ◌%◌, ◌^◌, ◌<◌, ◌≤◌, pow_pos, pow_mono, replicate, Bool, true, cond, ◌⊎◌, inl, inr, List, [], ◌∷◌, map, length, get_or, refl, sym, ap, ap₂, ◌∙◌, subst, arith, nat_eq, eqb, eqb-true, eq-eqb, ◌++◌, bit_and, w16}
+use Rattle.std.specs.Int.{bit_at}
+use Rattle.std.specs.List.{flat_map, filter, list_all}
 use Rattle.std.proofs.lemmas.Bool.{cases_Bool, cases_lt, or_left, or_right, and_parts, false≢true, true≢false}
 use Rattle.std.proofs.Math.Nat.{div-add-mod, mod-lt, mul_comm}
-use Rattle.std.proofs.lemmas.Nat.Bits.{bit_at_and, bit_at-zero, bit_at-lt, bit_at_not, bit_at-trailing_zeros, same_from_bits, bit_at_cat_low, bit_at_above}
+use Rattle.std.proofs.lemmas.Nat.Bits.{bit_at_and, bit_at-zero, bit_at-lt, bit_at-trailing_zeros, same_from_bits, bit_at_cat_low, bit_at_above}
 use Rattle.std.proofs.lemmas.List.{get_or_past}
 use Rattle.std.proofs.lemmas.List.Elements.{recursion_from_All}
 use Rattle.order_model.specs.Orders.{has, variables, members}
 use Rattle.order_model.specs.Pairs.{Pair, has_pair, sorted_pairs, Leads, AreBelow}
 use Rattle.order_model.specs.Pairs.Leads.{by_one, by_more}
-use Rattle.order_model.specs.KeptPairs.{pairs_in, HasBit, AreWithin, HoldsKept, CanBeKept, HasNoCycle}
+use Rattle.order_model.specs.KeptPairs.{pairs_in, HasBit, AreWithin, HoldsKept, HasNoCycle}
 use Rattle.order_model.proofs.Sets.{Among, among_map, among_from_map, among_flat_map, among_from_flat_map, among_filter, among_from_filter}
 use Rattle.order_model.proofs.OrderLists.{same_bool, has_variables}
 use Rattle.order_model.proofs.Recurrence.{among_has, has_among}
@@ -86,8 +86,7 @@ sorted_by n P = refl
 pub has_in : (n : ℕ) (below : List ℕ) (a b : ℕ) → (has_pair (pairs_in n below) a b ≡ true) ↔ ((a < n) × (b < n) × HasBit below a b)
 has_in n below a b =
     let is = ap (λ P. has_pair P a b) (in_by n below) in
-    let both = has_by n (bit_test below) a b in
-    (
+    let both = has_by n (bit_test below) a b in (
       λ h. let s = both.0 (sym is ∙ h) in (s.0, s.1, eqb-true (bit_at (get_or below a 0) b) 1 s.2),
       λ h. is ∙ both.1 (h.0, h.1, eq-eqb (bit_at (get_or below a 0) b) 1 h.2),
     )

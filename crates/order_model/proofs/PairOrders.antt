@@ -3,21 +3,20 @@
 --     some_top_below      a lawful set that isn't empty has a top
 --     GreedyTo n P variables k remaining      the first k variables are those that greedy steps take, and remaining is what they leave
 --     greedy_start, greedy_step, greedy_end      before the first step, one step more, after the last
-use Rattle.std.proofs.Common.{◌≡◌, ◌≢◌, ◌↔◌, ℕ, zero, suc, ◌+◌, ◌-◌, ◌*◌, ◌/◌, ◌%◌, ◌^◌, ◌<◌, ◌≤◌, Bool, true, false, cond, ◌&&◌, ◌⊎◌, inl, inr, List, [], ◌∷◌, ◌++◌, length, get_or, take, drop, set, refl, sym, ap, ap₂, ◌∙◌, subst, arith, nat_eq, eqb, eqb-true, eq-eqb, pow_pos, append_assoc, append-nil, IsTrue, length-take-le}
+use Rattle.std.proofs.Common.{◌≡◌, ℕ, suc, ◌+◌, ◌-◌, ◌/◌, ◌%◌, ◌^◌, ◌<◌, ◌≤◌, true, inl, inr, List, [], ◌∷◌, ◌++◌, length, take, set, refl, sym, ap, ◌∙◌, subst, arith, eqb, eq-eqb, pow_pos, append_assoc, append-nil, length-take-le}
 use Rattle.std.specs.Int.{bit_at}
-use Rattle.std.specs.List.{filter, IsDistinct}
+use Rattle.std.specs.List.{filter}
 use Rattle.std.proofs.Math.Nat.{div-eq_of_lt}
-use Rattle.std.proofs.lemmas.Bool.{cases_Bool, cases_lt, and_parts, and_from, false≢true}
+use Rattle.std.proofs.lemmas.Bool.{cases_lt, and_parts, and_from}
 use Rattle.std.proofs.lemmas.List.{nil_from_length, take_more_set, length-set}
 use Rattle.std.proofs.lemmas.List.FromFn.{length-range_with_len}
 use Rattle.std.proofs.lemmas.Cmp.{nat_eq_equiv}
 use Rattle.std.proofs.lemmas.Map.Made.{length-from_same_keys}
-use Rattle.std.proofs.lemmas.Nat.Bits.{bit_at_ones, bit_at_above, ones_shr}
+use Rattle.std.proofs.lemmas.Nat.Bits.{bit_at_ones, bit_at_above}
 use Rattle.order_model.specs.Orders.{has, variables, members, without, mask_of, IsOrder}
 use Rattle.order_model.specs.OrderFaults.{IsInRange, Accepts}
-use Rattle.order_model.specs.Pairs.{Pair, has_pair, is_lawful, tops, IsGreedy, IsFirstOrder, AreBelow, Leads}
+use Rattle.order_model.specs.Pairs.{Pair, is_lawful, tops, IsGreedy, IsFirstOrder}
 use Rattle.order_model.specs.KeptPairs.{CanBeKept}
-use Rattle.order_model.proofs.Sets.{Among}
 use Rattle.order_model.proofs.OrderLists.{has_variables}
 use Rattle.order_model.proofs.Recurrence.{distinct_without, length_without}
 use Rattle.order_model.proofs.Masks.{distinct_members, members_without, members_full, mask_of_members}

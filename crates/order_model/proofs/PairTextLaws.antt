@@ -4,19 +4,19 @@
 --     ReadTo parts k below      the masks of the pairs of the first k parts
 --     read_none, read_more, read_all, read_fails      before the first part, one part more, after the last, a part without a pair
 --     bad, out_of_range, cycle, accepted, holds      what is answered
-use Rattle.std.proofs.Common.{◌≡◌, ◌≢◌, ◌↔◌, ℕ, zero, suc, ◌+◌, ◌-◌, ◌*◌, ◌/◌, ◌%◌, ◌^◌, ◌<◌, ◌≤◌, Bool, true, false, cond, ◌&&◌, ◌||◌, ◌⊎◌, inl, inr, List, [], ◌∷◌, ◌++◌, length, get_or, take, drop, set, refl, sym, ap, ap₂, ◌∙◌, subst, arith, nat_eq, eqb, eqb-true, eq-eqb, ne_eqb, ltb, le-ltb, lt-ltb, Option, Some, None, Ok, Err, bit_or, w16, lit<, take_all}
+use Rattle.std.proofs.Common.{◌≡◌, ◌↔◌, ℕ, zero, suc, ◌+◌, ◌-◌, ◌*◌, ◌/◌, ◌%◌, ◌^◌, ◌<◌, ◌≤◌, Bool, true, false, cond, ◌&&◌, ◌||◌, ◌⊎◌, inl, inr, List, [], ◌∷◌, ◌++◌, length, get_or, take, drop, set, refl, sym, ap, ap₂, ◌∙◌, subst, arith, nat_eq, eqb, eqb-true, eq-eqb, le-ltb, lt-ltb, Option, Some, None, Ok, Err, bit_or, w16, lit<, take_all}
 use Rattle.std.specs.Prelude.{decimal}
 use Rattle.std.specs.Int.{bit_at}
-use Rattle.std.specs.List.{find, position, position_or_len, before_first, after_first, slice_split}
+use Rattle.std.specs.List.{find, position, position_or_len, before_first, after_first}
 use Rattle.std.specs.Cmp.Lexicographic.{pointwise, same_text}
-use Rattle.std.proofs.lemmas.Bool.{cases_Bool, cases_eq, cases_lt, or_cases, or_left, or_right, and_parts, and_from, false≢true, true≢false, ltb-true, ltb-false, false_from_ne_true}
+use Rattle.std.proofs.lemmas.Bool.{cases_Bool, cases_eq, cases_lt, or_cases, or_left, or_right, and_parts, and_from, false≢true, true≢false}
 use Rattle.std.proofs.lemmas.Cmp.{nat_list_eq_equiv}
 use Rattle.std.proofs.lemmas.Fmt.{decimal_digit, decimal_step, decimal_injective}
 use Rattle.std.proofs.lemmas.List.{take_more, drop_all, length-set, get_or-set_other, get_or-set_same}
 use Rattle.std.proofs.lemmas.Nat.Bits.{bit_at_set_same, bit_at_set_other}
 use Rattle.order_model.specs.declared.pairs.PairsFault.TheVariants.{BadPair, PairOutOfRange, PairCycle}
 use Rattle.order_model.specs.Orders.{has, variables}
-use Rattle.order_model.specs.Pairs.{Pair, has_pair, sorted_pairs, AreBelow, Leads, IsPairCycle}
+use Rattle.order_model.specs.Pairs.{Pair, has_pair, IsPairCycle}
 use Rattle.order_model.specs.KeptPairs.{pairs_in, HasBit, AreWithin, HasNoCycle, HoldsKept}
 use Rattle.order_model.specs.PairTexts.{number_of, both, pair_of, with_pair, pairs_of, AreMasksOf, ParsesAs}
 use Rattle.order_model.proofs.OrderLists.{has_variables}

@@ -138,7 +138,10 @@ impl Pairs {
         ensures inputs { result.inputs ≡ n }
         ensures pairs { result.pairs ≡ [] }
     {
-        Pairs { inputs: n, below: [0; 16] }
+        Pairs {
+            inputs: n,
+            below: [0; 16],
+        }
     }
 
     /// The pairs of n variables that a text lists, as `2,0:1,0`: each of them is a number, a comma and a number, and colons stand between them. A pair that is listed again counts once.
@@ -272,7 +275,10 @@ impl Pairs {
     pub fn copied(&self) -> Pairs
         ensures { result ≡ self.now }
     {
-        Pairs { inputs: self.inputs, below: self.below }
+        Pairs {
+            inputs: self.inputs,
+            below: self.below,
+        }
     }
 }
 

@@ -1,4 +1,4 @@
-use Rattle.std.proofs.Common.{◌≡◌, sym, arith}
+use Rattle.std.proofs.Common.{sym, arith}
 use Rattle.order_model.proofs.PairTextLaws.{number_digit, number_teen, number_refused}
 use Rattle.order_model.proofs.pairs.number.Goals as goal
 
@@ -28,4 +28,3 @@ returns-in_default-6 c = sym (number_refused c.args.word.now (λ one low high. o
 
 pub returns-in_default-7 : goal.returns-in_default-7
 returns-in_default-7 c = sym (number_refused c.args.word.now (λ one low high. omega arith) (λ two ten low high. omega arith))
-

@@ -1,8 +1,8 @@
-use Rattle.std.proofs.Common.{◌≡◌, ◌+◌, ◌-◌, ◌*◌, ◌/◌, ◌%◌, ◌^◌, ◌<◌, ◌≤◌, ℕ, List, take, set, replicate, length, refl, sym, ap, ◌∙◌, subst, arith, IsTrue}
+use Rattle.std.proofs.Common.{◌≡◌, ◌+◌, ◌-◌, ◌/◌, ◌^◌, ◌≤◌, ℕ, List, take, set, replicate, refl, sym, ap, ◌∙◌, subst, arith}
 use Rattle.std.proofs.lemmas.Nat.{one_shl}
 use Rattle.std.proofs.lemmas.Nat.Bits.{ones_shr}
 use Rattle.order_model.specs.OrderFaults.{Accepts, Refuses}
-use Rattle.order_model.specs.Pairs.{Pair, IsFirstOrder}
+use Rattle.order_model.specs.Pairs.{IsFirstOrder}
 use Rattle.order_model.specs.KeptPairs.{KeptPairs, CanBeKept}
 use Rattle.order_model.proofs.PairLaws.{member_bit}
 use Rattle.order_model.proofs.PairOrders.{GreedyTo, pow_le_bit, top_parts, greedy_start, greedy_some, greedy_step, greedy_end, first_accepted, in_range}

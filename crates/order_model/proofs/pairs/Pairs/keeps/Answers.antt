@@ -1,4 +1,4 @@
-use Rattle.std.proofs.Common.{◌≡◌, ℕ, ◌<◌, List, length, get_or, true, false, arith, sym, ap, ◌∙◌, subst, bit_or, w16}
+use Rattle.std.proofs.Common.{◌≡◌, ℕ, ◌<◌, List, length, get_or, true, false, arith, sym, ap, ◌∙◌, subst, w16}
 use Rattle.std.proofs.lemmas.Nat.Bits.{bit_at_set_same, bit_at_set_other}
 use Rattle.order_model.specs.Orders.{IsOrder}
 use Rattle.order_model.specs.Pairs.{keeps}
@@ -16,10 +16,9 @@ loop-x-preserved c =
     let k = c.loop-x.x-index in
     let x = get_or order k 0 in
     let is = subst (λ (o : List ℕ). IsOrder (length o) o) (sym c.variables-x-items.ensures.value) c.variables-x-items.ensures.order in
-    let small : x < 16 = subst (λ (o : List ℕ). get_or o k 0 < 16) (sym c.variables-x-items.ensures.value) (c.variables-x-items.ensures.small k 0 (subst (λ (o : List ℕ). k < length o) c.variables-x-items.ensures.value c.loop-x-test.true)) in
-    (
+    let small : x < 16 = subst (λ (o : List ℕ). get_or o k 0 < 16) (sym c.variables-x-items.ensures.value) (c.variables-x-items.ensures.small k 0 (subst (λ (o : List ℕ). k < length o) c.variables-x-items.ensures.value c.loop-x-test.true)) in (
       seen_more order k c.loop-x.seen c.loop-x.invariant.0 _ (λ e. seen_repeated order k c.loop-x.seen c.loop-x.invariant.0 c.loop-x-test.true e is.once)
-      (bit_at_set_same w16 c.loop-x.seen x small) (λ y ne. bit_at_set_other w16 c.loop-x.seen x small y ne),
+          (bit_at_set_same w16 c.loop-x.seen x small) (λ y ne. bit_at_set_other w16 c.loop-x.seen x small y ne),
       kept_more c.self.inside.below order k c.loop-x.seen c.loop-x.invariant.0 c.loop-x.invariant.1 c.if-self-x-ne0.false,
     )
 

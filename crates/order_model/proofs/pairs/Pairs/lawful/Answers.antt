@@ -1,4 +1,4 @@
-use Rattle.std.proofs.Common.{◌≡◌, ◌<◌, ◌≤◌, ℕ, arith, subst, sym, inl, inr, get_or, ◌∙◌, true, false}
+use Rattle.std.proofs.Common.{◌≡◌, ◌<◌, ℕ, arith, subst, sym, inl, inr, get_or, ◌∙◌, true, false}
 use Rattle.order_model.proofs.PairMasks.{row_in_16}
 use Rattle.std.specs.Int.{bit_at}
 use Rattle.std.proofs.lemmas.Bool.{cases_eq}

@@ -1,6 +1,5 @@
-use Rattle.std.proofs.Common.{◌≡◌, ℕ, get_or, length, sym, ap, ◌∙◌, subst, arith, List}
+use Rattle.std.proofs.Common.{◌≡◌, get_or, sym, ap, ◌∙◌, subst, arith}
 use Rattle.std.proofs.lemmas.Nat.Bits.{shr_and_one}
-use Rattle.order_model.specs.Pairs.{Pair}
 use Rattle.order_model.specs.KeptPairs.{KeptPairs}
 use Rattle.order_model.proofs.PairLaws.{rows_to, row_to, rows_start, rows_all, row_start, row_pair, row_skip, row_end}
 use Rattle.order_model.proofs.pairs.Pairs.to_vec.Goals as goal
