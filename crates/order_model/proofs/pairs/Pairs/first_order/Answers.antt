@@ -1,0 +1,92 @@
+use Rattle.std.proofs.Common.{◌≡◌, ◌+◌, ◌-◌, ◌/◌, ◌^◌, ◌≤◌, ℕ, List, take, set, replicate, refl, sym, ap, ◌∙◌, subst, arith}
+use Rattle.std.proofs.lemmas.Nat.{one_shl}
+use Rattle.std.proofs.lemmas.Nat.Bits.{ones_shr}
+use Rattle.order_model.specs.OrderFaults.{Accepts, Refuses}
+use Rattle.order_model.specs.Pairs.{IsFirstOrder}
+use Rattle.order_model.specs.KeptPairs.{KeptPairs, CanBeKept}
+use Rattle.order_model.proofs.PairLaws.{member_bit}
+use Rattle.order_model.proofs.PairOrders.{GreedyTo, pow_le_bit, top_parts, greedy_start, greedy_some, greedy_step, greedy_end, first_accepted, in_range}
+use Rattle.order_model.proofs.pairs.Pairs.first_order.Goals as goal
+
+all_below : (n : ℕ) → n ≤ 16 → 65535 / 2 ^ (16 - n) ≡ 2 ^ n - 1
+all_below n h = ones_shr 16 (16 - n) (omega arith) ∙ ap (λ (k : ℕ). 2 ^ k - 1) (omega arith)
+
+same : (v w : KeptPairs) → v ≡ w → v.inputs ≡ w.inputs
+same v w e = ap (λ (u : KeptPairs). u.inputs) e
+
+kept_of : (v w : KeptPairs) → v ≡ w → CanBeKept v.inputs v.pairs → CanBeKept w.inputs w.pairs
+kept_of v w e k = subst (λ (u : KeptPairs). CanBeKept u.inputs u.pairs) e k
+
+pub loop-place-init : goal.loop-place-init
+loop-place-init c =
+    let n = c.args.self.now.inputs in
+    let kept = kept_of _ _ c.self.view_is c.self.invariant.kept in
+    subst (λ (m : ℕ). GreedyTo n c.args.self.now.pairs (replicate 16 0) 0 m) (sym (all_below n kept.few) ∙ ap (λ (k : ℕ). 65535 / 2 ^ (16 - k)) (sym (same _ _ c.self.view_is)))
+    (greedy_start n c.args.self.now.pairs (replicate 16 0) kept refl)
+
+pub smallest_top-x-requires-clause-some : goal.smallest_top-x-requires-clause-some
+smallest_top-x-requires-clause-some c =
+    greedy_some c.args.self.now.inputs c.args.self.now.pairs c.loop-place.variables c.loop-place.place c.loop-place.remaining c.loop-place.invariant
+    (let e = same _ _ c.self.view_is in omega arith)
+
+pub overflow_shl-remaining : goal.overflow_shl-remaining
+overflow_shl-remaining c =
+    let n = c.args.self.now.inputs in
+    let there = (top_parts n c.args.self.now.pairs c.loop-place.remaining c.smallest_top-x.result c.smallest_top-x.ensures.top).0 in
+    let low = (member_bit n c.loop-place.remaining c.smallest_top-x.result there).0 in
+    let few = c.self.invariant.kept.few in
+    let e = same _ _ c.self.view_is in
+    omega arith
+
+pub overflow_sub-remaining-in-loop-place : goal.overflow_sub-remaining-in-loop-place
+overflow_sub-remaining-in-loop-place c =
+    let n = c.args.self.now.inputs in
+    let there = (top_parts n c.args.self.now.pairs c.loop-place.remaining c.smallest_top-x.result c.smallest_top-x.ensures.top).0 in
+    let bit = member_bit n c.loop-place.remaining c.smallest_top-x.result there in
+    let few = c.self.invariant.kept.few in
+    let e = same _ _ c.self.view_is in
+    let low = one_shl c.smallest_top-x.result 16 (let l = bit.0 in omega arith) in
+    let le = pow_le_bit c.loop-place.remaining c.smallest_top-x.result bit.1 in
+    omega (arith, low)
+
+pub loop-place-preserved : goal.loop-place-preserved
+loop-place-preserved c =
+    let n = c.args.self.now.inputs in
+    let P = c.args.self.now.pairs in
+    let x = c.smallest_top-x.result in
+    let there = (top_parts n P c.loop-place.remaining x c.smallest_top-x.ensures.top).0 in
+    let bit = member_bit n c.loop-place.remaining x there in
+    let few = c.self.invariant.kept.few in
+    let e = same _ _ c.self.view_is in
+    let low = one_shl x 16 (let l = bit.0 in omega arith) in
+    subst (λ (m : ℕ). GreedyTo n P (set c.loop-place.variables c.loop-place.place x) (c.loop-place.place + 1) (c.loop-place.remaining - m)) (sym low)
+    (greedy_step n P c.loop-place.variables c.loop-place.place c.loop-place.remaining x c.loop-place.invariant (omega arith) c.smallest_top-x.ensures.top c.smallest_top-x.ensures.smallest)
+
+-- after the last step
+module _ (fields value : KeptPairs) (is : fields ≡ value) (k : CanBeKept fields.inputs fields.pairs) (xs : List ℕ) (place remaining : ℕ)
+    (g : GreedyTo value.inputs value.pairs xs place remaining) (h : fields.inputs ≤ place) (j : place ≤ fields.inputs) where
+  first : IsFirstOrder value.inputs value.pairs (take fields.inputs xs)
+  first =
+      let e = same fields value is in
+      subst (λ (i : ℕ). IsFirstOrder value.inputs value.pairs (take i xs)) (sym e) (greedy_end value.inputs value.pairs xs place remaining (kept_of fields value is k) g (omega arith) (omega arith))
+
+  accepted : Accepts (take fields.inputs xs)
+  accepted =
+      let e = same fields value is in
+      subst (λ (i : ℕ). Accepts (take i xs)) (sym e)
+      (first_accepted value.inputs value.pairs xs (kept_of fields value is k) g.long (greedy_end value.inputs value.pairs xs place remaining (kept_of fields value is k) g (omega arith) (omega arith)))
+
+pub returns-in-Ok : goal.returns-in-Ok
+returns-in-Ok c =
+    subst (λ (o : List ℕ). IsFirstOrder c.args.self.now.inputs c.args.self.now.pairs o) (sym c.in-Ok.ensures.value)
+    (first _ _ c.self.view_is c.self.invariant.kept c.loop-place.variables c.loop-place.place c.loop-place.remaining c.loop-place.invariant c.loop-place-test.false c.loop-place.auto.place-end)
+
+pub unreachable-requires : goal.unreachable-requires
+unreachable-requires c =
+    let a = accepted _ _ c.self.view_is c.self.invariant.kept c.loop-place.variables c.loop-place.place c.loop-place.remaining c.loop-place.invariant c.loop-place-test.false c.loop-place.auto.place-end in
+    (subst (Refuses (take c.self.inside.inputs c.loop-place.variables)) c.in-Err-NotEach.field-0-is c.in-Err-NotEach.ensures.refused).1 a.order
+
+pub unreachable-requires-in-Err-OutOfRange : goal.unreachable-requires-in-Err-OutOfRange
+unreachable-requires-in-Err-OutOfRange c =
+    let a = accepted _ _ c.self.view_is c.self.invariant.kept c.loop-place.variables c.loop-place.place c.loop-place.remaining c.loop-place.invariant c.loop-place-test.false c.loop-place.auto.place-end in
+    subst (Refuses (take c.self.inside.inputs c.loop-place.variables)) c.in-Err-OutOfRange.field-0-is c.in-Err-OutOfRange.ensures.refused (in_range (take c.self.inside.inputs c.loop-place.variables) a)

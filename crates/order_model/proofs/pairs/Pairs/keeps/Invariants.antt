@@ -1,0 +1,6 @@
+use Rattle.order_model.proofs.OrderTypes.{Seen}
+use Rattle.order_model.proofs.PairLaws.{KeptTo}
+use Rattle.order_model.proofs.pairs.Pairs.keeps.Given as goal
+
+abbrev pub invariant-loop-x : goal.invariant-loop-x
+invariant-loop-x l = Seen l.x-items l.x-index l.seen × KeptTo l.self-inside.below l.x-items l.x-index

@@ -1,0 +1,286 @@
+//! Pairs of variables that an order must keep.
+
+ghost use Rattle.std.specs.Prelude.{◌≡◌, ◌==◌, ◌↔◌, ◌^◌, ◌<◌, ◌≤◌, ℕ, [], length, position, IsTrue, IfSome, IfNone, IfOk};
+ghost use Rattle.std.specs.Int.{bit_at};
+ghost use Rattle.order_model.specs.Orders.{has, members};
+ghost use Rattle.order_model.specs.Pairs.{has_pair, keeps, is_lawful, tops, sorted_pairs, IsFirstOrder, IsPairCycle};
+ghost use Rattle.order_model.specs.KeptPairs.{pairs_in, AreWithin, IsJoined, CanBeKept, HasNoCycle};
+ghost use Rattle.order_model.specs.PairTexts.{number_of, pair_of, listed, AreMasksOf, ParsesAs};
+
+use crate::orders::{BadOrder, Order};
+use crate::variables::{Mask, VarIx};
+use std::alloc::{AllocError, Global};
+use std::marker::Model;
+use thiserror::Error;
+
+/// Why a text lists no pairs that an order can keep. Each is decided over the whole text, the first of them first.
+#[derive(Clone, Copy, Debug, PartialEq, Eq, Error)]
+pub enum PairsFault {
+    /// A part between colons isn't two decimals from 0 to 15 with a comma between them.
+    #[error("BadPair")]
+    BadPair,
+    /// A number isn't below the number of variables.
+    #[error("PairOutOfRange")]
+    PairOutOfRange,
+    /// Pairs lead from this variable back to itself, and from no smaller one.
+    #[error("PairCycle {0}")]
+    PairCycle(VarIx),
+}
+
+/// Pairs (a, b) of variables, of each of which an order must have a above b. They lead from no variable back to itself.
+#[derive(Debug, Drop)]
+pub struct Pairs {
+    inputs: u8,
+    // bit b of below[a] stands for the pair (a, b)
+    below: [Mask; 16],
+}
+
+impl Model for Pairs {
+    ghost use Rattle.order_model.specs.KeptPairs.{KeptPairs, pairs_in, HoldsKept};
+
+    ghost Value = { KeptPairs };
+
+    ghost view = { λ p. record { inputs = p.inputs; pairs = pairs_in p.inputs p.below } };
+
+    ghost invariant = { λ p. HoldsKept p.inputs p.below };
+}
+
+/// The number of a word.
+fn number(word: &[u8]) -> Option<VarIx>
+    ensures { result ≡ number_of word.now }
+{
+    match word {
+        [digit @ b'0'..=b'9'] => Some(*digit - b'0'),
+        [b'1', digit @ b'0'..=b'5'] => Some(10 + (*digit - b'0')),
+        _ => None,
+    }
+}
+
+/// The place of the first comma.
+fn comma_place(part: &[u8]) -> Option<usize>
+    ensures first { result ≡ position (λ byte. byte == 44) part.now }
+    ensures within { IfSome result (λ place. place < length part.now) }
+{
+    part.iter().position(|byte| *byte == b',')
+}
+
+/// The pair of a part between colons.
+fn pair(part: &[u8]) -> Option<(VarIx, VarIx)>
+    ensures { result ≡ pair_of part.now }
+{
+    let comma = comma_place(part)?;
+    let above = number(&part[..comma])?;
+    let below = number(&part[comma + 1..])?;
+    Some((above, below))
+}
+
+/// The masks of the pairs that a text lists.
+fn listed_masks(text: &[u8]) -> Option<[Mask; 16]>
+    ensures { AreMasksOf (listed text.now) result }
+{
+    let mut below = [0; 16];
+    for part in text.split(|byte| *byte == b':') {
+        let (a, b) = pair(part)?;
+        below[a as usize] |= 1 << b;
+    }
+    Some(below)
+}
+
+/// Whether masks speak of the first n variables alone.
+fn are_within(below: &[Mask; 16], n: u8) -> bool
+    requires { n ≤ 16 }
+    ensures { IsTrue result ↔ AreWithin n below.now }
+{
+    for (a, mask) in below.iter().enumerate() {
+        let limit: u32 = if a < n as usize { 1 << n } else { 1 };
+        if u32::from(*mask) >= limit {
+            return false;
+        }
+    }
+    true
+}
+
+/// Adds what is reached through k to what each variable reaches.
+fn join_through(reached: &mut [Mask; 16], k: VarIx)
+    requires { k < 16 }
+    ensures { IsJoined reached.old k reached.new }
+{
+    let through = reached[k as usize];
+    for mask in reached.iter_mut() {
+        if (*mask >> k) & 1 == 1 {
+            *mask |= through;
+        }
+    }
+}
+
+/// The least variable from which pairs lead back to itself.
+fn least_on_cycle(below: &[Mask; 16]) -> Option<VarIx>
+    ensures found { IfSome result (λ v. IsPairCycle (pairs_in 16 below.now) v) }
+    ensures none { IfNone result (HasNoCycle (pairs_in 16 below.now)) }
+{
+    let mut reached = *below;
+    for k in 0..16 {
+        join_through(&mut reached, k);
+    }
+    for v in 0..16 {
+        if (reached[v as usize] >> v) & 1 == 1 {
+            return Some(v);
+        }
+    }
+    None
+}
+
+impl Pairs {
+    /// No pairs of n variables.
+    pub fn none(n: u8) -> Pairs
+        requires some { 1 ≤ n }
+        requires few { n ≤ 16 }
+        ensures inputs { result.inputs ≡ n }
+        ensures pairs { result.pairs ≡ [] }
+    {
+        Pairs {
+            inputs: n,
+            below: [0; 16],
+        }
+    }
+
+    /// The pairs of n variables that a text lists, as `2,0:1,0`: each of them is a number, a comma and a number, and colons stand between them. A pair that is listed again counts once.
+    pub fn parse(text: &[u8], n: u8) -> Result<Pairs, PairsFault>
+        requires some { 1 ≤ n }
+        requires few { n ≤ 16 }
+        ensures { ParsesAs (listed text.now) n result }
+    {
+        let Some(below) = listed_masks(text) else {
+            return Err(PairsFault::BadPair);
+        };
+        if !are_within(&below, n) {
+            return Err(PairsFault::PairOutOfRange);
+        }
+        match least_on_cycle(&below) {
+            Some(v) => Err(PairsFault::PairCycle(v)),
+            None => Ok(Pairs { inputs: n, below }),
+        }
+    }
+
+    /// How many variables there are: 1 to 16.
+    pub fn inputs(&self) -> u8
+        ensures value { result ≡ self.now.inputs }
+        ensures kept { CanBeKept self.now.inputs self.now.pairs }
+        ensures sorted { sorted_pairs self.now.inputs self.now.pairs ≡ self.now.pairs }
+    {
+        self.inputs
+    }
+
+    /// How many pairs there are, at most 240.
+    pub fn count(&self) -> u32
+        ensures value { result ≡ length self.now.pairs }
+        ensures most { result ≤ 240 }
+    {
+        let mut count = 0;
+        for a in 0..self.inputs {
+            count += self.below[a as usize].count_ones();
+        }
+        count
+    }
+
+    /// The variables that must stand below a, as a mask.
+    pub fn below(&self, a: VarIx) -> Mask
+        requires { a < self.now.inputs }
+        ensures pairs { (b : ℕ) → (bit_at result b ≡ 1) ↔ IsTrue (has_pair self.now.pairs a b) }
+        ensures within { result < 2 ^ self.now.inputs }
+    {
+        self.below[a as usize]
+    }
+
+    /// The pairs, by rising a and then b.
+    pub fn to_vec(&self, alloc: Global) -> Result<Vec<(VarIx, VarIx)>, AllocError>
+        ensures { IfOk result (λ pairs. pairs.items ≡ self.now.pairs) }
+    {
+        let mut pairs = Vec::new(alloc);
+        for a in 0..self.inputs {
+            let mask = self.below[a as usize];
+            for b in 0..self.inputs {
+                if (mask >> b) & 1 == 1 {
+                    pairs.push((a, b))?;
+                }
+            }
+        }
+        Ok(pairs)
+    }
+
+    /// Whether an order keeps the pairs.
+    pub fn keeps(&self, order: &Order) -> bool
+        requires { length order.now ≡ self.now.inputs }
+        ensures { result ≡ keeps self.now.pairs order.now }
+    {
+        let mut seen: Mask = 0;
+        for x in order.variables() {
+            if self.below[*x as usize] & seen != 0 {
+                return false;
+            }
+            seen |= 1 << *x;
+        }
+        true
+    }
+
+    /// Whether a set has b wherever it has a, of each pair (a, b).
+    pub fn lawful(&self, set: Mask) -> bool
+        ensures { result ≡ is_lawful self.now.pairs (members self.now.inputs set) }
+    {
+        for (a, below) in self.below.iter().enumerate() {
+            if (set >> a) & 1 == 1 && *below & !set != 0 {
+                return false;
+            }
+        }
+        true
+    }
+
+    /// The smallest variable without which a lawful set that isn't empty stays lawful.
+    fn smallest_top(&self, set: Mask) -> VarIx
+        requires some { 0 < set }
+        requires within { set < 2 ^ self.now.inputs }
+        requires lawful { IsTrue (is_lawful self.now.pairs (members self.now.inputs set)) }
+        ensures top { IsTrue (has (tops self.now.pairs (members self.now.inputs set)) result) }
+        ensures smallest { (y : ℕ) → IsTrue (has (tops self.now.pairs (members self.now.inputs set)) y) → result ≤ y }
+    {
+        for x in 0..self.inputs {
+            if (set >> x) & 1 == 1 && self.lawful(set - (1 << x)) {
+                return x;
+            }
+        }
+        unreachable!()
+    }
+
+    /// The first of the orders that keep the pairs, compared as lists of numbers.
+    pub fn first_order(&self, alloc: Global) -> Result<Order, AllocError>
+        ensures { IfOk result (λ order. IsFirstOrder self.now.inputs self.now.pairs order) }
+    {
+        let n = self.inputs;
+        let mut variables: [VarIx; 16] = [0; 16];
+        let mut remaining = Mask::MAX >> (16 - n);
+        for place in 0..n {
+            let x = self.smallest_top(remaining);
+            variables[place as usize] = x;
+            remaining -= 1 << x;
+        }
+        match Order::try_from_slice(alloc, &variables[..n as usize]) {
+            Ok(order) => Ok(order),
+            Err(BadOrder::OutOfMemory) => Err(AllocError),
+            Err(BadOrder::NotEach) => unreachable!(),
+            Err(BadOrder::OutOfRange) => unreachable!(),
+        }
+    }
+
+    /// The same pairs once more.
+    pub fn copied(&self) -> Pairs
+        ensures { result ≡ self.now }
+    {
+        Pairs {
+            inputs: self.inputs,
+            below: self.below,
+        }
+    }
+}
+
+#[cfg(test)]
+mod tests;
