@@ -5,8 +5,13 @@ use order_model::Counting;
 use report::minorder;
 use std::alloc::{AllocError, Global};
 use std::env;
-use std::io;
 use std::process::ExitCode;
+
+/// The status where the words of the command line can't be taken over.
+const WORDS_STATUS: u8 = 2;
+
+/// The status of want of memory.
+const MEMORY_STATUS: u8 = 4;
 
 /// The words of a command line.
 fn borrowed(alloc: Global, words: &[String]) -> Result<Vec<&str>, AllocError> {
@@ -17,14 +22,17 @@ fn borrowed(alloc: Global, words: &[String]) -> Result<Vec<&str>, AllocError> {
     Ok(borrowed)
 }
 
-fn main(rt: HostRuntime) -> io::Result<ExitCode> {
-    let alloc = rt.alloc();
-    let mut words = Vec::new(alloc);
-    for word in env::args(&rt)?.skip(1) {
-        words.push(word)?;
-    }
+fn main(rt: HostRuntime) -> ExitCode {
+    let Ok(words) = env::args(&rt) else {
+        return ExitCode::from(WORDS_STATUS);
+    };
+    let Ok(words) = words.skip(1).collect::<Vec<String>>(rt.alloc()) else {
+        return ExitCode::from(MEMORY_STATUS);
+    };
+    let Ok(words) = borrowed(rt.alloc(), &words) else {
+        return ExitCode::from(MEMORY_STATUS);
+    };
     let mut out = Counting::new(rt.stdout());
     let mut err = Counting::new(rt.stderr());
-    let words = borrowed(alloc, &words)?;
-    Ok(ExitCode::from(minorder(&rt, &words, &mut out, &mut err)))
+    ExitCode::from(minorder(&rt, &words, &mut out, &mut err))
 }
