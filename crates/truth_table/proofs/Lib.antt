@@ -1,1 +1,7 @@
-
+pub mod Literals
+pub mod FixedBits
+pub mod PairNumbers
+pub mod LevelSteps
+pub mod LeafClasses
+pub mod TermWords
+pub mod Cofactors

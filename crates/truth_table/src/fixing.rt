@@ -33,19 +33,35 @@ fn fixed_word(word: u64, x: VarIx, upper: bool) -> u64
     half | (half << step)
 }
 
+/// Fixes variable x, below 6, in each word.
+fn fix_halves(words: &mut [u64], x: VarIx, upper: bool)
+    requires { x < 6 }
+    ensures { (i k : ℕ) → i < length words.new → k < 64 → bit_at (slice_index words.new i) k ≡ bit_at (slice_index words.old i) (fixed_bit x upper k) }
+{
+    for word in words.iter_mut() {
+        *word = fixed_word(*word, x, upper);
+    }
+}
+
+/// A place with bit r made `upper`.
+fn fixed_place(i: usize, r: u8, upper: bool) -> usize
+    requires place { i < 1024 }
+    requires small { r < 10 }
+    ensures { result ≡ fixed_bit r upper i }
+{
+    let bit = (i >> r) & 1;
+    if upper { i + ((1 - bit) << r) } else { i - (bit << r) }
+}
+
 /// Gives each word what stands at its place with bit r made `upper`.
 fn fix_rows(words: &mut [u64], r: u8, upper: bool)
     requires few { length words.old ≤ 1024 }
     requires small { r < 10 }
-    requires room { (i : ℕ) → i < length words.old → bit_at i r ≡ 0 → i + 2 ^ r < length words.old }
+    requires room { (i : ℕ) → i < length words.old → fixed_bit r upper i < length words.old }
     ensures { (i : ℕ) → i < length words.old → slice_index words.new i ≡ slice_index words.old (fixed_bit r upper i) }
 {
-    let step = 1usize << r;
     for i in 0..words.len() {
-        let is_upper = (i >> r) & 1 == 1;
-        if is_upper != upper {
-            words[i] = words[if upper { i + step } else { i - step }];
-        }
+        words[i] = words[fixed_place(i, r, upper)];
     }
 }
 
@@ -62,8 +78,6 @@ pub(crate) fn fix_variable(n: u8, words: &mut [u64], x: VarIx, upper: bool)
     if x >= 6 {
         fix_rows(words, x - 6, upper);
     } else {
-        for word in words.iter_mut() {
-            *word = fixed_word(*word, x, upper);
-        }
+        fix_halves(words, x, upper);
     }
 }

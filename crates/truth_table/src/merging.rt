@@ -1,12 +1,14 @@
 //! Class numbers of subfunctions, level by level.
 
-ghost use Rattle.std.specs.Prelude.{◌≡◌, ◌+◌, ◌*◌, ◌<◌, ◌≤◌, ◌^◌, ℕ, length, IfOk};
+ghost use Rattle.std.specs.Prelude.{◌≡◌, ◌++◌, ◌/◌, ◌<◌, ◌≤◌, ◌^◌, bit_or, cond, length, map, IfOk, OnOk};
 ghost use Rattle.std.specs.List.{All};
+ghost use Rattle.order_model.specs.Problems.{packed_bit};
 ghost use Rattle.truth_table.specs.Assignments.{assignments};
 ghost use Rattle.truth_table.specs.Numberings.{IsNumbering, pairs_of, unequal_count};
 
 use indexmap::IndexSet;
 use order_model::VarIx;
+use order_model::packed::bit_of;
 use std::alloc::{AllocError, Global};
 
 /// The numbers of pairs, and how many distinct pairs have unequal parts.
@@ -38,6 +40,18 @@ pub(crate) fn merge(alloc: Global, classes: &[u32]) -> Result<Merged, AllocError
     Ok(Merged { numbers, unequal })
 }
 
+/// Puts each point once more behind the points, with the value 1 for a variable.
+fn push_upper(points: &mut Vec<u32>, x: VarIx) -> Result<(), AllocError>
+    requires { x < 16 }
+    ensures { OnOk result (points.new.items ≡ points.old.items ++ map (λ k. bit_or k (2 ^ x)) points.old.items) }
+{
+    for i in 0..points.len() {
+        let upper = points[i] | 1 << x;
+        points.push(upper)?;
+    }
+    Ok(())
+}
+
 /// The numbers of the points of all assignments of some variables, the first variable as the highest bit of the place.
 pub(crate) fn assignment_points(alloc: Global, variables: &[VarIx]) -> Result<Vec<u32>, AllocError>
     requires small { All (λ x. x < 16) variables.now }
@@ -46,10 +60,19 @@ pub(crate) fn assignment_points(alloc: Global, variables: &[VarIx]) -> Result<Ve
 {
     let mut points = Vec::with_capacity(alloc, 1usize << variables.len())?;
     points.push(0u32)?;
-    for x in variables.iter().rev() {
-        for i in 0..points.len() {
-            points.push(points[i] | 1 << *x)?;
-        }
+    for i in (0..variables.len()).rev() {
+        push_upper(&mut points, variables[i])?;
     }
     Ok(points)
+}
+
+/// Puts the values of a packed truth table at some points behind others, as 0 and 1.
+pub(crate) fn push_values(values: &mut Vec<u32>, words: &[u64], points: &[u32]) -> Result<(), AllocError>
+    requires { All (λ k. k / 64 < length words.now) points.now }
+    ensures { OnOk result (values.new.items ≡ values.old.items ++ map (λ k. cond (packed_bit words.now k) 1 0) points.now) }
+{
+    for point in points {
+        values.push(bit_of(words, *point as usize) as u32)?;
+    }
+    Ok(())
 }

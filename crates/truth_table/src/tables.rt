@@ -12,9 +12,8 @@ ghost use Rattle.std.specs.List.{All};
 
 use crate::covering::packed_words;
 use crate::fixing::fix_variable;
-use crate::merging::{assignment_points, merge};
+use crate::merging::{assignment_points, merge, push_values};
 use crate::row::Row;
-use order_model::packed::bit_of;
 use order_model::{Mask, Order, Problem};
 use pla_reader::Cover;
 use std::alloc::{AllocError, Global};
@@ -82,16 +81,14 @@ impl Tables {
     }
 
     /// The values of all outputs at some points, as 0 and 1.
-    fn values(&self, alloc: Global, points: &[u32]) -> Result<Vec<u32>, AllocError>
-        requires { All (λ k. k < 2 ^ self.now.inputs) points.now }
+    fn values(&self, alloc: Global, outputs: u8, points: &[u32]) -> Result<Vec<u32>, AllocError>
+        requires outputs { outputs ≡ outputs_of self.now }
+        requires points { All (λ k. k < 2 ^ self.now.inputs) points.now }
         ensures { IfOk result (λ v. v.items ≡ values_at points.now self.now.tables) }
     {
         let mut values = Vec::new(alloc);
-        for output in 0..self.problem.outputs() {
-            let words = self.problem.words(output);
-            for point in points {
-                values.push(bit_of(words, *point as usize) as u32)?;
-            }
+        for output in 0..outputs {
+            push_values(&mut values, self.problem.words(output), points)?;
         }
         Ok(values)
     }
@@ -104,7 +101,7 @@ impl Tables {
     {
         let n = order.len();
         let points = assignment_points(alloc, order.variables())?;
-        let mut classes = self.values(alloc, &points)?;
+        let mut classes = self.values(alloc, self.problem.outputs(), &points)?;
         let mut counts = vec![in alloc; 0u32; n]?;
         for level in (0..n).rev() {
             let above = merge(alloc, &classes)?;

@@ -1,0 +1,360 @@
+-- Numbers, words and truth tables with one bit or variable fixed.
+--     flip      a bit where its power is added
+--     fixed_inside      a number below 2 ^ n stays below it
+--     number-fixed      the number of a point with a variable set
+--     word_bit      the word that the masked halves make
+--     table_by      a truth table from its values
+--     fixed_table_low, fixed_table_high      the truth table in words that are fixed within, or whole
+--     fixed_clean_low, fixed_clean_high      nothing stands behind the last point
+use Rattle.std.proofs.Common.{◌≡◌, ◌≢◌, ℕ, zero, suc, ◌+◌, ◌-◌, ◌*◌, ◌/◌, ◌%◌, ◌^◌, ◌<◌, ◌≤◌, Bool, true, false, cond, ◌⊎◌, inl, inr, List, [], ◌∷◌, length, get_or, set, refl, sym, ap, ◌∙◌, arith, subst, eqb, min, max, bit_and, bit_or}
+use Rattle.std.specs.Int.{bit_at}
+use Rattle.std.proofs.Math.Nat.{add-mul-div_right}
+use Rattle.std.proofs.lemmas.Bool.{cases_eq, cases_lt}
+use Rattle.std.proofs.lemmas.List.{set-get_or, length-set, get_or-set_same, get_or-set_other}
+use Rattle.std.proofs.lemmas.Nat.{pow_pos}
+use Rattle.std.proofs.lemmas.Nat.Bits.{bit_at-lt, bit_at-zero, bit_at_and, bit_at_or, bit_at_above, bit_at_cat_low, bit_at_cat_high}
+use Rattle.order_model.specs.Functions.{Point, Function, number, from_table, restrict, SameFunction, table}
+use Rattle.order_model.specs.Problems.{IsClean, packed_bit, table_in, words_per_table}
+use Rattle.order_model.proofs.Numbers.{table-from_table}
+use Rattle.order_model.proofs.PackedProblems.{length-table_in}
+use Rattle.order_model.proofs.PackedTables.{table_value, value_at_word, whole_words}
+use Rattle.order_model.proofs.PackedWords.{shifted_bit, step_is}
+use Rattle.order_model.proofs.PointNumbers.{weight, number-small, bit-number, number-raised, room_above}
+use Rattle.order_model.proofs.Tables.{table_same}
+use Rattle.truth_table.specs.Fixing.{fixed_bit}
+use Rattle.truth_table.proofs.Literals.{low_bit, high_bit}
+
+-- ---- numbers
+
+pub flip : (m x : ℕ) → bit_at (m + 2 ^ x) x ≡ 1 - bit_at m x
+flip m x =
+    let e : m + 2 ^ x ≡ m + 1 * 2 ^ x = omega arith in
+    let d = ap (λ z. z / 2 ^ x) e ∙ add-mul-div_right m 1 (pow_pos x) in
+    ap (λ z. z % 2) d ∙ omega arith
+
+-- a number whose bit x is 1 is at least 2 ^ x, and its bit is 0 without it
+bit_there : (k x : ℕ) → bit_at k x ≡ 1 → 2 ^ x ≤ k
+bit_there k x e = elim (cases_lt k (2 ^ x)) [
+  | inl lt ↦ (let z = bit_at_above k x x lt (omega arith) in absurd (omega arith))
+  | inr ge ↦ ge
+]
+
+bit_without : (k x : ℕ) → bit_at k x ≡ 1 → bit_at (k - 2 ^ x) x ≡ 0
+bit_without k x e =
+    let l = bit_there k x e in
+    let s : k - 2 ^ x + 2 ^ x ≡ k = omega arith in
+    let f = sym (flip (k - 2 ^ x) x) ∙ ap (λ z. bit_at z x) s ∙ e in
+    omega arith
+
+-- the four cases
+up_zero : (k x : ℕ) → bit_at k x ≡ 0 → fixed_bit x true k ≡ k + 2 ^ x
+up_zero k x e = ap (λ z. k + (1 - z) * 2 ^ x) e ∙ omega arith
+
+up_one : (k x : ℕ) → bit_at k x ≡ 1 → fixed_bit x true k ≡ k
+up_one k x e = ap (λ z. k + (1 - z) * 2 ^ x) e ∙ omega arith
+
+down_zero : (k x : ℕ) → bit_at k x ≡ 0 → fixed_bit x false k ≡ k
+down_zero k x e = ap (λ z. k - z * 2 ^ x) e ∙ omega arith
+
+down_one : (k x : ℕ) → bit_at k x ≡ 1 → fixed_bit x false k ≡ k - 2 ^ x
+down_one k x e = ap (λ z. k - z * 2 ^ x) e ∙ omega arith
+
+cases_bit : (k x : ℕ) → (bit_at k x ≡ 0) ⊎ (bit_at k x ≡ 1)
+cases_bit k x = by (bit_at k x) (bit_at-lt k x)
+  where
+    by : (b : ℕ) → b < 2 → (b ≡ 0) ⊎ (b ≡ 1)
+    by zero h = inl refl
+    by (suc zero) h = inr refl
+    by (suc (suc b)) h = absurd (omega arith)
+
+-- a step of few places
+step_bound : (r : ℕ) → r < 10 → (1 ≤ 2 ^ r) × (2 ^ r ≤ 512)
+step_bound zero h = (omega arith, omega arith)
+step_bound (suc zero) h = (omega arith, omega arith)
+step_bound (suc (suc zero)) h = (omega arith, omega arith)
+step_bound (suc (suc (suc zero))) h = (omega arith, omega arith)
+step_bound (suc (suc (suc (suc zero)))) h = (omega arith, omega arith)
+step_bound (suc (suc (suc (suc (suc zero))))) h = (omega arith, omega arith)
+step_bound (suc (suc (suc (suc (suc (suc zero)))))) h = (omega arith, omega arith)
+step_bound (suc (suc (suc (suc (suc (suc (suc zero))))))) h = (omega arith, omega arith)
+step_bound (suc (suc (suc (suc (suc (suc (suc (suc zero)))))))) h = (omega arith, omega arith)
+step_bound (suc (suc (suc (suc (suc (suc (suc (suc (suc zero))))))))) h = (omega arith, omega arith)
+step_bound (suc (suc (suc (suc (suc (suc (suc (suc (suc (suc r)))))))))) h = absurd (omega arith)
+
+-- a number below 2 ^ n stays below it
+pub fixed_inside : (n x : ℕ) (b : Bool) (k : ℕ) → x < n → k < 2 ^ n → fixed_bit x b k < 2 ^ n
+fixed_inside n x true k small h = elim (cases_bit k x) [
+  | inl e ↦ (let r = room_above n k x h small e in let f = up_zero k x e in omega arith)
+  | inr e ↦ (let f = up_one k x e in omega arith)
+]
+fixed_inside n x false k small h = omega arith
+
+-- fixing a bit twice is fixing it once
+fixed_twice : (x : ℕ) (b : Bool) (k : ℕ) → fixed_bit x b (fixed_bit x b k) ≡ fixed_bit x b k
+fixed_twice x true k = elim (cases_bit k x) [
+  | inl e ↦
+    let f = up_zero k x e in
+    let t = flip k x in
+    let one : bit_at (k + 2 ^ x) x ≡ 1 = omega arith in
+    ap (fixed_bit x true) f ∙ up_one (k + 2 ^ x) x one ∙ sym f
+  | inr e ↦ ap (fixed_bit x true) (up_one k x e)
+]
+fixed_twice x false k = elim (cases_bit k x) [
+  | inl e ↦ ap (fixed_bit x false) (down_zero k x e)
+  | inr e ↦ (let f = down_one k x e in ap (fixed_bit x false) f ∙ down_zero (k - 2 ^ x) x (bit_without k x e) ∙ sym f)
+]
+
+-- where the program computes it
+pub raised_step : (i r bit : ℕ) → r < 10 → i < 1024 → bit ≡ bit_at i r → (bit ≤ 1) × ((1 - bit) * 2 ^ r % 18446744073709551616 ≡ (1 - bit_at i r) * 2 ^ r) × ((1 - bit) * 2 ^ r ≤ 512)
+raised_step i r bit h k e =
+    let p = step_bound r h in
+    let l = bit_at-lt i r in
+    let s : (1 - bit) * 2 ^ r ≤ 512 = by bit (omega arith) in
+    (omega arith, omega arith ∙ ap (λ z. (1 - z) * 2 ^ r) e, s)
+  where
+    by : (b : ℕ) → b < 2 → (1 - b) * 2 ^ r ≤ 512
+    by zero l = let p = step_bound r h in omega arith
+    by (suc zero) l = omega arith
+    by (suc (suc b)) l = absurd (omega arith)
+
+pub lowered_step : (i r bit : ℕ) → r < 10 → i < 1024 → bit ≡ bit_at i r → (bit * 2 ^ r % 18446744073709551616 ≡ bit_at i r * 2 ^ r) × (bit * 2 ^ r ≤ i)
+lowered_step i r bit h k e =
+    let s : bit * 2 ^ r ≤ i = ap_le (cases_bit i r) in
+    (omega arith ∙ ap (λ z. z * 2 ^ r) e, s)
+  where
+    ap_le : (bit_at i r ≡ 0) ⊎ (bit_at i r ≡ 1) → bit * 2 ^ r ≤ i
+    ap_le (inl z) = let f = ap (λ y. y * 2 ^ r) (e ∙ z) in omega arith
+    ap_le (inr o) = let f = ap (λ y. y * 2 ^ r) (e ∙ o) in let t = bit_there i r o in omega arith
+
+-- and one that isn't below it doesn't come below it
+fixed_outside : (n x : ℕ) (b : Bool) (k : ℕ) → x < n → 2 ^ n ≤ k → 2 ^ n ≤ fixed_bit x b k
+fixed_outside n x true k small h = omega arith
+fixed_outside n x false k small h = elim (cases_bit k x) [
+  | inl e ↦ (let f = down_zero k x e in omega arith)
+  | inr e ↦
+    let f = down_one k x e in
+    elim (cases_lt (k - 2 ^ x) (2 ^ n)) [
+      | inl lt ↦ (let r = room_above n (k - 2 ^ x) x lt small (bit_without k x e) in let l = bit_there k x e in absurd (omega arith))
+      | inr ge ↦ omega arith
+    ]
+]
+
+-- one more place is given the word at its fixed place
+pub row_done : (old now : List ℕ) (r : ℕ) (b : Bool) (i v : ℕ) → i < length now → v ≡ get_or now (fixed_bit r b i) 0 →
+    ((j : ℕ) → j < i → get_or now j 0 ≡ get_or old (fixed_bit r b j) 0) → ((j : ℕ) → i ≤ j → get_or now j 0 ≡ get_or old j 0) →
+    (j : ℕ) → j < i + 1 → get_or (set now i v) j 0 ≡ get_or old (fixed_bit r b j) 0
+row_done old now r b i v h read done rest j l = elim (cases_eq j i) [
+  | inl e ↦ ap (λ z. get_or (set now i v) z 0) e ∙ get_or-set_same now i v 0 h ∙ read ∙ from ∙ sym (ap (λ z. get_or old (fixed_bit r b z) 0) e)
+  | inr ne ↦ get_or-set_other now i j v 0 ne ∙ done j (omega arith)
+]
+  where
+    from : get_or now (fixed_bit r b i) 0 ≡ get_or old (fixed_bit r b i) 0
+    from = elim (cases_lt (fixed_bit r b i) i) [
+      | inl lt ↦ done (fixed_bit r b i) lt ∙ ap (λ z. get_or old z 0) (fixed_twice r b i)
+      | inr ge ↦ rest (fixed_bit r b i) ge
+    ]
+
+pub row_rest : (old now : List ℕ) (i v : ℕ) → ((j : ℕ) → i ≤ j → get_or now j 0 ≡ get_or old j 0) → (j : ℕ) → i + 1 ≤ j → get_or (set now i v) j 0 ≡ get_or old j 0
+row_rest old now i v rest j l =
+    let ne : j ≢ i = omega arith in
+    get_or-set_other now i j v 0 ne ∙ rest j (omega arith)
+
+-- the number of a point with a variable set
+pub number-fixed : (p : Point) (x : ℕ) (b : Bool) → x < length p → number (set p x b) ≡ fixed_bit x b (number p)
+number-fixed p x b h = by (get_or p x false) refl b
+  where
+    raised : number (set p x true) ≡ number (set p x false) + 2 ^ x
+    raised = number-raised p x h
+
+    by : (c : Bool) → get_or p x false ≡ c → (d : Bool) → number (set p x d) ≡ fixed_bit x d (number p)
+    by true e d =
+        let same : number (set p x true) ≡ number p = ap number (ap (set p x) (sym e) ∙ set-get_or p x false) in
+        let one : bit_at (number p) x ≡ 1 = bit-number p x h ∙ ap weight e in
+        pick d
+      where
+        pick : (d : Bool) → number (set p x d) ≡ fixed_bit x d (number p)
+        pick true =
+            let same : number (set p x true) ≡ number p = ap number (ap (set p x) (sym e) ∙ set-get_or p x false) in
+            same ∙ sym (up_one (number p) x (bit-number p x h ∙ ap weight e))
+        pick false =
+            let same : number (set p x true) ≡ number p = ap number (ap (set p x) (sym e) ∙ set-get_or p x false) in
+            let r = raised in
+            let f = down_one (number p) x (bit-number p x h ∙ ap weight e) in
+            omega arith
+    by false e d = pick d
+      where
+        pick : (d : Bool) → number (set p x d) ≡ fixed_bit x d (number p)
+        pick true =
+            let same : number (set p x false) ≡ number p = ap number (ap (set p x) (sym e) ∙ set-get_or p x false) in
+            let r = raised in
+            let f = up_zero (number p) x (bit-number p x h ∙ ap weight e) in
+            omega arith
+        pick false =
+            let same : number (set p x false) ≡ number p = ap number (ap (set p x) (sym e) ∙ set-get_or p x false) in
+            same ∙ sym (down_zero (number p) x (bit-number p x h ∙ ap weight e))
+
+-- a place of a table's words, with a bit of a variable from 6 on fixed
+pub fixed_rows_room : (n x : ℕ) (b : Bool) (words : List ℕ) → 6 ≤ x → x < n → length words ≡ words_per_table n → (i : ℕ) → i < length words → fixed_bit (x - 6) b i < length words
+fixed_rows_room n x b words high small long i h = elim (whole_words n) [
+  | inl w ↦
+    let l = long ∙ w.2 in
+    let f = fixed_inside (n - 6) (x - 6) b i (omega arith) (omega arith) in
+    omega arith
+  | inr w ↦ absurd (omega (arith, w.0))
+]
+
+-- ---- words
+
+-- a word shifted up
+raised_low : (h s k : ℕ) → k < 64 → k < s → bit_at (h * 2 ^ s % 2 ^ 64) k ≡ 0
+raised_low h s k lt low =
+    let e : h * 2 ^ s ≡ (h * 2 ^ s / 2 ^ 64) * 2 ^ 64 + h * 2 ^ s % 2 ^ 64 = omega arith in
+    let z : h * 2 ^ s ≡ h * 2 ^ s + 0 = omega arith in
+    sym (ap (λ w. bit_at w k) e ∙ bit_at_cat_low (h * 2 ^ s / 2 ^ 64) 64 (h * 2 ^ s % 2 ^ 64) k lt) ∙ ap (λ w. bit_at w k) z ∙ bit_at_cat_low h s 0 k low ∙ bit_at-zero k
+
+raised_high : (h s k : ℕ) → k < 64 → s ≤ k → bit_at (h * 2 ^ s % 2 ^ 64) k ≡ bit_at h (k - s)
+raised_high h s k lt high =
+    let e : h * 2 ^ s ≡ (h * 2 ^ s / 2 ^ 64) * 2 ^ 64 + h * 2 ^ s % 2 ^ 64 = omega arith in
+    let z : h * 2 ^ s ≡ h * 2 ^ s + 0 = omega arith in
+    sym (ap (λ w. bit_at w k) e ∙ bit_at_cat_low (h * 2 ^ s / 2 ^ 64) 64 (h * 2 ^ s % 2 ^ 64) k lt) ∙ ap (λ w. bit_at w k) z ∙ bit_at_cat_high h s 0 k (pow_pos s) high
+
+module _ (from lower x : ℕ) (small : x < 6) (low : (b : ℕ) → b < 64 → bit_at lower b ≡ 1 - bit_at b x) where
+  half : ℕ
+  half = bit_and from lower
+
+  half_bit : (k : ℕ) → k < 64 → bit_at half k ≡ min (bit_at from k) (1 - bit_at k x)
+  unfolding half
+  half_bit k h = bit_at_and from lower k ∙ ap (min (bit_at from k)) (low k h)
+
+  -- both halves of a word are the masked half
+  doubled : ℕ → ℕ
+  doubled step = bit_or half (half * 2 ^ step % 2 ^ 64)
+
+  below_half : (k : ℕ) → k < 64 → bit_at k x ≡ 0 → bit_at (half * 2 ^ (2 ^ x) % 2 ^ 64) k ≡ 0
+  below_half k h e = elim (cases_lt k (2 ^ x)) [
+    | inl lt ↦ raised_low half (2 ^ x) k h lt
+    | inr ge ↦
+      let s : k - 2 ^ x + 2 ^ x ≡ k = omega arith in
+      let f = sym (flip (k - 2 ^ x) x) ∙ ap (λ z. bit_at z x) s ∙ e in
+      let l = bit_at-lt (k - 2 ^ x) x in
+      let b = half_bit (k - 2 ^ x) (omega arith) in
+      raised_high half (2 ^ x) k h ge ∙ omega arith
+  ]
+
+  pub doubled_zero : (k : ℕ) → k < 64 → bit_at k x ≡ 0 → bit_at (bit_or (bit_and from lower) (bit_and from lower * 2 ^ (2 ^ x) % 2 ^ 64)) k ≡ bit_at from k
+  unfolding half
+  doubled_zero k h e =
+      let a = half_bit k h in
+      let b = below_half k h e in
+      let l = bit_at-lt from k in
+      bit_at_or half (half * 2 ^ (2 ^ x) % 2 ^ 64) k ∙ omega arith
+
+  pub doubled_one : (k : ℕ) → k < 64 → bit_at k x ≡ 1 → bit_at (bit_or (bit_and from lower) (bit_and from lower * 2 ^ (2 ^ x) % 2 ^ 64)) k ≡ bit_at from (k - 2 ^ x)
+  unfolding half
+  doubled_one k h e =
+      let there = bit_there k x e in
+      let without = bit_without k x e in
+      let a = half_bit k h in
+      let c = half_bit (k - 2 ^ x) (omega arith) in
+      let b = raised_high half (2 ^ x) k h there in
+      let l = bit_at-lt from k in
+      let m = bit_at-lt from (k - 2 ^ x) in
+      bit_at_or half (half * 2 ^ (2 ^ x) % 2 ^ 64) k ∙ omega arith
+
+module _ (word lower x : ℕ) (small : x < 6) (low : (b : ℕ) → b < 64 → bit_at lower b ≡ 1 - bit_at b x) where
+  pub upper_bit : (k : ℕ) → k < 64 → bit_at (bit_or (bit_and (word / 2 ^ (2 ^ x)) lower) (bit_and (word / 2 ^ (2 ^ x)) lower * 2 ^ (2 ^ x) % 2 ^ 64)) k ≡ bit_at word (fixed_bit x true k)
+  upper_bit k h = elim (cases_bit k x) [
+    | inl e ↦ doubled_zero (word / 2 ^ (2 ^ x)) lower x small low k h e ∙ shifted_bit word (2 ^ x) k ∙ sym (ap (bit_at word) (up_zero k x e))
+    | inr e ↦
+      let there = bit_there k x e in
+      let s : k - 2 ^ x + 2 ^ x ≡ k = omega arith in
+      doubled_one (word / 2 ^ (2 ^ x)) lower x small low k h e ∙ shifted_bit word (2 ^ x) (k - 2 ^ x) ∙ ap (bit_at word) (s ∙ sym (up_one k x e))
+  ]
+
+  pub lower_bit : (k : ℕ) → k < 64 → bit_at (bit_or (bit_and word lower) (bit_and word lower * 2 ^ (2 ^ x) % 2 ^ 64)) k ≡ bit_at word (fixed_bit x false k)
+  lower_bit k h = elim (cases_bit k x) [
+    | inl e ↦ doubled_zero word lower x small low k h e ∙ sym (ap (bit_at word) (down_zero k x e))
+    | inr e ↦ doubled_one word lower x small low k h e ∙ sym (ap (bit_at word) (down_one k x e))
+  ]
+
+-- ---- truth tables
+
+-- a truth table from its values
+pub table_by : (n : ℕ) (t : List Bool) (g : Function) → length t ≡ 2 ^ n → ((p : Point) → length p ≡ n → get_or t (number p) false ≡ g p) → t ≡ table n g
+unfolding SameFunction from_table
+table_by n t g l h = sym (table-from_table n t l) ∙ table_same n (from_table t) g h
+
+module _ (n x : ℕ) (b : Bool) (old new : List ℕ) (small : x < n) where
+  -- where each point has the value of the point with the bit made b, the words hold the restriction
+  pub fixed_table : ((k : ℕ) → k < 2 ^ n → packed_bit new k ≡ packed_bit old (fixed_bit x b k)) → table_in n new ≡ table n (restrict x b (from_table (table_in n old)))
+  unfolding restrict from_table
+  fixed_table h = table_by n (table_in n new) (restrict x b (from_table (table_in n old))) (length-table_in n new) (λ p l.
+      let s : number p < 2 ^ n = subst (λ (z : ℕ). number p < 2 ^ z) l (number-small p) in
+      let f = number-fixed p x b (omega arith) in
+      let i = fixed_inside n x b (number p) small s in
+      table_value n new (number p) s ∙ h (number p) s ∙ sym (ap (λ z. get_or (table_in n old) z false) f ∙ table_value n old (fixed_bit x b (number p)) i))
+
+  -- variables below 6: within each word
+  module _ (low : x < 6) (same : (i c : ℕ) → i < length new → c < 64 → bit_at (get_or new i 0) c ≡ bit_at (get_or old i 0) (fixed_bit x b c)) where
+    fixed_low : (i c : ℕ) → c < 64 → fixed_bit x b (64 * i + c) ≡ 64 * i + fixed_bit x b c
+    fixed_low i c h = by b
+      where
+        by : (d : Bool) → fixed_bit x d (64 * i + c) ≡ 64 * i + fixed_bit x d c
+        by true = ap (λ z. 64 * i + c + (1 - z) * 2 ^ x) (low_bit i c x low) ∙ omega arith
+        by false = elim (cases_bit c x) [
+          | inl e ↦ down_zero (64 * i + c) x (low_bit i c x low ∙ e) ∙ sym (ap (λ z. 64 * i + z) (down_zero c x e))
+          | inr e ↦ (let l = bit_there c x e in down_one (64 * i + c) x (low_bit i c x low ∙ e) ∙ omega arith ∙ sym (ap (λ z. 64 * i + z) (down_one c x e)))
+        ]
+
+    value_low : (i c : ℕ) → i < length new → c < 64 → packed_bit new (64 * i + c) ≡ packed_bit old (fixed_bit x b (64 * i + c))
+    value_low i c l h =
+        value_at_word new i c h ∙ ap (λ z. eqb z 1) (same i c l h) ∙ sym (ap (packed_bit old) (fixed_low i c h) ∙ value_at_word old i (fixed_bit x b c) (fixed_inside 6 x b c low h))
+
+    pub fixed_table_low : length new ≡ words_per_table n → table_in n new ≡ table n (restrict x b (from_table (table_in n old)))
+    fixed_table_low long = fixed_table (λ k h.
+        let e : 64 * (k / 64) + k % 64 ≡ k = omega arith in
+        subst (λ (z : ℕ). packed_bit new z ≡ packed_bit old (fixed_bit x b z)) e (value_low (k / 64) (k % 64) (omega arith) (omega arith)))
+
+    pub fixed_clean_low : length new ≡ length old → ((i : ℕ) → i < length new → get_or new i 0 < 2 ^ 64) → IsClean n old → IsClean n new
+    fixed_clean_low long fits clean i c l big = elim (cases_lt c 64) [
+      | inl lt ↦ same i c l lt ∙ clean i (fixed_bit x b c) (omega arith) (fixed_outside n x b c small big)
+      | inr ge ↦ bit_at_above (get_or new i 0) 64 c (fits i l) ge
+    ]
+
+  -- variables from 6 on: whole words
+  module _ (high : 6 ≤ x) (same : (i : ℕ) → i < length new → get_or new i 0 ≡ get_or old (fixed_bit (x - 6) b i) 0) where
+    step_split : 2 ^ x ≡ 64 * 2 ^ (x - 6)
+    step_split = elim (whole_words x) [ inl w ↦ w.1 | inr w ↦ absurd (omega (arith, w.0)) ]
+
+    fixed_high : (i c : ℕ) → c < 64 → fixed_bit x b (64 * i + c) ≡ 64 * fixed_bit (x - 6) b i + c
+    fixed_high i c h = by b (cases_bit i (x - 6))
+      where
+        bits : bit_at (64 * i + c) x ≡ bit_at i (x - 6)
+        bits = high_bit i c x h high
+
+        by : (d : Bool) → (bit_at i (x - 6) ≡ 0) ⊎ (bit_at i (x - 6) ≡ 1) → fixed_bit x d (64 * i + c) ≡ 64 * fixed_bit (x - 6) d i + c
+        by true (inl e) = let s = step_split in up_zero (64 * i + c) x (bits ∙ e) ∙ omega arith ∙ sym (ap (λ z. 64 * z + c) (up_zero i (x - 6) e))
+        by true (inr e) = up_one (64 * i + c) x (bits ∙ e) ∙ sym (ap (λ z. 64 * z + c) (up_one i (x - 6) e))
+        by false (inl e) = down_zero (64 * i + c) x (bits ∙ e) ∙ sym (ap (λ z. 64 * z + c) (down_zero i (x - 6) e))
+        by false (inr e) =
+            let s = step_split in
+            let l = bit_there i (x - 6) e in
+            down_one (64 * i + c) x (bits ∙ e) ∙ omega arith ∙ sym (ap (λ z. 64 * z + c) (down_one i (x - 6) e))
+
+    value_high : (i c : ℕ) → i < length new → c < 64 → packed_bit new (64 * i + c) ≡ packed_bit old (fixed_bit x b (64 * i + c))
+    value_high i c l h =
+        value_at_word new i c h ∙ ap (λ z. eqb (bit_at z c) 1) (same i l) ∙ sym (ap (packed_bit old) (fixed_high i c h) ∙ value_at_word old (fixed_bit (x - 6) b i) c h)
+
+    pub fixed_table_high : length new ≡ words_per_table n → table_in n new ≡ table n (restrict x b (from_table (table_in n old)))
+    fixed_table_high long = fixed_table (λ k h.
+        let e : 64 * (k / 64) + k % 64 ≡ k = omega arith in
+        subst (λ (z : ℕ). packed_bit new z ≡ packed_bit old (fixed_bit x b z)) e (value_high (k / 64) (k % 64) (omega arith) (omega arith)))
+
+    pub fixed_clean_high : ((i : ℕ) → i < length new → get_or new i 0 < 2 ^ 64) → IsClean n new
+    fixed_clean_high fits i c l big = elim (whole_words n) [
+      | inl w ↦
+        let s = w.1 in
+        let p = pow_pos (n - 6) in
+        bit_at_above (get_or new i 0) 64 c (fits i l) (omega arith)
+      | inr w ↦ absurd (omega (arith, w.0))
+    ]

@@ -1,0 +1,299 @@
+-- Class numbers of the subfunctions of a level, from those of the level below.
+--     reach_last      the subfunctions below a level, from those above it
+--     Tells n fs cs      two functions have one number just where they are the same
+--     tells_above, dependents_are_pairs      the numbers of the pairs, and the count of unequal ones
+use Rattle.std.proofs.Common.{◌≡◌, ◌≢◌, ◌↔◌, ℕ, zero, suc, ◌+◌, ◌-◌, ◌*◌, ◌/◌, ◌^◌, ◌<◌, ◌≤◌, Bool, true, false, cond, not, nat_eq, List, [], ◌∷◌, ◌++◌, length, map, take, get_or, set, refl, sym, ap, ap₂, ◌∙◌, arith, subst, inl, inr, ◌⊎◌, eqb-true, eq-eqb, pow-suc}
+use Rattle.std.specs.List.{flat_map, filter, range_with_len}
+use Rattle.std.specs.Set.{distinct_count}
+use Rattle.std.proofs.lemmas.List.{get_or-set_other, get_or-set_same, length-append, length-set, length-take-le, take_more}
+use Rattle.std.proofs.lemmas.Nat.{pow-add, pow_pos}
+use Rattle.std.proofs.Math.Nat.{mul-le-mul_right}
+use Rattle.std.proofs.lemmas.Bool.{cases_eq}
+use Rattle.std.proofs.lemmas.List.Concat.{flat_map-append}
+use Rattle.std.proofs.lemmas.List.FromFn.{fill_by_all}
+use Rattle.order_model.specs.Functions.{Point, Function, bit, restrict, SameFunction, table, same_table, depends}
+use Rattle.order_model.specs.Levels.{subfunctions, reach, dependents, level_count, level_counts}
+use Rattle.order_model.specs.Widths.{same_pair}
+use Rattle.order_model.proofs.ClassPairs.{count_alike, pair_decides}
+use Rattle.order_model.proofs.Construction.{own_restriction}
+use Rattle.order_model.proofs.OrderLists.{same_bool}
+use Rattle.order_model.proofs.Sets.{Among, among_from_filter}
+use Rattle.order_model.proofs.Tables.{restrict_same, table_same, same_from_table, same_table_decides}
+use Rattle.truth_table.specs.Numberings.{IsNumbering, is_unequal, pair_at, pairs_of, unequal_count}
+use Rattle.truth_table.proofs.PairNumbers.{length-pairs_of, get_or-pairs_of}
+
+-- ---- subfunctions in parts
+
+flat_map_parts : {X Y Z : Type 0} (g : Y → List Z) (f : X → List Y) (xs : List X) → flat_map g (flat_map f xs) ≡ flat_map (λ x. flat_map g (f x)) xs
+flat_map_parts g f [] = refl
+flat_map_parts g f (x ∷ xs) = flat_map-append g (f x) (flat_map f xs) ∙ ap (λ zs. flat_map g (f x) ++ zs) (flat_map_parts g f xs)
+
+subfunctions_parts : (xs ys : List ℕ) (f : Function) → subfunctions (xs ++ ys) f ≡ flat_map (subfunctions ys) (subfunctions xs f)
+unfolding subfunctions
+subfunctions_parts [] ys f = append_nil (subfunctions ys f)
+  where
+    append_nil : (zs : List Function) → zs ≡ zs ++ []
+    append_nil [] = refl
+    append_nil (z ∷ zs) = ap (λ us. z ∷ us) (append_nil zs)
+subfunctions_parts (x ∷ xs) ys f =
+    ap₂ (λ us vs. us ++ vs) (subfunctions_parts xs ys (restrict x false f)) (subfunctions_parts xs ys (restrict x true f))
+    ∙ sym (flat_map-append (subfunctions ys) (subfunctions xs (restrict x false f)) (subfunctions xs (restrict x true f)))
+
+flat_map_same : {X Y : Type 0} (f g : X → List Y) → ((x : X) → f x ≡ g x) → (xs : List X) → flat_map f xs ≡ flat_map g xs
+flat_map_same f g h [] = refl
+flat_map_same f g h (x ∷ xs) = λ i. h x i ++ flat_map_same f g h xs i
+
+-- each function restricted by x both ways
+abbrev pub both_restricted : ℕ → Function → List Function
+both_restricted x g = restrict x false g ∷ restrict x true g ∷ []
+
+abbrev pub restricted : ℕ → List Function → List Function
+restricted x fs = flat_map (both_restricted x) fs
+
+pub reach_last : (F : List Function) (xs : List ℕ) (x : ℕ) → reach F (xs ++ x ∷ []) ≡ restricted x (reach F xs)
+unfolding reach subfunctions
+reach_last F xs x =
+    flat_map_same (subfunctions (xs ++ x ∷ [])) (λ f. flat_map (subfunctions (x ∷ [])) (subfunctions xs f)) (subfunctions_parts xs (x ∷ [])) F
+    ∙ sym (flat_map_parts (subfunctions (x ∷ [])) (subfunctions xs) F)
+
+length-subfunctions : (xs : List ℕ) (f : Function) → length (subfunctions xs f) ≡ 2 ^ length xs
+unfolding subfunctions
+length-subfunctions [] f = refl
+length-subfunctions (x ∷ xs) f =
+    let l = length-subfunctions xs (restrict x false f) in
+    let r = length-subfunctions xs (restrict x true f) in
+    length-append (subfunctions xs (restrict x false f)) (subfunctions xs (restrict x true f)) ∙ omega (arith, pow-suc 2 (length xs))
+
+pub length-reach : (F : List Function) (xs : List ℕ) → length (reach F xs) ≡ length F * 2 ^ length xs
+unfolding reach
+length-reach F xs = go F
+  where
+    go : (fs : List Function) → length (flat_map (subfunctions xs) fs) ≡ length fs * 2 ^ length xs
+    go [] = omega arith
+    go (f ∷ fs) =
+        let r = go fs in
+        let l = length-subfunctions xs f in
+        let e : suc (length fs) * 2 ^ length xs ≡ 2 ^ length xs + length fs * 2 ^ length xs = omega arith in
+        length-append (subfunctions xs f) (flat_map (subfunctions xs) fs) ∙ omega arith
+
+-- ---- functions by their places
+
+abbrev pub none : Function
+none p = false
+
+abbrev pub function_at : List Function → ℕ → Function
+function_at fs j = get_or fs j none
+
+length-restricted : (x : ℕ) (fs : List Function) → length (restricted x fs) ≡ 2 * length fs
+length-restricted x [] = omega arith
+length-restricted x (f ∷ fs) = let r = length-restricted x fs in omega arith
+
+lower_at : (x : ℕ) (fs : List Function) (j : ℕ) → j < length fs → function_at (restricted x fs) (2 * j) ≡ restrict x false (function_at fs j)
+lower_at x [] j h = absurd (omega arith)
+lower_at x (f ∷ fs) zero h = refl
+lower_at x (f ∷ fs) (suc j) h =
+    let e : 2 * suc j ≡ suc (suc (2 * j)) = omega arith in
+    ap (λ z. get_or (restrict x false f ∷ restrict x true f ∷ restricted x fs) z none) e ∙ lower_at x fs j (omega arith)
+
+upper_at : (x : ℕ) (fs : List Function) (j : ℕ) → j < length fs → function_at (restricted x fs) (2 * j + 1) ≡ restrict x true (function_at fs j)
+upper_at x [] j h = absurd (omega arith)
+upper_at x (f ∷ fs) zero h = refl
+upper_at x (f ∷ fs) (suc j) h =
+    let e : 2 * suc j + 1 ≡ suc (suc (2 * j + 1)) = omega arith in
+    ap (λ z. get_or (restrict x false f ∷ restrict x true f ∷ restricted x fs) z none) e ∙ upper_at x fs j (omega arith)
+
+-- two functions have one number just where they are the same
+pub record Tells (n : ℕ) (fs : List Function) (cs : List ℕ) : Type 0 where
+  pub long : length cs ≡ length fs
+  pub apart : (j k : ℕ) → j < length fs → k < length fs → (get_or cs j 0 ≡ get_or cs k 0) ↔ (table n (function_at fs j) ≡ table n (function_at fs k))
+
+-- ---- one level up
+
+among_range : (len a j : ℕ) → Among j (range_with_len a len) → (a ≤ j) × (j < a + len)
+among_range zero a j h = absurd h
+among_range (suc len) a j h = elim h [
+  | inl e ↦ (omega arith, omega arith)
+  | inr r ↦ (let s = among_range len (a + 1) j r in (omega arith, omega arith))
+]
+
+filter_mapped : {X Y : Type 0} (p : X → Bool) (q : Y → Bool) (f : X → Y) (xs : List X) → ((x : X) → Among x xs → p x ≡ q (f x)) → filter q (map f xs) ≡ map f (filter p xs)
+filter_mapped p q f [] h = refl
+filter_mapped p q f (x ∷ xs) h = by (p x) (q (f x)) (h x (inl refl)) (filter_mapped p q f xs (λ y k. h y (inr k)))
+  where
+    by : (b c : Bool) → b ≡ c → filter q (map f xs) ≡ map f (filter p xs) → cond c (f x ∷ filter q (map f xs)) (filter q (map f xs)) ≡ map f (cond b (x ∷ filter p xs) (filter p xs))
+    by b c e r = ap (λ d. cond d (f x ∷ filter q (map f xs)) (filter q (map f xs))) (sym e) ∙ one b r
+      where
+        one : (d : Bool) → filter q (map f xs) ≡ map f (filter p xs) → cond d (f x ∷ filter q (map f xs)) (filter q (map f xs)) ≡ map f (cond d (x ∷ filter p xs) (filter p xs))
+        one true s = ap (λ ys. f x ∷ ys) s
+        one false s = s
+
+map_of_map : {X Y Z : Type 0} (g : Y → Z) (f : X → Y) (xs : List X) → map g (map f xs) ≡ map (λ x. g (f x)) xs
+map_of_map g f [] = refl
+map_of_map g f (x ∷ xs) = ap (λ ys. g (f x) ∷ ys) (map_of_map g f xs)
+
+module _ (n x : ℕ) (fs : List Function) (cs : List ℕ) (t : Tells n (restricted x fs) cs) where
+  half_long : length cs / 2 ≡ length fs
+  half_long =
+      let l = t.long in
+      let r = length-restricted x fs in
+      omega arith
+
+  -- one of the two restrictions of a function
+  place_of : Bool → ℕ → ℕ
+  place_of true j = 2 * j + 1
+  place_of false j = 2 * j
+
+  place_small : (b : Bool) (j : ℕ) → j < length fs → place_of b j < length (restricted x fs)
+  unfolding place_of
+  place_small true j h = let r = length-restricted x fs in omega arith
+  place_small false j h = let r = length-restricted x fs in omega arith
+
+  at_place : (b : Bool) (j : ℕ) → j < length fs → function_at (restricted x fs) (place_of b j) ≡ restrict x b (function_at fs j)
+  unfolding place_of
+  at_place true j h = upper_at x fs j h
+  at_place false j h = lower_at x fs j h
+
+  part : Bool → ℕ → ℕ
+  part b j = get_or cs (place_of b j) 0
+
+  -- equal classes are equal restrictions
+  tells : (b c : Bool) (j k : ℕ) → j < length fs → k < length fs →
+      (part b j ≡ part c k → table n (restrict x b (function_at fs j)) ≡ table n (restrict x c (function_at fs k)))
+      × (table n (restrict x b (function_at fs j)) ≡ table n (restrict x c (function_at fs k)) → part b j ≡ part c k)
+  unfolding part
+  tells b c j k h i =
+      let a = t.apart (place_of b j) (place_of c k) (place_small b j h) (place_small c k i) in
+      let e = ap (table n) (at_place b j h) in
+      let f = ap (table n) (at_place c k i) in
+      (λ s. sym e ∙ a.0 s ∙ f, λ s. a.1 (e ∙ s ∙ sym f))
+
+  pair_parts : (j : ℕ) → pair_at cs j ≡ (part false j, part true j)
+  unfolding part place_of
+  pair_parts j = refl
+
+  both_tell : (j k : ℕ) → j < length fs → k < length fs → (table n (function_at fs j) ≡ table n (function_at fs k) → pair_at cs j ≡ pair_at cs k) × (pair_at cs j ≡ pair_at cs k → table n (function_at fs j) ≡ table n (function_at fs k))
+  unfolding part place_of SameFunction
+  both_tell j k h i = (
+    λ e.
+        let same = same_from_table n (function_at fs j) (function_at fs k) e in
+        let low = (tells false false j k h i).1 (table_same n (restrict x false (function_at fs j)) (restrict x false (function_at fs k)) (restrict_same n x false (function_at fs j) (function_at fs k) same)) in
+        let high = (tells true true j k h i).1 (table_same n (restrict x true (function_at fs j)) (restrict x true (function_at fs k)) (restrict_same n x true (function_at fs j) (function_at fs k) same)) in
+        λ d. (low d, high d),
+    λ e.
+        let low = same_from_table n (restrict x false (function_at fs j)) (restrict x false (function_at fs k)) ((tells false false j k h i).0 (ap (λ u. u.0) e)) in
+        let high = same_from_table n (restrict x true (function_at fs j)) (restrict x true (function_at fs k)) ((tells true true j k h i).0 (ap (λ u. u.1) e)) in
+        table_same n (function_at fs j) (function_at fs k) (λ p l. sym (own_restriction x (function_at fs j) p) ∙ by p (bit p x) (low p l) (high p l) ∙ own_restriction x (function_at fs k) p),
+  )
+    where
+      by : (p : Point) (b : Bool) → restrict x false (function_at fs j) p ≡ restrict x false (function_at fs k) p → restrict x true (function_at fs j) p ≡ restrict x true (function_at fs k) p →
+          restrict x b (function_at fs j) p ≡ restrict x b (function_at fs k) p
+      by p true low high = high
+      by p false low high = low
+
+  -- the numbers of the pairs tell the functions apart
+  pub tells_above : (ns : List ℕ) → IsNumbering (pairs_of cs) ns → Tells n fs ns
+  tells_above ns m =
+      let l = length-pairs_of cs ∙ half_long in
+      record {
+        long = m.long ∙ l;
+        apart = λ j k h i.
+            let a = m.apart j k (omega arith) (omega arith) in
+            let e = get_or-pairs_of cs j (let g = half_long in omega arith) in
+            let f = get_or-pairs_of cs k (let g = half_long in omega arith) in
+            let b = both_tell j k h i in
+            (λ s. b.1 (sym e ∙ a.0 s ∙ f), λ s. a.1 (e ∙ b.0 s ∙ sym f));
+      }
+
+  -- a function depends on x just where its classes are unequal
+  depends_by_parts : (j : ℕ) → j < length fs → depends n (function_at fs j) x ≡ is_unequal (pair_at cs j)
+  unfolding depends part place_of
+  depends_by_parts j h = ap not (same_bool _ _
+      (λ e. eq-eqb _ _ ((tells false true j j h h).1 ((same_table_decides (table n (restrict x false (function_at fs j))) (table n (restrict x true (function_at fs j)))).0 e)))
+      (λ e. (same_table_decides (table n (restrict x false (function_at fs j))) (table n (restrict x true (function_at fs j)))).1 ((tells false true j j h h).0 (eqb-true _ _ e))))
+
+  places : List ℕ
+  places = range_with_len 0 (length fs)
+
+  inside : (j : ℕ) → Among j places → j < length fs
+  unfolding places
+  inside j h = let r = among_range (length fs) 0 j h in omega arith
+
+  -- the functions that depend on x are as many as the pairs with unequal parts
+  pub dependents_are_pairs : dependents n fs x ≡ unequal_count (pairs_of cs)
+  unfolding dependents unequal_count pairs_of places
+  dependents_are_pairs =
+      let kept : ℕ → Bool = λ j. depends n (function_at fs j) x in
+      let all : fs ≡ map (function_at fs) places = fill_by_all (function_at fs) fs (length fs) none refl (λ k h. refl) in
+      let chosen : filter (λ f. depends n f x) fs ≡ map (function_at fs) (filter kept places) =
+      ap (filter (λ f. depends n f x)) all ∙ filter_mapped kept (λ f. depends n f x) (function_at fs) places (λ j h. refl) in
+      let pairs : filter is_unequal (map (pair_at cs) (range_with_len 0 (length cs / 2))) ≡ map (pair_at cs) (filter kept places) =
+      ap (λ z. filter is_unequal (map (pair_at cs) (range_with_len 0 z))) half_long ∙ filter_mapped kept is_unequal (pair_at cs) places (λ j h. depends_by_parts j (inside j h)) in
+      ap (λ gs. distinct_count same_table (map (table n) gs)) chosen ∙ ap (distinct_count same_table) (map_of_map (table n) (function_at fs) (filter kept places))
+      ∙ count_alike same_table same_table_decides same_pair pair_decides (λ j. table n (function_at fs j)) (pair_at cs) (filter kept places)
+      (λ j k a b. both_tell j k (inside j (among_from_filter kept j places a).0) (inside k (among_from_filter kept k places b).0))
+      ∙ ap (distinct_count same_pair) (sym pairs)
+
+-- ---- the levels, from the bottom up
+
+module _ (n : ℕ) (F : List Function) (order : List ℕ) (level : ℕ) (h : level < length order) where
+  reach_level : reach F (take (level + 1) order) ≡ restricted (get_or order level 0) (reach F (take level order))
+  reach_level = ap (reach F) (take_more order level 0 h) ∙ reach_last F (take level order) (get_or order level 0)
+
+  module _ (cs : List ℕ) (t : Tells n (reach F (take (level + 1) order)) cs) where
+    below : Tells n (restricted (get_or order level 0) (reach F (take level order))) cs
+    below = subst (λ (fs : List Function). Tells n fs cs) reach_level t
+
+    pub level_up : (ns : List ℕ) → IsNumbering (pairs_of cs) ns → Tells n (reach F (take level order)) ns
+    level_up ns m = tells_above n (get_or order level 0) (reach F (take level order)) cs below ns m
+
+    pub level_counted : (unequal : ℕ) → unequal ≡ unequal_count (pairs_of cs) → unequal ≡ level_count n F order level
+    unfolding level_count
+    level_counted unequal e = e ∙ sym (dependents_are_pairs n (get_or order level 0) (reach F (take level order)) cs below)
+
+-- one more count
+pub counts_more : (count : ℕ → ℕ) (counts : List ℕ) (level top unequal : ℕ) → level < length counts → unequal ≡ count level →
+    ((i : ℕ) → level + 1 ≤ i → i < top → get_or counts i 0 ≡ count i) → (i : ℕ) → level ≤ i → i < top → get_or (set counts level unequal) i 0 ≡ count i
+counts_more count counts level top unequal h e done i l k = elim (cases_eq i level) [
+  | inl s ↦ ap (λ z. get_or (set counts level unequal) z 0) s ∙ get_or-set_same counts level unequal 0 h ∙ e ∙ sym (ap count s)
+  | inr ne ↦ get_or-set_other counts level i unequal 0 ne ∙ done i (omega arith) k
+]
+
+pub counts_whole : (n : ℕ) (F : List Function) (order counts : List ℕ) → length counts ≡ length order → ((i : ℕ) → i < length order → get_or counts i 0 ≡ level_count n F order i) → counts ≡ level_counts n F order
+unfolding level_counts
+counts_whole n F order counts l h = fill_by_all (level_count n F order) counts (length order) 0 l h
+
+few_blocks : (k : ℕ) → k ≤ 16 → 2 ^ k ≤ 65536
+few_blocks k h = grows k (16 - k) (omega arith)
+  where
+    grows : (a b : ℕ) → a + b ≡ 16 → 2 ^ a ≤ 65536
+    grows a b e =
+        let p = pow_pos b in
+        let s = pow-add 2 a b in
+        let t = ap (λ z. 2 ^ z) e in
+        let m = mul-le-mul_right {m = 1} {n = 2 ^ b} (2 ^ a) (omega arith) in
+        let c : 2 ^ b * 2 ^ a ≡ 2 ^ a * 2 ^ b = omega arith in
+        omega arith
+
+-- the classes of a level are few
+pub few_classes : (n : ℕ) (F : List Function) (order : List ℕ) (level : ℕ) (cs : List ℕ) → length F ≤ 16 → length order ≤ 16 → level ≤ length order → Tells n (reach F (take level order)) cs → length cs < 4294967296
+few_classes n F order level cs m o l t =
+    let r = length-reach F (take level order) in
+    let k = length-take-le level order l in
+    let b = few_blocks level (omega arith) in
+    let e = ap (λ z. length F * 2 ^ z) k in
+    let c = mul-le-mul_right {m = length F} {n = 16} (2 ^ level) m in
+    let u = t.long in
+    omega arith
+
+-- the program's step from a level to the one above
+pub level_step : (n : ℕ) (F : List Function) (order : List ℕ) (level : ℕ) (cs classes ns counts : List ℕ) (unequal : ℕ) → 0 < level → level ≤ length order → Tells n (reach F (take level order)) cs → classes ≡ cs →
+    IsNumbering (pairs_of classes) ns → unequal ≡ unequal_count (pairs_of classes) → length counts ≡ length order → ((i : ℕ) → level ≤ i → i < length order → get_or counts i 0 ≡ level_count n F order i) →
+    Tells n (reach F (take (level - 1) order)) ns × (length (set counts (level - 1) unequal) ≡ length order)
+    × ((i : ℕ) → level - 1 ≤ i → i < length order → get_or (set counts (level - 1) unequal) i 0 ≡ level_count n F order i)
+level_step n F order level cs classes ns counts unequal some within t e m u l done =
+    let next : level ≡ (level - 1) + 1 = omega arith in
+    let below = subst (λ (k : ℕ). Tells n (reach F (take k order)) classes) next (subst (Tells n (reach F (take level order))) (sym e) t) in
+    let here : level - 1 < length order = omega arith in
+    (level_up n F order (level - 1) here classes below ns m, length-set counts (level - 1) unequal ∙ l,
+      counts_more (level_count n F order) counts (level - 1) (length order) unequal (omega arith) (level_counted n F order (level - 1) here classes below unequal u)
+      (λ i a b. done i (omega arith) b))

@@ -1,0 +1,284 @@
+-- The numbering of pairs, one pair after the other.
+--     pairs_more, length-pairs_of      the pairs, one after the other
+--     Merging keys done out unequal      the state after some pairs: the set's keys, the numbers given, the count of unequal pairs
+--     merging_none, merging_push      at the start, and with one more pair
+--     merging_numbers      the numbers tell the pairs apart
+use Rattle.std.proofs.Common.{◌≡◌, ◌≢◌, ◌↔◌, ℕ, zero, suc, ◌+◌, ◌-◌, ◌*◌, ◌/◌, ◌<◌, ◌≤◌, Bool, true, false, cond, not, ◌&&◌, ◌||◌, ◌⊎◌, inl, inr, List, [], ◌∷◌, ◌++◌, length, map, take, get_or, refl, sym, ap, ◌∙◌, arith, subst, eqb, eq-eqb, ne_eqb, if◌then◌else◌, zero-add}
+use Rattle.std.specs.List.{range_with_len, filter, list_any, position_or_len}
+use Rattle.std.specs.Set.{is_member, unique_keys, distinct_count}
+use Rattle.std.proofs.lemmas.Bool.{cases_Bool, true≢false, false≢true, false_from_ne_true}
+use Rattle.std.proofs.lemmas.List.{map-append, length-append, length-map, take_all}
+use Rattle.std.proofs.lemmas.List.Folds.{position_or_len_push}
+use Rattle.std.proofs.lemmas.List.FromFn.{take-map-range_with_len, map-range_with_len_more, length-map-range_with_len, get_or-map-range_with_len}
+use Rattle.order_model.specs.Widths.{same_pair}
+use Rattle.order_model.proofs.ClassPairs.{pair_decides}
+use Rattle.order_model.proofs.Sets.{Among, among_left, among_right, among_cases, among_filter, among_from_filter, among_from_member, member_from_among, count_same}
+use Rattle.truth_table.specs.Numberings.{IsNumbering, is_unequal, pair_at, pairs_of, unequal_count}
+
+-- ---- the pairs
+
+pub pairs_more : (cs : List ℕ) (j : ℕ) → j < length cs / 2 → take (j + 1) (pairs_of cs) ≡ take j (pairs_of cs) ++ pair_at cs j ∷ []
+unfolding pairs_of
+pairs_more cs j h =
+    take-map-range_with_len (pair_at cs) 0 (length cs / 2) (j + 1) (omega arith) ∙ map-range_with_len_more (pair_at cs) 0 j j (omega arith)
+    ∙ ap (λ us. us ++ pair_at cs j ∷ []) (sym (take-map-range_with_len (pair_at cs) 0 (length cs / 2) j (omega arith)))
+
+pub length-pairs_of : (cs : List ℕ) → length (pairs_of cs) ≡ length cs / 2
+unfolding pairs_of
+length-pairs_of cs = length-map-range_with_len (pair_at cs) 0 (length cs / 2)
+
+pub get_or-pairs_of : (cs : List ℕ) (j : ℕ) → j < length cs / 2 → get_or (pairs_of cs) j (0, 0) ≡ pair_at cs j
+unfolding pairs_of
+get_or-pairs_of cs j h = get_or-map-range_with_len (pair_at cs) 0 (length cs / 2) j j (0, 0) h (zero-add j)
+
+-- ---- keys
+
+abbrev Pair : Type 0
+Pair = ℕ × ℕ
+
+any_among : (u : Pair) (ks : List Pair) → list_any (same_pair u) ks ≡ true → Among u ks
+any_among u [] e = absurd (false≢true e)
+any_among u (k ∷ ks) e = by (same_pair u k) refl e (any_among u ks)
+  where
+    by : (b : Bool) → same_pair u k ≡ b → (b || list_any (same_pair u) ks) ≡ true → (list_any (same_pair u) ks ≡ true → Among u ks) → (u ≡ k) ⊎ Among u ks
+    by true s h r = inl ((pair_decides u k).0 s)
+    by false s h r = inr (r h)
+
+among_any : (u : Pair) (ks : List Pair) → Among u ks → list_any (same_pair u) ks ≡ true
+among_any u [] h = absurd h
+among_any u (k ∷ ks) h = elim h [
+  | inl e ↦ ap (λ b. b || list_any (same_pair u) ks) ((pair_decides u k).1 e)
+  | inr a ↦ by (same_pair u k) (among_any u ks a)
+]
+  where
+    by : (b : Bool) → list_any (same_pair u) ks ≡ true → (b || list_any (same_pair u) ks) ≡ true
+    by true e = refl
+    by false e = e
+
+-- the place of a key
+place : List Pair → Pair → ℕ
+place keys u = position_or_len (same_pair u) keys
+
+place_inside : (u : Pair) (ks : List Pair) → Among u ks → place ks u < length ks
+unfolding place
+place_inside u [] h = absurd h
+place_inside u (k ∷ ks) h = by (same_pair u k) refl (place_inside u ks)
+  where
+    by : (b : Bool) → same_pair u k ≡ b → (Among u ks → position_or_len (same_pair u) ks < length ks) → cond (not b) (1 + position_or_len (same_pair u) ks) 0 < suc (length ks)
+    by true e more = omega arith
+    by false e more = elim h [
+      | inl s ↦ absurd (true≢false (sym ((pair_decides u k).1 s) ∙ e))
+      | inr a ↦ (let r = more a in omega arith)
+    ]
+
+place_holds : (u : Pair) (ks : List Pair) → Among u ks → get_or ks (place ks u) (0, 0) ≡ u
+unfolding place
+place_holds u [] h = absurd h
+place_holds u (k ∷ ks) h = by (same_pair u k) refl (place_holds u ks)
+  where
+    by : (b : Bool) → same_pair u k ≡ b → (Among u ks → get_or ks (position_or_len (same_pair u) ks) (0, 0) ≡ u) → get_or (k ∷ ks) (cond (not b) (1 + position_or_len (same_pair u) ks) 0) (0, 0) ≡ u
+    by true e more = sym ((pair_decides u k).0 e)
+    by false e more = elim h [
+      | inl s ↦ absurd (true≢false (sym ((pair_decides u k).1 s) ∙ e))
+      | inr a ↦
+        let next : 1 + position_or_len (same_pair u) ks ≡ suc (position_or_len (same_pair u) ks) = omega arith in
+        ap (λ z. get_or (k ∷ ks) z (0, 0)) next ∙ more a
+    ]
+
+place_none : (u : Pair) (ks : List Pair) → (Among u ks → ⊥) → place ks u ≡ length ks
+unfolding place
+place_none u [] h = refl
+place_none u (k ∷ ks) h = by (same_pair u k) refl (place_none u ks (λ a. h (inr a)))
+  where
+    by : (b : Bool) → same_pair u k ≡ b → position_or_len (same_pair u) ks ≡ length ks → cond (not b) (1 + position_or_len (same_pair u) ks) 0 ≡ suc (length ks)
+    by true e r = absurd (h (inl ((pair_decides u k).0 e)))
+    by false e r = omega arith
+
+-- with one more key, the keys before keep their places
+place_kept : (u k : Pair) (ks : List Pair) → Among u ks → place (ks ++ k ∷ []) u ≡ place ks u
+unfolding place
+place_kept u k ks h =
+    let i = place_inside u ks h in
+    let ne : position_or_len (same_pair u) ks ≢ length ks = omega arith in
+    position_or_len_push (same_pair u) ks k ∙ ap (λ b. cond b (length ks + cond (same_pair u k) 0 1) (position_or_len (same_pair u) ks)) (ne_eqb _ _ ne)
+
+-- and the new one comes last
+place_new : (k : Pair) (ks : List Pair) → (Among k ks → ⊥) → place (ks ++ k ∷ []) k ≡ place ks k
+unfolding place
+place_new k ks h =
+    let e = place_none k ks h in
+    let z : length ks + 0 ≡ length ks = omega arith in
+    position_or_len_push (same_pair k) ks k ∙ ap (λ b. cond b (length ks + cond (same_pair k k) 0 1) (position_or_len (same_pair k) ks)) (eq-eqb _ _ e)
+    ∙ ap (λ b. length ks + cond b 0 1) ((pair_decides k k).1 refl) ∙ z ∙ sym e
+
+map_among : {X Y : Type 0} (f g : X → Y) (xs : List X) → ((x : X) → Among x xs → f x ≡ g x) → map f xs ≡ map g xs
+map_among f g [] h = refl
+map_among f g (x ∷ xs) h =
+    let here = h x (inl refl) in
+    let rest = map_among f g xs (λ y a. h y (inr a)) in
+    λ i. here i ∷ rest i
+
+-- ---- counts
+
+append_nil : {X : Type 0} (xs : List X) → xs ++ [] ≡ xs
+append_nil [] = refl
+append_nil (x ∷ xs) = ap (λ ys. x ∷ ys) (append_nil xs)
+
+filter_push : (xs : List Pair) (k : Pair) → filter is_unequal (xs ++ k ∷ []) ≡ filter is_unequal xs ++ cond (is_unequal k) (k ∷ []) []
+filter_push [] k = refl
+filter_push (x ∷ xs) k = by (is_unequal x) (filter_push xs k)
+  where
+    by : (b : Bool) → filter is_unequal (xs ++ k ∷ []) ≡ filter is_unequal xs ++ cond (is_unequal k) (k ∷ []) [] →
+        cond b (x ∷ filter is_unequal (xs ++ k ∷ [])) (filter is_unequal (xs ++ k ∷ [])) ≡ cond b (x ∷ filter is_unequal xs) (filter is_unequal xs) ++ cond (is_unequal k) (k ∷ []) []
+    by true r = ap (λ ys. x ∷ ys) r
+    by false r = r
+
+count_turned : (k : Pair) (xs : List Pair) → distinct_count same_pair (xs ++ k ∷ []) ≡ distinct_count same_pair (k ∷ xs)
+count_turned k xs =
+    count_same same_pair pair_decides (xs ++ k ∷ []) (k ∷ xs)
+    (λ u h. elim (among_cases u xs (k ∷ []) h) [ inl a ↦ inr a | inr b ↦ elim b [ inl s ↦ inl s | inr n ↦ absurd n ] ])
+    (λ u h. elim h [ inl s ↦ among_right u xs (k ∷ []) (inl s) | inr a ↦ among_left u xs (k ∷ []) a ])
+
+count_old : (k : Pair) (xs : List Pair) → Among k xs → distinct_count same_pair (k ∷ xs) ≡ distinct_count same_pair xs
+count_old k xs h = ap (λ b. length (cond b (unique_keys same_pair xs) (k ∷ unique_keys same_pair xs))) (member_from_among same_pair pair_decides xs k h)
+
+count_new : (k : Pair) (xs : List Pair) → (Among k xs → ⊥) → distinct_count same_pair (k ∷ xs) ≡ suc (distinct_count same_pair xs)
+count_new k xs h =
+    let new : is_member same_pair xs k ≡ false = false_from_ne_true _ (λ m. h (among_from_member same_pair pair_decides xs k m)) in
+    ap (λ b. length (cond b (unique_keys same_pair xs) (k ∷ unique_keys same_pair xs))) new
+
+unequal_old : (k : Pair) (done : List Pair) → Among k done → unequal_count (done ++ k ∷ []) ≡ unequal_count done
+unfolding unequal_count
+unequal_old k done h = ap (distinct_count same_pair) (filter_push done k) ∙ by (is_unequal k) refl
+  where
+    by : (b : Bool) → is_unequal k ≡ b → distinct_count same_pair (filter is_unequal done ++ cond b (k ∷ []) []) ≡ distinct_count same_pair (filter is_unequal done)
+    by true e = count_turned k (filter is_unequal done) ∙ count_old k (filter is_unequal done) (among_filter is_unequal k done h e)
+    by false e = ap (distinct_count same_pair) (append_nil (filter is_unequal done))
+
+unequal_new : (k : Pair) (done : List Pair) → (Among k done → ⊥) → unequal_count (done ++ k ∷ []) ≡ cond (is_unequal k) (unequal_count done + 1) (unequal_count done)
+unfolding unequal_count
+unequal_new k done h = ap (distinct_count same_pair) (filter_push done k) ∙ by (is_unequal k)
+  where
+    by : (b : Bool) → distinct_count same_pair (filter is_unequal done ++ cond b (k ∷ []) []) ≡ cond b (distinct_count same_pair (filter is_unequal done) + 1) (distinct_count same_pair (filter is_unequal done))
+    by true = count_turned k (filter is_unequal done) ∙ count_new k (filter is_unequal done) (λ a. h (among_from_filter is_unequal k done a).0) ∙ omega arith
+    by false = ap (distinct_count same_pair) (append_nil (filter is_unequal done))
+
+-- ---- the state
+
+-- after the pairs that are done
+pub record Merging (keys done : List (ℕ × ℕ)) (out : List ℕ) (unequal : ℕ) : Type 0 where
+  pub known : (u : ℕ × ℕ) → Among u done → Among u keys
+  pub listed : (u : ℕ × ℕ) → Among u keys → Among u done
+  pub numbers : out ≡ map (λ u. position_or_len (same_pair u) keys) done
+  pub count : unequal ≡ unequal_count done
+  pub few : length keys ≤ length done
+  pub few_unequal : unequal ≤ length done
+
+pub merging_none : Merging [] [] [] 0
+unfolding unequal_count
+merging_none = record { known = λ u h. h; listed = λ u h. h; numbers = refl; count = refl; few = omega arith; few_unequal = omega arith }
+
+module _ (keys done : List (ℕ × ℕ)) (out : List ℕ) (unequal : ℕ) (m : Merging keys done out unequal) (k : ℕ × ℕ) where
+  merging_old : Among k keys → Merging keys (done ++ k ∷ []) (out ++ position_or_len (same_pair k) keys ∷ []) unequal
+  merging_old a =
+      let l = length-append done (k ∷ []) in
+      let f = m.few in
+      let g = m.few_unequal in
+      record {
+        known = λ u h. elim (among_cases u done (k ∷ []) h) [ inl b ↦ m.known u b | inr b ↦ elim b [ inl s ↦ subst (λ (v : ℕ × ℕ). Among v keys) (sym s) a | inr n ↦ absurd n ] ];
+        listed = λ u h. among_left u done (k ∷ []) (m.listed u h);
+        numbers = ap (λ us. us ++ position_or_len (same_pair k) keys ∷ []) m.numbers ∙ sym (map-append (λ u. position_or_len (same_pair u) keys) done (k ∷ []));
+        count = m.count ∙ sym (unequal_old k done (m.listed k a));
+        few = omega arith;
+        few_unequal = omega arith;
+      }
+
+  merging_new : (Among k keys → ⊥) → Merging (keys ++ k ∷ []) (done ++ k ∷ []) (out ++ position_or_len (same_pair k) keys ∷ []) (cond (is_unequal k) (unequal + 1) unequal)
+  unfolding place
+  merging_new a =
+      let l = length-append done (k ∷ []) in
+      let lk = length-append keys (k ∷ []) in
+      let f = m.few in
+      let g = m.few_unequal in
+      record {
+        known = λ u h. elim (among_cases u done (k ∷ []) h) [ inl b ↦ among_left u keys (k ∷ []) (m.known u b) | inr b ↦ among_right u keys (k ∷ []) b ];
+        listed = λ u h. elim (among_cases u keys (k ∷ []) h) [ inl b ↦ among_left u done (k ∷ []) (m.listed u b) | inr b ↦ among_right u done (k ∷ []) b ];
+        numbers =
+            (λ i. (m.numbers ∙ map_among (λ u. position_or_len (same_pair u) keys) (λ u. position_or_len (same_pair u) (keys ++ k ∷ [])) done (λ u h. sym (place_kept u k keys (m.known u h)))) i ++ sym (place_new k keys a) i ∷ [])
+            ∙ sym (map-append (λ u. position_or_len (same_pair u) (keys ++ k ∷ [])) done (k ∷ []));
+        count = counted (is_unequal k) ∙ sym (unequal_new k done (λ b. a (m.known k b)));
+        few = omega arith;
+        few_unequal = bounded (is_unequal k);
+      }
+    where
+      counted : (b : Bool) → cond b (unequal + 1) unequal ≡ cond b (unequal_count done + 1) (unequal_count done)
+      counted b = ap (λ z. cond b (z + 1) z) m.count
+
+      bounded : (b : Bool) → cond b (unequal + 1) unequal ≤ length (done ++ k ∷ [])
+      bounded true = let l = length-append done (k ∷ []) in let g = m.few_unequal in omega arith
+      bounded false = let l = length-append done (k ∷ []) in let g = m.few_unequal in omega arith
+
+  -- with one more pair
+  pub merging_push : Merging (if list_any (same_pair k) keys then keys else keys ++ k ∷ []) (done ++ k ∷ []) (out ++ position_or_len (same_pair k) keys ∷ [])
+      (cond (not (list_any (same_pair k) keys) && is_unequal k) (unequal + 1) unequal)
+  merging_push = by (list_any (same_pair k) keys) refl
+    where
+      by : (b : Bool) → list_any (same_pair k) keys ≡ b → Merging (cond b keys (keys ++ k ∷ [])) (done ++ k ∷ []) (out ++ position_or_len (same_pair k) keys ∷ []) (cond (not b && is_unequal k) (unequal + 1) unequal)
+      by true e = merging_old (any_among k keys e)
+      by false e = merging_new (λ a. true≢false (sym (among_any k keys a) ∙ e))
+
+  -- the next number is below the number of pairs
+  pub number_small : position_or_len (same_pair k) keys ≤ length done
+  unfolding place
+  number_small = by (list_any (same_pair k) keys) refl
+    where
+      by : (b : Bool) → list_any (same_pair k) keys ≡ b → position_or_len (same_pair k) keys ≤ length done
+      by true e = let i = place_inside k keys (any_among k keys e) in let f = m.few in omega arith
+      by false e = let i = place_none k keys (λ a. true≢false (sym (among_any k keys a) ∙ e)) in let f = m.few in omega arith
+
+get_or_map : {X : Type 0} (f : X → ℕ) (xs : List X) (j : ℕ) (d : X) → j < length xs → get_or (map f xs) j 0 ≡ f (get_or xs j d)
+get_or_map f [] j d h = absurd (omega arith)
+get_or_map f (x ∷ xs) zero d h = refl
+get_or_map f (x ∷ xs) (suc j) d h = get_or_map f xs j d (omega arith)
+
+among_at : {X : Type 0} (xs : List X) (j : ℕ) (d : X) → j < length xs → Among (get_or xs j d) xs
+among_at [] j d h = absurd (omega arith)
+among_at (x ∷ xs) zero d h = inl refl
+among_at (x ∷ xs) (suc j) d h = inr (among_at xs j d (omega arith))
+
+-- the numbers tell the pairs apart
+pub merging_numbers : (keys done : List (ℕ × ℕ)) (out : List ℕ) (unequal : ℕ) → Merging keys done out unequal → IsNumbering done out
+unfolding place
+merging_numbers keys done out unequal m = record {
+  long = ap length m.numbers ∙ length-map done (λ u. position_or_len (same_pair u) keys);
+  apart = λ j k a b. (
+    λ e.
+      let u : ℕ × ℕ = get_or done j (0, 0) in
+      let v : ℕ × ℕ = get_or done k (0, 0) in
+      let places : position_or_len (same_pair u) keys ≡ position_or_len (same_pair v) keys = sym (at j a) ∙ e ∙ at k b in
+      sym (place_holds u keys (m.known u (among_at done j (0, 0) a))) ∙ ap (λ z. get_or keys z (0, 0)) places ∙ place_holds v keys (m.known v (among_at done k (0, 0) b)),
+    λ e. at j a ∙ ap (λ u. position_or_len (same_pair u) keys) e ∙ sym (at k b)
+  );
+}
+  where
+    at : (j : ℕ) → j < length done → get_or out j 0 ≡ position_or_len (same_pair (get_or done j (0, 0))) keys
+    at j h = ap (λ us. get_or us j 0) m.numbers ∙ get_or_map (λ u. position_or_len (same_pair u) keys) done j (0, 0) h
+
+-- one more pair of classes
+pub merging_step : (cs : List ℕ) (j : ℕ) (keys keys' : List (ℕ × ℕ)) (out out' : List ℕ) (unequal unequal' : ℕ) → j < length cs / 2 → Merging keys (take j (pairs_of cs)) out unequal →
+    keys' ≡ (if list_any (same_pair (pair_at cs j)) keys then keys else keys ++ pair_at cs j ∷ []) → out' ≡ out ++ position_or_len (same_pair (pair_at cs j)) keys ∷ [] →
+    unequal' ≡ cond (not (list_any (same_pair (pair_at cs j)) keys) && is_unequal (pair_at cs j)) (unequal + 1) unequal → Merging keys' (take (j + 1) (pairs_of cs)) out' unequal'
+merging_step cs j keys keys' out out' unequal unequal' h m k o u =
+    subst (λ (z : List (ℕ × ℕ)). Merging z (take (j + 1) (pairs_of cs)) out' unequal') (sym k)
+    (subst (λ (z : List (ℕ × ℕ)). Merging (if list_any (same_pair (pair_at cs j)) keys then keys else keys ++ pair_at cs j ∷ []) z out' unequal') (sym (pairs_more cs j h))
+    (subst (λ (z : List ℕ). Merging (if list_any (same_pair (pair_at cs j)) keys then keys else keys ++ pair_at cs j ∷ []) (take j (pairs_of cs) ++ pair_at cs j ∷ []) z unequal') (sym o)
+    (subst (λ (z : ℕ). Merging (if list_any (same_pair (pair_at cs j)) keys then keys else keys ++ pair_at cs j ∷ []) (take j (pairs_of cs) ++ pair_at cs j ∷ []) (out ++ position_or_len (same_pair (pair_at cs j)) keys ∷ []) z) (sym u)
+    (merging_push keys (take j (pairs_of cs)) out unequal m (pair_at cs j)))))
+
+-- after all pairs
+pub merging_end : (cs : List ℕ) (j : ℕ) (keys : List (ℕ × ℕ)) (out : List ℕ) (unequal : ℕ) → length cs / 2 ≤ j → Merging keys (take j (pairs_of cs)) out unequal → IsNumbering (pairs_of cs) out × (unequal ≡ unequal_count (pairs_of cs))
+merging_end cs j keys out unequal h m =
+    let l = length-pairs_of cs in
+    let all = take_all j (pairs_of cs) (omega arith) in
+    let w = subst (λ (z : List (ℕ × ℕ)). Merging keys z out unequal) all m in
+    (merging_numbers keys (pairs_of cs) out unequal w, w.count)

@@ -1,0 +1,275 @@
+-- Words of 64 points of terms, and the packed truth tables that they make.
+--     masked_bits, joined_bits      the bits of words that are combined
+--     free_bits      the mask of the points of n variables
+--     literal_points_none, literal_points_one, literal_points_zero      the points at which a literal holds
+--     packed_from      the packed truth tables of terms
+use Rattle.std.proofs.Common.{◌≡◌, ◌≢◌, ℕ, zero, suc, ◌+◌, ◌-◌, ◌*◌, ◌/◌, ◌%◌, ◌^◌, ◌<◌, ◌≤◌, Bool, true, false, cond, not, ◌&&◌, ◌||◌, ◌⊎◌, inl, inr, List, [], ◌∷◌, length, map, take, get_or, refl, sym, ap, ◌∙◌, arith, subst, eqb, eqb-true, min, max, bit_and, bit_or, ltb, zero-add, pow_pos}
+use Rattle.std.specs.Int.{bit_at, bit_not, w64}
+use Rattle.std.specs.List.{All, AllZip, range_with_len, list_all, list_any}
+use Rattle.std.proofs.lemmas.Bool.{cases_lt, false≢true, lt-ltb, le-ltb}
+use Rattle.std.proofs.lemmas.List.{length-map, get_or-map}
+use Rattle.std.proofs.lemmas.List.Folds.{list_any_more}
+use Rattle.std.proofs.lemmas.List.FromFn.{get_or-map-range_with_len, get_or-range_with_len, length-map-range_with_len, length-range_with_len}
+use Rattle.std.proofs.lemmas.Slice.Zip.{AllZip-long}
+use Rattle.std.proofs.lemmas.Nat.{one_shl}
+use Rattle.std.proofs.lemmas.Nat.Bits.{bit_at-lt, bit_at_and, bit_at_or, bit_at_not, bit_at_ones, bit_at_ones_above, bit_at_above}
+use Rattle.std.proofs.Math.Nat.{mul-le-mul_right, add-mul-div_right, div-eq_of_lt, mod-eq_of_lt, add-mul-mod_self_right}
+use Rattle.order_model.specs.declared.terms.Term.{Term}
+use Rattle.order_model.specs.Functions.{Point, Function, number, points, from_table, table, SameFunction}
+use Rattle.order_model.specs.Problems.{IsClean, IsPacked, tables_of, words_per_table}
+use Rattle.order_model.specs.Products.{Product, product_function, product_functions, product_of}
+use Rattle.order_model.proofs.Numbers.{numbers_rise, table-from_table}
+use Rattle.order_model.proofs.PackedProblems.{point_inside, block_inside, same_tables}
+use Rattle.order_model.proofs.PackedTables.{whole_words}
+use Rattle.order_model.proofs.PackedWords.{step_is}
+use Rattle.order_model.proofs.PointNumbers.{some_point}
+use Rattle.order_model.proofs.Tables.{same_from_table}
+use Rattle.pla_reader.specs.Masks.{Fits}
+use Rattle.truth_table.specs.Terms.{IsWordOf, literal_at, literals_at, covers, covered}
+use Rattle.truth_table.proofs.Literals.{all_parts, literals_apart, product_is}
+
+-- ---- bits
+
+min_bits : (a b : ℕ) → a < 2 → b < 2 → eqb (min a b) 1 ≡ (eqb a 1 && eqb b 1)
+min_bits zero zero h k = refl
+min_bits zero (suc zero) h k = refl
+min_bits (suc zero) zero h k = refl
+min_bits (suc zero) (suc zero) h k = refl
+min_bits (suc (suc a)) b h k = absurd (omega arith)
+min_bits a (suc (suc b)) h k = absurd (omega arith)
+
+max_bits : (a b : ℕ) → a < 2 → b < 2 → eqb (max a b) 1 ≡ (eqb a 1 || eqb b 1)
+max_bits zero zero h k = refl
+max_bits zero (suc zero) h k = refl
+max_bits (suc zero) zero h k = refl
+max_bits (suc zero) (suc zero) h k = refl
+max_bits (suc (suc a)) b h k = absurd (omega arith)
+max_bits a (suc (suc b)) h k = absurd (omega arith)
+
+pub masked_bits : (u v b : ℕ) → eqb (bit_at (bit_and u v) b) 1 ≡ (eqb (bit_at u b) 1 && eqb (bit_at v b) 1)
+masked_bits u v b = ap (λ z. eqb z 1) (bit_at_and u v b) ∙ min_bits (bit_at u b) (bit_at v b) (bit_at-lt u b) (bit_at-lt v b)
+
+pub joined_bits : (u v b : ℕ) → eqb (bit_at (bit_or u v) b) 1 ≡ (eqb (bit_at u b) 1 || eqb (bit_at v b) 1)
+joined_bits u v b = ap (λ z. eqb z 1) (bit_at_or u v b) ∙ max_bits (bit_at u b) (bit_at v b) (bit_at-lt u b) (bit_at-lt v b)
+
+pub all_ones : (b : ℕ) → b < 64 → eqb (bit_at 18446744073709551615 b) 1 ≡ true
+all_ones b h = ap (λ z. eqb z 1) (bit_at_ones 64 b h)
+
+-- the mask of the points of n variables
+pub mask_step : (n : ℕ) → n < 6 → 1 ≤ 1 * 2 ^ (1 * 2 ^ n % 4294967296) % 18446744073709551616
+mask_step n h =
+    let s = step_is n h in
+    let e = one_shl (1 * 2 ^ n % 4294967296) 64 (omega arith) in
+    let p = pow_pos (1 * 2 ^ n % 4294967296) in
+    omega arith
+
+pub free_bits_few : (n : ℕ) → n < 6 → (b : ℕ) → b < 64 → eqb (bit_at (1 * 2 ^ (1 * 2 ^ n % 4294967296) % 18446744073709551616 - 1) b) 1 ≡ ltb b (2 ^ n)
+free_bits_few n h b k =
+    let s = step_is n h in
+    let e = one_shl (1 * 2 ^ n % 4294967296) 64 (omega arith) in
+    ap (λ z. eqb (bit_at (z - 1) b) 1) (e ∙ ap (λ z. 2 ^ z) s.0) ∙ elim (cases_lt b (2 ^ n)) [
+      | inl lt ↦ ap (λ z. eqb z 1) (bit_at_ones (2 ^ n) b lt) ∙ sym (lt-ltb b (2 ^ n) lt)
+      | inr ge ↦ ap (λ z. eqb z 1) (bit_at_ones_above (2 ^ n) b ge) ∙ sym (le-ltb b (2 ^ n) ge)
+    ]
+
+pub free_bits_all : (n : ℕ) → 6 ≤ n → (b : ℕ) → b < 64 → eqb (bit_at 18446744073709551615 b) 1 ≡ ltb b (2 ^ n)
+free_bits_all n h b k = elim (whole_words n) [
+  | inl w ↦
+    let e = w.1 in
+    let p = pow_pos (n - 6) in
+    all_ones b k ∙ sym (lt-ltb b (2 ^ n) (omega arith))
+  | inr w ↦ absurd (omega (arith, w.0))
+]
+
+-- ---- literals
+
+pub literal_points_none : (term : Term) (x b : ℕ) → bit_at term.care x ≡ 0 → b < 64 → eqb (bit_at 18446744073709551615 b) 1 ≡ literal_at term b x
+literal_points_none term x b e h = all_ones b h ∙ sym (ap (λ z. not (eqb z 1) || eqb (bit_at b x) (bit_at term.value x)) e)
+
+complement : (a c : ℕ) → a < 2 → c ≡ 1 - a → eqb (1 - c) 1 ≡ eqb a 1
+complement zero c h e = ap (λ z. eqb (1 - z) 1) e
+complement (suc zero) c h e = ap (λ z. eqb (1 - z) 1) e
+complement (suc (suc a)) c h e = absurd (omega arith)
+
+pub literal_points_one : (term : Term) (x b lower : ℕ) → bit_at term.care x ≡ 1 → bit_at term.value x ≡ 1 → lower < 2 ^ 64 → b < 64 → bit_at lower b ≡ 1 - bit_at b x →
+    eqb (bit_at (bit_not w64 lower) b) 1 ≡ literal_at term b x
+literal_points_one term x b lower care value fits h low =
+    ap (λ z. eqb z 1) (bit_at_not w64 lower b fits h) ∙ complement (bit_at b x) (bit_at lower b) (bit_at-lt b x) low
+    ∙ sym ((λ i. not (eqb (care i) 1) || eqb (bit_at b x) (value i)))
+
+zero_there : (a c : ℕ) → a < 2 → c ≡ 1 - a → eqb c 1 ≡ eqb a 0
+zero_there zero c h e = ap (λ z. eqb z 1) e
+zero_there (suc zero) c h e = ap (λ z. eqb z 1) e
+zero_there (suc (suc a)) c h e = absurd (omega arith)
+
+pub literal_points_zero : (term : Term) (x b lower : ℕ) → bit_at term.care x ≡ 1 → bit_at term.value x ≡ 0 → b < 64 → bit_at lower b ≡ 1 - bit_at b x → eqb (bit_at lower b) 1 ≡ literal_at term b x
+literal_points_zero term x b lower care value h low =
+    zero_there (bit_at b x) (bit_at lower b) (bit_at-lt b x) low ∙ sym ((λ i. not (eqb (care i) 1) || eqb (bit_at b x) (value i)))
+
+-- one more variable
+pub literals_more : (term : Term) (k x : ℕ) → literals_at term k 0 (x + 1) ≡ (literals_at term k 0 x && literal_at term k x)
+unfolding literals_at
+literals_more term k x =
+    let z : 0 + x ≡ x = omega arith in
+    all_parts (literal_at term k) x 1 0 ∙ ap (λ y. list_all (literal_at term k) (range_with_len 0 x) && list_all (literal_at term k) (range_with_len y 1)) z
+    ∙ ap (λ b. list_all (literal_at term k) (range_with_len 0 x) && b) (and_true (literal_at term k x))
+  where
+    and_true : (b : Bool) → (b && true) ≡ b
+    and_true true = refl
+    and_true false = refl
+
+-- ---- terms
+
+-- one more term, with its output, its literals above and those of the word
+pub covers_apart : (term : Term) (output place b : ℕ) → b < 64 → covers term output (64 * place + b) ≡ (eqb (bit_at term.outs output) 1 && (literals_at term b 0 6 && literals_at term (64 * place) 6 10))
+covers_apart term output place b h = ap (λ z. eqb (bit_at term.outs output) 1 && z) (literals_apart term place b h)
+
+or_false : (b : Bool) → b ≡ (b || false)
+or_false true = refl
+or_false false = refl
+
+-- the cover's value with one more term: by the term's output, its literals above, and those within the word
+pub covered_more : (terms : List Term) (i : ℕ) → i < length terms → (term : Term) → term ≡ get_or terms i term → (output place b : ℕ) → b < 64 →
+    covered (take (i + 1) terms) output (64 * place + b) ≡ (covered (take i terms) output (64 * place + b) || (eqb (bit_at term.outs output) 1 && (literals_at term b 0 6 && literals_at term (64 * place) 6 10)))
+unfolding covered
+covered_more terms i h term read output place b l =
+    list_any_more (λ t. covers t output (64 * place + b)) terms i term h
+    ∙ ap (λ z. list_any (λ t. covers t output (64 * place + b)) (take i terms) || z) (ap (λ t. covers t output (64 * place + b)) (sym read) ∙ covers_apart term output place b l)
+
+and_false : (a : Bool) → (a && false) ≡ false
+and_false true = refl
+and_false false = refl
+
+-- what a word's bit is where the term counts, and where it doesn't
+pub word_with : (word pattern b : ℕ) (old above low : Bool) (out : Bool) → eqb (bit_at word b) 1 ≡ old → eqb (bit_at pattern b) 1 ≡ low → out ≡ true → above ≡ true →
+    eqb (bit_at (bit_or word pattern) b) 1 ≡ (old || (out && (low && above)))
+word_with word pattern b old above low out w p o a =
+    joined_bits word pattern b ∙ (λ i. w i || p i) ∙ sym ((λ i. old || (o i && (low && a i))) ∙ ap (λ z. old || z) (sym (turned low)))
+  where
+    turned : (c : Bool) → c ≡ (c && true)
+    turned true = refl
+    turned false = refl
+
+pub word_without_above : (word b : ℕ) (old above low out : Bool) → eqb (bit_at word b) 1 ≡ old → above ≡ false → eqb (bit_at word b) 1 ≡ (old || (out && (low && above)))
+word_without_above word b old above low out w a = w ∙ or_false old ∙ sym (ap (λ z. old || (out && (low && z))) a ∙ ap (λ z. old || (out && z)) (and_false low) ∙ ap (λ z. old || z) (and_false out))
+
+pub word_without_output : (word b : ℕ) (old rest out : Bool) → eqb (bit_at word b) 1 ≡ old → out ≡ false → eqb (bit_at word b) 1 ≡ (old || (out && rest))
+word_without_output word b old rest out w o = w ∙ or_false old ∙ sym (ap (λ z. old || (z && rest)) o)
+
+-- ---- truth tables
+
+length-points : (n : ℕ) → length (points n) ≡ 2 ^ n
+length-points n = sym (length-map (points n) number) ∙ ap length (numbers_rise n) ∙ length-range_with_len 0 (2 ^ n)
+
+length-table : (n : ℕ) (g : Function) → length (table n g) ≡ 2 ^ n
+unfolding table
+length-table n g = length-map (points n) g ∙ length-points n
+
+-- the entry of a truth table at a point's number
+entry_at : (n : ℕ) (g : Function) (p : Point) → length p ≡ n → get_or (table n g) (number p) false ≡ g p
+unfolding SameFunction from_table
+entry_at n g p l = same_from_table n (from_table (table n g)) g (table-from_table n (table n g) (length-table n g)) p l
+
+-- the words of terms of n inputs and m outputs
+pub record AreTermWords (n m : ℕ) (terms : List Term) (words : List ℕ) : Type 0 where
+  pub long : length words ≡ m * words_per_table n
+  pub fits : (i : ℕ) → i < length words → get_or words i 0 < 2 ^ 64
+  pub bits : (i b : ℕ) → i < m * words_per_table n → b < 64 →
+      eqb (bit_at (get_or words i 0) b) 1 ≡ (ltb b (2 ^ n) && covered terms (i / words_per_table n) (64 * (i % words_per_table n) + b))
+
+module _ (n m : ℕ) (terms : List Term) (words : List ℕ) (some : 1 ≤ n) (few : n ≤ 16) (some_outputs : 1 ≤ m) (few_outputs : m ≤ 16) (fit : All (Fits n m) terms) (w : AreTermWords n m terms words) where
+  products : List Product
+  products = map (product_of n m) terms
+
+  tables : List (List Bool)
+  tables = map (table n) (product_functions m products)
+
+  length-tables : length tables ≡ m
+  unfolding tables product_functions
+  length-tables = length-map (map (product_function products) (range_with_len 0 m)) (table n) ∙ length-map-range_with_len (product_function products) 0 m
+
+  table_is : (j : ℕ) → j < m → get_or tables j [] ≡ table n (product_function products j)
+  unfolding tables product_functions
+  table_is j h =
+      let l = length-map-range_with_len (product_function products) 0 m in
+      get_or-map (table n) (map (product_function products) (range_with_len 0 m)) j (λ (p : Point). false) [] (omega arith)
+      ∙ ap (table n) (get_or-map-range_with_len (product_function products) 0 m j j (λ p. false) h (zero-add j))
+
+  word_place : (j k : ℕ) → j < m → k < 2 ^ n → ((j * words_per_table n + k / 64) / words_per_table n ≡ j) × ((j * words_per_table n + k / 64) % words_per_table n ≡ k / 64)
+  word_place j k h l =
+      let W : ℕ = words_per_table n in
+      let p : k / 64 < W = point_inside n k l in
+      let q : 0 < W = omega arith in
+      let e : j * W + k / 64 ≡ k / 64 + j * W = omega arith in
+      let d = div-eq_of_lt p in
+      let r = mod-eq_of_lt p in
+      (ap (λ z. z / W) e ∙ add-mul-div_right (k / 64) j q ∙ omega arith, ap (λ z. z % W) e ∙ add-mul-mod_self_right (k / 64) j W ∙ r)
+
+  value_is : (j k : ℕ) → j < m → k < 2 ^ n → eqb (bit_at (get_or words (j * words_per_table n + k / 64) 0) (k % 64)) 1 ≡ get_or (get_or tables j []) k false
+  unfolding products
+  value_is j k h l =
+      let W : ℕ = words_per_table n in
+      let inside = point_inside n k l in
+      let block = block_inside W m j h in
+      let place = word_place j k h l in
+      let whole : 64 * (k / 64) + k % 64 ≡ k = omega arith in
+      let at = some_point n k l in
+      w.bits (j * W + k / 64) (k % 64) (omega arith) (omega arith)
+      ∙ (λ i. lt-ltb (k % 64) (2 ^ n) (omega arith) i && covered terms (place.0 i) (64 * (place.1 i) + k % 64))
+      ∙ ap (covered terms j) whole
+      ∙ sym (
+        ap (λ t. get_or t k false) (table_is j h) ∙ ap (λ z. get_or (table n (product_function products j)) z false) (sym at.2)
+        ∙ entry_at n (product_function products j) at.0 at.1 ∙ product_is n m terms j at.0 few h at.1 fit ∙ ap (covered terms j) at.2)
+
+  -- the words hold the truth tables of the products' functions
+  pub terms_tables : tables_of n m words ≡ map (table n) (product_functions m (map (product_of n m) terms))
+  unfolding tables products
+  terms_tables = same_tables n m words tables length-tables (λ j h. ap length (table_is j h) ∙ length-table n (product_function products j)) value_is
+
+  clean : IsClean n words
+  clean i b h big = elim (cases_lt b 64) [
+    | inr ge ↦ bit_at_above (get_or words i 0) 64 b (w.fits i h) ge
+    | inl lt ↦ not_one (bit_at (get_or words i 0) b) (bit_at-lt (get_or words i 0) b)
+      (w.bits i b (subst (λ (z : ℕ). i < z) w.long h) lt ∙ ap (λ c. c && covered terms (i / words_per_table n) (64 * (i % words_per_table n) + b)) (le-ltb b (2 ^ n) big))
+  ]
+    where
+      not_one : (c : ℕ) → c < 2 → eqb c 1 ≡ false → c ≡ 0
+      not_one zero k e = refl
+      not_one (suc zero) k e = absurd (false≢true (sym e))
+      not_one (suc (suc c)) k e = absurd (omega arith)
+
+  pub terms_packed : IsPacked n m words
+  terms_packed = record { some_inputs = some; few_inputs = few; some_outputs = some_outputs; few_outputs = few_outputs; long = w.long; clean = clean }
+
+zip_at : (R : ℕ → ℕ → Type 0) (xs ys : List ℕ) → AllZip R xs ys → (j : ℕ) → j < length xs → R (get_or xs j 0) (get_or ys j 0)
+zip_at R [] ys h j l = absurd (omega arith)
+zip_at R (x ∷ xs) [] h j l = absurd h
+zip_at R (x ∷ xs) (y ∷ ys) h zero l = h.0
+zip_at R (x ∷ xs) (y ∷ ys) h (suc j) l = zip_at R xs ys h.1 j (omega arith)
+
+-- the words, from those of the places
+collected_words : (n m : ℕ) (terms : List Term) (size : ℕ) (places words : List ℕ) → size ≡ words_per_table n → places ≡ range_with_len 0 (m * size) → AllZip (IsWordOf n terms size) places words →
+    AreTermWords n m terms words
+collected_words n m terms size places words s p z = record {
+  long = words_long ∙ ap (λ w. m * w) s;
+  fits = λ i l. (word_of i (omega (arith, words_long))).fits;
+  bits = λ i b h l.
+      let inside : i < m * size = subst (λ (w : ℕ). i < m * w) (sym s) h in
+      (word_of i inside).bits b l ∙ (λ d. ltb b (2 ^ n) && covered terms (i / s d) (64 * (i % s d) + b));
+}
+  where
+    words_long : length words ≡ m * size
+    words_long = AllZip-long (IsWordOf n terms size) places words z ∙ ap length p ∙ length-range_with_len 0 (m * size)
+
+    word_of : (i : ℕ) → i < m * size → IsWordOf n terms size i (get_or words i 0)
+    word_of i h =
+        let long : length places ≡ m * size = ap length p ∙ length-range_with_len 0 (m * size) in
+        let at : get_or places i 0 ≡ i = ap (λ ps. get_or ps i 0) p ∙ get_or-range_with_len 0 (m * size) i 0 h ∙ zero-add i in
+        subst (λ (j : ℕ). IsWordOf n terms size j (get_or words i 0)) at (zip_at (IsWordOf n terms size) places words z i (omega arith))
+
+-- what the collected words hold
+pub packed_from : (n m : ℕ) (terms : List Term) (size : ℕ) (places words items : List ℕ) → 1 ≤ n → n ≤ 16 → 1 ≤ m → m ≤ 16 → All (Fits n m) terms → size ≡ words_per_table n → places ≡ range_with_len 0 (m * size) →
+    AllZip (IsWordOf n terms size) places words → items ≡ words → IsPacked n m items × (tables_of n m items ≡ map (table n) (product_functions m (map (product_of n m) terms)))
+packed_from n m terms size places words items a b c d fit s p z e =
+    let w = collected_words n m terms size places words s p z in
+    (subst (IsPacked n m) (sym e) (terms_packed n m terms words a b c d fit w), ap (tables_of n m) e ∙ terms_tables n m terms words a b c d fit w)

@@ -1,0 +1,42 @@
+use Rattle.std.proofs.Common.{◌≡◌, ◌/◌, ◌^◌, ℕ, length, sym, ap, ◌∙◌, subst, eqb, eq-eqb, ne_eqb, bit_and}
+use Rattle.std.specs.Int.{bit_at}
+use Rattle.std.proofs.lemmas.List.{with_items_is}
+use Rattle.std.proofs.lemmas.Nat.Bits.{shr_and_one}
+use Rattle.order_model.specs.Functions.{from_table, table}
+use Rattle.order_model.specs.Problems.{IsClean, table_at, table_in}
+use Rattle.truth_table.specs.Restrictions.{fixed}
+use Rattle.truth_table.proofs.Cofactors.{cofactor_start, cofactor_step, members_less}
+use Rattle.truth_table.proofs.tables.Tables.cofactor.Goals as goal
+use Rattle.truth_table.proofs.tables.Tables.cofactor.Goals.{then-care-x-eq1, else-care-x-eq1}
+
+pub loop-x-init : goal.loop-x-init
+loop-x-init c =
+    let same : c.in_ok-words.words.items ≡ c.words.result.now = c.in_ok-words.ensures.items_if_clones_equal (λ x y e. e) in
+    let start = cofactor_start c.self.inside.problem c.args.self.now c.inputs-n.result c.args.output c.args.care c.args.value c.words.result.now c.in_ok-words.words.items c.self.view_is c.inputs-n.ensures.value
+    c.words.ensures.long c.words.ensures.table c.words.ensures.clean same in
+    record { table = start.0; long = start.1; clean = start.2 }
+
+pub loop-x-preserved : goal.loop-x-preserved
+loop-x-preserved c =
+    let n = c.inputs-n.result in
+    let x = c.loop-x.x in
+    let t = table_at c.args.self.now c.args.output in
+    let bit = shr_and_one c.args.care x in
+    elim c.if-care-x-eq1.branch [
+      | then-care-x-eq1 w ↦
+        let whole : length w.fix_variable.new.words ≡ c.loop-x.words.len = w.fix_variable.auto.words ∙ ap length w.deref_mut.ensures.value ∙ sym c.loop-x.words.ok.0 in
+        let after : c.if-care-x-eq1.words.items ≡ w.fix_variable.new.words = ap (λ v. v.items) w.words-is ∙ with_items_is c.loop-x.words w.fix_variable.new.words whole in
+        record {
+          table = cofactor_step n x c.args.care c.args.value t c.loop-x.words.items w.deref_mut.result.now w.fix_variable.new.words c.if-care-x-eq1.words.items (eqb (bit_and (c.args.value / 2 ^ x) 1) 1)
+              (eq-eqb _ _ (sym bit ∙ w.if-care-x-eq1.true)) (ap (λ z. eqb z 1) (shr_and_one c.args.value x)) c.loop-x.invariant.table w.deref_mut.ensures.value w.fix_variable.ensures.table after;
+          long = ap length after ∙ w.fix_variable.ensures.long;
+          clean = subst (IsClean n) (sym after) w.fix_variable.ensures.clean;
+        }
+      | else-care-x-eq1 w ↦
+        let after : c.if-care-x-eq1.words.items ≡ c.loop-x.words.items = ap (λ v. v.items) w.words-is in
+        record {
+          table = ap (table_in n) after ∙ c.loop-x.invariant.table ∙ sym (ap (λ xs. table n (fixed xs c.args.value (from_table t))) (members_less x c.args.care (ne_eqb _ _ (λ e. w.if-care-x-eq1.false (bit ∙ e)))));
+          long = ap length after ∙ c.loop-x.invariant.long;
+          clean = subst (IsClean n) (sym after) c.loop-x.invariant.clean;
+        }
+    ]
