@@ -1,6 +1,6 @@
 //! Readers and writers that count their failed calls.
 
-ghost use Rattle.std.specs.Prelude.{◌≡◌, ◌+◌, ◌^◌, ◌<◌, ◌≤◌, ◌&&◌, ◌==◌, ◌++◌, ℕ, List, [], length, not, None, Option, is_ok, is_err, if◌then◌else◌, IfSome, IfOk, IfErr, OnOk, OnErr, IsErrOf, take, vec_len, nat_lt};
+ghost use Rattle.std.specs.Prelude.{◌≡◌, ◌+◌, ◌^◌, ◌<◌, ◌≤◌, ◌&&◌, ◌==◌, ℕ, List, None, Option, is_ok, is_err, if◌then◌else◌, IfSome, IfOk, IfErr, OnOk, OnErr, IsErrOf, take, vec_len};
 ghost use Rattle.std.specs.Io.KnownBytes.{ReadConsumes, WriteAppends, Appends};
 ghost use Rattle.std.specs.Io.{ReadsAtMost, WritesAtMost};
 ghost use Rattle.order_model.specs.Reading.{Refuses};
@@ -17,6 +17,7 @@ pub trait CountedRead {
     // How many calls have failed.
     ghost failures: { Self → ℕ };
 
+    /// Reads as std's `read` does: the number of bytes that were put into the buffer, 0 at the end.
     fn read_some(&mut self, buf: &mut [u8]) -> io::Result<usize>
         requires { failures self.old < 2 ^ 32 }
         ensures bound { ReadsAtMost result buf.new }
@@ -31,6 +32,7 @@ pub trait CountedWrite {
     // How many calls have failed.
     ghost failures: { Self → ℕ };
 
+    /// Writes as std's `write` does: the number of bytes that were taken.
     fn write_some(&mut self, buf: &[u8]) -> io::Result<usize>
         requires { failures self.old < 2 ^ 32 }
         ensures bound { WritesAtMost result buf.now }
@@ -46,6 +48,7 @@ pub struct Counting<T> {
 }
 
 impl<T> Counting<T> {
+    /// The device, none of whose calls has failed so far.
     pub fn new(inner: T) -> Counting<T>
         ensures inner { result.inner ≡ inner }
         ensures failed { result.failed ≡ 0 }
@@ -97,8 +100,11 @@ impl<T: Write> CountedWrite for Counting<T> {
 /// Why the bytes of a device aren't there.
 #[derive(Clone, Copy, Debug, PartialEq, Eq)]
 pub enum Refused {
+    /// There are more bytes than the limit.
     TooLong,
+    /// A call of the device failed.
     Device,
+    /// An allocation was refused.
     OutOfMemory,
 }
 

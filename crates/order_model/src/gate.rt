@@ -2,6 +2,7 @@
 
 /// Called by workers between the claim of an item and its result. Workers are numbered from 1.
 pub trait Gate: Sync {
+    /// The worker with this number has claimed the item and not yet handed in its result.
     fn between(&self, worker: u8, item: u32);
 }
 

@@ -20,6 +20,7 @@ pub enum BadOrder {
     /// The list has not 1 to 16 variables, or one is not below its length.
     #[error("OutOfRange")]
     OutOfRange,
+    /// An allocation was refused.
     #[error("OutOfMemory")]
     OutOfMemory,
 }

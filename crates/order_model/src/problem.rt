@@ -1,6 +1,6 @@
 //! Problems: truth tables of up to 16 functions of the same variables.
 
-ghost use Rattle.std.specs.Prelude.{◌≡◌, ◌+◌, ◌<◌, ◌≤◌, ◌^◌, ℕ, false, true, length, get_or, set, replicate, IfOk};
+ghost use Rattle.std.specs.Prelude.{◌≡◌, ◌+◌, ◌<◌, ◌≤◌, ◌^◌, false, true, length, set, replicate, IfOk};
 ghost use Rattle.order_model.specs.Problems.{TruthTables, IsClean, IsPacked, functions, outputs_of, packed_tables, table_at, table_in, value_at, words_per_table as size_of};
 ghost use Rattle.std.specs.List.{list_any};
 ghost use Rattle.order_model.specs.Functions.{depends};
