@@ -23,7 +23,11 @@ pub struct RunPlan {
 }
 
 /// The level counts of a cover under the file order, top first.
-fn file_order_counts<R: Threads + Sync>(rt: &R, alloc: Global, cover: &Cover) -> Result<Vec<u32>, AllocError>
+fn file_order_counts<R: Threads + Sync>(
+    rt: &R,
+    alloc: Global,
+    cover: &Cover,
+) -> Result<Vec<u32>, AllocError>
     ensures counts { IfOk result (λ v. v.items ≡ file_order_levels cover.now) }
     ensures few { IfOk result (λ v. length v.items ≤ 16) }
 {

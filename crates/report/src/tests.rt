@@ -10,18 +10,42 @@ use std::thread::Threads;
 
 /// Files, and the two lines of their counts.
 static COUNTS: [(&[u8], &[u8]); 12] = [
-    (b".i 3\n.o 1\n001 1\n010 1\n100 1\n111 1\n.e\n", b"levels: 1 2 2\nnodes: 5\n"),
-    (b".i 6\n.o 1\n.ilb a0 a1 a2 b0 b1 b2\n.ob f\n1--1-- 1\n-1--1- 1\n--1--1 1\n.e\n", b"levels: 1 2 4 4 2 1\nnodes: 14\n"),
-    (b".i 6\n.o 1\n1--1-- 1\n-1--1- 1\n--1--1 1\n.e\n", b"levels: 1 2 4 4 2 1\nnodes: 14\n"),
+    (
+        b".i 3\n.o 1\n001 1\n010 1\n100 1\n111 1\n.e\n",
+        b"levels: 1 2 2\nnodes: 5\n",
+    ),
+    (
+        b".i 6\n.o 1\n.ilb a0 a1 a2 b0 b1 b2\n.ob f\n1--1-- 1\n-1--1- 1\n--1--1 1\n.e\n",
+        b"levels: 1 2 4 4 2 1\nnodes: 14\n",
+    ),
+    (
+        b".i 6\n.o 1\n1--1-- 1\n-1--1- 1\n--1--1 1\n.e\n",
+        b"levels: 1 2 4 4 2 1\nnodes: 14\n",
+    ),
     (b".i 3\n.o 1\n.e\n", b"levels: 0 0 0\nnodes: 0\n"),
     (b".i 1\n.o 2\n1 10\n0 01\n.e\n", b"levels: 2\nnodes: 2\n"),
-    (b".i 2\n.o 2\n11 10\n1- 01\n-1 01\n.e\n", b"levels: 2 1\nnodes: 3\n"),
+    (
+        b".i 2\n.o 2\n11 10\n1- 01\n-1 01\n.e\n",
+        b"levels: 2 1\nnodes: 3\n",
+    ),
     (b".i 3\n.o 1\n--1 1\n.e\n", b"levels: 0 0 1\nnodes: 1\n"),
-    (b".i 3\n.o 1\n.ilb a b s\n.ob f\n1-0 1\n-11 1\n.e\n", b"levels: 1 2 2\nnodes: 5\n"),
+    (
+        b".i 3\n.o 1\n.ilb a b s\n.ob f\n1-0 1\n-11 1\n.e\n",
+        b"levels: 1 2 2\nnodes: 5\n",
+    ),
     (b".i 1\n.o 1\n- 1\n.e\n", b"levels: 0\nnodes: 0\n"),
-    (b".i 2\n.o 2\n.type f\n1- 1-\n-1 -1\n.e\n", b"levels: 1 1\nnodes: 2\n"),
-    (b".i 16\n.o 1\n.e\n", b"levels: 0 0 0 0 0 0 0 0 0 0 0 0 0 0 0 0\nnodes: 0\n"),
-    (b".i 2\r\n.o 2\r\n.p 99\r\n11|10\r\n1-|01\r\n-1|01", b"levels: 2 1\nnodes: 3\n"),
+    (
+        b".i 2\n.o 2\n.type f\n1- 1-\n-1 -1\n.e\n",
+        b"levels: 1 1\nnodes: 2\n",
+    ),
+    (
+        b".i 16\n.o 1\n.e\n",
+        b"levels: 0 0 0 0 0 0 0 0 0 0 0 0 0 0 0 0\nnodes: 0\n",
+    ),
+    (
+        b".i 2\r\n.o 2\r\n.p 99\r\n11|10\r\n1-|01\r\n-1|01",
+        b"levels: 2 1\nnodes: 3\n",
+    ),
 ];
 
 /// A reader of bytes that fails once as many calls were made as are left.

@@ -89,7 +89,7 @@ unfolding literals_at
 literals_apart term place b h =
     all_parts (literal_at term (64 * place + b)) 6 10 0
     ∙ (λ i. all_same (literal_at term (64 * place + b)) (literal_at term b) 6 0 (λ x l u. literal_same term (64 * place + b) b x (low_bit place b x u)) i
-      && all_same (literal_at term (64 * place + b)) (literal_at term (64 * place)) 10 6 (λ x l u. literal_same term (64 * place + b) (64 * place) x (high_bit place b x h l ∙ sym (high_bit_alone place x l))) i)
+    && all_same (literal_at term (64 * place + b)) (literal_at term (64 * place)) 10 6 (λ x l u. literal_same term (64 * place + b) (64 * place) x (high_bit place b x h l ∙ sym (high_bit_alone place x l))) i)
 
 -- a literal holds where the masked bit is the value's
 literal_bits : (p c v : ℕ) → p < 2 → c < 2 → v < 2 → v ≡ min v c → ((not (eqb c 1) || eqb p v) ≡ true → min p c ≡ v) × (min p c ≡ v → (not (eqb c 1) || eqb p v) ≡ true)
@@ -177,9 +177,9 @@ matches_is n m term p few fits l =
     let e : n + (16 - n) ≡ 16 = omega arith in
     matches_from term p n 0 (omega arith)
     ∙ sym (
-      sym (ap (λ z. list_all (literal_at term (number p)) (range_with_len 0 z)) e) ∙ all_parts (literal_at term (number p)) n (16 - n) 0
-      ∙ ap (λ b. list_all (literal_at term (number p)) (range_with_len 0 n) && b) (all_from (literal_at term (number p)) (16 - n) (0 + n) (λ x lo hi. no_literal term (number p) x (bit_at_above term.care n x fits (omega arith))))
-      ∙ and_true (list_all (literal_at term (number p)) (range_with_len 0 n)))
+    sym (ap (λ z. list_all (literal_at term (number p)) (range_with_len 0 z)) e) ∙ all_parts (literal_at term (number p)) n (16 - n) 0
+    ∙ ap (λ b. list_all (literal_at term (number p)) (range_with_len 0 n) && b) (all_from (literal_at term (number p)) (16 - n) (0 + n) (λ x lo hi. no_literal term (number p) x (bit_at_above term.care n x fits (omega arith))))
+    ∙ and_true (list_all (literal_at term (number p)) (range_with_len 0 n)))
   where
     and_true : (b : Bool) → (b && true) ≡ b
     and_true true = refl

@@ -81,8 +81,8 @@ place_holds u (k ∷ ks) h = by (same_pair u k) refl (place_holds u ks)
     by false e more = elim h [
       | inl s ↦ absurd (true≢false (sym ((pair_decides u k).1 s) ∙ e))
       | inr a ↦
-        let next : 1 + position_or_len (same_pair u) ks ≡ suc (position_or_len (same_pair u) ks) = omega arith in
-        ap (λ z. get_or (k ∷ ks) z (0, 0)) next ∙ more a
+          let next : 1 + position_or_len (same_pair u) ks ≡ suc (position_or_len (same_pair u) ks) = omega arith in
+          ap (λ z. get_or (k ∷ ks) z (0, 0)) next ∙ more a
     ]
 
 place_none : (u : Pair) (ks : List Pair) → (Among u ks → ⊥) → place ks u ≡ length ks
@@ -253,11 +253,11 @@ merging_numbers keys done out unequal m = record {
   long = ap length m.numbers ∙ length-map done (λ u. position_or_len (same_pair u) keys);
   apart = λ j k a b. (
     λ e.
-      let u : ℕ × ℕ = get_or done j (0, 0) in
-      let v : ℕ × ℕ = get_or done k (0, 0) in
-      let places : position_or_len (same_pair u) keys ≡ position_or_len (same_pair v) keys = sym (at j a) ∙ e ∙ at k b in
-      sym (place_holds u keys (m.known u (among_at done j (0, 0) a))) ∙ ap (λ z. get_or keys z (0, 0)) places ∙ place_holds v keys (m.known v (among_at done k (0, 0) b)),
-    λ e. at j a ∙ ap (λ u. position_or_len (same_pair u) keys) e ∙ sym (at k b)
+        let u : ℕ × ℕ = get_or done j (0, 0) in
+        let v : ℕ × ℕ = get_or done k (0, 0) in
+        let places : position_or_len (same_pair u) keys ≡ position_or_len (same_pair v) keys = sym (at j a) ∙ e ∙ at k b in
+        sym (place_holds u keys (m.known u (among_at done j (0, 0) a))) ∙ ap (λ z. get_or keys z (0, 0)) places ∙ place_holds v keys (m.known v (among_at done k (0, 0) b)),
+    λ e. at j a ∙ ap (λ u. position_or_len (same_pair u) keys) e ∙ sym (at k b),
   );
 }
   where
