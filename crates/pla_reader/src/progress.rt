@@ -23,14 +23,14 @@ use order_model::Term;
 use std::alloc::{AllocError, Global};
 
 /// The logical type of a description.
-#[derive(Clone, Copy, Debug, PartialEq, Eq)]
+#[derive(Clone, Copy)]
 pub enum LogicalType {
     F,
     Fd,
 }
 
 /// Why a line was not taken.
-#[derive(Clone, Copy, Debug, PartialEq, Eq)]
+#[derive(Clone, Copy)]
 pub enum LineError {
     Memory,
     Fault(LineFault),
