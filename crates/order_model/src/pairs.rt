@@ -144,7 +144,7 @@ impl Pairs {
         }
     }
 
-    /// The pairs of n variables that a text lists, as `2,0:1,0`: each of them is a number, a comma and a number, and colons stand between them. A pair that is listed again counts once.
+    /// The pairs of n variables that a text lists, as `2,0:1,0`, in decimals from 0 to 15 without leading zeros. A pair that is listed again counts once.
     pub fn parse(text: &[u8], n: u8) -> Result<Pairs, PairsFault>
         requires some { 1 ≤ n }
         requires few { n ≤ 16 }
