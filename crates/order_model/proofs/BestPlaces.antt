@@ -1,11 +1,11 @@
 -- The place that sifting chooses: the uppermost of those of least size.
 --     best_at_best_place      the best order has the variable at its best place
 --     best_from_place      and there is one such place only
-use Rattle.std.proofs.Common.{◌≡◌, ℕ, zero, suc, ◌+◌, ◌<◌, ◌≤◌, Bool, true, false, cond, ◌⊎◌, inl, inr, List, [], ◌∷◌, map, length, refl, sym, ap, ◌∙◌, subst, arith, ltb}
-use Rattle.std.specs.List.{filter, fold, range_with_len}
+use Rattle.std.proofs.Common.{◌≡◌, ℕ, zero, suc, ◌+◌, ◌<◌, ◌≤◌, Bool, true, false, cond, ◌⊎◌, inl, inr, List, ◌∷◌, map, length, refl, sym, ap, ◌∙◌, arith, ltb}
+use Rattle.std.specs.List.{filter, range_with_len}
 use Rattle.std.proofs.lemmas.Bool.{true≢false, cases_Bool, ltb-true, ltb-false}
 use Rattle.order_model.specs.Functions.{Function}
-use Rattle.order_model.specs.Orders.{IsOrder, has}
+use Rattle.order_model.specs.Orders.{IsOrder}
 use Rattle.order_model.specs.Pairs.{Pair, keeps, Keeps}
 use Rattle.order_model.specs.Levels.{size_under}
 use Rattle.order_model.specs.Sifting.{moved, placements, smallest_order, smallest_of, best, IsBestPlace}

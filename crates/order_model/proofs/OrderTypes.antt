@@ -1,9 +1,9 @@
 -- Lists of variables that are orders.
 --     index_of      where a member stands
 --     accepts_variables, accepts_distinct      the file order, and distinct variables below their number, are orders
-use Rattle.std.proofs.Common.{◌≡◌, ◌≢◌, ◌↔◌, ℕ, zero, suc, ◌+◌, ◌<◌, ◌≤◌, Bool, true, false, List, [], ◌∷◌, length, get_or, refl, sym, ap, ◌∙◌, arith, IsTrue, inl, inr, eqb, eqb-true, subst, ◌++◌, add-zero, add-one, zero-add, ◌||◌}
-use Rattle.std.specs.List.{All, IsDistinct, AllByRecursion, range_with_len}
-use Rattle.std.proofs.lemmas.Bool.{cases_Bool, cases_eq, ne_eqb, false≢true, true≢false}
+use Rattle.std.proofs.Common.{◌≡◌, ◌≢◌, ℕ, zero, suc, ◌+◌, ◌<◌, ◌≤◌, Bool, true, false, List, [], ◌∷◌, length, get_or, refl, sym, ap, ◌∙◌, arith, inl, inr, eqb, eqb-true, subst, ◌++◌, add-zero, add-one, zero-add, ◌||◌}
+use Rattle.std.specs.List.{All, IsDistinct, range_with_len}
+use Rattle.std.proofs.lemmas.Bool.{cases_eq, ne_eqb, false≢true}
 use Rattle.std.proofs.lemmas.List.{get_or_default}
 use Rattle.std.proofs.lemmas.Map.Keys.{IsDistinct-from_apart}
 use Rattle.std.proofs.lemmas.Nat.Bits.{bit_at-zero}

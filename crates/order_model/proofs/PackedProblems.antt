@@ -3,9 +3,9 @@
 --     place_inside, block_inside      a word of table j lies in the words
 --     value_of      a value is a bit of a word
 --     tables_of_zeros, tables_of_set, packed_set      all zeros; one value made 1
-use Rattle.std.proofs.Common.{◌≡◌, ◌≢◌, ℕ, zero, suc, ◌+◌, ◌-◌, ◌*◌, ◌/◌, ◌%◌, ◌^◌, ◌<◌, ◌≤◌, Bool, true, false, cond, List, [], ◌∷◌, length, map, get_or, set, take, drop, replicate, refl, sym, ap, ◌∙◌, arith, inl, inr, ◌⊎◌, subst, eqb, zero-add, bit_or, ◌||◌, ◌&&◌}
+use Rattle.std.proofs.Common.{◌≡◌, ◌≢◌, ℕ, zero, suc, ◌+◌, ◌*◌, ◌/◌, ◌%◌, ◌^◌, ◌<◌, ◌≤◌, Bool, true, false, cond, List, [], ◌∷◌, length, map, get_or, set, drop, replicate, refl, sym, ap, ◌∙◌, arith, inl, inr, ◌⊎◌, subst, eqb, zero-add, bit_or, ◌||◌, ◌&&◌}
 use Rattle.std.specs.Int.{bit_at, w16, w64}
-use Rattle.std.specs.List.{range_with_len, list_any, filter}
+use Rattle.std.specs.List.{list_any, filter}
 use Rattle.std.proofs.Math.Nat.{mul-le-mul_right}
 use Rattle.std.proofs.lemmas.Bool.{cases_eq, cases_lt}
 use Rattle.std.proofs.lemmas.List.{get_or-take, get_or-drop, get_or-replicate, get_or-set_same, get_or-set_other, length-set, length-replicate, length-take-le, length-drop, ext_get_or}

@@ -2,13 +2,13 @@
 --     lower_bits      a word's bits, from a test of all 64
 --     shifted_bit      a shifted word's bits
 --     some_difference, no_difference      what a word that is masked and compared with itself shifted shows
-use Rattle.std.proofs.Common.{◌≡◌, ◌≢◌, ℕ, zero, suc, ◌+◌, ◌-◌, ◌*◌, ◌/◌, ◌%◌, ◌^◌, ◌<◌, ◌≤◌, Bool, true, false, cond, not, List, [], ◌∷◌, length, map, get_or, refl, sym, ap, ◌∙◌, arith, inl, inr, subst, eqb, eqb-true, min, zero-add, bit_and, bit_xor}
+use Rattle.std.proofs.Common.{◌≡◌, ℕ, zero, suc, ◌+◌, ◌-◌, ◌*◌, ◌/◌, ◌%◌, ◌^◌, ◌<◌, true, false, not, refl, sym, ap, ◌∙◌, arith, subst, eqb, eqb-true, min, zero-add, bit_and, bit_xor}
 use Rattle.std.specs.Int.{bit_at, w64, trailing_zeros}
-use Rattle.std.specs.List.{list_all, AllPass, range_with_len}
-use Rattle.std.proofs.lemmas.Bool.{cases_Bool, cases_eq, not-false, false≢true, true≢false}
+use Rattle.std.specs.List.{list_all, range_with_len}
+use Rattle.std.proofs.lemmas.Bool.{not-false, false≢true}
 use Rattle.std.proofs.lemmas.List.Sums.{AllPass-from_list_all}
 use Rattle.std.proofs.lemmas.List.FromFn.{get_or-range_with_len, length-range_with_len}
-use Rattle.std.proofs.lemmas.Nat.Bits.{bit_at-trailing_zeros, bit_at_and, bit_at_xor, bit_at-lt, bit_at-zero, bit_at_above}
+use Rattle.std.proofs.lemmas.Nat.Bits.{bit_at-trailing_zeros, bit_at_and, bit_at_xor, bit_at-lt, bit_at-zero}
 use Rattle.std.proofs.lemmas.Nat.{shr-shr}
 use Rattle.order_model.proofs.PointNumbers.{room_above}
 

@@ -3,12 +3,11 @@
 --     some_point      each number below 2 ^ n is that of a point
 --     room_above      where bit x is 0, 2 ^ x may be added
 --     table_depends, table_independent      when the function of a truth table depends on x, and when not
-use Rattle.std.proofs.Common.{◌≡◌, ◌≢◌, ℕ, zero, suc, ◌+◌, ◌*◌, ◌/◌, ◌%◌, ◌^◌, ◌<◌, ◌≤◌, Bool, true, false, cond, not, List, [], ◌∷◌, length, get_or, set, refl, sym, ap, ◌∙◌, arith, inl, inr, subst, pow-suc, eqb, add-one}
+use Rattle.std.proofs.Common.{◌≡◌, ℕ, zero, suc, ◌+◌, ◌*◌, ◌/◌, ◌%◌, ◌^◌, ◌<◌, Bool, true, false, cond, List, [], ◌∷◌, length, get_or, set, refl, sym, ap, ◌∙◌, arith, subst, pow-suc, eqb}
 use Rattle.std.specs.Int.{bit_at}
-use Rattle.std.proofs.lemmas.Bool.{cases_Bool, false≢true, true≢false}
 use Rattle.std.proofs.lemmas.List.{set-get_or, length-set, get_or-set_same}
 use Rattle.std.proofs.lemmas.Nat.Bits.{bit_at-suc, bit_at_lowest}
-use Rattle.order_model.specs.Functions.{Point, Function, bit, number, from_table, restrict, SameFunction, depends}
+use Rattle.order_model.specs.Functions.{Point, number, from_table, restrict, SameFunction, depends}
 use Rattle.order_model.proofs.Tables.{depends_false, depends_no}
 
 -- a bit as a number

@@ -1,10 +1,10 @@
 -- The variables by falling count, ties by smaller index.
 --     sifting_order_lem      each variable stands once, behind those of larger count and those of the same count that are smaller
-use Rattle.std.proofs.Common.{◌≡◌, ◌↔◌, ℕ, zero, suc, ◌+◌, ◌<◌, ◌≤◌, Bool, true, false, cond, ◌||◌, ◌⊎◌, inl, inr, List, [], ◌∷◌, refl, sym, ap, ◌∙◌, subst, arith, nat_eq, eqb-true, eq-eqb, ne_eqb, ltb}
-use Rattle.std.specs.List.{fold, range_with_len, IsDistinct, AllByRecursion}
-use Rattle.std.proofs.lemmas.Bool.{false≢true, true≢false, cases_Bool, cases_eq, or_cases, or_left, or_right, ltb-true, ltb-false}
+use Rattle.std.proofs.Common.{◌≡◌, ℕ, zero, suc, ◌+◌, ◌<◌, ◌≤◌, Bool, true, false, cond, ◌||◌, ◌⊎◌, inl, inr, List, [], ◌∷◌, refl, sym, ap, ◌∙◌, subst, arith, nat_eq, eqb-true, eq-eqb, ltb}
+use Rattle.std.specs.List.{fold, range_with_len, IsDistinct}
+use Rattle.std.proofs.lemmas.Bool.{false≢true, cases_Bool, or_cases, or_left, or_right, ltb-true, ltb-false}
 use Rattle.order_model.specs.Functions.{Function}
-use Rattle.order_model.specs.Orders.{IsOrder, has, variables, place_in}
+use Rattle.order_model.specs.Orders.{has, variables, place_in}
 use Rattle.order_model.specs.Pairs.{is_above}
 use Rattle.order_model.specs.Sifting.{count_at, insert_by_count, sifting_order, IsSiftingOrder}
 use Rattle.order_model.proofs.OrderLists.{has_variables}

@@ -1,7 +1,7 @@
 -- Diagrams with the order of their variables, as a contract sees them.
 --     OrderedGraph, IsOrderedGraph d      an order with nodes and roots, and what each diagram of the program holds
 --     root_value d j      the function of root j
-use Rattle.std.specs.Prelude.{◌≡◌, ℕ, ◌<◌, ◌^◌, false, List, length, get_or}
+use Rattle.std.specs.Prelude.{ℕ, ◌<◌, ◌^◌, false, List, length, get_or}
 use Rattle.order_model.specs.declared.Ref.{Ref}
 use Rattle.order_model.specs.declared.Ref.TheVariants.{Terminal}
 use Rattle.order_model.specs.declared.Node.{Node}

@@ -3,7 +3,7 @@
 --     matches product p      whether a point has all the values that a product asks for
 --     product_function products j, product_functions m products      output j: 1 where some product of its ON-set matches; the outputs' functions
 --     product_of n m term      the product that the program's masks stand for
-use Rattle.std.specs.Prelude.{◌≡◌, ℕ, Bool, true, cond, ◌&&◌, ◌==◌, List, map, Option, Some, None}
+use Rattle.std.specs.Prelude.{ℕ, Bool, true, cond, ◌&&◌, ◌==◌, List, map, Option, Some, None}
 use Rattle.std.specs.Int.{bit_at}
 use Rattle.std.specs.List.{list_any, list_all, range_with_len, enumerate_from}
 use Rattle.std.specs.Bool.{beq}

@@ -1,6 +1,5 @@
-use Rattle.std.proofs.Common.{◌≡◌, length, ◌∙◌, arith}
+use Rattle.std.proofs.Common.{◌∙◌}
 use Rattle.std.proofs.lemmas.List.{length-set}
-use Rattle.std.proofs.lemmas.List.Sums.{count_by-le-length}
 use Rattle.order_model.proofs.NodeCounts.{counts_more}
 use Rattle.order_model.proofs.diagrams.counts_by_variable.Goals as goal
 

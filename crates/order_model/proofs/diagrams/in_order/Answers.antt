@@ -1,4 +1,4 @@
-use Rattle.std.proofs.Common.{◌≡◌, ◌≢◌, ◌<◌, ◌≤◌, ℕ, ap, sym, ◌∙◌, arith, inl, inr, get_or, set}
+use Rattle.std.proofs.Common.{ap, sym, ◌∙◌, arith, inl, inr, get_or, set}
 use Rattle.std.proofs.lemmas.Bool.{cases_eq}
 use Rattle.std.proofs.lemmas.List.{get_or-set_same, get_or-set_other, length-set}
 use Rattle.order_model.proofs.diagrams.in_order.Goals as goal

@@ -1,4 +1,3 @@
-use Rattle.std.proofs.Common.{ℕ, length}
 use Rattle.order_model.proofs.OrderTypes.{Seen}
 use Rattle.order_model.proofs.orders.has_repeat.Given as goal
 

@@ -1,4 +1,4 @@
-use Rattle.std.proofs.Common.{◌≡◌, ℕ, List, ◌++◌, ◌∷◌, [], sym, ap, ◌∙◌, subst, arith}
+use Rattle.std.proofs.Common.{◌≡◌, ◌++◌, ◌∷◌, [], sym, ap, ◌∙◌, subst, arith}
 use Rattle.order_model.specs.Orders.{variables}
 use Rattle.order_model.specs.OrderFaults.{Accepts}
 use Rattle.order_model.proofs.OrderTypes.{accepts_variables, variables_more}

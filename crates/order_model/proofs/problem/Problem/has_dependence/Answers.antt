@@ -1,4 +1,4 @@
-use Rattle.std.proofs.Common.{◌≡◌, ◌<◌, ℕ, List, Bool, true, refl, sym, ap, ◌∙◌, arith}
+use Rattle.std.proofs.Common.{List, Bool, sym, ap, ◌∙◌, arith}
 use Rattle.order_model.specs.Functions.{depends, from_table}
 use Rattle.order_model.specs.Problems.{table_in}
 use Rattle.order_model.proofs.PackedProblems.{some_depends, none_depends}

@@ -1,5 +1,5 @@
-use Rattle.std.proofs.Common.{◌≡◌, ◌*◌, ℕ, List, replicate, ap, ◌∙◌, rules}
-use Rattle.order_model.specs.Problems.{tables_of, words_per_table}
+use Rattle.std.proofs.Common.{◌≡◌, ◌*◌, replicate, ap, ◌∙◌, rules}
+use Rattle.order_model.specs.Problems.{tables_of}
 use Rattle.order_model.proofs.PackedProblems.{tables_of_zeros}
 use Rattle.order_model.proofs.problem.Problem.new.Goals as goal
 
