@@ -11,9 +11,10 @@ use std::thread::Threads;
 static INTERLEAVED: &[u8] = b".i 6\n.o 1\n1--1-- 1\n-1--1- 1\n--1--1 1\n.e\n";
 
 /// Covers, and the level counts under their file orders.
-static COUNTS: [(&[u8], &[u32]); 9] = [
+static COUNTS: [(&[u8], &[u32]); 10] = [
     (b".i 3\n.o 1\n001 1\n010 1\n100 1\n111 1\n.e\n", &[1, 2, 2]),
-    (INTERLEAVED, &[1, 2, 4, 4, 2, 1]),
+    (b".i 6\n.o 1\n.ilb a0 a1 a2 b0 b1 b2\n.ob f\n1--1-- 1\n-1--1- 1\n--1--1 1\n.e\n", &[1, 2, 4, 4, 2, 1]),
+    (b".i 6\n.o 1\n1--1-- 1\n-1--1- 1\n--1--1 1\n.e\n", &[1, 2, 4, 4, 2, 1]),
     (b".i 3\n.o 1\n.e\n", &[0, 0, 0]),
     (b".i 1\n.o 2\n1 10\n0 01\n.e\n", &[2]),
     (b".i 2\n.o 2\n11 10\n1- 01\n-1 01\n.e\n", &[2, 1]),
@@ -48,8 +49,9 @@ fn tells_the_dependence_of_cofactors(rt: HostRuntime) -> Result<(), Fail> {
     // Variable 0 is fixed to 0: variables 0 and 3 don't matter any more.
     let row = tables.cofactor(rt.alloc(), 0, 1, 0)?;
     assert_eq!(rt; row.inputs(), 6);
-    for (x, wanted) in [(0, false), (1, true), (2, true), (3, false), (4, true), (5, true)] {
-        assert_eq!(rt; row.depends(x), wanted, "variable {x}");
+    let wanted = [false, true, true, false, true, true];
+    for x in 0..6u8 {
+        assert_eq!(rt; row.depends(x), wanted[x as usize], "variable {x}");
     }
     // Variables 0 and 3 are fixed to 1: the function is 1.
     let row = tables.cofactor(rt.alloc(), 0, 0b1001, 0b1001)?;
@@ -63,13 +65,22 @@ fn tells_the_dependence_of_cofactors(rt: HostRuntime) -> Result<(), Fail> {
 /// The product of variables 5, 6 and 15 of 16, and the complement of variable 9.
 static WIDE: &[u8] = b".i 16\n.o 2\n-----11--------1 10\n---------0------ 01\n.e\n";
 
+/// Points, and the values of its outputs.
+static VALUES: [(u16, bool, bool); 5] = [
+    (0, false, true),
+    (0x8060, true, true),
+    (0xffff, true, false),
+    (0x8040, false, true),
+    (0x8220, false, false),
+];
+
 #[test]
 fn holds_the_values_of_wide_covers(rt: HostRuntime) -> Result<(), Fail> {
     let tables = tables_of(&rt, rt.alloc(), WIDE)?;
     assert_eq!(rt; (tables.problem().inputs(), tables.problem().outputs()), (16, 2));
-    for (point, product, complement) in [(0, false, true), (0x8060, true, true), (0xffff, true, false), (0x8040, false, true), (0x8220, false, false)] {
-        assert_eq!(rt; tables.value(0, point), product, "point {point}");
-        assert_eq!(rt; tables.value(1, point), complement, "point {point}");
+    for (point, product, complement) in VALUES {
+        assert_eq!(rt; tables.value(0, point as u32), product, "point {point}");
+        assert_eq!(rt; tables.value(1, point as u32), complement, "point {point}");
     }
     let row = tables.cofactor(rt.alloc(), 0, 0x8000, 0x8000)?;
     assert_eq!(rt; row.inputs(), 16);
