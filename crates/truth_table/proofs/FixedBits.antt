@@ -6,11 +6,11 @@
 --     table_by      a truth table from its values
 --     fixed_table_low, fixed_table_high      the truth table in words that are fixed within, or whole
 --     fixed_clean_low, fixed_clean_high      nothing stands behind the last point
-use Rattle.std.proofs.Common.{◌≡◌, ◌≢◌, ℕ, zero, suc, ◌+◌, ◌-◌, ◌*◌, ◌/◌, ◌%◌, ◌^◌, ◌<◌, ◌≤◌, Bool, true, false, cond, ◌⊎◌, inl, inr, List, [], ◌∷◌, length, get_or, set, refl, sym, ap, ◌∙◌, arith, subst, eqb, min, max, bit_and, bit_or}
+use Rattle.std.proofs.Common.{◌≡◌, ◌≢◌, ℕ, zero, suc, ◌+◌, ◌-◌, ◌*◌, ◌/◌, ◌%◌, ◌^◌, ◌<◌, ◌≤◌, Bool, true, false, ◌⊎◌, inl, inr, List, length, get_or, set, refl, sym, ap, ◌∙◌, arith, subst, eqb, min, bit_and, bit_or}
 use Rattle.std.specs.Int.{bit_at}
 use Rattle.std.proofs.Math.Nat.{add-mul-div_right}
 use Rattle.std.proofs.lemmas.Bool.{cases_eq, cases_lt}
-use Rattle.std.proofs.lemmas.List.{set-get_or, length-set, get_or-set_same, get_or-set_other}
+use Rattle.std.proofs.lemmas.List.{set-get_or, get_or-set_same, get_or-set_other}
 use Rattle.std.proofs.lemmas.Nat.{pow_pos}
 use Rattle.std.proofs.lemmas.Nat.Bits.{bit_at-lt, bit_at-zero, bit_at_and, bit_at_or, bit_at_above, bit_at_cat_low, bit_at_cat_high}
 use Rattle.order_model.specs.Functions.{Point, Function, number, from_table, restrict, SameFunction, table}
@@ -18,7 +18,7 @@ use Rattle.order_model.specs.Problems.{IsClean, packed_bit, table_in, words_per_
 use Rattle.order_model.proofs.Numbers.{table-from_table}
 use Rattle.order_model.proofs.PackedProblems.{length-table_in}
 use Rattle.order_model.proofs.PackedTables.{table_value, value_at_word, whole_words}
-use Rattle.order_model.proofs.PackedWords.{shifted_bit, step_is}
+use Rattle.order_model.proofs.PackedWords.{shifted_bit}
 use Rattle.order_model.proofs.PointNumbers.{weight, number-small, bit-number, number-raised, room_above}
 use Rattle.order_model.proofs.Tables.{table_same}
 use Rattle.truth_table.specs.Fixing.{fixed_bit}
@@ -93,10 +93,10 @@ fixed_inside n x false k small h = omega arith
 fixed_twice : (x : ℕ) (b : Bool) (k : ℕ) → fixed_bit x b (fixed_bit x b k) ≡ fixed_bit x b k
 fixed_twice x true k = elim (cases_bit k x) [
   | inl e ↦
-    let f = up_zero k x e in
-    let t = flip k x in
-    let one : bit_at (k + 2 ^ x) x ≡ 1 = omega arith in
-    ap (fixed_bit x true) f ∙ up_one (k + 2 ^ x) x one ∙ sym f
+      let f = up_zero k x e in
+      let t = flip k x in
+      let one : bit_at (k + 2 ^ x) x ≡ 1 = omega arith in
+      ap (fixed_bit x true) f ∙ up_one (k + 2 ^ x) x one ∙ sym f
   | inr e ↦ ap (fixed_bit x true) (up_one k x e)
 ]
 fixed_twice x false k = elim (cases_bit k x) [
@@ -132,11 +132,11 @@ fixed_outside n x true k small h = omega arith
 fixed_outside n x false k small h = elim (cases_bit k x) [
   | inl e ↦ (let f = down_zero k x e in omega arith)
   | inr e ↦
-    let f = down_one k x e in
-    elim (cases_lt (k - 2 ^ x) (2 ^ n)) [
-      | inl lt ↦ (let r = room_above n (k - 2 ^ x) x lt small (bit_without k x e) in let l = bit_there k x e in absurd (omega arith))
-      | inr ge ↦ omega arith
-    ]
+      let f = down_one k x e in
+      elim (cases_lt (k - 2 ^ x) (2 ^ n)) [
+        | inl lt ↦ (let r = room_above n (k - 2 ^ x) x lt small (bit_without k x e) in let l = bit_there k x e in absurd (omega arith))
+        | inr ge ↦ omega arith
+      ]
 ]
 
 -- one more place is given the word at its fixed place
@@ -197,9 +197,9 @@ number-fixed p x b h = by (get_or p x false) refl b
 pub fixed_rows_room : (n x : ℕ) (b : Bool) (words : List ℕ) → 6 ≤ x → x < n → length words ≡ words_per_table n → (i : ℕ) → i < length words → fixed_bit (x - 6) b i < length words
 fixed_rows_room n x b words high small long i h = elim (whole_words n) [
   | inl w ↦
-    let l = long ∙ w.2 in
-    let f = fixed_inside (n - 6) (x - 6) b i (omega arith) (omega arith) in
-    omega arith
+      let l = long ∙ w.2 in
+      let f = fixed_inside (n - 6) (x - 6) b i (omega arith) (omega arith) in
+      omega arith
   | inr w ↦ absurd (omega (arith, w.0))
 ]
 
@@ -234,11 +234,11 @@ module _ (from lower x : ℕ) (small : x < 6) (low : (b : ℕ) → b < 64 → bi
   below_half k h e = elim (cases_lt k (2 ^ x)) [
     | inl lt ↦ raised_low half (2 ^ x) k h lt
     | inr ge ↦
-      let s : k - 2 ^ x + 2 ^ x ≡ k = omega arith in
-      let f = sym (flip (k - 2 ^ x) x) ∙ ap (λ z. bit_at z x) s ∙ e in
-      let l = bit_at-lt (k - 2 ^ x) x in
-      let b = half_bit (k - 2 ^ x) (omega arith) in
-      raised_high half (2 ^ x) k h ge ∙ omega arith
+        let s : k - 2 ^ x + 2 ^ x ≡ k = omega arith in
+        let f = sym (flip (k - 2 ^ x) x) ∙ ap (λ z. bit_at z x) s ∙ e in
+        let l = bit_at-lt (k - 2 ^ x) x in
+        let b = half_bit (k - 2 ^ x) (omega arith) in
+        raised_high half (2 ^ x) k h ge ∙ omega arith
   ]
 
   pub doubled_zero : (k : ℕ) → k < 64 → bit_at k x ≡ 0 → bit_at (bit_or (bit_and from lower) (bit_and from lower * 2 ^ (2 ^ x) % 2 ^ 64)) k ≡ bit_at from k
@@ -266,9 +266,9 @@ module _ (word lower x : ℕ) (small : x < 6) (low : (b : ℕ) → b < 64 → bi
   upper_bit k h = elim (cases_bit k x) [
     | inl e ↦ doubled_zero (word / 2 ^ (2 ^ x)) lower x small low k h e ∙ shifted_bit word (2 ^ x) k ∙ sym (ap (bit_at word) (up_zero k x e))
     | inr e ↦
-      let there = bit_there k x e in
-      let s : k - 2 ^ x + 2 ^ x ≡ k = omega arith in
-      doubled_one (word / 2 ^ (2 ^ x)) lower x small low k h e ∙ shifted_bit word (2 ^ x) (k - 2 ^ x) ∙ ap (bit_at word) (s ∙ sym (up_one k x e))
+        let there = bit_there k x e in
+        let s : k - 2 ^ x + 2 ^ x ≡ k = omega arith in
+        doubled_one (word / 2 ^ (2 ^ x)) lower x small low k h e ∙ shifted_bit word (2 ^ x) (k - 2 ^ x) ∙ ap (bit_at word) (s ∙ sym (up_one k x e))
   ]
 
   pub lower_bit : (k : ℕ) → k < 64 → bit_at (bit_or (bit_and word lower) (bit_and word lower * 2 ^ (2 ^ x) % 2 ^ 64)) k ≡ bit_at word (fixed_bit x false k)
@@ -353,8 +353,8 @@ module _ (n x : ℕ) (b : Bool) (old new : List ℕ) (small : x < n) where
     pub fixed_clean_high : ((i : ℕ) → i < length new → get_or new i 0 < 2 ^ 64) → IsClean n new
     fixed_clean_high fits i c l big = elim (whole_words n) [
       | inl w ↦
-        let s = w.1 in
-        let p = pow_pos (n - 6) in
-        bit_at_above (get_or new i 0) 64 c (fits i l) (omega arith)
+          let s = w.1 in
+          let p = pow_pos (n - 6) in
+          bit_at_above (get_or new i 0) 64 c (fits i l) (omega arith)
       | inr w ↦ absurd (omega (arith, w.0))
     ]

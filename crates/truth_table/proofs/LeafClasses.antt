@@ -2,17 +2,16 @@
 --     subfunctions_fixed      the subfunctions by an order's variables fix them to the points' bits
 --     assignments_small      the points' numbers are below 2 ^ n
 --     leaves_tell      the values tell the functions with all variables fixed apart
-use Rattle.std.proofs.Common.{◌≡◌, ◌≢◌, ◌↔◌, ℕ, zero, suc, ◌+◌, ◌-◌, ◌*◌, ◌/◌, ◌%◌, ◌^◌, ◌<◌, ◌≤◌, Bool, true, false, cond, not, ◌||◌, nat_eq, List, [], ◌∷◌, ◌++◌, length, map, take, drop, drop-cons, get_or, set, replicate, refl, sym, ap, ap₂, ◌∙◌, arith, subst, inl, inr, ◌⊎◌, eqb, eqb-true, eq-eqb, ne_eqb, max, bit_or, IsTrue}
+use Rattle.std.proofs.Common.{◌≡◌, ◌≢◌, ℕ, zero, suc, ◌+◌, ◌-◌, ◌*◌, ◌/◌, ◌%◌, ◌^◌, ◌<◌, ◌≤◌, Bool, true, false, cond, ◌||◌, nat_eq, List, [], ◌∷◌, ◌++◌, length, map, take, drop, drop-cons, get_or, set, replicate, refl, sym, ap, ap₂, ◌∙◌, arith, subst, inl, inr, eqb, eq-eqb, ne_eqb, bit_or}
 use Rattle.std.specs.Int.{bit_at}
 use Rattle.std.specs.List.{All, flat_map, AllZip, AllByRecursion, IsDistinct}
-use Rattle.std.specs.Set.{is_member}
 use Rattle.std.proofs.lemmas.Bool.{cases_eq, false≢true, true≢false}
 use Rattle.std.proofs.lemmas.List.{append_assoc, get_or_append_left, length-append, map-append, take_all, take_more, length-set, length-replicate, get_or-set_same, get_or-set_other}
 use Rattle.std.proofs.lemmas.List.Concat.{flat_map-append}
 use Rattle.std.proofs.lemmas.List.Elements.{All-cons, All-head, All-nil, All-tail}
 use Rattle.std.proofs.lemmas.Nat.{one_shl, or_lt, pow_below, pow_pos}
 use Rattle.std.proofs.lemmas.Nat.Bits.{bit_at-lt, bit_at-zero, bit_at_or, bit_at-pow_same, bit_at-pow_other, same_from_bits_below}
-use Rattle.order_model.specs.Functions.{Point, Function, bit, number, from_table, restrict, SameFunction, table}
+use Rattle.order_model.specs.Functions.{Point, Function, bit, number, from_table, restrict, SameFunction}
 use Rattle.order_model.specs.Levels.{subfunctions, reach}
 use Rattle.order_model.specs.Orders.{has, IsOrder}
 use Rattle.order_model.specs.Problems.{packed_bit, table_in, words_per_table}
@@ -23,7 +22,7 @@ use Rattle.order_model.proofs.PointNumbers.{weight, number-small, bit-number}
 use Rattle.order_model.proofs.Tables.{table_same, same_from_table}
 use Rattle.truth_table.specs.Assignments.{assignments, value_number, values_at}
 use Rattle.truth_table.specs.Restrictions.{fixed}
-use Rattle.truth_table.proofs.LevelSteps.{Tells, function_at, none}
+use Rattle.truth_table.proofs.LevelSteps.{Tells, function_at}
 
 -- what holds of each element
 abbrev pub Each : {X : Type 0} → (X → Type 0) → List X → Type 0
@@ -69,8 +68,8 @@ assignments_clear x (y ∷ ys) h =
     let rest = assignments_clear x ys h.1 in
     each_append (λ k. bit_at k x ≡ 0) (assignments ys) (map (λ k. bit_or k (2 ^ y)) (assignments ys)) rest
     (each_map (λ k. bit_at k x ≡ 0) (λ k. bit_at k x ≡ 0) (λ k. bit_or k (2 ^ y)) (λ k e.
-      let other = bit_at-pow_other y x (λ s. h.0 (sym s)) in
-      bit_at_or k (2 ^ y) x ∙ omega arith) (assignments ys) rest)
+    let other = bit_at-pow_other y x (λ s. h.0 (sym s)) in
+    bit_at_or k (2 ^ y) x ∙ omega arith) (assignments ys) rest)
 
 pub assignments_small : (n : ℕ) (xs : List ℕ) → AreDistinct n xs → Each (λ k. k < 2 ^ n) (assignments xs)
 unfolding assignments
@@ -111,9 +110,9 @@ subfunctions_fixed n (x ∷ xs) h f =
     upper : map (λ k. fixed xs k (restrict x true f)) (assignments xs) ≡ map (λ k. fixed xs k (restrict x (eqb (bit_at k x) 1) f)) (map (λ k. bit_or k (2 ^ x)) (assignments xs))
     upper = map_each (λ k. bit_at k x ≡ 0) (λ k. fixed xs k (restrict x true f)) (λ k. fixed xs (bit_or k (2 ^ x)) (restrict x (eqb (bit_at (bit_or k (2 ^ x)) x) 1) f))
         (λ k e.
-          let own = bit_at-pow_same x in
-          let one : bit_at (bit_or k (2 ^ x)) x ≡ 1 = bit_at_or k (2 ^ x) x ∙ omega arith in
-          sym (fixed_apart x k xs h.1 (restrict x true f)) ∙ sym (ap (λ z. fixed xs (bit_or k (2 ^ x)) (restrict x (eqb z 1) f)) one)) (assignments xs) clear
+        let own = bit_at-pow_same x in
+        let one : bit_at (bit_or k (2 ^ x)) x ≡ 1 = bit_at_or k (2 ^ x) x ∙ omega arith in
+        sym (fixed_apart x k xs h.1 (restrict x true f)) ∙ sym (ap (λ z. fixed xs (bit_or k (2 ^ x)) (restrict x (eqb z 1) f)) one)) (assignments xs) clear
         ∙ sym (twice (assignments xs))
       where
         twice : (ks : List ℕ) → map (λ k. fixed xs k (restrict x (eqb (bit_at k x) 1) f)) (map (λ k. bit_or k (2 ^ x)) ks) ≡ map (λ k. fixed xs (bit_or k (2 ^ x)) (restrict x (eqb (bit_at (bit_or k (2 ^ x)) x) 1) f)) ks
@@ -140,8 +139,8 @@ bit-laid : (xs : List ℕ) (k : ℕ) (p : Point) (y : ℕ) → y < length p → 
 bit-laid [] k p y l h = absurd (false≢true h)
 bit-laid (x ∷ xs) k p y l h = elim (cases_eq y x) [
   | inl e ↦
-    let long = length-laid xs k p in
-    ap (get_at (set (laid xs k p) x (eqb (bit_at k x) 1))) e ∙ get_or-set_same (laid xs k p) x (eqb (bit_at k x) 1) false (omega arith) ∙ sym (ap (λ z. eqb (bit_at k z) 1) e)
+      let long = length-laid xs k p in
+      ap (get_at (set (laid xs k p) x (eqb (bit_at k x) 1))) e ∙ get_or-set_same (laid xs k p) x (eqb (bit_at k x) 1) false (omega arith) ∙ sym (ap (λ z. eqb (bit_at k z) 1) e)
   | inr ne ↦ get_or-set_other (laid xs k p) x y (eqb (bit_at k x) 1) false ne ∙ bit-laid xs k p y l (sym (ap (λ b. b || has xs y) (ne_eqb y x ne)) ∙ h)
 ]
   where
@@ -222,9 +221,10 @@ leaves_apart n fs cs h = record {
       let f = zip_at (IsLeaf n) fs cs h j a in
       let g = zip_at (IsLeaf n) fs cs h k b in
       let p : Point = replicate n false in
-      let l = length-replicate n false in
-      (λ e. table_same n (function_at fs j) (function_at fs k) (λ q m. f.0 q m ∙ ap (λ z. eqb z 1) e ∙ sym (g.0 q m)),
-       λ e. same_value (get_or cs j 0) (get_or cs k 0) f.1 g.1 (sym (f.0 p l) ∙ same_from_table n (function_at fs j) (function_at fs k) e p l ∙ g.0 p l));
+      let l = length-replicate n false in (
+        λ e. table_same n (function_at fs j) (function_at fs k) (λ q m. f.0 q m ∙ ap (λ z. eqb z 1) e ∙ sym (g.0 q m)),
+        λ e. same_value (get_or cs j 0) (get_or cs k 0) f.1 g.1 (sym (f.0 p l) ∙ same_from_table n (function_at fs j) (function_at fs k) e p l ∙ g.0 p l),
+      );
 }
 
 pub leaves_tell : (n : ℕ) (order : List ℕ) → IsOrder n order → (tables : List (List Bool)) → Tells n (reach (map from_table tables) order) (values_at (assignments order) tables)

@@ -2,7 +2,7 @@
 --     reach_last      the subfunctions below a level, from those above it
 --     Tells n fs cs      two functions have one number just where they are the same
 --     tells_above, dependents_are_pairs      the numbers of the pairs, and the count of unequal ones
-use Rattle.std.proofs.Common.{◌≡◌, ◌≢◌, ◌↔◌, ℕ, zero, suc, ◌+◌, ◌-◌, ◌*◌, ◌/◌, ◌^◌, ◌<◌, ◌≤◌, Bool, true, false, cond, not, nat_eq, List, [], ◌∷◌, ◌++◌, length, map, take, get_or, set, refl, sym, ap, ap₂, ◌∙◌, arith, subst, inl, inr, ◌⊎◌, eqb-true, eq-eqb, pow-suc}
+use Rattle.std.proofs.Common.{◌≡◌, ◌↔◌, ℕ, zero, suc, ◌+◌, ◌-◌, ◌*◌, ◌/◌, ◌^◌, ◌<◌, ◌≤◌, Bool, true, false, cond, not, List, [], ◌∷◌, ◌++◌, length, map, take, get_or, set, refl, sym, ap, ap₂, ◌∙◌, arith, subst, inl, inr, eqb-true, eq-eqb, pow-suc}
 use Rattle.std.specs.List.{flat_map, filter, range_with_len}
 use Rattle.std.specs.Set.{distinct_count}
 use Rattle.std.proofs.lemmas.List.{get_or-set_other, get_or-set_same, length-append, length-set, length-take-le, take_more}
@@ -293,7 +293,9 @@ pub level_step : (n : ℕ) (F : List Function) (order : List ℕ) (level : ℕ) 
 level_step n F order level cs classes ns counts unequal some within t e m u l done =
     let next : level ≡ (level - 1) + 1 = omega arith in
     let below = subst (λ (k : ℕ). Tells n (reach F (take k order)) classes) next (subst (Tells n (reach F (take level order))) (sym e) t) in
-    let here : level - 1 < length order = omega arith in
-    (level_up n F order (level - 1) here classes below ns m, length-set counts (level - 1) unequal ∙ l,
+    let here : level - 1 < length order = omega arith in (
+      level_up n F order (level - 1) here classes below ns m,
+      length-set counts (level - 1) unequal ∙ l,
       counts_more (level_count n F order) counts (level - 1) (length order) unequal (omega arith) (level_counted n F order (level - 1) here classes below unequal u)
-      (λ i a b. done i (omega arith) b))
+          (λ i a b. done i (omega arith) b),
+    )

@@ -3,23 +3,23 @@
 --     literals_apart      the literals of variables below 6 are read off the bit of a word, the others off its place
 --     literals_above      those from 6 on hold where the masks agree with the place
 --     product_is      the function of the products of terms
-use Rattle.std.proofs.Common.{◌≡◌, ◌≢◌, ℕ, zero, suc, ◌+◌, ◌-◌, ◌*◌, ◌/◌, ◌%◌, ◌^◌, ◌<◌, ◌≤◌, Bool, true, false, cond, not, ◌&&◌, ◌||◌, ◌⊎◌, inl, inr, List, [], ◌∷◌, ◌++◌, length, map, get_or, refl, sym, ap, ◌∙◌, arith, subst, eqb, eqb-true, eq-eqb, min, bit_and, add-zero, zero-add}
+use Rattle.std.proofs.Common.{◌≡◌, ℕ, zero, suc, ◌+◌, ◌-◌, ◌*◌, ◌/◌, ◌^◌, ◌<◌, ◌≤◌, Bool, true, false, cond, not, ◌&&◌, ◌||◌, inl, inr, List, [], ◌∷◌, length, map, refl, sym, ap, ◌∙◌, arith, eqb, eqb-true, eq-eqb, min, bit_and, zero-add}
 use Rattle.std.specs.Int.{bit_at}
-use Rattle.std.specs.List.{All, list_any, list_all, range_with_len, enumerate_from}
+use Rattle.std.specs.List.{All, list_all, range_with_len, enumerate_from}
 use Rattle.std.specs.Bool.{beq}
 use Rattle.std.specs.Prelude.{Some, None}
-use Rattle.std.proofs.lemmas.Bool.{cases_Bool, cases_lt, and_parts, and_from, not_from_false, false≢true}
+use Rattle.std.proofs.lemmas.Bool.{cases_lt, and_parts, false≢true}
 use Rattle.std.proofs.lemmas.List.Elements.{All-head, All-tail}
 use Rattle.std.proofs.lemmas.List.FromFn.{get_or-map-range_with_len}
 use Rattle.std.proofs.lemmas.Nat.Bits.{bit_at-lt, bit_at_and, bit_at_above, bit_at_cat_low, bit_at_cat_high, same_from_bits}
 use Rattle.order_model.specs.declared.terms.Term.{Term}
 use Rattle.order_model.specs.Functions.{Point, bit, number}
-use Rattle.order_model.specs.Products.{Product, literal_holds, literal_in, matches, has_output, output_in, product_function, product_of}
+use Rattle.order_model.specs.Products.{literal_holds, literal_in, matches, has_output, output_in, product_function, product_of}
 use Rattle.order_model.proofs.OrderLists.{same_bool}
 use Rattle.order_model.proofs.PackedWords.{shifted_bit}
 use Rattle.order_model.proofs.PointNumbers.{bit-number, weight}
 use Rattle.pla_reader.specs.Masks.{Fits}
-use Rattle.truth_table.specs.Terms.{literal_at, literals_at, covers, covered}
+use Rattle.truth_table.specs.Terms.{literal_at, literals_at, covered}
 
 -- ---- a test of each of some numbers
 
@@ -89,7 +89,7 @@ unfolding literals_at
 literals_apart term place b h =
     all_parts (literal_at term (64 * place + b)) 6 10 0
     ∙ (λ i. all_same (literal_at term (64 * place + b)) (literal_at term b) 6 0 (λ x l u. literal_same term (64 * place + b) b x (low_bit place b x u)) i
-      && all_same (literal_at term (64 * place + b)) (literal_at term (64 * place)) 10 6 (λ x l u. literal_same term (64 * place + b) (64 * place) x (high_bit place b x h l ∙ sym (high_bit_alone place x l))) i)
+    && all_same (literal_at term (64 * place + b)) (literal_at term (64 * place)) 10 6 (λ x l u. literal_same term (64 * place + b) (64 * place) x (high_bit place b x h l ∙ sym (high_bit_alone place x l))) i)
 
 -- a literal holds where the masked bit is the value's
 literal_bits : (p c v : ℕ) → p < 2 → c < 2 → v < 2 → v ≡ min v c → ((not (eqb c 1) || eqb p v) ≡ true → min p c ≡ v) × (min p c ≡ v → (not (eqb c 1) || eqb p v) ≡ true)
@@ -177,9 +177,9 @@ matches_is n m term p few fits l =
     let e : n + (16 - n) ≡ 16 = omega arith in
     matches_from term p n 0 (omega arith)
     ∙ sym (
-      sym (ap (λ z. list_all (literal_at term (number p)) (range_with_len 0 z)) e) ∙ all_parts (literal_at term (number p)) n (16 - n) 0
-      ∙ ap (λ b. list_all (literal_at term (number p)) (range_with_len 0 n) && b) (all_from (literal_at term (number p)) (16 - n) (0 + n) (λ x lo hi. no_literal term (number p) x (bit_at_above term.care n x fits (omega arith))))
-      ∙ and_true (list_all (literal_at term (number p)) (range_with_len 0 n)))
+    sym (ap (λ z. list_all (literal_at term (number p)) (range_with_len 0 z)) e) ∙ all_parts (literal_at term (number p)) n (16 - n) 0
+    ∙ ap (λ b. list_all (literal_at term (number p)) (range_with_len 0 n) && b) (all_from (literal_at term (number p)) (16 - n) (0 + n) (λ x lo hi. no_literal term (number p) x (bit_at_above term.care n x fits (omega arith))))
+    ∙ and_true (list_all (literal_at term (number p)) (range_with_len 0 n)))
   where
     and_true : (b : Bool) → (b && true) ≡ b
     and_true true = refl

@@ -3,10 +3,10 @@
 --     Merging keys done out unequal      the state after some pairs: the set's keys, the numbers given, the count of unequal pairs
 --     merging_none, merging_push      at the start, and with one more pair
 --     merging_numbers      the numbers tell the pairs apart
-use Rattle.std.proofs.Common.{◌≡◌, ◌≢◌, ◌↔◌, ℕ, zero, suc, ◌+◌, ◌-◌, ◌*◌, ◌/◌, ◌<◌, ◌≤◌, Bool, true, false, cond, not, ◌&&◌, ◌||◌, ◌⊎◌, inl, inr, List, [], ◌∷◌, ◌++◌, length, map, take, get_or, refl, sym, ap, ◌∙◌, arith, subst, eqb, eq-eqb, ne_eqb, if◌then◌else◌, zero-add}
-use Rattle.std.specs.List.{range_with_len, filter, list_any, position_or_len}
+use Rattle.std.proofs.Common.{◌≡◌, ◌≢◌, ℕ, zero, suc, ◌+◌, ◌/◌, ◌<◌, ◌≤◌, Bool, true, false, cond, not, ◌&&◌, ◌||◌, ◌⊎◌, inl, inr, List, [], ◌∷◌, ◌++◌, length, map, take, get_or, refl, sym, ap, ◌∙◌, arith, subst, eq-eqb, ne_eqb, if◌then◌else◌, zero-add}
+use Rattle.std.specs.List.{filter, list_any, position_or_len}
 use Rattle.std.specs.Set.{is_member, unique_keys, distinct_count}
-use Rattle.std.proofs.lemmas.Bool.{cases_Bool, true≢false, false≢true, false_from_ne_true}
+use Rattle.std.proofs.lemmas.Bool.{true≢false, false≢true, false_from_ne_true}
 use Rattle.std.proofs.lemmas.List.{map-append, length-append, length-map, take_all}
 use Rattle.std.proofs.lemmas.List.Folds.{position_or_len_push}
 use Rattle.std.proofs.lemmas.List.FromFn.{take-map-range_with_len, map-range_with_len_more, length-map-range_with_len, get_or-map-range_with_len}
@@ -81,8 +81,8 @@ place_holds u (k ∷ ks) h = by (same_pair u k) refl (place_holds u ks)
     by false e more = elim h [
       | inl s ↦ absurd (true≢false (sym ((pair_decides u k).1 s) ∙ e))
       | inr a ↦
-        let next : 1 + position_or_len (same_pair u) ks ≡ suc (position_or_len (same_pair u) ks) = omega arith in
-        ap (λ z. get_or (k ∷ ks) z (0, 0)) next ∙ more a
+          let next : 1 + position_or_len (same_pair u) ks ≡ suc (position_or_len (same_pair u) ks) = omega arith in
+          ap (λ z. get_or (k ∷ ks) z (0, 0)) next ∙ more a
     ]
 
 place_none : (u : Pair) (ks : List Pair) → (Among u ks → ⊥) → place ks u ≡ length ks
@@ -253,11 +253,11 @@ merging_numbers keys done out unequal m = record {
   long = ap length m.numbers ∙ length-map done (λ u. position_or_len (same_pair u) keys);
   apart = λ j k a b. (
     λ e.
-      let u : ℕ × ℕ = get_or done j (0, 0) in
-      let v : ℕ × ℕ = get_or done k (0, 0) in
-      let places : position_or_len (same_pair u) keys ≡ position_or_len (same_pair v) keys = sym (at j a) ∙ e ∙ at k b in
-      sym (place_holds u keys (m.known u (among_at done j (0, 0) a))) ∙ ap (λ z. get_or keys z (0, 0)) places ∙ place_holds v keys (m.known v (among_at done k (0, 0) b)),
-    λ e. at j a ∙ ap (λ u. position_or_len (same_pair u) keys) e ∙ sym (at k b)
+        let u : ℕ × ℕ = get_or done j (0, 0) in
+        let v : ℕ × ℕ = get_or done k (0, 0) in
+        let places : position_or_len (same_pair u) keys ≡ position_or_len (same_pair v) keys = sym (at j a) ∙ e ∙ at k b in
+        sym (place_holds u keys (m.known u (among_at done j (0, 0) a))) ∙ ap (λ z. get_or keys z (0, 0)) places ∙ place_holds v keys (m.known v (among_at done k (0, 0) b)),
+    λ e. at j a ∙ ap (λ u. position_or_len (same_pair u) keys) e ∙ sym (at k b),
   );
 }
   where

@@ -3,7 +3,7 @@
 --     free_bits      the mask of the points of n variables
 --     literal_points_none, literal_points_one, literal_points_zero      the points at which a literal holds
 --     packed_from      the packed truth tables of terms
-use Rattle.std.proofs.Common.{◌≡◌, ◌≢◌, ℕ, zero, suc, ◌+◌, ◌-◌, ◌*◌, ◌/◌, ◌%◌, ◌^◌, ◌<◌, ◌≤◌, Bool, true, false, cond, not, ◌&&◌, ◌||◌, ◌⊎◌, inl, inr, List, [], ◌∷◌, length, map, take, get_or, refl, sym, ap, ◌∙◌, arith, subst, eqb, eqb-true, min, max, bit_and, bit_or, ltb, zero-add, pow_pos}
+use Rattle.std.proofs.Common.{◌≡◌, ℕ, zero, suc, ◌+◌, ◌-◌, ◌*◌, ◌/◌, ◌%◌, ◌^◌, ◌<◌, ◌≤◌, Bool, true, false, not, ◌&&◌, ◌||◌, inl, inr, List, [], ◌∷◌, length, map, take, get_or, refl, sym, ap, ◌∙◌, arith, subst, eqb, min, max, bit_and, bit_or, ltb, zero-add, pow_pos}
 use Rattle.std.specs.Int.{bit_at, bit_not, w64}
 use Rattle.std.specs.List.{All, AllZip, range_with_len, list_all, list_any}
 use Rattle.std.proofs.lemmas.Bool.{cases_lt, false≢true, lt-ltb, le-ltb}
@@ -13,7 +13,7 @@ use Rattle.std.proofs.lemmas.List.FromFn.{get_or-map-range_with_len, get_or-rang
 use Rattle.std.proofs.lemmas.Slice.Zip.{AllZip-long}
 use Rattle.std.proofs.lemmas.Nat.{one_shl}
 use Rattle.std.proofs.lemmas.Nat.Bits.{bit_at-lt, bit_at_and, bit_at_or, bit_at_not, bit_at_ones, bit_at_ones_above, bit_at_above}
-use Rattle.std.proofs.Math.Nat.{mul-le-mul_right, add-mul-div_right, div-eq_of_lt, mod-eq_of_lt, add-mul-mod_self_right}
+use Rattle.std.proofs.Math.Nat.{add-mul-div_right, div-eq_of_lt, mod-eq_of_lt, add-mul-mod_self_right}
 use Rattle.order_model.specs.declared.terms.Term.{Term}
 use Rattle.order_model.specs.Functions.{Point, Function, number, points, from_table, table, SameFunction}
 use Rattle.order_model.specs.Problems.{IsClean, IsPacked, tables_of, words_per_table}
@@ -75,9 +75,9 @@ free_bits_few n h b k =
 pub free_bits_all : (n : ℕ) → 6 ≤ n → (b : ℕ) → b < 64 → eqb (bit_at 18446744073709551615 b) 1 ≡ ltb b (2 ^ n)
 free_bits_all n h b k = elim (whole_words n) [
   | inl w ↦
-    let e = w.1 in
-    let p = pow_pos (n - 6) in
-    all_ones b k ∙ sym (lt-ltb b (2 ^ n) (omega arith))
+      let e = w.1 in
+      let p = pow_pos (n - 6) in
+      all_ones b k ∙ sym (lt-ltb b (2 ^ n) (omega arith))
   | inr w ↦ absurd (omega (arith, w.0))
 ]
 
@@ -218,8 +218,8 @@ module _ (n m : ℕ) (terms : List Term) (words : List ℕ) (some : 1 ≤ n) (fe
       ∙ (λ i. lt-ltb (k % 64) (2 ^ n) (omega arith) i && covered terms (place.0 i) (64 * (place.1 i) + k % 64))
       ∙ ap (covered terms j) whole
       ∙ sym (
-        ap (λ t. get_or t k false) (table_is j h) ∙ ap (λ z. get_or (table n (product_function products j)) z false) (sym at.2)
-        ∙ entry_at n (product_function products j) at.0 at.1 ∙ product_is n m terms j at.0 few h at.1 fit ∙ ap (covered terms j) at.2)
+      ap (λ t. get_or t k false) (table_is j h) ∙ ap (λ z. get_or (table n (product_function products j)) z false) (sym at.2)
+      ∙ entry_at n (product_function products j) at.0 at.1 ∙ product_is n m terms j at.0 few h at.1 fit ∙ ap (covered terms j) at.2)
 
   -- the words hold the truth tables of the products' functions
   pub terms_tables : tables_of n m words ≡ map (table n) (product_functions m (map (product_of n m) terms))
@@ -230,7 +230,7 @@ module _ (n m : ℕ) (terms : List Term) (words : List ℕ) (some : 1 ≤ n) (fe
   clean i b h big = elim (cases_lt b 64) [
     | inr ge ↦ bit_at_above (get_or words i 0) 64 b (w.fits i h) ge
     | inl lt ↦ not_one (bit_at (get_or words i 0) b) (bit_at-lt (get_or words i 0) b)
-      (w.bits i b (subst (λ (z : ℕ). i < z) w.long h) lt ∙ ap (λ c. c && covered terms (i / words_per_table n) (64 * (i % words_per_table n) + b)) (le-ltb b (2 ^ n) big))
+        (w.bits i b (subst (λ (z : ℕ). i < z) w.long h) lt ∙ ap (λ c. c && covered terms (i / words_per_table n) (64 * (i % words_per_table n) + b)) (le-ltb b (2 ^ n) big))
   ]
     where
       not_one : (c : ℕ) → c < 2 → eqb c 1 ≡ false → c ≡ 0

@@ -25,7 +25,11 @@ fn literal_points(term: Term, x: u8) -> u64
         return u64::MAX;
     }
     let lower = lower_half(x);
-    if (term.value >> x) & 1 == 1 { !lower } else { lower }
+    if (term.value >> x) & 1 == 1 {
+        !lower
+    } else {
+        lower
+    }
 }
 
 /// The points of a word at which a term's literals of the variables 0 to 5 hold.
@@ -67,7 +71,11 @@ fn points_mask(n: u8) -> u64
     requires { n ≤ 16 }
     ensures { (b : ℕ) → b < 64 → (bit_at result b == 1) ≡ nat_lt b (2 ^ n) }
 {
-    if n < 6 { (1u64 << (1u32 << n)) - 1 } else { u64::MAX }
+    if n < 6 {
+        (1u64 << (1u32 << n)) - 1
+    } else {
+        u64::MAX
+    }
 }
 
 /// Word i of packed truth tables of n variables that take `size` words each.

@@ -50,7 +50,11 @@ fn fixed_place(i: usize, r: u8, upper: bool) -> usize
     ensures { result ≡ fixed_bit r upper i }
 {
     let bit = (i >> r) & 1;
-    if upper { i + ((1 - bit) << r) } else { i - (bit << r) }
+    if upper {
+        i + ((1 - bit) << r)
+    } else {
+        i - (bit << r)
+    }
 }
 
 /// Gives each word what stands at its place with bit r made `upper`.

@@ -67,7 +67,11 @@ pub(crate) fn assignment_points(alloc: Global, variables: &[VarIx]) -> Result<Ve
 }
 
 /// Puts the values of a packed truth table at some points behind others, as 0 and 1.
-pub(crate) fn push_values(values: &mut Vec<u32>, words: &[u64], points: &[u32]) -> Result<(), AllocError>
+pub(crate) fn push_values(
+    values: &mut Vec<u32>,
+    words: &[u64],
+    points: &[u32],
+) -> Result<(), AllocError>
     requires { All (λ k. k / 64 < length words.now) points.now }
     ensures { OnOk result (values.new.items ≡ values.old.items ++ map (λ k. cond (packed_bit words.now k) 1 0) points.now) }
 {

@@ -36,7 +36,11 @@ impl Model for Tables {
 
 impl Tables {
     /// The truth tables of a cover's outputs. Threads share the words of 64 points; the time is that of a step for each word and term.
-    pub fn of_cover<R: Threads + Sync>(rt: &R, alloc: Global, cover: &Cover) -> Result<Tables, AllocError>
+    pub fn of_cover<R: Threads + Sync>(
+        rt: &R,
+        alloc: Global,
+        cover: &Cover,
+    ) -> Result<Tables, AllocError>
         ensures inputs { IfOk result (λ t. t.inputs ≡ cover.now.inputs) }
         ensures tables { IfOk result (λ t. t.tables ≡ map (table cover.now.inputs) (product_functions cover.now.outputs cover.now.products)) }
     {
@@ -65,7 +69,13 @@ impl Tables {
     }
 
     /// An output with the variables of `care` fixed to the bits of `value`. The time is that of a step for each variable and word.
-    pub fn cofactor(&self, alloc: Global, output: u8, care: Mask, value: Mask) -> Result<Row, AllocError>
+    pub fn cofactor(
+        &self,
+        alloc: Global,
+        output: u8,
+        care: Mask,
+        value: Mask,
+    ) -> Result<Row, AllocError>
         requires { output < outputs_of self.now }
         ensures inputs { IfOk result (λ row. row.inputs ≡ self.now.inputs) }
         ensures table { IfOk result (λ row. row.table ≡ table self.now.inputs (fixed (members self.now.inputs care) value (from_table (table_at self.now output)))) }

@@ -1,7 +1,7 @@
-use Rattle.std.proofs.Common.{◌≡◌, ◌+◌, ◌*◌, ◌/◌, ◌<◌, ◌&&◌, ◌||◌, Bool, true, false, take, get_or, eqb, sym, ap, ◌∙◌, bit_and, eq-eqb, ne_eqb}
+use Rattle.std.proofs.Common.{◌+◌, ◌*◌, ◌&&◌, take, eqb, sym, ap, ◌∙◌, eq-eqb, ne_eqb}
 use Rattle.std.specs.Int.{bit_at}
 use Rattle.std.proofs.lemmas.Nat.Bits.{shr_and_one, bit_at-zero}
-use Rattle.truth_table.specs.Terms.{covered, covers, literals_at}
+use Rattle.truth_table.specs.Terms.{covered, literals_at}
 use Rattle.truth_table.proofs.TermWords.{covered_more, word_with, word_without_above, word_without_output}
 use Rattle.truth_table.proofs.covering.word_at.Goals as goal
 use Rattle.truth_table.proofs.covering.word_at.Goals.{then-term-output-eq1+then-holds_above, else-term-output-eq1, else-term-output-eq1-via-then-term-output-eq1+else-holds_above, else-term-output-eq1-via-else-term-output-eq1}
@@ -22,7 +22,7 @@ loop-term-preserved c = λ b h.
     let here = c.loop-term.invariant b h in
     elim c.if-term-output-eq1.branch [
       | then-term-output-eq1+then-holds_above w ↦
-        ap (λ z. eqb (bit_at z b) 1) w.word-is ∙ word_with c.loop-term.word w.pattern-word.result b old above low out here (w.pattern-word.ensures b h) (eq-eqb _ _ (sym bit ∙ w.if-term-output-eq1.true)) (sym w.holds_above.ensures ∙ w.if-holds_above.true)
+          ap (λ z. eqb (bit_at z b) 1) w.word-is ∙ word_with c.loop-term.word w.pattern-word.result b old above low out here (w.pattern-word.ensures b h) (eq-eqb _ _ (sym bit ∙ w.if-term-output-eq1.true)) (sym w.holds_above.ensures ∙ w.if-holds_above.true)
       | else-term-output-eq1 w ↦ ap (λ z. eqb (bit_at z b) 1) w.word-is ∙ elim w.else-term-output-eq1.branch [
         | else-term-output-eq1-via-then-term-output-eq1+else-holds_above v ↦ word_without_above c.loop-term.word b old above low out here (sym v.holds_above.ensures ∙ v.if-holds_above.false)
         | else-term-output-eq1-via-else-term-output-eq1 v ↦ word_without_output c.loop-term.word b old (low && above) out here (ne_eqb _ _ (λ e. v.if-term-output-eq1.false (bit ∙ e)))

@@ -1,4 +1,4 @@
-use Rattle.std.proofs.Common.{◌≡◌, ◌^◌, ◌*◌, ◌/◌, ◌%◌, ◌<◌, ℕ, true, false, sym, ap, ◌∙◌, arith, subst, bit_and, bit_or}
+use Rattle.std.proofs.Common.{◌≡◌, ◌^◌, ◌*◌, ◌/◌, ◌%◌, sym, ap, ◌∙◌, arith, bit_and, bit_or}
 use Rattle.std.specs.Int.{bit_at}
 use Rattle.order_model.proofs.PackedWords.{step_is}
 use Rattle.truth_table.specs.Fixing.{fixed_bit}
@@ -18,10 +18,10 @@ returns c = λ k h.
     let low = c.lower_half.result in
     elim c.if-upper.branch [
       | then-upper w ↦
-        let half : c.if-upper.half ≡ c.args.word / 2 ^ (2 ^ c.args.x) = w.half-is ∙ ap (λ s. c.args.word / 2 ^ s) step in
-        (λ i. bit_at (bit_or (bit_and (half i) low) (bit_and (half i) low * 2 ^ (step i) % 2 ^ 64)) k)
-        ∙ upper_bit c.args.word low c.args.x c.requires c.lower_half.ensures k h ∙ ap (λ b. bit_at c.args.word (fixed_bit c.args.x b k)) (sym w.if-upper.true)
+          let half : c.if-upper.half ≡ c.args.word / 2 ^ (2 ^ c.args.x) = w.half-is ∙ ap (λ s. c.args.word / 2 ^ s) step in
+          (λ i. bit_at (bit_or (bit_and (half i) low) (bit_and (half i) low * 2 ^ (step i) % 2 ^ 64)) k)
+          ∙ upper_bit c.args.word low c.args.x c.requires c.lower_half.ensures k h ∙ ap (λ b. bit_at c.args.word (fixed_bit c.args.x b k)) (sym w.if-upper.true)
       | else-upper w ↦
-        (λ i. bit_at (bit_or (bit_and (w.half-is i) low) (bit_and (w.half-is i) low * 2 ^ (step i) % 2 ^ 64)) k)
-        ∙ lower_bit c.args.word low c.args.x c.requires c.lower_half.ensures k h ∙ ap (λ b. bit_at c.args.word (fixed_bit c.args.x b k)) (sym w.if-upper.false)
+          (λ i. bit_at (bit_or (bit_and (w.half-is i) low) (bit_and (w.half-is i) low * 2 ^ (step i) % 2 ^ 64)) k)
+          ∙ lower_bit c.args.word low c.args.x c.requires c.lower_half.ensures k h ∙ ap (λ b. bit_at c.args.word (fixed_bit c.args.x b k)) (sym w.if-upper.false)
     ]

@@ -1,5 +1,4 @@
-use Rattle.std.proofs.Common.{◌≡◌, ◌/◌, ◌^◌, ℕ, length, sym, ap, ◌∙◌, subst, eqb, eq-eqb, ne_eqb, bit_and}
-use Rattle.std.specs.Int.{bit_at}
+use Rattle.std.proofs.Common.{◌≡◌, ◌/◌, ◌^◌, length, sym, ap, ◌∙◌, subst, eqb, eq-eqb, ne_eqb, bit_and}
 use Rattle.std.proofs.lemmas.List.{with_items_is}
 use Rattle.std.proofs.lemmas.Nat.Bits.{shr_and_one}
 use Rattle.order_model.specs.Functions.{from_table, table}
@@ -24,19 +23,19 @@ loop-x-preserved c =
     let bit = shr_and_one c.args.care x in
     elim c.if-care-x-eq1.branch [
       | then-care-x-eq1 w ↦
-        let whole : length w.fix_variable.new.words ≡ c.loop-x.words.len = w.fix_variable.auto.words ∙ ap length w.deref_mut.ensures.value ∙ sym c.loop-x.words.ok.0 in
-        let after : c.if-care-x-eq1.words.items ≡ w.fix_variable.new.words = ap (λ v. v.items) w.words-is ∙ with_items_is c.loop-x.words w.fix_variable.new.words whole in
-        record {
-          table = cofactor_step n x c.args.care c.args.value t c.loop-x.words.items w.deref_mut.result.now w.fix_variable.new.words c.if-care-x-eq1.words.items (eqb (bit_and (c.args.value / 2 ^ x) 1) 1)
-              (eq-eqb _ _ (sym bit ∙ w.if-care-x-eq1.true)) (ap (λ z. eqb z 1) (shr_and_one c.args.value x)) c.loop-x.invariant.table w.deref_mut.ensures.value w.fix_variable.ensures.table after;
-          long = ap length after ∙ w.fix_variable.ensures.long;
-          clean = subst (IsClean n) (sym after) w.fix_variable.ensures.clean;
-        }
+          let whole : length w.fix_variable.new.words ≡ c.loop-x.words.len = w.fix_variable.auto.words ∙ ap length w.deref_mut.ensures.value ∙ sym c.loop-x.words.ok.0 in
+          let after : c.if-care-x-eq1.words.items ≡ w.fix_variable.new.words = ap (λ v. v.items) w.words-is ∙ with_items_is c.loop-x.words w.fix_variable.new.words whole in
+          record {
+            table = cofactor_step n x c.args.care c.args.value t c.loop-x.words.items w.deref_mut.result.now w.fix_variable.new.words c.if-care-x-eq1.words.items (eqb (bit_and (c.args.value / 2 ^ x) 1) 1)
+                (eq-eqb _ _ (sym bit ∙ w.if-care-x-eq1.true)) (ap (λ z. eqb z 1) (shr_and_one c.args.value x)) c.loop-x.invariant.table w.deref_mut.ensures.value w.fix_variable.ensures.table after;
+            long = ap length after ∙ w.fix_variable.ensures.long;
+            clean = subst (IsClean n) (sym after) w.fix_variable.ensures.clean;
+          }
       | else-care-x-eq1 w ↦
-        let after : c.if-care-x-eq1.words.items ≡ c.loop-x.words.items = ap (λ v. v.items) w.words-is in
-        record {
-          table = ap (table_in n) after ∙ c.loop-x.invariant.table ∙ sym (ap (λ xs. table n (fixed xs c.args.value (from_table t))) (members_less x c.args.care (ne_eqb _ _ (λ e. w.if-care-x-eq1.false (bit ∙ e)))));
-          long = ap length after ∙ c.loop-x.invariant.long;
-          clean = subst (IsClean n) (sym after) c.loop-x.invariant.clean;
-        }
+          let after : c.if-care-x-eq1.words.items ≡ c.loop-x.words.items = ap (λ v. v.items) w.words-is in
+          record {
+            table = ap (table_in n) after ∙ c.loop-x.invariant.table ∙ sym (ap (λ xs. table n (fixed xs c.args.value (from_table t))) (members_less x c.args.care (ne_eqb _ _ (λ e. w.if-care-x-eq1.false (bit ∙ e)))));
+            long = ap length after ∙ c.loop-x.invariant.long;
+            clean = subst (IsClean n) (sym after) c.loop-x.invariant.clean;
+          }
     ]
