@@ -6,11 +6,11 @@
 --     table_by      a truth table from its values
 --     fixed_table_low, fixed_table_high      the truth table in words that are fixed within, or whole
 --     fixed_clean_low, fixed_clean_high      nothing stands behind the last point
-use Rattle.std.proofs.Common.{◌≡◌, ◌≢◌, ℕ, zero, suc, ◌+◌, ◌-◌, ◌*◌, ◌/◌, ◌%◌, ◌^◌, ◌<◌, ◌≤◌, Bool, true, false, cond, ◌⊎◌, inl, inr, List, [], ◌∷◌, length, get_or, set, refl, sym, ap, ◌∙◌, arith, subst, eqb, min, max, bit_and, bit_or}
+use Rattle.std.proofs.Common.{◌≡◌, ◌≢◌, ℕ, zero, suc, ◌+◌, ◌-◌, ◌*◌, ◌/◌, ◌%◌, ◌^◌, ◌<◌, ◌≤◌, Bool, true, false, ◌⊎◌, inl, inr, List, length, get_or, set, refl, sym, ap, ◌∙◌, arith, subst, eqb, min, bit_and, bit_or}
 use Rattle.std.specs.Int.{bit_at}
 use Rattle.std.proofs.Math.Nat.{add-mul-div_right}
 use Rattle.std.proofs.lemmas.Bool.{cases_eq, cases_lt}
-use Rattle.std.proofs.lemmas.List.{set-get_or, length-set, get_or-set_same, get_or-set_other}
+use Rattle.std.proofs.lemmas.List.{set-get_or, get_or-set_same, get_or-set_other}
 use Rattle.std.proofs.lemmas.Nat.{pow_pos}
 use Rattle.std.proofs.lemmas.Nat.Bits.{bit_at-lt, bit_at-zero, bit_at_and, bit_at_or, bit_at_above, bit_at_cat_low, bit_at_cat_high}
 use Rattle.order_model.specs.Functions.{Point, Function, number, from_table, restrict, SameFunction, table}
@@ -18,7 +18,7 @@ use Rattle.order_model.specs.Problems.{IsClean, packed_bit, table_in, words_per_
 use Rattle.order_model.proofs.Numbers.{table-from_table}
 use Rattle.order_model.proofs.PackedProblems.{length-table_in}
 use Rattle.order_model.proofs.PackedTables.{table_value, value_at_word, whole_words}
-use Rattle.order_model.proofs.PackedWords.{shifted_bit, step_is}
+use Rattle.order_model.proofs.PackedWords.{shifted_bit}
 use Rattle.order_model.proofs.PointNumbers.{weight, number-small, bit-number, number-raised, room_above}
 use Rattle.order_model.proofs.Tables.{table_same}
 use Rattle.truth_table.specs.Fixing.{fixed_bit}

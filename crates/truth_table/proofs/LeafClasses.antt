@@ -2,17 +2,16 @@
 --     subfunctions_fixed      the subfunctions by an order's variables fix them to the points' bits
 --     assignments_small      the points' numbers are below 2 ^ n
 --     leaves_tell      the values tell the functions with all variables fixed apart
-use Rattle.std.proofs.Common.{◌≡◌, ◌≢◌, ◌↔◌, ℕ, zero, suc, ◌+◌, ◌-◌, ◌*◌, ◌/◌, ◌%◌, ◌^◌, ◌<◌, ◌≤◌, Bool, true, false, cond, not, ◌||◌, nat_eq, List, [], ◌∷◌, ◌++◌, length, map, take, drop, drop-cons, get_or, set, replicate, refl, sym, ap, ap₂, ◌∙◌, arith, subst, inl, inr, ◌⊎◌, eqb, eqb-true, eq-eqb, ne_eqb, max, bit_or, IsTrue}
+use Rattle.std.proofs.Common.{◌≡◌, ◌≢◌, ℕ, zero, suc, ◌+◌, ◌-◌, ◌*◌, ◌/◌, ◌%◌, ◌^◌, ◌<◌, ◌≤◌, Bool, true, false, cond, ◌||◌, nat_eq, List, [], ◌∷◌, ◌++◌, length, map, take, drop, drop-cons, get_or, set, replicate, refl, sym, ap, ap₂, ◌∙◌, arith, subst, inl, inr, eqb, eq-eqb, ne_eqb, bit_or}
 use Rattle.std.specs.Int.{bit_at}
 use Rattle.std.specs.List.{All, flat_map, AllZip, AllByRecursion, IsDistinct}
-use Rattle.std.specs.Set.{is_member}
 use Rattle.std.proofs.lemmas.Bool.{cases_eq, false≢true, true≢false}
 use Rattle.std.proofs.lemmas.List.{append_assoc, get_or_append_left, length-append, map-append, take_all, take_more, length-set, length-replicate, get_or-set_same, get_or-set_other}
 use Rattle.std.proofs.lemmas.List.Concat.{flat_map-append}
 use Rattle.std.proofs.lemmas.List.Elements.{All-cons, All-head, All-nil, All-tail}
 use Rattle.std.proofs.lemmas.Nat.{one_shl, or_lt, pow_below, pow_pos}
 use Rattle.std.proofs.lemmas.Nat.Bits.{bit_at-lt, bit_at-zero, bit_at_or, bit_at-pow_same, bit_at-pow_other, same_from_bits_below}
-use Rattle.order_model.specs.Functions.{Point, Function, bit, number, from_table, restrict, SameFunction, table}
+use Rattle.order_model.specs.Functions.{Point, Function, bit, number, from_table, restrict, SameFunction}
 use Rattle.order_model.specs.Levels.{subfunctions, reach}
 use Rattle.order_model.specs.Orders.{has, IsOrder}
 use Rattle.order_model.specs.Problems.{packed_bit, table_in, words_per_table}
@@ -23,7 +22,7 @@ use Rattle.order_model.proofs.PointNumbers.{weight, number-small, bit-number}
 use Rattle.order_model.proofs.Tables.{table_same, same_from_table}
 use Rattle.truth_table.specs.Assignments.{assignments, value_number, values_at}
 use Rattle.truth_table.specs.Restrictions.{fixed}
-use Rattle.truth_table.proofs.LevelSteps.{Tells, function_at, none}
+use Rattle.truth_table.proofs.LevelSteps.{Tells, function_at}
 
 -- what holds of each element
 abbrev pub Each : {X : Type 0} → (X → Type 0) → List X → Type 0

@@ -3,23 +3,23 @@
 --     literals_apart      the literals of variables below 6 are read off the bit of a word, the others off its place
 --     literals_above      those from 6 on hold where the masks agree with the place
 --     product_is      the function of the products of terms
-use Rattle.std.proofs.Common.{◌≡◌, ◌≢◌, ℕ, zero, suc, ◌+◌, ◌-◌, ◌*◌, ◌/◌, ◌%◌, ◌^◌, ◌<◌, ◌≤◌, Bool, true, false, cond, not, ◌&&◌, ◌||◌, ◌⊎◌, inl, inr, List, [], ◌∷◌, ◌++◌, length, map, get_or, refl, sym, ap, ◌∙◌, arith, subst, eqb, eqb-true, eq-eqb, min, bit_and, add-zero, zero-add}
+use Rattle.std.proofs.Common.{◌≡◌, ℕ, zero, suc, ◌+◌, ◌-◌, ◌*◌, ◌/◌, ◌^◌, ◌<◌, ◌≤◌, Bool, true, false, cond, not, ◌&&◌, ◌||◌, inl, inr, List, [], ◌∷◌, length, map, refl, sym, ap, ◌∙◌, arith, eqb, eqb-true, eq-eqb, min, bit_and, zero-add}
 use Rattle.std.specs.Int.{bit_at}
-use Rattle.std.specs.List.{All, list_any, list_all, range_with_len, enumerate_from}
+use Rattle.std.specs.List.{All, list_all, range_with_len, enumerate_from}
 use Rattle.std.specs.Bool.{beq}
 use Rattle.std.specs.Prelude.{Some, None}
-use Rattle.std.proofs.lemmas.Bool.{cases_Bool, cases_lt, and_parts, and_from, not_from_false, false≢true}
+use Rattle.std.proofs.lemmas.Bool.{cases_lt, and_parts, false≢true}
 use Rattle.std.proofs.lemmas.List.Elements.{All-head, All-tail}
 use Rattle.std.proofs.lemmas.List.FromFn.{get_or-map-range_with_len}
 use Rattle.std.proofs.lemmas.Nat.Bits.{bit_at-lt, bit_at_and, bit_at_above, bit_at_cat_low, bit_at_cat_high, same_from_bits}
 use Rattle.order_model.specs.declared.terms.Term.{Term}
 use Rattle.order_model.specs.Functions.{Point, bit, number}
-use Rattle.order_model.specs.Products.{Product, literal_holds, literal_in, matches, has_output, output_in, product_function, product_of}
+use Rattle.order_model.specs.Products.{literal_holds, literal_in, matches, has_output, output_in, product_function, product_of}
 use Rattle.order_model.proofs.OrderLists.{same_bool}
 use Rattle.order_model.proofs.PackedWords.{shifted_bit}
 use Rattle.order_model.proofs.PointNumbers.{bit-number, weight}
 use Rattle.pla_reader.specs.Masks.{Fits}
-use Rattle.truth_table.specs.Terms.{literal_at, literals_at, covers, covered}
+use Rattle.truth_table.specs.Terms.{literal_at, literals_at, covered}
 
 -- ---- a test of each of some numbers
 

@@ -3,10 +3,10 @@
 --     Merging keys done out unequal      the state after some pairs: the set's keys, the numbers given, the count of unequal pairs
 --     merging_none, merging_push      at the start, and with one more pair
 --     merging_numbers      the numbers tell the pairs apart
-use Rattle.std.proofs.Common.{◌≡◌, ◌≢◌, ◌↔◌, ℕ, zero, suc, ◌+◌, ◌-◌, ◌*◌, ◌/◌, ◌<◌, ◌≤◌, Bool, true, false, cond, not, ◌&&◌, ◌||◌, ◌⊎◌, inl, inr, List, [], ◌∷◌, ◌++◌, length, map, take, get_or, refl, sym, ap, ◌∙◌, arith, subst, eqb, eq-eqb, ne_eqb, if◌then◌else◌, zero-add}
-use Rattle.std.specs.List.{range_with_len, filter, list_any, position_or_len}
+use Rattle.std.proofs.Common.{◌≡◌, ◌≢◌, ℕ, zero, suc, ◌+◌, ◌/◌, ◌<◌, ◌≤◌, Bool, true, false, cond, not, ◌&&◌, ◌||◌, ◌⊎◌, inl, inr, List, [], ◌∷◌, ◌++◌, length, map, take, get_or, refl, sym, ap, ◌∙◌, arith, subst, eq-eqb, ne_eqb, if◌then◌else◌, zero-add}
+use Rattle.std.specs.List.{filter, list_any, position_or_len}
 use Rattle.std.specs.Set.{is_member, unique_keys, distinct_count}
-use Rattle.std.proofs.lemmas.Bool.{cases_Bool, true≢false, false≢true, false_from_ne_true}
+use Rattle.std.proofs.lemmas.Bool.{true≢false, false≢true, false_from_ne_true}
 use Rattle.std.proofs.lemmas.List.{map-append, length-append, length-map, take_all}
 use Rattle.std.proofs.lemmas.List.Folds.{position_or_len_push}
 use Rattle.std.proofs.lemmas.List.FromFn.{take-map-range_with_len, map-range_with_len_more, length-map-range_with_len, get_or-map-range_with_len}

@@ -3,7 +3,7 @@
 --     free_bits      the mask of the points of n variables
 --     literal_points_none, literal_points_one, literal_points_zero      the points at which a literal holds
 --     packed_from      the packed truth tables of terms
-use Rattle.std.proofs.Common.{◌≡◌, ◌≢◌, ℕ, zero, suc, ◌+◌, ◌-◌, ◌*◌, ◌/◌, ◌%◌, ◌^◌, ◌<◌, ◌≤◌, Bool, true, false, cond, not, ◌&&◌, ◌||◌, ◌⊎◌, inl, inr, List, [], ◌∷◌, length, map, take, get_or, refl, sym, ap, ◌∙◌, arith, subst, eqb, eqb-true, min, max, bit_and, bit_or, ltb, zero-add, pow_pos}
+use Rattle.std.proofs.Common.{◌≡◌, ℕ, zero, suc, ◌+◌, ◌-◌, ◌*◌, ◌/◌, ◌%◌, ◌^◌, ◌<◌, ◌≤◌, Bool, true, false, not, ◌&&◌, ◌||◌, inl, inr, List, [], ◌∷◌, length, map, take, get_or, refl, sym, ap, ◌∙◌, arith, subst, eqb, min, max, bit_and, bit_or, ltb, zero-add, pow_pos}
 use Rattle.std.specs.Int.{bit_at, bit_not, w64}
 use Rattle.std.specs.List.{All, AllZip, range_with_len, list_all, list_any}
 use Rattle.std.proofs.lemmas.Bool.{cases_lt, false≢true, lt-ltb, le-ltb}
@@ -13,7 +13,7 @@ use Rattle.std.proofs.lemmas.List.FromFn.{get_or-map-range_with_len, get_or-rang
 use Rattle.std.proofs.lemmas.Slice.Zip.{AllZip-long}
 use Rattle.std.proofs.lemmas.Nat.{one_shl}
 use Rattle.std.proofs.lemmas.Nat.Bits.{bit_at-lt, bit_at_and, bit_at_or, bit_at_not, bit_at_ones, bit_at_ones_above, bit_at_above}
-use Rattle.std.proofs.Math.Nat.{mul-le-mul_right, add-mul-div_right, div-eq_of_lt, mod-eq_of_lt, add-mul-mod_self_right}
+use Rattle.std.proofs.Math.Nat.{add-mul-div_right, div-eq_of_lt, mod-eq_of_lt, add-mul-mod_self_right}
 use Rattle.order_model.specs.declared.terms.Term.{Term}
 use Rattle.order_model.specs.Functions.{Point, Function, number, points, from_table, table, SameFunction}
 use Rattle.order_model.specs.Problems.{IsClean, IsPacked, tables_of, words_per_table}

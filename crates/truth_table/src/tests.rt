@@ -13,15 +13,27 @@ static INTERLEAVED: &[u8] = b".i 6\n.o 1\n1--1-- 1\n-1--1- 1\n--1--1 1\n.e\n";
 /// Covers, and the level counts under their file orders.
 static COUNTS: [(&[u8], &[u32]); 10] = [
     (b".i 3\n.o 1\n001 1\n010 1\n100 1\n111 1\n.e\n", &[1, 2, 2]),
-    (b".i 6\n.o 1\n.ilb a0 a1 a2 b0 b1 b2\n.ob f\n1--1-- 1\n-1--1- 1\n--1--1 1\n.e\n", &[1, 2, 4, 4, 2, 1]),
-    (b".i 6\n.o 1\n1--1-- 1\n-1--1- 1\n--1--1 1\n.e\n", &[1, 2, 4, 4, 2, 1]),
+    (
+        b".i 6\n.o 1\n.ilb a0 a1 a2 b0 b1 b2\n.ob f\n1--1-- 1\n-1--1- 1\n--1--1 1\n.e\n",
+        &[1, 2, 4, 4, 2, 1],
+    ),
+    (
+        b".i 6\n.o 1\n1--1-- 1\n-1--1- 1\n--1--1 1\n.e\n",
+        &[1, 2, 4, 4, 2, 1],
+    ),
     (b".i 3\n.o 1\n.e\n", &[0, 0, 0]),
     (b".i 1\n.o 2\n1 10\n0 01\n.e\n", &[2]),
     (b".i 2\n.o 2\n11 10\n1- 01\n-1 01\n.e\n", &[2, 1]),
     (b".i 3\n.o 1\n--1 1\n.e\n", &[0, 0, 1]),
     (b".i 1\n.o 1\n- 1\n.e\n", &[0]),
-    (b".i 16\n.o 1\n.e\n", &[0, 0, 0, 0, 0, 0, 0, 0, 0, 0, 0, 0, 0, 0, 0, 0]),
-    (b".i 16\n.o 1\n1111111111111111 1\n.e\n", &[1, 1, 1, 1, 1, 1, 1, 1, 1, 1, 1, 1, 1, 1, 1, 1]),
+    (
+        b".i 16\n.o 1\n.e\n",
+        &[0, 0, 0, 0, 0, 0, 0, 0, 0, 0, 0, 0, 0, 0, 0, 0],
+    ),
+    (
+        b".i 16\n.o 1\n1111111111111111 1\n.e\n",
+        &[1, 1, 1, 1, 1, 1, 1, 1, 1, 1, 1, 1, 1, 1, 1, 1],
+    ),
 ];
 
 fn tables_of<R: Threads + Sync>(rt: &R, alloc: Global, text: &[u8]) -> Result<Tables, Fail> {
@@ -45,7 +57,10 @@ fn counts_the_levels_of_file_orders(rt: HostRuntime) -> Result<(), Fail> {
 #[test]
 fn tells_the_dependence_of_cofactors(rt: HostRuntime) -> Result<(), Fail> {
     let tables = tables_of(&rt, rt.alloc(), INTERLEAVED)?;
-    assert_eq!(rt; (tables.problem().inputs(), tables.problem().outputs()), (6, 1));
+    assert_eq!(rt;
+        (tables.problem().inputs(), tables.problem().outputs()),
+        (6, 1)
+    );
     // Variable 0 is fixed to 0: variables 0 and 3 don't matter any more.
     let row = tables.cofactor(rt.alloc(), 0, 1, 0)?;
     assert_eq!(rt; row.inputs(), 6);
@@ -77,13 +92,24 @@ static VALUES: [(u16, bool, bool); 5] = [
 #[test]
 fn holds_the_values_of_wide_covers(rt: HostRuntime) -> Result<(), Fail> {
     let tables = tables_of(&rt, rt.alloc(), WIDE)?;
-    assert_eq!(rt; (tables.problem().inputs(), tables.problem().outputs()), (16, 2));
+    assert_eq!(rt;
+        (tables.problem().inputs(), tables.problem().outputs()),
+        (16, 2)
+    );
     for (point, product, complement) in VALUES {
         assert_eq!(rt; tables.value(0, point as u32), product, "point {point}");
         assert_eq!(rt; tables.value(1, point as u32), complement, "point {point}");
     }
     let row = tables.cofactor(rt.alloc(), 0, 0x8000, 0x8000)?;
     assert_eq!(rt; row.inputs(), 16);
-    assert_eq!(rt; (row.depends(5), row.depends(6), row.depends(15), row.depends(9)), (true, true, false, false));
+    assert_eq!(rt;
+        (
+            row.depends(5),
+            row.depends(6),
+            row.depends(15),
+            row.depends(9)
+        ),
+        (true, true, false, false)
+    );
     Ok(())
 }

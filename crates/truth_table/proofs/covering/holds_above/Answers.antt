@@ -1,4 +1,4 @@
-use Rattle.std.proofs.Common.{◌<◌, ◌^◌, arith}
+use Rattle.std.proofs.Common.{arith}
 use Rattle.truth_table.proofs.Literals.{literals_above}
 use Rattle.truth_table.proofs.covering.holds_above.Goals as goal
 

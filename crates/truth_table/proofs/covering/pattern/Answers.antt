@@ -1,5 +1,4 @@
-use Rattle.std.proofs.Common.{◌≡◌, ◌&&◌, sym, ap, ◌∙◌}
-use Rattle.std.specs.Int.{bit_at}
+use Rattle.std.proofs.Common.{◌&&◌, sym, ◌∙◌}
 use Rattle.truth_table.specs.Terms.{literals_at}
 use Rattle.truth_table.proofs.TermWords.{all_ones, masked_bits, literals_more}
 use Rattle.truth_table.proofs.covering.pattern.Goals as goal

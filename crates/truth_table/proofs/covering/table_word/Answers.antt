@@ -1,4 +1,4 @@
-use Rattle.std.proofs.Common.{◌≡◌, ◌&&◌, ◌*◌, ◌+◌, ◌/◌, ◌%◌, ◌^◌, ◌<◌, ltb, ◌∙◌, arith, bit_and}
+use Rattle.std.proofs.Common.{◌&&◌, ◌*◌, ◌+◌, ◌/◌, ◌%◌, ◌^◌, ltb, ◌∙◌, arith}
 use Rattle.std.proofs.lemmas.Nat.{and_le_l}
 use Rattle.truth_table.specs.Terms.{covered}
 use Rattle.truth_table.proofs.Literals.{and_turned}

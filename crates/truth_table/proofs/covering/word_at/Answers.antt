@@ -1,7 +1,7 @@
-use Rattle.std.proofs.Common.{◌≡◌, ◌+◌, ◌*◌, ◌/◌, ◌<◌, ◌&&◌, ◌||◌, Bool, true, false, take, get_or, eqb, sym, ap, ◌∙◌, bit_and, eq-eqb, ne_eqb}
+use Rattle.std.proofs.Common.{◌+◌, ◌*◌, ◌&&◌, take, eqb, sym, ap, ◌∙◌, eq-eqb, ne_eqb}
 use Rattle.std.specs.Int.{bit_at}
 use Rattle.std.proofs.lemmas.Nat.Bits.{shr_and_one, bit_at-zero}
-use Rattle.truth_table.specs.Terms.{covered, covers, literals_at}
+use Rattle.truth_table.specs.Terms.{covered, literals_at}
 use Rattle.truth_table.proofs.TermWords.{covered_more, word_with, word_without_above, word_without_output}
 use Rattle.truth_table.proofs.covering.word_at.Goals as goal
 use Rattle.truth_table.proofs.covering.word_at.Goals.{then-term-output-eq1+then-holds_above, else-term-output-eq1, else-term-output-eq1-via-then-term-output-eq1+else-holds_above, else-term-output-eq1-via-else-term-output-eq1}

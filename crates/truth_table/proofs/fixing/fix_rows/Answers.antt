@@ -1,5 +1,4 @@
-use Rattle.std.proofs.Common.{◌≡◌, ◌<◌, length, ap, ◌∙◌, arith, get_or}
-use Rattle.truth_table.specs.Fixing.{fixed_bit}
+use Rattle.std.proofs.Common.{ap, arith, get_or}
 use Rattle.truth_table.proofs.FixedBits.{row_done, row_rest}
 use Rattle.truth_table.proofs.fixing.fix_rows.Goals as goal
 

@@ -1,4 +1,4 @@
-use Rattle.std.proofs.Common.{◌≡◌, ℕ, ◌<◌, ◌≤◌, length, get_or}
+use Rattle.std.proofs.Common.{◌≡◌, ℕ, ◌<◌, ◌≤◌, get_or}
 use Rattle.truth_table.specs.Fixing.{fixed_bit}
 use Rattle.truth_table.proofs.fixing.fix_rows.Given as goal
 

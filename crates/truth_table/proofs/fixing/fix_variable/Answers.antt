@@ -1,6 +1,4 @@
-use Rattle.std.proofs.Common.{◌≡◌, ◌<◌, ◌^◌, ℕ, length, get_or, sym, ap, ◌∙◌, arith, subst}
-use Rattle.std.specs.Int.{bit_at}
-use Rattle.truth_table.specs.Fixing.{fixed_bit}
+use Rattle.std.proofs.Common.{◌∙◌, arith}
 use Rattle.truth_table.proofs.FixedBits.{fixed_rows_room, fixed_table_high, fixed_clean_high, fixed_table_low, fixed_clean_low}
 use Rattle.truth_table.proofs.fixing.fix_variable.Goals as goal
 

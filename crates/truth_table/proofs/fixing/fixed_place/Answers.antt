@@ -1,5 +1,4 @@
-use Rattle.std.proofs.Common.{◌≡◌, ◌+◌, ◌-◌, ◌*◌, ◌^◌, ◌/◌, ◌%◌, ◌∙◌, ap, sym, arith, bit_and}
-use Rattle.std.specs.Int.{bit_at}
+use Rattle.std.proofs.Common.{◌+◌, ◌-◌, ◌^◌, ◌/◌, ◌∙◌, ap, sym, bit_and}
 use Rattle.std.proofs.lemmas.Nat.Bits.{shr_and_one}
 use Rattle.truth_table.specs.Fixing.{fixed_bit}
 use Rattle.truth_table.proofs.FixedBits.{raised_step, lowered_step}

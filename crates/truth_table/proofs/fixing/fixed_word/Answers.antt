@@ -1,4 +1,4 @@
-use Rattle.std.proofs.Common.{◌≡◌, ◌^◌, ◌*◌, ◌/◌, ◌%◌, ◌<◌, ℕ, true, false, sym, ap, ◌∙◌, arith, subst, bit_and, bit_or}
+use Rattle.std.proofs.Common.{◌≡◌, ◌^◌, ◌*◌, ◌/◌, ◌%◌, sym, ap, ◌∙◌, arith, bit_and, bit_or}
 use Rattle.std.specs.Int.{bit_at}
 use Rattle.order_model.proofs.PackedWords.{step_is}
 use Rattle.truth_table.specs.Fixing.{fixed_bit}

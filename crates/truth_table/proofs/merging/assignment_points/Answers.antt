@@ -1,4 +1,4 @@
-use Rattle.std.proofs.Common.{◌≡◌, ◌-◌, ◌^◌, ◌∷◌, [], ◌++◌, map, length, drop, get_or, bit_or, sym, ap, ◌∙◌}
+use Rattle.std.proofs.Common.{◌-◌, ◌^◌, ◌∷◌, [], ◌++◌, map, get_or, bit_or, sym, ap, ◌∙◌}
 use Rattle.std.proofs.Math.Seq.{drop-length}
 use Rattle.truth_table.specs.Assignments.{assignments}
 use Rattle.truth_table.proofs.LeafClasses.{assignments_more}

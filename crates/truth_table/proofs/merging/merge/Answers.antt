@@ -1,7 +1,7 @@
-use Rattle.std.proofs.Common.{◌≡◌, ◌+◌, ◌*◌, ◌<◌, ◌&&◌, ◌∷◌, ◌++◌, Bool, true, false, cond, not, List, ℕ, [], take, get_or, sym, ap, ◌∙◌, subst, arith, eq-eqb, ne_eqb, nat_eq}
+use Rattle.std.proofs.Common.{◌≡◌, ◌+◌, ◌&&◌, ◌∷◌, ◌++◌, cond, not, List, ℕ, [], sym, ap, ◌∙◌, subst, eq-eqb, ne_eqb}
 use Rattle.std.specs.List.{list_any}
 use Rattle.order_model.specs.Widths.{same_pair}
-use Rattle.truth_table.specs.Numberings.{pair_at, pairs_of, is_unequal}
+use Rattle.truth_table.specs.Numberings.{pair_at, is_unequal}
 use Rattle.truth_table.proofs.PairNumbers.{Merging, merging_none, merging_step, merging_end}
 use Rattle.truth_table.proofs.merging.merge.Goals as goal
 use Rattle.truth_table.proofs.merging.merge.Goals.{then-is_new+then-lower-upper, else-is_new, else-is_new-via-then-is_new+else-lower-upper, else-is_new-via-else-is_new}

@@ -1,4 +1,4 @@
-use Rattle.std.proofs.Common.{◌<◌, length, arith, vec_len}
+use Rattle.std.proofs.Common.{arith}
 use Rattle.truth_table.proofs.LeafClasses.{upper_inside}
 use Rattle.truth_table.proofs.merging.push_upper.Goals as goal
 

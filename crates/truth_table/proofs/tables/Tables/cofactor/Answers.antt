@@ -1,5 +1,4 @@
-use Rattle.std.proofs.Common.{◌≡◌, ◌/◌, ◌^◌, ℕ, length, sym, ap, ◌∙◌, subst, eqb, eq-eqb, ne_eqb, bit_and}
-use Rattle.std.specs.Int.{bit_at}
+use Rattle.std.proofs.Common.{◌≡◌, ◌/◌, ◌^◌, length, sym, ap, ◌∙◌, subst, eqb, eq-eqb, ne_eqb, bit_and}
 use Rattle.std.proofs.lemmas.List.{with_items_is}
 use Rattle.std.proofs.lemmas.Nat.Bits.{shr_and_one}
 use Rattle.order_model.specs.Functions.{from_table, table}
