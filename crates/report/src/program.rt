@@ -13,12 +13,25 @@ use std::thread::Threads;
 /// The status of a command line that is none.
 const USAGE_STATUS: u8 = 2;
 
-/// The file that the words `--count FILE` name.
-fn count_file<'a>(words: &[&'a str]) -> Option<&'a str> {
-    match words {
-        [option, file] if *option == "--count" => Some(*file),
-        _ => None,
+/// The file of a command line that counts: one file and `--count`, in any order. With `--above`, a list of pairs, the list is not read.
+pub(crate) fn count_file<'a>(words: &[&'a str]) -> Option<&'a str> {
+    let mut is_count = false;
+    let mut is_list = false;
+    let mut file = None;
+    for word in words {
+        if is_list {
+            is_list = false;
+        } else if *word == "--above" {
+            is_list = true;
+        } else if *word == "--count" && !is_count {
+            is_count = true;
+        } else if file.is_none() && !word.starts_with("--") {
+            file = Some(*word);
+        } else {
+            return None;
+        }
     }
+    if is_count && !is_list { file } else { None }
 }
 
 /// Writes why a run was refused. A failure of the writer has no effect.
@@ -58,7 +71,7 @@ fn count_in_file<R: Files + AllocGlobal + Threads + Sync, W: CountedWrite>(
 
 /// The program: the words are those behind its name, the report goes to `out`, messages to `err`. The answer is the exit status.
 ///
-/// It takes the words `--count FILE`; any other list ends with status 2.
+/// It takes `--count` and a file, with or without `--above LIST`; any other list of words ends with status 2.
 pub fn minorder<R: Files + AllocGlobal + Threads + Sync, W: CountedWrite, E: CountedWrite>(
     rt: &R,
     words: &[&str],
@@ -69,7 +82,10 @@ pub fn minorder<R: Files + AllocGlobal + Threads + Sync, W: CountedWrite, E: Cou
     requires err { E.failures err.old < 2 ^ 32 }
 {
     let Some(path) = count_file(words) else {
-        let _ = write_whole(err, b"minorder: usage: minorder --count FILE\n");
+        let _ = write_whole(
+            err,
+            b"minorder: usage: minorder --count [--above LIST] FILE\n",
+        );
         return USAGE_STATUS;
     };
     let outcome = count_in_file(rt, path, out);

@@ -119,6 +119,24 @@ fn counted<T: AllocGlobal + Threads + Sync, R: Read + Drop>(
 }
 
 #[test]
+fn takes_a_file_and_count(rt: HostRuntime) {
+    assert_eq!(rt; program::count_file(&["--count", "f"]), Some("f"));
+    assert_eq!(rt; program::count_file(&["f", "--count"]), Some("f"));
+    assert_eq!(rt;
+        program::count_file(&["--above", "0-1", "--count", "f"]),
+        Some("f")
+    );
+    assert_eq!(rt; program::count_file(&["--count", "-"]), Some("-"));
+    assert_eq!(rt; program::count_file(&[]), None);
+    assert_eq!(rt; program::count_file(&["f"]), None);
+    assert_eq!(rt; program::count_file(&["--count"]), None);
+    assert_eq!(rt; program::count_file(&["--count", "f", "g"]), None);
+    assert_eq!(rt; program::count_file(&["--count", "--count", "f"]), None);
+    assert_eq!(rt; program::count_file(&["--count", "f", "--above"]), None);
+    assert_eq!(rt; program::count_file(&["--count", "--help", "f"]), None);
+}
+
+#[test]
 fn counts_nodes(rt: HostRuntime) -> Result<(), Fail> {
     for (file, wanted) in COUNTS {
         let (outcome, out) = counted(&rt, file, FailingWriter::new(rt.alloc(), 1000, 1000))?;
