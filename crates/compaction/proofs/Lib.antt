@@ -1,0 +1,15 @@
+pub mod Ranks
+pub mod Places
+pub mod Compacted
+pub mod DependenceMasks
+pub mod Counted
+pub mod Index
+pub mod Chained
+pub mod Extended
+pub mod MaskStep
+pub mod CellSteps
+pub mod Joined
+pub mod Constants
+pub mod StartClasses
+pub mod Sets
+pub mod Filled

@@ -1,0 +1,25 @@
+use Rattle.std.proofs.Common.{◌≡◌, ℕ, ◌+◌, ◌%◌, ◌^◌, false, bit_or, sym, ap, ◌∙◌, subst, arith}
+use Rattle.order_model.specs.Orders.{has, members}
+use Rattle.compaction.specs.Table.{ClassesOf, classes_of, set_of, with_variable}
+use Rattle.compaction.proofs.Sets.{low_more, low_same, low_new, low_all}
+use Rattle.compaction.proofs.classes.Classes.of_set.Goals as goal
+use Rattle.compaction.proofs.classes.Classes.of_set.Goals.{then-mask-y-eq1+in_ok-classes-2, else-mask-y-eq1}
+
+pub compact-requires-clause-new : goal.compact-requires-clause-new
+compact-requires-clause-new c =
+    ap (λ (t : ClassesOf). has (set_of t) c.loop-y.y) c.loop-y.invariant ∙ low_new c.args.problem.now.inputs c.args.mask c.loop-y.y
+
+pub loop-y-preserved : goal.loop-y-preserved
+loop-y-preserved c =
+    elim c.if-mask-y-eq1.branch [
+      then-mask-y-eq1+in_ok-classes-2 w ↦
+        w.classes-is ∙ w.in_ok-classes-2.ensures ∙ ap (λ (t : ClassesOf). with_variable t c.loop-y.y) c.loop-y.invariant
+        ∙ ap (classes_of c.args.problem.now) (low_more c.args.mask c.loop-y.y w.if-mask-y-eq1.true)
+    | else-mask-y-eq1 w ↦ w.classes-is ∙ c.loop-y.invariant ∙ ap (classes_of c.args.problem.now) (low_same c.args.mask c.loop-y.y w.if-mask-y-eq1.false)
+    ]
+
+pub returns : goal.returns
+returns c =
+    let e = c.inputs-y-end.ensures.value in
+    let last : c.loop-y.y ≡ c.args.problem.now.inputs = omega arith in
+    c.loop-y.invariant ∙ ap (classes_of c.args.problem.now) (ap (λ k. c.args.mask % 2 ^ k) last ∙ low_all c.args.problem.now.inputs c.args.mask c.requires)

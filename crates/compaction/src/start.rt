@@ -1,0 +1,70 @@
+//! The class table of the empty set: each subfunction is the value at a point.
+
+ghost use Rattle.std.specs.Prelude.{◌≡◌, ℕ, ◌+◌, ◌*◌, ◌^◌, ◌<◌, ◌≤◌, ◌++◌, Bool, map, length, get_or, slice_index, IfOk, OnOk, nat_eq};
+ghost use Rattle.std.specs.List.{flat_map, list_any};
+ghost use Rattle.order_model.specs.Problems.{value_at, table_at, outputs_of};
+ghost use Rattle.compaction.specs.Values.{row, values_of, number_of as number, class_count};
+
+use order_model::Problem;
+use std::alloc::{AllocError, Global};
+
+/// The number of a value.
+fn number_of_value(value: bool, first: bool) -> u32
+    ensures { result ≡ number first value }
+{
+    if value == first { 0 } else { 1 }
+}
+
+/// Adds the numbers of a function's values.
+fn push_values(
+    numbers: &mut Vec<u32>,
+    problem: &Problem,
+    output: u8,
+    first: bool,
+) -> Result<(), AllocError>
+    requires { output < outputs_of problem.now }
+    ensures { OnOk result (numbers.new.items ≡ numbers.old.items ++ map (number first) (row problem.now.inputs (table_at problem.now output))) }
+{
+    for point in 0..1u32 << problem.inputs() {
+        let value = problem.value(output, point);
+        numbers.push(number_of_value(value, first))?;
+    }
+    Ok(())
+}
+
+/// The numbers of all values: 0 for the first one met.
+pub fn value_numbers(alloc: Global, problem: &Problem) -> Result<Vec<u32>, AllocError>
+    ensures numbers { IfOk result (λ v. v.items ≡ map (number (value_at problem.now 0 0)) (values_of problem.now)) }
+    ensures inputs { problem.now.inputs ≤ 16 }
+    ensures outputs { outputs_of problem.now ≤ 16 }
+    ensures some { 0 < outputs_of problem.now }
+{
+    let outputs = problem.outputs();
+    let entries = (outputs as usize) << problem.inputs();
+    let mut numbers = Vec::with_capacity(alloc, entries)?;
+    let first = problem.value(0, 0);
+    for output in 0..outputs {
+        push_values(&mut numbers, problem, output, first)?;
+    }
+    Ok(numbers)
+}
+
+/// Whether both numbers occur.
+fn has_both(numbers: &[u32]) -> bool
+    ensures { result ≡ list_any (λ k. nat_eq k 1) numbers.now }
+{
+    numbers.iter().any(|number| *number == 1)
+}
+
+/// The masks of the classes of values, which depend on nothing.
+pub fn no_dependence(alloc: Global, numbers: &[u32]) -> Result<Vec<u16>, AllocError>
+    ensures long { IfOk result (λ v. length v.items ≡ class_count numbers.now) }
+    ensures zeros { IfOk result (λ v. (c : ℕ) → get_or v.items c 0 ≡ 0) }
+{
+    let mut masks = Vec::with_capacity(alloc, 2)?;
+    masks.push(0)?;
+    if has_both(numbers) {
+        masks.push(0)?;
+    }
+    Ok(masks)
+}

@@ -1,0 +1,5 @@
+pub mod Leveled
+pub mod Managed
+pub mod LevelLists
+pub mod Moves
+pub mod Cuts

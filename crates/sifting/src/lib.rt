@@ -1,0 +1,10 @@
+//! Swaps of neighbouring levels and sifting, on the levels of a reduced diagram.
+#![tactic(auto)]
+
+mod build;
+mod levels;
+mod manager;
+mod sift;
+
+pub use manager::Manager;
+pub use sift::Sifted;
