@@ -1,3 +1,0 @@
-pub mod Words
-pub mod Copying
-pub mod Finishing

@@ -1,5 +1,0 @@
-pub mod Leveled
-pub mod Managed
-pub mod LevelLists
-pub mod Moves
-pub mod Cuts

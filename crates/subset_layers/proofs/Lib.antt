@@ -1,6 +1,0 @@
-pub mod Sizes
-pub mod Choosing
-pub mod BlockLists
-pub mod CostLists
-pub mod BestSums
-pub mod CellSteps

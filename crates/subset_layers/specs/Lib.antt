@@ -1,4 +1,0 @@
-pub mod Layers
-pub mod Selections
-pub mod Costs
-pub mod Sums
