@@ -1,6 +1,6 @@
 ghost use Rattle.std.specs.Prelude.{◌≤◌};
 
-use crate::packed::{bit_of, block, depends_on, words_per_table};
+use crate::packed::{bit_of, block, depends_on, lower_half, words_per_table};
 use crate::{
     BadOrder, Counting, Diagram, Gate, NoGate, Node, Order, Problem, Ref, Refused, Workers, eval,
     read_all, write_whole,
@@ -126,6 +126,7 @@ fn packed_words(rt: HostRuntime) {
     assert_eq!(rt; block(&[10, 11, 12, 13], 2, 1), [12, 13].as_slice());
     assert!(rt; bit_of(&[0, 4], 66));
     assert!(rt; !bit_of(&[0, 4], 65));
+    assert_eq!(rt; lower_half(2), 0x0f0f_0f0f_0f0f_0f0f);
 }
 
 // The multiplexer's diagram under the order s, a, b.

@@ -9,9 +9,8 @@ ghost use Rattle.order_model.specs.Products.{product_functions, product_of};
 ghost use Rattle.pla_reader.specs.Masks.{Fits};
 ghost use Rattle.truth_table.specs.Terms.{IsWordOf, covered, literal_at, literals_at};
 
-use crate::fixing::lower_half;
 use order_model::Term;
-use order_model::packed::words_per_table;
+use order_model::packed::{lower_half, words_per_table};
 use rayon::prelude::*;
 use std::alloc::{AllocError, Global};
 use std::thread::Threads;

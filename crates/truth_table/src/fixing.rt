@@ -7,21 +7,7 @@ ghost use Rattle.order_model.specs.Problems.{IsClean, table_in, words_per_table}
 ghost use Rattle.truth_table.specs.Fixing.{fixed_bit};
 
 use order_model::VarIx;
-
-/// The word whose bit b is 1 where bit x of b is 0.
-pub(crate) fn lower_half(x: VarIx) -> u64
-    requires { x < 6 }
-    ensures { (b : ℕ) → b < 64 → bit_at result b ≡ 1 - bit_at b x }
-{
-    match x {
-        0 => 0x5555_5555_5555_5555,
-        1 => 0x3333_3333_3333_3333,
-        2 => 0x0f0f_0f0f_0f0f_0f0f,
-        3 => 0x00ff_00ff_00ff_00ff,
-        4 => 0x0000_ffff_0000_ffff,
-        _ => 0x0000_0000_ffff_ffff,
-    }
-}
+use order_model::packed::lower_half;
 
 /// The word that has at each point the value that a word has with variable x, below 6, made `upper`.
 fn fixed_word(word: u64, x: VarIx, upper: bool) -> u64

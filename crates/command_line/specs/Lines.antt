@@ -1,0 +1,54 @@
+-- The command line of minorder, and the values that clap's matches of its words hold (those of a simple command, defaults among them).
+--     minorder      [--workers W] [--cert OUT] [--count] [--above LIST] FILE
+--     value_of words id, read_of words id      the value of an argument, as it was written and as it is read
+--     IsFlag, IsNumber      what a read value means
+use Rattle.std.specs.Prelude.{◌≡◌, ℕ, Bool, List, [], ◌∷◌, map, Option, Some, None, codes, true, false, pos}
+use Rattle.std.specs.Borrow.{Bor}
+use Rattle.std.specs.Str.Parse.{IsNumeral, digits_value, without_leading_plus}
+use Rattle.clap.specs.Words.{App, Rule, Text, first_of, one_of, matches_of, new_app, new_rule, with_rule}
+use Rattle.clap.specs.declared.builder.action.ArgAction.TheVariants.{SetTrue}
+use Rattle.clap.specs.declared.builder.value_parser.ValueParser.TheVariants as parser
+
+-- an option with one value
+abbrev pub option : Text → Rule
+option name = record (new_rule name) { long = Some name; value_names = 1 }
+
+abbrev pub workers_rule : Rule
+workers_rule = record (option (codes "workers")) { parser = Some (parser.Signed (pos 1) (pos 64)); defaults = codes "4" ∷ [] }
+
+abbrev pub count_rule : Rule
+count_rule = record (new_rule (codes "count")) { long = Some (codes "count"); action = Some SetTrue }
+
+abbrev pub file_rule : Rule
+file_rule = record (new_rule (codes "FILE")) { required = true }
+
+-- the words are those behind the program's name
+abbrev pub named : App
+named = record (new_app (codes "minorder")) { top = record (new_app (codes "minorder")).top { no_binary_name = true } }
+
+abbrev pub with_options : App → App
+with_options app = with_rule (with_rule (with_rule (with_rule app workers_rule) (option (codes "cert"))) count_rule) (option (codes "above"))
+
+-- the command line of minorder
+abbrev pub minorder : App
+minorder = with_rule (with_options named) file_rule
+
+-- the texts of words
+abbrev pub texts : List (Bor Text) → List Text
+texts words = map (λ word. word.now) words
+
+-- the value of an argument, as it was written
+unfoldable pub value_of : List Text → Text → Option Text
+value_of words id = first_of id (matches_of minorder words)
+
+-- the value of an argument, as it is read
+unfoldable pub read_of : List Text → Text → Option Text
+read_of words id = one_of id (matches_of minorder words)
+
+-- a flag is set where its value is `true`
+abbrev pub IsFlag : Option Text → Bool → Type 0
+IsFlag value flag = (value ≡ None → flag ≡ false) × (value ≡ Some (codes "true") → flag ≡ true) × (value ≡ Some (codes "false") → flag ≡ false)
+
+-- the decimal number that a value spells; a plus may stand first
+abbrev pub IsNumber : Option Text → ℕ → Type 0
+IsNumber value n = (text : Text) × (value ≡ Some text) × IsNumeral 10 (without_leading_plus text) × (digits_value 10 (without_leading_plus text) ≡ n)

@@ -1,0 +1,172 @@
+//! What the words behind the program's name ask for.
+
+ghost use Rattle.std.specs.Prelude.{◌≡◌, IfOk, IfSome, Some, codes, false, option_map};
+ghost use Rattle.clap.specs.Words.{app_of, first_value, found_of, one_text, rule_of};
+ghost use Rattle.command_line.specs.Lines.{IsFlag, IsNumber, count_rule, file_rule, minorder, option as option_rule, read_of, texts, value_of, with_options as options_of, workers_rule};
+
+use crate::usage::{Usage, usage_of};
+use clap::error::ErrorKind;
+use clap::{Arg, ArgAction, ArgMatches, Command, value_parser};
+use order_model::Workers;
+use std::alloc::{AllocError, Global};
+
+/// What is asked of a run.
+#[derive(Clone, Copy, Debug)]
+pub struct RunPlan<'a> {
+    /// How many workers share the work. A count makes no use of them.
+    pub workers: Workers,
+    /// Whether only the level counts under the file order are wanted.
+    pub count: bool,
+    /// The pairs `A,B:C,D` that the order has to keep, as they were written: variable A above variable B. A count makes no use of them.
+    pub above: Option<&'a str>,
+}
+
+/// A command line: `[--workers W] [--cert OUT] [--count] [--above LIST] FILE`, in any order.
+#[derive(Clone, Copy, Debug)]
+pub struct Line<'a> {
+    pub plan: RunPlan<'a>,
+    /// The path of the PLA file.
+    pub file: &'a str,
+    /// The path of the certificate to be written.
+    pub cert: Option<&'a str>,
+}
+
+/// `--workers W`.
+fn workers_option<'a>(alloc: Global) -> Arg<'a>
+    ensures rule { rule_of result ≡ workers_rule }
+    ensures local { result.global ≡ false }
+{
+    Arg::new(alloc, "workers")
+        .long("workers")
+        .value_name("W")
+        .help("How many workers share the work, 1 to 64")
+        .value_parser(value_parser!(u8).range(1..=64))
+        .default_value("4")
+}
+
+/// An option with one value.
+fn option<'a>(alloc: Global, name: &'a str, value: &'a str, help: &'a str) -> Arg<'a>
+    ensures rule { rule_of result ≡ option_rule name.entry.now }
+    ensures local { result.global ≡ false }
+{
+    Arg::new(alloc, name)
+        .long(name)
+        .value_name(value)
+        .help(help)
+}
+
+/// `--count`.
+fn count_option<'a>(alloc: Global) -> Arg<'a>
+    ensures rule { rule_of result ≡ count_rule }
+    ensures local { result.global ≡ false }
+{
+    Arg::new(alloc, "count")
+        .long("count")
+        .action(ArgAction::SetTrue)
+        .help("Print only the level counts and the size under the file order")
+}
+
+/// The file.
+fn file_argument<'a>(alloc: Global) -> Arg<'a>
+    ensures rule { rule_of result ≡ file_rule }
+    ensures local { result.global ≡ false }
+{
+    Arg::new(alloc, "FILE").required(true).help(
+        "A Berkeley PLA file (espresso), of at most 16 inputs and 16 outputs",
+    )
+}
+
+/// The options behind others.
+fn with_options<'a>(alloc: Global, command: Command<'a>) -> Result<Command<'a>, AllocError>
+    ensures { IfOk result (λ c. app_of c ≡ options_of (app_of command.entry)) }
+{
+    let cert = option(
+        alloc,
+        "cert",
+        "OUT",
+        "Write a certificate of the answer to this file",
+    );
+    let above = option(
+        alloc,
+        "above",
+        "LIST",
+        "Pairs A,B:C,D of variables: A has to stand above B, C above D",
+    );
+    command
+        .arg(workers_option(alloc))?
+        .arg(cert)?
+        .arg(count_option(alloc))?
+        .arg(above)
+}
+
+/// The command that clap matches.
+fn command<'a>(alloc: Global) -> Result<Command<'a>, AllocError>
+    ensures { IfOk result (λ c. app_of c ≡ minorder) }
+{
+    let command = Command::new(alloc, "minorder")
+        .about(
+            "Finds the first variable order under which the functions of a PLA file have the smallest shared binary decision diagram",
+        )
+        .no_binary_name(true);
+    with_options(alloc, command)?.arg(file_argument(alloc))
+}
+
+/// What the matches of the command hold.
+fn line_of<'a>(matches: &ArgMatches<'a>) -> Option<Line<'a>>
+    ensures file { IfSome result (λ line. first_value (found_of matches.now) (codes "FILE") ≡ Some line.file.now) }
+    ensures cert { IfSome result (λ line. first_value (found_of matches.now) (codes "cert") ≡ option_map (λ s. s.now) line.cert) }
+    ensures above { IfSome result (λ line. first_value (found_of matches.now) (codes "above") ≡ option_map (λ s. s.now) line.plan.above) }
+    ensures count { IfSome result (λ line. IsFlag (one_text (found_of matches.now) (codes "count")) line.plan.count) }
+    ensures workers { IfSome result (λ line. IsNumber (one_text (found_of matches.now) (codes "workers")) line.plan.workers) }
+{
+    let count = matches.get_one::<u8>("workers")?;
+    let workers = Workers::new(count)?;
+    let file = matches.get_str("FILE")?;
+    let plan = RunPlan {
+        workers,
+        count: matches.get_flag("count"),
+        above: matches.get_str("above"),
+    };
+    Some(Line {
+        plan,
+        file,
+        cert: matches.get_str("cert"),
+    })
+}
+
+/// A command line that holds no file or no number of workers.
+fn lacking<'a>(mut command: Command<'a>) -> Usage {
+    match command.error(
+        ErrorKind::MissingRequiredArgument,
+        "no file, or no number of workers",
+    ) {
+        Ok(error) => Usage::Refused(error),
+        Err(_) => Usage::OutOfMemory,
+    }
+}
+
+impl<'a> Line<'a> {
+    /// What the words behind the program's name ask for, by clap's rules.
+    ///
+    /// Options stand before or behind the file, each at most once. An option's value may stand in the same word, as in `--workers=2`.
+    pub fn of_words(alloc: Global, words: &'a [&'a str]) -> Result<Line<'a>, Usage>
+        ensures file { IfOk result (λ line. value_of (texts words.now) (codes "FILE") ≡ Some line.file.now) }
+        ensures cert { IfOk result (λ line. value_of (texts words.now) (codes "cert") ≡ option_map (λ s. s.now) line.cert) }
+        ensures above { IfOk result (λ line. value_of (texts words.now) (codes "above") ≡ option_map (λ s. s.now) line.plan.above) }
+        ensures count { IfOk result (λ line. IsFlag (read_of (texts words.now) (codes "count")) line.plan.count) }
+        ensures workers { IfOk result (λ line. IsNumber (read_of (texts words.now) (codes "workers")) line.plan.workers) }
+    {
+        let mut command = match command(alloc) {
+            Ok(command) => command,
+            Err(_) => return Err(Usage::OutOfMemory),
+        };
+        let line = match command.try_get_matches_from_mut(words) {
+            Ok(matches) => line_of(&matches),
+            Err(error) => return Err(usage_of(error)),
+        };
+        match line {
+            Some(line) => Ok(line),
+            None => Err(lacking(command)),
+        }
+    }
+}
