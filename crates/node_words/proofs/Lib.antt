@@ -1,0 +1,5 @@
+pub mod Growing
+pub mod Meaning
+pub mod Making
+pub mod Functions
+pub mod Entries

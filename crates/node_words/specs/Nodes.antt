@@ -1,0 +1,93 @@
+-- The words of nodes, and what is so of a list of them.
+--     node_word, level_of, lower_of, upper_of      a node's word and its parts; id p + 2 is the node at place p, ids 0 and 1 are the terminals
+--     home, probe      the places that the search for a word comes to
+--     IsNode, AreNodes, AreUnequal, AreStored      lists of words that are nodes, no two of them equal
+--     Grows      what was filled stays
+use Rattle.std.specs.Prelude.{◌≡◌, ◌≢◌, ℕ, ◌+◌, ◌-◌, ◌*◌, ◌/◌, ◌%◌, ◌^◌, ◌<◌, ◌≤◌, ◌==◌, nat_lt, if◌then◌else◌, List, length, slice_index, bit_xor, MatchBool}
+
+-- the word of a node: its level, and the ids of its two children
+abbrev pub node_word : ℕ → ℕ → ℕ → ℕ
+node_word level lower upper = 2 ^ 44 + level * 2 ^ 40 + lower * 2 ^ 20 + upper
+
+-- the parts of a node's word
+abbrev pub level_of : ℕ → ℕ
+level_of w = (w / 2 ^ 40) % 16
+
+abbrev pub lower_of : ℕ → ℕ
+lower_of w = (w / 2 ^ 20) % 2 ^ 20
+
+abbrev pub upper_of : ℕ → ℕ
+upper_of w = w % 2 ^ 20
+
+-- the word with its bits mixed
+unfoldable pub mixed : ℕ → ℕ
+mixed w =
+    let a : ℕ = (bit_xor w (w / 2 ^ 32) * 11400714819323198485) % 2 ^ 64 in
+    (bit_xor a (a / 2 ^ 29) * 13787848793156543929) % 2 ^ 64
+
+-- where the search for a word starts
+unfoldable pub home : ℕ → ℕ → ℕ
+home places w = (mixed w / 2 ^ 32) * places / 2 ^ 32
+
+-- the place that the search for a word comes to after k others
+abbrev pub probe : ℕ → ℕ → ℕ → ℕ
+probe places w k = if nat_lt (home places w + k) places then home places w + k else home places w + k - places
+
+-- the id is a terminal, or that of a filled place
+abbrev pub IsKnown : List ℕ → ℕ → Type 0
+IsKnown ws id = 2 ≤ id → slice_index ws (id - 2) ≢ 0
+
+-- the id is a terminal, or that of a filled place of a level below
+abbrev pub IsBelow : List ℕ → ℕ → ℕ → Type 0
+IsBelow ws level id = 2 ≤ id → (slice_index ws (id - 2) ≢ 0) × (level < level_of (slice_index ws (id - 2)))
+
+-- a node: its level is one of the levels, and its children are unequal and lie below
+pub record IsNode (levels : ℕ) (ws : List ℕ) (w : ℕ) : Type 0 where
+  pub word : w ≡ node_word (level_of w) (lower_of w) (upper_of w)
+  pub level : level_of w < levels
+  pub unequal : lower_of w ≢ upper_of w
+  pub lower : IsBelow ws (level_of w) (lower_of w)
+  pub upper : IsBelow ws (level_of w) (upper_of w)
+
+-- each filled word is a node
+abbrev pub AreNodes : ℕ → List ℕ → Type 0
+AreNodes levels ws = (p : ℕ) → slice_index ws p ≢ 0 → IsNode levels ws (slice_index ws p)
+
+-- no two filled places hold equal words
+abbrev pub AreUnequal : List ℕ → Type 0
+AreUnequal ws = (p q : ℕ) → slice_index ws p ≢ 0 → slice_index ws p ≡ slice_index ws q → p ≡ q
+
+-- the places that the search for w passes before it comes to p are filled
+pub record IsReached (places : ℕ) (ws : List ℕ) (w p : ℕ) : Type 0 where
+  pub passed : ℕ
+  pub here : p ≡ probe places w passed
+  pub before : (j : ℕ) → j < passed → slice_index ws (probe places w j) ≢ 0
+
+-- what was filled is the same afterwards
+abbrev pub Grows : List ℕ → List ℕ → Type 0
+Grows xs ys = (p : ℕ) → slice_index xs p ≢ 0 → slice_index ys p ≡ slice_index xs p
+
+-- the node words of a store
+pub record AreStored (levels places : ℕ) (ws : List ℕ) : Type 0 where
+  pub size : length ws ≡ places
+  pub nodes : AreNodes levels ws
+  pub unequal : AreUnequal ws
+  pub reached : (p : ℕ) → slice_index ws p ≢ 0 → IsReached places ws (slice_index ws p) p
+
+-- the place is taken by another word
+abbrev pub IsTaken : List ℕ → ℕ → ℕ → Type 0
+IsTaken ws w p = (slice_index ws p ≢ 0) × (slice_index ws p ≢ w)
+
+-- each place is taken by another word
+abbrev pub IsFullFor : List ℕ → ℕ → ℕ → Type 0
+IsFullFor ws places w = (p : ℕ) → p < places → IsTaken ws w p
+
+-- the place comes next in the search for w: the places before are taken by other words
+pub record IsNext (ws : List ℕ) (places w p : ℕ) : Type 0 where
+  pub passed : ℕ
+  pub here : p ≡ probe places w passed
+  pub before : (j : ℕ) → j < passed → IsTaken ws w (probe places w j)
+
+-- the id is that of the node with this level and these children, or the child where they are equal
+abbrev pub IsIdOf : List ℕ → ℕ → ℕ → ℕ → ℕ → Type 0
+IsIdOf ws level lower upper id = MatchBool (lower == upper) (id ≡ lower) ((2 ≤ id) × (slice_index ws (id - 2) ≡ node_word level lower upper))

@@ -1,0 +1,9 @@
+//! The words of a store of nodes, and what ids mean.
+#![tactic(auto)]
+
+pub mod laws;
+mod operation;
+mod words;
+
+pub use operation::Operation;
+pub use words::{NodeParts, entry_key, node_parts, node_word, probe, start};

@@ -1,0 +1,9 @@
+// The operations that a cache knows.
+
+/// An operation on two functions.
+#[derive(Clone, Copy, Debug, PartialEq, Eq)]
+pub enum Operation {
+    And,
+    Or,
+    Xor,
+}

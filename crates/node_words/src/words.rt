@@ -1,0 +1,77 @@
+// Packing and unpacking words.
+ghost use Rattle.std.specs.Prelude.{◌≡◌, ℕ, ◌+◌, ◌-◌, ◌*◌, ◌^◌, ◌<◌};
+ghost use Rattle.node_words.specs.Nodes.{node_word, home, probe, level_of, lower_of, upper_of};
+ghost use Rattle.node_words.specs.Entries.{code_of};
+
+use crate::operation::Operation;
+
+/// The level and the ids of the two children of a node.
+#[derive(Clone, Copy, Debug, PartialEq, Eq)]
+pub struct NodeParts {
+    pub level: u8,
+    pub lower: u32,
+    pub upper: u32,
+}
+
+/// The word of a node.
+pub fn node_word(level: u8, lower: u32, upper: u32) -> u64
+    requires level { level < 16 }
+    requires lower { lower < 2 ^ 20 }
+    requires upper { upper < 2 ^ 20 }
+    ensures { result ≡ node_word level lower upper }
+{
+    (1 << 44) + (u64::from(level) << 40) + (u64::from(lower) << 20) + u64::from(upper)
+}
+
+/// The parts of a node's word.
+pub fn node_parts(word: u64) -> NodeParts
+    ensures level { result.level ≡ level_of word }
+    ensures lower { result.lower ≡ lower_of word }
+    ensures upper { result.upper ≡ upper_of word }
+{
+    NodeParts {
+        level: ((word >> 40) % 16) as u8,
+        lower: ((word >> 20) % (1 << 20)) as u32,
+        upper: (word % (1 << 20)) as u32,
+    }
+}
+
+/// Where the search for a word starts among that many places.
+pub fn start(places: usize, word: u64) -> usize
+    requires some { 0 < places }
+    requires few { places < 2 ^ 32 }
+    ensures is { result ≡ home places word }
+    ensures within { result < places }
+{
+    let first = (word ^ (word >> 32)).wrapping_mul(11400714819323198485);
+    let second = (first ^ (first >> 29)).wrapping_mul(13787848793156543929);
+    (((second >> 32) * places as u64) >> 32) as usize
+}
+
+/// The place that a search comes to after it passed so many others.
+pub fn probe(start: usize, passed: usize, places: usize) -> usize
+    requires start { start < places }
+    requires passed { passed < places }
+    ensures is { (word : ℕ) → start ≡ home places word → result ≡ probe places word passed }
+    ensures within { result < places }
+{
+    if passed < places - start {
+        start + passed
+    } else {
+        passed - (places - start)
+    }
+}
+
+/// What the word of an operation's result begins with.
+pub fn entry_key(operation: Operation, first: u32, second: u32) -> u64
+    requires first { first < 2 ^ 20 }
+    requires second { second < 2 ^ 20 }
+    ensures { result ≡ code_of operation * 2 ^ 40 + first * 2 ^ 20 + second }
+{
+    let code: u64 = match operation {
+        Operation::And => 1,
+        Operation::Or => 2,
+        Operation::Xor => 3,
+    };
+    (code << 40) + (u64::from(first) << 20) + u64::from(second)
+}

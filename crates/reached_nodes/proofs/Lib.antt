@@ -1,0 +1,3 @@
+pub mod Words
+pub mod Copying
+pub mod Finishing

@@ -1,0 +1,46 @@
+// The diagram of what some roots reach.
+ghost use Rattle.std.specs.Prelude.{◌≡◌, ℕ, ◌^◌, ◌<◌, ◌≤◌, IfOk, length, map};
+ghost use Rattle.std.specs.List.{All};
+ghost use Rattle.std.specs.Slots.{slots_len, IsFull};
+ghost use Rattle.order_model.specs.Orders.{IsOrder};
+ghost use Rattle.node_words.specs.Nodes.{AreNodes, AreUnequal, IsKnown};
+ghost use Rattle.node_words.specs.Meaning.{function_of};
+ghost use Rattle.reached_nodes.specs.Copies.{words_in, IsReducedOf};
+
+use crate::copies::copy;
+use atomic_table::Closed;
+use order_model::{Node, Ref, VarIx};
+use std::alloc::{AllocError, Global};
+
+/// Nodes, each behind its children, and a ref for each root.
+#[derive(Drop)]
+pub struct Reached {
+    pub nodes: Vec<Node>,
+    pub roots: Vec<Ref>,
+}
+
+/// The reduced diagram of the functions that some ids denote, of the node words in the first places of a closed table.
+pub fn reached_nodes(
+    alloc: Global,
+    closed: &Closed<(), Global>,
+    places: usize,
+    order: &[VarIx],
+    ids: &[u32],
+) -> Result<Reached, AllocError>
+    requires full { IsFull closed.now.words }
+    requires places { (places ≤ slots_len closed.now.words) × (places < 2 ^ 20) }
+    requires order { (length order.now ≤ 16) × IsOrder (length order.now) order.now }
+    requires nodes { AreNodes (length order.now) (words_in closed.now places) }
+    requires unequal { AreUnequal (words_in closed.now places) }
+    requires known { All (IsKnown (words_in closed.now places)) ids.now }
+    ensures { IfOk result (λ r. IsReducedOf (length order.now) (map (function_of order.now (words_in closed.now places)) ids.now) order.now r.nodes.items r.roots.items) }
+{
+    let mut numbers = vec![in alloc; 0u32; places]?;
+    let mut nodes = Vec::new(alloc);
+    let mut roots = Vec::with_capacity(alloc, ids.len())?;
+    for id in ids {
+        let root = copy(closed, places, order, &mut numbers, &mut nodes, *id)?;
+        roots.push(root)?;
+    }
+    Ok(Reached { nodes, roots })
+}

@@ -1,0 +1,7 @@
+//! The reduced diagram of the nodes that some roots reach.
+#![tactic(auto)]
+
+mod copies;
+mod diagram;
+
+pub use diagram::{Reached, reached_nodes};

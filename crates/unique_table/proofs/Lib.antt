@@ -1,0 +1,8 @@
+pub mod Rule
+pub mod Steps
+pub mod Following
+pub mod Opened
+pub mod Parts
+pub mod Roots
+pub mod KindLaws
+pub mod TwoFunctions

@@ -1,0 +1,111 @@
+-- A store and a session, opened.
+use Rattle.std.proofs.Common.{◌≡◌, ◌≢◌, ℕ, ◌+◌, ◌*◌, ◌/◌, ◌^◌, ◌<◌, ◌≤◌, List, sym, ap, ◌∙◌, subst, arith}
+use Rattle.node_words.specs.Nodes.{AreNodes, Grows, IsNode, IsIdOf, node_word}
+use Rattle.node_words.specs.Meaning.{function_of, Denotes, branch}
+use Rattle.node_words.proofs.Making.{word_node}
+use Rattle.order_model.specs.Orders.{IsOrder}
+use Rattle.node_words.specs.declared.operation.Operation.{Operation}
+use Rattle.node_words.specs.Entries.{code_of, combine, entry_word, result_of, IsEntry}
+use Rattle.node_words.proofs.Entries.{code_some, entry_made, entry_found}
+use Rattle.node_words.proofs.Functions.{known_small, below_depth, denotes_made, depth_made, operation_no_higher, one_id}
+use Rattle.atomic_table.specs.declared.shared.Seat.{Seat}
+use Rattle.unique_table.specs.declared.view.Plan.{Plan}
+use Rattle.unique_table.specs.declared.view.View.{View}
+use Rattle.unique_table.specs.declared.session.Store.TheInside as store
+use Rattle.unique_table.specs.declared.session.Session.TheInside as session
+use Rattle.unique_table.specs.Plans.{order_of, levels_of, variable_at}
+use Rattle.unique_table.specs.Sessions.{StoreId, Knowledge, Follows, Knows, IsKnownBelow, Means, HasUniqueIds, function_in, depth_in}
+use Rattle.unique_table.specs.Insides.{store_id, IsStore, knowledge, IsSession}
+use Rattle.unique_table.specs.Views.{After, Gains}
+use Rattle.unique_table.specs.Seats.{IsSeatOf}
+use Rattle.unique_table.proofs.Following.{follows}
+
+abbrev Sitting : Type 0
+Sitting = Seat (Unit {0}) View
+
+abbrev pub seated : Sitting → Knowledge
+seated seat = knowledge record { seat = seat }
+
+-- a session whose seat is at the table knows the store
+pub store_is : (t : store.Inside) (T : StoreId) (seat : Sitting) → store_id t ≡ T → IsSeatOf t.table.shared seat → (seated seat).store ≡ T
+store_is t T seat is fits = (λ i. record { table = fits.table i; plan = fits.plan i }) ∙ is
+
+module _ (t : store.Inside) (s : session.Inside) (T : StoreId) (K : Knowledge) (is_t : store_id t ≡ T) (is_s : knowledge s ≡ K) (kt : IsStore t) (ks : IsSession s) (fits : K.store ≡ T) where
+  pub plan_is : s.seat.me.0.plan ≡ t.table.shared.key
+  plan_is = ap (λ (z : Knowledge). z.store.plan) is_s ∙ (ap (λ (z : StoreId). z.plan) fits ∙ ap (λ (z : StoreId). z.plan) (sym is_t))
+
+  pub seat_of : IsSeatOf t.table.shared s.seat
+  seat_of = record {
+    table = ap (λ (z : Knowledge). z.store.table) is_s ∙ (ap (λ (z : StoreId). z.table) fits ∙ ap (λ (z : StoreId). z.table) (sym is_t));
+    plan = plan_is;
+    empty = ks.empty;
+    good = ks.good;
+  }
+
+  -- a known id fits 20 bits
+  pub small_id : (id : ℕ) → Knows K id → id < 2 ^ 20
+  small_id id known = let size = ks.good.size in let places = ap (λ (b : Plan). b.places) plan_is in let a = kt.plan.places in
+      let inside = known_small s.seat.me.0.seen s.seat.me.0.plan.places id size (subst (λ (z : Knowledge). Knows z id) (sym is_s) known) in omega arith
+
+  pub few_levels : levels_of T.plan ≤ 16
+  few_levels = subst (λ (z : StoreId). levels_of z.plan ≤ 16) is_t kt.plan.order.few
+
+  pub word_ready : (level lower upper word : ℕ) → level < levels_of T.plan → IsKnownBelow K level lower → IsKnownBelow K level upper → lower ≢ upper → word ≡ node_word level lower upper
+      → (word ≢ 0) × IsNode (levels_of t.table.shared.key) s.seat.me.0.seen word
+  word_ready level lower upper word low kl ku ne is =
+      let few = few_levels in let a = small_id lower kl.0 in let b = small_id upper ku.0 in
+      let node : IsNode (levels_of K.store.plan) K.seen word = subst (IsNode (levels_of K.store.plan) K.seen) (sym is)
+      (word_node (levels_of K.store.plan) level lower upper K.seen (subst (λ (z : StoreId). levels_of z.plan ≤ 16) (sym fits) few) (subst (λ (z : StoreId). level < levels_of z.plan) (sym fits) low) a b ne
+      (below_depth (levels_of K.store.plan) K.seen level lower kl.0 kl.1) (below_depth (levels_of K.store.plan) K.seen level upper ku.0 ku.1)) in (
+        (λ e. omega arith),
+        subst (λ (z : Plan). IsNode (levels_of z) s.seat.me.0.seen word) plan_is (subst (λ (z : Knowledge). IsNode (levels_of z.store.plan) z.seen word) (sym is_s) node),
+      )
+
+  pub nodes_are : AreNodes (levels_of K.store.plan) K.seen
+  nodes_are = subst (λ (z : Knowledge). AreNodes (levels_of z.store.plan) z.seen) is_s ks.good.nodes
+
+  module _ (seat : Sitting) (sits : IsSeatOf t.table.shared seat) where
+    pub goes_on : Gains s.seat.me.0 seat.me.0 → Follows K (seated seat)
+    goes_on g = follows K (seated seat) nodes_are (store_is t T seat is_t sits ∙ sym fits) (subst (λ (z : Knowledge). Grows z.seen seat.me.0.seen) is_s g.nodes) (subst (λ (z : Knowledge). Grows z.pieces seat.me.0.pieces) is_s g.pieces)
+
+    pub goes_grown : Grows s.seat.me.0.seen seat.me.0.seen → Grows s.seat.me.0.pieces seat.me.0.pieces → Follows K (seated seat)
+    goes_grown g gp = follows K (seated seat) nodes_are (store_is t T seat is_t sits ∙ sym fits) (subst (λ (z : Knowledge). Grows z.seen seat.me.0.seen) is_s g) (subst (λ (z : Knowledge). Grows z.pieces seat.me.0.pieces) is_s gp)
+
+    pub goes_after : (wrote : ℕ) → After s.seat.me.0 seat.me.0 wrote → Follows K (seated seat)
+    goes_after wrote a = goes_on record { good = a.good; plan = a.plan; nodes = a.nodes; pieces = a.pieces }
+
+  -- the word that is stored for an operation
+  pub entry_ready : (o : Operation) (a b r word : ℕ) → Knows K a → Knows K b → Means K r (combine o (function_in K a) (function_in K b)) → word ≡ entry_word (code_of o) a b r → IsEntry (order_of t.table.shared.key) s.seat.me.0.seen word
+  entry_ready o a b r word ka kb m is =
+      let entry : IsEntry (order_of K.store.plan) K.seen word = subst (IsEntry (order_of K.store.plan) K.seen) (sym is) (entry_made (order_of K.store.plan) K.seen o a b r (small_id a ka) (small_id b kb) (small_id r m.known) ka kb m) in
+      subst (λ (z : Plan). IsEntry (order_of z) s.seat.me.0.seen word) plan_is (subst (λ (z : Knowledge). IsEntry (order_of z.store.plan) z.seen word) (sym is_s) entry)
+
+-- ids are unique
+pub unique_ids : (t : store.Inside) → IsStore t → (seat : Sitting) → IsSeatOf t.table.shared seat → HasUniqueIds (seated seat)
+unique_ids t kt seat sits id other f a b =
+    one_id (order_of seat.me.0.plan) seat.me.0.seen sits.good.nodes sits.good.unequal id other f (subst (λ (z : Plan). IsOrder (levels_of z) (order_of z)) (sym sits.plan) kt.plan.order.order) a b
+
+-- the result of an operation that a cache word has
+module _ (t : store.Inside) (kt : IsStore t) (seat : Sitting) (sits : IsSeatOf t.table.shared seat) (o : Operation) (a b w key : ℕ) (small_a : a < 2 ^ 20) (small_b : b < 2 ^ 20)
+    (known : w ≢ 0 → IsEntry (order_of t.table.shared.key) seat.me.0.seen w) (key_is : key ≡ code_of o * 2 ^ 40 + a * 2 ^ 20 + b) (same : w / 2 ^ 20 ≡ key) where
+  there : IsEntry (order_of t.table.shared.key) seat.me.0.seen w
+  there = known (λ none. let c = code_some o in omega arith)
+
+  pub entry_means : Means (seated seat) (result_of w) (combine o (function_in (seated seat) a) (function_in (seated seat) b))
+  entry_means = let order : Plan → List ℕ = λ z. order_of z in
+      subst (λ (z : Plan). Denotes (order z) seat.me.0.seen (result_of w) (combine o (function_of (order z) seat.me.0.seen a) (function_of (order z) seat.me.0.seen b))) (sym sits.plan)
+      (entry_found (order_of t.table.shared.key) seat.me.0.seen o a b w small_a small_b there (same ∙ key_is))
+
+  pub entry_depth : (k : ℕ) → Knows (seated seat) a → Knows (seated seat) b → k ≤ depth_in (seated seat) a → k ≤ depth_in (seated seat) b → k ≤ depth_in (seated seat) (result_of w)
+  entry_depth k ka kb ha hb =
+      operation_no_higher (order_of seat.me.0.plan) seat.me.0.seen sits.good.nodes sits.good.unequal (subst (λ (z : Plan). IsOrder (levels_of z) (order_of z)) (sym sits.plan) kt.plan.order.order) o a b (result_of w) k ka kb entry_means ha hb
+
+-- what a made id denotes, and how deep it lies
+module _ (T : StoreId) (K K' : Knowledge) (fits : K.store ≡ T) (few : levels_of T.plan ≤ 16) (are : AreNodes (levels_of K'.store.plan) K'.seen) (on : Follows K K') (level lower upper id : ℕ) (low : level < levels_of T.plan)
+    (a : lower < 2 ^ 20) (b : upper < 2 ^ 20) (kl : IsKnownBelow K level lower) (made : IsIdOf K'.seen level lower upper id) where
+  pub made_means : Means K' id (branch (variable_at T.plan level) (function_in K' lower) (function_in K' upper))
+  made_means = subst (λ (z : StoreId). Means K' id (branch (variable_at z.plan level) (function_in K' lower) (function_in K' upper))) (on.store ∙ fits)
+      (denotes_made (order_of K'.store.plan) K'.seen are level lower upper id (omega arith) a b (on.knows lower kl.0) made)
+
+  pub made_depth : level ≤ depth_in K' id
+  made_depth = let e = on.depths lower kl.0 in let less = kl.1 in depth_made (levels_of K'.store.plan) K'.seen level lower upper id (omega arith) a b (omega arith) made

@@ -1,0 +1,27 @@
+use Rattle.std.proofs.Common.{subst, arith}
+use Rattle.node_words.specs.Nodes.{Grows}
+use Rattle.unique_table.proofs.Rule.{M, may_join}
+use Rattle.unique_table.proofs.Opened.{seat_of, goes_grown, unique_ids}
+use Rattle.unique_table.proofs.session.Store.join.Goals as goal
+
+pub join_seat-requires : goal.join_seat-requires
+join_seat-requires c = (
+  (seat_of c.self.inside c.one.inside c.args.self.now c.args.one c.self.view_is c.one.view_is c.self.invariant c.one.invariant c.requires.one).table,
+  (seat_of c.self.inside c.two.inside c.args.self.now c.args.two c.self.view_is c.two.view_is c.self.invariant c.two.invariant c.requires.two).table,
+  c.two.invariant.empty,
+  (let a = c.self.invariant.words in let b = c.self.invariant.places in let d = c.self.invariant.plan.places in omega arith),
+  may_join _ _ _ _ _ c.one.invariant.good.live c.two.invariant.good.live,
+)
+
+pub returns-clause-one : goal.returns-clause-one
+returns-clause-one c = goes_grown c.self.inside c.one.inside c.args.self.now c.args.one c.self.view_is c.one.view_is c.self.invariant c.one.invariant c.requires.one c.look.new.seat c.look.ensures.seat
+    (subst (λ (m : M). Grows m.0.seen c.look.new.seat.me.0.seen) c.join_seat.ensures.2 c.look.ensures.after.nodes)
+    (subst (λ (m : M). Grows m.0.pieces c.look.new.seat.me.0.pieces) c.join_seat.ensures.2 c.look.ensures.after.pieces)
+
+pub returns-clause-two : goal.returns-clause-two
+returns-clause-two c = goes_grown c.self.inside c.two.inside c.args.self.now c.args.two c.self.view_is c.two.view_is c.self.invariant c.two.invariant c.requires.two c.look.new.seat c.look.ensures.seat
+    (subst (λ (m : M). Grows m.0.told c.look.new.seat.me.0.seen) c.join_seat.ensures.2 c.look.ensures.after.told)
+    (subst (λ (m : M). Grows m.0.pieces_told c.look.new.seat.me.0.pieces) c.join_seat.ensures.2 c.look.ensures.after.pieces_told)
+
+pub returns-clause-unique : goal.returns-clause-unique
+returns-clause-unique c = unique_ids c.self.inside c.self.invariant c.look.new.seat c.look.ensures.seat

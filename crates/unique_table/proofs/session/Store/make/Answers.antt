@@ -1,0 +1,47 @@
+use Rattle.std.proofs.Common.{◌≡◌, ◌+◌, ◌^◌, ◌<◌, ◌≤◌, Bool, MatchBool, ◌-◌, get_or, sym, ap, ◌∙◌, refl, subst, eq-eqb}
+use Rattle.node_words.specs.Nodes.{node_word}
+use Rattle.node_words.proofs.Making.{makes}
+use Rattle.unique_table.specs.Sessions.{Knowledge, Follows, IsKnownBelow}
+use Rattle.unique_table.proofs.Following.{follows_refl}
+use Rattle.unique_table.proofs.Opened.{seated, word_ready, small_id, seat_of, few_levels, goes_on, made_means, unique_ids}
+use Rattle.unique_table.proofs.session.Store.make.Goals as goal
+
+pub find_or_put-requires-clause-word : goal.find_or_put-requires-clause-word
+find_or_put-requires-clause-word c = word_ready c.self.inside c.session.inside c.args.self.now c.args.session.now c.self.view_is c.session.view_is c.self.invariant c.session.invariant c.requires.session
+    c.args.level c.args.lower c.args.upper c.node_word-word.result c.requires.level c.requires.lower c.requires.upper c.if-lower-upper.false c.node_word-word.ensures
+
+pub returns-in_default-clause-follows : goal.returns-in_default-clause-follows
+returns-in_default-clause-follows c = goes_on c.self.inside c.session.inside c.args.self.now c.args.session.now c.self.view_is c.session.view_is c.self.invariant c.session.invariant c.requires.session c.find_or_put.new.seat c.find_or_put.ensures.seat c.find_or_put.ensures.gains
+
+pub returns-clause-follows : goal.returns-clause-follows
+returns-clause-follows c = goes_on c.self.inside c.session.inside c.args.self.now c.args.session.now c.self.view_is c.session.view_is c.self.invariant c.session.invariant c.requires.session c.find_or_put.new.seat c.find_or_put.ensures.seat c.find_or_put.ensures.gains
+
+pub returns-clause-function : goal.returns-clause-function
+returns-clause-function c =
+    let a : c.args.lower < 2 ^ 20 = small_id c.self.inside c.session.inside c.args.self.now c.args.session.now c.self.view_is c.session.view_is c.self.invariant c.session.invariant c.requires.session c.args.lower c.requires.lower.0 in
+    let b : c.args.upper < 2 ^ 20 = small_id c.self.inside c.session.inside c.args.self.now c.args.session.now c.self.view_is c.session.view_is c.self.invariant c.session.invariant c.requires.session c.args.upper c.requires.upper.0 in
+    let on : Follows c.args.session.now (seated c.find_or_put.new.seat) = goes_on c.self.inside c.session.inside c.args.self.now c.args.session.now c.self.view_is c.session.view_is c.self.invariant c.session.invariant c.requires.session c.find_or_put.new.seat c.find_or_put.ensures.seat c.find_or_put.ensures.gains in
+    made_means c.args.self.now c.args.session.now (seated c.find_or_put.new.seat) c.requires.session
+    (few_levels c.self.inside c.session.inside c.args.self.now c.args.session.now c.self.view_is c.session.view_is c.self.invariant c.session.invariant c.requires.session) c.find_or_put.ensures.gains.good.nodes on
+    c.args.level c.args.lower c.args.upper (c.in-Some.place + 2) c.requires.level a b c.requires.lower
+    (makes c.find_or_put.new.seat.me.0.seen c.args.level c.args.lower c.args.upper c.in-Some.place c.if-lower-upper.false (c.in-Some.ensures.found.1 ∙ c.node_word-word.ensures))
+
+pub returns-then-lower-upper-clause-function : goal.returns-then-lower-upper-clause-function
+returns-then-lower-upper-clause-function c =
+    let a : c.args.lower < 2 ^ 20 = small_id c.self.inside c.session.inside c.args.self.now c.args.session.now c.self.view_is c.session.view_is c.self.invariant c.session.invariant c.requires.session c.args.lower c.requires.lower.0 in
+    let b : c.args.upper < 2 ^ 20 = small_id c.self.inside c.session.inside c.args.self.now c.args.session.now c.self.view_is c.session.view_is c.self.invariant c.session.invariant c.requires.session c.args.upper c.requires.upper.0 in
+    let here : Knowledge = seated c.session.inside.seat in
+    made_means c.args.self.now here here (ap (λ (z : Knowledge). z.store) c.session.view_is ∙ c.requires.session)
+    (few_levels c.self.inside c.session.inside c.args.self.now c.args.session.now c.self.view_is c.session.view_is c.self.invariant c.session.invariant c.requires.session) c.session.invariant.good.nodes
+    (follows_refl here c.session.invariant.good.nodes)
+    c.args.level c.args.lower c.args.upper c.args.lower c.requires.level a b (subst (λ (z : Knowledge). IsKnownBelow z c.args.level c.args.lower) (sym c.session.view_is) c.requires.lower)
+    (subst (λ (t : Bool). MatchBool t (c.args.lower ≡ c.args.lower) ((2 ≤ c.args.lower) × (get_or here.seen (c.args.lower - 2) 0 ≡ node_word c.args.level c.args.lower c.args.upper))) (sym (eq-eqb c.args.lower c.args.upper c.if-lower-upper.true)) refl)
+
+pub returns-then-lower-upper-clause-unique : goal.returns-then-lower-upper-clause-unique
+returns-then-lower-upper-clause-unique c = unique_ids c.self.inside c.self.invariant c.session.inside.seat (seat_of c.self.inside c.session.inside c.args.self.now c.args.session.now c.self.view_is c.session.view_is c.self.invariant c.session.invariant c.requires.session)
+
+pub returns-in_default-clause-unique : goal.returns-in_default-clause-unique
+returns-in_default-clause-unique c = unique_ids c.self.inside c.self.invariant c.find_or_put.new.seat c.find_or_put.ensures.seat
+
+pub returns-clause-unique : goal.returns-clause-unique
+returns-clause-unique c = unique_ids c.self.inside c.self.invariant c.find_or_put.new.seat c.find_or_put.ensures.seat

@@ -1,0 +1,33 @@
+use Rattle.std.proofs.Common.{ℕ, ◌<◌, ◌∙◌, refl, subst, arith}
+use Rattle.node_words.specs.Nodes.{home}
+use Rattle.node_words.proofs.Growing.{grows_refl, node_grows}
+use Rattle.node_words.proofs.Making.{one_more, full_for}
+use Rattle.unique_table.specs.Plans.{levels_of}
+use Rattle.unique_table.proofs.Steps.{gains_both}
+use Rattle.unique_table.proofs.words.find_or_put.Goals as goal
+
+pub loop-passed-init : goal.loop-passed-init
+loop-passed-init c = record {
+  seat = c.requires.seat;
+  gains = record { good = c.requires.seat.good; plan = refl; nodes = grows_refl c.args.seat.now.me.0.seen; pieces = grows_refl c.args.seat.now.me.0.pieces };
+  node = c.requires.word.1;
+  before = λ j none. absurd (omega arith);
+  steps = omega arith;
+  writes = refl;
+}
+
+pub loop-passed-preserved : goal.loop-passed-preserved
+loop-passed-preserved c = let i = c.loop-passed.invariant in record {
+  seat = c.take.ensures.seat;
+  gains = gains_both c.args.seat.now.me.0 c.loop-passed.seat.me.0 c.take.new.seat.me.0 i.gains c.take.ensures.gains;
+  node = node_grows (levels_of c.args.shared.now.key) c.loop-passed.seat.me.0.seen c.take.new.seat.me.0.seen c.args.word c.take.ensures.gains.nodes i.node;
+  before = one_more c.loop-passed.seat.me.0.seen c.take.new.seat.me.0.seen c.args.places c.args.word c.loop-passed.passed c.probe-place.result c.take.ensures.gains.nodes i.before
+      (c.probe-place.ensures.is c.args.word c.start-start.ensures.is) c.if-take.ensures.found;
+  steps = let a = c.take.ensures.steps in let b = i.steps in omega arith;
+  writes = c.if-take.ensures.writes ∙ i.writes;
+}
+
+pub returns-clause-full : goal.returns-clause-full
+returns-clause-full c =
+    let within : home c.args.places c.args.word < c.args.places = subst (λ (z : ℕ). z < c.args.places) c.start-start.ensures.is c.start-start.ensures.within in
+    full_for c.loop-passed.seat.me.0.seen c.args.places c.args.word c.loop-passed.passed within (let past = c.loop-passed-test.false in omega arith) c.loop-passed.invariant.before

@@ -1,0 +1,77 @@
+-- What contracts see of a store and of a session.
+--     StoreId      a store: its table and its plan
+--     Knowledge      a session: its store, the node words and piece words that it knows, and its counts of steps and writes
+--     Knows s id, function_in s id, depth_in s id, Means s id f      the ids that a session knows
+--     HasUniqueIds s      ids that a session knows are equal where they denote the same function
+--     HasPiece s q id      the session knows that the piece has the id
+--     Follows s s'      a session goes on: what it knew it still knows
+--     HasParts s id parts      the level and the children of a node
+use Rattle.std.specs.Prelude.{◌≡◌, ◌≢◌, ℕ, ◌+◌, ◌-◌, ◌<◌, List, slice_index}
+use Rattle.atomic_table.specs.Seated.{TableId}
+use Rattle.order_model.specs.Functions.{Point, Function}
+use Rattle.node_words.specs.declared.words.NodeParts.{NodeParts}
+use Rattle.node_words.specs.Nodes.{IsKnown, Grows, node_word}
+use Rattle.node_words.specs.Meaning.{function_of, Denotes, depth, branch}
+use Rattle.unique_table.specs.declared.view.Plan.{Plan}
+use Rattle.unique_table.specs.Plans.{order_of, levels_of, variable_at}
+
+-- a store: which table it is, and what it is for
+pub record StoreId : Type 0 where
+  pub table : TableId
+  pub plan : Plan
+
+-- a session: its store, the node words and piece words that it knows, and how many steps and writes it made
+pub record Knowledge : Type 0 where
+  pub store : StoreId
+  pub seen : List ℕ
+  pub pieces : List ℕ
+  pub steps : ℕ
+  pub writes : ℕ
+
+-- the session knows the id: a terminal, or a place that it saw filled
+abbrev pub Knows : Knowledge → ℕ → Type 0
+Knows s id = IsKnown s.seen id
+
+-- the function that a known id denotes
+abbrev pub function_in : Knowledge → ℕ → Function
+function_in s id = function_of (order_of s.store.plan) s.seen id
+
+-- the session knows the id, and it denotes f
+abbrev pub Means : Knowledge → ℕ → Function → Type 0
+Means s id f = Denotes (order_of s.store.plan) s.seen id f
+
+-- the level of a known id; a terminal lies below all levels
+abbrev pub depth_in : Knowledge → ℕ → ℕ
+depth_in s id = depth (levels_of s.store.plan) s.seen id
+
+-- the session knows the id, and it lies below the level
+abbrev pub IsKnownBelow : Knowledge → ℕ → ℕ → Type 0
+IsKnownBelow s level id = Knows s id × (level < depth_in s id)
+
+-- two ids that the session knows are one, where they denote the same function
+abbrev pub HasUniqueIds : Knowledge → Type 0
+HasUniqueIds s = (id other : ℕ) (f : Function) → Means s id f → Means s other f → id ≡ other
+
+-- the session knows the piece's id
+abbrev pub HasPiece : Knowledge → ℕ → ℕ → Type 0
+HasPiece s q id = slice_index s.pieces q ≡ id + 1
+
+-- a session goes on: it knows all that it knew, and ids keep their functions and levels
+pub record Follows (s s' : Knowledge) : Type 0 where
+  pub store : s'.store ≡ s.store
+  pub nodes : Grows s.seen s'.seen
+  pub pieces : Grows s.pieces s'.pieces
+  pub knows : (id : ℕ) → Knows s id → Knows s' id
+  pub functions : (id : ℕ) (p : Point) → Knows s id → function_in s' id p ≡ function_in s id p
+  pub means : (id : ℕ) (f : Function) → Means s id f → Means s' id f
+  pub depths : (id : ℕ) → Knows s id → depth_in s' id ≡ depth_in s id
+
+-- the parts of a known node: its level, and two unequal children below it, of whose functions its own is made
+pub record HasParts (s : Knowledge) (id : ℕ) (parts : NodeParts) : Type 0 where
+  pub word : slice_index s.seen (id - 2) ≡ node_word parts.level parts.lower parts.upper
+  pub level : depth_in s id ≡ parts.level
+  pub inside : parts.level < levels_of s.store.plan
+  pub unequal : parts.lower ≢ parts.upper
+  pub lower : IsKnownBelow s parts.level parts.lower
+  pub upper : IsKnownBelow s parts.level parts.upper
+  pub function : (p : Point) → function_in s id p ≡ branch (variable_at s.store.plan parts.level) (function_in s parts.lower) (function_in s parts.upper) p

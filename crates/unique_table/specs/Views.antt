@@ -1,0 +1,34 @@
+-- What a seat's view keeps.
+--     IsGood v      a view is a list of nodes by itself, with the pieces that it has
+--     After v v' wrote      a view after a step
+use Rattle.std.specs.Prelude.{◌≡◌, ℕ, ◌+◌, ◌≤◌, true, length}
+use Rattle.node_words.specs.Nodes.{AreNodes, AreUnequal, Grows}
+use Rattle.unique_table.specs.declared.view.View.{View}
+use Rattle.unique_table.specs.Plans.{levels_of}
+use Rattle.unique_table.specs.Picture.{ArePieces}
+
+-- what was seen is a list of nodes by itself, with the pieces that were seen
+pub record IsGood (v : View) : Type 0 where
+  pub live : v.live ≡ true
+  pub size : length v.seen ≤ v.plan.places
+  pub nodes : AreNodes (levels_of v.plan) v.seen
+  pub unequal : AreUnequal v.seen
+  pub are_pieces : ArePieces v.plan v.seen v.pieces
+
+-- a view after a step that wrote `wrote` words
+pub record After (v v' : View) (wrote : ℕ) : Type 0 where
+  pub good : IsGood v'
+  pub plan : v'.plan ≡ v.plan
+  pub nodes : Grows v.seen v'.seen
+  pub pieces : Grows v.pieces v'.pieces
+  pub told : Grows v.told v'.seen
+  pub pieces_told : Grows v.pieces_told v'.pieces
+  pub steps : v'.steps ≡ v.steps + 1
+  pub writes : v'.writes ≡ v.writes + wrote
+
+-- a view that goes on: what was seen stays
+pub record Gains (v v' : View) : Type 0 where
+  pub good : IsGood v'
+  pub plan : v'.plan ≡ v.plan
+  pub nodes : Grows v.seen v'.seen
+  pub pieces : Grows v.pieces v'.pieces

@@ -1,0 +1,34 @@
+// Of what the pieces of a store are made.
+use order_model::Term;
+use std::marker::Model;
+use std::snapshot::Snapshot;
+
+/// The pieces of a store: restrictions of the outputs by the top two variables (or the only one), or functions of the terms whose number leaves
+/// the same remainder when divided by 64. The outputs themselves are pieces too, behind these.
+#[derive(Clone, Copy)]
+pub enum Pieces<'a> {
+    Tables,
+    Terms(&'a [Term]),
+}
+
+/// A list of terms.
+#[derive(Drop)]
+pub struct TermList {
+    pub(crate) terms: Vec<Term>,
+}
+
+impl Model for TermList {
+    ghost use Rattle.std.specs.Prelude.{List};
+    ghost use Rattle.order_model.specs.declared.terms.Term.{Term};
+
+    ghost Value = { List Term };
+
+    ghost view = { λ t. t.terms.items };
+}
+
+/// Of what the pieces of a store are made, as its plan has it.
+#[derive(Drop)]
+pub enum PieceKind {
+    Restrictions,
+    Products(Snapshot<TermList>),
+}

@@ -1,0 +1,150 @@
+// The steps on words, each with what the seat's view gains.
+ghost use Rattle.std.specs.Prelude.{◌≡◌, ◌≢◌, ℕ, ◌+◌, ◌-◌, ◌*◌, ◌^◌, ◌<◌, ◌≤◌, slice_index, MatchBool, IfSome, IfNone};
+ghost use Rattle.node_words.specs.Nodes.{IsNode, IsNext, IsTaken, IsFullFor};
+ghost use Rattle.node_words.specs.Meaning.{Denotes};
+ghost use Rattle.node_words.specs.Entries.{IsEntry};
+ghost use Rattle.unique_table.specs.Plans.{order_of, levels_of, piece_function};
+ghost use Rattle.unique_table.specs.Views.{After, Gains};
+ghost use Rattle.unique_table.specs.Seats.{IsSeatOf};
+
+use crate::plays::{Collects, Looks, Publishes, Puts, Recalls, Remembers, Words};
+use crate::view::{Plan, View};
+use atomic_table::{Seat, Shared};
+use node_words::{probe, start};
+
+type Board = Shared<(), View, Plan, Words>;
+
+// Loads a node word.
+pub(crate) fn look(shared: &Board, seat: &mut Seat<(), View>, place: usize) -> u64
+    requires seat { IsSeatOf shared.now seat.old }
+    requires place { (place < shared.now.key.places) × (place < shared.now.table_id.words) }
+    ensures seat { IsSeatOf shared.now seat.new }
+    ensures after { After seat.old.me.0 seat.new.me.0 0 }
+    ensures found { slice_index seat.new.me.0.seen place ≡ result }
+{
+    shared.load::<Looks>(seat, place)
+}
+
+// Puts a node's word into the place that comes next in the search for it, if the place is empty, and answers what was found.
+fn put(shared: &Board, seat: &mut Seat<(), View>, place: usize, word: u64) -> u64
+    requires seat { IsSeatOf shared.now seat.old }
+    requires place { (place < shared.now.key.places) × (place < shared.now.table_id.words) }
+    requires next { IsNext seat.old.me.0.seen shared.now.key.places word place }
+    requires word { (word ≢ 0) × IsNode (levels_of shared.now.key) seat.old.me.0.seen word }
+    ensures seat { IsSeatOf shared.now seat.new }
+    ensures empty { result ≡ 0 → After seat.old.me.0 seat.new.me.0 1 × (slice_index seat.new.me.0.seen place ≡ word) }
+    ensures full { result ≢ 0 → After seat.old.me.0 seat.new.me.0 0 × (slice_index seat.new.me.0.seen place ≡ result) }
+{
+    shared.compare_exchange::<Puts>(seat, place, 0, word)
+}
+
+// Looks at the place that comes next in the search for a node's word, and puts the word there if it is seen empty. Says whether the word stands there.
+pub(crate) fn take(shared: &Board, seat: &mut Seat<(), View>, place: usize, word: u64) -> bool
+    requires seat { IsSeatOf shared.now seat.old }
+    requires place { (place < shared.now.key.places) × (place < shared.now.table_id.words) }
+    requires next { IsNext seat.old.me.0.seen shared.now.key.places word place }
+    requires word { (word ≢ 0) × IsNode (levels_of shared.now.key) seat.old.me.0.seen word }
+    ensures seat { IsSeatOf shared.now seat.new }
+    ensures gains { Gains seat.old.me.0 seat.new.me.0 }
+    ensures found { MatchBool result (slice_index seat.new.me.0.seen place ≡ word) (IsTaken seat.new.me.0.seen word place) }
+    ensures steps { seat.new.me.0.steps ≤ seat.old.me.0.steps + 2 }
+    ensures writes { MatchBool result (Unit {0}) (seat.new.me.0.writes ≡ seat.old.me.0.writes) }
+{
+    let seen = look(shared, seat, place);
+    if seen != 0 {
+        return seen == word;
+    }
+    let found = put(shared, seat, place, word);
+    found == 0 || found == word
+}
+
+// Stores the id of a piece's function.
+pub(crate) fn publish(
+    shared: &Board,
+    seat: &mut Seat<(), View>,
+    place: usize,
+    piece: usize,
+    id: u32,
+)
+    requires seat { IsSeatOf shared.now seat.old }
+    requires place { (place ≡ shared.now.key.places + shared.now.key.entries + piece) × (place < shared.now.table_id.words) }
+    requires piece { piece < shared.now.key.pieces }
+    requires function { Denotes (order_of shared.now.key) seat.old.me.0.seen id (piece_function shared.now.key piece) }
+    ensures seat { IsSeatOf shared.now seat.new }
+    ensures after { After seat.old.me.0 seat.new.me.0 1 }
+    ensures stored { slice_index seat.new.me.0.pieces piece ≡ id + 1 }
+{
+    shared.store::<Publishes>(seat, place, u64::from(id) + 1);
+}
+
+// Loads a piece word.
+pub(crate) fn collect(shared: &Board, seat: &mut Seat<(), View>, place: usize, piece: usize) -> u64
+    requires seat { IsSeatOf shared.now seat.old }
+    requires place { (place ≡ shared.now.key.places + shared.now.key.entries + piece) × (place < shared.now.table_id.words) }
+    ensures seat { IsSeatOf shared.now seat.new }
+    ensures after { After seat.old.me.0 seat.new.me.0 0 }
+    ensures found { slice_index seat.new.me.0.pieces piece ≡ result }
+{
+    let _ = piece;
+    shared.load::<Collects>(seat, place)
+}
+
+// Loads a cache word.
+pub(crate) fn recall(shared: &Board, seat: &mut Seat<(), View>, place: usize, entry: usize) -> u64
+    requires seat { IsSeatOf shared.now seat.old }
+    requires place { (place ≡ shared.now.key.places + entry) × (place < shared.now.table_id.words) }
+    requires entry { entry < shared.now.key.entries }
+    ensures seat { IsSeatOf shared.now seat.new }
+    ensures after { After seat.old.me.0 seat.new.me.0 0 }
+    ensures found { result ≢ 0 → IsEntry (order_of shared.now.key) seat.new.me.0.seen result }
+{
+    let _ = entry;
+    shared.load::<Recalls>(seat, place)
+}
+
+// Stores a cache word.
+pub(crate) fn remember(
+    shared: &Board,
+    seat: &mut Seat<(), View>,
+    place: usize,
+    entry: usize,
+    word: u64,
+)
+    requires seat { IsSeatOf shared.now seat.old }
+    requires place { (place ≡ shared.now.key.places + entry) × (place < shared.now.table_id.words) }
+    requires entry { entry < shared.now.key.entries }
+    requires word { IsEntry (order_of shared.now.key) seat.old.me.0.seen word }
+    ensures seat { IsSeatOf shared.now seat.new }
+    ensures after { After seat.old.me.0 seat.new.me.0 1 }
+{
+    let _ = entry;
+    shared.store::<Remembers>(seat, place, word);
+}
+
+// Searches for a node's word, and puts it into the first empty place that it comes to. None where each place is taken by another word.
+pub(crate) fn find_or_put(
+    shared: &Board,
+    seat: &mut Seat<(), View>,
+    places: usize,
+    word: u64,
+) -> Option<usize>
+    requires seat { IsSeatOf shared.now seat.old }
+    requires places { (places ≡ shared.now.key.places) × (places ≤ shared.now.table_id.words) }
+    requires count { (0 < places) × (places < 2 ^ 32) }
+    requires word { (word ≢ 0) × IsNode (levels_of shared.now.key) seat.old.me.0.seen word }
+    ensures seat { IsSeatOf shared.now seat.new }
+    ensures gains { Gains seat.old.me.0 seat.new.me.0 }
+    ensures found { IfSome result (λ place. (place < places) × (slice_index seat.new.me.0.seen place ≡ word)) }
+    ensures full { IfNone result (IsFullFor seat.new.me.0.seen places word) }
+    ensures steps { seat.new.me.0.steps ≤ seat.old.me.0.steps + 2 * places }
+    ensures writes { IfNone result (seat.new.me.0.writes ≡ seat.old.me.0.writes) }
+{
+    let start = start(places, word);
+    for passed in 0..places {
+        let place = probe(start, passed, places);
+        if take(shared, seat, place, word) {
+            return Some(place);
+        }
+    }
+    None
+}
