@@ -1,0 +1,77 @@
+-- The refs that paths come to between two levels of a diagram.
+--     code_of r, ref_of c      a ref as a number, and back
+--     split_ref nodes x r      the two refs below a variable: the children of a node that tests it, else the ref itself
+--     NumbersFirst      nodes whose children are numbered by first occurrence of their keys
+--     IsBuilt      levels whose functions are those of a diagram's roots
+use Rattle.std.specs.Prelude.{◌≡◌, ℕ, zero, suc, ◌+◌, ◌<◌, ◌≤◌, Bool, true, false, cond, List, length, map, get_or, slice_get, nat_eq}
+use Rattle.std.specs.declared.option.Option.{Option}
+use Rattle.std.specs.declared.option.Option.TheVariants.{Some, None}
+use Rattle.order_model.specs.declared.Ref.{Ref}
+use Rattle.order_model.specs.declared.Ref.TheVariants.{Terminal, Place}
+use Rattle.order_model.specs.declared.Node.{Node}
+use Rattle.order_model.specs.Functions.{SameFunction}
+use Rattle.order_model.specs.Diagrams.{value}
+use Rattle.sifting.specs.Leveled.{Children, function_at, NumbersFirst}
+use Rattle.sifting.specs.LevelLists.{IsLeveled}
+
+-- a ref as a number: the terminals are 0 and 1, and the nodes follow
+unfoldable pub code_of : Ref → ℕ
+code_of (Terminal b) = cond b 1 0
+code_of (Place k) = k + 2
+
+-- the ref with a number
+unfoldable pub ref_of : ℕ → Ref
+ref_of zero = Terminal false
+ref_of (suc zero) = Terminal true
+ref_of (suc (suc k)) = Place k
+
+-- the two refs below a variable, from a ref and the node that stands there
+abbrev pub split_node : ℕ → Ref → Option Node → Ref × Ref
+split_node x r None = (r, r)
+split_node x r (Some node) = cond (nat_eq node.variable x) (node.lower, node.upper) (r, r)
+
+-- the two refs below a variable: the children of a node that tests it, else the ref itself
+unfoldable pub split_ref : List Node → ℕ → Ref → Ref × Ref
+split_ref nodes x (Terminal b) = (Terminal b, Terminal b)
+split_ref nodes x (Place k) = split_node x (Place k) (slice_get nodes k)
+
+-- ref k of a cut
+abbrev pub ref_at : List Ref → ℕ → Ref
+ref_at cut k = get_or cut k (Terminal false)
+
+-- the first refs of a cut, split by a variable: a node of the level for each, and the codes of the next cut
+abbrev pub SplitsFirst : ℕ → List Node → ℕ → List Ref → List Children → List ℕ → Type 0
+SplitsFirst done nodes x cut level codes =
+    NumbersFirst 0 (λ k. code_of (split_ref nodes x (ref_at cut k)).0) (λ k. code_of (split_ref nodes x (ref_at cut k)).1) done level codes
+
+-- a cut, split by a variable
+pub record Splits (nodes : List Node) (x : ℕ) (cut : List Ref) (level : List Children) (next : List Ref) : Type 0 where
+  pub codes : List ℕ
+  pub split : SplitsFirst (length cut) nodes x cut level codes
+  pub next_is : next ≡ map ref_of codes
+
+-- the first roots with their numbers, and the codes of the cut above all levels
+pub record RootsFirst (done : ℕ) (roots : List Ref) (numbers : List ℕ) (codes : List ℕ) : Type 0 where
+  pub many : length numbers ≡ done
+  pub few : length codes ≤ done
+  pub inside : (k : ℕ) → k < done → get_or numbers k 0 < length codes
+  pub numbered : (k : ℕ) → k < done → get_or codes (get_or numbers k 0) 0 ≡ code_of (ref_at roots k)
+  pub once : (j k : ℕ) → j < length codes → k < length codes → get_or codes j 0 ≡ get_or codes k 0 → j ≡ k
+  pub reached : (j : ℕ) → j < length codes → (k : ℕ) × (k < done) × (get_or numbers k 0 ≡ j)
+
+-- the roots with their numbers, and the cut above all levels
+pub record Numbers (roots : List Ref) (numbers : List ℕ) (cut : List Ref) : Type 0 where
+  pub codes : List ℕ
+  pub first : RootsFirst (length roots) roots numbers codes
+  pub cut_is : cut ≡ map ref_of codes
+
+-- whether a ref is terminal 1
+abbrev pub is_true : Ref → Bool
+is_true (Terminal b) = b
+is_true (Place k) = false
+
+-- levels whose functions are those of a diagram's roots
+pub record IsBuilt (order : List ℕ) (nodes : List Node) (roots : List Ref) (numbers : List ℕ) (levels : List (List Children)) (terminals : List Bool) : Type 0 where
+  pub leveled : IsLeveled levels terminals order numbers
+  pub many : length numbers ≡ length roots
+  pub functions_are : (j : ℕ) → j < length roots → SameFunction (length order) (function_at levels terminals order (get_or numbers j 0)) (value nodes (ref_at roots j))

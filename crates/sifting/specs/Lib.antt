@@ -1,0 +1,6 @@
+pub mod Leveled
+pub mod Managed
+pub mod LevelLists
+pub mod Moves
+pub mod Cuts
+pub mod Checked

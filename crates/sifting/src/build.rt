@@ -1,0 +1,147 @@
+//! The levels of a reduced diagram, made from the top.
+
+ghost use Rattle.std.specs.Prelude.{◌≡◌, ◌+◌, ◌*◌, ◌<◌, ◌≤◌, ◌^◌, ℕ, length, map, IfOk};
+ghost use Rattle.std.specs.List.{All};
+ghost use Rattle.order_model.specs.Orders.{IsOrder};
+ghost use Rattle.order_model.specs.Diagrams.{AreNodes, IsBefore, IsOrdered, IsReduced};
+ghost use Rattle.order_model.specs.OrderedGraphs.{IsDiagramUnder};
+ghost use Rattle.sifting.specs.LevelLists.{nodes_of};
+ghost use Rattle.sifting.specs.Cuts.{code_of, ref_of, split_ref, is_true, Splits, Numbers, IsBuilt};
+
+use crate::levels::{Children, Level};
+use indexmap::IndexSet;
+use order_model::{Node, Ref, VarIx};
+use std::alloc::{AllocError, Global};
+
+/// A ref as a number: the terminals are 0 and 1, and the nodes follow.
+fn code(r: Ref) -> usize
+    requires { IsBefore (2 ^ 32) r }
+    ensures { result ≡ code_of r }
+{
+    match r {
+        Ref::Terminal(false) => 0,
+        Ref::Terminal(true) => 1,
+        Ref::Place(place) => place + 2,
+    }
+}
+
+/// The ref with a number.
+fn reference(code: usize) -> Ref
+    ensures { result ≡ ref_of code }
+{
+    if code < 2 {
+        Ref::Terminal(code == 1)
+    } else {
+        Ref::Place(code - 2)
+    }
+}
+
+/// The refs with some numbers.
+fn references(alloc: Global, codes: &[usize]) -> Result<Vec<Ref>, AllocError>
+    ensures { IfOk result (λ v. v.items ≡ map ref_of codes.now) }
+{
+    let mut refs = Vec::with_capacity(alloc, codes.len())?;
+    for code in codes {
+        refs.push(reference(*code))?;
+    }
+    Ok(refs)
+}
+
+/// The two refs below a variable: the children of a node that tests it, else the ref itself.
+fn halves(nodes: &[Node], variable: VarIx, r: Ref) -> (Ref, Ref)
+    requires { IsBefore (length nodes.now) r }
+    ensures { result ≡ split_ref nodes.now variable r }
+{
+    match r {
+        Ref::Terminal(_) => (r, r),
+        Ref::Place(place) => {
+            let node = nodes[place];
+            if node.variable == variable {
+                (node.lower, node.upper)
+            } else {
+                (r, r)
+            }
+        }
+    }
+}
+
+/// The nodes of a variable's level, from the refs that paths come to above it, and the refs below it.
+fn split(
+    alloc: Global,
+    n: u8,
+    nodes: &[Node],
+    variable: VarIx,
+    cut: &[Ref],
+) -> Result<(Vec<Children>, Vec<Ref>), AllocError>
+    requires nodes { AreNodes n nodes.now }
+    requires small { length nodes.now < 2 ^ 32 }
+    requires few { 2 * length cut.now < 2 ^ 32 }
+    requires inside { All (IsBefore (length nodes.now)) cut.now }
+    ensures { IfOk result (λ r. Splits nodes.now variable cut.now r.0.items r.1.items) }
+{
+    let mut codes = IndexSet::with_capacity(alloc, cut.len())?;
+    let mut level = Vec::with_capacity(alloc, cut.len())?;
+    for r in cut {
+        let (lower, upper) = halves(nodes, variable, *r);
+        let (off, _) = codes.insert_full(code(lower))?;
+        let (on, _) = codes.insert_full(code(upper))?;
+        level.push((off as u32, on as u32))?;
+    }
+    let next = references(alloc, codes.as_slice())?;
+    Ok((level, next))
+}
+
+/// The numbers of the roots, and the refs above all levels.
+fn first_cut(alloc: Global, size: usize, roots: &[Ref]) -> Result<(Vec<u32>, Vec<Ref>), AllocError>
+    requires small { size < 2 ^ 32 }
+    requires few { length roots.now ≤ 16 }
+    requires inside { All (IsBefore size) roots.now }
+    ensures { IfOk result (λ r. Numbers roots.now r.0.items r.1.items) }
+{
+    let mut codes = IndexSet::with_capacity(alloc, roots.len())?;
+    let mut numbers = Vec::with_capacity(alloc, roots.len())?;
+    for root in roots {
+        let (number, _) = codes.insert_full(code(*root))?;
+        numbers.push(number as u32)?;
+    }
+    let cut = references(alloc, codes.as_slice())?;
+    Ok((numbers, cut))
+}
+
+/// Which of some refs are terminal 1.
+fn terminal_values(alloc: Global, cut: &[Ref]) -> Result<Vec<bool>, AllocError>
+    ensures { IfOk result (λ v. v.items ≡ map is_true cut.now) }
+{
+    let mut values = Vec::with_capacity(alloc, cut.len())?;
+    for r in cut {
+        values.push(matches!(*r, Ref::Terminal(true)))?;
+    }
+    Ok(values)
+}
+
+/// The numbers of the roots, the levels and the terminals of a reduced diagram.
+pub fn levels_of(
+    alloc: Global,
+    order: &[VarIx],
+    nodes: &[Node],
+    roots: &[Ref],
+) -> Result<(Vec<u32>, Vec<Level>, Vec<bool>), AllocError>
+    requires order { IsOrder (length order.now) order.now }
+    requires few { length order.now ≤ 16 }
+    requires diagram { IsDiagramUnder order.now nodes.now roots.now }
+    requires small { length nodes.now < 2 ^ 32 }
+    requires few_roots { length roots.now ≤ 16 }
+    requires ordered { IsOrdered order.now (record { nodes = nodes.now; roots = roots.now }) }
+    requires reduced { IsReduced (record { nodes = nodes.now; roots = roots.now }) }
+    ensures { IfOk result (λ r. IsBuilt order.now nodes.now roots.now r.0.items (nodes_of r.1.items) r.2.items) }
+{
+    let (numbers, mut cut) = first_cut(alloc, nodes.len(), roots)?;
+    let mut levels = Vec::with_capacity(alloc, order.len())?;
+    for x in order {
+        let (level, next) = split(alloc, order.len() as u8, nodes, *x, &cut)?;
+        levels.push(Level::new(level))?;
+        cut = next;
+    }
+    let terminals = terminal_values(alloc, &cut)?;
+    Ok((numbers, levels, terminals))
+}

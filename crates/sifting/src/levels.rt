@@ -1,0 +1,70 @@
+//! The levels of a diagram, and the exchange of two neighbours.
+//!
+//! A level has a node for each function that is left over when all variables above are fixed in some way: also for one that
+//! doesn't depend on the level's variable, and whose two children are then equal. So each edge goes to the next level, and an
+//! exchange changes nothing outside its two levels.
+
+ghost use Rattle.std.specs.Prelude.{◌≡◌, ◌+◌, ◌*◌, ◌<◌, ◌≤◌, ◌^◌, ℕ, length, IfOk};
+ghost use Rattle.sifting.specs.Leveled.{branching, at, HasChildren, Exchanges};
+
+use indexmap::IndexSet;
+use std::alloc::{AllocError, Global};
+
+/// The places of a node's children on the next level: where the variable is 0, and where it is 1.
+pub type Children = (u32, u32);
+
+/// The nodes of a level, each once, and how many of them have two different children.
+#[derive(Debug, Drop)]
+pub struct Level {
+    pub nodes: Vec<Children>,
+    pub count: u32,
+    pub ghost counted: { count ≡ branching nodes.items },
+}
+
+/// How many nodes have two different children.
+fn count_of(nodes: &[Children]) -> u32
+    requires { length nodes.now < 2 ^ 32 }
+    ensures { result ≡ branching nodes.now }
+{
+    let mut count = 0;
+    for (lower, upper) in nodes {
+        if *lower != *upper {
+            count += 1;
+        }
+    }
+    count
+}
+
+impl Level {
+    /// The level of some nodes.
+    pub fn new(nodes: Vec<Children>) -> Level
+        requires { length nodes.items < 2 ^ 32 }
+        ensures { result.nodes ≡ nodes }
+    {
+        let count = count_of(&nodes);
+        Level { nodes, count }
+    }
+}
+
+/// The two levels with their variables exchanged, from the nodes of both.
+pub fn swap_levels(
+    alloc: Global,
+    upper: &[Children],
+    lower: &[Children],
+) -> Result<(Level, Level), AllocError>
+    requires few { 2 * length upper.now < 2 ^ 32 }
+    requires inside { HasChildren (length lower.now) upper.now }
+    ensures { IfOk result (λ r. Exchanges upper.now lower.now r.0.nodes.items r.1.nodes.items) }
+{
+    let mut made = IndexSet::with_capacity(alloc, lower.len())?;
+    let mut kept = Vec::with_capacity(alloc, upper.len())?;
+    for (off, on) in upper {
+        let (off_off, off_on) = lower[*off as usize];
+        let (on_off, on_on) = lower[*on as usize];
+        let (without, _) = made.insert_full((off_off, on_off))?;
+        let (with, _) = made.insert_full((off_on, on_on))?;
+        kept.push((without as u32, with as u32))?;
+    }
+    let made = Vec::from_slice(alloc, made.as_slice())?;
+    Ok((Level::new(kept), Level::new(made)))
+}

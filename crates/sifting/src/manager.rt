@@ -1,0 +1,168 @@
+//! A diagram by levels, whose variables can be exchanged.
+
+ghost use Rattle.std.specs.Prelude.{◌≡◌, ◌+◌, ◌<◌, ◌≤◌, ℕ, [], not, length, slice_index, swap, IfOk, IsFalse};
+ghost use Rattle.order_model.specs.Diagrams.{IsReduced, IsOrdered};
+ghost use Rattle.order_model.specs.Pairs.{Keeps, has_pair};
+ghost use Rattle.sifting.specs.Managed.{truth_tables_of, size_of, count_of, IsManagedOrder};
+
+use crate::build::levels_of;
+use crate::levels::{Level, swap_levels};
+use order_model::{BadOrder, Diagram, Order, Pairs};
+use std::alloc::{AllocError, Global};
+use std::marker::Model;
+
+/// A reduced diagram whose neighbouring levels can be exchanged, under an order that keeps some pairs. A call that takes it and
+/// is refused memory spends it.
+#[derive(Debug, Drop)]
+pub struct Manager {
+    order: Order,
+    roots: Vec<u32>,
+    levels: Vec<Level>,
+    terminals: Vec<bool>,
+    pairs: Pairs,
+}
+
+impl Model for Manager {
+    ghost use Rattle.sifting.specs.Managed.{Managed};
+    ghost use Rattle.sifting.specs.LevelLists.{nodes_of, problem_at, HoldsDiagram};
+
+    ghost Value = { Managed };
+
+    ghost view = { λ m. record { order = m.order; problem = problem_at (nodes_of m.levels.items) m.terminals.items m.order m.roots.items; pairs = m.pairs.pairs } };
+
+    ghost invariant = { λ m. HoldsDiagram (nodes_of m.levels.items) m.terminals.items m.order m.roots.items m.pairs };
+}
+
+/// The order with the variables of a level and the next one exchanged.
+fn exchanged(alloc: Global, order: &Order, level: usize) -> Result<Order, AllocError>
+    requires below { level + 1 < length order.now }
+    requires few { length order.now ≤ 16 }
+    ensures { IfOk result (λ other. other ≡ swap order.now level (level + 1)) }
+{
+    let mut variables = order.variables().to_vec(alloc)?;
+    variables.swap(level, level + 1);
+    match Order::try_from_slice(alloc, &variables) {
+        Ok(order) => Ok(order),
+        Err(BadOrder::OutOfMemory) => Err(AllocError),
+        Err(BadOrder::NotEach) => unreachable!(),
+        Err(BadOrder::OutOfRange) => unreachable!(),
+    }
+}
+
+impl Manager {
+    /// The manager of a reduced diagram, without pairs. The time is that of a step for each node and each level that an edge passes over.
+    pub fn of(alloc: Global, diagram: Diagram) -> Result<Manager, AllocError>
+        requires few { length diagram.graph.roots ≤ 16 }
+        requires ordered { IsOrdered diagram.order diagram.graph }
+        requires reduced { IsReduced diagram.graph }
+        ensures order { IfOk result (λ m. m.order ≡ diagram.order) }
+        ensures functions { IfOk result (λ m. m.problem ≡ truth_tables_of diagram) }
+        ensures pairs { IfOk result (λ m. m.pairs ≡ []) }
+    {
+        let pairs = Pairs::none(diagram.order().len() as u8);
+        let manager = Manager::with_pairs(alloc, diagram, pairs)?;
+        Ok(manager)
+    }
+
+    /// The manager of a reduced diagram whose order keeps the pairs, in the same time.
+    pub fn with_pairs(alloc: Global, diagram: Diagram, pairs: Pairs) -> Result<Manager, AllocError>
+        requires few { length diagram.graph.roots ≤ 16 }
+        requires ordered { IsOrdered diagram.order diagram.graph }
+        requires reduced { IsReduced diagram.graph }
+        requires inputs { pairs.inputs ≡ length diagram.order }
+        requires kept { Keeps pairs.pairs diagram.order }
+        ensures order { IfOk result (λ m. m.order ≡ diagram.order) }
+        ensures functions { IfOk result (λ m. m.problem ≡ truth_tables_of diagram) }
+        ensures pairs { IfOk result (λ m. m.pairs ≡ pairs.pairs) }
+    {
+        let (order, nodes, roots) = diagram.into_parts();
+        let (roots, levels, terminals) = levels_of(alloc, order.variables(), &nodes, &roots)?;
+        Ok(Manager {
+            order,
+            roots,
+            levels,
+            terminals,
+            pairs,
+        })
+    }
+
+    /// Whether the variables of a level and the next one may be exchanged: no pair has the upper one above the lower.
+    pub fn may_swap(&self, level: usize) -> bool
+        requires { level + 1 < length self.now.order }
+        ensures { result ≡ not (has_pair self.now.pairs (slice_index self.now.order level) (slice_index self.now.order (level + 1))) }
+    {
+        let variables = self.order.variables();
+        (self.pairs.below(variables[level]) >> variables[level + 1]) & 1 == 0
+    }
+
+    /// The manager with the variables of a level and the next one exchanged (Rudell 1993). The functions and all other places
+    /// stay, and the diagram is reduced again. The time is that of a step for each node of the two levels.
+    pub fn swap(self, alloc: Global, level: usize) -> Result<Manager, AllocError>
+        requires below { level + 1 < length self.order }
+        requires lawful { IsFalse (has_pair self.pairs (slice_index self.order level) (slice_index self.order (level + 1))) }
+        ensures order { IfOk result (λ m. m.order ≡ swap self.order level (level + 1)) }
+        ensures functions { IfOk result (λ m. m.problem ≡ self.problem) }
+        ensures pairs { IfOk result (λ m. m.pairs ≡ self.pairs) }
+    {
+        let Manager {
+            order,
+            roots,
+            mut levels,
+            terminals,
+            pairs,
+        } = self;
+        let (upper, lower) = swap_levels(alloc, &levels[level].nodes, &levels[level + 1].nodes)?;
+        levels[level] = upper;
+        levels[level + 1] = lower;
+        let order = exchanged(alloc, &order, level)?;
+        Ok(Manager {
+            order,
+            roots,
+            levels,
+            terminals,
+            pairs,
+        })
+    }
+
+    /// How many nodes the reduced diagram has. Each level knows its own number, so none is counted again.
+    pub fn size(&self) -> u32
+        ensures value { result ≡ size_of self.now }
+        ensures managed { IsManagedOrder self.now }
+    {
+        let mut size = 0;
+        for level in &self.levels {
+            size += level.count;
+        }
+        size
+    }
+
+    /// How many nodes each level has, top first; levels that the order doesn't have are given 0.
+    pub fn level_counts(&self) -> [u32; 16]
+        ensures counts { (i : ℕ) → i < length self.now.order → slice_index result i ≡ count_of self.now i }
+        ensures others { (i : ℕ) → length self.now.order ≤ i → slice_index result i ≡ 0 }
+    {
+        let mut counts = [0u32; 16];
+        for (place, level) in self.levels.iter().enumerate() {
+            counts[place] = level.count;
+        }
+        counts
+    }
+
+    /// The order of the variables, top first.
+    pub fn order(&self) -> &Order
+        ensures value { result.now ≡ self.now.order }
+        ensures managed { IsManagedOrder self.now }
+    {
+        let _ = &self.levels;
+        &self.order
+    }
+
+    /// The pairs that the order keeps.
+    pub fn pairs(&self) -> &Pairs
+        ensures inputs { result.now.inputs ≡ length self.now.order }
+        ensures value { result.now.pairs ≡ self.now.pairs }
+    {
+        let _ = &self.levels;
+        &self.pairs
+    }
+}
