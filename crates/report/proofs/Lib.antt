@@ -1,1 +1,4 @@
 pub mod Spaced
+pub mod SameAnswers
+pub mod Leveled
+pub mod Reported

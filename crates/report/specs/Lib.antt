@@ -1,3 +1,4 @@
 pub mod Texts
+pub mod Answers
 pub mod Statuses
 pub mod Runs

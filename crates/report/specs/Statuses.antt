@@ -5,7 +5,9 @@ use Rattle.pla_reader.specs.declared.errors.PlaError.TheVariants as pla
 use Rattle.report.specs.declared.outcome.Outcome.{Outcome}
 use Rattle.report.specs.declared.outcome.Outcome.TheVariants.{Done, Refused}
 use Rattle.report.specs.declared.outcome.Fault.{Fault}
-use Rattle.report.specs.declared.outcome.Fault.TheVariants.{Line, TooLong, OutOfMemory, Device}
+use Rattle.report.specs.declared.outcome.Shortage.{Shortage}
+use Rattle.report.specs.declared.outcome.Shortage.TheVariants as shortage
+use Rattle.report.specs.declared.outcome.Fault.TheVariants.{Line, TooLong, OutOfMemory, Device, StoreFull, Pairs}
 
 -- the exit status of an outcome
 abbrev pub status_of : Outcome → ℕ
@@ -14,6 +16,8 @@ status_of (Refused (Line line fault)) = 3
 status_of (Refused TooLong) = 3
 status_of (Refused OutOfMemory) = 4
 status_of (Refused Device) = 5
+status_of (Refused StoreFull) = 6
+status_of (Refused (Pairs fault)) = 8
 
 -- why a file that gives no cover is refused
 abbrev pub refusal_of : PlaError → Fault
@@ -21,3 +25,8 @@ refusal_of (pla.Line line fault) = Line line fault
 refusal_of pla.TooLong = TooLong
 refusal_of pla.Device = Device
 refusal_of pla.OutOfMemory = OutOfMemory
+
+-- what was wanting for an answer, as a fault
+abbrev pub fault_of_shortage : Shortage → Fault
+fault_of_shortage shortage.StoreFull = StoreFull
+fault_of_shortage shortage.OutOfMemory = OutOfMemory

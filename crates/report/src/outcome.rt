@@ -1,9 +1,12 @@
 //! How a run ends.
 
 ghost use Rattle.std.specs.Prelude.{◌≡◌, IfSome, IfNone};
-ghost use Rattle.report.specs.Statuses.{status_of, refusal_of};
+ghost use Rattle.report.specs.Statuses.{fault_of_shortage, status_of, refusal_of};
 
+use dd_builder::BuildError;
+use order_model::PairsFault;
 use pla_reader::{LineFault, PlaError};
+use std::alloc::AllocError;
 use thiserror::Error;
 
 /// Why a run was refused. Its text is what the programs write behind their name.
@@ -21,6 +24,12 @@ pub enum Fault {
     /// A file was not opened or made, or a read or a write failed.
     #[error("Device")]
     Device,
+    /// A store for building from truth tables was full.
+    #[error("StoreFull")]
+    StoreFull,
+    /// The pairs that the order has to keep are refused.
+    #[error("{0}")]
+    Pairs(PairsFault),
 }
 
 /// How a run ends.
@@ -32,7 +41,7 @@ pub enum Outcome {
 }
 
 impl Outcome {
-    /// The exit status: 0 done, 3 input refused, 4 want of memory, 5 a device failed.
+    /// The exit status: 0 done, 3 input refused, 4 want of memory, 5 a device failed, 6 a store was full, 8 pairs refused.
     pub fn status(self) -> u8
         ensures { result ≡ status_of self }
     {
@@ -41,6 +50,8 @@ impl Outcome {
             Outcome::Refused(Fault::Line(_, _) | Fault::TooLong) => 3,
             Outcome::Refused(Fault::OutOfMemory) => 4,
             Outcome::Refused(Fault::Device) => 5,
+            Outcome::Refused(Fault::StoreFull) => 6,
+            Outcome::Refused(Fault::Pairs(_)) => 8,
         }
     }
 
@@ -65,5 +76,40 @@ pub(crate) fn fault_of(error: PlaError) -> Fault
         PlaError::TooLong => Fault::TooLong,
         PlaError::Device => Fault::Device,
         PlaError::OutOfMemory => Fault::OutOfMemory,
+    }
+}
+
+/// What was wanting for an answer.
+#[derive(Clone, Copy, Debug, PartialEq, Eq)]
+pub(crate) enum Shortage {
+    /// A store for building from truth tables was full.
+    StoreFull,
+    /// An allocation was refused.
+    OutOfMemory,
+}
+
+impl From<AllocError> for Shortage {
+    fn from(_: AllocError) -> Shortage {
+        Shortage::OutOfMemory
+    }
+}
+
+impl From<BuildError> for Shortage {
+    fn from(error: BuildError) -> Shortage {
+        match error {
+            BuildError::StoreFull(_) => Shortage::StoreFull,
+            BuildError::OutOfMemory => Shortage::OutOfMemory,
+        }
+    }
+}
+
+impl From<Shortage> for Fault {
+    ghost from_gives = { λ shortage fault. fault ≡ fault_of_shortage shortage };
+
+    fn from(shortage: Shortage) -> Fault {
+        match shortage {
+            Shortage::StoreFull => Fault::StoreFull,
+            Shortage::OutOfMemory => Fault::OutOfMemory,
+        }
     }
 }

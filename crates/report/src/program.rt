@@ -3,36 +3,16 @@
 ghost use Rattle.std.specs.Prelude.{◌≡◌, ◌<◌, ◌^◌};
 
 use crate::outcome::{Fault, Outcome};
-use crate::runs::{RunPlan, run};
-use order_model::{CountedRead, CountedWrite, Counting, Workers, write_whole};
+use crate::runs::run;
+use command_line::{Line, Usage};
+use order_model::{CountedRead, CountedWrite, Counting, write_whole};
 use std::alloc::Global;
 use std::fs;
 use std::rt::Files;
 use std::thread::Threads;
 
-/// The status of a command line that is none.
+/// The status of a command line that is refused.
 const USAGE_STATUS: u8 = 2;
-
-/// The file of a command line that counts: one file and `--count`, in any order. With `--above`, a list of pairs, the list is not read.
-pub(crate) fn count_file<'a>(words: &[&'a str]) -> Option<&'a str> {
-    let mut is_count = false;
-    let mut is_list = false;
-    let mut file = None;
-    for word in words {
-        if is_list {
-            is_list = false;
-        } else if *word == "--above" {
-            is_list = true;
-        } else if *word == "--count" && !is_count {
-            is_count = true;
-        } else if file.is_none() && !word.starts_with("--") {
-            file = Some(*word);
-        } else {
-            return None;
-        }
-    }
-    if is_count && !is_list { file } else { None }
-}
 
 /// Writes why a run was refused. A failure of the writer has no effect.
 fn write_fault<E: CountedWrite>(alloc: Global, err: &mut E, fault: Fault)
@@ -44,26 +24,40 @@ fn write_fault<E: CountedWrite>(alloc: Global, err: &mut E, fault: Fault)
     };
 }
 
-/// Opens a file and counts.
-fn count_in_file<R: Files + AllocGlobal + Threads + Sync, W: CountedWrite>(
+/// Writes help to `out`, and why words are refused to `err`. A failure of the writers has no effect.
+fn write_usage<W: CountedWrite, E: CountedWrite>(
+    alloc: Global,
+    usage: &Usage,
+    out: &mut W,
+    err: &mut E,
+)
+    requires out { W.failures out.old < 2 ^ 32 }
+    requires err { E.failures err.old < 2 ^ 32 }
+{
+    let text = match usage {
+        Usage::Help(error) | Usage::Refused(error) => format!(in alloc; "{error}"),
+        Usage::OutOfMemory => format!(in alloc; "minorder: OutOfMemory\n"),
+    };
+    let _ = match (usage, text) {
+        (Usage::Help(_), Ok(text)) => write_whole(out, text.as_bytes()),
+        (_, Ok(text)) => write_whole(err, text.as_bytes()),
+        (_, Err(_)) => write_whole(err, b"minorder: OutOfMemory\n"),
+    };
+}
+
+/// Opens the file and does what the plan asks.
+fn run_on_file<'a, R: Files + AllocGlobal + Threads + Sync, W: CountedWrite>(
     rt: &R,
-    path: &str,
+    line: &Line<'a>,
     out: &mut W,
 ) -> Outcome
     requires { W.failures out.old < 2 ^ 32 }
 {
-    let Some(workers) = Workers::new(1) else {
-        return Outcome::Refused(Fault::Device);
-    };
-    let plan = RunPlan {
-        workers,
-        count: true,
-    };
-    match fs::open(rt, path) {
+    match fs::open(rt, line.file) {
         Ok(file) => {
             let mut file = Counting::new(file);
             let mut cert: Option<Counting<R::File>> = None;
-            run(rt, rt.alloc(), &plan, &mut file, out, &mut cert)
+            run(rt, rt.alloc(), &line.plan, &mut file, out, &mut cert)
         }
         Err(_) => Outcome::Refused(Fault::Device),
     }
@@ -71,24 +65,29 @@ fn count_in_file<R: Files + AllocGlobal + Threads + Sync, W: CountedWrite>(
 
 /// The program: the words are those behind its name, the report goes to `out`, messages to `err`. The answer is the exit status.
 ///
-/// It takes `--count` and a file, with or without `--above LIST`; any other list of words ends with status 2.
-pub fn minorder<R: Files + AllocGlobal + Threads + Sync, W: CountedWrite, E: CountedWrite>(
+/// The words are `[--workers W] [--cert OUT] [--count] [--above LIST] FILE`. A certificate can't be written yet: with `--cert` and
+/// without `--count` the status is 2.
+pub fn minorder<'a, R: Files + AllocGlobal + Threads + Sync, W: CountedWrite, E: CountedWrite>(
     rt: &R,
-    words: &[&str],
+    words: &'a [&'a str],
     out: &mut W,
     err: &mut E,
 ) -> u8
     requires out { W.failures out.old < 2 ^ 32 }
     requires err { E.failures err.old < 2 ^ 32 }
 {
-    let Some(path) = count_file(words) else {
-        let _ = write_whole(
-            err,
-            b"minorder: usage: minorder --count [--above LIST] FILE\n",
-        );
-        return USAGE_STATUS;
+    let line = match Line::of_words(rt.alloc(), words) {
+        Ok(line) => line,
+        Err(usage) => {
+            write_usage(rt.alloc(), &usage, out, err);
+            return usage.status();
+        }
     };
-    let outcome = count_in_file(rt, path, out);
+    if line.cert.is_some() && !line.plan.count {
+        let _ = write_whole(err, b"minorder: certificates can't be written yet\n");
+        return USAGE_STATUS;
+    }
+    let outcome = run_on_file(rt, &line, out);
     if let Some(fault) = outcome.fault() {
         write_fault(rt.alloc(), err, fault);
     }

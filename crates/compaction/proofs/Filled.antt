@@ -1,0 +1,163 @@
+-- Rows of a block, filled one after another.
+use Rattle.std.proofs.Common.{◌≡◌, ◌≢◌, ℕ, zero, suc, ◌+◌, ◌-◌, ◌*◌, ◌/◌, ◌%◌, ◌^◌, ◌<◌, ◌≤◌, false, cond, inl, inr, List, [], ◌∷◌, length, slice_index, get_or, set, get_or-set_same, get_or-set_other, refl, sym, ap, ◌∙◌, subst, arith, eqb, bit_or, bit_and}
+use Rattle.std.specs.Int.{bit_at}
+use Rattle.std.proofs.lemmas.Bool.{cases_lt, cases_eq}
+use Rattle.std.proofs.lemmas.List.{length-set, take_at, get_or_append_left, get_or_push}
+use Rattle.std.proofs.Common.{◌⊎◌, ◌++◌, zero-mul, min, take, drop, replicate, pow_mono}
+use Rattle.std.proofs.Math.Nat.{mod-lt, mod-eq_of_lt, two-pow-succ}
+use Rattle.std.proofs.lemmas.Nat.{pow_pos, or_disjoint}
+use Rattle.std.proofs.lemmas.Nat.Bits.{and_pow, bit_at_above, bit_at-zero}
+use Rattle.order_model.specs.Orders.{has, members, without}
+use Rattle.order_model.specs.Widths.{width}
+use Rattle.order_model.specs.Problems.{TruthTables, functions}
+use Rattle.compaction.proofs.Sets.{low_more, low_same, low_new}
+use Rattle.compaction.specs.Rows.{width_wanted, IsRow, AreFilled, AreBlank}
+
+-- the rows of one set among the first k masks
+pub record IsFilling (p : TruthTables) (masks needed : List ℕ) (own k : ℕ) (old new : List (List ℕ)) : Type 0 where
+  pub long : length new ≡ length masks
+  pub own_rows : (i : ℕ) → i < k → slice_index masks i ≡ own → IsRow p own (slice_index needed i) (get_or new i [])
+  pub others : (i : ℕ) → i < k → slice_index masks i ≢ own → get_or new i [] ≡ get_or old i []
+  pub later : (i : ℕ) → k ≤ i → get_or new i [] ≡ get_or old i []
+
+pub filling_written : (p : TruthTables) (masks needed : List ℕ) (own k : ℕ) (old new : List (List ℕ)) (row : List ℕ) → k < length masks → slice_index masks k ≡ own → IsRow p own (slice_index needed k) row →
+    IsFilling p masks needed own k old new → IsFilling p masks needed own (k + 1) old (set new k row)
+filling_written p masks needed own k old new row lt e r h = record {
+  long = length-set new k row ∙ h.long;
+  own_rows = λ i l m. elim (cases_eq i k) [
+    | inl s ↦ subst (λ j. IsRow p own (slice_index needed j) (get_or (set new k row) j [])) (sym s) (subst (IsRow p own (slice_index needed k)) (sym (get_or-set_same new k row [] (let a = h.long in omega arith))) r)
+    | inr ne ↦ subst (IsRow p own (slice_index needed i)) (sym (get_or-set_other new k i row [] ne)) (h.own_rows i (omega arith) m)
+  ];
+  others = λ i l m. elim (cases_eq i k) [
+    | inl s ↦ absurd (m (ap (slice_index masks) s ∙ e))
+    | inr ne ↦ get_or-set_other new k i row [] ne ∙ h.others i (omega arith) m
+  ];
+  later = λ i l. let ne : i ≢ k = omega arith in get_or-set_other new k i row [] ne ∙ h.later i (omega arith);
+}
+
+pub filling_kept : (p : TruthTables) (masks needed : List ℕ) (own k : ℕ) (old new : List (List ℕ)) → slice_index masks k ≢ own → IsFilling p masks needed own k old new → IsFilling p masks needed own (k + 1) old new
+filling_kept p masks needed own k old new ne h = record {
+  long = h.long;
+  own_rows = λ i l m. elim (cases_eq i k) [ inl s ↦ absurd (ne (ap (slice_index masks) (sym s) ∙ m)) | inr d ↦ h.own_rows i (omega arith) m ];
+  others = λ i l m. elim (cases_eq i k) [ inl s ↦ h.later i (omega arith) | inr d ↦ h.others i (omega arith) m ];
+  later = λ i l. h.later i (omega arith);
+}
+
+pub filling_none : (p : TruthTables) (masks needed : List ℕ) (own : ℕ) (old : List (List ℕ)) → length old ≡ length masks → IsFilling p masks needed own 0 old old
+filling_none p masks needed own old l = record { long = l; own_rows = λ i lt m. absurd (omega arith); others = λ i lt m. refl; later = λ i lt. refl }
+
+-- ---- the two halves of a walk
+
+power_double : (n y : ℕ) → y < n → 2 ^ (n - y) ≡ 2 ^ (n - (y + 1)) + 2 ^ (n - (y + 1))
+power_double n y lt = ap (λ k. 2 ^ k) (let s : n - y ≡ suc (n - (y + 1)) = omega arith in s) ∙ two-pow-succ (n - (y + 1))
+
+pub few_compactions : (n y before after : ℕ) → y < n → before + 1 ≤ 2 ^ (n - (y + 1)) → after + 1 ≤ 2 ^ (n - (y + 1)) → before + after + 1 + 1 ≤ 2 ^ (n - y)
+few_compactions n y before after lt a b = let d = power_double n y lt in omega arith
+
+pub fewer_compactions : (n y before : ℕ) → y < n → before + 1 ≤ 2 ^ (n - (y + 1)) → before + 1 ≤ 2 ^ (n - y)
+fewer_compactions n y before lt a = let d = power_double n y lt in omega arith
+
+pub no_compactions : (n y : ℕ) → 0 + 1 ≤ 2 ^ (n - y)
+no_compactions n y = let p = pow_pos (n - y) in omega arith
+
+pub low_or : (set y : ℕ) → set < 2 ^ y → bit_or set (2 ^ y) ≡ set + 2 ^ y
+low_or set y h = or_disjoint set (2 ^ y) (and_pow set y ∙ ap (λ b. b * 2 ^ y) (bit_at_above set y y h (omega arith)) ∙ zero-mul (2 ^ y))
+
+pub next_small : (set y : ℕ) → set < 2 ^ y → set + 2 ^ y < 2 ^ (y + 1)
+next_small set y h = let t = two-pow-succ y in let s : 2 ^ (y + 1) ≡ 2 ^ suc y = ap (λ k. 2 ^ k) (omega arith) in omega arith
+
+pub set_new : (n set y : ℕ) → set < 2 ^ y → has (members n set) y ≡ false
+set_new n set y h = ap (λ m. has (members n m) y) (sym (mod-eq_of_lt h)) ∙ low_new n set y
+
+-- a mask that agrees below y agrees below y + 1 with the set, or with the set with y
+split_low : (mask set y : ℕ) → set < 2 ^ y → mask % 2 ^ y ≡ set → (mask % 2 ^ (y + 1) ≡ set) ⊎ (mask % 2 ^ (y + 1) ≡ set + 2 ^ y)
+split_low mask set y h e = elim (cases_eq (bit_and (mask / 2 ^ y) 1) 1) [
+  | inl one ↦ inr (sym (low_more mask y one) ∙ ap (λ m. bit_or m (2 ^ y)) e ∙ low_or set y h)
+  | inr none ↦ inl (sym (low_same mask y none) ∙ e)
+]
+
+-- agreeing below y + 1 is agreeing below y
+join_low : (mask set y : ℕ) → set < 2 ^ y → mask % 2 ^ (y + 1) ≡ set → mask % 2 ^ y ≡ set
+join_low mask set y h e = elim (cases_eq (bit_and (mask / 2 ^ y) 1) 1) [
+  | inl one ↦ let s = sym (low_or (mask % 2 ^ y) y (mod-lt mask (pow_pos y))) ∙ low_more mask y one ∙ e in absurd (omega arith)
+  | inr none ↦ low_same mask y none ∙ e
+]
+
+join_high : (mask set y : ℕ) → set < 2 ^ y → mask % 2 ^ (y + 1) ≡ set + 2 ^ y → mask % 2 ^ y ≡ set
+join_high mask set y h e = elim (cases_eq (bit_and (mask / 2 ^ y) 1) 1) [
+  | inl one ↦ let s = sym (low_or (mask % 2 ^ y) y (mod-lt mask (pow_pos y))) ∙ low_more mask y one ∙ e in omega arith
+  | inr none ↦ let s = low_same mask y none ∙ e in let l = mod-lt mask (pow_pos y) in absurd (omega arith)
+]
+
+module _ (p : TruthTables) (masks needed : List ℕ) where
+  -- nothing is wanted
+  pub filled_unwanted : (set y : ℕ) (old : List (List ℕ)) → AreBlank p masks needed old → ((i : ℕ) → i < length needed → slice_index masks i % 2 ^ y ≡ set → slice_index needed i ≡ 0) → length needed ≡ length masks →
+      AreFilled p masks needed set y old old
+  filled_unwanted set y old blank none l = λ i lt. (λ e. blank i lt (none i (omega arith) e), λ ne. refl)
+
+  -- all variables are there
+  pub filled_own : (set y : ℕ) (old new : List (List ℕ)) → ((i : ℕ) → i < length masks → slice_index masks i < 2 ^ y) →
+      ((i : ℕ) → i < length masks → ((slice_index masks i ≡ set) → IsRow p set (slice_index needed i) (get_or new i [])) × ((slice_index masks i ≢ set) → get_or new i [] ≡ get_or old i [])) →
+      AreFilled p masks needed set y old new
+  filled_own set y old new small own = λ i lt.
+      let whole = mod-eq_of_lt (small i lt) in
+      (λ e. let s : slice_index masks i ≡ set = sym whole ∙ e in subst (λ m. IsRow p m (slice_index needed i) (get_or new i [])) (sym s) ((own i lt).0 s), λ ne. (own i lt).1 (λ s. ne (whole ∙ s)))
+
+  -- what is blank stays so
+  pub blank_kept : (set y : ℕ) (old new : List (List ℕ)) → AreBlank p masks needed old → AreFilled p masks needed set y old new → AreBlank p masks needed new
+  blank_kept set y old new blank filled = λ i lt z. elim (cases_eq (slice_index masks i % 2 ^ y) set) [
+    | inl e ↦ (filled i lt).0 e
+    | inr ne ↦ subst (IsRow p (slice_index masks i) (slice_index needed i)) (sym ((filled i lt).1 ne)) (blank i lt z)
+  ]
+
+  -- both halves
+  pub filled_both : (set y : ℕ) (old mid new : List (List ℕ)) → set < 2 ^ y → AreFilled p masks needed set (y + 1) old mid → AreFilled p masks needed (set + 2 ^ y) (y + 1) mid new → AreFilled p masks needed set y old new
+  filled_both set y old mid new h a b = λ i lt. (
+    λ e. elim (split_low (slice_index masks i) set y h e) [
+      | inl low ↦
+          let q = pow_pos y in
+          let kept = (b i lt).1 (λ s. let t = sym low ∙ s in absurd (omega arith)) in
+          subst (IsRow p (slice_index masks i) (slice_index needed i)) (sym kept) ((a i lt).0 low)
+      | inr high ↦ (b i lt).0 high
+    ],
+    λ ne. (b i lt).1 (λ s. ne (join_high (slice_index masks i) set y h s)) ∙ (a i lt).1 (λ s. ne (join_low (slice_index masks i) set y h s)),
+  )
+
+  -- nothing is wanted of the upper half
+  pub filled_lower : (set y : ℕ) (old mid : List (List ℕ)) → set < 2 ^ y → AreFilled p masks needed set (y + 1) old mid → AreBlank p masks needed mid →
+      ((i : ℕ) → i < length needed → slice_index masks i % 2 ^ (y + 1) ≡ set + 2 ^ y → slice_index needed i ≡ 0) → length needed ≡ length masks → AreFilled p masks needed set y old mid
+  filled_lower set y old mid h a blank none l = filled_both set y old mid mid h a (filled_unwanted (set + 2 ^ y) (y + 1) mid blank none l)
+
+-- ---- the whole block
+
+-- the low byte is what a mask has below the first high variable
+pub agree_low : (n low mask k : ℕ) → k ≡ min n 8 → mask < 2 ^ n → mask % 256 ≡ low → mask % 2 ^ k ≡ low
+agree_low n low mask k e small h = elim (cases_lt n 8) [
+  | inl few ↦
+      let s : k ≡ n = omega arith in
+      let p : 2 ^ n ≤ 2 ^ 7 = pow_mono {j = 7} (omega arith) in
+      ap (λ i. mask % 2 ^ i) s ∙ mod-eq_of_lt small ∙ (let t = h in omega arith)
+  | inr many ↦ let s : k ≡ 8 = omega arith in ap (λ i. mask % 2 ^ i) s ∙ h
+]
+
+-- the rows that a written slice leaves in its vector
+pub rows_back : (new old : List (List ℕ)) (n : ℕ) → length new ≡ n → take n (new ++ drop (length new) old) ≡ new
+rows_back new old n e = take_at new (drop (length new) old) n e
+
+pub zeros_at : (n x : ℕ) → slice_index (replicate n 0) x ≡ 0
+zeros_at zero x = refl
+zeros_at (suc n) zero = refl
+zeros_at (suc n) (suc x) = zeros_at n x
+
+-- where nothing is wanted the row holds zeros
+pub blank_row : (p : TruthTables) (mask wanted x : ℕ) (row : List ℕ) → wanted ≡ 0 → slice_index row x ≡ 0 → slice_index row x ≡ width_wanted p mask wanted x
+unfolding width_wanted
+blank_row p mask wanted x row e z =
+    z ∙ ap (λ b. cond (eqb b 1) (width p.inputs (functions p) (without x (members p.inputs mask)) x) 0) (sym (ap (λ w. bit_at w x) e ∙ bit_at-zero x))
+
+pub blank_pushed : (rows : List (List ℕ)) (row : List ℕ) (n : ℕ) → length rows ≡ n → ((x : ℕ) → slice_index row x ≡ 0) → ((i x : ℕ) → i < n → slice_index (get_or rows i []) x ≡ 0) →
+    (i x : ℕ) → i < n + 1 → slice_index (get_or (rows ++ row ∷ []) i []) x ≡ 0
+blank_pushed rows row n e z h i x lt = elim (cases_lt i n) [
+  | inl low ↦ ap (λ r. slice_index r x) (get_or_append_left rows (row ∷ []) [] i (omega arith)) ∙ h i x low
+  | inr high ↦ ap (λ r. slice_index r x) (get_or_push rows row [] i (omega arith)) ∙ z x
+]

@@ -1,0 +1,410 @@
+-- Tables of keys: numbers that tell subfunctions apart, in any order.
+--     pairs_mapped      the pairs of a mapped table
+--     keys_of_classes      class numbers are keys
+--     classes_from_keys      the class table with one more variable, from keys
+--     keys_more      the keys with one more variable
+use Rattle.std.proofs.Common.{◌≡◌, ℕ, zero, suc, ◌+◌, ◌*◌, ◌/◌, ◌%◌, ◌^◌, ◌<◌, ◌≤◌, Bool, true, false, not, cond, inl, inr, List, [], ◌∷◌, map, length, reverse, get_or, bit_or, nat_eq, eq-eqb, ne_eqb, refl, sym, ap, ap₂, ◌∙◌, subst, arith}
+use Rattle.std.specs.List.{filter, range_with_len}
+use Rattle.std.specs.Set.{distinct_count}
+use Rattle.std.proofs.Math.Nat.{mul-le-mul_left, mul-le-mul_right, add-mul-mod_self_right, add-mul-div_right, mod-eq_of_lt, div-eq_of_lt}
+use Rattle.std.proofs.lemmas.Bool.{cases_eq}
+use Rattle.std.proofs.lemmas.Nat.{pow_pos}
+use Rattle.std.proofs.lemmas.List.{length-map, get_or-map}
+use Rattle.std.proofs.lemmas.List.FromFn.{get_or-map-range_with_len, length-map-range_with_len}
+use Rattle.order_model.specs.Functions.{Function, restrict, table, same_table, depends}
+use Rattle.order_model.specs.Orders.{has, variables}
+use Rattle.order_model.specs.Levels.{reach}
+use Rattle.order_model.specs.Widths.{same_pair, entries, class_of, class_numbers, class_pair, outside}
+use Rattle.order_model.proofs.Sets.{Among, among_from_map}
+use Rattle.order_model.proofs.Tables.{same_table_decides, depends_same}
+use Rattle.order_model.proofs.ClassPairs.{count_alike, pair_decides, rank_apart, depends_by_classes}
+use Rattle.compaction.specs.Dependence.{dependence, joined_mask}
+use Rattle.compaction.specs.Numbering.{rank, ranks}
+use Rattle.compaction.specs.Places.{low_place, pair_at, pairs}
+use Rattle.std.specs.List.{list_any}
+use Rattle.std.proofs.lemmas.Nat.Bits.{shr_and_one, bit_at-zero}
+use Rattle.order_model.specs.Problems.{TruthTables, value_at}
+use Rattle.order_model.specs.Orders.{members}
+use Rattle.order_model.proofs.CellLaws.{members_zero}
+use Rattle.compaction.specs.Values.{values_of, number_of}
+use Rattle.compaction.proofs.StartClasses.{holds_start}
+use Rattle.compaction.proofs.Filled.{low_or}
+use Rattle.compaction.specs.Table.{classes_of, ClassesOf, HoldsClasses, HoldsKeys, with_variable, functions_of, set_of, free_below, joined_key, joined_key_mask}
+use Rattle.compaction.proofs.Ranks.{ranks_alike}
+use Rattle.compaction.proofs.Index.{pair_within, length-pairs}
+use Rattle.compaction.proofs.DependenceMasks.{dependence_joined}
+use Rattle.compaction.proofs.Counted.{map_map, nat_decides, masks_same}
+use Rattle.compaction.proofs.Compacted.{step_of, tops, length_numbers, pairs_told, pairs_of_classes, compacted, counted, told_apart, class_pair_same, class_numbers_same}
+use Rattle.compaction.proofs.Extended.{step_is, members_more, class_below, few_masks, IsReady, rank_small, free_none, free_more}
+
+-- ---- lists
+
+map_range_same : {X : Type 0} (f g : ℕ → X) (a m : ℕ) → ((i : ℕ) → a ≤ i → i < a + m → f i ≡ g i) → map f (range_with_len a m) ≡ map g (range_with_len a m)
+map_range_same f g a zero h = refl
+map_range_same f g a (suc m) h = λ i. h a (omega arith) (omega arith) i ∷ map_range_same f g (a + 1) m (λ k l u. h k (omega arith) (omega arith)) i
+
+map_same : {X Y : Type 0} (f g : X → Y) (xs : List X) → ((x : X) → Among x xs → f x ≡ g x) → map f xs ≡ map g xs
+map_same f g [] h = refl
+map_same f g (x ∷ xs) h = λ i. h x (inl refl) i ∷ map_same f g xs (λ y a. h y (inr a)) i
+
+map_self : {X : Type 0} (xs : List X) → map (λ x. x) xs ≡ xs
+map_self [] = refl
+map_self (x ∷ xs) = ap (λ ys. x ∷ ys) (map_self xs)
+
+range_below : (a m k : ℕ) → Among k (range_with_len a m) → (a ≤ k) × (k < a + m)
+range_below a zero k h = absurd h
+range_below a (suc m) k h = elim h [
+  | inl e ↦ (omega arith, omega arith)
+  | inr r ↦ let b = range_below (a + 1) m k r in let l = b.0 in let u = b.1 in (omega arith, omega arith)
+]
+
+-- two lists that are told alike
+told_zip : {P G A B : Type 0} (F : P → A) (F' : G → A) (H : P → B) (H' : G → B) (J : P → ℕ) (D : G → ℕ) (ps : List P) (gs : List G) → map F ps ≡ map F' gs → map H ps ≡ map H' gs →
+    ((p : P) (g : G) → Among p ps → Among g gs → F p ≡ F' g → H p ≡ H' g → J p ≡ D g) → map J ps ≡ map D gs
+told_zip F F' H H' J D [] [] e d t = refl
+told_zip F F' H H' J D [] (g ∷ gs) e d t = absurd (cc)
+told_zip F F' H H' J D (p ∷ ps) [] e d t = absurd (cc)
+told_zip F F' H H' J D (p ∷ ps) (g ∷ gs) e d t =
+    let a : F p ≡ F' g = cc in
+    let b : H p ≡ H' g = cc in
+    λ i. t p g (inl refl) (inl refl) a b i ∷ told_zip F F' H H' J D ps gs (cc) (cc) (λ q k u v. t q k (inr u) (inr v)) i
+
+among_at : (cs : List ℕ) (j : ℕ) → j < length cs → Among (get_or cs j 0) cs
+among_at [] j k = absurd (omega arith)
+among_at (y ∷ cs) zero k = inl refl
+among_at (y ∷ cs) (suc j) k = inr (among_at cs j (omega arith))
+
+-- ---- pairs of keys
+
+pub both : (ℕ → ℕ) → ℕ × ℕ → ℕ × ℕ
+both f p = (f p.0, f p.1)
+
+module _ (cs : List ℕ) (r : ℕ) (whole : (blocks : ℕ) × (length cs ≡ blocks * (2 * 2 ^ r))) where
+  place_within : (j : ℕ) → j < length cs / 2 → low_place (2 ^ r) j + 2 ^ r < length cs
+  place_within j h = pair_within (2 ^ r) whole.0 (length cs) j (pow_pos r) whole.1 h
+
+  pub pairs_mapped : (f : ℕ → ℕ) → pairs (map f cs) (2 ^ r) ≡ map (both f) (pairs cs (2 ^ r))
+  unfolding pairs both
+  pairs_mapped f =
+      ap (λ l. map (pair_at (map f cs) (2 ^ r)) (range_with_len 0 (l / 2))) (length-map cs f)
+      ∙ map_range_same (pair_at (map f cs) (2 ^ r)) (λ j. (f (pair_at cs (2 ^ r) j).0, f (pair_at cs (2 ^ r) j).1)) 0 (length cs / 2) each
+      ∙ sym (map_map (λ (p : ℕ × ℕ). (f p.0, f p.1)) (pair_at cs (2 ^ r)) (range_with_len 0 (length cs / 2)))
+    where
+      each : (j : ℕ) → 0 ≤ j → j < 0 + length cs / 2 → pair_at (map f cs) (2 ^ r) j ≡ (f (pair_at cs (2 ^ r) j).0, f (pair_at cs (2 ^ r) j).1)
+      each j l u =
+          let w = place_within j (omega arith) in
+          let a = get_or-map f cs (low_place (2 ^ r) j) 0 0 (omega arith) in
+          let b = get_or-map f cs (low_place (2 ^ r) j + 2 ^ r) 0 0 w in
+          λ i. (a i, b i)
+
+  pub pair_among : (p : ℕ × ℕ) → Among p (pairs cs (2 ^ r)) → Among p.0 cs × Among p.1 cs
+  unfolding pairs
+  pair_among p h =
+      let s = among_from_map (pair_at cs (2 ^ r)) p (range_with_len 0 (length cs / 2)) h in
+      let b = (range_below 0 (length cs / 2) s.0 s.1).1 in
+      let w = place_within s.0 (omega arith) in
+      (subst (λ (q : ℕ × ℕ). Among q.0 cs) (sym s.2) (among_at cs (low_place (2 ^ r) s.0) (omega arith)), subst (λ (q : ℕ × ℕ). Among q.1 cs) (sym s.2) (among_at cs (low_place (2 ^ r) s.0 + 2 ^ r) w))
+
+  pub own : ℕ → ℕ
+  own k = rank nat_eq cs k
+
+  own_apart : (k l : ℕ) → Among k cs → Among l cs → own k ≡ own l → k ≡ l
+  unfolding own rank
+  own_apart k l a b e = rank_apart nat_eq nat_decides cs k l a b e
+
+  both_apart : (p q : ℕ × ℕ) → Among p (pairs cs (2 ^ r)) → Among q (pairs cs (2 ^ r)) → (p ≡ q → both own p ≡ both own q) × (both own p ≡ both own q → p ≡ q)
+  unfolding both
+  both_apart p q h k =
+      let a = pair_among p h in
+      let b = pair_among q k in (
+        ap (both own),
+        λ e. let x = own_apart p.0 q.0 a.0 b.0 (ap (λ (z : ℕ × ℕ). z.0) e) in let y = own_apart p.1 q.1 a.1 b.1 (ap (λ (z : ℕ × ℕ). z.1) e) in λ i. (x i, y i),
+      )
+
+  ranked_pairs : pairs (ranks nat_eq cs) (2 ^ r) ≡ map (both own) (pairs cs (2 ^ r))
+  unfolding ranks own
+  ranked_pairs = pairs_mapped (rank nat_eq cs)
+
+  -- the pairs of numbers are told apart as the pairs of keys are
+  pub pairs_ranked : ranks same_pair (pairs (ranks nat_eq cs) (2 ^ r)) ≡ ranks same_pair (pairs cs (2 ^ r))
+  pairs_ranked =
+      ap (ranks same_pair) ranked_pairs
+      ∙ sym (ranks_alike same_pair pair_decides same_pair pair_decides (λ p. p) (both own) (pairs cs (2 ^ r)) both_apart)
+      ∙ ap (ranks same_pair) (map_self (pairs cs (2 ^ r)))
+
+  pub pairs_counted : distinct_count same_pair (pairs (ranks nat_eq cs) (2 ^ r)) ≡ distinct_count same_pair (pairs cs (2 ^ r))
+  pairs_counted =
+      ap (distinct_count same_pair) ranked_pairs
+      ∙ sym (count_alike same_pair pair_decides same_pair pair_decides (λ p. p) (both own) (pairs cs (2 ^ r)) both_apart)
+      ∙ ap (distinct_count same_pair) (map_self (pairs cs (2 ^ r)))
+
+  pub same_numbers : (p : ℕ × ℕ) → Among p (pairs cs (2 ^ r)) → nat_eq p.0 p.1 ≡ nat_eq (own p.0) (own p.1)
+  same_numbers p h =
+      let a = pair_among p h in
+      elim (cases_eq p.0 p.1) [
+        | inl e ↦ eq-eqb p.0 p.1 e ∙ sym (eq-eqb (own p.0) (own p.1) (ap own e))
+        | inr ne ↦ ne_eqb p.0 p.1 ne ∙ sym (ne_eqb (own p.0) (own p.1) (λ e. ne (own_apart p.0 p.1 a.0 a.1 e)))
+      ]
+
+  -- the numbers of pairs of small keys
+  pub keys_ranked : (base : ℕ) → ((i : ℕ) → i < length cs → get_or cs i 0 < base) → ranks nat_eq (map (joined_key base) (pairs cs (2 ^ r))) ≡ ranks same_pair (pairs cs (2 ^ r))
+  keys_ranked base small =
+      ranks_alike nat_eq nat_decides same_pair pair_decides (joined_key base) (λ p. p) (pairs cs (2 ^ r)) apart
+      ∙ ap (ranks same_pair) (map_self (pairs cs (2 ^ r)))
+    where
+      apart : (p q : ℕ × ℕ) → Among p (pairs cs (2 ^ r)) → Among q (pairs cs (2 ^ r)) → (joined_key base p ≡ joined_key base q → p ≡ q) × (p ≡ q → joined_key base p ≡ joined_key base q)
+      apart p q h k =
+          let a = key_below p.0 (pair_among p h).0 in
+          let b = key_below q.0 (pair_among q k).0 in (
+            λ e.
+                let x : p.0 ≡ q.0 = sym (mod-eq_of_lt a) ∙ sym (add-mul-mod_self_right p.0 p.1 base) ∙ ap (λ z. z % base) e ∙ add-mul-mod_self_right q.0 q.1 base ∙ mod-eq_of_lt b in
+                let some : 0 < base = omega arith in
+                let y : p.1 ≡ q.1 = high p a some ∙ ap (λ z. z / base) e ∙ sym (high q b some) in
+                λ i. (x i, y i),
+            ap (joined_key base),
+          )
+        where
+          key_below : (v : ℕ) → Among v cs → v < base
+          key_below v m = within cs small m
+            where
+              within : (xs : List ℕ) → ((i : ℕ) → i < length xs → get_or xs i 0 < base) → Among v xs → v < base
+              within [] s n = absurd n
+              within (x ∷ xs) s n = elim n [ inl e ↦ let z = s 0 (omega arith) in omega arith | inr t ↦ within xs (λ i l. s (suc i) (omega arith)) t ]
+
+          high : (u : ℕ × ℕ) → u.0 < base → 0 < base → u.1 ≡ (u.0 + u.1 * base) / base
+          high u l some = let d = add-mul-div_right u.0 u.1 some in let z = div-eq_of_lt l in omega arith
+
+-- ---- one more variable
+
+module _ (n : ℕ) (F : List Function) (T : List ℕ) (x : ℕ) (small : x < n) (new : has T x ≡ false) where
+  R : List Function
+  R = reach F (reverse (outside n (x ∷ T)))
+
+  own_pair : Function → ℕ × ℕ
+  own_pair g = (dependence n (restrict x false g), dependence n (restrict x true g))
+
+  depends_at : (g : Function) → Among g R → depends n g x ≡ not (nat_eq (class_pair n F T x g).0 (class_pair n F T x g).1)
+  unfolding R
+  depends_at g a =
+      let k = counted n T x small new F g a in
+      depends_same n g k.0 x k.2 ∙ depends_by_classes n F T x small new k.0 k.1
+      ∙ ap (λ p. not (nat_eq p.0 p.1)) (sym (class_pair_same n T x small new F g k.0 k.2))
+
+  -- what the functions of the pairs depend on
+  pub pairs_depend : (keys masks : List ℕ) (r : ℕ) → ((blocks : ℕ) × (length keys ≡ blocks * (2 * 2 ^ r))) → 2 ^ r ≡ step_of T x → class_numbers n F T ≡ ranks nat_eq keys →
+      map (λ k. get_or masks k 0) keys ≡ map (dependence n) (reach F (reverse (outside n T))) → map (joined_mask masks x) (pairs keys (2 ^ r)) ≡ map (dependence n) (reach F (reverse (outside n (x ∷ T))))
+  unfolding R own_pair both own
+  pairs_depend keys masks r whole step classes told =
+      told_zip (both (λ k. get_or masks k 0)) own_pair (both (rank nat_eq keys)) (class_pair n F T x) (joined_mask masks x) (dependence n) (pairs keys (2 ^ r)) R
+      (sym (pairs_mapped keys r whole (λ k. get_or masks k 0)) ∙ ap₂ pairs told step ∙ pairs_told n T x small new F (dependence n))
+      (sym (ranked_pairs keys r whole) ∙ ap₂ pairs (sym classes) step ∙ pairs_of_classes n T x small new F)
+      (λ p g a b e d.
+      ap₂ bit_or (ap₂ bit_or (ap (λ (z : ℕ × ℕ). z.0) e) (ap (λ (z : ℕ × ℕ). z.1) e))
+      (ap (λ t. cond t 0 (2 ^ x)) (same_numbers keys r whole p a ∙ ap (λ (z : ℕ × ℕ). nat_eq z.0 z.1) d) ∙ turn (nat_eq (class_pair n F T x g).0 (class_pair n F T x g).1) ∙ ap (λ t. cond t (2 ^ x) 0) (sym (depends_at g b)))
+      ∙ sym (dependence_joined n x g small))
+    where
+      turn : (b : Bool) → cond b 0 (2 ^ x) ≡ cond (not b) (2 ^ x) 0
+      turn true = refl
+      turn false = refl
+
+  pub many_classes : (keys : List ℕ) (r : ℕ) → ((blocks : ℕ) × (length keys ≡ blocks * (2 * 2 ^ r))) → 2 ^ r ≡ step_of T x → class_numbers n F T ≡ ranks nat_eq keys →
+      distinct_count same_pair (pairs keys (2 ^ r)) ≡ distinct_count same_table (entries n F (x ∷ T))
+  unfolding R entries
+  many_classes keys r whole step classes =
+      sym (pairs_counted keys r whole) ∙ ap (distinct_count same_pair) (ap₂ pairs (sym classes) step ∙ pairs_of_classes n T x small new F)
+      ∙ count_alike same_pair pair_decides same_table same_table_decides (class_pair n F T x) (table n) R (told_apart n T x small new F)
+
+  pub more_classes : (keys : List ℕ) (r : ℕ) → ((blocks : ℕ) × (length keys ≡ blocks * (2 * 2 ^ r))) → 2 ^ r ≡ step_of T x → class_numbers n F T ≡ ranks nat_eq keys →
+      class_numbers n F (x ∷ T) ≡ ranks same_pair (pairs keys (2 ^ r))
+  more_classes keys r whole step classes =
+      compacted n T x small new F ∙ ap (ranks same_pair) (ap₂ pairs classes (sym step)) ∙ pairs_ranked keys r whole
+
+-- ---- tables
+
+-- class numbers are keys
+pub keys_of_classes : (t : ClassesOf) (numbers masks : List ℕ) → HoldsClasses t numbers masks → HoldsKeys t numbers masks
+unfolding class_numbers class_of ranks rank
+keys_of_classes t numbers masks h = record {
+  few_inputs = h.few_inputs;
+  few = h.few;
+  few_masks = (let a = few_masks t numbers masks h in let b = h.few in omega arith);
+  below = class_below t numbers masks h;
+  classes = sym (ap (ranks nat_eq) h.classes ∙ ranks_alike nat_eq nat_decides same_table same_table_decides (rank same_table es) (λ u. u) es
+      (λ u v a b. (rank_apart same_table same_table_decides es u v a b, ap (rank same_table es))) ∙ ap (ranks same_table) (map_self es));
+  told = ap (map (λ k. get_or masks k 0)) h.classes ∙ h.masks_are.told;
+}
+  where
+    es : List (List Bool)
+    es = entries t.problem.inputs (functions_of t) (set_of t)
+
+length_ranked : (qs : List (ℕ × ℕ)) → length (ranks same_pair qs) ≡ length qs
+unfolding ranks
+length_ranked qs = length-map qs (rank same_pair qs)
+
+outside_same : (n : ℕ) (F : List Function) (S T : List ℕ) → ((y : ℕ) → has S y ≡ has T y) → map (dependence n) (reach F (reverse (outside n S))) ≡ map (dependence n) (reach F (reverse (outside n T)))
+unfolding outside
+outside_same n F S T h = λ i. map (dependence n) (reach F (reverse (filter (λ y. not (h y i)) (variables n))))
+
+module _ (t : ClassesOf) (x : ℕ) (inside : x < t.problem.inputs) (new : has (set_of t) x ≡ false) (keys masks : List ℕ) (h : HoldsKeys t keys masks)
+    (whole : (blocks : ℕ) × (length keys ≡ blocks * (2 * 2 ^ free_below t.set x))) where
+  ps : List (ℕ × ℕ)
+  ps = pairs keys (2 ^ free_below t.set x)
+
+  -- the class table with one more variable
+  pub classes_from_keys : (numbered joined : List ℕ) → numbered ≡ ranks same_pair (pairs keys (2 ^ free_below t.set x)) → length joined ≡ distinct_count same_pair (pairs keys (2 ^ free_below t.set x)) →
+      map (λ c. get_or joined c 0) numbered ≡ map (joined_mask masks x) (pairs keys (2 ^ free_below t.set x)) → HoldsClasses (with_variable t x) numbered joined
+  classes_from_keys numbered joined e many told =
+      let n = t.problem.inputs in
+      let F = functions_of t in
+      let T = set_of t in
+      let s = step_is t x inside new in
+      let c = more_classes n F T x inside new keys (free_below t.set x) whole s h.classes in
+      record {
+        few_inputs = h.few_inputs;
+        few = (let l = ap length e in let k = length_ranked (pairs keys (2 ^ free_below t.set x)) in let m = length-pairs keys (2 ^ free_below t.set x) in let f = h.few in omega arith);
+        classes = e ∙ sym c ∙ class_numbers_same n F (x ∷ T) (set_of (with_variable t x)) (members_more t x inside new);
+        masks_are = masks_same n F (x ∷ T) (set_of (with_variable t x)) (members_more t x inside new) joined (record {
+          many = many ∙ many_classes n F T x inside new keys (free_below t.set x) whole s h.classes;
+          told = ap (map (λ k. get_or joined k 0)) (c ∙ sym e) ∙ told ∙ pairs_depend n F T x inside new keys masks (free_below t.set x) whole s h.classes h.told;
+        });
+      }
+
+  -- the keys with one more variable
+  pub keys_more : (keys' masks' : List ℕ) → length masks ≤ 256 → keys' ≡ map (joined_key (length masks)) (pairs keys (2 ^ free_below t.set x)) → masks' ≡ map (joined_key_mask masks x) (range_with_len 0 (length masks * length masks)) →
+      HoldsKeys (with_variable t x) keys' masks'
+  keys_more keys' masks' narrow e d =
+      let n = t.problem.inputs in
+      let F = functions_of t in
+      let T = set_of t in
+      let s = step_is t x inside new in
+      record {
+        few_inputs = h.few_inputs;
+        few = (let l = ap length e ∙ length-map (pairs keys (2 ^ free_below t.set x)) (joined_key (length masks)) in let m = length-pairs keys (2 ^ free_below t.set x) in let f = h.few in omega arith);
+        few_masks = (let k = ap length d ∙ length-map-range_with_len (joined_key_mask masks x) 0 (length masks * length masks) in let a = mul-le-mul_left (length masks) narrow in let b = mul-le-mul_right 256 narrow in omega arith);
+        below = λ i lt.
+            let l = ap length e ∙ length-map (pairs keys (2 ^ free_below t.set x)) (joined_key (length masks)) in
+            let v = ap (λ us. get_or us i 0) e ∙ get_or-map (joined_key (length masks)) (pairs keys (2 ^ free_below t.set x)) i (0, 0) 0 (omega arith) in
+            let b = key_small (get_or (pairs keys (2 ^ free_below t.set x)) i (0, 0)) (among_pair (pairs keys (2 ^ free_below t.set x)) i (omega arith)) in
+            let k = ap length d ∙ length-map-range_with_len (joined_key_mask masks x) 0 (length masks * length masks) in
+            omega arith;
+        classes = sym (class_numbers_same n F (x ∷ T) (set_of (with_variable t x)) (members_more t x inside new)) ∙ more_classes n F T x inside new keys (free_below t.set x) whole s h.classes
+            ∙ sym (ap (ranks nat_eq) e ∙ keys_ranked keys (free_below t.set x) whole (length masks) h.below);
+        told = ap (map (λ k. get_or masks' k 0)) e ∙ map_map (λ k. get_or masks' k 0) (joined_key (length masks)) (pairs keys (2 ^ free_below t.set x))
+            ∙ map_same (λ p. get_or masks' (joined_key (length masks) p) 0) (joined_mask masks x) (pairs keys (2 ^ free_below t.set x)) mask_at
+            ∙ pairs_depend n F T x inside new keys masks (free_below t.set x) whole s h.classes h.told
+            ∙ outside_same n F (x ∷ T) (set_of (with_variable t x)) (members_more t x inside new);
+      }
+    where
+      among_pair : (qs : List (ℕ × ℕ)) (j : ℕ) → j < length qs → Among (get_or qs j (0, 0)) qs
+      among_pair [] j k = absurd (omega arith)
+      among_pair (q ∷ qs) zero k = inl refl
+      among_pair (q ∷ qs) (suc j) k = inr (among_pair qs j (omega arith))
+
+      parts_below : (p : ℕ × ℕ) → Among p (pairs keys (2 ^ free_below t.set x)) → (p.0 < length masks) × (p.1 < length masks)
+      parts_below p a =
+          let b = pair_among keys (free_below t.set x) whole p a in
+          (within keys h.below p.0 b.0, within keys h.below p.1 b.1)
+        where
+          within : (xs : List ℕ) → ((i : ℕ) → i < length xs → get_or xs i 0 < length masks) → (v : ℕ) → Among v xs → v < length masks
+          within [] s v m = absurd m
+          within (u ∷ us) s v m = elim m [ inl q ↦ let z = s 0 (omega arith) in omega arith | inr r ↦ within us (λ i l. s (suc i) (omega arith)) v r ]
+
+      key_small : (p : ℕ × ℕ) → Among p (pairs keys (2 ^ free_below t.set x)) → joined_key (length masks) p < length masks * length masks
+      key_small p a =
+          let b = parts_below p a in
+          let low = b.0 in
+          let high = b.1 in
+          let m = product_below p.1 (length masks) (length masks) high in
+          omega arith
+        where
+          product_below : (u k b : ℕ) → u < k → u * b + b ≤ k * b
+          product_below u k b l = (let q = mul-le-mul_right b (let s : suc u ≤ k = omega arith in s) in let r : suc u * b ≡ u * b + b = grind arith in omega arith)
+
+      mask_at : (p : ℕ × ℕ) → Among p (pairs keys (2 ^ free_below t.set x)) → get_or masks' (joined_key (length masks) p) 0 ≡ joined_mask masks x p
+      mask_at p a =
+          let b = parts_below p a in
+          let low = b.0 in
+          let some : 0 < length masks = omega arith in
+          let z = div-eq_of_lt low in
+          let q : (p.0 + p.1 * length masks) / length masks ≡ p.1 = add-mul-div_right p.0 p.1 some ∙ omega arith in
+          let r : (p.0 + p.1 * length masks) % length masks ≡ p.0 = add-mul-mod_self_right p.0 p.1 (length masks) ∙ mod-eq_of_lt low in
+          ap (λ us. get_or us (joined_key (length masks) p) 0) d
+          ∙ get_or-map-range_with_len (joined_key_mask masks x) 0 (length masks * length masks) (joined_key (length masks) p) (joined_key (length masks) p) 0 (key_small p a) (omega arith)
+          ∙ (λ i. joined_mask masks x (r i, q i))
+
+-- what the numbering of the pairs asks for
+pub keys_ready : (t : ClassesOf) (x : ℕ) → x < t.problem.inputs → has (set_of t) x ≡ false → (keys masks : List ℕ) (r : ℕ) → HoldsKeys t keys masks → r ≡ free_below t.set x → IsReady keys masks r
+unfolding ranks
+keys_ready t x inside new keys masks r h e = record {
+  rank = (let a = rank_small t x inside new in let n = h.few_inputs in omega arith);
+  whole = (
+    length (tops t.problem.inputs (set_of t) x inside new (functions_of t)),
+    sym (length-map keys (rank nat_eq keys)) ∙ ap length (sym h.classes) ∙ length_numbers t.problem.inputs (set_of t) x inside new (functions_of t)
+        ∙ ap (λ s. length (tops t.problem.inputs (set_of t) x inside new (functions_of t)) * (2 * s)) (sym (ap (λ k. 2 ^ k) e ∙ step_is t x inside new)),
+  );
+  classes = h.below;
+  few = h.few_masks;
+  few_entries = h.few;
+}
+
+-- the keys of the values, with masks of both
+pub start_keys : (p : TruthTables) (numbers exact masks : List ℕ) → HoldsClasses (classes_of p 0) numbers exact → length exact ≤ length masks → length masks ≤ 2 ^ 20 → ((c : ℕ) → get_or exact c 0 ≡ get_or masks c 0) → HoldsKeys (classes_of p 0) numbers masks
+start_keys p numbers exact masks h long few same =
+    let k = keys_of_classes (classes_of p 0) numbers exact h in
+    record {
+      few_inputs = k.few_inputs;
+      few = k.few;
+      few_masks = few;
+      below = λ i lt. let b = k.below i lt in omega arith;
+      classes = k.classes;
+      told = map_same (λ c. get_or masks c 0) (λ c. get_or exact c 0) numbers (λ c a. sym (same c)) ∙ k.told;
+    }
+
+pub free_zero : (x : ℕ) → free_below 0 x ≡ x
+free_zero zero = free_none 0
+free_zero (suc x) = ap (free_below 0) (let s : suc x ≡ x + 1 = omega arith in s) ∙ free_more 0 x (shr_and_one 0 x ∙ bit_at-zero x) ∙ (let r = free_zero x in omega arith)
+
+few_zeros : Bool → List ℕ
+few_zeros b = cond b (0 ∷ 0 ∷ []) (0 ∷ [])
+
+pub value_keys : (p : TruthTables) → p.inputs ≤ 16 → length p.tables ≤ 16 → 0 < length p.tables → HoldsKeys (classes_of p 0) (map (number_of (value_at p 0 0)) (values_of p)) (0 ∷ 0 ∷ [])
+unfolding few_zeros
+value_keys p inputs outputs some =
+    start_keys p (map (number_of (value_at p 0 0)) (values_of p)) exact (0 ∷ 0 ∷ [])
+    (holds_start p (map (number_of (value_at p 0 0)) (values_of p)) exact inputs outputs some refl (zeros both_occur) (long both_occur)) (short both_occur) (omega arith) (λ c. zeros both_occur c ∙ sym (zeros true c))
+  where
+    both_occur : Bool
+    both_occur = list_any (λ k. nat_eq k 1) (map (number_of (value_at p 0 0)) (values_of p))
+
+    exact : List ℕ
+    exact = few_zeros both_occur
+
+    long : (b : Bool) → length (few_zeros b) ≡ cond b 2 1
+    long true = refl
+    long false = refl
+
+    short : (b : Bool) → length (few_zeros b) ≤ 2
+    short true = omega arith
+    short false = omega arith
+
+    zeros : (b : Bool) (c : ℕ) → get_or (few_zeros b) c 0 ≡ 0
+    zeros true zero = refl
+    zeros true (suc zero) = refl
+    zeros true (suc (suc c)) = refl
+    zeros false zero = refl
+    zeros false (suc c) = refl
+
+pub none_in : (n x : ℕ) → has (members n 0) x ≡ false
+none_in n x = ap (λ T. has T x) (members_zero n)
+
+-- the keys of one variable
+pub variable_keys : (p : TruthTables) (x : ℕ) → p.inputs ≤ 16 → length p.tables ≤ 16 → 0 < length p.tables → x < p.inputs → (keys masks : List ℕ) → keys ≡ map (joined_key 2) (pairs (map (number_of (value_at p 0 0)) (values_of p)) (2 ^ x)) →
+    masks ≡ map (joined_key_mask (0 ∷ 0 ∷ []) x) (range_with_len 0 (2 * 2)) → HoldsKeys (with_variable (classes_of p 0) x) keys masks
+variable_keys p x inputs outputs some inside keys masks e d =
+    let values = map (number_of (value_at p 0 0)) (values_of p) in
+    let h = value_keys p inputs outputs some in
+    let r = keys_ready (classes_of p 0) x inside (none_in p.inputs x) values (0 ∷ 0 ∷ []) (free_below 0 x) h refl in
+    keys_more (classes_of p 0) x inside (none_in p.inputs x) values (0 ∷ 0 ∷ []) h r.whole keys masks (omega arith) (e ∙ ap (λ k. map (joined_key 2) (pairs values (2 ^ k))) (sym (free_zero x))) d
+
+pub with_first : (p : TruthTables) (set x : ℕ) → set ≡ 0 → with_variable (classes_of p set) x ≡ classes_of p (2 ^ x)
+with_first p set x e = ap (λ k. classes_of p (bit_or k (2 ^ x))) e ∙ ap (classes_of p) (low_or 0 x (pow_pos x) ∙ omega arith)

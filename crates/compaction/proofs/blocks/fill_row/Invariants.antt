@@ -1,0 +1,6 @@
+use Rattle.subset_layers.specs.Layers.{block_masks}
+use Rattle.compaction.proofs.Filled.{IsFilling}
+use Rattle.compaction.proofs.blocks.fill_row.Given as goal
+
+abbrev pub invariant-loop-i : goal.invariant-loop-i
+invariant-loop-i l = IsFilling l.table.problem (block_masks l.block) l.needed l.table.set l.i l.initial.rows l.rows

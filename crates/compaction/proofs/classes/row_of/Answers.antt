@@ -1,0 +1,28 @@
+use Rattle.std.proofs.Common.{ℕ, ◌+◌, eqb, cond, List, length, sym, ap, ◌∙◌, subst, arith, eq-eqb, ne_eqb}
+use Rattle.std.specs.Int.{bit_at}
+use Rattle.std.specs.List.{filter}
+use Rattle.std.proofs.lemmas.Nat.Bits.{shr_and_one}
+use Rattle.compaction.proofs.Sets.{IsRowBelow, row_written, row_kept}
+use Rattle.compaction.proofs.classes.row_of.Goals as goal
+use Rattle.compaction.proofs.classes.row_of.Goals.{then-wanted-x-eq1, else-wanted-x-eq1}
+
+-- the row's entry at x
+entry : ℕ → List ℕ → ℕ → ℕ
+entry wanted masks x = cond (eqb (bit_at wanted x) 1) (length (filter (λ m. eqb (bit_at m x) 1) masks)) 0
+
+pub loop-x-preserved : goal.loop-x-preserved
+unfolding entry
+loop-x-preserved c =
+    let f = entry c.args.wanted c.args.masks.now in
+    let x = c.loop-x.x in
+    elim c.if-wanted-x-eq1.branch [
+      | then-wanted-x-eq1 w ↦
+          let set_bit = sym (shr_and_one c.args.wanted x) ∙ w.if-wanted-x-eq1.true in
+          subst (λ (r : List ℕ). IsRowBelow f r (x + 1)) (sym w.row-is)
+          (row_written f c.loop-x.row x w.count_with.result (omega arith)
+          (w.count_with.ensures ∙ ap (λ b. cond b (length (filter (λ m. eqb (bit_at m x) 1) c.args.masks.now)) 0) (sym (eq-eqb (bit_at c.args.wanted x) 1 set_bit))) c.loop-x.invariant)
+      | else-wanted-x-eq1 w ↦
+          subst (λ (r : List ℕ). IsRowBelow f r (x + 1)) (sym w.row-is)
+          (row_kept f c.loop-x.row x
+          (ap (λ b. cond b (length (filter (λ m. eqb (bit_at m x) 1) c.args.masks.now)) 0) (sym (ne_eqb (bit_at c.args.wanted x) 1 (λ e. w.if-wanted-x-eq1.false (shr_and_one c.args.wanted x ∙ e))))) c.loop-x.invariant)
+    ]

@@ -1,0 +1,13 @@
+use Rattle.std.proofs.Common.{◌≡◌, ◌^◌, map, take}
+use Rattle.order_model.specs.Widths.{same_pair}
+use Rattle.compaction.specs.Numbering.{rank}
+use Rattle.compaction.specs.Places as places
+use Rattle.compaction.proofs.Ranks.{Numbers}
+use Rattle.order_model.proofs.ClassPairs.{pair_decides}
+use Rattle.compaction.proofs.pairs.number_pairs_by_index.Given as goal
+
+abbrev pub invariant-loop-j : goal.invariant-loop-j
+invariant-loop-j l = record {
+  seen : Numbers same_pair pair_decides l.seen.keys (take l.j (places.pairs l.numbers (2 ^ l.rank)));
+  done : l.out.items ≡ map (rank same_pair (places.pairs l.numbers (2 ^ l.rank))) (take l.j (places.pairs l.numbers (2 ^ l.rank)));
+}

@@ -1,0 +1,10 @@
+use Rattle.std.proofs.Common.{◌≡◌, ◌^◌, map, take}
+use Rattle.std.specs.List.{flat_map}
+use Rattle.order_model.specs.Problems.{value_at}
+use Rattle.compaction.specs.Places as places
+use Rattle.compaction.specs.Table.{joined_key}
+use Rattle.compaction.specs.Values.{number_of, row}
+use Rattle.compaction.proofs.start.value_pairs.Given as goal
+
+abbrev pub invariant-loop-output : goal.invariant-loop-output
+invariant-loop-output l = l.keys.items ≡ map (joined_key 2) (places.pairs (map (number_of (value_at l.problem 0 0)) (flat_map (row l.problem.inputs) (take l.output l.problem.tables))) (2 ^ l.x))

@@ -1,0 +1,36 @@
+-- The variables that a function depends on.
+--     AreMasks, CountsMasks      what the classes of a set depend on; how many distinct pairs have a variable in their masks
+--     support n f, dependence n f      as a list, rising, and as a mask
+use Rattle.std.specs.Prelude.{◌≡◌, ◌==◌, ℕ, ◌^◌, List, map, length, reverse, cond, nat_eq, get_or, bit_or}
+use Rattle.std.specs.Set.{distinct_count}
+use Rattle.std.specs.List.{filter}
+use Rattle.std.specs.Int.{bit_at}
+use Rattle.compaction.specs.Numbering.{ranks}
+use Rattle.order_model.specs.Functions.{Function, depends, same_table}
+use Rattle.order_model.specs.Levels.{reach}
+use Rattle.order_model.specs.Widths.{outside, entries, class_numbers, same_pair}
+use Rattle.order_model.specs.Orders.{variables, mask_of}
+
+-- the variables that f depends on, rising
+unfoldable pub support : ℕ → Function → List ℕ
+support n f = filter (λ y. depends n f y) (variables n)
+
+-- the mask of these: bit y stands for variable y
+unfoldable pub dependence : ℕ → Function → ℕ
+dependence n f = mask_of (support n f)
+
+-- the mask of a pair of classes: what its halves depend on, and x where they differ
+abbrev pub joined_mask : List ℕ → ℕ → ℕ × ℕ → ℕ
+joined_mask masks x p = bit_or (bit_or (get_or masks p.0 0) (get_or masks p.1 0)) (cond (nat_eq p.0 p.1) 0 (2 ^ x))
+
+-- one mask a class over T: what the functions of the class depend on
+pub record AreMasks (n : ℕ) (F : List Function) (T : List ℕ) (masks : List ℕ) : Type 0 where
+  pub many : length masks ≡ distinct_count same_table (entries n F T)
+  pub told : map (λ c. get_or masks c 0) (class_numbers n F T) ≡ map (dependence n) (reach F (reverse (outside n T)))
+
+-- so many distinct pairs have a mask with x: `joined` has one mask a distinct pair, told by its number
+pub record CountsMasks (masks : List ℕ) (x : ℕ) (ps : List (ℕ × ℕ)) (count : ℕ) : Type 0 where
+  pub joined : List ℕ
+  pub many : length joined ≡ distinct_count same_pair ps
+  pub told : map (λ c. get_or joined c 0) (ranks same_pair ps) ≡ map (joined_mask masks x) ps
+  pub counted : count ≡ length (filter (λ m. bit_at m x == 1) joined)

@@ -1,0 +1,45 @@
+-- The widths that a block's cells need.
+--     width_wanted p mask wanted x      the width of x over the set without it, where x is wanted, else 0
+--     IsRow p mask wanted row, AreRows p masks needed rows      a set's widths; those of all sets of a block
+--     wanted_count needed      how many widths are wanted
+--     WidthsOf      the rows of a block, and how many compactions they took
+use Rattle.std.specs.Prelude.{◌≡◌, ◌≢◌, ℕ, ◌%◌, ◌^◌, ◌<◌, ◌==◌, IsTrue, List, [], cond, sum_by, length, slice_index, get_or, count_ones}
+use Rattle.std.specs.Int.{bit_at}
+use Rattle.order_model.specs.Orders.{has, members, without}
+use Rattle.order_model.specs.Problems.{TruthTables, functions}
+use Rattle.order_model.specs.Widths.{width}
+
+-- the width of x over the set without it, where it is wanted
+unfoldable pub width_wanted : TruthTables → ℕ → ℕ → ℕ → ℕ
+width_wanted p mask wanted x = cond (bit_at wanted x == 1) (width p.inputs (functions p) (without x (members p.inputs mask)) x) 0
+
+-- the widths of a set
+abbrev pub IsRow : TruthTables → ℕ → ℕ → List ℕ → Type 0
+IsRow p mask wanted row = (x : ℕ) → x < 16 → slice_index row x ≡ width_wanted p mask wanted x
+
+-- those of all sets
+pub record AreRows (p : TruthTables) (masks needed : List ℕ) (rows : List (List ℕ)) : Type 0 where
+  pub each : length rows ≡ length masks
+  pub are : (i : ℕ) → i < length masks → IsRow p (slice_index masks i) (slice_index needed i) (get_or rows i [])
+
+-- how many widths are wanted
+abbrev pub wanted_count : List ℕ → ℕ
+wanted_count needed = sum_by count_ones needed
+
+-- a row for each set of a block, and how many compactions were made
+pub record WidthsOf : Type 0 where
+  pub rows : List (List ℕ)
+  pub compactions : ℕ
+
+-- the variables that are wanted of each set are its members
+abbrev pub AreMembers : TruthTables → List ℕ → List ℕ → Type 0
+AreMembers p masks needed = (i : ℕ) → i < length masks → (x : ℕ) → bit_at (slice_index needed i) x ≡ 1 → IsTrue (has (members p.inputs (slice_index masks i)) x)
+
+-- the rows of the sets of which nothing is wanted hold zeros
+abbrev pub AreBlank : TruthTables → List ℕ → List ℕ → List (List ℕ) → Type 0
+AreBlank p masks needed rows = (i : ℕ) → i < length masks → slice_index needed i ≡ 0 → IsRow p (slice_index masks i) (slice_index needed i) (get_or rows i [])
+
+-- the rows of the sets whose variables below y are those of `set` hold their widths, and the others are as they were
+abbrev pub AreFilled : TruthTables → List ℕ → List ℕ → ℕ → ℕ → List (List ℕ) → List (List ℕ) → Type 0
+AreFilled p masks needed set y old new = (i : ℕ) → i < length masks →
+    ((slice_index masks i % 2 ^ y ≡ set) → IsRow p (slice_index masks i) (slice_index needed i) (get_or new i [])) × ((slice_index masks i % 2 ^ y ≢ set) → get_or new i [] ≡ get_or old i [])

@@ -1,0 +1,169 @@
+//! The widths of the sets of a block.
+
+ghost use Rattle.std.specs.Prelude.{◌≡◌, ℕ, ◌+◌, ◌-◌, ◌%◌, ◌^◌, ◌<◌, ◌≤◌, IsFalse, length, slice_index, slice_get, get_or, [], ◌≢◌, IfOk, IfSome, IsOk, OnOk, OnErr, Some};
+ghost use Rattle.subset_layers.specs.Layers.{block_masks};
+ghost use Rattle.compaction.specs.Table.{classes_of};
+ghost use Rattle.compaction.specs.Rows.{IsRow, AreRows, AreMembers, AreBlank, AreFilled, wanted_count};
+
+use crate::classes::Classes;
+use crate::tally::Tally;
+use order_model::{Mask, Problem};
+use std::alloc::{AllocError, Global};
+use std::marker::Model;
+use subset_layers::Block;
+
+/// The widths of the sets of a block: a row for each of its masks.
+#[derive(Drop)]
+pub struct BlockWidths {
+    rows: Vec<[u32; 16]>,
+    compactions: u32,
+}
+
+impl Model for BlockWidths {
+    ghost use Rattle.compaction.specs.Rows.{WidthsOf};
+
+    ghost Value = { WidthsOf };
+
+    ghost view = { λ b. record { rows = b.rows.items; compactions = b.compactions } };
+}
+
+impl BlockWidths {
+    /// The widths of the set at a place of the block: at each variable that was wanted its width over the set without it, else 0.
+    pub fn row(&self, i: usize) -> [u32; 16]
+        requires { i < length self.now.rows }
+        ensures { slice_get self.now.rows i ≡ Some result }
+    {
+        self.rows[i]
+    }
+
+    /// How many class tables were compacted.
+    pub fn compactions(&self) -> u32
+        ensures { result ≡ self.now.compactions }
+    {
+        self.compactions
+    }
+}
+
+/// Rows of zeros.
+fn blank_rows(alloc: Global, count: usize) -> Result<Vec<[u32; 16]>, AllocError>
+    ensures long { IfOk result (λ rows. length rows.items ≡ count) }
+    ensures zeros { IfOk result (λ rows. (i x : ℕ) → i < count → slice_index (get_or rows.items i []) x ≡ 0) }
+{
+    let mut rows = Vec::with_capacity(alloc, count)?;
+    for _place in 0..count {
+        rows.push([0; 16])?;
+    }
+    Ok(rows)
+}
+
+/// How many widths are wanted.
+fn count_wanted(needed: &[Mask]) -> u64
+    requires { length needed.now ≤ 2 ^ 20 }
+    ensures { result ≡ wanted_count needed.now }
+{
+    let mut count = 0;
+    for wanted in needed {
+        count += u64::from(wanted.count_ones());
+    }
+    count
+}
+
+/// Whether something is wanted of a set whose variables below `y` are those of `set`.
+fn is_wanted(block: &Block, needed: &[Mask], set: Mask, y: u8) -> bool
+    requires few { y ≤ 16 }
+    requires needed { length needed.now ≡ length (block_masks block.now) }
+    ensures { IsFalse result → (i : ℕ) → i < length needed.now → slice_index (block_masks block.now) i % 2 ^ y ≡ set → slice_index needed.now i ≡ 0 }
+{
+    for (i, wanted) in needed.iter().enumerate() {
+        if *wanted != 0 && u32::from(block.mask(i)) % (1u32 << y) == u32::from(set) {
+            return true;
+        }
+    }
+    false
+}
+
+/// Fills the row of the table's own set.
+fn fill_row(table: &Classes<'_>, block: &Block, needed: &[Mask], rows: &mut [[u32; 16]])
+    requires needed { length needed.now ≡ length (block_masks block.now) }
+    requires rows { length rows.old ≡ length (block_masks block.now) }
+    requires members { AreMembers table.now.problem (block_masks block.now) needed.now }
+    ensures { (i : ℕ) → i < length (block_masks block.now) →
+        ((slice_index (block_masks block.now) i ≡ table.now.set) → IsRow table.now.problem table.now.set (slice_index needed.now i) (get_or rows.new i [])) ×
+        ((slice_index (block_masks block.now) i ≢ table.now.set) → get_or rows.new i [] ≡ get_or rows.old i []) }
+{
+    let set = table.set();
+    for (i, wanted) in needed.iter().enumerate() {
+        if block.mask(i) == set {
+            rows[i] = table.width_row(*wanted);
+        }
+    }
+}
+
+/// Fills the rows of the sets that agree with the table's in the variables below `y`, and adds those from `y` on. The
+/// answer is how many tables were compacted.
+fn walk(
+    alloc: Global,
+    table: &Classes<'_>,
+    y: u8,
+    block: &Block,
+    needed: &[Mask],
+    rows: &mut [[u32; 16]],
+) -> Result<u32, AllocError>
+    requires few { table.now.problem.inputs ≤ 16 }
+    requires inputs { block.now.inputs ≡ table.now.problem.inputs }
+    requires variable { y ≤ table.now.problem.inputs }
+    requires set { table.now.set < 2 ^ y }
+    requires needed { length needed.now ≡ length (block_masks block.now) }
+    requires rows { length rows.old ≡ length (block_masks block.now) }
+    requires members { AreMembers table.now.problem (block_masks block.now) needed.now }
+    requires blank { AreBlank table.now.problem (block_masks block.now) needed.now rows.old }
+    ensures rows { OnOk result (AreFilled table.now.problem (block_masks block.now) needed.now table.now.set y rows.old rows.new) }
+    ensures compactions { IfOk result (λ count. count + 1 ≤ 2 ^ (table.now.problem.inputs - y)) }
+{
+    let set = table.set();
+    if !is_wanted(block, needed, set, y) {
+        return Ok(0);
+    }
+    if y == block.inputs() {
+        fill_row(table, block, needed, rows);
+        return Ok(0);
+    }
+    let before = walk(alloc, table, y + 1, block, needed, rows)?;
+    if !is_wanted(block, needed, set + (1 << y), y + 1) {
+        return Ok(before);
+    }
+    let next = table.compact(alloc, y)?;
+    let after = walk(alloc, &next, y + 1, block, needed, rows)?;
+    Ok(before + after + 1)
+}
+
+/// The widths that the cells of a block's sets need: of each set those of the variables in `needed`, all of which are its
+/// members. The tally rises by their number. The table of the low byte is made once, and the others by a walk over the
+/// high variables that shares common beginnings.
+pub fn block_widths(
+    alloc: Global,
+    problem: &Problem,
+    block: &Block,
+    needed: &[Mask],
+    tally: &mut Tally,
+) -> Result<BlockWidths, AllocError>
+    requires inputs { block.now.inputs ≡ problem.now.inputs }
+    requires needed { length needed.now ≡ length (block_masks block.now) }
+    requires members { AreMembers problem.now (block_masks block.now) needed.now }
+    requires room { tally.old + wanted_count needed.now ≤ 2 ^ 32 }
+    ensures rows { IfOk result (λ widths. AreRows problem.now (block_masks block.now) needed.now widths.rows) }
+    ensures compactions { IfOk result (λ widths. widths.compactions ≤ 2367) }
+    ensures ok { OnOk result (tally.new ≡ tally.old + wanted_count needed.now) }
+    ensures err { OnErr result (tally.new ≡ tally.old) }
+{
+    let low = Mask::from(block.low());
+    let table = Classes::of_set(alloc, problem, low)?;
+    let mut rows = blank_rows(alloc, block.len())?;
+    let low_bits = problem.inputs().min(8);
+    let walked = walk(alloc, &table, low_bits, block, needed, &mut rows)?;
+    tally.add(count_wanted(needed));
+    Ok(BlockWidths {
+        rows,
+        compactions: low.count_ones() + walked,
+    })
+}

@@ -1,0 +1,22 @@
+//! Class tables: which subfunctions over a set of variables are equal, and the widths that follow.
+#![tactic(auto)]
+
+mod blocks;
+mod chains;
+mod classes;
+mod dense;
+mod distinct;
+mod keys;
+mod masks;
+mod numbering;
+mod pairs;
+mod scratch;
+mod start;
+mod tally;
+#[cfg(test)]
+mod tests;
+
+pub use blocks::{BlockWidths, block_widths};
+pub use classes::Classes;
+pub use scratch::Scratch;
+pub use tally::Tally;

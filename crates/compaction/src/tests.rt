@@ -1,0 +1,218 @@
+//! Worked class tables and widths.
+
+ghost use Rattle.std.specs.Prelude.{◌≡◌, ◌<◌, ◌^◌, length, IfOk};
+ghost use Rattle.subset_layers.specs.Layers.{block_masks};
+
+use crate::{BlockWidths, Classes, Scratch, Tally, block_widths};
+use order_model::{Mask, Problem};
+use std::alloc::{AllocError, Global};
+use std::process::Abort;
+use std::test::Fail;
+use subset_layers::{Block, Layer};
+
+/// The number of variables, and the truth table of each function: bit k is the value at point k.
+type Tables = (u8, &'static [u64]);
+
+static PARITY: Tables = (3, &[0x96]);
+
+static INTERLEAVED: Tables = (6, &[0xfefcfaf0eeccaa00]);
+
+static NO_TERM: Tables = (3, &[0x00]);
+
+static VARIABLE_AND_COMPLEMENT: Tables = (1, &[0x2, 0x1]);
+
+static AND_OR: Tables = (2, &[0x8, 0xe]);
+
+static ONE_OF_THREE: Tables = (3, &[0xf0]);
+
+static MULTIPLEXER: Tables = (3, &[0xca]);
+
+fn problem_of(rt: &impl Abort, alloc: Global, tables: Tables) -> Result<Problem, Fail> {
+    let (inputs, tables) = tables;
+    assert!(rt; 1 <= inputs && inputs <= 6);
+    assert!(rt; 1 <= tables.len() && tables.len() <= 16);
+    let mut problem = Problem::new(alloc, inputs, tables.len() as u8)?;
+    for (output, table) in tables.iter().enumerate() {
+        for point in 0..64u32 {
+            if (*table >> point) & 1 == 1 {
+                assert!(rt; output < problem.outputs() as usize && point < 1 << problem.inputs());
+                problem.set(output as u8, point);
+            }
+        }
+    }
+    Ok(problem)
+}
+
+/// The classes with one more variable, which isn't in the set.
+fn with<'a>(
+    rt: &impl Abort,
+    alloc: Global,
+    classes: &Classes<'a>,
+    x: u8,
+) -> Result<Classes<'a>, Fail> {
+    assert!(rt; classes.lacks(x));
+    let next = classes.compact(alloc, x)?;
+    let indexed = classes.compact_indexed(alloc, x)?;
+    assert_eq!(rt; next.set(), indexed.set());
+    assert_eq!(rt; next.numbers(), indexed.numbers());
+    Ok(next)
+}
+
+/// The width of a variable that isn't in the set.
+fn width_of(
+    rt: &impl Abort,
+    alloc: Global,
+    classes: &Classes<'_>,
+    x: u8,
+    tally: &mut Tally,
+) -> Result<u32, Fail> {
+    assert!(rt; classes.lacks(x) && tally.count() < 1000);
+    Ok(classes.width(alloc, x, tally)?)
+}
+
+#[test]
+fn classes_of_the_multiplexer(rt: HostRuntime) -> Result<(), Fail> {
+    let alloc = rt.alloc();
+    let problem = problem_of(&rt, alloc, MULTIPLEXER)?;
+    let mut tally = Tally::new();
+    let none = Classes::of_problem(alloc, &problem)?;
+    assert_eq!(rt; none.numbers(), [0, 1, 0, 1, 0, 0, 1, 1].as_slice());
+    assert_eq!(rt; width_of(&rt, alloc, &none, 0, &mut tally)?, 1);
+    let one = with(&rt, alloc, &none, 0)?;
+    assert_eq!(rt; (one.set(), one.lacks(0), one.lacks(1)), (1, false, true));
+    assert_eq!(rt; one.numbers(), [0, 0, 1, 2].as_slice());
+    assert_eq!(rt; width_of(&rt, alloc, &one, 1, &mut tally)?, 1);
+    assert_eq!(rt; width_of(&rt, alloc, &one, 2, &mut tally)?, 2);
+    assert_eq!(rt; tally.count(), 3);
+    assert_eq!(rt; with(&rt, alloc, &one, 1)?.numbers(), [0, 1].as_slice());
+    assert_eq!(rt; with(&rt, alloc, &one, 2)?.numbers(), [0, 1].as_slice());
+    assert_eq!(rt; problem.inputs(), 3);
+    let same = Classes::of_set(alloc, &problem, 0x0001)?;
+    assert_eq!(rt; same.numbers(), one.numbers());
+    Ok(())
+}
+
+/// The masks of a block.
+fn masks_of(alloc: Global, block: &Block) -> Result<Vec<Mask>, AllocError>
+    ensures { IfOk result (λ masks. masks.items ≡ block_masks block.now) }
+{
+    let mut masks = Vec::new(alloc);
+    for i in 0..block.len() {
+        masks.push(block.mask(i))?;
+    }
+    Ok(masks)
+}
+
+/// The widths of all members of a block's sets.
+fn all_widths(
+    alloc: Global,
+    problem: &Problem,
+    block: &Block,
+    tally: &mut Tally,
+) -> Result<BlockWidths, AllocError>
+    requires inputs { block.now.inputs ≡ problem.now.inputs }
+    requires room { tally.old < 2 ^ 20 }
+    ensures { IfOk result (λ widths. length widths.rows ≡ length (block_masks block.now)) }
+{
+    prove!(problem.inputs() <= 16);
+    prove!(block.len() <= 256);
+    let needed = masks_of(alloc, block)?;
+    let widths = block_widths(alloc, problem, block, &needed, tally)?;
+    Ok(widths)
+}
+
+/// Compares the widths of a block with those by each set alone.
+fn try_block(rt: &impl Abort, alloc: Global, problem: &Problem, block: &Block) -> Result<(), Fail> {
+    assert!(rt; block.inputs() == problem.inputs());
+    let mut tally = Tally::new();
+    let widths = all_widths(alloc, problem, block, &mut tally)?;
+    let mut count = 0u64;
+    for i in 0..block.len() {
+        let mask = block.mask(i);
+        let row = widths.row(i);
+        for x in 0..16u8 {
+            let mut wanted = 0;
+            if (mask >> x) & 1 == 1 {
+                let mut single = Tally::new();
+                let without = mask & !(1 << x);
+                assert!(rt; (without as u32) < 1u32 << problem.inputs());
+                let classes = Classes::of_set(alloc, problem, without)?;
+                wanted = width_of(rt, alloc, &classes, x, &mut single)?;
+                let mut scratch = Scratch::of(alloc, problem)?;
+                let mut again = Tally::new();
+                assert!(rt; classes.lacks(x));
+                assert_eq!(rt; classes.width_in(x, &mut scratch, &mut again), wanted);
+                assert_eq!(rt; (single.count(), again.count()), (1, 1));
+                assert!(rt; count < 10000);
+                count += 1;
+            }
+            assert_eq!(rt; row[x as usize], wanted, "set {mask}, variable {x}");
+        }
+    }
+    assert_eq!(rt; tally.count(), count);
+    assert!(rt; widths.compactions() <= 2367);
+    Ok(())
+}
+
+#[test]
+fn widths_of_blocks(rt: HostRuntime) -> Result<(), Fail> {
+    let alloc = rt.alloc();
+    let problem = problem_of(&rt, alloc, MULTIPLEXER)?;
+    let layer = Layer::of(alloc, 3, 2)?;
+    assert_eq!(rt; layer.blocks(), 3);
+    let block = layer.block(0);
+    assert_eq!(rt; (problem.inputs(), block.inputs()), (3, 3));
+    let mut tally = Tally::new();
+    let widths = all_widths(alloc, &problem, &block, &mut tally)?;
+    assert!(rt; 0 < block.len());
+    assert_eq!(rt; block.mask(0), 0x0003);
+    let row = widths.row(0);
+    assert_eq!(rt; (row[0], row[1], row[2]), (1, 1, 0));
+    assert_eq!(rt; tally.count(), 2);
+    for tables in [
+        PARITY,
+        INTERLEAVED,
+        NO_TERM,
+        VARIABLE_AND_COMPLEMENT,
+        AND_OR,
+        ONE_OF_THREE,
+        MULTIPLEXER,
+    ] {
+        let problem = problem_of(&rt, alloc, tables)?;
+        for size in 1..=problem.inputs() {
+            let layer = Layer::of(alloc, problem.inputs(), size)?;
+            for i in 0..layer.blocks() {
+                try_block(&rt, alloc, &problem, &layer.block(i))?;
+            }
+        }
+    }
+    Ok(())
+}
+
+/// Compares the two ways of numbering at every set.
+#[test]
+fn both_ways_of_compacting(rt: HostRuntime) -> Result<(), Fail> {
+    let alloc = rt.alloc();
+    for tables in [
+        PARITY,
+        INTERLEAVED,
+        NO_TERM,
+        VARIABLE_AND_COMPLEMENT,
+        AND_OR,
+        ONE_OF_THREE,
+        MULTIPLEXER,
+    ] {
+        let problem = problem_of(&rt, alloc, tables)?;
+        for mask in 0..64u16 {
+            if (mask as u32) < 1u32 << problem.inputs() {
+                let classes = Classes::of_set(alloc, &problem, mask)?;
+                for x in 0..problem.inputs() {
+                    if classes.lacks(x) {
+                        with(&rt, alloc, &classes, x)?;
+                    }
+                }
+            }
+        }
+    }
+    Ok(())
+}

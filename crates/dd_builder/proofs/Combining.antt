@@ -1,0 +1,125 @@
+-- Operations on ids, level by level.
+use Rattle.std.proofs.Common.{◌≡◌, ℕ, ◌+◌, ◌<◌, ◌≤◌, ⊎_elim, Bool, true, false, cond, sym, refl, ap, ◌∙◌, subst, arith}
+use Rattle.order_model.specs.Functions.{Point, Function, bit, SameFunction}
+use Rattle.node_words.specs.declared.operation.Operation.{Operation}
+use Rattle.node_words.specs.declared.words.NodeParts.{NodeParts}
+use Rattle.node_words.specs.Entries.{combine, combine_values}
+use Rattle.node_words.specs.Meaning.{branch}
+use Rattle.unique_table.specs.Plans.{levels_of, variable_at}
+use Rattle.unique_table.specs.Sessions.{StoreId, Knowledge, Follows, Knows, Means, HasParts, IsKnownBelow, function_in, depth_in}
+use Rattle.unique_table.proofs.Following.{follows_trans, known_below_follows}
+use Rattle.dd_builder.specs.Operating.{IsFrom, Settles, IsCut, IsCombined}
+use Rattle.dd_builder.proofs.Going.{means_same, function_zero, function_one, terminal_known, terminal_depth}
+
+-- ---- operands that settle an operation
+
+settled_known : (s : Knowledge) (operation : Operation) (a b id : ℕ) → Knows s a → Knows s b → Settles operation a b id → Knows s id
+settled_known s operation a b id ka kb h = ⊎_elim (λ (low : id < 2). terminal_known s id low)
+    (⊎_elim (λ (e : id ≡ a). subst (Knows s) (sym e) ka) (λ (e : id ≡ b). subst (Knows s) (sym e) kb)) h.origin
+
+settled_level : (s : Knowledge) (from : ℕ) (operation : Operation) (a b id : ℕ) → IsFrom s from a → IsFrom s from b → from ≤ levels_of s.store.plan → Settles operation a b id → from ≤ depth_in s id
+settled_level s from operation a b id fa fb most h = ⊎_elim (λ (low : id < 2). let e = terminal_depth s id low in omega arith)
+    (⊎_elim (λ (e : id ≡ a). subst (λ k. from ≤ depth_in s k) (sym e) fa.level) (λ (e : id ≡ b). subst (λ k. from ≤ depth_in s k) (sym e) fb.level)) h.origin
+
+pub settled_combined : (s : Knowledge) (from : ℕ) (operation : Operation) (a b id : ℕ) → IsFrom s from a → IsFrom s from b → from ≤ levels_of s.store.plan → Settles operation a b id → IsCombined s from operation a b id
+unfolding SameFunction combine
+settled_combined s from operation a b id fa fb most h = record {
+  means = record { known = settled_known s operation a b id fa.known fb.known h; function = λ p l. h.value (λ k. function_in s k p) (function_zero s p) (function_one s p) };
+  level = settled_level s from operation a b id fa fb most h;
+}
+
+-- ---- what stays as a session goes on
+
+pub from_follows : (s s' : Knowledge) (from id : ℕ) → Follows s s' → IsFrom s from id → IsFrom s' from id
+from_follows s s' from id f h = record { known = f.knows id h.known; level = let e = f.depths id h.known in let l = h.level in omega arith }
+
+pub branch_same : (x : ℕ) (f g f' g' : Function) (p : Point) → f p ≡ f' p → g p ≡ g' p → branch x f g p ≡ branch x f' g' p
+unfolding branch
+branch_same x f g f' g' p e e' = λ i. cond (bit p x) (e' i) (e i)
+
+pub cut_follows : (s s' : Knowledge) (level id lower upper : ℕ) → Follows s s' → IsCut s level id lower upper → IsCut s' level id lower upper
+cut_follows s s' level id lower upper f c = record {
+  known = f.knows id c.known;
+  lower_below = known_below_follows s s' level lower f c.lower_below;
+  upper_below = known_below_follows s s' level upper f c.upper_below;
+  function = λ p. f.functions id p c.known ∙ (c.function p
+      ∙ (branch_same (variable_at s.store.plan level) (function_in s lower) (function_in s upper) (function_in s' lower) (function_in s' upper) p (sym (f.functions lower p c.lower_below.0)) (sym (f.functions upper p c.upper_below.0))
+      ∙ ap (λ (z : StoreId). branch (variable_at z.plan level) (function_in s' lower) (function_in s' upper) p) (sym f.store)));
+}
+
+combine_same : (operation : Operation) (f g f' g' : Function) (p : Point) → f p ≡ f' p → g p ≡ g' p → combine operation f g p ≡ combine operation f' g' p
+unfolding combine
+combine_same operation f g f' g' p e e' = λ i. combine_values operation (e i) (e' i)
+
+pub combined_follows : (s s' : Knowledge) (from : ℕ) (operation : Operation) (a b id : ℕ) → Knows s a → Knows s b → Follows s s' → IsCombined s from operation a b id → IsCombined s' from operation a b id
+combined_follows s s' from operation a b id ka kb f c = record {
+  means = means_same s' id (combine operation (function_in s a) (function_in s b)) (combine operation (function_in s' a) (function_in s' b)) (f.means id _ c.means)
+      (λ p l. combine_same operation (function_in s a) (function_in s b) (function_in s' a) (function_in s' b) p (sym (f.functions a p ka)) (sym (f.functions b p kb)));
+  level = let e = f.depths id c.means.known in let l = c.level in omega arith;
+}
+
+-- ---- an id as a node of a level
+
+pub parts_cut : (s : Knowledge) (level id : ℕ) (parts : NodeParts) → Knows s id → HasParts s id parts → parts.level ≡ level → IsCut s level id parts.lower parts.upper
+parts_cut s level id parts known h e = record {
+  known = known;
+  lower_below = (h.lower.0, (let l = h.lower.1 in omega arith));
+  upper_below = (h.upper.0, (let l = h.upper.1 in omega arith));
+  function = λ p. h.function p ∙ ap (λ (k : ℕ). branch (variable_at s.store.plan k) (function_in s parts.lower) (function_in s parts.upper) p) e;
+}
+
+both_same : (x : ℕ) (f : Function) (p : Point) → f p ≡ branch x f f p
+unfolding branch
+both_same x f p = either (bit p x) (f p)
+  where
+    either : (b v : Bool) → v ≡ cond b v v
+    either true v = refl
+    either false v = refl
+
+pub same_cut : (s : Knowledge) (level id : ℕ) → Knows s id → level < depth_in s id → IsCut s level id id id
+same_cut s level id known less = record { known = known; lower_below = (known, less); upper_below = (known, less); function = λ p. both_same (variable_at s.store.plan level) (function_in s id) p }
+
+-- ---- the node of an operation
+
+spread : (operation : Operation) (b u v u' v' : Bool) → cond b (combine_values operation u' v') (combine_values operation u v) ≡ combine_values operation (cond b u' u) (cond b v' v)
+spread operation true u v u' v' = refl
+spread operation false u v u' v' = refl
+
+branch_combine : (operation : Operation) (x : ℕ) (f g f' g' : Function) (p : Point) → branch x (combine operation f g) (combine operation f' g') p ≡ combine operation (branch x f f') (branch x g g') p
+unfolding branch combine
+branch_combine operation x f g f' g' p = spread operation (bit p x) (f p) (g p) (f' p) (g' p)
+
+pub combined_cut : (s : Knowledge) (from level : ℕ) (operation : Operation) (a b al au bl bu lower upper id : ℕ) → IsCut s level a al au → IsCut s level b bl bu
+    → IsCombined s (level + 1) operation al bl lower → IsCombined s (level + 1) operation au bu upper
+    → Means s id (branch (variable_at s.store.plan level) (function_in s lower) (function_in s upper)) → from ≤ level → level ≤ depth_in s id → IsCombined s from operation a b id
+unfolding SameFunction
+combined_cut s from level operation a b al au bl bu lower upper id ca cb cl cu m most deep = record {
+  means = means_same s id (branch x (function_in s lower) (function_in s upper)) (combine operation (function_in s a) (function_in s b)) m
+      (λ p l. branch_same x (function_in s lower) (function_in s upper) (combine operation (function_in s al) (function_in s bl)) (combine operation (function_in s au) (function_in s bu)) p (cl.means.function p l) (cu.means.function p l)
+      ∙ (branch_combine operation x (function_in s al) (function_in s bl) (function_in s au) (function_in s bu) p
+      ∙ combine_same operation (branch x (function_in s al) (function_in s au)) (branch x (function_in s bl) (function_in s bu)) (function_in s a) (function_in s b) p (sym (ca.function p)) (sym (cb.function p))));
+  level = omega arith;
+}
+  where
+    x : ℕ
+    x = variable_at s.store.plan level
+
+-- ids below a level lie at the next one or below it
+pub below_from : (s : Knowledge) (level id : ℕ) → IsKnownBelow s level id → IsFrom s (level + 1) id
+below_from s level id h = record { known = h.0; level = (let l = h.1 in omega arith) }
+
+pub combined_below : (s : Knowledge) (level : ℕ) (operation : Operation) (a b id : ℕ) → IsCombined s (level + 1) operation a b id → IsKnownBelow s level id
+combined_below s level operation a b id h = (h.means.known, (let l = h.level in omega arith))
+
+-- the node made of an operation on both children
+pub made_combined : (store : StoreId) (s2 s3 s4 s5 : Knowledge) (from level : ℕ) (operation : Operation) (a b al au bl bu lower upper id : ℕ) → s2.store ≡ store → IsCut s2 level a al au → IsCut s2 level b bl bu
+    → Follows s2 s3 → IsCombined s3 (level + 1) operation al bl lower → Follows s3 s4 → IsCombined s4 (level + 1) operation au bu upper → Follows s4 s5
+    → Means s5 id (branch (variable_at store.plan level) (function_in s5 lower) (function_in s5 upper)) → from ≤ level → level ≤ depth_in s5 id → IsCombined s5 from operation a b id
+made_combined store s2 s3 s4 s5 from level operation a b al au bl bu lower upper id same ca cb f23 cl f34 cu f45 m most deep =
+    let f35 : Follows s3 s5 = follows_trans s3 s4 s5 f34 f45 in
+    let f24 : Follows s2 s4 = follows_trans s2 s3 s4 f23 f34 in
+    let f25 : Follows s2 s5 = follows_trans s2 s3 s5 f23 f35 in
+    combined_cut s5 from level operation a b al au bl bu lower upper id (cut_follows s2 s5 level a al au f25 ca) (cut_follows s2 s5 level b bl bu f25 cb)
+    (combined_follows s3 s5 (level + 1) operation al bl lower (f23.knows al ca.lower_below.0) (f23.knows bl cb.lower_below.0) f35 cl)
+    (combined_follows s4 s5 (level + 1) operation au bu upper (f24.knows au ca.upper_below.0) (f24.knows bu cb.upper_below.0) f45 cu)
+    (subst (λ (z : StoreId). Means s5 id (branch (variable_at z.plan level) (function_in s5 lower) (function_in s5 upper))) (sym same ∙ sym f25.store) m) most deep

@@ -1,0 +1,10 @@
+pub mod Going
+pub mod Combining
+pub mod Restricting
+pub mod Pathways
+pub mod Restricted
+pub mod Literals
+pub mod Shares
+pub mod Ends
+pub mod Unions
+pub mod Covers

@@ -1,0 +1,89 @@
+-- The point of a path, level by level.
+use Rattle.std.proofs.Common.{◌≡◌, ◌≢◌, ℕ, zero, suc, ◌+◌, ◌*◌, ◌/◌, ◌%◌, ◌^◌, ◌<◌, ◌≤◌, ◌⊎◌, max, List, length, get_or, sym, ap, ap₂, ◌∙◌, arith, subst, inl, inr, bit_and, bit_or}
+use Rattle.std.specs.Int.{bit_at}
+use Rattle.std.proofs.lemmas.Nat.{or_lt, pow_below, pow_pos, one_shl}
+use Rattle.std.proofs.lemmas.Nat.Bits.{bit_at-lt, bit_at-zero, bit_at_or, bit_at-pow_same, bit_at-pow_other, shr_and_one}
+use Rattle.order_model.specs.Orders.{IsOrder, place_in}
+use Rattle.order_model.proofs.OrderLists.{has_at, place_get}
+use Rattle.dd_builder.specs.Paths.{IsPointOf}
+
+-- a point's number has the bits of a path for the levels above one, and no others of the order
+pub record IsPointAbove (order : List ℕ) (level path point : ℕ) : Type 0 where
+  pub small : point < 2 ^ length order
+  pub bits : (i : ℕ) → i < level → i < length order → bit_at point (get_or order i 0) ≡ bit_at path i
+  pub clear : (i : ℕ) → level ≤ i → i < length order → bit_at point (get_or order i 0) ≡ 0
+
+pub point_start : (order : List ℕ) (path : ℕ) → IsPointAbove order 0 path 0
+point_start order path = record { small = pow_pos (length order); bits = λ i l inside. absurd (omega arith); clear = λ i l inside. bit_at-zero (get_or order i 0) }
+
+pub point_end : (order : List ℕ) (level path point : ℕ) → length order ≤ level → IsPointAbove order level path point → IsPointOf order path point
+point_end order level path point past h = record { small = h.small; bits = λ i l. h.bits i (omega arith) l }
+
+max_zero : (k : ℕ) → max 0 k ≡ k
+max_zero k = omega arith
+
+zero_max : (k : ℕ) → max k 0 ≡ k
+zero_max k = omega arith
+
+zero_times : (k : ℕ) → 0 * k ≡ 0
+zero_times k = omega arith
+
+one_times : (k : ℕ) → 1 * k ≡ k
+one_times k = omega arith
+
+-- a bit at its place
+shifted : (b x : ℕ) → b < 2 → x < 32 → b * 2 ^ x % 4294967296 ≡ b * 2 ^ x
+shifted zero x h l = (λ i. zero_times (2 ^ x) i % 4294967296) ∙ sym (zero_times (2 ^ x))
+shifted (suc zero) x h l = one_shl x 32 l ∙ omega arith
+shifted (suc (suc b)) x h l = absurd (omega arith)
+
+bit_there : (b x : ℕ) → b < 2 → bit_at (b * 2 ^ x) x ≡ b
+bit_there zero x h = ap (λ k. bit_at k x) (zero_times (2 ^ x)) ∙ bit_at-zero x
+bit_there (suc zero) x h = ap (λ k. bit_at k x) (one_times (2 ^ x)) ∙ bit_at-pow_same x
+bit_there (suc (suc b)) x h = absurd (omega arith)
+
+bit_elsewhere : (b x y : ℕ) → b < 2 → y ≢ x → bit_at (b * 2 ^ x) y ≡ 0
+bit_elsewhere zero x y h ne = ap (λ k. bit_at k y) (zero_times (2 ^ x)) ∙ bit_at-zero y
+bit_elsewhere (suc zero) x y h ne = ap (λ k. bit_at k y) (one_times (2 ^ x)) ∙ bit_at-pow_other x y ne
+bit_elsewhere (suc (suc b)) x y h ne = absurd (omega arith)
+
+bit_small : (b x n : ℕ) → b < 2 → x < n → b * 2 ^ x < 2 ^ n
+bit_small zero x n h l = (let e = zero_times (2 ^ x) in let p = pow_pos n in omega arith)
+bit_small (suc zero) x n h l = (let p = pow_below x n l in omega arith)
+bit_small (suc (suc b)) x n h l = absurd (omega arith)
+
+module _ (order : List ℕ) (is : IsOrder (length order) order) where
+  pub variable_below : (i : ℕ) → i < length order → get_or order i 0 < length order
+  variable_below i l = (is.all (get_or order i 0)).0 (has_at order i l)
+
+  other_place : (i level : ℕ) → i < length order → level < length order → i ≢ level → get_or order i 0 ≢ get_or order level 0
+  other_place i level a b ne e = ne (sym (place_get order i is.once a) ∙ (ap (place_in order) e ∙ place_get order level is.once b))
+
+  pub point_more : (level path point x now : ℕ) → length order ≤ 16 → level < length order → x ≡ get_or order level 0 → IsPointAbove order level path point
+      → now ≡ bit_or point (bit_and (path / 2 ^ level) 1 * 2 ^ x % 4294967296) → IsPointAbove order (level + 1) path now
+  point_more level path point x now few inside at h e =
+      let b : ℕ = bit_at path level in
+      let b2 = bit_at-lt path level in
+      let low = variable_below level inside in
+      let added : now ≡ bit_or point (b * 2 ^ x) = e ∙ (ap (λ k. bit_or point (k * 2 ^ x % 4294967296)) (shr_and_one path level) ∙ ap (bit_or point) (shifted b x b2 (omega arith))) in
+      record {
+        small = subst (λ k. k < 2 ^ length order) (sym added) (or_lt (length order) point (b * 2 ^ x) h.small (bit_small b x (length order) b2 (omega arith)));
+        bits = λ i l in_order. by_cases i l in_order (same i level) added b2;
+        clear = λ i l in_order. ap (λ k. bit_at k (get_or order i 0)) added ∙ (bit_at_or point (b * 2 ^ x) (get_or order i 0)
+            ∙ (let z = bit_elsewhere b x (get_or order i 0) b2 (λ s. other_place i level in_order inside (λ q. omega arith) (s ∙ at)) in let c = h.clear i (omega arith) in_order in omega arith));
+      }
+    where
+      same : (i j : ℕ) → (i ≡ j) ⊎ (i ≢ j)
+      same i j = grind arith
+
+      by_cases : (i : ℕ) → i < level + 1 → i < length order → (i ≡ level) ⊎ (i ≢ level) → now ≡ bit_or point (bit_at path level * 2 ^ x) → bit_at path level < 2 → bit_at now (get_or order i 0) ≡ bit_at path i
+      by_cases i l in_order t added b2 = elim t [
+        | inl s ↦
+            let z = bit_there (bit_at path level) x b2 in let c = h.clear level (omega arith) inside in
+            let there : get_or order i 0 ≡ x = ap (λ k. get_or order k 0) s ∙ sym at in
+            let c' : bit_at point x ≡ 0 = ap (bit_at point) at ∙ c in
+            ap (bit_at now) there ∙ (ap (λ k. bit_at k x) added ∙ (bit_at_or point (bit_at path level * 2 ^ x) x ∙ (ap₂ max c' z ∙ (max_zero (bit_at path level) ∙ ap (bit_at path) (sym s)))))
+        | inr ne ↦
+            let z = bit_elsewhere (bit_at path level) x (get_or order i 0) b2 (λ q. other_place i level in_order inside ne (q ∙ at)) in let c = h.bits i (omega arith) in_order in
+            ap (λ k. bit_at k (get_or order i 0)) added ∙ (bit_at_or point (bit_at path level * 2 ^ x) (get_or order i 0) ∙ (ap₂ max c z ∙ zero_max (bit_at path i)))
+      ]

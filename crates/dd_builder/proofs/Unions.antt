@@ -1,0 +1,165 @@
+-- An output as the union of its parts by terms.
+use Rattle.std.proofs.Common.{◌≡◌, ◌≢◌, ℕ, zero, suc, ◌+◌, ◌-◌, ◌*◌, ◌/◌, ◌%◌, ◌<◌, ◌≤◌, inl, inr, Bool, true, false, ◌&&◌, ◌||◌, cond, List, [], ◌∷◌, ◌++◌, length, take, get_or, refl, sym, ap, ◌∙◌, arith, zero-add, le-ltb, if◌then◌else◌, eqb, eq-eqb, ne_eqb}
+use Rattle.std.specs.List.{list_any, range_with_len}
+use Rattle.std.proofs.lemmas.List.{take_more, take_all, length-take}
+use Rattle.std.proofs.lemmas.List.Folds.{list_any-append}
+use Rattle.std.proofs.lemmas.Bool.{cases_eq}
+use Rattle.order_model.specs.Functions.{Point, Function, SameFunction}
+use Rattle.order_model.specs.Problems.{TruthTables, outputs_of}
+use Rattle.order_model.specs.Products.{Product, product_function, matches, has_output}
+use Rattle.node_words.specs.declared.operation.Operation.TheVariants.{Or}
+use Rattle.node_words.specs.Entries.{combine}
+use Rattle.unique_table.specs.declared.view.Plan.{Plan}
+use Rattle.unique_table.specs.declared.terms.PieceKind.{PieceKind}
+use Rattle.unique_table.specs.declared.terms.PieceKind.TheVariants.{Restrictions, Products}
+use Rattle.unique_table.specs.Plans.{order_of, levels_of, output_at, share, products_of, part_function, piece_function, AreTermsOf, IsPlan, parts_count}
+use Rattle.unique_table.specs.Sessions.{Knowledge, Follows, Means, function_in}
+use Rattle.dd_builder.specs.Parts.{AreOfTerms}
+use Rattle.dd_builder.proofs.Going.{means_same, means_at}
+use Rattle.dd_builder.proofs.Restricted.{part_piece, constant_means}
+use Rattle.dd_builder.proofs.Shares.{share_last, terms_part, none}
+
+-- 1 where one of an output's first k parts is
+unfoldable pub parts_below : Plan → ℕ → ℕ → Function
+parts_below b output k p = list_any (λ share. piece_function b (output * 64 + share) p) (range_with_len 0 k)
+
+or_false : (c : Bool) → (c || false) ≡ c
+or_false true = refl
+or_false false = refl
+
+-- a range with one number more
+range_more : (a n : ℕ) → range_with_len a (n + 1) ≡ range_with_len a n ++ (a + n) ∷ []
+range_more a zero = ap (λ k. k ∷ []) here
+  where
+    here : a ≡ a + 0
+    here = omega arith
+range_more a (suc n) = ap (λ k. range_with_len a k) next ∙ ap (λ xs. a ∷ xs) (range_more (a + 1) n ∙ ap (λ k. range_with_len (a + 1) n ++ k ∷ []) place)
+  where
+    next : suc n + 1 ≡ suc (n + 1)
+    next = omega arith
+
+    place : a + 1 + n ≡ a + suc n
+    place = omega arith
+
+pub parts_none : (s : Knowledge) (b : Plan) (output : ℕ) → Means s 0 (parts_below b output 0)
+unfolding parts_below
+parts_none s b output = constant_means s false (parts_below b output 0) (λ p l. refl)
+
+-- with one part more
+pub parts_more : (s s' : Knowledge) (b : Plan) (output k id part made : ℕ) → Means s part (piece_function b (output * 64 + k)) → Means s id (parts_below b output k) → Follows s s'
+    → Means s' made (combine Or (function_in s' id) (function_in s' part)) → Means s' made (parts_below b output (k + 1))
+unfolding parts_below combine
+parts_more s s' b output k id part made mp mi f m =
+    let test : (p : Point) → ℕ → Bool = λ p share. piece_function b (output * 64 + share) p in
+    means_same s' made (combine Or (function_in s' id) (function_in s' part)) (parts_below b output (k + 1)) m
+    (λ p l. (λ i. means_at s' id _ p (f.means id _ mi) l i || means_at s' part _ p (f.means part _ mp) l i)
+    ∙ (ap (λ c. list_any (test p) (range_with_len 0 k) || c) (sym (or_false (test p k)))
+    ∙ (sym (list_any-append (test p) (range_with_len 0 k) (k ∷ [])) ∙ ap (λ j. list_any (test p) (range_with_len 0 k ++ j ∷ [])) (sym (zero-add k)) ∙ ap (list_any (test p)) (sym (range_more 0 k)))))
+
+-- ---- all products
+
+any_none : (A : ℕ → Bool) (c : ℕ) (t : Bool) (len a : ℕ) → ((x : ℕ) → a ≤ x → x < a + len → c ≢ x) → list_any (λ b. A b || cond (eqb c b) t false) (range_with_len a len) ≡ list_any A (range_with_len a len)
+any_none A c t zero a h = refl
+any_none A c t (suc len) a h =
+    let here : (A a || cond (eqb c a) t false) ≡ A a = ap (λ e. A a || cond e t false) (ne_eqb c a (h a (omega arith) (omega arith))) ∙ or_false (A a) in
+    let rest = any_none A c t len (a + 1) (λ x l u. h x (omega arith) (omega arith)) in
+    λ i. here i || rest i
+
+or_swap : (x y t : Bool) → ((x || t) || y) ≡ ((x || y) || t)
+or_swap true y t = refl
+or_swap false true true = refl
+or_swap false true false = refl
+or_swap false false true = refl
+or_swap false false false = refl
+
+or_assoc : (x y t : Bool) → (x || (y || t)) ≡ ((x || y) || t)
+or_assoc true y t = refl
+or_assoc false y t = refl
+
+-- a test that one number meets besides
+any_one : (A : ℕ → Bool) (c : ℕ) (t : Bool) (len a : ℕ) → a ≤ c → c < a + len → list_any (λ b. A b || cond (eqb c b) t false) (range_with_len a len) ≡ (list_any A (range_with_len a len) || t)
+any_one A c t zero a l u = absurd (omega arith)
+any_one A c t (suc len) a l u = elim (cases_eq c a) [
+  | inl e ↦
+      let here : (A a || cond (eqb c a) t false) ≡ (A a || t) = ap (λ k. A a || cond k t false) (eq-eqb c a e) in
+      let rest = any_none A c t len (a + 1) (λ x low up q. omega arith) in
+      (λ i. here i || rest i) ∙ or_swap (A a) (list_any A (range_with_len (a + 1) len)) t
+  | inr ne ↦
+      let here : (A a || cond (eqb c a) t false) ≡ A a = ap (λ k. A a || cond k t false) (ne_eqb c a ne) ∙ or_false (A a) in
+      let rest = any_one A c t len (a + 1) (omega arith) (omega arith) in
+      (λ i. here i || rest i) ∙ or_assoc (A a) (list_any A (range_with_len (a + 1) len)) t
+]
+
+any_same : (A B : ℕ → Bool) (len a : ℕ) → ((x : ℕ) → a ≤ x → x < a + len → A x ≡ B x) → list_any A (range_with_len a len) ≡ list_any B (range_with_len a len)
+any_same A B zero a h = refl
+any_same A B (suc len) a h =
+    let here = h a (omega arith) (omega arith) in
+    let rest = any_same A B len (a + 1) (λ x l u. h x (omega arith) (omega arith)) in
+    λ i. here i || rest i
+
+module _ (output : ℕ) (p : Point) where
+  test : Product → Bool
+  test product = matches product p && has_output product output
+
+  single : (c : Bool) (x : Product) → list_any test (cond c (x ∷ []) []) ≡ cond c (test x) false
+  single true x = or_false (test x)
+  single false x = refl
+
+  -- the products of all remainders are all products
+  all_shares : (xs : List Product) (i : ℕ) → i ≤ length xs → list_any (λ b. product_function (share b (take i xs)) output p) (range_with_len 0 64) ≡ product_function (take i xs) output p
+  unfolding product_function test share
+  all_shares xs zero l = refl
+  all_shares xs (suc i) l =
+      let x : Product = get_or xs i none in
+      let more : take (suc i) xs ≡ take i xs ++ x ∷ [] = ap (λ k. take k xs) next ∙ take_more xs i none (omega arith) in
+      let size : length (take i xs) ≡ i = length-take i xs ∙ omega arith in
+      any_same (λ b. product_function (share b (take (suc i) xs)) output p) (λ b. product_function (share b (take i xs)) output p || cond (eqb (i % 64) b) (test x) false) 64 0
+      (λ b low up. ap (λ ys. list_any test (share b ys)) more ∙ (ap (list_any test) (share_last b (take i xs) x) ∙ (list_any-append test (share b (take i xs)) (cond (eqb (length (take i xs) % 64) b) (x ∷ []) [])
+      ∙ (ap (λ c. list_any test (share b (take i xs)) || c) (single (eqb (length (take i xs) % 64) b) x) ∙ ap (λ k. list_any test (share b (take i xs)) || cond (eqb (k % 64) b) (test x) false) size))))
+      ∙ (any_one (λ b. product_function (share b (take i xs)) output p) (i % 64) (test x) 64 0 (omega arith) (omega arith)
+      ∙ (ap (λ c. c || test x) (all_shares xs i (omega arith))
+      ∙ (ap (λ c. list_any test (take i xs) || c) (sym (or_false (test x))) ∙ (sym (list_any-append test (take i xs) (x ∷ [])) ∙ ap (list_any test) (sym more)))))
+    where
+      next : suc i ≡ i + 1
+      next = omega arith
+
+  -- the parts of an output by terms are the output
+  parts_output : (kind : PieceKind) (order : List ℕ) (t : TruthTables) → AreOfTerms kind → AreTermsOf kind t → output < outputs_of t → length p ≡ t.inputs
+      → list_any (λ share. part_function kind order t (output * 64 + share) p) (range_with_len 0 64) ≡ output_at t output p
+  unfolding SameFunction
+  parts_output Restrictions order t some are low l = absurd some
+  parts_output (Products own) order t some are low l =
+      let ps : List Product = products_of t own.value in
+      any_same (λ k. part_function (Products own) order t (output * 64 + k) p) (λ b. product_function (share b ps) output p) 64 0
+      (λ k a u. ap (λ f. f p) (terms_part (Products own) order t own.value (output * 64 + k) refl) ∙ (λ i. product_function (share (rest k a u i) ps) (quotient k a u i) p))
+      ∙ (ap (λ xs. list_any (λ b. product_function (share b xs) output p) (range_with_len 0 64)) (sym (take_all (length ps) ps (omega arith)))
+      ∙ (all_shares ps (length ps) (omega arith) ∙ (ap (λ xs. product_function xs output p) (take_all (length ps) ps (omega arith)) ∙ are output low p l)))
+    where
+      rest : (k : ℕ) → 0 ≤ k → k < 0 + 64 → (output * 64 + k) % 64 ≡ k
+      rest k a u = omega arith
+
+      quotient : (k : ℕ) → 0 ≤ k → k < 0 + 64 → (output * 64 + k) / 64 ≡ output
+      quotient k a u = omega arith
+
+terms_count : (kind : PieceKind) (order : List ℕ) (t : TruthTables) → AreOfTerms kind → parts_count kind order t ≡ outputs_of t * 64
+terms_count Restrictions order t some = absurd some
+terms_count (Products own) order t some = refl
+
+-- the function of all parts by terms is the output
+pub parts_all : (s : Knowledge) (b : Plan) (output id k : ℕ) → IsPlan b → AreOfTerms b.kind → output < outputs_of b.problem.value → levels_of s.store.plan ≡ levels_of b → k ≡ 64 → Means s id (parts_below b output k) → Means s id (output_at b.problem.value output)
+unfolding parts_below
+parts_all s b output id k plan some low same all m =
+    means_same s id (parts_below b output k) (output_at b.problem.value output) m (λ p l.
+    ap (λ n. list_any (λ share. piece_function b (output * 64 + share) p) (range_with_len 0 n)) all
+    ∙ (any_same (λ share. piece_function b (output * 64 + share) p) (λ share. part_function b.kind (order_of b) b.problem.value (output * 64 + share) p) 64 0
+    (λ j a u. ap (λ f. f p) (part_piece b (output * 64 + j) (let e = plan.roots in let c = terms_count b.kind (order_of b) b.problem.value some in omega arith)))
+    ∙ parts_output output p b.kind (order_of b) b.problem.value some plan.terms low (l ∙ (same ∙ sym plan.inputs))))
+
+-- an output is the piece behind the parts
+pub root_piece : (b : Plan) (j q : ℕ) → q ≡ b.roots + j → piece_function b q ≡ output_at b.problem.value j
+unfolding piece_function
+root_piece b j q e =
+    ap (λ (c : Bool). if c then part_function b.kind (order_of b) b.problem.value q else output_at b.problem.value (q - b.roots)) (le-ltb q b.roots (omega arith)) ∙ ap (output_at b.problem.value) there
+  where
+    there : q - b.roots ≡ j
+    there = omega arith

@@ -1,0 +1,9 @@
+use Rattle.std.proofs.Common.{◌≡◌, ℕ, ◌-◌, ◌%◌, ◌<◌}
+use Rattle.dd_builder.specs.Parts.{HasPart}
+use Rattle.dd_builder.proofs.workers.build_parts.Given as goal
+
+abbrev pub invariant-loop-piece : goal.invariant-loop-piece
+invariant-loop-piece g l = record {
+  store : l.session.store ≡ l.store;
+  built : (q : ℕ) → q < l.piece → q % l.workers ≡ l.worker - 1 → HasPart l.session q;
+}

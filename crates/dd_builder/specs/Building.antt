@@ -1,0 +1,68 @@
+-- Building the reduced diagram of some functions.
+--     KnowsFull s      a session knows all places of its store to be filled
+--     Refuses store e, RefusesUnder order e      why a build gives no diagram: in a store, or in some store of an order
+--     functions_of cover, AreTablesOf cover t      the functions of a cover, and their truth tables
+--     IsForTables b t, IsForCover b cover      what a store was made for
+--     HasLevelCounts n F order d      a diagram has the level counts of the functions
+use Rattle.std.specs.Prelude.{◌≡◌, ◌≢◌, ℕ, ◌<◌, List, map, length, slice_index}
+use Rattle.order_model.specs.Functions.{Function, table}
+use Rattle.order_model.specs.Levels.{level_count}
+use Rattle.order_model.specs.Diagrams.{Graph, nodes_at}
+use Rattle.order_model.specs.Problems.{TruthTables, outputs_of}
+use Rattle.order_model.specs.Products.{product_of, product_functions}
+use Rattle.pla_reader.specs.Covers.{NamedCover}
+use Rattle.unique_table.specs.declared.view.Plan.{Plan}
+use Rattle.unique_table.specs.declared.terms.PieceKind.{PieceKind}
+use Rattle.unique_table.specs.declared.terms.PieceKind.TheVariants.{Restrictions, Products}
+use Rattle.unique_table.specs.Plans.{IsPlan, order_of}
+use Rattle.unique_table.specs.Sessions.{StoreId, Knowledge}
+use Rattle.dd_builder.specs.declared.errors.BuildError.{BuildError}
+use Rattle.dd_builder.specs.declared.errors.BuildError.TheVariants.{StoreFull, OutOfMemory}
+
+-- the session knows all places of its store to be filled
+abbrev pub KnowsFull : Knowledge → Type 0
+KnowsFull s = (p : ℕ) → p < s.store.plan.places → slice_index s.seen p ≢ 0
+
+-- why nothing was built in a store: a session of it knows all places to be filled, or memory was wanting
+abbrev pub Refuses : StoreId → BuildError → Type 0
+Refuses store (StoreFull s) = (s.store ≡ store) × KnowsFull s
+Refuses store OutOfMemory = Unit {0}
+
+-- the same of some store of the order
+abbrev pub RefusesUnder : List ℕ → BuildError → Type 0
+RefusesUnder order (StoreFull s) = IsPlan s.store.plan × (order_of s.store.plan ≡ order) × KnowsFull s
+RefusesUnder order OutOfMemory = Unit {0}
+
+-- the functions of a cover (espresso(5), logical type f)
+abbrev pub functions_of : NamedCover → List Function
+functions_of cover = product_functions cover.outputs cover.products
+
+-- the truth tables of a cover's functions
+pub record AreTablesOf (cover : NamedCover) (t : TruthTables) : Type 0 where
+  pub inputs : t.inputs ≡ cover.inputs
+  pub tables : t.tables ≡ map (table cover.inputs) (functions_of cover)
+
+-- the parts are restrictions of the outputs
+abbrev pub AreRestrictions : PieceKind → Type 0
+AreRestrictions Restrictions = Unit {0}
+AreRestrictions (Products terms) = ⊥
+
+-- the parts are made of terms that stand for the cover's products
+abbrev pub AreProductsOf : NamedCover → PieceKind → Type 0
+AreProductsOf cover Restrictions = ⊥
+AreProductsOf cover (Products terms) = map (product_of cover.inputs cover.outputs) terms.value ≡ cover.products
+
+-- the store was made for these truth tables, with restrictions as its parts
+pub record IsForTables (b : Plan) (t : TruthTables) : Type 0 where
+  pub kind : AreRestrictions b.kind
+  pub problem : b.problem.value ≡ t
+
+-- the store was made for a problem of the cover's numbers, with parts of the cover's terms
+pub record IsForCover (b : Plan) (cover : NamedCover) : Type 0 where
+  pub kind : AreProductsOf cover b.kind
+  pub inputs : b.problem.value.inputs ≡ cover.inputs
+  pub outputs : outputs_of b.problem.value ≡ cover.outputs
+
+-- on each level the diagram has as many nodes as the functions' level count
+abbrev pub HasLevelCounts : ℕ → List Function → List ℕ → Graph → Type 0
+HasLevelCounts n F order d = (i : ℕ) → i < length order → nodes_at d (slice_index order i) ≡ level_count n F order i

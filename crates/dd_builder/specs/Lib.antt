@@ -1,0 +1,5 @@
+pub mod Building
+pub mod Parts
+pub mod Operating
+pub mod Paths
+pub mod Literals

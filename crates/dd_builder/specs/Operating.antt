@@ -1,0 +1,34 @@
+-- Operations on functions, level by level.
+--     IsFrom s from id      a known id that lies at a level or below it
+--     Settles operation a b id      an operand or a terminal that has the operation's value whatever the functions of the operands are
+--     IsCut s level id lower upper      an id as a node of a level, with two children below
+--     IsCombined s from operation a b id      the id of an operation, which lies at a level or below it
+use Rattle.std.specs.Prelude.{◌≡◌, ℕ, ◌<◌, ◌≤◌, ◌⊎◌, Bool, true, false}
+use Rattle.order_model.specs.Functions.{Point}
+use Rattle.node_words.specs.declared.operation.Operation.{Operation}
+use Rattle.node_words.specs.Entries.{combine, combine_values}
+use Rattle.node_words.specs.Meaning.{branch}
+use Rattle.unique_table.specs.Plans.{variable_at}
+use Rattle.unique_table.specs.Sessions.{Knowledge, Knows, Means, IsKnownBelow, function_in, depth_in}
+
+-- a known id that lies at a level or below it
+pub record IsFrom (s : Knowledge) (from id : ℕ) : Type 0 where
+  pub known : Knows s id
+  pub level : from ≤ depth_in s id
+
+-- an operand or a terminal that has the operation's value, whatever values the ids that are no terminals have
+pub record Settles (operation : Operation) (a b id : ℕ) : Type 0 where
+  pub value : (v : ℕ → Bool) → v 0 ≡ false → v 1 ≡ true → v id ≡ combine_values operation (v a) (v b)
+  pub origin : (id < 2) ⊎ ((id ≡ a) ⊎ (id ≡ b))
+
+-- an id as a node of a level: where the level's variable is 1 it has the upper one's function, else the lower one's
+pub record IsCut (s : Knowledge) (level id lower upper : ℕ) : Type 0 where
+  pub known : Knows s id
+  pub lower_below : IsKnownBelow s level lower
+  pub upper_below : IsKnownBelow s level upper
+  pub function : (p : Point) → function_in s id p ≡ branch (variable_at s.store.plan level) (function_in s lower) (function_in s upper) p
+
+-- the id of an operation on two ids, which lies at a level or below it
+pub record IsCombined (s : Knowledge) (from : ℕ) (operation : Operation) (a b id : ℕ) : Type 0 where
+  pub means : Means s id (combine operation (function_in s a) (function_in s b))
+  pub level : from ≤ depth_in s id

@@ -1,0 +1,84 @@
+-- The parts of a store's functions: its pieces that aren't outputs.
+--     IsForTerms b terms, IsSourceFor b source      parts that are made of terms, and of a source
+--     HasPart s q, HasAllParts s, HasRoots s      the parts and the outputs whose ids a session knows
+--     AreJobsOf store workers jobs      a job for each worker
+--     HasShare s workers k, IsEndOf store workers k end, AreEndsOf store workers ends      what a worker builds, and how workers end
+--     IsJoined store end      how all workers together end
+use Rattle.std.specs.Prelude.{◌≡◌, ◌≢◌, ℕ, ◌+◌, ◌%◌, ◌<◌, ◌≤◌, Some, Result, Ok, Err, List, length, slice_index, slice_get}
+use Rattle.order_model.specs.declared.terms.Term.{Term}
+use Rattle.order_model.specs.Problems.{TruthTables, outputs_of}
+use Rattle.unique_table.specs.declared.view.Plan.{Plan}
+use Rattle.unique_table.specs.declared.terms.PieceKind.{PieceKind}
+use Rattle.unique_table.specs.declared.terms.PieceKind.TheVariants.{Restrictions, Products}
+use Rattle.unique_table.specs.Plans.{order_of, products_of, tops}
+use Rattle.unique_table.specs.Sessions.{StoreId, Knowledge, HasPiece, Knows, depth_in}
+use Rattle.dd_builder.specs.declared.parts.Source.{Source}
+use Rattle.dd_builder.specs.declared.parts.Source.TheVariants.{Tables, Terms}
+use Rattle.dd_builder.specs.declared.workers.Job.{Job}
+use Rattle.dd_builder.specs.Building.{KnowsFull, IsForTables}
+
+-- the parts are made of terms
+abbrev pub AreOfTerms : PieceKind → Type 0
+AreOfTerms Restrictions = ⊥
+AreOfTerms (Products terms) = Unit {0}
+
+-- the parts are made of terms that stand for the same products
+abbrev pub AreTermsOfKind : TruthTables → List Term → PieceKind → Type 0
+AreTermsOfKind t terms Restrictions = ⊥
+AreTermsOfKind t terms (Products own) = products_of t terms ≡ products_of t own.value
+
+-- the store was made with parts of such terms
+abbrev pub IsForTerms : Plan → List Term → Type 0
+IsForTerms b terms = AreTermsOfKind b.problem.value terms b.kind
+
+-- the store was made with parts of the source
+abbrev pub IsSourceFor : Plan → Source → Type 0
+IsSourceFor b (Tables tables) = IsForTables b tables.now
+IsSourceFor b (Terms terms) = IsForTerms b terms.now
+
+-- the level from which the nodes of parts stand: below the variables that are fixed
+abbrev pub first_level : PieceKind → List ℕ → ℕ
+first_level Restrictions order = length (tops order)
+first_level (Products terms) order = 0
+
+abbrev pub part_level : Plan → ℕ
+part_level b = first_level b.kind (order_of b)
+
+-- the session knows the id of a part, which stands at its level or below it
+pub record HasPart (s : Knowledge) (q : ℕ) : Type 0 where
+  pub id : ℕ
+  pub piece : HasPiece s q id
+  pub known : Knows s id
+  pub level : part_level s.store.plan ≤ depth_in s id
+
+-- the session knows all parts
+abbrev pub HasAllParts : Knowledge → Type 0
+HasAllParts s = (q : ℕ) → q < s.store.plan.roots → HasPart s q
+
+-- the session knows the ids of all outputs
+abbrev pub HasRoots : Knowledge → Type 0
+HasRoots s = (j : ℕ) → j < outputs_of s.store.plan.problem.value → slice_index s.pieces (s.store.plan.roots + j) ≢ 0
+
+-- a job for each worker, in their order, each with a session of the store
+pub record AreJobsOf (store : StoreId) (workers : ℕ) (jobs : List Job) : Type 0 where
+  pub count : length jobs ≡ workers
+  pub sessions : (k : ℕ) (job : Job) → slice_get jobs k ≡ Some job → job.session.store ≡ store
+  pub numbers : (k : ℕ) (job : Job) → slice_get jobs k ≡ Some job → job.worker ≡ k + 1
+
+-- the session knows the parts whose number leaves k when divided by the number of workers
+abbrev pub HasShare : Knowledge → ℕ → ℕ → Type 0
+HasShare s workers k = (q : ℕ) → q < s.store.plan.roots → q % workers ≡ k → HasPart s q
+
+-- how worker k + 1 ends: with its share of the parts, or knowing that the store is full
+abbrev pub IsEndOf : StoreId → ℕ → ℕ → Result Knowledge Knowledge → Type 0
+IsEndOf store workers k (Ok s) = (s.store ≡ store) × HasShare s workers k
+IsEndOf store workers k (Err s) = (s.store ≡ store) × KnowsFull s
+
+-- each worker's end, in their order
+abbrev pub AreEndsOf : StoreId → ℕ → List (Result Knowledge Knowledge) → Type 0
+AreEndsOf store workers ends = (k : ℕ) (end : Result Knowledge Knowledge) → slice_get ends k ≡ Some end → IsEndOf store workers k end
+
+-- how all workers together end: with all parts, or one of them knowing that the store is full
+abbrev pub IsJoined : StoreId → Result Knowledge Knowledge → Type 0
+IsJoined store (Ok s) = (s.store ≡ store) × HasAllParts s
+IsJoined store (Err s) = (s.store ≡ store) × KnowsFull s

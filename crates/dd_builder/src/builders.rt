@@ -1,0 +1,282 @@
+// Reduced diagrams, built by several workers.
+ghost use Rattle.std.specs.Prelude.{◌≡◌, ◌-◌, ◌≤◌, length, IfOk, IfErr};
+ghost use Rattle.std.specs.Thread.{IsSync};
+ghost use Rattle.order_model.specs.Diagrams.{Represents, IsReduced};
+ghost use Rattle.order_model.specs.Problems.{functions};
+ghost use Rattle.unique_table.specs.Plans.{order_of, levels_of};
+ghost use Rattle.dd_builder.specs.Building.{Refuses, RefusesUnder, AreTablesOf, HasLevelCounts, IsForTables, IsForCover, functions_of};
+ghost use Rattle.dd_builder.specs.Parts.{IsSourceFor, HasAllParts, IsEndOf};
+
+use crate::errors::BuildError;
+use crate::parts::Source;
+use crate::roots::publish_roots;
+use crate::workers::{Job, build_parts, jobs, joined};
+use order_model::laws::{some_diagram_has_the_level_counts, truth_tables_keep_functions};
+use order_model::{Diagram, Gate, Order, Workers};
+use pla_reader::Cover;
+use std::alloc::{AllocError, Global};
+use std::thread;
+use std::thread::Threads;
+use truth_table::Tables;
+use unique_table::{CloseFault, Pieces, Session, Store};
+
+// Makes and publishes the outputs, and closes the store.
+fn finish(
+    alloc: Global,
+    store: Store,
+    mut session: Session,
+    source: Source<'_>,
+) -> Result<Diagram, BuildError>
+    requires session { session.store ≡ store }
+    requires source { IsSourceFor store.plan source }
+    requires parts { HasAllParts session }
+    ensures order { IfOk result (λ d. d.order ≡ order_of store.plan) }
+    ensures diagram { IfOk result (λ d. Represents (levels_of store.plan) (functions store.plan.problem.value) (order_of store.plan) d.graph) }
+    ensures reduced { IfOk result (λ d. IsReduced d.graph) }
+    ensures refused { IfErr result (Refuses store) }
+{
+    let Ok(()) = publish_roots(&store, &mut session, source) else {
+        return Err(BuildError::StoreFull(session));
+    };
+    match store.close(alloc, session) {
+        Ok(diagram) => Ok(diagram),
+        Err(CloseFault::OutOfMemory) => Err(BuildError::OutOfMemory),
+        Err(CloseFault::MissingRoot(_)) => unreachable!(),
+    }
+}
+
+// Builds all parts, by workers of their own threads: a session that knows them, or that of a worker that met a full store.
+fn parts_by_workers<R: Threads + Sync, G: Gate>(
+    rt: &R,
+    alloc: Global,
+    store: &Store,
+    session: Session,
+    source: Source<'_>,
+    workers: Workers,
+    gate: &G,
+) -> Result<Session, BuildError>
+    requires session { session.store ≡ store.now }
+    requires source { IsSourceFor store.now.plan source }
+    ensures parts { IfOk result (λ s. (s.store ≡ store.now) × HasAllParts s) }
+    ensures refused { IfErr result (Refuses store.now) }
+{
+    let count = workers.count();
+    let Ok(jobs) = jobs(alloc, store, session, count) else {
+        return Err(BuildError::OutOfMemory);
+    };
+    let Ok(ended) = thread::map_vec(
+        rt,
+        jobs,
+        &|job: Job| -> Result<Session, Session>
+            requires { IsSync G.row × (job.session.store ≡ store.now) × IsSourceFor store.now.plan source × (1 ≤ job.worker) × (job.worker ≤ count) }
+            ensures { IsEndOf store.entry.now count (job.worker - 1) result }
+        {
+            let Job { worker, session } = job;
+            build_parts(store, session, worker, count, source, gate)
+        },
+    ) else {
+        return Err(BuildError::OutOfMemory);
+    };
+    match joined(store, count, ended) {
+        Ok(session) => Ok(session),
+        Err(full) => Err(BuildError::StoreFull(full)),
+    }
+}
+
+// The reduced diagram of the store's functions, whose parts are built by workers.
+fn build_in<R: Threads + Sync, G: Gate>(
+    rt: &R,
+    alloc: Global,
+    store: Store,
+    session: Session,
+    source: Source<'_>,
+    workers: Workers,
+    gate: &G,
+) -> Result<Diagram, BuildError>
+    requires session { session.store ≡ store }
+    requires source { IsSourceFor store.plan source }
+    ensures order { IfOk result (λ d. d.order ≡ order_of store.plan) }
+    ensures diagram { IfOk result (λ d. Represents (levels_of store.plan) (functions store.plan.problem.value) (order_of store.plan) d.graph) }
+    ensures reduced { IfOk result (λ d. IsReduced d.graph) }
+    ensures refused { IfErr result (Refuses store) }
+{
+    let session = parts_by_workers(rt, alloc, &store, session, source, workers, gate)?;
+    finish(alloc, store, session, source)
+}
+
+/// The reduced diagram of the store's functions, from their truth tables. Worker i builds the pieces whose number leaves i-1 when divided by the
+/// number of workers, and calls the gate before it publishes each. The store is spent.
+pub fn from_tables<R: Threads + Sync, G: Gate>(
+    rt: &R,
+    alloc: Global,
+    store: Store,
+    session: Session,
+    tables: &Tables,
+    workers: Workers,
+    gate: &G,
+) -> Result<Diagram, BuildError>
+    requires session { session.store ≡ store }
+    requires tables { IsForTables store.plan tables.now }
+    ensures order { IfOk result (λ d. d.order ≡ order_of store.plan) }
+    ensures diagram { IfOk result (λ d. Represents (levels_of store.plan) (functions store.plan.problem.value) (order_of store.plan) d.graph) }
+    ensures reduced { IfOk result (λ d. IsReduced d.graph) }
+    ensures refused { IfErr result (Refuses store) }
+{
+    build_in(
+        rt,
+        alloc,
+        store,
+        session,
+        Source::Tables(tables),
+        workers,
+        gate,
+    )
+}
+
+/// The reduced diagram of the store's functions, from the terms of a cover. Worker i builds the pieces whose number leaves i-1 when divided by
+/// the number of workers, and calls the gate before it publishes each. The store is spent.
+pub fn from_cover<R: Threads + Sync, G: Gate>(
+    rt: &R,
+    alloc: Global,
+    store: Store,
+    session: Session,
+    cover: &Cover,
+    workers: Workers,
+    gate: &G,
+) -> Result<Diagram, BuildError>
+    requires session { session.store ≡ store }
+    requires cover { IsForCover store.plan cover.now }
+    ensures order { IfOk result (λ d. d.order ≡ order_of store.plan) }
+    ensures diagram { IfOk result (λ d. Represents (levels_of store.plan) (functions store.plan.problem.value) (order_of store.plan) d.graph) }
+    ensures reduced { IfOk result (λ d. IsReduced d.graph) }
+    ensures refused { IfErr result (Refuses store) }
+{
+    build_in(
+        rt,
+        alloc,
+        store,
+        session,
+        Source::Terms(cover.terms()),
+        workers,
+        gate,
+    )
+}
+
+// A store of an order for the functions of truth tables, with restrictions as its pieces, and its first session.
+pub(crate) fn tables_store(
+    alloc: Global,
+    tables: &Tables,
+    order: &Order,
+) -> Result<(Store, Session), AllocError>
+    requires { length order.now ≡ tables.now.inputs }
+    ensures tables { IfOk result (λ r. IsForTables r.0.plan tables.now) }
+    ensures order { IfOk result (λ r. order_of r.0.plan ≡ order.now) }
+    ensures session { IfOk result (λ r. r.1.store ≡ r.0) }
+{
+    Store::new(
+        alloc,
+        order.try_clone(alloc)?,
+        tables.problem(),
+        Pieces::Tables,
+    )
+}
+
+// A store of an order for the functions of a cover, with pieces of its terms, and its first session.
+pub(crate) fn cover_store(
+    alloc: Global,
+    cover: &Cover,
+    tables: &Tables,
+    order: &Order,
+) -> Result<(Store, Session), AllocError>
+    requires order { length order.now ≡ cover.now.inputs }
+    requires tables { AreTablesOf cover.now tables.now }
+    ensures cover { IfOk result (λ r. IsForCover r.0.plan cover.now) }
+    ensures order { IfOk result (λ r. order_of r.0.plan ≡ order.now) }
+    ensures session { IfOk result (λ r. r.1.store ≡ r.0) }
+{
+    truth_tables_keep_functions();
+    let pieces = Pieces::Terms(cover.terms());
+    Store::new(alloc, order.try_clone(alloc)?, tables.problem(), pieces)
+}
+
+/// The reduced diagram of the functions of some truth tables under an order, built from the tables in a store of its own.
+pub fn build_tables<R: Threads + Sync, G: Gate>(
+    rt: &R,
+    alloc: Global,
+    tables: &Tables,
+    order: &Order,
+    workers: Workers,
+    gate: &G,
+) -> Result<Diagram, BuildError>
+    requires order { length order.now ≡ tables.now.inputs }
+    ensures order { IfOk result (λ d. d.order ≡ order.now) }
+    ensures diagram { IfOk result (λ d. Represents tables.now.inputs (functions tables.now) order.now d.graph) }
+    ensures reduced { IfOk result (λ d. IsReduced d.graph) }
+    ensures levels { IfOk result (λ d. HasLevelCounts tables.now.inputs (functions tables.now) order.now d.graph) }
+    ensures refused { IfErr result (RefusesUnder order.now) }
+{
+    let Ok((store, session)) = tables_store(alloc, tables, order) else {
+        return Err(BuildError::OutOfMemory);
+    };
+    let _plan = store.order();
+    some_diagram_has_the_level_counts();
+    from_tables(rt, alloc, store, session, tables, workers, gate)
+}
+
+/// The reduced diagram of a cover's functions under an order, built from its terms in the store handed in or, where that is full, from its truth
+/// tables in a store of its own.
+pub fn build_from<R: Threads + Sync, G: Gate>(
+    rt: &R,
+    alloc: Global,
+    store: Store,
+    session: Session,
+    cover: &Cover,
+    tables: &Tables,
+    order: &Order,
+    workers: Workers,
+    gate: &G,
+) -> Result<Diagram, BuildError>
+    requires session { session.store ≡ store }
+    requires order { order_of store.plan ≡ order.now }
+    requires cover { IsForCover store.plan cover.now }
+    requires tables { AreTablesOf cover.now tables.now }
+    ensures order { IfOk result (λ d. d.order ≡ order.now) }
+    ensures diagram { IfOk result (λ d. Represents cover.now.inputs (functions_of cover.now) order.now d.graph) }
+    ensures reduced { IfOk result (λ d. IsReduced d.graph) }
+    ensures levels { IfOk result (λ d. HasLevelCounts cover.now.inputs (functions_of cover.now) order.now d.graph) }
+    ensures refused { IfErr result (RefusesUnder order.now) }
+{
+    let _plan = store.order();
+    some_diagram_has_the_level_counts();
+    truth_tables_keep_functions();
+    match from_cover(rt, alloc, store, session, cover, workers, gate) {
+        Err(BuildError::StoreFull(_)) => build_tables(rt, alloc, tables, order, workers, gate),
+        built => built,
+    }
+}
+
+/// The reduced diagram of a cover's functions under an order: built from its terms and, where they fill a store, from its truth tables.
+pub fn build<R: Threads + Sync, G: Gate>(
+    rt: &R,
+    alloc: Global,
+    cover: &Cover,
+    tables: &Tables,
+    order: &Order,
+    workers: Workers,
+    gate: &G,
+) -> Result<Diagram, BuildError>
+    requires order { length order.now ≡ cover.now.inputs }
+    requires tables { AreTablesOf cover.now tables.now }
+    ensures order { IfOk result (λ d. d.order ≡ order.now) }
+    ensures diagram { IfOk result (λ d. Represents cover.now.inputs (functions_of cover.now) order.now d.graph) }
+    ensures reduced { IfOk result (λ d. IsReduced d.graph) }
+    ensures levels { IfOk result (λ d. HasLevelCounts cover.now.inputs (functions_of cover.now) order.now d.graph) }
+    ensures refused { IfErr result (RefusesUnder order.now) }
+{
+    let Ok((store, session)) = cover_store(alloc, cover, tables, order) else {
+        return Err(BuildError::OutOfMemory);
+    };
+    build_from(
+        rt, alloc, store, session, cover, tables, order, workers, gate,
+    )
+}

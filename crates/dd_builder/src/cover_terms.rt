@@ -1,0 +1,122 @@
+// Nodes of functions that are given by terms.
+ghost use Rattle.std.specs.Prelude.{◌≡◌, ◌<◌, ◌≤◌, IfOk, OnErr};
+ghost use Rattle.order_model.specs.Problems.{outputs_of};
+ghost use Rattle.order_model.specs.Products.{matches, product_function};
+ghost use Rattle.unique_table.specs.Plans.{levels_of, variable_at, share as share_of, products_of, piece_function};
+ghost use Rattle.unique_table.specs.Sessions.{Knows, Means, Follows, IsKnownBelow, function_in, depth_in};
+ghost use Rattle.dd_builder.specs.Building.{KnowsFull};
+ghost use Rattle.dd_builder.specs.Parts.{IsForTerms};
+ghost use Rattle.dd_builder.specs.Literals.{with_literal, with_product, product_in};
+
+use crate::operations::apply;
+use order_model::Term;
+use unique_table::{NodeId, Operation, Session, Store, StoreFull};
+
+// The id of a term's literal of a level's variable, if it has one, and of the function of an id below.
+fn literal_and(
+    store: &Store,
+    session: &mut Session,
+    term: Term,
+    level: u8,
+    id: NodeId,
+) -> Result<NodeId, StoreFull>
+    requires session { session.old.store ≡ store.now }
+    requires level { level < levels_of store.now.plan }
+    requires id { IsKnownBelow session.old level id }
+    ensures follows { Follows session.old session.new }
+    ensures function { IfOk result (λ made. Means session.new made (with_literal term (variable_at store.now.plan level) (function_in session.new id))) }
+    ensures level { IfOk result (λ made. level ≤ depth_in session.new made) }
+    ensures full { OnErr result (KnowsFull session.new) }
+{
+    let x = store.order().variables()[usize::from(level)];
+    if (term.care >> x) & 1 == 0 {
+        return Ok(id);
+    }
+    if (term.value >> x) & 1 == 1 {
+        store.make(session, level, 0, id)
+    } else {
+        store.make(session, level, id, 0)
+    }
+}
+
+// The id of a term: 1 where all its literals hold.
+fn term_id(store: &Store, session: &mut Session, term: Term) -> Result<NodeId, StoreFull>
+    requires session { session.old.store ≡ store.now }
+    ensures follows { Follows session.old session.new }
+    ensures function { IfOk result (λ id. Means session.new id (matches (product_in store.now.plan term))) }
+    ensures full { OnErr result (KnowsFull session.new) }
+{
+    let mut level = store.order().len() as u8;
+    let mut id = 1;
+    while level > 0 {
+        level -= 1;
+        id = literal_and(store, session, term, level, id)?;
+    }
+    Ok(id)
+}
+
+// The id of the function of an id, or of a term where it belongs to an output.
+fn or_term(
+    store: &Store,
+    session: &mut Session,
+    term: Term,
+    output: u8,
+    id: NodeId,
+) -> Result<NodeId, StoreFull>
+    requires session { session.old.store ≡ store.now }
+    requires known { Knows session.old id }
+    requires output { output < outputs_of store.now.plan.problem.value }
+    requires few { output < 16 }
+    ensures follows { Follows session.old session.new }
+    ensures function { IfOk result (λ made. Means session.new made (with_product (product_in store.now.plan term) output (function_in session.new id))) }
+    ensures full { OnErr result (KnowsFull session.new) }
+{
+    if (term.outs >> output) & 1 == 0 {
+        return Ok(id);
+    }
+    let cube = term_id(store, session, term)?;
+    apply(store, session, Operation::Or, id, cube)
+}
+
+// The id of an output's function by the terms whose number leaves `share` when divided by 64.
+fn output_share(
+    store: &Store,
+    session: &mut Session,
+    terms: &[Term],
+    output: u8,
+    share: usize,
+) -> Result<NodeId, StoreFull>
+    requires session { session.old.store ≡ store.now }
+    requires output { output < outputs_of store.now.plan.problem.value }
+    requires few { output < 16 }
+    requires share { share < 64 }
+    ensures follows { Follows session.old session.new }
+    ensures function { IfOk result (λ id. Means session.new id (product_function (share_of share (products_of store.now.plan.problem.value terms.now)) output)) }
+    ensures full { OnErr result (KnowsFull session.new) }
+{
+    let mut id = 0;
+    let mut number = share;
+    while number < terms.len() {
+        id = or_term(store, session, terms[number], output, id)?;
+        number += 64;
+    }
+    Ok(id)
+}
+
+// The id of a piece of terms: an output by those terms whose number leaves the piece's remainder when divided by 64.
+pub(crate) fn terms_share(
+    store: &Store,
+    session: &mut Session,
+    terms: &[Term],
+    piece: usize,
+) -> Result<NodeId, StoreFull>
+    requires session { session.old.store ≡ store.now }
+    requires terms { IsForTerms store.now.plan terms.now }
+    requires piece { piece < store.now.plan.roots }
+    ensures follows { Follows session.old session.new }
+    ensures function { IfOk result (λ id. Means session.new id (piece_function store.now.plan piece)) }
+    ensures full { OnErr result (KnowsFull session.new) }
+{
+    let _roots = store.roots();
+    output_share(store, session, terms, (piece / 64) as u8, piece % 64)
+}

@@ -1,0 +1,11 @@
+// Why a build gives no diagram.
+use unique_table::Session;
+
+/// Why a build gives no diagram.
+#[derive(Drop)]
+pub enum BuildError {
+    /// All places of the store are taken: the session that met it.
+    StoreFull(Session),
+    /// Some worker, or the call itself, was refused memory.
+    OutOfMemory,
+}

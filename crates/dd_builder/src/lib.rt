@@ -1,0 +1,18 @@
+//! Reduced diagrams built by several workers, and operations on functions of a store.
+#![tactic(auto)]
+
+mod builders;
+mod cover_terms;
+mod errors;
+mod operations;
+mod parts;
+mod roots;
+mod tables;
+mod workers;
+
+pub use builders::{build, build_from, build_tables, from_cover, from_tables};
+pub use errors::BuildError;
+pub use operations::apply;
+
+#[cfg(test)]
+mod tests;

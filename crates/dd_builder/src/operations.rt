@@ -1,0 +1,197 @@
+// Operations on the functions of two ids.
+ghost use Rattle.std.specs.Prelude.{◌≡◌, ℕ, ◌+◌, ◌-◌, ◌<◌, ◌≤◌, IfOk, IfSome, IfNone, OnErr, min};
+ghost use Rattle.node_words.specs.Entries.{combine};
+ghost use Rattle.unique_table.specs.Plans.{levels_of};
+ghost use Rattle.unique_table.specs.Sessions.{Knows, Means, Follows, function_in, depth_in};
+ghost use Rattle.dd_builder.specs.Building.{KnowsFull};
+ghost use Rattle.dd_builder.specs.Operating.{IsFrom, Settles, IsCut, IsCombined};
+
+use op_cache::{recall, remember};
+use unique_table::{NodeId, Operation, Session, Store, StoreFull};
+
+// What a conjunction is where an operand is a terminal, or both are one.
+fn settled_and(first: NodeId, second: NodeId) -> Option<NodeId>
+    ensures some { IfSome result (Settles Operation.And first second) }
+    ensures none { IfNone result (first < 2 → 2 ≤ second) }
+{
+    if first == 0 || second == 0 {
+        Some(0)
+    } else if first == 1 || first == second {
+        Some(second)
+    } else if second == 1 {
+        Some(first)
+    } else {
+        None
+    }
+}
+
+// What a disjunction is where an operand is a terminal, or both are one.
+fn settled_or(first: NodeId, second: NodeId) -> Option<NodeId>
+    ensures some { IfSome result (Settles Operation.Or first second) }
+    ensures none { IfNone result (first < 2 → 2 ≤ second) }
+{
+    if first == 1 || second == 1 {
+        Some(1)
+    } else if first == 0 || first == second {
+        Some(second)
+    } else if second == 0 {
+        Some(first)
+    } else {
+        None
+    }
+}
+
+// What an exclusive disjunction is where an operand is 0, or both are one.
+fn settled_xor(first: NodeId, second: NodeId) -> Option<NodeId>
+    ensures some { IfSome result (Settles Operation.Xor first second) }
+    ensures none { IfNone result (first < 2 → 2 ≤ second) }
+{
+    if first == second {
+        Some(0)
+    } else if first == 0 {
+        Some(second)
+    } else if second == 0 {
+        Some(first)
+    } else {
+        None
+    }
+}
+
+// What an operation is where no node has to be taken apart.
+fn settled(operation: Operation, first: NodeId, second: NodeId) -> Option<NodeId>
+    ensures some { IfSome result (Settles operation first second) }
+    ensures none { IfNone result (first < 2 → 2 ≤ second) }
+{
+    match operation {
+        Operation::And => settled_and(first, second),
+        Operation::Or => settled_or(first, second),
+        Operation::Xor => settled_xor(first, second),
+    }
+}
+
+// The level of an id; a terminal lies below all levels.
+fn level_of(store: &Store, session: &mut Session, id: NodeId) -> u8
+    requires session { session.old.store ≡ store.now }
+    requires known { Knows session.old id }
+    ensures follows { Follows session.old session.new }
+    ensures level { result ≡ depth_in session.new id }
+    ensures few { levels_of store.now.plan ≤ 16 }
+    ensures inside { 2 ≤ id → result < levels_of store.now.plan }
+{
+    let levels = store.order().len();
+    match store.node(session, id) {
+        Some(parts) => parts.level,
+        None => levels as u8,
+    }
+}
+
+// The higher level of two ids, not both of which are terminals.
+fn top_level(store: &Store, session: &mut Session, first: NodeId, second: NodeId) -> u8
+    requires session { session.old.store ≡ store.now }
+    requires first { Knows session.old first }
+    requires second { Knows session.old second }
+    requires node { first < 2 → 2 ≤ second }
+    ensures follows { Follows session.old session.new }
+    ensures level { result ≡ min (depth_in session.new first) (depth_in session.new second) }
+    ensures few { levels_of store.now.plan ≤ 16 }
+    ensures inside { result < levels_of store.now.plan }
+{
+    let one = level_of(store, session, first);
+    let two = level_of(store, session, second);
+    one.min(two)
+}
+
+// The children that an id has as a node of a level: below that level it is both of them itself.
+fn children(store: &Store, session: &mut Session, id: NodeId, level: u8) -> (NodeId, NodeId)
+    requires session { session.old.store ≡ store.now }
+    requires known { Knows session.old id }
+    requires level { level ≤ depth_in session.old id }
+    requires inside { level < levels_of store.now.plan }
+    ensures follows { Follows session.old session.new }
+    ensures cut { IsCut session.new level id result.0 result.1 }
+{
+    match store.node(session, id) {
+        Some(parts) if parts.level == level => (parts.lower, parts.upper),
+        _ => (id, id),
+    }
+}
+
+// Two ids as nodes of the higher one of their levels: that level, and the lower and the upper child of each.
+#[derive(Clone, Copy)]
+struct Cut {
+    level: u8,
+    first: (NodeId, NodeId),
+    second: (NodeId, NodeId),
+}
+
+// Takes two ids apart, not both of which are terminals.
+fn take_apart(store: &Store, session: &mut Session, first: NodeId, second: NodeId) -> Cut
+    requires session { session.old.store ≡ store.now }
+    requires first { Knows session.old first }
+    requires second { Knows session.old second }
+    requires node { first < 2 → 2 ≤ second }
+    ensures follows { Follows session.old session.new }
+    ensures level { (k : ℕ) → k ≤ depth_in session.old first → k ≤ depth_in session.old second → k ≤ result.level }
+    ensures few { levels_of store.now.plan ≤ 16 }
+    ensures inside { result.level < levels_of store.now.plan }
+    ensures first { IsCut session.new result.level first result.first.0 result.first.1 }
+    ensures second { IsCut session.new result.level second result.second.0 result.second.1 }
+{
+    let level = top_level(store, session, first, second);
+    let first = children(store, session, first, level);
+    let second = children(store, session, second, level);
+    Cut {
+        level,
+        first,
+        second,
+    }
+}
+
+// The id of an operation on ids that lie at a level or below it.
+fn apply_from(
+    store: &Store,
+    session: &mut Session,
+    operation: Operation,
+    first: NodeId,
+    second: NodeId,
+    from: u8,
+) -> Result<NodeId, StoreFull>
+    requires session { session.old.store ≡ store.now }
+    requires first { IsFrom session.old from first }
+    requires second { IsFrom session.old from second }
+    requires from { from ≤ levels_of store.now.plan }
+    ensures follows { Follows session.old session.new }
+    ensures combined { IfOk result (IsCombined session.new from operation first second) }
+    ensures full { OnErr result (KnowsFull session.new) }
+{
+    if let Some(id) = settled(operation, first, second) {
+        return Ok(id);
+    }
+    if let Some(id) = recall(store, session, operation, first, second) {
+        return Ok(id);
+    }
+    let cut = take_apart(store, session, first, second);
+    let below = cut.level + 1;
+    let lower = apply_from(store, session, operation, cut.first.0, cut.second.0, below)?;
+    let upper = apply_from(store, session, operation, cut.first.1, cut.second.1, below)?;
+    let id = store.make(session, cut.level, lower, upper)?;
+    remember(store, session, operation, first, second, id);
+    Ok(id)
+}
+
+/// The id of an operation on the functions of two ids (Bryant 1986, apply). It takes no memory.
+pub fn apply(
+    store: &Store,
+    session: &mut Session,
+    operation: Operation,
+    first: NodeId,
+    second: NodeId,
+) -> Result<NodeId, StoreFull>
+    requires session { session.old.store ≡ store.now }
+    requires known { Knows session.old first × Knows session.old second }
+    ensures follows { Follows session.old session.new }
+    ensures function { IfOk result (λ id. Means session.new id (combine operation (function_in session.new first) (function_in session.new second))) }
+    ensures full { OnErr result (KnowsFull session.new) }
+{
+    apply_from(store, session, operation, first, second, 0)
+}

@@ -1,0 +1,40 @@
+// The parts of a store's functions.
+ghost use Rattle.std.specs.Prelude.{◌≡◌, ◌<◌, ◌≤◌, IfOk, OnErr};
+ghost use Rattle.unique_table.specs.Plans.{piece_function};
+ghost use Rattle.unique_table.specs.Sessions.{Means, Follows, depth_in};
+ghost use Rattle.dd_builder.specs.Building.{KnowsFull};
+ghost use Rattle.dd_builder.specs.Parts.{IsSourceFor, part_level};
+
+use crate::cover_terms::terms_share;
+use crate::tables::restriction;
+use order_model::Term;
+use truth_table::Tables;
+use unique_table::{NodeId, Session, Store, StoreFull};
+
+// What parts are built of.
+#[derive(Clone, Copy)]
+pub(crate) enum Source<'a> {
+    Tables(&'a Tables),
+    Terms(&'a [Term]),
+}
+
+// The id of a part.
+pub(crate) fn part(
+    store: &Store,
+    session: &mut Session,
+    source: Source<'_>,
+    piece: usize,
+) -> Result<NodeId, StoreFull>
+    requires session { session.old.store ≡ store.now }
+    requires source { IsSourceFor store.now.plan source }
+    requires piece { piece < store.now.plan.roots }
+    ensures follows { Follows session.old session.new }
+    ensures function { IfOk result (λ id. Means session.new id (piece_function store.now.plan piece)) }
+    ensures level { IfOk result (λ id. part_level store.now.plan ≤ depth_in session.new id) }
+    ensures full { OnErr result (KnowsFull session.new) }
+{
+    match source {
+        Source::Tables(tables) => restriction(store, session, tables, piece),
+        Source::Terms(terms) => terms_share(store, session, terms, piece),
+    }
+}

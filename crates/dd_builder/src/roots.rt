@@ -1,0 +1,117 @@
+// The outputs, made of their parts.
+ghost use Rattle.std.specs.Prelude.{◌≡◌, ℕ, ◌+◌, ◌^◌, ◌<◌, ◌≤◌, length, take, IfOk, OnOk, OnErr};
+ghost use Rattle.order_model.specs.Problems.{outputs_of};
+ghost use Rattle.unique_table.specs.Plans.{order_of, output_at, piece_function, fixed, tops as tops_of};
+ghost use Rattle.unique_table.specs.Sessions.{Means, Follows, HasPiece, depth_in};
+ghost use Rattle.dd_builder.specs.Building.{KnowsFull, AreRestrictions};
+ghost use Rattle.dd_builder.specs.Parts.{IsSourceFor, AreOfTerms, HasAllParts, HasRoots, part_level};
+
+use crate::operations::apply;
+use crate::parts::Source;
+use crate::tables::tops;
+use unique_table::{NodeId, Operation, Session, Store, StoreFull};
+
+// The id of a part, which the session knows.
+fn part_id(store: &Store, session: &mut Session, piece: usize) -> NodeId
+    requires session { session.old.store ≡ store.now }
+    requires parts { HasAllParts session.old }
+    requires piece { piece < store.now.plan.roots }
+    ensures follows { Follows session.old session.new }
+    ensures function { Means session.new result (piece_function store.now.plan piece) }
+    ensures level { part_level store.now.plan ≤ depth_in session.new result }
+{
+    let _pieces = store.pieces();
+    match store.collect(session, piece) {
+        Some(id) => id,
+        None => unreachable!(),
+    }
+}
+
+// The id of an output with the variables above a level fixed to the bits of a path, made of the parts, in which those on top are fixed.
+fn of_restrictions(
+    store: &Store,
+    session: &mut Session,
+    output: u8,
+    level: u8,
+    path: usize,
+) -> Result<NodeId, StoreFull>
+    requires session { session.old.store ≡ store.now }
+    requires kind { AreRestrictions store.now.plan.kind }
+    requires parts { HasAllParts session.old }
+    requires output { output < outputs_of store.now.plan.problem.value }
+    requires level { level ≤ length (tops_of (order_of store.now.plan)) }
+    requires path { path < 2 ^ level }
+    ensures follows { Follows session.old session.new }
+    ensures function { IfOk result (λ id. Means session.new id (fixed (take level (order_of store.now.plan)) path (output_at store.now.plan.problem.value output))) }
+    ensures level { IfOk result (λ id. level ≤ depth_in session.new id) }
+    ensures full { OnErr result (KnowsFull session.new) }
+{
+    let tops = tops(store.order().variables());
+    if level == tops {
+        return Ok(part_id(store, session, (usize::from(output) << tops) + path));
+    }
+    let lower = of_restrictions(store, session, output, level + 1, path)?;
+    let upper = of_restrictions(store, session, output, level + 1, path + (1 << level))?;
+    store.make(session, level, lower, upper)
+}
+
+// The id of an output, made of the parts, each of which has the terms of one remainder.
+fn of_shares(store: &Store, session: &mut Session, output: u8) -> Result<NodeId, StoreFull>
+    requires session { session.old.store ≡ store.now }
+    requires kind { AreOfTerms store.now.plan.kind }
+    requires parts { HasAllParts session.old }
+    requires output { output < outputs_of store.now.plan.problem.value }
+    ensures follows { Follows session.old session.new }
+    ensures function { IfOk result (λ id. Means session.new id (output_at store.now.plan.problem.value output)) }
+    ensures full { OnErr result (KnowsFull session.new) }
+{
+    let _roots = store.roots();
+    let mut id = 0;
+    for share in 0..64 {
+        let part = part_id(store, session, usize::from(output) * 64 + share);
+        id = apply(store, session, Operation::Or, id, part)?;
+    }
+    Ok(id)
+}
+
+// The id of an output, made of the parts.
+fn root(
+    store: &Store,
+    session: &mut Session,
+    source: Source<'_>,
+    output: u8,
+) -> Result<NodeId, StoreFull>
+    requires session { session.old.store ≡ store.now }
+    requires source { IsSourceFor store.now.plan source }
+    requires parts { HasAllParts session.old }
+    requires output { output < outputs_of store.now.plan.problem.value }
+    ensures follows { Follows session.old session.new }
+    ensures function { IfOk result (λ id. Means session.new id (output_at store.now.plan.problem.value output)) }
+    ensures full { OnErr result (KnowsFull session.new) }
+{
+    match source {
+        Source::Tables(_) => of_restrictions(store, session, output, 0, 0),
+        Source::Terms(_) => of_shares(store, session, output),
+    }
+}
+
+// Makes and publishes the outputs.
+pub(crate) fn publish_roots(
+    store: &Store,
+    session: &mut Session,
+    source: Source<'_>,
+) -> Result<(), StoreFull>
+    requires session { session.old.store ≡ store.now }
+    requires source { IsSourceFor store.now.plan source }
+    requires parts { HasAllParts session.old }
+    ensures follows { Follows session.old session.new }
+    ensures roots { OnOk result (HasRoots session.new) }
+    ensures full { OnErr result (KnowsFull session.new) }
+{
+    let roots = store.roots();
+    for output in 0..(store.pieces() - roots) as u8 {
+        let id = root(store, session, source, output)?;
+        store.publish(session, roots + usize::from(output), id);
+    }
+    Ok(())
+}

@@ -1,0 +1,100 @@
+// Workers that share the parts of a store's functions.
+ghost use Rattle.std.specs.Prelude.{◌≡◌, ℕ, ◌+◌, ◌-◌, ◌<◌, ◌≤◌, Some, Result, IfOk, vec_len, slice_get};
+ghost use Rattle.unique_table.specs.Sessions.{Knowledge};
+ghost use Rattle.dd_builder.specs.Parts.{IsSourceFor, IsEndOf, AreEndsOf, IsJoined};
+ghost use Rattle.dd_builder.specs.Parts.{AreJobsOf};
+
+use crate::parts::{Source, part};
+use order_model::Gate;
+use std::alloc::{AllocError, Global};
+use unique_table::{Session, Store};
+
+// A worker's number, from 1, and its session.
+#[derive(Drop)]
+pub(crate) struct Job {
+    pub(crate) worker: u8,
+    pub(crate) session: Session,
+}
+
+// Builds and publishes the parts whose number leaves the worker's number less 1 when divided by the number of workers. An error has the
+// session that met a full store.
+pub(crate) fn build_parts<G: Gate>(
+    store: &Store,
+    mut session: Session,
+    worker: u8,
+    workers: u8,
+    source: Source<'_>,
+    gate: &G,
+) -> Result<Session, Session>
+    requires session { session.store ≡ store.now }
+    requires source { IsSourceFor store.now.plan source }
+    requires worker { 1 ≤ worker }
+    requires workers { worker ≤ workers }
+    ensures { IsEndOf store.now workers (worker - 1) result }
+{
+    for piece in 0..store.roots() {
+        if piece % usize::from(workers) == usize::from(worker - 1) {
+            let Ok(id) = part(store, &mut session, source, piece) else {
+                return Err(session);
+            };
+            gate.between(worker, piece as u32);
+            store.publish(&mut session, piece, id);
+        }
+    }
+    Ok(session)
+}
+
+// A job for each worker, in their order.
+pub(crate) fn jobs(
+    alloc: Global,
+    store: &Store,
+    session: Session,
+    workers: u8,
+) -> Result<Vec<Job>, AllocError>
+    requires session { session.store ≡ store.now }
+    requires some { 1 ≤ workers }
+    ensures { IfOk result (λ v. AreJobsOf store.now workers v.items) }
+{
+    let mut jobs = Vec::with_capacity(alloc, usize::from(workers))?;
+    let mut rest = session;
+    for worker in 1..workers {
+        let (mine, other) = store.split(rest);
+        rest = mine;
+        jobs.push(Job {
+            worker,
+            session: other,
+        })?;
+    }
+    jobs.push(Job {
+        worker: workers,
+        session: rest,
+    })?;
+    Ok(jobs)
+}
+
+// A session that knows what all workers know, or that of one that met a full store.
+pub(crate) fn joined(
+    store: &Store,
+    workers: u8,
+    mut ended: Vec<Result<Session, Session>>,
+) -> Result<Session, Session>
+    requires some { 1 ≤ workers }
+    requires count { vec_len ended ≡ workers }
+    requires ends { AreEndsOf store.now workers ended.items }
+    ensures { IsJoined store.now result }
+{
+    let Some(last) = ended.pop() else {
+        unreachable!()
+    };
+    let mut session = match last {
+        Ok(session) => session,
+        Err(full) => return Err(full),
+    };
+    while let Some(next) = ended.pop() {
+        match next {
+            Ok(other) => session = store.join(session, other),
+            Err(full) => return Err(full),
+        }
+    }
+    Ok(session)
+}

@@ -1,0 +1,88 @@
+-- What the last state of a board's table says of its cells.
+use Rattle.std.proofs.Common.{◌≡◌, ◌≢◌, ℕ, zero, suc, ◌<◌, Bool, true, false, List, [], ◌∷◌, map, take, get_or, length, Option, Some, None, Result, Ok, Err, IfOk, IfErr, sym, refl, ap, ◌∙◌, subst, arith}
+use Rattle.std.proofs.lemmas.List.{take_all}
+use Rattle.std.proofs.lemmas.Option.{slice_get_within, get_or_from_slice_get}
+use mathlib.Core.Option.{some}
+use lib.ListN.{get_elem?}
+use Rattle.atomic_table.proofs.Lists.{at_map}
+use Rattle.subset_layers.specs.declared.costs.Cell.{Cell}
+use Rattle.subset_layers.specs.Layers.{LayerOf, masks_of}
+use Rattle.layer_core.specs.Machine.{World, cell_at, knows, place_of}
+use Rattle.layer_core.specs.Rights.{Right}
+use Rattle.layer_core.proofs.Runs.{cells_are}
+use Rattle.layer_board.specs.declared.boards.CloseError.{CloseError}
+use Rattle.layer_board.specs.declared.boards.CloseError.TheVariants.{Missing, OutOfMemory}
+use Rattle.layer_board.specs.Views.{BriefOf, SeatOf, SeatView, cell_for, layout_of, knows_place}
+use Rattle.layer_board.specs.Picture.{Kept, IsCellAt, picture, worker_of, cell_words, cell_in}
+use Rattle.layer_board.specs.Pairing.{pair_of}
+use Rattle.layer_board.specs.Refusals.{Lacks, IsFirstGap}
+use Rattle.layer_board.proofs.Layouts.{place_found, length-map_lem}
+use Rattle.layer_board.proofs.Words.{cell_shown, empty_word, shown_empty}
+use Rattle.layer_board.proofs.Rule.{St}
+
+unwrapped : {X : Type 0} → X → Option X → X
+unwrapped x None = x
+unwrapped x (Some y) = y
+
+rest : {X : Type 0} → List X → List X
+rest [] = []
+rest (x ∷ xs) = xs
+
+-- lists of cells that all are there
+strip : {A B X : Type 0} (f : A → X) (g : B → X) (xs : List A) (ys : List B) → map (λ x. Some (f x)) xs ≡ map (λ y. Some (g y)) ys → map f xs ≡ map g ys
+unfolding unwrapped rest
+strip f g [] [] e = refl
+strip f g [] (y ∷ ys) e = absurd (let h = ap length e in omega arith)
+strip f g (x ∷ xs) [] e = absurd (let h = ap length e in omega arith)
+strip f g (x ∷ xs) (y ∷ ys) e =
+    let first : f x ≡ g y = ap (λ l. unwrapped (f x) (get_or l 0 None)) e in
+    let others : map f xs ≡ map g ys = strip f g xs ys (ap rest e) in
+    λ i. first i ∷ others i
+
+some_there : {A X : Type 0} (f : A → X) (xs : List A) (p : ℕ) → p < length xs → get_or (map (λ x. Some (f x)) xs) p None ≢ None
+some_there f [] p h = absurd (omega arith)
+some_there f (x ∷ xs) zero h = λ e. cc
+some_there f (x ∷ xs) (suc p) h = some_there f xs p (omega arith)
+
+decide : (t : Bool) → (t ≡ true → ⊥) → t ≡ false
+decide true h = absurd (h refl)
+decide false h = refl
+
+module _ (b : BriefOf) (V : SeatView) (id : ℕ) (s : St) (k : Kept b s) (at : get_elem? s.views id ≡ some V) (ws : List ℕ) (is : s.words ≡ ws) where
+  last : World
+  last = picture b.layer s.words s.views
+
+  -- all cells
+  all_filled : (cells : List Cell) → map (λ c. Some (pair_of c)) cells ≡ take (length (masks_of b.layer)) (map cell_in (cell_words ws)) → map pair_of cells ≡ map (cell_for b.setting) (masks_of b.layer)
+  all_filled cells e =
+      let words : map cell_in (cell_words ws) ≡ map cell_in (cell_words s.words) = ap (λ z. map cell_in (cell_words z)) (sym is) in
+      let shown : map (λ c. Some (pair_of c)) cells ≡ map cell_in (cell_words s.words) =
+      e ∙ (ap (take (length (masks_of b.layer))) words ∙ take_all (length (masks_of b.layer)) (map cell_in (cell_words s.words)) (omega (arith, k.right.size))) in
+      let many : length (map (λ c. Some (pair_of c)) cells) ≡ length (masks_of b.layer) = ap length shown ∙ k.right.size in
+      let as_many = length-map_lem (λ (c : Cell). Some (pair_of c)) cells in
+      strip pair_of (cell_for b.setting) cells (masks_of b.layer)
+      (shown ∙ cells_are (cell_for b.setting) (masks_of b.layer) (map cell_in (cell_words s.words)) k.right.size k.right.true_cells
+      (λ p low. subst (λ (l : List (Option (ℕ × ℕ))). get_or l p None ≢ None) shown (some_there pair_of cells p (omega arith))))
+
+  pub cells_if : {T E : Type 0} (items : T → List Cell) (r : Result T E) (l : LayerOf) (B : BriefOf) → l ≡ b.layer → b ≡ B → IfOk r (λ v. map (λ c. Some (pair_of c)) (items v) ≡ take (length (masks_of l)) (map cell_in (cell_words ws)))
+      → IfOk r (λ v. map pair_of (items v) ≡ map (cell_for B.setting) (masks_of B.layer))
+  cells_if items (Ok v) l B same seen e = all_filled (items v) (e ∙ ap (λ (z : LayerOf). take (length (masks_of z)) (map cell_in (cell_words ws))) same) ∙ ap (λ (z : BriefOf). map (cell_for z.setting) (masks_of z.layer)) seen
+  cells_if items (Err x) l B same seen e = tt
+
+  -- an empty cell
+  first_gap : (S : SeatOf) → S.board.brief ≡ b → S.worker ≡ V.worker → (e : CloseError) → IsFirstGap (masks_of b.layer) (cell_words ws) e → Lacks S e
+  first_gap S brief worker OutOfMemory gap = tt
+  first_gap S brief worker (Missing mask) gap =
+      let p : ℕ = gap.0 in let there = place_found b.layer p mask gap.1 in
+      let same : (q : ℕ) → cell_at (picture b.layer s.words s.views) q ≡ cell_in (get_or (cell_words ws) q 0) = λ q. cell_shown (cell_words s.words) q ∙ ap (λ z. cell_in (get_or (cell_words z) q 0)) is in
+      let empty : cell_at (picture b.layer s.words s.views) p ≡ None = same p ∙ empty_word (get_or (cell_words ws) p 0) gap.2 in
+      let unknown : knows V.worker p ≡ false = decide (knows V.worker p) (λ known. k.right.known id V.worker (at_map worker_of s.views id V at) p known empty) in record {
+        unknown = (λ i. knows_place (worker i) (place_of (layout_of (brief i).layer) mask)) ∙ (ap (knows_place V.worker) there ∙ unknown);
+        last = picture b.layer s.words s.views;
+        is_last = record { right = subst (λ (z : BriefOf). Right (IsCellAt z.setting) (picture b.layer s.words s.views)) (sym brief) k.right; layout = ap (λ (z : BriefOf). layout_of z.layer) (sym brief); seat = id; has = at_map worker_of s.views id V at ∙ ap some (sym worker) };
+        least = record { place = p; within = slice_get_within (masks_of b.layer) p mask gap.1; is = get_or_from_slice_get (masks_of b.layer) p mask 0 gap.1; empty = empty; least = λ q low e. shown_empty (get_or (cell_words ws) q 0) (gap.3 q low) (sym (same q) ∙ e) };
+      }
+
+  pub lacks_if : {X : Type 0} (S : SeatOf) → S.board.brief ≡ b → S.worker ≡ V.worker → (r : Result X CloseError) (l : LayerOf) → l ≡ b.layer → IfErr r (IsFirstGap (masks_of l) (cell_words ws)) → IfErr r (Lacks S)
+  lacks_if S brief worker (Ok v) l same gap = tt
+  lacks_if S brief worker (Err e) l same gap = first_gap S brief worker e (subst (λ (z : LayerOf). IsFirstGap (masks_of z) (cell_words ws) e) same gap)

@@ -1,0 +1,11 @@
+pub mod Positions
+pub mod Layouts
+pub mod SmallCells
+pub mod CoreSteps
+pub mod Words
+pub mod Rule
+pub mod Seated
+pub mod Closing
+pub mod Gathering
+pub mod BoardEvents
+pub mod Parity

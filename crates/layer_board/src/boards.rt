@@ -1,0 +1,247 @@
+//! What workers do at a board.
+
+ghost use Rattle.std.specs.Prelude.{◌≡◌, ◌≢◌, ℕ, ◌+◌, ◌-◌, ◌^◌, ◌<◌, ◌≤◌, true, false, [], Some, All, IfOk, IfErr, IfSome, IsSome, IsNone, IsTrue, slice_get, slice_index, length, vec_len, map, take, replicate};
+ghost use Rattle.subset_layers.specs.Layers.{masks_of, blocks_of};
+ghost use Rattle.layer_core.specs.Machine.{claimed, claims_block};
+ghost use Rattle.layer_board.specs.Views.{cell_for, fresh, first_seat, stepped, no_more, found_empty, has_claimed, knows_filled, learned};
+ghost use Rattle.layer_board.specs.Pairing.{pair_of};
+ghost use Rattle.layer_board.specs.Picture.{IsCellWord, cell_in, cell_words};
+ghost use Rattle.layer_board.specs.Refusals.{Refuses, Lacks, IsFirstGap};
+ghost use Rattle.std.specs.Slots.{slots_items, slots_len, IsFull};
+
+use crate::plays::{Claims, NewSeat, Posts, Reads};
+use crate::results::{CellResult, cell_of_word};
+use crate::seats::{Board, BoardSeat, Claim};
+use crate::views::{Brief, Knowledge};
+use atomic_table::{Closed, Seat, Table};
+use order_model::{Mask, Pairs, Problem, Workers};
+use std::alloc::{AllocError, Global};
+use std::snapshot::Snapshot;
+use subset_layers::{Cell, Layer};
+
+/// Why a cell is refused.
+#[derive(Clone, Copy, Debug, PartialEq, Eq)]
+pub enum PostRefused {
+    /// The mask is not in the layer, or the seat did not claim its block. No step is taken.
+    Stranger,
+    /// The cell was filled before.
+    Double,
+}
+
+/// Why a board gives no cells.
+#[derive(Clone, Copy, Debug, PartialEq, Eq)]
+pub enum CloseError {
+    /// The least mask whose cell is empty.
+    Missing(Mask),
+    OutOfMemory,
+}
+
+impl Board {
+    /// A board with empty cells, and a seat for each worker.
+    pub fn new(
+        alloc: Global,
+        problem: &Problem,
+        bound: u32,
+        layer: &Layer,
+        workers: Workers,
+        pairs: &Pairs,
+    ) -> Result<(Board, Vec<BoardSeat>), AllocError>
+        requires { layer.now.inputs ≡ problem.now.inputs }
+        ensures board { IfOk result (λ r. r.0.brief ≡ record { setting = record { problem = problem.now; pairs = pairs.now; bound = bound }; layer = layer.now; workers = workers }) }
+        ensures count { IfOk result (λ r. vec_len r.1 ≡ workers) }
+        ensures seats { IfOk result (λ r. All (λ s. s ≡ first_seat r.0) r.1.items) }
+    {
+        let count = workers.count();
+        let layer = Layer::of(alloc, problem.inputs(), layer.size())?;
+        let brief = Brief {
+            problem: Snapshot::of(problem),
+            pairs: Snapshot::of(pairs),
+            bound,
+            layer: Snapshot::of(&layer),
+            workers,
+        };
+        let words = zeros(alloc, layer.len() + 1)?;
+        let (table, seat) = Table::of_words(alloc, words.as_slice(), &brief)?;
+        let board = Board { table, layer };
+        let seats = board.seats(alloc, seat, count)?;
+        Ok((board, seats))
+    }
+
+    /// The seats of a new board: its first seat is cut up.
+    fn seats(
+        &self,
+        alloc: Global,
+        mut first: Seat<(), Knowledge>,
+        count: u8,
+    ) -> Result<Vec<BoardSeat>, AllocError>
+        requires some { 1 ≤ count }
+        requires table { first.table_id ≡ self.now.table }
+        requires view { first.me ≡ (fresh self.now.brief count, []) }
+        ensures count { IfOk result (λ v. vec_len v ≡ count) }
+        ensures seats { IfOk result (λ v. All (λ s. s ≡ first_seat self.now) v.items) }
+    {
+        let blocks = self.layer.blocks();
+        let mut seats = Vec::with_capacity(alloc, usize::from(count))?;
+        for made in 0..count - 1 {
+            let seat = self.table.shared.split_seat::<NewSeat>(&mut first);
+            seats.push(BoardSeat::first(alloc, seat, blocks)?)?;
+        }
+        seats.push(BoardSeat::first(alloc, first, blocks)?)?;
+        Ok(seats)
+    }
+
+    /// The next block. A seat that was told that there is none is told so ever after, and takes no step.
+    pub fn claim(&self, seat: &mut BoardSeat) -> Option<Claim>
+        requires { seat.old.board ≡ self.now }
+        ensures board { seat.new.board ≡ self.now }
+        ensures block { IfSome result (λ c. slice_get (blocks_of self.now.brief.layer) c.place ≡ Some c.block) }
+        ensures gained { IfSome result (λ c. seat.new ≡ stepped seat.old (claims_block seat.old.worker c.place) 1) }
+        ensures claimed { IfSome result (λ c. IsTrue (claimed seat.new.worker c.place)) }
+        ensures later { IfSome result (λ c. (b : ℕ) → IsTrue (claimed seat.old.worker b) → b < c.place) }
+        ensures told { IsTrue seat.old.worker.told → IsNone result }
+        ensures none { IsNone result → seat.new ≡ no_more seat.old }
+    {
+        if seat.told {
+            return None;
+        }
+        let place = self.table.shared.fetch_add::<Claims>(&mut seat.seat, 0, 1) as usize;
+        if place < self.layer.blocks() {
+            seat.claims[place] = true;
+            Some(Claim::new(place, self.layer.block(place)))
+        } else {
+            seat.told = true;
+            None
+        }
+    }
+
+    /// Fills the cell of a mask whose block the seat claimed.
+    pub fn post(&self, seat: &mut BoardSeat, cell: CellResult) -> Result<(), PostRefused>
+        requires board { seat.old.board ≡ self.now }
+        requires setting { cell.setting ≡ self.now.brief.setting }
+        ensures board { seat.new.board ≡ self.now }
+        ensures claimed { IfOk result (λ _. has_claimed seat.old cell.mask ≡ true) }
+        ensures filled { IfOk result (λ _. seat.new ≡ learned seat.old cell.mask 1) }
+        ensures refused { IfErr result (λ e. Refuses seat.old cell.mask seat.new e) }
+        ensures known { has_claimed seat.old cell.mask ≡ true → knows_filled seat.new cell.mask ≡ true }
+    {
+        let Some(place) = self.layer.position(cell.mask()) else {
+            return Err(PostRefused::Stranger);
+        };
+        if !seat.claims[self.layer.block_place(place)] {
+            return Err(PostRefused::Stranger);
+        }
+        let word = cell.word();
+        let shared = &self.table.shared;
+        let found = shared.compare_exchange::<Posts>(&mut seat.seat, place + 1, 0, word);
+        if found == 0 {
+            Ok(())
+        } else {
+            Err(PostRefused::Double)
+        }
+    }
+
+    /// The cell of a mask, if it is seen filled.
+    pub fn read(&self, seat: &mut BoardSeat, mask: Mask) -> Option<Cell>
+        requires { seat.old.board ≡ self.now }
+        ensures board { seat.new.board ≡ self.now }
+        ensures cell { IfSome result (λ c. pair_of c ≡ cell_for self.now.brief.setting mask) }
+        ensures learned { IfSome result (λ _. seat.new ≡ learned seat.old mask 0) }
+        ensures known { IfSome result (λ _. knows_filled seat.new mask ≡ true) }
+        ensures unknown { IsNone result → knows_filled seat.old mask ≡ false }
+        ensures empty { IsNone result → seat.new ≡ found_empty seat.old mask }
+    {
+        let Some(place) = self.layer.position(mask) else {
+            return None;
+        };
+        let found = self.table.shared.load::<Reads>(&mut seat.seat, place + 1);
+        if found == 0 {
+            return None;
+        }
+        Some(cell_of_word(found))
+    }
+
+    /// All cells in the layer's order, or the least mask whose cell is empty.
+    pub fn close(self, alloc: Global, seat: BoardSeat) -> Result<Vec<Cell>, CloseError>
+        requires { seat.board ≡ self }
+        ensures cells { IfOk result (λ v. map pair_of v.items ≡ map (cell_for self.brief.setting) (masks_of self.brief.layer)) }
+        ensures lacks { IfErr result (Lacks seat) }
+    {
+        let Board { table, layer } = self;
+        let BoardSeat {
+            seat,
+            claims: _,
+            told: _,
+        } = seat;
+        let closed = table.close_with(seat);
+        let cells = gather(alloc, &closed, &layer);
+        closed.free();
+        cells
+    }
+}
+
+impl BoardSeat {
+    /// The seat of a worker that made no step, at a board of some blocks.
+    fn first(
+        alloc: Global,
+        seat: Seat<(), Knowledge>,
+        blocks: usize,
+    ) -> Result<BoardSeat, AllocError>
+        requires view { seat.me ≡ (fresh (seat.me.0).brief 1, []) }
+        requires blocks { blocks ≡ length (blocks_of (seat.me.0).brief.layer) }
+        ensures { IfOk result (λ s. s ≡ first_seat record { table = seat.table_id; brief = (seat.me.0).brief }) }
+    {
+        let claims = vec![in alloc; false; blocks]?;
+        Ok(BoardSeat {
+            seat,
+            claims,
+            told: false,
+        })
+    }
+}
+
+/// That many zeros.
+fn zeros(alloc: Global, count: usize) -> Result<Vec<u64>, AllocError>
+    ensures { IfOk result (λ v. v.items ≡ replicate count 0) }
+{
+    let words = vec![in alloc; 0u64; count]?;
+    Ok(words)
+}
+
+/// The cells of a closed table.
+fn gather(
+    alloc: Global,
+    closed: &Closed<(), Global>,
+    layer: &Layer,
+) -> Result<Vec<Cell>, CloseError>
+    requires full { IsFull closed.now.words }
+    requires size { slots_len closed.now.words ≡ length (masks_of layer.now) + 1 }
+    requires few { length (masks_of layer.now) ≤ 2 ^ 16 }
+    requires count { length (cell_words (slots_items closed.now.words)) ≡ length (masks_of layer.now) }
+    requires words { (p : ℕ) → slice_index (cell_words (slots_items closed.now.words)) p ≢ 0 → IsCellWord (slice_index (cell_words (slots_items closed.now.words)) p) }
+    ensures cells { IfOk result (λ v. map (λ c. Some (pair_of c)) v.items ≡ take (length (masks_of layer.now)) (map cell_in (cell_words (slots_items closed.now.words)))) }
+    ensures lacks { IfErr result (IsFirstGap (masks_of layer.now) (cell_words (slots_items closed.now.words))) }
+{
+    let Ok(mut cells) = Vec::with_capacity(alloc, layer.len()) else {
+        return Err(CloseError::OutOfMemory);
+    };
+    for place in 0..layer.len() {
+        let word = cell_word(closed, place);
+        if word == 0 {
+            return Err(CloseError::Missing(layer.mask_at(place)));
+        }
+        let Ok(()) = cells.push(cell_of_word(word)) else {
+            return Err(CloseError::OutOfMemory);
+        };
+    }
+    Ok(cells)
+}
+
+/// The word of the cell at a place.
+fn cell_word(closed: &Closed<(), Global>, place: usize) -> u64
+    requires full { IsFull closed.now.words }
+    requires size { place + 1 < slots_len closed.now.words }
+    requires room { place < 2 ^ 16 }
+    ensures { result ≡ slice_index (cell_words (slots_items closed.now.words)) place }
+{
+    closed.word(place + 1)
+}

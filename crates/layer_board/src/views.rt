@@ -1,0 +1,35 @@
+//! What a board is for, and what its seats know.
+
+use order_model::{Pairs, Problem, Workers};
+use std::marker::Model;
+use std::snapshot::Snapshot;
+use subset_layers::Layer;
+
+/// What a board is for.
+#[derive(Drop)]
+pub struct Brief {
+    pub(crate) problem: Snapshot<Problem>,
+    pub(crate) pairs: Snapshot<Pairs>,
+    pub(crate) bound: u32,
+    pub(crate) layer: Snapshot<Layer>,
+    pub(crate) workers: Workers,
+}
+
+impl Model for Brief {
+    ghost use Rattle.layer_board.specs.Views.{BriefOf};
+
+    ghost Value = { BriefOf };
+
+    ghost view = { λ b. record { setting = record { problem = b.problem.value; pairs = b.pairs.value; bound = b.bound }; layer = b.layer.value; workers = b.workers } };
+}
+
+/// What a seat knows. Only contracts see it, and no value of it is made.
+pub struct Knowledge;
+
+impl Model for Knowledge {
+    ghost use Rattle.layer_board.specs.Views.{SeatView, nothing_known};
+
+    ghost Value = { SeatView };
+
+    ghost view = { λ _. nothing_known };
+}

@@ -1,0 +1,129 @@
+//! Takes all widths of the sets of a problem by blocks, layer by layer, on one thread, and finds the fewest nodes from them.
+//!
+//! Standard input has the numbers of variables and of functions, a byte each, and the truth tables behind them, eight
+//! points a byte, the first point in the lowest bit.
+#![tactic(auto)]
+
+ghost use Rattle.std.specs.Prelude.{◌≡◌, ◌<◌, ◌^◌, length, IfOk};
+ghost use Rattle.subset_layers.specs.Layers.{block_masks};
+
+use anyhow::Error;
+use compaction::{BlockWidths, Tally, block_widths};
+use order_model::{Mask, Problem};
+use std::alloc::{AllocError, Global};
+use std::io::Read;
+use subset_layers::{Block, Layer};
+
+/// The masks of a block.
+fn masks_of(alloc: Global, block: &Block) -> Result<Vec<Mask>, AllocError>
+    ensures { IfOk result (λ masks. masks.items ≡ block_masks block.now) }
+{
+    let mut masks = Vec::with_capacity(alloc, block.len())?;
+    for i in 0..block.len() {
+        masks.push(block.mask(i))?;
+    }
+    Ok(masks)
+}
+
+/// The widths of all members of a block's sets.
+fn all_widths(
+    alloc: Global,
+    problem: &Problem,
+    block: &Block,
+    tally: &mut Tally,
+) -> Result<BlockWidths, AllocError>
+    requires inputs { block.now.inputs ≡ problem.now.inputs }
+    requires room { tally.old < 2 ^ 20 }
+    ensures { IfOk result (λ widths. length widths.rows ≡ length (block_masks block.now)) }
+{
+    prove!(problem.inputs() <= 16);
+    prove!(block.len() <= 256);
+    let needed = masks_of(alloc, block)?;
+    let widths = block_widths(alloc, problem, block, &needed, tally)?;
+    Ok(widths)
+}
+
+/// The least sum of a cost without a member and its width.
+fn least(costs: &[u32], mask: Mask, row: &[u32; 16]) -> u32 {
+    let mut least = u32::MAX;
+    for x in 0..16u8 {
+        if (mask >> x) & 1 == 1 {
+            let without = costs
+                .get((mask & !(1 << x)) as usize)
+                .copied()
+                .unwrap_or(u32::MAX);
+            least = least.min(without.saturating_add(row[x as usize]));
+        }
+    }
+    least
+}
+
+/// The fewest nodes of the problem, by the recurrence over its sets.
+fn fewest_nodes(
+    alloc: Global,
+    problem: &Problem,
+    compactions: &mut u64,
+) -> Result<u32, AllocError> {
+    let mut costs = vec![in alloc; u32::MAX; 1usize << problem.inputs()]?;
+    if let Some(none) = costs.first_mut() {
+        *none = 0;
+    }
+    for size in 1..=problem.inputs() {
+        let layer = Layer::of(alloc, problem.inputs(), size)?;
+        for i in 0..layer.blocks() {
+            let block = layer.block(i);
+            if block.inputs() == problem.inputs() {
+                let mut tally = Tally::new();
+                let widths = all_widths(alloc, problem, &block, &mut tally)?;
+                *compactions = compactions.saturating_add(u64::from(widths.compactions()));
+                for i in 0..block.len() {
+                    let mask = block.mask(i);
+                    let cost = least(&costs, mask, &widths.row(i));
+                    if let Some(place) = costs.get_mut(mask as usize) {
+                        *place = cost;
+                    }
+                }
+            }
+        }
+    }
+    Ok(costs.last().copied().unwrap_or(0))
+}
+
+/// The problem that standard input holds, where it holds one.
+fn problem_in(alloc: Global, bytes: &[u8]) -> Result<Option<Problem>, AllocError> {
+    let [inputs, outputs, tables @ ..] = bytes else {
+        return Ok(None);
+    };
+    let (inputs, outputs) = (*inputs, *outputs);
+    if inputs < 1 || inputs > 16 || outputs < 1 || outputs > 16 {
+        return Ok(None);
+    }
+    let mut problem = Problem::new(alloc, inputs, outputs)?;
+    for output in 0..outputs {
+        for point in 0..1u32 << inputs {
+            let place = ((output as usize) << inputs) + point as usize;
+            if let Some(byte) = tables.get(place / 8) {
+                if (*byte >> (place % 8)) & 1 == 1
+                    && output < problem.outputs()
+                    && point < 1u32 << problem.inputs()
+                {
+                    problem.set(output, point);
+                }
+            }
+        }
+    }
+    Ok(Some(problem))
+}
+
+fn main(rt: HostRuntime) -> Result<(), Error> {
+    let mut bytes = Vec::new(rt.alloc());
+    rt.stdin().read_to_end(&mut bytes)?;
+    let Some(problem) = problem_in(rt.alloc(), &bytes)? else {
+        println!(rt; "no problem")?;
+        return Ok(());
+    };
+    let mut compactions = 0;
+    let nodes = fewest_nodes(rt.alloc(), &problem, &mut compactions)?;
+    println!(rt; "nodes: {nodes}, compactions: {compactions}")?;
+    Ok(())
+}

@@ -1,0 +1,187 @@
+-- The layers of all sets.
+--     size_small      the size of an order of at most 16 variables is below 2 ^ 24
+--     start_layer, layers_start, layers_push      the layer of the empty set, and a layer more
+--     set_layer      the layer in which a set is
+use Rattle.std.proofs.Common.{◌≡◌, ℕ, zero, suc, ◌+◌, ◌-◌, ◌*◌, ◌^◌, ◌<◌, ◌≤◌, ◌⊎◌, inl, inr, Bool, true, false, cond, List, [], ◌∷◌, ◌++◌, map, take, length, length-append, get_or, slice_get, slice_index, Some, None, IsSome, IfSome, Option, IsTrue, refl, sym, ap, ◌∙◌, subst, arith, count_ones, is_some, pow_mono, eqb}
+use Rattle.std.specs.List.{filter, flat_map, sum, sum_by, range_with_len}
+use Rattle.std.specs.Set.{distinct_count}
+use Rattle.std.proofs.Math.Nat.{two-pow-succ}
+use Rattle.std.proofs.lemmas.Bool.{cases_eq, cases_lt}
+use Rattle.std.proofs.lemmas.List.Sums.{sum_by-cons, sum-map}
+use Rattle.std.proofs.lemmas.List.FromFn.{length-range_with_len}
+use Rattle.std.proofs.lemmas.List.{get_or_append_left, get_or_push}
+use Rattle.std.proofs.lemmas.Map.Made.{distinct_count-le}
+use Rattle.std.proofs.lemmas.Option.{slice_get_within, slice_get-get_or, get_or_from_slice_get, same_Some}
+use Rattle.order_model.specs.Functions.{Function, restrict, table, same_table, depends, from_table}
+use Rattle.std.specs.Int.{bit_at}
+use Rattle.std.proofs.lemmas.Nat.{zero_from_ones}
+use Rattle.order_model.specs.Orders.{has, members, variables, mask_of, IsOrder}
+use Rattle.order_model.specs.Cells.{cell_of, wanted}
+use Rattle.order_model.proofs.FewestLaws.{arrangement_from_order}
+use Rattle.order_model.proofs.Recurrence.{distinct_variables}
+use Rattle.std.proofs.lemmas.Cmp.{nat_eq_equiv}
+use Rattle.std.proofs.lemmas.Map.Made.{length-from_same_keys}
+use Rattle.subset_layers.specs.declared.costs.Cell.{Cell}
+use Rattle.order_solve.specs.Needs.{needed}
+use Rattle.layer_board.specs.Pairing.{pair_of}
+use Rattle.order_model.specs.Pairs.{Pair}
+use Rattle.order_model.specs.Problems.{TruthTables, functions}
+use Rattle.order_model.specs.Levels.{subfunctions, reach, dependents, level_count, level_counts, size_under}
+use Rattle.subset_layers.specs.Layers.{LayerOf, layer_with, masks_of}
+use Rattle.subset_layers.specs.Costs.{CostsOf, start_costs, layer_of_costs, cost_at, as_pair, AreTrueCosts, AreTrueCells}
+use Rattle.subset_layers.proofs.BlockLists.{masks_has}
+use Rattle.subset_layers.proofs.Sizes.{ones-members}
+use Rattle.layer_board.specs.Views.{Setting, cell_for}
+use Rattle.layer_board.proofs.Layouts.{length-map_lem}
+use Rattle.order_solve.specs.Benches.{AreCostsFor, IsLayerFor}
+use Rattle.order_solve.specs.Bounded.{IsBounded, AreLayersFor}
+use Rattle.order_solve.proofs.Claimed.{length_filter_le}
+
+-- ---- sizes are small
+
+length-subfunctions : (xs : List ℕ) (f : Function) → length (subfunctions xs f) ≡ 2 ^ length xs
+unfolding subfunctions
+length-subfunctions [] f = refl
+length-subfunctions (x ∷ xs) f =
+    let l = length-subfunctions xs (restrict x false f) in
+    let r = length-subfunctions xs (restrict x true f) in
+    let p = two-pow-succ (length xs) in
+    length-append (subfunctions xs (restrict x false f)) (subfunctions xs (restrict x true f)) ∙ omega (arith, l, r, p)
+
+reach_small : (F : List Function) (xs : List ℕ) → length xs ≤ 16 → length (reach F xs) ≤ 2 ^ 16 * length F
+unfolding reach
+reach_small F xs few = go F
+  where
+    go : (fs : List Function) → length (flat_map (subfunctions xs) fs) ≤ 2 ^ 16 * length fs
+    go [] = omega arith
+    go (f ∷ fs) =
+        let r = go fs in
+        let l = length-subfunctions xs f in
+        let p : 2 ^ length xs ≤ 2 ^ 16 = pow_mono {j = 16} few in
+        let a = length-append (subfunctions xs f) (flat_map (subfunctions xs) fs) in
+        omega (arith, r, l, p, a)
+
+length_filter_functions : (p : Function → Bool) (fs : List Function) → length (filter p fs) ≤ length fs
+length_filter_functions p [] = omega arith
+length_filter_functions p (f ∷ fs) = by (p f) (length_filter_functions p fs)
+  where
+    by : (b : Bool) → length (filter p fs) ≤ length fs → length (cond b (f ∷ filter p fs) (filter p fs)) ≤ length (f ∷ fs)
+    by true h = omega arith
+    by false h = omega arith
+
+length_take_le : (i : ℕ) (xs : List ℕ) → length (take i xs) ≤ length xs
+length_take_le zero xs = omega arith
+length_take_le (suc i) [] = omega arith
+length_take_le (suc i) (x ∷ xs) = let k = length_take_le i xs in omega arith
+
+level_small : (n : ℕ) (F : List Function) (order : List ℕ) (i : ℕ) → length order ≤ 16 → length F ≤ 16 → level_count n F order i ≤ 2 ^ 20
+unfolding level_count dependents
+level_small n F order i few outputs =
+    let x = slice_index order i in
+    let fs = reach F (take i order) in
+    let a = distinct_count-le same_table (map (table n) (filter (λ f. depends n f x) fs)) in
+    let b = length-map_lem (table n) (filter (λ f. depends n f x) fs) in
+    let c = length_filter_functions (λ f. depends n f x) fs in
+    let d = reach_small F (take i order) (let t = length_take_le i order in omega (arith, t, few)) in
+    omega (arith, a, b, c, d, outputs)
+
+sum_small : (f : ℕ → ℕ) (xs : List ℕ) → ((x : ℕ) → f x ≤ 2 ^ 20) → sum_by f xs ≤ 2 ^ 20 * length xs
+sum_small f [] h = omega arith
+sum_small f (x ∷ xs) h = let k = sum_small f xs h in let l = h x in let e = sum_by-cons f x xs in omega (arith, k, l, e)
+
+pub size_small : (n : ℕ) (F : List Function) (order : List ℕ) → length order ≤ 16 → length F ≤ 16 → size_under n F order ≤ 2 ^ 24
+unfolding size_under level_counts
+size_small n F order few outputs =
+    let e = sum-map (level_count n F order) (range_with_len 0 (length order)) in
+    let k = sum_small (level_count n F order) (range_with_len 0 (length order)) (λ i. level_small n F order i few outputs) in
+    let l = length-range_with_len 0 (length order) in
+    omega (arith, e, k, l, few)
+
+-- ---- layers
+
+pub layers_start : (t : Setting) (c : CostsOf) → c ≡ start_costs t.problem.inputs → ((F : List Function) (P : List Pair) (bound : ℕ) → AreTrueCosts t.problem.inputs F P bound c) → AreLayersFor t (c ∷ [])
+layers_start t c is exact zero d e = subst (λ (z : CostsOf). IsLayerFor t 0 z) (same_Some c d e) (record {
+  inputs = ap (λ (z : CostsOf). z.inputs) is;
+  size_is = ap (λ (z : CostsOf). z.size) is;
+  costs_are = exact (functions t.problem) t.pairs.pairs t.bound;
+  cells_are = λ i lt. absurd (let k = ap (λ (z : CostsOf). length z.cells) is in omega (arith, k, lt));
+})
+layers_start t c is exact (suc k) d e = absurd (let w = slice_get_within (c ∷ []) (suc k) d e in omega (arith, w))
+
+pub layers_push : (t : Setting) (layers : List CostsOf) (c : CostsOf) → AreLayersFor t layers → IsLayerFor t (length layers) c → AreLayersFor t (layers ++ c ∷ [])
+layers_push t layers c h new k d e = elim (cases_lt k (length layers)) [
+  | inl lt ↦ h k d (slice_get-get_or layers k d lt ∙ ap Some (sym (get_or_append_left layers (c ∷ []) d k lt) ∙ get_or_from_slice_get (layers ++ c ∷ []) k d d e))
+  | inr ge ↦
+      let w = slice_get_within (layers ++ c ∷ []) k d e in
+      let l = length-append layers (c ∷ []) in
+      let at : length layers ≡ k = omega (arith, w, l, ge) in
+      let is : d ≡ c = sym (get_or_from_slice_get (layers ++ c ∷ []) k d d e) ∙ get_or_push layers c d k at in
+      subst (λ (z : CostsOf). IsLayerFor t k z) (sym is) (subst (λ (i : ℕ). IsLayerFor t i c) at new)
+]
+
+-- ---- the layer of a set
+
+module _ (t : Setting) (mask : ℕ) (c : CostsOf) (small : mask < 2 ^ t.problem.inputs) (h : IsLayerFor t (count_ones mask) c) where
+  abbrev n : ℕ
+  n = t.problem.inputs
+
+  ones : count_ones mask ≡ length (members n mask)
+  ones = ones-members n mask small
+
+  pub set_there : has (masks_of (layer_of_costs c)) mask ≡ true
+  set_there =
+      ap (λ k. has (masks_of (layer_with k c.size)) mask) h.inputs ∙ masks_has n c.size mask small (sym ones ∙ sym h.size_is)
+
+pub ones_le : (n mask : ℕ) → mask < 2 ^ n → count_ones mask ≤ n
+unfolding members
+ones_le n mask lt =
+    let e = ones-members n mask lt in
+    let l = length_filter_le (λ x. eqb (bit_at mask x) 1) (variables n) in
+    let k = length-range_with_len 0 n in
+    omega (arith, e, l, k)
+
+pub ones_some : (mask : ℕ) → 0 < mask → 0 < count_ones mask
+ones_some mask lt = elim (cases_eq (count_ones mask) 0) [
+  | inl e ↦ absurd (let z = zero_from_ones mask e in omega (arith, z, lt))
+  | inr ne ↦ omega (arith, ne)
+]
+
+-- what a found cell is
+from_some : {X : Type 0} (P : X → Type 0) (o : Option X) (x : X) → IfSome o P → o ≡ Some x → P x
+from_some P o x h e = subst (λ z. IfSome z P) e h
+
+pub cell_found : (t : Setting) (k mask : ℕ) (c : CostsOf) (o : Option Cell) (cell : Cell) → IsLayerFor t k c →
+    ((F : List Function) (P : List Pair) (bound : ℕ) → AreTrueCells c.inputs F P bound c → IfSome o (λ x. as_pair x ≡ cell_of c.inputs F P bound mask)) → o ≡ Some cell → pair_of cell ≡ cell_for t mask
+cell_found t k mask c o cell h exact e =
+    from_some (λ x. as_pair x ≡ cell_of c.inputs (functions t.problem) t.pairs.pairs t.bound mask) o cell
+    (exact (functions t.problem) t.pairs.pairs t.bound (subst (λ (n : ℕ). AreTrueCells n (functions t.problem) t.pairs.pairs t.bound c) (sym h.inputs) h.cells_are)) e
+    ∙ ap (λ n. cell_of n (functions t.problem) t.pairs.pairs t.bound mask) h.inputs
+
+pub needed_is : (t : Setting) (k mask r : ℕ) (c : CostsOf) → IsLayerFor t k c →
+    ((G : List Function) → AreTrueCosts c.inputs G t.pairs.pairs t.bound c → r ≡ mask_of (wanted c.inputs G t.pairs.pairs t.bound mask)) → r ≡ needed t mask
+unfolding needed
+needed_is t k mask r c h f = f (functions t.problem) (subst (λ (n : ℕ). AreTrueCosts n (functions t.problem) t.pairs.pairs t.bound c) (sym h.inputs) h.costs_are)
+    ∙ ap (λ n. mask_of (wanted n (functions t.problem) t.pairs.pairs t.bound mask)) h.inputs
+
+-- the layer before that of a set
+pub next_there : (t : Setting) (mask : ℕ) (c : CostsOf) → mask < 2 ^ t.problem.inputs → 0 < mask → IsLayerFor t (count_ones mask - 1) c → has (masks_of (layer_with c.inputs (c.size + 1))) mask ≡ true
+next_there t mask c small some h =
+    let e = ones-members t.problem.inputs mask small in
+    let s = ones_some mask some in
+    let z = h.size_is in
+    ap (λ k. has (masks_of (layer_with k (c.size + 1))) mask) h.inputs ∙ masks_has t.problem.inputs (c.size + 1) mask small (omega (arith, e, s, z))
+
+-- how many variables an order has
+pub order_length : (n : ℕ) (order : List ℕ) → IsOrder n order → length order ≡ n
+order_length n order o =
+    let a = arrangement_from_order n order o in
+    length-from_same_keys nat_eq_equiv order (variables n) a.once (distinct_variables n) a.members ∙ length-range_with_len 0 n
+
+pub bound_small : (t : Setting) (outputs : ℕ) → IsBounded t → t.problem.inputs ≤ 16 → outputs ≡ length t.problem.tables → outputs ≤ 16 → t.bound + 1 < 2 ^ 32
+bound_small t outputs b few are some =
+    let F = functions t.problem in
+    let l : length F ≡ length t.problem.tables = length-map_lem from_table t.problem.tables in
+    let o = order_length t.problem.inputs b.order b.is_order in
+    let k = size_small t.problem.inputs F b.order (omega (arith, o, few)) (omega (arith, l, are, some)) in
+    let e = b.size in
+    omega (arith, e, k)

@@ -1,0 +1,11 @@
+pub mod Filters
+pub mod Wanted
+pub mod Blocks
+pub mod Posts
+pub mod Claimed
+pub mod Rounds
+pub mod Placing
+pub mod Layers
+pub mod ReadOrders
+pub mod ListedSets
+pub mod Solved

@@ -1,0 +1,98 @@
+-- A worker's rounds: a claim, and the posts of its block.
+--     Working t s0 s count      what a worker keeps from s0 to s
+--     working_none, working_stays, working_round      at the start, where claims stay, after a round
+use Rattle.std.proofs.Common.{◌≡◌, ℕ, ◌<◌, slice_get, ◌+◌, Bool, true, false, not, ◌&&◌, List, Option, Some, None, inl, inr, refl, sym, ap, ap₂, ◌∙◌, subst, nat_eq, arith}
+use Rattle.std.specs.List.{filter}
+use Rattle.std.proofs.lemmas.Bool.{false≢true, cases_Bool, and_parts, and_from}
+use Rattle.order_model.specs.Orders.{has}
+use Rattle.order_model.proofs.OrderLists.{has_filter}
+use Rattle.subset_layers.specs.Layers.{LayerOf, BlockOf, masks_of, blocks_of, block_masks, layer_of, low_byte}
+use Rattle.layer_core.specs.Machine.{place_of, claimed, claims_block}
+use Rattle.layer_board.specs.Views.{Setting, BoardId, SeatOf, layout_of, stepped, knows_place, has_claimed, knows_filled}
+use Rattle.order_solve.specs.Gains.{gains, gained, widths_for, StaysClaimed, IsPosted}
+use Rattle.order_solve.proofs.Filters.{filter_none}
+use Rattle.order_solve.proofs.Posts.{claimed_same}
+use Rattle.order_solve.proofs.Claimed.{ClaimsBlock, claimed_has, block_layer, same_board, gained_now, as_before, kept, claim_gains, was_open, open_marks, fewer_open}
+
+pub record Working (t : Setting) (s0 s : SeatOf) (count : ℕ) : Type 0 where
+  pub board : s.board ≡ s0.board
+  pub kept : (mask : ℕ) → has_claimed s0 mask ≡ true → has_claimed s mask ≡ true
+  pub posted : (mask : ℕ) → gains s0 s mask ≡ true → knows_filled s mask ≡ true
+  pub tally : count ≡ widths_for t (gained s0 s)
+
+not_gained : (b : Bool) → (b && not b) ≡ false
+not_gained true = refl
+not_gained false = refl
+
+pub working_none : (t : Setting) (s : SeatOf) → Working t s s 0
+unfolding gained widths_for
+working_none t s = record {
+  board = refl;
+  kept = λ mask e. e;
+  posted = λ mask e. absurd (false≢true (sym (not_gained (has_claimed s mask)) ∙ e));
+  tally = sym (ap (widths_for t) (filter_none (gains s s) (masks_of s.board.brief.layer) (λ mask. not_gained (has_claimed s mask))));
+}
+
+-- what is gained is what is claimed
+gained_same : (s0 s s' : SeatOf) → ((mask : ℕ) → has_claimed s' mask ≡ has_claimed s mask) → gained s0 s' ≡ gained s0 s
+unfolding gained
+gained_same s0 s s' e = λ i. filter (λ mask. e mask i && not (has_claimed s0 mask)) (masks_of s0.board.brief.layer)
+
+pub working_stays : (t : Setting) (s0 s s' : SeatOf) (count : ℕ) → StaysClaimed s s' → Working t s0 s count → Working t s0 s' count
+working_stays t s0 s s' count h w =
+    let same = claimed_same s s' h in
+    record {
+      board = h.board ∙ w.board;
+      kept = λ mask e. same mask ∙ w.kept mask e;
+      posted = λ mask e. h.known mask (w.posted mask (ap (λ k. k && not (has_claimed s0 mask)) (sym (same mask)) ∙ e));
+      tally = w.tally ∙ sym (ap (widths_for t) (gained_same s0 s s' same));
+    }
+
+-- a claim gives no knowledge of cells
+claim_knows : (s s1 : SeatOf) (p mask : ℕ) → s1 ≡ stepped s (claims_block s.worker p) 1 → knows_filled s mask ≡ true → knows_filled s1 mask ≡ true
+claim_knows s s1 p mask is e = ap (λ (z : SeatOf). knows_filled z mask) is ∙ by (place_of (layout_of s.board.brief.layer) mask) e
+  where
+    by : (o : Option ℕ) → knows_place s.worker o ≡ true → knows_place (claims_block s.worker p) o ≡ true
+    by None k = k
+    by (Some q) k = k
+
+module _ (t : Setting) (s0 s s1 s2 : SeatOf) (count p : ℕ) (b : BlockOf) (w : Working t s0 s count) (h : ClaimsBlock s s1 p b) where
+  pub round_gains : widths_for t (gained s0 s1) ≡ count + widths_for t (block_masks b)
+  round_gains = claim_gains s s1 p b h t s0 w.board w.kept ∙ ap (λ k. k + widths_for t (block_masks b)) (sym w.tally)
+
+  in_the_block : (mask : ℕ) → has (masks_of s.board.brief.layer) mask ≡ true → nat_eq (low_byte mask) b.low ≡ true → has (block_masks b) mask ≡ true
+  unfolding block_masks
+  in_the_block mask m y =
+      has_filter (λ k. nat_eq (low_byte k) b.low) (masks_of (layer_of b)) mask
+      ∙ and_from _ _ (subst (λ (l : LayerOf). has (masks_of l) mask ≡ true) (sym (block_layer s.board.brief.layer p b h.block)) m) y
+
+  pub working_round : StaysClaimed s1 s2 → ((mask : ℕ) → has (block_masks b) mask ≡ true → IsPosted s2 mask) → Working t s0 s2 (count + widths_for t (block_masks b))
+  working_round stays all =
+      let same = claimed_same s1 s2 stays in
+      record {
+        board = stays.board ∙ same_board s s1 p b h ∙ w.board;
+        kept = λ mask e. same mask ∙ kept s s1 p b h mask (claimed_has s mask (w.kept mask e)) (w.kept mask e);
+        posted = posted same;
+        tally = sym round_gains ∙ sym (ap (widths_for t) (gained_same s0 s1 s2 same));
+      }
+    where
+      posted : ((mask : ℕ) → has_claimed s2 mask ≡ has_claimed s1 mask) → (mask : ℕ) → gains s0 s2 mask ≡ true → knows_filled s2 mask ≡ true
+      posted same mask e =
+          let parts = and_parts (has_claimed s2 mask) (not (has_claimed s0 mask)) e in
+          let mine : has (masks_of s.board.brief.layer) mask ≡ true = subst (λ (z : BoardId). has (masks_of z.brief.layer) mask ≡ true) (stays.board ∙ same_board s s1 p b h) (claimed_has s2 mask parts.0) in
+          elim (cases_Bool (nat_eq (low_byte mask) b.low)) [
+            | inl y ↦ all mask (in_the_block mask mine y) parts.0
+            | inr n ↦
+                let before : has_claimed s mask ≡ true = sym (as_before s s1 p b h mask mine n) ∙ sym (same mask) ∙ parts.0 in
+                stays.known mask (claim_knows s s1 p mask h.is (w.posted mask (and_from _ _ before parts.1)))
+          ]
+
+-- what a claim ensures
+pub claims_at : (B : BoardId) (s s1 : SeatOf) (p : ℕ) (b : BlockOf) → s.board ≡ B → slice_get (blocks_of B.brief.layer) p ≡ Some b → s1 ≡ stepped s (claims_block s.worker p) 1 → claimed s1.worker p ≡ true →
+    ((q : ℕ) → claimed s.worker q ≡ true → q < p) → ClaimsBlock s s1 p b
+claims_at B s s1 p b board block is there later = record { block = subst (λ (z : BoardId). slice_get (blocks_of z.brief.layer) p ≡ Some b) (sym board) block; is = is; there = there; later = later }
+
+-- a round leaves fewer blocks that are not claimed
+pub round_closes : (s s1 s2 : SeatOf) (p : ℕ) (b : BlockOf) → ClaimsBlock s s1 p b → StaysClaimed s1 s2 → open_marks s2.worker.claims < open_marks s.worker.claims
+round_closes s s1 s2 p b h stays = subst (λ (xs : List Bool). open_marks xs < open_marks s.worker.claims) (sym (stays.claims ∙ ap (λ (z : SeatOf). z.worker.claims) h.is))
+    (fewer_open s.worker.claims p (ap (λ (z : SeatOf). claimed z.worker p) (sym h.is) ∙ h.there) (was_open s s1 p b h))

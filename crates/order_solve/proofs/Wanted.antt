@@ -1,0 +1,133 @@
+-- The members of a set whose widths its cell takes.
+--     affordable_is      the mask that the code collects
+--     wanted_lawful, wanted_unlawful      the members whose widths are taken, of a lawful set and of another one
+--     needed_bit, needed_ones      the bits of their mask, and how many it has
+use Rattle.std.proofs.Common.{◌≡◌, ◌≢◌, ℕ, ◌+◌, ◌-◌, ◌^◌, ◌<◌, ◌≤◌, Bool, true, false, cond, ◌&&◌, List, [], map, length, IsTrue, unwrap_or, refl, sym, ap, ◌∙◌, subst, arith, eqb, eq-eqb, ne_eqb, leb, count_ones}
+use Rattle.std.specs.Int.{bit_at}
+use Rattle.std.specs.List.{filter, sum_by, IsDistinct}
+use Rattle.std.proofs.lemmas.Bool.{false≢true, and_parts, and_from, and_left, leb-true, le-leb}
+use Rattle.std.proofs.lemmas.Cmp.{nat_eq_equiv}
+use Rattle.std.proofs.lemmas.Map.Made.{length-from_same_keys}
+use Rattle.std.proofs.lemmas.List.Sums.{sum-map}
+use Rattle.std.proofs.Common.{nat_eq}
+use Rattle.order_model.specs.Functions.{Function}
+use Rattle.order_model.specs.Orders.{has, members, variables, without, mask_of}
+use Rattle.order_model.specs.Pairs.{Pair, is_lawful, tops}
+use Rattle.order_model.specs.Problems.{functions}
+use Rattle.order_model.specs.Cells.{wanted, cell_cost}
+use Rattle.order_model.proofs.OrderLists.{same_bool, has_filter}
+use Rattle.order_model.proofs.PairLists.{lawful_same}
+use Rattle.order_model.proofs.PairMasks.{filter_same}
+use Rattle.order_model.proofs.PackedProblems.{MaskOfFirst, mask_of_passing}
+use Rattle.order_model.proofs.Recurrence.{distinct_filter}
+use Rattle.order_model.proofs.Masks.{distinct_members, members_without, members_small, bit-mask_of, members_mask_of, mask_of_small}
+use Rattle.order_model.proofs.CellLaws.{cost_known, members_zero}
+use Rattle.subset_layers.specs.Layers.{masks_of, layer_with}
+use Rattle.subset_layers.specs.Costs.{CostsOf, cost_without, AreTrueCosts}
+use Rattle.subset_layers.proofs.CostLists.{less_one}
+use Rattle.subset_layers.proofs.Sizes.{ones-members}
+use Rattle.layer_board.specs.Views.{Setting}
+use Rattle.order_solve.specs.Needs.{affordable, needed}
+use Rattle.order_solve.specs.Gains.{width_count, widths_for}
+use Rattle.order_solve.proofs.Filters.{filter_twice, filter_none, sum_map}
+
+-- whether a variable is a member without which the cost is within the bound
+pub is_affordable : CostsOf → ℕ → ℕ → ℕ → Bool
+is_affordable c bound mask x = eqb (bit_at mask x) 1 && leb (cost_without c mask x) bound
+
+pub affordable_is : (c : CostsOf) (bound mask found : ℕ) → MaskOfFirst (is_affordable c bound mask) c.inputs found → found ≡ mask_of (affordable c bound mask)
+unfolding is_affordable affordable members
+affordable_is c bound mask found m =
+    mask_of_passing (is_affordable c bound mask) c.inputs found m ∙ ap mask_of (sym (filter_twice (λ x. eqb (bit_at mask x) 1) (λ x. leb (cost_without c mask x) bound) (variables c.inputs)))
+
+pub affordable_yes : (c : CostsOf) (bound mask x cost : ℕ) → bit_at mask x ≡ 1 → cost_without c mask x ≡ cost → cost ≤ bound → is_affordable c bound mask x ≡ true
+unfolding is_affordable
+affordable_yes c bound mask x cost b e le = and_from _ _ (eq-eqb (bit_at mask x) 1 b) (le-leb (cost_without c mask x) bound (omega arith))
+
+pub affordable_dear : (c : CostsOf) (bound mask x cost : ℕ) → cost_without c mask x ≡ cost → bound < cost → is_affordable c bound mask x ≡ false
+unfolding is_affordable
+affordable_dear c bound mask x cost e lt = dear (eqb (bit_at mask x) 1)
+  where
+    over : leb (cost_without c mask x) bound ≡ false
+    over = le_no (leb (cost_without c mask x) bound) (λ t. let l = leb-true (cost_without c mask x) bound t in absurd (omega arith))
+      where
+        le_no : (b : Bool) → (b ≡ true → ⊥) → b ≡ false
+        le_no true h = absurd (h refl)
+        le_no false h = refl
+
+    dear : (b : Bool) → (b && leb (cost_without c mask x) bound) ≡ false
+    dear true = over
+    dear false = refl
+
+pub affordable_absent : (c : CostsOf) (bound mask x : ℕ) → bit_at mask x ≢ 1 → is_affordable c bound mask x ≡ false
+unfolding is_affordable
+affordable_absent c bound mask x b = and_left _ _ (ne_eqb (bit_at mask x) 1 b)
+
+module _ (c : CostsOf) (F : List Function) (P : List Pair) (bound mask : ℕ) (next : has (masks_of (layer_with c.inputs (c.size + 1))) mask ≡ true) (costs : AreTrueCosts c.inputs F P bound c) where
+  abbrev n : ℕ
+  n = c.inputs
+
+  abbrev S : List ℕ
+  S = members n mask
+
+  cost_is : (x : ℕ) → has S x ≡ true → cost_without c mask x ≡ cell_cost n F P bound (mask - 2 ^ x)
+  cost_is x m = ap (λ o. unwrap_or o 0) (costs (mask - 2 ^ x) (less_one n c.size mask x next m))
+
+  -- a member without which the cost is within the bound may stand on top
+  top_is : (x : ℕ) → has S x ≡ true → cell_cost n F P bound (mask - 2 ^ x) ≤ bound → is_lawful P (without x S) ≡ true
+  top_is x m le = sym (lawful_same P (members n (mask - 2 ^ x)) (without x S) (members_without n mask x m)) ∙ (cost_known n F P bound (mask - 2 ^ x) le).0
+
+  both : (x : ℕ) → has S x ≡ true → is_lawful P S ≡ true → (is_lawful P (without x S) && (is_lawful P S && leb (cell_cost n F P bound (mask - 2 ^ x)) bound)) ≡ leb (cost_without c mask x) bound
+  both x m low = same_bool _ _ (λ e. ap (λ k. leb k bound) (cost_is x m) ∙ (and_parts _ _ (and_parts _ _ e).1).1)
+      (λ e.
+          let le = ap (λ k. leb k bound) (sym (cost_is x m)) ∙ e in
+          and_from _ _ (top_is x m (leb-true (cell_cost n F P bound (mask - 2 ^ x)) bound le)) (and_from _ _ low le))
+
+  pub wanted_lawful : is_lawful P S ≡ true → wanted n F P bound mask ≡ affordable c bound mask
+  unfolding wanted affordable
+  wanted_lawful low = filter_twice (λ x. is_lawful P (without x S)) (λ x. is_lawful P S && leb (cell_cost n F P bound (mask - 2 ^ x)) bound) S
+      ∙ filter_same (λ x. is_lawful P (without x S) && (is_lawful P S && leb (cell_cost n F P bound (mask - 2 ^ x)) bound)) (λ x. leb (cost_without c mask x) bound) S (λ x m. both x m low)
+
+pub wanted_unlawful : (n : ℕ) (F : List Function) (P : List Pair) (bound mask : ℕ) → is_lawful P (members n mask) ≡ false → wanted n F P bound mask ≡ []
+unfolding wanted
+wanted_unlawful n F P bound mask low = filter_none (λ x. is_lawful P (members n mask) && leb (cell_cost n F P bound (mask - 2 ^ x)) bound) (tops P (members n mask)) (λ x. and_left _ _ low)
+
+-- how many bits the mask of a list has
+ones_mask_of : (n : ℕ) (xs : List ℕ) → IsDistinct nat_eq xs → ((y : ℕ) → has xs y ≡ true → y < n) → count_ones (mask_of xs) ≡ length xs
+ones_mask_of n xs d small = ones-members n (mask_of xs) (mask_of_small n xs d small)
+    ∙ length-from_same_keys nat_eq_equiv (members n (mask_of xs)) xs (distinct_members n (mask_of xs)) d (members_mask_of n xs d small)
+
+module _ (n : ℕ) (F : List Function) (P : List Pair) (bound mask : ℕ) where
+  pub distinct_wanted : IsDistinct nat_eq (wanted n F P bound mask)
+  unfolding wanted
+  distinct_wanted = distinct_filter _ (tops P (members n mask)) (distinct_filter (λ x. is_lawful P (without x (members n mask))) (members n mask) (distinct_members n mask))
+
+  pub wanted_member : (x : ℕ) → has (wanted n F P bound mask) x ≡ true → has (members n mask) x ≡ true
+  unfolding wanted
+  wanted_member x h = (and_parts _ _ (sym (has_filter (λ y. is_lawful P (without y (members n mask))) (members n mask) x) ∙ (and_parts _ _ (sym (has_filter _ (tops P (members n mask)) x) ∙ h)).0)).0
+
+  pub wanted_ones : count_ones (mask_of (wanted n F P bound mask)) ≡ length (wanted n F P bound mask)
+  wanted_ones = ones_mask_of n (wanted n F P bound mask) distinct_wanted (λ y h. members_small n mask y (wanted_member y h))
+
+  pub wanted_bit : (x : ℕ) → bit_at (mask_of (wanted n F P bound mask)) x ≡ cond (has (wanted n F P bound mask) x) 1 0
+  wanted_bit x = bit-mask_of (wanted n F P bound mask) distinct_wanted x
+
+  pub bit_wanted : (x : ℕ) → bit_at (mask_of (wanted n F P bound mask)) x ≡ 1 → has (wanted n F P bound mask) x ≡ true
+  bit_wanted x e = by (has (wanted n F P bound mask) x) 1 (sym (wanted_bit x) ∙ e) (omega arith)
+    where
+      by : (b : Bool) → (k : ℕ) → cond b k 0 ≡ k → 0 < k → b ≡ true
+      by true k h lt = refl
+      by false k h lt = absurd (omega arith)
+
+pub needed_ones : (t : Setting) (mask : ℕ) → count_ones (needed t mask) ≡ width_count t mask
+unfolding needed
+needed_ones t mask = wanted_ones t.problem.inputs (functions t.problem) t.pairs.pairs t.bound mask
+
+pub needed_sum : (t : Setting) (masks : List ℕ) → sum_by count_ones (map (needed t) masks) ≡ widths_for t masks
+unfolding widths_for
+needed_sum t masks = sum_map count_ones (needed t) (width_count t) masks (needed_ones t) ∙ sym (sum-map (width_count t) masks)
+
+-- the empty set takes none
+pub wanted_none : (n : ℕ) (F : List Function) (P : List Pair) (bound : ℕ) → wanted n F P bound 0 ≡ []
+unfolding wanted
+wanted_none n F P bound = ap (λ S. filter (λ x. is_lawful P (members n 0) && leb (cell_cost n F P bound (0 - 2 ^ x)) bound) (tops P S)) (members_zero n)

@@ -1,0 +1,15 @@
+use Rattle.std.proofs.Common.{◌≡◌, ℕ, ◌^◌, ◌<◌, ◌≤◌, count_ones, sym, ap, ◌∙◌, arith}
+use Rattle.order_solve.proofs.Layers.{ones_le, ones_some, set_there, cell_found}
+use Rattle.order_solve.proofs.all_cells.AllCells.cell.Goals as goal
+
+pub layer-requires : goal.layer-requires
+layer-requires c = ones_le c.args.self.now.problem.inputs c.args.mask c.requires.within
+
+pub unwrap-requires : goal.unwrap-requires
+unwrap-requires c = c.cell_of.ensures.some.1 (
+  set_there c.args.self.now c.args.mask c.layer.result.now c.requires.within c.layer.ensures,
+  (let s = ones_some c.args.mask c.requires.some in let z = c.layer.ensures.size_is in omega (arith, s, z)),
+)
+
+pub returns : goal.returns
+returns c = cell_found c.args.self.now (count_ones c.args.mask) c.args.mask c.layer.result.now c.cell_of.result c.unwrap.result c.layer.ensures c.cell_of.ensures.exact c.unwrap.ensures

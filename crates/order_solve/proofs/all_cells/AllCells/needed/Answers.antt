@@ -1,0 +1,21 @@
+use Rattle.std.proofs.Common.{◌≡◌, ℕ, ◌-◌, ◌^◌, ◌<◌, ◌≤◌, count_ones, sym, ap, ◌∙◌, subst, arith}
+use Rattle.layer_board.specs.Views.{Setting}
+use Rattle.order_solve.specs.Benches.{IsLayerFor}
+use Rattle.order_solve.specs.Needs.{needed}
+use Rattle.order_solve.proofs.Layers.{ones_le, ones_some, next_there, needed_is}
+use Rattle.order_solve.proofs.all_cells.AllCells.needed.Goals as goal
+
+pub overflow_sub-mask : goal.overflow_sub-mask
+overflow_sub-mask c = let s = ones_some c.args.mask c.requires.some in omega (arith, s)
+
+pub layer-before-requires : goal.layer-before-requires
+layer-before-requires c = let l = ones_le c.args.self.now.problem.inputs c.args.mask c.requires.within in omega (arith, l)
+
+pub needed_members-requires-clause-next : goal.needed_members-requires-clause-next
+needed_members-requires-clause-next c = next_there c.args.self.now c.args.mask c.layer-before.result.now c.requires.within c.requires.some c.layer-before.ensures
+
+pub returns : goal.returns
+returns c =
+    needed_is _ (count_ones c.args.mask - 1) c.args.mask c.needed_members.result c.layer-before.result.now
+    (subst (λ (t : Setting). IsLayerFor t (count_ones c.args.mask - 1) c.layer-before.result.now) (sym c.self.view_is) c.layer-before.ensures) c.needed_members.ensures
+    ∙ ap (λ (t : Setting). needed t c.args.mask) c.self.view_is

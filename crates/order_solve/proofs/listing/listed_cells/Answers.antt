@@ -1,0 +1,36 @@
+use Rattle.std.proofs.Common.{◌≡◌, ℕ, ◌+◌, ◌-◌, ◌*◌, ◌%◌, ◌^◌, ◌<◌, ◌≤◌, Vec, Global, List, [], ◌∷◌, ◌++◌, refl, sym, ap, ◌∙◌, subst, arith}
+use Rattle.std.proofs.lemmas.Nat.{one_shl}
+use Rattle.order_model.specs.Problems.{functions}
+use Rattle.order_solve.specs.declared.solution.ListedCell.{ListedCell}
+use Rattle.order_solve.proofs.ListedSets.{ListedTo, listed_start, listed_yes, listed_no, listed_whole}
+use Rattle.order_solve.proofs.listing.listed_cells.Goals as goal
+use Rattle.order_solve.proofs.listing.listed_cells.Goals.{then-from+in_ok-push, else-from}
+
+pub loop-number-init : goal.loop-number-init
+loop-number-init c = subst (λ (xs : List ListedCell). ListedTo c.args.cells.now c.args.total 0 xs) (sym c.new-found.ensures.items) (listed_start c.args.cells.now c.args.total)
+
+pub loop-number-preserved : goal.loop-number-preserved
+loop-number-preserved c =
+    let t = c.args.cells.now in
+    let out = c.count_outside.ensures.exact t.problem.inputs (functions t.problem) c.essential-essential.ensures in
+    let a = c.from.ensures in
+    let b = c.from-in-loop-number.ensures in
+    let d = c.from-in-loop-number-2.ensures in
+    elim c.if-from.branch [
+      | then-from+in_ok-push w ↦
+          subst (λ (xs : List ListedCell). ListedTo t c.args.total (c.loop-number.number + 1) xs) (sym (ap (λ v. v.items) w.found-is ∙ w.in_ok-push.ensures.items))
+          (listed_yes t c.args.total c.loop-number.number c.loop-number.found.items c.loop-number.invariant c.cost-cost.result c.count_outside.result c.cost-cost.ensures out c.requires (let lt = w.if-from.true in omega (arith, a, b, d, lt)))
+      | else-from w ↦
+          subst (λ (xs : List ListedCell). ListedTo t c.args.total (c.loop-number.number + 1) xs) (sym (ap (λ v. v.items) w.found-is))
+          (listed_no t c.args.total c.loop-number.number c.loop-number.found.items c.loop-number.invariant c.cost-cost.result c.count_outside.result c.cost-cost.ensures out (let lt = w.if-from.false in omega (arith, a, b, d, lt)))
+    ]
+
+pub returns : goal.returns
+returns c =
+    let t = c.args.cells.now in
+    let e = c.inputs.ensures in
+    let s = one_shl c.inputs.result 32 (let f = e.few in omega (arith, f)) in
+    let p = ap (λ (k : ℕ). 2 ^ k) e.value in
+    let f = c.loop-number-test.false in
+    let m = c.loop-number.auto.number-end in
+    listed_whole t c.args.total c.loop-number.number c.loop-number.found.items c.loop-number.invariant (omega (arith, s, p, f, m)) c.requires

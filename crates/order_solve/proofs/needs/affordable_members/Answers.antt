@@ -1,0 +1,56 @@
+use Rattle.std.proofs.Common.{◌≡◌, ℕ, ◌+◌, ◌-◌, ◌^◌, ◌<◌, ◌≤◌, unwrap_or, refl, sym, ap, ◌∙◌, subst, arith}
+use Rattle.std.proofs.lemmas.Nat.Bits.{shr_and_one}
+use Rattle.order_model.specs.Orders.{has}
+use Rattle.order_model.proofs.PackedProblems.{MaskOfFirst, mask_none, mask_with_next, mask_without_next}
+use Rattle.subset_layers.specs.Layers.{masks_of, layer_with}
+use Rattle.subset_layers.specs.Costs.{cost_at, cost_without}
+use Rattle.subset_layers.proofs.CostLists.{member_from_bit, power_le_mask, shifted_bit, less_one}
+use Rattle.order_solve.proofs.Wanted.{is_affordable, affordable_is, affordable_yes, affordable_dear, affordable_absent}
+use Rattle.order_solve.proofs.needs.affordable_members.Goals as goal
+use Rattle.order_solve.proofs.needs.affordable_members.Goals.{then-mask-x-eq1+then-cost-bound, then-mask-x-eq1+else-cost-bound, else-mask-x-eq1}
+
+pub overflow_sub-mask : goal.overflow_sub-mask
+overflow_sub-mask c =
+    let e = shifted_bit c.args.mask c.loop-x.x (omega arith) c.if-mask-x-eq1.true in
+    let p = power_le_mask c.args.mask c.loop-x.x c.if-mask-x-eq1.true in
+    omega arith
+
+pub unwrap-cost-requires : goal.unwrap-cost-requires
+unwrap-cost-requires c =
+    let e = shifted_bit c.args.mask c.loop-x.x (omega arith) c.if-mask-x-eq1.true in
+    let n = c.args.costs.now.inputs in
+    let member = member_from_bit n c.args.mask c.loop-x.x (omega arith) c.if-mask-x-eq1.true in
+    c.cost_of.ensures.some.1 (ap (λ k. has (masks_of (layer_with n c.args.costs.now.size)) (c.args.mask - k)) e ∙ less_one n c.args.costs.now.size c.args.mask c.loop-x.x c.requires member)
+
+pub loop-x-init : goal.loop-x-init
+loop-x-init c = mask_none (is_affordable c.args.costs.now c.args.bound c.args.mask)
+
+pub loop-x-preserved : goal.loop-x-preserved
+loop-x-preserved c =
+    let costs = c.args.costs.now in
+    let test = is_affordable costs c.args.bound c.args.mask in
+    let small : c.loop-x.x < 16 = omega arith in
+    elim c.if-mask-x-eq1.branch [
+      | then-mask-x-eq1+then-cost-bound w ↦
+          let e = shifted_bit c.args.mask c.loop-x.x (omega arith) w.if-mask-x-eq1.true in
+          let is : cost_without costs c.args.mask c.loop-x.x ≡ w.unwrap-cost.result = ap (λ k. unwrap_or (cost_at costs (c.args.mask - k)) 0) (sym e) ∙ ap (λ o. unwrap_or o 0) (sym w.cost_of.ensures.value ∙ w.unwrap-cost.ensures) in
+          subst (λ (m : ℕ). MaskOfFirst test (c.loop-x.x + 1) m) (sym w.found-is)
+          (mask_with_next test c.loop-x.x c.loop-x.found small c.loop-x.invariant
+          (affordable_yes costs c.args.bound c.args.mask c.loop-x.x w.unwrap-cost.result (sym (shr_and_one c.args.mask c.loop-x.x) ∙ w.if-mask-x-eq1.true) is (let t = w.if-cost-bound.true in omega arith)))
+      | then-mask-x-eq1+else-cost-bound w ↦
+          let e = shifted_bit c.args.mask c.loop-x.x (omega arith) w.if-mask-x-eq1.true in
+          let is : cost_without costs c.args.mask c.loop-x.x ≡ w.unwrap-cost.result = ap (λ k. unwrap_or (cost_at costs (c.args.mask - k)) 0) (sym e) ∙ ap (λ o. unwrap_or o 0) (sym w.cost_of.ensures.value ∙ w.unwrap-cost.ensures) in
+          subst (λ (m : ℕ). MaskOfFirst test (c.loop-x.x + 1) m) (sym w.found-is)
+          (mask_without_next test c.loop-x.x c.loop-x.found small c.loop-x.invariant
+          (affordable_dear costs c.args.bound c.args.mask c.loop-x.x w.unwrap-cost.result is (let t = w.if-cost-bound.false in omega arith)))
+      | else-mask-x-eq1 w ↦
+          subst (λ (m : ℕ). MaskOfFirst test (c.loop-x.x + 1) m) (sym w.found-is)
+          (mask_without_next test c.loop-x.x c.loop-x.found small c.loop-x.invariant
+          (affordable_absent costs c.args.bound c.args.mask c.loop-x.x (λ e. w.if-mask-x-eq1.false (shr_and_one c.args.mask c.loop-x.x ∙ e))))
+    ]
+
+pub returns : goal.returns
+returns c =
+    let costs = c.args.costs.now in
+    let e : c.loop-x.x ≡ costs.inputs = omega arith in
+    affordable_is costs c.args.bound c.args.mask c.loop-x.found (subst (λ (k : ℕ). MaskOfFirst (is_affordable costs c.args.bound c.args.mask) k c.loop-x.found) e c.loop-x.invariant)

@@ -1,0 +1,46 @@
+use Rattle.std.proofs.Common.{◌≡◌, ℕ, ◌+◌, ◌<◌, ◌≤◌, List, map, length, get_or, slice_index, inl, inr, refl, sym, ap, ◌∙◌, subst, arith}
+use Rattle.std.proofs.lemmas.Bool.{cases_eq}
+use Rattle.std.proofs.lemmas.List.{get_or-map}
+use Rattle.std.proofs.lemmas.Option.{slice_get_within, get_or_from_slice_get}
+use Rattle.layer_board.proofs.Layouts.{length-map_lem}
+use Rattle.subset_layers.specs.Layers.{block_masks}
+use Rattle.subset_layers.specs.declared.costs.Cell.{Cell}
+use Rattle.subset_layers.proofs.BlockLists.{has_get}
+use Rattle.layer_board.specs.Views.{cell_for}
+use Rattle.layer_board.specs.Pairing.{pair_of}
+use Rattle.order_solve.specs.Gains.{IsPosted}
+use Rattle.order_solve.proofs.Posts.{stays_trans, posted_stays}
+use Rattle.order_solve.proofs.working.post_block.Goals as goal
+
+pub post_cell-requires-clause-cell : goal.post_cell-requires-clause-cell
+post_cell-requires-clause-cell g c =
+    let masks = block_masks c.args.block.now in
+    let t = c.args.bench.now.setting in
+    let cells : List Cell = c.args.cells.now in
+    let none : Cell = record { cost = 0; variable = 0 } in
+    let lt = slice_get_within masks c.loop-i.i c.mask-mask.result c.mask-mask.ensures in
+    let long : length cells ≡ length masks = sym (length-map_lem pair_of cells) ∙ ap length c.requires.cells ∙ length-map_lem (cell_for t) masks in
+    sym (get_or-map pair_of cells c.loop-i.i none (0, 0) (omega (arith, long, lt)))
+    ∙ ap (λ (xs : List (ℕ × ℕ)). get_or xs c.loop-i.i (0, 0)) c.requires.cells
+    ∙ get_or-map (cell_for t) masks c.loop-i.i 0 (0, 0) lt
+    ∙ ap (cell_for t) (get_or_from_slice_get masks c.loop-i.i c.mask-mask.result 0 c.mask-mask.ensures)
+
+pub loop-i-preserved : goal.loop-i-preserved
+loop-i-preserved g c =
+    let masks = block_masks c.args.block.now in
+    let at : slice_index masks c.loop-i.i ≡ c.mask-mask.result = get_or_from_slice_get masks c.loop-i.i c.mask-mask.result 0 c.mask-mask.ensures in
+    record {
+      stays = stays_trans c.args.seat.now c.loop-i.seat c.post_cell.new.seat c.loop-i.invariant.stays c.post_cell.ensures.stays;
+      posted = λ j lt. elim (cases_eq j c.loop-i.i) [
+        | inl e ↦ subst (λ (m : ℕ). IsPosted c.post_cell.new.seat m) (sym (ap (slice_index masks) e ∙ at)) c.post_cell.ensures.posted
+        | inr ne ↦ posted_stays c.loop-i.seat c.post_cell.new.seat c.post_cell.ensures.stays (slice_index masks j) (c.loop-i.invariant.posted j (omega arith))
+      ];
+    }
+
+pub returns-clause-posted : goal.returns-clause-posted
+returns-clause-posted g c = λ mask m.
+    let masks = block_masks c.args.block.now in
+    let k = has_get masks mask m in
+    let f = c.loop-i-test.false in
+    let l = c.len-i-end.ensures.value in
+    subst (λ (n : ℕ). IsPosted c.loop-i.seat n) k.2 (c.loop-i.invariant.posted k.0 (omega (arith, k.1, f, l)))

@@ -1,0 +1,49 @@
+-- What the workers of a layer are lent.
+--     BenchOf, bench_with problem pairs bound layer before      what the cells are for, the layer, and the costs of the layer before
+--     setting_with problem pairs bound      what the cells are for
+--     AreCostsFor t costs, IsLayerFor t size costs      the costs are the definition's; the costs and the cells of the layer of a size are
+--     IsBench b      the costs are the definition's, and the layer is the one after theirs
+use Rattle.std.specs.Prelude.{◌≡◌, ℕ, ◌+◌, ◌^◌, ◌<◌, ◌≤◌}
+use Rattle.order_model.specs.Problems.{TruthTables, functions}
+use Rattle.order_model.specs.KeptPairs.{KeptPairs}
+use Rattle.order_model.specs.Widths.{essential_mask}
+use Rattle.subset_layers.specs.Layers.{LayerOf, layer_with}
+use Rattle.subset_layers.specs.Costs.{CostsOf, AreTrueCosts, AreTrueCells}
+use Rattle.layer_board.specs.Views.{Setting}
+
+-- what the cells are for, the layer, and the costs of the layer before
+pub record BenchOf : Type 0 where
+  pub setting : Setting
+  pub layer : LayerOf
+  pub before : CostsOf
+
+abbrev pub setting_with : TruthTables → KeptPairs → ℕ → Setting
+setting_with problem pairs bound = record { problem = problem; pairs = pairs; bound = bound }
+
+abbrev pub bench_with : TruthTables → KeptPairs → ℕ → LayerOf → CostsOf → BenchOf
+bench_with problem pairs bound layer before = record { setting = setting_with problem pairs bound; layer = layer; before = before }
+
+-- the costs are the definition's for the setting
+abbrev pub AreCostsFor : Setting → CostsOf → Type 0
+AreCostsFor t costs = AreTrueCosts t.problem.inputs (functions t.problem) t.pairs.pairs t.bound costs
+
+-- the costs of the layer of a size, and its cells, are the definition's
+pub record IsLayerFor (t : Setting) (size : ℕ) (costs : CostsOf) : Type 0 where
+  pub inputs : costs.inputs ≡ t.problem.inputs
+  pub size_is : costs.size ≡ size
+  pub costs_are : AreCostsFor t costs
+  pub cells_are : AreTrueCells t.problem.inputs (functions t.problem) t.pairs.pairs t.bound costs
+
+-- the layer is the one after the costs', which are the definition's
+pub record IsBench (b : BenchOf) : Type 0 where
+  pub pairs : b.setting.pairs.inputs ≡ b.setting.problem.inputs
+  pub inputs : b.before.inputs ≡ b.setting.problem.inputs
+  pub layer : b.layer ≡ layer_with b.setting.problem.inputs (b.before.size + 1)
+  pub room : b.setting.bound + 1 < 2 ^ 32
+  pub costs : AreCostsFor b.setting b.before
+
+-- a bench, with the mask of the essential variables
+pub record HoldsBench (b : BenchOf) (essential : ℕ) : Type 0 where
+  pub bench : IsBench b
+  pub few : b.setting.problem.inputs ≤ 16
+  pub essential_is : essential ≡ essential_mask b.setting.problem.inputs (functions b.setting.problem)

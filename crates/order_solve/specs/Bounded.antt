@@ -1,0 +1,30 @@
+-- The cells of all sets, layer by layer, for a bound that is the size of an order.
+--     IsBounded t      some order that keeps the pairs has the bound as its size
+--     AreLayersFor t layers, HoldsCells t layers      the layers from that of the empty set on; those of all sets
+use Rattle.std.specs.Prelude.{◌≡◌, ℕ, ◌+◌, ◌≤◌, List, length, slice_get, Some}
+use Rattle.order_model.specs.Orders.{IsOrder}
+use Rattle.order_model.specs.Pairs.{Keeps}
+use Rattle.order_model.specs.Problems.{functions}
+use Rattle.order_model.specs.Levels.{size_under}
+use Rattle.subset_layers.specs.Costs.{CostsOf}
+use Rattle.layer_board.specs.Views.{Setting}
+use Rattle.order_solve.specs.Benches.{IsLayerFor}
+
+-- some order that keeps the pairs has the bound as its size
+pub record IsBounded (t : Setting) : Type 0 where
+  pub order : List ℕ
+  pub is_order : IsOrder t.problem.inputs order
+  pub keeps : Keeps t.pairs.pairs order
+  pub size : t.bound ≡ size_under t.problem.inputs (functions t.problem) order
+
+-- the layers from that of the empty set on
+abbrev pub AreLayersFor : Setting → List CostsOf → Type 0
+AreLayersFor t layers = (k : ℕ) (c : CostsOf) → slice_get layers k ≡ Some c → IsLayerFor t k c
+
+-- the layers of all sets
+pub record HoldsCells (t : Setting) (layers : List CostsOf) : Type 0 where
+  pub pairs : t.pairs.inputs ≡ t.problem.inputs
+  pub few : t.problem.inputs ≤ 16
+  pub bounded : IsBounded t
+  pub many : length layers ≡ t.problem.inputs + 1
+  pub layers_are : AreLayersFor t layers

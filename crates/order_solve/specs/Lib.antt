@@ -1,0 +1,6 @@
+pub mod Benches
+pub mod Needs
+pub mod Gains
+pub mod Listings
+pub mod Placed
+pub mod Bounded

@@ -1,0 +1,18 @@
+-- The variables whose widths the cell of a set takes.
+--     affordable costs bound mask      the members of a set without which the cost is within the bound
+--     needed t mask      the mask of the members whose widths the cell of a set takes
+use Rattle.std.specs.Prelude.{ℕ, List, nat_le}
+use Rattle.std.specs.List.{filter}
+use Rattle.order_model.specs.Orders.{members, mask_of}
+use Rattle.order_model.specs.Problems.{functions}
+use Rattle.order_model.specs.Cells.{wanted}
+use Rattle.subset_layers.specs.Costs.{CostsOf, cost_without}
+use Rattle.layer_board.specs.Views.{Setting}
+
+-- the members of a set without which the cost is within the bound
+unfoldable pub affordable : CostsOf → ℕ → ℕ → List ℕ
+affordable costs bound mask = filter (λ x. nat_le (cost_without costs mask x) bound) (members costs.inputs mask)
+
+-- the mask of the members whose widths the cell of a set takes
+unfoldable pub needed : Setting → ℕ → ℕ
+needed t mask = mask_of (wanted t.problem.inputs (functions t.problem) t.pairs.pairs t.bound mask)

@@ -1,0 +1,42 @@
+//! The cells of a block's sets.
+
+ghost use Rattle.std.specs.Prelude.{◌≡◌, ◌+◌, ◌^◌, ◌<◌, ◌≤◌, map, slice_get, Some, IfOk, OnOk};
+ghost use Rattle.subset_layers.specs.Layers.{layer_of, block_masks};
+ghost use Rattle.layer_board.specs.Views.{cell_for};
+ghost use Rattle.layer_board.specs.Pairing.{pair_of};
+ghost use Rattle.order_solve.specs.Gains.{widths_for};
+
+use crate::bench::Bench;
+use crate::needs::needs_of_block;
+use compaction::{Tally, block_widths};
+use std::alloc::{AllocError, Global};
+use subset_layers::{Block, Cell, least_cell};
+
+/// The cells of a block's sets, in their order. The tally rises by the number of widths that they take.
+pub fn cells_of_block(
+    alloc: Global,
+    block: &Block,
+    bench: &Bench<'_>,
+    tally: &mut Tally,
+) -> Result<Vec<Cell>, AllocError>
+    requires layer { layer_of block.now ≡ bench.now.layer }
+    requires room { tally.old + widths_for bench.now.setting (block_masks block.now) ≤ 2 ^ 32 }
+    ensures cells { IfOk result (λ v. map pair_of v.items ≡ map (cell_for bench.now.setting) (block_masks block.now)) }
+    ensures tally { OnOk result (tally.new ≡ tally.old + widths_for bench.now.setting (block_masks block.now)) }
+{
+    let needs = needs_of_block(alloc, block, bench)?;
+    let widths = block_widths(alloc, bench.problem, block, &needs, tally)?;
+    let mut cells = Vec::with_capacity(alloc, block.len())?;
+    for i in 0..block.len() {
+        let row = widths.row(i);
+        cells.push(least_cell(
+            block.mask(i),
+            bench.before,
+            &row,
+            bench.bound,
+            bench.essential,
+            bench.pairs,
+        ))?;
+    }
+    Ok(cells)
+}

@@ -1,0 +1,25 @@
+//! What the solver found.
+
+use order_model::{Mask, Order};
+
+/// A set that the certificate lists, with its least cost.
+#[derive(Clone, Copy, Debug, PartialEq, Eq)]
+pub struct ListedCell {
+    pub mask: Mask,
+    pub cost: u32,
+}
+
+/// The first order of the fewest nodes among those that keep the pairs.
+#[derive(Debug, Drop)]
+pub struct Solution {
+    /// The order, top first.
+    pub order: Order,
+    /// The fewest nodes.
+    pub total: u32,
+    /// The level counts, top first.
+    pub levels: Vec<u32>,
+    /// The lawful sets, without that of all variables, whose least cost with one node for each essential variable outside is below the total, by rising mask.
+    pub cells: Vec<ListedCell>,
+    /// How many widths the cells of all sets take.
+    pub widths: u64,
+}

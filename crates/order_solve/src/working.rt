@@ -1,0 +1,88 @@
+//! A worker at the board of a layer.
+
+ghost use Rattle.std.specs.Prelude.{◌≡◌, ◌+◌, ◌^◌, ◌≤◌, ℕ, map, slice_get, Some, IfOk, IsTrue, OnOk};
+ghost use Rattle.order_model.specs.Orders.{has};
+ghost use Rattle.subset_layers.specs.Layers.{layer_of, block_masks, blocks_of};
+ghost use Rattle.layer_core.specs.Machine.{claimed};
+ghost use Rattle.layer_board.specs.Views.{cell_for, has_claimed, knows_filled};
+ghost use Rattle.layer_board.specs.Pairing.{pair_of};
+ghost use Rattle.order_solve.specs.Gains.{gains, gained, widths_for, IsPosted, StaysClaimed};
+
+use crate::bench::Bench;
+use crate::cells::cells_of_block;
+use compaction::Tally;
+use layer_board::{Board, BoardSeat, CellResult};
+use order_model::{Gate, Mask};
+use std::alloc::{AllocError, Global};
+use subset_layers::{Block, Cell};
+
+/// What a worker hands back: its seat, and how many widths it took.
+#[derive(Drop)]
+pub struct WorkerEnd {
+    pub seat: BoardSeat,
+    pub tally: Tally,
+}
+
+/// Posts the cell of a set.
+fn post_cell(board: &Board, seat: &mut BoardSeat, bench: &Bench<'_>, mask: Mask, cell: Cell)
+    requires seat { seat.old.board ≡ board.now }
+    requires setting { board.now.brief.setting ≡ bench.now.setting }
+    requires cell { pair_of cell ≡ cell_for bench.now.setting mask }
+    ensures stays { StaysClaimed seat.old seat.new }
+    ensures posted { IsPosted seat.new mask }
+{
+    let result = CellResult::new(bench.problem, bench.bound, mask, cell, bench.pairs);
+    let _ = board.post(seat, result);
+}
+
+/// Posts the cells of a block's sets. The gate is called before each.
+fn post_block<G: Gate>(
+    board: &Board,
+    seat: &mut BoardSeat,
+    worker: u8,
+    bench: &Bench<'_>,
+    block: &Block,
+    cells: &[Cell],
+    gate: &G,
+)
+    requires seat { seat.old.board ≡ board.now }
+    requires setting { board.now.brief.setting ≡ bench.now.setting }
+    requires cells { map pair_of cells.now ≡ map (cell_for bench.now.setting) (block_masks block.now) }
+    ensures stays { StaysClaimed seat.old seat.new }
+    ensures posted { (mask : ℕ) → IsTrue (has (block_masks block.now) mask) → IsPosted seat.new mask }
+{
+    for i in 0..block.len() {
+        let mask = block.mask(i);
+        gate.between(worker, u32::from(mask));
+        post_cell(board, seat, bench, mask, cells[i]);
+    }
+}
+
+/// Claims blocks until there is no more, and posts the cell of each of their sets. The gate is called for each set between the claim of its block and its post. Workers are numbered from 1.
+///
+/// Where memory is refused the seat is lost, and what was posted stays.
+pub fn work_layer<G: Gate>(
+    alloc: Global,
+    board: &Board,
+    mut seat: BoardSeat,
+    worker: u8,
+    bench: &Bench<'_>,
+    gate: &G,
+) -> Result<WorkerEnd, AllocError>
+    requires seat { seat.board ≡ board.now }
+    requires setting { board.now.brief.setting ≡ bench.now.setting }
+    requires layer { board.now.brief.layer ≡ bench.now.layer }
+    ensures board { IfOk result (λ e. e.seat.board ≡ board.now) }
+    ensures told { IfOk result (λ e. IsTrue e.seat.worker.told) }
+    ensures kept { IfOk result (λ e. (mask : ℕ) → IsTrue (has_claimed seat mask) → IsTrue (has_claimed e.seat mask)) }
+    ensures posted { IfOk result (λ e. (mask : ℕ) → IsTrue (gains seat e.seat mask) → IsTrue (knows_filled e.seat mask)) }
+    ensures tally { IfOk result (λ e. e.tally ≡ widths_for bench.now.setting (gained seat e.seat)) }
+{
+    let _few = bench.problem.inputs();
+    let mut tally = Tally::new();
+    while let Some(claim) = board.claim(&mut seat) {
+        let cells = cells_of_block(alloc, claim.block(), bench, &mut tally)?;
+        post_block(board, &mut seat, worker, bench, claim.block(), &cells, gate);
+    }
+    Ok(WorkerEnd { seat, tally })
+}

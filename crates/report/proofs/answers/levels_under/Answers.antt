@@ -1,0 +1,10 @@
+use Rattle.std.proofs.Common.{◌≡◌, length, slice_index}
+use Rattle.order_model.specs.Problems.{functions}
+use Rattle.report.proofs.Leveled.{counts_read}
+use Rattle.report.proofs.answers.levels_under.Goals as goal
+
+pub returns-clause-counts : goal.returns-clause-counts
+returns-clause-counts g c = counts_read c.args.tables.now.inputs (functions c.args.tables.now) c.args.order.now c.in_ok-levels.levels.items c.in_ok-diagram.diagram.graph
+    (rw (← c.in_ok-diagram.ensures.order) c.in_ok-levels.ensures.long)
+    (rw (← c.in_ok-diagram.ensures.order) c.in_ok-levels.ensures.counts)
+    c.in_ok-diagram.ensures.levels

@@ -1,0 +1,170 @@
+//! The answer of a run: the best order of a cover, beside the sifted and the file order.
+
+ghost use Rattle.std.specs.Prelude.{◌≡◌, ◌<◌, ◌≤◌, ℕ, Ok, IfOk, length, slice_index, string_bytes, sum};
+ghost use Rattle.order_model.specs.Diagrams.{IsFirstKeeping, nodes_at};
+ghost use Rattle.order_model.specs.Levels.{level_counts, size_under};
+ghost use Rattle.order_model.specs.Pairs.{IsFirstOrder, Keeps};
+ghost use Rattle.order_model.specs.Problems.{functions};
+ghost use Rattle.order_model.specs.Sifting.{sifted as sifted_order};
+ghost use Rattle.dd_builder.specs.Building.{AreTablesOf};
+ghost use Rattle.report.specs.Answers.{IsAnswer, PairsAre};
+ghost use Rattle.report.specs.Texts.{file_order_levels, functions_of};
+
+use crate::outcome::Shortage;
+use crate::texts::{report_text, total};
+use command_line::RunPlan;
+use dd_builder::{build, build_tables};
+use order_model::{Diagram, NoGate, Order, Pairs, PairsFault, Workers};
+use order_solve::solve;
+use pla_reader::Cover;
+use sifting::laws::diagrams_have_their_functions_tables;
+use sifting::{Manager, Sifted};
+use std::alloc::{AllocError, Global};
+use std::thread::Threads;
+use truth_table::Tables;
+
+/// The pairs that the order has to keep.
+pub(crate) fn pairs_of<'a>(plan: &RunPlan<'a>, n: u8) -> Result<Pairs, PairsFault>
+    requires some { 1 ≤ n }
+    requires few { n ≤ 16 }
+    ensures { PairsAre plan.now.above n result }
+{
+    match plan.above {
+        None => Ok(Pairs::none(n)),
+        Some(list) => Pairs::parse(list.as_bytes(), n),
+    }
+}
+
+/// The level counts of a diagram, one a level of its order.
+fn levels_of(alloc: Global, diagram: &Diagram) -> Result<Vec<u32>, AllocError>
+    requires { length diagram.now.order ≤ 16 }
+    ensures long { IfOk result (λ v. length v.items ≡ length diagram.now.order) }
+    ensures few { IfOk result (λ v. length v.items ≤ 16) }
+    ensures counts { IfOk result (λ v. (i : ℕ) → i < length diagram.now.order → slice_index v.items i ≡ nodes_at diagram.now.graph (slice_index diagram.now.order i)) }
+{
+    let counts = diagram.level_counts();
+    counts[..diagram.order().len()].to_vec(alloc)
+}
+
+/// The level counts under the file order, off the diagram built under it.
+fn file_order_levels_of<R: Threads + Sync>(
+    rt: &R,
+    alloc: Global,
+    cover: &Cover,
+    tables: &Tables,
+    workers: Workers,
+) -> Result<Vec<u32>, Shortage>
+    requires { AreTablesOf cover.now tables.now }
+    ensures counts { IfOk result (λ v. v.items ≡ file_order_levels cover.now) }
+    ensures few { IfOk result (λ v. length v.items ≤ 16) }
+{
+    let order = Order::file_order(alloc, cover.inputs())?;
+    let diagram = build(rt, alloc, cover, tables, &order, workers, &NoGate)?;
+    let levels = levels_of(alloc, &diagram)?;
+    Ok(levels)
+}
+
+/// The order sifted from the first one that keeps the pairs.
+fn sift_from_first<R: Threads + Sync>(
+    rt: &R,
+    alloc: Global,
+    cover: &Cover,
+    tables: &Tables,
+    pairs: Pairs,
+    workers: Workers,
+) -> Result<Sifted, Shortage>
+    requires tables { AreTablesOf cover.now tables.now }
+    requires pairs { pairs.inputs ≡ cover.now.inputs }
+    ensures order { IfOk result (λ s. (start : _) × IsFirstOrder cover.now.inputs pairs.pairs start
+        × (s.order ≡ sifted_order tables.now.inputs (functions tables.now) pairs.pairs start)) }
+    ensures problem { IfOk result (λ s. s.problem ≡ tables.now) }
+    ensures pairs { IfOk result (λ s. s.pairs ≡ pairs.pairs) }
+{
+    let order = pairs.first_order(alloc)?;
+    let diagram = build(rt, alloc, cover, tables, &order, workers, &NoGate)?;
+    let _few = cover.outputs();
+    diagrams_have_their_functions_tables();
+    let manager = Manager::with_pairs(alloc, diagram, pairs)?;
+    let sifted = manager.sift(alloc)?;
+    Ok(sifted)
+}
+
+/// The level counts under an order, off the diagram built from the truth tables.
+fn levels_under<R: Threads + Sync>(
+    rt: &R,
+    alloc: Global,
+    tables: &Tables,
+    order: &Order,
+    workers: Workers,
+) -> Result<Vec<u32>, Shortage>
+    requires { length order.now ≡ tables.now.inputs }
+    ensures counts { IfOk result (λ v. v.items ≡ level_counts tables.now.inputs (functions tables.now) order.now) }
+    ensures few { IfOk result (λ v. length v.items ≤ 16) }
+{
+    let diagram = build_tables(rt, alloc, tables, order, workers, &NoGate)?;
+    let levels = levels_of(alloc, &diagram)?;
+    Ok(levels)
+}
+
+/// What the search finds: the first order of the fewest nodes, and the sifted one with its size.
+#[derive(Drop)]
+struct Found {
+    best: Order,
+    sifted: Order,
+    sifted_size: u32,
+}
+
+/// The first order of the fewest nodes, and the sifted one.
+fn search<R: Threads + Sync>(
+    rt: &R,
+    alloc: Global,
+    cover: &Cover,
+    tables: &Tables,
+    pairs: Pairs,
+    workers: Workers,
+) -> Result<Found, Shortage>
+    requires tables { AreTablesOf cover.now tables.now }
+    requires pairs { pairs.inputs ≡ cover.now.inputs }
+    ensures best { IfOk result (λ f. IsFirstKeeping tables.now.inputs (functions tables.now) pairs.pairs f.best) }
+    ensures sifted { IfOk result (λ f. (start : _) × IsFirstOrder cover.now.inputs pairs.pairs start
+        × (f.sifted ≡ sifted_order tables.now.inputs (functions tables.now) pairs.pairs start)) }
+    ensures size { IfOk result (λ f. f.sifted_size ≡ size_under tables.now.inputs (functions tables.now) f.sifted) }
+{
+    let found = sift_from_first(rt, alloc, cover, tables, pairs, workers)?;
+    let sifted = found.order().try_clone(alloc)?;
+    let sifted_size = found.size();
+    let solution = solve(rt, alloc, tables.problem(), found, workers, &NoGate)?;
+    Ok(Found {
+        best: solution.order,
+        sifted,
+        sifted_size,
+    })
+}
+
+/// The text of the answer.
+pub(crate) fn answer_text<R: Threads + Sync>(
+    rt: &R,
+    alloc: Global,
+    cover: &Cover,
+    pairs: Pairs,
+    workers: Workers,
+) -> Result<String, Shortage>
+    requires { pairs.inputs ≡ cover.now.inputs }
+    ensures { IfOk result (λ text. IsAnswer cover.now pairs.pairs (string_bytes text)) }
+{
+    let tables = Tables::of_cover(rt, alloc, cover)?;
+    let file_levels = file_order_levels_of(rt, alloc, cover, &tables, workers)?;
+    let found = search(rt, alloc, cover, &tables, pairs, workers)?;
+    let best = found.best.variables();
+    let levels = levels_under(rt, alloc, &tables, &found.best, workers)?;
+    let text = report_text(
+        alloc,
+        cover.input_names(),
+        best,
+        &levels,
+        found.sifted.variables(),
+        found.sifted_size,
+        total(&file_levels),
+    )?;
+    Ok(text)
+}

@@ -1,0 +1,148 @@
+-- The cell of a set, from the best sum of cost and width.
+--     first_member      the smallest member of a mask
+--     outside_count      how many essential variables are not in a set
+--     cell_found, cell_clipped      the cell where the best sum leaves room, and where none does
+use Rattle.std.proofs.Common.{◌≡◌, ℕ, zero, suc, ◌+◌, ◌-◌, ◌^◌, ◌<◌, ◌≤◌, min, Bool, true, false, not, cond, ◌&&◌, ◌||◌, inl, inr, IsTrue, List, [], ◌∷◌, length, slice_index, unwrap_or, refl, sym, ap, ◌∙◌, arith, eqb, eqb-true, eq-eqb, bit_and, count_ones, w16}
+use Rattle.std.specs.Int.{bit_at, trailing_zeros}
+use Rattle.std.specs.List.{filter, list_any}
+use Rattle.std.proofs.lemmas.Bool.{cases_lt, and_parts}
+use Rattle.std.proofs.lemmas.Nat.Bits.{bit_at-trailing_zeros, bit_at_above, bit_at_and, bit_at_not, bit_at-lt}
+use Rattle.std.proofs.lemmas.Nat.{and_le_l}
+use Rattle.order_model.specs.Functions.{Function, depends}
+use Rattle.order_model.specs.Orders.{has, IsOrder, members, variables}
+use Rattle.order_model.specs.Pairs.{Pair, Keeps, is_lawful}
+use Rattle.order_model.specs.Widths.{essential, essential_mask, essentials_outside}
+use Rattle.order_model.specs.Cells.{first_of, cell_of, AreForCell}
+use Rattle.order_model.proofs.OrderLists.{has_variables, has_filter}
+use Rattle.order_model.proofs.Essential.{distinct_essential}
+use Rattle.order_model.proofs.Masks.{has_members, mask_of_small}
+use Rattle.order_model.proofs.CellLaws.{rising_members, first_has, first_le, found, clipped, members_zero}
+use Rattle.order_model.proofs.WidthCount.{essential_members}
+use Rattle.subset_layers.specs.Layers.{masks_of, layer_with}
+use Rattle.subset_layers.specs.Costs.{CostsOf, cost_without, AreTrueCosts, AreWidthsFor}
+use Rattle.subset_layers.specs.Sums.{IsBest}
+use Rattle.subset_layers.proofs.Sizes.{ones-members}
+use Rattle.subset_layers.proofs.Choosing.{filter_range_same}
+use Rattle.subset_layers.proofs.BlockLists.{has_masks}
+use Rattle.subset_layers.proofs.CostLists.{less_one}
+
+abbrev pub pair_of : ℕ → ℕ → ℕ × ℕ
+pair_of a b = (a, b)
+
+has_bit : (n mask y : ℕ) → has (members n mask) y ≡ true → bit_at mask y ≡ 1
+has_bit n mask y h = eqb-true (bit_at mask y) 1 (and_parts (has (variables n) y) (eqb (bit_at mask y) 1) (sym (has_members n mask y) ∙ h)).1
+
+bit_has : (n mask y : ℕ) → y < n → has (members n mask) y ≡ eqb (bit_at mask y) 1
+bit_has n mask y lt = has_members n mask y ∙ ap (λ b. b && eqb (bit_at mask y) 1) ((has_variables n y).1 lt)
+
+-- the lowest bit of a mask is its smallest member
+pub first_member : (n mask : ℕ) → 0 < mask → mask < 65536 → mask < 2 ^ n → trailing_zeros w16 mask ≡ first_of (members n mask)
+first_member n mask pos small lt =
+    let z = bit_at-trailing_zeros w16 mask pos small in
+    let t = trailing_zeros w16 mask in
+    let below : t < n = elim (cases_lt t n) [ inl l ↦ l | inr g ↦ let a = bit_at_above mask n t lt g in let b = z.1 in absurd (omega arith) ] in
+    let member : has (members n mask) t ≡ true = bit_has n mask t below ∙ eq-eqb (bit_at mask t) 1 z.1 in
+    let le = first_le (members n mask) t (rising_members n mask) member in
+    let one = has_bit n mask (first_of (members n mask)) (first_has (members n mask) t member) in
+    elim (cases_lt (first_of (members n mask)) t) [
+      | inl l ↦ let a = z.2 (first_of (members n mask)) l in absurd (omega arith)
+      | inr g ↦ omega arith
+    ]
+
+filter_twice : (p q : ℕ → Bool) (xs : List ℕ) → filter q (filter p xs) ≡ filter (λ x. p x && q x) xs
+filter_twice p q [] = refl
+filter_twice p q (x ∷ xs) = by (p x) (filter_twice p q xs)
+  where
+    by : (b : Bool) → filter q (filter p xs) ≡ filter (λ x. p x && q x) xs → filter q (cond b (x ∷ filter p xs) (filter p xs)) ≡ cond (b && q x) (x ∷ filter (λ x. p x && q x) xs) (filter (λ x. p x && q x) xs)
+    by true e = ap (λ zs. cond (q x) (x ∷ zs) zs) e
+    by false e = e
+
+both_bits : (a b : ℕ) → a < 2 → b < 2 → eqb (min a (1 - b)) 1 ≡ (eqb a 1 && not (eqb b 1))
+both_bits zero zero h k = refl
+both_bits zero (suc zero) h k = refl
+both_bits (suc zero) zero h k = refl
+both_bits (suc zero) (suc zero) h k = refl
+both_bits (suc (suc a)) b h k = absurd (omega arith)
+both_bits a (suc (suc b)) h k = absurd (omega arith)
+
+essential_low : (n : ℕ) (F : List Function) (y : ℕ) → has (essential n F) y ≡ true → y < n
+unfolding essential
+essential_low n F y h = (has_variables n y).0 (and_parts (has (variables n) y) (list_any (λ f. depends n f y) F) (sym (has_filter (λ z. list_any (λ f. depends n f z) F) (variables n) y) ∙ h)).0
+
+-- the mask of the essential variables is one of all variables
+essential_small : (n : ℕ) (F : List Function) → essential_mask n F < 2 ^ n
+unfolding essential_mask
+essential_small n F = mask_of_small n (essential n F) (distinct_essential n F) (essential_low n F)
+
+outside_bit : (n E mask i : ℕ) → E < 65536 → mask < 65536 → i < n → eqb (bit_at (bit_and E (65535 - mask)) i) 1 ≡ (eqb (bit_at E i) 1 && not (has (members n mask) i))
+outside_bit n E mask i e small lt =
+    ap (λ b. eqb b 1) (bit_at_and E (65535 - mask) i)
+    ∙ elim (cases_lt i 16) [
+      | inl low ↦ ap (λ b. eqb (min (bit_at E i) b) 1) (bit_at_not w16 mask i small low) ∙ both_bits (bit_at E i) (bit_at mask i) (bit_at-lt E i) (bit_at-lt mask i)
+      | inr high ↦
+          let z : bit_at E i ≡ 0 = bit_at_above E 16 i e high in
+          let m : min (bit_at E i) (bit_at (65535 - mask) i) ≡ 0 = omega arith in
+          ap (λ b. eqb b 1) m ∙ ap (λ b. eqb b 1 && not (eqb (bit_at mask i) 1)) (sym z)
+    ]
+    ∙ ap (λ b. eqb (bit_at E i) 1 && not b) (sym (bit_has n mask i lt))
+
+outside_members : (n : ℕ) (F : List Function) (E mask : ℕ) → E < 65536 → mask < 65536 → E ≡ essential_mask n F →
+    members n (bit_and E (65535 - mask)) ≡ filter (λ x. not (has (members n mask) x)) (essential n F)
+unfolding members
+outside_members n F E mask e small is =
+    filter_range_same (λ x. eqb (bit_at (bit_and E (65535 - mask)) x) 1) (λ x. eqb (bit_at E x) 1 && not (has (members n mask) x)) n 0 (λ i low lt. outside_bit n E mask i e small (omega arith))
+    ∙ sym (filter_twice (λ x. eqb (bit_at E x) 1) (λ x. not (has (members n mask) x)) (variables n))
+    ∙ ap (filter (λ x. not (has (members n mask) x))) (ap (members n) is ∙ essential_members n F)
+
+-- the essential variables outside a set, as set bits
+pub outside_count : (n : ℕ) (F : List Function) (E mask : ℕ) → E < 65536 → mask < 65536 → E ≡ essential_mask n F → count_ones (bit_and E (65535 - mask)) ≡ essentials_outside n F (members n mask)
+unfolding essentials_outside
+outside_count n F E mask e small is =
+    ones-members n (bit_and E (65535 - mask)) (let a = and_le_l E (65535 - mask) in let b = essential_small n F in omega arith) ∙ ap length (outside_members n F E mask e small is)
+
+-- ---- the cell
+
+module _ (c : CostsOf) (mask bound : ℕ) (widths : List ℕ) (F : List Function) (P : List Pair) (order : List ℕ) (o : IsOrder c.inputs order) (k : Keeps P order)
+    (next : has (masks_of (layer_with c.inputs (c.size + 1))) mask ≡ true) (true_costs : AreTrueCosts c.inputs F P bound c) (true_widths : AreWidthsFor c.inputs F P bound mask c widths) where
+  n : ℕ
+  n = c.inputs
+
+  for_cell : AreForCell c.inputs F P bound mask (cost_without c mask) (slice_index widths)
+  for_cell = record {
+    are_costs = λ x m. ap (λ o. unwrap_or o 0) (true_costs (mask - 2 ^ x) (less_one c.inputs c.size mask x next m));
+    are_widths = true_widths;
+  }
+
+  pub cell_found : (left sum x : ℕ) → is_lawful P (members c.inputs mask) ≡ true → left ≡ essentials_outside c.inputs F (members c.inputs mask) →
+      IsBest (λ y. IsTrue (has (members c.inputs mask) y)) bound (cost_without c mask) (slice_index widths) sum x → sum + left ≤ bound → pair_of sum x ≡ cell_of c.inputs F P bound mask
+  cell_found left sum x l e b room =
+      let s = b.sum_is in
+      ap (λ v. pair_of v x) s
+      ∙ sym (found c.inputs F P order o k bound mask (cost_without c mask) (slice_index widths) for_cell x l b.member b.within
+      (λ y m w. let t = b.least y m w in omega arith) (λ y lt m w z. b.smallest y lt m w (z ∙ sym s)) (omega arith))
+
+  pub cell_clipped : (left z : ℕ) → has (members c.inputs mask) z ≡ true → left ≡ essentials_outside c.inputs F (members c.inputs mask) →
+      (is_lawful P (members c.inputs mask) ≡ true → (y : ℕ) → has (members c.inputs mask) y ≡ true → cost_without c mask y ≤ bound → bound < cost_without c mask y + slice_index widths y + left) →
+      pair_of (bound + 1) (first_of (members c.inputs mask)) ≡ cell_of c.inputs F P bound mask
+  cell_clipped left z m e none =
+      sym (clipped c.inputs F P order o k bound mask (cost_without c mask) (slice_index widths) for_cell z m (λ l y h w. let t = none l y h w in omega arith))
+
+-- a set of a layer after the empty one has a member
+pub some_member : (n k mask : ℕ) → has (masks_of (layer_with n (k + 1))) mask ≡ true → (0 < mask) × (has (members n mask) (first_of (members n mask)) ≡ true)
+some_member n k mask h = (pos (members n mask) refl is.1, by (members n mask) is.1)
+  where
+    is : (mask < 2 ^ n) × (length (members n mask) ≡ k + 1)
+    is = has_masks n (k + 1) mask h
+
+    by : (xs : List ℕ) → length xs ≡ k + 1 → has xs (first_of xs) ≡ true
+    by [] e = absurd (omega arith)
+    by (x ∷ xs) e = first_has (x ∷ xs) x (ap (λ b. b || has xs x) (eq-eqb x x refl))
+
+    pos : (xs : List ℕ) → members n mask ≡ xs → length (members n mask) ≡ k + 1 → 0 < mask
+    pos xs e l = elim (cases_lt 0 mask) [
+      | inl lt ↦ lt
+      | inr le ↦
+          let z : mask ≡ 0 = omega arith in
+          let none : length (members n mask) ≡ 0 = ap length (ap (members n) z ∙ members_zero n) in
+          absurd (omega arith)
+    ]

@@ -1,0 +1,6 @@
+pub mod Sizes
+pub mod Choosing
+pub mod BlockLists
+pub mod CostLists
+pub mod BestSums
+pub mod CellSteps

@@ -1,0 +1,66 @@
+use Rattle.std.proofs.Common.{◌≡◌, ℕ, ◌+◌, ◌-◌, ◌<◌, ◌≤◌, Option, Some, None, IfSome, IsNone, IsTrue, unwrap_or, slice_index, refl, sym, ap, ◌∙◌, subst, arith}
+use Rattle.std.proofs.lemmas.Bool.{true≢false}
+use Rattle.order_model.proofs.Masks.{members_small}
+use Rattle.subset_layers.specs.declared.recurrence.Sum.{Sum}
+use Rattle.order_model.specs.Orders.{has, members}
+use Rattle.subset_layers.specs.Costs.{cost_at, cost_without}
+use Rattle.subset_layers.specs.Layers.{masks_of, layer_with}
+use Rattle.subset_layers.specs.Sums.{IsBest}
+use Rattle.subset_layers.proofs.CostLists.{member_from_bit, bit_from_member, power_le_mask, shifted_bit, less_one}
+use Rattle.subset_layers.proofs.BestSums.{IsBestBelow, best_skipped, best_taken, best_all}
+use Rattle.subset_layers.proofs.recurrence.best_sum.Goals as goal
+use Rattle.subset_layers.proofs.recurrence.best_sum.Goals.{then-mask-x-eq1+then-cost-bound, then-mask-x-eq1+else-cost-bound, else-mask-x-eq1}
+
+pub overflow_sub-mask : goal.overflow_sub-mask
+overflow_sub-mask c =
+    let e = shifted_bit c.args.mask c.loop-x.x (omega arith) c.if-mask-x-eq1.true in
+    let p = power_le_mask c.args.mask c.loop-x.x c.if-mask-x-eq1.true in
+    omega arith
+
+pub unwrap-cost-requires : goal.unwrap-cost-requires
+unwrap-cost-requires c =
+    let e = shifted_bit c.args.mask c.loop-x.x (omega arith) c.if-mask-x-eq1.true in
+    let n = c.args.costs.now.inputs in
+    let member = member_from_bit n c.args.mask c.loop-x.x (omega arith) c.if-mask-x-eq1.true in
+    c.cost_of.ensures.some.1 (ap (λ k. has (masks_of (layer_with n c.args.costs.now.size)) (c.args.mask - k)) e ∙ less_one n c.args.costs.now.size c.args.mask c.loop-x.x c.requires member)
+
+pub loop-x-preserved : goal.loop-x-preserved
+loop-x-preserved c =
+    let n = c.args.costs.now.inputs in
+    let S : ℕ → Type 0 = λ x. IsTrue (has (members n c.args.mask) x) in
+    let costs : ℕ → ℕ = cost_without c.args.costs.now c.args.mask in
+    let widths : ℕ → ℕ = slice_index c.args.widths.now in
+    elim c.if-mask-x-eq1.branch [
+      | then-mask-x-eq1+then-cost-bound w ↦
+          let e = shifted_bit c.args.mask c.loop-x.x (omega arith) w.if-mask-x-eq1.true in
+          let is : costs c.loop-x.x ≡ w.unwrap-cost.result = ap (λ k. unwrap_or (cost_at c.args.costs.now (c.args.mask - k)) 0) (sym e) ∙ ap (λ o. unwrap_or o 0) (sym w.cost_of.ensures.value ∙ w.unwrap-cost.ensures) in
+          let within : costs c.loop-x.x ≤ c.args.bound = (let t = w.if-cost-bound.true in omega arith) in
+          subst (λ o. IsBestBelow S c.args.bound costs widths (c.loop-x.x + 1) o) (sym w.best-is)
+          (best_taken S c.args.bound costs widths c.loop-x.x (w.unwrap-cost.result + slice_index c.args.widths.now c.loop-x.x) c.loop-x.best _ w.smaller.result c.loop-x.invariant
+          (member_from_bit n c.args.mask c.loop-x.x (omega arith) w.if-mask-x-eq1.true) within (omega arith) refl w.smaller.ensures.none w.smaller.ensures.some)
+      | then-mask-x-eq1+else-cost-bound w ↦
+          let e = shifted_bit c.args.mask c.loop-x.x (omega arith) w.if-mask-x-eq1.true in
+          let is : costs c.loop-x.x ≡ w.unwrap-cost.result = ap (λ k. unwrap_or (cost_at c.args.costs.now (c.args.mask - k)) 0) (sym e) ∙ ap (λ o. unwrap_or o 0) (sym w.cost_of.ensures.value ∙ w.unwrap-cost.ensures) in
+          let over : c.args.bound < costs c.loop-x.x = (let t = w.if-cost-bound.false in omega arith) in
+          subst (λ o. IsBestBelow S c.args.bound costs widths (c.loop-x.x + 1) o) (sym w.best-is)
+          (best_skipped S c.args.bound costs widths c.loop-x.x c.loop-x.best c.loop-x.invariant (λ m. over))
+      | else-mask-x-eq1 w ↦
+          subst (λ o. IsBestBelow S c.args.bound costs widths (c.loop-x.x + 1) o) (sym w.best-is)
+          (best_skipped S c.args.bound costs widths c.loop-x.x c.loop-x.best c.loop-x.invariant (λ m. absurd (w.if-mask-x-eq1.false (bit_from_member n c.args.mask c.loop-x.x m))))
+    ]
+
+-- the sum over all members
+whole : (S : ℕ → Type 0) (bound : ℕ) (costs widths : ℕ → ℕ) (k : ℕ) (o : Option Sum) → ((y : ℕ) → S y → y < k) → IsBestBelow S bound costs widths k o →
+    IfSome o (λ s. IsBest S bound costs widths s.sum s.variable) × (IsNone o → (y : ℕ) → S y → bound < costs y)
+whole S bound costs widths k None low h = (tt, λ z y m. h y (low y m) m)
+whole S bound costs widths k (Some s) low h = (best_all S bound costs widths k s low h, λ z. absurd (true≢false z))
+
+pub returns-clause-best : goal.returns-clause-best
+returns-clause-best c =
+    (whole (λ x. IsTrue (has (members c.args.costs.now.inputs c.args.mask) x)) c.args.bound (cost_without c.args.costs.now c.args.mask) (slice_index c.args.widths.now) c.loop-x.x c.loop-x.best
+    (λ y m. let s = members_small c.args.costs.now.inputs c.args.mask y m in omega arith) c.loop-x.invariant).0
+
+pub returns-clause-none : goal.returns-clause-none
+returns-clause-none c =
+    (whole (λ x. IsTrue (has (members c.args.costs.now.inputs c.args.mask) x)) c.args.bound (cost_without c.args.costs.now c.args.mask) (slice_index c.args.widths.now) c.loop-x.x c.loop-x.best
+    (λ y m. let s = members_small c.args.costs.now.inputs c.args.mask y m in omega arith) c.loop-x.invariant).1

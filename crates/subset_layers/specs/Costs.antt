@@ -1,0 +1,66 @@
+-- The costs of the sets of a layer.
+--     CostsOf, layer_of_costs c      a layer with a cell for each of its sets; of the empty set's layer there is none
+--     cell_at c mask, cost_at c mask      the cell and the cost of a set, where it is in the layer; the empty set has the cost 0
+--     AreTrueCosts n F P bound c      the costs are those of the definition's cells
+--     AreWidthsFor n F P bound mask costs widths      the widths that the cell of a set needs are the definition's
+use Rattle.std.specs.Prelude.{◌≡◌, ℕ, ◌-◌, ◌^◌, ◌≤◌, Option, Some, None, List, [], cond, ◌<◌, IsTrue, nat_eq, length, slice_get, slice_index, unwrap_or}
+use Rattle.std.specs.Option.{option_map_or}
+use Rattle.order_model.specs.Functions.{Function}
+use Rattle.order_model.specs.Orders.{has, members, without, place_in}
+use Rattle.order_model.specs.Pairs.{Pair, is_lawful}
+use Rattle.order_model.specs.Widths.{width}
+use Rattle.order_model.specs.Cells.{cell_of, cell_cost}
+use Rattle.subset_layers.specs.declared.costs.Cell.{Cell}
+use Rattle.subset_layers.specs.Layers.{LayerOf, layer_with, masks_of}
+
+-- the number of variables, the size of the sets, and the cells in the layer's order
+pub record CostsOf : Type 0 where
+  pub inputs : ℕ
+  pub size : ℕ
+  pub cells : List Cell
+
+-- their layer
+abbrev pub layer_of_costs : CostsOf → LayerOf
+layer_of_costs c = layer_with c.inputs c.size
+
+-- a cell as the definition has it
+abbrev pub as_pair : Cell → ℕ × ℕ
+as_pair cell = (cell.cost, cell.variable)
+
+-- the costs of the empty set's layer
+abbrev pub start_costs : ℕ → CostsOf
+start_costs inputs = record { inputs = inputs; size = 0; cells = [] }
+
+-- the costs of a layer with cells
+abbrev pub costs_with : LayerOf → List Cell → CostsOf
+costs_with l cells = record { inputs = l.inputs; size = l.size; cells = cells }
+
+-- each set has a cell, but for the empty one
+pub record HaveCells (c : CostsOf) : Type 0 where
+  pub few_inputs : c.inputs ≤ 16
+  pub count : length c.cells ≡ cond (nat_eq c.size 0) 0 (length (masks_of (layer_of_costs c)))
+
+-- the cell of a set
+unfoldable pub cell_at : CostsOf → ℕ → Option Cell
+cell_at c mask = slice_get c.cells (place_in (masks_of (layer_of_costs c)) mask)
+
+-- the cost of a set of the layer: its cell's, and that of the empty set is 0
+unfoldable pub cost_at : CostsOf → ℕ → Option ℕ
+cost_at c mask = cond (has (masks_of (layer_of_costs c)) mask) (Some (option_map_or (λ (cell : Cell). cell.cost) (cell_at c mask) 0)) None
+
+-- the costs are those of the definition's cells
+abbrev pub AreTrueCosts : ℕ → List Function → List Pair → ℕ → CostsOf → Type 0
+AreTrueCosts n F P bound c = (mask : ℕ) → IsTrue (has (masks_of (layer_of_costs c)) mask) → cost_at c mask ≡ Some (cell_cost n F P bound mask)
+
+-- the cells are the definition's
+abbrev pub AreTrueCells : ℕ → List Function → List Pair → ℕ → CostsOf → Type 0
+AreTrueCells n F P bound c = (i : ℕ) → i < length c.cells → (cell : Cell) → slice_get c.cells i ≡ Some cell → as_pair cell ≡ cell_of n F P bound (slice_index (masks_of (layer_of_costs c)) i)
+
+-- the cost of a set without one member
+abbrev pub cost_without : CostsOf → ℕ → ℕ → ℕ
+cost_without c mask x = unwrap_or (cost_at c (mask - 2 ^ x)) 0
+
+-- the widths that the cell of a lawful set needs are the definition's: where the cost without the variable is within the bound
+abbrev pub AreWidthsFor : ℕ → List Function → List Pair → ℕ → ℕ → CostsOf → List ℕ → Type 0
+AreWidthsFor n F P bound mask c widths =
+    IsTrue (is_lawful P (members n mask)) → (x : ℕ) → IsTrue (has (members n mask) x) → cost_without c mask x ≤ bound → slice_index widths x ≡ width n F (without x (members n mask)) x

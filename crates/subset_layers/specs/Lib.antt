@@ -1,0 +1,4 @@
+pub mod Layers
+pub mod Selections
+pub mod Costs
+pub mod Sums

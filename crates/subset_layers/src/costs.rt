@@ -1,0 +1,103 @@
+//! The cells and costs of a layer.
+
+ghost use Rattle.std.specs.Prelude.{◌≡◌, ℕ, ◌<◌, ◌≤◌, ◌↔◌, List, length, IfOk, IfSome, IsSome, IsTrue};
+ghost use Rattle.order_model.specs.Functions.{Function};
+ghost use Rattle.order_model.specs.Orders.{has};
+ghost use Rattle.order_model.specs.Pairs.{Pair};
+ghost use Rattle.order_model.specs.Cells.{cell_of};
+ghost use Rattle.subset_layers.specs.Layers as layers;
+
+use crate::layers::Layer;
+use order_model::{Mask, VarIx};
+use std::alloc::{AllocError, Global};
+use std::marker::Model;
+
+/// What is kept of a set that is not empty: its least cost, and the variable on top that gives it. A clipped cell has one
+/// more than the bound and the smallest member.
+#[derive(Clone, Copy, Debug, PartialEq, Eq)]
+pub struct Cell {
+    pub cost: u32,
+    pub variable: VarIx,
+}
+
+/// A finished layer: its sets and their cells. Of the empty set there is a cost and no cell.
+#[derive(Drop)]
+pub struct Costs {
+    layer: Layer,
+    cells: Vec<Cell>,
+}
+
+impl Model for Costs {
+    ghost use Rattle.subset_layers.specs.Costs.{CostsOf, HaveCells, costs_with};
+
+    ghost Value = { CostsOf };
+
+    ghost view = { λ c. costs_with c.layer c.cells.items };
+
+    ghost invariant = { λ c. HaveCells (costs_with c.layer c.cells.items) };
+}
+
+impl Costs {
+    ghost use Rattle.subset_layers.specs.Costs.{start_costs, costs_with, layer_of_costs, cell_at, cost_at, as_pair, AreTrueCosts, AreTrueCells};
+
+    /// The layer of the empty set.
+    pub fn start(alloc: Global, inputs: u8) -> Result<Costs, AllocError>
+        requires { inputs ≤ 16 }
+        ensures value { IfOk result (λ c. c ≡ start_costs inputs) }
+        ensures exact { IfOk result (λ c. (F : List Function) (P : List Pair) (bound : ℕ) → AreTrueCosts inputs F P bound c) }
+    {
+        let layer = Layer::of(alloc, inputs, 0)?;
+        Ok(Costs {
+            layer,
+            cells: Vec::new(alloc),
+        })
+    }
+
+    /// A layer with a cell for each of its sets, in its order.
+    pub fn of(layer: Layer, cells: Vec<Cell>) -> Costs
+        requires inputs { layer.inputs ≤ 16 }
+        requires size { 0 < layer.size }
+        requires cells { length cells.items ≡ length (layers.masks_of layer) }
+        ensures value { result ≡ costs_with layer cells.items }
+        ensures exact { (F : List Function) (P : List Pair) (bound : ℕ) → AreTrueCells layer.inputs F P bound result → AreTrueCosts layer.inputs F P bound result }
+    {
+        Costs { layer, cells }
+    }
+
+    /// How many variables the sets are of.
+    pub fn inputs(&self) -> u8
+        ensures value { result ≡ self.now.inputs }
+        ensures few { result ≤ 16 }
+    {
+        let _cells = &self.cells;
+        self.layer.inputs()
+    }
+
+    /// The cell of a set of the layer.
+    pub fn cell_of(&self, mask: Mask) -> Option<Cell>
+        ensures value { result ≡ cell_at self.now mask }
+        ensures some { IsSome result ↔ (IsTrue (has (layers.masks_of (layer_of_costs self.now)) mask) × (0 < self.now.size)) }
+        ensures exact { (F : List Function) (P : List Pair) (bound : ℕ) → AreTrueCells self.now.inputs F P bound self.now →
+            IfSome result (λ cell. as_pair cell ≡ cell_of self.now.inputs F P bound mask) }
+    {
+        let place = self.layer.position(mask)?;
+        if place < self.cells.len() {
+            Some(self.cells[place])
+        } else {
+            None
+        }
+    }
+
+    /// The cost of a set of the layer.
+    pub fn cost_of(&self, mask: Mask) -> Option<u32>
+        ensures value { result ≡ cost_at self.now mask }
+        ensures some { IsSome result ↔ IsTrue (has (layers.masks_of (layer_of_costs self.now)) mask) }
+    {
+        let place = self.layer.position(mask)?;
+        if place < self.cells.len() {
+            Some(self.cells[place].cost)
+        } else {
+            Some(0)
+        }
+    }
+}

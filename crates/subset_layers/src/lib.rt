@@ -1,0 +1,13 @@
+//! Layers of the sets of variables in blocks, the costs of a layer, and the cell of a set from those of the layer before.
+#![tactic(auto)]
+
+mod costs;
+mod layers;
+mod recurrence;
+mod selection;
+#[cfg(test)]
+mod tests;
+
+pub use costs::{Cell, Costs};
+pub use layers::{Block, Layer};
+pub use recurrence::least_cell;

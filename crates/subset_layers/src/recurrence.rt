@@ -1,0 +1,119 @@
+//! The cell of a set, from the costs of the sets with one variable less.
+
+ghost use Rattle.std.specs.Prelude.{Option, ◌≡◌, ℕ, ◌+◌, ◌-◌, ◌^◌, ◌<◌, ◌≤◌, List, slice_index, IfSome, IsNone, IsTrue};
+ghost use Rattle.order_model.specs.Functions.{Function};
+ghost use Rattle.order_model.specs.Orders.{has, members, IsOrder};
+ghost use Rattle.order_model.specs.Pairs.{Pair, Keeps, is_lawful};
+ghost use Rattle.order_model.specs.Widths.{essential_mask, essentials_outside};
+ghost use Rattle.order_model.specs.Cells.{cell_of, first_of};
+ghost use Rattle.subset_layers.specs.Layers.{masks_of, layer_with};
+ghost use Rattle.subset_layers.specs.Costs.{cost_without, as_pair, AreTrueCosts, AreWidthsFor};
+ghost use Rattle.subset_layers.specs.Sums.{IsBest};
+
+use crate::costs::{Cell, Costs};
+use order_model::{Mask, Pairs, VarIx};
+
+/// A sum of cost and width, and the variable that gives it.
+#[derive(Clone, Copy)]
+struct Sum {
+    sum: u64,
+    variable: VarIx,
+}
+
+/// The one of two sums that is smaller, and the earlier one where they are equal.
+fn smaller(best: Option<Sum>, next: Sum) -> Sum
+    ensures none { best ≡ None → result ≡ next }
+    ensures some { IfSome best (λ b. (b.sum ≤ next.sum → result ≡ b) × (next.sum < b.sum → result ≡ next)) }
+{
+    match best {
+        Some(earlier) if earlier.sum <= next.sum => earlier,
+        _ => next,
+    }
+}
+
+/// The least sum of cost and width over the members without which the cost is within the bound, by the smallest such member.
+fn best_sum(mask: Mask, costs: &Costs, widths: &[u32; 16], bound: u32) -> Option<Sum>
+    requires { IsTrue (has (masks_of (layer_with costs.now.inputs (costs.now.size + 1))) mask) }
+    ensures best { IfSome result (λ s. IsBest (λ x. IsTrue (has (members costs.now.inputs mask) x)) bound (cost_without costs.now mask) (slice_index widths.now) s.sum s.variable) }
+    ensures none { IsNone result → (y : ℕ) → IsTrue (has (members costs.now.inputs mask) y) → bound < cost_without costs.now mask y }
+{
+    let mut best: Option<Sum> = None;
+    for x in 0..costs.inputs() {
+        if (mask >> x) & 1 == 1 {
+            let cost = costs.cost_of(mask - (1 << x)).unwrap();
+            if cost <= bound {
+                let sum = cost as u64 + widths[x as usize] as u64;
+                best = Some(smaller(best, Sum { sum, variable: x }));
+            }
+        }
+    }
+    best
+}
+
+/// The clipped cell of a set.
+fn clipped(mask: Mask, bound: u32) -> Cell
+    requires some { 0 < mask }
+    requires room { bound + 1 < 2 ^ 32 }
+    ensures { (n : ℕ) → mask < 2 ^ n → as_pair result ≡ (bound + 1, first_of (members n mask)) }
+{
+    Cell {
+        cost: bound + 1,
+        variable: mask.trailing_zeros() as u8,
+    }
+}
+
+/// How many variables of a set are not in another one.
+fn count_outside(essential: Mask, mask: Mask) -> u32
+    ensures few { result ≤ 16 }
+    ensures exact { (n : ℕ) (F : List Function) → essential ≡ essential_mask n F → result ≡ essentials_outside n F (members n mask) }
+{
+    (essential & !mask).count_ones()
+}
+
+/// The cell of a lawful set.
+fn lawful_cell(mask: Mask, costs: &Costs, widths: &[u32; 16], bound: u32, essential: Mask) -> Cell
+    requires next { IsTrue (has (masks_of (layer_with costs.now.inputs (costs.now.size + 1))) mask) }
+    requires room { bound + 1 < 2 ^ 32 }
+    ensures { (F : List Function) (P : List Pair) (order : List ℕ) → IsOrder costs.now.inputs order → Keeps P order → IsTrue (is_lawful P (members costs.now.inputs mask)) →
+        essential ≡ essential_mask costs.now.inputs F → AreTrueCosts costs.now.inputs F P bound costs.now → AreWidthsFor costs.now.inputs F P bound mask costs.now widths.now →
+        as_pair result ≡ cell_of costs.now.inputs F P bound mask }
+{
+    let outside = count_outside(essential, mask);
+    match best_sum(mask, costs, widths, bound) {
+        None => clipped(mask, bound),
+        Some(best) => {
+            if best.sum + outside as u64 <= bound as u64 {
+                Cell {
+                    cost: best.sum as u32,
+                    variable: best.variable,
+                }
+            } else {
+                clipped(mask, bound)
+            }
+        }
+    }
+}
+
+/// The cell of a set of the layer after the costs' one. Widths are needed of the members without which the cost is within
+/// the bound; the others may be anything.
+pub fn least_cell(
+    mask: Mask,
+    costs: &Costs,
+    widths: &[u32; 16],
+    bound: u32,
+    essential: Mask,
+    pairs: &Pairs,
+) -> Cell
+    requires next { IsTrue (has (masks_of (layer_with costs.now.inputs (costs.now.size + 1))) mask) }
+    requires inputs { pairs.now.inputs ≡ costs.now.inputs }
+    requires room { bound + 1 < 2 ^ 32 }
+    ensures { (F : List Function) → essential ≡ essential_mask costs.now.inputs F → AreTrueCosts costs.now.inputs F pairs.now.pairs bound costs.now →
+        AreWidthsFor costs.now.inputs F pairs.now.pairs bound mask costs.now widths.now → as_pair result ≡ cell_of costs.now.inputs F pairs.now.pairs bound mask }
+{
+    prove!(pairs.inputs() <= 16);
+    if pairs.lawful(mask) {
+        lawful_cell(mask, costs, widths, bound, essential)
+    } else {
+        clipped(mask, bound)
+    }
+}

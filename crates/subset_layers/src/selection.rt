@@ -1,0 +1,47 @@
+//! Numbers below a limit with a table of their places.
+
+ghost use Rattle.subset_layers.specs.Selections.{ArePlaced};
+ghost use Rattle.std.specs.Prelude.{◌≡◌, ℕ, ◌+◌, ◌<◌, ◌≤◌, ◌≢◌, length, slice_index, slice_get, IfOk, IfSome, IsNone, ◌↔◌, OnOk, MatchOption, ◌^◌};
+
+use std::alloc::{AllocError, Global};
+
+/// Chosen numbers, rising, and at each of them in `places` its place among them.
+#[derive(Drop)]
+pub struct Selection {
+    pub numbers: Vec<u16>,
+    pub places: Vec<u16>,
+    ghost placed: { ArePlaced numbers.items places.items },
+}
+
+impl Selection {
+    ghost use Rattle.subset_layers.specs.Selections.{chosen};
+
+    /// The numbers at which the flags say true.
+    pub fn of(alloc: Global, flags: &[bool]) -> Result<Selection, AllocError>
+        requires { length flags.now ≤ 2 ^ 16 }
+        ensures { IfOk result (λ s. s.numbers.items ≡ chosen flags.now) }
+    {
+        let mut numbers = Vec::new(alloc);
+        let mut places = Vec::with_capacity(alloc, flags.len())?;
+        for (number, is_chosen) in flags.iter().enumerate() {
+            places.push(numbers.len() as u16)?;
+            if *is_chosen {
+                numbers.push(number as u16)?;
+            }
+        }
+        Ok(Selection { numbers, places })
+    }
+
+    /// The place of a number among those chosen.
+    pub fn position(&self, number: u16) -> Option<usize>
+        ensures found { IfSome result (λ i. slice_get self.now.numbers.items i ≡ Some number) }
+        ensures none { IsNone result → (i : ℕ) → i < length self.now.numbers.items → slice_index self.now.numbers.items i ≢ number }
+    {
+        let place = *self.places.get(number as usize)? as usize;
+        if place < self.numbers.len() && self.numbers[place] == number {
+            Some(place)
+        } else {
+            None
+        }
+    }
+}
