@@ -3,7 +3,7 @@
 # usage: bench/layers.sh FILE.pla ..      NATIVE names the native program (rustc -O of fs_baseline.rs); without it only layer_speed runs
 cd "$(dirname "$0")/.." || exit 1
 here=$PWD
-(cd crates/layer_speed && rt run <stdin >/dev/null) || exit 1
+(cd crates/layer_speed && rt run <stdin >/dev/null 2>&1) || exit 1
 for file in "$@"; do
     tables=$(mktemp)
     python3 "$here/bench/tables.py" "$file" >"$tables"

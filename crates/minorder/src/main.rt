@@ -4,8 +4,9 @@
 use order_model::Counting;
 use report::minorder;
 use std::alloc::{AllocError, Global};
-use std::env;
+use std::io::ErrorKind;
 use std::process::ExitCode;
+use std::{env, io};
 
 /// The status where the words of the command line can't be taken over.
 const WORDS_STATUS: u8 = 2;
@@ -22,9 +23,19 @@ fn borrowed(alloc: Global, words: &[String]) -> Result<Vec<&str>, AllocError> {
     Ok(borrowed)
 }
 
+/// The status where the words can't be taken over: they are no text, or memory is wanting.
+fn status_of(error: &io::Error) -> u8 {
+    if error.kind() == ErrorKind::OutOfMemory {
+        MEMORY_STATUS
+    } else {
+        WORDS_STATUS
+    }
+}
+
 fn main(rt: HostRuntime) -> ExitCode {
-    let Ok(words) = env::args(&rt) else {
-        return ExitCode::from(WORDS_STATUS);
+    let words = match env::args(&rt) {
+        Ok(words) => words,
+        Err(error) => return ExitCode::from(status_of(&error)),
     };
     let Ok(words) = words.skip(1).collect::<Vec<String>>(rt.alloc()) else {
         return ExitCode::from(MEMORY_STATUS);
