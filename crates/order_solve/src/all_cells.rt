@@ -1,6 +1,6 @@
 //! The cells of all sets.
 
-ghost use Rattle.std.specs.Prelude.{◌≡◌, ◌<◌, ◌≤◌, ◌^◌, IfOk};
+ghost use Rattle.std.specs.Prelude.{◌≡◌, ◌+◌, ◌<◌, ◌≤◌, ◌^◌, IfOk, length};
 ghost use Rattle.order_model.specs.Problems.{functions};
 ghost use Rattle.order_model.specs.Cells.{cell_cost};
 ghost use Rattle.order_model.specs.Widths.{essential_mask};
@@ -8,6 +8,7 @@ ghost use Rattle.layer_board.specs.Views.{cell_for};
 ghost use Rattle.layer_board.specs.Pairing.{pair_of};
 ghost use Rattle.order_solve.specs.Needs.{needed};
 ghost use Rattle.order_solve.specs.Benches.{setting_with, IsLayerFor};
+ghost use Rattle.order_solve.specs.Bounded.{AreLayersFor};
 
 use crate::layering::next_layer;
 use crate::needs::needed_members;
@@ -38,10 +39,45 @@ impl<'a> Model for AllCells<'a> {
     ghost invariant = { λ a. HoldsCells (setting_with a.problem.now a.pairs.now a.bound) a.layers.items };
 }
 
+/// The layers of all sets, each by workers.
+pub(crate) fn layers_of<R: Threads + Sync, G: Gate>(
+    rt: &R,
+    alloc: Global,
+    problem: &Problem,
+    pairs: &Pairs,
+    bound: u32,
+    workers: Workers,
+    gate: &G,
+) -> Result<Vec<Costs>, AllocError>
+    requires pairs { pairs.now.inputs ≡ problem.now.inputs }
+    requires room { bound + 1 < 2 ^ 32 }
+    ensures many { IfOk result (λ v. length v.items ≡ problem.now.inputs + 1) }
+    ensures layers { IfOk result (λ v. AreLayersFor (setting_with problem.now pairs.now bound) v.items) }
+{
+    let mut layers = Vec::new(alloc);
+    layers.push(Costs::start(alloc, problem.inputs())?)?;
+    for size in 0..problem.inputs() {
+        let before = &layers[usize::from(size)];
+        let costs = next_layer(
+            rt,
+            alloc,
+            problem,
+            pairs,
+            bound,
+            before,
+            size + 1,
+            workers,
+            gate,
+        )?;
+        layers.push(costs)?;
+    }
+    Ok(layers)
+}
+
 impl<'a> AllCells<'a> {
     ghost use Rattle.order_solve.specs.Bounded.{IsBounded};
 
-    /// The cells, layer by layer, each by workers.
+    /// The cells of all layers, each by workers.
     pub fn of<R: Threads + Sync, G: Gate>(
         rt: &R,
         alloc: Global,
@@ -56,23 +92,8 @@ impl<'a> AllCells<'a> {
         ensures { IfOk result (λ a. a ≡ setting_with problem.now pairs.now bound) }
     {
         let _few = problem.outputs();
-        let mut layers = Vec::new(alloc);
-        layers.push(Costs::start(alloc, problem.inputs())?)?;
-        for size in 0..problem.inputs() {
-            let before = &layers[usize::from(size)];
-            let costs = next_layer(
-                rt,
-                alloc,
-                problem,
-                pairs,
-                bound,
-                before,
-                size + 1,
-                workers,
-                gate,
-            )?;
-            layers.push(costs)?;
-        }
+        let _inputs = problem.inputs();
+        let layers = layers_of(rt, alloc, problem, pairs, bound, workers, gate)?;
         Ok(AllCells {
             problem,
             pairs,

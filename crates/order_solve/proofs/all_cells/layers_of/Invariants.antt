@@ -1,7 +1,7 @@
 use Rattle.std.proofs.Common.{◌≡◌, ◌+◌, length}
 use Rattle.order_solve.specs.Benches.{setting_with}
 use Rattle.order_solve.specs.Bounded.{AreLayersFor}
-use Rattle.order_solve.proofs.all_cells.AllCells.of.Given as goal
+use Rattle.order_solve.proofs.all_cells.layers_of.Given as goal
 
 abbrev pub invariant-loop-size : goal.invariant-loop-size
 invariant-loop-size g l = record {
