@@ -142,7 +142,7 @@ module _ (s s' : SeatOf) (p : ℕ) (b : BlockOf) (h : ClaimsBlock s s' p b) wher
       sum-map (width_count t) (filter (gains s0 s') M)
       ∙ sum_split (width_count t) (gains s0 s) (gains s0 s') in_block M each
       ∙ ap₂ (λ x y. x + y) (sym (sum-map (width_count t) (filter (gains s0 s) M)))
-        (ap (λ (l : LayerOf). sum_by (width_count t) (filter in_block (masks_of l))) (same ∙ sym (block_layer L p b h.block)) ∙ sym (sum-map (width_count t) (filter in_block (masks_of (layer_of b)))))
+      (ap (λ (l : LayerOf). sum_by (width_count t) (filter in_block (masks_of l))) (same ∙ sym (block_layer L p b h.block)) ∙ sym (sum-map (width_count t) (filter in_block (masks_of (layer_of b)))))
     where
       M : List ℕ
       M = masks_of s0.board.brief.layer

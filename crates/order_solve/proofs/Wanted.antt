@@ -80,8 +80,8 @@ module _ (c : CostsOf) (F : List Function) (P : List Pair) (bound mask : ℕ) (n
   both : (x : ℕ) → has S x ≡ true → is_lawful P S ≡ true → (is_lawful P (without x S) && (is_lawful P S && leb (cell_cost n F P bound (mask - 2 ^ x)) bound)) ≡ leb (cost_without c mask x) bound
   both x m low = same_bool _ _ (λ e. ap (λ k. leb k bound) (cost_is x m) ∙ (and_parts _ _ (and_parts _ _ e).1).1)
       (λ e.
-          let le = ap (λ k. leb k bound) (sym (cost_is x m)) ∙ e in
-          and_from _ _ (top_is x m (leb-true (cell_cost n F P bound (mask - 2 ^ x)) bound le)) (and_from _ _ low le))
+      let le = ap (λ k. leb k bound) (sym (cost_is x m)) ∙ e in
+      and_from _ _ (top_is x m (leb-true (cell_cost n F P bound (mask - 2 ^ x)) bound le)) (and_from _ _ low le))
 
   pub wanted_lawful : is_lawful P S ≡ true → wanted n F P bound mask ≡ affordable c bound mask
   unfolding wanted affordable

@@ -70,7 +70,10 @@ fn do_jobs<R: Threads + Sync, G: Gate>(
 }
 
 /// A seat of the workers, where none of them met want of memory.
-fn some_seat(board: &Board, ended: Vec<Result<WorkerEnd, AllocError>>) -> Result<BoardSeat, AllocError>
+fn some_seat(
+    board: &Board,
+    ended: Vec<Result<WorkerEnd, AllocError>>,
+) -> Result<BoardSeat, AllocError>
     requires some { 1 ≤ vec_len ended }
     requires seats { All (λ r. IfOk r (λ e. e.seat.board ≡ board.now)) ended.items }
     ensures { IfOk result (λ s. s.board ≡ board.now) }

@@ -55,12 +55,7 @@ pub fn needs_of_block(
 {
     let mut needs = Vec::with_capacity(alloc, block.len())?;
     for i in 0..block.len() {
-        needs.push(needed_members(
-            block.mask(i),
-            bench.before,
-            bench.pairs,
-            bench.bound,
-        ))?;
+        needs.push(needed_members(block.mask(i), bench.before, bench.pairs, bench.bound))?;
     }
     Ok(needs)
 }
