@@ -104,8 +104,9 @@ fn build_in<R: Threads + Sync, G: Gate>(
     finish(alloc, store, session, source)
 }
 
-/// The reduced diagram of the store's functions, from their truth tables. Worker i builds the pieces whose number leaves i-1 when divided by the
-/// number of workers, and calls the gate before it publishes each. The store is spent.
+/// The reduced diagram of the store's functions, from their truth tables. Worker i builds the pieces that aren't outputs and whose number leaves
+/// i-1 when divided by the number of workers, and calls the gate before it publishes each; the outputs are then made by the calling thread. The
+/// store is spent. The time is that of a search in the store for each output and point.
 pub fn from_tables<R: Threads + Sync, G: Gate>(
     rt: &R,
     alloc: Global,
@@ -133,8 +134,9 @@ pub fn from_tables<R: Threads + Sync, G: Gate>(
     )
 }
 
-/// The reduced diagram of the store's functions, from the terms of a cover. Worker i builds the pieces whose number leaves i-1 when divided by
-/// the number of workers, and calls the gate before it publishes each. The store is spent.
+/// The reduced diagram of the store's functions, from the terms of a cover. Worker i builds the pieces that aren't outputs and whose number leaves
+/// i-1 when divided by the number of workers, and calls the gate before it publishes each; the outputs are then made by the calling thread. The
+/// store is spent. Each term is made once for each of its outputs and joined to the others by `apply`.
 pub fn from_cover<R: Threads + Sync, G: Gate>(
     rt: &R,
     alloc: Global,

@@ -117,6 +117,6 @@ pub(crate) fn terms_share(
     ensures function { IfOk result (λ id. Means session.new id (piece_function store.now.plan piece)) }
     ensures full { OnErr result (KnowsFull session.new) }
 {
-    let _roots = store.roots();
+    let _plan = store.order();
     output_share(store, session, terms, (piece / 64) as u8, piece % 64)
 }

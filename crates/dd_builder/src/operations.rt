@@ -179,7 +179,8 @@ fn apply_from(
     Ok(id)
 }
 
-/// The id of an operation on the functions of two ids (Bryant 1986, apply). It takes no memory.
+/// The id of an operation on the functions of two ids (Bryant 1986, apply). It takes no memory. Each pair of nodes is worked on once for as long
+/// as the cache keeps its result.
 pub fn apply(
     store: &Store,
     session: &mut Session,

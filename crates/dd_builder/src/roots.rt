@@ -20,7 +20,7 @@ fn part_id(store: &Store, session: &mut Session, piece: usize) -> NodeId
     ensures function { Means session.new result (piece_function store.now.plan piece) }
     ensures level { part_level store.now.plan ≤ depth_in session.new result }
 {
-    let _pieces = store.pieces();
+    let _plan = store.order();
     match store.collect(session, piece) {
         Some(id) => id,
         None => unreachable!(),
@@ -65,7 +65,7 @@ fn of_shares(store: &Store, session: &mut Session, output: u8) -> Result<NodeId,
     ensures function { IfOk result (λ id. Means session.new id (output_at store.now.plan.problem.value output)) }
     ensures full { OnErr result (KnowsFull session.new) }
 {
-    let _roots = store.roots();
+    let _plan = store.order();
     let mut id = 0;
     for share in 0..64 {
         let part = part_id(store, session, usize::from(output) * 64 + share);

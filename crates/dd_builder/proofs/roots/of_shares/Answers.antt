@@ -33,5 +33,5 @@ loop-share-preserved c =
 pub returns-clause-function : goal.returns-clause-function
 returns-clause-function c =
     let test = c.loop-share-test.false in let end = c.loop-share.auto.share-end in
-    parts_all c.loop-share.session c.args.store.now.plan c.args.output c.loop-share.id c.loop-share.share c.roots-roots.ensures.plan c.requires.kind c.requires.output
+    parts_all c.loop-share.session c.args.store.now.plan c.args.output c.loop-share.id c.loop-share.share c.order-plan.ensures.plan c.requires.kind c.requires.output
     (ap (λ (z : StoreId). levels_of z.plan) c.loop-share.invariant.store) (omega arith) c.loop-share.invariant.means
