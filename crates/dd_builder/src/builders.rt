@@ -1,4 +1,5 @@
-// Reduced diagrams, built by several workers.
+//! Reduced diagrams, built by several workers.
+
 ghost use Rattle.std.specs.Prelude.{◌≡◌, ◌-◌, ◌≤◌, length, IfOk, IfErr};
 ghost use Rattle.std.specs.Thread.{IsSync};
 ghost use Rattle.order_model.specs.Diagrams.{Represents, IsReduced};
@@ -20,7 +21,7 @@ use std::thread::Threads;
 use truth_table::Tables;
 use unique_table::{CloseFault, Pieces, Session, Store};
 
-// Makes and publishes the outputs, and closes the store.
+/// Makes and publishes the outputs, and closes the store.
 fn finish(
     alloc: Global,
     store: Store,
@@ -45,7 +46,7 @@ fn finish(
     }
 }
 
-// Builds all parts, by workers of their own threads: a session that knows them, or that of a worker that met a full store.
+/// Builds all parts, by workers of their own threads: a session that knows them, or that of a worker that met a full store.
 fn parts_by_workers<R: Threads + Sync, G: Gate>(
     rt: &R,
     alloc: Global,
@@ -83,7 +84,7 @@ fn parts_by_workers<R: Threads + Sync, G: Gate>(
     }
 }
 
-// The reduced diagram of the store's functions, whose parts are built by workers.
+/// The reduced diagram of the store's functions, whose parts are built by workers.
 fn build_in<R: Threads + Sync, G: Gate>(
     rt: &R,
     alloc: Global,
@@ -164,7 +165,7 @@ pub fn from_cover<R: Threads + Sync, G: Gate>(
     )
 }
 
-// A store of an order for the functions of truth tables, with restrictions as its pieces, and its first session.
+/// A store of an order for the functions of truth tables, with restrictions as its pieces, and its first session.
 pub(crate) fn tables_store(
     alloc: Global,
     tables: &Tables,
@@ -183,7 +184,7 @@ pub(crate) fn tables_store(
     )
 }
 
-// A store of an order for the functions of a cover, with pieces of its terms, and its first session.
+/// A store of an order for the functions of a cover, with pieces of its terms, and its first session.
 pub(crate) fn cover_store(
     alloc: Global,
     cover: &Cover,

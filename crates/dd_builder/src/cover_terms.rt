@@ -1,4 +1,5 @@
-// Nodes of functions that are given by terms.
+//! Nodes of functions that are given by terms.
+
 ghost use Rattle.std.specs.Prelude.{◌≡◌, ◌<◌, ◌≤◌, IfOk, OnErr};
 ghost use Rattle.order_model.specs.Problems.{outputs_of};
 ghost use Rattle.order_model.specs.Products.{matches, product_function};
@@ -12,7 +13,7 @@ use crate::operations::apply;
 use order_model::Term;
 use unique_table::{NodeId, Operation, Session, Store, StoreFull};
 
-// The id of a term's literal of a level's variable, if it has one, and of the function of an id below.
+/// The id of a term's literal of a level's variable, if it has one, and of the function of an id below.
 fn literal_and(
     store: &Store,
     session: &mut Session,
@@ -39,7 +40,7 @@ fn literal_and(
     }
 }
 
-// The id of a term: 1 where all its literals hold.
+/// The id of a term: 1 where all its literals hold.
 fn term_id(store: &Store, session: &mut Session, term: Term) -> Result<NodeId, StoreFull>
     requires session { session.old.store ≡ store.now }
     ensures follows { Follows session.old session.new }
@@ -55,7 +56,7 @@ fn term_id(store: &Store, session: &mut Session, term: Term) -> Result<NodeId, S
     Ok(id)
 }
 
-// The id of the function of an id, or of a term where it belongs to an output.
+/// The id of the function of an id, or of a term where it belongs to an output.
 fn or_term(
     store: &Store,
     session: &mut Session,
@@ -78,7 +79,7 @@ fn or_term(
     apply(store, session, Operation::Or, id, cube)
 }
 
-// The id of an output's function by the terms whose number leaves `share` when divided by 64.
+/// The id of an output's function by the terms whose number leaves `share` when divided by 64.
 fn output_share(
     store: &Store,
     session: &mut Session,
@@ -103,7 +104,7 @@ fn output_share(
     Ok(id)
 }
 
-// The id of a piece of terms: an output by those terms whose number leaves the piece's remainder when divided by 64.
+/// The id of a piece of terms: an output by those terms whose number leaves the piece's remainder when divided by 64.
 pub(crate) fn terms_share(
     store: &Store,
     session: &mut Session,

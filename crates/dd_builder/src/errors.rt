@@ -1,4 +1,5 @@
-// Why a build gives no diagram.
+//! Why a build gives no diagram.
+
 use unique_table::Session;
 
 /// Why a build gives no diagram.

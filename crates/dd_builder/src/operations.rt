@@ -1,4 +1,5 @@
-// Operations on the functions of two ids.
+//! Operations on the functions of two ids.
+
 ghost use Rattle.std.specs.Prelude.{◌≡◌, ℕ, ◌+◌, ◌-◌, ◌<◌, ◌≤◌, IfOk, IfSome, IfNone, OnErr, min};
 ghost use Rattle.node_words.specs.Entries.{combine};
 ghost use Rattle.unique_table.specs.Plans.{levels_of};
@@ -9,7 +10,7 @@ ghost use Rattle.dd_builder.specs.Operating.{IsFrom, Settles, IsCut, IsCombined}
 use op_cache::{recall, remember};
 use unique_table::{NodeId, Operation, Session, Store, StoreFull};
 
-// What a conjunction is where an operand is a terminal, or both are one.
+/// What a conjunction is where an operand is a terminal, or both are one.
 fn settled_and(first: NodeId, second: NodeId) -> Option<NodeId>
     ensures some { IfSome result (Settles Operation.And first second) }
     ensures none { IfNone result (first < 2 → 2 ≤ second) }
@@ -25,7 +26,7 @@ fn settled_and(first: NodeId, second: NodeId) -> Option<NodeId>
     }
 }
 
-// What a disjunction is where an operand is a terminal, or both are one.
+/// What a disjunction is where an operand is a terminal, or both are one.
 fn settled_or(first: NodeId, second: NodeId) -> Option<NodeId>
     ensures some { IfSome result (Settles Operation.Or first second) }
     ensures none { IfNone result (first < 2 → 2 ≤ second) }
@@ -41,7 +42,7 @@ fn settled_or(first: NodeId, second: NodeId) -> Option<NodeId>
     }
 }
 
-// What an exclusive disjunction is where an operand is 0, or both are one.
+/// What an exclusive disjunction is where an operand is 0, or both are one.
 fn settled_xor(first: NodeId, second: NodeId) -> Option<NodeId>
     ensures some { IfSome result (Settles Operation.Xor first second) }
     ensures none { IfNone result (first < 2 → 2 ≤ second) }
@@ -57,7 +58,7 @@ fn settled_xor(first: NodeId, second: NodeId) -> Option<NodeId>
     }
 }
 
-// What an operation is where no node has to be taken apart.
+/// What an operation is where no node has to be taken apart.
 fn settled(operation: Operation, first: NodeId, second: NodeId) -> Option<NodeId>
     ensures some { IfSome result (Settles operation first second) }
     ensures none { IfNone result (first < 2 → 2 ≤ second) }
@@ -69,7 +70,7 @@ fn settled(operation: Operation, first: NodeId, second: NodeId) -> Option<NodeId
     }
 }
 
-// The level of an id; a terminal lies below all levels.
+/// The level of an id; a terminal lies below all levels.
 fn level_of(store: &Store, session: &mut Session, id: NodeId) -> u8
     requires session { session.old.store ≡ store.now }
     requires known { Knows session.old id }
@@ -85,7 +86,7 @@ fn level_of(store: &Store, session: &mut Session, id: NodeId) -> u8
     }
 }
 
-// The higher level of two ids, not both of which are terminals.
+/// The higher level of two ids, not both of which are terminals.
 fn top_level(store: &Store, session: &mut Session, first: NodeId, second: NodeId) -> u8
     requires session { session.old.store ≡ store.now }
     requires first { Knows session.old first }
@@ -101,7 +102,7 @@ fn top_level(store: &Store, session: &mut Session, first: NodeId, second: NodeId
     one.min(two)
 }
 
-// The children that an id has as a node of a level: below that level it is both of them itself.
+/// The children that an id has as a node of a level: below that level it is both of them itself.
 fn children(store: &Store, session: &mut Session, id: NodeId, level: u8) -> (NodeId, NodeId)
     requires session { session.old.store ≡ store.now }
     requires known { Knows session.old id }
@@ -116,7 +117,7 @@ fn children(store: &Store, session: &mut Session, id: NodeId, level: u8) -> (Nod
     }
 }
 
-// Two ids as nodes of the higher one of their levels: that level, and the lower and the upper child of each.
+/// Two ids as nodes of the higher one of their levels: that level, and the lower and the upper child of each.
 #[derive(Clone, Copy)]
 struct Cut {
     level: u8,
@@ -124,7 +125,7 @@ struct Cut {
     second: (NodeId, NodeId),
 }
 
-// Takes two ids apart, not both of which are terminals.
+/// Takes two ids apart, not both of which are terminals.
 fn take_apart(store: &Store, session: &mut Session, first: NodeId, second: NodeId) -> Cut
     requires session { session.old.store ≡ store.now }
     requires first { Knows session.old first }
@@ -147,7 +148,7 @@ fn take_apart(store: &Store, session: &mut Session, first: NodeId, second: NodeI
     }
 }
 
-// The id of an operation on ids that lie at a level or below it.
+/// The id of an operation on ids that lie at a level or below it.
 fn apply_from(
     store: &Store,
     session: &mut Session,

@@ -1,4 +1,5 @@
-// The parts of a store's functions.
+//! The parts of a store's functions.
+
 ghost use Rattle.std.specs.Prelude.{◌≡◌, ◌<◌, ◌≤◌, IfOk, OnErr};
 ghost use Rattle.unique_table.specs.Plans.{piece_function};
 ghost use Rattle.unique_table.specs.Sessions.{Means, Follows, depth_in};
@@ -11,14 +12,14 @@ use order_model::Term;
 use truth_table::Tables;
 use unique_table::{NodeId, Session, Store, StoreFull};
 
-// What parts are built of.
+/// What parts are built of.
 #[derive(Clone, Copy)]
 pub(crate) enum Source<'a> {
     Tables(&'a Tables),
     Terms(&'a [Term]),
 }
 
-// The id of a part.
+/// The id of a part.
 pub(crate) fn part(
     store: &Store,
     session: &mut Session,

@@ -1,4 +1,5 @@
-// The outputs, made of their parts.
+//! The outputs, made of their parts.
+
 ghost use Rattle.std.specs.Prelude.{◌≡◌, ℕ, ◌+◌, ◌^◌, ◌<◌, ◌≤◌, length, take, IfOk, OnOk, OnErr};
 ghost use Rattle.order_model.specs.Problems.{outputs_of};
 ghost use Rattle.unique_table.specs.Plans.{order_of, output_at, piece_function, fixed, tops as tops_of};
@@ -11,7 +12,7 @@ use crate::parts::Source;
 use crate::tables::tops;
 use unique_table::{NodeId, Operation, Session, Store, StoreFull};
 
-// The id of a part, which the session knows.
+/// The id of a part, which the session knows.
 fn part_id(store: &Store, session: &mut Session, piece: usize) -> NodeId
     requires session { session.old.store ≡ store.now }
     requires parts { HasAllParts session.old }
@@ -27,7 +28,7 @@ fn part_id(store: &Store, session: &mut Session, piece: usize) -> NodeId
     }
 }
 
-// The id of an output with the variables above a level fixed to the bits of a path, made of the parts, in which those on top are fixed.
+/// The id of an output with the variables above a level fixed to the bits of a path, made of the parts, in which those on top are fixed.
 fn of_restrictions(
     store: &Store,
     session: &mut Session,
@@ -55,7 +56,7 @@ fn of_restrictions(
     store.make(session, level, lower, upper)
 }
 
-// The id of an output, made of the parts, each of which has the terms of one remainder.
+/// The id of an output, made of the parts, each of which has the terms of one remainder.
 fn of_shares(store: &Store, session: &mut Session, output: u8) -> Result<NodeId, StoreFull>
     requires session { session.old.store ≡ store.now }
     requires kind { AreOfTerms store.now.plan.kind }
@@ -74,7 +75,7 @@ fn of_shares(store: &Store, session: &mut Session, output: u8) -> Result<NodeId,
     Ok(id)
 }
 
-// The id of an output, made of the parts.
+/// The id of an output, made of the parts.
 fn root(
     store: &Store,
     session: &mut Session,
@@ -95,7 +96,7 @@ fn root(
     }
 }
 
-// Makes and publishes the outputs.
+/// Makes and publishes the outputs.
 pub(crate) fn publish_roots(
     store: &Store,
     session: &mut Session,

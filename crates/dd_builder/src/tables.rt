@@ -1,4 +1,5 @@
-// Nodes of functions that are given by truth tables.
+//! Nodes of functions that are given by truth tables.
+
 ghost use Rattle.std.specs.Prelude.{◌≡◌, ◌^◌, ◌<◌, ◌≤◌, length, take, IfOk, OnErr};
 ghost use Rattle.order_model.specs.Orders.{IsOrder};
 ghost use Rattle.order_model.specs.Problems.{outputs_of};
@@ -11,7 +12,7 @@ use order_model::VarIx;
 use truth_table::Tables;
 use unique_table::{NodeId, Session, Store, StoreFull};
 
-// The number of the point at which the variable of each level has the path's bit for the level.
+/// The number of the point at which the variable of each level has the path's bit for the level.
 fn point_of(order: &[VarIx], path: u32) -> u32
     requires order { IsOrder (length order.now) order.now }
     requires few { length order.now ≤ 16 }
@@ -24,7 +25,7 @@ fn point_of(order: &[VarIx], path: u32) -> u32
     point
 }
 
-// The id of an output with the variables above a level fixed to the bits of a path.
+/// The id of an output with the variables above a level fixed to the bits of a path.
 fn output_below(
     store: &Store,
     session: &mut Session,
@@ -59,7 +60,7 @@ fn output_below(
     store.make(session, level, lower, upper)
 }
 
-// How many variables on top of an order are fixed in pieces.
+/// How many variables on top of an order are fixed in pieces.
 pub(crate) fn tops(order: &[VarIx]) -> u8
     requires { 1 ≤ length order.now }
     ensures value { result ≡ length (tops order.now) }
@@ -68,7 +69,7 @@ pub(crate) fn tops(order: &[VarIx]) -> u8
     if order.len() == 1 { 1 } else { 2 }
 }
 
-// The id of a piece of tables: an output with the variables on top fixed.
+/// The id of a piece of tables: an output with the variables on top fixed.
 pub(crate) fn restriction(
     store: &Store,
     session: &mut Session,

@@ -1,4 +1,5 @@
-// Workers that share the parts of a store's functions.
+//! Workers that share the parts of a store's functions.
+
 ghost use Rattle.std.specs.Prelude.{◌≡◌, ℕ, ◌+◌, ◌-◌, ◌<◌, ◌≤◌, Some, Result, IfOk, vec_len, slice_get};
 ghost use Rattle.unique_table.specs.Sessions.{Knowledge};
 ghost use Rattle.dd_builder.specs.Parts.{IsSourceFor, IsEndOf, AreEndsOf, IsJoined};
@@ -9,15 +10,15 @@ use order_model::Gate;
 use std::alloc::{AllocError, Global};
 use unique_table::{Session, Store};
 
-// A worker's number, from 1, and its session.
+/// A worker's number, from 1, and its session.
 #[derive(Drop)]
 pub(crate) struct Job {
     pub(crate) worker: u8,
     pub(crate) session: Session,
 }
 
-// Builds and publishes the parts whose number leaves the worker's number less 1 when divided by the number of workers. An error has the
-// session that met a full store.
+/// Builds and publishes the parts whose number leaves the worker's number less 1 when divided by the number of workers. An error has the
+/// session that met a full store.
 pub(crate) fn build_parts<G: Gate>(
     store: &Store,
     mut session: Session,
@@ -44,7 +45,7 @@ pub(crate) fn build_parts<G: Gate>(
     Ok(session)
 }
 
-// A job for each worker, in their order.
+/// A job for each worker, in their order.
 pub(crate) fn jobs(
     alloc: Global,
     store: &Store,
@@ -72,7 +73,7 @@ pub(crate) fn jobs(
     Ok(jobs)
 }
 
-// A session that knows what all workers know, or that of one that met a full store.
+/// A session that knows what all workers know, or that of one that met a full store.
 pub(crate) fn joined(
     store: &Store,
     workers: u8,

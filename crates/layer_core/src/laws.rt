@@ -1,4 +1,5 @@
-// What holds of the machine after every list of events, for any number of workers.
+//! What holds of the machine after every list of events, for any number of workers.
+
 ghost use Rattle.std.specs.Prelude.{◌≡◌, ℕ, ◌<◌, List, length, slice_index};
 ghost use Rattle.order_model.specs.Functions.{Function};
 ghost use Rattle.order_model.specs.Pairs.{Pair};

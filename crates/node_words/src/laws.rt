@@ -1,4 +1,5 @@
-// Laws of the functions that ids denote.
+//! Laws of the functions that ids denote.
+
 ghost use Rattle.std.specs.Prelude.{◌≡◌, ℕ, List, length};
 ghost use Rattle.order_model.specs.Functions.{Function};
 ghost use Rattle.order_model.specs.Orders.{IsOrder};

@@ -1,4 +1,4 @@
-// The operations that a cache knows.
+//! The operations that a cache knows.
 
 /// An operation on two functions.
 #[derive(Clone, Copy, Debug, PartialEq, Eq)]

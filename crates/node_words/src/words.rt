@@ -1,4 +1,5 @@
-// Packing and unpacking words.
+//! Packing and unpacking words.
+
 ghost use Rattle.std.specs.Prelude.{◌≡◌, ℕ, ◌+◌, ◌-◌, ◌*◌, ◌^◌, ◌<◌};
 ghost use Rattle.node_words.specs.Nodes.{node_word, home, probe, level_of, lower_of, upper_of};
 ghost use Rattle.node_words.specs.Entries.{code_of};

@@ -8,7 +8,7 @@ ghost use Rattle.unique_table.specs.Sessions.{Knows, Means, Follows, function_in
 use node_words::start;
 use unique_table::{NodeId, Operation, Session, Store};
 
-// The place of an operation on two ids.
+/// The place of an operation on two ids.
 fn place_of(places: usize, operation: Operation, first: NodeId, second: NodeId) -> usize
     requires some { 0 < places }
     requires few { places < 2 ^ 32 }

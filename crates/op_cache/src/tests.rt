@@ -1,4 +1,5 @@
-// Remembering and recalling.
+//! Remembering and recalling.
+
 ghost use Rattle.std.specs.Prelude.{◌≡◌, ◌≤◌, IfOk};
 ghost use Rattle.unique_table.specs.Plans.{levels_of};
 ghost use Rattle.unique_table.specs.Sessions.{Knows, Follows};

@@ -1,4 +1,5 @@
-// Copying what an id reaches, children first.
+//! Copying what an id reaches, children first.
+
 ghost use Rattle.std.specs.Prelude.{◌≡◌, ℕ, ◌^◌, ◌<◌, ◌≤◌, ◌+◌, ◌++◌, ◌∷◌, [], IfOk, OnOk, vec_len, length, slice_index, slice_set};
 ghost use Rattle.std.specs.Slots.{slots_len, IsFull};
 ghost use Rattle.node_words.specs.Nodes.{AreNodes, IsKnown};
@@ -9,7 +10,7 @@ use node_words::node_parts;
 use order_model::{Node, Ref, VarIx};
 use std::alloc::{AllocError, Global};
 
-// A word of the first places of a closed table.
+/// A word of the first places of a closed table.
 fn word_at(closed: &Closed<(), Global>, places: usize, place: usize) -> u64
     requires full { IsFull closed.now.words }
     requires places { places ≤ slots_len closed.now.words }
@@ -19,7 +20,7 @@ fn word_at(closed: &Closed<(), Global>, places: usize, place: usize) -> u64
     closed.word(place)
 }
 
-// Adds the copy of a place.
+/// Adds the copy of a place.
 fn add(
     numbers: &mut Vec<u32>,
     nodes: &mut Vec<Node>,
@@ -39,7 +40,7 @@ fn add(
     Ok(Ref::Place(copied))
 }
 
-// Copies what an id reaches, each node behind its children.
+/// Copies what an id reaches, each node behind its children.
 pub(crate) fn copy(
     closed: &Closed<(), Global>,
     places: usize,

@@ -1,4 +1,5 @@
-// The diagram of what some roots reach.
+//! The diagram of what some roots reach.
+
 ghost use Rattle.std.specs.Prelude.{◌≡◌, ℕ, ◌^◌, ◌<◌, ◌≤◌, IfOk, length, map};
 ghost use Rattle.std.specs.List.{All};
 ghost use Rattle.std.specs.Slots.{slots_len, IsFull};

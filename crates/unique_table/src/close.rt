@@ -1,4 +1,5 @@
-// Closing a store.
+//! Closing a store.
+
 ghost use Rattle.std.specs.Prelude.{◌≡◌, ◌≢◌, ℕ, ◌+◌, ◌-◌, ◌^◌, ◌<◌, ◌≤◌, length, slice_index, IfOk, IfErr, OnOk, map};
 ghost use Rattle.std.specs.List.{range_with_len};
 ghost use Rattle.std.specs.Slots.{slots_items, slots_len, IsFull};
@@ -23,7 +24,7 @@ pub enum CloseFault {
     OutOfMemory,
 }
 
-// A word of a closed table.
+/// A word of a closed table.
 fn word_at(closed: &Closed<(), Global>, place: usize) -> u64
     requires full { IsFull closed.now.words }
     requires place { place < slots_len closed.now.words }
@@ -32,7 +33,7 @@ fn word_at(closed: &Closed<(), Global>, place: usize) -> u64
     closed.word(place)
 }
 
-// The ids in a closed table's words from the first root on.
+/// The ids in a closed table's words from the first root on.
 fn root_ids(
     alloc: Global,
     closed: &Closed<(), Global>,
@@ -61,7 +62,7 @@ fn root_ids(
     Ok(ids)
 }
 
-// The reduced diagram of a closed table's roots.
+/// The reduced diagram of a closed table's roots.
 fn last_diagram(
     alloc: Global,
     closed: &Closed<(), Global>,

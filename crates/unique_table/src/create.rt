@@ -1,4 +1,5 @@
-// Making a store.
+//! Making a store.
+
 ghost use Rattle.std.specs.Prelude.{◌≡◌, ℕ, ◌*◌, ◌^◌, ◌<◌, ◌≤◌, [], length, IfOk};
 ghost use Rattle.order_model.specs.OrderFaults.{Accepts};
 ghost use Rattle.unique_table.specs.Plans.{AreGivenBy, IsPlanFor, IsKind, parts_count, ways};
@@ -25,7 +26,7 @@ fn cache_places() -> usize
     65_536
 }
 
-// What the plan keeps of the pieces.
+/// What the plan keeps of the pieces.
 fn kind_of(alloc: Global, pieces: Pieces<'_>) -> Result<PieceKind, AllocError>
     ensures { IfOk result (λ kind. IsKind kind pieces.entry) }
 {
@@ -40,7 +41,7 @@ fn kind_of(alloc: Global, pieces: Pieces<'_>) -> Result<PieceKind, AllocError>
     }
 }
 
-// How many ways there are to fix the variables on top.
+/// How many ways there are to fix the variables on top.
 fn ways(order: &Order) -> usize
     ensures is { result ≡ ways order.now }
     ensures few { result ≤ 4 }
@@ -48,7 +49,7 @@ fn ways(order: &Order) -> usize
     if order.len() < 2 { 2 } else { 4 }
 }
 
-// How many pieces there are besides the outputs.
+/// How many pieces there are besides the outputs.
 fn parts_count(kind: &PieceKind, order: &Order, outputs: u8) -> usize
     requires { outputs ≤ 16 }
     ensures is { (t : TruthTables) → outputs ≡ outputs_of t → result ≡ parts_count kind.now order.now t }

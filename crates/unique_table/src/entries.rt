@@ -1,4 +1,5 @@
-// The places of the cache.
+//! The places of the cache.
+
 ghost use Rattle.std.specs.Prelude.{◌≡◌, ℕ, ◌+◌, ◌<◌, ◌≤◌, IfSome};
 ghost use Rattle.node_words.specs.Entries.{combine};
 ghost use Rattle.unique_table.specs.Sessions.{Knows, Means, Follows, function_in, depth_in};

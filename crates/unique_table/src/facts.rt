@@ -1,4 +1,5 @@
-// What a store tells of itself.
+//! What a store tells of itself.
+
 ghost use Rattle.std.specs.Prelude.{◌≡◌};
 ghost use Rattle.unique_table.specs.Plans.{IsPlan, order_of};
 

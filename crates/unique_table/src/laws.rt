@@ -1,4 +1,5 @@
-// Laws of a store's states.
+//! Laws of a store's states.
+
 ghost use Rattle.std.specs.Prelude.{◌≡◌, ℕ, List, true, length};
 ghost use mathlib.Core.Option.{some};
 ghost use lib.ListN.{get_elem?};

@@ -1,4 +1,5 @@
-// Making nodes, and taking them apart.
+//! Making nodes, and taking them apart.
+
 ghost use Rattle.std.specs.Prelude.{◌≡◌, ℕ, ◌+◌, ◌*◌, ◌<◌, ◌≤◌, ◌==◌, ◌↔◌, IfOk, OnErr, IfSome, IfNone, IsNone};
 ghost use Rattle.order_model.specs.Functions.{Point};
 ghost use Rattle.node_words.specs.Nodes.{node_word, IsFullFor, IsIdOf};

@@ -1,4 +1,5 @@
-// The rule of the table, and the names of its steps.
+//! The rule of the table, and the names of its steps.
+
 ghost use Rattle.unique_table.specs.Picture.{IsKept, newcomer, stepped, another, informed, spent, looks, puts, publishes, collects, recalls, remembers};
 
 use crate::view::{Plan, View};

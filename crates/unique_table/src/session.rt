@@ -1,4 +1,5 @@
-// The store and its sessions.
+//! The store and its sessions.
+
 use crate::plays::Words;
 use crate::view::{Plan, View};
 use atomic_table::{Seat, Table};

@@ -1,4 +1,5 @@
-// Sessions that are split and joined.
+//! Sessions that are split and joined.
+
 ghost use Rattle.std.specs.Prelude.{◌≡◌, ℕ, ◌+◌};
 ghost use Rattle.unique_table.specs.Sessions.{Follows, HasUniqueIds};
 

@@ -1,4 +1,5 @@
-// Of what the pieces of a store are made.
+//! Of what the pieces of a store are made.
+
 use order_model::Term;
 use std::marker::Model;
 use std::snapshot::Snapshot;

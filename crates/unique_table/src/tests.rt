@@ -1,4 +1,5 @@
-// Filling a store, and sessions of two threads.
+//! Filling a store, and sessions of two threads.
+
 ghost use Rattle.std.specs.Prelude.{◌≡◌, ℕ, ◌<◌, ◌≤◌, IfOk, OnOk};
 ghost use Rattle.std.specs.List.{All};
 ghost use Rattle.unique_table.specs.Plans.{levels_of};

@@ -1,4 +1,5 @@
-// What a session knows.
+//! What a session knows.
+
 use crate::terms::PieceKind;
 use order_model::{Order, Problem};
 use std::snapshot::Snapshot;

@@ -1,4 +1,5 @@
-// The steps on words, each with what the seat's view gains.
+//! The steps on words, each with what the seat's view gains.
+
 ghost use Rattle.std.specs.Prelude.{◌≡◌, ◌≢◌, ℕ, ◌+◌, ◌-◌, ◌*◌, ◌^◌, ◌<◌, ◌≤◌, slice_index, MatchBool, IfSome, IfNone};
 ghost use Rattle.node_words.specs.Nodes.{IsNode, IsNext, IsTaken, IsFullFor};
 ghost use Rattle.node_words.specs.Meaning.{Denotes};
@@ -14,7 +15,7 @@ use node_words::{probe, start};
 
 type Board = Shared<(), View, Plan, Words>;
 
-// Loads a node word.
+/// Loads a node word.
 pub(crate) fn look(shared: &Board, seat: &mut Seat<(), View>, place: usize) -> u64
     requires seat { IsSeatOf shared.now seat.old }
     requires place { (place < shared.now.key.places) × (place < shared.now.table_id.words) }
@@ -25,7 +26,7 @@ pub(crate) fn look(shared: &Board, seat: &mut Seat<(), View>, place: usize) -> u
     shared.load::<Looks>(seat, place)
 }
 
-// Puts a node's word into the place that comes next in the search for it, if the place is empty, and answers what was found.
+/// Puts a node's word into the place that comes next in the search for it, if the place is empty, and answers what was found.
 fn put(shared: &Board, seat: &mut Seat<(), View>, place: usize, word: u64) -> u64
     requires seat { IsSeatOf shared.now seat.old }
     requires place { (place < shared.now.key.places) × (place < shared.now.table_id.words) }
@@ -38,7 +39,7 @@ fn put(shared: &Board, seat: &mut Seat<(), View>, place: usize, word: u64) -> u6
     shared.compare_exchange::<Puts>(seat, place, 0, word)
 }
 
-// Looks at the place that comes next in the search for a node's word, and puts the word there if it is seen empty. Says whether the word stands there.
+/// Looks at the place that comes next in the search for a node's word, and puts the word there if it is seen empty. Says whether the word stands there.
 pub(crate) fn take(shared: &Board, seat: &mut Seat<(), View>, place: usize, word: u64) -> bool
     requires seat { IsSeatOf shared.now seat.old }
     requires place { (place < shared.now.key.places) × (place < shared.now.table_id.words) }
@@ -58,7 +59,7 @@ pub(crate) fn take(shared: &Board, seat: &mut Seat<(), View>, place: usize, word
     found == 0 || found == word
 }
 
-// Stores the id of a piece's function.
+/// Stores the id of a piece's function.
 pub(crate) fn publish(
     shared: &Board,
     seat: &mut Seat<(), View>,
@@ -77,7 +78,7 @@ pub(crate) fn publish(
     shared.store::<Publishes>(seat, place, u64::from(id) + 1);
 }
 
-// Loads a piece word.
+/// Loads a piece word.
 pub(crate) fn collect(shared: &Board, seat: &mut Seat<(), View>, place: usize, piece: usize) -> u64
     requires seat { IsSeatOf shared.now seat.old }
     requires place { (place ≡ shared.now.key.places + shared.now.key.entries + piece) × (place < shared.now.table_id.words) }
@@ -89,7 +90,7 @@ pub(crate) fn collect(shared: &Board, seat: &mut Seat<(), View>, place: usize, p
     shared.load::<Collects>(seat, place)
 }
 
-// Loads a cache word.
+/// Loads a cache word.
 pub(crate) fn recall(shared: &Board, seat: &mut Seat<(), View>, place: usize, entry: usize) -> u64
     requires seat { IsSeatOf shared.now seat.old }
     requires place { (place ≡ shared.now.key.places + entry) × (place < shared.now.table_id.words) }
@@ -102,7 +103,7 @@ pub(crate) fn recall(shared: &Board, seat: &mut Seat<(), View>, place: usize, en
     shared.load::<Recalls>(seat, place)
 }
 
-// Stores a cache word.
+/// Stores a cache word.
 pub(crate) fn remember(
     shared: &Board,
     seat: &mut Seat<(), View>,
@@ -121,7 +122,7 @@ pub(crate) fn remember(
     shared.store::<Remembers>(seat, place, word);
 }
 
-// Searches for a node's word, and puts it into the first empty place that it comes to. None where each place is taken by another word.
+/// Searches for a node's word, and puts it into the first empty place that it comes to. None where each place is taken by another word.
 pub(crate) fn find_or_put(
     shared: &Board,
     seat: &mut Seat<(), View>,
