@@ -1,7 +1,7 @@
 //! Builds of small covers, by several workers, and in a full store.
 ghost use Rattle.std.specs.Prelude.{◌≡◌, ◌+◌, ◌<◌, ◌≤◌, length, IfOk, OnOk};
 ghost use Rattle.std.specs.List.{All};
-ghost use Rattle.unique_table.specs.Plans.{levels_of, order_of};
+ghost use Rattle.unique_table.specs.Plans.{levels_of};
 ghost use Rattle.unique_table.specs.Sessions.{Knows, IsKnownBelow, Follows, depth_in};
 ghost use Rattle.dd_builder.specs.Building.{AreTablesOf};
 

@@ -1,9 +1,7 @@
 //! Workers that share the parts of a store's functions.
 
-ghost use Rattle.std.specs.Prelude.{◌≡◌, ℕ, ◌+◌, ◌-◌, ◌<◌, ◌≤◌, Some, Result, IfOk, vec_len, slice_get};
-ghost use Rattle.unique_table.specs.Sessions.{Knowledge};
-ghost use Rattle.dd_builder.specs.Parts.{IsSourceFor, IsEndOf, AreEndsOf, IsJoined};
-ghost use Rattle.dd_builder.specs.Parts.{AreJobsOf};
+ghost use Rattle.std.specs.Prelude.{◌≡◌, ◌-◌, ◌<◌, ◌≤◌, IfOk, vec_len};
+ghost use Rattle.dd_builder.specs.Parts.{IsSourceFor, IsEndOf, AreEndsOf, IsJoined, AreJobsOf};
 
 use crate::parts::{Source, part};
 use order_model::Gate;

@@ -2,15 +2,14 @@
 --     in_layer      a set of the block is in the layer after the costs'
 --     need_is, are_members, needs_fit      the widths that are needed
 --     cell_is      the cell of a set
-use Rattle.std.proofs.Common.{◌≡◌, ℕ, ◌+◌, ◌-◌, ◌*◌, ◌^◌, ◌<◌, ◌≤◌, Bool, true, false, cond, List, [], map, length, get_or, slice_get, slice_index, Some, IsTrue, refl, sym, ap, ◌∙◌, subst, arith, eqb, eq-eqb, leb, count_ones}
+use Rattle.std.proofs.Common.{◌≡◌, ℕ, ◌+◌, ◌≤◌, true, cond, List, [], map, get_or, slice_get, slice_index, Some, sym, ap, ◌∙◌, subst, arith, eqb, eq-eqb, leb}
 use Rattle.std.specs.Int.{bit_at}
-use Rattle.std.specs.List.{filter, sum_by}
 use Rattle.std.proofs.lemmas.Bool.{and_parts, and_from, le-leb}
 use Rattle.std.proofs.lemmas.List.{get_or-map}
 use Rattle.std.proofs.lemmas.Option.{slice_get_within, get_or_from_slice_get}
 use Rattle.order_model.specs.Functions.{Function}
 use Rattle.order_model.specs.Orders.{has, members, without, mask_of}
-use Rattle.order_model.specs.Pairs.{Pair, is_lawful}
+use Rattle.order_model.specs.Pairs.{is_lawful}
 use Rattle.order_model.specs.Problems.{TruthTables, functions}
 use Rattle.order_model.specs.Widths.{width, essential_mask}
 use Rattle.order_model.specs.Cells.{wanted, cell_of}
@@ -21,7 +20,7 @@ use Rattle.subset_layers.specs.Costs.{CostsOf, cost_without, AreTrueCosts, AreWi
 use Rattle.subset_layers.proofs.BlockLists.{has_slice_get}
 use Rattle.layer_board.specs.Views.{Setting, cell_for}
 use Rattle.compaction.specs.Rows.{width_wanted, IsRow, AreMembers, AreRows, wanted_count}
-use Rattle.order_solve.specs.Benches.{BenchOf, IsBench, HoldsBench}
+use Rattle.order_solve.specs.Benches.{BenchOf, HoldsBench}
 use Rattle.order_solve.specs.Needs.{affordable, needed}
 use Rattle.order_solve.specs.Gains.{widths_for}
 use Rattle.order_solve.proofs.Wanted.{wanted_lawful, wanted_member, wanted_bit, bit_wanted, needed_sum}

@@ -3,11 +3,11 @@
 --     ClaimsBlock s s' p b      the seat claimed the block at a place
 --     claim_gains      the widths of the sets that it gained
 --     open_marks, fewer_open      how many blocks are not claimed
-use Rattle.std.proofs.Common.{◌≡◌, ◌≢◌, ℕ, zero, suc, ◌+◌, ◌*◌, ◌%◌, ◌^◌, ◌<◌, ◌≤◌, ◌⊎◌, inl, inr, Bool, true, false, not, cond, ◌&&◌, List, [], ◌∷◌, map, set, get_or, length, slice_get, Option, Some, None, IsTrue, refl, sym, ap, ap₂, ◌∙◌, subst, arith, nat_eq, eqb-true, eq-eqb, ne_eqb, eqb, leb, ◌-◌, get_or-set_other}
-use Rattle.std.specs.List.{filter, list_any, sum_by, sum, IsDistinct, range_with_len}
-use Rattle.std.proofs.lemmas.Bool.{false≢true, true≢false, cases_Bool, cases_eq, cases_lt, and_parts, and_from, and_left, or_right, false_from_ne_true}
+use Rattle.std.proofs.Common.{◌≡◌, ◌≢◌, ℕ, zero, suc, ◌+◌, ◌*◌, ◌^◌, ◌<◌, ◌≤◌, inl, inr, Bool, true, false, not, cond, ◌&&◌, List, [], ◌∷◌, set, get_or, length, slice_get, Some, refl, sym, ap, ap₂, ◌∙◌, subst, arith, nat_eq, eqb-true, eq-eqb, eqb, leb, ◌-◌, get_or-set_other}
+use Rattle.std.specs.List.{filter, list_any, sum_by, IsDistinct, range_with_len}
+use Rattle.std.proofs.lemmas.Bool.{false≢true, true≢false, cases_Bool, and_from, and_left, or_right, false_from_ne_true}
 use Rattle.std.proofs.lemmas.List.Sums.{sum_by-cons, sum-map}
-use Rattle.std.proofs.lemmas.Option.{slice_get_within, slice_get-get_or, get_or_from_slice_get, same_Some}
+use Rattle.std.proofs.lemmas.Option.{slice_get_within, slice_get-get_or, same_Some}
 use Rattle.order_model.specs.Orders.{has, members, variables, without, place_in}
 use Rattle.order_model.specs.Pairs.{is_lawful, tops}
 use Rattle.std.specs.Int.{bit_at}
@@ -16,10 +16,10 @@ use Rattle.order_model.specs.Problems.{functions}
 use Rattle.order_model.specs.Cells.{wanted, cell_cost}
 use Rattle.order_model.proofs.OrderLists.{place_get, place_at, has_at}
 use Rattle.order_model.proofs.Recurrence.{distinct_filter, distinct_variables}
-use Rattle.subset_layers.specs.Layers.{LayerOf, BlockOf, layer_with, layer_of, block_of, masks_of, block_masks, blocks_of, low_bytes, low_byte, block_place}
+use Rattle.subset_layers.specs.Layers.{LayerOf, BlockOf, layer_of, block_of, masks_of, block_masks, blocks_of, low_bytes, low_byte, block_place}
 use Rattle.subset_layers.proofs.BlockLists.{place_below, low_bytes_has, blocks_length, block_at as block_there, slice_get_at}
-use Rattle.layer_core.specs.Machine.{Worker, place_of, claimed, claims_block}
-use Rattle.layer_board.specs.Views.{Setting, BoardId, SeatOf, layout_of, stepped, claims_place, has_claimed}
+use Rattle.layer_core.specs.Machine.{claimed, claims_block}
+use Rattle.layer_board.specs.Views.{Setting, BoardId, SeatOf, stepped, claims_place, has_claimed}
 use Rattle.layer_board.proofs.Layouts.{place_found, place_missing, block_at, few_masks_in}
 use Rattle.order_solve.specs.Gains.{gains, gained, width_count, widths_for}
 

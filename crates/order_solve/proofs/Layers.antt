@@ -2,9 +2,8 @@
 --     size_small      the size of an order of at most 16 variables is below 2 ^ 24
 --     start_layer, layers_start, layers_push      the layer of the empty set, and a layer more
 --     set_layer      the layer in which a set is
-use Rattle.std.proofs.Common.{◌≡◌, ℕ, zero, suc, ◌+◌, ◌-◌, ◌*◌, ◌^◌, ◌<◌, ◌≤◌, ◌⊎◌, inl, inr, Bool, true, false, cond, List, [], ◌∷◌, ◌++◌, map, take, length, length-append, get_or, slice_get, slice_index, Some, None, IsSome, IfSome, Option, IsTrue, refl, sym, ap, ◌∙◌, subst, arith, count_ones, is_some, pow_mono, eqb}
-use Rattle.std.specs.List.{filter, flat_map, sum, sum_by, range_with_len}
-use Rattle.std.specs.Set.{distinct_count}
+use Rattle.std.proofs.Common.{◌≡◌, ℕ, zero, suc, ◌+◌, ◌-◌, ◌*◌, ◌^◌, ◌<◌, ◌≤◌, inl, inr, Bool, true, false, cond, List, [], ◌∷◌, ◌++◌, map, take, length, length-append, slice_index, Some, IfSome, Option, refl, sym, ap, ◌∙◌, subst, arith, count_ones, pow_mono, eqb}
+use Rattle.std.specs.List.{filter, flat_map, sum_by, range_with_len}
 use Rattle.std.proofs.Math.Nat.{two-pow-succ}
 use Rattle.std.proofs.lemmas.Bool.{cases_eq, cases_lt}
 use Rattle.std.proofs.lemmas.List.Sums.{sum_by-cons, sum-map}
@@ -25,15 +24,15 @@ use Rattle.subset_layers.specs.declared.costs.Cell.{Cell}
 use Rattle.order_solve.specs.Needs.{needed}
 use Rattle.layer_board.specs.Pairing.{pair_of}
 use Rattle.order_model.specs.Pairs.{Pair}
-use Rattle.order_model.specs.Problems.{TruthTables, functions}
+use Rattle.order_model.specs.Problems.{functions}
 use Rattle.order_model.specs.Levels.{subfunctions, reach, dependents, level_count, level_counts, size_under}
-use Rattle.subset_layers.specs.Layers.{LayerOf, layer_with, masks_of}
-use Rattle.subset_layers.specs.Costs.{CostsOf, start_costs, layer_of_costs, cost_at, as_pair, AreTrueCosts, AreTrueCells}
+use Rattle.subset_layers.specs.Layers.{layer_with, masks_of}
+use Rattle.subset_layers.specs.Costs.{CostsOf, start_costs, layer_of_costs, as_pair, AreTrueCosts, AreTrueCells}
 use Rattle.subset_layers.proofs.BlockLists.{masks_has}
 use Rattle.subset_layers.proofs.Sizes.{ones-members}
 use Rattle.layer_board.specs.Views.{Setting, cell_for}
 use Rattle.layer_board.proofs.Layouts.{length-map_lem}
-use Rattle.order_solve.specs.Benches.{AreCostsFor, IsLayerFor}
+use Rattle.order_solve.specs.Benches.{IsLayerFor}
 use Rattle.order_solve.specs.Bounded.{IsBounded, AreLayersFor}
 use Rattle.order_solve.proofs.Claimed.{length_filter_le}
 

@@ -1,8 +1,8 @@
 -- The listed sets, and the number of widths.
 --     ListedTo, listed_start, listed_yes, listed_no, listed_whole      the sets in turn
 --     WidthsTo, widths_start, widths_next, widths_whole      the widths that they take
-use Rattle.std.proofs.Common.{◌≡◌, ℕ, ◌+◌, ◌-◌, ◌*◌, ◌^◌, ◌<◌, ◌≤◌, Bool, true, false, cond, List, [], ◌∷◌, ◌++◌, map, length, count_ones, ltb, refl, sym, ap, ap₂, ◌∙◌, subst, arith}
-use Rattle.std.specs.List.{filter, sum, sum_by, range_with_len}
+use Rattle.std.proofs.Common.{◌≡◌, ℕ, ◌+◌, ◌-◌, ◌*◌, ◌^◌, ◌<◌, ◌≤◌, Bool, true, false, cond, List, [], ◌∷◌, ◌++◌, map, length, count_ones, ltb, refl, sym, ap, ap₂, ◌∙◌, arith}
+use Rattle.std.specs.List.{filter, sum, range_with_len}
 use Rattle.std.proofs.lemmas.Bool.{lt-ltb, le-ltb}
 use Rattle.std.proofs.lemmas.List.{map-append, append-nil}
 use Rattle.std.proofs.lemmas.List.FromFn.{sum_by-map-range_with_len_more}
@@ -11,9 +11,9 @@ use Rattle.order_model.specs.Orders.{members}
 use Rattle.order_model.specs.Pairs.{Pair}
 use Rattle.order_model.specs.Problems.{functions}
 use Rattle.order_model.specs.Widths.{essentials_outside}
-use Rattle.order_model.specs.Cells.{cell_cost, wanted, widths_taken}
+use Rattle.order_model.specs.Cells.{cell_cost, widths_taken}
 use Rattle.order_model.specs.Certificates.{Cell, least_listed, listed_masks}
-use Rattle.order_model.proofs.CellLaws.{members_zero, cost_known}
+use Rattle.order_model.proofs.CellLaws.{cost_known}
 use Rattle.order_model.proofs.Listed.{listed_by_cells}
 use Rattle.subset_layers.proofs.Choosing.{filter_range_more}
 use Rattle.layer_board.specs.Views.{Setting}

@@ -4,8 +4,8 @@
 --     block_done      the masks of the block at a place
 --     PlacesFirst, places_more, places_skip, places_all, blocks_more      the masks of a block in turn, and the blocks
 --     all_placed, layer_is      the list once all are there, and the costs of the layer
-use Rattle.std.proofs.Common.{◌≡◌, ℕ, zero, suc, ◌+◌, ◌*◌, ◌^◌, ◌<◌, ◌≤◌, ◌⊎◌, inl, inr, true, List, [], ◌∷◌, map, set, get_or, length, slice_get, slice_index, Some, nat_eq, eq-eqb, false, take, drop, ◌++◌, length-set, refl, sym, ap, ap₂, ◌∙◌, subst, arith, get_or-set_same, get_or-set_other}
-use Rattle.std.specs.List.{filter, sum_by}
+use Rattle.std.proofs.Common.{◌≡◌, ℕ, zero, suc, ◌+◌, ◌*◌, ◌^◌, ◌<◌, ◌≤◌, inl, inr, true, List, [], ◌∷◌, map, set, get_or, length, slice_get, slice_index, Some, nat_eq, eq-eqb, false, take, drop, ◌++◌, length-set, refl, sym, ap, ap₂, ◌∙◌, subst, arith, get_or-set_same, get_or-set_other}
+use Rattle.std.specs.List.{filter}
 use Rattle.std.proofs.lemmas.Bool.{false≢true, cases_eq, and_from}
 use Rattle.std.proofs.lemmas.List.{get_or-map}
 use Rattle.std.proofs.lemmas.List.Sums.{sum-map}
@@ -18,7 +18,7 @@ use Rattle.order_model.specs.Functions.{Function}
 use Rattle.order_model.specs.Pairs.{Pair}
 use Rattle.order_model.specs.Problems.{functions}
 use Rattle.subset_layers.specs.Costs.{CostsOf, costs_with, AreTrueCells, AreTrueCosts}
-use Rattle.subset_layers.specs.Layers.{LayerOf, layer_with, BlockOf, masks_of, block_masks, blocks_of, block_place, low_byte, low_bytes, layer_of}
+use Rattle.subset_layers.specs.Layers.{LayerOf, layer_with, BlockOf, masks_of, block_masks, blocks_of, block_place, low_byte, layer_of}
 use Rattle.layer_board.specs.Views.{Setting, cell_for}
 use Rattle.layer_board.specs.Pairing.{pair_of}
 use Rattle.layer_board.proofs.Layouts.{length-map_lem, distinct_masks, few_masks_in}

@@ -1,8 +1,8 @@
 -- Seats after posts.
 --     stays_same, stays_trans, post_stays      what stays at no post, at posts in turn, at one post
 --     claimed_same, posted_stays      what was claimed, and what was posted
-use Rattle.std.proofs.Common.{if◌then◌else◌, ◌≡◌, ℕ, zero, suc, ◌+◌, Bool, true, false, List, [], ◌∷◌, set, get_or, Option, Some, None, Result, Ok, Err, IfOk, IfErr, IsTrue, refl, sym, ap, ◌∙◌, subst}
-use Rattle.layer_core.specs.Machine.{Worker, place_of, claimed, knows, learns, ends}
+use Rattle.std.proofs.Common.{if◌then◌else◌, ◌≡◌, ℕ, zero, suc, Bool, true, false, List, [], ◌∷◌, set, get_or, Option, Some, None, Result, Ok, Err, IfOk, IfErr, refl, sym, ap, ◌∙◌, subst}
+use Rattle.layer_core.specs.Machine.{Worker, place_of, knows, learns, ends}
 use Rattle.layer_board.specs.declared.boards.PostRefused.{PostRefused}
 use Rattle.layer_board.specs.declared.boards.PostRefused.TheVariants.{Stranger, Double}
 use Rattle.subset_layers.specs.Layers.{LayerOf}

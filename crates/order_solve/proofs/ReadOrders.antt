@@ -4,20 +4,20 @@
 --     order_first, order_accepted      the order that is read
 --     left order mask i      the set below the first i variables of an order
 --     CountedTo, counted_start, counted_next      the level counts, as falls of the cost
-use Rattle.std.proofs.Common.{◌≡◌, ℕ, zero, suc, ◌+◌, ◌-◌, ◌*◌, ◌/◌, ◌%◌, ◌^◌, ◌<◌, ◌≤◌, ◌⊎◌, inl, inr, true, List, [], ◌∷◌, ◌++◌, map, take, drop, length, get_or, refl, sym, ap, ap₂, ◌∙◌, subst, arith, count_ones, nat_eq, cond, eq-eqb, ne_eqb}
+use Rattle.std.proofs.Common.{◌≡◌, ℕ, zero, suc, ◌+◌, ◌-◌, ◌/◌, ◌^◌, ◌<◌, ◌≤◌, inl, inr, true, List, [], ◌∷◌, ◌++◌, map, take, drop, length, get_or, refl, sym, ap, ap₂, ◌∙◌, subst, arith, cond, eq-eqb, ne_eqb}
 use Rattle.std.specs.List.{range_with_len}
 use Rattle.std.proofs.Math.Seq.{drop-cons}
 use Rattle.std.proofs.Math.Nat.{two-pow-succ}
 use Rattle.std.proofs.lemmas.Bool.{cases_eq}
 use Rattle.std.proofs.lemmas.Cmp.{nat_eq_equiv}
 use Rattle.std.proofs.lemmas.Map.Made.{length-from_same_keys}
-use Rattle.std.proofs.lemmas.Nat.{zero_from_ones, one_shl}
+use Rattle.std.proofs.lemmas.Nat.{zero_from_ones}
 use Rattle.std.proofs.lemmas.Nat.Bits.{ones_shr}
 use Rattle.std.proofs.lemmas.List.{append_assoc, append-nil}
 use Rattle.std.proofs.lemmas.List.FromFn.{length-range_with_len, map-range_with_len_more}
 use Rattle.order_model.specs.Functions.{Function}
 use Rattle.order_model.specs.Orders.{IsOrder, has, members, variables, without}
-use Rattle.order_model.specs.Pairs.{Pair, Keeps}
+use Rattle.order_model.specs.Pairs.{Pair}
 use Rattle.order_model.specs.Problems.{functions}
 use Rattle.order_model.specs.Levels.{level_count, level_counts, size_under}
 use Rattle.order_model.specs.Widths.{width, cost}

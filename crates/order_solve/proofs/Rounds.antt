@@ -1,7 +1,7 @@
 -- A worker's rounds: a claim, and the posts of its block.
 --     Working t s0 s count      what a worker keeps from s0 to s
 --     working_none, working_stays, working_round      at the start, where claims stay, after a round
-use Rattle.std.proofs.Common.{◌≡◌, ℕ, ◌<◌, slice_get, ◌+◌, Bool, true, false, not, ◌&&◌, List, Option, Some, None, inl, inr, refl, sym, ap, ap₂, ◌∙◌, subst, nat_eq, arith}
+use Rattle.std.proofs.Common.{◌≡◌, ℕ, ◌<◌, slice_get, ◌+◌, Bool, true, false, not, ◌&&◌, List, Option, Some, None, inl, inr, refl, sym, ap, ◌∙◌, subst, nat_eq}
 use Rattle.std.specs.List.{filter}
 use Rattle.std.proofs.lemmas.Bool.{false≢true, cases_Bool, and_parts, and_from}
 use Rattle.order_model.specs.Orders.{has}
@@ -12,7 +12,7 @@ use Rattle.layer_board.specs.Views.{Setting, BoardId, SeatOf, layout_of, stepped
 use Rattle.order_solve.specs.Gains.{gains, gained, widths_for, StaysClaimed, IsPosted}
 use Rattle.order_solve.proofs.Filters.{filter_none}
 use Rattle.order_solve.proofs.Posts.{claimed_same}
-use Rattle.order_solve.proofs.Claimed.{ClaimsBlock, claimed_has, block_layer, same_board, gained_now, as_before, kept, claim_gains, was_open, open_marks, fewer_open}
+use Rattle.order_solve.proofs.Claimed.{ClaimsBlock, claimed_has, block_layer, same_board, as_before, kept, claim_gains, was_open, open_marks, fewer_open}
 
 pub record Working (t : Setting) (s0 s : SeatOf) (count : ℕ) : Type 0 where
   pub board : s.board ≡ s0.board

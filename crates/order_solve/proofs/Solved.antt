@@ -1,13 +1,12 @@
 -- The total, the levels and the listed sets of the order that the cells give.
-use Rattle.std.proofs.Common.{◌≡◌, ℕ, zero, suc, ◌+◌, ◌-◌, ◌^◌, ◌≤◌, List, [], ◌∷◌, map, refl, sym, ap, ◌∙◌, subst, arith}
+use Rattle.std.proofs.Common.{◌≡◌, ℕ, ◌-◌, ◌^◌, ◌≤◌, List, [], ◌∷◌, map, sym, ap, ◌∙◌, subst, arith}
 use Rattle.order_model.specs.Functions.{Function}
 use Rattle.order_model.specs.Pairs.{Pair}
-use Rattle.order_model.specs.Orders.{variables}
 use Rattle.order_model.specs.Problems.{functions}
 use Rattle.order_model.specs.Levels.{size_under}
-use Rattle.order_model.specs.Widths.{cost, least}
+use Rattle.order_model.specs.Widths.{cost}
 use Rattle.order_model.specs.Cells.{cell_cost, IsReadFrom, AreUnclipped}
-use Rattle.order_model.specs.Certificates.{Cell, certificate_of, least_listed, listed_masks}
+use Rattle.order_model.specs.Certificates.{certificate_of, least_listed, listed_masks}
 use Rattle.order_model.specs.Diagrams.{FewestKeeping}
 use Rattle.order_model.proofs.Exchange.{size_is_cost}
 use Rattle.order_model.proofs.FewestLaws.{has_fewest_lem, fewest_is_least}

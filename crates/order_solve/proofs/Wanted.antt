@@ -2,10 +2,10 @@
 --     affordable_is      the mask that the code collects
 --     wanted_lawful, wanted_unlawful      the members whose widths are taken, of a lawful set and of another one
 --     needed_bit, needed_ones      the bits of their mask, and how many it has
-use Rattle.std.proofs.Common.{◌≡◌, ◌≢◌, ℕ, ◌+◌, ◌-◌, ◌^◌, ◌<◌, ◌≤◌, Bool, true, false, cond, ◌&&◌, List, [], map, length, IsTrue, unwrap_or, refl, sym, ap, ◌∙◌, subst, arith, eqb, eq-eqb, ne_eqb, leb, count_ones}
+use Rattle.std.proofs.Common.{◌≡◌, ◌≢◌, ℕ, ◌+◌, ◌-◌, ◌^◌, ◌<◌, ◌≤◌, Bool, true, false, cond, ◌&&◌, List, [], map, length, unwrap_or, refl, sym, ap, ◌∙◌, arith, eqb, eq-eqb, ne_eqb, leb, count_ones}
 use Rattle.std.specs.Int.{bit_at}
 use Rattle.std.specs.List.{filter, sum_by, IsDistinct}
-use Rattle.std.proofs.lemmas.Bool.{false≢true, and_parts, and_from, and_left, leb-true, le-leb}
+use Rattle.std.proofs.lemmas.Bool.{and_parts, and_from, and_left, leb-true, le-leb}
 use Rattle.std.proofs.lemmas.Cmp.{nat_eq_equiv}
 use Rattle.std.proofs.lemmas.Map.Made.{length-from_same_keys}
 use Rattle.std.proofs.lemmas.List.Sums.{sum-map}

@@ -1,5 +1,5 @@
-use Rattle.std.proofs.Common.{◌≡◌, ℕ, ◌+◌, ◌*◌, ◌^◌, ◌<◌, ◌≤◌, List, length, take, drop, ◌++◌, slice_get, Some, refl, sym, ap, ◌∙◌, subst, arith}
-use Rattle.subset_layers.specs.Layers.{LayerOf, BlockOf, masks_of, blocks_of, block_place, layer_of}
+use Rattle.std.proofs.Common.{◌≡◌, List, length, slice_get, Some, sym, ap, ◌∙◌, subst, arith}
+use Rattle.subset_layers.specs.Layers.{LayerOf, blocks_of}
 use Rattle.subset_layers.specs.declared.costs.Cell.{Cell}
 use Rattle.layer_board.proofs.Layouts.{block_below}
 use Rattle.order_solve.specs.Benches.{BenchOf}

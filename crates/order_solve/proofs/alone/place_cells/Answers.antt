@@ -1,4 +1,4 @@
-use Rattle.std.proofs.Common.{◌≡◌, ℕ, ◌+◌, ◌<◌, ◌≤◌, List, length, map, get_or, slice_get, slice_index, set, Some, refl, sym, ap, ◌∙◌, subst, arith}
+use Rattle.std.proofs.Common.{◌≡◌, ◌+◌, List, slice_get, Some, refl, sym, ap, ◌∙◌, subst, arith}
 use Rattle.order_model.specs.Orders.{has}
 use Rattle.subset_layers.specs.Layers.{LayerOf, masks_of, block_masks}
 use Rattle.subset_layers.specs.declared.costs.Cell.{Cell}

@@ -1,4 +1,4 @@
-use Rattle.std.proofs.Common.{◌≡◌, ◌+◌, map, take}
+use Rattle.std.proofs.Common.{◌≡◌, map, take}
 use Rattle.subset_layers.specs.Layers.{block_masks}
 use Rattle.layer_board.specs.Views.{cell_for}
 use Rattle.layer_board.specs.Pairing.{pair_of}

@@ -1,5 +1,5 @@
-use Rattle.std.proofs.Common.{◌≡◌, ℕ, List, map, refl, sym, ap, ◌∙◌}
-use Rattle.subset_layers.specs.Layers.{LayerOf, layer_with, masks_of}
+use Rattle.std.proofs.Common.{map, ap, ◌∙◌}
+use Rattle.subset_layers.specs.Layers.{layer_with, masks_of}
 use Rattle.layer_board.specs.Views.{cell_for}
 use Rattle.order_solve.specs.Benches.{BenchOf, setting_with}
 use Rattle.order_solve.proofs.Placing.{layer_is}

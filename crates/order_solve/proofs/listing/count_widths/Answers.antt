@@ -1,6 +1,6 @@
-use Rattle.std.proofs.Common.{◌≡◌, ℕ, ◌+◌, ◌*◌, ◌%◌, ◌^◌, ◌<◌, ◌≤◌, count_ones, sym, ap, ◌∙◌, subst, arith}
+use Rattle.std.proofs.Common.{ℕ, ◌^◌, count_ones, ap, ◌∙◌, arith}
 use Rattle.std.proofs.lemmas.Nat.{one_shl}
-use Rattle.order_solve.proofs.ListedSets.{WidthsTo, widths_start, widths_next, widths_whole}
+use Rattle.order_solve.proofs.ListedSets.{widths_start, widths_next, widths_whole}
 use Rattle.order_solve.proofs.ReadOrders.{pow_some}
 use Rattle.order_solve.proofs.listing.count_widths.Goals as goal
 

@@ -1,4 +1,4 @@
-use Rattle.std.proofs.Common.{◌≡◌, ℕ, true, false, refl, sym, ap, ◌∙◌, subst}
+use Rattle.std.proofs.Common.{sym, ap, ◌∙◌}
 use Rattle.order_model.specs.Orders.{members, mask_of}
 use Rattle.order_model.specs.Pairs.{is_lawful}
 use Rattle.order_solve.proofs.Wanted.{wanted_lawful, wanted_unlawful}

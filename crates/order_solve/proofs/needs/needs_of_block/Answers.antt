@@ -1,8 +1,8 @@
-use Rattle.std.proofs.Common.{◌≡◌, ℕ, ◌+◌, ◌<◌, List, [], ◌∷◌, ◌++◌, map, take, length, get_or, refl, sym, ap, ap₂, ◌∙◌, subst, arith}
+use Rattle.std.proofs.Common.{ℕ, List, [], ◌∷◌, ◌++◌, sym, ap, ap₂, ◌∙◌}
 use Rattle.std.proofs.lemmas.List.{map_more}
 use Rattle.std.proofs.lemmas.Option.{slice_get_within, get_or_from_slice_get}
-use Rattle.subset_layers.specs.Layers.{LayerOf, layer_of, block_masks}
-use Rattle.order_solve.specs.Benches.{BenchOf, bench_with}
+use Rattle.subset_layers.specs.Layers.{block_masks}
+use Rattle.order_solve.specs.Benches.{BenchOf}
 use Rattle.order_solve.specs.Needs.{needed}
 use Rattle.order_solve.proofs.Blocks.{in_layer, need_is}
 use Rattle.order_solve.proofs.needs.needs_of_block.Goals as goal

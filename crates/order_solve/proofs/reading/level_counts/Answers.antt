@@ -2,7 +2,6 @@ use Rattle.std.proofs.Common.{◌≡◌, ℕ, ◌+◌, ◌-◌, ◌*◌, ◌%◌
 use Rattle.std.proofs.lemmas.Nat.{one_shl}
 use Rattle.order_model.specs.Orders.{has, members}
 use Rattle.order_model.specs.Problems.{functions}
-use Rattle.order_model.specs.Levels.{level_counts}
 use Rattle.order_model.specs.Cells.{IsReadFrom, cell_cost}
 use Rattle.layer_board.specs.Views.{Setting}
 use Rattle.order_solve.specs.Bounded.{IsBounded}

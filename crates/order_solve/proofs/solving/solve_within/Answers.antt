@@ -1,4 +1,4 @@
-use Rattle.std.proofs.Common.{◌≡◌, ℕ, ◌-◌, ◌^◌, ◌≤◌, List, map, sym, ap, ◌∙◌, subst}
+use Rattle.std.proofs.Common.{◌≡◌, ℕ, ◌-◌, ◌^◌, ap, ◌∙◌, subst}
 use Rattle.order_model.specs.Problems.{functions}
 use Rattle.order_model.specs.Levels.{size_under}
 use Rattle.order_model.specs.Diagrams.{FewestKeeping, IsFirstKeeping}

@@ -1,7 +1,6 @@
-use Rattle.std.proofs.Common.{◌≡◌, ℕ, ◌+◌, ◌*◌, ◌^◌, ◌<◌, ◌≤◌, length, refl, ap, ◌∙◌, sym, arith}
+use Rattle.std.proofs.Common.{◌≡◌, ◌<◌, length, refl, ap, ◌∙◌, sym, arith}
 use Rattle.std.proofs.lemmas.Option.{slice_get_read, get_or_from_slice_get}
 use Rattle.layer_board.proofs.Layouts.{length-map_lem}
-use Rattle.subset_layers.specs.declared.costs.Cell.{Cell}
 use Rattle.subset_layers.specs.Layers.{LayerOf, block_masks}
 use Rattle.layer_board.specs.Pairing.{pair_of}
 use Rattle.layer_board.specs.Views.{cell_for}

@@ -1,4 +1,4 @@
-use Rattle.std.proofs.Common.{◌≡◌, ap, ◌∙◌}
+use Rattle.std.proofs.Common.{ap, ◌∙◌}
 use Rattle.subset_layers.specs.Layers.{layer_of}
 use Rattle.order_solve.proofs.Claimed.{block_layer}
 use Rattle.order_solve.proofs.tests.hold_claim.Goals as goal

@@ -1,4 +1,4 @@
-use Rattle.std.proofs.Common.{◌≡◌, ℕ, zero, suc, ◌≤◌, List, [], ◌∷◌, take, length, refl, sym, ap, ◌∙◌, arith}
+use Rattle.std.proofs.Common.{◌≡◌, ℕ, zero, suc, ◌≤◌, List, [], ◌∷◌, take, length, refl, ap, ◌∙◌, arith}
 use Rattle.std.specs.List.{sum}
 use Rattle.order_model.specs.Levels.{size_under}
 use Rattle.order_solve.proofs.tests.size_of.Goals as goal

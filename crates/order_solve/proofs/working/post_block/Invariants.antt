@@ -1,4 +1,4 @@
-use Rattle.std.proofs.Common.{◌≡◌, ℕ, ◌<◌, slice_index}
+use Rattle.std.proofs.Common.{ℕ, ◌<◌, slice_index}
 use Rattle.subset_layers.specs.Layers.{block_masks}
 use Rattle.order_solve.specs.Gains.{StaysClaimed, IsPosted}
 use Rattle.order_solve.proofs.working.post_block.Given as goal

@@ -1,4 +1,4 @@
-use Rattle.std.proofs.Common.{◌≡◌, ℕ, ◌+◌, ◌*◌, ◌^◌, ◌<◌, ◌≤◌, None, IsNone, refl, sym, ap, ◌∙◌, subst, arith}
+use Rattle.std.proofs.Common.{◌≡◌, ℕ, ◌+◌, refl, sym, ap, ◌∙◌, subst, arith}
 use Rattle.subset_layers.specs.Layers.{LayerOf, BlockOf, layer_of, block_masks}
 use Rattle.order_model.specs.Orders.{has}
 use Rattle.layer_board.specs.Views.{BoardId, SeatOf}

@@ -1,4 +1,3 @@
-use Rattle.std.proofs.Common.{ℕ}
 use Rattle.order_solve.proofs.Rounds.{Working}
 use Rattle.order_solve.proofs.Claimed.{open_marks}
 use Rattle.order_solve.proofs.working.work_layer.Given as goal

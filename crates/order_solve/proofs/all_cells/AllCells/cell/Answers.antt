@@ -1,4 +1,4 @@
-use Rattle.std.proofs.Common.{◌≡◌, ℕ, ◌^◌, ◌<◌, ◌≤◌, count_ones, sym, ap, ◌∙◌, arith}
+use Rattle.std.proofs.Common.{count_ones, arith}
 use Rattle.order_solve.proofs.Layers.{ones_le, ones_some, set_there, cell_found}
 use Rattle.order_solve.proofs.all_cells.AllCells.cell.Goals as goal
 

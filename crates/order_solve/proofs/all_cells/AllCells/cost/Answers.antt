@@ -1,4 +1,3 @@
-use Rattle.std.proofs.Common.{◌≡◌, ℕ, ◌^◌, ◌<◌, ◌≤◌, sym, ap, ◌∙◌}
 use Rattle.order_solve.proofs.Layers.{ones_le, set_there}
 use Rattle.order_solve.proofs.all_cells.AllCells.cost.Goals as goal
 

@@ -1,4 +1,4 @@
-use Rattle.std.proofs.Common.{◌≡◌, ℕ, ◌-◌, ◌^◌, ◌<◌, ◌≤◌, count_ones, sym, ap, ◌∙◌, subst, arith}
+use Rattle.std.proofs.Common.{◌-◌, count_ones, sym, ap, ◌∙◌, subst, arith}
 use Rattle.layer_board.specs.Views.{Setting}
 use Rattle.order_solve.specs.Benches.{IsLayerFor}
 use Rattle.order_solve.specs.Needs.{needed}

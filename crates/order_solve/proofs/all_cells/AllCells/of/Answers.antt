@@ -1,4 +1,4 @@
-use Rattle.std.proofs.Common.{◌≡◌, ◌≤◌, arith}
+use Rattle.std.proofs.Common.{arith}
 use Rattle.order_solve.specs.Benches.{setting_with}
 use Rattle.order_solve.proofs.Layers.{bound_small}
 use Rattle.order_solve.proofs.all_cells.AllCells.of.Goals as goal
