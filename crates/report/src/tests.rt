@@ -171,35 +171,31 @@ static PAIRS: [(&str, u8, &[u8]); 7] = [
     ("0-1", 8, b""),
 ];
 
-/// A plan for so many workers.
-fn plan<'a>(workers: u8, count: bool, above: Option<&'a str>) -> Result<RunPlan<'a>, Fail> {
-    let workers = Workers::new(workers).ok_or("workers")?;
-    Ok(RunPlan {
-        workers,
-        count,
-        above,
-    })
-}
-
-/// How a run on a reader's bytes ends, and what its writer then holds.
-fn ran<'a, T: AllocGlobal + Threads + Sync, R: Read + Drop>(
+/// How a run on a reader's bytes ends, and what its writer then holds. It has so many workers, or counts where there are none; an empty list asks for no pairs.
+fn ran<T: AllocGlobal + Threads + Sync, R: Read + Drop>(
     rt: &T,
-    plan: &RunPlan<'a>,
+    workers: u8,
+    above: &str,
     reader: R,
     writer: FailingWriter,
-) -> (Outcome, FailingWriter) {
+) -> Result<(Outcome, FailingWriter), Fail> {
+    let count = workers == 0;
+    let plan = RunPlan {
+        workers: Workers::new(workers.max(1)).ok_or("workers")?,
+        count,
+        above: if above.is_empty() { None } else { Some(above) },
+    };
     let mut file = Counting::new(reader);
     let mut out = Counting::new(writer);
     let mut cert: Option<Counting<FailingWriter>> = None;
-    let outcome = run(rt, rt.alloc(), plan, &mut file, &mut out, &mut cert);
-    (outcome, out.into_inner())
+    let outcome = run(rt, rt.alloc(), &plan, &mut file, &mut out, &mut cert);
+    Ok((outcome, out.into_inner()))
 }
 
 #[test]
 fn counts_nodes(rt: HostRuntime) -> Result<(), Fail> {
-    let plan = plan(1, true, None)?;
     for (file, wanted) in COUNTS {
-        let (outcome, out) = ran(&rt, &plan, file, FailingWriter::new(rt.alloc(), 1000, 1000));
+        let (outcome, out) = ran(&rt, 0, "", file, FailingWriter::new(rt.alloc(), 1000, 1000))?;
         assert_eq!(rt; outcome.status(), 0);
         assert_eq!(rt; out.taken.as_slice(), wanted);
     }
@@ -209,9 +205,14 @@ fn counts_nodes(rt: HostRuntime) -> Result<(), Fail> {
 #[test]
 fn answers_for_each_number_of_workers(rt: HostRuntime) -> Result<(), Fail> {
     for workers in [1, 2, 64] {
-        let plan = plan(workers, false, None)?;
         for (file, wanted) in ANSWERS {
-            let (outcome, out) = ran(&rt, &plan, file, FailingWriter::new(rt.alloc(), 1000, 1000));
+            let (outcome, out) = ran(
+                &rt,
+                workers,
+                "",
+                file,
+                FailingWriter::new(rt.alloc(), 1000, 1000),
+            )?;
             assert_eq!(rt; outcome.status(), 0);
             assert_eq!(rt; out.taken.as_slice(), wanted);
         }
@@ -223,8 +224,13 @@ fn answers_for_each_number_of_workers(rt: HostRuntime) -> Result<(), Fail> {
 fn keeps_pairs(rt: HostRuntime) -> Result<(), Fail> {
     let (file, _) = ANSWERS[6];
     for (above, status, wanted) in PAIRS {
-        let plan = plan(2, false, Some(above))?;
-        let (outcome, out) = ran(&rt, &plan, file, FailingWriter::new(rt.alloc(), 1000, 1000));
+        let (outcome, out) = ran(
+            &rt,
+            2,
+            above,
+            file,
+            FailingWriter::new(rt.alloc(), 1000, 1000),
+        )?;
         assert_eq!(rt; outcome.status(), status);
         assert_eq!(rt; out.taken.as_slice(), wanted);
     }
@@ -233,7 +239,6 @@ fn keeps_pairs(rt: HostRuntime) -> Result<(), Fail> {
 
 #[test]
 fn tells_of_devices(rt: HostRuntime) -> Result<(), Fail> {
-    let plan = plan(2, false, None)?;
     let (file, wanted) = ANSWERS[6];
     for calls_left in 0..20 {
         let reader = FailingReader {
@@ -242,10 +247,11 @@ fn tells_of_devices(rt: HostRuntime) -> Result<(), Fail> {
         };
         let (outcome, out) = ran(
             &rt,
-            &plan,
+            2,
+            "",
             reader,
             FailingWriter::new(rt.alloc(), 1000, 1000),
-        );
+        )?;
         // Eleven pieces of at most four bytes, and a call that finds the end.
         let pieces = (file.len() + 3) / 4;
         if (calls_left as usize) <= pieces {
@@ -258,14 +264,15 @@ fn tells_of_devices(rt: HostRuntime) -> Result<(), Fail> {
     for bytes_left in 0..wanted.len() {
         let (outcome, out) = ran(
             &rt,
-            &plan,
+            2,
+            "",
             file,
             FailingWriter::new(rt.alloc(), bytes_left, 1000),
-        );
+        )?;
         assert_eq!(rt; outcome, Outcome::Refused(Fault::Device));
         assert_eq!(rt; out.taken.as_slice(), &wanted[..bytes_left]);
     }
-    let (outcome, out) = ran(&rt, &plan, file, FailingWriter::new(rt.alloc(), 1000, 1));
+    let (outcome, out) = ran(&rt, 2, "", file, FailingWriter::new(rt.alloc(), 1000, 1))?;
     assert_eq!(rt; outcome, Outcome::Done);
     assert_eq!(rt; out.taken.as_slice(), wanted);
     Ok(())
