@@ -5,3 +5,4 @@ pub mod Chains
 pub mod Table
 pub mod Values
 pub mod Rows
+pub mod Strips
