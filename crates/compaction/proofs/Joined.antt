@@ -32,14 +32,14 @@ module _ (ps : List (ℕ × ℕ)) (join : ℕ × ℕ → ℕ) where
   pub rank_is : (j : ℕ) → j < length ps → rank same_pair ps (get_or ps j (0, 0)) ≡ rank same_pair (take j ps) (get_or ps j (0, 0))
   rank_is j l = ap (λ us. rank same_pair us (get_or ps j (0, 0))) (parts j l) ∙ rank_next same_pair pair_decides (take j ps) (drop (j + 1) ps) (get_or ps j (0, 0))
 
-  rank_before : (i j : ℕ) → i < j → j < length ps → rank same_pair ps (get_or ps i (0, 0)) < distinct_count same_pair (take j ps)
+  pub rank_before : (i j : ℕ) → i < j → j < length ps → rank same_pair ps (get_or ps i (0, 0)) < distinct_count same_pair (take j ps)
   rank_before i j l m =
       let a = take_among ps ps j i l (omega arith) in
       let e = ap (λ us. rank same_pair us (get_or ps i (0, 0))) (parts j m) ∙ rank_found same_pair pair_decides (take j ps) (get_or ps j (0, 0) ∷ drop (j + 1) ps) (get_or ps i (0, 0)) a in
       let b = rank_below same_pair pair_decides (take j ps) (get_or ps i (0, 0)) a in
       omega arith
 
-  count_is : (j : ℕ) → j < length ps → distinct_count same_pair (take (j + 1) ps) ≡ distinct_count same_pair (get_or ps j (0, 0) ∷ take j ps)
+  pub count_is : (j : ℕ) → j < length ps → distinct_count same_pair (take (j + 1) ps) ≡ distinct_count same_pair (get_or ps j (0, 0) ∷ take j ps)
   count_is j l = ap (distinct_count same_pair) (take_more ps j (0, 0) l) ∙ count_end same_pair pair_decides (get_or ps j (0, 0)) (take j ps)
 
   -- a pair with the next number

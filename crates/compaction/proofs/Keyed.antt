@@ -39,15 +39,15 @@ use Rattle.compaction.proofs.Extended.{step_is, members_more, class_below, few_m
 
 -- ---- lists
 
-map_range_same : {X : Type 0} (f g : ℕ → X) (a m : ℕ) → ((i : ℕ) → a ≤ i → i < a + m → f i ≡ g i) → map f (range_with_len a m) ≡ map g (range_with_len a m)
+pub map_range_same : {X : Type 0} (f g : ℕ → X) (a m : ℕ) → ((i : ℕ) → a ≤ i → i < a + m → f i ≡ g i) → map f (range_with_len a m) ≡ map g (range_with_len a m)
 map_range_same f g a zero h = refl
 map_range_same f g a (suc m) h = λ i. h a (omega arith) (omega arith) i ∷ map_range_same f g (a + 1) m (λ k l u. h k (omega arith) (omega arith)) i
 
-map_same : {X Y : Type 0} (f g : X → Y) (xs : List X) → ((x : X) → Among x xs → f x ≡ g x) → map f xs ≡ map g xs
+pub map_same : {X Y : Type 0} (f g : X → Y) (xs : List X) → ((x : X) → Among x xs → f x ≡ g x) → map f xs ≡ map g xs
 map_same f g [] h = refl
 map_same f g (x ∷ xs) h = λ i. h x (inl refl) i ∷ map_same f g xs (λ y a. h y (inr a)) i
 
-map_self : {X : Type 0} (xs : List X) → map (λ x. x) xs ≡ xs
+pub map_self : {X : Type 0} (xs : List X) → map (λ x. x) xs ≡ xs
 map_self [] = refl
 map_self (x ∷ xs) = ap (λ ys. x ∷ ys) (map_self xs)
 
@@ -69,7 +69,7 @@ told_zip F F' H H' J D (p ∷ ps) (g ∷ gs) e d t =
     let b : H p ≡ H' g = cc in
     λ i. t p g (inl refl) (inl refl) a b i ∷ told_zip F F' H H' J D ps gs (cc) (cc) (λ q k u v. t q k (inr u) (inr v)) i
 
-among_at : (cs : List ℕ) (j : ℕ) → j < length cs → Among (get_or cs j 0) cs
+pub among_at : (cs : List ℕ) (j : ℕ) → j < length cs → Among (get_or cs j 0) cs
 among_at [] j k = absurd (omega arith)
 among_at (y ∷ cs) zero k = inl refl
 among_at (y ∷ cs) (suc j) k = inr (among_at cs j (omega arith))
@@ -237,11 +237,11 @@ keys_of_classes t numbers masks h = record {
     es : List (List Bool)
     es = entries t.problem.inputs (functions_of t) (set_of t)
 
-length_ranked : (qs : List (ℕ × ℕ)) → length (ranks same_pair qs) ≡ length qs
+pub length_ranked : (qs : List (ℕ × ℕ)) → length (ranks same_pair qs) ≡ length qs
 unfolding ranks
 length_ranked qs = length-map qs (rank same_pair qs)
 
-outside_same : (n : ℕ) (F : List Function) (S T : List ℕ) → ((y : ℕ) → has S y ≡ has T y) → map (dependence n) (reach F (reverse (outside n S))) ≡ map (dependence n) (reach F (reverse (outside n T)))
+pub outside_same : (n : ℕ) (F : List Function) (S T : List ℕ) → ((y : ℕ) → has S y ≡ has T y) → map (dependence n) (reach F (reverse (outside n S))) ≡ map (dependence n) (reach F (reverse (outside n T)))
 unfolding outside
 outside_same n F S T h = λ i. map (dependence n) (reach F (reverse (filter (λ y. not (h y i)) (variables n))))
 

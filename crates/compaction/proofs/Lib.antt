@@ -18,3 +18,7 @@ pub mod Keyed
 pub mod Apart
 pub mod CountedFirsts
 pub mod ValuePairs
+pub mod Named
+pub mod Unrolled
+pub mod Paired
+pub mod Stripped

@@ -1,10 +1,18 @@
 -- Tables kept in strips: entries that differ in the low free variables only stand in one strip, and equal strips are kept once.
 --     strip numbers len k, unrolled outer numbers len      the k-th strip; all entries, where `outer` names the strip of each run of them
+--     low_variables p      how many variables run inside a strip of the empty set
 --     AreStrips      each strip is whole and used
+--     TellsPairs      numbers by which pairs are told apart, and the mask of each
 --     HoldsStrips t low outer numbers masks      the unrolled table holds the keys of t; `low` parts the variables
-use Rattle.std.specs.Prelude.{◌≡◌, ℕ, ◌*◌, ◌^◌, ◌<◌, ◌≤◌, List, take, drop, length, get_or}
+use Rattle.std.specs.Prelude.{◌≡◌, ℕ, ◌*◌, ◌^◌, ◌<◌, ◌≤◌, min, List, map, take, drop, length, get_or}
 use Rattle.std.specs.List.{flat_map}
+use Rattle.order_model.specs.Problems.{TruthTables}
+use Rattle.compaction.specs.Dependence.{joined_mask}
 use Rattle.compaction.specs.Table.{ClassesOf, HoldsKeys, free_below}
+
+-- how many variables run inside a strip of the empty set
+abbrev pub low_variables : TruthTables → ℕ
+low_variables p = min p.inputs 8
 
 -- the k-th strip of `len` entries
 unfoldable pub strip : List ℕ → ℕ → ℕ → List ℕ
@@ -20,6 +28,15 @@ pub record AreStrips (outer numbers : List ℕ) (len : ℕ) : Type 0 where
   pub whole : length numbers ≡ count * len
   pub within : (i : ℕ) → i < length outer → get_or outer i 0 < count
   pub used : (k : ℕ) → k < count → (i : ℕ) × ((i < length outer) × (get_or outer i 0 ≡ k))
+
+-- the numbers are names of the pairs, equal for equal pairs alone, and `joined` has the mask of each name
+pub record TellsPairs (masks : List ℕ) (x : ℕ) (ps : List (ℕ × ℕ)) (numbers joined : List ℕ) : Type 0 where
+  pub name : ℕ × ℕ → ℕ
+  pub numbers_are : numbers ≡ map name ps
+  pub apart : (i j : ℕ) → i < length ps → j < length ps → name (get_or ps i (0, 0)) ≡ name (get_or ps j (0, 0)) → get_or ps i (0, 0) ≡ get_or ps j (0, 0)
+  pub below : (i : ℕ) → i < length ps → name (get_or ps i (0, 0)) < length joined
+  pub told : (i : ℕ) → i < length ps → get_or joined (name (get_or ps i (0, 0))) 0 ≡ joined_mask masks x (get_or ps i (0, 0))
+  pub few : length joined ≤ 2 ^ 20
 
 -- a strip has an entry for each assignment of the variables below `low` outside the set
 pub record HoldsStrips (t : ClassesOf) (low : ℕ) (outer numbers masks : List ℕ) : Type 0 where

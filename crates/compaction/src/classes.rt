@@ -68,7 +68,7 @@ fn count_with(masks: &[u16], x: VarIx) -> u32
 }
 
 /// At each wanted variable how many masks have its bit, else 0.
-fn row_of(masks: &[u16], wanted: Mask) -> [u32; 16]
+pub(crate) fn row_of(masks: &[u16], wanted: Mask) -> [u32; 16]
     requires few { length masks.now ≤ 2 ^ 20 }
     ensures { (x : ℕ) → x < 16 → slice_index result x ≡ cond (bit_at wanted x == 1) (length (filter (λ m. bit_at m x == 1) masks.now)) 0 }
 {

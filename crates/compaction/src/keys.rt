@@ -17,7 +17,7 @@ use std::alloc::{AllocError, Global};
 use std::marker::Model;
 
 /// Pairs of more keys than these are numbered as classes.
-const MOST_JOINED: usize = 16;
+pub const MOST_JOINED: usize = 16;
 
 /// The keys of a set: each assignment of the other variables has an entry in each function's part of the table, and equal
 /// subfunctions have one key. Each key below the number of masks has the mask of what its function depends on. Of the empty
@@ -42,7 +42,7 @@ impl<'a> Model for Keys<'a> {
 }
 
 /// The keys of pairs of keys below `base`.
-fn join_keys(alloc: Global, keys: &[u32], rank: u32, base: u32) -> Result<Vec<u32>, AllocError>
+pub fn join_keys(alloc: Global, keys: &[u32], rank: u32, base: u32) -> Result<Vec<u32>, AllocError>
     requires rank { rank < 16 }
     requires len { length keys.now < 2 ^ 32 }
     requires whole { (blocks : ℕ) × (length keys.now ≡ blocks * (2 * 2 ^ rank)) }
@@ -60,7 +60,7 @@ fn join_keys(alloc: Global, keys: &[u32], rank: u32, base: u32) -> Result<Vec<u3
 }
 
 /// The masks of the keys of all pairs.
-fn join_key_masks(alloc: Global, masks: &[u16], x: u8) -> Result<Vec<u16>, AllocError>
+pub fn join_key_masks(alloc: Global, masks: &[u16], x: u8) -> Result<Vec<u16>, AllocError>
     requires variable { x < 16 }
     requires few { length masks.now ≤ 256 }
     ensures { IfOk result (λ v. v.items ≡ map (joined_key_mask masks.now x) (range_with_len 0 (length masks.now * length masks.now))) }

@@ -4,6 +4,7 @@
 mod blocks;
 mod chains;
 mod classes;
+mod columns;
 mod dense;
 mod distinct;
 mod keys;
@@ -12,6 +13,7 @@ mod numbering;
 mod pairs;
 mod scratch;
 mod start;
+mod strips;
 mod tally;
 #[cfg(test)]
 mod tests;

@@ -1,0 +1,19 @@
+use Rattle.std.proofs.Common.{◌^◌, map, length, vec_len, sym, ap, ◌∙◌, arith}
+use Rattle.compaction.specs.Places as places
+use Rattle.compaction.specs.Table.{joined_key}
+use Rattle.compaction.proofs.Index.{length-pairs}
+use Rattle.compaction.proofs.Named.{names_joined, names_numbered}
+use Rattle.compaction.proofs.strips.tell_pairs.Goals as goal
+
+pub returns-then-base-le-MOST_JOINED : goal.returns-then-base-le-MOST_JOINED
+returns-then-base-le-MOST_JOINED c =
+    let l = c.if-base-le-MOST_JOINED.true in
+    names_joined c.args.masks.now c.args.x c.args.numbers.now c.args.rank c.requires.whole c.requires.classes (omega arith) c.in_ok-keys.keys.items c.in_ok-joined.joined.items
+    c.in_ok-keys.ensures c.in_ok-joined.ensures
+
+pub returns : goal.returns
+returns c =
+    let l = length-pairs c.args.numbers.now (2 ^ c.args.rank) in
+    let f = c.requires.len in
+    names_numbered c.args.masks.now c.args.x (places.pairs c.args.numbers.now (2 ^ c.args.rank)) c.in_ok-numbered.numbered.items c.in_ok-joined-2.joined.items (omega arith)
+    c.in_ok-numbered.ensures c.in_ok-joined-2.ensures.many (ap (map _) (sym c.deref.ensures.value) ∙ c.in_ok-joined-2.ensures.told)
