@@ -36,7 +36,7 @@ pub free_none : (set : ℕ) → free_below set 0 ≡ 0
 unfolding free_below
 free_none set = refl
 
-free_step : (set y : ℕ) → free_below set (y + 1) ≡ free_below set y + cond (not (eqb (bit_at set y) 1)) 1 0
+pub free_step : (set y : ℕ) → free_below set (y + 1) ≡ free_below set y + cond (not (eqb (bit_at set y) 1)) 1 0
 unfolding free_below
 free_step set y =
     ap (λ us. length (filter (λ z. not (eqb (bit_at set z) 1)) us)) (range_parts 0 y 1)

@@ -22,3 +22,5 @@ pub mod Named
 pub mod Unrolled
 pub mod Paired
 pub mod Stripped
+pub mod HeldStrips
+pub mod Used

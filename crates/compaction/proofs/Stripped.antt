@@ -31,10 +31,10 @@ low_place_parts step q t h =
     let m : (q * step + t) % step ≡ t = ap (λ k. k % step) c ∙ add-mul-mod_self_right t q step ∙ mod-eq_of_lt h in
     λ i. d i * (2 * step) + m i
 
-parts_of : (i s : ℕ) → 0 < s → i ≡ i / s * s + i % s
+pub parts_of : (i s : ℕ) → 0 < s → i ≡ i / s * s + i % s
 parts_of i s some = (let m = mod-lt i some in grind arith)
 
-below_product : (u k b a : ℕ) → u < k → a < b → u * b + a < k * b
+pub below_product : (u k b a : ℕ) → u < k → a < b → u * b + a < k * b
 below_product u k b a l h = (let q = mul-le-mul_right b (let s : suc u ≤ k = omega arith in s) in let z : suc u * b ≡ u * b + b = grind arith in omega arith)
 
 -- a place in a longer table

@@ -3,9 +3,11 @@
 --     low_variables p      how many variables run inside a strip of the empty set
 --     AreStrips      each strip is whole and used
 --     TellsPairs      numbers by which pairs are told apart, and the mask of each
+--     masks_in_use numbers masks      the masks of the numbers that occur, rising
 --     HoldsStrips t low outer numbers masks      the unrolled table holds the keys of t; `low` parts the variables
 use Rattle.std.specs.Prelude.{◌≡◌, ℕ, ◌*◌, ◌^◌, ◌<◌, ◌≤◌, min, List, map, take, drop, length, get_or}
-use Rattle.std.specs.List.{flat_map}
+use Rattle.std.specs.List.{filter, flat_map}
+use Rattle.order_model.specs.Orders.{has, variables}
 use Rattle.order_model.specs.Problems.{TruthTables}
 use Rattle.compaction.specs.Dependence.{joined_mask}
 use Rattle.compaction.specs.Table.{ClassesOf, HoldsKeys, free_below}
@@ -37,6 +39,10 @@ pub record TellsPairs (masks : List ℕ) (x : ℕ) (ps : List (ℕ × ℕ)) (num
   pub below : (i : ℕ) → i < length ps → name (get_or ps i (0, 0)) < length joined
   pub told : (i : ℕ) → i < length ps → get_or joined (name (get_or ps i (0, 0))) 0 ≡ joined_mask masks x (get_or ps i (0, 0))
   pub few : length joined ≤ 2 ^ 20
+
+-- the masks of the numbers that occur
+unfoldable pub masks_in_use : List ℕ → List ℕ → List ℕ
+masks_in_use numbers masks = map (λ k. get_or masks k 0) (filter (has numbers) (variables (length masks)))
 
 -- a strip has an entry for each assignment of the variables below `low` outside the set
 pub record HoldsStrips (t : ClassesOf) (low : ℕ) (outer numbers masks : List ℕ) : Type 0 where

@@ -1,7 +1,7 @@
 //! Strips: tables of keys in which entries that differ in the low variables only stand together, and equal runs of them are
 //! kept once.
 
-ghost use Rattle.std.specs.Prelude.{◌≡◌, ℕ, ◌+◌, ◌*◌, ◌/◌, ◌^◌, ◌<◌, ◌≤◌, length, slice_index, get_or, IfOk, IsFalse, IsTrue};
+ghost use Rattle.std.specs.Prelude.{◌≡◌, ℕ, ◌+◌, ◌*◌, ◌/◌, ◌^◌, ◌<◌, ◌≤◌, length, slice_index, get_or, false, IfOk, IsFalse, IsTrue};
 ghost use Rattle.std.specs.Int.{bit_at};
 ghost use Rattle.std.specs.Set.{distinct_count};
 ghost use Rattle.order_model.specs.Orders.{has};
@@ -9,7 +9,7 @@ ghost use Rattle.order_model.specs.Widths.{same_pair};
 ghost use Rattle.compaction.specs.Chains.{lower_at, upper_at};
 ghost use Rattle.compaction.specs.Numbering.{ranks};
 ghost use Rattle.compaction.specs.Places as places;
-ghost use Rattle.compaction.specs.Strips.{AreStrips, TellsPairs, unrolled, low_variables as low_of};
+ghost use Rattle.compaction.specs.Strips.{AreStrips, TellsPairs, masks_in_use, unrolled, low_variables as low_of};
 
 use crate::classes::{rank_of, row_of};
 use crate::columns::{ValueStrips, value_strips};
@@ -180,19 +180,29 @@ fn add_above(
     })
 }
 
-/// The masks of the numbers that occur.
-fn used_masks(alloc: Global, numbers: &[u32], masks: &[u16]) -> Result<Vec<u16>, AllocError>
-    requires below { (i : ℕ) → i < length numbers.now → slice_index numbers.now i < length masks.now }
-    requires few { length masks.now ≤ 2 ^ 20 }
+/// Which numbers occur.
+fn numbers_in_use(alloc: Global, numbers: &[u32], count: usize) -> Result<Vec<bool>, AllocError>
+    requires below { (i : ℕ) → i < length numbers.now → slice_index numbers.now i < count }
+    ensures long { IfOk result (λ v. length v.items ≡ count) }
+    ensures told { IfOk result (λ v. (k : ℕ) → k < count → get_or v.items k false ≡ has numbers.now k) }
 {
-    let mut used = vec![in alloc; false; masks.len()]?;
+    let mut used = vec![in alloc; false; count]?;
     for number in numbers {
         used[*number as usize] = true;
     }
+    Ok(used)
+}
+
+/// The masks of the numbers that occur.
+fn used_masks(alloc: Global, numbers: &[u32], masks: &[u16]) -> Result<Vec<u16>, AllocError>
+    requires below { (i : ℕ) → i < length numbers.now → slice_index numbers.now i < length masks.now }
+    ensures { IfOk result (λ v. v.items ≡ masks_in_use numbers.now masks.now) }
+{
+    let used = numbers_in_use(alloc, numbers, masks.len())?;
     let mut found = Vec::new(alloc);
-    for (mask, occurs) in masks.iter().zip(used.iter()) {
+    for (k, occurs) in used.iter().enumerate() {
         if *occurs {
-            found.push(*mask)?;
+            found.push(masks[k])?;
         }
     }
     Ok(found)
@@ -207,8 +217,12 @@ impl<'a> Strips<'a> {
     pub fn of_problem(alloc: Global, problem: &'a Problem) -> Result<Strips<'a>, AllocError>
         ensures { IfOk result (λ c. c ≡ classes_of problem.now 0) }
     {
+        prove!(problem.inputs() <= 16);
+        prove!(problem.outputs() <= 16);
         let ValueStrips { outer, numbers } = value_strips(alloc, problem, low_variables(problem))?;
-        let masks = vec![in alloc; 0u16; 2]?;
+        let mut masks = Vec::with_capacity(alloc, 2)?;
+        masks.push(0)?;
+        masks.push(0)?;
         Ok(Strips {
             problem,
             set: 0,

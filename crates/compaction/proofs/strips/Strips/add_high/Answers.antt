@@ -1,0 +1,71 @@
+use Rattle.std.proofs.Common.{◌≡◌, ℕ, ◌+◌, ◌-◌, ◌<◌, ◌≤◌, ◌*◌, ◌^◌, length, get_or, bit_or, min, sym, ap, ap₂, ◌∙◌, subst, arith}
+use Rattle.std.proofs.lemmas.Nat.{one_shl}
+use Rattle.compaction.specs.Strips.{AreStrips, HoldsStrips, TellsPairs, low_variables, unrolled}
+use Rattle.compaction.specs.Places as places
+use Rattle.compaction.specs.Table.{ClassesOf, classes_of, free_below}
+use Rattle.compaction.proofs.HeldStrips.{free_split, rank_few, few_runs, whole_outer, holds_high}
+use Rattle.compaction.proofs.strips.Strips.add_high.Goals as goal
+
+pub overflow_sub-rank : goal.overflow_sub-rank
+overflow_sub-rank c =
+    let b = c.rank_of-bits.ensures in
+    let l = c.low_variables.ensures in
+    let r = c.rank_of.ensures in
+    let s = free_split c.self.inside.set (low_variables c.self.inside.problem.now) c.args.x (let v = ap (λ (z : ClassesOf). low_variables z.problem) c.self.view_is in let h = c.requires.high in omega arith) in
+    let e = ap (free_below c.self.inside.set) l in
+    omega arith
+
+pub add_above-requires-clause-rank : goal.add_above-requires-clause-rank
+add_above-requires-clause-rank c =
+    let h = subst (λ (z : ClassesOf). HoldsStrips z (low_variables z.problem) c.self.inside.outer.items c.self.inside.numbers.items c.self.inside.masks.items) c.self.view_is c.self.invariant in
+    let e = c.rank_of.ensures ∙ ap (λ (z : ClassesOf). free_below z.set c.args.x) c.self.view_is in
+    let r = rank_few c.args.self.now c.args.x c.requires.inside c.requires.new (low_variables c.args.self.now.problem) c.self.inside.outer.items c.self.inside.numbers.items c.self.inside.masks.items h in
+    omega arith
+
+pub add_above-requires-clause-bits : goal.add_above-requires-clause-bits
+add_above-requires-clause-bits c =
+    let h = subst (λ (z : ClassesOf). HoldsStrips z (low_variables z.problem) c.self.inside.outer.items c.self.inside.numbers.items c.self.inside.masks.items) c.self.view_is c.self.invariant in
+    let e = c.rank_of-bits.ensures ∙ ap (free_below c.self.inside.set) c.low_variables.ensures ∙ ap (λ (z : ClassesOf). free_below z.set (low_variables z.problem)) c.self.view_is in
+    let s = free_split c.args.self.now.set (low_variables c.args.self.now.problem) c.args.x c.requires.high in
+    let r = rank_few c.args.self.now c.args.x c.requires.inside c.requires.new (low_variables c.args.self.now.problem) c.self.inside.outer.items c.self.inside.numbers.items c.self.inside.masks.items h in
+    omega arith
+
+pub add_above-requires-clause-len : goal.add_above-requires-clause-len
+add_above-requires-clause-len c =
+    let h = subst (λ (z : ClassesOf). HoldsStrips z (low_variables z.problem) c.self.inside.outer.items c.self.inside.numbers.items c.self.inside.masks.items) c.self.view_is c.self.invariant in
+    let e = c.rank_of-bits.ensures ∙ ap (free_below c.self.inside.set) c.low_variables.ensures ∙ ap (λ (z : ClassesOf). free_below z.set (low_variables z.problem)) c.self.view_is in
+    let r = few_runs c.args.self.now c.args.x c.requires.inside c.requires.new (low_variables c.args.self.now.problem) c.self.inside.outer.items c.self.inside.numbers.items c.self.inside.masks.items h in
+    subst (λ us. length us * 2 ^ c.rank_of-bits.result ≤ 2 ^ 20) (sym c.deref.ensures.value) (subst (λ k. length c.self.inside.outer.items * 2 ^ k ≤ 2 ^ 20) (sym e) r)
+
+pub add_above-requires-clause-whole : goal.add_above-requires-clause-whole
+add_above-requires-clause-whole c =
+    let h = subst (λ (z : ClassesOf). HoldsStrips z (low_variables z.problem) c.self.inside.outer.items c.self.inside.numbers.items c.self.inside.masks.items) c.self.view_is c.self.invariant in
+    let b = c.rank_of-bits.ensures ∙ ap (free_below c.self.inside.set) c.low_variables.ensures ∙ ap (λ (z : ClassesOf). free_below z.set (low_variables z.problem)) c.self.view_is in
+    let e = c.rank_of.ensures ∙ ap (λ (z : ClassesOf). free_below z.set c.args.x) c.self.view_is in
+    let s = free_split c.args.self.now.set (low_variables c.args.self.now.problem) c.args.x c.requires.high in
+    let w = whole_outer c.args.self.now c.args.x c.requires.inside c.requires.new (low_variables c.args.self.now.problem) c.self.inside.outer.items c.self.inside.numbers.items c.self.inside.masks.items h
+        c.requires.high (c.rank_of.result - c.rank_of-bits.result) (omega arith) in
+    (w.0, ap length c.deref.ensures.value ∙ w.1)
+
+pub invariant_of-result : goal.invariant_of-result
+invariant_of-result c =
+    let h = subst (λ (z : ClassesOf). HoldsStrips z (low_variables z.problem) c.self.inside.outer.items c.self.inside.numbers.items c.self.inside.masks.items) c.self.view_is c.self.invariant in
+    let b = c.rank_of-bits.ensures ∙ ap (free_below c.self.inside.set) c.low_variables.ensures ∙ ap (λ (z : ClassesOf). free_below z.set (low_variables z.problem)) c.self.view_is in
+    let e = c.rank_of.ensures ∙ ap (λ (z : ClassesOf). free_below z.set c.args.x) c.self.view_is in
+    let s = free_split c.args.self.now.set (low_variables c.args.self.now.problem) c.args.x c.requires.high in
+    let few = h.keys.few_inputs in
+    let inside = c.requires.inside in
+    let o = one_shl c.args.x 16 (omega arith) in
+    let rank = c.rank_of.result - c.rank_of-bits.result in
+    let g = c.in_ok-grown.grown in
+    let told = c.in_ok-grown.ensures.tells in
+    let k = holds_high c.args.self.now c.args.x c.requires.inside c.requires.new (low_variables c.args.self.now.problem) c.self.inside.outer.items c.self.inside.numbers.items c.self.inside.masks.items h
+        c.requires.high rank (omega arith) g.outer.items g.numbers.items g.masks.items
+        (subst (λ k. AreStrips g.outer.items g.numbers.items (2 ^ k)) b c.in_ok-grown.ensures.strips)
+        (subst (λ k. TellsPairs c.self.inside.masks.items c.args.x (places.pairs (unrolled c.self.inside.outer.items c.self.inside.numbers.items (2 ^ k)) (2 ^ k * 2 ^ rank)) (unrolled g.outer.items g.numbers.items (2 ^ k)) g.masks.items) b
+        (subst (λ us. TellsPairs us c.args.x (places.pairs (unrolled c.self.inside.outer.items c.self.inside.numbers.items (2 ^ c.rank_of-bits.result)) (2 ^ c.rank_of-bits.result * 2 ^ rank)) (unrolled g.outer.items g.numbers.items (2 ^ c.rank_of-bits.result)) g.masks.items) c.deref-3.ensures.value
+        (subst (λ us. TellsPairs c.deref-3.result.now c.args.x (places.pairs (unrolled c.self.inside.outer.items us (2 ^ c.rank_of-bits.result)) (2 ^ c.rank_of-bits.result * 2 ^ rank)) (unrolled g.outer.items g.numbers.items (2 ^ c.rank_of-bits.result)) g.masks.items) c.deref-2.ensures.value
+        (subst (λ us. TellsPairs c.deref-3.result.now c.args.x (places.pairs (unrolled us c.deref-2.result.now (2 ^ c.rank_of-bits.result)) (2 ^ c.rank_of-bits.result * 2 ^ rank)) (unrolled g.outer.items g.numbers.items (2 ^ c.rank_of-bits.result)) g.masks.items) c.deref.ensures.value told))))
+        c.in_ok-grown.ensures.below c.in_ok-grown.ensures.few in
+    subst (λ (z : ClassesOf). HoldsStrips z (low_variables z.problem) g.outer.items g.numbers.items g.masks.items)
+    (λ i. classes_of (sym c.self.view_is i).problem (bit_or (sym c.self.view_is i).set (sym o i))) k

@@ -1,0 +1,24 @@
+use Rattle.std.proofs.Common.{◌≤◌, ◌<◌, ◌^◌, ◌≡◌, length, sym, ap, subst, ◌∙◌, arith, [], ◌∷◌, ◌++◌, List, ℕ, map}
+use Rattle.order_model.specs.Problems.{value_at}
+use Rattle.compaction.specs.Strips.{AreStrips, HoldsStrips, low_variables, unrolled}
+use Rattle.compaction.specs.Table.{classes_of}
+use Rattle.compaction.specs.Values.{values_of, number_of}
+use Rattle.compaction.proofs.HeldStrips.{holds_values}
+use Rattle.compaction.proofs.strips.Strips.of_problem.Goals as goal
+
+pub invariant_of-result : goal.invariant_of-result
+invariant_of-result c =
+    let p = c.args.problem.now in
+    let n = c.inputs.ensures.value in
+    let f = c.inputs.ensures.few in
+    let m = c.outputs.ensures.value in
+    let g = c.outputs.ensures.few in
+    let h = c.outputs.ensures.some in
+    let l = c.low_variables.ensures in
+    let outer = c.in_ok-outer.field-0.outer.items in
+    let numbers = c.in_ok-outer.field-0.numbers.items in
+    subst (HoldsStrips (classes_of p 0) (low_variables p) outer numbers) (sym (c.in_ok-push-2.ensures.items ∙ ap (λ us. us ++ 0 ∷ []) (c.in_ok-push.ensures.items ∙ ap (λ us. us ++ 0 ∷ []) c.in_ok-masks.ensures.items)))
+    (holds_values p (omega arith) (omega arith) (omega arith) (low_variables p) outer numbers
+    (subst (λ k. AreStrips outer numbers (2 ^ k)) l c.in_ok-outer.ensures.strips)
+    (subst (λ k. unrolled outer numbers (2 ^ k) ≡ map (number_of (value_at p 0 0)) (values_of p)) l c.in_ok-outer.ensures.values)
+    c.in_ok-outer.ensures.few)

@@ -1,0 +1,36 @@
+use Rattle.std.proofs.Common.{◌≡◌, ℕ, Bool, true, false, cond, ◌<◌, ◌+◌, ◌++◌, [], ◌∷◌, List, map, length, get_or, sym, ap, ◌∙◌, subst, arith, Vec, Global}
+use Rattle.std.specs.List.{filter, range_with_len}
+use Rattle.order_model.specs.Orders.{has}
+use Rattle.compaction.specs.Strips.{masks_in_use}
+use Rattle.compaction.proofs.Used.{in_use_more, in_use_same, append_none}
+use Rattle.compaction.proofs.strips.used_masks.Goals as goal
+use Rattle.compaction.proofs.strips.used_masks.Goals.{then-occurs+in_ok-push, else-occurs}
+
+pub loop-k-preserved : goal.loop-k-preserved
+loop-k-preserved c =
+    let k = c.loop-k.k in
+    let masks = c.args.masks.now in
+    let used = c.deref-occurs-items.result.now in
+    let out = c.loop-k.found.items in
+    let n = in_use_more (λ j. get_or masks j 0) (λ j. get_or used j false) k in
+    elim c.if-occurs.branch [
+      | then-occurs+in_ok-push w ↦
+          ap (λ (z : Vec ℕ Global). z.items) w.found-is ∙ w.in_ok-push.ensures.items ∙ ap (λ us. us ++ get_or masks k 0 ∷ []) c.loop-k.invariant
+          ∙ sym (n ∙ ap (λ b. map (λ j. get_or masks j 0) (filter (λ j. get_or used j false) (range_with_len 0 k)) ++ cond b (get_or masks k 0 ∷ []) []) w.if-occurs.true)
+      | else-occurs w ↦
+          ap (λ (z : Vec ℕ Global). z.items) w.found-is ∙ c.loop-k.invariant
+          ∙ sym (n ∙ ap (λ b. map (λ j. get_or masks j 0) (filter (λ j. get_or used j false) (range_with_len 0 k)) ++ cond b (get_or masks k 0 ∷ []) []) w.if-occurs.false ∙ append_none _)
+    ]
+
+pub returns : goal.returns
+unfolding masks_in_use
+returns c =
+    let t = c.loop-k-test.false in
+    let masks = c.args.masks.now in
+    let v = c.deref-occurs-items.ensures.value in
+    let l = ap length v in
+    let m = c.in_ok-used.ensures.long in
+    let same : c.loop-k.k ≡ length masks = (let e = c.loop-k.auto.k-end in omega arith) in
+    c.loop-k.invariant ∙ ap (λ z. map (λ j. get_or masks j 0) (filter (λ j. get_or c.deref-occurs-items.result.now j false) (range_with_len 0 z))) same
+    ∙ ap (map (λ j. get_or masks j 0)) (in_use_same (λ j. get_or c.deref-occurs-items.result.now j false) (has c.args.numbers.now) (length masks)
+    (λ j h. ap (λ us. get_or us j false) v ∙ c.in_ok-used.ensures.told j h))
