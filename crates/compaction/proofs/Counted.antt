@@ -27,7 +27,7 @@ use Rattle.compaction.proofs.DependenceMasks.{bit-dependence}
 pub nat_decides : (x y : ℕ) → (nat_eq x y ≡ true → x ≡ y) × (x ≡ y → nat_eq x y ≡ true)
 nat_decides x y = (eqb-true x y, eq-eqb x y)
 
-among_variables : (n y : ℕ) → y < n → Among y (variables n)
+pub among_variables : (n y : ℕ) → y < n → Among y (variables n)
 among_variables n y h = among_from_member nat_eq nat_decides (variables n) y ((has_variables n y).1 h)
 
 variables_below : (n y : ℕ) → Among y (variables n) → y < n
@@ -68,7 +68,7 @@ module _ {X K : Type 0} (eq : K → K → Bool) (decides : (x y : K) → (eq x y
           let e : number_of s.0 ≡ c = ap (rank eq (map f xs)) (sym s.2) ∙ t.2 in
           subst (λ z. Among z (map number_of (filter p xs))) e (among_map number_of s.0 (filter p xs) (among_filter p s.0 xs s.1 (sym (agree s.0 s.1) ∙ ap q e ∙ k.1)))
 
-length_filter_map : {A B : Type 0} (q : B → Bool) (g : A → B) (xs : List A) → length (filter q (map g xs)) ≡ length (filter (λ x. q (g x)) xs)
+pub length_filter_map : {A B : Type 0} (q : B → Bool) (g : A → B) (xs : List A) → length (filter q (map g xs)) ≡ length (filter (λ x. q (g x)) xs)
 length_filter_map q g [] = refl
 length_filter_map q g (x ∷ xs) = by (q (g x)) (length_filter_map q g xs)
   where

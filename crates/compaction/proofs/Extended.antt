@@ -150,7 +150,7 @@ few_masks t numbers masks h =
     let m = h.masks_are.many in
     omega arith
 
-length_filter-le : (p : ℕ → Bool) (xs : List ℕ) → length (filter p xs) ≤ length xs
+pub length_filter-le : (p : ℕ → Bool) (xs : List ℕ) → length (filter p xs) ≤ length xs
 length_filter-le p [] = omega arith
 length_filter-le p (x ∷ xs) = by (p x) (length_filter-le p xs)
   where
