@@ -2,10 +2,11 @@
 
 ghost use Rattle.std.specs.Prelude.{◌≡◌, ℕ, ◌+◌, ◌-◌, ◌%◌, ◌^◌, ◌<◌, ◌≤◌, IsFalse, length, slice_index, slice_get, get_or, [], ◌≢◌, IfOk, IfSome, IsOk, OnOk, OnErr, Some};
 ghost use Rattle.subset_layers.specs.Layers.{block_masks};
+ghost use Rattle.compaction.specs.Strips.{low_variables as low_of};
 ghost use Rattle.compaction.specs.Table.{classes_of};
 ghost use Rattle.compaction.specs.Rows.{IsRow, AreRows, AreMembers, AreBlank, AreFilled, wanted_count};
 
-use crate::classes::Classes;
+use crate::strips::{Strips, low_variables};
 use crate::tally::Tally;
 use order_model::{Mask, Problem};
 use std::alloc::{AllocError, Global};
@@ -83,27 +84,34 @@ fn is_wanted(block: &Block, needed: &[Mask], set: Mask, y: u8) -> bool
 }
 
 /// Fills the row of the table's own set.
-fn fill_row(table: &Classes<'_>, block: &Block, needed: &[Mask], rows: &mut [[u32; 16]])
+fn fill_row(
+    alloc: Global,
+    table: &Strips<'_>,
+    block: &Block,
+    needed: &[Mask],
+    rows: &mut [[u32; 16]],
+) -> Result<(), AllocError>
     requires needed { length needed.now ≡ length (block_masks block.now) }
     requires rows { length rows.old ≡ length (block_masks block.now) }
     requires members { AreMembers table.now.problem (block_masks block.now) needed.now }
-    ensures { (i : ℕ) → i < length (block_masks block.now) →
+    ensures { OnOk result ((i : ℕ) → i < length (block_masks block.now) →
         ((slice_index (block_masks block.now) i ≡ table.now.set) → IsRow table.now.problem table.now.set (slice_index needed.now i) (get_or rows.new i [])) ×
-        ((slice_index (block_masks block.now) i ≢ table.now.set) → get_or rows.new i [] ≡ get_or rows.old i []) }
+        ((slice_index (block_masks block.now) i ≢ table.now.set) → get_or rows.new i [] ≡ get_or rows.old i [])) }
 {
     let set = table.set();
     for (i, wanted) in needed.iter().enumerate() {
         if block.mask(i) == set {
-            rows[i] = table.width_row(*wanted);
+            rows[i] = table.width_row(alloc, *wanted)?;
         }
     }
+    Ok(())
 }
 
 /// Fills the rows of the sets that agree with the table's in the variables below `y`, and adds those from `y` on. The
 /// answer is how many tables were compacted.
 fn walk(
     alloc: Global,
-    table: &Classes<'_>,
+    table: &Strips<'_>,
     y: u8,
     block: &Block,
     needed: &[Mask],
@@ -112,6 +120,7 @@ fn walk(
     requires few { table.now.problem.inputs ≤ 16 }
     requires inputs { block.now.inputs ≡ table.now.problem.inputs }
     requires variable { y ≤ table.now.problem.inputs }
+    requires high { low_of table.now.problem ≤ y }
     requires set { table.now.set < 2 ^ y }
     requires needed { length needed.now ≡ length (block_masks block.now) }
     requires rows { length rows.old ≡ length (block_masks block.now) }
@@ -125,16 +134,34 @@ fn walk(
         return Ok(0);
     }
     if y == block.inputs() {
-        fill_row(table, block, needed, rows);
+        fill_row(alloc, table, block, needed, rows)?;
         return Ok(0);
     }
     let before = walk(alloc, table, y + 1, block, needed, rows)?;
     if !is_wanted(block, needed, set + (1 << y), y + 1) {
         return Ok(before);
     }
-    let next = table.compact(alloc, y)?;
+    let next = table.add_high(alloc, y)?;
     let after = walk(alloc, &next, y + 1, block, needed, rows)?;
     Ok(before + after + 1)
+}
+
+/// The keys of a set of low variables.
+fn low_strips<'a>(
+    alloc: Global,
+    problem: &'a Problem,
+    low: Mask,
+) -> Result<Strips<'a>, AllocError>
+    requires { low < 2 ^ low_of problem.now }
+    ensures { IfOk result (λ c. c ≡ classes_of problem.now low) }
+{
+    let mut strips = Strips::of_problem(alloc, problem)?;
+    for y in 0..low_variables(problem) {
+        if (low >> y) & 1 == 1 {
+            strips = strips.add_low(alloc, y)?;
+        }
+    }
+    Ok(strips)
 }
 
 /// The widths that the cells of a block's sets need: of each set those of the variables in `needed`, all of which are its
@@ -157,10 +184,9 @@ pub fn block_widths(
     ensures err { OnErr result (tally.new ≡ tally.old) }
 {
     let low = Mask::from(block.low());
-    let table = Classes::of_set(alloc, problem, low)?;
+    let table = low_strips(alloc, problem, low)?;
     let mut rows = blank_rows(alloc, block.len())?;
-    let low_bits = problem.inputs().min(8);
-    let walked = walk(alloc, &table, low_bits, block, needed, &mut rows)?;
+    let walked = walk(alloc, &table, low_variables(problem), block, needed, &mut rows)?;
     tally.add(count_wanted(needed));
     Ok(BlockWidths {
         rows,

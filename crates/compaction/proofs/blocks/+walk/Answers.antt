@@ -3,6 +3,7 @@ use Rattle.std.proofs.lemmas.Nat.{one_shl}
 use Rattle.order_model.proofs.OrderLists.{has_at}
 use Rattle.subset_layers.specs.Layers.{block_masks}
 use Rattle.subset_layers.proofs.BlockLists.{in_block}
+use Rattle.compaction.specs.Strips.{low_variables}
 use Rattle.compaction.specs.Table.{ClassesOf}
 use Rattle.compaction.specs.Rows.{AreFilled, AreBlank, AreMembers}
 use Rattle.compaction.proofs.Filled.{filled_own, filled_lower, filled_both, blank_kept, few_compactions, fewer_compactions, set_new, low_or, next_small}
@@ -13,7 +14,7 @@ returns-then-y-inputs-clause-rows t c =
     let masks = block_masks c.args.block.now in
     filled_own c.args.table.now.problem masks c.args.needed.now c.args.table.now.set c.args.y c.args.rows.now c.fill_row.new.rows
     (λ i lt. let b = in_block c.args.block.now (slice_index masks i) (has_at masks i lt) in let e = c.if-y-inputs.true ∙ c.inputs.ensures in subst (λ k. slice_index masks i < 2 ^ k) (sym e) b.0)
-    c.fill_row.ensures
+    c.in_ok-fill_row.ensures
 
 pub returns-then-not-is_wanted-2-clause-rows : goal.returns-then-not-is_wanted-2-clause-rows
 returns-then-not-is_wanted-2-clause-rows t c =
@@ -35,8 +36,8 @@ returns-then-not-is_wanted-2-clause-compactions t c =
     let v = c.requires.variable in
     fewer_compactions c.args.table.now.problem.inputs c.args.y c.in_ok-before.before (omega arith) c.in_ok-before.ensures.compactions
 
-pub compact-requires-clause-new : goal.compact-requires-clause-new
-compact-requires-clause-new t c = set_new c.args.table.now.problem.inputs c.args.table.now.set c.args.y c.requires.set
+pub add_high-requires-clause-new : goal.add_high-requires-clause-new
+add_high-requires-clause-new t c = set_new c.args.table.now.problem.inputs c.args.table.now.set c.args.y c.requires.set
 
 pub walk-requires-2 : goal.walk-requires-2
 walk-requires-2 t c =
@@ -63,6 +64,8 @@ walk-requires-2 t c =
           (
             omega arith,
             (
+              (let g = c.requires.high in let e' = ap (λ (u : ClassesOf). low_variables u.problem) c.in_ok-next.ensures in omega arith),
+            (
               omega arith,
               (
                 c.requires.needed,
@@ -75,6 +78,7 @@ walk-requires-2 t c =
                   ),
                 ),
               ),
+            ),
             ),
           ),
         ),

@@ -26,12 +26,12 @@ returns-clause-rows c =
     let l = c.len.ensures.value in
     let k = c.in_ok-rows.ensures.long in
     let n : c.in_ok-rows.rows.len ≡ length c.in_ok-rows.rows.items = omega arith in
-    let filled = subst (λ (t : ClassesOf). AreFilled t.problem masks c.args.needed.now t.set c.min-low_bits.result c.deref_mut.result.now new) c.in_ok-table.ensures c.in_ok-walked.ensures.rows in
+    let filled = subst (λ (t : ClassesOf). AreFilled t.problem masks c.args.needed.now t.set c.low_variables.result c.deref_mut.result.now new) c.in_ok-table.ensures c.in_ok-walked.ensures.rows in
     subst (λ (rs : List (List ℕ)). AreRows c.args.problem.now masks c.args.needed.now rs) (sym (rows_back new c.in_ok-rows.rows.items c.in_ok-rows.rows.len (omega arith)))
     (record {
       each = omega arith;
       are = λ i lt.
           let b = in_block c.args.block.now (slice_index masks i) (has_at masks i lt) in
-          (filled i lt).0 (agree_low c.args.problem.now.inputs c.from-low.result (slice_index masks i) c.min-low_bits.result (let m = c.min-low_bits.ensures in let u = c.inputs.ensures.value in omega arith)
+          (filled i lt).0 (agree_low c.args.problem.now.inputs c.from-low.result (slice_index masks i) c.low_variables.result (let m = c.low_variables.ensures in omega arith)
           (subst (λ m. slice_index masks i < 2 ^ m) c.requires.inputs b.0) (b.1 ∙ sym (c.from-low.ensures ∙ c.low.ensures.value)));
     })
