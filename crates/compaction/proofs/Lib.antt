@@ -24,3 +24,5 @@ pub mod Paired
 pub mod Stripped
 pub mod HeldStrips
 pub mod Used
+pub mod Expanded
+pub mod KeptRuns

@@ -6,3 +6,4 @@ pub mod Table
 pub mod Values
 pub mod Rows
 pub mod Strips
+pub mod Columns

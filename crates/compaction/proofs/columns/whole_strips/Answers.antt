@@ -1,0 +1,37 @@
+use Rattle.std.proofs.Common.{◌≡◌, ◌-◌, ◌*◌, ◌%◌, ◌^◌, length, ap, ◌∙◌, arith}
+use Rattle.std.proofs.Math.Pow.{shl_exact}
+use Rattle.std.proofs.lemmas.Nat.{pow_pos}
+use Rattle.order_model.specs.Problems.{value_at, outputs_of}
+use Rattle.compaction.specs.Values.{number_of}
+use Rattle.compaction.proofs.Expanded.{whole_are, whole_values, length_numbers, few_numbers}
+use Rattle.compaction.proofs.columns.whole_strips.Goals as goal
+
+-- a run for each strip
+runs_are : (c : goal.After-loop-run) → length c.loop-run.outer.items ≡ outputs_of c.args.problem.now * 2 ^ (c.args.problem.now.inputs - c.args.low)
+runs_are c =
+    let p = c.args.problem.now in
+    let n = c.in_ok-numbers.ensures.inputs in
+    let m = c.in_ok-numbers.ensures.outputs in
+    let f : c.from.result ≡ outputs_of p = c.from.ensures ∙ c.outputs.ensures.value in
+    let s = shl_exact {a = outputs_of p} 5 (p.inputs - c.args.low) 32 (omega arith) (omega arith) in
+    let e : (c.from.result * 2 ^ (c.inputs.result - c.args.low)) % 2 ^ 32 ≡ outputs_of p * 2 ^ (p.inputs - c.args.low) = (λ k. (f k * 2 ^ (c.inputs.ensures.value k - c.args.low)) % 2 ^ 32) ∙ s in
+    let t = c.loop-run-test.false in
+    let u = c.loop-run.auto.run-end in
+    c.loop-run.invariant.long ∙ omega arith
+
+whole : (c : goal.After-loop-run) → length c.in_ok-numbers.numbers.items ≡ length c.loop-run.outer.items * 2 ^ c.args.low
+whole c = ap length c.in_ok-numbers.ensures.numbers ∙ length_numbers c.args.problem.now (number_of (value_at c.args.problem.now 0 0)) c.args.low (length c.loop-run.outer.items) c.requires.inside (runs_are c)
+
+pub returns-clause-strips : goal.returns-clause-strips
+returns-clause-strips c = whole_are c.loop-run.outer.items c.in_ok-numbers.numbers.items (2 ^ c.args.low) (whole c) c.loop-run.invariant.places
+
+pub returns-clause-values : goal.returns-clause-values
+returns-clause-values c =
+    whole_values c.loop-run.outer.items c.in_ok-numbers.numbers.items (2 ^ c.args.low) (pow_pos c.args.low) (whole c) c.loop-run.invariant.places
+    ∙ c.in_ok-numbers.ensures.numbers
+
+pub returns-clause-few : goal.returns-clause-few
+returns-clause-few c =
+    let l = ap length c.in_ok-numbers.ensures.numbers in
+    let f = few_numbers c.args.problem.now (number_of (value_at c.args.problem.now 0 0)) c.in_ok-numbers.ensures.inputs c.in_ok-numbers.ensures.outputs in
+    omega arith

@@ -1,0 +1,31 @@
+-- Runs of 256 points, four words each, of which equal ones are kept once.
+--     AreChained kept next heads      the kept runs are chained: a head, or a run's next, is one more than an earlier run's number, or 0 at the end
+--     KeepsRuns values outer kept count      `outer` names a kept run for each run of the values
+--     low_numbers first word count, packed_numbers first words count      the numbers of the values in a word's lowest bits; those in words
+use Rattle.std.specs.Prelude.{◌≡◌, ℕ, ◌+◌, ◌*◌, ◌<◌, ◌≤◌, ◌==◌, Bool, false, List, length, map, get_or}
+use Rattle.std.specs.Int.{bit_at}
+use Rattle.std.specs.List.{range_with_len}
+use Rattle.order_model.specs.Problems.{packed_bit}
+use Rattle.compaction.specs.Values.{number_of}
+
+-- chains go from later runs to earlier ones
+pub record AreChained (kept next heads : List ℕ) : Type 0 where
+  pub whole : length kept ≡ length next * 4
+  pub slots : length heads ≡ 4096
+  pub starts : (s : ℕ) → s < length heads → get_or heads s 0 ≤ length next
+  pub earlier : (k : ℕ) → k < length next → get_or next k 0 ≤ k
+
+-- each run is equal to the kept one that is named for it, and each kept one is named
+pub record KeepsRuns (values : List Bool) (outer kept : List ℕ) (count : ℕ) : Type 0 where
+  pub within : (i : ℕ) → i < length outer → get_or outer i 0 < count
+  pub used : (k : ℕ) → k < count → (i : ℕ) × ((i < length outer) × (get_or outer i 0 ≡ k))
+  pub few : count ≤ length outer
+  pub told : (i b : ℕ) → i < length outer → b < 256 → packed_bit kept (get_or outer i 0 * 256 + b) ≡ get_or values (i * 256 + b) false
+
+-- the numbers of the values in a word's lowest bits
+unfoldable pub low_numbers : Bool → ℕ → ℕ → List ℕ
+low_numbers first word count = map (λ b. number_of first (bit_at word b == 1)) (range_with_len 0 count)
+
+-- the numbers of the first values in words
+unfoldable pub packed_numbers : Bool → List ℕ → ℕ → List ℕ
+packed_numbers first words count = map (λ k. number_of first (packed_bit words k)) (range_with_len 0 count)
