@@ -1,6 +1,9 @@
 -- The numbers of a problem's values in strips.
 --     whole_are, whole_values      strips that are all kept, in order
 --     length_numbers, few_numbers      how many numbers there are
+--     place_parts      a place parts into a strip and a place in it
+--     low_none, low_more, low_eight      the numbers of a word's lowest bits: none, a byte more, a byte
+--     packed_none, packed_more, packed_at, length_packed      the numbers of words: none, a word more, one of them, how many
 use Rattle.std.proofs.Common.{◌≡◌, ◌==◌, ◌++◌, ◌∷◌, [], ℕ, zero, suc, refl, ◌+◌, ◌*◌, ◌-◌, ◌/◌, ◌%◌, ◌^◌, ◌<◌, ◌≤◌, Bool, List, length, map, get_or, sym, ap, ◌∙◌, arith}
 use Rattle.std.proofs.Common.{pow_mono, pow-add, mul_assoc}
 use Rattle.std.proofs.Math.Nat.{mul-le-mul_left, mul-le-mul_right, mul_comm, div-add-mod, mod-lt, div-lt_iff_lt-mul, div-div-eq-div-mul}

@@ -26,3 +26,4 @@ pub mod HeldStrips
 pub mod Used
 pub mod Expanded
 pub mod KeptRuns
+pub mod AllDistinct

@@ -5,8 +5,10 @@
 --     TellsPairs      numbers by which pairs are told apart, and the mask of each
 --     masks_in_use numbers masks      the masks of the numbers that occur, rising
 --     HoldsStrips t low outer numbers masks      the unrolled table holds the keys of t; `low` parts the variables
-use Rattle.std.specs.Prelude.{◌≡◌, ℕ, ◌*◌, ◌^◌, ◌<◌, ◌≤◌, min, List, map, take, drop, length, get_or}
-use Rattle.std.specs.List.{filter, flat_map}
+--     AreDistinct t count      all subfunctions are distinct and depend on the whole set
+--     HoldsTable      either of them
+use Rattle.std.specs.Prelude.{◌≡◌, ℕ, ◌*◌, ◌^◌, ◌<◌, ◌≤◌, min, List, Option, None, Some, map, take, drop, length, get_or}
+use Rattle.std.specs.List.{filter, flat_map, range_with_len}
 use Rattle.order_model.specs.Orders.{has, variables}
 use Rattle.order_model.specs.Problems.{TruthTables}
 use Rattle.compaction.specs.Dependence.{joined_mask}
@@ -50,3 +52,15 @@ pub record HoldsStrips (t : ClassesOf) (low : ℕ) (outer numbers masks : List �
   pub keys : HoldsKeys t (unrolled outer numbers (2 ^ free_below t.set low)) masks
   pub below : (i : ℕ) → i < length numbers → get_or numbers i 0 < length masks
   pub few_numbers : length numbers ≤ 2 ^ 20
+
+-- all subfunctions over the set are distinct, there are so many of them, and each depends on the whole set
+pub record AreDistinct (t : ClassesOf) (count : ℕ) : Type 0 where
+  pub masks : List ℕ
+  pub exact : length masks ≡ count
+  pub keys : HoldsKeys t (range_with_len 0 count) masks
+  pub full : (i : ℕ) → i < count → get_or masks i 0 ≡ t.set
+
+-- where all are distinct nothing else is kept
+unfoldable pub HoldsTable : ClassesOf → ℕ → Option ℕ → List ℕ → List ℕ → List ℕ → Type 0
+HoldsTable t low None outer numbers masks = HoldsStrips t low outer numbers masks
+HoldsTable t low (Some count) outer numbers masks = AreDistinct t count

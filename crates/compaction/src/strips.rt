@@ -1,7 +1,7 @@
 //! Strips: tables of keys in which entries that differ in the low variables only stand together, and equal runs of them are
 //! kept once.
 
-ghost use Rattle.std.specs.Prelude.{◌≡◌, ℕ, ◌+◌, ◌*◌, ◌/◌, ◌^◌, ◌<◌, ◌≤◌, length, slice_index, get_or, false, IfOk, IsFalse, IsTrue};
+ghost use Rattle.std.specs.Prelude.{◌≡◌, ℕ, ◌+◌, ◌*◌, ◌/◌, ◌^◌, ◌<◌, ◌≤◌, length, slice_index, get_or, cond, ◌==◌, false, IfOk, IsFalse, IsTrue};
 ghost use Rattle.std.specs.Int.{bit_at};
 ghost use Rattle.std.specs.Set.{distinct_count};
 ghost use Rattle.order_model.specs.Orders.{has};
@@ -12,6 +12,7 @@ ghost use Rattle.compaction.specs.Places as places;
 ghost use Rattle.compaction.specs.Strips.{AreStrips, TellsPairs, masks_in_use, unrolled, low_variables as low_of};
 
 use crate::classes::{rank_of, row_of};
+use crate::distinct::are_distinct;
 use crate::columns::{ValueStrips, value_strips};
 use crate::keys::{MOST_JOINED, join_key_masks, join_keys};
 use crate::masks::join_masks;
@@ -23,11 +24,13 @@ use std::marker::Model;
 
 /// The keys of a set in strips: equal subfunctions have one key, and each key that occurs has the mask of what its function
 /// depends on. A strip has an entry for each assignment of the low variables outside the set; `outer` names the strip of each
-/// assignment of the high ones, function by function.
+/// assignment of the high ones, function by function. Where all subfunctions are distinct and depend on the whole set their
+/// count is kept alone.
 #[derive(Drop)]
 pub struct Strips<'a> {
     problem: &'a Problem,
     set: Mask,
+    distinct: Option<u32>,
     outer: Vec<u32>,
     numbers: Vec<u32>,
     masks: Vec<u16>,
@@ -35,13 +38,13 @@ pub struct Strips<'a> {
 
 impl<'a> Model for Strips<'a> {
     ghost use Rattle.compaction.specs.Table.{ClassesOf, classes_of};
-    ghost use Rattle.compaction.specs.Strips.{HoldsStrips, low_variables};
+    ghost use Rattle.compaction.specs.Strips.{HoldsTable, low_variables};
 
     ghost Value = { ClassesOf };
 
     ghost view = { λ c. classes_of c.problem.now c.set };
 
-    ghost invariant = { λ c. HoldsStrips (classes_of c.problem.now c.set) (low_variables c.problem.now) c.outer.items c.numbers.items c.masks.items };
+    ghost invariant = { λ c. HoldsTable (classes_of c.problem.now c.set) (low_variables c.problem.now) c.distinct c.outer.items c.numbers.items c.masks.items };
 }
 
 /// Numbers of pairs, and the mask of each number.
@@ -208,10 +211,85 @@ fn used_masks(alloc: Global, numbers: &[u32], masks: &[u16]) -> Result<Vec<u16>,
     Ok(found)
 }
 
+/// Whether all masks are the same.
+fn are_all(masks: &[u16], mask: u16) -> bool
+    ensures { IsTrue result → (i : ℕ) → i < length masks.now → slice_index masks.now i ≡ mask }
+{
+    for own in masks {
+        if *own != mask {
+            return false;
+        }
+    }
+    true
+}
+
+/// Whether all entries are distinct and have the mask of the whole set.
+fn all_distinct(outer: &[u32], numbers: &[u32], masks: &[u16], set: Mask) -> bool
+    ensures exact { IsTrue result → length masks.now ≡ length numbers.now }
+    ensures outer { IsTrue result → (i : ℕ) → i < length outer.now → slice_index outer.now i ≡ i }
+    ensures numbers { IsTrue result → (i : ℕ) → i < length numbers.now → slice_index numbers.now i ≡ i }
+    ensures full { IsTrue result → (i : ℕ) → i < length masks.now → slice_index masks.now i ≡ set }
+{
+    masks.len() == numbers.len() && are_distinct(outer) && are_distinct(numbers) && are_all(masks, set)
+}
+
+/// The same width at each wanted variable, else 0.
+fn same_row(width: u32, wanted: Mask) -> [u32; 16]
+    ensures { (x : ℕ) → x < 16 → slice_index result x ≡ cond (bit_at wanted x == 1) width 0 }
+{
+    let mut row = [0; 16];
+    for x in 0..16u8 {
+        if (wanted >> x) & 1 == 1 {
+            row[x as usize] = width;
+        }
+    }
+    row
+}
+
 impl<'a> Strips<'a> {
     ghost use Rattle.compaction.specs.Rows.{IsRow};
-    ghost use Rattle.compaction.specs.Strips.{low_variables};
+    ghost use Rattle.compaction.specs.Strips.{AreDistinct, HoldsStrips, low_variables};
     ghost use Rattle.compaction.specs.Table.{set_of, with_variable, classes_of};
+
+    /// A table of strips, or the count alone where all subfunctions are distinct and depend on the whole set.
+    fn of_parts(
+        alloc: Global,
+        problem: &'a Problem,
+        set: Mask,
+        outer: Vec<u32>,
+        numbers: Vec<u32>,
+        masks: Vec<u16>,
+    ) -> Strips<'a>
+        requires { HoldsStrips (classes_of problem.now set) (low_variables problem.now) outer.items numbers.items masks.items }
+        ensures { result ≡ classes_of problem.now set }
+    {
+        if all_distinct(&outer, &numbers, &masks, set) {
+            return Strips::of_count(alloc, problem, set, numbers.len() as u32);
+        }
+        Strips {
+            problem,
+            set,
+            distinct: None,
+            outer,
+            numbers,
+            masks,
+        }
+    }
+
+    /// So many distinct subfunctions, each of which depends on the whole set.
+    fn of_count(alloc: Global, problem: &'a Problem, set: Mask, count: u32) -> Strips<'a>
+        requires { AreDistinct (classes_of problem.now set) count }
+        ensures { result ≡ classes_of problem.now set }
+    {
+        Strips {
+            problem,
+            set,
+            distinct: Some(count),
+            outer: Vec::new(alloc),
+            numbers: Vec::new(alloc),
+            masks: Vec::new(alloc),
+        }
+    }
 
     /// The keys of the empty set: the values.
     pub fn of_problem(alloc: Global, problem: &'a Problem) -> Result<Strips<'a>, AllocError>
@@ -223,13 +301,7 @@ impl<'a> Strips<'a> {
         let mut masks = Vec::with_capacity(alloc, 2)?;
         masks.push(0)?;
         masks.push(0)?;
-        Ok(Strips {
-            problem,
-            set: 0,
-            outer,
-            numbers,
-            masks,
-        })
+        Ok(Strips::of_parts(alloc, problem, 0, outer, numbers, masks))
     }
 
     /// The set, as a mask.
@@ -245,15 +317,16 @@ impl<'a> Strips<'a> {
         requires new { IsFalse (has (set_of self) x) }
         ensures { IfOk result (λ c. c ≡ with_variable self.entry x) }
     {
-        let rank = rank_of(self.set, x);
-        let told = tell_pairs(alloc, &self.numbers, rank, x, &self.masks)?;
-        Ok(Strips {
-            problem: self.problem,
-            set: self.set | (1 << x),
-            outer: self.outer,
-            numbers: told.numbers,
-            masks: told.masks,
-        })
+        let set = self.set | (1 << x);
+        match self.distinct {
+            Some(count) => Ok(Strips::of_count(alloc, self.problem, set, count / 2)),
+            None => {
+                let rank = rank_of(self.set, x);
+                let told = tell_pairs(alloc, &self.numbers, rank, x, &self.masks)?;
+                let strips = Strips::of_parts(alloc, self.problem, set, self.outer, told.numbers, told.masks);
+                Ok(strips)
+            }
+        }
     }
 
     /// The keys with one more high variable in the set.
@@ -263,24 +336,18 @@ impl<'a> Strips<'a> {
         requires new { IsFalse (has (set_of self.now) x) }
         ensures { IfOk result (λ c. c ≡ with_variable self.now x) }
     {
-        let bits = rank_of(self.set, low_variables(self.problem));
-        let rank = rank_of(self.set, x) - bits;
-        let grown = add_above(
-            alloc,
-            &self.outer,
-            rank,
-            &self.numbers,
-            bits,
-            x,
-            &self.masks,
-        )?;
-        Ok(Strips {
-            problem: self.problem,
-            set: self.set | (1 << x),
-            outer: grown.outer,
-            numbers: grown.numbers,
-            masks: grown.masks,
-        })
+        prove!(self.problem.inputs() <= 16);
+        let set = self.set | (1 << x);
+        match self.distinct {
+            Some(count) => Ok(Strips::of_count(alloc, self.problem, set, count / 2)),
+            None => {
+                let bits = rank_of(self.set, low_variables(self.problem));
+                let rank = rank_of(self.set, x) - bits;
+                let grown = add_above(alloc, &self.outer, rank, &self.numbers, bits, x, &self.masks)?;
+                let strips = Strips::of_parts(alloc, self.problem, set, grown.outer, grown.numbers, grown.masks);
+                Ok(strips)
+            }
+        }
     }
 
     /// The widths of the wanted variables, each over the set without it, and 0 of the others.
@@ -288,7 +355,12 @@ impl<'a> Strips<'a> {
         requires { (x : ℕ) → bit_at wanted x ≡ 1 → IsTrue (has (set_of self.now) x) }
         ensures { IfOk result (λ row. IsRow self.now.problem self.now.set wanted row) }
     {
-        let used = used_masks(alloc, &self.numbers, &self.masks)?;
-        Ok(row_of(&used, wanted))
+        match self.distinct {
+            Some(count) => Ok(same_row(count, wanted)),
+            None => {
+                let used = used_masks(alloc, &self.numbers, &self.masks)?;
+                Ok(row_of(&used, wanted))
+            }
+        }
     }
 }

@@ -1,8 +1,9 @@
-use Rattle.std.proofs.Common.{◌≡◌, ℕ, ◌+◌, ◌-◌, ◌<◌, ◌≤◌, ◌*◌, ◌^◌, length, get_or, bit_or, min, sym, ap, ap₂, ◌∙◌, subst, arith}
+use Rattle.std.proofs.Common.{◌≡◌, ℕ, ◌+◌, ◌-◌, ◌<◌, ◌≤◌, ◌*◌, ◌/◌, ◌^◌, length, get_or, bit_or, min, sym, ap, ap₂, ◌∙◌, subst, arith}
 use Rattle.std.proofs.lemmas.Nat.{one_shl}
-use Rattle.compaction.specs.Strips.{AreStrips, HoldsStrips, TellsPairs, low_variables, unrolled}
+use Rattle.compaction.specs.Strips.{AreDistinct, AreStrips, HoldsStrips, HoldsTable, TellsPairs, low_variables, unrolled}
 use Rattle.compaction.specs.Places as places
 use Rattle.compaction.specs.Table.{ClassesOf, classes_of, free_below}
+use Rattle.compaction.proofs.AllDistinct.{distinct_more, table_distinct, table_strips}
 use Rattle.compaction.proofs.HeldStrips.{free_split, rank_few, few_runs, whole_outer, holds_high}
 use Rattle.compaction.proofs.strips.Strips.add_high.Goals as goal
 
@@ -17,14 +18,14 @@ overflow_sub-rank c =
 
 pub add_above-requires-clause-rank : goal.add_above-requires-clause-rank
 add_above-requires-clause-rank c =
-    let h = subst (λ (z : ClassesOf). HoldsStrips z (low_variables z.problem) c.self.inside.outer.items c.self.inside.numbers.items c.self.inside.masks.items) c.self.view_is c.self.invariant in
+    let h = table_strips c.args.self.now (low_variables c.args.self.now.problem) c.self.inside.distinct c.self.inside.outer.items c.self.inside.numbers.items c.self.inside.masks.items (subst (λ (z : ClassesOf). HoldsTable z (low_variables z.problem) c.self.inside.distinct c.self.inside.outer.items c.self.inside.numbers.items c.self.inside.masks.items) c.self.view_is c.self.invariant) c.in-None.is in
     let e = c.rank_of.ensures ∙ ap (λ (z : ClassesOf). free_below z.set c.args.x) c.self.view_is in
     let r = rank_few c.args.self.now c.args.x c.requires.inside c.requires.new (low_variables c.args.self.now.problem) c.self.inside.outer.items c.self.inside.numbers.items c.self.inside.masks.items h in
     omega arith
 
 pub add_above-requires-clause-bits : goal.add_above-requires-clause-bits
 add_above-requires-clause-bits c =
-    let h = subst (λ (z : ClassesOf). HoldsStrips z (low_variables z.problem) c.self.inside.outer.items c.self.inside.numbers.items c.self.inside.masks.items) c.self.view_is c.self.invariant in
+    let h = table_strips c.args.self.now (low_variables c.args.self.now.problem) c.self.inside.distinct c.self.inside.outer.items c.self.inside.numbers.items c.self.inside.masks.items (subst (λ (z : ClassesOf). HoldsTable z (low_variables z.problem) c.self.inside.distinct c.self.inside.outer.items c.self.inside.numbers.items c.self.inside.masks.items) c.self.view_is c.self.invariant) c.in-None.is in
     let e = c.rank_of-bits.ensures ∙ ap (free_below c.self.inside.set) c.low_variables.ensures ∙ ap (λ (z : ClassesOf). free_below z.set (low_variables z.problem)) c.self.view_is in
     let s = free_split c.args.self.now.set (low_variables c.args.self.now.problem) c.args.x c.requires.high in
     let r = rank_few c.args.self.now c.args.x c.requires.inside c.requires.new (low_variables c.args.self.now.problem) c.self.inside.outer.items c.self.inside.numbers.items c.self.inside.masks.items h in
@@ -32,14 +33,14 @@ add_above-requires-clause-bits c =
 
 pub add_above-requires-clause-len : goal.add_above-requires-clause-len
 add_above-requires-clause-len c =
-    let h = subst (λ (z : ClassesOf). HoldsStrips z (low_variables z.problem) c.self.inside.outer.items c.self.inside.numbers.items c.self.inside.masks.items) c.self.view_is c.self.invariant in
+    let h = table_strips c.args.self.now (low_variables c.args.self.now.problem) c.self.inside.distinct c.self.inside.outer.items c.self.inside.numbers.items c.self.inside.masks.items (subst (λ (z : ClassesOf). HoldsTable z (low_variables z.problem) c.self.inside.distinct c.self.inside.outer.items c.self.inside.numbers.items c.self.inside.masks.items) c.self.view_is c.self.invariant) c.in-None.is in
     let e = c.rank_of-bits.ensures ∙ ap (free_below c.self.inside.set) c.low_variables.ensures ∙ ap (λ (z : ClassesOf). free_below z.set (low_variables z.problem)) c.self.view_is in
     let r = few_runs c.args.self.now c.args.x c.requires.inside c.requires.new (low_variables c.args.self.now.problem) c.self.inside.outer.items c.self.inside.numbers.items c.self.inside.masks.items h in
     subst (λ us. length us * 2 ^ c.rank_of-bits.result ≤ 2 ^ 20) (sym c.deref.ensures.value) (subst (λ k. length c.self.inside.outer.items * 2 ^ k ≤ 2 ^ 20) (sym e) r)
 
 pub add_above-requires-clause-whole : goal.add_above-requires-clause-whole
 add_above-requires-clause-whole c =
-    let h = subst (λ (z : ClassesOf). HoldsStrips z (low_variables z.problem) c.self.inside.outer.items c.self.inside.numbers.items c.self.inside.masks.items) c.self.view_is c.self.invariant in
+    let h = table_strips c.args.self.now (low_variables c.args.self.now.problem) c.self.inside.distinct c.self.inside.outer.items c.self.inside.numbers.items c.self.inside.masks.items (subst (λ (z : ClassesOf). HoldsTable z (low_variables z.problem) c.self.inside.distinct c.self.inside.outer.items c.self.inside.numbers.items c.self.inside.masks.items) c.self.view_is c.self.invariant) c.in-None.is in
     let b = c.rank_of-bits.ensures ∙ ap (free_below c.self.inside.set) c.low_variables.ensures ∙ ap (λ (z : ClassesOf). free_below z.set (low_variables z.problem)) c.self.view_is in
     let e = c.rank_of.ensures ∙ ap (λ (z : ClassesOf). free_below z.set c.args.x) c.self.view_is in
     let s = free_split c.args.self.now.set (low_variables c.args.self.now.problem) c.args.x c.requires.high in
@@ -47,9 +48,9 @@ add_above-requires-clause-whole c =
         c.requires.high (c.rank_of.result - c.rank_of-bits.result) (omega arith) in
     (w.0, ap length c.deref.ensures.value ∙ w.1)
 
-pub invariant_of-result : goal.invariant_of-result
-invariant_of-result c =
-    let h = subst (λ (z : ClassesOf). HoldsStrips z (low_variables z.problem) c.self.inside.outer.items c.self.inside.numbers.items c.self.inside.masks.items) c.self.view_is c.self.invariant in
+pub of_parts-strips-requires : goal.of_parts-strips-requires
+of_parts-strips-requires c =
+    let h = table_strips c.args.self.now (low_variables c.args.self.now.problem) c.self.inside.distinct c.self.inside.outer.items c.self.inside.numbers.items c.self.inside.masks.items (subst (λ (z : ClassesOf). HoldsTable z (low_variables z.problem) c.self.inside.distinct c.self.inside.outer.items c.self.inside.numbers.items c.self.inside.masks.items) c.self.view_is c.self.invariant) c.in-None.is in
     let b = c.rank_of-bits.ensures ∙ ap (free_below c.self.inside.set) c.low_variables.ensures ∙ ap (λ (z : ClassesOf). free_below z.set (low_variables z.problem)) c.self.view_is in
     let e = c.rank_of.ensures ∙ ap (λ (z : ClassesOf). free_below z.set c.args.x) c.self.view_is in
     let s = free_split c.args.self.now.set (low_variables c.args.self.now.problem) c.args.x c.requires.high in
@@ -57,15 +58,72 @@ invariant_of-result c =
     let inside = c.requires.inside in
     let o = one_shl c.args.x 16 (omega arith) in
     let rank = c.rank_of.result - c.rank_of-bits.result in
-    let g = c.in_ok-grown.grown in
-    let told = c.in_ok-grown.ensures.tells in
+    let g = c.in_ok-grown-in-None.grown in
+    let told = c.in_ok-grown-in-None.ensures.tells in
     let k = holds_high c.args.self.now c.args.x c.requires.inside c.requires.new (low_variables c.args.self.now.problem) c.self.inside.outer.items c.self.inside.numbers.items c.self.inside.masks.items h
         c.requires.high rank (omega arith) g.outer.items g.numbers.items g.masks.items
-        (subst (λ k. AreStrips g.outer.items g.numbers.items (2 ^ k)) b c.in_ok-grown.ensures.strips)
+        (subst (λ k. AreStrips g.outer.items g.numbers.items (2 ^ k)) b c.in_ok-grown-in-None.ensures.strips)
         (subst (λ k. TellsPairs c.self.inside.masks.items c.args.x (places.pairs (unrolled c.self.inside.outer.items c.self.inside.numbers.items (2 ^ k)) (2 ^ k * 2 ^ rank)) (unrolled g.outer.items g.numbers.items (2 ^ k)) g.masks.items) b
-        (subst (λ us. TellsPairs us c.args.x (places.pairs (unrolled c.self.inside.outer.items c.self.inside.numbers.items (2 ^ c.rank_of-bits.result)) (2 ^ c.rank_of-bits.result * 2 ^ rank)) (unrolled g.outer.items g.numbers.items (2 ^ c.rank_of-bits.result)) g.masks.items) c.deref-3.ensures.value
-        (subst (λ us. TellsPairs c.deref-3.result.now c.args.x (places.pairs (unrolled c.self.inside.outer.items us (2 ^ c.rank_of-bits.result)) (2 ^ c.rank_of-bits.result * 2 ^ rank)) (unrolled g.outer.items g.numbers.items (2 ^ c.rank_of-bits.result)) g.masks.items) c.deref-2.ensures.value
-        (subst (λ us. TellsPairs c.deref-3.result.now c.args.x (places.pairs (unrolled us c.deref-2.result.now (2 ^ c.rank_of-bits.result)) (2 ^ c.rank_of-bits.result * 2 ^ rank)) (unrolled g.outer.items g.numbers.items (2 ^ c.rank_of-bits.result)) g.masks.items) c.deref.ensures.value told))))
-        c.in_ok-grown.ensures.below c.in_ok-grown.ensures.few in
+        (subst (λ us. TellsPairs us c.args.x (places.pairs (unrolled c.self.inside.outer.items c.self.inside.numbers.items (2 ^ c.rank_of-bits.result)) (2 ^ c.rank_of-bits.result * 2 ^ rank)) (unrolled g.outer.items g.numbers.items (2 ^ c.rank_of-bits.result)) g.masks.items) c.deref-in-None-2.ensures.value
+        (subst (λ us. TellsPairs c.deref-in-None-2.result.now c.args.x (places.pairs (unrolled c.self.inside.outer.items us (2 ^ c.rank_of-bits.result)) (2 ^ c.rank_of-bits.result * 2 ^ rank)) (unrolled g.outer.items g.numbers.items (2 ^ c.rank_of-bits.result)) g.masks.items) c.deref-in-None.ensures.value
+        (subst (λ us. TellsPairs c.deref-in-None-2.result.now c.args.x (places.pairs (unrolled us c.deref-in-None.result.now (2 ^ c.rank_of-bits.result)) (2 ^ c.rank_of-bits.result * 2 ^ rank)) (unrolled g.outer.items g.numbers.items (2 ^ c.rank_of-bits.result)) g.masks.items) c.deref.ensures.value told))))
+        c.in_ok-grown-in-None.ensures.below c.in_ok-grown-in-None.ensures.few in
     subst (λ (z : ClassesOf). HoldsStrips z (low_variables z.problem) g.outer.items g.numbers.items g.masks.items)
     (λ i. classes_of (sym c.self.view_is i).problem (bit_or (sym c.self.view_is i).set (sym o i))) k
+
+pub of_count-requires : goal.of_count-requires
+of_count-requires c =
+    let d = (table_distinct c.args.self.now (low_variables c.args.self.now.problem) c.self.inside.distinct c.in-Some.count c.self.inside.outer.items c.self.inside.numbers.items c.self.inside.masks.items (subst (λ (z : ClassesOf). HoldsTable z (low_variables z.problem) c.self.inside.distinct c.self.inside.outer.items c.self.inside.numbers.items c.self.inside.masks.items) c.self.view_is c.self.invariant) c.in-Some.is) in
+    let few = d.keys.few_inputs in
+    let i' = c.requires.inside in
+    let s = one_shl c.args.x 16 (omega arith) in
+    subst (λ (z : ClassesOf). AreDistinct z (c.in-Some.count / 2)) (λ i. classes_of (sym c.self.view_is i).problem (bit_or (sym c.self.view_is i).set (sym s i)))
+    (distinct_more c.args.self.now c.in-Some.count d c.args.x c.requires.inside c.requires.new)
+
+pub add_above-requires-clause-few : goal.add_above-requires-clause-few
+add_above-requires-clause-few c =
+    let h = table_strips c.args.self.now (low_variables c.args.self.now.problem) c.self.inside.distinct c.self.inside.outer.items c.self.inside.numbers.items c.self.inside.masks.items (subst (λ (z : ClassesOf). HoldsTable z (low_variables z.problem) c.self.inside.distinct c.self.inside.outer.items c.self.inside.numbers.items c.self.inside.masks.items) c.self.view_is c.self.invariant) c.in-None.is in
+    let v = ap length c.deref-in-None.ensures.value in
+    let f = h.few_numbers in
+    omega arith
+
+pub add_above-requires-clause-few_masks : goal.add_above-requires-clause-few_masks
+add_above-requires-clause-few_masks c =
+    let h = table_strips c.args.self.now (low_variables c.args.self.now.problem) c.self.inside.distinct c.self.inside.outer.items c.self.inside.numbers.items c.self.inside.masks.items (subst (λ (z : ClassesOf). HoldsTable z (low_variables z.problem) c.self.inside.distinct c.self.inside.outer.items c.self.inside.numbers.items c.self.inside.masks.items) c.self.view_is c.self.invariant) c.in-None.is in
+    let v = ap length c.deref-in-None-2.ensures.value in
+    let f = h.keys.few_masks in
+    omega arith
+
+pub add_above-requires-clause-strips : goal.add_above-requires-clause-strips
+add_above-requires-clause-strips c =
+    let h = table_strips c.args.self.now (low_variables c.args.self.now.problem) c.self.inside.distinct c.self.inside.outer.items c.self.inside.numbers.items c.self.inside.masks.items (subst (λ (z : ClassesOf). HoldsTable z (low_variables z.problem) c.self.inside.distinct c.self.inside.outer.items c.self.inside.numbers.items c.self.inside.masks.items) c.self.view_is c.self.invariant) c.in-None.is in
+    let b = c.rank_of-bits.ensures ∙ ap (free_below c.self.inside.set) c.low_variables.ensures ∙ ap (λ (z : ClassesOf). free_below z.set (low_variables z.problem)) c.self.view_is in
+    subst (λ us. AreStrips us c.deref-in-None.result.now (2 ^ c.rank_of-bits.result)) (sym c.deref.ensures.value) (subst (λ us. AreStrips c.self.inside.outer.items us (2 ^ c.rank_of-bits.result)) (sym c.deref-in-None.ensures.value)
+    (subst (λ k. AreStrips c.self.inside.outer.items c.self.inside.numbers.items (2 ^ k)) (sym b) h.strips))
+
+pub add_above-requires-clause-below : goal.add_above-requires-clause-below
+add_above-requires-clause-below c =
+    let h = table_strips c.args.self.now (low_variables c.args.self.now.problem) c.self.inside.distinct c.self.inside.outer.items c.self.inside.numbers.items c.self.inside.masks.items (subst (λ (z : ClassesOf). HoldsTable z (low_variables z.problem) c.self.inside.distinct c.self.inside.outer.items c.self.inside.numbers.items c.self.inside.masks.items) c.self.view_is c.self.invariant) c.in-None.is in
+    λ i lt.
+    let v = c.deref-in-None.ensures.value in
+    let l = ap length v in
+    let b = h.below i (omega arith) in
+    let s = ap (λ us. get_or us i 0) v in
+    let m = ap length c.deref-in-None-2.ensures.value in
+    omega arith
+
+pub returns-in-Some : goal.returns-in-Some
+returns-in-Some c =
+    let inside = c.requires.inside in
+    let few = c.inputs.ensures.few in
+    let same = c.inputs.ensures.value ∙ ap (λ (z : ClassesOf). z.problem.inputs) c.self.view_is in
+    let s = one_shl c.args.x 16 (omega arith) in
+    c.of_count.ensures ∙ (λ i. classes_of (c.self.view_is i).problem (bit_or (c.self.view_is i).set (s i)))
+
+pub returns-in_ok-grown-in-None : goal.returns-in_ok-grown-in-None
+returns-in_ok-grown-in-None c =
+    let inside = c.requires.inside in
+    let few = c.inputs.ensures.few in
+    let same = c.inputs.ensures.value ∙ ap (λ (z : ClassesOf). z.problem.inputs) c.self.view_is in
+    let s = one_shl c.args.x 16 (omega arith) in
+    c.of_parts-strips.ensures ∙ (λ i. classes_of (c.self.view_is i).problem (bit_or (c.self.view_is i).set (s i)))

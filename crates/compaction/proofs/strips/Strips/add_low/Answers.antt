@@ -1,15 +1,16 @@
-use Rattle.std.proofs.Common.{◌≡◌, ℕ, ◌<◌, ◌≤◌, ◌*◌, ◌^◌, length, get_or, bit_or, min, sym, ap, ◌∙◌, subst, arith}
+use Rattle.std.proofs.Common.{◌≡◌, ℕ, ◌<◌, ◌≤◌, ◌*◌, ◌/◌, ◌^◌, length, get_or, bit_or, min, sym, ap, ◌∙◌, subst, arith}
 use Rattle.std.proofs.lemmas.Nat.{one_shl}
-use Rattle.compaction.specs.Strips.{HoldsStrips, TellsPairs, low_variables}
+use Rattle.compaction.specs.Strips.{AreDistinct, HoldsStrips, HoldsTable, TellsPairs, low_variables}
 use Rattle.compaction.specs.Places as places
 use Rattle.compaction.specs.Table.{ClassesOf, classes_of, free_below}
+use Rattle.compaction.proofs.AllDistinct.{distinct_more, table_distinct, table_strips}
 use Rattle.compaction.proofs.HeldStrips.{rank_few, whole_numbers, holds_low}
 use Rattle.compaction.proofs.strips.Strips.add_low.Goals as goal
 
 pub tell_pairs-requires-clause-rank : goal.tell_pairs-requires-clause-rank
 tell_pairs-requires-clause-rank c =
     let l = c.requires.low in
-    let h = subst (λ (z : ClassesOf). HoldsStrips z (low_variables z.problem) c.self.inside.outer.items c.self.inside.numbers.items c.self.inside.masks.items) c.self.view_is c.self.invariant in
+    let h = table_strips c.args.self (low_variables c.args.self.problem) c.self.inside.distinct c.self.inside.outer.items c.self.inside.numbers.items c.self.inside.masks.items (subst (λ (z : ClassesOf). HoldsTable z (low_variables z.problem) c.self.inside.distinct c.self.inside.outer.items c.self.inside.numbers.items c.self.inside.masks.items) c.self.view_is c.self.invariant) c.in-None.is in
     let e = c.rank_of-rank.ensures ∙ ap (λ (z : ClassesOf). free_below z.set c.args.x) c.self.view_is in
     let r = rank_few c.args.self c.args.x (omega arith) c.requires.new (low_variables c.args.self.problem) c.self.inside.outer.items c.self.inside.numbers.items c.self.inside.masks.items h in
     omega arith
@@ -17,24 +18,58 @@ tell_pairs-requires-clause-rank c =
 pub tell_pairs-requires-clause-whole : goal.tell_pairs-requires-clause-whole
 tell_pairs-requires-clause-whole c =
     let l = c.requires.low in
-    let h = subst (λ (z : ClassesOf). HoldsStrips z (low_variables z.problem) c.self.inside.outer.items c.self.inside.numbers.items c.self.inside.masks.items) c.self.view_is c.self.invariant in
+    let h = table_strips c.args.self (low_variables c.args.self.problem) c.self.inside.distinct c.self.inside.outer.items c.self.inside.numbers.items c.self.inside.masks.items (subst (λ (z : ClassesOf). HoldsTable z (low_variables z.problem) c.self.inside.distinct c.self.inside.outer.items c.self.inside.numbers.items c.self.inside.masks.items) c.self.view_is c.self.invariant) c.in-None.is in
     let e = c.rank_of-rank.ensures ∙ ap (λ (z : ClassesOf). free_below z.set c.args.x) c.self.view_is in
     let w = whole_numbers c.args.self c.args.x (omega arith) c.requires.new (low_variables c.args.self.problem) c.self.inside.outer.items c.self.inside.numbers.items c.self.inside.masks.items h l in
     (w.0, ap length c.deref.ensures.value ∙ w.1 ∙ ap (λ k. w.0 * (2 * 2 ^ k)) (sym e))
 
-pub invariant_of-result : goal.invariant_of-result
-invariant_of-result c =
+pub of_parts-strips-requires : goal.of_parts-strips-requires
+of_parts-strips-requires c =
     let l = c.requires.low in
-    let h = subst (λ (z : ClassesOf). HoldsStrips z (low_variables z.problem) c.self.inside.outer.items c.self.inside.numbers.items c.self.inside.masks.items) c.self.view_is c.self.invariant in
+    let h = table_strips c.args.self (low_variables c.args.self.problem) c.self.inside.distinct c.self.inside.outer.items c.self.inside.numbers.items c.self.inside.masks.items (subst (λ (z : ClassesOf). HoldsTable z (low_variables z.problem) c.self.inside.distinct c.self.inside.outer.items c.self.inside.numbers.items c.self.inside.masks.items) c.self.view_is c.self.invariant) c.in-None.is in
     let e = c.rank_of-rank.ensures ∙ ap (λ (z : ClassesOf). free_below z.set c.args.x) c.self.view_is in
     let few = h.keys.few_inputs in
     let s = one_shl c.args.x 16 (omega arith) in
     let v = c.deref.ensures.value in
-    let m = c.deref-2.ensures.value in
+    let m = c.deref-in-None.ensures.value in
     let k = holds_low c.args.self c.args.x (omega arith) c.requires.new (low_variables c.args.self.problem) c.self.inside.outer.items c.self.inside.numbers.items c.self.inside.masks.items h l
-        c.in_ok-told.told.numbers.items c.in_ok-told.told.masks.items
-        (subst (λ us. TellsPairs us c.args.x (places.pairs c.self.inside.numbers.items (2 ^ free_below c.args.self.set c.args.x)) c.in_ok-told.told.numbers.items c.in_ok-told.told.masks.items) m
-        (subst (λ us. TellsPairs c.deref-2.result.now c.args.x (places.pairs us (2 ^ free_below c.args.self.set c.args.x)) c.in_ok-told.told.numbers.items c.in_ok-told.told.masks.items) v
-        (subst (λ r. TellsPairs c.deref-2.result.now c.args.x (places.pairs c.deref.result.now (2 ^ r)) c.in_ok-told.told.numbers.items c.in_ok-told.told.masks.items) e c.in_ok-told.ensures))) in
-    subst (λ (z : ClassesOf). HoldsStrips z (low_variables z.problem) c.self.inside.outer.items c.in_ok-told.told.numbers.items c.in_ok-told.told.masks.items)
+        c.in_ok-told-in-None.told.numbers.items c.in_ok-told-in-None.told.masks.items
+        (subst (λ us. TellsPairs us c.args.x (places.pairs c.self.inside.numbers.items (2 ^ free_below c.args.self.set c.args.x)) c.in_ok-told-in-None.told.numbers.items c.in_ok-told-in-None.told.masks.items) m
+        (subst (λ us. TellsPairs c.deref-in-None.result.now c.args.x (places.pairs us (2 ^ free_below c.args.self.set c.args.x)) c.in_ok-told-in-None.told.numbers.items c.in_ok-told-in-None.told.masks.items) v
+        (subst (λ r. TellsPairs c.deref-in-None.result.now c.args.x (places.pairs c.deref.result.now (2 ^ r)) c.in_ok-told-in-None.told.numbers.items c.in_ok-told-in-None.told.masks.items) e c.in_ok-told-in-None.ensures))) in
+    subst (λ (z : ClassesOf). HoldsStrips z (low_variables z.problem) c.self.inside.outer.items c.in_ok-told-in-None.told.numbers.items c.in_ok-told-in-None.told.masks.items)
     (λ i. classes_of (sym c.self.view_is i).problem (bit_or (sym c.self.view_is i).set (sym s i))) k
+
+pub of_count-requires : goal.of_count-requires
+of_count-requires c =
+    let l = c.requires.low in
+    let d = (table_distinct c.args.self (low_variables c.args.self.problem) c.self.inside.distinct c.in-Some.count c.self.inside.outer.items c.self.inside.numbers.items c.self.inside.masks.items (subst (λ (z : ClassesOf). HoldsTable z (low_variables z.problem) c.self.inside.distinct c.self.inside.outer.items c.self.inside.numbers.items c.self.inside.masks.items) c.self.view_is c.self.invariant) c.in-Some.is) in
+    let few = d.keys.few_inputs in
+    let s = one_shl c.args.x 16 (omega arith) in
+    subst (λ (z : ClassesOf). AreDistinct z (c.in-Some.count / 2)) (λ i. classes_of (sym c.self.view_is i).problem (bit_or (sym c.self.view_is i).set (sym s i)))
+    (distinct_more c.args.self c.in-Some.count d c.args.x (omega arith) c.requires.new)
+
+pub tell_pairs-requires-clause-len : goal.tell_pairs-requires-clause-len
+tell_pairs-requires-clause-len c =
+    let h = table_strips c.args.self (low_variables c.args.self.problem) c.self.inside.distinct c.self.inside.outer.items c.self.inside.numbers.items c.self.inside.masks.items (subst (λ (z : ClassesOf). HoldsTable z (low_variables z.problem) c.self.inside.distinct c.self.inside.outer.items c.self.inside.numbers.items c.self.inside.masks.items) c.self.view_is c.self.invariant) c.in-None.is in
+    let v = ap length c.deref.ensures.value in
+    let f = h.few_numbers in
+    omega arith
+
+pub tell_pairs-requires-clause-classes : goal.tell_pairs-requires-clause-classes
+tell_pairs-requires-clause-classes c =
+    let h = table_strips c.args.self (low_variables c.args.self.problem) c.self.inside.distinct c.self.inside.outer.items c.self.inside.numbers.items c.self.inside.masks.items (subst (λ (z : ClassesOf). HoldsTable z (low_variables z.problem) c.self.inside.distinct c.self.inside.outer.items c.self.inside.numbers.items c.self.inside.masks.items) c.self.view_is c.self.invariant) c.in-None.is in
+    λ i lt.
+    let v = c.deref.ensures.value in
+    let l = ap length v in
+    let b = h.below i (omega arith) in
+    let s = ap (λ us. get_or us i 0) v in
+    let m = ap length c.deref-in-None.ensures.value in
+    omega arith
+
+pub tell_pairs-requires-clause-few : goal.tell_pairs-requires-clause-few
+tell_pairs-requires-clause-few c =
+    let h = table_strips c.args.self (low_variables c.args.self.problem) c.self.inside.distinct c.self.inside.outer.items c.self.inside.numbers.items c.self.inside.masks.items (subst (λ (z : ClassesOf). HoldsTable z (low_variables z.problem) c.self.inside.distinct c.self.inside.outer.items c.self.inside.numbers.items c.self.inside.masks.items) c.self.view_is c.self.invariant) c.in-None.is in
+    let v = ap length c.deref-in-None.ensures.value in
+    let f = h.keys.few_masks in
+    omega arith
