@@ -183,6 +183,7 @@ pub fn block_widths(
     ensures ok { OnOk result (tally.new ≡ tally.old + wanted_count needed.now) }
     ensures err { OnErr result (tally.new ≡ tally.old) }
 {
+    prove!(problem.inputs() <= 16);
     let low = Mask::from(block.low());
     let table = low_strips(alloc, problem, low)?;
     let mut rows = blank_rows(alloc, block.len())?;
