@@ -8,8 +8,8 @@ ghost use Rattle.compaction.specs.Places as places;
 ghost use Rattle.compaction.specs.Table.{joined_key, joined_key_mask};
 
 use crate::classes::{Classes, rank_of};
-use crate::masks::{join_mask, join_masks};
-use crate::numbering::number_pairs;
+use crate::masks::join_mask;
+use crate::numbering::number_pairs_with_masks;
 use crate::pairs::pair_at;
 use crate::start::value_pairs;
 use order_model::{Mask, Problem, VarIx};
@@ -161,13 +161,12 @@ impl<'a> Keys<'a> {
             return Ok(classes);
         }
         let rank = rank_of(self.set, x);
-        let numbers = number_pairs(alloc, &self.keys, rank, self.masks.len())?;
-        let masks = join_masks(alloc, &self.keys, rank, x, &self.masks, &numbers)?;
+        let numbered = number_pairs_with_masks(alloc, &self.keys, rank, x, &self.masks)?;
         Ok(Classes {
             problem: self.problem,
             set: self.set | (1 << x),
-            numbers,
-            masks,
+            numbers: numbered.numbers,
+            masks: numbered.masks,
         })
     }
 }
