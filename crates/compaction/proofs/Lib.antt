@@ -18,3 +18,5 @@ pub mod Keyed
 pub mod Apart
 pub mod CountedFirsts
 pub mod ValuePairs
+pub mod BlockPlaces
+pub mod Firsts
