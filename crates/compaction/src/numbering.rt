@@ -40,17 +40,20 @@ pub fn number_pairs_with_masks(
     ensures told { IfOk result (λ v. map (λ c. get_or v.masks.items c 0) v.numbers.items ≡ map (joined_mask masks.now x) (places.pairs numbers.now (2 ^ rank))) }
 {
     let classes = masks.len();
+    if classes == numbers.len() {
+        let distinct = are_distinct(alloc, numbers, classes)?;
+        if distinct {
+            let numbered = number_distinct_pairs(alloc, numbers, rank, x, masks)?;
+            return Ok(numbered);
+        }
+    }
     let pairs = classes * classes;
-    if classes != numbers.len() && pairs <= 8 * numbers.len() {
+    if pairs <= 8 * numbers.len() {
         let mut cells = vec![in alloc; 0u32; pairs]?;
         let numbered = number_pairs_by_cells(alloc, numbers, rank, x, masks, &mut cells)?;
         return Ok(numbered);
     }
-    let numbered = if classes == numbers.len() && are_distinct(numbers) {
-        number_distinct_pairs(alloc, numbers, rank)?
-    } else {
-        number_pairs_by_chains(alloc, numbers, rank, classes as u32)?
-    };
+    let numbered = number_pairs_by_chains(alloc, numbers, rank, classes as u32)?;
     let joined = join_masks(alloc, numbers, rank, x, masks, &numbered)?;
     Ok(Numbered {
         numbers: numbered,
