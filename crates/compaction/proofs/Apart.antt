@@ -3,7 +3,7 @@ use Rattle.std.proofs.Common.{◌≡◌, ◌≢◌, ℕ, ◌+◌, ◌*◌, ◌/�
 use Rattle.std.proofs.Math.Nat.{mul-le-mul_right, div-mul-le_self, lt-div-mul-add}
 use Rattle.std.proofs.lemmas.Bool.{cases_lt}
 use Rattle.std.proofs.lemmas.Nat.{pow_pos, div-add-mod'}
-use Rattle.compaction.specs.Chains.{IsFirst, pair_of}
+use Rattle.compaction.specs.Chains.{IsFirst}
 use Rattle.compaction.specs.Places.{low_place, pairs}
 use Rattle.compaction.proofs.Index.{pair_within, first_listed}
 
@@ -31,16 +31,11 @@ low_rises step i j some lt =
     let m = quotient_rises step i j some lt in
     omega arith
 
-pub distinct_first : (cs : List ℕ) (r : ℕ) → ((blocks : ℕ) × (length cs ≡ blocks * (2 * 2 ^ r))) → ((i : ℕ) → i < length cs → get_or cs i 0 ≡ i) → (j : ℕ) → j < length cs / 2 → IsFirst (λ i. get_or (pairs cs (2 ^ r)) i (0, 0)) j j
-distinct_first cs r whole own j h = first_listed cs (2 ^ r) j j h (record { before = omega arith; same = refl; none = other })
-  where
-    low_own : (i : ℕ) → i < length cs / 2 → get_or cs (low_place (2 ^ r) i) 0 ≡ low_place (2 ^ r) i
-    low_own i l = let w = pair_within (2 ^ r) whole.0 (length cs) i (pow_pos r) whole.1 l in own (low_place (2 ^ r) i) (omega arith)
-
-    other : (i : ℕ) → i < j → pair_of cs (2 ^ r) i ≢ pair_of cs (2 ^ r) j
-    other i lt e =
-        let a = low_own i (omega arith) in
-        let b = low_own j h in
-        let q = ap (λ (p : ℕ × ℕ). p.0) e in
-        let m = low_rises (2 ^ r) i j (pow_pos r) lt in
-        omega arith
+pub distinct_first : (cs : List ℕ) (r : ℕ) → ((blocks : ℕ) × (length cs ≡ blocks * (2 * 2 ^ r))) → ((i j : ℕ) → i < j → j < length cs → get_or cs i 0 ≢ get_or cs j 0) → (j : ℕ) → j < length cs / 2 → IsFirst (λ i. get_or (pairs cs (2 ^ r)) i (0, 0)) j j
+distinct_first cs r whole apart j h = first_listed cs (2 ^ r) j j h (record {
+  before = omega arith;
+  same = refl;
+  none = λ i lt e.
+      let w = pair_within (2 ^ r) whole.0 (length cs) j (pow_pos r) whole.1 h in
+      apart (low_place (2 ^ r) i) (low_place (2 ^ r) j) (low_rises (2 ^ r) i j (pow_pos r) lt) (omega arith) (ap (λ (p : ℕ × ℕ). p.0) e);
+})

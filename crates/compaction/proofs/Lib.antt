@@ -27,3 +27,5 @@ pub mod Used
 pub mod Expanded
 pub mod KeptRuns
 pub mod AllDistinct
+pub mod BlockPlaces
+pub mod Firsts

@@ -9,7 +9,7 @@ ghost use Rattle.compaction.specs.Table.{free_below, most_entries};
 
 use crate::keys::Keys;
 use crate::masks::join_masks;
-use crate::numbering::number_pairs;
+use crate::numbering::number_pairs_with_masks;
 use crate::pairs::number_pairs_by_index;
 use crate::scratch::Scratch;
 use crate::start::{no_dependence, value_numbers};
@@ -198,13 +198,12 @@ impl<'a> Classes<'a> {
         ensures { IfOk result (λ c. c ≡ with_variable self.now x) }
     {
         let rank = rank_of(self.set, x);
-        let numbers = number_pairs(alloc, &self.numbers, rank, self.masks.len())?;
-        let masks = join_masks(alloc, &self.numbers, rank, x, &self.masks, &numbers)?;
+        let numbered = number_pairs_with_masks(alloc, &self.numbers, rank, x, &self.masks)?;
         Ok(Classes {
             problem: self.problem,
             set: self.set | (1 << x),
-            numbers,
-            masks,
+            numbers: numbered.numbers,
+            masks: numbered.masks,
         })
     }
 

@@ -1,41 +1,65 @@
 //! Numbers of pairs where all classes are distinct.
 
-ghost use Rattle.std.specs.Prelude.{◌≡◌, ℕ, ◌+◌, ◌*◌, ◌/◌, ◌^◌, ◌<◌, ◌≤◌, length, slice_index, IfOk, IsTrue};
+ghost use Rattle.std.specs.Prelude.{◌≡◌, ◌≢◌, ℕ, ◌+◌, ◌*◌, ◌/◌, ◌^◌, ◌<◌, ◌≤◌, map, get_or, length, slice_index, IfOk, IsTrue};
+ghost use Rattle.std.specs.Set.{distinct_count};
 ghost use Rattle.order_model.specs.Widths.{same_pair};
+ghost use Rattle.compaction.specs.Dependence.{joined_mask};
 ghost use Rattle.compaction.specs.Numbering.{ranks};
 ghost use Rattle.compaction.specs.Places as places;
 
+use crate::masks::join_mask;
+use crate::numbering::Numbered;
 use std::alloc::{AllocError, Global};
 
-/// Whether the numbers count up from 0, as they do where no class occurs twice.
-pub fn are_distinct(numbers: &[u32]) -> bool
-    ensures distinct { IsTrue result → (i : ℕ) → i < length numbers.now → slice_index numbers.now i ≡ i }
-    ensures all { ((i : ℕ) → i < length numbers.now → slice_index numbers.now i ≡ i) → IsTrue result }
+/// Whether no number occurs twice. All are below `bound`.
+pub fn are_distinct(alloc: Global, numbers: &[u32], bound: usize) -> Result<bool, AllocError>
+    requires { (i : ℕ) → i < length numbers.now → slice_index numbers.now i < bound }
+    ensures distinct { IfOk result (λ distinct. IsTrue distinct → (i j : ℕ) → i < j → j < length numbers.now → slice_index numbers.now i ≢ slice_index numbers.now j) }
+    ensures all { ((i j : ℕ) → i < j → j < length numbers.now → slice_index numbers.now i ≢ slice_index numbers.now j) → IfOk result (λ distinct. IsTrue distinct) }
 {
-    for (i, number) in numbers.iter().enumerate() {
-        if *number as usize != i {
-            return false;
+    let mut marks = vec![in alloc; 0u8; bound]?;
+    for i in 0..numbers.len() {
+        let number = numbers[i] as usize;
+        if marks[number] == 1 {
+            return Ok(false);
         }
+        marks[number] = 1;
     }
-    true
+    Ok(true)
 }
 
-/// The numbers of the pairs, which are distinct, too.
+/// The numbers of the pairs, which are distinct too, and their masks.
 pub fn number_distinct_pairs(
     alloc: Global,
     numbers: &[u32],
     rank: u32,
-) -> Result<Vec<u32>, AllocError>
+    x: u8,
+    masks: &[u16],
+) -> Result<Numbered, AllocError>
     requires rank { rank < 16 }
-    requires len { length numbers.now < 2 ^ 32 }
+    requires variable { x < 16 }
+    requires len { length numbers.now ≤ 2 ^ 20 }
     requires whole { (blocks : ℕ) × (length numbers.now ≡ blocks * (2 * 2 ^ rank)) }
-    requires distinct { (i : ℕ) → i < length numbers.now → slice_index numbers.now i ≡ i }
-    ensures { IfOk result (λ v. v.items ≡ ranks same_pair (places.pairs numbers.now (2 ^ rank))) }
+    requires classes { (i : ℕ) → i < length numbers.now → slice_index numbers.now i < length masks.now }
+    requires distinct { (i j : ℕ) → i < j → j < length numbers.now → slice_index numbers.now i ≢ slice_index numbers.now j }
+    ensures numbers { IfOk result (λ v. v.numbers.items ≡ ranks same_pair (places.pairs numbers.now (2 ^ rank))) }
+    ensures many { IfOk result (λ v. length v.masks.items ≡ distinct_count same_pair (places.pairs numbers.now (2 ^ rank))) }
+    ensures told { IfOk result (λ v. map (λ c. get_or v.masks.items c 0) v.numbers.items ≡ map (joined_mask masks.now x) (places.pairs numbers.now (2 ^ rank))) }
 {
+    let step = 1usize << rank;
     let half = numbers.len() / 2;
-    let mut out = Vec::with_capacity(alloc, half)?;
-    for j in 0..half {
-        out.push(j as u32)?;
+    let mut out = vec![in alloc; 0u32; half]?;
+    let mut joined = vec![in alloc; 0u16; half]?;
+    for block in 0..half >> rank {
+        for i in 0..step {
+            let low = block * (2 * step) + i;
+            let j = block * step + i;
+            out[j] = j as u32;
+            joined[j] = join_mask(masks, x, (numbers[low], numbers[low + step]));
+        }
     }
-    Ok(out)
+    Ok(Numbered {
+        numbers: out,
+        masks: joined,
+    })
 }

@@ -8,9 +8,8 @@ ghost use Rattle.compaction.specs.Places as places;
 ghost use Rattle.compaction.specs.Table.{joined_key, joined_key_mask};
 
 use crate::classes::{Classes, rank_of};
-use crate::masks::{join_mask, join_masks};
-use crate::numbering::number_pairs;
-use crate::pairs::pair_at;
+use crate::masks::join_mask;
+use crate::numbering::number_pairs_with_masks;
 use crate::start::value_pairs;
 use order_model::{Mask, Problem, VarIx};
 use std::alloc::{AllocError, Global};
@@ -41,7 +40,27 @@ impl<'a> Model for Keys<'a> {
     ghost invariant = { λ c. 0 < c.set → HoldsKeys (classes_of c.problem.now c.set) c.keys.items c.masks.items };
 }
 
-/// The keys of pairs of keys below `base`.
+/// Writes the keys of pairs of keys below `base`, block by block.
+#[inline(always)]
+fn join_blocks(keys: &[u32], rank: u32, base: u32, joined: &mut [u32])
+    requires rank { rank < 16 }
+    requires len { length keys.now < 2 ^ 32 }
+    requires whole { (blocks : ℕ) × (length keys.now ≡ blocks * (2 * 2 ^ rank)) }
+    requires below { (i : ℕ) → i < length keys.now → slice_index keys.now i < base }
+    requires base { base ≤ 256 }
+    requires long { length joined.old ≡ length keys.now / 2 }
+    ensures { joined.new ≡ map (joined_key base) (places.pairs keys.now (2 ^ rank)) }
+{
+    let step = 1usize << rank;
+    for block in 0..joined.len() >> rank {
+        for i in 0..step {
+            let low = block * (2 * step) + i;
+            joined[block * step + i] = keys[low] + keys[low + step] * base;
+        }
+    }
+}
+
+/// The keys of pairs of keys below `base`. The small ranks, which are frequent, are loops of their own.
 pub fn join_keys(alloc: Global, keys: &[u32], rank: u32, base: u32) -> Result<Vec<u32>, AllocError>
     requires rank { rank < 16 }
     requires len { length keys.now < 2 ^ 32 }
@@ -50,11 +69,12 @@ pub fn join_keys(alloc: Global, keys: &[u32], rank: u32, base: u32) -> Result<Ve
     requires base { base ≤ 256 }
     ensures { IfOk result (λ v. v.items ≡ map (joined_key base) (places.pairs keys.now (2 ^ rank))) }
 {
-    let half = keys.len() / 2;
-    let mut joined = Vec::with_capacity(alloc, half)?;
-    for j in 0..half {
-        let (lower, upper) = pair_at(keys, rank, j);
-        joined.push(lower + upper * base)?;
+    let mut joined = vec![in alloc; 0u32; keys.len() / 2]?;
+    match rank {
+        0 => join_blocks(keys, 0, base, &mut joined),
+        1 => join_blocks(keys, 1, base, &mut joined),
+        2 => join_blocks(keys, 2, base, &mut joined),
+        _ => join_blocks(keys, rank, base, &mut joined),
     }
     Ok(joined)
 }
@@ -161,13 +181,12 @@ impl<'a> Keys<'a> {
             return Ok(classes);
         }
         let rank = rank_of(self.set, x);
-        let numbers = number_pairs(alloc, &self.keys, rank, self.masks.len())?;
-        let masks = join_masks(alloc, &self.keys, rank, x, &self.masks, &numbers)?;
+        let numbered = number_pairs_with_masks(alloc, &self.keys, rank, x, &self.masks)?;
         Ok(Classes {
             problem: self.problem,
             set: self.set | (1 << x),
-            numbers,
-            masks,
+            numbers: numbered.numbers,
+            masks: numbered.masks,
         })
     }
 }

@@ -1,39 +1,62 @@
-//! Numbers of pairs by first occurrence, in the fastest of three ways.
+//! Numbers of pairs by first occurrence, and their masks, in the fastest of three ways.
 
-ghost use Rattle.std.specs.Prelude.{◌≡◌, ℕ, ◌+◌, ◌*◌, ◌/◌, ◌^◌, ◌<◌, ◌≤◌, length, slice_index, IfOk};
+ghost use Rattle.std.specs.Prelude.{◌≡◌, ℕ, ◌+◌, ◌*◌, ◌/◌, ◌^◌, ◌<◌, ◌≤◌, map, get_or, length, slice_index, IfOk};
+ghost use Rattle.std.specs.Set.{distinct_count};
 ghost use Rattle.order_model.specs.Widths.{same_pair};
+ghost use Rattle.compaction.specs.Dependence.{joined_mask};
 ghost use Rattle.compaction.specs.Numbering.{ranks};
 ghost use Rattle.compaction.specs.Places as places;
 
 use crate::chains::number_pairs_by_chains;
 use crate::dense::number_pairs_by_cells;
 use crate::distinct::{are_distinct, number_distinct_pairs};
+use crate::masks::join_masks;
 use std::alloc::{AllocError, Global};
 
-/// The numbers of the pairs: without a look where all classes are distinct, by a cell for each pair of classes where these are few, else by chains.
-pub fn number_pairs(
+/// The number of each pair, and the mask of each number.
+#[derive(Drop)]
+pub struct Numbered {
+    pub numbers: Vec<u32>,
+    pub masks: Vec<u16>,
+}
+
+/// The numbers of the pairs, and the masks of the numbers, from those of the classes: without a look where all classes are
+/// distinct, by a cell for each pair of classes where these are few, else by chains.
+pub fn number_pairs_with_masks(
     alloc: Global,
     numbers: &[u32],
     rank: u32,
-    classes: usize,
-) -> Result<Vec<u32>, AllocError>
+    x: u8,
+    masks: &[u16],
+) -> Result<Numbered, AllocError>
     requires rank { rank < 16 }
+    requires variable { x < 16 }
     requires len { length numbers.now ≤ 2 ^ 20 }
     requires whole { (blocks : ℕ) × (length numbers.now ≡ blocks * (2 * 2 ^ rank)) }
-    requires classes { (i : ℕ) → i < length numbers.now → slice_index numbers.now i < classes }
-    requires few { classes ≤ 2 ^ 20 }
-    ensures { IfOk result (λ v. v.items ≡ ranks same_pair (places.pairs numbers.now (2 ^ rank))) }
+    requires classes { (i : ℕ) → i < length numbers.now → slice_index numbers.now i < length masks.now }
+    requires few { length masks.now ≤ 2 ^ 20 }
+    ensures numbers { IfOk result (λ v. v.numbers.items ≡ ranks same_pair (places.pairs numbers.now (2 ^ rank))) }
+    ensures many { IfOk result (λ v. length v.masks.items ≡ distinct_count same_pair (places.pairs numbers.now (2 ^ rank))) }
+    ensures told { IfOk result (λ v. map (λ c. get_or v.masks.items c 0) v.numbers.items ≡ map (joined_mask masks.now x) (places.pairs numbers.now (2 ^ rank))) }
 {
-    if classes == numbers.len() && are_distinct(numbers) {
-        let numbered = number_distinct_pairs(alloc, numbers, rank)?;
-        return Ok(numbered);
+    let classes = masks.len();
+    if classes == numbers.len() {
+        let distinct = are_distinct(alloc, numbers, classes)?;
+        if distinct {
+            let numbered = number_distinct_pairs(alloc, numbers, rank, x, masks)?;
+            return Ok(numbered);
+        }
     }
     let pairs = classes * classes;
-    let numbered = if pairs <= 8 * numbers.len() {
+    if pairs <= 8 * numbers.len() {
         let mut cells = vec![in alloc; 0u32; pairs]?;
-        number_pairs_by_cells(alloc, numbers, rank, classes, &mut cells)?
-    } else {
-        number_pairs_by_chains(alloc, numbers, rank, classes as u32)?
-    };
-    Ok(numbered)
+        let numbered = number_pairs_by_cells(alloc, numbers, rank, x, masks, &mut cells)?;
+        return Ok(numbered);
+    }
+    let numbered = number_pairs_by_chains(alloc, numbers, rank, classes as u32)?;
+    let joined = join_masks(alloc, numbers, rank, x, masks, &numbered)?;
+    Ok(Numbered {
+        numbers: numbered,
+        masks: joined,
+    })
 }

@@ -12,11 +12,10 @@ ghost use Rattle.compaction.specs.Places as places;
 ghost use Rattle.compaction.specs.Strips.{AreStrips, TellsPairs, masks_in_use, unrolled, low_variables as low_of};
 
 use crate::classes::{rank_of, row_of};
-use crate::distinct::are_distinct;
+use crate::chains::number_pairs_by_chains;
 use crate::columns::{ValueStrips, value_strips};
 use crate::keys::{MOST_JOINED, join_key_masks, join_keys};
-use crate::masks::join_masks;
-use crate::numbering::number_pairs;
+use crate::numbering::{Numbered, number_pairs_with_masks};
 use crate::pairs::pair_at;
 use order_model::{Mask, Problem, VarIx};
 use std::alloc::{AllocError, Global};
@@ -47,13 +46,6 @@ impl<'a> Model for Strips<'a> {
     ghost invariant = { λ c. HoldsTable (classes_of c.problem.now c.set) (low_variables c.problem.now) c.distinct c.outer.items c.numbers.items c.masks.items };
 }
 
-/// Numbers of pairs, and the mask of each number.
-#[derive(Drop)]
-struct Told {
-    numbers: Vec<u32>,
-    masks: Vec<u16>,
-}
-
 /// Strips, the names of the runs, and the mask of each number.
 #[derive(Drop)]
 struct Grown {
@@ -76,7 +68,7 @@ fn tell_pairs(
     rank: u32,
     x: u8,
     masks: &[u16],
-) -> Result<Told, AllocError>
+) -> Result<Numbered, AllocError>
     requires rank { rank < 16 }
     requires variable { x < 16 }
     requires len { length numbers.now ≤ 2 ^ 20 }
@@ -89,17 +81,13 @@ fn tell_pairs(
     if base <= MOST_JOINED {
         let keys = join_keys(alloc, numbers, rank, base as u32)?;
         let joined = join_key_masks(alloc, masks, x)?;
-        return Ok(Told {
+        return Ok(Numbered {
             numbers: keys,
             masks: joined,
         });
     }
-    let numbered = number_pairs(alloc, numbers, rank, base)?;
-    let joined = join_masks(alloc, numbers, rank, x, masks, &numbered)?;
-    Ok(Told {
-        numbers: numbered,
-        masks: joined,
-    })
+    let numbered = number_pairs_with_masks(alloc, numbers, rank, x, masks)?;
+    Ok(numbered)
 }
 
 /// A strip.
@@ -173,7 +161,7 @@ fn add_above(
     ensures below { IfOk result (λ g. (i : ℕ) → i < length g.numbers.items → slice_index g.numbers.items i < length g.masks.items) }
     ensures few { IfOk result (λ g. length g.numbers.items ≤ 2 ^ 20) }
 {
-    let numbered = number_pairs(alloc, outer, rank, numbers.len() >> bits)?;
+    let numbered = number_pairs_by_chains(alloc, outer, rank, (numbers.len() >> bits) as u32)?;
     let paired = pair_strips(alloc, outer, rank, &numbered, numbers, bits)?;
     let told = tell_pairs(alloc, &paired, bits, x, masks)?;
     Ok(Grown {
@@ -223,6 +211,18 @@ fn are_all(masks: &[u16], mask: u16) -> bool
     true
 }
 
+/// Whether the numbers count up from 0, as they do where each is new.
+fn count_up(numbers: &[u32]) -> bool
+    ensures { IsTrue result → (i : ℕ) → i < length numbers.now → slice_index numbers.now i ≡ i }
+{
+    for (i, number) in numbers.iter().enumerate() {
+        if *number as usize != i {
+            return false;
+        }
+    }
+    true
+}
+
 /// Whether all entries are distinct and have the mask of the whole set.
 fn all_distinct(outer: &[u32], numbers: &[u32], masks: &[u16], set: Mask) -> bool
     ensures exact { IsTrue result → length masks.now ≡ length numbers.now }
@@ -230,7 +230,7 @@ fn all_distinct(outer: &[u32], numbers: &[u32], masks: &[u16], set: Mask) -> boo
     ensures numbers { IsTrue result → (i : ℕ) → i < length numbers.now → slice_index numbers.now i ≡ i }
     ensures full { IsTrue result → (i : ℕ) → i < length masks.now → slice_index masks.now i ≡ set }
 {
-    masks.len() == numbers.len() && are_distinct(outer) && are_distinct(numbers) && are_all(masks, set)
+    masks.len() == numbers.len() && count_up(outer) && count_up(numbers) && are_all(masks, set)
 }
 
 /// The same width at each wanted variable, else 0.

@@ -15,5 +15,5 @@ pub returns : goal.returns
 returns c =
     let l = length-pairs c.args.numbers.now (2 ^ c.args.rank) in
     let f = c.requires.len in
-    names_numbered c.args.masks.now c.args.x (places.pairs c.args.numbers.now (2 ^ c.args.rank)) c.in_ok-numbered.numbered.items c.in_ok-joined-2.joined.items (omega arith)
-    c.in_ok-numbered.ensures c.in_ok-joined-2.ensures.many (ap (map _) (sym c.deref.ensures.value) ∙ c.in_ok-joined-2.ensures.told)
+    names_numbered c.args.masks.now c.args.x (places.pairs c.args.numbers.now (2 ^ c.args.rank)) c.in_ok-numbered.numbered.numbers.items c.in_ok-numbered.numbered.masks.items (omega arith)
+    c.in_ok-numbered.ensures.numbers c.in_ok-numbered.ensures.many c.in_ok-numbered.ensures.told

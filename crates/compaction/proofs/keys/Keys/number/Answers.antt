@@ -1,4 +1,4 @@
-use Rattle.std.proofs.Common.{◌≡◌, ◌*◌, ◌^◌, ℕ, map, length, get_or, vec_len, bit_or, sym, ap, subst, ◌∙◌, arith}
+use Rattle.std.proofs.Common.{◌≡◌, ◌*◌, ◌^◌, ℕ, map, length, get_or, bit_or, sym, ap, subst, ◌∙◌, arith}
 use Rattle.std.specs.Set.{distinct_count}
 use Rattle.std.proofs.lemmas.Nat.{one_shl}
 use Rattle.order_model.specs.Widths.{same_pair}
@@ -9,22 +9,22 @@ use Rattle.compaction.specs.Table.{ClassesOf, HoldsClasses, HoldsKeys, classes_o
 use Rattle.compaction.proofs.Keyed.{keys_ready, classes_from_keys}
 use Rattle.compaction.proofs.keys.Keys.number.Goals as goal
 
-pub number_pairs-requires-clause-rank : goal.number_pairs-requires-clause-rank
-number_pairs-requires-clause-rank c =
+pub number_pairs_with_masks-requires-clause-rank : goal.number_pairs_with_masks-requires-clause-rank
+number_pairs_with_masks-requires-clause-rank c =
     let h = subst (λ (z : ClassesOf). HoldsKeys z c.self.inside.keys.items c.self.inside.masks.items) c.self.view_is (c.self.invariant (let z = c.if-self-eq0.false in omega arith)) in
     let e = c.rank_of-rank.ensures ∙ ap (λ (z : ClassesOf). free_below z.set c.args.x) c.self.view_is in
     let r = keys_ready c.args.self.now c.args.x c.requires.inside c.requires.new c.self.inside.keys.items c.self.inside.masks.items c.rank_of-rank.result h e in
     r.rank
 
-pub number_pairs-requires-clause-whole : goal.number_pairs-requires-clause-whole
-number_pairs-requires-clause-whole c =
+pub number_pairs_with_masks-requires-clause-whole : goal.number_pairs_with_masks-requires-clause-whole
+number_pairs_with_masks-requires-clause-whole c =
     let h = subst (λ (z : ClassesOf). HoldsKeys z c.self.inside.keys.items c.self.inside.masks.items) c.self.view_is (c.self.invariant (let z = c.if-self-eq0.false in omega arith)) in
     let e = c.rank_of-rank.ensures ∙ ap (λ (z : ClassesOf). free_below z.set c.args.x) c.self.view_is in
     let r = keys_ready c.args.self.now c.args.x c.requires.inside c.requires.new c.self.inside.keys.items c.self.inside.masks.items c.rank_of-rank.result h e in
     (r.whole.0, ap length c.deref.ensures.value ∙ r.whole.1)
 
-pub number_pairs-requires-clause-classes : goal.number_pairs-requires-clause-classes
-number_pairs-requires-clause-classes c =
+pub number_pairs_with_masks-requires-clause-classes : goal.number_pairs_with_masks-requires-clause-classes
+number_pairs_with_masks-requires-clause-classes c =
     let h = subst (λ (z : ClassesOf). HoldsKeys z c.self.inside.keys.items c.self.inside.masks.items) c.self.view_is (c.self.invariant (let z = c.if-self-eq0.false in omega arith)) in
     let e = c.rank_of-rank.ensures ∙ ap (λ (z : ClassesOf). free_below z.set c.args.x) c.self.view_is in
     let r = keys_ready c.args.self.now c.args.x c.requires.inside c.requires.new c.self.inside.keys.items c.self.inside.masks.items c.rank_of-rank.result h e in
@@ -33,43 +33,16 @@ number_pairs-requires-clause-classes c =
     let l = ap length v in
     let k = r.classes i (omega arith) in
     let s = ap (λ us. get_or us i 0) v in
-    let n : vec_len c.self.inside.masks ≡ length c.self.inside.masks.items = omega arith in
+    let m = ap length c.deref-2.ensures.value in
     omega arith
 
-pub number_pairs-requires-clause-few : goal.number_pairs-requires-clause-few
-number_pairs-requires-clause-few c =
+pub number_pairs_with_masks-requires-clause-few : goal.number_pairs_with_masks-requires-clause-few
+number_pairs_with_masks-requires-clause-few c =
     let h = subst (λ (z : ClassesOf). HoldsKeys z c.self.inside.keys.items c.self.inside.masks.items) c.self.view_is (c.self.invariant (let z = c.if-self-eq0.false in omega arith)) in
     let e = c.rank_of-rank.ensures ∙ ap (λ (z : ClassesOf). free_below z.set c.args.x) c.self.view_is in
     let r = keys_ready c.args.self.now c.args.x c.requires.inside c.requires.new c.self.inside.keys.items c.self.inside.masks.items c.rank_of-rank.result h e in
-    let n : vec_len c.self.inside.masks ≡ length c.self.inside.masks.items = omega arith in
+    let m = ap length c.deref-2.ensures.value in
     let k = r.few in
-    omega arith
-
-pub join_masks-requires-clause-rank : goal.join_masks-requires-clause-rank
-join_masks-requires-clause-rank c =
-    let h = subst (λ (z : ClassesOf). HoldsKeys z c.self.inside.keys.items c.self.inside.masks.items) c.self.view_is (c.self.invariant (let z = c.if-self-eq0.false in omega arith)) in
-    let e = c.rank_of-rank.ensures ∙ ap (λ (z : ClassesOf). free_below z.set c.args.x) c.self.view_is in
-    let r = keys_ready c.args.self.now c.args.x c.requires.inside c.requires.new c.self.inside.keys.items c.self.inside.masks.items c.rank_of-rank.result h e in
-    r.rank
-
-pub join_masks-requires-clause-whole : goal.join_masks-requires-clause-whole
-join_masks-requires-clause-whole c =
-    let h = subst (λ (z : ClassesOf). HoldsKeys z c.self.inside.keys.items c.self.inside.masks.items) c.self.view_is (c.self.invariant (let z = c.if-self-eq0.false in omega arith)) in
-    let e = c.rank_of-rank.ensures ∙ ap (λ (z : ClassesOf). free_below z.set c.args.x) c.self.view_is in
-    let r = keys_ready c.args.self.now c.args.x c.requires.inside c.requires.new c.self.inside.keys.items c.self.inside.masks.items c.rank_of-rank.result h e in
-    (r.whole.0, ap length c.deref-2.ensures.value ∙ r.whole.1)
-
-pub join_masks-requires-clause-classes : goal.join_masks-requires-clause-classes
-join_masks-requires-clause-classes c =
-    let h = subst (λ (z : ClassesOf). HoldsKeys z c.self.inside.keys.items c.self.inside.masks.items) c.self.view_is (c.self.invariant (let z = c.if-self-eq0.false in omega arith)) in
-    let e = c.rank_of-rank.ensures ∙ ap (λ (z : ClassesOf). free_below z.set c.args.x) c.self.view_is in
-    let r = keys_ready c.args.self.now c.args.x c.requires.inside c.requires.new c.self.inside.keys.items c.self.inside.masks.items c.rank_of-rank.result h e in
-    λ i lt.
-    let v = c.deref-2.ensures.value in
-    let l = ap length v in
-    let k = r.classes i (omega arith) in
-    let s = ap (λ us. get_or us i 0) v in
-    let m = ap length c.deref-3.ensures.value in
     omega arith
 
 pub invariant_of-result : goal.invariant_of-result
@@ -80,11 +53,11 @@ invariant_of-result c =
     let n = c.requires.inside in
     let m = h.few_inputs in
     let s = one_shl c.args.x 16 (omega arith) in
-    let d = c.in_ok-numbers.ensures ∙ (λ i. ranks same_pair (places.pairs (c.deref.ensures.value i) (2 ^ e i))) in
-    let many = c.in_ok-masks.ensures.many ∙ (λ i. distinct_count same_pair (places.pairs (c.deref-2.ensures.value i) (2 ^ e i))) in
-    let told = ap (map (λ k. get_or c.in_ok-masks.masks.items k 0)) (sym c.deref-4.ensures.value) ∙ c.in_ok-masks.ensures.told
-    ∙ (λ i. map (joined_mask (c.deref-3.ensures.value i) c.args.x) (places.pairs (c.deref-2.ensures.value i) (2 ^ e i))) in
+    let v = c.deref.ensures.value in
+    let d = c.in_ok-numbered.ensures.numbers ∙ (λ i. ranks same_pair (places.pairs (v i) (2 ^ e i))) in
+    let many = c.in_ok-numbered.ensures.many ∙ (λ i. distinct_count same_pair (places.pairs (v i) (2 ^ e i))) in
+    let told = c.in_ok-numbered.ensures.told ∙ (λ i. map (joined_mask (c.deref-2.ensures.value i) c.args.x) (places.pairs (v i) (2 ^ e i))) in
     let whole : (blocks : ℕ) × (length c.self.inside.keys.items ≡ blocks * (2 * 2 ^ free_below c.args.self.now.set c.args.x)) = (r.whole.0, r.whole.1 ∙ ap (λ q. r.whole.0 * (2 * 2 ^ q)) e) in
-    let k = classes_from_keys c.args.self.now c.args.x c.requires.inside c.requires.new c.self.inside.keys.items c.self.inside.masks.items h whole c.in_ok-numbers.numbers.items c.in_ok-masks.masks.items d many told in
-    subst (λ (z : ClassesOf). HoldsClasses z c.in_ok-numbers.numbers.items c.in_ok-masks.masks.items)
+    let k = classes_from_keys c.args.self.now c.args.x c.requires.inside c.requires.new c.self.inside.keys.items c.self.inside.masks.items h whole c.in_ok-numbered.numbered.numbers.items c.in_ok-numbered.numbered.masks.items d many told in
+    subst (λ (z : ClassesOf). HoldsClasses z c.in_ok-numbered.numbered.numbers.items c.in_ok-numbered.numbered.masks.items)
     (λ i. classes_of (sym c.self.view_is i).problem (bit_or (sym c.self.view_is i).set (sym s i))) k

@@ -1,0 +1,74 @@
+-- Numbers and masks of pairs, made together: at the first pair of each kind a mask is added.
+use Rattle.std.proofs.Common.{◌≡◌, ℕ, ◌+◌, ◌<◌, ◌≤◌, List, [], ◌∷◌, ◌++◌, map, length, get_or, set, take, refl, sym, ap, ◌∙◌, subst, arith}
+use Rattle.std.specs.Set.{distinct_count}
+use Rattle.std.proofs.lemmas.List.{take_more_set, length-set, length-append, take_all, get_or-take}
+use Rattle.order_model.specs.Widths.{same_pair}
+use Rattle.order_model.proofs.ClassPairs.{pair_decides}
+use Rattle.order_model.proofs.Sets.{Among}
+use Rattle.compaction.specs.Chains.{IsFirst}
+use Rattle.compaction.specs.Numbering.{rank, ranks}
+use Rattle.compaction.proofs.Ranks.{rank_absent, rank_below}
+use Rattle.compaction.proofs.Chained.{Progress, progress_none, progress_new, progress_old, progress_all, among_take, take_among}
+use Rattle.compaction.proofs.Joined.{Joined, joined_none, joined_new, joined_old, joined_many, joined_told, rank_is}
+
+module _ (ps : List (ℕ × ℕ)) (join : ℕ × ℕ → ℕ) where
+  -- the masks with one more pair, which is the first of its kind
+  pub joined_first : (masks : List ℕ) (j mask : ℕ) → j < length ps → IsFirst (λ i. get_or ps i (0, 0)) j j → mask ≡ join (get_or ps j (0, 0)) → Joined ps join masks j → Joined ps join (masks ++ mask ∷ []) (j + 1)
+  joined_first masks j mask l f m h =
+      joined_new ps join masks j (rank same_pair ps (get_or ps j (0, 0))) mask l h refl
+      (rank_is ps join j l ∙ rank_absent same_pair pair_decides (take j ps) (get_or ps j (0, 0)) (λ a. let s = among_take ps ps j (get_or ps j (0, 0)) a in f.none s.0 s.1 s.3) ∙ sym h.many) m
+
+  -- with one that has come before
+  pub joined_again : (masks : List ℕ) (j first : ℕ) → j < length ps → IsFirst (λ i. get_or ps i (0, 0)) j first → first < j → Joined ps join masks j → Joined ps join masks (j + 1)
+  joined_again masks j first l f lt h =
+      let there : Among (get_or ps j (0, 0)) (take j ps) = subst (λ t. Among t (take j ps)) f.same (take_among ps ps j first lt (omega arith)) in
+      joined_old ps join masks j (rank same_pair ps (get_or ps j (0, 0))) l h refl
+      (λ e. let r = rank_is ps join j l in let b = rank_below same_pair pair_decides (take j ps) (get_or ps j (0, 0)) there in let m = h.many in omega arith)
+
+  -- the first j numbers are written, and the masks are those of as many pairs
+  pub record Made (out masks : List ℕ) (j : ℕ) : Type 0 where
+    pub long : length out ≡ length ps
+    pub few : length masks ≤ j
+    pub within : j ≤ length ps
+    pub progress : Progress ps (take j out) (length masks) j
+    pub joined : Joined ps join masks j
+
+  pub made_none : (out : List ℕ) → length out ≡ length ps → Made out [] 0
+  made_none out l = record { long = l; few = omega arith; within = omega arith; progress = progress_none ps; joined = joined_none ps join }
+
+  pub made_first : (out masks : List ℕ) (j mask : ℕ) → j < length ps → IsFirst (λ i. get_or ps i (0, 0)) j j → mask ≡ join (get_or ps j (0, 0)) → Made out masks j → Made (set out j (length masks)) (masks ++ mask ∷ []) (j + 1)
+  made_first out masks j mask l f m h =
+      let o = h.long in
+      let w = h.few in
+      let e = length-append masks (mask ∷ []) in
+      let more : length (masks ++ mask ∷ []) ≡ length masks + 1 = omega arith in
+      record {
+        long = length-set out j (length masks) ∙ o;
+        few = omega arith;
+        within = omega arith;
+        progress = subst (λ us. Progress ps us (length (masks ++ mask ∷ [])) (j + 1)) (sym (take_more_set out j (length masks) (omega arith)))
+            (subst (λ k. Progress ps (take j out ++ length masks ∷ []) k (j + 1)) (sym more) (progress_new ps (take j out) (length masks) j l h.progress f));
+        joined = joined_first masks j mask l f m h.joined;
+      }
+
+  pub made_again : (out masks : List ℕ) (j first : ℕ) → j < length ps → IsFirst (λ i. get_or ps i (0, 0)) j first → first < j → Made out masks j → Made (set out j (get_or out first 0)) masks (j + 1)
+  made_again out masks j first l f lt h =
+      let o = h.long in
+      let w = h.few in
+      record {
+        long = length-set out j (get_or out first 0) ∙ o;
+        few = omega arith;
+        within = omega arith;
+        progress = subst (λ us. Progress ps us (length masks) (j + 1)) (sym (take_more_set out j (get_or out first 0) (omega arith)))
+            (subst (λ k. Progress ps (take j out ++ k ∷ []) (length masks) (j + 1)) (get_or-take j out first 0 lt) (progress_old ps (take j out) (length masks) j first l h.progress lt f));
+        joined = joined_again masks j first l f lt h.joined;
+      }
+
+  pub made_numbers : (out masks : List ℕ) (j : ℕ) → length ps ≤ j → Made out masks j → out ≡ ranks same_pair ps
+  made_numbers out masks j l h = sym (take_all j out (let o = h.long in omega arith)) ∙ progress_all ps (take j out) (length masks) j l h.progress
+
+  pub made_many : (out masks : List ℕ) (j : ℕ) → length ps ≤ j → Made out masks j → length masks ≡ distinct_count same_pair ps
+  made_many out masks j l h = joined_many ps join masks j l h.joined
+
+  pub made_told : (out masks : List ℕ) (j : ℕ) → length ps ≤ j → Made out masks j → map (λ c. get_or masks c 0) out ≡ map join ps
+  made_told out masks j l h = ap (map (λ c. get_or masks c 0)) (made_numbers out masks j l h) ∙ joined_told ps join masks j l h.joined
