@@ -1,6 +1,8 @@
 -- What an error of clap means for the program, and why words give no plan.
 --     status_of usage      the exit status
 --     usage_kind error      help that was asked for, want of memory, or refused words
+--     AsksForHelp words      clap answers the words with help
+--     AreFaulty words      clap finds a fault in the words, or they give no file or no number of workers
 --     Explains words usage      why words give no plan
 use Rattle.std.specs.Prelude.{◌≢◌, ◌⊎◌, ℕ, List, [], codes}
 use Rattle.clap.specs.Words.{IsAmong, Text, kind_of}
@@ -31,8 +33,16 @@ abbrev pub IsNoHelp : Usage → Type 0
 IsNoHelp (Help error) = ⊥
 IsNoHelp _ = Unit {0}
 
--- why words give no plan: help comes where clap answers them with help, a refusal where clap finds a fault or they give no file or no number of workers
+-- clap answers the words with help
+abbrev pub AsksForHelp : List Text → Type 0
+AsksForHelp words = IsAmong kinds.DisplayHelp (faults_of words)
+
+-- clap finds a fault in the words, or they give no file or no number of workers
+abbrev pub AreFaulty : List Text → Type 0
+AreFaulty words = (faults_of words ≢ []) ⊎ LacksValues (value_of words (codes "FILE")) (read_of words (codes "workers"))
+
+-- why words give no plan
 abbrev pub Explains : List Text → Usage → Type 0
-Explains words (Help error) = IsAmong kinds.DisplayHelp (faults_of words)
-Explains words (Refused error) = (faults_of words ≢ []) ⊎ LacksValues (value_of words (codes "FILE")) (read_of words (codes "workers"))
+Explains words (Help error) = AsksForHelp words
+Explains words (Refused error) = AreFaulty words
 Explains words OutOfMemory = Unit {0}
