@@ -2,10 +2,12 @@
 --     minorder      [--workers W] [--cert OUT] [--count] [--above LIST] FILE
 --     value_of words id, read_of words id      the value of an argument, as it was written and as it is read
 --     IsFlag, IsNumber      what a read value means
-use Rattle.std.specs.Prelude.{◌≡◌, ℕ, Bool, List, [], ◌∷◌, map, Option, Some, None, codes, true, false, pos}
+--     LacksValues file number      there is no file, or no number of workers
+--     faults_of words      the kinds of error that clap may give at the words, none where it takes them
+use Rattle.std.specs.Prelude.{◌≡◌, ◌⊎◌, ◌≤◌, ℕ, Bool, List, [], ◌∷◌, map, Option, Some, None, codes, true, false, pos}
 use Rattle.std.specs.Borrow.{Bor}
 use Rattle.std.specs.Str.Parse.{IsNumeral, digits_value, without_leading_plus}
-use Rattle.clap.specs.Words.{App, Rule, Text, first_of, one_of, matches_of, new_app, new_rule, with_rule}
+use Rattle.clap.specs.Words.{App, Kinds, Rule, Text, fault_of, first_of, one_of, matches_of, new_app, new_rule, with_rule}
 use Rattle.clap.specs.declared.builder.action.ArgAction.TheVariants.{SetTrue}
 use Rattle.clap.specs.declared.builder.value_parser.ValueParser.TheVariants as parser
 
@@ -52,3 +54,11 @@ IsFlag value flag = (value ≡ None → flag ≡ false) × (value ≡ Some (code
 -- the decimal number that a value spells; a plus may stand first
 abbrev pub IsNumber : Option Text → ℕ → Type 0
 IsNumber value n = (text : Text) × (value ≡ Some text) × IsNumeral 10 (without_leading_plus text) × (digits_value 10 (without_leading_plus text) ≡ n)
+
+-- no file is given, or no number from 1 to 64
+abbrev pub LacksValues : Option Text → Option Text → Type 0
+LacksValues file number = (file ≡ None) ⊎ ((n : ℕ) → IsNumber number n → 1 ≤ n → n ≤ 64 → ⊥)
+
+-- the kinds of error that clap may give at the words, none where it takes them
+unfoldable pub faults_of : List Text → Kinds
+faults_of words = fault_of minorder words

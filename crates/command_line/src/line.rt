@@ -1,8 +1,9 @@
 //! What the words behind the program's name ask for.
 
-ghost use Rattle.std.specs.Prelude.{◌≡◌, IfOk, IfSome, Some, codes, false, option_map};
+ghost use Rattle.std.specs.Prelude.{◌≡◌, IfErr, IfOk, IfSome, IsNone, Some, [], codes, false, option_map};
 ghost use Rattle.clap.specs.Words.{app_of, first_value, found_of, one_text, rule_of};
-ghost use Rattle.command_line.specs.Lines.{IsFlag, IsNumber, count_rule, file_rule, minorder, option as option_rule, read_of, texts, value_of, with_options as options_of, workers_rule};
+ghost use Rattle.command_line.specs.Lines.{IsFlag, IsNumber, LacksValues, count_rule, faults_of, file_rule, minorder, option as option_rule, read_of, texts, value_of, with_options as options_of, workers_rule};
+ghost use Rattle.command_line.specs.Usages.{Explains, IsNoHelp};
 
 use crate::usage::{Usage, usage_of};
 use clap::error::ErrorKind;
@@ -118,6 +119,7 @@ fn line_of<'a>(matches: &ArgMatches<'a>) -> Option<Line<'a>>
     ensures above { IfSome result (λ line. first_value (found_of matches.now) (codes "above") ≡ option_map (λ s. s.now) line.plan.above) }
     ensures count { IfSome result (λ line. IsFlag (one_text (found_of matches.now) (codes "count")) line.plan.count) }
     ensures workers { IfSome result (λ line. IsNumber (one_text (found_of matches.now) (codes "workers")) line.plan.workers) }
+    ensures lacks { IsNone result → LacksValues (first_value (found_of matches.now) (codes "FILE")) (one_text (found_of matches.now) (codes "workers")) }
 {
     let count = matches.get_one::<u8>("workers")?;
     let workers = Workers::new(count)?;
@@ -135,7 +137,9 @@ fn line_of<'a>(matches: &ArgMatches<'a>) -> Option<Line<'a>>
 }
 
 /// A command line that holds no file or no number of workers.
-fn lacking<'a>(mut command: Command<'a>) -> Usage {
+fn lacking<'a>(mut command: Command<'a>) -> Usage
+    ensures { IsNoHelp result }
+{
     match command.error(
         ErrorKind::MissingRequiredArgument,
         "no file, or no number of workers",
@@ -155,6 +159,8 @@ impl<'a> Line<'a> {
         ensures above { IfOk result (λ line. value_of (texts words.now) (codes "above") ≡ option_map (λ s. s.now) line.plan.above) }
         ensures count { IfOk result (λ line. IsFlag (read_of (texts words.now) (codes "count")) line.plan.count) }
         ensures workers { IfOk result (λ line. IsNumber (read_of (texts words.now) (codes "workers")) line.plan.workers) }
+        ensures taken { IfOk result (λ _. faults_of (texts words.now) ≡ []) }
+        ensures refused { IfErr result (Explains (texts words.now)) }
     {
         let mut command = match command(alloc) {
             Ok(command) => command,

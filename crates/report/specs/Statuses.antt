@@ -1,5 +1,9 @@
 -- Exit statuses, and how a refused file ends a run.
-use Rattle.std.specs.Prelude.{ℕ}
+use Rattle.std.specs.Prelude.{ℕ, List, [], ◌∷◌}
+use Rattle.command_line.specs.declared.usage.Usage.{Usage}
+use Rattle.command_line.specs.declared.usage.Usage.TheVariants as usage
+use Rattle.dd_builder.specs.declared.errors.BuildError.{BuildError}
+use Rattle.dd_builder.specs.declared.errors.BuildError.TheVariants as build
 use Rattle.pla_reader.specs.declared.errors.PlaError.{PlaError}
 use Rattle.pla_reader.specs.declared.errors.PlaError.TheVariants as pla
 use Rattle.report.specs.declared.outcome.Outcome.{Outcome}
@@ -30,3 +34,26 @@ refusal_of pla.OutOfMemory = OutOfMemory
 abbrev pub fault_of_shortage : Shortage → Fault
 fault_of_shortage shortage.StoreFull = StoreFull
 fault_of_shortage shortage.OutOfMemory = OutOfMemory
+
+-- an allocation was refused
+abbrev pub want_of_memory : Shortage
+want_of_memory = shortage.OutOfMemory
+
+-- what was wanting where no diagram was built
+abbrev pub shortage_of : BuildError → Shortage
+shortage_of (build.StoreFull session) = shortage.StoreFull
+shortage_of build.OutOfMemory = shortage.OutOfMemory
+
+-- help was asked for
+abbrev pub IsHelp : Usage → Type 0
+IsHelp (usage.Help error) = Unit {0}
+IsHelp _ = ⊥
+
+-- words are refused
+abbrev pub IsRefusal : Usage → Type 0
+IsRefusal (usage.Refused error) = Unit {0}
+IsRefusal _ = ⊥
+
+-- the exit statuses
+abbrev pub exits : List ℕ
+exits = 0 ∷ 2 ∷ 3 ∷ 4 ∷ 5 ∷ 6 ∷ 8 ∷ []

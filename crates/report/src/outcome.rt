@@ -1,7 +1,7 @@
 //! How a run ends.
 
 ghost use Rattle.std.specs.Prelude.{◌≡◌, IfSome, IfNone};
-ghost use Rattle.report.specs.Statuses.{fault_of_shortage, status_of, refusal_of};
+ghost use Rattle.report.specs.Statuses.{fault_of_shortage, shortage_of, status_of, refusal_of, want_of_memory};
 
 use dd_builder::BuildError;
 use order_model::PairsFault;
@@ -89,12 +89,16 @@ pub(crate) enum Shortage {
 }
 
 impl From<AllocError> for Shortage {
+    ghost from_gives = { λ _ shortage. shortage ≡ want_of_memory };
+
     fn from(_: AllocError) -> Shortage {
         Shortage::OutOfMemory
     }
 }
 
 impl From<BuildError> for Shortage {
+    ghost from_gives = { λ error shortage. shortage ≡ shortage_of error };
+
     fn from(error: BuildError) -> Shortage {
         match error {
             BuildError::StoreFull(_) => Shortage::StoreFull,

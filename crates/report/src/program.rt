@@ -1,6 +1,11 @@
 //! The program minorder: words, files and messages.
 
-ghost use Rattle.std.specs.Prelude.{◌≡◌, ◌<◌, ◌^◌};
+ghost use Rattle.std.specs.Prelude.{◌≡◌, ◌≢◌, ◌⊎◌, ◌<◌, ◌^◌, IsTrue};
+ghost use Rattle.order_model.specs.Orders.{has};
+ghost use Rattle.command_line.specs.Lines.{texts};
+ghost use Rattle.command_line.specs.Usages.{AreFaulty};
+ghost use Rattle.report.specs.Runs.{Answers, AskForCertificate, EndsWell, WritesNothing};
+ghost use Rattle.report.specs.Statuses.{IsHelp, IsRefusal, exits};
 
 use crate::outcome::{Fault, Outcome};
 use crate::runs::run;
@@ -14,6 +19,9 @@ use std::thread::Threads;
 /// The status of a command line that is refused.
 const USAGE_STATUS: u8 = 2;
 
+/// The status of want of memory.
+const MEMORY_STATUS: u8 = 4;
+
 /// Writes why a run was refused. A failure of the writer has no effect.
 fn write_fault<E: CountedWrite>(alloc: Global, err: &mut E, fault: Fault)
     requires { E.failures err.old < 2 ^ 32 }
@@ -24,25 +32,34 @@ fn write_fault<E: CountedWrite>(alloc: Global, err: &mut E, fault: Fault)
     };
 }
 
-/// Writes help to `out`, and why words are refused to `err`. A failure of the writers has no effect.
+/// Writes help to `out`, or why words are refused to `err`. A failure of the writers has no effect. The answer is the exit status.
 fn write_usage<W: CountedWrite, E: CountedWrite>(
     alloc: Global,
     usage: &Usage,
     out: &mut W,
     err: &mut E,
-)
+) -> u8
     requires out { W.failures out.old < 2 ^ 32 }
     requires err { E.failures err.old < 2 ^ 32 }
+    ensures status { IsTrue (has exits result) }
+    ensures help { result ≡ 0 → IsHelp usage.now }
+    ensures refused { result ≡ 2 → IsRefusal usage.now }
+    ensures quiet { result ≡ 0 → E.contents err.new ≡ E.contents err.old }
+    ensures silent { result ≢ 0 → W.contents out.new ≡ W.contents out.old }
 {
     let text = match usage {
         Usage::Help(error) | Usage::Refused(error) => format!(in alloc; "{error}"),
         Usage::OutOfMemory => format!(in alloc; "minorder: OutOfMemory\n"),
     };
-    let _ = match (usage, text) {
-        (Usage::Help(_), Ok(text)) => write_whole(out, text.as_bytes()),
-        (_, Ok(text)) => write_whole(err, text.as_bytes()),
-        (_, Err(_)) => write_whole(err, b"minorder: OutOfMemory\n"),
+    let Ok(text) = text else {
+        let _ = write_whole(err, b"minorder: OutOfMemory\n");
+        return MEMORY_STATUS;
     };
+    let _ = match usage {
+        Usage::Help(_) => write_whole(out, text.as_bytes()),
+        Usage::Refused(_) | Usage::OutOfMemory => write_whole(err, text.as_bytes()),
+    };
+    usage.status()
 }
 
 /// Opens the file and does what the plan asks.
@@ -52,6 +69,8 @@ fn run_on_file<'a, R: Files + AllocGlobal + Threads + Sync, W: CountedWrite>(
     out: &mut W,
 ) -> Outcome
     requires { W.failures out.old < 2 ^ 32 }
+    ensures answers { Answers line.now.plan (W.contents out.old) (W.contents out.new) result }
+    ensures silent { WritesNothing (W.contents out.old) (W.contents out.new) result }
 {
     match fs::open(rt, line.file) {
         Ok(file) => {
@@ -75,13 +94,15 @@ pub fn minorder<'a, R: Files + AllocGlobal + Threads + Sync, W: CountedWrite, E:
 ) -> u8
     requires out { W.failures out.old < 2 ^ 32 }
     requires err { E.failures err.old < 2 ^ 32 }
+    ensures status { IsTrue (has exits result) }
+    ensures refused { result ≡ 2 → AreFaulty (texts words.now) ⊎ AskForCertificate (texts words.now) }
+    ensures answered { result ≡ 0 → EndsWell (texts words.now) (W.contents out.old) (W.contents out.new) }
+    ensures quiet { result ≡ 0 → E.contents err.new ≡ E.contents err.old }
+    ensures silent { result ≢ 0 → result ≢ 5 → W.contents out.new ≡ W.contents out.old }
 {
     let line = match Line::of_words(rt.alloc(), words) {
         Ok(line) => line,
-        Err(usage) => {
-            write_usage(rt.alloc(), &usage, out, err);
-            return usage.status();
-        }
+        Err(usage) => return write_usage(rt.alloc(), &usage, out, err),
     };
     if line.cert.is_some() && !line.plan.count {
         let _ = write_whole(err, b"minorder: certificates can't be written yet\n");

@@ -3,7 +3,7 @@
 ghost use Rattle.std.specs.Prelude.{◌≡◌, ◌<◌, ◌≤◌, ◌^◌, IsTrue, IfOk, IfErr, IfSome, length, string_bytes};
 ghost use Rattle.report.specs.Answers.{Hinders, IsTextOf};
 ghost use Rattle.report.specs.Texts.{count_text as text_of, file_order_levels};
-ghost use Rattle.report.specs.Runs.{FailsOnlyByDevice, Writes, WritesNothing};
+ghost use Rattle.report.specs.Runs.{Answers, FailsOnlyByDevice, Writes, WritesNothing};
 
 use crate::answers::{answer_text, pairs_of};
 use crate::outcome::{Fault, Outcome, fault_of};
@@ -82,6 +82,7 @@ pub fn run<'a, R: Threads + Sync, F: CountedRead, W: CountedWrite, C: CountedWri
     requires file { F.failures file.old < 2 ^ 32 }
     requires out { W.failures out.old < 2 ^ 32 }
     ensures writes { IfSome (F.remaining file.old) (λ bytes. Writes plan.now bytes (W.contents out.old) (W.contents out.new) result) }
+    ensures answers { Answers plan.now (W.contents out.old) (W.contents out.new) result }
     ensures devices { FailsOnlyByDevice (F.failures file.old) (W.failures out.old) (F.failures file.new) (W.failures out.new) result }
     ensures silent { WritesNothing (W.contents out.old) (W.contents out.new) result }
     ensures certificate { cert.new ≡ cert.old }
