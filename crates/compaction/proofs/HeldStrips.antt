@@ -20,7 +20,7 @@ use Rattle.compaction.proofs.Keyed.{keys_ready, free_zero, value_keys}
 use Rattle.compaction.proofs.Named.{keys_by_names, names_below, length_names}
 use Rattle.compaction.proofs.Stripped.{parts_of, below_product, low_strips, low_tells}
 use Rattle.compaction.proofs.Index.{length-pairs}
-use Rattle.compaction.proofs.Unrolled.{length_unrolled, unrolled_at}
+use Rattle.compaction.proofs.Unrolled.{named_of, length_unrolled, unrolled_at}
 
 -- one step of the count
 step_of_bit : (set y : ℕ) → free_below set (suc y) ≡ free_below set y + cond (not (eqb (bit_at set y) 1)) 1 0
@@ -149,7 +149,7 @@ module _ (t : ClassesOf) (x : ℕ) (inside : x < t.problem.inputs) (new : has (s
             keys = subst (λ k. HoldsKeys (with_variable t x) (unrolled outer numbers' k) masks') (sym less)
                 (keys_by_names t x inside new (unrolled outer numbers (2 ^ free_below t.set low)) masks h.keys whole_keys (unrolled outer numbers' (2 ^ rest * 2 ^ free_below t.set x)) masks'
                 (subst (λ k. TellsPairs masks x (pairs (unrolled outer numbers k) (2 ^ free_below t.set x)) (unrolled outer numbers' (2 ^ rest * 2 ^ free_below t.set x)) masks') (sym parts)
-                (low_tells outer numbers (2 ^ rest) (2 ^ free_below t.set x) strips (pow_pos rest) (pow_pos (free_below t.set x)) masks x numbers' masks' names)));
+                (low_tells outer numbers (2 ^ rest) (2 ^ free_below t.set x) (named_of outer numbers (2 ^ rest * (2 * 2 ^ free_below t.set x)) strips) (pow_pos rest) (pow_pos (free_below t.set x)) masks x numbers' masks' names)));
             below = names_below masks x (pairs numbers (2 ^ free_below t.set x)) numbers' masks' names;
             few_numbers = (let l = length_names masks x (pairs numbers (2 ^ free_below t.set x)) numbers' masks' names in let m = length-pairs numbers (2 ^ free_below t.set x) in let f = h.few_numbers in omega arith);
           }

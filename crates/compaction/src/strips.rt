@@ -13,7 +13,7 @@ ghost use Rattle.compaction.specs.Strips.{AreStrips, TellsPairs, masks_in_use, u
 
 use crate::classes::{rank_of, row_of};
 use crate::chains::number_pairs_by_chains;
-use crate::columns::{ValueStrips, value_strips};
+use crate::columns::{ValueStrips, whole_strips};
 use crate::keys::{MOST_JOINED, join_key_masks, join_keys};
 use crate::numbering::{Numbered, number_pairs_with_masks};
 use crate::pairs::pair_at;
@@ -297,7 +297,7 @@ impl<'a> Strips<'a> {
     {
         prove!(problem.inputs() <= 16);
         prove!(problem.outputs() <= 16);
-        let ValueStrips { outer, numbers } = value_strips(alloc, problem, low_variables(problem))?;
+        let ValueStrips { outer, numbers } = whole_strips(alloc, problem, low_variables(problem))?;
         let mut masks = Vec::with_capacity(alloc, 2)?;
         masks.push(0)?;
         masks.push(0)?;
