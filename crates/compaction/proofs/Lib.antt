@@ -29,3 +29,4 @@ pub mod KeptRuns
 pub mod AllDistinct
 pub mod BlockPlaces
 pub mod Firsts
+pub mod HeldBytes

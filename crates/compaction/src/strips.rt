@@ -62,7 +62,7 @@ pub fn low_variables(problem: &Problem) -> u8
 }
 
 /// Tells the pairs apart: by joined keys where there are few, else by numbers.
-fn tell_pairs(
+pub fn tell_pairs(
     alloc: Global,
     numbers: &[u32],
     rank: u32,
@@ -92,7 +92,7 @@ fn tell_pairs(
 
 /// A strip.
 #[inline(always)]
-fn strip_at(numbers: &[u32], strip: usize, k: u32) -> &[u32]
+pub fn strip_at(numbers: &[u32], strip: usize, k: u32) -> &[u32]
     requires few { length numbers.now ≤ 2 ^ 20 }
     requires inside { k * strip + strip ≤ length numbers.now }
     ensures long { length result.now ≡ strip }
@@ -252,7 +252,7 @@ impl<'a> Strips<'a> {
     ghost use Rattle.compaction.specs.Table.{set_of, with_variable, classes_of};
 
     /// A table of strips, or the count alone where all subfunctions are distinct and depend on the whole set.
-    fn of_parts(
+    pub fn of_parts(
         alloc: Global,
         problem: &'a Problem,
         set: Mask,
@@ -302,6 +302,13 @@ impl<'a> Strips<'a> {
         masks.push(0)?;
         masks.push(0)?;
         Ok(Strips::of_parts(alloc, problem, 0, outer, numbers, masks))
+    }
+
+    /// How many variables are low.
+    pub fn low_variables(&self) -> u8
+        ensures { result ≡ low_variables self.now.problem }
+    {
+        low_variables(self.problem)
     }
 
     /// The set, as a mask.
