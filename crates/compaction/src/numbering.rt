@@ -10,7 +10,6 @@ ghost use Rattle.compaction.specs.Places as places;
 use crate::chains::number_pairs_by_chains;
 use crate::dense::number_pairs_by_cells;
 use crate::distinct::{are_distinct, number_distinct_pairs};
-use crate::masks::join_masks;
 use std::alloc::{AllocError, Global};
 
 /// The number of each pair, and the mask of each number.
@@ -53,10 +52,5 @@ pub fn number_pairs_with_masks(
         let numbered = number_pairs_by_cells(alloc, numbers, rank, x, masks, &mut cells)?;
         return Ok(numbered);
     }
-    let numbered = number_pairs_by_chains(alloc, numbers, rank, classes as u32)?;
-    let joined = join_masks(alloc, numbers, rank, x, masks, &numbered)?;
-    Ok(Numbered {
-        numbers: numbered,
-        masks: joined,
-    })
+    number_pairs_by_chains(alloc, numbers, rank, x, masks)
 }
