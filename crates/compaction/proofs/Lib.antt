@@ -20,3 +20,4 @@ pub mod CountedFirsts
 pub mod ValuePairs
 pub mod BlockPlaces
 pub mod Firsts
+pub mod SlotSteps
