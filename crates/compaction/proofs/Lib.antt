@@ -30,3 +30,4 @@ pub mod AllDistinct
 pub mod BlockPlaces
 pub mod Firsts
 pub mod HeldBytes
+pub mod SlotSteps
