@@ -3,11 +3,13 @@
 --     length_numbers, few_numbers      how many numbers there are
 --     place_parts      a place parts into a strip and a place in it
 --     low_none, low_more, low_eight      the numbers of a word's lowest bits: none, a byte more, a byte
+--     row_number, row_strip      the numbers of all bytes' values in one table, and those of one byte
 --     packed_none, packed_more, packed_at, length_packed      the numbers of words: none, a word more, one of them, how many
-use Rattle.std.proofs.Common.{◌≡◌, ◌==◌, ◌++◌, ◌∷◌, [], ℕ, zero, suc, refl, ◌+◌, ◌*◌, ◌-◌, ◌/◌, ◌%◌, ◌^◌, ◌<◌, ◌≤◌, Bool, List, length, map, get_or, sym, ap, ◌∙◌, arith}
+use Rattle.std.proofs.Common.{◌≡◌, ◌==◌, ◌++◌, ◌∷◌, [], ℕ, zero, suc, refl, ◌+◌, ◌*◌, ◌-◌, ◌/◌, ◌%◌, ◌^◌, ◌<◌, ◌≤◌, Bool, true, false, cond, List, length, map, get_or, sym, ap, ◌∙◌, arith}
 use Rattle.std.proofs.Common.{pow_mono, pow-add, mul_assoc}
 use Rattle.std.proofs.Math.Nat.{mul-le-mul_left, mul-le-mul_right, mul_comm, div-add-mod, mod-lt, div-lt_iff_lt-mul, div-div-eq-div-mul}
 use Rattle.std.proofs.lemmas.Nat.Bits.{bit_at_cat_low}
+use Rattle.std.specs.Bool.{beq}
 use Rattle.std.specs.Int.{bit_at}
 use Rattle.std.specs.List.{range_with_len}
 use Rattle.std.proofs.lemmas.List.{length-map}
@@ -15,10 +17,10 @@ use Rattle.std.proofs.lemmas.List.FromFn.{length-map-range_with_len, get_or-map-
 use Rattle.std.proofs.lemmas.Nat.{div-mul-add, mod-mul-add}
 use Rattle.order_model.specs.Problems.{TruthTables, packed_bit}
 use Rattle.compaction.specs.Columns.{low_numbers, packed_numbers}
-use Rattle.compaction.specs.Strips.{AreStrips, unrolled}
+use Rattle.compaction.specs.Strips.{AreStrips, strip, unrolled}
 use Rattle.compaction.specs.Values.{values_of, number_of}
 use Rattle.compaction.proofs.StartClasses.{length_values, map_range}
-use Rattle.compaction.proofs.Unrolled.{length_unrolled, unrolled_at, same_by_places}
+use Rattle.compaction.proofs.Unrolled.{length_strip, strip_at, length_unrolled, unrolled_at, same_by_places}
 
 -- a place parts into a strip and a place in it
 pub place_parts : (len k : ℕ) → 0 < len → (k / len * len + k % len ≡ k) × (k % len < len)
@@ -129,3 +131,33 @@ length_packed first words count = length-map-range_with_len (λ k. number_of fir
 pub packed_at : (first : Bool) (words : List ℕ) (count k : ℕ) → k < count → get_or (packed_numbers first words count) k 0 ≡ number_of first (packed_bit words k)
 unfolding packed_numbers
 packed_at first words count k h = get_or-map-range_with_len (λ j. number_of first (packed_bit words j)) 0 count k k 0 h (let e : 0 + k ≡ k = omega arith in e)
+
+-- the number at a place of the table of all bytes
+unfoldable pub row_number : Bool → ℕ → ℕ
+row_number first p = number_of first (bit_at (p / 8) (p % 8) == 1)
+
+pub row_strip : (first : Bool) (byte : ℕ) → byte < 256 → strip (map (row_number first) (range_with_len 0 2048)) 8 byte ≡ low_numbers first byte 8
+unfolding low_numbers row_number
+row_strip first byte h =
+    let all = map (row_number first) (range_with_len 0 2048) in
+    let l = length-map-range_with_len (row_number first) 0 2048 in
+    let m = length-map-range_with_len (λ b. number_of first (bit_at byte b == 1)) 0 8 in
+    let s = length_strip all 8 byte (omega arith) in
+    same_by_places (strip all 8 byte) (map (λ b. number_of first (bit_at byte b == 1)) (range_with_len 0 8)) (omega arith) (λ b lt.
+    let small : b < 8 = omega arith in
+    strip_at all 8 byte b small
+    ∙ get_or-map-range_with_len (row_number first) 0 2048 (byte * 8 + b) (byte * 8 + b) 0 (omega arith) (omega arith)
+    ∙ (λ i. number_of first (bit_at (div-mul-add byte 8 b small i) (mod-mul-add byte 8 b small i) == 1))
+    ∙ sym (get_or-map-range_with_len (λ k. number_of first (bit_at byte k == 1)) 0 8 b b 0 small (omega arith)))
+
+-- numbers of values are below two
+pub rows_below : (first : Bool) (count i : ℕ) → i < count → get_or (map (row_number first) (range_with_len 0 count)) i 0 < 2
+unfolding row_number
+rows_below first count i h =
+    let e = get_or-map-range_with_len (row_number first) 0 count i i 0 h (omega arith) in
+    let b = small (beq (bit_at (i / 8) (i % 8) == 1) first) in
+    omega arith
+  where
+    small : (b : Bool) → cond b 0 1 < 2
+    small true = omega arith
+    small false = omega arith

@@ -20,7 +20,7 @@ use Rattle.compaction.proofs.Keyed.{keys_ready, free_zero, value_keys}
 use Rattle.compaction.proofs.Named.{keys_by_names, names_below, length_names}
 use Rattle.compaction.proofs.Stripped.{parts_of, below_product, low_strips, low_tells}
 use Rattle.compaction.proofs.Index.{length-pairs}
-use Rattle.compaction.proofs.Unrolled.{length_unrolled, unrolled_at}
+use Rattle.compaction.proofs.Unrolled.{named_of, length_unrolled, unrolled_at}
 
 -- one step of the count
 step_of_bit : (set y : ℕ) → free_below set (suc y) ≡ free_below set y + cond (not (eqb (bit_at set y) 1)) 1 0
@@ -79,6 +79,24 @@ module _ (t : ClassesOf) (x : ℕ) (inside : x < t.problem.inputs) (new : has (s
       differ : false ≡ true → ⊥
       differ q = absurd (cc)
 
+  -- how the variables below `low` part at x
+  module _ (low : ℕ) (inner : x < low) where
+    pub rest : ℕ
+    rest = free_below t.set low - suc (free_below t.set x)
+
+    split : free_below t.set low ≡ suc (free_below t.set x) + rest
+    unfolding rest
+    split =
+        let s = step_of_bit t.set x ∙ ap (λ q. free_below t.set x + cond (not q) 1 0) (ne_eqb (bit_at t.set x) 1 no_bit) in
+        let l = free_split t.set (suc x) low (omega arith) in
+        omega arith
+
+    pub parts : 2 ^ free_below t.set low ≡ 2 ^ rest * (2 * 2 ^ free_below t.set x)
+    parts = ap (λ k. 2 ^ k) (let s = split in let e : free_below t.set low ≡ rest + (1 + free_below t.set x) = omega arith in e) ∙ pow-add 2 rest (1 + free_below t.set x) ∙ ap (λ k. 2 ^ rest * k) (pow-add 2 1 (free_below t.set x))
+
+    pub less : 2 ^ free_below (with_variable t x).set low ≡ 2 ^ rest * 2 ^ free_below t.set x
+    less = ap (λ k. 2 ^ k) (let s = split in let f = free_less t.set x low inner no_bit in let e : free_below (with_variable t x).set low ≡ rest + free_below t.set x = omega arith in e) ∙ pow-add 2 rest (free_below t.set x)
+
   module _ (low : ℕ) (outer numbers masks : List ℕ) (h : HoldsStrips t low outer numbers masks) where
     U : List ℕ
     U = unrolled outer numbers (2 ^ free_below t.set low)
@@ -122,34 +140,18 @@ module _ (t : ClassesOf) (x : ℕ) (inside : x < t.problem.inputs) (new : has (s
 
     -- ---- a variable inside the strips
     module _ (inner : x < low) where
-      rest : ℕ
-      rest = free_below t.set low - suc (free_below t.set x)
-
-      split : free_below t.set low ≡ suc (free_below t.set x) + rest
-      unfolding rest
-      split =
-          let s = step_of_bit t.set x ∙ ap (λ q. free_below t.set x + cond (not q) 1 0) (ne_eqb (bit_at t.set x) 1 no_bit) in
-          let l = free_split t.set (suc x) low (omega arith) in
-          omega arith
-
-      parts : 2 ^ free_below t.set low ≡ 2 ^ rest * (2 * 2 ^ free_below t.set x)
-      parts = ap (λ k. 2 ^ k) (let s = split in let e : free_below t.set low ≡ rest + (1 + free_below t.set x) = omega arith in e) ∙ pow-add 2 rest (1 + free_below t.set x) ∙ ap (λ k. 2 ^ rest * k) (pow-add 2 1 (free_below t.set x))
-
-      less : 2 ^ free_below (with_variable t x).set low ≡ 2 ^ rest * 2 ^ free_below t.set x
-      less = ap (λ k. 2 ^ k) (let s = split in let f = free_less t.set x low inner no_bit in let e : free_below (with_variable t x).set low ≡ rest + free_below t.set x = omega arith in e) ∙ pow-add 2 rest (free_below t.set x)
-
       pub whole_numbers : (blocks : ℕ) × (length numbers ≡ blocks * (2 * 2 ^ free_below t.set x))
-      whole_numbers = (h.strips.count * 2 ^ rest, h.strips.whole ∙ ap (λ k. h.strips.count * k) parts ∙ grind arith)
+      whole_numbers = (h.strips.count * 2 ^ rest low inner, h.strips.whole ∙ ap (λ k. h.strips.count * k) (parts low inner) ∙ grind arith)
 
       pub holds_low : (numbers' masks' : List ℕ) → TellsPairs masks x (pairs numbers (2 ^ free_below t.set x)) numbers' masks' → HoldsStrips (with_variable t x) low outer numbers' masks'
       holds_low numbers' masks' names =
-          let strips = subst (AreStrips outer numbers) parts h.strips in
+          let strips = subst (AreStrips outer numbers) (parts low inner) h.strips in
           record {
-            strips = subst (AreStrips outer numbers') (sym less) (low_strips outer numbers (2 ^ rest) (2 ^ free_below t.set x) strips (pow_pos rest) (pow_pos (free_below t.set x)) masks x numbers' masks' names);
-            keys = subst (λ k. HoldsKeys (with_variable t x) (unrolled outer numbers' k) masks') (sym less)
-                (keys_by_names t x inside new (unrolled outer numbers (2 ^ free_below t.set low)) masks h.keys whole_keys (unrolled outer numbers' (2 ^ rest * 2 ^ free_below t.set x)) masks'
-                (subst (λ k. TellsPairs masks x (pairs (unrolled outer numbers k) (2 ^ free_below t.set x)) (unrolled outer numbers' (2 ^ rest * 2 ^ free_below t.set x)) masks') (sym parts)
-                (low_tells outer numbers (2 ^ rest) (2 ^ free_below t.set x) strips (pow_pos rest) (pow_pos (free_below t.set x)) masks x numbers' masks' names)));
+            strips = subst (AreStrips outer numbers') (sym (less low inner)) (low_strips outer numbers (2 ^ rest low inner) (2 ^ free_below t.set x) strips (pow_pos (rest low inner)) (pow_pos (free_below t.set x)) masks x numbers' masks' names);
+            keys = subst (λ k. HoldsKeys (with_variable t x) (unrolled outer numbers' k) masks') (sym (less low inner))
+                (keys_by_names t x inside new (unrolled outer numbers (2 ^ free_below t.set low)) masks h.keys whole_keys (unrolled outer numbers' (2 ^ rest low inner * 2 ^ free_below t.set x)) masks'
+                (subst (λ k. TellsPairs masks x (pairs (unrolled outer numbers k) (2 ^ free_below t.set x)) (unrolled outer numbers' (2 ^ rest low inner * 2 ^ free_below t.set x)) masks') (sym (parts low inner))
+                (low_tells outer numbers (2 ^ rest low inner) (2 ^ free_below t.set x) (named_of outer numbers (2 ^ rest low inner * (2 * 2 ^ free_below t.set x)) strips) (pow_pos (rest low inner)) (pow_pos (free_below t.set x)) masks x numbers' masks' names)));
             below = names_below masks x (pairs numbers (2 ^ free_below t.set x)) numbers' masks' names;
             few_numbers = (let l = length_names masks x (pairs numbers (2 ^ free_below t.set x)) numbers' masks' names in let m = length-pairs numbers (2 ^ free_below t.set x) in let f = h.few_numbers in omega arith);
           }

@@ -28,3 +28,5 @@ pub mod KeptRuns
 pub mod AllDistinct
 pub mod BlockPlaces
 pub mod Firsts
+pub mod HeldBytes
+pub mod SlotSteps

@@ -13,13 +13,13 @@ use Rattle.order_model.proofs.ClassPairs.{pair_decides}
 use Rattle.compaction.specs.Chains.{lower_at, upper_at}
 use Rattle.compaction.specs.Numbering.{rank, ranks}
 use Rattle.compaction.specs.Places.{low_place, pair_at, pairs}
-use Rattle.compaction.specs.Strips.{AreStrips, TellsPairs, unrolled}
+use Rattle.compaction.specs.Strips.{AreNamed, AreStrips, TellsPairs, unrolled}
 use Rattle.compaction.proofs.Index.{length-pairs, pair_listed, pair_within}
 use Rattle.compaction.proofs.Joined.{number_at, length-ranks}
 use Rattle.compaction.proofs.Named.{names_among, names_below, length_names, place_of, among_place}
 use Rattle.compaction.proofs.Paired.{pair_strips_inside}
 use Rattle.compaction.proofs.Ranks.{rank_below, rank_reached}
-use Rattle.compaction.proofs.Unrolled.{same_by_places, length_unrolled, unrolled_at}
+use Rattle.compaction.proofs.Unrolled.{named_of, length_named, named_at, same_by_places, length_unrolled, unrolled_at}
 
 -- ---- places
 
@@ -227,17 +227,19 @@ module _ (outer numbers : List ℕ) (len r : ℕ) (strips : AreStrips outer numb
 
 -- ---- a variable inside the strips
 
-module _ (outer numbers : List ℕ) (c s : ℕ) (strips : AreStrips outer numbers (c * (2 * s))) (some : 0 < c) (some_s : 0 < s)
+module _ (outer numbers : List ℕ) (c s : ℕ) (strips : AreNamed outer numbers (c * (2 * s))) (some : 0 < c) (some_s : 0 < s)
     (masks : List ℕ) (x : ℕ) (told joined : List ℕ) (names : TellsPairs masks x (pairs numbers s) told joined) where
   whole_numbers : length numbers ≡ strips.count * c * (2 * s)
   whole_numbers = strips.whole ∙ grind arith
 
-  pub low_strips : AreStrips outer told (c * s)
-  low_strips = record {
+  pub low_whole : length told ≡ strips.count * (c * s)
+  low_whole = length_names masks x (pairs numbers s) told joined names ∙ length-pairs numbers s ∙ ap (λ k. k / 2) whole_numbers ∙ half (strips.count * c) s ∙ grind arith
+
+  pub low_named : AreNamed outer told (c * s)
+  low_named = record {
     count = strips.count;
-    whole = length_names masks x (pairs numbers s) told joined names ∙ length-pairs numbers s ∙ ap (λ k. k / 2) whole_numbers ∙ half (strips.count * c) s ∙ grind arith;
+    whole = low_whole;
     within = strips.within;
-    used = strips.used;
   }
 
   some_strip : 0 < c * s
@@ -245,7 +247,7 @@ module _ (outer numbers : List ℕ) (c s : ℕ) (strips : AreStrips outer number
 
   long_pairs' : length (pairs (unrolled outer numbers (c * (2 * s))) s) ≡ length outer * (c * s)
   long_pairs' =
-      length-pairs (unrolled outer numbers (c * (2 * s))) s ∙ ap (λ k. k / 2) (length_unrolled outer numbers (c * (2 * s)) strips)
+      length-pairs (unrolled outer numbers (c * (2 * s))) s ∙ ap (λ k. k / 2) (length_named outer numbers (c * (2 * s)) strips)
       ∙ (let z : length outer * (c * (2 * s)) ≡ length outer * (c * s) + length outer * (c * s) = grind arith in omega arith)
 
   inner_pair : (i b : ℕ) → i < length outer → b < c * s → pair_at (unrolled outer numbers (c * (2 * s))) s (i * (c * s) + b) ≡ pair_at numbers s (get_or outer i 0 * (c * s) + b)
@@ -253,8 +255,8 @@ module _ (outer numbers : List ℕ) (c s : ℕ) (strips : AreStrips outer number
       let w = pair_within s c (c * (2 * s)) b some_s refl (let z = half c s in omega arith) in
       let p = inner_place c s i b some_s in
       let q = inner_place c s (get_or outer i 0) b some_s in
-      let l = ap (λ z. get_or (unrolled outer numbers (c * (2 * s))) z 0) p ∙ unrolled_at outer numbers (c * (2 * s)) strips i (low_place s b) h (omega arith) ∙ ap (λ z. get_or numbers z 0) (sym q) in
-      let u = ap (λ z. get_or (unrolled outer numbers (c * (2 * s))) z 0) (ap (λ z. z + s) p ∙ omega arith) ∙ unrolled_at outer numbers (c * (2 * s)) strips i (low_place s b + s) h w
+      let l = ap (λ z. get_or (unrolled outer numbers (c * (2 * s))) z 0) p ∙ named_at outer numbers (c * (2 * s)) strips i (low_place s b) h (omega arith) ∙ ap (λ z. get_or numbers z 0) (sym q) in
+      let u = ap (λ z. get_or (unrolled outer numbers (c * (2 * s))) z 0) (ap (λ z. z + s) p ∙ omega arith) ∙ named_at outer numbers (c * (2 * s)) strips i (low_place s b + s) h w
           ∙ ap (λ z. get_or numbers z 0) (let e : get_or outer i 0 * (c * (2 * s)) + (low_place s b + s) ≡ low_place s (get_or outer i 0 * (c * s) + b) + s = omega arith in e) in
       λ z. (l z, u z)
 
@@ -289,15 +291,20 @@ module _ (outer numbers : List ℕ) (c s : ℕ) (strips : AreStrips outer number
       same : unrolled outer told (c * s) ≡ map names.name (pairs (unrolled outer numbers (c * (2 * s))) s)
       same =
           same_by_places (unrolled outer told (c * s)) (map names.name (pairs (unrolled outer numbers (c * (2 * s))) s))
-          (length_unrolled outer told (c * s) low_strips ∙ sym long_pairs' ∙ sym (length-map (pairs (unrolled outer numbers (c * (2 * s))) s) names.name)) (λ j h.
-          let u = length_unrolled outer told (c * s) low_strips in
+          (length_named outer told (c * s) low_named ∙ sym long_pairs' ∙ sym (length-map (pairs (unrolled outer numbers (c * (2 * s))) s) names.name)) (λ j h.
+          let u = length_named outer told (c * s) low_named in
           let l = long_pairs' in
           let i : j / (c * s) < length outer = (div-lt_iff_lt-mul some_strip).1 (omega arith) in
           let a = mod-lt j some_strip in
           let e = parts_of j (c * s) some_strip in
           let n = inner_small (j / (c * s)) (j % (c * s)) i a in
           let k = length-pairs numbers s in
-          ap (λ z. get_or (unrolled outer told (c * s)) z 0) e ∙ unrolled_at outer told (c * s) low_strips (j / (c * s)) (j % (c * s)) i a
+          ap (λ z. get_or (unrolled outer told (c * s)) z 0) e ∙ named_at outer told (c * s) low_named (j / (c * s)) (j % (c * s)) i a
           ∙ ap (λ us. get_or us (get_or outer (j / (c * s)) 0 * (c * s) + j % (c * s)) 0) names.numbers_are
           ∙ get_or-map names.name (pairs numbers s) (get_or outer (j / (c * s)) 0 * (c * s) + j % (c * s)) (0, 0) 0 (omega arith)
           ∙ ap names.name (place_pair' j (omega arith)) ∙ sym (get_or-map names.name (pairs (unrolled outer numbers (c * (2 * s))) s) j (0, 0) 0 (omega arith)))
+
+pub low_strips : (outer numbers : List ℕ) (c s : ℕ) → AreStrips outer numbers (c * (2 * s)) → 0 < c → 0 < s → (masks : List ℕ) (x : ℕ) (told joined : List ℕ) → TellsPairs masks x (pairs numbers s) told joined → AreStrips outer told (c * s)
+low_strips outer numbers c s strips some some_s masks x told joined names =
+    let w = low_whole outer numbers c s (named_of outer numbers (c * (2 * s)) strips) some some_s masks x told joined names in
+    record { count = strips.count; whole = w; within = strips.within; used = strips.used }

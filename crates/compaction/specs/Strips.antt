@@ -1,12 +1,13 @@
 -- Tables kept in strips: entries that differ in the low free variables only stand in one strip, and equal strips are kept once.
 --     strip numbers len k, unrolled outer numbers len      the k-th strip; all entries, where `outer` names the strip of each run of them
 --     low_variables p      how many variables run inside a strip of the empty set
---     AreStrips      each strip is whole and used
+--     AreNamed, AreStrips      each strip is whole; each is used, too
 --     TellsPairs      numbers by which pairs are told apart, and the mask of each
 --     masks_in_use numbers masks      the masks of the numbers that occur, rising
 --     HoldsStrips t low outer numbers masks      the unrolled table holds the keys of t; `low` parts the variables
 --     AreDistinct t count      all subfunctions are distinct and depend on the whole set
 --     HoldsTable      either of them
+--     HoldsBytes t low outer bytes rows masks      strips whose entries stand in rows, which bytes name: a row has an entry for each assignment of the variables below 3 outside the set
 use Rattle.std.specs.Prelude.{◌≡◌, ℕ, ◌*◌, ◌^◌, ◌<◌, ◌≤◌, min, List, Option, None, Some, map, take, drop, length, get_or}
 use Rattle.std.specs.List.{filter, flat_map, range_with_len}
 use Rattle.order_model.specs.Orders.{has, variables}
@@ -25,6 +26,12 @@ strip numbers len k = take len (drop (k * len) numbers)
 -- all entries
 unfoldable pub unrolled : List ℕ → List ℕ → ℕ → List ℕ
 unrolled outer numbers len = flat_map (strip numbers len) outer
+
+-- strips of `len` entries that `outer` names
+pub record AreNamed (outer numbers : List ℕ) (len : ℕ) : Type 0 where
+  pub count : ℕ
+  pub whole : length numbers ≡ count * len
+  pub within : (i : ℕ) → i < length outer → get_or outer i 0 < count
 
 -- strips of `len` entries, each of which is named in `outer`
 pub record AreStrips (outer numbers : List ℕ) (len : ℕ) : Type 0 where
@@ -64,3 +71,10 @@ pub record AreDistinct (t : ClassesOf) (count : ℕ) : Type 0 where
 unfoldable pub HoldsTable : ClassesOf → ℕ → Option ℕ → List ℕ → List ℕ → List ℕ → Type 0
 HoldsTable t low None outer numbers masks = HoldsStrips t low outer numbers masks
 HoldsTable t low (Some count) outer numbers masks = AreDistinct t count
+
+-- the strips' entries stand in rows, which `bytes` name
+pub record HoldsBytes (t : ClassesOf) (low : ℕ) (outer bytes rows masks : List ℕ) : Type 0 where
+  pub named : AreNamed bytes rows (2 ^ free_below t.set 3)
+  pub strips : HoldsStrips t low outer (unrolled bytes rows (2 ^ free_below t.set 3)) masks
+  pub below : (i : ℕ) → i < length rows → get_or rows i 0 < length masks
+  pub few_rows : length rows ≤ 2 ^ 11

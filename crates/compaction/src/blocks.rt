@@ -6,6 +6,7 @@ ghost use Rattle.compaction.specs.Strips.{low_variables as low_of};
 ghost use Rattle.compaction.specs.Table.{classes_of};
 ghost use Rattle.compaction.specs.Rows.{IsRow, AreRows, AreMembers, AreBlank, AreFilled, wanted_count};
 
+use crate::bytes::ByteKeys;
 use crate::strips::{Strips, low_variables};
 use crate::tally::Tally;
 use order_model::{Mask, Problem};
@@ -146,6 +147,46 @@ fn walk(
     Ok(before + after + 1)
 }
 
+/// The keys of a set's members below 3.
+fn low_bytes<'a>(
+    alloc: Global,
+    problem: &'a Problem,
+    low: Mask,
+) -> Result<Strips<'a>, AllocError>
+    requires { 8 ≤ problem.now.inputs }
+    ensures { IfOk result (λ c. c ≡ classes_of problem.now (low % 8)) }
+{
+    let mut keys = ByteKeys::of_problem(alloc, problem)?;
+    for y in 0..3 {
+        if (low >> y) & 1 == 1 {
+            keys = keys.add(alloc, y)?;
+        }
+    }
+    let strips = keys.write_out(alloc)?;
+    Ok(strips)
+}
+
+/// The keys of a set of low variables, from those of its members below `from`.
+fn add_members<'a>(
+    alloc: Global,
+    strips: Strips<'a>,
+    low: Mask,
+    from: u8,
+) -> Result<Strips<'a>, AllocError>
+    requires from { from ≤ low_of strips.problem }
+    requires set { strips.set ≡ low % 2 ^ from }
+    requires low { low < 2 ^ low_of strips.problem }
+    ensures { IfOk result (λ c. c ≡ classes_of strips.entry.problem low) }
+{
+    let mut strips = strips;
+    for y in from..strips.low_variables() {
+        if (low >> y) & 1 == 1 {
+            strips = strips.add_low(alloc, y)?;
+        }
+    }
+    Ok(strips)
+}
+
 /// The keys of a set of low variables.
 fn low_strips<'a>(
     alloc: Global,
@@ -155,13 +196,12 @@ fn low_strips<'a>(
     requires { low < 2 ^ low_of problem.now }
     ensures { IfOk result (λ c. c ≡ classes_of problem.now low) }
 {
-    let mut strips = Strips::of_problem(alloc, problem)?;
-    for y in 0..low_variables(problem) {
-        if (low >> y) & 1 == 1 {
-            strips = strips.add_low(alloc, y)?;
-        }
+    if problem.inputs() < 8 {
+        let strips = Strips::of_problem(alloc, problem)?;
+        return add_members(alloc, strips, low, 0);
     }
-    Ok(strips)
+    let strips = low_bytes(alloc, problem, low)?;
+    add_members(alloc, strips, low, 3)
 }
 
 /// The widths that the cells of a block's sets need: of each set those of the variables in `needed`, all of which are its

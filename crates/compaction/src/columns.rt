@@ -4,7 +4,7 @@ ghost use Rattle.std.specs.Prelude.{◌≡◌, ◌==◌, ℕ, ◌+◌, ◌*◌, 
 ghost use Rattle.std.specs.Int.{bit_at};
 ghost use Rattle.order_model.specs.Problems.{value_at, outputs_of, packed_bit};
 ghost use Rattle.compaction.specs.Columns.{AreChained, KeepsRuns, low_numbers, packed_numbers};
-ghost use Rattle.compaction.specs.Strips.{AreStrips, unrolled};
+ghost use Rattle.compaction.specs.Strips.{AreNamed, AreStrips, strip, unrolled};
 ghost use Rattle.compaction.specs.Values.{values_of, number_of as number};
 
 use crate::start::value_numbers;
@@ -154,61 +154,49 @@ fn number_at(byte: u32, b: u32, first: bool) -> u32
     if value == first { 0 } else { 1 }
 }
 
-/// The numbers of eight values, for each byte that has these.
-fn byte_rows(alloc: Global, first: bool) -> Result<Vec<[u32; 8]>, AllocError>
-    ensures long { IfOk result (λ rows. length rows.items ≡ 256) }
-    ensures rows { IfOk result (λ rows. (byte : ℕ) → byte < 256 → get_or rows.items byte [] ≡ low_numbers first byte 8) }
+/// The numbers of each byte's eight values, one byte behind the other.
+fn byte_numbers(alloc: Global, first: bool) -> Result<Vec<u32>, AllocError>
+    ensures long { IfOk result (λ rows. length rows.items ≡ 2048) }
+    ensures rows { IfOk result (λ rows. (byte : ℕ) → byte < 256 → strip rows.items 8 byte ≡ low_numbers first byte 8) }
+    ensures below { IfOk result (λ rows. (i : ℕ) → i < length rows.items → slice_index rows.items i < 2) }
 {
-    let mut rows = Vec::with_capacity(alloc, 256)?;
-    for byte in 0..256u32 {
-        rows.push([
-            number_at(byte, 0, first),
-            number_at(byte, 1, first),
-            number_at(byte, 2, first),
-            number_at(byte, 3, first),
-            number_at(byte, 4, first),
-            number_at(byte, 5, first),
-            number_at(byte, 6, first),
-            number_at(byte, 7, first),
-        ])?;
+    let mut rows = Vec::with_capacity(alloc, 2048)?;
+    for place in 0..2048u32 {
+        rows.push(number_at(place / 8, place % 8, first))?;
     }
     Ok(rows)
 }
 
-/// Adds the numbers of a word's values.
+/// Adds the bytes of a word, the lowest first.
 #[inline(always)]
-fn push_word(
-    numbers: &mut Vec<u32>,
-    rows: &[[u32; 8]],
-    word: u64,
-    first: bool,
-) -> Result<(), AllocError>
-    requires long { length rows.now ≡ 256 }
-    requires rows { (byte : ℕ) → byte < 256 → get_or rows.now byte [] ≡ low_numbers first byte 8 }
-    ensures { OnOk result (numbers.new.items ≡ numbers.old.items ++ low_numbers first word 64) }
+fn push_bytes(bytes: &mut Vec<u8>, word: u64) -> Result<(), AllocError>
+    requires { (i : ℕ) → i < length bytes.old.items → slice_index bytes.old.items i < 256 }
+    ensures small { OnOk result ((i : ℕ) → i < length bytes.new.items → slice_index bytes.new.items i < 256) }
+    ensures numbers { OnOk result ((first : Bool) (rows : List ℕ) → ((byte : ℕ) → byte < 256 → strip rows 8 byte ≡ low_numbers first byte 8) →
+        unrolled bytes.new.items rows 8 ≡ unrolled bytes.old.items rows 8 ++ low_numbers first word 64) }
 {
     for place in 0..8u32 {
-        let byte = (word >> (place * 8)) % 256;
-        numbers.extend_from_slice(&rows[byte as usize])?;
+        bytes.push(((word >> (place * 8)) % 256) as u8)?;
     }
     Ok(())
 }
 
-/// The numbers of the values in words.
-fn expand(alloc: Global, words: &[u64], first: bool) -> Result<Vec<u32>, AllocError>
+/// The bytes of words.
+fn bytes_of(alloc: Global, words: &[u64]) -> Result<Vec<u8>, AllocError>
     requires { length words.now ≤ 2 ^ 16 }
-    ensures { IfOk result (λ v. v.items ≡ packed_numbers first words.now (length words.now * 64)) }
+    ensures small { IfOk result (λ v. (i : ℕ) → i < length v.items → slice_index v.items i < 256) }
+    ensures numbers { IfOk result (λ v. (first : Bool) (rows : List ℕ) → ((byte : ℕ) → byte < 256 → strip rows 8 byte ≡ low_numbers first byte 8) →
+        unrolled v.items rows 8 ≡ packed_numbers first words.now (length words.now * 64)) }
 {
-    let rows = byte_rows(alloc, first)?;
-    let mut numbers = Vec::with_capacity(alloc, words.len() * 64)?;
+    let mut bytes = Vec::with_capacity(alloc, words.len() * 8)?;
     for word in words {
-        push_word(&mut numbers, &rows, *word, first)?;
+        push_bytes(&mut bytes, *word)?;
     }
-    Ok(numbers)
+    Ok(bytes)
 }
 
 /// A strip for each run of 2^low points, function by function.
-fn whole_strips(alloc: Global, problem: &Problem, low: u8) -> Result<ValueStrips, AllocError>
+pub fn whole_strips(alloc: Global, problem: &Problem, low: u8) -> Result<ValueStrips, AllocError>
     requires inside { low ≤ problem.now.inputs }
     ensures strips { IfOk result (λ v. AreStrips v.outer.items v.numbers.items (2 ^ low)) }
     ensures values { IfOk result (λ v. unrolled v.outer.items v.numbers.items (2 ^ low) ≡ map (number (value_at problem.now 0 0)) (values_of problem.now)) }
@@ -223,20 +211,27 @@ fn whole_strips(alloc: Global, problem: &Problem, low: u8) -> Result<ValueStrips
     Ok(ValueStrips { outer, numbers })
 }
 
-/// The strips of 2^low points: 0 for the first value met, and 1 for the other one.
-pub fn value_strips(alloc: Global, problem: &Problem, low: u8) -> Result<ValueStrips, AllocError>
-    requires low { low ≤ 8 }
-    requires inside { low ≤ problem.now.inputs }
-    requires all { low < 8 → low ≡ problem.now.inputs }
-    ensures strips { IfOk result (λ v. AreStrips v.outer.items v.numbers.items (2 ^ low)) }
-    ensures values { IfOk result (λ v. unrolled v.outer.items v.numbers.items (2 ^ low) ≡ map (number (value_at problem.now 0 0)) (values_of problem.now)) }
-    ensures few { IfOk result (λ v. length v.numbers.items ≤ 2 ^ 20) }
+/// The strips of 256 points, whose numbers stand in rows of eight that bytes name: 0 for the first value met, and 1 for the
+/// other one.
+#[derive(Drop)]
+pub struct ByteStrips {
+    pub outer: Vec<u32>,
+    pub bytes: Vec<u8>,
+    pub rows: Vec<u32>,
+}
+
+/// The values of a problem as bytes of kept runs.
+pub fn byte_strips(alloc: Global, problem: &Problem) -> Result<ByteStrips, AllocError>
+    requires { 8 ≤ problem.now.inputs }
+    ensures named { IfOk result (λ v. AreNamed v.bytes.items v.rows.items 8) }
+    ensures strips { IfOk result (λ v. AreStrips v.outer.items (unrolled v.bytes.items v.rows.items 8) 256) }
+    ensures values { IfOk result (λ v. unrolled v.outer.items (unrolled v.bytes.items v.rows.items 8) 256 ≡ map (number (value_at problem.now 0 0)) (values_of problem.now)) }
+    ensures few { IfOk result (λ v. length (unrolled v.bytes.items v.rows.items 8) ≤ 2 ^ 20) }
+    ensures long { IfOk result (λ v. length v.rows.items ≡ 2048) }
+    ensures below { IfOk result (λ v. (i : ℕ) → i < length v.rows.items → slice_index v.rows.items i < 2) }
 {
-    if low < 8 {
-        let strips = whole_strips(alloc, problem, low)?;
-        return Ok(strips);
-    }
     let Columns { outer, kept, .. } = columns_of(alloc, problem)?;
-    let numbers = expand(alloc, &kept, problem.value(0, 0))?;
-    Ok(ValueStrips { outer, numbers })
+    let bytes = bytes_of(alloc, &kept)?;
+    let rows = byte_numbers(alloc, problem.value(0, 0))?;
+    Ok(ByteStrips { outer, bytes, rows })
 }

@@ -2,6 +2,7 @@
 #![tactic(auto)]
 
 mod blocks;
+mod bytes;
 mod chains;
 mod classes;
 mod columns;

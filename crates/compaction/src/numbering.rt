@@ -1,4 +1,4 @@
-//! Numbers of pairs by first occurrence, and their masks, in the fastest of three ways.
+//! Numbers of pairs by first occurrence, and their masks, in the fastest of four ways.
 
 ghost use Rattle.std.specs.Prelude.{◌≡◌, ℕ, ◌+◌, ◌*◌, ◌/◌, ◌^◌, ◌<◌, ◌≤◌, map, get_or, length, slice_index, IfOk};
 ghost use Rattle.std.specs.Set.{distinct_count};
@@ -8,9 +8,8 @@ ghost use Rattle.compaction.specs.Numbering.{ranks};
 ghost use Rattle.compaction.specs.Places as places;
 
 use crate::chains::number_pairs_by_chains;
-use crate::dense::number_pairs_by_cells;
+use crate::dense::{number_pairs_by_cells, number_pairs_by_slots};
 use crate::distinct::{are_distinct, number_distinct_pairs};
-use crate::masks::join_masks;
 use std::alloc::{AllocError, Global};
 
 /// The number of each pair, and the mask of each number.
@@ -20,8 +19,8 @@ pub struct Numbered {
     pub masks: Vec<u16>,
 }
 
-/// The numbers of the pairs, and the masks of the numbers, from those of the classes: without a look where all classes are
-/// distinct, by a cell for each pair of classes where these are few, else by chains.
+/// The numbers of the pairs, and the masks of the numbers, from those of the classes: in order where all classes are distinct,
+/// by a cell for each pair of classes where these are few, else by slots, or by chains where slots are crowded.
 pub fn number_pairs_with_masks(
     alloc: Global,
     numbers: &[u32],
@@ -53,10 +52,8 @@ pub fn number_pairs_with_masks(
         let numbered = number_pairs_by_cells(alloc, numbers, rank, x, masks, &mut cells)?;
         return Ok(numbered);
     }
-    let numbered = number_pairs_by_chains(alloc, numbers, rank, classes as u32)?;
-    let joined = join_masks(alloc, numbers, rank, x, masks, &numbered)?;
-    Ok(Numbered {
-        numbers: numbered,
-        masks: joined,
-    })
+    match number_pairs_by_slots(alloc, numbers, rank, x, masks)? {
+        Some(numbered) => Ok(numbered),
+        None => number_pairs_by_chains(alloc, numbers, rank, x, masks),
+    }
 }

@@ -12,8 +12,7 @@ ghost use Rattle.compaction.specs.Places as places;
 ghost use Rattle.compaction.specs.Strips.{AreStrips, TellsPairs, masks_in_use, unrolled, low_variables as low_of};
 
 use crate::classes::{rank_of, row_of};
-use crate::chains::number_pairs_by_chains;
-use crate::columns::{ValueStrips, value_strips};
+use crate::columns::{ValueStrips, whole_strips};
 use crate::keys::{MOST_JOINED, join_key_masks, join_keys};
 use crate::numbering::{Numbered, number_pairs_with_masks};
 use crate::pairs::pair_at;
@@ -62,7 +61,7 @@ pub fn low_variables(problem: &Problem) -> u8
 }
 
 /// Tells the pairs apart: by joined keys where there are few, else by numbers.
-fn tell_pairs(
+pub fn tell_pairs(
     alloc: Global,
     numbers: &[u32],
     rank: u32,
@@ -92,7 +91,7 @@ fn tell_pairs(
 
 /// A strip.
 #[inline(always)]
-fn strip_at(numbers: &[u32], strip: usize, k: u32) -> &[u32]
+pub fn strip_at(numbers: &[u32], strip: usize, k: u32) -> &[u32]
     requires few { length numbers.now ≤ 2 ^ 20 }
     requires inside { k * strip + strip ≤ length numbers.now }
     ensures long { length result.now ≡ strip }
@@ -137,6 +136,25 @@ fn pair_strips(
     Ok(paired)
 }
 
+/// The numbers of the pairs of runs. No masks are wanted.
+fn number_runs(
+    alloc: Global,
+    outer: &[u32],
+    rank: u32,
+    count: usize,
+) -> Result<Vec<u32>, AllocError>
+    requires rank { rank < 16 }
+    requires len { length outer.now ≤ 2 ^ 20 }
+    requires whole { (blocks : ℕ) × (length outer.now ≡ blocks * (2 * 2 ^ rank)) }
+    requires below { (i : ℕ) → i < length outer.now → slice_index outer.now i < count }
+    requires few { count ≤ 2 ^ 20 }
+    ensures { IfOk result (λ v. v.items ≡ ranks same_pair (places.pairs outer.now (2 ^ rank))) }
+{
+    let blank = vec![in alloc; 0u16; count]?;
+    let runs = number_pairs_with_masks(alloc, outer, rank, 0, &blank)?;
+    Ok(runs.numbers)
+}
+
 /// Strips with one more variable, which stands above those inside a strip: pairs of strips become strips.
 fn add_above(
     alloc: Global,
@@ -161,7 +179,7 @@ fn add_above(
     ensures below { IfOk result (λ g. (i : ℕ) → i < length g.numbers.items → slice_index g.numbers.items i < length g.masks.items) }
     ensures few { IfOk result (λ g. length g.numbers.items ≤ 2 ^ 20) }
 {
-    let numbered = number_pairs_by_chains(alloc, outer, rank, (numbers.len() >> bits) as u32)?;
+    let numbered = number_runs(alloc, outer, rank, numbers.len() >> bits)?;
     let paired = pair_strips(alloc, outer, rank, &numbered, numbers, bits)?;
     let told = tell_pairs(alloc, &paired, bits, x, masks)?;
     Ok(Grown {
@@ -252,7 +270,7 @@ impl<'a> Strips<'a> {
     ghost use Rattle.compaction.specs.Table.{set_of, with_variable, classes_of};
 
     /// A table of strips, or the count alone where all subfunctions are distinct and depend on the whole set.
-    fn of_parts(
+    pub fn of_parts(
         alloc: Global,
         problem: &'a Problem,
         set: Mask,
@@ -297,11 +315,18 @@ impl<'a> Strips<'a> {
     {
         prove!(problem.inputs() <= 16);
         prove!(problem.outputs() <= 16);
-        let ValueStrips { outer, numbers } = value_strips(alloc, problem, low_variables(problem))?;
+        let ValueStrips { outer, numbers } = whole_strips(alloc, problem, low_variables(problem))?;
         let mut masks = Vec::with_capacity(alloc, 2)?;
         masks.push(0)?;
         masks.push(0)?;
         Ok(Strips::of_parts(alloc, problem, 0, outer, numbers, masks))
+    }
+
+    /// How many variables are low.
+    pub fn low_variables(&self) -> u8
+        ensures { result ≡ low_variables self.now.problem }
+    {
+        low_variables(self.problem)
     }
 
     /// The set, as a mask.

@@ -11,8 +11,8 @@ use Rattle.compaction.proofs.Named.{names_below, length_names}
 use Rattle.compaction.proofs.Stripped.{high_strips, high_tells, paired_below, paired_few}
 use Rattle.compaction.proofs.strips.add_above.Goals as goal
 
-pub number_pairs_by_chains-requires-clause-classes : goal.number_pairs_by_chains-requires-clause-classes
-number_pairs_by_chains-requires-clause-classes c = λ i h.
+pub number_runs-requires-clause-below : goal.number_runs-requires-clause-below
+number_runs-requires-clause-below c = λ i h.
     let w = c.requires.strips.within i h in
     let some = pow_pos c.args.bits in
     let z = div-eq_of_lt some in

@@ -1,6 +1,6 @@
 use Rattle.std.proofs.Common.{◌≡◌, ◌%◌, ◌^◌}
 use Rattle.compaction.specs.Table.{classes_of}
-use Rattle.compaction.proofs.blocks.low_strips.Given as goal
+use Rattle.compaction.proofs.blocks.low_bytes.Given as goal
 
 abbrev pub invariant-loop-y : goal.invariant-loop-y
-invariant-loop-y l = l.strips ≡ classes_of l.problem (l.low % 2 ^ l.y)
+invariant-loop-y l = l.keys ≡ classes_of l.problem (l.low % 2 ^ l.y)

@@ -1,0 +1,58 @@
+-- Strips whose entries stand in rows that bytes name.
+--     bytes_values      the values
+--     bytes_whole, bytes_more      one more of the lowest three variables
+use Rattle.std.proofs.Common.{◌≡◌, ℕ, ◌+◌, ◌*◌, ◌/◌, ◌^◌, ◌<◌, ◌≤◌, false, List, [], ◌∷◌, map, length, get_or, sym, ap, ◌∙◌, subst, arith}
+use Rattle.std.proofs.lemmas.Nat.{pow_pos}
+use Rattle.order_model.specs.Orders.{has}
+use Rattle.order_model.specs.Problems.{TruthTables, value_at}
+use Rattle.compaction.specs.Places.{pairs}
+use Rattle.compaction.specs.Strips.{AreNamed, AreStrips, HoldsBytes, HoldsStrips, TellsPairs, unrolled}
+use Rattle.compaction.specs.Table.{ClassesOf, classes_of, with_variable, set_of, free_below}
+use Rattle.compaction.specs.Values.{values_of, number_of}
+use Rattle.compaction.proofs.HeldStrips.{rest, parts, less, holds_low, holds_values}
+use Rattle.compaction.proofs.Index.{length-pairs}
+use Rattle.compaction.proofs.Keyed.{free_zero}
+use Rattle.compaction.proofs.Named.{names_below, length_names}
+use Rattle.compaction.proofs.Stripped.{low_named, low_tells}
+
+-- the values of a problem of at least eight variables
+pub bytes_values : (p : TruthTables) → p.inputs ≤ 16 → length p.tables ≤ 16 → 0 < length p.tables → (outer bytes rows : List ℕ) → AreNamed bytes rows 8 → AreStrips outer (unrolled bytes rows 8) 256 →
+    unrolled outer (unrolled bytes rows 8) 256 ≡ map (number_of (value_at p 0 0)) (values_of p) → length (unrolled bytes rows 8) ≤ 2 ^ 20 → length rows ≡ 2048 → ((i : ℕ) → i < length rows → get_or rows i 0 < 2) →
+    HoldsBytes (classes_of p 0) 8 outer bytes rows (0 ∷ 0 ∷ [])
+bytes_values p inputs outputs some outer bytes rows named strips values few long below =
+    let e : 8 ≡ 2 ^ free_below 0 3 = sym (ap (λ k. 2 ^ k) (free_zero 3)) in
+    record {
+      named = subst (AreNamed bytes rows) e named;
+      strips = subst (λ k. HoldsStrips (classes_of p 0) 8 outer (unrolled bytes rows k) (0 ∷ 0 ∷ [])) e (holds_values p inputs outputs some 8 outer (unrolled bytes rows 8) strips values few);
+      below = below;
+      few_rows = omega arith;
+    }
+
+module _ (t : ClassesOf) (x : ℕ) (inside : x < t.problem.inputs) (new : has (set_of t) x ≡ false) (inner : x < 3) (outer bytes rows masks : List ℕ) (h : HoldsBytes t 8 outer bytes rows masks) where
+  c : ℕ
+  c = 2 ^ rest t x inside new 3 inner
+
+  s : ℕ
+  s = 2 ^ free_below t.set x
+
+  named : AreNamed bytes rows (2 ^ rest t x inside new 3 inner * (2 * 2 ^ free_below t.set x))
+  named = subst (AreNamed bytes rows) (parts t x inside new 3 inner) h.named
+
+  pub bytes_whole : (blocks : ℕ) × (length rows ≡ blocks * (2 * 2 ^ free_below t.set x))
+  bytes_whole = (named.count * 2 ^ rest t x inside new 3 inner, named.whole ∙ grind arith)
+
+  pub bytes_more : (told joined : List ℕ) → TellsPairs masks x (pairs rows (2 ^ free_below t.set x)) told joined → HoldsBytes (with_variable t x) 8 outer bytes told joined
+  bytes_more told joined names =
+      let r = rest t x inside new 3 inner in
+      let f = free_below t.set x in
+      let p = parts t x inside new 3 inner in
+      let l = less t x inside new 3 inner in
+      record {
+        named = subst (AreNamed bytes told) (sym l) (low_named bytes rows (2 ^ r) (2 ^ f) named (pow_pos r) (pow_pos f) masks x told joined names);
+        strips = subst (λ k. HoldsStrips (with_variable t x) 8 outer (unrolled bytes told k) joined) (sym l)
+            (holds_low t x inside new 8 outer (unrolled bytes rows (2 ^ free_below t.set 3)) masks h.strips (omega arith) (unrolled bytes told (2 ^ r * 2 ^ f)) joined
+            (subst (λ k. TellsPairs masks x (pairs (unrolled bytes rows k) (2 ^ f)) (unrolled bytes told (2 ^ r * 2 ^ f)) joined) (sym p)
+            (low_tells bytes rows (2 ^ r) (2 ^ f) named (pow_pos r) (pow_pos f) masks x told joined names)));
+        below = names_below masks x (pairs rows (2 ^ f)) told joined names;
+        few_rows = (let n = length_names masks x (pairs rows (2 ^ f)) told joined names in let m = length-pairs rows (2 ^ f) in let w = h.few_rows in omega arith);
+      }

@@ -1,0 +1,41 @@
+use Rattle.std.proofs.Common.{◌≡◌, ℕ, ◌<◌, ◌≤◌, ◌*◌, ◌^◌, length, get_or, bit_or, sym, ap, ◌∙◌, subst, arith}
+use Rattle.std.proofs.lemmas.Nat.{one_shl}
+use Rattle.compaction.specs.Places as places
+use Rattle.compaction.specs.Strips.{HoldsBytes, TellsPairs}
+use Rattle.compaction.specs.Table.{ClassesOf, classes_of, free_below}
+use Rattle.compaction.proofs.HeldBytes.{bytes_more, bytes_whole}
+use Rattle.compaction.proofs.HeldStrips.{rank_few}
+use Rattle.compaction.proofs.bytes.ByteKeys.add.Goals as goal
+
+pub tell_pairs-requires-clause-rank : goal.tell_pairs-requires-clause-rank
+tell_pairs-requires-clause-rank c =
+    let h = subst (λ (z : ClassesOf). HoldsBytes z 8 c.self.inside.outer.items c.self.inside.bytes.items c.self.inside.rows.items c.self.inside.masks.items) c.self.view_is c.self.invariant in
+    let i = c.requires.inside in
+    let n = c.requires.inner in
+    let e = c.rank_of-rank.ensures ∙ ap (λ (z : ClassesOf). free_below z.set c.args.x) c.self.view_is in
+    let r = rank_few c.args.self c.args.x (omega arith) c.requires.new 8 c.self.inside.outer.items _ c.self.inside.masks.items h.strips in
+    omega arith
+
+pub tell_pairs-requires-clause-whole : goal.tell_pairs-requires-clause-whole
+tell_pairs-requires-clause-whole c =
+    let h = subst (λ (z : ClassesOf). HoldsBytes z 8 c.self.inside.outer.items c.self.inside.bytes.items c.self.inside.rows.items c.self.inside.masks.items) c.self.view_is c.self.invariant in
+    let i = c.requires.inside in
+    let n = c.requires.inner in
+    let e = c.rank_of-rank.ensures ∙ ap (λ (z : ClassesOf). free_below z.set c.args.x) c.self.view_is in
+    let w = bytes_whole c.args.self c.args.x (omega arith) c.requires.new n c.self.inside.outer.items c.self.inside.bytes.items c.self.inside.rows.items c.self.inside.masks.items h in
+    (w.0, ap length c.deref.ensures.value ∙ w.1 ∙ ap (λ k. w.0 * (2 * 2 ^ k)) (sym e))
+
+pub invariant_of-result : goal.invariant_of-result
+invariant_of-result c =
+    let h = subst (λ (z : ClassesOf). HoldsBytes z 8 c.self.inside.outer.items c.self.inside.bytes.items c.self.inside.rows.items c.self.inside.masks.items) c.self.view_is c.self.invariant in
+    let i = c.requires.inside in
+    let n = c.requires.inner in
+    let e = c.rank_of-rank.ensures ∙ ap (λ (z : ClassesOf). free_below z.set c.args.x) c.self.view_is in
+    let s = one_shl c.args.x 16 (omega arith) in
+    let told = c.in_ok-told.told in
+    let k = bytes_more c.args.self c.args.x (omega arith) c.requires.new n c.self.inside.outer.items c.self.inside.bytes.items c.self.inside.rows.items c.self.inside.masks.items h told.numbers.items told.masks.items
+        (subst (λ us. TellsPairs us c.args.x (places.pairs c.self.inside.rows.items (2 ^ free_below c.args.self.set c.args.x)) told.numbers.items told.masks.items) c.deref-2.ensures.value
+        (subst (λ us. TellsPairs c.deref-2.result.now c.args.x (places.pairs us (2 ^ free_below c.args.self.set c.args.x)) told.numbers.items told.masks.items) c.deref.ensures.value
+        (subst (λ r. TellsPairs c.deref-2.result.now c.args.x (places.pairs c.deref.result.now (2 ^ r)) told.numbers.items told.masks.items) e c.in_ok-told.ensures))) in
+    subst (λ (z : ClassesOf). HoldsBytes z 8 c.self.inside.outer.items c.self.inside.bytes.items told.numbers.items told.masks.items)
+    (λ z. classes_of (sym c.self.view_is z).problem (bit_or (sym c.self.view_is z).set (sym s z))) k

@@ -1,0 +1,51 @@
+use Rattle.std.proofs.Common.{◌≡◌, ◌*◌, ◌^◌, ◌<◌, length, map, get_or, sym, ap, ◌∙◌, subst, arith}
+use Rattle.order_model.specs.Problems.{value_at}
+use Rattle.compaction.specs.Columns.{low_numbers, packed_numbers}
+use Rattle.compaction.specs.Strips.{AreNamed, AreStrips, strip, unrolled}
+use Rattle.compaction.specs.Values.{values_of, number_of}
+use Rattle.compaction.proofs.Expanded.{length_packed}
+use Rattle.compaction.proofs.StartClasses.{length_values}
+use Rattle.compaction.proofs.KeptRuns.{kept_strips, kept_values}
+use Rattle.compaction.proofs.columns.byte_strips.Goals as goal
+
+pub value-requires-clause-output : goal.value-requires-clause-output
+value-requires-clause-output c = c.columns_of.ensures.some
+
+pub bytes_of-requires : goal.bytes_of-requires
+bytes_of-requires c =
+    let d = ap length c.deref.ensures.value in
+    let w = c.in_ok-outer.ensures.whole in
+    let f = c.in_ok-outer.ensures.few in
+    let k = c.in_ok-outer.ensures.keeps.few in
+    omega arith
+
+-- the numbers are those of the kept runs
+numbers_are : (c : goal.After-drop-kept-2) → unrolled c.in_ok-bytes.bytes.items c.in_ok-rows.rows.items 8 ≡ packed_numbers (value_at c.args.problem.now 0 0) c.in_ok-outer.field-0.kept.items (length c.in_ok-outer.field-0.kept.items * 64)
+numbers_are c =
+    c.in_ok-bytes.ensures.numbers (value_at c.args.problem.now 0 0) c.in_ok-rows.rows.items (λ byte h. c.in_ok-rows.ensures.rows byte h ∙ ap (λ b. low_numbers b byte 8) c.value.ensures)
+    ∙ ap (λ us. packed_numbers (value_at c.args.problem.now 0 0) us (length us * 64)) c.deref.ensures.value
+
+pub returns-clause-named : goal.returns-clause-named
+returns-clause-named c = record { count = 256; whole = c.in_ok-rows.ensures.long; within = c.in_ok-bytes.ensures.small }
+
+pub returns-clause-strips : goal.returns-clause-strips
+returns-clause-strips c =
+    let p = c.args.problem.now in
+    let runs = c.in_ok-outer.field-0 in
+    kept_strips (values_of p) (value_at p 0 0) runs.outer.items runs.kept.items (unrolled c.in_ok-bytes.bytes.items c.in_ok-rows.rows.items 8) (length runs.next.items) (numbers_are c) c.in_ok-outer.ensures.whole c.in_ok-outer.ensures.keeps
+
+pub returns-clause-values : goal.returns-clause-values
+returns-clause-values c =
+    let p = c.args.problem.now in
+    let runs = c.in_ok-outer.field-0 in
+    kept_values (values_of p) (value_at p 0 0) runs.outer.items runs.kept.items (unrolled c.in_ok-bytes.bytes.items c.in_ok-rows.rows.items 8) (length runs.next.items) (numbers_are c) c.in_ok-outer.ensures.whole c.in_ok-outer.ensures.keeps
+    (c.in_ok-outer.ensures.long ∙ sym (length_values p))
+
+pub returns-clause-few : goal.returns-clause-few
+returns-clause-few c =
+    let kept = c.in_ok-outer.field-0.kept.items in
+    let l = ap length (numbers_are c) ∙ length_packed (value_at c.args.problem.now 0 0) kept (length kept * 64) in
+    let w = c.in_ok-outer.ensures.whole in
+    let f = c.in_ok-outer.ensures.few in
+    let k = c.in_ok-outer.ensures.keeps.few in
+    omega arith

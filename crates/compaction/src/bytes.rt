@@ -1,0 +1,109 @@
+//! Keys of sets of the lowest three variables: the values of a byte stand in a row, and only the rows of the 256 bytes are worked
+//! on before the strips are written out.
+
+ghost use Rattle.std.specs.Prelude.{◌≡◌, ℕ, ◌*◌, ◌^◌, ◌<◌, ◌≤◌, length, slice_index, IfOk, IsFalse};
+ghost use Rattle.order_model.specs.Orders.{has};
+ghost use Rattle.compaction.specs.Strips.{AreNamed, unrolled};
+
+use crate::classes::rank_of;
+use crate::columns::{ByteStrips, byte_strips};
+use crate::strips::{Strips, strip_at, tell_pairs};
+use order_model::{Mask, Problem, VarIx};
+use std::alloc::{AllocError, Global};
+use std::marker::Model;
+
+/// The keys of a set of the lowest three variables. A byte names a row, which has an entry for each assignment of those of the
+/// three outside the set.
+#[derive(Drop)]
+pub struct ByteKeys<'a> {
+    problem: &'a Problem,
+    set: Mask,
+    outer: Vec<u32>,
+    bytes: Vec<u8>,
+    rows: Vec<u32>,
+    masks: Vec<u16>,
+}
+
+impl<'a> Model for ByteKeys<'a> {
+    ghost use Rattle.compaction.specs.Table.{ClassesOf, classes_of};
+    ghost use Rattle.compaction.specs.Strips.{HoldsBytes};
+
+    ghost Value = { ClassesOf };
+
+    ghost view = { λ c. classes_of c.problem.now c.set };
+
+    ghost invariant = { λ c. HoldsBytes (classes_of c.problem.now c.set) 8 c.outer.items c.bytes.items c.rows.items c.masks.items };
+}
+
+/// All strips that are named, one behind the other.
+fn unroll(
+    alloc: Global,
+    names: &[u8],
+    numbers: &[u32],
+    strip: usize,
+) -> Result<Vec<u32>, AllocError>
+    requires few { length numbers.now ≤ 2 ^ 20 }
+    requires long { length names.now * strip ≤ 2 ^ 20 }
+    requires named { AreNamed names.now numbers.now strip }
+    ensures { IfOk result (λ v. v.items ≡ unrolled names.now numbers.now strip) }
+{
+    let mut out = Vec::with_capacity(alloc, names.len() * strip)?;
+    for name in names {
+        out.extend_from_slice(strip_at(numbers, strip, u32::from(*name)))?;
+    }
+    Ok(out)
+}
+
+impl<'a> ByteKeys<'a> {
+    ghost use Rattle.compaction.specs.Table.{set_of, with_variable, classes_of};
+
+    /// The keys of the empty set: the values.
+    pub fn of_problem(alloc: Global, problem: &'a Problem) -> Result<ByteKeys<'a>, AllocError>
+        requires { 8 ≤ problem.now.inputs }
+        ensures { IfOk result (λ c. c ≡ classes_of problem.now 0) }
+    {
+        prove!(problem.inputs() <= 16);
+        prove!(problem.outputs() <= 16);
+        let ByteStrips { outer, bytes, rows } = byte_strips(alloc, problem)?;
+        let mut masks = Vec::with_capacity(alloc, 2)?;
+        masks.push(0)?;
+        masks.push(0)?;
+        Ok(ByteKeys {
+            problem,
+            set: 0,
+            outer,
+            bytes,
+            rows,
+            masks,
+        })
+    }
+
+    /// The keys with one more variable in the set.
+    pub fn add(self, alloc: Global, x: VarIx) -> Result<ByteKeys<'a>, AllocError>
+        requires inner { x < 3 }
+        requires inside { 8 ≤ self.problem.inputs }
+        requires new { IsFalse (has (set_of self) x) }
+        ensures { IfOk result (λ c. c ≡ with_variable self.entry x) }
+    {
+        prove!(self.problem.inputs() <= 16);
+        let rank = rank_of(self.set, x);
+        let told = tell_pairs(alloc, &self.rows, rank, x, &self.masks)?;
+        Ok(ByteKeys {
+            problem: self.problem,
+            set: self.set | (1 << x),
+            outer: self.outer,
+            bytes: self.bytes,
+            rows: told.numbers,
+            masks: told.masks,
+        })
+    }
+
+    /// The strips, written out.
+    pub fn write_out(self, alloc: Global) -> Result<Strips<'a>, AllocError>
+        requires { 8 ≤ self.problem.inputs }
+        ensures { IfOk result (λ c. c ≡ self.entry) }
+    {
+        let numbers = unroll(alloc, &self.bytes, &self.rows, 1usize << rank_of(self.set, 3))?;
+        Ok(Strips::of_parts(alloc, self.problem, self.set, self.outer, numbers, self.masks))
+    }
+}
