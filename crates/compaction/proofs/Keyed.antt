@@ -1,41 +1,36 @@
 -- Tables of keys: numbers that tell subfunctions apart, in any order.
 --     pairs_mapped      the pairs of a mapped table
 --     keys_of_classes      class numbers are keys
---     classes_from_keys      the class table with one more variable, from keys
---     keys_more      the keys with one more variable
-use Rattle.std.proofs.Common.{◌≡◌, ℕ, zero, suc, ◌+◌, ◌*◌, ◌/◌, ◌%◌, ◌^◌, ◌<◌, ◌≤◌, Bool, true, false, not, cond, inl, inr, List, [], ◌∷◌, map, length, reverse, get_or, bit_or, nat_eq, eq-eqb, ne_eqb, refl, sym, ap, ap₂, ◌∙◌, subst, arith}
+--     pairs_depend, more_classes      masks and class numbers with one more variable, from keys
+--     keys_ready      what the numbering of the pairs asks for
+--     value_keys      the keys of the values
+use Rattle.std.proofs.Common.{◌≡◌, ℕ, zero, suc, ◌+◌, ◌*◌, ◌/◌, ◌^◌, ◌<◌, ◌≤◌, Bool, true, false, not, cond, inl, inr, List, [], ◌∷◌, map, length, reverse, get_or, bit_or, nat_eq, eq-eqb, ne_eqb, refl, sym, ap, ap₂, ◌∙◌, subst, arith}
 use Rattle.std.specs.List.{filter, range_with_len}
-use Rattle.std.specs.Set.{distinct_count}
-use Rattle.std.proofs.Math.Nat.{mul-le-mul_left, mul-le-mul_right, add-mul-mod_self_right, add-mul-div_right, mod-eq_of_lt, div-eq_of_lt}
 use Rattle.std.proofs.lemmas.Bool.{cases_eq}
 use Rattle.std.proofs.lemmas.Nat.{pow_pos}
 use Rattle.std.proofs.lemmas.List.{length-map, get_or-map}
-use Rattle.std.proofs.lemmas.List.FromFn.{get_or-map-range_with_len, length-map-range_with_len}
-use Rattle.order_model.specs.Functions.{Function, restrict, table, same_table, depends}
+use Rattle.order_model.specs.Functions.{Function, restrict, same_table, depends}
 use Rattle.order_model.specs.Orders.{has, variables}
 use Rattle.order_model.specs.Levels.{reach}
 use Rattle.order_model.specs.Widths.{same_pair, entries, class_of, class_numbers, class_pair, outside}
 use Rattle.order_model.proofs.Sets.{Among, among_from_map}
 use Rattle.order_model.proofs.Tables.{same_table_decides, depends_same}
-use Rattle.order_model.proofs.ClassPairs.{count_alike, pair_decides, rank_apart, depends_by_classes}
+use Rattle.order_model.proofs.ClassPairs.{pair_decides, rank_apart, depends_by_classes}
 use Rattle.compaction.specs.Dependence.{dependence, joined_mask}
 use Rattle.compaction.specs.Numbering.{rank, ranks}
 use Rattle.compaction.specs.Places.{low_place, pair_at, pairs}
 use Rattle.std.specs.List.{list_any}
 use Rattle.std.proofs.lemmas.Nat.Bits.{shr_and_one, bit_at-zero}
 use Rattle.order_model.specs.Problems.{TruthTables, value_at}
-use Rattle.order_model.specs.Orders.{members}
-use Rattle.order_model.proofs.CellLaws.{members_zero}
 use Rattle.compaction.specs.Values.{values_of, number_of}
 use Rattle.compaction.proofs.StartClasses.{holds_start}
-use Rattle.compaction.proofs.Filled.{low_or}
-use Rattle.compaction.specs.Table.{classes_of, ClassesOf, HoldsClasses, HoldsKeys, with_variable, functions_of, set_of, free_below, joined_key, joined_key_mask}
+use Rattle.compaction.specs.Table.{classes_of, ClassesOf, HoldsClasses, HoldsKeys, functions_of, set_of, free_below}
 use Rattle.compaction.proofs.Ranks.{ranks_alike}
-use Rattle.compaction.proofs.Index.{pair_within, length-pairs}
+use Rattle.compaction.proofs.Index.{pair_within}
 use Rattle.compaction.proofs.DependenceMasks.{dependence_joined}
-use Rattle.compaction.proofs.Counted.{map_map, nat_decides, masks_same}
-use Rattle.compaction.proofs.Compacted.{step_of, tops, length_numbers, pairs_told, pairs_of_classes, compacted, counted, told_apart, class_pair_same, class_numbers_same}
-use Rattle.compaction.proofs.Extended.{step_is, members_more, class_below, few_masks, IsReady, rank_small, free_none, free_more}
+use Rattle.compaction.proofs.Counted.{map_map, nat_decides}
+use Rattle.compaction.proofs.Compacted.{step_of, tops, length_numbers, pairs_told, pairs_of_classes, compacted, counted, class_pair_same}
+use Rattle.compaction.proofs.Extended.{step_is, class_below, few_masks, IsReady, rank_small, free_none, free_more}
 
 -- ---- lists
 
@@ -132,12 +127,6 @@ module _ (cs : List ℕ) (r : ℕ) (whole : (blocks : ℕ) × (length cs ≡ blo
       ∙ sym (ranks_alike same_pair pair_decides same_pair pair_decides (λ p. p) (both own) (pairs cs (2 ^ r)) both_apart)
       ∙ ap (ranks same_pair) (map_self (pairs cs (2 ^ r)))
 
-  pub pairs_counted : distinct_count same_pair (pairs (ranks nat_eq cs) (2 ^ r)) ≡ distinct_count same_pair (pairs cs (2 ^ r))
-  pairs_counted =
-      ap (distinct_count same_pair) ranked_pairs
-      ∙ sym (count_alike same_pair pair_decides same_pair pair_decides (λ p. p) (both own) (pairs cs (2 ^ r)) both_apart)
-      ∙ ap (distinct_count same_pair) (map_self (pairs cs (2 ^ r)))
-
   pub same_numbers : (p : ℕ × ℕ) → Among p (pairs cs (2 ^ r)) → nat_eq p.0 p.1 ≡ nat_eq (own p.0) (own p.1)
   same_numbers p h =
       let a = pair_among p h in
@@ -145,34 +134,6 @@ module _ (cs : List ℕ) (r : ℕ) (whole : (blocks : ℕ) × (length cs ≡ blo
         | inl e ↦ eq-eqb p.0 p.1 e ∙ sym (eq-eqb (own p.0) (own p.1) (ap own e))
         | inr ne ↦ ne_eqb p.0 p.1 ne ∙ sym (ne_eqb (own p.0) (own p.1) (λ e. ne (own_apart p.0 p.1 a.0 a.1 e)))
       ]
-
-  -- the numbers of pairs of small keys
-  pub keys_ranked : (base : ℕ) → ((i : ℕ) → i < length cs → get_or cs i 0 < base) → ranks nat_eq (map (joined_key base) (pairs cs (2 ^ r))) ≡ ranks same_pair (pairs cs (2 ^ r))
-  keys_ranked base small =
-      ranks_alike nat_eq nat_decides same_pair pair_decides (joined_key base) (λ p. p) (pairs cs (2 ^ r)) apart
-      ∙ ap (ranks same_pair) (map_self (pairs cs (2 ^ r)))
-    where
-      apart : (p q : ℕ × ℕ) → Among p (pairs cs (2 ^ r)) → Among q (pairs cs (2 ^ r)) → (joined_key base p ≡ joined_key base q → p ≡ q) × (p ≡ q → joined_key base p ≡ joined_key base q)
-      apart p q h k =
-          let a = key_below p.0 (pair_among p h).0 in
-          let b = key_below q.0 (pair_among q k).0 in (
-            λ e.
-                let x : p.0 ≡ q.0 = sym (mod-eq_of_lt a) ∙ sym (add-mul-mod_self_right p.0 p.1 base) ∙ ap (λ z. z % base) e ∙ add-mul-mod_self_right q.0 q.1 base ∙ mod-eq_of_lt b in
-                let some : 0 < base = omega arith in
-                let y : p.1 ≡ q.1 = high p a some ∙ ap (λ z. z / base) e ∙ sym (high q b some) in
-                λ i. (x i, y i),
-            ap (joined_key base),
-          )
-        where
-          key_below : (v : ℕ) → Among v cs → v < base
-          key_below v m = within cs small m
-            where
-              within : (xs : List ℕ) → ((i : ℕ) → i < length xs → get_or xs i 0 < base) → Among v xs → v < base
-              within [] s n = absurd n
-              within (x ∷ xs) s n = elim n [ inl e ↦ let z = s 0 (omega arith) in omega arith | inr t ↦ within xs (λ i l. s (suc i) (omega arith)) t ]
-
-          high : (u : ℕ × ℕ) → u.0 < base → 0 < base → u.1 ≡ (u.0 + u.1 * base) / base
-          high u l some = let d = add-mul-div_right u.0 u.1 some in let z = div-eq_of_lt l in omega arith
 
 -- ---- one more variable
 
@@ -207,13 +168,6 @@ module _ (n : ℕ) (F : List Function) (T : List ℕ) (x : ℕ) (small : x < n) 
       turn true = refl
       turn false = refl
 
-  pub many_classes : (keys : List ℕ) (r : ℕ) → ((blocks : ℕ) × (length keys ≡ blocks * (2 * 2 ^ r))) → 2 ^ r ≡ step_of T x → class_numbers n F T ≡ ranks nat_eq keys →
-      distinct_count same_pair (pairs keys (2 ^ r)) ≡ distinct_count same_table (entries n F (x ∷ T))
-  unfolding R entries
-  many_classes keys r whole step classes =
-      sym (pairs_counted keys r whole) ∙ ap (distinct_count same_pair) (ap₂ pairs (sym classes) step ∙ pairs_of_classes n T x small new F)
-      ∙ count_alike same_pair pair_decides same_table same_table_decides (class_pair n F T x) (table n) R (told_apart n T x small new F)
-
   pub more_classes : (keys : List ℕ) (r : ℕ) → ((blocks : ℕ) × (length keys ≡ blocks * (2 * 2 ^ r))) → 2 ^ r ≡ step_of T x → class_numbers n F T ≡ ranks nat_eq keys →
       class_numbers n F (x ∷ T) ≡ ranks same_pair (pairs keys (2 ^ r))
   more_classes keys r whole step classes =
@@ -237,100 +191,9 @@ keys_of_classes t numbers masks h = record {
     es : List (List Bool)
     es = entries t.problem.inputs (functions_of t) (set_of t)
 
-pub length_ranked : (qs : List (ℕ × ℕ)) → length (ranks same_pair qs) ≡ length qs
-unfolding ranks
-length_ranked qs = length-map qs (rank same_pair qs)
-
 pub outside_same : (n : ℕ) (F : List Function) (S T : List ℕ) → ((y : ℕ) → has S y ≡ has T y) → map (dependence n) (reach F (reverse (outside n S))) ≡ map (dependence n) (reach F (reverse (outside n T)))
 unfolding outside
 outside_same n F S T h = λ i. map (dependence n) (reach F (reverse (filter (λ y. not (h y i)) (variables n))))
-
-module _ (t : ClassesOf) (x : ℕ) (inside : x < t.problem.inputs) (new : has (set_of t) x ≡ false) (keys masks : List ℕ) (h : HoldsKeys t keys masks)
-    (whole : (blocks : ℕ) × (length keys ≡ blocks * (2 * 2 ^ free_below t.set x))) where
-  ps : List (ℕ × ℕ)
-  ps = pairs keys (2 ^ free_below t.set x)
-
-  -- the class table with one more variable
-  pub classes_from_keys : (numbered joined : List ℕ) → numbered ≡ ranks same_pair (pairs keys (2 ^ free_below t.set x)) → length joined ≡ distinct_count same_pair (pairs keys (2 ^ free_below t.set x)) →
-      map (λ c. get_or joined c 0) numbered ≡ map (joined_mask masks x) (pairs keys (2 ^ free_below t.set x)) → HoldsClasses (with_variable t x) numbered joined
-  classes_from_keys numbered joined e many told =
-      let n = t.problem.inputs in
-      let F = functions_of t in
-      let T = set_of t in
-      let s = step_is t x inside new in
-      let c = more_classes n F T x inside new keys (free_below t.set x) whole s h.classes in
-      record {
-        few_inputs = h.few_inputs;
-        few = (let l = ap length e in let k = length_ranked (pairs keys (2 ^ free_below t.set x)) in let m = length-pairs keys (2 ^ free_below t.set x) in let f = h.few in omega arith);
-        classes = e ∙ sym c ∙ class_numbers_same n F (x ∷ T) (set_of (with_variable t x)) (members_more t x inside new);
-        masks_are = masks_same n F (x ∷ T) (set_of (with_variable t x)) (members_more t x inside new) joined (record {
-          many = many ∙ many_classes n F T x inside new keys (free_below t.set x) whole s h.classes;
-          told = ap (map (λ k. get_or joined k 0)) (c ∙ sym e) ∙ told ∙ pairs_depend n F T x inside new keys masks (free_below t.set x) whole s h.classes h.told;
-        });
-      }
-
-  -- the keys with one more variable
-  pub keys_more : (keys' masks' : List ℕ) → length masks ≤ 256 → keys' ≡ map (joined_key (length masks)) (pairs keys (2 ^ free_below t.set x)) → masks' ≡ map (joined_key_mask masks x) (range_with_len 0 (length masks * length masks)) →
-      HoldsKeys (with_variable t x) keys' masks'
-  keys_more keys' masks' narrow e d =
-      let n = t.problem.inputs in
-      let F = functions_of t in
-      let T = set_of t in
-      let s = step_is t x inside new in
-      record {
-        few_inputs = h.few_inputs;
-        few = (let l = ap length e ∙ length-map (pairs keys (2 ^ free_below t.set x)) (joined_key (length masks)) in let m = length-pairs keys (2 ^ free_below t.set x) in let f = h.few in omega arith);
-        few_masks = (let k = ap length d ∙ length-map-range_with_len (joined_key_mask masks x) 0 (length masks * length masks) in let a = mul-le-mul_left (length masks) narrow in let b = mul-le-mul_right 256 narrow in omega arith);
-        below = λ i lt.
-            let l = ap length e ∙ length-map (pairs keys (2 ^ free_below t.set x)) (joined_key (length masks)) in
-            let v = ap (λ us. get_or us i 0) e ∙ get_or-map (joined_key (length masks)) (pairs keys (2 ^ free_below t.set x)) i (0, 0) 0 (omega arith) in
-            let b = key_small (get_or (pairs keys (2 ^ free_below t.set x)) i (0, 0)) (among_pair (pairs keys (2 ^ free_below t.set x)) i (omega arith)) in
-            let k = ap length d ∙ length-map-range_with_len (joined_key_mask masks x) 0 (length masks * length masks) in
-            omega arith;
-        classes = sym (class_numbers_same n F (x ∷ T) (set_of (with_variable t x)) (members_more t x inside new)) ∙ more_classes n F T x inside new keys (free_below t.set x) whole s h.classes
-            ∙ sym (ap (ranks nat_eq) e ∙ keys_ranked keys (free_below t.set x) whole (length masks) h.below);
-        told = ap (map (λ k. get_or masks' k 0)) e ∙ map_map (λ k. get_or masks' k 0) (joined_key (length masks)) (pairs keys (2 ^ free_below t.set x))
-            ∙ map_same (λ p. get_or masks' (joined_key (length masks) p) 0) (joined_mask masks x) (pairs keys (2 ^ free_below t.set x)) mask_at
-            ∙ pairs_depend n F T x inside new keys masks (free_below t.set x) whole s h.classes h.told
-            ∙ outside_same n F (x ∷ T) (set_of (with_variable t x)) (members_more t x inside new);
-      }
-    where
-      among_pair : (qs : List (ℕ × ℕ)) (j : ℕ) → j < length qs → Among (get_or qs j (0, 0)) qs
-      among_pair [] j k = absurd (omega arith)
-      among_pair (q ∷ qs) zero k = inl refl
-      among_pair (q ∷ qs) (suc j) k = inr (among_pair qs j (omega arith))
-
-      parts_below : (p : ℕ × ℕ) → Among p (pairs keys (2 ^ free_below t.set x)) → (p.0 < length masks) × (p.1 < length masks)
-      parts_below p a =
-          let b = pair_among keys (free_below t.set x) whole p a in
-          (within keys h.below p.0 b.0, within keys h.below p.1 b.1)
-        where
-          within : (xs : List ℕ) → ((i : ℕ) → i < length xs → get_or xs i 0 < length masks) → (v : ℕ) → Among v xs → v < length masks
-          within [] s v m = absurd m
-          within (u ∷ us) s v m = elim m [ inl q ↦ let z = s 0 (omega arith) in omega arith | inr r ↦ within us (λ i l. s (suc i) (omega arith)) v r ]
-
-      key_small : (p : ℕ × ℕ) → Among p (pairs keys (2 ^ free_below t.set x)) → joined_key (length masks) p < length masks * length masks
-      key_small p a =
-          let b = parts_below p a in
-          let low = b.0 in
-          let high = b.1 in
-          let m = product_below p.1 (length masks) (length masks) high in
-          omega arith
-        where
-          product_below : (u k b : ℕ) → u < k → u * b + b ≤ k * b
-          product_below u k b l = (let q = mul-le-mul_right b (let s : suc u ≤ k = omega arith in s) in let r : suc u * b ≡ u * b + b = grind arith in omega arith)
-
-      mask_at : (p : ℕ × ℕ) → Among p (pairs keys (2 ^ free_below t.set x)) → get_or masks' (joined_key (length masks) p) 0 ≡ joined_mask masks x p
-      mask_at p a =
-          let b = parts_below p a in
-          let low = b.0 in
-          let some : 0 < length masks = omega arith in
-          let z = div-eq_of_lt low in
-          let q : (p.0 + p.1 * length masks) / length masks ≡ p.1 = add-mul-div_right p.0 p.1 some ∙ omega arith in
-          let r : (p.0 + p.1 * length masks) % length masks ≡ p.0 = add-mul-mod_self_right p.0 p.1 (length masks) ∙ mod-eq_of_lt low in
-          ap (λ us. get_or us (joined_key (length masks) p) 0) d
-          ∙ get_or-map-range_with_len (joined_key_mask masks x) 0 (length masks * length masks) (joined_key (length masks) p) (joined_key (length masks) p) 0 (key_small p a) (omega arith)
-          ∙ (λ i. joined_mask masks x (r i, q i))
 
 -- what the numbering of the pairs asks for
 pub keys_ready : (t : ClassesOf) (x : ℕ) → x < t.problem.inputs → has (set_of t) x ≡ false → (keys masks : List ℕ) (r : ℕ) → HoldsKeys t keys masks → r ≡ free_below t.set x → IsReady keys masks r
@@ -393,18 +256,3 @@ value_keys p inputs outputs some =
     zeros true (suc (suc c)) = refl
     zeros false zero = refl
     zeros false (suc c) = refl
-
-pub none_in : (n x : ℕ) → has (members n 0) x ≡ false
-none_in n x = ap (λ T. has T x) (members_zero n)
-
--- the keys of one variable
-pub variable_keys : (p : TruthTables) (x : ℕ) → p.inputs ≤ 16 → length p.tables ≤ 16 → 0 < length p.tables → x < p.inputs → (keys masks : List ℕ) → keys ≡ map (joined_key 2) (pairs (map (number_of (value_at p 0 0)) (values_of p)) (2 ^ x)) →
-    masks ≡ map (joined_key_mask (0 ∷ 0 ∷ []) x) (range_with_len 0 (2 * 2)) → HoldsKeys (with_variable (classes_of p 0) x) keys masks
-variable_keys p x inputs outputs some inside keys masks e d =
-    let values = map (number_of (value_at p 0 0)) (values_of p) in
-    let h = value_keys p inputs outputs some in
-    let r = keys_ready (classes_of p 0) x inside (none_in p.inputs x) values (0 ∷ 0 ∷ []) (free_below 0 x) h refl in
-    keys_more (classes_of p 0) x inside (none_in p.inputs x) values (0 ∷ 0 ∷ []) h r.whole keys masks (omega arith) (e ∙ ap (λ k. map (joined_key 2) (pairs values (2 ^ k))) (sym (free_zero x))) d
-
-pub with_first : (p : TruthTables) (set x : ℕ) → set ≡ 0 → with_variable (classes_of p set) x ≡ classes_of p (2 ^ x)
-with_first p set x e = ap (λ k. classes_of p (bit_or k (2 ^ x))) e ∙ ap (classes_of p) (low_or 0 x (pow_pos x) ∙ omega arith)

@@ -17,7 +17,6 @@ pub mod Wanted
 pub mod Keyed
 pub mod Apart
 pub mod CountedFirsts
-pub mod ValuePairs
 pub mod Named
 pub mod Unrolled
 pub mod Paired

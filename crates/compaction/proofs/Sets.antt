@@ -2,12 +2,11 @@
 --     low_more, low_same      the part of a mask below a variable
 --     bit_unset, bit_set, unset_bit      a bit of a mask, and its member
 --     low_new, low_all      it lacks the variable; below all variables it is the mask
---     highest_left, highest_none, last_member      the highest member of a mask, sought from below
 --     row_written, row_kept      one more variable of a row of widths
-use Rattle.std.proofs.Common.{◌≡◌, ◌≢◌, ℕ, ◌+◌, ◌*◌, ◌/◌, ◌%◌, ◌^◌, ◌<◌, ◌≤◌, Bool, true, false, ◌&&◌, inl, inr, List, length, slice_index, get_or, set, get_or-set_same, get_or-set_other, refl, sym, ap, ap₂, ◌∙◌, arith, eqb, eq-eqb, ne_eqb, bit_and, bit_or, zero-mul, pow_mono, suc}
+use Rattle.std.proofs.Common.{◌≡◌, ◌≢◌, ℕ, ◌+◌, ◌*◌, ◌/◌, ◌%◌, ◌^◌, ◌<◌, ◌≤◌, Bool, true, false, ◌&&◌, inl, inr, List, length, slice_index, get_or, set, get_or-set_same, get_or-set_other, refl, sym, ap, ap₂, ◌∙◌, arith, eqb, eq-eqb, ne_eqb, bit_and, bit_or, zero-mul}
 use Rattle.std.specs.Int.{bit_at}
-use Rattle.std.proofs.Math.Nat.{mod-lt, mod-eq_of_lt, two-pow-succ, div-eq_of_lt, div-add-mod, div-mul-le_self, lt-div-mul-add, mul-le-mul_right, one-mul, mul-one}
-use Rattle.std.proofs.lemmas.Bool.{cases_lt, cases_eq, true≢false}
+use Rattle.std.proofs.Math.Nat.{mod-lt, mod-eq_of_lt}
+use Rattle.std.proofs.lemmas.Bool.{cases_eq, true≢false}
 use Rattle.std.proofs.lemmas.List.{length-set}
 use Rattle.std.proofs.lemmas.Nat.{pow_pos, or_disjoint, mod-pow-add}
 use Rattle.std.proofs.lemmas.Nat.Bits.{shr_and_one, bit_at_above, and_pow, bit_at-lt}
@@ -66,41 +65,6 @@ unset_bit n mask y lt e =
 
 pub low_all : (n mask : ℕ) → mask < 2 ^ n → mask % 2 ^ n ≡ mask
 low_all n mask h = mod-eq_of_lt h
-
--- what stays of a mask above a variable, while its highest member is not met
-pub highest_left : (mask y : ℕ) → 0 < mask / 2 ^ y → mask / 2 ^ y ≢ 1 → 0 < mask / 2 ^ (y + 1)
-highest_left mask y some other = elim (cases_lt 0 (mask / 2 ^ (y + 1))) [
-  | inl lt ↦ lt
-  | inr le ↦
-      let two : 2 ≤ mask / 2 ^ y = omega arith in
-      let m = mul-le-mul_right (2 ^ y) two in
-      let d = div-mul-le_self mask (2 ^ y) in
-      let p : 2 ^ (y + 1) ≡ 2 ^ y + 2 ^ y = ap (λ k. 2 ^ k) (let s : y + 1 ≡ suc y = omega arith in s) ∙ two-pow-succ y in
-      let u = lt-div-mul-add {a = mask} (pow_pos (y + 1)) in
-      let none : mask / 2 ^ (y + 1) ≡ 0 = omega arith in
-      let z = ap (λ k. k * 2 ^ (y + 1)) none ∙ zero-mul (2 ^ (y + 1)) in
-      absurd (omega arith)
-]
-
-pub highest_none : (n mask y : ℕ) → mask < 2 ^ n → n ≤ y → (0 < mask → 0 < mask / 2 ^ y) → mask ≡ 0
-highest_none n mask y small le left = elim (cases_lt 0 mask) [
-  | inl some ↦
-      let l = left some in
-      let p : 2 ^ n ≤ 2 ^ y = pow_mono {j = y} le in
-      let z = div-eq_of_lt (let s : mask < 2 ^ y = omega arith in s) in
-      absurd (omega arith)
-  | inr none ↦ omega arith
-]
-
-pub last_member : (mask y : ℕ) → mask / 2 ^ y ≡ 1 → bit_or (mask % 2 ^ y) (2 ^ y) ≡ mask
-last_member mask y e =
-    let b : bit_and (mask / 2 ^ y) 1 ≡ 1 = ap (λ k. bit_and k 1) e in
-    let m = low_bits mask y in
-    let d = div-add-mod mask (2 ^ y) in
-    let o : mask / 2 ^ y % 2 ≡ 1 = ap (λ k. k % 2) e in
-    let u : (mask / 2 ^ y % 2) * 2 ^ y ≡ 2 ^ y = ap (λ k. k * 2 ^ y) o ∙ one-mul (2 ^ y) in
-    let v : 2 ^ y * (mask / 2 ^ y) ≡ 2 ^ y = ap (λ k. 2 ^ y * k) e ∙ mul-one (2 ^ y) in
-    low_more mask y b ∙ m ∙ omega arith
 
 -- ---- rows
 

@@ -7,7 +7,6 @@ ghost use Rattle.order_model.specs.Orders.{has, without};
 ghost use Rattle.order_model.specs.Widths.{class_numbers, width as width_over};
 ghost use Rattle.compaction.specs.Table.{free_below, most_entries};
 
-use crate::keys::Keys;
 use crate::masks::join_masks;
 use crate::numbering::number_pairs_with_masks;
 use crate::pairs::number_pairs_by_index;
@@ -82,7 +81,6 @@ pub(crate) fn row_of(masks: &[u16], wanted: Mask) -> [u32; 16]
 }
 
 impl<'a> Classes<'a> {
-    ghost use Rattle.compaction.specs.Rows.{IsRow};
     ghost use Rattle.compaction.specs.Table.{set_of, functions_of, with_variable, classes_of};
 
     /// The classes of the empty set.
@@ -108,16 +106,13 @@ impl<'a> Classes<'a> {
         requires { mask < 2 ^ problem.now.inputs }
         ensures { IfOk result (λ c. c ≡ classes_of problem.now mask) }
     {
-        let mut keys = Keys::of_problem(alloc, problem);
+        let mut classes = Classes::of_problem(alloc, problem)?;
         for y in 0..problem.inputs() {
-            if mask >> y == 1 {
-                return keys.number(alloc, y);
-            }
             if (mask >> y) & 1 == 1 {
-                keys = keys.add(alloc, y)?;
+                classes = classes.compact(alloc, y)?;
             }
         }
-        Classes::of_problem(alloc, problem)
+        Ok(classes)
     }
 
     /// Whether a variable is outside the set, so that it may be added.
@@ -181,14 +176,6 @@ impl<'a> Classes<'a> {
         ensures { result ≡ self.now.set }
     {
         self.set
-    }
-
-    /// The widths of the wanted variables, each over the set without it, and 0 of the others.
-    pub(crate) fn width_row(&self, wanted: Mask) -> [u32; 16]
-        requires { (x : ℕ) → bit_at wanted x ≡ 1 → IsTrue (has (set_of self.now) x) }
-        ensures { IsRow self.now.problem self.now.set wanted result }
-    {
-        row_of(&self.masks, wanted)
     }
 
     /// The classes with one more variable in the set.

@@ -3,11 +3,8 @@
 ghost use Rattle.std.specs.Prelude.{◌≡◌, ℕ, ◌+◌, ◌*◌, ◌^◌, ◌<◌, ◌≤◌, ◌++◌, Bool, map, length, get_or, slice_index, IfOk, OnOk, nat_eq};
 ghost use Rattle.std.specs.List.{flat_map, list_any};
 ghost use Rattle.order_model.specs.Problems.{value_at, outputs_of, table_in, words_per_table};
-ghost use Rattle.compaction.specs.Places as places;
-ghost use Rattle.compaction.specs.Table.{joined_key};
 ghost use Rattle.compaction.specs.Values.{row, values_of, number_of as number, class_count};
 
-use crate::pairs::low_place;
 use order_model::Problem;
 use order_model::packed::bit_of;
 use std::alloc::{AllocError, Global};
@@ -51,44 +48,6 @@ pub fn value_numbers(alloc: Global, problem: &Problem) -> Result<Vec<u32>, Alloc
         push_values(&mut numbers, problem.words(output), problem.inputs(), first)?;
     }
     Ok(numbers)
-}
-
-/// Adds the keys of the pairs of a function's values at the points that differ in `x` only.
-fn push_value_pairs(
-    keys: &mut Vec<u32>,
-    words: &[u64],
-    inputs: u8,
-    first: bool,
-    x: u8,
-) -> Result<(), AllocError>
-    requires few { inputs ≤ 16 }
-    requires inside { x < inputs }
-    requires long { length words.now ≡ words_per_table inputs }
-    ensures { OnOk result (keys.new.items ≡ keys.old.items ++ map (joined_key 2) (places.pairs (map (number first) (row inputs (table_in inputs words.now))) (2 ^ x))) }
-{
-    let step = 1usize << x;
-    for j in 0..1usize << (inputs - 1) {
-        let low = low_place(x as u32, j);
-        let lower = number_of_value(bit_of(words, low), first);
-        let upper = number_of_value(bit_of(words, low + step), first);
-        keys.push(lower + upper * 2)?;
-    }
-    Ok(())
-}
-
-/// The keys of the pairs of all values at the points that differ in `x` only.
-pub fn value_pairs(alloc: Global, problem: &Problem, x: u8) -> Result<Vec<u32>, AllocError>
-    requires { x < problem.now.inputs }
-    ensures { IfOk result (λ v. v.items ≡ map (joined_key 2) (places.pairs (map (number (value_at problem.now 0 0)) (values_of problem.now)) (2 ^ x))) }
-{
-    let outputs = problem.outputs();
-    let entries = (outputs as usize) << (problem.inputs() - 1);
-    let mut keys = Vec::with_capacity(alloc, entries)?;
-    let first = problem.value(0, 0);
-    for output in 0..outputs {
-        push_value_pairs(&mut keys, problem.words(output), problem.inputs(), first, x)?;
-    }
-    Ok(keys)
 }
 
 /// Whether both numbers occur.

@@ -121,12 +121,18 @@ fn all_widths(
     Ok(widths)
 }
 
-/// Compares the widths of a block with those by each set alone.
-fn try_block(rt: &impl Abort, alloc: Global, problem: &Problem, block: &Block) -> Result<(), Fail> {
+/// Compares the widths of a block with those by each set alone. The answer is their sum.
+fn try_block(
+    rt: &impl Abort,
+    alloc: Global,
+    problem: &Problem,
+    block: &Block,
+) -> Result<u64, Fail> {
     assert!(rt; block.inputs() == problem.inputs());
     let mut tally = Tally::new();
     let widths = all_widths(alloc, problem, block, &mut tally)?;
     let mut count = 0u64;
+    let mut sum = 0u64;
     for i in 0..block.len() {
         let mask = block.mask(i);
         let row = widths.row(i);
@@ -143,15 +149,28 @@ fn try_block(rt: &impl Abort, alloc: Global, problem: &Problem, block: &Block) -
                 assert!(rt; classes.lacks(x));
                 assert_eq!(rt; classes.width_in(x, &mut scratch, &mut again), wanted);
                 assert_eq!(rt; (single.count(), again.count()), (1, 1));
-                assert!(rt; count < 10000);
+                assert!(rt; count < 10000 && sum < 1 << 40);
                 count += 1;
+                sum += u64::from(wanted);
             }
             assert_eq!(rt; row[x as usize], wanted, "set {mask}, variable {x}");
         }
     }
     assert_eq!(rt; tally.count(), count);
     assert!(rt; widths.compactions() <= 2367);
-    Ok(())
+    Ok(sum)
+}
+
+/// The same for all blocks of a layer.
+fn try_layer(rt: &impl Abort, alloc: Global, problem: &Problem, size: u8) -> Result<u64, Fail> {
+    let layer = Layer::of(alloc, problem.inputs(), size)?;
+    let mut sum = 0u64;
+    for i in 0..layer.blocks() {
+        let own = try_block(rt, alloc, problem, &layer.block(i))?;
+        assert!(rt; sum < 1 << 40 && own < 1 << 41);
+        sum += own;
+    }
+    Ok(sum)
 }
 
 #[test]
@@ -180,12 +199,60 @@ fn widths_of_blocks(rt: HostRuntime) -> Result<(), Fail> {
     ] {
         let problem = problem_of(&rt, alloc, tables)?;
         for size in 1..=problem.inputs() {
-            let layer = Layer::of(alloc, problem.inputs(), size)?;
-            for i in 0..layer.blocks() {
-                try_block(&rt, alloc, &problem, &layer.block(i))?;
-            }
+            try_layer(&rt, alloc, &problem, size)?;
         }
     }
+    Ok(())
+}
+
+/// Sets the values of a function of ten variables that are odd numbers.
+fn set_odd(
+    rt: &impl Abort,
+    problem: &mut Problem,
+    output: u8,
+    point: u32,
+    value: u32,
+) -> Result<(), Fail> {
+    if value % 2 == 1 {
+        assert!(rt; output < problem.outputs() && point < 1 << problem.inputs());
+        problem.set(output, point);
+    }
+    Ok(())
+}
+
+/// Two numbers of five bits: the carry of their sum, a bit of their product, and whether a bit of one differs from one of the other.
+fn five_bit_numbers(rt: &impl Abort, alloc: Global) -> Result<Problem, Fail> {
+    let mut problem = Problem::new(alloc, 10, 3)?;
+    for point in 0..1024u32 {
+        let a = point % 32;
+        let b = point / 32;
+        set_odd(rt, &mut problem, 0, point, (a + b) / 32)?;
+        set_odd(rt, &mut problem, 1, point, a * b / 16)?;
+        set_odd(rt, &mut problem, 2, point, a / 2 + b / 16)?;
+    }
+    Ok(problem)
+}
+
+/// The last bit of a cube, modulo a prime.
+fn cubes(rt: &impl Abort, alloc: Global) -> Result<Problem, Fail> {
+    let mut problem = Problem::new(alloc, 10, 1)?;
+    for point in 0..1024u32 {
+        set_odd(rt, &mut problem, 0, point, point * point * point % 1021)?;
+    }
+    Ok(problem)
+}
+
+/// Two runs of 256 points are equal to others, and of half the sets of the cubes all subfunctions are distinct. The sums
+/// were counted by another program, by the definition.
+#[test]
+fn widths_of_ten_variables(rt: HostRuntime) -> Result<(), Fail> {
+    let alloc = rt.alloc();
+    let numbers = five_bit_numbers(&rt, alloc)?;
+    assert_eq!(rt; try_layer(&rt, alloc, &numbers, 1)?, 20);
+    assert_eq!(rt; try_layer(&rt, alloc, &numbers, 5)?, 41363);
+    assert_eq!(rt; try_layer(&rt, alloc, &numbers, 10)?, 22);
+    let cubed = cubes(&rt, alloc)?;
+    assert_eq!(rt; try_layer(&rt, alloc, &cubed, 4)?, 53457);
     Ok(())
 }
 
