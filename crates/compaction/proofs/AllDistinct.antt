@@ -2,7 +2,7 @@
 --     distinct_more      with one more variable there are half as many
 --     distinct_row      each width into the set is their count
 --     distinct_strips      how strips show it
-use Rattle.std.proofs.Common.{◌≡◌, ◌≢◌, ℕ, zero, suc, ◌+◌, ◌*◌, ◌/◌, ◌%◌, ◌^◌, ◌<◌, ◌≤◌, Bool, true, false, cond, eqb, eq-eqb, ne_eqb, nat_eq, inl, inr, List, [], ◌∷◌, Option, Some, None, map, length, get_or, bit_or, refl, sym, ap, ap₂, ◌∙◌, subst, arith}
+use Rattle.std.proofs.Common.{◌≡◌, ℕ, suc, ◌+◌, ◌*◌, ◌/◌, ◌%◌, ◌^◌, ◌<◌, ◌≤◌, Bool, true, false, cond, eqb, eq-eqb, ne_eqb, inl, inr, List, [], ◌∷◌, Option, Some, None, map, length, get_or, bit_or, refl, sym, ap, ap₂, ◌∙◌, subst, arith}
 use Rattle.std.specs.Int.{bit_at}
 use Rattle.std.specs.Int.Bits.{or_self}
 use Rattle.std.specs.List.{filter, range_with_len}
@@ -16,11 +16,10 @@ use Rattle.order_model.specs.Widths.{width}
 use Rattle.order_model.proofs.Masks.{has_members}
 use Rattle.order_model.proofs.OrderLists.{has_variables}
 use Rattle.compaction.specs.Dependence.{joined_mask}
-use Rattle.compaction.specs.Places.{low_place, pair_at, pairs}
+use Rattle.compaction.specs.Places.{low_place, pairs}
 use Rattle.compaction.specs.Rows.{width_wanted}
-use Rattle.compaction.specs.Strips.{AreDistinct, AreStrips, HoldsStrips, HoldsTable, TellsPairs, masks_in_use, unrolled}
+use Rattle.compaction.specs.Strips.{AreDistinct, HoldsStrips, HoldsTable, TellsPairs, masks_in_use, unrolled}
 use Rattle.compaction.specs.Table.{ClassesOf, HoldsKeys, with_variable, functions_of, set_of, free_below}
-use Rattle.compaction.proofs.Compacted.{range_parts}
 use Rattle.compaction.proofs.Counted.{length_filter_map}
 use Rattle.compaction.proofs.Index.{length-pairs, pair_listed, pair_within}
 use Rattle.compaction.proofs.Keyed.{keys_ready, map_self}
@@ -103,7 +102,7 @@ module _ (t : ClassesOf) (count : ℕ) (d : AreDistinct t count) (x : ℕ) (insi
         ap (λ k. get_or (same_list (bit_or t.set (2 ^ x)) (count / 2)) k 0) (name_is i h) ∙ same_at (bit_or t.set (2 ^ x)) (count / 2) i h
         ∙ sym (ap (joined_mask d.masks x) (pair_is i h)
         ∙ (λ k. bit_or (bit_or (d.full (low_place (2 ^ free_below t.set x) i) (omega arith) k) (d.full (low_place (2 ^ free_below t.set x) i + 2 ^ free_below t.set x) (omega arith) k))
-            (cond (ne_eqb (low_place (2 ^ free_below t.set x) i) (low_place (2 ^ free_below t.set x) i + 2 ^ free_below t.set x) (λ e. let f : ⊥ = omega arith in f) k) 0 (2 ^ x)))
+        (cond (ne_eqb (low_place (2 ^ free_below t.set x) i) (low_place (2 ^ free_below t.set x) i + 2 ^ free_below t.set x) (λ e. let f : ⊥ = omega arith in f) k) 0 (2 ^ x)))
         ∙ ap (λ z. bit_or z (2 ^ x)) (or_self t.set));
     few = (let l = length_same (bit_or t.set (2 ^ x)) (count / 2) in let f = few_pairs in omega arith);
   }
@@ -129,8 +128,8 @@ distinct_width t count x d small inside =
     ∙ ap (λ us. length (filter (λ m. eqb (bit_at m x) 1) (map (λ k. get_or d.masks k 0) us))) (in_use_same (has (range_with_len 0 count)) (λ _. true) count (λ k h. (has_variables count k).1 h) ∙ kept (range_with_len 0 count))
     ∙ length_filter_map (λ m. eqb (bit_at m x) 1) (λ k. get_or d.masks k 0) (range_with_len 0 count)
     ∙ filter_all (λ k. eqb (bit_at (get_or d.masks k 0) x) 1) (range_with_len 0 count) (λ i h.
-        let l = length-range_with_len 0 count in
-        ap (λ k. eqb (bit_at (get_or d.masks k 0) x) 1) (at_range count i (omega arith)) ∙ ap (λ m. eqb (bit_at m x) 1) (d.full i (omega arith)) ∙ bit)
+    let l = length-range_with_len 0 count in
+    ap (λ k. eqb (bit_at (get_or d.masks k 0) x) 1) (at_range count i (omega arith)) ∙ ap (λ m. eqb (bit_at m x) 1) (d.full i (omega arith)) ∙ bit)
     ∙ length-range_with_len 0 count
   where
     kept : (xs : List ℕ) → filter (λ _. true) xs ≡ xs

@@ -1,7 +1,7 @@
 -- Strips whose entries stand in rows that bytes name.
 --     bytes_values      the values
 --     bytes_whole, bytes_more      one more of the lowest three variables
-use Rattle.std.proofs.Common.{◌≡◌, ℕ, ◌+◌, ◌*◌, ◌/◌, ◌^◌, ◌<◌, ◌≤◌, false, List, [], ◌∷◌, map, length, get_or, sym, ap, ◌∙◌, subst, arith}
+use Rattle.std.proofs.Common.{◌≡◌, ℕ, ◌*◌, ◌^◌, ◌<◌, ◌≤◌, false, List, [], ◌∷◌, map, length, get_or, sym, ap, ◌∙◌, subst, arith}
 use Rattle.std.proofs.lemmas.Nat.{pow_pos}
 use Rattle.order_model.specs.Orders.{has}
 use Rattle.order_model.specs.Problems.{TruthTables, value_at}

@@ -1,19 +1,19 @@
 -- A table kept in strips holds the keys of a set, and with one more variable those of the set with it.
 --     free_split, free_other, free_less      how many variables outside the set stand below
 --     holds_high, holds_low      a variable above the strips, and one inside them
-use Rattle.std.proofs.Common.{◌≡◌, ◌≢◌, ℕ, zero, suc, ◌+◌, ◌-◌, ◌*◌, ◌/◌, ◌%◌, ◌^◌, ◌<◌, ◌≤◌, Bool, true, false, not, cond, ◌&&◌, inl, inr, List, [], ◌∷◌, map, length, get_or, bit_or, eqb, eq-eqb, ne_eqb, min, refl, sym, ap, ap₂, ◌∙◌, subst, arith}
+use Rattle.std.proofs.Common.{◌≡◌, ◌≢◌, ℕ, zero, suc, ◌+◌, ◌-◌, ◌*◌, ◌/◌, ◌%◌, ◌^◌, ◌<◌, ◌≤◌, Bool, true, false, not, cond, ◌&&◌, inl, inr, List, [], ◌∷◌, map, length, get_or, bit_or, eqb, eq-eqb, ne_eqb, refl, sym, ap, ap₂, ◌∙◌, subst, arith}
 use Rattle.std.specs.Int.{bit_at}
 use Rattle.std.proofs.Math.Nat.{eq_of_mul-eq-mul_right, div-lt_iff_lt-mul, mod-lt}
-use Rattle.std.proofs.lemmas.Bool.{cases_eq, cases_lt}
+use Rattle.std.proofs.lemmas.Bool.{cases_eq}
 use Rattle.std.proofs.lemmas.Nat.{pow_pos, pow-add}
 use Rattle.std.proofs.lemmas.Nat.Bits.{bit_at_or, bit_at-pow_same, bit_at-pow_other, bit_at-lt}
-use Rattle.order_model.specs.Orders.{has, variables}
+use Rattle.order_model.specs.Orders.{has}
 use Rattle.order_model.proofs.Masks.{has_members}
 use Rattle.order_model.proofs.OrderLists.{has_variables}
 use Rattle.compaction.specs.Places.{pairs}
 use Rattle.compaction.specs.Strips.{AreStrips, HoldsStrips, TellsPairs, unrolled}
-use Rattle.compaction.specs.Table.{ClassesOf, classes_of, HoldsKeys, with_variable, functions_of, set_of, free_below}
-use Rattle.compaction.proofs.Extended.{free_none, free_step, free_le, rank_small}
+use Rattle.compaction.specs.Table.{ClassesOf, classes_of, HoldsKeys, with_variable, set_of, free_below}
+use Rattle.compaction.proofs.Extended.{free_none, free_step, rank_small}
 use Rattle.order_model.specs.Problems.{TruthTables, value_at}
 use Rattle.compaction.specs.Values.{values_of, number_of}
 use Rattle.compaction.proofs.Keyed.{keys_ready, free_zero, value_keys}
@@ -120,9 +120,11 @@ module _ (t : ClassesOf) (x : ℕ) (inside : x < t.problem.inputs) (new : has (s
 
       pub whole_outer : (blocks : ℕ) × (length outer ≡ blocks * (2 * 2 ^ rank))
       whole_outer =
-          let w = whole_keys in
-          (w.0, eq_of_mul-eq-mul_right (2 ^ free_below t.set low) (pow_pos (free_below t.set low)) (length outer) (w.0 * (2 * 2 ^ rank))
-          (sym (length_unrolled outer numbers (2 ^ free_below t.set low) h.strips) ∙ w.1 ∙ ap (λ k. w.0 * (2 * k)) steps ∙ grind arith))
+          let w = whole_keys in (
+            w.0,
+            eq_of_mul-eq-mul_right (2 ^ free_below t.set low) (pow_pos (free_below t.set low)) (length outer) (w.0 * (2 * 2 ^ rank))
+                (sym (length_unrolled outer numbers (2 ^ free_below t.set low) h.strips) ∙ w.1 ∙ ap (λ k. w.0 * (2 * k)) steps ∙ grind arith),
+          )
 
       pub holds_high : (outer' numbers' masks' : List ℕ) → AreStrips outer' numbers' (2 ^ free_below t.set low) →
           TellsPairs masks x (pairs (unrolled outer numbers (2 ^ free_below t.set low)) (2 ^ free_below t.set low * 2 ^ rank)) (unrolled outer' numbers' (2 ^ free_below t.set low)) masks' →

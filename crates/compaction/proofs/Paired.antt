@@ -1,6 +1,6 @@
 -- Pairs of strips: the two strips of each numbered pair, one behind the other.
 --     Paired numbers len out j      `out` has the strips of the pairs that were met among the first j
-use Rattle.std.proofs.Common.{◌≡◌, ◌≢◌, ℕ, zero, suc, ◌+◌, ◌*◌, ◌/◌, ◌^◌, ◌<◌, ◌≤◌, inl, inr, List, [], ◌∷◌, ◌++◌, length, get_or, take, refl, sym, ap, ◌∙◌, subst, arith}
+use Rattle.std.proofs.Common.{◌≡◌, ◌≢◌, ℕ, suc, ◌+◌, ◌*◌, ◌/◌, ◌^◌, ◌<◌, ◌≤◌, inl, inr, List, [], ◌++◌, length, get_or, take, sym, ap, ◌∙◌, subst, arith}
 use Rattle.std.specs.Set.{distinct_count}
 use Rattle.std.proofs.Math.Nat.{mul-le-mul_right}
 use Rattle.std.proofs.lemmas.Bool.{cases_lt}
@@ -51,12 +51,12 @@ module _ (ps : List (ℕ × ℕ)) (numbers : List ℕ) (len : ℕ) (some : 0 < l
       Paired ((out ++ lower) ++ upper) (j + 1)
   paired_new out lower upper j number l h e f ll lu low high = record {
     many =
-      (let n = count_is ps (λ _. 0) j l ∙ count_new same_pair pair_decides (get_or ps j (0, 0)) (take j ps) absent in
-      let a = length-append (out ++ lower) upper in
-      let b = length-append out lower in
-      let m = h.many in
-      let z : suc (distinct_count same_pair (take j ps)) * (2 * len) ≡ distinct_count same_pair (take j ps) * (2 * len) + 2 * len = grind arith in
-      omega arith ∙ ap (λ k. k * (2 * len)) (sym n));
+        (let n = count_is ps (λ _. 0) j l ∙ count_new same_pair pair_decides (get_or ps j (0, 0)) (take j ps) absent in
+        let a = length-append (out ++ lower) upper in
+        let b = length-append out lower in
+        let m = h.many in
+        let z : suc (distinct_count same_pair (take j ps)) * (2 * len) ≡ distinct_count same_pair (take j ps) * (2 * len) + 2 * len = grind arith in
+        omega arith ∙ ap (λ k. k * (2 * len)) (sym n));
     stand = λ i lt. elim (cases_lt i j) [
       | inl before ↦ λ a in_strip.
           let r = product_below (rank same_pair ps (get_or ps i (0, 0))) (distinct_count same_pair (take j ps)) (2 * len) (rank_before ps (λ _. 0) i j before l) in
@@ -101,7 +101,7 @@ module _ (ps : List (ℕ × ℕ)) (numbers : List ℕ) (len : ℕ) (some : 0 < l
             let s : j ≡ i = omega arith in
             let older = among_take ps ps j (get_or ps j (0, 0)) a in
             subst (Stand out) s (subst (λ q. (b : ℕ) → b < len →
-                (get_or out (rank same_pair ps q * (2 * len) + b) 0 ≡ get_or numbers (q.0 * len + b) 0) × (get_or out (rank same_pair ps q * (2 * len) + len + b) 0 ≡ get_or numbers (q.1 * len + b) 0)) older.3 (h.stand older.0 older.1))
+            (get_or out (rank same_pair ps q * (2 * len) + b) 0 ≡ get_or numbers (q.0 * len + b) 0) × (get_or out (rank same_pair ps q * (2 * len) + len + b) 0 ≡ get_or numbers (q.1 * len + b) 0)) older.3 (h.stand older.0 older.1))
       ];
     }
     | inr n ↦ absurd (f (ap (λ k. k * (2 * len)) (e ∙ rank_is ps (λ _. 0) j l ∙ rank_absent same_pair pair_decides (take j ps) (get_or ps j (0, 0)) n) ∙ sym h.many))

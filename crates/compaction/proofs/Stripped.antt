@@ -2,7 +2,7 @@
 --     low_place_parts      the place of a pair, from its parts
 --     high_strips, high_tells      a variable above the strips: pairs of strips are told apart entry by entry
 --     low_strips, low_tells      a variable inside the strips
-use Rattle.std.proofs.Common.{◌≡◌, ℕ, zero, suc, ◌+◌, ◌-◌, ◌*◌, ◌/◌, ◌%◌, ◌^◌, ◌<◌, ◌≤◌, inl, inr, List, map, length, get_or, refl, sym, ap, ◌∙◌, subst, arith}
+use Rattle.std.proofs.Common.{◌≡◌, ℕ, suc, ◌+◌, ◌-◌, ◌*◌, ◌/◌, ◌%◌, ◌^◌, ◌<◌, ◌≤◌, inl, inr, List, map, length, get_or, refl, sym, ap, ◌∙◌, subst, arith}
 use Rattle.std.specs.Set.{distinct_count}
 use Rattle.std.proofs.Math.Nat.{mul-le-mul_right, add-mul-mod_self_right, add-mul-div_right, mod-eq_of_lt, div-eq_of_lt, mod-lt, div-lt_iff_lt-mul}
 use Rattle.std.proofs.lemmas.List.{get_or-map, length-map}
@@ -16,7 +16,7 @@ use Rattle.compaction.specs.Places.{low_place, pair_at, pairs}
 use Rattle.compaction.specs.Strips.{AreNamed, AreStrips, TellsPairs, unrolled}
 use Rattle.compaction.proofs.Index.{length-pairs, pair_listed, pair_within}
 use Rattle.compaction.proofs.Joined.{number_at, length-ranks}
-use Rattle.compaction.proofs.Named.{names_among, names_below, length_names, place_of, among_place}
+use Rattle.compaction.proofs.Named.{names_among, length_names, place_of, among_place}
 use Rattle.compaction.proofs.Paired.{pair_strips_inside}
 use Rattle.compaction.proofs.Ranks.{rank_below, rank_reached}
 use Rattle.compaction.proofs.Unrolled.{named_of, length_named, named_at, same_by_places, length_unrolled, unrolled_at}
@@ -200,7 +200,7 @@ module _ (outer numbers : List ℕ) (len r : ℕ) (strips : AreStrips outer numb
       elim (cases_lt (i % (2 * len)) len) [
         | inl low ↦
             let v : get_or paired i 0 ≡ get_or numbers (lower_at outer (2 ^ r) j.0 * len + i % (2 * len)) 0 =
-                ap (λ z. get_or paired z 0) (e ∙ ap (λ z. z * (2 * len) + i % (2 * len)) (sym n)) ∙ lower j.0 (i % (2 * len)) small low in
+            ap (λ z. get_or paired z 0) (e ∙ ap (λ z. z * (2 * len) + i % (2 * len)) (sym n)) ∙ lower j.0 (i % (2 * len)) small low in
             let b0 = b.0 in
             let z = below (lower_at outer (2 ^ r) j.0 * len + i % (2 * len)) (omega arith) in
             omega arith
@@ -257,7 +257,7 @@ module _ (outer numbers : List ℕ) (c s : ℕ) (strips : AreNamed outer numbers
       let q = inner_place c s (get_or outer i 0) b some_s in
       let l = ap (λ z. get_or (unrolled outer numbers (c * (2 * s))) z 0) p ∙ named_at outer numbers (c * (2 * s)) strips i (low_place s b) h (omega arith) ∙ ap (λ z. get_or numbers z 0) (sym q) in
       let u = ap (λ z. get_or (unrolled outer numbers (c * (2 * s))) z 0) (ap (λ z. z + s) p ∙ omega arith) ∙ named_at outer numbers (c * (2 * s)) strips i (low_place s b + s) h w
-          ∙ ap (λ z. get_or numbers z 0) (let e : get_or outer i 0 * (c * (2 * s)) + (low_place s b + s) ≡ low_place s (get_or outer i 0 * (c * s) + b) + s = omega arith in e) in
+      ∙ ap (λ z. get_or numbers z 0) (let e : get_or outer i 0 * (c * (2 * s)) + (low_place s b + s) ≡ low_place s (get_or outer i 0 * (c * s) + b) + s = omega arith in e) in
       λ z. (l z, u z)
 
   inner_small : (i b : ℕ) → i < length outer → b < c * s → get_or outer i 0 * (c * s) + b < length numbers / 2

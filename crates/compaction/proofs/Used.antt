@@ -80,16 +80,19 @@ module _ (n : ℕ) (F : List Function) (S keys masks : List ℕ) (below : (i : �
   by_classes zero h = ([], (refl, λ k a l. absurd (omega arith)))
   by_classes (suc m) h =
       let r = by_classes m (omega arith) in
-      let t = rank_reached nat_eq nat_decides keys m (omega arith) in
-      (r.0 ++ get_or masks t.0 0 ∷ [],
-        (length-append r.0 (get_or masks t.0 0 ∷ []) ∙ (let l = r.1.0 in omega arith),
+      let t = rank_reached nat_eq nat_decides keys m (omega arith) in (
+        r.0 ++ get_or masks t.0 0 ∷ [],
+        (
+          length-append r.0 (get_or masks t.0 0 ∷ []) ∙ (let l = r.1.0 in omega arith),
           λ k a l. elim (cases_lt (rank nat_eq keys k) m) [
             | inl small ↦ get_or_append_left r.0 (get_or masks t.0 0 ∷ []) 0 (rank nat_eq keys k) (let e = r.1.0 in omega arith) ∙ r.1.1 k a small
             | inr big ↦
                 let e : rank nat_eq keys k ≡ m = omega arith in
                 let same : k ≡ t.0 = apart k t.0 a t.1 (e ∙ sym t.2) in
                 get_or_push r.0 (get_or masks t.0 0) 0 (rank nat_eq keys k) (let q = r.1.0 in omega arith) ∙ ap (λ z. get_or masks z 0) (sym same)
-          ]))
+          ],
+        ),
+      )
 
   all_classes : By (distinct_count nat_eq keys)
   all_classes = by_classes (distinct_count nat_eq keys) (omega arith)

@@ -148,11 +148,7 @@ fn walk(
 }
 
 /// The keys of a set's members below 3.
-fn low_bytes<'a>(
-    alloc: Global,
-    problem: &'a Problem,
-    low: Mask,
-) -> Result<Strips<'a>, AllocError>
+fn low_bytes<'a>(alloc: Global, problem: &'a Problem, low: Mask) -> Result<Strips<'a>, AllocError>
     requires { 8 ≤ problem.now.inputs }
     ensures { IfOk result (λ c. c ≡ classes_of problem.now (low % 8)) }
 {
@@ -188,11 +184,7 @@ fn add_members<'a>(
 }
 
 /// The keys of a set of low variables.
-fn low_strips<'a>(
-    alloc: Global,
-    problem: &'a Problem,
-    low: Mask,
-) -> Result<Strips<'a>, AllocError>
+fn low_strips<'a>(alloc: Global, problem: &'a Problem, low: Mask) -> Result<Strips<'a>, AllocError>
     requires { low < 2 ^ low_of problem.now }
     ensures { IfOk result (λ c. c ≡ classes_of problem.now low) }
 {
@@ -227,7 +219,14 @@ pub fn block_widths(
     let low = Mask::from(block.low());
     let table = low_strips(alloc, problem, low)?;
     let mut rows = blank_rows(alloc, block.len())?;
-    let walked = walk(alloc, &table, low_variables(problem), block, needed, &mut rows)?;
+    let walked = walk(
+        alloc,
+        &table,
+        low_variables(problem),
+        block,
+        needed,
+        &mut rows,
+    )?;
     tally.add(count_wanted(needed));
     Ok(BlockWidths {
         rows,

@@ -103,7 +103,19 @@ impl<'a> ByteKeys<'a> {
         requires { 8 ≤ self.problem.inputs }
         ensures { IfOk result (λ c. c ≡ self.entry) }
     {
-        let numbers = unroll(alloc, &self.bytes, &self.rows, 1usize << rank_of(self.set, 3))?;
-        Ok(Strips::of_parts(alloc, self.problem, self.set, self.outer, numbers, self.masks))
+        let numbers = unroll(
+            alloc,
+            &self.bytes,
+            &self.rows,
+            1usize << rank_of(self.set, 3),
+        )?;
+        Ok(Strips::of_parts(
+            alloc,
+            self.problem,
+            self.set,
+            self.outer,
+            numbers,
+            self.masks,
+        ))
     }
 }

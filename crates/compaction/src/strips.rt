@@ -348,7 +348,14 @@ impl<'a> Strips<'a> {
             None => {
                 let rank = rank_of(self.set, x);
                 let told = tell_pairs(alloc, &self.numbers, rank, x, &self.masks)?;
-                let strips = Strips::of_parts(alloc, self.problem, set, self.outer, told.numbers, told.masks);
+                let strips = Strips::of_parts(
+                    alloc,
+                    self.problem,
+                    set,
+                    self.outer,
+                    told.numbers,
+                    told.masks,
+                );
                 Ok(strips)
             }
         }
@@ -368,8 +375,23 @@ impl<'a> Strips<'a> {
             None => {
                 let bits = rank_of(self.set, low_variables(self.problem));
                 let rank = rank_of(self.set, x) - bits;
-                let grown = add_above(alloc, &self.outer, rank, &self.numbers, bits, x, &self.masks)?;
-                let strips = Strips::of_parts(alloc, self.problem, set, grown.outer, grown.numbers, grown.masks);
+                let grown = add_above(
+                    alloc,
+                    &self.outer,
+                    rank,
+                    &self.numbers,
+                    bits,
+                    x,
+                    &self.masks,
+                )?;
+                let strips = Strips::of_parts(
+                    alloc,
+                    self.problem,
+                    set,
+                    grown.outer,
+                    grown.numbers,
+                    grown.masks,
+                );
                 Ok(strips)
             }
         }

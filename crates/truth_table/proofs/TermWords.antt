@@ -2,8 +2,8 @@
 --     masked_bits, joined_bits      the bits of words that are combined
 --     free_bits      the mask of the points of n variables
 --     literal_points_none, literal_points_one, literal_points_zero      the points at which a literal holds
---     packed_from      the packed truth tables of terms
-use Rattle.std.proofs.Common.{◌≡◌, ℕ, zero, suc, ◌+◌, ◌-◌, ◌*◌, ◌/◌, ◌%◌, ◌^◌, ◌<◌, ◌≤◌, Bool, true, false, not, ◌&&◌, ◌||◌, inl, inr, List, [], ◌∷◌, length, map, take, get_or, refl, sym, ap, ◌∙◌, arith, subst, eqb, min, max, bit_and, bit_or, ltb, zero-add, pow_pos}
+--     packed_columns      the packed truth tables of terms
+use Rattle.std.proofs.Common.{◌≡◌, ℕ, zero, suc, ◌+◌, ◌-◌, ◌*◌, ◌/◌, ◌%◌, ◌^◌, ◌<◌, ◌≤◌, Bool, true, false, not, ◌&&◌, ◌||◌, inl, inr, List, [], ◌∷◌, length, map, take, get_or, slice_index, refl, sym, ap, ◌∙◌, arith, subst, eqb, min, max, bit_and, bit_or, ltb, zero-add, pow_pos}
 use Rattle.std.specs.Int.{bit_at, bit_not, w64}
 use Rattle.std.specs.List.{All, AllZip, range_with_len, list_all, list_any}
 use Rattle.std.proofs.lemmas.Bool.{cases_lt, false≢true, lt-ltb, le-ltb}
@@ -13,7 +13,7 @@ use Rattle.std.proofs.lemmas.List.FromFn.{get_or-map-range_with_len, get_or-rang
 use Rattle.std.proofs.lemmas.Slice.Zip.{AllZip-long}
 use Rattle.std.proofs.lemmas.Nat.{one_shl}
 use Rattle.std.proofs.lemmas.Nat.Bits.{bit_at-lt, bit_at_and, bit_at_or, bit_at_not, bit_at_ones, bit_at_ones_above, bit_at_above}
-use Rattle.std.proofs.Math.Nat.{add-mul-div_right, div-eq_of_lt, mod-eq_of_lt, add-mul-mod_self_right}
+use Rattle.std.proofs.Math.Nat.{add-mul-div_right, div-eq_of_lt, div-lt_iff_lt-mul, mod-lt, mod-eq_of_lt, add-mul-mod_self_right}
 use Rattle.order_model.specs.declared.terms.Term.{Term}
 use Rattle.order_model.specs.Functions.{Point, Function, number, points, from_table, table, SameFunction}
 use Rattle.order_model.specs.Problems.{IsClean, IsPacked, tables_of, words_per_table}
@@ -25,7 +25,7 @@ use Rattle.order_model.proofs.PackedWords.{step_is}
 use Rattle.order_model.proofs.PointNumbers.{some_point}
 use Rattle.order_model.proofs.Tables.{same_from_table}
 use Rattle.pla_reader.specs.Masks.{Fits}
-use Rattle.truth_table.specs.Terms.{IsWordOf, literal_at, literals_at, covers, covered}
+use Rattle.truth_table.specs.Terms.{AreWordsAt, literal_at, literals_at, covers, covered}
 use Rattle.truth_table.proofs.Literals.{all_parts, literals_apart, product_is}
 
 -- ---- bits
@@ -241,35 +241,51 @@ module _ (n m : ℕ) (terms : List Term) (words : List ℕ) (some : 1 ≤ n) (fe
   pub terms_packed : IsPacked n m words
   terms_packed = record { some_inputs = some; few_inputs = few; some_outputs = some_outputs; few_outputs = few_outputs; long = w.long; clean = clean }
 
-zip_at : (R : ℕ → ℕ → Type 0) (xs ys : List ℕ) → AllZip R xs ys → (j : ℕ) → j < length xs → R (get_or xs j 0) (get_or ys j 0)
-zip_at R [] ys h j l = absurd (omega arith)
-zip_at R (x ∷ xs) [] h j l = absurd h
-zip_at R (x ∷ xs) (y ∷ ys) h zero l = h.0
-zip_at R (x ∷ xs) (y ∷ ys) h (suc j) l = zip_at R xs ys h.1 j (omega arith)
+-- ---- words by places
 
--- the words, from those of the places
-collected_words : (n m : ℕ) (terms : List Term) (size : ℕ) (places words : List ℕ) → size ≡ words_per_table n → places ≡ range_with_len 0 (m * size) → AllZip (IsWordOf n terms size) places words →
-    AreTermWords n m terms words
-collected_words n m terms size places words s p z = record {
-  long = words_long ∙ ap (λ w. m * w) s;
-  fits = λ i l. (word_of i (omega (arith, words_long))).fits;
-  bits = λ i b h l.
-      let inside : i < m * size = subst (λ (w : ℕ). i < m * w) (sym s) h in
-      (word_of i inside).bits b l ∙ (λ d. ltb b (2 ^ n) && covered terms (i / s d) (64 * (i % s d) + b));
-}
+-- so many zeros
+unfoldable pub zeros : ℕ → List ℕ
+zeros zero = []
+zeros (suc k) = 0 ∷ zeros k
+
+pub zeros_at : (k o : ℕ) → get_or (zeros k) o 0 ≡ 0
+unfolding zeros
+zeros_at zero o = refl
+zeros_at (suc k) zero = refl
+zeros_at (suc k) (suc o) = zeros_at k o
+
+rows_at : (R : ℕ → List ℕ → Type 0) (xs : List ℕ) (ys : List (List ℕ)) → AllZip R xs ys → (j : ℕ) → j < length xs → R (get_or xs j 0) (get_or ys j [])
+rows_at R [] ys h j l = absurd (omega arith)
+rows_at R (x ∷ xs) [] h j l = absurd h
+rows_at R (x ∷ xs) (y ∷ ys) h zero l = h.0
+rows_at R (x ∷ xs) (y ∷ ys) h (suc j) l = rows_at R xs ys h.1 j (omega arith)
+
+-- what the words hold that are laid out from those of the places
+pub packed_columns : (n m : ℕ) (terms : List Term) (size : ℕ) (places : List ℕ) (columns : List (List ℕ)) (items : List ℕ) → 1 ≤ n → n ≤ 16 → 1 ≤ m → m ≤ 16 → All (Fits n m) terms → 1 ≤ size → size ≡ words_per_table n →
+    places ≡ range_with_len 0 size → AllZip (AreWordsAt n terms) places columns → length items ≡ m * size →
+    ((i : ℕ) → i < m * size → get_or items i 0 ≡ slice_index (get_or columns (i % size) []) (i / size)) →
+    IsPacked n m items × (tables_of n m items ≡ map (table n) (product_functions m (map (product_of n m) terms)))
+packed_columns n m terms size places columns items a b c d fit some s p z long laid = (terms_packed n m terms items a b c d fit w, terms_tables n m terms items a b c d fit w)
   where
-    words_long : length words ≡ m * size
-    words_long = AllZip-long (IsWordOf n terms size) places words z ∙ ap length p ∙ length-range_with_len 0 (m * size)
+    words_of : (i : ℕ) → i < m * size → AreWordsAt n terms (i % size) (get_or columns (i % size) [])
+    words_of i h =
+        let r : i % size < size = mod-lt i some in
+        let l : length places ≡ size = ap length p ∙ length-range_with_len 0 size in
+        let at : get_or places (i % size) 0 ≡ i % size = ap (λ ps. get_or ps (i % size) 0) p ∙ get_or-range_with_len 0 size (i % size) 0 r ∙ zero-add (i % size) in
+        subst (λ (j : ℕ). AreWordsAt n terms j (get_or columns (i % size) [])) at (rows_at (AreWordsAt n terms) places columns z (i % size) (omega arith))
 
-    word_of : (i : ℕ) → i < m * size → IsWordOf n terms size i (get_or words i 0)
-    word_of i h =
-        let long : length places ≡ m * size = ap length p ∙ length-range_with_len 0 (m * size) in
-        let at : get_or places i 0 ≡ i = ap (λ ps. get_or ps i 0) p ∙ get_or-range_with_len 0 (m * size) i 0 h ∙ zero-add i in
-        subst (λ (j : ℕ). IsWordOf n terms size j (get_or words i 0)) at (zip_at (IsWordOf n terms size) places words z i (omega arith))
+    few : (i : ℕ) → i < m * size → i / size < 16
+    few i h = let q : i / size < m = (div-lt_iff_lt-mul some).1 h in omega arith
 
--- what the collected words hold
-pub packed_from : (n m : ℕ) (terms : List Term) (size : ℕ) (places words items : List ℕ) → 1 ≤ n → n ≤ 16 → 1 ≤ m → m ≤ 16 → All (Fits n m) terms → size ≡ words_per_table n → places ≡ range_with_len 0 (m * size) →
-    AllZip (IsWordOf n terms size) places words → items ≡ words → IsPacked n m items × (tables_of n m items ≡ map (table n) (product_functions m (map (product_of n m) terms)))
-packed_from n m terms size places words items a b c d fit s p z e =
-    let w = collected_words n m terms size places words s p z in
-    (subst (IsPacked n m) (sym e) (terms_packed n m terms words a b c d fit w), ap (tables_of n m) e ∙ terms_tables n m terms words a b c d fit w)
+    w : AreTermWords n m terms items
+    w = record {
+      long = long ∙ ap (λ k. m * k) s;
+      fits = λ i l. let h : i < m * size = omega arith in let f = (words_of i h (i / size) (few i h)).0 in let e = laid i h in omega arith;
+      bits = λ i b h l.
+          let inside : i < m * size = subst (λ (k : ℕ). i < m * k) (sym s) h in
+          ap (λ v. eqb (bit_at v b) 1) (laid i inside) ∙ (words_of i inside (i / size) (few i inside)).1 b l ∙ (λ k. ltb b (2 ^ n) && covered terms (i / s k) (64 * (i % s k) + b));
+    }
+
+-- there are as many as places
+pub columns_long : (n : ℕ) (terms : List Term) (size : ℕ) (places : List ℕ) (columns : List (List ℕ)) → places ≡ range_with_len 0 size → AllZip (AreWordsAt n terms) places columns → length columns ≡ size
+columns_long n terms size places columns p z = AllZip-long (AreWordsAt n terms) places columns z ∙ ap length p ∙ length-range_with_len 0 size

@@ -1,13 +1,13 @@
 //! Words of 64 points from product terms.
 
-ghost use Rattle.std.specs.Prelude.{◌≡◌, ◌+◌, ◌*◌, ◌^◌, ◌<◌, ◌≤◌, ◌==◌, ℕ, length, map, nat_lt, IfOk};
+ghost use Rattle.std.specs.Prelude.{◌≡◌, ◌+◌, ◌*◌, ◌^◌, ◌<◌, ◌≤◌, ◌==◌, ℕ, length, map, nat_lt, IfOk, cond, bit_and, bit_or, get_or, slice_index, ◌/◌, ◌%◌, []};
 ghost use Rattle.std.specs.Int.{bit_at};
 ghost use Rattle.std.specs.List.{All, range_with_len};
 ghost use Rattle.order_model.specs.Functions.{table};
 ghost use Rattle.order_model.specs.Problems.{IsPacked, tables_of, words_per_table as size_of};
 ghost use Rattle.order_model.specs.Products.{product_functions, product_of};
 ghost use Rattle.pla_reader.specs.Masks.{Fits};
-ghost use Rattle.truth_table.specs.Terms.{IsWordOf, covered, literal_at, literals_at};
+ghost use Rattle.truth_table.specs.Terms.{AreWordsAt, covered, literal_at, literals_at};
 
 use order_model::Term;
 use order_model::packed::{lower_half, words_per_table};
@@ -50,19 +50,30 @@ fn holds_above(term: &Term, place: usize) -> bool
     place & (term.care >> 6) as usize == (term.value >> 6) as usize
 }
 
-/// The values of an output at the 64 points of a word.
-fn word_at(terms: &[Term], output: u8, place: usize) -> u64
-    requires output { output < 16 }
-    requires place { place < 1024 }
-    ensures { (b : ℕ) → b < 64 → (bit_at result b == 1) ≡ covered terms.now output (64 * place + b) }
+/// Adds points to the words of a term's outputs.
+#[inline(always)]
+fn add_points(words: &mut [u64; 16], outs: u16, points: u64)
+    ensures { (o : ℕ) → o < 16 → slice_index words.new o ≡ cond (bit_at outs o == 1) (bit_or (slice_index words.old o) points) (slice_index words.old o) }
 {
-    let mut word = 0u64;
-    for term in terms {
-        if (term.outs >> output) & 1 == 1 && holds_above(term, place) {
-            word |= pattern(*term);
+    for output in 0..16 {
+        if (outs >> output) & 1 == 1 {
+            words[output] |= points;
         }
     }
-    word
+}
+
+/// The values of all outputs at the 64 points of a word.
+fn words_at(terms: &[Term], place: usize) -> [u64; 16]
+    requires { place < 1024 }
+    ensures { (o b : ℕ) → o < 16 → b < 64 → (bit_at (slice_index result o) b == 1) ≡ covered terms.now o (64 * place + b) }
+{
+    let mut words = [0u64; 16];
+    for term in terms {
+        if holds_above(term, place) {
+            add_points(&mut words, term.outs, pattern(*term));
+        }
+    }
+    words
 }
 
 /// The words that n variables leave free: the bits from that of the last point on are 0.
@@ -77,15 +88,41 @@ fn points_mask(n: u8) -> u64
     }
 }
 
-/// Word i of packed truth tables of n variables that take `size` words each.
-fn table_word(n: u8, terms: &[Term], size: usize, i: usize) -> u64
-    requires few { n ≤ 16 }
-    requires some_words { 1 ≤ size }
-    requires few_words { size ≤ 1024 }
-    requires inside { i < 16 * size }
-    ensures { IsWordOf n terms.now size i result }
+/// Keeps the points of a mask in all words.
+#[inline(always)]
+fn keep_points(words: &mut [u64; 16], mask: u64)
+    ensures { (o : ℕ) → o < 16 → slice_index words.new o ≡ bit_and (slice_index words.old o) mask }
 {
-    word_at(terms, (i / size) as u8, i % size) & points_mask(n)
+    for output in 0..16 {
+        words[output] &= mask;
+    }
+}
+
+/// The words at a place of all packed truth tables of n variables.
+fn table_words(n: u8, terms: &[Term], place: usize) -> [u64; 16]
+    requires few { n ≤ 16 }
+    requires inside { place < 1024 }
+    ensures { AreWordsAt n terms.now place result }
+{
+    let mut words = words_at(terms, place);
+    keep_points(&mut words, points_mask(n));
+    words
+}
+
+/// The words of m tables, one table behind the other.
+fn lay_out(alloc: Global, m: u8, columns: &[[u64; 16]]) -> Result<Vec<u64>, AllocError>
+    requires some { 1 ≤ length columns.now }
+    requires few { length columns.now ≤ 1024 }
+    requires outputs { m ≤ 16 }
+    ensures long { IfOk result (λ v. length v.items ≡ m * length columns.now) }
+    ensures words { IfOk result (λ v. (i : ℕ) → i < m * length columns.now → slice_index v.items i ≡ slice_index (get_or columns.now (i % length columns.now) []) (i / length columns.now)) }
+{
+    let size = columns.len();
+    let mut words = Vec::with_capacity(alloc, m as usize * size)?;
+    for i in 0..m as usize * size {
+        words.push(columns[i % size][i / size])?;
+    }
+    Ok(words)
 }
 
 /// The packed truth tables of m outputs of terms of n inputs, one table behind the other.
@@ -105,14 +142,15 @@ pub(crate) fn packed_words<R: Threads + Sync>(
     ensures tables { IfOk result (λ v. tables_of n m v.items ≡ map (table n) (product_functions m (map (product_of n m) terms.now))) }
 {
     let size = words_per_table(n);
-    let words: Vec<u64> = (0..m as usize * size)
+    let columns: Vec<[u64; 16]> = (0..size)
         .into_par_iter()
         .map(
-            |i: usize| -> u64
-                requires { (n ≤ 16) × (1 ≤ size) × (size ≤ 1024) × (i < 16 * size) }
-                ensures { IsWordOf n terms.entry.now size i result }
-            { table_word(n, terms, size, i) },
+            |place: usize| -> [u64; 16]
+                requires { (n ≤ 16) × (place < 1024) }
+                ensures { AreWordsAt n terms.entry.now place result }
+            { table_words(n, terms, place) },
         )
         .collect(rt, alloc)?;
+    let words = lay_out(alloc, m, &columns)?;
     Ok(words)
 }

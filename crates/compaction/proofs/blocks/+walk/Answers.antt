@@ -65,20 +65,20 @@ walk-requires-2 t c =
             omega arith,
             (
               (let g = c.requires.high in let e' = ap (λ (u : ClassesOf). low_variables u.problem) c.in_ok-next.ensures in omega arith),
-            (
-              omega arith,
               (
-                c.requires.needed,
+                omega arith,
                 (
-                  omega arith,
+                  c.requires.needed,
                   (
-                    subst (λ (u : ClassesOf). AreMembers u.problem masks needed) (sym c.in_ok-next.ensures) c.requires.members,
-                    subst (λ (u : ClassesOf). AreBlank u.problem masks needed c.walk.new.rows) (sym c.in_ok-next.ensures)
-                        (blank_kept p masks needed set (c.args.y + 1) c.args.rows.now c.walk.new.rows c.requires.blank c.in_ok-before.ensures.rows),
+                    omega arith,
+                    (
+                      subst (λ (u : ClassesOf). AreMembers u.problem masks needed) (sym c.in_ok-next.ensures) c.requires.members,
+                      subst (λ (u : ClassesOf). AreBlank u.problem masks needed c.walk.new.rows) (sym c.in_ok-next.ensures)
+                          (blank_kept p masks needed set (c.args.y + 1) c.args.rows.now c.walk.new.rows c.requires.blank c.in_ok-before.ensures.rows),
+                    ),
                   ),
                 ),
               ),
-            ),
             ),
           ),
         ),

@@ -1,4 +1,4 @@
-use Rattle.std.proofs.Common.{◌≡◌, ◌≤◌, ◌%◌, ◌^◌}
+use Rattle.std.proofs.Common.{◌≡◌, ◌%◌, ◌^◌}
 use Rattle.compaction.specs.Table.{classes_of}
 use Rattle.compaction.proofs.blocks.add_members.Given as goal
 

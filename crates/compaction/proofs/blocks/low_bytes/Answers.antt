@@ -1,4 +1,4 @@
-use Rattle.std.proofs.Common.{◌≡◌, ◌%◌, ◌^◌, ◌<◌, sym, ap, ◌∙◌, subst, arith}
+use Rattle.std.proofs.Common.{ap, ◌∙◌}
 use Rattle.order_model.specs.Orders.{has}
 use Rattle.compaction.specs.Table.{ClassesOf, classes_of, set_of, with_variable}
 use Rattle.compaction.proofs.Sets.{low_more, low_same, low_new}

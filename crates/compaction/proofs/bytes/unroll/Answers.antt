@@ -1,4 +1,4 @@
-use Rattle.std.proofs.Common.{◌≡◌, ◌≤◌, ◌+◌, ◌*◌, ◌++◌, ◌∷◌, [], List, ℕ, length, get_or, take, sym, ap, ◌∙◌, arith}
+use Rattle.std.proofs.Common.{◌≡◌, ◌+◌, ◌*◌, ◌++◌, get_or, take, sym, ap, ◌∙◌, arith}
 use Rattle.std.proofs.lemmas.List.{take_more, take_all}
 use Rattle.compaction.specs.Strips.{strip, unrolled}
 use Rattle.compaction.proofs.Unrolled.{length_strip, strip_at, named_inside, same_by_places, unrolled_more, unrolled_none}
@@ -25,8 +25,8 @@ loop-name-preserved c =
     let l = length_strip numbers len k i in
     let e = c.from.ensures in
     let own : c.strip_at.result.now ≡ strip numbers len k =
-        same_by_places c.strip_at.result.now (strip numbers len k) (c.strip_at.ensures.long ∙ sym l)
-            (λ a h. let m = c.strip_at.ensures.long in c.strip_at.ensures.entries a (omega arith) ∙ ap (λ z. get_or numbers (z * len + a) 0) e ∙ sym (strip_at numbers len k a (omega arith))) in
+    same_by_places c.strip_at.result.now (strip numbers len k) (c.strip_at.ensures.long ∙ sym l)
+    (λ a h. let m = c.strip_at.ensures.long in c.strip_at.ensures.entries a (omega arith) ∙ ap (λ z. get_or numbers (z * len + a) 0) e ∙ sym (strip_at numbers len k a (omega arith))) in
     c.in_ok-extend_from_slice.ensures.items ∙ (λ z. c.loop-name.invariant z ++ own z) ∙ sym (unrolled_more (take j names) numbers len k)
     ∙ ap (λ us. unrolled us numbers len) (sym (take_more names j 0 (omega arith)))
 

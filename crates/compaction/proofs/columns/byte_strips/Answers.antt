@@ -1,8 +1,8 @@
-use Rattle.std.proofs.Common.{◌≡◌, ◌*◌, ◌^◌, ◌<◌, length, map, get_or, sym, ap, ◌∙◌, subst, arith}
+use Rattle.std.proofs.Common.{◌≡◌, ◌*◌, length, sym, ap, ◌∙◌, arith}
 use Rattle.order_model.specs.Problems.{value_at}
 use Rattle.compaction.specs.Columns.{low_numbers, packed_numbers}
-use Rattle.compaction.specs.Strips.{AreNamed, AreStrips, strip, unrolled}
-use Rattle.compaction.specs.Values.{values_of, number_of}
+use Rattle.compaction.specs.Strips.{unrolled}
+use Rattle.compaction.specs.Values.{values_of}
 use Rattle.compaction.proofs.Expanded.{length_packed}
 use Rattle.compaction.proofs.StartClasses.{length_values}
 use Rattle.compaction.proofs.KeptRuns.{kept_strips, kept_values}

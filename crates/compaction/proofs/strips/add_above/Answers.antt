@@ -1,9 +1,6 @@
-use Rattle.std.proofs.Common.{◌≡◌, ℕ, ◌+◌, ◌*◌, ◌/◌, ◌^◌, ◌<◌, ◌≤◌, length, get_or, vec_len, sym, ap, ◌∙◌, subst, arith}
+use Rattle.std.proofs.Common.{◌≡◌, ◌+◌, ◌*◌, ◌/◌, ◌^◌, length, get_or, sym, ap, ◌∙◌, subst, arith}
 use Rattle.std.proofs.Math.Nat.{add-mul-div_right, div-eq_of_lt}
 use Rattle.std.proofs.lemmas.Nat.{pow_pos}
-use Rattle.order_model.specs.Widths.{same_pair}
-use Rattle.std.specs.Set.{distinct_count}
-use Rattle.compaction.specs.Numbering.{ranks}
 use Rattle.compaction.specs.Strips.{TellsPairs}
 use Rattle.compaction.specs.Places as places
 use Rattle.compaction.proofs.Index.{length-pairs}
@@ -25,7 +22,7 @@ tell_pairs-requires-clause-len c =
     let v = ap length c.deref-2.ensures.value in
     let l = c.requires.len in
     let p = paired_few c.args.outer.now c.args.numbers.now (2 ^ c.args.bits) c.args.rank c.requires.strips (pow_pos c.args.bits) c.requires.whole c.deref.result.now c.in_ok-paired.paired.items
-        (c.deref.ensures.value ∙ c.in_ok-numbered.ensures) c.in_ok-paired.ensures.long c.in_ok-paired.ensures.lower c.in_ok-paired.ensures.upper in
+    (c.deref.ensures.value ∙ c.in_ok-numbered.ensures) c.in_ok-paired.ensures.long c.in_ok-paired.ensures.lower c.in_ok-paired.ensures.upper in
     omega arith
 
 pub tell_pairs-requires-clause-classes : goal.tell_pairs-requires-clause-classes
@@ -33,7 +30,7 @@ tell_pairs-requires-clause-classes c = λ i h.
     let v = ap length c.deref-2.ensures.value in
     let e = ap (λ us. get_or us i 0) c.deref-2.ensures.value in
     let p = paired_below c.args.outer.now c.args.numbers.now (2 ^ c.args.bits) c.args.rank c.requires.strips (pow_pos c.args.bits) c.requires.whole c.deref.result.now c.in_ok-paired.paired.items
-        (c.deref.ensures.value ∙ c.in_ok-numbered.ensures) c.in_ok-paired.ensures.long c.in_ok-paired.ensures.lower c.in_ok-paired.ensures.upper (length c.args.masks.now) c.requires.below i (omega arith) in
+    (c.deref.ensures.value ∙ c.in_ok-numbered.ensures) c.in_ok-paired.ensures.long c.in_ok-paired.ensures.lower c.in_ok-paired.ensures.upper (length c.args.masks.now) c.requires.below i (omega arith) in
     omega arith
 
 pub returns-clause-strips : goal.returns-clause-strips
@@ -62,7 +59,7 @@ returns-clause-few c =
     let v = ap length c.deref-2.ensures.value in
     let l = c.requires.len in
     let p = paired_few c.args.outer.now c.args.numbers.now (2 ^ c.args.bits) c.args.rank c.requires.strips (pow_pos c.args.bits) c.requires.whole c.deref.result.now c.in_ok-paired.paired.items
-        (c.deref.ensures.value ∙ c.in_ok-numbered.ensures) c.in_ok-paired.ensures.long c.in_ok-paired.ensures.lower c.in_ok-paired.ensures.upper in
+    (c.deref.ensures.value ∙ c.in_ok-numbered.ensures) c.in_ok-paired.ensures.long c.in_ok-paired.ensures.lower c.in_ok-paired.ensures.upper in
     let n = length_names c.args.masks.now c.args.x (places.pairs c.deref-2.result.now (2 ^ c.args.bits)) c.in_ok-told.told.numbers.items c.in_ok-told.told.masks.items c.in_ok-told.ensures in
     let m = length-pairs c.deref-2.result.now (2 ^ c.args.bits) in
     omega arith

@@ -1,6 +1,5 @@
-use Rattle.std.proofs.Common.{◌^◌, map, length, vec_len, sym, ap, ◌∙◌, arith}
+use Rattle.std.proofs.Common.{◌^◌, arith}
 use Rattle.compaction.specs.Places as places
-use Rattle.compaction.specs.Table.{joined_key}
 use Rattle.compaction.proofs.Index.{length-pairs}
 use Rattle.compaction.proofs.Named.{names_joined, names_numbered}
 use Rattle.compaction.proofs.strips.tell_pairs.Goals as goal

@@ -1,4 +1,4 @@
-use Rattle.std.proofs.Common.{◌≡◌, ℕ, Bool, true, false, cond, ◌<◌, ◌+◌, ◌++◌, [], ◌∷◌, List, map, length, get_or, sym, ap, ◌∙◌, subst, arith, Vec, Global}
+use Rattle.std.proofs.Common.{◌≡◌, ℕ, false, cond, ◌++◌, [], ◌∷◌, map, length, get_or, sym, ap, ◌∙◌, arith, Vec, Global}
 use Rattle.std.specs.List.{filter, range_with_len}
 use Rattle.order_model.specs.Orders.{has}
 use Rattle.compaction.specs.Strips.{masks_in_use}

@@ -1,4 +1,4 @@
-use Rattle.std.proofs.Common.{◌≤◌, ◌<◌, ◌≡◌, sym, ap, subst, ◌∙◌, arith, [], ◌∷◌, ◌++◌, List, ℕ}
+use Rattle.std.proofs.Common.{sym, ap, subst, ◌∙◌, arith, [], ◌∷◌, ◌++◌}
 use Rattle.compaction.specs.Strips.{HoldsBytes}
 use Rattle.compaction.specs.Table.{classes_of}
 use Rattle.compaction.proofs.HeldBytes.{bytes_values}

@@ -1,4 +1,4 @@
-use Rattle.std.proofs.Common.{◌≡◌, ℕ, ◌+◌, ◌-◌, ◌<◌, ◌≤◌, ◌*◌, ◌/◌, ◌^◌, length, get_or, bit_or, min, sym, ap, ap₂, ◌∙◌, subst, arith}
+use Rattle.std.proofs.Common.{◌-◌, ◌≤◌, ◌*◌, ◌/◌, ◌^◌, length, get_or, bit_or, sym, ap, ◌∙◌, subst, arith}
 use Rattle.std.proofs.lemmas.Nat.{one_shl}
 use Rattle.compaction.specs.Strips.{AreDistinct, AreStrips, HoldsStrips, HoldsTable, TellsPairs, low_variables, unrolled}
 use Rattle.compaction.specs.Places as places
@@ -45,7 +45,7 @@ add_above-requires-clause-whole c =
     let e = c.rank_of.ensures ∙ ap (λ (z : ClassesOf). free_below z.set c.args.x) c.self.view_is in
     let s = free_split c.args.self.now.set (low_variables c.args.self.now.problem) c.args.x c.requires.high in
     let w = whole_outer c.args.self.now c.args.x c.requires.inside c.requires.new (low_variables c.args.self.now.problem) c.self.inside.outer.items c.self.inside.numbers.items c.self.inside.masks.items h
-        c.requires.high (c.rank_of.result - c.rank_of-bits.result) (omega arith) in
+    c.requires.high (c.rank_of.result - c.rank_of-bits.result) (omega arith) in
     (w.0, ap length c.deref.ensures.value ∙ w.1)
 
 pub of_parts-strips-requires : goal.of_parts-strips-requires
@@ -61,13 +61,13 @@ of_parts-strips-requires c =
     let g = c.in_ok-grown-in-None.grown in
     let told = c.in_ok-grown-in-None.ensures.tells in
     let k = holds_high c.args.self.now c.args.x c.requires.inside c.requires.new (low_variables c.args.self.now.problem) c.self.inside.outer.items c.self.inside.numbers.items c.self.inside.masks.items h
-        c.requires.high rank (omega arith) g.outer.items g.numbers.items g.masks.items
-        (subst (λ k. AreStrips g.outer.items g.numbers.items (2 ^ k)) b c.in_ok-grown-in-None.ensures.strips)
-        (subst (λ k. TellsPairs c.self.inside.masks.items c.args.x (places.pairs (unrolled c.self.inside.outer.items c.self.inside.numbers.items (2 ^ k)) (2 ^ k * 2 ^ rank)) (unrolled g.outer.items g.numbers.items (2 ^ k)) g.masks.items) b
-        (subst (λ us. TellsPairs us c.args.x (places.pairs (unrolled c.self.inside.outer.items c.self.inside.numbers.items (2 ^ c.rank_of-bits.result)) (2 ^ c.rank_of-bits.result * 2 ^ rank)) (unrolled g.outer.items g.numbers.items (2 ^ c.rank_of-bits.result)) g.masks.items) c.deref-in-None-2.ensures.value
-        (subst (λ us. TellsPairs c.deref-in-None-2.result.now c.args.x (places.pairs (unrolled c.self.inside.outer.items us (2 ^ c.rank_of-bits.result)) (2 ^ c.rank_of-bits.result * 2 ^ rank)) (unrolled g.outer.items g.numbers.items (2 ^ c.rank_of-bits.result)) g.masks.items) c.deref-in-None.ensures.value
-        (subst (λ us. TellsPairs c.deref-in-None-2.result.now c.args.x (places.pairs (unrolled us c.deref-in-None.result.now (2 ^ c.rank_of-bits.result)) (2 ^ c.rank_of-bits.result * 2 ^ rank)) (unrolled g.outer.items g.numbers.items (2 ^ c.rank_of-bits.result)) g.masks.items) c.deref.ensures.value told))))
-        c.in_ok-grown-in-None.ensures.below c.in_ok-grown-in-None.ensures.few in
+    c.requires.high rank (omega arith) g.outer.items g.numbers.items g.masks.items
+    (subst (λ k. AreStrips g.outer.items g.numbers.items (2 ^ k)) b c.in_ok-grown-in-None.ensures.strips)
+    (subst (λ k. TellsPairs c.self.inside.masks.items c.args.x (places.pairs (unrolled c.self.inside.outer.items c.self.inside.numbers.items (2 ^ k)) (2 ^ k * 2 ^ rank)) (unrolled g.outer.items g.numbers.items (2 ^ k)) g.masks.items) b
+    (subst (λ us. TellsPairs us c.args.x (places.pairs (unrolled c.self.inside.outer.items c.self.inside.numbers.items (2 ^ c.rank_of-bits.result)) (2 ^ c.rank_of-bits.result * 2 ^ rank)) (unrolled g.outer.items g.numbers.items (2 ^ c.rank_of-bits.result)) g.masks.items) c.deref-in-None-2.ensures.value
+    (subst (λ us. TellsPairs c.deref-in-None-2.result.now c.args.x (places.pairs (unrolled c.self.inside.outer.items us (2 ^ c.rank_of-bits.result)) (2 ^ c.rank_of-bits.result * 2 ^ rank)) (unrolled g.outer.items g.numbers.items (2 ^ c.rank_of-bits.result)) g.masks.items) c.deref-in-None.ensures.value
+    (subst (λ us. TellsPairs c.deref-in-None-2.result.now c.args.x (places.pairs (unrolled us c.deref-in-None.result.now (2 ^ c.rank_of-bits.result)) (2 ^ c.rank_of-bits.result * 2 ^ rank)) (unrolled g.outer.items g.numbers.items (2 ^ c.rank_of-bits.result)) g.masks.items) c.deref.ensures.value told))))
+    c.in_ok-grown-in-None.ensures.below c.in_ok-grown-in-None.ensures.few in
     subst (λ (z : ClassesOf). HoldsStrips z (low_variables z.problem) g.outer.items g.numbers.items g.masks.items)
     (λ i. classes_of (sym c.self.view_is i).problem (bit_or (sym c.self.view_is i).set (sym o i))) k
 

@@ -1,4 +1,4 @@
-use Rattle.std.proofs.Common.{◌≡◌, ℕ, ◌<◌, ◌≤◌, ◌*◌, ◌/◌, ◌^◌, length, get_or, bit_or, min, sym, ap, ◌∙◌, subst, arith}
+use Rattle.std.proofs.Common.{◌*◌, ◌/◌, ◌^◌, length, get_or, bit_or, sym, ap, ◌∙◌, subst, arith}
 use Rattle.std.proofs.lemmas.Nat.{one_shl}
 use Rattle.compaction.specs.Strips.{AreDistinct, HoldsStrips, HoldsTable, TellsPairs, low_variables}
 use Rattle.compaction.specs.Places as places
@@ -33,10 +33,10 @@ of_parts-strips-requires c =
     let v = c.deref.ensures.value in
     let m = c.deref-in-None.ensures.value in
     let k = holds_low c.args.self c.args.x (omega arith) c.requires.new (low_variables c.args.self.problem) c.self.inside.outer.items c.self.inside.numbers.items c.self.inside.masks.items h l
-        c.in_ok-told-in-None.told.numbers.items c.in_ok-told-in-None.told.masks.items
-        (subst (λ us. TellsPairs us c.args.x (places.pairs c.self.inside.numbers.items (2 ^ free_below c.args.self.set c.args.x)) c.in_ok-told-in-None.told.numbers.items c.in_ok-told-in-None.told.masks.items) m
-        (subst (λ us. TellsPairs c.deref-in-None.result.now c.args.x (places.pairs us (2 ^ free_below c.args.self.set c.args.x)) c.in_ok-told-in-None.told.numbers.items c.in_ok-told-in-None.told.masks.items) v
-        (subst (λ r. TellsPairs c.deref-in-None.result.now c.args.x (places.pairs c.deref.result.now (2 ^ r)) c.in_ok-told-in-None.told.numbers.items c.in_ok-told-in-None.told.masks.items) e c.in_ok-told-in-None.ensures))) in
+    c.in_ok-told-in-None.told.numbers.items c.in_ok-told-in-None.told.masks.items
+    (subst (λ us. TellsPairs us c.args.x (places.pairs c.self.inside.numbers.items (2 ^ free_below c.args.self.set c.args.x)) c.in_ok-told-in-None.told.numbers.items c.in_ok-told-in-None.told.masks.items) m
+    (subst (λ us. TellsPairs c.deref-in-None.result.now c.args.x (places.pairs us (2 ^ free_below c.args.self.set c.args.x)) c.in_ok-told-in-None.told.numbers.items c.in_ok-told-in-None.told.masks.items) v
+    (subst (λ r. TellsPairs c.deref-in-None.result.now c.args.x (places.pairs c.deref.result.now (2 ^ r)) c.in_ok-told-in-None.told.numbers.items c.in_ok-told-in-None.told.masks.items) e c.in_ok-told-in-None.ensures))) in
     subst (λ (z : ClassesOf). HoldsStrips z (low_variables z.problem) c.self.inside.outer.items c.in_ok-told-in-None.told.numbers.items c.in_ok-told-in-None.told.masks.items)
     (λ i. classes_of (sym c.self.view_is i).problem (bit_or (sym c.self.view_is i).set (sym s i))) k
 

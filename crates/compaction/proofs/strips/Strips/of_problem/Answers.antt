@@ -1,4 +1,4 @@
-use Rattle.std.proofs.Common.{◌≤◌, ◌<◌, ◌^◌, ◌≡◌, length, sym, ap, subst, ◌∙◌, arith, [], ◌∷◌, ◌++◌, List, ℕ, map}
+use Rattle.std.proofs.Common.{◌^◌, ◌≡◌, sym, ap, subst, ◌∙◌, arith, [], ◌∷◌, ◌++◌, map}
 use Rattle.order_model.specs.Problems.{value_at}
 use Rattle.compaction.specs.Strips.{AreStrips, HoldsStrips, low_variables, unrolled}
 use Rattle.compaction.specs.Table.{classes_of}

@@ -1,8 +1,7 @@
-use Rattle.std.proofs.Common.{◌≤◌, ◌≡◌, ℕ, get_or, length, sym, ap, ◌∙◌, subst, arith, cond, eqb}
+use Rattle.std.proofs.Common.{get_or, length, ap, ◌∙◌, subst, arith, cond, eqb}
 use Rattle.std.specs.Int.{bit_at}
 use Rattle.std.specs.List.{filter}
-use Rattle.compaction.specs.Rows.{width_wanted}
-use Rattle.compaction.specs.Strips.{AreDistinct, HoldsStrips, HoldsTable, low_variables, masks_in_use}
+use Rattle.compaction.specs.Strips.{HoldsTable, low_variables, masks_in_use}
 use Rattle.compaction.specs.Table.{ClassesOf}
 use Rattle.compaction.proofs.AllDistinct.{distinct_row, table_distinct, table_strips}
 use Rattle.compaction.proofs.Used.{few_in_use, strips_row}
