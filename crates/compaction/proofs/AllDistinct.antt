@@ -18,7 +18,7 @@ use Rattle.order_model.proofs.OrderLists.{has_variables}
 use Rattle.compaction.specs.Dependence.{joined_mask}
 use Rattle.compaction.specs.Places.{low_place, pairs}
 use Rattle.compaction.specs.Rows.{width_wanted}
-use Rattle.compaction.specs.Strips.{AreDistinct, HoldsStrips, HoldsTable, TellsPairs, masks_in_use, unrolled}
+use Rattle.compaction.specs.Strips.{AreDistinct, AreStrips, HoldsStrips, HoldsTable, TellsPairs, masks_in_use, unrolled}
 use Rattle.compaction.specs.Table.{ClassesOf, HoldsKeys, with_variable, functions_of, set_of, free_below}
 use Rattle.compaction.proofs.Counted.{length_filter_map}
 use Rattle.compaction.proofs.Index.{length-pairs, pair_listed, pair_within}
@@ -149,6 +149,16 @@ distinct_row t count d wanted x w inside e = e ∙ elim (cases_eq (bit_at wanted
   | inr none ↦ ap (λ b. cond b count 0) (ne_eqb (bit_at wanted x) 1 none) ∙ sym (ap (λ b. cond b (width t.problem.inputs (functions_of t) (without x (set_of t)) x) 0) (ne_eqb (bit_at wanted x) 1 none))
 ]
 
+-- strips that are named in order are as many as the runs
+pub own_count : (outer numbers : List ℕ) (len : ℕ) (strips : AreStrips outer numbers len) → ((i : ℕ) → i < length outer → get_or outer i 0 ≡ i) → strips.count ≡ length outer
+own_count outer numbers len strips own = elim (cases_lt strips.count (length outer)) [
+  | inl less ↦ absurd (let w = strips.within strips.count less in let e = own strips.count less in let f : ⊥ = omega arith in f)
+  | inr more ↦ elim (cases_lt (length outer) strips.count) [
+    | inl less ↦ absurd (let u = strips.used (length outer) less in let s = u.1.0 in let e = own u.0 s in let q = u.1.1 in let f : ⊥ = omega arith in f)
+    | inr same ↦ omega arith
+  ]
+]
+
 -- strips that show it
 pub distinct_strips : (t : ClassesOf) (low : ℕ) (outer numbers masks : List ℕ) → HoldsStrips t low outer numbers masks → length masks ≡ length numbers → ((i : ℕ) → i < length outer → get_or outer i 0 ≡ i) →
     ((i : ℕ) → i < length numbers → get_or numbers i 0 ≡ i) → ((i : ℕ) → i < length masks → get_or masks i 0 ≡ t.set) → AreDistinct t (length numbers)
@@ -166,13 +176,7 @@ distinct_strips t low outer numbers masks h exact own counted full = record {
     some = pow_pos (free_below t.set low)
 
     count_is : h.strips.count ≡ length outer
-    count_is = elim (cases_lt h.strips.count (length outer)) [
-      | inl less ↦ absurd (let w = h.strips.within h.strips.count less in let e = own h.strips.count less in let f : ⊥ = omega arith in f)
-      | inr more ↦ elim (cases_lt (length outer) h.strips.count) [
-        | inl less ↦ absurd (let u = h.strips.used (length outer) less in let s = u.1.0 in let e = own u.0 s in let q = u.1.1 in let f : ⊥ = omega arith in f)
-        | inr same ↦ omega arith
-      ]
-    ]
+    count_is = own_count outer numbers (2 ^ free_below t.set low) h.strips own
 
     same : unrolled outer numbers (2 ^ free_below t.set low) ≡ range_with_len 0 (length numbers)
     same =

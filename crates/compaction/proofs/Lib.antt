@@ -30,3 +30,4 @@ pub mod BlockPlaces
 pub mod Firsts
 pub mod HeldBytes
 pub mod SlotSteps
+pub mod Ordered

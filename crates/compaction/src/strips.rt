@@ -155,8 +155,22 @@ fn number_runs(
     Ok(runs.numbers)
 }
 
-/// Strips with one more variable, which stands above those inside a strip: pairs of strips become strips.
-fn add_above(
+/// The numbers 0, 1, 2 and so on.
+fn first_numbers(alloc: Global, count: usize) -> Result<Vec<u32>, AllocError>
+    requires { count ≤ 2 ^ 20 }
+    ensures long { IfOk result (λ v. length v.items ≡ count) }
+    ensures own { IfOk result (λ v. (i : ℕ) → i < count → slice_index v.items i ≡ i) }
+{
+    let mut numbers = Vec::with_capacity(alloc, count)?;
+    for i in 0..count {
+        numbers.push(i as u32)?;
+    }
+    Ok(numbers)
+}
+
+/// Strips with one more variable, which stands above those inside a strip, where the strips are named in order: their entries
+/// are all entries.
+fn add_in_order(
     alloc: Global,
     outer: &[u32],
     rank: u32,
@@ -165,8 +179,40 @@ fn add_above(
     x: u8,
     masks: &[u16],
 ) -> Result<Grown, AllocError>
-    requires rank { rank < 16 }
-    requires bits { bits < 16 }
+    requires steps { bits + rank < 16 }
+    requires variable { x < 16 }
+    requires len { length outer.now * 2 ^ bits ≤ 2 ^ 20 }
+    requires few { length numbers.now ≤ 2 ^ 20 }
+    requires few_masks { length masks.now ≤ 2 ^ 20 }
+    requires whole { (blocks : ℕ) × (length outer.now ≡ blocks * (2 * 2 ^ rank)) }
+    requires strips { AreStrips outer.now numbers.now (2 ^ bits) }
+    requires own { (i : ℕ) → i < length outer.now → slice_index outer.now i ≡ i }
+    requires below { (i : ℕ) → i < length numbers.now → slice_index numbers.now i < length masks.now }
+    ensures strips { IfOk result (λ g. AreStrips g.outer.items g.numbers.items (2 ^ bits)) }
+    ensures tells { IfOk result (λ g. TellsPairs masks.now x (places.pairs (unrolled outer.now numbers.now (2 ^ bits)) (2 ^ bits * 2 ^ rank)) (unrolled g.outer.items g.numbers.items (2 ^ bits)) g.masks.items) }
+    ensures below { IfOk result (λ g. (i : ℕ) → i < length g.numbers.items → slice_index g.numbers.items i < length g.masks.items) }
+    ensures few { IfOk result (λ g. length g.numbers.items ≤ 2 ^ 20) }
+{
+    let told = tell_pairs(alloc, numbers, bits + rank, x, masks)?;
+    let outer = first_numbers(alloc, outer.len() / 2)?;
+    Ok(Grown {
+        outer,
+        numbers: told.numbers,
+        masks: told.masks,
+    })
+}
+
+/// Strips with one more variable, which stands above those inside a strip: pairs of strips become strips.
+fn add_by_pairs(
+    alloc: Global,
+    outer: &[u32],
+    rank: u32,
+    numbers: &[u32],
+    bits: u32,
+    x: u8,
+    masks: &[u16],
+) -> Result<Grown, AllocError>
+    requires steps { bits + rank < 16 }
     requires variable { x < 16 }
     requires len { length outer.now * 2 ^ bits ≤ 2 ^ 20 }
     requires few { length numbers.now ≤ 2 ^ 20 }
@@ -187,6 +233,37 @@ fn add_above(
         numbers: told.numbers,
         masks: told.masks,
     })
+}
+
+/// Strips with one more variable, which stands above those inside a strip.
+fn add_above(
+    alloc: Global,
+    outer: &[u32],
+    rank: u32,
+    numbers: &[u32],
+    bits: u32,
+    x: u8,
+    masks: &[u16],
+) -> Result<Grown, AllocError>
+    requires steps { bits + rank < 16 }
+    requires variable { x < 16 }
+    requires len { length outer.now * 2 ^ bits ≤ 2 ^ 20 }
+    requires few { length numbers.now ≤ 2 ^ 20 }
+    requires few_masks { length masks.now ≤ 2 ^ 20 }
+    requires whole { (blocks : ℕ) × (length outer.now ≡ blocks * (2 * 2 ^ rank)) }
+    requires strips { AreStrips outer.now numbers.now (2 ^ bits) }
+    requires below { (i : ℕ) → i < length numbers.now → slice_index numbers.now i < length masks.now }
+    ensures strips { IfOk result (λ g. AreStrips g.outer.items g.numbers.items (2 ^ bits)) }
+    ensures tells { IfOk result (λ g. TellsPairs masks.now x (places.pairs (unrolled outer.now numbers.now (2 ^ bits)) (2 ^ bits * 2 ^ rank)) (unrolled g.outer.items g.numbers.items (2 ^ bits)) g.masks.items) }
+    ensures below { IfOk result (λ g. (i : ℕ) → i < length g.numbers.items → slice_index g.numbers.items i < length g.masks.items) }
+    ensures few { IfOk result (λ g. length g.numbers.items ≤ 2 ^ 20) }
+{
+    let grown = if count_up(outer) {
+        add_in_order(alloc, outer, rank, numbers, bits, x, masks)?
+    } else {
+        add_by_pairs(alloc, outer, rank, numbers, bits, x, masks)?
+    };
+    Ok(grown)
 }
 
 /// Which numbers occur.

@@ -16,19 +16,13 @@ overflow_sub-rank c =
     let e = ap (free_below c.self.inside.set) l in
     omega arith
 
-pub add_above-requires-clause-rank : goal.add_above-requires-clause-rank
-add_above-requires-clause-rank c =
+pub add_above-requires-clause-steps : goal.add_above-requires-clause-steps
+add_above-requires-clause-steps c =
     let h = table_strips c.args.self.now (low_variables c.args.self.now.problem) c.self.inside.distinct c.self.inside.outer.items c.self.inside.numbers.items c.self.inside.masks.items (subst (λ (z : ClassesOf). HoldsTable z (low_variables z.problem) c.self.inside.distinct c.self.inside.outer.items c.self.inside.numbers.items c.self.inside.masks.items) c.self.view_is c.self.invariant) c.in-None.is in
     let e = c.rank_of.ensures ∙ ap (λ (z : ClassesOf). free_below z.set c.args.x) c.self.view_is in
     let r = rank_few c.args.self.now c.args.x c.requires.inside c.requires.new (low_variables c.args.self.now.problem) c.self.inside.outer.items c.self.inside.numbers.items c.self.inside.masks.items h in
-    omega arith
-
-pub add_above-requires-clause-bits : goal.add_above-requires-clause-bits
-add_above-requires-clause-bits c =
-    let h = table_strips c.args.self.now (low_variables c.args.self.now.problem) c.self.inside.distinct c.self.inside.outer.items c.self.inside.numbers.items c.self.inside.masks.items (subst (λ (z : ClassesOf). HoldsTable z (low_variables z.problem) c.self.inside.distinct c.self.inside.outer.items c.self.inside.numbers.items c.self.inside.masks.items) c.self.view_is c.self.invariant) c.in-None.is in
-    let e = c.rank_of-bits.ensures ∙ ap (free_below c.self.inside.set) c.low_variables.ensures ∙ ap (λ (z : ClassesOf). free_below z.set (low_variables z.problem)) c.self.view_is in
+    let b = c.rank_of-bits.ensures ∙ ap (free_below c.self.inside.set) c.low_variables.ensures ∙ ap (λ (z : ClassesOf). free_below z.set (low_variables z.problem)) c.self.view_is in
     let s = free_split c.args.self.now.set (low_variables c.args.self.now.problem) c.args.x c.requires.high in
-    let r = rank_few c.args.self.now c.args.x c.requires.inside c.requires.new (low_variables c.args.self.now.problem) c.self.inside.outer.items c.self.inside.numbers.items c.self.inside.masks.items h in
     omega arith
 
 pub add_above-requires-clause-len : goal.add_above-requires-clause-len

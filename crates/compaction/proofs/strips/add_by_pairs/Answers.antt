@@ -6,7 +6,7 @@ use Rattle.compaction.specs.Places as places
 use Rattle.compaction.proofs.Index.{length-pairs}
 use Rattle.compaction.proofs.Named.{names_below, length_names}
 use Rattle.compaction.proofs.Stripped.{high_strips, high_tells, paired_below, paired_few}
-use Rattle.compaction.proofs.strips.add_above.Goals as goal
+use Rattle.compaction.proofs.strips.add_by_pairs.Goals as goal
 
 pub number_runs-requires-clause-below : goal.number_runs-requires-clause-below
 number_runs-requires-clause-below c = λ i h.
