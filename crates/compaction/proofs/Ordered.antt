@@ -1,7 +1,7 @@
 -- Strips that are named in order: their entries are all entries.
 --     ordered_whole      whole pairs of entries
 --     ordered_strips, ordered_tells      one more variable above the strips
-use Rattle.std.proofs.Common.{◌≡◌, ℕ, ◌+◌, ◌*◌, ◌/◌, ◌<◌, List, length, get_or, sym, ap, ◌∙◌, subst, arith}
+use Rattle.std.proofs.Common.{◌≡◌, ℕ, ◌*◌, ◌/◌, ◌<◌, List, length, get_or, sym, ap, ◌∙◌, subst, arith}
 use Rattle.compaction.specs.Places.{pairs}
 use Rattle.compaction.specs.Strips.{AreStrips, TellsPairs, unrolled}
 use Rattle.compaction.proofs.AllDistinct.{own_count}

@@ -1,7 +1,6 @@
 use Rattle.std.proofs.Common.{◌≡◌, ℕ, ◌+◌, ◌*◌, ◌/◌, ◌%◌, ◌^◌, ◌<◌, get_or, set, take, drop, inl, inr, map, length, sym, ap, subst, ◌∙◌, arith}
 use Rattle.std.proofs.lemmas.Grind.{common_steps}
 use Rattle.std.proofs.lemmas.Nat.{one_shl}
-use Rattle.std.proofs.lemmas.List.{get_or_default}
 use Rattle.compaction.specs.Dependence.{joined_mask}
 use Rattle.compaction.specs.Numbering.{IsNumbered, home_of}
 use Rattle.compaction.specs.Places as places
@@ -101,13 +100,13 @@ loop-i-preserved c =
     let number = c.in-Some.number in
     let new = c.number_pair-found.new.slots in
     let found : IsNumbered c.in_ok-often.often.items slots (set keys count (get_or ps j (0, 0))) count (get_or ps j (0, 0)) (home (get_or ps j (0, 0))) number new =
-        subst (λ z. z) (λ t. IsNumbered (c.deref.ensures.value t) (c.deref_mut.ensures.value t) (all_keys t) count (p t) (home (p t)) number new) c.in-Some.ensures in
+    subst (λ z. z) (λ t. IsNumbered (c.deref.ensures.value t) (c.deref_mut.ensures.value t) (all_keys t) count (p t) (home (p t)) number new) c.in-Some.ensures in
     let long : length new ≡ c.loop-i.slots.len = (let a = c.number_pair-found.auto.slots in let v = ap length c.deref_mut.ensures.value in omega arith) in
     let back = take_at new (drop (length new) slots) c.loop-i.slots.len long in
     let classes = listed_classes cs c.args.rank (length c.args.masks.now) j c.requires.whole c.requires.classes (omega arith) in
     let next = slotted_next ps join home (ComesOnce cs) c.in_ok-often.often.items slots keys out masks count j mask number new (omega arith) c.loop-i.invariant
-        (λ m. elim m [ inl a ↦ inl (c.in_ok-often.ensures.once (get_or ps j (0, 0)).0 classes.0 a) | inr b ↦ inr (c.in_ok-often.ensures.once (get_or ps j (0, 0)).1 classes.1 b) ])
-        (λ k lt e. comes_once cs c.args.rank c.requires.whole k j lt (omega arith) e) (c.join_mask.ensures ∙ ap join p) found in
+    (λ m. elim m [ inl a ↦ inl (c.in_ok-often.ensures.once (get_or ps j (0, 0)).0 classes.0 a) | inr b ↦ inr (c.in_ok-often.ensures.once (get_or ps j (0, 0)).1 classes.1 b) ])
+    (λ k lt e. comes_once cs c.args.rank c.requires.whole k j lt (omega arith) e) (c.join_mask.ensures ∙ ap join p) found in
     elim c.if-number-count.branch [
       | then-number-count w ↦
           subst (λ z. z) (λ t. Slotted ps join home (ComesOnce cs) (sym back t) (set keys count (sym p t)) (set out (sym place t) number) (set masks count mask) (sym w.count-is t) (k t)) (next.0 w.if-number-count.true)
