@@ -1,12 +1,11 @@
 -- Pairs of distinct classes are distinct.
-use Rattle.std.proofs.Common.{◌≡◌, ◌≢◌, ℕ, ◌+◌, ◌*◌, ◌/◌, ◌^◌, ◌<◌, ◌≤◌, suc, inl, inr, List, length, get_or, refl, ap, arith, ◌⊎◌, sym, ◌∙◌}
+use Rattle.std.proofs.Common.{◌≡◌, ◌≢◌, ℕ, ◌+◌, ◌*◌, ◌/◌, ◌^◌, ◌<◌, ◌≤◌, suc, inl, inr, List, length, get_or, refl, ap, arith}
 use Rattle.std.proofs.Math.Nat.{mul-le-mul_right, div-mul-le_self, lt-div-mul-add}
 use Rattle.std.proofs.lemmas.Bool.{cases_lt}
 use Rattle.std.proofs.lemmas.Nat.{pow_pos, div-add-mod'}
 use Rattle.compaction.specs.Chains.{IsFirst}
-use Rattle.compaction.specs.Numbering.{OccursOnce}
 use Rattle.compaction.specs.Places.{low_place, pairs}
-use Rattle.compaction.proofs.Index.{pair_within, first_listed, pair_listed}
+use Rattle.compaction.proofs.Index.{pair_within, first_listed}
 
 low_is : (step j : ℕ) → low_place step j ≡ j + j / step * step
 low_is step j =
@@ -40,22 +39,3 @@ distinct_first cs r whole apart j h = first_listed cs (2 ^ r) j j h (record {
       let w = pair_within (2 ^ r) whole.0 (length cs) j (pow_pos r) whole.1 h in
       apart (low_place (2 ^ r) i) (low_place (2 ^ r) j) (low_rises (2 ^ r) i j (pow_pos r) lt) (omega arith) (ap (λ (p : ℕ × ℕ). p.0) e);
 })
-
--- a pair one of whose classes occurs once comes once
-abbrev pub ComesOnce : List ℕ → ℕ × ℕ → Type 0
-ComesOnce cs p = OccursOnce cs p.0 ⊎ OccursOnce cs p.1
-
-pub comes_once : (cs : List ℕ) (r : ℕ) → ((blocks : ℕ) × (length cs ≡ blocks * (2 * 2 ^ r))) → (i j : ℕ) → i < j → j < length cs / 2 → get_or (pairs cs (2 ^ r)) i (0, 0) ≡ get_or (pairs cs (2 ^ r)) j (0, 0) →
-    ComesOnce cs (get_or (pairs cs (2 ^ r)) i (0, 0)) → ⊥
-comes_once cs r whole i j lt h e once =
-    let a = pair_listed cs (2 ^ r) i (omega arith) in
-    let b = pair_listed cs (2 ^ r) j h in
-    let wi = pair_within (2 ^ r) whole.0 (length cs) i (pow_pos r) whole.1 (omega arith) in
-    let wj = pair_within (2 ^ r) whole.0 (length cs) j (pow_pos r) whole.1 h in
-    let rise = low_rises (2 ^ r) i j (pow_pos r) lt in
-    let low = ap (λ (p : ℕ × ℕ). p.0) (sym a ∙ e ∙ b) in
-    let high = ap (λ (p : ℕ × ℕ). p.1) (sym a ∙ e ∙ b) in
-    elim once [
-      | inl o ↦ let q = o (low_place (2 ^ r) i) (low_place (2 ^ r) j) (omega arith) (omega arith) (sym (ap (λ (p : ℕ × ℕ). p.0) a)) (sym low ∙ sym (ap (λ (p : ℕ × ℕ). p.0) a)) in absurd (let f : ⊥ = omega arith in f)
-      | inr o ↦ let q = o (low_place (2 ^ r) i + 2 ^ r) (low_place (2 ^ r) j + 2 ^ r) wi wj (sym (ap (λ (p : ℕ × ℕ). p.1) a)) (sym high ∙ sym (ap (λ (p : ℕ × ℕ). p.1) a)) in absurd (let f : ⊥ = omega arith in f)
-    ]

@@ -59,3 +59,11 @@ pub listed_classes : (cs : List ℕ) (rank classes j : ℕ) → ((blocks : ℕ) 
 listed_classes cs rank classes j whole small h =
     let t : j < length cs / 2 = (let l = length-pairs cs (2 ^ rank) in omega arith) in
     subst (λ (p : ℕ × ℕ). (p.0 < classes) × (p.1 < classes)) (sym (pair_listed cs (2 ^ rank) j t)) (pair_classes cs rank classes j whole small t)
+
+-- the same of a pair as the code has it
+pub coded_classes : (cs : List ℕ) (rank classes s b i : ℕ) → s ≡ 2 ^ rank → ((blocks : ℕ) × (length cs ≡ blocks * (2 * 2 ^ rank))) → ((i : ℕ) → i < length cs → get_or cs i 0 < classes) → b < length cs / 2 / 2 ^ rank → i < s →
+    (get_or cs (b * (2 * s) + i) 0 < classes) × (get_or cs (b * (2 * s) + i + s) 0 < classes)
+coded_classes cs rank classes s b i e whole small l m =
+    let n = block_inside (length cs) rank b i whole l (omega arith) in
+    let t = length-pairs cs (2 ^ rank) in
+    subst (λ (p : ℕ × ℕ). (p.0 < classes) × (p.1 < classes)) (sym (coded_pair cs rank s b i e whole l m)) (listed_classes cs rank classes (b * 2 ^ rank + i) whole small (omega arith))

@@ -4,28 +4,28 @@ use Rattle.std.proofs.Math.Nat.{min-eq_left, min-eq_right}
 use Rattle.std.proofs.lemmas.Bool.{cases_eq, cases_lt}
 use Rattle.std.proofs.lemmas.List.{get_or-set_same, get_or-set_other, length-set, length-take, take-set, take_more_set, set-get_or}
 use Rattle.compaction.specs.Chains.{IsFirst}
-use Rattle.compaction.specs.Numbering.{IsNumbered, IsSlot, slot_number}
+use Rattle.compaction.specs.Numbering.{IsSlot, slot_number}
 use Rattle.compaction.proofs.Firsts.{Made, made_none, made_first, made_again}
 
-module _ (ps : List (ℕ × ℕ)) (join : ℕ × ℕ → ℕ) (home : ℕ × ℕ → ℕ) (Once : ℕ × ℕ → Type 0) where
+module _ (ps : List (ℕ × ℕ)) (join : ℕ × ℕ → ℕ) (home : ℕ × ℕ → ℕ) where
   -- pair i is in a slot behind taken ones
   abbrev pub Found : List ℕ → List (ℕ × ℕ) → ℕ → ℕ → Type 0
   Found slots keys count i =
       (t : ℕ) × (home (get_or ps i (0, 0)) ≤ t) × (t < length slots) × (get_or slots t 0 < count) × (get_or keys (get_or slots t 0) (0, 0) ≡ get_or ps i (0, 0)) × ((u : ℕ) → home (get_or ps i (0, 0)) ≤ u → u < t → get_or slots u 0 < count)
 
-  -- the numbering has come to pair j: a slot below `count` has a number, and a pair that may come again is found from its home on
+  -- the numbering has come to pair j: a slot below `count` has a number, and each pair is found from its home on
   pub record Slotted (slots : List ℕ) (keys : List (ℕ × ℕ)) (out masks : List ℕ) (count j : ℕ) : Type 0 where
     pub long_keys : length keys ≡ length ps
     pub long_masks : length masks ≡ length ps
-    pub room : length slots ≡ 2 * length ps + 64
+    pub room : length slots ≡ 4 * length ps + 64
     pub few : count ≤ j
     pub made : Made ps join out (take count masks) j
     pub free : (t : ℕ) → t < length slots → (get_or slots t 0 < count) ⊎ (get_or slots t 0 ≡ length ps)
     pub each : (t : ℕ) → t < length slots → get_or slots t 0 < count →
         (i : ℕ) × (i < j) × (get_or out i 0 ≡ get_or slots t 0) × (get_or ps i (0, 0) ≡ get_or keys (get_or slots t 0) (0, 0)) × ((k : ℕ) → k < i → get_or ps k (0, 0) ≢ get_or ps i (0, 0))
-    pub there : (i : ℕ) → i < j → Once (get_or ps i (0, 0)) ⊎ Found slots keys count i
+    pub there : (i : ℕ) → i < j → Found slots keys count i
 
-  pub slotted_none : (slots : List ℕ) (keys : List (ℕ × ℕ)) (out masks : List ℕ) → length keys ≡ length ps → length masks ≡ length ps → length out ≡ length ps → length slots ≡ 2 * length ps + 64 →
+  pub slotted_none : (slots : List ℕ) (keys : List (ℕ × ℕ)) (out masks : List ℕ) → length keys ≡ length ps → length masks ≡ length ps → length out ≡ length ps → length slots ≡ 4 * length ps + 64 →
       ((t : ℕ) → t < length slots → get_or slots t 0 ≡ length ps) → Slotted slots keys out masks 0 0
   slotted_none slots keys out masks k m o r f = record {
     long_keys = k;
@@ -86,32 +86,29 @@ module _ (ps : List (ℕ × ℕ)) (join : ℕ × ℕ → ℕ) (home : ℕ × ℕ
           each = λ t l a. let q = h.each t l a in let b = q.1 in
               (q.0, omega arith, get_or-set_other out j q.0 n 0 (λ (d : q.0 ≡ j). let z : ⊥ = omega arith in z) ∙ q.2, q.3 ∙ sym (key_kept (get_or slots t 0) a), q.4);
           there = λ i l. elim (cases_lt i j) [
-            | inl b ↦ elim (h.there i b) [ inl o' ↦ inl o' | inr q ↦ inr (q.0, q.1, q.2, q.3, key_kept (get_or slots q.0 0) q.3 ∙ q.4, q.5) ]
-            | inr b ↦ inr (subst (Found slots (set keys count (get_or ps j (0, 0))) count) (let d : j ≡ i = omega arith in d)
-                (at, s.from, s.within, lt, key_kept (get_or slots at 0) lt ∙ same, λ u l m. taken u l m))
+            | inl b ↦ let q = h.there i b in (q.0, q.1, q.2, q.3, key_kept (get_or slots q.0 0) q.3 ∙ q.4, q.5)
+            | inr b ↦ subst (Found slots (set keys count (get_or ps j (0, 0))) count) (let d : j ≡ i = omega arith in d)
+                (at, s.from, s.within, lt, key_kept (get_or slots at 0) lt ∙ same, λ u l m. taken u l m)
           ];
         })
 
     -- the pair is new
-    pub slotted_new : ((i : ℕ) → i < j → get_or ps i (0, 0) ≡ get_or ps j (0, 0) → Once (get_or ps i (0, 0)) → ⊥) → mask ≡ join (get_or ps j (0, 0)) → slot_number slots count at ≡ count → Slotted (set slots at (slot_number slots count at)) (set keys count (get_or ps j (0, 0))) (set out j (slot_number slots count at)) (set masks count mask) (count + 1) (j + 1)
+    pub slotted_new : mask ≡ join (get_or ps j (0, 0)) → slot_number slots count at ≡ count → Slotted (set slots at (slot_number slots count at)) (set keys count (get_or ps j (0, 0))) (set out j (slot_number slots count at)) (set masks count mask) (count + 1) (j + 1)
     unfolding key key_kept taken other
-    slotted_new alone m e =
+    slotted_new m e =
         let le : count ≤ get_or slots at 0 = elim (cases_lt (get_or slots at 0) count) [ inl a ↦ (let f : slot_number slots count at ≡ get_or slots at 0 = min-eq_left (omega arith) in absurd (omega arith)) | inr b ↦ b ] in
         let absent : (i : ℕ) → i < j → get_or ps i (0, 0) ≢ get_or ps j (0, 0) = λ i l q.
-        elim (h.there i l) [
-          | inl o ↦ alone i l q o
-          | inr f ↦
-              let g = ap home q in
-              let a = f.1 in
-              let b = f.3 in
-              let k = s.from in
-              elim (cases_lt f.0 at) [
-                | inl c ↦ other f.0 (omega arith) c (f.4 ∙ q)
-                | inr c ↦ elim (cases_eq f.0 at) [
-                  | inl d ↦ let v = ap (λ z. get_or slots z 0) d in absurd (omega arith)
-                  | inr d ↦ let v = f.5 at (omega arith) (omega arith) in absurd (omega arith)
-                ]
-              ]
+        let f = h.there i l in
+        let g = ap home q in
+        let a = f.1 in
+        let b = f.3 in
+        let k = s.from in
+        elim (cases_lt f.0 at) [
+          | inl c ↦ other f.0 (omega arith) c (f.4 ∙ q)
+          | inr c ↦ elim (cases_eq f.0 at) [
+            | inl d ↦ let v = ap (λ z. get_or slots z 0) d in absurd (omega arith)
+            | inr d ↦ let v = f.5 at (omega arith) (omega arith) in absurd (omega arith)
+          ]
         ] in
         let w = h.few in
         let mine = h.long_masks in
@@ -148,72 +145,14 @@ module _ (ps : List (ℕ × ℕ)) (join : ℕ × ℕ → ℕ) (home : ℕ × ℕ
                 (q.0, omega arith, get_or-set_other out j q.0 count 0 (λ (c : q.0 ≡ j). let z : ⊥ = omega arith in z) ∙ q.2 ∙ sym v, q.3 ∙ sym (key_kept (get_or slots t 0) old) ∙ ap (λ c. get_or keys' c (0, 0)) (sym v), q.4)
           ];
           there = λ i l. elim (cases_lt i j) [
-            | inl b ↦ elim (h.there i b) [
-              | inl o ↦ inl o
-              | inr q ↦
-                  let a = q.3 in
-                  let r = q.2 in
-                  let apart : q.0 ≢ at = λ d. (let v = ap (λ z. get_or slots z 0) d in let z : ⊥ = omega arith in z) in
-                  let v = get_or-set_other slots at q.0 count 0 apart in
-                  inr (q.0, q.1, omega arith, below q.0 q.3, ap (λ c. get_or keys' c (0, 0)) v ∙ key_kept (get_or slots q.0 0) q.3 ∙ q.4, λ u f g. below u (q.5 u f g))
-            ]
-            | inr b ↦ inr (subst (Found (set slots at count) keys' (count + 1)) (let d : j ≡ i = omega arith in d)
-                (at, s.from, (let r = s.within in omega arith), omega arith, ap (λ c. get_or keys' c (0, 0)) here ∙ key_here, λ u f g. below u (taken u f g)))
+            | inl b ↦
+                let q = h.there i b in
+                let a = q.3 in
+                let r = q.2 in
+                let apart : q.0 ≢ at = λ d. (let v = ap (λ z. get_or slots z 0) d in let z : ⊥ = omega arith in z) in
+                let v = get_or-set_other slots at q.0 count 0 apart in
+                (q.0, q.1, omega arith, below q.0 q.3, ap (λ c. get_or keys' c (0, 0)) v ∙ key_kept (get_or slots q.0 0) q.3 ∙ q.4, λ u f g. below u (q.5 u f g))
+            | inr b ↦ subst (Found (set slots at count) keys' (count + 1)) (let d : j ≡ i = omega arith in d)
+                (at, s.from, (let r = s.within in omega arith), omega arith, ap (λ c. get_or keys' c (0, 0)) here ∙ key_here, λ u f g. below u (taken u f g))
           ];
         })
-
-  -- a pair that comes once is new without a look
-  pub slotted_once : (slots : List ℕ) (keys : List (ℕ × ℕ)) (out masks : List ℕ) (count j mask : ℕ) → j < length ps → Slotted slots keys out masks count j → Once (get_or ps j (0, 0)) →
-      ((i : ℕ) → i < j → get_or ps i (0, 0) ≡ get_or ps j (0, 0) → Once (get_or ps i (0, 0)) → ⊥) → mask ≡ join (get_or ps j (0, 0)) →
-      Slotted slots (set keys count (get_or ps j (0, 0))) (set out j count) (set masks count mask) (count + 1) (j + 1)
-  slotted_once slots keys out masks count j mask small h once alone m =
-      let w = h.few in
-      let mine = h.long_masks in
-      let long = h.long_keys in
-      let own = h.made.long in
-      let known : length (take count masks) ≡ count = (let t = length-take count masks in omega arith) in
-      let absent : (i : ℕ) → i < j → get_or ps i (0, 0) ≢ get_or ps j (0, 0) = λ i l q. alone i l q (subst Once (sym q) once) in
-      let first : IsFirst (λ i. get_or ps i (0, 0)) j j = record { before = omega arith; same = refl; none = absent } in
-      let kept : (c : ℕ) → c < count → get_or (set keys count (get_or ps j (0, 0))) c (0, 0) ≡ get_or keys c (0, 0) = λ c l. get_or-set_other keys count c (get_or ps j (0, 0)) (0, 0) (λ (e : c ≡ count). let z : ⊥ = omega arith in z) in
-      let older : (t : ℕ) → t < length slots → get_or slots t 0 < count + 1 → get_or slots t 0 < count = λ t l a. elim (h.free t l) [ inl b ↦ b | inr b ↦ absurd (omega arith) ] in
-      record {
-        long_keys = length-set keys count (get_or ps j (0, 0)) ∙ long;
-        long_masks = length-set masks count mask ∙ mine;
-        room = h.room;
-        few = omega arith;
-        made = subst (λ z. z) (λ t. Made ps join (set out j (known t)) (sym (take_more_set masks count mask (omega arith)) t) (j + 1))
-            (made_first ps join out (take count masks) j mask small first m h.made);
-        free = λ t l. elim (h.free t l) [ inl a ↦ inl (omega arith) | inr b ↦ inr b ];
-        each = λ t l a.
-            let q = h.each t l (older t l a) in
-            let b = q.1 in
-            (q.0, omega arith, get_or-set_other out j q.0 count 0 (λ (c : q.0 ≡ j). let z : ⊥ = omega arith in z) ∙ q.2, q.3 ∙ sym (kept (get_or slots t 0) (older t l a)), q.4);
-        there = λ i l. elim (cases_lt i j) [
-          | inl b ↦ elim (h.there i b) [
-            | inl o ↦ inl o
-            | inr q ↦ let a = q.3 in inr (q.0, q.1, q.2, omega arith, kept (get_or slots q.0 0) q.3 ∙ q.4, λ u f g. let v = q.5 u f g in omega arith)
-          ]
-          | inr b ↦ inl (subst (λ k. Once (get_or ps k (0, 0))) (let d : j ≡ i = omega arith in d) once)
-        ];
-      }
-
-  -- one pair more, however it got its number
-  pub slotted_next : (often slots : List ℕ) (keys : List (ℕ × ℕ)) (out masks : List ℕ) (count j mask number : ℕ) (new : List ℕ) → j < length ps → Slotted slots keys out masks count j →
-      (((get_or often (get_or ps j (0, 0)).0 0 ≡ 1) ⊎ (get_or often (get_or ps j (0, 0)).1 0 ≡ 1)) → Once (get_or ps j (0, 0))) →
-      ((i : ℕ) → i < j → get_or ps i (0, 0) ≡ get_or ps j (0, 0) → Once (get_or ps i (0, 0)) → ⊥) → mask ≡ join (get_or ps j (0, 0)) →
-      IsNumbered often slots (set keys count (get_or ps j (0, 0))) count (get_or ps j (0, 0)) (home (get_or ps j (0, 0))) number new →
-      ((number ≡ count) → Slotted new (set keys count (get_or ps j (0, 0))) (set out j number) (set masks count mask) (count + 1) (j + 1))
-      × ((number ≢ count) → Slotted new (set keys count (get_or ps j (0, 0))) (set out j number) (set masks count mask) count (j + 1))
-  slotted_next often slots keys out masks count j mask number new small h marked alone m n = elim n [
-    | inl q ↦ (
-      λ e. subst (λ (p : List ℕ × ℕ). Slotted p.0 (set keys count (get_or ps j (0, 0))) (set out j p.1) (set masks count mask) (count + 1) (j + 1)) (λ i. (sym q.2 i, sym q.1 i))
-          (slotted_once slots keys out masks count j mask small h (marked q.0) alone m),
-      λ ne. absurd (ne q.1),
-    )
-    | inr k ↦ (
-      λ e. subst (λ (p : List ℕ × ℕ). Slotted p.0 (set keys count (get_or ps j (0, 0))) (set out j p.1) (set masks count mask) (count + 1) (j + 1)) (λ i. (sym (k.kept ∙ ap (set slots k.at) k.number_is) i, sym k.number_is i))
-          (slotted_new slots keys out masks count j k.at mask small h k.slot alone m (sym k.number_is ∙ e)),
-      λ ne. subst (λ (p : List ℕ × ℕ). Slotted p.0 (set keys count (get_or ps j (0, 0))) (set out j p.1) (set masks count mask) count (j + 1)) (λ i. (sym (k.kept ∙ ap (set slots k.at) k.number_is) i, sym k.number_is i))
-          (slotted_old slots keys out masks count j k.at mask small h k.slot (λ e. ne (k.number_is ∙ e))),
-    )
-  ]

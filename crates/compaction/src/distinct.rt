@@ -9,6 +9,7 @@ ghost use Rattle.compaction.specs.Places as places;
 
 use crate::masks::join_mask;
 use crate::numbering::Numbered;
+use crate::pairs::pair_at;
 use std::alloc::{AllocError, Global};
 
 /// Whether no number occurs twice. All are below `bound`.
@@ -46,17 +47,12 @@ pub fn number_distinct_pairs(
     ensures many { IfOk result (λ v. length v.masks.items ≡ distinct_count same_pair (places.pairs numbers.now (2 ^ rank))) }
     ensures told { IfOk result (λ v. map (λ c. get_or v.masks.items c 0) v.numbers.items ≡ map (joined_mask masks.now x) (places.pairs numbers.now (2 ^ rank))) }
 {
-    let step = 1usize << rank;
     let half = numbers.len() / 2;
     let mut out = vec![in alloc; 0u32; half]?;
     let mut joined = vec![in alloc; 0u16; half]?;
-    for block in 0..half >> rank {
-        for i in 0..step {
-            let low = block * (2 * step) + i;
-            let j = block * step + i;
-            out[j] = j as u32;
-            joined[j] = join_mask(masks, x, (numbers[low], numbers[low + step]));
-        }
+    for j in 0..half {
+        out[j] = j as u32;
+        joined[j] = join_mask(masks, x, pair_at(numbers, rank, j));
     }
     Ok(Numbered {
         numbers: out,

@@ -3,16 +3,17 @@
 
 mod blocks;
 mod bytes;
+mod cells;
 mod chains;
 mod classes;
 mod columns;
-mod dense;
 mod distinct;
 mod keys;
 mod masks;
 mod numbering;
 mod pairs;
 mod scratch;
+mod slots;
 mod start;
 mod strips;
 mod tally;

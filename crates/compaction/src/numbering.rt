@@ -8,8 +8,9 @@ ghost use Rattle.compaction.specs.Numbering.{ranks};
 ghost use Rattle.compaction.specs.Places as places;
 
 use crate::chains::number_pairs_by_chains;
-use crate::dense::{number_pairs_by_cells, number_pairs_by_slots};
+use crate::cells::number_pairs_by_cells;
 use crate::distinct::{are_distinct, number_distinct_pairs};
+use crate::slots::number_pairs_by_slots;
 use std::alloc::{AllocError, Global};
 
 /// The number of each pair, and the mask of each number.

@@ -15,8 +15,8 @@ pub fn low_place(rank: u32, j: usize) -> usize
     requires place { j < 2 ^ 32 }
     ensures { result ≡ places.low_place (2 ^ rank) j }
 {
-    let step = 1usize << rank;
-    (j >> rank) * (2 * step) + (j & (step - 1))
+    let below = (1usize << rank) - 1;
+    2 * j - (j & below)
 }
 
 /// Pair `j`: the entries at which the variable is 0 and 1.

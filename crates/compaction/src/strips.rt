@@ -125,7 +125,7 @@ fn pair_strips(
         get_or v.items (slice_index numbered.now j * (2 * 2 ^ bits) + 2 ^ bits + a) 0 ≡ slice_index numbers.now (upper_at outer.now (2 ^ rank) j * 2 ^ bits + a)) }
 {
     let strip = 1usize << bits;
-    let mut paired = Vec::new(alloc);
+    let mut paired = Vec::with_capacity(alloc, numbers.len())?;
     for (j, number) in numbered.iter().enumerate() {
         if *number as usize * (2 * strip) == paired.len() {
             let (lower, upper) = pair_at(outer, rank, j);

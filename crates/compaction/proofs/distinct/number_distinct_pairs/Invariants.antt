@@ -1,17 +1,11 @@
-use Rattle.std.proofs.Common.{◌≡◌, ◌+◌, ◌*◌, ◌/◌, ◌^◌, take, length}
+use Rattle.std.proofs.Common.{◌≡◌, ◌/◌, ◌^◌, take, length}
 use Rattle.compaction.specs.Dependence.{joined_mask}
 use Rattle.compaction.specs.Places as places
 use Rattle.compaction.proofs.Firsts.{Made}
 use Rattle.compaction.proofs.distinct.number_distinct_pairs.Given as goal
 
-abbrev pub invariant-loop-block : goal.invariant-loop-block
-invariant-loop-block l = record {
+abbrev pub invariant-loop-j : goal.invariant-loop-j
+invariant-loop-j l = record {
   long : length l.joined.items ≡ length l.numbers / 2;
-  made : Made (places.pairs l.numbers (2 ^ l.rank)) (joined_mask l.masks l.x) l.out.items (take (l.block * 2 ^ l.rank) l.joined.items) (l.block * 2 ^ l.rank);
-}
-
-abbrev pub invariant-loop-i : goal.invariant-loop-i
-invariant-loop-i l = record {
-  long : length l.joined.items ≡ length l.numbers / 2;
-  made : Made (places.pairs l.numbers (2 ^ l.rank)) (joined_mask l.masks l.x) l.out.items (take (l.block * 2 ^ l.rank + l.i) l.joined.items) (l.block * 2 ^ l.rank + l.i);
+  made : Made (places.pairs l.numbers (2 ^ l.rank)) (joined_mask l.masks l.x) l.out.items (take l.j l.joined.items) l.j;
 }

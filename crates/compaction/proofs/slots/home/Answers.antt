@@ -1,6 +1,6 @@
 use Rattle.std.proofs.Common.{◌≡◌, ◌+◌, ◌*◌, ◌/◌, ◌%◌, ◌^◌, ap, arith}
 use Rattle.compaction.specs.Numbering.{home_of}
-use Rattle.compaction.proofs.dense.home.Goals as goal
+use Rattle.compaction.proofs.slots.home.Goals as goal
 
 pub returns-clause-place : goal.returns-clause-place
 unfolding home_of

@@ -1,0 +1,86 @@
+use Rattle.std.proofs.Common.{◌≡◌, ℕ, ◌+◌, ◌*◌, ◌/◌, ◌^◌, ◌<◌, get_or, set, take, map, length, sym, ap, subst, ◌∙◌, arith, min}
+use Rattle.std.proofs.lemmas.Grind.{common_steps}
+use Rattle.std.proofs.lemmas.List.{get_or_default}
+use Rattle.compaction.specs.Dependence.{joined_mask}
+use Rattle.compaction.specs.Numbering.{IsSlot, home_of, slot_number}
+use Rattle.compaction.specs.Places as places
+use Rattle.compaction.proofs.Index.{length-pairs, pair_listed}
+use Rattle.compaction.proofs.Joined.{pair_classes}
+use Rattle.compaction.proofs.Firsts.{made_numbers, made_many, made_told}
+use Rattle.compaction.proofs.SlotSteps.{Slotted, slotted_new, slotted_old, slotted_none}
+use Rattle.compaction.proofs.slots.number_pairs_by_slots.Goals as goal
+use Rattle.compaction.proofs.slots.number_pairs_by_slots.Goals.{then-number-count, else-number-count}
+
+pub loop-j-init : goal.loop-j-init
+loop-j-init c =
+    let ps = places.pairs c.args.numbers.now (2 ^ c.args.rank) in
+    let l = length-pairs c.args.numbers.now (2 ^ c.args.rank) in
+    let a = c.in_ok-slots.ensures.len in
+    let k = c.in_ok-keys.ensures.len in
+    let m = c.in_ok-joined.ensures.len in
+    let o = c.in_ok-out.ensures.len in
+    let empty : (t : ℕ) → t < length c.in_ok-slots.slots.items → get_or c.in_ok-slots.slots.items t 0 ≡ length c.args.numbers.now / 2 = grind (arith, common_steps) in
+    slotted_none ps (joined_mask c.args.masks.now c.args.x) (home_of (4 * (length c.args.numbers.now / 2))) c.in_ok-slots.slots.items c.in_ok-keys.keys.items c.in_ok-out.out.items c.in_ok-joined.joined.items
+    (omega arith) (omega arith) (omega arith) (omega arith) (λ t h. empty t h ∙ sym l)
+
+pub join_mask-requires-clause-lower : goal.join_mask-requires-clause-lower
+join_mask-requires-clause-lower c =
+    let b = pair_classes c.args.numbers.now c.args.rank (length c.args.masks.now) c.loop-j.j c.requires.whole c.requires.classes c.loop-j-test.true in
+    subst (λ (q : ℕ × ℕ). q.0 < length c.args.masks.now) (sym c.pair_at-pair.ensures) b.0
+
+pub join_mask-requires-clause-upper : goal.join_mask-requires-clause-upper
+join_mask-requires-clause-upper c =
+    let b = pair_classes c.args.numbers.now c.args.rank (length c.args.masks.now) c.loop-j.j c.requires.whole c.requires.classes c.loop-j-test.true in
+    subst (λ (q : ℕ × ℕ). q.1 < length c.args.masks.now) (sym c.pair_at-pair.ensures) b.1
+
+pub returns-clause-numbers : goal.returns-clause-numbers
+returns-clause-numbers c =
+    let l = length-pairs c.args.numbers.now (2 ^ c.args.rank) in
+    let t = c.loop-j-test.false in
+    made_numbers (places.pairs c.args.numbers.now (2 ^ c.args.rank)) (joined_mask c.args.masks.now c.args.x) c.loop-j.out.items (take c.loop-j.count c.loop-j.joined.items) c.loop-j.j (omega arith) c.loop-j.invariant.made
+
+pub returns-clause-many : goal.returns-clause-many
+returns-clause-many c =
+    let l = length-pairs c.args.numbers.now (2 ^ c.args.rank) in
+    let t = c.loop-j-test.false in
+    ap length c.truncate.ensures.items
+    ∙ made_many (places.pairs c.args.numbers.now (2 ^ c.args.rank)) (joined_mask c.args.masks.now c.args.x) c.loop-j.out.items (take c.loop-j.count c.loop-j.joined.items) c.loop-j.j (omega arith) c.loop-j.invariant.made
+
+pub returns-clause-told : goal.returns-clause-told
+returns-clause-told c =
+    let l = length-pairs c.args.numbers.now (2 ^ c.args.rank) in
+    let t = c.loop-j-test.false in
+    ap (λ us. map (λ k. get_or us k 0) c.loop-j.out.items) c.truncate.ensures.items
+    ∙ made_told (places.pairs c.args.numbers.now (2 ^ c.args.rank)) (joined_mask c.args.masks.now c.args.x) c.loop-j.out.items (take c.loop-j.count c.loop-j.joined.items) c.loop-j.j (omega arith) c.loop-j.invariant.made
+
+pub loop-j-preserved : goal.loop-j-preserved
+loop-j-preserved c =
+    let cs = c.args.numbers.now in
+    let ps = places.pairs cs (2 ^ c.args.rank) in
+    let join = joined_mask c.args.masks.now c.args.x in
+    let place = home_of (4 * (length c.args.numbers.now / 2)) in
+    let j = c.loop-j.j in
+    let slots = c.loop-j.slots.items in
+    let keys = c.loop-j.keys.items in
+    let out = c.loop-j.out.items in
+    let masks = c.loop-j.joined.items in
+    let count = c.loop-j.count in
+    let mask = c.join_mask.result in
+    let at = c.in-Some.at in
+    let p = c.pair_at-pair.ensures ∙ sym (pair_listed cs (2 ^ c.args.rank) j c.loop-j-test.true) in
+    let l = length-pairs cs (2 ^ c.args.rank) in
+    let t' = c.loop-j-test.true in
+    let all_keys = c.deref-in-loop-j.ensures.value ∙ ap (set keys count) p in
+    let begin = c.home.ensures.place ∙ ap place p in
+    let found : IsSlot slots (set keys count (get_or ps j (0, 0))) count (get_or ps j (0, 0)) (place (get_or ps j (0, 0))) at =
+    subst (λ z. z) (λ t. IsSlot (c.deref.ensures.value t) (all_keys t) count (p t) (begin t) at) c.in-Some.ensures in
+    let value : c.index.result.now ≡ get_or slots at 0 = c.index.ensures ∙ get_or_default slots at c.index.result.now 0 found.within in
+    let number : c.min-number.result ≡ slot_number slots count at = c.min-number.ensures ∙ ap (λ z. min z count) value in
+    elim c.if-number-count.branch [
+      | then-number-count w ↦
+          subst (λ z. z) (λ t. Slotted ps join place (set slots at (sym number t)) (set keys count (sym p t)) (set out j (sym number t)) (set masks count mask) (sym w.count-is t) (j + 1))
+          (slotted_new ps join place slots keys out masks count j at mask (omega arith) c.loop-j.invariant found (c.join_mask.ensures ∙ ap join p) (sym number ∙ w.if-number-count.true))
+      | else-number-count w ↦
+          subst (λ z. z) (λ t. Slotted ps join place (set slots at (sym number t)) (set keys count (sym p t)) (set out j (sym number t)) (set masks count mask) (sym w.count-is t) (j + 1))
+          (slotted_old ps join place slots keys out masks count j at mask (omega arith) c.loop-j.invariant found (λ e. w.if-number-count.false (number ∙ e)))
+    ]
