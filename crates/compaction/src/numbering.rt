@@ -7,8 +7,8 @@ ghost use Rattle.compaction.specs.Dependence.{joined_mask};
 ghost use Rattle.compaction.specs.Numbering.{ranks};
 ghost use Rattle.compaction.specs.Places as places;
 
-use crate::chains::number_pairs_by_chains;
 use crate::cells::number_pairs_by_cells;
+use crate::chains::number_pairs_by_chains;
 use crate::distinct::{are_distinct, number_distinct_pairs};
 use crate::slots::number_pairs_by_slots;
 use std::alloc::{AllocError, Global};
