@@ -25,12 +25,12 @@ module _ (ps : List (ℕ × ℕ)) (masks : List ℕ) (x : ℕ) where
   -- after j pairs
   pub record Counting (count j : ℕ) : Type 0 where
     pub out : List ℕ
-    pub joined : Joined ps (joined_mask masks x) out j
+    pub joined : Joined 0 ps (joined_mask masks x) out j
     pub counted : count ≡ length (filter (λ m. eqb (bit_at m x) 1) out)
     pub few : count ≤ j
 
   pub counting_none : Counting 0 0
-  counting_none = record { out = []; joined = joined_none ps (joined_mask masks x); counted = refl; few = omega arith }
+  counting_none = record { out = []; joined = joined_none 0 ps (joined_mask masks x); counted = refl; few = omega arith }
 
   absent : (j : ℕ) → j < length ps → IsFirst (λ i. get_or ps i (0, 0)) j j → Among (get_or ps j (0, 0)) (take j ps) → ⊥
   absent j l f a = let s = among_take ps ps j (get_or ps j (0, 0)) a in f.none s.0 s.1 s.3
@@ -38,8 +38,8 @@ module _ (ps : List (ℕ × ℕ)) (masks : List ℕ) (x : ℕ) where
   pub counting_first : (count more j mask : ℕ) → j < length ps → IsFirst (λ i. get_or ps i (0, 0)) j j → mask ≡ joined_mask masks x (get_or ps j (0, 0)) → more ≡ bit_at mask x → Counting count j → Counting (count + more) (j + 1)
   counting_first count more j mask l f m b h = record {
     out = h.out ++ mask ∷ [];
-    joined = joined_new ps (joined_mask masks x) h.out j (rank same_pair ps (get_or ps j (0, 0))) mask l h.joined refl
-        (rank_is ps (joined_mask masks x) j l ∙ rank_absent same_pair pair_decides (take j ps) (get_or ps j (0, 0)) (absent j l f) ∙ sym h.joined.many) m;
+    joined = joined_new 0 ps (joined_mask masks x) h.out j (rank same_pair ps (get_or ps j (0, 0))) mask l h.joined refl
+        (rank_is ps j l ∙ rank_absent same_pair pair_decides (take j ps) (get_or ps j (0, 0)) (absent j l f) ∙ sym h.joined.many) m;
     counted = (let c = h.counted in let e = ap length (filter-append (λ k. eqb (bit_at k x) 1) h.out (mask ∷ [])) ∙ length-append (filter (λ k. eqb (bit_at k x) 1) h.out) (filter (λ k. eqb (bit_at k x) 1) (mask ∷ [])) in let o = one (bit_at mask x) (bit_at-lt mask x) in omega arith);
     few = (let w = h.few in let z = bit_at-lt mask x in omega arith);
   }
@@ -52,8 +52,8 @@ module _ (ps : List (ℕ × ℕ)) (masks : List ℕ) (x : ℕ) where
   pub counting_again : (count j first : ℕ) → j < length ps → IsFirst (λ i. get_or ps i (0, 0)) j first → first < j → Counting count j → Counting count (j + 1)
   counting_again count j first l f lt h = record {
     out = h.out;
-    joined = joined_old ps (joined_mask masks x) h.out j (rank same_pair ps (get_or ps j (0, 0))) l h.joined refl
-        (λ e. let r = rank_is ps (joined_mask masks x) j l in let b = rank_below same_pair pair_decides (take j ps) (get_or ps j (0, 0)) there in let m = h.joined.many in omega arith);
+    joined = joined_old 0 ps (joined_mask masks x) h.out j (rank same_pair ps (get_or ps j (0, 0))) l h.joined refl
+        (λ e. let r = rank_is ps j l in let b = rank_below same_pair pair_decides (take j ps) (get_or ps j (0, 0)) there in let m = h.joined.many in omega arith);
     counted = h.counted;
     few = (let w = h.few in omega arith);
   }
@@ -64,8 +64,8 @@ module _ (ps : List (ℕ × ℕ)) (masks : List ℕ) (x : ℕ) where
   pub counting_all : (count j : ℕ) → length ps ≤ j → Counting count j → CountsMasks masks x ps count
   counting_all count j l h = record {
     joined = h.out;
-    many = joined_many ps (joined_mask masks x) h.out j l h.joined;
-    told = joined_told ps (joined_mask masks x) h.out j l h.joined;
+    many = joined_many 0 ps (joined_mask masks x) h.out j l h.joined;
+    told = joined_told 0 ps (joined_mask masks x) h.out j l h.joined;
     counted = h.counted;
   }
 

@@ -1,4 +1,5 @@
--- Numbers and masks of pairs, made together: at the first pair of each kind a mask is added.
+-- Numbers of pairs, and something told of them, as a mask, made together: at the first pair of each kind it is added.
+--     Made none ps join out masks j      the numbers of the first j pairs, and what `join` tells of them; `none` stands behind the end of these
 use Rattle.std.proofs.Common.{◌≡◌, ℕ, ◌+◌, ◌<◌, ◌≤◌, List, [], ◌∷◌, ◌++◌, map, length, get_or, set, take, refl, sym, ap, ◌∙◌, subst, arith}
 use Rattle.std.specs.Set.{distinct_count}
 use Rattle.std.proofs.lemmas.List.{take_more_set, length-set, length-append, take_all, get_or-take}
@@ -11,32 +12,32 @@ use Rattle.compaction.proofs.Ranks.{rank_absent, rank_below}
 use Rattle.compaction.proofs.Chained.{Progress, progress_none, progress_new, progress_old, progress_all, among_take, take_among}
 use Rattle.compaction.proofs.Joined.{Joined, joined_none, joined_new, joined_old, joined_many, joined_told, rank_is}
 
-module _ (ps : List (ℕ × ℕ)) (join : ℕ × ℕ → ℕ) where
+module _ {M : Type 0} (none : M) (ps : List (ℕ × ℕ)) (join : ℕ × ℕ → M) where
   -- the masks with one more pair, which is the first of its kind
-  pub joined_first : (masks : List ℕ) (j mask : ℕ) → j < length ps → IsFirst (λ i. get_or ps i (0, 0)) j j → mask ≡ join (get_or ps j (0, 0)) → Joined ps join masks j → Joined ps join (masks ++ mask ∷ []) (j + 1)
+  pub joined_first : (masks : List M) (j : ℕ) (mask : M) → j < length ps → IsFirst (λ i. get_or ps i (0, 0)) j j → mask ≡ join (get_or ps j (0, 0)) → Joined none ps join masks j → Joined none ps join (masks ++ mask ∷ []) (j + 1)
   joined_first masks j mask l f m h =
-      joined_new ps join masks j (rank same_pair ps (get_or ps j (0, 0))) mask l h refl
-      (rank_is ps join j l ∙ rank_absent same_pair pair_decides (take j ps) (get_or ps j (0, 0)) (λ a. let s = among_take ps ps j (get_or ps j (0, 0)) a in f.none s.0 s.1 s.3) ∙ sym h.many) m
+      joined_new none ps join masks j (rank same_pair ps (get_or ps j (0, 0))) mask l h refl
+      (rank_is ps j l ∙ rank_absent same_pair pair_decides (take j ps) (get_or ps j (0, 0)) (λ a. let s = among_take ps ps j (get_or ps j (0, 0)) a in f.none s.0 s.1 s.3) ∙ sym h.many) m
 
   -- with one that has come before
-  pub joined_again : (masks : List ℕ) (j first : ℕ) → j < length ps → IsFirst (λ i. get_or ps i (0, 0)) j first → first < j → Joined ps join masks j → Joined ps join masks (j + 1)
+  pub joined_again : (masks : List M) (j first : ℕ) → j < length ps → IsFirst (λ i. get_or ps i (0, 0)) j first → first < j → Joined none ps join masks j → Joined none ps join masks (j + 1)
   joined_again masks j first l f lt h =
       let there : Among (get_or ps j (0, 0)) (take j ps) = subst (λ t. Among t (take j ps)) f.same (take_among ps ps j first lt (omega arith)) in
-      joined_old ps join masks j (rank same_pair ps (get_or ps j (0, 0))) l h refl
-      (λ e. let r = rank_is ps join j l in let b = rank_below same_pair pair_decides (take j ps) (get_or ps j (0, 0)) there in let m = h.many in omega arith)
+      joined_old none ps join masks j (rank same_pair ps (get_or ps j (0, 0))) l h refl
+      (λ e. let r = rank_is ps j l in let b = rank_below same_pair pair_decides (take j ps) (get_or ps j (0, 0)) there in let m = h.many in omega arith)
 
   -- the first j numbers are written, and the masks are those of as many pairs
-  pub record Made (out masks : List ℕ) (j : ℕ) : Type 0 where
+  pub record Made (out : List ℕ) (masks : List M) (j : ℕ) : Type 0 where
     pub long : length out ≡ length ps
     pub few : length masks ≤ j
     pub within : j ≤ length ps
     pub progress : Progress ps (take j out) (length masks) j
-    pub joined : Joined ps join masks j
+    pub joined : Joined none ps join masks j
 
   pub made_none : (out : List ℕ) → length out ≡ length ps → Made out [] 0
-  made_none out l = record { long = l; few = omega arith; within = omega arith; progress = progress_none ps; joined = joined_none ps join }
+  made_none out l = record { long = l; few = omega arith; within = omega arith; progress = progress_none ps; joined = joined_none none ps join }
 
-  pub made_first : (out masks : List ℕ) (j mask : ℕ) → j < length ps → IsFirst (λ i. get_or ps i (0, 0)) j j → mask ≡ join (get_or ps j (0, 0)) → Made out masks j → Made (set out j (length masks)) (masks ++ mask ∷ []) (j + 1)
+  pub made_first : (out : List ℕ) (masks : List M) (j : ℕ) (mask : M) → j < length ps → IsFirst (λ i. get_or ps i (0, 0)) j j → mask ≡ join (get_or ps j (0, 0)) → Made out masks j → Made (set out j (length masks)) (masks ++ mask ∷ []) (j + 1)
   made_first out masks j mask l f m h =
       let o = h.long in
       let w = h.few in
@@ -51,7 +52,7 @@ module _ (ps : List (ℕ × ℕ)) (join : ℕ × ℕ → ℕ) where
         joined = joined_first masks j mask l f m h.joined;
       }
 
-  pub made_again : (out masks : List ℕ) (j first : ℕ) → j < length ps → IsFirst (λ i. get_or ps i (0, 0)) j first → first < j → Made out masks j → Made (set out j (get_or out first 0)) masks (j + 1)
+  pub made_again : (out : List ℕ) (masks : List M) (j first : ℕ) → j < length ps → IsFirst (λ i. get_or ps i (0, 0)) j first → first < j → Made out masks j → Made (set out j (get_or out first 0)) masks (j + 1)
   made_again out masks j first l f lt h =
       let o = h.long in
       let w = h.few in
@@ -64,11 +65,11 @@ module _ (ps : List (ℕ × ℕ)) (join : ℕ × ℕ → ℕ) where
         joined = joined_again masks j first l f lt h.joined;
       }
 
-  pub made_numbers : (out masks : List ℕ) (j : ℕ) → length ps ≤ j → Made out masks j → out ≡ ranks same_pair ps
+  pub made_numbers : (out : List ℕ) (masks : List M) (j : ℕ) → length ps ≤ j → Made out masks j → out ≡ ranks same_pair ps
   made_numbers out masks j l h = sym (take_all j out (let o = h.long in omega arith)) ∙ progress_all ps (take j out) (length masks) j l h.progress
 
-  pub made_many : (out masks : List ℕ) (j : ℕ) → length ps ≤ j → Made out masks j → length masks ≡ distinct_count same_pair ps
-  made_many out masks j l h = joined_many ps join masks j l h.joined
+  pub made_many : (out : List ℕ) (masks : List M) (j : ℕ) → length ps ≤ j → Made out masks j → length masks ≡ distinct_count same_pair ps
+  made_many out masks j l h = joined_many none ps join masks j l h.joined
 
-  pub made_told : (out masks : List ℕ) (j : ℕ) → length ps ≤ j → Made out masks j → map (λ c. get_or masks c 0) out ≡ map join ps
-  made_told out masks j l h = ap (map (λ c. get_or masks c 0)) (made_numbers out masks j l h) ∙ joined_told ps join masks j l h.joined
+  pub made_told : (out : List ℕ) (masks : List M) (j : ℕ) → length ps ≤ j → Made out masks j → map (λ c. get_or masks c none) out ≡ map join ps
+  made_told out masks j l h = ap (map (λ c. get_or masks c none)) (made_numbers out masks j l h) ∙ joined_told none ps join masks j l h.joined

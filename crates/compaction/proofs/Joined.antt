@@ -1,4 +1,5 @@
--- Masks of numbered pairs: one for each class, made at its first pair.
+-- Something told of numbered pairs, as a mask: one for each class, made at its first pair.
+--     Joined none ps join out j      `out` has what `join` tells of each class among the first j pairs; `none` stands behind its end
 use Rattle.std.proofs.Common.{◌≡◌, ◌≢◌, ℕ, suc, ◌+◌, ◌*◌, ◌/◌, ◌^◌, ◌<◌, ◌≤◌, inl, inr, List, [], ◌∷◌, ◌++◌, map, length, get_or, take, drop, refl, sym, ap, ◌∙◌, subst, arith}
 use Rattle.std.specs.Set.{distinct_count}
 use Rattle.std.proofs.lemmas.Bool.{cases_lt}
@@ -13,18 +14,7 @@ use Rattle.compaction.proofs.Chained.{among_take, take_among}
 use Rattle.compaction.proofs.Index.{pair_within, length-pairs}
 use Rattle.std.proofs.lemmas.Nat.{pow_pos}
 
-module _ (ps : List (ℕ × ℕ)) (join : ℕ × ℕ → ℕ) where
-  key : ℕ → ℕ × ℕ
-  key i = get_or ps i (0, 0)
-
-  -- the masks after j pairs
-  pub record Joined (out : List ℕ) (j : ℕ) : Type 0 where
-    pub many : length out ≡ distinct_count same_pair (take j ps)
-    pub told : (i : ℕ) → i < j → get_or out (rank same_pair ps (get_or ps i (0, 0))) 0 ≡ join (get_or ps i (0, 0))
-
-  pub joined_none : Joined [] 0
-  joined_none = record { many = refl; told = λ i l. absurd (omega arith) }
-
+module _ (ps : List (ℕ × ℕ)) where
   parts : (j : ℕ) → j < length ps → ps ≡ take j ps ++ get_or ps j (0, 0) ∷ drop (j + 1) ps
   parts j l = sym (take-append-drop (j + 1) ps) ∙ ap (λ us. us ++ drop (j + 1) ps) (take_more ps j (0, 0) l) ∙ append_assoc (take j ps) (get_or ps j (0, 0) ∷ []) (drop (j + 1) ps)
 
@@ -42,51 +32,60 @@ module _ (ps : List (ℕ × ℕ)) (join : ℕ × ℕ → ℕ) where
   pub count_is : (j : ℕ) → j < length ps → distinct_count same_pair (take (j + 1) ps) ≡ distinct_count same_pair (get_or ps j (0, 0) ∷ take j ps)
   count_is j l = ap (distinct_count same_pair) (take_more ps j (0, 0) l) ∙ count_end same_pair pair_decides (get_or ps j (0, 0)) (take j ps)
 
+module _ {M : Type 0} (none : M) (ps : List (ℕ × ℕ)) (join : ℕ × ℕ → M) where
+  -- after j pairs
+  pub record Joined (out : List M) (j : ℕ) : Type 0 where
+    pub many : length out ≡ distinct_count same_pair (take j ps)
+    pub told : (i : ℕ) → i < j → get_or out (rank same_pair ps (get_or ps i (0, 0))) none ≡ join (get_or ps i (0, 0))
+
+  pub joined_none : Joined [] 0
+  joined_none = record { many = refl; told = λ i l. absurd (omega arith) }
+
   -- a pair with the next number
-  pub joined_new : (out : List ℕ) (j number mask : ℕ) → j < length ps → Joined out j → number ≡ rank same_pair ps (get_or ps j (0, 0)) → number ≡ length out → mask ≡ join (get_or ps j (0, 0)) → Joined (out ++ mask ∷ []) (j + 1)
+  pub joined_new : (out : List M) (j number : ℕ) (mask : M) → j < length ps → Joined out j → number ≡ rank same_pair ps (get_or ps j (0, 0)) → number ≡ length out → mask ≡ join (get_or ps j (0, 0)) → Joined (out ++ mask ∷ []) (j + 1)
   joined_new out j number mask l h e f m = record {
-    many = (let n = count_is j l ∙ count_new same_pair pair_decides (get_or ps j (0, 0)) (take j ps) absent in let a = length-append out (mask ∷ []) in let b = h.many in omega arith);
+    many = (let n = count_is ps j l ∙ count_new same_pair pair_decides (get_or ps j (0, 0)) (take j ps) absent in let a = length-append out (mask ∷ []) in let b = h.many in omega arith);
     told = λ i lt. elim (cases_lt i j) [
       | inl before ↦
-          get_or_append_left out (mask ∷ []) 0 (rank same_pair ps (get_or ps i (0, 0))) (let r = rank_before i j before l in let b = h.many in omega arith) ∙ h.told i before
+          get_or_append_left out (mask ∷ []) none (rank same_pair ps (get_or ps i (0, 0))) (let r = rank_before ps i j before l in let b = h.many in omega arith) ∙ h.told i before
       | inr here ↦
           let s : j ≡ i = omega arith in
-          subst (λ k. get_or (out ++ mask ∷ []) (rank same_pair ps (get_or ps k (0, 0))) 0 ≡ join (get_or ps k (0, 0))) s (get_or_push out mask 0 (rank same_pair ps (get_or ps j (0, 0))) (sym f ∙ e) ∙ m)
+          subst (λ k. get_or (out ++ mask ∷ []) (rank same_pair ps (get_or ps k (0, 0))) none ≡ join (get_or ps k (0, 0))) s (get_or_push out mask none (rank same_pair ps (get_or ps j (0, 0))) (sym f ∙ e) ∙ m)
     ];
   }
     where
       absent : Among (get_or ps j (0, 0)) (take j ps) → ⊥
       absent a =
-          let r = rank_is j l in
+          let r = rank_is ps j l in
           let b = rank_below same_pair pair_decides (take j ps) (get_or ps j (0, 0)) a in
           let c = h.many in
           omega arith
 
   -- a pair with an older number
-  pub joined_old : (out : List ℕ) (j number : ℕ) → j < length ps → Joined out j → number ≡ rank same_pair ps (get_or ps j (0, 0)) → number ≢ length out → Joined out (j + 1)
+  pub joined_old : (out : List M) (j number : ℕ) → j < length ps → Joined out j → number ≡ rank same_pair ps (get_or ps j (0, 0)) → number ≢ length out → Joined out (j + 1)
   joined_old out j number l h e f = elim (among_or_not same_pair pair_decides (get_or ps j (0, 0)) (take j ps)) [
     | inl a ↦ record {
-      many = h.many ∙ sym (count_is j l ∙ count_old same_pair pair_decides (get_or ps j (0, 0)) (take j ps) a);
+      many = h.many ∙ sym (count_is ps j l ∙ count_old same_pair pair_decides (get_or ps j (0, 0)) (take j ps) a);
       told = λ i lt. elim (cases_lt i j) [
         | inl before ↦ h.told i before
         | inr here ↦
             let s : j ≡ i = omega arith in
             let older = among_take ps ps j (get_or ps j (0, 0)) a in
-            subst (λ k. get_or out (rank same_pair ps (get_or ps k (0, 0))) 0 ≡ join (get_or ps k (0, 0))) s
-            (ap (λ q. get_or out (rank same_pair ps q) 0) (sym older.3) ∙ h.told older.0 older.1 ∙ ap join older.3)
+            subst (λ k. get_or out (rank same_pair ps (get_or ps k (0, 0))) none ≡ join (get_or ps k (0, 0))) s
+            (ap (λ q. get_or out (rank same_pair ps q) none) (sym older.3) ∙ h.told older.0 older.1 ∙ ap join older.3)
       ];
     }
-    | inr n ↦ absurd (f (e ∙ rank_is j l ∙ rank_absent same_pair pair_decides (take j ps) (get_or ps j (0, 0)) n ∙ sym h.many))
+    | inr n ↦ absurd (f (e ∙ rank_is ps j l ∙ rank_absent same_pair pair_decides (take j ps) (get_or ps j (0, 0)) n ∙ sym h.many))
   ]
 
-  pub joined_many : (out : List ℕ) (j : ℕ) → length ps ≤ j → Joined out j → length out ≡ distinct_count same_pair ps
+  pub joined_many : (out : List M) (j : ℕ) → length ps ≤ j → Joined out j → length out ≡ distinct_count same_pair ps
   joined_many out j l h = h.many ∙ ap (distinct_count same_pair) (take_all j ps l)
 
-  pub joined_told : (out : List ℕ) (j : ℕ) → length ps ≤ j → Joined out j → map (λ c. get_or out c 0) (ranks same_pair ps) ≡ map join ps
+  pub joined_told : (out : List M) (j : ℕ) → length ps ≤ j → Joined out j → map (λ c. get_or out c none) (ranks same_pair ps) ≡ map join ps
   unfolding ranks
   joined_told out j l h = alike ps (λ i lt. h.told i (omega arith))
     where
-      alike : (qs : List (ℕ × ℕ)) → ((i : ℕ) → i < length qs → get_or out (rank same_pair ps (get_or qs i (0, 0))) 0 ≡ join (get_or qs i (0, 0))) → map (λ c. get_or out c 0) (map (rank same_pair ps) qs) ≡ map join qs
+      alike : (qs : List (ℕ × ℕ)) → ((i : ℕ) → i < length qs → get_or out (rank same_pair ps (get_or qs i (0, 0))) none ≡ join (get_or qs i (0, 0))) → map (λ c. get_or out c none) (map (rank same_pair ps) qs) ≡ map join qs
       alike [] g = refl
       alike (q ∷ qs) g = λ i. g 0 (omega arith) i ∷ alike qs (λ k lt. g (suc k) (omega arith)) i
 

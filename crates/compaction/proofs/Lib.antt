@@ -9,6 +9,7 @@ pub mod Extended
 pub mod MaskStep
 pub mod CellSteps
 pub mod Joined
+pub mod DistinctPairs
 pub mod Constants
 pub mod StartClasses
 pub mod Sets

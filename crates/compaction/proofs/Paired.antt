@@ -1,118 +1,94 @@
--- Pairs of strips: the two strips of each numbered pair, one behind the other.
---     Paired numbers len out j      `out` has the strips of the pairs that were met among the first j
-use Rattle.std.proofs.Common.{◌≡◌, ◌≢◌, ℕ, suc, ◌+◌, ◌*◌, ◌/◌, ◌^◌, ◌<◌, ◌≤◌, inl, inr, List, [], ◌++◌, length, get_or, take, sym, ap, ◌∙◌, subst, arith}
+-- Pairs of strips: the two strips of each distinct pair, one behind the other.
+--     length_names_of, name_low, name_high      the names in pairs
+--     names_more      one pair more
+--     paired_named, paired_long, paired_few, paired_lower, paired_upper      the strips of the pairs of names
+use Rattle.std.proofs.Common.{◌≡◌, ℕ, zero, suc, ◌+◌, ◌*◌, ◌/◌, ◌^◌, ◌<◌, ◌≤◌, List, [], ◌∷◌, ◌++◌, map, length, get_or, refl, sym, ap, ◌∙◌, subst, arith}
+use Rattle.std.specs.List.{flat_map}
 use Rattle.std.specs.Set.{distinct_count}
 use Rattle.std.proofs.Math.Nat.{mul-le-mul_right}
-use Rattle.std.proofs.lemmas.Bool.{cases_lt}
-use Rattle.std.proofs.lemmas.List.{get_or_append_left, get_or-append-add, length-append, take_all}
+use Rattle.std.proofs.lemmas.Map.Made.{distinct_count-le}
 use Rattle.order_model.specs.Widths.{same_pair}
-use Rattle.order_model.proofs.ClassPairs.{pair_decides}
-use Rattle.order_model.proofs.Sets.{Among}
-use Rattle.compaction.specs.Numbering.{rank}
-use Rattle.compaction.proofs.Ranks.{count_new, count_old, rank_absent, rank_below, among_or_not}
-use Rattle.compaction.specs.Places.{low_place, pair_at}
-use Rattle.compaction.specs.Strips.{AreStrips}
-use Rattle.std.proofs.lemmas.Nat.{pow_pos}
-use Rattle.compaction.proofs.Chained.{among_take}
-use Rattle.compaction.proofs.Index.{pair_within}
-use Rattle.compaction.proofs.Unrolled.{strip_inside}
-use Rattle.compaction.proofs.Joined.{rank_is, rank_before, count_is}
+use Rattle.compaction.specs.Chains.{lower_at, upper_at}
+use Rattle.compaction.specs.Numbering.{ranks}
+use Rattle.compaction.specs.Places as places
+use Rattle.compaction.specs.Strips.{AreNamed, AreStrips, names_of, unrolled}
+use Rattle.compaction.proofs.DistinctPairs.{met_classes, number_below, pair_numbered}
+use Rattle.compaction.proofs.Index.{length-pairs, pair_listed}
+use Rattle.compaction.proofs.Unrolled.{length_named, named_at}
 
-module _ (ps : List (ℕ × ℕ)) (numbers : List ℕ) (len : ℕ) (some : 0 < len) where
-  -- the two strips of pair i stand at its number
-  abbrev pub Stand : List ℕ → ℕ → Type 0
-  Stand out i = (a : ℕ) → a < len →
-      (get_or out (rank same_pair ps (get_or ps i (0, 0)) * (2 * len) + a) 0 ≡ get_or numbers ((get_or ps i (0, 0)).0 * len + a) 0)
-      × (get_or out (rank same_pair ps (get_or ps i (0, 0)) * (2 * len) + len + a) 0 ≡ get_or numbers ((get_or ps i (0, 0)).1 * len + a) 0)
+pub length_names_of : (pairs : List (ℕ × ℕ)) → length (names_of pairs) ≡ length pairs * 2
+unfolding names_of
+length_names_of [] = refl
+length_names_of (p ∷ ps) = let r = length_names_of ps in omega arith
 
-  pub record Paired (out : List ℕ) (j : ℕ) : Type 0 where
-    pub many : length out ≡ distinct_count same_pair (take j ps) * (2 * len)
-    pub stand : (i : ℕ) → i < j → Stand out i
+pub name_low : (pairs : List (ℕ × ℕ)) (k : ℕ) → k < length pairs → get_or (names_of pairs) (k * 2) 0 ≡ (get_or pairs k (0, 0)).0
+unfolding names_of
+name_low [] k l = absurd (omega arith)
+name_low (p ∷ ps) zero l = refl
+name_low (p ∷ ps) (suc k) l = ap (λ z. get_or (p.0 ∷ p.1 ∷ flat_map (λ (q : ℕ × ℕ). q.0 ∷ q.1 ∷ []) ps) z 0) (let e : suc k * 2 ≡ suc (suc (k * 2)) = omega arith in e) ∙ name_low ps k (omega arith)
 
-  pub paired_none : Paired [] 0
-  paired_none = record { many = omega arith; stand = λ i l. absurd (omega arith) }
+pub name_high : (pairs : List (ℕ × ℕ)) (k : ℕ) → k < length pairs → get_or (names_of pairs) (k * 2 + 1) 0 ≡ (get_or pairs k (0, 0)).1
+unfolding names_of
+name_high [] k l = absurd (omega arith)
+name_high (p ∷ ps) zero l = refl
+name_high (p ∷ ps) (suc k) l = ap (λ z. get_or (p.0 ∷ p.1 ∷ flat_map (λ (q : ℕ × ℕ). q.0 ∷ q.1 ∷ []) ps) z 0) (let e : suc k * 2 + 1 ≡ suc (suc (k * 2 + 1)) = omega arith in e) ∙ name_high ps k (omega arith)
 
-  product_below : (u k b : ℕ) → u < k → u * b + b ≤ k * b
-  product_below u k b l = (let q = mul-le-mul_right b (let s : suc u ≤ k = omega arith in s) in let z : suc u * b ≡ u * b + b = grind arith in omega arith)
+pub names_of_below : (count : ℕ) (pairs : List (ℕ × ℕ)) → ((k : ℕ) → k < length pairs → ((get_or pairs k (0, 0)).0 < count) × ((get_or pairs k (0, 0)).1 < count)) → (i : ℕ) → i < length (names_of pairs) → get_or (names_of pairs) i 0 < count
+unfolding names_of
+names_of_below count [] h i l = absurd (omega arith)
+names_of_below count (p ∷ ps) h zero l = (h 0 (omega arith)).0
+names_of_below count (p ∷ ps) h (suc zero) l = (h 0 (omega arith)).1
+names_of_below count (p ∷ ps) h (suc (suc i)) l = names_of_below count ps (λ k m. h (suc k) (omega arith)) i (omega arith)
 
-  -- where the length tells that a number is the next one
-  next_number : (u k : ℕ) → u * (2 * len) ≡ k * (2 * len) → u ≡ k
-  next_number u k e = elim (cases_lt u k) [
-    | inl l ↦ absurd (let p = product_below u k (2 * len) l in let f : ⊥ = omega arith in f)
-    | inr r ↦ elim (cases_lt k u) [
-      | inl l ↦ absurd (let p = product_below k u (2 * len) l in let f : ⊥ = omega arith in f)
-      | inr q ↦ omega arith
-    ]
-  ]
+pub names_more : (pairs : List (ℕ × ℕ)) (p : ℕ × ℕ) → names_of (pairs ++ p ∷ []) ≡ (names_of pairs ++ p.0 ∷ []) ++ p.1 ∷ []
+unfolding names_of
+names_more [] p = refl
+names_more (q ∷ qs) p = ap (λ us. q.0 ∷ q.1 ∷ us) (names_more qs p)
 
-  -- a new pair
-  pub paired_new : (out lower upper : List ℕ) (j number : ℕ) → j < length ps → Paired out j → number ≡ rank same_pair ps (get_or ps j (0, 0)) → number * (2 * len) ≡ length out → length lower ≡ len → length upper ≡ len →
-      ((a : ℕ) → a < len → get_or lower a 0 ≡ get_or numbers ((get_or ps j (0, 0)).0 * len + a) 0) → ((a : ℕ) → a < len → get_or upper a 0 ≡ get_or numbers ((get_or ps j (0, 0)).1 * len + a) 0) →
-      Paired ((out ++ lower) ++ upper) (j + 1)
-  paired_new out lower upper j number l h e f ll lu low high = record {
-    many =
-        (let n = count_is ps (λ _. 0) j l ∙ count_new same_pair pair_decides (get_or ps j (0, 0)) (take j ps) absent in
-        let a = length-append (out ++ lower) upper in
-        let b = length-append out lower in
-        let m = h.many in
-        let z : suc (distinct_count same_pair (take j ps)) * (2 * len) ≡ distinct_count same_pair (take j ps) * (2 * len) + 2 * len = grind arith in
-        omega arith ∙ ap (λ k. k * (2 * len)) (sym n));
-    stand = λ i lt. elim (cases_lt i j) [
-      | inl before ↦ λ a in_strip.
-          let r = product_below (rank same_pair ps (get_or ps i (0, 0))) (distinct_count same_pair (take j ps)) (2 * len) (rank_before ps (λ _. 0) i j before l) in
-          let m = h.many in
-          let s = h.stand i before a in_strip in
-          let b = length-append out lower in (
-            get_or_append_left (out ++ lower) upper 0 (rank same_pair ps (get_or ps i (0, 0)) * (2 * len) + a) (omega arith) ∙ get_or_append_left out lower 0 (rank same_pair ps (get_or ps i (0, 0)) * (2 * len) + a) (omega arith) ∙ s.0,
-            get_or_append_left (out ++ lower) upper 0 (rank same_pair ps (get_or ps i (0, 0)) * (2 * len) + len + a) (omega arith) ∙ get_or_append_left out lower 0 (rank same_pair ps (get_or ps i (0, 0)) * (2 * len) + len + a) (omega arith) ∙ s.1,
-          )
-      | inr here ↦ let s : j ≡ i = omega arith in subst (Stand ((out ++ lower) ++ upper)) s own
-    ];
-  }
-    where
-      absent : Among (get_or ps j (0, 0)) (take j ps) → ⊥
-      absent a =
-          let r = rank_is ps (λ _. 0) j l in
-          let b = rank_below same_pair pair_decides (take j ps) (get_or ps j (0, 0)) a in
-          let p = product_below (rank same_pair ps (get_or ps j (0, 0))) (distinct_count same_pair (take j ps)) (2 * len) (omega arith) in
-          let c = h.many in
-          let q = ap (λ k. k * (2 * len)) e in
-          omega arith
+module _ (outer numbers : List ℕ) (len r : ℕ) (strips : AreStrips outer numbers len) (whole : (blocks : ℕ) × (length outer ≡ blocks * (2 * 2 ^ r))) (numbered : List ℕ) (pairs : List (ℕ × ℕ))
+    (ranked : numbered ≡ ranks same_pair (places.pairs outer (2 ^ r))) (many : length pairs ≡ distinct_count same_pair (places.pairs outer (2 ^ r)))
+    (told : map (λ c. get_or pairs c (0, 0)) numbered ≡ places.pairs outer (2 ^ r)) where
+  pub paired_named : AreNamed (names_of pairs) numbers len
+  paired_named = record { count = strips.count; whole = strips.whole; within = names_of_below strips.count pairs (met_classes outer r strips.count whole strips.within numbered pairs ranked many told) }
 
-      start : rank same_pair ps (get_or ps j (0, 0)) * (2 * len) ≡ length out
-      start = ap (λ k. k * (2 * len)) (sym e) ∙ f
+  module _ (paired : List ℕ) (are : paired ≡ unrolled (names_of pairs) numbers len) where
+    pub paired_long : length paired ≡ distinct_count same_pair (places.pairs outer (2 ^ r)) * (2 * len)
+    paired_long =
+        ap length are ∙ length_named (names_of pairs) numbers len paired_named ∙ ap (λ k. k * len) (length_names_of pairs ∙ ap (λ k. k * 2) many)
+        ∙ (let e : distinct_count same_pair (places.pairs outer (2 ^ r)) * 2 * len ≡ distinct_count same_pair (places.pairs outer (2 ^ r)) * (2 * len) = grind arith in e)
 
-      own : Stand ((out ++ lower) ++ upper) j
-      own a in_strip =
-          let b = length-append out lower in (
-            ap (λ k. get_or ((out ++ lower) ++ upper) (k + a) 0) start ∙ get_or_append_left (out ++ lower) upper 0 (length out + a) (omega arith) ∙ get_or-append-add out lower a 0 ∙ low a in_strip,
-            ap (λ k. get_or ((out ++ lower) ++ upper) k 0) (let s = start in let z : rank same_pair ps (get_or ps j (0, 0)) * (2 * len) + len + a ≡ length (out ++ lower) + a = omega arith in z)
-                ∙ get_or-append-add (out ++ lower) upper a 0 ∙ high a in_strip,
-          )
+    pub paired_lower : (j a : ℕ) → j < length outer / 2 → a < len → get_or paired (get_or numbered j 0 * (2 * len) + a) 0 ≡ get_or numbers (lower_at outer (2 ^ r) j * len + a) 0
+    paired_lower j a h i =
+        let s = length-pairs outer (2 ^ r) in
+        let n = length_names_of pairs in
+        let k = get_or numbered j 0 in
+        let b = number_below (places.pairs outer (2 ^ r)) numbered pairs ranked many told j (omega arith) in
+        let p = pair_numbered (places.pairs outer (2 ^ r)) numbered pairs ranked many told j (omega arith) ∙ pair_listed outer (2 ^ r) j h in
+        ap (λ us. get_or us (k * (2 * len) + a) 0) are
+        ∙ ap (λ z. get_or (unrolled (names_of pairs) numbers len) z 0) (let e : k * (2 * len) + a ≡ k * 2 * len + a = grind arith in e)
+        ∙ named_at (names_of pairs) numbers len paired_named (k * 2) a (omega arith) i
+        ∙ ap (λ z. get_or numbers (z * len + a) 0) (name_low pairs k b ∙ ap (λ (q : ℕ × ℕ). q.0) p)
 
-  -- a pair that was met before
-  pub paired_old : (out : List ℕ) (j number : ℕ) → j < length ps → Paired out j → number ≡ rank same_pair ps (get_or ps j (0, 0)) → number * (2 * len) ≢ length out → Paired out (j + 1)
-  paired_old out j number l h e f = elim (among_or_not same_pair pair_decides (get_or ps j (0, 0)) (take j ps)) [
-    | inl a ↦ record {
-      many = h.many ∙ ap (λ k. k * (2 * len)) (sym (count_is ps (λ _. 0) j l ∙ count_old same_pair pair_decides (get_or ps j (0, 0)) (take j ps) a));
-      stand = λ i lt. elim (cases_lt i j) [
-        | inl before ↦ h.stand i before
-        | inr here ↦
-            let s : j ≡ i = omega arith in
-            let older = among_take ps ps j (get_or ps j (0, 0)) a in
-            subst (Stand out) s (subst (λ q. (b : ℕ) → b < len →
-            (get_or out (rank same_pair ps q * (2 * len) + b) 0 ≡ get_or numbers (q.0 * len + b) 0) × (get_or out (rank same_pair ps q * (2 * len) + len + b) 0 ≡ get_or numbers (q.1 * len + b) 0)) older.3 (h.stand older.0 older.1))
-      ];
-    }
-    | inr n ↦ absurd (f (ap (λ k. k * (2 * len)) (e ∙ rank_is ps (λ _. 0) j l ∙ rank_absent same_pair pair_decides (take j ps) (get_or ps j (0, 0)) n) ∙ sym h.many))
-  ]
+    pub paired_upper : (j a : ℕ) → j < length outer / 2 → a < len → get_or paired (get_or numbered j 0 * (2 * len) + len + a) 0 ≡ get_or numbers (upper_at outer (2 ^ r) j * len + a) 0
+    paired_upper j a h i =
+        let s = length-pairs outer (2 ^ r) in
+        let n = length_names_of pairs in
+        let k = get_or numbered j 0 in
+        let b = number_below (places.pairs outer (2 ^ r)) numbered pairs ranked many told j (omega arith) in
+        let p = pair_numbered (places.pairs outer (2 ^ r)) numbered pairs ranked many told j (omega arith) ∙ pair_listed outer (2 ^ r) j h in
+        ap (λ us. get_or us (k * (2 * len) + len + a) 0) are
+        ∙ ap (λ z. get_or (unrolled (names_of pairs) numbers len) z 0) (let e : k * (2 * len) + len + a ≡ (k * 2 + 1) * len + a = grind arith in e)
+        ∙ named_at (names_of pairs) numbers len paired_named (k * 2 + 1) a (omega arith) i
+        ∙ ap (λ z. get_or numbers (z * len + a) 0) (name_high pairs k b ∙ ap (λ (q : ℕ × ℕ). q.1) p)
 
-  pub paired_all : (out : List ℕ) (j : ℕ) → length ps ≤ j → Paired out j → length out ≡ distinct_count same_pair ps * (2 * len)
-  paired_all out j l h = h.many ∙ ap (λ qs. distinct_count same_pair qs * (2 * len)) (take_all j ps l)
-
--- both strips of a pair lie within the table
-pub pair_strips_inside : (outer numbers : List ℕ) (len r j : ℕ) → AreStrips outer numbers len → ((blocks : ℕ) × (length outer ≡ blocks * (2 * 2 ^ r))) → j < length outer / 2 →
-    ((pair_at outer (2 ^ r) j).0 * len + len ≤ length numbers) × ((pair_at outer (2 ^ r) j).1 * len + len ≤ length numbers)
-pair_strips_inside outer numbers len r j s whole h =
-    let w = pair_within (2 ^ r) whole.0 (length outer) j (pow_pos r) whole.1 h in
-    (strip_inside outer numbers len s (low_place (2 ^ r) j) (omega arith), strip_inside outer numbers len s (low_place (2 ^ r) j + 2 ^ r) w)
+    -- there are no more of them than entries
+    pub paired_few : length paired ≤ length outer * len
+    paired_few =
+        let d = distinct_count-le same_pair (places.pairs outer (2 ^ r)) in
+        let l = length-pairs outer (2 ^ r) in
+        let w = whole.1 in
+        let m = paired_long in
+        let z : whole.0 * (2 * 2 ^ r) ≡ 2 * (whole.0 * 2 ^ r) = grind arith in
+        let p = mul-le-mul_right len (let q : 2 * distinct_count same_pair (places.pairs outer (2 ^ r)) ≤ length outer = omega arith in q) in
+        let e : 2 * distinct_count same_pair (places.pairs outer (2 ^ r)) * len ≡ distinct_count same_pair (places.pairs outer (2 ^ r)) * (2 * len) = grind arith in
+        omega arith

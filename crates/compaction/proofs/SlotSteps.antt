@@ -7,38 +7,36 @@ use Rattle.compaction.specs.Chains.{IsFirst}
 use Rattle.compaction.specs.Numbering.{IsSlot, slot_number}
 use Rattle.compaction.proofs.Firsts.{Made, made_none, made_first, made_again}
 
-module _ (ps : List (ℕ × ℕ)) (join : ℕ × ℕ → ℕ) (home : ℕ × ℕ → ℕ) where
+module _ (ps : List (ℕ × ℕ)) (home : ℕ × ℕ → ℕ) where
   -- pair i is in a slot behind taken ones
   abbrev pub Found : List ℕ → List (ℕ × ℕ) → ℕ → ℕ → Type 0
   Found slots keys count i =
       (t : ℕ) × (home (get_or ps i (0, 0)) ≤ t) × (t < length slots) × (get_or slots t 0 < count) × (get_or keys (get_or slots t 0) (0, 0) ≡ get_or ps i (0, 0)) × ((u : ℕ) → home (get_or ps i (0, 0)) ≤ u → u < t → get_or slots u 0 < count)
 
   -- the numbering has come to pair j: a slot below `count` has a number, and each pair is found from its home on
-  pub record Slotted (slots : List ℕ) (keys : List (ℕ × ℕ)) (out masks : List ℕ) (count j : ℕ) : Type 0 where
+  pub record Slotted (slots : List ℕ) (keys : List (ℕ × ℕ)) (out : List ℕ) (count j : ℕ) : Type 0 where
     pub long_keys : length keys ≡ length ps
-    pub long_masks : length masks ≡ length ps
     pub room : length slots ≡ 4 * length ps + 64
     pub few : count ≤ j
-    pub made : Made ps join out (take count masks) j
+    pub made : Made (0, 0) ps (λ p. p) out (take count keys) j
     pub free : (t : ℕ) → t < length slots → (get_or slots t 0 < count) ⊎ (get_or slots t 0 ≡ length ps)
     pub each : (t : ℕ) → t < length slots → get_or slots t 0 < count →
         (i : ℕ) × (i < j) × (get_or out i 0 ≡ get_or slots t 0) × (get_or ps i (0, 0) ≡ get_or keys (get_or slots t 0) (0, 0)) × ((k : ℕ) → k < i → get_or ps k (0, 0) ≢ get_or ps i (0, 0))
     pub there : (i : ℕ) → i < j → Found slots keys count i
 
-  pub slotted_none : (slots : List ℕ) (keys : List (ℕ × ℕ)) (out masks : List ℕ) → length keys ≡ length ps → length masks ≡ length ps → length out ≡ length ps → length slots ≡ 4 * length ps + 64 →
-      ((t : ℕ) → t < length slots → get_or slots t 0 ≡ length ps) → Slotted slots keys out masks 0 0
-  slotted_none slots keys out masks k m o r f = record {
+  pub slotted_none : (slots : List ℕ) (keys : List (ℕ × ℕ)) (out : List ℕ) → length keys ≡ length ps → length out ≡ length ps → length slots ≡ 4 * length ps + 64 →
+      ((t : ℕ) → t < length slots → get_or slots t 0 ≡ length ps) → Slotted slots keys out 0 0
+  slotted_none slots keys out k o r f = record {
     long_keys = k;
-    long_masks = m;
     room = r;
     few = omega arith;
-    made = made_none ps join out o;
+    made = made_none (0, 0) ps (λ p. p) out o;
     free = λ t l. inr (f t l);
     each = λ t l lt. absurd (omega arith);
     there = λ i l. absurd (omega arith);
   }
 
-  module _ (slots : List ℕ) (keys : List (ℕ × ℕ)) (out masks : List ℕ) (count j at mask : ℕ) (small : j < length ps) (h : Slotted slots keys out masks count j)
+  module _ (slots : List ℕ) (keys : List (ℕ × ℕ)) (out : List ℕ) (count j at : ℕ) (small : j < length ps) (h : Slotted slots keys out count j)
       (s : IsSlot slots (set keys count (get_or ps j (0, 0))) count (get_or ps j (0, 0)) (home (get_or ps j (0, 0))) at) where
     key : ℕ × ℕ
     key = get_or ps j (0, 0)
@@ -65,7 +63,7 @@ module _ (ps : List (ℕ × ℕ)) (join : ℕ × ℕ → ℕ) (home : ℕ × ℕ
         s.none u l m (ap (λ c. get_or (set keys count (get_or ps j (0, 0))) c (0, 0)) (min-eq_left (omega arith)) ∙ key_kept (get_or slots u 0) a ∙ e)
 
     -- the pair has come before
-    pub slotted_old : slot_number slots count at ≢ count → Slotted (set slots at (slot_number slots count at)) (set keys count (get_or ps j (0, 0))) (set out j (slot_number slots count at)) (set masks count mask) count (j + 1)
+    pub slotted_old : slot_number slots count at ≢ count → Slotted (set slots at (slot_number slots count at)) (set keys count (get_or ps j (0, 0))) (set out j (slot_number slots count at)) count (j + 1)
     unfolding key key_kept taken
     slotted_old ne =
         let lt : get_or slots at 0 < count = elim (cases_lt (get_or slots at 0) count) [ inl a ↦ a | inr b ↦ absurd (ne (min-eq_right b)) ] in
@@ -75,13 +73,12 @@ module _ (ps : List (ℕ × ℕ)) (join : ℕ × ℕ → ℕ) (home : ℕ × ℕ
         let first : IsFirst (λ i. get_or ps i (0, 0)) j o.0 = record { before = (let l = o.1 in omega arith); same = o.3 ∙ same; none = λ k l q. o.4 k l (q ∙ sym (o.3 ∙ same)) } in
         let n = slot_number slots count at in
         let w = h.few in
-        subst (λ us. Slotted us (set keys count (get_or ps j (0, 0))) (set out j n) (set masks count mask) count (j + 1)) (sym (ap (set slots at) e ∙ set-get_or slots at 0)) (record {
+        subst (λ us. Slotted us (set keys count (get_or ps j (0, 0))) (set out j n) count (j + 1)) (sym (ap (set slots at) e ∙ set-get_or slots at 0)) (record {
           long_keys = length-set keys count (get_or ps j (0, 0)) ∙ h.long_keys;
-          long_masks = length-set masks count mask ∙ h.long_masks;
           room = h.room;
           few = omega arith;
-          made = subst (λ us. Made ps join (set out j n) us (j + 1)) (sym (take-set masks count mask))
-              (subst (λ z. Made ps join (set out j z) (take count masks) (j + 1)) (o.2 ∙ sym e) (made_again ps join out (take count masks) j o.0 small first o.1 h.made));
+          made = subst (λ us. Made (0, 0) ps (λ p. p) (set out j n) us (j + 1)) (sym (take-set keys count (get_or ps j (0, 0))))
+              (subst (λ z. Made (0, 0) ps (λ p. p) (set out j z) (take count keys) (j + 1)) (o.2 ∙ sym e) (made_again (0, 0) ps (λ p. p) out (take count keys) j o.0 small first o.1 h.made));
           free = h.free;
           each = λ t l a. let q = h.each t l a in let b = q.1 in
               (q.0, omega arith, get_or-set_other out j q.0 n 0 (λ (d : q.0 ≡ j). let z : ⊥ = omega arith in z) ∙ q.2, q.3 ∙ sym (key_kept (get_or slots t 0) a), q.4);
@@ -93,9 +90,9 @@ module _ (ps : List (ℕ × ℕ)) (join : ℕ × ℕ → ℕ) (home : ℕ × ℕ
         })
 
     -- the pair is new
-    pub slotted_new : mask ≡ join (get_or ps j (0, 0)) → slot_number slots count at ≡ count → Slotted (set slots at (slot_number slots count at)) (set keys count (get_or ps j (0, 0))) (set out j (slot_number slots count at)) (set masks count mask) (count + 1) (j + 1)
+    pub slotted_new : slot_number slots count at ≡ count → Slotted (set slots at (slot_number slots count at)) (set keys count (get_or ps j (0, 0))) (set out j (slot_number slots count at)) (count + 1) (j + 1)
     unfolding key key_kept taken other
-    slotted_new m e =
+    slotted_new e =
         let le : count ≤ get_or slots at 0 = elim (cases_lt (get_or slots at 0) count) [ inl a ↦ (let f : slot_number slots count at ≡ get_or slots at 0 = min-eq_left (omega arith) in absurd (omega arith)) | inr b ↦ b ] in
         let absent : (i : ℕ) → i < j → get_or ps i (0, 0) ≢ get_or ps j (0, 0) = λ i l q.
         let f = h.there i l in
@@ -111,9 +108,9 @@ module _ (ps : List (ℕ × ℕ)) (join : ℕ × ℕ → ℕ) (home : ℕ × ℕ
           ]
         ] in
         let w = h.few in
-        let mine = h.long_masks in
+        let mine = h.long_keys in
         let own = h.made.long in
-        let known : length (take count masks) ≡ count = (let t = length-take count masks in omega arith) in
+        let known : length (take count keys) ≡ count = (let t = length-take count keys in omega arith) in
         let first : IsFirst (λ i. get_or ps i (0, 0)) j j = record { before = omega arith; same = refl; none = absent } in
         let here : get_or (set slots at count) at 0 ≡ count = get_or-set_same slots at count 0 s.within in
         let more = length-set slots at count in
@@ -122,13 +119,12 @@ module _ (ps : List (ℕ × ℕ)) (join : ℕ × ℕ → ℕ) (home : ℕ × ℕ
           | inl d ↦ let v = ap (λ z. get_or (set slots at count) z 0) d ∙ here in omega arith
           | inr d ↦ let v = get_or-set_other slots at u count 0 d in omega arith
         ] in
-        subst (λ z. Slotted (set slots at z) keys' (set out j z) (set masks count mask) (count + 1) (j + 1)) (sym e) (record {
+        subst (λ z. Slotted (set slots at z) keys' (set out j z) (count + 1) (j + 1)) (sym e) (record {
           long_keys = length-set keys count (get_or ps j (0, 0)) ∙ h.long_keys;
-          long_masks = length-set masks count mask ∙ mine;
           room = more ∙ h.room;
           few = omega arith;
-          made = subst (λ z. z) (λ t. Made ps join (set out j (known t)) (sym (take_more_set masks count mask (omega arith)) t) (j + 1))
-              (made_first ps join out (take count masks) j mask small first m h.made);
+          made = subst (λ z. z) (λ t. Made (0, 0) ps (λ p. p) (set out j (known t)) (sym (take_more_set keys count (get_or ps j (0, 0)) (omega arith)) t) (j + 1))
+              (made_first (0, 0) ps (λ p. p) out (take count keys) j (get_or ps j (0, 0)) small first refl h.made);
           free = λ t l. elim (cases_eq t at) [
             | inl d ↦ let v = ap (λ z. get_or (set slots at count) z 0) d ∙ here in inl (omega arith)
             | inr d ↦ let v = get_or-set_other slots at t count 0 d in elim (h.free t (omega arith)) [ inl a ↦ inl (omega arith) | inr b ↦ inr (v ∙ b) ]

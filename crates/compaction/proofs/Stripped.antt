@@ -1,6 +1,7 @@
 -- One more variable in a table kept in strips.
 --     low_place_parts      the place of a pair, from its parts
 --     high_strips, high_tells      a variable above the strips: pairs of strips are told apart entry by entry
+--     unrolled_below      what holds of all entries of a table holds of those of its strips
 --     low_strips, low_tells      a variable inside the strips
 use Rattle.std.proofs.Common.{◌≡◌, ℕ, suc, ◌+◌, ◌-◌, ◌*◌, ◌/◌, ◌%◌, ◌^◌, ◌<◌, ◌≤◌, inl, inr, List, map, length, get_or, refl, sym, ap, ◌∙◌, subst, arith}
 use Rattle.std.specs.Set.{distinct_count}
@@ -17,9 +18,8 @@ use Rattle.compaction.specs.Strips.{AreNamed, AreStrips, TellsPairs, unrolled}
 use Rattle.compaction.proofs.Index.{length-pairs, pair_listed, pair_within}
 use Rattle.compaction.proofs.Joined.{number_at, length-ranks}
 use Rattle.compaction.proofs.Named.{names_among, length_names, place_of, among_place}
-use Rattle.compaction.proofs.Paired.{pair_strips_inside}
 use Rattle.compaction.proofs.Ranks.{rank_below, rank_reached}
-use Rattle.compaction.proofs.Unrolled.{named_of, length_named, named_at, same_by_places, length_unrolled, unrolled_at}
+use Rattle.compaction.proofs.Unrolled.{named_of, named_inside, length_named, named_at, same_by_places, length_unrolled, unrolled_at}
 
 -- ---- places
 
@@ -177,53 +177,19 @@ module _ (outer numbers : List ℕ) (len s : ℕ) (strips : AreStrips outer numb
           ∙ ap (λ us. get_or us (get_or numbered (j / len) 0 * len + j % len) 0) names.numbers_are ∙ get_or-map names.name (pairs paired len) (get_or numbered (j / len) 0 * len + j % len) (0, 0) 0 (omega arith)
           ∙ ap names.name (place_pair j (omega arith)) ∙ sym (get_or-map names.name (pairs (unrolled outer numbers len) (len * s)) j (0, 0) 0 (omega arith)))
 
--- ---- what the pairs of strips hold
+-- ---- what named strips hold
 
-module _ (outer numbers : List ℕ) (len r : ℕ) (strips : AreStrips outer numbers len) (some : 0 < len) (whole : (blocks : ℕ) × (length outer ≡ blocks * (2 * 2 ^ r)))
-    (numbered paired : List ℕ) (ranked : numbered ≡ ranks same_pair (pairs outer (2 ^ r))) (long : length paired ≡ distinct_count same_pair (pairs outer (2 ^ r)) * (2 * len))
-    (lower : (j a : ℕ) → j < length outer / 2 → a < len → get_or paired (get_or numbered j 0 * (2 * len) + a) 0 ≡ get_or numbers (lower_at outer (2 ^ r) j * len + a) 0)
-    (upper : (j a : ℕ) → j < length outer / 2 → a < len → get_or paired (get_or numbered j 0 * (2 * len) + len + a) 0 ≡ get_or numbers (upper_at outer (2 ^ r) j * len + a) 0) where
-  -- entries of pairs are entries of strips
-  pub paired_below : (m : ℕ) → ((i : ℕ) → i < length numbers → get_or numbers i 0 < m) → (i : ℕ) → i < length paired → get_or paired i 0 < m
-  paired_below m below i h =
-      let double : 0 < 2 * len = omega arith in
-      let k : i / (2 * len) < distinct_count same_pair (pairs outer (2 ^ r)) = (div-lt_iff_lt-mul double).1 (omega arith) in
-      let q = rank_reached same_pair pair_decides (pairs outer (2 ^ r)) (i / (2 * len)) k in
-      let j = place_of (pairs outer (2 ^ r)) q.0 q.1 in
-      let jl = j.1.0 in
-      let l = length-pairs outer (2 ^ r) in
-      let small : j.0 < length outer / 2 = omega arith in
-      let n : get_or numbered j.0 0 ≡ i / (2 * len) = number_at (pairs outer (2 ^ r)) numbered j.0 ranked jl ∙ ap (rank same_pair (pairs outer (2 ^ r))) j.1.1 ∙ q.2 in
-      let t = mod-lt i double in
-      let e = parts_of i (2 * len) double in
-      let b = pair_strips_inside outer numbers len r j.0 strips whole small in
-      elim (cases_lt (i % (2 * len)) len) [
-        | inl low ↦
-            let v : get_or paired i 0 ≡ get_or numbers (lower_at outer (2 ^ r) j.0 * len + i % (2 * len)) 0 =
-            ap (λ z. get_or paired z 0) (e ∙ ap (λ z. z * (2 * len) + i % (2 * len)) (sym n)) ∙ lower j.0 (i % (2 * len)) small low in
-            let b0 = b.0 in
-            let z = below (lower_at outer (2 ^ r) j.0 * len + i % (2 * len)) (omega arith) in
-            omega arith
-        | inr high ↦
-            let a = i % (2 * len) - len in
-            let a_small : a < len = omega arith in
-            let w : i ≡ get_or numbered j.0 0 * (2 * len) + len + a = e ∙ ap (λ z. z * (2 * len) + i % (2 * len)) (sym n) ∙ (let y : len + (i % (2 * len) - len) ≡ i % (2 * len) = omega arith in omega arith) in
-            let v : get_or paired i 0 ≡ get_or numbers (upper_at outer (2 ^ r) j.0 * len + a) 0 = ap (λ z. get_or paired z 0) w ∙ upper j.0 a small a_small in
-            let b1 = b.1 in
-            let z = below (upper_at outer (2 ^ r) j.0 * len + a) (omega arith) in
-            omega arith
-      ]
-
-  -- there are no more of them than entries
-  pub paired_few : length paired ≤ length outer * len
-  paired_few =
-      let d = distinct_count-le same_pair (pairs outer (2 ^ r)) in
-      let l = length-pairs outer (2 ^ r) in
-      let w = whole.1 in
-      let z : whole.0 * (2 * 2 ^ r) ≡ 2 * (whole.0 * 2 ^ r) = grind arith in
-      let p = mul-le-mul_right len (let q : 2 * distinct_count same_pair (pairs outer (2 ^ r)) ≤ length outer = omega arith in q) in
-      let e : 2 * distinct_count same_pair (pairs outer (2 ^ r)) * len ≡ distinct_count same_pair (pairs outer (2 ^ r)) * (2 * len) = grind arith in
-      omega arith
+-- entries of strips that are named are entries of the table
+pub unrolled_below : (names numbers : List ℕ) (len m : ℕ) → 0 < len → AreNamed names numbers len → ((i : ℕ) → i < length numbers → get_or numbers i 0 < m) → (i : ℕ) → i < length (unrolled names numbers len) → get_or (unrolled names numbers len) i 0 < m
+unrolled_below names numbers len m some s below i h =
+    let l = length_named names numbers len s in
+    let q : i / len < length names = (div-lt_iff_lt-mul some).1 (omega arith) in
+    let a = mod-lt i some in
+    let e = parts_of i len some in
+    let v = ap (λ z. get_or (unrolled names numbers len) z 0) e ∙ named_at names numbers len s (i / len) (i % len) q a in
+    let w = named_inside names numbers len s (i / len) q in
+    let b = below (get_or names (i / len) 0 * len + i % len) (omega arith) in
+    omega arith
 
 -- ---- a variable inside the strips
 

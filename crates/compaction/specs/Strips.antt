@@ -1,5 +1,6 @@
 -- Tables kept in strips: entries that differ in the low free variables only stand in one strip, and equal strips are kept once.
 --     strip numbers len k, unrolled outer numbers len      the k-th strip; all entries, where `outer` names the strip of each run of them
+--     names_of pairs      the names in pairs of strips, one behind the other
 --     low_variables p      how many variables run inside a strip of the empty set
 --     AreNamed, AreStrips      each strip is whole; each is used, too
 --     TellsPairs      numbers by which pairs are told apart, and the mask of each
@@ -8,7 +9,7 @@
 --     AreDistinct t count      all subfunctions are distinct and depend on the whole set
 --     HoldsTable      either of them
 --     HoldsBytes t low outer bytes rows masks      strips whose entries stand in rows, which bytes name: a row has an entry for each assignment of the variables below 3 outside the set
-use Rattle.std.specs.Prelude.{◌≡◌, ℕ, ◌*◌, ◌^◌, ◌<◌, ◌≤◌, min, List, Option, None, Some, map, take, drop, length, get_or}
+use Rattle.std.specs.Prelude.{◌≡◌, ℕ, ◌*◌, ◌^◌, ◌<◌, ◌≤◌, min, List, [], ◌∷◌, Option, None, Some, map, take, drop, length, get_or}
 use Rattle.std.specs.List.{filter, flat_map, range_with_len}
 use Rattle.order_model.specs.Orders.{has, variables}
 use Rattle.order_model.specs.Problems.{TruthTables}
@@ -26,6 +27,10 @@ strip numbers len k = take len (drop (k * len) numbers)
 -- all entries
 unfoldable pub unrolled : List ℕ → List ℕ → ℕ → List ℕ
 unrolled outer numbers len = flat_map (strip numbers len) outer
+
+-- the names in pairs, one behind the other
+unfoldable pub names_of : List (ℕ × ℕ) → List ℕ
+names_of pairs = flat_map (λ p. p.0 ∷ p.1 ∷ []) pairs
 
 -- strips of `len` entries that `outer` names
 pub record AreNamed (outer numbers : List ℕ) (len : ℕ) : Type 0 where

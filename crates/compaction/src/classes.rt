@@ -9,7 +9,7 @@ ghost use Rattle.compaction.specs.Table.{free_below, most_entries};
 
 use crate::masks::join_masks;
 use crate::numbering::number_pairs_with_masks;
-use crate::pairs::number_pairs_by_index;
+use crate::pairs::{distinct_pairs, number_pairs_by_index};
 use crate::scratch::Scratch;
 use crate::start::{no_dependence, value_numbers};
 use crate::tally::Tally;
@@ -202,7 +202,8 @@ impl<'a> Classes<'a> {
     {
         let rank = rank_of(self.set, x);
         let numbers = number_pairs_by_index(alloc, &self.numbers, rank)?;
-        let masks = join_masks(alloc, &self.numbers, rank, x, &self.masks, &numbers)?;
+        let pairs = distinct_pairs(alloc, &self.numbers, rank, &numbers)?;
+        let masks = join_masks(alloc, &pairs, x, &self.masks)?;
         Ok(Classes {
             problem: self.problem,
             set: self.set | (1 << x),

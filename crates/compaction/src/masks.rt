@@ -27,30 +27,21 @@ pub fn join_mask(masks: &[u16], x: u8, pair: (u32, u32)) -> u16
     }
 }
 
-/// The masks of numbered pairs, from those of the classes: a pair with the next number is the first of its class.
+/// The masks of pairs.
 pub fn join_masks(
     alloc: Global,
-    numbers: &[u32],
-    rank: u32,
+    pairs: &[(u32, u32)],
     x: u8,
     masks: &[u16],
-    numbered: &[u32],
 ) -> Result<Vec<u16>, AllocError>
-    requires rank { rank < 16 }
     requires variable { x < 16 }
-    requires len { length numbers.now < 2 ^ 32 }
-    requires whole { (blocks : ℕ) × (length numbers.now ≡ blocks * (2 * 2 ^ rank)) }
-    requires classes { (i : ℕ) → i < length numbers.now → slice_index numbers.now i < length masks.now }
-    requires numbered { numbered.now ≡ ranks same_pair (places.pairs numbers.now (2 ^ rank)) }
-    ensures many { IfOk result (λ v. length v.items ≡ distinct_count same_pair (places.pairs numbers.now (2 ^ rank))) }
-    ensures told { IfOk result (λ v. map (λ c. get_or v.items c 0) numbered.now ≡ map (joined_mask masks.now x) (places.pairs numbers.now (2 ^ rank))) }
+    requires lower { (k : ℕ) → k < length pairs.now → (get_or pairs.now k (0, 0)).0 < length masks.now }
+    requires upper { (k : ℕ) → k < length pairs.now → (get_or pairs.now k (0, 0)).1 < length masks.now }
+    ensures { IfOk result (λ v. v.items ≡ map (joined_mask masks.now x) pairs.now) }
 {
-    let mut joined = Vec::new(alloc);
-    for (j, number) in numbered.iter().enumerate() {
-        if *number as usize == joined.len() {
-            let mask = join_mask(masks, x, pair_at(numbers, rank, j));
-            joined.push(mask)?;
-        }
+    let mut joined = Vec::with_capacity(alloc, pairs.len())?;
+    for pair in pairs {
+        joined.push(join_mask(masks, x, *pair))?;
     }
     Ok(joined)
 }

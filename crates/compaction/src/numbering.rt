@@ -10,6 +10,8 @@ ghost use Rattle.compaction.specs.Places as places;
 use crate::cells::number_pairs_by_cells;
 use crate::chains::number_pairs_by_chains;
 use crate::distinct::{are_distinct, number_distinct_pairs};
+use crate::masks::join_masks;
+use crate::pairs::NumberedPairs;
 use crate::slots::number_pairs_by_slots;
 use std::alloc::{AllocError, Global};
 
@@ -20,8 +22,30 @@ pub struct Numbered {
     pub masks: Vec<u16>,
 }
 
+/// The numbers of the pairs: by slots, or by chains where slots are crowded. All classes are below `classes`.
+pub fn number_pairs(
+    alloc: Global,
+    numbers: &[u32],
+    rank: u32,
+    classes: usize,
+) -> Result<NumberedPairs, AllocError>
+    requires rank { rank < 16 }
+    requires len { length numbers.now ≤ 2 ^ 20 }
+    requires whole { (blocks : ℕ) × (length numbers.now ≡ blocks * (2 * 2 ^ rank)) }
+    requires classes { (i : ℕ) → i < length numbers.now → slice_index numbers.now i < classes }
+    requires few { classes ≤ 2 ^ 20 }
+    ensures numbers { IfOk result (λ v. v.numbers.items ≡ ranks same_pair (places.pairs numbers.now (2 ^ rank))) }
+    ensures many { IfOk result (λ v. length v.pairs.items ≡ distinct_count same_pair (places.pairs numbers.now (2 ^ rank))) }
+    ensures told { IfOk result (λ v. map (λ c. get_or v.pairs.items c (0, 0)) v.numbers.items ≡ places.pairs numbers.now (2 ^ rank)) }
+{
+    match number_pairs_by_slots(alloc, numbers, rank)? {
+        Some(numbered) => Ok(numbered),
+        None => number_pairs_by_chains(alloc, numbers, rank, classes),
+    }
+}
+
 /// The numbers of the pairs, and the masks of the numbers, from those of the classes: in order where all classes are distinct,
-/// by a cell for each pair of classes where these are few, else by slots, or by chains where slots are crowded.
+/// by a cell for each pair of classes where these are few, else by slots or chains.
 pub fn number_pairs_with_masks(
     alloc: Global,
     numbers: &[u32],
@@ -53,8 +77,10 @@ pub fn number_pairs_with_masks(
         let numbered = number_pairs_by_cells(alloc, numbers, rank, x, masks, &mut cells)?;
         return Ok(numbered);
     }
-    match number_pairs_by_slots(alloc, numbers, rank, x, masks)? {
-        Some(numbered) => Ok(numbered),
-        None => number_pairs_by_chains(alloc, numbers, rank, x, masks),
-    }
+    let numbered = number_pairs(alloc, numbers, rank, classes)?;
+    let joined = join_masks(alloc, &numbered.pairs, x, masks)?;
+    Ok(Numbered {
+        numbers: numbered.numbers,
+        masks: joined,
+    })
 }

@@ -1,12 +1,20 @@
 //! Numbers of pairs of entries by first occurrence.
 
-ghost use Rattle.std.specs.Prelude.{◌≡◌, ℕ, ◌+◌, ◌*◌, ◌/◌, ◌^◌, ◌<◌, ◌≤◌, length, IfOk};
+ghost use Rattle.std.specs.Prelude.{◌≡◌, ℕ, ◌+◌, ◌*◌, ◌/◌, ◌^◌, ◌<◌, ◌≤◌, map, get_or, length, IfOk};
+ghost use Rattle.std.specs.Set.{distinct_count};
 ghost use Rattle.order_model.specs.Widths.{same_pair};
 ghost use Rattle.compaction.specs.Numbering.{ranks};
 ghost use Rattle.compaction.specs.Places as places;
 
 use indexmap::IndexSet;
 use std::alloc::{AllocError, Global};
+
+/// The number of each pair, and the pair of each number.
+#[derive(Drop)]
+pub struct NumberedPairs {
+    pub numbers: Vec<u32>,
+    pub pairs: Vec<(u32, u32)>,
+}
 
 /// The place of the entry of pair `j` at which the variable is 0.
 #[inline(always)]
@@ -54,4 +62,27 @@ pub fn number_pairs_by_index(
         out.push(number as u32)?;
     }
     Ok(out)
+}
+
+/// The pair of each number: a pair with the next number is the first of its kind.
+pub fn distinct_pairs(
+    alloc: Global,
+    numbers: &[u32],
+    rank: u32,
+    numbered: &[u32],
+) -> Result<Vec<(u32, u32)>, AllocError>
+    requires rank { rank < 16 }
+    requires len { length numbers.now < 2 ^ 32 }
+    requires whole { (blocks : ℕ) × (length numbers.now ≡ blocks * (2 * 2 ^ rank)) }
+    requires numbered { numbered.now ≡ ranks same_pair (places.pairs numbers.now (2 ^ rank)) }
+    ensures many { IfOk result (λ v. length v.items ≡ distinct_count same_pair (places.pairs numbers.now (2 ^ rank))) }
+    ensures told { IfOk result (λ v. map (λ c. get_or v.items c (0, 0)) numbered.now ≡ places.pairs numbers.now (2 ^ rank)) }
+{
+    let mut pairs = Vec::new(alloc);
+    for (j, number) in numbered.iter().enumerate() {
+        if *number as usize == pairs.len() {
+            pairs.push(pair_at(numbers, rank, j))?;
+        }
+    }
+    Ok(pairs)
 }

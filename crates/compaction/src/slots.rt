@@ -1,15 +1,12 @@
 //! Numbers of pairs by first occurrence, by slots that each have the number of a pair.
 
-ghost use Rattle.std.specs.Prelude.{◌≡◌, ℕ, ◌+◌, ◌*◌, ◌^◌, ◌<◌, ◌≤◌, map, get_or, length, slice_index, IfOk, IfSome};
+ghost use Rattle.std.specs.Prelude.{◌≡◌, ℕ, ◌+◌, ◌*◌, ◌^◌, ◌<◌, ◌≤◌, map, get_or, length, IfOk, IfSome};
 ghost use Rattle.std.specs.Set.{distinct_count};
 ghost use Rattle.order_model.specs.Widths.{same_pair};
-ghost use Rattle.compaction.specs.Dependence.{joined_mask};
 ghost use Rattle.compaction.specs.Numbering.{IsSlot, home_of, ranks};
 ghost use Rattle.compaction.specs.Places as places;
 
-use crate::masks::join_mask;
-use crate::numbering::Numbered;
-use crate::pairs::pair_at;
+use crate::pairs::{NumberedPairs, pair_at};
 use std::alloc::{AllocError, Global};
 
 /// How many slots are tried for a pair.
@@ -50,35 +47,29 @@ fn find_slot(
     None
 }
 
-/// The numbers of the pairs and their masks. A pair's slot is the first free one from its home on; an empty slot has a number
-/// too large for a pair. Nothing where too many pairs have homes close together.
+/// The numbers of the pairs. A pair's slot is the first free one from its home on; an empty slot has a number too large for a
+/// pair. Nothing where too many pairs have homes close together.
 pub fn number_pairs_by_slots(
     alloc: Global,
     numbers: &[u32],
     rank: u32,
-    x: u8,
-    masks: &[u16],
-) -> Result<Option<Numbered>, AllocError>
+) -> Result<Option<NumberedPairs>, AllocError>
     requires rank { rank < 16 }
-    requires variable { x < 16 }
     requires len { length numbers.now ≤ 2 ^ 20 }
     requires whole { (blocks : ℕ) × (length numbers.now ≡ blocks * (2 * 2 ^ rank)) }
-    requires classes { (i : ℕ) → i < length numbers.now → slice_index numbers.now i < length masks.now }
     ensures numbers { IfOk result (λ o. IfSome o (λ v. v.numbers.items ≡ ranks same_pair (places.pairs numbers.now (2 ^ rank)))) }
-    ensures many { IfOk result (λ o. IfSome o (λ v. length v.masks.items ≡ distinct_count same_pair (places.pairs numbers.now (2 ^ rank)))) }
-    ensures told { IfOk result (λ o. IfSome o (λ v. map (λ c. get_or v.masks.items c 0) v.numbers.items ≡ map (joined_mask masks.now x) (places.pairs numbers.now (2 ^ rank)))) }
+    ensures many { IfOk result (λ o. IfSome o (λ v. length v.pairs.items ≡ distinct_count same_pair (places.pairs numbers.now (2 ^ rank)))) }
+    ensures told { IfOk result (λ o. IfSome o (λ v. map (λ c. get_or v.pairs.items c (0, 0)) v.numbers.items ≡ places.pairs numbers.now (2 ^ rank))) }
 {
     let half = numbers.len() / 2;
     let homes = 4 * half;
     let mut slots = vec![in alloc; half as u32; homes + TRIES]?;
     let mut keys = vec![in alloc; (0u32, 0u32); half]?;
-    let mut joined = vec![in alloc; 0u16; half]?;
     let mut out = vec![in alloc; 0u32; half]?;
     let mut count = 0u32;
     for j in 0..half {
         let pair = pair_at(numbers, rank, j);
         keys[count as usize] = pair;
-        joined[count as usize] = join_mask(masks, x, pair);
         let found = find_slot(&slots, &keys, count, pair, home(homes, pair));
         let Some(at) = found else {
             return Ok(None);
@@ -90,9 +81,9 @@ pub fn number_pairs_by_slots(
             count += 1;
         }
     }
-    joined.truncate(count as usize);
-    Ok(Some(Numbered {
+    keys.truncate(count as usize);
+    Ok(Some(NumberedPairs {
         numbers: out,
-        masks: joined,
+        pairs: keys,
     }))
 }

@@ -9,13 +9,12 @@ ghost use Rattle.order_model.specs.Widths.{same_pair};
 ghost use Rattle.compaction.specs.Chains.{lower_at, upper_at};
 ghost use Rattle.compaction.specs.Numbering.{ranks};
 ghost use Rattle.compaction.specs.Places as places;
-ghost use Rattle.compaction.specs.Strips.{AreStrips, TellsPairs, masks_in_use, unrolled, low_variables as low_of};
+ghost use Rattle.compaction.specs.Strips.{AreNamed, AreStrips, TellsPairs, masks_in_use, names_of, unrolled, low_variables as low_of};
 
 use crate::classes::{rank_of, row_of};
 use crate::columns::{ValueStrips, whole_strips};
 use crate::keys::{MOST_JOINED, join_key_masks, join_keys};
-use crate::numbering::{Numbered, number_pairs_with_masks};
-use crate::pairs::pair_at;
+use crate::numbering::{Numbered, number_pairs, number_pairs_with_masks};
 use order_model::{Mask, Problem, VarIx};
 use std::alloc::{AllocError, Global};
 use std::marker::Model;
@@ -102,57 +101,25 @@ pub fn strip_at(numbers: &[u32], strip: usize, k: u32) -> &[u32]
     &numbers[start..end]
 }
 
-/// The two strips of each numbered pair of strips, one behind the other.
+/// The two strips of each pair of strips, one behind the other.
 fn pair_strips(
     alloc: Global,
-    outer: &[u32],
-    rank: u32,
-    numbered: &[u32],
+    pairs: &[(u32, u32)],
     numbers: &[u32],
     bits: u32,
 ) -> Result<Vec<u32>, AllocError>
-    requires rank { rank < 16 }
     requires bits { bits < 16 }
-    requires len { length outer.now ≤ 2 ^ 20 }
     requires few { length numbers.now ≤ 2 ^ 20 }
-    requires whole { (blocks : ℕ) × (length outer.now ≡ blocks * (2 * 2 ^ rank)) }
-    requires strips { AreStrips outer.now numbers.now (2 ^ bits) }
-    requires numbered { numbered.now ≡ ranks same_pair (places.pairs outer.now (2 ^ rank)) }
-    ensures long { IfOk result (λ v. length v.items ≡ distinct_count same_pair (places.pairs outer.now (2 ^ rank)) * (2 * 2 ^ bits)) }
-    ensures lower { IfOk result (λ v. (j a : ℕ) → j < length outer.now / 2 → a < 2 ^ bits →
-        get_or v.items (slice_index numbered.now j * (2 * 2 ^ bits) + a) 0 ≡ slice_index numbers.now (lower_at outer.now (2 ^ rank) j * 2 ^ bits + a)) }
-    ensures upper { IfOk result (λ v. (j a : ℕ) → j < length outer.now / 2 → a < 2 ^ bits →
-        get_or v.items (slice_index numbered.now j * (2 * 2 ^ bits) + 2 ^ bits + a) 0 ≡ slice_index numbers.now (upper_at outer.now (2 ^ rank) j * 2 ^ bits + a)) }
+    requires named { AreNamed (names_of pairs.now) numbers.now (2 ^ bits) }
+    ensures { IfOk result (λ v. v.items ≡ unrolled (names_of pairs.now) numbers.now (2 ^ bits)) }
 {
     let strip = 1usize << bits;
     let mut paired = Vec::with_capacity(alloc, numbers.len())?;
-    for (j, number) in numbered.iter().enumerate() {
-        if *number as usize * (2 * strip) == paired.len() {
-            let (lower, upper) = pair_at(outer, rank, j);
-            paired.extend_from_slice(strip_at(numbers, strip, lower))?;
-            paired.extend_from_slice(strip_at(numbers, strip, upper))?;
-        }
+    for pair in pairs {
+        paired.extend_from_slice(strip_at(numbers, strip, pair.0))?;
+        paired.extend_from_slice(strip_at(numbers, strip, pair.1))?;
     }
     Ok(paired)
-}
-
-/// The numbers of the pairs of runs. No masks are wanted.
-fn number_runs(
-    alloc: Global,
-    outer: &[u32],
-    rank: u32,
-    count: usize,
-) -> Result<Vec<u32>, AllocError>
-    requires rank { rank < 16 }
-    requires len { length outer.now ≤ 2 ^ 20 }
-    requires whole { (blocks : ℕ) × (length outer.now ≡ blocks * (2 * 2 ^ rank)) }
-    requires below { (i : ℕ) → i < length outer.now → slice_index outer.now i < count }
-    requires few { count ≤ 2 ^ 20 }
-    ensures { IfOk result (λ v. v.items ≡ ranks same_pair (places.pairs outer.now (2 ^ rank))) }
-{
-    let blank = vec![in alloc; 0u16; count]?;
-    let runs = number_pairs_with_masks(alloc, outer, rank, 0, &blank)?;
-    Ok(runs.numbers)
 }
 
 /// The numbers 0, 1, 2 and so on.
@@ -225,11 +192,11 @@ fn add_by_pairs(
     ensures below { IfOk result (λ g. (i : ℕ) → i < length g.numbers.items → slice_index g.numbers.items i < length g.masks.items) }
     ensures few { IfOk result (λ g. length g.numbers.items ≤ 2 ^ 20) }
 {
-    let numbered = number_runs(alloc, outer, rank, numbers.len() >> bits)?;
-    let paired = pair_strips(alloc, outer, rank, &numbered, numbers, bits)?;
+    let runs = number_pairs(alloc, outer, rank, numbers.len() >> bits)?;
+    let paired = pair_strips(alloc, &runs.pairs, numbers, bits)?;
     let told = tell_pairs(alloc, &paired, bits, x, masks)?;
     Ok(Grown {
-        outer: numbered,
+        outer: runs.numbers,
         numbers: told.numbers,
         masks: told.masks,
     })

@@ -59,21 +59,21 @@ pub returns-clause-numbers : goal.returns-clause-numbers
 returns-clause-numbers c =
     let l = length-pairs c.args.numbers.now (2 ^ c.args.rank) in
     let a = block_all (length c.args.numbers.now) c.args.rank c.loop-block.block c.requires.whole (let t = c.loop-block-test.false in omega arith) in
-    made_numbers (places.pairs c.args.numbers.now (2 ^ c.args.rank)) (joined_mask c.args.masks.now c.args.x) c.loop-block.out.items (take c.loop-block.count c.loop-block.joined.items) (c.loop-block.block * 2 ^ c.args.rank) (omega arith) c.loop-block.invariant.celled.made
+    made_numbers 0 (places.pairs c.args.numbers.now (2 ^ c.args.rank)) (joined_mask c.args.masks.now c.args.x) c.loop-block.out.items (take c.loop-block.count c.loop-block.joined.items) (c.loop-block.block * 2 ^ c.args.rank) (omega arith) c.loop-block.invariant.celled.made
 
 pub returns-clause-many : goal.returns-clause-many
 returns-clause-many c =
     let l = length-pairs c.args.numbers.now (2 ^ c.args.rank) in
     let a = block_all (length c.args.numbers.now) c.args.rank c.loop-block.block c.requires.whole (let t = c.loop-block-test.false in omega arith) in
     ap length c.truncate.ensures.items
-    ∙ made_many (places.pairs c.args.numbers.now (2 ^ c.args.rank)) (joined_mask c.args.masks.now c.args.x) c.loop-block.out.items (take c.loop-block.count c.loop-block.joined.items) (c.loop-block.block * 2 ^ c.args.rank) (omega arith) c.loop-block.invariant.celled.made
+    ∙ made_many 0 (places.pairs c.args.numbers.now (2 ^ c.args.rank)) (joined_mask c.args.masks.now c.args.x) c.loop-block.out.items (take c.loop-block.count c.loop-block.joined.items) (c.loop-block.block * 2 ^ c.args.rank) (omega arith) c.loop-block.invariant.celled.made
 
 pub returns-clause-told : goal.returns-clause-told
 returns-clause-told c =
     let l = length-pairs c.args.numbers.now (2 ^ c.args.rank) in
     let a = block_all (length c.args.numbers.now) c.args.rank c.loop-block.block c.requires.whole (let t = c.loop-block-test.false in omega arith) in
     ap (λ us. map (λ k. get_or us k 0) c.loop-block.out.items) c.truncate.ensures.items
-    ∙ made_told (places.pairs c.args.numbers.now (2 ^ c.args.rank)) (joined_mask c.args.masks.now c.args.x) c.loop-block.out.items (take c.loop-block.count c.loop-block.joined.items) (c.loop-block.block * 2 ^ c.args.rank) (omega arith) c.loop-block.invariant.celled.made
+    ∙ made_told 0 (places.pairs c.args.numbers.now (2 ^ c.args.rank)) (joined_mask c.args.masks.now c.args.x) c.loop-block.out.items (take c.loop-block.count c.loop-block.joined.items) (c.loop-block.block * 2 ^ c.args.rank) (omega arith) c.loop-block.invariant.celled.made
 
 pub loop-i-init : goal.loop-i-init
 loop-i-init c = record {

@@ -15,7 +15,7 @@ loop-j-init c =
     let m = c.in_ok-joined.ensures.len in
     record {
       long = omega arith;
-      made = made_none ps (joined_mask c.args.masks.now c.args.x) c.in_ok-out.out.items (omega arith);
+      made = made_none 0 ps (joined_mask c.args.masks.now c.args.x) c.in_ok-out.out.items (omega arith);
     }
 
 pub loop-j-preserved : goal.loop-j-preserved
@@ -35,15 +35,15 @@ loop-j-preserved c =
     let first = distinct_first cs c.args.rank c.requires.whole c.requires.distinct j small in
     record {
       long = length-set masks _ _ ∙ o;
-      made = subst (λ z. z) (λ t. Made ps join (set out j (few t)) (sym (take_more_set masks j mask (omega arith)) t) (j + 1))
-          (made_first ps join out (take j masks) j mask (omega arith) first (c.join_mask.ensures ∙ ap join p) c.loop-j.invariant.made);
+      made = subst (λ z. z) (λ t. Made 0 ps join (set out j (few t)) (sym (take_more_set masks j mask (omega arith)) t) (j + 1))
+          (made_first 0 ps join out (take j masks) j mask (omega arith) first (c.join_mask.ensures ∙ ap join p) c.loop-j.invariant.made);
     }
 
 pub returns-clause-numbers : goal.returns-clause-numbers
 returns-clause-numbers c =
     let l = length-pairs c.args.numbers.now (2 ^ c.args.rank) in
     let t = c.loop-j-test.false in
-    made_numbers (places.pairs c.args.numbers.now (2 ^ c.args.rank)) (joined_mask c.args.masks.now c.args.x) c.loop-j.out.items (take c.loop-j.j c.loop-j.joined.items) c.loop-j.j (omega arith) c.loop-j.invariant.made
+    made_numbers 0 (places.pairs c.args.numbers.now (2 ^ c.args.rank)) (joined_mask c.args.masks.now c.args.x) c.loop-j.out.items (take c.loop-j.j c.loop-j.joined.items) c.loop-j.j (omega arith) c.loop-j.invariant.made
 
 pub returns-clause-many : goal.returns-clause-many
 returns-clause-many c =
@@ -51,7 +51,7 @@ returns-clause-many c =
     let o = c.loop-j.invariant.long in
     let t = c.loop-j-test.false in
     ap length (sym (take_all c.loop-j.j c.loop-j.joined.items (omega arith)))
-    ∙ made_many (places.pairs c.args.numbers.now (2 ^ c.args.rank)) (joined_mask c.args.masks.now c.args.x) c.loop-j.out.items (take c.loop-j.j c.loop-j.joined.items) c.loop-j.j (omega arith) c.loop-j.invariant.made
+    ∙ made_many 0 (places.pairs c.args.numbers.now (2 ^ c.args.rank)) (joined_mask c.args.masks.now c.args.x) c.loop-j.out.items (take c.loop-j.j c.loop-j.joined.items) c.loop-j.j (omega arith) c.loop-j.invariant.made
 
 pub returns-clause-told : goal.returns-clause-told
 returns-clause-told c =
@@ -59,4 +59,4 @@ returns-clause-told c =
     let o = c.loop-j.invariant.long in
     let t = c.loop-j-test.false in
     ap (λ us. map (λ k. get_or us k 0) c.loop-j.out.items) (sym (take_all c.loop-j.j c.loop-j.joined.items (omega arith)))
-    ∙ made_told (places.pairs c.args.numbers.now (2 ^ c.args.rank)) (joined_mask c.args.masks.now c.args.x) c.loop-j.out.items (take c.loop-j.j c.loop-j.joined.items) c.loop-j.j (omega arith) c.loop-j.invariant.made
+    ∙ made_told 0 (places.pairs c.args.numbers.now (2 ^ c.args.rank)) (joined_mask c.args.masks.now c.args.x) c.loop-j.out.items (take c.loop-j.j c.loop-j.joined.items) c.loop-j.j (omega arith) c.loop-j.invariant.made

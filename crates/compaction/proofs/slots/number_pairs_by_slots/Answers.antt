@@ -1,11 +1,9 @@
 use Rattle.std.proofs.Common.{◌≡◌, ℕ, ◌+◌, ◌*◌, ◌/◌, ◌^◌, ◌<◌, get_or, set, take, map, length, sym, ap, subst, ◌∙◌, arith, min}
 use Rattle.std.proofs.lemmas.Grind.{common_steps}
-use Rattle.std.proofs.lemmas.List.{get_or_default}
-use Rattle.compaction.specs.Dependence.{joined_mask}
+use Rattle.std.proofs.lemmas.List.{get_or_default, map-id}
 use Rattle.compaction.specs.Numbering.{IsSlot, home_of, slot_number}
 use Rattle.compaction.specs.Places as places
 use Rattle.compaction.proofs.Index.{length-pairs, pair_listed}
-use Rattle.compaction.proofs.Joined.{pair_classes}
 use Rattle.compaction.proofs.Firsts.{made_numbers, made_many, made_told}
 use Rattle.compaction.proofs.SlotSteps.{Slotted, slotted_new, slotted_old, slotted_none}
 use Rattle.compaction.proofs.slots.number_pairs_by_slots.Goals as goal
@@ -17,55 +15,41 @@ loop-j-init c =
     let l = length-pairs c.args.numbers.now (2 ^ c.args.rank) in
     let a = c.in_ok-slots.ensures.len in
     let k = c.in_ok-keys.ensures.len in
-    let m = c.in_ok-joined.ensures.len in
     let o = c.in_ok-out.ensures.len in
     let empty : (t : ℕ) → t < length c.in_ok-slots.slots.items → get_or c.in_ok-slots.slots.items t 0 ≡ length c.args.numbers.now / 2 = grind (arith, common_steps) in
-    slotted_none ps (joined_mask c.args.masks.now c.args.x) (home_of (4 * (length c.args.numbers.now / 2))) c.in_ok-slots.slots.items c.in_ok-keys.keys.items c.in_ok-out.out.items c.in_ok-joined.joined.items
-    (omega arith) (omega arith) (omega arith) (omega arith) (λ t h. empty t h ∙ sym l)
-
-pub join_mask-requires-clause-lower : goal.join_mask-requires-clause-lower
-join_mask-requires-clause-lower c =
-    let b = pair_classes c.args.numbers.now c.args.rank (length c.args.masks.now) c.loop-j.j c.requires.whole c.requires.classes c.loop-j-test.true in
-    subst (λ (q : ℕ × ℕ). q.0 < length c.args.masks.now) (sym c.pair_at-pair.ensures) b.0
-
-pub join_mask-requires-clause-upper : goal.join_mask-requires-clause-upper
-join_mask-requires-clause-upper c =
-    let b = pair_classes c.args.numbers.now c.args.rank (length c.args.masks.now) c.loop-j.j c.requires.whole c.requires.classes c.loop-j-test.true in
-    subst (λ (q : ℕ × ℕ). q.1 < length c.args.masks.now) (sym c.pair_at-pair.ensures) b.1
+    slotted_none ps (home_of (4 * (length c.args.numbers.now / 2))) c.in_ok-slots.slots.items c.in_ok-keys.keys.items c.in_ok-out.out.items
+    (omega arith) (omega arith) (omega arith) (λ t h. empty t h ∙ sym l)
 
 pub returns-clause-numbers : goal.returns-clause-numbers
 returns-clause-numbers c =
     let l = length-pairs c.args.numbers.now (2 ^ c.args.rank) in
     let t = c.loop-j-test.false in
-    made_numbers (places.pairs c.args.numbers.now (2 ^ c.args.rank)) (joined_mask c.args.masks.now c.args.x) c.loop-j.out.items (take c.loop-j.count c.loop-j.joined.items) c.loop-j.j (omega arith) c.loop-j.invariant.made
+    made_numbers (0, 0) (places.pairs c.args.numbers.now (2 ^ c.args.rank)) (λ p. p) c.loop-j.out.items (take c.loop-j.count c.loop-j.keys.items) c.loop-j.j (omega arith) c.loop-j.invariant.made
 
 pub returns-clause-many : goal.returns-clause-many
 returns-clause-many c =
     let l = length-pairs c.args.numbers.now (2 ^ c.args.rank) in
     let t = c.loop-j-test.false in
     ap length c.truncate.ensures.items
-    ∙ made_many (places.pairs c.args.numbers.now (2 ^ c.args.rank)) (joined_mask c.args.masks.now c.args.x) c.loop-j.out.items (take c.loop-j.count c.loop-j.joined.items) c.loop-j.j (omega arith) c.loop-j.invariant.made
+    ∙ made_many (0, 0) (places.pairs c.args.numbers.now (2 ^ c.args.rank)) (λ p. p) c.loop-j.out.items (take c.loop-j.count c.loop-j.keys.items) c.loop-j.j (omega arith) c.loop-j.invariant.made
 
 pub returns-clause-told : goal.returns-clause-told
 returns-clause-told c =
     let l = length-pairs c.args.numbers.now (2 ^ c.args.rank) in
     let t = c.loop-j-test.false in
-    ap (λ us. map (λ k. get_or us k 0) c.loop-j.out.items) c.truncate.ensures.items
-    ∙ made_told (places.pairs c.args.numbers.now (2 ^ c.args.rank)) (joined_mask c.args.masks.now c.args.x) c.loop-j.out.items (take c.loop-j.count c.loop-j.joined.items) c.loop-j.j (omega arith) c.loop-j.invariant.made
+    ap (λ us. map (λ k. get_or us k (0, 0)) c.loop-j.out.items) c.truncate.ensures.items
+    ∙ made_told (0, 0) (places.pairs c.args.numbers.now (2 ^ c.args.rank)) (λ p. p) c.loop-j.out.items (take c.loop-j.count c.loop-j.keys.items) c.loop-j.j (omega arith) c.loop-j.invariant.made ∙ map-id (places.pairs c.args.numbers.now (2 ^ c.args.rank))
 
 pub loop-j-preserved : goal.loop-j-preserved
 loop-j-preserved c =
     let cs = c.args.numbers.now in
     let ps = places.pairs cs (2 ^ c.args.rank) in
-    let join = joined_mask c.args.masks.now c.args.x in
     let place = home_of (4 * (length c.args.numbers.now / 2)) in
     let j = c.loop-j.j in
     let slots = c.loop-j.slots.items in
     let keys = c.loop-j.keys.items in
     let out = c.loop-j.out.items in
-    let masks = c.loop-j.joined.items in
     let count = c.loop-j.count in
-    let mask = c.join_mask.result in
     let at = c.in-Some.at in
     let p = c.pair_at-pair.ensures ∙ sym (pair_listed cs (2 ^ c.args.rank) j c.loop-j-test.true) in
     let l = length-pairs cs (2 ^ c.args.rank) in
@@ -78,9 +62,9 @@ loop-j-preserved c =
     let number : c.min-number.result ≡ slot_number slots count at = c.min-number.ensures ∙ ap (λ z. min z count) value in
     elim c.if-number-count.branch [
       | then-number-count w ↦
-          subst (λ z. z) (λ t. Slotted ps join place (set slots at (sym number t)) (set keys count (sym p t)) (set out j (sym number t)) (set masks count mask) (sym w.count-is t) (j + 1))
-          (slotted_new ps join place slots keys out masks count j at mask (omega arith) c.loop-j.invariant found (c.join_mask.ensures ∙ ap join p) (sym number ∙ w.if-number-count.true))
+          subst (λ z. z) (λ t. Slotted ps place (set slots at (sym number t)) (set keys count (sym p t)) (set out j (sym number t)) (sym w.count-is t) (j + 1))
+          (slotted_new ps place slots keys out count j at (omega arith) c.loop-j.invariant found (sym number ∙ w.if-number-count.true))
       | else-number-count w ↦
-          subst (λ z. z) (λ t. Slotted ps join place (set slots at (sym number t)) (set keys count (sym p t)) (set out j (sym number t)) (set masks count mask) (sym w.count-is t) (j + 1))
-          (slotted_old ps join place slots keys out masks count j at mask (omega arith) c.loop-j.invariant found (λ e. w.if-number-count.false (number ∙ e)))
+          subst (λ z. z) (λ t. Slotted ps place (set slots at (sym number t)) (set keys count (sym p t)) (set out j (sym number t)) (sym w.count-is t) (j + 1))
+          (slotted_old ps place slots keys out count j at (omega arith) c.loop-j.invariant found (λ e. w.if-number-count.false (number ∙ e)))
     ]

@@ -1,9 +1,8 @@
 use Rattle.std.proofs.Common.{◌*◌, ◌/◌, ◌^◌, length}
-use Rattle.compaction.specs.Dependence.{joined_mask}
 use Rattle.compaction.specs.Numbering.{home_of}
 use Rattle.compaction.specs.Places as places
 use Rattle.compaction.proofs.SlotSteps.{Slotted}
 use Rattle.compaction.proofs.slots.number_pairs_by_slots.Given as goal
 
 abbrev pub invariant-loop-j : goal.invariant-loop-j
-invariant-loop-j l = Slotted (places.pairs l.numbers (2 ^ l.rank)) (joined_mask l.masks l.x) (home_of (4 * (length l.numbers / 2))) l.slots.items l.keys.items l.out.items l.joined.items l.count l.j
+invariant-loop-j l = Slotted (places.pairs l.numbers (2 ^ l.rank)) (home_of (4 * (length l.numbers / 2))) l.slots.items l.keys.items l.out.items l.count l.j

@@ -1,85 +1,62 @@
-use Rattle.std.proofs.Common.{◌≡◌, ℕ, ◌+◌, ◌*◌, ◌^◌, ◌≤◌, ◌<◌, ◌++◌, length, get_or, sym, ap, ◌∙◌, subst, arith, Vec, Global}
-use Rattle.std.proofs.lemmas.Nat.{pow_pos, one_shl}
-use Rattle.compaction.specs.Places as places
-use Rattle.compaction.proofs.Index.{pair_listed, length-pairs}
-use Rattle.compaction.proofs.Joined.{number_at, numbered_place}
-use Rattle.compaction.proofs.Paired.{Paired, paired_new, paired_old, paired_all, pair_strips_inside}
+use Rattle.std.proofs.Common.{◌≡◌, ℕ, ◌+◌, ◌*◌, ◌/◌, ◌%◌, ◌^◌, ◌<◌, ◌≤◌, ◌++◌, [], ◌∷◌, length, get_or, take, sym, ap, ◌∙◌, subst, arith}
+use Rattle.std.proofs.lemmas.Nat.{one_shl}
+use Rattle.std.proofs.lemmas.List.{take_more, take_all}
+use Rattle.compaction.specs.Strips.{names_of, strip, unrolled}
+use Rattle.compaction.proofs.Paired.{length_names_of, name_low, name_high, names_more}
+use Rattle.compaction.proofs.Unrolled.{length_strip, strip_at, named_inside, same_by_places, unrolled_more, unrolled_none}
 use Rattle.compaction.proofs.strips.pair_strips.Goals as goal
-use Rattle.compaction.proofs.strips.pair_strips.Goals.{then-number-strip+in_ok-extend_from_slice+in_ok-extend_from_slice-2, else-number-strip}
 
-pub pair_at-lower-requires-clause-place : goal.pair_at-lower-requires-clause-place
-pair_at-lower-requires-clause-place c = let l = numbered_place c.args.outer.now c.args.numbered.now c.args.rank c.requires.numbered in omega arith
+pub loop-pair-init : goal.loop-pair-init
+unfolding names_of
+loop-pair-init c = c.in_ok-paired.ensures.items ∙ sym (unrolled_none c.args.numbers.now (2 ^ c.args.bits))
 
 pub strip_at-requires-clause-inside : goal.strip_at-requires-clause-inside
 strip_at-requires-clause-inside c =
-    let l = numbered_place c.args.outer.now c.args.numbered.now c.args.rank c.requires.numbered in
     let b = c.requires.bits in
-    let s = pair_strips_inside c.args.outer.now c.args.numbers.now (2 ^ c.args.bits) c.args.rank c.loop-j.j c.requires.strips c.requires.whole (omega arith) in
-    subst (λ k. c.pair_at-lower.result.0 * k + k ≤ length c.args.numbers.now) (sym (one_shl c.args.bits 64 (omega arith)))
-    (subst (λ (p : ℕ × ℕ). p.0 * 2 ^ c.args.bits + 2 ^ c.args.bits ≤ length c.args.numbers.now) (sym c.pair_at-lower.ensures) s.0)
+    let j = c.loop-pair.pair-index in
+    let n = length_names_of c.args.pairs.now in
+    let small : j < length c.args.pairs.now = omega arith in
+    let i = named_inside (names_of c.args.pairs.now) c.args.numbers.now (2 ^ c.args.bits) c.requires.named (j * 2) (omega arith) in
+    subst (λ k. (get_or c.args.pairs.now j (0, 0)).0 * k + k ≤ length c.args.numbers.now) (sym (one_shl c.args.bits 64 (omega arith)))
+    (subst (λ z. z * 2 ^ c.args.bits + 2 ^ c.args.bits ≤ length c.args.numbers.now) (name_low c.args.pairs.now j small) i)
 
-pub strip_at-requires-then-number-strip-clause-inside : goal.strip_at-requires-then-number-strip-clause-inside
-strip_at-requires-then-number-strip-clause-inside c =
-    let l = numbered_place c.args.outer.now c.args.numbered.now c.args.rank c.requires.numbered in
+pub strip_at-requires-in-loop-pair-clause-inside : goal.strip_at-requires-in-loop-pair-clause-inside
+strip_at-requires-in-loop-pair-clause-inside c =
     let b = c.requires.bits in
-    let s = pair_strips_inside c.args.outer.now c.args.numbers.now (2 ^ c.args.bits) c.args.rank c.loop-j.j c.requires.strips c.requires.whole (omega arith) in
-    subst (λ k. c.pair_at-lower.result.1 * k + k ≤ length c.args.numbers.now) (sym (one_shl c.args.bits 64 (omega arith)))
-    (subst (λ (p : ℕ × ℕ). p.1 * 2 ^ c.args.bits + 2 ^ c.args.bits ≤ length c.args.numbers.now) (sym c.pair_at-lower.ensures) s.1)
+    let j = c.loop-pair.pair-index in
+    let n = length_names_of c.args.pairs.now in
+    let small : j < length c.args.pairs.now = omega arith in
+    let i = named_inside (names_of c.args.pairs.now) c.args.numbers.now (2 ^ c.args.bits) c.requires.named (j * 2 + 1) (omega arith) in
+    subst (λ k. (get_or c.args.pairs.now j (0, 0)).1 * k + k ≤ length c.args.numbers.now) (sym (one_shl c.args.bits 64 (omega arith)))
+    (subst (λ z. z * 2 ^ c.args.bits + 2 ^ c.args.bits ≤ length c.args.numbers.now) (name_high c.args.pairs.now j small) i)
 
-pub loop-j-preserved : goal.loop-j-preserved
-loop-j-preserved c =
-    let outer = c.args.outer.now in
+pub loop-pair-preserved : goal.loop-pair-preserved
+loop-pair-preserved c =
+    let pairs = c.args.pairs.now in
     let numbers = c.args.numbers.now in
     let len = 2 ^ c.args.bits in
-    let some = pow_pos c.args.bits in
-    let ps = places.pairs outer (2 ^ c.args.rank) in
-    let j = c.loop-j.j in
-    let out = c.loop-j.paired.items in
-    let l = numbered_place outer c.args.numbered.now c.args.rank c.requires.numbered in
-    let m = length-pairs outer (2 ^ c.args.rank) in
-    let small : j < length ps = omega arith in
-    let number = number_at ps c.args.numbered.now j c.requires.numbered small in
-    let listed = pair_listed outer (2 ^ c.args.rank) j (omega arith) in
     let b = c.requires.bits in
     let s = one_shl c.args.bits 64 (omega arith) in
-    let v : c.len.result ≡ length out = (let e = c.len.ensures in omega arith) in
-    elim c.if-number-strip.branch [
-      | then-number-strip+in_ok-extend_from_slice+in_ok-extend_from_slice-2 w ↦
-          let p = sym listed in
-          let q = w.pair_at-lower.ensures ∙ p in
-          subst (λ us. Paired ps numbers len some us (j + 1)) (sym (ap (λ (z : Vec ℕ Global). z.items) w.paired-is ∙ w.in_ok-extend_from_slice-2.ensures.items ∙ ap (λ us. us ++ w.strip_at-then-number-strip.result.now) w.in_ok-extend_from_slice.ensures.items))
-          (paired_new ps numbers len some out w.strip_at.result.now w.strip_at-then-number-strip.result.now j (get_or c.args.numbered.now j 0) small c.loop-j.invariant number
-          (ap (λ k. get_or c.args.numbered.now j 0 * (2 * k)) (sym s) ∙ w.if-number-strip.true ∙ v)
-          (w.strip_at.ensures.long ∙ s) (w.strip_at-then-number-strip.ensures.long ∙ s)
-          (λ a i. w.strip_at.ensures.entries a (let z = s in omega arith) ∙ (λ k. get_or numbers ((q k).0 * s k + a) 0))
-          (λ a i. w.strip_at-then-number-strip.ensures.entries a (let z = s in omega arith) ∙ (λ k. get_or numbers ((q k).1 * s k + a) 0)))
-      | else-number-strip w ↦
-          subst (λ (z : Vec ℕ Global). Paired ps numbers len some z.items (j + 1)) (sym w.paired-is)
-          (paired_old ps numbers len some out j (get_or c.args.numbered.now j 0) small c.loop-j.invariant number
-          (λ e. w.if-number-strip.false (ap (λ k. get_or c.args.numbered.now j 0 * (2 * k)) s ∙ e ∙ sym v)))
-    ]
+    let j = c.loop-pair.pair-index in
+    let p = get_or pairs j (0, 0) in
+    let n = length_names_of pairs in
+    let small : j < length pairs = omega arith in
+    let low_inside = subst (λ z. z * len + len ≤ length numbers) (name_low pairs j small) (named_inside (names_of pairs) numbers len c.requires.named (j * 2) (omega arith)) in
+    let high_inside = subst (λ z. z * len + len ≤ length numbers) (name_high pairs j small) (named_inside (names_of pairs) numbers len c.requires.named (j * 2 + 1) (omega arith)) in
+    let low_long = length_strip numbers len p.0 low_inside in
+    let high_long = length_strip numbers len p.1 high_inside in
+    let lower : c.strip_at.result.now ≡ strip numbers len p.0 =
+    same_by_places c.strip_at.result.now (strip numbers len p.0) (c.strip_at.ensures.long ∙ s ∙ sym low_long)
+    (λ a h. let m = c.strip_at.ensures.long ∙ s in c.strip_at.ensures.entries a (omega arith) ∙ ap (λ z. get_or numbers (p.0 * z + a) 0) s ∙ sym (strip_at numbers len p.0 a (omega arith))) in
+    let upper : c.strip_at-in-loop-pair.result.now ≡ strip numbers len p.1 =
+    same_by_places c.strip_at-in-loop-pair.result.now (strip numbers len p.1) (c.strip_at-in-loop-pair.ensures.long ∙ s ∙ sym high_long)
+    (λ a h. let m = c.strip_at-in-loop-pair.ensures.long ∙ s in c.strip_at-in-loop-pair.ensures.entries a (omega arith) ∙ ap (λ z. get_or numbers (p.1 * z + a) 0) s ∙ sym (strip_at numbers len p.1 a (omega arith))) in
+    c.in_ok-extend_from_slice-2.ensures.items ∙ (λ z. (c.in_ok-extend_from_slice.ensures.items z) ++ upper z) ∙ (λ z. (c.loop-pair.invariant z ++ lower z) ++ strip numbers len p.1)
+    ∙ ap (λ us. us ++ strip numbers len p.1) (sym (unrolled_more (names_of (take j pairs)) numbers len p.0))
+    ∙ sym (unrolled_more (names_of (take j pairs) ++ p.0 ∷ []) numbers len p.1)
+    ∙ ap (λ us. unrolled us numbers len) (sym (names_more (take j pairs) p) ∙ ap names_of (sym (take_more pairs j (0, 0) small)))
 
-pub returns-clause-long : goal.returns-clause-long
-returns-clause-long c =
-    let l = numbered_place c.args.outer.now c.args.numbered.now c.args.rank c.requires.numbered in
-    let m = length-pairs c.args.outer.now (2 ^ c.args.rank) in
-    let t = c.loop-j-test.false in
-    paired_all (places.pairs c.args.outer.now (2 ^ c.args.rank)) c.args.numbers.now (2 ^ c.args.bits) (pow_pos c.args.bits) c.loop-j.paired.items c.loop-j.j (omega arith) c.loop-j.invariant
-
-pub returns-clause-lower : goal.returns-clause-lower
-returns-clause-lower c = λ j a h i.
-    let l = numbered_place c.args.outer.now c.args.numbered.now c.args.rank c.requires.numbered in
-    let m = length-pairs c.args.outer.now (2 ^ c.args.rank) in
-    let t = c.loop-j-test.false in
-    let n = number_at (places.pairs c.args.outer.now (2 ^ c.args.rank)) c.args.numbered.now j c.requires.numbered (omega arith) in
-    let s = pair_listed c.args.outer.now (2 ^ c.args.rank) j h in
-    ap (λ k. get_or c.loop-j.paired.items (k * (2 * 2 ^ c.args.bits) + a) 0) n ∙ (c.loop-j.invariant.stand j (omega arith) a i).0 ∙ (λ k. get_or c.args.numbers.now ((s k).0 * 2 ^ c.args.bits + a) 0)
-
-pub returns-clause-upper : goal.returns-clause-upper
-returns-clause-upper c = λ j a h i.
-    let l = numbered_place c.args.outer.now c.args.numbered.now c.args.rank c.requires.numbered in
-    let m = length-pairs c.args.outer.now (2 ^ c.args.rank) in
-    let t = c.loop-j-test.false in
-    let n = number_at (places.pairs c.args.outer.now (2 ^ c.args.rank)) c.args.numbered.now j c.requires.numbered (omega arith) in
-    let s = pair_listed c.args.outer.now (2 ^ c.args.rank) j h in
-    ap (λ k. get_or c.loop-j.paired.items (k * (2 * 2 ^ c.args.bits) + 2 ^ c.args.bits + a) 0) n ∙ (c.loop-j.invariant.stand j (omega arith) a i).1 ∙ (λ k. get_or c.args.numbers.now ((s k).1 * 2 ^ c.args.bits + a) 0)
+pub returns : goal.returns
+returns c =
+    let t = c.loop-pair-test.false in
+    c.loop-pair.invariant ∙ ap (λ us. unrolled (names_of us) c.args.numbers.now (2 ^ c.args.bits)) (take_all c.loop-pair.pair-index c.args.pairs.now (omega arith))
