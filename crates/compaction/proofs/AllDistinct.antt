@@ -18,7 +18,7 @@ use Rattle.order_model.proofs.OrderLists.{has_variables}
 use Rattle.compaction.specs.Dependence.{joined_mask}
 use Rattle.compaction.specs.Places.{low_place, pairs}
 use Rattle.compaction.specs.Rows.{width_wanted}
-use Rattle.compaction.specs.Strips.{AreDistinct, AreStrips, HoldsStrips, HoldsTable, TellsPairs, masks_in_use, unrolled}
+use Rattle.compaction.specs.Strips.{AreUsed, AreDistinct, AreStrips, HoldsStrips, HoldsTable, TellsPairs, masks_in_use, unrolled}
 use Rattle.compaction.specs.Table.{ClassesOf, HoldsKeys, with_variable, functions_of, set_of, free_below}
 use Rattle.compaction.proofs.Counted.{length_filter_map}
 use Rattle.compaction.proofs.Index.{length-pairs, pair_listed, pair_within}
@@ -192,10 +192,14 @@ distinct_strips t low outer numbers masks h exact own counted full = record {
         ∙ counted i (omega arith) ∙ sym (at_range (length numbers) i (omega arith)))
 
 -- which of both a table holds
-pub table_strips : (t : ClassesOf) (low : ℕ) (distinct : Option ℕ) (outer numbers masks : List ℕ) → HoldsTable t low distinct outer numbers masks → distinct ≡ None → HoldsStrips t low outer numbers masks
+pub table_strips : (t : ClassesOf) (low : ℕ) (distinct : Option ℕ) (all_used : Bool) (outer numbers masks : List ℕ) → HoldsTable t low distinct all_used outer numbers masks → distinct ≡ None → HoldsStrips t low outer numbers masks
 unfolding HoldsTable
-table_strips t low distinct outer numbers masks h e = subst (λ d. HoldsTable t low d outer numbers masks) e h
+table_strips t low distinct all_used outer numbers masks h e = (subst (λ d. HoldsTable t low d all_used outer numbers masks) e h).0
 
-pub table_distinct : (t : ClassesOf) (low : ℕ) (distinct : Option ℕ) (count : ℕ) (outer numbers masks : List ℕ) → HoldsTable t low distinct outer numbers masks → distinct ≡ Some count → AreDistinct t count
+pub table_used : (t : ClassesOf) (low : ℕ) (distinct : Option ℕ) (all_used : Bool) (outer numbers masks : List ℕ) → HoldsTable t low distinct all_used outer numbers masks → distinct ≡ None → all_used ≡ true → AreUsed numbers masks
 unfolding HoldsTable
-table_distinct t low distinct count outer numbers masks h e = subst (λ d. HoldsTable t low d outer numbers masks) e h
+table_used t low distinct all_used outer numbers masks h e = (subst (λ d. HoldsTable t low d all_used outer numbers masks) e h).1
+
+pub table_distinct : (t : ClassesOf) (low : ℕ) (distinct : Option ℕ) (count : ℕ) (all_used : Bool) (outer numbers masks : List ℕ) → HoldsTable t low distinct all_used outer numbers masks → distinct ≡ Some count → AreDistinct t count
+unfolding HoldsTable
+table_distinct t low distinct count all_used outer numbers masks h e = subst (λ d. HoldsTable t low d all_used outer numbers masks) e h

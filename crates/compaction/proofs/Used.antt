@@ -1,5 +1,6 @@
 -- The masks of the numbers that occur, and the widths that follow from them.
 --     in_use_more      one more mask
+--     all_in_use, ranks_used      where each mask is that of a number that occurs; numbers by first occurrence
 --     width_by_use      a width is the number of masks in use that have the variable
 use Rattle.std.proofs.Common.{◌≡◌, ℕ, zero, suc, ◌+◌, ◌*◌, ◌/◌, ◌%◌, ◌^◌, ◌<◌, ◌≤◌, Bool, true, false, cond, eqb, eq-eqb, ne_eqb, nat_eq, inl, inr, List, [], ◌∷◌, ◌++◌, map, length, reverse, get_or, refl, sym, ap, ◌∙◌, subst, arith}
 use Rattle.std.specs.Int.{bit_at}
@@ -16,17 +17,17 @@ use Rattle.std.proofs.lemmas.Map.Made.{distinct_count-from_IsDistinct}
 use Rattle.order_model.specs.Functions.{Function, same_table}
 use Rattle.order_model.specs.Levels.{reach}
 use Rattle.order_model.specs.Orders.{has, variables, without}
-use Rattle.order_model.specs.Widths.{class_numbers, class_of, entries, outside, width}
+use Rattle.order_model.specs.Widths.{same_pair, class_numbers, class_of, entries, outside, width}
 use Rattle.order_model.proofs.Masks.{has_members}
 use Rattle.order_model.proofs.OrderLists.{has_variables, same_bool}
-use Rattle.order_model.proofs.ClassPairs.{count_alike, rank_apart}
+use Rattle.order_model.proofs.ClassPairs.{count_alike, pair_decides, rank_apart}
 use Rattle.order_model.proofs.Recurrence.{distinct_filter, distinct_variables}
-use Rattle.order_model.proofs.Sets.{Among, Within, among_filter, among_from_filter, among_from_member, member_from_among, count_same}
+use Rattle.order_model.proofs.Sets.{Among, Within, among_filter, among_from_filter, among_from_member, among_map, member_from_among, count_same}
 use Rattle.order_model.proofs.Tables.{same_table_decides}
 use Rattle.compaction.specs.Dependence.{AreMasks, dependence}
 use Rattle.compaction.specs.Numbering.{rank, ranks}
 use Rattle.compaction.specs.Rows.{width_wanted}
-use Rattle.compaction.specs.Strips.{AreStrips, HoldsStrips, masks_in_use, unrolled}
+use Rattle.compaction.specs.Strips.{AreStrips, AreUsed, HoldsStrips, masks_in_use, unrolled}
 use Rattle.compaction.specs.Table.{ClassesOf, functions_of, set_of, free_below}
 use Rattle.compaction.proofs.Compacted.{range_parts, filter_range_same}
 use Rattle.compaction.proofs.Counted.{among_variables, distinct_by_numbers, length_filter_map, map_map, nat_decides, width_is_dependent_classes}
@@ -190,6 +191,24 @@ strips_hold outer numbers len some s k = same_bool _ _ (λ h. member_from_among 
 pub in_use_strips : (outer numbers : List ℕ) (len : ℕ) → 0 < len → AreStrips outer numbers len → (masks : List ℕ) → masks_in_use numbers masks ≡ masks_in_use (unrolled outer numbers len) masks
 unfolding masks_in_use
 in_use_strips outer numbers len some s masks = ap (map (λ k. get_or masks k 0)) (in_use_same (has numbers) (has (unrolled outer numbers len)) (length masks) (λ k h. strips_hold outer numbers len some s k))
+
+-- where each mask is that of a number that occurs they are all in use
+pub all_in_use : (numbers masks : List ℕ) → AreUsed numbers masks → masks_in_use numbers masks ≡ masks
+unfolding masks_in_use
+all_in_use numbers masks h =
+    ap (map (λ k. get_or masks k 0)) (in_use_same (has numbers) (λ k. true) (length masks) h ∙ kept (variables (length masks)))
+    ∙ sym (fill_by_all (λ k. get_or masks k 0) masks (length masks) 0 refl (λ k l. refl))
+  where
+    kept : (xs : List ℕ) → filter (λ k. true) xs ≡ xs
+    kept [] = refl
+    kept (x ∷ xs) = ap (λ us. x ∷ us) (kept xs)
+
+-- numbers by first occurrence occur, all of them
+pub ranks_used : (ps : List (ℕ × ℕ)) (numbers masks : List ℕ) → numbers ≡ ranks same_pair ps → length masks ≡ distinct_count same_pair ps → AreUsed numbers masks
+unfolding ranks
+ranks_used ps numbers masks e m k l =
+    let t = rank_reached same_pair pair_decides ps k (omega arith) in
+    member_from_among nat_eq nat_decides numbers k (subst (Among k) (sym e) (subst (λ z. Among z (map (rank same_pair ps) ps)) t.2 (among_map (rank same_pair ps) t.0 ps t.1)))
 
 pub few_in_use : (numbers masks : List ℕ) → length (masks_in_use numbers masks) ≤ length masks
 unfolding masks_in_use

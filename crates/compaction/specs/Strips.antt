@@ -5,11 +5,12 @@
 --     AreNamed, AreStrips      each strip is whole; each is used, too
 --     TellsPairs      numbers by which pairs are told apart, and the mask of each
 --     masks_in_use numbers masks      the masks of the numbers that occur, rising
+--     AreUsed numbers masks      each mask is that of a number that occurs
 --     HoldsStrips t low outer numbers masks      the unrolled table holds the keys of t; `low` parts the variables
 --     AreDistinct t count      all subfunctions are distinct and depend on the whole set
 --     HoldsTable      either of them
 --     HoldsBytes t low outer bytes rows masks      strips whose entries stand in rows, which bytes name: a row has an entry for each assignment of the variables below 3 outside the set
-use Rattle.std.specs.Prelude.{◌≡◌, ℕ, ◌*◌, ◌^◌, ◌<◌, ◌≤◌, min, List, [], ◌∷◌, Option, None, Some, map, take, drop, length, get_or}
+use Rattle.std.specs.Prelude.{◌≡◌, ℕ, ◌*◌, ◌^◌, ◌<◌, ◌≤◌, Bool, IsTrue, min, List, [], ◌∷◌, Option, None, Some, map, take, drop, length, get_or}
 use Rattle.std.specs.List.{filter, flat_map, range_with_len}
 use Rattle.order_model.specs.Orders.{has, variables}
 use Rattle.order_model.specs.Problems.{TruthTables}
@@ -58,6 +59,10 @@ pub record TellsPairs (masks : List ℕ) (x : ℕ) (ps : List (ℕ × ℕ)) (num
 unfoldable pub masks_in_use : List ℕ → List ℕ → List ℕ
 masks_in_use numbers masks = map (λ k. get_or masks k 0) (filter (has numbers) (variables (length masks)))
 
+-- each mask is that of a number that occurs
+abbrev pub AreUsed : List ℕ → List ℕ → Type 0
+AreUsed numbers masks = (k : ℕ) → k < length masks → IsTrue (has numbers k)
+
 -- a strip has an entry for each assignment of the variables below `low` outside the set
 pub record HoldsStrips (t : ClassesOf) (low : ℕ) (outer numbers masks : List ℕ) : Type 0 where
   pub strips : AreStrips outer numbers (2 ^ free_below t.set low)
@@ -72,10 +77,10 @@ pub record AreDistinct (t : ClassesOf) (count : ℕ) : Type 0 where
   pub keys : HoldsKeys t (range_with_len 0 count) masks
   pub full : (i : ℕ) → i < count → get_or masks i 0 ≡ t.set
 
--- where all are distinct nothing else is kept
-unfoldable pub HoldsTable : ClassesOf → ℕ → Option ℕ → List ℕ → List ℕ → List ℕ → Type 0
-HoldsTable t low None outer numbers masks = HoldsStrips t low outer numbers masks
-HoldsTable t low (Some count) outer numbers masks = AreDistinct t count
+-- where all are distinct nothing else is kept; else it may be known that all masks are used
+unfoldable pub HoldsTable : ClassesOf → ℕ → Option ℕ → Bool → List ℕ → List ℕ → List ℕ → Type 0
+HoldsTable t low None all_used outer numbers masks = HoldsStrips t low outer numbers masks × (IsTrue all_used → AreUsed numbers masks)
+HoldsTable t low (Some count) all_used outer numbers masks = AreDistinct t count
 
 -- the strips' entries stand in rows, which `bytes` name
 pub record HoldsBytes (t : ClassesOf) (low : ℕ) (outer bytes rows masks : List ℕ) : Type 0 where

@@ -116,6 +116,7 @@ impl<'a> ByteKeys<'a> {
             self.outer,
             numbers,
             self.masks,
+            false,
         ))
     }
 }

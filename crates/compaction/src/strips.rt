@@ -9,25 +9,26 @@ ghost use Rattle.order_model.specs.Widths.{same_pair};
 ghost use Rattle.compaction.specs.Chains.{lower_at, upper_at};
 ghost use Rattle.compaction.specs.Numbering.{ranks};
 ghost use Rattle.compaction.specs.Places as places;
-ghost use Rattle.compaction.specs.Strips.{AreNamed, AreStrips, TellsPairs, masks_in_use, names_of, unrolled, low_variables as low_of};
+ghost use Rattle.compaction.specs.Strips.{AreNamed, AreStrips, AreUsed, TellsPairs, masks_in_use, names_of, unrolled, low_variables as low_of};
 
 use crate::classes::{rank_of, row_of};
 use crate::columns::{ValueStrips, whole_strips};
 use crate::keys::{MOST_JOINED, join_key_masks, join_keys};
-use crate::numbering::{Numbered, number_pairs, number_pairs_with_masks};
+use crate::numbering::{number_pairs, number_pairs_with_masks};
 use order_model::{Mask, Problem, VarIx};
 use std::alloc::{AllocError, Global};
 use std::marker::Model;
 
 /// The keys of a set in strips: equal subfunctions have one key, and each key that occurs has the mask of what its function
 /// depends on. A strip has an entry for each assignment of the low variables outside the set; `outer` names the strip of each
-/// assignment of the high ones, function by function. Where all subfunctions are distinct and depend on the whole set their
-/// count is kept alone.
+/// assignment of the high ones, function by function. Where `all_used` is true each mask is that of a key that occurs. Where all
+/// subfunctions are distinct and depend on the whole set their count is kept alone.
 #[derive(Drop)]
 pub struct Strips<'a> {
     problem: &'a Problem,
     set: Mask,
     distinct: Option<u32>,
+    all_used: bool,
     outer: Vec<u32>,
     numbers: Vec<u32>,
     masks: Vec<u16>,
@@ -41,15 +42,25 @@ impl<'a> Model for Strips<'a> {
 
     ghost view = { λ c. classes_of c.problem.now c.set };
 
-    ghost invariant = { λ c. HoldsTable (classes_of c.problem.now c.set) (low_variables c.problem.now) c.distinct c.outer.items c.numbers.items c.masks.items };
+    ghost invariant = { λ c. HoldsTable (classes_of c.problem.now c.set) (low_variables c.problem.now) c.distinct c.all_used c.outer.items c.numbers.items c.masks.items };
 }
 
-/// Strips, the names of the runs, and the mask of each number.
+/// Numbers that tell pairs apart, and the mask of each. Where `all_used` is true each mask is that of a number that occurs.
+#[derive(Drop)]
+pub struct Told {
+    pub numbers: Vec<u32>,
+    pub masks: Vec<u16>,
+    pub all_used: bool,
+}
+
+/// Strips, the names of the runs, and the mask of each number. Where `all_used` is true each mask is that of a number that
+/// occurs.
 #[derive(Drop)]
 struct Grown {
     outer: Vec<u32>,
     numbers: Vec<u32>,
     masks: Vec<u16>,
+    all_used: bool,
 }
 
 /// How many variables are low.
@@ -66,26 +77,32 @@ pub fn tell_pairs(
     rank: u32,
     x: u8,
     masks: &[u16],
-) -> Result<Numbered, AllocError>
+) -> Result<Told, AllocError>
     requires rank { rank < 16 }
     requires variable { x < 16 }
     requires len { length numbers.now ≤ 2 ^ 20 }
     requires whole { (blocks : ℕ) × (length numbers.now ≡ blocks * (2 * 2 ^ rank)) }
     requires classes { (i : ℕ) → i < length numbers.now → slice_index numbers.now i < length masks.now }
     requires few { length masks.now ≤ 2 ^ 20 }
-    ensures { IfOk result (λ v. TellsPairs masks.now x (places.pairs numbers.now (2 ^ rank)) v.numbers.items v.masks.items) }
+    ensures tells { IfOk result (λ v. TellsPairs masks.now x (places.pairs numbers.now (2 ^ rank)) v.numbers.items v.masks.items) }
+    ensures used { IfOk result (λ v. IsTrue v.all_used → AreUsed v.numbers.items v.masks.items) }
 {
     let base = masks.len();
     if base <= MOST_JOINED {
         let keys = join_keys(alloc, numbers, rank, base as u32)?;
         let joined = join_key_masks(alloc, masks, x)?;
-        return Ok(Numbered {
+        return Ok(Told {
             numbers: keys,
             masks: joined,
+            all_used: false,
         });
     }
     let numbered = number_pairs_with_masks(alloc, numbers, rank, x, masks)?;
-    Ok(numbered)
+    Ok(Told {
+        numbers: numbered.numbers,
+        masks: numbered.masks,
+        all_used: true,
+    })
 }
 
 /// A strip.
@@ -159,6 +176,7 @@ fn add_in_order(
     ensures tells { IfOk result (λ g. TellsPairs masks.now x (places.pairs (unrolled outer.now numbers.now (2 ^ bits)) (2 ^ bits * 2 ^ rank)) (unrolled g.outer.items g.numbers.items (2 ^ bits)) g.masks.items) }
     ensures below { IfOk result (λ g. (i : ℕ) → i < length g.numbers.items → slice_index g.numbers.items i < length g.masks.items) }
     ensures few { IfOk result (λ g. length g.numbers.items ≤ 2 ^ 20) }
+    ensures used { IfOk result (λ g. IsTrue g.all_used → AreUsed g.numbers.items g.masks.items) }
 {
     let told = tell_pairs(alloc, numbers, bits + rank, x, masks)?;
     let outer = first_numbers(alloc, outer.len() / 2)?;
@@ -166,6 +184,7 @@ fn add_in_order(
         outer,
         numbers: told.numbers,
         masks: told.masks,
+        all_used: told.all_used,
     })
 }
 
@@ -191,6 +210,7 @@ fn add_by_pairs(
     ensures tells { IfOk result (λ g. TellsPairs masks.now x (places.pairs (unrolled outer.now numbers.now (2 ^ bits)) (2 ^ bits * 2 ^ rank)) (unrolled g.outer.items g.numbers.items (2 ^ bits)) g.masks.items) }
     ensures below { IfOk result (λ g. (i : ℕ) → i < length g.numbers.items → slice_index g.numbers.items i < length g.masks.items) }
     ensures few { IfOk result (λ g. length g.numbers.items ≤ 2 ^ 20) }
+    ensures used { IfOk result (λ g. IsTrue g.all_used → AreUsed g.numbers.items g.masks.items) }
 {
     let runs = number_pairs(alloc, outer, rank, numbers.len() >> bits)?;
     let paired = pair_strips(alloc, &runs.pairs, numbers, bits)?;
@@ -199,6 +219,7 @@ fn add_by_pairs(
         outer: runs.numbers,
         numbers: told.numbers,
         masks: told.masks,
+        all_used: told.all_used,
     })
 }
 
@@ -224,6 +245,7 @@ fn add_above(
     ensures tells { IfOk result (λ g. TellsPairs masks.now x (places.pairs (unrolled outer.now numbers.now (2 ^ bits)) (2 ^ bits * 2 ^ rank)) (unrolled g.outer.items g.numbers.items (2 ^ bits)) g.masks.items) }
     ensures below { IfOk result (λ g. (i : ℕ) → i < length g.numbers.items → slice_index g.numbers.items i < length g.masks.items) }
     ensures few { IfOk result (λ g. length g.numbers.items ≤ 2 ^ 20) }
+    ensures used { IfOk result (λ g. IsTrue g.all_used → AreUsed g.numbers.items g.masks.items) }
 {
     let grown = if count_up(outer) {
         add_in_order(alloc, outer, rank, numbers, bits, x, masks)?
@@ -321,8 +343,10 @@ impl<'a> Strips<'a> {
         outer: Vec<u32>,
         numbers: Vec<u32>,
         masks: Vec<u16>,
+        all_used: bool,
     ) -> Strips<'a>
-        requires { HoldsStrips (classes_of problem.now set) (low_variables problem.now) outer.items numbers.items masks.items }
+        requires holds { HoldsStrips (classes_of problem.now set) (low_variables problem.now) outer.items numbers.items masks.items }
+        requires used { IsTrue all_used → AreUsed numbers.items masks.items }
         ensures { result ≡ classes_of problem.now set }
     {
         if all_distinct(&outer, &numbers, &masks, set) {
@@ -332,6 +356,7 @@ impl<'a> Strips<'a> {
             problem,
             set,
             distinct: None,
+            all_used,
             outer,
             numbers,
             masks,
@@ -347,6 +372,7 @@ impl<'a> Strips<'a> {
             problem,
             set,
             distinct: Some(count),
+            all_used: false,
             outer: Vec::new(alloc),
             numbers: Vec::new(alloc),
             masks: Vec::new(alloc),
@@ -363,7 +389,9 @@ impl<'a> Strips<'a> {
         let mut masks = Vec::with_capacity(alloc, 2)?;
         masks.push(0)?;
         masks.push(0)?;
-        Ok(Strips::of_parts(alloc, problem, 0, outer, numbers, masks))
+        Ok(Strips::of_parts(
+            alloc, problem, 0, outer, numbers, masks, false,
+        ))
     }
 
     /// How many variables are low.
@@ -399,6 +427,7 @@ impl<'a> Strips<'a> {
                     self.outer,
                     told.numbers,
                     told.masks,
+                    told.all_used,
                 );
                 Ok(strips)
             }
@@ -435,6 +464,7 @@ impl<'a> Strips<'a> {
                     grown.outer,
                     grown.numbers,
                     grown.masks,
+                    grown.all_used,
                 );
                 Ok(strips)
             }
@@ -449,6 +479,9 @@ impl<'a> Strips<'a> {
         match self.distinct {
             Some(count) => Ok(same_row(count, wanted)),
             None => {
+                if self.all_used {
+                    return Ok(row_of(&self.masks, wanted));
+                }
                 let used = used_masks(alloc, &self.numbers, &self.masks)?;
                 Ok(row_of(&used, wanted))
             }

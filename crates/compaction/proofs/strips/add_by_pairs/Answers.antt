@@ -51,7 +51,7 @@ returns-clause-strips c =
     (paired_lower c.args.outer.now c.args.numbers.now (2 ^ c.args.bits) c.args.rank c.requires.strips c.requires.whole c.in_ok-runs.runs.numbers.items c.in_ok-runs.runs.pairs.items c.in_ok-runs.ensures.numbers c.in_ok-runs.ensures.many c.in_ok-runs.ensures.told c.in_ok-paired.paired.items (c.in_ok-paired.ensures ∙ ap (λ us. unrolled (names_of us) c.args.numbers.now (2 ^ c.args.bits)) c.deref.ensures.value))
     (paired_upper c.args.outer.now c.args.numbers.now (2 ^ c.args.bits) c.args.rank c.requires.strips c.requires.whole c.in_ok-runs.runs.numbers.items c.in_ok-runs.runs.pairs.items c.in_ok-runs.ensures.numbers c.in_ok-runs.ensures.many c.in_ok-runs.ensures.told c.in_ok-paired.paired.items (c.in_ok-paired.ensures ∙ ap (λ us. unrolled (names_of us) c.args.numbers.now (2 ^ c.args.bits)) c.deref.ensures.value))
     c.args.masks.now c.args.x c.in_ok-told.told.numbers.items c.in_ok-told.told.masks.items
-    (subst (λ us. TellsPairs c.args.masks.now c.args.x (places.pairs us (2 ^ c.args.bits)) c.in_ok-told.told.numbers.items c.in_ok-told.told.masks.items) c.deref-2.ensures.value c.in_ok-told.ensures)
+    (subst (λ us. TellsPairs c.args.masks.now c.args.x (places.pairs us (2 ^ c.args.bits)) c.in_ok-told.told.numbers.items c.in_ok-told.told.masks.items) c.deref-2.ensures.value c.in_ok-told.ensures.tells)
 
 pub returns-clause-tells : goal.returns-clause-tells
 returns-clause-tells c =
@@ -61,16 +61,16 @@ returns-clause-tells c =
     (paired_lower c.args.outer.now c.args.numbers.now (2 ^ c.args.bits) c.args.rank c.requires.strips c.requires.whole c.in_ok-runs.runs.numbers.items c.in_ok-runs.runs.pairs.items c.in_ok-runs.ensures.numbers c.in_ok-runs.ensures.many c.in_ok-runs.ensures.told c.in_ok-paired.paired.items (c.in_ok-paired.ensures ∙ ap (λ us. unrolled (names_of us) c.args.numbers.now (2 ^ c.args.bits)) c.deref.ensures.value))
     (paired_upper c.args.outer.now c.args.numbers.now (2 ^ c.args.bits) c.args.rank c.requires.strips c.requires.whole c.in_ok-runs.runs.numbers.items c.in_ok-runs.runs.pairs.items c.in_ok-runs.ensures.numbers c.in_ok-runs.ensures.many c.in_ok-runs.ensures.told c.in_ok-paired.paired.items (c.in_ok-paired.ensures ∙ ap (λ us. unrolled (names_of us) c.args.numbers.now (2 ^ c.args.bits)) c.deref.ensures.value))
     c.args.masks.now c.args.x c.in_ok-told.told.numbers.items c.in_ok-told.told.masks.items
-    (subst (λ us. TellsPairs c.args.masks.now c.args.x (places.pairs us (2 ^ c.args.bits)) c.in_ok-told.told.numbers.items c.in_ok-told.told.masks.items) c.deref-2.ensures.value c.in_ok-told.ensures)
+    (subst (λ us. TellsPairs c.args.masks.now c.args.x (places.pairs us (2 ^ c.args.bits)) c.in_ok-told.told.numbers.items c.in_ok-told.told.masks.items) c.deref-2.ensures.value c.in_ok-told.ensures.tells)
 
 pub returns-clause-below : goal.returns-clause-below
-returns-clause-below c = names_below c.args.masks.now c.args.x (places.pairs c.deref-2.result.now (2 ^ c.args.bits)) c.in_ok-told.told.numbers.items c.in_ok-told.told.masks.items c.in_ok-told.ensures
+returns-clause-below c = names_below c.args.masks.now c.args.x (places.pairs c.deref-2.result.now (2 ^ c.args.bits)) c.in_ok-told.told.numbers.items c.in_ok-told.told.masks.items c.in_ok-told.ensures.tells
 
 pub returns-clause-few : goal.returns-clause-few
 returns-clause-few c =
     let v = ap length c.deref-2.ensures.value in
     let l = c.requires.len in
     let p = paired_few c.args.outer.now c.args.numbers.now (2 ^ c.args.bits) c.args.rank c.requires.strips c.requires.whole c.in_ok-runs.runs.numbers.items c.in_ok-runs.runs.pairs.items c.in_ok-runs.ensures.numbers c.in_ok-runs.ensures.many c.in_ok-runs.ensures.told c.in_ok-paired.paired.items (c.in_ok-paired.ensures ∙ ap (λ us. unrolled (names_of us) c.args.numbers.now (2 ^ c.args.bits)) c.deref.ensures.value) in
-    let n = length_names c.args.masks.now c.args.x (places.pairs c.deref-2.result.now (2 ^ c.args.bits)) c.in_ok-told.told.numbers.items c.in_ok-told.told.masks.items c.in_ok-told.ensures in
+    let n = length_names c.args.masks.now c.args.x (places.pairs c.deref-2.result.now (2 ^ c.args.bits)) c.in_ok-told.told.numbers.items c.in_ok-told.told.masks.items c.in_ok-told.ensures.tells in
     let m = length-pairs c.deref-2.result.now (2 ^ c.args.bits) in
     omega arith

@@ -36,6 +36,6 @@ invariant_of-result c =
     let k = bytes_more c.args.self c.args.x (omega arith) c.requires.new n c.self.inside.outer.items c.self.inside.bytes.items c.self.inside.rows.items c.self.inside.masks.items h told.numbers.items told.masks.items
     (subst (λ us. TellsPairs us c.args.x (places.pairs c.self.inside.rows.items (2 ^ free_below c.args.self.set c.args.x)) told.numbers.items told.masks.items) c.deref-2.ensures.value
     (subst (λ us. TellsPairs c.deref-2.result.now c.args.x (places.pairs us (2 ^ free_below c.args.self.set c.args.x)) told.numbers.items told.masks.items) c.deref.ensures.value
-    (subst (λ r. TellsPairs c.deref-2.result.now c.args.x (places.pairs c.deref.result.now (2 ^ r)) told.numbers.items told.masks.items) e c.in_ok-told.ensures))) in
+    (subst (λ r. TellsPairs c.deref-2.result.now c.args.x (places.pairs c.deref.result.now (2 ^ r)) told.numbers.items told.masks.items) e c.in_ok-told.ensures.tells))) in
     subst (λ (z : ClassesOf). HoldsBytes z 8 c.self.inside.outer.items c.self.inside.bytes.items told.numbers.items told.masks.items)
     (λ z. classes_of (sym c.self.view_is z).problem (bit_or (sym c.self.view_is z).set (sym s z))) k

@@ -18,7 +18,7 @@ overflow_sub-rank c =
 
 pub add_above-requires-clause-steps : goal.add_above-requires-clause-steps
 add_above-requires-clause-steps c =
-    let h = table_strips c.args.self.now (low_variables c.args.self.now.problem) c.self.inside.distinct c.self.inside.outer.items c.self.inside.numbers.items c.self.inside.masks.items (subst (λ (z : ClassesOf). HoldsTable z (low_variables z.problem) c.self.inside.distinct c.self.inside.outer.items c.self.inside.numbers.items c.self.inside.masks.items) c.self.view_is c.self.invariant) c.in-None.is in
+    let h = table_strips c.args.self.now (low_variables c.args.self.now.problem) c.self.inside.distinct c.self.inside.all_used c.self.inside.outer.items c.self.inside.numbers.items c.self.inside.masks.items (subst (λ (z : ClassesOf). HoldsTable z (low_variables z.problem) c.self.inside.distinct c.self.inside.all_used c.self.inside.outer.items c.self.inside.numbers.items c.self.inside.masks.items) c.self.view_is c.self.invariant) c.in-None.is in
     let e = c.rank_of.ensures ∙ ap (λ (z : ClassesOf). free_below z.set c.args.x) c.self.view_is in
     let r = rank_few c.args.self.now c.args.x c.requires.inside c.requires.new (low_variables c.args.self.now.problem) c.self.inside.outer.items c.self.inside.numbers.items c.self.inside.masks.items h in
     let b = c.rank_of-bits.ensures ∙ ap (free_below c.self.inside.set) c.low_variables.ensures ∙ ap (λ (z : ClassesOf). free_below z.set (low_variables z.problem)) c.self.view_is in
@@ -27,14 +27,14 @@ add_above-requires-clause-steps c =
 
 pub add_above-requires-clause-len : goal.add_above-requires-clause-len
 add_above-requires-clause-len c =
-    let h = table_strips c.args.self.now (low_variables c.args.self.now.problem) c.self.inside.distinct c.self.inside.outer.items c.self.inside.numbers.items c.self.inside.masks.items (subst (λ (z : ClassesOf). HoldsTable z (low_variables z.problem) c.self.inside.distinct c.self.inside.outer.items c.self.inside.numbers.items c.self.inside.masks.items) c.self.view_is c.self.invariant) c.in-None.is in
+    let h = table_strips c.args.self.now (low_variables c.args.self.now.problem) c.self.inside.distinct c.self.inside.all_used c.self.inside.outer.items c.self.inside.numbers.items c.self.inside.masks.items (subst (λ (z : ClassesOf). HoldsTable z (low_variables z.problem) c.self.inside.distinct c.self.inside.all_used c.self.inside.outer.items c.self.inside.numbers.items c.self.inside.masks.items) c.self.view_is c.self.invariant) c.in-None.is in
     let e = c.rank_of-bits.ensures ∙ ap (free_below c.self.inside.set) c.low_variables.ensures ∙ ap (λ (z : ClassesOf). free_below z.set (low_variables z.problem)) c.self.view_is in
     let r = few_runs c.args.self.now c.args.x c.requires.inside c.requires.new (low_variables c.args.self.now.problem) c.self.inside.outer.items c.self.inside.numbers.items c.self.inside.masks.items h in
     subst (λ us. length us * 2 ^ c.rank_of-bits.result ≤ 2 ^ 20) (sym c.deref.ensures.value) (subst (λ k. length c.self.inside.outer.items * 2 ^ k ≤ 2 ^ 20) (sym e) r)
 
 pub add_above-requires-clause-whole : goal.add_above-requires-clause-whole
 add_above-requires-clause-whole c =
-    let h = table_strips c.args.self.now (low_variables c.args.self.now.problem) c.self.inside.distinct c.self.inside.outer.items c.self.inside.numbers.items c.self.inside.masks.items (subst (λ (z : ClassesOf). HoldsTable z (low_variables z.problem) c.self.inside.distinct c.self.inside.outer.items c.self.inside.numbers.items c.self.inside.masks.items) c.self.view_is c.self.invariant) c.in-None.is in
+    let h = table_strips c.args.self.now (low_variables c.args.self.now.problem) c.self.inside.distinct c.self.inside.all_used c.self.inside.outer.items c.self.inside.numbers.items c.self.inside.masks.items (subst (λ (z : ClassesOf). HoldsTable z (low_variables z.problem) c.self.inside.distinct c.self.inside.all_used c.self.inside.outer.items c.self.inside.numbers.items c.self.inside.masks.items) c.self.view_is c.self.invariant) c.in-None.is in
     let b = c.rank_of-bits.ensures ∙ ap (free_below c.self.inside.set) c.low_variables.ensures ∙ ap (λ (z : ClassesOf). free_below z.set (low_variables z.problem)) c.self.view_is in
     let e = c.rank_of.ensures ∙ ap (λ (z : ClassesOf). free_below z.set c.args.x) c.self.view_is in
     let s = free_split c.args.self.now.set (low_variables c.args.self.now.problem) c.args.x c.requires.high in
@@ -42,9 +42,9 @@ add_above-requires-clause-whole c =
     c.requires.high (c.rank_of.result - c.rank_of-bits.result) (omega arith) in
     (w.0, ap length c.deref.ensures.value ∙ w.1)
 
-pub of_parts-strips-requires : goal.of_parts-strips-requires
-of_parts-strips-requires c =
-    let h = table_strips c.args.self.now (low_variables c.args.self.now.problem) c.self.inside.distinct c.self.inside.outer.items c.self.inside.numbers.items c.self.inside.masks.items (subst (λ (z : ClassesOf). HoldsTable z (low_variables z.problem) c.self.inside.distinct c.self.inside.outer.items c.self.inside.numbers.items c.self.inside.masks.items) c.self.view_is c.self.invariant) c.in-None.is in
+pub of_parts-strips-requires-clause-holds : goal.of_parts-strips-requires-clause-holds
+of_parts-strips-requires-clause-holds c =
+    let h = table_strips c.args.self.now (low_variables c.args.self.now.problem) c.self.inside.distinct c.self.inside.all_used c.self.inside.outer.items c.self.inside.numbers.items c.self.inside.masks.items (subst (λ (z : ClassesOf). HoldsTable z (low_variables z.problem) c.self.inside.distinct c.self.inside.all_used c.self.inside.outer.items c.self.inside.numbers.items c.self.inside.masks.items) c.self.view_is c.self.invariant) c.in-None.is in
     let b = c.rank_of-bits.ensures ∙ ap (free_below c.self.inside.set) c.low_variables.ensures ∙ ap (λ (z : ClassesOf). free_below z.set (low_variables z.problem)) c.self.view_is in
     let e = c.rank_of.ensures ∙ ap (λ (z : ClassesOf). free_below z.set c.args.x) c.self.view_is in
     let s = free_split c.args.self.now.set (low_variables c.args.self.now.problem) c.args.x c.requires.high in
@@ -67,7 +67,7 @@ of_parts-strips-requires c =
 
 pub of_count-requires : goal.of_count-requires
 of_count-requires c =
-    let d = (table_distinct c.args.self.now (low_variables c.args.self.now.problem) c.self.inside.distinct c.in-Some.count c.self.inside.outer.items c.self.inside.numbers.items c.self.inside.masks.items (subst (λ (z : ClassesOf). HoldsTable z (low_variables z.problem) c.self.inside.distinct c.self.inside.outer.items c.self.inside.numbers.items c.self.inside.masks.items) c.self.view_is c.self.invariant) c.in-Some.is) in
+    let d = (table_distinct c.args.self.now (low_variables c.args.self.now.problem) c.self.inside.distinct c.in-Some.count c.self.inside.all_used c.self.inside.outer.items c.self.inside.numbers.items c.self.inside.masks.items (subst (λ (z : ClassesOf). HoldsTable z (low_variables z.problem) c.self.inside.distinct c.self.inside.all_used c.self.inside.outer.items c.self.inside.numbers.items c.self.inside.masks.items) c.self.view_is c.self.invariant) c.in-Some.is) in
     let few = d.keys.few_inputs in
     let i' = c.requires.inside in
     let s = one_shl c.args.x 16 (omega arith) in
@@ -76,28 +76,28 @@ of_count-requires c =
 
 pub add_above-requires-clause-few : goal.add_above-requires-clause-few
 add_above-requires-clause-few c =
-    let h = table_strips c.args.self.now (low_variables c.args.self.now.problem) c.self.inside.distinct c.self.inside.outer.items c.self.inside.numbers.items c.self.inside.masks.items (subst (λ (z : ClassesOf). HoldsTable z (low_variables z.problem) c.self.inside.distinct c.self.inside.outer.items c.self.inside.numbers.items c.self.inside.masks.items) c.self.view_is c.self.invariant) c.in-None.is in
+    let h = table_strips c.args.self.now (low_variables c.args.self.now.problem) c.self.inside.distinct c.self.inside.all_used c.self.inside.outer.items c.self.inside.numbers.items c.self.inside.masks.items (subst (λ (z : ClassesOf). HoldsTable z (low_variables z.problem) c.self.inside.distinct c.self.inside.all_used c.self.inside.outer.items c.self.inside.numbers.items c.self.inside.masks.items) c.self.view_is c.self.invariant) c.in-None.is in
     let v = ap length c.deref-in-None.ensures.value in
     let f = h.few_numbers in
     omega arith
 
 pub add_above-requires-clause-few_masks : goal.add_above-requires-clause-few_masks
 add_above-requires-clause-few_masks c =
-    let h = table_strips c.args.self.now (low_variables c.args.self.now.problem) c.self.inside.distinct c.self.inside.outer.items c.self.inside.numbers.items c.self.inside.masks.items (subst (λ (z : ClassesOf). HoldsTable z (low_variables z.problem) c.self.inside.distinct c.self.inside.outer.items c.self.inside.numbers.items c.self.inside.masks.items) c.self.view_is c.self.invariant) c.in-None.is in
+    let h = table_strips c.args.self.now (low_variables c.args.self.now.problem) c.self.inside.distinct c.self.inside.all_used c.self.inside.outer.items c.self.inside.numbers.items c.self.inside.masks.items (subst (λ (z : ClassesOf). HoldsTable z (low_variables z.problem) c.self.inside.distinct c.self.inside.all_used c.self.inside.outer.items c.self.inside.numbers.items c.self.inside.masks.items) c.self.view_is c.self.invariant) c.in-None.is in
     let v = ap length c.deref-in-None-2.ensures.value in
     let f = h.keys.few_masks in
     omega arith
 
 pub add_above-requires-clause-strips : goal.add_above-requires-clause-strips
 add_above-requires-clause-strips c =
-    let h = table_strips c.args.self.now (low_variables c.args.self.now.problem) c.self.inside.distinct c.self.inside.outer.items c.self.inside.numbers.items c.self.inside.masks.items (subst (λ (z : ClassesOf). HoldsTable z (low_variables z.problem) c.self.inside.distinct c.self.inside.outer.items c.self.inside.numbers.items c.self.inside.masks.items) c.self.view_is c.self.invariant) c.in-None.is in
+    let h = table_strips c.args.self.now (low_variables c.args.self.now.problem) c.self.inside.distinct c.self.inside.all_used c.self.inside.outer.items c.self.inside.numbers.items c.self.inside.masks.items (subst (λ (z : ClassesOf). HoldsTable z (low_variables z.problem) c.self.inside.distinct c.self.inside.all_used c.self.inside.outer.items c.self.inside.numbers.items c.self.inside.masks.items) c.self.view_is c.self.invariant) c.in-None.is in
     let b = c.rank_of-bits.ensures ∙ ap (free_below c.self.inside.set) c.low_variables.ensures ∙ ap (λ (z : ClassesOf). free_below z.set (low_variables z.problem)) c.self.view_is in
     subst (λ us. AreStrips us c.deref-in-None.result.now (2 ^ c.rank_of-bits.result)) (sym c.deref.ensures.value) (subst (λ us. AreStrips c.self.inside.outer.items us (2 ^ c.rank_of-bits.result)) (sym c.deref-in-None.ensures.value)
     (subst (λ k. AreStrips c.self.inside.outer.items c.self.inside.numbers.items (2 ^ k)) (sym b) h.strips))
 
 pub add_above-requires-clause-below : goal.add_above-requires-clause-below
 add_above-requires-clause-below c =
-    let h = table_strips c.args.self.now (low_variables c.args.self.now.problem) c.self.inside.distinct c.self.inside.outer.items c.self.inside.numbers.items c.self.inside.masks.items (subst (λ (z : ClassesOf). HoldsTable z (low_variables z.problem) c.self.inside.distinct c.self.inside.outer.items c.self.inside.numbers.items c.self.inside.masks.items) c.self.view_is c.self.invariant) c.in-None.is in
+    let h = table_strips c.args.self.now (low_variables c.args.self.now.problem) c.self.inside.distinct c.self.inside.all_used c.self.inside.outer.items c.self.inside.numbers.items c.self.inside.masks.items (subst (λ (z : ClassesOf). HoldsTable z (low_variables z.problem) c.self.inside.distinct c.self.inside.all_used c.self.inside.outer.items c.self.inside.numbers.items c.self.inside.masks.items) c.self.view_is c.self.invariant) c.in-None.is in
     λ i lt.
     let v = c.deref-in-None.ensures.value in
     let l = ap length v in

@@ -10,7 +10,7 @@ use Rattle.compaction.proofs.strips.Strips.add_low.Goals as goal
 pub tell_pairs-requires-clause-rank : goal.tell_pairs-requires-clause-rank
 tell_pairs-requires-clause-rank c =
     let l = c.requires.low in
-    let h = table_strips c.args.self (low_variables c.args.self.problem) c.self.inside.distinct c.self.inside.outer.items c.self.inside.numbers.items c.self.inside.masks.items (subst (λ (z : ClassesOf). HoldsTable z (low_variables z.problem) c.self.inside.distinct c.self.inside.outer.items c.self.inside.numbers.items c.self.inside.masks.items) c.self.view_is c.self.invariant) c.in-None.is in
+    let h = table_strips c.args.self (low_variables c.args.self.problem) c.self.inside.distinct c.self.inside.all_used c.self.inside.outer.items c.self.inside.numbers.items c.self.inside.masks.items (subst (λ (z : ClassesOf). HoldsTable z (low_variables z.problem) c.self.inside.distinct c.self.inside.all_used c.self.inside.outer.items c.self.inside.numbers.items c.self.inside.masks.items) c.self.view_is c.self.invariant) c.in-None.is in
     let e = c.rank_of-rank.ensures ∙ ap (λ (z : ClassesOf). free_below z.set c.args.x) c.self.view_is in
     let r = rank_few c.args.self c.args.x (omega arith) c.requires.new (low_variables c.args.self.problem) c.self.inside.outer.items c.self.inside.numbers.items c.self.inside.masks.items h in
     omega arith
@@ -18,15 +18,15 @@ tell_pairs-requires-clause-rank c =
 pub tell_pairs-requires-clause-whole : goal.tell_pairs-requires-clause-whole
 tell_pairs-requires-clause-whole c =
     let l = c.requires.low in
-    let h = table_strips c.args.self (low_variables c.args.self.problem) c.self.inside.distinct c.self.inside.outer.items c.self.inside.numbers.items c.self.inside.masks.items (subst (λ (z : ClassesOf). HoldsTable z (low_variables z.problem) c.self.inside.distinct c.self.inside.outer.items c.self.inside.numbers.items c.self.inside.masks.items) c.self.view_is c.self.invariant) c.in-None.is in
+    let h = table_strips c.args.self (low_variables c.args.self.problem) c.self.inside.distinct c.self.inside.all_used c.self.inside.outer.items c.self.inside.numbers.items c.self.inside.masks.items (subst (λ (z : ClassesOf). HoldsTable z (low_variables z.problem) c.self.inside.distinct c.self.inside.all_used c.self.inside.outer.items c.self.inside.numbers.items c.self.inside.masks.items) c.self.view_is c.self.invariant) c.in-None.is in
     let e = c.rank_of-rank.ensures ∙ ap (λ (z : ClassesOf). free_below z.set c.args.x) c.self.view_is in
     let w = whole_numbers c.args.self c.args.x (omega arith) c.requires.new (low_variables c.args.self.problem) c.self.inside.outer.items c.self.inside.numbers.items c.self.inside.masks.items h l in
     (w.0, ap length c.deref.ensures.value ∙ w.1 ∙ ap (λ k. w.0 * (2 * 2 ^ k)) (sym e))
 
-pub of_parts-strips-requires : goal.of_parts-strips-requires
-of_parts-strips-requires c =
+pub of_parts-strips-requires-clause-holds : goal.of_parts-strips-requires-clause-holds
+of_parts-strips-requires-clause-holds c =
     let l = c.requires.low in
-    let h = table_strips c.args.self (low_variables c.args.self.problem) c.self.inside.distinct c.self.inside.outer.items c.self.inside.numbers.items c.self.inside.masks.items (subst (λ (z : ClassesOf). HoldsTable z (low_variables z.problem) c.self.inside.distinct c.self.inside.outer.items c.self.inside.numbers.items c.self.inside.masks.items) c.self.view_is c.self.invariant) c.in-None.is in
+    let h = table_strips c.args.self (low_variables c.args.self.problem) c.self.inside.distinct c.self.inside.all_used c.self.inside.outer.items c.self.inside.numbers.items c.self.inside.masks.items (subst (λ (z : ClassesOf). HoldsTable z (low_variables z.problem) c.self.inside.distinct c.self.inside.all_used c.self.inside.outer.items c.self.inside.numbers.items c.self.inside.masks.items) c.self.view_is c.self.invariant) c.in-None.is in
     let e = c.rank_of-rank.ensures ∙ ap (λ (z : ClassesOf). free_below z.set c.args.x) c.self.view_is in
     let few = h.keys.few_inputs in
     let s = one_shl c.args.x 16 (omega arith) in
@@ -36,14 +36,14 @@ of_parts-strips-requires c =
     c.in_ok-told-in-None.told.numbers.items c.in_ok-told-in-None.told.masks.items
     (subst (λ us. TellsPairs us c.args.x (places.pairs c.self.inside.numbers.items (2 ^ free_below c.args.self.set c.args.x)) c.in_ok-told-in-None.told.numbers.items c.in_ok-told-in-None.told.masks.items) m
     (subst (λ us. TellsPairs c.deref-in-None.result.now c.args.x (places.pairs us (2 ^ free_below c.args.self.set c.args.x)) c.in_ok-told-in-None.told.numbers.items c.in_ok-told-in-None.told.masks.items) v
-    (subst (λ r. TellsPairs c.deref-in-None.result.now c.args.x (places.pairs c.deref.result.now (2 ^ r)) c.in_ok-told-in-None.told.numbers.items c.in_ok-told-in-None.told.masks.items) e c.in_ok-told-in-None.ensures))) in
+    (subst (λ r. TellsPairs c.deref-in-None.result.now c.args.x (places.pairs c.deref.result.now (2 ^ r)) c.in_ok-told-in-None.told.numbers.items c.in_ok-told-in-None.told.masks.items) e c.in_ok-told-in-None.ensures.tells))) in
     subst (λ (z : ClassesOf). HoldsStrips z (low_variables z.problem) c.self.inside.outer.items c.in_ok-told-in-None.told.numbers.items c.in_ok-told-in-None.told.masks.items)
     (λ i. classes_of (sym c.self.view_is i).problem (bit_or (sym c.self.view_is i).set (sym s i))) k
 
 pub of_count-requires : goal.of_count-requires
 of_count-requires c =
     let l = c.requires.low in
-    let d = (table_distinct c.args.self (low_variables c.args.self.problem) c.self.inside.distinct c.in-Some.count c.self.inside.outer.items c.self.inside.numbers.items c.self.inside.masks.items (subst (λ (z : ClassesOf). HoldsTable z (low_variables z.problem) c.self.inside.distinct c.self.inside.outer.items c.self.inside.numbers.items c.self.inside.masks.items) c.self.view_is c.self.invariant) c.in-Some.is) in
+    let d = (table_distinct c.args.self (low_variables c.args.self.problem) c.self.inside.distinct c.in-Some.count c.self.inside.all_used c.self.inside.outer.items c.self.inside.numbers.items c.self.inside.masks.items (subst (λ (z : ClassesOf). HoldsTable z (low_variables z.problem) c.self.inside.distinct c.self.inside.all_used c.self.inside.outer.items c.self.inside.numbers.items c.self.inside.masks.items) c.self.view_is c.self.invariant) c.in-Some.is) in
     let few = d.keys.few_inputs in
     let s = one_shl c.args.x 16 (omega arith) in
     subst (λ (z : ClassesOf). AreDistinct z (c.in-Some.count / 2)) (λ i. classes_of (sym c.self.view_is i).problem (bit_or (sym c.self.view_is i).set (sym s i)))
@@ -51,14 +51,14 @@ of_count-requires c =
 
 pub tell_pairs-requires-clause-len : goal.tell_pairs-requires-clause-len
 tell_pairs-requires-clause-len c =
-    let h = table_strips c.args.self (low_variables c.args.self.problem) c.self.inside.distinct c.self.inside.outer.items c.self.inside.numbers.items c.self.inside.masks.items (subst (λ (z : ClassesOf). HoldsTable z (low_variables z.problem) c.self.inside.distinct c.self.inside.outer.items c.self.inside.numbers.items c.self.inside.masks.items) c.self.view_is c.self.invariant) c.in-None.is in
+    let h = table_strips c.args.self (low_variables c.args.self.problem) c.self.inside.distinct c.self.inside.all_used c.self.inside.outer.items c.self.inside.numbers.items c.self.inside.masks.items (subst (λ (z : ClassesOf). HoldsTable z (low_variables z.problem) c.self.inside.distinct c.self.inside.all_used c.self.inside.outer.items c.self.inside.numbers.items c.self.inside.masks.items) c.self.view_is c.self.invariant) c.in-None.is in
     let v = ap length c.deref.ensures.value in
     let f = h.few_numbers in
     omega arith
 
 pub tell_pairs-requires-clause-classes : goal.tell_pairs-requires-clause-classes
 tell_pairs-requires-clause-classes c =
-    let h = table_strips c.args.self (low_variables c.args.self.problem) c.self.inside.distinct c.self.inside.outer.items c.self.inside.numbers.items c.self.inside.masks.items (subst (λ (z : ClassesOf). HoldsTable z (low_variables z.problem) c.self.inside.distinct c.self.inside.outer.items c.self.inside.numbers.items c.self.inside.masks.items) c.self.view_is c.self.invariant) c.in-None.is in
+    let h = table_strips c.args.self (low_variables c.args.self.problem) c.self.inside.distinct c.self.inside.all_used c.self.inside.outer.items c.self.inside.numbers.items c.self.inside.masks.items (subst (λ (z : ClassesOf). HoldsTable z (low_variables z.problem) c.self.inside.distinct c.self.inside.all_used c.self.inside.outer.items c.self.inside.numbers.items c.self.inside.masks.items) c.self.view_is c.self.invariant) c.in-None.is in
     λ i lt.
     let v = c.deref.ensures.value in
     let l = ap length v in
@@ -69,7 +69,7 @@ tell_pairs-requires-clause-classes c =
 
 pub tell_pairs-requires-clause-few : goal.tell_pairs-requires-clause-few
 tell_pairs-requires-clause-few c =
-    let h = table_strips c.args.self (low_variables c.args.self.problem) c.self.inside.distinct c.self.inside.outer.items c.self.inside.numbers.items c.self.inside.masks.items (subst (λ (z : ClassesOf). HoldsTable z (low_variables z.problem) c.self.inside.distinct c.self.inside.outer.items c.self.inside.numbers.items c.self.inside.masks.items) c.self.view_is c.self.invariant) c.in-None.is in
+    let h = table_strips c.args.self (low_variables c.args.self.problem) c.self.inside.distinct c.self.inside.all_used c.self.inside.outer.items c.self.inside.numbers.items c.self.inside.masks.items (subst (λ (z : ClassesOf). HoldsTable z (low_variables z.problem) c.self.inside.distinct c.self.inside.all_used c.self.inside.outer.items c.self.inside.numbers.items c.self.inside.masks.items) c.self.view_is c.self.invariant) c.in-None.is in
     let v = ap length c.deref-in-None.ensures.value in
     let f = h.keys.few_masks in
     omega arith

@@ -6,8 +6,8 @@ use Rattle.compaction.specs.Values.{values_of, number_of}
 use Rattle.compaction.proofs.HeldStrips.{holds_values}
 use Rattle.compaction.proofs.strips.Strips.of_problem.Goals as goal
 
-pub of_parts-requires : goal.of_parts-requires
-of_parts-requires c =
+pub of_parts-requires-clause-holds : goal.of_parts-requires-clause-holds
+of_parts-requires-clause-holds c =
     let p = c.args.problem.now in
     let n = c.inputs.ensures.value in
     let f = c.inputs.ensures.few in
