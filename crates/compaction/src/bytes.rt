@@ -7,7 +7,7 @@ ghost use Rattle.compaction.specs.Strips.{AreNamed, unrolled};
 
 use crate::classes::rank_of;
 use crate::columns::{ByteStrips, byte_strips};
-use crate::strips::{Strips, strip_at, tell_pairs};
+use crate::strips::{Strips, tell_pairs};
 use order_model::{Mask, Problem, VarIx};
 use std::alloc::{AllocError, Global};
 use std::marker::Model;
@@ -35,7 +35,24 @@ impl<'a> Model for ByteKeys<'a> {
     ghost invariant = { λ c. HoldsBytes (classes_of c.problem.now c.set) 8 c.outer.items c.bytes.items c.rows.items c.masks.items };
 }
 
-/// All strips that are named, one behind the other.
+/// Writes the strips that are named, one behind the other.
+#[inline(always)]
+fn write_strips(names: &[u8], numbers: &[u32], strip: usize, out: &mut [u32])
+    requires few { length numbers.now ≤ 2 ^ 20 }
+    requires small { length names.now * strip ≤ 2 ^ 20 }
+    requires named { AreNamed names.now numbers.now strip }
+    requires long { length out.old ≡ length names.now * strip }
+    ensures { out.new ≡ unrolled names.now numbers.now strip }
+{
+    for i in 0..names.len() {
+        let start = names[i] as usize * strip;
+        for a in 0..strip {
+            out[i * strip + a] = numbers[start + a];
+        }
+    }
+}
+
+/// All strips that are named, one behind the other. The lengths that occur are loops of their own.
 fn unroll(
     alloc: Global,
     names: &[u8],
@@ -47,9 +64,13 @@ fn unroll(
     requires named { AreNamed names.now numbers.now strip }
     ensures { IfOk result (λ v. v.items ≡ unrolled names.now numbers.now strip) }
 {
-    let mut out = Vec::with_capacity(alloc, names.len() * strip)?;
-    for name in names {
-        out.extend_from_slice(strip_at(numbers, strip, u32::from(*name)))?;
+    let mut out = vec![in alloc; 0u32; names.len() * strip]?;
+    match strip {
+        1 => write_strips(names, numbers, 1, &mut out),
+        2 => write_strips(names, numbers, 2, &mut out),
+        4 => write_strips(names, numbers, 4, &mut out),
+        8 => write_strips(names, numbers, 8, &mut out),
+        _ => write_strips(names, numbers, strip, &mut out),
     }
     Ok(out)
 }
