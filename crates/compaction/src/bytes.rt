@@ -5,9 +5,10 @@ ghost use Rattle.std.specs.Prelude.{◌≡◌, ℕ, ◌*◌, ◌^◌, ◌<◌, �
 ghost use Rattle.order_model.specs.Orders.{has};
 ghost use Rattle.compaction.specs.Strips.{AreNamed, unrolled};
 
+use crate::add_variable::tell_pairs;
 use crate::classes::rank_of;
 use crate::columns::{ByteStrips, byte_strips};
-use crate::strips::{Strips, tell_pairs};
+use crate::strips::Strips;
 use order_model::{Mask, Problem, VarIx};
 use std::alloc::{AllocError, Global};
 use std::marker::Model;

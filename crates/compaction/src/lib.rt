@@ -1,6 +1,7 @@
 //! Class tables: which subfunctions over a set of variables are equal, and the widths that follow.
 #![tactic(auto)]
 
+mod add_variable;
 mod blocks;
 mod bytes;
 mod cells;

@@ -39,9 +39,9 @@ pub fn join_masks(
     requires upper { (k : ℕ) → k < length pairs.now → (get_or pairs.now k (0, 0)).1 < length masks.now }
     ensures { IfOk result (λ v. v.items ≡ map (joined_mask masks.now x) pairs.now) }
 {
-    let mut joined = Vec::with_capacity(alloc, pairs.len())?;
-    for pair in pairs {
-        joined.push(join_mask(masks, x, *pair))?;
+    let mut joined = vec![in alloc; 0u16; pairs.len()]?;
+    for k in 0..pairs.len() {
+        joined[k] = join_mask(masks, x, pairs[k]);
     }
     Ok(joined)
 }

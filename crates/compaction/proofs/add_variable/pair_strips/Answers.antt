@@ -4,7 +4,7 @@ use Rattle.std.proofs.lemmas.List.{take_more, take_all}
 use Rattle.compaction.specs.Strips.{names_of, strip, unrolled}
 use Rattle.compaction.proofs.Paired.{length_names_of, name_low, name_high, names_more}
 use Rattle.compaction.proofs.Unrolled.{length_strip, strip_at, named_inside, same_by_places, unrolled_more, unrolled_none}
-use Rattle.compaction.proofs.strips.pair_strips.Goals as goal
+use Rattle.compaction.proofs.add_variable.pair_strips.Goals as goal
 
 pub loop-pair-init : goal.loop-pair-init
 unfolding names_of

@@ -3,7 +3,7 @@ use Rattle.compaction.specs.Places as places
 use Rattle.compaction.proofs.Index.{length-pairs}
 use Rattle.compaction.proofs.Named.{names_joined, names_numbered}
 use Rattle.compaction.proofs.Used.{ranks_used}
-use Rattle.compaction.proofs.strips.tell_pairs.Goals as goal
+use Rattle.compaction.proofs.add_variable.tell_pairs.Goals as goal
 
 pub returns-then-base-le-MOST_JOINED-clause-tells : goal.returns-then-base-le-MOST_JOINED-clause-tells
 returns-then-base-le-MOST_JOINED-clause-tells c =

@@ -7,7 +7,7 @@ use Rattle.compaction.proofs.Index.{length-pairs}
 use Rattle.compaction.proofs.Named.{names_below, length_names}
 use Rattle.compaction.proofs.Paired.{paired_few, paired_long, paired_lower, paired_named, paired_upper}
 use Rattle.compaction.proofs.Stripped.{high_strips, high_tells, unrolled_below}
-use Rattle.compaction.proofs.strips.add_by_pairs.Goals as goal
+use Rattle.compaction.proofs.add_variable.add_by_pairs.Goals as goal
 
 pub number_pairs-requires-clause-classes : goal.number_pairs-requires-clause-classes
 number_pairs-requires-clause-classes c = λ i h.

@@ -5,7 +5,7 @@ use Rattle.compaction.specs.Strips.{TellsPairs}
 use Rattle.compaction.proofs.Index.{length-pairs}
 use Rattle.compaction.proofs.Named.{names_below, length_names}
 use Rattle.compaction.proofs.Ordered.{ordered_strips, ordered_tells, ordered_whole}
-use Rattle.compaction.proofs.strips.add_in_order.Goals as goal
+use Rattle.compaction.proofs.add_variable.add_in_order.Goals as goal
 
 pub tell_pairs-requires-clause-whole : goal.tell_pairs-requires-clause-whole
 tell_pairs-requires-clause-whole c =

@@ -1,0 +1,224 @@
+//! One more variable in tables of keys: pairs told apart, and strips of pairs.
+
+ghost use Rattle.std.specs.Prelude.{◌≡◌, ℕ, ◌+◌, ◌*◌, ◌^◌, ◌<◌, ◌≤◌, length, slice_index, IfOk, IsTrue};
+ghost use Rattle.compaction.specs.Places as places;
+ghost use Rattle.compaction.specs.Strips.{AreNamed, AreStrips, AreUsed, TellsPairs, names_of, unrolled};
+
+use crate::keys::{MOST_JOINED, join_key_masks, join_keys};
+use crate::numbering::{number_pairs, number_pairs_with_masks};
+use std::alloc::{AllocError, Global};
+
+/// Numbers that tell pairs apart, and the mask of each. Where `all_used` is true each mask is that of a number that occurs.
+#[derive(Drop)]
+pub struct Told {
+    pub numbers: Vec<u32>,
+    pub masks: Vec<u16>,
+    pub all_used: bool,
+}
+
+/// Strips, the names of the runs, and the mask of each number. Where `all_used` is true each mask is that of a number that
+/// occurs.
+#[derive(Drop)]
+pub struct Grown {
+    pub outer: Vec<u32>,
+    pub numbers: Vec<u32>,
+    pub masks: Vec<u16>,
+    pub all_used: bool,
+}
+
+/// Whether the numbers count up from 0, as they do where each is new.
+pub fn count_up(numbers: &[u32]) -> bool
+    ensures { IsTrue result → (i : ℕ) → i < length numbers.now → slice_index numbers.now i ≡ i }
+{
+    for (i, number) in numbers.iter().enumerate() {
+        if *number as usize != i {
+            return false;
+        }
+    }
+    true
+}
+
+/// Tells the pairs apart: by joined keys where there are few, else by numbers.
+pub fn tell_pairs(
+    alloc: Global,
+    numbers: &[u32],
+    rank: u32,
+    x: u8,
+    masks: &[u16],
+) -> Result<Told, AllocError>
+    requires rank { rank < 16 }
+    requires variable { x < 16 }
+    requires len { length numbers.now ≤ 2 ^ 20 }
+    requires whole { (blocks : ℕ) × (length numbers.now ≡ blocks * (2 * 2 ^ rank)) }
+    requires classes { (i : ℕ) → i < length numbers.now → slice_index numbers.now i < length masks.now }
+    requires few { length masks.now ≤ 2 ^ 20 }
+    ensures tells { IfOk result (λ v. TellsPairs masks.now x (places.pairs numbers.now (2 ^ rank)) v.numbers.items v.masks.items) }
+    ensures used { IfOk result (λ v. IsTrue v.all_used → AreUsed v.numbers.items v.masks.items) }
+{
+    let base = masks.len();
+    if base <= MOST_JOINED {
+        let keys = join_keys(alloc, numbers, rank, base as u32)?;
+        let joined = join_key_masks(alloc, masks, x)?;
+        return Ok(Told {
+            numbers: keys,
+            masks: joined,
+            all_used: false,
+        });
+    }
+    let numbered = number_pairs_with_masks(alloc, numbers, rank, x, masks)?;
+    Ok(Told {
+        numbers: numbered.numbers,
+        masks: numbered.masks,
+        all_used: true,
+    })
+}
+
+/// A strip.
+#[inline(always)]
+fn strip_at(numbers: &[u32], strip: usize, k: u32) -> &[u32]
+    requires few { length numbers.now ≤ 2 ^ 20 }
+    requires inside { k * strip + strip ≤ length numbers.now }
+    ensures long { length result.now ≡ strip }
+    ensures entries { (a : ℕ) → a < strip → slice_index result.now a ≡ slice_index numbers.now (k * strip + a) }
+{
+    let start = k as usize * strip;
+    let end = start + strip;
+    &numbers[start..end]
+}
+
+/// The two strips of each pair of strips, one behind the other.
+fn pair_strips(
+    alloc: Global,
+    pairs: &[(u32, u32)],
+    numbers: &[u32],
+    bits: u32,
+) -> Result<Vec<u32>, AllocError>
+    requires bits { bits < 16 }
+    requires few { length numbers.now ≤ 2 ^ 20 }
+    requires named { AreNamed (names_of pairs.now) numbers.now (2 ^ bits) }
+    ensures { IfOk result (λ v. v.items ≡ unrolled (names_of pairs.now) numbers.now (2 ^ bits)) }
+{
+    let strip = 1usize << bits;
+    let mut paired = Vec::with_capacity(alloc, numbers.len())?;
+    for pair in pairs {
+        paired.extend_from_slice(strip_at(numbers, strip, pair.0))?;
+        paired.extend_from_slice(strip_at(numbers, strip, pair.1))?;
+    }
+    Ok(paired)
+}
+
+/// The numbers 0, 1, 2 and so on.
+fn first_numbers(alloc: Global, count: usize) -> Result<Vec<u32>, AllocError>
+    requires { count ≤ 2 ^ 20 }
+    ensures long { IfOk result (λ v. length v.items ≡ count) }
+    ensures own { IfOk result (λ v. (i : ℕ) → i < count → slice_index v.items i ≡ i) }
+{
+    let mut numbers = Vec::with_capacity(alloc, count)?;
+    for i in 0..count {
+        numbers.push(i as u32)?;
+    }
+    Ok(numbers)
+}
+
+/// Strips with one more variable, which stands above those inside a strip, where the strips are named in order: their entries
+/// are all entries.
+fn add_in_order(
+    alloc: Global,
+    outer: &[u32],
+    rank: u32,
+    numbers: &[u32],
+    bits: u32,
+    x: u8,
+    masks: &[u16],
+) -> Result<Grown, AllocError>
+    requires steps { bits + rank < 16 }
+    requires variable { x < 16 }
+    requires len { length outer.now * 2 ^ bits ≤ 2 ^ 20 }
+    requires few { length numbers.now ≤ 2 ^ 20 }
+    requires few_masks { length masks.now ≤ 2 ^ 20 }
+    requires whole { (blocks : ℕ) × (length outer.now ≡ blocks * (2 * 2 ^ rank)) }
+    requires strips { AreStrips outer.now numbers.now (2 ^ bits) }
+    requires own { (i : ℕ) → i < length outer.now → slice_index outer.now i ≡ i }
+    requires below { (i : ℕ) → i < length numbers.now → slice_index numbers.now i < length masks.now }
+    ensures strips { IfOk result (λ g. AreStrips g.outer.items g.numbers.items (2 ^ bits)) }
+    ensures tells { IfOk result (λ g. TellsPairs masks.now x (places.pairs (unrolled outer.now numbers.now (2 ^ bits)) (2 ^ bits * 2 ^ rank)) (unrolled g.outer.items g.numbers.items (2 ^ bits)) g.masks.items) }
+    ensures below { IfOk result (λ g. (i : ℕ) → i < length g.numbers.items → slice_index g.numbers.items i < length g.masks.items) }
+    ensures few { IfOk result (λ g. length g.numbers.items ≤ 2 ^ 20) }
+    ensures used { IfOk result (λ g. IsTrue g.all_used → AreUsed g.numbers.items g.masks.items) }
+{
+    let told = tell_pairs(alloc, numbers, bits + rank, x, masks)?;
+    let outer = first_numbers(alloc, outer.len() / 2)?;
+    Ok(Grown {
+        outer,
+        numbers: told.numbers,
+        masks: told.masks,
+        all_used: told.all_used,
+    })
+}
+
+/// Strips with one more variable, which stands above those inside a strip: pairs of strips become strips.
+fn add_by_pairs(
+    alloc: Global,
+    outer: &[u32],
+    rank: u32,
+    numbers: &[u32],
+    bits: u32,
+    x: u8,
+    masks: &[u16],
+) -> Result<Grown, AllocError>
+    requires steps { bits + rank < 16 }
+    requires variable { x < 16 }
+    requires len { length outer.now * 2 ^ bits ≤ 2 ^ 20 }
+    requires few { length numbers.now ≤ 2 ^ 20 }
+    requires few_masks { length masks.now ≤ 2 ^ 20 }
+    requires whole { (blocks : ℕ) × (length outer.now ≡ blocks * (2 * 2 ^ rank)) }
+    requires strips { AreStrips outer.now numbers.now (2 ^ bits) }
+    requires below { (i : ℕ) → i < length numbers.now → slice_index numbers.now i < length masks.now }
+    ensures strips { IfOk result (λ g. AreStrips g.outer.items g.numbers.items (2 ^ bits)) }
+    ensures tells { IfOk result (λ g. TellsPairs masks.now x (places.pairs (unrolled outer.now numbers.now (2 ^ bits)) (2 ^ bits * 2 ^ rank)) (unrolled g.outer.items g.numbers.items (2 ^ bits)) g.masks.items) }
+    ensures below { IfOk result (λ g. (i : ℕ) → i < length g.numbers.items → slice_index g.numbers.items i < length g.masks.items) }
+    ensures few { IfOk result (λ g. length g.numbers.items ≤ 2 ^ 20) }
+    ensures used { IfOk result (λ g. IsTrue g.all_used → AreUsed g.numbers.items g.masks.items) }
+{
+    let runs = number_pairs(alloc, outer, rank, numbers.len() >> bits)?;
+    let paired = pair_strips(alloc, &runs.pairs, numbers, bits)?;
+    let told = tell_pairs(alloc, &paired, bits, x, masks)?;
+    Ok(Grown {
+        outer: runs.numbers,
+        numbers: told.numbers,
+        masks: told.masks,
+        all_used: told.all_used,
+    })
+}
+
+/// Strips with one more variable, which stands above those inside a strip.
+pub fn add_above(
+    alloc: Global,
+    outer: &[u32],
+    rank: u32,
+    numbers: &[u32],
+    bits: u32,
+    x: u8,
+    masks: &[u16],
+) -> Result<Grown, AllocError>
+    requires steps { bits + rank < 16 }
+    requires variable { x < 16 }
+    requires len { length outer.now * 2 ^ bits ≤ 2 ^ 20 }
+    requires few { length numbers.now ≤ 2 ^ 20 }
+    requires few_masks { length masks.now ≤ 2 ^ 20 }
+    requires whole { (blocks : ℕ) × (length outer.now ≡ blocks * (2 * 2 ^ rank)) }
+    requires strips { AreStrips outer.now numbers.now (2 ^ bits) }
+    requires below { (i : ℕ) → i < length numbers.now → slice_index numbers.now i < length masks.now }
+    ensures strips { IfOk result (λ g. AreStrips g.outer.items g.numbers.items (2 ^ bits)) }
+    ensures tells { IfOk result (λ g. TellsPairs masks.now x (places.pairs (unrolled outer.now numbers.now (2 ^ bits)) (2 ^ bits * 2 ^ rank)) (unrolled g.outer.items g.numbers.items (2 ^ bits)) g.masks.items) }
+    ensures below { IfOk result (λ g. (i : ℕ) → i < length g.numbers.items → slice_index g.numbers.items i < length g.masks.items) }
+    ensures few { IfOk result (λ g. length g.numbers.items ≤ 2 ^ 20) }
+    ensures used { IfOk result (λ g. IsTrue g.all_used → AreUsed g.numbers.items g.masks.items) }
+{
+    let grown = if count_up(outer) {
+        add_in_order(alloc, outer, rank, numbers, bits, x, masks)?
+    } else {
+        add_by_pairs(alloc, outer, rank, numbers, bits, x, masks)?
+    };
+    Ok(grown)
+}
