@@ -3,12 +3,10 @@
 --     high_strips, high_tells      a variable above the strips: pairs of strips are told apart entry by entry
 --     unrolled_below      what holds of all entries of a table holds of those of its strips
 --     low_strips, low_tells      a variable inside the strips
-use Rattle.std.proofs.Common.{◌≡◌, ℕ, suc, ◌+◌, ◌-◌, ◌*◌, ◌/◌, ◌%◌, ◌^◌, ◌<◌, ◌≤◌, inl, inr, List, map, length, get_or, refl, sym, ap, ◌∙◌, subst, arith}
+use Rattle.std.proofs.Common.{◌≡◌, ℕ, suc, ◌+◌, ◌*◌, ◌/◌, ◌%◌, ◌<◌, ◌≤◌, List, map, length, get_or, refl, sym, ap, ◌∙◌, subst, arith}
 use Rattle.std.specs.Set.{distinct_count}
 use Rattle.std.proofs.Math.Nat.{mul-le-mul_right, add-mul-mod_self_right, add-mul-div_right, mod-eq_of_lt, div-eq_of_lt, mod-lt, div-lt_iff_lt-mul}
 use Rattle.std.proofs.lemmas.List.{get_or-map, length-map}
-use Rattle.std.proofs.lemmas.Bool.{cases_lt}
-use Rattle.std.proofs.lemmas.Map.Made.{distinct_count-le}
 use Rattle.order_model.specs.Widths.{same_pair}
 use Rattle.order_model.proofs.ClassPairs.{pair_decides}
 use Rattle.compaction.specs.Chains.{lower_at, upper_at}

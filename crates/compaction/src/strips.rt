@@ -168,9 +168,7 @@ impl<'a> Strips<'a> {
         let mut masks = Vec::with_capacity(alloc, 2)?;
         masks.push(0)?;
         masks.push(0)?;
-        Ok(Strips::of_parts(
-            alloc, problem, 0, outer, numbers, masks, false,
-        ))
+        Ok(Strips::of_parts(alloc, problem, 0, outer, numbers, masks, false))
     }
 
     /// How many variables are low.

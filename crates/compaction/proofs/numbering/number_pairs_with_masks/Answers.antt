@@ -1,6 +1,4 @@
-use Rattle.std.proofs.Common.{◌≡◌, ◌^◌, ◌<◌, ℕ, List, get_or, length, map, sym, ap, ◌∙◌, subst, arith}
-use Rattle.std.specs.Set.{distinct_count}
-use Rattle.order_model.specs.Widths.{same_pair}
+use Rattle.std.proofs.Common.{◌^◌, ◌<◌, ℕ, List, get_or, length, map, sym, ap, ◌∙◌, subst, arith}
 use Rattle.compaction.specs.Dependence.{joined_mask}
 use Rattle.compaction.specs.Places as places
 use Rattle.compaction.proofs.DistinctPairs.{met_classes, masks_many, masks_told}
