@@ -9,7 +9,7 @@ use Rattle.std.specs.List.{filter, range_with_len}
 use Rattle.std.proofs.Math.Nat.{add-mul-mod_self_right, add-mul-div_right, mod-eq_of_lt, div-eq_of_lt, div-lt_iff_lt-mul, mod-lt}
 use Rattle.std.proofs.lemmas.Bool.{and_parts, cases_eq, cases_lt}
 use Rattle.std.proofs.lemmas.Nat.{pow_pos}
-use Rattle.std.proofs.lemmas.List.{length-map, get_or-map}
+use Rattle.std.proofs.lemmas.List.{length-map, get_or-map, map-id}
 use Rattle.std.proofs.lemmas.List.FromFn.{length-range_with_len, get_or-map-range_with_len, length-map-range_with_len}
 use Rattle.order_model.specs.Orders.{has, variables, without}
 use Rattle.order_model.specs.Widths.{width}
@@ -22,14 +22,14 @@ use Rattle.compaction.specs.Strips.{AreUsed, AreDistinct, AreStrips, HoldsStrips
 use Rattle.compaction.specs.Table.{ClassesOf, HoldsKeys, with_variable, functions_of, set_of, free_below}
 use Rattle.compaction.proofs.Counted.{length_filter_map}
 use Rattle.compaction.proofs.Index.{length-pairs, pair_listed, pair_within}
-use Rattle.compaction.proofs.Keyed.{keys_ready, map_self}
+use Rattle.compaction.proofs.Keyed.{keys_ready}
 use Rattle.compaction.proofs.Named.{keys_by_names}
 use Rattle.compaction.proofs.Stripped.{parts_of}
 use Rattle.compaction.proofs.Unrolled.{same_by_places, length_unrolled, unrolled_at}
 use Rattle.compaction.proofs.Used.{in_use_same, width_by_use}
 
 at_range : (n i : ℕ) → i < n → get_or (range_with_len 0 n) i 0 ≡ i
-at_range n i h = ap (λ us. get_or us i 0) (sym (map_self (range_with_len 0 n))) ∙ get_or-map-range_with_len (λ k. k) 0 n i i 0 h (omega arith)
+at_range n i h = ap (λ us. get_or us i 0) (sym (map-id (range_with_len 0 n))) ∙ get_or-map-range_with_len (λ k. k) 0 n i i 0 h (omega arith)
 
 -- the same value so many times
 same_list : ℕ → ℕ → List ℕ

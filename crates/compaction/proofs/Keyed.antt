@@ -8,7 +8,7 @@ use Rattle.std.proofs.Common.{◌≡◌, ℕ, zero, suc, ◌+◌, ◌*◌, ◌/�
 use Rattle.std.specs.List.{filter, range_with_len}
 use Rattle.std.proofs.lemmas.Bool.{cases_eq}
 use Rattle.std.proofs.lemmas.Nat.{pow_pos}
-use Rattle.std.proofs.lemmas.List.{length-map, get_or-map}
+use Rattle.std.proofs.lemmas.List.{length-map, get_or-map, map-id}
 use Rattle.order_model.specs.Functions.{Function, restrict, same_table, depends}
 use Rattle.order_model.specs.Orders.{has, variables}
 use Rattle.order_model.specs.Levels.{reach}
@@ -41,10 +41,6 @@ map_range_same f g a (suc m) h = λ i. h a (omega arith) (omega arith) i ∷ map
 pub map_same : {X Y : Type 0} (f g : X → Y) (xs : List X) → ((x : X) → Among x xs → f x ≡ g x) → map f xs ≡ map g xs
 map_same f g [] h = refl
 map_same f g (x ∷ xs) h = λ i. h x (inl refl) i ∷ map_same f g xs (λ y a. h y (inr a)) i
-
-pub map_self : {X : Type 0} (xs : List X) → map (λ x. x) xs ≡ xs
-map_self [] = refl
-map_self (x ∷ xs) = ap (λ ys. x ∷ ys) (map_self xs)
 
 range_below : (a m k : ℕ) → Among k (range_with_len a m) → (a ≤ k) × (k < a + m)
 range_below a zero k h = absurd h
@@ -125,7 +121,7 @@ module _ (cs : List ℕ) (r : ℕ) (whole : (blocks : ℕ) × (length cs ≡ blo
   pairs_ranked =
       ap (ranks same_pair) ranked_pairs
       ∙ sym (ranks_alike same_pair pair_decides same_pair pair_decides (λ p. p) (both own) (pairs cs (2 ^ r)) both_apart)
-      ∙ ap (ranks same_pair) (map_self (pairs cs (2 ^ r)))
+      ∙ ap (ranks same_pair) (map-id (pairs cs (2 ^ r)))
 
   pub same_numbers : (p : ℕ × ℕ) → Among p (pairs cs (2 ^ r)) → nat_eq p.0 p.1 ≡ nat_eq (own p.0) (own p.1)
   same_numbers p h =
@@ -184,7 +180,7 @@ keys_of_classes t numbers masks h = record {
   few_masks = (let a = few_masks t numbers masks h in let b = h.few in omega arith);
   below = class_below t numbers masks h;
   classes = sym (ap (ranks nat_eq) h.classes ∙ ranks_alike nat_eq nat_decides same_table same_table_decides (rank same_table es) (λ u. u) es
-      (λ u v a b. (rank_apart same_table same_table_decides es u v a b, ap (rank same_table es))) ∙ ap (ranks same_table) (map_self es));
+      (λ u v a b. (rank_apart same_table same_table_decides es u v a b, ap (rank same_table es))) ∙ ap (ranks same_table) (map-id es));
   told = ap (map (λ k. get_or masks k 0)) h.classes ∙ h.masks_are.told;
 }
   where

@@ -6,7 +6,7 @@ use Rattle.std.proofs.Common.{◌≡◌, ℕ, zero, suc, ◌+◌, ◌*◌, ◌/�
 use Rattle.std.specs.List.{range_with_len}
 use Rattle.std.specs.Set.{distinct_count}
 use Rattle.std.proofs.Math.Nat.{mul-le-mul_left, mul-le-mul_right, add-mul-mod_self_right, add-mul-div_right, mod-eq_of_lt, div-eq_of_lt}
-use Rattle.std.proofs.lemmas.List.{length-map, get_or-map}
+use Rattle.std.proofs.lemmas.List.{length-map, get_or-map, map-id}
 use Rattle.std.proofs.lemmas.List.FromFn.{get_or-map-range_with_len, length-map-range_with_len}
 use Rattle.std.proofs.lemmas.Map.Made.{distinct_count-le}
 use Rattle.order_model.specs.Orders.{has}
@@ -24,7 +24,7 @@ use Rattle.compaction.proofs.Joined.{pair_classes}
 use Rattle.compaction.proofs.Counted.{map_map, nat_decides}
 use Rattle.compaction.proofs.Compacted.{class_numbers_same}
 use Rattle.compaction.proofs.Extended.{step_is, members_more}
-use Rattle.compaction.proofs.Keyed.{map_same, map_self, outside_same, pairs_depend, more_classes}
+use Rattle.compaction.proofs.Keyed.{map_same, outside_same, pairs_depend, more_classes}
 
 -- the place of a listed pair
 pub place_of : (qs : List (ℕ × ℕ)) (q : ℕ × ℕ) → Among q qs → (i : ℕ) × ((i < length qs) × (get_or qs i (0, 0) ≡ q))
@@ -49,7 +49,7 @@ module _ (masks : List ℕ) (x : ℕ) (ps : List (ℕ × ℕ)) (numbers joined :
 
   -- the names are numbered as the pairs are
   pub names_ranked : ranks nat_eq numbers ≡ ranks same_pair ps
-  names_ranked = ap (ranks nat_eq) t.numbers_are ∙ ranks_alike nat_eq nat_decides same_pair pair_decides t.name (λ p. p) ps names_apart ∙ ap (ranks same_pair) (map_self ps)
+  names_ranked = ap (ranks nat_eq) t.numbers_are ∙ ranks_alike nat_eq nat_decides same_pair pair_decides t.name (λ p. p) ps names_apart ∙ ap (ranks same_pair) (map-id ps)
 
   pub names_masks : map (λ k. get_or joined k 0) numbers ≡ map (joined_mask masks x) ps
   names_masks =

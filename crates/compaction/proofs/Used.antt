@@ -10,7 +10,7 @@ use Rattle.std.proofs.lemmas.Bool.{and_parts, cases_eq, cases_lt}
 use Rattle.std.proofs.Math.Nat.{div-lt_iff_lt-mul, mod-lt}
 use Rattle.std.proofs.lemmas.Nat.{pow_pos}
 use Rattle.std.proofs.lemmas.Cmp.{nat_eq_equiv}
-use Rattle.std.proofs.lemmas.List.{map-append, length-append, length-map, get_or_append_left, get_or_push}
+use Rattle.std.proofs.lemmas.List.{map-append, length-append, length-map, get_or_append_left, get_or_push, map-id}
 use Rattle.std.proofs.lemmas.List.Elements.{filter-append}
 use Rattle.std.proofs.lemmas.List.FromFn.{fill_by_all, length-range_with_len}
 use Rattle.std.proofs.lemmas.Map.Made.{distinct_count-from_IsDistinct}
@@ -32,7 +32,7 @@ use Rattle.compaction.specs.Table.{ClassesOf, functions_of, set_of, free_below}
 use Rattle.compaction.proofs.Compacted.{range_parts, filter_range_same}
 use Rattle.compaction.proofs.Counted.{among_variables, distinct_by_numbers, length_filter_map, map_map, nat_decides, width_is_dependent_classes}
 use Rattle.compaction.proofs.Extended.{length_filter-le}
-use Rattle.compaction.proofs.Keyed.{among_at, map_same, map_self}
+use Rattle.compaction.proofs.Keyed.{among_at, map_same}
 use Rattle.compaction.proofs.Stripped.{parts_of, below_product}
 use Rattle.compaction.proofs.Unrolled.{length_unrolled, unrolled_at}
 use Rattle.compaction.proofs.Ranks.{rank_below, rank_reached}
@@ -47,10 +47,6 @@ in_use_more f p k =
     by true = refl
     by false = refl
 
-pub append_none : {X : Type 0} (xs : List X) → xs ++ [] ≡ xs
-append_none [] = refl
-append_none (x ∷ xs) = ap (λ us. x ∷ us) (append_none xs)
-
 pub in_use_same : (p q : ℕ → Bool) (m : ℕ) → ((k : ℕ) → k < m → p k ≡ q k) → filter p (range_with_len 0 m) ≡ filter q (range_with_len 0 m)
 in_use_same p q m h = filter_range_same p q 0 m (λ k l u. h k (omega arith))
 
@@ -62,11 +58,11 @@ module _ (n : ℕ) (F : List Function) (S keys masks : List ℕ) (below : (i : �
   pub many_keys : distinct_count nat_eq keys ≡ distinct_count same_table (entries n F S)
   unfolding class_numbers class_of ranks rank
   many_keys =
-      ap (distinct_count nat_eq) (sym (map_self keys))
+      ap (distinct_count nat_eq) (sym (map-id keys))
       ∙ sym (count_alike nat_eq nat_decides nat_eq nat_decides (rank nat_eq keys) (λ k. k) keys (λ k l a b. (rank_apart nat_eq nat_decides keys k l a b, ap (rank nat_eq keys))))
       ∙ ap (distinct_count nat_eq) (sym classes)
       ∙ count_alike nat_eq nat_decides same_table same_table_decides (rank same_table (entries n F S)) (λ t. t) (entries n F S) (λ t u a b. (rank_apart same_table same_table_decides (entries n F S) t u a b, ap (rank same_table (entries n F S))))
-      ∙ ap (distinct_count same_table) (map_self (entries n F S))
+      ∙ ap (distinct_count same_table) (map-id (entries n F S))
 
   apart : (k l : ℕ) → Among k keys → Among l keys → rank nat_eq keys k ≡ rank nat_eq keys l → k ≡ l
   unfolding rank
@@ -123,9 +119,9 @@ module _ (n : ℕ) (F : List Function) (S keys masks : List ℕ) (below : (i : �
   width_by_use x small inside =
       width_is_dependent_classes n F S class_masks x small inside are_masks
       ∙ ap (λ ms. length (filter (λ m. eqb (bit_at m x) 1) ms)) listed ∙ length_filter_map (λ m. eqb (bit_at m x) 1) (λ c. get_or class_masks c 0) (variables (distinct_count nat_eq keys))
-      ∙ ap (λ ks. length (filter test (variables (distinct_count nat_eq ks)))) (sym (map_self keys))
-      ∙ sym (distinct_by_numbers nat_eq nat_decides (λ k. k) has_bit keys test (λ k a. ap (λ us. eqb (bit_at (get_or class_masks (rank nat_eq us k) 0) x) 1) (map_self keys) ∙ ap (λ m. eqb (bit_at m x) 1) (all_classes.1.1 k a (rank_below nat_eq nat_decides keys k a))))
-      ∙ ap (distinct_count nat_eq) (map_self (filter has_bit keys))
+      ∙ ap (λ ks. length (filter test (variables (distinct_count nat_eq ks)))) (sym (map-id keys))
+      ∙ sym (distinct_by_numbers nat_eq nat_decides (λ k. k) has_bit keys test (λ k a. ap (λ us. eqb (bit_at (get_or class_masks (rank nat_eq us k) 0) x) 1) (map-id keys) ∙ ap (λ m. eqb (bit_at m x) 1) (all_classes.1.1 k a (rank_below nat_eq nat_decides keys k a))))
+      ∙ ap (distinct_count nat_eq) (map-id (filter has_bit keys))
       ∙ count_same nat_eq nat_decides (filter has_bit keys) (filter has_bit (filter (has keys) (variables (length masks)))) into onto
       ∙ distinct_count-from_IsDistinct nat_eq_equiv (filter has_bit (filter (has keys) (variables (length masks)))) (distinct_filter has_bit (filter (has keys) (variables (length masks))) (distinct_filter (has keys) (variables (length masks)) (distinct_variables (length masks))))
       ∙ sym (length_filter_map (λ m. eqb (bit_at m x) 1) (λ k. get_or masks k 0) (filter (has keys) (variables (length masks))))

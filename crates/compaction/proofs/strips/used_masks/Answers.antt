@@ -1,8 +1,9 @@
 use Rattle.std.proofs.Common.{◌≡◌, ℕ, false, cond, ◌++◌, [], ◌∷◌, map, length, get_or, sym, ap, ◌∙◌, arith, Vec, Global}
+use Rattle.std.proofs.lemmas.List.{append-nil}
 use Rattle.std.specs.List.{filter, range_with_len}
 use Rattle.order_model.specs.Orders.{has}
 use Rattle.compaction.specs.Strips.{masks_in_use}
-use Rattle.compaction.proofs.Used.{in_use_more, in_use_same, append_none}
+use Rattle.compaction.proofs.Used.{in_use_more, in_use_same}
 use Rattle.compaction.proofs.strips.used_masks.Goals as goal
 use Rattle.compaction.proofs.strips.used_masks.Goals.{then-occurs+in_ok-push, else-occurs}
 
@@ -19,7 +20,7 @@ loop-k-preserved c =
           ∙ sym (n ∙ ap (λ b. map (λ j. get_or masks j 0) (filter (λ j. get_or used j false) (range_with_len 0 k)) ++ cond b (get_or masks k 0 ∷ []) []) w.if-occurs.true)
       | else-occurs w ↦
           ap (λ (z : Vec ℕ Global). z.items) w.found-is ∙ c.loop-k.invariant
-          ∙ sym (n ∙ ap (λ b. map (λ j. get_or masks j 0) (filter (λ j. get_or used j false) (range_with_len 0 k)) ++ cond b (get_or masks k 0 ∷ []) []) w.if-occurs.false ∙ append_none _)
+          ∙ sym (n ∙ ap (λ b. map (λ j. get_or masks j 0) (filter (λ j. get_or used j false) (range_with_len 0 k)) ++ cond b (get_or masks k 0 ∷ []) []) w.if-occurs.false ∙ append-nil _)
     ]
 
 pub returns : goal.returns
