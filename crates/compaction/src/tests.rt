@@ -3,6 +3,8 @@
 ghost use Rattle.std.specs.Prelude.{◌≡◌, ◌<◌, ◌^◌, length, IfOk};
 ghost use Rattle.subset_layers.specs.Layers.{block_masks};
 
+use crate::chains::number_pairs_by_chains;
+use crate::slots::number_pairs_by_slots;
 use crate::{BlockWidths, Classes, Scratch, Tally, block_widths};
 use order_model::{Mask, Problem};
 use std::alloc::{AllocError, Global};
@@ -89,6 +91,20 @@ fn classes_of_the_multiplexer(rt: HostRuntime) -> Result<(), Fail> {
     assert_eq!(rt; problem.inputs(), 3);
     let same = Classes::of_set(alloc, &problem, 0x0001)?;
     assert_eq!(rt; same.numbers(), one.numbers());
+    Ok(())
+}
+
+#[test]
+fn pairs_are_numbered_alike_by_slots_and_chains(rt: HostRuntime) -> Result<(), Fail> {
+    let alloc = rt.alloc();
+    let numbers = [2, 0, 1, 2, 0, 0, 1, 2, 2, 0, 1, 1];
+    let by_slots = number_pairs_by_slots(alloc, &numbers, 1)?;
+    let slots = by_slots.expect(&rt, "crowded slots");
+    let chains = number_pairs_by_chains(alloc, &numbers, 1, 3)?;
+    assert_eq!(rt; chains.numbers.as_slice(), [0, 1, 2, 1, 0, 2].as_slice());
+    assert_eq!(rt; slots.numbers.as_slice(), chains.numbers.as_slice());
+    assert_eq!(rt; chains.pairs.as_slice(), [(2, 1), (0, 2), (0, 1)].as_slice());
+    assert_eq!(rt; slots.pairs.as_slice(), chains.pairs.as_slice());
     Ok(())
 }
 
