@@ -1,25 +1,22 @@
 -- Masks counted at the first pair of each kind.
-use Rattle.std.proofs.Common.{◌≡◌, ℕ, zero, suc, ◌+◌, ◌<◌, ◌≤◌, ◌^◌, false, cond, eqb, List, [], ◌∷◌, ◌++◌, length, get_or, take, refl, sym, ap, ◌∙◌, subst, arith}
+use Rattle.std.proofs.Common.{◌≡◌, ℕ, zero, suc, ◌+◌, ◌<◌, ◌≤◌, ◌^◌, false, cond, eqb, List, [], ◌∷◌, ◌++◌, length, get_or, refl, sym, ap, ◌∙◌, arith}
 use Rattle.std.specs.Int.{bit_at}
 use Rattle.std.specs.List.{filter}
 use Rattle.std.proofs.lemmas.Nat.Bits.{bit_at-lt}
 use Rattle.std.proofs.lemmas.List.{length-append}
 use Rattle.std.proofs.lemmas.List.Elements.{filter-append}
 use Rattle.order_model.specs.Widths.{same_pair}
-use Rattle.order_model.proofs.ClassPairs.{pair_decides}
-use Rattle.order_model.proofs.Sets.{Among}
 use Rattle.compaction.specs.Chains.{IsFirst}
 use Rattle.compaction.specs.Dependence.{joined_mask, CountsMasks}
-use Rattle.compaction.specs.Numbering.{rank, ranks}
+use Rattle.compaction.specs.Numbering.{ranks}
 use Rattle.order_model.specs.Orders.{has}
 use Rattle.order_model.specs.Widths.{width}
 use Rattle.compaction.specs.Places.{pairs}
 use Rattle.compaction.specs.Table.{ClassesOf, HoldsClasses, with_variable, functions_of, set_of, free_below}
 use Rattle.compaction.proofs.Counted.{width_is_dependent_classes}
 use Rattle.compaction.proofs.Extended.{holds_more, width_into}
-use Rattle.compaction.proofs.Ranks.{rank_absent, rank_below}
-use Rattle.compaction.proofs.Chained.{among_take, take_among}
-use Rattle.compaction.proofs.Joined.{Joined, joined_none, joined_new, joined_old, joined_many, joined_told, rank_is}
+use Rattle.compaction.proofs.Firsts.{joined_again, joined_first}
+use Rattle.compaction.proofs.Joined.{Joined, joined_none, joined_many, joined_told}
 
 module _ (ps : List (ℕ × ℕ)) (masks : List ℕ) (x : ℕ) where
   -- after j pairs
@@ -32,14 +29,10 @@ module _ (ps : List (ℕ × ℕ)) (masks : List ℕ) (x : ℕ) where
   pub counting_none : Counting 0 0
   counting_none = record { out = []; joined = joined_none 0 ps (joined_mask masks x); counted = refl; few = omega arith }
 
-  absent : (j : ℕ) → j < length ps → IsFirst (λ i. get_or ps i (0, 0)) j j → Among (get_or ps j (0, 0)) (take j ps) → ⊥
-  absent j l f a = let s = among_take ps ps j (get_or ps j (0, 0)) a in f.none s.0 s.1 s.3
-
   pub counting_first : (count more j mask : ℕ) → j < length ps → IsFirst (λ i. get_or ps i (0, 0)) j j → mask ≡ joined_mask masks x (get_or ps j (0, 0)) → more ≡ bit_at mask x → Counting count j → Counting (count + more) (j + 1)
   counting_first count more j mask l f m b h = record {
     out = h.out ++ mask ∷ [];
-    joined = joined_new 0 ps (joined_mask masks x) h.out j (rank same_pair ps (get_or ps j (0, 0))) mask l h.joined refl
-        (rank_is ps j l ∙ rank_absent same_pair pair_decides (take j ps) (get_or ps j (0, 0)) (absent j l f) ∙ sym h.joined.many) m;
+    joined = joined_first 0 ps (joined_mask masks x) h.out j mask l f m h.joined;
     counted = (let c = h.counted in let e = ap length (filter-append (λ k. eqb (bit_at k x) 1) h.out (mask ∷ [])) ∙ length-append (filter (λ k. eqb (bit_at k x) 1) h.out) (filter (λ k. eqb (bit_at k x) 1) (mask ∷ [])) in let o = one (bit_at mask x) (bit_at-lt mask x) in omega arith);
     few = (let w = h.few in let z = bit_at-lt mask x in omega arith);
   }
@@ -52,14 +45,10 @@ module _ (ps : List (ℕ × ℕ)) (masks : List ℕ) (x : ℕ) where
   pub counting_again : (count j first : ℕ) → j < length ps → IsFirst (λ i. get_or ps i (0, 0)) j first → first < j → Counting count j → Counting count (j + 1)
   counting_again count j first l f lt h = record {
     out = h.out;
-    joined = joined_old 0 ps (joined_mask masks x) h.out j (rank same_pair ps (get_or ps j (0, 0))) l h.joined refl
-        (λ e. let r = rank_is ps j l in let b = rank_below same_pair pair_decides (take j ps) (get_or ps j (0, 0)) there in let m = h.joined.many in omega arith);
+    joined = joined_again 0 ps (joined_mask masks x) h.out j first l f lt h.joined;
     counted = h.counted;
     few = (let w = h.few in omega arith);
   }
-    where
-      there : Among (get_or ps j (0, 0)) (take j ps)
-      there = subst (λ t. Among t (take j ps)) f.same (take_among ps ps j first lt (omega arith))
 
   pub counting_all : (count j : ℕ) → length ps ≤ j → Counting count j → CountsMasks masks x ps count
   counting_all count j l h = record {
