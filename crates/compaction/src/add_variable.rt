@@ -28,7 +28,8 @@ pub struct Grown {
 
 /// Whether the numbers count up from 0, as they do where each is new.
 pub fn count_up(numbers: &[u32]) -> bool
-    ensures { IsTrue result → (i : ℕ) → i < length numbers.now → slice_index numbers.now i ≡ i }
+    ensures up { IsTrue result → (i : ℕ) → i < length numbers.now → slice_index numbers.now i ≡ i }
+    ensures all { ((i : ℕ) → i < length numbers.now → slice_index numbers.now i ≡ i) → IsTrue result }
 {
     for (i, number) in numbers.iter().enumerate() {
         if *number as usize != i {
