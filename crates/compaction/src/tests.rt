@@ -103,7 +103,10 @@ fn pairs_are_numbered_alike_by_slots_and_chains(rt: HostRuntime) -> Result<(), F
     let chains = number_pairs_by_chains(alloc, &numbers, 1, 3)?;
     assert_eq!(rt; chains.numbers.as_slice(), [0, 1, 2, 1, 0, 2].as_slice());
     assert_eq!(rt; slots.numbers.as_slice(), chains.numbers.as_slice());
-    assert_eq!(rt; chains.pairs.as_slice(), [(2, 1), (0, 2), (0, 1)].as_slice());
+    assert_eq!(rt;
+        chains.pairs.as_slice(),
+        [(2, 1), (0, 2), (0, 1)].as_slice()
+    );
     assert_eq!(rt; slots.pairs.as_slice(), chains.pairs.as_slice());
     Ok(())
 }
