@@ -1,6 +1,6 @@
 //! The widths of the sets of a block.
 
-ghost use Rattle.std.specs.Prelude.{◌≡◌, ℕ, ◌+◌, ◌-◌, ◌%◌, ◌^◌, ◌<◌, ◌≤◌, IsFalse, length, slice_index, slice_get, get_or, [], ◌≢◌, IfOk, IfSome, IsOk, OnOk, OnErr, Some};
+ghost use Rattle.std.specs.Prelude.{◌≡◌, ℕ, ◌+◌, ◌-◌, ◌%◌, ◌^◌, ◌<◌, ◌≤◌, IsFalse, length, slice_index, slice_get, get_or, [], ◌≢◌, IfOk, OnOk, OnErr, Some};
 ghost use Rattle.subset_layers.specs.Layers.{block_masks};
 ghost use Rattle.compaction.specs.Strips.{low_variables as low_of};
 ghost use Rattle.compaction.specs.Table.{classes_of};

@@ -1,7 +1,7 @@
 //! Keys of sets of the lowest three variables: the values of a byte stand in a row, and only the rows of the 256 bytes are worked
 //! on before the strips are written out.
 
-ghost use Rattle.std.specs.Prelude.{◌≡◌, ℕ, ◌*◌, ◌^◌, ◌<◌, ◌≤◌, length, slice_index, IfOk, IsFalse};
+ghost use Rattle.std.specs.Prelude.{◌≡◌, ◌*◌, ◌^◌, ◌<◌, ◌≤◌, length, IfOk, IsFalse};
 ghost use Rattle.order_model.specs.Orders.{has};
 ghost use Rattle.compaction.specs.Strips.{AreNamed, unrolled};
 

@@ -1,6 +1,6 @@
 //! The numbers of a problem's values, in strips: runs of 256 points are four words of a function, and equal ones are kept once.
 
-ghost use Rattle.std.specs.Prelude.{◌≡◌, ◌==◌, ℕ, ◌+◌, ◌*◌, ◌/◌, ◌^◌, ◌<◌, ◌≤◌, ◌++◌, Bool, List, false, [], map, length, get_or, slice_index, IfOk, IfSome, OnOk};
+ghost use Rattle.std.specs.Prelude.{◌≡◌, ◌==◌, ℕ, ◌+◌, ◌*◌, ◌/◌, ◌^◌, ◌<◌, ◌≤◌, ◌++◌, Bool, List, false, map, length, get_or, slice_index, IfOk, IfSome, OnOk};
 ghost use Rattle.std.specs.Int.{bit_at};
 ghost use Rattle.order_model.specs.Problems.{value_at, outputs_of, packed_bit};
 ghost use Rattle.compaction.specs.Columns.{AreChained, KeepsRuns, low_numbers, packed_numbers};

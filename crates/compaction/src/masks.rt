@@ -1,13 +1,8 @@
 //! What the functions of a class depend on, as a mask for each class.
 
-ghost use Rattle.std.specs.Prelude.{◌≡◌, ℕ, ◌+◌, ◌*◌, ◌/◌, ◌^◌, ◌<◌, ◌≤◌, map, get_or, length, slice_index, IfOk};
-ghost use Rattle.std.specs.Set.{distinct_count};
-ghost use Rattle.order_model.specs.Widths.{same_pair};
+ghost use Rattle.std.specs.Prelude.{◌≡◌, ℕ, ◌/◌, ◌<◌, map, get_or, length, IfOk};
 ghost use Rattle.compaction.specs.Dependence.{joined_mask};
-ghost use Rattle.compaction.specs.Numbering.{ranks};
-ghost use Rattle.compaction.specs.Places as places;
 
-use crate::pairs::pair_at;
 use std::alloc::{AllocError, Global};
 
 /// The mask of a pair of classes: what its halves depend on, and `x` where they differ.

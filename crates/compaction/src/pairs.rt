@@ -1,6 +1,6 @@
 //! Numbers of pairs of entries by first occurrence.
 
-ghost use Rattle.std.specs.Prelude.{◌≡◌, ℕ, ◌+◌, ◌*◌, ◌/◌, ◌^◌, ◌<◌, ◌≤◌, map, get_or, length, IfOk};
+ghost use Rattle.std.specs.Prelude.{◌≡◌, ℕ, ◌+◌, ◌*◌, ◌/◌, ◌^◌, ◌<◌, map, get_or, length, IfOk};
 ghost use Rattle.std.specs.Set.{distinct_count};
 ghost use Rattle.order_model.specs.Widths.{same_pair};
 ghost use Rattle.compaction.specs.Numbering.{ranks};

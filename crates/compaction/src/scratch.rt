@@ -1,8 +1,6 @@
 //! Widths that take no memory: by chains and marks in rows that are lent.
 
-ghost use Rattle.std.specs.Prelude.{◌≡◌, ◌==◌, ℕ, ◌+◌, ◌*◌, ◌/◌, ◌^◌, ◌<◌, ◌≤◌, List, map, get_or, length, slice_index, IfOk};
-ghost use Rattle.std.specs.Int.{bit_at};
-ghost use Rattle.std.specs.List.{filter};
+ghost use Rattle.std.specs.Prelude.{◌≡◌, ◌==◌, ℕ, ◌+◌, ◌*◌, ◌/◌, ◌^◌, ◌<◌, ◌≤◌, length, slice_index, IfOk};
 ghost use Rattle.compaction.specs.Chains.{IsFirst, pair_of};
 ghost use Rattle.compaction.specs.Dependence.{CountsMasks};
 ghost use Rattle.compaction.specs.Places as places;

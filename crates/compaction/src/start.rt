@@ -1,7 +1,7 @@
 //! The class table of the empty set: each subfunction is the value at a point.
 
-ghost use Rattle.std.specs.Prelude.{◌≡◌, ℕ, ◌+◌, ◌*◌, ◌^◌, ◌<◌, ◌≤◌, ◌++◌, Bool, map, length, get_or, slice_index, IfOk, OnOk, nat_eq};
-ghost use Rattle.std.specs.List.{flat_map, list_any};
+ghost use Rattle.std.specs.Prelude.{◌≡◌, ℕ, ◌+◌, ◌*◌, ◌<◌, ◌≤◌, ◌++◌, map, length, get_or, IfOk, OnOk, nat_eq};
+ghost use Rattle.std.specs.List.{list_any};
 ghost use Rattle.order_model.specs.Problems.{value_at, outputs_of, table_in, words_per_table};
 ghost use Rattle.compaction.specs.Values.{row, values_of, number_of as number, class_count};
 

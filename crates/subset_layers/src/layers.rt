@@ -1,7 +1,7 @@
 //! Layers of the sets of variables, and their blocks.
 
-ghost use Rattle.std.specs.Prelude.{◌≡◌, ◌≢◌, ℕ, ◌+◌, ◌*◌, ◌%◌, ◌^◌, ◌<◌, ◌≤◌, ◌↔◌, Bool, map, length, take, slice_index, slice_get, nat_eq, count_ones, IfOk, IfSome, IsNone, IsFalse};
-ghost use Rattle.std.specs.List.{filter, list_any, range_with_len};
+ghost use Rattle.std.specs.Prelude.{◌≡◌, ◌+◌, ◌*◌, ◌%◌, ◌^◌, ◌<◌, ◌≤◌, ◌↔◌, map, length, take, slice_get, nat_eq, count_ones, IfOk, IfSome, IsNone, IsFalse};
+ghost use Rattle.std.specs.List.{list_any, range_with_len};
 ghost use Rattle.order_model.specs.Orders.{has, members};
 
 use crate::selection::Selection;
