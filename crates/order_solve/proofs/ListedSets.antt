@@ -17,10 +17,10 @@ use Rattle.order_model.proofs.CellLaws.{cost_known}
 use Rattle.order_model.proofs.Listed.{listed_by_cells}
 use Rattle.subset_layers.proofs.Choosing.{filter_range_more}
 use Rattle.layer_board.specs.Views.{Setting}
-use Rattle.order_solve.specs.declared.solution.ListedCell.{ListedCell}
+use Rattle.order_model.specs.declared.listed_cells.ListedCell.{ListedCell}
 use Rattle.order_solve.specs.Needs.{needed}
 use Rattle.order_solve.specs.Gains.{width_count}
-use Rattle.order_solve.specs.Listings.{listed}
+use Rattle.order_model.specs.Listed.{listed}
 use Rattle.order_solve.proofs.Wanted.{needed_ones, wanted_none}
 use Rattle.order_solve.proofs.Claimed.{few_each}
 

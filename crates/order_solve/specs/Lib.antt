@@ -1,6 +1,5 @@
 pub mod Benches
 pub mod Needs
 pub mod Gains
-pub mod Listings
 pub mod Placed
 pub mod Bounded

@@ -16,6 +16,6 @@ mod tests;
 mod working;
 
 pub use bench::Bench;
-pub use solution::{ListedCell, Solution};
+pub use solution::Solution;
 pub use solving::solve;
 pub use working::{WorkerEnd, work_layer};

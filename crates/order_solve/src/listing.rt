@@ -7,11 +7,10 @@ ghost use Rattle.order_model.specs.Problems.{functions};
 ghost use Rattle.order_model.specs.Widths.{essential_mask, essentials_outside};
 ghost use Rattle.order_model.specs.Cells.{widths_taken};
 ghost use Rattle.order_model.specs.Certificates.{least_listed, listed_masks};
-ghost use Rattle.order_solve.specs.Listings.{listed};
+ghost use Rattle.order_model.specs.Listed.{listed};
 
 use crate::all_cells::AllCells;
-use crate::solution::ListedCell;
-use order_model::Mask;
+use order_model::{ListedCell, Mask};
 use std::alloc::{AllocError, Global};
 
 /// How many of some variables are not in a set.

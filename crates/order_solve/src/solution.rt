@@ -1,13 +1,6 @@
 //! What the solver found.
 
-use order_model::{Mask, Order};
-
-/// A set that the certificate lists, with its least cost.
-#[derive(Clone, Copy, Debug, PartialEq, Eq)]
-pub struct ListedCell {
-    pub mask: Mask,
-    pub cost: u32,
-}
+use order_model::{ListedCell, Order};
 
 /// The first order of the fewest nodes among those that keep the pairs.
 #[derive(Debug, Drop)]

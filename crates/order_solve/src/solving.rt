@@ -8,7 +8,7 @@ ghost use Rattle.order_model.specs.Cells.{widths_taken};
 ghost use Rattle.order_model.specs.Certificates.{certificate_of};
 ghost use Rattle.order_solve.specs.Benches.{setting_with};
 ghost use Rattle.order_solve.specs.Bounded.{IsBounded};
-ghost use Rattle.order_solve.specs.Listings.{listed};
+ghost use Rattle.order_model.specs.Listed.{listed};
 
 use crate::all_cells::AllCells;
 use crate::listing::{count_widths, listed_cells};

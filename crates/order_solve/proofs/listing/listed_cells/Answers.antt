@@ -1,7 +1,7 @@
 use Rattle.std.proofs.Common.{ℕ, ◌+◌, ◌^◌, List, sym, ap, ◌∙◌, subst, arith}
 use Rattle.std.proofs.lemmas.Nat.{one_shl}
 use Rattle.order_model.specs.Problems.{functions}
-use Rattle.order_solve.specs.declared.solution.ListedCell.{ListedCell}
+use Rattle.order_model.specs.declared.listed_cells.ListedCell.{ListedCell}
 use Rattle.order_solve.proofs.ListedSets.{ListedTo, listed_start, listed_yes, listed_no, listed_whole}
 use Rattle.order_solve.proofs.listing.listed_cells.Goals as goal
 use Rattle.order_solve.proofs.listing.listed_cells.Goals.{then-from+in_ok-push, else-from}

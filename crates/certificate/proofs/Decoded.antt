@@ -1,0 +1,161 @@
+-- The certificate that lines of words say, and what is asked of its lines.
+use Rattle.std.proofs.Common.{◌≡◌, ℕ, ◌+◌, ◌-◌, ◌*◌, ◌^◌, ◌≤◌, ◌<◌, zero, suc, refl, sym, ◌∙◌, ap, subst, Bool, true, false, not, cond, ◌&&◌, ◌==◌, nat_eq, inl, inr, List, [], ◌∷◌, ◌++◌, length, map, take, drop, get_or, codes, decimal, Option, None, Some, arith, lit<}
+use Rattle.std.specs.List.{AllByRecursion, AllPairs}
+use Rattle.std.proofs.lemmas.Bool.Decides.{nat_tests}
+use Rattle.std.proofs.lemmas.List.{length-map, length-append, take-append-drop}
+use Rattle.std.proofs.lemmas.List.Elements.{recursion_from_All, All-from_recursion}
+use Rattle.std.proofs.Math.Seq.{take-append_seam, drop-append-add, get_or-append_seam}
+use Rattle.std.proofs.Math.Nat.{pow-le-pow_right}
+use mathlib.Core.List.{append_assoc}
+use Rattle.order_model.specs.Pairs.{Pair}
+use Rattle.order_model.specs.Certificates.{Certificate, Cell}
+use Rattle.certificate.specs.Spelling.{most_nodes, most_pairs, hex4, field, section, pair_words, cell_words, pair_key, IsPair, IsCell}
+use Rattle.certificate.specs.Faults.{number_of, mask_of, number_said, is_pair, is_cell, pair_key_of, cell_key_of, field_fault, section_judges, pairs_judges, Judge}
+use Rattle.certificate.proofs.Words.{decimal_back, hex_back}
+use Rattle.certificate.proofs.Judges.{Pass, pass_length, both_are, IsFrom, IsField, decimal_passes, decimal_is, mask_passes, mask_is, field_passes, field_is, numbers_of, one_number}
+use Rattle.certificate.proofs.Rising.{rise_pairs, pairs_rise}
+use Rattle.certificate.proofs.Sections.{AreEntries, StandAt, entry_judges, entries_pass, entries_are, IsKind, write_entries, read_entries, read_back}
+
+-- the pair and the listed set of a line
+abbrev pub read_pair : List (List ℕ) → Pair
+read_pair ws = (number_of (get_or ws 0 []), number_of (get_or ws 1 []))
+
+abbrev pub read_cell : List (List ℕ) → Cell
+read_cell ws = record { mask = mask_of (get_or ws 0 []); cost = number_of (get_or ws 1 []) }
+
+abbrev pub mask_key : Cell → ℕ
+mask_key cell = cell.mask
+
+-- the entries behind line at
+abbrev pub section_said : {E : Type 0} → (List (List ℕ) → E) → List (List (List ℕ)) → ℕ → List E
+section_said read ws at = map read (take (number_said ws at) (drop (at + 1) ws))
+
+-- the number of the line, counted from 0, that says how many sets are listed
+abbrev pub cells_place : List (List (List ℕ)) → ℕ
+cells_place ws = 6 + length (pairs_judges ws)
+
+-- the certificate that lines say
+abbrev pub cert_of : List (List (List ℕ)) → Certificate
+cert_of ws = record {
+  format = number_said ws 0;
+  inputs = number_said ws 1;
+  outputs = number_said ws 2;
+  order = numbers_of (get_or ws 3 []);
+  levels = numbers_of (get_or ws 4 []);
+  total = number_said ws 5;
+  pairs = cond (nat_eq (number_said ws 0) 1) [] (section_said read_pair ws 6);
+  cells = section_said read_cell ws (cells_place ws);
+}
+
+-- the two kinds of entries
+pub top_power : (n : ℕ) → n ≤ 16 → 2 ^ n ≤ 65536
+top_power n small = pow-le-pow_right {n = 2} (lit< tt) {i = n} {j = 16} small
+
+pub pair_kind : (n : ℕ) → 1 ≤ n → n ≤ 16 → IsKind pair_words read_pair pair_key (IsPair n) (is_pair n) pair_key_of
+pair_kind n some small = record { written = written; back = back; told = told } where
+  written : (p : Pair) → IsPair n p → (a : List ℕ) × (b : List ℕ) × (pair_words p ≡ a ∷ b ∷ []) × (is_pair n a b ≡ true) × (pair_key_of a b ≡ pair_key p)
+  written p (above, below) =
+      (
+        decimal p.0,
+        decimal p.1,
+        refl,
+        rw (decimal_passes 0 (n - 1) p.0 (omega arith) (omega arith, omega arith)) (decimal_passes 0 (n - 1) p.1 (omega arith) (omega arith, omega arith)),
+        rw (decimal_back p.0 (omega arith)) (rw (decimal_back p.1 (omega arith)) refl),
+      )
+  back : (p : Pair) → IsPair n p → read_pair (pair_words p) ≡ p
+  back (a, b) (above, below) = rw (decimal_back a (omega arith)) (rw (decimal_back b (omega arith)) refl)
+  told : (a b : List ℕ) → is_pair n a b ≡ true → (pair_words (read_pair (a ∷ b ∷ [])) ≡ a ∷ b ∷ []) × IsPair n (read_pair (a ∷ b ∷ [])) × (pair_key (read_pair (a ∷ b ∷ [])) ≡ pair_key_of a b)
+  told a b e =
+      let t = both_are _ _ e in let first = decimal_is 0 (n - 1) a t.0 in let second = decimal_is 0 (n - 1) b t.1 in
+      let above = first.1.1 in let below = second.1.1 in
+      (rw first.0 (rw second.0 refl), (omega arith, omega arith), refl)
+
+pub cell_kind : (n : ℕ) → n ≤ 16 → IsKind cell_words read_cell mask_key (IsCell n) (is_cell n) cell_key_of
+cell_kind n small = record { written = written; back = back; told = told } where
+  written : (c : Cell) → IsCell n c → (a : List ℕ) × (b : List ℕ) × (cell_words c ≡ a ∷ b ∷ []) × (is_cell n a b ≡ true) × (cell_key_of a b ≡ mask_key c)
+  written c is =
+      let mask = is.mask in let cost = is.cost in let top = top_power n small in
+      (
+        hex4 c.mask,
+        decimal c.cost,
+        refl,
+        rw (mask_passes n c.mask small mask top) (decimal_passes 0 most_nodes c.cost (lit< tt) (omega arith, cost)),
+        hex_back c.mask (omega arith),
+      )
+  back : (c : Cell) → IsCell n c → read_cell (cell_words c) ≡ c
+  back c is = let mask = is.mask in let cost = is.cost in let top = top_power n small in rw (hex_back c.mask (omega arith)) (rw (decimal_back c.cost (omega (arith, cost))) refl)
+  told : (a b : List ℕ) → is_cell n a b ≡ true → (cell_words (read_cell (a ∷ b ∷ [])) ≡ a ∷ b ∷ []) × IsCell n (read_cell (a ∷ b ∷ [])) × (mask_key (read_cell (a ∷ b ∷ [])) ≡ cell_key_of a b)
+  told a b e =
+      let t = both_are _ _ e in let first = mask_is n a t.0 in let second = decimal_is 0 most_nodes b t.1 in
+      (rw first.0 (rw second.0 refl), record { mask = first.1; cost = second.1.1 }, refl)
+
+-- lines that stand between others
+pub stand_behind : (is_entry : List ℕ → List ℕ → Bool) (key : List ℕ → List ℕ → ℕ) (pre es post : List (List (List ℕ))) → StandAt is_entry key (pre ++ (es ++ post)) (length pre) es
+stand_behind is_entry key pre [] post = tt
+stand_behind is_entry key pre (e ∷ es) post =
+    let same : (pre ++ e ∷ []) ++ (es ++ post) ≡ pre ++ (e ∷ (es ++ post)) = append_assoc pre (e ∷ []) (es ++ post) in
+    let long : length (pre ++ e ∷ []) ≡ length pre + 1 = length-append pre (e ∷ []) in
+    let more = stand_behind is_entry key (pre ++ e ∷ []) es post in
+    let moved : StandAt is_entry key (pre ++ (e ∷ (es ++ post))) (length (pre ++ e ∷ [])) es = subst (λ ws. StandAt is_entry key ws (length (pre ++ e ∷ [])) es) same more in
+    (get_or-append_seam pre e (es ++ post) [], subst (λ k. StandAt is_entry key (pre ++ (e ∷ (es ++ post))) k es) long moved)
+
+module _ {E : Type 0} (write : E → List (List ℕ)) (read : List (List ℕ) → E) (key_of : E → ℕ) (Is : E → Type 0) (is_entry : List ℕ → List ℕ → Bool) (key : List ℕ → List ℕ → ℕ)
+    (kind : IsKind write read key_of Is is_entry key) (name : List ℕ) (most : ℕ) (fits : most < 2 ^ 64) where
+  -- the number of entries that stands in a section's first line
+  count_said : (pre post entries : List (List (List ℕ))) → length entries < 2 ^ 64 → number_said (pre ++ (section name entries ++ post)) (length pre) ≡ length entries
+  count_said pre post entries few =
+      ap (λ (ws : List (List ℕ)). number_of (get_or ws 1 [])) (get_or-append_seam pre (field name (length entries ∷ [])) (entries ++ post) []) ∙ decimal_back (length entries) few
+
+  -- a section that is spelled passes
+  pub section_passes : (pre post : List (List (List ℕ))) (es : List E) → length es ≤ most → AllByRecursion Is es → AllPairs (λ a b. key_of a < key_of b) es →
+      Pass (section_judges name most is_entry key (pre ++ (section name (map write es) ++ post)) (length pre)) (section name (map write es))
+  section_passes pre post es few all rising =
+      let ws = pre ++ (section name (map write es) ++ post) in
+      let long : length (map write es) ≡ length es = length-map es write in
+      let stand = stand_behind is_entry key pre (section name (map write es)) post in
+      let count = count_said pre post (map write es) (omega (arith, fits, few, long)) in
+      let head = field_passes name 1 0 most (length (map write es) ∷ []) refl fits ((omega arith, omega (arith, long, few)), tt) in
+      let from : length pre + 1 ≡ length pre + 1 = refl in
+      let are = write_entries write read key_of Is is_entry key kind None es all (pairs_rise key_of es rising) in
+      (head, rw count (entries_pass is_entry key ws (length pre + 1) (length pre + 1) None (map write es) refl stand.1 are))
+
+  -- and its entries are read back
+  pub section_back : (pre post : List (List (List ℕ))) (es : List E) → length es ≤ most → AllByRecursion Is es →
+      section_said read (pre ++ (section name (map write es) ++ post)) (length pre) ≡ es
+  section_back pre post es few all =
+      let ws = pre ++ (section name (map write es) ++ post) in
+      let long : length (map write es) ≡ length es = length-map es write in
+      let count = count_said pre post (map write es) (omega (arith, fits, few, long)) in
+      let behind : drop (length pre + 1) ws ≡ map write es ++ post = drop-append-add pre (section name (map write es) ++ post) 1 in
+      ap (map read) (ap (λ k. take k (drop (length pre + 1) ws)) count ∙ ap (take (length (map write es))) behind ∙ take-append_seam (map write es) post)
+      ∙ read_back write read key_of Is is_entry key kind es all
+
+  -- a section that passes is spelled
+  pub record IsSection (ws vs : List (List (List ℕ))) (at : ℕ) : Type 0 where
+    pub lines_are : section name (map write (section_said read ws at)) ≡ vs
+    pub few : length (section_said read ws at) ≤ most
+    pub all : AllByRecursion Is (section_said read ws at)
+    pub rise : AllPairs (λ a b. key_of a < key_of b) (section_said read ws at)
+
+  pub section_is : (pre post vs : List (List (List ℕ))) → Pass (section_judges name most is_entry key (pre ++ (vs ++ post)) (length pre)) vs → IsSection (pre ++ (vs ++ post)) vs (length pre)
+  section_is pre post [] pass = elim pass [ ]
+  section_is pre post (head ∷ es) (passes, pass) =
+      let ws = pre ++ ((head ∷ es) ++ post) in
+      let stand = stand_behind is_entry key pre (head ∷ es) post in
+      let line = one_number name 0 most head (field_is name 1 0 most head passes) in
+      let count : number_said ws (length pre) ≡ number_of (get_or head 1 []) = ap (λ (w : List (List ℕ)). number_of (get_or w 1 [])) stand.0 in
+      let are = entries_are is_entry key ws (length pre + 1) (length pre + 1) None es refl stand.1 (number_said ws (length pre)) pass in
+      let behind : drop (length pre + 1) ws ≡ es ++ post = drop-append-add pre ((head ∷ es) ++ post) 1 in
+      let taken : take (number_said ws (length pre)) (drop (length pre + 1) ws) ≡ es =
+      ap (λ k. take k (drop (length pre + 1) ws)) (sym are.1) ∙ ap (take (length es)) behind ∙ take-append_seam es post in
+      let said = read_entries write read key_of Is is_entry key kind None es are.0 in
+      let many : length es ≡ number_of (get_or head 1 []) = are.1 ∙ count in
+      let first : field name (length es ∷ []) ≡ head = rw many line.0 in
+      let bound = line.1.1 in
+      let is : section_said read ws (length pre) ≡ map read es = ap (map read) taken in
+      record {
+        lines_are = rw is (rw said.0 (rw first refl));
+        few = rw is (omega (arith, length-map es read, many, bound));
+        all = rw is said.1;
+        rise = rw is (rise_pairs key_of None (map read es) said.2);
+      }

@@ -1,0 +1,5 @@
+use Rattle.certificate.proofs.Spelled.{no_fault}
+use Rattle.certificate.proofs.laws.spellings_have_no_fault.Goals as goal
+
+pub returns : goal.returns
+returns c = no_fault

@@ -1,0 +1,3 @@
+pub mod Spelling
+pub mod Faults
+pub mod Values

@@ -1,0 +1,45 @@
+-- A certificate's parts, as the program holds them.
+--     value_of format inputs outputs order levels total pairs cells      the certificate of its parts
+--     HasPairs format pairs      whether the format may have the pairs
+--     fit is key before es      whether entries are of a kind, and their keys rise
+use Rattle.std.specs.Prelude.{◌≡◌, ◌⊎◌, ℕ, ◌^◌, ◌-◌, Bool, true, ◌&&◌, nat_lt, nat_le, List, [], ◌∷◌, map, Option, Some, None}
+use Rattle.order_model.specs.Pairs.{Pair}
+use Rattle.order_model.specs.Certificates.{Certificate}
+use Rattle.order_model.specs.Listed.{listed}
+use Rattle.order_model.specs.declared.listed_cells.ListedCell.{ListedCell}
+use Rattle.certificate.specs.Spelling.{most_nodes}
+
+-- the certificate of its parts
+abbrev pub value_of : ℕ → ℕ → ℕ → List ℕ → List ℕ → ℕ → List Pair → List ListedCell → Certificate
+value_of format inputs outputs order levels total pairs cells =
+    record { format = format; inputs = inputs; outputs = outputs; order = order; levels = levels; total = total; pairs = pairs; cells = map listed cells }
+
+-- the format of a certificate whose pairs are there or not
+abbrev pub format_of : {A : Type 0} → Option A → ℕ
+format_of None = 1
+format_of (Some pairs) = 2
+
+-- the pairs that a format may have: format 1 has none
+abbrev pub HasPairs : ℕ → List Pair → Type 0
+HasPairs format pairs = ((format ≡ 1) × (pairs ≡ [])) ⊎ (format ≡ 2)
+
+-- whether a key is above one that may have come before
+abbrev pub is_above : Option ℕ → ℕ → Bool
+is_above None key = true
+is_above (Some last) key = nat_lt last key
+
+-- whether entries are of a kind, and their keys rise from one that may have come before
+abbrev pub fit : {E : Type 0} → (E → Bool) → (E → ℕ) → Option ℕ → List E → Bool
+fit is key before [] = true
+fit is key before (e ∷ es) = is e && (is_above before (key e) && fit is key (Some (key e)) es)
+
+-- whether a pair is of variables below n
+abbrev pub is_pair_of : ℕ → Pair → Bool
+is_pair_of n p = nat_lt p.0 n && nat_lt p.1 n
+
+-- whether a listed set is one of some variables of n but not of all, and its cost in bounds
+abbrev pub is_cell_of : ℕ → ListedCell → Bool
+is_cell_of n c = nat_lt c.mask (2 ^ n - 1) && nat_le c.cost most_nodes
+
+abbrev pub mask_in : ListedCell → ℕ
+mask_in c = c.mask

@@ -1,0 +1,145 @@
+//! What the parts of a certificate may be.
+
+ghost use Rattle.std.specs.Prelude.{◌≡◌, ◌≤◌, ◌^◌, ◌-◌, ◌⊎◌, ◌↔◌, ℕ, [], None, IsTrue, IsFalse, length};
+ghost use Rattle.std.specs.List.{list_all, All};
+ghost use Rattle.order_model.specs.Certificates.{Certificate};
+ghost use Rattle.certificate.specs.Spelling.{HasSpelling, most_nodes, most_pairs, pair_key};
+ghost use Rattle.certificate.specs.Values.{fit, is_above as above, is_cell_of, is_pair_of, mask_in, value_of, HasPairs};
+
+use order_model::{ListedCell, VarIx};
+
+/// The largest cost, level count and total.
+pub(crate) const MOST_NODES: u32 = 999_999;
+
+/// The largest number of pairs: each two of 16 variables.
+pub(crate) const MOST_PAIRS: usize = 240;
+
+/// How many sets of n variables there are but that of all of them; their masks are below this number.
+pub(crate) fn sets_below_all(n: u8) -> u32
+    requires { n ≤ 16 }
+    ensures { result ≡ 2 ^ n - 1 }
+{
+    (1 << n) - 1
+}
+
+/// Whether a key is above one that may have come before.
+pub(crate) fn is_above(last: Option<u32>, key: u32) -> bool
+    ensures { result ≡ above last key }
+{
+    match last {
+        None => true,
+        Some(last) => last < key,
+    }
+}
+
+/// What pairs rise by: their first number, and then their second, which is below 16.
+pub(crate) fn key_of_pair(a: VarIx, b: VarIx) -> u32
+    ensures { result ≡ pair_key (a, b) }
+{
+    u32::from(a) * 16 + u32::from(b)
+}
+
+/// Whether pairs are of variables below n, and rise.
+fn pairs_rise(n: u8, pairs: &[(VarIx, VarIx)]) -> bool
+    ensures { result ≡ fit (is_pair_of n) pair_key None pairs.now }
+{
+    let mut last = None;
+    let mut rest = pairs;
+    while let [(a, b), more @ ..] = rest {
+        let key = key_of_pair(*a, *b);
+        if *a >= n || *b >= n || !is_above(last, key) {
+            return false;
+        }
+        last = Some(key);
+        rest = more;
+    }
+    true
+}
+
+/// Whether listed sets are of some variables of n but not of all, their costs in bounds, and their masks rise.
+fn cells_rise(n: u8, cells: &[ListedCell]) -> bool
+    requires { n ≤ 16 }
+    ensures { result ≡ fit (is_cell_of n) mask_in None cells.now }
+{
+    let mut last = None;
+    let mut rest = cells;
+    while let [cell, more @ ..] = rest {
+        let mask = u32::from(cell.mask);
+        if mask >= sets_below_all(n) || cell.cost > MOST_NODES || !is_above(last, mask) {
+            return false;
+        }
+        last = Some(mask);
+        rest = more;
+    }
+    true
+}
+
+/// Whether a number of inputs or outputs is 1 to 16.
+fn count_fits(count: u8) -> bool
+    ensures { IsTrue result ↔ ((1 ≤ count) × (count ≤ 16)) }
+{
+    1 <= count && count <= 16
+}
+
+/// Whether there is a variable for each input, each below 16.
+fn order_fits(n: u8, order: &[VarIx]) -> bool
+    ensures { IsTrue result ↔ ((length order.now ≡ n) × All (λ x. x ≤ 15) order.now) }
+{
+    order.len() == n as usize && order.iter().all(|x| *x <= 15)
+}
+
+/// Whether there is a level count for each input, each in bounds.
+fn levels_fit(n: u8, levels: &[u32]) -> bool
+    ensures { IsTrue result ↔ ((length levels.now ≡ n) × All (λ count. count ≤ most_nodes) levels.now) }
+{
+    levels.len() == n as usize && levels.iter().all(|count| *count <= MOST_NODES)
+}
+
+/// Whether pairs may stand in a certificate of n inputs.
+fn pairs_fit(n: u8, pairs: &[(VarIx, VarIx)]) -> bool
+    ensures { IsTrue result ↔ ((length pairs.now ≤ most_pairs) × IsTrue (fit (is_pair_of n) pair_key None pairs.now)) }
+{
+    pairs.len() <= MOST_PAIRS && pairs_rise(n, pairs)
+}
+
+/// Whether listed sets may stand in a certificate of n inputs.
+fn cells_fit(n: u8, cells: &[ListedCell]) -> bool
+    requires { n ≤ 16 }
+    ensures { IsTrue result ↔ ((length cells.now ≤ 2 ^ n - 1) × IsTrue (fit (is_cell_of n) mask_in None cells.now)) }
+{
+    cells.len() <= sets_below_all(n) as usize && cells_rise(n, cells)
+}
+
+/// Whether parts have a spelling; the pairs are none in format 1.
+pub(crate) fn have_spelling(
+    inputs: u8,
+    outputs: u8,
+    order: &[VarIx],
+    levels: &[u32],
+    total: u32,
+    pairs: &[(VarIx, VarIx)],
+    cells: &[ListedCell],
+) -> bool
+    ensures spelled { IsTrue result → (format : ℕ) → HasPairs format pairs.now → HasSpelling (value_of format inputs outputs order.now levels.now total pairs.now cells.now) }
+    ensures unspelled { IsFalse result → (format : ℕ) → HasSpelling (value_of format inputs outputs order.now levels.now total pairs.now cells.now) → ⊥ }
+{
+    if !count_fits(inputs) {
+        return false;
+    }
+    if !count_fits(outputs) {
+        return false;
+    }
+    if !order_fits(inputs, order) {
+        return false;
+    }
+    if !levels_fit(inputs, levels) {
+        return false;
+    }
+    if total > MOST_NODES {
+        return false;
+    }
+    if !pairs_fit(inputs, pairs) {
+        return false;
+    }
+    cells_fit(inputs, cells)
+}

@@ -1,0 +1,24 @@
+//! What holds of all texts of certificates.
+
+ghost use Rattle.std.specs.Prelude.{◌≡◌, ◌⊎◌, ℕ, List, []};
+ghost use Rattle.order_model.specs.Certificates.{Certificate};
+ghost use Rattle.certificate.specs.declared.faults.LineFault.{LineFault};
+ghost use Rattle.certificate.specs.Spelling.{HasSpelling, spelling};
+ghost use Rattle.certificate.specs.Faults.{Spells, FirstFault, faults};
+
+/// A text is the spelling of at most one certificate.
+pub fn texts_have_one_certificate()
+    ensures { (a b : Certificate) → HasSpelling a → HasSpelling b → spelling a ≡ spelling b → a ≡ b }
+{}
+
+/// A spelling has no fault.
+pub fn spellings_have_no_fault()
+    ensures { (cert : Certificate) → HasSpelling cert → faults (spelling cert) ≡ [] }
+{}
+
+/// Each text is the spelling of a certificate or has a first fault, not both, and one at most.
+pub fn texts_have_one_reading()
+    ensures some { (text : List ℕ) → ((cert : Certificate) × Spells text cert) ⊎ ((line : ℕ) × (fault : LineFault) × FirstFault text line fault) }
+    ensures not_both { (text : List ℕ) (cert : Certificate) (line : ℕ) (fault : LineFault) → Spells text cert → FirstFault text line fault → ⊥ }
+    ensures one_fault { (text : List ℕ) (i j : ℕ) (e f : LineFault) → FirstFault text i e → FirstFault text j f → (i ≡ j) × (e ≡ f) }
+{}

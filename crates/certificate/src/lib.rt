@@ -1,0 +1,10 @@
+//! Certificates that no order has fewer nodes, as text.
+#![tactic(auto)]
+
+mod bounds;
+mod certificate;
+mod faults;
+pub mod laws;
+
+pub use certificate::Certificate;
+pub use faults::{CertFault, LineFault};
