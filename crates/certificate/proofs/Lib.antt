@@ -6,3 +6,4 @@ pub mod Decoded
 pub mod Spelled
 pub mod Faultless
 pub mod Fitting
+pub mod Written

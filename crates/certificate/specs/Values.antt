@@ -1,8 +1,10 @@
 -- A certificate's parts, as the program holds them.
 --     value_of format inputs outputs order levels total pairs cells      the certificate of its parts
 --     HasPairs format pairs      whether the format may have the pairs
+--     each_spaced ns      numbers behind spaces
 --     fit is key before es      whether entries are of a kind, and their keys rise
-use Rattle.std.specs.Prelude.{◌≡◌, ◌⊎◌, ℕ, ◌^◌, ◌-◌, Bool, true, ◌&&◌, nat_lt, nat_le, List, [], ◌∷◌, map, Option, Some, None}
+use Rattle.std.specs.Prelude.{◌≡◌, ◌⊎◌, ℕ, ◌^◌, ◌-◌, Bool, true, ◌&&◌, nat_lt, nat_le, List, [], ◌∷◌, map, Option, Some, None, decimal}
+use Rattle.std.specs.List.{flat_map}
 use Rattle.order_model.specs.Pairs.{Pair}
 use Rattle.order_model.specs.Certificates.{Certificate}
 use Rattle.order_model.specs.Listed.{listed}
@@ -43,3 +45,7 @@ is_cell_of n c = nat_lt c.mask (2 ^ n - 1) && nat_le c.cost most_nodes
 
 abbrev pub mask_in : ListedCell → ℕ
 mask_in c = c.mask
+
+-- numbers, each behind a space
+abbrev pub each_spaced : List ℕ → List ℕ
+each_spaced ns = flat_map (λ n. 32 ∷ decimal n) ns

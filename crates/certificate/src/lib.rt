@@ -5,6 +5,7 @@ mod bounds;
 mod certificate;
 mod faults;
 pub mod laws;
+mod texts;
 
 pub use certificate::Certificate;
 pub use faults::{CertFault, LineFault};
