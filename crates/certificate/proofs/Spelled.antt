@@ -8,7 +8,7 @@ use Rattle.std.proofs.lemmas.List.Elements.{recursion_from_All}
 use mathlib.Core.List.{append_assoc}
 use Rattle.order_model.specs.Pairs.{Pair}
 use Rattle.order_model.specs.Certificates.{Certificate, Cell}
-use Rattle.certificate.specs.Spelling.{most_nodes, most_pairs, field, section, pair_words, pair_lines, cell_words, pair_key, IsPair, IsCell, word_lines, text_line, spelling, HasSpelling}
+use Rattle.certificate.specs.Spelling.{most_nodes, most_pairs, field, section, pair_words, pair_lines, cell_words, pair_key, IsPair, IsCell, head_lines, word_lines, text_line, spelling, HasSpelling}
 use Rattle.certificate.specs.Faults.{whole_lines, words, said, number_of, number_said, inputs_said, is_pair, is_cell, pair_key_of, cell_key_of, title_fault, field_fault, fixed_fault, section_judges, pairs_judges, cells_judges, judges, Judge, line_faults, with_feeds, trailing, faults}
 use Rattle.certificate.proofs.Words.{AllPlain, ArePlain, list_word, decimal_plain, decimals_plain, decimals_back, decimal_back, hex_plain, plain_append, said_back, lines_back}
 use Rattle.certificate.proofs.Judges.{Pass, pass_length, pass_append, pass_none, IsFrom, field_passes, numbers_of, all_same_self}
@@ -105,12 +105,7 @@ module _ (format n : ℕ) (ps : List Pair) (cells : List Cell) (pre post ws : Li
 module _ (cert : Certificate) (has : HasSpelling cert) where
   -- the first six lines
   abbrev six : List (List (List ℕ))
-  six = field (codes "bddorder-certificate") (cert.format ∷ [])
-      ∷ field (codes "inputs") (cert.inputs ∷ [])
-      ∷ field (codes "outputs") (cert.outputs ∷ [])
-      ∷ field (codes "order") cert.order
-      ∷ field (codes "levels") cert.levels
-      ∷ field (codes "total") (cert.total ∷ []) ∷ []
+  six = head_lines cert
 
   abbrev pairs_here : List (List (List ℕ))
   pairs_here = pair_lines cert.format cert.pairs

@@ -7,8 +7,8 @@ use Rattle.std.proofs.lemmas.Bool.Decides.{nat_tests}
 use Rattle.std.proofs.lemmas.List.{take_more, map-append}
 use Rattle.std.proofs.lemmas.Grind.{flat_map-append}
 use Rattle.order_model.specs.Pairs.{Pair}
-use Rattle.order_model.specs.Certificates.{Cell}
-use Rattle.certificate.specs.Spelling.{hex4, field, text_line, pair_words, cell_words}
+use Rattle.order_model.specs.Certificates.{Certificate, Cell}
+use Rattle.certificate.specs.Spelling.{hex4, field, section, head_lines, pair_lines, word_lines, text_line, spelling, pair_words, cell_words}
 use Rattle.certificate.specs.Values.{each_spaced}
 
 -- words behind the first one
@@ -106,3 +106,39 @@ zero_padded mask small = by (cases_lt mask 16) (cases_lt mask 256) (cases_lt mas
   by (inr a) (inr b) (inr c) =
       ap padded_to (four_digits mask c small) ∙ pad_four (glyph (mask / 16 / 16 / 16 % 16)) (glyph (mask / 16 / 16 % 16)) (glyph (mask / 16 % 16)) (glyph (mask % 16))
       ∙ four (mask / 16 / 16 / 16 % 16) (mask / 16 / 16 % 16) (mask / 16 % 16) (mask % 16) mask (omega arith) (omega arith) (omega arith) (omega arith)
+
+-- a text behind two others
+pub after : (s₀ s₁ s₂ a b : List ℕ) → s₁ ≡ s₀ ++ a → s₂ ≡ s₁ ++ b → s₂ ≡ s₀ ++ (a ++ b)
+after s₀ s₁ s₂ a b e g = g ∙ ap (λ s. s ++ b) e ∙ append_assoc s₀ a b
+
+-- six lines, one after another
+pub six_written : (s₀ s₁ s₂ s₃ s₄ s₅ s₆ : List ℕ) (a b c d e f : List (List ℕ)) → s₁ ≡ s₀ ++ text_line a → s₂ ≡ s₁ ++ text_line b → s₃ ≡ s₂ ++ text_line c → s₄ ≡ s₃ ++ text_line d → s₅ ≡ s₄ ++ text_line e → s₆ ≡ s₅ ++ text_line f →
+    s₆ ≡ s₀ ++ flat_map text_line (a ∷ b ∷ c ∷ d ∷ e ∷ f ∷ [])
+six_written s₀ s₁ s₂ s₃ s₄ s₅ s₆ a b c d e f ea eb ec ed ee ef =
+    let five = after s₄ s₅ s₆ (text_line e) (text_line f ++ []) ee (ef ∙ ap (λ r. s₅ ++ r) (sym (append-nil (text_line f)))) in
+    let four = after s₃ s₄ s₆ (text_line d) _ ed five in
+    let three = after s₂ s₃ s₆ (text_line c) _ ec four in
+    let two = after s₁ s₂ s₆ (text_line b) _ eb three in
+    after s₀ s₁ s₆ (text_line a) _ ea two
+
+-- a section
+pub section_written : (s₀ s₁ s₂ name : List ℕ) (n : ℕ) (entries : List (List (List ℕ))) → n ≡ length entries → s₁ ≡ s₀ ++ text_line (field name (n ∷ [])) → s₂ ≡ s₁ ++ flat_map text_line entries →
+    s₂ ≡ s₀ ++ flat_map text_line (section name entries)
+section_written s₀ s₁ s₂ name n entries e a b = after s₀ s₁ s₂ (text_line (field name (length entries ∷ []))) (flat_map text_line entries) (rw (sym e) a) b
+
+-- the whole text
+pub spelling_written : (s₀ s₁ s₂ s₃ s₄ : List ℕ) (cert : Certificate) → s₀ ≡ [] → s₁ ≡ s₀ ++ flat_map text_line (head_lines cert) → s₂ ≡ s₁ ++ flat_map text_line (pair_lines cert.format cert.pairs) →
+    s₃ ≡ s₂ ++ flat_map text_line (section (codes "cells") (map cell_words cert.cells)) → s₄ ≡ s₃ ++ codes "end\n" → s₄ ≡ spelling cert
+unfolding spelling word_lines text_line
+spelling_written s₀ s₁ s₂ s₃ s₄ cert none a b c d =
+    let pairs = pair_lines cert.format cert.pairs in let cells = section (codes "cells") (map cell_words cert.cells) in let last = (codes "end" ∷ []) ∷ [] in
+    let three = after s₂ s₃ s₄ (flat_map text_line cells) (flat_map text_line last) c d in
+    let two = after s₁ s₂ s₄ (flat_map text_line pairs) _ b three in
+    let one = after s₀ s₁ s₄ (flat_map text_line (head_lines cert)) _ a two in
+    let joined : flat_map text_line (head_lines cert ++ (pairs ++ (cells ++ last))) ≡ flat_map text_line (head_lines cert) ++ (flat_map text_line pairs ++ (flat_map text_line cells ++ flat_map text_line last)) =
+    flat_map-append text_line (head_lines cert) (pairs ++ (cells ++ last)) ∙ ap (λ r. flat_map text_line (head_lines cert) ++ r) (flat_map-append text_line pairs (cells ++ last) ∙ ap (λ r. flat_map text_line pairs ++ r) (flat_map-append text_line cells last)) in
+    one ∙ ap (λ s. s ++ (flat_map text_line (head_lines cert) ++ (flat_map text_line pairs ++ (flat_map text_line cells ++ flat_map text_line last)))) none ∙ sym joined
+
+-- a line of numbers that are told
+pub told : (s₀ s₁ name : List ℕ) (ms ns : List ℕ) → s₁ ≡ s₀ ++ text_line (field name ms) → ms ≡ ns → s₁ ≡ s₀ ++ text_line (field name ns)
+told s₀ s₁ name ms ns e same = e ∙ ap (λ ks. s₀ ++ text_line (field name ks)) same

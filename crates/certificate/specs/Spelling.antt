@@ -40,15 +40,18 @@ cell_words cell = hex4 cell.mask ∷ decimal cell.cost ∷ []
 abbrev pub pair_lines : ℕ → List Pair → List (List (List ℕ))
 pair_lines format pairs = cond (nat_eq format 1) [] (section (codes "pairs") (map pair_words pairs))
 
--- the words of each line
-unfoldable pub word_lines : Certificate → List (List (List ℕ))
-word_lines cert = field (codes "bddorder-certificate") (cert.format ∷ [])
+-- the words of the first six lines
+abbrev pub head_lines : Certificate → List (List (List ℕ))
+head_lines cert = field (codes "bddorder-certificate") (cert.format ∷ [])
     ∷ field (codes "inputs") (cert.inputs ∷ [])
     ∷ field (codes "outputs") (cert.outputs ∷ [])
     ∷ field (codes "order") cert.order
     ∷ field (codes "levels") cert.levels
-    ∷ field (codes "total") (cert.total ∷ [])
-    ∷ (pair_lines cert.format cert.pairs ++ (section (codes "cells") (map cell_words cert.cells) ++ (codes "end" ∷ []) ∷ []))
+    ∷ field (codes "total") (cert.total ∷ []) ∷ []
+
+-- the words of each line
+unfoldable pub word_lines : Certificate → List (List (List ℕ))
+word_lines cert = head_lines cert ++ (pair_lines cert.format cert.pairs ++ (section (codes "cells") (map cell_words cert.cells) ++ (codes "end" ∷ []) ∷ []))
 
 -- words with one space between each two, and a line feed
 unfoldable pub text_line : List (List ℕ) → List ℕ

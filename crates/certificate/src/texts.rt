@@ -3,7 +3,7 @@
 ghost use Rattle.std.specs.Prelude.{◌≡◌, ◌++◌, ℕ, [], ◌∷◌, map, codes, string_bytes, IfOk, OnOk};
 ghost use Rattle.std.specs.List.{flat_map};
 ghost use Rattle.order_model.specs.Listed.{listed};
-ghost use Rattle.certificate.specs.Spelling.{field, text_line, pair_words, cell_words, spelling};
+ghost use Rattle.certificate.specs.Spelling.{field, section, head_lines, pair_lines, text_line, pair_words, cell_words, spelling};
 
 
 use crate::certificate::Certificate;
@@ -19,7 +19,7 @@ const LONGEST_PAIR: usize = 6;
 const LONGEST_CELL: usize = 12;
 
 /// Appends the line of a fixed word and a number.
-fn push_number(text: &mut String, name: &str, number: u32) -> Result<(), AllocError>
+fn push_number(text: &mut String, name: &str, number: usize) -> Result<(), AllocError>
     ensures { OnOk result (string_bytes text.new ≡ string_bytes text.old ++ text_line (field name.now (number ∷ []))) }
 {
     write!(text, "{name} {number}\n")?;
@@ -78,4 +78,56 @@ fn push_cells(text: &mut String, cells: &[ListedCell]) -> Result<(), AllocError>
         push_cell(text, *cell)?;
     }
     Ok(())
+}
+
+/// Appends the first six lines.
+fn push_head(text: &mut String, cert: &Certificate) -> Result<(), AllocError>
+    ensures { OnOk result (string_bytes text.new ≡ string_bytes text.old ++ flat_map text_line (head_lines cert.now)) }
+{
+    push_number(text, "bddorder-certificate", cert.format() as usize)?;
+    push_number(text, "inputs", cert.inputs() as usize)?;
+    push_number(text, "outputs", cert.outputs() as usize)?;
+    push_variables(text, "order", cert.order())?;
+    push_numbers(text, "levels", cert.levels())?;
+    push_number(text, "total", cert.total() as usize)?;
+    Ok(())
+}
+
+/// Appends the lines of pairs, which format 2 alone has.
+fn push_pair_lines(text: &mut String, cert: &Certificate) -> Result<(), AllocError>
+    ensures { OnOk result (string_bytes text.new ≡ string_bytes text.old ++ flat_map text_line (pair_lines cert.now.format cert.now.pairs)) }
+{
+    if cert.format() == 1 {
+        return Ok(());
+    }
+    push_number(text, "pairs", cert.pairs().len())?;
+    push_pairs(text, cert.pairs())?;
+    Ok(())
+}
+
+/// Appends the lines of listed sets.
+fn push_cell_lines(text: &mut String, cert: &Certificate) -> Result<(), AllocError>
+    ensures { OnOk result (string_bytes text.new ≡ string_bytes text.old ++ flat_map text_line (section (codes "cells") (map cell_words cert.now.cells))) }
+{
+    push_number(text, "cells", cert.cells().len())?;
+    push_cells(text, cert.cells())?;
+    Ok(())
+}
+
+impl Certificate {
+    /// The certificate's text, whose storage is reserved before its first byte is made: at most 12 bytes a listed set and 6 a pair
+    /// beside 512.
+    pub fn text(&self, alloc: Global) -> Result<String, AllocError>
+        ensures { IfOk result (λ text. string_bytes text ≡ spelling self.now) }
+    {
+        let pairs = LONGEST_PAIR.saturating_mul(self.pairs().len());
+        let cells = LONGEST_CELL.saturating_mul(self.cells().len());
+        let room = LONGEST_HEAD.saturating_add(pairs).saturating_add(cells);
+        let mut text = String::with_capacity(alloc, room)?;
+        push_head(&mut text, self)?;
+        push_pair_lines(&mut text, self)?;
+        push_cell_lines(&mut text, self)?;
+        text.push_str("end\n")?;
+        Ok(text)
+    }
 }
