@@ -11,7 +11,7 @@ use Rattle.order_model.specs.Pairs.{Pair}
 use Rattle.order_model.specs.Certificates.{Certificate, Cell}
 use Rattle.certificate.specs.Spelling.{most_nodes, most_pairs, hex4, field, section, pair_words, cell_words, pair_key, IsPair, IsCell}
 use Rattle.certificate.specs.Faults.{number_of, mask_of, number_said, is_pair, is_cell, pair_key_of, cell_key_of, field_fault, section_judges, pairs_judges, Judge}
-use Rattle.certificate.proofs.Words.{decimal_back, hex_back}
+use Rattle.certificate.proofs.WordLines.{decimal_back, hex_back}
 use Rattle.certificate.proofs.Judges.{Pass, pass_length, both_are, IsFrom, IsField, decimal_passes, decimal_is, mask_passes, mask_is, field_passes, field_is, numbers_of, one_number}
 use Rattle.certificate.proofs.Rising.{rise_pairs, pairs_rise}
 use Rattle.certificate.proofs.Sections.{AreEntries, StandAt, entry_judges, entries_pass, entries_are, IsKind, write_entries, read_entries, read_back}
@@ -54,16 +54,17 @@ top_power n small = pow-le-pow_right {n = 2} (lit< tt) {i = n} {j = 16} small
 pub pair_kind : (n : ℕ) → 1 ≤ n → n ≤ 16 → IsKind pair_words read_pair pair_key (IsPair n) (is_pair n) pair_key_of
 pair_kind n some small = record { written = written; back = back; told = told } where
   written : (p : Pair) → IsPair n p → (a : List ℕ) × (b : List ℕ) × (pair_words p ≡ a ∷ b ∷ []) × (is_pair n a b ≡ true) × (pair_key_of a b ≡ pair_key p)
-  written p (above, below) =
-      (
-        decimal p.0,
-        decimal p.1,
-        refl,
-        rw (decimal_passes 0 (n - 1) p.0 (omega arith) (omega arith, omega arith)) (decimal_passes 0 (n - 1) p.1 (omega arith) (omega arith, omega arith)),
-        rw (decimal_back p.0 (omega arith)) (rw (decimal_back p.1 (omega arith)) refl),
-      )
+  written p (above, below) = (
+    decimal p.0,
+    decimal p.1,
+    refl,
+    rw (decimal_passes 0 (n - 1) p.0 (omega arith) (omega arith, omega arith)) (decimal_passes 0 (n - 1) p.1 (omega arith) (omega arith, omega arith)),
+    rw (decimal_back p.0 (omega arith)) (rw (decimal_back p.1 (omega arith)) refl),
+  )
+
   back : (p : Pair) → IsPair n p → read_pair (pair_words p) ≡ p
   back (a, b) (above, below) = rw (decimal_back a (omega arith)) (rw (decimal_back b (omega arith)) refl)
+
   told : (a b : List ℕ) → is_pair n a b ≡ true → (pair_words (read_pair (a ∷ b ∷ [])) ≡ a ∷ b ∷ []) × IsPair n (read_pair (a ∷ b ∷ [])) × (pair_key (read_pair (a ∷ b ∷ [])) ≡ pair_key_of a b)
   told a b e =
       let t = both_are _ _ e in let first = decimal_is 0 (n - 1) a t.0 in let second = decimal_is 0 (n - 1) b t.1 in
@@ -74,16 +75,17 @@ pub cell_kind : (n : ℕ) → n ≤ 16 → IsKind cell_words read_cell mask_key 
 cell_kind n small = record { written = written; back = back; told = told } where
   written : (c : Cell) → IsCell n c → (a : List ℕ) × (b : List ℕ) × (cell_words c ≡ a ∷ b ∷ []) × (is_cell n a b ≡ true) × (cell_key_of a b ≡ mask_key c)
   written c is =
-      let mask = is.mask in let cost = is.cost in let top = top_power n small in
-      (
+      let mask = is.mask in let cost = is.cost in let top = top_power n small in (
         hex4 c.mask,
         decimal c.cost,
         refl,
         rw (mask_passes n c.mask small mask top) (decimal_passes 0 most_nodes c.cost (lit< tt) (omega arith, cost)),
         hex_back c.mask (omega arith),
       )
+
   back : (c : Cell) → IsCell n c → read_cell (cell_words c) ≡ c
   back c is = let mask = is.mask in let cost = is.cost in let top = top_power n small in rw (hex_back c.mask (omega arith)) (rw (decimal_back c.cost (omega (arith, cost))) refl)
+
   told : (a b : List ℕ) → is_cell n a b ≡ true → (cell_words (read_cell (a ∷ b ∷ [])) ≡ a ∷ b ∷ []) × IsCell n (read_cell (a ∷ b ∷ [])) × (mask_key (read_cell (a ∷ b ∷ [])) ≡ cell_key_of a b)
   told a b e =
       let t = both_are _ _ e in let first = mask_is n a t.0 in let second = decimal_is 0 most_nodes b t.1 in

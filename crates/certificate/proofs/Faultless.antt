@@ -14,7 +14,7 @@ use Rattle.order_model.specs.Certificates.{Certificate, Cell}
 use Rattle.certificate.specs.declared.faults.LineFault.{LineFault}
 use Rattle.certificate.specs.Spelling.{most_nodes, most_pairs, field, section, pair_words, pair_lines, cell_words, pair_key, IsPair, IsCell, word_lines, text_line, spelling, HasSpelling}
 use Rattle.certificate.specs.Faults.{whole_lines, onto_line, words, said, same, number_of, number_said, inputs_said, is_pair, is_cell, pair_key_of, cell_key_of, title_fault, field_fault, fixed_fault, section_judges, pairs_judges, cells_judges, judges, Judge, numbered, line_faults, with_feeds, trailing, faults, Spells, FirstFault}
-use Rattle.certificate.proofs.Words.{decimal_back}
+use Rattle.certificate.proofs.WordLines.{decimal_back}
 use Rattle.certificate.proofs.Judges.{Pass, pass_length, all_same_is, IsFrom, IsField, field_is, one_number, numbers_of}
 use Rattle.certificate.proofs.Spelled.{no_fault}
 use Rattle.certificate.proofs.Decoded.{read_pair, read_cell, mask_key, section_said, cells_place, cert_of, top_power, pair_kind, cell_kind, IsSection, section_is}
@@ -81,14 +81,14 @@ all_are_taken count text none =
     ap length parts ∙ length-append (with_feeds (take count lines) ++ with_feeds (drop count lines)) b.0 ∙ ap (λ k. k + length b.0) (length-append (with_feeds (take count lines)) (with_feeds (drop count lines))) in
     let bound = none_behind count text none in
     let no_lines : drop count lines ≡ [] = empty_lines (drop count lines) (omega (arith, sizes, bound)) in
-    let no_rest : b.0 ≡ [] = empty b.0 (omega (arith, sizes, bound)) in
-    (
+    let no_rest : b.0 ≡ [] = empty b.0 (omega (arith, sizes, bound)) in (
       sym (append-nil (take count lines)) ∙ ap (λ xs. take count lines ++ xs) (sym no_lines) ∙ split,
       b.1 ∙ ap (λ xs. with_feeds lines ++ xs) no_rest ∙ append-nil (with_feeds lines) ∙ sym (joined_back lines),
     ) where
       empty_lines : (ls : List (List ℕ)) → length (with_feeds ls) ≡ 0 → ls ≡ []
       empty_lines [] e = refl
       empty_lines (l ∷ ls) e = absurd (omega (arith, e, no_more l ls))
+
       empty : (xs : List ℕ) → length xs ≡ 0 → xs ≡ []
       empty [] e = refl
       empty (x ∷ xs) e = absurd (omega (arith, e))
@@ -276,6 +276,7 @@ faultless text none =
       both_empty : (xs ys : List (ℕ × LineFault)) → xs ++ ys ≡ [] → (xs ≡ []) × (ys ≡ [])
       both_empty [] ys e = (refl, e)
       both_empty (x ∷ xs) ys e = absurd (cc (e))
+
       empty : (xs : List (List (List ℕ))) → length xs ≡ 0 → xs ≡ []
       empty [] e = refl
       empty (x ∷ xs) e = absurd (omega (arith, e))
@@ -299,6 +300,7 @@ one_first_fault text i j e f a b =
       head_number : List (ℕ × LineFault) → ℕ
       head_number [] = 0
       head_number (x ∷ xs) = x.0
+
       head_fault : List (ℕ × LineFault) → LineFault → LineFault
       head_fault [] d = d
       head_fault (x ∷ xs) d = x.1

@@ -1,4 +1,5 @@
-pub mod Words
+mod Rows
+pub mod WordLines
 pub mod Rising
 pub mod Judges
 pub mod Sections

@@ -27,6 +27,7 @@ module _ {E : Type 0} (key_of : E → ℕ) where
     lower : (j k : ℕ) (xs : List E) → j < k → AllByRecursion (λ x. k < key_of x) xs → AllByRecursion (λ x. j < key_of x) xs
     lower j k [] less all = tt
     lower j k (x ∷ xs) less (here, all) = (omega arith, lower j k xs less all)
+
     later : (k : ℕ) (xs : List E) → RiseFrom (Some k) xs → AllByRecursion (λ x. k < key_of x) xs
     later k [] more = tt
     later k (x ∷ xs) (first, more) = (first, lower k (key_of x) xs first (later (key_of x) xs more))
@@ -36,7 +37,7 @@ module _ {E : Type 0} (key_of : E → ℕ) where
   pairs_rise (e ∷ es) all = (tt, from e es all) where
     tail : (x : E) (xs : List E) → AllPairs Rise (x ∷ xs) → AllPairs Rise xs
     tail x xs h i j d less within = h (suc i) (suc j) d (omega arith) (omega arith)
+
     from : (x : E) (xs : List E) → AllPairs Rise (x ∷ xs) → RiseFrom (Some (key_of x)) xs
     from x [] h = tt
     from x (y ∷ ys) h = (h 0 1 x (omega arith) (omega arith), from y ys (tail x (y ∷ ys) h))
-

@@ -47,11 +47,10 @@ module _ (is_entry : List ℕ → List ℕ → Bool) (key : List ℕ → List �
   pub entries_pass : (ws : List (List (List ℕ))) (first k : ℕ) (before : Option ℕ) (es : List (List (List ℕ))) → Before ws first k before → StandAt ws k es → AreEntries before es →
       Pass (entry_judges ws first k (length es)) es
   entries_pass ws first k before [] from stand are = refl
-  entries_pass ws first k before (e ∷ es) from (here, stand) (a, b, is, entry, above, more) =
-      (
-        rw is (rw entry (rw (rises_after ws first k before a b from above) refl)),
-        entries_pass ws first (k + 1) (Some (key a b)) es (next_before ws first k before a b from (here ∙ is)) stand more,
-      )
+  entries_pass ws first k before (e ∷ es) from (here, stand) (a, b, is, entry, above, more) = (
+    rw is (rw entry (rw (rises_after ws first k before a b from above) refl)),
+    entries_pass ws first (k + 1) (Some (key a b)) es (next_before ws first k before a b from (here ∙ is)) stand more,
+  )
 
   entry_is : (is_above : List ℕ → List ℕ → Bool) (e : List (List ℕ)) → entry_fault is_entry is_above e ≡ None →
       (a : List ℕ) × (b : List ℕ) × (e ≡ a ∷ b ∷ []) × (is_entry a b ≡ true) × (is_above a b ≡ true)
@@ -103,8 +102,7 @@ module _ {E : Type 0} (write : E → List (List ℕ)) (read : List (List ℕ) �
   read_entries before (e ∷ ws) (a, b, same, entry, above, more) =
       let t = kind.told a b entry in let k = t.2 in let rest = read_entries (Some (key a b)) ws more in
       let rising : RiseFrom key_of (Some (key_of (read e))) (map read ws) = rw same (rw k rest.2) in
-      let above_it : IsAbove before (key_of (read e)) = rw same (rw k above) in
-      (
+      let above_it : IsAbove before (key_of (read e)) = rw same (rw k above) in (
         rw same (rw t.0 (rw rest.0 refl)),
         (rw same t.1, rest.1),
         (above_it, rising),

@@ -10,7 +10,7 @@ use Rattle.order_model.specs.Pairs.{Pair}
 use Rattle.order_model.specs.Certificates.{Certificate, Cell}
 use Rattle.certificate.specs.Spelling.{most_nodes, most_pairs, field, section, pair_words, pair_lines, cell_words, pair_key, IsPair, IsCell, head_lines, word_lines, text_line, spelling, HasSpelling}
 use Rattle.certificate.specs.Faults.{whole_lines, words, said, number_of, number_said, inputs_said, is_pair, is_cell, pair_key_of, cell_key_of, title_fault, field_fault, fixed_fault, section_judges, pairs_judges, cells_judges, judges, Judge, line_faults, with_feeds, trailing, faults}
-use Rattle.certificate.proofs.Words.{AllPlain, ArePlain, list_word, decimal_plain, decimals_plain, decimals_back, decimal_back, hex_plain, plain_append, said_back, lines_back}
+use Rattle.certificate.proofs.WordLines.{AllPlain, ArePlain, list_word, decimal_plain, decimals_plain, decimals_back, decimal_back, hex_plain, plain_append, said_back, lines_back}
 use Rattle.certificate.proofs.Judges.{Pass, pass_length, pass_append, pass_none, IsFrom, field_passes, numbers_of, all_same_self}
 use Rattle.certificate.proofs.Decoded.{read_pair, read_cell, mask_key, section_said, cells_place, cert_of, top_power, pair_kind, cell_kind, section_passes, section_back}
 
@@ -151,24 +151,39 @@ module _ (cert : Certificate) (has : HasSpelling cert) where
 
   six_plain : AllPlain six
   six_plain =
-      let inputs = has.inputs in let outputs = has.outputs in let total = has.total in
-      (
-        one_plain (codes "bddorder-certificate") cert.format (list_word (codes "bddorder-certificate") refl, tt) format_small, tt,
-        (one_plain (codes "inputs") cert.inputs (list_word (codes "inputs") refl, tt) (omega (arith, inputs.1)), tt,
-        (one_plain (codes "outputs") cert.outputs (list_word (codes "outputs") refl, tt) (omega (arith, outputs.1)), tt,
-        ((list_word (codes "order") refl, decimals_plain cert.order (small 0 15 cert.order (lit< tt) (recursion_from_All _ cert.order has.order.1))), tt,
-        ((list_word (codes "levels") refl, decimals_plain cert.levels (small 0 most_nodes cert.levels (lit< tt) (recursion_from_All _ cert.levels has.levels.1))), tt,
-        (one_plain (codes "total") cert.total (list_word (codes "total") refl, tt) (omega (arith, total)), tt,
-        tt))))),
+      let inputs = has.inputs in let outputs = has.outputs in let total = has.total in (
+        one_plain (codes "bddorder-certificate") cert.format (list_word (codes "bddorder-certificate") refl, tt) format_small,
+        tt,
+        (
+          one_plain (codes "inputs") cert.inputs (list_word (codes "inputs") refl, tt) (omega (arith, inputs.1)),
+          tt,
+          (
+            one_plain (codes "outputs") cert.outputs (list_word (codes "outputs") refl, tt) (omega (arith, outputs.1)),
+            tt,
+            (
+              (list_word (codes "order") refl, decimals_plain cert.order (small 0 15 cert.order (lit< tt) (recursion_from_All _ cert.order has.order.1))),
+              tt,
+              (
+                (list_word (codes "levels") refl, decimals_plain cert.levels (small 0 most_nodes cert.levels (lit< tt) (recursion_from_All _ cert.levels has.levels.1))),
+                tt,
+                (
+                  one_plain (codes "total") cert.total (list_word (codes "total") refl, tt) (omega (arith, total)),
+                  tt,
+                  tt,
+                ),
+              ),
+            ),
+          ),
+        ),
       )
 
   all_plain : AllPlain (word_lines cert)
   all_plain =
       rw lines_are (plain_append six (pairs_here ++ (cells_here ++ last)) six_plain
-        (plain_append pairs_here (cells_here ++ last) pairs_are_plain
-          (plain_append cells_here last
-            (section_plain (codes "cells") (map cell_words cert.cells) (omega (arith, few_cells, length-map cert.cells cell_words)) (list_word (codes "cells") refl, tt) (cells_plain cert.inputs cert.cells all_cells))
-            ((list_word (codes "end") refl, tt), tt, tt))))
+      (plain_append pairs_here (cells_here ++ last) pairs_are_plain
+      (plain_append cells_here last
+      (section_plain (codes "cells") (map cell_words cert.cells) (omega (arith, few_cells, length-map cert.cells cell_words)) (list_word (codes "cells") refl, tt) (cells_plain cert.inputs cert.cells all_cells))
+      ((list_word (codes "end") refl, tt), tt, tt))))
 
   -- the words of the lines of a spelling
   pub spelling_said : said (spelling cert) ≡ word_lines cert
@@ -212,15 +227,24 @@ module _ (cert : Certificate) (has : HasSpelling cert) where
 
   six_pass : Pass (six_judges cert.inputs) six
   six_pass =
-      let inputs = has.inputs in let outputs = has.outputs in let total = has.total in
-      (
+      let inputs = has.inputs in let outputs = has.outputs in let total = has.total in (
         title_passes,
-        (field_passes (codes "inputs") 1 1 16 (cert.inputs ∷ []) refl (lit< tt) (inputs, tt),
-        (field_passes (codes "outputs") 1 1 16 (cert.outputs ∷ []) refl (lit< tt) (outputs, tt),
-        (field_passes (codes "order") cert.inputs 0 15 cert.order has.order.0 (lit< tt) (from_zero 15 cert.order (recursion_from_All _ cert.order has.order.1)),
-        (field_passes (codes "levels") cert.inputs 0 most_nodes cert.levels has.levels.0 (lit< tt) (from_zero most_nodes cert.levels (recursion_from_All _ cert.levels has.levels.1)),
-        (field_passes (codes "total") 1 0 most_nodes (cert.total ∷ []) refl (lit< tt) ((omega arith, total), tt),
-        refl))))),
+        (
+          field_passes (codes "inputs") 1 1 16 (cert.inputs ∷ []) refl (lit< tt) (inputs, tt),
+          (
+            field_passes (codes "outputs") 1 1 16 (cert.outputs ∷ []) refl (lit< tt) (outputs, tt),
+            (
+              field_passes (codes "order") cert.inputs 0 15 cert.order has.order.0 (lit< tt) (from_zero 15 cert.order (recursion_from_All _ cert.order has.order.1)),
+              (
+                field_passes (codes "levels") cert.inputs 0 most_nodes cert.levels has.levels.0 (lit< tt) (from_zero most_nodes cert.levels (recursion_from_All _ cert.levels has.levels.1)),
+                (
+                  field_passes (codes "total") 1 0 most_nodes (cert.total ∷ []) refl (lit< tt) ((omega arith, total), tt),
+                  refl,
+                ),
+              ),
+            ),
+          ),
+        ),
       )
 
   -- each line passes
@@ -250,12 +274,12 @@ module _ (cert : Certificate) (has : HasSpelling cert) where
   nothing_trails =
       let count : length (judges (word_lines cert)) ≡ length (map (join_with_byte 32) (word_lines cert)) = pass_length (judges (word_lines cert)) (word_lines cert) all_pass ∙ sym (length-map (word_lines cert) (join_with_byte 32)) in
       nothing_behind (length (judges (word_lines cert))) (spelling cert)
-        (
-          ap (λ lines. with_feeds (take (length (judges (word_lines cert))) lines)) whole_are
-          ∙ ap with_feeds (take_all (length (judges (word_lines cert))) (map (join_with_byte 32) (word_lines cert)) (omega (arith, count)))
-          ∙ feeds_back (word_lines cert)
-          ∙ spelling_is
-        )
+      (
+      ap (λ lines. with_feeds (take (length (judges (word_lines cert))) lines)) whole_are
+      ∙ ap with_feeds (take_all (length (judges (word_lines cert))) (map (join_with_byte 32) (word_lines cert)) (omega (arith, count)))
+      ∙ feeds_back (word_lines cert)
+      ∙ spelling_is
+      )
 
   pub no_fault : faults (spelling cert) ≡ []
   no_fault = unfold faults in rw spelling_said (rw (pass_none 1 (judges (word_lines cert)) (word_lines cert) all_pass) nothing_trails)
@@ -265,20 +289,27 @@ module _ (cert : Certificate) (has : HasSpelling cert) where
   spelling_says = rw spelling_said same where
     order_back : numbers_of (field (codes "order") cert.order) ≡ cert.order
     order_back = decimals_back cert.order (small 0 15 cert.order (lit< tt) (recursion_from_All _ cert.order has.order.1))
+
     levels_back : numbers_of (field (codes "levels") cert.levels) ≡ cert.levels
     levels_back = decimals_back cert.levels (small 0 most_nodes cert.levels (lit< tt) (recursion_from_All _ cert.levels has.levels.1))
+
     outputs_back : number_said (word_lines cert) 2 ≡ cert.outputs
     outputs_back = let outputs = has.outputs in rw lines_are (decimal_back cert.outputs (omega (arith, outputs.1)))
+
     total_back : number_said (word_lines cert) 5 ≡ cert.total
     total_back = let total = has.total in rw lines_are (decimal_back cert.total (omega (arith, total)))
+
     orders : numbers_of (get_or (word_lines cert) 3 []) ≡ cert.order
     orders = rw lines_are order_back
+
     leveled : numbers_of (get_or (word_lines cert) 4 []) ≡ cert.levels
     leveled = rw lines_are levels_back
+
     by_parts : (f f' i i' o o' : ℕ) (r r' l l' : List ℕ) (t t' : ℕ) (p p' : List Pair) (c c' : List Cell) →
         f ≡ f' → i ≡ i' → o ≡ o' → r ≡ r' → l ≡ l' → t ≡ t' → p ≡ p' → c ≡ c' →
         parts_of f i o r l t p c ≡ parts_of f' i' o' r' l' t' p' c'
     by_parts f f' i i' o o' r r' l l' t t' p p' c c' ef ei eo er el et ep ec = rw ef (rw ei (rw eo (rw er (rw el (rw et (rw ep (rw ec refl)))))))
+
     same : cert_of (word_lines cert) ≡ cert
     same = by_parts _ _ _ _ _ _ _ _ _ _ _ _ _ _ _ _ format_is inputs_are outputs_back orders leveled total_back pairs_are_back cells_are_back
 

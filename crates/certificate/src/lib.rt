@@ -5,7 +5,9 @@ mod bounds;
 mod certificate;
 mod faults;
 pub mod laws;
+#[cfg(test)]
+mod tests;
 mod texts;
 
 pub use certificate::Certificate;
-pub use faults::{CertFault, LineFault};
+pub use faults::LineFault;

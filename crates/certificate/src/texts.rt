@@ -5,7 +5,6 @@ ghost use Rattle.std.specs.List.{flat_map};
 ghost use Rattle.order_model.specs.Listed.{listed};
 ghost use Rattle.certificate.specs.Spelling.{field, section, head_lines, pair_lines, text_line, pair_words, cell_words, spelling};
 
-
 use crate::certificate::Certificate;
 use order_model::{ListedCell, VarIx};
 use std::alloc::{AllocError, Global};
@@ -16,6 +15,7 @@ const LONGEST_HEAD: usize = 512;
 
 /// The longest line of a pair, and of a listed set.
 const LONGEST_PAIR: usize = 6;
+
 const LONGEST_CELL: usize = 12;
 
 /// Appends the line of a fixed word and a number.

@@ -9,7 +9,7 @@ returns-then-not-pairs_fit-clause-unspelled c e format has =
 pub returns-clause-spelled : goal.returns-clause-spelled
 returns-clause-spelled c e format known =
     spelled format _ _ _ _ _ _ c.args.cells.now known (c.count_fits.ensures.0 c.if-not-count_fits.false) (c.count_fits-2.ensures.0 c.if-not-count_fits-2.false) (c.order_fits.ensures.0 c.if-not-order_fits.false)
-      (c.levels_fit.ensures.0 c.if-not-levels_fit.false) (omega arith) (c.pairs_fit.ensures.0 c.if-not-pairs_fit.false) (c.cells_fit.ensures.0 e)
+    (c.levels_fit.ensures.0 c.if-not-levels_fit.false) (omega arith) (c.pairs_fit.ensures.0 c.if-not-pairs_fit.false) (c.cells_fit.ensures.0 e)
 
 pub returns-clause-unspelled : goal.returns-clause-unspelled
 returns-clause-unspelled c e format has =
