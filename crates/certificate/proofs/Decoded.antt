@@ -1,20 +1,18 @@
 -- The certificate that lines of words say, and what is asked of its lines.
-use Rattle.std.proofs.Common.{◌≡◌, ℕ, ◌+◌, ◌-◌, ◌*◌, ◌^◌, ◌≤◌, ◌<◌, zero, suc, refl, sym, ◌∙◌, ap, subst, Bool, true, false, not, cond, ◌&&◌, ◌==◌, nat_eq, inl, inr, List, [], ◌∷◌, ◌++◌, length, map, take, drop, get_or, codes, decimal, Option, None, Some, arith, lit<}
+use Rattle.std.proofs.Common.{◌≡◌, ℕ, ◌+◌, ◌-◌, ◌^◌, ◌≤◌, ◌<◌, refl, sym, ◌∙◌, ap, subst, Bool, true, cond, nat_eq, List, [], ◌∷◌, ◌++◌, length, map, take, drop, get_or, decimal, None, arith, lit<}
 use Rattle.std.specs.List.{AllByRecursion, AllPairs}
-use Rattle.std.proofs.lemmas.Bool.Decides.{nat_tests}
-use Rattle.std.proofs.lemmas.List.{length-map, length-append, take-append-drop}
-use Rattle.std.proofs.lemmas.List.Elements.{recursion_from_All, All-from_recursion}
+use Rattle.std.proofs.lemmas.List.{length-map, length-append}
 use Rattle.std.proofs.Math.Seq.{take-append_seam, drop-append-add, get_or-append_seam}
 use Rattle.std.proofs.Math.Nat.{pow-le-pow_right}
 use mathlib.Core.List.{append_assoc}
 use Rattle.order_model.specs.Pairs.{Pair}
 use Rattle.order_model.specs.Certificates.{Certificate, Cell}
-use Rattle.certificate.specs.Spelling.{most_nodes, most_pairs, hex4, field, section, pair_words, cell_words, pair_key, IsPair, IsCell}
-use Rattle.certificate.specs.Faults.{number_of, mask_of, number_said, is_pair, is_cell, pair_key_of, cell_key_of, field_fault, section_judges, pairs_judges, Judge}
+use Rattle.certificate.specs.Spelling.{most_nodes, hex4, field, section, pair_words, cell_words, pair_key, IsPair, IsCell}
+use Rattle.certificate.specs.Faults.{number_of, mask_of, number_said, is_pair, is_cell, pair_key_of, cell_key_of, section_judges, pairs_judges}
 use Rattle.certificate.proofs.WordLines.{decimal_back, hex_back}
-use Rattle.certificate.proofs.Judges.{Pass, pass_length, both_are, IsFrom, IsField, decimal_passes, decimal_is, mask_passes, mask_is, field_passes, field_is, numbers_of, one_number}
+use Rattle.certificate.proofs.Judges.{Pass, both_are, decimal_passes, decimal_is, mask_passes, mask_is, field_passes, field_is, numbers_of, one_number}
 use Rattle.certificate.proofs.Rising.{rise_pairs, pairs_rise}
-use Rattle.certificate.proofs.Sections.{AreEntries, StandAt, entry_judges, entries_pass, entries_are, IsKind, write_entries, read_entries, read_back}
+use Rattle.certificate.proofs.Sections.{StandAt, entries_pass, entries_are, IsKind, write_entries, read_entries, read_back}
 
 -- the pair and the listed set of a line
 abbrev pub read_pair : List (List ℕ) → Pair

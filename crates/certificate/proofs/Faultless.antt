@@ -1,10 +1,9 @@
 -- A text without a fault is the spelling of the certificate that it says.
-use Rattle.std.proofs.Common.{◌≡◌, ℕ, ◌+◌, ◌-◌, ◌^◌, ◌≤◌, ◌<◌, zero, suc, refl, sym, ◌∙◌, ap, subst, Bool, true, false, not, cond, ◌&&◌, ◌||◌, ◌==◌, nat_eq, nat_lt, inl, inr, ◌⊎◌, List, [], ◌∷◌, ◌++◌, length, map, take, drop, get_or, codes, decimal, Option, None, Some, arith, lit<}
-use Rattle.std.specs.List.{AllByRecursion, All, AllPairs, flat_map, join_with_byte}
+use Rattle.std.proofs.Common.{◌≡◌, ℕ, ◌+◌, ◌-◌, ◌^◌, ◌≤◌, ◌<◌, zero, suc, refl, sym, ◌∙◌, ap, subst, Bool, true, false, cond, ◌==◌, nat_lt, inl, inr, ◌⊎◌, List, [], ◌∷◌, ◌++◌, length, map, take, drop, get_or, codes, Option, None, Some, arith, lit<}
+use Rattle.std.specs.List.{AllByRecursion, AllPairs, flat_map}
 use Rattle.std.specs.Fmt.{digits}
 use Rattle.std.specs.Cmp.Lexicographic.{pointwise}
 use Rattle.std.proofs.lemmas.Bool.Decides.{nat_tests}
-use Rattle.std.proofs.lemmas.Bool.{cases_eq}
 use Rattle.std.proofs.lemmas.List.{length-map, length-append, append-nil, take-append-drop}
 use Rattle.std.proofs.lemmas.List.Elements.{All-from_recursion}
 use Rattle.std.proofs.lemmas.List.Splits.{join_with_byte-slice_split}
@@ -13,9 +12,9 @@ use Rattle.order_model.specs.Pairs.{Pair}
 use Rattle.order_model.specs.Certificates.{Certificate, Cell}
 use Rattle.certificate.specs.declared.faults.LineFault.{LineFault}
 use Rattle.certificate.specs.Spelling.{most_nodes, most_pairs, field, section, pair_words, pair_lines, cell_words, pair_key, IsPair, IsCell, word_lines, text_line, spelling, HasSpelling}
-use Rattle.certificate.specs.Faults.{whole_lines, onto_line, words, said, same, number_of, number_said, inputs_said, is_pair, is_cell, pair_key_of, cell_key_of, title_fault, field_fault, fixed_fault, section_judges, pairs_judges, cells_judges, judges, Judge, numbered, line_faults, with_feeds, trailing, faults, Spells, FirstFault}
+use Rattle.certificate.specs.Faults.{whole_lines, onto_line, words, said, same, number_of, number_said, inputs_said, is_pair, is_cell, pair_key_of, cell_key_of, title_fault, fixed_fault, section_judges, pairs_judges, cells_judges, judges, Judge, numbered, line_faults, with_feeds, trailing, faults, Spells, FirstFault}
 use Rattle.certificate.proofs.WordLines.{decimal_back}
-use Rattle.certificate.proofs.Judges.{Pass, pass_length, all_same_is, IsFrom, IsField, field_is, one_number, numbers_of}
+use Rattle.certificate.proofs.Judges.{Pass, pass_length, all_same_is, IsFrom, field_is, one_number}
 use Rattle.certificate.proofs.Spelled.{no_fault}
 use Rattle.certificate.proofs.Decoded.{read_pair, read_cell, mask_key, section_said, cells_place, cert_of, top_power, pair_kind, cell_kind, IsSection, section_is}
 

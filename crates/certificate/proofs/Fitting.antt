@@ -1,11 +1,11 @@
 -- What the tests of a certificate's parts say.
-use Rattle.std.proofs.Common.{◌≡◌, ℕ, ◌+◌, ◌-◌, ◌^◌, ◌<◌, ◌≤◌, refl, sym, ◌∙◌, ap, Bool, true, false, ◌&&◌, nat_lt, nat_le, List, [], ◌∷◌, length, map, Option, None, Some, arith}
+use Rattle.std.proofs.Common.{◌≡◌, ℕ, ◌-◌, ◌^◌, ◌<◌, ◌≤◌, refl, sym, ap, Bool, true, ◌&&◌, nat_lt, nat_le, List, [], ◌∷◌, length, map, Option, None, Some, arith}
 use Rattle.std.specs.List.{AllByRecursion, All, AllPairs}
 use Rattle.std.proofs.lemmas.Bool.Decides.{nat_tests}
 use Rattle.std.proofs.lemmas.List.{length-map}
 use Rattle.std.proofs.lemmas.List.Elements.{All-from_recursion, recursion_from_All}
 use Rattle.order_model.specs.Pairs.{Pair}
-use Rattle.order_model.specs.Certificates.{Certificate, Cell}
+use Rattle.order_model.specs.Certificates.{Cell}
 use Rattle.order_model.specs.Listed.{listed}
 use Rattle.order_model.specs.declared.listed_cells.ListedCell.{ListedCell}
 use Rattle.certificate.specs.Spelling.{most_nodes, most_pairs, pair_key, IsPair, IsCell, HasSpelling}

@@ -1,5 +1,5 @@
 -- What it means that a line passes what it is asked.
-use Rattle.std.proofs.Common.{◌≡◌, ℕ, ◌+◌, ◌-◌, ◌^◌, ◌≤◌, ◌<◌, suc, refl, sym, ◌∙◌, ap, Bool, true, false, not, ◌&&◌, ◌||◌, ◌==◌, nat_lt, nat_le, nat_eq, List, [], ◌∷◌, ◌++◌, length, map, take, drop, get_or, codes, decimal, Option, None, Some, arith}
+use Rattle.std.proofs.Common.{◌≡◌, ℕ, ◌+◌, ◌-◌, ◌^◌, ◌≤◌, ◌<◌, suc, refl, sym, ◌∙◌, ap, Bool, true, false, not, ◌&&◌, ◌||◌, ◌==◌, nat_lt, nat_le, nat_eq, List, [], ◌∷◌, ◌++◌, length, map, get_or, decimal, None, arith}
 use Rattle.std.specs.List.{AllByRecursion, list_all}
 use Rattle.std.specs.Cmp.Lexicographic.{pointwise, same_text}
 use Rattle.std.proofs.lemmas.Bool.Decides.{nat_tests}
@@ -7,7 +7,7 @@ use Rattle.std.proofs.lemmas.Bool.{eqb-true}
 use Rattle.std.proofs.lemmas.List.{length-map}
 use Rattle.certificate.specs.declared.faults.LineFault.{LineFault}
 use Rattle.certificate.specs.Spelling.{hex4, field}
-use Rattle.certificate.specs.Faults.{same, number_of, mask_of, is_decimal, is_mask, first_fault, field_fault, entry_fault, Judge, line_faults, numbered}
+use Rattle.certificate.specs.Faults.{same, number_of, mask_of, is_decimal, is_mask, first_fault, field_fault, Judge, line_faults}
 use Rattle.certificate.proofs.WordLines.{decimal_back, hex_back}
 
 -- each line passes what it is asked, and each question has its line

@@ -1,7 +1,6 @@
 -- Entries whose keys rise.
-use Rattle.std.proofs.Common.{◌≡◌, ℕ, ◌+◌, ◌<◌, suc, refl, ◌∙◌, ap, Bool, true, false, ◌&&◌, nat_lt, List, [], ◌∷◌, length, Option, None, Some, arith}
+use Rattle.std.proofs.Common.{ℕ, ◌<◌, suc, List, [], ◌∷◌, Option, None, Some, arith}
 use Rattle.std.specs.List.{AllByRecursion, AllPairs}
-use Rattle.std.proofs.lemmas.Bool.Decides.{nat_tests}
 use Rattle.std.proofs.lemmas.List.Kept.{AllPairs-cons}
 use Rattle.std.proofs.lemmas.List.Elements.{All-from_recursion}
 

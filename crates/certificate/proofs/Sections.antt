@@ -1,15 +1,10 @@
 -- Lines of a count and of as many entries, which rise by a key.
-use Rattle.std.proofs.Common.{◌≡◌, ℕ, ◌+◌, ◌-◌, ◌≤◌, ◌<◌, zero, suc, refl, sym, ◌∙◌, ap, subst, Bool, true, false, not, ◌&&◌, ◌||◌, ◌==◌, nat_lt, nat_eq, List, [], ◌∷◌, ◌++◌, length, map, take, drop, get_or, decimal, Option, None, Some, arith}
-use Rattle.std.specs.List.{AllByRecursion, AllPairs, range_with_len}
+use Rattle.std.proofs.Common.{◌≡◌, ℕ, ◌+◌, ◌-◌, ◌<◌, zero, suc, refl, ◌∙◌, ap, Bool, true, false, ◌==◌, List, [], ◌∷◌, length, map, get_or, Option, None, Some, arith}
+use Rattle.std.specs.List.{AllByRecursion, range_with_len}
 use Rattle.std.proofs.lemmas.Bool.Decides.{nat_tests}
-use Rattle.std.proofs.lemmas.List.{length-map}
-use Rattle.std.proofs.lemmas.List.Kept.{AllPairs-cons}
-use Rattle.std.proofs.lemmas.List.Elements.{All-from_recursion}
-use Rattle.certificate.specs.declared.faults.LineFault.{LineFault}
-use Rattle.certificate.specs.Spelling.{field, section}
-use Rattle.certificate.specs.Faults.{first_fault, entry_fault, rises, section_judges, number_said, word_at, Judge}
+use Rattle.certificate.specs.Faults.{entry_fault, rises, word_at, Judge}
 use Rattle.certificate.proofs.Rising.{IsAbove, RiseFrom}
-use Rattle.certificate.proofs.Judges.{Pass, no_fault_here, field_is, field_passes, one_number, IsFrom}
+use Rattle.certificate.proofs.Judges.{Pass}
 
 module _ (is_entry : List ℕ → List ℕ → Bool) (key : List ℕ → List ℕ → ℕ) where
   -- lines that are entries, whose keys rise from one that may have come before

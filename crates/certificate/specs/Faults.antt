@@ -3,7 +3,7 @@
 --     judges ws      what each line of the text is asked, from the first on
 --     faults text      the faulty lines with their numbers, counted from 1, and then what follows the end
 --     Spells text cert, FirstFault text line fault      the text is the certificate's spelling; its first fault
-use Rattle.std.specs.Prelude.{◌≡◌, ℕ, ◌+◌, ◌-◌, ◌*◌, ◌^◌, Bool, not, cond, ◌&&◌, ◌||◌, ◌==◌, List, [], ◌∷◌, ◌++◌, length, map, take, codes, decimal, Option, Some, None, nat_lt, nat_le, nat_eq}
+use Rattle.std.specs.Prelude.{◌≡◌, ℕ, ◌+◌, ◌-◌, ◌^◌, Bool, not, cond, ◌&&◌, ◌||◌, ◌==◌, List, [], ◌∷◌, ◌++◌, length, map, take, codes, decimal, Option, Some, None, nat_lt, nat_le, nat_eq}
 use Rattle.std.specs.List.{slice_split, slice_index_or, range_with_len, list_all, flat_map}
 use Rattle.std.specs.Cmp.Lexicographic.{pointwise}
 use Rattle.std.specs.Str.Parse.{digits_value}

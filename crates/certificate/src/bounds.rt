@@ -1,8 +1,7 @@
 //! What the parts of a certificate may be.
 
-ghost use Rattle.std.specs.Prelude.{◌≡◌, ◌≤◌, ◌^◌, ◌-◌, ◌⊎◌, ◌↔◌, ℕ, [], None, IsTrue, IsFalse, length};
-ghost use Rattle.std.specs.List.{list_all, All};
-ghost use Rattle.order_model.specs.Certificates.{Certificate};
+ghost use Rattle.std.specs.Prelude.{◌≡◌, ◌≤◌, ◌^◌, ◌-◌, ◌↔◌, ℕ, None, IsTrue, IsFalse, length};
+ghost use Rattle.std.specs.List.{All};
 ghost use Rattle.certificate.specs.Spelling.{HasSpelling, most_nodes, most_pairs, pair_key};
 ghost use Rattle.certificate.specs.Values.{fit, is_above as above, is_cell_of, is_pair_of, mask_in, value_of, HasPairs};
 

@@ -1,7 +1,6 @@
 //! Why a command line gives no plan.
 
 ghost use Rattle.std.specs.Prelude.{◌≡◌};
-ghost use Rattle.clap.specs.Words.{kind_of};
 ghost use Rattle.command_line.specs.Usages.{status_of, usage_kind};
 
 use clap::Error;

@@ -1,6 +1,6 @@
 //! What the functions of a class depend on, as a mask for each class.
 
-ghost use Rattle.std.specs.Prelude.{◌≡◌, ℕ, ◌/◌, ◌<◌, map, get_or, length, IfOk};
+ghost use Rattle.std.specs.Prelude.{◌≡◌, ℕ, ◌<◌, map, get_or, length, IfOk};
 ghost use Rattle.compaction.specs.Dependence.{joined_mask};
 
 use std::alloc::{AllocError, Global};

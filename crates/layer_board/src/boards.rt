@@ -1,6 +1,6 @@
 //! What workers do at a board.
 
-ghost use Rattle.std.specs.Prelude.{◌≡◌, ◌≢◌, ℕ, ◌+◌, ◌-◌, ◌^◌, ◌<◌, ◌≤◌, true, false, [], Some, All, IfOk, IfErr, IfSome, IsSome, IsNone, IsTrue, slice_get, slice_index, length, vec_len, map, take, replicate};
+ghost use Rattle.std.specs.Prelude.{◌≡◌, ◌≢◌, ℕ, ◌+◌, ◌-◌, ◌^◌, ◌<◌, ◌≤◌, true, false, [], Some, All, IfOk, IfErr, IfSome, IsNone, IsTrue, slice_get, slice_index, length, vec_len, map, take, replicate};
 ghost use Rattle.subset_layers.specs.Layers.{masks_of, blocks_of};
 ghost use Rattle.layer_core.specs.Machine.{claimed, claims_block};
 ghost use Rattle.layer_board.specs.Views.{cell_for, fresh, first_seat, stepped, no_more, found_empty, has_claimed, knows_filled, learned};

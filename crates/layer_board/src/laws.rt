@@ -1,11 +1,11 @@
 //! Laws of the rule of a board's table: what its steps are in the machine's terms.
 
-ghost use Rattle.std.specs.Prelude.{◌≡◌, ℕ, ◌+◌, ◌%◌, ◌^◌, ◌<◌, ◌==◌, true, false, [], Some, length, slice_index};
+ghost use Rattle.std.specs.Prelude.{◌≡◌, ℕ, ◌+◌, ◌%◌, ◌^◌, ◌==◌, true, false, [], Some, length, slice_index};
 ghost use mathlib.Core.Option.{some, none};
 ghost use lib.ListN.{get_elem?};
 ghost use prog.Atomic.{either};
 ghost use Rattle.atomic_table.specs.Table.{State, step as table_step, stepped, keeps};
-ghost use Rattle.subset_layers.specs.Layers.{masks_of, blocks_of};
+ghost use Rattle.subset_layers.specs.Layers.{blocks_of};
 ghost use Rattle.layer_core.specs.Machine.{Claim, Post, Read, step, place_of, claimed};
 ghost use Rattle.layer_core.specs.Rights.{Right};
 ghost use Rattle.layer_board.specs.Views.{BriefOf, SeatView, layout_of};

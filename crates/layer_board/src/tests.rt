@@ -1,4 +1,4 @@
-ghost use Rattle.std.specs.Prelude.{◌≡◌, ◌^◌, ◌<◌, All, IfOk, vec_len, [], ◌∷◌};
+ghost use Rattle.std.specs.Prelude.{◌≡◌, ◌<◌, All, IfOk, vec_len, [], ◌∷◌};
 ghost use Rattle.layer_board.specs.Views.{cell_for, first_seat};
 ghost use Rattle.layer_board.specs.Examples.{parity};
 

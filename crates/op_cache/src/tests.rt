@@ -1,8 +1,8 @@
 //! Remembering and recalling.
 
-ghost use Rattle.std.specs.Prelude.{◌≡◌, ◌≤◌, IfOk};
+ghost use Rattle.std.specs.Prelude.{◌≡◌, IfOk};
 ghost use Rattle.unique_table.specs.Plans.{levels_of};
-ghost use Rattle.unique_table.specs.Sessions.{Knows, Follows};
+ghost use Rattle.unique_table.specs.Sessions.{Knows};
 
 use super::*;
 use order_model::{Order, Problem};

@@ -1,6 +1,6 @@
 //! The cells of a block's sets.
 
-ghost use Rattle.std.specs.Prelude.{◌≡◌, ◌+◌, ◌^◌, ◌<◌, ◌≤◌, map, slice_get, Some, IfOk, OnOk};
+ghost use Rattle.std.specs.Prelude.{◌≡◌, ◌+◌, ◌^◌, ◌<◌, ◌≤◌, map, IfOk, OnOk};
 ghost use Rattle.subset_layers.specs.Layers.{layer_of, block_masks};
 ghost use Rattle.layer_board.specs.Views.{cell_for};
 ghost use Rattle.layer_board.specs.Pairing.{pair_of};

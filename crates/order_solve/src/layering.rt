@@ -1,10 +1,9 @@
 //! The cells of a layer by workers.
 
-ghost use Rattle.std.specs.Prelude.{◌≡◌, ◌≤◌, ◌+◌, ◌^◌, ◌<◌, ℕ, All, IfOk, map, vec_len};
+ghost use Rattle.std.specs.Prelude.{◌≡◌, ◌≤◌, ◌+◌, ◌^◌, ◌<◌, All, IfOk, map, vec_len};
 ghost use Rattle.std.specs.Thread.{IsSync};
-ghost use Rattle.order_model.specs.Problems.{functions};
 ghost use Rattle.subset_layers.specs.Layers.{masks_of};
-ghost use Rattle.layer_board.specs.Views.{BoardId, cell_for};
+ghost use Rattle.layer_board.specs.Views.{cell_for};
 ghost use Rattle.layer_board.specs.Pairing.{pair_of};
 ghost use Rattle.order_solve.specs.Benches.{AreCostsFor, setting_with, IsLayerFor};
 

@@ -1,6 +1,6 @@
 //! What a certificate lists of the cells, and how many widths they take.
 
-ghost use Rattle.std.specs.Prelude.{◌≡◌, ◌<◌, ◌≤◌, ◌^◌, ℕ, map, count_ones, IfOk, List};
+ghost use Rattle.std.specs.Prelude.{◌≡◌, ◌<◌, ◌≤◌, ℕ, map, count_ones, IfOk, List};
 ghost use Rattle.order_model.specs.Functions.{Function};
 ghost use Rattle.order_model.specs.Orders.{members};
 ghost use Rattle.order_model.specs.Problems.{functions};

@@ -1,6 +1,6 @@
 //! The variables whose widths the cell of a set takes.
 
-ghost use Rattle.std.specs.Prelude.{◌≡◌, ◌+◌, ◌<◌, ◌≤◌, List, map, IfOk, IsTrue};
+ghost use Rattle.std.specs.Prelude.{◌≡◌, ◌+◌, ◌<◌, List, map, IfOk, IsTrue};
 ghost use Rattle.order_model.specs.Functions.{Function};
 ghost use Rattle.order_model.specs.Orders.{has, mask_of};
 ghost use Rattle.order_model.specs.Cells.{wanted};

@@ -1,11 +1,9 @@
 //! Solutions of small covers, and workers at a board.
 
-ghost use Rattle.std.specs.Prelude.{◌≡◌, ℕ, ◌<◌, ◌≤◌, All, IfOk, IfSome, Some, length, slice_get, vec_len};
-ghost use Rattle.std.specs.Thread.{IsSync};
+ghost use Rattle.std.specs.Prelude.{◌≡◌, ◌<◌, All, IfOk, Some, length};
 ghost use Rattle.order_model.specs.Levels.{size_under};
 ghost use Rattle.order_model.specs.Problems.{functions};
-ghost use Rattle.subset_layers.specs.Layers.{layer_of, block_masks};
-ghost use Rattle.order_solve.specs.Benches.{setting_with, IsLayerFor};
+ghost use Rattle.subset_layers.specs.Layers.{layer_of};
 
 use crate::cells::cells_of_block;
 use crate::layering::next_layer;

@@ -1,9 +1,8 @@
 //! A worker at the board of a layer.
 
-ghost use Rattle.std.specs.Prelude.{◌≡◌, ◌+◌, ◌^◌, ◌≤◌, ℕ, map, slice_get, Some, IfOk, IsTrue, OnOk};
+ghost use Rattle.std.specs.Prelude.{◌≡◌, ℕ, map, Some, IfOk, IsTrue};
 ghost use Rattle.order_model.specs.Orders.{has};
-ghost use Rattle.subset_layers.specs.Layers.{layer_of, block_masks, blocks_of};
-ghost use Rattle.layer_core.specs.Machine.{claimed};
+ghost use Rattle.subset_layers.specs.Layers.{block_masks};
 ghost use Rattle.layer_board.specs.Views.{cell_for, has_claimed, knows_filled};
 ghost use Rattle.layer_board.specs.Pairing.{pair_of};
 ghost use Rattle.order_solve.specs.Gains.{gains, gained, widths_for, IsPosted, StaysClaimed};

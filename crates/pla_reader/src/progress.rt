@@ -1,6 +1,6 @@
 //! What was read of a description so far.
 
-ghost use Rattle.std.specs.Prelude.{◌≡◌, ◌≤◌, ◌+◌, ◌&&◌, ◌==◌, ℕ, List, length, true, false, not, None, Some, IfOk, IfErr, MatchResult, is_some, unwrap_or, map};
+ghost use Rattle.std.specs.Prelude.{◌≡◌, ◌≤◌, ◌&&◌, length, true, false, None, Some, IfOk, IfErr, MatchResult, is_some, unwrap_or, map};
 ghost use Rattle.std.specs.List.{list_all};
 ghost use Rattle.std.specs.Option.{option_map};
 ghost use Rattle.std.specs.String.{string_bytes};
@@ -8,7 +8,6 @@ ghost use Rattle.pla_reader.specs.declared.errors.LineFault.TheVariants.{Missing
 ghost use Rattle.pla_reader.specs.Text.{is_filled, words, positions, is_name};
 ghost use Rattle.pla_reader.specs.Lines.Line.{Inputs, Outputs, InputNames, OutputNames, LogicalType as TypeLine, Row};
 ghost use Rattle.pla_reader.specs.Covers.{first_number, numbered_names};
-ghost use Rattle.order_model.specs.Products.{product_of};
 ghost use Rattle.pla_reader.specs.Faults.{head_fault, naming_fault, type_fault, is_one_number};
 ghost use Rattle.pla_reader.specs.Statements.{line_of};
 ghost use Rattle.pla_reader.specs.Progress.{state_of, start, is_f, words_of, IsSound, Takes, IsCoverOf, IsEndError};

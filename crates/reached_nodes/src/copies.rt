@@ -1,6 +1,6 @@
 //! Copying what an id reaches, children first.
 
-ghost use Rattle.std.specs.Prelude.{◌≡◌, ℕ, ◌^◌, ◌<◌, ◌≤◌, ◌+◌, ◌++◌, ◌∷◌, [], IfOk, OnOk, vec_len, length, slice_index, slice_set};
+ghost use Rattle.std.specs.Prelude.{◌≡◌, ◌^◌, ◌<◌, ◌≤◌, ◌+◌, ◌++◌, ◌∷◌, [], IfOk, OnOk, vec_len, length, slice_index, slice_set};
 ghost use Rattle.std.specs.Slots.{slots_len, IsFull};
 ghost use Rattle.node_words.specs.Nodes.{AreNodes, IsKnown};
 ghost use Rattle.reached_nodes.specs.Copies.{words_in, AreCopied, Copies};

@@ -1,6 +1,6 @@
 //! The diagram of what some roots reach.
 
-ghost use Rattle.std.specs.Prelude.{◌≡◌, ℕ, ◌^◌, ◌<◌, ◌≤◌, IfOk, length, map};
+ghost use Rattle.std.specs.Prelude.{◌^◌, ◌<◌, ◌≤◌, IfOk, length, map};
 ghost use Rattle.std.specs.List.{All};
 ghost use Rattle.std.specs.Slots.{slots_len, IsFull};
 ghost use Rattle.order_model.specs.Orders.{IsOrder};

@@ -1,14 +1,14 @@
 //! The answer of a run: the best order of a cover, beside the sifted and the file order.
 
-ghost use Rattle.std.specs.Prelude.{◌≡◌, ◌<◌, ◌≤◌, ℕ, Ok, IfOk, length, slice_index, string_bytes, sum};
+ghost use Rattle.std.specs.Prelude.{◌≡◌, ◌<◌, ◌≤◌, ℕ, Ok, IfOk, length, slice_index, string_bytes};
 ghost use Rattle.order_model.specs.Diagrams.{IsFirstKeeping, nodes_at};
 ghost use Rattle.order_model.specs.Levels.{level_counts, size_under};
-ghost use Rattle.order_model.specs.Pairs.{IsFirstOrder, Keeps};
+ghost use Rattle.order_model.specs.Pairs.{IsFirstOrder};
 ghost use Rattle.order_model.specs.Problems.{functions};
 ghost use Rattle.order_model.specs.Sifting.{sifted as sifted_order};
 ghost use Rattle.dd_builder.specs.Building.{AreTablesOf};
 ghost use Rattle.report.specs.Answers.{IsAnswer, PairsAre};
-ghost use Rattle.report.specs.Texts.{file_order_levels, functions_of};
+ghost use Rattle.report.specs.Texts.{file_order_levels};
 
 use crate::outcome::Shortage;
 use crate::texts::{report_text, total};

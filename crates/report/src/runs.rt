@@ -1,6 +1,6 @@
 //! Runs of minorder, over any reader and writers.
 
-ghost use Rattle.std.specs.Prelude.{◌≡◌, ◌<◌, ◌≤◌, ◌^◌, IsTrue, IfOk, IfErr, IfSome, length, string_bytes};
+ghost use Rattle.std.specs.Prelude.{◌≡◌, ◌<◌, ◌≤◌, ◌^◌, IfOk, IfErr, IfSome, length, string_bytes};
 ghost use Rattle.report.specs.Answers.{Hinders, IsTextOf};
 ghost use Rattle.report.specs.Texts.{count_text as text_of, file_order_levels};
 ghost use Rattle.report.specs.Runs.{Answers, FailsOnlyByDevice, Writes, WritesNothing};

@@ -1,6 +1,6 @@
 //! The texts that the programs write, each made whole before its first byte goes out.
 
-ghost use Rattle.std.specs.Prelude.{◌≡◌, ◌<◌, ◌≤◌, ◌++◌, ℕ, length, map, string_bytes, sum, codes, decimal, IfOk, OnOk};
+ghost use Rattle.std.specs.Prelude.{◌≡◌, ◌<◌, ◌≤◌, ◌++◌, length, map, string_bytes, sum, IfOk, OnOk};
 ghost use Rattle.std.specs.List.{All};
 ghost use Rattle.report.specs.Texts.{each_name_spaced, each_spaced, name_of, names_in, numbers as spaced, counts_lines, order_lines, sizes_lines};
 

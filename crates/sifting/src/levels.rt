@@ -4,8 +4,8 @@
 //! doesn't depend on the level's variable, and whose two children are then equal. So each edge goes to the next level, and an
 //! exchange changes nothing outside its two levels.
 
-ghost use Rattle.std.specs.Prelude.{◌≡◌, ◌+◌, ◌*◌, ◌<◌, ◌≤◌, ◌^◌, ℕ, length, IfOk};
-ghost use Rattle.sifting.specs.Leveled.{branching, at, HasChildren, Exchanges};
+ghost use Rattle.std.specs.Prelude.{◌≡◌, ◌+◌, ◌*◌, ◌<◌, ◌^◌, length, IfOk};
+ghost use Rattle.sifting.specs.Leveled.{branching, HasChildren, Exchanges};
 
 use indexmap::IndexSet;
 use std::alloc::{AllocError, Global};

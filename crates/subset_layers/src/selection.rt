@@ -1,7 +1,7 @@
 //! Numbers below a limit with a table of their places.
 
 ghost use Rattle.subset_layers.specs.Selections.{ArePlaced};
-ghost use Rattle.std.specs.Prelude.{◌≡◌, ℕ, ◌<◌, ◌≤◌, ◌≢◌, length, slice_index, slice_get, IfOk, IfSome, IsNone, MatchOption, ◌^◌};
+ghost use Rattle.std.specs.Prelude.{◌≡◌, ℕ, ◌<◌, ◌≤◌, ◌≢◌, length, slice_index, slice_get, IfOk, IfSome, IsNone, ◌^◌};
 
 use std::alloc::{AllocError, Global};
 

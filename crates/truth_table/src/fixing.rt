@@ -1,6 +1,6 @@
 //! Variables fixed in packed truth tables.
 
-ghost use Rattle.std.specs.Prelude.{◌≡◌, ◌+◌, ◌-◌, ◌<◌, ◌≤◌, ◌^◌, ℕ, length, slice_index};
+ghost use Rattle.std.specs.Prelude.{◌≡◌, ◌+◌, ◌-◌, ◌<◌, ◌≤◌, ℕ, length, slice_index};
 ghost use Rattle.std.specs.Int.{bit_at};
 ghost use Rattle.order_model.specs.Functions.{from_table, restrict, table};
 ghost use Rattle.order_model.specs.Problems.{IsClean, table_in, words_per_table};

@@ -1,10 +1,8 @@
 //! Making a store.
 
-ghost use Rattle.std.specs.Prelude.{◌≡◌, ℕ, ◌*◌, ◌^◌, ◌<◌, ◌≤◌, [], length, IfOk};
-ghost use Rattle.order_model.specs.OrderFaults.{Accepts};
+ghost use Rattle.std.specs.Prelude.{◌≡◌, ◌*◌, ◌<◌, ◌≤◌, [], length, IfOk};
 ghost use Rattle.unique_table.specs.Plans.{AreGivenBy, IsPlanFor, IsKind, parts_count, ways};
 ghost use Rattle.order_model.specs.Problems.{outputs_of, TruthTables};
-ghost use Rattle.unique_table.specs.Sessions.{StoreId};
 
 use crate::session::{Session, Store};
 use crate::terms::{PieceKind, Pieces, TermList};

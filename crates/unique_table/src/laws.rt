@@ -1,11 +1,8 @@
 //! Laws of a store's states.
 
-ghost use Rattle.std.specs.Prelude.{◌≡◌, ℕ, List, true, length};
-ghost use mathlib.Core.Option.{some};
-ghost use lib.ListN.{get_elem?};
+ghost use Rattle.std.specs.Prelude.{◌≡◌, ℕ};
 ghost use Rattle.atomic_table.specs.Table.{State};
 ghost use Rattle.order_model.specs.Functions.{Function, SameFunction};
-ghost use Rattle.node_words.specs.Nodes.{IsKnown};
 ghost use Rattle.node_words.specs.Meaning.{Denotes};
 ghost use Rattle.unique_table.specs.declared.view.Plan.{Plan};
 ghost use Rattle.unique_table.specs.declared.view.View.{View};

@@ -1,6 +1,6 @@
 //! Making nodes, and taking them apart.
 
-ghost use Rattle.std.specs.Prelude.{◌≡◌, ℕ, ◌+◌, ◌*◌, ◌<◌, ◌≤◌, ◌==◌, ◌↔◌, IfOk, OnErr, IfSome, IfNone, IsNone};
+ghost use Rattle.std.specs.Prelude.{◌≡◌, ◌+◌, ◌*◌, ◌<◌, ◌≤◌, ◌==◌, ◌↔◌, IfOk, OnErr, IfSome, IfNone, IsNone};
 ghost use Rattle.order_model.specs.Functions.{Point};
 ghost use Rattle.node_words.specs.Nodes.{node_word, IsFullFor, IsIdOf};
 ghost use Rattle.node_words.specs.Meaning.{branch};

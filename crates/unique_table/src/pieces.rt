@@ -1,6 +1,6 @@
 //! Publishing and collecting the ids of pieces.
 
-ghost use Rattle.std.specs.Prelude.{◌≡◌, ℕ, ◌+◌, ◌<◌, IfSome, IfNone, slice_index};
+ghost use Rattle.std.specs.Prelude.{◌≡◌, ◌+◌, ◌<◌, IfSome, IfNone, slice_index};
 ghost use Rattle.unique_table.specs.Plans.{piece_function};
 ghost use Rattle.unique_table.specs.Sessions.{Means, HasPiece, Follows};
 

@@ -1,6 +1,6 @@
 //! Sessions that are split and joined.
 
-ghost use Rattle.std.specs.Prelude.{◌≡◌, ℕ, ◌+◌};
+ghost use Rattle.std.specs.Prelude.{◌≡◌, ◌+◌};
 ghost use Rattle.unique_table.specs.Sessions.{Follows, HasUniqueIds};
 
 use crate::plays::Both;

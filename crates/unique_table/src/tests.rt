@@ -1,6 +1,6 @@
 //! Filling a store, and sessions of two threads.
 
-ghost use Rattle.std.specs.Prelude.{◌≡◌, ℕ, ◌<◌, ◌≤◌, IfOk, OnOk};
+ghost use Rattle.std.specs.Prelude.{◌≡◌, ◌<◌, ◌≤◌, IfOk, OnOk};
 ghost use Rattle.std.specs.List.{All};
 ghost use Rattle.unique_table.specs.Plans.{levels_of};
 ghost use Rattle.unique_table.specs.Sessions.{Knows, IsKnownBelow, Follows, Knowledge, depth_in};

@@ -1,6 +1,6 @@
 //! The steps on words, each with what the seat's view gains.
 
-ghost use Rattle.std.specs.Prelude.{◌≡◌, ◌≢◌, ℕ, ◌+◌, ◌-◌, ◌*◌, ◌^◌, ◌<◌, ◌≤◌, slice_index, MatchBool, IfSome, IfNone};
+ghost use Rattle.std.specs.Prelude.{◌≡◌, ◌≢◌, ◌+◌, ◌-◌, ◌*◌, ◌^◌, ◌<◌, ◌≤◌, slice_index, MatchBool, IfSome, IfNone};
 ghost use Rattle.node_words.specs.Nodes.{IsNode, IsNext, IsTaken, IsFullFor};
 ghost use Rattle.node_words.specs.Meaning.{Denotes};
 ghost use Rattle.node_words.specs.Entries.{IsEntry};

@@ -1,6 +1,6 @@
 //! A store of the conjunction and the disjunction of two variables.
 
-ghost use Rattle.std.specs.Prelude.{◌≡◌, ℕ, ◌∷◌, [], true, false, ◌<◌, IfOk, OnOk};
+ghost use Rattle.std.specs.Prelude.{◌≡◌, ◌∷◌, [], true, false, ◌<◌, IfOk, OnOk};
 ghost use Rattle.order_model.specs.Problems.{outputs_of};
 ghost use Rattle.unique_table.specs.Plans.{order_of, output_at};
 ghost use Rattle.unique_table.specs.Sessions.{Means, Follows};

@@ -1,4 +1,4 @@
-use Rattle.std.proofs.Common.{◌≡◌, ℕ, true, false, IsTrue, sym, ◌∙◌, arith}
+use Rattle.std.proofs.Common.{◌≡◌, true, sym, ◌∙◌, arith}
 use Rattle.certificate.proofs.Fitting.{spelled, spelled_pairs, spelled_cells}
 use Rattle.certificate.proofs.bounds.have_spelling.Goals as goal
 

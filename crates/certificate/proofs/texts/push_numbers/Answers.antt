@@ -1,4 +1,4 @@
-use Rattle.std.proofs.Common.{◌∙◌, ap, ◌++◌, string_bytes, take_all, sym, arith}
+use Rattle.std.proofs.Common.{◌∙◌, ap, ◌++◌, string_bytes, take_all, arith}
 use Rattle.certificate.specs.Values.{each_spaced}
 use Rattle.certificate.proofs.Written.{numbers_written}
 use Rattle.certificate.proofs.texts.push_numbers.Goals as goal
