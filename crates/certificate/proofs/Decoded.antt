@@ -11,7 +11,7 @@ use Rattle.order_model.specs.Pairs.{Pair}
 use Rattle.order_model.specs.Certificates.{Certificate, Cell}
 use Rattle.certificate.specs.Spelling.{most_nodes, most_pairs, hex4, field, section, pair_words, cell_words, pair_key, IsPair, IsCell}
 use Rattle.certificate.specs.Faults.{number_of, mask_of, number_said, is_pair, is_cell, pair_key_of, cell_key_of, field_fault, section_judges, pairs_judges, Judge}
-use Rattle.certificate.proofs.Words.{decimal_back, hex_back}
+use Rattle.certificate.proofs.WordLines.{decimal_back, hex_back}
 use Rattle.certificate.proofs.Judges.{Pass, pass_length, both_are, IsFrom, IsField, decimal_passes, decimal_is, mask_passes, mask_is, field_passes, field_is, numbers_of, one_number}
 use Rattle.certificate.proofs.Rising.{rise_pairs, pairs_rise}
 use Rattle.certificate.proofs.Sections.{AreEntries, StandAt, entry_judges, entries_pass, entries_are, IsKind, write_entries, read_entries, read_back}

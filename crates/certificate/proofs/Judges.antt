@@ -8,7 +8,7 @@ use Rattle.std.proofs.lemmas.List.{length-map}
 use Rattle.certificate.specs.declared.faults.LineFault.{LineFault}
 use Rattle.certificate.specs.Spelling.{hex4, field}
 use Rattle.certificate.specs.Faults.{same, number_of, mask_of, is_decimal, is_mask, first_fault, field_fault, entry_fault, Judge, line_faults, numbered}
-use Rattle.certificate.proofs.Words.{decimal_back, hex_back}
+use Rattle.certificate.proofs.WordLines.{decimal_back, hex_back}
 
 -- each line passes what it is asked, and each question has its line
 abbrev pub Pass : List Judge → List (List (List ℕ)) → Type 0

@@ -1,4 +1,4 @@
-pub mod Words
+pub mod WordLines
 pub mod Rising
 pub mod Judges
 pub mod Sections
@@ -7,3 +7,5 @@ pub mod Spelled
 pub mod Faultless
 pub mod Fitting
 pub mod Written
+pub mod Cutting
+pub mod Numbers

@@ -6,6 +6,7 @@ mod certificate;
 mod faults;
 pub mod laws;
 mod texts;
+mod words;
 
 pub use certificate::Certificate;
 pub use faults::{CertFault, LineFault};
