@@ -9,3 +9,4 @@ pub mod Fitting
 pub mod Written
 pub mod Cutting
 pub mod Numbers
+pub mod Masks

@@ -43,7 +43,7 @@ bounded least most v word e number low high =
     let first : nat_le least v ≡ true = grind (arith, nat_tests) in let second : nat_le v most ≡ true = grind (arith, nat_tests) in
     rw number (rw e (rw (same_self word) (rw first (rw second refl))))
 
-not_true : (b : Bool) → (b ≡ true → ⊥) → b ≡ false
+pub not_true : (b : Bool) → (b ≡ true → ⊥) → b ≡ false
 not_true true never = absurd (never refl)
 not_true false never = refl
 
@@ -86,3 +86,7 @@ no_more_digits (x ∷ xs) e = absurd (omega (arith, e))
 pub no_more_value : (v : ℕ) (xs : List ℕ) → length xs ≡ 0 → digits_value_after 10 v xs ≡ v
 no_more_value v [] e = refl
 no_more_value v (x ∷ xs) e = absurd (omega (arith, e))
+
+-- the value of a word decides
+pub out_of_bounds : (least most v : ℕ) (word : List ℕ) → most ≤ most_nodes → number_of word ≡ v → (least ≤ v → v ≤ most → ⊥) → is_decimal least most word ≡ false
+out_of_bounds least most v word few number out = unbounded least most word few (λ n small low high same e. out (omega (arith, low, same, number)) (omega (arith, high, same, number)))

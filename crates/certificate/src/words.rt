@@ -1,6 +1,6 @@
 //! Lines, words, numbers and masks of a certificate's text.
 
-ghost use Rattle.std.specs.Prelude.{◌≡◌, ◌≤◌, ◌==◌, ℕ, true, false, length, IfSome, IfNone, decimal as decimal_of};
+ghost use Rattle.std.specs.Prelude.{◌≡◌, ◌≤◌, ◌<◌, ◌==◌, ℕ, true, false, length, IfSome, IfNone, decimal as decimal_of};
 ghost use Rattle.std.specs.List.{position_or_len};
 ghost use Rattle.std.specs.Fmt.{digit_glyph};
 ghost use Rattle.certificate.specs.Spelling.{hex4, most_nodes};
@@ -79,4 +79,36 @@ pub(crate) fn number(word: &[u8], least: u32, most: u32) -> Option<u32>
         return None;
     }
     Some(value)
+}
+
+/// The value of a hexadecimal digit in lower case.
+fn hex_digit(b: u8) -> Option<Mask>
+    ensures some { IfSome result (λ d. (b ≡ digit_glyph false d) × (d < 16)) }
+    ensures none { IfNone result ((d : ℕ) → d < 16 → b ≡ digit_glyph false d → ⊥) }
+{
+    match b {
+        b'0'..=b'9' => Some(Mask::from(b - b'0')),
+        b'a'..=b'f' => Some(Mask::from(b - b'a') + 10),
+        _ => None,
+    }
+}
+
+/// The mask of a word of four hexadecimal digits, where it is one of some variables of n but not of all.
+pub(crate) fn mask(word: &[u8], n: u8) -> Option<Mask>
+    requires { n ≤ 16 }
+    ensures some { IfSome result (λ mask. (is_mask n word.now ≡ true) × (mask_of word.now ≡ mask)) }
+    ensures none { IfNone result (is_mask n word.now ≡ false) }
+{
+    let [a, b, c, d] = word else {
+        return None;
+    };
+    let a = hex_digit(*a)?;
+    let b = hex_digit(*b)?;
+    let c = hex_digit(*c)?;
+    let d = hex_digit(*d)?;
+    let mask = ((a * 16 + b) * 16 + c) * 16 + d;
+    if u32::from(mask) >= sets_below_all(n) {
+        return None;
+    }
+    Some(mask)
 }
