@@ -10,3 +10,4 @@ pub mod Written
 pub mod Cutting
 pub mod Numbers
 pub mod Masks
+pub mod LineWords

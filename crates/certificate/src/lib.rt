@@ -5,6 +5,7 @@ mod bounds;
 mod certificate;
 mod faults;
 pub mod laws;
+mod lines;
 mod texts;
 mod words;
 
