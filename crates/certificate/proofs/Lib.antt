@@ -8,3 +8,7 @@ pub mod Spelled
 pub mod Faultless
 pub mod Fitting
 pub mod Written
+pub mod Cutting
+pub mod Numbers
+pub mod Masks
+pub mod LineWords

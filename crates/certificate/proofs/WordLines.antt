@@ -127,7 +127,7 @@ pub decimal_back : (n : ℕ) → n < 2 ^ 64 → number_of (decimal n) ≡ n
 decimal_back n small = (decimal_is_IsNumeral n small).1
 
 -- the digits of masks
-glyph_value : (d : ℕ) → d < 16 → digit_value (digit_glyph false d) ≡ d
+pub glyph_value : (d : ℕ) → d < 16 → digit_value (digit_glyph false d) ≡ d
 glyph_value d small = digit_value-digit_char d (omega arith)
 
 glyph_low : (d : ℕ) → 48 ≤ digit_glyph false d

@@ -1,3 +1,4 @@
 pub mod Spelling
 pub mod Faults
 pub mod Values
+pub mod Parsing

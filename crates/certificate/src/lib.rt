@@ -5,9 +5,11 @@ mod bounds;
 mod certificate;
 mod faults;
 pub mod laws;
+pub mod lines;
 #[cfg(test)]
 mod tests;
 mod texts;
+mod words;
 
 pub use certificate::Certificate;
 pub use faults::LineFault;

@@ -1,0 +1,92 @@
+-- Words that are numbers as a certificate has them.
+use Rattle.std.proofs.Common.{◌≡◌, ℕ, ◌+◌, ◌-◌, ◌*◌, ◌^◌, ◌≤◌, ◌<◌, suc, zero, refl, sym, ◌∙◌, ap, subst, Bool, true, false, ◌==◌, ◌&&◌, nat_le, inl, inr, ◌⊎◌, List, [], ◌∷◌, length, take, drop, get_or, decimal, arith, lit<}
+use Rattle.std.specs.Fmt.{digits}
+use Rattle.std.specs.Str.{all_ascii_digits}
+use Rattle.std.specs.Str.Parse.{digits_value_after, AllDigits}
+use Rattle.std.specs.Char.{is_ascii_digit, digit_value}
+use Rattle.std.proofs.lemmas.Bool.Decides.{nat_tests}
+use Rattle.std.proofs.lemmas.Bool.{cases_lt}
+use Rattle.std.proofs.lemmas.Fmt.{decimal_nonempty, first_decimal, length-decimal-le, decimal-digits_value, digits_decimal}
+use Rattle.std.proofs.lemmas.Str.{digit_value_digit}
+use Rattle.std.proofs.lemmas.Str.Parse.{tells_all_ascii_digits, numerals_by_value}
+use Rattle.std.proofs.lemmas.List.{take_all, length-drop}
+use Rattle.std.proofs.Math.Nat.{pow-le-pow_right, pow-suc}
+use Rattle.certificate.specs.Spelling.{most_nodes}
+use Rattle.certificate.specs.Faults.{number_of, is_decimal, same}
+use Rattle.certificate.proofs.Judges.{same_self, decimal_is, IsFrom}
+
+-- digits without a leading zero, or just zero, are their number's decimal
+pub spelled_digits : (word : List ℕ) → all_ascii_digits word ≡ true → 0 < length word → (get_or word 0 0 ≡ 48 → length word ≡ 1) → number_of word < 2 ^ 64 → decimal (number_of word) ≡ word
+spelled_digits word all some leading small = decimal-digits_value (numerals_by_value (λ ds. all_ascii_digits ds ≡ true) tells_all_ascii_digits) word all some leading small
+
+-- what a decimal of a number in bounds is
+pub decimal_some : (n : ℕ) (word : List ℕ) → n ≤ most_nodes → word ≡ decimal n → 0 < length word
+decimal_some n word few e = rw e (decimal_nonempty n (omega (arith, few)))
+
+pub decimal_short : (n : ℕ) (word : List ℕ) → n ≤ most_nodes → word ≡ decimal n → length word ≤ 6
+decimal_short n word few e = rw e (length-decimal-le 6 n (lit< tt) (omega (arith, few)) (omega (arith, few)))
+
+pub decimal_leads : (n : ℕ) (word : List ℕ) → n ≤ most_nodes → word ≡ decimal n → get_or word 0 0 ≡ 48 → length word ≡ 1
+decimal_leads n word few e first_zero = by (cases_lt 0 n) where
+  nothing : (m : ℕ) → m ≡ 0 → length (decimal m) ≡ 1
+  nothing m none = unfold digits in rw none refl
+  by : (0 < n) ⊎ (n ≤ 0) → length word ≡ 1
+  by (inl more) = let above = first_decimal n more (omega (arith, few)) in let first : get_or (decimal n) 0 0 ≡ 48 = ap (λ w. get_or w 0 0) (sym e) ∙ first_zero in absurd (omega (arith, above, first))
+  by (inr none) = rw e (nothing n (omega (arith, none)))
+
+pub decimal_all : (n : ℕ) (word : List ℕ) → n ≤ most_nodes → word ≡ decimal n → all_ascii_digits word ≡ true
+decimal_all n word few e = rw e (digits_decimal (numerals_by_value (λ ds. all_ascii_digits ds ≡ true) tells_all_ascii_digits) n (omega (arith, few)))
+
+-- the test of bounds
+pub bounded : (least most v : ℕ) (word : List ℕ) → decimal v ≡ word → number_of word ≡ v → least ≤ v → v ≤ most → is_decimal least most word ≡ true
+bounded least most v word e number low high =
+    let first : nat_le least v ≡ true = grind (arith, nat_tests) in let second : nat_le v most ≡ true = grind (arith, nat_tests) in
+    rw number (rw e (rw (same_self word) (rw first (rw second refl))))
+
+pub not_true : (b : Bool) → (b ≡ true → ⊥) → b ≡ false
+not_true true never = absurd (never refl)
+not_true false never = refl
+
+pub unbounded : (least most : ℕ) (word : List ℕ) → most ≤ most_nodes → ((n : ℕ) → n ≤ most_nodes → least ≤ n → n ≤ most → n ≡ number_of word → word ≡ decimal n → ⊥) → is_decimal least most word ≡ false
+unbounded least most word few never =
+    not_true (is_decimal least most word) (λ yes. let d = decimal_is least most word yes in let high = d.1.1 in never (number_of word) (omega (arith, high, few)) d.1.0 d.1.1 refl (sym d.0))
+
+-- digits read one by one, as in the numbers of descriptions
+pub pow_small : (k : ℕ) → k ≤ 5 → 10 ^ k ≤ 100000
+pow_small k h = pow-le-pow_right {n = 10} (lit< tt) {i = k} {j = 5} h
+
+pub pow_more : (n k v d : ℕ) → v < 10 ^ k → d < 10 → n ≡ suc k → v * 10 + d < 10 ^ n
+pow_more n k v d h small e = rw e (rw (pow-suc 10 k) (omega arith))
+
+behind_first : (xs : List ℕ) → take (length xs - 1) (drop 1 xs) ≡ drop 1 xs
+behind_first xs = take_all (length xs - 1) (drop 1 xs) (omega (arith, length-drop 1 xs))
+
+pub digits_rest : (xs : List ℕ) → 0 < length xs → is_ascii_digit (get_or xs 0 0) ≡ true → all_ascii_digits xs ≡ all_ascii_digits (take (length xs - 1) (drop 1 xs))
+digits_rest [] some e = absurd (omega (arith, some))
+digits_rest (x ∷ xs) some e = rw e (ap all_ascii_digits (sym (behind_first (x ∷ xs))))
+
+pub value_rest : (v : ℕ) (xs : List ℕ) → 0 < length xs → 48 ≤ get_or xs 0 0 → get_or xs 0 0 ≤ 57 →
+    digits_value_after 10 v xs ≡ digits_value_after 10 (v * 10 + (get_or xs 0 0 - 48)) (take (length xs - 1) (drop 1 xs))
+value_rest v [] some low high = absurd (omega (arith, some))
+value_rest v (x ∷ xs) some low high =
+    let digit : digit_value x ≡ x - 48 = omega (arith, digit_value_digit x (low, high)) in rw digit (ap (digits_value_after 10 (v * 10 + (x - 48))) (sym (behind_first (x ∷ xs))))
+
+pub digit_range : (c : ℕ) → is_ascii_digit c ≡ true → (48 ≤ c) × (c ≤ 57)
+digit_range c e = (grind (arith, nat_tests), grind (arith, nat_tests))
+
+-- no decimal has another byte
+pub no_digits : (xs : List ℕ) → 0 < length xs → is_ascii_digit (get_or xs 0 0) ≡ false → all_ascii_digits xs ≡ false
+no_digits [] some e = absurd (omega (arith, some))
+no_digits (x ∷ xs) some e = rw e refl
+
+pub no_more_digits : (xs : List ℕ) → length xs ≡ 0 → all_ascii_digits xs ≡ true
+no_more_digits [] e = refl
+no_more_digits (x ∷ xs) e = absurd (omega (arith, e))
+
+pub no_more_value : (v : ℕ) (xs : List ℕ) → length xs ≡ 0 → digits_value_after 10 v xs ≡ v
+no_more_value v [] e = refl
+no_more_value v (x ∷ xs) e = absurd (omega (arith, e))
+
+-- the value of a word decides
+pub out_of_bounds : (least most v : ℕ) (word : List ℕ) → most ≤ most_nodes → number_of word ≡ v → (least ≤ v → v ≤ most → ⊥) → is_decimal least most word ≡ false
+out_of_bounds least most v word few number out = unbounded least most word few (λ n small low high same e. out (omega (arith, low, same, number)) (omega (arith, high, same, number)))

@@ -1,0 +1,114 @@
+//! Lines, words, numbers and masks of a certificate's text.
+
+ghost use Rattle.std.specs.Prelude.{◌≡◌, ◌≤◌, ◌<◌, ◌==◌, ℕ, true, false, length, IfSome, IfNone, decimal as decimal_of};
+ghost use Rattle.std.specs.List.{position_or_len};
+ghost use Rattle.std.specs.Fmt.{digit_glyph};
+ghost use Rattle.certificate.specs.Spelling.{hex4, most_nodes};
+ghost use Rattle.certificate.specs.Faults.{is_decimal, is_mask, mask_of, number_of};
+ghost use Rattle.certificate.specs.Parsing.{Cuts, Lacks};
+
+use crate::bounds::sets_below_all;
+use order_model::Mask;
+
+/// The most digits of a number: all bounds are below a million.
+const MOST_DIGITS: usize = 6;
+
+/// How many bytes stand before a byte, or all of them.
+fn len_until(text: &[u8], byte: u8) -> usize
+    ensures value { result ≡ position_or_len (λ b. b == byte) text.now }
+    ensures bound { result ≤ length text.now }
+{
+    let mut len = 0;
+    let mut rest = text;
+    while let [b, more @ ..] = rest {
+        if *b == byte {
+            break;
+        }
+        len += 1;
+        rest = more;
+    }
+    len
+}
+
+/// What stands before the first of a byte, and what follows it.
+pub(crate) fn cut(text: &[u8], byte: u8) -> Option<(&[u8], &[u8])>
+    ensures some { IfSome result (λ parts. Cuts byte text.now parts.0.now parts.1.now) }
+    ensures none { IfNone result (Lacks byte text.now) }
+{
+    let (front, rest) = text.split_at(len_until(text, byte));
+    match rest {
+        [] => None,
+        [_, behind @ ..] => Some((front, behind)),
+    }
+}
+
+/// The number of a word that is a decimal of at most 999,999, as a certificate writes it.
+fn decimal(word: &[u8]) -> Option<u32>
+    ensures some { IfSome result (λ value. (decimal_of value ≡ word.now) × (number_of word.now ≡ value)) }
+    ensures none { IfNone result ((n : ℕ) → n ≤ most_nodes → word.now ≡ decimal_of n → ⊥) }
+{
+    if word.is_empty() {
+        return None;
+    }
+    if word.len() > MOST_DIGITS {
+        return None;
+    }
+    if word[0] == b'0' && word.len() > 1 {
+        return None;
+    }
+    let mut value = 0u32;
+    let mut rest = word;
+    while let [b, more @ ..] = rest {
+        if !b.is_ascii_digit() {
+            return None;
+        }
+        value = value * 10 + (*b - b'0') as u32;
+        rest = more;
+    }
+    Some(value)
+}
+
+/// The number of a word that is a decimal in bounds, as a certificate writes it.
+pub(crate) fn number(word: &[u8], least: u32, most: u32) -> Option<u32>
+    requires { most ≤ most_nodes }
+    ensures some { IfSome result (λ value. (is_decimal least most word.now ≡ true) × (number_of word.now ≡ value)) }
+    ensures none { IfNone result (is_decimal least most word.now ≡ false) }
+{
+    let value = decimal(word)?;
+    if value < least || value > most {
+        return None;
+    }
+    Some(value)
+}
+
+/// The value of a hexadecimal digit in lower case.
+fn hex_digit(b: u8) -> Option<Mask>
+    ensures some { IfSome result (λ d. (b ≡ digit_glyph false d) × (d < 16)) }
+    ensures none { IfNone result ((d : ℕ) → d < 16 → b ≡ digit_glyph false d → ⊥) }
+{
+    match b {
+        b'0'..=b'9' => Some(Mask::from(b - b'0')),
+        b'a'..=b'f' => Some(Mask::from(b - b'a') + 10),
+        _ => None,
+    }
+}
+
+/// The mask of a word of four hexadecimal digits, where it is one of some variables of n but not of all.
+pub(crate) fn mask(word: &[u8], n: u8) -> Option<Mask>
+    requires { n ≤ 16 }
+    ensures some { IfSome result (λ mask. (is_mask n word.now ≡ true) × (mask_of word.now ≡ mask)) }
+    ensures none { IfNone result (is_mask n word.now ≡ false) }
+{
+    let [a, b, c, d] = word else {
+        return None;
+    };
+    let a = hex_digit(*a)?;
+    let b = hex_digit(*b)?;
+    let c = hex_digit(*c)?;
+    let d = hex_digit(*d)?;
+    let mask = ((a * 16 + b) * 16 + c) * 16 + d;
+    if u32::from(mask) >= sets_below_all(n) {
+        return None;
+    }
+    Some(mask)
+}
