@@ -1,15 +1,13 @@
 -- Words of lines.
-use Rattle.std.proofs.Common.{◌≡◌, ℕ, ◌+◌, ◌<◌, refl, sym, ◌∙◌, ap, Bool, true, false, not, cond, ◌&&◌, ◌||◌, ◌==◌, List, [], ◌∷◌, ◌++◌, length, map, get_or, codes, decimal, Option, None, Some, arith, lit<}
-use Rattle.std.specs.List.{join_with_byte, slice_split, list_all}
-use Rattle.std.specs.Fmt.{digits}
+use Rattle.std.proofs.Common.{◌≡◌, ℕ, ◌<◌, refl, sym, ◌∙◌, ap, Bool, true, false, ◌==◌, List, [], ◌∷◌, length, get_or, codes, None, Some, arith}
+use Rattle.std.specs.List.{join_with_byte, slice_split}
 use Rattle.std.specs.Cmp.Lexicographic.{pointwise}
 use Rattle.std.proofs.lemmas.Bool.Decides.{nat_tests}
 use Rattle.std.proofs.lemmas.List.Splits.{join_with_byte-slice_split, slice_split_none, slice_split_at, length-slice_split}
-use Rattle.certificate.specs.declared.faults.LineFault.{LineFault}
 use Rattle.certificate.specs.declared.faults.LineFault.TheVariants.{BadLine}
-use Rattle.certificate.specs.Faults.{words, same, number_of, first_fault, fixed_fault, title_fault, field_fault, is_decimal}
+use Rattle.certificate.specs.Faults.{words, same, number_of, fixed_fault, title_fault, field_fault}
 use Rattle.certificate.specs.Parsing.{Lacks, Cuts}
-use Rattle.certificate.proofs.Judges.{same_is, same_self, all_same_is, all_same_self}
+use Rattle.certificate.proofs.Judges.{same_is, same_self, all_same_is}
 use Rattle.certificate.proofs.Numbers.{not_true}
 
 -- the words of a line that a space parts
@@ -45,10 +43,7 @@ not_two name least most (w ∷ n ∷ m ∷ more) never =
       by true e other = rw e (rw other refl)
       by false e other = rw e refl
 
--- a line that is what is wanted, and another one
-fixed_words : (wanted : List (List ℕ)) (line : List ℕ) → line ≡ join_with_byte 32 wanted → words (join_with_byte 32 wanted) ≡ wanted → words line ≡ wanted
-fixed_words wanted line e back = ap words e ∙ back
-
+-- a line that isn't what is wanted
 other_words : (wanted : List (List ℕ)) (line text : List ℕ) → join_with_byte 32 wanted ≡ text → same line text ≡ false → pointwise same (words line) wanted ≡ false
 other_words wanted line text joined other = not_true (pointwise same (words line) wanted) (λ yes.
     let here : line ≡ text = sym (words_join line) ∙ ap (join_with_byte 32) (all_same_is (words line) wanted yes) ∙ joined in
@@ -63,9 +58,6 @@ end_yes line e = let is : slice_split (λ b. b == 32) line ≡ end_words = ap (s
 
 pub end_no : (line : List ℕ) → same line (codes "end") ≡ false → fixed_fault end_words (words line) ≡ Some BadLine
 end_no line e = rw (other_words end_words line (codes "end") refl e) refl
-
-abbrev title_words : ℕ → List (List ℕ)
-title_words format = codes "bddorder-certificate" ∷ decimal format ∷ []
 
 abbrev first_words : List (List ℕ)
 first_words = codes "bddorder-certificate" ∷ codes "1" ∷ []

@@ -1,8 +1,8 @@
 -- Words that are numbers as a certificate has them.
-use Rattle.std.proofs.Common.{◌≡◌, ℕ, ◌+◌, ◌-◌, ◌*◌, ◌^◌, ◌≤◌, ◌<◌, suc, zero, refl, sym, ◌∙◌, ap, subst, Bool, true, false, ◌==◌, ◌&&◌, nat_le, inl, inr, ◌⊎◌, List, [], ◌∷◌, length, take, drop, get_or, decimal, arith, lit<}
+use Rattle.std.proofs.Common.{◌≡◌, ℕ, ◌+◌, ◌-◌, ◌*◌, ◌^◌, ◌≤◌, ◌<◌, suc, refl, sym, ◌∙◌, ap, Bool, true, false, nat_le, inl, inr, ◌⊎◌, List, [], ◌∷◌, length, take, drop, get_or, decimal, arith, lit<}
 use Rattle.std.specs.Fmt.{digits}
 use Rattle.std.specs.Str.{all_ascii_digits}
-use Rattle.std.specs.Str.Parse.{digits_value_after, AllDigits}
+use Rattle.std.specs.Str.Parse.{digits_value_after}
 use Rattle.std.specs.Char.{is_ascii_digit, digit_value}
 use Rattle.std.proofs.lemmas.Bool.Decides.{nat_tests}
 use Rattle.std.proofs.lemmas.Bool.{cases_lt}
@@ -10,10 +10,10 @@ use Rattle.std.proofs.lemmas.Fmt.{decimal_nonempty, first_decimal, length-decima
 use Rattle.std.proofs.lemmas.Str.{digit_value_digit}
 use Rattle.std.proofs.lemmas.Str.Parse.{tells_all_ascii_digits, numerals_by_value}
 use Rattle.std.proofs.lemmas.List.{take_all, length-drop}
-use Rattle.std.proofs.Math.Nat.{pow-le-pow_right, pow-suc}
+use Rattle.std.proofs.Math.Nat.{pow-suc}
 use Rattle.certificate.specs.Spelling.{most_nodes}
-use Rattle.certificate.specs.Faults.{number_of, is_decimal, same}
-use Rattle.certificate.proofs.Judges.{same_self, decimal_is, IsFrom}
+use Rattle.certificate.specs.Faults.{number_of, is_decimal}
+use Rattle.certificate.proofs.Judges.{same_self, decimal_is}
 
 -- digits without a leading zero, or just zero, are their number's decimal
 pub spelled_digits : (word : List ℕ) → all_ascii_digits word ≡ true → 0 < length word → (get_or word 0 0 ≡ 48 → length word ≡ 1) → number_of word < 2 ^ 64 → decimal (number_of word) ≡ word
@@ -30,6 +30,7 @@ pub decimal_leads : (n : ℕ) (word : List ℕ) → n ≤ most_nodes → word �
 decimal_leads n word few e first_zero = by (cases_lt 0 n) where
   nothing : (m : ℕ) → m ≡ 0 → length (decimal m) ≡ 1
   nothing m none = unfold digits in rw none refl
+
   by : (0 < n) ⊎ (n ≤ 0) → length word ≡ 1
   by (inl more) = let above = first_decimal n more (omega (arith, few)) in let first : get_or (decimal n) 0 0 ≡ 48 = ap (λ w. get_or w 0 0) (sym e) ∙ first_zero in absurd (omega (arith, above, first))
   by (inr none) = rw e (nothing n (omega (arith, none)))
@@ -52,9 +53,6 @@ unbounded least most word few never =
     not_true (is_decimal least most word) (λ yes. let d = decimal_is least most word yes in let high = d.1.1 in never (number_of word) (omega (arith, high, few)) d.1.0 d.1.1 refl (sym d.0))
 
 -- digits read one by one, as in the numbers of descriptions
-pub pow_small : (k : ℕ) → k ≤ 5 → 10 ^ k ≤ 100000
-pow_small k h = pow-le-pow_right {n = 10} (lit< tt) {i = k} {j = 5} h
-
 pub pow_more : (n k v d : ℕ) → v < 10 ^ k → d < 10 → n ≡ suc k → v * 10 + d < 10 ^ n
 pow_more n k v d h small e = rw e (rw (pow-suc 10 k) (omega arith))
 
@@ -86,7 +84,3 @@ no_more_digits (x ∷ xs) e = absurd (omega (arith, e))
 pub no_more_value : (v : ℕ) (xs : List ℕ) → length xs ≡ 0 → digits_value_after 10 v xs ≡ v
 no_more_value v [] e = refl
 no_more_value v (x ∷ xs) e = absurd (omega (arith, e))
-
--- the value of a word decides
-pub out_of_bounds : (least most v : ℕ) (word : List ℕ) → most ≤ most_nodes → number_of word ≡ v → (least ≤ v → v ≤ most → ⊥) → is_decimal least most word ≡ false
-out_of_bounds least most v word few number out = unbounded least most word few (λ n small low high same e. out (omega (arith, low, same, number)) (omega (arith, high, same, number)))

@@ -1,12 +1,10 @@
 -- What parts of a text say, as the program takes them.
 --     Lacks byte text, Cuts byte text front behind      the byte doesn't stand in the text; it parts the text for the first time
 --     Says judge line result P      the line passes what it is asked and its value is P, or it has the fault
---     outcome number js text      the faults of a text, the first line of which has a number, by what its lines are asked
-use Rattle.std.specs.Prelude.{◌≡◌, ℕ, ◌+◌, ◌<◌, Bool, true, false, cond, ◌==◌, nat_lt, List, [], ◌∷◌, ◌++◌, length, take, Option, Some, None, Result, Ok, Err}
+use Rattle.std.specs.Prelude.{◌≡◌, ℕ, false, ◌==◌, List, ◌∷◌, ◌++◌, Some, None, Result, Ok, Err}
 use Rattle.std.specs.List.{All}
 use Rattle.certificate.specs.declared.faults.LineFault.{LineFault}
-use Rattle.certificate.specs.declared.faults.LineFault.TheVariants.{TrailingText}
-use Rattle.certificate.specs.Faults.{Judge, words, said, whole_lines, with_feeds, line_faults}
+use Rattle.certificate.specs.Faults.{Judge, words}
 
 -- the byte doesn't stand in the text
 abbrev pub Lacks : ℕ → List ℕ → Type 0
@@ -20,11 +18,3 @@ Cuts byte text front behind = (text ≡ front ++ byte ∷ behind) × Lacks byte 
 abbrev pub Says : {V : Type 0} → Judge → List ℕ → (V → Type 0) → Result V LineFault → Type 0
 Says judge line P (Ok value) = (judge (words line) ≡ None) × P value
 Says judge line P (Err fault) = judge (words line) ≡ Some fault
-
--- what follows so many lines of a text, the first of which has a number
-abbrev pub trailing_from : ℕ → ℕ → List ℕ → List (ℕ × LineFault)
-trailing_from number count text = cond (nat_lt (length (with_feeds (take count (whole_lines text)))) (length text)) ((number + count, TrailingText) ∷ []) []
-
--- the faults of a text, the first line of which has a number, by what its lines are asked
-unfoldable pub outcome : ℕ → List Judge → List ℕ → List (ℕ × LineFault)
-outcome number js text = line_faults number js (said text) ++ trailing_from number (length js) text

@@ -1,5 +1,6 @@
 //! Certificates and their texts.
 
+use super::lines::{cell_line, end_line, number_line, pair_line, title_line};
 use super::*;
 use order_model::{ListedCell, Mask, VarIx};
 use std::alloc::{AllocError, Global};
@@ -139,4 +140,65 @@ fn other_parts_have_no_spelling(rt: HostRuntime) -> Result<(), Fail> {
         assert!(rt; certificate_of(rt.alloc(), parts)?.is_none());
     }
     Ok(())
+}
+
+#[test]
+fn lines_are_told(rt: HostRuntime) {
+    assert_eq!(rt; title_line(b"bddorder-certificate 2"), Ok(2));
+    assert_eq!(rt;
+        title_line(b"bddorder-certificate 02"),
+        Err(LineFault::BadLine)
+    );
+    assert_eq!(rt; end_line(b"end"), Ok(()));
+    assert_eq!(rt; end_line(b"end "), Err(LineFault::BadLine));
+    for (line, told) in [
+        (b"inputs 3".as_slice(), Ok(3)),
+        (b"inputs 16".as_slice(), Ok(16)),
+        (b"inputs 17".as_slice(), Err(LineFault::BadNumber)),
+        (b"inputs 0".as_slice(), Err(LineFault::BadNumber)),
+        (b"inputs 03".as_slice(), Err(LineFault::BadNumber)),
+        (b"inputs +3".as_slice(), Err(LineFault::BadNumber)),
+        (b"inputs ".as_slice(), Err(LineFault::BadNumber)),
+        (b"inputs".as_slice(), Err(LineFault::BadLine)),
+        (b"inputs 3 ".as_slice(), Err(LineFault::BadLine)),
+        (b"outputs 3".as_slice(), Err(LineFault::BadLine)),
+        (b"".as_slice(), Err(LineFault::BadLine)),
+    ] {
+        assert_eq!(rt; number_line(line, b"inputs", 1, 16), told);
+    }
+}
+
+#[test]
+fn entries_are_told(rt: HostRuntime) {
+    assert_eq!(rt; pair_line(b"0 2", 3, None), Ok((0, 2)));
+    assert_eq!(rt; pair_line(b"0 2", 3, Some(1)), Ok((0, 2)));
+    assert_eq!(rt; pair_line(b"0 2", 3, Some(2)), Err(LineFault::NotRising));
+    assert_eq!(rt; pair_line(b"0 3", 3, Some(2)), Err(LineFault::BadNumber));
+    assert_eq!(rt; pair_line(b"0 2 1", 3, None), Err(LineFault::BadLine));
+    for (line, last, told) in [
+        (
+            b"0abc 10".as_slice(),
+            None,
+            Ok(ListedCell {
+                mask: 0xabc,
+                cost: 10,
+            }),
+        ),
+        (
+            b"0abc 10".as_slice(),
+            Some(0xabc),
+            Err(LineFault::NotRising),
+        ),
+        (b"0ABC 10".as_slice(), None, Err(LineFault::BadNumber)),
+        (b"abc 10".as_slice(), None, Err(LineFault::BadNumber)),
+        (
+            b"0fff 10".as_slice(),
+            Some(0xfff),
+            Err(LineFault::BadNumber),
+        ),
+        (b"0abc 1000000".as_slice(), None, Err(LineFault::BadNumber)),
+        (b"0abc".as_slice(), None, Err(LineFault::BadLine)),
+    ] {
+        assert_eq!(rt; cell_line(line, 12, last), told);
+    }
 }

@@ -3,7 +3,7 @@
 ghost use Rattle.std.specs.Prelude.{◌≡◌, ◌≤◌, ◌<◌, ◌==◌, ℕ, true, false, length, IfSome, IfNone, decimal as decimal_of};
 ghost use Rattle.std.specs.List.{position_or_len};
 ghost use Rattle.std.specs.Fmt.{digit_glyph};
-ghost use Rattle.certificate.specs.Spelling.{hex4, most_nodes};
+ghost use Rattle.certificate.specs.Spelling.{most_nodes};
 ghost use Rattle.certificate.specs.Faults.{is_decimal, is_mask, mask_of, number_of};
 ghost use Rattle.certificate.specs.Parsing.{Cuts, Lacks};
 

@@ -1,4 +1,4 @@
-use Rattle.std.proofs.Common.{◌≡◌, ℕ, sym, ◌∙◌, ap, length, ◌∷◌, [], arith}
+use Rattle.std.proofs.Common.{sym, ◌∙◌, ap, length, ◌∷◌, arith}
 use Rattle.certificate.proofs.LineWords.{cut_words, whole_word, some_word}
 use Rattle.certificate.proofs.lines.two_words.Goals as goal
 

@@ -1,5 +1,4 @@
-use Rattle.std.proofs.Common.{◌≡◌, ◌<◌, ◌-◌, ◌^◌, length, arith}
-use Rattle.certificate.specs.Faults.{mask_of}
+use Rattle.std.proofs.Common.{arith}
 use Rattle.certificate.proofs.Masks.{mask_no, mask_yes, word_mask, four_long, four_bytes, digit_at}
 use Rattle.certificate.proofs.words.mask.Goals as goal
 

@@ -1,5 +1,4 @@
-use Rattle.std.proofs.Common.{◌≡◌, ◌≤◌, ℕ, sym, ◌∙◌, ap, decimal, arith}
-use Rattle.certificate.proofs.Numbers.{bounded, unbounded}
+use Rattle.certificate.proofs.Numbers.{unbounded}
 use Rattle.certificate.proofs.words.number.Goals as goal
 
 pub returns-in_err-value-clause-none : goal.returns-in_err-value-clause-none
