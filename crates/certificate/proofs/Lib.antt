@@ -12,3 +12,4 @@ pub mod Cutting
 pub mod Numbers
 pub mod Masks
 pub mod LineWords
+pub mod Outcomes

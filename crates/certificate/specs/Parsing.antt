@@ -1,10 +1,15 @@
 -- What parts of a text say, as the program takes them.
 --     Lacks byte text, Cuts byte text front behind      the byte doesn't stand in the text; it parts the text for the first time
---     Says judge line result P      the line passes what it is asked and its value is P, or it has the fault
-use Rattle.std.specs.Prelude.{◌≡◌, ℕ, false, ◌==◌, List, ◌∷◌, ◌++◌, Some, None, Result, Ok, Err}
+--     Says judge line result P      the line passes what it is asked and P holds of its value, or it has the fault
+--     outcome number js text, Fails faults fault      the faults of a text, the first line of which has a number, by what its lines are asked; the first of them
+--     Asks judge number text after rest P result      the first line of a text is taken
+use Rattle.std.specs.Prelude.{◌≡◌, ℕ, ◌+◌, false, cond, ◌==◌, nat_lt, List, [], ◌∷◌, ◌++◌, length, take, Some, None, Result, Ok, Err}
 use Rattle.std.specs.List.{All}
 use Rattle.certificate.specs.declared.faults.LineFault.{LineFault}
-use Rattle.certificate.specs.Faults.{Judge, words}
+use Rattle.certificate.specs.declared.faults.LineFault.TheVariants.{TrailingText}
+use Rattle.certificate.specs.declared.faults.CertFault.{CertFault}
+use Rattle.certificate.specs.declared.faults.CertFault.TheVariants as found
+use Rattle.certificate.specs.Faults.{Judge, words, said, whole_lines, with_feeds, line_faults}
 
 -- the byte doesn't stand in the text
 abbrev pub Lacks : ℕ → List ℕ → Type 0
@@ -18,3 +23,23 @@ Cuts byte text front behind = (text ≡ front ++ byte ∷ behind) × Lacks byte 
 abbrev pub Says : {V : Type 0} → Judge → List ℕ → (V → Type 0) → Result V LineFault → Type 0
 Says judge line P (Ok value) = (judge (words line) ≡ None) × P value
 Says judge line P (Err fault) = judge (words line) ≡ Some fault
+
+-- what follows so many lines of a text, the first of which has a number
+abbrev pub trailing_from : ℕ → ℕ → List ℕ → List (ℕ × LineFault)
+trailing_from number count text = cond (nat_lt (length (with_feeds (take count (whole_lines text)))) (length text)) ((number + count, TrailingText) ∷ []) []
+
+-- the faults of a text, the first line of which has a number, by what its lines are asked
+unfoldable pub outcome : ℕ → List Judge → List ℕ → List (ℕ × LineFault)
+outcome number js text = line_faults number js (said text) ++ trailing_from number (length js) text
+
+-- the first of some faults; want of memory may stand in its place
+abbrev pub Fails : List (ℕ × LineFault) → CertFault → Type 0
+Fails faults (found.Line number fault) = (others : List (ℕ × LineFault)) × (faults ≡ (number, fault) ∷ others)
+Fails faults found.TooLong = ⊥
+Fails faults found.OutOfMemory = Unit {0}
+
+-- the first line of a text is taken: it passes, and P holds of its words and the value; or the text's first fault is told
+abbrev pub Asks : {V : Type 0} → Judge → ℕ → List ℕ → ℕ → List ℕ → (List (List ℕ) → V → Type 0) → Result V CertFault → Type 0
+Asks judge number text after rest P (Ok value) =
+    (ws : List (List ℕ)) × (said text ≡ ws ∷ said rest) × (judge ws ≡ None) × ((js : List Judge) → outcome number (judge ∷ js) text ≡ outcome after js rest) × P ws value
+Asks judge number text after rest P (Err fault) = (js : List Judge) → Fails (outcome number (judge ∷ js) text) fault

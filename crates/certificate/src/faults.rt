@@ -1,5 +1,6 @@
 //! Why a text is no certificate.
 
+use std::alloc::AllocError;
 use thiserror::Error;
 
 /// What is wrong with a line of a certificate.
@@ -20,4 +21,29 @@ pub enum LineFault {
     /// Something follows the last line.
     #[error("TrailingText")]
     TrailingText,
+}
+
+/// Why a text is not read as a certificate.
+#[derive(Clone, Copy, Debug, PartialEq, Eq, Error)]
+pub enum CertFault {
+    /// The first faulty line, counted from 1, and its fault.
+    #[error("line {0}: {1}")]
+    Line(usize, LineFault),
+    /// More than 1,048,576 bytes.
+    #[error("TooLong")]
+    TooLong,
+    /// An allocation was refused.
+    #[error("OutOfMemory")]
+    OutOfMemory,
+}
+
+impl From<AllocError> for CertFault {
+    ghost use Rattle.std.specs.Prelude.{◌≡◌};
+    ghost use Rattle.certificate.specs.declared.faults.CertFault.TheVariants.{OutOfMemory};
+
+    ghost from_gives = { λ _ e. e ≡ OutOfMemory };
+
+    fn from(_: AllocError) -> CertFault {
+        CertFault::OutOfMemory
+    }
 }

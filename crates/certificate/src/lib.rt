@@ -5,11 +5,12 @@ mod bounds;
 mod certificate;
 mod faults;
 pub mod laws;
-pub mod lines;
+mod lines;
+mod reader;
 #[cfg(test)]
 mod tests;
 mod texts;
 mod words;
 
 pub use certificate::Certificate;
-pub use faults::LineFault;
+pub use faults::{CertFault, LineFault};

@@ -1,6 +1,6 @@
 //! Certificates and their texts.
 
-use super::lines::{cell_line, end_line, number_line, pair_line, title_line};
+use crate::lines::{cell_line, end_line, number_line, pair_line, title_line};
 use super::*;
 use order_model::{ListedCell, Mask, VarIx};
 use std::alloc::{AllocError, Global};

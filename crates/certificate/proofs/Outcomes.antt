@@ -1,0 +1,69 @@
+-- How the faults of a text follow from its first line and the lines behind it.
+use Rattle.std.proofs.Common.{◌≡◌, ℕ, ◌+◌, ◌<◌, suc, zero, refl, sym, ◌∙◌, ap, Bool, true, false, cond, ◌==◌, nat_lt, List, [], ◌∷◌, ◌++◌, length, map, take, Option, None, Some, arith}
+use Rattle.std.specs.List.{AllByRecursion}
+use Rattle.std.proofs.lemmas.Bool.Decides.{nat_tests}
+use Rattle.std.proofs.lemmas.List.{length-append}
+use Rattle.std.proofs.lemmas.List.Elements.{recursion_from_All}
+use Rattle.certificate.specs.declared.faults.LineFault.{LineFault}
+use Rattle.certificate.specs.declared.faults.LineFault.TheVariants.{MissingLine, TrailingText}
+use Rattle.certificate.specs.Faults.{Judge, words, said, whole_lines, with_feeds, line_faults, numbered}
+use Rattle.certificate.specs.Parsing.{Lacks, Cuts, trailing_from, outcome}
+use Rattle.certificate.proofs.WordLines.{HasNoFeed, line_first, no_line}
+
+has_none : (text : List ℕ) → AllByRecursion (λ b. (b == 10) ≡ false) text → HasNoFeed text
+has_none [] all = tt
+has_none (b ∷ text) (here, all) = (here, has_none text all)
+
+first_line : (text line rest : List ℕ) → Cuts 10 text line rest → whole_lines text ≡ line ∷ whole_lines rest
+first_line text line rest (parts, lacks) = ap whole_lines parts ∙ line_first line rest (has_none line (recursion_from_All _ line lacks))
+
+-- the words of the lines of a text
+pub said_first : (text line rest : List ℕ) → Cuts 10 text line rest → said text ≡ words line ∷ said rest
+said_first text line rest cuts = ap (map words) (first_line text line rest cuts)
+
+pub said_none : (text : List ℕ) → Lacks 10 text → said text ≡ []
+said_none text lacks = ap (map words) (no_line text (has_none text (recursion_from_All _ text lacks)))
+
+same_less : (a k m : ℕ) → nat_lt (a + k) (a + m) ≡ nat_lt k m
+same_less a k m = by (nat_lt k m) refl where
+  by : (t : Bool) → nat_lt k m ≡ t → nat_lt (a + k) (a + m) ≡ nat_lt k m
+  by true e = rw e (grind (arith, nat_tests))
+  by false e = rw e (grind (arith, nat_tests))
+
+-- what follows the lines is what follows the others
+trails : (number count : ℕ) (text line rest : List ℕ) → Cuts 10 text line rest → trailing_from number (suc count) text ≡ trailing_from (number + 1) count rest
+trails number count text line rest cuts =
+    let front = line ++ 10 ∷ [] in
+    let taken : length (with_feeds (take (suc count) (whole_lines text))) ≡ length front + length (with_feeds (take count (whole_lines rest))) =
+    ap (λ lines. length (with_feeds (take (suc count) lines))) (first_line text line rest cuts) ∙ length-append front (with_feeds (take count (whole_lines rest))) in
+    let long : length text ≡ length front + length rest = omega (arith, ap length cuts.0, length-append line (10 ∷ rest), length-append line (10 ∷ [])) in
+    let less : nat_lt (length (with_feeds (take (suc count) (whole_lines text)))) (length text) ≡ nat_lt (length (with_feeds (take count (whole_lines rest)))) (length rest) =
+    ap (λ k. nat_lt k (length text)) taken ∙ ap (nat_lt (length front + length (with_feeds (take count (whole_lines rest))))) long ∙ same_less (length front) (length (with_feeds (take count (whole_lines rest)))) (length rest) in
+    let number_is : number + suc count ≡ (number + 1) + count = omega arith in
+    rw less (rw number_is refl)
+
+-- the first line passes
+pub step : (number : ℕ) (judge : Judge) (js : List Judge) (text line rest : List ℕ) → Cuts 10 text line rest → judge (words line) ≡ None → outcome number (judge ∷ js) text ≡ outcome (number + 1) js rest
+unfolding outcome line_faults
+step number judge js text line rest cuts passes = rw (said_first text line rest cuts) (rw passes (ap (λ xs. line_faults (number + 1) js (said rest) ++ xs) (trails number (length js) text line rest cuts)))
+
+-- it has a fault
+pub stop : (number : ℕ) (judge : Judge) (js : List Judge) (text line rest : List ℕ) (fault : LineFault) → Cuts 10 text line rest → judge (words line) ≡ Some fault →
+    (others : List (ℕ × LineFault)) × (outcome number (judge ∷ js) text ≡ (number, fault) ∷ others)
+unfolding outcome line_faults
+stop number judge js text line rest fault cuts fails =
+    (line_faults (number + 1) js (said rest) ++ trailing_from number (suc (length js)) text, rw (said_first text line rest cuts) (rw fails refl))
+
+-- it is missing
+pub missing : (number : ℕ) (judge : Judge) (js : List Judge) (text : List ℕ) → Lacks 10 text → (others : List (ℕ × LineFault)) × (outcome number (judge ∷ js) text ≡ (number, MissingLine) ∷ others)
+unfolding outcome line_faults
+missing number judge js text lacks = (line_faults (number + 1) js [] ++ trailing_from number (suc (length js)) text, rw (said_none text lacks) refl)
+
+-- the end
+pub ended : (number : ℕ) → outcome number [] [] ≡ []
+unfolding outcome line_faults
+ended number = refl
+
+pub trailing_text : (number : ℕ) (text : List ℕ) → 0 < length text → (others : List (ℕ × LineFault)) × (outcome number [] text ≡ (number, TrailingText) ∷ others)
+unfolding outcome line_faults
+trailing_text number text some = let test : nat_lt 0 (length text) ≡ true = grind (arith, nat_tests) in let first : number + 0 ≡ number = omega arith in ([], rw test (rw first refl))
