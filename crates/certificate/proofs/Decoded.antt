@@ -9,41 +9,11 @@ use Rattle.order_model.specs.Pairs.{Pair}
 use Rattle.order_model.specs.Certificates.{Certificate, Cell}
 use Rattle.certificate.specs.Spelling.{most_nodes, hex4, field, section, pair_words, cell_words, pair_key, IsPair, IsCell}
 use Rattle.certificate.specs.Faults.{number_of, mask_of, number_said, is_pair, is_cell, pair_key_of, cell_key_of, section_judges, pairs_judges}
+use Rattle.certificate.specs.Decoded.{read_pair, read_cell, mask_key, section_said}
 use Rattle.certificate.proofs.WordLines.{decimal_back, hex_back}
-use Rattle.certificate.proofs.Judges.{Pass, both_are, decimal_passes, decimal_is, mask_passes, mask_is, field_passes, field_is, numbers_of, one_number}
+use Rattle.certificate.proofs.Judges.{Pass, both_are, decimal_passes, decimal_is, mask_passes, mask_is, field_passes, field_is, one_number}
 use Rattle.certificate.proofs.Rising.{rise_pairs, pairs_rise}
 use Rattle.certificate.proofs.Sections.{StandAt, entries_pass, entries_are, IsKind, write_entries, read_entries, read_back}
-
--- the pair and the listed set of a line
-abbrev pub read_pair : List (List ℕ) → Pair
-read_pair ws = (number_of (get_or ws 0 []), number_of (get_or ws 1 []))
-
-abbrev pub read_cell : List (List ℕ) → Cell
-read_cell ws = record { mask = mask_of (get_or ws 0 []); cost = number_of (get_or ws 1 []) }
-
-abbrev pub mask_key : Cell → ℕ
-mask_key cell = cell.mask
-
--- the entries behind line at
-abbrev pub section_said : {E : Type 0} → (List (List ℕ) → E) → List (List (List ℕ)) → ℕ → List E
-section_said read ws at = map read (take (number_said ws at) (drop (at + 1) ws))
-
--- the number of the line, counted from 0, that says how many sets are listed
-abbrev pub cells_place : List (List (List ℕ)) → ℕ
-cells_place ws = 6 + length (pairs_judges ws)
-
--- the certificate that lines say
-abbrev pub cert_of : List (List (List ℕ)) → Certificate
-cert_of ws = record {
-  format = number_said ws 0;
-  inputs = number_said ws 1;
-  outputs = number_said ws 2;
-  order = numbers_of (get_or ws 3 []);
-  levels = numbers_of (get_or ws 4 []);
-  total = number_said ws 5;
-  pairs = cond (nat_eq (number_said ws 0) 1) [] (section_said read_pair ws 6);
-  cells = section_said read_cell ws (cells_place ws);
-}
 
 -- the two kinds of entries
 pub top_power : (n : ℕ) → n ≤ 16 → 2 ^ n ≤ 65536

@@ -16,7 +16,8 @@ use Rattle.certificate.specs.Faults.{whole_lines, onto_line, words, said, same, 
 use Rattle.certificate.proofs.WordLines.{decimal_back}
 use Rattle.certificate.proofs.Judges.{Pass, pass_length, all_same_is, IsFrom, field_is, one_number}
 use Rattle.certificate.proofs.Spelled.{no_fault}
-use Rattle.certificate.proofs.Decoded.{read_pair, read_cell, mask_key, section_said, cells_place, cert_of, top_power, pair_kind, cell_kind, IsSection, section_is}
+use Rattle.certificate.specs.Decoded.{read_pair, read_cell, mask_key, section_said, cells_place, cert_of}
+use Rattle.certificate.proofs.Decoded.{top_power, pair_kind, cell_kind, IsSection, section_is}
 
 -- lines without a fault pass
 none_pass : (number : ℕ) (js : List Judge) (ws : List (List (List ℕ))) → line_faults number js ws ≡ [] → (vs : List (List (List ℕ))) × (us : List (List (List ℕ))) × (ws ≡ vs ++ us) × Pass js vs

@@ -8,6 +8,7 @@ use Rattle.std.proofs.lemmas.List.{length-map}
 use Rattle.certificate.specs.declared.faults.LineFault.{LineFault}
 use Rattle.certificate.specs.Spelling.{hex4, field}
 use Rattle.certificate.specs.Faults.{same, number_of, mask_of, is_decimal, is_mask, first_fault, field_fault, Judge, line_faults}
+use Rattle.certificate.specs.Decoded.{numbers_of}
 use Rattle.certificate.proofs.WordLines.{decimal_back, hex_back}
 
 -- each line passes what it is asked, and each question has its line
@@ -108,11 +109,6 @@ pub field_passes : (name : List ℕ) (count least most : ℕ) (ns : List ℕ) �
 field_passes name count least most ns e fits all =
     let number : (length (map decimal ns) == count) ≡ true = rw (length-map ns decimal) (grind (arith, nat_tests)) in
     rw (same_self name) (rw number (rw (decimals_pass least most ns fits all) refl))
-
--- the numbers of a line behind its first word
-abbrev pub numbers_of : List (List ℕ) → List ℕ
-numbers_of [] = []
-numbers_of (word ∷ numbers) = map number_of numbers
 
 pub record IsField (name : List ℕ) (count least most : ℕ) (ws : List (List ℕ)) : Type 0 where
   pub line_is : field name (numbers_of ws) ≡ ws

@@ -1,13 +1,16 @@
 -- How the faults of a text follow from its first line and the lines behind it.
-use Rattle.std.proofs.Common.{◌≡◌, ℕ, ◌+◌, ◌<◌, suc, zero, refl, sym, ◌∙◌, ap, Bool, true, false, cond, ◌==◌, nat_lt, List, [], ◌∷◌, ◌++◌, length, map, take, Option, None, Some, arith}
+use Rattle.std.proofs.Common.{◌≡◌, ℕ, ◌+◌, ◌<◌, suc, zero, refl, sym, ◌∙◌, ap, Bool, true, false, cond, ◌==◌, nat_lt, List, [], ◌∷◌, ◌++◌, length, map, take, Option, None, Some, Result, Ok, Err, IfErr, arith}
 use Rattle.std.specs.List.{AllByRecursion}
+use Rattle.std.specs.Result.{IsErrAnd}
 use Rattle.std.proofs.lemmas.Bool.Decides.{nat_tests}
 use Rattle.std.proofs.lemmas.List.{length-append}
 use Rattle.std.proofs.lemmas.List.Elements.{recursion_from_All}
 use Rattle.certificate.specs.declared.faults.LineFault.{LineFault}
 use Rattle.certificate.specs.declared.faults.LineFault.TheVariants.{MissingLine, TrailingText}
+use Rattle.certificate.specs.declared.faults.CertFault.{CertFault}
+use Rattle.certificate.specs.declared.faults.CertFault.TheVariants as found
 use Rattle.certificate.specs.Faults.{Judge, words, said, whole_lines, with_feeds, line_faults, numbered}
-use Rattle.certificate.specs.Parsing.{Lacks, Cuts, trailing_from, outcome}
+use Rattle.certificate.specs.Parsing.{Lacks, Cuts, Fails, Asks, trailing_from, outcome}
 use Rattle.certificate.proofs.WordLines.{HasNoFeed, line_first, no_line}
 
 has_none : (text : List ℕ) → AllByRecursion (λ b. (b == 10) ≡ false) text → HasNoFeed text
@@ -67,3 +70,19 @@ ended number = refl
 pub trailing_text : (number : ℕ) (text : List ℕ) → 0 < length text → (others : List (ℕ × LineFault)) × (outcome number [] text ≡ (number, TrailingText) ∷ others)
 unfolding outcome line_faults
 trailing_text number text some = let test : nat_lt 0 (length text) ≡ true = grind (arith, nat_tests) in let first : number + 0 ≡ number = omega arith in ([], rw test (rw first refl))
+
+-- what taking a line tells
+pub asked_missing : {V : Type 0} (judge : Judge) (number after : ℕ) (text rest' : List ℕ) (P : List (List ℕ) → V → Type 0) (fault : CertFault) (result : Result V CertFault) → IsErrAnd result (λ e. e ≡ fault) → Lacks 10 text →
+    fault ≡ found.Line number MissingLine → Asks judge number text after rest' P result
+asked_missing judge number after text rest' P fault (Ok value) is lacks e = elim is [ ]
+asked_missing judge number after text rest' P fault (Err given) is lacks e = rw (is ∙ e) (λ js. missing number judge js text lacks)
+
+-- want of a line, where one alone is asked for
+pub only_missing : {V : Type 0} (judge : Judge) (number : ℕ) (text : List ℕ) (fault : CertFault) (result : Result V CertFault) → IsErrAnd result (λ e. e ≡ fault) → Lacks 10 text → fault ≡ found.Line number MissingLine →
+    IfErr result (Fails (outcome number (judge ∷ []) text))
+only_missing judge number text fault (Ok value) is lacks e = elim is [ ]
+only_missing judge number text fault (Err given) is lacks e = rw (is ∙ e) (missing number judge [] text lacks)
+
+pub no_bytes : (text : List ℕ) → length text ≡ 0 → text ≡ []
+no_bytes [] e = refl
+no_bytes (b ∷ text) e = absurd (omega (arith, e))

@@ -1,4 +1,5 @@
 pub mod Spelling
 pub mod Faults
+pub mod Decoded
 pub mod Values
 pub mod Parsing

@@ -1,12 +1,19 @@
 //! The lines of a text, one after another.
 
-ghost use Rattle.std.specs.Prelude.{◌≡◌, ◌+◌, ◌^◌, ◌<◌, ◌≤◌, length, IfOk, IfErr};
+ghost use Rattle.std.specs.Prelude.{◌≡◌, ◌+◌, ◌^◌, ◌<◌, ◌≤◌, ◌∷◌, [], codes, get_or, length, IfOk, IfErr, OnOk};
 ghost use Rattle.certificate.specs.declared.faults.CertFault.TheVariants.{Line};
 ghost use Rattle.certificate.specs.declared.faults.LineFault.TheVariants.{MissingLine};
-ghost use Rattle.certificate.specs.Parsing.{Cuts, Lacks};
+ghost use Rattle.order_model.specs.Listed.{listed};
+ghost use Rattle.certificate.specs.Decoded.{read_pair, read_cell};
+ghost use Rattle.certificate.specs.Faults.{cell_key_of, entry_fault, field_fault, fixed_fault, is_cell, is_pair, number_of, pair_key_of, title_fault};
+ghost use Rattle.certificate.specs.Parsing.{Asks, Cuts, Fails, Lacks, outcome};
+ghost use Rattle.certificate.specs.Spelling.{most_nodes};
+ghost use Rattle.certificate.specs.Values.{is_above as above};
 
 use crate::faults::{CertFault, LineFault};
+use crate::lines::{cell_line, end_line, number_line, pair_line, title_line};
 use crate::words::cut;
+use order_model::{ListedCell, VarIx};
 
 /// What is left of a text, and the number of its first line.
 #[derive(Drop)]
@@ -42,5 +49,83 @@ impl<'a> Lines<'a> {
         self.rest = rest;
         self.number += 1;
         Ok(line)
+    }
+
+    /// Takes a line of a fixed word and a number.
+    pub(crate) fn number(&mut self, name: &[u8], least: u32, most: u32) -> Result<u32, CertFault>
+        requires small { self.old.number + length self.old.rest.now < 2 ^ 63 }
+        requires bounds { most ≤ most_nodes }
+        ensures line { Asks (field_fault name.now 1 least most) self.old.number self.old.rest.now self.new.number self.new.rest.now (λ ws value. value ≡ number_of (get_or ws 1 [])) result }
+        ensures bound { self.new.number + length self.new.rest.now ≤ self.old.number + length self.old.rest.now }
+    {
+        let number = self.number;
+        let line = self.next()?;
+        match number_line(line, name, least, most) {
+            Ok(value) => Ok(value),
+            Err(fault) => Err(CertFault::Line(number, fault)),
+        }
+    }
+
+    /// Takes the first line, which says the format.
+    pub(crate) fn title(&mut self) -> Result<u8, CertFault>
+        requires { self.old.number + length self.old.rest.now < 2 ^ 63 }
+        ensures line { Asks title_fault self.old.number self.old.rest.now self.new.number self.new.rest.now (λ ws format. format ≡ number_of (get_or ws 1 [])) result }
+        ensures bound { self.new.number + length self.new.rest.now ≤ self.old.number + length self.old.rest.now }
+    {
+        let number = self.number;
+        let line = self.next()?;
+        match title_line(line) {
+            Ok(format) => Ok(format),
+            Err(fault) => Err(CertFault::Line(number, fault)),
+        }
+    }
+
+    /// Takes the line of a pair, whose key is above one that may have come before.
+    fn pair(&mut self, n: u8, last: Option<u32>) -> Result<(VarIx, VarIx), CertFault>
+        requires small { self.old.number + length self.old.rest.now < 2 ^ 63 }
+        requires some { 1 ≤ n }
+        requires few { n ≤ 16 }
+        ensures line { Asks (entry_fault (is_pair n) (λ a b. above last (pair_key_of a b))) self.old.number self.old.rest.now self.new.number self.new.rest.now (λ ws pair. pair ≡ read_pair ws) result }
+        ensures bound { self.new.number + length self.new.rest.now ≤ self.old.number + length self.old.rest.now }
+    {
+        let number = self.number;
+        let line = self.next()?;
+        match pair_line(line, n, last) {
+            Ok(pair) => Ok(pair),
+            Err(fault) => Err(CertFault::Line(number, fault)),
+        }
+    }
+
+    /// Takes the line of a listed set, whose mask is above one that may have come before.
+    fn cell(&mut self, n: u8, last: Option<u32>) -> Result<ListedCell, CertFault>
+        requires small { self.old.number + length self.old.rest.now < 2 ^ 63 }
+        requires few { n ≤ 16 }
+        ensures line { Asks (entry_fault (is_cell n) (λ a b. above last (cell_key_of a b))) self.old.number self.old.rest.now self.new.number self.new.rest.now (λ ws cell. listed cell ≡ read_cell ws) result }
+        ensures bound { self.new.number + length self.new.rest.now ≤ self.old.number + length self.old.rest.now }
+    {
+        let number = self.number;
+        let line = self.next()?;
+        match cell_line(line, n, last) {
+            Ok(cell) => Ok(cell),
+            Err(fault) => Err(CertFault::Line(number, fault)),
+        }
+    }
+
+    /// Takes the last line, behind which nothing follows.
+    pub(crate) fn end(&mut self) -> Result<(), CertFault>
+        requires { self.old.number + length self.old.rest.now < 2 ^ 63 }
+        ensures passed { OnOk result (outcome self.old.number (fixed_fault (codes "end" ∷ []) ∷ []) self.old.rest.now ≡ []) }
+        ensures failed { IfErr result (Fails (outcome self.old.number (fixed_fault (codes "end" ∷ []) ∷ []) self.old.rest.now)) }
+    {
+        let number = self.number;
+        let line = self.next()?;
+        match end_line(line) {
+            Ok(()) => {}
+            Err(fault) => return Err(CertFault::Line(number, fault)),
+        }
+        if !self.rest.is_empty() {
+            return Err(CertFault::Line(self.number, LineFault::TrailingText));
+        }
+        Ok(())
     }
 }
