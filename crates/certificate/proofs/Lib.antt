@@ -13,3 +13,4 @@ pub mod Numbers
 pub mod Masks
 pub mod LineWords
 pub mod Outcomes
+pub mod NumberLines

@@ -1,6 +1,7 @@
 //! What each line of a certificate's text says.
 
-ghost use Rattle.std.specs.Prelude.{◌≡◌, ◌≤◌, ◌∷◌, [], codes, get_or, IfSome, IfNone};
+ghost use Rattle.std.specs.Prelude.{◌≡◌, ◌≤◌, ◌∷◌, ℕ, [], codes, get_or, length, Some, IfSome, IfNone};
+ghost use Rattle.certificate.specs.declared.faults.LineFault.TheVariants.{BadLine};
 ghost use Rattle.certificate.specs.Spelling.{most_nodes};
 ghost use Rattle.certificate.specs.Faults.{cell_key_of, entry_fault, field_fault, fixed_fault, is_cell, is_pair, mask_of, number_of, pair_key_of, title_fault, words};
 ghost use Rattle.certificate.specs.Parsing.{Says};
@@ -108,4 +109,35 @@ pub fn end_line(line: &[u8]) -> Result<(), LineFault>
     } else {
         Err(LineFault::BadLine)
     }
+}
+
+/// How many words a text has.
+fn count_words(text: &[u8]) -> usize
+    ensures { result ≡ length (words text.now) }
+{
+    let mut count = 1;
+    let mut rest = text;
+    while let Some((_, more)) = cut(rest, b' ') {
+        count += 1;
+        rest = more;
+    }
+    count
+}
+
+/// What stands behind the fixed word of a line that has as many words behind it as are wanted.
+pub(crate) fn behind_name<'a>(line: &'a [u8], name: &[u8], count: usize) -> Option<&'a [u8]>
+    requires { 1 ≤ count }
+    ensures some { IfSome result (λ rest. (words line.now ≡ name.now ∷ words rest.now) × (length (words rest.now) ≡ count)) }
+    ensures none { IfNone result ((least most : ℕ) → field_fault name.now count least most (words line.now) ≡ Some BadLine) }
+{
+    let Some((word, rest)) = cut(line, b' ') else {
+        return None;
+    };
+    if word != name {
+        return None;
+    }
+    if count_words(rest) != count {
+        return None;
+    }
+    Some(rest)
 }

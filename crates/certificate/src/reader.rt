@@ -1,19 +1,54 @@
 //! The lines of a text, one after another.
 
-ghost use Rattle.std.specs.Prelude.{◌≡◌, ◌+◌, ◌^◌, ◌<◌, ◌≤◌, ◌∷◌, [], codes, get_or, length, IfOk, IfErr, OnOk};
-ghost use Rattle.certificate.specs.declared.faults.CertFault.TheVariants.{Line};
-ghost use Rattle.certificate.specs.declared.faults.LineFault.TheVariants.{MissingLine};
+ghost use Rattle.std.specs.Prelude.{◌≡◌, ◌+◌, ◌^◌, ◌<◌, ◌≤◌, ◌⊎◌, ◌++◌, ◌∷◌, [], true, false, codes, get_or, length, map, IfOk, IfErr, OnOk};
+ghost use Rattle.std.specs.List.{list_all};
+ghost use Rattle.certificate.specs.declared.faults.CertFault.TheVariants.{Line, OutOfMemory};
+ghost use Rattle.certificate.specs.declared.faults.LineFault.TheVariants.{BadNumber, MissingLine};
 ghost use Rattle.order_model.specs.Listed.{listed};
-ghost use Rattle.certificate.specs.Decoded.{read_pair, read_cell};
-ghost use Rattle.certificate.specs.Faults.{cell_key_of, entry_fault, field_fault, fixed_fault, is_cell, is_pair, number_of, pair_key_of, title_fault};
+ghost use Rattle.certificate.specs.Decoded.{numbers_of, read_pair, read_cell};
+ghost use Rattle.certificate.specs.Faults.{cell_key_of, entry_fault, field_fault, fixed_fault, is_cell, is_decimal, is_pair, number_of, pair_key_of, title_fault, words};
 ghost use Rattle.certificate.specs.Parsing.{Asks, Cuts, Fails, Lacks, outcome};
 ghost use Rattle.certificate.specs.Spelling.{most_nodes};
 ghost use Rattle.certificate.specs.Values.{is_above as above};
 
 use crate::faults::{CertFault, LineFault};
-use crate::lines::{cell_line, end_line, number_line, pair_line, title_line};
-use crate::words::cut;
+use crate::lines::{behind_name, cell_line, end_line, number_line, pair_line, title_line};
+use crate::words::{cut, number};
 use order_model::{ListedCell, VarIx};
+use std::alloc::Global;
+
+/// Adds the number of a word of line `line`.
+fn push_number(numbers: &mut Vec<u32>, word: &[u8], most: u32, line: usize) -> Result<(), CertFault>
+    requires { most ≤ most_nodes }
+    ensures added { OnOk result (numbers.new.items ≡ numbers.old.items ++ number_of word.now ∷ []) }
+    ensures passes { OnOk result (is_decimal 0 most word.now ≡ true) }
+    ensures refused { IfErr result (λ fault. (fault ≡ OutOfMemory) ⊎ ((fault ≡ Line line BadNumber) × (is_decimal 0 most word.now ≡ false))) }
+{
+    let Some(value) = number(word, 0, most) else {
+        return Err(CertFault::Line(line, LineFault::BadNumber));
+    };
+    match numbers.push(value) {
+        Ok(()) => Ok(()),
+        Err(_) => Err(CertFault::OutOfMemory),
+    }
+}
+
+/// The numbers of the words of a text of line `line`.
+fn numbers_in(alloc: Global, text: &[u8], most: u32, line: usize) -> Result<Vec<u32>, CertFault>
+    requires { most ≤ most_nodes }
+    ensures numbers { IfOk result (λ v. v.items ≡ map number_of (words text.now)) }
+    ensures passes { IfOk result (λ _. list_all (is_decimal 0 most) (words text.now) ≡ true) }
+    ensures refused { IfErr result (λ fault. (fault ≡ OutOfMemory) ⊎ ((fault ≡ Line line BadNumber) × (list_all (is_decimal 0 most) (words text.now) ≡ false))) }
+{
+    let mut numbers = Vec::new(alloc);
+    let mut rest = text;
+    while let Some((word, more)) = cut(rest, b' ') {
+        push_number(&mut numbers, word, most, line)?;
+        rest = more;
+    }
+    push_number(&mut numbers, rest, most, line)?;
+    Ok(numbers)
+}
 
 /// What is left of a text, and the number of its first line.
 #[derive(Drop)]
@@ -127,5 +162,21 @@ impl<'a> Lines<'a> {
             return Err(CertFault::Line(self.number, LineFault::TrailingText));
         }
         Ok(())
+    }
+
+    /// Takes a line of a fixed word and as many numbers as are wanted.
+    pub(crate) fn numbers(&mut self, alloc: Global, name: &[u8], count: usize, most: u32) -> Result<Vec<u32>, CertFault>
+        requires small { self.old.number + length self.old.rest.now < 2 ^ 63 }
+        requires some { 1 ≤ count }
+        requires bounds { most ≤ most_nodes }
+        ensures line { Asks (field_fault name.now count 0 most) self.old.number self.old.rest.now self.new.number self.new.rest.now (λ ws numbers. numbers.items ≡ numbers_of ws) result }
+        ensures bound { self.new.number + length self.new.rest.now ≤ self.old.number + length self.old.rest.now }
+    {
+        let number = self.number;
+        let line = self.next()?;
+        let Some(digits) = behind_name(line, name, count) else {
+            return Err(CertFault::Line(number, LineFault::BadLine));
+        };
+        numbers_in(alloc, digits, most, number)
     }
 }
