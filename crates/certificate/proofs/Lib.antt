@@ -14,3 +14,4 @@ pub mod Masks
 pub mod LineWords
 pub mod Outcomes
 pub mod NumberLines
+pub mod Taking

@@ -31,7 +31,7 @@ module _ (is_entry : List ℕ → List ℕ → Bool) (key : List ℕ → List �
   above_after ws first k (Some j) a b (later, e) told =
       let here : (k == first) ≡ false = grind (arith, nat_tests) in let lower = rw here at told in let less = rw e at lower in grind (arith, nat_tests)
 
-  next_before : (ws : List (List (List ℕ))) (first k : ℕ) (before : Option ℕ) (a b : List ℕ) → Before ws first k before → get_or ws k [] ≡ a ∷ b ∷ [] → Before ws first (k + 1) (Some (key a b))
+  pub next_before : (ws : List (List (List ℕ))) (first k : ℕ) (before : Option ℕ) (a b : List ℕ) → Before ws first k before → get_or ws k [] ≡ a ∷ b ∷ [] → Before ws first (k + 1) (Some (key a b))
   next_before ws first k None a b e is = (omega arith, let place : (k + 1) - 1 ≡ k = omega arith in rw place (rw is refl))
   next_before ws first k (Some j) a b (later, e) is = (omega arith, let place : (k + 1) - 1 ≡ k = omega arith in rw place (rw is refl))
 
@@ -47,7 +47,7 @@ module _ (is_entry : List ℕ → List ℕ → Bool) (key : List ℕ → List �
     entries_pass ws first (k + 1) (Some (key a b)) es (next_before ws first k before a b from (here ∙ is)) stand more,
   )
 
-  entry_is : (is_above : List ℕ → List ℕ → Bool) (e : List (List ℕ)) → entry_fault is_entry is_above e ≡ None →
+  pub entry_is : (is_above : List ℕ → List ℕ → Bool) (e : List (List ℕ)) → entry_fault is_entry is_above e ≡ None →
       (a : List ℕ) × (b : List ℕ) × (e ≡ a ∷ b ∷ []) × (is_entry a b ≡ true) × (is_above a b ≡ true)
   entry_is is_above [] none = absurd (cc (none))
   entry_is is_above (a ∷ []) none = absurd (cc (none))

@@ -2,14 +2,15 @@
 --     Lacks byte text, Cuts byte text front behind      the byte doesn't stand in the text; it parts the text for the first time
 --     Says judge line result P      the line passes what it is asked and P holds of its value, or it has the fault
 --     outcome number js text, Fails faults fault      the faults of a text, the first line of which has a number, by what its lines are asked; the first of them
---     Asks judge number text after rest P result      the first line of a text is taken
-use Rattle.std.specs.Prelude.{◌≡◌, ℕ, ◌+◌, false, cond, ◌==◌, nat_lt, List, [], ◌∷◌, ◌++◌, length, take, Some, None, Result, Ok, Err}
+--     Asks judge number text after rest P result, TakesSection ..      the first line of a text, and a section, is taken
+use Rattle.std.specs.Prelude.{◌≡◌, ℕ, ◌+◌, Bool, false, cond, ◌==◌, nat_lt, List, [], ◌∷◌, ◌++◌, length, take, Some, None, Result, Ok, Err}
 use Rattle.std.specs.List.{All}
 use Rattle.certificate.specs.declared.faults.LineFault.{LineFault}
 use Rattle.certificate.specs.declared.faults.LineFault.TheVariants.{TrailingText}
 use Rattle.certificate.specs.declared.faults.CertFault.{CertFault}
 use Rattle.certificate.specs.declared.faults.CertFault.TheVariants as found
-use Rattle.certificate.specs.Faults.{Judge, words, said, whole_lines, with_feeds, line_faults}
+use Rattle.certificate.specs.Faults.{Judge, words, said, whole_lines, with_feeds, line_faults, section_judges}
+use Rattle.certificate.specs.Decoded.{section_said}
 
 -- the byte doesn't stand in the text
 abbrev pub Lacks : ℕ → List ℕ → Type 0
@@ -43,3 +44,11 @@ abbrev pub Asks : {V : Type 0} → Judge → ℕ → List ℕ → ℕ → List �
 Asks judge number text after rest P (Ok value) =
     (ws : List (List ℕ)) × (said text ≡ ws ∷ said rest) × (judge ws ≡ None) × ((js : List Judge) → outcome number (judge ∷ js) text ≡ outcome after js rest) × P ws value
 Asks judge number text after rest P (Err fault) = (js : List Judge) → Fails (outcome number (judge ∷ js) text) fault
+
+-- a section of a text is taken, which stands behind some lines: its lines pass, and its entries are told; or the text's first fault is
+abbrev pub TakesSection : {V E : Type 0} → List ℕ → ℕ → (List ℕ → List ℕ → Bool) → (List ℕ → List ℕ → ℕ) → (List (List ℕ) → E) → (V → List E) → ℕ → List ℕ → ℕ → List ℕ → Result V CertFault → Type 0
+TakesSection name most is_entry key read items number text after rest (Ok value) = (pre : List (List (List ℕ))) →
+    ((js : List Judge) → outcome number (section_judges name most is_entry key (pre ++ said text) (length pre) ++ js) text ≡ outcome after js rest)
+    × (lines : List (List (List ℕ))) × (said text ≡ lines ++ said rest) × (length lines ≡ length (section_judges name most is_entry key (pre ++ said text) (length pre))) × (items value ≡ section_said read (pre ++ said text) (length pre))
+TakesSection name most is_entry key read items number text after rest (Err fault) = (pre : List (List (List ℕ))) (js : List Judge) →
+    Fails (outcome number (section_judges name most is_entry key (pre ++ said text) (length pre) ++ js) text) fault

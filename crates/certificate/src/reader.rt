@@ -1,16 +1,17 @@
 //! The lines of a text, one after another.
 
-ghost use Rattle.std.specs.Prelude.{◌≡◌, ◌+◌, ◌^◌, ◌<◌, ◌≤◌, ◌⊎◌, ◌++◌, ◌∷◌, [], true, false, codes, get_or, length, map, IfOk, IfErr, OnOk};
+ghost use Rattle.std.specs.Prelude.{◌≡◌, ◌+◌, ◌-◌, ◌^◌, ◌<◌, ◌≤◌, ◌⊎◌, ◌++◌, ◌∷◌, [], true, false, codes, get_or, length, map, IfOk, IfErr, OnOk};
 ghost use Rattle.std.specs.List.{list_all};
 ghost use Rattle.certificate.specs.declared.faults.CertFault.TheVariants.{Line, OutOfMemory};
 ghost use Rattle.certificate.specs.declared.faults.LineFault.TheVariants.{BadNumber, MissingLine};
 ghost use Rattle.order_model.specs.Listed.{listed};
 ghost use Rattle.certificate.specs.Decoded.{numbers_of, read_pair, read_cell};
 ghost use Rattle.certificate.specs.Faults.{cell_key_of, entry_fault, field_fault, fixed_fault, is_cell, is_decimal, is_pair, number_of, pair_key_of, title_fault, words};
-ghost use Rattle.certificate.specs.Parsing.{Asks, Cuts, Fails, Lacks, outcome};
-ghost use Rattle.certificate.specs.Spelling.{most_nodes};
+ghost use Rattle.certificate.specs.Parsing.{Asks, Cuts, Fails, Lacks, TakesSection, outcome};
+ghost use Rattle.certificate.specs.Spelling.{most_nodes, most_pairs};
 ghost use Rattle.certificate.specs.Values.{is_above as above};
 
+use crate::bounds::{MOST_PAIRS, key_of_pair, sets_below_all};
 use crate::faults::{CertFault, LineFault};
 use crate::lines::{behind_name, cell_line, end_line, number_line, pair_line, title_line};
 use crate::words::{cut, number};
@@ -178,5 +179,46 @@ impl<'a> Lines<'a> {
             return Err(CertFault::Line(number, LineFault::BadLine));
         };
         numbers_in(alloc, digits, most, number)
+    }
+
+    /// Takes the lines of pairs.
+    pub(crate) fn pairs(&mut self, alloc: Global, n: u8) -> Result<Vec<(VarIx, VarIx)>, CertFault>
+        requires small { self.old.number + length self.old.rest.now < 2 ^ 63 }
+        requires some { 1 ≤ n }
+        requires few { n ≤ 16 }
+        ensures section { TakesSection (codes "pairs") most_pairs (is_pair n) pair_key_of read_pair (λ v. v.items) self.old.number self.old.rest.now self.new.number self.new.rest.now result }
+        ensures bound { self.new.number + length self.new.rest.now ≤ self.old.number + length self.old.rest.now }
+    {
+        let count = self.number(b"pairs", 0, MOST_PAIRS as u32)?;
+        let mut pairs = Vec::new(alloc);
+        let mut last = None;
+        while pairs.len() < count as usize {
+            let pair = self.pair(n, last)?;
+            last = Some(key_of_pair(pair.0, pair.1));
+            if pairs.push(pair).is_err() {
+                return Err(CertFault::OutOfMemory);
+            }
+        }
+        Ok(pairs)
+    }
+
+    /// Takes the lines of listed sets.
+    pub(crate) fn cells(&mut self, alloc: Global, n: u8) -> Result<Vec<ListedCell>, CertFault>
+        requires small { self.old.number + length self.old.rest.now < 2 ^ 63 }
+        requires few { n ≤ 16 }
+        ensures section { TakesSection (codes "cells") (2 ^ n - 1) (is_cell n) cell_key_of read_cell (λ v. map listed v.items) self.old.number self.old.rest.now self.new.number self.new.rest.now result }
+        ensures bound { self.new.number + length self.new.rest.now ≤ self.old.number + length self.old.rest.now }
+    {
+        let count = self.number(b"cells", 0, sets_below_all(n))?;
+        let mut cells = Vec::new(alloc);
+        let mut last = None;
+        while cells.len() < count as usize {
+            let cell = self.cell(n, last)?;
+            last = Some(u32::from(cell.mask));
+            if cells.push(cell).is_err() {
+                return Err(CertFault::OutOfMemory);
+            }
+        }
+        Ok(cells)
     }
 }
