@@ -1,12 +1,14 @@
 -- Lines that are taken one after another.
 use Rattle.std.proofs.Common.{◌≡◌, ℕ, ◌+◌, ◌-◌, ◌<◌, ◌≤◌, zero, suc, refl, sym, ◌∙◌, ap, subst, Bool, true, false, cond, ◌==◌, nat_lt, List, [], ◌∷◌, ◌++◌, length, map, take, drop, get_or, Option, None, Some, Result, Ok, Err, arith, append_assoc, append-nil}
 use Rattle.std.specs.List.{range_with_len}
+use Rattle.std.specs.Result.{IsErrAnd}
 use Rattle.std.proofs.lemmas.Bool.Decides.{nat_tests}
 use Rattle.std.proofs.lemmas.List.{length-append, length-map, map-append}
 use Rattle.std.proofs.lemmas.List.FromFn.{length-range_with_len}
 use Rattle.std.proofs.Math.Seq.{get_or-append_seam, drop-append-add, take-append_seam}
 use Rattle.certificate.specs.declared.faults.LineFault.{LineFault}
 use Rattle.certificate.specs.declared.faults.CertFault.{CertFault}
+use Rattle.certificate.specs.declared.faults.CertFault.TheVariants as found
 use Rattle.certificate.specs.Faults.{Judge, said, line_faults, number_of, number_said, word_at, field_fault, entry_fault, first_fault, rises, section_judges}
 use Rattle.certificate.specs.Decoded.{section_said}
 use Rattle.certificate.specs.Parsing.{Fails, Asks, outcome, TakesSection}
@@ -150,3 +152,15 @@ module _ {E : Type 0} (read : List (List ℕ) → E) (key_of : E → ℕ) (name 
         behind = drop-append-add pre (said text₀) 1 ∙ ap (drop 1) r.parts
         said_here : items_of v ≡ section_said read ws (length pre)
         said_here = r.items_are ∙ ap (map read) (sym (ap (λ n. take n (drop (length pre + 1) ws)) count_here ∙ ap (take (length r.es)) behind ∙ take-append_seam r.es (said rest)))
+
+-- a refusal of a section
+pub section_fails : {V E : Type 0} (name : List ℕ) (most : ℕ) (is_entry : List ℕ → List ℕ → Bool) (key : List ℕ → List ℕ → ℕ) (read : List (List ℕ) → E) (items : V → List E) (number : ℕ) (text : List ℕ) (after : ℕ) (rest : List ℕ) (result : Result V CertFault) (fault : CertFault) →
+    IsErrAnd result (λ e. e ≡ fault) → ((pre : List (List (List ℕ))) (js : List Judge) → Fails (outcome number (section_judges name most is_entry key (pre ++ said text) (length pre) ++ js) text) fault) →
+    TakesSection name most is_entry key read items number text after rest result
+section_fails name most is_entry key read items number text after rest (Ok v) fault is fails = elim is [ ]
+section_fails name most is_entry key read items number text after rest (Err e) fault is fails = rw is fails
+
+pub memory_fails : {V E : Type 0} (name : List ℕ) (most : ℕ) (is_entry : List ℕ → List ℕ → Bool) (key : List ℕ → List ℕ → ℕ) (read : List (List ℕ) → E) (items : V → List E) (number : ℕ) (text : List ℕ) (after : ℕ) (rest : List ℕ) (result : Result V CertFault) (fault : CertFault) →
+    IsErrAnd result (λ e. e ≡ fault) → fault ≡ found.OutOfMemory → TakesSection name most is_entry key read items number text after rest result
+memory_fails name most is_entry key read items number text after rest (Ok v) fault is memory = elim is [ ]
+memory_fails name most is_entry key read items number text after rest (Err e) fault is memory = rw (is ∙ memory) (λ pre js. tt)

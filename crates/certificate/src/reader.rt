@@ -18,6 +18,17 @@ use crate::words::{cut, number};
 use order_model::{ListedCell, VarIx};
 use std::alloc::Global;
 
+/// Adds one more.
+fn add<T: Drop>(items: &mut Vec<T>, item: T) -> Result<(), CertFault>
+    ensures added { OnOk result (items.new.items ≡ items.old.items ++ item ∷ []) }
+    ensures memory { IfErr result (λ fault. fault ≡ OutOfMemory) }
+{
+    match items.push(item) {
+        Ok(()) => Ok(()),
+        Err(_) => Err(CertFault::OutOfMemory),
+    }
+}
+
 /// Adds the number of a word of line `line`.
 fn push_number(numbers: &mut Vec<u32>, word: &[u8], most: u32, line: usize) -> Result<(), CertFault>
     requires { most ≤ most_nodes }
@@ -28,10 +39,7 @@ fn push_number(numbers: &mut Vec<u32>, word: &[u8], most: u32, line: usize) -> R
     let Some(value) = number(word, 0, most) else {
         return Err(CertFault::Line(line, LineFault::BadNumber));
     };
-    match numbers.push(value) {
-        Ok(()) => Ok(()),
-        Err(_) => Err(CertFault::OutOfMemory),
-    }
+    add(numbers, value)
 }
 
 /// The numbers of the words of a text of line `line`.
@@ -195,9 +203,7 @@ impl<'a> Lines<'a> {
         while pairs.len() < count as usize {
             let pair = self.pair(n, last)?;
             last = Some(key_of_pair(pair.0, pair.1));
-            if pairs.push(pair).is_err() {
-                return Err(CertFault::OutOfMemory);
-            }
+            add(&mut pairs, pair)?;
         }
         Ok(pairs)
     }
@@ -215,9 +221,7 @@ impl<'a> Lines<'a> {
         while cells.len() < count as usize {
             let cell = self.cell(n, last)?;
             last = Some(u32::from(cell.mask));
-            if cells.push(cell).is_err() {
-                return Err(CertFault::OutOfMemory);
-            }
+            add(&mut cells, cell)?;
         }
         Ok(cells)
     }
