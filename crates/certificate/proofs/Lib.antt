@@ -15,3 +15,4 @@ pub mod LineWords
 pub mod Outcomes
 pub mod NumberLines
 pub mod Taking
+pub mod Heading

@@ -9,7 +9,7 @@ use mathlib.Core.List.{append_assoc}
 use Rattle.order_model.specs.Pairs.{Pair}
 use Rattle.order_model.specs.Certificates.{Certificate, Cell}
 use Rattle.certificate.specs.Spelling.{most_nodes, most_pairs, field, section, pair_words, pair_lines, cell_words, pair_key, IsPair, IsCell, head_lines, word_lines, text_line, spelling, HasSpelling}
-use Rattle.certificate.specs.Faults.{whole_lines, said, number_said, inputs_said, is_pair, is_cell, pair_key_of, cell_key_of, title_fault, field_fault, fixed_fault, section_judges, pairs_judges, cells_judges, judges, Judge, with_feeds, trailing, faults}
+use Rattle.certificate.specs.Faults.{whole_lines, said, number_said, inputs_said, is_pair, is_cell, pair_key_of, cell_key_of, title_fault, field_fault, fixed_fault, section_judges, pairs_judges, cells_judges, judges, head_judges, Judge, with_feeds, trailing, faults}
 use Rattle.certificate.proofs.WordLines.{AllPlain, ArePlain, list_word, decimal_plain, decimals_plain, decimals_back, decimal_back, hex_plain, plain_append, said_back, lines_back}
 use Rattle.certificate.proofs.Judges.{Pass, pass_length, pass_append, pass_none, IsFrom, field_passes}
 use Rattle.certificate.specs.Decoded.{read_pair, read_cell, mask_key, section_said, cells_place, cert_of, numbers_of}
@@ -211,22 +211,13 @@ module _ (cert : Certificate) (has : HasSpelling cert) where
   cells_are_back : (cert_of (word_lines cert)).cells ≡ cert.cells
   cells_are_back = cells_back cert.format cert.inputs cert.pairs cert.cells six last (word_lines cert) has.inputs.0 is_few refl parts format_is inputs_are has.format has.pair_count all_pairs has.pairs_rise has.cell_count all_cells has.cells_rise
 
-  -- what is asked of the first six lines
-  abbrev six_judges : ℕ → List Judge
-  six_judges n = title_fault
-      ∷ field_fault (codes "inputs") 1 1 16
-      ∷ field_fault (codes "outputs") 1 1 16
-      ∷ field_fault (codes "order") n 0 15
-      ∷ field_fault (codes "levels") n 0 most_nodes
-      ∷ field_fault (codes "total") 1 0 most_nodes ∷ []
-
   title_passes : title_fault (field (codes "bddorder-certificate") (cert.format ∷ [])) ≡ None
   title_passes = by cert.format has.format where
     by : (format : ℕ) → ((format ≡ 1) × (cert.pairs ≡ [])) ⊎ (format ≡ 2) → title_fault (field (codes "bddorder-certificate") (format ∷ [])) ≡ None
     by format (inl (one, none)) = unfold digits in rw one refl
     by format (inr two) = unfold digits in rw two refl
 
-  six_pass : Pass (six_judges cert.inputs) six
+  six_pass : Pass (head_judges cert.inputs) six
   six_pass =
       let inputs = has.inputs in let outputs = has.outputs in let total = has.total in (
         title_passes,
@@ -252,13 +243,13 @@ module _ (cert : Certificate) (has : HasSpelling cert) where
   all_pass : Pass (judges (word_lines cert)) (word_lines cert)
   all_pass =
       let ws = word_lines cert in
-      let asked : six_judges (inputs_said ws) ++ (pairs_judges ws ++ (cells_judges ws (cells_place ws) ++ fixed_fault (codes "end" ∷ []) ∷ [])) ≡ judges ws = unfold judges in refl in
-      let first : Pass (six_judges (inputs_said ws)) six = subst (λ n. Pass (six_judges n) six) (sym inputs_are) six_pass in
+      let asked : head_judges (inputs_said ws) ++ (pairs_judges ws ++ (cells_judges ws (cells_place ws) ++ fixed_fault (codes "end" ∷ []) ∷ [])) ≡ judges ws = unfold judges in refl in
+      let first : Pass (head_judges (inputs_said ws)) six = subst (λ n. Pass (head_judges n) six) (sym inputs_are) six_pass in
       let end : Pass (fixed_fault (codes "end" ∷ []) ∷ []) last = (refl, refl) in
       let rest = pass_append (cells_judges ws (cells_place ws)) (fixed_fault (codes "end" ∷ []) ∷ []) (section (codes "cells") (map cell_words cert.cells)) last cells_pass_here end in
       let more = pass_append (pairs_judges ws) (cells_judges ws (cells_place ws) ++ fixed_fault (codes "end" ∷ []) ∷ []) (pair_lines cert.format cert.pairs) (section (codes "cells") (map cell_words cert.cells) ++ last) pairs_pass_here rest in
-      let all = pass_append (six_judges (inputs_said ws)) (pairs_judges ws ++ (cells_judges ws (cells_place ws) ++ fixed_fault (codes "end" ∷ []) ∷ [])) six (pair_lines cert.format cert.pairs ++ (section (codes "cells") (map cell_words cert.cells) ++ last)) first more in
-      subst (λ js. Pass js ws) asked (subst (Pass (six_judges (inputs_said ws) ++ (pairs_judges ws ++ (cells_judges ws (cells_place ws) ++ fixed_fault (codes "end" ∷ []) ∷ [])))) (sym parts) all)
+      let all = pass_append (head_judges (inputs_said ws)) (pairs_judges ws ++ (cells_judges ws (cells_place ws) ++ fixed_fault (codes "end" ∷ []) ∷ [])) six (pair_lines cert.format cert.pairs ++ (section (codes "cells") (map cell_words cert.cells) ++ last)) first more in
+      subst (λ js. Pass js ws) asked (subst (Pass (head_judges (inputs_said ws) ++ (pairs_judges ws ++ (cells_judges ws (cells_place ws) ++ fixed_fault (codes "end" ∷ []) ∷ [])))) (sym parts) all)
 
   -- the lines of a spelling, each with its line feed, are the spelling
   feeds_back : (lines : List (List (List ℕ))) → with_feeds (map (join_with_byte 32) lines) ≡ flat_map text_line lines

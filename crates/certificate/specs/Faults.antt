@@ -125,15 +125,18 @@ pairs_judges ws = cond (nat_eq (number_said ws 0) 1) [] (section_judges (codes "
 abbrev pub cells_judges : List (List (List ℕ)) → ℕ → List Judge
 cells_judges ws at = section_judges (codes "cells") (2 ^ inputs_said ws - 1) (is_cell (inputs_said ws)) cell_key_of ws at
 
--- what is asked of the words of each line, from the first on, by what the lines before it say
-unfoldable pub judges : List (List (List ℕ)) → List Judge
-judges ws = title_fault
+-- what is asked of the first six lines, for a number of inputs
+abbrev pub head_judges : ℕ → List Judge
+head_judges n = title_fault
     ∷ field_fault (codes "inputs") 1 1 16
     ∷ field_fault (codes "outputs") 1 1 16
-    ∷ field_fault (codes "order") (inputs_said ws) 0 15
-    ∷ field_fault (codes "levels") (inputs_said ws) 0 most_nodes
-    ∷ field_fault (codes "total") 1 0 most_nodes
-    ∷ (pairs_judges ws ++ (cells_judges ws (6 + length (pairs_judges ws)) ++ fixed_fault (codes "end" ∷ []) ∷ []))
+    ∷ field_fault (codes "order") n 0 15
+    ∷ field_fault (codes "levels") n 0 most_nodes
+    ∷ field_fault (codes "total") 1 0 most_nodes ∷ []
+
+-- what is asked of the words of each line, from the first on, by what the lines before it say
+unfoldable pub judges : List (List (List ℕ)) → List Judge
+judges ws = head_judges (inputs_said ws) ++ (pairs_judges ws ++ (cells_judges ws (6 + length (pairs_judges ws)) ++ fixed_fault (codes "end" ∷ []) ∷ []))
 
 -- a fault with the number of its line, if there is one
 abbrev pub numbered : ℕ → Option LineFault → List (ℕ × LineFault)

@@ -3,3 +3,4 @@ pub mod Faults
 pub mod Decoded
 pub mod Values
 pub mod Parsing
+pub mod Heads

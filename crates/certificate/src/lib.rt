@@ -6,6 +6,7 @@ mod certificate;
 mod faults;
 pub mod laws;
 mod lines;
+mod parsing;
 mod reader;
 #[cfg(test)]
 mod tests;

@@ -1,6 +1,6 @@
 //! What each line of a certificate's text says.
 
-ghost use Rattle.std.specs.Prelude.{◌≡◌, ◌≤◌, ◌∷◌, ℕ, [], codes, get_or, length, Some, IfSome, IfNone};
+ghost use Rattle.std.specs.Prelude.{◌≡◌, ◌≤◌, ◌∷◌, ℕ, [], codes, get_or, length, Some, IfSome, IfNone, IfOk};
 ghost use Rattle.certificate.specs.declared.faults.LineFault.TheVariants.{BadLine};
 ghost use Rattle.certificate.specs.Spelling.{most_nodes};
 ghost use Rattle.certificate.specs.Faults.{cell_key_of, entry_fault, field_fault, fixed_fault, is_cell, is_pair, mask_of, number_of, pair_key_of, title_fault, words};
@@ -30,7 +30,8 @@ fn two_words(line: &[u8]) -> Option<(&[u8], &[u8])>
 /// The number of a line of a fixed word and a number.
 pub fn number_line(line: &[u8], name: &[u8], least: u32, most: u32) -> Result<u32, LineFault>
     requires { most ≤ most_nodes }
-    ensures { Says (field_fault name.now 1 least most) line.now (λ value. value ≡ number_of (get_or (words line.now) 1 [])) result }
+    ensures says { Says (field_fault name.now 1 least most) line.now (λ value. value ≡ number_of (get_or (words line.now) 1 [])) result }
+    ensures within { IfOk result (λ value. (least ≤ value) × (value ≤ most)) }
 {
     let Some((word, digits)) = two_words(line) else {
         return Err(LineFault::BadLine);

@@ -19,7 +19,7 @@ use order_model::{ListedCell, VarIx};
 use std::alloc::Global;
 
 /// Adds one more.
-fn add<T: Drop>(items: &mut Vec<T>, item: T) -> Result<(), CertFault>
+pub(crate) fn add<T: Drop>(items: &mut Vec<T>, item: T) -> Result<(), CertFault>
     ensures added { OnOk result (items.new.items ≡ items.old.items ++ item ∷ []) }
     ensures memory { IfErr result (λ fault. fault ≡ OutOfMemory) }
 {
@@ -100,6 +100,7 @@ impl<'a> Lines<'a> {
         requires small { self.old.number + length self.old.rest.now < 2 ^ 63 }
         requires bounds { most ≤ most_nodes }
         ensures line { Asks (field_fault name.now 1 least most) self.old.number self.old.rest.now self.new.number self.new.rest.now (λ ws value. value ≡ number_of (get_or ws 1 [])) result }
+        ensures within { IfOk result (λ value. (least ≤ value) × (value ≤ most)) }
         ensures bound { self.new.number + length self.new.rest.now ≤ self.old.number + length self.old.rest.now }
     {
         let number = self.number;

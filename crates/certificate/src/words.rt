@@ -73,6 +73,7 @@ pub(crate) fn number(word: &[u8], least: u32, most: u32) -> Option<u32>
     requires { most ≤ most_nodes }
     ensures some { IfSome result (λ value. (is_decimal least most word.now ≡ true) × (number_of word.now ≡ value)) }
     ensures none { IfNone result (is_decimal least most word.now ≡ false) }
+    ensures within { IfSome result (λ value. (least ≤ value) × (value ≤ most)) }
 {
     let value = decimal(word)?;
     if value < least || value > most {
