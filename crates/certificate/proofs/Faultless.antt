@@ -182,7 +182,7 @@ end_is [] pass = elim pass [ ]
 end_is (line ∷ more) (here, none) = rw (fixed_is (codes "end" ∷ []) line here) (ap (λ xs. (codes "end" ∷ []) ∷ xs) none)
 
 -- the number in the first line
-format_of : (t : List (List ℕ)) → title_fault t ≡ None → (number_of (get_or t 1 []) ≡ 1) ⊎ (number_of (get_or t 1 []) ≡ 2)
+pub format_of : (t : List (List ℕ)) → title_fault t ≡ None → (number_of (get_or t 1 []) ≡ 1) ⊎ (number_of (get_or t 1 []) ≡ 2)
 format_of t title = by (title_is t title) where
   by : (t ≡ field (codes "bddorder-certificate") (1 ∷ [])) ⊎ (t ≡ field (codes "bddorder-certificate") (2 ∷ [])) → (number_of (get_or t 1 []) ≡ 1) ⊎ (number_of (get_or t 1 []) ≡ 2)
   by (inl one) = inl (rw one (decimal_back 1 (lit< tt)))

@@ -16,3 +16,4 @@ pub mod Outcomes
 pub mod NumberLines
 pub mod Taking
 pub mod Heading
+pub mod Bodies

@@ -1,11 +1,18 @@
--- What the first six lines of a text say.
+-- What the first six lines of a text say, and those behind them.
 --     IsHead ws head      the parts that the words of the lines give
 --     TakesHead number text after rest result      the first six lines of a text are taken
-use Rattle.std.specs.Prelude.{◌≡◌, ℕ, ◌≤◌, List, [], ◌++◌, length, get_or, Result, Ok, Err}
+--     TakesBody format n number text result      all lines behind them are taken
+use Rattle.std.specs.Prelude.{◌≡◌, ℕ, ◌≤◌, ◌⊎◌, List, [], ◌∷◌, ◌++◌, length, map, get_or, codes, Option, Some, None, Result, Ok, Err}
+use Rattle.std.specs.Global.{Global}
+use Rattle.std.specs.Prelude.{Vec}
+use Rattle.order_model.specs.Pairs.{Pair}
+use Rattle.order_model.specs.Listed.{listed}
+use Rattle.order_model.specs.declared.listed_cells.ListedCell.{ListedCell}
 use Rattle.certificate.specs.declared.parsing.Head.{Head}
 use Rattle.certificate.specs.declared.faults.CertFault.{CertFault}
-use Rattle.certificate.specs.Faults.{Judge, said, number_said, inputs_said, head_judges}
-use Rattle.certificate.specs.Decoded.{numbers_of}
+use Rattle.certificate.specs.Faults.{Judge, said, number_said, inputs_said, head_judges, pairs_judges, cells_judges, fixed_fault}
+use Rattle.certificate.specs.Decoded.{numbers_of, cells_place, cert_of}
+use Rattle.certificate.specs.Values.{format_of}
 use Rattle.certificate.specs.Parsing.{Fails, outcome}
 
 -- the parts that the words of the lines give
@@ -18,6 +25,7 @@ pub record IsHead (ws : List (List (List ℕ))) (head : Head) : Type 0 where
   pub total : head.total ≡ number_said ws 5
   pub some : 1 ≤ head.inputs
   pub few : head.inputs ≤ 16
+  pub known : (head.format ≡ 1) ⊎ (head.format ≡ 2)
 
 -- the first six lines of a text are taken, or the text's first fault is told
 abbrev pub TakesHead : ℕ → List ℕ → ℕ → List ℕ → Result Head CertFault → Type 0
@@ -25,3 +33,26 @@ TakesHead number text after rest (Ok head) = IsHead (said text) head
     × (lines : List (List (List ℕ))) × (said text ≡ lines ++ said rest) × (length lines ≡ 6)
     × ((js : List Judge) → outcome number (head_judges (inputs_said (said text)) ++ js) text ≡ outcome after js rest)
 TakesHead number text after rest (Err fault) = (js : List Judge) → Fails (outcome number (head_judges (inputs_said (said text)) ++ js) text) fault
+
+-- what is asked of the lines behind the first six
+abbrev pub body_judges : List (List (List ℕ)) → List Judge
+body_judges ws = pairs_judges ws ++ (cells_judges ws (cells_place ws) ++ fixed_fault (codes "end" ∷ []) ∷ [])
+
+-- the lines of listed sets and the last one are taken, behind some lines that say a number of inputs, or the first fault is told
+abbrev pub TakesSets : ℕ → ℕ → List ℕ → Result (Vec ListedCell Global) CertFault → Type 0
+TakesSets n number text (Ok cells) = (pre : List (List (List ℕ))) → length pre ≡ cells_place (pre ++ said text) → inputs_said (pre ++ said text) ≡ n →
+    (outcome number (cells_judges (pre ++ said text) (cells_place (pre ++ said text)) ++ fixed_fault (codes "end" ∷ []) ∷ []) text ≡ []) × (map listed cells.items ≡ (cert_of (pre ++ said text)).cells)
+TakesSets n number text (Err fault) = (pre : List (List (List ℕ))) → length pre ≡ cells_place (pre ++ said text) → inputs_said (pre ++ said text) ≡ n →
+    Fails (outcome number (cells_judges (pre ++ said text) (cells_place (pre ++ said text)) ++ fixed_fault (codes "end" ∷ []) ∷ []) text) fault
+
+-- the pairs that may be there, and the format: format 1 has none
+abbrev pub pairs_in : Option (Vec Pair Global) → List Pair
+pairs_in None = []
+pairs_in (Some pairs) = pairs.items
+
+-- what stands behind six lines that say a format and a number of inputs is taken to its end, or the first fault is told
+abbrev pub TakesBody : ℕ → ℕ → ℕ → List ℕ → Result (Option (Vec Pair Global) × Vec ListedCell Global) CertFault → Type 0
+TakesBody format n number text (Ok parts) = (pre : List (List (List ℕ))) → length pre ≡ 6 → number_said (pre ++ said text) 0 ≡ format → inputs_said (pre ++ said text) ≡ n →
+    (outcome number (body_judges (pre ++ said text)) text ≡ []) × (format_of parts.0 ≡ format) × (pairs_in parts.0 ≡ (cert_of (pre ++ said text)).pairs) × (map listed parts.1.items ≡ (cert_of (pre ++ said text)).cells)
+TakesBody format n number text (Err fault) = (pre : List (List (List ℕ))) → length pre ≡ 6 → number_said (pre ++ said text) 0 ≡ format → inputs_said (pre ++ said text) ≡ n →
+    Fails (outcome number (body_judges (pre ++ said text)) text) fault

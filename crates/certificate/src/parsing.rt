@@ -1,14 +1,14 @@
 //! Certificates from their texts.
 
-ghost use Rattle.std.specs.Prelude.{◌≡◌, ◌+◌, ◌^◌, ◌<◌, ◌≤◌, IfOk, IfErr, length};
+ghost use Rattle.std.specs.Prelude.{◌≡◌, ◌+◌, ◌^◌, ◌<◌, ◌≤◌, ◌⊎◌, IfOk, IfErr, length};
 ghost use Rattle.std.specs.List.{All};
 ghost use Rattle.certificate.specs.declared.faults.CertFault.TheVariants.{OutOfMemory};
-ghost use Rattle.certificate.specs.Heads.{TakesHead};
+ghost use Rattle.certificate.specs.Heads.{TakesBody, TakesHead, TakesSets};
 
 use crate::bounds::MOST_NODES;
 use crate::faults::CertFault;
 use crate::reader::{Lines, add};
-use order_model::VarIx;
+use order_model::{ListedCell, VarIx};
 use std::alloc::Global;
 
 /// Numbers as variables.
@@ -56,4 +56,37 @@ fn read_head(alloc: Global, lines: &mut Lines<'_>) -> Result<Head, CertFault>
         levels,
         total,
     })
+}
+
+/// Takes the lines of listed sets, and the last one.
+fn read_sets(alloc: Global, lines: &mut Lines<'_>, n: u8) -> Result<Vec<ListedCell>, CertFault>
+    requires small { lines.old.number + length lines.old.rest.now < 2 ^ 63 }
+    requires few { n ≤ 16 }
+    ensures { TakesSets n lines.old.number lines.old.rest.now result }
+{
+    let cells = lines.cells(alloc, n)?;
+    lines.end()?;
+    Ok(cells)
+}
+
+/// Takes the lines behind the first six, to the end of the text. Format 1 has no pairs.
+fn read_body(
+    alloc: Global,
+    lines: &mut Lines<'_>,
+    format: u8,
+    n: u8,
+) -> Result<(Option<Vec<(VarIx, VarIx)>>, Vec<ListedCell>), CertFault>
+    requires small { lines.old.number + length lines.old.rest.now < 2 ^ 63 }
+    requires known { (format ≡ 1) ⊎ (format ≡ 2) }
+    requires some { 1 ≤ n }
+    requires few { n ≤ 16 }
+    ensures { TakesBody format n lines.old.number lines.old.rest.now result }
+{
+    if format == 1 {
+        let cells = read_sets(alloc, lines, n)?;
+        return Ok((None, cells));
+    }
+    let pairs = lines.pairs(alloc, n)?;
+    let cells = read_sets(alloc, lines, n)?;
+    Ok((Some(pairs), cells))
 }

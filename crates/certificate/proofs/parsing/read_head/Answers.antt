@@ -2,6 +2,8 @@ use Rattle.std.proofs.Common.{◌≡◌, ◌≤◌, ℕ, List, refl, sym, ◌∙
 use Rattle.certificate.specs.Spelling.{most_nodes}
 use Rattle.certificate.specs.Faults.{Judge, said, number_of, inputs_said, title_fault, field_fault, head_judges}
 use Rattle.certificate.specs.Decoded.{numbers_of}
+use Rattle.certificate.specs.Parsing.{outcome}
+use Rattle.certificate.proofs.Faultless.{format_of}
 use Rattle.certificate.proofs.Heading.{Taken, taken_none, taken_more, head_fails, told_fails, head_memory, small_numbers}
 use Rattle.certificate.proofs.parsing.read_head.Goals as goal
 
@@ -61,3 +63,30 @@ returns-in_err-total-clause-head c =
 
 pub variables-requires : goal.variables-requires
 variables-requires c = rw c.deref.ensures.value (small_numbers (λ v. v.items) (codes "order") c.in_ok-inputs.inputs 15 c.number-2.new.self.number c.numbers.new.self.number c.number-2.new.self.rest.now c.numbers.new.self.rest.now c.in_ok-numbers.numbers c.in_ok-numbers.ensures.line)
+
+pub returns-clause-head : goal.returns-clause-head
+returns-clause-head c =
+    let t0 = taken_none c.args.lines.now.number c.args.lines.now.rest.now in
+    let a0 = c.in_ok-format.ensures.line in let t1 = taken_more c.args.lines.now.number c.args.lines.now.rest.now _ _ c.args.lines.now.number c.args.lines.now.rest.now title_fault c.title.new.self.number c.title.new.self.rest.now t0 (a0.0, a0.1, a0.2, a0.3) in
+    let a1 = c.in_ok-inputs.ensures.line in let t2 = taken_more c.args.lines.now.number c.args.lines.now.rest.now _ _ c.title.new.self.number c.title.new.self.rest.now (field_fault (codes "inputs") 1 1 16) c.number.new.self.number c.number.new.self.rest.now t1 (a1.0, a1.1, a1.2, a1.3) in
+    let a2 = c.in_ok-outputs.ensures.line in let t3 = taken_more c.args.lines.now.number c.args.lines.now.rest.now _ _ c.number.new.self.number c.number.new.self.rest.now (field_fault (codes "outputs") 1 1 16) c.number-2.new.self.number c.number-2.new.self.rest.now t2 (a2.0, a2.1, a2.2, a2.3) in
+    let a3 = c.in_ok-numbers.ensures.line in let t4 = taken_more c.args.lines.now.number c.args.lines.now.rest.now _ _ c.number-2.new.self.number c.number-2.new.self.rest.now (field_fault (codes "order") c.in_ok-inputs.inputs 0 15) c.numbers.new.self.number c.numbers.new.self.rest.now t3 (a3.0, a3.1, a3.2, a3.3) in
+    let a4 = c.in_ok-levels.ensures.line in let t5 = taken_more c.args.lines.now.number c.args.lines.now.rest.now _ _ c.numbers.new.self.number c.numbers.new.self.rest.now (field_fault (codes "levels") c.in_ok-inputs.inputs 0 most_nodes) c.numbers-2.new.self.number c.numbers-2.new.self.rest.now t4 (a4.0, a4.1, a4.2, a4.3) in
+    let a5 = c.in_ok-total.ensures.line in let t6 = taken_more c.args.lines.now.number c.args.lines.now.rest.now _ _ c.numbers-2.new.self.number c.numbers-2.new.self.rest.now (field_fault (codes "total") 1 0 most_nodes) c.number-3.new.self.number c.number-3.new.self.rest.now t5 (a5.0, a5.1, a5.2, a5.3) in
+    (
+      record {
+        format = a0.4 ∙ sym (ap (λ (xs : List (List (List ℕ))). number_of (get_or (get_or xs 0 []) 1 [])) t6.parts);
+        inputs = a1.4 ∙ sym (ap (λ (xs : List (List (List ℕ))). number_of (get_or (get_or xs 1 []) 1 [])) t6.parts);
+        outputs = a2.4 ∙ sym (ap (λ (xs : List (List (List ℕ))). number_of (get_or (get_or xs 2 []) 1 [])) t6.parts);
+        order = c.in_ok-order.ensures.same ∙ c.deref.ensures.value ∙ a3.4 ∙ sym (ap (λ (xs : List (List (List ℕ))). numbers_of (get_or xs 3 [])) t6.parts);
+        levels = a4.4 ∙ sym (ap (λ (xs : List (List (List ℕ))). numbers_of (get_or xs 4 [])) t6.parts);
+        total = a5.4 ∙ sym (ap (λ (xs : List (List (List ℕ))). number_of (get_or (get_or xs 5 []) 1 [])) t6.parts);
+        some = c.in_ok-inputs.ensures.within.0;
+        few = c.in_ok-inputs.ensures.within.1;
+        known = rw a0.4 (format_of a0.0 a0.2);
+      },
+      a0.0 ∷ a1.0 ∷ a2.0 ∷ a3.0 ∷ a4.0 ∷ a5.0 ∷ [],
+      t6.parts,
+      refl,
+      λ js. ap (λ m. outcome c.args.lines.now.number (head_judges m ++ js) c.args.lines.now.rest.now) ((ap (λ (xs : List (List (List ℕ))). number_of (get_or (get_or xs 1 []) 1 [])) t6.parts) ∙ sym a1.4) ∙ t6.left js,
+    )
