@@ -84,7 +84,7 @@ module _ (format n number : ℕ) (text : List ℕ) (after : ℕ) (rest : List �
     (takes : TakesSection (codes "pairs") most_pairs (is_pair n) pair_key_of read_pair (λ (v : Vec Pair Global). v.items) number text after rest (Ok pairs))
     (pre : List (List (List ℕ))) (six : length pre ≡ 6) (says : number_said (pre ++ said text) 0 ≡ format) (known : inputs_said (pre ++ said text) ≡ n) where
   -- the lines up to listed sets
-  front : List (List (List ℕ))
+  abbrev front : List (List (List ℕ))
   front = pre ++ (takes pre).1
 
   whole : front ++ said rest ≡ pre ++ said text

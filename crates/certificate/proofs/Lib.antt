@@ -17,3 +17,4 @@ pub mod NumberLines
 pub mod Taking
 pub mod Heading
 pub mod Bodies
+pub mod Parsed

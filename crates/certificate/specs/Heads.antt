@@ -2,17 +2,20 @@
 --     IsHead ws head      the parts that the words of the lines give
 --     TakesHead number text after rest result      the first six lines of a text are taken
 --     TakesBody format n number text result      all lines behind them are taken
-use Rattle.std.specs.Prelude.{◌≡◌, ℕ, ◌≤◌, ◌⊎◌, List, [], ◌∷◌, ◌++◌, length, map, get_or, codes, Option, Some, None, Result, Ok, Err}
+--     Refuses text fault      why a text is refused
+use Rattle.std.specs.Prelude.{◌≡◌, ℕ, ◌<◌, ◌≤◌, ◌⊎◌, List, [], ◌∷◌, ◌++◌, length, map, get_or, codes, Option, Some, None, Result, Ok, Err}
 use Rattle.std.specs.Global.{Global}
 use Rattle.std.specs.Prelude.{Vec}
 use Rattle.order_model.specs.Pairs.{Pair}
 use Rattle.order_model.specs.Listed.{listed}
 use Rattle.order_model.specs.declared.listed_cells.ListedCell.{ListedCell}
 use Rattle.certificate.specs.declared.parsing.Head.{Head}
+use Rattle.order_model.specs.Certificates.{Certificate}
 use Rattle.certificate.specs.declared.faults.CertFault.{CertFault}
-use Rattle.certificate.specs.Faults.{Judge, said, number_said, inputs_said, head_judges, pairs_judges, cells_judges, fixed_fault}
+use Rattle.certificate.specs.declared.faults.CertFault.TheVariants as found
+use Rattle.certificate.specs.Faults.{FirstFault, Judge, said, number_said, inputs_said, head_judges, pairs_judges, cells_judges, fixed_fault}
 use Rattle.certificate.specs.Decoded.{numbers_of, cells_place, cert_of}
-use Rattle.certificate.specs.Values.{format_of}
+use Rattle.certificate.specs.Values.{format_of, value_of}
 use Rattle.certificate.specs.Parsing.{Fails, outcome}
 
 -- the parts that the words of the lines give
@@ -56,3 +59,17 @@ TakesBody format n number text (Ok parts) = (pre : List (List (List ℕ))) → l
     (outcome number (body_judges (pre ++ said text)) text ≡ []) × (format_of parts.0 ≡ format) × (pairs_in parts.0 ≡ (cert_of (pre ++ said text)).pairs) × (map listed parts.1.items ≡ (cert_of (pre ++ said text)).cells)
 TakesBody format n number text (Err fault) = (pre : List (List (List ℕ))) → length pre ≡ 6 → number_said (pre ++ said text) 0 ≡ format → inputs_said (pre ++ said text) ≡ n →
     Fails (outcome number (body_judges (pre ++ said text)) text) fault
+
+-- the parts of a certificate, as they are read
+abbrev pub parts_of : Head → Option (Vec Pair Global) → List ListedCell → Certificate
+parts_of head pairs cells = value_of (format_of pairs) head.inputs head.outputs head.order.items head.levels.items head.total (pairs_in pairs) cells
+
+-- the longest text
+abbrev pub most_bytes : ℕ
+most_bytes = 1048576
+
+-- why a text is refused: its first fault, or that it is too long; want of memory may stand in the place of either
+abbrev pub Refuses : List ℕ → CertFault → Type 0
+Refuses text (found.Line number fault) = (length text ≤ most_bytes) × FirstFault text number fault
+Refuses text found.TooLong = most_bytes < length text
+Refuses text found.OutOfMemory = Unit {0}

@@ -1,15 +1,20 @@
 //! Certificates from their texts.
 
-ghost use Rattle.std.specs.Prelude.{◌≡◌, ◌+◌, ◌^◌, ◌<◌, ◌≤◌, ◌⊎◌, IfOk, IfErr, length};
+ghost use Rattle.std.specs.Prelude.{◌≡◌, ◌+◌, ◌^◌, ◌<◌, ◌≤◌, ◌⊎◌, IfOk, IfErr, IfSome, IfNone, length};
 ghost use Rattle.std.specs.List.{All};
 ghost use Rattle.certificate.specs.declared.faults.CertFault.TheVariants.{OutOfMemory};
-ghost use Rattle.certificate.specs.Heads.{TakesBody, TakesHead, TakesSets};
+ghost use Rattle.certificate.specs.Heads.{Refuses, TakesBody, TakesHead, TakesSets, most_bytes, parts_of};
+ghost use Rattle.certificate.specs.Spelling.{HasSpelling, spelling};
 
 use crate::bounds::MOST_NODES;
+use crate::certificate::Certificate;
 use crate::faults::CertFault;
 use crate::reader::{Lines, add};
 use order_model::{ListedCell, VarIx};
 use std::alloc::Global;
+
+/// The longest text.
+const MOST_BYTES: usize = 1_048_576;
 
 /// Numbers as variables.
 fn variables(alloc: Global, numbers: &[u32]) -> Result<Vec<VarIx>, CertFault>
@@ -89,4 +94,48 @@ fn read_body(
     let pairs = lines.pairs(alloc, n)?;
     let cells = read_sets(alloc, lines, n)?;
     Ok((Some(pairs), cells))
+}
+
+/// The certificate of what was read.
+fn certificate_of(
+    head: Head,
+    pairs: Option<Vec<(VarIx, VarIx)>>,
+    cells: Vec<ListedCell>,
+) -> Option<Certificate>
+    ensures some { IfSome result (λ cert. cert ≡ parts_of head pairs cells.items) }
+    ensures none { IfNone result (HasSpelling (parts_of head pairs cells.items) → ⊥) }
+{
+    let Head {
+        format: _,
+        inputs,
+        outputs,
+        order,
+        levels,
+        total,
+    } = head;
+    match pairs {
+        None => Certificate::new(inputs, outputs, order, levels, total, cells),
+        Some(pairs) => Certificate::new2(inputs, outputs, order, levels, total, pairs, cells),
+    }
+}
+
+impl Certificate {
+    /// The certificate whose spelling a text of at most 1,048,576 bytes is, in either format, or why there is none. Time and memory are
+    /// linear in the text.
+    pub fn parse(alloc: Global, text: &[u8]) -> Result<Certificate, CertFault>
+        ensures spelled { IfOk result (λ cert. text.now ≡ spelling cert) }
+        ensures short { IfOk result (λ _. length text.now ≤ most_bytes) }
+        ensures refused { IfErr result (Refuses text.now) }
+    {
+        if text.len() > MOST_BYTES {
+            return Err(CertFault::TooLong);
+        }
+        let mut lines = Lines::of(text);
+        let head = read_head(alloc, &mut lines)?;
+        let (pairs, cells) = read_body(alloc, &mut lines, head.format, head.inputs)?;
+        match certificate_of(head, pairs, cells) {
+            Some(cert) => Ok(cert),
+            None => unreachable!(),
+        }
+    }
 }

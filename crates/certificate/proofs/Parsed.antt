@@ -1,0 +1,74 @@
+-- A text that is read to its end.
+use Rattle.std.proofs.Common.{◌≡◌, ℕ, ◌+◌, ◌≤◌, ◌<◌, refl, sym, ◌∙◌, ap, subst, List, [], ◌∷◌, ◌++◌, length, map, get_or, Option, Result, Ok, Err, IfErr, arith, Vec, Global}
+use Rattle.std.specs.Result.{IsErrAnd}
+use Rattle.order_model.specs.Pairs.{Pair}
+use Rattle.order_model.specs.Certificates.{Certificate, Cell}
+use Rattle.order_model.specs.Listed.{listed}
+use Rattle.order_model.specs.declared.listed_cells.ListedCell.{ListedCell}
+use Rattle.certificate.specs.declared.faults.LineFault.{LineFault}
+use Rattle.certificate.specs.declared.faults.LineFault.TheVariants.{TrailingText}
+use Rattle.certificate.specs.declared.faults.CertFault.{CertFault}
+use Rattle.certificate.specs.declared.faults.CertFault.TheVariants as found
+use Rattle.certificate.specs.declared.parsing.Head.{Head}
+use Rattle.certificate.specs.Spelling.{HasSpelling, spelling}
+use Rattle.certificate.specs.Faults.{Judge, said, number_said, inputs_said, head_judges, judges, trailing, faults, FirstFault}
+use Rattle.certificate.specs.Decoded.{cert_of}
+use Rattle.certificate.specs.Parsing.{Fails, outcome}
+use Rattle.certificate.specs.Heads.{IsHead, TakesHead, TakesBody, Refuses, body_judges, parts_of, pairs_in, most_bytes}
+use Rattle.certificate.proofs.Faultless.{Faultless, faultless}
+
+-- a certificate of its parts
+abbrev record_of : ℕ → ℕ → ℕ → List ℕ → List ℕ → ℕ → List Pair → List Cell → Certificate
+record_of format inputs outputs order levels total pairs cells =
+    record { format = format; inputs = inputs; outputs = outputs; order = order; levels = levels; total = total; pairs = pairs; cells = cells }
+
+judges_are : (ws : List (List (List ℕ))) → head_judges (inputs_said ws) ++ body_judges ws ≡ judges ws
+unfolding judges
+judges_are ws = refl
+
+faults_are : (text : List ℕ) → outcome 1 (head_judges (inputs_said (said text)) ++ body_judges (said text)) text ≡ faults text
+unfolding outcome faults trailing judges
+faults_are text = let next : 1 + length (judges (said text)) ≡ length (judges (said text)) + 1 = omega arith in rw next refl
+
+refuses : (text : List ℕ) (fault : CertFault) → length text ≤ most_bytes → Fails (faults text) fault → Refuses text fault
+refuses text (found.Line number fault) short (others, first) = (short, record { others = others; first = first })
+refuses text found.TooLong short fails = elim fails [ ]
+refuses text found.OutOfMemory short fails = tt
+
+pub head_refused : {V : Type 0} (text : List ℕ) (after : ℕ) (rest : List ℕ) (fault : CertFault) (result : Result V CertFault) → IsErrAnd result (λ e. e ≡ fault) → length text ≤ most_bytes → TakesHead 1 text after rest (Err fault) → IfErr result (Refuses text)
+head_refused text after rest fault (Ok v) is short takes = elim is [ ]
+head_refused text after rest fault (Err e) is short takes = rw is (refuses text fault short (subst (λ fs. Fails fs fault) (faults_are text) (takes (body_judges (said text)))))
+
+module _ (text : List ℕ) (after : ℕ) (rest : List ℕ) (head : Head) (takes : TakesHead 1 text after rest (Ok head)) where
+  -- what is asked of the lines behind the first six
+  behind : faults text ≡ outcome after (body_judges (takes.1 ++ said rest)) rest
+  behind = sym (faults_are text) ∙ takes.4 (body_judges (said text)) ∙ ap (λ ws. outcome after (body_judges ws) rest) takes.2
+
+  format_here : number_said (takes.1 ++ said rest) 0 ≡ head.format
+  format_here = ap (λ ws. number_said ws 0) (sym takes.2) ∙ sym takes.0.format
+
+  inputs_here : inputs_said (takes.1 ++ said rest) ≡ head.inputs
+  inputs_here = ap inputs_said (sym takes.2) ∙ sym takes.0.inputs
+
+  pub body_refused : {V : Type 0} (fault : CertFault) (result : Result V CertFault) → IsErrAnd result (λ e. e ≡ fault) → length text ≤ most_bytes → TakesBody head.format head.inputs after rest (Err fault) → IfErr result (Refuses text)
+  body_refused fault (Ok v) is short body = elim is [ ]
+  body_refused fault (Err e) is short body = rw is (refuses text fault short (subst (λ fs. Fails fs fault) (sym behind) (body takes.1 takes.3 format_here inputs_here)))
+
+  module _ (pairs : Option (Vec Pair Global)) (cells : Vec ListedCell Global) (body : TakesBody head.format head.inputs after rest (Ok (pairs, cells))) where
+    told : Faultless text
+    told = faultless text (behind ∙ (body takes.1 takes.3 format_here inputs_here).0)
+
+    by_parts : (f f' i i' o o' : ℕ) (r r' l l' : List ℕ) (t t' : ℕ) (p p' : List Pair) (c c' : List Cell) → f ≡ f' → i ≡ i' → o ≡ o' → r ≡ r' → l ≡ l' → t ≡ t' → p ≡ p' → c ≡ c' →
+        record_of f i o r l t p c ≡ record_of f' i' o' r' l' t' p' c'
+    by_parts f f' i i' o o' r r' l l' t t' p p' c c' ef ei eo er el et ep ec = rw ef (rw ei (rw eo (rw er (rw el (rw et (rw ep (rw ec refl)))))))
+
+    pub parts_are : parts_of head pairs cells.items ≡ cert_of (said text)
+    parts_are =
+        let b = body takes.1 takes.3 format_here inputs_here in let h = takes.0 in
+        by_parts _ _ _ _ _ _ _ _ _ _ _ _ _ _ _ _ (b.1 ∙ h.format) h.inputs h.outputs h.order h.levels h.total (b.2 ∙ ap (λ ws. (cert_of ws).pairs) (sym takes.2)) (b.3 ∙ ap (λ ws. (cert_of ws).cells) (sym takes.2))
+
+    pub parts_spelled : HasSpelling (parts_of head pairs cells.items)
+    parts_spelled = rw parts_are told.has
+
+    pub text_spelled : text ≡ spelling (parts_of head pairs cells.items)
+    text_spelled = rw parts_are told.text_is
