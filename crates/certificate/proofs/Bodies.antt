@@ -1,9 +1,8 @@
 -- The lines behind the first six, to the end of a text.
-use Rattle.std.proofs.Common.{◌≡◌, ℕ, ◌+◌, ◌-◌, ◌^◌, refl, sym, ◌∙◌, ap, subst, true, false, cond, nat_eq, inl, inr, ◌⊎◌, List, [], ◌∷◌, ◌++◌, length, map, codes, Option, Some, None, Result, Ok, Err, IfErr, arith, append_assoc, Vec, Global}
+use Rattle.std.proofs.Common.{◌≡◌, ℕ, ◌+◌, ◌-◌, ◌^◌, refl, sym, ◌∙◌, ap, subst, inl, inr, ◌⊎◌, List, [], ◌∷◌, ◌++◌, length, map, codes, Option, Some, None, Result, Ok, Err, append_assoc, Vec, Global}
 use Rattle.std.specs.Result.{IsErrAnd}
 use Rattle.std.proofs.lemmas.List.{length-append}
 use Rattle.order_model.specs.Pairs.{Pair}
-use Rattle.order_model.specs.Certificates.{Cell}
 use Rattle.order_model.specs.Listed.{listed}
 use Rattle.order_model.specs.declared.listed_cells.ListedCell.{ListedCell}
 use Rattle.certificate.specs.declared.faults.CertFault.{CertFault}
@@ -12,7 +11,7 @@ use Rattle.certificate.specs.Faults.{Judge, said, number_said, inputs_said, is_p
 use Rattle.certificate.specs.Decoded.{read_pair, read_cell, section_said, cells_place, cert_of}
 use Rattle.certificate.specs.Values.{format_of}
 use Rattle.certificate.specs.Parsing.{Fails, TakesSection, outcome}
-use Rattle.certificate.specs.Heads.{TakesSets, TakesBody, body_judges, pairs_in}
+use Rattle.certificate.specs.Heads.{TakesSets, TakesBody, body_judges}
 
 abbrev last : List Judge
 last = fixed_fault (codes "end" ∷ []) ∷ []
@@ -60,12 +59,11 @@ pub first_fails : (format n number : ℕ) (text : List ℕ) (fault : CertFault) 
 first_fails format n number text fault (Ok v) is one takes = elim is [ ]
 first_fails format n number text fault (Err e) is one takes =
     rw is (λ pre six says known. subst (λ js. Fails (outcome number (js ++ (cells_judges (pre ++ said text) (cells_place (pre ++ said text)) ++ last)) text) fault) (sym (no_pairs format n number text pre six says known one))
-      (takes pre (place_first format n number text pre six says known one) known))
+    (takes pre (place_first format n number text pre six says known one) known))
 
 pub first_told : (format n number : ℕ) (text : List ℕ) (cells : Vec ListedCell Global) → format ≡ 1 → TakesSets n number text (Ok cells) → TakesBody format n number text (Ok (None, cells))
 first_told format n number text cells one takes pre six says known =
-    let t = takes pre (place_first format n number text pre six says known one) known in
-    (
+    let t = takes pre (place_first format n number text pre six says known one) known in (
       ap (λ js. outcome number (js ++ (cells_judges (pre ++ said text) (cells_place (pre ++ said text)) ++ last)) text) (no_pairs format n number text pre six says known one) ∙ t.0,
       sym one,
       rw (says ∙ one) refl,
@@ -78,7 +76,7 @@ pub pairs_fail : (format n number : ℕ) (text : List ℕ) (after : ℕ) (rest :
 pairs_fail format n number text after rest fault (Ok v) is two takes = elim is [ ]
 pairs_fail format n number text after rest fault (Err e) is two takes =
     rw is (λ pre six says known. subst (λ js. Fails (outcome number (js ++ (cells_judges (pre ++ said text) (cells_place (pre ++ said text)) ++ last)) text) fault) (pairs_asked n number text pre known six (says ∙ two))
-      (takes pre (cells_judges (pre ++ said text) (cells_place (pre ++ said text)) ++ last)))
+    (takes pre (cells_judges (pre ++ said text) (cells_place (pre ++ said text)) ++ last)))
 
 module _ (format n number : ℕ) (text : List ℕ) (after : ℕ) (rest : List ℕ) (pairs : Vec Pair Global) (two : format ≡ 2)
     (takes : TakesSection (codes "pairs") most_pairs (is_pair n) pair_key_of read_pair (λ (v : Vec Pair Global). v.items) number text after rest (Ok pairs))
@@ -110,13 +108,12 @@ module _ (format n number : ℕ) (text : List ℕ) (after : ℕ) (rest : List �
   second_fails_here : (fault : CertFault) → TakesSets n after rest (Err fault) → Fails (outcome number (body_judges (pre ++ said text)) text) fault
   second_fails_here fault sets =
       subst (λ faults. Fails faults fault) (sym asked)
-        (subst (λ ws. Fails (outcome after (cells_judges ws (cells_place ws) ++ last) rest) fault) whole (sets front place_here known_here))
+      (subst (λ ws. Fails (outcome after (cells_judges ws (cells_place ws) ++ last) rest) fault) whole (sets front place_here known_here))
 
   second_told_here : (cells : Vec ListedCell Global) → TakesSets n after rest (Ok cells) →
       (outcome number (body_judges (pre ++ said text)) text ≡ []) × (format_of (Some pairs) ≡ format) × (pairs.items ≡ (cert_of (pre ++ said text)).pairs) × (map listed cells.items ≡ (cert_of (pre ++ said text)).cells)
   second_told_here cells sets =
-      let t = sets front place_here known_here in
-      (
+      let t = sets front place_here known_here in (
         asked ∙ subst (λ ws. outcome after (cells_judges ws (cells_place ws) ++ last) rest ≡ []) whole t.0,
         sym two,
         (takes pre).4 ∙ ap (section_said read_pair (pre ++ said text)) six ∙ (rw (says ∙ two) refl),

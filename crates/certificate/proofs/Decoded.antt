@@ -1,14 +1,14 @@
 -- The certificate that lines of words say, and what is asked of its lines.
-use Rattle.std.proofs.Common.{◌≡◌, ℕ, ◌+◌, ◌-◌, ◌^◌, ◌≤◌, ◌<◌, refl, sym, ◌∙◌, ap, subst, Bool, true, cond, nat_eq, List, [], ◌∷◌, ◌++◌, length, map, take, drop, get_or, decimal, None, arith, lit<}
+use Rattle.std.proofs.Common.{◌≡◌, ℕ, ◌+◌, ◌-◌, ◌^◌, ◌≤◌, ◌<◌, refl, sym, ◌∙◌, ap, subst, Bool, true, List, [], ◌∷◌, ◌++◌, length, map, take, drop, get_or, decimal, None, arith, lit<}
 use Rattle.std.specs.List.{AllByRecursion, AllPairs}
 use Rattle.std.proofs.lemmas.List.{length-map, length-append}
 use Rattle.std.proofs.Math.Seq.{take-append_seam, drop-append-add, get_or-append_seam}
 use Rattle.std.proofs.Math.Nat.{pow-le-pow_right}
 use mathlib.Core.List.{append_assoc}
 use Rattle.order_model.specs.Pairs.{Pair}
-use Rattle.order_model.specs.Certificates.{Certificate, Cell}
+use Rattle.order_model.specs.Certificates.{Cell}
 use Rattle.certificate.specs.Spelling.{most_nodes, hex4, field, section, pair_words, cell_words, pair_key, IsPair, IsCell}
-use Rattle.certificate.specs.Faults.{number_of, mask_of, number_said, is_pair, is_cell, pair_key_of, cell_key_of, section_judges, pairs_judges}
+use Rattle.certificate.specs.Faults.{number_of, number_said, is_pair, is_cell, pair_key_of, cell_key_of, section_judges}
 use Rattle.certificate.specs.Decoded.{read_pair, read_cell, mask_key, section_said}
 use Rattle.certificate.proofs.WordLines.{decimal_back, hex_back}
 use Rattle.certificate.proofs.Judges.{Pass, both_are, decimal_passes, decimal_is, mask_passes, mask_is, field_passes, field_is, one_number}

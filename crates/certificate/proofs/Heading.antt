@@ -1,10 +1,10 @@
 -- The first lines of a text, taken one after another.
-use Rattle.std.proofs.Common.{◌≡◌, ℕ, ◌+◌, ◌≤◌, refl, sym, ◌∙◌, ap, subst, List, [], ◌∷◌, ◌++◌, length, get_or, codes, Option, None, Result, Ok, Err, arith, append_assoc}
+use Rattle.std.proofs.Common.{◌≡◌, ℕ, ◌≤◌, refl, sym, ◌∙◌, ap, subst, List, [], ◌∷◌, ◌++◌, get_or, None, Result, Ok, Err, append_assoc}
 use Rattle.std.specs.List.{All, AllByRecursion}
 use Rattle.std.specs.Result.{IsErrAnd}
 use Rattle.std.proofs.lemmas.List.Elements.{All-from_recursion}
 use Rattle.certificate.specs.declared.faults.CertFault.{CertFault}
-use Rattle.certificate.specs.Faults.{Judge, said, number_of, inputs_said, field_fault, head_judges}
+use Rattle.certificate.specs.Faults.{Judge, said, inputs_said, field_fault, head_judges}
 use Rattle.certificate.specs.Decoded.{numbers_of}
 use Rattle.certificate.specs.Parsing.{Fails, Asks, outcome}
 use Rattle.certificate.specs.Heads.{TakesHead}

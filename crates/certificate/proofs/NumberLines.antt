@@ -1,14 +1,13 @@
 -- Lines of numbers.
-use Rattle.std.proofs.Common.{◌≡◌, ℕ, ◌+◌, ◌<◌, suc, refl, sym, ◌∙◌, ap, Bool, true, false, cond, ◌&&◌, ◌==◌, inl, inr, ◌⊎◌, List, [], ◌∷◌, ◌++◌, length, map, Option, None, Some, Result, Ok, Err, IfOk, IfErr, arith, append_assoc}
+use Rattle.std.proofs.Common.{◌≡◌, ℕ, ◌+◌, ◌<◌, refl, sym, ◌∙◌, ap, Bool, true, false, ◌==◌, inl, inr, ◌⊎◌, List, [], ◌∷◌, ◌++◌, length, map, None, Some, Result, Ok, Err, IfOk, IfErr, arith, append_assoc}
 use Rattle.std.specs.List.{list_all}
 use Rattle.std.specs.Result.{IsErrAnd}
 use Rattle.std.proofs.lemmas.Bool.Decides.{nat_tests}
-use Rattle.certificate.specs.declared.faults.LineFault.{LineFault}
 use Rattle.certificate.specs.declared.faults.LineFault.TheVariants.{BadLine, BadNumber}
 use Rattle.certificate.specs.declared.faults.CertFault.{CertFault}
 use Rattle.certificate.specs.declared.faults.CertFault.TheVariants as found
-use Rattle.certificate.specs.Faults.{words, same, number_of, is_decimal, first_fault, field_fault}
-use Rattle.certificate.specs.Parsing.{Lacks, Cuts, Fails, Asks, outcome}
+use Rattle.certificate.specs.Faults.{words, same, number_of, is_decimal, field_fault}
+use Rattle.certificate.specs.Parsing.{Lacks, Cuts, Asks}
 use Rattle.certificate.specs.Decoded.{numbers_of}
 use Rattle.certificate.proofs.Judges.{same_self}
 use Rattle.certificate.proofs.Outcomes.{said_first, step, stop}
@@ -49,6 +48,7 @@ pub no_name : (name : List ℕ) (count least most : ℕ) (line : List ℕ) → 0
 no_name name count least most line some lacks = rw (whole_word line lacks) (by (same line name) refl) where
   other : (0 == count) ≡ false
   other = grind (arith, nat_tests)
+
   by : (t : Bool) → same line name ≡ t → field_fault name count least most (line ∷ []) ≡ Some BadLine
   by true e = rw e (rw other refl)
   by false e = rw e refl

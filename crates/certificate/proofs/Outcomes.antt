@@ -1,5 +1,5 @@
 -- How the faults of a text follow from its first line and the lines behind it.
-use Rattle.std.proofs.Common.{◌≡◌, ℕ, ◌+◌, ◌<◌, suc, zero, refl, sym, ◌∙◌, ap, Bool, true, false, cond, ◌==◌, nat_lt, List, [], ◌∷◌, ◌++◌, length, map, take, Option, None, Some, Result, Ok, Err, IfErr, arith}
+use Rattle.std.proofs.Common.{◌≡◌, ℕ, ◌+◌, ◌<◌, suc, refl, ◌∙◌, ap, Bool, true, false, ◌==◌, nat_lt, List, [], ◌∷◌, ◌++◌, length, map, take, None, Some, Result, Ok, Err, IfErr, arith}
 use Rattle.std.specs.List.{AllByRecursion}
 use Rattle.std.specs.Result.{IsErrAnd}
 use Rattle.std.proofs.lemmas.Bool.Decides.{nat_tests}
@@ -9,7 +9,7 @@ use Rattle.certificate.specs.declared.faults.LineFault.{LineFault}
 use Rattle.certificate.specs.declared.faults.LineFault.TheVariants.{MissingLine, TrailingText}
 use Rattle.certificate.specs.declared.faults.CertFault.{CertFault}
 use Rattle.certificate.specs.declared.faults.CertFault.TheVariants as found
-use Rattle.certificate.specs.Faults.{Judge, words, said, whole_lines, with_feeds, line_faults, numbered}
+use Rattle.certificate.specs.Faults.{Judge, words, said, whole_lines, with_feeds, line_faults}
 use Rattle.certificate.specs.Parsing.{Lacks, Cuts, Fails, Asks, trailing_from, outcome}
 use Rattle.certificate.proofs.WordLines.{HasNoFeed, line_first, no_line}
 

@@ -1,20 +1,17 @@
 -- A text that is read to its end.
-use Rattle.std.proofs.Common.{◌≡◌, ℕ, ◌+◌, ◌≤◌, ◌<◌, refl, sym, ◌∙◌, ap, subst, List, [], ◌∷◌, ◌++◌, length, map, get_or, Option, Result, Ok, Err, IfErr, arith, Vec, Global}
+use Rattle.std.proofs.Common.{◌≡◌, ℕ, ◌+◌, ◌≤◌, refl, sym, ◌∙◌, ap, subst, List, ◌++◌, length, Option, Result, Ok, Err, IfErr, arith, Vec, Global}
 use Rattle.std.specs.Result.{IsErrAnd}
 use Rattle.order_model.specs.Pairs.{Pair}
 use Rattle.order_model.specs.Certificates.{Certificate, Cell}
-use Rattle.order_model.specs.Listed.{listed}
 use Rattle.order_model.specs.declared.listed_cells.ListedCell.{ListedCell}
-use Rattle.certificate.specs.declared.faults.LineFault.{LineFault}
-use Rattle.certificate.specs.declared.faults.LineFault.TheVariants.{TrailingText}
 use Rattle.certificate.specs.declared.faults.CertFault.{CertFault}
 use Rattle.certificate.specs.declared.faults.CertFault.TheVariants as found
 use Rattle.certificate.specs.declared.parsing.Head.{Head}
 use Rattle.certificate.specs.Spelling.{HasSpelling, spelling}
-use Rattle.certificate.specs.Faults.{Judge, said, number_said, inputs_said, head_judges, judges, trailing, faults, FirstFault}
+use Rattle.certificate.specs.Faults.{said, number_said, inputs_said, head_judges, judges, trailing, faults}
 use Rattle.certificate.specs.Decoded.{cert_of}
 use Rattle.certificate.specs.Parsing.{Fails, outcome}
-use Rattle.certificate.specs.Heads.{IsHead, TakesHead, TakesBody, Refuses, body_judges, parts_of, pairs_in, most_bytes}
+use Rattle.certificate.specs.Heads.{TakesHead, TakesBody, Refuses, body_judges, parts_of, most_bytes}
 use Rattle.certificate.proofs.Faultless.{Faultless, faultless}
 
 -- a certificate of its parts

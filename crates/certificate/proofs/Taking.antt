@@ -1,15 +1,14 @@
 -- Lines that are taken one after another.
-use Rattle.std.proofs.Common.{◌≡◌, ℕ, ◌+◌, ◌-◌, ◌<◌, ◌≤◌, zero, suc, refl, sym, ◌∙◌, ap, subst, Bool, true, false, cond, ◌==◌, nat_lt, List, [], ◌∷◌, ◌++◌, length, map, take, drop, get_or, Option, None, Some, Result, Ok, Err, arith, append_assoc, append-nil}
+use Rattle.std.proofs.Common.{◌≡◌, ℕ, ◌+◌, ◌-◌, ◌<◌, ◌≤◌, zero, suc, refl, sym, ◌∙◌, ap, subst, Bool, true, false, ◌==◌, List, [], ◌∷◌, ◌++◌, length, map, take, drop, get_or, Option, None, Some, Result, Ok, Err, arith, append_assoc}
 use Rattle.std.specs.List.{range_with_len}
 use Rattle.std.specs.Result.{IsErrAnd}
 use Rattle.std.proofs.lemmas.Bool.Decides.{nat_tests}
 use Rattle.std.proofs.lemmas.List.{length-append, length-map, map-append}
 use Rattle.std.proofs.lemmas.List.FromFn.{length-range_with_len}
 use Rattle.std.proofs.Math.Seq.{get_or-append_seam, drop-append-add, take-append_seam}
-use Rattle.certificate.specs.declared.faults.LineFault.{LineFault}
 use Rattle.certificate.specs.declared.faults.CertFault.{CertFault}
 use Rattle.certificate.specs.declared.faults.CertFault.TheVariants as found
-use Rattle.certificate.specs.Faults.{Judge, said, line_faults, number_of, number_said, word_at, field_fault, entry_fault, first_fault, rises, section_judges}
+use Rattle.certificate.specs.Faults.{Judge, said, line_faults, number_of, number_said, field_fault, entry_fault, rises, section_judges}
 use Rattle.certificate.specs.Decoded.{section_said}
 use Rattle.certificate.specs.Parsing.{Fails, Asks, outcome, TakesSection}
 use Rattle.certificate.specs.Values.{is_above}
@@ -86,7 +85,7 @@ module _ {E : Type 0} (read : List (List ℕ) → E) (key_of : E → ℕ) (name 
       let ws = pre ++ said text₀ in let first = length pre + 1 in
       r.left pre js ∙ ap (λ ks. outcome number (ks ++ js) rest) (next_judges ws first (first + i) (count - i) (omega (arith, more)))
       ∙ same_judge number (entry_fault is_entry (rises key ws first (first + i))) (entry_fault is_entry (λ a b. is_above last (key a b))) (entry_judges is_entry key ws first ((first + i) + 1) ((count - i) - 1) ++ js) rest
-        (entry_same is_entry (rises key ws first (first + i)) (λ a b. is_above last (key a b)) (rises_is ws first (first + i) last (r.before pre)))
+      (entry_same is_entry (rises key ws first (first + i)) (λ a b. is_above last (key a b)) (rises_is ws first (first + i) last (r.before pre)))
 
   pub reached_fails : (number₀ : ℕ) (text₀ : List ℕ) (count i : ℕ) (last : Option ℕ) (items : List E) (number : ℕ) (rest : List ℕ) (after : ℕ) (rest' : List ℕ) (P : List (List ℕ) → E → Type 0) (fault : CertFault) →
       Reached number₀ text₀ count i last items number rest → i < count → Asks {V = E} (entry_fault is_entry (λ a b. is_above last (key a b))) number rest after rest' P (Err fault) →
@@ -113,16 +112,19 @@ module _ {E : Type 0} (read : List (List ℕ) → E) (key_of : E → ℕ) (name 
       } where
         place_is : (pre : List (List (List ℕ))) → length (pre ++ (r.head ∷ r.es)) ≡ (length pre + 1) + i
         place_is pre = omega (arith, length-append pre (r.head ∷ r.es), r.many)
+
         here : (pre : List (List (List ℕ))) → get_or (pre ++ said text₀) ((length pre + 1) + i) [] ≡ ws
         here pre =
             ap (λ xs. get_or (pre ++ xs) ((length pre + 1) + i) []) (r.parts ∙ ap (λ xs. (r.head ∷ r.es) ++ xs) parts)
             ∙ ap (λ xs. get_or xs ((length pre + 1) + i) []) (sym (append_assoc pre (r.head ∷ r.es) (ws ∷ said rest')))
             ∙ ap (λ n. get_or ((pre ++ (r.head ∷ r.es)) ++ ws ∷ said rest') n []) (sym (place_is pre))
             ∙ get_or-append_seam (pre ++ (r.head ∷ r.es)) ws (said rest') []
+
         later : (pre : List (List (List ℕ))) (a b : List ℕ) → ws ≡ a ∷ b ∷ [] → k ≡ key a b → Before is_entry key (pre ++ said text₀) (length pre + 1) ((length pre + 1) + (i + 1)) (Some k)
         later pre a b is same =
             let place : ((length pre + 1) + (i + 1)) - 1 ≡ (length pre + 1) + i = omega arith in
             (omega arith, rw place (rw (here pre ∙ is) (sym same)))
+
         next_left : (pre : List (List (List ℕ))) (js : List Judge) →
             outcome number₀ (section_judges name most is_entry key (pre ++ said text₀) (length pre) ++ js) text₀
             ≡ outcome after (entry_judges is_entry key (pre ++ said text₀) (length pre + 1) ((length pre + 1) + (i + 1)) (count - (i + 1)) ++ js) rest'
@@ -140,16 +142,22 @@ module _ {E : Type 0} (read : List (List ℕ) → E) (key_of : E → ℕ) (name 
       ((λ js. whole js), r.head ∷ r.es, r.parts, long, said_here) where
         ws : List (List (List ℕ))
         ws = pre ++ said text₀
+
         none : count - i ≡ 0
         none = omega (arith, low)
+
         whole : (js : List Judge) → outcome number₀ (section_judges name most is_entry key ws (length pre) ++ js) text₀ ≡ outcome number js rest
         whole js = r.left pre js ∙ ap (λ n. outcome number (entry_judges is_entry key (pre ++ said text₀) (length pre + 1) ((length pre + 1) + i) n ++ js) rest) none
+
         count_here : number_said ws (length pre) ≡ length r.es
         count_here = number_here pre text₀ r.head (r.es ++ said rest) r.parts ∙ r.count_is ∙ (omega (arith, low, high, r.many))
+
         long : length (r.head ∷ r.es) ≡ length (section_judges name most is_entry key ws (length pre))
         long = ap suc (sym (length-map (range_with_len (length pre + 1) (number_said ws (length pre))) (λ k. entry_fault is_entry (rises key ws (length pre + 1) k)) ∙ length-range_with_len (length pre + 1) (number_said ws (length pre)) ∙ count_here))
+
         behind : drop (length pre + 1) ws ≡ r.es ++ said rest
         behind = drop-append-add pre (said text₀) 1 ∙ ap (drop 1) r.parts
+
         said_here : items_of v ≡ section_said read ws (length pre)
         said_here = r.items_are ∙ ap (map read) (sym (ap (λ n. take n (drop (length pre + 1) ws)) count_here ∙ ap (take (length r.es)) behind ∙ take-append_seam r.es (said rest)))
 

@@ -175,7 +175,13 @@ impl<'a> Lines<'a> {
     }
 
     /// Takes a line of a fixed word and as many numbers as are wanted.
-    pub(crate) fn numbers(&mut self, alloc: Global, name: &[u8], count: usize, most: u32) -> Result<Vec<u32>, CertFault>
+    pub(crate) fn numbers(
+        &mut self,
+        alloc: Global,
+        name: &[u8],
+        count: usize,
+        most: u32,
+    ) -> Result<Vec<u32>, CertFault>
         requires small { self.old.number + length self.old.rest.now < 2 ^ 63 }
         requires some { 1 ≤ count }
         requires bounds { most ≤ most_nodes }

@@ -1,7 +1,7 @@
 //! Certificates and their texts.
 
-use crate::lines::{cell_line, end_line, number_line, pair_line, title_line};
 use super::*;
+use crate::lines::{cell_line, end_line, number_line, pair_line, title_line};
 use order_model::{ListedCell, Mask, VarIx};
 use std::alloc::{AllocError, Global};
 use std::test::Fail;
@@ -201,4 +201,222 @@ fn entries_are_told(rt: HostRuntime) {
     ] {
         assert_eq!(rt; cell_line(line, 12, last), told);
     }
+}
+
+/// The certificate that a text says.
+fn parsed(alloc: Global, text: &[u8]) -> Result<Certificate, Fail> {
+    match Certificate::parse(alloc, text) {
+        Ok(cert) => Ok(cert),
+        Err(_) => Err("it is a spelling".into()),
+    }
+}
+
+#[test]
+fn spellings_are_read(rt: HostRuntime) -> Result<(), Fail> {
+    let alloc = rt.alloc();
+    for (parts, text) in SPELLED {
+        let cert = parsed(alloc, text.as_bytes())?;
+        assert_eq!(rt; cert.text(alloc)?.as_str(), text);
+        let ((inputs, outputs), order, levels, total, pairs, cells) = parts;
+        assert_eq!(rt;
+            (cert.inputs(), cert.outputs(), cert.total()),
+            (inputs, outputs, total)
+        );
+        assert_eq!(rt; cert.order(), order);
+        assert_eq!(rt; cert.levels(), levels);
+        assert_eq!(rt; cert.pairs(), pairs.unwrap_or(&[]));
+        assert_eq!(rt; cert.cells(), listed(alloc, cells)?.as_slice());
+    }
+    Ok(())
+}
+
+/// Texts that are no spellings, with their first faulty lines and faults.
+static FAULTY: [(&[u8], usize, LineFault); 32] = [
+    (
+        b"bddorder-certificate 1\ninputs 3\noutputs 1\norder 2 0 1\nlevels 1 1 1\ntotal 3\ncells 5\n0000 0\n0001 1\n0002 1\n0003 2\n0004 2\n",
+        13,
+        LineFault::MissingLine,
+    ),
+    (
+        b"bddorder-certificate 1\ninputs 3\noutputs 1\norder 2 0 1\nlevels 1 1 1\ntotal 3\ncells 5\n0000 0\n0001 01\n0002 1\n0003 2\n0004 2\nend\n",
+        9,
+        LineFault::BadNumber,
+    ),
+    (
+        b"bddorder-certificate 1\ninputs 3\noutputs 1\norder 2 0 1\nlevels 1 1 1\ntotal 3\ncells 5\n0000 0\n0002 1\n0001 1\n0003 2\n0004 2\nend\n",
+        10,
+        LineFault::NotRising,
+    ),
+    (
+        b"bddorder-certificate 1\ninputs 3\noutputs 1\norder 2 0 1\nlevels 1 1 1\ntotal 3\ncells 4\n0000 0\n0001 1\n0002 1\n0003 2\n0004 2\nend\n",
+        12,
+        LineFault::BadLine,
+    ),
+    (
+        b"bddorder-certificate 1\ninputs 3\noutputs 1\norder 2 0 1\nlevels 1 1 1\ntotal 3\ncells 8\n0000 0\n0001 1\n0002 1\n0003 2\n0004 2\nend\n",
+        7,
+        LineFault::BadNumber,
+    ),
+    (
+        b"bddorder-certificate 1\ninputs 3\noutputs 1\norder 2 0 1\nlevels 1 1 1\ntotal 3\ncells 6\n0000 0\n0001 1\n0002 1\n0003 2\n0004 2\nend\n",
+        13,
+        LineFault::BadLine,
+    ),
+    (
+        b"bddorder-certificate 1\ninputs 3\noutputs 1\norder 2 0 1\nlevels 1 1 1\ntotal 3\ncells 5\n0000 0\n0001 1\n0002 1\n0003 2\n0007 1\nend\n",
+        12,
+        LineFault::BadNumber,
+    ),
+    (
+        b"bddorder-certificate 1\ninputs 3\noutputs 1\norder 2 0\nlevels 1 1 1\ntotal 3\ncells 5\n0000 0\n0001 1\n0002 1\n0003 2\n0004 2\nend\n",
+        4,
+        LineFault::BadLine,
+    ),
+    (
+        b"bddorder-certificate 1\ninputs 3\noutputs 1\norder 2 0 16\nlevels 1 1 1\ntotal 3\ncells 5\n0000 0\n0001 1\n0002 1\n0003 2\n0004 2\nend\n",
+        4,
+        LineFault::BadNumber,
+    ),
+    (
+        b"bddorder-certificate 1\ninputs 3\noutputs 1\norder 2  0 1\nlevels 1 1 1\ntotal 3\ncells 5\n0000 0\n0001 1\n0002 1\n0003 2\n0004 2\nend\n",
+        4,
+        LineFault::BadLine,
+    ),
+    (
+        b"bddorder-certificate 1\ninputs 3\noutputs 1\norder 2 0 1\nlevels 1 1 1\ntotal 3\ncells 5\n0000 0\n0001 1\n0002 1\n0003 2\n0004 2\nend\nx",
+        14,
+        LineFault::TrailingText,
+    ),
+    (
+        b"bddorder-certificate 1\ninputs 3\noutputs 1\norder 2 0 1\nlevels 1 1 1\ntotal 3\ncells 5\n0000 0\n0001 1\n0002 1\n0003 2\n0004 2\nend\n\n",
+        14,
+        LineFault::TrailingText,
+    ),
+    (
+        b"bddorder-certificate 1\ninputs  3\noutputs 1\norder 2 0 1\nlevels 1 1 1\ntotal 3\ncells 5\n0000 0\n0001 1\n0002 1\n0003 2\n0004 2\nend\n",
+        2,
+        LineFault::BadLine,
+    ),
+    (
+        b"bddorder-certificate 1\ninputs 17\noutputs 1\norder 2 0 1\nlevels 1 1 1\ntotal 3\ncells 5\n0000 0\n0001 1\n0002 1\n0003 2\n0004 2\nend\n",
+        2,
+        LineFault::BadNumber,
+    ),
+    (
+        b"bddorder-certificate 1\ninputs 3\noutputs 0\norder 2 0 1\nlevels 1 1 1\ntotal 3\ncells 5\n0000 0\n0001 1\n0002 1\n0003 2\n0004 2\nend\n",
+        3,
+        LineFault::BadNumber,
+    ),
+    (
+        b"bddorder-certificate 1\ninputs 3\noutputs 1\norder 2 0 1\nlevels 1 1 1\ntotal 3\ncells 5\n0000 0\n0001 1\n0002 1\n0003 2\n000A 2\nend\n",
+        12,
+        LineFault::BadNumber,
+    ),
+    (
+        b"bddorder-certificate 01\ninputs 3\noutputs 1\norder 2 0 1\nlevels 1 1 1\ntotal 3\ncells 5\n0000 0\n0001 1\n0002 1\n0003 2\n0004 2\nend\n",
+        1,
+        LineFault::BadLine,
+    ),
+    (
+        b"bddorder-certificate 2\ninputs 3\noutputs 1\norder 2 0 1\nlevels 1 1 1\ntotal 3\ncells 5\n0000 0\n0001 1\n0002 1\n0003 2\n0004 2\nend\n",
+        7,
+        LineFault::BadLine,
+    ),
+    (
+        b"bddorder-certificate 1\ninputs 3\noutputs 1\norder 0 2 1\nlevels 1 2 1\ntotal 4\npairs 1\n0 2\ncells 2\n0000 0\n0002 1\nend\n",
+        7,
+        LineFault::BadLine,
+    ),
+    (
+        b"bddorder-certificate 1\ninputs 3\noutputs 1\norder 2 0 1\nlevels 1 1 1000000\ntotal 3\ncells 5\n0000 0\n0001 1\n0002 1\n0003 2\n0004 2\nend\n",
+        5,
+        LineFault::BadNumber,
+    ),
+    (
+        b"bddorder-certificate 1\ninputs 3\noutputs 1\norder 2 0 1\nlevels 1 1 1\ntotal 1000000\ncells 5\n0000 0\n0001 1\n0002 1\n0003 2\n0004 2\nend\n",
+        6,
+        LineFault::BadNumber,
+    ),
+    (
+        b"bddorder-certificate 1\ninputs 3\noutputs 1\norder 2 0 1\nlevels 1 1 1\ntotal 3\ncells 5\n0000 0\n0001 1\n0002 1\n0003 2\n0004 2\nend",
+        13,
+        LineFault::MissingLine,
+    ),
+    (
+        b"bddorder-certificate 1\ninputs 3\noutputs 1\norder 2 0 1\nlevels 1 1 1\ntotal 3\ncells 5\n0000 0\n0001 1\n0002 1\n0003 2\n0004 2\nEND\n",
+        13,
+        LineFault::BadLine,
+    ),
+    (
+        b"bddorder-certificate 2\ninputs 3\noutputs 1\norder 0 2 1\nlevels 1 2 1\ntotal 4\npairs 1\n0 3\ncells 2\n0000 0\n0002 1\nend\n",
+        8,
+        LineFault::BadNumber,
+    ),
+    (
+        b"bddorder-certificate 2\ninputs 3\noutputs 1\norder 0 2 1\nlevels 1 2 1\ntotal 4\npairs 2\n0 2\n0 1\ncells 2\n0000 0\n0002 1\nend\n",
+        9,
+        LineFault::NotRising,
+    ),
+    (
+        b"bddorder-certificate 2\ninputs 3\noutputs 1\norder 0 2 1\nlevels 1 2 1\ntotal 4\npairs 2\n0 2\n0 2\ncells 2\n0000 0\n0002 1\nend\n",
+        9,
+        LineFault::NotRising,
+    ),
+    (
+        b"bddorder-certificate 2\ninputs 3\noutputs 1\norder 0 2 1\nlevels 1 2 1\ntotal 4\npairs 241\n0 2\ncells 2\n0000 0\n0002 1\nend\n",
+        7,
+        LineFault::BadNumber,
+    ),
+    (
+        b"bddorder-certificate 2\ninputs 3\noutputs 1\norder 0 2 1\nlevels 1 2 1\ntotal 4\npairs 2\n0 2\ncells 2\n0000 0\n0002 1\nend\n",
+        9,
+        LineFault::BadNumber,
+    ),
+    (
+        b"bddorder-certificate 2\ninputs 3\noutputs 1\norder 0 2 1\nlevels 1 2 1\ntotal 4\npairs 1\n0 2 1\ncells 2\n0000 0\n0002 1\nend\n",
+        8,
+        LineFault::BadLine,
+    ),
+    (
+        b"bddorder-certificate 2\ninputs 3\noutputs 1\norder 0 2 1\nlevels 1 2 1\ntotal 4\npairs 1\n0 2\ncells 2\n0000 0\r\n0002 1\nend\n",
+        10,
+        LineFault::BadNumber,
+    ),
+    (b"", 1, LineFault::MissingLine),
+    (b"\n", 1, LineFault::BadLine),
+];
+
+#[test]
+fn first_faults_are_told(rt: HostRuntime) {
+    for (text, line, fault) in FAULTY {
+        match Certificate::parse(rt.alloc(), text) {
+            Ok(_) => panic!(rt; "line {line}"),
+            Err(found) => assert_eq!(rt; found, CertFault::Line(line, fault)),
+        }
+    }
+}
+
+/// Each front of a text lacks a line, and a text of a byte too many is too long.
+#[test]
+fn fronts_lack_a_line(rt: HostRuntime) -> Result<(), Fail> {
+    let alloc = rt.alloc();
+    let mut line = 1;
+    for (len, byte) in ABOVE.as_bytes().iter().enumerate() {
+        match Certificate::parse(alloc, &ABOVE.as_bytes()[..len]) {
+            Ok(_) => panic!(rt; "{len} bytes"),
+            Err(found) => assert_eq!(rt; found, CertFault::Line(line, LineFault::MissingLine)),
+        }
+        if *byte == b'\n' {
+            line = usize::saturating_add(line, 1);
+        }
+    }
+    let long = Vec::from_elem(alloc, b'x', 1_048_577)?;
+    assert!(rt; matches!(Certificate::parse(alloc, &long), Err(CertFault::TooLong)));
+    assert!(rt;
+        matches!(
+            Certificate::parse(alloc, &long[1..]),
+            Err(CertFault::Line(1, LineFault::MissingLine))
+        )
+    );
+    Ok(())
 }

@@ -1,4 +1,4 @@
-use Rattle.std.proofs.Common.{◌≡◌, ◌==◌, false, true, length, sym, ◌∙◌, ap, ◌∷◌, arith, rules}
+use Rattle.std.proofs.Common.{◌≡◌, ◌==◌, false, true, length, ◌∙◌, ap, ◌∷◌, arith, rules}
 use Rattle.std.proofs.lemmas.Bool.Decides.{nat_tests}
 use Rattle.certificate.specs.Faults.{same, words}
 use Rattle.certificate.proofs.Judges.{same_is}

@@ -1,5 +1,5 @@
-use Rattle.std.proofs.Common.{◌≡◌, ◌≤◌, length, sym, ◌∙◌, ap, subst, Ok, Err, arith}
-use Rattle.certificate.specs.Heads.{TakesHead, most_bytes}
+use Rattle.std.proofs.Common.{sym, ◌∙◌, ap, subst, Ok, Err, arith}
+use Rattle.certificate.specs.Heads.{TakesHead}
 use Rattle.certificate.specs.Spelling.{spelling}
 use Rattle.certificate.proofs.Parsed.{head_refused, body_refused, parts_spelled, text_spelled}
 use Rattle.certificate.proofs.certificate.Certificate.parse.Goals as goal

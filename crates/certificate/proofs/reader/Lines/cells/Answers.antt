@@ -1,10 +1,9 @@
-use Rattle.std.proofs.Common.{◌≡◌, ◌+◌, ◌-◌, ◌^◌, ◌<◌, ◌≤◌, ℕ, refl, sym, ◌∙◌, ap, subst, [], ◌∷◌, ◌++◌, map, length, codes, get_or, Option, Some, Ok, Err, arith}
-use Rattle.std.proofs.lemmas.List.{length-append, length-map, map-append}
+use Rattle.std.proofs.Common.{◌≡◌, ◌-◌, ◌^◌, ◌<◌, ℕ, refl, sym, subst, [], ◌∷◌, ◌++◌, map, length, codes, get_or, Some, Ok, Err, arith}
+use Rattle.std.proofs.lemmas.List.{length-append, map-append}
 use Rattle.order_model.specs.Listed.{listed}
-use Rattle.certificate.specs.Spelling.{most_pairs, pair_key}
-use Rattle.certificate.specs.Faults.{number_of, field_fault, is_pair, is_cell, pair_key_of, cell_key_of}
+use Rattle.certificate.specs.Faults.{number_of, field_fault, is_cell, cell_key_of}
 use Rattle.certificate.specs.Parsing.{Asks}
-use Rattle.certificate.specs.Decoded.{read_pair, read_cell, mask_key}
+use Rattle.certificate.specs.Decoded.{read_cell, mask_key}
 use Rattle.certificate.proofs.Taking.{Reached, reached_first, reached_more, reached_fails, reached_all, section_fails, memory_fails}
 use Rattle.certificate.proofs.reader.Lines.cells.Goals as goal
 
@@ -27,8 +26,8 @@ loop-last-init c =
 pub returns-in_err-cell-clause-section : goal.returns-in_err-cell-clause-section
 returns-in_err-cell-clause-section c =
     section_fails (codes "cells") (2 ^ c.args.n - 1) (is_cell c.args.n) cell_key_of read_cell (λ v. map listed v.items) _ _ _ _ c.from_residual-in_err-cell.result _ c.from_residual-in_err-cell.ensures.1
-      (reached_fails read_cell mask_key (codes "cells") (2 ^ c.args.n - 1) (is_cell c.args.n) cell_key_of (λ a b. refl) c.args.self.now.number c.args.self.now.rest.now c.in_ok-count.count (length c.loop-last.cells.items) c.loop-last.last (map listed c.loop-last.cells.items) c.loop-last.self.number c.loop-last.self.rest.now c.cell.new.self.number c.cell.new.self.rest.now (λ ws v. v ≡ read_cell ws) _
-        c.loop-last.invariant.reached (omega (arith, c.len.ensures, c.loop-last-test.true)) c.in_err-cell.ensures.line)
+    (reached_fails read_cell mask_key (codes "cells") (2 ^ c.args.n - 1) (is_cell c.args.n) cell_key_of (λ a b. refl) c.args.self.now.number c.args.self.now.rest.now c.in_ok-count.count (length c.loop-last.cells.items) c.loop-last.last (map listed c.loop-last.cells.items) c.loop-last.self.number c.loop-last.self.rest.now c.cell.new.self.number c.cell.new.self.rest.now (λ ws v. v ≡ read_cell ws) _
+    c.loop-last.invariant.reached (omega (arith, c.len.ensures, c.loop-last-test.true)) c.in_err-cell.ensures.line)
 
 pub returns-in_err-add-clause-section : goal.returns-in_err-add-clause-section
 returns-in_err-add-clause-section c = memory_fails (codes "cells") (2 ^ c.args.n - 1) (is_cell c.args.n) cell_key_of read_cell (λ v. map listed v.items) _ _ _ _ c.from_residual-in_err-add.result _ c.from_residual-in_err-add.ensures.1 c.in_err-add.ensures.memory
@@ -39,7 +38,7 @@ loop-last-preserved c =
     let more : length c.loop-last.cells.items < c.in_ok-count.count = omega (arith, c.len.ensures, c.loop-last-test.true) in
     let count = length-append c.loop-last.cells.items (c.in_ok-cell.cell ∷ []) in
     let next = reached_more read_cell mask_key (codes "cells") (2 ^ c.args.n - 1) (is_cell c.args.n) cell_key_of (λ a b. refl) c.args.self.now.number c.args.self.now.rest.now c.in_ok-count.count (length c.loop-last.cells.items) c.loop-last.last (map listed c.loop-last.cells.items) c.loop-last.self.number c.loop-last.self.rest.now
-      c.cell.new.self.number c.cell.new.self.rest.now (listed c.in_ok-cell.cell) c.from.result known.reached more c.in_ok-cell.ensures.line c.from.ensures in
+    c.cell.new.self.number c.cell.new.self.rest.now (listed c.in_ok-cell.cell) c.from.result known.reached more c.in_ok-cell.ensures.line c.from.ensures in
     let step = subst (λ i. Reached read_cell mask_key (codes "cells") (2 ^ c.args.n - 1) (is_cell c.args.n) cell_key_of (λ a b. refl) c.args.self.now.number c.args.self.now.rest.now c.in_ok-count.count i (Some c.from.result) (map listed c.loop-last.cells.items ++ listed c.in_ok-cell.cell ∷ []) c.cell.new.self.number c.cell.new.self.rest.now) (sym count) next in
     record {
       reached = rw c.in_ok-add.ensures.added (rw (map-append listed c.loop-last.cells.items (c.in_ok-cell.cell ∷ [])) step);
@@ -52,4 +51,4 @@ pub returns-clause-section : goal.returns-clause-section
 returns-clause-section c =
     let few = c.loop-last.invariant.few in
     reached_all read_cell mask_key (codes "cells") (2 ^ c.args.n - 1) (is_cell c.args.n) cell_key_of (λ a b. refl) (λ v. map listed v.items) c.loop-last.cells c.args.self.now.number c.args.self.now.rest.now c.in_ok-count.count (length c.loop-last.cells.items) c.loop-last.last c.loop-last.self.number c.loop-last.self.rest.now
-      c.loop-last.invariant.reached (omega (arith, c.len.ensures, c.loop-last-test.false)) few
+    c.loop-last.invariant.reached (omega (arith, c.len.ensures, c.loop-last-test.false)) few

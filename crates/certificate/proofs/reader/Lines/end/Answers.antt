@@ -1,5 +1,5 @@
-use Rattle.std.proofs.Common.{◌≡◌, ◌+◌, sym, ◌∙◌, ap, [], ◌∷◌, length, codes, arith, rules}
-use Rattle.certificate.specs.Faults.{words, fixed_fault}
+use Rattle.std.proofs.Common.{◌+◌, sym, ◌∙◌, ap, [], ◌∷◌, codes, rules}
+use Rattle.certificate.specs.Faults.{fixed_fault}
 use Rattle.certificate.specs.Parsing.{outcome}
 use Rattle.certificate.proofs.Outcomes.{step, stop, only_missing, ended, trailing_text, no_bytes}
 use Rattle.certificate.proofs.reader.Lines.end.Goals as goal

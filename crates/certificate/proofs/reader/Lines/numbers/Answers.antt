@@ -13,4 +13,4 @@ returns-in_default-clause-line c js =
 pub returns-clause-line : goal.returns-clause-line
 returns-clause-line c =
     asked_numbers (λ v. v.items) c.args.name.now c.args.count c.args.most c.args.self.now.number c.next.new.self.number c.args.self.now.rest.now c.in_ok-line.line.now c.next.new.self.rest.now c.in-Some.digits.now c.numbers_in.result
-      c.in_ok-line.ensures.line c.in_ok-line.ensures.number c.in-Some.ensures.some.0 c.in-Some.ensures.some.1 c.numbers_in.ensures.numbers c.numbers_in.ensures.passes c.numbers_in.ensures.refused
+    c.in_ok-line.ensures.line c.in_ok-line.ensures.number c.in-Some.ensures.some.0 c.in-Some.ensures.some.1 c.numbers_in.ensures.numbers c.numbers_in.ensures.passes c.numbers_in.ensures.refused

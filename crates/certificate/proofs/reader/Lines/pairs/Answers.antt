@@ -1,9 +1,8 @@
-use Rattle.std.proofs.Common.{◌≡◌, ◌+◌, ◌-◌, ◌^◌, ◌<◌, ◌≤◌, ℕ, refl, sym, ◌∙◌, ap, subst, [], ◌∷◌, ◌++◌, map, length, codes, Option, Some, arith}
-use Rattle.std.proofs.lemmas.List.{length-append, length-map, map-append}
-use Rattle.order_model.specs.Listed.{listed}
+use Rattle.std.proofs.Common.{◌≡◌, ◌<◌, refl, sym, subst, [], ◌∷◌, ◌++◌, length, codes, Some, arith}
+use Rattle.std.proofs.lemmas.List.{length-append}
 use Rattle.certificate.specs.Spelling.{most_pairs, pair_key}
-use Rattle.certificate.specs.Faults.{is_pair, is_cell, pair_key_of, cell_key_of}
-use Rattle.certificate.specs.Decoded.{read_pair, read_cell, mask_key}
+use Rattle.certificate.specs.Faults.{is_pair, pair_key_of}
+use Rattle.certificate.specs.Decoded.{read_pair}
 use Rattle.certificate.proofs.Taking.{Reached, reached_first, reached_more, reached_fails, reached_all, section_fails, memory_fails}
 use Rattle.certificate.proofs.reader.Lines.pairs.Goals as goal
 
@@ -25,8 +24,8 @@ loop-last-init c =
 pub returns-in_err-pair-clause-section : goal.returns-in_err-pair-clause-section
 returns-in_err-pair-clause-section c =
     section_fails (codes "pairs") most_pairs (is_pair c.args.n) pair_key_of read_pair (λ v. v.items) _ _ _ _ c.from_residual-in_err-pair.result _ c.from_residual-in_err-pair.ensures.1
-      (reached_fails read_pair pair_key (codes "pairs") most_pairs (is_pair c.args.n) pair_key_of (λ a b. refl) c.args.self.now.number c.args.self.now.rest.now c.in_ok-count.count (length c.loop-last.pairs.items) c.loop-last.last c.loop-last.pairs.items c.loop-last.self.number c.loop-last.self.rest.now c.pair.new.self.number c.pair.new.self.rest.now (λ ws v. v ≡ read_pair ws) _
-        c.loop-last.invariant.reached (omega (arith, c.len.ensures, c.loop-last-test.true)) c.in_err-pair.ensures.line)
+    (reached_fails read_pair pair_key (codes "pairs") most_pairs (is_pair c.args.n) pair_key_of (λ a b. refl) c.args.self.now.number c.args.self.now.rest.now c.in_ok-count.count (length c.loop-last.pairs.items) c.loop-last.last c.loop-last.pairs.items c.loop-last.self.number c.loop-last.self.rest.now c.pair.new.self.number c.pair.new.self.rest.now (λ ws v. v ≡ read_pair ws) _
+    c.loop-last.invariant.reached (omega (arith, c.len.ensures, c.loop-last-test.true)) c.in_err-pair.ensures.line)
 
 pub returns-in_err-add-clause-section : goal.returns-in_err-add-clause-section
 returns-in_err-add-clause-section c = memory_fails (codes "pairs") most_pairs (is_pair c.args.n) pair_key_of read_pair (λ v. v.items) _ _ _ _ c.from_residual-in_err-add.result _ c.from_residual-in_err-add.ensures.1 c.in_err-add.ensures.memory
@@ -37,7 +36,7 @@ loop-last-preserved c =
     let more : length c.loop-last.pairs.items < c.in_ok-count.count = omega (arith, c.len.ensures, c.loop-last-test.true) in
     let count = length-append c.loop-last.pairs.items (c.in_ok-pair.pair ∷ []) in
     let next = reached_more read_pair pair_key (codes "pairs") most_pairs (is_pair c.args.n) pair_key_of (λ a b. refl) c.args.self.now.number c.args.self.now.rest.now c.in_ok-count.count (length c.loop-last.pairs.items) c.loop-last.last c.loop-last.pairs.items c.loop-last.self.number c.loop-last.self.rest.now
-      c.pair.new.self.number c.pair.new.self.rest.now c.in_ok-pair.pair c.key_of_pair.result known.reached more c.in_ok-pair.ensures.line c.key_of_pair.ensures in
+    c.pair.new.self.number c.pair.new.self.rest.now c.in_ok-pair.pair c.key_of_pair.result known.reached more c.in_ok-pair.ensures.line c.key_of_pair.ensures in
     let step = subst (λ i. Reached read_pair pair_key (codes "pairs") most_pairs (is_pair c.args.n) pair_key_of (λ a b. refl) c.args.self.now.number c.args.self.now.rest.now c.in_ok-count.count i (Some c.key_of_pair.result) (c.loop-last.pairs.items ++ c.in_ok-pair.pair ∷ []) c.pair.new.self.number c.pair.new.self.rest.now) (sym count) next in
     record {
       reached = rw c.in_ok-add.ensures.added step;
@@ -50,4 +49,4 @@ pub returns-clause-section : goal.returns-clause-section
 returns-clause-section c =
     let few = c.loop-last.invariant.few in
     reached_all read_pair pair_key (codes "pairs") most_pairs (is_pair c.args.n) pair_key_of (λ a b. refl) (λ v. v.items) c.loop-last.pairs c.args.self.now.number c.args.self.now.rest.now c.in_ok-count.count (length c.loop-last.pairs.items) c.loop-last.last c.loop-last.self.number c.loop-last.self.rest.now
-      c.loop-last.invariant.reached (omega (arith, c.len.ensures, c.loop-last-test.false)) few
+    c.loop-last.invariant.reached (omega (arith, c.len.ensures, c.loop-last-test.false)) few

@@ -1,8 +1,7 @@
-use Rattle.std.proofs.Common.{◌≡◌, ◌≤◌, ◌+◌, ◌-◌, ◌^◌, ◌<◌, refl, map, length, codes}
-use Rattle.order_model.specs.Listed.{listed}
+use Rattle.std.proofs.Common.{◌≤◌, ◌+◌, ◌-◌, ◌^◌, ◌<◌, refl, length, codes}
 use Rattle.certificate.specs.Spelling.{most_pairs, pair_key}
-use Rattle.certificate.specs.Faults.{is_pair, is_cell, pair_key_of, cell_key_of}
-use Rattle.certificate.specs.Decoded.{read_pair, read_cell, mask_key}
+use Rattle.certificate.specs.Faults.{is_pair, pair_key_of}
+use Rattle.certificate.specs.Decoded.{read_pair}
 use Rattle.certificate.proofs.Taking.{Reached}
 use Rattle.certificate.proofs.reader.Lines.pairs.Given as goal
 
