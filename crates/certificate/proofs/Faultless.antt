@@ -1,10 +1,10 @@
 -- A text without a fault is the spelling of the certificate that it says.
-use Rattle.std.proofs.Common.{◌≡◌, ℕ, ◌+◌, ◌-◌, ◌^◌, ◌≤◌, ◌<◌, zero, suc, refl, sym, ◌∙◌, ap, subst, Bool, true, false, cond, ◌==◌, nat_lt, inl, inr, ◌⊎◌, List, [], ◌∷◌, ◌++◌, length, map, take, drop, get_or, codes, Option, None, Some, arith, lit<}
+use Rattle.std.proofs.Common.{◌≡◌, ℕ, ◌+◌, ◌-◌, ◌^◌, ◌≤◌, ◌<◌, refl, sym, ◌∙◌, ap, subst, Bool, true, false, cond, ◌==◌, nat_lt, inl, inr, ◌⊎◌, List, [], ◌∷◌, ◌++◌, length, map, take, drop, get_or, codes, Option, None, Some, arith, lit<}
 use Rattle.std.specs.List.{AllByRecursion, AllPairs, flat_map}
 use Rattle.std.specs.Fmt.{digits}
 use Rattle.std.specs.Cmp.Lexicographic.{pointwise}
 use Rattle.std.proofs.lemmas.Bool.Decides.{nat_tests}
-use Rattle.std.proofs.lemmas.List.{length-map, length-append, append-nil, take-append-drop}
+use Rattle.std.proofs.lemmas.List.{length-map, length-take, length-append, append-nil, take-append-drop}
 use Rattle.std.proofs.lemmas.List.Elements.{All-from_recursion}
 use Rattle.std.proofs.lemmas.List.Splits.{join_with_byte-slice_split}
 use mathlib.Core.List.{append_assoc}
@@ -60,11 +60,7 @@ no_more : (line : List ℕ) (lines : List (List ℕ)) → 0 < length (with_feeds
 no_more line lines = omega (arith, length-append (line ++ 10 ∷ []) (with_feeds lines), length-append line (10 ∷ []))
 
 enough_lines : (count : ℕ) (text : List ℕ) → take count (whole_lines text) ≡ whole_lines text → length (said text) ≤ count
-enough_lines count text all = omega (arith, length-map (whole_lines text) words, ap length all, length-take-le count (whole_lines text)) where
-  length-take-le : (k : ℕ) (xs : List (List ℕ)) → length (take k xs) ≤ k
-  length-take-le zero xs = omega arith
-  length-take-le (suc k) [] = omega arith
-  length-take-le (suc k) (x ∷ xs) = let more = length-take-le k xs in omega (arith, more)
+enough_lines count text all = omega (arith, length-map (whole_lines text) words, ap length all, length-take count (whole_lines text))
 
 -- the words of lines, joined again
 joined_back : (lines : List (List ℕ)) → flat_map text_line (map words lines) ≡ with_feeds lines

@@ -2,7 +2,6 @@
 use Rattle.std.proofs.Common.{◌≡◌, ℕ, ◌+◌, ◌≤◌, refl, sym, ◌∙◌, ap, subst, List, ◌++◌, length, Option, Result, Ok, Err, IfErr, arith, Vec, Global}
 use Rattle.std.specs.Result.{IsErrAnd}
 use Rattle.order_model.specs.Pairs.{Pair}
-use Rattle.order_model.specs.Certificates.{Certificate, Cell}
 use Rattle.order_model.specs.declared.listed_cells.ListedCell.{ListedCell}
 use Rattle.certificate.specs.declared.faults.CertFault.{CertFault}
 use Rattle.certificate.specs.declared.faults.CertFault.TheVariants as found
@@ -12,12 +11,8 @@ use Rattle.certificate.specs.Faults.{said, number_said, inputs_said, head_judges
 use Rattle.certificate.specs.Decoded.{cert_of}
 use Rattle.certificate.specs.Parsing.{Fails, outcome}
 use Rattle.certificate.specs.Heads.{TakesHead, TakesBody, Refuses, body_judges, parts_of, most_bytes}
+use Rattle.certificate.proofs.Spelled.{by_parts}
 use Rattle.certificate.proofs.Faultless.{Faultless, faultless}
-
--- a certificate of its parts
-abbrev record_of : ℕ → ℕ → ℕ → List ℕ → List ℕ → ℕ → List Pair → List Cell → Certificate
-record_of format inputs outputs order levels total pairs cells =
-    record { format = format; inputs = inputs; outputs = outputs; order = order; levels = levels; total = total; pairs = pairs; cells = cells }
 
 judges_are : (ws : List (List (List ℕ))) → head_judges (inputs_said ws) ++ body_judges ws ≡ judges ws
 unfolding judges
@@ -54,10 +49,6 @@ module _ (text : List ℕ) (after : ℕ) (rest : List ℕ) (head : Head) (takes 
   module _ (pairs : Option (Vec Pair Global)) (cells : Vec ListedCell Global) (body : TakesBody head.format head.inputs after rest (Ok (pairs, cells))) where
     told : Faultless text
     told = faultless text (behind ∙ (body takes.1 takes.3 format_here inputs_here).0)
-
-    by_parts : (f f' i i' o o' : ℕ) (r r' l l' : List ℕ) (t t' : ℕ) (p p' : List Pair) (c c' : List Cell) → f ≡ f' → i ≡ i' → o ≡ o' → r ≡ r' → l ≡ l' → t ≡ t' → p ≡ p' → c ≡ c' →
-        record_of f i o r l t p c ≡ record_of f' i' o' r' l' t' p' c'
-    by_parts f f' i i' o o' r r' l l' t t' p p' c c' ef ei eo er el et ep ec = rw ef (rw ei (rw eo (rw er (rw el (rw et (rw ep (rw ec refl)))))))
 
     pub parts_are : parts_of head pairs cells.items ≡ cert_of (said text)
     parts_are =

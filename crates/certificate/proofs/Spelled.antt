@@ -39,9 +39,14 @@ unfolding trailing
 nothing_behind count text whole = let test : nat_lt (length text) (length text) ≡ false = grind (arith, nat_tests) in rw whole (rw test refl)
 
 -- a certificate of its parts
-abbrev parts_of : ℕ → ℕ → ℕ → List ℕ → List ℕ → ℕ → List Pair → List Cell → Certificate
-parts_of format inputs outputs order levels total pairs cells =
+abbrev pub certificate_of : ℕ → ℕ → ℕ → List ℕ → List ℕ → ℕ → List Pair → List Cell → Certificate
+certificate_of format inputs outputs order levels total pairs cells =
     record { format = format; inputs = inputs; outputs = outputs; order = order; levels = levels; total = total; pairs = pairs; cells = cells }
+
+-- certificates with equal parts
+pub by_parts : (f f' i i' o o' : ℕ) (r r' l l' : List ℕ) (t t' : ℕ) (p p' : List Pair) (c c' : List Cell) → f ≡ f' → i ≡ i' → o ≡ o' → r ≡ r' → l ≡ l' → t ≡ t' → p ≡ p' → c ≡ c' →
+    certificate_of f i o r l t p c ≡ certificate_of f' i' o' r' l' t' p' c'
+by_parts f f' i i' o o' r r' l l' t t' p p' c c' ef ei eo er el et ep ec = rw ef (rw ei (rw eo (rw er (rw el (rw et (rw ep (rw ec refl)))))))
 
 -- the lines of pairs of a text that says its format and its number of inputs
 abbrev IsFormat : ℕ → List Pair → Type 0
@@ -296,11 +301,6 @@ module _ (cert : Certificate) (has : HasSpelling cert) where
 
     leveled : numbers_of (get_or (word_lines cert) 4 []) ≡ cert.levels
     leveled = rw lines_are levels_back
-
-    by_parts : (f f' i i' o o' : ℕ) (r r' l l' : List ℕ) (t t' : ℕ) (p p' : List Pair) (c c' : List Cell) →
-        f ≡ f' → i ≡ i' → o ≡ o' → r ≡ r' → l ≡ l' → t ≡ t' → p ≡ p' → c ≡ c' →
-        parts_of f i o r l t p c ≡ parts_of f' i' o' r' l' t' p' c'
-    by_parts f f' i i' o o' r r' l l' t t' p p' c c' ef ei eo er el et ep ec = rw ef (rw ei (rw eo (rw er (rw el (rw et (rw ep (rw ec refl)))))))
 
     same : cert_of (word_lines cert) ≡ cert
     same = by_parts _ _ _ _ _ _ _ _ _ _ _ _ _ _ _ _ format_is inputs_are outputs_back orders leveled total_back pairs_are_back cells_are_back
