@@ -18,3 +18,4 @@ pub mod Taking
 pub mod Heading
 pub mod Bodies
 pub mod Parsed
+pub mod ToolCertificates

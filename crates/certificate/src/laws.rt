@@ -1,7 +1,10 @@
 //! What holds of all texts of certificates.
 
-ghost use Rattle.std.specs.Prelude.{◌≡◌, ◌⊎◌, ℕ, List, []};
-ghost use Rattle.order_model.specs.Certificates.{Certificate};
+ghost use Rattle.std.specs.Prelude.{◌≡◌, ◌⊎◌, ◌≤◌, ℕ, List, [], length};
+ghost use Rattle.order_model.specs.Certificates.{Certificate, certificate_of};
+ghost use Rattle.order_model.specs.Functions.{Function};
+ghost use Rattle.order_model.specs.Orders.{IsOrder};
+ghost use Rattle.order_model.specs.Pairs.{AreBelow, Pair, sorted_pairs};
 ghost use Rattle.certificate.specs.declared.faults.LineFault.{LineFault};
 ghost use Rattle.certificate.specs.Spelling.{HasSpelling, spelling};
 ghost use Rattle.certificate.specs.Faults.{Spells, FirstFault, faults};
@@ -21,4 +24,10 @@ pub fn texts_have_one_reading()
     ensures some { (text : List ℕ) → ((cert : Certificate) × Spells text cert) ⊎ ((line : ℕ) × (fault : LineFault) × FirstFault text line fault) }
     ensures not_both { (text : List ℕ) (cert : Certificate) (line : ℕ) (fault : LineFault) → Spells text cert → FirstFault text line fault → ⊥ }
     ensures one_fault { (text : List ℕ) (i j : ℕ) (e f : LineFault) → FirstFault text i e → FirstFault text j f → (i ≡ j) × (e ≡ f) }
+{}
+
+/// The certificate of an order has a spelling: that of 1 to 16 functions of 1 to 16 variables, with sorted pairs of which there are at most 240.
+pub fn orders_have_certificates()
+    ensures { (n : ℕ) (F : List Function) (P : List Pair) (order : List ℕ) → 1 ≤ n → n ≤ 16 → 1 ≤ length F → length F ≤ 16 → IsOrder n order →
+        AreBelow n P → length P ≤ 240 → sorted_pairs n P ≡ P → HasSpelling (certificate_of n F P order) }
 {}

@@ -1,5 +1,5 @@
 -- Functions and the functions of their truth tables are the same, and so is all that is counted of them.
---     AllSame n F G      function by function the same
+--     AllSame n F G, turned      function by function the same, either way round
 --     tables_same      the functions of the truth tables of F
 --     level_counts_same, size_same      level counts and sizes
 use Rattle.std.proofs.Common.{◌≡◌, ℕ, zero, suc, ◌+◌, ◌^◌, Bool, true, false, cond, List, [], ◌∷◌, ◌++◌, length, map, take, slice_index, refl, sym, ap, ◌∙◌, arith}
@@ -15,6 +15,13 @@ use Rattle.order_model.proofs.Numbers.{table-from_table, point_count}
 abbrev pub AllSame : ℕ → List Function → List Function → Type 0
 AllSame n F G = AllZip (SameFunction n) F G
 
+pub turned : (n : ℕ) (F G : List Function) → AllSame n F G → AllSame n G F
+unfolding SameFunction
+turned n [] [] h = tt
+turned n [] (g ∷ G) h = absurd h
+turned n (f ∷ F) [] h = absurd h
+turned n (f ∷ F) (g ∷ G) h = ((λ p l. sym (h.0 p l)), turned n F G h.1)
+
 same_append : (n : ℕ) (F G F' G' : List Function) → AllSame n F G → AllSame n F' G' → AllSame n (F ++ F') (G ++ G')
 same_append n [] [] F' G' a b = b
 same_append n [] (g ∷ G) F' G' a b = absurd a
@@ -28,7 +35,8 @@ same_subfunctions n (x ∷ xs) f g h =
     same_append n _ _ _ _ (same_subfunctions n xs (restrict x false f) (restrict x false g) (restrict_same n x false f g h))
     (same_subfunctions n xs (restrict x true f) (restrict x true g) (restrict_same n x true f g h))
 
-same_reach : (n : ℕ) (xs : List ℕ) (F G : List Function) → AllSame n F G → AllSame n (reach F xs) (reach G xs)
+-- what restrictions reach
+pub same_reach : (n : ℕ) (xs : List ℕ) (F G : List Function) → AllSame n F G → AllSame n (reach F xs) (reach G xs)
 unfolding reach
 same_reach n xs [] [] h = tt
 same_reach n xs [] (g ∷ G) h = absurd h

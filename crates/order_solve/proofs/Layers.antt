@@ -1,5 +1,4 @@
 -- The layers of all sets.
---     size_small      the size of an order of at most 16 variables is below 2 ^ 24
 --     start_layer, layers_start, layers_push      the layer of the empty set, and a layer more
 --     set_layer      the layer in which a set is
 use Rattle.std.proofs.Common.{◌≡◌, ℕ, zero, suc, ◌+◌, ◌-◌, ◌*◌, ◌^◌, ◌<◌, ◌≤◌, inl, inr, Bool, true, false, cond, List, [], ◌∷◌, ◌++◌, map, take, length, length-append, slice_index, Some, IfSome, Option, refl, sym, ap, ◌∙◌, subst, arith, count_ones, pow_mono, eqb}
@@ -16,10 +15,7 @@ use Rattle.std.specs.Int.{bit_at}
 use Rattle.std.proofs.lemmas.Nat.{zero_from_ones}
 use Rattle.order_model.specs.Orders.{has, members, variables, mask_of, IsOrder}
 use Rattle.order_model.specs.Cells.{cell_of, wanted}
-use Rattle.order_model.proofs.FewestLaws.{arrangement_from_order}
-use Rattle.order_model.proofs.Recurrence.{distinct_variables}
-use Rattle.std.proofs.lemmas.Cmp.{nat_eq_equiv}
-use Rattle.std.proofs.lemmas.Map.Made.{length-from_same_keys}
+use Rattle.order_model.proofs.SizeBounds.{size_bound}
 use Rattle.subset_layers.specs.declared.costs.Cell.{Cell}
 use Rattle.order_solve.specs.Needs.{needed}
 use Rattle.layer_board.specs.Pairing.{pair_of}
@@ -35,66 +31,6 @@ use Rattle.layer_board.proofs.Layouts.{length-map_lem}
 use Rattle.order_solve.specs.Benches.{IsLayerFor}
 use Rattle.order_solve.specs.Bounded.{IsBounded, AreLayersFor}
 use Rattle.order_solve.proofs.Claimed.{length_filter_le}
-
--- ---- sizes are small
-
-length-subfunctions : (xs : List ℕ) (f : Function) → length (subfunctions xs f) ≡ 2 ^ length xs
-unfolding subfunctions
-length-subfunctions [] f = refl
-length-subfunctions (x ∷ xs) f =
-    let l = length-subfunctions xs (restrict x false f) in
-    let r = length-subfunctions xs (restrict x true f) in
-    let p = two-pow-succ (length xs) in
-    length-append (subfunctions xs (restrict x false f)) (subfunctions xs (restrict x true f)) ∙ omega (arith, l, r, p)
-
-reach_small : (F : List Function) (xs : List ℕ) → length xs ≤ 16 → length (reach F xs) ≤ 2 ^ 16 * length F
-unfolding reach
-reach_small F xs few = go F
-  where
-    go : (fs : List Function) → length (flat_map (subfunctions xs) fs) ≤ 2 ^ 16 * length fs
-    go [] = omega arith
-    go (f ∷ fs) =
-        let r = go fs in
-        let l = length-subfunctions xs f in
-        let p : 2 ^ length xs ≤ 2 ^ 16 = pow_mono {j = 16} few in
-        let a = length-append (subfunctions xs f) (flat_map (subfunctions xs) fs) in
-        omega (arith, r, l, p, a)
-
-length_filter_functions : (p : Function → Bool) (fs : List Function) → length (filter p fs) ≤ length fs
-length_filter_functions p [] = omega arith
-length_filter_functions p (f ∷ fs) = by (p f) (length_filter_functions p fs)
-  where
-    by : (b : Bool) → length (filter p fs) ≤ length fs → length (cond b (f ∷ filter p fs) (filter p fs)) ≤ length (f ∷ fs)
-    by true h = omega arith
-    by false h = omega arith
-
-length_take_le : (i : ℕ) (xs : List ℕ) → length (take i xs) ≤ length xs
-length_take_le zero xs = omega arith
-length_take_le (suc i) [] = omega arith
-length_take_le (suc i) (x ∷ xs) = let k = length_take_le i xs in omega arith
-
-level_small : (n : ℕ) (F : List Function) (order : List ℕ) (i : ℕ) → length order ≤ 16 → length F ≤ 16 → level_count n F order i ≤ 2 ^ 20
-unfolding level_count dependents
-level_small n F order i few outputs =
-    let x = slice_index order i in
-    let fs = reach F (take i order) in
-    let a = distinct_count-le same_table (map (table n) (filter (λ f. depends n f x) fs)) in
-    let b = length-map_lem (table n) (filter (λ f. depends n f x) fs) in
-    let c = length_filter_functions (λ f. depends n f x) fs in
-    let d = reach_small F (take i order) (let t = length_take_le i order in omega (arith, t, few)) in
-    omega (arith, a, b, c, d, outputs)
-
-sum_small : (f : ℕ → ℕ) (xs : List ℕ) → ((x : ℕ) → f x ≤ 2 ^ 20) → sum_by f xs ≤ 2 ^ 20 * length xs
-sum_small f [] h = omega arith
-sum_small f (x ∷ xs) h = let k = sum_small f xs h in let l = h x in let e = sum_by-cons f x xs in omega (arith, k, l, e)
-
-pub size_small : (n : ℕ) (F : List Function) (order : List ℕ) → length order ≤ 16 → length F ≤ 16 → size_under n F order ≤ 2 ^ 24
-unfolding size_under level_counts
-size_small n F order few outputs =
-    let e = sum-map (level_count n F order) (range_with_len 0 (length order)) in
-    let k = sum_small (level_count n F order) (range_with_len 0 (length order)) (λ i. level_small n F order i few outputs) in
-    let l = length-range_with_len 0 (length order) in
-    omega (arith, e, k, l, few)
 
 -- ---- layers
 
@@ -170,17 +106,10 @@ next_there t mask c small some h =
     let z = h.size_is in
     ap (λ k. has (masks_of (layer_with k (c.size + 1))) mask) h.inputs ∙ masks_has t.problem.inputs (c.size + 1) mask small (omega (arith, e, s, z))
 
--- how many variables an order has
-pub order_length : (n : ℕ) (order : List ℕ) → IsOrder n order → length order ≡ n
-order_length n order o =
-    let a = arrangement_from_order n order o in
-    length-from_same_keys nat_eq_equiv order (variables n) a.once (distinct_variables n) a.members ∙ length-range_with_len 0 n
-
 pub bound_small : (t : Setting) (outputs : ℕ) → IsBounded t → t.problem.inputs ≤ 16 → outputs ≡ length t.problem.tables → outputs ≤ 16 → t.bound + 1 < 2 ^ 32
 bound_small t outputs b few are some =
     let F = functions t.problem in
     let l : length F ≡ length t.problem.tables = length-map_lem from_table t.problem.tables in
-    let o = order_length t.problem.inputs b.order b.is_order in
-    let k = size_small t.problem.inputs F b.order (omega (arith, o, few)) (omega (arith, l, are, some)) in
+    let k = size_bound t.problem.inputs F b.order few (omega (arith, l, are, some)) b.is_order in
     let e = b.size in
     omega (arith, e, k)

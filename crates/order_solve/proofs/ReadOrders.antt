@@ -35,7 +35,7 @@ use Rattle.order_model.proofs.Clip.{clip, clip_unclipped}
 use Rattle.subset_layers.proofs.Sizes.{ones-members}
 use Rattle.layer_board.specs.Views.{Setting, cell_for}
 use Rattle.order_solve.specs.Bounded.{IsBounded}
-use Rattle.order_solve.proofs.Layers.{order_length}
+use Rattle.order_model.proofs.SizeBounds.{order_length}
 
 -- the set of all variables, as the code makes it
 pub all_ones : (n : ℕ) → n ≤ 16 → 65535 / 2 ^ (16 - n) ≡ 2 ^ n - 1
