@@ -15,13 +15,14 @@ use Rattle.order_model.specs.Orders.{has, variables, without}
 use Rattle.order_model.specs.Widths.{width}
 use Rattle.order_model.proofs.Masks.{has_members}
 use Rattle.order_model.proofs.OrderLists.{has_variables}
-use Rattle.compaction.specs.Dependence.{joined_mask}
-use Rattle.compaction.specs.Places.{low_place, pairs}
+use Rattle.class_laws.specs.Dependence.{joined_mask}
+use Rattle.class_laws.specs.Places.{low_place, pairs}
 use Rattle.compaction.specs.Rows.{width_wanted}
-use Rattle.compaction.specs.Strips.{AreUsed, AreDistinct, AreStrips, HoldsStrips, HoldsTable, TellsPairs, masks_in_use, unrolled}
-use Rattle.compaction.specs.Table.{ClassesOf, HoldsKeys, with_variable, functions_of, set_of, free_below}
-use Rattle.compaction.proofs.Counted.{length_filter_map}
-use Rattle.compaction.proofs.Index.{length-pairs, pair_listed, pair_within}
+use Rattle.compaction.specs.Keys.{AreUsed, TellsPairs}
+use Rattle.compaction.specs.Strips.{AreDistinct, AreStrips, HoldsStrips, HoldsTable, masks_in_use, unrolled, HoldsKeys}
+use Rattle.class_laws.specs.Table.{ClassesOf, with_variable, functions_of, set_of, free_below}
+use Rattle.class_laws.proofs.Counted.{length_filter_map}
+use Rattle.class_laws.proofs.Index.{length-pairs, pair_listed, pair_within}
 use Rattle.compaction.proofs.Keyed.{keys_ready}
 use Rattle.compaction.proofs.Named.{keys_by_names}
 use Rattle.compaction.proofs.Stripped.{parts_of}

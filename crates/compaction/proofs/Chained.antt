@@ -1,14 +1,10 @@
--- Steps of the numbering without hashing.
-use Rattle.std.proofs.Common.{◌≡◌, ◌≢◌, ℕ, zero, suc, ◌+◌, ◌<◌, ◌≤◌, inl, inr, List, [], ◌∷◌, ◌++◌, map, length, get_or, set, take, drop, refl, sym, ap, ◌∙◌, subst, arith}
-use Rattle.std.specs.Set.{distinct_count}
+-- Chains of pairs by lower class, and the first pair equal to each.
+use Rattle.std.proofs.Common.{◌≡◌, ◌≢◌, ℕ, suc, ◌+◌, ◌<◌, ◌≤◌, inl, inr, List, length, get_or, set, refl, sym, ap, ◌∙◌, subst, arith}
 use Rattle.std.proofs.lemmas.Bool.{cases_eq, cases_lt}
-use Rattle.std.proofs.lemmas.List.{append_assoc, map-append, take-append-drop, length-take, take_all, length-set, get_or-set_same, get_or-set_other, get_or-map, take_more, get_or-take}
-use Rattle.order_model.specs.Widths.{same_pair}
-use Rattle.order_model.proofs.ClassPairs.{pair_decides}
-use Rattle.order_model.proofs.Sets.{Among}
-use Rattle.compaction.specs.Numbering.{rank, ranks}
-use Rattle.compaction.specs.Chains.{IsNext, IsFirst, lower_at, upper_at, pair_of}
-use Rattle.compaction.proofs.Ranks.{count_new, count_old, count_end, rank_here}
+use Rattle.std.proofs.lemmas.List.{length-set, get_or-set_same, get_or-set_other}
+use Rattle.class_laws.specs.Numbering.{IsFirst}
+use Rattle.compaction.specs.Chains.{IsNext, lower_at, upper_at}
+use Rattle.class_laws.specs.Places.{pair_at}
 
 -- ---- chains
 
@@ -50,67 +46,6 @@ module _ (value : ℕ → ℕ) (len : ℕ) where
         | inr ne ↦ subst (IsNext value len (value i) (i + 1)) (sym (get_or-set_other next k i (get_or heads (value k) 0) 0 ne)) (n i (omega arith) m)
       ]
 
--- ---- numbers from first places
-
-module _ (ps : List (ℕ × ℕ)) where
-  key : ℕ → ℕ × ℕ
-  key i = get_or ps i (0, 0)
-
-  pub among_take : (qs : List (ℕ × ℕ)) (j : ℕ) (t : ℕ × ℕ) → Among t (take j qs) → (i : ℕ) × (i < j) × (i < length qs) × (get_or qs i (0, 0) ≡ t)
-  among_take qs zero t h = absurd h
-  among_take [] (suc j) t h = absurd h
-  among_take (q ∷ qs) (suc j) t h = elim h [ inl e ↦ (0, omega arith, omega arith, sym e) | inr a ↦ let s = among_take qs j t a in (suc s.0, omega (arith, s.1), omega (arith, s.2), s.3) ]
-
-  pub take_among : (qs : List (ℕ × ℕ)) (j i : ℕ) → i < j → i < length qs → Among (get_or qs i (0, 0)) (take j qs)
-  take_among [] j i l m = absurd (omega arith)
-  take_among (q ∷ qs) zero i l m = absurd (omega arith)
-  take_among (q ∷ qs) (suc j) zero l m = inl refl
-  take_among (q ∷ qs) (suc j) (suc i) l m = inr (take_among qs j i (omega arith) (omega arith))
-
-  -- how far the numbering has come
-  pub record Progress (out : List ℕ) (count j : ℕ) : Type 0 where
-    pub done : out ≡ map (rank same_pair ps) (take j ps)
-    pub many : count ≡ distinct_count same_pair (take j ps)
-
-  pub progress_none : Progress [] 0 0
-  progress_none = record { done = refl; many = refl }
-
-  one_more : (j : ℕ) → j < length ps → take (j + 1) ps ≡ take j ps ++ key j ∷ []
-  unfolding key
-  one_more j l = take_more ps j (0, 0) l
-
-  parts : (j : ℕ) → j < length ps → ps ≡ take j ps ++ key j ∷ drop (j + 1) ps
-  parts j l = sym (take-append-drop (j + 1) ps) ∙ ap (λ us. us ++ drop (j + 1) ps) (one_more j l) ∙ append_assoc (take j ps) (key j ∷ []) (drop (j + 1) ps)
-
-  out_more : (out : List ℕ) (number j : ℕ) → j < length ps → out ≡ map (rank same_pair ps) (take j ps) → number ≡ rank same_pair ps (key j) → out ++ number ∷ [] ≡ map (rank same_pair ps) (take (j + 1) ps)
-  out_more out number j l o e = (λ i. o i ++ e i ∷ []) ∙ sym (ap (map (rank same_pair ps)) (one_more j l) ∙ map-append (rank same_pair ps) (take j ps) (key j ∷ []))
-
-  -- a pair that none before equals has the next number
-  pub progress_new : (out : List ℕ) (count j : ℕ) → j < length ps → Progress out count j → IsFirst (λ i. get_or ps i (0, 0)) j j → Progress (out ++ count ∷ []) (count + 1) (j + 1)
-  unfolding key
-  progress_new out count j l p f = record {
-    done = out_more out count j l p.done (p.many ∙ sym (ap (λ us. rank same_pair us (key j)) (parts j l) ∙ rank_here same_pair pair_decides (take j ps) (drop (j + 1) ps) (key j) absent));
-    many = let m = p.many in let n = ap (distinct_count same_pair) (one_more j l) ∙ count_end same_pair pair_decides (key j) (take j ps) ∙ count_new same_pair pair_decides (key j) (take j ps) absent in omega arith;
-  }
-    where
-      absent : Among (get_or ps j (0, 0)) (take j ps) → ⊥
-      absent a = let s = among_take ps j (get_or ps j (0, 0)) a in f.none s.0 s.1 s.3
-
-  -- another one has the number of its first place
-  pub progress_old : (out : List ℕ) (count j first : ℕ) → j < length ps → Progress out count j → first < j → IsFirst (λ i. get_or ps i (0, 0)) j first → Progress (out ++ get_or out first 0 ∷ []) count (j + 1)
-  unfolding key
-  progress_old out count j first l p lt f = record {
-    done = out_more out (get_or out first 0) j l p.done (ap (λ us. get_or us first 0) p.done ∙ get_or-map (rank same_pair ps) (take j ps) first (0, 0) 0 (let t = length-take j ps in omega arith) ∙ ap (rank same_pair ps) (get_or-take j ps first (0, 0) lt ∙ f.same));
-    many = p.many ∙ sym (ap (distinct_count same_pair) (one_more j l) ∙ count_end same_pair pair_decides (key j) (take j ps) ∙ count_old same_pair pair_decides (key j) (take j ps) there);
-  }
-    where
-      there : Among (get_or ps j (0, 0)) (take j ps)
-      there = subst (λ t. Among t (take j ps)) f.same (take_among ps j first lt (omega arith))
-
-  pub progress_all : (out : List ℕ) (count j : ℕ) → length ps ≤ j → Progress out count j → out ≡ ranks same_pair ps
-  unfolding ranks
-  progress_all out count j l p = p.done ∙ ap (map (rank same_pair ps)) (take_all j ps l)
-
 -- ---- a walk along the chain of one lower class
 
 module _ (cs : List ℕ) (step half c : ℕ) where
@@ -118,10 +53,10 @@ module _ (cs : List ℕ) (step half c : ℕ) where
   pub record Walk (stamps marks first : List ℕ) (j : ℕ) : Type 0 where
     pub within : j ≤ half
     pub here : j < half → lower_at cs step j ≡ c
-    pub own : (i : ℕ) → i < j → lower_at cs step i ≡ c → IsFirst (pair_of cs step) i (get_or first i 0)
+    pub own : (i : ℕ) → i < j → lower_at cs step i ≡ c → IsFirst (pair_at cs step) i (get_or first i 0)
     pub stamped : (h : ℕ) → h < length stamps → get_or stamps h 0 ≤ c + 1
-    pub marked : (h : ℕ) → h < length stamps → get_or stamps h 0 ≡ c + 1 → (get_or marks h 0 < j) × (pair_of cs step (get_or marks h 0) ≡ (c, h)) × ((i : ℕ) → i < get_or marks h 0 → pair_of cs step i ≢ (c, h))
-    pub unmarked : (h : ℕ) → h < length stamps → get_or stamps h 0 ≢ c + 1 → (i : ℕ) → i < j → pair_of cs step i ≢ (c, h)
+    pub marked : (h : ℕ) → h < length stamps → get_or stamps h 0 ≡ c + 1 → (get_or marks h 0 < j) × (pair_at cs step (get_or marks h 0) ≡ (c, h)) × ((i : ℕ) → i < get_or marks h 0 → pair_at cs step i ≢ (c, h))
+    pub unmarked : (h : ℕ) → h < length stamps → get_or stamps h 0 ≢ c + 1 → (i : ℕ) → i < j → pair_at cs step i ≢ (c, h)
 
   pub walk_none : (stamps marks first : List ℕ) (j : ℕ) → IsNext (lower_at cs step) half c 0 j → ((h : ℕ) → h < length stamps → get_or stamps h 0 ≤ c) → Walk stamps marks first j
   walk_none stamps marks first j n s = record {
@@ -133,13 +68,13 @@ module _ (cs : List ℕ) (step half c : ℕ) where
     unmarked = λ h l e i m q. n.none i (omega arith) m (ap (λ t. t.0) q);
   }
 
-  own_more : (first : List ℕ) (j k f : ℕ) → j < length first → IsNext (lower_at cs step) half c (j + 1) k → ((i : ℕ) → i < j → lower_at cs step i ≡ c → IsFirst (pair_of cs step) i (get_or first i 0)) → IsFirst (pair_of cs step) j f →
-      (i : ℕ) → i < k → lower_at cs step i ≡ c → IsFirst (pair_of cs step) i (get_or (set first j f) i 0)
+  own_more : (first : List ℕ) (j k f : ℕ) → j < length first → IsNext (lower_at cs step) half c (j + 1) k → ((i : ℕ) → i < j → lower_at cs step i ≡ c → IsFirst (pair_at cs step) i (get_or first i 0)) → IsFirst (pair_at cs step) j f →
+      (i : ℕ) → i < k → lower_at cs step i ≡ c → IsFirst (pair_at cs step) i (get_or (set first j f) i 0)
   own_more first j k f fl n o now i l v =
       elim (cases_eq i j) [
-        | inl e ↦ subst (λ z. IsFirst (pair_of cs step) z (get_or (set first j f) z 0)) (sym e) (subst (IsFirst (pair_of cs step) j) (sym (get_or-set_same first j f 0 fl)) now)
+        | inl e ↦ subst (λ z. IsFirst (pair_at cs step) z (get_or (set first j f) z 0)) (sym e) (subst (IsFirst (pair_at cs step) j) (sym (get_or-set_same first j f 0 fl)) now)
         | inr ne ↦ elim (cases_lt i j) [
-          | inl a ↦ subst (IsFirst (pair_of cs step) i) (sym (get_or-set_other first j i f 0 ne)) (o i a v)
+          | inl a ↦ subst (IsFirst (pair_at cs step) i) (sym (get_or-set_other first j i f 0 ne)) (o i a v)
           | inr a ↦ absurd (n.none i (omega arith) l v)
         ]
       ]
@@ -149,8 +84,8 @@ module _ (cs : List ℕ) (step half c : ℕ) where
       IsNext (lower_at cs step) half c (j + 1) k → Walk stamps marks (set first j (get_or marks (upper_at cs step j) 0)) k
   walk_again stamps marks first j k small fl ul w e n =
       let m = w.marked (upper_at cs step j) ul e in
-      let key : pair_of cs step j ≡ (c, upper_at cs step j) = λ i. (w.here small i, upper_at cs step j) in
-      let now : IsFirst (pair_of cs step) j (get_or marks (upper_at cs step j) 0) = record { before = let a = m.0 in omega arith; same = m.1 ∙ sym key; none = λ i l q. m.2 i l (q ∙ key) } in
+      let key : pair_at cs step j ≡ (c, upper_at cs step j) = λ i. (w.here small i, upper_at cs step j) in
+      let now : IsFirst (pair_at cs step) j (get_or marks (upper_at cs step j) 0) = record { before = let a = m.0 in omega arith; same = m.1 ∙ sym key; none = λ i l q. m.2 i l (q ∙ key) } in
       record {
         within = n.within;
         here = n.here;
@@ -160,7 +95,7 @@ module _ (cs : List ℕ) (step half c : ℕ) where
         unmarked = λ h l s i q. elim (cases_lt i j) [
           | inl a ↦ w.unmarked h l s i a
           | inr a ↦ elim (cases_eq i j) [
-            | inl d ↦ λ t. s (subst (λ z. get_or stamps z 0 ≡ c + 1) (ap (λ u. u.1) (sym (ap (pair_of cs step) d) ∙ t)) e)
+            | inl d ↦ λ t. s (subst (λ z. get_or stamps z 0 ≡ c + 1) (ap (λ u. u.1) (sym (ap (pair_at cs step) d) ∙ t)) e)
             | inr d ↦ λ t. n.none i (omega arith) q (ap (λ u. u.0) t)
           ]
         ];
@@ -172,8 +107,8 @@ module _ (cs : List ℕ) (step half c : ℕ) where
   walk_new stamps marks first j k small fl ul ml w e n =
       let u = upper_at cs step j in
       let sl = length-set stamps u (c + 1) in
-      let key : pair_of cs step j ≡ (c, u) = λ i. (w.here small i, u) in
-      let now : IsFirst (pair_of cs step) j j = record { before = omega arith; same = refl; none = λ i l q. w.unmarked u ul e i l (q ∙ key) } in
+      let key : pair_at cs step j ≡ (c, u) = λ i. (w.here small i, u) in
+      let now : IsFirst (pair_at cs step) j j = record { before = omega arith; same = refl; none = λ i l q. w.unmarked u ul e i l (q ∙ key) } in
       let here_stamp : get_or (set stamps u (c + 1)) u 0 ≡ c + 1 = get_or-set_same stamps u (c + 1) 0 ul in
       let here_mark : get_or (set marks u j) u 0 ≡ j = get_or-set_same marks u j 0 (omega arith) in
       record {
@@ -186,11 +121,11 @@ module _ (cs : List ℕ) (step half c : ℕ) where
         ];
         marked = λ h l s. elim (cases_eq h u) [
           | inl d ↦
-              let P : ℕ → Type 0 = λ z. (get_or (set marks u j) z 0 < k) × (pair_of cs step (get_or (set marks u j) z 0) ≡ (c, z)) × ((i : ℕ) → i < get_or (set marks u j) z 0 → pair_of cs step i ≢ (c, z)) in
-              let Q : ℕ → Type 0 = λ z. (z < k) × (pair_of cs step z ≡ (c, u)) × ((i : ℕ) → i < z → pair_of cs step i ≢ (c, u)) in
+              let P : ℕ → Type 0 = λ z. (get_or (set marks u j) z 0 < k) × (pair_at cs step (get_or (set marks u j) z 0) ≡ (c, z)) × ((i : ℕ) → i < get_or (set marks u j) z 0 → pair_at cs step i ≢ (c, z)) in
+              let Q : ℕ → Type 0 = λ z. (z < k) × (pair_at cs step z ≡ (c, u)) × ((i : ℕ) → i < z → pair_at cs step i ≢ (c, u)) in
               subst P (sym d) (subst Q (sym here_mark) ((let b = n.from in omega arith), key, λ i q. w.unmarked u ul e i q))
           | inr d ↦
-              let Q : ℕ → Type 0 = λ z. (z < k) × (pair_of cs step z ≡ (c, h)) × ((i : ℕ) → i < z → pair_of cs step i ≢ (c, h)) in
+              let Q : ℕ → Type 0 = λ z. (z < k) × (pair_at cs step z ≡ (c, h)) × ((i : ℕ) → i < z → pair_at cs step i ≢ (c, h)) in
               let o = w.marked h (omega arith) (sym (get_or-set_other stamps u h (c + 1) 0 d) ∙ s) in
               subst Q (sym (get_or-set_other marks u h j 0 d)) ((let a = o.0 in let b = n.from in omega arith), o.1, o.2)
         ];
@@ -199,7 +134,7 @@ module _ (cs : List ℕ) (step half c : ℕ) where
           | inr d ↦ elim (cases_lt i j) [
             | inl a ↦ w.unmarked h (omega arith) (λ t. s (get_or-set_other stamps u h (c + 1) 0 d ∙ t)) i a
             | inr a ↦ elim (cases_eq i j) [
-              | inl g ↦ λ t. d (ap (λ z. z.1) (sym t ∙ ap (pair_of cs step) g))
+              | inl g ↦ λ t. d (ap (λ z. z.1) (sym t ∙ ap (pair_at cs step) g))
               | inr g ↦ λ t. n.none i (omega arith) q (ap (λ z. z.0) t)
             ]
           ]

@@ -5,18 +5,17 @@ use Rattle.std.specs.List.{filter}
 use Rattle.std.proofs.lemmas.Nat.Bits.{bit_at-lt}
 use Rattle.std.proofs.lemmas.List.{length-append}
 use Rattle.std.proofs.lemmas.List.Elements.{filter-append}
-use Rattle.order_model.specs.Widths.{same_pair}
-use Rattle.compaction.specs.Chains.{IsFirst}
-use Rattle.compaction.specs.Dependence.{joined_mask, CountsMasks}
-use Rattle.compaction.specs.Numbering.{ranks}
+use Rattle.order_model.specs.Widths.{same_pair, width}
+use Rattle.class_laws.specs.Numbering.{IsFirst, ranks}
+use Rattle.class_laws.specs.Dependence.{joined_mask}
+use Rattle.compaction.specs.Scratch.{CountsMasks}
 use Rattle.order_model.specs.Orders.{has}
-use Rattle.order_model.specs.Widths.{width}
-use Rattle.compaction.specs.Places.{pairs}
-use Rattle.compaction.specs.Table.{ClassesOf, HoldsClasses, with_variable, functions_of, set_of, free_below}
-use Rattle.compaction.proofs.Counted.{width_is_dependent_classes}
-use Rattle.compaction.proofs.Extended.{holds_more, width_into}
-use Rattle.compaction.proofs.Firsts.{joined_again, joined_first}
-use Rattle.compaction.proofs.Joined.{Joined, joined_none, joined_many, joined_told}
+use Rattle.class_laws.specs.Places.{pairs}
+use Rattle.class_laws.specs.Table.{ClassesOf, HoldsClasses, with_variable, functions_of, set_of, free_below}
+use Rattle.class_laws.proofs.Counted.{width_is_dependent_classes}
+use Rattle.class_laws.proofs.Extended.{holds_more, width_into}
+use Rattle.class_laws.proofs.Firsts.{joined_again, joined_first}
+use Rattle.class_laws.proofs.Joined.{Joined, joined_none, joined_many, joined_told}
 
 module _ (ps : List (ℕ × ℕ)) (masks : List ℕ) (x : ℕ) where
   -- after j pairs

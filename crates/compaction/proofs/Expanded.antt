@@ -5,8 +5,7 @@
 --     low_none, low_more, low_eight      the numbers of a word's lowest bits: none, a byte more, a byte
 --     row_number, row_strip      the numbers of all bytes' values in one table, and those of one byte
 --     packed_none, packed_more, packed_at, length_packed      the numbers of words: none, a word more, one of them, how many
-use Rattle.std.proofs.Common.{◌≡◌, ◌==◌, ◌++◌, ◌∷◌, [], ℕ, zero, suc, refl, ◌+◌, ◌*◌, ◌-◌, ◌/◌, ◌%◌, ◌^◌, ◌<◌, ◌≤◌, Bool, true, false, cond, List, length, map, get_or, sym, ap, ◌∙◌, arith}
-use Rattle.std.proofs.Common.{pow_mono, pow-add, mul_assoc}
+use Rattle.std.proofs.Common.{◌≡◌, ◌==◌, ◌++◌, ◌∷◌, [], ℕ, zero, suc, refl, ◌+◌, ◌*◌, ◌-◌, ◌/◌, ◌%◌, ◌^◌, ◌<◌, ◌≤◌, Bool, true, false, cond, List, length, map, get_or, sym, ap, ◌∙◌, arith, pow_mono, pow-add, mul_assoc}
 use Rattle.std.proofs.Math.Nat.{mul-le-mul_left, mul-le-mul_right, mul_comm, div-add-mod, mod-lt, div-lt_iff_lt-mul, div-div-eq-div-mul}
 use Rattle.std.proofs.lemmas.Nat.Bits.{bit_at_cat_low}
 use Rattle.std.specs.Bool.{beq}
@@ -18,8 +17,9 @@ use Rattle.std.proofs.lemmas.Nat.{div-mul-add, mod-mul-add}
 use Rattle.order_model.specs.Problems.{TruthTables, packed_bit}
 use Rattle.compaction.specs.Columns.{low_numbers, packed_numbers}
 use Rattle.compaction.specs.Strips.{AreStrips, strip, unrolled}
-use Rattle.compaction.specs.Values.{values_of, number_of}
-use Rattle.compaction.proofs.StartClasses.{length_values, map_range}
+use Rattle.class_laws.specs.Values.{values_of, number_of}
+use Rattle.class_laws.proofs.StartClasses.{length_values}
+use Rattle.class_laws.proofs.Lists.{map_ranges}
 use Rattle.compaction.proofs.Unrolled.{length_strip, strip_at, length_unrolled, unrolled_at, same_by_places}
 
 -- a place parts into a strip and a place in it
@@ -78,7 +78,7 @@ range_behind f a (suc n) m =
 
 pub ranges : {X : Type 0} (f g : ℕ → X) (n m : ℕ) → ((b : ℕ) → b < m → g b ≡ f (n + b)) → map f (range_with_len 0 n) ++ map g (range_with_len 0 m) ≡ map f (range_with_len 0 (n + m))
 ranges f g n m h =
-    ap (λ us. map f (range_with_len 0 n) ++ us) (map_range g f m 0 (0 + n) (λ b lt. ap g (let e : 0 + b ≡ b = omega arith in e) ∙ h b lt ∙ ap f (let e : n + b ≡ 0 + n + b = omega arith in e)))
+    ap (λ us. map f (range_with_len 0 n) ++ us) (map_ranges g f m 0 (0 + n) (λ b lt. ap g (let e : 0 + b ≡ b = omega arith in e) ∙ h b lt ∙ ap f (let e : n + b ≡ 0 + n + b = omega arith in e)))
     ∙ range_behind f 0 n m
 
 -- a bit of a byte of a word

@@ -1,16 +1,16 @@
 -- Rows of a block, filled one after another.
-use Rattle.std.proofs.Common.{◌≡◌, ◌≢◌, ℕ, zero, suc, ◌+◌, ◌-◌, ◌*◌, ◌/◌, ◌%◌, ◌^◌, ◌<◌, ◌≤◌, false, cond, inl, inr, List, [], ◌∷◌, length, slice_index, get_or, set, get_or-set_same, get_or-set_other, refl, sym, ap, ◌∙◌, subst, arith, eqb, bit_or, bit_and}
+use Rattle.std.proofs.Common.{◌≡◌, ◌≢◌, ℕ, zero, suc, ◌+◌, ◌-◌, ◌%◌, ◌^◌, ◌<◌, ◌≤◌, cond, inl, inr, List, [], ◌∷◌, length, slice_index, get_or, set, get_or-set_same, get_or-set_other, refl, sym, ap, ◌∙◌, subst, arith, eqb}
 use Rattle.std.specs.Int.{bit_at}
 use Rattle.std.proofs.lemmas.Bool.{cases_lt, cases_eq}
 use Rattle.std.proofs.lemmas.List.{length-set, take_at, get_or_append_left, get_or_push}
-use Rattle.std.proofs.Common.{◌⊎◌, ◌++◌, zero-mul, min, take, drop, replicate, pow_mono}
-use Rattle.std.proofs.Math.Nat.{mod-lt, mod-eq_of_lt, two-pow-succ}
-use Rattle.std.proofs.lemmas.Nat.{pow_pos, or_disjoint}
-use Rattle.std.proofs.lemmas.Nat.Bits.{and_pow, bit_at_above, bit_at-zero}
-use Rattle.order_model.specs.Orders.{has, members, without}
+use Rattle.std.proofs.Common.{◌++◌, min, take, drop, replicate, pow_mono}
+use Rattle.std.proofs.Math.Nat.{mod-eq_of_lt, two-pow-succ}
+use Rattle.std.proofs.lemmas.Nat.{pow_pos}
+use Rattle.std.proofs.lemmas.Nat.Bits.{bit_at-zero}
+use Rattle.order_model.specs.Orders.{members, without}
 use Rattle.order_model.specs.Widths.{width}
 use Rattle.order_model.specs.Problems.{TruthTables, functions}
-use Rattle.compaction.proofs.Sets.{low_more, low_same, low_new}
+use Rattle.class_laws.proofs.LowSets.{split_low, join_low, join_high}
 use Rattle.compaction.specs.Rows.{width_wanted, IsRow, AreFilled, AreBlank}
 
 -- the rows of one set among the first k masks
@@ -59,35 +59,6 @@ fewer_compactions n y before lt a = let d = power_double n y lt in omega arith
 
 pub no_compactions : (n y : ℕ) → 0 + 1 ≤ 2 ^ (n - y)
 no_compactions n y = let p = pow_pos (n - y) in omega arith
-
-pub low_or : (set y : ℕ) → set < 2 ^ y → bit_or set (2 ^ y) ≡ set + 2 ^ y
-low_or set y h = or_disjoint set (2 ^ y) (and_pow set y ∙ ap (λ b. b * 2 ^ y) (bit_at_above set y y h (omega arith)) ∙ zero-mul (2 ^ y))
-
-pub next_small : (set y : ℕ) → set < 2 ^ y → set + 2 ^ y < 2 ^ (y + 1)
-next_small set y h = let t = two-pow-succ y in let s : 2 ^ (y + 1) ≡ 2 ^ suc y = ap (λ k. 2 ^ k) (omega arith) in omega arith
-
-pub set_new : (n set y : ℕ) → set < 2 ^ y → has (members n set) y ≡ false
-set_new n set y h = ap (λ m. has (members n m) y) (sym (mod-eq_of_lt h)) ∙ low_new n set y
-
--- a mask that agrees below y agrees below y + 1 with the set, or with the set with y
-split_low : (mask set y : ℕ) → set < 2 ^ y → mask % 2 ^ y ≡ set → (mask % 2 ^ (y + 1) ≡ set) ⊎ (mask % 2 ^ (y + 1) ≡ set + 2 ^ y)
-split_low mask set y h e = elim (cases_eq (bit_and (mask / 2 ^ y) 1) 1) [
-  | inl one ↦ inr (sym (low_more mask y one) ∙ ap (λ m. bit_or m (2 ^ y)) e ∙ low_or set y h)
-  | inr none ↦ inl (sym (low_same mask y none) ∙ e)
-]
-
--- agreeing below y + 1 is agreeing below y
-join_low : (mask set y : ℕ) → set < 2 ^ y → mask % 2 ^ (y + 1) ≡ set → mask % 2 ^ y ≡ set
-join_low mask set y h e = elim (cases_eq (bit_and (mask / 2 ^ y) 1) 1) [
-  | inl one ↦ let s = sym (low_or (mask % 2 ^ y) y (mod-lt mask (pow_pos y))) ∙ low_more mask y one ∙ e in absurd (omega arith)
-  | inr none ↦ low_same mask y none ∙ e
-]
-
-join_high : (mask set y : ℕ) → set < 2 ^ y → mask % 2 ^ (y + 1) ≡ set + 2 ^ y → mask % 2 ^ y ≡ set
-join_high mask set y h e = elim (cases_eq (bit_and (mask / 2 ^ y) 1) 1) [
-  | inl one ↦ let s = sym (low_or (mask % 2 ^ y) y (mod-lt mask (pow_pos y))) ∙ low_more mask y one ∙ e in omega arith
-  | inr none ↦ let s = low_same mask y none ∙ e in let l = mod-lt mask (pow_pos y) in absurd (omega arith)
-]
 
 module _ (p : TruthTables) (masks needed : List ℕ) where
   -- nothing is wanted

@@ -10,16 +10,17 @@ use Rattle.std.proofs.lemmas.Nat.Bits.{bit_at_or, bit_at-pow_same, bit_at-pow_ot
 use Rattle.order_model.specs.Orders.{has}
 use Rattle.order_model.proofs.Masks.{has_members}
 use Rattle.order_model.proofs.OrderLists.{has_variables}
-use Rattle.compaction.specs.Places.{pairs}
-use Rattle.compaction.specs.Strips.{AreStrips, HoldsStrips, TellsPairs, unrolled}
-use Rattle.compaction.specs.Table.{ClassesOf, classes_of, HoldsKeys, with_variable, set_of, free_below}
-use Rattle.compaction.proofs.Extended.{free_none, free_step, rank_small}
+use Rattle.class_laws.specs.Places.{pairs}
+use Rattle.compaction.specs.Strips.{AreStrips, HoldsStrips, unrolled, HoldsKeys}
+use Rattle.compaction.specs.Keys.{TellsPairs}
+use Rattle.class_laws.specs.Table.{ClassesOf, classes_of, with_variable, set_of, free_below}
+use Rattle.class_laws.proofs.Extended.{free_none, free_step, rank_small}
 use Rattle.order_model.specs.Problems.{TruthTables, value_at}
-use Rattle.compaction.specs.Values.{values_of, number_of}
+use Rattle.class_laws.specs.Values.{values_of, number_of}
 use Rattle.compaction.proofs.Keyed.{keys_ready, free_zero, value_keys}
 use Rattle.compaction.proofs.Named.{keys_by_names, names_below, length_names}
 use Rattle.compaction.proofs.Stripped.{parts_of, below_product, low_strips, low_tells}
-use Rattle.compaction.proofs.Index.{length-pairs}
+use Rattle.class_laws.proofs.Index.{length-pairs}
 use Rattle.compaction.proofs.Unrolled.{named_of, length_unrolled, unrolled_at}
 
 -- one step of the count

@@ -5,7 +5,7 @@
 --     keys_ready      what the numbering of the pairs asks for
 --     value_keys      the keys of the values
 use Rattle.std.proofs.Common.{◌≡◌, ℕ, zero, suc, ◌+◌, ◌*◌, ◌/◌, ◌^◌, ◌<◌, ◌≤◌, Bool, true, false, not, cond, inl, inr, List, [], ◌∷◌, map, length, reverse, get_or, bit_or, nat_eq, eq-eqb, ne_eqb, refl, sym, ap, ap₂, ◌∙◌, subst, arith}
-use Rattle.std.specs.List.{filter, range_with_len}
+use Rattle.std.specs.List.{filter, range_with_len, list_any}
 use Rattle.std.proofs.lemmas.Bool.{cases_eq}
 use Rattle.std.proofs.lemmas.Nat.{pow_pos}
 use Rattle.std.proofs.lemmas.List.{length-map, get_or-map, map-id}
@@ -16,31 +16,28 @@ use Rattle.order_model.specs.Widths.{same_pair, entries, class_of, class_numbers
 use Rattle.order_model.proofs.Sets.{Among, among_from_map}
 use Rattle.order_model.proofs.Tables.{same_table_decides, depends_same}
 use Rattle.order_model.proofs.ClassPairs.{pair_decides, rank_apart, depends_by_classes}
-use Rattle.compaction.specs.Dependence.{dependence, joined_mask}
-use Rattle.compaction.specs.Numbering.{rank, ranks}
-use Rattle.compaction.specs.Places.{low_place, pair_at, pairs}
-use Rattle.std.specs.List.{list_any}
+use Rattle.class_laws.specs.Dependence.{dependence, joined_mask}
+use Rattle.class_laws.specs.Numbering.{rank, ranks}
+use Rattle.class_laws.specs.Places.{low_place, pair_at, pairs}
 use Rattle.std.proofs.lemmas.Nat.Bits.{shr_and_one, bit_at-zero}
 use Rattle.order_model.specs.Problems.{TruthTables, value_at}
-use Rattle.compaction.specs.Values.{values_of, number_of}
-use Rattle.compaction.proofs.StartClasses.{holds_start}
-use Rattle.compaction.specs.Table.{classes_of, ClassesOf, HoldsClasses, HoldsKeys, functions_of, set_of, free_below}
-use Rattle.compaction.proofs.Ranks.{ranks_alike}
-use Rattle.compaction.proofs.Index.{pair_within}
-use Rattle.compaction.proofs.DependenceMasks.{dependence_joined}
-use Rattle.compaction.proofs.Counted.{map_map, nat_decides}
-use Rattle.compaction.proofs.Compacted.{step_of, tops, length_numbers, pairs_told, pairs_of_classes, compacted, counted, class_pair_same}
-use Rattle.compaction.proofs.Extended.{step_is, class_below, few_masks, IsReady, rank_small, free_none, free_more}
+use Rattle.class_laws.specs.Values.{values_of, number_of}
+use Rattle.class_laws.proofs.StartClasses.{holds_start}
+use Rattle.class_laws.specs.Table.{classes_of, ClassesOf, HoldsClasses, functions_of, set_of, free_below}
+use Rattle.compaction.specs.Strips.{HoldsKeys}
+use Rattle.class_laws.proofs.Ranks.{ranks_alike}
+use Rattle.class_laws.proofs.Index.{pair_within}
+use Rattle.class_laws.proofs.DependenceMasks.{dependence_joined}
+use Rattle.class_laws.proofs.Lists.{map_map, map_same}
+use Rattle.class_laws.proofs.Counted.{nat_decides}
+use Rattle.class_laws.proofs.Compacted.{step_of, tops, length_numbers, pairs_told, pairs_of_classes, compacted, counted, class_pair_same}
+use Rattle.class_laws.proofs.Extended.{step_is, class_below, few_masks, IsReady, rank_small, free_none, free_more}
 
 -- ---- lists
 
 pub map_range_same : {X : Type 0} (f g : ℕ → X) (a m : ℕ) → ((i : ℕ) → a ≤ i → i < a + m → f i ≡ g i) → map f (range_with_len a m) ≡ map g (range_with_len a m)
 map_range_same f g a zero h = refl
 map_range_same f g a (suc m) h = λ i. h a (omega arith) (omega arith) i ∷ map_range_same f g (a + 1) m (λ k l u. h k (omega arith) (omega arith)) i
-
-pub map_same : {X Y : Type 0} (f g : X → Y) (xs : List X) → ((x : X) → Among x xs → f x ≡ g x) → map f xs ≡ map g xs
-map_same f g [] h = refl
-map_same f g (x ∷ xs) h = λ i. h x (inl refl) i ∷ map_same f g xs (λ y a. h y (inr a)) i
 
 range_below : (a m k : ℕ) → Among k (range_with_len a m) → (a ≤ k) × (k < a + m)
 range_below a zero k h = absurd h

@@ -13,18 +13,20 @@ use Rattle.order_model.specs.Orders.{has}
 use Rattle.order_model.specs.Widths.{same_pair}
 use Rattle.order_model.proofs.Sets.{Among}
 use Rattle.order_model.proofs.ClassPairs.{pair_decides, rank_apart}
-use Rattle.compaction.specs.Dependence.{joined_mask}
-use Rattle.compaction.specs.Numbering.{rank, ranks}
-use Rattle.compaction.specs.Places.{pairs}
-use Rattle.compaction.specs.Strips.{TellsPairs}
-use Rattle.compaction.specs.Table.{ClassesOf, HoldsKeys, with_variable, functions_of, set_of, free_below, joined_key, joined_key_mask}
-use Rattle.compaction.proofs.Ranks.{ranks_alike, rank_below}
-use Rattle.compaction.proofs.Index.{length-pairs, pair_listed}
-use Rattle.compaction.proofs.Joined.{pair_classes}
-use Rattle.compaction.proofs.Counted.{map_map, nat_decides}
-use Rattle.compaction.proofs.Compacted.{class_numbers_same}
-use Rattle.compaction.proofs.Extended.{step_is, members_more}
-use Rattle.compaction.proofs.Keyed.{map_same, outside_same, pairs_depend, more_classes}
+use Rattle.class_laws.specs.Dependence.{joined_mask}
+use Rattle.class_laws.specs.Numbering.{rank, ranks}
+use Rattle.class_laws.specs.Places.{pairs}
+use Rattle.compaction.specs.Keys.{TellsPairs, joined_key, joined_key_mask}
+use Rattle.class_laws.specs.Table.{ClassesOf, with_variable, functions_of, set_of, free_below}
+use Rattle.compaction.specs.Strips.{HoldsKeys}
+use Rattle.class_laws.proofs.Ranks.{ranks_alike, rank_below}
+use Rattle.class_laws.proofs.Index.{length-pairs, pair_listed}
+use Rattle.class_laws.proofs.Joined.{pair_classes}
+use Rattle.class_laws.proofs.Lists.{map_map, map_same}
+use Rattle.class_laws.proofs.Counted.{nat_decides}
+use Rattle.class_laws.proofs.Compacted.{class_numbers_same}
+use Rattle.class_laws.proofs.Extended.{step_is, members_more}
+use Rattle.compaction.proofs.Keyed.{outside_same, pairs_depend, more_classes}
 
 -- the place of a listed pair
 pub place_of : (qs : List (ℕ × ℕ)) (q : ℕ × ℕ) → Among q qs → (i : ℕ) × ((i < length qs) × (get_or qs i (0, 0) ≡ q))

@@ -9,11 +9,11 @@ use Rattle.std.proofs.Math.Nat.{mul-le-mul_right}
 use Rattle.std.proofs.lemmas.Map.Made.{distinct_count-le}
 use Rattle.order_model.specs.Widths.{same_pair}
 use Rattle.compaction.specs.Chains.{lower_at, upper_at}
-use Rattle.compaction.specs.Numbering.{ranks}
-use Rattle.compaction.specs.Places as places
+use Rattle.class_laws.specs.Numbering.{ranks}
+use Rattle.class_laws.specs.Places as places
 use Rattle.compaction.specs.Strips.{AreNamed, AreStrips, names_of, unrolled}
-use Rattle.compaction.proofs.DistinctPairs.{met_classes, number_below, pair_numbered}
-use Rattle.compaction.proofs.Index.{length-pairs, pair_listed}
+use Rattle.class_laws.proofs.DistinctPairs.{met_classes, number_below, pair_numbered}
+use Rattle.class_laws.proofs.Index.{length-pairs, pair_listed}
 use Rattle.compaction.proofs.Unrolled.{length_named, named_at}
 
 pub length_names_of : (pairs : List (ℕ × ℕ)) → length (names_of pairs) ≡ length pairs * 2

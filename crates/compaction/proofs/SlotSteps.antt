@@ -3,9 +3,9 @@ use Rattle.std.proofs.Common.{◌≡◌, ◌≢◌, ℕ, ◌+◌, ◌*◌, ◌<�
 use Rattle.std.proofs.Math.Nat.{min-eq_left, min-eq_right}
 use Rattle.std.proofs.lemmas.Bool.{cases_eq, cases_lt}
 use Rattle.std.proofs.lemmas.List.{get_or-set_same, get_or-set_other, length-set, length-take, take-set, take_more_set, set-get_or}
-use Rattle.compaction.specs.Chains.{IsFirst}
-use Rattle.compaction.specs.Numbering.{IsSlot, slot_number}
-use Rattle.compaction.proofs.Firsts.{Made, made_none, made_first, made_again}
+use Rattle.class_laws.specs.Numbering.{IsFirst}
+use Rattle.compaction.specs.Slots.{IsSlot, slot_number}
+use Rattle.class_laws.proofs.Firsts.{Made, made_none, made_first, made_again}
 
 module _ (ps : List (ℕ × ℕ)) (home : ℕ × ℕ → ℕ) where
   -- pair i is in a slot behind taken ones

@@ -10,13 +10,14 @@ use Rattle.std.proofs.lemmas.List.{get_or-map, length-map}
 use Rattle.order_model.specs.Widths.{same_pair}
 use Rattle.order_model.proofs.ClassPairs.{pair_decides}
 use Rattle.compaction.specs.Chains.{lower_at, upper_at}
-use Rattle.compaction.specs.Numbering.{rank, ranks}
-use Rattle.compaction.specs.Places.{low_place, pair_at, pairs}
-use Rattle.compaction.specs.Strips.{AreNamed, AreStrips, TellsPairs, unrolled}
-use Rattle.compaction.proofs.Index.{length-pairs, pair_listed, pair_within}
-use Rattle.compaction.proofs.Joined.{number_at, length-ranks}
+use Rattle.class_laws.specs.Numbering.{rank, ranks}
+use Rattle.class_laws.specs.Places.{low_place, pair_at, pairs}
+use Rattle.compaction.specs.Strips.{AreNamed, AreStrips, unrolled}
+use Rattle.compaction.specs.Keys.{TellsPairs}
+use Rattle.class_laws.proofs.Index.{length-pairs, pair_listed, pair_within}
+use Rattle.class_laws.proofs.Joined.{number_at, length-ranks}
 use Rattle.compaction.proofs.Named.{names_among, length_names, place_of, among_place}
-use Rattle.compaction.proofs.Ranks.{rank_below, rank_reached}
+use Rattle.class_laws.proofs.Ranks.{rank_below, rank_reached}
 use Rattle.compaction.proofs.Unrolled.{named_of, named_inside, length_named, named_at, same_by_places, length_unrolled, unrolled_at}
 
 -- ---- places

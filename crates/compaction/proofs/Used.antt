@@ -24,18 +24,20 @@ use Rattle.order_model.proofs.ClassPairs.{count_alike, pair_decides, rank_apart}
 use Rattle.order_model.proofs.Recurrence.{distinct_filter, distinct_variables}
 use Rattle.order_model.proofs.Sets.{Among, Within, among_filter, among_from_filter, among_from_member, among_map, member_from_among, count_same}
 use Rattle.order_model.proofs.Tables.{same_table_decides}
-use Rattle.compaction.specs.Dependence.{AreMasks, dependence}
-use Rattle.compaction.specs.Numbering.{rank, ranks}
+use Rattle.class_laws.specs.Dependence.{AreMasks, dependence}
+use Rattle.class_laws.specs.Numbering.{rank, ranks}
 use Rattle.compaction.specs.Rows.{width_wanted}
-use Rattle.compaction.specs.Strips.{AreStrips, AreUsed, HoldsStrips, masks_in_use, unrolled}
-use Rattle.compaction.specs.Table.{ClassesOf, functions_of, set_of, free_below}
-use Rattle.compaction.proofs.Compacted.{range_parts, filter_range_same}
-use Rattle.compaction.proofs.Counted.{among_variables, distinct_by_numbers, length_filter_map, map_map, nat_decides, width_is_dependent_classes}
-use Rattle.compaction.proofs.Extended.{length_filter-le}
-use Rattle.compaction.proofs.Keyed.{among_at, map_same}
+use Rattle.compaction.specs.Strips.{AreStrips, HoldsStrips, masks_in_use, unrolled}
+use Rattle.compaction.specs.Keys.{AreUsed}
+use Rattle.class_laws.specs.Table.{ClassesOf, functions_of, set_of, free_below}
+use Rattle.class_laws.proofs.Compacted.{range_parts, filter_range_same}
+use Rattle.class_laws.proofs.Counted.{among_variables, distinct_by_numbers, length_filter_map, nat_decides, width_is_dependent_classes}
+use Rattle.class_laws.proofs.Lists.{map_map, map_same}
+use Rattle.class_laws.proofs.Extended.{length_filter-le}
+use Rattle.compaction.proofs.Keyed.{among_at}
 use Rattle.compaction.proofs.Stripped.{parts_of, below_product}
 use Rattle.compaction.proofs.Unrolled.{length_unrolled, unrolled_at}
-use Rattle.compaction.proofs.Ranks.{rank_below, rank_reached}
+use Rattle.class_laws.proofs.Ranks.{rank_below, rank_reached}
 
 -- one more mask, where the number occurs or not
 pub in_use_more : {X : Type 0} (f : ℕ → X) (p : ℕ → Bool) (k : ℕ) → map f (filter p (range_with_len 0 (k + 1))) ≡ map f (filter p (range_with_len 0 k)) ++ cond (p k) (f k ∷ []) []

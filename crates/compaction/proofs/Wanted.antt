@@ -13,7 +13,7 @@ use Rattle.order_model.proofs.OrderLists.{has_at}
 use Rattle.subset_layers.specs.Layers.{BlockOf, block_masks}
 use Rattle.subset_layers.proofs.BlockLists.{in_block}
 use Rattle.compaction.specs.Rows.{AreMembers, wanted_count}
-use Rattle.compaction.proofs.Sets.{bit_set}
+use Rattle.class_laws.proofs.LowSets.{bit_set}
 
 -- a bit of a mask stands for a member
 pub bit_member : (n mask x : ℕ) → mask < 2 ^ n → bit_at mask x ≡ 1 → has (members n mask) x ≡ true

@@ -6,7 +6,7 @@ use Rattle.std.specs.Prelude.{◌≡◌, ℕ, ◌+◌, ◌*◌, ◌<◌, ◌≤�
 use Rattle.std.specs.Int.{bit_at}
 use Rattle.std.specs.List.{range_with_len}
 use Rattle.order_model.specs.Problems.{packed_bit}
-use Rattle.compaction.specs.Values.{number_of}
+use Rattle.class_laws.specs.Values.{number_of}
 
 -- chains go from later runs to earlier ones
 pub record AreChained (kept next heads : List ℕ) : Type 0 where

@@ -1,9 +1,7 @@
-pub mod Numbering
-pub mod Places
-pub mod Dependence
+pub mod Slots
 pub mod Chains
-pub mod Table
-pub mod Values
-pub mod Rows
-pub mod Strips
+pub mod Keys
+pub mod Scratch
 pub mod Columns
+pub mod Strips
+pub mod Rows

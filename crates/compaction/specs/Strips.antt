@@ -3,19 +3,22 @@
 --     names_of pairs      the names in pairs of strips, one behind the other
 --     low_variables p      how many variables run inside a strip of the empty set
 --     AreNamed, AreStrips      each strip is whole; each is used, too
---     TellsPairs      numbers by which pairs are told apart, and the mask of each
 --     masks_in_use numbers masks      the masks of the numbers that occur, rising
---     AreUsed numbers masks      each mask is that of a number that occurs
+--     HoldsKeys t keys masks      the numbers tell the set's subfunctions apart, in any order; the masks are what the function with each number depends on
 --     HoldsStrips t low outer numbers masks      the unrolled table holds the keys of t; `low` parts the variables
 --     AreDistinct t count      all subfunctions are distinct and depend on the whole set
 --     HoldsTable      either of them
 --     HoldsBytes t low outer bytes rows masks      strips whose entries stand in rows, which bytes name: a row has an entry for each assignment of the variables below 3 outside the set
-use Rattle.std.specs.Prelude.{◌≡◌, ℕ, ◌*◌, ◌^◌, ◌<◌, ◌≤◌, Bool, IsTrue, min, List, [], ◌∷◌, Option, None, Some, map, take, drop, length, get_or}
+use Rattle.std.specs.Prelude.{◌≡◌, ℕ, ◌*◌, ◌^◌, ◌<◌, ◌≤◌, Bool, IsTrue, min, List, [], ◌∷◌, Option, None, Some, map, take, drop, length, reverse, get_or, nat_eq}
 use Rattle.std.specs.List.{filter, flat_map, range_with_len}
 use Rattle.order_model.specs.Orders.{has, variables}
 use Rattle.order_model.specs.Problems.{TruthTables}
-use Rattle.compaction.specs.Dependence.{joined_mask}
-use Rattle.compaction.specs.Table.{ClassesOf, HoldsKeys, free_below}
+use Rattle.order_model.specs.Levels.{reach}
+use Rattle.order_model.specs.Widths.{class_numbers, outside}
+use Rattle.class_laws.specs.Numbering.{ranks}
+use Rattle.class_laws.specs.Dependence.{dependence}
+use Rattle.class_laws.specs.Table.{ClassesOf, functions_of, set_of, free_below}
+use Rattle.compaction.specs.Keys.{AreUsed}
 
 -- how many variables run inside a strip of the empty set
 abbrev pub low_variables : TruthTables → ℕ
@@ -46,22 +49,18 @@ pub record AreStrips (outer numbers : List ℕ) (len : ℕ) : Type 0 where
   pub within : (i : ℕ) → i < length outer → get_or outer i 0 < count
   pub used : (k : ℕ) → k < count → (i : ℕ) × ((i < length outer) × (get_or outer i 0 ≡ k))
 
--- the numbers are names of the pairs, equal for equal pairs alone, and `joined` has the mask of each name
-pub record TellsPairs (masks : List ℕ) (x : ℕ) (ps : List (ℕ × ℕ)) (numbers joined : List ℕ) : Type 0 where
-  pub name : ℕ × ℕ → ℕ
-  pub numbers_are : numbers ≡ map name ps
-  pub apart : (i j : ℕ) → i < length ps → j < length ps → name (get_or ps i (0, 0)) ≡ name (get_or ps j (0, 0)) → get_or ps i (0, 0) ≡ get_or ps j (0, 0)
-  pub below : (i : ℕ) → i < length ps → name (get_or ps i (0, 0)) < length joined
-  pub told : (i : ℕ) → i < length ps → get_or joined (name (get_or ps i (0, 0))) 0 ≡ joined_mask masks x (get_or ps i (0, 0))
-  pub few : length joined ≤ 2 ^ 20
-
 -- the masks of the numbers that occur
 unfoldable pub masks_in_use : List ℕ → List ℕ → List ℕ
 masks_in_use numbers masks = map (λ k. get_or masks k 0) (filter (has numbers) (variables (length masks)))
 
--- each mask is that of a number that occurs
-abbrev pub AreUsed : List ℕ → List ℕ → Type 0
-AreUsed numbers masks = (k : ℕ) → k < length masks → IsTrue (has numbers k)
+-- numbers by which the subfunctions of the set are told apart, and what the function with each number depends on
+pub record HoldsKeys (t : ClassesOf) (keys masks : List ℕ) : Type 0 where
+  pub few_inputs : t.problem.inputs ≤ 16
+  pub few : length keys ≤ 2 ^ 20
+  pub few_masks : length masks ≤ 2 ^ 20
+  pub below : (i : ℕ) → i < length keys → get_or keys i 0 < length masks
+  pub classes : class_numbers t.problem.inputs (functions_of t) (set_of t) ≡ ranks nat_eq keys
+  pub told : map (λ k. get_or masks k 0) keys ≡ map (dependence t.problem.inputs) (reach (functions_of t) (reverse (outside t.problem.inputs (set_of t))))
 
 -- a strip has an entry for each assignment of the variables below `low` outside the set
 pub record HoldsStrips (t : ClassesOf) (low : ℕ) (outer numbers masks : List ℕ) : Type 0 where

@@ -1,8 +1,9 @@
 //! One more variable in tables of keys: pairs told apart, and strips of pairs.
 
 ghost use Rattle.std.specs.Prelude.{◌≡◌, ℕ, ◌+◌, ◌*◌, ◌^◌, ◌<◌, ◌≤◌, length, slice_index, IfOk, IsTrue};
-ghost use Rattle.compaction.specs.Places as places;
-ghost use Rattle.compaction.specs.Strips.{AreNamed, AreStrips, AreUsed, TellsPairs, names_of, unrolled};
+ghost use Rattle.class_laws.specs.Places as places;
+ghost use Rattle.compaction.specs.Strips.{AreNamed, AreStrips, names_of, unrolled};
+ghost use Rattle.compaction.specs.Keys.{AreUsed, TellsPairs};
 
 use crate::keys::{MOST_JOINED, join_key_masks, join_keys};
 use crate::numbering::{number_pairs, number_pairs_with_masks};

@@ -26,7 +26,7 @@ pub struct ByteKeys<'a> {
 }
 
 impl<'a> Model for ByteKeys<'a> {
-    ghost use Rattle.compaction.specs.Table.{ClassesOf, classes_of};
+    ghost use Rattle.class_laws.specs.Table.{ClassesOf, classes_of};
     ghost use Rattle.compaction.specs.Strips.{HoldsBytes};
 
     ghost Value = { ClassesOf };
@@ -77,7 +77,7 @@ fn unroll(
 }
 
 impl<'a> ByteKeys<'a> {
-    ghost use Rattle.compaction.specs.Table.{set_of, with_variable, classes_of};
+    ghost use Rattle.class_laws.specs.Table.{set_of, with_variable, classes_of};
 
     /// The keys of the empty set: the values.
     pub fn of_problem(alloc: Global, problem: &'a Problem) -> Result<ByteKeys<'a>, AllocError>

@@ -5,7 +5,8 @@ ghost use Rattle.std.specs.Int.{bit_at};
 ghost use Rattle.std.specs.List.{filter};
 ghost use Rattle.order_model.specs.Orders.{has, without};
 ghost use Rattle.order_model.specs.Widths.{class_numbers, width as width_over};
-ghost use Rattle.compaction.specs.Table.{free_below, most_entries};
+ghost use Rattle.class_laws.specs.Table.{free_below};
+ghost use Rattle.compaction.specs.Scratch.{most_entries};
 
 use crate::masks::join_masks;
 use crate::numbering::number_pairs_with_masks;
@@ -28,7 +29,7 @@ pub struct Classes<'a> {
 }
 
 impl<'a> Model for Classes<'a> {
-    ghost use Rattle.compaction.specs.Table.{ClassesOf, HoldsClasses, classes_of};
+    ghost use Rattle.class_laws.specs.Table.{ClassesOf, HoldsClasses, classes_of};
 
     ghost Value = { ClassesOf };
 
@@ -81,7 +82,7 @@ pub(crate) fn row_of(masks: &[u16], wanted: Mask) -> [u32; 16]
 }
 
 impl<'a> Classes<'a> {
-    ghost use Rattle.compaction.specs.Table.{set_of, functions_of, with_variable, classes_of};
+    ghost use Rattle.class_laws.specs.Table.{set_of, functions_of, with_variable, classes_of};
 
     /// The classes of the empty set.
     pub fn of_problem(alloc: Global, problem: &'a Problem) -> Result<Classes<'a>, AllocError>

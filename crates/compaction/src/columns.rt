@@ -5,7 +5,7 @@ ghost use Rattle.std.specs.Int.{bit_at};
 ghost use Rattle.order_model.specs.Problems.{value_at, outputs_of, packed_bit};
 ghost use Rattle.compaction.specs.Columns.{AreChained, KeepsRuns, low_numbers, packed_numbers};
 ghost use Rattle.compaction.specs.Strips.{AreNamed, AreStrips, strip, unrolled};
-ghost use Rattle.compaction.specs.Values.{values_of, number_of as number};
+ghost use Rattle.class_laws.specs.Values.{values_of, number_of as number};
 
 use crate::start::value_numbers;
 use order_model::Problem;

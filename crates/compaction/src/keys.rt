@@ -3,8 +3,8 @@
 
 ghost use Rattle.std.specs.Prelude.{◌≡◌, ℕ, ◌+◌, ◌*◌, ◌/◌, ◌^◌, ◌<◌, ◌≤◌, map, length, slice_index, IfOk};
 ghost use Rattle.std.specs.List.{range_with_len};
-ghost use Rattle.compaction.specs.Places as places;
-ghost use Rattle.compaction.specs.Table.{joined_key, joined_key_mask};
+ghost use Rattle.class_laws.specs.Places as places;
+ghost use Rattle.compaction.specs.Keys.{joined_key, joined_key_mask};
 
 use crate::masks::join_mask;
 use std::alloc::{AllocError, Global};

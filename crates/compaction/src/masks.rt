@@ -1,7 +1,7 @@
 //! What the functions of a class depend on, as a mask for each class.
 
 ghost use Rattle.std.specs.Prelude.{◌≡◌, ℕ, ◌<◌, map, get_or, length, IfOk};
-ghost use Rattle.compaction.specs.Dependence.{joined_mask};
+ghost use Rattle.class_laws.specs.Dependence.{joined_mask};
 
 use std::alloc::{AllocError, Global};
 

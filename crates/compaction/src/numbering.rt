@@ -3,9 +3,9 @@
 ghost use Rattle.std.specs.Prelude.{◌≡◌, ℕ, ◌*◌, ◌^◌, ◌<◌, ◌≤◌, map, get_or, length, slice_index, IfOk};
 ghost use Rattle.std.specs.Set.{distinct_count};
 ghost use Rattle.order_model.specs.Widths.{same_pair};
-ghost use Rattle.compaction.specs.Dependence.{joined_mask};
-ghost use Rattle.compaction.specs.Numbering.{ranks};
-ghost use Rattle.compaction.specs.Places as places;
+ghost use Rattle.class_laws.specs.Dependence.{joined_mask};
+ghost use Rattle.class_laws.specs.Numbering.{ranks};
+ghost use Rattle.class_laws.specs.Places as places;
 
 use crate::cells::number_pairs_by_cells;
 use crate::chains::number_pairs_by_chains;

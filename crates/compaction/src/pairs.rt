@@ -3,8 +3,8 @@
 ghost use Rattle.std.specs.Prelude.{◌≡◌, ℕ, ◌+◌, ◌*◌, ◌/◌, ◌^◌, ◌<◌, map, get_or, length, IfOk};
 ghost use Rattle.std.specs.Set.{distinct_count};
 ghost use Rattle.order_model.specs.Widths.{same_pair};
-ghost use Rattle.compaction.specs.Numbering.{ranks};
-ghost use Rattle.compaction.specs.Places as places;
+ghost use Rattle.class_laws.specs.Numbering.{ranks};
+ghost use Rattle.class_laws.specs.Places as places;
 
 use indexmap::IndexSet;
 use std::alloc::{AllocError, Global};

@@ -1,10 +1,9 @@
 //! Widths that take no memory: by chains and marks in rows that are lent.
 
 ghost use Rattle.std.specs.Prelude.{◌≡◌, ◌==◌, ℕ, ◌+◌, ◌*◌, ◌/◌, ◌^◌, ◌<◌, ◌≤◌, length, slice_index, IfOk};
-ghost use Rattle.compaction.specs.Chains.{IsFirst, pair_of};
-ghost use Rattle.compaction.specs.Dependence.{CountsMasks};
-ghost use Rattle.compaction.specs.Places as places;
-ghost use Rattle.compaction.specs.Table.{most_entries};
+ghost use Rattle.class_laws.specs.Numbering.{IsFirst};
+ghost use Rattle.compaction.specs.Scratch.{CountsMasks, most_entries};
+ghost use Rattle.class_laws.specs.Places as places;
 
 use crate::chains::{chain, find_firsts};
 use crate::masks::join_mask;
@@ -25,7 +24,7 @@ pub struct Scratch {
 
 impl Model for Scratch {
     ghost use Rattle.std.specs.Prelude.{ℕ, length};
-    ghost use Rattle.compaction.specs.Table.{AreLong};
+    ghost use Rattle.compaction.specs.Scratch.{AreLong};
 
     ghost Value = { ℕ };
 
@@ -131,7 +130,7 @@ fn count_firsts(numbers: &[u32], rank: u32, x: u8, masks: &[u16], first: &[u32])
     requires whole { (blocks : ℕ) × (length numbers.now ≡ blocks * (2 * 2 ^ rank)) }
     requires classes { (i : ℕ) → i < length numbers.now → slice_index numbers.now i < length masks.now }
     requires long { length first.now ≡ length numbers.now / 2 }
-    requires first { (j : ℕ) → j < length numbers.now / 2 → IsFirst (pair_of numbers.now (2 ^ rank)) j (slice_index first.now j) }
+    requires first { (j : ℕ) → j < length numbers.now / 2 → IsFirst (places.pair_at numbers.now (2 ^ rank)) j (slice_index first.now j) }
     ensures { CountsMasks masks.now x (places.pairs numbers.now (2 ^ rank)) result }
 {
     let mut count = 0;

@@ -3,8 +3,9 @@
 ghost use Rattle.std.specs.Prelude.{◌≡◌, ℕ, ◌+◌, ◌*◌, ◌^◌, ◌<◌, ◌≤◌, map, get_or, length, IfOk, IfSome};
 ghost use Rattle.std.specs.Set.{distinct_count};
 ghost use Rattle.order_model.specs.Widths.{same_pair};
-ghost use Rattle.compaction.specs.Numbering.{IsSlot, home_of, ranks};
-ghost use Rattle.compaction.specs.Places as places;
+ghost use Rattle.compaction.specs.Slots.{IsSlot, home_of};
+ghost use Rattle.class_laws.specs.Numbering.{ranks};
+ghost use Rattle.class_laws.specs.Places as places;
 
 use crate::pairs::{NumberedPairs, pair_at};
 use std::alloc::{AllocError, Global};

@@ -3,7 +3,7 @@
 ghost use Rattle.std.specs.Prelude.{◌≡◌, ℕ, ◌+◌, ◌*◌, ◌<◌, ◌≤◌, ◌++◌, map, length, get_or, IfOk, OnOk, nat_eq};
 ghost use Rattle.std.specs.List.{list_any};
 ghost use Rattle.order_model.specs.Problems.{value_at, outputs_of, table_in, words_per_table};
-ghost use Rattle.compaction.specs.Values.{row, values_of, number_of as number, class_count};
+ghost use Rattle.class_laws.specs.Values.{row, values_of, number_of as number, class_count};
 
 use order_model::Problem;
 use order_model::packed::bit_of;

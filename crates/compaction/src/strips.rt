@@ -4,7 +4,8 @@
 ghost use Rattle.std.specs.Prelude.{◌≡◌, ℕ, ◌<◌, ◌≤◌, length, slice_index, get_or, cond, ◌==◌, false, IfOk, IsFalse, IsTrue};
 ghost use Rattle.std.specs.Int.{bit_at};
 ghost use Rattle.order_model.specs.Orders.{has};
-ghost use Rattle.compaction.specs.Strips.{AreUsed, masks_in_use, low_variables as low_of};
+ghost use Rattle.compaction.specs.Keys.{AreUsed};
+ghost use Rattle.compaction.specs.Strips.{masks_in_use, low_variables as low_of};
 
 use crate::add_variable::{add_above, count_up, tell_pairs};
 use crate::classes::{rank_of, row_of};
@@ -29,7 +30,7 @@ pub struct Strips<'a> {
 }
 
 impl<'a> Model for Strips<'a> {
-    ghost use Rattle.compaction.specs.Table.{ClassesOf, classes_of};
+    ghost use Rattle.class_laws.specs.Table.{ClassesOf, classes_of};
     ghost use Rattle.compaction.specs.Strips.{HoldsTable, low_variables};
 
     ghost Value = { ClassesOf };
@@ -112,7 +113,7 @@ fn same_row(width: u32, wanted: Mask) -> [u32; 16]
 impl<'a> Strips<'a> {
     ghost use Rattle.compaction.specs.Rows.{IsRow};
     ghost use Rattle.compaction.specs.Strips.{AreDistinct, HoldsStrips, low_variables};
-    ghost use Rattle.compaction.specs.Table.{set_of, with_variable, classes_of};
+    ghost use Rattle.class_laws.specs.Table.{set_of, with_variable, classes_of};
 
     /// A table of strips, or the count alone where all subfunctions are distinct and depend on the whole set.
     pub fn of_parts(

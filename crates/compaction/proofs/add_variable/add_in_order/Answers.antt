@@ -1,8 +1,8 @@
 use Rattle.std.proofs.Common.{◌+◌, ◌*◌, ◌^◌, sym, ap, ◌∙◌, subst, arith}
 use Rattle.std.proofs.lemmas.Nat.{pow_pos, pow-add}
-use Rattle.compaction.specs.Places as places
-use Rattle.compaction.specs.Strips.{TellsPairs}
-use Rattle.compaction.proofs.Index.{length-pairs}
+use Rattle.class_laws.specs.Places as places
+use Rattle.compaction.specs.Keys.{TellsPairs}
+use Rattle.class_laws.proofs.Index.{length-pairs}
 use Rattle.compaction.proofs.Named.{names_below, length_names}
 use Rattle.compaction.proofs.Ordered.{ordered_strips, ordered_tells, ordered_whole}
 use Rattle.compaction.proofs.add_variable.add_in_order.Goals as goal

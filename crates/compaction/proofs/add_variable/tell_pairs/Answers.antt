@@ -1,6 +1,6 @@
 use Rattle.std.proofs.Common.{◌^◌, arith}
-use Rattle.compaction.specs.Places as places
-use Rattle.compaction.proofs.Index.{length-pairs}
+use Rattle.class_laws.specs.Places as places
+use Rattle.class_laws.proofs.Index.{length-pairs}
 use Rattle.compaction.proofs.Named.{names_joined, names_numbered}
 use Rattle.compaction.proofs.Used.{ranks_used}
 use Rattle.compaction.proofs.add_variable.tell_pairs.Goals as goal

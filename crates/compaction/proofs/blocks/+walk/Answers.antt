@@ -4,9 +4,10 @@ use Rattle.order_model.proofs.OrderLists.{has_at}
 use Rattle.subset_layers.specs.Layers.{block_masks}
 use Rattle.subset_layers.proofs.BlockLists.{in_block}
 use Rattle.compaction.specs.Strips.{low_variables}
-use Rattle.compaction.specs.Table.{ClassesOf}
+use Rattle.class_laws.specs.Table.{ClassesOf}
 use Rattle.compaction.specs.Rows.{AreFilled, AreBlank, AreMembers}
-use Rattle.compaction.proofs.Filled.{filled_own, filled_lower, filled_both, blank_kept, few_compactions, fewer_compactions, set_new, low_or, next_small}
+use Rattle.compaction.proofs.Filled.{filled_own, filled_lower, filled_both, blank_kept, few_compactions, fewer_compactions}
+use Rattle.class_laws.proofs.LowSets.{set_new, low_or, next_small}
 use Rattle.compaction.proofs.blocks.+walk.Goals as goal
 
 pub returns-then-y-inputs-clause-rows : goal.returns-then-y-inputs-clause-rows

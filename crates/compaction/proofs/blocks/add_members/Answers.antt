@@ -2,8 +2,8 @@ use Rattle.std.proofs.Common.{◌≡◌, ◌%◌, ◌^◌, ap, ◌∙◌, arith}
 use Rattle.std.proofs.Math.Nat.{mod-eq_of_lt}
 use Rattle.order_model.specs.Orders.{has}
 use Rattle.compaction.specs.Strips.{low_variables}
-use Rattle.compaction.specs.Table.{ClassesOf, classes_of, set_of, with_variable}
-use Rattle.compaction.proofs.Sets.{low_more, low_same, low_new}
+use Rattle.class_laws.specs.Table.{ClassesOf, classes_of, set_of, with_variable}
+use Rattle.class_laws.proofs.LowSets.{low_more, low_same, low_new}
 use Rattle.compaction.proofs.blocks.add_members.Goals as goal
 use Rattle.compaction.proofs.blocks.add_members.Goals.{then-low-y-eq1+in_ok-strips, else-low-y-eq1}
 

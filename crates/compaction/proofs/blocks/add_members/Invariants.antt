@@ -1,5 +1,5 @@
 use Rattle.std.proofs.Common.{◌≡◌, ◌%◌, ◌^◌}
-use Rattle.compaction.specs.Table.{classes_of}
+use Rattle.class_laws.specs.Table.{classes_of}
 use Rattle.compaction.proofs.blocks.add_members.Given as goal
 
 abbrev pub invariant-loop-y : goal.invariant-loop-y

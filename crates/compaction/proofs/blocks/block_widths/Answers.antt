@@ -2,7 +2,7 @@ use Rattle.std.proofs.Common.{◌≡◌, ◌<◌, ◌^◌, [], ℕ, List, length
 use Rattle.order_model.proofs.OrderLists.{has_at}
 use Rattle.subset_layers.specs.Layers.{block_masks}
 use Rattle.subset_layers.proofs.BlockLists.{in_block}
-use Rattle.compaction.specs.Table.{ClassesOf}
+use Rattle.class_laws.specs.Table.{ClassesOf}
 use Rattle.compaction.specs.Rows.{AreRows, AreFilled}
 use Rattle.compaction.proofs.Filled.{agree_low, rows_back, blank_row}
 use Rattle.compaction.proofs.blocks.block_widths.Goals as goal

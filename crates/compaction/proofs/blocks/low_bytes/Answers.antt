@@ -1,7 +1,7 @@
 use Rattle.std.proofs.Common.{ap, ◌∙◌}
 use Rattle.order_model.specs.Orders.{has}
-use Rattle.compaction.specs.Table.{ClassesOf, classes_of, set_of, with_variable}
-use Rattle.compaction.proofs.Sets.{low_more, low_same, low_new}
+use Rattle.class_laws.specs.Table.{ClassesOf, classes_of, set_of, with_variable}
+use Rattle.class_laws.proofs.LowSets.{low_more, low_same, low_new}
 use Rattle.compaction.proofs.blocks.low_bytes.Goals as goal
 use Rattle.compaction.proofs.blocks.low_bytes.Goals.{then-low-y-eq1+in_ok-keys-2, else-low-y-eq1}
 

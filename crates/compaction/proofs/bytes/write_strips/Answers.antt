@@ -1,7 +1,7 @@
 use Rattle.std.proofs.Common.{◌≡◌, ◌+◌, ◌*◌, ◌++◌, ◌∷◌, [], get_or, set, take, length, sym, ap, subst, ◌∙◌, arith}
 use Rattle.std.proofs.lemmas.List.{take_more, take_more_set, take_all, length-set}
 use Rattle.compaction.specs.Strips.{unrolled}
-use Rattle.compaction.proofs.BlockPlaces.{block_next}
+use Rattle.class_laws.proofs.BlockPlaces.{block_next}
 use Rattle.compaction.proofs.Stripped.{below_product}
 use Rattle.compaction.proofs.Unrolled.{length_named, named_at}
 use Rattle.compaction.proofs.bytes.write_strips.Goals as goal

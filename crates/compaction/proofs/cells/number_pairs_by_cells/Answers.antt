@@ -1,11 +1,11 @@
 use Rattle.std.proofs.Common.{◌≡◌, ℕ, ◌+◌, ◌-◌, ◌*◌, ◌%◌, ◌^◌, ◌<◌, get_or, set, length, map, take, sym, ap, subst, ◌∙◌, arith, Vec, Global}
 use Rattle.std.proofs.lemmas.Nat.{one_shl}
 use Rattle.std.proofs.lemmas.List.{length-set}
-use Rattle.compaction.specs.Dependence.{joined_mask}
-use Rattle.compaction.specs.Places as places
-use Rattle.compaction.proofs.Index.{length-pairs}
-use Rattle.compaction.proofs.BlockPlaces.{block_inside, block_all, block_next, coded_classes, coded_pair, listed_classes}
-use Rattle.compaction.proofs.Firsts.{made_numbers, made_many, made_told}
+use Rattle.class_laws.specs.Dependence.{joined_mask}
+use Rattle.class_laws.specs.Places as places
+use Rattle.class_laws.proofs.Index.{length-pairs}
+use Rattle.class_laws.proofs.BlockPlaces.{block_inside, block_all, block_next, coded_classes, coded_pair, listed_classes}
+use Rattle.class_laws.proofs.Firsts.{made_numbers, made_many, made_told}
 use Rattle.compaction.proofs.CellSteps.{Below, Celled, celled_none, celled_old, fronted_new, fronted_old, cell_within}
 use Rattle.compaction.proofs.cells.number_pairs_by_cells.Goals as goal
 use Rattle.compaction.proofs.cells.number_pairs_by_cells.Goals.{then-next-eq0, else-next-eq0, then-next-eq0-2, else-next-eq0-2, then-next-eq0-3, else-next-eq0-3, then-count-block+else-loop-i-test, else-count-block+else-loop-i-else-count-block-test}

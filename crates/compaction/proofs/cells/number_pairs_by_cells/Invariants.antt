@@ -1,6 +1,6 @@
 use Rattle.std.proofs.Common.{◌≡◌, ◌+◌, ◌*◌, ◌≤◌, ◌/◌, ◌^◌, length, take}
-use Rattle.compaction.specs.Dependence.{joined_mask}
-use Rattle.compaction.specs.Places as places
+use Rattle.class_laws.specs.Dependence.{joined_mask}
+use Rattle.class_laws.specs.Places as places
 use Rattle.compaction.proofs.CellSteps.{Celled}
 use Rattle.compaction.proofs.cells.number_pairs_by_cells.Given as goal
 

@@ -2,7 +2,7 @@ use Rattle.std.proofs.Common.{ℕ, ◌+◌, eqb, cond, List, length, sym, ap, �
 use Rattle.std.specs.Int.{bit_at}
 use Rattle.std.specs.List.{filter}
 use Rattle.std.proofs.lemmas.Nat.Bits.{shr_and_one}
-use Rattle.compaction.proofs.Sets.{IsRowBelow, row_written, row_kept}
+use Rattle.compaction.proofs.RowSteps.{IsRowBelow, row_written, row_kept}
 use Rattle.compaction.proofs.classes.row_of.Goals as goal
 use Rattle.compaction.proofs.classes.row_of.Goals.{then-wanted-x-eq1, else-wanted-x-eq1}
 

@@ -1,7 +1,7 @@
 use Rattle.std.proofs.Common.{eqb, cond, length}
 use Rattle.std.specs.Int.{bit_at}
 use Rattle.std.specs.List.{filter}
-use Rattle.compaction.proofs.Sets.{IsRowBelow}
+use Rattle.compaction.proofs.RowSteps.{IsRowBelow}
 use Rattle.compaction.proofs.classes.row_of.Given as goal
 
 abbrev pub invariant-loop-x : goal.invariant-loop-x

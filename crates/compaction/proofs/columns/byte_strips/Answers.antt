@@ -2,9 +2,9 @@ use Rattle.std.proofs.Common.{◌≡◌, ◌*◌, length, sym, ap, ◌∙◌, ar
 use Rattle.order_model.specs.Problems.{value_at}
 use Rattle.compaction.specs.Columns.{low_numbers, packed_numbers}
 use Rattle.compaction.specs.Strips.{unrolled}
-use Rattle.compaction.specs.Values.{values_of}
+use Rattle.class_laws.specs.Values.{values_of}
 use Rattle.compaction.proofs.Expanded.{length_packed}
-use Rattle.compaction.proofs.StartClasses.{length_values}
+use Rattle.class_laws.proofs.StartClasses.{length_values}
 use Rattle.compaction.proofs.KeptRuns.{kept_strips, kept_values}
 use Rattle.compaction.proofs.columns.byte_strips.Goals as goal
 

@@ -1,10 +1,10 @@
 use Rattle.std.proofs.Common.{◌≡◌, ◌+◌, ◌^◌, get_or, set, take, map, length, sym, ap, subst, ◌∙◌, arith}
 use Rattle.std.proofs.lemmas.List.{take_more_set, take_all, length-set, length-take}
-use Rattle.compaction.specs.Dependence.{joined_mask}
-use Rattle.compaction.specs.Places as places
-use Rattle.compaction.proofs.Apart.{distinct_first}
-use Rattle.compaction.proofs.Index.{length-pairs, pair_listed}
-use Rattle.compaction.proofs.Firsts.{Made, made_none, made_first, made_numbers, made_many, made_told}
+use Rattle.class_laws.specs.Dependence.{joined_mask}
+use Rattle.class_laws.specs.Places as places
+use Rattle.class_laws.proofs.Apart.{distinct_first}
+use Rattle.class_laws.proofs.Index.{length-pairs, pair_listed}
+use Rattle.class_laws.proofs.Firsts.{Made, made_none, made_first, made_numbers, made_many, made_told}
 use Rattle.compaction.proofs.distinct.number_distinct_pairs.Goals as goal
 
 pub loop-j-init : goal.loop-j-init

@@ -1,10 +1,10 @@
 use Rattle.std.proofs.Common.{◌≡◌, ◌+◌, ◌*◌, ◌/◌, ◌%◌, ◌^◌, ◌<◌, get_or, set, take, map, length, sym, ap, subst, ◌∙◌, arith}
 use Rattle.std.proofs.lemmas.Nat.{one_shl}
 use Rattle.std.proofs.lemmas.List.{take_more_set, take_all, length-set}
-use Rattle.compaction.specs.Places as places
-use Rattle.compaction.specs.Table.{joined_key}
-use Rattle.compaction.proofs.Index.{done_more, length-pairs, pair_listed}
-use Rattle.compaction.proofs.BlockPlaces.{block_inside, block_all, block_next, coded_pair}
+use Rattle.class_laws.specs.Places as places
+use Rattle.compaction.specs.Keys.{joined_key}
+use Rattle.class_laws.proofs.Index.{done_more, length-pairs, pair_listed}
+use Rattle.class_laws.proofs.BlockPlaces.{block_inside, block_all, block_next, coded_pair}
 use Rattle.compaction.proofs.keys.join_blocks.Goals as goal
 
 pub loop-i-init : goal.loop-i-init

@@ -1,6 +1,6 @@
 use Rattle.std.proofs.Common.{◌≡◌, ◌+◌, ◌*◌, ◌/◌, ◌^◌, map, take, length}
-use Rattle.compaction.specs.Places as places
-use Rattle.compaction.specs.Table.{joined_key}
+use Rattle.class_laws.specs.Places as places
+use Rattle.compaction.specs.Keys.{joined_key}
 use Rattle.compaction.proofs.keys.join_blocks.Given as goal
 
 abbrev pub invariant-loop-block : goal.invariant-loop-block

@@ -1,6 +1,6 @@
 use Rattle.std.proofs.Common.{◌∷◌, ◌++◌, [], sym, ◌∙◌, arith}
 use Rattle.std.proofs.lemmas.List.FromFn.{map-range_with_len_more}
-use Rattle.compaction.specs.Table.{joined_key_mask}
+use Rattle.compaction.specs.Keys.{joined_key_mask}
 use Rattle.compaction.proofs.keys.join_key_masks.Goals as goal
 
 pub loop-key-preserved : goal.loop-key-preserved

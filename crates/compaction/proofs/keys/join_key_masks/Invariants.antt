@@ -1,6 +1,6 @@
 use Rattle.std.proofs.Common.{◌≡◌, map}
 use Rattle.std.specs.List.{range_with_len}
-use Rattle.compaction.specs.Table.{joined_key_mask}
+use Rattle.compaction.specs.Keys.{joined_key_mask}
 use Rattle.compaction.proofs.keys.join_key_masks.Given as goal
 
 abbrev pub invariant-loop-key : goal.invariant-loop-key

@@ -1,7 +1,7 @@
 use Rattle.std.proofs.Common.{◌^◌, ◌<◌, ℕ, List, get_or, length, map, sym, ap, ◌∙◌, subst, arith}
-use Rattle.compaction.specs.Dependence.{joined_mask}
-use Rattle.compaction.specs.Places as places
-use Rattle.compaction.proofs.DistinctPairs.{met_classes, masks_many, masks_told}
+use Rattle.class_laws.specs.Dependence.{joined_mask}
+use Rattle.class_laws.specs.Places as places
+use Rattle.class_laws.proofs.DistinctPairs.{met_classes, masks_many, masks_told}
 use Rattle.compaction.proofs.numbering.number_pairs_with_masks.Goals as goal
 
 pub join_masks-requires-clause-lower : goal.join_masks-requires-clause-lower

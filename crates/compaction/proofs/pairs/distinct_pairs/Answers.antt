@@ -1,8 +1,8 @@
 use Rattle.std.proofs.Common.{ℕ, ◌+◌, ◌^◌, ◌<◌, map, length, get_or, sym, ap, ◌∙◌, subst, arith, Vec, Global}
-use Rattle.compaction.specs.Places as places
+use Rattle.class_laws.specs.Places as places
 use Rattle.std.proofs.lemmas.List.{map-id}
-use Rattle.compaction.proofs.Index.{pair_listed, length-pairs}
-use Rattle.compaction.proofs.Joined.{Joined, joined_new, joined_old, joined_many, joined_told, number_at, numbered_place}
+use Rattle.class_laws.proofs.Index.{pair_listed, length-pairs}
+use Rattle.class_laws.proofs.Joined.{Joined, joined_new, joined_old, joined_many, joined_told, number_at, numbered_place}
 use Rattle.compaction.proofs.pairs.distinct_pairs.Goals as goal
 use Rattle.compaction.proofs.pairs.distinct_pairs.Goals.{then-number-len+in_ok-push, else-number-len}
 

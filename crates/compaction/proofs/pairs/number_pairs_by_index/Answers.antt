@@ -1,13 +1,12 @@
-use Rattle.std.proofs.Common.{◌≡◌, ◌+◌, ◌*◌, ◌^◌, ◌<◌, length, take, get_or, ◌/◌, ◌%◌, [], ◌∷◌, ◌++◌, sym, ap, subst, ◌∙◌, arith}
+use Rattle.std.proofs.Common.{◌≡◌, ◌+◌, ◌*◌, ◌^◌, ◌<◌, length, take, get_or, ◌/◌, ◌%◌, [], ◌∷◌, ◌++◌, sym, ap, subst, ◌∙◌, arith, if◌then◌else◌}
 use Rattle.std.proofs.lemmas.Nat.{one_shl, pow_pos}
 use Rattle.std.specs.List.{list_any, position_or_len}
-use Rattle.std.proofs.Common.{if◌then◌else◌}
 use Rattle.order_model.specs.Widths.{same_pair}
 use Rattle.order_model.proofs.ClassPairs.{pair_decides}
-use Rattle.compaction.specs.Numbering.{rank}
-use Rattle.compaction.specs.Places as places
-use Rattle.compaction.proofs.Ranks.{Numbers, numbers_none}
-use Rattle.compaction.proofs.Index.{pair_within, number_is, seen_more, done_more, number_small, all_done}
+use Rattle.class_laws.specs.Numbering.{rank}
+use Rattle.class_laws.specs.Places as places
+use Rattle.class_laws.proofs.Ranks.{Numbers, numbers_none}
+use Rattle.class_laws.proofs.Index.{pair_within, number_is, seen_more, done_more, number_small, all_done}
 use Rattle.compaction.proofs.pairs.number_pairs_by_index.Goals as goal
 
 pub loop-j-init : goal.loop-j-init

@@ -1,8 +1,8 @@
 use Rattle.std.proofs.Common.{◌≡◌, ◌^◌, map, take}
 use Rattle.order_model.specs.Widths.{same_pair}
-use Rattle.compaction.specs.Numbering.{rank}
-use Rattle.compaction.specs.Places as places
-use Rattle.compaction.proofs.Ranks.{Numbers}
+use Rattle.class_laws.specs.Numbering.{rank}
+use Rattle.class_laws.specs.Places as places
+use Rattle.class_laws.proofs.Ranks.{Numbers}
 use Rattle.order_model.proofs.ClassPairs.{pair_decides}
 use Rattle.compaction.proofs.pairs.number_pairs_by_index.Given as goal
 

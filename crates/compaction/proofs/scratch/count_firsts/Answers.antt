@@ -1,11 +1,11 @@
 use Rattle.std.proofs.Common.{◌≡◌, ◌+◌, ◌/◌, ◌<◌, ◌^◌, get_or, length, sym, ap, ◌∙◌, subst, arith}
 use Rattle.std.specs.Int.{bit_at}
 use Rattle.std.proofs.lemmas.Nat.Bits.{shr_and_one}
-use Rattle.compaction.specs.Chains.{IsFirst}
-use Rattle.compaction.specs.Dependence.{joined_mask}
-use Rattle.compaction.specs.Places as places
+use Rattle.class_laws.specs.Numbering.{IsFirst}
+use Rattle.class_laws.specs.Dependence.{joined_mask}
+use Rattle.class_laws.specs.Places as places
 use Rattle.compaction.proofs.CountedFirsts.{Counting, counting_first, counting_again, counting_all}
-use Rattle.compaction.proofs.Index.{first_listed, pair_listed, length-pairs}
+use Rattle.class_laws.proofs.Index.{first_listed, pair_listed, length-pairs}
 use Rattle.compaction.proofs.scratch.count_firsts.Goals as goal
 use Rattle.compaction.proofs.scratch.count_firsts.Goals.{then-f-j, else-f-j}
 

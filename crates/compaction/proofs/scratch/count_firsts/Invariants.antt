@@ -1,5 +1,5 @@
 use Rattle.std.proofs.Common.{◌^◌}
-use Rattle.compaction.specs.Places as places
+use Rattle.class_laws.specs.Places as places
 use Rattle.compaction.proofs.CountedFirsts.{Counting}
 use Rattle.compaction.proofs.scratch.count_firsts.Given as goal
 

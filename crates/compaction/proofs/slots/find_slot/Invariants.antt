@@ -1,5 +1,5 @@
 use Rattle.std.proofs.Common.{◌≢◌, ◌<◌, ◌≤◌, ℕ, get_or}
-use Rattle.compaction.specs.Numbering.{slot_number}
+use Rattle.compaction.specs.Slots.{slot_number}
 use Rattle.compaction.proofs.slots.find_slot.Given as goal
 
 abbrev pub invariant-loop-at : goal.invariant-loop-at

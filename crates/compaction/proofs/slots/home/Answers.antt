@@ -1,5 +1,5 @@
 use Rattle.std.proofs.Common.{◌≡◌, ◌+◌, ◌*◌, ◌/◌, ◌%◌, ◌^◌, ap, arith}
-use Rattle.compaction.specs.Numbering.{home_of}
+use Rattle.compaction.specs.Slots.{home_of}
 use Rattle.compaction.proofs.slots.home.Goals as goal
 
 pub returns-clause-place : goal.returns-clause-place

@@ -1,10 +1,10 @@
 use Rattle.std.proofs.Common.{◌≡◌, ℕ, ◌+◌, ◌*◌, ◌/◌, ◌^◌, ◌<◌, get_or, set, take, map, length, sym, ap, subst, ◌∙◌, arith, min}
 use Rattle.std.proofs.lemmas.Grind.{common_steps}
 use Rattle.std.proofs.lemmas.List.{get_or_default, map-id}
-use Rattle.compaction.specs.Numbering.{IsSlot, home_of, slot_number}
-use Rattle.compaction.specs.Places as places
-use Rattle.compaction.proofs.Index.{length-pairs, pair_listed}
-use Rattle.compaction.proofs.Firsts.{made_numbers, made_many, made_told}
+use Rattle.compaction.specs.Slots.{IsSlot, home_of, slot_number}
+use Rattle.class_laws.specs.Places as places
+use Rattle.class_laws.proofs.Index.{length-pairs, pair_listed}
+use Rattle.class_laws.proofs.Firsts.{made_numbers, made_many, made_told}
 use Rattle.compaction.proofs.SlotSteps.{Slotted, slotted_new, slotted_old, slotted_none}
 use Rattle.compaction.proofs.slots.number_pairs_by_slots.Goals as goal
 use Rattle.compaction.proofs.slots.number_pairs_by_slots.Goals.{then-number-count, else-number-count}

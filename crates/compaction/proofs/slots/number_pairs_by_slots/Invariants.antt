@@ -1,6 +1,6 @@
 use Rattle.std.proofs.Common.{◌*◌, ◌/◌, ◌^◌, length}
-use Rattle.compaction.specs.Numbering.{home_of}
-use Rattle.compaction.specs.Places as places
+use Rattle.compaction.specs.Slots.{home_of}
+use Rattle.class_laws.specs.Places as places
 use Rattle.compaction.proofs.SlotSteps.{Slotted}
 use Rattle.compaction.proofs.slots.number_pairs_by_slots.Given as goal
 

@@ -1,6 +1,6 @@
 use Rattle.std.proofs.Common.{◌≡◌, ◌++◌, ◌∷◌, [], Vec, Global, ℕ, cond, length, ap, ◌∙◌, arith}
 use Rattle.std.proofs.lemmas.List.{length_push}
-use Rattle.compaction.specs.Values.{class_count}
+use Rattle.class_laws.specs.Values.{class_count}
 use Rattle.compaction.proofs.start.no_dependence.Goals as goal
 use Rattle.compaction.proofs.start.no_dependence.Goals.{then-has_both+in_ok-push-2, else-has_both}
 

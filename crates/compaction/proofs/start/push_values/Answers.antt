@@ -4,7 +4,7 @@ use Rattle.std.proofs.lemmas.Nat.{one_shl}
 use Rattle.std.proofs.lemmas.List.{append_assoc, map-append}
 use Rattle.std.proofs.lemmas.List.FromFn.{map-range_with_len_more, get_or-map-range_with_len}
 use Rattle.order_model.specs.Problems.{table_in, packed_bit}
-use Rattle.compaction.specs.Values.{number_of, row}
+use Rattle.class_laws.specs.Values.{number_of, row}
 use Rattle.compaction.proofs.start.push_values.Goals as goal
 
 bit_in : (n : ℕ) (words : List ℕ) (point : ℕ) → point < 2 ^ n → packed_bit words point ≡ get_or (table_in n words) point false

@@ -1,7 +1,7 @@
 use Rattle.std.proofs.Common.{◌≡◌, ◌++◌, map, get_or, false}
 use Rattle.std.specs.List.{range_with_len}
 use Rattle.order_model.specs.Problems.{table_in}
-use Rattle.compaction.specs.Values.{number_of}
+use Rattle.class_laws.specs.Values.{number_of}
 use Rattle.compaction.proofs.start.push_values.Given as goal
 
 abbrev pub invariant-loop-point : goal.invariant-loop-point

@@ -2,8 +2,8 @@ use Rattle.std.proofs.Common.{◌++◌, map, take, ap, ◌∙◌, arith}
 use Rattle.std.specs.List.{flat_map}
 use Rattle.std.proofs.lemmas.List.{take_all}
 use Rattle.order_model.specs.Problems.{value_at, table_in}
-use Rattle.compaction.specs.Values.{number_of, row, values_of}
-use Rattle.compaction.proofs.StartClasses.{rows_more}
+use Rattle.class_laws.specs.Values.{number_of, row, values_of}
+use Rattle.class_laws.proofs.StartClasses.{rows_more}
 use Rattle.compaction.proofs.start.value_numbers.Goals as goal
 
 pub loop-output-preserved : goal.loop-output-preserved

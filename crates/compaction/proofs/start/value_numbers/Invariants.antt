@@ -1,7 +1,7 @@
 use Rattle.std.proofs.Common.{◌≡◌, map, take}
 use Rattle.std.specs.List.{flat_map}
 use Rattle.order_model.specs.Problems.{value_at}
-use Rattle.compaction.specs.Values.{number_of, row}
+use Rattle.class_laws.specs.Values.{number_of, row}
 use Rattle.compaction.proofs.start.value_numbers.Given as goal
 
 abbrev pub invariant-loop-output : goal.invariant-loop-output

@@ -1,7 +1,7 @@
 use Rattle.std.proofs.Common.{ℕ, ◌+◌, eqb, cond, List, sym, ap, ◌∙◌, subst, arith, eq-eqb, ne_eqb}
 use Rattle.std.specs.Int.{bit_at}
 use Rattle.std.proofs.lemmas.Nat.Bits.{shr_and_one}
-use Rattle.compaction.proofs.Sets.{IsRowBelow, row_written, row_kept}
+use Rattle.compaction.proofs.RowSteps.{IsRowBelow, row_written, row_kept}
 use Rattle.compaction.proofs.strips.same_row.Goals as goal
 use Rattle.compaction.proofs.strips.same_row.Goals.{then-wanted-x-eq1, else-wanted-x-eq1}
 

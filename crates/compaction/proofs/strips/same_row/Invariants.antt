@@ -1,6 +1,6 @@
 use Rattle.std.proofs.Common.{eqb, cond}
 use Rattle.std.specs.Int.{bit_at}
-use Rattle.compaction.proofs.Sets.{IsRowBelow}
+use Rattle.compaction.proofs.RowSteps.{IsRowBelow}
 use Rattle.compaction.proofs.strips.same_row.Given as goal
 
 abbrev pub invariant-loop-x : goal.invariant-loop-x

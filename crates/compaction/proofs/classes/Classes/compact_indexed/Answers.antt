@@ -2,12 +2,12 @@ use Rattle.std.proofs.Common.{◌<◌, ◌^◌, ℕ, List, map, length, get_or, 
 use Rattle.std.specs.Set.{distinct_count}
 use Rattle.std.proofs.lemmas.Nat.{one_shl}
 use Rattle.order_model.specs.Widths.{same_pair}
-use Rattle.compaction.specs.Dependence.{joined_mask}
-use Rattle.compaction.specs.Numbering.{ranks}
-use Rattle.compaction.specs.Places as places
-use Rattle.compaction.specs.Table.{ClassesOf, HoldsClasses, classes_of, free_below}
-use Rattle.compaction.proofs.DistinctPairs.{masks_many, masks_told, met_classes}
-use Rattle.compaction.proofs.Extended.{is_ready, holds_more}
+use Rattle.class_laws.specs.Dependence.{joined_mask}
+use Rattle.class_laws.specs.Numbering.{ranks}
+use Rattle.class_laws.specs.Places as places
+use Rattle.class_laws.specs.Table.{ClassesOf, HoldsClasses, classes_of, free_below}
+use Rattle.class_laws.proofs.DistinctPairs.{masks_many, masks_told, met_classes}
+use Rattle.class_laws.proofs.Extended.{is_ready, holds_more}
 use Rattle.compaction.proofs.classes.Classes.compact_indexed.Goals as goal
 
 pub number_pairs_by_index-requires-clause-rank : goal.number_pairs_by_index-requires-clause-rank

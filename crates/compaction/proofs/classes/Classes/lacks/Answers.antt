@@ -1,7 +1,7 @@
 use Rattle.std.proofs.Common.{◌<◌, ◌/◌, ◌^◌, bit_and, eqb-true, eq-eqb, ap, sym, ◌∙◌, subst}
 use Rattle.order_model.specs.Orders.{has}
-use Rattle.compaction.specs.Table.{ClassesOf, set_of}
-use Rattle.compaction.proofs.Sets.{bit_unset, unset_bit}
+use Rattle.class_laws.specs.Table.{ClassesOf, set_of}
+use Rattle.class_laws.proofs.LowSets.{bit_unset, unset_bit}
 use Rattle.compaction.proofs.classes.Classes.lacks.Goals as goal
 
 pub returns-then-x-inputs-clause-new : goal.returns-then-x-inputs-clause-new

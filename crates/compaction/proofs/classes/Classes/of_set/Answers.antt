@@ -1,7 +1,7 @@
 use Rattle.std.proofs.Common.{◌≡◌, ◌%◌, ◌^◌, ap, ◌∙◌, arith}
 use Rattle.order_model.specs.Orders.{has}
-use Rattle.compaction.specs.Table.{ClassesOf, classes_of, set_of, with_variable}
-use Rattle.compaction.proofs.Sets.{low_more, low_same, low_new, low_all}
+use Rattle.class_laws.specs.Table.{ClassesOf, classes_of, set_of, with_variable}
+use Rattle.class_laws.proofs.LowSets.{low_more, low_same, low_new, low_all}
 use Rattle.compaction.proofs.classes.Classes.of_set.Goals as goal
 use Rattle.compaction.proofs.classes.Classes.of_set.Goals.{then-mask-y-eq1+in_ok-classes-2, else-mask-y-eq1}
 

@@ -1,9 +1,9 @@
 use Rattle.std.proofs.Common.{◌^◌, length, get_or, ap, subst, ◌∙◌, arith}
-use Rattle.compaction.specs.Dependence.{CountsMasks}
-use Rattle.compaction.specs.Places as places
-use Rattle.compaction.specs.Table.{ClassesOf, HoldsClasses, free_below}
+use Rattle.compaction.specs.Scratch.{CountsMasks}
+use Rattle.class_laws.specs.Places as places
+use Rattle.class_laws.specs.Table.{ClassesOf, HoldsClasses, free_below}
 use Rattle.compaction.proofs.CountedFirsts.{width_counted}
-use Rattle.compaction.proofs.Extended.{is_ready, few_masks, few_of_most}
+use Rattle.class_laws.proofs.Extended.{is_ready, few_masks, few_of_most}
 use Rattle.compaction.proofs.classes.Classes.width_in.Goals as goal
 
 pub count_joined-width-requires-clause-rank : goal.count_joined-width-requires-clause-rank

@@ -1,8 +1,9 @@
 use Rattle.std.proofs.Common.{◌-◌, ◌≤◌, ◌*◌, ◌/◌, ◌^◌, length, get_or, bit_or, sym, ap, ◌∙◌, subst, arith}
 use Rattle.std.proofs.lemmas.Nat.{one_shl}
-use Rattle.compaction.specs.Strips.{AreDistinct, AreStrips, HoldsStrips, HoldsTable, TellsPairs, low_variables, unrolled}
-use Rattle.compaction.specs.Places as places
-use Rattle.compaction.specs.Table.{ClassesOf, classes_of, free_below}
+use Rattle.compaction.specs.Strips.{AreDistinct, AreStrips, HoldsStrips, HoldsTable, low_variables, unrolled}
+use Rattle.compaction.specs.Keys.{TellsPairs}
+use Rattle.class_laws.specs.Places as places
+use Rattle.class_laws.specs.Table.{ClassesOf, classes_of, free_below}
 use Rattle.compaction.proofs.AllDistinct.{distinct_more, table_distinct, table_strips}
 use Rattle.compaction.proofs.HeldStrips.{free_split, rank_few, few_runs, whole_outer, holds_high}
 use Rattle.compaction.proofs.strips.Strips.add_high.Goals as goal

@@ -1,8 +1,8 @@
 use Rattle.std.proofs.Common.{◌^◌, ◌≡◌, sym, ap, subst, ◌∙◌, arith, [], ◌∷◌, ◌++◌, map}
 use Rattle.order_model.specs.Problems.{value_at}
 use Rattle.compaction.specs.Strips.{AreStrips, HoldsStrips, low_variables, unrolled}
-use Rattle.compaction.specs.Table.{classes_of}
-use Rattle.compaction.specs.Values.{values_of, number_of}
+use Rattle.class_laws.specs.Table.{classes_of}
+use Rattle.class_laws.specs.Values.{values_of, number_of}
 use Rattle.compaction.proofs.HeldStrips.{holds_values}
 use Rattle.compaction.proofs.strips.Strips.of_problem.Goals as goal
 

@@ -2,7 +2,7 @@ use Rattle.std.proofs.Common.{get_or, length, ap, ◌∙◌, sym, subst, arith, 
 use Rattle.std.specs.Int.{bit_at}
 use Rattle.std.specs.List.{filter}
 use Rattle.compaction.specs.Strips.{HoldsTable, low_variables, masks_in_use}
-use Rattle.compaction.specs.Table.{ClassesOf}
+use Rattle.class_laws.specs.Table.{ClassesOf}
 use Rattle.compaction.proofs.AllDistinct.{distinct_row, table_distinct, table_strips, table_used}
 use Rattle.compaction.proofs.Used.{all_in_use, few_in_use, strips_row}
 use Rattle.compaction.proofs.strips.Strips.width_row.Goals as goal

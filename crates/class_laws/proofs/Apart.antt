@@ -3,9 +3,9 @@ use Rattle.std.proofs.Common.{◌≡◌, ◌≢◌, ℕ, ◌+◌, ◌*◌, ◌/�
 use Rattle.std.proofs.Math.Nat.{mul-le-mul_right, div-mul-le_self, lt-div-mul-add}
 use Rattle.std.proofs.lemmas.Bool.{cases_lt}
 use Rattle.std.proofs.lemmas.Nat.{pow_pos, div-add-mod'}
-use Rattle.compaction.specs.Chains.{IsFirst}
-use Rattle.compaction.specs.Places.{low_place, pairs}
-use Rattle.compaction.proofs.Index.{pair_within, first_listed}
+use Rattle.class_laws.specs.Numbering.{IsFirst}
+use Rattle.class_laws.specs.Places.{low_place, pairs}
+use Rattle.class_laws.proofs.Index.{pair_within, first_listed}
 
 low_is : (step j : ℕ) → low_place step j ≡ j + j / step * step
 low_is step j =

@@ -7,11 +7,11 @@ use Rattle.std.proofs.lemmas.List.{append_assoc, take-append-drop, take_more, ta
 use Rattle.order_model.specs.Widths.{same_pair}
 use Rattle.order_model.proofs.ClassPairs.{pair_decides}
 use Rattle.order_model.proofs.Sets.{Among}
-use Rattle.compaction.specs.Numbering.{rank, ranks}
-use Rattle.compaction.proofs.Ranks.{count_new, count_old, count_end, rank_next, rank_found, rank_absent, rank_below, among_or_not}
-use Rattle.compaction.specs.Places.{low_place, pair_at, pairs}
-use Rattle.compaction.proofs.Chained.{among_take, take_among}
-use Rattle.compaction.proofs.Index.{pair_within, length-pairs}
+use Rattle.class_laws.specs.Numbering.{rank, ranks}
+use Rattle.class_laws.proofs.Ranks.{count_new, count_old, count_end, rank_next, rank_found, rank_absent, rank_below, among_or_not}
+use Rattle.class_laws.specs.Places.{low_place, pair_at, pairs}
+use Rattle.class_laws.proofs.Progress.{among_take, take_among}
+use Rattle.class_laws.proofs.Index.{pair_within, length-pairs}
 use Rattle.std.proofs.lemmas.Nat.{pow_pos}
 
 module _ (ps : List (ℕ × ℕ)) where

@@ -6,11 +6,10 @@ use Rattle.std.proofs.lemmas.List.{take_more_set, length-set, length-append, tak
 use Rattle.order_model.specs.Widths.{same_pair}
 use Rattle.order_model.proofs.ClassPairs.{pair_decides}
 use Rattle.order_model.proofs.Sets.{Among}
-use Rattle.compaction.specs.Chains.{IsFirst}
-use Rattle.compaction.specs.Numbering.{rank, ranks}
-use Rattle.compaction.proofs.Ranks.{rank_absent, rank_below}
-use Rattle.compaction.proofs.Chained.{Progress, progress_none, progress_new, progress_old, progress_all, among_take, take_among}
-use Rattle.compaction.proofs.Joined.{Joined, joined_none, joined_new, joined_old, joined_many, joined_told, rank_is}
+use Rattle.class_laws.specs.Numbering.{IsFirst, rank, ranks}
+use Rattle.class_laws.proofs.Ranks.{rank_absent, rank_below}
+use Rattle.class_laws.proofs.Progress.{Progress, progress_none, progress_new, progress_old, progress_all, among_take, take_among}
+use Rattle.class_laws.proofs.Joined.{Joined, joined_none, joined_new, joined_old, joined_many, joined_told, rank_is}
 
 module _ {M : Type 0} (none : M) (ps : List (ℕ × ℕ)) (join : ℕ × ℕ → M) where
   -- the masks with one more pair, which is the first of its kind

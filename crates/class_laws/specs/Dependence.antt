@@ -1,14 +1,13 @@
 -- The variables that a function depends on.
---     AreMasks, CountsMasks      what the classes of a set depend on; how many distinct pairs have a variable in their masks
 --     support n f, dependence n f      as a list, rising, and as a mask
-use Rattle.std.specs.Prelude.{◌≡◌, ◌==◌, ℕ, ◌^◌, List, map, length, reverse, cond, nat_eq, get_or, bit_or}
+--     joined_mask masks x p      the mask of a pair of classes
+--     AreMasks n F T masks      what the classes of a set depend on
+use Rattle.std.specs.Prelude.{◌≡◌, ℕ, ◌^◌, List, map, length, reverse, cond, nat_eq, get_or, bit_or}
 use Rattle.std.specs.Set.{distinct_count}
 use Rattle.std.specs.List.{filter}
-use Rattle.std.specs.Int.{bit_at}
-use Rattle.compaction.specs.Numbering.{ranks}
 use Rattle.order_model.specs.Functions.{Function, depends, same_table}
 use Rattle.order_model.specs.Levels.{reach}
-use Rattle.order_model.specs.Widths.{outside, entries, class_numbers, same_pair}
+use Rattle.order_model.specs.Widths.{outside, entries, class_numbers}
 use Rattle.order_model.specs.Orders.{variables, mask_of}
 
 -- the variables that f depends on, rising
@@ -27,10 +26,3 @@ joined_mask masks x p = bit_or (bit_or (get_or masks p.0 0) (get_or masks p.1 0)
 pub record AreMasks (n : ℕ) (F : List Function) (T : List ℕ) (masks : List ℕ) : Type 0 where
   pub many : length masks ≡ distinct_count same_table (entries n F T)
   pub told : map (λ c. get_or masks c 0) (class_numbers n F T) ≡ map (dependence n) (reach F (reverse (outside n T)))
-
--- so many distinct pairs have a mask with x: `joined` has one mask a distinct pair, told by its number
-pub record CountsMasks (masks : List ℕ) (x : ℕ) (ps : List (ℕ × ℕ)) (count : ℕ) : Type 0 where
-  pub joined : List ℕ
-  pub many : length joined ≡ distinct_count same_pair ps
-  pub told : map (λ c. get_or joined c 0) (ranks same_pair ps) ≡ map (joined_mask masks x) ps
-  pub counted : count ≡ length (filter (λ m. bit_at m x == 1) joined)

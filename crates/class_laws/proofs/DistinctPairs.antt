@@ -9,14 +9,14 @@ use Rattle.std.proofs.lemmas.List.{get_or-map, length-map, map-id, take_all}
 use Rattle.order_model.specs.Widths.{same_pair}
 use Rattle.order_model.proofs.ClassPairs.{pair_decides}
 use Rattle.order_model.proofs.Sets.{Among}
-use Rattle.compaction.specs.Numbering.{rank, ranks}
-use Rattle.compaction.specs.Places.{pairs}
-use Rattle.compaction.proofs.BlockPlaces.{listed_classes}
-use Rattle.compaction.proofs.Chained.{among_take, take_among}
-use Rattle.compaction.proofs.Counted.{map_map, same_at}
-use Rattle.compaction.proofs.Joined.{length-ranks, number_at}
-use Rattle.compaction.proofs.Keyed.{map_same}
-use Rattle.compaction.proofs.Ranks.{rank_below, rank_reached}
+use Rattle.class_laws.specs.Numbering.{rank, ranks}
+use Rattle.class_laws.specs.Places.{pairs}
+use Rattle.class_laws.proofs.BlockPlaces.{listed_classes}
+use Rattle.class_laws.proofs.Progress.{among_take, take_among}
+use Rattle.class_laws.proofs.Counted.{same_at}
+use Rattle.class_laws.proofs.Joined.{length-ranks, number_at}
+use Rattle.class_laws.proofs.Lists.{map_map, map_same}
+use Rattle.class_laws.proofs.Ranks.{rank_below, rank_reached}
 
 module _ (ps : List (ℕ × ℕ)) (numbers : List ℕ) (met : List (ℕ × ℕ)) (numbered : numbers ≡ ranks same_pair ps) (many : length met ≡ distinct_count same_pair ps)
     (told : map (λ c. get_or met c (0, 0)) numbers ≡ ps) where

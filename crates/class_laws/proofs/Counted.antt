@@ -19,10 +19,11 @@ use Rattle.order_model.proofs.Exchange.{dependents_same, below_from_has}
 use Rattle.order_model.proofs.OrderLists.{has_variables, has_outside}
 use Rattle.order_model.proofs.Recurrence.{distinct_filter, distinct_variables, has_without}
 use Rattle.order_model.proofs.ClassPairs.{count_alike, rank_apart, has_reverse}
-use Rattle.compaction.specs.Numbering.{rank}
-use Rattle.compaction.specs.Dependence.{dependence, AreMasks}
-use Rattle.compaction.proofs.Ranks.{rank_below, rank_reached}
-use Rattle.compaction.proofs.DependenceMasks.{bit-dependence}
+use Rattle.class_laws.specs.Numbering.{rank}
+use Rattle.class_laws.specs.Dependence.{dependence, AreMasks}
+use Rattle.class_laws.proofs.Ranks.{rank_below, rank_reached}
+use Rattle.class_laws.proofs.Lists.{map_map}
+use Rattle.class_laws.proofs.DependenceMasks.{bit-dependence}
 
 pub nat_decides : (x y : ℕ) → (nat_eq x y ≡ true → x ≡ y) × (x ≡ y → nat_eq x y ≡ true)
 nat_decides x y = (eqb-true x y, eq-eqb x y)
@@ -75,10 +76,6 @@ length_filter_map q g (x ∷ xs) = by (q (g x)) (length_filter_map q g xs)
     by : (b : Bool) → length (filter q (map g xs)) ≡ length (filter (λ z. q (g z)) xs) → length (cond b (g x ∷ filter q (map g xs)) (filter q (map g xs))) ≡ length (cond b (x ∷ filter (λ z. q (g z)) xs) (filter (λ z. q (g z)) xs))
     by true e = omega arith
     by false e = e
-
-pub map_map : {X Y Z : Type 0} (g : Y → Z) (f : X → Y) (xs : List X) → map g (map f xs) ≡ map (λ x. g (f x)) xs
-map_map g f [] = refl
-map_map g f (x ∷ xs) = ap (λ ys. g (f x) ∷ ys) (map_map g f xs)
 
 pub same_at : {X Y : Type 0} (f g : X → Y) (xs : List X) → map f xs ≡ map g xs → (y : X) → Among y xs → f y ≡ g y
 same_at f g [] e y h = absurd h

@@ -8,12 +8,13 @@ use Rattle.order_model.specs.Widths.{outside, entries, class_of, class_numbers, 
 use Rattle.order_model.proofs.Sets.{Among}
 use Rattle.order_model.proofs.Tables.{same_table_decides, depends_same}
 use Rattle.order_model.proofs.ClassPairs.{count_alike, pair_decides, depends_by_classes}
-use Rattle.compaction.specs.Numbering.{ranks}
-use Rattle.compaction.specs.Places.{pairs}
-use Rattle.compaction.specs.Dependence.{dependence, joined_mask, AreMasks}
-use Rattle.compaction.proofs.DependenceMasks.{dependence_joined}
-use Rattle.compaction.proofs.Counted.{same_at, map_map}
-use Rattle.compaction.proofs.Compacted.{step_of, pairs_told, pairs_of_classes, compacted, counted, told_apart, numbers_told, tell_class, class_pair_same}
+use Rattle.class_laws.specs.Numbering.{ranks}
+use Rattle.class_laws.specs.Places.{pairs}
+use Rattle.class_laws.specs.Dependence.{dependence, joined_mask, AreMasks}
+use Rattle.class_laws.proofs.DependenceMasks.{dependence_joined}
+use Rattle.class_laws.proofs.Counted.{same_at}
+use Rattle.class_laws.proofs.Lists.{map_map}
+use Rattle.class_laws.proofs.Compacted.{step_of, pairs_told, pairs_of_classes, compacted, counted, told_apart, numbers_told, tell_class, class_pair_same}
 
 module _ (n : ℕ) (F : List Function) (T : List ℕ) (x : ℕ) (small : x < n) (new : has T x ≡ false) (masks : List ℕ) (are : AreMasks n F T masks) where
   R : List Function

@@ -23,13 +23,14 @@ use Rattle.order_model.proofs.Sets.{Among, count_same}
 use Rattle.order_model.proofs.Tables.{same_table_decides, depends_false}
 use Rattle.order_model.proofs.ClassPairs.{count_alike}
 use Rattle.order_model.proofs.CellLaws.{members_zero}
-use Rattle.compaction.specs.Table.{HoldsClasses, classes_of}
-use Rattle.compaction.specs.Numbering.{rank, ranks}
-use Rattle.compaction.specs.Values.{row, values_of, number_of, class_count}
+use Rattle.class_laws.specs.Table.{HoldsClasses, classes_of}
+use Rattle.class_laws.specs.Numbering.{rank, ranks}
+use Rattle.class_laws.specs.Values.{row, values_of, number_of, class_count}
 use Rattle.order_model.specs.Problems.{TruthTables, functions, value_at}
-use Rattle.compaction.specs.Dependence.{support, dependence, AreMasks}
-use Rattle.compaction.proofs.Ranks.{rank_below, rank_reached, ranks_alike}
-use Rattle.compaction.proofs.Constants.{value_of, all_values, values_reached, reached_constant, tables_as_values, outside_none}
+use Rattle.class_laws.specs.Dependence.{support, dependence, AreMasks}
+use Rattle.class_laws.proofs.Ranks.{rank_below, rank_reached, ranks_alike}
+use Rattle.class_laws.proofs.Lists.{map_ranges}
+use Rattle.class_laws.proofs.Constants.{value_of, all_values, values_reached, reached_constant, tables_as_values, outside_none}
 
 pub beq_decides : (x y : Bool) → (beq x y ≡ true → x ≡ y) × (x ≡ y → beq x y ≡ true)
 beq_decides true true = (λ e. refl, λ e. refl)
@@ -183,12 +184,6 @@ start_masks n F first rest e masks zeros l = record {
 
 -- ---- the values of truth tables
 
-pub map_range : {X : Type 0} (f g : ℕ → X) (m a b : ℕ) → ((i : ℕ) → i < m → f (a + i) ≡ g (b + i)) → map f (range_with_len a m) ≡ map g (range_with_len b m)
-map_range f g zero a b h = refl
-map_range f g (suc m) a b h =
-    λ i. (ap f (let s : a ≡ a + 0 = omega arith in s) ∙ h 0 (omega arith) ∙ ap g (let s : b + 0 ≡ b = omega arith in s)) i
-    ∷ map_range f g m (a + 1) (b + 1) (λ k lt. ap f (let s : a + 1 + k ≡ a + (k + 1) = omega arith in s) ∙ h (k + 1) (omega arith) ∙ ap g (let s : b + (k + 1) ≡ b + 1 + k = omega arith in s)) i
-
 -- the number of the point with a number
 number-point_of : (n k : ℕ) → k < 2 ^ n → number (point_of n k) ≡ k
 unfolding number point_of
@@ -203,11 +198,11 @@ number-point_of (suc n) k h =
     low (suc (suc b)) lt = absurd (omega arith)
 
     rest : map (λ x. eqb (bit_at k x) 1) (range_with_len (0 + 1) n) ≡ point_of n (k / 2)
-    rest = map_range (λ x. eqb (bit_at k x) 1) (λ x. eqb (bit_at (k / 2) x) 1) n (0 + 1) 0 (λ i lt. ap (λ b. eqb b 1) (ap (bit_at k) (let s : 0 + 1 + i ≡ suc i = omega arith in s) ∙ bit_at-suc k i ∙ ap (bit_at (k / 2)) (let s : i ≡ 0 + i = omega arith in s)))
+    rest = map_ranges (λ x. eqb (bit_at k x) 1) (λ x. eqb (bit_at (k / 2) x) 1) n (0 + 1) 0 (λ i lt. ap (λ b. eqb b 1) (ap (bit_at k) (let s : 0 + 1 + i ≡ suc i = omega arith in s) ∙ bit_at-suc k i ∙ ap (bit_at (k / 2)) (let s : i ≡ 0 + i = omega arith in s)))
 
 row_is : (n : ℕ) (t : List Bool) → map (λ j. from_table t (point_of n j)) (range_with_len 0 (2 ^ n)) ≡ row n t
 unfolding row from_table
-row_is n t = map_range (λ j. from_table t (point_of n j)) (λ j. get_or t j false) (2 ^ n) 0 0 (λ i lt. ap (λ k. get_or t k false) (number-point_of n (0 + i) (omega arith)))
+row_is n t = map_ranges (λ j. from_table t (point_of n j)) (λ j. get_or t j false) (2 ^ n) 0 0 (λ i lt. ap (λ k. get_or t k false) (number-point_of n (0 + i) (omega arith)))
 
 -- the values of a problem's functions
 pub values_are : (p : TruthTables) → all_values p.inputs (functions p) ≡ values_of p

@@ -16,7 +16,8 @@ use Rattle.order_model.specs.Levels.{subfunctions, reach}
 use Rattle.order_model.specs.Widths.{outside}
 use Rattle.order_model.proofs.Sets.{Among, among_from_flat_map, among_from_map}
 use Rattle.order_model.proofs.Tables.{table_same, same_from_table}
-use Rattle.compaction.proofs.Compacted.{range_parts}
+use Rattle.class_laws.proofs.Compacted.{range_parts}
+use Rattle.class_laws.proofs.Lists.{map_map, map_flat_map, map_ranges, flat_map_same}
 
 -- f with the variables below k fixed by the bits of j
 fixed : ℕ → ℕ → Function → Function
@@ -28,12 +29,6 @@ unfolding fixed
 fixed_same zero i j h f = refl
 fixed_same (suc k) i j h f =
     ap (λ b. fixed k i (restrict k (eqb b 1) f)) (h k (omega arith)) ∙ fixed_same k i j (λ x lt. h x (omega arith)) (restrict k (eqb (bit_at j k) 1) f)
-
-map_ranges : {X : Type 0} (f g : ℕ → X) (m a b : ℕ) → ((i : ℕ) → i < m → f (a + i) ≡ g (b + i)) → map f (range_with_len a m) ≡ map g (range_with_len b m)
-map_ranges f g zero a b h = refl
-map_ranges f g (suc m) a b h =
-    λ i. (ap f (let s : a ≡ a + 0 = omega arith in s) ∙ h 0 (omega arith) ∙ ap g (let s : b + 0 ≡ b = omega arith in s)) i
-    ∷ map_ranges f g m (a + 1) (b + 1) (λ k lt. ap f (let s : a + 1 + k ≡ a + (k + 1) = omega arith in s) ∙ h (k + 1) (omega arith) ∙ ap g (let s : b + (k + 1) ≡ b + 1 + k = omega arith in s)) i
 
 range_last : (k : ℕ) → variables (suc k) ≡ variables k ++ k ∷ []
 range_last k = ap (range_with_len 0) (let s : suc k ≡ k + 1 = omega arith in s) ∙ range_parts 0 k 1 ∙ ap (λ z. range_with_len 0 k ++ z ∷ []) (let s : 0 + k ≡ k = omega arith in s)
@@ -107,23 +102,11 @@ long_point n j = length-map-range_with_len (λ x. eqb (bit_at j x) 1) 0 n
 unfoldable pub all_values : ℕ → List Function → List Bool
 all_values n F = flat_map (λ f. map (λ j. f (point_of n j)) (range_with_len 0 (2 ^ n))) F
 
-map_flat_map : {X Y Z : Type 0} (g : Y → Z) (f : X → List Y) (xs : List X) → map g (flat_map f xs) ≡ flat_map (λ x. map g (f x)) xs
-map_flat_map g f [] = refl
-map_flat_map g f (x ∷ xs) = map-append g (f x) (flat_map f xs) ∙ ap (λ zs. map g (f x) ++ zs) (map_flat_map g f xs)
-
-map_map : {X Y Z : Type 0} (g : Y → Z) (f : X → Y) (xs : List X) → map g (map f xs) ≡ map (λ x. g (f x)) xs
-map_map g f [] = refl
-map_map g f (x ∷ xs) = ap (λ ys. g (f x) ∷ ys) (map_map g f xs)
-
-flat_map_each : {X Y : Type 0} (f g : X → List Y) → ((x : X) → f x ≡ g x) → (xs : List X) → flat_map f xs ≡ flat_map g xs
-flat_map_each f g h [] = refl
-flat_map_each f g h (x ∷ xs) = λ i. h x i ++ flat_map_each f g h xs i
-
 pub values_reached : (n : ℕ) (F : List Function) → map (value_of n) (reach F (reverse (variables n))) ≡ all_values n F
 unfolding reach all_values
 values_reached n F =
     map_flat_map (value_of n) (subfunctions (reverse (variables n))) F
-    ∙ flat_map_each (λ f. map (value_of n) (subfunctions (reverse (variables n)) f)) (λ f. map (λ j. f (point_of n j)) (range_with_len 0 (2 ^ n)))
+    ∙ flat_map_same (λ f. map (value_of n) (subfunctions (reverse (variables n)) f)) (λ f. map (λ j. f (point_of n j)) (range_with_len 0 (2 ^ n)))
     (λ f. ap (map (value_of n)) (subfunctions_fixed n f) ∙ map_map (value_of n) (λ j. fixed n j f) (range_with_len 0 (2 ^ n)) ∙ map_ranges (λ j. value_of n (fixed n j f)) (λ j. f (point_of n j)) (2 ^ n) 0 0 (λ i lt. fixed_value n (0 + i) f (point_of n 0) (long_point n 0))) F
 
 -- each function reached is constant

@@ -1,18 +1,19 @@
--- Sets as masks, one variable after another.
---     low_more, low_same      the part of a mask below a variable
---     bit_unset, bit_set, unset_bit      a bit of a mask, and its member
+-- Sets by their variables below a bound: the lowest bits of a mask.
+--     low_more, low_same      the part of a mask below one variable more
 --     low_new, low_all      it lacks the variable; below all variables it is the mask
---     row_written, row_kept      one more variable of a row of widths
-use Rattle.std.proofs.Common.{◌≡◌, ◌≢◌, ℕ, ◌+◌, ◌*◌, ◌/◌, ◌%◌, ◌^◌, ◌<◌, ◌≤◌, Bool, true, false, ◌&&◌, inl, inr, List, length, slice_index, get_or, set, get_or-set_same, get_or-set_other, refl, sym, ap, ap₂, ◌∙◌, arith, eqb, eq-eqb, ne_eqb, bit_and, bit_or, zero-mul}
+--     bit_unset, bit_set, unset_bit      a bit of a mask, and its member
+--     split_low, join_low, join_high      masks that agree with a set below a variable, and below the next
+use Rattle.std.proofs.Common.{◌≡◌, ◌≢◌, ℕ, ◌+◌, ◌*◌, ◌/◌, ◌%◌, ◌^◌, ◌<◌, Bool, true, false, ◌&&◌, inl, inr, set, refl, sym, ap, ap₂, ◌∙◌, arith, eqb, eq-eqb, ne_eqb, bit_and, bit_or, zero-mul}
 use Rattle.std.specs.Int.{bit_at}
 use Rattle.std.proofs.Math.Nat.{mod-lt, mod-eq_of_lt}
 use Rattle.std.proofs.lemmas.Bool.{cases_eq, true≢false}
-use Rattle.std.proofs.lemmas.List.{length-set}
 use Rattle.std.proofs.lemmas.Nat.{pow_pos, or_disjoint, mod-pow-add}
 use Rattle.std.proofs.lemmas.Nat.Bits.{shr_and_one, bit_at_above, and_pow, bit_at-lt}
 use Rattle.order_model.specs.Orders.{has, members, variables}
 use Rattle.order_model.proofs.Masks.{has_members}
 use Rattle.order_model.proofs.OrderLists.{has_variables}
+use Rattle.std.proofs.Common.{◌⊎◌, suc}
+use Rattle.std.proofs.Math.Nat.{two-pow-succ}
 
 low_bits : (mask y : ℕ) → mask % 2 ^ (y + 1) ≡ (mask / 2 ^ y % 2) * 2 ^ y + mask % 2 ^ y
 low_bits mask y = ap (λ k. mask % 2 ^ k) (let s : y + 1 ≡ 1 + y = omega arith in s) ∙ mod-pow-add mask 1 y
@@ -66,24 +67,31 @@ unset_bit n mask y lt e =
 pub low_all : (n mask : ℕ) → mask < 2 ^ n → mask % 2 ^ n ≡ mask
 low_all n mask h = mod-eq_of_lt h
 
--- ---- rows
+pub low_or : (set y : ℕ) → set < 2 ^ y → bit_or set (2 ^ y) ≡ set + 2 ^ y
+low_or set y h = or_disjoint set (2 ^ y) (and_pow set y ∙ ap (λ b. b * 2 ^ y) (bit_at_above set y y h (omega arith)) ∙ zero-mul (2 ^ y))
 
-abbrev pub IsRowBelow : (ℕ → ℕ) → List ℕ → ℕ → Type 0
-IsRowBelow f row k = (length row ≡ 16) × ((x : ℕ) → x < k → slice_index row x ≡ f x) × ((x : ℕ) → k ≤ x → slice_index row x ≡ 0)
+pub next_small : (set y : ℕ) → set < 2 ^ y → set + 2 ^ y < 2 ^ (y + 1)
+next_small set y h = let t = two-pow-succ y in let s : 2 ^ (y + 1) ≡ 2 ^ suc y = ap (λ k. 2 ^ k) (omega arith) in omega arith
 
-pub row_written : (f : ℕ → ℕ) (row : List ℕ) (k v : ℕ) → k < 16 → v ≡ f k → IsRowBelow f row k → IsRowBelow f (set row k v) (k + 1)
-row_written f row k v lt e h = (
-  length-set row k v ∙ h.0,
-  λ x m. elim (cases_eq x k) [
-    | inl s ↦ ap (λ z. get_or (set row k v) z 0) s ∙ get_or-set_same row k v 0 (let l = h.0 in omega arith) ∙ e ∙ ap f (sym s)
-    | inr ne ↦ get_or-set_other row k x v 0 ne ∙ h.1 x (omega arith)
-  ],
-  λ x m. let ne : x ≢ k = omega arith in get_or-set_other row k x v 0 ne ∙ h.2 x (omega arith),
-)
+pub set_new : (n set y : ℕ) → set < 2 ^ y → has (members n set) y ≡ false
+set_new n set y h = ap (λ m. has (members n m) y) (sym (mod-eq_of_lt h)) ∙ low_new n set y
 
-pub row_kept : (f : ℕ → ℕ) (row : List ℕ) (k : ℕ) → 0 ≡ f k → IsRowBelow f row k → IsRowBelow f row (k + 1)
-row_kept f row k e h = (
-  h.0,
-  λ x m. elim (cases_eq x k) [ inl s ↦ ap (slice_index row) s ∙ h.2 k (omega arith) ∙ e ∙ ap f (sym s) | inr ne ↦ h.1 x (omega arith) ],
-  λ x m. h.2 x (omega arith),
-)
+-- a mask that agrees below y agrees below y + 1 with the set, or with the set with y
+pub split_low : (mask set y : ℕ) → set < 2 ^ y → mask % 2 ^ y ≡ set → (mask % 2 ^ (y + 1) ≡ set) ⊎ (mask % 2 ^ (y + 1) ≡ set + 2 ^ y)
+split_low mask set y h e = elim (cases_eq (bit_and (mask / 2 ^ y) 1) 1) [
+  | inl one ↦ inr (sym (low_more mask y one) ∙ ap (λ m. bit_or m (2 ^ y)) e ∙ low_or set y h)
+  | inr none ↦ inl (sym (low_same mask y none) ∙ e)
+]
+
+-- agreeing below y + 1 is agreeing below y
+pub join_low : (mask set y : ℕ) → set < 2 ^ y → mask % 2 ^ (y + 1) ≡ set → mask % 2 ^ y ≡ set
+join_low mask set y h e = elim (cases_eq (bit_and (mask / 2 ^ y) 1) 1) [
+  | inl one ↦ let s = sym (low_or (mask % 2 ^ y) y (mod-lt mask (pow_pos y))) ∙ low_more mask y one ∙ e in absurd (omega arith)
+  | inr none ↦ low_same mask y none ∙ e
+]
+
+pub join_high : (mask set y : ℕ) → set < 2 ^ y → mask % 2 ^ (y + 1) ≡ set + 2 ^ y → mask % 2 ^ y ≡ set
+join_high mask set y h e = elim (cases_eq (bit_and (mask / 2 ^ y) 1) 1) [
+  | inl one ↦ let s = sym (low_or (mask % 2 ^ y) y (mod-lt mask (pow_pos y))) ∙ low_more mask y one ∙ e in omega arith
+  | inr none ↦ let s = low_same mask y none ∙ e in let l = mod-lt mask (pow_pos y) in absurd (omega arith)
+]

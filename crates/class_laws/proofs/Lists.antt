@@ -1,0 +1,29 @@
+-- Lists made by functions.
+--     map_map, map_same, flat_map_same, map_flat_map      one function behind another; two that agree on the elements
+--     map_ranges      two functions that agree on two ranges of numbers
+use Rattle.std.proofs.Common.{◌≡◌, ℕ, zero, suc, ◌+◌, ◌<◌, inl, inr, List, [], ◌∷◌, ◌++◌, map, refl, ap, ◌∙◌, arith}
+use Rattle.std.specs.List.{flat_map, range_with_len}
+use Rattle.std.proofs.lemmas.List.{map-append}
+use Rattle.order_model.proofs.Sets.{Among}
+
+pub map_map : {X Y Z : Type 0} (g : Y → Z) (f : X → Y) (xs : List X) → map g (map f xs) ≡ map (λ x. g (f x)) xs
+map_map g f [] = refl
+map_map g f (x ∷ xs) = ap (λ ys. g (f x) ∷ ys) (map_map g f xs)
+
+pub map_same : {X Y : Type 0} (f g : X → Y) (xs : List X) → ((x : X) → Among x xs → f x ≡ g x) → map f xs ≡ map g xs
+map_same f g [] h = refl
+map_same f g (x ∷ xs) h = λ i. h x (inl refl) i ∷ map_same f g xs (λ y a. h y (inr a)) i
+
+pub flat_map_same : {X Y : Type 0} (f g : X → List Y) → ((x : X) → f x ≡ g x) → (xs : List X) → flat_map f xs ≡ flat_map g xs
+flat_map_same f g h [] = refl
+flat_map_same f g h (x ∷ xs) = λ i. h x i ++ flat_map_same f g h xs i
+
+pub map_flat_map : {X Y Z : Type 0} (g : Y → Z) (f : X → List Y) (xs : List X) → map g (flat_map f xs) ≡ flat_map (λ x. map g (f x)) xs
+map_flat_map g f [] = refl
+map_flat_map g f (x ∷ xs) = map-append g (f x) (flat_map f xs) ∙ ap (λ zs. map g (f x) ++ zs) (map_flat_map g f xs)
+
+pub map_ranges : {X : Type 0} (f g : ℕ → X) (m a b : ℕ) → ((i : ℕ) → i < m → f (a + i) ≡ g (b + i)) → map f (range_with_len a m) ≡ map g (range_with_len b m)
+map_ranges f g zero a b h = refl
+map_ranges f g (suc m) a b h =
+    λ i. (ap f (let s : a ≡ a + 0 = omega arith in s) ∙ h 0 (omega arith) ∙ ap g (let s : b + 0 ≡ b = omega arith in s)) i
+    ∷ map_ranges f g m (a + 1) (b + 1) (λ k lt. ap f (let s : a + 1 + k ≡ a + (k + 1) = omega arith in s) ∙ h (k + 1) (omega arith) ∙ ap g (let s : b + (k + 1) ≡ b + 1 + k = omega arith in s)) i

@@ -1,0 +1,5 @@
+pub mod Dependence
+pub mod Numbering
+pub mod Places
+pub mod Table
+pub mod Values
