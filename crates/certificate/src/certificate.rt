@@ -137,9 +137,10 @@ impl Certificate {
         self.total
     }
 
-    /// The pairs (a, b) of variables, of which a has to stand above b, rising; none in format 1.
+    /// The pairs (a, b) of variables, of which a has to stand above b, rising; none in format 1. The certificate has a spelling, which bounds all its numbers.
     pub fn pairs(&self) -> &[(VarIx, VarIx)]
-        ensures { result.now ≡ self.now.pairs }
+        ensures pairs { result.now ≡ self.now.pairs }
+        ensures spelled { HasSpelling self.now }
     {
         match &self.pairs {
             None => &[],
@@ -147,9 +148,10 @@ impl Certificate {
         }
     }
 
-    /// The listed sets with their costs, by rising mask.
+    /// The listed sets with their costs, by rising mask. The certificate has a spelling, which bounds all its numbers.
     pub fn cells(&self) -> &[ListedCell]
-        ensures { map listed result.now ≡ self.now.cells }
+        ensures cells { map listed result.now ≡ self.now.cells }
+        ensures spelled { HasSpelling self.now }
     {
         &self.cells
     }

@@ -1,0 +1,16 @@
+//! The checker of certificates: whether a certificate shows that no order that keeps its pairs has fewer nodes, else the first reason why not.
+#![tactic(auto)]
+
+mod checking;
+mod class_table;
+mod edges;
+mod head;
+mod numbering;
+mod pair_numbers;
+mod spread;
+mod values;
+mod verdict;
+mod walk;
+
+pub use checking::check;
+pub use verdict::{Reason, Verdict};
