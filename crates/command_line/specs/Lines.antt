@@ -1,9 +1,10 @@
--- The command line of minorder, and the values that clap's matches of its words hold (those of a simple command, defaults among them).
+-- The command lines of the two programs, and the values that clap's matches of their words hold (those of a simple command, defaults among them).
 --     minorder      [--workers W] [--cert OUT] [--count] [--above LIST] FILE
---     value_of words id, read_of words id      the value of an argument, as it was written and as it is read
+--     ordercheck      FILE CERT
+--     value_of app words id, read_of app words id      the value of an argument, as it was written and as it is read
 --     IsFlag, IsNumber      what a read value means
---     LacksValues file number      there is no file, or no number of workers
---     faults_of words      the kinds of error that clap may give at the words, none where it takes them
+--     LacksValues file number, LacksFiles file cert      an argument that is needed is missing
+--     faults_of app words      the kinds of error that clap may give at the words, none where it takes them
 use Rattle.std.specs.Prelude.{◌≡◌, ◌⊎◌, ◌≤◌, ℕ, Bool, List, [], ◌∷◌, map, Option, Some, None, codes, true, false, pos}
 use Rattle.std.specs.Borrow.{Bor}
 use Rattle.std.specs.Str.Parse.{IsNumeral, digits_value, without_leading_plus}
@@ -21,31 +22,36 @@ workers_rule = record (option (codes "workers")) { parser = Some (parser.Signed 
 abbrev pub count_rule : Rule
 count_rule = record (new_rule (codes "count")) { long = Some (codes "count"); action = Some SetTrue }
 
-abbrev pub file_rule : Rule
-file_rule = record (new_rule (codes "FILE")) { required = true }
+-- an argument that has to be there
+abbrev pub required : Text → Rule
+required name = record (new_rule name) { required = true }
 
--- the words are those behind the program's name
-abbrev pub named : App
-named = record (new_app (codes "minorder")) { top = record (new_app (codes "minorder")).top { no_binary_name = true } }
+-- a command whose words are those behind the program's name
+abbrev pub named : Text → App
+named name = record (new_app name) { top = record (new_app name).top { no_binary_name = true } }
 
 abbrev pub with_options : App → App
 with_options app = with_rule (with_rule (with_rule (with_rule app workers_rule) (option (codes "cert"))) count_rule) (option (codes "above"))
 
 -- the command line of minorder
 abbrev pub minorder : App
-minorder = with_rule (with_options named) file_rule
+minorder = with_rule (with_options (named (codes "minorder"))) (required (codes "FILE"))
+
+-- the command line of ordercheck
+abbrev pub ordercheck : App
+ordercheck = with_rule (with_rule (named (codes "ordercheck")) (required (codes "FILE"))) (required (codes "CERT"))
 
 -- the texts of words
 abbrev pub texts : List (Bor Text) → List Text
 texts words = map (λ word. word.now) words
 
 -- the value of an argument, as it was written
-unfoldable pub value_of : List Text → Text → Option Text
-value_of words id = first_of id (matches_of minorder words)
+unfoldable pub value_of : App → List Text → Text → Option Text
+value_of app words id = first_of id (matches_of app words)
 
 -- the value of an argument, as it is read
-unfoldable pub read_of : List Text → Text → Option Text
-read_of words id = one_of id (matches_of minorder words)
+unfoldable pub read_of : App → List Text → Text → Option Text
+read_of app words id = one_of id (matches_of app words)
 
 -- a flag is set where its value is `true`
 abbrev pub IsFlag : Option Text → Bool → Type 0
@@ -59,6 +65,18 @@ IsNumber value n = (text : Text) × (value ≡ Some text) × IsNumeral 10 (witho
 abbrev pub LacksValues : Option Text → Option Text → Type 0
 LacksValues file number = (file ≡ None) ⊎ ((n : ℕ) → IsNumber number n → 1 ≤ n → n ≤ 64 → ⊥)
 
+-- no file is given, or no certificate
+abbrev pub LacksFiles : Option Text → Option Text → Type 0
+LacksFiles file cert = (file ≡ None) ⊎ (cert ≡ None)
+
+-- words of minorder that give no file, or no number of workers
+abbrev pub LacksArguments : List Text → Type 0
+LacksArguments words = LacksValues (value_of minorder words (codes "FILE")) (read_of minorder words (codes "workers"))
+
+-- words of ordercheck that give no file, or no certificate
+abbrev pub LacksPaths : List Text → Type 0
+LacksPaths words = LacksFiles (value_of ordercheck words (codes "FILE")) (value_of ordercheck words (codes "CERT"))
+
 -- the kinds of error that clap may give at the words, none where it takes them
-unfoldable pub faults_of : List Text → Kinds
-faults_of words = fault_of minorder words
+unfoldable pub faults_of : App → List Text → Kinds
+faults_of app words = fault_of app words

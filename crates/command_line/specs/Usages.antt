@@ -1,17 +1,17 @@
--- What an error of clap means for the program, and why words give no plan.
+-- What an error of clap means for a program, and why words give no plan.
 --     status_of usage      the exit status
---     usage_kind error      help that was asked for, want of memory, or refused words
---     AsksForHelp words      clap answers the words with help
---     AreFaulty words      clap finds a fault in the words, or they give no file or no number of workers
---     Explains words usage      why words give no plan
-use Rattle.std.specs.Prelude.{◌≢◌, ◌⊎◌, ℕ, List, [], codes}
-use Rattle.clap.specs.Words.{IsAmong, Text, kind_of}
+--     usage_kind error      help that was asked for, out of memory, or refused words
+--     AsksForHelp app words      clap answers the words with help
+--     AreFaulty app Lacks words      clap finds a fault in the words, or they lack what is needed
+--     Explains app Lacks words usage      why words give no plan
+use Rattle.std.specs.Prelude.{◌≢◌, ◌⊎◌, ℕ, List, []}
+use Rattle.clap.specs.Words.{App, IsAmong, Text, kind_of}
 use Rattle.clap.specs.declared.error.Error.{Error}
 use Rattle.clap.specs.declared.error.kind.ErrorKind.{ErrorKind}
 use Rattle.clap.specs.declared.error.kind.ErrorKind.TheVariants as kinds
 use Rattle.command_line.specs.declared.usage.Usage.{Usage}
 use Rattle.command_line.specs.declared.usage.Usage.TheVariants.{Help, Refused, OutOfMemory}
-use Rattle.command_line.specs.Lines.{LacksValues, faults_of, read_of, value_of}
+use Rattle.command_line.specs.Lines.{faults_of}
 
 -- the exit status of a command line that gives no plan
 abbrev pub status_of : Usage → ℕ
@@ -24,7 +24,7 @@ usage_of_kind kinds.DisplayHelp error = Help error
 usage_of_kind kinds.OutOfMemory error = OutOfMemory
 usage_of_kind _ error = Refused error
 
--- help that was asked for, want of memory, or refused words
+-- help that was asked for, out of memory, or refused words
 abbrev pub usage_kind : Error → Usage
 usage_kind error = usage_of_kind (kind_of error) error
 
@@ -34,15 +34,15 @@ IsNoHelp (Help error) = ⊥
 IsNoHelp _ = Unit {0}
 
 -- clap answers the words with help
-abbrev pub AsksForHelp : List Text → Type 0
-AsksForHelp words = IsAmong kinds.DisplayHelp (faults_of words)
+abbrev pub AsksForHelp : App → List Text → Type 0
+AsksForHelp app words = IsAmong kinds.DisplayHelp (faults_of app words)
 
--- clap finds a fault in the words, or they give no file or no number of workers
-abbrev pub AreFaulty : List Text → Type 0
-AreFaulty words = (faults_of words ≢ []) ⊎ LacksValues (value_of words (codes "FILE")) (read_of words (codes "workers"))
+-- clap finds a fault in the words, or they lack what is needed
+abbrev pub AreFaulty : App → (List Text → Type 0) → List Text → Type 0
+AreFaulty app Lacks words = (faults_of app words ≢ []) ⊎ Lacks words
 
 -- why words give no plan
-abbrev pub Explains : List Text → Usage → Type 0
-Explains words (Help error) = AsksForHelp words
-Explains words (Refused error) = AreFaulty words
-Explains words OutOfMemory = Unit {0}
+abbrev pub Explains : App → (List Text → Type 0) → List Text → Usage → Type 0
+Explains app Lacks words (Help error) = AsksForHelp app words
+Explains app Lacks words (Refused error) = AreFaulty app Lacks words
+Explains app Lacks words OutOfMemory = Unit {0}

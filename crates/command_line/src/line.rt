@@ -1,12 +1,12 @@
-//! What the words behind the program's name ask for.
+//! What the words behind minorder's name ask for.
 
 ghost use Rattle.std.specs.Prelude.{◌≡◌, IfErr, IfOk, IfSome, IsNone, Some, [], codes, false, option_map};
 ghost use Rattle.clap.specs.Words.{app_of, first_value, found_of, one_text, rule_of};
-ghost use Rattle.command_line.specs.Lines.{IsFlag, IsNumber, LacksValues, count_rule, faults_of, file_rule, minorder, option as option_rule, read_of, texts, value_of, with_options as options_of, workers_rule};
-ghost use Rattle.command_line.specs.Usages.{Explains, IsNoHelp};
+ghost use Rattle.command_line.specs.Lines.{IsFlag, IsNumber, LacksArguments, LacksValues, count_rule, faults_of, minorder, option as option_rule, read_of, texts, value_of, with_options as options_of, workers_rule};
+ghost use Rattle.command_line.specs.Usages.{Explains};
 
+use crate::arguments::{lacking, required_path};
 use crate::usage::{Usage, usage_of};
-use clap::error::ErrorKind;
 use clap::{Arg, ArgAction, ArgMatches, Command, value_parser};
 use order_model::Workers;
 use std::alloc::{AllocError, Global};
@@ -67,16 +67,6 @@ fn count_option<'a>(alloc: Global) -> Arg<'a>
         .help("Print only the level counts and the size under the file order")
 }
 
-/// The file.
-fn file_argument<'a>(alloc: Global) -> Arg<'a>
-    ensures rule { rule_of result ≡ file_rule }
-    ensures local { result.global ≡ false }
-{
-    Arg::new(alloc, "FILE").required(true).help(
-        "A Berkeley PLA file (espresso), of at most 16 inputs and 16 outputs",
-    )
-}
-
 /// The options behind others.
 fn with_options<'a>(alloc: Global, command: Command<'a>) -> Result<Command<'a>, AllocError>
     ensures { IfOk result (λ c. app_of c ≡ options_of (app_of command.entry)) }
@@ -109,7 +99,12 @@ fn command<'a>(alloc: Global) -> Result<Command<'a>, AllocError>
             "Finds the first variable order under which the functions of a PLA file have the smallest shared binary decision diagram",
         )
         .no_binary_name(true);
-    with_options(alloc, command)?.arg(file_argument(alloc))
+    let file = required_path(
+        alloc,
+        "FILE",
+        "A Berkeley PLA file (espresso), of at most 16 inputs and 16 outputs",
+    );
+    with_options(alloc, command)?.arg(file)
 }
 
 /// What the matches of the command hold.
@@ -136,31 +131,18 @@ fn line_of<'a>(matches: &ArgMatches<'a>) -> Option<Line<'a>>
     })
 }
 
-/// A command line that holds no file or no number of workers.
-fn lacking<'a>(mut command: Command<'a>) -> Usage
-    ensures { IsNoHelp result }
-{
-    match command.error(
-        ErrorKind::MissingRequiredArgument,
-        "no file, or no number of workers",
-    ) {
-        Ok(error) => Usage::Refused(error),
-        Err(_) => Usage::OutOfMemory,
-    }
-}
-
 impl<'a> Line<'a> {
     /// What the words behind the program's name ask for, by clap's rules.
     ///
     /// Options stand before or behind the file, each at most once. An option's value may stand in the same word, as in `--workers=2`.
     pub fn of_words(alloc: Global, words: &'a [&'a str]) -> Result<Line<'a>, Usage>
-        ensures file { IfOk result (λ line. value_of (texts words.now) (codes "FILE") ≡ Some line.file.now) }
-        ensures cert { IfOk result (λ line. value_of (texts words.now) (codes "cert") ≡ option_map (λ s. s.now) line.cert) }
-        ensures above { IfOk result (λ line. value_of (texts words.now) (codes "above") ≡ option_map (λ s. s.now) line.plan.above) }
-        ensures count { IfOk result (λ line. IsFlag (read_of (texts words.now) (codes "count")) line.plan.count) }
-        ensures workers { IfOk result (λ line. IsNumber (read_of (texts words.now) (codes "workers")) line.plan.workers) }
-        ensures taken { IfOk result (λ _. faults_of (texts words.now) ≡ []) }
-        ensures refused { IfErr result (Explains (texts words.now)) }
+        ensures file { IfOk result (λ line. value_of minorder (texts words.now) (codes "FILE") ≡ Some line.file.now) }
+        ensures cert { IfOk result (λ line. value_of minorder (texts words.now) (codes "cert") ≡ option_map (λ s. s.now) line.cert) }
+        ensures above { IfOk result (λ line. value_of minorder (texts words.now) (codes "above") ≡ option_map (λ s. s.now) line.plan.above) }
+        ensures count { IfOk result (λ line. IsFlag (read_of minorder (texts words.now) (codes "count")) line.plan.count) }
+        ensures workers { IfOk result (λ line. IsNumber (read_of minorder (texts words.now) (codes "workers")) line.plan.workers) }
+        ensures taken { IfOk result (λ _. faults_of minorder (texts words.now) ≡ []) }
+        ensures refused { IfErr result (Explains minorder LacksArguments (texts words.now)) }
     {
         let mut command = match command(alloc) {
             Ok(command) => command,
@@ -172,7 +154,7 @@ impl<'a> Line<'a> {
         };
         match line {
             Some(line) => Ok(line),
-            None => Err(lacking(command)),
+            None => Err(lacking(command, "no file, or no number of workers")),
         }
     }
 }

@@ -18,7 +18,7 @@ pub enum Usage {
 }
 
 impl Usage {
-    /// The exit status: 0 for help, 2 for refused words, 4 for want of memory.
+    /// The exit status: 0 for help, 2 for refused words, 4 for out of memory.
     pub fn status(&self) -> u8
         ensures { result ≡ status_of self.now }
     {
@@ -30,7 +30,7 @@ impl Usage {
     }
 }
 
-/// What an error of clap means for the program.
+/// What an error of clap means for a program.
 pub(crate) fn usage_of(error: Error) -> Usage
     ensures { result ≡ usage_kind error }
 {

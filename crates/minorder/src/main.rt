@@ -2,46 +2,20 @@
 #![tactic(auto)]
 
 use order_model::Counting;
-use report::minorder;
-use std::alloc::{AllocError, Global};
-use std::io::ErrorKind;
+use report::{minorder, words_of_program};
 use std::process::ExitCode;
-use std::{env, io};
-
-/// The status where the words of the command line can't be taken over.
-const WORDS_STATUS: u8 = 2;
-
-/// The status of want of memory.
-const MEMORY_STATUS: u8 = 4;
-
-/// The words of a command line.
-fn borrowed(alloc: Global, words: &[String]) -> Result<Vec<&str>, AllocError> {
-    let mut borrowed = Vec::with_capacity(alloc, words.len())?;
-    for word in words {
-        borrowed.push(word.as_str())?;
-    }
-    Ok(borrowed)
-}
-
-/// The status where the words can't be taken over: they are no text, or memory is wanting.
-fn status_of(error: &io::Error) -> u8 {
-    if error.kind() == ErrorKind::OutOfMemory {
-        MEMORY_STATUS
-    } else {
-        WORDS_STATUS
-    }
-}
 
 fn main(rt: HostRuntime) -> ExitCode {
-    let words = match env::args(&rt) {
+    let words = match words_of_program(&rt) {
         Ok(words) => words,
-        Err(error) => return ExitCode::from(status_of(&error)),
+        Err(status) => return ExitCode::from(status),
     };
-    let Ok(words) = words.skip(1).collect::<Vec<String>>(rt.alloc()) else {
-        return ExitCode::from(MEMORY_STATUS);
-    };
-    let Ok(words) = borrowed(rt.alloc(), &words) else {
-        return ExitCode::from(MEMORY_STATUS);
+    let Ok(words) = words
+        .iter()
+        .map(|word: &String| word.as_str())
+        .collect::<Vec<&str>>(rt.alloc())
+    else {
+        return ExitCode::from(4);
     };
     let mut out = Counting::new(rt.stdout());
     let mut err = Counting::new(rt.stderr());

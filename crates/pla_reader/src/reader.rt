@@ -1,6 +1,7 @@
 //! Covers from devices.
 
-ghost use Rattle.std.specs.Prelude.{◌≡◌, ◌+◌, ◌^◌, ◌<◌, IfSome};
+ghost use Rattle.std.specs.Prelude.{◌≡◌, ◌+◌, ◌^◌, ◌<◌, IfOk, IfSome};
+ghost use Rattle.pla_reader.specs.Covers.{IsCover};
 ghost use Rattle.pla_reader.specs.Answering.{Answers, IsAnswer, failed_calls};
 
 use crate::cover::Cover;
@@ -41,6 +42,7 @@ fn read_bytes(alloc: Global, bytes: &[u8]) -> Result<Cover, PlaError>
 pub fn read_cover<R: CountedRead>(alloc: Global, reader: &mut R) -> Result<Cover, PlaError>
     requires { R.failures reader.old < 2 ^ 32 }
     ensures answer { IfSome (R.remaining reader.old) (λ bytes. IsAnswer bytes result) }
+    ensures formed { IfOk result IsCover }
     ensures calls { R.failures reader.new ≡ R.failures reader.old + failed_calls result }
 {
     match read_all(alloc, reader, 16_777_216) {

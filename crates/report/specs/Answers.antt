@@ -1,16 +1,19 @@
 -- The answer of a run, by the cover and the pairs that the order has to keep.
 --     PairsAre above n r      what the list of pairs says: none where there is no list
---     IsAnswer cover P text      the text of the answer
---     IsTextOf plan cover text      what a run writes of a cover
+--     IsAnswer cover P text, IsCertificate cover P text      the text of the answer, and that of its certificate
+--     IsTextOf plan cover text, IsCertificateOf above cover text      what a run writes of a cover: its report, and its certificate
 --     Hinders plan cover fault      why it writes nothing of it
-use Rattle.std.specs.Prelude.{◌≡◌, ℕ, Bool, true, false, List, [], Option, Some, None, Result, Ok, Err}
+use Rattle.std.specs.Prelude.{◌≡◌, ℕ, Bool, true, false, List, [], Option, Some, None, Result, Ok, Err, String, string_bytes}
 use Rattle.std.specs.Borrow.{Bor}
+use Rattle.std.specs.Global.{Global}
 use Rattle.order_model.specs.Pairs.{Pair, IsFirstOrder}
 use Rattle.order_model.specs.KeptPairs.{KeptPairs}
 use Rattle.order_model.specs.PairTexts.{ParsesAs, listed}
 use Rattle.order_model.specs.declared.pairs.PairsFault.{PairsFault}
 use Rattle.order_model.specs.Diagrams.{IsFirstKeeping}
 use Rattle.order_model.specs.Sifting.{sifted}
+use Rattle.order_model.specs.Certificates.{Certificate, IsCertOf}
+use Rattle.certificate.specs.Faults.{Spells}
 use Rattle.pla_reader.specs.Covers.{NamedCover}
 use Rattle.command_line.specs.declared.line.RunPlan.{RunPlan}
 use Rattle.report.specs.declared.outcome.Fault.{Fault}
@@ -31,6 +34,18 @@ pub record IsAnswer (cover : NamedCover) (P : List Pair) (text : List ℕ) : Typ
   pub starts : IsFirstOrder cover.inputs P start
   pub is : text ≡ report_text cover best (sifted cover.inputs (functions_of cover) P start)
 
+-- the certificate of that order, as text
+pub record IsCertificate (cover : NamedCover) (P : List Pair) (text : List ℕ) : Type 0 where
+  pub cert : Certificate
+  pub is : IsCertOf cover.inputs (functions_of cover) P cert
+  pub spells : Spells text cert
+
+-- a certificate where one is asked for
+abbrev pub IsCertified : NamedCover → List Pair → Bool → Option (String Global) → Type 0
+IsCertified cover P false text = text ≡ None
+IsCertified cover P true None = ⊥
+IsCertified cover P true (Some text) = IsCertificate cover P (string_bytes text)
+
 abbrev pub IsText : Bool → Option (Bor (List ℕ)) → NamedCover → List ℕ → Type 0
 IsText true above cover text = text ≡ count_text cover
 IsText false above cover text = (kept : KeptPairs) × PairsAre above cover.inputs (Ok kept) × IsAnswer cover kept.pairs text
@@ -38,6 +53,17 @@ IsText false above cover text = (kept : KeptPairs) × PairsAre above cover.input
 -- what a run writes of a cover: with `count` the two lines for the file order, else the answer
 abbrev pub IsTextOf : RunPlan → NamedCover → List ℕ → Type 0
 IsTextOf plan cover text = IsText plan.count plan.above cover text
+
+-- the certificate for the pairs of a list
+abbrev pub IsCertificateOf : Option (Bor (List ℕ)) → NamedCover → List ℕ → Type 0
+IsCertificateOf above cover text = (kept : KeptPairs) × PairsAre above cover.inputs (Ok kept) × IsCertificate cover kept.pairs text
+
+-- what is made of a cover for a certificate's writer: nothing by a count or where there is no writer
+abbrev pub HasCertificate : Bool → Option (Bor (List ℕ)) → NamedCover → Bool → Option (String Global) → Type 0
+HasCertificate true above cover asked text = text ≡ None
+HasCertificate false above cover false text = text ≡ None
+HasCertificate false above cover true None = ⊥
+HasCertificate false above cover true (Some text) = IsCertificateOf above cover (string_bytes text)
 
 -- why a run that read a cover writes nothing of it; a count needs no pairs and no store
 abbrev pub Hinders : RunPlan → NamedCover → Fault → Type 0

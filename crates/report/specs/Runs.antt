@@ -1,60 +1,125 @@
 -- What a run answers and writes.
---     Writes plan file before after outcome      what a run writes, by the bytes of its file
---     Answers plan before after outcome      what it writes, whatever is known of its file
+--     Held      what the writers of the report and of the certificate hold
+--     Tells plan file outcome      what the outcome says of the bytes of the file
+--     Delivers plan IsRead before after outcome      what the writers get, by what is known of the cover that was read
 --     IsPlanOf words plan, EndsWell words before after      the plan of words; what a program writes that ends with status 0
---     AskForCertificate words      a certificate is asked for, which isn't there yet
 --     FailsOnlyByDevice ..      when calls of its devices failed
-use Rattle.std.specs.Prelude.{◌≡◌, ◌≢◌, ◌⊎◌, ℕ, ◌+◌, ◌<◌, ◌≤◌, List, length, take, Option, Some, None, codes, option_map}
+use Rattle.std.specs.Prelude.{◌≡◌, ◌⊎◌, ℕ, ◌+◌, ◌<◌, ◌≤◌, Bool, true, false, List, length, take, Option, Some, None, codes, option_map}
+use Rattle.std.specs.Borrow.{Bor}
 use Rattle.std.specs.Io.KnownBytes.{Appends}
-use Rattle.pla_reader.specs.Covers.{NamedCover}
+use Rattle.order_model.specs.Certificates.{Certificate, IsGood}
+use Rattle.certificate.specs.Faults.{Spells}
+use Rattle.pla_reader.specs.Covers.{NamedCover, IsCover}
 use Rattle.pla_reader.specs.Reading.{Reads, FirstFault}
 use Rattle.command_line.specs.declared.line.RunPlan.{RunPlan}
-use Rattle.command_line.specs.Lines.{IsFlag, IsNumber, read_of, value_of}
+use Rattle.command_line.specs.Lines.{IsFlag, IsNumber, minorder, read_of, value_of}
 use Rattle.command_line.specs.Usages.{AsksForHelp}
 use Rattle.report.specs.declared.outcome.Outcome.{Outcome}
-use Rattle.report.specs.declared.outcome.Outcome.TheVariants.{Done, Refused}
-use Rattle.report.specs.declared.outcome.Fault.TheVariants.{Line, TooLong, OutOfMemory, Device}
-use Rattle.report.specs.Answers.{IsTextOf, Hinders}
+use Rattle.report.specs.declared.outcome.Outcome.TheVariants.{Done, Invalid, Refused}
+use Rattle.report.specs.declared.outcome.Fault.TheVariants.{Line, TooLong, OutOfMemory, Device, CertificateLine, CertificateTooLong}
+use Rattle.report.specs.Answers.{IsTextOf, IsCertificateOf, Hinders}
+use Rattle.report.specs.Texts.{functions_of}
 
 -- the longest input
 abbrev pub longest : ℕ
 longest = 16777216
 
--- the outcome of a run, by the bytes of the file, what the writer held before, and what it holds then
-abbrev pub Writes : RunPlan → List ℕ → Option (List ℕ) → Option (List ℕ) → Outcome → Type 0
-Writes plan file before after Done = (length file ≤ longest) × ((cover : NamedCover) × (text : List ℕ) × Reads file cover × IsTextOf plan cover text × Appends before after text)
-Writes plan file before after (Refused (Line line fault)) = (length file ≤ longest) × FirstFault file line fault × (after ≡ before)
-Writes plan file before after (Refused TooLong) = (longest < length file) × (after ≡ before)
-Writes plan file before after (Refused OutOfMemory) = after ≡ before
-Writes plan file before after (Refused Device) = (after ≡ before) ⊎ ((cover : NamedCover) × (text : List ℕ) × (n : ℕ) × Reads file cover × IsTextOf plan cover text × Appends before after (take n text))
-Writes plan file before after (Refused fault) = (length file ≤ longest) × ((cover : NamedCover) × Reads file cover × Hinders plan cover fault) × (after ≡ before)
+-- what the writers hold, where it is known: that of the report, and that of the certificate, if there is one
+pub record Held : Type 0 where
+  pub out : Option (List ℕ)
+  pub cert : Option (Option (List ℕ))
 
--- where a run is done, the text of some cover was written
-abbrev pub Answers : RunPlan → Option (List ℕ) → Option (List ℕ) → Outcome → Type 0
-Answers plan before after Done = (cover : NamedCover) × (text : List ℕ) × IsTextOf plan cover text × Appends before after text
-Answers plan before after (Refused fault) = Unit {0}
+abbrev pub held : Option (List ℕ) → Option (Option (List ℕ)) → Held
+held out cert = record { out = out; cert = cert }
+
+-- a writer of certificates that may be missing gets the first bytes of a text
+abbrev pub Gets : (List ℕ → Type 0) → (List ℕ → List ℕ) → Option (Option (List ℕ)) → Option (Option (List ℕ)) → Type 0
+Gets IsIt part None after = after ≡ None
+Gets IsIt part (Some before) None = ⊥
+Gets IsIt part (Some before) (Some after) = (text : List ℕ) × IsIt text × Appends before after (part text)
+
+-- a writer of certificates that may be missing gets a text that may be missing
+abbrev pub GetsText : Option (List ℕ) → Option (Option (List ℕ)) → Option (Option (List ℕ)) → Type 0
+GetsText None before after = after ≡ before
+GetsText (Some text) None after = after ≡ None
+GetsText (Some text) (Some before) None = ⊥
+GetsText (Some text) (Some before) (Some after) = Appends before after text
+
+-- a count leaves the certificate's writer alone; else it gets the certificate
+abbrev pub Certifies : Bool → Option (Bor (List ℕ)) → NamedCover → (List ℕ → List ℕ) → Option (Option (List ℕ)) → Option (Option (List ℕ)) → Type 0
+Certifies true above cover part before after = after ≡ before
+Certifies false above cover part before after = Gets (IsCertificateOf above cover) part before after
+
+abbrev pub whole : List ℕ → List ℕ
+whole text = text
+
+-- what the outcome says of the bytes of the file
+abbrev pub Tells : RunPlan → List ℕ → Outcome → Type 0
+Tells plan file Done = length file ≤ longest
+Tells plan file Invalid = ⊥
+Tells plan file (Refused (Line line fault)) = (length file ≤ longest) × FirstFault file line fault
+Tells plan file (Refused TooLong) = longest < length file
+Tells plan file (Refused OutOfMemory) = Unit {0}
+Tells plan file (Refused Device) = Unit {0}
+Tells plan file (Refused (CertificateLine line fault)) = ⊥
+Tells plan file (Refused CertificateTooLong) = ⊥
+Tells plan file (Refused fault) = (length file ≤ longest) × (cover : NamedCover) × Reads file cover × Hinders plan cover fault
+
+-- what a failed write leaves: a beginning of the certificate and no byte of the report, or the whole certificate and a beginning of the report
+abbrev pub LeavesPart : RunPlan → NamedCover → Held → Held → Type 0
+LeavesPart plan cover before after =
+    ((after.out ≡ before.out) × (n : ℕ) × Certifies plan.count plan.above cover (take n) before.cert after.cert)
+    ⊎ (Certifies plan.count plan.above cover whole before.cert after.cert × (text : List ℕ) × (n : ℕ) × IsTextOf plan cover text × Appends before.out after.out (take n text))
+
+-- what the writers get, by what is known of the cover: all texts, or after a failed write a part of them, or else nothing
+abbrev pub Delivers : RunPlan → (NamedCover → Type 0) → Held → Held → Outcome → Type 0
+Delivers plan IsRead before after Done = (cover : NamedCover) × (text : List ℕ) × IsRead cover × IsTextOf plan cover text × Appends before.out after.out text
+    × Certifies plan.count plan.above cover whole before.cert after.cert
+Delivers plan IsRead before after (Refused Device) = (after ≡ before) ⊎ ((cover : NamedCover) × IsRead cover × LeavesPart plan cover before after)
+Delivers plan IsRead before after Invalid = ⊥
+Delivers plan IsRead before after (Refused (CertificateLine line fault)) = ⊥
+Delivers plan IsRead before after (Refused CertificateTooLong) = ⊥
+Delivers plan IsRead before after (Refused fault) = after ≡ before
+
+-- a text that is read as a certificate, and as no other, and it is good
+abbrev pub ReadsAsGood : NamedCover → List ℕ → Type 0
+ReadsAsGood cover text = (cert : Certificate) × Spells text cert × IsGood cover.inputs (functions_of cover) cert × ((other : Certificate) → Spells text other → other ≡ cert)
+
+-- where a run without count is done, what the certificate's writer got reads as a good certificate of the file's functions
+abbrev pub WritesGood : RunPlan → List ℕ → Option (Option (List ℕ)) → Option (Option (List ℕ)) → Outcome → Type 0
+WritesGood plan file before after Done = plan.count ≡ false → (cover : NamedCover) × Reads file cover × Gets (ReadsAsGood cover) whole before after
+WritesGood plan file before after (Refused fault) = Unit {0}
+WritesGood plan file before after Invalid = Unit {0}
 
 -- the plan has the values of the words
 pub record IsPlanOf (words : List (List ℕ)) (plan : RunPlan) : Type 0 where
-  pub above : value_of words (codes "above") ≡ option_map (λ s. s.now) plan.above
-  pub count : IsFlag (read_of words (codes "count")) plan.count
-  pub workers : IsNumber (read_of words (codes "workers")) plan.workers
+  pub above : value_of minorder words (codes "above") ≡ option_map (λ s. s.now) plan.above
+  pub count : IsFlag (read_of minorder words (codes "count")) plan.count
+  pub workers : IsNumber (read_of minorder words (codes "workers")) plan.workers
 
--- what a program writes that ends with status 0: help, where clap answers the words with it, else the text of some cover
+-- what a program writes to its output that ends with status 0: help, where clap answers the words with it, else the text of some cover
 abbrev pub EndsWell : List (List ℕ) → Option (List ℕ) → Option (List ℕ) → Type 0
-EndsWell words before after = AsksForHelp words ⊎ ((plan : RunPlan) × IsPlanOf words plan × Answers plan before after Done)
+EndsWell words before after = AsksForHelp minorder words ⊎ ((plan : RunPlan) × IsPlanOf words plan × (cover : NamedCover) × (text : List ℕ) × IsCover cover × IsTextOf plan cover text × Appends before after text)
 
--- a certificate is asked for, and no count
-abbrev pub AskForCertificate : List (List ℕ) → Type 0
-AskForCertificate words = (value_of words (codes "cert") ≢ None) × (read_of words (codes "count") ≢ Some (codes "true"))
+-- the same of the report alone
+abbrev pub DeliversReport : RunPlan → (NamedCover → Type 0) → Option (List ℕ) → Option (List ℕ) → Outcome → Type 0
+DeliversReport plan IsRead before after Done = (cover : NamedCover) × (text : List ℕ) × IsRead cover × IsTextOf plan cover text × Appends before after text
+DeliversReport plan IsRead before after (Refused Device) = (after ≡ before) ⊎ ((cover : NamedCover) × (text : List ℕ) × (n : ℕ) × IsRead cover × IsTextOf plan cover text × Appends before after (take n text))
+DeliversReport plan IsRead before after Invalid = ⊥
+DeliversReport plan IsRead before after (Refused (CertificateLine line fault)) = ⊥
+DeliversReport plan IsRead before after (Refused CertificateTooLong) = ⊥
+DeliversReport plan IsRead before after (Refused fault) = after ≡ before
 
--- how many calls of the reader and of the writer failed
-abbrev pub FailsOnlyByDevice : ℕ → ℕ → ℕ → ℕ → Outcome → Type 0
-FailsOnlyByDevice reader writer reader' writer' (Refused Device) = reader' + writer' ≡ reader + writer + 1
-FailsOnlyByDevice reader writer reader' writer' _ = (reader' ≡ reader) × (writer' ≡ writer)
+-- what it leaves on its output where a device failed: nothing, or a beginning of the text of some cover
+abbrev pub EndsInPart : List (List ℕ) → Option (List ℕ) → Option (List ℕ) → Type 0
+EndsInPart words before after = (after ≡ before) ⊎ ((plan : RunPlan) × IsPlanOf words plan × (cover : NamedCover) × (text : List ℕ) × (n : ℕ) × IsCover cover × IsTextOf plan cover text × Appends before after (take n text))
 
--- where the run is refused by no writer, nothing is written
-abbrev pub WritesNothing : Option (List ℕ) → Option (List ℕ) → Outcome → Type 0
-WritesNothing before after Done = Unit {0}
-WritesNothing before after (Refused Device) = Unit {0}
-WritesNothing before after (Refused fault) = after ≡ before
+-- how many calls failed, before and after
+abbrev pub FailsOnlyByDevice : ℕ → ℕ → Outcome → Type 0
+FailsOnlyByDevice before after (Refused Device) = after ≡ before + 1
+FailsOnlyByDevice before after _ = after ≡ before
+
+-- the failed calls of a writer that may be missing
+abbrev pub failures_in : {C : Type 0} → (C → ℕ) → Option C → ℕ
+failures_in count None = 0
+failures_in count (Some writer) = count writer

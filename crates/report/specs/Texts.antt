@@ -1,14 +1,18 @@
--- What the program writes of a cover.
+-- What the programs write.
 --     functions_of cover      the functions of a cover (espresso(5), logical type f)
 --     numbers ns, names_in names order, labelled label what      numbers and names with one space between each two; a line
 --     count_text cover      the level counts and the size under the file order
 --     report_text cover best other      the report of an order, beside another one and the file order
-use Rattle.std.specs.Prelude.{ℕ, List, [], ◌∷◌, ◌++◌, map, codes, decimal, get_or}
+--     valid_line cert, invalid_line reason      the verdict on a certificate
+use Rattle.std.specs.Prelude.{ℕ, zero, suc, List, [], ◌∷◌, ◌++◌, length, map, codes, decimal, get_or}
 use Rattle.std.specs.List.{flat_map, join_with_byte, sum}
 use Rattle.order_model.specs.Functions.{Function}
 use Rattle.order_model.specs.Products.{product_functions}
 use Rattle.order_model.specs.Orders.{variables}
 use Rattle.order_model.specs.Levels.{level_counts, size_under}
+use Rattle.order_model.specs.Problems.{TruthTables, functions}
+use Rattle.order_model.specs.Certificates.{Certificate, Reason, Shape, Order, Pairs, Levels, Total, Start, CellTooBig, Edge}
+use Rattle.certificate.specs.Spelling.{hex4}
 use Rattle.pla_reader.specs.Covers.{NamedCover}
 
 -- the functions of a cover
@@ -71,3 +75,32 @@ sizes_lines order size file_size =
 abbrev pub report_text : NamedCover → List ℕ → List ℕ → List ℕ
 report_text cover best other =
     order_lines cover.input_names best ++ counts_lines (levels_under cover best) ++ sizes_lines other (nodes_under cover other) (nodes_under cover (variables cover.inputs))
+
+-- the same seven lines, by the truth tables of the cover and the sifted order's size
+abbrev pub report_parts : NamedCover → TruthTables → List ℕ → List ℕ → ℕ → List ℕ
+report_parts cover t best other size =
+    order_lines cover.input_names best ++ counts_lines (level_counts t.inputs (functions t) best) ++ sizes_lines other size (sum (file_order_levels cover))
+
+-- how many pairs a certificate has, where it has any
+abbrev pub pairs_words : ℕ → List ℕ
+pairs_words zero = []
+pairs_words (suc q) = codes " pairs " ++ decimal (suc q)
+
+-- the line of a certificate that is good
+abbrev pub valid_line : Certificate → List ℕ
+valid_line cert = codes "valid " ++ decimal cert.total ++ pairs_words (length cert.pairs) ++ codes "\n"
+
+-- the words of a reason
+abbrev pub reason_words : Reason → List ℕ
+reason_words Shape = codes "Shape"
+reason_words Order = codes "Order"
+reason_words Pairs = codes "Pairs"
+reason_words Levels = codes "Levels"
+reason_words Total = codes "Total"
+reason_words Start = codes "Start"
+reason_words CellTooBig = codes "CellTooBig"
+reason_words (Edge mask x) = codes "Edge " ++ hex4 mask ++ 32 ∷ decimal x
+
+-- the line of a certificate that is not good
+abbrev pub invalid_line : Reason → List ℕ
+invalid_line reason = codes "invalid " ++ reason_words reason ++ codes "\n"

@@ -3,19 +3,22 @@
 ghost use Rattle.std.specs.Prelude.{◌≡◌, ◌<◌, ◌≤◌, ℕ, Ok, IfOk, length, slice_index, string_bytes};
 ghost use Rattle.order_model.specs.Diagrams.{IsFirstKeeping, nodes_at};
 ghost use Rattle.order_model.specs.Levels.{level_counts, size_under};
+ghost use Rattle.order_model.specs.Orders.{IsOrder};
 ghost use Rattle.order_model.specs.Pairs.{IsFirstOrder};
 ghost use Rattle.order_model.specs.Problems.{functions};
 ghost use Rattle.order_model.specs.Sifting.{sifted as sifted_order};
 ghost use Rattle.dd_builder.specs.Building.{AreTablesOf};
-ghost use Rattle.report.specs.Answers.{IsAnswer, PairsAre};
-ghost use Rattle.report.specs.Texts.{file_order_levels};
+ghost use Rattle.report.specs.Answers.{IsAnswer, IsCertified, PairsAre};
+ghost use Rattle.report.specs.Solved.{IsSolved};
+ghost use Rattle.report.specs.Texts.{file_order_levels, report_parts};
 
+use crate::certificates::certificate_text;
 use crate::outcome::Shortage;
 use crate::texts::{report_text, total};
 use command_line::RunPlan;
 use dd_builder::{build, build_tables};
 use order_model::{Diagram, NoGate, Order, Pairs, PairsFault, Workers};
-use order_solve::solve;
+use order_solve::{Solution, solve};
 use pla_reader::Cover;
 use sifting::laws::diagrams_have_their_functions_tables;
 use sifting::{Manager, Sifted};
@@ -106,10 +109,10 @@ fn levels_under<R: Threads + Sync>(
     Ok(levels)
 }
 
-/// What the search finds: the first order of the fewest nodes, and the sifted one with its size.
+/// What the search finds: the solution, and the sifted order with its size.
 #[derive(Drop)]
 struct Found {
-    best: Order,
+    solution: Solution,
     sifted: Order,
     sifted_size: u32,
 }
@@ -125,7 +128,8 @@ fn search<R: Threads + Sync>(
 ) -> Result<Found, Shortage>
     requires tables { AreTablesOf cover.now tables.now }
     requires pairs { pairs.inputs ≡ cover.now.inputs }
-    ensures best { IfOk result (λ f. IsFirstKeeping tables.now.inputs (functions tables.now) pairs.pairs f.best) }
+    ensures best { IfOk result (λ f. IsFirstKeeping tables.now.inputs (functions tables.now) pairs.pairs f.solution.order) }
+    ensures solved { IfOk result (λ f. IsSolved tables.now.inputs (functions tables.now) pairs.pairs f.solution) }
     ensures sifted { IfOk result (λ f. (start : _) × IsFirstOrder cover.now.inputs pairs.pairs start
         × (f.sifted ≡ sifted_order tables.now.inputs (functions tables.now) pairs.pairs start)) }
     ensures size { IfOk result (λ f. f.sifted_size ≡ size_under tables.now.inputs (functions tables.now) f.sifted) }
@@ -135,28 +139,28 @@ fn search<R: Threads + Sync>(
     let sifted_size = found.size();
     let solution = solve(rt, alloc, tables.problem(), found, workers, &NoGate)?;
     Ok(Found {
-        best: solution.order,
+        solution,
         sifted,
         sifted_size,
     })
 }
 
-/// The text of the answer.
-pub(crate) fn answer_text<R: Threads + Sync>(
+/// The text of the report.
+fn report_of<R: Threads + Sync>(
     rt: &R,
     alloc: Global,
     cover: &Cover,
-    pairs: Pairs,
+    tables: &Tables,
+    found: &Found,
     workers: Workers,
 ) -> Result<String, Shortage>
-    requires { pairs.inputs ≡ cover.now.inputs }
-    ensures { IfOk result (λ text. IsAnswer cover.now pairs.pairs (string_bytes text)) }
+    requires tables { AreTablesOf cover.now tables.now }
+    requires order { IsOrder tables.now.inputs found.now.solution.order }
+    ensures { IfOk result (λ text. string_bytes text ≡ report_parts cover.now tables.now found.now.solution.order found.now.sifted found.now.sifted_size) }
 {
-    let tables = Tables::of_cover(rt, alloc, cover)?;
-    let file_levels = file_order_levels_of(rt, alloc, cover, &tables, workers)?;
-    let found = search(rt, alloc, cover, &tables, pairs, workers)?;
-    let best = found.best.variables();
-    let levels = levels_under(rt, alloc, &tables, &found.best, workers)?;
+    let file_levels = file_order_levels_of(rt, alloc, cover, tables, workers)?;
+    let best = found.solution.order.variables();
+    let levels = levels_under(rt, alloc, tables, &found.solution.order, workers)?;
     let text = report_text(
         alloc,
         cover.input_names(),
@@ -167,4 +171,39 @@ pub(crate) fn answer_text<R: Threads + Sync>(
         total(&file_levels),
     )?;
     Ok(text)
+}
+
+/// The texts that a run writes of a cover: its report, and its certificate where one is asked for.
+#[derive(Drop)]
+pub(crate) struct RunTexts {
+    pub(crate) report: String,
+    pub(crate) certificate: Option<String>,
+}
+
+/// The texts of the answer.
+pub(crate) fn answer_texts<R: Threads + Sync>(
+    rt: &R,
+    alloc: Global,
+    cover: &Cover,
+    pairs: Pairs,
+    workers: Workers,
+    certify: bool,
+) -> Result<RunTexts, Shortage>
+    requires { pairs.inputs ≡ cover.now.inputs }
+    ensures report { IfOk result (λ t. IsAnswer cover.now pairs.pairs (string_bytes t.report)) }
+    ensures certificate { IfOk result (λ t. IsCertified cover.now pairs.pairs certify t.certificate) }
+{
+    let kept = pairs.copied();
+    let tables = Tables::of_cover(rt, alloc, cover)?;
+    let found = search(rt, alloc, cover, &tables, pairs, workers)?;
+    let report = report_of(rt, alloc, cover, &tables, &found, workers)?;
+    let certificate = if certify {
+        Some(certificate_text(alloc, tables.problem(), &kept, found.solution)?)
+    } else {
+        None
+    };
+    Ok(RunTexts {
+        report,
+        certificate,
+    })
 }

@@ -1,16 +1,21 @@
-//! What the programs do with their files: texts, outcomes, runs and command lines.
+//! What the programs do with their files: texts, outcomes, runs, checks and command lines.
 #![tactic(auto)]
 
 mod answers;
+mod certificates;
+mod check_program;
+mod checks;
+mod messages;
 mod outcome;
 mod program;
 mod runs;
 mod texts;
+mod verdict_texts;
 
-pub use command_line::{Line, RunPlan, Usage};
+pub use check_program::ordercheck;
+pub use checks::run_check;
+pub use command_line::{CheckLine, Line, RunPlan, Usage};
+pub use messages::words_of_program;
 pub use outcome::{Fault, Outcome};
 pub use program::minorder;
 pub use runs::run;
-
-#[cfg(test)]
-mod tests;

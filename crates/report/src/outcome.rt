@@ -1,8 +1,9 @@
 //! How a run ends.
 
-ghost use Rattle.std.specs.Prelude.{◌≡◌, IfSome, IfNone};
-ghost use Rattle.report.specs.Statuses.{fault_of_shortage, shortage_of, status_of, refusal_of, want_of_memory};
+ghost use Rattle.std.specs.Prelude.{◌≡◌, ◌⊎◌, IfSome, IfNone};
+ghost use Rattle.report.specs.Statuses.{certificate_refusal, fault_of_shortage, shortage_of, status_of, refusal_of, want_of_memory};
 
+use certificate::{CertFault, LineFault as CertificateFault};
 use dd_builder::BuildError;
 use order_model::PairsFault;
 use pla_reader::{LineFault, PlaError};
@@ -30,24 +31,35 @@ pub enum Fault {
     /// The pairs that the order has to keep are refused.
     #[error("{0}")]
     Pairs(PairsFault),
+    /// The first faulty line of the certificate, counted from 1, and its fault.
+    #[error("certificate line {0}: {1}")]
+    CertificateLine(usize, CertificateFault),
+    /// The certificate has more than 1,048,576 bytes.
+    #[error("certificate: TooLong")]
+    CertificateTooLong,
 }
 
 /// How a run ends.
 #[derive(Clone, Copy, Debug, PartialEq, Eq)]
 pub enum Outcome {
-    /// All that was asked is written.
+    /// All that was asked is written; of a check, that the certificate is valid.
     Done,
+    /// The certificate is not valid, and the reason is written.
+    Invalid,
     Refused(Fault),
 }
 
 impl Outcome {
-    /// The exit status: 0 done, 3 input refused, 4 want of memory, 5 a device failed, 6 a store was full, 8 pairs refused.
+    /// The exit status: 0 done, 1 the certificate is not valid, 3 input refused, 4 out of memory, 5 a device failed, 6 a store was
+    /// full, 8 pairs refused.
     pub fn status(self) -> u8
         ensures { result ≡ status_of self }
     {
         match self {
             Outcome::Done => 0,
+            Outcome::Invalid => 1,
             Outcome::Refused(Fault::Line(_, _) | Fault::TooLong) => 3,
+            Outcome::Refused(Fault::CertificateLine(_, _) | Fault::CertificateTooLong) => 3,
             Outcome::Refused(Fault::OutOfMemory) => 4,
             Outcome::Refused(Fault::Device) => 5,
             Outcome::Refused(Fault::StoreFull) => 6,
@@ -58,10 +70,10 @@ impl Outcome {
     /// Why the run was refused.
     pub fn fault(self) -> Option<Fault>
         ensures refused { IfSome result (λ fault. self ≡ Outcome.Refused fault) }
-        ensures done { IfNone result (self ≡ Outcome.Done) }
+        ensures done { IfNone result ((self ≡ Outcome.Done) ⊎ (self ≡ Outcome.Invalid)) }
     {
         match self {
-            Outcome::Done => None,
+            Outcome::Done | Outcome::Invalid => None,
             Outcome::Refused(fault) => Some(fault),
         }
     }
@@ -76,6 +88,17 @@ pub(crate) fn fault_of(error: PlaError) -> Fault
         PlaError::TooLong => Fault::TooLong,
         PlaError::Device => Fault::Device,
         PlaError::OutOfMemory => Fault::OutOfMemory,
+    }
+}
+
+/// Why a text that is no certificate is refused.
+pub(crate) fn fault_of_certificate(error: CertFault) -> Fault
+    ensures { result ≡ certificate_refusal error }
+{
+    match error {
+        CertFault::Line(line, fault) => Fault::CertificateLine(line, fault),
+        CertFault::TooLong => Fault::CertificateTooLong,
+        CertFault::OutOfMemory => Fault::OutOfMemory,
     }
 }
 

@@ -1,16 +1,19 @@
 //! Runs of minorder, over any reader and writers.
 
-ghost use Rattle.std.specs.Prelude.{◌≡◌, ◌<◌, ◌≤◌, ◌^◌, IfOk, IfErr, IfSome, length, string_bytes};
-ghost use Rattle.report.specs.Answers.{Hinders, IsTextOf};
+ghost use Rattle.std.specs.Prelude.{◌≡◌, ◌+◌, ◌<◌, ◌≤◌, ◌^◌, ℕ, IfOk, IfErr, IfSome, OnErr, OnOk, length, option_map, string_bytes, take};
+ghost use Rattle.pla_reader.specs.Covers.{IsCover};
+ghost use Rattle.pla_reader.specs.Reading.{Reads};
+ghost use Rattle.report.specs.Answers.{HasCertificate, Hinders, IsTextOf};
+ghost use Rattle.report.specs.Headline.{PrintsOptimum};
 ghost use Rattle.report.specs.Texts.{count_text as text_of, file_order_levels};
-ghost use Rattle.report.specs.Runs.{Answers, FailsOnlyByDevice, Writes, WritesNothing};
+ghost use Rattle.report.specs.Runs.{Delivers, FailsOnlyByDevice, GetsText, Tells, WritesGood, failures_in, held};
 
-use crate::answers::{answer_text, pairs_of};
+use crate::answers::{RunTexts, answer_texts, pairs_of};
 use crate::outcome::{Fault, Outcome, fault_of};
 use crate::texts::count_text;
 use command_line::RunPlan;
 use order_model::laws::truth_tables_keep_functions;
-use order_model::{CountedRead, CountedWrite, Order, write_whole};
+use order_model::{CountedRead, CountedWrite, Order, Refused, write_whole};
 use pla_reader::{Cover, read_cover};
 use std::alloc::{AllocError, Global};
 use std::thread::Threads;
@@ -41,36 +44,61 @@ fn counts_of<R: Threads + Sync>(rt: &R, alloc: Global, cover: &Cover) -> Result<
     Ok(text)
 }
 
-/// What the plan asks to be written of a cover.
-fn planned_text<'a, R: Threads + Sync>(
+/// What the plan asks to be written of a cover; a certificate only where it has a writer.
+fn planned_texts<'a, R: Threads + Sync>(
     rt: &R,
     alloc: Global,
     plan: &RunPlan<'a>,
     cover: &Cover,
-) -> Result<String, Fault>
-    ensures text { IfOk result (λ text. IsTextOf plan.now cover.now (string_bytes text)) }
+    certify: bool,
+) -> Result<RunTexts, Fault>
+    ensures report { IfOk result (λ t. IsTextOf plan.now cover.now (string_bytes t.report)) }
+    ensures certificate { IfOk result (λ t. HasCertificate plan.now.count plan.now.above cover.now certify t.certificate) }
     ensures fault { IfErr result (Hinders plan.now cover.now) }
 {
     if plan.count {
         return match counts_of(rt, alloc, cover) {
-            Ok(text) => Ok(text),
+            Ok(report) => Ok(RunTexts {
+                report,
+                certificate: None,
+            }),
             Err(_) => Err(Fault::OutOfMemory),
         };
     }
     match pairs_of(plan, cover.inputs()) {
-        Ok(pairs) => match answer_text(rt, alloc, cover, pairs, plan.workers) {
-            Ok(text) => Ok(text),
+        Ok(pairs) => match answer_texts(rt, alloc, cover, pairs, plan.workers, certify) {
+            Ok(texts) => Ok(texts),
             Err(shortage) => Err(Fault::from(shortage)),
         },
         Err(fault) => Err(Fault::Pairs(fault)),
     }
 }
 
+/// Writes the certificate, where there are a text and a writer.
+fn write_certificate<C: CountedWrite>(
+    cert: &mut Option<C>,
+    text: &Option<String>,
+) -> Result<(), Refused>
+    requires { failures_in C.failures cert.old < 2 ^ 32 }
+    ensures ok { OnOk result (GetsText (option_map (λ t. string_bytes t) text.now) (option_map C.contents cert.old) (option_map C.contents cert.new)) }
+    ensures ok_calls { OnOk result (failures_in C.failures cert.new ≡ failures_in C.failures cert.old) }
+    ensures err { OnErr result ((n : ℕ) × GetsText (option_map (λ t. take n (string_bytes t)) text.now) (option_map C.contents cert.old) (option_map C.contents cert.new)) }
+    ensures err_calls { OnErr result (failures_in C.failures cert.new ≡ failures_in C.failures cert.old + 1) }
+{
+    let Some(text) = text else {
+        return Ok(());
+    };
+    match cert {
+        Some(writer) => write_whole(writer, text.as_bytes()),
+        None => Ok(()),
+    }
+}
+
 /// Reads a PLA file and writes what is asked of it: with `count`, the level counts and the size under the file order, else the
-/// first order of the fewest nodes that keeps the pairs, beside the sifted one.
+/// first order of the fewest nodes that keeps the pairs, beside the sifted one, and its certificate where this has a writer.
 ///
-/// The file is read to its end before anything is decided, and a text is made whole before its first byte is written. The
-/// certificate's writer is left alone.
+/// The file is read to its end before anything is decided, and both texts are made whole before the first byte is written. The
+/// certificate goes out first. A count leaves the certificate's writer alone.
 pub fn run<'a, R: Threads + Sync, F: CountedRead, W: CountedWrite, C: CountedWrite>(
     rt: &R,
     alloc: Global,
@@ -81,22 +109,31 @@ pub fn run<'a, R: Threads + Sync, F: CountedRead, W: CountedWrite, C: CountedWri
 ) -> Outcome
     requires file { F.failures file.old < 2 ^ 32 }
     requires out { W.failures out.old < 2 ^ 32 }
-    ensures writes { IfSome (F.remaining file.old) (λ bytes. Writes plan.now bytes (W.contents out.old) (W.contents out.new) result) }
-    ensures answers { Answers plan.now (W.contents out.old) (W.contents out.new) result }
-    ensures devices { FailsOnlyByDevice (F.failures file.old) (W.failures out.old) (F.failures file.new) (W.failures out.new) result }
-    ensures silent { WritesNothing (W.contents out.old) (W.contents out.new) result }
-    ensures certificate { cert.new ≡ cert.old }
+    requires cert { failures_in C.failures cert.old < 2 ^ 32 }
+    ensures tells { IfSome (F.remaining file.old) (λ bytes. Tells plan.now bytes result) }
+    ensures writes { IfSome (F.remaining file.old) (λ bytes. Delivers plan.now (Reads bytes) (held (W.contents out.old) (option_map C.contents cert.old))
+        (held (W.contents out.new) (option_map C.contents cert.new)) result) }
+    ensures answers { Delivers plan.now IsCover (held (W.contents out.old) (option_map C.contents cert.old)) (held (W.contents out.new) (option_map C.contents cert.new)) result }
+    // what the certificate's writer got reads as a good certificate
+    ensures good { IfSome (F.remaining file.old) (λ bytes. WritesGood plan.now bytes (option_map C.contents cert.old) (option_map C.contents cert.new) result) }
+    // the printed order is the first under which the file's functions have the fewest nodes
+    ensures optimum { IfSome (F.remaining file.old) (λ bytes. PrintsOptimum plan.now bytes (W.contents out.old) (W.contents out.new) result) }
+    ensures devices { FailsOnlyByDevice (F.failures file.old + W.failures out.old + failures_in C.failures cert.old)
+        (F.failures file.new + W.failures out.new + failures_in C.failures cert.new) result }
 {
-    let _cert = &cert;
     let cover = match read_cover(alloc, file) {
         Ok(cover) => cover,
         Err(error) => return Outcome::Refused(fault_of(error)),
     };
-    match planned_text(rt, alloc, plan, &cover) {
-        Ok(text) => match write_whole(out, text.as_bytes()) {
-            Ok(()) => Outcome::Done,
-            Err(_) => Outcome::Refused(Fault::Device),
-        },
-        Err(fault) => Outcome::Refused(fault),
+    let texts = match planned_texts(rt, alloc, plan, &cover, cert.is_some()) {
+        Ok(texts) => texts,
+        Err(fault) => return Outcome::Refused(fault),
+    };
+    if write_certificate(cert, &texts.certificate).is_err() {
+        return Outcome::Refused(Fault::Device);
+    }
+    match write_whole(out, texts.report.as_bytes()) {
+        Ok(()) => Outcome::Done,
+        Err(_) => Outcome::Refused(Fault::Device),
     }
 }

@@ -1,0 +1,29 @@
+//! What both command lines are made of.
+
+ghost use Rattle.std.specs.Prelude.{◌≡◌, false};
+ghost use Rattle.clap.specs.Words.{rule_of};
+ghost use Rattle.command_line.specs.Lines.{required as required_rule};
+ghost use Rattle.command_line.specs.Usages.{IsNoHelp};
+
+use crate::usage::Usage;
+use clap::error::ErrorKind;
+use clap::{Arg, Command};
+use std::alloc::Global;
+
+/// A path that has to be there.
+pub(crate) fn required_path<'a>(alloc: Global, name: &'a str, help: &'a str) -> Arg<'a>
+    ensures rule { rule_of result ≡ required_rule name.entry.now }
+    ensures local { result.global ≡ false }
+{
+    Arg::new(alloc, name).required(true).help(help)
+}
+
+/// The fault of words that lack an argument. Clap's own rules find it first.
+pub(crate) fn lacking<'a>(mut command: Command<'a>, what: &str) -> Usage
+    ensures { IsNoHelp result }
+{
+    match command.error(ErrorKind::MissingRequiredArgument, what) {
+        Ok(error) => Usage::Refused(error),
+        Err(_) => Usage::OutOfMemory,
+    }
+}

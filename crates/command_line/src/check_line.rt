@@ -1,0 +1,72 @@
+//! What the words behind ordercheck's name ask for.
+
+ghost use Rattle.std.specs.Prelude.{◌≡◌, IfErr, IfOk, IfSome, IsNone, Some, [], codes};
+ghost use Rattle.clap.specs.Words.{app_of, first_value, found_of};
+ghost use Rattle.command_line.specs.Lines.{LacksFiles, LacksPaths, faults_of, ordercheck, texts, value_of};
+ghost use Rattle.command_line.specs.Usages.{Explains};
+
+use crate::arguments::{lacking, required_path};
+use crate::usage::{Usage, usage_of};
+use clap::{ArgMatches, Command};
+use std::alloc::{AllocError, Global};
+
+/// A command line of ordercheck: `FILE CERT`.
+#[derive(Clone, Copy, Debug)]
+pub struct CheckLine<'a> {
+    /// The path of the PLA file.
+    pub file: &'a str,
+    /// The path of the certificate.
+    pub cert: &'a str,
+}
+
+/// The command that clap matches.
+fn command<'a>(alloc: Global) -> Result<Command<'a>, AllocError>
+    ensures { IfOk result (λ c. app_of c ≡ ordercheck) }
+{
+    let command = Command::new(alloc, "ordercheck")
+        .about(
+            "Decides whether a certificate proves that no variable order of a PLA file's functions has fewer nodes",
+        )
+        .no_binary_name(true);
+    command
+        .arg(required_path(alloc, "FILE", "The Berkeley PLA file"))?
+        .arg(required_path(
+            alloc,
+            "CERT",
+            "The certificate, as minorder --cert writes it",
+        ))
+}
+
+/// What the matches of the command hold.
+fn line_of<'a>(matches: &ArgMatches<'a>) -> Option<CheckLine<'a>>
+    ensures file { IfSome result (λ line. first_value (found_of matches.now) (codes "FILE") ≡ Some line.file.now) }
+    ensures cert { IfSome result (λ line. first_value (found_of matches.now) (codes "CERT") ≡ Some line.cert.now) }
+    ensures lacks { IsNone result → LacksFiles (first_value (found_of matches.now) (codes "FILE")) (first_value (found_of matches.now) (codes "CERT")) }
+{
+    let file = matches.get_str("FILE")?;
+    let cert = matches.get_str("CERT")?;
+    Some(CheckLine { file, cert })
+}
+
+impl<'a> CheckLine<'a> {
+    /// What the words behind the program's name ask for, by clap's rules.
+    pub fn of_words(alloc: Global, words: &'a [&'a str]) -> Result<CheckLine<'a>, Usage>
+        ensures file { IfOk result (λ line. value_of ordercheck (texts words.now) (codes "FILE") ≡ Some line.file.now) }
+        ensures cert { IfOk result (λ line. value_of ordercheck (texts words.now) (codes "CERT") ≡ Some line.cert.now) }
+        ensures taken { IfOk result (λ _. faults_of ordercheck (texts words.now) ≡ []) }
+        ensures refused { IfErr result (Explains ordercheck LacksPaths (texts words.now)) }
+    {
+        let mut command = match command(alloc) {
+            Ok(command) => command,
+            Err(_) => return Err(Usage::OutOfMemory),
+        };
+        let line = match command.try_get_matches_from_mut(words) {
+            Ok(matches) => line_of(&matches),
+            Err(error) => return Err(usage_of(error)),
+        };
+        match line {
+            Some(line) => Ok(line),
+            None => Err(lacking(command, "no file, or no certificate")),
+        }
+    }
+}

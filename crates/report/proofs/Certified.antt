@@ -1,0 +1,57 @@
+-- The certificate of a solution.
+--     parts_same      a certificate's parts are those of its order's certificate
+--     certified      what is a certificate by the truth tables of a cover is one of the cover
+use Rattle.std.proofs.Common.{◌≡◌, ℕ, Bool, true, false, List, length, map, Option, Some, None, String, string_bytes, refl, sym, subst, ◌∙◌}
+use Rattle.std.specs.Global.{Global}
+use Rattle.order_model.specs.Functions.{Function}
+use Rattle.order_model.specs.Pairs.{Pair, sorted_pairs}
+use Rattle.order_model.specs.Levels.{level_counts, size_under}
+use Rattle.order_model.specs.Listed.{listed}
+use Rattle.order_model.specs.declared.listed_cells.ListedCell.{ListedCell}
+use Rattle.order_model.specs.Certificates.{certificate_of}
+use Rattle.order_model.specs.Diagrams.{IsFirstKeeping}
+use Rattle.order_model.specs.Problems.{TruthTables, functions}
+use Rattle.order_model.proofs.SameCertificates.{certificate_same}
+use Rattle.certificate.specs.Faults.{Spells}
+use Rattle.certificate.specs.Values.{value_of}
+use Rattle.pla_reader.specs.Covers.{NamedCover}
+use Rattle.dd_builder.specs.Building.{AreTablesOf}
+use Rattle.report.specs.Answers.{IsCertificate, IsCertified}
+use Rattle.report.specs.Texts.{functions_of}
+use Rattle.report.proofs.Leveled.{tables_keep}
+use Rattle.report.proofs.SameAnswers.{first_same}
+
+pub parts_same : (n : ℕ) (F : List Function) (P : List Pair) (order : List ℕ) (inputs outputs : ℕ) (o levels : List ℕ) (total : ℕ) (pairs : List Pair) (cells : List ListedCell)
+    → inputs ≡ n → outputs ≡ length F → o ≡ order → levels ≡ level_counts n F order → total ≡ size_under n F order → pairs ≡ P → sorted_pairs n P ≡ P
+    → map listed cells ≡ (certificate_of n F P order).cells → value_of 2 inputs outputs o levels total pairs cells ≡ certificate_of n F P order
+unfolding certificate_of
+parts_same n F P order inputs outputs o levels total pairs cells a b c d e f g h = λ i. record {
+  format = 2;
+  inputs = a i;
+  outputs = b i;
+  order = c i;
+  levels = d i;
+  total = e i;
+  pairs = (f ∙ sym g) i;
+  cells = h i;
+}
+
+pub certified : (cover : NamedCover) (t : TruthTables) (P : List Pair) (order text : List ℕ) → AreTablesOf cover t → IsFirstKeeping t.inputs (functions t) P order
+    → Spells text (certificate_of t.inputs (functions t) P order) → IsCertificate cover P text
+unfolding certificate_of
+certified cover t P order text h first spells =
+    let first' = subst (λ k. IsFirstKeeping k (functions t) P order) h.inputs first in
+    let same = certificate_same cover.inputs (functions t) (functions_of cover) (tables_keep cover t h) P order in record {
+      cert = certificate_of cover.inputs (functions_of cover) P order;
+      is = record { first = first_same cover.inputs (functions t) (functions_of cover) P order (tables_keep cover t h) first'; parts = refl };
+      spells = subst (Spells text) same (subst (λ k. Spells text (certificate_of k (functions t) P order)) h.inputs spells);
+    }
+
+pub some_certified : (cover : NamedCover) (P : List Pair) (asked : Bool) (given : Option (String Global)) (text : String Global) → asked ≡ true → given ≡ Some text → IsCertificate cover P (string_bytes text) → IsCertified cover P asked given
+some_certified cover P false given text e is has = absurd (cc)
+some_certified cover P true None text e is has = absurd (cc)
+some_certified cover P true (Some other) text e is has = subst (λ k. IsCertified cover P true k) (sym is) has
+
+pub not_certified : (cover : NamedCover) (P : List Pair) (asked : Bool) (given : Option (String Global)) → asked ≡ false → given ≡ None → IsCertified cover P asked given
+not_certified cover P true given e is = absurd (cc)
+not_certified cover P false given e is = is
