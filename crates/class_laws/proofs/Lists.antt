@@ -1,7 +1,8 @@
 -- Lists made by functions.
 --     map_map, map_same, flat_map_same, map_flat_map      one function behind another; two that agree on the elements
 --     map_ranges      two functions that agree on two ranges of numbers
-use Rattle.std.proofs.Common.{◌≡◌, ℕ, zero, suc, ◌+◌, ◌<◌, inl, inr, List, [], ◌∷◌, ◌++◌, map, refl, ap, ◌∙◌, arith}
+--     place_of      where an element stands
+use Rattle.std.proofs.Common.{◌≡◌, ℕ, zero, suc, ◌+◌, ◌<◌, inl, inr, List, [], ◌∷◌, ◌++◌, map, length, get_or, refl, sym, ap, ◌∙◌, arith}
 use Rattle.std.specs.List.{flat_map, range_with_len}
 use Rattle.std.proofs.lemmas.List.{map-append}
 use Rattle.order_model.proofs.Sets.{Among}
@@ -27,3 +28,10 @@ map_ranges f g zero a b h = refl
 map_ranges f g (suc m) a b h =
     λ i. (ap f (let s : a ≡ a + 0 = omega arith in s) ∙ h 0 (omega arith) ∙ ap g (let s : b + 0 ≡ b = omega arith in s)) i
     ∷ map_ranges f g m (a + 1) (b + 1) (λ k lt. ap f (let s : a + 1 + k ≡ a + (k + 1) = omega arith in s) ∙ h (k + 1) (omega arith) ∙ ap g (let s : b + (k + 1) ≡ b + 1 + k = omega arith in s)) i
+
+pub place_of : {X : Type 0} (none : X) (xs : List X) (x : X) → Among x xs → (i : ℕ) × ((i < length xs) × (get_or xs i none ≡ x))
+place_of none [] x h = absurd h
+place_of none (y ∷ ys) x h = elim h [
+  | inl e ↦ (0, (omega arith, sym e))
+  | inr a ↦ let s = place_of none ys x a in (suc s.0, (let l = s.1.0 in omega arith, s.1.1))
+]

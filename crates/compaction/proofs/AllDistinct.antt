@@ -18,13 +18,12 @@ use Rattle.order_model.proofs.OrderLists.{has_variables}
 use Rattle.class_laws.specs.Dependence.{joined_mask}
 use Rattle.class_laws.specs.Places.{low_place, pairs}
 use Rattle.compaction.specs.Rows.{width_wanted}
-use Rattle.compaction.specs.Keys.{AreUsed, TellsPairs}
+use Rattle.pair_numbering.specs.Keys.{AreUsed, TellsPairs}
 use Rattle.compaction.specs.Strips.{AreDistinct, AreStrips, HoldsStrips, HoldsTable, masks_in_use, unrolled, HoldsKeys}
 use Rattle.class_laws.specs.Table.{ClassesOf, with_variable, functions_of, set_of, free_below}
 use Rattle.class_laws.proofs.Counted.{length_filter_map}
 use Rattle.class_laws.proofs.Index.{length-pairs, pair_listed, pair_within}
-use Rattle.compaction.proofs.Keyed.{keys_ready}
-use Rattle.compaction.proofs.Named.{keys_by_names}
+use Rattle.compaction.proofs.Keyed.{keys_ready, keys_by_names}
 use Rattle.compaction.proofs.Stripped.{parts_of}
 use Rattle.compaction.proofs.Unrolled.{same_by_places, length_unrolled, unrolled_at}
 use Rattle.compaction.proofs.Used.{in_use_same, width_by_use}

@@ -97,12 +97,6 @@ low_more first word place =
     (λ b h. ap (λ k. number_of first (k == 1)) (bit_of_byte word (place * 8) b h))
     ∙ ap (λ k. map (λ b. number_of first (bit_at word b == 1)) (range_with_len 0 k)) (let e : place * 8 + 8 ≡ (place + 1) * 8 = omega arith in e)
 
-pub low_eight : (first : Bool) (byte : ℕ) →
-    low_numbers first byte 8 ≡ number_of first (bit_at byte 0 == 1) ∷ number_of first (bit_at byte 1 == 1) ∷ number_of first (bit_at byte 2 == 1) ∷ number_of first (bit_at byte 3 == 1)
-    ∷ number_of first (bit_at byte 4 == 1) ∷ number_of first (bit_at byte 5 == 1) ∷ number_of first (bit_at byte 6 == 1) ∷ number_of first (bit_at byte 7 == 1) ∷ []
-unfolding low_numbers
-low_eight first byte = refl
-
 pub low_none : (first : Bool) (word : ℕ) → low_numbers first word 0 ≡ []
 unfolding low_numbers
 low_none first word = refl

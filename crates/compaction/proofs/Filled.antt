@@ -1,8 +1,8 @@
 -- Rows of a block, filled one after another.
-use Rattle.std.proofs.Common.{◌≡◌, ◌≢◌, ℕ, zero, suc, ◌+◌, ◌-◌, ◌%◌, ◌^◌, ◌<◌, ◌≤◌, cond, inl, inr, List, [], ◌∷◌, length, slice_index, get_or, set, get_or-set_same, get_or-set_other, refl, sym, ap, ◌∙◌, subst, arith, eqb}
+use Rattle.std.proofs.Common.{◌≡◌, ◌≢◌, ℕ, zero, suc, ◌+◌, ◌-◌, ◌%◌, ◌^◌, ◌<◌, ◌≤◌, cond, inl, inr, List, [], ◌∷◌, length, slice_index, get_or, set, refl, sym, ap, ◌∙◌, subst, arith, eqb}
 use Rattle.std.specs.Int.{bit_at}
 use Rattle.std.proofs.lemmas.Bool.{cases_lt, cases_eq}
-use Rattle.std.proofs.lemmas.List.{length-set, take_at, get_or_append_left, get_or_push}
+use Rattle.std.proofs.lemmas.List.{take_at, get_or_append_left, get_or_push}
 use Rattle.std.proofs.Common.{◌++◌, min, take, drop, replicate, pow_mono}
 use Rattle.std.proofs.Math.Nat.{mod-eq_of_lt, two-pow-succ}
 use Rattle.std.proofs.lemmas.Nat.{pow_pos}
@@ -20,32 +20,6 @@ pub record IsFilling (p : TruthTables) (masks needed : List ℕ) (own k : ℕ) (
   pub others : (i : ℕ) → i < k → slice_index masks i ≢ own → get_or new i [] ≡ get_or old i []
   pub later : (i : ℕ) → k ≤ i → get_or new i [] ≡ get_or old i []
 
-pub filling_written : (p : TruthTables) (masks needed : List ℕ) (own k : ℕ) (old new : List (List ℕ)) (row : List ℕ) → k < length masks → slice_index masks k ≡ own → IsRow p own (slice_index needed k) row →
-    IsFilling p masks needed own k old new → IsFilling p masks needed own (k + 1) old (set new k row)
-filling_written p masks needed own k old new row lt e r h = record {
-  long = length-set new k row ∙ h.long;
-  own_rows = λ i l m. elim (cases_eq i k) [
-    | inl s ↦ subst (λ j. IsRow p own (slice_index needed j) (get_or (set new k row) j [])) (sym s) (subst (IsRow p own (slice_index needed k)) (sym (get_or-set_same new k row [] (let a = h.long in omega arith))) r)
-    | inr ne ↦ subst (IsRow p own (slice_index needed i)) (sym (get_or-set_other new k i row [] ne)) (h.own_rows i (omega arith) m)
-  ];
-  others = λ i l m. elim (cases_eq i k) [
-    | inl s ↦ absurd (m (ap (slice_index masks) s ∙ e))
-    | inr ne ↦ get_or-set_other new k i row [] ne ∙ h.others i (omega arith) m
-  ];
-  later = λ i l. let ne : i ≢ k = omega arith in get_or-set_other new k i row [] ne ∙ h.later i (omega arith);
-}
-
-pub filling_kept : (p : TruthTables) (masks needed : List ℕ) (own k : ℕ) (old new : List (List ℕ)) → slice_index masks k ≢ own → IsFilling p masks needed own k old new → IsFilling p masks needed own (k + 1) old new
-filling_kept p masks needed own k old new ne h = record {
-  long = h.long;
-  own_rows = λ i l m. elim (cases_eq i k) [ inl s ↦ absurd (ne (ap (slice_index masks) (sym s) ∙ m)) | inr d ↦ h.own_rows i (omega arith) m ];
-  others = λ i l m. elim (cases_eq i k) [ inl s ↦ h.later i (omega arith) | inr d ↦ h.others i (omega arith) m ];
-  later = λ i l. h.later i (omega arith);
-}
-
-pub filling_none : (p : TruthTables) (masks needed : List ℕ) (own : ℕ) (old : List (List ℕ)) → length old ≡ length masks → IsFilling p masks needed own 0 old old
-filling_none p masks needed own old l = record { long = l; own_rows = λ i lt m. absurd (omega arith); others = λ i lt m. refl; later = λ i lt. refl }
-
 -- ---- the two halves of a walk
 
 power_double : (n y : ℕ) → y < n → 2 ^ (n - y) ≡ 2 ^ (n - (y + 1)) + 2 ^ (n - (y + 1))
@@ -56,9 +30,6 @@ few_compactions n y before after lt a b = let d = power_double n y lt in omega a
 
 pub fewer_compactions : (n y before : ℕ) → y < n → before + 1 ≤ 2 ^ (n - (y + 1)) → before + 1 ≤ 2 ^ (n - y)
 fewer_compactions n y before lt a = let d = power_double n y lt in omega arith
-
-pub no_compactions : (n y : ℕ) → 0 + 1 ≤ 2 ^ (n - y)
-no_compactions n y = let p = pow_pos (n - y) in omega arith
 
 module _ (p : TruthTables) (masks needed : List ℕ) where
   -- nothing is wanted

@@ -7,13 +7,13 @@ use Rattle.order_model.specs.Orders.{has}
 use Rattle.order_model.specs.Problems.{TruthTables, value_at}
 use Rattle.class_laws.specs.Places.{pairs}
 use Rattle.compaction.specs.Strips.{AreNamed, AreStrips, HoldsBytes, HoldsStrips, unrolled}
-use Rattle.compaction.specs.Keys.{TellsPairs}
+use Rattle.pair_numbering.specs.Keys.{TellsPairs}
 use Rattle.class_laws.specs.Table.{ClassesOf, classes_of, with_variable, set_of, free_below}
 use Rattle.class_laws.specs.Values.{values_of, number_of}
 use Rattle.compaction.proofs.HeldStrips.{rest, parts, less, holds_low, holds_values}
 use Rattle.class_laws.proofs.Index.{length-pairs}
 use Rattle.compaction.proofs.Keyed.{free_zero}
-use Rattle.compaction.proofs.Named.{names_below, length_names}
+use Rattle.pair_numbering.proofs.Names.{names_below, length_names}
 use Rattle.compaction.proofs.Stripped.{low_named, low_tells}
 
 -- the values of a problem of at least eight variables

@@ -1,7 +1,7 @@
 -- A table kept in strips holds the keys of a set, and with one more variable those of the set with it.
 --     free_split, free_other, free_less      how many variables outside the set stand below
 --     holds_high, holds_low      a variable above the strips, and one inside them
-use Rattle.std.proofs.Common.{◌≡◌, ◌≢◌, ℕ, zero, suc, ◌+◌, ◌-◌, ◌*◌, ◌/◌, ◌%◌, ◌^◌, ◌<◌, ◌≤◌, Bool, true, false, not, cond, ◌&&◌, inl, inr, List, [], ◌∷◌, map, length, get_or, bit_or, eqb, eq-eqb, ne_eqb, refl, sym, ap, ap₂, ◌∙◌, subst, arith}
+use Rattle.std.proofs.Common.{◌≡◌, ◌≢◌, ℕ, zero, suc, ◌+◌, ◌-◌, ◌*◌, ◌/◌, ◌%◌, ◌^◌, ◌<◌, ◌≤◌, true, false, not, cond, ◌&&◌, inl, inr, List, [], ◌∷◌, map, length, get_or, bit_or, eqb, eq-eqb, ne_eqb, refl, sym, ap, ap₂, ◌∙◌, subst, arith}
 use Rattle.std.specs.Int.{bit_at}
 use Rattle.std.proofs.Math.Nat.{eq_of_mul-eq-mul_right, div-lt_iff_lt-mul, mod-lt}
 use Rattle.std.proofs.lemmas.Bool.{cases_eq}
@@ -12,13 +12,13 @@ use Rattle.order_model.proofs.Masks.{has_members}
 use Rattle.order_model.proofs.OrderLists.{has_variables}
 use Rattle.class_laws.specs.Places.{pairs}
 use Rattle.compaction.specs.Strips.{AreStrips, HoldsStrips, unrolled, HoldsKeys}
-use Rattle.compaction.specs.Keys.{TellsPairs}
+use Rattle.pair_numbering.specs.Keys.{TellsPairs}
 use Rattle.class_laws.specs.Table.{ClassesOf, classes_of, with_variable, set_of, free_below}
 use Rattle.class_laws.proofs.Extended.{free_none, free_step, rank_small}
 use Rattle.order_model.specs.Problems.{TruthTables, value_at}
 use Rattle.class_laws.specs.Values.{values_of, number_of}
-use Rattle.compaction.proofs.Keyed.{keys_ready, free_zero, value_keys}
-use Rattle.compaction.proofs.Named.{keys_by_names, names_below, length_names}
+use Rattle.compaction.proofs.Keyed.{keys_ready, free_zero, value_keys, keys_by_names}
+use Rattle.pair_numbering.proofs.Names.{names_below, length_names}
 use Rattle.compaction.proofs.Stripped.{parts_of, below_product, low_strips, low_tells}
 use Rattle.class_laws.proofs.Index.{length-pairs}
 use Rattle.compaction.proofs.Unrolled.{named_of, length_unrolled, unrolled_at}
@@ -26,10 +26,6 @@ use Rattle.compaction.proofs.Unrolled.{named_of, length_unrolled, unrolled_at}
 -- one step of the count
 step_of_bit : (set y : ℕ) → free_below set (suc y) ≡ free_below set y + cond (not (eqb (bit_at set y) 1)) 1 0
 step_of_bit set y = ap (free_below set) (let e : suc y ≡ y + 1 = omega arith in e) ∙ free_step set y
-
-small_step : (b : Bool) → cond (not b) 1 0 ≤ 1
-small_step true = omega arith
-small_step false = omega arith
 
 pub free_split : (set low x : ℕ) → low ≤ x → free_below set low ≤ free_below set x
 free_split set low zero h = let e : low ≡ 0 = omega arith in subst (λ k. free_below set low ≤ free_below set k) e (omega arith)

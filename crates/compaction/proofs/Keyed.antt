@@ -4,6 +4,7 @@
 --     pairs_depend, more_classes      masks and class numbers with one more variable, from keys
 --     keys_ready      what the numbering of the pairs asks for
 --     value_keys      the keys of the values
+--     keys_by_names      the keys with one more variable, from names of the pairs
 use Rattle.std.proofs.Common.{◌≡◌, ℕ, zero, suc, ◌+◌, ◌*◌, ◌/◌, ◌^◌, ◌<◌, ◌≤◌, Bool, true, false, not, cond, inl, inr, List, [], ◌∷◌, map, length, reverse, get_or, bit_or, nat_eq, eq-eqb, ne_eqb, refl, sym, ap, ap₂, ◌∙◌, subst, arith}
 use Rattle.std.specs.List.{filter, range_with_len, list_any}
 use Rattle.std.proofs.lemmas.Bool.{cases_eq}
@@ -23,15 +24,18 @@ use Rattle.std.proofs.lemmas.Nat.Bits.{shr_and_one, bit_at-zero}
 use Rattle.order_model.specs.Problems.{TruthTables, value_at}
 use Rattle.class_laws.specs.Values.{values_of, number_of}
 use Rattle.class_laws.proofs.StartClasses.{holds_start}
-use Rattle.class_laws.specs.Table.{classes_of, ClassesOf, HoldsClasses, functions_of, set_of, free_below}
+use Rattle.class_laws.specs.Table.{classes_of, ClassesOf, HoldsClasses, functions_of, set_of, free_below, with_variable}
 use Rattle.compaction.specs.Strips.{HoldsKeys}
+use Rattle.pair_numbering.specs.Keys.{TellsPairs}
+use Rattle.pair_numbering.proofs.Names.{length_names, names_below, names_masks, names_ranked}
+use Rattle.order_model.proofs.PairMasks.{among_at}
 use Rattle.class_laws.proofs.Ranks.{ranks_alike}
-use Rattle.class_laws.proofs.Index.{pair_within}
+use Rattle.class_laws.proofs.Index.{length-pairs, pair_within}
 use Rattle.class_laws.proofs.DependenceMasks.{dependence_joined}
 use Rattle.class_laws.proofs.Lists.{map_map, map_same}
 use Rattle.class_laws.proofs.Counted.{nat_decides}
-use Rattle.class_laws.proofs.Compacted.{step_of, tops, length_numbers, pairs_told, pairs_of_classes, compacted, counted, class_pair_same}
-use Rattle.class_laws.proofs.Extended.{step_is, class_below, few_masks, IsReady, rank_small, free_none, free_more}
+use Rattle.class_laws.proofs.Compacted.{step_of, tops, length_numbers, pairs_told, pairs_of_classes, compacted, counted, class_numbers_same, class_pair_same}
+use Rattle.class_laws.proofs.Extended.{members_more, step_is, class_below, few_masks, IsReady, rank_small, free_none, free_more}
 
 -- ---- lists
 
@@ -56,11 +60,6 @@ told_zip F F' H H' J D (p ∷ ps) (g ∷ gs) e d t =
     let a : F p ≡ F' g = cc in
     let b : H p ≡ H' g = cc in
     λ i. t p g (inl refl) (inl refl) a b i ∷ told_zip F F' H H' J D ps gs (cc) (cc) (λ q k u v. t q k (inr u) (inr v)) i
-
-pub among_at : (cs : List ℕ) (j : ℕ) → j < length cs → Among (get_or cs j 0) cs
-among_at [] j k = absurd (omega arith)
-among_at (y ∷ cs) zero k = inl refl
-among_at (y ∷ cs) (suc j) k = inr (among_at cs j (omega arith))
 
 -- ---- pairs of keys
 
@@ -91,7 +90,7 @@ module _ (cs : List ℕ) (r : ℕ) (whole : (blocks : ℕ) × (length cs ≡ blo
       let s = among_from_map (pair_at cs (2 ^ r)) p (range_with_len 0 (length cs / 2)) h in
       let b = (range_below 0 (length cs / 2) s.0 s.1).1 in
       let w = place_within s.0 (omega arith) in
-      (subst (λ (q : ℕ × ℕ). Among q.0 cs) (sym s.2) (among_at cs (low_place (2 ^ r) s.0) (omega arith)), subst (λ (q : ℕ × ℕ). Among q.1 cs) (sym s.2) (among_at cs (low_place (2 ^ r) s.0 + 2 ^ r) w))
+      (subst (λ (q : ℕ × ℕ). Among q.0 cs) (sym s.2) (among_at cs (low_place (2 ^ r) s.0) 0 (omega arith)), subst (λ (q : ℕ × ℕ). Among q.1 cs) (sym s.2) (among_at cs (low_place (2 ^ r) s.0 + 2 ^ r) 0 w))
 
   pub own : ℕ → ℕ
   own k = rank nat_eq cs k
@@ -249,3 +248,24 @@ value_keys p inputs outputs some =
     zeros true (suc (suc c)) = refl
     zeros false zero = refl
     zeros false (suc c) = refl
+
+-- ---- names of pairs
+
+-- the keys with one more variable
+pub keys_by_names : (t : ClassesOf) (x : ℕ) → x < t.problem.inputs → has (set_of t) x ≡ false → (keys masks : List ℕ) → HoldsKeys t keys masks → ((blocks : ℕ) × (length keys ≡ blocks * (2 * 2 ^ free_below t.set x))) →
+    (numbers joined : List ℕ) → TellsPairs masks x (pairs keys (2 ^ free_below t.set x)) numbers joined → HoldsKeys (with_variable t x) numbers joined
+keys_by_names t x inside new keys masks h whole numbers joined names =
+    let n = t.problem.inputs in
+    let F = functions_of t in
+    let T = set_of t in
+    let s = step_is t x inside new in
+    let ps = pairs keys (2 ^ free_below t.set x) in
+    record {
+      few_inputs = h.few_inputs;
+      few = (let l = length_names masks x ps numbers joined names in let m = length-pairs keys (2 ^ free_below t.set x) in let f = h.few in omega arith);
+      few_masks = names.few;
+      below = names_below masks x ps numbers joined names;
+      classes = sym (class_numbers_same n F (x ∷ T) (set_of (with_variable t x)) (members_more t x inside new)) ∙ more_classes n F T x inside new keys (free_below t.set x) whole s h.classes
+          ∙ sym (names_ranked masks x ps numbers joined names);
+      told = names_masks masks x ps numbers joined names ∙ pairs_depend n F T x inside new keys masks (free_below t.set x) whole s h.classes h.told ∙ outside_same n F (x ∷ T) (set_of (with_variable t x)) (members_more t x inside new);
+    }

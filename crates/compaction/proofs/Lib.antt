@@ -1,11 +1,7 @@
-pub mod Chained
-pub mod CellSteps
 pub mod RowSteps
 pub mod Filled
 pub mod Wanted
 pub mod Keyed
-pub mod CountedFirsts
-pub mod Named
 pub mod Unrolled
 pub mod Paired
 pub mod Stripped
@@ -15,5 +11,4 @@ pub mod Expanded
 pub mod KeptRuns
 pub mod AllDistinct
 pub mod HeldBytes
-pub mod SlotSteps
 pub mod Ordered

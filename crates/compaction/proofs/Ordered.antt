@@ -4,11 +4,11 @@
 use Rattle.std.proofs.Common.{◌≡◌, ℕ, ◌*◌, ◌/◌, ◌<◌, List, length, get_or, sym, ap, ◌∙◌, subst, arith}
 use Rattle.class_laws.specs.Places.{pairs}
 use Rattle.compaction.specs.Strips.{AreStrips, unrolled}
-use Rattle.compaction.specs.Keys.{TellsPairs}
+use Rattle.pair_numbering.specs.Keys.{TellsPairs}
 use Rattle.compaction.proofs.AllDistinct.{own_count}
 use Rattle.compaction.proofs.Expanded.{whole_are, whole_values}
 use Rattle.class_laws.proofs.Index.{length-pairs}
-use Rattle.compaction.proofs.Named.{length_names}
+use Rattle.pair_numbering.proofs.Names.{length_names}
 
 module _ (outer numbers : List ℕ) (len s : ℕ) (strips : AreStrips outer numbers len) (some : 0 < len) (own : (i : ℕ) → i < length outer → get_or outer i 0 ≡ i) (whole : (blocks : ℕ) × (length outer ≡ blocks * (2 * s))) where
   numbers_long : length numbers ≡ length outer * len

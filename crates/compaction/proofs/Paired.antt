@@ -8,7 +8,7 @@ use Rattle.std.specs.Set.{distinct_count}
 use Rattle.std.proofs.Math.Nat.{mul-le-mul_right}
 use Rattle.std.proofs.lemmas.Map.Made.{distinct_count-le}
 use Rattle.order_model.specs.Widths.{same_pair}
-use Rattle.compaction.specs.Chains.{lower_at, upper_at}
+use Rattle.pair_numbering.specs.Chains.{lower_at, upper_at}
 use Rattle.class_laws.specs.Numbering.{ranks}
 use Rattle.class_laws.specs.Places as places
 use Rattle.compaction.specs.Strips.{AreNamed, AreStrips, names_of, unrolled}

@@ -9,14 +9,16 @@ use Rattle.std.proofs.Math.Nat.{mul-le-mul_right, add-mul-mod_self_right, add-mu
 use Rattle.std.proofs.lemmas.List.{get_or-map, length-map}
 use Rattle.order_model.specs.Widths.{same_pair}
 use Rattle.order_model.proofs.ClassPairs.{pair_decides}
-use Rattle.compaction.specs.Chains.{lower_at, upper_at}
+use Rattle.pair_numbering.specs.Chains.{lower_at, upper_at}
 use Rattle.class_laws.specs.Numbering.{rank, ranks}
 use Rattle.class_laws.specs.Places.{low_place, pair_at, pairs}
 use Rattle.compaction.specs.Strips.{AreNamed, AreStrips, unrolled}
-use Rattle.compaction.specs.Keys.{TellsPairs}
+use Rattle.pair_numbering.specs.Keys.{TellsPairs}
 use Rattle.class_laws.proofs.Index.{length-pairs, pair_listed, pair_within}
 use Rattle.class_laws.proofs.Joined.{number_at, length-ranks}
-use Rattle.compaction.proofs.Named.{names_among, length_names, place_of, among_place}
+use Rattle.pair_numbering.proofs.Names.{names_among, length_names}
+use Rattle.class_laws.proofs.Lists.{place_of}
+use Rattle.order_model.proofs.PairMasks.{among_at}
 use Rattle.class_laws.proofs.Ranks.{rank_below, rank_reached}
 use Rattle.compaction.proofs.Unrolled.{named_of, named_inside, length_named, named_at, same_by_places, length_unrolled, unrolled_at}
 
@@ -80,7 +82,7 @@ module _ (outer numbers : List ℕ) (len s : ℕ) (strips : AreStrips outer numb
       let m = many_numbered in
       let l = length-pairs outer s in
       let n = number_at (pairs outer s) numbered i ranked (omega arith) in
-      let b = rank_below same_pair pair_decides (pairs outer s) (get_or (pairs outer s) i (0, 0)) (among_place (pairs outer s) i (omega arith)) in
+      let b = rank_below same_pair pair_decides (pairs outer s) (get_or (pairs outer s) i (0, 0)) (among_at (pairs outer s) i (0, 0) (omega arith)) in
       omega arith
 
   pub high_strips : AreStrips numbered told len
@@ -90,7 +92,7 @@ module _ (outer numbers : List ℕ) (len s : ℕ) (strips : AreStrips outer numb
     within = numbered_small;
     used = λ k h.
         let r = rank_reached same_pair pair_decides (pairs outer s) k h in
-        let i = place_of (pairs outer s) r.0 r.1 in
+        let i = place_of (0, 0) (pairs outer s) r.0 r.1 in
         let m = many_numbered in
         let l = length-pairs outer s in
         let small = i.1.0 in

@@ -70,9 +70,6 @@ named_at outer numbers len s i a small inside = each outer (named_inside outer n
 
 -- ---- strips in use
 
-pub strip_inside : (outer numbers : List ℕ) (len : ℕ) → AreStrips outer numbers len → (i : ℕ) → i < length outer → get_or outer i 0 * len + len ≤ length numbers
-strip_inside outer numbers len s = named_inside outer numbers len (named_of outer numbers len s)
-
 pub length_unrolled : (outer numbers : List ℕ) (len : ℕ) → AreStrips outer numbers len → length (unrolled outer numbers len) ≡ length outer * len
 length_unrolled outer numbers len s = length_named outer numbers len (named_of outer numbers len s)
 

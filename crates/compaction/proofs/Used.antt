@@ -1,6 +1,6 @@
 -- The masks of the numbers that occur, and the widths that follow from them.
 --     in_use_more      one more mask
---     all_in_use, ranks_used      where each mask is that of a number that occurs; numbers by first occurrence
+--     all_in_use      where each mask is that of a number that occurs
 --     width_by_use      a width is the number of masks in use that have the variable
 use Rattle.std.proofs.Common.{◌≡◌, ℕ, zero, suc, ◌+◌, ◌*◌, ◌/◌, ◌%◌, ◌^◌, ◌<◌, ◌≤◌, Bool, true, false, cond, eqb, eq-eqb, ne_eqb, nat_eq, inl, inr, List, [], ◌∷◌, ◌++◌, map, length, reverse, get_or, refl, sym, ap, ◌∙◌, subst, arith}
 use Rattle.std.specs.Int.{bit_at}
@@ -17,24 +17,24 @@ use Rattle.std.proofs.lemmas.Map.Made.{distinct_count-from_IsDistinct}
 use Rattle.order_model.specs.Functions.{Function, same_table}
 use Rattle.order_model.specs.Levels.{reach}
 use Rattle.order_model.specs.Orders.{has, variables, without}
-use Rattle.order_model.specs.Widths.{same_pair, class_numbers, class_of, entries, outside, width}
+use Rattle.order_model.specs.Widths.{class_numbers, class_of, entries, outside, width}
 use Rattle.order_model.proofs.Masks.{has_members}
 use Rattle.order_model.proofs.OrderLists.{has_variables, same_bool}
-use Rattle.order_model.proofs.ClassPairs.{count_alike, pair_decides, rank_apart}
+use Rattle.order_model.proofs.ClassPairs.{count_alike, rank_apart}
 use Rattle.order_model.proofs.Recurrence.{distinct_filter, distinct_variables}
-use Rattle.order_model.proofs.Sets.{Among, Within, among_filter, among_from_filter, among_from_member, among_map, member_from_among, count_same}
+use Rattle.order_model.proofs.Sets.{Among, Within, among_filter, among_from_filter, among_from_member, member_from_among, count_same}
 use Rattle.order_model.proofs.Tables.{same_table_decides}
 use Rattle.class_laws.specs.Dependence.{AreMasks, dependence}
 use Rattle.class_laws.specs.Numbering.{rank, ranks}
 use Rattle.compaction.specs.Rows.{width_wanted}
 use Rattle.compaction.specs.Strips.{AreStrips, HoldsStrips, masks_in_use, unrolled}
-use Rattle.compaction.specs.Keys.{AreUsed}
+use Rattle.pair_numbering.specs.Keys.{AreUsed}
 use Rattle.class_laws.specs.Table.{ClassesOf, functions_of, set_of, free_below}
 use Rattle.class_laws.proofs.Compacted.{range_parts, filter_range_same}
 use Rattle.class_laws.proofs.Counted.{among_variables, distinct_by_numbers, length_filter_map, nat_decides, width_is_dependent_classes}
-use Rattle.class_laws.proofs.Lists.{map_map, map_same}
+use Rattle.class_laws.proofs.Lists.{map_map, map_same, place_of}
 use Rattle.class_laws.proofs.Extended.{length_filter-le}
-use Rattle.compaction.proofs.Keyed.{among_at}
+use Rattle.order_model.proofs.PairMasks.{among_at}
 use Rattle.compaction.proofs.Stripped.{parts_of, below_product}
 use Rattle.compaction.proofs.Unrolled.{length_unrolled, unrolled_at}
 use Rattle.class_laws.proofs.Ranks.{rank_below, rank_reached}
@@ -150,13 +150,6 @@ module _ (n : ℕ) (F : List Function) (S keys masks : List ℕ) (below : (i : �
 
 -- ---- the numbers in strips
 
-place_in : (xs : List ℕ) (k : ℕ) → Among k xs → (i : ℕ) × ((i < length xs) × (get_or xs i 0 ≡ k))
-place_in [] k h = absurd h
-place_in (x ∷ xs) k h = elim h [
-  | inl e ↦ (0, (omega arith, sym e))
-  | inr a ↦ let s = place_in xs k a in (suc s.0, (let l = s.1.0 in omega arith, s.1.1))
-]
-
 -- the strips hold the numbers of all entries, and no others
 pub strips_hold : (outer numbers : List ℕ) (len : ℕ) → 0 < len → AreStrips outer numbers len → (k : ℕ) → has numbers k ≡ has (unrolled outer numbers len) k
 strips_hold outer numbers len some s k = same_bool _ _ (λ h. member_from_among nat_eq nat_decides (unrolled outer numbers len) k (into (among_from_member nat_eq nat_decides numbers k h)))
@@ -164,7 +157,7 @@ strips_hold outer numbers len some s k = same_bool _ _ (λ h. member_from_among 
   where
     into : Among k numbers → Among k (unrolled outer numbers len)
     into a =
-        let i = place_in numbers k a in
+        let i = place_of 0 numbers k a in
         let l = length_unrolled outer numbers len s in
         let small = i.1.0 in
         let q : i.0 / len < s.count = (div-lt_iff_lt-mul some).1 (let w = s.whole in omega arith) in
@@ -172,18 +165,18 @@ strips_hold outer numbers len some s k = same_bool _ _ (λ h. member_from_among 
         let m = mod-lt i.0 some in
         let e = parts_of i.0 len some in
         let v = unrolled_at outer numbers len s u.0 (i.0 % len) u.1.0 m ∙ ap (λ z. get_or numbers (z * len + i.0 % len) 0) u.1.1 ∙ ap (λ z. get_or numbers z 0) (sym e) ∙ i.1.1 in
-        subst (λ z. Among z (unrolled outer numbers len)) v (among_at (unrolled outer numbers len) (u.0 * len + i.0 % len) (let p = below_product u.0 (length outer) len (i.0 % len) u.1.0 m in omega arith))
+        subst (λ z. Among z (unrolled outer numbers len)) v (among_at (unrolled outer numbers len) (u.0 * len + i.0 % len) 0 (let p = below_product u.0 (length outer) len (i.0 % len) u.1.0 m in omega arith))
 
     onto : Among k (unrolled outer numbers len) → Among k numbers
     onto a =
-        let i = place_in (unrolled outer numbers len) k a in
+        let i = place_of 0 (unrolled outer numbers len) k a in
         let l = length_unrolled outer numbers len s in
         let small = i.1.0 in
         let q : i.0 / len < length outer = (div-lt_iff_lt-mul some).1 (omega arith) in
         let m = mod-lt i.0 some in
         let e = parts_of i.0 len some in
         let v = sym (unrolled_at outer numbers len s (i.0 / len) (i.0 % len) q m) ∙ ap (λ z. get_or (unrolled outer numbers len) z 0) (sym e) ∙ i.1.1 in
-        subst (λ z. Among z numbers) v (among_at numbers (get_or outer (i.0 / len) 0 * len + i.0 % len)
+        subst (λ z. Among z numbers) v (among_at numbers (get_or outer (i.0 / len) 0 * len + i.0 % len) 0
         (let p = below_product (get_or outer (i.0 / len) 0) s.count len (i.0 % len) (s.within (i.0 / len) q) m in let w = s.whole in omega arith))
 
 pub in_use_strips : (outer numbers : List ℕ) (len : ℕ) → 0 < len → AreStrips outer numbers len → (masks : List ℕ) → masks_in_use numbers masks ≡ masks_in_use (unrolled outer numbers len) masks
@@ -200,13 +193,6 @@ all_in_use numbers masks h =
     kept : (xs : List ℕ) → filter (λ k. true) xs ≡ xs
     kept [] = refl
     kept (x ∷ xs) = ap (λ us. x ∷ us) (kept xs)
-
--- numbers by first occurrence occur, all of them
-pub ranks_used : (ps : List (ℕ × ℕ)) (numbers masks : List ℕ) → numbers ≡ ranks same_pair ps → length masks ≡ distinct_count same_pair ps → AreUsed numbers masks
-unfolding ranks
-ranks_used ps numbers masks e m k l =
-    let t = rank_reached same_pair pair_decides ps k (omega arith) in
-    member_from_among nat_eq nat_decides numbers k (subst (Among k) (sym e) (subst (λ z. Among z (map (rank same_pair ps) ps)) t.2 (among_map (rank same_pair ps) t.0 ps t.1)))
 
 pub few_in_use : (numbers masks : List ℕ) → length (masks_in_use numbers masks) ≤ length masks
 unfolding masks_in_use

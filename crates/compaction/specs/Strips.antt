@@ -18,7 +18,7 @@ use Rattle.order_model.specs.Widths.{class_numbers, outside}
 use Rattle.class_laws.specs.Numbering.{ranks}
 use Rattle.class_laws.specs.Dependence.{dependence}
 use Rattle.class_laws.specs.Table.{ClassesOf, functions_of, set_of, free_below}
-use Rattle.compaction.specs.Keys.{AreUsed}
+use Rattle.pair_numbering.specs.Keys.{AreUsed}
 
 -- how many variables run inside a strip of the empty set
 abbrev pub low_variables : TruthTables → ℕ

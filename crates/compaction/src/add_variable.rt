@@ -1,21 +1,12 @@
-//! One more variable in tables of keys: pairs told apart, and strips of pairs.
+//! One more variable in strips: pairs of strips, whose entries are told apart.
 
 ghost use Rattle.std.specs.Prelude.{◌≡◌, ℕ, ◌+◌, ◌*◌, ◌^◌, ◌<◌, ◌≤◌, length, slice_index, IfOk, IsTrue};
 ghost use Rattle.class_laws.specs.Places as places;
 ghost use Rattle.compaction.specs.Strips.{AreNamed, AreStrips, names_of, unrolled};
-ghost use Rattle.compaction.specs.Keys.{AreUsed, TellsPairs};
+ghost use Rattle.pair_numbering.specs.Keys.{AreUsed, TellsPairs};
 
-use crate::keys::{MOST_JOINED, join_key_masks, join_keys};
-use crate::numbering::{number_pairs, number_pairs_with_masks};
+use pair_numbering::{number_pairs, tell_pairs};
 use std::alloc::{AllocError, Global};
-
-/// Numbers that tell pairs apart, and the mask of each. Where `all_used` is true each mask is that of a number that occurs.
-#[derive(Drop)]
-pub struct Told {
-    pub numbers: Vec<u32>,
-    pub masks: Vec<u16>,
-    pub all_used: bool,
-}
 
 /// Strips, the names of the runs, and the mask of each number. Where `all_used` is true each mask is that of a number that
 /// occurs.
@@ -38,41 +29,6 @@ pub fn count_up(numbers: &[u32]) -> bool
         }
     }
     true
-}
-
-/// Tells the pairs apart: by joined keys where there are few, else by numbers.
-pub fn tell_pairs(
-    alloc: Global,
-    numbers: &[u32],
-    rank: u32,
-    x: u8,
-    masks: &[u16],
-) -> Result<Told, AllocError>
-    requires rank { rank < 16 }
-    requires variable { x < 16 }
-    requires len { length numbers.now ≤ 2 ^ 20 }
-    requires whole { (blocks : ℕ) × (length numbers.now ≡ blocks * (2 * 2 ^ rank)) }
-    requires classes { (i : ℕ) → i < length numbers.now → slice_index numbers.now i < length masks.now }
-    requires few { length masks.now ≤ 2 ^ 20 }
-    ensures tells { IfOk result (λ v. TellsPairs masks.now x (places.pairs numbers.now (2 ^ rank)) v.numbers.items v.masks.items) }
-    ensures used { IfOk result (λ v. IsTrue v.all_used → AreUsed v.numbers.items v.masks.items) }
-{
-    let base = masks.len();
-    if base <= MOST_JOINED {
-        let keys = join_keys(alloc, numbers, rank, base as u32)?;
-        let joined = join_key_masks(alloc, masks, x)?;
-        return Ok(Told {
-            numbers: keys,
-            masks: joined,
-            all_used: false,
-        });
-    }
-    let numbered = number_pairs_with_masks(alloc, numbers, rank, x, masks)?;
-    Ok(Told {
-        numbers: numbered.numbers,
-        masks: numbered.masks,
-        all_used: true,
-    })
 }
 
 /// A strip.

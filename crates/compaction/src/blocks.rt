@@ -233,3 +233,34 @@ pub fn block_widths(
         compactions: low.count_ones() + walked,
     })
 }
+
+/// The masks of a block.
+fn masks_of(alloc: Global, block: &Block) -> Result<Vec<Mask>, AllocError>
+    ensures { IfOk result (λ masks. masks.items ≡ block_masks block.now) }
+{
+    let mut masks = Vec::with_capacity(alloc, block.len())?;
+    for i in 0..block.len() {
+        masks.push(block.mask(i))?;
+    }
+    Ok(masks)
+}
+
+/// The widths of all members of a block's sets, for measurements and tests.
+pub fn all_widths(
+    alloc: Global,
+    problem: &Problem,
+    block: &Block,
+    tally: &mut Tally,
+) -> Result<BlockWidths, AllocError>
+    requires inputs { block.now.inputs ≡ problem.now.inputs }
+    requires room { tally.old < 2 ^ 31 }
+    ensures rows { IfOk result (λ widths. AreRows problem.now (block_masks block.now) (block_masks block.now) widths.rows) }
+    ensures compactions { IfOk result (λ widths. widths.compactions ≤ 2367) }
+    ensures ok { OnOk result (tally.new ≡ tally.old + wanted_count (block_masks block.now)) }
+    ensures err { OnErr result (tally.new ≡ tally.old) }
+{
+    prove!(problem.inputs() <= 16);
+    prove!(block.len() <= 256);
+    let masks = masks_of(alloc, block)?;
+    block_widths(alloc, problem, block, &masks, tally)
+}

@@ -5,11 +5,11 @@ ghost use Rattle.std.specs.Prelude.{◌≡◌, ◌*◌, ◌^◌, ◌<◌, ◌≤
 ghost use Rattle.order_model.specs.Orders.{has};
 ghost use Rattle.compaction.specs.Strips.{AreNamed, unrolled};
 
-use crate::add_variable::tell_pairs;
 use crate::classes::rank_of;
 use crate::columns::{ByteStrips, byte_strips};
 use crate::strips::Strips;
 use order_model::{Mask, Problem, VarIx};
+use pair_numbering::tell_pairs;
 use std::alloc::{AllocError, Global};
 use std::marker::Model;
 

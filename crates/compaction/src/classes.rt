@@ -6,15 +6,12 @@ ghost use Rattle.std.specs.List.{filter};
 ghost use Rattle.order_model.specs.Orders.{has, without};
 ghost use Rattle.order_model.specs.Widths.{class_numbers, width as width_over};
 ghost use Rattle.class_laws.specs.Table.{free_below};
-ghost use Rattle.compaction.specs.Scratch.{most_entries};
+ghost use Rattle.pair_numbering.specs.Scratch.{most_entries};
 
-use crate::masks::join_masks;
-use crate::numbering::number_pairs_with_masks;
-use crate::pairs::{distinct_pairs, number_pairs_by_index};
-use crate::scratch::Scratch;
 use crate::start::{no_dependence, value_numbers};
 use crate::tally::Tally;
 use order_model::{Mask, Problem, VarIx};
+use pair_numbering::{Scratch, number_pairs_by_index, number_pairs_with_masks};
 use std::alloc::{AllocError, Global};
 use std::marker::Model;
 
@@ -202,14 +199,12 @@ impl<'a> Classes<'a> {
         ensures { IfOk result (λ c. c ≡ with_variable self.now x) }
     {
         let rank = rank_of(self.set, x);
-        let numbers = number_pairs_by_index(alloc, &self.numbers, rank)?;
-        let pairs = distinct_pairs(alloc, &self.numbers, rank, &numbers)?;
-        let masks = join_masks(alloc, &pairs, x, &self.masks)?;
+        let numbered = number_pairs_by_index(alloc, &self.numbers, rank, x, &self.masks)?;
         Ok(Classes {
             problem: self.problem,
             set: self.set | (1 << x),
-            numbers,
-            masks,
+            numbers: numbered.numbers,
+            masks: numbered.masks,
         })
     }
 }

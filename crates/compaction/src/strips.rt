@@ -4,13 +4,14 @@
 ghost use Rattle.std.specs.Prelude.{◌≡◌, ℕ, ◌<◌, ◌≤◌, length, slice_index, get_or, cond, ◌==◌, false, IfOk, IsFalse, IsTrue};
 ghost use Rattle.std.specs.Int.{bit_at};
 ghost use Rattle.order_model.specs.Orders.{has};
-ghost use Rattle.compaction.specs.Keys.{AreUsed};
+ghost use Rattle.pair_numbering.specs.Keys.{AreUsed};
 ghost use Rattle.compaction.specs.Strips.{masks_in_use, low_variables as low_of};
 
-use crate::add_variable::{add_above, count_up, tell_pairs};
+use crate::add_variable::{add_above, count_up};
 use crate::classes::{rank_of, row_of};
 use crate::columns::{ValueStrips, whole_strips};
 use order_model::{Mask, Problem, VarIx};
+use pair_numbering::tell_pairs;
 use std::alloc::{AllocError, Global};
 use std::marker::Model;
 

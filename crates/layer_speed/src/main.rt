@@ -4,44 +4,12 @@
 //! points a byte, the first point in the lowest bit.
 #![tactic(auto)]
 
-ghost use Rattle.std.specs.Prelude.{◌≡◌, ◌<◌, ◌^◌, length, IfOk};
-ghost use Rattle.subset_layers.specs.Layers.{block_masks};
-
 use anyhow::Error;
-use compaction::{BlockWidths, Tally, block_widths};
+use compaction::{Tally, all_widths};
 use order_model::{Mask, Problem};
 use std::alloc::{AllocError, Global};
 use std::io::Read;
-use subset_layers::{Block, Layer};
-
-/// The masks of a block.
-fn masks_of(alloc: Global, block: &Block) -> Result<Vec<Mask>, AllocError>
-    ensures { IfOk result (λ masks. masks.items ≡ block_masks block.now) }
-{
-    let mut masks = Vec::with_capacity(alloc, block.len())?;
-    for i in 0..block.len() {
-        masks.push(block.mask(i))?;
-    }
-    Ok(masks)
-}
-
-/// The widths of all members of a block's sets.
-fn all_widths(
-    alloc: Global,
-    problem: &Problem,
-    block: &Block,
-    tally: &mut Tally,
-) -> Result<BlockWidths, AllocError>
-    requires inputs { block.now.inputs ≡ problem.now.inputs }
-    requires room { tally.old < 2 ^ 20 }
-    ensures { IfOk result (λ widths. length widths.rows ≡ length (block_masks block.now)) }
-{
-    prove!(problem.inputs() <= 16);
-    prove!(block.len() <= 256);
-    let needed = masks_of(alloc, block)?;
-    let widths = block_widths(alloc, problem, block, &needed, tally)?;
-    Ok(widths)
-}
+use subset_layers::Layer;
 
 /// The least sum of a cost without a member and its width.
 fn least(costs: &[u32], mask: Mask, row: &[u32; 16]) -> u32 {

@@ -2,10 +2,10 @@ use Rattle.std.proofs.Common.{◌≡◌, ◌+◌, ◌*◌, ◌/◌, ◌^◌, len
 use Rattle.std.proofs.Math.Nat.{add-mul-div_right, div-eq_of_lt}
 use Rattle.std.proofs.lemmas.Nat.{pow_pos}
 use Rattle.compaction.specs.Strips.{AreNamed, names_of, unrolled}
-use Rattle.compaction.specs.Keys.{TellsPairs}
+use Rattle.pair_numbering.specs.Keys.{TellsPairs}
 use Rattle.class_laws.specs.Places as places
 use Rattle.class_laws.proofs.Index.{length-pairs}
-use Rattle.compaction.proofs.Named.{names_below, length_names}
+use Rattle.pair_numbering.proofs.Names.{names_below, length_names}
 use Rattle.compaction.proofs.Paired.{paired_few, paired_long, paired_lower, paired_named, paired_upper}
 use Rattle.compaction.proofs.Stripped.{high_strips, high_tells, unrolled_below}
 use Rattle.compaction.proofs.add_variable.add_by_pairs.Goals as goal

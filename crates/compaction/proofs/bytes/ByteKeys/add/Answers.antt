@@ -2,7 +2,7 @@ use Rattle.std.proofs.Common.{◌*◌, ◌^◌, length, bit_or, sym, ap, ◌∙�
 use Rattle.std.proofs.lemmas.Nat.{one_shl}
 use Rattle.class_laws.specs.Places as places
 use Rattle.compaction.specs.Strips.{HoldsBytes}
-use Rattle.compaction.specs.Keys.{TellsPairs}
+use Rattle.pair_numbering.specs.Keys.{TellsPairs}
 use Rattle.class_laws.specs.Table.{ClassesOf, classes_of, free_below}
 use Rattle.compaction.proofs.HeldBytes.{bytes_more, bytes_whole}
 use Rattle.compaction.proofs.HeldStrips.{rank_few}

@@ -1,8 +1,8 @@
 use Rattle.std.proofs.Common.{◌^◌, length, get_or, ap, subst, ◌∙◌, arith}
-use Rattle.compaction.specs.Scratch.{CountsMasks}
+use Rattle.pair_numbering.specs.Scratch.{CountsMasks}
 use Rattle.class_laws.specs.Places as places
 use Rattle.class_laws.specs.Table.{ClassesOf, HoldsClasses, free_below}
-use Rattle.compaction.proofs.CountedFirsts.{width_counted}
+use Rattle.pair_numbering.proofs.CountedFirsts.{width_counted}
 use Rattle.class_laws.proofs.Extended.{is_ready, few_masks, few_of_most}
 use Rattle.compaction.proofs.classes.Classes.width_in.Goals as goal
 

@@ -1,7 +1,7 @@
 use Rattle.std.proofs.Common.{◌*◌, ◌/◌, ◌^◌, length, get_or, bit_or, sym, ap, ◌∙◌, subst, arith}
 use Rattle.std.proofs.lemmas.Nat.{one_shl}
 use Rattle.compaction.specs.Strips.{AreDistinct, HoldsStrips, HoldsTable, low_variables}
-use Rattle.compaction.specs.Keys.{TellsPairs}
+use Rattle.pair_numbering.specs.Keys.{TellsPairs}
 use Rattle.class_laws.specs.Places as places
 use Rattle.class_laws.specs.Table.{ClassesOf, classes_of, free_below}
 use Rattle.compaction.proofs.AllDistinct.{distinct_more, table_distinct, table_strips}

@@ -1,7 +1,0 @@
-use Rattle.std.proofs.Common.{◌^◌}
-use Rattle.class_laws.specs.Places as places
-use Rattle.compaction.proofs.CountedFirsts.{Counting}
-use Rattle.compaction.proofs.scratch.count_firsts.Given as goal
-
-abbrev pub invariant-loop-j : goal.invariant-loop-j
-invariant-loop-j l = Counting (places.pairs l.numbers (2 ^ l.rank)) l.masks l.x l.count l.j

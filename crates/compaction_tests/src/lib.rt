@@ -1,0 +1,5 @@
+//! Worked numberings of pairs, class tables and widths.
+#![tactic(auto)]
+
+#[cfg(test)]
+mod tests;

@@ -1,0 +1,63 @@
+-- Masks counted at the first pair of each kind.
+use Rattle.std.proofs.Common.{◌≡◌, ℕ, zero, suc, ◌+◌, ◌<◌, ◌≤◌, ◌^◌, false, cond, eqb, List, [], ◌∷◌, ◌++◌, length, get_or, refl, sym, ap, ◌∙◌, arith}
+use Rattle.std.specs.Int.{bit_at}
+use Rattle.std.specs.List.{filter}
+use Rattle.std.proofs.lemmas.Nat.Bits.{bit_at-lt}
+use Rattle.std.proofs.lemmas.List.{length-append}
+use Rattle.std.proofs.lemmas.List.Elements.{filter-append}
+use Rattle.order_model.specs.Widths.{same_pair, width}
+use Rattle.class_laws.specs.Numbering.{IsFirst, ranks}
+use Rattle.class_laws.specs.Dependence.{joined_mask}
+use Rattle.pair_numbering.specs.Scratch.{CountsMasks}
+use Rattle.order_model.specs.Orders.{has}
+use Rattle.class_laws.specs.Places.{pairs}
+use Rattle.class_laws.specs.Table.{ClassesOf, HoldsClasses, with_variable, functions_of, set_of, free_below}
+use Rattle.class_laws.proofs.Counted.{width_is_dependent_classes}
+use Rattle.class_laws.proofs.Extended.{holds_more, width_into}
+use Rattle.class_laws.proofs.Firsts.{joined_again, joined_first}
+use Rattle.class_laws.proofs.Joined.{Joined, joined_many, joined_told}
+
+module _ (ps : List (ℕ × ℕ)) (masks : List ℕ) (x : ℕ) where
+  -- after j pairs
+  pub record Counting (count j : ℕ) : Type 0 where
+    pub out : List ℕ
+    pub joined : Joined 0 ps (joined_mask masks x) out j
+    pub counted : count ≡ length (filter (λ m. eqb (bit_at m x) 1) out)
+    pub few : count ≤ j
+
+  pub counting_first : (count more j mask : ℕ) → j < length ps → IsFirst (λ i. get_or ps i (0, 0)) j j → mask ≡ joined_mask masks x (get_or ps j (0, 0)) → more ≡ bit_at mask x → Counting count j → Counting (count + more) (j + 1)
+  counting_first count more j mask l f m b h = record {
+    out = h.out ++ mask ∷ [];
+    joined = joined_first 0 ps (joined_mask masks x) h.out j mask l f m h.joined;
+    counted = (let c = h.counted in let e = ap length (filter-append (λ k. eqb (bit_at k x) 1) h.out (mask ∷ [])) ∙ length-append (filter (λ k. eqb (bit_at k x) 1) h.out) (filter (λ k. eqb (bit_at k x) 1) (mask ∷ [])) in let o = one (bit_at mask x) (bit_at-lt mask x) in omega arith);
+    few = (let w = h.few in let z = bit_at-lt mask x in omega arith);
+  }
+    where
+      one : (v : ℕ) → v < 2 → length (cond (eqb v 1) (mask ∷ []) []) ≡ v
+      one zero lt = refl
+      one (suc zero) lt = refl
+      one (suc (suc v)) lt = absurd (omega arith)
+
+  pub counting_again : (count j first : ℕ) → j < length ps → IsFirst (λ i. get_or ps i (0, 0)) j first → first < j → Counting count j → Counting count (j + 1)
+  counting_again count j first l f lt h = record {
+    out = h.out;
+    joined = joined_again 0 ps (joined_mask masks x) h.out j first l f lt h.joined;
+    counted = h.counted;
+    few = (let w = h.few in omega arith);
+  }
+
+  pub counting_all : (count j : ℕ) → length ps ≤ j → Counting count j → CountsMasks masks x ps count
+  counting_all count j l h = record {
+    joined = h.out;
+    many = joined_many 0 ps (joined_mask masks x) h.out j l h.joined;
+    told = joined_told 0 ps (joined_mask masks x) h.out j l h.joined;
+    counted = h.counted;
+  }
+
+-- so many pairs with x are the width of x
+pub width_counted : (t : ClassesOf) (x : ℕ) → x < t.problem.inputs → has (set_of t) x ≡ false → (numbers masks : List ℕ) (count : ℕ) → HoldsClasses t numbers masks →
+    CountsMasks masks x (pairs numbers (2 ^ free_below t.set x)) count → count ≡ width t.problem.inputs (functions_of t) (set_of t) x
+width_counted t x inside new numbers masks count h q =
+    let k = holds_more t x inside new numbers masks (ranks same_pair (pairs numbers (2 ^ free_below t.set x))) q.joined h refl q.many q.told in
+    let w = width_into t x inside new in
+    q.counted ∙ sym (width_is_dependent_classes t.problem.inputs (functions_of t) (set_of (with_variable t x)) q.joined x inside w.0 k.masks_are) ∙ w.1

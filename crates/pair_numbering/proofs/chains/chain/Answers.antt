@@ -1,0 +1,37 @@
+use Rattle.std.proofs.Common.{◌≡◌, ℕ, suc, ◌+◌, ◌-◌, ◌/◌, ◌^◌, ◌<◌, ◌≤◌, get_or, set, length, sym, ap, subst, arith}
+use Rattle.std.proofs.lemmas.Nat.{pow_pos}
+use Rattle.pair_numbering.specs.Chains.{IsNext, lower_at}
+use Rattle.class_laws.proofs.Index.{pair_within}
+use Rattle.pair_numbering.proofs.Chained.{heads_more, next_more}
+use Rattle.pair_numbering.proofs.chains.chain.Goals as goal
+
+pub loop-j-preserved : goal.loop-j-preserved
+loop-j-preserved c =
+    let cs = c.args.numbers.now in
+    let step = 2 ^ c.args.rank in
+    let half = length cs / 2 in
+    let value = lower_at cs step in
+    let heads = c.loop-j.heads in
+    let next = c.loop-j.next in
+    let k = c.loop-j.j - 1 in
+    let t : 0 < c.loop-j.j = c.loop-j-test.true in
+    let s : c.loop-j.j ≤ half = c.loop-j.invariant.small in
+    let kl : k < half = omega arith in
+    let up : c.loop-j.j ≡ suc k = omega arith in
+    let v : get_or cs c.low_place.result 0 ≡ value k = ap (λ z. get_or cs z 0) c.low_place.ensures in
+    let w = pair_within step c.requires.whole.0 (length cs) k (pow_pos c.args.rank) c.requires.whole.1 kl in
+    let p = c.low_place.ensures in
+    let lo : c.low_place.result < length cs = omega arith in
+    let b = c.requires.classes c.low_place.result lo in
+    let hl = c.loop-j.auto.heads in
+    let nl = c.loop-j.auto.next in
+    let nh = c.requires.half in
+    let lt : value k < length heads = omega arith in
+    let hs : (d : ℕ) → d < length heads → IsNext value half d (suc k) (get_or heads d 0) = λ d l. subst (λ z. IsNext value half d z (get_or heads d 0)) up (c.loop-j.invariant.heads d l) in
+    record {
+      small = omega arith;
+      heads = λ d l. let P : ℕ → Type 0 = λ z. d < length (set heads z k) → IsNext value half d k (get_or (set heads z k) d 0) in
+          subst P (sym v) (heads_more value half heads k kl lt hs d) l;
+      next = λ i l m. let P : ℕ → Type 0 = λ z. IsNext value half (value i) (i + 1) (get_or (set next k (get_or heads z 0)) i 0) in
+          subst P (sym v) (next_more value half heads next k (omega arith) lt hs (λ j a b. c.loop-j.invariant.next j (omega arith) b) i l m);
+    }

@@ -1,0 +1,15 @@
+use Rattle.std.proofs.Common.{◌^◌, inl, inr, sym, subst, arith}
+use Rattle.std.proofs.lemmas.Bool.{cases_eq}
+use Rattle.class_laws.specs.Numbering.{IsFirst}
+use Rattle.pair_numbering.specs.Chains.{lower_at}
+use Rattle.class_laws.specs.Places.{pair_at}
+use Rattle.pair_numbering.proofs.chains.find_firsts.Goals as goal
+
+pub loop-lower-preserved : goal.loop-lower-preserved
+loop-lower-preserved c = record {
+  stamps = c.walk_chain.ensures.stamps;
+  done = λ j l m. elim (cases_eq (lower_at c.args.numbers.now (2 ^ c.args.rank) j) c.loop-lower.lower) [
+    | inl e ↦ c.walk_chain.ensures.own j l e
+    | inr ne ↦ subst (IsFirst (pair_at c.args.numbers.now (2 ^ c.args.rank)) j) (sym (c.walk_chain.ensures.others j l ne)) (c.loop-lower.invariant.done j l (omega arith))
+  ];
+}

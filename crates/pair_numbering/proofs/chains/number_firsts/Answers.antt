@@ -1,0 +1,78 @@
+use Rattle.std.proofs.Common.{◌≡◌, ℕ, ◌+◌, ◌/◌, ◌^◌, ◌<◌, get_or, set, length, sym, ap, subst, ◌∙◌, arith, Vec, Global}
+use Rattle.std.proofs.lemmas.List.{get_or_default, map-id}
+use Rattle.class_laws.specs.Numbering.{IsFirst}
+use Rattle.class_laws.specs.Places as places
+use Rattle.class_laws.proofs.Index.{first_listed, pair_listed, length-pairs}
+use Rattle.class_laws.proofs.Firsts.{Made, made_none, made_first, made_again, made_numbers, made_many, made_told}
+use Rattle.pair_numbering.proofs.chains.number_firsts.Goals as goal
+use Rattle.pair_numbering.proofs.chains.number_firsts.Goals.{then-f-j+in_ok-push, else-f-j}
+
+pub loop-j-init : goal.loop-j-init
+loop-j-init c =
+    let ps = places.pairs c.args.numbers.now (2 ^ c.args.rank) in
+    let l = length-pairs c.args.numbers.now (2 ^ c.args.rank) in
+    let n = c.in_ok-out.ensures.len in
+    let m = c.requires.long in
+    subst (λ us. Made (0, 0) ps (λ p. p) c.in_ok-out.out.items us 0) (sym c.new-pairs.ensures.items) (made_none (0, 0) ps (λ p. p) c.in_ok-out.out.items (omega arith))
+
+pub index_mut-requires-else-f-j : goal.index_mut-requires-else-f-j
+index_mut-requires-else-f-j c =
+    let long = c.requires.long in
+    let o = c.loop-j.invariant.long in
+    let t = c.loop-j-test.true in
+    let l = length-pairs c.args.numbers.now (2 ^ c.args.rank) in
+    omega arith
+
+pub loop-j-preserved : goal.loop-j-preserved
+loop-j-preserved c =
+    let cs = c.args.numbers.now in
+    let step = 2 ^ c.args.rank in
+    let ps = places.pairs cs step in
+    let j = c.loop-j.j in
+    let out = c.loop-j.out.items in
+    let masks = c.loop-j.pairs.items in
+    let lp = length-pairs cs step in
+    let t = c.loop-j-test.true in
+    let long = c.requires.long in
+    let small : j < length cs / 2 = omega arith in
+    let listed : j < length ps = omega arith in
+    let first = first_listed cs step j (get_or c.args.first.now j 0) small (c.requires.first j small) in
+    elim c.if-f-j.branch [
+      | then-f-j+in_ok-push w ↦
+          let d = ap (λ (v : Vec (ℕ × ℕ) Global). v.items) w.pairs-is ∙ w.in_ok-push.ensures.items in
+          let n = w.len.ensures in
+          let m : w.len.result ≡ length masks = omega arith in
+          let o : c.if-f-j.out.items ≡ set out j (length masks) = ap (λ (v : Vec ℕ Global). v.items) w.out-is ∙ ap (set out j) m in
+          let pair = w.pair_at.ensures ∙ sym (pair_listed cs step j small) in
+          subst (λ z. z) (λ i. Made (0, 0) ps (λ p. p) (sym o i) (sym d i) (j + 1))
+          (made_first (0, 0) ps (λ p. p) out masks j w.pair_at.result listed (subst (IsFirst (λ i. get_or ps i (0, 0)) j) w.if-f-j.true first) pair c.loop-j.invariant)
+      | else-f-j w ↦
+          let f = first.before in
+          let other = w.if-f-j.false in
+          let long_out = c.loop-j.invariant.long in
+          let v = w.index.ensures ∙ get_or_default out (get_or c.args.first.now j 0) w.index.result.now 0 (omega arith) in
+          let o = ap (λ (v : Vec ℕ Global). v.items) w.out-is ∙ ap (set out j) v in
+          subst (λ z. z) (λ i. Made (0, 0) ps (λ p. p) (sym o i) (ap (λ (v : Vec (ℕ × ℕ) Global). v.items) (sym w.pairs-is) i) (j + 1))
+          (made_again (0, 0) ps (λ p. p) out masks j (get_or c.args.first.now j 0) listed first (omega arith) c.loop-j.invariant)
+    ]
+
+pub returns-clause-numbers : goal.returns-clause-numbers
+returns-clause-numbers c =
+    let l = length-pairs c.args.numbers.now (2 ^ c.args.rank) in
+    let t = c.loop-j-test.false in
+    let long = c.requires.long in
+    made_numbers (0, 0) (places.pairs c.args.numbers.now (2 ^ c.args.rank)) (λ p. p) c.loop-j.out.items c.loop-j.pairs.items c.loop-j.j (omega arith) c.loop-j.invariant
+
+pub returns-clause-many : goal.returns-clause-many
+returns-clause-many c =
+    let l = length-pairs c.args.numbers.now (2 ^ c.args.rank) in
+    let t = c.loop-j-test.false in
+    let long = c.requires.long in
+    made_many (0, 0) (places.pairs c.args.numbers.now (2 ^ c.args.rank)) (λ p. p) c.loop-j.out.items c.loop-j.pairs.items c.loop-j.j (omega arith) c.loop-j.invariant
+
+pub returns-clause-told : goal.returns-clause-told
+returns-clause-told c =
+    let l = length-pairs c.args.numbers.now (2 ^ c.args.rank) in
+    let t = c.loop-j-test.false in
+    let long = c.requires.long in
+    made_told (0, 0) (places.pairs c.args.numbers.now (2 ^ c.args.rank)) (λ p. p) c.loop-j.out.items c.loop-j.pairs.items c.loop-j.j (omega arith) c.loop-j.invariant ∙ map-id (places.pairs c.args.numbers.now (2 ^ c.args.rank))

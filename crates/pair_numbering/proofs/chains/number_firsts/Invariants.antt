@@ -1,0 +1,7 @@
+use Rattle.std.proofs.Common.{◌^◌}
+use Rattle.class_laws.specs.Places as places
+use Rattle.class_laws.proofs.Firsts.{Made}
+use Rattle.pair_numbering.proofs.chains.number_firsts.Given as goal
+
+abbrev pub invariant-loop-j : goal.invariant-loop-j
+invariant-loop-j l = Made (0, 0) (places.pairs l.numbers (2 ^ l.rank)) (λ p. p) l.out.items l.pairs.items l.j

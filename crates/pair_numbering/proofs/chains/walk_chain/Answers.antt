@@ -1,0 +1,68 @@
+use Rattle.std.proofs.Common.{◌≡◌, ◌≢◌, ◌+◌, ◌*◌, ◌/◌, ◌%◌, ◌^◌, ◌<◌, get_or, set, length, sym, ap, subst, ◌∙◌, arith}
+use Rattle.std.proofs.lemmas.List.{get_or-set_other}
+use Rattle.std.proofs.lemmas.Nat.{pow_pos, one_shl}
+use Rattle.class_laws.specs.Places as places
+use Rattle.pair_numbering.specs.Chains.{IsNext, lower_at, upper_at}
+use Rattle.class_laws.proofs.Index.{pair_within}
+use Rattle.pair_numbering.proofs.Chained.{Walk, walk_again, walk_new}
+use Rattle.pair_numbering.proofs.chains.walk_chain.Goals as goal
+use Rattle.pair_numbering.proofs.chains.walk_chain.Goals.{then-stamps-upper, else-stamps-upper}
+
+pub bounds-numbers-low_place : goal.bounds-numbers-low_place
+bounds-numbers-low_place c =
+    let s = one_shl c.args.rank 64 (let h = c.requires.rank in omega arith) in
+    let n = c.requires.next_len in
+    let t = c.loop-j-test.true in
+    let w = pair_within (2 ^ c.args.rank) c.requires.whole.0 (length c.args.numbers.now) c.loop-j.j (pow_pos c.args.rank) c.requires.whole.1 (omega arith) in
+    let e = c.low_place.ensures in
+    omega arith
+
+pub loop-j-preserved : goal.loop-j-preserved
+loop-j-preserved c =
+    let cs = c.args.numbers.now in
+    let step = 2 ^ c.args.rank in
+    let half = length cs / 2 in
+    let lower = c.args.lower in
+    let j = c.loop-j.j in
+    let stamps = c.loop-j.stamps in
+    let marks = c.loop-j.marks in
+    let first = c.loop-j.first in
+    let k = get_or c.args.next.now j 0 in
+    let s = one_shl c.args.rank 64 (let h = c.requires.rank in omega arith) in
+    let n = c.requires.next_len in
+    let t = c.loop-j-test.true in
+    let small : j < half = omega arith in
+    let w = pair_within step c.requires.whole.0 (length cs) j (pow_pos c.args.rank) c.requires.whole.1 small in
+    let e = c.low_place.ensures in
+    let at : c.low_place.result + 1 * 2 ^ c.args.rank % 2 ^ 64 ≡ places.low_place step j + step = omega arith in
+    let v : get_or cs (c.low_place.result + 1 * 2 ^ c.args.rank % 2 ^ 64) 0 ≡ upper_at cs step j = ap (λ z. get_or cs z 0) at in
+    let b = c.requires.classes (places.low_place step j + step) w in
+    let sa = c.loop-j.auto.stamps in
+    let ma = c.loop-j.auto.marks in
+    let fa = c.loop-j.auto.first in
+    let ml = c.requires.marks_len in
+    let fl = c.requires.first_len in
+    let inside : upper_at cs step j < length stamps = omega arith in
+    let here = c.loop-j.invariant.walk.here small in
+    let nx = subst (λ z. IsNext (lower_at cs step) half z (j + 1) k) here (c.requires.next j small) in
+    record {
+      walk = elim c.if-stamps-upper.branch [
+        | then-stamps-upper u ↦
+            let f = u.first-is ∙ ap (λ z. set first j (get_or marks z 0)) v in
+            let g = ap (λ z. get_or stamps z 0) (sym v) ∙ u.if-stamps-upper.true in
+            subst (λ z. z) (λ i. Walk cs step half lower (sym u.stamps-is i) (sym u.marks-is i) (sym f i) k)
+            (walk_again cs step half lower stamps marks first j k small (omega arith) inside c.loop-j.invariant.walk g nx)
+        | else-stamps-upper u ↦
+            let a = u.stamps-is ∙ ap (λ z. set stamps z (lower + 1)) v in
+            let m = u.marks-is ∙ ap (λ z. set marks z j) v in
+            let g : get_or stamps (upper_at cs step j) 0 ≢ lower + 1 = λ q. u.if-stamps-upper.false (ap (λ z. get_or stamps z 0) v ∙ q) in
+            subst (λ z. z) (λ i. Walk cs step half lower (sym a i) (sym m i) (sym u.first-is i) k)
+            (walk_new cs step half lower stamps marks first j k small (omega arith) inside (omega arith) c.loop-j.invariant.walk g nx)
+      ];
+      others = λ i ne.
+          let d : i ≢ j = λ q. ne (ap (lower_at cs step) q ∙ here) in
+          elim c.if-stamps-upper.branch [
+            | then-stamps-upper u ↦ ap (λ us. get_or us i 0) u.first-is ∙ get_or-set_other first j i _ 0 d ∙ c.loop-j.invariant.others i ne
+            | else-stamps-upper u ↦ ap (λ us. get_or us i 0) u.first-is ∙ get_or-set_other first j i _ 0 d ∙ c.loop-j.invariant.others i ne
+          ];
+    }

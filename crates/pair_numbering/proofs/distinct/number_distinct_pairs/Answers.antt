@@ -1,0 +1,62 @@
+use Rattle.std.proofs.Common.{◌≡◌, ◌+◌, ◌^◌, get_or, set, take, map, length, sym, ap, subst, ◌∙◌, arith}
+use Rattle.std.proofs.lemmas.List.{take_more_set, take_all, length-set, length-take}
+use Rattle.class_laws.specs.Dependence.{joined_mask}
+use Rattle.class_laws.specs.Places as places
+use Rattle.class_laws.proofs.Apart.{distinct_first}
+use Rattle.class_laws.proofs.Index.{length-pairs, pair_listed}
+use Rattle.class_laws.proofs.Firsts.{Made, made_none, made_first, made_numbers, made_many, made_told}
+use Rattle.pair_numbering.proofs.distinct.number_distinct_pairs.Goals as goal
+
+pub loop-j-init : goal.loop-j-init
+loop-j-init c =
+    let ps = places.pairs c.args.numbers.now (2 ^ c.args.rank) in
+    let l = length-pairs c.args.numbers.now (2 ^ c.args.rank) in
+    let n = c.in_ok-out.ensures.len in
+    let m = c.in_ok-joined.ensures.len in
+    record {
+      long = omega arith;
+      made = made_none 0 ps (joined_mask c.args.masks.now c.args.x) c.in_ok-out.out.items (omega arith);
+    }
+
+pub loop-j-preserved : goal.loop-j-preserved
+loop-j-preserved c =
+    let cs = c.args.numbers.now in
+    let ps = places.pairs cs (2 ^ c.args.rank) in
+    let join = joined_mask c.args.masks.now c.args.x in
+    let j = c.loop-j.j in
+    let out = c.loop-j.out.items in
+    let masks = c.loop-j.joined.items in
+    let mask = c.join_mask.result in
+    let small = c.loop-j-test.true in
+    let p = c.pair_at.ensures ∙ sym (pair_listed cs (2 ^ c.args.rank) j small) in
+    let l = length-pairs cs (2 ^ c.args.rank) in
+    let o = c.loop-j.invariant.long in
+    let few : length (take j masks) ≡ j = (let t = length-take j masks in omega arith) in
+    let first = distinct_first cs c.args.rank c.requires.whole c.requires.distinct j small in
+    record {
+      long = length-set masks _ _ ∙ o;
+      made = subst (λ z. z) (λ t. Made 0 ps join (set out j (few t)) (sym (take_more_set masks j mask (omega arith)) t) (j + 1))
+          (made_first 0 ps join out (take j masks) j mask (omega arith) first (c.join_mask.ensures ∙ ap join p) c.loop-j.invariant.made);
+    }
+
+pub returns-clause-numbers : goal.returns-clause-numbers
+returns-clause-numbers c =
+    let l = length-pairs c.args.numbers.now (2 ^ c.args.rank) in
+    let t = c.loop-j-test.false in
+    made_numbers 0 (places.pairs c.args.numbers.now (2 ^ c.args.rank)) (joined_mask c.args.masks.now c.args.x) c.loop-j.out.items (take c.loop-j.j c.loop-j.joined.items) c.loop-j.j (omega arith) c.loop-j.invariant.made
+
+pub returns-clause-many : goal.returns-clause-many
+returns-clause-many c =
+    let l = length-pairs c.args.numbers.now (2 ^ c.args.rank) in
+    let o = c.loop-j.invariant.long in
+    let t = c.loop-j-test.false in
+    ap length (sym (take_all c.loop-j.j c.loop-j.joined.items (omega arith)))
+    ∙ made_many 0 (places.pairs c.args.numbers.now (2 ^ c.args.rank)) (joined_mask c.args.masks.now c.args.x) c.loop-j.out.items (take c.loop-j.j c.loop-j.joined.items) c.loop-j.j (omega arith) c.loop-j.invariant.made
+
+pub returns-clause-told : goal.returns-clause-told
+returns-clause-told c =
+    let l = length-pairs c.args.numbers.now (2 ^ c.args.rank) in
+    let o = c.loop-j.invariant.long in
+    let t = c.loop-j-test.false in
+    ap (λ us. map (λ k. get_or us k 0) c.loop-j.out.items) (sym (take_all c.loop-j.j c.loop-j.joined.items (omega arith)))
+    ∙ made_told 0 (places.pairs c.args.numbers.now (2 ^ c.args.rank)) (joined_mask c.args.masks.now c.args.x) c.loop-j.out.items (take c.loop-j.j c.loop-j.joined.items) c.loop-j.j (omega arith) c.loop-j.invariant.made

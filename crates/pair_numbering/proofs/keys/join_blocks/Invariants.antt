@@ -1,0 +1,16 @@
+use Rattle.std.proofs.Common.{◌≡◌, ◌+◌, ◌*◌, ◌/◌, ◌^◌, map, take, length}
+use Rattle.class_laws.specs.Places as places
+use Rattle.pair_numbering.specs.Keys.{joined_key}
+use Rattle.pair_numbering.proofs.keys.join_blocks.Given as goal
+
+abbrev pub invariant-loop-block : goal.invariant-loop-block
+invariant-loop-block l = record {
+  long : length l.joined ≡ length l.keys / 2;
+  done : take (l.block * 2 ^ l.rank) l.joined ≡ map (joined_key l.base) (take (l.block * 2 ^ l.rank) (places.pairs l.keys (2 ^ l.rank)));
+}
+
+abbrev pub invariant-loop-i : goal.invariant-loop-i
+invariant-loop-i l = record {
+  long : length l.joined ≡ length l.keys / 2;
+  done : take (l.block * 2 ^ l.rank + l.i) l.joined ≡ map (joined_key l.base) (take (l.block * 2 ^ l.rank + l.i) (places.pairs l.keys (2 ^ l.rank)));
+}

@@ -1,0 +1,13 @@
+use Rattle.std.proofs.Common.{◌≡◌, ◌^◌, map, take}
+use Rattle.order_model.specs.Widths.{same_pair}
+use Rattle.class_laws.specs.Numbering.{rank}
+use Rattle.class_laws.specs.Places as places
+use Rattle.class_laws.proofs.Ranks.{Numbers}
+use Rattle.order_model.proofs.ClassPairs.{pair_decides}
+use Rattle.pair_numbering.proofs.pairs.index_pairs.Given as goal
+
+abbrev pub invariant-loop-j : goal.invariant-loop-j
+invariant-loop-j l = record {
+  seen : Numbers same_pair pair_decides l.seen.keys (take l.j (places.pairs l.numbers (2 ^ l.rank)));
+  done : l.out.items ≡ map (rank same_pair (places.pairs l.numbers (2 ^ l.rank))) (take l.j (places.pairs l.numbers (2 ^ l.rank)));
+}

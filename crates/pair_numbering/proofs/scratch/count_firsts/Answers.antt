@@ -1,0 +1,42 @@
+use Rattle.std.proofs.Common.{◌≡◌, ◌+◌, ◌/◌, ◌<◌, ◌^◌, get_or, length, sym, ap, ◌∙◌, subst, arith}
+use Rattle.std.specs.Int.{bit_at}
+use Rattle.std.proofs.lemmas.Nat.Bits.{shr_and_one}
+use Rattle.class_laws.specs.Numbering.{IsFirst}
+use Rattle.class_laws.specs.Dependence.{joined_mask}
+use Rattle.class_laws.specs.Places as places
+use Rattle.pair_numbering.proofs.CountedFirsts.{Counting, counting_first, counting_again, counting_all}
+use Rattle.class_laws.proofs.Index.{first_listed, pair_listed, length-pairs}
+use Rattle.pair_numbering.proofs.scratch.count_firsts.Goals as goal
+use Rattle.pair_numbering.proofs.scratch.count_firsts.Goals.{then-f-j, else-f-j}
+
+pub loop-j-preserved : goal.loop-j-preserved
+loop-j-preserved c =
+    let cs = c.args.numbers.now in
+    let step = 2 ^ c.args.rank in
+    let ps = places.pairs cs step in
+    let j = c.loop-j.j in
+    let lp = length-pairs cs step in
+    let t = c.loop-j-test.true in
+    let long = c.requires.long in
+    let small : j < length cs / 2 = omega arith in
+    let listed : j < length ps = omega arith in
+    let first = first_listed cs step j (get_or c.args.first.now j 0) small (c.requires.first j small) in
+    elim c.if-f-j.branch [
+      | then-f-j w ↦
+          let m = w.join_mask-mask.ensures ∙ ap (joined_mask c.args.masks.now c.args.x) (w.pair_at.ensures ∙ sym (pair_listed cs step j small)) in
+          let b : w.from-count.result ≡ bit_at w.join_mask-mask.result c.args.x = (let s = shr_and_one w.join_mask-mask.result c.args.x in let e = w.from-count.ensures in omega arith) in
+          subst (λ k. Counting ps c.args.masks.now c.args.x k (j + 1)) (sym w.count-is)
+          (counting_first ps c.args.masks.now c.args.x c.loop-j.count w.from-count.result j w.join_mask-mask.result listed (subst (IsFirst (λ i. get_or ps i (0, 0)) j) w.if-f-j.true first) m b c.loop-j.invariant)
+      | else-f-j w ↦
+          let before = first.before in
+          let other = w.if-f-j.false in
+          subst (λ k. Counting ps c.args.masks.now c.args.x k (j + 1)) (sym w.count-is)
+          (counting_again ps c.args.masks.now c.args.x c.loop-j.count j (get_or c.args.first.now j 0) listed first (omega arith) c.loop-j.invariant)
+    ]
+
+pub returns : goal.returns
+returns c =
+    let lp = length-pairs c.args.numbers.now (2 ^ c.args.rank) in
+    let t = c.loop-j-test.false in
+    let long = c.requires.long in
+    counting_all (places.pairs c.args.numbers.now (2 ^ c.args.rank)) c.args.masks.now c.args.x c.loop-j.count c.loop-j.j (omega arith) c.loop-j.invariant

@@ -1,0 +1,144 @@
+//! Widths that take no memory: by chains and marks in rows that are lent.
+
+ghost use Rattle.std.specs.Prelude.{◌≡◌, ◌==◌, ℕ, ◌+◌, ◌*◌, ◌/◌, ◌^◌, ◌<◌, ◌≤◌, length, slice_index, IfOk};
+ghost use Rattle.class_laws.specs.Numbering.{IsFirst};
+ghost use Rattle.pair_numbering.specs.Scratch.{CountsMasks, most_entries};
+ghost use Rattle.class_laws.specs.Places as places;
+
+use crate::chains::{chain, find_firsts};
+use crate::masks::join_mask;
+use crate::pairs::pair_at;
+use order_model::Problem;
+use std::alloc::{AllocError, Global};
+use std::marker::Model;
+
+/// Rows for the numbering of a problem's class tables: five words for each entry of the largest.
+#[derive(Drop)]
+pub struct Scratch {
+    heads: Vec<u32>,
+    next: Vec<u32>,
+    stamps: Vec<u32>,
+    marks: Vec<u32>,
+    first: Vec<u32>,
+}
+
+impl Model for Scratch {
+    ghost use Rattle.std.specs.Prelude.{ℕ, length};
+    ghost use Rattle.pair_numbering.specs.Scratch.{AreLong};
+
+    ghost Value = { ℕ };
+
+    ghost view = { λ s. length s.heads.items };
+
+    ghost invariant = { λ s. AreLong (length s.heads.items) s.next.items s.stamps.items s.marks.items s.first.items };
+}
+
+impl Scratch {
+    /// Rows for all class tables of a problem.
+    pub fn of(alloc: Global, problem: &Problem) -> Result<Scratch, AllocError>
+        ensures { IfOk result (λ s. s ≡ most_entries problem.now) }
+    {
+        let entries = (problem.outputs() as usize) << problem.inputs();
+        Ok(Scratch {
+            heads: vec![in alloc; 0u32; entries]?,
+            next: vec![in alloc; 0u32; entries]?,
+            stamps: vec![in alloc; 0u32; entries]?,
+            marks: vec![in alloc; 0u32; entries]?,
+            first: vec![in alloc; 0u32; entries]?,
+        })
+    }
+
+    /// How many distinct pairs have a mask with `x`.
+    pub fn count_joined(&mut self, numbers: &[u32], rank: u32, x: u8, masks: &[u16]) -> u32
+        requires rank { rank < 16 }
+        requires variable { x < 16 }
+        requires len { length numbers.now ≤ 2 ^ 20 }
+        requires whole { (blocks : ℕ) × (length numbers.now ≡ blocks * (2 * 2 ^ rank)) }
+        requires classes { (i : ℕ) → i < length numbers.now → slice_index numbers.now i < length masks.now }
+        requires few { length masks.now ≤ length numbers.now }
+        requires long { length numbers.now ≤ self.old }
+        ensures count { CountsMasks masks.now x (places.pairs numbers.now (2 ^ rank)) result }
+        ensures same { self.new ≡ self.old }
+    {
+        count_in(
+            numbers,
+            rank,
+            x,
+            masks,
+            &mut self.heads,
+            &mut self.next,
+            &mut self.stamps,
+            &mut self.marks,
+            &mut self.first,
+        )
+    }
+}
+
+/// Writes a value everywhere.
+fn fill(row: &mut [u32], value: u32)
+    ensures { (i : ℕ) → i < length row.new → slice_index row.new i ≡ value }
+{
+    for i in 0..row.len() {
+        row[i] = value;
+    }
+}
+
+/// How many distinct pairs have a mask with `x`, in rows that are long enough.
+fn count_in(
+    numbers: &[u32],
+    rank: u32,
+    x: u8,
+    masks: &[u16],
+    heads: &mut [u32],
+    next: &mut [u32],
+    stamps: &mut [u32],
+    marks: &mut [u32],
+    first: &mut [u32],
+) -> u32
+    requires rank { rank < 16 }
+    requires variable { x < 16 }
+    requires len { length numbers.now ≤ 2 ^ 20 }
+    requires whole { (blocks : ℕ) × (length numbers.now ≡ blocks * (2 * 2 ^ rank)) }
+    requires classes { (i : ℕ) → i < length numbers.now → slice_index numbers.now i < length masks.now }
+    requires few { length masks.now ≤ length numbers.now }
+    requires heads { length numbers.now ≤ length heads.old }
+    requires next { length numbers.now ≤ length next.old }
+    requires stamps { length numbers.now ≤ length stamps.old }
+    requires marks { length numbers.now ≤ length marks.old }
+    requires first { length numbers.now ≤ length first.old }
+    ensures { CountsMasks masks.now x (places.pairs numbers.now (2 ^ rank)) result }
+{
+    let classes = masks.len();
+    let half = numbers.len() / 2;
+    let heads = &mut heads[..classes];
+    let next = &mut next[..half];
+    let stamps = &mut stamps[..classes];
+    let marks = &mut marks[..classes];
+    let first = &mut first[..half];
+    fill(heads, half as u32);
+    fill(stamps, 0);
+    chain(numbers, rank, heads, next);
+    find_firsts(numbers, rank, heads, next, stamps, marks, first);
+    count_firsts(numbers, rank, x, masks, first)
+}
+
+/// How many pairs that are the first of their kind have a mask with `x`.
+fn count_firsts(numbers: &[u32], rank: u32, x: u8, masks: &[u16], first: &[u32]) -> u32
+    requires rank { rank < 16 }
+    requires variable { x < 16 }
+    requires len { length numbers.now ≤ 2 ^ 20 }
+    requires whole { (blocks : ℕ) × (length numbers.now ≡ blocks * (2 * 2 ^ rank)) }
+    requires classes { (i : ℕ) → i < length numbers.now → slice_index numbers.now i < length masks.now }
+    requires long { length first.now ≡ length numbers.now / 2 }
+    requires first { (j : ℕ) → j < length numbers.now / 2 → IsFirst (places.pair_at numbers.now (2 ^ rank)) j (slice_index first.now j) }
+    ensures { CountsMasks masks.now x (places.pairs numbers.now (2 ^ rank)) result }
+{
+    let mut count = 0;
+    for (j, f) in first.iter().enumerate() {
+        if *f as usize == j {
+            let mask = join_mask(masks, x, pair_at(numbers, rank, j));
+            count += u32::from((mask >> x) & 1);
+        }
+    }
+    count
+}

@@ -1,0 +1,90 @@
+//! Numbers of pairs by first occurrence, by slots that each have the number of a pair.
+
+ghost use Rattle.std.specs.Prelude.{◌≡◌, ℕ, ◌+◌, ◌*◌, ◌^◌, ◌<◌, ◌≤◌, map, get_or, length, IfOk, IfSome};
+ghost use Rattle.std.specs.Set.{distinct_count};
+ghost use Rattle.order_model.specs.Widths.{same_pair};
+ghost use Rattle.pair_numbering.specs.Slots.{IsSlot, home_of};
+ghost use Rattle.class_laws.specs.Numbering.{ranks};
+ghost use Rattle.class_laws.specs.Places as places;
+
+use crate::pairs::{NumberedPairs, pair_at};
+use std::alloc::{AllocError, Global};
+
+/// How many slots are tried for a pair.
+const TRIES: usize = 64;
+
+/// Where the search for a pair's slot begins.
+#[inline(always)]
+fn home(homes: usize, pair: (u32, u32)) -> usize
+    requires some { 0 < homes }
+    requires few { homes ≤ 2 ^ 21 }
+    ensures place { result ≡ home_of homes pair }
+    ensures within { result < homes }
+{
+    let key = (u64::from(pair.0) << 20) + u64::from(pair.1);
+    let high = key.wrapping_mul(11400714819323198485) >> 32;
+    ((high * homes as u64) >> 32) as usize
+}
+
+/// The first slot from `home` on that has the pair or is empty.
+#[inline(always)]
+fn find_slot(
+    slots: &[u32],
+    keys: &[(u32, u32)],
+    count: u32,
+    pair: (u32, u32),
+    home: usize,
+) -> Option<usize>
+    requires room { home + 64 ≤ length slots.now }
+    requires keys { count < length keys.now }
+    ensures { IfSome result (λ at. IsSlot slots.now keys.now count pair home at) }
+{
+    for at in home..home + TRIES {
+        let number = slots[at].min(count) as usize;
+        if keys[number].0 == pair.0 && keys[number].1 == pair.1 {
+            return Some(at);
+        }
+    }
+    None
+}
+
+/// The numbers of the pairs. A pair's slot is the first free one from its home on; an empty slot has a number too large for a
+/// pair. Nothing where too many pairs have homes close together.
+pub fn number_pairs_by_slots(
+    alloc: Global,
+    numbers: &[u32],
+    rank: u32,
+) -> Result<Option<NumberedPairs>, AllocError>
+    requires rank { rank < 16 }
+    requires len { length numbers.now ≤ 2 ^ 20 }
+    requires whole { (blocks : ℕ) × (length numbers.now ≡ blocks * (2 * 2 ^ rank)) }
+    ensures numbers { IfOk result (λ o. IfSome o (λ v. v.numbers.items ≡ ranks same_pair (places.pairs numbers.now (2 ^ rank)))) }
+    ensures many { IfOk result (λ o. IfSome o (λ v. length v.pairs.items ≡ distinct_count same_pair (places.pairs numbers.now (2 ^ rank)))) }
+    ensures told { IfOk result (λ o. IfSome o (λ v. map (λ c. get_or v.pairs.items c (0, 0)) v.numbers.items ≡ places.pairs numbers.now (2 ^ rank))) }
+{
+    let half = numbers.len() / 2;
+    let homes = 4 * half;
+    let mut slots = vec![in alloc; half as u32; homes + TRIES]?;
+    let mut keys = vec![in alloc; (0u32, 0u32); half]?;
+    let mut out = vec![in alloc; 0u32; half]?;
+    let mut count = 0u32;
+    for j in 0..half {
+        let pair = pair_at(numbers, rank, j);
+        keys[count as usize] = pair;
+        let found = find_slot(&slots, &keys, count, pair, home(homes, pair));
+        let Some(at) = found else {
+            return Ok(None);
+        };
+        let number = slots[at].min(count);
+        slots[at] = number;
+        out[j] = number;
+        if number == count {
+            count += 1;
+        }
+    }
+    keys.truncate(count as usize);
+    Ok(Some(NumberedPairs {
+        numbers: out,
+        pairs: keys,
+    }))
+}
