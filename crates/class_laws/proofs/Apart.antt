@@ -1,4 +1,6 @@
--- Pairs of distinct classes are distinct.
+-- Where no class occurs twice, no pair does.
+--     low_rises      lower entries rise with the pairs
+--     distinct_first      each pair is the first of its kind
 use Rattle.std.proofs.Common.{◌≡◌, ◌≢◌, ℕ, ◌+◌, ◌*◌, ◌/◌, ◌^◌, ◌<◌, ◌≤◌, suc, inl, inr, List, length, get_or, refl, ap, arith}
 use Rattle.std.proofs.Math.Nat.{mul-le-mul_right, div-mul-le_self, lt-div-mul-add}
 use Rattle.std.proofs.lemmas.Bool.{cases_lt}

@@ -1,6 +1,8 @@
 -- The classes of the empty set: the first value met has number 0, the other one 1.
---     number_of first b, value_numbers first bs      the number of a value
 --     start_numbers, start_masks      the class numbers of the empty set, and the masks
+--     values_are, values_start      a problem's values are those of its functions; the first one
+--     holds_start      the class table of the empty set
+--     rows_more      the values of one function more
 use Rattle.std.proofs.Common.{◌≡◌, ℕ, zero, suc, ◌+◌, ◌<◌, ◌≤◌, Bool, true, false, not, cond, inl, inr, List, [], ◌∷◌, ◌++◌, map, length, reverse, get_or, set, eqb-true, eq-eqb, nat_eq, refl, sym, ap, ap₂, ◌∙◌, subst, arith}
 use Rattle.std.specs.Bool.{beq}
 use Rattle.std.specs.Int.{bit_at}

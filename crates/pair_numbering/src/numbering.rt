@@ -1,4 +1,4 @@
-//! Numbers of pairs by first occurrence, and their masks, in the fastest of four ways.
+//! Numbers of pairs by first occurrence, and their masks, in the fastest of several ways.
 
 ghost use Rattle.std.specs.Prelude.{◌≡◌, ℕ, ◌*◌, ◌^◌, ◌<◌, ◌≤◌, map, get_or, length, slice_index, IfOk};
 ghost use Rattle.std.specs.Set.{distinct_count};
@@ -85,7 +85,7 @@ pub fn number_pairs_with_masks(
     })
 }
 
-/// The same in an `IndexSet`. Slower: only tests call it, to compare.
+/// The same, in an `IndexSet`. Slower, and only there to be compared.
 pub fn number_pairs_by_index(
     alloc: Global,
     numbers: &[u32],

@@ -42,11 +42,7 @@ pub fn pair_at(numbers: &[u32], rank: u32, j: usize) -> (u32, u32)
 }
 
 /// The numbers of the pairs, in an `IndexSet`.
-pub fn index_pairs(
-    alloc: Global,
-    numbers: &[u32],
-    rank: u32,
-) -> Result<Vec<u32>, AllocError>
+pub fn index_pairs(alloc: Global, numbers: &[u32], rank: u32) -> Result<Vec<u32>, AllocError>
     requires rank { rank < 16 }
     requires len { length numbers.now < 2 ^ 32 }
     requires whole { (blocks : ℕ) × (length numbers.now ≡ blocks * (2 * 2 ^ rank)) }

@@ -1,4 +1,4 @@
-//! Widths that take no memory: by chains and marks in rows that are lent.
+//! Counts of masks that take no memory: by chains and marks in rows that are lent.
 
 ghost use Rattle.std.specs.Prelude.{◌≡◌, ◌==◌, ℕ, ◌+◌, ◌*◌, ◌/◌, ◌^◌, ◌<◌, ◌≤◌, length, slice_index, IfOk};
 ghost use Rattle.class_laws.specs.Numbering.{IsFirst};
@@ -74,15 +74,6 @@ impl Scratch {
     }
 }
 
-/// Writes a value everywhere.
-fn fill(row: &mut [u32], value: u32)
-    ensures { (i : ℕ) → i < length row.new → slice_index row.new i ≡ value }
-{
-    for i in 0..row.len() {
-        row[i] = value;
-    }
-}
-
 /// How many distinct pairs have a mask with `x`, in rows that are long enough.
 fn count_in(
     numbers: &[u32],
@@ -115,8 +106,8 @@ fn count_in(
     let stamps = &mut stamps[..classes];
     let marks = &mut marks[..classes];
     let first = &mut first[..half];
-    fill(heads, half as u32);
-    fill(stamps, 0);
+    heads.fill(half as u32);
+    stamps.fill(0);
     chain(numbers, rank, heads, next);
     find_firsts(numbers, rank, heads, next, stamps, marks, first);
     count_firsts(numbers, rank, x, masks, first)
