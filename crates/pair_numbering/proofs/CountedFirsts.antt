@@ -1,19 +1,13 @@
 -- Masks counted at the first pair of each kind.
-use Rattle.std.proofs.Common.{◌≡◌, ℕ, zero, suc, ◌+◌, ◌<◌, ◌≤◌, ◌^◌, false, cond, eqb, List, [], ◌∷◌, ◌++◌, length, get_or, refl, sym, ap, ◌∙◌, arith}
+use Rattle.std.proofs.Common.{◌≡◌, ℕ, zero, suc, ◌+◌, ◌<◌, ◌≤◌, cond, eqb, List, [], ◌∷◌, ◌++◌, length, get_or, refl, ap, ◌∙◌, arith}
 use Rattle.std.specs.Int.{bit_at}
 use Rattle.std.specs.List.{filter}
 use Rattle.std.proofs.lemmas.Nat.Bits.{bit_at-lt}
 use Rattle.std.proofs.lemmas.List.{length-append}
 use Rattle.std.proofs.lemmas.List.Elements.{filter-append}
-use Rattle.order_model.specs.Widths.{same_pair, width}
-use Rattle.class_laws.specs.Numbering.{IsFirst, ranks}
+use Rattle.class_laws.specs.Numbering.{IsFirst}
 use Rattle.class_laws.specs.Dependence.{joined_mask}
 use Rattle.pair_numbering.specs.Scratch.{CountsMasks}
-use Rattle.order_model.specs.Orders.{has}
-use Rattle.class_laws.specs.Places.{pairs}
-use Rattle.class_laws.specs.Table.{ClassesOf, HoldsClasses, with_variable, functions_of, set_of, free_below}
-use Rattle.class_laws.proofs.Counted.{width_is_dependent_classes}
-use Rattle.class_laws.proofs.Extended.{holds_more, width_into}
 use Rattle.class_laws.proofs.Firsts.{joined_again, joined_first}
 use Rattle.class_laws.proofs.Joined.{Joined, joined_many, joined_told}
 
@@ -53,11 +47,3 @@ module _ (ps : List (ℕ × ℕ)) (masks : List ℕ) (x : ℕ) where
     told = joined_told 0 ps (joined_mask masks x) h.out j l h.joined;
     counted = h.counted;
   }
-
--- so many pairs with x are the width of x
-pub width_counted : (t : ClassesOf) (x : ℕ) → x < t.problem.inputs → has (set_of t) x ≡ false → (numbers masks : List ℕ) (count : ℕ) → HoldsClasses t numbers masks →
-    CountsMasks masks x (pairs numbers (2 ^ free_below t.set x)) count → count ≡ width t.problem.inputs (functions_of t) (set_of t) x
-width_counted t x inside new numbers masks count h q =
-    let k = holds_more t x inside new numbers masks (ranks same_pair (pairs numbers (2 ^ free_below t.set x))) q.joined h refl q.many q.told in
-    let w = width_into t x inside new in
-    q.counted ∙ sym (width_is_dependent_classes t.problem.inputs (functions_of t) (set_of (with_variable t x)) q.joined x inside w.0 k.masks_are) ∙ w.1

@@ -1,10 +1,22 @@
-use Rattle.std.proofs.Common.{◌^◌, length, get_or, ap, subst, ◌∙◌, arith}
+use Rattle.std.proofs.Common.{◌≡◌, ℕ, ◌<◌, ◌^◌, List, false, refl, sym, length, get_or, ap, subst, ◌∙◌, arith}
 use Rattle.pair_numbering.specs.Scratch.{CountsMasks}
 use Rattle.class_laws.specs.Places as places
-use Rattle.class_laws.specs.Table.{ClassesOf, HoldsClasses, free_below}
-use Rattle.pair_numbering.proofs.CountedFirsts.{width_counted}
-use Rattle.class_laws.proofs.Extended.{is_ready, few_masks, few_of_most}
+use Rattle.class_laws.specs.Table.{ClassesOf, HoldsClasses, with_variable, functions_of, set_of, free_below}
+use Rattle.class_laws.proofs.Counted.{width_is_dependent_classes}
+use Rattle.class_laws.specs.Numbering.{ranks}
+use Rattle.class_laws.specs.Places.{pairs}
+use Rattle.order_model.specs.Widths.{same_pair, width}
+use Rattle.order_model.specs.Orders.{has}
+use Rattle.class_laws.proofs.Extended.{is_ready, few_masks, few_of_most, holds_more, width_into}
 use Rattle.compaction.proofs.classes.Classes.width_in.Goals as goal
+
+-- so many pairs with x are the width of x
+width_counted : (t : ClassesOf) (x : ℕ) → x < t.problem.inputs → has (set_of t) x ≡ false → (numbers masks : List ℕ) (count : ℕ) → HoldsClasses t numbers masks →
+    CountsMasks masks x (pairs numbers (2 ^ free_below t.set x)) count → count ≡ width t.problem.inputs (functions_of t) (set_of t) x
+width_counted t x inside new numbers masks count h q =
+    let k = holds_more t x inside new numbers masks (ranks same_pair (pairs numbers (2 ^ free_below t.set x))) q.joined h refl q.many q.told in
+    let w = width_into t x inside new in
+    q.counted ∙ sym (width_is_dependent_classes t.problem.inputs (functions_of t) (set_of (with_variable t x)) q.joined x inside w.0 k.masks_are) ∙ w.1
 
 pub count_joined-width-requires-clause-rank : goal.count_joined-width-requires-clause-rank
 count_joined-width-requires-clause-rank c =
