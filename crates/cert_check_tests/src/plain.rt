@@ -1,0 +1,150 @@
+//! A checker written apart, for at most six variables: plain loops over truth tables, each packed in a word of 64 points.
+
+ghost use Rattle.std.specs.Prelude.{◌<◌};
+
+use cert_check::{Reason, Verdict};
+use certificate::Certificate;
+use order_model::{ListedCell, Mask, VarIx};
+use std::alloc::{AllocError, Global};
+use truth_table::Tables;
+
+/// A function with the variables outside a set fixed as at a point.
+fn fixed_outside(function: u64, set: Mask, point: u32) -> u64 {
+    let set = u32::from(set);
+    let mut fixed = 0;
+    for at in 0..64u32 {
+        let from = (at & set) | (point & !set);
+        if (function >> (from % 64)) & 1 == 1 {
+            fixed |= 1 << at;
+        }
+    }
+    fixed
+}
+
+/// Whether a function depends on a variable.
+fn depends(function: u64, x: VarIx) -> bool
+    requires { x < 6 }
+{
+    for at in 0..64u32 {
+        let other = at ^ (1 << x);
+        if (function >> at) & 1 != (function >> (other % 64)) & 1 {
+            return true;
+        }
+    }
+    false
+}
+
+/// How many functions are left where the variables outside a set and one more are fixed in all ways, of those that depend on that one.
+fn width(alloc: Global, functions: &[u64], set: Mask, x: VarIx) -> Result<u64, AllocError>
+    requires { x < 6 }
+{
+    let mut left = Vec::new(alloc);
+    for function in functions {
+        for point in 0..64u32 {
+            let fixed = fixed_outside(*function, set | (1 << x), point);
+            if depends(fixed, x) && !left.contains(&fixed) {
+                left.push(fixed)?;
+            }
+        }
+    }
+    Ok(left.len() as u64)
+}
+
+/// What the checker asks of the functions: the mask of all variables, that of those on which some function depends, and each
+/// edge, by its set and then by its variable, with its width.
+#[derive(Drop)]
+pub(crate) struct Plain {
+    all: Mask,
+    essential: Mask,
+    edges: Vec<(Mask, VarIx, u64)>,
+}
+
+impl Plain {
+    pub(crate) fn of(alloc: Global, tables: &Tables) -> Result<Plain, AllocError> {
+        let problem = tables.problem();
+        let inputs = problem.inputs().min(6);
+        let all = (1 << inputs) - 1;
+        let mut functions = Vec::new(alloc);
+        for output in 0..problem.outputs() {
+            let table = problem.words(output).first().copied().unwrap_or(0);
+            functions.push(fixed_outside(table, all, 0))?;
+        }
+        let mut essential = 0;
+        let mut edges = Vec::new(alloc);
+        for x in 0..inputs {
+            if functions.iter().any(|function: &u64| depends(*function, x)) {
+                essential |= 1 << x;
+            }
+        }
+        for set in 0..all {
+            for x in 0..inputs {
+                if (set >> x) & 1 == 0 {
+                    edges.push((set, x, width(alloc, &functions, set, x)?))?;
+                }
+            }
+        }
+        Ok(Plain {
+            all,
+            essential,
+            edges,
+        })
+    }
+
+    fn reserve(&self, cert: &Certificate, set: Mask) -> u32 {
+        if cert.format() == 1 {
+            0
+        } else {
+            (self.essential & !set).count_ones()
+        }
+    }
+
+    fn value(&self, cert: &Certificate, set: Mask) -> u32 {
+        if set == self.all {
+            return cert.total();
+        }
+        for cell in cert.cells() {
+            if cell.mask == set {
+                return cell.cost;
+            }
+        }
+        cert.total().saturating_sub(self.reserve(cert, set))
+    }
+
+    /// The verdict on a certificate of which only the listed sets are to be judged.
+    pub(crate) fn verdict(&self, cert: &Certificate) -> Verdict {
+        if self.value(cert, 0) != 0 {
+            return Verdict::Invalid(Reason::Start);
+        }
+        for cell in cert.cells() {
+            if cell.cost.saturating_add(self.reserve(cert, cell.mask)) > cert.total() {
+                return Verdict::Invalid(Reason::CellTooBig);
+            }
+        }
+        for (mask, x, width) in &self.edges {
+            let above = mask | (1 << (x % 16));
+            if is_listed(cert, *mask) && is_lawful(cert, *mask) && is_lawful(cert, above) {
+                let reached = u64::from(self.value(cert, *mask)).saturating_add(*width);
+                if u64::from(self.value(cert, above)) > reached {
+                    return Verdict::Invalid(Reason::Edge { mask: *mask, x: *x });
+                }
+            }
+        }
+        Verdict::Valid
+    }
+}
+
+fn is_listed(cert: &Certificate, set: Mask) -> bool {
+    cert.cells()
+        .iter()
+        .any(|cell: &ListedCell| cell.mask == set)
+}
+
+/// Whether a set has b where it has a, of each pair (a, b).
+fn is_lawful(cert: &Certificate, set: Mask) -> bool {
+    for (a, b) in cert.pairs() {
+        if (set >> (a % 16)) & 1 == 1 && (set >> (b % 16)) & 1 == 0 {
+            return false;
+        }
+    }
+    true
+}

@@ -1,0 +1,178 @@
+//! The solver's certificates of random functions, as they are and with a cost changed.
+
+ghost use Rattle.std.specs.Prelude.{◌≡◌, ◌≤◌, length, IfOk};
+
+use crate::plain::Plain;
+use cert_check::{Verdict, check};
+use certificate::Certificate;
+use dd_builder::build_tables;
+use order_model::{Counting, ListedCell, NoGate, Pairs, Workers};
+use order_solve::{Solution, solve};
+use pla_reader::read_cover;
+use sifting::Manager;
+use sifting::laws::diagrams_have_their_problems_tables;
+use std::alloc::{AllocError, Global};
+use std::test::Fail;
+use std::thread::Threads;
+use truth_table::Tables;
+
+/// The text of a cover of random functions.
+fn random_cover(alloc: Global, inputs: u8, outputs: u8, seed: u64) -> Result<String, AllocError>
+    requires { inputs ≤ 16 }
+{
+    let mut text = format!(in alloc; ".i {inputs}\n.o {outputs}\n")?;
+    let mut state = seed;
+    for point in 0..1u32 << inputs {
+        for x in 0..inputs {
+            text.push(if (point >> x) & 1 == 1 { '1' } else { '0' })?;
+        }
+        for _output in 0..outputs {
+            state = state
+                .wrapping_mul(6_364_136_223_846_793_005)
+                .wrapping_add(1_442_695_040_888_963_407);
+            text.push(if state >> 63 == 1 { '1' } else { '0' })?;
+        }
+        text.push('\n')?;
+    }
+    Ok(text)
+}
+
+/// The truth tables of random functions.
+fn random_tables<R: Threads + Sync>(
+    rt: &R,
+    alloc: Global,
+    inputs: u8,
+    outputs: u8,
+    seed: u64,
+) -> Result<Tables, Fail>
+    requires { inputs ≤ 16 }
+{
+    let text = random_cover(alloc, inputs, outputs, seed)?;
+    let cover = read_cover(alloc, &mut Counting::new(text.as_bytes()))?;
+    Ok(Tables::of_cover(rt, alloc, &cover)?)
+}
+
+/// What the solver finds of some functions, from the order sifted from the first one that keeps the pairs.
+fn solution_of<R: Threads + Sync>(
+    rt: &R,
+    alloc: Global,
+    tables: &Tables,
+    pairs: Pairs,
+) -> Result<Solution, Fail>
+    requires { pairs.inputs ≡ tables.now.inputs }
+{
+    let problem = tables.problem();
+    let workers = Workers::new(2).ok_or("workers")?;
+    let order = pairs.first_order(alloc)?;
+    if order.len() != usize::from(problem.inputs()) {
+        return Err("an order of other variables".into());
+    }
+    let Ok(diagram) = build_tables(rt, alloc, tables, &order, workers, &NoGate) else {
+        return Err("no diagram".into());
+    };
+    diagrams_have_their_problems_tables(problem);
+    let sifted = Manager::with_pairs(alloc, diagram, pairs)?.sift(alloc)?;
+    Ok(solve(rt, alloc, problem, sifted, workers, &NoGate)?)
+}
+
+/// The solver's certificate of some functions with other costs, in format 1 or 2.
+fn certificate_with(
+    alloc: Global,
+    tables: &Tables,
+    pairs: &[(u8, u8)],
+    solution: &Solution,
+    cells: Vec<ListedCell>,
+    format: u8,
+) -> Result<Certificate, Fail> {
+    let problem = tables.problem();
+    let order = solution.order.variables().to_vec(alloc)?;
+    let levels = solution.levels.to_vec(alloc)?;
+    let (inputs, outputs) = (problem.inputs(), problem.outputs());
+    let cert = if format == 1 {
+        Certificate::new(inputs, outputs, order, levels, solution.total, cells)
+    } else {
+        let pairs = pairs.to_vec(alloc)?;
+        Certificate::new2(inputs, outputs, order, levels, solution.total, pairs, cells)
+    };
+    Ok(cert.ok_or("no spelling")?)
+}
+
+/// The pairs that functions are solved under: none, or that variable 0 stands above variable 1.
+fn pairs_for(inputs: u8, seed: u64) -> Result<Pairs, Fail>
+    requires some { 1 ≤ inputs }
+    requires few { inputs ≤ 16 }
+    ensures { IfOk result (λ p. p.inputs ≡ inputs) }
+{
+    if inputs < 2 || seed % 2 == 0 {
+        return Ok(Pairs::none(inputs));
+    }
+    Ok(Pairs::parse(b"0,1", inputs)?)
+}
+
+#[test]
+fn solutions_are_valid(rt: HostRuntime) -> Result<(), Fail> {
+    let alloc = rt.alloc();
+    for inputs in 1..9u8 {
+        for seed in 0..4u64 {
+            let tables = random_tables(&rt, alloc, inputs, 1 + (seed % 4) as u8, seed)?;
+            let pairs = pairs_for(tables.problem().inputs(), seed)?;
+            let kept = pairs.to_vec(alloc)?;
+            let solution = solution_of(&rt, alloc, &tables, pairs)?;
+            let cells = solution.cells.to_vec(alloc)?;
+            let cert = certificate_with(alloc, &tables, &kept, &solution, cells, 2)?;
+            assert_eq!(rt; check(&rt, alloc, &tables, &cert)?, Verdict::Valid);
+        }
+    }
+    Ok(())
+}
+
+/// Judges the solver's certificate with the cost at a place changed.
+fn judge_changed<R: Threads + Sync>(
+    rt: &R,
+    alloc: Global,
+    tables: &Tables,
+    plain: &Plain,
+    pairs: &[(u8, u8)],
+    solution: &Solution,
+    place: usize,
+    cost: u32,
+) -> Result<(), Fail> {
+    for format in [1u8, 2] {
+        if format == 1 && !pairs.is_empty() {
+            continue;
+        }
+        let mut cells = solution.cells.to_vec(alloc)?;
+        if let Some(cell) = cells.get_mut(place) {
+            cell.cost = cost;
+        }
+        let cert = certificate_with(alloc, tables, pairs, solution, cells, format)?;
+        if check(rt, alloc, tables, &cert)? != plain.verdict(&cert) {
+            return Err("another verdict".into());
+        }
+    }
+    Ok(())
+}
+
+#[test]
+fn changed_costs_have_the_plain_verdict(rt: HostRuntime) -> Result<(), Fail> {
+    let alloc = rt.alloc();
+    for inputs in 1..6u8 {
+        for seed in 0..4u64 {
+            let tables = random_tables(&rt, alloc, inputs, 1 + (seed % 4) as u8, seed)?;
+            let plain = Plain::of(alloc, &tables)?;
+            let pairs = pairs_for(tables.problem().inputs(), seed)?;
+            let kept = pairs.to_vec(alloc)?;
+            let solution = solution_of(&rt, alloc, &tables, pairs)?;
+            for (place, cell) in solution.cells.iter().enumerate() {
+                for cost in [
+                    cell.cost.saturating_sub(1),
+                    cell.cost,
+                    cell.cost.saturating_add(1),
+                ] {
+                    judge_changed(&rt, alloc, &tables, &plain, &kept, &solution, place, cost)?;
+                }
+            }
+        }
+    }
+    Ok(())
+}
