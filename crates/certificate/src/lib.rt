@@ -8,8 +8,6 @@ pub mod laws;
 mod lines;
 mod parsing;
 mod reader;
-#[cfg(test)]
-mod tests;
 mod texts;
 mod words;
 

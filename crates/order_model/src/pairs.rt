@@ -281,6 +281,3 @@ impl Pairs {
         }
     }
 }
-
-#[cfg(test)]
-mod tests;

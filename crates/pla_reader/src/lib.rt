@@ -10,8 +10,6 @@ mod progress;
 mod reader;
 mod statements;
 mod terms;
-#[cfg(test)]
-mod tests;
 
 pub use cover::Cover;
 pub use errors::{LineFault, PlaError};

@@ -6,8 +6,6 @@ mod fixing;
 mod merging;
 mod row;
 mod tables;
-#[cfg(test)]
-mod tests;
 
 pub use row::Row;
 pub use tables::Tables;

@@ -1,7 +1,7 @@
 //! Readings of whole inputs.
 
-use super::*;
 use order_model::Counting;
+use pla_reader::{Cover, PlaError, read_cover};
 use std::alloc::{AllocError, Global};
 use std::io;
 use std::io::{ErrorKind, Read};

@@ -1,7 +1,9 @@
+//! Workers, orders, truth tables, diagrams and devices.
+
 ghost use Rattle.std.specs.Prelude.{◌≤◌};
 
-use crate::packed::{bit_of, block, depends_on, lower_half, words_per_table};
-use crate::{
+use order_model::packed::{bit_of, block, depends_on, lower_half, words_per_table};
+use order_model::{
     BadOrder, Counting, Diagram, Gate, NoGate, Node, Order, Problem, Ref, Refused, Workers, eval,
     read_all, write_whole,
 };

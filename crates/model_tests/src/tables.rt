@@ -1,11 +1,11 @@
 //! Counts, cofactors and dependence of small covers.
 
-use super::*;
 use order_model::{Counting, Order};
 use pla_reader::read_cover;
 use std::alloc::Global;
 use std::test::Fail;
 use std::thread::Threads;
+use truth_table::Tables;
 
 /// Three products of the variables 0 to 5, where variable i meets variable i + 3.
 static INTERLEAVED: &[u8] = b".i 6\n.o 1\n1--1-- 1\n-1--1- 1\n--1--1 1\n.e\n";
