@@ -166,7 +166,7 @@ pub fn from_cover<R: Threads + Sync, G: Gate>(
 }
 
 /// A store of an order for the functions of truth tables, with restrictions as its pieces, and its first session.
-pub(crate) fn tables_store(
+pub fn tables_store(
     alloc: Global,
     tables: &Tables,
     order: &Order,
@@ -185,7 +185,7 @@ pub(crate) fn tables_store(
 }
 
 /// A store of an order for the functions of a cover, with pieces of its terms, and its first session.
-pub(crate) fn cover_store(
+pub fn cover_store(
     alloc: Global,
     cover: &Cover,
     tables: &Tables,

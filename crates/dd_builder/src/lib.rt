@@ -10,9 +10,8 @@ mod roots;
 mod tables;
 mod workers;
 
-pub use builders::{build, build_from, build_tables, from_cover, from_tables};
+pub use builders::{
+    build, build_from, build_tables, cover_store, from_cover, from_tables, tables_store,
+};
 pub use errors::BuildError;
 pub use operations::apply;
-
-#[cfg(test)]
-mod tests;

@@ -64,6 +64,3 @@ pub fn remember(
     let place = place_of(store.cache_places(), operation, first, second);
     store.set_entry(session, place, operation, first, second, id);
 }
-
-#[cfg(test)]
-mod tests;

@@ -5,4 +5,3 @@ pub mod Opened
 pub mod Parts
 pub mod Roots
 pub mod KindLaws
-pub mod TwoFunctions

@@ -118,6 +118,3 @@ impl Store {
         diagram
     }
 }
-
-#[cfg(test)]
-mod tests;

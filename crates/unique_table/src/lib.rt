@@ -22,6 +22,3 @@ pub use plays::Words;
 pub use session::{NodeId, Session, Store};
 pub use terms::{PieceKind, Pieces, TermList};
 pub use view::{Plan, View};
-
-#[cfg(test)]
-mod tests;

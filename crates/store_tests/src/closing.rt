@@ -1,0 +1,124 @@
+//! A store of the conjunction and the disjunction of two variables.
+
+ghost use Rattle.std.specs.Prelude.{◌≡◌, ◌∷◌, [], true, false, ◌<◌, IfOk, OnOk};
+ghost use Rattle.order_model.specs.Problems.{outputs_of};
+ghost use Rattle.unique_table.specs.Plans.{order_of, output_at};
+ghost use Rattle.unique_table.specs.Sessions.{Means, Follows};
+
+use order_model::{Diagram, Order, Problem};
+use std::alloc::{AllocError, Global};
+use std::test::Fail;
+use unique_table::{CloseFault, NodeId, Pieces, Session, Store, StoreFull};
+
+fn two_functions(alloc: Global) -> Result<Problem, AllocError>
+    ensures inputs { IfOk result (λ p. p.inputs ≡ 2) }
+    ensures tables { IfOk result (λ p. p.tables ≡ (false ∷ false ∷ false ∷ true ∷ []) ∷ (false ∷ true ∷ true ∷ true ∷ []) ∷ []) }
+{
+    let mut problem = Problem::new(alloc, 2, 2)?;
+    problem.set(0, 3);
+    problem.set(1, 1);
+    problem.set(1, 2);
+    problem.set(1, 3);
+    Ok(problem)
+}
+
+fn store_of_both(alloc: Global) -> Result<(Store, Session), AllocError>
+    ensures session { IfOk result (λ r. r.1.store ≡ r.0) }
+    ensures order { IfOk result (λ r. order_of r.0.plan ≡ 0 ∷ 1 ∷ []) }
+    ensures tables { IfOk result (λ r. r.0.plan.problem.value.tables ≡ (false ∷ false ∷ false ∷ true ∷ []) ∷ (false ∷ true ∷ true ∷ true ∷ []) ∷ []) }
+{
+    let problem = two_functions(alloc)?;
+    let order = Order::file_order(alloc, 2)?;
+    Store::new(alloc, order, &problem, Pieces::Tables)
+}
+
+// The ids of the conjunction and of the disjunction.
+fn make_both(store: &Store, session: &mut Session) -> Result<(NodeId, NodeId), StoreFull>
+    requires session { session.old.store ≡ store.now }
+    requires order { order_of store.now.plan ≡ 0 ∷ 1 ∷ [] }
+    requires tables { store.now.plan.problem.value.tables ≡ (false ∷ false ∷ false ∷ true ∷ []) ∷ (false ∷ true ∷ true ∷ true ∷ []) ∷ [] }
+    ensures follows { OnOk result (Follows session.old session.new) }
+    ensures conjunction { IfOk result (λ r. Means session.new r.0 (output_at store.now.plan.problem.value 0)) }
+    ensures disjunction { IfOk result (λ r. Means session.new r.1 (output_at store.now.plan.problem.value 1)) }
+{
+    let second = store.make(session, 1, 0, 1)?;
+    let conjunction = store.make(session, 0, 0, second)?;
+    let disjunction = store.make(session, 0, second, 1)?;
+    Ok((conjunction, disjunction))
+}
+
+// Publishes an output, and says whether it is collected just after that, and wasn't before.
+fn publish_output(store: &Store, session: &mut Session, output: u8, id: NodeId) -> bool
+    requires session { session.old.store ≡ store.now }
+    requires output { output < outputs_of store.now.plan.problem.value }
+    requires function { Means session.old id (output_at store.now.plan.problem.value output) }
+    ensures { Follows session.old session.new }
+{
+    let piece = store.roots() + usize::from(output);
+    let before = store.collect(session, piece);
+    store.publish(session, piece, id);
+    before == None && store.collect(session, piece) == Some(id)
+}
+
+// How a store was closed, and whether each published output was collected.
+#[derive(Drop)]
+struct Ending {
+    collected: bool,
+    closed: Result<Diagram, CloseFault>,
+}
+
+// Closes a store for which so many of the two functions were published; with a node that no root reaches, if that is wanted.
+fn close_both(alloc: Global, published: u8, further: bool) -> Result<Ending, Fail> {
+    let (store, mut session) = store_of_both(alloc)?;
+    let (conjunction, disjunction) = make_both(&store, &mut session)?;
+    let mut collected = true;
+    if published > 0 {
+        collected = publish_output(&store, &mut session, 0, conjunction);
+    }
+    if published > 1 {
+        collected = publish_output(&store, &mut session, 1, disjunction) && collected;
+    }
+    if further {
+        store.make(&mut session, 0, 1, 0)?;
+    }
+    let closed = store.close(alloc, session);
+    Ok(Ending { collected, closed })
+}
+
+#[test]
+fn closes_to_three_nodes(rt: HostRuntime) -> Result<(), Fail> {
+    for further in [false, true] {
+        let Ending { collected, closed } = close_both(rt.alloc(), 2, further)?;
+        assert!(rt; collected);
+        let diagram = closed?;
+        assert_eq!(rt; diagram.size(), 3);
+        assert_eq!(rt; &diagram.level_counts()[..3], [2, 1, 0].as_slice());
+    }
+    Ok(())
+}
+
+#[test]
+fn tells_the_least_missing_root(rt: HostRuntime) -> Result<(), Fail> {
+    for published in [0, 1] {
+        let Ending { collected, closed } = close_both(rt.alloc(), published, false)?;
+        assert!(rt; collected);
+        assert_eq!(rt; closed.err(), Some(CloseFault::MissingRoot(published)));
+    }
+    Ok(())
+}
+
+// What two sessions of a store answer to the same triple.
+fn make_in_two_sessions(alloc: Global) -> Result<(NodeId, NodeId), Fail> {
+    let (store, session) = store_of_both(alloc)?;
+    let (mut one, mut two) = store.split(session);
+    let first = store.make(&mut one, 1, 0, 1)?;
+    let second = store.make(&mut two, 1, 0, 1)?;
+    Ok((first, second))
+}
+
+#[test]
+fn sessions_get_the_same_id(rt: HostRuntime) -> Result<(), Fail> {
+    let (first, second) = make_in_two_sessions(rt.alloc())?;
+    assert_eq!(rt; first, second);
+    Ok(())
+}

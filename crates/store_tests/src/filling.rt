@@ -1,0 +1,237 @@
+//! Filling a store, and sessions of two threads.
+
+ghost use Rattle.std.specs.Prelude.{◌≡◌, ◌<◌, ◌≤◌, IfOk, OnOk};
+ghost use Rattle.std.specs.List.{All};
+ghost use Rattle.unique_table.specs.Plans.{levels_of};
+ghost use Rattle.unique_table.specs.Sessions.{Knows, IsKnownBelow, Follows, Knowledge, depth_in};
+
+use order_model::{Order, Problem};
+use std::alloc::{AllocError, Global};
+use std::test::Fail;
+use std::thread::join;
+use unique_table::{NodeId, Pieces, Session, Store, StoreFull};
+
+// Makes a node of the level, unless the children are equal, and adds its id. Says whether the store wasn't full.
+fn make_one(
+    store: &Store,
+    session: &mut Session,
+    level: u8,
+    lower: NodeId,
+    upper: NodeId,
+    ids: &mut Vec<NodeId>,
+) -> Result<bool, AllocError>
+    requires session { session.old.store ≡ store.now }
+    requires level { level < levels_of store.now.plan }
+    requires lower { IsKnownBelow session.old level lower }
+    requires upper { IsKnownBelow session.old level upper }
+    requires ids { All (λ id. Knows session.old id × (level ≤ depth_in session.old id)) ids.old.items }
+    ensures follows { Follows session.old session.new }
+    ensures ids { OnOk result (All (λ id. Knows session.new id × (level ≤ depth_in session.new id)) ids.new.items) }
+{
+    if lower == upper {
+        return Ok(true);
+    }
+    let Ok(id) = store.make(session, level, lower, upper) else {
+        return Ok(false);
+    };
+    ids.push(id)?;
+    Ok(true)
+}
+
+// Makes a node of the level for each pair of unequal ids, until there are so many, and adds their ids. Says whether the store wasn't full.
+fn make_all(
+    store: &Store,
+    session: &mut Session,
+    level: u8,
+    lowers: &[NodeId],
+    uppers: &[NodeId],
+    most: usize,
+    ids: &mut Vec<NodeId>,
+) -> Result<bool, AllocError>
+    requires session { session.old.store ≡ store.now }
+    requires level { level < levels_of store.now.plan }
+    requires lowers { All (IsKnownBelow session.old level) lowers.now }
+    requires uppers { All (IsKnownBelow session.old level) uppers.now }
+    requires ids { All (λ id. Knows session.old id × (level ≤ depth_in session.old id)) ids.old.items }
+    ensures follows { OnOk result (Follows session.old session.new) }
+    ensures ids { OnOk result (All (λ id. Knows session.new id × (level ≤ depth_in session.new id)) ids.new.items) }
+{
+    for lower in lowers {
+        for upper in uppers {
+            if ids.len() >= most {
+                return Ok(true);
+            }
+            if !make_one(store, session, level, *lower, *upper, ids)? {
+                return Ok(false);
+            }
+        }
+    }
+    Ok(true)
+}
+
+// All nodes of the lowest four levels of sixteen, and the terminals.
+fn lowest(store: &Store, session: &mut Session, alloc: Global) -> Result<Vec<NodeId>, AllocError>
+    requires session { session.old.store ≡ store.now }
+    requires levels { levels_of store.now.plan ≡ 16 }
+    ensures follows { OnOk result (Follows session.old session.new) }
+    ensures ids { IfOk result (λ v. All (IsKnownBelow session.new 11) v.items) }
+{
+    let mut ids = [0u32, 1].to_vec(alloc)?;
+    for step in 0..4u8 {
+        let below = ids.clone()?;
+        make_all(
+            store,
+            session,
+            15 - step,
+            below.as_slice(),
+            below.as_slice(),
+            1_000_000,
+            &mut ids,
+        )?;
+    }
+    Ok(ids)
+}
+
+#[derive(Drop)]
+struct Filled {
+    session: Session,
+    below: Vec<NodeId>,
+    ids: Vec<NodeId>,
+}
+
+// The lowest four levels, and nodes of level 11 by one thread: those whose lower child stands at place `from` or behind it.
+fn fill_part(
+    store: &Store,
+    session: Session,
+    alloc: Global,
+    from: usize,
+) -> Result<Filled, AllocError>
+    requires session { session.store ≡ store.now }
+    requires levels { levels_of store.now.plan ≡ 16 }
+    ensures store { IfOk result (λ p. p.session.store ≡ store.now) }
+    ensures below { IfOk result (λ p. All (IsKnownBelow p.session 11) p.below.items) }
+{
+    let mut session = session;
+    let below = lowest(store, &mut session, alloc)?;
+    let mut ids = Vec::with_capacity(alloc, 98_305)?;
+    let lowers = behind(below.as_slice(), from);
+    make_all(
+        store,
+        &mut session,
+        11,
+        lowers,
+        below.as_slice(),
+        98_305,
+        &mut ids,
+    )?;
+    Ok(Filled {
+        session,
+        below,
+        ids,
+    })
+}
+
+fn behind(ids: &[NodeId], from: usize) -> &[NodeId]
+    ensures { (s : Knowledge) → All (IsKnownBelow s 11) ids.entry.now → All (IsKnownBelow s 11) result.now }
+{
+    if from <= ids.len() { &ids[from..] } else { ids }
+}
+
+// What a full store answers to a triple that it doesn't have, and to two that it has.
+type Asked = (
+    Result<NodeId, StoreFull>,
+    Result<NodeId, StoreFull>,
+    Result<NodeId, StoreFull>,
+);
+
+fn ask(store: &Store, session: &mut Session, below: &[NodeId]) -> Option<Asked>
+    requires session { session.old.store ≡ store.now }
+    requires levels { levels_of store.now.plan ≡ 16 }
+    requires below { All (IsKnownBelow session.old 11) below.now }
+{
+    if below.len() < 65_536 {
+        return None;
+    }
+    let further = store.make(session, 11, below[50_000], below[3]);
+    let first = store.make(session, 11, below[0], below[1]);
+    let second = store.make(session, 11, below[2], below[0]);
+    Some((further, first, second))
+}
+
+fn ask_both(store: &Store, one: Session, two: Session, below: &[NodeId]) -> Option<Asked>
+    requires one { one.store ≡ store.now }
+    requires two { two.store ≡ store.now }
+    requires levels { levels_of store.now.plan ≡ 16 }
+    requires below { All (IsKnownBelow one 11) below.now }
+{
+    let mut both = store.join(one, two);
+    ask(store, &mut both, below)
+}
+
+fn sixteen(alloc: Global) -> Result<(Store, Session), AllocError>
+    ensures session { IfOk result (λ r. r.1.store ≡ r.0) }
+    ensures levels { IfOk result (λ r. levels_of r.0.plan ≡ 16) }
+{
+    let problem = Problem::new(alloc, 16, 1)?;
+    let order = Order::file_order(alloc, 16)?;
+    Store::new(alloc, order, &problem, Pieces::Tables)
+}
+
+// One session fills a store, and asks it then.
+fn fill(alloc: Global) -> Result<bool, AllocError> {
+    let (store, mut session) = sixteen(alloc)?;
+    let below = lowest(&store, &mut session, alloc)?;
+    let mut ids = Vec::new(alloc);
+    let fits = make_all(
+        &store,
+        &mut session,
+        11,
+        below.as_slice(),
+        below.as_slice(),
+        196_610,
+        &mut ids,
+    )?;
+    let asked = ask(&store, &mut session, below.as_slice());
+    let fills = below.len() == 65_536 && fits && ids.len() == 196_610;
+    Ok(fills && answers(asked, ids.first(), ids.get(131_070)))
+}
+
+// Whether the triple that the store doesn't have met a full store, and the others gave their ids.
+fn answers(asked: Option<Asked>, first: Option<&NodeId>, second: Option<&NodeId>) -> bool {
+    match (asked, first, second) {
+        (Some((Err(StoreFull), Ok(one), Ok(two))), Some(first), Some(second)) => {
+            one == *first && two == *second
+        }
+        _ => false,
+    }
+}
+
+#[test]
+fn one_session_fills_a_store(rt: HostRuntime) -> Result<(), Fail> {
+    assert!(rt; fill(rt.alloc())?);
+    Ok(())
+}
+
+#[test]
+fn two_threads_fill_a_store(rt: HostRuntime) -> Result<(), Fail> {
+    let alloc = rt.alloc();
+    let (store, session) = sixteen(alloc)?;
+    let (one, two) = store.split(session);
+    let (a, b) = join(
+        &rt,
+        || -> Result<Filled, AllocError>
+            requires { (one.store ≡ store) × (levels_of store.plan ≡ 16) }
+            ensures { IfOk result (λ p. (p.session.store ≡ store) × All (IsKnownBelow p.session 11) p.below.items) }
+        { fill_part(&store, one, alloc, 0) },
+        || -> Result<Filled, AllocError>
+            requires { (two.store ≡ store) × (levels_of store.plan ≡ 16) }
+            ensures { IfOk result (λ p. (p.session.store ≡ store) × All (IsKnownBelow p.session 11) p.below.items) }
+        { fill_part(&store, two, alloc, 2) },
+    );
+    let (a, b) = (a?, b?);
+    assert_eq!(rt; a.ids.len(), 98_305);
+    assert_eq!(rt; b.ids.len(), 98_305);
+    let asked = ask_both(&store, a.session, b.session, a.below.as_slice());
+    assert!(rt; answers(asked, a.ids.first(), b.ids.first()));
+    Ok(())
+}

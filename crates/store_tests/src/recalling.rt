@@ -1,0 +1,39 @@
+//! Remembering and recalling.
+
+ghost use Rattle.std.specs.Prelude.{◌≡◌, IfOk};
+ghost use Rattle.unique_table.specs.Plans.{levels_of};
+ghost use Rattle.unique_table.specs.Sessions.{Knows};
+
+use op_cache::{recall, remember};
+use order_model::{Order, Problem};
+use std::alloc::{AllocError, Global};
+use std::test::Fail;
+use unique_table::{NodeId, Operation, Pieces, Session, Store};
+
+fn single(alloc: Global) -> Result<(Store, Session), AllocError>
+    ensures session { IfOk result (λ r. r.1.store ≡ r.0) }
+    ensures levels { IfOk result (λ r. levels_of r.0.plan ≡ 1) }
+{
+    let problem = Problem::new(alloc, 1, 1)?;
+    let order = Order::file_order(alloc, 1)?;
+    Store::new(alloc, order, &problem, Pieces::Tables)
+}
+
+// Remembers that an id and 1 give the id, and recalls it.
+fn keep(store: &Store, session: &mut Session, id: NodeId) -> Option<NodeId>
+    requires session { session.old.store ≡ store.now }
+    requires known { Knows session.old id }
+    ensures { session.new.store ≡ store.now }
+{
+    remember(store, session, Operation::And, id, 1, id);
+    recall(store, session, Operation::And, id, 1)
+}
+
+#[test]
+fn recalls_what_it_remembers(rt: HostRuntime) -> Result<(), Fail> {
+    let (store, mut session) = single(rt.alloc())?;
+    assert_eq!(rt; keep(&store, &mut session, 0), Some(0));
+    assert_eq!(rt; recall(&store, &mut session, Operation::Or, 0, 1), None);
+    assert_eq!(rt; recall(&store, &mut session, Operation::And, 0, 0), None);
+    Ok(())
+}
