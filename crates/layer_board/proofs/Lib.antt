@@ -8,4 +8,3 @@ pub mod Seated
 pub mod Closing
 pub mod Gathering
 pub mod BoardEvents
-pub mod Parity

@@ -8,4 +8,3 @@ pub mod Held
 pub mod Events
 pub mod Marked
 pub mod Shown
-pub mod Examples

@@ -8,8 +8,6 @@ mod machine;
 mod plays;
 mod results;
 mod seats;
-#[cfg(test)]
-mod tests;
 mod views;
 
 pub use boards::{CloseError, PostRefused};

@@ -1,5 +1,6 @@
 //! Certificates and their texts.
 
+use certificate::LineFault::{BadLine, BadNumber, MissingLine, NotRising, TrailingText};
 use certificate::{CertFault, Certificate, LineFault};
 use order_model::{ListedCell, Mask, VarIx};
 use std::alloc::{AllocError, Global};
@@ -113,10 +114,19 @@ static UNSPELLED: [Parts; 17] = [
 ];
 
 /// Whether a certificate has the parts, and its text is their spelling.
-fn is_of(rt: &impl Abort, alloc: Global, cert: &Certificate, parts: Parts, text: &str) -> Result<(), Fail> {
+fn is_of(
+    rt: &impl Abort,
+    alloc: Global,
+    cert: &Certificate,
+    parts: Parts,
+    text: &str,
+) -> Result<(), Fail> {
     let ((inputs, outputs), order, levels, total, pairs, cells) = parts;
     assert_eq!(rt; cert.text(alloc)?.as_str(), text);
-    assert_eq!(rt; (cert.inputs(), cert.outputs(), cert.total()), (inputs, outputs, total));
+    assert_eq!(rt;
+        (cert.inputs(), cert.outputs(), cert.total()),
+        (inputs, outputs, total)
+    );
     assert_eq!(rt; cert.order(), order);
     assert_eq!(rt; cert.levels(), levels);
     assert_eq!(rt; cert.format(), if pairs.is_some() { 2 } else { 1 });
@@ -151,52 +161,64 @@ fn other_parts_have_no_spelling(rt: HostRuntime) -> Result<(), Fail> {
 
 /// Texts with a piece and what stands in its place, the first faulty lines of what that gives, and their faults.
 static FAULTY: [(&str, &str, &str, usize, LineFault); 46] = [
-    (MULTIPLEXER, "end\n", "", 13, LineFault::MissingLine),
-    (MULTIPLEXER, "0001 1", "0001 01", 9, LineFault::BadNumber),
-    (MULTIPLEXER, "0001 1\n0002 1", "0002 1\n0001 1", 10, LineFault::NotRising),
-    (MULTIPLEXER, "cells 5", "cells 4", 12, LineFault::BadLine),
-    (MULTIPLEXER, "cells 5", "cells 8", 7, LineFault::BadNumber),
-    (MULTIPLEXER, "cells 5", "cells 6", 13, LineFault::BadLine),
-    (MULTIPLEXER, "0004 2", "0007 1", 12, LineFault::BadNumber),
-    (MULTIPLEXER, "order 2 0 1", "order 2 0", 4, LineFault::BadLine),
-    (MULTIPLEXER, "order 2 0 1", "order 2 0 16", 4, LineFault::BadNumber),
-    (MULTIPLEXER, "order 2 0 1", "order 2  0 1", 4, LineFault::BadLine),
-    (MULTIPLEXER, "end\n", "end\nx", 14, LineFault::TrailingText),
-    (MULTIPLEXER, "end\n", "end\n\n", 14, LineFault::TrailingText),
-    (MULTIPLEXER, "inputs 3", "inputs  3", 2, LineFault::BadLine),
-    (MULTIPLEXER, "inputs 3", "inputs 17", 2, LineFault::BadNumber),
-    (MULTIPLEXER, "inputs 3", "inputs 16", 4, LineFault::BadLine),
-    (MULTIPLEXER, "inputs 3", "inputs 0", 2, LineFault::BadNumber),
-    (MULTIPLEXER, "inputs 3", "inputs 03", 2, LineFault::BadNumber),
-    (MULTIPLEXER, "inputs 3", "inputs +3", 2, LineFault::BadNumber),
-    (MULTIPLEXER, "inputs 3", "inputs ", 2, LineFault::BadNumber),
-    (MULTIPLEXER, "inputs 3", "inputs", 2, LineFault::BadLine),
-    (MULTIPLEXER, "inputs 3", "inputs 3 ", 2, LineFault::BadLine),
-    (MULTIPLEXER, "inputs 3", "outputs 3", 2, LineFault::BadLine),
-    (MULTIPLEXER, "inputs 3", "", 2, LineFault::BadLine),
-    (MULTIPLEXER, "outputs 1", "outputs 0", 3, LineFault::BadNumber),
-    (MULTIPLEXER, "0004 2", "000A 2", 12, LineFault::BadNumber),
-    (MULTIPLEXER, "0004 2", "004 2", 12, LineFault::BadNumber),
-    (MULTIPLEXER, "0004 2", "0004 1000000", 12, LineFault::BadNumber),
-    (MULTIPLEXER, "0004 2", "0004", 12, LineFault::BadLine),
-    (MULTIPLEXER, "certificate 1", "certificate 01", 1, LineFault::BadLine),
-    (MULTIPLEXER, "certificate 1", "certificate 2", 7, LineFault::BadLine),
-    (ABOVE, "certificate 2", "certificate 02", 1, LineFault::BadLine),
-    (ABOVE, "certificate 2", "certificate 1", 7, LineFault::BadLine),
-    (MULTIPLEXER, "levels 1 1 1", "levels 1 1 1000000", 5, LineFault::BadNumber),
-    (MULTIPLEXER, "total 3", "total 1000000", 6, LineFault::BadNumber),
-    (MULTIPLEXER, "end\n", "end", 13, LineFault::MissingLine),
-    (MULTIPLEXER, "end\n", "end \n", 13, LineFault::BadLine),
-    (MULTIPLEXER, "end\n", "END\n", 13, LineFault::BadLine),
-    (ABOVE, "0 2\ncells", "0 3\ncells", 8, LineFault::BadNumber),
-    (ABOVE, "pairs 1\n0 2", "pairs 2\n0 2\n0 1", 9, LineFault::NotRising),
-    (ABOVE, "pairs 1\n0 2", "pairs 2\n0 2\n0 2", 9, LineFault::NotRising),
-    (ABOVE, "pairs 1", "pairs 241", 7, LineFault::BadNumber),
-    (ABOVE, "pairs 1", "pairs 2", 9, LineFault::BadNumber),
-    (ABOVE, "0 2\ncells", "0 2 1\ncells", 8, LineFault::BadLine),
-    (ABOVE, "0000 0", "0000 0\r", 10, LineFault::BadNumber),
-    (ABOVE, ABOVE, "", 1, LineFault::MissingLine),
-    (ABOVE, ABOVE, "\n", 1, LineFault::BadLine),
+    (MULTIPLEXER, "end\n", "", 13, MissingLine),
+    (MULTIPLEXER, "0001 1", "0001 01", 9, BadNumber),
+    (
+        MULTIPLEXER,
+        "0001 1\n0002 1",
+        "0002 1\n0001 1",
+        10,
+        NotRising,
+    ),
+    (MULTIPLEXER, "cells 5", "cells 4", 12, BadLine),
+    (MULTIPLEXER, "cells 5", "cells 8", 7, BadNumber),
+    (MULTIPLEXER, "cells 5", "cells 6", 13, BadLine),
+    (MULTIPLEXER, "0004 2", "0007 1", 12, BadNumber),
+    (MULTIPLEXER, "order 2 0 1", "order 2 0", 4, BadLine),
+    (MULTIPLEXER, "order 2 0 1", "order 2 0 16", 4, BadNumber),
+    (MULTIPLEXER, "order 2 0 1", "order 2  0 1", 4, BadLine),
+    (MULTIPLEXER, "end\n", "end\nx", 14, TrailingText),
+    (MULTIPLEXER, "end\n", "end\n\n", 14, TrailingText),
+    (MULTIPLEXER, "inputs 3", "inputs  3", 2, BadLine),
+    (MULTIPLEXER, "inputs 3", "inputs 17", 2, BadNumber),
+    (MULTIPLEXER, "inputs 3", "inputs 16", 4, BadLine),
+    (MULTIPLEXER, "inputs 3", "inputs 0", 2, BadNumber),
+    (MULTIPLEXER, "inputs 3", "inputs 03", 2, BadNumber),
+    (MULTIPLEXER, "inputs 3", "inputs +3", 2, BadNumber),
+    (MULTIPLEXER, "inputs 3", "inputs ", 2, BadNumber),
+    (MULTIPLEXER, "inputs 3", "inputs", 2, BadLine),
+    (MULTIPLEXER, "inputs 3", "inputs 3 ", 2, BadLine),
+    (MULTIPLEXER, "inputs 3", "outputs 3", 2, BadLine),
+    (MULTIPLEXER, "inputs 3", "", 2, BadLine),
+    (MULTIPLEXER, "outputs 1", "outputs 0", 3, BadNumber),
+    (MULTIPLEXER, "0004 2", "000A 2", 12, BadNumber),
+    (MULTIPLEXER, "0004 2", "004 2", 12, BadNumber),
+    (MULTIPLEXER, "0004 2", "0004 1000000", 12, BadNumber),
+    (MULTIPLEXER, "0004 2", "0004", 12, BadLine),
+    (MULTIPLEXER, "certificate 1", "certificate 01", 1, BadLine),
+    (MULTIPLEXER, "certificate 1", "certificate 2", 7, BadLine),
+    (ABOVE, "certificate 2", "certificate 02", 1, BadLine),
+    (ABOVE, "certificate 2", "certificate 1", 7, BadLine),
+    (
+        MULTIPLEXER,
+        "levels 1 1 1",
+        "levels 1 1 1000000",
+        5,
+        BadNumber,
+    ),
+    (MULTIPLEXER, "total 3", "total 1000000", 6, BadNumber),
+    (MULTIPLEXER, "end\n", "end", 13, MissingLine),
+    (MULTIPLEXER, "end\n", "end \n", 13, BadLine),
+    (MULTIPLEXER, "end\n", "END\n", 13, BadLine),
+    (ABOVE, "0 2\ncells", "0 3\ncells", 8, BadNumber),
+    (ABOVE, "pairs 1\n0 2", "pairs 2\n0 2\n0 1", 9, NotRising),
+    (ABOVE, "pairs 1\n0 2", "pairs 2\n0 2\n0 2", 9, NotRising),
+    (ABOVE, "pairs 1", "pairs 241", 7, BadNumber),
+    (ABOVE, "pairs 1", "pairs 2", 9, BadNumber),
+    (ABOVE, "0 2\ncells", "0 2 1\ncells", 8, BadLine),
+    (ABOVE, "0000 0", "0000 0\r", 10, BadNumber),
+    (ABOVE, ABOVE, "", 1, MissingLine),
+    (ABOVE, ABOVE, "\n", 1, BadLine),
 ];
 
 #[test]

@@ -11,8 +11,6 @@ mod needs;
 mod reading;
 mod solution;
 mod solving;
-#[cfg(test)]
-mod tests;
 mod working;
 
 pub use bench::Bench;

@@ -14,5 +14,4 @@ pub mod SiftedOrder
 pub mod Cutting
 pub mod Built
 pub mod Rooting
-mod CheckedDiagrams
 mod DiagramTables

@@ -3,4 +3,3 @@ pub mod Managed
 pub mod LevelLists
 pub mod Moves
 pub mod Cuts
-pub mod Checked

@@ -2,14 +2,10 @@
 #![tactic(auto)]
 
 mod build;
-#[cfg(test)]
-mod checked;
 pub mod laws;
 mod levels;
 mod manager;
 mod sift;
-#[cfg(test)]
-mod tests;
 
 pub use manager::Manager;
 pub use sift::Sifted;

@@ -5,8 +5,6 @@ mod costs;
 mod layers;
 mod recurrence;
 mod selection;
-#[cfg(test)]
-mod tests;
 
 pub use costs::{Cell, Costs};
 pub use layers::{Block, Layer};

@@ -1,0 +1,2 @@
+mod CheckedDiagrams
+mod Parity

@@ -1,0 +1,109 @@
+//! Worked layers, blocks and cells.
+
+ghost use Rattle.std.specs.Prelude.{◌≡◌, ◌+◌, IfOk};
+
+use order_model::{Mask, Pairs};
+use std::alloc::Global;
+use std::process::Abort;
+use std::test::Fail;
+use subset_layers::{Cell, Costs, Layer, least_cell};
+
+#[test]
+fn sets_of_two_of_ten_variables(rt: HostRuntime) -> Result<(), Fail> {
+    let layer = Layer::of(rt.alloc(), 10, 2)?;
+    assert_eq!(rt; (layer.inputs(), layer.size()), (10, 2));
+    assert_eq!(rt; layer.len(), 45);
+    assert_eq!(rt; layer.blocks(), 37);
+    assert_eq!(rt; layer.position(0x0003), Some(0));
+    assert_eq!(rt; layer.position(0x0001), None);
+    assert_eq!(rt; layer.block_place(0), 3);
+    assert_eq!(rt; layer.mask_at(0), 0x0003);
+    let wanted: [(u8, usize, Mask); 5] = [
+        (0x00, 1, 0x0300),
+        (0x01, 2, 0x0101),
+        (0x02, 2, 0x0102),
+        (0x03, 1, 0x0003),
+        (0x04, 2, 0x0104),
+    ];
+    for (i, (low, len, first)) in wanted.iter().enumerate() {
+        let block = layer.block(i);
+        assert_eq!(rt; block.inputs(), 10);
+        assert_eq!(rt; (block.low(), block.len()), (*low, *len), "block {i}");
+        assert!(rt; 0 < block.len());
+        assert_eq!(rt; block.mask(0), *first, "block {i}");
+    }
+    Ok(())
+}
+
+/// Of each set of a layer of the multiplexer (the variable 2 selects 0 or 1) the widths of the variables over the set
+/// without them, where they are needed, and its cell for the bound 3.
+type Row = (Mask, [u32; 3], Cell);
+
+const fn cell(cost: u32, variable: u8) -> Cell {
+    Cell { cost, variable }
+}
+
+/// Tries the cells of the layer after that of the costs, and answers its costs.
+fn try_cells(
+    rt: &impl Abort,
+    alloc: Global,
+    costs: &Costs,
+    size: u8,
+    rows: &[Row],
+) -> Result<Costs, Fail>
+    requires inputs { costs.now.inputs ≡ 3 }
+    requires next { size ≡ costs.now.size + 1 }
+    ensures inputs { IfOk result (λ c. c.inputs ≡ 3) }
+    ensures size { IfOk result (λ c. c.size ≡ size) }
+{
+    let layer = Layer::of(alloc, 3, size)?;
+    let mut cells = Vec::new(alloc);
+    for (i, (mask, widths, wanted)) in rows.iter().enumerate() {
+        assert_eq!(rt; layer.position(*mask), Some(i));
+        let mut row = [0; 16];
+        row[..3].copy_from_slice(widths);
+        let cell = least_cell(*mask, costs, &row, 3, 0x0007, &Pairs::none(3));
+        assert_eq!(rt; cell, *wanted, "set {mask}");
+        cells.push(cell)?;
+    }
+    assert_eq!(rt; cells.len(), layer.len());
+    let costs = Costs::of(layer, cells);
+    for (mask, _, wanted) in rows {
+        assert_eq!(rt; costs.cell_of(*mask), Some(*wanted));
+        assert_eq!(rt; costs.cost_of(*mask), Some(wanted.cost));
+    }
+    Ok(costs)
+}
+
+#[test]
+fn cells_of_the_multiplexer(rt: HostRuntime) -> Result<(), Fail> {
+    let none = Costs::start(rt.alloc(), 3)?;
+    assert_eq!(rt; none.cost_of(0x0000), Some(0));
+    assert_eq!(rt; none.cell_of(0x0000), None);
+    let one = try_cells(
+        &rt,
+        rt.alloc(),
+        &none,
+        1,
+        &[
+            (0x0001, [1, 0, 0], cell(1, 0)),
+            (0x0002, [0, 1, 0], cell(1, 1)),
+            (0x0004, [0, 0, 2], cell(4, 2)),
+        ],
+    )?;
+    assert_eq!(rt; one.cost_of(0x0003), None);
+    let two = try_cells(
+        &rt,
+        rt.alloc(),
+        &one,
+        2,
+        &[
+            (0x0003, [1, 1, 0], cell(2, 0)),
+            (0x0005, [0, 0, 2], cell(4, 0)),
+            (0x0006, [0, 0, 2], cell(4, 1)),
+        ],
+    )?;
+    let three = try_cells(&rt, rt.alloc(), &two, 3, &[(0x0007, [0, 0, 1], cell(3, 2))])?;
+    assert_eq!(rt; three.inputs(), 3);
+    Ok(())
+}

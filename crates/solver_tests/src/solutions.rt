@@ -1,0 +1,290 @@
+//! Solutions of small covers, and two workers of the search.
+
+ghost use Rattle.std.specs.Prelude.{◌≡◌, IfOk};
+
+use dd_builder::build_tables;
+use order_model::{Counting, Gate, Mask, NoGate, Pairs, Problem, Workers};
+use order_solve::{Solution, solve};
+use pla_reader::read_cover;
+use sifting::laws::diagrams_have_their_problems_tables;
+use sifting::{Manager, Sifted};
+use std::alloc::{AllocError, Global};
+use std::hint;
+use std::sync::atomic::{AtomicU64, Ordering};
+use std::test::Fail;
+use std::thread::Threads;
+use truth_table::Tables;
+
+/// A cover, the pairs, a sifted order, and what is to be found: the order, its level counts, their sum and the listed cells.
+type Row = (
+    &'static [u8],
+    &'static [u8],
+    &'static [u8],
+    &'static [u8],
+    &'static [u32],
+    u32,
+    &'static [(Mask, u32)],
+);
+
+static ROWS: [Row; 11] = [
+    (
+        b".i 3\n.o 1\n001 1\n010 1\n100 1\n111 1\n.e\n",
+        b"",
+        &[0, 2, 1],
+        &[0, 1, 2],
+        &[1, 2, 2],
+        5,
+        &[(0, 0), (1, 2), (2, 2), (4, 2)],
+    ),
+    (
+        b".i 3\n.o 1\n.e\n",
+        b"",
+        &[2, 1, 0],
+        &[0, 1, 2],
+        &[0, 0, 0],
+        0,
+        &[],
+    ),
+    (
+        b".i 1\n.o 2\n1 10\n0 01\n.e\n",
+        b"",
+        &[0],
+        &[0],
+        &[2],
+        2,
+        &[(0, 0)],
+    ),
+    (
+        b".i 2\n.o 2\n11 10\n1- 01\n-1 01\n.e\n",
+        b"",
+        &[1, 0],
+        &[0, 1],
+        &[2, 1],
+        3,
+        &[(0, 0), (1, 1), (2, 1)],
+    ),
+    (
+        b".i 3\n.o 1\n--1 1\n.e\n",
+        b"",
+        &[1, 0, 2],
+        &[0, 1, 2],
+        &[0, 0, 1],
+        1,
+        &[],
+    ),
+    (
+        b".i 3\n.o 1\n1-0 1\n-11 1\n.e\n",
+        b"",
+        &[2, 0, 1],
+        &[2, 0, 1],
+        &[1, 1, 1],
+        3,
+        &[],
+    ),
+    (b".i 1\n.o 1\n- 1\n.e\n", b"", &[0], &[0], &[0], 0, &[]),
+    (
+        b".i 2\n.o 2\n.type f\n1- 1-\n-1 -1\n.e\n",
+        b"",
+        &[1, 0],
+        &[0, 1],
+        &[1, 1],
+        2,
+        &[],
+    ),
+    (
+        b".i 3\n.o 1\n1-0 1\n-11 1\n.e\n",
+        b"0,2",
+        &[0, 2, 1],
+        &[0, 2, 1],
+        &[1, 2, 1],
+        4,
+        &[(0, 0), (2, 1)],
+    ),
+    (
+        b".i 3\n.o 1\n1-0 1\n-11 1\n.e\n",
+        b"2,0",
+        &[2, 1, 0],
+        &[2, 0, 1],
+        &[1, 1, 1],
+        3,
+        &[],
+    ),
+    (
+        b".i 6\n.o 1\n1--1-- 1\n-1--1- 1\n--1--1 1\n.e\n",
+        b"",
+        &[0, 3, 4, 1, 5, 2],
+        &[0, 3, 1, 4, 2, 5],
+        &[1, 1, 1, 1, 1, 1],
+        6,
+        &[],
+    ),
+];
+
+static ALL_ONES: &[u8] = b".i 16\n.o 1\n1111111111111111 1\n.e\n";
+
+/// The truth tables of a cover's text.
+pub(crate) fn tables_of<R: Threads + Sync>(
+    rt: &R,
+    alloc: Global,
+    text: &[u8],
+) -> Result<Tables, Fail> {
+    let cover = read_cover(alloc, &mut Counting::new(text))?;
+    let tables = Tables::of_cover(rt, alloc, &cover)?;
+    Ok(tables)
+}
+
+/// The order that is sifted from the first one that keeps the pairs.
+fn sift_from_first<R: Threads + Sync>(
+    rt: &R,
+    alloc: Global,
+    tables: &Tables,
+    pairs: Pairs,
+    workers: Workers,
+) -> Result<Sifted, Fail>
+    ensures { IfOk result (λ s. s.problem ≡ tables.now) }
+{
+    let problem = tables.problem();
+    let order = pairs.first_order(alloc)?;
+    if order.len() != usize::from(problem.inputs())
+        || order.len() != usize::from(pairs.inputs())
+        || !pairs.keeps(&order)
+    {
+        return Err("no order that keeps the pairs".into());
+    }
+    let Ok(diagram) = build_tables(rt, alloc, tables, &order, workers, &NoGate) else {
+        return Err("not built".into());
+    };
+    diagrams_have_their_problems_tables(problem);
+    let manager = Manager::with_pairs(alloc, diagram, pairs)?;
+    Ok(manager.sift(alloc)?)
+}
+
+/// The solution of a cover under some pairs, where that is the sifted order.
+fn solved<R: Threads + Sync, G: Gate>(
+    rt: &R,
+    alloc: Global,
+    text: &[u8],
+    above: &[u8],
+    wanted: &[u8],
+    workers: u8,
+    gate: &G,
+) -> Result<Solution, Fail> {
+    let tables = tables_of(rt, alloc, text)?;
+    let inputs = tables.problem().inputs();
+    let pairs = if above.is_empty() {
+        Pairs::none(inputs)
+    } else {
+        Pairs::parse(above, inputs)?
+    };
+    let workers = Workers::new(workers).ok_or("workers")?;
+    let sifted = sift_from_first(rt, alloc, &tables, pairs, workers)?;
+    if sifted.order().variables() != wanted {
+        return Err("another sifted order".into());
+    }
+    Ok(solve(rt, alloc, tables.problem(), sifted, workers, gate)?)
+}
+
+#[test]
+fn solves_the_rows(rt: HostRuntime) -> Result<(), Fail> {
+    for (text, above, sifted, order, levels, total, cells) in ROWS {
+        for workers in [1u8, 2, 64] {
+            let found = solved(&rt, rt.alloc(), text, above, sifted, workers, &NoGate)?;
+            assert_eq!(rt; found.order.variables(), order);
+            assert_eq!(rt; found.levels.as_slice(), levels);
+            assert_eq!(rt; found.total, total);
+            assert_eq!(rt; found.cells.len(), cells.len());
+            for (cell, (mask, cost)) in found.cells.iter().zip(cells.iter()) {
+                assert_eq!(rt; (cell.mask, cell.cost), (*mask, *cost));
+            }
+        }
+    }
+    Ok(())
+}
+
+#[test]
+fn counts_the_widths(rt: HostRuntime) -> Result<(), Fail> {
+    for (row, widths) in [(0usize, 12u64), (5, 8)] {
+        let (text, above, sifted, _, _, _, _) = ROWS[row];
+        let found = solved(&rt, rt.alloc(), text, above, sifted, 2, &NoGate)?;
+        assert_eq!(rt; found.widths, widths);
+    }
+    Ok(())
+}
+
+/// Holds each of two workers at its first call until the other has made one, for some turns at most, and marks each of the items 1 to 65,535.
+#[derive(Drop)]
+struct Meet {
+    came: [AtomicU64; 2],
+    seen: Vec<AtomicU64>,
+    calls: AtomicU64,
+    again: AtomicU64,
+    missed: AtomicU64,
+}
+
+impl Meet {
+    /// Marks an item, and says whether it was none before.
+    fn is_first(&self, item: u32) -> bool {
+        let Some(marks) = self.seen.get(item as usize / 64) else {
+            return false;
+        };
+        let bit = 1u64 << (item % 64);
+        item > 0 && marks.fetch_or(bit, Ordering::SeqCst) & bit == 0
+    }
+}
+
+impl Gate for Meet {
+    fn between(&self, worker: u8, item: u32) {
+        self.calls.fetch_add(1, Ordering::SeqCst);
+        if !self.is_first(item) {
+            self.again.fetch_add(1, Ordering::SeqCst);
+        }
+        if worker == 0 || worker > 2 {
+            self.missed.store(1, Ordering::SeqCst);
+            return;
+        }
+        let me = usize::from(worker - 1);
+        self.came[me].store(1, Ordering::SeqCst);
+        for _turn in 0..100_000_000u64 {
+            if self.came[1 - me].load(Ordering::SeqCst) == 1 {
+                return;
+            }
+            hint::spin_loop();
+        }
+        self.missed.store(1, Ordering::SeqCst);
+    }
+}
+
+/// A gate that no worker came to.
+fn open_gate(alloc: Global) -> Result<Meet, AllocError> {
+    let mut seen = Vec::with_capacity(alloc, 1024)?;
+    for _mark in 0..1024u32 {
+        seen.push(AtomicU64::new(0))?;
+    }
+    Ok(Meet {
+        came: [AtomicU64::new(0), AtomicU64::new(0)],
+        seen,
+        calls: AtomicU64::new(0),
+        again: AtomicU64::new(0),
+        missed: AtomicU64::new(0),
+    })
+}
+
+#[test]
+fn two_workers_meet(rt: HostRuntime) -> Result<(), Fail> {
+    let gate = open_gate(rt.alloc())?;
+    let sifted = [15u8, 14, 13, 12, 11, 10, 9, 8, 7, 6, 5, 4, 3, 2, 1, 0];
+    let found = solved(&rt, rt.alloc(), ALL_ONES, b"", &sifted, 2, &gate)?;
+    assert_eq!(rt;
+        found.order.variables(),
+        [0u8, 1, 2, 3, 4, 5, 6, 7, 8, 9, 10, 11, 12, 13, 14, 15].as_slice()
+    );
+    assert_eq!(rt; found.levels.as_slice(), [1u32; 16].as_slice());
+    assert!(rt; found.total == 16 && found.cells.is_empty());
+    assert_eq!(rt; gate.calls.load(Ordering::SeqCst), 65_535);
+    assert_eq!(rt; gate.again.load(Ordering::SeqCst), 0);
+    assert_eq!(rt; gate.missed.load(Ordering::SeqCst), 0);
+    for came in &gate.came {
+        assert_eq!(rt; came.load(Ordering::SeqCst), 1);
+    }
+    Ok(())
+}

@@ -1,0 +1,226 @@
+//! Workers at a board whose claims another one holds.
+
+ghost use Rattle.std.specs.Prelude.{◌≡◌, ◌+◌, ◌^◌, ◌<◌, All, IfOk, map};
+ghost use Rattle.subset_layers.specs.Layers.{masks_of};
+ghost use Rattle.layer_board.specs.Pairing.{pair_of};
+ghost use Rattle.layer_board.specs.Views.{cell_for};
+ghost use Rattle.order_solve.specs.Benches.{AreCostsFor, IsBench, IsLayerFor, bench_with, setting_with};
+
+use crate::solutions::tables_of;
+use layer_board::{Board, BoardSeat, CellResult, CloseError, PostRefused};
+use order_model::{Mask, NoGate, Pairs, Problem, Workers};
+use order_solve::{Bench, WorkerEnd, work_layer};
+use std::alloc::Global;
+use std::test::Fail;
+use std::thread;
+use std::thread::Threads;
+use subset_layers::{Cell, Costs, Layer};
+
+static PARITY_OF_FOUR: &[u8] =
+    b".i 4\n.o 1\n1000 1\n0100 1\n0010 1\n0001 1\n1110 1\n1101 1\n1011 1\n0111 1\n.e\n";
+
+/// The cells of a layer, by a lone worker at a board of its own.
+fn cells_by_one(
+    alloc: Global,
+    problem: &Problem,
+    pairs: &Pairs,
+    layer: &Layer,
+    bench: &Bench<'_>,
+) -> Result<Vec<Cell>, Fail>
+    requires inputs { layer.now.inputs ≡ problem.now.inputs }
+    requires setting { bench.now.setting ≡ setting_with problem.now pairs.now 7 }
+    requires layer { bench.now.layer ≡ layer.now }
+    ensures { IfOk result (λ v. map pair_of v.items ≡ map (cell_for (setting_with problem.now pairs.now 7)) (masks_of layer.now)) }
+{
+    let one = Workers::new(1).ok_or("one worker")?;
+    let (board, mut seats) = Board::new(alloc, problem, 7, layer, one, pairs)?;
+    let seat = seats.pop().ok_or("one seat")?;
+    let WorkerEnd { seat, tally: _ } = work_layer(alloc, &board, seat, 1, bench, &NoGate)?;
+    let Ok(cells) = board.close(alloc, seat) else {
+        return Err("closed".into());
+    };
+    Ok(cells)
+}
+
+/// The costs of the sets of one variable.
+fn first_costs(alloc: Global, problem: &Problem, pairs: &Pairs) -> Result<Costs, Fail>
+    requires { pairs.now.inputs ≡ problem.now.inputs }
+    ensures { IfOk result (IsLayerFor (setting_with problem.now pairs.now 7) 1) }
+{
+    let start = Costs::start(alloc, problem.inputs())?;
+    let layer = Layer::of(alloc, problem.inputs(), 1)?;
+    let bench = Bench::new(problem, pairs, 7, &layer, &start);
+    let cells = cells_by_one(alloc, problem, pairs, &layer, &bench)?;
+    Ok(Costs::of(layer, cells))
+}
+
+/// The result of a layer's first set.
+fn first_result(
+    problem: &Problem,
+    pairs: &Pairs,
+    layer: &Layer,
+    cells: &[Cell],
+) -> Result<CellResult, Fail>
+    requires { map pair_of cells.now ≡ map (cell_for (setting_with problem.now pairs.now 7)) (masks_of layer.now) }
+    ensures { IfOk result (λ r. r.setting ≡ setting_with problem.now pairs.now 7) }
+{
+    if layer.len() == 0 || cells.is_empty() {
+        return Err("an empty layer".into());
+    }
+    let mask = layer.mask_at(0);
+    Ok(CellResult::new(problem, 7, mask, cells[0], pairs))
+}
+
+/// Posts two results, one after the other.
+fn post_both(
+    board: &Board,
+    mut seat: BoardSeat,
+    one: CellResult,
+    two: CellResult,
+) -> (Result<(), PostRefused>, Result<(), PostRefused>)
+    requires seat { seat.board ≡ board.now }
+    requires one { one.setting ≡ board.now.brief.setting }
+    requires two { two.setting ≡ board.now.brief.setting }
+{
+    let first = board.post(&mut seat, one);
+    let second = board.post(&mut seat, two);
+    (first, second)
+}
+
+/// A worker does all blocks but one that another seat claimed and holds.
+fn check_missing(
+    alloc: Global,
+    board: Board,
+    worker: BoardSeat,
+    one: CellResult,
+    bench: &Bench<'_>,
+) -> Result<(), Fail>
+    requires seat { worker.board ≡ board }
+    requires setting { board.brief.setting ≡ bench.now.setting }
+    requires layer { board.brief.layer ≡ bench.now.layer }
+    requires one { one.setting ≡ bench.now.setting }
+{
+    let WorkerEnd { mut seat, tally } = work_layer(alloc, &board, worker, 2, bench, &NoGate)?;
+    if tally.count() != 10 {
+        return Err("two widths for each of five sets".into());
+    }
+    if board.post(&mut seat, one) != Err(PostRefused::Stranger) {
+        return Err("not its own".into());
+    }
+    match board.close(alloc, seat) {
+        Err(CloseError::Missing(3)) => Ok(()),
+        _ => Err("0003 is missing".into()),
+    }
+}
+
+/// A worker does all blocks but one, whose owner then posts it from a thread of its own.
+fn both_work<R: Threads + Sync>(
+    rt: &R,
+    alloc: Global,
+    board: &Board,
+    owner: BoardSeat,
+    worker: BoardSeat,
+    one: CellResult,
+    two: CellResult,
+    bench: &Bench<'_>,
+) -> Result<BoardSeat, Fail>
+    requires owner { owner.board ≡ board.now }
+    requires seat { worker.board ≡ board.now }
+    requires setting { board.now.brief.setting ≡ bench.now.setting }
+    requires layer { board.now.brief.layer ≡ bench.now.layer }
+    requires one { one.setting ≡ bench.now.setting }
+    requires two { two.setting ≡ bench.now.setting }
+    ensures { IfOk result (λ s. s.board ≡ board.now) }
+{
+    let WorkerEnd { seat, tally: _ } = work_layer(alloc, board, worker, 2, bench, &NoGate)?;
+    let ((first, second), _) = thread::join(
+        rt,
+        move || -> (Result<(), PostRefused>, Result<(), PostRefused>)
+            requires { (owner.board ≡ board.now) × (one.setting ≡ board.now.brief.setting) × (two.setting ≡ board.now.brief.setting) }
+        { post_both(board, owner, one, two) },
+        || (),
+    );
+    if first != Ok(()) || second != Err(PostRefused::Double) {
+        return Err("posted once".into());
+    }
+    Ok(seat)
+}
+
+/// The cells of a board, of which there are six, each of cost 4.
+fn check_closed(alloc: Global, board: Board, seat: BoardSeat) -> Result<(), Fail>
+    requires { seat.board ≡ board }
+{
+    let Ok(cells) = board.close(alloc, seat) else {
+        return Err("closed".into());
+    };
+    for cell in &cells {
+        if cell.cost != 4 {
+            return Err("cost 4".into());
+        }
+    }
+    if cells.len() != 6 {
+        return Err("six cells".into());
+    }
+    Ok(())
+}
+
+/// One of two seats claims the first block and holds it while the other one works, or posts it from a thread of its own.
+fn hold_claim<R: Threads + Sync>(
+    rt: &R,
+    alloc: Global,
+    board: Board,
+    seats: Vec<BoardSeat>,
+    one: CellResult,
+    two: CellResult,
+    bench: &Bench<'_>,
+    posts: bool,
+) -> Result<(), Fail>
+    requires seats { All (λ s. s.board ≡ board) seats.items }
+    requires setting { board.brief.setting ≡ bench.now.setting }
+    requires layer { board.brief.layer ≡ bench.now.layer }
+    requires one { one.setting ≡ bench.now.setting }
+    requires two { two.setting ≡ bench.now.setting }
+{
+    let mut seats = seats;
+    let worker = seats.pop().ok_or("two seats")?;
+    let mut owner = seats.pop().ok_or("two seats")?;
+    let Some(claim) = board.claim(&mut owner) else {
+        return Err("a block".into());
+    };
+    if claim.block().low() != 3 {
+        return Err("0003".into());
+    }
+    if posts {
+        let seat = both_work(rt, alloc, &board, owner, worker, one, two, bench)?;
+        check_closed(alloc, board, seat)
+    } else {
+        check_missing(alloc, board, worker, one, bench)
+    }
+}
+
+/// The board of the sets of two of four variables, for the parity and the bound 7.
+fn held_claim<R: Threads + Sync>(rt: &R, alloc: Global, posts: bool) -> Result<(), Fail> {
+    let tables = tables_of(rt, alloc, PARITY_OF_FOUR)?;
+    let problem = tables.problem();
+    let inputs = problem.inputs();
+    let pairs = Pairs::none(inputs);
+    let before = first_costs(alloc, problem, &pairs)?;
+    let layer = Layer::of(alloc, inputs, 2)?;
+    let bench = Bench::new(problem, &pairs, 7, &layer, &before);
+    let cells = cells_by_one(alloc, problem, &pairs, &layer, &bench)?;
+    let one = first_result(problem, &pairs, &layer, &cells)?;
+    let two = first_result(problem, &pairs, &layer, &cells)?;
+    let workers = Workers::new(2).ok_or("two workers")?;
+    let (board, seats) = Board::new(alloc, problem, 7, &layer, workers, &pairs)?;
+    hold_claim(rt, alloc, board, seats, one, two, &bench, posts)
+}
+
+#[test]
+fn a_held_claim_is_missing(rt: HostRuntime) -> Result<(), Fail> {
+    held_claim(&rt, rt.alloc(), false)
+}
+
+#[test]
+fn a_held_claim_is_posted(rt: HostRuntime) -> Result<(), Fail> {
+    held_claim(&rt, rt.alloc(), true)
+}
