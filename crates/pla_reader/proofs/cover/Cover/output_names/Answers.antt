@@ -1,0 +1,5 @@
+use Rattle.std.proofs.Common.{rules}
+use Rattle.pla_reader.proofs.cover.Cover.output_names.Goals as goal
+
+pub returns-clause-names : goal.returns-clause-names
+returns-clause-names c = search rules
