@@ -1,0 +1,5 @@
+use Rattle.std.proofs.Common.{rules}
+use Rattle.layer_board.proofs.seats.Claim.place.Goals as goal
+
+pub returns : goal.returns
+returns c = search rules

@@ -1,0 +1,5 @@
+use Rattle.std.proofs.Common.{rules}
+use Rattle.subset_layers.proofs.layers.Layer.size.Goals as goal
+
+pub returns : goal.returns
+returns c = search rules
