@@ -92,7 +92,7 @@ module _ (n : ℕ) (F G : List Function) (s : AllSame n F G) where
     edges = subst (λ (w : List ℕ → ℕ → ℕ). All (λ (c : Cell). (x : ℕ) → x < n → IsFalse (has (members n c.mask) x) → AreBothLawful n cert.pairs c.mask x →
         set_value n G cert (c.mask + 2 ^ x) ≤ set_value n G cert c.mask + w (members n c.mask) x) cert.cells) (λ i T x. widths_same T x i)
         (subst (λ (v : ℕ → ℕ). All (λ (c : Cell). (x : ℕ) → x < n → IsFalse (has (members n c.mask) x) → AreBothLawful n cert.pairs c.mask x →
-            v (c.mask + 2 ^ x) ≤ v c.mask + width n F (members n c.mask) x) cert.cells) (λ i mask. value_same cert mask i) g.edges);
+        v (c.mask + 2 ^ x) ≤ v c.mask + width n F (members n c.mask) x) cert.cells) (λ i mask. value_same cert mask i) g.edges);
   }
 
   applies_same : (cert : Certificate) (reason : Reason) → Applies n F cert reason → Applies n G cert reason
@@ -111,8 +111,8 @@ module _ (n : ℕ) (F G : List Function) (s : AllSame n F G) where
     a.4,
     a.5,
     subst (λ k. set_value n G cert mask + width n G (members n mask) x < k) (value_same cert (mask + 2 ^ x))
-    (subst (λ k. k + width n G (members n mask) x < set_value n F cert (mask + 2 ^ x)) (value_same cert mask)
-    (subst (λ k. set_value n F cert mask + k < set_value n F cert (mask + 2 ^ x)) (widths_same (members n mask) x) a.6)),
+        (subst (λ k. k + width n G (members n mask) x < set_value n F cert (mask + 2 ^ x)) (value_same cert mask)
+        (subst (λ k. set_value n F cert mask + k < set_value n F cert (mask + 2 ^ x)) (widths_same (members n mask) x) a.6)),
   )
 
 -- the first reason why a certificate is not good
