@@ -60,7 +60,6 @@ def places():
 class Build:
     def __init__(self, name):
         self.name = name
-        self.folder = f"{TOP}/crates/{name}"
         self.crates = needed(name)
         self.start = time.monotonic()
         # what this build leaves in a folder that was there before is someone's work
@@ -73,10 +72,10 @@ class Build:
         minutes, seconds = divmod(int(time.monotonic() - self.start), 60)
         return f"{minutes} min {seconds:02} s"
 
-    def call(self, *words):
-        """Calls rt in the program's folder, tells of each crate that it has done, and ends where it fails."""
+    def call(self, crate, *words):
+        """Calls rt in a crate's folder, tells of each crate that it has done, and ends where it fails."""
         done, said = 0, []
-        how = {"cwd": self.folder, "stdin": subprocess.DEVNULL, "stdout": subprocess.PIPE, "stderr": subprocess.STDOUT}
+        how = {"cwd": f"{TOP}/crates/{crate}", "stdin": subprocess.DEVNULL, "stdout": subprocess.PIPE, "stderr": subprocess.STDOUT}
         try:
             with subprocess.Popen(["rt", *words], errors="replace", **how) as ran:
                 for line in ran.stdout:
@@ -97,7 +96,7 @@ class Build:
 
 def main(name):
     build = Build(name)
-    folder = f"{build.folder}/out"
+    folder = f"{TOP}/crates/{name}/out"
     os.makedirs(folder, exist_ok=True)
     with open(f"{folder}/lock", "w") as lock:
         fcntl.flock(lock, fcntl.LOCK_EX)
@@ -110,8 +109,10 @@ def main(name):
             pass
         jobs = places()
         build.say(f"proving and building {len(build.crates)} crates, {jobs} at a time; {BEFOREHAND}")
-        build.call("all", "check", "--jobs", str(jobs))
-        build.call("run", "--", "--help")
+        # all others wait for the lowest, which may use all processors
+        build.call(build.crates[0], "lib")
+        build.call(name, "all", "check", "--jobs", str(jobs))
+        build.call(name, "run", "--", "--help")
         build.forget()
         with open(f"{folder}/sources", "w") as it:
             it.write(sources)
