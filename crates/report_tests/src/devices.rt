@@ -1,0 +1,58 @@
+//! Readers and writers that fail.
+
+use std::alloc::Global;
+use std::io;
+use std::io::{ErrorKind, Read, Write};
+
+/// A reader of bytes that fails once as many calls were made as are left.
+#[derive(Drop)]
+pub struct FailingReader<'a> {
+    pub rest: &'a [u8],
+    pub calls_left: u32,
+    pub error: ErrorKind,
+}
+
+impl Read for FailingReader<'_> {
+    fn read(&mut self, buf: &mut [u8]) -> io::Result<usize> {
+        if self.calls_left == 0 {
+            return Err(io::Error::from(self.error));
+        }
+        self.calls_left -= 1;
+        let len = buf.len().min(4);
+        self.rest.read(&mut buf[..len])
+    }
+}
+
+/// A writer that keeps what it takes, at most so many bytes a call, and fails once it has taken as many as it may.
+#[derive(Drop)]
+pub struct FailingWriter {
+    pub taken: Vec<u8>,
+    bytes_left: usize,
+    most_a_call: usize,
+}
+
+impl FailingWriter {
+    pub fn new(alloc: Global, bytes_left: usize, most_a_call: usize) -> FailingWriter {
+        FailingWriter {
+            taken: Vec::new(alloc),
+            bytes_left,
+            most_a_call,
+        }
+    }
+}
+
+impl Write for FailingWriter {
+    fn write(&mut self, buf: &[u8]) -> io::Result<usize> {
+        let len = buf.len().min(self.bytes_left).min(self.most_a_call);
+        if len == 0 && !buf.is_empty() {
+            return Err(io::Error::from(ErrorKind::Other));
+        }
+        self.taken.extend_from_slice(&buf[..len])?;
+        self.bytes_left -= len;
+        Ok(len)
+    }
+
+    fn flush(&mut self) -> io::Result<()> {
+        Ok(())
+    }
+}
