@@ -1,16 +1,8 @@
 //! Worked cases of both programs: words, files, and what is to be seen then.
 
-/// Which program runs.
-#[derive(Clone, Copy, Debug, PartialEq, Eq)]
-pub enum Program {
-    Minorder,
-    Ordercheck,
-}
-
 /// A call of a program in a folder with some files.
 #[derive(Clone, Copy)]
 pub struct Case {
-    pub program: Program,
     pub words: &'static [&'static str],
     pub files: &'static [(&'static str, &'static [u8])],
     pub status: u8,
@@ -22,290 +14,9 @@ pub struct Case {
     pub after: &'static [(&'static str, &'static [u8])],
 }
 
-pub static CASES: [Case; 105] = [
+/// Calls of minorder.
+pub static MINORDER: [Case; 14] = [
     Case {
-        program: Program::Minorder,
-        words: &["in.pla"],
-        files: &[("in.pla", b".i 3\n.o 1\n001 1\n010 1\n100 1\n111 1\n.e\n")],
-        status: 0,
-        out: Some(
-            b"order: 0 1 2\nnames: x0 x1 x2\nlevels: 1 2 2\nnodes: 5\nsifted order: 0 2 1\nsifted nodes: 5\nfile order nodes: 5\n",
-        ),
-        err: Some(b""),
-        after: &[],
-    },
-    Case {
-        program: Program::Minorder,
-        words: &["--count", "in.pla"],
-        files: &[("in.pla", b".i 3\n.o 1\n001 1\n010 1\n100 1\n111 1\n.e\n")],
-        status: 0,
-        out: Some(b"levels: 1 2 2\nnodes: 5\n"),
-        err: Some(b""),
-        after: &[],
-    },
-    Case {
-        program: Program::Minorder,
-        words: &["--cert", "out.cert", "in.pla"],
-        files: &[("in.pla", b".i 3\n.o 1\n001 1\n010 1\n100 1\n111 1\n.e\n")],
-        status: 0,
-        out: Some(
-            b"order: 0 1 2\nnames: x0 x1 x2\nlevels: 1 2 2\nnodes: 5\nsifted order: 0 2 1\nsifted nodes: 5\nfile order nodes: 5\n",
-        ),
-        err: Some(b""),
-        after: &[(
-            "out.cert",
-            b"bddorder-certificate 2\ninputs 3\noutputs 1\norder 0 1 2\nlevels 1 2 2\ntotal 5\npairs 0\ncells 4\n0000 0\n0001 2\n0002 2\n0004 2\nend\n",
-        )],
-    },
-    Case {
-        program: Program::Ordercheck,
-        words: &["in.pla", "in.cert"],
-        files: &[
-            ("in.pla", b".i 3\n.o 1\n001 1\n010 1\n100 1\n111 1\n.e\n"),
-            (
-                "in.cert",
-                b"bddorder-certificate 1\ninputs 3\noutputs 1\norder 0 1 2\nlevels 1 2 2\ntotal 5\ncells 7\n0000 0\n0001 2\n0002 2\n0003 4\n0004 2\n0005 4\n0006 4\nend\n",
-            ),
-        ],
-        status: 0,
-        out: Some(b"valid 5\n"),
-        err: Some(b""),
-        after: &[],
-    },
-    Case {
-        program: Program::Ordercheck,
-        words: &["in.pla", "in.cert"],
-        files: &[
-            ("in.pla", b".i 3\n.o 1\n001 1\n010 1\n100 1\n111 1\n.e\n"),
-            (
-                "in.cert",
-                b"bddorder-certificate 2\ninputs 3\noutputs 1\norder 0 1 2\nlevels 1 2 2\ntotal 5\npairs 0\ncells 4\n0000 0\n0001 2\n0002 2\n0004 2\nend\n",
-            ),
-        ],
-        status: 0,
-        out: Some(b"valid 5\n"),
-        err: Some(b""),
-        after: &[],
-    },
-    Case {
-        program: Program::Ordercheck,
-        words: &["in.pla", "in.cert"],
-        files: &[
-            ("in.pla", b".i 3\n.o 1\n001 1\n010 1\n100 1\n111 1\n.e\n"),
-            (
-                "in.cert",
-                b"bddorder-certificate 2\ninputs 3\noutputs 1\norder 0 1 2\nlevels 1 2 2\ntotal 5\npairs 0\ncells 3\n0000 0\n0002 2\n0004 2\nend\n",
-            ),
-        ],
-        status: 1,
-        out: Some(b"invalid Edge 0000 0\n"),
-        err: Some(b""),
-        after: &[],
-    },
-    Case {
-        program: Program::Ordercheck,
-        words: &["in.pla", "in.cert"],
-        files: &[
-            ("in.pla", b".i 3\n.o 1\n001 1\n010 1\n100 1\n111 1\n.e\n"),
-            (
-                "in.cert",
-                b"bddorder-certificate 2\ninputs 3\noutputs 1\norder 0 1 2\nlevels 1 2 2\ntotal 5\npairs 0\ncells 5\n0000 0\n0001 2\n0002 2\n0003 5\n0004 2\nend\n",
-            ),
-        ],
-        status: 1,
-        out: Some(b"invalid CellTooBig\n"),
-        err: Some(b""),
-        after: &[],
-    },
-    Case {
-        program: Program::Minorder,
-        words: &["in.pla"],
-        files: &[(
-            "in.pla",
-            b".i 6\n.o 1\n.ilb a0 a1 a2 b0 b1 b2\n.ob f\n1--1-- 1\n-1--1- 1\n--1--1 1\n.e\n",
-        )],
-        status: 0,
-        out: Some(
-            b"order: 0 3 1 4 2 5\nnames: a0 b0 a1 b1 a2 b2\nlevels: 1 1 1 1 1 1\nnodes: 6\nsifted order: 0 3 4 1 5 2\nsifted nodes: 6\nfile order nodes: 14\n",
-        ),
-        err: Some(b""),
-        after: &[],
-    },
-    Case {
-        program: Program::Minorder,
-        words: &["--workers", "2", "in.pla"],
-        files: &[(
-            "in.pla",
-            b".i 6\n.o 1\n.ilb a0 a1 a2 b0 b1 b2\n.ob f\n1--1-- 1\n-1--1- 1\n--1--1 1\n.e\n",
-        )],
-        status: 0,
-        out: Some(
-            b"order: 0 3 1 4 2 5\nnames: a0 b0 a1 b1 a2 b2\nlevels: 1 1 1 1 1 1\nnodes: 6\nsifted order: 0 3 4 1 5 2\nsifted nodes: 6\nfile order nodes: 14\n",
-        ),
-        err: Some(b""),
-        after: &[],
-    },
-    Case {
-        program: Program::Minorder,
-        words: &["--count", "in.pla"],
-        files: &[(
-            "in.pla",
-            b".i 6\n.o 1\n.ilb a0 a1 a2 b0 b1 b2\n.ob f\n1--1-- 1\n-1--1- 1\n--1--1 1\n.e\n",
-        )],
-        status: 0,
-        out: Some(b"levels: 1 2 4 4 2 1\nnodes: 14\n"),
-        err: Some(b""),
-        after: &[],
-    },
-    Case {
-        program: Program::Minorder,
-        words: &["--count", "in.pla"],
-        files: &[("in.pla", b".i 6\n.o 1\n1--1-- 1\n-1--1- 1\n--1--1 1\n.e\n")],
-        status: 0,
-        out: Some(b"levels: 1 2 4 4 2 1\nnodes: 14\n"),
-        err: Some(b""),
-        after: &[],
-    },
-    Case {
-        program: Program::Minorder,
-        words: &["in.pla"],
-        files: &[("in.pla", b".i 3\n.o 1\n.e\n")],
-        status: 0,
-        out: Some(
-            b"order: 0 1 2\nnames: x0 x1 x2\nlevels: 0 0 0\nnodes: 0\nsifted order: 2 1 0\nsifted nodes: 0\nfile order nodes: 0\n",
-        ),
-        err: Some(b""),
-        after: &[],
-    },
-    Case {
-        program: Program::Minorder,
-        words: &["--count", "in.pla"],
-        files: &[("in.pla", b".i 3\n.o 1\n.e\n")],
-        status: 0,
-        out: Some(b"levels: 0 0 0\nnodes: 0\n"),
-        err: Some(b""),
-        after: &[],
-    },
-    Case {
-        program: Program::Minorder,
-        words: &["--cert", "out.cert", "in.pla"],
-        files: &[("in.pla", b".i 3\n.o 1\n.e\n")],
-        status: 0,
-        out: Some(
-            b"order: 0 1 2\nnames: x0 x1 x2\nlevels: 0 0 0\nnodes: 0\nsifted order: 2 1 0\nsifted nodes: 0\nfile order nodes: 0\n",
-        ),
-        err: Some(b""),
-        after: &[(
-            "out.cert",
-            b"bddorder-certificate 2\ninputs 3\noutputs 1\norder 0 1 2\nlevels 0 0 0\ntotal 0\npairs 0\ncells 0\nend\n",
-        )],
-    },
-    Case {
-        program: Program::Ordercheck,
-        words: &["in.pla", "in.cert"],
-        files: &[
-            ("in.pla", b".i 3\n.o 1\n.e\n"),
-            (
-                "in.cert",
-                b"bddorder-certificate 1\ninputs 3\noutputs 1\norder 0 1 2\nlevels 0 0 0\ntotal 0\ncells 0\nend\n",
-            ),
-        ],
-        status: 0,
-        out: Some(b"valid 0\n"),
-        err: Some(b""),
-        after: &[],
-    },
-    Case {
-        program: Program::Ordercheck,
-        words: &["in.pla", "in.cert"],
-        files: &[
-            ("in.pla", b".i 3\n.o 1\n.e\n"),
-            (
-                "in.cert",
-                b"bddorder-certificate 2\ninputs 3\noutputs 1\norder 0 1 2\nlevels 0 0 0\ntotal 0\npairs 0\ncells 0\nend\n",
-            ),
-        ],
-        status: 0,
-        out: Some(b"valid 0\n"),
-        err: Some(b""),
-        after: &[],
-    },
-    Case {
-        program: Program::Minorder,
-        words: &["in.pla"],
-        files: &[("in.pla", b".i 1\n.o 2\n1 10\n0 01\n.e\n")],
-        status: 0,
-        out: Some(
-            b"order: 0\nnames: x0\nlevels: 2\nnodes: 2\nsifted order: 0\nsifted nodes: 2\nfile order nodes: 2\n",
-        ),
-        err: Some(b""),
-        after: &[],
-    },
-    Case {
-        program: Program::Minorder,
-        words: &["--count", "in.pla"],
-        files: &[("in.pla", b".i 1\n.o 2\n1 10\n0 01\n.e\n")],
-        status: 0,
-        out: Some(b"levels: 2\nnodes: 2\n"),
-        err: Some(b""),
-        after: &[],
-    },
-    Case {
-        program: Program::Minorder,
-        words: &["in.pla"],
-        files: &[("in.pla", b".i 2\n.o 2\n11 10\n1- 01\n-1 01\n.e\n")],
-        status: 0,
-        out: Some(
-            b"order: 0 1\nnames: x0 x1\nlevels: 2 1\nnodes: 3\nsifted order: 1 0\nsifted nodes: 3\nfile order nodes: 3\n",
-        ),
-        err: Some(b""),
-        after: &[],
-    },
-    Case {
-        program: Program::Minorder,
-        words: &["--count", "in.pla"],
-        files: &[("in.pla", b".i 2\n.o 2\n11 10\n1- 01\n-1 01\n.e\n")],
-        status: 0,
-        out: Some(b"levels: 2 1\nnodes: 3\n"),
-        err: Some(b""),
-        after: &[],
-    },
-    Case {
-        program: Program::Minorder,
-        words: &["in.pla"],
-        files: &[("in.pla", b".i 3\n.o 1\n--1 1\n.e\n")],
-        status: 0,
-        out: Some(
-            b"order: 0 1 2\nnames: x0 x1 x2\nlevels: 0 0 1\nnodes: 1\nsifted order: 1 0 2\nsifted nodes: 1\nfile order nodes: 1\n",
-        ),
-        err: Some(b""),
-        after: &[],
-    },
-    Case {
-        program: Program::Minorder,
-        words: &["--count", "in.pla"],
-        files: &[("in.pla", b".i 3\n.o 1\n--1 1\n.e\n")],
-        status: 0,
-        out: Some(b"levels: 0 0 1\nnodes: 1\n"),
-        err: Some(b""),
-        after: &[],
-    },
-    Case {
-        program: Program::Minorder,
-        words: &["in.pla"],
-        files: &[(
-            "in.pla",
-            b".i 3\n.o 1\n.ilb a b s\n.ob f\n1-0 1\n-11 1\n.e\n",
-        )],
-        status: 0,
-        out: Some(
-            b"order: 2 0 1\nnames: s a b\nlevels: 1 1 1\nnodes: 3\nsifted order: 2 0 1\nsifted nodes: 3\nfile order nodes: 5\n",
-        ),
-        err: Some(b""),
-        after: &[],
-    },
-    Case {
-        program: Program::Minorder,
         words: &["--cert", "out.cert", "in.pla"],
         files: &[(
             "in.pla",
@@ -322,7 +33,153 @@ pub static CASES: [Case; 105] = [
         )],
     },
     Case {
-        program: Program::Ordercheck,
+        words: &["--cert", "out.cert", "in.pla"],
+        files: &[("in.pla", b".i 3\n.o 1\n001 1\n010 1\n100 1\n111 1\n.e\n")],
+        status: 0,
+        out: Some(
+            b"order: 0 1 2\nnames: x0 x1 x2\nlevels: 1 2 2\nnodes: 5\nsifted order: 0 2 1\nsifted nodes: 5\nfile order nodes: 5\n",
+        ),
+        err: Some(b""),
+        after: &[(
+            "out.cert",
+            b"bddorder-certificate 2\ninputs 3\noutputs 1\norder 0 1 2\nlevels 1 2 2\ntotal 5\npairs 0\ncells 4\n0000 0\n0001 2\n0002 2\n0004 2\nend\n",
+        )],
+    },
+    Case {
+        words: &["--cert", "out.cert", "--above", "0,2", "in.pla"],
+        files: &[(
+            "in.pla",
+            b".i 3\n.o 1\n.ilb a b s\n.ob f\n1-0 1\n-11 1\n.e\n",
+        )],
+        status: 0,
+        out: Some(
+            b"order: 0 2 1\nnames: a s b\nlevels: 1 2 1\nnodes: 4\nsifted order: 0 2 1\nsifted nodes: 4\nfile order nodes: 5\n",
+        ),
+        err: Some(b""),
+        after: &[(
+            "out.cert",
+            b"bddorder-certificate 2\ninputs 3\noutputs 1\norder 0 2 1\nlevels 1 2 1\ntotal 4\npairs 1\n0 2\ncells 2\n0000 0\n0002 1\nend\n",
+        )],
+    },
+    Case {
+        words: &["--cert", "out.cert", "in.pla"],
+        files: &[("in.pla", b".i 3\n.o 1\n.e\n")],
+        status: 0,
+        out: Some(
+            b"order: 0 1 2\nnames: x0 x1 x2\nlevels: 0 0 0\nnodes: 0\nsifted order: 2 1 0\nsifted nodes: 0\nfile order nodes: 0\n",
+        ),
+        err: Some(b""),
+        after: &[(
+            "out.cert",
+            b"bddorder-certificate 2\ninputs 3\noutputs 1\norder 0 1 2\nlevels 0 0 0\ntotal 0\npairs 0\ncells 0\nend\n",
+        )],
+    },
+    Case {
+        words: &["--cert", "out.cert", "--above", "0,0", "in.pla"],
+        files: &[
+            (
+                "in.pla",
+                b".i 3\n.o 1\n.ilb a b s\n.ob f\n1-0 1\n-11 1\n.e\n",
+            ),
+            ("out.cert", b"old contents\n"),
+        ],
+        status: 8,
+        out: Some(b""),
+        err: Some(b"minorder: PairCycle 0\n"),
+        after: &[("out.cert", b"")],
+    },
+    Case {
+        words: &["--cert", "out.cert", "--above", "0,3", "in.pla"],
+        files: &[
+            (
+                "in.pla",
+                b".i 3\n.o 1\n.ilb a b s\n.ob f\n1-0 1\n-11 1\n.e\n",
+            ),
+            ("out.cert", b"old contents\n"),
+        ],
+        status: 8,
+        out: Some(b""),
+        err: Some(b"minorder: PairOutOfRange\n"),
+        after: &[("out.cert", b"")],
+    },
+    Case {
+        words: &["--cert", "out.cert", "in.pla"],
+        files: &[
+            ("in.pla", b".i 2\n.o 2\n1- 1-\n-1 -1\n.e\n"),
+            ("out.cert", b"old contents\n"),
+        ],
+        status: 3,
+        out: Some(b""),
+        err: Some(b"minorder: line 3: DontCare\n"),
+        after: &[("out.cert", b"")],
+    },
+    Case {
+        words: &["--workers", "0", "in.pla"],
+        files: &[(
+            "in.pla",
+            b".i 3\n.o 1\n.ilb a b s\n.ob f\n1-0 1\n-11 1\n.e\n",
+        )],
+        status: 2,
+        out: Some(b""),
+        err: None,
+        after: &[],
+    },
+    Case {
+        words: &[],
+        files: &[],
+        status: 2,
+        out: Some(b""),
+        err: None,
+        after: &[],
+    },
+    Case {
+        words: &["--count", "in.pla"],
+        files: &[(
+            "in.pla",
+            b".i 6\n.o 1\n.ilb a0 a1 a2 b0 b1 b2\n.ob f\n1--1-- 1\n-1--1- 1\n--1--1 1\n.e\n",
+        )],
+        status: 0,
+        out: Some(b"levels: 1 2 4 4 2 1\nnodes: 14\n"),
+        err: Some(b""),
+        after: &[],
+    },
+    Case {
+        words: &["--cert", "new.cert", "missing.pla"],
+        files: &[],
+        status: 5,
+        out: Some(b""),
+        err: Some(b"minorder: Device\n"),
+        after: &[],
+    },
+    Case {
+        words: &["--cert", "missing/out.cert", "in.pla"],
+        files: &[("in.pla", b".i 17\n.o 1\n.e\n")],
+        status: 5,
+        out: Some(b""),
+        err: Some(b"minorder: Device\n"),
+        after: &[],
+    },
+    Case {
+        words: &["--cert", "in.pla", "in.pla"],
+        files: &[("in.pla", b".i 3\n.o 1\n--1 1\n.e\n")],
+        status: 3,
+        out: Some(b""),
+        err: Some(b"minorder: line 0: MissingHead\n"),
+        after: &[("in.pla", b"")],
+    },
+    Case {
+        words: &["--help"],
+        files: &[],
+        status: 0,
+        out: None,
+        err: Some(b""),
+        after: &[],
+    },
+];
+
+/// Calls of ordercheck.
+pub static ORDERCHECK: [Case; 13] = [
+    Case {
         words: &["in.pla", "in.cert"],
         files: &[
             (
@@ -340,7 +197,6 @@ pub static CASES: [Case; 105] = [
         after: &[],
     },
     Case {
-        program: Program::Ordercheck,
         words: &["in.pla", "in.cert"],
         files: &[
             (
@@ -358,871 +214,6 @@ pub static CASES: [Case; 105] = [
         after: &[],
     },
     Case {
-        program: Program::Minorder,
-        words: &["in.pla"],
-        files: &[("in.pla", b".i 1\n.o 1\n- 1\n.e\n")],
-        status: 0,
-        out: Some(
-            b"order: 0\nnames: x0\nlevels: 0\nnodes: 0\nsifted order: 0\nsifted nodes: 0\nfile order nodes: 0\n",
-        ),
-        err: Some(b""),
-        after: &[],
-    },
-    Case {
-        program: Program::Minorder,
-        words: &["--count", "in.pla"],
-        files: &[("in.pla", b".i 1\n.o 1\n- 1\n.e\n")],
-        status: 0,
-        out: Some(b"levels: 0\nnodes: 0\n"),
-        err: Some(b""),
-        after: &[],
-    },
-    Case {
-        program: Program::Minorder,
-        words: &["in.pla"],
-        files: &[("in.pla", b".i 2\n.o 2\n.type f\n1- 1-\n-1 -1\n.e\n")],
-        status: 0,
-        out: Some(
-            b"order: 0 1\nnames: x0 x1\nlevels: 1 1\nnodes: 2\nsifted order: 1 0\nsifted nodes: 2\nfile order nodes: 2\n",
-        ),
-        err: Some(b""),
-        after: &[],
-    },
-    Case {
-        program: Program::Minorder,
-        words: &["--count", "in.pla"],
-        files: &[("in.pla", b".i 2\n.o 2\n1- 1-\n-1 -1\n.e\n")],
-        status: 3,
-        out: Some(b""),
-        err: Some(b"minorder: line 3: DontCare\n"),
-        after: &[],
-    },
-    Case {
-        program: Program::Minorder,
-        words: &["in.pla"],
-        files: &[("in.pla", b".i 2\n.o 2\n1- 1-\n-1 -1\n.e\n")],
-        status: 3,
-        out: Some(b""),
-        err: Some(b"minorder: line 3: DontCare\n"),
-        after: &[],
-    },
-    Case {
-        program: Program::Minorder,
-        words: &["--cert", "out.cert", "in.pla"],
-        files: &[
-            ("in.pla", b".i 2\n.o 2\n1- 1-\n-1 -1\n.e\n"),
-            ("out.cert", b"old contents\n"),
-        ],
-        status: 3,
-        out: Some(b""),
-        err: Some(b"minorder: line 3: DontCare\n"),
-        after: &[("out.cert", b"")],
-    },
-    Case {
-        program: Program::Minorder,
-        words: &["in.pla"],
-        files: &[("in.pla", b".i 16\n.o 1\n.e\n")],
-        status: 0,
-        out: Some(
-            b"order: 0 1 2 3 4 5 6 7 8 9 10 11 12 13 14 15\nnames: x0 x1 x2 x3 x4 x5 x6 x7 x8 x9 x10 x11 x12 x13 x14 x15\nlevels: 0 0 0 0 0 0 0 0 0 0 0 0 0 0 0 0\nnodes: 0\nsifted order: 15 14 13 12 11 10 9 8 7 6 5 4 3 2 1 0\nsifted nodes: 0\nfile order nodes: 0\n",
-        ),
-        err: Some(b""),
-        after: &[],
-    },
-    Case {
-        program: Program::Minorder,
-        words: &["--workers", "2", "in.pla"],
-        files: &[("in.pla", b".i 16\n.o 1\n.e\n")],
-        status: 0,
-        out: Some(
-            b"order: 0 1 2 3 4 5 6 7 8 9 10 11 12 13 14 15\nnames: x0 x1 x2 x3 x4 x5 x6 x7 x8 x9 x10 x11 x12 x13 x14 x15\nlevels: 0 0 0 0 0 0 0 0 0 0 0 0 0 0 0 0\nnodes: 0\nsifted order: 15 14 13 12 11 10 9 8 7 6 5 4 3 2 1 0\nsifted nodes: 0\nfile order nodes: 0\n",
-        ),
-        err: Some(b""),
-        after: &[],
-    },
-    Case {
-        program: Program::Minorder,
-        words: &["--count", "in.pla"],
-        files: &[("in.pla", b".i 16\n.o 1\n.e\n")],
-        status: 0,
-        out: Some(b"levels: 0 0 0 0 0 0 0 0 0 0 0 0 0 0 0 0\nnodes: 0\n"),
-        err: Some(b""),
-        after: &[],
-    },
-    Case {
-        program: Program::Minorder,
-        words: &["--cert", "out.cert", "in.pla"],
-        files: &[
-            ("in.pla", b".i 17\n.o 1\n.e\n"),
-            ("out.cert", b"old contents\n"),
-        ],
-        status: 3,
-        out: Some(b""),
-        err: Some(b"minorder: line 1: InputCount\n"),
-        after: &[("out.cert", b"")],
-    },
-    Case {
-        program: Program::Minorder,
-        words: &["--cert", "out.cert", "in.pla"],
-        files: &[
-            ("in.pla", b".i 3\n.o 1\n01 1\n"),
-            ("out.cert", b"old contents\n"),
-        ],
-        status: 3,
-        out: Some(b""),
-        err: Some(b"minorder: line 3: ShortTerm\n"),
-        after: &[("out.cert", b"")],
-    },
-    Case {
-        program: Program::Minorder,
-        words: &["--cert", "out.cert", "in.pla"],
-        files: &[
-            ("in.pla", b".i 3\n.o 1\n0101 1\n"),
-            ("out.cert", b"old contents\n"),
-        ],
-        status: 3,
-        out: Some(b""),
-        err: Some(b"minorder: line 3: LongTerm\n"),
-        after: &[("out.cert", b"")],
-    },
-    Case {
-        program: Program::Minorder,
-        words: &["--cert", "out.cert", "in.pla"],
-        files: &[
-            ("in.pla", b".i 3\n.o 1\n0x1 1\n"),
-            ("out.cert", b"old contents\n"),
-        ],
-        status: 3,
-        out: Some(b""),
-        err: Some(b"minorder: line 3: BadInputChar\n"),
-        after: &[("out.cert", b"")],
-    },
-    Case {
-        program: Program::Minorder,
-        words: &["in.pla"],
-        files: &[(
-            "in.pla",
-            b".i 2\r\n.o 2\r\n.p 99\r\n11|10\r\n1-|01\r\n-1|01",
-        )],
-        status: 0,
-        out: Some(
-            b"order: 0 1\nnames: x0 x1\nlevels: 2 1\nnodes: 3\nsifted order: 1 0\nsifted nodes: 3\nfile order nodes: 3\n",
-        ),
-        err: Some(b""),
-        after: &[],
-    },
-    Case {
-        program: Program::Minorder,
-        words: &["--workers", "2", "in.pla"],
-        files: &[(
-            "in.pla",
-            b".i 2\r\n.o 2\r\n.p 99\r\n11|10\r\n1-|01\r\n-1|01",
-        )],
-        status: 0,
-        out: Some(
-            b"order: 0 1\nnames: x0 x1\nlevels: 2 1\nnodes: 3\nsifted order: 1 0\nsifted nodes: 3\nfile order nodes: 3\n",
-        ),
-        err: Some(b""),
-        after: &[],
-    },
-    Case {
-        program: Program::Ordercheck,
-        words: &["in.pla", "in.cert"],
-        files: &[
-            (
-                "in.pla",
-                b".i 3\n.o 1\n.ilb a b s\n.ob f\n1-0 1\n-11 1\n.e\n",
-            ),
-            (
-                "in.cert",
-                b"bddorder-certificate 1\ninputs 3\noutputs 1\norder 2 0 1\nlevels 1 1 1\ntotal 3\ncells 4\n0000 0\n0001 1\n0003 2\n0004 2\nend\n",
-            ),
-        ],
-        status: 1,
-        out: Some(b"invalid Edge 0000 1\n"),
-        err: Some(b""),
-        after: &[],
-    },
-    Case {
-        program: Program::Ordercheck,
-        words: &["in.pla", "in.cert"],
-        files: &[
-            (
-                "in.pla",
-                b".i 3\n.o 1\n.ilb a b s\n.ob f\n1-0 1\n-11 1\n.e\n",
-            ),
-            (
-                "in.cert",
-                b"bddorder-certificate 1\ninputs 3\noutputs 1\norder 0 1 2\nlevels 1 2 2\ntotal 5\ncells 5\n0000 0\n0001 1\n0002 1\n0003 2\n0004 2\nend\n",
-            ),
-        ],
-        status: 1,
-        out: Some(b"invalid Edge 0001 2\n"),
-        err: Some(b""),
-        after: &[],
-    },
-    Case {
-        program: Program::Ordercheck,
-        words: &["in.pla", "in.cert"],
-        files: &[
-            (
-                "in.pla",
-                b".i 3\n.o 1\n.ilb a b s\n.ob f\n1-0 1\n-11 1\n.e\n",
-            ),
-            (
-                "in.cert",
-                b"bddorder-certificate 1\ninputs 3\noutputs 1\norder 0 1 2\nlevels 1 2 2\ntotal 5\ncells 0\nend\n",
-            ),
-        ],
-        status: 1,
-        out: Some(b"invalid Start\n"),
-        err: Some(b""),
-        after: &[],
-    },
-    Case {
-        program: Program::Ordercheck,
-        words: &["in.pla", "in.cert"],
-        files: &[
-            (
-                "in.pla",
-                b".i 3\n.o 1\n.ilb a b s\n.ob f\n1-0 1\n-11 1\n.e\n",
-            ),
-            (
-                "in.cert",
-                b"bddorder-certificate 1\ninputs 3\noutputs 1\norder 0 1 2\nlevels 1 2 2\ntotal 5\ncells 3\n0000 0\n0004 2\n0006 4\nend\n",
-            ),
-        ],
-        status: 1,
-        out: Some(b"invalid Edge 0000 0\n"),
-        err: Some(b""),
-        after: &[],
-    },
-    Case {
-        program: Program::Minorder,
-        words: &["in.pla"],
-        files: &[("in.pla", b".i 16\n.o 1\n1111111111111111 1\n.e\n")],
-        status: 0,
-        out: Some(
-            b"order: 0 1 2 3 4 5 6 7 8 9 10 11 12 13 14 15\nnames: x0 x1 x2 x3 x4 x5 x6 x7 x8 x9 x10 x11 x12 x13 x14 x15\nlevels: 1 1 1 1 1 1 1 1 1 1 1 1 1 1 1 1\nnodes: 16\nsifted order: 15 14 13 12 11 10 9 8 7 6 5 4 3 2 1 0\nsifted nodes: 16\nfile order nodes: 16\n",
-        ),
-        err: Some(b""),
-        after: &[],
-    },
-    Case {
-        program: Program::Minorder,
-        words: &["--count", "in.pla"],
-        files: &[("in.pla", b".i 16\n.o 1\n1111111111111111 1\n.e\n")],
-        status: 0,
-        out: Some(b"levels: 1 1 1 1 1 1 1 1 1 1 1 1 1 1 1 1\nnodes: 16\n"),
-        err: Some(b""),
-        after: &[],
-    },
-    Case {
-        program: Program::Minorder,
-        words: &["--cert", "out.cert", "in.pla"],
-        files: &[("in.pla", b".i 16\n.o 1\n1111111111111111 1\n.e\n")],
-        status: 0,
-        out: Some(
-            b"order: 0 1 2 3 4 5 6 7 8 9 10 11 12 13 14 15\nnames: x0 x1 x2 x3 x4 x5 x6 x7 x8 x9 x10 x11 x12 x13 x14 x15\nlevels: 1 1 1 1 1 1 1 1 1 1 1 1 1 1 1 1\nnodes: 16\nsifted order: 15 14 13 12 11 10 9 8 7 6 5 4 3 2 1 0\nsifted nodes: 16\nfile order nodes: 16\n",
-        ),
-        err: Some(b""),
-        after: &[(
-            "out.cert",
-            b"bddorder-certificate 2\ninputs 16\noutputs 1\norder 0 1 2 3 4 5 6 7 8 9 10 11 12 13 14 15\nlevels 1 1 1 1 1 1 1 1 1 1 1 1 1 1 1 1\ntotal 16\npairs 0\ncells 0\nend\n",
-        )],
-    },
-    Case {
-        program: Program::Ordercheck,
-        words: &["in.pla", "in.cert"],
-        files: &[
-            (
-                "in.pla",
-                b".i 3\n.o 1\n.ilb a b s\n.ob f\n1-0 1\n-11 1\n.e\n",
-            ),
-            (
-                "in.cert",
-                b"bddorder-certificate 1\ninputs 3\noutputs 1\norder 2 0 1\nlevels 1 1 1\ntotal 3\ncells 5\n0000 0\n0001 1\n0002 1\n0003 2\n0004 2\n",
-            ),
-        ],
-        status: 3,
-        out: Some(b""),
-        err: Some(b"ordercheck: certificate line 13: MissingLine\n"),
-        after: &[],
-    },
-    Case {
-        program: Program::Ordercheck,
-        words: &["in.pla", "in.cert"],
-        files: &[
-            (
-                "in.pla",
-                b".i 3\n.o 1\n.ilb a b s\n.ob f\n1-0 1\n-11 1\n.e\n",
-            ),
-            (
-                "in.cert",
-                b"bddorder-certificate 1\ninputs 3\noutputs 1\norder 2 0 1\nlevels 1 1 1\ntotal 3\ncells 5\n0000 0\n0001 01\n0002 1\n0003 2\n0004 2\nend\n",
-            ),
-        ],
-        status: 3,
-        out: Some(b""),
-        err: Some(b"ordercheck: certificate line 9: BadNumber\n"),
-        after: &[],
-    },
-    Case {
-        program: Program::Ordercheck,
-        words: &["in.pla", "in.cert"],
-        files: &[
-            (
-                "in.pla",
-                b".i 3\n.o 1\n.ilb a b s\n.ob f\n1-0 1\n-11 1\n.e\n",
-            ),
-            (
-                "in.cert",
-                b"bddorder-certificate 1\ninputs 3\noutputs 1\norder 2 0 1\nlevels 1 1 1\ntotal 3\ncells 5\n0000 0\n0002 1\n0001 1\n0003 2\n0004 2\nend\n",
-            ),
-        ],
-        status: 3,
-        out: Some(b""),
-        err: Some(b"ordercheck: certificate line 10: NotRising\n"),
-        after: &[],
-    },
-    Case {
-        program: Program::Ordercheck,
-        words: &["in.pla", "in.cert"],
-        files: &[
-            (
-                "in.pla",
-                b".i 3\n.o 1\n.ilb a b s\n.ob f\n1-0 1\n-11 1\n.e\n",
-            ),
-            (
-                "in.cert",
-                b"bddorder-certificate 1\ninputs 3\noutputs 1\norder 2 0 1\nlevels 1 1 1\ntotal 3\ncells 4\n0000 0\n0001 1\n0002 1\n0003 2\n0004 2\nend\n",
-            ),
-        ],
-        status: 3,
-        out: Some(b""),
-        err: Some(b"ordercheck: certificate line 12: BadLine\n"),
-        after: &[],
-    },
-    Case {
-        program: Program::Minorder,
-        words: &["--workers", "0", "in.pla"],
-        files: &[(
-            "in.pla",
-            b".i 3\n.o 1\n.ilb a b s\n.ob f\n1-0 1\n-11 1\n.e\n",
-        )],
-        status: 2,
-        out: Some(b""),
-        err: None,
-        after: &[],
-    },
-    Case {
-        program: Program::Minorder,
-        words: &[],
-        files: &[],
-        status: 2,
-        out: Some(b""),
-        err: None,
-        after: &[],
-    },
-    Case {
-        program: Program::Ordercheck,
-        words: &[],
-        files: &[],
-        status: 2,
-        out: Some(b""),
-        err: None,
-        after: &[],
-    },
-    Case {
-        program: Program::Minorder,
-        words: &["--cert", "out.cert", "in.pla"],
-        files: &[("in.pla", b""), ("out.cert", b"old contents\n")],
-        status: 3,
-        out: Some(b""),
-        err: Some(b"minorder: line 0: MissingHead\n"),
-        after: &[("out.cert", b"")],
-    },
-    Case {
-        program: Program::Minorder,
-        words: &["--cert", "out.cert", "in.pla"],
-        files: &[
-            ("in.pla", b".i 2\n.i 2\n.o 1\n.e\n"),
-            ("out.cert", b"old contents\n"),
-        ],
-        status: 3,
-        out: Some(b""),
-        err: Some(b"minorder: line 2: RepeatedHead\n"),
-        after: &[("out.cert", b"")],
-    },
-    Case {
-        program: Program::Minorder,
-        words: &["--cert", "out.cert", "in.pla"],
-        files: &[
-            ("in.pla", b".i 2\n.o 1\n.type fr\n.e\n"),
-            ("out.cert", b"old contents\n"),
-        ],
-        status: 3,
-        out: Some(b""),
-        err: Some(b"minorder: line 3: UnsupportedType\n"),
-        after: &[("out.cert", b"")],
-    },
-    Case {
-        program: Program::Minorder,
-        words: &["--cert", "out.cert", "in.pla"],
-        files: &[
-            ("in.pla", b".i 2\n.o 1\n.phase 1\n.e\n"),
-            ("out.cert", b"old contents\n"),
-        ],
-        status: 3,
-        out: Some(b""),
-        err: Some(b"minorder: line 3: UnknownDirective\n"),
-        after: &[("out.cert", b"")],
-    },
-    Case {
-        program: Program::Minorder,
-        words: &["--cert", "out.cert", "in.pla"],
-        files: &[
-            ("in.pla", b".i 2\n.o 1\n.ilb a\n.e\n"),
-            ("out.cert", b"old contents\n"),
-        ],
-        status: 3,
-        out: Some(b""),
-        err: Some(b"minorder: line 3: NameCount\n"),
-        after: &[("out.cert", b"")],
-    },
-    Case {
-        program: Program::Minorder,
-        words: &["--workers", "65", "in.pla"],
-        files: &[(
-            "in.pla",
-            b".i 3\n.o 1\n.ilb a b s\n.ob f\n1-0 1\n-11 1\n.e\n",
-        )],
-        status: 2,
-        out: Some(b""),
-        err: None,
-        after: &[],
-    },
-    Case {
-        program: Program::Minorder,
-        words: &["--count", "in.pla"],
-        files: &[("in.pla", b".i 000000003\n.o 1\n.e\n")],
-        status: 0,
-        out: Some(b"levels: 0 0 0\nnodes: 0\n"),
-        err: Some(b""),
-        after: &[],
-    },
-    Case {
-        program: Program::Minorder,
-        words: &["--cert", "out.cert", "in.pla"],
-        files: &[
-            ("in.pla", b".i 0000000003\n.o 1\n.e\n"),
-            ("out.cert", b"old contents\n"),
-        ],
-        status: 3,
-        out: Some(b""),
-        err: Some(b"minorder: line 1: BadNumber\n"),
-        after: &[("out.cert", b"")],
-    },
-    Case {
-        program: Program::Minorder,
-        words: &["--cert", "out.cert", "in.pla"],
-        files: &[
-            ("in.pla", b".i 1\n.o 1\n.ilb a\x80\n.e\n"),
-            ("out.cert", b"old contents\n"),
-        ],
-        status: 3,
-        out: Some(b""),
-        err: Some(b"minorder: line 3: BadName\n"),
-        after: &[("out.cert", b"")],
-    },
-    Case {
-        program: Program::Ordercheck,
-        words: &["in.pla", "in.cert"],
-        files: &[
-            (
-                "in.pla",
-                b".i 3\n.o 1\n.ilb a b s\n.ob f\n1-0 1\n-11 1\n.e\n",
-            ),
-            (
-                "in.cert",
-                b"bddorder-certificate 1\ninputs 3\noutputs 1\norder 2 0 1\nlevels 1 1 1\ntotal 3\ncells 8\n0000 0\n0001 1\n0002 1\n0003 2\n0004 2\nend\n",
-            ),
-        ],
-        status: 3,
-        out: Some(b""),
-        err: Some(b"ordercheck: certificate line 7: BadNumber\n"),
-        after: &[],
-    },
-    Case {
-        program: Program::Ordercheck,
-        words: &["in.pla", "in.cert"],
-        files: &[
-            (
-                "in.pla",
-                b".i 3\n.o 1\n.ilb a b s\n.ob f\n1-0 1\n-11 1\n.e\n",
-            ),
-            (
-                "in.cert",
-                b"bddorder-certificate 1\ninputs 3\noutputs 1\norder 2 0 1\nlevels 1 1 1\ntotal 3\ncells 5\n0000 0\n0001 1\n0002 1\n0003 2\n0007 1\nend\n",
-            ),
-        ],
-        status: 3,
-        out: Some(b""),
-        err: Some(b"ordercheck: certificate line 12: BadNumber\n"),
-        after: &[],
-    },
-    Case {
-        program: Program::Ordercheck,
-        words: &["in.pla", "in.cert"],
-        files: &[
-            (
-                "in.pla",
-                b".i 3\n.o 1\n.ilb a b s\n.ob f\n1-0 1\n-11 1\n.e\n",
-            ),
-            (
-                "in.cert",
-                b"bddorder-certificate 1\ninputs 3\noutputs 1\norder 2 0\nlevels 1 1 1\ntotal 3\ncells 5\n0000 0\n0001 1\n0002 1\n0003 2\n0004 2\nend\n",
-            ),
-        ],
-        status: 3,
-        out: Some(b""),
-        err: Some(b"ordercheck: certificate line 4: BadLine\n"),
-        after: &[],
-    },
-    Case {
-        program: Program::Ordercheck,
-        words: &["in.pla", "in.cert"],
-        files: &[
-            (
-                "in.pla",
-                b".i 3\n.o 1\n.ilb a b s\n.ob f\n1-0 1\n-11 1\n.e\n",
-            ),
-            (
-                "in.cert",
-                b"bddorder-certificate 1\ninputs 3\noutputs 1\norder 2 0 16\nlevels 1 1 1\ntotal 3\ncells 5\n0000 0\n0001 1\n0002 1\n0003 2\n0004 2\nend\n",
-            ),
-        ],
-        status: 3,
-        out: Some(b""),
-        err: Some(b"ordercheck: certificate line 4: BadNumber\n"),
-        after: &[],
-    },
-    Case {
-        program: Program::Ordercheck,
-        words: &["in.pla", "in.cert"],
-        files: &[
-            (
-                "in.pla",
-                b".i 3\n.o 1\n.ilb a b s\n.ob f\n1-0 1\n-11 1\n.e\n",
-            ),
-            (
-                "in.cert",
-                b"bddorder-certificate 1\ninputs 3\noutputs 1\norder 2 0 15\nlevels 1 1 1\ntotal 3\ncells 5\n0000 0\n0001 1\n0002 1\n0003 2\n0004 2\nend\n",
-            ),
-        ],
-        status: 1,
-        out: Some(b"invalid Order\n"),
-        err: Some(b""),
-        after: &[],
-    },
-    Case {
-        program: Program::Ordercheck,
-        words: &["in.pla", "in.cert"],
-        files: &[
-            (
-                "in.pla",
-                b".i 3\n.o 1\n.ilb a b s\n.ob f\n1-0 1\n-11 1\n.e\n",
-            ),
-            (
-                "in.cert",
-                b"bddorder-certificate 1\ninputs 3\noutputs 1\norder 2 0 0\nlevels 1 1 1\ntotal 3\ncells 5\n0000 0\n0001 1\n0002 1\n0003 2\n0004 2\nend\n",
-            ),
-        ],
-        status: 1,
-        out: Some(b"invalid Order\n"),
-        err: Some(b""),
-        after: &[],
-    },
-    Case {
-        program: Program::Ordercheck,
-        words: &["in.pla", "in.cert"],
-        files: &[
-            (
-                "in.pla",
-                b".i 3\n.o 1\n.ilb a b s\n.ob f\n1-0 1\n-11 1\n.e\n",
-            ),
-            (
-                "in.cert",
-                b"bddorder-certificate 1\ninputs 3\noutputs 1\norder 2 0 1\nlevels 1 1 1\ntotal 3\ncells 5\n0000 0\n0001 1\n0002 1\n0003 2\n0004 2\nend\nx",
-            ),
-        ],
-        status: 3,
-        out: Some(b""),
-        err: Some(b"ordercheck: certificate line 14: TrailingText\n"),
-        after: &[],
-    },
-    Case {
-        program: Program::Minorder,
-        words: &["--cert", "out.cert", "--above", "0,2", "in.pla"],
-        files: &[(
-            "in.pla",
-            b".i 3\n.o 1\n.ilb a b s\n.ob f\n1-0 1\n-11 1\n.e\n",
-        )],
-        status: 0,
-        out: Some(
-            b"order: 0 2 1\nnames: a s b\nlevels: 1 2 1\nnodes: 4\nsifted order: 0 2 1\nsifted nodes: 4\nfile order nodes: 5\n",
-        ),
-        err: Some(b""),
-        after: &[(
-            "out.cert",
-            b"bddorder-certificate 2\ninputs 3\noutputs 1\norder 0 2 1\nlevels 1 2 1\ntotal 4\npairs 1\n0 2\ncells 2\n0000 0\n0002 1\nend\n",
-        )],
-    },
-    Case {
-        program: Program::Minorder,
-        words: &["--above", "2,0", "in.pla"],
-        files: &[(
-            "in.pla",
-            b".i 3\n.o 1\n.ilb a b s\n.ob f\n1-0 1\n-11 1\n.e\n",
-        )],
-        status: 0,
-        out: Some(
-            b"order: 2 0 1\nnames: s a b\nlevels: 1 1 1\nnodes: 3\nsifted order: 2 1 0\nsifted nodes: 3\nfile order nodes: 5\n",
-        ),
-        err: Some(b""),
-        after: &[],
-    },
-    Case {
-        program: Program::Minorder,
-        words: &["--cert", "out.cert", "--above", "0,1:1,0", "in.pla"],
-        files: &[
-            (
-                "in.pla",
-                b".i 3\n.o 1\n.ilb a b s\n.ob f\n1-0 1\n-11 1\n.e\n",
-            ),
-            ("out.cert", b"old contents\n"),
-        ],
-        status: 8,
-        out: Some(b""),
-        err: Some(b"minorder: PairCycle 0\n"),
-        after: &[("out.cert", b"")],
-    },
-    Case {
-        program: Program::Minorder,
-        words: &["--cert", "out.cert", "--above", "0,0", "in.pla"],
-        files: &[
-            (
-                "in.pla",
-                b".i 3\n.o 1\n.ilb a b s\n.ob f\n1-0 1\n-11 1\n.e\n",
-            ),
-            ("out.cert", b"old contents\n"),
-        ],
-        status: 8,
-        out: Some(b""),
-        err: Some(b"minorder: PairCycle 0\n"),
-        after: &[("out.cert", b"")],
-    },
-    Case {
-        program: Program::Minorder,
-        words: &["--cert", "out.cert", "--above", "1,2:2,1", "in.pla"],
-        files: &[
-            (
-                "in.pla",
-                b".i 3\n.o 1\n.ilb a b s\n.ob f\n1-0 1\n-11 1\n.e\n",
-            ),
-            ("out.cert", b"old contents\n"),
-        ],
-        status: 8,
-        out: Some(b""),
-        err: Some(b"minorder: PairCycle 1\n"),
-        after: &[("out.cert", b"")],
-    },
-    Case {
-        program: Program::Minorder,
-        words: &["--cert", "out.cert", "--above", "0,3", "in.pla"],
-        files: &[
-            (
-                "in.pla",
-                b".i 3\n.o 1\n.ilb a b s\n.ob f\n1-0 1\n-11 1\n.e\n",
-            ),
-            ("out.cert", b"old contents\n"),
-        ],
-        status: 8,
-        out: Some(b""),
-        err: Some(b"minorder: PairOutOfRange\n"),
-        after: &[("out.cert", b"")],
-    },
-    Case {
-        program: Program::Minorder,
-        words: &["--cert", "out.cert", "--above", "0-1", "in.pla"],
-        files: &[
-            (
-                "in.pla",
-                b".i 3\n.o 1\n.ilb a b s\n.ob f\n1-0 1\n-11 1\n.e\n",
-            ),
-            ("out.cert", b"old contents\n"),
-        ],
-        status: 8,
-        out: Some(b""),
-        err: Some(b"minorder: BadPair\n"),
-        after: &[("out.cert", b"")],
-    },
-    Case {
-        program: Program::Minorder,
-        words: &[
-            "--workers",
-            "2",
-            "--cert",
-            "out.cert",
-            "--above",
-            "0,2",
-            "in.pla",
-        ],
-        files: &[(
-            "in.pla",
-            b".i 3\n.o 1\n.ilb a b s\n.ob f\n1-0 1\n-11 1\n.e\n",
-        )],
-        status: 0,
-        out: Some(
-            b"order: 0 2 1\nnames: a s b\nlevels: 1 2 1\nnodes: 4\nsifted order: 0 2 1\nsifted nodes: 4\nfile order nodes: 5\n",
-        ),
-        err: Some(b""),
-        after: &[(
-            "out.cert",
-            b"bddorder-certificate 2\ninputs 3\noutputs 1\norder 0 2 1\nlevels 1 2 1\ntotal 4\npairs 1\n0 2\ncells 2\n0000 0\n0002 1\nend\n",
-        )],
-    },
-    Case {
-        program: Program::Minorder,
-        words: &["--workers", "2", "--above", "2,0", "in.pla"],
-        files: &[(
-            "in.pla",
-            b".i 3\n.o 1\n.ilb a b s\n.ob f\n1-0 1\n-11 1\n.e\n",
-        )],
-        status: 0,
-        out: Some(
-            b"order: 2 0 1\nnames: s a b\nlevels: 1 1 1\nnodes: 3\nsifted order: 2 1 0\nsifted nodes: 3\nfile order nodes: 5\n",
-        ),
-        err: Some(b""),
-        after: &[],
-    },
-    Case {
-        program: Program::Minorder,
-        words: &[
-            "--workers",
-            "2",
-            "--cert",
-            "out.cert",
-            "--above",
-            "0,1:1,0",
-            "in.pla",
-        ],
-        files: &[
-            (
-                "in.pla",
-                b".i 3\n.o 1\n.ilb a b s\n.ob f\n1-0 1\n-11 1\n.e\n",
-            ),
-            ("out.cert", b"old contents\n"),
-        ],
-        status: 8,
-        out: Some(b""),
-        err: Some(b"minorder: PairCycle 0\n"),
-        after: &[("out.cert", b"")],
-    },
-    Case {
-        program: Program::Minorder,
-        words: &[
-            "--workers",
-            "2",
-            "--cert",
-            "out.cert",
-            "--above",
-            "0,0",
-            "in.pla",
-        ],
-        files: &[
-            (
-                "in.pla",
-                b".i 3\n.o 1\n.ilb a b s\n.ob f\n1-0 1\n-11 1\n.e\n",
-            ),
-            ("out.cert", b"old contents\n"),
-        ],
-        status: 8,
-        out: Some(b""),
-        err: Some(b"minorder: PairCycle 0\n"),
-        after: &[("out.cert", b"")],
-    },
-    Case {
-        program: Program::Minorder,
-        words: &[
-            "--workers",
-            "2",
-            "--cert",
-            "out.cert",
-            "--above",
-            "1,2:2,1",
-            "in.pla",
-        ],
-        files: &[
-            (
-                "in.pla",
-                b".i 3\n.o 1\n.ilb a b s\n.ob f\n1-0 1\n-11 1\n.e\n",
-            ),
-            ("out.cert", b"old contents\n"),
-        ],
-        status: 8,
-        out: Some(b""),
-        err: Some(b"minorder: PairCycle 1\n"),
-        after: &[("out.cert", b"")],
-    },
-    Case {
-        program: Program::Minorder,
-        words: &[
-            "--workers",
-            "2",
-            "--cert",
-            "out.cert",
-            "--above",
-            "0,3",
-            "in.pla",
-        ],
-        files: &[
-            (
-                "in.pla",
-                b".i 3\n.o 1\n.ilb a b s\n.ob f\n1-0 1\n-11 1\n.e\n",
-            ),
-            ("out.cert", b"old contents\n"),
-        ],
-        status: 8,
-        out: Some(b""),
-        err: Some(b"minorder: PairOutOfRange\n"),
-        after: &[("out.cert", b"")],
-    },
-    Case {
-        program: Program::Minorder,
-        words: &[
-            "--workers",
-            "2",
-            "--cert",
-            "out.cert",
-            "--above",
-            "0-1",
-            "in.pla",
-        ],
-        files: &[
-            (
-                "in.pla",
-                b".i 3\n.o 1\n.ilb a b s\n.ob f\n1-0 1\n-11 1\n.e\n",
-            ),
-            ("out.cert", b"old contents\n"),
-        ],
-        status: 8,
-        out: Some(b""),
-        err: Some(b"minorder: BadPair\n"),
-        after: &[("out.cert", b"")],
-    },
-    Case {
-        program: Program::Ordercheck,
         words: &["in.pla", "in.cert"],
         files: &[
             (
@@ -1240,7 +231,6 @@ pub static CASES: [Case; 105] = [
         after: &[],
     },
     Case {
-        program: Program::Ordercheck,
         words: &["in.pla", "in.cert"],
         files: &[
             (
@@ -1249,16 +239,32 @@ pub static CASES: [Case; 105] = [
             ),
             (
                 "in.cert",
-                b"bddorder-certificate 2\ninputs 3\noutputs 1\norder 0 2 1\nlevels 1 2 1\ntotal 4\npairs 0\ncells 2\n0000 0\n0002 1\nend\n",
+                b"bddorder-certificate 1\ninputs 3\noutputs 1\norder 2 0 1\nlevels 1 1 1\ntotal 3\ncells 4\n0000 0\n0001 1\n0003 2\n0004 2\nend\n",
             ),
         ],
         status: 1,
-        out: Some(b"invalid Edge 0000 0\n"),
+        out: Some(b"invalid Edge 0000 1\n"),
         err: Some(b""),
         after: &[],
     },
     Case {
-        program: Program::Ordercheck,
+        words: &["in.pla", "in.cert"],
+        files: &[
+            (
+                "in.pla",
+                b".i 3\n.o 1\n.ilb a b s\n.ob f\n1-0 1\n-11 1\n.e\n",
+            ),
+            (
+                "in.cert",
+                b"bddorder-certificate 1\ninputs 3\noutputs 1\norder 0 1 2\nlevels 1 2 2\ntotal 5\ncells 0\nend\n",
+            ),
+        ],
+        status: 1,
+        out: Some(b"invalid Start\n"),
+        err: Some(b""),
+        after: &[],
+    },
+    Case {
         words: &["in.pla", "in.cert"],
         files: &[
             (
@@ -1276,7 +282,20 @@ pub static CASES: [Case; 105] = [
         after: &[],
     },
     Case {
-        program: Program::Ordercheck,
+        words: &["in.pla", "in.cert"],
+        files: &[
+            ("in.pla", b".i 3\n.o 1\n001 1\n010 1\n100 1\n111 1\n.e\n"),
+            (
+                "in.cert",
+                b"bddorder-certificate 2\ninputs 3\noutputs 1\norder 0 1 2\nlevels 1 2 2\ntotal 5\npairs 0\ncells 5\n0000 0\n0001 2\n0002 2\n0003 5\n0004 2\nend\n",
+            ),
+        ],
+        status: 1,
+        out: Some(b"invalid CellTooBig\n"),
+        err: Some(b""),
+        after: &[],
+    },
+    Case {
         words: &["in.pla", "in.cert"],
         files: &[
             (
@@ -1285,80 +304,15 @@ pub static CASES: [Case; 105] = [
             ),
             (
                 "in.cert",
-                b"bddorder-certificate 2\ninputs 3\noutputs 1\norder 0 2 1\nlevels 1 2 1\ntotal 4\npairs 1\n0 3\ncells 2\n0000 0\n0002 1\nend\n",
+                b"bddorder-certificate 1\ninputs 3\noutputs 1\norder 2 0 15\nlevels 1 1 1\ntotal 3\ncells 5\n0000 0\n0001 1\n0002 1\n0003 2\n0004 2\nend\n",
             ),
         ],
-        status: 3,
-        out: Some(b""),
-        err: Some(b"ordercheck: certificate line 8: BadNumber\n"),
-        after: &[],
-    },
-    Case {
-        program: Program::Minorder,
-        words: &["--above", "", "in.pla"],
-        files: &[(
-            "in.pla",
-            b".i 3\n.o 1\n.ilb a b s\n.ob f\n1-0 1\n-11 1\n.e\n",
-        )],
-        status: 8,
-        out: Some(b""),
-        err: Some(b"minorder: BadPair\n"),
-        after: &[],
-    },
-    Case {
-        program: Program::Minorder,
-        words: &["--above", "0-1", "--count", "in.pla"],
-        files: &[(
-            "in.pla",
-            b".i 3\n.o 1\n.ilb a b s\n.ob f\n1-0 1\n-11 1\n.e\n",
-        )],
-        status: 0,
-        out: Some(b"levels: 1 2 2\nnodes: 5\n"),
+        status: 1,
+        out: Some(b"invalid Order\n"),
         err: Some(b""),
         after: &[],
     },
     Case {
-        program: Program::Minorder,
-        words: &["--above", "2,0:1,0", "in.pla"],
-        files: &[(
-            "in.pla",
-            b".i 3\n.o 1\n.ilb a b s\n.ob f\n1-0 1\n-11 1\n.e\n",
-        )],
-        status: 0,
-        out: Some(
-            b"order: 2 1 0\nnames: s b a\nlevels: 1 1 1\nnodes: 3\nsifted order: 2 1 0\nsifted nodes: 3\nfile order nodes: 5\n",
-        ),
-        err: Some(b""),
-        after: &[],
-    },
-    Case {
-        program: Program::Minorder,
-        words: &["in.pla", "--count"],
-        files: &[("in.pla", b".i 6\n.o 1\n1--1-- 1\n-1--1- 1\n--1--1 1\n.e\n")],
-        status: 0,
-        out: Some(b"levels: 1 2 4 4 2 1\nnodes: 14\n"),
-        err: Some(b""),
-        after: &[],
-    },
-    Case {
-        program: Program::Minorder,
-        words: &["in.pla", "--cert", "out.cert"],
-        files: &[(
-            "in.pla",
-            b".i 3\n.o 1\n.ilb a b s\n.ob f\n1-0 1\n-11 1\n.e\n",
-        )],
-        status: 0,
-        out: Some(
-            b"order: 2 0 1\nnames: s a b\nlevels: 1 1 1\nnodes: 3\nsifted order: 2 0 1\nsifted nodes: 3\nfile order nodes: 5\n",
-        ),
-        err: Some(b""),
-        after: &[(
-            "out.cert",
-            b"bddorder-certificate 2\ninputs 3\noutputs 1\norder 2 0 1\nlevels 1 1 1\ntotal 3\npairs 0\ncells 0\nend\n",
-        )],
-    },
-    Case {
-        program: Program::Ordercheck,
         words: &["in.pla", "in.cert"],
         files: &[
             (
@@ -1367,63 +321,15 @@ pub static CASES: [Case; 105] = [
             ),
             (
                 "in.cert",
-                b"bddorder-certificate 3\ninputs 3\noutputs 1\norder 2 0 1\nlevels 1 1 1\ntotal 3\npairs 0\ncells 0\nend\n",
+                b"bddorder-certificate 1\ninputs 3\noutputs 1\norder 2 0 1\nlevels 1 1 1\ntotal 3\ncells 5\n0000 0\n0001 1\n0002 1\n0003 2\n0004 2\n",
             ),
         ],
         status: 3,
         out: Some(b""),
-        err: Some(b"ordercheck: certificate line 1: BadLine\n"),
-        after: &[],
-    },
-    // the file is opened first, then the certificate's is made
-    Case {
-        program: Program::Minorder,
-        words: &["--cert", "new.cert", "missing.pla"],
-        files: &[],
-        status: 5,
-        out: Some(b""),
-        err: Some(b"minorder: Device\n"),
+        err: Some(b"ordercheck: certificate line 13: MissingLine\n"),
         after: &[],
     },
     Case {
-        program: Program::Minorder,
-        words: &["--cert", "missing/out.cert", "in.pla"],
-        files: &[("in.pla", b".i 17\n.o 1\n.e\n")],
-        status: 5,
-        out: Some(b""),
-        err: Some(b"minorder: Device\n"),
-        after: &[],
-    },
-    // a certificate's file that is the input is emptied before it is read
-    Case {
-        program: Program::Minorder,
-        words: &["--cert", "in.pla", "in.pla"],
-        files: &[("in.pla", b".i 3\n.o 1\n--1 1\n.e\n")],
-        status: 3,
-        out: Some(b""),
-        err: Some(b"minorder: line 0: MissingHead\n"),
-        after: &[("in.pla", b"")],
-    },
-    Case {
-        program: Program::Minorder,
-        words: &["--count", "--count", "in.pla"],
-        files: &[],
-        status: 2,
-        out: Some(b""),
-        err: None,
-        after: &[],
-    },
-    Case {
-        program: Program::Minorder,
-        words: &["--unknown", "in.pla"],
-        files: &[],
-        status: 2,
-        out: Some(b""),
-        err: None,
-        after: &[],
-    },
-    Case {
-        program: Program::Minorder,
         words: &["--help"],
         files: &[],
         status: 0,
@@ -1432,16 +338,6 @@ pub static CASES: [Case; 105] = [
         after: &[],
     },
     Case {
-        program: Program::Ordercheck,
-        words: &["--help"],
-        files: &[],
-        status: 0,
-        out: None,
-        err: Some(b""),
-        after: &[],
-    },
-    Case {
-        program: Program::Ordercheck,
         words: &["in.pla"],
         files: &[],
         status: 2,
@@ -1449,9 +345,7 @@ pub static CASES: [Case; 105] = [
         err: None,
         after: &[],
     },
-    // both files are opened before the first is decided
     Case {
-        program: Program::Ordercheck,
         words: &["in.pla", "missing.cert"],
         files: &[("in.pla", b".i 17\n.o 1\n.e\n")],
         status: 5,
@@ -1459,9 +353,7 @@ pub static CASES: [Case; 105] = [
         err: Some(b"ordercheck: Device\n"),
         after: &[],
     },
-    // the file is decided before the certificate
     Case {
-        program: Program::Ordercheck,
         words: &["in.pla", "in.cert"],
         files: &[
             ("in.pla", b".i 17\n.o 1\n.e\n"),

@@ -45,7 +45,7 @@ fn fronts_of_a_certificate_miss_a_line(rt: HostRuntime) -> Result<(), Fail> {
         );
         assert_eq!(rt; out.taken.len(), 0);
         if CERTIFICATE[length] == b'\n' {
-            line += 1;
+            line = line.saturating_add(1);
         }
     }
     Ok(())
