@@ -5,12 +5,14 @@
     functions.py NAME       writes the PLA file of one to standard output
     functions.py --all DIR  writes all of them into a folder
 
-A function is given by a formula on its inputs; its file lists the points at which some output is 1. Numbers have their lowest bit
-first in the formulas, and the file's inputs stand in the order that the entry says.
+A function is given by a formula on its inputs; its file is an irredundant cover of each output, or the list of its points where that is
+shorter. Numbers have their lowest bit first in the formulas, and the file's inputs stand in the order that the entry says.
 """
 import hashlib
 import os
 import sys
+
+import covers
 
 
 class Entry:
@@ -19,15 +21,16 @@ class Entry:
     def __init__(self, family, name, inputs, outputs, words, values):
         self.family, self.name, self.inputs, self.outputs, self.words, self.values = family, name, inputs, outputs, words, values
 
+    def tables(self):
+        """A truth table for each output, as a whole number: bit p is the value at the point whose bit i is input i."""
+        n = len(self.inputs)
+        values = [self.values([point >> i & 1 for i in range(n)]) for point in range(1 << n)]
+        return [int("".join("1" if value[output] else "0" for value in reversed(values)), 2) for output in range(self.outputs)]
+
     def pla(self):
-        n, lines = len(self.inputs), []
-        for point in range(1 << n):
-            bits = [point >> i & 1 for i in range(n)]
-            given = self.values(bits)
-            if any(given):
-                lines.append("".join(map(str, bits)) + " " + "".join(str(int(value)) for value in given))
-        head = [f"# {self.words}", f".i {n}", f".o {self.outputs}", ".ilb " + " ".join(self.inputs), f".p {len(lines)}"]
-        return "\n".join(head + lines + [".e", ""])
+        lines = covers.lines(len(self.inputs), self.tables())
+        head = [f"# {self.words}", f".i {len(self.inputs)}", f".o {self.outputs}", ".ilb " + " ".join(self.inputs), f".p {len(lines)}"]
+        return "\n".join([*head, *lines, ".e", ""])
 
 
 def number(bits):

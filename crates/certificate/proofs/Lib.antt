@@ -1,4 +1,4 @@
-mod Rows
+mod WorkedTexts
 pub mod WordLines
 pub mod Rising
 pub mod Judges

@@ -1,4 +1,4 @@
-mod Rows
+mod WorkedFiles
 pub mod Reading
 pub mod TextLemmas
 pub mod NameLemmas

@@ -1,4 +1,4 @@
--- Worked rows, by computation.
+-- Worked files, by computation.
 use Rattle.std.proofs.Common.{◌≡◌, ℕ, refl, true, false, List, [], ◌∷◌, ◌++◌, codes, Option, Some, None, take, map, slice_get}
 use Rattle.std.specs.Fmt.{digits}
 use Rattle.std.specs.List.{flat_map, range_with_len}
