@@ -2,6 +2,7 @@
 
 ghost use Rattle.std.specs.Prelude.{◌≡◌, ◌<◌, ◌≤◌, IfOk, length, replicate, map};
 ghost use Rattle.layer_core.specs.Machine.{opening, step, unmarked, Claim, Post, Read};
+ghost use Rattle.layer_core.specs.Rights.{IsLayout};
 ghost use Rattle.layer_board.specs.Views.{layout_of};
 ghost use Rattle.layer_board.specs.Marked.{marks_of};
 ghost use Rattle.layer_board.specs.Events.{event_of, reply_of, IsByWorker};
@@ -46,7 +47,8 @@ impl Core {
     /// Workers that made no step, at a layer whose cells are empty.
     pub fn new(alloc: Global, layer: &Layer, workers: Workers) -> Result<Core, AllocError>
         requires { layer.now.inputs ≤ 16 }
-        ensures { IfOk result (λ c. c ≡ opening (layout_of layer.now) workers) }
+        ensures opening { IfOk result (λ c. c ≡ opening (layout_of layer.now) workers) }
+        ensures layout { IfOk result (λ c. IsLayout c.layout) }
     {
         let layer = Layer::of(alloc, layer.inputs(), layer.size())?;
         let cells = empty_cells(alloc, layer.len())?;

@@ -17,6 +17,7 @@ use Rattle.order_solve.proofs.Claimed.{ClaimsBlock, claimed_has, block_layer, sa
 pub record Working (t : Setting) (s0 s : SeatOf) (count : ℕ) : Type 0 where
   pub board : s.board ≡ s0.board
   pub kept : (mask : ℕ) → has_claimed s0 mask ≡ true → has_claimed s mask ≡ true
+  pub known : (mask : ℕ) → knows_filled s0 mask ≡ true → knows_filled s mask ≡ true
   pub posted : (mask : ℕ) → gains s0 s mask ≡ true → knows_filled s mask ≡ true
   pub tally : count ≡ widths_for t (gained s0 s)
 
@@ -29,6 +30,7 @@ unfolding gained widths_for
 working_none t s = record {
   board = refl;
   kept = λ mask e. e;
+  known = λ mask e. e;
   posted = λ mask e. absurd (false≢true (sym (not_gained (has_claimed s mask)) ∙ e));
   tally = sym (ap (widths_for t) (filter_none (gains s s) (masks_of s.board.brief.layer) (λ mask. not_gained (has_claimed s mask))));
 }
@@ -44,6 +46,7 @@ working_stays t s0 s s' count h w =
     record {
       board = h.board ∙ w.board;
       kept = λ mask e. same mask ∙ w.kept mask e;
+      known = λ mask e. h.known mask (w.known mask e);
       posted = λ mask e. h.known mask (w.posted mask (ap (λ k. k && not (has_claimed s0 mask)) (sym (same mask)) ∙ e));
       tally = w.tally ∙ sym (ap (widths_for t) (gained_same s0 s s' same));
     }
@@ -72,6 +75,7 @@ module _ (t : Setting) (s0 s s1 s2 : SeatOf) (count p : ℕ) (b : BlockOf) (w : 
       record {
         board = stays.board ∙ same_board s s1 p b h ∙ w.board;
         kept = λ mask e. same mask ∙ kept s s1 p b h mask (claimed_has s mask (w.kept mask e)) (w.kept mask e);
+        known = λ mask e. stays.known mask (claim_knows s s1 p mask h.is (w.known mask e));
         posted = posted same;
         tally = sym round_gains ∙ sym (ap (widths_for t) (gained_same s0 s1 s2 same));
       }

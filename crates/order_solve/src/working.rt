@@ -74,6 +74,7 @@ pub fn work_layer<G: Gate>(
     ensures board { IfOk result (λ e. e.seat.board ≡ board.now) }
     ensures told { IfOk result (λ e. IsTrue e.seat.worker.told) }
     ensures kept { IfOk result (λ e. (mask : ℕ) → IsTrue (has_claimed seat mask) → IsTrue (has_claimed e.seat mask)) }
+    ensures known { IfOk result (λ e. (mask : ℕ) → IsTrue (knows_filled seat mask) → IsTrue (knows_filled e.seat mask)) }
     ensures posted { IfOk result (λ e. (mask : ℕ) → IsTrue (gains seat e.seat mask) → IsTrue (knows_filled e.seat mask)) }
     ensures tally { IfOk result (λ e. e.tally ≡ widths_for bench.now.setting (gained seat e.seat)) }
 {
