@@ -1,0 +1,113 @@
+#!/usr/bin/env python3
+"""compare.py [--peers FOLDER] [--runs K] [--limit SECONDS] [--workers W] [NAME ..]
+
+Runs minorder (alone, and with a certificate), ordercheck on that certificate, the native baseline and CUDD's exact reordering in turns on the
+same files, and prints a table: the least wall time of K runs, processor time and peak memory of each, ratios, and the sizes that were found.
+FOLDER is what peers.sh made; without it both programs run alone. The names are those of files.py, all where none is given.
+"""
+import argparse
+import os
+import subprocess
+import sys
+import tempfile
+import time
+
+import files
+
+TOP = os.path.dirname(os.path.dirname(os.path.abspath(__file__)))
+
+
+def peak_of(process):
+    """The peak memory so far of a running process in megabytes. What wait4 tells has the memory of this script in it."""
+    try:
+        with open(f"/proc/{process}/status") as status:
+            return next((int(line.split()[1]) / 1024 for line in status if line.startswith("VmHWM")), 0)
+    except OSError:
+        return 0
+
+
+class Ran:
+    """The least times of some runs of a command, its peak memory, and what it printed."""
+
+    def __init__(self):
+        self.wall, self.processor, self.peak, self.text = float("inf"), float("inf"), 0, None
+
+    def again(self, words, limit):
+        start = time.monotonic()
+        with tempfile.TemporaryFile() as out:
+            process = subprocess.Popen(words, stdin=subprocess.DEVNULL, stdout=out, stderr=subprocess.DEVNULL)
+            while process.returncode is None:
+                pid, status, used = os.wait4(process.pid, os.WNOHANG)
+                if pid:
+                    process.returncode = status
+                elif time.monotonic() - start > limit:
+                    process.kill()
+                    os.wait4(process.pid, 0)
+                    process.returncode = 1
+                    return False
+                else:
+                    self.peak = max(self.peak, peak_of(process.pid))
+                    time.sleep(0.001)
+            out.seek(0)
+            self.text = out.read().decode()
+        self.wall = min(self.wall, time.monotonic() - start)
+        self.processor = min(self.processor, used.ru_utime + used.ru_stime)
+        return status == 0
+
+    def line(self, name):
+        return next((line.split(": ", 1)[1] for line in (self.text or "").splitlines() if line.startswith(name + ": ")), "-")
+
+
+def number(value, form):
+    return format(value, form) if value != float("inf") else "-"
+
+
+def ratio(one, other):
+    return f"{one.wall / other.wall:.2f}" if other.wall not in (0, float("inf")) and one.wall != float("inf") else "-"
+
+
+def compare(name, given, room):
+    pla, cert = f"{room}/{name}.pla", f"{room}/{name}.cert"
+    with open(pla, "w") as file:
+        file.write(files.FILES[name]())
+    workers = ["--workers", str(given.workers)]
+    commands = {"minorder": [given.minorder, *workers, pla], "certificate": [given.minorder, *workers, "--cert", cert, pla], "check": [given.ordercheck, pla, cert]}
+    if given.peers:
+        commands["native"] = [f"{given.peers}/baseline", str(given.workers), pla]
+        if os.path.exists(f"{given.peers}/cudd"):
+            commands["CUDD"] = [f"{given.peers}/cudd", "exact", pla]
+    ran = {tool: Ran() for tool in ("minorder", "certificate", "check", "native", "CUDD")}
+    late = set()
+    for _ in range(given.runs):
+        for tool, words in commands.items():
+            if tool not in late and not ran[tool].again(words, given.limit):
+                late.add(tool)
+    found, best = ran["minorder"], ran["minorder"].line("nodes")
+    if ran["native"].text and (ran["native"].line("nodes"), ran["native"].line("order")) != (best, found.line("order")):
+        sys.exit(f"{name}: the baseline found another answer")
+    if ran["check"].text and ran["check"].text != f"valid {best}\n":
+        sys.exit(f"{name}: ordercheck says {ran['check'].text}")
+    exact = f"over {given.limit}" if "CUDD" in late else number(ran["CUDD"].wall, ".3f")
+    cells = [name, number(found.wall, ".3f"), number(found.processor, ".2f"), f"{found.peak:.0f}", number(ran["certificate"].wall, ".3f"), f"{ran['certificate'].peak:.0f}", number(ran["check"].wall, ".3f"), f"{ran['check'].peak:.0f}", ratio(ran["check"], found), number(ran["native"].wall, ".3f"), ratio(found, ran["native"]), exact, best, ran["CUDD"].line("nodes with complement edges")]
+    print("| " + " | ".join(cells) + " |", flush=True)
+
+
+def main():
+    given = argparse.ArgumentParser(description=__doc__, formatter_class=argparse.RawDescriptionHelpFormatter)
+    given.add_argument("--minorder", default=f"{TOP}/crates/minorder/out/minorder")
+    given.add_argument("--ordercheck", default=f"{TOP}/crates/ordercheck/out/ordercheck")
+    given.add_argument("--peers")
+    given.add_argument("--runs", type=int, default=3)
+    given.add_argument("--limit", type=float, default=30)
+    given.add_argument("--workers", type=int, default=4)
+    given.add_argument("names", nargs="*")
+    given = given.parse_args()
+    heads = ["File", "minorder, s", "processor, s", "MB", "with --cert, s", "MB", "ordercheck, s", "MB", "ordercheck / minorder", "native, s", "minorder / native", "CUDD exact, s", "nodes", "CUDD's, with complement edges"]
+    print("| " + " | ".join(heads) + " |\n|" + "---|" * len(heads))
+    with tempfile.TemporaryDirectory() as room:
+        for name in given.names or files.FILES:
+            compare(name, given, room)
+
+
+if __name__ == "__main__":
+    main()
