@@ -14,47 +14,48 @@ use Rattle.unique_table.specs.declared.terms.PieceKind.{PieceKind}
 use Rattle.unique_table.specs.declared.terms.PieceKind.TheVariants.{Restrictions, Products}
 use Rattle.unique_table.specs.Plans.{order_of, levels_of, output_at, share, products_of, part_function, piece_function, AreTermsOf, IsPlan, parts_count}
 use Rattle.unique_table.specs.Sessions.{Knowledge, Follows, Means, function_in}
-use Rattle.dd_builder.specs.Parts.{AreOfTerms}
+use Rattle.dd_builder.specs.Parts.{AreOfTerms, shares_union}
 use Rattle.dd_builder.proofs.Going.{means_same, means_at}
 use Rattle.dd_builder.proofs.Restricted.{part_piece, constant_means}
 use Rattle.dd_builder.proofs.Shares.{share_last, terms_part, none}
-
--- 1 where one of an output's first k parts is
-unfoldable pub parts_below : Plan → ℕ → ℕ → Function
-parts_below b output k p = list_any (λ share. piece_function b (output * 64 + share) p) (range_with_len 0 k)
 
 or_false : (c : Bool) → (c || false) ≡ c
 or_false true = refl
 or_false false = refl
 
--- a range with one number more
-range_more : (a n : ℕ) → range_with_len a (n + 1) ≡ range_with_len a n ++ (a + n) ∷ []
-range_more a zero = ap (λ k. k ∷ []) here
+-- a range of two halves
+range_joined : (a n m : ℕ) → range_with_len a (n + m) ≡ range_with_len a n ++ range_with_len (a + n) m
+range_joined a zero m = λ i. range_with_len (here i) (none_more i)
   where
     here : a ≡ a + 0
     here = omega arith
-range_more a (suc n) = ap (λ k. range_with_len a k) next ∙ ap (λ xs. a ∷ xs) (range_more (a + 1) n ∙ ap (λ k. range_with_len (a + 1) n ++ k ∷ []) place)
+
+    none_more : 0 + m ≡ m
+    none_more = omega arith
+range_joined a (suc n) m = ap (range_with_len a) next ∙ ap (λ xs. a ∷ xs) (range_joined (a + 1) n m ∙ ap (λ k. range_with_len (a + 1) n ++ range_with_len k m) place)
   where
-    next : suc n + 1 ≡ suc (n + 1)
+    next : suc n + m ≡ suc (n + m)
     next = omega arith
 
     place : a + 1 + n ≡ a + suc n
     place = omega arith
 
-pub parts_none : (s : Knowledge) (b : Plan) (output : ℕ) → Means s 0 (parts_below b output 0)
-unfolding parts_below
-parts_none s b output = constant_means s false (parts_below b output 0) (λ p l. refl)
+-- one part
+pub part_union : (s : Knowledge) (b : Plan) (output first count id : ℕ) → count ≡ 1 → Means s id (piece_function b (output * 64 + first)) → Means s id (shares_union b output first count)
+unfolding shares_union
+part_union s b output first count id one m =
+    means_same s id (piece_function b (output * 64 + first)) (shares_union b output first count) m
+    (λ p l. sym (or_false (piece_function b (output * 64 + first) p)) ∙ ap (λ n. list_any (λ share. piece_function b (output * 64 + share) p) (range_with_len first n)) (sym one))
 
--- with one part more
-pub parts_more : (s s' : Knowledge) (b : Plan) (output k id part made : ℕ) → Means s part (piece_function b (output * 64 + k)) → Means s id (parts_below b output k) → Follows s s'
-    → Means s' made (combine Or (function_in s' id) (function_in s' part)) → Means s' made (parts_below b output (k + 1))
-unfolding parts_below combine
-parts_more s s' b output k id part made mp mi f m =
+-- the parts of two halves
+pub halves_union : (s1 s2 s3 : Knowledge) (b : Plan) (output first half rest count lower upper made : ℕ) → count ≡ half + rest → Means s1 lower (shares_union b output first half) → Follows s1 s2
+    → Means s2 upper (shares_union b output (first + half) rest) → Follows s2 s3 → Means s3 made (combine Or (function_in s3 lower) (function_in s3 upper)) → Means s3 made (shares_union b output first count)
+unfolding shares_union combine
+halves_union s1 s2 s3 b output first half rest count lower upper made all ml f12 mu f23 m =
     let test : (p : Point) → ℕ → Bool = λ p share. piece_function b (output * 64 + share) p in
-    means_same s' made (combine Or (function_in s' id) (function_in s' part)) (parts_below b output (k + 1)) m
-    (λ p l. (λ i. means_at s' id _ p (f.means id _ mi) l i || means_at s' part _ p (f.means part _ mp) l i)
-    ∙ (ap (λ c. list_any (test p) (range_with_len 0 k) || c) (sym (or_false (test p k)))
-    ∙ (sym (list_any-append (test p) (range_with_len 0 k) (k ∷ [])) ∙ ap (λ j. list_any (test p) (range_with_len 0 k ++ j ∷ [])) (sym (zero-add k)) ∙ ap (list_any (test p)) (sym (range_more 0 k)))))
+    means_same s3 made (combine Or (function_in s3 lower) (function_in s3 upper)) (shares_union b output first count) m
+    (λ p l. (λ i. means_at s3 lower _ p (f23.means lower _ (f12.means lower _ ml)) l i || means_at s3 upper _ p (f23.means upper _ mu) l i)
+    ∙ (sym (list_any-append (test p) (range_with_len first half) (range_with_len (first + half) rest)) ∙ ap (list_any (test p)) (sym (range_joined first half rest)) ∙ ap (λ n. list_any (test p) (range_with_len first n)) (sym all)))
 
 -- ---- all products
 
@@ -145,15 +146,14 @@ terms_count : (kind : PieceKind) (order : List ℕ) (t : TruthTables) → AreOfT
 terms_count Restrictions order t some = absurd some
 terms_count (Products own) order t some = refl
 
--- the function of all parts by terms is the output
-pub parts_all : (s : Knowledge) (b : Plan) (output id k : ℕ) → IsPlan b → AreOfTerms b.kind → output < outputs_of b.problem.value → levels_of s.store.plan ≡ levels_of b → k ≡ 64 → Means s id (parts_below b output k) → Means s id (output_at b.problem.value output)
-unfolding parts_below
-parts_all s b output id k plan some low same all m =
-    means_same s id (parts_below b output k) (output_at b.problem.value output) m (λ p l.
-    ap (λ n. list_any (λ share. piece_function b (output * 64 + share) p) (range_with_len 0 n)) all
-    ∙ (any_same (λ share. piece_function b (output * 64 + share) p) (λ share. part_function b.kind (order_of b) b.problem.value (output * 64 + share) p) 64 0
+-- the union of all parts by terms is the output
+pub parts_all : (s : Knowledge) (b : Plan) (output id : ℕ) → IsPlan b → AreOfTerms b.kind → output < outputs_of b.problem.value → levels_of s.store.plan ≡ levels_of b → Means s id (shares_union b output 0 64) → Means s id (output_at b.problem.value output)
+unfolding shares_union
+parts_all s b output id plan some low same m =
+    means_same s id (shares_union b output 0 64) (output_at b.problem.value output) m (λ p l.
+    any_same (λ share. piece_function b (output * 64 + share) p) (λ share. part_function b.kind (order_of b) b.problem.value (output * 64 + share) p) 64 0
     (λ j a u. ap (λ f. f p) (part_piece b (output * 64 + j) (let e = plan.roots in let c = terms_count b.kind (order_of b) b.problem.value some in omega arith)))
-    ∙ parts_output output p b.kind (order_of b) b.problem.value some plan.terms low (l ∙ (same ∙ sym plan.inputs))))
+    ∙ parts_output output p b.kind (order_of b) b.problem.value some plan.terms low (l ∙ (same ∙ sym plan.inputs)))
 
 -- an output is the piece behind the parts
 pub root_piece : (b : Plan) (j q : ℕ) → q ≡ b.roots + j → piece_function b q ≡ output_at b.problem.value j

@@ -1,16 +1,19 @@
 -- The parts of a store's functions: its pieces that aren't outputs.
 --     IsForTerms b terms, IsSourceFor b source      parts that are made of terms, and of a source
 --     HasPart s q, HasAllParts s, HasRoots s      the parts and the outputs whose ids a session knows
+--     shares_union b output first count      the union of some parts of an output
 --     AreJobsOf store workers jobs      a job for each worker
 --     HasShare s workers k, IsEndOf store workers k end, AreEndsOf store workers ends      what a worker builds, and how workers end
 --     IsJoined store end      how all workers together end
-use Rattle.std.specs.Prelude.{◌≡◌, ◌≢◌, ℕ, ◌+◌, ◌%◌, ◌<◌, ◌≤◌, Some, Result, Ok, Err, List, length, slice_index, slice_get}
+use Rattle.std.specs.Prelude.{◌≡◌, ◌≢◌, ℕ, ◌+◌, ◌*◌, ◌%◌, ◌<◌, ◌≤◌, Some, Result, Ok, Err, List, length, slice_index, slice_get}
+use Rattle.std.specs.List.{list_any, range_with_len}
 use Rattle.order_model.specs.declared.terms.Term.{Term}
+use Rattle.order_model.specs.Functions.{Function}
 use Rattle.order_model.specs.Problems.{TruthTables, outputs_of}
 use Rattle.unique_table.specs.declared.view.Plan.{Plan}
 use Rattle.unique_table.specs.declared.terms.PieceKind.{PieceKind}
 use Rattle.unique_table.specs.declared.terms.PieceKind.TheVariants.{Restrictions, Products}
-use Rattle.unique_table.specs.Plans.{order_of, products_of, tops}
+use Rattle.unique_table.specs.Plans.{order_of, products_of, tops, piece_function}
 use Rattle.unique_table.specs.Sessions.{StoreId, Knowledge, HasPiece, Knows, depth_in}
 use Rattle.dd_builder.specs.declared.parts.Source.{Source}
 use Rattle.dd_builder.specs.declared.parts.Source.TheVariants.{Tables, Terms}
@@ -58,6 +61,10 @@ HasAllParts s = (q : ℕ) → q < s.store.plan.roots → HasPart s q
 -- the session knows the ids of all outputs
 abbrev pub HasRoots : Knowledge → Type 0
 HasRoots s = (j : ℕ) → j < outputs_of s.store.plan.problem.value → slice_index s.pieces (s.store.plan.roots + j) ≢ 0
+
+-- 1 where one of an output's parts by terms is, of `count` parts from a share on
+unfoldable pub shares_union : Plan → ℕ → ℕ → ℕ → Function
+shares_union b output first count p = list_any (λ share. piece_function b (output * 64 + share) p) (range_with_len first count)
 
 -- a job for each worker, in their order, each with a session of the store
 pub record AreJobsOf (store : StoreId) (workers : ℕ) (jobs : List Job) : Type 0 where

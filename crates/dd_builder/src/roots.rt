@@ -1,11 +1,11 @@
 //! The outputs, made of their parts.
 
-ghost use Rattle.std.specs.Prelude.{◌≡◌, ◌^◌, ◌<◌, ◌≤◌, length, take, IfOk, OnOk, OnErr};
+ghost use Rattle.std.specs.Prelude.{◌≡◌, ◌+◌, ◌^◌, ◌<◌, ◌≤◌, length, take, IfOk, OnOk, OnErr};
 ghost use Rattle.order_model.specs.Problems.{outputs_of};
 ghost use Rattle.unique_table.specs.Plans.{order_of, output_at, piece_function, fixed, tops as tops_of};
 ghost use Rattle.unique_table.specs.Sessions.{Means, Follows, depth_in};
 ghost use Rattle.dd_builder.specs.Building.{KnowsFull, AreRestrictions};
-ghost use Rattle.dd_builder.specs.Parts.{IsSourceFor, AreOfTerms, HasAllParts, HasRoots, part_level};
+ghost use Rattle.dd_builder.specs.Parts.{IsSourceFor, AreOfTerms, HasAllParts, HasRoots, part_level, shares_union};
 
 use crate::operations::apply;
 use crate::parts::Source;
@@ -56,8 +56,36 @@ fn of_restrictions(
     store.make(session, level, lower, upper)
 }
 
+/// The id of the union of some of an output's parts, from a share on, made of the unions of two halves.
+fn of_shares(
+    store: &Store,
+    session: &mut Session,
+    output: u8,
+    first: usize,
+    count: usize,
+) -> Result<NodeId, StoreFull>
+    requires session { session.old.store ≡ store.now }
+    requires kind { AreOfTerms store.now.plan.kind }
+    requires parts { HasAllParts session.old }
+    requires output { output < outputs_of store.now.plan.problem.value }
+    requires some { 1 ≤ count }
+    requires inside { first + count ≤ 64 }
+    ensures follows { Follows session.old session.new }
+    ensures function { IfOk result (λ id. Means session.new id (shares_union store.now.plan output first count)) }
+    ensures full { OnErr result (KnowsFull session.new) }
+{
+    let _plan = store.order();
+    if count == 1 {
+        return Ok(part_id(store, session, usize::from(output) * 64 + first));
+    }
+    let half = count / 2;
+    let lower = of_shares(store, session, output, first, half)?;
+    let upper = of_shares(store, session, output, first + half, count - half)?;
+    apply(store, session, Operation::Or, lower, upper)
+}
+
 /// The id of an output, made of the parts, each of which has the terms of one remainder.
-fn of_shares(store: &Store, session: &mut Session, output: u8) -> Result<NodeId, StoreFull>
+fn of_all_shares(store: &Store, session: &mut Session, output: u8) -> Result<NodeId, StoreFull>
     requires session { session.old.store ≡ store.now }
     requires kind { AreOfTerms store.now.plan.kind }
     requires parts { HasAllParts session.old }
@@ -67,12 +95,7 @@ fn of_shares(store: &Store, session: &mut Session, output: u8) -> Result<NodeId,
     ensures full { OnErr result (KnowsFull session.new) }
 {
     let _plan = store.order();
-    let mut id = 0;
-    for share in 0..64 {
-        let part = part_id(store, session, usize::from(output) * 64 + share);
-        id = apply(store, session, Operation::Or, id, part)?;
-    }
-    Ok(id)
+    of_shares(store, session, output, 0, 64)
 }
 
 /// The id of an output, made of the parts.
@@ -92,7 +115,7 @@ fn root(
 {
     match source {
         Source::Tables(_) => of_restrictions(store, session, output, 0, 0),
-        Source::Terms(_) => of_shares(store, session, output),
+        Source::Terms(_) => of_all_shares(store, session, output),
     }
 }
 
