@@ -7,10 +7,11 @@ ghost use Rattle.order_model.specs.Orders.{IsOrder};
 ghost use Rattle.order_model.specs.Pairs.{IsFirstOrder};
 ghost use Rattle.order_model.specs.Problems.{functions};
 ghost use Rattle.order_model.specs.Sifting.{sifted as sifted_order};
-ghost use Rattle.dd_builder.specs.Building.{AreTablesOf};
+ghost use Rattle.dd_builder.specs.Building.{AreTablesOf, HasLevelCounts};
 ghost use Rattle.report.specs.Answers.{IsAnswer, IsCertified, PairsAre};
+ghost use Rattle.report.specs.FirstDiagrams.{IsFirstDiagram};
 ghost use Rattle.report.specs.Solved.{IsSolved};
-ghost use Rattle.report.specs.Texts.{file_order_levels, report_parts};
+ghost use Rattle.report.specs.Texts.{file_order_levels, functions_of, report_parts};
 
 use crate::certificates::certificate_text;
 use crate::outcome::Shortage;
@@ -49,45 +50,69 @@ fn levels_of(alloc: Global, diagram: &Diagram) -> Result<Vec<u32>, AllocError>
     counts[..diagram.order().len()].to_vec(alloc)
 }
 
-/// The level counts under the file order, off the diagram built under it.
+/// The diagram under the first order that keeps the pairs.
+fn first_diagram<R: Threads + Sync>(
+    rt: &R,
+    alloc: Global,
+    cover: &Cover,
+    tables: &Tables,
+    pairs: &Pairs,
+    workers: Workers,
+) -> Result<Diagram, Shortage>
+    requires tables { AreTablesOf cover.now tables.now }
+    requires pairs { pairs.now.inputs ≡ cover.now.inputs }
+    ensures { IfOk result (IsFirstDiagram cover.now pairs.now.pairs) }
+{
+    let order = pairs.first_order(alloc)?;
+    let diagram = build(rt, alloc, cover, tables, &order, workers, &NoGate)?;
+    Ok(diagram)
+}
+
+/// The level counts under the file order, off the diagram under the first order where that is the file order, else off one that is built under it.
 fn file_order_levels_of<R: Threads + Sync>(
     rt: &R,
     alloc: Global,
     cover: &Cover,
     tables: &Tables,
+    first: &Diagram,
     workers: Workers,
 ) -> Result<Vec<u32>, Shortage>
-    requires { AreTablesOf cover.now tables.now }
+    requires tables { AreTablesOf cover.now tables.now }
+    requires first { HasLevelCounts cover.now.inputs (functions_of cover.now) first.now.order first.now.graph }
+    requires long { length first.now.order ≡ cover.now.inputs }
     ensures counts { IfOk result (λ v. v.items ≡ file_order_levels cover.now) }
     ensures few { IfOk result (λ v. length v.items ≤ 16) }
 {
     let order = Order::file_order(alloc, cover.inputs())?;
+    if first.order().variables() == order.variables() {
+        let levels = levels_of(alloc, first)?;
+        return Ok(levels);
+    }
     let diagram = build(rt, alloc, cover, tables, &order, workers, &NoGate)?;
     let levels = levels_of(alloc, &diagram)?;
     Ok(levels)
 }
 
-/// The order sifted from the first one that keeps the pairs.
-fn sift_from_first<R: Threads + Sync>(
-    rt: &R,
+/// The order sifted from the first one that keeps the pairs, off the diagram under that.
+fn sift_from_first(
     alloc: Global,
     cover: &Cover,
     tables: &Tables,
+    first: Diagram,
     pairs: Pairs,
-    workers: Workers,
 ) -> Result<Sifted, Shortage>
     requires tables { AreTablesOf cover.now tables.now }
+    requires first { IsFirstDiagram cover.now pairs.pairs first }
     requires pairs { pairs.inputs ≡ cover.now.inputs }
     ensures order { IfOk result (λ s. (start : _) × IsFirstOrder cover.now.inputs pairs.pairs start
         × (s.order ≡ sifted_order tables.now.inputs (functions tables.now) pairs.pairs start)) }
     ensures problem { IfOk result (λ s. s.problem ≡ tables.now) }
     ensures pairs { IfOk result (λ s. s.pairs ≡ pairs.pairs) }
 {
-    let order = pairs.first_order(alloc)?;
-    let diagram = build(rt, alloc, cover, tables, &order, workers, &NoGate)?;
+    let _ = tables;
     let _few = cover.outputs();
     diagrams_have_their_functions_tables();
-    let manager = Manager::with_pairs(alloc, diagram, pairs)?;
+    let manager = Manager::with_pairs(alloc, first, pairs)?;
     let sifted = manager.sift(alloc)?;
     Ok(sifted)
 }
@@ -117,16 +142,18 @@ struct Found {
     sifted_size: u32,
 }
 
-/// The first order of the fewest nodes, and the sifted one.
+/// The first order of the fewest nodes, and the one sifted from the diagram under the first order that keeps the pairs.
 fn search<R: Threads + Sync>(
     rt: &R,
     alloc: Global,
     cover: &Cover,
     tables: &Tables,
+    first: Diagram,
     pairs: Pairs,
     workers: Workers,
 ) -> Result<Found, Shortage>
     requires tables { AreTablesOf cover.now tables.now }
+    requires first { IsFirstDiagram cover.now pairs.pairs first }
     requires pairs { pairs.inputs ≡ cover.now.inputs }
     ensures best { IfOk result (λ f. IsFirstKeeping tables.now.inputs (functions tables.now) pairs.pairs f.solution.order) }
     ensures solved { IfOk result (λ f. IsSolved tables.now.inputs (functions tables.now) pairs.pairs f.solution) }
@@ -134,7 +161,7 @@ fn search<R: Threads + Sync>(
         × (f.sifted ≡ sifted_order tables.now.inputs (functions tables.now) pairs.pairs start)) }
     ensures size { IfOk result (λ f. f.sifted_size ≡ size_under tables.now.inputs (functions tables.now) f.sifted) }
 {
-    let found = sift_from_first(rt, alloc, cover, tables, pairs, workers)?;
+    let found = sift_from_first(alloc, cover, tables, first, pairs)?;
     let sifted = found.order().try_clone(alloc)?;
     let sifted_size = found.size();
     let solution = solve(rt, alloc, tables.problem(), found, workers, &NoGate)?;
@@ -152,13 +179,15 @@ fn report_of<R: Threads + Sync>(
     cover: &Cover,
     tables: &Tables,
     found: &Found,
+    file_levels: &[u32],
     workers: Workers,
 ) -> Result<String, Shortage>
     requires tables { AreTablesOf cover.now tables.now }
+    requires levels { file_levels.now ≡ file_order_levels cover.now }
+    requires few { length file_levels.now ≤ 16 }
     requires order { IsOrder tables.now.inputs found.now.solution.order }
     ensures { IfOk result (λ text. string_bytes text ≡ report_parts cover.now tables.now found.now.solution.order found.now.sifted found.now.sifted_size) }
 {
-    let file_levels = file_order_levels_of(rt, alloc, cover, tables, workers)?;
     let best = found.solution.order.variables();
     let levels = levels_under(rt, alloc, tables, &found.solution.order, workers)?;
     let text = report_text(
@@ -168,7 +197,7 @@ fn report_of<R: Threads + Sync>(
         &levels,
         found.sifted.variables(),
         found.sifted_size,
-        total(&file_levels),
+        total(file_levels),
     )?;
     Ok(text)
 }
@@ -195,8 +224,10 @@ pub(crate) fn answer_texts<R: Threads + Sync>(
 {
     let kept = pairs.copied();
     let tables = Tables::of_cover(rt, alloc, cover)?;
-    let found = search(rt, alloc, cover, &tables, pairs, workers)?;
-    let report = report_of(rt, alloc, cover, &tables, &found, workers)?;
+    let first = first_diagram(rt, alloc, cover, &tables, &pairs, workers)?;
+    let file_levels = file_order_levels_of(rt, alloc, cover, &tables, &first, workers)?;
+    let found = search(rt, alloc, cover, &tables, first, pairs, workers)?;
+    let report = report_of(rt, alloc, cover, &tables, &found, &file_levels, workers)?;
     let certificate = if certify {
         Some(certificate_text(alloc, tables.problem(), &kept, found.solution)?)
     } else {

@@ -1,5 +1,7 @@
 use Rattle.std.proofs.Common.{◌≡◌, ap, sym, ◌∙◌, length, slice_index}
 use Rattle.std.proofs.lemmas.List.FromFn.{length-range_with_len}
+use Rattle.std.proofs.lemmas.Bool.Decides.{Decides-eqb}
+use Rattle.std.proofs.lemmas.Slice.Eq.{slice_eq-Decides}
 use Rattle.order_model.specs.Levels.{level_counts}
 use Rattle.order_model.specs.Orders.{variables}
 use Rattle.report.specs.Texts.{functions_of}
@@ -9,10 +11,18 @@ use Rattle.report.proofs.answers.file_order_levels_of.Goals as goal
 pub build-requires-clause-order : goal.build-requires-clause-order
 build-requires-clause-order g c κs within = ap length c.in_ok-order.ensures ∙ length-range_with_len 0 c.inputs.result ∙ c.inputs.ensures.value
 
+pub returns-then-eq-clause-counts : goal.returns-then-eq-clause-counts
+returns-then-eq-clause-counts g c =
+    let same : c.variables.result.now ≡ c.variables-2.result.now = (slice_eq-Decides Decides-eqb c.variables.result.now c.variables-2.result.now c.eq.result c.eq.ensures).0 c.if-eq.true in
+    let order = sym (c.variables.ensures.value ∙ c.order.ensures.value) ∙ same ∙ c.variables-2.ensures.value in
+    let read = counts_read c.args.cover.now.inputs (functions_of c.args.cover.now) c.args.first.now.order c.in_ok-levels.levels.items c.args.first.now.graph
+    c.in_ok-levels.ensures.long c.in_ok-levels.ensures.counts c.requires.first in
+    read ∙ ap (level_counts c.args.cover.now.inputs (functions_of c.args.cover.now)) (order ∙ c.in_ok-order.ensures ∙ ap (λ k. variables k) c.inputs.ensures.value)
+
 pub returns-clause-counts : goal.returns-clause-counts
 returns-clause-counts g c =
-    let read = counts_read c.args.cover.now.inputs (functions_of c.args.cover.now) c.in_ok-order.order c.in_ok-levels.levels.items c.in_ok-diagram.diagram.graph
-    (rw (← c.in_ok-diagram.ensures.order) c.in_ok-levels.ensures.long)
-    (rw (← c.in_ok-diagram.ensures.order) c.in_ok-levels.ensures.counts)
+    let read = counts_read c.args.cover.now.inputs (functions_of c.args.cover.now) c.in_ok-order.order c.in_ok-levels-2.levels.items c.in_ok-diagram.diagram.graph
+    (rw (← c.in_ok-diagram.ensures.order) c.in_ok-levels-2.ensures.long)
+    (rw (← c.in_ok-diagram.ensures.order) c.in_ok-levels-2.ensures.counts)
     c.in_ok-diagram.ensures.levels in
     read ∙ ap (level_counts c.args.cover.now.inputs (functions_of c.args.cover.now)) (c.in_ok-order.ensures ∙ ap (λ k. variables k) c.inputs.ensures.value)
