@@ -125,6 +125,11 @@ fn lay_out(alloc: Global, m: u8, columns: &[[u64; 16]]) -> Result<Vec<u64>, Allo
     Ok(words)
 }
 
+/// How many places are worth a thread, where so many terms are asked at each: with 65,536 questions a thread takes about its own time to start.
+fn least_places(terms: usize) -> usize {
+    if terms == 0 { 65_536 } else { 65_536 / terms }
+}
+
 /// The packed truth tables of m outputs of terms of n inputs, one table behind the other.
 pub(crate) fn packed_words<R: Threads + Sync>(
     rt: &R,
@@ -144,6 +149,7 @@ pub(crate) fn packed_words<R: Threads + Sync>(
     let size = words_per_table(n);
     let columns: Vec<[u64; 16]> = (0..size)
         .into_par_iter()
+        .with_min_len(least_places(terms.len()))
         .map(
             |place: usize| -> [u64; 16]
                 requires { (n ≤ 16) × (place < 1024) }

@@ -10,7 +10,7 @@ collect-requires-clause-ready g c =
     let ends = c.into_par_iter.ensures in
     let size = c.words_per_table-size.result in
     let inside = nat_range-All (λ i. (c.args.n ≤ 16) × (i < 1024)) 0 size (λ i low high. (c.requires.few_inputs, (let f = c.words_per_table-size.ensures.few in omega arith))) in
-    rw (c.map.ensures.base, c.map.ensures.f, ends.0, ends.1) (λ κs lives k d lt. (inside k d lt, λ y p. tt))
+    rw (c.map.ensures.base, c.map.ensures.f, c.with_min_len.ensures.base, ends.0, ends.1) (λ κs lives k d lt. (inside k d lt, λ y p. tt))
 
 pub lay_out-requires-clause-some : goal.lay_out-requires-clause-some
 lay_out-requires-clause-some g c =
@@ -18,7 +18,7 @@ lay_out-requires-clause-some g c =
     let size = c.words_per_table-size.result in
     let whole : size - 0 ≡ size = omega arith in
     let h = c.in_ok-columns.ensures in
-    let chain = rw (c.map.ensures.base, c.map.ensures.f) at h.1 in
+    let chain = rw (c.map.ensures.base, c.map.ensures.f, c.with_min_len.ensures.base) at h.1 in
     let places = chain.1 ∙ (λ i. nat_range (ends.0 i) (ends.1 i)) ∙ ap (range_with_len 0) whole in
     let f = c.words_per_table-size.ensures.some in
     let l = columns_long c.args.n c.args.terms.now size chain.0 h.0 places chain.2 in
@@ -32,7 +32,7 @@ lay_out-requires-clause-few g c =
     let size = c.words_per_table-size.result in
     let whole : size - 0 ≡ size = omega arith in
     let h = c.in_ok-columns.ensures in
-    let chain = rw (c.map.ensures.base, c.map.ensures.f) at h.1 in
+    let chain = rw (c.map.ensures.base, c.map.ensures.f, c.with_min_len.ensures.base) at h.1 in
     let places = chain.1 ∙ (λ i. nat_range (ends.0 i) (ends.1 i)) ∙ ap (range_with_len 0) whole in
     let f = c.words_per_table-size.ensures.few in
     let l = columns_long c.args.n c.args.terms.now size chain.0 h.0 places chain.2 in
@@ -46,7 +46,7 @@ returns-clause-packed g c =
     let size = c.words_per_table-size.result in
     let whole : size - 0 ≡ size = omega arith in
     let h = c.in_ok-columns.ensures in
-    let chain = rw (c.map.ensures.base, c.map.ensures.f) at h.1 in
+    let chain = rw (c.map.ensures.base, c.map.ensures.f, c.with_min_len.ensures.base) at h.1 in
     let places = chain.1 ∙ (λ i. nat_range (ends.0 i) (ends.1 i)) ∙ ap (range_with_len 0) whole in
     let l = columns_long c.args.n c.args.terms.now size chain.0 h.0 places chain.2 in
     let v = c.deref.ensures.value ∙ h.2 in
@@ -61,7 +61,7 @@ returns-clause-tables g c =
     let size = c.words_per_table-size.result in
     let whole : size - 0 ≡ size = omega arith in
     let h = c.in_ok-columns.ensures in
-    let chain = rw (c.map.ensures.base, c.map.ensures.f) at h.1 in
+    let chain = rw (c.map.ensures.base, c.map.ensures.f, c.with_min_len.ensures.base) at h.1 in
     let places = chain.1 ∙ (λ i. nat_range (ends.0 i) (ends.1 i)) ∙ ap (range_with_len 0) whole in
     let l = columns_long c.args.n c.args.terms.now size chain.0 h.0 places chain.2 in
     let v = c.deref.ensures.value ∙ h.2 in
