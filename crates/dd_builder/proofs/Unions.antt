@@ -1,10 +1,10 @@
 -- An output as the union of its parts by terms.
-use Rattle.std.proofs.Common.{◌≡◌, ◌≢◌, ℕ, zero, suc, ◌+◌, ◌-◌, ◌*◌, ◌/◌, ◌%◌, ◌<◌, ◌≤◌, inl, inr, Bool, true, false, ◌&&◌, ◌||◌, cond, List, [], ◌∷◌, ◌++◌, length, take, get_or, refl, sym, ap, ◌∙◌, arith, zero-add, le-ltb, if◌then◌else◌, eqb, eq-eqb, ne_eqb}
+use Rattle.std.proofs.Common.{◌≡◌, ◌≢◌, ℕ, zero, suc, ◌+◌, ◌-◌, ◌*◌, ◌/◌, ◌%◌, ◌<◌, ◌≤◌, inl, inr, Bool, true, false, ◌&&◌, ◌||◌, cond, List, [], ◌∷◌, ◌++◌, length, take, get_or, refl, sym, ap, ◌∙◌, arith, le-ltb, if◌then◌else◌, eqb, eq-eqb, ne_eqb}
 use Rattle.std.specs.List.{list_any, range_with_len}
 use Rattle.std.proofs.lemmas.List.{take_more, take_all, length-take}
 use Rattle.std.proofs.lemmas.List.Folds.{list_any-append}
 use Rattle.std.proofs.lemmas.Bool.{cases_eq}
-use Rattle.order_model.specs.Functions.{Point, Function, SameFunction}
+use Rattle.order_model.specs.Functions.{Point, SameFunction}
 use Rattle.order_model.specs.Problems.{TruthTables, outputs_of}
 use Rattle.order_model.specs.Products.{Product, product_function, matches, has_output}
 use Rattle.node_words.specs.declared.operation.Operation.TheVariants.{Or}
@@ -16,7 +16,7 @@ use Rattle.unique_table.specs.Plans.{order_of, levels_of, output_at, share, prod
 use Rattle.unique_table.specs.Sessions.{Knowledge, Follows, Means, function_in}
 use Rattle.dd_builder.specs.Parts.{AreOfTerms, shares_union}
 use Rattle.dd_builder.proofs.Going.{means_same, means_at}
-use Rattle.dd_builder.proofs.Restricted.{part_piece, constant_means}
+use Rattle.dd_builder.proofs.Restricted.{part_piece}
 use Rattle.dd_builder.proofs.Shares.{share_last, terms_part, none}
 
 or_false : (c : Bool) → (c || false) ≡ c

@@ -258,7 +258,14 @@ pub fn build_from<R: Threads + Sync, G: Gate>(
     }
 }
 
-/// The reduced diagram of a cover's functions under an order: built from its terms and, where they fill a store, from its truth tables.
+/// Whether a cover has so many terms that its truth tables are the shorter way to its diagram: more than one for 16 points. A minterm of 16
+/// variables takes some ten nodes of a store, so such covers mostly fill it besides.
+fn has_many_terms(cover: &Cover) -> bool {
+    cover.terms().len() > (1usize << cover.inputs()) / 16
+}
+
+/// The reduced diagram of a cover's functions under an order: built from its truth tables where it has many terms, else from its terms and, where they
+/// fill a store, from its truth tables.
 pub fn build<R: Threads + Sync, G: Gate>(
     rt: &R,
     alloc: Global,
@@ -276,6 +283,12 @@ pub fn build<R: Threads + Sync, G: Gate>(
     ensures levels { IfOk result (λ d. HasLevelCounts cover.now.inputs (functions_of cover.now) order.now d.graph) }
     ensures refused { IfErr result (RefusesUnder order.now) }
 {
+    if has_many_terms(cover) {
+        let _order = order.variables();
+        some_diagram_has_the_level_counts();
+        truth_tables_keep_functions();
+        return build_tables(rt, alloc, tables, order, workers, gate);
+    }
     let Ok((store, session)) = cover_store(alloc, cover, tables, order) else {
         return Err(BuildError::OutOfMemory);
     };

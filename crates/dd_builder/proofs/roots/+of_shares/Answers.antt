@@ -1,4 +1,4 @@
-use Rattle.std.proofs.Common.{◌≡◌, ◌≤◌, ◌<◌, ◌+◌, ◌-◌, ◌*◌, ◌/◌, ◌∙◌, subst, arith}
+use Rattle.std.proofs.Common.{◌≡◌, ◌+◌, ◌-◌, ◌*◌, ◌/◌, ◌∙◌, subst, arith}
 use Rattle.unique_table.specs.Plans.{piece_function}
 use Rattle.unique_table.specs.Sessions.{Means}
 use Rattle.unique_table.proofs.Following.{follows_trans}
