@@ -2,6 +2,7 @@
 --     all_same, all_from, all_at      a test of each of some numbers
 --     literals_apart      the literals of variables below 6 are read off the bit of a word, the others off its place
 --     literals_above      those from 6 on hold where the masks agree with the place
+--     group_without      they hold at no place of a group of 32 with which the masks of those from 11 on don't agree
 --     product_is      the function of the products of terms
 use Rattle.std.proofs.Common.{◌≡◌, ℕ, zero, suc, ◌+◌, ◌-◌, ◌*◌, ◌/◌, ◌^◌, ◌<◌, ◌≤◌, Bool, true, false, cond, not, ◌&&◌, ◌||◌, inl, inr, List, [], ◌∷◌, length, map, refl, sym, ap, ◌∙◌, arith, eqb, eqb-true, eq-eqb, min, bit_and, zero-add}
 use Rattle.std.specs.Int.{bit_at}
@@ -11,6 +12,7 @@ use Rattle.std.specs.Prelude.{Some, None}
 use Rattle.std.proofs.lemmas.Bool.{cases_lt, and_parts, false≢true}
 use Rattle.std.proofs.lemmas.List.Elements.{All-head, All-tail}
 use Rattle.std.proofs.lemmas.List.FromFn.{get_or-map-range_with_len}
+use Rattle.std.proofs.lemmas.Nat.{and_shr, shr-shr}
 use Rattle.std.proofs.lemmas.Nat.Bits.{bit_at-lt, bit_at_and, bit_at_above, bit_at_cat_low, bit_at_cat_high, same_from_bits}
 use Rattle.order_model.specs.declared.terms.Term.{Term}
 use Rattle.order_model.specs.Functions.{Point, bit, number}
@@ -142,6 +144,19 @@ module _ (term : Term) (care_fits : term.care < 2 ^ 16) (within : bit_and term.v
             let o = bit_at_above term.care 16 (y + 6) care_fits (omega arith) in
             omega arith)
       ]))
+
+  in_group : (group place : ℕ) → place < 32 → bit_and (32 * group + place) (term.care / 2 ^ 6) ≡ term.value / 2 ^ 6 → bit_and group (term.care / 2 ^ 11) ≡ term.value / 2 ^ 11
+  in_group group place low e =
+      let here : (32 * group + place) / 2 ^ 5 ≡ group = omega arith in
+      (λ i. bit_and (sym here i) (sym (shr-shr term.care 6 5) i)) ∙ sym (and_shr (32 * group + place) (term.care / 2 ^ 6) 5) ∙ ap (λ z. z / 2 ^ 5) e ∙ shr-shr term.value 6 5
+
+  -- the literals from variable 6 on hold at no place of a group with which the masks of those from 11 on don't agree
+  pub group_without : (group place : ℕ) → place < 32 → eqb (bit_and group (term.care / 2 ^ 11)) (term.value / 2 ^ 11) ≡ false → literals_at term (64 * (32 * group + place)) 6 10 ≡ false
+  group_without group place low none = sym (literals_above (32 * group + place)) ∙ not_true _ (λ e. false≢true (sym none ∙ eq-eqb _ _ (in_group group place low (eqb-true _ _ e))))
+    where
+      not_true : (b : Bool) → (b ≡ true → ⊥) → b ≡ false
+      not_true false h = refl
+      not_true true h = absurd (h refl)
 
 -- ---- products
 

@@ -2,16 +2,18 @@
 --     masked_bits, joined_bits      the bits of words that are combined
 --     free_bits      the mask of the points of n variables
 --     literal_points_none, literal_points_one, literal_points_zero      the points at which a literal holds
---     packed_columns      the packed truth tables of terms
-use Rattle.std.proofs.Common.{◌≡◌, ℕ, zero, suc, ◌+◌, ◌-◌, ◌*◌, ◌/◌, ◌%◌, ◌^◌, ◌<◌, ◌≤◌, Bool, true, false, not, ◌&&◌, ◌||◌, inl, inr, List, [], ◌∷◌, length, map, take, get_or, slice_index, refl, sym, ap, ◌∙◌, arith, subst, eqb, min, max, bit_and, bit_or, ltb, zero-add, pow_pos}
+--     covered_more, term_added, term_left_out, place_added      what a term adds
+--     blank_at      the words before the first term
+--     packed_groups, groups_long      the packed truth tables of terms
+use Rattle.std.proofs.Common.{◌≡◌, ◌≢◌, ℕ, zero, suc, ◌+◌, ◌-◌, ◌*◌, ◌/◌, ◌%◌, ◌^◌, ◌<◌, ◌≤◌, Bool, true, false, not, ◌&&◌, ◌||◌, inl, inr, List, [], ◌∷◌, length, map, take, get_or, slice_index, refl, sym, ap, ◌∙◌, arith, subst, eqb, min, max, bit_and, bit_or, ltb, zero-add, pow_pos, cond, eq-eqb, ne_eqb}
 use Rattle.std.specs.Int.{bit_at, bit_not, w64}
 use Rattle.std.specs.List.{All, AllZip, range_with_len, list_all, list_any}
-use Rattle.std.proofs.lemmas.Bool.{cases_lt, false≢true, lt-ltb, le-ltb}
+use Rattle.std.proofs.lemmas.Bool.{cases_eq, cases_lt, false≢true, lt-ltb, le-ltb}
 use Rattle.std.proofs.lemmas.List.{length-map, get_or-map}
 use Rattle.std.proofs.lemmas.List.Folds.{list_any_more}
 use Rattle.std.proofs.lemmas.List.FromFn.{get_or-map-range_with_len, get_or-range_with_len, length-map-range_with_len, length-range_with_len}
 use Rattle.std.proofs.lemmas.Slice.Zip.{AllZip-long}
-use Rattle.std.proofs.lemmas.Nat.{one_shl}
+use Rattle.std.proofs.lemmas.Nat.{and_le_r, one_shl}
 use Rattle.std.proofs.lemmas.Nat.Bits.{bit_at-lt, bit_at_and, bit_at_or, bit_at_not, bit_at_ones, bit_at_ones_above, bit_at_above}
 use Rattle.std.proofs.Math.Nat.{add-mul-div_right, div-eq_of_lt, div-lt_iff_lt-mul, mod-lt, mod-eq_of_lt, add-mul-mod_self_right}
 use Rattle.order_model.specs.declared.terms.Term.{Term}
@@ -25,8 +27,8 @@ use Rattle.order_model.proofs.PackedWords.{step_is}
 use Rattle.order_model.proofs.PointNumbers.{some_point}
 use Rattle.order_model.proofs.Tables.{same_from_table}
 use Rattle.pla_reader.specs.Masks.{Fits}
-use Rattle.truth_table.specs.Terms.{AreWordsAt, literal_at, literals_at, covers, covered}
-use Rattle.truth_table.proofs.Literals.{all_parts, literals_apart, product_is}
+use Rattle.truth_table.specs.Terms.{AddsTerm, AreGroupWords, literal_at, literals_at, covers, covered}
+use Rattle.truth_table.proofs.Literals.{all_parts, and_turned, literals_apart, product_is}
 
 -- ---- bits
 
@@ -120,28 +122,26 @@ literals_more term k x =
 
 -- ---- terms
 
--- one more term, with its output, its literals above and those of the word
-pub covers_apart : (term : Term) (output place b : ℕ) → b < 64 → covers term output (64 * place + b) ≡ (eqb (bit_at term.outs output) 1 && (literals_at term b 0 6 && literals_at term (64 * place) 6 10))
+-- a term's output, its literals within the word, and those above
+covers_apart : (term : Term) (output place b : ℕ) → b < 64 → covers term output (64 * place + b) ≡ (eqb (bit_at term.outs output) 1 && (literals_at term b 0 6 && literals_at term (64 * place) 6 10))
 covers_apart term output place b h = ap (λ z. eqb (bit_at term.outs output) 1 && z) (literals_apart term place b h)
 
 or_false : (b : Bool) → b ≡ (b || false)
 or_false true = refl
 or_false false = refl
 
--- the cover's value with one more term: by the term's output, its literals above, and those within the word
-pub covered_more : (terms : List Term) (i : ℕ) → i < length terms → (term : Term) → term ≡ get_or terms i term → (output place b : ℕ) → b < 64 →
-    covered (take (i + 1) terms) output (64 * place + b) ≡ (covered (take i terms) output (64 * place + b) || (eqb (bit_at term.outs output) 1 && (literals_at term b 0 6 && literals_at term (64 * place) 6 10)))
+-- the cover's value with one more term
+pub covered_more : (terms : List Term) (i : ℕ) → i < length terms → (term : Term) → term ≡ get_or terms i term → (output k : ℕ) → covered (take (i + 1) terms) output k ≡ (covered (take i terms) output k || covers term output k)
 unfolding covered
-covered_more terms i h term read output place b l =
-    list_any_more (λ t. covers t output (64 * place + b)) terms i term h
-    ∙ ap (λ z. list_any (λ t. covers t output (64 * place + b)) (take i terms) || z) (ap (λ t. covers t output (64 * place + b)) (sym read) ∙ covers_apart term output place b l)
+covered_more terms i h term read output k =
+    list_any_more (λ t. covers t output k) terms i term h ∙ ap (λ z. list_any (λ t. covers t output k) (take i terms) || z) (ap (λ t. covers t output k) (sym read))
 
 and_false : (a : Bool) → (a && false) ≡ false
 and_false true = refl
 and_false false = refl
 
 -- what a word's bit is where the term counts, and where it doesn't
-pub word_with : (word pattern b : ℕ) (old above low : Bool) (out : Bool) → eqb (bit_at word b) 1 ≡ old → eqb (bit_at pattern b) 1 ≡ low → out ≡ true → above ≡ true →
+word_with : (word pattern b : ℕ) (old above low : Bool) (out : Bool) → eqb (bit_at word b) 1 ≡ old → eqb (bit_at pattern b) 1 ≡ low → out ≡ true → above ≡ true →
     eqb (bit_at (bit_or word pattern) b) 1 ≡ (old || (out && (low && above)))
 word_with word pattern b old above low out w p o a =
     joined_bits word pattern b ∙ (λ i. w i || p i) ∙ sym ((λ i. old || (o i && (low && a i))) ∙ ap (λ z. old || z) (sym (turned low)))
@@ -150,11 +150,48 @@ word_with word pattern b old above low out w p o a =
     turned true = refl
     turned false = refl
 
-pub word_without_above : (word b : ℕ) (old above low out : Bool) → eqb (bit_at word b) 1 ≡ old → above ≡ false → eqb (bit_at word b) 1 ≡ (old || (out && (low && above)))
+word_without_above : (word b : ℕ) (old above low out : Bool) → eqb (bit_at word b) 1 ≡ old → above ≡ false → eqb (bit_at word b) 1 ≡ (old || (out && (low && above)))
 word_without_above word b old above low out w a = w ∙ or_false old ∙ sym (ap (λ z. old || (out && (low && z))) a ∙ ap (λ z. old || (out && z)) (and_false low) ∙ ap (λ z. old || z) (and_false out))
 
-pub word_without_output : (word b : ℕ) (old rest out : Bool) → eqb (bit_at word b) 1 ≡ old → out ≡ false → eqb (bit_at word b) 1 ≡ (old || (out && rest))
+word_without_output : (word b : ℕ) (old rest out : Bool) → eqb (bit_at word b) 1 ≡ old → out ≡ false → eqb (bit_at word b) 1 ≡ (old || (out && rest))
 word_without_output word b old rest out w o = w ∙ or_false old ∙ sym (ap (λ z. old || (z && rest)) o)
+
+-- a term whose literals above hold, and one whose don't
+pub term_added : (term : Term) (place points : ℕ) (before after : List ℕ) → ((b : ℕ) → b < 64 → eqb (bit_at points b) 1 ≡ literals_at term b 0 6) → literals_at term (64 * place) 6 10 ≡ true
+    → ((o : ℕ) → o < 16 → slice_index after o ≡ cond (eqb (bit_at term.outs o) 1) (bit_or (slice_index before o) points) (slice_index before o)) → AddsTerm term place before after
+term_added term place points before after p a added = λ o b s h.
+    let word : ℕ = slice_index before o in
+    let old : Bool = eqb (bit_at word b) 1 in
+    let low : Bool = literals_at term b 0 6 in
+    let above : Bool = literals_at term (64 * place) 6 10 in
+    let out : Bool = eqb (bit_at term.outs o) 1 in
+    ap (λ z. eqb (bit_at z b) 1) (added o s)
+    ∙ elim (cases_eq (bit_at term.outs o) 1) [
+      | inl one ↦ ap (λ q. eqb (bit_at (cond q (bit_or word points) word) b) 1) (eq-eqb (bit_at term.outs o) 1 one)
+          ∙ word_with word points b old above low out refl (p b h) (eq-eqb (bit_at term.outs o) 1 one) a
+      | inr none ↦ ap (λ q. eqb (bit_at (cond q (bit_or word points) word) b) 1) (ne_eqb (bit_at term.outs o) 1 none)
+          ∙ word_without_output word b old (low && above) out refl (ne_eqb (bit_at term.outs o) 1 none)
+    ]
+    ∙ ap (λ z. old || z) (sym (covers_apart term o place b h))
+
+pub term_left_out : (term : Term) (place : ℕ) (words : List ℕ) → literals_at term (64 * place) 6 10 ≡ false → AddsTerm term place words words
+term_left_out term place words a = λ o b s h.
+    let word : ℕ = slice_index words o in
+    let old : Bool = eqb (bit_at word b) 1 in
+    let low : Bool = literals_at term b 0 6 in
+    let above : Bool = literals_at term (64 * place) 6 10 in
+    let out : Bool = eqb (bit_at term.outs o) 1 in
+    word_without_above word b old above low out refl a ∙ ap (λ z. old || z) (sym (covers_apart term o place b h))
+
+-- one more place of a group, where the other places stay
+pub place_added : (term : Term) (group place : ℕ) (initial words new : List (List ℕ)) → ((p : ℕ) → p < place → AddsTerm term (32 * group + p) (get_or initial p []) (get_or words p []))
+    → ((p : ℕ) → place ≤ p → get_or words p [] ≡ get_or initial p []) → ((p : ℕ) → p ≢ place → get_or new p [] ≡ get_or words p []) → AddsTerm term (32 * group + place) (get_or words place []) (get_or new place [])
+    → (p : ℕ) → p < place + 1 → AddsTerm term (32 * group + p) (get_or initial p []) (get_or new p [])
+place_added term group place initial words new done left stays here p low = elim (cases_eq p place) [
+  | inl same ↦ subst (λ (k : ℕ). AddsTerm term (32 * group + k) (get_or initial k []) (get_or new k [])) (sym same)
+      (subst (λ (ws : List ℕ). AddsTerm term (32 * group + place) ws (get_or new place [])) (left place (omega arith)) here)
+  | inr other ↦ subst (λ (ws : List ℕ). AddsTerm term (32 * group + p) (get_or initial p []) ws) (sym (stays p other)) (done p (omega arith))
+]
 
 -- ---- truth tables
 
@@ -241,51 +278,74 @@ module _ (n m : ℕ) (terms : List Term) (words : List ℕ) (some : 1 ≤ n) (fe
   pub terms_packed : IsPacked n m words
   terms_packed = record { some_inputs = some; few_inputs = few; some_outputs = some_outputs; few_outputs = few_outputs; long = w.long; clean = clean }
 
--- ---- words by places
+-- ---- words by groups
 
--- so many zeros
+-- so many zeros, and so many rows of sixteen
 unfoldable pub zeros : ℕ → List ℕ
 zeros zero = []
 zeros (suc k) = 0 ∷ zeros k
 
-pub zeros_at : (k o : ℕ) → get_or (zeros k) o 0 ≡ 0
+unfoldable pub blank : ℕ → List (List ℕ)
+blank zero = []
+blank (suc k) = zeros 16 ∷ blank k
+
+zeros_at : (k o : ℕ) → get_or (zeros k) o 0 ≡ 0
 unfolding zeros
 zeros_at zero o = refl
 zeros_at (suc k) zero = refl
 zeros_at (suc k) (suc o) = zeros_at k o
 
-rows_at : (R : ℕ → List ℕ → Type 0) (xs : List ℕ) (ys : List (List ℕ)) → AllZip R xs ys → (j : ℕ) → j < length xs → R (get_or xs j 0) (get_or ys j [])
-rows_at R [] ys h j l = absurd (omega arith)
-rows_at R (x ∷ xs) [] h j l = absurd h
-rows_at R (x ∷ xs) (y ∷ ys) h zero l = h.0
-rows_at R (x ∷ xs) (y ∷ ys) h (suc j) l = rows_at R xs ys h.1 j (omega arith)
+pub blank_at : (k place o : ℕ) → get_or (get_or (blank k) place []) o 0 ≡ 0
+unfolding blank
+blank_at zero place o = refl
+blank_at (suc k) zero o = zeros_at 16 o
+blank_at (suc k) (suc place) o = blank_at k place o
 
--- what the words hold that are laid out from those of the places
-pub packed_columns : (n m : ℕ) (terms : List Term) (size : ℕ) (places : List ℕ) (columns : List (List ℕ)) (items : List ℕ) → 1 ≤ n → n ≤ 16 → 1 ≤ m → m ≤ 16 → All (Fits n m) terms → 1 ≤ size → size ≡ words_per_table n →
-    places ≡ range_with_len 0 size → AllZip (AreWordsAt n terms) places columns → length items ≡ m * size →
-    ((i : ℕ) → i < m * size → get_or items i 0 ≡ slice_index (get_or columns (i % size) []) (i / size)) →
-    IsPacked n m items × (tables_of n m items ≡ map (table n) (product_functions m (map (product_of n m) terms)))
-packed_columns n m terms size places columns items a b c d fit some s p z long laid = (terms_packed n m terms items a b c d fit w, terms_tables n m terms items a b c d fit w)
+groups_at : (R : ℕ → List (List ℕ) → Type 0) (xs : List ℕ) (ys : List (List (List ℕ))) → AllZip R xs ys → (j : ℕ) → j < length xs → R (get_or xs j 0) (get_or ys j [])
+groups_at R [] ys h j l = absurd (omega arith)
+groups_at R (x ∷ xs) [] h j l = absurd h
+groups_at R (x ∷ xs) (y ∷ ys) h zero l = h.0
+groups_at R (x ∷ xs) (y ∷ ys) h (suc j) l = groups_at R xs ys h.1 j (omega arith)
+
+-- what the words hold that are laid out from those of the groups
+pub packed_groups : (n m : ℕ) (terms : List Term) (size count mask : ℕ) (numbers : List ℕ) (groups : List (List (List ℕ))) (items : List ℕ) → 1 ≤ n → n ≤ 16 → 1 ≤ m → m ≤ 16 → All (Fits n m) terms → 1 ≤ size → size ≡ words_per_table n
+    → size ≤ 32 * count → mask < 2 ^ 64 → ((b : ℕ) → b < 64 → eqb (bit_at mask b) 1 ≡ ltb b (2 ^ n)) → numbers ≡ range_with_len 0 count → AllZip (AreGroupWords terms) numbers groups → length items ≡ m * size
+    → ((i : ℕ) → i < m * size → get_or items i 0 ≡ bit_and (slice_index (get_or (get_or groups (i % size / 32) []) (i % size % 32) []) (i / size)) mask)
+    → IsPacked n m items × (tables_of n m items ≡ map (table n) (product_functions m (map (product_of n m) terms)))
+packed_groups n m terms size count mask numbers groups items a b c d fit some s wide narrow masks p z long laid = (terms_packed n m terms items a b c d fit w, terms_tables n m terms items a b c d fit w)
   where
-    words_of : (i : ℕ) → i < m * size → AreWordsAt n terms (i % size) (get_or columns (i % size) [])
+    words_of : (i : ℕ) → i < m * size → AreGroupWords terms (i % size / 32) (get_or groups (i % size / 32) [])
     words_of i h =
         let r : i % size < size = mod-lt i some in
-        let l : length places ≡ size = ap length p ∙ length-range_with_len 0 size in
-        let at : get_or places (i % size) 0 ≡ i % size = ap (λ ps. get_or ps (i % size) 0) p ∙ get_or-range_with_len 0 size (i % size) 0 r ∙ zero-add (i % size) in
-        subst (λ (j : ℕ). AreWordsAt n terms j (get_or columns (i % size) [])) at (rows_at (AreWordsAt n terms) places columns z (i % size) (omega arith))
+        let q : i % size / 32 < count = omega arith in
+        let l : length numbers ≡ count = ap length p ∙ length-range_with_len 0 count in
+        let at : get_or numbers (i % size / 32) 0 ≡ i % size / 32 = ap (λ ps. get_or ps (i % size / 32) 0) p ∙ get_or-range_with_len 0 count (i % size / 32) 0 q ∙ zero-add (i % size / 32) in
+        subst (λ (j : ℕ). AreGroupWords terms j (get_or groups (i % size / 32) [])) at (groups_at (AreGroupWords terms) numbers groups z (i % size / 32) (omega arith))
 
     few : (i : ℕ) → i < m * size → i / size < 16
     few i h = let q : i / size < m = (div-lt_iff_lt-mul some).1 h in omega arith
 
+    bits_of : (i b : ℕ) → i < m * size → b < 64 → eqb (bit_at (get_or items i 0) b) 1 ≡ (ltb b (2 ^ n) && covered terms (i / size) (64 * (i % size) + b))
+    bits_of i b h l =
+        let place : ℕ = i % size in
+        let word : ℕ = slice_index (get_or (get_or groups (place / 32) []) (place % 32) []) (i / size) in
+        let whole : 32 * (place / 32) + place % 32 ≡ place = omega arith in
+        ap (λ v. eqb (bit_at v b) 1) (laid i h) ∙ masked_bits word mask b
+        ∙ (λ k. words_of i h (place % 32) (i / size) b (omega arith) (few i h) l k && masks b l k)
+        ∙ and_turned (covered terms (i / size) (64 * (32 * (place / 32) + place % 32) + b)) (ltb b (2 ^ n))
+        ∙ ap (λ v. ltb b (2 ^ n) && covered terms (i / size) (64 * v + b)) whole
+
     w : AreTermWords n m terms items
     w = record {
       long = long ∙ ap (λ k. m * k) s;
-      fits = λ i l. let h : i < m * size = omega arith in let f = (words_of i h (i / size) (few i h)).0 in let e = laid i h in omega arith;
-      bits = λ i b h l.
-          let inside : i < m * size = subst (λ (k : ℕ). i < m * k) (sym s) h in
-          ap (λ v. eqb (bit_at v b) 1) (laid i inside) ∙ (words_of i inside (i / size) (few i inside)).1 b l ∙ (λ k. ltb b (2 ^ n) && covered terms (i / s k) (64 * (i % s k) + b));
+      fits = λ i l.
+          let h : i < m * size = omega arith in
+          let e = laid i h in
+          let f = and_le_r (slice_index (get_or (get_or groups (i % size / 32) []) (i % size % 32) []) (i / size)) mask in
+          omega arith;
+      bits = λ i b h l. bits_of i b (subst (λ (k : ℕ). i < m * k) (sym s) h) l ∙ (λ k. ltb b (2 ^ n) && covered terms (i / s k) (64 * (i % s k) + b));
     }
 
--- there are as many as places
-pub columns_long : (n : ℕ) (terms : List Term) (size : ℕ) (places : List ℕ) (columns : List (List ℕ)) → places ≡ range_with_len 0 size → AllZip (AreWordsAt n terms) places columns → length columns ≡ size
-columns_long n terms size places columns p z = AllZip-long (AreWordsAt n terms) places columns z ∙ ap length p ∙ length-range_with_len 0 size
+-- there are as many as numbers
+pub groups_long : (terms : List Term) (count : ℕ) (numbers : List ℕ) (groups : List (List (List ℕ))) → numbers ≡ range_with_len 0 count → AllZip (AreGroupWords terms) numbers groups → length groups ≡ count
+groups_long terms count numbers groups p z = AllZip-long (AreGroupWords terms) numbers groups z ∙ ap length p ∙ length-range_with_len 0 count

@@ -2,8 +2,9 @@
 --     literal_at term k x      whether the term's literal of variable x, if it has one, holds at the point with number k
 --     literals_at term k a len      whether those of the variables from a on, len of them, do
 --     covered terms j k      whether some term of output j has only literals that hold there
---     AreWordsAt n terms place words      the words at a place of all tables
-use Rattle.std.specs.Prelude.{◌≡◌, ℕ, ◌+◌, ◌*◌, ◌^◌, ◌<◌, Bool, not, ◌&&◌, ◌||◌, ◌==◌, nat_lt, List, slice_index}
+--     AddsTerm term place before after      a term that is added to the words at a place of all tables
+--     AreGroupWords terms group words      the words of a group of 32 places of all tables
+use Rattle.std.specs.Prelude.{◌≡◌, ℕ, ◌+◌, ◌*◌, ◌<◌, Bool, not, ◌&&◌, ◌||◌, ◌==◌, List, [], get_or, slice_index}
 use Rattle.std.specs.Int.{bit_at}
 use Rattle.std.specs.List.{list_any, list_all, range_with_len}
 use Rattle.order_model.specs.declared.terms.Term.{Term}
@@ -24,6 +25,10 @@ covers term j k = (bit_at term.outs j == 1) && literals_at term k 0 16
 unfoldable pub covered : List Term → ℕ → ℕ → Bool
 covered terms j k = list_any (λ term. covers term j k) terms
 
--- the words at a place of packed tables of n variables, output by output: bit b is the value at the word's point b, and those from 2 ^ n on are 0
-abbrev pub AreWordsAt : ℕ → List Term → ℕ → List ℕ → Type 0
-AreWordsAt n terms place words = (o : ℕ) → o < 16 → (slice_index words o < 2 ^ 64) × ((b : ℕ) → b < 64 → (bit_at (slice_index words o) b == 1) ≡ (nat_lt b (2 ^ n) && covered terms o (64 * place + b)))
+-- a term is added to the words at a place of all tables, output by output: bit b is the value at the word's point b
+abbrev pub AddsTerm : Term → ℕ → List ℕ → List ℕ → Type 0
+AddsTerm term place before after = (o b : ℕ) → o < 16 → b < 64 → (bit_at (slice_index after o) b == 1) ≡ ((bit_at (slice_index before o) b == 1) || covers term o (64 * place + b))
+
+-- the words of a group of 32 places of all tables, place by place
+abbrev pub AreGroupWords : List Term → ℕ → List (List ℕ) → Type 0
+AreGroupWords terms group words = (place o b : ℕ) → place < 32 → o < 16 → b < 64 → (bit_at (slice_index (get_or words place []) o) b == 1) ≡ covered terms o (64 * (32 * group + place) + b)

@@ -1,13 +1,13 @@
 //! Words of 64 points from product terms.
 
-ghost use Rattle.std.specs.Prelude.{◌≡◌, ◌+◌, ◌*◌, ◌^◌, ◌<◌, ◌≤◌, ◌==◌, ℕ, length, map, nat_lt, IfOk, cond, bit_and, bit_or, get_or, slice_index, ◌/◌, ◌%◌, []};
+ghost use Rattle.std.specs.Prelude.{◌≡◌, ◌+◌, ◌*◌, ◌^◌, ◌<◌, ◌≤◌, ◌==◌, ℕ, false, length, map, nat_lt, IfOk, IsFalse, cond, bit_and, bit_or, get_or, slice_index, ◌/◌, ◌%◌, []};
 ghost use Rattle.std.specs.Int.{bit_at};
 ghost use Rattle.std.specs.List.{All};
 ghost use Rattle.order_model.specs.Functions.{table};
 ghost use Rattle.order_model.specs.Problems.{IsPacked, tables_of};
 ghost use Rattle.order_model.specs.Products.{product_functions, product_of};
 ghost use Rattle.pla_reader.specs.Masks.{Fits};
-ghost use Rattle.truth_table.specs.Terms.{AreWordsAt, covered, literal_at, literals_at};
+ghost use Rattle.truth_table.specs.Terms.{AddsTerm, AreGroupWords, literal_at, literals_at};
 
 use order_model::Term;
 use order_model::packed::{lower_half, words_per_table};
@@ -62,15 +62,36 @@ fn add_points(words: &mut [u64; 16], outs: u16, points: u64)
     }
 }
 
-/// The values of all outputs at the 64 points of a word.
-fn words_at(terms: &[Term], place: usize) -> [u64; 16]
-    requires { place < 1024 }
-    ensures { (o b : ℕ) → o < 16 → b < 64 → (bit_at (slice_index result o) b == 1) ≡ covered terms.now o (64 * place + b) }
+/// Whether a term's literals of the variables from 11 on leave it a point in a group of 32 words.
+fn may_hold(term: &Term, group: usize) -> bool
+    requires { group < 32 }
+    ensures { IsFalse result → (place : ℕ) → place < 32 → literals_at term.now (64 * (32 * group + place)) 6 10 ≡ false }
 {
-    let mut words = [0u64; 16];
+    group & (term.care >> 11) as usize == (term.value >> 11) as usize
+}
+
+/// Adds a term's points to the words of a group.
+fn add_term(words: &mut [[u64; 16]; 32], term: &Term, group: usize)
+    requires { group < 32 }
+    ensures { (place : ℕ) → place < 32 → AddsTerm term.now (32 * group + place) (get_or words.old place []) (get_or words.new place []) }
+{
+    let points = pattern(*term);
+    for place in 0..32 {
+        if holds_above(term, 32 * group + place) {
+            add_points(&mut words[place], term.outs, points);
+        }
+    }
+}
+
+/// The values of all outputs at the points of a group of 32 words: only terms that may hold there are asked word by word.
+fn group_words(terms: &[Term], group: usize) -> [[u64; 16]; 32]
+    requires { group < 32 }
+    ensures { AreGroupWords terms.now group result }
+{
+    let mut words = [[0u64; 16]; 32];
     for term in terms {
-        if holds_above(term, place) {
-            add_points(&mut words, term.outs, pattern(*term));
+        if may_hold(term, group) {
+            add_term(&mut words, term, group);
         }
     }
     words
@@ -88,46 +109,33 @@ fn points_mask(n: u8) -> u64
     }
 }
 
-/// Keeps the points of a mask in all words.
-#[inline(always)]
-fn keep_points(words: &mut [u64; 16], mask: u64)
-    ensures { (o : ℕ) → o < 16 → slice_index words.new o ≡ bit_and (slice_index words.old o) mask }
-{
-    for output in 0..16 {
-        words[output] &= mask;
-    }
-}
-
-/// The words at a place of all packed truth tables of n variables.
-fn table_words(n: u8, terms: &[Term], place: usize) -> [u64; 16]
-    requires few { n ≤ 16 }
-    requires inside { place < 1024 }
-    ensures { AreWordsAt n terms.now place result }
-{
-    let mut words = words_at(terms, place);
-    keep_points(&mut words, points_mask(n));
-    words
-}
-
-/// The words of m tables, one table behind the other.
-fn lay_out(alloc: Global, m: u8, columns: &[[u64; 16]]) -> Result<Vec<u64>, AllocError>
-    requires some { 1 ≤ length columns.now }
-    requires few { length columns.now ≤ 1024 }
+/// The words of m tables, one table behind the other, with the points of a mask alone.
+fn lay_out(
+    alloc: Global,
+    m: u8,
+    size: usize,
+    mask: u64,
+    groups: &[[[u64; 16]; 32]],
+) -> Result<Vec<u64>, AllocError>
+    requires some { 1 ≤ size }
+    requires few { size ≤ 1024 }
+    requires groups { size ≤ 32 * length groups.now }
     requires outputs { m ≤ 16 }
-    ensures long { IfOk result (λ v. length v.items ≡ m * length columns.now) }
-    ensures words { IfOk result (λ v. (i : ℕ) → i < m * length columns.now → slice_index v.items i ≡ slice_index (get_or columns.now (i % length columns.now) []) (i / length columns.now)) }
+    ensures long { IfOk result (λ v. length v.items ≡ m * size) }
+    ensures words { IfOk result (λ v. (i : ℕ) → i < m * size
+        → slice_index v.items i ≡ bit_and (slice_index (get_or (get_or groups.now (i % size / 32) []) (i % size % 32) []) (i / size)) mask) }
 {
-    let size = columns.len();
     let mut words = Vec::with_capacity(alloc, m as usize * size)?;
     for i in 0..m as usize * size {
-        words.push(columns[i % size][i / size])?;
+        let place = i % size;
+        words.push(groups[place / 32][place % 32][i / size] & mask)?;
     }
     Ok(words)
 }
 
-/// How many places are worth a thread, where so many terms are asked at each: with 65,536 questions a thread takes about its own time to start.
-fn least_places(terms: usize) -> usize {
-    if terms == 0 { 65_536 } else { 65_536 / terms }
+/// How many groups are worth a thread where so many terms are asked in each.
+fn least_groups(terms: usize) -> usize {
+    if terms == 0 { 8_192 } else { 8_192 / terms }
 }
 
 /// The packed truth tables of m outputs of terms of n inputs, one table behind the other.
@@ -147,16 +155,16 @@ pub(crate) fn packed_words<R: Threads + Sync>(
     ensures tables { IfOk result (λ v. tables_of n m v.items ≡ map (table n) (product_functions m (map (product_of n m) terms.now))) }
 {
     let size = words_per_table(n);
-    let columns: Vec<[u64; 16]> = (0..size)
+    let groups: Vec<[[u64; 16]; 32]> = (0..(size + 31) / 32)
         .into_par_iter()
-        .with_min_len(least_places(terms.len()))
+        .with_min_len(least_groups(terms.len()))
         .map(
-            |place: usize| -> [u64; 16]
-                requires { (n ≤ 16) × (place < 1024) }
-                ensures { AreWordsAt n terms.entry.now place result }
-            { table_words(n, terms, place) },
+            |group: usize| -> [[u64; 16]; 32]
+                requires { group < 32 }
+                ensures { AreGroupWords terms.entry.now group result }
+            { group_words(terms, group) },
         )
         .collect(rt, alloc)?;
-    let words = lay_out(alloc, m, &columns)?;
+    let words = lay_out(alloc, m, size, points_mask(n), &groups)?;
     Ok(words)
 }
