@@ -1,6 +1,6 @@
 -- Building the reduced diagram of some functions.
 --     KnowsFull s      a session knows all places of its store to be filled
---     Refuses store e, RefusesUnder order e      why a build gives no diagram: in a store, or in some store of an order
+--     Refuses store e, RefusesUnder order t e      why a build gives no diagram: in a store, or in some store of an order for truth tables
 --     functions_of cover, AreTablesOf cover t      the functions of a cover, and their truth tables
 --     IsForTables b t, IsForCover b cover      what a store was made for
 --     HasLevelCounts n F order d      a diagram has the level counts of the functions
@@ -28,11 +28,6 @@ abbrev pub Refuses : StoreId → BuildError → Type 0
 Refuses store (StoreFull s) = (s.store ≡ store) × KnowsFull s
 Refuses store OutOfMemory = Unit {0}
 
--- the same of some store of the order
-abbrev pub RefusesUnder : List ℕ → BuildError → Type 0
-RefusesUnder order (StoreFull s) = IsPlan s.store.plan × (order_of s.store.plan ≡ order) × KnowsFull s
-RefusesUnder order OutOfMemory = Unit {0}
-
 -- the functions of a cover (espresso(5), logical type f)
 abbrev pub functions_of : NamedCover → List Function
 functions_of cover = product_functions cover.outputs cover.products
@@ -47,15 +42,20 @@ abbrev pub AreRestrictions : PieceKind → Type 0
 AreRestrictions Restrictions = Unit {0}
 AreRestrictions (Products terms) = ⊥
 
--- the parts are made of terms that stand for the cover's products
-abbrev pub AreProductsOf : NamedCover → PieceKind → Type 0
-AreProductsOf cover Restrictions = ⊥
-AreProductsOf cover (Products terms) = map (product_of cover.inputs cover.outputs) terms.value ≡ cover.products
-
 -- the store was made for these truth tables, with restrictions as its parts
 pub record IsForTables (b : Plan) (t : TruthTables) : Type 0 where
   pub kind : AreRestrictions b.kind
   pub problem : b.problem.value ≡ t
+
+-- the same as of a store, of some store of the order that was made for the truth tables
+abbrev pub RefusesUnder : List ℕ → TruthTables → BuildError → Type 0
+RefusesUnder order t (StoreFull s) = IsPlan s.store.plan × IsForTables s.store.plan t × (order_of s.store.plan ≡ order) × KnowsFull s
+RefusesUnder order t OutOfMemory = Unit {0}
+
+-- the parts are made of terms that stand for the cover's products
+abbrev pub AreProductsOf : NamedCover → PieceKind → Type 0
+AreProductsOf cover Restrictions = ⊥
+AreProductsOf cover (Products terms) = map (product_of cover.inputs cover.outputs) terms.value ≡ cover.products
 
 -- the store was made for a problem of the cover's numbers, with parts of the cover's terms
 pub record IsForCover (b : Plan) (cover : NamedCover) : Type 0 where

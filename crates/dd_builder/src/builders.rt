@@ -216,7 +216,7 @@ pub fn build_tables<R: Threads + Sync, G: Gate>(
     ensures diagram { IfOk result (λ d. Represents tables.now.inputs (functions tables.now) order.now d.graph) }
     ensures reduced { IfOk result (λ d. IsReduced d.graph) }
     ensures levels { IfOk result (λ d. HasLevelCounts tables.now.inputs (functions tables.now) order.now d.graph) }
-    ensures refused { IfErr result (RefusesUnder order.now) }
+    ensures refused { IfErr result (RefusesUnder order.now tables.now) }
 {
     let Ok((store, session)) = tables_store(alloc, tables, order) else {
         return Err(BuildError::OutOfMemory);
@@ -247,14 +247,15 @@ pub fn build_from<R: Threads + Sync, G: Gate>(
     ensures diagram { IfOk result (λ d. Represents cover.now.inputs (functions_of cover.now) order.now d.graph) }
     ensures reduced { IfOk result (λ d. IsReduced d.graph) }
     ensures levels { IfOk result (λ d. HasLevelCounts cover.now.inputs (functions_of cover.now) order.now d.graph) }
-    ensures refused { IfErr result (RefusesUnder order.now) }
+    ensures refused { IfErr result (RefusesUnder order.now tables.now) }
 {
     let _plan = store.order();
     some_diagram_has_the_level_counts();
     truth_tables_keep_functions();
     match from_cover(rt, alloc, store, session, cover, workers, gate) {
         Err(BuildError::StoreFull(_)) => build_tables(rt, alloc, tables, order, workers, gate),
-        built => built,
+        Err(BuildError::OutOfMemory) => Err(BuildError::OutOfMemory),
+        Ok(diagram) => Ok(diagram),
     }
 }
 
@@ -281,7 +282,7 @@ pub fn build<R: Threads + Sync, G: Gate>(
     ensures diagram { IfOk result (λ d. Represents cover.now.inputs (functions_of cover.now) order.now d.graph) }
     ensures reduced { IfOk result (λ d. IsReduced d.graph) }
     ensures levels { IfOk result (λ d. HasLevelCounts cover.now.inputs (functions_of cover.now) order.now d.graph) }
-    ensures refused { IfErr result (RefusesUnder order.now) }
+    ensures refused { IfErr result (RefusesUnder order.now tables.now) }
 {
     if has_many_terms(cover) {
         let _order = order.variables();

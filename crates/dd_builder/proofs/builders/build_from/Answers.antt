@@ -19,15 +19,14 @@ returns-in-Err-StoreFull-clause-levels g c =
     c.some_diagram_has_the_level_counts.ensures.reduced c.args.cover.now.inputs (functions_of c.args.cover.now) c.args.order.now d.graph is
     (tables_diagram c.truth_tables_keep_functions.ensures.same c.args.cover.now c.args.tables.now c.args.order.now d.graph c.requires.tables h) r)
 
-pub returns-in_default-2-clause-diagram : goal.returns-in_default-2-clause-diagram
-returns-in_default-2-clause-diagram g c = ok_same _ _ c.from_cover.result c.from_cover.ensures.diagram (λ d h.
-    store_diagram c.args.store.plan c.args.cover.now c.args.order.now d.graph c.order-plan.ensures.plan c.requires.cover c.requires.order h)
+pub returns-clause-diagram : goal.returns-clause-diagram
+returns-clause-diagram g c =
+    store_diagram c.args.store.plan c.args.cover.now c.args.order.now c.in-Ok.diagram.graph c.order-plan.ensures.plan c.requires.cover c.requires.order c.in-Ok.ensures.diagram
 
-pub returns-in_default-2-clause-levels : goal.returns-in_default-2-clause-levels
-returns-in_default-2-clause-levels g c =
+pub returns-clause-levels : goal.returns-clause-levels
+returns-clause-levels g c =
     let plan = c.order-plan.ensures.plan in
     let n : length (order_of c.args.store.plan) ≡ c.args.cover.now.inputs = sym plan.inputs ∙ c.requires.cover.inputs in
     let is : IsOrder c.args.cover.now.inputs c.args.order.now = subst (λ xs. IsOrder c.args.cover.now.inputs xs) c.requires.order (subst (λ k. IsOrder k (order_of c.args.store.plan)) n plan.order.order) in
-    ok_both _ _ _ c.from_cover.result c.from_cover.ensures.diagram c.from_cover.ensures.reduced (λ d h r.
-    c.some_diagram_has_the_level_counts.ensures.reduced c.args.cover.now.inputs (functions_of c.args.cover.now) c.args.order.now d.graph is
-    (store_diagram c.args.store.plan c.args.cover.now c.args.order.now d.graph plan c.requires.cover c.requires.order h) r)
+    c.some_diagram_has_the_level_counts.ensures.reduced c.args.cover.now.inputs (functions_of c.args.cover.now) c.args.order.now c.in-Ok.diagram.graph is
+    (store_diagram c.args.store.plan c.args.cover.now c.args.order.now c.in-Ok.diagram.graph plan c.requires.cover c.requires.order c.in-Ok.ensures.diagram) c.in-Ok.ensures.reduced
