@@ -19,9 +19,12 @@ part_made s store q id same piece known level = record { id = id; piece = piece;
 pub parts_follow : (s s' : Knowledge) → Follows s s' → HasAllParts s → HasAllParts s'
 parts_follow s s' f h q low = part_follows s s' q f (h q (subst (λ (z : StoreId). q < z.plan.roots) f.store low))
 
--- a part is published
-pub part_there : (s : Knowledge) (store : StoreId) (q : ℕ) → s.store ≡ store → HasAllParts s → q < store.plan.roots → slice_index s.pieces q ≡ 0 → ⊥
-part_there s store q same h low empty = let p = (h q (subst (λ (z : StoreId). q < z.plan.roots) (sym same) low)).piece in omega arith
+-- a part stays published
+pub part_there : (s s' : Knowledge) (store : StoreId) (q : ℕ) → s.store ≡ store → Follows s s' → HasAllParts s → q < store.plan.roots → slice_index s'.pieces q ≡ 0 → ⊥
+part_there s s' store q same f h low empty =
+    let p = (h q (subst (λ (z : StoreId). q < z.plan.roots) (sym same) low)).piece in
+    let stays : slice_index s'.pieces q ≡ slice_index s.pieces q = f.pieces q (λ z. omega arith) in
+    omega arith
 
 -- the id that is collected stands where the part does
 pub part_found : (s s' : Knowledge) (store : StoreId) (q id : ℕ) → s.store ≡ store → Follows s s' → HasAllParts s → q < store.plan.roots → HasPiece s' q id → part_level store.plan ≤ depth_in s' id

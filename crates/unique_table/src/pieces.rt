@@ -29,7 +29,7 @@ impl Store {
         ensures follows { Follows session.old session.new }
         ensures stored { IfSome result (λ id. HasPiece session.new piece id) }
         ensures function { IfSome result (λ id. Means session.new id (piece_function self.now.plan piece)) }
-        ensures none { IfNone result (slice_index session.old.pieces piece ≡ 0) }
+        ensures none { IfNone result (slice_index session.new.pieces piece ≡ 0) }
         ensures steps { session.new.steps ≡ session.old.steps + 1 }
         ensures writes { session.new.writes ≡ session.old.writes }
     {
