@@ -101,6 +101,21 @@ fn tables_size<R: Threads + Sync, G: Gate>(
     Ok(size_of(from_tables(rt, alloc, store, session, &tables, workers, gate)))
 }
 
+// How many nodes `build` gives.
+fn built_size<R: Threads + Sync>(
+    rt: &R,
+    alloc: Global,
+    text: &[u8],
+    workers: Workers,
+) -> Result<Option<usize>, Fail> {
+    let Input {
+        cover,
+        tables,
+        order,
+    } = read_input(rt, alloc, text)?;
+    Ok(size_of(build(rt, alloc, &cover, &tables, &order, workers, &NoGate)))
+}
+
 #[test]
 fn builds_covers_under_their_file_orders(rt: HostRuntime) -> Result<(), Fail> {
     for count in [1u8, 2, 64] {
@@ -117,6 +132,19 @@ fn builds_covers_under_their_file_orders(rt: HostRuntime) -> Result<(), Fail> {
         assert_eq!(rt; from_terms, Some(16));
         let from_tables = tables_size(&rt, rt.alloc(), SIXTEEN_ONES, workers, &NoGate)?;
         assert_eq!(rt; from_tables, Some(16));
+    }
+    Ok(())
+}
+
+// A cover of three inputs has many terms as soon as it has one.
+#[test]
+fn builds_of_few_terms_and_of_many(rt: HostRuntime) -> Result<(), Fail> {
+    let Some(workers) = Workers::new(2) else {
+        panic!(rt; "no workers")
+    };
+    for (text, size) in COVERS {
+        let built = built_size(&rt, rt.alloc(), text, workers)?;
+        assert_eq!(rt; built, Some(size), "{text:?}");
     }
     Ok(())
 }
