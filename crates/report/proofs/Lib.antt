@@ -5,4 +5,5 @@ pub mod Reported
 pub mod Certified
 pub mod Optima
 pub mod Delivered
+pub mod Determined
 pub mod Checked

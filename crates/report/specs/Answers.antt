@@ -2,8 +2,9 @@
 --     PairsAre above n r      what the list of pairs says: none where there is no list
 --     IsAnswer cover P text, IsCertificate cover P text      the text of the answer, and that of its certificate
 --     IsTextOf plan cover text, IsCertificateOf above cover text      what a run writes of a cover: its report, and its certificate
+--     AskTheSame plan other      they differ in the number of workers alone
 --     Hinders plan cover fault      why it writes nothing of it
-use Rattle.std.specs.Prelude.{◌≡◌, ℕ, Bool, true, false, List, [], Option, Some, None, Result, Ok, Err, String, string_bytes}
+use Rattle.std.specs.Prelude.{◌≡◌, ℕ, Bool, true, false, List, [], Option, Some, None, Result, Ok, Err, String, option_map, string_bytes}
 use Rattle.std.specs.Borrow.{Bor}
 use Rattle.std.specs.Global.{Global}
 use Rattle.order_model.specs.Pairs.{Pair, IsFirstOrder}
@@ -53,6 +54,15 @@ IsText false above cover text = (kept : KeptPairs) × PairsAre above cover.input
 -- what a run writes of a cover: with `count` the two lines for the file order, else the answer
 abbrev pub IsTextOf : RunPlan → NamedCover → List ℕ → Type 0
 IsTextOf plan cover text = IsText plan.count plan.above cover text
+
+-- the bytes of a list of pairs, if there is one
+abbrev pub bytes_of : Option (Bor (List ℕ)) → Option (List ℕ)
+bytes_of above = option_map (λ s. s.now) above
+
+-- two plans that differ in the number of workers alone
+pub record AskTheSame (plan other : RunPlan) : Type 0 where
+  pub count : plan.count ≡ other.count
+  pub above : bytes_of plan.above ≡ bytes_of other.above
 
 -- the certificate for the pairs of a list
 abbrev pub IsCertificateOf : Option (Bor (List ℕ)) → NamedCover → List ℕ → Type 0

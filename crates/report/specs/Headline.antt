@@ -5,6 +5,7 @@
 -- `optimum` of `run`);
 -- and each certificate that the checker accepts states truly that its order has its total and none has fewer (`AcceptsTruly`,
 -- the clause `truth` of `run_check`). Neither clause speaks of the number of workers or of a schedule: both hold for each.
+-- What is printed is the same for each (the law `texts_are_determined`).
 -- With pairs, "any order" and "first" range over the orders that keep them.
 use Rattle.std.specs.Prelude.{◌≡◌, ◌≢◌, ℕ, ◌≤◌, false, List, ◌++◌, length, sum, Option, Ok}
 use Rattle.std.specs.Io.KnownBytes.{Appends}

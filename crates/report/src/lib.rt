@@ -5,6 +5,7 @@ mod answers;
 mod certificates;
 mod check_program;
 mod checks;
+pub mod laws;
 mod messages;
 mod outcome;
 mod program;
