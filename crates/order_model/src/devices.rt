@@ -1,7 +1,7 @@
 //! Readers and writers that count their failed calls.
 
 ghost use Rattle.std.specs.Prelude.{◌≡◌, ◌+◌, ◌^◌, ◌<◌, ◌≤◌, ◌&&◌, ◌==◌, ℕ, List, None, Option, is_ok, is_err, if◌then◌else◌, IfSome, IfOk, IfErr, OnOk, OnErr, IsErrOf, take, vec_len};
-ghost use Rattle.std.specs.Io.KnownBytes.{ReadConsumes, WriteAppends, Appends};
+ghost use Rattle.std.specs.Io.KnownBytes.{ReadConsumes, WriteAppends, Appends, IsAtEnd};
 ghost use Rattle.std.specs.Io.{ReadsAtMost, WritesAtMost};
 ghost use Rattle.order_model.specs.Reading.{Refuses};
 ghost use Rattle.order_model.specs.Writing.{has_failed};
@@ -9,6 +9,7 @@ ghost use Rattle.order_model.specs.Writing.{has_failed};
 use std::alloc::Global;
 use std::io;
 use std::io::{Read, Write};
+use std::marker::Model;
 
 /// A reader with a count of its failed calls.
 pub trait CountedRead {
@@ -47,10 +48,20 @@ pub struct Counting<T> {
     failed: u64,
 }
 
+impl<T> Model for Counting<T> {
+    ghost use Rattle.order_model.specs.Counted.{Counted, counted_code};
+
+    ghost Value = { Counted T };
+
+    ghost coded = { counted_code T.code };
+
+    ghost view = { λ c. record { device = c.inner; failed = c.failed } };
+}
+
 impl<T> Counting<T> {
     /// The device, none of whose calls has failed so far.
     pub fn new(inner: T) -> Counting<T>
-        ensures inner { result.inner ≡ inner }
+        ensures device { result.device ≡ inner }
         ensures failed { result.failed ≡ 0 }
     {
         Counting { inner, failed: 0 }
@@ -58,7 +69,7 @@ impl<T> Counting<T> {
 
     /// The reader or writer itself.
     pub fn into_inner(self) -> T
-        ensures { result ≡ self.inner }
+        ensures { result ≡ self.device }
     {
         let Counting { inner, failed: _ } = self;
         inner
@@ -66,7 +77,7 @@ impl<T> Counting<T> {
 }
 
 impl<T: Read> CountedRead for Counting<T> {
-    ghost remaining = { λ c. T.remaining c.inner };
+    ghost remaining = { λ c. T.remaining c.device };
 
     ghost failures = { λ c. c.failed };
 
@@ -80,7 +91,7 @@ impl<T: Read> CountedRead for Counting<T> {
 }
 
 impl<T: Write> CountedWrite for Counting<T> {
-    ghost contents = { λ c. T.contents c.inner };
+    ghost contents = { λ c. T.contents c.device };
 
     ghost failures = { λ c. c.failed };
 
@@ -118,6 +129,7 @@ pub fn read_all<R: CountedRead>(
     requires calls { R.failures device.old < 2 ^ 32 }
     ensures bytes { IfOk result (λ v. IfSome (R.remaining device.old) (λ xs. v.items ≡ xs)) }
     ensures fits { IfOk result (λ v. vec_len v ≤ limit) }
+    ensures end { OnOk result (IsAtEnd (R.remaining device.new)) }
     ensures ok { OnOk result (R.failures device.new ≡ R.failures device.old) }
     ensures err { IfErr result (Refuses limit (R.remaining device.old) (R.failures device.old) (R.failures device.new)) }
 {

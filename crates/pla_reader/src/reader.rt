@@ -1,6 +1,7 @@
 //! Covers from devices.
 
-ghost use Rattle.std.specs.Prelude.{◌≡◌, ◌+◌, ◌^◌, ◌<◌, IfOk, IfSome};
+ghost use Rattle.std.specs.Prelude.{◌≡◌, ◌+◌, ◌^◌, ◌<◌, IfOk, IfSome, OnOk};
+ghost use Rattle.std.specs.Io.KnownBytes.{IsAtEnd};
 ghost use Rattle.pla_reader.specs.Covers.{IsCover};
 ghost use Rattle.pla_reader.specs.Answering.{Answers, IsAnswer, failed_calls};
 
@@ -43,6 +44,7 @@ pub fn read_cover<R: CountedRead>(alloc: Global, reader: &mut R) -> Result<Cover
     requires { R.failures reader.old < 2 ^ 32 }
     ensures answer { IfSome (R.remaining reader.old) (λ bytes. IsAnswer bytes result) }
     ensures formed { IfOk result IsCover }
+    ensures end { OnOk result (IsAtEnd (R.remaining reader.new)) }
     ensures calls { R.failures reader.new ≡ R.failures reader.old + failed_calls result }
 {
     match read_all(alloc, reader, 16_777_216) {
