@@ -7,3 +7,4 @@ pub mod Optima
 pub mod Delivered
 pub mod Determined
 pub mod Checked
+pub mod OneVerdict

@@ -55,14 +55,22 @@ HasVerdict cover cert Done line = IsGood cover.inputs (functions_of cover) cert 
 HasVerdict cover cert Invalid line = (reason : Reason) × IsFirstReason cover.inputs (functions_of cover) cert reason × (line ≡ invalid_line reason)
 HasVerdict cover cert (Refused fault) line = ⊥
 
+-- bytes within the limit that are read as a cover
+abbrev pub ReadsWithin : List ℕ → NamedCover → Type 0
+ReadsWithin file cover = (length file ≤ longest) × Reads file cover
+
+-- bytes within the limit that spell a certificate
+abbrev pub SpellsWithin : List ℕ → Certificate → Type 0
+SpellsWithin text cert = (length text ≤ most_bytes) × Spells text cert
+
 -- what the bytes of the file and of the certificate lead to: the file's fault, else the certificate's, else the line of the verdict
 abbrev pub Judge : List ℕ → List ℕ → Outcome → List ℕ → Type 0
 Judge file text (Refused (Line line fault)) written = (length file ≤ longest) × FirstFault file line fault × (written ≡ [])
 Judge file text (Refused TooLong) written = (longest < length file) × (written ≡ [])
-Judge file text (Refused (CertificateLine line fault)) written = ((cover : NamedCover) × Reads file cover) × (length text ≤ most_bytes) × CertificateFault text line fault × (written ≡ [])
-Judge file text (Refused CertificateTooLong) written = ((cover : NamedCover) × Reads file cover) × (most_bytes < length text) × (written ≡ [])
+Judge file text (Refused (CertificateLine line fault)) written = ((cover : NamedCover) × ReadsWithin file cover) × (length text ≤ most_bytes) × CertificateFault text line fault × (written ≡ [])
+Judge file text (Refused CertificateTooLong) written = ((cover : NamedCover) × ReadsWithin file cover) × (most_bytes < length text) × (written ≡ [])
 Judge file text (Refused fault) written = ⊥
-Judge file text outcome written = (cover : NamedCover) × (cert : Certificate) × Reads file cover × Spells text cert × HasVerdict cover cert outcome written
+Judge file text outcome written = (cover : NamedCover) × (cert : Certificate) × ReadsWithin file cover × SpellsWithin text cert × HasVerdict cover cert outcome written
 
 -- what a check writes: what the bytes lead to; nothing where it is out of memory; a beginning of the line after a failed call
 abbrev pub ChecksAs : List ℕ → List ℕ → Option (List ℕ) → Option (List ℕ) → Outcome → Type 0

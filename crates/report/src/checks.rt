@@ -1,9 +1,8 @@
 //! Checks of certificates, over any readers and writer.
 
 ghost use Rattle.std.specs.Prelude.{◌≡◌, ◌+◌, ◌<◌, ◌^◌, IfOk, IfErr, IfSome, string_bytes};
-ghost use Rattle.certificate.specs.Faults.{Spells};
 ghost use Rattle.report.specs.Headline.{AcceptsTruly};
-ghost use Rattle.report.specs.Judging.{ChecksAs, HasVerdict, IsRefusedText, IsTextFault, Verdicts, bytes_fault, failed_reads};
+ghost use Rattle.report.specs.Judging.{ChecksAs, HasVerdict, IsRefusedText, IsTextFault, SpellsWithin, Verdicts, bytes_fault, failed_reads};
 ghost use Rattle.report.specs.Runs.{FailsOnlyByDevice};
 
 use crate::outcome::{Fault, Outcome, fault_of, fault_of_certificate};
@@ -33,7 +32,7 @@ fn fault_of_bytes(refused: Refused) -> Fault
 /// Reads a certificate to its end, and decides what it says.
 fn read_certificate<C: CountedRead>(alloc: Global, cert: &mut C) -> Result<Certificate, Fault>
     requires { C.failures cert.old < 2 ^ 32 }
-    ensures cert { IfOk result (λ c. IfSome (C.remaining cert.old) (λ text. Spells text c)) }
+    ensures cert { IfOk result (λ c. IfSome (C.remaining cert.old) (λ text. SpellsWithin text c)) }
     ensures refused { IfErr result (λ fault. IfSome (C.remaining cert.old) (λ text. IsRefusedText text fault)) }
     ensures faults { IfErr result IsTextFault }
     ensures calls { C.failures cert.new ≡ C.failures cert.old + failed_reads result }
