@@ -1,5 +1,8 @@
 #!/usr/bin/env python3
-"""Writes the PLA files of this folder that are made by rule. Run it in this folder; it needs no argument."""
+"""Writes the PLA files of this folder that are made by rule, and gives the worked cases copies of all files,
+reports and certificates here. Run it in this folder; it needs no argument."""
+import os
+import shutil
 from itertools import product
 
 
@@ -84,6 +87,12 @@ def parity(count):
           [f"x{i}" for i in range(count)], ["odd"], list(minterms(count, lambda bits: [sum(bits) % 2])))
 
 
+def copy_to_worked_cases():
+    for name in os.listdir():
+        if name.endswith((".pla", ".report", ".cert")):
+            shutil.copy(name, "../crates/worked_cases/data/examples")
+
+
 if __name__ == "__main__":
     adder(4)
     comparator(4)
@@ -94,3 +103,4 @@ if __name__ == "__main__":
     products(3)
     products(8)
     parity(6)
+    copy_to_worked_cases()

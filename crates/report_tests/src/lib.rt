@@ -1,13 +1,9 @@
-//! Tests of runs, checks and both programs.
+//! Tests of runs and checks over memory and over devices that fail.
 #![tactic(auto)]
 
-#[cfg(test)]
-mod cases;
 #[cfg(test)]
 mod checks;
 #[cfg(test)]
 mod devices;
-#[cfg(test)]
-mod programs;
 #[cfg(test)]
 mod runs;

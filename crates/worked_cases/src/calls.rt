@@ -1,0 +1,134 @@
+//! Calls of both programs, and what is seen then.
+
+use crate::cases::{Case, Place};
+use anyhow::{Result, bail};
+use order_model::Counting;
+use report::{minorder, ordercheck};
+use std::fs;
+use std::rt::Files;
+use std::thread::Threads;
+
+/// How many calls were made, and how many of them did something else than their case says.
+#[derive(Default, Drop)]
+pub struct Tally {
+    pub calls: u32,
+    pub differ: u32,
+}
+
+/// What a call ended with and wrote.
+#[derive(Drop)]
+struct Seen {
+    status: u8,
+    output: Vec<u8>,
+    errors: Vec<u8>,
+}
+
+/// Calls the program that the line begins with, with the words behind it.
+fn call<R: Files + AllocGlobal + Threads + Sync>(rt: &R, line: &str) -> Result<Seen> {
+    let words: Vec<&str> = line.split(' ').collect(rt.alloc())?;
+    let mut output = Counting::new(Vec::<u8>::new(rt.alloc()));
+    let mut errors = Counting::new(Vec::<u8>::new(rt.alloc()));
+    let status = match words.as_slice() {
+        ["minorder", words @ ..] => minorder(rt, words, &mut output, &mut errors),
+        ["ordercheck", words @ ..] => ordercheck(rt, words, &mut output, &mut errors),
+        _ => bail!("no such program"),
+    };
+    Ok(Seen {
+        status,
+        output: output.into_inner(),
+        errors: errors.into_inner(),
+    })
+}
+
+/// Puts the case's files there, each cut at the length.
+fn put_files<R: Files>(rt: &R, case: &Case<'_>, length: usize) -> Result<()> {
+    for text in case.texts.iter() {
+        if let Place::File(name) = text.place {
+            fs::write(rt, name, text.bytes.get(..length).unwrap_or(&text.bytes))?;
+        }
+    }
+    Ok(())
+}
+
+/// Removes the files that the case names.
+fn remove_files<R: Files>(rt: &R, case: &Case<'_>) {
+    for text in case.texts.iter() {
+        if let Place::File(name) | Place::After(name) | Place::Absent(name) = text.place {
+            let _ = fs::remove_file(rt, name);
+        }
+    }
+}
+
+/// Whether a stream got what the case says: a text of clap's, the case's text, or else nothing.
+fn agrees(case: &Case<'_>, stream: Place<'_>, got: &[u8]) -> bool {
+    if case.by_clap == Some(stream) {
+        return !got.is_empty();
+    }
+    match case.texts.iter().find(|text| text.place == stream) {
+        Some(text) => got == text.bytes.as_slice(),
+        None => got.is_empty(),
+    }
+}
+
+/// Whether the files are as the case says.
+fn has_files<R: Files + AllocGlobal>(rt: &R, case: &Case<'_>) -> Result<bool> {
+    for text in case.texts.iter() {
+        let is_well = match text.place {
+            Place::After(name) => {
+                fs::read(rt, name).is_ok_and(|bytes| bytes.as_slice() == text.bytes.as_slice())
+            }
+            Place::Absent(name) => !fs::exists(rt, name)?,
+            _ => true,
+        };
+        if !is_well {
+            return Ok(false);
+        }
+    }
+    Ok(true)
+}
+
+/// What is other than the case says, if something is.
+fn difference<R: Files + AllocGlobal>(
+    rt: &R,
+    case: &Case<'_>,
+    seen: &Seen,
+) -> Result<Option<&'static str>> {
+    Ok(if seen.status != case.status {
+        Some("status")
+    } else if !agrees(case, Place::Output, &seen.output) {
+        Some("standard output")
+    } else if !agrees(case, Place::Errors, &seen.errors) {
+        Some("standard error")
+    } else if !has_files(rt, case)? {
+        Some("a file")
+    } else {
+        None
+    })
+}
+
+/// Makes each call of the case, and prints a line for each that does something else than the case says.
+pub fn carry_out<R: Files + AllocGlobal + Threads + Sync + Print>(
+    rt: &R,
+    case: &Case<'_>,
+    tally: &mut Tally,
+) -> Result<()> {
+    let (first, last) = case.lengths;
+    for length in first..=last {
+        for line in case.calls.iter() {
+            put_files(rt, case, length)?;
+            let seen = call(rt, line)?;
+            tally.calls = tally.calls.saturating_add(1);
+            if let Some(part) = difference(rt, case, &seen)? {
+                tally.differ = tally.differ.saturating_add(1);
+                let output = seen.output.escape_ascii();
+                let errors = seen.errors.escape_ascii();
+                println!(rt;
+                    "{}: {line}: {part} differs: status {}, output {output}, errors {errors}",
+                    case.name, seen.status
+                )?;
+            }
+            remove_files(rt, case);
+        }
+    }
+    Ok(())
+}

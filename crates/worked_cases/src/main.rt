@@ -1,0 +1,28 @@
+//! Carries out worked cases of both programs, and tells of each call that does something else than its case says.
+//!
+//! The words are a folder, which is gone into, and the names of files of cases there. README.md in data/ has their format.
+#![tactic(auto)]
+
+mod calls;
+mod cases;
+
+use anyhow::{Context, Result, ensure};
+use calls::{Tally, carry_out};
+use cases::read_cases;
+use std::{env, fs};
+
+fn main(rt: HostRuntime) -> Result<()> {
+    let mut words = env::args(&rt)?.skip(1);
+    let folder = words.next().context("the words are FOLDER FILE..")?;
+    env::set_current_dir(&rt, folder)?;
+    let mut tally = Tally::default();
+    for file in words {
+        let text = fs::read_to_string(&rt, file.as_str()).context(format_args!("reading {file}"))?;
+        for case in read_cases(&rt, text.as_str())? {
+            carry_out(&rt, &case, &mut tally)?;
+        }
+    }
+    println!(rt; "{} calls, {} differ", tally.calls, tally.differ)?;
+    ensure!(tally.differ == 0, "not all as worked out");
+    Ok(())
+}
