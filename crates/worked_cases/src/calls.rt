@@ -1,10 +1,11 @@
 //! Calls of both programs, and what is seen then.
 
 use crate::cases::{Case, Place};
-use anyhow::{Result, bail};
+use anyhow::{Context, Result, bail};
 use order_model::Counting;
 use report::{minorder, ordercheck};
-use std::fs;
+use std::fs::{self, File};
+use std::io::Write;
 use std::rt::Files;
 use std::thread::Threads;
 
@@ -40,11 +41,14 @@ fn call<R: Files + AllocGlobal + Threads + Sync>(rt: &R, line: &str) -> Result<S
     })
 }
 
-/// Puts the case's files there, each cut at the length.
+/// Puts the case's files there, each cut at the length. None of them may be there yet.
 fn put_files<R: Files>(rt: &R, case: &Case<'_>, length: usize) -> Result<()> {
     for text in case.texts.iter() {
         if let Place::File(name) = text.place {
-            fs::write(rt, name, text.bytes.get(..length).unwrap_or(&text.bytes))?;
+            let bytes = text.bytes.get(..length).unwrap_or(&text.bytes);
+            File::create_new(rt, name)
+                .context(format_args!("putting {name} there"))?
+                .write_all(bytes)?;
         }
     }
     Ok(())
