@@ -1,10 +1,9 @@
 #!/usr/bin/env python3
 """make.py [--minorder PROGRAM] [--ordercheck PROGRAM] [--into FOLDER]
 
-Makes the table of optima anew from functions.py: optima/optima.csv, docs/OPTIMA.md and its pictures, and optima/kept with the certificates
-below 20 KB, their PLA files and the cases that the gate has ordercheck judge. Each certificate is judged here too. The programs are
-./minorder and ./ordercheck of this repository where none are named. With --into it is all written into another folder: a second run that
-finds the same is the test (`diff -r`).
+Makes the table of optima anew from functions.py: optima/optima.csv, docs/OPTIMA.md and its pictures, and among the worked cases that the gate
+carries out the certificates below 20 KB with their PLA files. Each certificate is judged here too. The programs are ./minorder and ./ordercheck of
+this repository where none are named. With --into it is all written into another folder: a second run that finds the same is the test (`diff -r`).
 """
 import argparse
 import csv
@@ -21,6 +20,7 @@ import pictures
 HERE = os.path.dirname(os.path.abspath(__file__))
 TOP = os.path.dirname(HERE)
 KEPT = 20_000
+CASES = "crates/worked_cases/data"
 COLUMNS = ["family", "name", "inputs", "outputs", "file order nodes", "sifted nodes", "optimum", "first optimal order", "level counts", "listed sets", "sha256 of the PLA file", "sha256 of the certificate"]
 ABOUT = """# True optima
 
@@ -32,7 +32,7 @@ Each optimum is proved: `minorder` found it, and `ordercheck`, which shares no c
 python3 optima/make.py
 ```
 
-makes this page, the pictures, `optima/optima.csv` (with level counts, and sums of the files and certificates) and `optima/kept` anew, in two minutes with both programs built. `optima/kept` has the certificates below 20 KB, {kept} of {all}, beside their PLA files; the gate judges them by the checker alone.
+makes this page, the pictures, `optima/optima.csv` (with level counts, and sums of the files and certificates) and the kept certificates anew, in two minutes with both programs built. Kept are those below 20 KB, {kept} of {all}, beside their PLA files in `crates/worked_cases/data/optima`; the gate has `ordercheck` judge them.
 
 "Sifted" is one pass of sifting from the file's order (Rudell 1993): variables by falling node count, ties by smaller number, each to its uppermost place of least size. "Misses" is how many nodes more than the optimum it leaves.
 
@@ -97,15 +97,15 @@ def measure(entry, programs, room):
 
 def keep(rows, room, into):
     """Keeps the small certificates with their files, and the cases of the gate; answers how many."""
-    cases, kept = ["# The kept certificates, judged by ordercheck."], 0
+    cases, kept = ["# The certificates that the table of optima keeps, judged by ordercheck. optima/make.py makes this file and the folder."], 0
     for row in rows:
         name = row["name"]
         if os.path.getsize(f"{room}/{name}.cert") < KEPT:
             for ending in ("pla", "cert"):
-                shutil.copyfile(f"{room}/{name}.{ending}", f"{into}/optima/kept/{name}.{ending}")
+                shutil.copyfile(f"{room}/{name}.{ending}", f"{into}/{CASES}/optima/{name}.{ending}")
             cases.append(f"\ncase {name}\ncall ordercheck optima/{name}.pla optima/{name}.cert\nstatus 0\noutput\n|valid {row['optimum']}")
             kept += 1
-    write(f"{into}/optima/kept/optima.cases", "\n".join(cases) + "\n")
+    write(f"{into}/{CASES}/optima.cases", "\n".join(cases) + "\n")
     return kept
 
 
@@ -140,8 +140,9 @@ def main():
     given.add_argument("--into", default=TOP)
     programs = given.parse_args()
     into = programs.into
-    shutil.rmtree(f"{into}/optima/kept", ignore_errors=True)
-    os.makedirs(f"{into}/optima/kept")
+    shutil.rmtree(f"{into}/{CASES}/optima", ignore_errors=True)
+    os.makedirs(f"{into}/{CASES}/optima")
+    os.makedirs(f"{into}/optima", exist_ok=True)
     entries = sorted(functions.entries(), key=lambda entry: list(dict.fromkeys(other.family for other in functions.entries())).index(entry.family))
     rows, orders = [], {}
     with tempfile.TemporaryDirectory() as room:
