@@ -259,10 +259,10 @@ pub fn build_from<R: Threads + Sync, G: Gate>(
     }
 }
 
-/// Whether a cover has so many terms that its truth tables are the shorter way to its diagram: more than one for 16 points. A minterm of 16
-/// variables takes some ten nodes of a store, so such covers mostly fill it besides.
+/// Whether a cover has so many terms that its truth tables are the shorter way to its diagram: more than one for 64 points. Each term takes nodes of
+/// the store that the diagram has no use for, and covers with somewhat more terms fill it.
 fn has_many_terms(cover: &Cover) -> bool {
-    cover.terms().len() > (1usize << cover.inputs()) / 16
+    cover.terms().len() > (1usize << cover.inputs()) / 64
 }
 
 /// The reduced diagram of a cover's functions under an order: built from its truth tables where it has many terms, else from its terms and, where they
