@@ -136,7 +136,7 @@ fn builds_covers_under_their_file_orders(rt: HostRuntime) -> Result<(), Fail> {
     Ok(())
 }
 
-// A cover of three inputs has many terms as soon as it has one.
+// A cover of three inputs has many terms as soon as it has one, a cover of sixteen has few up to 1,024.
 #[test]
 fn builds_of_few_terms_and_of_many(rt: HostRuntime) -> Result<(), Fail> {
     let Some(workers) = Workers::new(2) else {
@@ -146,6 +146,8 @@ fn builds_of_few_terms_and_of_many(rt: HostRuntime) -> Result<(), Fail> {
         let built = built_size(&rt, rt.alloc(), text, workers)?;
         assert_eq!(rt; built, Some(size), "{text:?}");
     }
+    let built = built_size(&rt, rt.alloc(), SIXTEEN_ONES, workers)?;
+    assert_eq!(rt; built, Some(16));
     Ok(())
 }
 
