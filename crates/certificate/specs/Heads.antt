@@ -68,7 +68,7 @@ parts_of head pairs cells = value_of (format_of pairs) head.inputs head.outputs 
 abbrev pub most_bytes : ℕ
 most_bytes = 1048576
 
--- why a text is refused: its first fault, or that it is too long; want of memory may stand in the place of either
+-- why a text is refused: its first fault, or that it is too long; out of memory may stand in the place of either
 abbrev pub Refuses : List ℕ → CertFault → Type 0
 Refuses text (found.Line number fault) = (length text ≤ most_bytes) × FirstFault text number fault
 Refuses text found.TooLong = most_bytes < length text

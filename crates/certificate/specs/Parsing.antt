@@ -33,7 +33,7 @@ trailing_from number count text = cond (nat_lt (length (with_feeds (take count (
 unfoldable pub outcome : ℕ → List Judge → List ℕ → List (ℕ × LineFault)
 outcome number js text = line_faults number js (said text) ++ trailing_from number (length js) text
 
--- the first of some faults; want of memory may stand in its place
+-- the first of some faults; out of memory may stand in its place
 abbrev pub Fails : List (ℕ × LineFault) → CertFault → Type 0
 Fails faults (found.Line number fault) = (others : List (ℕ × LineFault)) × (faults ≡ (number, fault) ∷ others)
 Fails faults found.TooLong = ⊥

@@ -125,7 +125,7 @@ fn count_words(text: &[u8]) -> usize
     count
 }
 
-/// What stands behind the fixed word of a line that has as many words behind it as are wanted.
+/// What stands after the fixed word of a line that has as many words after it as are wanted.
 pub(crate) fn behind_name<'a>(line: &'a [u8], name: &[u8], count: usize) -> Option<&'a [u8]>
     requires { 1 ≤ count }
     ensures some { IfSome result (λ rest. (words line.now ≡ name.now ∷ words rest.now) × (length (words rest.now) ≡ count)) }

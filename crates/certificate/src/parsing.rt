@@ -74,7 +74,7 @@ fn read_sets(alloc: Global, lines: &mut Lines<'_>, n: u8) -> Result<Vec<ListedCe
     Ok(cells)
 }
 
-/// Takes the lines behind the first six, to the end of the text. Format 1 has no pairs.
+/// Takes the lines after the first six, to the end of the text. Format 1 has no pairs.
 fn read_body(
     alloc: Global,
     lines: &mut Lines<'_>,

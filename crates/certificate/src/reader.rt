@@ -156,7 +156,7 @@ impl<'a> Lines<'a> {
         }
     }
 
-    /// Takes the last line, behind which nothing follows.
+    /// Takes the last line, after which nothing follows.
     pub(crate) fn end(&mut self) -> Result<(), CertFault>
         requires { self.old.number + length self.old.rest.now < 2 ^ 63 }
         ensures passed { OnOk result (outcome self.old.number (fixed_fault (codes "end" ∷ []) ∷ []) self.old.rest.now ≡ []) }

@@ -1,4 +1,4 @@
-//! What the words behind ordercheck's name ask for.
+//! What the words after ordercheck's name ask for.
 
 ghost use Rattle.std.specs.Prelude.{◌≡◌, IfErr, IfOk, IfSome, IsNone, Some, [], codes};
 ghost use Rattle.clap.specs.Words.{app_of, first_value, found_of};
@@ -49,7 +49,7 @@ fn line_of<'a>(matches: &ArgMatches<'a>) -> Option<CheckLine<'a>>
 }
 
 impl<'a> CheckLine<'a> {
-    /// What the words behind the program's name ask for, by clap's rules.
+    /// What the words after the program's name ask for, by clap's rules.
     pub fn of_words(alloc: Global, words: &'a [&'a str]) -> Result<CheckLine<'a>, Usage>
         ensures file { IfOk result (λ line. value_of ordercheck (texts words.now) (codes "FILE") ≡ Some line.file.now) }
         ensures cert { IfOk result (λ line. value_of ordercheck (texts words.now) (codes "CERT") ≡ Some line.cert.now) }

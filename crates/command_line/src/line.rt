@@ -1,4 +1,4 @@
-//! What the words behind minorder's name ask for.
+//! What the words after minorder's name ask for.
 
 ghost use Rattle.std.specs.Prelude.{◌≡◌, IfErr, IfOk, IfSome, IsNone, Some, [], codes, false, option_map};
 ghost use Rattle.clap.specs.Words.{app_of, first_value, found_of, one_text, rule_of};
@@ -67,7 +67,7 @@ fn count_option<'a>(alloc: Global) -> Arg<'a>
         .help("Print only the level counts and the size under the file order")
 }
 
-/// The options behind others.
+/// The options after others.
 fn with_options<'a>(alloc: Global, command: Command<'a>) -> Result<Command<'a>, AllocError>
     ensures { IfOk result (λ c. app_of c ≡ options_of (app_of command.entry)) }
 {
@@ -132,9 +132,9 @@ fn line_of<'a>(matches: &ArgMatches<'a>) -> Option<Line<'a>>
 }
 
 impl<'a> Line<'a> {
-    /// What the words behind the program's name ask for, by clap's rules.
+    /// What the words after the program's name ask for, by clap's rules.
     ///
-    /// Options stand before or behind the file, each at most once. An option's value may stand in the same word, as in `--workers=2`.
+    /// Options stand before or after the file, each at most once. An option's value may stand in the same word, as in `--workers=2`.
     pub fn of_words(alloc: Global, words: &'a [&'a str]) -> Result<Line<'a>, Usage>
         ensures file { IfOk result (λ line. value_of minorder (texts words.now) (codes "FILE") ≡ Some line.file.now) }
         ensures cert { IfOk result (λ line. value_of minorder (texts words.now) (codes "cert") ≡ option_map (λ s. s.now) line.cert) }

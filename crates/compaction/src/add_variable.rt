@@ -44,7 +44,7 @@ fn strip_at(numbers: &[u32], strip: usize, k: u32) -> &[u32]
     &numbers[start..end]
 }
 
-/// The two strips of each pair of strips, one behind the other.
+/// The two strips of each pair of strips, one after the other.
 fn pair_strips(
     alloc: Global,
     pairs: &[(u32, u32)],

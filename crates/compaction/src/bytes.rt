@@ -36,7 +36,7 @@ impl<'a> Model for ByteKeys<'a> {
     ghost invariant = { λ c. HoldsBytes (classes_of c.problem.now c.set) 8 c.outer.items c.bytes.items c.rows.items c.masks.items };
 }
 
-/// Writes the strips that are named, one behind the other.
+/// Writes the strips that are named, one after the other.
 #[inline(always)]
 fn write_strips(names: &[u8], numbers: &[u32], strip: usize, out: &mut [u32])
     requires few { length numbers.now ≤ 2 ^ 20 }
@@ -53,7 +53,7 @@ fn write_strips(names: &[u8], numbers: &[u32], strip: usize, out: &mut [u32])
     }
 }
 
-/// All strips that are named, one behind the other. The lengths that occur are loops of their own.
+/// All strips that are named, one after the other. The lengths that occur are loops of their own.
 fn unroll(
     alloc: Global,
     names: &[u8],

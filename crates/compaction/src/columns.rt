@@ -15,7 +15,7 @@ use std::alloc::{AllocError, Global};
 const SLOTS: usize = 4096;
 
 /// The numbers of a problem's values in strips. Equal runs of points may share a strip: `outer` names the strip of each run,
-/// function by function, and `numbers` has the strips that are kept, one behind the other.
+/// function by function, and `numbers` has the strips that are kept, one after the other.
 #[derive(Drop)]
 pub struct ValueStrips {
     pub outer: Vec<u32>,
@@ -154,7 +154,7 @@ fn number_at(byte: u32, b: u32, first: bool) -> u32
     if value == first { 0 } else { 1 }
 }
 
-/// The numbers of each byte's eight values, one byte behind the other.
+/// The numbers of each byte's eight values, one byte after the other.
 fn byte_numbers(alloc: Global, first: bool) -> Result<Vec<u32>, AllocError>
     ensures long { IfOk result (λ rows. length rows.items ≡ 2048) }
     ensures rows { IfOk result (λ rows. (byte : ℕ) → byte < 256 → strip rows.items 8 byte ≡ low_numbers first byte 8) }

@@ -12,12 +12,12 @@ abbrev pub Refuses : SeatOf → ℕ → SeatOf → PostRefused → Type 0
 Refuses s mask s' Stranger = (has_claimed s mask ≡ false) × (s' ≡ s)
 Refuses s mask s' Double = (has_claimed s mask ≡ true) × (knows_filled s mask ≡ true) × (s' ≡ stepped s s.worker 0)
 
--- a close with a seat: the least empty mask, or want of memory
+-- a close with a seat: the least empty mask, or out of memory
 abbrev pub Lacks : SeatOf → CloseError → Type 0
 Lacks s (Missing mask) = IsMissing s mask
 Lacks s OutOfMemory = Unit {0}
 
--- of the words of a layer's cells: the mask of the first that is 0, or want of memory
+-- of the words of a layer's cells: the mask of the first that is 0, or out of memory
 abbrev pub IsFirstGap : List ℕ → List ℕ → CloseError → Type 0
 IsFirstGap masks words (Missing mask) = (p : ℕ) × (slice_get masks p ≡ Some mask) × (slice_index words p ≡ 0) × ((q : ℕ) → q < p → slice_index words q ≢ 0)
 IsFirstGap masks words OutOfMemory = Unit {0}

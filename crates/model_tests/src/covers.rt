@@ -195,7 +195,7 @@ fn reads_or_tells_the_first_fault(rt: HostRuntime) -> Result<(), Fail> {
     Ok(())
 }
 
-/// Names with a space behind each.
+/// Names with a space after each.
 fn joined(alloc: Global, names: &[String]) -> Result<String, AllocError> {
     let mut text = String::new(alloc);
     for name in names {

@@ -2,12 +2,12 @@
 --     certificate_same      the certificate that the tool writes
 --     good_same, first_reason_same      whether a certificate is good; the first reason why it is not
 use Rattle.std.proofs.Common.{◌≡◌, ℕ, suc, ◌+◌, ◌-◌, ◌^◌, ◌<◌, ◌≤◌, not, cond, ◌&&◌, ◌||◌, List, [], ◌∷◌, length, map, IsFalse, nat_eq, nat_lt, refl, sym, ap, ◌∙◌, subst}
-use Rattle.std.specs.List.{All, Contains, find, filter, list_any, range_with_len}
+use Rattle.std.specs.List.{All, find, filter, list_any, range_with_len}
 use Rattle.std.specs.Option.{option_map_or}
 use Rattle.order_model.specs.Functions.{Function, depends}
 use Rattle.order_model.specs.Orders.{has, members, variables}
 use Rattle.order_model.specs.Pairs.{Pair, is_lawful, sorted_pairs}
-use Rattle.order_model.specs.Levels.{level_counts, size_under, reach}
+use Rattle.order_model.specs.Levels.{size_under, reach}
 use Rattle.order_model.specs.Widths.{width, cost, least, least_of, essential, essentials_outside, outside, arrangements}
 use Rattle.order_model.specs.Pairs.{are_lawful}
 use Rattle.order_model.specs.Certificates.{Cell, Certificate, IsGood, Reason, Shape, Order, Pairs, Levels, Total, Start, CellTooBig, Edge, Applies, IsFirstReason, AreBothLawful, certificate_of, least_listed, listed_masks, reserve, set_value}

@@ -2,8 +2,8 @@
 --     AllSame n F G, turned      function by function the same, either way round
 --     tables_same      the functions of the truth tables of F
 --     level_counts_same, size_same      level counts and sizes
-use Rattle.std.proofs.Common.{◌≡◌, ℕ, zero, suc, ◌+◌, ◌^◌, Bool, true, false, cond, List, [], ◌∷◌, ◌++◌, length, map, take, slice_index, refl, sym, ap, ◌∙◌, arith}
-use Rattle.std.specs.List.{AllZip, flat_map, filter, range_with_len, sum}
+use Rattle.std.proofs.Common.{◌≡◌, ℕ, ◌^◌, Bool, true, false, cond, List, [], ◌∷◌, ◌++◌, length, map, take, slice_index, refl, sym, ap, ◌∙◌}
+use Rattle.std.specs.List.{AllZip, filter, range_with_len, sum}
 use Rattle.std.specs.Set.{distinct_count}
 use Rattle.std.proofs.lemmas.List.{length-map}
 use Rattle.order_model.specs.Functions.{Function, SameFunction, from_table, points, restrict, table, same_table, depends}

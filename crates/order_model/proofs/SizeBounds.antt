@@ -3,12 +3,12 @@
 --     level_bound      level i has at most 16 * 2 ^ i nodes
 --     last_bound      the last level has at most 4
 --     size_bound      all levels together have at most 524,276
-use Rattle.std.proofs.Common.{◌≡◌, ◌≢◌, ℕ, zero, suc, ◌+◌, ◌*◌, ◌^◌, ◌<◌, ◌≤◌, ◌||◌, inl, inr, Bool, true, false, cond, List, [], ◌∷◌, ◌++◌, map, take, length, length-append, get_or, slice_index, replicate, refl, sym, ap, ◌∙◌, subst, arith, pow_mono, ne_eqb, nat_eq, zero-add}
+use Rattle.std.proofs.Common.{◌≡◌, ◌≢◌, ℕ, zero, suc, ◌+◌, ◌*◌, ◌^◌, ◌<◌, ◌≤◌, ◌||◌, inl, inr, Bool, true, false, cond, List, [], ◌∷◌, ◌++◌, map, take, length, length-append, slice_index, replicate, refl, sym, ap, ◌∙◌, subst, arith, pow_mono, ne_eqb, zero-add}
 use Rattle.std.specs.List.{filter, flat_map, range_with_len, sum}
 use Rattle.std.proofs.Math.Nat.{two-pow-succ, mul-suc, mul-le-mul_left}
 use Rattle.std.proofs.Math.Seq.{take-length}
 use Rattle.std.proofs.lemmas.Bool.{cases_eq}
-use Rattle.std.proofs.lemmas.List.{get_or-replicate, length-map, length-take-le, take_more}
+use Rattle.std.proofs.lemmas.List.{get_or-replicate, length-map, take_more}
 use Rattle.std.proofs.lemmas.List.FromFn.{length-range_with_len, map-range_with_len_more}
 use Rattle.std.proofs.lemmas.List.Sums.{sum_by-append, sum_by-cons}
 use Rattle.std.proofs.lemmas.Cmp.{nat_eq_equiv}

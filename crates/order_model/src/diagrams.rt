@@ -55,7 +55,7 @@ fn counts_by_variable(nodes: &[Node]) -> [u32; 16]
     counts
 }
 
-/// The counts of the variables in an order, top first, and zeros behind them.
+/// The counts of the variables in an order, top first, and zeros after them.
 fn in_order(order: &[VarIx], counts: [u32; 16]) -> [u32; 16]
     requires few { length order.now ≤ 16 }
     requires variables { All (λ x. x < 16) order.now }
@@ -88,7 +88,7 @@ impl Model for Diagram {
 }
 
 impl Diagram {
-    /// The diagram of some nodes, each behind its children.
+    /// The diagram of some nodes, each after its children.
     pub fn new(order: Order, nodes: Vec<Node>, roots: Vec<Ref>) -> Diagram
         requires few { length nodes.items < 2 ^ 32 }
         requires diagram { IsDiagramUnder order nodes.items roots.items }
@@ -111,7 +111,7 @@ impl Diagram {
         &self.order
     }
 
-    /// The nodes, each behind its children.
+    /// The nodes, each after its children.
     pub fn nodes(&self) -> &[Node]
         ensures value { result.now ≡ self.now.graph.nodes }
         ensures diagram { IsOrderedGraph self.now }

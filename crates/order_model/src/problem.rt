@@ -46,7 +46,7 @@ impl Problem {
         })
     }
 
-    /// The problem whose truth tables stand one behind the other in words of 64 points.
+    /// The problem whose truth tables stand one after the other in words of 64 points.
     pub fn from_words(inputs: u8, outputs: u8, words: Vec<u64>) -> Problem
         requires { IsPacked inputs outputs words.items }
         ensures { result ≡ packed_tables inputs outputs words.items }

@@ -68,7 +68,7 @@ fn do_jobs<R: Threads + Sync, G: Gate>(
     )
 }
 
-/// A seat of the workers, where none of them met want of memory.
+/// A seat of the workers, if none of them ran out of memory.
 fn some_seat(
     board: &Board,
     ended: Vec<Result<WorkerEnd, AllocError>>,
@@ -85,7 +85,7 @@ fn some_seat(
     Ok(last.seat)
 }
 
-/// The cells of a layer in its order, by workers. Where some cell is missing although none of them met want of memory, the
+/// The cells of a layer in its order, by workers. Where some cell is missing although none of them ran out of memory, the
 /// calling thread does the layer over alone.
 fn cells_of_layer<R: Threads + Sync, G: Gate>(
     rt: &R,

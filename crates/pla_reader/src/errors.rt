@@ -30,7 +30,7 @@ pub enum LineFault {
     /// A directive that isn't known.
     #[error("UnknownDirective")]
     UnknownDirective,
-    /// A logical type other than f and fd, or one behind a term.
+    /// A logical type other than f and fd, or one after a term.
     #[error("UnsupportedType")]
     UnsupportedType,
     /// An output `-` or `2` that isn't under `.type f`.

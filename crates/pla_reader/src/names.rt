@@ -35,7 +35,7 @@ pub(crate) fn names(alloc: Global, text: &[u8]) -> Result<Vec<String>, AllocErro
     Ok(names)
 }
 
-/// Names that are a text with a number behind it, from 0 on.
+/// Names that are a text with a number after it, from 0 on.
 pub(crate) fn numbered(alloc: Global, front: &str, count: u8) -> Result<Vec<String>, AllocError>
     ensures { IfOk result (λ names. map string_bytes names.items ≡ numbered_names front.now count) }
 {

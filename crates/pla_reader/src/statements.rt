@@ -7,7 +7,7 @@ ghost use Rattle.pla_reader.specs.Statements.{line_of};
 
 use crate::lines::{content, next_word};
 
-/// What a line says, with the text behind its directive, or that of its term.
+/// What a line says, with the text after its directive, or that of its term.
 #[derive(Drop)]
 pub enum Statement<'a> {
     Empty,
@@ -39,7 +39,7 @@ fn is_directive(word: &[u8]) -> bool
     }
 }
 
-/// What a directive says, with the text behind it.
+/// What a directive says, with the text after it.
 #[tactic(auto, unfolding(crate::specs::Lines::directive))]
 fn directive<'a>(word: &[u8], given: &'a [u8]) -> Statement<'a>
     ensures { line_of result ≡ directive_of word.now (words given.now) }

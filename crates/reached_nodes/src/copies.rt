@@ -40,7 +40,7 @@ fn add(
     Ok(Ref::Place(copied))
 }
 
-/// Copies what an id reaches, each node behind its children.
+/// Copies what an id reaches, each node after its children.
 pub(crate) fn copy(
     closed: &Closed<(), Global>,
     places: usize,

@@ -13,7 +13,7 @@ use atomic_table::Closed;
 use order_model::{Node, Ref, VarIx};
 use std::alloc::{AllocError, Global};
 
-/// Nodes, each behind its children, and a ref for each root.
+/// Nodes, each after its children, and a ref for each root.
 #[derive(Drop)]
 pub struct Reached {
     pub nodes: Vec<Node>,

@@ -23,7 +23,7 @@ pub fn texts_are_determined()
         Delivers other (Reads file) (held e (Some (Some before))) (held f (Some (Some later))) Done → after ≡ later }
 {}
 
-/// What a check decides, but for want of memory and failed calls, follows from the bytes of the file and of the certificate alone.
+/// What a check decides, but for being out of memory and failed calls, follows from the bytes of the file and of the certificate alone.
 pub fn verdicts_are_determined()
     ensures { (file text : List ℕ) (outcome other : Outcome) (a b : List ℕ) → Judge file text outcome a → Judge file text other b → (outcome ≡ other) × (a ≡ b) }
 {}

@@ -10,7 +10,7 @@ use pla_reader::{LineFault, PlaError};
 use std::alloc::AllocError;
 use thiserror::Error;
 
-/// Why a run was refused. Its text is what the programs write behind their name.
+/// Why a run was refused. Its text is what the programs write after their name.
 #[derive(Clone, Copy, Debug, PartialEq, Eq, Error)]
 pub enum Fault {
     /// The first faulty line of the file, counted from 1, and its fault.

@@ -23,7 +23,7 @@ pub(crate) fn total(counts: &[u32]) -> u64
     total
 }
 
-/// Appends numbers, each behind a space.
+/// Appends numbers, each after a space.
 fn push_spaced(text: &mut String, numbers: &[u32]) -> Result<(), AllocError>
     ensures { OnOk result (string_bytes text.new ≡ string_bytes text.old ++ each_spaced numbers.now) }
 {
@@ -45,7 +45,7 @@ fn push_numbers(text: &mut String, numbers: &[u32]) -> Result<(), AllocError>
     Ok(())
 }
 
-/// Appends variables, each behind a space.
+/// Appends variables, each after a space.
 fn push_spaced_variables(text: &mut String, variables: &[VarIx]) -> Result<(), AllocError>
     ensures { OnOk result (string_bytes text.new ≡ string_bytes text.old ++ each_spaced variables.now) }
 {
@@ -76,7 +76,7 @@ fn push_name(text: &mut String, names: &[String], variable: VarIx) -> Result<(),
     Ok(())
 }
 
-/// Appends the names of variables, each behind a space.
+/// Appends the names of variables, each after a space.
 fn push_spaced_names(
     text: &mut String,
     names: &[String],

@@ -43,7 +43,7 @@ const fn cell(cost: u32, variable: u8) -> Cell {
     Cell { cost, variable }
 }
 
-/// Tries the cells of the layer after that of the costs, and answers its costs.
+/// Tries the cells of the layer after that of the costs, and returns its costs.
 fn try_cells(
     rt: &impl Abort,
     alloc: Global,

@@ -99,7 +99,7 @@ struct Filled {
     ids: Vec<NodeId>,
 }
 
-// The lowest four levels, and nodes of level 11 by one thread: those whose lower child stands at place `from` or behind it.
+// The lowest four levels, and nodes of level 11 by one thread: those whose lower child stands at place `from` or after it.
 fn fill_part(
     store: &Store,
     session: Session,

@@ -109,7 +109,7 @@ fn points_mask(n: u8) -> u64
     }
 }
 
-/// The words of m tables, one table behind the other, with the points of a mask alone.
+/// The words of m tables, one table after the other, with the points of a mask alone.
 fn lay_out(
     alloc: Global,
     m: u8,
@@ -138,7 +138,7 @@ fn least_groups(terms: usize) -> usize {
     if terms == 0 { 8_192 } else { 8_192 / terms }
 }
 
-/// The packed truth tables of m outputs of terms of n inputs, one table behind the other.
+/// The packed truth tables of m outputs of terms of n inputs, one table after the other.
 pub(crate) fn packed_words<R: Threads + Sync>(
     rt: &R,
     alloc: Global,

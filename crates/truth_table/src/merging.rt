@@ -40,7 +40,7 @@ pub(crate) fn merge(alloc: Global, classes: &[u32]) -> Result<Merged, AllocError
     Ok(Merged { numbers, unequal })
 }
 
-/// Puts each point once more behind the points, with the value 1 for a variable.
+/// Puts each point once more after the points, with the value 1 for a variable.
 fn push_upper(points: &mut Vec<u32>, x: VarIx) -> Result<(), AllocError>
     requires { x < 16 }
     ensures { OnOk result (points.new.items ≡ points.old.items ++ map (λ k. bit_or k (2 ^ x)) points.old.items) }
@@ -66,7 +66,7 @@ pub(crate) fn assignment_points(alloc: Global, variables: &[VarIx]) -> Result<Ve
     Ok(points)
 }
 
-/// Puts the values of a packed truth table at some points behind others, as 0 and 1.
+/// Puts the values of a packed truth table at some points after others, as 0 and 1.
 pub(crate) fn push_values(
     values: &mut Vec<u32>,
     words: &[u64],

@@ -5,7 +5,7 @@ use std::marker::Model;
 use std::snapshot::Snapshot;
 
 /// The pieces of a store: restrictions of the outputs by the top two variables (or the only one), or functions of the terms whose number leaves
-/// the same remainder when divided by 64. The outputs themselves are pieces too, behind these.
+/// the same remainder when divided by 64. The outputs themselves are pieces too, after these.
 #[derive(Clone, Copy)]
 pub enum Pieces<'a> {
     Tables,

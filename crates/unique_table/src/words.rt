@@ -26,7 +26,7 @@ pub(crate) fn look(shared: &Board, seat: &mut Seat<(), View>, place: usize) -> u
     shared.load::<Looks>(seat, place)
 }
 
-/// Puts a node's word into the place that comes next in the search for it, if the place is empty, and answers what was found.
+/// Puts a node's word into the place that comes next in the search for it, if the place is empty, and returns what was found.
 fn put(shared: &Board, seat: &mut Seat<(), View>, place: usize, word: u64) -> u64
     requires seat { IsSeatOf shared.now seat.old }
     requires place { (place < shared.now.key.places) × (place < shared.now.table_id.words) }

@@ -24,7 +24,7 @@ struct Seen {
     errors: Vec<u8>,
 }
 
-/// Calls the program that the line begins with, with the words behind it.
+/// Calls the program that the line begins with, with the words after it.
 fn call<R: Files + AllocGlobal + Threads + Sync>(rt: &R, line: &str) -> Result<Seen> {
     let words: Vec<&str> = line.split(' ').collect(rt.alloc())?;
     let mut output = Counting::new(Vec::<u8>::new(rt.alloc()));
