@@ -140,6 +140,9 @@ def main():
     given.add_argument("--into", default=TOP)
     programs = given.parse_args()
     into = programs.into
+    for program in (programs.minorder, programs.ordercheck):
+        # what is built first tells of itself
+        subprocess.run([program, "--help"], stdout=subprocess.DEVNULL, check=True)
     shutil.rmtree(f"{into}/{CASES}/optima", ignore_errors=True)
     os.makedirs(f"{into}/{CASES}/optima")
     os.makedirs(f"{into}/optima", exist_ok=True)
