@@ -11,7 +11,7 @@ import time
 
 TOP = os.path.dirname(os.path.dirname(os.path.abspath(__file__)))
 GIGABYTES_A_JOB = 3
-BEFOREHAND = "from nothing it takes some 25 minutes of processor time (12 minutes on four cores), 3 GB of memory for each crate that is proved at a time, and 4 GB of disk, most of it until it is done"
+BEFOREHAND = "from nothing it takes some 25 minutes of processor time (12 to 16 minutes on four cores), 3 GB of memory for each crate that is proved at a time, and 4 GB of disk, most of it until it is done"
 
 
 def needed(name):
