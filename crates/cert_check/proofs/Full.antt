@@ -12,7 +12,7 @@ use Rattle.std.proofs.lemmas.List.{ext_get_or, get_or-replicate, length-replicat
 use Rattle.std.proofs.lemmas.List.FromFn.{get_or-range_with_len, length-range_with_len}
 use Rattle.order_model.specs.Orders.{has, variables, without}
 use Rattle.order_model.specs.Widths.{width}
-use Rattle.order_model.proofs.Masks.{has_members, members_small}
+use Rattle.order_model.proofs.Bits.Masks.{has_members, members_small}
 use Rattle.class_laws.specs.Dependence.{joined_mask}
 use Rattle.class_laws.specs.Places.{low_place, pairs}
 use Rattle.class_laws.specs.Table.{ClassesOf, HoldsClasses, with_variable, functions_of, set_of, free_below}

@@ -14,8 +14,8 @@ use Rattle.order_model.specs.Pairs.{Pair, AreBelow, has_pair, is_lawful, sorted_
 use Rattle.order_model.specs.Levels.{level_count, level_counts, size_under}
 use Rattle.order_model.specs.Widths.{least, essentials_outside}
 use Rattle.order_model.specs.Certificates.{Cell, Certificate, certificate_of, least_listed, listed_masks}
-use Rattle.order_model.proofs.Exchange.{Below, below_from_has}
-use Rattle.order_model.proofs.SizeBounds.{order_length, size_bound}
+use Rattle.order_model.proofs.Functions.Exchange.{Below, below_from_has}
+use Rattle.order_model.proofs.Widths.SizeBounds.{order_length, size_bound}
 use Rattle.certificate.specs.Spelling.{HasSpelling, IsCell, IsPair, most_nodes, most_pairs, pair_key}
 use Rattle.certificate.proofs.Judges.{both_are}
 use Rattle.certificate.proofs.Rising.{IsAbove, RiseFrom, rise_pairs}

@@ -14,8 +14,8 @@ use Rattle.order_model.specs.Functions.{Point, Function, point_of, restrict, Sam
 use Rattle.order_model.specs.Orders.{has, variables}
 use Rattle.order_model.specs.Levels.{subfunctions, reach}
 use Rattle.order_model.specs.Widths.{outside}
-use Rattle.order_model.proofs.Sets.{Among, among_from_flat_map, among_from_map}
-use Rattle.order_model.proofs.Tables.{table_same, same_from_table}
+use Rattle.order_model.proofs.Lists.Sets.{Among, among_from_flat_map, among_from_map}
+use Rattle.order_model.proofs.Functions.Tables.{table_same, same_from_table}
 use Rattle.class_laws.proofs.Compacted.{range_parts}
 use Rattle.class_laws.proofs.Lists.{map_map, map_flat_map, map_ranges, flat_map_same}
 

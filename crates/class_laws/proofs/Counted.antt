@@ -13,12 +13,12 @@ use Rattle.order_model.specs.Functions.{Function, table, same_table, depends}
 use Rattle.order_model.specs.Orders.{has, variables, without}
 use Rattle.order_model.specs.Levels.{reach, dependents}
 use Rattle.order_model.specs.Widths.{outside, width, entries, class_of, class_numbers}
-use Rattle.order_model.proofs.Sets.{Among, Within, among_filter, among_from_filter, among_map, among_from_map, among_from_member, member_from_among, count_same}
-use Rattle.order_model.proofs.Tables.{same_table_decides}
-use Rattle.order_model.proofs.Exchange.{dependents_same, below_from_has}
-use Rattle.order_model.proofs.OrderLists.{has_variables, has_outside}
-use Rattle.order_model.proofs.Recurrence.{distinct_filter, distinct_variables, has_without}
-use Rattle.order_model.proofs.ClassPairs.{count_alike, rank_apart, has_reverse}
+use Rattle.order_model.proofs.Lists.Sets.{Among, Within, among_filter, among_from_filter, among_map, among_from_map, among_from_member, member_from_among, count_same}
+use Rattle.order_model.proofs.Functions.Tables.{same_table_decides}
+use Rattle.order_model.proofs.Functions.Exchange.{dependents_same, below_from_has}
+use Rattle.order_model.proofs.Lists.Orders.{has_variables, has_outside}
+use Rattle.order_model.proofs.Widths.Recurrence.{distinct_filter, distinct_variables, has_without}
+use Rattle.order_model.proofs.Widths.ClassPairs.{count_alike, rank_apart, has_reverse}
 use Rattle.class_laws.specs.Numbering.{rank}
 use Rattle.class_laws.specs.Dependence.{dependence, AreMasks}
 use Rattle.class_laws.proofs.Ranks.{rank_below, rank_reached}

@@ -7,8 +7,8 @@ use Rattle.std.proofs.Common.{◌≡◌, ℕ, ◌*◌, ◌^◌, ◌<◌, List, m
 use Rattle.std.specs.Set.{distinct_count}
 use Rattle.std.proofs.lemmas.List.{get_or-map, length-map, map-id, take_all}
 use Rattle.order_model.specs.Widths.{same_pair}
-use Rattle.order_model.proofs.ClassPairs.{pair_decides}
-use Rattle.order_model.proofs.Sets.{Among}
+use Rattle.order_model.proofs.Widths.ClassPairs.{pair_decides}
+use Rattle.order_model.proofs.Lists.Sets.{Among}
 use Rattle.class_laws.specs.Numbering.{rank, ranks}
 use Rattle.class_laws.specs.Places.{pairs}
 use Rattle.class_laws.proofs.BlockPlaces.{listed_classes}

@@ -6,8 +6,8 @@ use Rattle.std.proofs.Common.{◌≡◌, ℕ, ◌+◌, ◌<◌, ◌≤◌, List,
 use Rattle.std.specs.Set.{distinct_count}
 use Rattle.std.proofs.lemmas.List.{take_more_set, length-set, length-append, take_all, get_or-take}
 use Rattle.order_model.specs.Widths.{same_pair}
-use Rattle.order_model.proofs.ClassPairs.{pair_decides}
-use Rattle.order_model.proofs.Sets.{Among}
+use Rattle.order_model.proofs.Widths.ClassPairs.{pair_decides}
+use Rattle.order_model.proofs.Lists.Sets.{Among}
 use Rattle.class_laws.specs.Numbering.{IsFirst, rank, ranks}
 use Rattle.class_laws.proofs.Ranks.{rank_absent, rank_below}
 use Rattle.class_laws.proofs.Progress.{Progress, progress_none, progress_new, progress_old, progress_all, among_take, take_among}

@@ -9,8 +9,8 @@ use Rattle.std.specs.Set.{distinct_count}
 use Rattle.std.proofs.lemmas.Bool.{cases_lt}
 use Rattle.std.proofs.lemmas.List.{append_assoc, take-append-drop, take_more, take_all, get_or-map, get_or_append_left, get_or_push, length-append}
 use Rattle.order_model.specs.Widths.{same_pair}
-use Rattle.order_model.proofs.ClassPairs.{pair_decides}
-use Rattle.order_model.proofs.Sets.{Among}
+use Rattle.order_model.proofs.Widths.ClassPairs.{pair_decides}
+use Rattle.order_model.proofs.Lists.Sets.{Among}
 use Rattle.class_laws.specs.Numbering.{rank, ranks}
 use Rattle.class_laws.proofs.Ranks.{count_new, count_old, count_end, rank_next, rank_found, rank_absent, rank_below, among_or_not}
 use Rattle.class_laws.specs.Places.{low_place, pair_at, pairs}

@@ -10,8 +10,8 @@ use Rattle.std.proofs.lemmas.Bool.{cases_eq, true≢false}
 use Rattle.std.proofs.lemmas.Nat.{pow_pos, or_disjoint, mod-pow-add}
 use Rattle.std.proofs.lemmas.Nat.Bits.{shr_and_one, bit_at_above, and_pow, bit_at-lt}
 use Rattle.order_model.specs.Orders.{has, members, variables}
-use Rattle.order_model.proofs.Masks.{has_members}
-use Rattle.order_model.proofs.OrderLists.{has_variables}
+use Rattle.order_model.proofs.Bits.Masks.{has_members}
+use Rattle.order_model.proofs.Lists.Orders.{has_variables}
 use Rattle.std.proofs.Common.{◌⊎◌, suc}
 use Rattle.std.proofs.Math.Nat.{two-pow-succ}
 

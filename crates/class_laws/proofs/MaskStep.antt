@@ -5,9 +5,9 @@ use Rattle.order_model.specs.Functions.{Function, restrict, table, same_table, d
 use Rattle.order_model.specs.Orders.{has}
 use Rattle.order_model.specs.Levels.{reach}
 use Rattle.order_model.specs.Widths.{outside, entries, class_of, class_numbers, same_pair, class_pair}
-use Rattle.order_model.proofs.Sets.{Among}
-use Rattle.order_model.proofs.Tables.{same_table_decides, depends_same}
-use Rattle.order_model.proofs.ClassPairs.{count_alike, pair_decides, depends_by_classes}
+use Rattle.order_model.proofs.Lists.Sets.{Among}
+use Rattle.order_model.proofs.Functions.Tables.{same_table_decides, depends_same}
+use Rattle.order_model.proofs.Widths.ClassPairs.{count_alike, pair_decides, depends_by_classes}
 use Rattle.class_laws.specs.Numbering.{ranks}
 use Rattle.class_laws.specs.Places.{pairs}
 use Rattle.class_laws.specs.Dependence.{dependence, joined_mask, AreMasks}

@@ -6,7 +6,7 @@ use Rattle.std.specs.List.{position_or_len}
 use Rattle.std.proofs.lemmas.Bool.{cases_Bool}
 use Rattle.std.proofs.lemmas.List.{map-id}
 use Rattle.order_model.specs.Widths.{same_pair}
-use Rattle.order_model.proofs.ClassPairs.{pair_decides}
+use Rattle.order_model.proofs.Widths.ClassPairs.{pair_decides}
 use Rattle.class_laws.specs.Numbering.{rank, ranks}
 use Rattle.class_laws.proofs.Lists.{map_map, map_same}
 use Rattle.class_laws.proofs.Ranks.{Numbers, rank_below}

@@ -6,8 +6,8 @@ use Rattle.std.proofs.Common.{◌≡◌, ℕ, zero, suc, ◌+◌, ◌<◌, ◌�
 use Rattle.std.specs.Set.{distinct_count}
 use Rattle.std.proofs.lemmas.List.{append_assoc, map-append, take-append-drop, length-take, take_all, get_or-map, take_more, get_or-take}
 use Rattle.order_model.specs.Widths.{same_pair}
-use Rattle.order_model.proofs.ClassPairs.{pair_decides}
-use Rattle.order_model.proofs.Sets.{Among}
+use Rattle.order_model.proofs.Widths.ClassPairs.{pair_decides}
+use Rattle.order_model.proofs.Lists.Sets.{Among}
 use Rattle.class_laws.specs.Numbering.{IsFirst, rank, ranks}
 use Rattle.class_laws.proofs.Ranks.{count_new, count_old, count_end, rank_here}
 

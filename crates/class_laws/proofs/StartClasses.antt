@@ -21,10 +21,10 @@ use Rattle.order_model.specs.Functions.{Function, number, point_of, from_table, 
 use Rattle.order_model.specs.Orders.{variables, mask_of}
 use Rattle.order_model.specs.Levels.{reach}
 use Rattle.order_model.specs.Widths.{outside, entries, class_of, class_numbers}
-use Rattle.order_model.proofs.Sets.{Among, count_same}
-use Rattle.order_model.proofs.Tables.{same_table_decides, depends_false}
-use Rattle.order_model.proofs.ClassPairs.{count_alike}
-use Rattle.order_model.proofs.CellLaws.{members_zero}
+use Rattle.order_model.proofs.Lists.Sets.{Among, count_same}
+use Rattle.order_model.proofs.Functions.Tables.{same_table_decides, depends_false}
+use Rattle.order_model.proofs.Widths.ClassPairs.{count_alike}
+use Rattle.order_model.proofs.Widths.Cells.{members_zero}
 use Rattle.class_laws.specs.Table.{HoldsClasses, classes_of}
 use Rattle.class_laws.specs.Numbering.{rank, ranks}
 use Rattle.class_laws.specs.Values.{row, values_of, number_of, class_count}

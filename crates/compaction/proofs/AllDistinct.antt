@@ -13,8 +13,8 @@ use Rattle.std.proofs.lemmas.List.{length-map, get_or-map, map-id}
 use Rattle.std.proofs.lemmas.List.FromFn.{length-range_with_len, get_or-map-range_with_len, length-map-range_with_len}
 use Rattle.order_model.specs.Orders.{has, variables, without}
 use Rattle.order_model.specs.Widths.{width}
-use Rattle.order_model.proofs.Masks.{has_members}
-use Rattle.order_model.proofs.OrderLists.{has_variables}
+use Rattle.order_model.proofs.Bits.Masks.{has_members}
+use Rattle.order_model.proofs.Lists.Orders.{has_variables}
 use Rattle.class_laws.specs.Dependence.{joined_mask}
 use Rattle.class_laws.specs.Places.{low_place, pairs}
 use Rattle.compaction.specs.Rows.{width_wanted}

@@ -8,8 +8,8 @@ use Rattle.std.proofs.lemmas.Bool.{cases_eq}
 use Rattle.std.proofs.lemmas.Nat.{pow_pos, pow-add}
 use Rattle.std.proofs.lemmas.Nat.Bits.{bit_at_or, bit_at-pow_same, bit_at-pow_other, bit_at-lt}
 use Rattle.order_model.specs.Orders.{has}
-use Rattle.order_model.proofs.Masks.{has_members}
-use Rattle.order_model.proofs.OrderLists.{has_variables}
+use Rattle.order_model.proofs.Bits.Masks.{has_members}
+use Rattle.order_model.proofs.Lists.Orders.{has_variables}
 use Rattle.class_laws.specs.Places.{pairs}
 use Rattle.compaction.specs.Strips.{AreStrips, HoldsStrips, unrolled, HoldsKeys}
 use Rattle.pair_numbering.specs.Keys.{TellsPairs}

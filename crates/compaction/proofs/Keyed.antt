@@ -14,9 +14,9 @@ use Rattle.order_model.specs.Functions.{Function, restrict, same_table, depends}
 use Rattle.order_model.specs.Orders.{has, variables}
 use Rattle.order_model.specs.Levels.{reach}
 use Rattle.order_model.specs.Widths.{same_pair, entries, class_of, class_numbers, class_pair, outside}
-use Rattle.order_model.proofs.Sets.{Among, among_from_map}
-use Rattle.order_model.proofs.Tables.{same_table_decides, depends_same}
-use Rattle.order_model.proofs.ClassPairs.{pair_decides, rank_apart, depends_by_classes}
+use Rattle.order_model.proofs.Lists.Sets.{Among, among_from_map}
+use Rattle.order_model.proofs.Functions.Tables.{same_table_decides, depends_same}
+use Rattle.order_model.proofs.Widths.ClassPairs.{pair_decides, rank_apart, depends_by_classes}
 use Rattle.class_laws.specs.Dependence.{dependence, joined_mask}
 use Rattle.class_laws.specs.Numbering.{rank, ranks}
 use Rattle.class_laws.specs.Places.{low_place, pair_at, pairs}
@@ -28,7 +28,7 @@ use Rattle.class_laws.specs.Table.{classes_of, ClassesOf, HoldsClasses, function
 use Rattle.compaction.specs.Strips.{HoldsKeys}
 use Rattle.pair_numbering.specs.Keys.{TellsPairs}
 use Rattle.pair_numbering.proofs.Names.{length_names, names_below, names_masks, names_ranked}
-use Rattle.order_model.proofs.PairMasks.{among_at}
+use Rattle.order_model.proofs.Precedence.Masks.{among_at}
 use Rattle.class_laws.proofs.Ranks.{ranks_alike}
 use Rattle.class_laws.proofs.Index.{length-pairs, pair_within}
 use Rattle.class_laws.proofs.DependenceMasks.{dependence_joined}

@@ -8,7 +8,7 @@ use Rattle.std.specs.Set.{distinct_count}
 use Rattle.std.proofs.Math.Nat.{mul-le-mul_right, add-mul-mod_self_right, add-mul-div_right, mod-eq_of_lt, div-eq_of_lt, mod-lt, div-lt_iff_lt-mul}
 use Rattle.std.proofs.lemmas.List.{get_or-map, length-map}
 use Rattle.order_model.specs.Widths.{same_pair}
-use Rattle.order_model.proofs.ClassPairs.{pair_decides}
+use Rattle.order_model.proofs.Widths.ClassPairs.{pair_decides}
 use Rattle.pair_numbering.specs.Chains.{lower_at, upper_at}
 use Rattle.class_laws.specs.Numbering.{rank, ranks}
 use Rattle.class_laws.specs.Places.{low_place, pair_at, pairs}
@@ -18,7 +18,7 @@ use Rattle.class_laws.proofs.Index.{length-pairs, pair_listed, pair_within}
 use Rattle.class_laws.proofs.Joined.{number_at, length-ranks}
 use Rattle.pair_numbering.proofs.Names.{names_among, length_names}
 use Rattle.class_laws.proofs.Lists.{place_of}
-use Rattle.order_model.proofs.PairMasks.{among_at}
+use Rattle.order_model.proofs.Precedence.Masks.{among_at}
 use Rattle.class_laws.proofs.Ranks.{rank_below, rank_reached}
 use Rattle.compaction.proofs.Unrolled.{named_of, named_inside, length_named, named_at, same_by_places, length_unrolled, unrolled_at}
 

@@ -18,12 +18,12 @@ use Rattle.order_model.specs.Functions.{Function, same_table}
 use Rattle.order_model.specs.Levels.{reach}
 use Rattle.order_model.specs.Orders.{has, variables, without}
 use Rattle.order_model.specs.Widths.{class_numbers, class_of, entries, outside, width}
-use Rattle.order_model.proofs.Masks.{has_members}
-use Rattle.order_model.proofs.OrderLists.{has_variables, same_bool}
-use Rattle.order_model.proofs.ClassPairs.{count_alike, rank_apart}
-use Rattle.order_model.proofs.Recurrence.{distinct_filter, distinct_variables}
-use Rattle.order_model.proofs.Sets.{Among, Within, among_filter, among_from_filter, among_from_member, member_from_among, count_same}
-use Rattle.order_model.proofs.Tables.{same_table_decides}
+use Rattle.order_model.proofs.Bits.Masks.{has_members}
+use Rattle.order_model.proofs.Lists.Orders.{has_variables, same_bool}
+use Rattle.order_model.proofs.Widths.ClassPairs.{count_alike, rank_apart}
+use Rattle.order_model.proofs.Widths.Recurrence.{distinct_filter, distinct_variables}
+use Rattle.order_model.proofs.Lists.Sets.{Among, Within, among_filter, among_from_filter, among_from_member, member_from_among, count_same}
+use Rattle.order_model.proofs.Functions.Tables.{same_table_decides}
 use Rattle.class_laws.specs.Dependence.{AreMasks, dependence}
 use Rattle.class_laws.specs.Numbering.{rank, ranks}
 use Rattle.compaction.specs.Rows.{width_wanted}
@@ -34,7 +34,7 @@ use Rattle.class_laws.proofs.Compacted.{range_parts, filter_range_same}
 use Rattle.class_laws.proofs.Counted.{among_variables, distinct_by_numbers, length_filter_map, nat_decides, width_is_dependent_classes}
 use Rattle.class_laws.proofs.Lists.{map_map, map_same, place_of}
 use Rattle.class_laws.proofs.Extended.{length_filter-le}
-use Rattle.order_model.proofs.PairMasks.{among_at}
+use Rattle.order_model.proofs.Precedence.Masks.{among_at}
 use Rattle.compaction.proofs.Stripped.{parts_of, below_product}
 use Rattle.compaction.proofs.Unrolled.{length_unrolled, unrolled_at}
 use Rattle.class_laws.proofs.Ranks.{rank_below, rank_reached}

@@ -12,7 +12,7 @@ use Rattle.order_model.specs.Functions.{Point, Function, SameFunction, bit}
 use Rattle.order_model.specs.Orders.{has, IsOrder}
 use Rattle.order_model.specs.Problems.{outputs_of}
 use Rattle.order_model.specs.Products.{product_of, literal_holds, literal_in, output_in, matches, has_output}
-use Rattle.order_model.proofs.OrderLists.{same_bool}
+use Rattle.order_model.proofs.Lists.Orders.{same_bool}
 use Rattle.truth_table.proofs.Literals.{all_from, all_at}
 use Rattle.node_words.specs.declared.operation.Operation.TheVariants.{Or}
 use Rattle.node_words.specs.Entries.{combine}

@@ -4,7 +4,7 @@ use Rattle.std.specs.Int.{bit_at}
 use Rattle.std.proofs.lemmas.Nat.{or_lt, pow_below, pow_pos, one_shl}
 use Rattle.std.proofs.lemmas.Nat.Bits.{bit_at-lt, bit_at-zero, bit_at_or, bit_at-pow_same, bit_at-pow_other, shr_and_one}
 use Rattle.order_model.specs.Orders.{IsOrder, place_in}
-use Rattle.order_model.proofs.OrderLists.{has_at, place_get}
+use Rattle.order_model.proofs.Lists.Orders.{has_at, place_get}
 use Rattle.dd_builder.specs.Paths.{IsPointOf}
 
 -- a point's number has the bits of a path for the levels above one, and no others of the order

@@ -5,8 +5,8 @@ use Rattle.std.proofs.lemmas.List.FromFn.{length-range_with_len, get_or-range_wi
 use Rattle.std.proofs.lemmas.Option.{get_or_from_slice_get, slice_get_within}
 use Rattle.std.proofs.lemmas.Bool.Decides.{nat_tests}
 use Rattle.order_model.specs.Orders.{has, place_in, members, variables}
-use Rattle.order_model.proofs.OrderLists.{has_filter, has_range}
-use Rattle.order_model.proofs.Recurrence.{distinct_filter, distinct_variables}
+use Rattle.order_model.proofs.Lists.Orders.{has_filter, has_range}
+use Rattle.order_model.proofs.Widths.Recurrence.{distinct_filter, distinct_variables}
 use Rattle.subset_layers.specs.Layers.{LayerOf, masks_of, low_byte, low_bytes, blocks_of, block_of, block_place}
 use Rattle.layer_core.specs.Machine.{place_of}
 use Rattle.layer_core.specs.Rights.{IsLayout}

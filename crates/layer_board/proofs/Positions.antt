@@ -3,7 +3,7 @@ use Rattle.std.proofs.Common.{◌≡◌, ℕ, ◌+◌, ◌<◌, ◌||◌, Bool, 
 use Rattle.std.specs.List.{IsDistinct}
 use Rattle.std.proofs.lemmas.Bool.Decides.{nat_tests}
 use Rattle.order_model.specs.Orders.{has, place_in}
-use Rattle.order_model.proofs.OrderLists.{has_at, place_at, place_get}
+use Rattle.order_model.proofs.Lists.Orders.{has_at, place_at, place_get}
 
 abbrev pub found : List ℕ → ℕ → Option ℕ
 found xs v = position (λ m. nat_eq v m) xs

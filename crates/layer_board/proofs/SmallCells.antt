@@ -7,9 +7,9 @@ use Rattle.order_model.specs.Pairs.{Pair, tops}
 use Rattle.order_model.specs.Orders.{has, members}
 use Rattle.order_model.specs.Widths.{least, least_with_top, essentials_outside}
 use Rattle.order_model.specs.Cells.{cell_of, first_of, is_within, best_top}
-use Rattle.order_model.proofs.OrderLists.{has_filter, has_variables}
-use Rattle.order_model.proofs.Masks.{has_members}
-use Rattle.order_model.proofs.CellLaws.{open_is, closed_cell, has_tops}
+use Rattle.order_model.proofs.Lists.Orders.{has_filter, has_variables}
+use Rattle.order_model.proofs.Bits.Masks.{has_members}
+use Rattle.order_model.proofs.Widths.Cells.{open_is, closed_cell, has_tops}
 
 bool_cases : (b : Bool) → (b ≡ true) ⊎ (b ≡ false)
 bool_cases true = inl refl

@@ -7,7 +7,7 @@ use Rattle.std.specs.List.{range_with_len}
 use Rattle.std.proofs.lemmas.List.FromFn.{get_or-map-range_with_len, length-map-range_with_len}
 use Rattle.order_model.specs.Functions.{Point, Function, bit, SameFunction}
 use Rattle.order_model.specs.Orders.{IsOrder, place_in}
-use Rattle.order_model.proofs.OrderLists.{has_at, place_get}
+use Rattle.order_model.proofs.Lists.Orders.{has_at, place_get}
 use Rattle.node_words.specs.Nodes.{IsBelow, AreNodes, AreUnequal, Grows, level_of, lower_of, upper_of, node_word, IsKnown, IsIdOf}
 use Rattle.node_words.specs.Meaning.{value, IsSame, depth, along, function_of, Denotes, branch}
 use Rattle.node_words.specs.declared.operation.Operation.{Operation}

@@ -13,8 +13,8 @@ use Rattle.order_model.specs.Pairs.{is_lawful}
 use Rattle.order_model.specs.Problems.{TruthTables, functions}
 use Rattle.order_model.specs.Widths.{width, essential_mask}
 use Rattle.order_model.specs.Cells.{wanted, cell_of}
-use Rattle.order_model.proofs.OrderLists.{has_filter}
-use Rattle.order_model.proofs.Masks.{members_small}
+use Rattle.order_model.proofs.Lists.Orders.{has_filter}
+use Rattle.order_model.proofs.Bits.Masks.{members_small}
 use Rattle.subset_layers.specs.Layers.{LayerOf, BlockOf, layer_of, layer_with, masks_of, block_masks, low_byte}
 use Rattle.subset_layers.specs.Costs.{CostsOf, cost_without, AreTrueCosts, AreWidthsFor}
 use Rattle.subset_layers.proofs.BlockLists.{has_slice_get}

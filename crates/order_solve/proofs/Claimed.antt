@@ -14,8 +14,8 @@ use Rattle.std.specs.Int.{bit_at}
 use Rattle.std.proofs.lemmas.List.FromFn.{length-range_with_len}
 use Rattle.order_model.specs.Problems.{functions}
 use Rattle.order_model.specs.Cells.{wanted, cell_cost}
-use Rattle.order_model.proofs.OrderLists.{place_get, place_at, has_at}
-use Rattle.order_model.proofs.Recurrence.{distinct_filter, distinct_variables}
+use Rattle.order_model.proofs.Lists.Orders.{place_get, place_at, has_at}
+use Rattle.order_model.proofs.Widths.Recurrence.{distinct_filter, distinct_variables}
 use Rattle.subset_layers.specs.Layers.{LayerOf, BlockOf, layer_of, block_of, masks_of, block_masks, blocks_of, low_bytes, low_byte, block_place}
 use Rattle.subset_layers.proofs.BlockLists.{place_below, low_bytes_has, blocks_length, block_at as block_there, slice_get_at}
 use Rattle.layer_core.specs.Machine.{claimed, claims_block}

@@ -15,7 +15,7 @@ use Rattle.std.specs.Int.{bit_at}
 use Rattle.std.proofs.lemmas.Nat.{zero_from_ones}
 use Rattle.order_model.specs.Orders.{has, members, variables, mask_of, IsOrder}
 use Rattle.order_model.specs.Cells.{cell_of, wanted}
-use Rattle.order_model.proofs.SizeBounds.{size_bound}
+use Rattle.order_model.proofs.Widths.SizeBounds.{size_bound}
 use Rattle.subset_layers.specs.declared.costs.Cell.{Cell}
 use Rattle.order_solve.specs.Needs.{needed}
 use Rattle.layer_board.specs.Pairing.{pair_of}

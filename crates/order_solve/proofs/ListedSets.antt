@@ -13,8 +13,8 @@ use Rattle.order_model.specs.Problems.{functions}
 use Rattle.order_model.specs.Widths.{essentials_outside}
 use Rattle.order_model.specs.Cells.{cell_cost, widths_taken}
 use Rattle.order_model.specs.Certificates.{Cell, least_listed, listed_masks}
-use Rattle.order_model.proofs.CellLaws.{cost_known}
-use Rattle.order_model.proofs.Listed.{listed_by_cells}
+use Rattle.order_model.proofs.Widths.Cells.{cost_known}
+use Rattle.order_model.proofs.Certificates.Listed.{listed_by_cells}
 use Rattle.subset_layers.proofs.Choosing.{filter_range_more}
 use Rattle.layer_board.specs.Views.{Setting}
 use Rattle.order_model.specs.declared.listed_cells.ListedCell.{ListedCell}

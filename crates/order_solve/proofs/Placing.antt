@@ -11,7 +11,7 @@ use Rattle.std.proofs.lemmas.List.{get_or-map}
 use Rattle.std.proofs.lemmas.List.Sums.{sum-map}
 use Rattle.std.proofs.lemmas.Option.{slice_get_within, get_or_from_slice_get}
 use Rattle.order_model.specs.Orders.{has, place_in}
-use Rattle.order_model.proofs.OrderLists.{has_at, has_filter, place_get}
+use Rattle.order_model.proofs.Lists.Orders.{has_at, has_filter, place_get}
 use Rattle.subset_layers.specs.declared.costs.Cell.{Cell}
 use Rattle.subset_layers.proofs.BlockLists.{has_get}
 use Rattle.order_model.specs.Functions.{Function}

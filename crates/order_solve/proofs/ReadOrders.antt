@@ -24,18 +24,18 @@ use Rattle.order_model.specs.Widths.{width, cost}
 use Rattle.order_model.specs.Cells.{cell_of, cell_cost, IsReadFrom, AreUnclipped}
 use Rattle.order_model.specs.OrderFaults.{Accepts}
 use Rattle.order_model.specs.Diagrams.{IsFirstKeeping}
-use Rattle.order_model.proofs.OrderLists.{has_at}
-use Rattle.order_model.proofs.Recurrence.{distinct_variables, distinct_without, length_without}
-use Rattle.order_model.proofs.Masks.{distinct_members, members_without, members_full}
-use Rattle.order_model.proofs.CellLaws.{members_zero, cell_member}
-use Rattle.order_model.proofs.PairLaws.{member_bit}
-use Rattle.order_model.proofs.PairOrders.{pow_le_bit}
-use Rattle.order_model.proofs.Exchange.{above_width, level_lem}
-use Rattle.order_model.proofs.Clip.{clip, clip_unclipped}
+use Rattle.order_model.proofs.Lists.Orders.{has_at}
+use Rattle.order_model.proofs.Widths.Recurrence.{distinct_variables, distinct_without, length_without}
+use Rattle.order_model.proofs.Bits.Masks.{distinct_members, members_without, members_full}
+use Rattle.order_model.proofs.Widths.Cells.{members_zero, cell_member}
+use Rattle.order_model.proofs.Precedence.MaskLaws.{member_bit}
+use Rattle.order_model.proofs.Precedence.Greedy.{pow_le_bit}
+use Rattle.order_model.proofs.Functions.Exchange.{above_width, level_lem}
+use Rattle.order_model.proofs.Widths.Clipped.{clip, clip_unclipped}
 use Rattle.subset_layers.proofs.Sizes.{ones-members}
 use Rattle.layer_board.specs.Views.{Setting, cell_for}
 use Rattle.order_solve.specs.Bounded.{IsBounded}
-use Rattle.order_model.proofs.SizeBounds.{order_length}
+use Rattle.order_model.proofs.Widths.SizeBounds.{order_length}
 
 -- the set of all variables, as the code makes it
 pub all_ones : (n : ℕ) → n ≤ 16 → 65535 / 2 ^ (16 - n) ≡ 2 ^ n - 1

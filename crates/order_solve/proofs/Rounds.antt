@@ -5,7 +5,7 @@ use Rattle.std.proofs.Common.{◌≡◌, ℕ, ◌<◌, slice_get, ◌+◌, Bool,
 use Rattle.std.specs.List.{filter}
 use Rattle.std.proofs.lemmas.Bool.{false≢true, cases_Bool, and_parts, and_from}
 use Rattle.order_model.specs.Orders.{has}
-use Rattle.order_model.proofs.OrderLists.{has_filter}
+use Rattle.order_model.proofs.Lists.Orders.{has_filter}
 use Rattle.subset_layers.specs.Layers.{LayerOf, BlockOf, masks_of, blocks_of, block_masks, layer_of, low_byte}
 use Rattle.layer_core.specs.Machine.{place_of, claimed, claims_block}
 use Rattle.layer_board.specs.Views.{Setting, BoardId, SeatOf, layout_of, stepped, knows_place, has_claimed, knows_filled}

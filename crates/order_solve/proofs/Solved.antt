@@ -8,8 +8,8 @@ use Rattle.order_model.specs.Widths.{cost}
 use Rattle.order_model.specs.Cells.{cell_cost, IsReadFrom, AreUnclipped}
 use Rattle.order_model.specs.Certificates.{certificate_of, least_listed, listed_masks}
 use Rattle.order_model.specs.Diagrams.{FewestKeeping}
-use Rattle.order_model.proofs.Exchange.{size_is_cost}
-use Rattle.order_model.proofs.FewestLaws.{has_fewest_lem, fewest_is_least}
+use Rattle.order_model.proofs.Functions.Exchange.{size_is_cost}
+use Rattle.order_model.proofs.Widths.Fewest.{has_fewest_lem, fewest_is_least}
 use Rattle.layer_board.specs.Views.{Setting}
 use Rattle.order_solve.specs.Bounded.{IsBounded}
 use Rattle.order_solve.proofs.ReadOrders.{order_first, order_is, order_unclipped, left, left_cost}

@@ -15,13 +15,13 @@ use Rattle.order_model.specs.Orders.{has, members, variables, without, mask_of}
 use Rattle.order_model.specs.Pairs.{Pair, is_lawful, tops}
 use Rattle.order_model.specs.Problems.{functions}
 use Rattle.order_model.specs.Cells.{wanted, cell_cost}
-use Rattle.order_model.proofs.OrderLists.{same_bool, has_filter}
-use Rattle.order_model.proofs.PairLists.{lawful_same}
-use Rattle.order_model.proofs.PairMasks.{filter_same}
-use Rattle.order_model.proofs.PackedProblems.{MaskOfFirst, mask_of_passing}
-use Rattle.order_model.proofs.Recurrence.{distinct_filter}
-use Rattle.order_model.proofs.Masks.{distinct_members, members_without, members_small, bit-mask_of, members_mask_of, mask_of_small}
-use Rattle.order_model.proofs.CellLaws.{cost_known, members_zero}
+use Rattle.order_model.proofs.Lists.Orders.{same_bool, has_filter}
+use Rattle.order_model.proofs.Precedence.Lists.{lawful_same}
+use Rattle.order_model.proofs.Precedence.Masks.{filter_same}
+use Rattle.order_model.proofs.Bits.Problems.{MaskOfFirst, mask_of_passing}
+use Rattle.order_model.proofs.Widths.Recurrence.{distinct_filter}
+use Rattle.order_model.proofs.Bits.Masks.{distinct_members, members_without, members_small, bit-mask_of, members_mask_of, mask_of_small}
+use Rattle.order_model.proofs.Widths.Cells.{cost_known, members_zero}
 use Rattle.subset_layers.specs.Layers.{masks_of, layer_with}
 use Rattle.subset_layers.specs.Costs.{CostsOf, cost_without, AreTrueCosts}
 use Rattle.subset_layers.proofs.CostLists.{less_one}

@@ -11,8 +11,8 @@ use Rattle.std.proofs.lemmas.List.{length-map, get_or-map, map-id}
 use Rattle.std.proofs.lemmas.List.FromFn.{get_or-map-range_with_len, length-map-range_with_len}
 use Rattle.std.proofs.lemmas.Map.Made.{distinct_count-le}
 use Rattle.order_model.specs.Widths.{same_pair}
-use Rattle.order_model.proofs.Sets.{Among, among_map, member_from_among}
-use Rattle.order_model.proofs.ClassPairs.{pair_decides, rank_apart}
+use Rattle.order_model.proofs.Lists.Sets.{Among, among_map, member_from_among}
+use Rattle.order_model.proofs.Widths.ClassPairs.{pair_decides, rank_apart}
 use Rattle.class_laws.specs.Dependence.{joined_mask}
 use Rattle.class_laws.specs.Numbering.{rank, ranks}
 use Rattle.class_laws.specs.Places.{pairs}
@@ -21,7 +21,7 @@ use Rattle.class_laws.proofs.Ranks.{ranks_alike, rank_below, rank_reached}
 use Rattle.class_laws.proofs.Index.{length-pairs, pair_listed}
 use Rattle.class_laws.proofs.Joined.{pair_classes}
 use Rattle.class_laws.proofs.Lists.{map_map, map_same, place_of}
-use Rattle.order_model.proofs.PairMasks.{among_at}
+use Rattle.order_model.proofs.Precedence.Masks.{among_at}
 use Rattle.class_laws.proofs.Counted.{nat_decides}
 
 module _ (masks : List ℕ) (x : ℕ) (ps : List (ℕ × ℕ)) (numbers joined : List ℕ) (t : TellsPairs masks x ps numbers joined) where

@@ -8,7 +8,7 @@ use Rattle.order_model.specs.declared.Ref.{Ref}
 use Rattle.order_model.specs.declared.Ref.TheVariants.{Terminal, Place}
 use Rattle.order_model.specs.declared.Node.{Node}
 use Rattle.order_model.specs.Diagrams.{IsBefore}
-use Rattle.order_model.proofs.Appended.{get_left, get_right}
+use Rattle.order_model.proofs.Nodes.Appended.{get_left, get_right}
 use Rattle.node_words.specs.Nodes.{IsKnown, Grows, AreNodes, level_of, lower_of, upper_of}
 use Rattle.node_words.specs.Meaning.{depth}
 use Rattle.node_words.proofs.Growing.{grows_refl, grows_trans, grows_full}

@@ -9,9 +9,9 @@ use Rattle.order_model.specs.declared.Node.{Node}
 use Rattle.order_model.specs.Functions.{Point, bit, SameFunction}
 use Rattle.order_model.specs.Orders.{IsOrder, place_in}
 use Rattle.order_model.specs.Diagrams.{Graph, IsBefore, IsNodeAt, AreNodes as ArePlaced, IsOrdered, IsOf, Reached, from_root, from_parent, value}
-use Rattle.order_model.proofs.OrderLists.{has_at, place_get}
-use Rattle.order_model.proofs.Paths.{value_place, value_terminal}
-use Rattle.order_model.proofs.Appended.{graph_of, diagram_of, get_left}
+use Rattle.order_model.proofs.Lists.Orders.{has_at, place_get}
+use Rattle.order_model.proofs.Nodes.Paths.{value_place, value_terminal}
+use Rattle.order_model.proofs.Nodes.Appended.{graph_of, diagram_of, get_left}
 use Rattle.node_words.specs.Nodes.{IsKnown, Grows, AreNodes, AreUnequal, IsBelow, node_word, level_of, lower_of, upper_of}
 use Rattle.node_words.specs.Meaning.{depth, function_of, branch}
 use Rattle.node_words.proofs.Meaning.{below_lower, below_upper, shallow}

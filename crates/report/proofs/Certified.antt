@@ -11,7 +11,7 @@ use Rattle.order_model.specs.declared.listed_cells.ListedCell.{ListedCell}
 use Rattle.order_model.specs.Certificates.{certificate_of}
 use Rattle.order_model.specs.Diagrams.{IsFirstKeeping}
 use Rattle.order_model.specs.Problems.{TruthTables, functions}
-use Rattle.order_model.proofs.SameCertificates.{certificate_same}
+use Rattle.order_model.proofs.Certificates.Same.{certificate_same}
 use Rattle.certificate.specs.Faults.{Spells}
 use Rattle.certificate.specs.Values.{value_of}
 use Rattle.pla_reader.specs.Covers.{NamedCover}

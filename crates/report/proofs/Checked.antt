@@ -2,7 +2,7 @@
 use Rattle.std.proofs.Common.{◌≡◌, List, ℕ, subst}
 use Rattle.order_model.specs.Certificates.{Certificate, Reason, IsGood, IsFirstReason}
 use Rattle.order_model.specs.Problems.{TruthTables, functions}
-use Rattle.order_model.proofs.SameCertificates.{first_reason_same, good_same}
+use Rattle.order_model.proofs.Certificates.Same.{first_reason_same, good_same}
 use Rattle.pla_reader.specs.Covers.{NamedCover}
 use Rattle.pla_reader.specs.Reading.{Reads}
 use Rattle.certificate.specs.Faults.{Spells}

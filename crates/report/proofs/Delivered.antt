@@ -7,7 +7,7 @@ use Rattle.std.proofs.Common.{◌≡◌, ℕ, ◌≤◌, Bool, true, false, List
 use Rattle.std.specs.Borrow.{Bor}
 use Rattle.std.specs.Global.{Global}
 use Rattle.order_model.specs.Certificates.{Certificate}
-use Rattle.order_model.proofs.CertOf.{cert_of_is_good}
+use Rattle.order_model.proofs.Certificates.Written.{cert_of_is_good}
 use Rattle.certificate.specs.Faults.{Spells}
 use Rattle.certificate.proofs.Spelled.{one_form}
 use Rattle.pla_reader.specs.Covers.{NamedCover}

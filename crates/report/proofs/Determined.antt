@@ -7,7 +7,7 @@ use Rattle.order_model.specs.Pairs.{Pair}
 use Rattle.order_model.specs.KeptPairs.{KeptPairs}
 use Rattle.order_model.specs.PairTexts.{ParsesAs, listed}
 use Rattle.order_model.specs.Sifting.{sifted}
-use Rattle.order_model.proofs.FirstOrders.{first_order_unique, first_keeping_unique, cert_unique}
+use Rattle.order_model.proofs.Lists.Firsts.{first_order_unique, first_keeping_unique, cert_unique}
 use Rattle.certificate.specs.Spelling.{spelling}
 use Rattle.pla_reader.specs.Covers.{NamedCover}
 use Rattle.pla_reader.specs.Lines.{said}

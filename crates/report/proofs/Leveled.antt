@@ -10,7 +10,7 @@ use Rattle.order_model.specs.Levels.{level_count, level_counts, size_under}
 use Rattle.order_model.specs.Diagrams.{Graph, nodes_at}
 use Rattle.order_model.specs.Problems.{TruthTables, functions}
 use Rattle.order_model.specs.Products.{product_functions}
-use Rattle.order_model.proofs.SameFunctions.{AllSame, tables_same}
+use Rattle.order_model.proofs.Functions.Same.{AllSame, tables_same}
 use Rattle.pla_reader.specs.Covers.{NamedCover}
 use Rattle.dd_builder.specs.Building.{AreTablesOf, HasLevelCounts}
 use Rattle.report.specs.Texts.{functions_of}

@@ -11,9 +11,9 @@ use Rattle.order_model.specs.Diagrams.{HasFewestKeeping}
 use Rattle.order_model.specs.Orders.{variables}
 use Rattle.order_model.specs.Sifting.{sifted}
 use Rattle.order_model.specs.Certificates.{Certificate, IsGood}
-use Rattle.order_model.proofs.Construction.{exact_diagram}
-use Rattle.order_model.proofs.LevelBound.{size_bound}
-use Rattle.order_model.proofs.Potential.{good_order, no_diagram_is_smaller}
+use Rattle.order_model.proofs.Nodes.Construction.{exact_diagram}
+use Rattle.order_model.proofs.Nodes.LevelBound.{size_bound}
+use Rattle.order_model.proofs.Certificates.Potential.{good_order, no_diagram_is_smaller}
 use Rattle.pla_reader.specs.Covers.{NamedCover}
 use Rattle.pla_reader.specs.Reading.{Reads}
 use Rattle.report.specs.Answers.{IsAnswer, IsText}

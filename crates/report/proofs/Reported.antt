@@ -6,7 +6,7 @@ use Rattle.order_model.specs.Pairs.{Pair, IsFirstOrder}
 use Rattle.order_model.specs.Diagrams.{IsFirstKeeping}
 use Rattle.order_model.specs.Problems.{TruthTables, functions}
 use Rattle.order_model.specs.Sifting.{sifted}
-use Rattle.order_model.proofs.SameFunctions.{level_counts_same, size_same}
+use Rattle.order_model.proofs.Functions.Same.{level_counts_same, size_same}
 use Rattle.pla_reader.specs.Covers.{NamedCover}
 use Rattle.dd_builder.specs.Building.{AreTablesOf}
 use Rattle.report.specs.Answers.{IsAnswer}

@@ -9,7 +9,7 @@ use Rattle.order_model.specs.Pairs.{Pair, keeps}
 use Rattle.order_model.specs.Levels.{level_count, size_under}
 use Rattle.order_model.specs.Diagrams.{Graph, IsOf, Represents, FewestKeeping, HasFewestKeeping, IsFirstKeeping, value}
 use Rattle.order_model.specs.Sifting.{best, count_at, insert_by_count, placements, sifted, sifting_order, smallest_of, smallest_order}
-use Rattle.order_model.proofs.SameFunctions.{AllSame, turned, level_count_same, size_same}
+use Rattle.order_model.proofs.Functions.Same.{AllSame, turned, level_count_same, size_same}
 
 of_same : (n : ℕ) (d : Graph) (rs : List Ref) (F G : List Function) → AllSame n F G → AllZip (λ r f. SameFunction n (value d.nodes r) f) rs F → AllZip (λ r f. SameFunction n (value d.nodes r) f) rs G
 unfolding SameFunction

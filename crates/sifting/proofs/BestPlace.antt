@@ -10,8 +10,8 @@ use Rattle.order_model.specs.Orders.{has, without, place_in}
 use Rattle.order_model.specs.Pairs.{Pair, Keeps, keeps, has_pair}
 use Rattle.order_model.specs.Problems.{functions}
 use Rattle.order_model.specs.Sifting.{smallest_of, placements, best}
-use Rattle.order_model.proofs.OrderLists.{absent_from_apart}
-use Rattle.order_model.proofs.Recurrence.{absent_without, distinct_without}
+use Rattle.order_model.proofs.Lists.Orders.{absent_from_apart}
+use Rattle.order_model.proofs.Widths.Recurrence.{absent_without, distinct_without}
 use Rattle.sifting.specs.Managed.{Managed, IsManagedOrder}
 use Rattle.sifting.specs.Moves.{Moves, IsMoved, StopsAbove, StopsBelow, FindsBest, PassesBetween, placed_from}
 use Rattle.sifting.proofs.Placements.{length-placed, here, above_here, below_here, not_above, not_below, breaks}

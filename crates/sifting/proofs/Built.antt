@@ -10,10 +10,10 @@ use Rattle.order_model.specs.declared.Node.{Node}
 use Rattle.order_model.specs.Functions.{Point, bit, table, SameFunction}
 use Rattle.order_model.specs.Orders.{has, IsOrder, place_in}
 use Rattle.order_model.specs.Diagrams.{Graph, IsDiagram, IsBefore, IsOrdered, IsReduced, value}
-use Rattle.order_model.proofs.OrderLists.{place_at, place_get}
-use Rattle.order_model.proofs.Paths.{value_terminal, StandsFrom, stands_top}
+use Rattle.order_model.proofs.Lists.Orders.{place_at, place_get}
+use Rattle.order_model.proofs.Nodes.Paths.{value_terminal, StandsFrom, stands_top}
 use Rattle.sifting.specs.Leveled.{Children, child, at, place_below, function_at, places, IsLevel, AreLevels, AreRoots, AreTerminals}
-use Rattle.order_model.proofs.Tables.{table_same}
+use Rattle.order_model.proofs.Functions.Tables.{table_same}
 use Rattle.sifting.specs.declared.levels.Level.{Level}
 use Rattle.sifting.specs.Managed.{truth_tables_of}
 use Rattle.sifting.specs.LevelLists.{nodes_of, problem_at}

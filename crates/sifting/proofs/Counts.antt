@@ -16,12 +16,12 @@ use Rattle.std.proofs.lemmas.Map.Made.{distinct_count-from_IsDistinct}
 use Rattle.order_model.specs.Functions.{Function, restrict, SameFunction, DependsOn, table, same_table, depends}
 use Rattle.order_model.specs.Orders.{has, IsOrder}
 use Rattle.order_model.specs.Levels.{subfunctions, reach, dependents, level_count, level_counts}
-use Rattle.order_model.proofs.Sets.{Among, Within, among_left, among_right, among_cases, among_filter, among_from_filter, among_map, among_from_map, among_flat_map, among_from_flat_map, count_same}
-use Rattle.order_model.proofs.Tables.{restrict_same, same_sym, same_trans, table_same, same_from_table, same_table_decides, depends_same, depends_false, depends_lem}
-use Rattle.order_model.proofs.OrderLists.{absent_from_apart, has_append}
-use Rattle.order_model.proofs.Exchange.{Below, level_lem, below_from_has}
-use Rattle.order_model.proofs.LevelBound.{enumerated, count_enumerated}
-use Rattle.order_model.proofs.Construction.{reach_more}
+use Rattle.order_model.proofs.Lists.Sets.{Among, Within, among_left, among_right, among_cases, among_filter, among_from_filter, among_map, among_from_map, among_flat_map, among_from_flat_map, count_same}
+use Rattle.order_model.proofs.Functions.Tables.{restrict_same, same_sym, same_trans, table_same, same_from_table, same_table_decides, depends_same, depends_false, depends_lem}
+use Rattle.order_model.proofs.Lists.Orders.{absent_from_apart, has_append}
+use Rattle.order_model.proofs.Functions.Exchange.{Below, level_lem, below_from_has}
+use Rattle.order_model.proofs.Nodes.LevelBound.{enumerated, count_enumerated}
+use Rattle.order_model.proofs.Nodes.Construction.{reach_more}
 use Rattle.sifting.specs.Leveled.{Children, child, at, function_at, places, branching, IsLevel, AreLevels, AreTerminals, AreRoots}
 use Rattle.sifting.proofs.Paths.{child_has, restricted, canonical, same_children}
 

@@ -12,7 +12,7 @@ use Rattle.order_model.specs.declared.Node.{Node}
 use Rattle.order_model.specs.Functions.{Point, bit}
 use Rattle.order_model.specs.Orders.{place_in}
 use Rattle.order_model.specs.Diagrams.{Graph, AreNodes, IsDiagram, IsBefore, IsOrdered, IsReduced, value}
-use Rattle.order_model.proofs.Paths.{before_more, child_before, value_place, StandsFrom, stands_less, child_stands}
+use Rattle.order_model.proofs.Nodes.Paths.{before_more, child_before, value_place, StandsFrom, stands_less, child_stands}
 use Rattle.sifting.specs.Cuts.{code_of, ref_of, split_ref, split_node}
 
 -- the half that a value takes

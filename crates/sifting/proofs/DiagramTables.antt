@@ -8,8 +8,8 @@ use Rattle.order_model.specs.Functions.{Function, SameFunction, table, from_tabl
 use Rattle.order_model.specs.Problems.{TruthTables, functions, outputs_of, table_at}
 use Rattle.order_model.specs.Diagrams.{Represents, IsOf, value}
 use Rattle.order_model.specs.OrderedGraphs.{OrderedGraph}
-use Rattle.order_model.proofs.Tables.{table_same}
-use Rattle.order_model.proofs.Numbers.{table-from_table}
+use Rattle.order_model.proofs.Functions.Tables.{table_same}
+use Rattle.order_model.proofs.Bits.Points.{table-from_table}
 use Rattle.sifting.specs.Managed.{truth_tables_of}
 
 abbrev AreOf : ℕ → List Node → List Ref → List Function → Type 0

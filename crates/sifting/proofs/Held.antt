@@ -16,8 +16,8 @@ use Rattle.order_model.specs.Pairs.{has_pair}
 use Rattle.order_model.specs.KeptPairs.{KeptPairs}
 use Rattle.order_model.specs.Problems.{functions}
 use Rattle.order_model.specs.Levels.{level_count, level_counts, size_under}
-use Rattle.order_model.proofs.Tables.{table_same, same_refl}
-use Rattle.order_model.proofs.SameFunctions.{tables_same, level_counts_same}
+use Rattle.order_model.proofs.Functions.Tables.{table_same, same_refl}
+use Rattle.order_model.proofs.Functions.Same.{tables_same, level_counts_same}
 use Rattle.sifting.specs.declared.levels.Level.{Level}
 use Rattle.sifting.specs.Leveled.{Children, function_at, places, branching, HasChildren, AreLevels, AreRoots, Exchanges}
 use Rattle.sifting.specs.LevelLists.{nodes_of, problem_at, HoldsDiagram}

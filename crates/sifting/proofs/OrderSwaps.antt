@@ -9,7 +9,7 @@ use Rattle.std.proofs.lemmas.List.Edits.{swap_is}
 use Rattle.std.proofs.lemmas.Grind.{get_or_default_zero}
 use Rattle.std.specs.List.{All}
 use Rattle.order_model.specs.OrderFaults.{IsInRange}
-use Rattle.order_model.proofs.OrderLists.{has_at}
+use Rattle.order_model.proofs.Lists.Orders.{has_at}
 use Rattle.order_model.specs.Orders.{has, IsOrder}
 use Rattle.order_model.specs.Pairs.{Pair, has_pair, is_above, keeps, Keeps}
 use Rattle.sifting.proofs.Exchanged.{crossed}

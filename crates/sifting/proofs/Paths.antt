@@ -9,9 +9,9 @@ use Rattle.std.proofs.lemmas.Bool.{or_parts, true≢false}
 use Rattle.std.proofs.lemmas.List.{length-replicate, get_or-set_same, get_or-set_other}
 use Rattle.order_model.specs.Functions.{Point, bit, restrict, SameFunction}
 use Rattle.order_model.specs.Orders.{has}
-use Rattle.order_model.proofs.Tables.{restrict_same, same_sym, same_trans}
-use Rattle.order_model.proofs.OrderLists.{absent_from_apart}
-use Rattle.order_model.proofs.Exchange.{Below}
+use Rattle.order_model.proofs.Functions.Tables.{restrict_same, same_sym, same_trans}
+use Rattle.order_model.proofs.Lists.Orders.{absent_from_apart}
+use Rattle.order_model.proofs.Functions.Exchange.{Below}
 use Rattle.sifting.specs.Leveled.{Children, child, at, place_below, function_at, places, AreLevels, AreTerminals}
 
 -- the child by a value

@@ -5,7 +5,7 @@ use Rattle.order_model.specs.Orders.{IsOrder, place_in}
 use Rattle.order_model.specs.Problems.{functions}
 use Rattle.order_model.specs.Levels.{size_under}
 use Rattle.order_model.specs.Sifting.{best, sifting_order, sifted}
-use Rattle.order_model.proofs.SiftLaws.{sifted_lem}
+use Rattle.order_model.proofs.Sifting.Placements.{sifted_lem}
 use Rattle.sifting.specs.Managed.{Managed, IsManagedOrder, size_of, count_of}
 use Rattle.sifting.specs.Moves.{by_falling_count}
 use Rattle.sifting.proofs.BestPlace.{own_place}

@@ -10,7 +10,7 @@ use Rattle.std.proofs.lemmas.List.{take_more_set, append-nil}
 use Rattle.std.proofs.lemmas.List.Elements.{filter-append}
 use Rattle.std.proofs.lemmas.List.FromFn.{map-range_with_len_more, filter_of_map_range_with_len_more}
 use Rattle.order_model.specs.Orders.{has, members, place_in}
-use Rattle.order_model.proofs.OrderLists.{has_filter, has_range, has_at, place_at}
+use Rattle.order_model.proofs.Lists.Orders.{has_filter, has_range, has_at, place_at}
 use Rattle.subset_layers.specs.Layers.{LayerOf, masks_of, BlockOf, block_of, blocks_of, block_masks, low_bytes, layer_with}
 use Rattle.subset_layers.specs.Selections.{ArePlaced, chosen}
 use Rattle.subset_layers.proofs.Choosing.{chosen-map}

@@ -13,11 +13,11 @@ use Rattle.order_model.specs.Orders.{has, IsOrder, members, variables}
 use Rattle.order_model.specs.Pairs.{Pair, Keeps, is_lawful}
 use Rattle.order_model.specs.Widths.{essential, essential_mask, essentials_outside}
 use Rattle.order_model.specs.Cells.{first_of, cell_of, AreForCell}
-use Rattle.order_model.proofs.OrderLists.{has_variables, has_filter}
-use Rattle.order_model.proofs.Essential.{distinct_essential}
-use Rattle.order_model.proofs.Masks.{has_members, mask_of_small}
-use Rattle.order_model.proofs.CellLaws.{rising_members, first_has, first_le, found, clipped, members_zero}
-use Rattle.order_model.proofs.WidthCount.{essential_members}
+use Rattle.order_model.proofs.Lists.Orders.{has_variables, has_filter}
+use Rattle.order_model.proofs.Widths.Essential.{distinct_essential}
+use Rattle.order_model.proofs.Bits.Masks.{has_members, mask_of_small}
+use Rattle.order_model.proofs.Widths.Cells.{rising_members, first_has, first_le, found, clipped, members_zero}
+use Rattle.order_model.proofs.Widths.Count.{essential_members}
 use Rattle.subset_layers.specs.Layers.{masks_of, layer_with}
 use Rattle.subset_layers.specs.Costs.{CostsOf, cost_without, AreTrueCosts, AreWidthsFor}
 use Rattle.subset_layers.specs.Sums.{IsBest}

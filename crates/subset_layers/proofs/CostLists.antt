@@ -15,13 +15,13 @@ use Rattle.order_model.specs.Functions.{Function}
 use Rattle.order_model.specs.Orders.{has, members, without, variables, place_in}
 use Rattle.order_model.specs.Pairs.{Pair}
 use Rattle.order_model.specs.Cells.{cell_of, cell_cost}
-use Rattle.order_model.proofs.OrderLists.{has_variables, place_get, place_at}
-use Rattle.order_model.proofs.Recurrence.{distinct_filter, distinct_variables, distinct_without, length_without}
+use Rattle.order_model.proofs.Lists.Orders.{has_variables, place_get, place_at}
+use Rattle.order_model.proofs.Widths.Recurrence.{distinct_filter, distinct_variables, distinct_without, length_without}
 use Rattle.std.specs.Int.{bit_at}
 use Rattle.std.proofs.Math.Nat.{div-eq_of_lt}
 use Rattle.std.proofs.lemmas.Nat.Bits.{shr_and_one}
-use Rattle.order_model.proofs.Masks.{has_members, distinct_members, members_without}
-use Rattle.order_model.proofs.CellLaws.{members_zero}
+use Rattle.order_model.proofs.Bits.Masks.{has_members, distinct_members, members_without}
+use Rattle.order_model.proofs.Widths.Cells.{members_zero}
 use Rattle.subset_layers.specs.declared.costs.Cell.{Cell}
 use Rattle.subset_layers.specs.Layers.{LayerOf, layer_with, masks_of}
 use Rattle.subset_layers.specs.Costs.{CostsOf, HaveCells, costs_with, layer_of_costs, cell_at, cost_at, as_pair, start_costs, AreTrueCells, AreTrueCosts}

@@ -8,9 +8,9 @@ use Rattle.std.proofs.lemmas.List.FromFn.{filter_of_map_range_with_len_more}
 use Rattle.order_model.specs.Functions.{Function, from_table, restrict, table, SameFunction}
 use Rattle.order_model.specs.Orders.{members}
 use Rattle.order_model.specs.Problems.{IsClean, TruthTables, table_at, table_in, words_per_table}
-use Rattle.order_model.proofs.Numbers.{table-from_table}
-use Rattle.order_model.proofs.PackedProblems.{length-table_in}
-use Rattle.order_model.proofs.Tables.{restrict_same, same_from_table, table_same}
+use Rattle.order_model.proofs.Bits.Points.{table-from_table}
+use Rattle.order_model.proofs.Bits.Problems.{length-table_in}
+use Rattle.order_model.proofs.Functions.Tables.{restrict_same, same_from_table, table_same}
 use Rattle.truth_table.specs.Restrictions.{fixed}
 
 map_id : (xs : List ℕ) → map (λ x. x) xs ≡ xs

@@ -15,11 +15,11 @@ use Rattle.order_model.specs.Functions.{Point, Function, bit, number, from_table
 use Rattle.order_model.specs.Levels.{subfunctions, reach}
 use Rattle.order_model.specs.Orders.{has, IsOrder}
 use Rattle.order_model.specs.Problems.{packed_bit, table_in, words_per_table}
-use Rattle.order_model.proofs.Exchange.{below_from_has}
-use Rattle.order_model.proofs.PackedProblems.{point_inside}
-use Rattle.order_model.proofs.PackedTables.{table_value}
-use Rattle.order_model.proofs.PointNumbers.{weight, number-small, bit-number}
-use Rattle.order_model.proofs.Tables.{table_same, same_from_table}
+use Rattle.order_model.proofs.Functions.Exchange.{below_from_has}
+use Rattle.order_model.proofs.Bits.Problems.{point_inside}
+use Rattle.order_model.proofs.Bits.Tables.{table_value}
+use Rattle.order_model.proofs.Bits.PointNumbers.{weight, number-small, bit-number}
+use Rattle.order_model.proofs.Functions.Tables.{table_same, same_from_table}
 use Rattle.truth_table.specs.Assignments.{assignments, value_number, values_at}
 use Rattle.truth_table.specs.Restrictions.{fixed}
 use Rattle.truth_table.proofs.LevelSteps.{Tells, function_at}

@@ -14,11 +14,11 @@ use Rattle.std.proofs.lemmas.List.FromFn.{fill_by_all}
 use Rattle.order_model.specs.Functions.{Point, Function, bit, restrict, SameFunction, table, same_table, depends}
 use Rattle.order_model.specs.Levels.{subfunctions, reach, dependents, level_count, level_counts}
 use Rattle.order_model.specs.Widths.{same_pair}
-use Rattle.order_model.proofs.ClassPairs.{count_alike, pair_decides}
-use Rattle.order_model.proofs.Construction.{own_restriction}
-use Rattle.order_model.proofs.OrderLists.{same_bool}
-use Rattle.order_model.proofs.Sets.{Among, among_from_filter}
-use Rattle.order_model.proofs.Tables.{restrict_same, table_same, same_from_table, same_table_decides}
+use Rattle.order_model.proofs.Widths.ClassPairs.{count_alike, pair_decides}
+use Rattle.order_model.proofs.Nodes.Construction.{own_restriction}
+use Rattle.order_model.proofs.Lists.Orders.{same_bool}
+use Rattle.order_model.proofs.Lists.Sets.{Among, among_from_filter}
+use Rattle.order_model.proofs.Functions.Tables.{restrict_same, table_same, same_from_table, same_table_decides}
 use Rattle.truth_table.specs.Numberings.{IsNumbering, is_unequal, pair_at, pairs_of, unequal_count}
 use Rattle.truth_table.proofs.PairNumbers.{length-pairs_of, get_or-pairs_of}
 

@@ -17,9 +17,9 @@ use Rattle.std.proofs.lemmas.Nat.Bits.{bit_at-lt, bit_at_and, bit_at_above, bit_
 use Rattle.order_model.specs.declared.terms.Term.{Term}
 use Rattle.order_model.specs.Functions.{Point, bit, number}
 use Rattle.order_model.specs.Products.{literal_holds, literal_in, matches, has_output, output_in, product_function, product_of}
-use Rattle.order_model.proofs.OrderLists.{same_bool}
-use Rattle.order_model.proofs.PackedWords.{shifted_bit}
-use Rattle.order_model.proofs.PointNumbers.{bit-number, weight}
+use Rattle.order_model.proofs.Lists.Orders.{same_bool}
+use Rattle.order_model.proofs.Bits.Words.{shifted_bit}
+use Rattle.order_model.proofs.Bits.PointNumbers.{bit-number, weight}
 use Rattle.pla_reader.specs.Masks.{Fits}
 use Rattle.truth_table.specs.Terms.{literal_at, literals_at, covered}
 

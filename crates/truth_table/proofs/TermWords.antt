@@ -20,12 +20,12 @@ use Rattle.order_model.specs.declared.terms.Term.{Term}
 use Rattle.order_model.specs.Functions.{Point, Function, number, points, from_table, table, SameFunction}
 use Rattle.order_model.specs.Problems.{IsClean, IsPacked, tables_of, words_per_table}
 use Rattle.order_model.specs.Products.{Product, product_function, product_functions, product_of}
-use Rattle.order_model.proofs.Numbers.{numbers_rise, table-from_table}
-use Rattle.order_model.proofs.PackedProblems.{point_inside, block_inside, same_tables}
-use Rattle.order_model.proofs.PackedTables.{whole_words}
-use Rattle.order_model.proofs.PackedWords.{step_is}
-use Rattle.order_model.proofs.PointNumbers.{some_point}
-use Rattle.order_model.proofs.Tables.{same_from_table}
+use Rattle.order_model.proofs.Bits.Points.{numbers_rise, table-from_table}
+use Rattle.order_model.proofs.Bits.Problems.{point_inside, block_inside, same_tables}
+use Rattle.order_model.proofs.Bits.Tables.{whole_words}
+use Rattle.order_model.proofs.Bits.Words.{step_is}
+use Rattle.order_model.proofs.Bits.PointNumbers.{some_point}
+use Rattle.order_model.proofs.Functions.Tables.{same_from_table}
 use Rattle.pla_reader.specs.Masks.{Fits}
 use Rattle.truth_table.specs.Terms.{AddsTerm, AreGroupWords, literal_at, literals_at, covers, covered}
 use Rattle.truth_table.proofs.Literals.{all_parts, and_turned, literals_apart, product_is}

@@ -1,6 +1,6 @@
 use Rattle.std.proofs.Common.{◌<◌, ◌≤◌, ◌+◌, ◌-◌, ◌^◌, slice_index, refl, sym, ap, ◌∙◌, subst, arith}
 use Rattle.std.proofs.lemmas.Nat.{one_shl}
-use Rattle.order_model.proofs.OrderLists.{has_at}
+use Rattle.order_model.proofs.Lists.Orders.{has_at}
 use Rattle.subset_layers.specs.Layers.{block_masks}
 use Rattle.subset_layers.proofs.BlockLists.{in_block}
 use Rattle.compaction.specs.Strips.{low_variables}

@@ -1,5 +1,5 @@
 use Rattle.std.proofs.Common.{◌≡◌, ◌<◌, ◌^◌, [], ℕ, List, length, slice_index, get_or, sym, ap, ◌∙◌, subst, arith}
-use Rattle.order_model.proofs.OrderLists.{has_at}
+use Rattle.order_model.proofs.Lists.Orders.{has_at}
 use Rattle.subset_layers.specs.Layers.{block_masks}
 use Rattle.subset_layers.proofs.BlockLists.{in_block}
 use Rattle.class_laws.specs.Table.{ClassesOf}

@@ -1,7 +1,7 @@
 use Rattle.std.proofs.Common.{◌≡◌, ◌<◌, ℕ, length, sym, ◌∙◌, get_or, subst, arith}
 use Rattle.std.proofs.lemmas.Nat.Bits.{shr_and_one, bit_at_set_same, bit_at_set_other}
 use Rattle.std.specs.Int.{w16}
-use Rattle.order_model.proofs.OrderTypes.{Seen, seen_none, seen_repeated, seen_more, seen_all}
+use Rattle.order_model.proofs.Lists.Accepted.{Seen, seen_none, seen_repeated, seen_more, seen_all}
 use Rattle.order_model.proofs.orders.has_repeat.Goals as goal
 
 pub loop-x-init : goal.loop-x-init

@@ -1,7 +1,7 @@
 use Rattle.std.proofs.Common.{sym, ap, ◌∙◌, arith}
 use Rattle.order_model.specs.Orders.{place_in}
-use Rattle.order_model.proofs.OrderLists.{place_get}
-use Rattle.order_model.proofs.OrderTypes.{index_of}
+use Rattle.order_model.proofs.Lists.Orders.{place_get}
+use Rattle.order_model.proofs.Lists.Accepted.{index_of}
 use Rattle.order_model.proofs.orders.place_in_list.Goals as goal
 
 pub returns-then-y-x-clause-place : goal.returns-then-y-x-clause-place

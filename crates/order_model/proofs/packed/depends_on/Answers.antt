@@ -1,6 +1,6 @@
 use Rattle.std.proofs.Common.{◌≡◌, ◌<◌, ◌^◌, ℕ, length, refl, sym, ◌∙◌, arith, inl, inr, get_or}
 use Rattle.std.proofs.lemmas.Bool.{cases_Bool}
-use Rattle.order_model.proofs.PackedTables.{rows_room, rows_depend, rows_alike, halves_depend, halves_alike}
+use Rattle.order_model.proofs.Bits.Tables.{rows_room, rows_depend, rows_alike, halves_depend, halves_alike}
 use Rattle.order_model.proofs.packed.depends_on.Goals as goal
 
 pub rows_differ-requires-clause-room : goal.rows_differ-requires-clause-room

@@ -1,6 +1,6 @@
 use Rattle.std.proofs.Common.{◌/◌, ◌^◌, ◌*◌, ◌%◌, arith, bit_xor}
 use Rattle.std.proofs.lemmas.Nat.{and_le_r}
-use Rattle.order_model.proofs.PackedWords.{step_is, found_difference, found_none}
+use Rattle.order_model.proofs.Bits.Words.{step_is, found_difference, found_none}
 use Rattle.order_model.proofs.packed.halves_differ.Goals as goal
 
 pub overflow_shr-result : goal.overflow_shr-result

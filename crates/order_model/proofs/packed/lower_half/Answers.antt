@@ -1,6 +1,6 @@
 use Rattle.std.proofs.Common.{◌≡◌, ◌-◌, refl, sym, ap, ◌∙◌, arith}
 use Rattle.std.specs.Int.{bit_at}
-use Rattle.order_model.proofs.PackedWords.{tested_below}
+use Rattle.order_model.proofs.Bits.Words.{tested_below}
 use Rattle.order_model.proofs.packed.lower_half.Goals as goal
 
 pub returns-in-0 : goal.returns-in-0

@@ -1,7 +1,7 @@
 use Rattle.std.proofs.Common.{◌≡◌, ◌<◌, ◌+◌, length, sym, ◌∙◌, subst, arith, get_or}
 use Rattle.std.proofs.lemmas.List.{set-get_or}
 use Rattle.std.proofs.lemmas.Nat.Bits.{shr_and_one}
-use Rattle.order_model.proofs.Closure.{JoinedTo, joined_none, joined_set, joined_kept, joined_all}
+use Rattle.order_model.proofs.Precedence.Closure.{JoinedTo, joined_none, joined_set, joined_kept, joined_all}
 use Rattle.order_model.proofs.pairs.join_through.Goals as goal
 use Rattle.order_model.proofs.pairs.join_through.Goals.{then-mask-k-eq1, else-mask-k-eq1}
 

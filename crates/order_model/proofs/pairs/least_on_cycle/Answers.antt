@@ -3,8 +3,8 @@ use Rattle.std.proofs.lemmas.Bool.{cases_eq}
 use Rattle.std.proofs.lemmas.Nat.Bits.{shr_and_one}
 use Rattle.order_model.specs.Pairs.{has_pair}
 use Rattle.order_model.specs.KeptPairs.{pairs_in, HasBit}
-use Rattle.order_model.proofs.PairMasks.{within_16, same_in, same_at, has_in}
-use Rattle.order_model.proofs.Closure.{Reaches, start, one_more, all_reached, leads_from_below}
+use Rattle.order_model.proofs.Precedence.Masks.{within_16, same_in, same_at, has_in}
+use Rattle.order_model.proofs.Precedence.Closure.{Reaches, start, one_more, all_reached, leads_from_below}
 use Rattle.order_model.proofs.pairs.least_on_cycle.Goals as goal
 
 small : (below : List ℕ) (a b : ℕ) → has_pair (pairs_in 16 below) a b ≡ true → (a < 16) × (b < 16)

@@ -1,6 +1,6 @@
 use Rattle.std.proofs.Common.{◌≡◌, ◌+◌, ◌-◌, ℕ, List, length, take, drop, take_all, length-drop, sym, ap, ap₂, ◌∙◌, arith}
 use Rattle.order_model.specs.PairTexts.{number_of, both}
-use Rattle.order_model.proofs.PairTextLaws.{pair_without_comma, pair_at, both_second_none}
+use Rattle.order_model.proofs.Precedence.Texts.{pair_without_comma, pair_at, both_second_none}
 use Rattle.order_model.proofs.pairs.pair.Goals as goal
 
 -- the rest of a part, as it is cut

@@ -1,7 +1,7 @@
 use Rattle.std.proofs.Common.{◌≡◌, ℕ, ◌+◌, ◌-◌, ◌<◌, unwrap_or, sym, ap, ◌∙◌, subst, arith}
 use Rattle.std.proofs.lemmas.Nat.Bits.{shr_and_one}
 use Rattle.order_model.specs.Orders.{has}
-use Rattle.order_model.proofs.PackedProblems.{MaskOfFirst, mask_none, mask_with_next, mask_without_next}
+use Rattle.order_model.proofs.Bits.Problems.{MaskOfFirst, mask_none, mask_with_next, mask_without_next}
 use Rattle.subset_layers.specs.Layers.{masks_of, layer_with}
 use Rattle.subset_layers.specs.Costs.{cost_at, cost_without}
 use Rattle.subset_layers.proofs.CostLists.{member_from_bit, power_le_mask, shifted_bit, less_one}

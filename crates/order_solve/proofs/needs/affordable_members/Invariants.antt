@@ -1,4 +1,4 @@
-use Rattle.order_model.proofs.PackedProblems.{MaskOfFirst}
+use Rattle.order_model.proofs.Bits.Problems.{MaskOfFirst}
 use Rattle.order_solve.proofs.Wanted.{is_affordable}
 use Rattle.order_solve.proofs.needs.affordable_members.Given as goal
 

@@ -2,7 +2,7 @@ use Rattle.std.proofs.Common.{◌≡◌, ◌-◌, ◌^◌, ◌≤◌, List, ℕ,
 use Rattle.order_model.specs.OrderFaults.{Accepts, Refuses}
 use Rattle.order_model.specs.Problems.{functions}
 use Rattle.order_model.specs.Cells.{IsReadFrom}
-use Rattle.order_model.proofs.PairOrders.{in_range}
+use Rattle.order_model.proofs.Precedence.Greedy.{in_range}
 use Rattle.layer_board.specs.Views.{Setting}
 use Rattle.order_solve.specs.Bounded.{IsBounded}
 use Rattle.order_solve.proofs.ReadOrders.{order_accepted}

@@ -2,7 +2,7 @@ use Rattle.std.proofs.Common.{◌≡◌, ◌+◌, ◌*◌, ◌^◌, ◌<◌, len
 use Rattle.std.proofs.lemmas.Nat.{one_shl, pow_pos}
 use Rattle.std.specs.List.{list_any, position_or_len}
 use Rattle.order_model.specs.Widths.{same_pair}
-use Rattle.order_model.proofs.ClassPairs.{pair_decides}
+use Rattle.order_model.proofs.Widths.ClassPairs.{pair_decides}
 use Rattle.class_laws.specs.Numbering.{rank}
 use Rattle.class_laws.specs.Places as places
 use Rattle.class_laws.proofs.Ranks.{Numbers, numbers_none}

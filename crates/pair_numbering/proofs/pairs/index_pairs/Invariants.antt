@@ -3,7 +3,7 @@ use Rattle.order_model.specs.Widths.{same_pair}
 use Rattle.class_laws.specs.Numbering.{rank}
 use Rattle.class_laws.specs.Places as places
 use Rattle.class_laws.proofs.Ranks.{Numbers}
-use Rattle.order_model.proofs.ClassPairs.{pair_decides}
+use Rattle.order_model.proofs.Widths.ClassPairs.{pair_decides}
 use Rattle.pair_numbering.proofs.pairs.index_pairs.Given as goal
 
 abbrev pub invariant-loop-j : goal.invariant-loop-j

@@ -2,7 +2,7 @@ use Rattle.std.proofs.Common.{◌≡◌, ℕ, Bool, false, true, length, sym, ap
 use Rattle.order_model.specs.declared.Ref.{Ref}
 use Rattle.order_model.specs.declared.Ref.TheVariants.{Terminal}
 use Rattle.order_model.specs.Diagrams.{IsBefore}
-use Rattle.order_model.proofs.Paths.{before_more}
+use Rattle.order_model.proofs.Nodes.Paths.{before_more}
 use Rattle.sifting.specs.Cuts.{code_of, ref_of, split_ref, ref_at, SplitsFirst}
 use Rattle.sifting.proofs.Making.{numbers_step}
 use Rattle.sifting.proofs.Rooting.{numbers_decide}

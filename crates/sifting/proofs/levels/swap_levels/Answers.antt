@@ -1,6 +1,6 @@
 use Rattle.std.proofs.Common.{◌≡◌, arith, subst, refl, length, false, true}
 use Rattle.order_model.specs.Widths.{same_pair}
-use Rattle.order_model.proofs.ClassPairs.{pair_decides}
+use Rattle.order_model.proofs.Widths.ClassPairs.{pair_decides}
 use Rattle.sifting.specs.Leveled.{ExchangesFirst, grandchildren}
 use Rattle.sifting.proofs.Making.{numbers_step}
 use Rattle.sifting.proofs.levels.swap_levels.Goals as goal

@@ -1,6 +1,6 @@
 use Rattle.std.proofs.Common.{◌≡◌, ℕ, ◌+◌, ◌-◌, ◌<◌, ◌≤◌, Option, Some, None, IfSome, IsNone, IsTrue, unwrap_or, slice_index, refl, sym, ap, ◌∙◌, subst, arith}
 use Rattle.std.proofs.lemmas.Bool.{true≢false}
-use Rattle.order_model.proofs.Masks.{members_small}
+use Rattle.order_model.proofs.Bits.Masks.{members_small}
 use Rattle.subset_layers.specs.declared.recurrence.Sum.{Sum}
 use Rattle.order_model.specs.Orders.{has, members}
 use Rattle.subset_layers.specs.Costs.{cost_at, cost_without}

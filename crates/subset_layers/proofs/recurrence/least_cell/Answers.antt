@@ -4,7 +4,7 @@ use Rattle.order_model.specs.Orders.{IsOrder, members}
 use Rattle.order_model.specs.Pairs.{Pair, Keeps, is_lawful}
 use Rattle.order_model.specs.KeptPairs.{CanBeKept}
 use Rattle.order_model.specs.Cells.{first_of}
-use Rattle.order_model.proofs.Cycles.{acyclic_kept}
+use Rattle.order_model.proofs.Precedence.Cycles.{acyclic_kept}
 use Rattle.subset_layers.proofs.BlockLists.{has_masks}
 use Rattle.subset_layers.proofs.CellSteps.{cell_clipped, some_member}
 use Rattle.subset_layers.proofs.recurrence.least_cell.Goals as goal

@@ -1,6 +1,6 @@
 use Rattle.std.proofs.Common.{◌≡◌, ◌^◌, ◌*◌, ◌/◌, ◌%◌, sym, ap, ◌∙◌, arith, bit_and, bit_or}
 use Rattle.std.specs.Int.{bit_at}
-use Rattle.order_model.proofs.PackedWords.{step_is}
+use Rattle.order_model.proofs.Bits.Words.{step_is}
 use Rattle.truth_table.specs.Fixing.{fixed_bit}
 use Rattle.truth_table.proofs.FixedBits.{upper_bit, lower_bit}
 use Rattle.truth_table.proofs.fixing.fixed_word.Goals as goal

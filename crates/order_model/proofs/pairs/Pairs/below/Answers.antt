@@ -2,7 +2,7 @@ use Rattle.std.proofs.Common.{◌≡◌, ◌↔◌, ℕ, ◌^◌, ◌<◌, get_o
 use Rattle.std.specs.Int.{bit_at}
 use Rattle.order_model.specs.Pairs.{has_pair}
 use Rattle.order_model.specs.KeptPairs.{KeptPairs}
-use Rattle.order_model.proofs.PairMasks.{same_in, same_at, small_mask}
+use Rattle.order_model.proofs.Precedence.Masks.{same_in, same_at, small_mask}
 use Rattle.order_model.specs.KeptPairs.{pairs_in}
 use Rattle.order_model.proofs.pairs.Pairs.below.Goals as goal
 

@@ -1,7 +1,7 @@
 use Rattle.std.proofs.Common.{◌≡◌, ℕ, length, arith, sym, ap, ◌∙◌, subst}
 use Rattle.order_model.specs.KeptPairs.{KeptPairs}
-use Rattle.order_model.proofs.PairMasks.{row_small}
-use Rattle.order_model.proofs.PairLaws.{rows_to, rows_all, rows_none, rows_more, row_few}
+use Rattle.order_model.proofs.Precedence.Masks.{row_small}
+use Rattle.order_model.proofs.Precedence.MaskLaws.{rows_to, rows_all, rows_none, rows_more, row_few}
 use Rattle.order_model.proofs.pairs.Pairs.count.Goals as goal
 
 pub loop-a-init : goal.loop-a-init

@@ -4,8 +4,8 @@ use Rattle.std.proofs.lemmas.Nat.Bits.{ones_shr}
 use Rattle.order_model.specs.OrderFaults.{Accepts, Refuses}
 use Rattle.order_model.specs.Pairs.{IsFirstOrder}
 use Rattle.order_model.specs.KeptPairs.{KeptPairs, CanBeKept}
-use Rattle.order_model.proofs.PairLaws.{member_bit}
-use Rattle.order_model.proofs.PairOrders.{GreedyTo, pow_le_bit, top_parts, greedy_start, greedy_some, greedy_step, greedy_end, first_accepted, in_range}
+use Rattle.order_model.proofs.Precedence.MaskLaws.{member_bit}
+use Rattle.order_model.proofs.Precedence.Greedy.{GreedyTo, pow_le_bit, top_parts, greedy_start, greedy_some, greedy_step, greedy_end, first_accepted, in_range}
 use Rattle.order_model.proofs.pairs.Pairs.first_order.Goals as goal
 
 all_below : (n : ℕ) → n ≤ 16 → 65535 / 2 ^ (16 - n) ≡ 2 ^ n - 1

@@ -3,8 +3,8 @@ use Rattle.std.proofs.lemmas.Nat.Bits.{bit_at_set_same, bit_at_set_other}
 use Rattle.order_model.specs.Orders.{IsOrder}
 use Rattle.order_model.specs.Pairs.{keeps}
 use Rattle.order_model.specs.KeptPairs.{KeptPairs}
-use Rattle.order_model.proofs.OrderTypes.{seen_more, seen_none, seen_repeated}
-use Rattle.order_model.proofs.PairLaws.{keeps_in, broken_at, kept_more, KeptTo, order_of}
+use Rattle.order_model.proofs.Lists.Accepted.{seen_more, seen_none, seen_repeated}
+use Rattle.order_model.proofs.Precedence.MaskLaws.{keeps_in, broken_at, kept_more, KeptTo, order_of}
 use Rattle.order_model.proofs.pairs.Pairs.keeps.Goals as goal
 
 pub loop-x-init : goal.loop-x-init

@@ -1,12 +1,12 @@
 use Rattle.std.proofs.Common.{◌≡◌, ◌<◌, ℕ, arith, subst, sym, inl, inr, get_or, ◌∙◌, true, false}
-use Rattle.order_model.proofs.PairMasks.{row_in_16}
+use Rattle.order_model.proofs.Precedence.Masks.{row_in_16}
 use Rattle.std.specs.Int.{bit_at}
 use Rattle.std.proofs.lemmas.Bool.{cases_eq}
 use Rattle.std.proofs.lemmas.Nat.Bits.{shr_and_one}
 use Rattle.order_model.specs.Orders.{members}
 use Rattle.order_model.specs.Pairs.{is_lawful}
 use Rattle.order_model.specs.KeptPairs.{KeptPairs, HasBit}
-use Rattle.order_model.proofs.PairLaws.{lawful_in, unlawful_in, bits_inside, bit_beyond}
+use Rattle.order_model.proofs.Precedence.MaskLaws.{lawful_in, unlawful_in, bits_inside, bit_beyond}
 use Rattle.order_model.proofs.pairs.Pairs.lawful.Goals as goal
 use Rattle.order_model.proofs.pairs.Pairs.lawful.Goals.{else-set-a-eq1-via-then-set-a-eq1+else-below-set-ne0, else-set-a-eq1-via-else-set-a-eq1}
 

@@ -1,7 +1,7 @@
 use Rattle.std.proofs.Common.{refl}
 use Rattle.std.proofs.lemmas.Bool.{false≢true}
 use Rattle.order_model.specs.PairTexts.{listed}
-use Rattle.order_model.proofs.PairTextLaws.{out_of_range, cycle, accepted, holds}
+use Rattle.order_model.proofs.Precedence.Texts.{out_of_range, cycle, accepted, holds}
 use Rattle.order_model.proofs.pairs.Pairs.parse.Goals as goal
 
 pub returns-then-not-are_within : goal.returns-then-not-are_within

@@ -5,8 +5,8 @@ use Rattle.std.proofs.lemmas.Nat.Bits.{shr_and_one}
 use Rattle.order_model.specs.Orders.{has, members}
 use Rattle.order_model.specs.Pairs.{is_lawful, tops}
 use Rattle.order_model.specs.KeptPairs.{KeptPairs, CanBeKept}
-use Rattle.order_model.proofs.PairLaws.{member_bit}
-use Rattle.order_model.proofs.PairOrders.{pow_le_bit, top_from, top_parts, some_top_below}
+use Rattle.order_model.proofs.Precedence.MaskLaws.{member_bit}
+use Rattle.order_model.proofs.Precedence.Greedy.{pow_le_bit, top_from, top_parts, some_top_below}
 use Rattle.order_model.proofs.pairs.Pairs.smallest_top.Goals as goal
 use Rattle.order_model.proofs.pairs.Pairs.smallest_top.Goals.{else-set-x-eq1-via-then-set-x-eq1+else-lawful, else-set-x-eq1-via-else-set-x-eq1}
 

@@ -1,7 +1,7 @@
 use Rattle.std.proofs.Common.{◌≡◌, get_or, sym, ap, ◌∙◌, subst, arith}
 use Rattle.std.proofs.lemmas.Nat.Bits.{shr_and_one}
 use Rattle.order_model.specs.KeptPairs.{KeptPairs}
-use Rattle.order_model.proofs.PairLaws.{rows_to, row_to, rows_start, rows_all, row_start, row_pair, row_skip, row_end}
+use Rattle.order_model.proofs.Precedence.MaskLaws.{rows_to, row_to, rows_start, rows_all, row_start, row_pair, row_skip, row_end}
 use Rattle.order_model.proofs.pairs.Pairs.to_vec.Goals as goal
 use Rattle.order_model.proofs.pairs.Pairs.to_vec.Goals.{then-mask-b-eq1+in_ok-push, else-mask-b-eq1}
 

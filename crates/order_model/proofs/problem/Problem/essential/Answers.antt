@@ -1,5 +1,5 @@
 use Rattle.std.proofs.Common.{◌≡◌, ◌<◌, ◌+◌, ℕ, sym, ◌∙◌, arith, subst}
-use Rattle.order_model.proofs.PackedProblems.{MaskOfFirst, mask_none, mask_with_next, mask_without_next, some_dependence, dependence_is, essential_is}
+use Rattle.order_model.proofs.Bits.Problems.{MaskOfFirst, mask_none, mask_with_next, mask_without_next, some_dependence, dependence_is, essential_is}
 use Rattle.order_model.proofs.problem.Problem.essential.Goals as goal
 use Rattle.order_model.proofs.problem.Problem.essential.Goals.{then-has_dependence, else-has_dependence}
 

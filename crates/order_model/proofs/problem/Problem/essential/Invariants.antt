@@ -1,4 +1,4 @@
-use Rattle.order_model.proofs.PackedProblems.{MaskOfFirst, some_dependence}
+use Rattle.order_model.proofs.Bits.Problems.{MaskOfFirst, some_dependence}
 use Rattle.order_model.proofs.problem.Problem.essential.Given as goal
 
 abbrev pub invariant-loop-x : goal.invariant-loop-x

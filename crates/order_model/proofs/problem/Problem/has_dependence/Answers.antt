@@ -1,7 +1,7 @@
 use Rattle.std.proofs.Common.{List, Bool, sym, ap, ◌∙◌, arith}
 use Rattle.order_model.specs.Functions.{depends, from_table}
 use Rattle.order_model.specs.Problems.{table_in}
-use Rattle.order_model.proofs.PackedProblems.{some_depends, none_depends}
+use Rattle.order_model.proofs.Bits.Problems.{some_depends, none_depends}
 use Rattle.order_model.proofs.problem.Problem.has_dependence.Goals as goal
 
 pub returns-then-depends_on : goal.returns-then-depends_on

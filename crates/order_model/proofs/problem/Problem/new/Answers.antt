@@ -1,6 +1,6 @@
 use Rattle.std.proofs.Common.{◌≡◌, ◌*◌, replicate, ap, ◌∙◌, rules}
 use Rattle.order_model.specs.Problems.{tables_of}
-use Rattle.order_model.proofs.PackedProblems.{tables_of_zeros}
+use Rattle.order_model.proofs.Bits.Problems.{tables_of_zeros}
 use Rattle.order_model.proofs.problem.Problem.new.Goals as goal
 
 pub returns-clause-tables : goal.returns-clause-tables

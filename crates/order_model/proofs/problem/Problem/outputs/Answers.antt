@@ -1,6 +1,6 @@
 use Rattle.std.proofs.Common.{sym, ap, ◌∙◌}
 use Rattle.order_model.specs.Problems.{TruthTables, outputs_of}
-use Rattle.order_model.proofs.PackedProblems.{length-tables_of}
+use Rattle.order_model.proofs.Bits.Problems.{length-tables_of}
 use Rattle.order_model.proofs.problem.Problem.outputs.Goals as goal
 
 pub returns-clause-value : goal.returns-clause-value

@@ -1,6 +1,6 @@
 use Rattle.std.proofs.Common.{◌<◌, ◌*◌, ◌+◌, ◌/◌, length, ◌∙◌, arith}
 use Rattle.std.proofs.lemmas.List.{get_or_default}
-use Rattle.order_model.proofs.PackedProblems.{set_facts}
+use Rattle.order_model.proofs.Bits.Problems.{set_facts}
 use Rattle.order_model.proofs.problem.Problem.set.Goals as goal
 
 pub index_mut-requires : goal.index_mut-requires

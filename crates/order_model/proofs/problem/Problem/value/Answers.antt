@@ -1,5 +1,5 @@
 use Rattle.std.proofs.Common.{List, Bool, false, get_or, sym, ap, ◌∙◌}
-use Rattle.order_model.proofs.PackedTables.{table_value}
+use Rattle.order_model.proofs.Bits.Tables.{table_value}
 use Rattle.order_model.proofs.problem.Problem.value.Goals as goal
 
 pub returns : goal.returns

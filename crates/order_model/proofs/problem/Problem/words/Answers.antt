@@ -1,6 +1,6 @@
 use Rattle.std.proofs.Common.{◌*◌, ◌+◌, ◌≤◌, ℕ, List, length, sym, ap, ◌∙◌, subst}
 use Rattle.order_model.specs.Problems.{IsClean, table_in, words_of}
-use Rattle.order_model.proofs.PackedProblems.{block_facts}
+use Rattle.order_model.proofs.Bits.Problems.{block_facts}
 use Rattle.order_model.proofs.problem.Problem.words.Goals as goal
 
 pub block-requires : goal.block-requires

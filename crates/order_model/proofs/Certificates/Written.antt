@@ -1,0 +1,219 @@
+-- The certificate that the tool writes is good.
+use Rattle.std.proofs.Common.{◌≡◌, ◌≢◌, ℕ, ◌+◌, ◌-◌, ◌^◌, ◌<◌, ◌≤◌, Bool, true, false, not, eq-eqb, ne_eqb, ◌&&◌, ◌||◌, inl, inr, List, [], ◌∷◌, refl, sym, ap, ◌∙◌, subst, arith, nat_eq, ltb, pow_pos, IsFalse}
+use Rattle.std.specs.List.{range_with_len, AllByRecursion}
+use Rattle.std.proofs.lemmas.Bool.{cases_lt, cases_eq, or_left, and_parts, and_from, ltb-true, lt-ltb}
+use Rattle.std.proofs.lemmas.List.Elements.{All-from_recursion}
+use Rattle.order_model.specs.Functions.{Function}
+use Rattle.order_model.specs.Orders.{has, IsOrder, variables, members, without}
+use Rattle.order_model.specs.Pairs.{Pair, Keeps, is_lawful, sorted_pairs}
+use Rattle.order_model.specs.Levels.{size_under}
+use Rattle.order_model.specs.Widths.{width, least, essentials_outside}
+use Rattle.order_model.specs.Diagrams.{HasFewestKeeping}
+use Rattle.order_model.specs.Certificates.{Certificate, Cell, IsGood, IsCertOf, reserve, set_value, AreBothLawful, listed_masks, least_listed, certificate_of}
+use Rattle.order_model.proofs.Lists.Sets.{Among, among_map, among_from_map}
+use Rattle.order_model.proofs.Lists.Orders.{has_filter, has_range}
+use Rattle.order_model.proofs.Precedence.Lists.{lawful_same, lawful_whole, are_lawful_nil}
+use Rattle.order_model.proofs.Precedence.Sets.{has_sorted, keeps_same, lawful_same_pairs}
+use Rattle.order_model.proofs.Functions.Exchange.{size_is_cost, width_same}
+use Rattle.order_model.proofs.Bits.Masks.{members_full, mask_with}
+use Rattle.order_model.proofs.Widths.Recurrence.{among_has, has_among, least_same, recurrence_le, least-nil, has_without, without_top}
+use Rattle.order_model.proofs.Widths.Fewest.{ground, all_lawful, has_fewest_lem}
+use Rattle.order_model.proofs.Widths.Cells.{lawful_members, members_zero}
+use Rattle.order_model.proofs.Certificates.Potential.{value_cases}
+
+mask_listed : (n : ℕ) (F : List Function) (P : List Pair) (m : ℕ) → (least_listed n F P m).mask ≡ m
+unfolding least_listed
+mask_listed n F P m = refl
+
+-- a set, got from the set with x
+back : (x : ℕ) (S T : List ℕ) → has S x ≡ false → ((y : ℕ) → has (x ∷ S) y ≡ has T y) → (y : ℕ) → has S y ≡ has (without x T) y
+back x S T out h y = sym (has_without x T y ∙ ap (λ b. b && not (nat_eq x y)) (sym (h y)) ∙ by)
+  where
+    by : ((nat_eq y x || has S y) && not (nat_eq x y)) ≡ has S y
+    by =
+        elim (cases_eq y x) [
+          | inl e ↦ ap (λ b. (nat_eq y x || has S y) && not b) (eq-eqb x y (sym e)) ∙ last (nat_eq y x || has S y) ∙ sym (ap (has S) e ∙ out)
+          | inr ne ↦ ap (λ b. (b || has S y) && not (nat_eq x y)) (ne_eqb y x ne) ∙ ap (λ b. has S y && not b) (ne_eqb x y (λ e. ne (sym e))) ∙ and_true (has S y)
+        ]
+      where
+        last : (a : Bool) → (a && false) ≡ false
+        last true = refl
+        last false = refl
+
+        and_true : (a : Bool) → (a && true) ≡ a
+        and_true true = refl
+        and_true false = refl
+
+all_from_among : {X : Type 0} (Q : X → Type 0) (xs : List X) → ((x : X) → Among x xs → Q x) → AllByRecursion Q xs
+all_from_among Q [] h = tt
+all_from_among Q (x ∷ xs) h = (h x (inl refl), all_from_among Q xs (λ y m. h y (inr m)))
+
+module _ (n : ℕ) (F : List Function) (P : List Pair) (order : List ℕ) (best : HasFewestKeeping n F P order) where
+  o : IsOrder n order
+  o = best.is_order
+
+  k : Keeps P order
+  k = best.kept
+
+  N : ℕ
+  N = size_under n F order
+
+  S : ℕ → List ℕ
+  S m = members n m
+
+  -- whether the tool lists a set
+  Listed : ℕ → Type 0
+  Listed m = (m < 2 ^ n - 1) × (is_lawful P (members n m) ≡ true) × (least n F P (members n m) + essentials_outside n F (members n m) < size_under n F order)
+
+  listed_parts : (m : ℕ) → has (listed_masks n F P (size_under n F order)) m ≡ true → Listed m
+  unfolding listed_masks Listed
+  listed_parts m h =
+      let test = λ (j : ℕ). is_lawful P (members n j) && ltb (least n F P (members n j) + essentials_outside n F (members n j)) (size_under n F order) in
+      let parts = and_parts (has (range_with_len 0 (2 ^ n - 1)) m) (test m) (sym (has_filter test (range_with_len 0 (2 ^ n - 1)) m) ∙ h) in
+      let more = and_parts (is_lawful P (members n m)) (ltb (least n F P (members n m) + essentials_outside n F (members n m)) (size_under n F order)) parts.1 in
+      let r = (has_range (2 ^ n - 1) 0 m).0 parts.0 in
+      (omega (arith, r.1), more.0, ltb-true (least n F P (members n m) + essentials_outside n F (members n m)) (size_under n F order) more.1)
+
+  listed_from : (m : ℕ) → Listed m → has (listed_masks n F P (size_under n F order)) m ≡ true
+  unfolding listed_masks Listed
+  listed_from m h =
+      let test = λ (j : ℕ). is_lawful P (members n j) && ltb (least n F P (members n j) + essentials_outside n F (members n j)) (size_under n F order) in
+      has_filter test (range_with_len 0 (2 ^ n - 1)) m
+      ∙ and_from _ _ ((has_range (2 ^ n - 1) 0 m).1 (omega arith, omega (arith, h.0))) (and_from _ _ h.1 (lt-ltb (least n F P (members n m) + essentials_outside n F (members n m)) (size_under n F order) h.2))
+
+  -- the size of the order is the least cost of all variables
+  total_least : size_under n F order ≡ least n F P (members n (2 ^ n - 1))
+  total_least =
+      let is = (has_fewest_lem n F P order).0 best in
+      let all = all_lawful n P order o k in
+      let low = lawful_same P (members n (2 ^ n - 1)) (variables n) (members_full n) ∙ all.lawful in
+      size_is_cost n F order o ∙ is.least_cost
+      ∙ sym (least_same n F P order (ground n P order o k) (members n (2 ^ n - 1)) (variables n) (lawful_members n F P order o k (2 ^ n - 1) low) all (members_full n))
+
+  cert : Certificate
+  cert = certificate_of n F P order
+
+  cell_parts : (c : Cell) → Among c cert.cells → Listed c.mask × (c.cost ≡ least n F P (members n c.mask))
+  unfolding cert certificate_of least_listed
+  cell_parts c m =
+      let from = among_from_map (least_listed n F P) c (listed_masks n F P (size_under n F order)) m in
+      let h = listed_parts from.0 (among_has (listed_masks n F P (size_under n F order)) from.0 from.1) in
+      let e : c.mask ≡ from.0 = ap (λ (d : Cell). d.mask) from.2 in
+      (subst Listed (sym e) h, ap (λ (d : Cell). d.cost) from.2 ∙ ap (λ j. least n F P (members n j)) (sym e))
+
+  cell_from_listed : (m : ℕ) → Listed m → Among (least_listed n F P m) cert.cells
+  unfolding cert certificate_of
+  cell_from_listed m h = among_map (least_listed n F P) m (listed_masks n F P (size_under n F order)) (has_among (listed_masks n F P (size_under n F order)) m (listed_from m h))
+
+  reserve_is : (m : ℕ) → reserve n F cert m ≡ essentials_outside n F (members n m)
+  unfolding cert certificate_of reserve
+  reserve_is m = refl
+
+  total_is : cert.total ≡ size_under n F order
+  unfolding cert certificate_of
+  total_is = refl
+
+  inputs_is : cert.inputs ≡ n
+  unfolding cert certificate_of
+  inputs_is = refl
+
+  -- the value of a lawful set is at most its least cost
+  value_at : (m : ℕ) → m < 2 ^ n → is_lawful P (members n m) ≡ true → set_value n F cert m ≤ least n F P (members n m)
+  unfolding Listed
+  value_at m lt l =
+      elim (value_cases n F cert m) [
+        | inl full ↦
+            let e = full.1 ∙ total_is ∙ total_least ∙ ap (λ j. least n F P (members n j)) (sym (full.0 ∙ ap (λ j. 2 ^ j - 1) inputs_is)) in
+            omega arith
+        | inr r ↦ elim r [
+          | inl s ↦ let c = cell_parts s.0 s.1 in let e = s.3 ∙ c.1 ∙ ap (λ j. least n F P (members n j)) s.2 in omega arith
+          | inr u ↦
+              let e = u.2 in
+              let t = total_is in
+              let v = reserve_is m in
+              elim (cases_lt (least n F P (members n m) + essentials_outside n F (members n m)) (size_under n F order)) [
+                | inl low ↦
+                    let ne : m ≢ 2 ^ n - 1 = λ f. u.1 (f ∙ ap (λ j. 2 ^ j - 1) (sym inputs_is)) in
+                    absurd (u.0 (least_listed n F P m) (cell_from_listed m (omega (arith, ne), l, low)) (mask_listed n F P m))
+                | inr ge ↦ omega arith
+              ]
+        ]
+      ]
+
+  -- and a listed set's is its least cost
+  value_listed : (m : ℕ) → Listed m → set_value n F cert m ≡ least n F P (members n m)
+  unfolding Listed
+  value_listed m h =
+      elim (value_cases n F cert m) [
+        | inl full ↦ let e = full.0 ∙ ap (λ j. 2 ^ j - 1) inputs_is in absurd (omega (arith, h.0))
+        | inr r ↦ elim r [
+          | inl s ↦ s.3 ∙ (cell_parts s.0 s.1).1 ∙ ap (λ j. least n F P (members n j)) s.2
+          | inr u ↦ absurd (u.0 (least_listed n F P m) (cell_from_listed m h) (mask_listed n F P m))
+        ]
+      ]
+
+  -- the empty set is lawful, and has the least cost 0
+  start_value : set_value n F cert 0 ≡ 0
+  start_value =
+      let none = members_zero n in
+      let low = ap (is_lawful P) none ∙ lawful_whole P [] (are_lawful_nil P) in
+      let le = value_at 0 (pow_pos n) low in
+      let e = ap (least n F P) none ∙ least-nil n F P in
+      omega arith
+
+  small_cells : (c : Cell) → Among c cert.cells → c.cost + reserve n F cert c.mask ≤ cert.total
+  unfolding Listed
+  small_cells c m = let h = cell_parts c m in let r = reserve_is c.mask in let t = total_is in omega (arith, h.0.2, h.1)
+
+  pairs_is : (T : List ℕ) → is_lawful cert.pairs T ≡ is_lawful P T
+  unfolding cert certificate_of o k
+  pairs_is T = lawful_same_pairs (sorted_pairs n P) P (has_sorted n P order o k) T
+
+  edges_hold : (c : Cell) → Among c cert.cells → (x : ℕ) → x < n → IsFalse (has (members n c.mask) x) → AreBothLawful n cert.pairs c.mask x →
+      set_value n F cert (c.mask + 2 ^ x) ≤ set_value n F cert c.mask + width n F (members n c.mask) x
+  unfolding Listed
+  edges_hold c m x small out lawful =
+      let h = (cell_parts c m).0 in
+      let lt : c.mask < 2 ^ n = omega (arith, h.0) in
+      let with' = mask_with n c.mask x lt small out in
+      let high = lawful_same P (members n (c.mask + 2 ^ x)) (x ∷ members n c.mask) with'.1 ∙ sym (pairs_is (x ∷ members n c.mask)) ∙ lawful.1 in
+      let le = value_at (c.mask + 2 ^ x) with'.0 high in
+      let e = value_listed c.mask h in
+      let step = grown c.mask x lt small out h.1 high in
+      omega arith
+    where
+      grown : (mask x : ℕ) → mask < 2 ^ n → x < n → has (members n mask) x ≡ false → is_lawful P (members n mask) ≡ true → is_lawful P (members n (mask + 2 ^ x)) ≡ true →
+          least n F P (members n (mask + 2 ^ x)) ≤ least n F P (members n mask) + width n F (members n mask) x
+      grown mask x lt small out low high =
+          let with' = mask_with n mask x lt small out in
+          let T = members n (mask + 2 ^ x) in
+          let there : has T x ≡ true = with'.1 x ∙ (or_left (nat_eq x x) (has (members n mask) x) (eq-eqb x x refl)) in
+          let same : (y : ℕ) → has (without x T) y ≡ has (members n mask) y = λ y. sym (back x (members n mask) T out (λ z. sym (with'.1 z)) y) in
+          let l = lawful_same P (without x T) (members n mask) same ∙ low in
+          let set = lawful_members n F P order o k (mask + 2 ^ x) high in
+          let le = recurrence_le n F P order (ground n P order o k) T x set there l in
+          let a = least_same n F P order (ground n P order o k) (without x T) (members n mask) (without_top n F P order (ground n P order o k) T x set l) (lawful_members n F P order o k mask low) same in
+          let b = width_same n F (without x T) (members n mask) x same in
+          omega arith
+
+  -- the certificate that the tool writes is good
+  pub written_is_good : IsGood n F (certificate_of n F P order)
+  unfolding certificate_of size_under o k cert
+  written_is_good = record {
+    inputs = refl;
+    outputs = refl;
+    order = o;
+    pairs = keeps_same (sorted_pairs n P) P (has_sorted n P order o k) order ∙ k;
+    levels = refl;
+    total = refl;
+    start = start_value;
+    cells = All-from_recursion (λ (c : Cell). c.cost + reserve n F cert c.mask ≤ cert.total) cert.cells (all_from_among (λ (c : Cell). c.cost + reserve n F cert c.mask ≤ cert.total) cert.cells small_cells);
+    edges = All-from_recursion Edges cert.cells (all_from_among Edges cert.cells edges_hold);
+  }
+    where
+      Edges : Cell → Type 0
+      Edges c = (x : ℕ) → x < n → IsFalse (has (members n c.mask) x) → AreBothLawful n cert.pairs c.mask x → set_value n F cert (c.mask + 2 ^ x) ≤ set_value n F cert c.mask + width n F (members n c.mask) x
+
+-- so is each certificate that is the tool's
+pub cert_of_is_good : (n : ℕ) (F : List Function) (P : List Pair) (cert : Certificate) → IsCertOf n F P cert → IsGood n F cert
+cert_of_is_good n F P cert h = subst (IsGood n F) (sym h.parts) (written_is_good n F P cert.order h.first.fewest)

@@ -1,0 +1,57 @@
+-- One step of a walk along a point's path.
+use Rattle.std.proofs.Common.{◌≡◌, ℕ, suc, ◌<◌, ◌≤◌, ◌/◌, ◌^◌, false, cond, List, length, sym, ap, ◌∙◌, subst, arith, eqb, eq-eqb, ne_eqb, bit_and, get_or}
+use Rattle.std.specs.Int.{bit_at}
+use Rattle.std.proofs.lemmas.List.FromFn.{get_or-map-range_with_len}
+use Rattle.std.proofs.Common.{zero-add}
+use Rattle.order_model.specs.declared.Ref.{Ref}
+use Rattle.order_model.specs.declared.Ref.TheVariants.{Terminal, Place}
+use Rattle.order_model.specs.declared.Node.{Node}
+use Rattle.order_model.specs.Functions.{Point, bit, point_of}
+use Rattle.std.proofs.lemmas.Nat.Bits.{shr_and_one}
+use Rattle.std.proofs.lemmas.Option.{slice_get-get_or}
+use Rattle.order_model.specs.Diagrams.{IsBefore, AreNodes, child_at, value}
+use Rattle.order_model.proofs.Nodes.Paths.{value_place, child_before, before_more}
+use Rattle.order_model.proofs.Nodes.Appended.{graph_of, diagram_of}
+
+-- how far a ref is from a terminal, at most
+abbrev pub rank_of : Ref → ℕ
+rank_of (Terminal b) = 0
+rank_of (Place k) = suc k
+
+pub rank-before : (k : ℕ) (r : Ref) → IsBefore k r → rank_of r ≤ k
+rank-before k (Terminal b) h = omega arith
+rank-before k (Place j) h = omega (arith, h)
+
+-- the bits of the point with a number
+pub bit-point_of : (n k x : ℕ) → x < n → bit (point_of n k) x ≡ eqb (bit_at k x) 1
+unfolding point_of
+bit-point_of n k x h = get_or-map-range_with_len (λ y. eqb (bit_at k y) 1) 0 n x x false h (zero-add x)
+
+-- the child that the code takes
+pub child_upper : (n k : ℕ) (node : Node) → node.variable < n → bit_and (k / 2 ^ node.variable) 1 ≡ 1 → node.upper ≡ child_at (point_of n k) node
+child_upper n k node h e = ap (λ b. cond b node.upper node.lower) (sym (bit-point_of n k node.variable h ∙ eq-eqb (bit_at k node.variable) 1 (sym (shr_and_one k node.variable) ∙ e)))
+
+pub child_lower : (n k : ℕ) (node : Node) → node.variable < n → (bit_and (k / 2 ^ node.variable) 1 ≡ 1 → ⊥) → node.lower ≡ child_at (point_of n k) node
+child_lower n k node h ne = ap (λ b. cond b node.upper node.lower) (sym (bit-point_of n k node.variable h ∙ ne_eqb (bit_at k node.variable) 1 (λ e. ne (shr_and_one k node.variable ∙ e))))
+
+-- a step keeps the value
+pub value_step : (n : ℕ) (nodes : List Node) → AreNodes n nodes → (p : Point) (k : ℕ) (d : Node) → k < length nodes → value nodes (child_at p (get_or nodes k d)) p ≡ value nodes (Place k) p
+value_step n nodes fit p k d h = sym (value_place n (graph_of nodes) (diagram_of n nodes fit) p k (get_or nodes k d) (slice_get-get_or nodes k d h))
+
+-- the child is before its parent
+pub step_before : (n : ℕ) (nodes : List Node) → AreNodes n nodes → (p : Point) (k : ℕ) (d : Node) → k < length nodes → IsBefore k (child_at p (get_or nodes k d))
+step_before n nodes fit p k d h = child_before n (graph_of nodes) (diagram_of n nodes fit) k (get_or nodes k d) (bit p (get_or nodes k d).variable) (slice_get-get_or nodes k d h)
+
+-- a step of the walk: from a place to a child before it, of the same value
+pub walk_step : (n : ℕ) (nodes : List Node) → AreNodes n nodes → (p : Point) (k : ℕ) (d : Node) (here result : Ref) → here ≡ Place k → IsBefore (length nodes) here → result ≡ child_at p (get_or nodes k d) →
+    IsBefore (length nodes) result × (rank_of result < rank_of here) × (value nodes result p ≡ value nodes here p)
+walk_step n nodes fit p k d here result e before f =
+    let lt : IsBefore (length nodes) (Place k) = subst (IsBefore (length nodes)) e before in
+    let child = step_before n nodes fit p k d lt in
+    let back = subst (IsBefore k) (sym f) child in
+    let low = rank-before k result back in
+    let high = ap rank_of e in
+    (before_more k (length nodes) result (omega (arith, lt)) back, omega arith, ap (λ r. value nodes r p) f ∙ value_step n nodes fit p k d lt ∙ ap (λ r. value nodes r p) (sym e))
+
+pub node_small : (n : ℕ) (nodes : List Node) → AreNodes n nodes → (k : ℕ) (d : Node) (here : Ref) → here ≡ Place k → IsBefore (length nodes) here → (get_or nodes k d).variable < n
+node_small n nodes fit k d here e before = let lt : IsBefore (length nodes) (Place k) = subst (IsBefore (length nodes)) e before in (fit k (get_or nodes k d) (slice_get-get_or nodes k d lt)).variable

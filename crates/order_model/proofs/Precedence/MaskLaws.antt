@@ -1,0 +1,220 @@
+-- Lawful sets, kept orders and numbers of pairs, where the pairs are kept as masks.
+--     lawful_in, unlawful_in      whether a set is lawful, by the bits of the masks
+--     keeps_in, unkept_in      whether an order keeps the pairs, by the bits of the masks
+--     length_members      a mask has as many members as ones
+--     rows_more, row_few      the number of pairs, one mask more; a mask has at most 15 of them
+--     row_pair, row_skip, row_end      the list of pairs, one variable and one mask more
+use Rattle.std.proofs.Common.{◌≡◌, ◌≢◌, ℕ, zero, suc, ◌+◌, ◌-◌, ◌*◌, ◌/◌, ◌%◌, ◌^◌, ◌<◌, ◌≤◌, Bool, true, false, cond, inl, inr, List, [], ◌∷◌, ◌++◌, map, length, get_or, refl, sym, ap, ap₂, ◌∙◌, subst, arith, nat_eq, eqb, eqb-true, eq-eqb, ne_eqb, bit_and, w16, pow_pos, lt-ltb, le-ltb, ltb, count_ones, length-append, lit<, add-one, append-nil, append_assoc}
+use Rattle.std.proofs.lemmas.List.{length-map, map-append}
+use Rattle.std.proofs.lemmas.List.Elements.{filter-append}
+use Rattle.std.proofs.lemmas.Grind.{flat_map-append}
+use Rattle.std.specs.Int.{bit_at, bit_not}
+use Rattle.std.specs.List.{flat_map, filter, IsDistinct}
+use Rattle.std.proofs.lemmas.Bool.{cases_order, and_parts, and_from, or_cases, false≢true, false_from_ne_true}
+use Rattle.std.proofs.lemmas.Nat.Bits.{bit_at_not, bit_at_cat_low}
+use Rattle.std.proofs.Math.Nat.{div-add-mod, mod-lt, mul_comm, div-lt_iff_lt-mul, pow-succ'}
+use Rattle.std.proofs.lemmas.Nat.{ones_cat, ones-le, zero_from_ones, and_le_l, and_le_r}
+use Rattle.std.proofs.lemmas.Map.Steps.{length-le_from_distinct_below}
+use Rattle.order_model.specs.Orders.{has, variables, members, IsOrder}
+use Rattle.order_model.specs.Pairs.{Pair, has_pair, is_above, keeps, is_lawful}
+use Rattle.order_model.specs.Pairs.Leads.{by_one}
+use Rattle.order_model.specs.KeptPairs.{pairs_in, HasBit, AreWithin, HasNoCycle}
+use Rattle.order_model.proofs.Lists.Sets.{Among}
+use Rattle.order_model.proofs.Lists.Orders.{has_variables, place_get, has_at}
+use Rattle.order_model.proofs.Widths.Recurrence.{apart_from_absent}
+use Rattle.order_model.proofs.Bits.Masks.{has_members, distinct_members, members_small}
+use Rattle.order_model.proofs.Precedence.Lists.{lawful_at, lawful_from, keeps_at, keeps_from, above_places}
+use Rattle.order_model.proofs.Precedence.Sets.{pair_among, among_pair}
+use Rattle.order_model.proofs.Lists.Accepted.{index_of, variables_more, Seen}
+use Rattle.order_model.proofs.Precedence.Masks.{among_in, has_in, filter_same, some_bit, both_bits, and_bit, zero_or_one, not_one_from_zero}
+
+-- ---- lawful sets
+
+pub member_bit : (n set y : ℕ) → has (members n set) y ≡ true → (y < n) × (bit_at set y ≡ 1)
+member_bit n set y h =
+    let s = and_parts (has (variables n) y) (eqb (bit_at set y) 1) (sym (has_members n set y) ∙ h) in
+    ((has_variables n y).0 s.0, eqb-true (bit_at set y) 1 s.1)
+
+pub member_from : (n set y : ℕ) → y < n → bit_at set y ≡ 1 → has (members n set) y ≡ true
+member_from n set y h e = has_members n set y ∙ and_from _ _ ((has_variables n y).1 h) (eq-eqb (bit_at set y) 1 e)
+
+-- a mask that has only bits of another
+pub bits_inside : (m set : ℕ) → set < 2 ^ 16 → bit_and m (bit_not w16 set) ≡ 0 → (b : ℕ) → b < 16 → bit_at m b ≡ 1 → bit_at set b ≡ 1
+bits_inside m set k e b few f = elim (zero_or_one set b) [
+  | inl z ↦ absurd (and_bit m (bit_not w16 set) b f (bit_at_not w16 set b k few ∙ ap (λ (v : ℕ). 1 - v) z) e)
+  | inr o ↦ o
+]
+
+pub bit_beyond : (m set : ℕ) → m < 2 ^ 16 → set < 2 ^ 16 → bit_and m (bit_not w16 set) ≢ 0 → (b : ℕ) × (bit_at m b ≡ 1) × (bit_at set b ≡ 1 → ⊥)
+bit_beyond m set h k ne =
+    let l = and_le_l m (bit_not w16 set) in
+    let s = some_bit (bit_and m (bit_not w16 set)) (omega arith) ne in
+    let both = both_bits m (bit_not w16 set) s.0 s.2 in
+    (s.0, both.0, λ e. not_one_from_zero (bit_not w16 set) s.0 (bit_at_not w16 set s.0 k s.1 ∙ ap (λ (v : ℕ). 1 - v) e) both.1)
+
+pub lawful_in : (n : ℕ) (below : List ℕ) (set : ℕ) → ((a b : ℕ) → bit_at set a ≡ 1 → HasBit below a b → bit_at set b ≡ 1) → is_lawful (pairs_in n below) (members n set) ≡ true
+lawful_in n below set f =
+    lawful_from (pairs_in n below) (members n set) (λ p m h. let r = among_in n below p m in member_from n set p.1 r.1 (f p.0 p.1 (member_bit n set p.0 h).1 r.2))
+
+pub unlawful_in : (n : ℕ) (below : List ℕ) (set : ℕ) → AreWithin n below → (a b : ℕ) → bit_at set a ≡ 1 → HasBit below a b → (bit_at set b ≡ 1 → ⊥) → is_lawful (pairs_in n below) (members n set) ≡ false
+unlawful_in n below set w a b here bit absent =
+    false_from_ne_true _ (λ l.
+    let in' = w a b bit in
+    let s = pair_among (pairs_in n below) a b ((has_in n below a b).1 (in'.0, in'.1, bit)) in
+    let there = lawful_at (pairs_in n below) (members n set) l s.0 s.1 (ap (has (members n set)) (sym s.2) ∙ member_from n set a in'.0 here) in
+    absent (member_bit n set b (ap (has (members n set)) s.3 ∙ there)).1)
+
+-- ---- kept orders
+
+-- no variable of the first k has one above it that must stand below it
+abbrev pub KeptTo : List ℕ → List ℕ → ℕ → Type 0
+KeptTo below order k = (i j : ℕ) → j < i → i < k → HasBit below (get_or order i 0) (get_or order j 0) → ⊥
+
+places_of : (order : List ℕ) → IsDistinct nat_eq order → (i j : ℕ) → i < length order → j < length order →
+    is_above (get_or order i 0) (get_or order j 0) order ≡ ltb i j
+places_of order once i j h k =
+    above_places (get_or order i 0) (get_or order j 0) order once (has_at order i h) (has_at order j k) ∙ ap₂ ltb (place_get order i once h) (place_get order j once k)
+
+pub keeps_in : (n : ℕ) (below order : List ℕ) → IsOrder n order → HasNoCycle (pairs_in n below) → KeptTo below order (length order) → keeps (pairs_in n below) order ≡ true
+keeps_in n below order o acyclic kept = keeps_from (pairs_in n below) order (λ p m. one p m (among_in n below p m))
+  where
+    one : (p : Pair) → Among p (pairs_in n below) → (p.0 < n) × (p.1 < n) × HasBit below p.0 p.1 → is_above p.0 p.1 order ≡ true
+    one p m r =
+        let a = index_of order p.0 ((o.all p.0).1 r.0) in
+        let b = index_of order p.1 ((o.all p.1).1 r.1) in
+        ap₂ (λ u v. is_above u v order) (sym a.2) (sym b.2) ∙ places_of order o.once a.0 b.0 a.1 b.1 ∙ elim (cases_order a.0 b.0) [
+          | inl e ↦ absurd (acyclic p.0 (by_one (ap (has_pair (pairs_in n below) p.0) (sym a.2 ∙ ap (λ k. get_or order k 0) e ∙ b.2) ∙ among_pair (pairs_in n below) p m)))
+          | inr d ↦ elim d [ inl lt ↦ lt-ltb a.0 b.0 lt | inr gt ↦ absurd (kept a.0 b.0 gt a.1 (subst (λ (u : ℕ). HasBit below u (get_or order b.0 0)) (sym a.2) (subst (λ (v : ℕ). HasBit below p.0 v) (sym b.2) r.2))) ]
+        ]
+
+pub unkept_in : (n : ℕ) (below order : List ℕ) → IsOrder n order → AreWithin n below → (i j : ℕ) → j < i → i < length order → HasBit below (get_or order i 0) (get_or order j 0) →
+    keeps (pairs_in n below) order ≡ false
+unkept_in n below order o w i j h k bit =
+    false_from_ne_true _ (λ kept.
+    let in' = w (get_or order i 0) (get_or order j 0) bit in
+    let s = pair_among (pairs_in n below) (get_or order i 0) (get_or order j 0) ((has_in n below (get_or order i 0) (get_or order j 0)).1 (in'.0, in'.1, bit)) in
+    let above = ap₂ (λ u v. is_above u v order) s.2 s.3 ∙ keeps_at (pairs_in n below) order kept s.0 s.1 in
+    false≢true (sym (le-ltb i j (omega arith)) ∙ sym (places_of order o.once i j k (omega arith)) ∙ above))
+
+-- one variable more
+pub kept_more : (below order : List ℕ) (k seen : ℕ) → Seen order k seen → KeptTo below order k → bit_and (get_or below (get_or order k 0) 0) seen ≡ 0 → KeptTo below order (k + 1)
+kept_more below order k seen s kept e i j h l bit = elim (cases_order i k) [
+  | inl same ↦ and_bit (get_or below (get_or order k 0) 0) seen (get_or order j 0) (subst (λ (v : ℕ). HasBit below (get_or order v 0) (get_or order j 0)) same bit) (s.kept j (omega arith)) e
+  | inr d ↦ kept i j h (omega arith) bit
+]
+
+-- a variable above that must stand below
+pub broken_at : (n : ℕ) (below order : List ℕ) (k seen : ℕ) → IsOrder n order → AreWithin n below → Seen order k seen → k < length order → seen < 2 ^ 16 →
+    bit_and (get_or below (get_or order k 0) 0) seen ≢ 0 → keeps (pairs_in n below) order ≡ false
+broken_at n below order k seen o w s h l ne =
+    let b = some_bit (bit_and (get_or below (get_or order k 0) 0) seen) (let r = and_le_r (get_or below (get_or order k 0) 0) seen in omega arith) ne in
+    let both = both_bits (get_or below (get_or order k 0) 0) seen b.0 b.2 in
+    let at = s.found b.0 both.1 in
+    unkept_in n below order o w k at.0 at.1 h (subst (λ (v : ℕ). HasBit below (get_or order k 0) v) (sym at.2) both.0)
+
+-- ---- numbers of pairs
+
+ones_zero : count_ones 0 ≡ 0
+ones_zero = let l = ones-le 0 0 (lit< tt) in omega arith
+
+ones_one : count_ones 1 ≡ 1
+ones_one = let l = ones-le 1 1 (lit< tt) in let z : count_ones 1 ≢ 0 = (λ e. let r = zero_from_ones 1 e in absurd (omega arith)) in omega arith
+
+pub length_members : (n m : ℕ) → m < 2 ^ n → length (members n m) ≡ count_ones m
+unfolding members
+length_members zero m h = sym (ap count_ones (let z : m ≡ 0 = omega arith in z) ∙ ones_zero)
+length_members (suc n) m h =
+    let r : m % 2 ^ n < 2 ^ n = mod-lt m (pow_pos n) in
+    let whole : m / 2 ^ n * 2 ^ n + m % 2 ^ n ≡ m = ap (λ q. q + m % 2 ^ n) (mul_comm (m / 2 ^ n) (2 ^ n)) ∙ div-add-mod m (2 ^ n) in
+    let few : m / 2 ^ n < 2 = (div-lt_iff_lt-mul (pow_pos n)).1 (let p : 2 ^ suc n ≡ 2 * 2 ^ n = pow-succ' 2 n in omega arith) in
+    let low : filter (λ x. eqb (bit_at m x) 1) (variables n) ≡ members n (m % 2 ^ n) = filter_same (λ x. eqb (bit_at m x) 1) (λ x. eqb (bit_at (m % 2 ^ n) x) 1) (variables n)
+    (λ x k. ap (λ b. eqb b 1) (ap (λ v. bit_at v x) (sym whole) ∙ bit_at_cat_low (m / 2 ^ n) n (m % 2 ^ n) x ((has_variables n x).0 k))) in
+    let split : members (suc n) m ≡ members n (m % 2 ^ n) ++ filter (λ x. eqb (bit_at m x) 1) (n ∷ []) =
+    ap (filter (λ x. eqb (bit_at m x) 1)) (sym (ap variables (add-one n)) ∙ variables_more n) ∙ filter-append (λ x. eqb (bit_at m x) 1) (variables n) (n ∷ []) ∙ ap (λ xs. xs ++ filter (λ x. eqb (bit_at m x) 1) (n ∷ [])) low in
+    let sum : count_ones m ≡ count_ones (m / 2 ^ n) + count_ones (m % 2 ^ n) = ap count_ones (sym whole) ∙ ones_cat n (m / 2 ^ n) (m % 2 ^ n) r in
+    let rest : length (members n (m % 2 ^ n)) ≡ count_ones (m % 2 ^ n) = length_members n (m % 2 ^ n) r in
+    let top : length (cond (eqb (bit_at m n) 1) (n ∷ []) []) ≡ count_ones (m / 2 ^ n) = last (m / 2 ^ n) few in
+    ap length split ∙ length-append (members n (m % 2 ^ n)) (filter (λ x. eqb (bit_at m x) 1) (n ∷ [])) ∙ omega (arith, top, rest, sum)
+  where
+    last : (q : ℕ) → q < 2 → length (cond (eqb (q % 2) 1) (n ∷ []) []) ≡ count_ones q
+    last zero l = sym ones_zero
+    last (suc zero) l = sym ones_one
+    last (suc (suc q)) l = absurd (omega arith)
+
+-- the pairs of the first k masks
+pub rows_to : ℕ → List ℕ → ℕ → List Pair
+rows_to n below k = flat_map (λ a. map (λ b. (a, b)) (members n (get_or below a 0))) (variables k)
+
+pub rows_all : (n : ℕ) (below : List ℕ) → rows_to n below n ≡ pairs_in n below
+unfolding rows_to pairs_in
+rows_all n below = refl
+
+pub rows_none : (n : ℕ) (below : List ℕ) → length (rows_to n below 0) ≡ 0
+unfolding rows_to
+rows_none n below = refl
+
+pub rows_more : (n : ℕ) (below : List ℕ) (k : ℕ) → get_or below k 0 < 2 ^ n → length (rows_to n below (k + 1)) ≡ length (rows_to n below k) + count_ones (get_or below k 0)
+unfolding rows_to
+rows_more n below k h =
+    let f : ℕ → List Pair = λ a. map (λ (b : ℕ). (a, b)) (members n (get_or below a 0)) in
+    let last : length (f k ++ []) ≡ count_ones (get_or below k 0) = ap length (append-nil (f k)) ∙ length-map (members n (get_or below k 0)) (λ (b : ℕ). (k, b)) ∙ length_members n (get_or below k 0) h in
+    ap (λ xs. length (flat_map f xs)) (variables_more k) ∙ ap length (flat_map-append f (variables k) (k ∷ [])) ∙ length-append (flat_map f (variables k)) (f k ++ []) ∙ ap (λ m. length (flat_map f (variables k)) + m) last
+
+-- a variable isn't below itself, so a mask has at most 15 ones
+pub row_few : (n : ℕ) (below : List ℕ) (k : ℕ) → n ≤ 16 → k < n → HasNoCycle (pairs_in n below) → get_or below k 0 < 2 ^ n → count_ones (get_or below k 0) ≤ 15
+unfolding IsDistinct
+row_few n below k few h acyclic small =
+    let m = get_or below k 0 in
+    let out : has (members n m) k ≡ false = false_from_ne_true _ (λ e. acyclic k (by_one ((has_in n below k k).1 (h, h, (member_bit n m k e).1)))) in
+    let l = length-le_from_distinct_below (k ∷ members n m) n (apart_from_absent k (members n m) out, distinct_members n m) (λ y e. elim (or_cases (nat_eq y k) (has (members n m) y) e) [
+      | inl s ↦ let q = eqb-true y k s in omega arith
+      | inr r ↦ members_small n m y r
+    ]) in
+    let c = length_members n m small in
+    omega arith
+
+-- the pairs of the first k masks, and of mask k those with one of the first j variables below
+pub row_to : ℕ → List ℕ → ℕ → ℕ → List Pair
+row_to n below k j = rows_to n below k ++ map (λ b. (k, b)) (filter (λ b. eqb (bit_at (get_or below k 0) b) 1) (variables j))
+
+pub row_start : (n : ℕ) (below : List ℕ) (k : ℕ) → row_to n below k 0 ≡ rows_to n below k
+unfolding row_to
+row_start n below k = append-nil (rows_to n below k)
+
+row_split : (n : ℕ) (below : List ℕ) (k j : ℕ) → row_to n below k (j + 1) ≡ rows_to n below k ++ (map (λ b. (k, b)) (filter (λ b. eqb (bit_at (get_or below k 0) b) 1) (variables j)) ++ map (λ b. (k, b)) (filter (λ b. eqb (bit_at (get_or below k 0) b) 1) (j ∷ [])))
+unfolding row_to
+row_split n below k j =
+    let p : ℕ → Bool = λ b. eqb (bit_at (get_or below k 0) b) 1 in
+    let f : ℕ → Pair = λ b. (k, b) in
+    ap (λ xs. rows_to n below k ++ xs)
+    (ap (λ xs. map f (filter p xs)) (variables_more j) ∙ ap (map f) (filter-append p (variables j) (j ∷ [])) ∙ map-append f (filter p (variables j)) (filter p (j ∷ [])))
+
+pub row_pair : (n : ℕ) (below : List ℕ) (k j : ℕ) → bit_at (get_or below k 0) j ≡ 1 → row_to n below k j ++ (k, j) ∷ [] ≡ row_to n below k (j + 1)
+unfolding row_to
+row_pair n below k j e =
+    let p : ℕ → Bool = λ b. eqb (bit_at (get_or below k 0) b) 1 in
+    let f : ℕ → Pair = λ b. (k, b) in
+    append_assoc (rows_to n below k) (map f (filter p (variables j))) ((k, j) ∷ [])
+    ∙ sym (row_split n below k j ∙ ap (λ t. rows_to n below k ++ (map f (filter p (variables j)) ++ map f (cond t (j ∷ []) []))) (eq-eqb (bit_at (get_or below k 0) j) 1 e))
+
+pub row_skip : (n : ℕ) (below : List ℕ) (k j : ℕ) → (bit_at (get_or below k 0) j ≡ 1 → ⊥) → row_to n below k j ≡ row_to n below k (j + 1)
+unfolding row_to
+row_skip n below k j ne =
+    let p : ℕ → Bool = λ b. eqb (bit_at (get_or below k 0) b) 1 in
+    let f : ℕ → Pair = λ b. (k, b) in
+    sym (row_split n below k j ∙ ap (λ t. rows_to n below k ++ (map f (filter p (variables j)) ++ map f (cond t (j ∷ []) []))) (ne_eqb (bit_at (get_or below k 0) j) 1 ne)
+    ∙ ap (λ xs. rows_to n below k ++ xs) (append-nil (map f (filter p (variables j)))))
+
+pub row_end : (n : ℕ) (below : List ℕ) (k : ℕ) → row_to n below k n ≡ rows_to n below (k + 1)
+unfolding row_to rows_to members
+row_end n below k =
+    let f : ℕ → List Pair = λ a. map (λ (b : ℕ). (a, b)) (members n (get_or below a 0)) in
+    sym (ap (flat_map f) (variables_more k) ∙ flat_map-append f (variables k) (k ∷ []) ∙ ap (λ xs. flat_map f (variables k) ++ xs) (append-nil (f k)))
+
+pub rows_start : (n : ℕ) (below : List ℕ) → rows_to n below 0 ≡ []
+unfolding rows_to
+rows_start n below = refl
+
+-- an order of n variables, of what is known of an equal list
+pub order_of : (n : ℕ) (xs ys : List ℕ) → xs ≡ ys → IsOrder (length ys) ys → length ys ≡ n → IsOrder n xs
+order_of n xs ys e o l = subst (IsOrder n) (sym e) (subst (λ k. IsOrder k ys) l o)

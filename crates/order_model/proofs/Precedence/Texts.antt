@@ -1,0 +1,310 @@
+-- Numbers, pairs and lists of pairs in a text.
+--     number_is, number_refused, number_parts      the number of a word
+--     pair_without_comma, pair_at      the pair of a part
+--     ReadTo parts k below      the masks of the pairs of the first k parts
+--     read_none, read_more, read_all, read_fails      before the first part, one part more, after the last, a part without a pair
+--     bad, out_of_range, cycle, accepted, holds      what is answered
+use Rattle.std.proofs.Common.{◌≡◌, ◌↔◌, ℕ, zero, suc, ◌+◌, ◌-◌, ◌*◌, ◌/◌, ◌%◌, ◌^◌, ◌<◌, ◌≤◌, Bool, true, false, cond, ◌&&◌, ◌||◌, ◌⊎◌, inl, inr, List, [], ◌∷◌, ◌++◌, length, get_or, take, drop, set, refl, sym, ap, ap₂, ◌∙◌, subst, arith, nat_eq, eqb, eqb-true, eq-eqb, le-ltb, lt-ltb, Option, Some, None, Ok, Err, bit_or, w16, lit<, take_all}
+use Rattle.std.specs.Prelude.{decimal}
+use Rattle.std.specs.Int.{bit_at}
+use Rattle.std.specs.List.{find, position, position_or_len, before_first, after_first}
+use Rattle.std.specs.Cmp.Lexicographic.{pointwise, same_text}
+use Rattle.std.proofs.lemmas.Bool.{cases_Bool, cases_eq, cases_lt, or_cases, or_left, or_right, and_parts, and_from, false≢true, true≢false}
+use Rattle.std.proofs.lemmas.Cmp.{nat_list_eq_equiv}
+use Rattle.std.proofs.lemmas.Fmt.{decimal_digit, decimal_step, decimal_injective}
+use Rattle.std.proofs.lemmas.List.{take_more, drop_all, length-set, get_or-set_other, get_or-set_same}
+use Rattle.std.proofs.lemmas.Nat.Bits.{bit_at_set_same, bit_at_set_other}
+use Rattle.order_model.specs.declared.pairs.PairsFault.TheVariants.{BadPair, PairOutOfRange, PairCycle}
+use Rattle.order_model.specs.Orders.{has, variables}
+use Rattle.order_model.specs.Pairs.{Pair, has_pair, IsPairCycle}
+use Rattle.order_model.specs.KeptPairs.{pairs_in, HasBit, AreWithin, HasNoCycle, HoldsKept}
+use Rattle.order_model.specs.PairTexts.{number_of, both, pair_of, with_pair, pairs_of, AreMasksOf, ParsesAs}
+use Rattle.order_model.proofs.Lists.Orders.{has_variables}
+use Rattle.order_model.proofs.Precedence.Masks.{Same, same_at, same_from, has_in, below_from, below_at, sorted_same, holds_masks, leads_same}
+
+-- ---- numbers
+
+find_only : (p : ℕ → Bool) (xs : List ℕ) (k : ℕ) → has xs k ≡ true → p k ≡ true → ((j : ℕ) → p j ≡ true → has xs j ≡ true → j ≡ k) → find p xs ≡ Some k
+find_only p [] k h e f = absurd (false≢true h)
+find_only p (x ∷ xs) k h e f = by (p x) refl (λ r. find_only p xs k r e (λ j q m. f j q (or_right _ _ m)))
+  where
+    by : (b : Bool) → p x ≡ b → (has xs k ≡ true → find p xs ≡ Some k) → cond b (Some x) (find p xs) ≡ Some k
+    by true t r = ap (λ (v : ℕ). Some v) (f x t (or_left _ _ (eq-eqb x x refl)))
+    by false t r = elim (or_cases (nat_eq k x) (has xs k) h) [
+      | inl s ↦ absurd (true≢false (sym e ∙ ap p (eqb-true k x s) ∙ t))
+      | inr m ↦ r m
+    ]
+
+find_none : (p : ℕ → Bool) (xs : List ℕ) → ((j : ℕ) → p j ≡ true → has xs j ≡ true → ⊥) → find p xs ≡ None
+find_none p [] f = refl
+find_none p (x ∷ xs) f = by (p x) refl (find_none p xs (λ j q m. f j q (or_right _ _ m)))
+  where
+    by : (b : Bool) → p x ≡ b → find p xs ≡ None → cond b (Some x) (find p xs) ≡ None
+    by true t r = absurd (f x t (or_left _ _ (eq-eqb x x refl)))
+    by false t r = r
+
+find_parts : (p : ℕ → Bool) (xs : List ℕ) (k : ℕ) → find p xs ≡ Some k → (has xs k ≡ true) × (p k ≡ true)
+find_parts p [] k e = let never : ◌≡◌ {A = Option ℕ} None (Some k) = e in cc
+find_parts p (x ∷ xs) k e = by (p x) refl e (find_parts p xs k)
+  where
+    by : (b : Bool) → p x ≡ b → cond b (Some x) (find p xs) ≡ Some k → (find p xs ≡ Some k → (has xs k ≡ true) × (p k ≡ true)) → (has (x ∷ xs) k ≡ true) × (p k ≡ true)
+    by true t s r = let same : x ≡ k = cc in (or_left _ _ (eq-eqb k x (sym same)), ap p (sym same) ∙ t)
+    by false t s r = let q = r s in (or_right _ _ q.0, q.1)
+
+same_word : (xs ys : List ℕ) → xs ≡ ys → pointwise nat_eq xs ys ≡ true
+same_word xs ys e = ap (pointwise nat_eq xs) (sym e) ∙ nat_list_eq_equiv.refl xs
+
+pub number_is : (word : List ℕ) (k : ℕ) → k < 16 → word ≡ decimal k → number_of word ≡ Some k
+unfolding number_of
+number_is word k h e =
+    find_only (λ j. pointwise nat_eq word (decimal j)) (variables 16) k ((has_variables 16 k).1 h) (same_word word (decimal k) e)
+    (λ j t m. let l : j < 16 = (has_variables 16 j).0 m in decimal_injective j k (below_64 j l) (below_64 k h) (sym (same_text word (decimal j) (sym t)) ∙ e))
+  where
+    below_64 : (j : ℕ) → j < 16 → j < 2 ^ 64
+    below_64 j l = omega arith
+
+pub number_parts : (word : List ℕ) (k : ℕ) → number_of word ≡ Some k → (k < 16) × (word ≡ decimal k)
+unfolding number_of
+number_parts word k e =
+    let s = find_parts (λ j. pointwise nat_eq word (decimal j)) (variables 16) k e in
+    ((has_variables 16 k).0 s.0, same_text word (decimal k) (sym s.1))
+
+number_none : (word : List ℕ) → ((k : ℕ) → k < 16 → word ≡ decimal k → ⊥) → number_of word ≡ None
+unfolding number_of
+number_none word f = find_none (λ j. pointwise nat_eq word (decimal j)) (variables 16) (λ j t m. f j ((has_variables 16 j).0 m) (same_text word (decimal j) (sym t)))
+
+-- the decimals of 10 to 15
+decimal_teen : (k : ℕ) → 10 ≤ k → k < 16 → decimal k ≡ 49 ∷ (38 + k) ∷ []
+decimal_teen k h l =
+    let q : k / 10 ≡ 1 = omega arith in
+    let r : 48 + k % 10 ≡ 38 + k = omega arith in
+    decimal_step k h (omega arith) ∙ ap₂ (λ (xs : List ℕ) (d : ℕ). xs ++ d ∷ []) (ap decimal q ∙ decimal_digit 1 (lit< tt)) r
+
+-- a word of one digit
+pub number_digit : (word : List ℕ) → length word ≡ 1 → 48 ≤ get_or word 0 0 → get_or word 0 0 < 58 → number_of word ≡ Some (get_or word 0 0 - 48)
+number_digit [] e l h = absurd (omega arith)
+number_digit (d ∷ []) e l h =
+    let v : 48 + (d - 48) ≡ d = omega arith in
+    let small : d - 48 < 10 = omega arith in
+    number_is (d ∷ []) (d - 48) (omega arith) (sym (decimal_digit (d - 48) small ∙ ap (λ (x : ℕ). x ∷ []) v))
+number_digit (d ∷ x ∷ xs) e l h = absurd (omega arith)
+
+-- a word of the digit 1 and one from 0 to 5
+pub number_teen : (word : List ℕ) → length word ≡ 2 → get_or word 0 0 ≡ 49 → 48 ≤ get_or word 1 0 → get_or word 1 0 < 54 → number_of word ≡ Some (10 + (get_or word 1 0 - 48))
+number_teen [] e f l h = absurd (omega arith)
+number_teen (x ∷ []) e f l h = absurd (omega arith)
+number_teen (x ∷ d ∷ []) e f l h =
+    let k : ℕ = 10 + (d - 48) in
+    let v : 38 + (10 + (d - 48)) ≡ d = omega arith in
+    number_is (x ∷ d ∷ []) (10 + (d - 48)) (omega arith) (sym (decimal_teen (10 + (d - 48)) (omega arith) (omega arith) ∙ ap₂ (λ (y z : ℕ). y ∷ z ∷ []) (sym f) v))
+number_teen (x ∷ d ∷ y ∷ ys) e f l h = absurd (omega arith)
+
+-- any other word
+pub number_refused : (word : List ℕ) → (length word ≡ 1 → 48 ≤ get_or word 0 0 → get_or word 0 0 < 58 → ⊥) → (length word ≡ 2 → get_or word 0 0 ≡ 49 → 48 ≤ get_or word 1 0 → get_or word 1 0 < 54 → ⊥) →
+    number_of word ≡ None
+number_refused word one two = number_none word (λ k h e. elim (cases_lt k 10) [
+  | inl l ↦
+      let is : word ≡ (48 + k) ∷ [] = e ∙ decimal_digit k l in
+      let first : get_or word 0 0 ≡ 48 + k = ap (λ xs. get_or xs 0 0) is in
+      one (ap length is) (omega arith) (omega arith)
+  | inr l ↦
+      let is : word ≡ 49 ∷ (38 + k) ∷ [] = e ∙ decimal_teen k l h in
+      let second : get_or word 1 0 ≡ 38 + k = ap (λ xs. get_or xs 1 0) is in
+      two (ap length is) (ap (λ xs. get_or xs 0 0) is) (omega arith) (omega arith)
+])
+
+-- ---- pairs
+
+both_none : (o : Option ℕ) → both o None ≡ None
+both_none None = refl
+both_none (Some a) = refl
+
+both_parts : (o q : Option ℕ) (a b : ℕ) → both o q ≡ Some (a, b) → (o ≡ Some a) × (q ≡ Some b)
+both_parts (Some x) (Some y) a b e = let same : ◌≡◌ {A = Pair} (x, y) (a, b) = cc in (ap (λ (p : Pair). Some p.0) same, ap (λ (p : Pair). Some p.1) same)
+both_parts (Some x) None a b e = let never : ◌≡◌ {A = Option Pair} None (Some (a, b)) = e in cc
+both_parts None q a b e = let never : ◌≡◌ {A = Option Pair} None (Some (a, b)) = e in cc
+
+pub pair_small : (part : List ℕ) (a b : ℕ) → pair_of part ≡ Some (a, b) → (a < 16) × (b < 16)
+pair_small part a b e =
+    let s = both_parts (number_of (before_first (λ x. eqb x 44) part)) (number_of (after_first (λ x. eqb x 44) part)) a b e in
+    ((number_parts (before_first (λ x. eqb x 44) part) a s.0).0, (number_parts (after_first (λ x. eqb x 44) part) b s.1).0)
+
+-- a part without a comma has no pair
+pub pair_without_comma : (part : List ℕ) → None ≡ position (λ x. eqb x 44) part → pair_of part ≡ None
+pair_without_comma part e = by (cases_lt (position_or_len (λ x. eqb x 44) part) (length part))
+  where
+    by : (position_or_len (λ x. eqb x 44) part < length part) ⊎ (length part ≤ position_or_len (λ x. eqb x 44) part) → pair_of part ≡ None
+    by (inl lt) =
+        let found : ◌≡◌ {A = Option ℕ} None (Some (position_or_len (λ x. eqb x 44) part)) = e ∙ ap (λ b. cond b (Some (position_or_len (λ x. eqb x 44) part)) None) (lt-ltb _ _ lt) in
+        absurd (let no : ⊥ = cc in no)
+    by (inr le) =
+        let empty : after_first (λ x. eqb x 44) part ≡ [] = drop_all (position_or_len (λ x. eqb x 44) part + 1) part (omega arith) in
+        let nothing : number_of [] ≡ None = number_refused [] (λ a b d. absurd (omega arith)) (λ a b d f. absurd (omega arith)) in
+        ap (both (number_of (before_first (λ x. eqb x 44) part))) (ap number_of empty ∙ nothing) ∙ both_none (number_of (before_first (λ x. eqb x 44) part))
+
+-- a part with a comma at place k has the numbers around it
+pub pair_at : (part : List ℕ) (k : ℕ) → Some k ≡ position (λ x. eqb x 44) part → pair_of part ≡ both (number_of (take k part)) (number_of (drop (k + 1) part))
+pair_at part k e = by (cases_lt (position_or_len (λ x. eqb x 44) part) (length part))
+  where
+    by : (position_or_len (λ x. eqb x 44) part < length part) ⊎ (length part ≤ position_or_len (λ x. eqb x 44) part) → pair_of part ≡ both (number_of (take k part)) (number_of (drop (k + 1) part))
+    by (inl lt) =
+        let found : ◌≡◌ {A = Option ℕ} (Some k) (Some (position_or_len (λ x. eqb x 44) part)) = e ∙ ap (λ b. cond b (Some (position_or_len (λ x. eqb x 44) part)) None) (lt-ltb _ _ lt) in
+        let same : position_or_len (λ x. eqb x 44) part ≡ k = cc in
+        ap (λ (j : ℕ). both (number_of (take j part)) (number_of (drop (j + 1) part))) same
+    by (inr le) =
+        let found : ◌≡◌ {A = Option ℕ} (Some k) None = e ∙ ap (λ b. cond b (Some (position_or_len (λ x. eqb x 44) part)) None) (le-ltb _ _ le) in
+        absurd (let no : ⊥ = cc in no)
+
+pub both_second_none : (o : Option ℕ) → both o None ≡ None
+both_second_none o = both_none o
+
+-- ---- lists of pairs
+
+-- one part more
+pairs_of-more : (xs : List (List ℕ)) (x : List ℕ) (P : List Pair) (p : Pair) → pairs_of xs ≡ Some P → pair_of x ≡ Some p → pairs_of (xs ++ x ∷ []) ≡ Some (P ++ p ∷ [])
+unfolding pairs_of
+pairs_of-more [] x P p e f =
+    let none : P ≡ [] = cc in
+    ap (λ o. with_pair o (Some [])) f ∙ ap (λ (Q : List Pair). Some (Q ++ p ∷ [])) (sym none)
+pairs_of-more (y ∷ xs) x P p e f = by (pair_of y) (pairs_of xs) P e (λ Q g. pairs_of-more xs x Q p g f)
+  where
+    by : (o : Option Pair) (os : Option (List Pair)) (Q : List Pair) → with_pair o os ≡ Some Q → ((R : List Pair) → os ≡ Some R → pairs_of (xs ++ x ∷ []) ≡ Some (R ++ p ∷ [])) → with_pair o (pairs_of (xs ++ x ∷ [])) ≡ Some (Q ++ p ∷ [])
+    by (Some q) (Some R) Q g r =
+        let same : q ∷ R ≡ Q = cc in
+        ap (with_pair (Some q)) (r R refl) ∙ ap (λ (S : List Pair). Some (S ++ p ∷ [])) same
+    by (Some q) None Q g r = let never : ◌≡◌ {A = Option (List Pair)} None (Some Q) = g in cc
+    by None os Q g r = let never : ◌≡◌ {A = Option (List Pair)} None (Some Q) = g in cc
+
+-- a part without a pair
+pairs_of-fails : (xs : List (List ℕ)) (k : ℕ) (d : List ℕ) → k < length xs → pair_of (get_or xs k d) ≡ None → pairs_of xs ≡ None
+unfolding pairs_of
+pairs_of-fails [] k d h e = absurd (omega arith)
+pairs_of-fails (x ∷ xs) zero d h e = ap (λ o. with_pair o (pairs_of xs)) e
+pairs_of-fails (x ∷ xs) (suc k) d h e = ap (with_pair (pair_of x)) (pairs_of-fails xs k d (omega arith) e) ∙ none (pair_of x)
+  where
+    none : (o : Option Pair) → with_pair o None ≡ None
+    none None = refl
+    none (Some p) = refl
+
+-- one pair more
+has_pair-more : (P : List Pair) (p : Pair) (a b : ℕ) → has_pair (P ++ p ∷ []) a b ≡ (has_pair P a b || (nat_eq a p.0 && nat_eq b p.1))
+has_pair-more [] p a b = last (nat_eq a p.0 && nat_eq b p.1)
+  where
+    last : (t : Bool) → (t || false) ≡ t
+    last true = refl
+    last false = refl
+has_pair-more (q ∷ P) p a b = ap (λ t. (nat_eq a q.0 && nat_eq b q.1) || t) (has_pair-more P p a b) ∙ regroup (nat_eq a q.0 && nat_eq b q.1) (has_pair P a b) (nat_eq a p.0 && nat_eq b p.1)
+  where
+    regroup : (x y z : Bool) → (x || (y || z)) ≡ ((x || y) || z)
+    regroup true y z = refl
+    regroup false y z = refl
+
+-- the masks with the bit of one pair more
+abbrev pub with_bit : List ℕ → ℕ → ℕ → List ℕ
+with_bit below a b = set below a (bit_or (get_or below a 0) (1 * 2 ^ b % 2 ^ 16))
+
+same_more : (P : List Pair) (below : List ℕ) (a b : ℕ) → a < length below → b < 16 → Same P below → Same (P ++ (a, b) ∷ []) (with_bit below a b)
+same_more P below a b h k s = same_from (P ++ (a, b) ∷ []) (with_bit below a b) (λ x y. (to x y, back x y))
+  where
+    here : get_or (with_bit below a b) a 0 ≡ bit_or (get_or below a 0) (1 * 2 ^ b % 2 ^ 16)
+    here = get_or-set_same below a (bit_or (get_or below a 0) (1 * 2 ^ b % 2 ^ 16)) 0 h
+
+    bits : (y : ℕ) → bit_at (get_or (with_bit below a b) a 0) y ≡ bit_at (bit_or (get_or below a 0) (1 * 2 ^ b % 2 ^ 16)) y
+    bits y = ap (λ m. bit_at m y) here
+
+    kept : (x y : ℕ) → ((x ≡ a) × (y ≡ b) → ⊥) → bit_at (get_or (with_bit below a b) x 0) y ≡ bit_at (get_or below x 0) y
+    kept x y no_pair = elim (cases_eq x a) [
+      | inl e ↦ ap (λ v. bit_at (get_or (with_bit below a b) v 0) y) e ∙ bits y ∙ bit_at_set_other w16 (get_or below a 0) b k y (λ f. no_pair (e, f)) ∙ ap (λ v. bit_at (get_or below v 0) y) (sym e)
+      | inr ne ↦ ap (λ m. bit_at m y) (get_or-set_other below a x (bit_or (get_or below a 0) (1 * 2 ^ b % 2 ^ 16)) 0 ne)
+    ]
+
+    to : (x y : ℕ) → has_pair (P ++ (a, b) ∷ []) x y ≡ true → HasBit (with_bit below a b) x y
+    to x y e = elim (cases_eq x a) [
+      | inl f ↦ elim (cases_eq y b) [
+        | inl g ↦ ap₂ (λ u v. bit_at (get_or (with_bit below a b) u 0) v) f g ∙ bits b ∙ bit_at_set_same w16 (get_or below a 0) b k
+        | inr ne ↦ old x y e (λ p. ne p.1)
+      ]
+      | inr ne ↦ old x y e (λ p. ne p.0)
+    ]
+      where
+        old : (x y : ℕ) → has_pair (P ++ (a, b) ∷ []) x y ≡ true → ((x ≡ a) × (y ≡ b) → ⊥) → HasBit (with_bit below a b) x y
+        old x y e no_pair =
+            kept x y no_pair ∙ (same_at P below s x y).0 (elim (or_cases (has_pair P x y) (nat_eq x a && nat_eq y b) (sym (has_pair-more P (a, b) x y) ∙ e)) [
+              | inl m ↦ m
+              | inr m ↦ let parts = and_parts (nat_eq x a) (nat_eq y b) m in absurd (no_pair (eqb-true x a parts.0, eqb-true y b parts.1))
+            ])
+
+    back : (x y : ℕ) → HasBit (with_bit below a b) x y → has_pair (P ++ (a, b) ∷ []) x y ≡ true
+    back x y e = has_pair-more P (a, b) x y ∙ elim (cases_Bool (nat_eq x a && nat_eq y b)) [
+      | inl t ↦ or_right _ _ t
+      | inr f ↦ or_left _ _ ((same_at P below s x y).1 (sym (kept x y (λ p. true≢false (sym (and_from _ _ (eq-eqb x a p.0) (eq-eqb y b p.1)) ∙ f))) ∙ e))
+    ]
+
+-- the masks of the pairs of the first k parts
+pub record ReadTo (parts : List (List ℕ)) (k : ℕ) (below : List ℕ) : Type 0 where
+  pub pairs : List Pair
+  pub read : pairs_of (take k parts) ≡ Some pairs
+  pub same : Same pairs below
+  pub long : length below ≡ 16
+
+pub read_none : (parts : List (List ℕ)) (below : List ℕ) → length below ≡ 16 → ((a b : ℕ) → HasBit below a b → ⊥) → ReadTo parts 0 below
+unfolding pairs_of
+read_none parts below long empty = record { pairs = []; read = refl; same = same_from [] below (λ a b. (λ h. absurd (false≢true h), λ e. absurd (empty a b e))); long = long }
+
+pub read_more : (parts : List (List ℕ)) (k : ℕ) (below part : List ℕ) (a b : ℕ) → ReadTo parts k below → k < length parts → part ≡ get_or parts k part → pair_of part ≡ Some (a, b) → ReadTo parts (k + 1) (with_bit below a b)
+read_more parts k below part a b r h e f =
+    let small = pair_small part a b f in
+    record {
+      pairs = r.pairs ++ (a, b) ∷ [];
+      read = ap pairs_of (take_more parts k part h) ∙ pairs_of-more (take k parts) (get_or parts k part) r.pairs (a, b) r.read (ap pair_of (sym e) ∙ f);
+      same = same_more r.pairs below a b (let l = r.long in let s = small.0 in omega arith) small.1 r.same;
+      long = length-set below a (bit_or (get_or below a 0) (1 * 2 ^ b % 2 ^ 16)) ∙ r.long;
+    }
+
+pub read_all : (parts : List (List ℕ)) (k : ℕ) (below : List ℕ) → ReadTo parts k below → length parts ≤ k → AreMasksOf (pairs_of parts) (Some below)
+read_all parts k below r h =
+    subst (λ (o : Option (List Pair)). AreMasksOf o (Some below)) (sym (ap pairs_of (sym (take_all k parts h)) ∙ r.read)) (same_at r.pairs below r.same)
+
+pub read_fails : (parts : List (List ℕ)) (k : ℕ) (part : List ℕ) → k < length parts → part ≡ get_or parts k part → pair_of part ≡ None → AreMasksOf (pairs_of parts) None
+read_fails parts k part h e f = subst (λ (o : Option (List Pair)). AreMasksOf o None) (sym (pairs_of-fails parts k part h (ap pair_of (sym e) ∙ f))) tt
+
+-- ---- what is answered
+
+pub bad : (o : Option (List Pair)) (n : ℕ) → AreMasksOf o None → ParsesAs o n (Err BadPair)
+bad None n m = tt
+bad (Some P) n m = absurd m
+
+pub out_of_range : (o : Option (List Pair)) (below : List ℕ) (n : ℕ) → AreMasksOf o (Some below) → (AreWithin n below → ⊥) → ParsesAs o n (Err PairOutOfRange)
+out_of_range None below n m f = absurd m
+out_of_range (Some P) below n m f = λ small. f (λ a b e. below_at n P small a b ((m a b).1 e))
+
+-- the pairs of the text are those of 16 variables, where all are below n
+same_16 : (P : List Pair) (below : List ℕ) (n : ℕ) → n ≤ 16 → ((a b : ℕ) → (has_pair P a b ≡ true) ↔ HasBit below a b) → AreWithin n below →
+    (a b : ℕ) → (has_pair P a b ≡ true) ↔ (has_pair (pairs_in 16 below) a b ≡ true)
+same_16 P below n h s w a b = (
+  λ e. let bit = (s a b).0 e in let in' = w a b bit in (has_in 16 below a b).1 (let l = in'.0 in omega arith, let l = in'.1 in omega arith, bit),
+  λ e. (s a b).1 ((has_in 16 below a b).0 e).2,
+)
+
+pub cycle : (o : Option (List Pair)) (below : List ℕ) (n v : ℕ) → n ≤ 16 → AreMasksOf o (Some below) → AreWithin n below → IsPairCycle (pairs_in 16 below) v → ParsesAs o n (Err (PairCycle v))
+cycle None below n v h m w c = absurd m
+cycle (Some P) below n v h m w c = (
+  below_from n P (λ a b e. w a b ((m a b).0 e)),
+  record {
+    back = leads_same (λ a b. (same_16 P below n h m w a b).1) c.back;
+    least = λ u l e. c.least u l (leads_same (λ a b. (same_16 P below n h m w a b).0) e);
+  },
+)
+
+pub accepted : (o : Option (List Pair)) (below : List ℕ) (n : ℕ) → n ≤ 16 → AreMasksOf o (Some below) → AreWithin n below → HasNoCycle (pairs_in 16 below) →
+    ParsesAs o n (Ok (record { inputs = n; pairs = pairs_in n below }))
+accepted None below n h m w c = absurd m
+accepted (Some P) below n h m w c = (
+  below_from n P (λ a b e. w a b ((m a b).0 e)),
+  λ v l. c v (leads_same (λ a b. (same_16 P below n h m w a b).0) l),
+  ap (λ (Q : List Pair). record { inputs = n; pairs = Q }) (sym (sorted_same n P below (same_from P below m))),
+)
+
+pub holds : (o : Option (List Pair)) (below : List ℕ) (n : ℕ) → 1 ≤ n → n ≤ 16 → AreMasksOf o (Some below) → AreWithin n below → HasNoCycle (pairs_in 16 below) → HoldsKept n below
+holds None below n some few m w c = absurd m
+holds (Some P) below n some few m w c = holds_masks n P below some few w (same_from P below m) (λ v l. c v (leads_same (λ a b. (same_16 P below n few m w a b).0) l))

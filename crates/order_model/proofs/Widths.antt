@@ -1,0 +1,9 @@
+-- Widths, least costs and cells.
+pub mod ClassPairs
+pub mod Recurrence
+pub mod Essential
+pub mod Fewest
+pub mod SizeBounds
+pub mod Count
+pub mod Cells
+pub mod Clipped

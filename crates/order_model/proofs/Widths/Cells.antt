@@ -1,0 +1,382 @@
+-- What a cell says, within the bound and beyond it, and how it follows from the cells of smaller sets.
+--     open_cell, closed_cell      a cell within the bound, and a clipped one
+--     next_within      behind the best top the set is within the bound, too
+--     cell_from_smaller      the cell from the costs without one member and the widths
+use Rattle.std.proofs.Common.{◌≡◌, ◌≢◌, ℕ, zero, suc, ◌+◌, ◌-◌, ◌^◌, ◌<◌, ◌≤◌, Bool, true, false, not, cond, ◌&&◌, inl, inr, List, [], ◌∷◌, map, length, refl, sym, ap, ◌∙◌, subst, arith, nat_eq, eqb, eqb-true, eq-eqb, ne_eqb, leb, leb-true, le-leb}
+use Rattle.std.specs.Int.{bit_at}
+use Rattle.std.specs.List.{filter, range_with_len}
+use Rattle.std.proofs.lemmas.Nat.Bits.{bit_at-zero}
+use Rattle.std.proofs.lemmas.Bool.{false≢true, true≢false, cases_Bool, cases_lt, or_cases, or_left, and_parts, and_from, not_from_false}
+use Rattle.order_model.specs.Functions.{Function}
+use Rattle.order_model.specs.Orders.{has, IsOrder, variables, members, without}
+use Rattle.order_model.specs.Pairs.{Pair, Keeps, is_lawful, tops}
+use Rattle.order_model.specs.Widths.{least, least_with_top, essentials_outside}
+use Rattle.order_model.specs.Cells.{first_of, is_within, best_top, cell_of, cell_cost, AreForCell, candidates, least_sum, has_room, cell_from}
+use Rattle.order_model.proofs.Lists.Sets.{among_map, among_from_map}
+use Rattle.order_model.proofs.Lists.Orders.{has_filter, has_range, has_variables}
+use Rattle.order_model.proofs.Precedence.Lists.{lawful_same, lawful_whole, are_lawful_nil}
+use Rattle.order_model.proofs.Widths.Recurrence.{IsLawfulSet, has_again, absent_without, distinct_without, least_of_lem, recurrence_le, recurrence_some, least_same, least-nil, has_among, among_has}
+use Rattle.order_model.proofs.Bits.Masks.{has_members, distinct_members, members_without}
+use Rattle.order_model.proofs.Widths.Essential.{essentials_same, essentials_step}
+use Rattle.order_model.proofs.Widths.Fewest.{ground}
+
+-- ---- rising lists
+
+-- each variable is below all later ones
+abbrev pub IsRising : List ℕ → Type 0
+IsRising [] = Unit {0}
+IsRising (x ∷ xs) = ((y : ℕ) → has xs y ≡ true → x < y) × IsRising xs
+
+rising_range : (k a : ℕ) → IsRising (range_with_len a k)
+rising_range zero a = tt
+rising_range (suc k) a = (λ y h. let s = (has_range k (a + 1) y).0 h in omega (arith, s.0), rising_range k (a + 1))
+
+pub rising_filter : (p : ℕ → Bool) (xs : List ℕ) → IsRising xs → IsRising (filter p xs)
+rising_filter p [] r = tt
+rising_filter p (x ∷ xs) r = by (p x) (rising_filter p xs r.1)
+  where
+    by : (b : Bool) → IsRising (filter p xs) → IsRising (cond b (x ∷ filter p xs) (filter p xs))
+    by true k = (λ y h. r.0 y (and_parts (has xs y) (p y) (sym (has_filter p xs y) ∙ h)).0, k)
+    by false k = k
+
+pub rising_members : (n mask : ℕ) → IsRising (members n mask)
+unfolding members
+rising_members n mask = rising_filter (λ x. eqb (bit_at mask x) 1) (variables n) (rising_range n 0)
+
+-- the first of a rising list is in it, and is its smallest
+pub first_has : (xs : List ℕ) (z : ℕ) → has xs z ≡ true → has xs (first_of xs) ≡ true
+first_has [] z h = absurd (false≢true h)
+first_has (x ∷ xs) z h = or_left _ _ (eq-eqb x x refl)
+
+pub first_le : (xs : List ℕ) (y : ℕ) → IsRising xs → has xs y ≡ true → first_of xs ≤ y
+first_le [] y r h = absurd (false≢true h)
+first_le (x ∷ xs) y r h = elim (or_cases (nat_eq y x) (has xs y) h) [ inl e ↦ let s = eqb-true y x e in omega arith | inr k ↦ let s = r.0 y k in omega arith ]
+
+-- ---- cells
+
+module _ (n : ℕ) (F : List Function) (P : List Pair) (base : List ℕ) (o : IsOrder n base) (k : Keeps P base) where
+  -- the members of a mask are variables
+  pub lawful_members : (mask : ℕ) → is_lawful P (members n mask) ≡ true → IsLawfulSet P base (members n mask)
+  lawful_members mask l = record {
+    once = distinct_members n mask;
+    within = λ y h. (o.all y).1 ((has_variables n y).0 (and_parts (has (variables n) y) (eqb (bit_at mask y) 1) (sym (has_members n mask y) ∙ h)).0);
+    lawful = l;
+  }
+
+  -- what stays of a mask without a member
+  pub less_one : (mask x : ℕ) → has (members n mask) x ≡ true → is_lawful P (without x (members n mask)) ≡ true →
+      (is_lawful P (members n (mask - 2 ^ x)) ≡ true) × (least n F P (members n (mask - 2 ^ x)) ≡ least n F P (without x (members n mask)))
+  less_one mask x h l =
+      let there = lawful_same P (members n (mask - 2 ^ x)) (without x (members n mask)) (members_without n mask x h) ∙ l in
+      let small = lawful_members (mask - 2 ^ x) there in (
+        there,
+        least_same n F P base (ground n P base o k) (members n (mask - 2 ^ x)) (without x (members n mask)) small
+            (record { once = distinct_without x (members n mask) (distinct_members n mask); within = λ y m. small.within y (members_without n mask x h y ∙ m); lawful = l })
+            (members_without n mask x h),
+      )
+
+-- the test whether a set is within the bound, in its parts
+pub within_parts : (n : ℕ) (F : List Function) (P : List Pair) (bound : ℕ) (S : List ℕ) → is_within n F P bound S ≡ true → (is_lawful P S ≡ true) × (least n F P S + essentials_outside n F S ≤ bound)
+unfolding is_within
+within_parts n F P bound S h =
+    let parts = and_parts (is_lawful P S) (leb (least n F P S + essentials_outside n F S) bound) h in
+    (parts.0, leb-true (least n F P S + essentials_outside n F S) bound parts.1)
+
+pub within_from : (n : ℕ) (F : List Function) (P : List Pair) (bound : ℕ) (S : List ℕ) → is_lawful P S ≡ true → least n F P S + essentials_outside n F S ≤ bound → is_within n F P bound S ≡ true
+unfolding is_within
+within_from n F P bound S l h = and_from _ _ l (le-leb (least n F P S + essentials_outside n F S) bound h)
+
+-- a cell within the bound
+pub record IsOpenCell (n : ℕ) (F : List Function) (P : List Pair) (mask c x : ℕ) : Type 0 where
+  pub cost : c ≡ least n F P (members n mask)
+  pub member : has (members n mask) x ≡ true
+  pub top : is_lawful P (without x (members n mask)) ≡ true
+  pub best : least_with_top n F P (members n mask) x ≡ least n F P (members n mask)
+  pub smallest : (y : ℕ) → has (members n mask) y ≡ true → is_lawful P (without y (members n mask)) ≡ true → least_with_top n F P (members n mask) y ≡ least n F P (members n mask) → x ≤ y
+
+pub has_tops : (P : List Pair) (S : List ℕ) (y : ℕ) → has (tops P S) y ≡ (has S y && is_lawful P (without y S))
+has_tops P S y = has_filter (λ x. is_lawful P (without x S)) S y
+
+-- the members that give the least cost on top
+abbrev pub bests : ℕ → List Function → List Pair → List ℕ → List ℕ
+bests n F P S = filter (λ x. nat_eq (least_with_top n F P S x) (least n F P S)) (tops P S)
+
+pub bests_parts : (n : ℕ) (F : List Function) (P : List Pair) (S : List ℕ) (y : ℕ) → has (bests n F P S) y ≡ true →
+    (has S y ≡ true) × (is_lawful P (without y S) ≡ true) × (least_with_top n F P S y ≡ least n F P S)
+bests_parts n F P S y h =
+    let parts = and_parts (has (tops P S) y) (nat_eq (least_with_top n F P S y) (least n F P S)) (sym (has_filter (λ x. nat_eq (least_with_top n F P S x) (least n F P S)) (tops P S) y) ∙ h) in
+    let more = and_parts (has S y) (is_lawful P (without y S)) (sym (has_tops P S y) ∙ parts.0) in
+    (more.0, more.1, eqb-true (least_with_top n F P S y) (least n F P S) parts.1)
+
+pub bests_from : (n : ℕ) (F : List Function) (P : List Pair) (S : List ℕ) (y : ℕ) → has S y ≡ true → is_lawful P (without y S) ≡ true → least_with_top n F P S y ≡ least n F P S → has (bests n F P S) y ≡ true
+bests_from n F P S y h l e =
+    has_filter (λ x. nat_eq (least_with_top n F P S x) (least n F P S)) (tops P S) y ∙ and_from _ _ (has_tops P S y ∙ and_from _ _ h l) (eq-eqb (least_with_top n F P S y) (least n F P S) e)
+
+pub rising_bests : (n : ℕ) (F : List Function) (P : List Pair) (mask : ℕ) → IsRising (bests n F P (members n mask))
+rising_bests n F P mask =
+    rising_filter (λ x. nat_eq (least_with_top n F P (members n mask) x) (least n F P (members n mask))) (tops P (members n mask))
+    (rising_filter (λ x. is_lawful P (without x (members n mask))) (members n mask) (rising_members n mask))
+
+pub open_is : (n : ℕ) (F : List Function) (P : List Pair) (bound mask : ℕ) → is_within n F P bound (members n mask) ≡ true →
+    cell_of n F P bound mask ≡ (least n F P (members n mask), best_top n F P (members n mask))
+unfolding cell_of
+open_is n F P bound mask h = ap (λ b. cond b (least n F P (members n mask), best_top n F P (members n mask)) (bound + 1, first_of (members n mask))) h
+
+-- a clipped cell
+pub closed_cell : (n : ℕ) (F : List Function) (P : List Pair) (bound mask : ℕ) → is_within n F P bound (members n mask) ≡ false → cell_of n F P bound mask ≡ (bound + 1, first_of (members n mask))
+unfolding cell_of
+closed_cell n F P bound mask h = ap (λ b. cond b (least n F P (members n mask), best_top n F P (members n mask)) (bound + 1, first_of (members n mask))) h
+
+module _ (n : ℕ) (F : List Function) (P : List Pair) (base : List ℕ) (o : IsOrder n base) (k : Keeps P base) (bound mask z : ℕ) (some : has (members n mask) z ≡ true) where
+  pub open_cell : is_within n F P bound (members n mask) ≡ true → IsOpenCell n F P mask (cell_of n F P bound mask).0 (cell_of n F P bound mask).1
+  unfolding best_top
+  open_cell h =
+      let parts = within_parts n F P bound (members n mask) h in
+      let set = lawful_members n F P base o k mask parts.0 in
+      let top = recurrence_some n F P base (ground n P base o k) (members n mask) z set some in
+      let x = first_of (bests n F P (members n mask)) in
+      let there = bests_parts n F P (members n mask) x (first_has (bests n F P (members n mask)) top.0 (bests_from n F P (members n mask) top.0 top.1 top.2 (sym top.3))) in
+      let is : IsOpenCell n F P mask (least n F P (members n mask)) x = record {
+        cost = refl;
+        member = there.0;
+        top = there.1;
+        best = there.2;
+        smallest = λ y m l e. first_le (bests n F P (members n mask)) y (rising_bests n F P mask) (bests_from n F P (members n mask) y m l e);
+      } in
+      subst (λ (c : ℕ × ℕ). IsOpenCell n F P mask c.0 c.1) (sym (open_is n F P bound mask h)) is
+
+  -- the variable of a cell is a member
+  pub cell_member : has (members n mask) (cell_of n F P bound mask).1 ≡ true
+  cell_member =
+      elim (cases_Bool (is_within n F P bound (members n mask))) [
+        | inl t ↦ (open_cell t).member
+        | inr e ↦ ap (λ (c : ℕ × ℕ). has (members n mask) c.1) (closed_cell n F P bound mask e) ∙ first_has (members n mask) z some
+      ]
+
+-- the parts of a cell within the bound
+pub cell_cost_is : (n : ℕ) (F : List Function) (P : List Pair) (bound mask : ℕ) → is_within n F P bound (members n mask) ≡ true → (cell_of n F P bound mask).0 ≡ least n F P (members n mask)
+cell_cost_is n F P bound mask h = ap (λ (c : ℕ × ℕ). c.0) (open_is n F P bound mask h)
+
+pub cell_top : (n : ℕ) (F : List Function) (P : List Pair) (base : List ℕ) (bound mask z : ℕ) → IsOrder n base → Keeps P base → has (members n mask) z ≡ true → is_within n F P bound (members n mask) ≡ true →
+    (has (tops P (members n mask)) (cell_of n F P bound mask).1 ≡ true) × (least_with_top n F P (members n mask) (cell_of n F P bound mask).1 ≡ least n F P (members n mask))
+cell_top n F P base bound mask z o k m h =
+    let cell = open_cell n F P base o k bound mask z m h in
+    (has_tops P (members n mask) (cell_of n F P bound mask).1 ∙ and_from _ _ cell.member cell.top, cell.best)
+
+pub cell_smallest : (n : ℕ) (F : List Function) (P : List Pair) (base : List ℕ) (bound mask y : ℕ) → IsOrder n base → Keeps P base → is_within n F P bound (members n mask) ≡ true →
+    has (tops P (members n mask)) y ≡ true → least_with_top n F P (members n mask) y ≡ least n F P (members n mask) → (cell_of n F P bound mask).1 ≤ y
+cell_smallest n F P base bound mask y o k h t e =
+    let parts = and_parts (has (members n mask) y) (is_lawful P (without y (members n mask))) (sym (has_tops P (members n mask) y) ∙ t) in
+    (open_cell n F P base o k bound mask y parts.0 h).smallest y parts.0 parts.1 e
+
+-- behind a top of the least cost the set is within the bound, too
+pub next_within : (n : ℕ) (F : List Function) (P : List Pair) (base : List ℕ) → IsOrder n base → Keeps P base → (bound mask x : ℕ) → is_within n F P bound (members n mask) ≡ true →
+    has (members n mask) x ≡ true → is_lawful P (without x (members n mask)) ≡ true → least_with_top n F P (members n mask) x ≡ least n F P (members n mask) →
+    is_within n F P bound (members n (mask - 2 ^ x)) ≡ true
+next_within n F P base o k bound mask x h m l e =
+    let parts = within_parts n F P bound (members n mask) h in
+    let rest = less_one n F P base o k mask x m l in
+    let step = essentials_step n F (without x (members n mask)) x (absent_without x (members n mask)) in
+    let a = essentials_same n F (x ∷ without x (members n mask)) (members n mask) (has_again x (members n mask) m) in
+    let b = essentials_same n F (members n (mask - 2 ^ x)) (without x (members n mask)) (members_without n mask x m) in
+    within_from n F P bound (members n (mask - 2 ^ x)) rest.0 (omega (arith, parts.1, rest.1))
+
+-- ---- costs
+
+filter_none : (p : ℕ → Bool) (xs : List ℕ) → ((y : ℕ) → p y ≡ false) → filter p xs ≡ []
+filter_none p [] h = refl
+filter_none p (x ∷ xs) h = ap (λ b. cond b (x ∷ filter p xs) (filter p xs)) (h x) ∙ filter_none p xs h
+
+pub members_zero : (n : ℕ) → members n 0 ≡ []
+unfolding members
+members_zero n = filter_none (λ x. eqb (bit_at 0 x) 1) (variables n) (λ y. ap (λ b. eqb b 1) (bit_at-zero y))
+
+-- within the bound a set's cost is its least cost
+pub cost_open : (n : ℕ) (F : List Function) (P : List Pair) (bound mask : ℕ) → is_within n F P bound (members n mask) ≡ true → cell_cost n F P bound mask ≡ least n F P (members n mask)
+unfolding cell_cost
+cost_open n F P bound mask h = by (nat_eq mask 0) refl
+  where
+    by : (b : Bool) → nat_eq mask 0 ≡ b → cond b 0 (cell_of n F P bound mask).0 ≡ least n F P (members n mask)
+    by true e = sym (ap (λ m. least n F P (members n m)) (eqb-true mask 0 e) ∙ ap (least n F P) (members_zero n) ∙ least-nil n F P)
+    by false e = ap (λ (c : ℕ × ℕ). c.0) (open_is n F P bound mask h)
+
+-- a cost that is not above the bound is the least cost of a lawful set
+pub cost_known : (n : ℕ) (F : List Function) (P : List Pair) (bound mask : ℕ) → cell_cost n F P bound mask ≤ bound →
+    (is_lawful P (members n mask) ≡ true) × (cell_cost n F P bound mask ≡ least n F P (members n mask))
+unfolding cell_cost
+cost_known n F P bound mask h = by (nat_eq mask 0) refl h
+  where
+    by : (b : Bool) → nat_eq mask 0 ≡ b → cond b 0 (cell_of n F P bound mask).0 ≤ bound → (is_lawful P (members n mask) ≡ true) × (cond b 0 (cell_of n F P bound mask).0 ≡ least n F P (members n mask))
+    by true e le =
+        let none = ap (members n) (eqb-true mask 0 e) ∙ members_zero n in
+        (ap (is_lawful P) none ∙ lawful_whole P [] (are_lawful_nil P), sym (ap (least n F P) none ∙ least-nil n F P))
+    by false e le =
+        elim (cases_Bool (is_within n F P bound (members n mask))) [
+          | inl t ↦ ((within_parts n F P bound (members n mask) t).0, ap (λ (c : ℕ × ℕ). c.0) (open_is n F P bound mask t))
+          | inr f ↦ let s = ap (λ (c : ℕ × ℕ). c.0) (closed_cell n F P bound mask f) in absurd (omega arith)
+        ]
+
+-- ---- the cell from smaller sets
+
+-- two rising lists of the same members have the same first one
+first_same : (xs ys : List ℕ) (z : ℕ) → IsRising xs → IsRising ys → has xs z ≡ true → ((y : ℕ) → has xs y ≡ true → has ys y ≡ true) → ((y : ℕ) → has ys y ≡ true → has xs y ≡ true) → first_of xs ≡ first_of ys
+first_same xs ys z r s h f g =
+    let a = first_has xs z h in
+    let b = first_has ys z (f z h) in
+    let le = first_le ys (first_of xs) s (f (first_of xs) a) in
+    let ge = first_le xs (first_of ys) r (g (first_of ys) b) in
+    omega arith
+
+module _ (n : ℕ) (F : List Function) (P : List Pair) (base : List ℕ) (o : IsOrder n base) (k : Keeps P base) (bound mask : ℕ) (costs widths : ℕ → ℕ) (given : AreForCell n F P bound mask costs widths) where
+  -- the sum of a candidate is the least cost with it on top
+  pub candidate_sum : is_lawful P (members n mask) ≡ true → (y : ℕ) → has (members n mask) y ≡ true → costs y ≤ bound →
+      (is_lawful P (without y (members n mask)) ≡ true) × (costs y + widths y ≡ least_with_top n F P (members n mask) y) × (least n F P (members n mask) ≤ costs y + widths y)
+  candidate_sum l y m le =
+      let c = given.are_costs y m in
+      let known = cost_known n F P bound (mask - 2 ^ y) (omega arith) in
+      let low = sym (lawful_same P (members n (mask - 2 ^ y)) (without y (members n mask)) (members_without n mask y m)) ∙ known.0 in
+      let rest = less_one n F P base o k mask y m low in
+      let w = given.are_widths l y m le in
+      let ge = recurrence_le n F P base (ground n P base o k) (members n mask) y (lawful_members n F P base o k mask l) m low in
+      (low, omega (arith, known.1, rest.1), omega (arith, known.1, rest.1))
+
+  -- within the bound, a top of the least cost is a candidate
+  pub best_candidate : is_within n F P bound (members n mask) ≡ true → (y : ℕ) → has (members n mask) y ≡ true → is_lawful P (without y (members n mask)) ≡ true →
+      least_with_top n F P (members n mask) y ≡ least n F P (members n mask) → costs y ≤ bound
+  best_candidate h y m l e =
+      let next = next_within n F P base o k bound mask y h m l e in
+      let c = cost_open n F P bound (mask - 2 ^ y) next in
+      let parts = within_parts n F P bound (members n (mask - 2 ^ y)) next in
+      let d = given.are_costs y m in
+      omega (arith, parts.1)
+
+  -- a member whose sum is the least among the candidates', that is the smallest such, and that leaves room within the bound is the cell's
+  pub found : (x : ℕ) → is_lawful P (members n mask) ≡ true → has (members n mask) x ≡ true → costs x ≤ bound →
+      ((y : ℕ) → has (members n mask) y ≡ true → costs y ≤ bound → costs x + widths x ≤ costs y + widths y) →
+      ((y : ℕ) → y < x → has (members n mask) y ≡ true → costs y ≤ bound → costs y + widths y ≢ costs x + widths x) →
+      costs x + widths x + essentials_outside n F (members n mask) ≤ bound → cell_of n F P bound mask ≡ (costs x + widths x, x)
+  found x l m le least_one first room =
+      let own = candidate_sum l x m le in
+      let within = within_from n F P bound (members n mask) l (omega (arith, own.2)) in
+      let cell = open_cell n F P base o k bound mask x m within in
+      let y = (cell_of n F P bound mask).1 in
+      let c = best_candidate within y cell.member cell.top cell.best in
+      let other = candidate_sum l y cell.member c in
+      let a = least_one y cell.member c in
+      let e : costs x + widths x ≡ least n F P (members n mask) = omega (arith, own.2, other.1, cell.best) in
+      let up = cell.smallest x m own.0 (sym own.1 ∙ e) in
+      let down : x ≤ y = elim (cases_lt y x) [ inl lt ↦ absurd (first y lt cell.member c (omega (arith, other.1, cell.best))) | inr ge ↦ ge ] in
+      let cost = cell.cost in
+      let both : ((cell_of n F P bound mask).0 ≡ costs x + widths x) × ((cell_of n F P bound mask).1 ≡ x) = (omega arith, omega arith) in
+      λ i. (both.0 i, both.1 i)
+
+  -- where no candidate leaves room within the bound, the cell is clipped
+  pub clipped : (z : ℕ) → has (members n mask) z ≡ true →
+      (is_lawful P (members n mask) ≡ true → (y : ℕ) → has (members n mask) y ≡ true → costs y ≤ bound → bound < costs y + widths y + essentials_outside n F (members n mask)) →
+      cell_of n F P bound mask ≡ (bound + 1, first_of (members n mask))
+  clipped z m none =
+      elim (cases_Bool (is_within n F P bound (members n mask))) [
+        | inl t ↦
+            let parts = within_parts n F P bound (members n mask) t in
+            let cell = open_cell n F P base o k bound mask z m t in
+            let y = (cell_of n F P bound mask).1 in
+            let c = best_candidate t y cell.member cell.top cell.best in
+            let s = candidate_sum parts.0 y cell.member c in
+            let lt = none parts.0 y cell.member c in
+            absurd (omega (arith, parts.1, s.1, cell.best))
+        | inr f ↦ closed_cell n F P bound mask f
+      ]
+
+  -- ---- the cell as a function of the costs and widths
+
+  Sum : ℕ → ℕ
+  Sum y = costs y + widths y
+
+  candidate_parts : (y : ℕ) → has (candidates n bound mask costs) y ≡ true → (has (members n mask) y ≡ true) × (costs y ≤ bound)
+  unfolding candidates
+  candidate_parts y h =
+      let parts = and_parts (has (members n mask) y) (leb (costs y) bound) (sym (has_filter (λ x. leb (costs x) bound) (members n mask) y) ∙ h) in
+      (parts.0, leb-true (costs y) bound parts.1)
+
+  candidate_from : (y : ℕ) → has (members n mask) y ≡ true → costs y ≤ bound → has (candidates n bound mask costs) y ≡ true
+  unfolding candidates
+  candidate_from y h le = has_filter (λ x. leb (costs x) bound) (members n mask) y ∙ and_from _ _ h (le-leb (costs y) bound le)
+
+  -- the least sum is some candidate's, and no candidate's is less
+  sum_lem : (z : ℕ) → has (candidates n bound mask costs) z ≡ true →
+      ((y : ℕ) × (has (candidates n bound mask costs) y ≡ true) × (costs y + widths y ≡ least_sum n bound mask costs widths)) × ((y : ℕ) → has (candidates n bound mask costs) y ≡ true → least_sum n bound mask costs widths ≤ costs y + widths y)
+  unfolding least_sum Sum
+  sum_lem z h =
+      let all = least_of_lem (map Sum (candidates n bound mask costs)) (Sum z) (among_map Sum z (candidates n bound mask costs) (has_among (candidates n bound mask costs) z h)) in
+      let from = among_from_map Sum (least_sum n bound mask costs widths) (candidates n bound mask costs) all.0 in (
+        (from.0, among_has (candidates n bound mask costs) from.0 from.1, sym from.2),
+        λ y m. all.1 (Sum y) (among_map Sum y (candidates n bound mask costs) (has_among (candidates n bound mask costs) y m)),
+      )
+
+  nonempty : (xs : List ℕ) → not (nat_eq (length xs) 0) ≡ true → (z : ℕ) × (has xs z ≡ true)
+  nonempty [] h = absurd (false≢true h)
+  nonempty (x ∷ xs) h = (x, or_left _ _ (eq-eqb x x refl))
+
+  never_empty : (xs : List ℕ) (z : ℕ) → has xs z ≡ true → not (nat_eq (length xs) 0) ≡ true
+  never_empty [] z h = absurd (false≢true h)
+  never_empty (x ∷ xs) z h = not_from_false _ (ne_eqb (length (x ∷ xs)) 0 (λ e. omega (arith, e)))
+
+  left : ℕ
+  left = essentials_outside n F (members n mask)
+
+  firsts : List ℕ
+  firsts = filter (λ x. nat_eq (costs x + widths x) (least_sum n bound mask costs widths)) (candidates n bound mask costs)
+
+  firsts_parts : (y : ℕ) → has firsts y ≡ true → (has (candidates n bound mask costs) y ≡ true) × (costs y + widths y ≡ least_sum n bound mask costs widths)
+  unfolding firsts
+  firsts_parts y h =
+      let parts = and_parts (has (candidates n bound mask costs) y) (nat_eq (costs y + widths y) (least_sum n bound mask costs widths))
+      (sym (has_filter (λ x. nat_eq (costs x + widths x) (least_sum n bound mask costs widths)) (candidates n bound mask costs) y) ∙ h) in
+      (parts.0, eqb-true (costs y + widths y) (least_sum n bound mask costs widths) parts.1)
+
+  firsts_from : (y : ℕ) → has (candidates n bound mask costs) y ≡ true → costs y + widths y ≡ least_sum n bound mask costs widths → has firsts y ≡ true
+  unfolding firsts
+  firsts_from y h e =
+      has_filter (λ x. nat_eq (costs x + widths x) (least_sum n bound mask costs widths)) (candidates n bound mask costs) y ∙ and_from _ _ h (eq-eqb (costs y + widths y) (least_sum n bound mask costs widths) e)
+
+  rising_firsts : IsRising firsts
+  unfolding firsts candidates
+  rising_firsts =
+      rising_filter (λ x. nat_eq (costs x + widths x) (least_sum n bound mask costs widths)) (candidates n bound mask costs) (rising_filter (λ x. leb (costs x) bound) (members n mask) (rising_members n mask))
+
+  with_room : has_room n P bound left mask costs widths ≡ true → cell_of n F P bound mask ≡ (least_sum n bound mask costs widths, first_of firsts)
+  unfolding has_room left
+  with_room h =
+      let parts = and_parts (is_lawful P (members n mask)) (not (nat_eq (length (candidates n bound mask costs)) 0) && leb (least_sum n bound mask costs widths + left) bound) h in
+      let more = and_parts (not (nat_eq (length (candidates n bound mask costs)) 0)) (leb (least_sum n bound mask costs widths + left) bound) parts.1 in
+      let le = leb-true (least_sum n bound mask costs widths + left) bound more.1 in
+      let one = nonempty (candidates n bound mask costs) more.0 in
+      let sums = sum_lem one.0 one.1 in
+      let x = first_of firsts in
+      let own = firsts_parts x (first_has firsts sums.0.0 (firsts_from sums.0.0 sums.0.1 sums.0.2)) in
+      let there = candidate_parts x own.0 in
+      let e = own.1 in
+      let is = found x parts.0 there.0 there.1
+      (λ y m c. let s = sums.1 y (candidate_from y m c) in omega arith)
+      (λ y lt m c f. let s = first_le firsts y rising_firsts (firsts_from y (candidate_from y m c) (f ∙ e)) in omega (arith, s, lt))
+      (omega arith) in
+      is ∙ (λ i. (e i, x))
+
+  no_room : (z : ℕ) → has (members n mask) z ≡ true → has_room n P bound left mask costs widths ≡ false → cell_of n F P bound mask ≡ (bound + 1, first_of (members n mask))
+  unfolding has_room left
+  no_room z m h = clipped z m (λ l y k c. elim (cases_lt bound (costs y + widths y + left)) [
+    | inl lt ↦ lt
+    | inr le ↦
+        let there = candidate_from y k c in
+        let s = (sum_lem y there).1 y there in
+        absurd (true≢false (sym (and_from _ _ l (and_from _ _ (never_empty (candidates n bound mask costs) y there) (le-leb (least_sum n bound mask costs widths + left) bound (omega arith)))) ∙ h))
+  ])
+
+  -- the cell follows from the costs and widths
+  pub cell_from_is : (z : ℕ) → has (members n mask) z ≡ true → cell_from n P bound (essentials_outside n F (members n mask)) mask costs widths ≡ cell_of n F P bound mask
+  unfolding cell_from left firsts
+  cell_from_is z m = by (has_room n P bound left mask costs widths) refl
+    where
+      by : (b : Bool) → has_room n P bound left mask costs widths ≡ b → cond b (least_sum n bound mask costs widths, first_of firsts) (bound + 1, first_of (members n mask)) ≡ cell_of n F P bound mask
+      by true e = sym (with_room e)
+      by false e = sym (no_room z m e)

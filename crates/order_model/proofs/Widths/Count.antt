@@ -1,0 +1,168 @@
+-- All sets together take at most n * 2 ^ (n - 1) widths; and the mask of the essential variables.
+--     widths_bound      twice the number of widths is at most n * 2 ^ n
+--     essential_members      the members of the mask of the essential variables are these
+use Rattle.std.proofs.Common.{◌≡◌, ℕ, zero, suc, ◌+◌, ◌-◌, ◌*◌, ◌^◌, ◌<◌, ◌≤◌, Bool, true, false, cond, ◌&&◌, List, [], ◌∷◌, ◌++◌, map, length, refl, sym, ap, ap₂, ◌∙◌, subst, arith, eqb, eq-eqb, leb, lit≤}
+use Rattle.std.specs.Int.{bit_at}
+use Rattle.std.specs.List.{filter, list_any, sum, range_with_len}
+use Rattle.std.proofs.Math.Nat.{suc-mul, two-pow-succ, mul-add, mul-one}
+use Rattle.std.proofs.lemmas.Bool.{or_left, or_right}
+use Rattle.std.proofs.lemmas.List.Sums.{sum_by-cons}
+use Rattle.std.proofs.lemmas.Nat.Bits.{bit_at_above, bit_at_cat_low, bit_at_cat_high}
+use Rattle.order_model.specs.Functions.{Function, depends}
+use Rattle.order_model.specs.Orders.{has, variables, members, mask_of, without}
+use Rattle.order_model.specs.Pairs.{Pair, is_lawful, tops}
+use Rattle.order_model.specs.Widths.{essential, essential_mask}
+use Rattle.order_model.specs.Cells.{cell_cost, wanted, widths_taken}
+use Rattle.order_model.proofs.Lists.Orders.{has_variables, has_filter}
+use Rattle.order_model.proofs.Bits.Masks.{bit-mask_of}
+use Rattle.order_model.proofs.Widths.Essential.{distinct_essential}
+
+-- ---- sums over ranges
+
+total : (ℕ → ℕ) → ℕ → ℕ → ℕ
+total f a zero = 0
+total f a (suc k) = f a + total f (a + 1) k
+
+sum_total : (f : ℕ → ℕ) (k a : ℕ) → sum (map f (range_with_len a k)) ≡ total f a k
+unfolding total
+sum_total f zero a = refl
+sum_total f (suc k) a = sum_by-cons (λ z. z) (f a) (map f (range_with_len (a + 1) k)) ∙ ap (λ s. f a + s) (sum_total f k (a + 1))
+
+total_le : (f g : ℕ → ℕ) (k a b : ℕ) → ((i : ℕ) → i < k → f (a + i) ≤ g (b + i)) → total f a k ≤ total g b k
+unfolding total
+total_le f g zero a b h = omega arith
+total_le f g (suc k) a b h =
+    let first = h 0 (omega arith) in
+    let e : f (a + 0) ≡ f a = ap f (omega arith) in
+    let e' : g (b + 0) ≡ g b = ap g (omega arith) in
+    let rest = total_le f g k (a + 1) (b + 1) (λ i lt. subst (λ u. f u ≤ g (b + 1 + i)) (shift a i) (subst (λ u. f (a + (i + 1)) ≤ g u) (shift b i) (h (i + 1) (omega arith)))) in
+    omega arith
+  where
+    shift : (c i : ℕ) → c + (i + 1) ≡ c + 1 + i
+    shift c i = omega arith
+
+total_split : (f : ℕ → ℕ) (k l m a : ℕ) → m ≡ k + l → total f a m ≡ total f a k + total f (a + k) l
+unfolding total
+total_split f zero l m a e = let s : total f a m ≡ total f (a + 0) l = ap₂ (total f) (let u : a ≡ a + 0 = omega arith in u) (let t : m ≡ l = omega arith in t) in omega arith
+total_split f (suc k) l zero a e = absurd (omega arith)
+total_split f (suc k) l (suc m) a e =
+    let rest = total_split f k l m (a + 1) (omega arith) in
+    let same : total f (a + 1 + k) l ≡ total f (a + suc k) l = ap (λ u. total f u l) (omega arith) in
+    omega arith
+
+total_plus : (f : ℕ → ℕ) (c k a : ℕ) → total (λ i. f i + c) a k ≡ total f a k + k * c
+unfolding total
+total_plus f c zero a = omega arith
+total_plus f c (suc k) a = let rest = total_plus f c k (a + 1) in let e : suc k * c ≡ k * c + c = suc-mul k c in omega arith
+
+-- ---- how many members all masks have
+
+filter_append : (p : ℕ → Bool) (xs ys : List ℕ) → filter p (xs ++ ys) ≡ filter p xs ++ filter p ys
+filter_append p [] ys = refl
+filter_append p (x ∷ xs) ys = by (p x) (filter_append p xs ys)
+  where
+    by : (b : Bool) → filter p (xs ++ ys) ≡ filter p xs ++ filter p ys → cond b (x ∷ filter p (xs ++ ys)) (filter p (xs ++ ys)) ≡ cond b (x ∷ filter p xs) (filter p xs) ++ filter p ys
+    by true e = ap (λ zs. x ∷ zs) e
+    by false e = e
+
+filter_same : (p q : ℕ → Bool) (xs : List ℕ) → ((y : ℕ) → has xs y ≡ true → p y ≡ q y) → filter p xs ≡ filter q xs
+filter_same p q [] h = refl
+filter_same p q (x ∷ xs) h = ap₂ (λ b zs. cond b (x ∷ zs) zs) (h x (or_left _ _ (eq-eqb x x refl))) (filter_same p q xs (λ y m. h y (or_right _ _ m)))
+
+range_last : (k a : ℕ) → range_with_len a (suc k) ≡ range_with_len a k ++ (a + k) ∷ []
+range_last zero a = ap (λ u. u ∷ []) (omega arith)
+range_last (suc k) a = ap (λ zs. a ∷ zs) (range_last k (a + 1) ∙ ap (λ u. range_with_len (a + 1) k ++ u ∷ []) (let s : a + 1 + k ≡ a + suc k = omega arith in s))
+
+filter_length : (p : ℕ → Bool) (xs : List ℕ) → length (filter p xs) ≤ length xs
+filter_length p [] = omega arith
+filter_length p (x ∷ xs) = by (p x) (filter_length p xs)
+  where
+    by : (b : Bool) → length (filter p xs) ≤ length xs → length (cond b (x ∷ filter p xs) (filter p xs)) ≤ length (x ∷ xs)
+    by true le = omega arith
+    by false le = omega arith
+
+length_append : (xs ys : List ℕ) → length (xs ++ ys) ≡ length xs + length ys
+length_append [] ys = omega arith
+length_append (x ∷ xs) ys = let e = length_append xs ys in omega arith
+
+how_many : ℕ → ℕ → ℕ
+how_many n mask = length (members n mask)
+
+-- one more variable is one more member where the mask has it
+members_more : (n mask : ℕ) → length (members (suc n) mask) ≡ length (members n mask) + cond (eqb (bit_at mask n) 1) 1 0
+unfolding members
+members_more n mask =
+    ap length (ap (filter (λ x. eqb (bit_at mask x) 1)) (range_last n 0) ∙ filter_append (λ x. eqb (bit_at mask x) 1) (variables n) ((0 + n) ∷ []))
+    ∙ length_append (filter (λ x. eqb (bit_at mask x) 1) (variables n)) (filter (λ x. eqb (bit_at mask x) 1) ((0 + n) ∷ []))
+    ∙ ap (λ k. length (filter (λ x. eqb (bit_at mask x) 1) (variables n)) + k) (by (eqb (bit_at mask (0 + n)) 1) ∙ ap (λ u. cond (eqb (bit_at mask u) 1) 1 0) (let s : 0 + n ≡ n = omega arith in s))
+  where
+    by : (b : Bool) → length (cond b ((0 + n) ∷ []) []) ≡ cond b 1 0
+    by true = refl
+    by false = refl
+
+low_half : (n m : ℕ) → m < 2 ^ n → length (members (suc n) m) ≡ length (members n m)
+low_half n m lt =
+    let e : cond (eqb (bit_at m n) 1) 1 0 ≡ zero = ap (λ b. cond (eqb b 1) 1 0) (bit_at_above m n n lt (omega arith)) in
+    let f = members_more n m in
+    omega arith
+
+high_half : (n m : ℕ) → m < 2 ^ n → length (members (suc n) (2 ^ n + m)) ≡ length (members n m) + 1
+unfolding members
+high_half n m lt =
+    let shape : 2 ^ n + m ≡ 1 * 2 ^ n + m = omega arith in
+    let same : length (members n (2 ^ n + m)) ≡ length (members n m) =
+    ap length (filter_same (λ x. eqb (bit_at (2 ^ n + m) x) 1) (λ x. eqb (bit_at m x) 1) (variables n)
+    (λ y h. ap (λ b. eqb b 1) (ap (λ k. bit_at k y) shape ∙ bit_at_cat_low 1 n m y ((has_variables n y).0 h)))) in
+    let top : bit_at (2 ^ n + m) n ≡ 1 = ap (λ k. bit_at k n) shape ∙ bit_at_cat_high 1 n m n lt (omega arith) ∙ ap (bit_at 1) (let z : n - n ≡ 0 = omega arith in z) in
+    let e : cond (eqb (bit_at (2 ^ n + m) n) 1) 1 0 ≡ suc zero = ap (λ b. cond (eqb b 1) 1 0) top in
+    let f = members_more n (2 ^ n + m) in
+    omega arith
+
+-- all masks together have n * 2 ^ (n - 1) members
+all_members : (n : ℕ) → 2 * total (how_many n) 0 (2 ^ n) ≤ n * 2 ^ n
+unfolding total how_many members
+all_members zero = lit≤ tt
+all_members (suc n) =
+    let rest = all_members n in
+    let double : 2 ^ suc n ≡ 2 ^ n + 2 ^ n = two-pow-succ n in
+    let halves = total_split (how_many (suc n)) (2 ^ n) (2 ^ n) (2 ^ suc n) 0 double in
+    let low = total_le (how_many (suc n)) (how_many n) (2 ^ n) 0 0 (λ i lt. let e = low_half n i lt in let s : 0 + i ≡ i = omega arith in subst (λ u. length (members (suc n) u) ≤ length (members n u)) (sym s) (omega arith)) in
+    let high = total_le (how_many (suc n)) (λ i. how_many n i + 1) (2 ^ n) (0 + 2 ^ n) 0
+    (λ i lt. let e = high_half n i lt in let s : 0 + i ≡ i = omega arith in let t : 0 + 2 ^ n + i ≡ 2 ^ n + i = omega arith in
+    subst (λ u. length (members (suc n) u) ≤ length (members n (0 + i)) + 1) (sym t) (subst (λ u. length (members (suc n) (2 ^ n + i)) ≤ length (members n u) + 1) (sym s) (omega arith))) in
+    let plus = total_plus (how_many n) 1 (2 ^ n) 0 in
+    let one : 2 ^ n * 1 ≡ 2 ^ n = mul-one (2 ^ n) in
+    let right : suc n * 2 ^ suc n ≡ 2 * (n * 2 ^ n) + 2 * 2 ^ n = ap (λ k. suc n * k) double ∙ spread (2 ^ n) in
+    omega arith
+  where
+    spread : (m : ℕ) → suc n * (m + m) ≡ 2 * (n * m) + 2 * m
+    spread m = let a = suc-mul n (m + m) in let b : n * (m + m) ≡ n * m + n * m = mul-add n m m in omega arith
+
+-- a solve takes at most n * 2 ^ (n - 1) widths
+pub widths_bound : (n : ℕ) (F : List Function) (P : List Pair) (bound : ℕ) → 2 * widths_taken n F P bound ≤ n * 2 ^ n
+unfolding widths_taken wanted how_many
+widths_bound n F P bound =
+    let e = sum_total (λ mask. length (wanted n F P bound mask)) (2 ^ n) 0 in
+    let le = total_le (λ mask. length (wanted n F P bound mask)) (how_many n) (2 ^ n) 0 0 (λ i lt. few (0 + i)) in
+    let all = all_members n in
+    omega arith
+  where
+    few : (mask : ℕ) → length (wanted n F P bound mask) ≤ length (members n mask)
+    few mask =
+        let a = filter_length (λ x. is_lawful P (members n mask) && leb (cell_cost n F P bound (mask - 2 ^ x)) bound) (tops P (members n mask)) in
+        let b = filter_length (λ x. is_lawful P (without x (members n mask))) (members n mask) in
+        omega arith
+
+-- the members of the mask of the essential variables
+pub essential_members : (n : ℕ) (F : List Function) → members n (essential_mask n F) ≡ essential n F
+unfolding members essential_mask essential
+essential_members n F = filter_same (λ x. eqb (bit_at (mask_of (essential n F)) x) 1) (λ x. list_any (λ f. depends n f x) F) (variables n) at
+  where
+    at : (y : ℕ) → has (variables n) y ≡ true → eqb (bit_at (mask_of (essential n F)) y) 1 ≡ list_any (λ f. depends n f y) F
+    at y h =
+        ap (λ b. eqb b 1) (bit-mask_of (essential n F) (distinct_essential n F) y) ∙ bit (has (essential n F) y)
+        ∙ has_filter (λ z. list_any (λ f. depends n f z) F) (variables n) y ∙ ap (λ b. b && list_any (λ f. depends n f y) F) h
+      where
+        bit : (b : Bool) → eqb (cond b 1 0) 1 ≡ b
+        bit true = refl
+        bit false = refl
