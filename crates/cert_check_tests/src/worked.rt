@@ -2,7 +2,8 @@
 
 use cert_check::{Verdict, check};
 use certificate::Certificate;
-use order_model::{Counting, ListedCell, Mask};
+use counted_io::Counting;
+use order_model::{ListedCell, Mask};
 use pla_reader::read_cover;
 use std::alloc::{AllocError, Global};
 use std::test::Fail;

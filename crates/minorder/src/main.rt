@@ -1,7 +1,7 @@
 //! minorder: the exact minimum variable order of a PLA file's shared decision diagram.
 #![tactic(auto)]
 
-use order_model::Counting;
+use counted_io::Counting;
 use report::{minorder, words_of_program};
 use std::process::ExitCode;
 

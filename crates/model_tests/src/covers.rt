@@ -1,6 +1,6 @@
 //! Readings of whole inputs.
 
-use order_model::Counting;
+use counted_io::Counting;
 use pla_reader::{Cover, PlaError, read_cover};
 use std::alloc::{AllocError, Global};
 use std::io;

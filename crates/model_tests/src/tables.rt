@@ -1,6 +1,7 @@
 //! Counts, cofactors and dependence of small covers.
 
-use order_model::{Counting, Order};
+use counted_io::Counting;
+use order_model::Order;
 use pla_reader::read_cover;
 use std::alloc::Global;
 use std::test::Fail;

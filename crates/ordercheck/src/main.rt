@@ -1,7 +1,7 @@
 //! ordercheck: whether a certificate proves that no variable order of a PLA file's functions has fewer nodes.
 #![tactic(auto)]
 
-use order_model::Counting;
+use counted_io::Counting;
 use report::{ordercheck, words_of_program};
 use std::process::ExitCode;
 

@@ -10,7 +10,7 @@ use crate::errors::PlaError;
 use crate::lines::first_line;
 use crate::progress::{LineError, Progress};
 use crate::statements::statement_of;
-use order_model::{CountedRead, Refused, read_all};
+use counted_io::{CountedRead, Refused, read_all};
 use std::alloc::Global;
 
 /// The cover of the bytes of an input, or its first fault.

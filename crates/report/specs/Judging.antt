@@ -12,8 +12,8 @@ use Rattle.pla_reader.specs.Covers.{NamedCover}
 use Rattle.pla_reader.specs.Reading.{Reads, FirstFault}
 use Rattle.command_line.specs.Lines.{ordercheck}
 use Rattle.command_line.specs.Usages.{AsksForHelp}
-use Rattle.order_model.specs.declared.devices.Refused.{Refused as NoBytes}
-use Rattle.order_model.specs.declared.devices.Refused.TheVariants as refused
+use Rattle.counted_io.specs.declared.whole.Refused.{Refused as NoBytes}
+use Rattle.counted_io.specs.declared.whole.Refused.TheVariants as refused
 use Rattle.report.specs.declared.outcome.Fault.{Fault}
 use Rattle.report.specs.declared.outcome.Outcome.{Outcome}
 use Rattle.report.specs.declared.outcome.Outcome.TheVariants.{Done, Invalid, Refused}

@@ -11,7 +11,7 @@ use crate::checks::run_check;
 use crate::messages::{write_fault, write_usage};
 use crate::outcome::{Fault, Outcome};
 use command_line::CheckLine;
-use order_model::{CountedWrite, Counting};
+use counted_io::{CountedWrite, Counting};
 use std::fs;
 use std::rt::Files;
 use std::thread::Threads;

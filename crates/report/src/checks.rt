@@ -9,7 +9,7 @@ use crate::outcome::{Fault, Outcome, fault_of, fault_of_certificate};
 use crate::verdict_texts::{invalid_text, valid_text};
 use cert_check::{Verdict, check};
 use certificate::Certificate;
-use order_model::{CountedRead, CountedWrite, Refused, read_all, write_whole};
+use counted_io::{CountedRead, CountedWrite, Refused, read_all, write_whole};
 use pla_reader::{Cover, read_cover};
 use std::alloc::{AllocError, Global};
 use std::thread::Threads;

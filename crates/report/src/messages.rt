@@ -7,7 +7,7 @@ ghost use Rattle.report.specs.Statuses.{IsHelp, IsRefusal, usage_exits};
 use crate::outcome::Fault;
 use arrayvec::ArrayString;
 use command_line::Usage;
-use order_model::{CountedWrite, write_whole};
+use counted_io::{CountedWrite, write_whole};
 use std::alloc::Global;
 use std::env;
 use std::env::Env;

@@ -12,7 +12,7 @@ use crate::messages::{write_fault, write_usage};
 use crate::outcome::{Fault, Outcome};
 use crate::runs::run;
 use command_line::Line;
-use order_model::{CountedWrite, Counting};
+use counted_io::{CountedWrite, Counting};
 use std::fs;
 use std::rt::Files;
 use std::thread::Threads;

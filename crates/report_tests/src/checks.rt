@@ -1,7 +1,7 @@
 //! Checks over memory and over devices that fail.
 
 use crate::devices::{FailingReader, FailingWriter};
-use order_model::Counting;
+use counted_io::Counting;
 use report::{Fault, Outcome, run_check};
 use std::io::{ErrorKind, Read};
 use std::test::Fail;

@@ -1,7 +1,8 @@
 //! Runs over memory and over devices that fail.
 
 use crate::devices::{FailingReader, FailingWriter};
-use order_model::{Counting, Workers};
+use counted_io::Counting;
+use order_model::Workers;
 use report::{Fault, Outcome, RunPlan, run};
 use std::alloc::Global;
 use std::io::{ErrorKind, Read};

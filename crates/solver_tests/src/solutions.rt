@@ -3,7 +3,8 @@
 ghost use Rattle.std.specs.Prelude.{◌≡◌, IfOk};
 
 use dd_builder::build_tables;
-use order_model::{Counting, Gate, Mask, NoGate, Pairs, Problem, Workers};
+use counted_io::Counting;
+use order_model::{Gate, Mask, NoGate, Pairs, Problem, Workers};
 use order_solve::{Solution, solve};
 use pla_reader::read_cover;
 use sifting::laws::diagrams_have_their_problems_tables;

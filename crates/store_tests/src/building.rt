@@ -9,7 +9,8 @@ use dd_builder::{
     BuildError, apply, build, build_from, build_tables, cover_store, from_cover, from_tables,
     tables_store,
 };
-use order_model::{Counting, Diagram, Gate, NoGate, Order, Workers};
+use counted_io::Counting;
+use order_model::{Diagram, Gate, NoGate, Order, Workers};
 use pla_reader::{Cover, read_cover};
 use std::alloc::{AllocError, Global};
 use std::hint;

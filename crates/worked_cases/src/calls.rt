@@ -2,7 +2,7 @@
 
 use crate::cases::{Case, Place};
 use anyhow::{Context, Result, bail};
-use order_model::Counting;
+use counted_io::Counting;
 use report::{minorder, ordercheck};
 use std::fs::{self, File};
 use std::io::Write;

@@ -1,6 +1,6 @@
 use Rattle.std.proofs.Common.{rules, ◌≡◌, ◌-◌, length, take, drop, take_all, length-drop, arith}
-use Rattle.order_model.proofs.Pieces.{appends_both}
-use Rattle.order_model.proofs.devices.write_whole.Goals as goal
+use Rattle.counted_io.proofs.Pieces.{appends_both}
+use Rattle.counted_io.proofs.whole.write_whole.Goals as goal
 
 pub loop-at-preserved : goal.loop-at-preserved
 loop-at-preserved g c =

@@ -1,6 +1,6 @@
 use Rattle.std.proofs.Common.{◌≡◌, ◌≤◌, ◌-◌, ◌+◌, vec_len}
 use Rattle.std.specs.Io.KnownBytes.{Consumes}
-use Rattle.order_model.proofs.devices.read_all.Given as goal
+use Rattle.counted_io.proofs.whole.read_all.Given as goal
 
 abbrev pub decreases-loop-bytes : goal.decreases-loop-bytes
 decreases-loop-bytes g l = l.limit + 1 - vec_len l.bytes

@@ -1,8 +1,8 @@
 -- Why reading a device to its end is refused.
 --     Refuses limit bytes before after fault      why there are no bytes
 use Rattle.std.specs.Prelude.{◌≡◌, ℕ, ◌+◌, ◌<◌, List, length, Option, IfSome}
-use Rattle.order_model.specs.declared.devices.Refused.{Refused}
-use Rattle.order_model.specs.declared.devices.Refused.TheVariants.{TooLong, Device, OutOfMemory}
+use Rattle.counted_io.specs.declared.whole.Refused.{Refused}
+use Rattle.counted_io.specs.declared.whole.Refused.TheVariants.{TooLong, Device, OutOfMemory}
 
 -- why a refusal is given, by the bytes that the device had, and the number of failed calls before and after
 abbrev pub Refuses : ℕ → Option (List ℕ) → ℕ → ℕ → Refused → Type 0

@@ -1,12 +1,10 @@
 //! Readers and writers that count their failed calls.
 
-ghost use Rattle.std.specs.Prelude.{◌≡◌, ◌+◌, ◌^◌, ◌<◌, ◌≤◌, ◌&&◌, ◌==◌, ℕ, List, None, Option, is_ok, is_err, if◌then◌else◌, IfSome, IfOk, IfErr, OnOk, OnErr, IsErrOf, take, vec_len};
-ghost use Rattle.std.specs.Io.KnownBytes.{ReadConsumes, WriteAppends, Appends, IsAtEnd};
+ghost use Rattle.std.specs.Prelude.{◌≡◌, ◌+◌, ◌^◌, ◌<◌, ◌&&◌, ◌==◌, ℕ, List, None, Option, is_ok, if◌then◌else◌};
+ghost use Rattle.std.specs.Io.KnownBytes.{ReadConsumes, WriteAppends};
 ghost use Rattle.std.specs.Io.{ReadsAtMost, WritesAtMost};
-ghost use Rattle.order_model.specs.Reading.{Refuses};
-ghost use Rattle.order_model.specs.Writing.{has_failed};
+ghost use Rattle.counted_io.specs.Writing.{has_failed};
 
-use std::alloc::Global;
 use std::io;
 use std::io::{Read, Write};
 use std::marker::Model;
@@ -49,7 +47,7 @@ pub struct Counting<T> {
 }
 
 impl<T> Model for Counting<T> {
-    ghost use Rattle.order_model.specs.Counted.{Counted, counted_code};
+    ghost use Rattle.counted_io.specs.Counted.{Counted, counted_code};
 
     ghost Value = { Counted T };
 
@@ -106,66 +104,4 @@ impl<T: Write> CountedWrite for Counting<T> {
         }
         result
     }
-}
-
-/// Why the bytes of a device aren't there.
-#[derive(Clone, Copy, Debug, PartialEq, Eq)]
-pub enum Refused {
-    /// There are more bytes than the limit.
-    TooLong,
-    /// A call of the device failed.
-    Device,
-    /// An allocation was refused.
-    OutOfMemory,
-}
-
-/// The bytes of a device, read to its end; one with more than the limit is too long.
-pub fn read_all<R: CountedRead>(
-    alloc: Global,
-    device: &mut R,
-    limit: usize,
-) -> Result<Vec<u8>, Refused>
-    requires limit { limit < 2 ^ 32 }
-    requires calls { R.failures device.old < 2 ^ 32 }
-    ensures bytes { IfOk result (λ v. IfSome (R.remaining device.old) (λ xs. v.items ≡ xs)) }
-    ensures fits { IfOk result (λ v. vec_len v ≤ limit) }
-    ensures end { OnOk result (IsAtEnd (R.remaining device.new)) }
-    ensures ok { OnOk result (R.failures device.new ≡ R.failures device.old) }
-    ensures err { IfErr result (Refuses limit (R.remaining device.old) (R.failures device.old) (R.failures device.new)) }
-{
-    let mut bytes = Vec::new(alloc);
-    let mut piece = [0u8; 4096];
-    loop {
-        match device.read_some(&mut piece) {
-            Err(_) => return Err(Refused::Device),
-            Ok(0) => return Ok(bytes),
-            Ok(n) => {
-                if limit - bytes.len() < n {
-                    return Err(Refused::TooLong);
-                }
-                if bytes.extend_from_slice(&piece[..n]).is_err() {
-                    return Err(Refused::OutOfMemory);
-                }
-            }
-        }
-    }
-}
-
-/// Writes a whole text. After a failure what was written is a beginning of it.
-pub fn write_whole<W: CountedWrite>(device: &mut W, text: &[u8]) -> Result<(), Refused>
-    requires { W.failures device.old < 2 ^ 32 }
-    ensures ok { OnOk result (Appends (W.contents device.old) (W.contents device.new) text.now) }
-    ensures ok_calls { OnOk result (W.failures device.new ≡ W.failures device.old) }
-    ensures err { OnErr result ((n : ℕ) × Appends (W.contents device.old) (W.contents device.new) (take n text.now)) }
-    ensures err_calls { OnErr result (W.failures device.new ≡ W.failures device.old + 1) }
-    ensures device { OnErr result (IsErrOf result Refused.Device) }
-{
-    let mut at = 0;
-    while at < text.len() {
-        match device.write_some(&text[at..]) {
-            Err(_) | Ok(0) => return Err(Refused::Device),
-            Ok(n) => at += n,
-        }
-    }
-    Ok(())
 }
