@@ -14,11 +14,11 @@ use Rattle.dd_builder.proofs.Going.{means_same, function_zero, function_one, ter
 -- ---- operands that settle an operation
 
 settled_known : (s : Knowledge) (operation : Operation) (a b id : ℕ) → Knows s a → Knows s b → Settles operation a b id → Knows s id
-settled_known s operation a b id ka kb h = ⊎_elim (λ (low : id < 2). terminal_known s id low)
+settled_known s operation a b id ka kb h = ⊎_elim (λ (small : id < 2). terminal_known s id small)
     (⊎_elim (λ (e : id ≡ a). subst (Knows s) (sym e) ka) (λ (e : id ≡ b). subst (Knows s) (sym e) kb)) h.origin
 
 settled_level : (s : Knowledge) (from : ℕ) (operation : Operation) (a b id : ℕ) → IsFrom s from a → IsFrom s from b → from ≤ levels_of s.store.plan → Settles operation a b id → from ≤ depth_in s id
-settled_level s from operation a b id fa fb most h = ⊎_elim (λ (low : id < 2). let e = terminal_depth s id low in omega arith)
+settled_level s from operation a b id fa fb most h = ⊎_elim (λ (small : id < 2). let e = terminal_depth s id small in omega arith)
     (⊎_elim (λ (e : id ≡ a). subst (λ k. from ≤ depth_in s k) (sym e) fa.level) (λ (e : id ≡ b). subst (λ k. from ≤ depth_in s k) (sym e) fb.level)) h.origin
 
 pub settled_combined : (s : Knowledge) (from : ℕ) (operation : Operation) (a b id : ℕ) → IsFrom s from a → IsFrom s from b → from ≤ levels_of s.store.plan → Settles operation a b id → IsCombined s from operation a b id
@@ -37,14 +37,14 @@ pub branch_same : (x : ℕ) (f g f' g' : Function) (p : Point) → f p ≡ f' p 
 unfolding branch
 branch_same x f g f' g' p e e' = λ i. cond (bit p x) (e' i) (e i)
 
-pub cut_follows : (s s' : Knowledge) (level id lower upper : ℕ) → Follows s s' → IsCut s level id lower upper → IsCut s' level id lower upper
-cut_follows s s' level id lower upper f c = record {
+pub cut_follows : (s s' : Knowledge) (level id low high : ℕ) → Follows s s' → IsCut s level id low high → IsCut s' level id low high
+cut_follows s s' level id low high f c = record {
   known = f.knows id c.known;
-  lower_below = known_below_follows s s' level lower f c.lower_below;
-  upper_below = known_below_follows s s' level upper f c.upper_below;
+  low_below = known_below_follows s s' level low f c.low_below;
+  high_below = known_below_follows s s' level high f c.high_below;
   function = λ p. f.functions id p c.known ∙ (c.function p
-      ∙ (branch_same (variable_at s.store.plan level) (function_in s lower) (function_in s upper) (function_in s' lower) (function_in s' upper) p (sym (f.functions lower p c.lower_below.0)) (sym (f.functions upper p c.upper_below.0))
-      ∙ ap (λ (z : StoreId). branch (variable_at z.plan level) (function_in s' lower) (function_in s' upper) p) (sym f.store)));
+      ∙ (branch_same (variable_at s.store.plan level) (function_in s low) (function_in s high) (function_in s' low) (function_in s' high) p (sym (f.functions low p c.low_below.0)) (sym (f.functions high p c.high_below.0))
+      ∙ ap (λ (z : StoreId). branch (variable_at z.plan level) (function_in s' low) (function_in s' high) p) (sym f.store)));
 }
 
 combine_same : (operation : Operation) (f g f' g' : Function) (p : Point) → f p ≡ f' p → g p ≡ g' p → combine operation f g p ≡ combine operation f' g' p
@@ -60,12 +60,12 @@ combined_follows s s' from operation a b id ka kb f c = record {
 
 -- ---- an id as a node of a level
 
-pub parts_cut : (s : Knowledge) (level id : ℕ) (parts : NodeParts) → Knows s id → HasParts s id parts → parts.level ≡ level → IsCut s level id parts.lower parts.upper
+pub parts_cut : (s : Knowledge) (level id : ℕ) (parts : NodeParts) → Knows s id → HasParts s id parts → parts.level ≡ level → IsCut s level id parts.low parts.high
 parts_cut s level id parts known h e = record {
   known = known;
-  lower_below = (h.lower.0, (let l = h.lower.1 in omega arith));
-  upper_below = (h.upper.0, (let l = h.upper.1 in omega arith));
-  function = λ p. h.function p ∙ ap (λ (k : ℕ). branch (variable_at s.store.plan k) (function_in s parts.lower) (function_in s parts.upper) p) e;
+  low_below = (h.low.0, (let l = h.low.1 in omega arith));
+  high_below = (h.high.0, (let l = h.high.1 in omega arith));
+  function = λ p. h.function p ∙ ap (λ (k : ℕ). branch (variable_at s.store.plan k) (function_in s parts.low) (function_in s parts.high) p) e;
 }
 
 both_same : (x : ℕ) (f : Function) (p : Point) → f p ≡ branch x f f p
@@ -77,7 +77,7 @@ both_same x f p = either (bit p x) (f p)
     either false v = refl
 
 pub same_cut : (s : Knowledge) (level id : ℕ) → Knows s id → level < depth_in s id → IsCut s level id id id
-same_cut s level id known less = record { known = known; lower_below = (known, less); upper_below = (known, less); function = λ p. both_same (variable_at s.store.plan level) (function_in s id) p }
+same_cut s level id known less = record { known = known; low_below = (known, less); high_below = (known, less); function = λ p. both_same (variable_at s.store.plan level) (function_in s id) p }
 
 -- ---- the node of an operation
 
@@ -89,13 +89,13 @@ branch_combine : (operation : Operation) (x : ℕ) (f g f' g' : Function) (p : P
 unfolding branch combine
 branch_combine operation x f g f' g' p = spread operation (bit p x) (f p) (g p) (f' p) (g' p)
 
-pub combined_cut : (s : Knowledge) (from level : ℕ) (operation : Operation) (a b al au bl bu lower upper id : ℕ) → IsCut s level a al au → IsCut s level b bl bu
-    → IsCombined s (level + 1) operation al bl lower → IsCombined s (level + 1) operation au bu upper
-    → Means s id (branch (variable_at s.store.plan level) (function_in s lower) (function_in s upper)) → from ≤ level → level ≤ depth_in s id → IsCombined s from operation a b id
+pub combined_cut : (s : Knowledge) (from level : ℕ) (operation : Operation) (a b al au bl bu low high id : ℕ) → IsCut s level a al au → IsCut s level b bl bu
+    → IsCombined s (level + 1) operation al bl low → IsCombined s (level + 1) operation au bu high
+    → Means s id (branch (variable_at s.store.plan level) (function_in s low) (function_in s high)) → from ≤ level → level ≤ depth_in s id → IsCombined s from operation a b id
 unfolding SameFunction
-combined_cut s from level operation a b al au bl bu lower upper id ca cb cl cu m most deep = record {
-  means = means_same s id (branch x (function_in s lower) (function_in s upper)) (combine operation (function_in s a) (function_in s b)) m
-      (λ p l. branch_same x (function_in s lower) (function_in s upper) (combine operation (function_in s al) (function_in s bl)) (combine operation (function_in s au) (function_in s bu)) p (cl.means.function p l) (cu.means.function p l)
+combined_cut s from level operation a b al au bl bu low high id ca cb cl cu m most deep = record {
+  means = means_same s id (branch x (function_in s low) (function_in s high)) (combine operation (function_in s a) (function_in s b)) m
+      (λ p l. branch_same x (function_in s low) (function_in s high) (combine operation (function_in s al) (function_in s bl)) (combine operation (function_in s au) (function_in s bu)) p (cl.means.function p l) (cu.means.function p l)
       ∙ (branch_combine operation x (function_in s al) (function_in s bl) (function_in s au) (function_in s bu) p
       ∙ combine_same operation (branch x (function_in s al) (function_in s au)) (branch x (function_in s bl) (function_in s bu)) (function_in s a) (function_in s b) p (sym (ca.function p)) (sym (cb.function p))));
   level = omega arith;
@@ -112,14 +112,14 @@ pub combined_below : (s : Knowledge) (level : ℕ) (operation : Operation) (a b 
 combined_below s level operation a b id h = (h.means.known, (let l = h.level in omega arith))
 
 -- the node made of an operation on both children
-pub made_combined : (store : StoreId) (s2 s3 s4 s5 : Knowledge) (from level : ℕ) (operation : Operation) (a b al au bl bu lower upper id : ℕ) → s2.store ≡ store → IsCut s2 level a al au → IsCut s2 level b bl bu
-    → Follows s2 s3 → IsCombined s3 (level + 1) operation al bl lower → Follows s3 s4 → IsCombined s4 (level + 1) operation au bu upper → Follows s4 s5
-    → Means s5 id (branch (variable_at store.plan level) (function_in s5 lower) (function_in s5 upper)) → from ≤ level → level ≤ depth_in s5 id → IsCombined s5 from operation a b id
-made_combined store s2 s3 s4 s5 from level operation a b al au bl bu lower upper id same ca cb f23 cl f34 cu f45 m most deep =
+pub made_combined : (store : StoreId) (s2 s3 s4 s5 : Knowledge) (from level : ℕ) (operation : Operation) (a b al au bl bu low high id : ℕ) → s2.store ≡ store → IsCut s2 level a al au → IsCut s2 level b bl bu
+    → Follows s2 s3 → IsCombined s3 (level + 1) operation al bl low → Follows s3 s4 → IsCombined s4 (level + 1) operation au bu high → Follows s4 s5
+    → Means s5 id (branch (variable_at store.plan level) (function_in s5 low) (function_in s5 high)) → from ≤ level → level ≤ depth_in s5 id → IsCombined s5 from operation a b id
+made_combined store s2 s3 s4 s5 from level operation a b al au bl bu low high id same ca cb f23 cl f34 cu f45 m most deep =
     let f35 : Follows s3 s5 = follows_trans s3 s4 s5 f34 f45 in
     let f24 : Follows s2 s4 = follows_trans s2 s3 s4 f23 f34 in
     let f25 : Follows s2 s5 = follows_trans s2 s3 s5 f23 f35 in
-    combined_cut s5 from level operation a b al au bl bu lower upper id (cut_follows s2 s5 level a al au f25 ca) (cut_follows s2 s5 level b bl bu f25 cb)
-    (combined_follows s3 s5 (level + 1) operation al bl lower (f23.knows al ca.lower_below.0) (f23.knows bl cb.lower_below.0) f35 cl)
-    (combined_follows s4 s5 (level + 1) operation au bu upper (f24.knows au ca.upper_below.0) (f24.knows bu cb.upper_below.0) f45 cu)
-    (subst (λ (z : StoreId). Means s5 id (branch (variable_at z.plan level) (function_in s5 lower) (function_in s5 upper))) (sym same ∙ sym f25.store) m) most deep
+    combined_cut s5 from level operation a b al au bl bu low high id (cut_follows s2 s5 level a al au f25 ca) (cut_follows s2 s5 level b bl bu f25 cb)
+    (combined_follows s3 s5 (level + 1) operation al bl low (f23.knows al ca.low_below.0) (f23.knows bl cb.low_below.0) f35 cl)
+    (combined_follows s4 s5 (level + 1) operation au bu high (f24.knows au ca.high_below.0) (f24.knows bu cb.high_below.0) f45 cu)
+    (subst (λ (z : StoreId). Means s5 id (branch (variable_at z.plan level) (function_in s5 low) (function_in s5 high))) (sym same ∙ sym f25.store) m) most deep

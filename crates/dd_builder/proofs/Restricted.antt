@@ -46,19 +46,19 @@ output_leaf s order level path point id output t b same is past at value termina
     ap (λ xs. fixed xs path (from_table (table_at t output)) p) (take_all level order past) ∙ (fixed_point order is path point (table_at t output) p at (l ∙ ap length same) ∙ sym value)))
 
 -- a node above two functions in which one more variable is fixed
-pub restricted_node : (store : StoreId) (s1 s2 s3 : Knowledge) (level path lower upper id : ℕ) (f : Function) → s1.store ≡ store → Follows s1 s2 → Follows s2 s3 → IsOrder (levels_of store.plan) (order_of store.plan)
-    → level < levels_of store.plan → path < 2 ^ level → Means s1 lower (fixed (take (level + 1) (order_of store.plan)) path f) → Means s2 upper (fixed (take (level + 1) (order_of store.plan)) (path + 2 ^ level) f)
-    → Means s3 id (branch (variable_at store.plan level) (function_in s3 lower) (function_in s3 upper)) → Means s3 id (fixed (take level (order_of store.plan)) path f)
-restricted_node store s1 s2 s3 level path lower upper id f same f12 f23 is inside small ml mu m =
-    let l3 : Means s3 lower (fixed (take (level + 1) (order_of store.plan)) path f) = f23.means lower _ (f12.means lower _ ml) in
-    let u3 : Means s3 upper (fixed (take (level + 1) (order_of store.plan)) (path + 2 ^ level) f) = f23.means upper _ mu in
+pub restricted_node : (store : StoreId) (s1 s2 s3 : Knowledge) (level path low high id : ℕ) (f : Function) → s1.store ≡ store → Follows s1 s2 → Follows s2 s3 → IsOrder (levels_of store.plan) (order_of store.plan)
+    → level < levels_of store.plan → path < 2 ^ level → Means s1 low (fixed (take (level + 1) (order_of store.plan)) path f) → Means s2 high (fixed (take (level + 1) (order_of store.plan)) (path + 2 ^ level) f)
+    → Means s3 id (branch (variable_at store.plan level) (function_in s3 low) (function_in s3 high)) → Means s3 id (fixed (take level (order_of store.plan)) path f)
+restricted_node store s1 s2 s3 level path low high id f same f12 f23 is inside small ml mu m =
+    let l3 : Means s3 low (fixed (take (level + 1) (order_of store.plan)) path f) = f23.means low _ (f12.means low _ ml) in
+    let u3 : Means s3 high (fixed (take (level + 1) (order_of store.plan)) (path + 2 ^ level) f) = f23.means high _ mu in
     let here : s3.store ≡ store = f23.store ∙ (f12.store ∙ same) in
-    means_same s3 id (branch (variable_at store.plan level) (function_in s3 lower) (function_in s3 upper)) (fixed (take level (order_of store.plan)) path f) m
-    (λ p l. branch_same (variable_at store.plan level) (function_in s3 lower) (function_in s3 upper) (fixed (take (level + 1) (order_of store.plan)) path f) (fixed (take (level + 1) (order_of store.plan)) (path + 2 ^ level) f) p
-    (means_at s3 lower _ p l3 l) (means_at s3 upper _ p u3 l)
+    means_same s3 id (branch (variable_at store.plan level) (function_in s3 low) (function_in s3 high)) (fixed (take level (order_of store.plan)) path f) m
+    (λ p l. branch_same (variable_at store.plan level) (function_in s3 low) (function_in s3 high) (fixed (take (level + 1) (order_of store.plan)) path f) (fixed (take (level + 1) (order_of store.plan)) (path + 2 ^ level) f) p
+    (means_at s3 low _ p l3 l) (means_at s3 high _ p u3 l)
     ∙ fixed_step (order_of store.plan) level path f p is.once inside small)
 
--- the program's path of the upper one
+-- the program's path of the high one
 pub path_up : (width level path k : ℕ) → level < width → k ≡ path + 1 * 2 ^ level % 2 ^ width → k ≡ path + 2 ^ level
 path_up width level path k l e = e ∙ ap (λ z. path + z) (one_shl level width l)
 
@@ -80,23 +80,23 @@ part_restriction (Products terms) order t q h = absurd h
 -- a piece of the parts
 pub part_piece : (b : Plan) (q : ℕ) → q < b.roots → piece_function b q ≡ part_function b.kind (order_of b) b.problem.value q
 unfolding piece_function
-part_piece b q low = ap (λ (c : Bool). if c then part_function b.kind (order_of b) b.problem.value q else output_at b.problem.value (q - b.roots)) (lt-ltb q b.roots low)
+part_piece b q short = ap (λ (c : Bool). if c then part_function b.kind (order_of b) b.problem.value q else output_at b.problem.value (q - b.roots)) (lt-ltb q b.roots short)
 
 -- an output with the variables on top fixed is a piece
 pub restriction_piece : (b : Plan) (t : TruthTables) (q count ways' output path : ℕ) → IsForTables b t → q < b.roots → count ≡ length (tops (order_of b)) → ways' ≡ 2 ^ count → output ≡ q / ways' → path ≡ q % ways'
     → fixed (take count (order_of b)) path (output_at t output) ≡ piece_function b q
-restriction_piece b t q count ways' output path is low top w o r =
+restriction_piece b t q count ways' output path is short top w o r =
     let pow : ways' ≡ ways (order_of b) = w ∙ ap (λ k. 2 ^ k) top in
     let taken : take count (order_of b) ≡ tops (order_of b) = ap (λ k. take k (order_of b)) top ∙ take_taken 2 (order_of b) in
     (λ i. fixed (taken i) ((r ∙ ap (λ k. q % k) pow) i) (output_at (sym is.problem i) ((o ∙ ap (λ k. q / k) pow) i)))
-    ∙ (sym (part_restriction b.kind (order_of b) b.problem.value q is.kind) ∙ sym (part_piece b q low))
+    ∙ (sym (part_restriction b.kind (order_of b) b.problem.value q is.kind) ∙ sym (part_piece b q short))
 
 restrictions_count : (kind : PieceKind) (order : List ℕ) (t : TruthTables) → AreRestrictions kind → parts_count kind order t ≡ outputs_of t * ways order
 restrictions_count Restrictions order t is = refl
 restrictions_count (Products terms) order t is = absurd is
 
 restriction_inside : (b : Plan) (count path output : ℕ) → IsPlan b → AreRestrictions b.kind → count ≡ length (tops (order_of b)) → output < outputs_of b.problem.value → path < 2 ^ count → output * 2 ^ count + path < b.roots
-restriction_inside b count path output plan is top low inside =
+restriction_inside b count path output plan is top short inside =
     let n = plan.roots ∙ (restrictions_count b.kind (order_of b) b.problem.value is ∙ ap (λ k. outputs_of b.problem.value * 2 ^ k) (sym top)) in
     let up : output + 1 ≤ outputs_of b.problem.value = omega arith in
     let m : (output + 1) * 2 ^ count ≤ outputs_of b.problem.value * 2 ^ count = mul-le-mul_right (2 ^ count) up in
@@ -105,16 +105,16 @@ restriction_inside b count path output plan is top low inside =
 -- a part's number, as the program has it
 pub restriction_at : (b : Plan) (count q output path : ℕ) → IsPlan b → AreRestrictions b.kind → output < outputs_of b.problem.value → count ≡ length (tops (order_of b)) → count ≤ 2 → output < 256 → path < 2 ^ count
     → q ≡ output * 2 ^ count % 18446744073709551616 + path → fixed (take count (order_of b)) path (output_at b.problem.value output) ≡ piece_function b q
-restriction_at b zero q output path plan is low top few small inside e =
-    let here = restriction_inside b 0 path output plan is top low inside in
+restriction_at b zero q output path plan is short top few small inside e =
+    let here = restriction_inside b 0 path output plan is top short inside in
     restriction_piece b b.problem.value q 0 1 output path (record { kind = is; problem = refl }) (omega arith) top refl (omega arith) (omega arith)
-restriction_at b (suc zero) q output path plan is low top few small inside e =
-    let here = restriction_inside b 1 path output plan is top low inside in
+restriction_at b (suc zero) q output path plan is short top few small inside e =
+    let here = restriction_inside b 1 path output plan is top short inside in
     restriction_piece b b.problem.value q 1 2 output path (record { kind = is; problem = refl }) (omega arith) top refl (omega arith) (omega arith)
-restriction_at b (suc (suc zero)) q output path plan is low top few small inside e =
-    let here = restriction_inside b 2 path output plan is top low inside in
+restriction_at b (suc (suc zero)) q output path plan is short top few small inside e =
+    let here = restriction_inside b 2 path output plan is top short inside in
     restriction_piece b b.problem.value q 2 4 output path (record { kind = is; problem = refl }) (omega arith) top refl (omega arith) (omega arith)
-restriction_at b (suc (suc (suc count))) q output path plan is low top few small inside e = absurd (omega arith)
+restriction_at b (suc (suc (suc count))) q output path plan is short top few small inside e = absurd (omega arith)
 
 -- with no variable fixed
 pub none_fixed : (order : List ℕ) (f : Function) → fixed (take 0 order) 0 f ≡ f

@@ -44,10 +44,10 @@ fixed_last [] x (suc v) f p apart small = absurd (omega arith)
 fixed_last (y ∷ ys) x v f p apart small =
     let q : Point = set p y (eqb (bit_at v 0) 1) in
     let there : bit q x ≡ bit p x = get_or-set_other p y x (eqb (bit_at v 0) 1) false apart.0 in
-    let upper : fixed (y ∷ (ys ++ x ∷ [])) (v + 2 ^ suc (length ys)) f p ≡ fixed (ys ++ x ∷ []) (v / 2 + 2 ^ length ys) f q =
+    let high : fixed (y ∷ (ys ++ x ∷ [])) (v + 2 ^ suc (length ys)) f p ≡ fixed (ys ++ x ∷ []) (v / 2 + 2 ^ length ys) f q =
     (λ i. fixed (ys ++ x ∷ []) (half v (length ys) i) f (set p y (eqb (low_bit v (length ys) i) 1))) in
     let small' : v < 2 ^ suc (length ys) = small in
-    (λ i. cond (sym there i) (upper i) (fixed (ys ++ x ∷ []) (v / 2) f q)) ∙ fixed_last ys x (v / 2) f q apart.1 (omega arith)
+    (λ i. cond (sym there i) (high i) (fixed (ys ++ x ∷ []) (v / 2) f q)) ∙ fixed_last ys x (v / 2) f q apart.1 (omega arith)
 
 -- ---- orders
 
@@ -127,16 +127,16 @@ module _ (order : List ℕ) (is : IsOrder (length order) order) where
       let n : ℕ = length order in
       let long = length-laid order path p ∙ l in
       same_from_bits_below n (number (laid order path p)) point (subst (λ (z : ℕ). number (laid order path p) < 2 ^ z) long (number-small (laid order path p))) h.small
-      (λ y low.
+      (λ y few.
       let i : ℕ = place_in order y in
-      let there = place_inside y low in
+      let there = place_inside y few in
       let at : get_or order i 0 ≡ y = place_at order y there in
       bit-number (laid order path p) y (omega arith) ∙ (ap (λ z. weight (bit (laid order path p) z)) (sym at)
       ∙ (ap weight (bit-laid order path i p is.once there (λ j k. let v = variable_inside j k in omega arith))
       ∙ (weight_bit (bit_at path i) (bit_at-lt path i) ∙ (sym (h.bits i there) ∙ ap (bit_at point) at)))))
     where
       place_inside : (y : ℕ) → y < length order → place_in order y < length order
-      place_inside y low = (own_place y order is.once ((is.all y).1 low)).1
+      place_inside y few = (own_place y order is.once ((is.all y).1 few)).1
 
   -- with all variables fixed to the bits of a path a function is its value at the path's point
   pub fixed_point : (path point : ℕ) (t : List Bool) (p : Point) → IsPointOf order path point → length p ≡ length order → fixed order path (from_table t) p ≡ get_or t point false

@@ -1,7 +1,7 @@
 -- Operations on functions, level by level.
 --     IsFrom s from id      a known id that lies at a level or below it
 --     Settles operation a b id      an operand or a terminal that has the operation's value whatever the functions of the operands are
---     IsCut s level id lower upper      an id as a node of a level, with two children below
+--     IsCut s level id low high      an id as a node of a level, with two children below
 --     IsCombined s from operation a b id      the id of an operation, which lies at a level or below it
 use Rattle.std.specs.Prelude.{◌≡◌, ℕ, ◌<◌, ◌≤◌, ◌⊎◌, Bool, true, false}
 use Rattle.order_model.specs.Functions.{Point}
@@ -21,12 +21,12 @@ pub record Settles (operation : Operation) (a b id : ℕ) : Type 0 where
   pub value : (v : ℕ → Bool) → v 0 ≡ false → v 1 ≡ true → v id ≡ combine_values operation (v a) (v b)
   pub origin : (id < 2) ⊎ ((id ≡ a) ⊎ (id ≡ b))
 
--- an id as a node of a level: where the level's variable is 1 it has the upper one's function, else the lower one's
-pub record IsCut (s : Knowledge) (level id lower upper : ℕ) : Type 0 where
+-- an id as a node of a level: where the level's variable is 1 it has the high one's function, else the low one's
+pub record IsCut (s : Knowledge) (level id low high : ℕ) : Type 0 where
   pub known : Knows s id
-  pub lower_below : IsKnownBelow s level lower
-  pub upper_below : IsKnownBelow s level upper
-  pub function : (p : Point) → function_in s id p ≡ branch (variable_at s.store.plan level) (function_in s lower) (function_in s upper) p
+  pub low_below : IsKnownBelow s level low
+  pub high_below : IsKnownBelow s level high
+  pub function : (p : Point) → function_in s id p ≡ branch (variable_at s.store.plan level) (function_in s low) (function_in s high) p
 
 -- the id of an operation on two ids, which lies at a level or below it
 pub record IsCombined (s : Knowledge) (from : ℕ) (operation : Operation) (a b id : ℕ) : Type 0 where

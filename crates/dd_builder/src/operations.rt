@@ -112,12 +112,12 @@ fn children(store: &Store, session: &mut Session, id: NodeId, level: u8) -> (Nod
     ensures cut { IsCut session.new level id result.0 result.1 }
 {
     match store.node(session, id) {
-        Some(parts) if parts.level == level => (parts.lower, parts.upper),
+        Some(parts) if parts.level == level => (parts.low, parts.high),
         _ => (id, id),
     }
 }
 
-/// Two ids as nodes of the higher one of their levels: that level, and the lower and the upper child of each.
+/// Two ids as nodes of the higher one of their levels: that level, and the low and the high child of each.
 #[derive(Clone, Copy)]
 struct Cut {
     level: u8,
@@ -173,9 +173,9 @@ fn apply_from(
     }
     let cut = take_apart(store, session, first, second);
     let below = cut.level + 1;
-    let lower = apply_from(store, session, operation, cut.first.0, cut.second.0, below)?;
-    let upper = apply_from(store, session, operation, cut.first.1, cut.second.1, below)?;
-    let id = store.make(session, cut.level, lower, upper)?;
+    let low = apply_from(store, session, operation, cut.first.0, cut.second.0, below)?;
+    let high = apply_from(store, session, operation, cut.first.1, cut.second.1, below)?;
+    let id = store.make(session, cut.level, low, high)?;
     remember(store, session, operation, first, second, id);
     Ok(id)
 }

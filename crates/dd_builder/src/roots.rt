@@ -51,9 +51,9 @@ fn of_restrictions(
     if level == tops {
         return Ok(part_id(store, session, (usize::from(output) << tops) + path));
     }
-    let lower = of_restrictions(store, session, output, level + 1, path)?;
-    let upper = of_restrictions(store, session, output, level + 1, path + (1 << level))?;
-    store.make(session, level, lower, upper)
+    let low = of_restrictions(store, session, output, level + 1, path)?;
+    let high = of_restrictions(store, session, output, level + 1, path + (1 << level))?;
+    store.make(session, level, low, high)
 }
 
 /// The id of the union of some of an output's parts, from a share on, made of the unions of two halves.

@@ -48,8 +48,8 @@ fn output_below(
     if usize::from(level) == order.len() {
         return Ok(u32::from(tables.value(output, point_of(order, path))));
     }
-    let lower = output_below(store, session, tables, output, level + 1, path)?;
-    let upper = output_below(
+    let low = output_below(store, session, tables, output, level + 1, path)?;
+    let high = output_below(
         store,
         session,
         tables,
@@ -57,7 +57,7 @@ fn output_below(
         level + 1,
         path + (1 << level),
     )?;
-    store.make(session, level, lower, upper)
+    store.make(session, level, low, high)
 }
 
 /// How many variables on top of an order are fixed in pieces.

@@ -137,18 +137,18 @@ fn diagram(rt: HostRuntime) -> Result<(), Fail> {
     let nodes = vec![in alloc;
         Node {
             variable: 0,
-            lower: Ref::Terminal(false),
-            upper: Ref::Terminal(true)
+            low: Ref::Terminal(false),
+            high: Ref::Terminal(true)
         },
         Node {
             variable: 1,
-            lower: Ref::Terminal(false),
-            upper: Ref::Terminal(true)
+            low: Ref::Terminal(false),
+            high: Ref::Terminal(true)
         },
         Node {
             variable: 2,
-            lower: Ref::Place(0),
-            upper: Ref::Place(1)
+            low: Ref::Place(0),
+            high: Ref::Place(1)
         },
     ]?;
     let roots = vec![in alloc; Ref::Place(2)]?;

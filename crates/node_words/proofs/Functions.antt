@@ -8,12 +8,12 @@ use Rattle.std.proofs.lemmas.List.FromFn.{get_or-map-range_with_len, length-map-
 use Rattle.order_model.specs.Functions.{Point, Function, bit, SameFunction}
 use Rattle.order_model.specs.Orders.{IsOrder, place_in}
 use Rattle.order_model.proofs.Lists.Orders.{has_at, place_get}
-use Rattle.node_words.specs.Nodes.{IsBelow, AreNodes, AreUnequal, Grows, level_of, lower_of, upper_of, node_word, IsKnown, IsIdOf}
+use Rattle.node_words.specs.Nodes.{IsBelow, AreNodes, AreUnequal, Grows, level_of, low_of, high_of, node_word, IsKnown, IsIdOf}
 use Rattle.node_words.specs.Meaning.{value, IsSame, depth, along, function_of, Denotes, branch}
 use Rattle.node_words.specs.declared.operation.Operation.{Operation}
 use Rattle.node_words.specs.Entries.{combine, combine_values}
 use Rattle.node_words.proofs.Growing.{grows_full}
-use Rattle.node_words.proofs.Making.{word_level, word_lower, word_upper}
+use Rattle.node_words.proofs.Making.{word_level, word_low, word_high}
 use Rattle.node_words.proofs.Meaning.{value_terminal, value_grows, value_within, value_child, value_same, canonical, no_higher, deepest, depth_node, depth_terminal}
 
 -- the point at which each level's variable has a value
@@ -25,14 +25,14 @@ length-point_along order t = length-map-range_with_len (λ x. t (place_in order 
 
 pub along-point_along : (order : List ℕ) (t : ℕ → Bool) (level : ℕ) → IsOrder (length order) order → level < length order → along order (point_along order t) level ≡ t level
 along-point_along order t level is inside =
-    let x : ℕ = get_or order level 0 in let low : x < length order = (is.all x).0 (has_at order level inside) in
-    get_or-map-range_with_len (λ y. t (place_in order y)) 0 (length order) x x false low (zero-add x) ∙ ap t (place_get order level is.once inside)
+    let x : ℕ = get_or order level 0 in let small : x < length order = (is.all x).0 (has_at order level inside) in
+    get_or-map-range_with_len (λ y. t (place_in order y)) 0 (length order) x x false small (zero-add x) ∙ ap t (place_get order level is.once inside)
 
 module _ (order ws : List ℕ) (nodes : AreNodes (length order) ws) where
   -- each choice of children is that of a point
   pub value_at : (id : ℕ) (t : ℕ → Bool) → IsOrder (length order) order → IsKnown ws id → value (length order) ws id t ≡ function_of order ws id (point_along order t)
   unfolding function_of
-  value_at id t is known = value_within (length order) ws nodes (length order) id t (along order (point_along order t)) known (λ j low. sym (along-point_along order t j is low))
+  value_at id t is known = value_within (length order) ws nodes (length order) id t (along order (point_along order t)) known (λ j small. sym (along-point_along order t j is small))
 
   pub same_values : (a b : ℕ) → IsOrder (length order) order → IsKnown ws a → IsKnown ws b → SameFunction (length order) (function_of order ws a) (function_of order ws b) → IsSame (length order) ws a b
   unfolding SameFunction
@@ -55,28 +55,28 @@ module _ (order ws : List ℕ) (nodes : AreNodes (length order) ws) where
   unfolding SameFunction
   denotes_grows later g id f d = record { known = λ two. grows_full ws later (id - 2) g (d.known two); function = λ p l. function_grows later g id d.known p ∙ d.function p l }
 
-  -- a node denotes the upper child's function where its variable is 1, else the lower child's
+  -- a node denotes the high child's function where its variable is 1, else the low child's
   pub function_child : (id : ℕ) → 2 ≤ id → IsKnown ws id → (p : Point)
-      → function_of order ws id p ≡ branch (get_or order (level_of (get_or ws (id - 2) 0)) 0) (function_of order ws (lower_of (get_or ws (id - 2) 0))) (function_of order ws (upper_of (get_or ws (id - 2) 0))) p
+      → function_of order ws id p ≡ branch (get_or order (level_of (get_or ws (id - 2) 0)) 0) (function_of order ws (low_of (get_or ws (id - 2) 0))) (function_of order ws (high_of (get_or ws (id - 2) 0))) p
   unfolding function_of branch
   function_child id node known p = value_child (length order) ws nodes id (along order p) node known
 
   pub function_terminal : (id : ℕ) → id < 2 → (p : Point) → function_of order ws id p ≡ (id == 1)
   unfolding function_of
-  function_terminal id low p = value_terminal (length order) ws id (along order p) low
+  function_terminal id small p = value_terminal (length order) ws id (along order p) small
 
   -- what a made id denotes
-  pub function_made : (level lower upper id : ℕ) → level < 16 → lower < 2 ^ 20 → upper < 2 ^ 20 → node_word level lower upper ≢ 0 → IsIdOf ws level lower upper id → (p : Point)
-      → function_of order ws id p ≡ branch (get_or order level 0) (function_of order ws lower) (function_of order ws upper) p
+  pub function_made : (level low high id : ℕ) → level < 16 → low < 2 ^ 20 → high < 2 ^ 20 → node_word level low high ≢ 0 → IsIdOf ws level low high id → (p : Point)
+      → function_of order ws id p ≡ branch (get_or order level 0) (function_of order ws low) (function_of order ws high) p
   unfolding branch
-  function_made level lower upper id a b c full made p = dite (ℕ_discrete lower upper)
-      (λ same. let is : id ≡ lower = subst (λ (t : Bool). MatchBool t (id ≡ lower) ((2 ≤ id) × (get_or ws (id - 2) 0 ≡ node_word level lower upper))) (eq-eqb lower upper same) made in
-      ap (λ (k : ℕ). function_of order ws k p) is ∙ both_same (bit p (get_or order level 0)) (function_of order ws lower p) (function_of order ws upper p) (ap (λ (k : ℕ). function_of order ws k p) same))
-      (λ ne. let m : (2 ≤ id) × (get_or ws (id - 2) 0 ≡ node_word level lower upper) = subst (λ (t : Bool). MatchBool t (id ≡ lower) ((2 ≤ id) × (get_or ws (id - 2) 0 ≡ node_word level lower upper))) (ne_eqb lower upper ne) made in
+  function_made level low high id a b c full made p = dite (ℕ_discrete low high)
+      (λ same. let is : id ≡ low = subst (λ (t : Bool). MatchBool t (id ≡ low) ((2 ≤ id) × (get_or ws (id - 2) 0 ≡ node_word level low high))) (eq-eqb low high same) made in
+      ap (λ (k : ℕ). function_of order ws k p) is ∙ both_same (bit p (get_or order level 0)) (function_of order ws low p) (function_of order ws high p) (ap (λ (k : ℕ). function_of order ws k p) same))
+      (λ ne. let m : (2 ≤ id) × (get_or ws (id - 2) 0 ≡ node_word level low high) = subst (λ (t : Bool). MatchBool t (id ≡ low) ((2 ≤ id) × (get_or ws (id - 2) 0 ≡ node_word level low high))) (ne_eqb low high ne) made in
       let known : IsKnown ws id = (λ two e. full (sym m.1 ∙ e)) in
-      let l : level_of (get_or ws (id - 2) 0) ≡ level = ap level_of m.1 ∙ word_level level lower upper a b c in
-      let x : lower_of (get_or ws (id - 2) 0) ≡ lower = ap lower_of m.1 ∙ word_lower level lower upper a b c in
-      let y : upper_of (get_or ws (id - 2) 0) ≡ upper = ap upper_of m.1 ∙ word_upper level lower upper a b c in
+      let l : level_of (get_or ws (id - 2) 0) ≡ level = ap level_of m.1 ∙ word_level level low high a b c in
+      let x : low_of (get_or ws (id - 2) 0) ≡ low = ap low_of m.1 ∙ word_low level low high a b c in
+      let y : high_of (get_or ws (id - 2) 0) ≡ high = ap high_of m.1 ∙ word_high level low high a b c in
       function_child id m.0 known p ∙ (λ i. branch (get_or order (l i) 0) (function_of order ws (x i)) (function_of order ws (y i)) p))
     where
       both_same : (b : Bool) (x y : Bool) → x ≡ y → x ≡ cond b y x
@@ -100,7 +100,7 @@ module _ (order ws : List ℕ) (nodes : AreNodes (length order) ws) where
 pub depth_grows : (levels : ℕ) (xs ys : List ℕ) → Grows xs ys → (id : ℕ) → IsKnown xs id → depth levels ys id ≡ depth levels xs id
 depth_grows levels xs ys g id known = ⊎_elim
     (λ (node : 2 ≤ id). depth_node levels ys id node ∙ (ap level_of (g (id - 2) (known node)) ∙ sym (depth_node levels xs id node)))
-    (λ (low : id < 2). depth_terminal levels ys id low ∙ sym (depth_terminal levels xs id low))
+    (λ (small : id < 2). depth_terminal levels ys id small ∙ sym (depth_terminal levels xs id small))
     (two_or_less id)
   where
     two_or_less : (a : ℕ) → (2 ≤ a) ⊎ (a < 2)
@@ -111,7 +111,7 @@ pub below_depth : (levels : ℕ) (ws : List ℕ) (level id : ℕ) → IsKnown ws
 below_depth levels ws level id known less two = (known two, (let e = depth_node levels ws id two in omega arith))
 
 pub depth_below : (levels : ℕ) (ws : List ℕ) (level id : ℕ) → level < levels → IsBelow ws level id → level < depth levels ws id
-depth_below levels ws level id low below = ⊎_elim
+depth_below levels ws level id small below = ⊎_elim
     (λ (node : 2 ≤ id). let e = depth_node levels ws id node in let b = (below node).1 in omega arith)
     (λ (less : id < 2). let e = depth_terminal levels ws id less in omega arith)
     (two_or_less id)
@@ -120,12 +120,12 @@ depth_below levels ws level id low below = ⊎_elim
     two_or_less a = grind arith
 
 -- a made id lies no higher than its level
-pub depth_made : (levels : ℕ) (ws : List ℕ) (level lower upper id : ℕ) → level < 16 → lower < 2 ^ 20 → upper < 2 ^ 20 → level < depth levels ws lower → IsIdOf ws level lower upper id → level ≤ depth levels ws id
-depth_made levels ws level lower upper id a b c less made = dite (ℕ_discrete lower upper)
-    (λ same. let is : id ≡ lower = subst (λ (t : Bool). MatchBool t (id ≡ lower) ((2 ≤ id) × (get_or ws (id - 2) 0 ≡ node_word level lower upper))) (eq-eqb lower upper same) made in
+pub depth_made : (levels : ℕ) (ws : List ℕ) (level low high id : ℕ) → level < 16 → low < 2 ^ 20 → high < 2 ^ 20 → level < depth levels ws low → IsIdOf ws level low high id → level ≤ depth levels ws id
+depth_made levels ws level low high id a b c less made = dite (ℕ_discrete low high)
+    (λ same. let is : id ≡ low = subst (λ (t : Bool). MatchBool t (id ≡ low) ((2 ≤ id) × (get_or ws (id - 2) 0 ≡ node_word level low high))) (eq-eqb low high same) made in
     subst (λ (k : ℕ). level ≤ depth levels ws k) (sym is) (omega arith))
-    (λ ne. let m : (2 ≤ id) × (get_or ws (id - 2) 0 ≡ node_word level lower upper) = subst (λ (t : Bool). MatchBool t (id ≡ lower) ((2 ≤ id) × (get_or ws (id - 2) 0 ≡ node_word level lower upper))) (ne_eqb lower upper ne) made in
-    let e = depth_node levels ws id m.0 in let l : level_of (get_or ws (id - 2) 0) ≡ level = ap level_of m.1 ∙ word_level level lower upper a b c in omega arith)
+    (λ ne. let m : (2 ≤ id) × (get_or ws (id - 2) 0 ≡ node_word level low high) = subst (λ (t : Bool). MatchBool t (id ≡ low) ((2 ≤ id) × (get_or ws (id - 2) 0 ≡ node_word level low high))) (ne_eqb low high ne) made in
+    let e = depth_node levels ws id m.0 in let l : level_of (get_or ws (id - 2) 0) ≡ level = ap level_of m.1 ∙ word_level level low high a b c in omega arith)
 
 -- a known id fits 20 bits
 pub known_small : (ws : List ℕ) (places id : ℕ) → length ws ≤ places → IsKnown ws id → id < places + 2
@@ -137,18 +137,18 @@ known_small ws places id size known = ⊎_elim
     in_or_past : (a b : ℕ) → (a < b) ⊎ (b ≤ a)
     in_or_past a b = grind arith
 
-pub known_made : (ws : List ℕ) (level lower upper id : ℕ) → IsKnown ws lower → IsIdOf ws level lower upper id → IsKnown ws id
-known_made ws level lower upper id known made = dite (ℕ_discrete lower upper)
-    (λ same. let is : id ≡ lower = subst (λ (t : Bool). MatchBool t (id ≡ lower) ((2 ≤ id) × (get_or ws (id - 2) 0 ≡ node_word level lower upper))) (eq-eqb lower upper same) made in
+pub known_made : (ws : List ℕ) (level low high id : ℕ) → IsKnown ws low → IsIdOf ws level low high id → IsKnown ws id
+known_made ws level low high id known made = dite (ℕ_discrete low high)
+    (λ same. let is : id ≡ low = subst (λ (t : Bool). MatchBool t (id ≡ low) ((2 ≤ id) × (get_or ws (id - 2) 0 ≡ node_word level low high))) (eq-eqb low high same) made in
     subst (IsKnown ws) (sym is) known)
-    (λ ne. let m : (2 ≤ id) × (get_or ws (id - 2) 0 ≡ node_word level lower upper) = subst (λ (t : Bool). MatchBool t (id ≡ lower) ((2 ≤ id) × (get_or ws (id - 2) 0 ≡ node_word level lower upper))) (ne_eqb lower upper ne) made in
+    (λ ne. let m : (2 ≤ id) × (get_or ws (id - 2) 0 ≡ node_word level low high) = subst (λ (t : Bool). MatchBool t (id ≡ low) ((2 ≤ id) × (get_or ws (id - 2) 0 ≡ node_word level low high))) (ne_eqb low high ne) made in
     let word = m.1 in λ two empty. omega arith)
 
 -- a made id is known, and denotes the branch of the children's functions by the level's variable
-pub denotes_made : (order ws : List ℕ) → AreNodes (length order) ws → (level lower upper id : ℕ) → level < 16 → lower < 2 ^ 20 → upper < 2 ^ 20 → IsKnown ws lower → IsIdOf ws level lower upper id
-    → Denotes order ws id (branch (get_or order level 0) (function_of order ws lower) (function_of order ws upper))
+pub denotes_made : (order ws : List ℕ) → AreNodes (length order) ws → (level low high id : ℕ) → level < 16 → low < 2 ^ 20 → high < 2 ^ 20 → IsKnown ws low → IsIdOf ws level low high id
+    → Denotes order ws id (branch (get_or order level 0) (function_of order ws low) (function_of order ws high))
 unfolding SameFunction
-denotes_made order ws nodes level lower upper id a b c known made = record {
-  known = known_made ws level lower upper id known made;
-  function = λ p l. function_made order ws nodes level lower upper id a b c (λ e. omega arith) made p;
+denotes_made order ws nodes level low high id a b c known made = record {
+  known = known_made ws level low high id known made;
+  function = λ p l. function_made order ws nodes level low high id a b c (λ e. omega arith) made p;
 }

@@ -2,7 +2,7 @@
 use Rattle.std.proofs.Common.{◌≡◌, ◌≢◌, ℕ, ◌-◌, ◌<◌, ◌⊎◌, List, set, get_or, length-set, get_or-set_same, get_or-set_other, sym, refl, ap, ◌∙◌, subst, ⊎_elim, arith}
 use mathlib.Core.Logic.{dite}
 use native.Mathlib.Decide.{ℕ_discrete}
-use Rattle.node_words.specs.Nodes.{IsBelow, IsNode, IsReached, IsNext, Grows, AreStored, level_of, lower_of, upper_of, probe}
+use Rattle.node_words.specs.Nodes.{IsBelow, IsNode, IsReached, IsNext, Grows, AreStored, level_of, low_of, high_of, probe}
 
 pub grows_refl : (xs : List ℕ) → Grows xs xs
 grows_refl xs p full = refl
@@ -18,7 +18,7 @@ below_grows : (xs ys : List ℕ) (level id : ℕ) → Grows xs ys → IsBelow xs
 below_grows xs ys level id g b two = let t = b two in (grows_full xs ys (id - 2) g t.0, subst (λ (z : ℕ). level < level_of z) (sym (g (id - 2) t.0)) t.1)
 
 pub node_grows : (levels : ℕ) (xs ys : List ℕ) (w : ℕ) → Grows xs ys → IsNode levels xs w → IsNode levels ys w
-node_grows levels xs ys w g n = record { word = n.word; level = n.level; unequal = n.unequal; lower = below_grows xs ys (level_of w) (lower_of w) g n.lower; upper = below_grows xs ys (level_of w) (upper_of w) g n.upper }
+node_grows levels xs ys w g n = record { word = n.word; level = n.level; unequal = n.unequal; low = below_grows xs ys (level_of w) (low_of w) g n.low; high = below_grows xs ys (level_of w) (high_of w) g n.high }
 
 pub reached_grows : (places : ℕ) (xs ys : List ℕ) (w p : ℕ) → Grows xs ys → IsReached places xs w p → IsReached places ys w p
 reached_grows places xs ys w p g r = record { passed = r.passed; here = r.here; before = λ j lt. grows_full xs ys (probe places w j) g (r.before j lt) }

@@ -1,24 +1,24 @@
 -- What making a node rests on.
 use Rattle.std.proofs.Common.{◌≡◌, ◌≢◌, ℕ, ◌+◌, ◌-◌, ◌^◌, ◌<◌, ◌≤◌, ◌⊎◌, Bool, true, false, MatchBool, nat_lt, if◌then◌else◌, List, get_or, sym, ap, ◌∙◌, subst, ⊎_elim, arith, ne_eqb, lt-ltb, le-ltb}
-use Rattle.node_words.specs.Nodes.{IsBelow, IsNode, Grows, level_of, lower_of, upper_of, node_word, probe, home, IsFullFor, IsIdOf}
+use Rattle.node_words.specs.Nodes.{IsBelow, IsNode, Grows, level_of, low_of, high_of, node_word, probe, home, IsFullFor, IsIdOf}
 
-pub word_level : (level lower upper : ℕ) → level < 16 → lower < 2 ^ 20 → upper < 2 ^ 20 → level_of (node_word level lower upper) ≡ level
-word_level level lower upper a b c = omega arith
+pub word_level : (level low high : ℕ) → level < 16 → low < 2 ^ 20 → high < 2 ^ 20 → level_of (node_word level low high) ≡ level
+word_level level low high a b c = omega arith
 
-pub word_lower : (level lower upper : ℕ) → level < 16 → lower < 2 ^ 20 → upper < 2 ^ 20 → lower_of (node_word level lower upper) ≡ lower
-word_lower level lower upper a b c = omega arith
+pub word_low : (level low high : ℕ) → level < 16 → low < 2 ^ 20 → high < 2 ^ 20 → low_of (node_word level low high) ≡ low
+word_low level low high a b c = omega arith
 
-pub word_upper : (level lower upper : ℕ) → level < 16 → lower < 2 ^ 20 → upper < 2 ^ 20 → upper_of (node_word level lower upper) ≡ upper
-word_upper level lower upper a b c = omega arith
+pub word_high : (level low high : ℕ) → level < 16 → low < 2 ^ 20 → high < 2 ^ 20 → high_of (node_word level low high) ≡ high
+word_high level low high a b c = omega arith
 
-pub word_node : (levels level lower upper : ℕ) (ws : List ℕ) → levels ≤ 16 → level < levels → lower < 2 ^ 20 → upper < 2 ^ 20 → lower ≢ upper → IsBelow ws level lower → IsBelow ws level upper → IsNode levels ws (node_word level lower upper)
-word_node levels level lower upper ws most low a b ne below_lower below_upper =
-    let l = word_level level lower upper (omega arith) a b in let x = word_lower level lower upper (omega arith) a b in let y = word_upper level lower upper (omega arith) a b in record {
+pub word_node : (levels level low high : ℕ) (ws : List ℕ) → levels ≤ 16 → level < levels → low < 2 ^ 20 → high < 2 ^ 20 → low ≢ high → IsBelow ws level low → IsBelow ws level high → IsNode levels ws (node_word level low high)
+word_node levels level low high ws most small a b ne below_low below_high =
+    let l = word_level level low high (omega arith) a b in let x = word_low level low high (omega arith) a b in let y = word_high level low high (omega arith) a b in record {
       word = (λ i. node_word (sym l i) (sym x i) (sym y i));
       level = omega arith;
       unequal = λ e. ne (sym x ∙ (e ∙ y));
-      lower = subst (λ (z : ℕ × ℕ). IsBelow ws z.0 z.1) (λ i. (sym l i, sym x i)) below_lower;
-      upper = subst (λ (z : ℕ × ℕ). IsBelow ws z.0 z.1) (λ i. (sym l i, sym y i)) below_upper;
+      low = subst (λ (z : ℕ × ℕ). IsBelow ws z.0 z.1) (λ i. (sym l i, sym x i)) below_low;
+      high = subst (λ (z : ℕ × ℕ). IsBelow ws z.0 z.1) (λ i. (sym l i, sym y i)) below_high;
     }
 
 -- the place after those that were passed
@@ -46,7 +46,7 @@ probe_high places w k h = refuse (nat_lt (home places w + k) places) (home place
 
 -- a probe comes to each place
 pub onto : (places w p : ℕ) → home places w < places → p < places → (k : ℕ) × (k < places) × (probe places w k ≡ p)
-onto places w p inside low = ⊎_elim
+onto places w p inside small = ⊎_elim
     (λ (up : home places w ≤ p). let k : ℕ = p - home places w in (k, omega arith, (let e = probe_low places w k (omega arith) in omega arith)))
     (λ (down : p < home places w). let k : ℕ = places - home places w + p in (k, omega arith, (let e = probe_high places w k (omega arith) in omega arith)))
     (le_or_lt (home places w) p)
@@ -56,8 +56,8 @@ onto places w p inside low = ⊎_elim
 
 pub full_for : (seen : List ℕ) (places w passed : ℕ) → home places w < places → places ≤ passed
     → ((j : ℕ) → j < passed → (get_or seen (probe places w j) 0 ≢ 0) × (get_or seen (probe places w j) 0 ≢ w)) → IsFullFor seen places w
-full_for seen places w passed inside all before p low = let k = onto places w p inside low in subst (λ (z : ℕ). (get_or seen z 0 ≢ 0) × (get_or seen z 0 ≢ w)) k.2 (before k.0 (let e = k.1 in omega arith))
+full_for seen places w passed inside all before p small = let k = onto places w p inside small in subst (λ (z : ℕ). (get_or seen z 0 ≢ 0) × (get_or seen z 0 ≢ w)) k.2 (before k.0 (let e = k.1 in omega arith))
 
-pub makes : (seen : List ℕ) (level lower upper place : ℕ) → lower ≢ upper → get_or seen place 0 ≡ node_word level lower upper → IsIdOf seen level lower upper (place + 2)
-makes seen level lower upper place ne is = subst (λ (b : Bool). MatchBool b (place + 2 ≡ lower) ((2 ≤ place + 2) × (get_or seen (place + 2 - 2) 0 ≡ node_word level lower upper))) (sym (ne_eqb lower upper ne))
-    (let back : place + 2 - 2 ≡ place = omega arith in (omega arith, subst (λ (z : ℕ). get_or seen z 0 ≡ node_word level lower upper) (sym back) is))
+pub makes : (seen : List ℕ) (level low high place : ℕ) → low ≢ high → get_or seen place 0 ≡ node_word level low high → IsIdOf seen level low high (place + 2)
+makes seen level low high place ne is = subst (λ (b : Bool). MatchBool b (place + 2 ≡ low) ((2 ≤ place + 2) × (get_or seen (place + 2 - 2) 0 ≡ node_word level low high))) (sym (ne_eqb low high ne))
+    (let back : place + 2 - 2 ≡ place = omega arith in (omega arith, subst (λ (z : ℕ). get_or seen z 0 ≡ node_word level low high) (sym back) is))

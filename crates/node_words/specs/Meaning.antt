@@ -1,18 +1,18 @@
 -- What ids mean.
---     value levels ws id t      the value of an id, where t says of each level whether the upper child is taken there
+--     value levels ws id t      the value of an id, where t says of each level whether the high child is taken there
 --     depth levels ws id      the level of an id; a terminal lies below all levels
 --     function_of order ws id      the function that an id denotes under an order
 --     Denotes order ws id f      the id is known, and denotes f
 use Rattle.std.specs.Prelude.{◌≡◌, ℕ, zero, suc, ◌-◌, ◌==◌, Bool, nat_lt, if◌then◌else◌, cond, List, length, slice_index}
 use Rattle.order_model.specs.Functions.{Point, Function, bit, SameFunction}
-use Rattle.node_words.specs.Nodes.{IsKnown, level_of, lower_of, upper_of}
+use Rattle.node_words.specs.Nodes.{IsKnown, level_of, low_of, high_of}
 
--- the value of an id, where t says of each level whether the upper child is taken there; as many steps as there are levels are enough
+-- the value of an id, where t says of each level whether the high child is taken there; as many steps as there are levels are enough
 abbrev pub value : ℕ → List ℕ → ℕ → (ℕ → Bool) → Bool
 value zero ws id t = id == 1
 value (suc k) ws id t =
     if nat_lt id 2 then id == 1
-    else (if t (level_of (slice_index ws (id - 2))) then value k ws (upper_of (slice_index ws (id - 2))) t else value k ws (lower_of (slice_index ws (id - 2))) t)
+    else (if t (level_of (slice_index ws (id - 2))) then value k ws (high_of (slice_index ws (id - 2))) t else value k ws (low_of (slice_index ws (id - 2))) t)
 
 -- two ids have the same value, whatever children are taken
 abbrev pub IsSame : ℕ → List ℕ → ℕ → ℕ → Type 0
@@ -26,7 +26,7 @@ depth levels ws id = if nat_lt id 2 then levels else level_of (slice_index ws (i
 abbrev pub along : List ℕ → Point → ℕ → Bool
 along order p level = bit p (slice_index order level)
 
--- the function that an id denotes: the upper child's where the level's variable is 1, else the lower child's
+-- the function that an id denotes: the high child's where the level's variable is 1, else the low child's
 unfoldable pub function_of : List ℕ → List ℕ → ℕ → Function
 function_of order ws id p = value (length order) ws id (along order p)
 

@@ -1,5 +1,5 @@
 -- The words of nodes, and what is so of a list of them.
---     node_word, level_of, lower_of, upper_of      a node's word and its parts; id p + 2 is the node at place p, ids 0 and 1 are the terminals
+--     node_word, level_of, low_of, high_of      a node's word and its parts; id p + 2 is the node at place p, ids 0 and 1 are the terminals
 --     home, probe      the places that the search for a word comes to
 --     IsNode, AreNodes, AreUnequal, AreStored      lists of words that are nodes, no two of them equal
 --     Grows      what was filled stays
@@ -7,17 +7,17 @@ use Rattle.std.specs.Prelude.{◌≡◌, ◌≢◌, ℕ, ◌+◌, ◌-◌, ◌*�
 
 -- the word of a node: its level, and the ids of its two children
 abbrev pub node_word : ℕ → ℕ → ℕ → ℕ
-node_word level lower upper = 2 ^ 44 + level * 2 ^ 40 + lower * 2 ^ 20 + upper
+node_word level low high = 2 ^ 44 + level * 2 ^ 40 + low * 2 ^ 20 + high
 
 -- the parts of a node's word
 abbrev pub level_of : ℕ → ℕ
 level_of w = (w / 2 ^ 40) % 16
 
-abbrev pub lower_of : ℕ → ℕ
-lower_of w = (w / 2 ^ 20) % 2 ^ 20
+abbrev pub low_of : ℕ → ℕ
+low_of w = (w / 2 ^ 20) % 2 ^ 20
 
-abbrev pub upper_of : ℕ → ℕ
-upper_of w = w % 2 ^ 20
+abbrev pub high_of : ℕ → ℕ
+high_of w = w % 2 ^ 20
 
 -- the word with its bits mixed
 unfoldable pub mixed : ℕ → ℕ
@@ -43,11 +43,11 @@ IsBelow ws level id = 2 ≤ id → (slice_index ws (id - 2) ≢ 0) × (level < l
 
 -- a node: its level is one of the levels, and its children are unequal and lie below
 pub record IsNode (levels : ℕ) (ws : List ℕ) (w : ℕ) : Type 0 where
-  pub word : w ≡ node_word (level_of w) (lower_of w) (upper_of w)
+  pub word : w ≡ node_word (level_of w) (low_of w) (high_of w)
   pub level : level_of w < levels
-  pub unequal : lower_of w ≢ upper_of w
-  pub lower : IsBelow ws (level_of w) (lower_of w)
-  pub upper : IsBelow ws (level_of w) (upper_of w)
+  pub unequal : low_of w ≢ high_of w
+  pub low : IsBelow ws (level_of w) (low_of w)
+  pub high : IsBelow ws (level_of w) (high_of w)
 
 -- each filled word is a node
 abbrev pub AreNodes : ℕ → List ℕ → Type 0
@@ -90,4 +90,4 @@ pub record IsNext (ws : List ℕ) (places w p : ℕ) : Type 0 where
 
 -- the id is that of the node with this level and these children, or the child where they are equal
 abbrev pub IsIdOf : List ℕ → ℕ → ℕ → ℕ → ℕ → Type 0
-IsIdOf ws level lower upper id = MatchBool (lower == upper) (id ≡ lower) ((2 ≤ id) × (slice_index ws (id - 2) ≡ node_word level lower upper))
+IsIdOf ws level low high id = MatchBool (low == high) (id ≡ low) ((2 ≤ id) × (slice_index ws (id - 2) ≡ node_word level low high))

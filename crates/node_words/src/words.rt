@@ -1,7 +1,7 @@
 //! Packing and unpacking words.
 
 ghost use Rattle.std.specs.Prelude.{◌≡◌, ℕ, ◌+◌, ◌-◌, ◌*◌, ◌^◌, ◌<◌};
-ghost use Rattle.node_words.specs.Nodes.{node_word, home, probe, level_of, lower_of, upper_of};
+ghost use Rattle.node_words.specs.Nodes.{node_word, home, probe, level_of, low_of, high_of};
 ghost use Rattle.node_words.specs.Entries.{code_of};
 
 use crate::operation::Operation;
@@ -10,30 +10,30 @@ use crate::operation::Operation;
 #[derive(Clone, Copy, Debug, PartialEq, Eq)]
 pub struct NodeParts {
     pub level: u8,
-    pub lower: u32,
-    pub upper: u32,
+    pub low: u32,
+    pub high: u32,
 }
 
 /// The word of a node.
-pub fn node_word(level: u8, lower: u32, upper: u32) -> u64
+pub fn node_word(level: u8, low: u32, high: u32) -> u64
     requires level { level < 16 }
-    requires lower { lower < 2 ^ 20 }
-    requires upper { upper < 2 ^ 20 }
-    ensures { result ≡ node_word level lower upper }
+    requires low { low < 2 ^ 20 }
+    requires high { high < 2 ^ 20 }
+    ensures { result ≡ node_word level low high }
 {
-    (1 << 44) + (u64::from(level) << 40) + (u64::from(lower) << 20) + u64::from(upper)
+    (1 << 44) + (u64::from(level) << 40) + (u64::from(low) << 20) + u64::from(high)
 }
 
 /// The parts of a node's word.
 pub fn node_parts(word: u64) -> NodeParts
     ensures level { result.level ≡ level_of word }
-    ensures lower { result.lower ≡ lower_of word }
-    ensures upper { result.upper ≡ upper_of word }
+    ensures low { result.low ≡ low_of word }
+    ensures high { result.high ≡ high_of word }
 {
     NodeParts {
         level: ((word >> 40) % 16) as u8,
-        lower: ((word >> 20) % (1 << 20)) as u32,
-        upper: (word % (1 << 20)) as u32,
+        low: ((word >> 20) % (1 << 20)) as u32,
+        high: (word % (1 << 20)) as u32,
     }
 }
 

@@ -2,9 +2,9 @@
 --     OrderedGraph, IsOrderedGraph d      an order with nodes and roots, and what each diagram of the program holds
 --     root_value d j      the function of root j
 use Rattle.std.specs.Prelude.{ℕ, ◌<◌, ◌^◌, false, List, length, get_or}
-use Rattle.order_model.specs.declared.Ref.{Ref}
-use Rattle.order_model.specs.declared.Ref.TheVariants.{Terminal}
-use Rattle.order_model.specs.declared.Node.{Node}
+use Rattle.order_model.specs.declared.diagrams.Ref.{Ref}
+use Rattle.order_model.specs.declared.diagrams.Ref.TheVariants.{Terminal}
+use Rattle.order_model.specs.declared.diagrams.Node.{Node}
 use Rattle.order_model.specs.Functions.{Function}
 use Rattle.order_model.specs.OrderFaults.{Accepts}
 use Rattle.order_model.specs.Diagrams.{Graph, IsDiagram, value}

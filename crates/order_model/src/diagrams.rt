@@ -3,14 +3,28 @@
 ghost use Rattle.std.specs.Prelude.{◌≡◌, ◌<◌, ◌≤◌, ◌^◌, ℕ, length, slice_index};
 ghost use Rattle.order_model.specs.Functions.{point_of};
 ghost use Rattle.order_model.specs.Diagrams.{AreNodes, IsBefore, child_at, value, nodes_at, variable_count};
-ghost use Rattle.order_model.specs.declared.Node.{Node};
+ghost use Rattle.order_model.specs.declared.diagrams.Node.{Node};
 ghost use Rattle.std.specs.List.{All};
 ghost use Rattle.order_model.specs.OrderedGraphs.{IsOrderedGraph, IsDiagramUnder, root_value};
 
 use crate::orders::Order;
 use crate::variables::VarIx;
-use crate::{Node, Ref};
 use std::marker::Model;
+
+/// A terminal, or the place of a node in its diagram's list.
+#[derive(Clone, Copy, Debug, PartialEq, Eq)]
+pub enum Ref {
+    Terminal(bool),
+    Place(usize),
+}
+
+/// A decision node: the low child is taken where the variable is 0, the high child where it is 1.
+#[derive(Clone, Copy, Debug, PartialEq, Eq)]
+pub struct Node {
+    pub variable: u8,
+    pub low: Ref,
+    pub high: Ref,
+}
 
 /// The child of a node that the point with a number takes.
 fn child(variables: u8, node: Node, point: u32) -> Ref
@@ -19,9 +33,9 @@ fn child(variables: u8, node: Node, point: u32) -> Ref
     ensures { result ≡ child_at (point_of variables point) node }
 {
     if (point >> node.variable) & 1 == 1 {
-        node.upper
+        node.high
     } else {
-        node.lower
+        node.low
     }
 }
 
@@ -69,7 +83,7 @@ fn in_order(order: &[VarIx], counts: [u32; 16]) -> [u32; 16]
     levels
 }
 
-/// A diagram with one root a function, and the order of its variables. Its size is the number of its nodes, used or not.
+/// A diagram with one root per function, and the order of its variables. Its size is the number of its nodes, used or not.
 #[derive(Debug, Drop)]
 pub struct Diagram {
     order: Order,
@@ -119,7 +133,7 @@ impl Diagram {
         &self.nodes
     }
 
-    /// The roots, one a function.
+    /// The roots, one per function.
     pub fn roots(&self) -> &[Ref]
         ensures value { result.now ≡ self.now.graph.roots }
         ensures diagram { IsOrderedGraph self.now }

@@ -4,12 +4,12 @@ use mathlib.Core.Logic.{dite}
 use native.Mathlib.Decide.{ℕ_discrete}
 use Rattle.std.proofs.lemmas.List.{get_or_past, get_or_read, length-replicate}
 use Rattle.std.proofs.lemmas.Option.{slice_get_within}
-use Rattle.order_model.specs.declared.Ref.{Ref}
-use Rattle.order_model.specs.declared.Ref.TheVariants.{Terminal, Place}
-use Rattle.order_model.specs.declared.Node.{Node}
+use Rattle.order_model.specs.declared.diagrams.Ref.{Ref}
+use Rattle.order_model.specs.declared.diagrams.Ref.TheVariants.{Terminal, Place}
+use Rattle.order_model.specs.declared.diagrams.Node.{Node}
 use Rattle.order_model.specs.Diagrams.{IsBefore}
 use Rattle.order_model.proofs.Nodes.Appended.{get_left, get_right}
-use Rattle.node_words.specs.Nodes.{IsKnown, Grows, AreNodes, level_of, lower_of, upper_of}
+use Rattle.node_words.specs.Nodes.{IsKnown, Grows, AreNodes, level_of, low_of, high_of}
 use Rattle.node_words.specs.Meaning.{depth}
 use Rattle.node_words.proofs.Growing.{grows_refl, grows_trans, grows_full}
 use Rattle.node_words.proofs.Meaning.{depth_node}
@@ -35,14 +35,14 @@ ref_place numbers id h = refuse (nat_lt id 2) (Terminal (id == 1)) (Place (get_o
 pub ref_grows : (xs ys : List ℕ) (id : ℕ) → Grows xs ys → IsKnown xs id → ref_of ys id ≡ ref_of xs id
 ref_grows xs ys id g known = ⊎_elim
     (λ (node : 2 ≤ id). ref_place ys id node ∙ (ap (λ (z : ℕ). Place (z - 1)) (g (id - 2) (known node)) ∙ sym (ref_place xs id node)))
-    (λ (low : id < 2). ref_terminal ys id low ∙ sym (ref_terminal xs id low))
+    (λ (few : id < 2). ref_terminal ys id few ∙ sym (ref_terminal xs id few))
     (le_or_lt 2 id)
 
 -- a ref of an earlier copy is before
 pub ref_before : (numbers : List ℕ) (p id : ℕ) → IsEarlier numbers p id → IsBefore (get_or numbers p 0 - 1) (ref_of numbers id)
 ref_before numbers p id e = ⊎_elim
     (λ (node : 2 ≤ id). let f = e node in let some = f.0 in let less = f.1 in subst (IsBefore (get_or numbers p 0 - 1)) (sym (ref_place numbers id node)) (minus (get_or numbers (id - 2) 0) (get_or numbers p 0) some less))
-    (λ (low : id < 2). subst (IsBefore (get_or numbers p 0 - 1)) (sym (ref_terminal numbers id low)) tt)
+    (λ (few : id < 2). subst (IsBefore (get_or numbers p 0 - 1)) (sym (ref_terminal numbers id few)) tt)
     (le_or_lt 2 id)
   where
     minus : (a b : ℕ) → a ≢ 0 → a < b → a - 1 < b - 1
@@ -82,10 +82,10 @@ ref_one numbers unequal a b ka kb e = ⊎_elim
 
 pub blanks_set : (xs : List ℕ) (p v : ℕ) → p < length xs → get_or xs p 0 ≡ 0 → v ≢ 0 → blanks (set xs p v) + 1 ≡ blanks xs
 unfolding blanks
-blanks_set [] p v low e some = absurd (omega arith)
-blanks_set (x ∷ xs) zero zero low e some = absurd (some refl)
-blanks_set (x ∷ xs) zero (suc v) low e some = let f : blank x ≡ 1 = ap blank e in omega arith
-blanks_set (x ∷ xs) (suc p) v low e some = let f = blanks_set xs p v (omega arith) e some in omega arith
+blanks_set [] p v few e some = absurd (omega arith)
+blanks_set (x ∷ xs) zero zero few e some = absurd (some refl)
+blanks_set (x ∷ xs) zero (suc v) few e some = let f : blank x ≡ 1 = ap blank e in omega arith
+blanks_set (x ∷ xs) (suc p) v few e some = let f = blanks_set xs p v (omega arith) e some in omega arith
 
 -- ---- paths
 
@@ -98,13 +98,13 @@ leads_extend nodes nodes' a b x (here e) = here e
 leads_extend nodes nodes' a b x (below k node m at child) = below k node (leads_extend nodes nodes' a (Place k) x m) (x.same k (slice_get_within nodes k node at) ∙ at) child
 
 pub extends_refl : (nodes : List Node) → Extends nodes nodes
-extends_refl nodes = record { longer = omega arith; same = λ k low. refl }
+extends_refl nodes = record { longer = omega arith; same = λ k few. refl }
 
 pub extends_trans : (xs ys zs : List Node) → Extends xs ys → Extends ys zs → Extends xs zs
-extends_trans xs ys zs a b = let l = a.longer in let m = b.longer in record { longer = omega arith; same = λ k low. b.same k (omega arith) ∙ a.same k low }
+extends_trans xs ys zs a b = let l = a.longer in let m = b.longer in record { longer = omega arith; same = λ k few. b.same k (omega arith) ∙ a.same k few }
 
 pub extends_push : (nodes : List Node) (node : Node) → Extends nodes (nodes ++ node ∷ [])
-extends_push nodes node = record { longer = simp length-append (omega arith); same = λ k low. get_left nodes (node ∷ []) k low }
+extends_push nodes node = record { longer = simp length-append (omega arith); same = λ k few. get_left nodes (node ∷ []) k few }
 
 pub last_node : (nodes : List Node) (node : Node) → slice_get (nodes ++ node ∷ []) (length nodes) ≡ Some node
 last_node nodes node = ap (slice_get (nodes ++ node ∷ [])) (sym (add-zero (length nodes))) ∙ get_right nodes (node ∷ []) 0
@@ -112,7 +112,7 @@ last_node nodes node = ap (slice_get (nodes ++ node ∷ [])) (sym (add-zero (len
 -- ---- the next copy
 
 module _ (order ws numbers : List ℕ) (nodes : List Node) (c : AreCopied order ws numbers nodes) (p : ℕ) (blank_p : get_or numbers p 0 ≡ 0) (inside : p < length numbers) (full : get_or ws p 0 ≢ 0)
-    (known_lower : IsKnown numbers (lower_of (get_or ws p 0))) (known_upper : IsKnown numbers (upper_of (get_or ws p 0))) where
+    (known_low : IsKnown numbers (low_of (get_or ws p 0))) (known_high : IsKnown numbers (high_of (get_or ws p 0))) where
   abbrev m : ℕ
   m = length nodes + 1
 
@@ -137,8 +137,8 @@ module _ (order ws numbers : List ℕ) (nodes : List Node) (c : AreCopied order 
   long : length nodes' ≡ m
   long = length-append nodes (node ∷ [])
 
-  node_same : (w : ℕ) → IsKnown numbers (lower_of w) → IsKnown numbers (upper_of w) → node_of order numbers' w ≡ node_of order numbers w
-  node_same w kl ku i = record { variable = get_or order (level_of w) 0; lower = ref_grows numbers numbers' (lower_of w) numbers_grow kl i; upper = ref_grows numbers numbers' (upper_of w) numbers_grow ku i }
+  node_same : (w : ℕ) → IsKnown numbers (low_of w) → IsKnown numbers (high_of w) → node_of order numbers' w ≡ node_of order numbers w
+  node_same w kl ku i = record { variable = get_or order (level_of w) 0; low = ref_grows numbers numbers' (low_of w) numbers_grow kl i; high = ref_grows numbers numbers' (high_of w) numbers_grow ku i }
 
   -- an id with a number is earlier than the new copy
   earlier_p : (id : ℕ) → IsKnown numbers id → IsEarlier numbers' p id
@@ -150,25 +150,25 @@ module _ (order ws numbers : List ℕ) (nodes : List Node) (c : AreCopied order 
   copied_p : IsCopied order ws numbers' nodes' p
   copied_p = record {
     full = full;
-    lower = earlier_p (lower_of (get_or ws p 0)) known_lower;
-    upper = earlier_p (upper_of (get_or ws p 0)) known_upper;
-    node = let e : get_or numbers' p 0 - 1 ≡ length nodes = (let f = at_p in omega arith) in ap (slice_get nodes') e ∙ (last_node nodes node ∙ ap Some (sym (node_same (get_or ws p 0) known_lower known_upper)));
+    low = earlier_p (low_of (get_or ws p 0)) known_low;
+    high = earlier_p (high_of (get_or ws p 0)) known_high;
+    node = let e : get_or numbers' p 0 - 1 ≡ length nodes = (let f = at_p in omega arith) in ap (slice_get nodes') e ∙ (last_node nodes node ∙ ap Some (sym (node_same (get_or ws p 0) known_low known_high)));
   }
 
   copied_q : (q : ℕ) → get_or numbers q 0 ≢ 0 → IsCopied order ws numbers' nodes' q
   copied_q q some = let o = c.copied q some in let same = numbers_grow q some in record {
     full = o.full;
-    lower = earlier_q q (lower_of (get_or ws q 0)) some o.lower;
-    upper = earlier_q q (upper_of (get_or ws q 0)) some o.upper;
+    low = earlier_q q (low_of (get_or ws q 0)) some o.low;
+    high = earlier_q q (high_of (get_or ws q 0)) some o.high;
     node = ap (λ (z : ℕ). slice_get nodes' (z - 1)) same ∙ (get_left nodes (node ∷ []) (get_or numbers q 0 - 1) (slice_get_within nodes (get_or numbers q 0 - 1) (node_of order numbers (get_or ws q 0)) o.node)
-        ∙ (o.node ∙ ap Some (sym (node_same (get_or ws q 0) (λ two. (o.lower two).0) (λ two. (o.upper two).0)))));
+        ∙ (o.node ∙ ap Some (sym (node_same (get_or ws q 0) (λ two. (o.low two).0) (λ two. (o.high two).0)))));
   }
 
   pub copied_more : AreCopied order ws numbers' nodes'
   copied_more = record {
     size = length-set numbers p m ∙ c.size;
     copied = λ q some. dite (ℕ_discrete q p) (λ same. subst (IsCopied order ws numbers' nodes') (sym same) copied_p) (λ ne. copied_q q (λ e. some (at_other q ne ∙ e)));
-    placed = λ k low. ⊎_elim
+    placed = λ k few. ⊎_elim
         (λ (less : k < length nodes). let old = c.placed k less in (old.0, at_other old.0 (λ e. no_number k (sym old.1 ∙ (ap (λ (z : ℕ). get_or numbers z 0) e ∙ blank_p))) ∙ old.1))
         (λ (last : length nodes ≤ k). (p, at_p ∙ (let l = long in omega arith)))
         (less_or_last k (length nodes));
@@ -200,32 +200,32 @@ copies_known order ws numbers nodes id c known = record {
   grows = grows_refl numbers;
   extends = extends_refl nodes;
   untouched = λ q above. refl;
-  leads = λ k past low. absurd (omega arith);
+  leads = λ k past few. absurd (omega arith);
 }
 
 -- a node, after its children
 module _ (order ws n0 n1 n2 : List ℕ) (d0 d1 d2 : List Node) (p : ℕ) (r1 r2 : Ref) (are : AreNodes (length order) ws) (blank_p : get_or n0 p 0 ≡ 0) (inside : p < length ws) (full : get_or ws p 0 ≢ 0)
-    (c1 : Copies order ws n0 d0 n1 d1 (lower_of (get_or ws p 0)) r1) (c2 : Copies order ws n1 d1 n2 d2 (upper_of (get_or ws p 0)) r2) where
+    (c1 : Copies order ws n0 d0 n1 d1 (low_of (get_or ws p 0)) r1) (c2 : Copies order ws n1 d1 n2 d2 (high_of (get_or ws p 0)) r2) where
   abbrev w : ℕ
   w = get_or ws p 0
 
   abbrev made : Node
-  made = record { variable = get_or order (level_of w) 0; lower = r1; upper = r2 }
+  made = record { variable = get_or order (level_of w) 0; low = r1; high = r2 }
 
-  less_lower : level_of w < depth (length order) ws (lower_of w)
-  less_lower = let n = are p full in depth_below (length order) ws (level_of w) (lower_of w) n.level n.lower
+  less_low : level_of w < depth (length order) ws (low_of w)
+  less_low = let n = are p full in depth_below (length order) ws (level_of w) (low_of w) n.level n.low
 
-  less_upper : level_of w < depth (length order) ws (upper_of w)
-  less_upper = let n = are p full in depth_below (length order) ws (level_of w) (upper_of w) n.level n.upper
+  less_high : level_of w < depth (length order) ws (high_of w)
+  less_high = let n = are p full in depth_below (length order) ws (level_of w) (high_of w) n.level n.high
 
   still_blank : get_or n2 p 0 ≡ 0
-  still_blank = c2.untouched p less_upper ∙ (c1.untouched p less_lower ∙ blank_p)
+  still_blank = c2.untouched p less_high ∙ (c1.untouched p less_low ∙ blank_p)
 
-  known_lower : IsKnown n2 (lower_of w)
-  known_lower two = grows_full n1 n2 (lower_of w - 2) c2.grows (c1.known two)
+  known_low : IsKnown n2 (low_of w)
+  known_low two = grows_full n1 n2 (low_of w - 2) c2.grows (c1.known two)
 
   same_made : node_of order n2 w ≡ made
-  same_made i = record { variable = get_or order (level_of w) 0; lower = (ref_grows n1 n2 (lower_of w) c2.grows c1.known ∙ sym c1.ref) i; upper = sym c2.ref i }
+  same_made i = record { variable = get_or order (level_of w) 0; low = (ref_grows n1 n2 (low_of w) c2.grows c1.known ∙ sym c1.ref) i; high = sym c2.ref i }
 
   abbrev n3 : List ℕ
   n3 = set n2 p (length d2 + 1)
@@ -237,10 +237,10 @@ module _ (order ws n0 n1 n2 : List ℕ) (d0 d1 d2 : List Node) (p : ℕ) (r1 r2 
   size2 = let e = c2.copied.size in omega arith
 
   copied3 : AreCopied order ws n3 d3
-  copied3 = subst (λ (z : Node). AreCopied order ws n3 (d2 ++ z ∷ [])) same_made (copied_more order ws n2 d2 c2.copied p still_blank size2 full known_lower c2.known)
+  copied3 = subst (λ (z : Node). AreCopied order ws n3 (d2 ++ z ∷ [])) same_made (copied_more order ws n2 d2 c2.copied p still_blank size2 full known_low c2.known)
 
   grow3 : Grows n2 n3
-  grow3 = numbers_grow order ws n2 d2 c2.copied p still_blank size2 full known_lower c2.known
+  grow3 = numbers_grow order ws n2 d2 c2.copied p still_blank size2 full known_low c2.known
 
   number_p : get_or n3 p 0 ≡ length d2 + 1
   number_p = get_or-set_same n2 p (length d2 + 1) 0 size2
@@ -259,10 +259,10 @@ module _ (order ws n0 n1 n2 : List ℕ) (d0 d1 d2 : List Node) (p : ℕ) (r1 r2 
     grows = grows_trans n0 n1 n3 c1.grows (grows_trans n1 n2 n3 c2.grows grow3);
     extends = extends_trans d0 d1 d3 c1.extends (extends_trans d1 d2 d3 c2.extends (extends_push d2 made));
     untouched = λ q above.
-        let e = depth_node (length order) ws (p + 2) (omega arith) ∙ ap (λ (z : ℕ). level_of (get_or ws z 0)) back in let x = less_lower in let y = less_upper in
+        let e = depth_node (length order) ws (p + 2) (omega arith) ∙ ap (λ (z : ℕ). level_of (get_or ws z 0)) back in let x = less_low in let y = less_high in
         let ne : q ≢ p = (λ same. not_above (level_of w) (subst (λ (z : ℕ). level_of (get_or ws z 0) < level_of w) same (omega arith))) in
         get_or-set_other n2 p q (length d2 + 1) 0 ne ∙ (c2.untouched q (omega arith) ∙ c1.untouched q (omega arith));
-    leads = λ k past low. ⊎_elim
+    leads = λ k past few. ⊎_elim
         (λ (old : k < length d2). ⊎_elim
         (λ (second : length d1 ≤ k). leads_through d3 (Place (length d2)) r2 (Place k) (below (length d2) made (here refl) last (inr refl)) (leads_extend d2 d3 r2 (Place k) (extends_push d2 made) (c2.leads k second old)))
         (λ (first : k < length d1). leads_through d3 (Place (length d2)) r1 (Place k) (below (length d2) made (here refl) last (inl refl))
@@ -279,21 +279,21 @@ module _ (order ws n0 n1 n2 : List ℕ) (d0 d1 d2 : List Node) (p : ℕ) (r1 r2 
       less_or_last a b = grind arith
 
 inside_of : (ws : List ℕ) (p : ℕ) → get_or ws p 0 ≢ 0 → p < length ws
-inside_of ws p full = ⊎_elim (λ (past : length ws ≤ p). absurd (full (get_or_past ws p 0 past))) (λ (low : p < length ws). low) (le_or_lt (length ws) p)
+inside_of ws p full = ⊎_elim (λ (past : length ws ≤ p). absurd (full (get_or_past ws p 0 past))) (λ (few : p < length ws). few) (le_or_lt (length ws) p)
 
 -- the same, as the code makes it
-pub copies_step : (order ws n0 n1 n2 n3 : List ℕ) (d0 d1 d2 d3 : List Node) (id word level lower upper number : ℕ) (r1 r2 r : Ref) → AreNodes (length order) ws → 2 ≤ id → number ≡ get_or n0 (id - 2) number → number ≡ 0 → IsKnown ws id
-    → length n0 ≡ length ws → word ≡ get_or ws (id - 2) 0 → level ≡ level_of word → lower ≡ lower_of word → upper ≡ upper_of word → Copies order ws n0 d0 n1 d1 lower r1 → Copies order ws n1 d1 n2 d2 upper r2
-    → n3 ≡ set n2 (id - 2) (length d2 + 1) → d3 ≡ d2 ++ (record { variable = get_or order level 0; lower = r1; upper = r2 }) ∷ [] → r ≡ Place (length d2) → Copies order ws n0 d0 n3 d3 id r
-copies_step order ws n0 n1 n2 n3 d0 d1 d2 d3 id word level lower upper number r1 r2 r are two number_is blank known size word_is level_is lower_is upper_is c1 c2 n3_is d3_is r_is =
+pub copies_step : (order ws n0 n1 n2 n3 : List ℕ) (d0 d1 d2 d3 : List Node) (id word level low high number : ℕ) (r1 r2 r : Ref) → AreNodes (length order) ws → 2 ≤ id → number ≡ get_or n0 (id - 2) number → number ≡ 0 → IsKnown ws id
+    → length n0 ≡ length ws → word ≡ get_or ws (id - 2) 0 → level ≡ level_of word → low ≡ low_of word → high ≡ high_of word → Copies order ws n0 d0 n1 d1 low r1 → Copies order ws n1 d1 n2 d2 high r2
+    → n3 ≡ set n2 (id - 2) (length d2 + 1) → d3 ≡ d2 ++ (record { variable = get_or order level 0; low = r1; high = r2 }) ∷ [] → r ≡ Place (length d2) → Copies order ws n0 d0 n3 d3 id r
+copies_step order ws n0 n1 n2 n3 d0 d1 d2 d3 id word level low high number r1 r2 r are two number_is blank known size word_is level_is low_is high_is c1 c2 n3_is d3_is r_is =
     let p : ℕ = id - 2 in let w : ℕ = get_or ws p 0 in let inside : p < length ws = inside_of ws p (known two) in
     let blank_p : get_or n0 p 0 ≡ 0 = sym (get_or_read n0 p number (omega arith) number_is 0) ∙ blank in
-    let c1' : Copies order ws n0 d0 n1 d1 (lower_of w) r1 = subst (λ (z : ℕ). Copies order ws n0 d0 n1 d1 z r1) (lower_is ∙ ap lower_of word_is) c1 in
-    let c2' : Copies order ws n1 d1 n2 d2 (upper_of w) r2 = subst (λ (z : ℕ). Copies order ws n1 d1 n2 d2 z r2) (upper_is ∙ ap upper_of word_is) c2 in
+    let c1' : Copies order ws n0 d0 n1 d1 (low_of w) r1 = subst (λ (z : ℕ). Copies order ws n0 d0 n1 d1 z r1) (low_is ∙ ap low_of word_is) c1 in
+    let c2' : Copies order ws n1 d1 n2 d2 (high_of w) r2 = subst (λ (z : ℕ). Copies order ws n1 d1 n2 d2 z r2) (high_is ∙ ap high_of word_is) c2 in
     let whole = copies_node order ws n0 n1 n2 d0 d1 d2 p r1 r2 are blank_p inside (known two) c1' c2' in
     let back : p + 2 ≡ id = omega arith in
     let level_is' : level_of w ≡ level = ap level_of (sym word_is) ∙ sym level_is in
-    let d3_is' : d2 ++ (record { variable = get_or order (level_of w) 0; lower = r1; upper = r2 }) ∷ [] ≡ d3 = (λ i. d2 ++ (record { variable = get_or order (level_is' i) 0; lower = r1; upper = r2 }) ∷ []) ∙ sym d3_is in
+    let d3_is' : d2 ++ (record { variable = get_or order (level_of w) 0; low = r1; high = r2 }) ∷ [] ≡ d3 = (λ i. d2 ++ (record { variable = get_or order (level_is' i) 0; low = r1; high = r2 }) ∷ []) ∙ sym d3_is in
     subst (λ (z : List ℕ × List Node × ℕ × Ref). Copies order ws n0 d0 z.0 z.1 z.2 z.3) (λ i. (sym n3_is i, d3_is' i, back i, sym r_is i)) whole
 
 no_number : (n p z : ℕ) → get_or (replicate n z) p z ≡ z
@@ -311,7 +311,7 @@ pub copied_none : (order ws : List ℕ) (places : ℕ) → length ws ≡ places 
 copied_none order ws places size = record {
   size = length-replicate places 0 ∙ sym size;
   copied = λ p some. absurd (some (no_number places p 0));
-  placed = λ k low. absurd (omega arith);
+  placed = λ k few. absurd (omega arith);
   small = λ p. let e = no_number places p 0 in omega arith;
   unequal = λ p q some same. absurd (some (no_number places p 0));
   count = let e = all_blank places in let f = length-replicate {A = ℕ} places 0 in omega arith;

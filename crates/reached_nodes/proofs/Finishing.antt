@@ -3,18 +3,18 @@ use Rattle.std.proofs.Common.{◌≡◌, ◌≢◌, ℕ, zero, suc, ◌+◌, ◌
 use Rattle.std.specs.List.{All, AllZip}
 use Rattle.std.proofs.lemmas.Option.{slice_get_within, get_or_from_slice_get}
 use Rattle.std.proofs.lemmas.List.Elements.{Contains-append_left, Contains-push, All-from_get_or}
-use Rattle.order_model.specs.declared.Ref.{Ref}
-use Rattle.order_model.specs.declared.Ref.TheVariants.{Terminal, Place}
-use Rattle.order_model.specs.declared.Node.{Node}
+use Rattle.order_model.specs.declared.diagrams.Ref.{Ref}
+use Rattle.order_model.specs.declared.diagrams.Ref.TheVariants.{Terminal, Place}
+use Rattle.order_model.specs.declared.diagrams.Node.{Node}
 use Rattle.order_model.specs.Functions.{Point, bit, SameFunction}
 use Rattle.order_model.specs.Orders.{IsOrder, place_in}
 use Rattle.order_model.specs.Diagrams.{Graph, IsBefore, IsNodeAt, AreNodes as ArePlaced, IsOrdered, IsOf, Reached, from_root, from_parent, value}
 use Rattle.order_model.proofs.Lists.Orders.{has_at, place_get}
 use Rattle.order_model.proofs.Nodes.Paths.{value_place, value_terminal}
 use Rattle.order_model.proofs.Nodes.Appended.{graph_of, diagram_of, get_left}
-use Rattle.node_words.specs.Nodes.{IsKnown, Grows, AreNodes, AreUnequal, IsBelow, node_word, level_of, lower_of, upper_of}
+use Rattle.node_words.specs.Nodes.{IsKnown, Grows, AreNodes, AreUnequal, IsBelow, node_word, level_of, low_of, high_of}
 use Rattle.node_words.specs.Meaning.{depth, function_of, branch}
-use Rattle.node_words.proofs.Meaning.{below_lower, below_upper, shallow}
+use Rattle.node_words.proofs.Meaning.{below_low, below_high, shallow}
 use Rattle.node_words.proofs.Functions.{function_child, function_terminal}
 use Rattle.reached_nodes.specs.Copies.{ref_of, node_of, IsEarlier, IsCopied, AreCopied, Leads, here, below, Extends, AreRefs, AreReached, IsReducedOf}
 use Rattle.reached_nodes.proofs.Copying.{le_or_lt, ref_terminal, ref_place, ref_grows, ref_before, ref_one}
@@ -30,8 +30,8 @@ reached_more nodes nodes' roots root b x (from_root c) = from_root (Contains-app
 reached_more nodes nodes' roots root b x (from_parent k node r at child) = from_parent k node (reached_more nodes nodes' roots root (Place k) x r) (x.same k (slice_get_within nodes k node at) ∙ at) child
 
 pub more_reached : (nodes nodes' : List Node) (roots : List Ref) (root : Ref) → Extends nodes nodes' → ((k : ℕ) → length nodes ≤ k → k < length nodes' → Leads nodes' root (Place k)) → AreReached nodes roots → AreReached nodes' (roots ++ root ∷ [])
-more_reached nodes nodes' roots root x leads reached k low = ⊎_elim
-    (λ (new : length nodes ≤ k). reached_leads record { nodes = nodes'; roots = roots ++ root ∷ [] } root (Place k) (from_root (Contains-push roots root)) (leads k new low))
+more_reached nodes nodes' roots root x leads reached k short = ⊎_elim
+    (λ (new : length nodes ≤ k). reached_leads record { nodes = nodes'; roots = roots ++ root ∷ [] } root (Place k) (from_root (Contains-push roots root)) (leads k new short))
     (λ (old : k < length nodes). reached_more nodes nodes' roots root (Place k) x (reached k old))
     (le_or_lt (length nodes) k)
 
@@ -45,7 +45,7 @@ pub more_refs : (numbers numbers' : List ℕ) (refs : List Ref) (ids : List ℕ)
     → AreRefs numbers' (refs ++ r ∷ []) ids (i + 1)
 more_refs numbers numbers' refs ids i r g a known is = record {
   count = let l = length-append refs (r ∷ []) in let c = a.count in omega arith;
-  each = λ j low. ⊎_elim
+  each = λ j short. ⊎_elim
       (λ (last : i ≤ j). let e : length refs ≡ j = (let c = a.count in omega arith) in let f : i ≡ j = omega arith in
       (ap (slice_get (refs ++ r ∷ [])) (sym e) ∙ (get_last refs r ∙ ap Some (is ∙ ap (λ (z : ℕ). ref_of numbers' (get_or ids z 0)) f)), subst (λ (z : ℕ). IsKnown numbers' (get_or ids z 0)) f known))
       (λ (old : j < i). let o = a.each j old in let c = a.count in
@@ -92,8 +92,8 @@ module _ (order ws numbers : List ℕ) (nodes : List Node) (is : IsOrder (length
       let m : get_or numbers f.place 0 - 1 ≡ k = (let e = f.number in omega arith) in
       subst (λ (z : ℕ × Node). IsNodeAt (length order) z.0 z.1) (λ i. (m i, f.is_copy i)) record {
         variable = (is.all (get_or order (level_of w) 0)).0 (has_at order (level_of w) (small_level f.place o.full));
-        lower = ref_before numbers f.place (lower_of w) o.lower;
-        upper = ref_before numbers f.place (upper_of w) o.upper;
+        low = ref_before numbers f.place (low_of w) o.low;
+        high = ref_before numbers f.place (high_of w) o.high;
       }
 
   abbrev graph : List Ref → Graph
@@ -107,7 +107,7 @@ module _ (order ws numbers : List ℕ) (nodes : List Node) (is : IsOrder (length
   child_place id q j known e number = ⊎_elim
       (λ (node : 2 ≤ id). let f : get_or numbers (id - 2) 0 - 1 ≡ j = one_place (get_or numbers (id - 2) 0 - 1) j (sym (ref_place numbers id node) ∙ e) in
       let some = known node in (node, c.unequal q (id - 2) (λ z. omega arith) (number_is (get_or numbers q 0) (get_or numbers (id - 2) 0) j number f some)))
-      (λ (low : id < 2). absurd (apart j (id == 1) (sym e ∙ ref_terminal numbers id low)))
+      (λ (short : id < 2). absurd (apart j (id == 1) (sym e ∙ ref_terminal numbers id short)))
       (le_or_lt 2 id)
     where
       one_place : (x y : ℕ) → Place x ≡ Place y → x ≡ y
@@ -119,8 +119,8 @@ module _ (order ws numbers : List ℕ) (nodes : List Node) (is : IsOrder (length
       number_is : (a b j : ℕ) → a ≡ j + 1 → b - 1 ≡ j → b ≢ 0 → a ≡ b
       number_is a b j x y z = omega arith
 
-  lower_level : (p id : ℕ) (level : ℕ) → IsBelow ws level id → 2 ≤ id → level < level_of (get_or ws (id - 2) 0)
-  lower_level p id level b two = (b two).1
+  low_level : (p id : ℕ) (level : ℕ) → IsBelow ws level id → 2 ≤ id → level < level_of (get_or ws (id - 2) 0)
+  low_level p id level b two = (b two).1
 
   below_child : (roots : List Ref) (j k : ℕ) (child parent : Node) (f : From j child) (g : From k parent) (id : ℕ) → IsKnown numbers id → IsBelow ws (level_of (get_or ws g.place 0)) id → ref_of numbers id ≡ Place j
       → level_of (get_or ws g.place 0) < level_of (get_or ws f.place 0)
@@ -131,8 +131,8 @@ module _ (order ws numbers : List ℕ) (nodes : List Node) (is : IsOrder (length
   ordered roots j k child parent at_j at_k is_child = let f = from j child at_j in let g = from k parent at_k in let o = g.copied in let w : ℕ = get_or ws g.place 0 in let n = are g.place o.full in
       let a = place_of_node j child f in let b = place_of_node k parent g in
       let less : level_of w < level_of (get_or ws f.place 0) = ⊎_elim
-      (λ (lower : parent.lower ≡ Place j). below_child roots j k child parent f g (lower_of w) (known_at (lower_of w) g.place o.lower) n.lower (ap (λ (z : Node). z.lower) g.is_copy ∙ lower))
-      (λ (upper : parent.upper ≡ Place j). below_child roots j k child parent f g (upper_of w) (known_at (upper_of w) g.place o.upper) n.upper (ap (λ (z : Node). z.upper) g.is_copy ∙ upper))
+      (λ (low : parent.low ≡ Place j). below_child roots j k child parent f g (low_of w) (known_at (low_of w) g.place o.low) n.low (ap (λ (z : Node). z.low) g.is_copy ∙ low))
+      (λ (high : parent.high ≡ Place j). below_child roots j k child parent f g (high_of w) (known_at (high_of w) g.place o.high) n.high (ap (λ (z : Node). z.high) g.is_copy ∙ high))
       is_child in omega arith
 
   -- ---- functions
@@ -145,28 +145,28 @@ module _ (order ws numbers : List ℕ) (nodes : List Node) (is : IsOrder (length
   either_child false u l x y p eu el = el
 
   branched : (id : ℕ) → 2 ≤ id → IsKnown ws id → (p : Point)
-      → function_of order ws id p ≡ cond (bit p (get_or order (level_of (get_or ws (id - 2) 0)) 0)) (function_of order ws (upper_of (get_or ws (id - 2) 0)) p) (function_of order ws (lower_of (get_or ws (id - 2) 0)) p)
+      → function_of order ws id p ≡ cond (bit p (get_or order (level_of (get_or ws (id - 2) 0)) 0)) (function_of order ws (high_of (get_or ws (id - 2) 0)) p) (function_of order ws (low_of (get_or ws (id - 2) 0)) p)
   unfolding branch
   branched id two kw p = function_child order ws are id two kw p
 
   value_terminal_is : (id : ℕ) (p : Point) → id < 2 → value nodes (ref_of numbers id) p ≡ function_of order ws id p
-  value_terminal_is id p low = ap (λ (r : Ref). value nodes r p) (ref_terminal numbers id low) ∙ (value_terminal nodes p (id == 1) ∙ sym (function_terminal order ws are id low p))
+  value_terminal_is id p short = ap (λ (r : Ref). value nodes r p) (ref_terminal numbers id short) ∙ (value_terminal nodes p (id == 1) ∙ sym (function_terminal order ws are id short p))
 
   pub value_is : (f id : ℕ) (p : Point) → IsKnown numbers id → length order ≤ depth (length order) ws id + f → value nodes (ref_of numbers id) p ≡ function_of order ws id p
   value_is zero id p known h = ⊎_elim
       (λ (node : 2 ≤ id). let s = shallow (length order) ws are id node (known_word id known) in absurd (omega arith))
-      (λ (low : id < 2). value_terminal_is id p low)
+      (λ (short : id < 2). value_terminal_is id p short)
       (le_or_lt 2 id)
   value_is (suc f) id p known h = ⊎_elim
       (λ (two : 2 ≤ id). let q : ℕ = id - 2 in let w : ℕ = get_or ws q 0 in let o = c.copied q (known two) in let kw = known_word id known in
-      let up = below_upper (length order) ws are id two kw in let down = below_lower (length order) ws are id two kw in
-      let eu : value nodes (ref_of numbers (upper_of w)) p ≡ function_of order ws (upper_of w) p = value_is f (upper_of w) p (known_at (upper_of w) q o.upper) (omega arith) in
-      let el : value nodes (ref_of numbers (lower_of w)) p ≡ function_of order ws (lower_of w) p = value_is f (lower_of w) p (known_at (lower_of w) q o.lower) (omega arith) in
+      let up = below_high (length order) ws are id two kw in let down = below_low (length order) ws are id two kw in
+      let eu : value nodes (ref_of numbers (high_of w)) p ≡ function_of order ws (high_of w) p = value_is f (high_of w) p (known_at (high_of w) q o.high) (omega arith) in
+      let el : value nodes (ref_of numbers (low_of w)) p ≡ function_of order ws (low_of w) p = value_is f (low_of w) p (known_at (low_of w) q o.low) (omega arith) in
       ap (λ (r : Ref). value nodes r p) (ref_place numbers id two)
       ∙ (value_place (length order) (graph_of nodes) (diagram_of (length order) nodes placed_nodes) p (get_or numbers q 0 - 1) (node_of order numbers w) o.node
-      ∙ (either_child (bit p (get_or order (level_of w) 0)) (ref_of numbers (upper_of w)) (ref_of numbers (lower_of w)) (function_of order ws (upper_of w) p) (function_of order ws (lower_of w) p) p eu el
+      ∙ (either_child (bit p (get_or order (level_of w) 0)) (ref_of numbers (high_of w)) (ref_of numbers (low_of w)) (function_of order ws (high_of w) p) (function_of order ws (low_of w) p) p eu el
       ∙ sym (branched id two kw p))))
-      (λ (low : id < 2). value_terminal_is id p low)
+      (λ (short : id < 2). value_terminal_is id p short)
       (le_or_lt 2 id)
 
   zip_of : (refs : List Ref) (ids : List ℕ) → length refs ≡ length ids → ((j : ℕ) → j < length ids → (slice_get refs j ≡ Some (ref_of numbers (get_or ids j 0))) × IsKnown numbers (get_or ids j 0))
@@ -177,13 +177,13 @@ module _ (order ws numbers : List ℕ) (nodes : List Node) (is : IsOrder (length
   zip_of (x ∷ xs) [] l each = absurd (omega arith)
   zip_of (x ∷ xs) (y ∷ ys) l each =
       let e = each 0 (omega arith) in let r : x ≡ ref_of numbers y = one_ref x (ref_of numbers y) e.0 in
-      ((λ p s. ap (λ (z : Ref). value nodes z p) r ∙ value_is (length order) y p e.1 (omega arith)), zip_of xs ys (omega arith) (λ j low. each (suc j) (omega arith)))
+      ((λ p s. ap (λ (z : Ref). value nodes z p) r ∙ value_is (length order) y p e.1 (omega arith)), zip_of xs ys (omega arith) (λ j short. each (suc j) (omega arith)))
     where
       one_ref : (x y : Ref) → Some x ≡ Some y → x ≡ y
       one_ref x y e = cc
 
   roots_before : (refs : List Ref) (ids : List ℕ) (i : ℕ) → AreRefs numbers refs ids i → All (IsBefore (length nodes)) refs
-  roots_before refs ids i a = All-from_get_or (IsBefore (length nodes)) refs (Terminal false) (λ j low. let c' = a.count in let o = a.each j (omega arith) in
+  roots_before refs ids i a = All-from_get_or (IsBefore (length nodes)) refs (Terminal false) (λ j short. let c' = a.count in let o = a.each j (omega arith) in
       subst (IsBefore (length nodes)) (sym (get_or_from_slice_get refs j (ref_of numbers (get_or ids j 0)) (Terminal false) o.0)) (before_end (get_or ids j 0) o.1))
     where
       minus : (a b : ℕ) → a ≢ 0 → a ≤ b → a - 1 < b
@@ -192,23 +192,23 @@ module _ (order ws numbers : List ℕ) (nodes : List Node) (is : IsOrder (length
       before_end : (id : ℕ) → IsKnown numbers id → IsBefore (length nodes) (ref_of numbers id)
       before_end id known = ⊎_elim
           (λ (two : 2 ≤ id). let some = known two in let s = c.small (id - 2) in subst (IsBefore (length nodes)) (sym (ref_place numbers id two)) (minus (get_or numbers (id - 2) 0) (length nodes) some s))
-          (λ (low : id < 2). subst (IsBefore (length nodes)) (sym (ref_terminal numbers id low)) tt)
+          (λ (short : id < 2). subst (IsBefore (length nodes)) (sym (ref_terminal numbers id short)) tt)
           (le_or_lt 2 id)
 
   -- ---- reduced
 
-  not_redundant : (k : ℕ) (node : Node) → slice_get nodes k ≡ Some node → node.lower ≢ node.upper
+  not_redundant : (k : ℕ) (node : Node) → slice_get nodes k ≡ Some node → node.low ≢ node.high
   not_redundant k node at e = let f = from k node at in let o = f.copied in let w : ℕ = get_or ws f.place 0 in
-      (are f.place o.full).unequal (ref_one numbers c.unequal (lower_of w) (upper_of w) (known_at (lower_of w) f.place o.lower) (known_at (upper_of w) f.place o.upper)
-      (ap (λ (z : Node). z.lower) f.is_copy ∙ (e ∙ ap (λ (z : Node). z.upper) (sym f.is_copy))))
+      (are f.place o.full).unequal (ref_one numbers c.unequal (low_of w) (high_of w) (known_at (low_of w) f.place o.low) (known_at (high_of w) f.place o.high)
+      (ap (λ (z : Node). z.low) f.is_copy ∙ (e ∙ ap (λ (z : Node). z.high) (sym f.is_copy))))
 
   no_two_equal : (j k : ℕ) (node : Node) → slice_get nodes j ≡ Some node → slice_get nodes k ≡ Some node → j ≡ k
   no_two_equal j k node at_j at_k = let f = from j node at_j in let g = from k node at_k in let o = f.copied in let q = g.copied in let v : ℕ = get_or ws f.place 0 in let w : ℕ = get_or ws g.place 0 in
       let same : node_of order numbers v ≡ node_of order numbers w = f.is_copy ∙ sym g.is_copy in
       let level : level_of v ≡ level_of w = sym (place_of_node j node f) ∙ place_of_node k node g in
-      let lower : lower_of v ≡ lower_of w = ref_one numbers c.unequal (lower_of v) (lower_of w) (known_at (lower_of v) f.place o.lower) (known_at (lower_of w) g.place q.lower) (ap (λ (z : Node). z.lower) same) in
-      let upper : upper_of v ≡ upper_of w = ref_one numbers c.unequal (upper_of v) (upper_of w) (known_at (upper_of v) f.place o.upper) (known_at (upper_of w) g.place q.upper) (ap (λ (z : Node). z.upper) same) in
-      let word : v ≡ w = (are f.place o.full).word ∙ ((λ i. node_word (level i) (lower i) (upper i)) ∙ sym (are g.place q.full).word) in
+      let low : low_of v ≡ low_of w = ref_one numbers c.unequal (low_of v) (low_of w) (known_at (low_of v) f.place o.low) (known_at (low_of w) g.place q.low) (ap (λ (z : Node). z.low) same) in
+      let high : high_of v ≡ high_of w = ref_one numbers c.unequal (high_of v) (high_of w) (known_at (high_of v) f.place o.high) (known_at (high_of w) g.place q.high) (ap (λ (z : Node). z.high) same) in
+      let word : v ≡ w = (are f.place o.full).word ∙ ((λ i. node_word (level i) (low i) (high i)) ∙ sym (are g.place q.full).word) in
       let place : f.place ≡ g.place = unequal f.place g.place o.full word in
       let number : get_or numbers f.place 0 ≡ get_or numbers g.place 0 = ap (λ (z : ℕ). get_or numbers z 0) place in
       let a = f.number in let b = g.number in omega arith

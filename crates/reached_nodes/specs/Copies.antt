@@ -7,12 +7,12 @@ use Rattle.std.specs.Prelude.{◌≡◌, ◌≢◌, ℕ, zero, suc, ◌+◌, ◌
 use Rattle.std.specs.Slots.{slots_items}
 use Rattle.std.proofs.Common.{Global}
 use Rattle.atomic_table.specs.declared.owned.Closed.{Closed}
-use Rattle.order_model.specs.declared.Ref.{Ref}
-use Rattle.order_model.specs.declared.Ref.TheVariants.{Terminal, Place}
-use Rattle.order_model.specs.declared.Node.{Node}
+use Rattle.order_model.specs.declared.diagrams.Ref.{Ref}
+use Rattle.order_model.specs.declared.diagrams.Ref.TheVariants.{Terminal, Place}
+use Rattle.order_model.specs.declared.diagrams.Node.{Node}
 use Rattle.order_model.specs.Functions.{Function}
 use Rattle.order_model.specs.Diagrams.{IsChild, Reached, Represents, IsReduced}
-use Rattle.node_words.specs.Nodes.{IsKnown, Grows, level_of, lower_of, upper_of}
+use Rattle.node_words.specs.Nodes.{IsKnown, Grows, level_of, low_of, high_of}
 use Rattle.node_words.specs.Meaning.{depth}
 
 -- the words of the first places of a closed table
@@ -25,7 +25,7 @@ ref_of numbers id = if nat_lt id 2 then Terminal (id == 1) else Place (slice_ind
 
 -- the copy of a node's word
 abbrev pub node_of : List ℕ → List ℕ → ℕ → Node
-node_of order numbers w = record { variable = slice_index order (level_of w); lower = ref_of numbers (lower_of w); upper = ref_of numbers (upper_of w) }
+node_of order numbers w = record { variable = slice_index order (level_of w); low = ref_of numbers (low_of w); high = ref_of numbers (high_of w) }
 
 -- the id is a terminal, or has a copy before that of place p
 abbrev pub IsEarlier : List ℕ → ℕ → ℕ → Type 0
@@ -34,8 +34,8 @@ IsEarlier numbers p id = 2 ≤ id → (slice_index numbers (id - 2) ≢ 0) × (s
 -- the copy of place p
 pub record IsCopied (order ws numbers : List ℕ) (nodes : List Node) (p : ℕ) : Type 0 where
   pub full : slice_index ws p ≢ 0
-  pub lower : IsEarlier numbers p (lower_of (slice_index ws p))
-  pub upper : IsEarlier numbers p (upper_of (slice_index ws p))
+  pub low : IsEarlier numbers p (low_of (slice_index ws p))
+  pub high : IsEarlier numbers p (high_of (slice_index ws p))
   pub node : slice_get nodes (slice_index numbers p - 1) ≡ Some (node_of order numbers (slice_index ws p))
 
 -- how many places have no copy

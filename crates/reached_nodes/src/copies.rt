@@ -67,12 +67,12 @@ pub(crate) fn copy(
         return Ok(Ref::Place(number as usize - 1));
     }
     let parts = node_parts(word_at(closed, places, place));
-    let lower = copy(closed, places, order, numbers, nodes, parts.lower)?;
-    let upper = copy(closed, places, order, numbers, nodes, parts.upper)?;
+    let low = copy(closed, places, order, numbers, nodes, parts.low)?;
+    let high = copy(closed, places, order, numbers, nodes, parts.high)?;
     let node = Node {
         variable: order[usize::from(parts.level)],
-        lower,
-        upper,
+        low,
+        high,
     };
     let made = add(numbers, nodes, place, node)?;
     Ok(made)

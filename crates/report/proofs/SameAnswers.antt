@@ -2,7 +2,7 @@
 --     first_same, sifted_same      the first order of the fewest nodes; the sifted order
 use Rattle.std.proofs.Common.{◌≡◌, ℕ, List, [], ◌∷◌, ◌∙◌, map, length, nat_lt, cond, refl, sym, ap}
 use Rattle.std.specs.List.{AllZip, filter, fold}
-use Rattle.order_model.specs.declared.Ref.{Ref}
+use Rattle.order_model.specs.declared.diagrams.Ref.{Ref}
 use Rattle.order_model.specs.Functions.{Function, SameFunction}
 use Rattle.order_model.specs.Orders.{variables, place_in}
 use Rattle.order_model.specs.Pairs.{Pair, keeps}

@@ -4,9 +4,9 @@
 use Rattle.std.proofs.Common.{◌≡◌, ℕ, zero, suc, ◌+◌, ◌*◌, ◌^◌, ◌<◌, ◌≤◌, Bool, true, false, inl, inr, List, [], ◌∷◌, ◌++◌, map, length, get_or, take, refl, sym, ap, ap₂, ◌∙◌, subst, arith, add-one, pow-suc}
 use Rattle.std.proofs.lemmas.List.{length-map, length_push, take_more, take_all, length-take-le}
 use Rattle.std.proofs.lemmas.Option.{slice_get_cases}
-use Rattle.order_model.specs.declared.Ref.{Ref}
-use Rattle.order_model.specs.declared.Ref.TheVariants.{Terminal, Place}
-use Rattle.order_model.specs.declared.Node.{Node}
+use Rattle.order_model.specs.declared.diagrams.Ref.{Ref}
+use Rattle.order_model.specs.declared.diagrams.Ref.TheVariants.{Terminal, Place}
+use Rattle.order_model.specs.declared.diagrams.Node.{Node}
 use Rattle.order_model.specs.Functions.{Point, bit, table, SameFunction}
 use Rattle.order_model.specs.Orders.{has, IsOrder, place_in}
 use Rattle.order_model.specs.Diagrams.{Graph, IsDiagram, IsBefore, IsOrdered, IsReduced, value}

@@ -6,9 +6,9 @@ use Rattle.std.proofs.Common.{◌≡◌, ◌≢◌, ℕ, zero, suc, ◌+◌, ◌
 use Rattle.std.proofs.lemmas.Bool.{cases_eq}
 use Rattle.std.proofs.lemmas.List.{map-append, take_more}
 use Rattle.std.proofs.lemmas.Option.{slice_get_cases, same_Some}
-use Rattle.order_model.specs.declared.Ref.{Ref}
-use Rattle.order_model.specs.declared.Ref.TheVariants.{Terminal, Place}
-use Rattle.order_model.specs.declared.Node.{Node}
+use Rattle.order_model.specs.declared.diagrams.Ref.{Ref}
+use Rattle.order_model.specs.declared.diagrams.Ref.TheVariants.{Terminal, Place}
+use Rattle.order_model.specs.declared.diagrams.Node.{Node}
 use Rattle.order_model.specs.Functions.{Point, bit}
 use Rattle.order_model.specs.Orders.{place_in}
 use Rattle.order_model.specs.Diagrams.{Graph, AreNodes, IsDiagram, IsBefore, IsOrdered, IsReduced, value}
@@ -55,9 +55,9 @@ module _ (n : ℕ) (order : List ℕ) (d : Graph) (ok : IsDiagram n d) (ordered 
       by (Some node) e =
           elim (cases_eq node.variable x) [
             | inl s ↦
-                value_place n d ok p k node e ∙ ap (λ v. value d.nodes (cond (bit p v) node.upper node.lower) p) s
-                ∙ ap (λ c. value d.nodes (half (bit p x) (cond c (node.lower, node.upper) (Place k, Place k))) p) (sym (eq-eqb node.variable x s))
-            | inr ne ↦ same (bit p x) ∙ ap (λ c. value d.nodes (half (bit p x) (cond c (node.lower, node.upper) (Place k, Place k))) p) (sym (ne_eqb node.variable x ne))
+                value_place n d ok p k node e ∙ ap (λ v. value d.nodes (cond (bit p v) node.high node.low) p) s
+                ∙ ap (λ c. value d.nodes (half (bit p x) (cond c (node.low, node.high) (Place k, Place k))) p) (sym (eq-eqb node.variable x s))
+            | inr ne ↦ same (bit p x) ∙ ap (λ c. value d.nodes (half (bit p x) (cond c (node.low, node.high) (Place k, Place k))) p) (sym (ne_eqb node.variable x ne))
           ]
 
   -- both halves stand below the variable's level
@@ -73,8 +73,8 @@ module _ (n : ℕ) (order : List ℕ) (d : Graph) (ok : IsDiagram n d) (ordered 
         | inl found ↦
             subst (λ o. Stands order d (suc i) (half b (split_node x (Place k) o))) (sym found.2)
             (elim (cases_eq found.0.variable x) [
-              | inl e ↦ subst (λ c. Stands order d (suc i) (half b (cond c (found.0.lower, found.0.upper) (Place k, Place k)))) (sym (eq-eqb found.0.variable x e)) (child_half found.0 found.2 e b)
-              | inr ne ↦ subst (λ c. Stands order d (suc i) (half b (cond c (found.0.lower, found.0.upper) (Place k, Place k)))) (sym (ne_eqb found.0.variable x ne)) (own found.0 found.2 ne b)
+              | inl e ↦ subst (λ c. Stands order d (suc i) (half b (cond c (found.0.low, found.0.high) (Place k, Place k)))) (sym (eq-eqb found.0.variable x e)) (child_half found.0 found.2 e b)
+              | inr ne ↦ subst (λ c. Stands order d (suc i) (half b (cond c (found.0.low, found.0.high) (Place k, Place k)))) (sym (ne_eqb found.0.variable x ne)) (own found.0 found.2 ne b)
             ])
         | inr past ↦ absurd (omega (arith, past.0, s.0))
       ]
@@ -82,11 +82,11 @@ module _ (n : ℕ) (order : List ℕ) (d : Graph) (ok : IsDiagram n d) (ordered 
       level : Node → ℕ
       level v = place_in order v.variable
 
-      child_half : (node : Node) → slice_get d.nodes k ≡ Some node → node.variable ≡ x → (c : Bool) → Stands order d (suc i) (cond c node.upper node.lower)
+      child_half : (node : Node) → slice_get d.nodes k ≡ Some node → node.variable ≡ x → (c : Bool) → Stands order d (suc i) (cond c node.high node.low)
       child_half node is e c =
           let t = ap (place_in order) e in (
-            before_more k (length d.nodes) (cond c node.upper node.lower) (omega (arith, s.0)) (child_before n d ok k node c is),
-            stands_less order d.nodes (suc i) (suc (place_in order node.variable)) (cond c node.upper node.lower) (omega arith) (child_stands n order d ok ordered k node c is),
+            before_more k (length d.nodes) (cond c node.high node.low) (omega (arith, s.0)) (child_before n d ok k node c is),
+            stands_less order d.nodes (suc i) (suc (place_in order node.variable)) (cond c node.high node.low) (omega arith) (child_stands n order d ok ordered k node c is),
           )
 
       stays : (node : Node) → slice_get d.nodes k ≡ Some node → (node.variable ≡ x → ⊥) → Stands order d (suc i) (Place k)
@@ -106,7 +106,7 @@ module _ (n : ℕ) (order : List ℕ) (d : Graph) (ok : IsDiagram n d) (ordered 
   module _ (reduced : IsReduced d) (i x : ℕ) where
     -- the halves of a node of the variable, or the ref twice
     abbrev pub Halves : Ref → Type 0
-    Halves r = ((k : ℕ) × (node : Node) × (r ≡ Place k) × (slice_get d.nodes k ≡ Some node) × (node.variable ≡ x) × (split_ref d.nodes x r ≡ (node.lower, node.upper))) ⊎ (split_ref d.nodes x r ≡ (r, r))
+    Halves r = ((k : ℕ) × (node : Node) × (r ≡ Place k) × (slice_get d.nodes k ≡ Some node) × (node.variable ≡ x) × (split_ref d.nodes x r ≡ (node.low, node.high))) ⊎ (split_ref d.nodes x r ≡ (r, r))
 
     halves_are : (r : Ref) → IsBefore (length d.nodes) r → Halves r
     unfolding split_ref
@@ -115,35 +115,35 @@ module _ (n : ℕ) (order : List ℕ) (d : Graph) (ok : IsDiagram n d) (ordered 
         elim (slice_get_cases d.nodes k).1 [
           | inl found ↦
               elim (cases_eq found.0.variable x) [
-                | inl e ↦ inl (k, found.0, refl, found.2, e, ap (split_node x (Place k)) found.2 ∙ ap (λ c. cond c (found.0.lower, found.0.upper) (Place k, Place k)) (eq-eqb found.0.variable x e))
-                | inr ne ↦ inr (ap (split_node x (Place k)) found.2 ∙ ap (λ c. cond c (found.0.lower, found.0.upper) (Place k, Place k)) (ne_eqb found.0.variable x ne))
+                | inl e ↦ inl (k, found.0, refl, found.2, e, ap (split_node x (Place k)) found.2 ∙ ap (λ c. cond c (found.0.low, found.0.high) (Place k, Place k)) (eq-eqb found.0.variable x e))
+                | inr ne ↦ inr (ap (split_node x (Place k)) found.2 ∙ ap (λ c. cond c (found.0.low, found.0.high) (Place k, Place k)) (ne_eqb found.0.variable x ne))
               ]
           | inr past ↦ absurd (omega (arith, past.0, h))
         ]
 
-    lower_of : Ref × Ref → Ref
-    lower_of h = h.0
+    low_of : Ref × Ref → Ref
+    low_of h = h.0
 
-    upper_of : Ref × Ref → Ref
-    upper_of h = h.1
+    high_of : Ref × Ref → Ref
+    high_of h = h.1
 
     pub split_tells : (r s : Ref) → IsBefore (length d.nodes) r → IsBefore (length d.nodes) s → (split_ref d.nodes x r).0 ≡ (split_ref d.nodes x s).0 → (split_ref d.nodes x r).1 ≡ (split_ref d.nodes x s).1 → r ≡ s
-    unfolding lower_of upper_of
+    unfolding low_of high_of
     split_tells r s a b e f =
         elim (halves_are r a) [
           | inl u ↦
               elim (halves_are s b) [
                 | inl v ↦
-                    let low : u.1.lower ≡ v.1.lower = sym (ap lower_of u.5) ∙ e ∙ ap lower_of v.5 in
-                    let high : u.1.upper ≡ v.1.upper = sym (ap upper_of u.5) ∙ f ∙ ap upper_of v.5 in
-                    let same : u.1 ≡ v.1 = λ j. record { variable = (u.4 ∙ sym v.4) j; lower = low j; upper = high j } in
+                    let small : u.1.low ≡ v.1.low = sym (ap low_of u.5) ∙ e ∙ ap low_of v.5 in
+                    let deep : u.1.high ≡ v.1.high = sym (ap high_of u.5) ∙ f ∙ ap high_of v.5 in
+                    let same : u.1 ≡ v.1 = λ j. record { variable = (u.4 ∙ sym v.4) j; low = small j; high = deep j } in
                     u.2 ∙ ap Place (reduced.no_two_equal u.0 v.0 v.1 (u.3 ∙ ap Some same) v.3) ∙ sym v.2
-                | inr v ↦ absurd (reduced.not_redundant u.0 u.1 u.3 (sym (ap lower_of u.5) ∙ e ∙ ap lower_of v ∙ sym (ap upper_of v) ∙ sym f ∙ ap upper_of u.5))
+                | inr v ↦ absurd (reduced.not_redundant u.0 u.1 u.3 (sym (ap low_of u.5) ∙ e ∙ ap low_of v ∙ sym (ap high_of v) ∙ sym f ∙ ap high_of u.5))
               ]
           | inr u ↦
               elim (halves_are s b) [
-                | inl v ↦ absurd (reduced.not_redundant v.0 v.1 v.3 (sym (ap lower_of v.5) ∙ sym e ∙ ap lower_of u ∙ sym (ap upper_of u) ∙ f ∙ ap upper_of v.5))
-                | inr v ↦ sym (ap lower_of u) ∙ e ∙ ap lower_of v
+                | inl v ↦ absurd (reduced.not_redundant v.0 v.1 v.3 (sym (ap low_of v.5) ∙ sym e ∙ ap low_of u ∙ sym (ap high_of u) ∙ f ∙ ap high_of v.5))
+                | inr v ↦ sym (ap low_of u) ∙ e ∙ ap low_of v
               ]
         ]
 
@@ -161,17 +161,17 @@ split_terminal nodes x r b e = let P : Ref → Type 0 = λ s. (s, s) ≡ split_r
 place_inside : (nodes : List Node) (r : Ref) (k : ℕ) → r ≡ Place k → IsBefore (length nodes) r → k < length nodes
 place_inside nodes r k e h = subst (IsBefore (length nodes)) e h
 
-pub split_then : (nodes : List Node) (x : ℕ) (r : Ref) (k : ℕ) (v : Node) → r ≡ Place k → IsBefore (length nodes) r → (get_or nodes k v).variable ≡ x → ((get_or nodes k v).lower, (get_or nodes k v).upper) ≡ split_ref nodes x r
+pub split_then : (nodes : List Node) (x : ℕ) (r : Ref) (k : ℕ) (v : Node) → r ≡ Place k → IsBefore (length nodes) r → (get_or nodes k v).variable ≡ x → ((get_or nodes k v).low, (get_or nodes k v).high) ≡ split_ref nodes x r
 unfolding split_ref
 split_then nodes x r k v e h s =
     let w = get_or nodes k v in
-    sym (ap (split_ref nodes x) e ∙ ap (split_node x (Place k)) (node_at nodes k v (place_inside nodes r k e h)) ∙ ap (λ c. cond c (w.lower, w.upper) (Place k, Place k)) (eq-eqb w.variable x s))
+    sym (ap (split_ref nodes x) e ∙ ap (split_node x (Place k)) (node_at nodes k v (place_inside nodes r k e h)) ∙ ap (λ c. cond c (w.low, w.high) (Place k, Place k)) (eq-eqb w.variable x s))
 
 pub split_else : (nodes : List Node) (x : ℕ) (r : Ref) (k : ℕ) (v : Node) → r ≡ Place k → IsBefore (length nodes) r → (get_or nodes k v).variable ≢ x → (Place k, Place k) ≡ split_ref nodes x r
 unfolding split_ref
 split_else nodes x r k v e h ne =
     let w = get_or nodes k v in
-    sym (ap (split_ref nodes x) e ∙ ap (split_node x (Place k)) (node_at nodes k v (place_inside nodes r k e h)) ∙ ap (λ c. cond c (w.lower, w.upper) (Place k, Place k)) (ne_eqb w.variable x ne))
+    sym (ap (split_ref nodes x) e ∙ ap (split_node x (Place k)) (node_at nodes k v (place_inside nodes r k e h)) ∙ ap (λ c. cond c (w.low, w.high) (Place k, Place k)) (ne_eqb w.variable x ne))
 
 pub ref_small : (c : ℕ) → c < 2 → Terminal (nat_eq c 1) ≡ ref_of c
 unfolding ref_of
@@ -196,15 +196,15 @@ split_before n nodes ok x (Place k) h b =
           let v = found.0 in
           subst (λ o. IsBefore (length nodes) (half b (split_node x (Place k) o))) (sym found.2)
           (elim (cases_eq v.variable x) [
-            | inl e ↦ subst (λ c. IsBefore (length nodes) (half b (cond c (v.lower, v.upper) (Place k, Place k)))) (sym (eq-eqb v.variable x e)) (child v found.2 b)
-            | inr ne ↦ subst (λ c. IsBefore (length nodes) (half b (cond c (v.lower, v.upper) (Place k, Place k)))) (sym (ne_eqb v.variable x ne)) (own b)
+            | inl e ↦ subst (λ c. IsBefore (length nodes) (half b (cond c (v.low, v.high) (Place k, Place k)))) (sym (eq-eqb v.variable x e)) (child v found.2 b)
+            | inr ne ↦ subst (λ c. IsBefore (length nodes) (half b (cond c (v.low, v.high) (Place k, Place k)))) (sym (ne_eqb v.variable x ne)) (own b)
           ])
       | inr past ↦ absurd (omega (arith, past.0, h))
     ]
   where
-    child : (v : Node) → slice_get nodes k ≡ Some v → (c : Bool) → IsBefore (length nodes) (cond c v.upper v.lower)
-    child v e true = before_more k (length nodes) v.upper (omega (arith, h)) (ok k v e).upper
-    child v e false = before_more k (length nodes) v.lower (omega (arith, h)) (ok k v e).lower
+    child : (v : Node) → slice_get nodes k ≡ Some v → (c : Bool) → IsBefore (length nodes) (cond c v.high v.low)
+    child v e true = before_more k (length nodes) v.high (omega (arith, h)) (ok k v e).high
+    child v e false = before_more k (length nodes) v.low (omega (arith, h)) (ok k v e).low
 
     own : (c : Bool) → IsBefore (length nodes) (cond c (Place k) (Place k))
     own true = h

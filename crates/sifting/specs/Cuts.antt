@@ -6,9 +6,9 @@
 use Rattle.std.specs.Prelude.{◌≡◌, ℕ, zero, suc, ◌+◌, ◌<◌, ◌≤◌, Bool, true, false, cond, List, length, map, get_or, slice_get, nat_eq}
 use Rattle.std.specs.declared.option.Option.{Option}
 use Rattle.std.specs.declared.option.Option.TheVariants.{Some, None}
-use Rattle.order_model.specs.declared.Ref.{Ref}
-use Rattle.order_model.specs.declared.Ref.TheVariants.{Terminal, Place}
-use Rattle.order_model.specs.declared.Node.{Node}
+use Rattle.order_model.specs.declared.diagrams.Ref.{Ref}
+use Rattle.order_model.specs.declared.diagrams.Ref.TheVariants.{Terminal, Place}
+use Rattle.order_model.specs.declared.diagrams.Node.{Node}
 use Rattle.order_model.specs.Functions.{SameFunction}
 use Rattle.order_model.specs.Diagrams.{value}
 use Rattle.sifting.specs.Leveled.{Children, function_at, NumbersFirst}
@@ -28,7 +28,7 @@ ref_of (suc (suc k)) = Place k
 -- the two refs below a variable, from a ref and the node that stands there
 abbrev pub split_node : ℕ → Ref → Option Node → Ref × Ref
 split_node x r None = (r, r)
-split_node x r (Some node) = cond (nat_eq node.variable x) (node.lower, node.upper) (r, r)
+split_node x r (Some node) = cond (nat_eq node.variable x) (node.low, node.high) (r, r)
 
 -- the two refs below a variable: the children of a node that tests it, else the ref itself
 unfoldable pub split_ref : List Node → ℕ → Ref → Ref × Ref

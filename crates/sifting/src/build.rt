@@ -57,7 +57,7 @@ fn halves(nodes: &[Node], variable: VarIx, r: Ref) -> (Ref, Ref)
         Ref::Place(place) => {
             let node = nodes[place];
             if node.variable == variable {
-                (node.lower, node.upper)
+                (node.low, node.high)
             } else {
                 (r, r)
             }
@@ -82,9 +82,9 @@ fn split(
     let mut codes = IndexSet::with_capacity(alloc, cut.len())?;
     let mut level = Vec::with_capacity(alloc, cut.len())?;
     for r in cut {
-        let (lower, upper) = halves(nodes, variable, *r);
-        let (off, _) = codes.insert_full(code(lower))?;
-        let (on, _) = codes.insert_full(code(upper))?;
+        let (low, high) = halves(nodes, variable, *r);
+        let (off, _) = codes.insert_full(code(low))?;
+        let (on, _) = codes.insert_full(code(high))?;
         level.push((off as u32, on as u32))?;
     }
     let next = references(alloc, codes.as_slice())?;

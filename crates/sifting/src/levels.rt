@@ -27,8 +27,8 @@ fn count_of(nodes: &[Children]) -> u32
     ensures { result ≡ branching nodes.now }
 {
     let mut count = 0;
-    for (lower, upper) in nodes {
-        if *lower != *upper {
+    for (low, high) in nodes {
+        if *low != *high {
             count += 1;
         }
     }

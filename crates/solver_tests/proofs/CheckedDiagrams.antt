@@ -2,9 +2,9 @@
 use Rattle.std.proofs.Common.{◌≡◌, ℕ, zero, suc, false, ◌+◌, ◌<◌, ◌≤◌, List, length, get_or, slice_get, Some, inl, inr, sym, subst, arith}
 use Rattle.std.proofs.lemmas.Bool.{cases_order}
 use Rattle.std.proofs.lemmas.Option.{slice_get_within, slice_get-get_or}
-use Rattle.order_model.specs.declared.Ref.{Ref}
-use Rattle.order_model.specs.declared.Ref.TheVariants.{Terminal, Place}
-use Rattle.order_model.specs.declared.Node.{Node}
+use Rattle.order_model.specs.declared.diagrams.Ref.{Ref}
+use Rattle.order_model.specs.declared.diagrams.Ref.TheVariants.{Terminal, Place}
+use Rattle.order_model.specs.declared.diagrams.Node.{Node}
 use Rattle.order_model.specs.Diagrams.{IsDiagram, IsOrdered, IsReduced, Reached}
 use Rattle.order_model.specs.Diagrams.Reached.{from_root, from_parent}
 use Rattle.order_model.specs.OrderedGraphs.{OrderedGraph}
@@ -16,7 +16,7 @@ module _ (order : List ℕ) (nodes : List Node) (roots : List Ref) (checked : Ar
 
   pub checked_diagram : IsDiagram (length order) (record { nodes = nodes; roots = roots })
   checked_diagram = record {
-    nodes = λ k node e. record { variable = (at_place k node e).variable; lower = (at_place k node e).lower.before; upper = (at_place k node e).upper.before };
+    nodes = λ k node e. record { variable = (at_place k node e).variable; low = (at_place k node e).low.before; high = (at_place k node e).high.before };
     roots = checked.roots_are;
   }
 
@@ -24,12 +24,12 @@ module _ (order : List ℕ) (nodes : List Node) (roots : List Ref) (checked : Ar
   unfolding IsOrdered
   checked_ordered j k child parent there e c =
       elim c [
-        | inl h ↦ (at_place k parent e).lower.after j child h there
-        | inr h ↦ (at_place k parent e).upper.after j child h there
+        | inl h ↦ (at_place k parent e).low.after j child h there
+        | inr h ↦ (at_place k parent e).high.after j child h there
       ]
 
   no_node : Node
-  no_node = record { variable = 0; lower = Terminal false; upper = Terminal false }
+  no_node = record { variable = 0; low = Terminal false; high = Terminal false }
 
   reached_from : (left k : ℕ) → length nodes ≤ k + left → k < length nodes → Reached (record { nodes = nodes; roots = roots }) (Place k)
   reached_from zero k h l = absurd (omega arith)

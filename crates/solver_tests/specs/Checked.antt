@@ -5,9 +5,9 @@
 use Rattle.std.specs.Prelude.{◌≡◌, ◌≢◌, ℕ, ◌<◌, ◌⊎◌, List, length, slice_get}
 use Rattle.std.specs.List.{All, Contains}
 use Rattle.std.specs.declared.option.Option.TheVariants.{Some}
-use Rattle.order_model.specs.declared.Ref.{Ref}
-use Rattle.order_model.specs.declared.Ref.TheVariants.{Place}
-use Rattle.order_model.specs.declared.Node.{Node}
+use Rattle.order_model.specs.declared.diagrams.Ref.{Ref}
+use Rattle.order_model.specs.declared.diagrams.Ref.TheVariants.{Place}
+use Rattle.order_model.specs.declared.diagrams.Node.{Node}
 use Rattle.order_model.specs.Orders.{place_in}
 use Rattle.order_model.specs.Diagrams.{IsBefore, IsChild}
 
@@ -23,9 +23,9 @@ IsUsed nodes roots k = Contains roots (Place k) ⊎ ((j : ℕ) × (parent : Node
 -- the node at place k may stand in a reduced diagram
 pub record IsCheckedNode (order : List ℕ) (nodes : List Node) (roots : List Ref) (k : ℕ) (node : Node) : Type 0 where
   pub variable : node.variable < length order
-  pub lower : IsBehind order nodes k node.variable node.lower
-  pub upper : IsBehind order nodes k node.variable node.upper
-  pub not_redundant : node.lower ≢ node.upper
+  pub low : IsBehind order nodes k node.variable node.low
+  pub high : IsBehind order nodes k node.variable node.high
+  pub not_redundant : node.low ≢ node.high
   pub new : (j : ℕ) → j < k → slice_get nodes j ≢ Some node
   pub used : IsUsed nodes roots k
 

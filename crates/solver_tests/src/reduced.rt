@@ -4,7 +4,7 @@ ghost use Rattle.std.specs.Prelude.{◌≡◌, ◌≢◌, ◌<◌, ◌≤◌, �
 ghost use Rattle.std.specs.List.{All};
 ghost use Rattle.std.specs.declared.option.Option.TheVariants.{Some};
 ghost use Rattle.order_model.specs.Diagrams.{IsBefore, IsOrdered, IsReduced};
-ghost use Rattle.order_model.specs.declared.Node.{Node};
+ghost use Rattle.order_model.specs.declared.diagrams.Node.{Node};
 ghost use Rattle.solver_tests.specs.Checked.{IsBehind, IsUsed, IsCheckedNode, AreChecked};
 
 use order_model::{Diagram, Node, Order, Ref, VarIx};
@@ -51,7 +51,7 @@ fn is_used(nodes: &[Node], roots: &[Ref], place: usize) -> bool
         }
     }
     for parent in place + 1..nodes.len() {
-        if nodes[parent].lower == Ref::Place(place) || nodes[parent].upper == Ref::Place(place) {
+        if nodes[parent].low == Ref::Place(place) || nodes[parent].high == Ref::Place(place) {
             return true;
         }
     }
@@ -65,18 +65,18 @@ fn is_checked_node(order: &Order, nodes: &[Node], roots: &[Ref], place: usize) -
 {
     let Node {
         variable,
-        lower,
-        upper,
+        low,
+        high,
     } = nodes[place];
     if variable as usize >= order.len() {
         return false;
     }
-    if !is_behind(order, nodes, place, variable, lower)
-        || !is_behind(order, nodes, place, variable, upper)
+    if !is_behind(order, nodes, place, variable, low)
+        || !is_behind(order, nodes, place, variable, high)
     {
         return false;
     }
-    if lower == upper || !is_new(nodes, place) {
+    if low == high || !is_new(nodes, place) {
         return false;
     }
     is_used(nodes, roots, place)

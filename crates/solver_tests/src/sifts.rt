@@ -58,11 +58,11 @@ fn diagram(
 {
     let order = Order::try_from_slice(alloc, order)?;
     let mut list = Vec::new(alloc);
-    for (variable, lower, upper) in nodes {
+    for (variable, low, high) in nodes {
         list.push(Node {
             variable: *variable,
-            lower: reference(*lower),
-            upper: reference(*upper),
+            low: reference(*low),
+            high: reference(*high),
         })?;
     }
     let mut refs = Vec::new(alloc);

@@ -281,12 +281,12 @@ fn make_all(
     ensures follows { OnOk result (Follows session.old session.new) }
     ensures ids { OnOk result (All (λ id. Knows session.new id × (level ≤ depth_in session.new id)) ids.new.items) }
 {
-    for lower in below {
-        for upper in below {
-            if lower == upper {
+    for low in below {
+        for high in below {
+            if low == high {
                 continue;
             }
-            let Ok(id) = store.make(session, level, *lower, *upper) else {
+            let Ok(id) = store.make(session, level, *low, *high) else {
                 return Ok(());
             };
             ids.push(id)?;

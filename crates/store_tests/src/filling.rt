@@ -16,22 +16,22 @@ fn make_one(
     store: &Store,
     session: &mut Session,
     level: u8,
-    lower: NodeId,
-    upper: NodeId,
+    low: NodeId,
+    high: NodeId,
     ids: &mut Vec<NodeId>,
 ) -> Result<bool, AllocError>
     requires session { session.old.store ≡ store.now }
     requires level { level < levels_of store.now.plan }
-    requires lower { IsKnownBelow session.old level lower }
-    requires upper { IsKnownBelow session.old level upper }
+    requires low { IsKnownBelow session.old level low }
+    requires high { IsKnownBelow session.old level high }
     requires ids { All (λ id. Knows session.old id × (level ≤ depth_in session.old id)) ids.old.items }
     ensures follows { Follows session.old session.new }
     ensures ids { OnOk result (All (λ id. Knows session.new id × (level ≤ depth_in session.new id)) ids.new.items) }
 {
-    if lower == upper {
+    if low == high {
         return Ok(true);
     }
-    let Ok(id) = store.make(session, level, lower, upper) else {
+    let Ok(id) = store.make(session, level, low, high) else {
         return Ok(false);
     };
     ids.push(id)?;
@@ -43,25 +43,25 @@ fn make_all(
     store: &Store,
     session: &mut Session,
     level: u8,
-    lowers: &[NodeId],
-    uppers: &[NodeId],
+    lows: &[NodeId],
+    highs: &[NodeId],
     most: usize,
     ids: &mut Vec<NodeId>,
 ) -> Result<bool, AllocError>
     requires session { session.old.store ≡ store.now }
     requires level { level < levels_of store.now.plan }
-    requires lowers { All (IsKnownBelow session.old level) lowers.now }
-    requires uppers { All (IsKnownBelow session.old level) uppers.now }
+    requires lows { All (IsKnownBelow session.old level) lows.now }
+    requires highs { All (IsKnownBelow session.old level) highs.now }
     requires ids { All (λ id. Knows session.old id × (level ≤ depth_in session.old id)) ids.old.items }
     ensures follows { OnOk result (Follows session.old session.new) }
     ensures ids { OnOk result (All (λ id. Knows session.new id × (level ≤ depth_in session.new id)) ids.new.items) }
 {
-    for lower in lowers {
-        for upper in uppers {
+    for low in lows {
+        for high in highs {
             if ids.len() >= most {
                 return Ok(true);
             }
-            if !make_one(store, session, level, *lower, *upper, ids)? {
+            if !make_one(store, session, level, *low, *high, ids)? {
                 return Ok(false);
             }
         }
@@ -99,7 +99,7 @@ struct Filled {
     ids: Vec<NodeId>,
 }
 
-// The lowest four levels, and nodes of level 11 by one thread: those whose lower child stands at place `from` or after it.
+// The lowest four levels, and nodes of level 11 by one thread: those whose low child stands at place `from` or after it.
 fn fill_part(
     store: &Store,
     session: Session,
@@ -114,12 +114,12 @@ fn fill_part(
     let mut session = session;
     let below = lowest(store, &mut session, alloc)?;
     let mut ids = Vec::with_capacity(alloc, 98_305)?;
-    let lowers = behind(below.as_slice(), from);
+    let lows = behind(below.as_slice(), from);
     make_all(
         store,
         &mut session,
         11,
-        lowers,
+        lows,
         below.as_slice(),
         98_305,
         &mut ids,

@@ -50,13 +50,13 @@ module _ (t : store.Inside) (s : session.Inside) (T : StoreId) (K : Knowledge) (
   pub few_levels : levels_of T.plan ≤ 16
   few_levels = subst (λ (z : StoreId). levels_of z.plan ≤ 16) is_t kt.plan.order.few
 
-  pub word_ready : (level lower upper word : ℕ) → level < levels_of T.plan → IsKnownBelow K level lower → IsKnownBelow K level upper → lower ≢ upper → word ≡ node_word level lower upper
+  pub word_ready : (level low high word : ℕ) → level < levels_of T.plan → IsKnownBelow K level low → IsKnownBelow K level high → low ≢ high → word ≡ node_word level low high
       → (word ≢ 0) × IsNode (levels_of t.table.shared.key) s.seat.me.0.seen word
-  word_ready level lower upper word low kl ku ne is =
-      let few = few_levels in let a = small_id lower kl.0 in let b = small_id upper ku.0 in
+  word_ready level low high word small kl ku ne is =
+      let few = few_levels in let a = small_id low kl.0 in let b = small_id high ku.0 in
       let node : IsNode (levels_of K.store.plan) K.seen word = subst (IsNode (levels_of K.store.plan) K.seen) (sym is)
-      (word_node (levels_of K.store.plan) level lower upper K.seen (subst (λ (z : StoreId). levels_of z.plan ≤ 16) (sym fits) few) (subst (λ (z : StoreId). level < levels_of z.plan) (sym fits) low) a b ne
-      (below_depth (levels_of K.store.plan) K.seen level lower kl.0 kl.1) (below_depth (levels_of K.store.plan) K.seen level upper ku.0 ku.1)) in (
+      (word_node (levels_of K.store.plan) level low high K.seen (subst (λ (z : StoreId). levels_of z.plan ≤ 16) (sym fits) few) (subst (λ (z : StoreId). level < levels_of z.plan) (sym fits) small) a b ne
+      (below_depth (levels_of K.store.plan) K.seen level low kl.0 kl.1) (below_depth (levels_of K.store.plan) K.seen level high ku.0 ku.1)) in (
         (λ e. omega arith),
         subst (λ (z : Plan). IsNode (levels_of z) s.seat.me.0.seen word) plan_is (subst (λ (z : Knowledge). IsNode (levels_of z.store.plan) z.seen word) (sym is_s) node),
       )
@@ -101,11 +101,11 @@ module _ (t : store.Inside) (kt : IsStore t) (seat : Sitting) (sits : IsSeatOf t
       operation_no_higher (order_of seat.me.0.plan) seat.me.0.seen sits.good.nodes sits.good.unequal (subst (λ (z : Plan). IsOrder (levels_of z) (order_of z)) (sym sits.plan) kt.plan.order.order) o a b (result_of w) k ka kb entry_means ha hb
 
 -- what a made id denotes, and how deep it lies
-module _ (T : StoreId) (K K' : Knowledge) (fits : K.store ≡ T) (few : levels_of T.plan ≤ 16) (are : AreNodes (levels_of K'.store.plan) K'.seen) (on : Follows K K') (level lower upper id : ℕ) (low : level < levels_of T.plan)
-    (a : lower < 2 ^ 20) (b : upper < 2 ^ 20) (kl : IsKnownBelow K level lower) (made : IsIdOf K'.seen level lower upper id) where
-  pub made_means : Means K' id (branch (variable_at T.plan level) (function_in K' lower) (function_in K' upper))
-  made_means = subst (λ (z : StoreId). Means K' id (branch (variable_at z.plan level) (function_in K' lower) (function_in K' upper))) (on.store ∙ fits)
-      (denotes_made (order_of K'.store.plan) K'.seen are level lower upper id (omega arith) a b (on.knows lower kl.0) made)
+module _ (T : StoreId) (K K' : Knowledge) (fits : K.store ≡ T) (few : levels_of T.plan ≤ 16) (are : AreNodes (levels_of K'.store.plan) K'.seen) (on : Follows K K') (level low high id : ℕ) (small : level < levels_of T.plan)
+    (a : low < 2 ^ 20) (b : high < 2 ^ 20) (kl : IsKnownBelow K level low) (made : IsIdOf K'.seen level low high id) where
+  pub made_means : Means K' id (branch (variable_at T.plan level) (function_in K' low) (function_in K' high))
+  made_means = subst (λ (z : StoreId). Means K' id (branch (variable_at z.plan level) (function_in K' low) (function_in K' high))) (on.store ∙ fits)
+      (denotes_made (order_of K'.store.plan) K'.seen are level low high id (omega arith) a b (on.knows low kl.0) made)
 
   pub made_depth : level ≤ depth_in K' id
-  made_depth = let e = on.depths lower kl.0 in let less = kl.1 in depth_made (levels_of K'.store.plan) K'.seen level lower upper id (omega arith) a b (omega arith) made
+  made_depth = let e = on.depths low kl.0 in let less = kl.1 in depth_made (levels_of K'.store.plan) K'.seen level low high id (omega arith) a b (omega arith) made

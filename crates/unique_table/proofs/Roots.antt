@@ -8,7 +8,7 @@ use Rattle.atomic_table.specs.Table.{Final, Seen}
 use Rattle.order_model.specs.Functions.{Function, SameFunction, from_table}
 use Rattle.order_model.specs.Problems.{TruthTables, functions, outputs_of, table_at}
 use Rattle.order_model.specs.Diagrams.{Graph, Represents, IsOf, value}
-use Rattle.order_model.specs.declared.Ref.{Ref}
+use Rattle.order_model.specs.declared.diagrams.Ref.{Ref}
 use Rattle.node_words.specs.Nodes.{AreStored, IsKnown, Grows}
 use Rattle.node_words.specs.Meaning.{function_of, Denotes}
 use Rattle.node_words.proofs.Functions.{known_small}

@@ -68,10 +68,10 @@ pub record Follows (s s' : Knowledge) : Type 0 where
 
 -- the parts of a known node: its level, and two unequal children below it, of whose functions its own is made
 pub record HasParts (s : Knowledge) (id : ℕ) (parts : NodeParts) : Type 0 where
-  pub word : slice_index s.seen (id - 2) ≡ node_word parts.level parts.lower parts.upper
+  pub word : slice_index s.seen (id - 2) ≡ node_word parts.level parts.low parts.high
   pub level : depth_in s id ≡ parts.level
   pub inside : parts.level < levels_of s.store.plan
-  pub unequal : parts.lower ≢ parts.upper
-  pub lower : IsKnownBelow s parts.level parts.lower
-  pub upper : IsKnownBelow s parts.level parts.upper
-  pub function : (p : Point) → function_in s id p ≡ branch (variable_at s.store.plan parts.level) (function_in s parts.lower) (function_in s parts.upper) p
+  pub unequal : parts.low ≢ parts.high
+  pub low : IsKnownBelow s parts.level parts.low
+  pub high : IsKnownBelow s parts.level parts.high
+  pub function : (p : Point) → function_in s id p ≡ branch (variable_at s.store.plan parts.level) (function_in s parts.low) (function_in s parts.high) p

@@ -21,28 +21,28 @@ impl Store {
         &self,
         session: &mut Session,
         level: u8,
-        lower: NodeId,
-        upper: NodeId,
+        low: NodeId,
+        high: NodeId,
     ) -> Result<NodeId, StoreFull>
         requires session { session.old.store ≡ self.now }
         requires level { level < levels_of self.now.plan }
-        requires lower { IsKnownBelow session.old level lower }
-        requires upper { IsKnownBelow session.old level upper }
+        requires low { IsKnownBelow session.old level low }
+        requires high { IsKnownBelow session.old level high }
         ensures follows { Follows session.old session.new }
-        ensures id { IfOk result (λ id. IsIdOf session.new.seen level lower upper id) }
-        ensures function { IfOk result (λ id. Means session.new id (branch (variable_at self.now.plan level) (function_in session.new lower) (function_in session.new upper))) }
+        ensures id { IfOk result (λ id. IsIdOf session.new.seen level low high id) }
+        ensures function { IfOk result (λ id. Means session.new id (branch (variable_at self.now.plan level) (function_in session.new low) (function_in session.new high))) }
         ensures level { IfOk result (λ id. level ≤ depth_in session.new id) }
         ensures unique { HasUniqueIds session.new }
-        ensures full { OnErr result (IsFullFor session.new.seen self.now.plan.places (node_word level lower upper)) }
+        ensures full { OnErr result (IsFullFor session.new.seen self.now.plan.places (node_word level low high)) }
         ensures steps { session.new.steps ≤ session.old.steps + 2 * self.now.plan.places }
         ensures writes { OnErr result (session.new.writes ≡ session.old.writes) }
     {
         let places = self.places;
         let seat = &mut session.seat;
-        if lower == upper {
-            return Ok(lower);
+        if low == high {
+            return Ok(low);
         }
-        let word = node_word(level, lower, upper);
+        let word = node_word(level, low, high);
         let Some(place) = words::find_or_put(&self.table.shared, seat, places, word) else {
             return Err(StoreFull);
         };

@@ -1,9 +1,9 @@
 -- Nodes appended to a diagram's list: the old refs keep their values.
 use Rattle.std.proofs.Common.{◌≡◌, ℕ, zero, suc, ◌+◌, ◌<◌, ◌≤◌, ◌⊎◌, inl, inr, List, [], ◌∷◌, ◌++◌, length, refl, sym, ap, ◌∙◌, arith, slice_get, Some, zero-add}
 use Rattle.std.proofs.lemmas.Option.{slice_get_cases}
-use Rattle.order_model.specs.declared.Ref.{Ref}
-use Rattle.order_model.specs.declared.Ref.TheVariants.{Terminal, Place}
-use Rattle.order_model.specs.declared.Node.{Node}
+use Rattle.order_model.specs.declared.diagrams.Ref.{Ref}
+use Rattle.order_model.specs.declared.diagrams.Ref.TheVariants.{Terminal, Place}
+use Rattle.order_model.specs.declared.diagrams.Node.{Node}
 use Rattle.order_model.specs.Functions.{Point, bit}
 use Rattle.order_model.specs.Diagrams.{Graph, IsDiagram, IsNodeAt, IsBefore, child_at, value}
 use Rattle.order_model.proofs.Nodes.Paths.{before_more, child_before, value_place, value_terminal}

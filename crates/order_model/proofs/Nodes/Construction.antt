@@ -9,9 +9,9 @@ use Rattle.std.proofs.lemmas.List.{set-get_or, append_assoc, append-nil, length_
 use Rattle.std.proofs.lemmas.List.Elements.{All-from_recursion}
 use Rattle.std.proofs.lemmas.List.Sums.{sum_by-cons, sum_by-append}
 use Rattle.std.proofs.lemmas.Option.{slice_get_within, same_Some}
-use Rattle.order_model.specs.declared.Ref.{Ref}
-use Rattle.order_model.specs.declared.Ref.TheVariants.{Terminal, Place}
-use Rattle.order_model.specs.declared.Node.{Node}
+use Rattle.order_model.specs.declared.diagrams.Ref.{Ref}
+use Rattle.order_model.specs.declared.diagrams.Ref.TheVariants.{Terminal, Place}
+use Rattle.order_model.specs.declared.diagrams.Node.{Node}
 use Rattle.order_model.specs.Functions.{Point, Function, bit, restrict, SameFunction, table, same_table, depends}
 use Rattle.order_model.specs.Orders.{has, IsOrder, place_in}
 use Rattle.order_model.specs.Levels.{subfunctions, reach, dependents, level_count, size_under}
@@ -100,10 +100,10 @@ count_all p (x ∷ xs) h =
 -- a node of variable x over the old nodes, for the function g
 record Made (n : ℕ) (old : List Node) (x : ℕ) (g : Function) (node : Node) : Type 0 where
   variable : node.variable ≡ x
-  lower_before : IsBefore (length old) node.lower
-  upper_before : IsBefore (length old) node.upper
-  lower : SameFunction n (value old node.lower) (restrict x false g)
-  upper : SameFunction n (value old node.upper) (restrict x true g)
+  low_before : IsBefore (length old) node.low
+  high_before : IsBefore (length old) node.high
+  low : SameFunction n (value old node.low) (restrict x false g)
+  high : SameFunction n (value old node.high) (restrict x true g)
 
 -- a node for a function with the table
 abbrev Stands : ℕ → List Node → ℕ → Node → List Bool → Type 0
@@ -121,7 +121,7 @@ record Built (n : ℕ) (F : List Function) (order above below : List ℕ) : Type
   nodes : List Node
   fits : AllFit n nodes
   ordered : IsOrdered order (graph_of nodes)
-  low : (k : ℕ) (node : Node) → slice_get nodes k ≡ Some node → length above ≤ place_in order node.variable
+  deep : (k : ℕ) (node : Node) → slice_get nodes k ≡ Some node → length above ≤ place_in order node.variable
   denoted : (g : Function) → Among g (reach F above) → (r : Ref) × IsBefore (length nodes) r × SameFunction n (value nodes r) g
   exact : (y : ℕ) → has below y ≡ true → count_by (λ (node : Node). nat_eq node.variable y) nodes ≡ level_count n F order (place_in order y)
   total : length nodes ≡ cost n F below
@@ -134,7 +134,7 @@ module _ (n : ℕ) (F : List Function) (order : List ℕ) (o : IsOrder n order) 
     nodes = [];
     fits = λ k node e. cc;
     ordered = λ j k c p e f. cc;
-    low = λ k node e. cc;
+    deep = λ k node e. cc;
     denoted = constant;
     exact = λ y h. absurd (false≢true h);
     total = refl;
@@ -158,7 +158,7 @@ module _ (n : ℕ) (F : List Function) (order : List ℕ) (o : IsOrder n order) 
                 value_terminal [] p (f a) ∙ ap f (mix_is n above a p a fix.1 (λ y lt. ap (λ b. cond b (bit a y) (bit p y)) (sym (all y lt)))) ∙ sym (fix.2 p l),
           )
 
-child_is_before : (k : ℕ) (r : Ref) (node : Node) → IsChild r node → IsBefore k node.lower → IsBefore k node.upper → IsBefore k r
+child_is_before : (k : ℕ) (r : Ref) (node : Node) → IsChild r node → IsBefore k node.low → IsBefore k node.high → IsBefore k r
 child_is_before k r node c l u = elim c [ inl e ↦ subst (IsBefore k) e l | inr e ↦ subst (IsBefore k) e u ]
 
 -- one more level on top
@@ -191,10 +191,10 @@ module _ (n : ℕ) (F : List Function) (order : List ℕ) (o : IsOrder n order) 
       let from = among_from_map (table n) t own (unique_among same_table same_table_decides (map (table n) own) t h) in
       let g = from.0 in
       let reached = (among_from_filter (λ f. depends n f x) g (reach F above) from.1).0 in
-      let lower = rest.denoted (restrict x false g) (reach_more F above x false g reached) in
-      let upper = rest.denoted (restrict x true g) (reach_more F above x true g reached) in
-      let node : Node = record { variable = x; lower = lower.0; upper = upper.0 } in
-      let made : Made n rest.nodes x g node = record { variable = refl; lower_before = lower.1; upper_before = upper.1; lower = lower.2; upper = upper.2 } in
+      let low = rest.denoted (restrict x false g) (reach_more F above x false g reached) in
+      let high = rest.denoted (restrict x true g) (reach_more F above x true g reached) in
+      let node : Node = record { variable = x; low = low.0; high = high.0 } in
+      let made : Made n rest.nodes x g node = record { variable = refl; low_before = low.1; high_before = high.1; low = low.2; high = high.2 } in
       (node, (g, from.2, made))
 
   made_nodes : (more : List Node) × AllZip (Stands n rest.nodes x) more tables
@@ -227,14 +227,14 @@ module _ (n : ℕ) (F : List Function) (order : List ℕ) (o : IsOrder n order) 
             let s = (new_node b.0 node b.2).1.2 in
             let le : length rest.nodes ≤ k = let f = b.1 in omega arith in
             let v : node.variable < n = let f = s.variable in let g = small_x in omega arith in
-            record { variable = v; lower = before_more (length rest.nodes) k node.lower le s.lower_before; upper = before_more (length rest.nodes) k node.upper le s.upper_before }
+            record { variable = v; low = before_more (length rest.nodes) k node.low le s.low_before; high = before_more (length rest.nodes) k node.high le s.high_before }
       ]
 
   new_place : (j : ℕ) (node : Node) → slice_get more j ≡ Some node → place_in order node.variable ≡ length above
   new_place j node e = ap (place_in order) (new_node j node e).1.2.variable ∙ place_x
 
   old_place : (k : ℕ) (node : Node) → slice_get rest.nodes k ≡ Some node → suc (length above) ≤ place_in order node.variable
-  old_place k node e = let l = length_push above x in let a = rest.low k node e in omega arith
+  old_place k node e = let l = length_push above x in let a = rest.deep k node e in omega arith
 
   both_low : (k : ℕ) (node : Node) → slice_get both k ≡ Some node → length above ≤ place_in order node.variable
   both_low k node e =
@@ -254,12 +254,12 @@ module _ (n : ℕ) (F : List Function) (order : List ℕ) (o : IsOrder n order) 
       elim (node_at_both k parent pk) [
         | inl a ↦
             let fit = rest.fits k parent a in
-            let lt : j < k = child_is_before k (Place j) parent is fit.lower fit.upper in
+            let lt : j < k = child_is_before k (Place j) parent is fit.low fit.high in
             let kt = slice_get_within rest.nodes k parent a in
             rest.ordered j k child parent (old_child j k child cj (omega arith)) a is
         | inr b ↦
             let s = (new_node b.0 parent b.2).1.2 in
-            let lt : j < length rest.nodes = child_is_before (length rest.nodes) (Place j) parent is s.lower_before s.upper_before in
+            let lt : j < length rest.nodes = child_is_before (length rest.nodes) (Place j) parent is s.low_before s.high_before in
             let c = old_place j child (old_child j k child cj lt) in
             let p = new_place b.0 parent b.2 in
             omega arith
@@ -270,12 +270,12 @@ module _ (n : ℕ) (F : List Function) (order : List ℕ) (o : IsOrder n order) 
   unfolding SameFunction both
   new_value j node e g made p l =
       value_place n (graph_of both) (diagram_of n both both_fit) p (length rest.nodes + j) node (get_right rest.nodes more j ∙ e)
-      ∙ value_append n rest.nodes more rest.fits both_fit p (length rest.nodes) (child_at p node) (omega arith) (child_has (IsBefore (length rest.nodes)) (bit p node.variable) node made.lower_before made.upper_before)
+      ∙ value_append n rest.nodes more rest.fits both_fit p (length rest.nodes) (child_at p node) (omega arith) (child_has (IsBefore (length rest.nodes)) (bit p node.variable) node made.low_before made.high_before)
       ∙ by (bit p node.variable) refl
     where
-      by : (b : Bool) → bit p node.variable ≡ b → value rest.nodes (cond b node.upper node.lower) p ≡ g p
-      by true f = made.upper p l ∙ ap (λ c. restrict x c g p) (sym (ap (bit p) (sym made.variable) ∙ f)) ∙ own_restriction x g p
-      by false f = made.lower p l ∙ ap (λ c. restrict x c g p) (sym (ap (bit p) (sym made.variable) ∙ f)) ∙ own_restriction x g p
+      by : (b : Bool) → bit p node.variable ≡ b → value rest.nodes (cond b node.high node.low) p ≡ g p
+      by true f = made.high p l ∙ ap (λ c. restrict x c g p) (sym (ap (bit p) (sym made.variable) ∙ f)) ∙ own_restriction x g p
+      by false f = made.low p l ∙ ap (λ c. restrict x c g p) (sym (ap (bit p) (sym made.variable) ∙ f)) ∙ own_restriction x g p
 
   length_both : length both ≡ length rest.nodes + length more
   unfolding both
@@ -344,7 +344,7 @@ module _ (n : ℕ) (F : List Function) (order : List ℕ) (o : IsOrder n order) 
       omega arith
 
   one_up : Built n F order above (x ∷ below)
-  one_up = record { nodes = both; fits = both_fit; ordered = both_ordered; low = both_low; denoted = both_denoted; exact = both_exact; total = both_total }
+  one_up = record { nodes = both; fits = both_fit; ordered = both_ordered; deep = both_low; denoted = both_denoted; exact = both_exact; total = both_total }
 
 -- ---- the whole diagram
 

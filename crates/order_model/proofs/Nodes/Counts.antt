@@ -4,7 +4,7 @@ use Rattle.std.proofs.Common.{◌≡◌, ℕ, ◌+◌, ◌<◌, inl, inr, List, 
 use Rattle.std.proofs.lemmas.Bool.{cases_eq}
 use Rattle.std.proofs.lemmas.List.{get_or-set_same, get_or-set_other}
 use Rattle.std.proofs.lemmas.List.Sums.{count_by_more_no, count_by_more_yes}
-use Rattle.order_model.specs.declared.Node.{Node}
+use Rattle.order_model.specs.declared.diagrams.Node.{Node}
 use Rattle.order_model.specs.Diagrams.{variable_count}
 
 -- the first i nodes are counted

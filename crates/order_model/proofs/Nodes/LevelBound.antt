@@ -9,9 +9,9 @@ use Rattle.std.proofs.lemmas.List.Elements.{recursion_from_All}
 use Rattle.std.proofs.lemmas.List.FromFn.{fill_by_all}
 use Rattle.std.proofs.lemmas.List.Sums.{length-filter, sum_by-cons, count_by-le-length}
 use Rattle.std.proofs.lemmas.Option.{slice_get_cases, same_Some}
-use Rattle.order_model.specs.declared.Ref.{Ref}
-use Rattle.order_model.specs.declared.Ref.TheVariants.{Terminal, Place}
-use Rattle.order_model.specs.declared.Node.{Node}
+use Rattle.order_model.specs.declared.diagrams.Ref.{Ref}
+use Rattle.order_model.specs.declared.diagrams.Ref.TheVariants.{Terminal, Place}
+use Rattle.order_model.specs.declared.diagrams.Node.{Node}
 use Rattle.order_model.specs.Functions.{Point, Function, bit, restrict, SameFunction, DependsOn, table, same_table, depends}
 use Rattle.order_model.specs.Orders.{has, IsOrder, place_in}
 use Rattle.order_model.specs.Levels.{subfunctions, reach, dependents, level_count, level_counts, size_under}
@@ -57,7 +57,7 @@ module _ (n : ℕ) (order : List ℕ) (d : Graph) (ok : IsDiagram n d) (ordered 
       SameFunction n (value d.nodes (Place k)) f → Denotes (suc i) (restrict x b f)
   unfolding SameFunction restrict
   go_down i x e small b f k node is v lt same =
-      let c = cond b node.upper node.lower in
+      let c = cond b node.high node.low in
       let before : IsBefore (length d.nodes) c = before_more k (length d.nodes) c (omega arith) (child_before n d ok k node b is) in
       let stands = stands_less order d.nodes (suc i) (suc (place_in order node.variable)) c (let t = ap (place_in order) v in omega arith) (child_stands n order d ok ordered k node b is) in (
         c,
@@ -65,7 +65,7 @@ module _ (n : ℕ) (order : List ℕ) (d : Graph) (ok : IsDiagram n d) (ordered 
             let inside : x < length p = omega arith in
             let bit_is : bit (set p x b) node.variable ≡ b = ap (bit (set p x b)) v ∙ get_or-set_same p x b false inside in
             sym (free (suc i) x (omega arith) b p c before stands)
-            ∙ ap (λ w. value d.nodes (cond w node.upper node.lower) (set p x b)) (sym bit_is)
+            ∙ ap (λ w. value d.nodes (cond w node.high node.low) (set p x b)) (sym bit_is)
             ∙ sym (value_place n d ok (set p x b) k node is)
             ∙ same (set p x b) (length-set p x b ∙ l),
         before,

@@ -3,9 +3,9 @@ use Rattle.std.proofs.Common.{◌≡◌, ℕ, suc, ◌<◌, ◌≤◌, ◌/◌, 
 use Rattle.std.specs.Int.{bit_at}
 use Rattle.std.proofs.lemmas.List.FromFn.{get_or-map-range_with_len}
 use Rattle.std.proofs.Common.{zero-add}
-use Rattle.order_model.specs.declared.Ref.{Ref}
-use Rattle.order_model.specs.declared.Ref.TheVariants.{Terminal, Place}
-use Rattle.order_model.specs.declared.Node.{Node}
+use Rattle.order_model.specs.declared.diagrams.Ref.{Ref}
+use Rattle.order_model.specs.declared.diagrams.Ref.TheVariants.{Terminal, Place}
+use Rattle.order_model.specs.declared.diagrams.Node.{Node}
 use Rattle.order_model.specs.Functions.{Point, bit, point_of}
 use Rattle.std.proofs.lemmas.Nat.Bits.{shr_and_one}
 use Rattle.std.proofs.lemmas.Option.{slice_get-get_or}
@@ -28,11 +28,11 @@ unfolding point_of
 bit-point_of n k x h = get_or-map-range_with_len (λ y. eqb (bit_at k y) 1) 0 n x x false h (zero-add x)
 
 -- the child that the code takes
-pub child_upper : (n k : ℕ) (node : Node) → node.variable < n → bit_and (k / 2 ^ node.variable) 1 ≡ 1 → node.upper ≡ child_at (point_of n k) node
-child_upper n k node h e = ap (λ b. cond b node.upper node.lower) (sym (bit-point_of n k node.variable h ∙ eq-eqb (bit_at k node.variable) 1 (sym (shr_and_one k node.variable) ∙ e)))
+pub child_high : (n k : ℕ) (node : Node) → node.variable < n → bit_and (k / 2 ^ node.variable) 1 ≡ 1 → node.high ≡ child_at (point_of n k) node
+child_high n k node h e = ap (λ b. cond b node.high node.low) (sym (bit-point_of n k node.variable h ∙ eq-eqb (bit_at k node.variable) 1 (sym (shr_and_one k node.variable) ∙ e)))
 
-pub child_lower : (n k : ℕ) (node : Node) → node.variable < n → (bit_and (k / 2 ^ node.variable) 1 ≡ 1 → ⊥) → node.lower ≡ child_at (point_of n k) node
-child_lower n k node h ne = ap (λ b. cond b node.upper node.lower) (sym (bit-point_of n k node.variable h ∙ ne_eqb (bit_at k node.variable) 1 (λ e. ne (shr_and_one k node.variable ∙ e))))
+pub child_low : (n k : ℕ) (node : Node) → node.variable < n → (bit_and (k / 2 ^ node.variable) 1 ≡ 1 → ⊥) → node.low ≡ child_at (point_of n k) node
+child_low n k node h ne = ap (λ b. cond b node.high node.low) (sym (bit-point_of n k node.variable h ∙ ne_eqb (bit_at k node.variable) 1 (λ e. ne (shr_and_one k node.variable ∙ e))))
 
 -- a step keeps the value
 pub value_step : (n : ℕ) (nodes : List Node) → AreNodes n nodes → (p : Point) (k : ℕ) (d : Node) → k < length nodes → value nodes (child_at p (get_or nodes k d)) p ≡ value nodes (Place k) p
@@ -49,8 +49,8 @@ walk_step n nodes fit p k d here result e before f =
     let lt : IsBefore (length nodes) (Place k) = subst (IsBefore (length nodes)) e before in
     let child = step_before n nodes fit p k d lt in
     let back = subst (IsBefore k) (sym f) child in
-    let low = rank-before k result back in
-    let high = ap rank_of e in
+    let small = rank-before k result back in
+    let deep = ap rank_of e in
     (before_more k (length nodes) result (omega (arith, lt)) back, omega arith, ap (λ r. value nodes r p) f ∙ value_step n nodes fit p k d lt ∙ ap (λ r. value nodes r p) (sym e))
 
 pub node_small : (n : ℕ) (nodes : List Node) → AreNodes n nodes → (k : ℕ) (d : Node) (here : Ref) → here ≡ Place k → IsBefore (length nodes) here → (get_or nodes k d).variable < n

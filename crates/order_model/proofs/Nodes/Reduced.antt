@@ -8,9 +8,9 @@ use Rattle.std.proofs.lemmas.Map.Made.{distinct_count-from_IsDistinct}
 use Rattle.std.specs.Cmp.{bool_eq_equiv}
 use Rattle.std.specs.Cmp.Lexicographic.{lists_equiv}
 use Rattle.std.proofs.lemmas.Option.{slice_get_within, slice_get_cases, same_Some}
-use Rattle.order_model.specs.declared.Ref.{Ref}
-use Rattle.order_model.specs.declared.Ref.TheVariants.{Terminal, Place}
-use Rattle.order_model.specs.declared.Node.{Node}
+use Rattle.order_model.specs.declared.diagrams.Ref.{Ref}
+use Rattle.order_model.specs.declared.diagrams.Ref.TheVariants.{Terminal, Place}
+use Rattle.order_model.specs.declared.diagrams.Node.{Node}
 use Rattle.order_model.specs.Functions.{Point, Function, restrict, SameFunction, DependsOn, table, same_table, depends}
 use Rattle.order_model.specs.Orders.{has, IsOrder, place_in}
 use Rattle.order_model.specs.Levels.{subfunctions, reach, dependents, level_count}
@@ -40,17 +40,17 @@ zeros n = replicate n false
 
 module _ (n : ℕ) (order : List ℕ) (d : Graph) (ok : IsDiagram n d) (ordered : IsOrdered order d) where
   -- the restriction of a node's function by its own variable is the child's function
-  child_value : (k : ℕ) (node : Node) → slice_get d.nodes k ≡ Some node → (b : Bool) → SameFunction n (value d.nodes (cond b node.upper node.lower)) (restrict node.variable b (value d.nodes (Place k)))
+  child_value : (k : ℕ) (node : Node) → slice_get d.nodes k ≡ Some node → (b : Bool) → SameFunction n (value d.nodes (cond b node.high node.low)) (restrict node.variable b (value d.nodes (Place k)))
   unfolding SameFunction restrict
   child_value k node e b p l =
       let x = node.variable in
       let lt = slice_get_within d.nodes k node e in
       let small = (ok.nodes k node e).variable in
       let inside : x < length p = omega arith in
-      let c = cond b node.upper node.lower in
+      let c = cond b node.high node.low in
       let before : IsBefore (length d.nodes) c = before_more k (length d.nodes) c (omega arith) (child_before n d ok k node b e) in
       sym (free n order d ok ordered (suc (place_in order x)) x (omega arith) b p c before (child_stands n order d ok ordered k node b e))
-      ∙ ap (λ w. value d.nodes (cond w node.upper node.lower) (set p x b)) (sym (get_or-set_same p x b false inside))
+      ∙ ap (λ w. value d.nodes (cond w node.high node.low) (set p x b)) (sym (get_or-set_same p x b false inside))
       ∙ sym (value_place n d ok (set p x b) k node e)
 
   -- a ref that stands below a variable's place does not depend on it
@@ -68,10 +68,10 @@ module _ (n : ℕ) (order : List ℕ) (d : Graph) (ok : IsDiagram n d) (ordered 
     -- then a node at k depends on its variable
     node_depends : (k : ℕ) → Canonical k → (node : Node) → slice_get d.nodes k ≡ Some node → SameFunction n (restrict node.variable false (value d.nodes (Place k))) (restrict node.variable true (value d.nodes (Place k))) → ⊥
     node_depends k can node e same =
-        let low = child_value k node e false in
-        let high = child_value k node e true in
-        let both = same_trans n (value d.nodes node.lower) _ (value d.nodes node.upper) low (same_trans n _ _ (value d.nodes node.upper) same (same_sym n (value d.nodes node.upper) _ high)) in
-        reduced.not_redundant k node e (can node.lower node.upper (ok.nodes k node e).lower (ok.nodes k node e).upper both)
+        let few = child_value k node e false in
+        let deep = child_value k node e true in
+        let both = same_trans n (value d.nodes node.low) _ (value d.nodes node.high) few (same_trans n _ _ (value d.nodes node.high) same (same_sym n (value d.nodes node.high) _ deep)) in
+        reduced.not_redundant k node e (can node.low node.high (ok.nodes k node e).low (ok.nodes k node e).high both)
 
     fewer : (j k : ℕ) → j ≤ k → Canonical k → Canonical j
     fewer j k le can r s a b = can r s (before_more j k r le a) (before_more j k s le b)
@@ -103,18 +103,18 @@ module _ (n : ℕ) (order : List ℕ) (d : Graph) (ok : IsDiagram n d) (ordered 
             lt_k : k < length d.nodes
             lt_k = slice_get_within d.nodes k node e
 
-            child : node.variable ≡ other.variable → (b : Bool) → cond b node.upper node.lower ≡ cond b other.upper other.lower
+            child : node.variable ≡ other.variable → (b : Bool) → cond b node.high node.low ≡ cond b other.high other.low
             child v b =
                 let one = child_value k node e b in
                 let two = child_value j other f b in
                 let mid = restrict_same n node.variable b (value d.nodes (Place k)) (value d.nodes (Place j)) same in
-                let turned = subst (λ x. SameFunction n (restrict x b (value d.nodes (Place j))) (value d.nodes (cond b other.upper other.lower))) (sym v) (same_sym n (value d.nodes (cond b other.upper other.lower)) _ two) in
-                can (cond b node.upper node.lower) (cond b other.upper other.lower) (child_before n d ok k node b e) (before_more j k _ (omega (arith, before)) (child_before n d ok j other b f))
-                (same_trans n _ _ (value d.nodes (cond b other.upper other.lower)) one (same_trans n _ _ (value d.nodes (cond b other.upper other.lower)) mid turned))
+                let turned = subst (λ x. SameFunction n (restrict x b (value d.nodes (Place j))) (value d.nodes (cond b other.high other.low))) (sym v) (same_sym n (value d.nodes (cond b other.high other.low)) _ two) in
+                can (cond b node.high node.low) (cond b other.high other.low) (child_before n d ok k node b e) (before_more j k _ (omega (arith, before)) (child_before n d ok j other b f))
+                (same_trans n _ _ (value d.nodes (cond b other.high other.low)) one (same_trans n _ _ (value d.nodes (cond b other.high other.low)) mid turned))
 
             equal : node.variable ≡ other.variable → ⊥
             equal v =
-                let same_node : other ≡ node = λ i. record { variable = sym v i; lower = sym (child v false) i; upper = sym (child v true) i } in
+                let same_node : other ≡ node = λ i. record { variable = sym v i; low = sym (child v false) i; high = sym (child v true) i } in
                 let t = reduced.no_two_equal j k node (f ∙ ap Some same_node) e in
                 omega (arith, before)
 
@@ -247,7 +247,7 @@ module _ (n : ℕ) (F : List Function) (order : List ℕ) (o : IsOrder n order) 
       above : place_in order x < place_in order node.variable
       above = rep.ordered k j node parent is f c
 
-      by : (b : Bool) → cond b parent.upper parent.lower ≡ Place k → Got k node
+      by : (b : Bool) → cond b parent.high parent.low ≡ Place k → Got k node
       by b e =
           let g = got.0 in
           let i = place_in order x in

@@ -2,8 +2,8 @@
 use Rattle.std.proofs.Common.{◌≡◌, ◌≢◌, ℕ, zero, suc, ◌<◌, ◌&&◌, ◌||◌, true, false, ◌∙◌, inl, inr, [], ◌∷◌, refl, subst, sym, ap, arith, slice_get, Some, lit<}
 use Rattle.std.proofs.lemmas.Option.{same_Some}
 use Rattle.std.proofs.lemmas.List.Elements.{All-from_recursion}
-use Rattle.order_model.specs.declared.Ref.TheVariants.{Terminal, Place}
-use Rattle.order_model.specs.declared.Node.{Node}
+use Rattle.order_model.specs.declared.diagrams.Ref.TheVariants.{Terminal, Place}
+use Rattle.order_model.specs.declared.diagrams.Node.{Node}
 use Rattle.order_model.specs.Functions.{Function, bit, points, SameFunction}
 use Rattle.order_model.specs.Orders.{place_in}
 use Rattle.order_model.specs.Diagrams.{Graph, IsDiagram, IsNodeAt, IsBefore, IsOrdered, IsOf, IsReduced, IsChild, Reached, Represents, next, after, child_of, is_one, value}
@@ -17,13 +17,13 @@ abbrev either : Function
 either p = bit p 0 || bit p 1
 
 abbrev second : Node
-second = record { variable = 1; lower = Terminal false; upper = Terminal true }
+second = record { variable = 1; low = Terminal false; high = Terminal true }
 
 abbrev and_node : Node
-and_node = record { variable = 0; lower = Terminal false; upper = Place 0 }
+and_node = record { variable = 0; low = Terminal false; high = Place 0 }
 
 abbrev or_node : Node
-or_node = record { variable = 0; lower = Place 0; upper = Terminal true }
+or_node = record { variable = 0; low = Place 0; high = Terminal true }
 
 abbrev three_nodes : Graph
 three_nodes = record { nodes = second ∷ and_node ∷ or_node ∷ []; roots = Place 1 ∷ Place 2 ∷ [] }
@@ -37,7 +37,7 @@ each_node P a b c (suc (suc (suc k))) node e = cc
 
 three_is_diagram : IsDiagram 2 three_nodes
 three_is_diagram = record {
-  nodes = each_node (IsNodeAt 2) (record { variable = lit< tt; lower = tt; upper = tt }) (record { variable = lit< tt; lower = tt; upper = lit< tt }) (record { variable = lit< tt; lower = lit< tt; upper = tt });
+  nodes = each_node (IsNodeAt 2) (record { variable = lit< tt; low = tt; high = tt }) (record { variable = lit< tt; low = tt; high = lit< tt }) (record { variable = lit< tt; low = lit< tt; high = tt });
   roots = All-from_recursion (IsBefore 3) three_nodes.roots (lit< tt, (lit< tt, tt));
 }
 
@@ -65,12 +65,12 @@ three_represent = record { diagram = three_is_diagram; ordered = three_ordered; 
 
 three_reduced : IsReduced three_nodes
 three_reduced = record {
-  not_redundant = each_node (λ k node. node.lower ≢ node.upper) (λ e. cc) (λ e. cc) (λ e. cc);
+  not_redundant = each_node (λ k node. node.low ≢ node.high) (λ e. cc) (λ e. cc) (λ e. cc);
   no_two_equal = λ j k node a b.
       each_node (λ i other. slice_get three_nodes.nodes k ≡ Some other → i ≡ k)
       (λ e. each_node (λ i other. other ≡ second → 0 ≡ i) (λ e. refl) (λ e. absurd (different_variable and_node second e (omega arith))) (λ e. absurd (different_variable or_node second e (omega arith))) k second e refl)
-      (λ e. each_node (λ i other. other ≡ and_node → 1 ≡ i) (λ e. absurd (different_variable second and_node e (omega arith))) (λ e. refl) (λ e. absurd (different_lower or_node and_node e (λ f. cc))) k and_node e refl)
-      (λ e. each_node (λ i other. other ≡ or_node → 2 ≡ i) (λ e. absurd (different_variable second or_node e (omega arith))) (λ e. absurd (different_lower and_node or_node e (λ f. cc))) (λ e. refl) k or_node e refl)
+      (λ e. each_node (λ i other. other ≡ and_node → 1 ≡ i) (λ e. absurd (different_variable second and_node e (omega arith))) (λ e. refl) (λ e. absurd (different_low or_node and_node e (λ f. cc))) k and_node e refl)
+      (λ e. each_node (λ i other. other ≡ or_node → 2 ≡ i) (λ e. absurd (different_variable second or_node e (omega arith))) (λ e. absurd (different_low and_node or_node e (λ f. cc))) (λ e. refl) k or_node e refl)
       j node a b;
   all_reached = reached;
 }
@@ -78,8 +78,8 @@ three_reduced = record {
     different_variable : (a b : Node) → a ≡ b → a.variable ≢ b.variable → ⊥
     different_variable a b e ne = ne (λ i. (e i).variable)
 
-    different_lower : (a b : Node) → a ≡ b → a.lower ≢ b.lower → ⊥
-    different_lower a b e ne = ne (λ i. (e i).lower)
+    different_low : (a b : Node) → a ≡ b → a.low ≢ b.low → ⊥
+    different_low a b e ne = ne (λ i. (e i).low)
 
     reached : (k : ℕ) → k < 3 → Reached three_nodes (Place k)
     reached zero h = from_parent 1 and_node (from_root (0, lit< tt, refl)) refl (inr refl)

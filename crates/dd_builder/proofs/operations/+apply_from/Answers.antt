@@ -15,52 +15,52 @@ apply_from-requires t c =
     let r = c.recall.ensures.follows in
     let a = r.depths c.args.first c.requires.first.known in let b = r.depths c.args.second c.requires.second.known in
     let first = c.requires.first.level in let second = c.requires.second.level in
-    let high : c.args.from ≤ c.take_apart-cut.result.level = c.take_apart-cut.ensures.level c.args.from (omega arith) (omega arith) in
+    let deep : c.args.from ≤ c.take_apart-cut.result.level = c.take_apart-cut.ensures.level c.args.from (omega arith) (omega arith) in
     let few = c.take_apart-cut.ensures.few in let inside = c.take_apart-cut.ensures.inside in
     let less : 17 - (c.take_apart-cut.result.level + 1) < t = omega arith in (
       less,
       (
         c.take_apart-cut.ensures.follows.store ∙ (c.recall.ensures.follows.store ∙ c.requires.session),
         (
-          below_from _ _ _ c.take_apart-cut.ensures.first.lower_below,
+          below_from _ _ _ c.take_apart-cut.ensures.first.low_below,
           (
-            below_from _ _ _ c.take_apart-cut.ensures.second.lower_below,
+            below_from _ _ _ c.take_apart-cut.ensures.second.low_below,
             omega arith,
           ),
         ),
       ),
     )
 
-pub returns-in_err-lower-clause-follows : goal.returns-in_err-lower-clause-follows
-returns-in_err-lower-clause-follows t c = follows_trans _ _ _ c.recall.ensures.follows (follows_trans _ _ _ c.take_apart-cut.ensures.follows c.apply_from.ensures.follows)
+pub returns-in_err-low-clause-follows : goal.returns-in_err-low-clause-follows
+returns-in_err-low-clause-follows t c = follows_trans _ _ _ c.recall.ensures.follows (follows_trans _ _ _ c.take_apart-cut.ensures.follows c.apply_from.ensures.follows)
 
 pub apply_from-requires-2 : goal.apply_from-requires-2
 apply_from-requires-2 t c =
     let r = c.recall.ensures.follows in
     let a = r.depths c.args.first c.requires.first.known in let b = r.depths c.args.second c.requires.second.known in
     let first = c.requires.first.level in let second = c.requires.second.level in
-    let high : c.args.from ≤ c.take_apart-cut.result.level = c.take_apart-cut.ensures.level c.args.from (omega arith) (omega arith) in
+    let deep : c.args.from ≤ c.take_apart-cut.result.level = c.take_apart-cut.ensures.level c.args.from (omega arith) (omega arith) in
     let few = c.take_apart-cut.ensures.few in let inside = c.take_apart-cut.ensures.inside in
     let less : 17 - (c.take_apart-cut.result.level + 1) < t = omega arith in (
       less,
       (
         c.apply_from.ensures.follows.store ∙ (c.take_apart-cut.ensures.follows.store ∙ (c.recall.ensures.follows.store ∙ c.requires.session)),
         (
-          from_follows _ _ _ _ c.apply_from.ensures.follows (below_from _ _ _ c.take_apart-cut.ensures.first.upper_below),
+          from_follows _ _ _ _ c.apply_from.ensures.follows (below_from _ _ _ c.take_apart-cut.ensures.first.high_below),
           (
-            from_follows _ _ _ _ c.apply_from.ensures.follows (below_from _ _ _ c.take_apart-cut.ensures.second.upper_below),
+            from_follows _ _ _ _ c.apply_from.ensures.follows (below_from _ _ _ c.take_apart-cut.ensures.second.high_below),
             omega arith,
           ),
         ),
       ),
     )
 
-pub returns-in_err-upper-clause-follows : goal.returns-in_err-upper-clause-follows
-returns-in_err-upper-clause-follows t c =
+pub returns-in_err-high-clause-follows : goal.returns-in_err-high-clause-follows
+returns-in_err-high-clause-follows t c =
     follows_trans _ _ _ c.recall.ensures.follows (follows_trans _ _ _ c.take_apart-cut.ensures.follows (follows_trans _ _ _ c.apply_from.ensures.follows c.apply_from-2.ensures.follows))
 
-pub make-requires-clause-lower : goal.make-requires-clause-lower
-make-requires-clause-lower t c = known_below_follows _ _ _ _ c.apply_from-2.ensures.follows (combined_below _ _ _ _ _ _ c.in_ok-lower.ensures.combined)
+pub make-requires-clause-low : goal.make-requires-clause-low
+make-requires-clause-low t c = known_below_follows _ _ _ _ c.apply_from-2.ensures.follows (combined_below _ _ _ _ _ _ c.in_ok-low.ensures.combined)
 
 pub returns-in_err-id-clause-follows : goal.returns-in_err-id-clause-follows
 returns-in_err-id-clause-follows t c =
@@ -77,7 +77,7 @@ pub remember-requires-clause-function : goal.remember-requires-clause-function
 remember-requires-clause-function t c =
     (made_combined c.args.store.now c.take_apart-cut.new.session c.apply_from.new.session c.apply_from-2.new.session c.make.new.session 0 c.take_apart-cut.result.level c.args.operation c.args.first c.args.second _ _ _ _ _ _ c.in_ok-id.id
     (c.take_apart-cut.ensures.follows.store ∙ (c.recall.ensures.follows.store ∙ c.requires.session)) c.take_apart-cut.ensures.first c.take_apart-cut.ensures.second
-    c.apply_from.ensures.follows c.in_ok-lower.ensures.combined c.apply_from-2.ensures.follows c.in_ok-upper.ensures.combined c.make.ensures.follows c.in_ok-id.ensures.function (omega arith) c.in_ok-id.ensures.level).means
+    c.apply_from.ensures.follows c.in_ok-low.ensures.combined c.apply_from-2.ensures.follows c.in_ok-high.ensures.combined c.make.ensures.follows c.in_ok-id.ensures.function (omega arith) c.in_ok-id.ensures.level).means
 
 pub returns-clause-follows : goal.returns-clause-follows
 returns-clause-follows t c =
@@ -91,8 +91,8 @@ returns-clause-combined t c =
     let r = c.recall.ensures.follows in
     let a = r.depths c.args.first c.requires.first.known in let b = r.depths c.args.second c.requires.second.known in
     let first = c.requires.first.level in let second = c.requires.second.level in
-    let high : c.args.from ≤ c.take_apart-cut.result.level = c.take_apart-cut.ensures.level c.args.from (omega arith) (omega arith) in
+    let deep : c.args.from ≤ c.take_apart-cut.result.level = c.take_apart-cut.ensures.level c.args.from (omega arith) (omega arith) in
     combined_follows c.make.new.session c.remember.new.session c.args.from c.args.operation c.args.first c.args.second c.in_ok-id.id (f.knows c.args.first c.requires.first.known) (f.knows c.args.second c.requires.second.known) c.remember.ensures.follows
     (made_combined c.args.store.now c.take_apart-cut.new.session c.apply_from.new.session c.apply_from-2.new.session c.make.new.session c.args.from c.take_apart-cut.result.level c.args.operation c.args.first c.args.second _ _ _ _ _ _ c.in_ok-id.id
     (c.take_apart-cut.ensures.follows.store ∙ (c.recall.ensures.follows.store ∙ c.requires.session)) c.take_apart-cut.ensures.first c.take_apart-cut.ensures.second
-    c.apply_from.ensures.follows c.in_ok-lower.ensures.combined c.apply_from-2.ensures.follows c.in_ok-upper.ensures.combined c.make.ensures.follows c.in_ok-id.ensures.function high c.in_ok-id.ensures.level)
+    c.apply_from.ensures.follows c.in_ok-low.ensures.combined c.apply_from-2.ensures.follows c.in_ok-high.ensures.combined c.make.ensures.follows c.in_ok-id.ensures.function deep c.in_ok-id.ensures.level)

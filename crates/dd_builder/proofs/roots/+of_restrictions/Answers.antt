@@ -52,6 +52,6 @@ returns-clause-function t c =
     let few = c.tops-tops.ensures.few in let size = length-take 2 (order_of c.args.store.now.plan) in
     let inside : c.args.level < levels_of c.args.store.now.plan = omega arith in
     ok_same _ _ c.make.result c.make.ensures.function (λ id m.
-    restricted_node c.args.store.now c.of_restrictions.new.session c.of_restrictions-2.new.session c.make.new.session c.args.level c.args.path c.in_ok-lower.lower c.in_ok-upper.upper id (output_at c.args.store.now.plan.problem.value c.args.output)
-    (c.of_restrictions.ensures.follows.store ∙ c.requires.session) c.of_restrictions-2.ensures.follows c.make.ensures.follows c.order.ensures.plan.order.order inside c.requires.path c.in_ok-lower.ensures.function
-    (subst (λ k. Means c.of_restrictions-2.new.session c.in_ok-upper.upper (fixed (take (c.args.level + 1) (order_of c.args.store.now.plan)) k (output_at c.args.store.now.plan.problem.value c.args.output))) (path_up 64 c.args.level c.args.path _ (omega arith) refl) c.in_ok-upper.ensures.function) m)
+    restricted_node c.args.store.now c.of_restrictions.new.session c.of_restrictions-2.new.session c.make.new.session c.args.level c.args.path c.in_ok-low.low c.in_ok-high.high id (output_at c.args.store.now.plan.problem.value c.args.output)
+    (c.of_restrictions.ensures.follows.store ∙ c.requires.session) c.of_restrictions-2.ensures.follows c.make.ensures.follows c.order.ensures.plan.order.order inside c.requires.path c.in_ok-low.ensures.function
+    (subst (λ k. Means c.of_restrictions-2.new.session c.in_ok-high.high (fixed (take (c.args.level + 1) (order_of c.args.store.now.plan)) k (output_at c.args.store.now.plan.problem.value c.args.output))) (path_up 64 c.args.level c.args.path _ (omega arith) refl) c.in_ok-high.ensures.function) m)

@@ -1,5 +1,5 @@
 use Rattle.std.proofs.Common.{◌≡◌, ◌+◌, ◌<◌, ◌++◌, ◌∷◌, [], length, map, sym, ap, subst, ◌∙◌, arith, get_or, false}
-use Rattle.order_model.specs.declared.Ref.TheVariants.{Terminal}
+use Rattle.order_model.specs.declared.diagrams.Ref.TheVariants.{Terminal}
 use Rattle.order_model.specs.Diagrams.{IsBefore}
 use Rattle.sifting.specs.LevelLists.{nodes_of}
 use Rattle.sifting.specs.Cuts.{is_true, Splits, IsBuilt}

@@ -1,6 +1,6 @@
 use Rattle.std.proofs.Common.{◌≡◌, ◌<◌, ℕ, slice_get}
 use Rattle.std.specs.declared.option.Option.TheVariants.{Some}
-use Rattle.order_model.specs.declared.Ref.{Ref}
+use Rattle.order_model.specs.declared.diagrams.Ref.{Ref}
 use Rattle.order_model.specs.Diagrams.{IsBefore}
 use Rattle.solver_tests.proofs.reduced.are_roots.Given as goal
 

@@ -1,8 +1,8 @@
 use Rattle.std.proofs.Common.{ℕ, List, length, map, ◌∙◌, sym, subst}
 use Rattle.std.specs.Slots.{slots_items}
 use Rattle.order_model.specs.Functions.{Function}
-use Rattle.order_model.specs.declared.Node.{Node}
-use Rattle.order_model.specs.declared.Ref.{Ref}
+use Rattle.order_model.specs.declared.diagrams.Node.{Node}
+use Rattle.order_model.specs.declared.diagrams.Ref.{Ref}
 use Rattle.node_words.specs.Meaning.{function_of}
 use Rattle.reached_nodes.specs.Copies.{words_in, IsReducedOf}
 use Rattle.unique_table.proofs.Roots.{ids_known, ids_functions}

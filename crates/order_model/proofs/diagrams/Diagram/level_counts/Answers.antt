@@ -1,6 +1,6 @@
 use Rattle.std.proofs.Common.{◌≡◌, ◌<◌, ℕ, List, length, get_or, sym, ap, ◌∙◌, arith, subst}
 use Rattle.std.specs.List.{All}
-use Rattle.order_model.specs.declared.Node.{Node}
+use Rattle.order_model.specs.declared.diagrams.Node.{Node}
 use Rattle.order_model.specs.Diagrams.{nodes_at, variable_count}
 use Rattle.order_model.specs.OrderedGraphs.{OrderedGraph}
 use Rattle.order_model.proofs.diagrams.Diagram.level_counts.Goals as goal

@@ -15,4 +15,4 @@ pub returns-clause-parts : goal.returns-clause-parts
 returns-clause-parts c =
     let on : Follows c.args.session.now (seated c.look-word.new.seat) = goes_after c.self.inside c.session.inside c.args.self.now c.args.session.now c.self.view_is c.session.view_is c.self.invariant c.session.invariant c.requires.session c.look-word.new.seat c.look-word.ensures.seat 0 c.look-word.ensures.after in
     has_parts (seated c.look-word.new.seat) c.look-word.ensures.after.good.nodes c.args.id c.if-id-lt2.false (on.knows c.args.id c.requires.known) c.look-word.result c.look-word.ensures.found c.node_parts.result
-    c.node_parts.ensures.level c.node_parts.ensures.lower c.node_parts.ensures.upper
+    c.node_parts.ensures.level c.node_parts.ensures.low c.node_parts.ensures.high
