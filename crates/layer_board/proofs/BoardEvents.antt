@@ -10,12 +10,13 @@ use Rattle.atomic_table.specs.Table.{step as table_step, stepped, keeps}
 use Rattle.atomic_table.proofs.Lists.{at_map, set_again}
 use Rattle.subset_layers.specs.Layers.{blocks_of}
 use Rattle.layer_core.specs.Machine.{World, Worker, Claimed, NoMore, Posted, Double, Seen, Empty, Claim, Post, Read, step, place_of, cell_at, claims_block, ends, learns, moved, claimed}
-use Rattle.layer_core.proofs.Lists.{lt-or-le}
 use Rattle.layer_core.proofs.Cases.{claim_next, claim_past, read_empty, read_sees, post_double, post_fills}
-use Rattle.layer_board.specs.Views.{BriefOf, SeatView, layout_of, after}
+use Rattle.layer_core.specs.Settings.{layout_of}
+use Rattle.layer_board.specs.Views.{BriefOf, SeatView, after}
 use Rattle.layer_board.specs.Picture.{Kept, Sat, cell_in, cell_words, counter_of, worker_of, shows, claims, posts, reads, claim_reply, post_reply, read_reply}
 use Rattle.layer_board.proofs.Words.{counter_set, cells_set_counter, counter_read, counter_set_cell, cells_set, cell_read, cell_shown, cells_shown_set, full_word, empty_word}
 use Rattle.layer_board.proofs.Rule.{St, picture_moved, small_counter, posted_at, read_at}
+use Rattle.std.proofs.lemmas.Bool.{cases_lt}
 
 module _ (b : BriefOf) (s : St) (k : Kept b s) (id : ℕ) (v : SeatView) (at : get_elem? s.views id ≡ some v) where
   there : get_elem? (map worker_of s.views) id ≡ some v.worker
@@ -48,7 +49,7 @@ module _ (b : BriefOf) (s : St) (k : Kept b s) (id : ℕ) (v : SeatView) (at : g
       let next : shows b (stepped s 0 ((n + 1) % 2 ^ 64) id [] m.0 keeps) ≡ moved (shows b s) (counter_of s.words + 1) (map cell_in (cell_words s.words)) id (ends v.worker) =
       after_step 0 ((n + 1) % 2 ^ 64) (counter_of s.words + 1) (map cell_in (cell_words s.words)) m (ends v.worker) 1 now same (told.1 (omega (arith, same_blocks))) in
       (λ i. (cond (le-ltb n (length (blocks_of b.layer)) high i) (Claimed n) NoMore, next i)) ∙ sym (claim_past (shows b s) id v.worker there untold (omega arith)))
-      (lt-or-le n (length (blocks_of b.layer)))
+      (cases_lt n (length (blocks_of b.layer)))
 
   -- a step that changes no worker
   nothing_moved : moved (shows b s) (counter_of s.words) (map cell_in (cell_words s.words)) id v.worker ≡ shows b s

@@ -12,13 +12,15 @@ use Rattle.layer_core.specs.Rights.{Right}
 use Rattle.layer_core.proofs.Runs.{cells_are}
 use Rattle.layer_board.specs.declared.boards.CloseError.{CloseError}
 use Rattle.layer_board.specs.declared.boards.CloseError.TheVariants.{Missing, OutOfMemory}
-use Rattle.layer_board.specs.Views.{BriefOf, SeatOf, SeatView, cell_for, layout_of, knows_place}
+use Rattle.layer_core.specs.Settings.{cell_for, layout_of}
+use Rattle.layer_board.specs.Views.{BriefOf, SeatOf, SeatView, knows_place}
 use Rattle.layer_board.specs.Picture.{Kept, IsCellAt, picture, worker_of, cell_words, cell_in}
-use Rattle.layer_board.specs.Pairing.{pair_of}
+use Rattle.layer_core.specs.Pairing.{pair_of}
 use Rattle.layer_board.specs.Refusals.{Lacks, IsFirstGap}
-use Rattle.layer_board.proofs.Layouts.{place_found, length-map_lem}
+use Rattle.layer_core.proofs.Layouts.{place_found, length-map_lem}
 use Rattle.layer_board.proofs.Words.{cell_shown, empty_word, shown_empty}
 use Rattle.layer_board.proofs.Rule.{St}
+use Rattle.std.proofs.lemmas.Bool.{false_from_ne_true}
 
 unwrapped : {X : Type 0} → X → Option X → X
 unwrapped x None = x
@@ -43,10 +45,6 @@ some_there : {A X : Type 0} (f : A → X) (xs : List A) (p : ℕ) → p < length
 some_there f [] p h = absurd (omega arith)
 some_there f (x ∷ xs) zero h = λ e. cc
 some_there f (x ∷ xs) (suc p) h = some_there f xs p (omega arith)
-
-decide : (t : Bool) → (t ≡ true → ⊥) → t ≡ false
-decide true h = absurd (h refl)
-decide false h = refl
 
 module _ (b : BriefOf) (V : SeatView) (id : ℕ) (s : St) (k : Kept b s) (at : get_elem? s.views id ≡ some V) (ws : List ℕ) (is : s.words ≡ ws) where
   last : World
@@ -76,7 +74,7 @@ module _ (b : BriefOf) (V : SeatView) (id : ℕ) (s : St) (k : Kept b s) (at : g
       let p : ℕ = gap.0 in let there = place_found b.layer p mask gap.1 in
       let same : (q : ℕ) → cell_at (picture b.layer s.words s.views) q ≡ cell_in (get_or (cell_words ws) q 0) = λ q. cell_shown (cell_words s.words) q ∙ ap (λ z. cell_in (get_or (cell_words z) q 0)) is in
       let empty : cell_at (picture b.layer s.words s.views) p ≡ None = same p ∙ empty_word (get_or (cell_words ws) p 0) gap.2 in
-      let unknown : knows V.worker p ≡ false = decide (knows V.worker p) (λ known. k.right.known id V.worker (at_map worker_of s.views id V at) p known empty) in record {
+      let unknown : knows V.worker p ≡ false = false_from_ne_true (knows V.worker p) (λ known. k.right.known id V.worker (at_map worker_of s.views id V at) p known empty) in record {
         unknown = (λ i. knows_place (worker i) (place_of (layout_of (brief i).layer) mask)) ∙ (ap (knows_place V.worker) there ∙ unknown);
         last = picture b.layer s.words s.views;
         is_last = record { right = subst (λ (z : BriefOf). Right (IsCellAt z.setting) (picture b.layer s.words s.views)) (sym brief) k.right; layout = ap (λ (z : BriefOf). layout_of z.layer) (sym brief); seat = id; has = at_map worker_of s.views id V at ∙ ap some (sym worker) };

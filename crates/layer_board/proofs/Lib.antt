@@ -1,7 +1,3 @@
-pub mod Positions
-pub mod Layouts
-pub mod SmallCells
-pub mod CoreSteps
 pub mod Words
 pub mod Rule
 pub mod Seated

@@ -14,14 +14,16 @@ use Rattle.subset_layers.specs.Layers.{LayerOf, masks_of, blocks_of}
 use Rattle.layer_core.specs.Machine as machine
 use Rattle.layer_core.specs.Machine.{World, Worker, cell_at, claims_block, ends, learns, moved, claimed, knows, blank}
 use Rattle.layer_core.specs.Rights.{Right, weight, total, told_number}
-use Rattle.layer_core.proofs.Lists.{each_set, each_snoc, length-same, lt-or-le}
+use Rattle.layer_core.proofs.Lists.{each_set, each_snoc, length-same}
 use Rattle.layer_core.proofs.Sums.{sum_at}
 use Rattle.layer_core.proofs.Starts.{right_opening, right_joined, total_snoc}
 use Rattle.layer_core.proofs.Steps.{right_drawn, right_ended, right_learned, right_filled, filled_is_mine, claims_below}
-use Rattle.layer_board.specs.Views.{cell_for, BriefOf, SeatView, layout_of, fresh, after}
+use Rattle.layer_core.specs.Settings.{cell_for, layout_of}
+use Rattle.layer_board.specs.Views.{BriefOf, SeatView, fresh, after}
 use Rattle.layer_board.specs.Picture.{Kept, IsCellAt, IsCellWord, cell_in, counter_of, cell_words, worker_of, picture, first_view, one_left, Sat, claims, posts, reads, posts_at, reads_at}
-use Rattle.layer_board.proofs.Layouts.{laid, few_blocks}
+use Rattle.layer_core.proofs.Layouts.{laid, few_blocks}
 use Rattle.layer_board.proofs.Words.{counter_set, cells_set_counter, counter_read, counter_set_cell, cells_set, cell_read, full_word, empty_word, cell_shown, cells_shown_set, no_words, shown_empty}
+use Rattle.std.proofs.lemmas.Bool.{cases_lt}
 
 abbrev pub St : Type 0
 St = State (Unit {0}) SeatView
@@ -47,7 +49,7 @@ words_set ns p n all one q full = dite (ℕ_discrete q p)
     by _ same = ⊎_elim
         (λ (low : p < length ns). subst (λ (k : ℕ). IsCellWord (get_or (set ns p n) k 0)) (sym same) (subst IsCellWord (sym (get_or-set_same ns p n 0 low)) one))
         (λ (high : length ns ≤ p). absurd (full (ap (λ (k : ℕ). get_or (set ns p n) k 0) same ∙ past (set ns p n) p (omega (arith, length-set ns p n)))))
-        (lt-or-le p (length ns))
+        (cases_lt p (length ns))
       where
         past : (xs : List ℕ) (k : ℕ) → length xs ≤ k → get_or xs k 0 ≡ 0
         past [] k h = refl
@@ -109,7 +111,7 @@ module _ (b : BriefOf) (slots id : ℕ) (me : Sat) where
         placed b s k 0 ((n + 1) % 2 ^ 64) id (counter_of s.words + 1) (map cell_in (cell_words s.words)) v w at refl refl now (ap (map cell_in) same) words (right_ended (IsCellAt b.setting) old id v.worker k.right there untold (omega arith)),
         ((λ low. absurd (omega arith)), (λ _. refl)),
       ))
-      (lt-or-le n (length (blocks_of v.brief.layer)))
+      (cases_lt n (length (blocks_of v.brief.layer)))
 
   -- what nothing changes
   still_kept : (s : St) → Kept b s → get_elem? s.views id ≡ some v → (p : ℕ) → Kept b record { words = set s.words (suc p) (get_or s.words (suc p) 0); homes = s.homes; views = set s.views id (after v v.worker 0) }

@@ -3,12 +3,13 @@ use Rattle.std.proofs.Common.{◌≡◌, ℕ, ◌+◌, ◌<◌, Bool, true, fals
 use Rattle.std.proofs.lemmas.Option.{slice_get_within, get_or_from_slice_get}
 use Rattle.subset_layers.specs.Layers.{LayerOf, masks_of, blocks_of, block_place}
 use Rattle.layer_core.specs.Machine.{Worker, place_of, learns, claimed, knows}
-use Rattle.layer_board.specs.declared.seats.Board.TheInside as board
+use Rattle.layer_board.specs.declared.boards.Board.TheInside as board
 use Rattle.layer_board.specs.declared.seats.BoardSeat.TheInside as seat
-use Rattle.layer_board.specs.Views.{BriefOf, BoardId, SeatOf, ResultOf, after, stepped, layout_of, cell_for, claims_place, knows_place, learns_place, has_claimed, knows_filled, learned, found_empty, found_empty_at}
+use Rattle.layer_core.specs.Settings.{ResultOf, layout_of, cell_for}
+use Rattle.layer_board.specs.Views.{BriefOf, BoardId, SeatOf, after, stepped, claims_place, knows_place, learns_place, has_claimed, knows_filled, learned, found_empty, found_empty_at}
 use Rattle.layer_board.specs.Held.{board_shown, seat_shown, view_of, IsBoard, IsSeat}
-use Rattle.layer_board.proofs.Layouts.{place_found, block_at}
-use Rattle.layer_board.proofs.CoreSteps.{mark_at}
+use Rattle.layer_core.proofs.Layouts.{place_found, block_at}
+use Rattle.layer_core.proofs.CoreSteps.{mark_at}
 
 -- a seat after a step, from its new view
 pub shown_after : (s s' : seat.Inside) (w : Worker) (wrote : ℕ) → s'.seat.table_id ≡ s.seat.table_id → s'.seat.me ≡ (after (view_of s) w wrote, s.seat.me.1) → seat_shown s' ≡ stepped (seat_shown s) w wrote

@@ -4,7 +4,8 @@ use mathlib.Core.Option.{some}
 use lib.ListN.{get_elem?}
 use Rattle.layer_core.specs.Machine.{World, Worker, cell_at}
 use Rattle.layer_core.specs.Rights.{Right}
-use Rattle.layer_board.specs.Views.{BriefOf, SeatOf, layout_of, knows_filled}
+use Rattle.layer_core.specs.Settings.{layout_of}
+use Rattle.layer_board.specs.Views.{BriefOf, SeatOf, knows_filled}
 use Rattle.layer_board.specs.Picture.{IsCellAt}
 
 -- the mask's cell is empty, and that of each mask before it is filled

@@ -1,7 +1,7 @@
 -- What a board and a seat show and keep.
 use Rattle.std.specs.Prelude.{◌≡◌, ◌+◌, ◌^◌, ◌≤◌, [], length}
 use Rattle.subset_layers.specs.Layers.{masks_of, blocks_of}
-use Rattle.layer_board.specs.declared.seats.Board.TheInside as board
+use Rattle.layer_board.specs.declared.boards.Board.TheInside as board
 use Rattle.layer_board.specs.declared.seats.BoardSeat.TheInside as seat
 use Rattle.layer_board.specs.Views.{BoardId, SeatOf, SeatView}
 

@@ -1,10 +1,5 @@
 pub mod Views
-pub mod Pairing
-pub mod Results
 pub mod Picture
 pub mod Closing
 pub mod Refusals
 pub mod Held
-pub mod Events
-pub mod Marked
-pub mod Shown

@@ -11,7 +11,8 @@ use Rattle.atomic_table.specs.Table.{State, Me, Step}
 use Rattle.subset_layers.specs.Layers.{LayerOf, masks_of, blocks_of}
 use Rattle.layer_core.specs.Machine.{World, Worker, Reply, Claimed, NoMore, Posted, Double, Seen, Empty, claims_block, ends, learns, claimed, knows}
 use Rattle.layer_core.specs.Rights.{Right, total}
-use Rattle.layer_board.specs.Views.{Setting, cell_for, BriefOf, SeatView, layout_of, fresh, after}
+use Rattle.layer_core.specs.Settings.{Setting, cell_for, layout_of}
+use Rattle.layer_board.specs.Views.{BriefOf, SeatView, fresh, after}
 
 -- the cell that a word stands for: none for 0
 abbrev pub cell_in : ℕ → Option (ℕ × ℕ)

@@ -1,30 +1,11 @@
--- What a board is for, what a seat at it knows, and what contracts see of a board, a seat, a claim and a result.
---     Setting, cell_for t mask      what cells are for; the cell of a mask
+-- What a board is for, what a seat at it knows, and what contracts see of a board, a seat and a claim.
 --     BriefOf, SeatView      what a board is for; what the seat of a worker knows
---     layout_of l      the masks and blocks of a layer, as the machine has them
---     BoardId, SeatOf, ClaimOf, ResultOf      a board, a seat, a claim, the cell of a mask
-use Rattle.std.specs.Prelude.{ℕ, ◌+◌, Bool, false, [], map, length, get_or, Option, Some, None, if◌then◌else◌}
-use Rattle.std.specs.List.{range_with_len}
-use Rattle.order_model.specs.Cells.{cell_of}
+--     BoardId, SeatOf, ClaimOf      a board, a seat, a claim
+use Rattle.std.specs.Prelude.{ℕ, ◌+◌, Bool, false, [], length, get_or, Option, Some, None, if◌then◌else◌}
 use Rattle.atomic_table.specs.Seated.{TableId}
-use Rattle.subset_layers.specs.Layers.{LayerOf, BlockOf, masks_of, blocks_of, block_place}
-use Rattle.layer_core.specs.Machine.{Layout, Worker, unmarked, claimed, knows, place_of, ends, learns}
-use Rattle.order_model.specs.Problems.{TruthTables, functions}
-use Rattle.order_model.specs.KeptPairs.{KeptPairs}
-
--- what cells are for: the functions, the pairs that an order must keep, and the bound
-pub record Setting : Type 0 where
-  pub problem : TruthTables
-  pub pairs : KeptPairs
-  pub bound : ℕ
-
--- the cell (cost, variable) of a mask
-abbrev pub cell_for : Setting → ℕ → ℕ × ℕ
-cell_for t mask = cell_of t.problem.inputs (functions t.problem) t.pairs.pairs t.bound mask
-
--- the masks of a layer, and their blocks
-abbrev pub layout_of : LayerOf → Layout
-layout_of l = record { masks = masks_of l; block_of = map (block_place l) (range_with_len 0 (length (masks_of l))); blocks = length (blocks_of l) }
+use Rattle.subset_layers.specs.Layers.{LayerOf, BlockOf, masks_of, blocks_of}
+use Rattle.layer_core.specs.Machine.{Worker, unmarked, claimed, knows, place_of, ends, learns}
+use Rattle.layer_core.specs.Settings.{Setting, layout_of}
 
 -- what a board is for: the cells of a layer, for some workers
 pub record BriefOf : Type 0 where
@@ -71,12 +52,6 @@ stepped s w wrote = record { board = s.board; worker = w; steps = s.steps + 1; w
 pub record ClaimOf : Type 0 where
   pub place : ℕ
   pub block : BlockOf
-
--- a mask with its cell, and what the cell is for
-pub record ResultOf : Type 0 where
-  pub setting : Setting
-  pub mask : ℕ
-  pub cell : ℕ × ℕ
 
 abbrev pub claims_place : LayerOf → Worker → Option ℕ → Bool
 claims_place l w None = false

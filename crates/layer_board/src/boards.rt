@@ -1,21 +1,24 @@
-//! What workers do at a board.
+//! The board of a layer, and what workers do at it.
 
 ghost use Rattle.std.specs.Prelude.{◌≡◌, ◌≢◌, ℕ, ◌+◌, ◌-◌, ◌^◌, ◌<◌, ◌≤◌, true, false, [], Some, All, IfOk, IfErr, IfSome, IsNone, IsTrue, slice_get, slice_index, length, vec_len, map, take, replicate};
 ghost use Rattle.subset_layers.specs.Layers.{masks_of, blocks_of};
 ghost use Rattle.layer_core.specs.Machine.{claimed, claims_block};
-ghost use Rattle.layer_board.specs.Views.{cell_for, fresh, first_seat, stepped, no_more, found_empty, has_claimed, knows_filled, learned};
-ghost use Rattle.layer_board.specs.Pairing.{pair_of};
+ghost use Rattle.layer_core.specs.Settings.{cell_for};
+ghost use Rattle.layer_board.specs.Views.{fresh, first_seat, stepped, no_more, found_empty, has_claimed, knows_filled, learned};
+ghost use Rattle.layer_core.specs.Pairing.{pair_of};
 ghost use Rattle.layer_board.specs.Picture.{IsCellWord, cell_in, cell_words};
 ghost use Rattle.layer_board.specs.Refusals.{Refuses, Lacks, IsFirstGap};
 ghost use Rattle.std.specs.Slots.{slots_items, slots_len, IsFull};
 
-use crate::plays::{Claims, NewSeat, Posts, Reads};
-use crate::results::{CellResult, cell_of_word};
-use crate::seats::{Board, BoardSeat, Claim};
+use crate::cell_words::{cell_of_word, word_of_cell};
+use crate::plays::{BoardRule, Claims, NewSeat, Posts, Reads};
+use crate::seats::{BoardSeat, Claim};
 use crate::views::{Brief, Knowledge};
 use atomic_table::{Closed, Seat, Table};
+use layer_core::CellResult;
 use order_model::{Mask, Pairs, Problem, Workers};
 use std::alloc::{AllocError, Global};
+use std::marker::Model;
 use std::snapshot::Snapshot;
 use subset_layers::{Cell, Layer};
 
@@ -34,6 +37,25 @@ pub enum CloseError {
     /// The least mask whose cell is empty.
     Missing(Mask),
     OutOfMemory,
+}
+
+/// The cells of a layer, which threads claim by blocks and fill.
+#[derive(Drop)]
+pub struct Board {
+    pub(crate) table: Table<(), Knowledge, Brief, BoardRule, Global>,
+    pub(crate) layer: Layer,
+}
+
+impl Model for Board {
+    ghost use Rattle.layer_board.specs.Views.{BoardId};
+
+    ghost Value = { BoardId };
+
+    ghost use Rattle.layer_board.specs.Held.{board_shown, IsBoard};
+
+    ghost view = { board_shown };
+
+    ghost invariant = { IsBoard };
 }
 
 impl Board {
@@ -130,7 +152,7 @@ impl Board {
         if !seat.claims[self.layer.block_place(place)] {
             return Err(PostRefused::Stranger);
         }
-        let word = cell.word();
+        let word = word_of_cell(&cell);
         let shared = &self.table.shared;
         let found = shared.compare_exchange::<Posts>(&mut seat.seat, place + 1, 0, word);
         if found == 0 {
@@ -176,26 +198,6 @@ impl Board {
         let cells = gather(alloc, &closed, &layer);
         closed.free();
         cells
-    }
-}
-
-impl BoardSeat {
-    /// The seat of a worker that made no step, at a board of some blocks.
-    fn first(
-        alloc: Global,
-        seat: Seat<(), Knowledge>,
-        blocks: usize,
-    ) -> Result<BoardSeat, AllocError>
-        requires view { seat.me ≡ (fresh (seat.me.0).brief 1, []) }
-        requires blocks { blocks ≡ length (blocks_of (seat.me.0).brief.layer) }
-        ensures { IfOk result (λ s. s ≡ first_seat record { table = seat.table_id; brief = (seat.me.0).brief }) }
-    {
-        let claims = vec![in alloc; false; blocks]?;
-        Ok(BoardSeat {
-            seat,
-            claims,
-            told: false,
-        })
     }
 }
 

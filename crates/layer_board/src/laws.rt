@@ -8,7 +8,8 @@ ghost use Rattle.atomic_table.specs.Table.{State, step as table_step, stepped, k
 ghost use Rattle.subset_layers.specs.Layers.{blocks_of};
 ghost use Rattle.layer_core.specs.Machine.{Claim, Post, Read, step, place_of, claimed};
 ghost use Rattle.layer_core.specs.Rights.{Right};
-ghost use Rattle.layer_board.specs.Views.{BriefOf, SeatView, layout_of};
+ghost use Rattle.layer_core.specs.Settings.{layout_of};
+ghost use Rattle.layer_board.specs.Views.{BriefOf, SeatView};
 ghost use Rattle.layer_board.specs.Picture.{Kept, IsCellAt, Sat, cell_in, shows, claims, posts, reads, claim_reply, post_reply, read_reply};
 
 /// Between any two steps on the table, the words and the seats show a right state of the machine.

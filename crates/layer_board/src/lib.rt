@@ -1,19 +1,14 @@
-//! The machine of a layer and the board on which threads run it.
+//! The board on which threads run a layer's machine.
 #![tactic(auto)]
 
 mod boards;
-mod events;
+mod cell_words;
 pub mod laws;
-mod machine;
 mod plays;
-mod results;
 mod seats;
 mod views;
 
-pub use boards::{CloseError, PostRefused};
-pub use events::{Event, Reply};
-pub use machine::Core;
+pub use boards::{Board, CloseError, PostRefused};
 pub use plays::BoardRule;
-pub use results::CellResult;
-pub use seats::{Board, BoardSeat, Claim};
+pub use seats::{BoardSeat, Claim};
 pub use views::{Brief, Knowledge};

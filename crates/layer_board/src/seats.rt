@@ -1,32 +1,14 @@
-//! The board of a layer and the seats of its workers.
+//! The seats of a board's workers, and the blocks that they claim.
 
-ghost use Rattle.std.specs.Prelude.{◌≡◌};
+ghost use Rattle.std.specs.Prelude.{◌≡◌, [], IfOk, length};
+ghost use Rattle.subset_layers.specs.Layers.{blocks_of};
+ghost use Rattle.layer_board.specs.Views.{first_seat, fresh};
 
-use crate::plays::BoardRule;
-use crate::views::{Brief, Knowledge};
-use atomic_table::{Seat, Table};
-use std::alloc::Global;
+use crate::views::Knowledge;
+use atomic_table::Seat;
+use std::alloc::{AllocError, Global};
 use std::marker::Model;
-use subset_layers::{Block, Layer};
-
-/// The cells of a layer, which threads claim by blocks and fill.
-#[derive(Drop)]
-pub struct Board {
-    pub(crate) table: Table<(), Knowledge, Brief, BoardRule, Global>,
-    pub(crate) layer: Layer,
-}
-
-impl Model for Board {
-    ghost use Rattle.layer_board.specs.Views.{BoardId};
-
-    ghost Value = { BoardId };
-
-    ghost use Rattle.layer_board.specs.Held.{board_shown, IsBoard};
-
-    ghost view = { board_shown };
-
-    ghost invariant = { IsBoard };
-}
+use subset_layers::Block;
 
 /// A worker's seat at a board, with a mark for each block that it claimed.
 #[derive(Drop)]
@@ -46,6 +28,26 @@ impl Model for BoardSeat {
     ghost view = { seat_shown };
 
     ghost invariant = { IsSeat };
+}
+
+impl BoardSeat {
+    /// The seat of a worker that made no step, at a board of some blocks.
+    pub(crate) fn first(
+        alloc: Global,
+        seat: Seat<(), Knowledge>,
+        blocks: usize,
+    ) -> Result<BoardSeat, AllocError>
+        requires view { seat.me ≡ (fresh (seat.me.0).brief 1, []) }
+        requires blocks { blocks ≡ length (blocks_of (seat.me.0).brief.layer) }
+        ensures { IfOk result (λ s. s ≡ first_seat record { table = seat.table_id; brief = (seat.me.0).brief }) }
+    {
+        let claims = vec![in alloc; false; blocks]?;
+        Ok(BoardSeat {
+            seat,
+            claims,
+            told: false,
+        })
+    }
 }
 
 /// A block that a worker claimed, and its place in the layer.

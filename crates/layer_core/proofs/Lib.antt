@@ -4,3 +4,7 @@ pub mod Steps
 pub mod Starts
 pub mod Runs
 pub mod Cases
+pub mod Positions
+pub mod Layouts
+pub mod SmallCells
+pub mod CoreSteps

@@ -1,9 +1,10 @@
 -- Lists of which one element is replaced or one is added at the end.
-use Rattle.std.proofs.Common.{◌≡◌, ◌≢◌, ℕ, zero, suc, ◌<◌, ◌≤◌, ◌⊎◌, Bool, true, false, List, [], ◌∷◌, ◌++◌, replicate, set, get_or, length, get_or-set_same, get_or-set_other, sym, refl, ap, ◌∙◌, subst, inl, inr, ⊎_elim, arith}
+use Rattle.std.proofs.Common.{◌≡◌, ◌≢◌, ℕ, zero, suc, ◌<◌, ◌≤◌, ◌⊎◌, Bool, true, false, List, [], ◌∷◌, ◌++◌, map, replicate, set, get_or, length, get_or-set_same, get_or-set_other, sym, refl, ap, ◌∙◌, subst, inl, inr, ⊎_elim, arith}
 use mathlib.Core.Option.{some, some-injective, some-ne-none}
 use mathlib.Core.Logic.{dite}
 use native.Mathlib.Decide.{ℕ_discrete}
 use lib.ListN.{get_elem?}
+use Rattle.std.proofs.lemmas.Bool.{cases_lt}
 
 module _ {A : Type 0} where
   at_set : (l : List A) (i j : ℕ) (a b : A) → get_elem? (set l i a) j ≡ some b → ((j ≡ i) × (a ≡ b)) ⊎ ((j ≢ i) × (get_elem? l j ≡ some b))
@@ -17,6 +18,16 @@ module _ {A : Type 0} where
   set_here [] i a h = absurd (omega arith)
   set_here (x ∷ xs) zero a h = refl
   set_here (x ∷ xs) (suc i) a h = set_here xs i a (omega arith)
+
+  pub at_index : (l : List A) (i : ℕ) (a : A) → i < length l → a ≡ get_or l i a → get_elem? l i ≡ some a
+  at_index [] i a h e = absurd (omega arith)
+  at_index (x ∷ xs) zero a h e = ap some (sym e)
+  at_index (x ∷ xs) (suc i) a h e = at_index xs i a (omega arith) e
+
+  pub at_map : {B : Type 0} (f : A → B) (l : List A) (i : ℕ) (a : A) → get_elem? l i ≡ some a → get_elem? (map f l) i ≡ some (f a)
+  at_map f [] i a e = absurd (some-ne-none a (sym e))
+  at_map f (x ∷ xs) zero a e = ap (λ (y : A). some (f y)) (some-injective x a e)
+  at_map f (x ∷ xs) (suc i) a e = at_map f xs i a e
 
   set_else : (l : List A) (i j : ℕ) (a : A) → j ≢ i → get_elem? (set l i a) j ≡ get_elem? l j
   set_else [] i j a n = refl
@@ -88,6 +99,3 @@ pub marked_inside : (xs : List Bool) (p : ℕ) → get_or xs p false ≡ true �
 marked_inside [] p h = cc
 marked_inside (x ∷ xs) zero h = omega arith
 marked_inside (x ∷ xs) (suc p) h = let r = marked_inside xs p h in omega arith
-
-pub lt-or-le : (a b : ℕ) → (a < b) ⊎ (b ≤ a)
-lt-or-le a b = grind arith

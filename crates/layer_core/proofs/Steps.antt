@@ -6,8 +6,9 @@ use native.Mathlib.Decide.{ℕ_discrete}
 use lib.ListN.{get_elem?}
 use Rattle.layer_core.specs.Machine.{World, Worker, cell_at, claims_block, ends, learns, moved, claimed, knows}
 use Rattle.layer_core.specs.Rights.{Right, weight, total}
-use Rattle.layer_core.proofs.Lists.{each_set, bounded, found_set, set_here, inside, marked_more, marked_less, marked_inside, lt-or-le}
+use Rattle.layer_core.proofs.Lists.{each_set, bounded, found_set, set_here, inside, marked_more, marked_less, marked_inside}
 use Rattle.layer_core.proofs.Sums.{sum_at, sum_one, sum_two}
+use Rattle.std.proofs.lemmas.Bool.{cases_lt}
 
 one_of : (b : Bool) → b ≡ true → weight b ≡ 1
 one_of b e = ap weight e
@@ -115,11 +116,11 @@ module _ (C : ℕ → ℕ × ℕ → Type 0) where
       let most : total f s.workers ≤ 1 = at_most_one s (get_or s.layout.block_of p 0) r placed in absurd (omega arith))
     where
       at_most_one : (s : World) (b : ℕ) → Right C s → b < s.layout.blocks → total (λ (u : Worker). weight (claimed u b)) s.workers ≤ 1
-      at_most_one s b r inside = ⊎_elim (λ (low : b < s.counter). let e = r.below b inside low in omega arith) (λ (high : s.counter ≤ b). let e = r.above b inside high in omega arith) (lt-or-le b s.counter)
+      at_most_one s b r inside = ⊎_elim (λ (low : b < s.counter). let e = r.below b inside low in omega arith) (λ (high : s.counter ≤ b). let e = r.above b inside high in omega arith) (cases_lt b s.counter)
 
   -- a worker's claims lie below the counter
   pub claims_below : (s : World) (i : ℕ) (w : Worker) → Right C s → get_elem? s.workers i ≡ some w → (b : ℕ) → claimed w b ≡ true → b < s.counter
   claims_below s i w r at b mine = ⊎_elim (λ low. low)
       (λ (high : s.counter ≤ b). let inside : b < s.layout.blocks = subst (λ (z : ℕ). b < z) (r.marks i w at).0 (marked_inside w.claims b mine) in
       let none_has = r.above b inside high in let one = sum_one (λ (u : Worker). weight (claimed u b)) s.workers i w at in let is : weight (claimed w b) ≡ 1 = ap weight mine in absurd (omega arith))
-      (lt-or-le b s.counter)
+      (cases_lt b s.counter)

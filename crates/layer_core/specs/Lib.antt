@@ -1,2 +1,8 @@
 pub mod Machine
 pub mod Rights
+pub mod Pairing
+pub mod Settings
+pub mod Results
+pub mod Events
+pub mod Marked
+pub mod Shown

@@ -18,7 +18,7 @@ use Rattle.order_model.proofs.Bits.Masks.{members_small}
 use Rattle.subset_layers.specs.Layers.{LayerOf, BlockOf, layer_of, layer_with, masks_of, block_masks, low_byte}
 use Rattle.subset_layers.specs.Costs.{CostsOf, cost_without, AreTrueCosts, AreWidthsFor}
 use Rattle.subset_layers.proofs.BlockLists.{has_slice_get}
-use Rattle.layer_board.specs.Views.{Setting, cell_for}
+use Rattle.layer_core.specs.Settings.{Setting, cell_for}
 use Rattle.compaction.specs.Rows.{width_wanted, IsRow, AreMembers, AreRows, wanted_count}
 use Rattle.order_solve.specs.Benches.{BenchOf, HoldsBench}
 use Rattle.order_solve.specs.Needs.{affordable, needed}

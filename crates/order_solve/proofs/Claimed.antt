@@ -19,8 +19,9 @@ use Rattle.order_model.proofs.Widths.Recurrence.{distinct_filter, distinct_varia
 use Rattle.subset_layers.specs.Layers.{LayerOf, BlockOf, layer_of, block_of, masks_of, block_masks, blocks_of, low_bytes, low_byte, block_place}
 use Rattle.subset_layers.proofs.BlockLists.{place_below, low_bytes_has, blocks_length, block_at as block_there, slice_get_at}
 use Rattle.layer_core.specs.Machine.{claimed, claims_block}
-use Rattle.layer_board.specs.Views.{Setting, BoardId, SeatOf, stepped, claims_place, has_claimed}
-use Rattle.layer_board.proofs.Layouts.{place_found, place_missing, block_at, few_masks_in}
+use Rattle.layer_core.specs.Settings.{Setting}
+use Rattle.layer_board.specs.Views.{BoardId, SeatOf, stepped, claims_place, has_claimed}
+use Rattle.layer_core.proofs.Layouts.{place_found, place_missing, block_at, few_masks_in}
 use Rattle.order_solve.specs.Gains.{gains, gained, width_count, widths_for}
 
 -- ---- a mask and its block

@@ -18,7 +18,7 @@ use Rattle.order_model.specs.Cells.{cell_of, wanted}
 use Rattle.order_model.proofs.Widths.SizeBounds.{size_bound}
 use Rattle.subset_layers.specs.declared.costs.Cell.{Cell}
 use Rattle.order_solve.specs.Needs.{needed}
-use Rattle.layer_board.specs.Pairing.{pair_of}
+use Rattle.layer_core.specs.Pairing.{pair_of}
 use Rattle.order_model.specs.Pairs.{Pair}
 use Rattle.order_model.specs.Problems.{functions}
 use Rattle.order_model.specs.Levels.{subfunctions, reach, dependents, level_count, level_counts, size_under}
@@ -26,8 +26,8 @@ use Rattle.subset_layers.specs.Layers.{layer_with, masks_of}
 use Rattle.subset_layers.specs.Costs.{CostsOf, start_costs, layer_of_costs, as_pair, AreTrueCosts, AreTrueCells}
 use Rattle.subset_layers.proofs.BlockLists.{masks_has}
 use Rattle.subset_layers.proofs.Sizes.{ones-members}
-use Rattle.layer_board.specs.Views.{Setting, cell_for}
-use Rattle.layer_board.proofs.Layouts.{length-map_lem}
+use Rattle.layer_core.specs.Settings.{Setting, cell_for}
+use Rattle.layer_core.proofs.Layouts.{length-map_lem}
 use Rattle.order_solve.specs.Benches.{IsLayerFor}
 use Rattle.order_solve.specs.Bounded.{IsBounded, AreLayersFor}
 use Rattle.order_solve.proofs.Claimed.{length_filter_le}

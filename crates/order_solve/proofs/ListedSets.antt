@@ -16,7 +16,7 @@ use Rattle.order_model.specs.Certificates.{Cell, least_listed, listed_masks}
 use Rattle.order_model.proofs.Widths.Cells.{cost_known}
 use Rattle.order_model.proofs.Certificates.Listed.{listed_by_cells}
 use Rattle.subset_layers.proofs.Choosing.{filter_range_more}
-use Rattle.layer_board.specs.Views.{Setting}
+use Rattle.layer_core.specs.Settings.{Setting}
 use Rattle.order_model.specs.declared.listed_cells.ListedCell.{ListedCell}
 use Rattle.order_solve.specs.Needs.{needed}
 use Rattle.order_solve.specs.Gains.{width_count}

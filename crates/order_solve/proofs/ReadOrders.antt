@@ -33,7 +33,7 @@ use Rattle.order_model.proofs.Precedence.Greedy.{pow_le_bit}
 use Rattle.order_model.proofs.Functions.Exchange.{above_width, level_lem}
 use Rattle.order_model.proofs.Widths.Clipped.{clip, clip_unclipped}
 use Rattle.subset_layers.proofs.Sizes.{ones-members}
-use Rattle.layer_board.specs.Views.{Setting, cell_for}
+use Rattle.layer_core.specs.Settings.{Setting, cell_for}
 use Rattle.order_solve.specs.Bounded.{IsBounded}
 use Rattle.order_model.proofs.Widths.SizeBounds.{order_length}
 

@@ -8,7 +8,8 @@ use Rattle.order_model.specs.Orders.{has}
 use Rattle.order_model.proofs.Lists.Orders.{has_filter}
 use Rattle.subset_layers.specs.Layers.{LayerOf, BlockOf, masks_of, blocks_of, block_masks, layer_of, low_byte}
 use Rattle.layer_core.specs.Machine.{place_of, claimed, claims_block}
-use Rattle.layer_board.specs.Views.{Setting, BoardId, SeatOf, layout_of, stepped, knows_place, has_claimed, knows_filled}
+use Rattle.layer_core.specs.Settings.{Setting, layout_of}
+use Rattle.layer_board.specs.Views.{BoardId, SeatOf, stepped, knows_place, has_claimed, knows_filled}
 use Rattle.order_solve.specs.Gains.{gains, gained, widths_for, StaysClaimed, IsPosted}
 use Rattle.order_solve.proofs.Filters.{filter_none}
 use Rattle.order_solve.proofs.Posts.{claimed_same}

@@ -10,7 +10,7 @@ use Rattle.order_model.specs.Certificates.{certificate_of, least_listed, listed_
 use Rattle.order_model.specs.Diagrams.{FewestKeeping}
 use Rattle.order_model.proofs.Functions.Exchange.{size_is_cost}
 use Rattle.order_model.proofs.Widths.Fewest.{has_fewest_lem, fewest_is_least}
-use Rattle.layer_board.specs.Views.{Setting}
+use Rattle.layer_core.specs.Settings.{Setting}
 use Rattle.order_solve.specs.Bounded.{IsBounded}
 use Rattle.order_solve.proofs.ReadOrders.{order_first, order_is, order_unclipped, left, left_cost}
 

@@ -26,7 +26,7 @@ use Rattle.subset_layers.specs.Layers.{masks_of, layer_with}
 use Rattle.subset_layers.specs.Costs.{CostsOf, cost_without, AreTrueCosts}
 use Rattle.subset_layers.proofs.CostLists.{less_one}
 use Rattle.subset_layers.proofs.Sizes.{ones-members}
-use Rattle.layer_board.specs.Views.{Setting}
+use Rattle.layer_core.specs.Settings.{Setting}
 use Rattle.order_solve.specs.Needs.{affordable, needed}
 use Rattle.order_solve.specs.Gains.{width_count, widths_for}
 use Rattle.order_solve.proofs.Filters.{filter_twice, filter_none, sum_map}

@@ -9,7 +9,7 @@ use Rattle.order_model.specs.KeptPairs.{KeptPairs}
 use Rattle.order_model.specs.Widths.{essential_mask}
 use Rattle.subset_layers.specs.Layers.{LayerOf, layer_with}
 use Rattle.subset_layers.specs.Costs.{CostsOf, AreTrueCosts, AreTrueCells}
-use Rattle.layer_board.specs.Views.{Setting}
+use Rattle.layer_core.specs.Settings.{Setting}
 
 -- what the cells are for, the layer, and the costs of the layer before
 pub record BenchOf : Type 0 where

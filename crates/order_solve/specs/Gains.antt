@@ -7,7 +7,8 @@ use Rattle.std.specs.List.{filter, sum}
 use Rattle.order_model.specs.Problems.{functions}
 use Rattle.order_model.specs.Cells.{wanted}
 use Rattle.subset_layers.specs.Layers.{masks_of}
-use Rattle.layer_board.specs.Views.{Setting, SeatOf, has_claimed, knows_filled}
+use Rattle.layer_core.specs.Settings.{Setting}
+use Rattle.layer_board.specs.Views.{SeatOf, has_claimed, knows_filled}
 
 -- whether the seat claimed the block of a mask from s to s'
 abbrev pub gains : SeatOf → SeatOf → ℕ → Bool

@@ -7,7 +7,7 @@ use Rattle.order_model.specs.Orders.{members, mask_of}
 use Rattle.order_model.specs.Problems.{functions}
 use Rattle.order_model.specs.Cells.{wanted}
 use Rattle.subset_layers.specs.Costs.{CostsOf, cost_without}
-use Rattle.layer_board.specs.Views.{Setting}
+use Rattle.layer_core.specs.Settings.{Setting}
 
 -- the members of a set without which the cost is within the bound
 unfoldable pub affordable : CostsOf → ℕ → ℕ → List ℕ

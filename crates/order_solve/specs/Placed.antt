@@ -2,8 +2,8 @@
 use Rattle.std.specs.Prelude.{◌≡◌, ℕ, List, slice_index, slice_index_or}
 use Rattle.subset_layers.specs.declared.costs.Cell.{Cell}
 use Rattle.subset_layers.specs.Layers.{masks_of}
-use Rattle.layer_board.specs.Views.{cell_for}
-use Rattle.layer_board.specs.Pairing.{pair_of}
+use Rattle.layer_core.specs.Settings.{cell_for}
+use Rattle.layer_core.specs.Pairing.{pair_of}
 use Rattle.order_solve.specs.Benches.{BenchOf}
 
 -- the cell of no set

@@ -4,8 +4,8 @@ ghost use Rattle.std.specs.Prelude.{◌≡◌, ◌+◌, ◌<◌, ◌≤◌, ◌^
 ghost use Rattle.order_model.specs.Problems.{functions};
 ghost use Rattle.order_model.specs.Cells.{cell_cost};
 ghost use Rattle.order_model.specs.Widths.{essential_mask};
-ghost use Rattle.layer_board.specs.Views.{cell_for};
-ghost use Rattle.layer_board.specs.Pairing.{pair_of};
+ghost use Rattle.layer_core.specs.Settings.{cell_for};
+ghost use Rattle.layer_core.specs.Pairing.{pair_of};
 ghost use Rattle.order_solve.specs.Needs.{needed};
 ghost use Rattle.order_solve.specs.Benches.{setting_with, IsLayerFor};
 ghost use Rattle.order_solve.specs.Bounded.{AreLayersFor};
@@ -28,7 +28,7 @@ pub struct AllCells<'a> {
 }
 
 impl<'a> Model for AllCells<'a> {
-    ghost use Rattle.layer_board.specs.Views.{Setting};
+    ghost use Rattle.layer_core.specs.Settings.{Setting};
     ghost use Rattle.order_solve.specs.Benches.{setting_with};
     ghost use Rattle.order_solve.specs.Bounded.{HoldsCells};
 

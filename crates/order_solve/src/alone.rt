@@ -3,8 +3,8 @@
 ghost use Rattle.std.specs.Prelude.{◌≡◌, ℕ, ◌<◌, length, map, slice_index, IfOk, IsTrue};
 ghost use Rattle.order_model.specs.Orders.{has};
 ghost use Rattle.subset_layers.specs.Layers.{layer_of, masks_of, block_masks};
-ghost use Rattle.layer_board.specs.Views.{cell_for};
-ghost use Rattle.layer_board.specs.Pairing.{pair_of};
+ghost use Rattle.layer_core.specs.Settings.{cell_for};
+ghost use Rattle.layer_core.specs.Pairing.{pair_of};
 ghost use Rattle.order_solve.specs.Placed.{IsPlaced};
 
 use crate::bench::Bench;

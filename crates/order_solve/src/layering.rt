@@ -3,8 +3,8 @@
 ghost use Rattle.std.specs.Prelude.{◌≡◌, ◌≤◌, ◌+◌, ◌^◌, ◌<◌, All, IfOk, map, vec_len};
 ghost use Rattle.std.specs.Thread.{IsSync};
 ghost use Rattle.subset_layers.specs.Layers.{masks_of};
-ghost use Rattle.layer_board.specs.Views.{cell_for};
-ghost use Rattle.layer_board.specs.Pairing.{pair_of};
+ghost use Rattle.layer_core.specs.Settings.{cell_for};
+ghost use Rattle.layer_core.specs.Pairing.{pair_of};
 ghost use Rattle.order_solve.specs.Benches.{AreCostsFor, setting_with, IsLayerFor};
 
 use crate::alone::cells_alone;

@@ -3,14 +3,16 @@
 ghost use Rattle.std.specs.Prelude.{◌≡◌, ℕ, map, Some, IfOk, IsTrue};
 ghost use Rattle.order_model.specs.Orders.{has};
 ghost use Rattle.subset_layers.specs.Layers.{block_masks};
-ghost use Rattle.layer_board.specs.Views.{cell_for, has_claimed, knows_filled};
-ghost use Rattle.layer_board.specs.Pairing.{pair_of};
+ghost use Rattle.layer_core.specs.Settings.{cell_for};
+ghost use Rattle.layer_board.specs.Views.{has_claimed, knows_filled};
+ghost use Rattle.layer_core.specs.Pairing.{pair_of};
 ghost use Rattle.order_solve.specs.Gains.{gains, gained, widths_for, IsPosted, StaysClaimed};
 
 use crate::bench::Bench;
 use crate::cells::cells_of_block;
 use compaction::Tally;
-use layer_board::{Board, BoardSeat, CellResult};
+use layer_board::{Board, BoardSeat};
+use layer_core::CellResult;
 use order_model::{Gate, Mask};
 use std::alloc::{AllocError, Global};
 use subset_layers::{Block, Cell};

@@ -10,7 +10,7 @@ use Rattle.order_model.specs.Widths.{outside, width, cost, arrangements, least_o
 use Rattle.order_model.specs.Cells.{is_within, best_top, cell_of}
 use Rattle.order_model.specs.Problems.{IsPacked, table_in, tables_of}
 use Rattle.solver_tests.specs.Examples.{parity}
-use Rattle.layer_board.specs.Views.{cell_for}
+use Rattle.layer_core.specs.Settings.{cell_for}
 
 pub cell_3 : (4, 0) ≡ cell_for parity 3
 unfolding table_in tables_of from_table number points restrict table depends subfunctions reach dependents outside width cost without arrangements are_lawful is_lawful least_of least members essential essentials_outside is_within best_top cell_of

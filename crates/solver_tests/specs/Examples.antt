@@ -1,7 +1,7 @@
 -- What the tests' cells are for.
 use Rattle.std.specs.Prelude.{[], ◌∷◌}
 use Rattle.order_model.specs.Problems.{packed_tables}
-use Rattle.layer_board.specs.Views.{Setting}
+use Rattle.layer_core.specs.Settings.{Setting}
 
 -- the parity of four variables, no pairs, bound 7
 abbrev pub parity : Setting

@@ -1,10 +1,12 @@
 //! The board of a layer, and its machine.
 
 ghost use Rattle.std.specs.Prelude.{◌≡◌, ◌<◌, All, IfOk, vec_len, [], ◌∷◌};
-ghost use Rattle.layer_board.specs.Views.{cell_for, first_seat};
+ghost use Rattle.layer_core.specs.Settings.{cell_for};
+ghost use Rattle.layer_board.specs.Views.{first_seat};
 ghost use Rattle.solver_tests.specs.Examples.{parity};
 
-use layer_board::{Board, BoardSeat, CellResult, CloseError, Core, Event, PostRefused, Reply};
+use layer_board::{Board, BoardSeat, CloseError, PostRefused};
+use layer_core::{CellResult, Core, Event, Reply};
 use order_model::{Mask, Pairs, Problem, Workers};
 use std::alloc::{AllocError, Global};
 use std::test::Fail;

@@ -2,12 +2,13 @@
 
 ghost use Rattle.std.specs.Prelude.{◌≡◌, ◌+◌, ◌^◌, ◌<◌, All, IfOk, map};
 ghost use Rattle.subset_layers.specs.Layers.{masks_of};
-ghost use Rattle.layer_board.specs.Pairing.{pair_of};
-ghost use Rattle.layer_board.specs.Views.{cell_for};
+ghost use Rattle.layer_core.specs.Pairing.{pair_of};
+ghost use Rattle.layer_core.specs.Settings.{cell_for};
 ghost use Rattle.order_solve.specs.Benches.{AreCostsFor, IsBench, IsLayerFor, bench_with, setting_with};
 
 use crate::solutions::tables_of;
-use layer_board::{Board, BoardSeat, CellResult, CloseError, PostRefused};
+use layer_board::{Board, BoardSeat, CloseError, PostRefused};
+use layer_core::CellResult;
 use order_model::{Mask, NoGate, Pairs, Problem, Workers};
 use order_solve::{Bench, WorkerEnd, work_layer};
 use std::alloc::Global;

@@ -1,6 +1,6 @@
 use Rattle.std.proofs.Common.{ℕ, ◌-◌, ◌/◌, ◌%◌, List, ◌∙◌, arith}
 use Rattle.std.specs.Slots.{slots_items}
-use Rattle.layer_board.specs.Pairing.{pair_of}
+use Rattle.layer_core.specs.Pairing.{pair_of}
 use Rattle.layer_board.specs.Picture.{cell_words}
 use Rattle.layer_board.proofs.Gathering.{one_more, full_more}
 use Rattle.layer_board.proofs.boards.gather.Goals as goal

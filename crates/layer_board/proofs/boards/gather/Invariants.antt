@@ -1,6 +1,6 @@
 use Rattle.std.proofs.Common.{◌≡◌, ◌≢◌, ℕ, ◌<◌, Some, map, take, slice_index}
 use Rattle.std.specs.Slots.{slots_items}
-use Rattle.layer_board.specs.Pairing.{pair_of}
+use Rattle.layer_core.specs.Pairing.{pair_of}
 use Rattle.layer_board.specs.Picture.{cell_in, cell_words}
 use Rattle.layer_board.proofs.boards.gather.Given as goal
 

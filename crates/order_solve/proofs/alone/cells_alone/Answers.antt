@@ -1,7 +1,7 @@
 use Rattle.std.proofs.Common.{◌≡◌, List, length, slice_get, Some, sym, ap, ◌∙◌, subst, arith}
 use Rattle.subset_layers.specs.Layers.{LayerOf, blocks_of}
 use Rattle.subset_layers.specs.declared.costs.Cell.{Cell}
-use Rattle.layer_board.proofs.Layouts.{block_below}
+use Rattle.layer_core.proofs.Layouts.{block_below}
 use Rattle.order_solve.specs.Benches.{BenchOf}
 use Rattle.order_solve.specs.Placed.{IsPlaced}
 use Rattle.order_solve.proofs.Claimed.{block_layer}

@@ -3,8 +3,8 @@ use Rattle.std.proofs.lemmas.List.{map_more, map-append, get_or-map}
 use Rattle.std.proofs.lemmas.Option.{slice_get_within, get_or_from_slice_get}
 use Rattle.subset_layers.specs.Layers.{block_masks}
 use Rattle.compaction.specs.Rows.{AreMembers, IsRow, wanted_count}
-use Rattle.layer_board.specs.Views.{cell_for}
-use Rattle.layer_board.specs.Pairing.{pair_of}
+use Rattle.layer_core.specs.Settings.{cell_for}
+use Rattle.layer_core.specs.Pairing.{pair_of}
 use Rattle.order_solve.specs.Benches.{BenchOf}
 use Rattle.order_solve.specs.Needs.{needed}
 use Rattle.order_solve.specs.Gains.{widths_for}

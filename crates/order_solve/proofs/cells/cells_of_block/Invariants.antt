@@ -1,7 +1,7 @@
 use Rattle.std.proofs.Common.{◌≡◌, map, take}
 use Rattle.subset_layers.specs.Layers.{block_masks}
-use Rattle.layer_board.specs.Views.{cell_for}
-use Rattle.layer_board.specs.Pairing.{pair_of}
+use Rattle.layer_core.specs.Settings.{cell_for}
+use Rattle.layer_core.specs.Pairing.{pair_of}
 use Rattle.order_solve.proofs.cells.cells_of_block.Given as goal
 
 abbrev pub invariant-loop-i : goal.invariant-loop-i

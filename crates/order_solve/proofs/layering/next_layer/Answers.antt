@@ -1,6 +1,6 @@
 use Rattle.std.proofs.Common.{map, ap, ◌∙◌}
 use Rattle.subset_layers.specs.Layers.{layer_with, masks_of}
-use Rattle.layer_board.specs.Views.{cell_for}
+use Rattle.layer_core.specs.Settings.{cell_for}
 use Rattle.order_solve.specs.Benches.{BenchOf, setting_with}
 use Rattle.order_solve.proofs.Placing.{layer_is}
 use Rattle.order_solve.proofs.layering.next_layer.Goals as goal

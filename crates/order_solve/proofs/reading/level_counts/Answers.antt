@@ -3,7 +3,7 @@ use Rattle.std.proofs.lemmas.Nat.{one_shl}
 use Rattle.order_model.specs.Orders.{has, members}
 use Rattle.order_model.specs.Problems.{functions}
 use Rattle.order_model.specs.Cells.{IsReadFrom, cell_cost}
-use Rattle.layer_board.specs.Views.{Setting}
+use Rattle.layer_core.specs.Settings.{Setting}
 use Rattle.order_solve.specs.Bounded.{IsBounded}
 use Rattle.order_solve.proofs.ReadOrders.{CountedTo, counted_start, counted_small, counted_member, counted_fall, counted_next, counted_whole, less_member}
 use Rattle.order_solve.proofs.reading.level_counts.Goals as goal

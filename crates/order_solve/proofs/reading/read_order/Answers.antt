@@ -3,7 +3,7 @@ use Rattle.order_model.specs.OrderFaults.{Accepts, Refuses}
 use Rattle.order_model.specs.Problems.{functions}
 use Rattle.order_model.specs.Cells.{IsReadFrom}
 use Rattle.order_model.proofs.Precedence.Greedy.{in_range}
-use Rattle.layer_board.specs.Views.{Setting}
+use Rattle.layer_core.specs.Settings.{Setting}
 use Rattle.order_solve.specs.Bounded.{IsBounded}
 use Rattle.order_solve.proofs.ReadOrders.{order_accepted}
 use Rattle.order_solve.proofs.reading.read_order.Goals as goal

@@ -2,8 +2,8 @@ use Rattle.std.proofs.Common.{◌≡◌, ℕ, ◌+◌, ◌-◌, ◌*◌, ◌%◌
 use Rattle.std.proofs.lemmas.Nat.{one_shl}
 use Rattle.order_model.specs.Orders.{has, members}
 use Rattle.subset_layers.specs.declared.costs.Cell.{Cell}
-use Rattle.layer_board.specs.Views.{Setting, cell_for}
-use Rattle.layer_board.specs.Pairing.{pair_of}
+use Rattle.layer_core.specs.Settings.{Setting, cell_for}
+use Rattle.layer_core.specs.Pairing.{pair_of}
 use Rattle.order_solve.specs.Bounded.{IsBounded}
 use Rattle.order_solve.proofs.ReadOrders.{ReadTo, read_start, read_some, read_member, read_next, read_whole, less_member}
 use Rattle.order_solve.proofs.reading.read_variables.Goals as goal

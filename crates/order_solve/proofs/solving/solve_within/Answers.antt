@@ -4,7 +4,7 @@ use Rattle.order_model.specs.Levels.{size_under}
 use Rattle.order_model.specs.Diagrams.{FewestKeeping, IsFirstKeeping}
 use Rattle.order_model.specs.Cells.{cell_cost}
 use Rattle.order_model.specs.Certificates.{certificate_of}
-use Rattle.layer_board.specs.Views.{Setting}
+use Rattle.layer_core.specs.Settings.{Setting}
 use Rattle.order_solve.proofs.ReadOrders.{order_first}
 use Rattle.order_solve.proofs.Solved.{total_size, total_small, total_fewest, cells_listed}
 use Rattle.order_solve.proofs.solving.solve_within.Goals as goal

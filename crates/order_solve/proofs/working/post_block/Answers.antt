@@ -2,12 +2,12 @@ use Rattle.std.proofs.Common.{◌≡◌, ℕ, List, length, get_or, slice_index,
 use Rattle.std.proofs.lemmas.Bool.{cases_eq}
 use Rattle.std.proofs.lemmas.List.{get_or-map}
 use Rattle.std.proofs.lemmas.Option.{slice_get_within, get_or_from_slice_get}
-use Rattle.layer_board.proofs.Layouts.{length-map_lem}
+use Rattle.layer_core.proofs.Layouts.{length-map_lem}
 use Rattle.subset_layers.specs.Layers.{block_masks}
 use Rattle.subset_layers.specs.declared.costs.Cell.{Cell}
 use Rattle.subset_layers.proofs.BlockLists.{has_get}
-use Rattle.layer_board.specs.Views.{cell_for}
-use Rattle.layer_board.specs.Pairing.{pair_of}
+use Rattle.layer_core.specs.Settings.{cell_for}
+use Rattle.layer_core.specs.Pairing.{pair_of}
 use Rattle.order_solve.specs.Gains.{IsPosted}
 use Rattle.order_solve.proofs.Posts.{stays_trans, posted_stays}
 use Rattle.order_solve.proofs.working.post_block.Goals as goal

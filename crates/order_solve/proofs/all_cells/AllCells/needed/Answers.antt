@@ -1,5 +1,5 @@
 use Rattle.std.proofs.Common.{◌-◌, count_ones, sym, ap, ◌∙◌, subst, arith}
-use Rattle.layer_board.specs.Views.{Setting}
+use Rattle.layer_core.specs.Settings.{Setting}
 use Rattle.order_solve.specs.Benches.{IsLayerFor}
 use Rattle.order_solve.specs.Needs.{needed}
 use Rattle.order_solve.proofs.Layers.{ones_le, ones_some, next_there, needed_is}

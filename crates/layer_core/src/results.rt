@@ -1,0 +1,67 @@
+//! The cell of a mask, of which the type keeps that it is the definition's.
+
+ghost use Rattle.std.specs.Prelude.{◌≡◌, ◌<◌, ◌^◌, ◌-◌};
+
+use order_model::{Mask, Pairs, Problem};
+use std::marker::Model;
+use std::snapshot::Snapshot;
+use subset_layers::Cell;
+
+/// A mask and its cell, for a problem, pairs and a bound that only contracts see.
+#[derive(Drop)]
+pub struct CellResult {
+    mask: Mask,
+    cell: Cell,
+    problem: Snapshot<Problem>,
+    pairs: Snapshot<Pairs>,
+    bound: Snapshot<u32>,
+}
+
+impl Model for CellResult {
+    ghost use Rattle.layer_core.specs.Settings.{ResultOf};
+
+    ghost Value = { ResultOf };
+
+    ghost use Rattle.layer_core.specs.Results.{result_shown, IsResult};
+
+    ghost view = { result_shown };
+
+    ghost invariant = { IsResult };
+}
+
+impl CellResult {
+    ghost use Rattle.layer_core.specs.Settings.{cell_for};
+    ghost use Rattle.layer_core.specs.Pairing.{pair_of};
+
+    /// The cell of a mask.
+    pub fn new(problem: &Problem, bound: u32, mask: Mask, cell: Cell, pairs: &Pairs) -> CellResult
+        requires bound { bound < 2 ^ 32 - 1 }
+        requires cell { pair_of cell ≡ cell_for record { problem = problem.now; pairs = pairs.now; bound = bound } mask }
+        ensures { result ≡ record { setting = record { problem = problem.now; pairs = pairs.now; bound = bound }; mask = mask; cell = pair_of cell } }
+    {
+        let _few = problem.inputs();
+        CellResult {
+            mask,
+            cell,
+            problem: Snapshot::of(problem),
+            pairs: Snapshot::of(pairs),
+            bound: Snapshot::of(&bound),
+        }
+    }
+
+    /// The mask.
+    pub fn mask(&self) -> Mask
+        ensures { result ≡ self.now.mask }
+    {
+        self.mask
+    }
+
+    /// Its cell.
+    pub fn cell(&self) -> Cell
+        ensures value { pair_of result ≡ self.now.cell }
+        ensures variable { self.now.cell.1 < 32 }
+        ensures right { self.now.cell ≡ cell_for self.now.setting self.now.mask }
+    {
+        self.cell
+    }
+}
