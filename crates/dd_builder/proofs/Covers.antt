@@ -9,10 +9,10 @@ use Rattle.order_model.specs.Diagrams.{Graph, Represents}
 use Rattle.order_model.specs.Problems.{TruthTables, functions, outputs_of, table_at}
 use Rattle.order_model.specs.Products.{product_of, product_function, product_functions}
 use Rattle.pla_reader.specs.Covers.{NamedCover}
-use Rattle.unique_table.specs.declared.view.Plan.{Plan}
-use Rattle.unique_table.specs.declared.terms.PieceKind.{PieceKind}
-use Rattle.unique_table.specs.declared.terms.PieceKind.TheVariants.{Restrictions, Products}
-use Rattle.unique_table.specs.declared.terms.Pieces.TheVariants.{Terms}
+use Rattle.unique_table.specs.declared.plan.Plan.{Plan}
+use Rattle.unique_table.specs.declared.plan.PieceKind.{PieceKind}
+use Rattle.unique_table.specs.declared.plan.PieceKind.TheVariants.{Restrictions, Products}
+use Rattle.unique_table.specs.declared.plan.Pieces.TheVariants.{Terms}
 use Rattle.unique_table.specs.Plans.{order_of, levels_of, output_at, products_of, AreTermsOf, IsKind, IsPlan}
 use Rattle.unique_table.proofs.Roots.{represents_same}
 use Rattle.dd_builder.specs.Building.{AreTablesOf, AreProductsOf, IsForCover, functions_of}

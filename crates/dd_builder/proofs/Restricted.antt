@@ -8,9 +8,9 @@ use Rattle.order_model.specs.Functions.{Point, Function, SameFunction, from_tabl
 use Rattle.order_model.specs.Orders.{IsOrder}
 use Rattle.order_model.specs.Problems.{TruthTables, outputs_of, table_at, value_at}
 use Rattle.node_words.specs.Meaning.{branch}
-use Rattle.unique_table.specs.declared.view.Plan.{Plan}
-use Rattle.unique_table.specs.declared.terms.PieceKind.{PieceKind}
-use Rattle.unique_table.specs.declared.terms.PieceKind.TheVariants.{Restrictions, Products}
+use Rattle.unique_table.specs.declared.plan.Plan.{Plan}
+use Rattle.unique_table.specs.declared.plan.PieceKind.{PieceKind}
+use Rattle.unique_table.specs.declared.plan.PieceKind.TheVariants.{Restrictions, Products}
 use Rattle.unique_table.specs.Plans.{order_of, levels_of, variable_at, output_at, fixed, tops, ways, part_function, piece_function, parts_count, IsPlan}
 use Rattle.unique_table.specs.Sessions.{StoreId, Knowledge, Follows, Means, function_in}
 use Rattle.dd_builder.specs.Building.{AreRestrictions, IsForTables}

@@ -8,9 +8,9 @@ use Rattle.order_model.specs.declared.terms.Term.{Term}
 use Rattle.order_model.specs.Functions.{Point, Function}
 use Rattle.order_model.specs.Problems.{TruthTables}
 use Rattle.order_model.specs.Products.{Product, product_function, matches, has_output}
-use Rattle.unique_table.specs.declared.view.Plan.{Plan}
-use Rattle.unique_table.specs.declared.terms.PieceKind.{PieceKind}
-use Rattle.unique_table.specs.declared.terms.PieceKind.TheVariants.{Restrictions, Products}
+use Rattle.unique_table.specs.declared.plan.Plan.{Plan}
+use Rattle.unique_table.specs.declared.plan.PieceKind.{PieceKind}
+use Rattle.unique_table.specs.declared.plan.PieceKind.TheVariants.{Restrictions, Products}
 use Rattle.unique_table.specs.Plans.{order_of, share, products_of, part_function, piece_function}
 use Rattle.dd_builder.specs.Parts.{IsForTerms, AreTermsOfKind}
 use Rattle.dd_builder.specs.Literals.{with_product}

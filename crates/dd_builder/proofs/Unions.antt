@@ -9,9 +9,9 @@ use Rattle.order_model.specs.Problems.{TruthTables, outputs_of}
 use Rattle.order_model.specs.Products.{Product, product_function, matches, has_output}
 use Rattle.node_words.specs.declared.operation.Operation.TheVariants.{Or}
 use Rattle.node_words.specs.Entries.{combine}
-use Rattle.unique_table.specs.declared.view.Plan.{Plan}
-use Rattle.unique_table.specs.declared.terms.PieceKind.{PieceKind}
-use Rattle.unique_table.specs.declared.terms.PieceKind.TheVariants.{Restrictions, Products}
+use Rattle.unique_table.specs.declared.plan.Plan.{Plan}
+use Rattle.unique_table.specs.declared.plan.PieceKind.{PieceKind}
+use Rattle.unique_table.specs.declared.plan.PieceKind.TheVariants.{Restrictions, Products}
 use Rattle.unique_table.specs.Plans.{order_of, levels_of, output_at, share, products_of, part_function, piece_function, AreTermsOf, IsPlan, parts_count}
 use Rattle.unique_table.specs.Sessions.{Knowledge, Follows, Means, function_in}
 use Rattle.dd_builder.specs.Parts.{AreOfTerms, shares_union}

@@ -11,9 +11,9 @@ use Rattle.order_model.specs.Diagrams.{Graph, nodes_at}
 use Rattle.order_model.specs.Problems.{TruthTables, outputs_of}
 use Rattle.order_model.specs.Products.{product_of, product_functions}
 use Rattle.pla_reader.specs.Covers.{NamedCover}
-use Rattle.unique_table.specs.declared.view.Plan.{Plan}
-use Rattle.unique_table.specs.declared.terms.PieceKind.{PieceKind}
-use Rattle.unique_table.specs.declared.terms.PieceKind.TheVariants.{Restrictions, Products}
+use Rattle.unique_table.specs.declared.plan.Plan.{Plan}
+use Rattle.unique_table.specs.declared.plan.PieceKind.{PieceKind}
+use Rattle.unique_table.specs.declared.plan.PieceKind.TheVariants.{Restrictions, Products}
 use Rattle.unique_table.specs.Plans.{IsPlan, order_of}
 use Rattle.unique_table.specs.Sessions.{StoreId, Knowledge}
 use Rattle.dd_builder.specs.declared.errors.BuildError.{BuildError}

@@ -6,7 +6,7 @@ use Rattle.order_model.specs.declared.terms.Term.{Term}
 use Rattle.order_model.specs.Functions.{Function}
 use Rattle.order_model.specs.Problems.{outputs_of}
 use Rattle.order_model.specs.Products.{Product, product_of, literal_holds, literal_in, matches, has_output}
-use Rattle.unique_table.specs.declared.view.Plan.{Plan}
+use Rattle.unique_table.specs.declared.plan.Plan.{Plan}
 
 -- 1 where a term's literal of a variable, if it has one, holds and a function is 1
 unfoldable pub with_literal : Term → ℕ → Function → Function

@@ -10,9 +10,9 @@ use Rattle.std.specs.List.{list_any, range_with_len}
 use Rattle.order_model.specs.declared.terms.Term.{Term}
 use Rattle.order_model.specs.Functions.{Function}
 use Rattle.order_model.specs.Problems.{TruthTables, outputs_of}
-use Rattle.unique_table.specs.declared.view.Plan.{Plan}
-use Rattle.unique_table.specs.declared.terms.PieceKind.{PieceKind}
-use Rattle.unique_table.specs.declared.terms.PieceKind.TheVariants.{Restrictions, Products}
+use Rattle.unique_table.specs.declared.plan.Plan.{Plan}
+use Rattle.unique_table.specs.declared.plan.PieceKind.{PieceKind}
+use Rattle.unique_table.specs.declared.plan.PieceKind.TheVariants.{Restrictions, Products}
 use Rattle.unique_table.specs.Plans.{order_of, products_of, tops, piece_function}
 use Rattle.unique_table.specs.Sessions.{StoreId, Knowledge, HasPiece, Knows, depth_in}
 use Rattle.dd_builder.specs.declared.parts.Source.{Source}

@@ -1,66 +1,6 @@
 //! A cache of operations on the ids of a store. It lies in the store's own words, and loses entries.
 #![tactic(auto)]
 
-ghost use Rattle.std.specs.Prelude.{◌≡◌, ℕ, ◌+◌, ◌^◌, ◌<◌, ◌≤◌, IfSome};
-ghost use Rattle.node_words.specs.Entries.{combine};
-ghost use Rattle.unique_table.specs.Sessions.{Knows, Means, Follows, function_in, depth_in};
+mod cache;
 
-use node_words::start;
-use unique_table::{NodeId, Operation, Session, Store};
-
-/// The place of an operation on two ids.
-fn place_of(places: usize, operation: Operation, first: NodeId, second: NodeId) -> usize
-    requires some { 0 < places }
-    requires few { places < 2 ^ 32 }
-    ensures { result < places }
-{
-    let code: u64 = match operation {
-        Operation::And => 1,
-        Operation::Or => 2,
-        Operation::Xor => 3,
-    };
-    start(
-        places,
-        (code << 60) ^ (u64::from(first) << 28) ^ u64::from(second),
-    )
-}
-
-/// The id that the cache has for an operation on two ids, if it has one. It takes one step.
-pub fn recall(
-    store: &Store,
-    session: &mut Session,
-    operation: Operation,
-    first: NodeId,
-    second: NodeId,
-) -> Option<NodeId>
-    requires session { session.old.store ≡ store.now }
-    requires known { Knows session.old first × Knows session.old second }
-    ensures follows { Follows session.old session.new }
-    ensures function { IfSome result (λ id. Means session.new id (combine operation (function_in session.new first) (function_in session.new second))) }
-    ensures level { IfSome result (λ id. (k : ℕ) → k ≤ depth_in session.new first → k ≤ depth_in session.new second → k ≤ depth_in session.new id) }
-    ensures steps { session.new.steps ≡ session.old.steps + 1 }
-    ensures writes { session.new.writes ≡ session.old.writes }
-{
-    let place = place_of(store.cache_places(), operation, first, second);
-    store.entry(session, place, operation, first, second)
-}
-
-/// Has the cache know the result of an operation on two ids, in place of what it knew there. It takes one step.
-pub fn remember(
-    store: &Store,
-    session: &mut Session,
-    operation: Operation,
-    first: NodeId,
-    second: NodeId,
-    id: NodeId,
-)
-    requires session { session.old.store ≡ store.now }
-    requires known { Knows session.old first × Knows session.old second }
-    requires function { Means session.old id (combine operation (function_in session.old first) (function_in session.old second)) }
-    ensures follows { Follows session.old session.new }
-    ensures steps { session.new.steps ≡ session.old.steps + 1 }
-    ensures writes { session.new.writes ≡ session.old.writes + 1 }
-{
-    let place = place_of(store.cache_places(), operation, first, second);
-    store.set_entry(session, place, operation, first, second, id);
-}
+pub use cache::{recall, remember};

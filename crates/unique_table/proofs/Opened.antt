@@ -9,9 +9,9 @@ use Rattle.node_words.specs.Entries.{code_of, combine, entry_word, result_of, Is
 use Rattle.node_words.proofs.Entries.{code_some, entry_made, entry_found}
 use Rattle.node_words.proofs.Functions.{known_small, below_depth, denotes_made, depth_made, operation_no_higher, one_id}
 use Rattle.atomic_table.specs.declared.shared.Seat.{Seat}
-use Rattle.unique_table.specs.declared.view.Plan.{Plan}
-use Rattle.unique_table.specs.declared.view.View.{View}
-use Rattle.unique_table.specs.declared.session.Store.TheInside as store
+use Rattle.unique_table.specs.declared.plan.Plan.{Plan}
+use Rattle.unique_table.specs.declared.session.View.{View}
+use Rattle.unique_table.specs.declared.store.Store.TheInside as store
 use Rattle.unique_table.specs.declared.session.Session.TheInside as session
 use Rattle.unique_table.specs.Plans.{order_of, levels_of, variable_at}
 use Rattle.unique_table.specs.Sessions.{StoreId, Knowledge, Follows, Knows, IsKnownBelow, Means, HasUniqueIds, function_in, depth_in}

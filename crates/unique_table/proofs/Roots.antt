@@ -14,12 +14,13 @@ use Rattle.node_words.specs.Meaning.{function_of, Denotes}
 use Rattle.node_words.proofs.Functions.{known_small}
 use Rattle.unique_table.specs.declared.close.CloseFault.{CloseFault}
 use Rattle.unique_table.specs.declared.close.CloseFault.TheVariants.{MissingRoot, OutOfMemory}
-use Rattle.unique_table.specs.declared.view.Plan.{Plan}
-use Rattle.unique_table.specs.declared.view.View.{View}
+use Rattle.unique_table.specs.declared.plan.Plan.{Plan}
+use Rattle.unique_table.specs.declared.session.View.{View}
 use Rattle.unique_table.specs.Plans.{order_of, levels_of, output_at, piece_function, part_function, IsPlan}
 use Rattle.unique_table.specs.Picture.{IsKept, nodes_of, pieces_of, AreEntries, ArePieces}
 use Rattle.unique_table.specs.Sessions.{StoreId}
 use Rattle.unique_table.specs.Closing.{root_id, root_functions, AreAllFilled, IsLeastEmpty, LacksRoot, IsLast, Lacks}
+use Rattle.std.proofs.lemmas.Bool.{cases_lt}
 
 -- one more id
 pub more_ids : (words : List ℕ) (first : ℕ) (ids ids' : List ℕ) (j k x word : ℕ) → ids ≡ map (root_id words first) (range_with_len 0 j) → word ≡ get_or words (first + k) 0 → k ≡ j → x ≡ word - 1 → ids' ≡ ids ++ x ∷ []
@@ -32,10 +33,7 @@ pub more_filled : (words : List ℕ) (first j k word : ℕ) → AreAllFilled wor
 more_filled words first j k word all is at full i low = ⊎_elim
     (λ (old : i < j). all i old)
     (λ (last : j ≤ i). let e : k ≡ i = omega arith in λ empty. full (is ∙ (ap (λ (z : ℕ). get_or words (first + z) 0) e ∙ empty)))
-    (less_or_last i j)
-  where
-    less_or_last : (a b : ℕ) → (a < b) ⊎ (b ≤ a)
-    less_or_last a b = grind arith
+    (cases_lt i j)
 
 -- the function of a root's piece
 pub root_function : (b : Plan) (j : ℕ) → piece_function b (b.roots + j) ≡ output_at b.problem.value j

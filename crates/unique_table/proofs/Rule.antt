@@ -15,8 +15,8 @@ use Rattle.node_words.specs.Entries.{IsEntry}
 use Rattle.node_words.proofs.Growing.{grows_refl, grows_trans, node_grows, set_grows, stored_put, next_grows}
 use Rattle.node_words.proofs.Functions.{denotes_grows, one_id}
 use Rattle.node_words.proofs.Entries.{entry_grows}
-use Rattle.unique_table.specs.declared.view.Plan.{Plan}
-use Rattle.unique_table.specs.declared.view.View.{View}
+use Rattle.unique_table.specs.declared.plan.Plan.{Plan}
+use Rattle.unique_table.specs.declared.session.View.{View}
 use Rattle.unique_table.specs.Plans.{order_of, levels_of, piece_function}
 use Rattle.unique_table.specs.Picture.{IsKept, IsSeen, Sees, AreEntries, ArePieces, sees, nodes_of, entry_in, pieces_of, stepped, another, informed, spent, looks, puts, publishes, collects, recalls, remembers}
 

@@ -3,7 +3,7 @@ use Rattle.std.specs.Prelude.{◌≡◌, ◌+◌, []}
 use Rattle.unique_table.specs.Plans.{order_of, IsPlan}
 use Rattle.unique_table.specs.Views.{IsGood}
 use Rattle.unique_table.specs.Sessions.{StoreId, Knowledge}
-use Rattle.unique_table.specs.declared.session.Store.TheInside as store
+use Rattle.unique_table.specs.declared.store.Store.TheInside as store
 use Rattle.unique_table.specs.declared.session.Session.TheInside as session
 
 abbrev pub store_id : store.Inside → StoreId

@@ -9,9 +9,9 @@ use Rattle.order_model.specs.Orders.{IsOrder}
 use Rattle.node_words.specs.Nodes.{AreNodes, AreUnequal, AreStored, Grows}
 use Rattle.node_words.specs.Meaning.{Denotes}
 use Rattle.node_words.specs.Entries.{IsEntry}
-use Rattle.unique_table.specs.declared.view.Plan.{Plan}
-use Rattle.unique_table.specs.declared.view.View.{View}
-use Rattle.unique_table.specs.declared.terms.PieceKind.TheVariants.{Restrictions}
+use Rattle.unique_table.specs.declared.plan.Plan.{Plan}
+use Rattle.unique_table.specs.declared.session.View.{View}
+use Rattle.unique_table.specs.declared.plan.PieceKind.TheVariants.{Restrictions}
 use Rattle.unique_table.specs.Plans.{order_of, levels_of, piece_function}
 
 -- the words of nodes, of the cache, and of pieces

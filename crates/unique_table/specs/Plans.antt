@@ -10,11 +10,11 @@ use Rattle.order_model.specs.Functions.{Function, SameFunction, from_table, rest
 use Rattle.order_model.specs.OrderFaults.{Accepts}
 use Rattle.order_model.specs.Problems.{TruthTables, outputs_of, table_at}
 use Rattle.order_model.specs.Products.{Product, product_of, product_function}
-use Rattle.unique_table.specs.declared.terms.PieceKind.{PieceKind}
-use Rattle.unique_table.specs.declared.terms.PieceKind.TheVariants.{Restrictions, Products}
-use Rattle.unique_table.specs.declared.terms.Pieces.{Pieces}
-use Rattle.unique_table.specs.declared.terms.Pieces.TheVariants.{Tables, Terms}
-use Rattle.unique_table.specs.declared.view.Plan.{Plan}
+use Rattle.unique_table.specs.declared.plan.PieceKind.{PieceKind}
+use Rattle.unique_table.specs.declared.plan.PieceKind.TheVariants.{Restrictions, Products}
+use Rattle.unique_table.specs.declared.plan.Pieces.{Pieces}
+use Rattle.unique_table.specs.declared.plan.Pieces.TheVariants.{Tables, Terms}
+use Rattle.unique_table.specs.declared.plan.Plan.{Plan}
 
 -- the order
 abbrev pub order_of : Plan → List ℕ

@@ -12,7 +12,7 @@ use Rattle.order_model.specs.Functions.{Point, Function}
 use Rattle.node_words.specs.declared.words.NodeParts.{NodeParts}
 use Rattle.node_words.specs.Nodes.{IsKnown, Grows, node_word}
 use Rattle.node_words.specs.Meaning.{function_of, Denotes, depth, branch}
-use Rattle.unique_table.specs.declared.view.Plan.{Plan}
+use Rattle.unique_table.specs.declared.plan.Plan.{Plan}
 use Rattle.unique_table.specs.Plans.{order_of, levels_of, variable_at}
 
 -- a store: which table it is, and what it is for

@@ -8,8 +8,8 @@ use Rattle.atomic_table.specs.Table.{State}
 use Rattle.node_words.specs.Nodes.{Grows, IsNext, IsNode}
 use Rattle.node_words.specs.Meaning.{Denotes}
 use Rattle.node_words.specs.Entries.{IsEntry}
-use Rattle.unique_table.specs.declared.view.Plan.{Plan}
-use Rattle.unique_table.specs.declared.view.View.{View}
+use Rattle.unique_table.specs.declared.plan.Plan.{Plan}
+use Rattle.unique_table.specs.declared.session.View.{View}
 use Rattle.unique_table.specs.Plans.{order_of, levels_of, piece_function}
 use Rattle.unique_table.specs.Picture.{IsKept, nodes_of, pieces_of}
 use Rattle.unique_table.specs.Views.{Gains}

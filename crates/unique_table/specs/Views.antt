@@ -3,7 +3,7 @@
 --     After v v' wrote      a view after a step
 use Rattle.std.specs.Prelude.{◌≡◌, ℕ, ◌+◌, ◌≤◌, true, length}
 use Rattle.node_words.specs.Nodes.{AreNodes, AreUnequal, Grows}
-use Rattle.unique_table.specs.declared.view.View.{View}
+use Rattle.unique_table.specs.declared.session.View.{View}
 use Rattle.unique_table.specs.Plans.{levels_of}
 use Rattle.unique_table.specs.Picture.{ArePieces}
 

@@ -3,14 +3,10 @@
 ghost use Rattle.std.specs.Prelude.{◌≡◌, ◌≢◌, ℕ, ◌+◌, ◌-◌, ◌^◌, ◌<◌, ◌≤◌, length, slice_index, IfOk, IfErr, OnOk, map};
 ghost use Rattle.std.specs.List.{range_with_len};
 ghost use Rattle.std.specs.Slots.{slots_items, slots_len, IsFull};
-ghost use Rattle.order_model.specs.Diagrams.{Represents, IsReduced};
-ghost use Rattle.order_model.specs.Problems.{functions};
 ghost use Rattle.node_words.specs.Nodes.{AreNodes, AreUnequal, IsKnown};
 ghost use Rattle.reached_nodes.specs.Copies.{words_in, IsReducedOf};
-ghost use Rattle.unique_table.specs.Plans.{order_of, levels_of};
-ghost use Rattle.unique_table.specs.Closing.{Lacks, LacksRoot, root_id, root_functions, AreAllFilled};
+ghost use Rattle.unique_table.specs.Closing.{LacksRoot, root_id, root_functions, AreAllFilled};
 
-use crate::session::{Session, Store};
 use atomic_table::Closed;
 use order_model::{Diagram, Order};
 use reached_nodes::reached_nodes;
@@ -63,7 +59,7 @@ fn root_ids(
 }
 
 /// The reduced diagram of a closed table's roots.
-fn last_diagram(
+pub(crate) fn last_diagram(
     alloc: Global,
     closed: &Closed<(), Global>,
     places: usize,
@@ -90,31 +86,4 @@ fn last_diagram(
         return Err(CloseFault::OutOfMemory);
     };
     Ok(Diagram::new(order, reached.nodes, reached.roots))
-}
-
-impl Store {
-    /// The reduced diagram of the store's functions: the published roots, with the nodes that they reach. The store is spent in every case.
-    pub fn close(self, alloc: Global, session: Session) -> Result<Diagram, CloseFault>
-        requires { session.store ≡ self }
-        ensures order { IfOk result (λ d. d.order ≡ order_of self.plan) }
-        ensures diagram { IfOk result (λ d. Represents (levels_of self.plan) (functions self.plan.problem.value) (order_of self.plan) d.graph) }
-        ensures reduced { IfOk result (λ d. IsReduced d.graph) }
-        ensures missing { IfErr result (Lacks session) }
-    {
-        let Store {
-            table,
-            places,
-            entries,
-            roots,
-            pieces,
-            order,
-        } = self;
-        let Session { seat } = session;
-        let closed = table.close_with(seat);
-        let first = places + entries + roots;
-        let outputs = (pieces - roots) as u8;
-        let diagram = last_diagram(alloc, &closed, places, first, outputs, order);
-        closed.free();
-        diagram
-    }
 }

@@ -4,8 +4,8 @@ ghost use Rattle.std.specs.Prelude.{◌≡◌, ℕ};
 ghost use Rattle.atomic_table.specs.Table.{State};
 ghost use Rattle.order_model.specs.Functions.{Function, SameFunction};
 ghost use Rattle.node_words.specs.Meaning.{Denotes};
-ghost use Rattle.unique_table.specs.declared.view.Plan.{Plan};
-ghost use Rattle.unique_table.specs.declared.view.View.{View};
+ghost use Rattle.unique_table.specs.declared.plan.Plan.{Plan};
+ghost use Rattle.unique_table.specs.declared.session.View.{View};
 ghost use Rattle.unique_table.specs.Plans.{order_of, levels_of};
 ghost use Rattle.unique_table.specs.Steps.{IsSeat, Looks, Puts, Publishes, Collects, Recalls, Remembers};
 

@@ -1,24 +1,21 @@
 //! A store of nodes that threads share.
 #![tactic(auto)]
 
+// The store: what it is for, what sessions know and do, how it begins and ends.
 mod close;
 mod create;
-mod entries;
-mod facts;
-pub mod laws;
-mod nodes;
-mod pieces;
-mod plays;
+mod plan;
 mod session;
-mod share;
-mod terms;
-mod view;
+mod store;
+
+// The words that the store lies in, the rule that they keep, and the kinds of steps on them.
+pub mod laws;
+mod plays;
 mod words;
 
 pub use close::CloseFault;
 pub use node_words::{NodeParts, Operation};
-pub use nodes::StoreFull;
+pub use plan::{PieceKind, Pieces, Plan, TermList};
 pub use plays::Words;
-pub use session::{NodeId, Session, Store};
-pub use terms::{PieceKind, Pieces, TermList};
-pub use view::{Plan, View};
+pub use session::{NodeId, Session, View};
+pub use store::{Store, StoreFull};

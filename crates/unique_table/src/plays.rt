@@ -2,7 +2,8 @@
 
 ghost use Rattle.unique_table.specs.Picture.{IsKept, newcomer, stepped, another, informed, spent, looks, puts, publishes, collects, recalls, remembers};
 
-use crate::view::{Plan, View};
+use crate::plan::Plan;
+use crate::session::View;
 use atomic_table::{Join, Play, Split, TableRule};
 
 /// The rule of a store's words.

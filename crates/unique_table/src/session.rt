@@ -1,39 +1,13 @@
-//! The store and its sessions.
+//! What a thread knows of a store.
 
-use crate::plays::Words;
-use crate::view::{Plan, View};
-use atomic_table::{Seat, Table};
-use order_model::Order;
-use std::alloc::Global;
+use crate::plan::Plan;
+use atomic_table::Seat;
 use std::marker::Model;
 
 /// The id of a node: 0 and 1 are the terminals, and the node at place p has p + 2.
 pub type NodeId = u32;
 
-/// A store of nodes: equal functions have equal ids. Threads share it by reference, each with a session of its own.
-#[derive(Drop)]
-pub struct Store {
-    pub(crate) table: Table<(), View, Plan, Words, Global>,
-    pub(crate) places: usize,
-    pub(crate) entries: usize,
-    pub(crate) roots: usize,
-    pub(crate) pieces: usize,
-    pub(crate) order: Order,
-}
-
-impl Model for Store {
-    ghost use Rattle.unique_table.specs.Sessions.{StoreId};
-
-    ghost Value = { StoreId };
-
-    ghost use Rattle.unique_table.specs.Insides.{store_id, IsStore};
-
-    ghost view = { store_id };
-
-    ghost invariant = { IsStore };
-}
-
-/// What a thread knows of a store.
+/// A thread's view of a store.
 #[derive(Drop)]
 pub struct Session {
     pub(crate) seat: Seat<(), View>,
@@ -49,4 +23,17 @@ impl Model for Session {
     ghost view = { knowledge };
 
     ghost invariant = { IsSession };
+}
+
+/// The words of nodes and of pieces as they were seen, those that another session saw that was joined into this one, and how many steps and
+/// writes were made. It isn't live where the session was joined into another. No value of it is made.
+pub struct View {
+    pub live: bool,
+    pub plan: Plan,
+    pub seen: [u64; 0],
+    pub told: [u64; 0],
+    pub pieces: [u64; 0],
+    pub pieces_told: [u64; 0],
+    pub steps: u64,
+    pub writes: u64,
 }

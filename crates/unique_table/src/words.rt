@@ -8,8 +8,9 @@ ghost use Rattle.unique_table.specs.Plans.{order_of, levels_of, piece_function};
 ghost use Rattle.unique_table.specs.Views.{After, Gains};
 ghost use Rattle.unique_table.specs.Seats.{IsSeatOf};
 
+use crate::plan::Plan;
 use crate::plays::{Collects, Looks, Publishes, Puts, Recalls, Remembers, Words};
-use crate::view::{Plan, View};
+use crate::session::View;
 use atomic_table::{Seat, Shared};
 use node_words::{probe, start};
 

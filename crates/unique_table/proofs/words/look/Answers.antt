@@ -1,5 +1,5 @@
 use Rattle.std.proofs.Common.{◌<◌, get_or, sym, ap, ◌∙◌, subst}
-use Rattle.unique_table.specs.declared.view.Plan.{Plan}
+use Rattle.unique_table.specs.declared.plan.Plan.{Plan}
 use Rattle.unique_table.proofs.Steps.{after_goes, seat_after}
 use Rattle.unique_table.proofs.Rule.{M, may_look}
 use Rattle.unique_table.proofs.words.look.Goals as goal

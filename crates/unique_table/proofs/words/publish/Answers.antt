@@ -1,6 +1,6 @@
 use Rattle.std.proofs.Common.{◌≡◌, ℕ, ◌+◌, ◌-◌, ◌<◌, get_or, sym, ap, ◌∙◌, subst, arith}
-use Rattle.unique_table.specs.declared.view.Plan.{Plan}
-use Rattle.unique_table.specs.declared.view.View.{View}
+use Rattle.unique_table.specs.declared.plan.Plan.{Plan}
+use Rattle.unique_table.specs.declared.session.View.{View}
 use Rattle.unique_table.proofs.Steps.{after_goes, seat_after}
 use Rattle.node_words.specs.Meaning.{Denotes}
 use Rattle.unique_table.specs.Plans.{order_of, piece_function}

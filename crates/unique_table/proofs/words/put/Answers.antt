@@ -1,8 +1,8 @@
 use Rattle.std.proofs.Common.{◌≡◌, ℕ, ◌<◌, get_or, sym, ap, ◌∙◌, subst}
 use mathlib.Core.Logic.{dite}
 use native.Mathlib.Decide.{ℕ_discrete}
-use Rattle.unique_table.specs.declared.view.Plan.{Plan}
-use Rattle.unique_table.specs.declared.view.View.{View}
+use Rattle.unique_table.specs.declared.plan.Plan.{Plan}
+use Rattle.unique_table.specs.declared.session.View.{View}
 use Rattle.unique_table.proofs.Steps.{after_goes, seat_after}
 use Rattle.node_words.specs.Nodes.{probe, IsNode, IsTaken}
 use Rattle.unique_table.specs.Plans.{levels_of}

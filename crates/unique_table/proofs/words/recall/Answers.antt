@@ -1,5 +1,5 @@
 use Rattle.std.proofs.Common.{◌≡◌, ◌+◌, ◌<◌, sym, subst}
-use Rattle.unique_table.specs.declared.view.Plan.{Plan}
+use Rattle.unique_table.specs.declared.plan.Plan.{Plan}
 use Rattle.unique_table.proofs.Steps.{after_goes, seat_after}
 use Rattle.node_words.specs.Entries.{IsEntry}
 use Rattle.unique_table.specs.Plans.{order_of}

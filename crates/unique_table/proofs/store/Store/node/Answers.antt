@@ -3,7 +3,7 @@ use Rattle.unique_table.specs.Plans.{order_of}
 use Rattle.unique_table.specs.Sessions.{Follows}
 use Rattle.unique_table.proofs.Opened.{seated, goes_after}
 use Rattle.unique_table.proofs.Parts.{has_parts}
-use Rattle.unique_table.proofs.session.Store.node.Goals as goal
+use Rattle.unique_table.proofs.store.Store.node.Goals as goal
 
 pub returns-then-id-lt2-clause-constant : goal.returns-then-id-lt2-clause-constant
 returns-then-id-lt2-clause-constant c = λ p. function_terminal (order_of c.session.inside.seat.me.0.plan) c.session.inside.seat.me.0.seen c.session.invariant.good.nodes c.args.id c.if-id-lt2.true p

@@ -1,6 +1,6 @@
 use Rattle.unique_table.specs.Sessions.{Follows}
 use Rattle.unique_table.proofs.Opened.{seated, goes_after, small_id, entry_means, entry_depth}
-use Rattle.unique_table.proofs.session.Store.entry.Goals as goal
+use Rattle.unique_table.proofs.store.Store.entry.Goals as goal
 
 pub entry_key-key-requires-clause-first : goal.entry_key-key-requires-clause-first
 entry_key-key-requires-clause-first c = small_id c.self.inside c.session.inside c.args.self.now c.args.session.now c.self.view_is c.session.view_is c.self.invariant c.session.invariant c.requires.session c.args.first c.requires.known.0

@@ -1,5 +1,5 @@
 use Rattle.std.proofs.Common.{rules}
-use Rattle.unique_table.proofs.session.Store.cache_places.Goals as goal
+use Rattle.unique_table.proofs.store.Store.cache_places.Goals as goal
 
 pub returns-clause-value : goal.returns-clause-value
 returns-clause-value c = search rules

@@ -2,7 +2,7 @@ use Rattle.std.proofs.Common.{subst, arith}
 use Rattle.node_words.specs.Nodes.{Grows}
 use Rattle.unique_table.proofs.Rule.{M, may_join}
 use Rattle.unique_table.proofs.Opened.{seat_of, goes_grown, unique_ids}
-use Rattle.unique_table.proofs.session.Store.join.Goals as goal
+use Rattle.unique_table.proofs.store.Store.join.Goals as goal
 
 pub join_seat-requires : goal.join_seat-requires
 join_seat-requires c = (

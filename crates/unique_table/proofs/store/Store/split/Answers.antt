@@ -1,7 +1,7 @@
 use Rattle.std.proofs.Common.{arith}
 use Rattle.unique_table.proofs.Rule.{may_split}
 use Rattle.unique_table.proofs.Opened.{seat_of}
-use Rattle.unique_table.proofs.session.Store.split.Goals as goal
+use Rattle.unique_table.proofs.store.Store.split.Goals as goal
 
 pub split_seat-other-requires : goal.split_seat-other-requires
 split_seat-other-requires c = (

@@ -1,8 +1,21 @@
-//! Of what the pieces of a store are made.
+//! What a store is for, and of what its pieces are made.
 
-use order_model::Term;
+use order_model::{Order, Problem, Term};
 use std::marker::Model;
 use std::snapshot::Snapshot;
+
+/// What a store is for: its order, its functions and its pieces, and how many places it has for nodes, operations and pieces.
+/// The pieces from `roots` on are the outputs.
+#[derive(Drop)]
+pub struct Plan {
+    pub places: usize,
+    pub entries: usize,
+    pub roots: usize,
+    pub pieces: usize,
+    pub order: Snapshot<Order>,
+    pub problem: Snapshot<Problem>,
+    pub kind: PieceKind,
+}
 
 /// The pieces of a store: restrictions of the outputs by the top two variables (or the only one), or functions of the terms whose number leaves
 /// the same remainder when divided by 64. The outputs themselves are pieces too, after these.

@@ -2,7 +2,7 @@ use Rattle.std.proofs.Common.{◌≡◌, ℕ, ◌+◌, ◌*◌, ◌%◌, ap, ◌
 use Rattle.node_words.proofs.Entries.{code_small, entry_packed, entry_fits}
 use Rattle.node_words.specs.Entries.{code_of, entry_word}
 use Rattle.unique_table.proofs.Opened.{goes_after, small_id, entry_ready}
-use Rattle.unique_table.proofs.session.Store.set_entry.Goals as goal
+use Rattle.unique_table.proofs.store.Store.set_entry.Goals as goal
 
 pub entry_key-key-requires-clause-first : goal.entry_key-key-requires-clause-first
 entry_key-key-requires-clause-first c = small_id c.self.inside c.session.inside c.args.self.now c.args.session.now c.self.view_is c.session.view_is c.self.invariant c.session.invariant c.requires.session c.args.first c.requires.known.0

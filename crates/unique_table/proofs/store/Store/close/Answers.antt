@@ -4,13 +4,13 @@ use Rattle.order_model.specs.Diagrams.{Represents}
 use Rattle.order_model.specs.Problems.{functions}
 use Rattle.order_model.specs.OrderedGraphs.{OrderedGraph}
 use Rattle.reached_nodes.specs.Copies.{words_in, IsReducedOf}
-use Rattle.unique_table.specs.declared.view.Plan.{Plan}
+use Rattle.unique_table.specs.declared.plan.Plan.{Plan}
 use Rattle.unique_table.specs.Plans.{order_of, levels_of}
 use Rattle.unique_table.specs.Sessions.{StoreId, Knowledge}
 use Rattle.unique_table.specs.Closing.{root_functions, AreAllFilled, LacksRoot, Lacks}
 use Rattle.unique_table.proofs.Opened.{plan_is}
 use Rattle.unique_table.proofs.Roots.{ok_weaker, err_weaker, found_known, found_represents, found_lacks}
-use Rattle.unique_table.proofs.session.Store.close.Goals as goal
+use Rattle.unique_table.proofs.store.Store.close.Goals as goal
 
 pub last_diagram-diagram-requires-clause-known : goal.last_diagram-diagram-requires-clause-known
 last_diagram-diagram-requires-clause-known c = let k = c.self.invariant in λ j low full.

@@ -4,7 +4,7 @@ use Rattle.node_words.proofs.Making.{makes}
 use Rattle.unique_table.specs.Sessions.{Knowledge, Follows, IsKnownBelow}
 use Rattle.unique_table.proofs.Following.{follows_refl}
 use Rattle.unique_table.proofs.Opened.{seated, word_ready, small_id, seat_of, few_levels, goes_on, made_means, unique_ids}
-use Rattle.unique_table.proofs.session.Store.make.Goals as goal
+use Rattle.unique_table.proofs.store.Store.make.Goals as goal
 
 pub find_or_put-requires-clause-word : goal.find_or_put-requires-clause-word
 find_or_put-requires-clause-word c = word_ready c.self.inside c.session.inside c.args.self.now c.args.session.now c.self.view_is c.session.view_is c.self.invariant c.session.invariant c.requires.session

@@ -1,0 +1,320 @@
+//! The store and what its sessions do.
+
+ghost use Rattle.std.specs.Prelude.{◌≡◌, ◌*◌, ◌<◌, ◌≤◌, [], length, IfOk, ◌+◌, ◌==◌, ◌↔◌, OnErr, IfSome, IfNone, IsNone, ℕ, slice_index, ◌-◌, IfErr};
+ghost use Rattle.unique_table.specs.Plans.{AreGivenBy, IsPlanFor, IsPlan, order_of, levels_of, variable_at, piece_function};
+ghost use Rattle.order_model.specs.Problems.{functions};
+ghost use Rattle.order_model.specs.Functions.{Point};
+ghost use Rattle.node_words.specs.Nodes.{node_word, IsFullFor, IsIdOf};
+ghost use Rattle.node_words.specs.Meaning.{branch};
+ghost use Rattle.unique_table.specs.Sessions.{Knows, IsKnownBelow, Means, Follows, HasParts, HasUniqueIds, function_in, depth_in, HasPiece};
+ghost use Rattle.node_words.specs.Entries.{combine};
+ghost use Rattle.order_model.specs.Diagrams.{Represents, IsReduced};
+ghost use Rattle.unique_table.specs.Closing.{Lacks};
+
+use crate::close::{CloseFault, last_diagram};
+use crate::create::{cache_places, kind_of, node_places, parts_count};
+use crate::plan::{Pieces, Plan};
+use crate::plays::{Both, Words};
+use crate::session::{NodeId, Session, View};
+use crate::words;
+use atomic_table::Table;
+use node_words::{NodeParts, Operation, entry_key, node_parts, node_word};
+use order_model::{Diagram, Order, Problem};
+use std::alloc::{AllocError, Global};
+use std::marker::Model;
+use std::snapshot::Snapshot;
+
+/// A store of nodes: equal functions have equal ids. Threads share it by reference, each with a session of its own.
+#[derive(Drop)]
+pub struct Store {
+    pub(crate) table: Table<(), View, Plan, Words, Global>,
+    pub(crate) places: usize,
+    pub(crate) entries: usize,
+    pub(crate) roots: usize,
+    pub(crate) pieces: usize,
+    pub(crate) order: Order,
+}
+
+impl Model for Store {
+    ghost use Rattle.unique_table.specs.Sessions.{StoreId};
+
+    ghost Value = { StoreId };
+
+    ghost use Rattle.unique_table.specs.Insides.{store_id, IsStore};
+
+    ghost view = { store_id };
+
+    ghost invariant = { IsStore };
+}
+
+/// Each place is taken by another node.
+#[derive(Clone, Copy, Debug, PartialEq, Eq)]
+pub struct StoreFull;
+
+impl Store {
+    /// A store for the functions of a problem under an order, and a session that knows the terminals. The condition on terms: they give the
+    /// problem's functions.
+    pub fn new(
+        alloc: Global,
+        order: Order,
+        problem: &Problem,
+        pieces: Pieces<'_>,
+    ) -> Result<(Store, Session), AllocError>
+        requires inputs { problem.now.inputs ≡ length order }
+        requires terms { AreGivenBy pieces problem.now }
+        ensures plan { IfOk result (λ r. IsPlanFor r.0.plan order problem.now pieces.entry) }
+        ensures session { IfOk result (λ r. r.1 ≡ record { store = r.0; seen = []; pieces = []; steps = 0; writes = 0 }) }
+    {
+        let kind = kind_of(alloc, pieces)?;
+        let places = node_places();
+        let entries = cache_places();
+        let outputs = problem.outputs();
+        let roots = parts_count(&kind, &order, outputs);
+        let pieces = roots + usize::from(outputs);
+        let _levels = order.len();
+        let _variables = order.variables();
+        let plan = Plan {
+            places,
+            entries,
+            roots,
+            pieces,
+            order: Snapshot::of(&order),
+            problem: Snapshot::of(problem),
+            kind,
+        };
+        let words = vec![in alloc; 0u64; places + entries + pieces]?;
+        let (table, seat) = Table::of_words(alloc, words.as_slice(), &plan)?;
+        let store = Store {
+            table,
+            places,
+            entries,
+            roots,
+            pieces,
+            order,
+        };
+        Ok((store, Session { seat }))
+    }
+
+    /// The order, top first.
+    pub fn order(&self) -> &Order
+        ensures value { result.now ≡ order_of self.now.plan }
+        ensures plan { IsPlan self.now.plan }
+    {
+        &self.order
+    }
+
+    /// How many pieces there are, the outputs among them.
+    pub fn pieces(&self) -> usize
+        ensures value { result ≡ self.now.plan.pieces }
+        ensures plan { IsPlan self.now.plan }
+    {
+        self.pieces
+    }
+
+    /// The number of the first piece that is an output.
+    pub fn roots(&self) -> usize
+        ensures value { result ≡ self.now.plan.roots }
+        ensures plan { IsPlan self.now.plan }
+    {
+        self.roots
+    }
+
+    /// How many places the cache has.
+    pub fn cache_places(&self) -> usize
+        ensures value { result ≡ self.now.plan.entries }
+        ensures plan { IsPlan self.now.plan }
+    {
+        self.entries
+    }
+
+    /// The id of the node with this level and these children, or the child where they are equal. It takes at most two steps per place.
+    pub fn make(
+        &self,
+        session: &mut Session,
+        level: u8,
+        low: NodeId,
+        high: NodeId,
+    ) -> Result<NodeId, StoreFull>
+        requires session { session.old.store ≡ self.now }
+        requires level { level < levels_of self.now.plan }
+        requires low { IsKnownBelow session.old level low }
+        requires high { IsKnownBelow session.old level high }
+        ensures follows { Follows session.old session.new }
+        ensures id { IfOk result (λ id. IsIdOf session.new.seen level low high id) }
+        ensures function { IfOk result (λ id. Means session.new id (branch (variable_at self.now.plan level) (function_in session.new low) (function_in session.new high))) }
+        ensures level { IfOk result (λ id. level ≤ depth_in session.new id) }
+        ensures unique { HasUniqueIds session.new }
+        ensures full { OnErr result (IsFullFor session.new.seen self.now.plan.places (node_word level low high)) }
+        ensures steps { session.new.steps ≤ session.old.steps + 2 * self.now.plan.places }
+        ensures writes { OnErr result (session.new.writes ≡ session.old.writes) }
+    {
+        let places = self.places;
+        let seat = &mut session.seat;
+        if low == high {
+            return Ok(low);
+        }
+        let word = node_word(level, low, high);
+        let Some(place) = words::find_or_put(&self.table.shared, seat, places, word) else {
+            return Err(StoreFull);
+        };
+        Ok(place as u32 + 2)
+    }
+
+    /// The level and the children of a node, which the session knows then; None for a terminal. It takes at most one step.
+    pub fn node(&self, session: &mut Session, id: NodeId) -> Option<NodeParts>
+        requires session { session.old.store ≡ self.now }
+        requires known { Knows session.old id }
+        ensures follows { Follows session.old session.new }
+        ensures terminal { IsNone result ↔ (id < 2) }
+        ensures constant { IfNone result ((p : Point) → function_in session.new id p ≡ (id == 1)) }
+        ensures parts { IfSome result (λ parts. HasParts session.new id parts) }
+        ensures steps { session.new.steps ≤ session.old.steps + 1 }
+        ensures writes { session.new.writes ≡ session.old.writes }
+    {
+        let seat = &mut session.seat;
+        if id < 2 {
+            return None;
+        }
+        let word = words::look(&self.table.shared, seat, id as usize - 2);
+        Some(node_parts(word))
+    }
+
+    /// The id that a cache place has for an operation on two ids, if it is for these. It takes one step.
+    pub fn entry(
+        &self,
+        session: &mut Session,
+        place: usize,
+        operation: Operation,
+        first: NodeId,
+        second: NodeId,
+    ) -> Option<NodeId>
+        requires session { session.old.store ≡ self.now }
+        requires place { place < self.now.plan.entries }
+        requires known { Knows session.old first × Knows session.old second }
+        ensures follows { Follows session.old session.new }
+        ensures function { IfSome result (λ id. Means session.new id (combine operation (function_in session.new first) (function_in session.new second))) }
+        ensures level { IfSome result (λ id. (k : ℕ) → k ≤ depth_in session.new first → k ≤ depth_in session.new second → k ≤ depth_in session.new id) }
+        ensures steps { session.new.steps ≡ session.old.steps + 1 }
+        ensures writes { session.new.writes ≡ session.old.writes }
+    {
+        let at = self.places + place;
+        let seat = &mut session.seat;
+        let key = entry_key(operation, first, second);
+        let word = words::recall(&self.table.shared, seat, at, place);
+        if word >> 20 != key {
+            return None;
+        }
+        Some((word % (1 << 20)) as u32)
+    }
+
+    /// Has a cache place know the result of an operation on two ids. It takes one step.
+    pub fn set_entry(
+        &self,
+        session: &mut Session,
+        place: usize,
+        operation: Operation,
+        first: NodeId,
+        second: NodeId,
+        id: NodeId,
+    )
+        requires session { session.old.store ≡ self.now }
+        requires place { place < self.now.plan.entries }
+        requires known { Knows session.old first × Knows session.old second }
+        requires function { Means session.old id (combine operation (function_in session.old first) (function_in session.old second)) }
+        ensures follows { Follows session.old session.new }
+        ensures steps { session.new.steps ≡ session.old.steps + 1 }
+        ensures writes { session.new.writes ≡ session.old.writes + 1 }
+    {
+        let at = self.places + place;
+        let seat = &mut session.seat;
+        let key = entry_key(operation, first, second);
+        let word = (key << 20) + u64::from(id);
+        words::remember(&self.table.shared, seat, at, place, word);
+    }
+
+    /// Tells all threads the id of a piece's function. It takes one step.
+    pub fn publish(&self, session: &mut Session, piece: usize, id: NodeId)
+        requires session { session.old.store ≡ self.now }
+        requires piece { piece < self.now.plan.pieces }
+        requires function { Means session.old id (piece_function self.now.plan piece) }
+        ensures follows { Follows session.old session.new }
+        ensures stored { HasPiece session.new piece id }
+        ensures steps { session.new.steps ≡ session.old.steps + 1 }
+        ensures writes { session.new.writes ≡ session.old.writes + 1 }
+    {
+        let place = self.places + self.entries + piece;
+        words::publish(&self.table.shared, &mut session.seat, place, piece, id);
+    }
+
+    /// The id of a piece, if it is seen published. It takes one step.
+    pub fn collect(&self, session: &mut Session, piece: usize) -> Option<NodeId>
+        requires session { session.old.store ≡ self.now }
+        requires piece { piece < self.now.plan.pieces }
+        ensures follows { Follows session.old session.new }
+        ensures stored { IfSome result (λ id. HasPiece session.new piece id) }
+        ensures function { IfSome result (λ id. Means session.new id (piece_function self.now.plan piece)) }
+        ensures none { IfNone result (slice_index session.new.pieces piece ≡ 0) }
+        ensures steps { session.new.steps ≡ session.old.steps + 1 }
+        ensures writes { session.new.writes ≡ session.old.writes }
+    {
+        let place = self.places + self.entries + piece;
+        let word = words::collect(&self.table.shared, &mut session.seat, place, piece);
+        if word == 0 {
+            return None;
+        }
+        Some((word - 1) as u32)
+    }
+
+    /// Two sessions that know what the one knew. The second one's counts begin at 0.
+    pub fn split(&self, session: Session) -> (Session, Session)
+        requires { session.store ≡ self.now }
+        ensures first { result.0 ≡ record session { steps = session.steps + 1 } }
+        ensures second { result.1 ≡ record session { steps = 0; writes = 0 } }
+    {
+        let Session { mut seat } = session;
+        let other = self.table.shared.split_seat::<Both>(&mut seat);
+        (Session { seat }, Session { seat: other })
+    }
+
+    /// A session that knows what both knew, with the counts of both. It takes two steps.
+    pub fn join(&self, one: Session, two: Session) -> Session
+        requires one { one.store ≡ self.now }
+        requires two { two.store ≡ self.now }
+        ensures one { Follows one result }
+        ensures two { Follows two result }
+        ensures unique { HasUniqueIds result }
+        ensures steps { result.steps ≡ one.steps + two.steps + 2 }
+        ensures writes { result.writes ≡ one.writes + two.writes }
+    {
+        let Session { mut seat } = one;
+        let Session { seat: other } = two;
+        self.table.shared.join_seat::<Both>(&mut seat, other);
+        words::look(&self.table.shared, &mut seat, 0);
+        Session { seat }
+    }
+
+    /// The reduced diagram of the store's functions: the published roots, with the nodes that they reach. The store is spent in every case.
+    pub fn close(self, alloc: Global, session: Session) -> Result<Diagram, CloseFault>
+        requires { session.store ≡ self }
+        ensures order { IfOk result (λ d. d.order ≡ order_of self.plan) }
+        ensures diagram { IfOk result (λ d. Represents (levels_of self.plan) (functions self.plan.problem.value) (order_of self.plan) d.graph) }
+        ensures reduced { IfOk result (λ d. IsReduced d.graph) }
+        ensures missing { IfErr result (Lacks session) }
+    {
+        let Store {
+            table,
+            places,
+            entries,
+            roots,
+            pieces,
+            order,
+        } = self;
+        let Session { seat } = session;
+        let closed = table.close_with(seat);
+        let first = places + entries + roots;
+        let outputs = (pieces - roots) as u8;
+        let diagram = last_diagram(alloc, &closed, places, first, outputs, order);
+        closed.free();
+        diagram
+    }
+}
