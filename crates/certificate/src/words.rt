@@ -1,7 +1,6 @@
 //! Lines, words, numbers and masks of a certificate's text.
 
-ghost use Rattle.std.specs.Prelude.{◌≡◌, ◌≤◌, ◌<◌, ◌==◌, ℕ, true, false, length, IfSome, IfNone, decimal as decimal_of};
-ghost use Rattle.std.specs.List.{position_or_len};
+ghost use Rattle.std.specs.Prelude.{◌≡◌, ◌≤◌, ◌<◌, ◌==◌, ℕ, true, false, length, position, IfSome, IfNone, decimal as decimal_of};
 ghost use Rattle.std.specs.Fmt.{digit_glyph};
 ghost use Rattle.certificate.specs.Spelling.{most_nodes};
 ghost use Rattle.certificate.specs.Faults.{is_decimal, is_mask, mask_of, number_of};
@@ -13,21 +12,12 @@ use order_model::Mask;
 /// The most digits of a number: all bounds are below a million.
 const MOST_DIGITS: usize = 6;
 
-/// How many bytes stand before a byte, or all of them.
-fn len_until(text: &[u8], byte: u8) -> usize
-    ensures value { result ≡ position_or_len (λ b. b == byte) text.now }
-    ensures bound { result ≤ length text.now }
+/// The place of the first of a byte.
+fn place_of(text: &[u8], byte: u8) -> Option<usize>
+    ensures first { result ≡ position (λ b. b == byte) text.now }
+    ensures bound { IfSome result (λ place. place < length text.now) }
 {
-    let mut len = 0;
-    let mut rest = text;
-    while let [b, more @ ..] = rest {
-        if *b == byte {
-            break;
-        }
-        len += 1;
-        rest = more;
-    }
-    len
+    text.iter().position(|b| *b == byte)
 }
 
 /// What stands before the first of a byte, and what follows it.
@@ -35,11 +25,8 @@ pub(crate) fn cut(text: &[u8], byte: u8) -> Option<(&[u8], &[u8])>
     ensures some { IfSome result (λ parts. Cuts byte text.now parts.0.now parts.1.now) }
     ensures none { IfNone result (Lacks byte text.now) }
 {
-    let (front, rest) = text.split_at(len_until(text, byte));
-    match rest {
-        [] => None,
-        [_, behind @ ..] => Some((front, behind)),
-    }
+    let place = place_of(text, byte)?;
+    Some((&text[..place], &text[place + 1..]))
 }
 
 /// The number of a word that is a decimal of at most 999,999, as a certificate writes it.

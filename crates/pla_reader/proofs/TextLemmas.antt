@@ -1,7 +1,10 @@
 -- How lines and words begin.
-use Rattle.std.proofs.Common.{◌≡◌, ℕ, ◌+◌, ◌<◌, suc, refl, sym, ◌∙◌, ap, Bool, true, false, ◌==◌, List, [], ◌∷◌, length, take, drop, ◌-◌, arith, take_all, length-drop}
+use Rattle.std.proofs.Common.{◌≡◌, ℕ, ◌+◌, ◌<◌, suc, refl, sym, ◌∙◌, ap, Bool, true, false, ◌==◌, List, [], ◌∷◌, length, take, drop, ◌-◌, not, cond, nat_lt, Option, Some, None, position, unwrap_or, arith, take_all, length-drop}
 use Rattle.std.specs.List.{slice_index_or, position_or_len, onto_first, slice_split, filter}
+use Rattle.std.proofs.lemmas.Bool.{ltb-false}
+use Rattle.std.proofs.lemmas.List.Sums.{prefix_len-le-length}
 use Rattle.pla_reader.specs.Text.{is_filled, lines_of, is_blank, words}
+use Rattle.order_model.proofs.Lists.Digits.{behind_first}
 
 abbrev is_feed : ℕ → Bool
 is_feed b = b == 10
@@ -35,7 +38,7 @@ pub words_blank : (b : ℕ) (bs : List ℕ) → is_blank b ≡ true → words (b
 unfolding words
 words_blank b bs e = rw e refl
 
--- the parts behind the first
+-- the parts after the first
 abbrev after_parts : List ℕ → List (List ℕ)
 after_parts [] = []
 after_parts (y ∷ ys) = slice_split is_blank ys
@@ -48,7 +51,7 @@ split_front (x ∷ xs) = by (is_blank x) refl (split_front xs) where
   by true e ih = rw e refl
   by false e ih = rw e (rw (one_more (position_or_len is_blank xs)) (ap (onto_first x) ih))
 
--- what is left begins with a blank, so its words are the parts behind
+-- what is left begins with a blank, so its words are the parts after
 after_words : (xs : List ℕ) → filter is_filled (after_parts (drop (position_or_len is_blank xs) xs)) ≡ words (drop (position_or_len is_blank xs) xs)
 unfolding words
 after_words [] = refl
@@ -62,10 +65,6 @@ after_words (x ∷ xs) = by (is_blank x) refl (after_words xs) where
 pub words_word : (b : ℕ) (bs : List ℕ) → is_blank b ≡ false → words (b ∷ bs) ≡ take (position_or_len is_blank (b ∷ bs)) (b ∷ bs) ∷ words (drop (position_or_len is_blank (b ∷ bs)) (b ∷ bs))
 unfolding words
 words_word b bs e = rw e (rw (one_more (position_or_len is_blank bs)) (ap (λ parts. filter is_filled (onto_first b parts)) (split_front bs) ∙ ap (λ ws. (b ∷ take (position_or_len is_blank bs) bs) ∷ ws) (after_words bs)))
-
--- a slice behind its first element
-pub behind_first : (xs : List ℕ) → take (length xs - 1) (drop 1 xs) ≡ drop 1 xs
-behind_first xs = take_all (length xs - 1) (drop 1 xs) (simp length-drop (omega arith))
 
 -- a line without its blank in front
 pub words_rest : (xs : List ℕ) → 0 < length xs → is_blank (slice_index_or xs 0 0) ≡ true → words xs ≡ words (take (length xs - 1) (drop 1 xs))
@@ -89,3 +88,11 @@ first_line_from text front back n some at e f = rw (behind_first back) (rw e (rw
 pub word_some : (xs : List ℕ) → 0 < length xs → is_blank (slice_index_or xs 0 0) ≡ false → 0 < position_or_len is_blank xs
 word_some [] some e = absurd (omega (arith, some))
 word_some (b ∷ bs) some e = rw e (omega arith)
+
+-- the first place that passes a test, or the length where there is none
+pub place_or_len : (p : ℕ → Bool) (xs : List ℕ) (found : Option ℕ) → found ≡ position p xs → unwrap_or found (length xs) ≡ position_or_len p xs
+place_or_len p xs found e = ap (λ o. unwrap_or o (length xs)) e ∙ by (nat_lt (position_or_len p xs) (length xs)) refl
+  where
+    by : (t : Bool) → nat_lt (position_or_len p xs) (length xs) ≡ t → unwrap_or (cond t (Some (position_or_len p xs)) None) (length xs) ≡ position_or_len p xs
+    by true t = refl
+    by false t = let le = prefix_len-le-length (λ x. not (p x)) xs in let ge = ltb-false (position_or_len p xs) (length xs) t in omega arith

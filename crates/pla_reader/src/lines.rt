@@ -1,24 +1,23 @@
 //! Lines, words and numbers.
 
-ghost use Rattle.std.specs.Prelude.{◌≡◌, ◌<◌, ◌≤◌, ◌==◌, ◌||◌, ◌∷◌, [], false, IsTrue, length, IfSome, IfNone, Some, None};
+ghost use Rattle.std.specs.Prelude.{◌≡◌, ◌<◌, ◌≤◌, ◌==◌, ◌||◌, ◌∷◌, [], false, IsTrue, length, position, IfSome, IfNone, Some, None};
 ghost use Rattle.std.specs.List.{position_or_len, list_all};
 ghost use Rattle.pla_reader.specs.Text.{lines_of, is_blank, bar, words, content as content_of, only_word as one_word, is_number, number_of, is_name};
+
+/// The place of the first of a byte.
+fn place_of(text: &[u8], byte: u8) -> Option<usize>
+    ensures first { result ≡ position (λ b. b == byte) text.now }
+    ensures bound { IfSome result (λ place. place < length text.now) }
+{
+    text.iter().position(|b| *b == byte)
+}
 
 /// How many bytes stand before a byte, or all of them.
 fn len_until(text: &[u8], byte: u8) -> usize
     ensures value { result ≡ position_or_len (λ b. b == byte) text.now }
     ensures bound { result ≤ length text.now }
 {
-    let mut len = 0;
-    let mut rest = text;
-    while let [b, more @ ..] = rest {
-        if *b == byte {
-            break;
-        }
-        len += 1;
-        rest = more;
-    }
-    len
+    place_of(text, byte).unwrap_or(text.len())
 }
 
 /// Whether a byte is a blank.
@@ -35,21 +34,20 @@ pub(crate) fn skipped(b: u8) -> bool
     blank(b) || b == b'|'
 }
 
+/// The place of the first blank.
+fn blank_place(text: &[u8]) -> Option<usize>
+    ensures first { result ≡ position is_blank text.now }
+    ensures bound { IfSome result (λ place. place < length text.now) }
+{
+    text.iter().position(|b| blank(*b))
+}
+
 /// How many bytes stand before a blank, or all of them.
 fn word_len(text: &[u8]) -> usize
     ensures value { result ≡ position_or_len is_blank text.now }
     ensures bound { result ≤ length text.now }
 {
-    let mut len = 0;
-    let mut rest = text;
-    while let [b, more @ ..] = rest {
-        if blank(*b) {
-            break;
-        }
-        len += 1;
-        rest = more;
-    }
-    len
+    blank_place(text).unwrap_or(text.len())
 }
 
 /// The first line of a text that isn't empty, and what follows its line feed.
@@ -135,14 +133,7 @@ pub(crate) fn has_names(text: &[u8]) -> bool
 fn is_graphic(word: &[u8]) -> bool
     ensures { result ≡ is_name word.now }
 {
-    let mut rest = word;
-    while let [b, more @ ..] = rest {
-        if !b.is_ascii_graphic() {
-            return false;
-        }
-        rest = more;
-    }
-    true
+    word.iter().all(|b| b.is_ascii_graphic())
 }
 
 /// The value of a number.

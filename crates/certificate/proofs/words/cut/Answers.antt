@@ -1,11 +1,18 @@
-use Rattle.std.proofs.Common.{take_all, length-drop, arith}
+use Rattle.std.proofs.Common.{◌≡◌, ◌+◌, ◌-◌, ℕ, List, IfNone, None, Some, take, drop, length, take_all, length-drop, refl, sym, subst, arith}
+use Rattle.certificate.specs.Parsing.{Cuts, Lacks}
 use Rattle.certificate.proofs.Cutting.{cut_at, cut_nowhere}
 use Rattle.certificate.proofs.words.cut.Goals as goal
 
-pub returns-in-empty-clause-none : goal.returns-in-empty-clause-none
-returns-in-empty-clause-none c = cut_nowhere c.args.byte c.args.text.now c.split_at.result.1.now c.len_until.result c.len_until.ensures.value (omega (arith, c.split_at.ensures.back_len))
+-- the rest of a text, as it is cut
+rest_of : (text : List ℕ) (k : ℕ) → take (length text - (k + 1)) (drop (k + 1) text) ≡ drop (k + 1) text
+rest_of text k = take_all (length text - (k + 1)) (drop (k + 1) text) (simp length-drop (omega arith))
 
-pub returns-in-len1-up-clause-some : goal.returns-in-len1-up-clause-some
-returns-in-len1-up-clause-some c =
-    cut_at c.args.byte c.args.text.now c.split_at.result.0.now c.split_at.result.1.now _ c.len_until.result c.len_until.ensures.value (omega (arith, c.split_at.ensures.back_len)) c.split_at.ensures.front c.split_at.ensures.back
-    (take_all _ _ (omega (arith, length-drop 1 c.split_at.result.1.now)))
+pub returns-in_err-place-clause-none : goal.returns-in_err-place-clause-none
+returns-in_err-place-clause-none c =
+    subst (λ found. IfNone found (Lacks c.args.byte c.args.text.now)) (sym c.from_residual.ensures) (cut_nowhere c.args.byte c.args.text.now None c.in_err-place.ensures.first refl)
+
+pub returns-clause-some : goal.returns-clause-some
+returns-clause-some c =
+    let text = c.args.text.now in
+    let k = c.in_ok-place.place in
+    subst (Cuts c.args.byte text (take k text)) (sym (rest_of text k)) (cut_at c.args.byte text (Some k) k c.in_ok-place.ensures.first refl)

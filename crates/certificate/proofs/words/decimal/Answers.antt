@@ -2,7 +2,8 @@ use Rattle.std.proofs.Common.{◌≡◌, true, false, rules, sym, ◌∙◌, get
 use Rattle.std.specs.Char.{is_ascii_digit}
 use Rattle.std.specs.Str.{all_ascii_digits}
 use Rattle.certificate.specs.Faults.{number_of}
-use Rattle.certificate.proofs.Numbers.{spelled_digits, decimal_some, decimal_short, decimal_leads, decimal_all, digits_rest, value_rest, digit_range, no_digits, no_more_digits, no_more_value, pow_more}
+use Rattle.certificate.proofs.Numbers.{spelled_digits, decimal_some, decimal_short, decimal_leads, decimal_all, digits_rest, value_rest, digit_range, no_digits}
+use Rattle.order_model.proofs.Lists.Digits.{pow_more, no_more_digits, no_more_value}
 use Rattle.certificate.proofs.words.decimal.Goals as goal
 
 pub returns-then-is_empty-clause-none : goal.returns-then-is_empty-clause-none
