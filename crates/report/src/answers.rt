@@ -15,7 +15,7 @@ ghost use Rattle.report.specs.Texts.{file_order_levels, functions_of, report_par
 
 use crate::certificates::certificate_text;
 use crate::outcome::Shortage;
-use crate::texts::{report_text, total};
+use crate::texts::{Report, report_text, total};
 use command_line::RunPlan;
 use dd_builder::{build, build_tables};
 use order_model::{Diagram, NoGate, Order, Pairs, PairsFault, Workers};
@@ -190,15 +190,15 @@ fn report_of<R: Threads + Sync>(
 {
     let best = found.solution.order.variables();
     let levels = levels_under(rt, alloc, tables, &found.solution.order, workers)?;
-    let text = report_text(
-        alloc,
-        cover.input_names(),
-        best,
-        &levels,
-        found.sifted.variables(),
-        found.sifted_size,
-        total(file_levels),
-    )?;
+    let report = Report {
+        names: cover.input_names(),
+        order: best,
+        levels: &levels,
+        sifted: found.sifted.variables(),
+        sifted_size: found.sifted_size,
+        file_size: total(file_levels),
+    };
+    let text = report_text(alloc, &report)?;
     Ok(text)
 }
 

@@ -1,15 +1,20 @@
 //! What the programs do with their files: texts, outcomes, runs, checks and command lines.
 #![tactic(auto)]
 
-mod answers;
-mod certificates;
+// The programs, from words to a status.
 mod check_program;
+mod messages;
+mod program;
+
+// Runs and checks over readers and writers, and how they end.
 mod checks;
 pub mod laws;
-mod messages;
 mod outcome;
-mod program;
 mod runs;
+
+// Answers, and the texts that are made of them.
+mod answers;
+mod certificates;
 mod texts;
 mod verdict_texts;
 

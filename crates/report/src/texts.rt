@@ -16,11 +16,7 @@ pub(crate) fn total(counts: &[u32]) -> u64
     requires { length counts.now ≤ 16 }
     ensures { result ≡ sum counts.now }
 {
-    let mut total: u64 = 0;
-    for count in counts {
-        total += *count as u64;
-    }
-    total
+    counts.iter().map(|&count| u64::from(count)).sum()
 }
 
 /// Appends numbers, each after a space.
@@ -130,20 +126,32 @@ fn push_counts(text: &mut String, levels: &[u32]) -> Result<(), AllocError>
     Ok(())
 }
 
+/// What the seven lines of a report say.
+#[derive(Drop)]
+pub(crate) struct Report<'a> {
+    pub(crate) names: &'a [String],
+    pub(crate) order: &'a [VarIx],
+    pub(crate) levels: &'a [u32],
+    pub(crate) sifted: &'a [VarIx],
+    pub(crate) sifted_size: u32,
+    pub(crate) file_size: u64,
+}
+
 /// Appends the three lines of the sifted order, its size and the size under the file order.
-fn push_sizes(
-    text: &mut String,
-    order: &[VarIx],
-    size: u32,
-    file_size: u64,
-) -> Result<(), AllocError>
-    ensures { OnOk result (string_bytes text.new ≡ string_bytes text.old ++ sizes_lines order.now size file_size) }
+fn push_sizes(text: &mut String, report: &Report<'_>) -> Result<(), AllocError>
+    ensures { OnOk result (string_bytes text.new ≡ string_bytes text.old ++ sizes_lines report.now.sifted.now report.now.sifted_size report.now.file_size) }
 {
+    let Report {
+        sifted,
+        sifted_size,
+        file_size,
+        ..
+    } = report;
     text.push_str("sifted order: ")?;
-    push_variables(text, order)?;
+    push_variables(text, sifted)?;
     write!(
         text,
-        "\nsifted nodes: {size}\nfile order nodes: {file_size}\n"
+        "\nsifted nodes: {sifted_size}\nfile order nodes: {file_size}\n"
     )?;
     Ok(())
 }
@@ -168,23 +176,16 @@ fn names_room(names: &[String]) -> usize {
 }
 
 /// The seven lines of a report, whose storage is reserved before its first byte is made.
-pub(crate) fn report_text(
-    alloc: Global,
-    names: &[String],
-    order: &[VarIx],
-    levels: &[u32],
-    sifted: &[VarIx],
-    sifted_size: u32,
-    file_size: u64,
-) -> Result<String, AllocError>
-    requires order { All (λ x. x < length names.now) order.now }
-    requires levels { length levels.now ≤ 16 }
+pub(crate) fn report_text(alloc: Global, report: &Report<'_>) -> Result<String, AllocError>
+    requires order { All (λ x. x < length report.now.names.now) report.now.order.now }
+    requires levels { length report.now.levels.now ≤ 16 }
     ensures { IfOk result (λ text. string_bytes text
-        ≡ order_lines (map string_bytes names.now) order.now ++ counts_lines levels.now ++ sizes_lines sifted.now sifted_size file_size) }
+        ≡ order_lines (map string_bytes report.now.names.now) report.now.order.now ++ counts_lines report.now.levels.now ++ sizes_lines report.now.sifted.now report.now.sifted_size report.now.file_size) }
 {
-    let mut text = String::with_capacity(alloc, names_room(names).saturating_add(LONGEST))?;
-    push_order(&mut text, names, order)?;
-    push_counts(&mut text, levels)?;
-    push_sizes(&mut text, sifted, sifted_size, file_size)?;
+    let room = names_room(report.names).saturating_add(LONGEST);
+    let mut text = String::with_capacity(alloc, room)?;
+    push_order(&mut text, report.names, report.order)?;
+    push_counts(&mut text, report.levels)?;
+    push_sizes(&mut text, report)?;
     Ok(text)
 }
