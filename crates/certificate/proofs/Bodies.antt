@@ -1,4 +1,4 @@
--- The lines behind the first six, to the end of a text.
+-- The lines after the first six, to the end of a text.
 use Rattle.std.proofs.Common.{◌≡◌, ℕ, ◌+◌, ◌-◌, ◌^◌, refl, sym, ◌∙◌, ap, subst, inl, inr, ◌⊎◌, List, [], ◌∷◌, ◌++◌, length, map, codes, Option, Some, None, Result, Ok, Err, append_assoc, Vec, Global}
 use Rattle.std.specs.Result.{IsErrAnd}
 use Rattle.std.proofs.lemmas.List.{length-append}
@@ -70,7 +70,7 @@ first_told format n number text cells one takes pre six says known =
       t.1,
     )
 
--- format 2: pairs, and what stands behind them
+-- format 2: pairs, and what stands after them
 pub pairs_fail : (format n number : ℕ) (text : List ℕ) (after : ℕ) (rest : List ℕ) (fault : CertFault) (result : Result (Option (Vec Pair Global) × Vec ListedCell Global) CertFault) → IsErrAnd result (λ e. e ≡ fault) → format ≡ 2 →
     TakesSection {V = Vec Pair Global} (codes "pairs") most_pairs (is_pair n) pair_key_of read_pair (λ v. v.items) number text after rest (Err fault) → TakesBody format n number text result
 pairs_fail format n number text after rest fault (Ok v) is two takes = elim is [ ]

@@ -14,10 +14,7 @@ use Rattle.certificate.proofs.WordLines.{decimal_back, hex_back}
 use Rattle.certificate.proofs.Judges.{Pass, both_are, decimal_passes, decimal_is, mask_passes, mask_is, field_passes, field_is, one_number}
 use Rattle.certificate.proofs.Rising.{rise_pairs, pairs_rise}
 use Rattle.certificate.proofs.Sections.{StandAt, entries_pass, entries_are, IsKind, write_entries, read_entries, read_back}
-
--- the two kinds of entries
-pub top_power : (n : ℕ) → n ≤ 16 → 2 ^ n ≤ 65536
-top_power n small = pow-le-pow_right {n = 2} (lit< tt) {i = n} {j = 16} small
+use Rattle.order_model.proofs.Bits.Masks.{power_small}
 
 pub pair_kind : (n : ℕ) → 1 ≤ n → n ≤ 16 → IsKind pair_words read_pair pair_key (IsPair n) (is_pair n) pair_key_of
 pair_kind n some small = record { written = written; back = back; told = told } where
@@ -43,7 +40,7 @@ pub cell_kind : (n : ℕ) → n ≤ 16 → IsKind cell_words read_cell mask_key 
 cell_kind n small = record { written = written; back = back; told = told } where
   written : (c : Cell) → IsCell n c → (a : List ℕ) × (b : List ℕ) × (cell_words c ≡ a ∷ b ∷ []) × (is_cell n a b ≡ true) × (cell_key_of a b ≡ mask_key c)
   written c is =
-      let mask = is.mask in let cost = is.cost in let top = top_power n small in (
+      let mask = is.mask in let cost = is.cost in let top = power_small n small in (
         hex4 c.mask,
         decimal c.cost,
         refl,
@@ -52,7 +49,7 @@ cell_kind n small = record { written = written; back = back; told = told } where
       )
 
   back : (c : Cell) → IsCell n c → read_cell (cell_words c) ≡ c
-  back c is = let mask = is.mask in let cost = is.cost in let top = top_power n small in rw (hex_back c.mask (omega arith)) (rw (decimal_back c.cost (omega (arith, cost))) refl)
+  back c is = let mask = is.mask in let cost = is.cost in let top = power_small n small in rw (hex_back c.mask (omega arith)) (rw (decimal_back c.cost (omega (arith, cost))) refl)
 
   told : (a b : List ℕ) → is_cell n a b ≡ true → (cell_words (read_cell (a ∷ b ∷ [])) ≡ a ∷ b ∷ []) × IsCell n (read_cell (a ∷ b ∷ [])) × (mask_key (read_cell (a ∷ b ∷ [])) ≡ cell_key_of a b)
   told a b e =

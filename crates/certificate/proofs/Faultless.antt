@@ -17,7 +17,8 @@ use Rattle.certificate.proofs.WordLines.{decimal_back}
 use Rattle.certificate.proofs.Judges.{Pass, pass_length, all_same_is, IsFrom, field_is, one_number}
 use Rattle.certificate.proofs.Spelled.{no_fault}
 use Rattle.certificate.specs.Decoded.{read_pair, read_cell, mask_key, section_said, cells_place, cert_of}
-use Rattle.certificate.proofs.Decoded.{top_power, pair_kind, cell_kind, IsSection, section_is}
+use Rattle.certificate.proofs.Decoded.{pair_kind, cell_kind, IsSection, section_is}
+use Rattle.order_model.proofs.Bits.Masks.{power_small}
 
 -- lines without a fault pass
 none_pass : (number : ℕ) (js : List Judge) (ws : List (List (List ℕ))) → line_faults number js ws ≡ [] → (vs : List (List (List ℕ))) × (us : List (List (List ℕ))) × (ws ≡ vs ++ us) × Pass js vs
@@ -164,7 +165,7 @@ cells_said n pre vs cs post ws few six parts number pairs pass =
     let front = pre ++ vs in
     let place : cells_place ws ≡ length front = ap (λ k. 6 + k) (pass_length (pairs_judges ws) vs pairs) ∙ ap (λ k. k + length vs) (sym six) ∙ sym (length-append pre vs) in
     let apart : ws ≡ front ++ (cs ++ post) = parts ∙ sym (append_assoc pre vs (cs ++ post)) in
-    let most_small : 2 ^ n - 1 < 2 ^ 64 = let top = top_power n few in omega (arith, top) in
+    let most_small : 2 ^ n - 1 < 2 ^ 64 = let top = power_small n few in omega (arith, top) in
     let known = subst (λ k. Pass (section_judges (codes "cells") (2 ^ k - 1) (is_cell k) cell_key_of ws (cells_place ws)) cs) number pass in
     let placed = subst (λ at. Pass (section_judges (codes "cells") (2 ^ n - 1) (is_cell n) cell_key_of ws at) cs) place known in
     let moved = subst (λ lines. Pass (section_judges (codes "cells") (2 ^ n - 1) (is_cell n) cell_key_of lines (length front)) cs) apart placed in

@@ -8,7 +8,7 @@ use Rattle.certificate.specs.declared.faults.LineFault.TheVariants.{BadLine}
 use Rattle.certificate.specs.Faults.{words, same, number_of, fixed_fault, title_fault, field_fault}
 use Rattle.certificate.specs.Parsing.{Lacks, Cuts}
 use Rattle.certificate.proofs.Judges.{same_is, same_self, all_same_is}
-use Rattle.certificate.proofs.Numbers.{not_true}
+use Rattle.std.proofs.lemmas.Bool.{false_from_ne_true}
 
 -- the words of a line that a space parts
 pub cut_words : (line front behind : List ℕ) → Cuts 32 line front behind → words line ≡ front ∷ words behind
@@ -45,7 +45,7 @@ not_two name least most (w ∷ n ∷ m ∷ more) never =
 
 -- a line that isn't what is wanted
 other_words : (wanted : List (List ℕ)) (line text : List ℕ) → join_with_byte 32 wanted ≡ text → same line text ≡ false → pointwise same (words line) wanted ≡ false
-other_words wanted line text joined other = not_true (pointwise same (words line) wanted) (λ yes.
+other_words wanted line text joined other = false_from_ne_true (pointwise same (words line) wanted) (λ yes.
     let here : line ≡ text = sym (words_join line) ∙ ap (join_with_byte 32) (all_same_is (words line) wanted yes) ∙ joined in
     let wrong : false ≡ true = sym other ∙ (rw here (same_self text)) in absurd (cc (wrong)))
 

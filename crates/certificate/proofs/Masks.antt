@@ -6,7 +6,7 @@ use Rattle.certificate.specs.Spelling.{hex4}
 use Rattle.certificate.specs.Faults.{is_mask, mask_of}
 use Rattle.certificate.proofs.WordLines.{glyph_value}
 use Rattle.certificate.proofs.Judges.{same_self, mask_is}
-use Rattle.certificate.proofs.Numbers.{not_true}
+use Rattle.std.proofs.lemmas.Bool.{false_from_ne_true}
 
 abbrev glyph : ℕ → ℕ
 glyph d = digit_glyph false d
@@ -37,7 +37,7 @@ mask_yes n word a b c d e sa sb sc sd within =
 
 -- other words
 pub mask_no : (n : ℕ) (word : List ℕ) → (word ≡ hex4 (mask_of word) → mask_of word < 2 ^ n - 1 → ⊥) → is_mask n word ≡ false
-mask_no n word never = not_true (is_mask n word) (λ yes. let m = mask_is n word yes in never (sym m.0) m.1)
+mask_no n word never = false_from_ne_true (is_mask n word) (λ yes. let m = mask_is n word yes in never (sym m.0) m.1)
 
 pub four_long : (word : List ℕ) → word ≡ hex4 (mask_of word) → length word ≡ 4
 unfolding hex4

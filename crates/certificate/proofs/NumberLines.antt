@@ -13,7 +13,7 @@ use Rattle.certificate.proofs.Judges.{same_self}
 use Rattle.certificate.proofs.Outcomes.{said_first, step, stop}
 use Rattle.certificate.proofs.LineWords.{cut_words, whole_word}
 
--- the words behind one that passes a test, and a last one
+-- the words after one that passes a test, and a last one
 module _ (p : List ℕ → Bool) where
   pub cut_passes : (rest word more : List ℕ) → Cuts 32 rest word more → p word ≡ true → list_all p (words rest) ≡ list_all p (words more)
   cut_passes rest word more cuts e = rw (cut_words rest word more cuts) (rw e refl)

@@ -5,7 +5,7 @@ use Rattle.std.specs.Str.{all_ascii_digits}
 use Rattle.std.specs.Str.Parse.{digits_value_after}
 use Rattle.std.specs.Char.{is_ascii_digit, digit_value}
 use Rattle.std.proofs.lemmas.Bool.Decides.{nat_tests}
-use Rattle.std.proofs.lemmas.Bool.{cases_lt}
+use Rattle.std.proofs.lemmas.Bool.{cases_lt, false_from_ne_true}
 use Rattle.std.proofs.lemmas.Fmt.{decimal_nonempty, first_decimal, length-decimal-le, decimal-digits_value, digits_decimal}
 use Rattle.std.proofs.lemmas.Str.{digit_value_digit}
 use Rattle.std.proofs.lemmas.Str.Parse.{tells_all_ascii_digits, numerals_by_value}
@@ -14,6 +14,7 @@ use Rattle.std.proofs.Math.Nat.{pow-suc}
 use Rattle.certificate.specs.Spelling.{most_nodes}
 use Rattle.certificate.specs.Faults.{number_of, is_decimal}
 use Rattle.certificate.proofs.Judges.{same_self, decimal_is}
+use Rattle.order_model.proofs.Lists.Digits.{pow_more, no_more_digits, no_more_value, behind_first}
 
 -- digits without a leading zero, or just zero, are their number's decimal
 pub spelled_digits : (word : List ℕ) → all_ascii_digits word ≡ true → 0 < length word → (get_or word 0 0 ≡ 48 → length word ≡ 1) → number_of word < 2 ^ 64 → decimal (number_of word) ≡ word
@@ -44,20 +45,9 @@ bounded least most v word e number low high =
     let first : nat_le least v ≡ true = grind (arith, nat_tests) in let second : nat_le v most ≡ true = grind (arith, nat_tests) in
     rw number (rw e (rw (same_self word) (rw first (rw second refl))))
 
-pub not_true : (b : Bool) → (b ≡ true → ⊥) → b ≡ false
-not_true true never = absurd (never refl)
-not_true false never = refl
-
 pub unbounded : (least most : ℕ) (word : List ℕ) → most ≤ most_nodes → ((n : ℕ) → n ≤ most_nodes → least ≤ n → n ≤ most → n ≡ number_of word → word ≡ decimal n → ⊥) → is_decimal least most word ≡ false
 unbounded least most word few never =
-    not_true (is_decimal least most word) (λ yes. let d = decimal_is least most word yes in let high = d.1.1 in never (number_of word) (omega (arith, high, few)) d.1.0 d.1.1 refl (sym d.0))
-
--- digits read one by one, as in the numbers of descriptions
-pub pow_more : (n k v d : ℕ) → v < 10 ^ k → d < 10 → n ≡ suc k → v * 10 + d < 10 ^ n
-pow_more n k v d h small e = rw e (rw (pow-suc 10 k) (omega arith))
-
-behind_first : (xs : List ℕ) → take (length xs - 1) (drop 1 xs) ≡ drop 1 xs
-behind_first xs = take_all (length xs - 1) (drop 1 xs) (omega (arith, length-drop 1 xs))
+    false_from_ne_true (is_decimal least most word) (λ yes. let d = decimal_is least most word yes in let high = d.1.1 in never (number_of word) (omega (arith, high, few)) d.1.0 d.1.1 refl (sym d.0))
 
 pub digits_rest : (xs : List ℕ) → 0 < length xs → is_ascii_digit (get_or xs 0 0) ≡ true → all_ascii_digits xs ≡ all_ascii_digits (take (length xs - 1) (drop 1 xs))
 digits_rest [] some e = absurd (omega (arith, some))
@@ -77,10 +67,3 @@ pub no_digits : (xs : List ℕ) → 0 < length xs → is_ascii_digit (get_or xs 
 no_digits [] some e = absurd (omega (arith, some))
 no_digits (x ∷ xs) some e = rw e refl
 
-pub no_more_digits : (xs : List ℕ) → length xs ≡ 0 → all_ascii_digits xs ≡ true
-no_more_digits [] e = refl
-no_more_digits (x ∷ xs) e = absurd (omega (arith, e))
-
-pub no_more_value : (v : ℕ) (xs : List ℕ) → length xs ≡ 0 → digits_value_after 10 v xs ≡ v
-no_more_value v [] e = refl
-no_more_value v (x ∷ xs) e = absurd (omega (arith, e))

@@ -1,4 +1,4 @@
--- How the faults of a text follow from its first line and the lines behind it.
+-- How the faults of a text follow from its first line and the lines after it.
 use Rattle.std.proofs.Common.{◌≡◌, ℕ, ◌+◌, ◌<◌, suc, refl, ◌∙◌, ap, Bool, true, false, ◌==◌, nat_lt, List, [], ◌∷◌, ◌++◌, length, map, take, None, Some, Result, Ok, Err, IfErr, arith}
 use Rattle.std.specs.List.{AllByRecursion}
 use Rattle.std.specs.Result.{IsErrAnd}
@@ -77,7 +77,7 @@ pub asked_missing : {V : Type 0} (judge : Judge) (number after : ℕ) (text rest
 asked_missing judge number after text rest' P fault (Ok value) is lacks e = elim is [ ]
 asked_missing judge number after text rest' P fault (Err given) is lacks e = rw (is ∙ e) (λ js. missing number judge js text lacks)
 
--- want of a line, where one alone is asked for
+-- a missing line, where one alone is asked for
 pub only_missing : {V : Type 0} (judge : Judge) (number : ℕ) (text : List ℕ) (fault : CertFault) (result : Result V CertFault) → IsErrAnd result (λ e. e ≡ fault) → Lacks 10 text → fault ≡ found.Line number MissingLine →
     IfErr result (Fails (outcome number (judge ∷ []) text))
 only_missing judge number text fault (Ok value) is lacks e = elim is [ ]

@@ -32,7 +32,7 @@ head_refused text after rest fault (Ok v) is short takes = elim is [ ]
 head_refused text after rest fault (Err e) is short takes = rw is (refuses text fault short (subst (λ fs. Fails fs fault) (faults_are text) (takes (body_judges (said text)))))
 
 module _ (text : List ℕ) (after : ℕ) (rest : List ℕ) (head : Head) (takes : TakesHead 1 text after rest (Ok head)) where
-  -- what is asked of the lines behind the first six
+  -- what is asked of the lines after the first six
   behind : faults text ≡ outcome after (body_judges (takes.1 ++ said rest)) rest
   behind = sym (faults_are text) ∙ takes.4 (body_judges (said text)) ∙ ap (λ ws. outcome after (body_judges ws) rest) takes.2
 

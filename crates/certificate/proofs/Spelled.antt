@@ -13,7 +13,8 @@ use Rattle.certificate.specs.Faults.{whole_lines, said, number_said, inputs_said
 use Rattle.certificate.proofs.WordLines.{AllPlain, ArePlain, list_word, decimal_plain, decimals_plain, decimals_back, decimal_back, hex_plain, plain_append, said_back, lines_back}
 use Rattle.certificate.proofs.Judges.{Pass, pass_length, pass_append, pass_none, IsFrom, field_passes}
 use Rattle.certificate.specs.Decoded.{read_pair, read_cell, mask_key, section_said, cells_place, cert_of, numbers_of}
-use Rattle.certificate.proofs.Decoded.{top_power, pair_kind, cell_kind, section_passes, section_back}
+use Rattle.certificate.proofs.Decoded.{pair_kind, cell_kind, section_passes, section_back}
+use Rattle.order_model.proofs.Bits.Masks.{power_small}
 
 -- numbers that are small
 small : (least most : ℕ) (ns : List ℕ) → most < 2 ^ 64 → AllByRecursion (λ n. n ≤ most) ns → AllByRecursion (λ n. n < 2 ^ 64) ns
@@ -33,7 +34,7 @@ cells_plain : (n : ℕ) (cells : List Cell) → AllByRecursion (IsCell n) cells 
 cells_plain n [] all = tt
 cells_plain n (c ∷ cells) (is, all) = let cost = is.cost in ((hex_plain c.mask, (decimal_plain c.cost (omega (arith, cost)), tt)), tt, cells_plain n cells all)
 
--- a text that its first lines make up has nothing behind them
+-- a text that its first lines make up has nothing after them
 nothing_behind : (count : ℕ) (text : List ℕ) → with_feeds (take count (whole_lines text)) ≡ text → trailing count text ≡ []
 unfolding trailing
 nothing_behind count text whole = let test : nat_lt (length text) (length text) ≡ false = grind (arith, nat_tests) in rw whole (rw test refl)
@@ -94,7 +95,7 @@ module _ (format n : ℕ) (ps : List Pair) (cells : List Cell) (pre post ws : Li
   place = length-append pre (pair_lines format ps) ∙ ap (λ k. k + length (pair_lines format ps)) six_long ∙ ap (λ k. 6 + k) (sym (pass_length (pairs_judges ws) (pair_lines format ps) pairs_pass))
 
   most_small : 2 ^ n - 1 < 2 ^ 64
-  most_small = let top = top_power n few in omega (arith, top)
+  most_small = let top = power_small n few in omega (arith, top)
 
   pub cells_pass : Pass (cells_judges ws (6 + length (pairs_judges ws))) (section (codes "cells") (map cell_words cells))
   cells_pass =
@@ -135,7 +136,7 @@ module _ (cert : Certificate) (has : HasSpelling cert) where
   all_cells = recursion_from_All _ cert.cells has.cells
 
   few_cells : length cert.cells < 65536
-  few_cells = let count = has.cell_count in let top = top_power cert.inputs is_few in omega (arith, count, top)
+  few_cells = let count = has.cell_count in let top = power_small cert.inputs is_few in omega (arith, count, top)
 
   format_small : cert.format < 2 ^ 64
   format_small = by has.format where

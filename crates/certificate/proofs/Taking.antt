@@ -46,7 +46,7 @@ module _ {E : Type 0} (read : List (List ℕ) → E) (key_of : E → ℕ) (name 
   rises_is ws first k None e a b = let here : (k == first) ≡ true = grind (arith, nat_tests) in rw here refl
   rises_is ws first k (Some j) (later, e) a b = let here : (k == first) ≡ false = grind (arith, nat_tests) in rw here (rw e refl)
 
-  -- what is asked of the next entry, and what of those behind it
+  -- what is asked of the next entry, and what of those after it
   next_judges : (ws : List (List (List ℕ))) (first k left : ℕ) → 0 < left → entry_judges is_entry key ws first k left ≡ entry_fault is_entry (rises key ws first k) ∷ entry_judges is_entry key ws first (k + 1) (left - 1)
   next_judges ws first k zero some = absurd (omega (arith, some))
   next_judges ws first k (suc left) some = let less : suc left - 1 ≡ left = omega arith in rw less refl

@@ -11,7 +11,7 @@ use Rattle.order_model.specs.Certificates.{Certificate, Cell}
 use Rattle.certificate.specs.Spelling.{hex4, field, section, head_lines, pair_lines, word_lines, text_line, spelling, pair_words, cell_words}
 use Rattle.certificate.specs.Values.{each_spaced}
 
--- words behind the first one
+-- words after the first one
 behind : (w : List ℕ) (ns : List ℕ) → join_with_byte 32 (w ∷ map decimal ns) ≡ w ++ each_spaced ns
 behind w [] = sym (append-nil w)
 behind w (n ∷ ns) = ap (λ r. w ++ (32 ∷ r)) (behind (decimal n) ns)
@@ -107,7 +107,7 @@ zero_padded mask small = by (cases_lt mask 16) (cases_lt mask 256) (cases_lt mas
       ap padded_to (four_digits mask c small) ∙ pad_four (glyph (mask / 16 / 16 / 16 % 16)) (glyph (mask / 16 / 16 % 16)) (glyph (mask / 16 % 16)) (glyph (mask % 16))
       ∙ four (mask / 16 / 16 / 16 % 16) (mask / 16 / 16 % 16) (mask / 16 % 16) (mask % 16) mask (omega arith) (omega arith) (omega arith) (omega arith)
 
--- a text behind two others
+-- a text after two others
 pub after : (s₀ s₁ s₂ a b : List ℕ) → s₁ ≡ s₀ ++ a → s₂ ≡ s₁ ++ b → s₂ ≡ s₀ ++ (a ++ b)
 after s₀ s₁ s₂ a b e g = g ∙ ap (λ s. s ++ b) e ∙ append_assoc s₀ a b
 

@@ -6,7 +6,7 @@ use Rattle.order_model.specs.Pairs.{Pair}
 use Rattle.order_model.specs.Certificates.{Certificate, Cell}
 use Rattle.certificate.specs.Faults.{number_of, mask_of, number_said, pairs_judges}
 
--- the numbers of a line behind its first word
+-- the numbers of a line after its first word
 abbrev pub numbers_of : List (List ℕ) → List ℕ
 numbers_of [] = []
 numbers_of (word ∷ numbers) = map number_of numbers
@@ -21,7 +21,7 @@ read_cell ws = record { mask = mask_of (get_or ws 0 []); cost = number_of (get_o
 abbrev pub mask_key : Cell → ℕ
 mask_key cell = cell.mask
 
--- the entries behind line at
+-- the entries after line at
 abbrev pub section_said : {E : Type 0} → (List (List ℕ) → E) → List (List (List ℕ)) → ℕ → List E
 section_said read ws at = map read (take (number_said ws at) (drop (at + 1) ws))
 

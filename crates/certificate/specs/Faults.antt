@@ -53,7 +53,7 @@ said text = map words (whole_lines text)
 abbrev pub word_at : List (List (List ℕ)) → ℕ → ℕ → List ℕ
 word_at ws k i = slice_index_or (slice_index_or ws k []) i []
 
--- the number behind the first word of line k
+-- the number after the first word of line k
 abbrev pub number_said : List (List (List ℕ)) → ℕ → ℕ
 number_said ws k = number_of (word_at ws k 1)
 

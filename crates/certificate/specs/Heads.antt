@@ -1,7 +1,7 @@
--- What the first six lines of a text say, and those behind them.
+-- What the first six lines of a text say, and those after them.
 --     IsHead ws head      the parts that the words of the lines give
 --     TakesHead number text after rest result      the first six lines of a text are taken
---     TakesBody format n number text result      all lines behind them are taken
+--     TakesBody format n number text result      all lines after them are taken
 --     Refuses text fault      why a text is refused
 use Rattle.std.specs.Prelude.{◌≡◌, ℕ, ◌<◌, ◌≤◌, ◌⊎◌, List, [], ◌∷◌, ◌++◌, length, map, get_or, codes, Option, Some, None, Result, Ok, Err}
 use Rattle.std.specs.Global.{Global}
@@ -37,11 +37,11 @@ TakesHead number text after rest (Ok head) = IsHead (said text) head
     × ((js : List Judge) → outcome number (head_judges (inputs_said (said text)) ++ js) text ≡ outcome after js rest)
 TakesHead number text after rest (Err fault) = (js : List Judge) → Fails (outcome number (head_judges (inputs_said (said text)) ++ js) text) fault
 
--- what is asked of the lines behind the first six
+-- what is asked of the lines after the first six
 abbrev pub body_judges : List (List (List ℕ)) → List Judge
 body_judges ws = pairs_judges ws ++ (cells_judges ws (cells_place ws) ++ fixed_fault (codes "end" ∷ []) ∷ [])
 
--- the lines of listed sets and the last one are taken, behind some lines that say a number of inputs, or the first fault is told
+-- the lines of listed sets and the last one are taken, after some lines that say a number of inputs, or the first fault is told
 abbrev pub TakesSets : ℕ → ℕ → List ℕ → Result (Vec ListedCell Global) CertFault → Type 0
 TakesSets n number text (Ok cells) = (pre : List (List (List ℕ))) → length pre ≡ cells_place (pre ++ said text) → inputs_said (pre ++ said text) ≡ n →
     (outcome number (cells_judges (pre ++ said text) (cells_place (pre ++ said text)) ++ fixed_fault (codes "end" ∷ []) ∷ []) text ≡ []) × (map listed cells.items ≡ (cert_of (pre ++ said text)).cells)
@@ -53,7 +53,7 @@ abbrev pub pairs_in : Option (Vec Pair Global) → List Pair
 pairs_in None = []
 pairs_in (Some pairs) = pairs.items
 
--- what stands behind six lines that say a format and a number of inputs is taken to its end, or the first fault is told
+-- what stands after six lines that say a format and a number of inputs is taken to its end, or the first fault is told
 abbrev pub TakesBody : ℕ → ℕ → ℕ → List ℕ → Result (Option (Vec Pair Global) × Vec ListedCell Global) CertFault → Type 0
 TakesBody format n number text (Ok parts) = (pre : List (List (List ℕ))) → length pre ≡ 6 → number_said (pre ++ said text) 0 ≡ format → inputs_said (pre ++ said text) ≡ n →
     (outcome number (body_judges (pre ++ said text)) text ≡ []) × (format_of parts.0 ≡ format) × (pairs_in parts.0 ≡ (cert_of (pre ++ said text)).pairs) × (map listed parts.1.items ≡ (cert_of (pre ++ said text)).cells)

@@ -20,7 +20,7 @@ most_pairs = 240
 unfoldable pub hex4 : ℕ → List ℕ
 hex4 mask = map (λ k. digit_glyph false (mask / 16 ^ k % 16)) (3 ∷ 2 ∷ 1 ∷ 0 ∷ [])
 
--- a fixed word with numbers behind it
+-- a fixed word with numbers after it
 abbrev pub field : List ℕ → List ℕ → List (List ℕ)
 field name numbers = name ∷ map decimal numbers
 

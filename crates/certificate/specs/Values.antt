@@ -1,7 +1,7 @@
 -- A certificate's parts, as the program holds them.
 --     value_of format inputs outputs order levels total pairs cells      the certificate of its parts
 --     HasPairs format pairs      whether the format may have the pairs
---     each_spaced ns      numbers behind spaces
+--     each_spaced ns      numbers after spaces
 --     fit is key before es      whether entries are of a kind, and their keys rise
 use Rattle.std.specs.Prelude.{◌≡◌, ◌⊎◌, ℕ, ◌^◌, ◌-◌, Bool, true, ◌&&◌, nat_lt, nat_le, List, [], ◌∷◌, map, Option, Some, None, decimal}
 use Rattle.std.specs.List.{flat_map}
@@ -46,6 +46,6 @@ is_cell_of n c = nat_lt c.mask (2 ^ n - 1) && nat_le c.cost most_nodes
 abbrev pub mask_in : ListedCell → ℕ
 mask_in c = c.mask
 
--- numbers, each behind a space
+-- numbers, each after a space
 abbrev pub each_spaced : List ℕ → List ℕ
 each_spaced ns = flat_map (λ n. 32 ∷ decimal n) ns

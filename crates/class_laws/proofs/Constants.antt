@@ -16,8 +16,9 @@ use Rattle.order_model.specs.Levels.{subfunctions, reach}
 use Rattle.order_model.specs.Widths.{outside}
 use Rattle.order_model.proofs.Lists.Sets.{Among, among_from_flat_map, among_from_map}
 use Rattle.order_model.proofs.Functions.Tables.{table_same, same_from_table}
-use Rattle.class_laws.proofs.Compacted.{range_parts}
-use Rattle.class_laws.proofs.Lists.{map_map, map_flat_map, map_ranges, flat_map_same}
+use Rattle.class_laws.proofs.Lists.{map_flat_map, map_ranges, flat_map_same}
+use mathlib.Core.List.{map-map}
+use Rattle.order_model.proofs.Lists.Ranges.{range_append}
 
 -- f with the variables below k fixed by the bits of j
 fixed : ℕ → ℕ → Function → Function
@@ -31,7 +32,7 @@ fixed_same (suc k) i j h f =
     ap (λ b. fixed k i (restrict k (eqb b 1) f)) (h k (omega arith)) ∙ fixed_same k i j (λ x lt. h x (omega arith)) (restrict k (eqb (bit_at j k) 1) f)
 
 range_last : (k : ℕ) → variables (suc k) ≡ variables k ++ k ∷ []
-range_last k = ap (range_with_len 0) (let s : suc k ≡ k + 1 = omega arith in s) ∙ range_parts 0 k 1 ∙ ap (λ z. range_with_len 0 k ++ z ∷ []) (let s : 0 + k ≡ k = omega arith in s)
+range_last k = ap (range_with_len 0) (let s : suc k ≡ k + 1 = omega arith in s) ∙ range_append 0 k 1 ∙ ap (λ z. range_with_len 0 k ++ z ∷ []) (let s : 0 + k ≡ k = omega arith in s)
 
 subfunctions_fixed : (k : ℕ) (f : Function) → subfunctions (reverse (variables k)) f ≡ map (λ j. fixed k j f) (range_with_len 0 (2 ^ k))
 unfolding subfunctions fixed
@@ -43,7 +44,7 @@ subfunctions_fixed (suc k) f =
     (map_ranges (λ j. fixed k j (restrict k false f)) (λ j. fixed (suc k) j f) (2 ^ k) 0 0 (λ i lt. low (0 + i) (omega arith)))
     (map_ranges (λ j. fixed k j (restrict k true f)) (λ j. fixed (suc k) j f) (2 ^ k) 0 (0 + 2 ^ k) (λ i lt. high i lt))
     ∙ sym (map-append (λ j. fixed (suc k) j f) (range_with_len 0 (2 ^ k)) (range_with_len (0 + 2 ^ k) (2 ^ k)))
-    ∙ ap (map (λ j. fixed (suc k) j f)) (sym (range_parts 0 (2 ^ k) (2 ^ k)) ∙ ap (range_with_len 0) (sym (two-pow-succ k)))
+    ∙ ap (map (λ j. fixed (suc k) j f)) (sym (range_append 0 (2 ^ k) (2 ^ k)) ∙ ap (range_with_len 0) (sym (two-pow-succ k)))
   where
     low : (j : ℕ) → j < 2 ^ k → fixed k j (restrict k false f) ≡ fixed k j (restrict k (eqb (bit_at j k) 1) f)
     low j lt = ap (λ b. fixed k j (restrict k (eqb b 1) f)) (sym (bit_at_above j k k lt (omega arith)))
@@ -107,7 +108,7 @@ unfolding reach all_values
 values_reached n F =
     map_flat_map (value_of n) (subfunctions (reverse (variables n))) F
     ∙ flat_map_same (λ f. map (value_of n) (subfunctions (reverse (variables n)) f)) (λ f. map (λ j. f (point_of n j)) (range_with_len 0 (2 ^ n)))
-    (λ f. ap (map (value_of n)) (subfunctions_fixed n f) ∙ map_map (value_of n) (λ j. fixed n j f) (range_with_len 0 (2 ^ n)) ∙ map_ranges (λ j. value_of n (fixed n j f)) (λ j. f (point_of n j)) (2 ^ n) 0 0 (λ i lt. fixed_value n (0 + i) f (point_of n 0) (long_point n 0))) F
+    (λ f. ap (map (value_of n)) (subfunctions_fixed n f) ∙ map-map (value_of n) (λ j. fixed n j f) (range_with_len 0 (2 ^ n)) ∙ map_ranges (λ j. value_of n (fixed n j f)) (λ j. f (point_of n j)) (2 ^ n) 0 0 (λ i lt. fixed_value n (0 + i) f (point_of n 0) (long_point n 0))) F
 
 -- each function reached is constant
 pub reached_constant : (n : ℕ) (F : List Function) (g : Function) → Among g (reach F (reverse (variables n))) → (p : Point) → length p ≡ n → g p ≡ value_of n g

@@ -13,7 +13,7 @@ use Rattle.order_model.specs.Functions.{Function, table, same_table, depends}
 use Rattle.order_model.specs.Orders.{has, variables, without}
 use Rattle.order_model.specs.Levels.{reach, dependents}
 use Rattle.order_model.specs.Widths.{outside, width, entries, class_of, class_numbers}
-use Rattle.order_model.proofs.Lists.Sets.{Among, Within, among_filter, among_from_filter, among_map, among_from_map, among_from_member, member_from_among, count_same}
+use Rattle.order_model.proofs.Lists.Sets.{Among, Within, among_filter, among_from_filter, among_map, among_from_map, among_from_member, member_from_among, count_same, nat_decides}
 use Rattle.order_model.proofs.Functions.Tables.{same_table_decides}
 use Rattle.order_model.proofs.Functions.Exchange.{dependents_same, below_from_has}
 use Rattle.order_model.proofs.Lists.Orders.{has_variables, has_outside}
@@ -22,11 +22,8 @@ use Rattle.order_model.proofs.Widths.ClassPairs.{count_alike, rank_apart, has_re
 use Rattle.class_laws.specs.Numbering.{rank}
 use Rattle.class_laws.specs.Dependence.{dependence, AreMasks}
 use Rattle.class_laws.proofs.Ranks.{rank_below, rank_reached}
-use Rattle.class_laws.proofs.Lists.{map_map}
 use Rattle.class_laws.proofs.DependenceMasks.{bit-dependence}
-
-pub nat_decides : (x y : ℕ) → (nat_eq x y ≡ true → x ≡ y) × (x ≡ y → nat_eq x y ≡ true)
-nat_decides x y = (eqb-true x y, eq-eqb x y)
+use mathlib.Core.List.{map-map}
 
 pub among_variables : (n y : ℕ) → y < n → Among y (variables n)
 among_variables n y h = among_from_member nat_eq nat_decides (variables n) y ((has_variables n y).1 h)
@@ -122,7 +119,7 @@ width_is_dependent_classes n F S masks x small in_set are =
     masks_told : (g : Function) → Among g (reach F (reverse (outside n S))) → get_or masks (class_of (entries n F S) (table n g)) 0 ≡ dependence n g
     masks_told g a =
         same_at (λ h. get_or masks (class_of (entries n F S) (table n h)) 0) (dependence n) (reach F (reverse (outside n S)))
-        (sym (ap (map (λ c. get_or masks c 0)) (map_map (class_of (entries n F S)) (table n) (reach F (reverse (outside n S)))) ∙ map_map (λ c. get_or masks c 0) (λ h. class_of (entries n F S) (table n h)) (reach F (reverse (outside n S)))) ∙ are.told) g a
+        (sym (ap (map (λ c. get_or masks c 0)) (map-map (class_of (entries n F S)) (table n) (reach F (reverse (outside n S)))) ∙ map-map (λ c. get_or masks c 0) (λ h. class_of (entries n F S) (table n h)) (reach F (reverse (outside n S)))) ∙ are.told) g a
 
     counted : dependents n (reach F (reverse (outside n S))) x ≡ length (filter test (variables (distinct_count same_table (entries n F S))))
     counted = distinct_by_numbers same_table same_table_decides (table n) (λ f. depends n f x) (reach F (reverse (outside n S))) test

@@ -15,8 +15,9 @@ use Rattle.class_laws.proofs.BlockPlaces.{listed_classes}
 use Rattle.class_laws.proofs.Progress.{among_take, take_among}
 use Rattle.class_laws.proofs.Counted.{same_at}
 use Rattle.class_laws.proofs.Joined.{length-ranks, number_at}
-use Rattle.class_laws.proofs.Lists.{map_map, map_same}
+use Rattle.class_laws.proofs.Lists.{map_same}
 use Rattle.class_laws.proofs.Ranks.{rank_below, rank_reached}
+use mathlib.Core.List.{map-map}
 
 module _ (ps : List (ℕ × ℕ)) (numbers : List ℕ) (met : List (ℕ × ℕ)) (numbered : numbers ≡ ranks same_pair ps) (many : length met ≡ distinct_count same_pair ps)
     (told : map (λ c. get_or met c (0, 0)) numbers ≡ ps) where
@@ -24,7 +25,7 @@ module _ (ps : List (ℕ × ℕ)) (numbers : List ℕ) (met : List (ℕ × ℕ))
   unfolding ranks
   pair_told p a =
       same_at (λ q. get_or met (rank same_pair ps q) (0, 0)) (λ q. q) ps
-      (sym (map_map (λ c. get_or met c (0, 0)) (rank same_pair ps) ps) ∙ ap (map (λ c. get_or met c (0, 0))) (sym numbered) ∙ told ∙ sym (map-id ps)) p a
+      (sym (map-map (λ c. get_or met c (0, 0)) (rank same_pair ps) ps) ∙ ap (map (λ c. get_or met c (0, 0))) (sym numbered) ∙ told ∙ sym (map-id ps)) p a
 
   pub pair_numbered : (j : ℕ) → j < length ps → get_or met (get_or numbers j 0) (0, 0) ≡ get_or ps j (0, 0)
   pair_numbered j l =
@@ -50,7 +51,7 @@ module _ (ps : List (ℕ × ℕ)) (numbers : List ℕ) (met : List (ℕ × ℕ))
   pub masks_told : (join : ℕ × ℕ → ℕ) → map (λ c. get_or (map join met) c 0) numbers ≡ map join ps
   unfolding ranks
   masks_told join =
-      ap (map (λ c. get_or (map join met) c 0)) numbered ∙ map_map (λ c. get_or (map join met) c 0) (rank same_pair ps) ps
+      ap (map (λ c. get_or (map join met) c 0)) numbered ∙ map-map (λ c. get_or (map join met) c 0) (rank same_pair ps) ps
       ∙ map_same (λ p. get_or (map join met) (rank same_pair ps p) 0) join ps
       (λ p a. let b = rank_below same_pair pair_decides ps p a in get_or-map join met (rank same_pair ps p) (0, 0) 0 (omega arith) ∙ ap join (pair_told p a))
 

@@ -1,5 +1,5 @@
 -- Numbers of pairs, and something told of them, as a mask, made together: at the first pair of each kind it is added.
---     Made none ps join out masks j      the numbers of the first j pairs, and what `join` tells of them; `none` stands behind the end of these
+--     Made none ps join out masks j      the numbers of the first j pairs, and what `join` tells of them; `none` stands after the end of these
 --     made_none, made_first, made_again      no pair yet; one more, the first of its kind; one that has come before
 --     made_numbers, made_many, made_told      the end
 use Rattle.std.proofs.Common.{◌≡◌, ℕ, ◌+◌, ◌<◌, ◌≤◌, List, [], ◌∷◌, ◌++◌, map, length, get_or, set, take, refl, sym, ap, ◌∙◌, subst, arith}

@@ -1,5 +1,5 @@
 -- Something told of numbered pairs, as a mask: one for each class, made at its first pair.
---     Joined none ps join out j      `out` has what `join` tells of each class among the first j pairs; `none` stands behind its end
+--     Joined none ps join out j      `out` has what `join` tells of each class among the first j pairs; `none` stands after its end
 --     joined_none, joined_new, joined_old      no pair yet; one more, the first of its kind; one that has come before
 --     joined_many, joined_told      the end
 --     rank_is, number_at, length-ranks, numbered_place      a pair's number, as a rank and in the list of numbers

@@ -1,15 +1,12 @@
 -- Lists made by functions.
---     map_map, map_same, flat_map_same, map_flat_map      one function behind another; two that agree on the elements
+--     map-map, map_same, flat_map_same, map_flat_map      one function after another; two that agree on the elements
 --     map_ranges      two functions that agree on two ranges of numbers
 --     place_of      where an element stands
 use Rattle.std.proofs.Common.{◌≡◌, ℕ, zero, suc, ◌+◌, ◌<◌, inl, inr, List, [], ◌∷◌, ◌++◌, map, length, get_or, refl, sym, ap, ◌∙◌, arith}
 use Rattle.std.specs.List.{flat_map, range_with_len}
 use Rattle.std.proofs.lemmas.List.{map-append}
 use Rattle.order_model.proofs.Lists.Sets.{Among}
-
-pub map_map : {X Y Z : Type 0} (g : Y → Z) (f : X → Y) (xs : List X) → map g (map f xs) ≡ map (λ x. g (f x)) xs
-map_map g f [] = refl
-map_map g f (x ∷ xs) = ap (λ ys. g (f x) ∷ ys) (map_map g f xs)
+use mathlib.Core.List.{map-map}
 
 pub map_same : {X Y : Type 0} (f g : X → Y) (xs : List X) → ((x : X) → Among x xs → f x ≡ g x) → map f xs ≡ map g xs
 map_same f g [] h = refl

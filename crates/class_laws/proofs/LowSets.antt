@@ -1,7 +1,7 @@
 -- Sets by their variables below a bound: the lowest bits of a mask.
 --     low_more, low_same      the part of a mask below one variable more
 --     low_new, low_all      it lacks the variable; below all variables it is the mask
---     bit_unset, bit_set, unset_bit      a bit of a mask, and its member
+--     bit_unset, member_from, unset_bit      a bit of a mask, and its member
 --     split_low, join_low, join_high      masks that agree with a set below a variable, and below the next
 use Rattle.std.proofs.Common.{◌≡◌, ◌≢◌, ℕ, ◌+◌, ◌*◌, ◌/◌, ◌%◌, ◌^◌, ◌<◌, Bool, true, false, ◌&&◌, inl, inr, set, refl, sym, ap, ap₂, ◌∙◌, arith, eqb, eq-eqb, ne_eqb, bit_and, bit_or, zero-mul}
 use Rattle.std.specs.Int.{bit_at}
@@ -14,6 +14,7 @@ use Rattle.order_model.proofs.Bits.Masks.{has_members}
 use Rattle.order_model.proofs.Lists.Orders.{has_variables}
 use Rattle.std.proofs.Common.{◌⊎◌, suc}
 use Rattle.std.proofs.Math.Nat.{two-pow-succ}
+use Rattle.order_model.proofs.Precedence.MaskLaws.{member_from}
 
 low_bits : (mask y : ℕ) → mask % 2 ^ (y + 1) ≡ (mask / 2 ^ y % 2) * 2 ^ y + mask % 2 ^ y
 low_bits mask y = ap (λ k. mask % 2 ^ k) (let s : y + 1 ≡ 1 + y = omega arith in s) ∙ mod-pow-add mask 1 y
@@ -55,14 +56,11 @@ bit_unset n mask y e =
     by true = refl
     by false = refl
 
-pub bit_set : (n mask y : ℕ) → y < n → bit_at mask y ≡ 1 → has (members n mask) y ≡ true
-bit_set n mask y lt e = has_members n mask y ∙ ap₂ (λ a b. a && b) ((has_variables n y).1 lt) (eq-eqb (bit_at mask y) 1 e)
-
 pub unset_bit : (n mask y : ℕ) → y < n → has (members n mask) y ≡ false → bit_and (mask / 2 ^ y) 1 ≡ 0
 unset_bit n mask y lt e =
     let b = bit_at-lt mask y in
     let s = shr_and_one mask y in
-    elim (cases_eq (bit_at mask y) 1) [ inl one ↦ absurd (true≢false (sym (bit_set n mask y lt one) ∙ e)) | inr ne ↦ omega arith ]
+    elim (cases_eq (bit_at mask y) 1) [ inl one ↦ absurd (true≢false (sym (member_from n mask y lt one) ∙ e)) | inr ne ↦ omega arith ]
 
 pub low_all : (n mask : ℕ) → mask < 2 ^ n → mask % 2 ^ n ≡ mask
 low_all n mask h = mod-eq_of_lt h

@@ -13,8 +13,8 @@ use Rattle.class_laws.specs.Places.{pairs}
 use Rattle.class_laws.specs.Dependence.{dependence, joined_mask, AreMasks}
 use Rattle.class_laws.proofs.DependenceMasks.{dependence_joined}
 use Rattle.class_laws.proofs.Counted.{same_at}
-use Rattle.class_laws.proofs.Lists.{map_map}
 use Rattle.class_laws.proofs.Compacted.{step_of, pairs_told, pairs_of_classes, compacted, counted, told_apart, numbers_told, tell_class, class_pair_same}
+use mathlib.Core.List.{map-map}
 
 module _ (n : ℕ) (F : List Function) (T : List ℕ) (x : ℕ) (small : x < n) (new : has T x ≡ false) (masks : List ℕ) (are : AreMasks n F T masks) where
   R : List Function
@@ -25,7 +25,7 @@ module _ (n : ℕ) (F : List Function) (T : List ℕ) (x : ℕ) (small : x < n) 
 
   told_alike : map mask_of_class (reach F (reverse (outside n T))) ≡ map (dependence n) (reach F (reverse (outside n T)))
   unfolding mask_of_class tell_class
-  told_alike = sym (ap (map (λ c. get_or masks c 0)) (numbers_told n T x small new F) ∙ map_map (λ c. get_or masks c 0) (tell_class n T x small new F) (reach F (reverse (outside n T)))) ∙ are.told
+  told_alike = sym (ap (map (λ c. get_or masks c 0)) (numbers_told n T x small new F) ∙ map-map (λ c. get_or masks c 0) (tell_class n T x small new F) (reach F (reverse (outside n T)))) ∙ are.told
 
   own : Function → ℕ × ℕ
   own g = (mask_of_class (restrict x false g), mask_of_class (restrict x true g))
@@ -68,5 +68,5 @@ module _ (n : ℕ) (F : List Function) (T : List ℕ) (x : ℕ) (small : x < n) 
   unfolding R entries
   masks_more masks' l m = record {
     many = l ∙ ap (distinct_count same_pair) (pairs_of_classes n T x small new F) ∙ count_alike same_pair pair_decides same_table same_table_decides (class_pair n F T x) (table n) R (told_apart n T x small new F);
-    told = ap (map (λ c. get_or masks' c 0)) (compacted n T x small new F) ∙ m ∙ ap (map (joined_mask masks x)) (pairs_of_classes n T x small new F) ∙ map_map (joined_mask masks x) (class_pair n F T x) R ∙ each_at R (λ g a. a);
+    told = ap (map (λ c. get_or masks' c 0)) (compacted n T x small new F) ∙ m ∙ ap (map (joined_mask masks x)) (pairs_of_classes n T x small new F) ∙ map-map (joined_mask masks x) (class_pair n F T x) R ∙ each_at R (λ g a. a);
   }

@@ -8,8 +8,9 @@ use Rattle.std.proofs.lemmas.List.{map-id}
 use Rattle.order_model.specs.Widths.{same_pair}
 use Rattle.order_model.proofs.Widths.ClassPairs.{pair_decides}
 use Rattle.class_laws.specs.Numbering.{rank, ranks}
-use Rattle.class_laws.proofs.Lists.{map_map, map_same}
+use Rattle.class_laws.proofs.Lists.{map_same}
 use Rattle.class_laws.proofs.Ranks.{Numbers, rank_below}
+use mathlib.Core.List.{map-map}
 
 pub position_at : (p : ℕ × ℕ) (xs : List (ℕ × ℕ)) → position_or_len (same_pair p) xs < length xs → get_or xs (position_or_len (same_pair p) xs) (0, 0) ≡ p
 position_at p [] l = absurd (omega arith)
@@ -23,7 +24,7 @@ position_at p (x ∷ xs) l = elim (cases_Bool (same_pair p x)) [
 pub numbers_told : (keys ps : List (ℕ × ℕ)) → Numbers same_pair pair_decides keys ps → map (λ c. get_or keys c (0, 0)) (ranks same_pair ps) ≡ ps
 unfolding ranks
 numbers_told keys ps n =
-    map_map (λ c. get_or keys c (0, 0)) (rank same_pair ps) ps
+    map-map (λ c. get_or keys c (0, 0)) (rank same_pair ps) ps
     ∙ map_same (λ p. get_or keys (rank same_pair ps p) (0, 0)) (λ p. p) ps (λ p a.
     let b = rank_below same_pair pair_decides ps p a in
     let m = n.many in

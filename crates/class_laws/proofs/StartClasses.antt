@@ -22,7 +22,7 @@ use Rattle.order_model.specs.Orders.{variables, mask_of}
 use Rattle.order_model.specs.Levels.{reach}
 use Rattle.order_model.specs.Widths.{outside, entries, class_of, class_numbers}
 use Rattle.order_model.proofs.Lists.Sets.{Among, count_same}
-use Rattle.order_model.proofs.Functions.Tables.{same_table_decides, depends_false}
+use Rattle.order_model.proofs.Functions.Tables.{same_table_decides, depends_false, beq_decides}
 use Rattle.order_model.proofs.Widths.ClassPairs.{count_alike}
 use Rattle.order_model.proofs.Widths.Cells.{members_zero}
 use Rattle.class_laws.specs.Table.{HoldsClasses, classes_of}
@@ -33,12 +33,6 @@ use Rattle.class_laws.specs.Dependence.{support, dependence, AreMasks}
 use Rattle.class_laws.proofs.Ranks.{rank_below, rank_reached, ranks_alike}
 use Rattle.class_laws.proofs.Lists.{map_ranges}
 use Rattle.class_laws.proofs.Constants.{value_of, all_values, values_reached, reached_constant, tables_as_values, outside_none}
-
-pub beq_decides : (x y : Bool) → (beq x y ≡ true → x ≡ y) × (x ≡ y → beq x y ≡ true)
-beq_decides true true = (λ e. refl, λ e. refl)
-beq_decides true false = (λ e. absurd (false≢true e), λ e. absurd (true≢false e))
-beq_decides false true = (λ e. absurd (false≢true e), λ e. absurd (false≢true e))
-beq_decides false false = (λ e. refl, λ e. refl)
 
 -- there is one other value
 other : (b x y : Bool) → beq b x ≡ false → beq b y ≡ false → x ≡ y

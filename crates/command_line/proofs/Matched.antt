@@ -49,7 +49,7 @@ among_some : (k : ErrorKind) (ks : Kinds) → IsAmong k ks → ks ≢ []
 among_some k [] h = absurd h
 among_some k (x ∷ xs) h = λ e. cc
 
--- words at which clap has an error of another kind than want of memory have a fault
+-- words at which clap has an error of another kind than out of memory have a fault
 some_fault : (k : ErrorKind) (ks : Kinds) → k ≢ kinds.OutOfMemory → (k ≡ kinds.OutOfMemory) ⊎ IsAmong k ks → ks ≢ []
 some_fault k ks other (inl h) = absurd (other h)
 some_fault k ks other (inr h) = among_some k ks h

@@ -26,7 +26,7 @@ count_rule = record (new_rule (codes "count")) { long = Some (codes "count"); ac
 abbrev pub required : Text → Rule
 required name = record (new_rule name) { required = true }
 
--- a command whose words are those behind the program's name
+-- a command whose words are those after the program's name
 abbrev pub named : Text → App
 named name = record (new_app name) { top = record (new_app name).top { no_binary_name = true } }
 

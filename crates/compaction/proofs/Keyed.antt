@@ -14,7 +14,7 @@ use Rattle.order_model.specs.Functions.{Function, restrict, same_table, depends}
 use Rattle.order_model.specs.Orders.{has, variables}
 use Rattle.order_model.specs.Levels.{reach}
 use Rattle.order_model.specs.Widths.{same_pair, entries, class_of, class_numbers, class_pair, outside}
-use Rattle.order_model.proofs.Lists.Sets.{Among, among_from_map}
+use Rattle.order_model.proofs.Lists.Sets.{Among, among_from_map, nat_decides}
 use Rattle.order_model.proofs.Functions.Tables.{same_table_decides, depends_same}
 use Rattle.order_model.proofs.Widths.ClassPairs.{pair_decides, rank_apart, depends_by_classes}
 use Rattle.class_laws.specs.Dependence.{dependence, joined_mask}
@@ -32,10 +32,10 @@ use Rattle.order_model.proofs.Precedence.Masks.{among_at}
 use Rattle.class_laws.proofs.Ranks.{ranks_alike}
 use Rattle.class_laws.proofs.Index.{length-pairs, pair_within}
 use Rattle.class_laws.proofs.DependenceMasks.{dependence_joined}
-use Rattle.class_laws.proofs.Lists.{map_map, map_same}
-use Rattle.class_laws.proofs.Counted.{nat_decides}
+use Rattle.class_laws.proofs.Lists.{map_same}
 use Rattle.class_laws.proofs.Compacted.{step_of, tops, length_numbers, pairs_told, pairs_of_classes, compacted, counted, class_numbers_same, class_pair_same}
 use Rattle.class_laws.proofs.Extended.{members_more, step_is, class_below, few_masks, IsReady, rank_small, free_none, free_more}
+use mathlib.Core.List.{map-map}
 
 -- ---- lists
 
@@ -75,7 +75,7 @@ module _ (cs : List ℕ) (r : ℕ) (whole : (blocks : ℕ) × (length cs ≡ blo
   pairs_mapped f =
       ap (λ l. map (pair_at (map f cs) (2 ^ r)) (range_with_len 0 (l / 2))) (length-map cs f)
       ∙ map_range_same (pair_at (map f cs) (2 ^ r)) (λ j. (f (pair_at cs (2 ^ r) j).0, f (pair_at cs (2 ^ r) j).1)) 0 (length cs / 2) each
-      ∙ sym (map_map (λ (p : ℕ × ℕ). (f p.0, f p.1)) (pair_at cs (2 ^ r)) (range_with_len 0 (length cs / 2)))
+      ∙ sym (map-map (λ (p : ℕ × ℕ). (f p.0, f p.1)) (pair_at cs (2 ^ r)) (range_with_len 0 (length cs / 2)))
     where
       each : (j : ℕ) → 0 ≤ j → j < 0 + length cs / 2 → pair_at (map f cs) (2 ^ r) j ≡ (f (pair_at cs (2 ^ r) j).0, f (pair_at cs (2 ^ r) j).1)
       each j l u =

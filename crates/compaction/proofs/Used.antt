@@ -22,7 +22,7 @@ use Rattle.order_model.proofs.Bits.Masks.{has_members}
 use Rattle.order_model.proofs.Lists.Orders.{has_variables, same_bool}
 use Rattle.order_model.proofs.Widths.ClassPairs.{count_alike, rank_apart}
 use Rattle.order_model.proofs.Widths.Recurrence.{distinct_filter, distinct_variables}
-use Rattle.order_model.proofs.Lists.Sets.{Among, Within, among_filter, among_from_filter, among_from_member, member_from_among, count_same}
+use Rattle.order_model.proofs.Lists.Sets.{Among, Within, among_filter, among_from_filter, among_from_member, member_from_among, count_same, nat_decides}
 use Rattle.order_model.proofs.Functions.Tables.{same_table_decides}
 use Rattle.class_laws.specs.Dependence.{AreMasks, dependence}
 use Rattle.class_laws.specs.Numbering.{rank, ranks}
@@ -30,19 +30,20 @@ use Rattle.compaction.specs.Rows.{width_wanted}
 use Rattle.compaction.specs.Strips.{AreStrips, HoldsStrips, masks_in_use, unrolled}
 use Rattle.pair_numbering.specs.Keys.{AreUsed}
 use Rattle.class_laws.specs.Table.{ClassesOf, functions_of, set_of, free_below}
-use Rattle.class_laws.proofs.Compacted.{range_parts, filter_range_same}
-use Rattle.class_laws.proofs.Counted.{among_variables, distinct_by_numbers, length_filter_map, nat_decides, width_is_dependent_classes}
-use Rattle.class_laws.proofs.Lists.{map_map, map_same, place_of}
-use Rattle.class_laws.proofs.Extended.{length_filter-le}
+use Rattle.class_laws.proofs.Compacted.{filter_range_same}
+use Rattle.class_laws.proofs.Counted.{among_variables, distinct_by_numbers, length_filter_map, width_is_dependent_classes}
+use Rattle.class_laws.proofs.Lists.{map_same, place_of}
 use Rattle.order_model.proofs.Precedence.Masks.{among_at}
 use Rattle.compaction.proofs.Stripped.{parts_of, below_product}
 use Rattle.compaction.proofs.Unrolled.{length_unrolled, unrolled_at}
 use Rattle.class_laws.proofs.Ranks.{rank_below, rank_reached}
+use mathlib.Core.List.{map-map}
+use Rattle.order_model.proofs.Lists.Ranges.{range_append, filter_at_most}
 
 -- one more mask, where the number occurs or not
 pub in_use_more : {X : Type 0} (f : ℕ → X) (p : ℕ → Bool) (k : ℕ) → map f (filter p (range_with_len 0 (k + 1))) ≡ map f (filter p (range_with_len 0 k)) ++ cond (p k) (f k ∷ []) []
 in_use_more f p k =
-    ap (λ us. map f (filter p us)) (range_parts 0 k 1 ∙ ap (λ z. range_with_len 0 k ++ z ∷ []) (let e : 0 + k ≡ k = omega arith in e))
+    ap (λ us. map f (filter p us)) (range_append 0 k 1 ∙ ap (λ z. range_with_len 0 k ++ z ∷ []) (let e : 0 + k ≡ k = omega arith in e))
     ∙ ap (map f) (filter-append p (range_with_len 0 k) (k ∷ [])) ∙ map-append f (filter p (range_with_len 0 k)) (filter p (k ∷ [])) ∙ ap (λ us. map f (filter p (range_with_len 0 k)) ++ us) (by (p k))
   where
     by : (b : Bool) → map f (cond b (k ∷ []) []) ≡ cond b (f k ∷ []) []
@@ -104,7 +105,7 @@ module _ (n : ℕ) (F : List Function) (S keys masks : List ℕ) (below : (i : �
   unfolding By class_masks ranks
   are_masks = record {
     many = all_classes.1.0 ∙ many_keys;
-    told = ap (map (λ c. get_or class_masks c 0)) classes ∙ map_map (λ c. get_or class_masks c 0) (rank nat_eq keys) keys
+    told = ap (map (λ c. get_or class_masks c 0)) classes ∙ map-map (λ c. get_or class_masks c 0) (rank nat_eq keys) keys
         ∙ map_same (λ k. get_or class_masks (rank nat_eq keys k) 0) (λ k. get_or masks k 0) keys (λ k a. all_classes.1.1 k a (rank_below nat_eq nat_decides keys k a)) ∙ told;
   }
 
@@ -198,7 +199,7 @@ pub few_in_use : (numbers masks : List ℕ) → length (masks_in_use numbers mas
 unfolding masks_in_use
 few_in_use numbers masks =
     let l = length-map (filter (has numbers) (variables (length masks))) (λ k. get_or masks k 0) in
-    let f = length_filter-le (has numbers) (variables (length masks)) in
+    let f = filter_at_most (has numbers) (variables (length masks)) in
     let v = length-range_with_len 0 (length masks) in
     omega arith
 

@@ -13,12 +13,12 @@ use Rattle.order_model.proofs.Lists.Orders.{has_at}
 use Rattle.subset_layers.specs.Layers.{BlockOf, block_masks}
 use Rattle.subset_layers.proofs.BlockLists.{in_block}
 use Rattle.compaction.specs.Rows.{AreMembers, wanted_count}
-use Rattle.class_laws.proofs.LowSets.{bit_set}
+use Rattle.order_model.proofs.Precedence.MaskLaws.{member_from}
 
 -- a bit of a mask stands for a member
 pub bit_member : (n mask x : ℕ) → mask < 2 ^ n → bit_at mask x ≡ 1 → has (members n mask) x ≡ true
 bit_member n mask x small one = elim (cases_lt x n) [
-  | inl lt ↦ bit_set n mask x lt one
+  | inl lt ↦ member_from n mask x lt one
   | inr le ↦ let z = bit_at_above mask n x small le in absurd (omega arith)
 ]
 

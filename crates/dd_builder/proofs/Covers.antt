@@ -16,6 +16,7 @@ use Rattle.unique_table.specs.declared.plan.Pieces.TheVariants.{Terms}
 use Rattle.unique_table.specs.Plans.{order_of, levels_of, output_at, products_of, AreTermsOf, IsKind, IsPlan}
 use Rattle.unique_table.proofs.Roots.{represents_same}
 use Rattle.dd_builder.specs.Building.{AreTablesOf, AreProductsOf, IsForCover, functions_of}
+use Rattle.order_model.proofs.Functions.Tables.{same_sym}
 
 -- what an answer has, if it is Ok, where two facts hold of it
 pub ok_both : {A E : Type 0} (P Q R : A → Type 0) (r : Result A E) → IfOk r P → IfOk r Q → ((x : A) → P x → Q x → R x) → IfOk r R
@@ -51,10 +52,6 @@ zip_tables n g a (t ∷ ts) h = (
     next : (j : ℕ) → a + suc j ≡ a + 1 + j
     next j = omega arith
 
-same_back : (n : ℕ) (f g : Function) → SameFunction n f g → SameFunction n g f
-unfolding SameFunction
-same_back n f g h p l = sym (h p l)
-
 store_functions : (b : Plan) (cover : NamedCover) → IsPlan b → IsForCover b cover → AllZip (SameFunction cover.inputs) (functions b.problem.value) (functions_of cover)
 unfolding output_at product_functions
 store_functions b cover plan is =
@@ -63,7 +60,7 @@ store_functions b cover plan is =
     (zip_tables cover.inputs (product_function cover.products) 0 t.tables (λ j low.
     subst (λ k. SameFunction cover.inputs (from_table (get_or t.tables j [])) (product_function cover.products k)) (sym (zero-add j))
     (subst (λ n. SameFunction n (from_table (get_or t.tables j [])) (product_function cover.products j)) is.inputs
-    (same_back t.inputs (product_function cover.products j) (output_at t j) (products_same cover b.kind t is.kind plan.terms is.inputs is.outputs j low)))))
+    (same_sym t.inputs (product_function cover.products j) (output_at t j) (products_same cover b.kind t is.kind plan.terms is.inputs is.outputs j low)))))
 
 -- a diagram of such a store is one of the cover's functions
 pub store_diagram : (b : Plan) (cover : NamedCover) (order : List ℕ) (d : Graph) → IsPlan b → IsForCover b cover → order_of b ≡ order
@@ -93,7 +90,7 @@ terms_give keep cover t terms are same j low =
     ∙ ap (table n) (get_or-map-range_with_len (product_function cover.products) 0 cover.outputs j j f (omega (arith, outputs, low)) (zero-add j))) in
     subst (λ k. SameFunction k (product_function (products_of t terms) j) (from_table (table_at t j))) (sym are.inputs)
     (subst (λ ps. SameFunction n (product_function ps j) (from_table (table_at t j))) (sym products)
-    (subst (λ ts. SameFunction n f (from_table ts)) (sym at) (same_back n (from_table (table n f)) f (keep n (f ∷ [])).0)))
+    (subst (λ ts. SameFunction n f (from_table ts)) (sym at) (same_sym n (from_table (table n f)) f (keep n (f ∷ [])).0)))
 
 kind_for : (cover : NamedCover) (kind : PieceKind) (terms : Bor (List Term)) → IsKind kind (Terms terms) → map (product_of cover.inputs cover.outputs) terms.now ≡ cover.products → AreProductsOf cover kind
 kind_for cover Restrictions terms is same = absurd is

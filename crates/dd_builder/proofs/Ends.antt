@@ -3,6 +3,7 @@ use Rattle.std.proofs.Common.{◌≡◌, ◌≢◌, ℕ, zero, suc, ◌+◌, ◌
 use Rattle.std.proofs.lemmas.Option.{slice_get_within}
 use Rattle.unique_table.specs.Sessions.{StoreId, Knowledge, Follows, HasPiece, depth_in}
 use Rattle.dd_builder.specs.Parts.{HasPart, HasShare, HasAllParts, IsEndOf, AreEndsOf, part_level}
+use Rattle.std.proofs.lemmas.Bool.{cases_lt}
 
 -- ---- parts
 
@@ -39,32 +40,23 @@ part_found s s' store q id same f h low there =
 
 -- one more root
 pub root_more : (s s' : Knowledge) (roots output place id : ℕ) → Follows s s' → ((j : ℕ) → j < output → slice_index s.pieces (roots + j) ≢ 0) → place ≡ roots + output → HasPiece s' place id → (j : ℕ) → j < output + 1 → slice_index s'.pieces (roots + j) ≢ 0
-root_more s s' roots output place id f known at here j low empty = elim (below j output) [
+root_more s s' roots output place id f known at here j low empty = elim (cases_lt j output) [
   | inl less ↦ (let full = known j less in full (sym (f.pieces (roots + j) full) ∙ empty))
   | inr past ↦ (let same : roots + j ≡ place = omega arith in let none = ap (slice_index s'.pieces) (sym same) ∙ empty in omega arith)
 ]
-  where
-    below : (a b : ℕ) → (a < b) ⊎ (b ≤ a)
-    below a b = grind arith
 
 -- one more part of a worker's share
 pub share_more : (s s' : Knowledge) (piece workers k : ℕ) → Follows s s' → ((q : ℕ) → q < piece → q % workers ≡ k → HasPart s q) → HasPart s' piece → (q : ℕ) → q < piece + 1 → q % workers ≡ k → HasPart s' q
-share_more s s' piece workers k f built here q low e = elim (below q piece) [
+share_more s s' piece workers k f built here q low e = elim (cases_lt q piece) [
   | inl less ↦ part_follows s s' q f (built q less e)
   | inr past ↦ (let same : piece ≡ q = omega arith in subst (HasPart s') same here)
 ]
-  where
-    below : (a b : ℕ) → (a < b) ⊎ (b ≤ a)
-    below a b = grind arith
 
 pub share_other : (s : Knowledge) (piece workers k : ℕ) → ((q : ℕ) → q < piece → q % workers ≡ k → HasPart s q) → (piece % workers ≡ k → ⊥) → (q : ℕ) → q < piece + 1 → q % workers ≡ k → HasPart s q
-share_other s piece workers k built ne q low e = elim (below q piece) [
+share_other s piece workers k built ne q low e = elim (cases_lt q piece) [
   | inl less ↦ built q less e
   | inr past ↦ (let same : q ≡ piece = omega arith in absurd (ne (ap (λ z. z % workers) (sym same) ∙ e)))
 ]
-  where
-    below : (a b : ℕ) → (a < b) ⊎ (b ≤ a)
-    below a b = grind arith
 
 -- ---- ends in a list
 

@@ -21,6 +21,7 @@ use Rattle.unique_table.specs.declared.plan.Plan.{Plan}
 use Rattle.unique_table.specs.Sessions.{Knowledge, Follows, Knows, Means, function_in}
 use Rattle.dd_builder.specs.Literals.{with_literal, with_product, product_in}
 use Rattle.dd_builder.proofs.Going.{means_same, means_own, means_at, function_zero, function_one, terminal_known}
+use Rattle.std.proofs.Math.Bool.{or-true}
 
 -- ---- one literal
 
@@ -95,11 +96,7 @@ list_all_each test (x ∷ xs) h y m =
 each_list_all : (test : ℕ → Bool) (xs : List ℕ) → ((y : ℕ) → has xs y ≡ true → test y ≡ true) → list_all test xs ≡ true
 each_list_all test [] h = refl
 each_list_all test (x ∷ xs) h =
-    ap₂ (λ a b. a && b) (h x (ap (λ b. b || has xs x) (eq-eqb x x refl))) (each_list_all test xs (λ y m. h y (ap (λ b. nat_eq y x || b) m ∙ or_true (nat_eq y x))))
-  where
-    or_true : (b : Bool) → (b || true) ≡ true
-    or_true true = refl
-    or_true false = refl
+    ap₂ (λ a b. a && b) (h x (ap (λ b. b || has xs x) (eq-eqb x x refl))) (each_list_all test xs (λ y m. h y (ap (λ b. nat_eq y x || b) m ∙ or-true (nat_eq y x))))
 
 numbered_literals : (term : Term) (p : Point) (len a : ℕ)
     → list_all (literal_holds p) (enumerate_from a (map (literal_in term) (range_with_len a len))) ≡ list_all (λ x. literal_holds p (x, literal_in term x)) (range_with_len a len)

@@ -9,7 +9,7 @@ use Rattle.std.proofs.lemmas.Nat.Bits.{bit_at-lt, bit_at-suc, bit_at_lowest, sam
 use Rattle.order_model.specs.Functions.{Point, Function, bit, number, from_table, restrict}
 use Rattle.order_model.specs.Orders.{place_in, IsOrder}
 use Rattle.order_model.proofs.Lists.Orders.{has_at, place_at, place_get}
-use Rattle.order_model.proofs.Bits.PointNumbers.{weight, number-small, bit-number}
+use Rattle.order_model.proofs.Bits.PointNumbers.{weight, weight_bit, number-small, bit-number}
 use Rattle.order_model.proofs.Sifting.Placements.{own_place}
 use Rattle.node_words.specs.Meaning.{branch}
 use Rattle.unique_table.specs.Plans.{fixed}
@@ -112,11 +112,6 @@ bit-laid (x ∷ xs) v zero p once l inside =
 bit-laid (x ∷ xs) v (suc i) p once l inside =
     bit-laid xs (v / 2) i (set p x (eqb (bit_at v 0) 1)) (rest_distinct x xs once) (omega arith) (λ j k. let e = length-set p x (eqb (bit_at v 0) 1) in let h = inside (suc j) (omega arith) in omega arith)
     ∙ ap (λ b. eqb b 1) (sym (bit_at-suc v i))
-
-weight_bit : (b : ℕ) → b < 2 → weight (eqb b 1) ≡ b
-weight_bit zero h = refl
-weight_bit (suc zero) h = refl
-weight_bit (suc (suc b)) h = absurd (omega arith)
 
 module _ (order : List ℕ) (is : IsOrder (length order) order) where
   variable_inside : (i : ℕ) → i < length order → get_or order i 0 < length order

@@ -15,6 +15,8 @@ use Rattle.unique_table.specs.Plans.{order_of, share, products_of, part_function
 use Rattle.dd_builder.specs.Parts.{IsForTerms, AreTermsOfKind}
 use Rattle.dd_builder.specs.Literals.{with_product}
 use Rattle.dd_builder.proofs.Restricted.{part_piece}
+use Rattle.std.proofs.Math.Bool.{or-false}
+use Rattle.std.proofs.lemmas.Bool.{cases_lt}
 
 enumerate_append : {X : Type 0} (n : ℕ) (xs ys : List X) → enumerate_from n (xs ++ ys) ≡ enumerate_from n xs ++ enumerate_from (n + length xs) ys
 enumerate_append n [] ys = ap (λ k. enumerate_from k ys) here
@@ -44,16 +46,13 @@ none = record { literals = []; outputs = [] }
 
 -- a product of another remainder is skipped
 share_other : (b i : ℕ) (xs : List Product) → i % 64 ≢ b → share b (take (i + 1) xs) ≡ share b (take i xs)
-share_other b i xs ne = elim (inside i (length xs)) [
+share_other b i xs ne = elim (cases_lt i (length xs)) [
   | inl low ↦
       let size : length (take i xs) ≡ i = length-take i xs ∙ omega arith in
       ap (share b) (take_more xs i none low) ∙ (share_last b (take i xs) (get_or xs i none)
       ∙ (ap (λ c. share b (take i xs) ++ cond c (get_or xs i none ∷ []) []) (ap (λ k. eqb (k % 64) b) size ∙ ne_eqb (i % 64) b ne) ∙ append-nil (share b (take i xs))))
   | inr past ↦ ap (share b) (take_all (i + 1) xs (omega arith) ∙ sym (take_all i xs past))
 ]
-  where
-    inside : (a c : ℕ) → (a < c) ⊎ (c ≤ a)
-    inside a c = grind arith
 
 -- so are some in a row
 share_others : (b i d : ℕ) (xs : List Product) → ((k : ℕ) → i ≤ k → k < i + d → k % 64 ≢ b) → share b (take (i + d) xs) ≡ share b (take i xs)
@@ -90,11 +89,7 @@ unfolding product_function with_product
 share_next b output i xs x f p e low at h =
     let test : Product → Bool = λ product. matches product p && has_output product output in
     (λ j. h j || test (at j)) ∙ (sym (ap (list_any test) (share_own b i xs e low) ∙ (list_any-append test (share b (take i xs)) (get_or xs i none ∷ [])
-    ∙ ap (λ c. list_any test (share b (take i xs)) || c) (or_none (test (get_or xs i none))))))
-  where
-    or_none : (c : Bool) → (c || false) ≡ c
-    or_none true = refl
-    or_none false = refl
+    ∙ ap (λ c. list_any test (share b (take i xs)) || c) (or-false (test (get_or xs i none))))))
 
 -- the terms of a remainder are a piece
 pub terms_part : (kind : PieceKind) (order : List ℕ) (t : TruthTables) (terms : List Term) (q : ℕ) → AreTermsOfKind t terms kind → part_function kind order t q ≡ product_function (share (q % 64) (products_of t terms)) (q / 64)

@@ -18,34 +18,15 @@ use Rattle.dd_builder.specs.Parts.{AreOfTerms, shares_union}
 use Rattle.dd_builder.proofs.Going.{means_same, means_at}
 use Rattle.dd_builder.proofs.Restricted.{part_piece}
 use Rattle.dd_builder.proofs.Shares.{share_last, terms_part, none}
-
-or_false : (c : Bool) → (c || false) ≡ c
-or_false true = refl
-or_false false = refl
-
--- a range of two halves
-range_joined : (a n m : ℕ) → range_with_len a (n + m) ≡ range_with_len a n ++ range_with_len (a + n) m
-range_joined a zero m = λ i. range_with_len (here i) (none_more i)
-  where
-    here : a ≡ a + 0
-    here = omega arith
-
-    none_more : 0 + m ≡ m
-    none_more = omega arith
-range_joined a (suc n) m = ap (range_with_len a) next ∙ ap (λ xs. a ∷ xs) (range_joined (a + 1) n m ∙ ap (λ k. range_with_len (a + 1) n ++ range_with_len k m) place)
-  where
-    next : suc n + m ≡ suc (n + m)
-    next = omega arith
-
-    place : a + 1 + n ≡ a + suc n
-    place = omega arith
+use Rattle.std.proofs.Math.Bool.{or-false}
+use Rattle.order_model.proofs.Lists.Ranges.{range_append}
 
 -- one part
 pub part_union : (s : Knowledge) (b : Plan) (output first count id : ℕ) → count ≡ 1 → Means s id (piece_function b (output * 64 + first)) → Means s id (shares_union b output first count)
 unfolding shares_union
 part_union s b output first count id one m =
     means_same s id (piece_function b (output * 64 + first)) (shares_union b output first count) m
-    (λ p l. sym (or_false (piece_function b (output * 64 + first) p)) ∙ ap (λ n. list_any (λ share. piece_function b (output * 64 + share) p) (range_with_len first n)) (sym one))
+    (λ p l. sym (or-false (piece_function b (output * 64 + first) p)) ∙ ap (λ n. list_any (λ share. piece_function b (output * 64 + share) p) (range_with_len first n)) (sym one))
 
 -- the parts of two halves
 pub halves_union : (s1 s2 s3 : Knowledge) (b : Plan) (output first half rest count lower upper made : ℕ) → count ≡ half + rest → Means s1 lower (shares_union b output first half) → Follows s1 s2
@@ -55,14 +36,14 @@ halves_union s1 s2 s3 b output first half rest count lower upper made all ml f12
     let test : (p : Point) → ℕ → Bool = λ p share. piece_function b (output * 64 + share) p in
     means_same s3 made (combine Or (function_in s3 lower) (function_in s3 upper)) (shares_union b output first count) m
     (λ p l. (λ i. means_at s3 lower _ p (f23.means lower _ (f12.means lower _ ml)) l i || means_at s3 upper _ p (f23.means upper _ mu) l i)
-    ∙ (sym (list_any-append (test p) (range_with_len first half) (range_with_len (first + half) rest)) ∙ ap (list_any (test p)) (sym (range_joined first half rest)) ∙ ap (λ n. list_any (test p) (range_with_len first n)) (sym all)))
+    ∙ (sym (list_any-append (test p) (range_with_len first half) (range_with_len (first + half) rest)) ∙ ap (list_any (test p)) (sym (range_append first half rest)) ∙ ap (λ n. list_any (test p) (range_with_len first n)) (sym all)))
 
 -- ---- all products
 
 any_none : (A : ℕ → Bool) (c : ℕ) (t : Bool) (len a : ℕ) → ((x : ℕ) → a ≤ x → x < a + len → c ≢ x) → list_any (λ b. A b || cond (eqb c b) t false) (range_with_len a len) ≡ list_any A (range_with_len a len)
 any_none A c t zero a h = refl
 any_none A c t (suc len) a h =
-    let here : (A a || cond (eqb c a) t false) ≡ A a = ap (λ e. A a || cond e t false) (ne_eqb c a (h a (omega arith) (omega arith))) ∙ or_false (A a) in
+    let here : (A a || cond (eqb c a) t false) ≡ A a = ap (λ e. A a || cond e t false) (ne_eqb c a (h a (omega arith) (omega arith))) ∙ or-false (A a) in
     let rest = any_none A c t len (a + 1) (λ x l u. h x (omega arith) (omega arith)) in
     λ i. here i || rest i
 
@@ -86,7 +67,7 @@ any_one A c t (suc len) a l u = elim (cases_eq c a) [
       let rest = any_none A c t len (a + 1) (λ x low up q. omega arith) in
       (λ i. here i || rest i) ∙ or_swap (A a) (list_any A (range_with_len (a + 1) len)) t
   | inr ne ↦
-      let here : (A a || cond (eqb c a) t false) ≡ A a = ap (λ k. A a || cond k t false) (ne_eqb c a ne) ∙ or_false (A a) in
+      let here : (A a || cond (eqb c a) t false) ≡ A a = ap (λ k. A a || cond k t false) (ne_eqb c a ne) ∙ or-false (A a) in
       let rest = any_one A c t len (a + 1) (omega arith) (omega arith) in
       (λ i. here i || rest i) ∙ or_assoc (A a) (list_any A (range_with_len (a + 1) len)) t
 ]
@@ -103,7 +84,7 @@ module _ (output : ℕ) (p : Point) where
   test product = matches product p && has_output product output
 
   single : (c : Bool) (x : Product) → list_any test (cond c (x ∷ []) []) ≡ cond c (test x) false
-  single true x = or_false (test x)
+  single true x = or-false (test x)
   single false x = refl
 
   -- the products of all remainders are all products
@@ -119,7 +100,7 @@ module _ (output : ℕ) (p : Point) where
       ∙ (ap (λ c. list_any test (share b (take i xs)) || c) (single (eqb (length (take i xs) % 64) b) x) ∙ ap (λ k. list_any test (share b (take i xs)) || cond (eqb (k % 64) b) (test x) false) size))))
       ∙ (any_one (λ b. product_function (share b (take i xs)) output p) (i % 64) (test x) 64 0 (omega arith) (omega arith)
       ∙ (ap (λ c. c || test x) (all_shares xs i (omega arith))
-      ∙ (ap (λ c. list_any test (take i xs) || c) (sym (or_false (test x))) ∙ (sym (list_any-append test (take i xs) (x ∷ [])) ∙ ap (list_any test) (sym more)))))
+      ∙ (ap (λ c. list_any test (take i xs) || c) (sym (or-false (test x))) ∙ (sym (list_any-append test (take i xs) (x ∷ [])) ∙ ap (list_any test) (sym more)))))
     where
       next : suc i ≡ i + 1
       next = omega arith
@@ -155,7 +136,7 @@ parts_all s b output id plan some low same m =
     (λ j a u. ap (λ f. f p) (part_piece b (output * 64 + j) (let e = plan.roots in let c = terms_count b.kind (order_of b) b.problem.value some in omega arith)))
     ∙ parts_output output p b.kind (order_of b) b.problem.value some plan.terms low (l ∙ (same ∙ sym plan.inputs)))
 
--- an output is the piece behind the parts
+-- an output is the piece after the parts
 pub root_piece : (b : Plan) (j q : ℕ) → q ≡ b.roots + j → piece_function b q ≡ output_at b.problem.value j
 unfolding piece_function
 root_piece b j q e =

@@ -15,6 +15,7 @@ use Rattle.node_words.specs.Entries.{combine, combine_values}
 use Rattle.node_words.proofs.Growing.{grows_full}
 use Rattle.node_words.proofs.Making.{word_level, word_low, word_high}
 use Rattle.node_words.proofs.Meaning.{value_terminal, value_grows, value_within, value_child, value_same, canonical, no_higher, deepest, depth_node, depth_terminal}
+use Rattle.std.proofs.lemmas.Bool.{cases_lt}
 
 -- the point at which each level's variable has a value
 abbrev pub point_along : List ℕ → (ℕ → Bool) → Point
@@ -132,10 +133,7 @@ pub known_small : (ws : List ℕ) (places id : ℕ) → length ws ≤ places →
 known_small ws places id size known = ⊎_elim
     (λ (inside : id < places + 2). inside)
     (λ (past : places + 2 ≤ id). absurd (known (omega arith) (get_or_past ws (id - 2) 0 (omega arith))))
-    (in_or_past id (places + 2))
-  where
-    in_or_past : (a b : ℕ) → (a < b) ⊎ (b ≤ a)
-    in_or_past a b = grind arith
+    (cases_lt id (places + 2))
 
 pub known_made : (ws : List ℕ) (level low high id : ℕ) → IsKnown ws low → IsIdOf ws level low high id → IsKnown ws id
 known_made ws level low high id known made = dite (ℕ_discrete low high)

@@ -1,6 +1,7 @@
 -- What making a node rests on.
 use Rattle.std.proofs.Common.{◌≡◌, ◌≢◌, ℕ, ◌+◌, ◌-◌, ◌^◌, ◌<◌, ◌≤◌, ◌⊎◌, Bool, true, false, MatchBool, nat_lt, if◌then◌else◌, List, get_or, sym, ap, ◌∙◌, subst, ⊎_elim, arith, ne_eqb, lt-ltb, le-ltb}
 use Rattle.node_words.specs.Nodes.{IsBelow, IsNode, Grows, level_of, low_of, high_of, node_word, probe, home, IsFullFor, IsIdOf}
+use Rattle.node_words.proofs.Meaning.{le_or_lt, choose_n, refuse_n}
 
 pub word_level : (level low high : ℕ) → level < 16 → low < 2 ^ 20 → high < 2 ^ 20 → level_of (node_word level low high) ≡ level
 word_level level low high a b c = omega arith
@@ -32,17 +33,11 @@ one_more xs ys places w passed place g before here taken j lt = ⊎_elim
     less_or_is : (a b : ℕ) → a < b + 1 → (a < b) ⊎ (a ≡ b)
     less_or_is a b h = grind arith
 
-choose : (b : Bool) (x y : ℕ) → b ≡ true → (if b then x else y) ≡ x
-choose b x y e = ap (λ (c : Bool). if c then x else y) e
-
-refuse : (b : Bool) (x y : ℕ) → b ≡ false → (if b then x else y) ≡ y
-refuse b x y e = ap (λ (c : Bool). if c then x else y) e
-
 pub probe_low : (places w k : ℕ) → home places w + k < places → probe places w k ≡ home places w + k
-probe_low places w k h = choose (nat_lt (home places w + k) places) (home places w + k) (home places w + k - places) (lt-ltb (home places w + k) places h)
+probe_low places w k h = choose_n (nat_lt (home places w + k) places) (home places w + k) (home places w + k - places) (lt-ltb (home places w + k) places h)
 
 pub probe_high : (places w k : ℕ) → places ≤ home places w + k → probe places w k ≡ home places w + k - places
-probe_high places w k h = refuse (nat_lt (home places w + k) places) (home places w + k) (home places w + k - places) (le-ltb (home places w + k) places h)
+probe_high places w k h = refuse_n (nat_lt (home places w + k) places) (home places w + k) (home places w + k - places) (le-ltb (home places w + k) places h)
 
 -- a probe comes to each place
 pub onto : (places w p : ℕ) → home places w < places → p < places → (k : ℕ) × (k < places) × (probe places w k ≡ p)
@@ -50,9 +45,6 @@ onto places w p inside small = ⊎_elim
     (λ (up : home places w ≤ p). let k : ℕ = p - home places w in (k, omega arith, (let e = probe_low places w k (omega arith) in omega arith)))
     (λ (down : p < home places w). let k : ℕ = places - home places w + p in (k, omega arith, (let e = probe_high places w k (omega arith) in omega arith)))
     (le_or_lt (home places w) p)
-  where
-    le_or_lt : (a b : ℕ) → (a ≤ b) ⊎ (b < a)
-    le_or_lt a b = grind arith
 
 pub full_for : (seen : List ℕ) (places w passed : ℕ) → home places w < places → places ≤ passed
     → ((j : ℕ) → j < passed → (get_or seen (probe places w j) 0 ≢ 0) × (get_or seen (probe places w j) 0 ≢ w)) → IsFullFor seen places w

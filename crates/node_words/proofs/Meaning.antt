@@ -3,7 +3,7 @@ use Rattle.std.proofs.Common.{◌≡◌, ◌≢◌, ℕ, zero, suc, ◌+◌, ◌
 use Rattle.node_words.specs.Nodes.{IsBelow, AreNodes, AreUnequal, Grows, level_of, low_of, high_of, node_word, IsKnown}
 use Rattle.node_words.specs.Meaning.{value, IsSame, depth}
 
-le_or_lt : (a b : ℕ) → (a ≤ b) ⊎ (b < a)
+pub le_or_lt : (a b : ℕ) → (a ≤ b) ⊎ (b < a)
 le_or_lt a b = grind arith
 
 choose : (b : Bool) (x y : Bool) → b ≡ true → (if b then x else y) ≡ x
@@ -12,10 +12,10 @@ choose b x y e = ap (λ (c : Bool). if c then x else y) e
 refuse : (b : Bool) (x y : Bool) → b ≡ false → (if b then x else y) ≡ y
 refuse b x y e = ap (λ (c : Bool). if c then x else y) e
 
-choose_n : (b : Bool) (x y : ℕ) → b ≡ true → (if b then x else y) ≡ x
+pub choose_n : (b : Bool) (x y : ℕ) → b ≡ true → (if b then x else y) ≡ x
 choose_n b x y e = ap (λ (c : Bool). if c then x else y) e
 
-refuse_n : (b : Bool) (x y : ℕ) → b ≡ false → (if b then x else y) ≡ y
+pub refuse_n : (b : Bool) (x y : ℕ) → b ≡ false → (if b then x else y) ≡ y
 refuse_n b x y e = ap (λ (c : Bool). if c then x else y) e
 
 pub depth_terminal : (levels : ℕ) (ws : List ℕ) (id : ℕ) → id < 2 → depth levels ws id ≡ levels

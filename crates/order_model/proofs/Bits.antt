@@ -5,3 +5,4 @@ pub mod PointNumbers
 pub mod Words
 pub mod Tables
 pub mod Problems
+pub mod Ones

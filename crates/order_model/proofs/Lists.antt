@@ -1,5 +1,7 @@
--- Lists of variables: as sets, as orders, and which order comes first.
+-- Lists: as sets, runs of numbers and filters, lists of variables that are orders, and which order comes first.
 pub mod Sets
+pub mod Ranges
+pub mod Digits
 pub mod Orders
 pub mod Accepted
 pub mod Firsts

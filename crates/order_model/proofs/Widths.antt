@@ -7,3 +7,4 @@ pub mod SizeBounds
 pub mod Count
 pub mod Cells
 pub mod Clipped
+pub mod Outside

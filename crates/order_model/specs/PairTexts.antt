@@ -1,7 +1,7 @@
 -- Texts of pairs, as 2,0:1,0, and what is decided of them.
 --     number_of word, pair_of part, listed text      the number of a word, the pair of a part between colons, the pairs of a text
 --     AreMasksOf P below      the masks of the listed pairs
---     ParsesAs P n result      what is answered for the listed pairs, with n variables
+--     ParsesAs P n result      what is returned for the listed pairs, with n variables
 use Rattle.std.specs.Prelude.{◌≡◌, ◌↔◌, IsTrue, ℕ, ◌==◌, nat_eq, List, [], ◌∷◌, Option, Some, None, Result, Ok, Err, decimal}
 use Rattle.std.specs.List.{find, slice_split, before_first, after_first}
 use Rattle.std.specs.Cmp.Lexicographic.{pointwise}
@@ -44,7 +44,7 @@ AreMasksOf None None = Unit {0}
 AreMasksOf (Some P) (Some below) = (a b : ℕ) → IsTrue (has_pair P a b) ↔ HasBit below a b
 AreMasksOf _ _ = ⊥
 
--- what is answered for the listed pairs, with n variables: the first fault of the whole list, or the pairs, sorted
+-- what is returned for the listed pairs, with n variables: the first fault of the whole list, or the pairs, sorted
 abbrev pub ParsesAs : Option (List Pair) → ℕ → Result KeptPairs PairsFault → Type 0
 ParsesAs None n (Err BadPair) = Unit {0}
 ParsesAs (Some P) n (Err PairOutOfRange) = AreBelow n P → ⊥

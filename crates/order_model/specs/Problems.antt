@@ -1,7 +1,7 @@
 -- Problems: the truth tables of some functions of the same variables.
 --     TruthTables, functions t, outputs_of t, table_at t j, value_at t j k      a problem's value; its functions; how many there are; function j's table and values
 --     words_per_table n, packed_bit words k, table_in n words, tables_of n m words      truth tables packed in words of 64 points
---     IsClean n words, IsPacked n m words      nothing stands behind the last point; words of m truth tables of n variables
+--     IsClean n words, IsPacked n m words      nothing stands after the last point; words of m truth tables of n variables
 use Rattle.std.specs.Prelude.{◌≡◌, ℕ, ◌+◌, ◌*◌, ◌/◌, ◌%◌, ◌^◌, ◌<◌, ◌≤◌, ◌==◌, Bool, false, List, [], length, map, get_or, take, drop}
 use Rattle.std.specs.Int.{bit_at}
 use Rattle.std.specs.List.{range_with_len}
@@ -44,7 +44,7 @@ table_in n words = map (packed_bit words) (range_with_len 0 (2 ^ n))
 abbrev pub words_of : ℕ → List ℕ → ℕ → List ℕ
 words_of size words j = take size (drop (j * size) words)
 
--- m truth tables of n variables, one behind the other
+-- m truth tables of n variables, one after the other
 unfoldable pub tables_of : ℕ → ℕ → List ℕ → List (List Bool)
 tables_of n m words = map (λ j. table_in n (words_of (words_per_table n) words j)) (range_with_len 0 m)
 

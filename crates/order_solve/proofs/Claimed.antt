@@ -14,15 +14,16 @@ use Rattle.std.specs.Int.{bit_at}
 use Rattle.std.proofs.lemmas.List.FromFn.{length-range_with_len}
 use Rattle.order_model.specs.Problems.{functions}
 use Rattle.order_model.specs.Cells.{wanted, cell_cost}
-use Rattle.order_model.proofs.Lists.Orders.{place_get, place_at, has_at}
+use Rattle.order_model.proofs.Lists.Orders.{place_get, place_at, has_at, place_small}
 use Rattle.order_model.proofs.Widths.Recurrence.{distinct_filter, distinct_variables}
 use Rattle.subset_layers.specs.Layers.{LayerOf, BlockOf, layer_of, block_of, masks_of, block_masks, blocks_of, low_bytes, low_byte, block_place}
-use Rattle.subset_layers.proofs.BlockLists.{place_below, low_bytes_has, blocks_length, block_at as block_there, slice_get_at}
+use Rattle.subset_layers.proofs.BlockLists.{low_bytes_has, blocks_length, block_at as block_there, slice_get_at}
 use Rattle.layer_core.specs.Machine.{claimed, claims_block}
 use Rattle.layer_core.specs.Settings.{Setting}
 use Rattle.layer_board.specs.Views.{BoardId, SeatOf, stepped, claims_place, has_claimed}
 use Rattle.layer_core.proofs.Layouts.{place_found, place_missing, block_at, few_masks_in}
 use Rattle.order_solve.specs.Gains.{gains, gained, width_count, widths_for}
+use Rattle.order_model.proofs.Lists.Ranges.{filter_at_most}
 
 -- ---- a mask and its block
 
@@ -31,7 +32,7 @@ unfolding block_place
 claims_mask s mask m =
     let l = s.board.brief.layer in
     let i = place_in (masks_of l) mask in
-    let below = place_below (masks_of l) mask m in
+    let below = place_small (masks_of l) mask m in
     let found : slice_get (masks_of l) i ≡ Some mask = slice_get-get_or (masks_of l) i 0 below ∙ ap Some (place_at (masks_of l) mask below) in
     ap (claims_place l s.worker) (place_found l i mask found)
     ∙ ap (claimed s.worker) (block_at l i below ∙ ap (λ k. place_in (low_bytes l) (low_byte k)) (place_at (masks_of l) mask below))
@@ -61,7 +62,7 @@ pub in_place : (l : LayerOf) (p : ℕ) (b : BlockOf) (mask : ℕ) → slice_get 
 in_place l p b mask is m =
     let k = block_is l p b is in
     let low : b.low ≡ get_or (low_bytes l) p 0 = ap (λ (z : BlockOf). z.low) k.1 in
-    let there = place_below (low_bytes l) (low_byte mask) (low_bytes_has l.inputs l.size mask m) in (
+    let there = place_small (low_bytes l) (low_byte mask) (low_bytes_has l.inputs l.size mask m) in (
       λ e. ap (place_in (low_bytes l)) (e ∙ low) ∙ place_get (low_bytes l) p (distinct_lows l) k.0,
       λ e. sym (place_at (low_bytes l) (low_byte mask) there) ∙ ap (λ q. get_or (low_bytes l) q 0) e ∙ sym low,
     )
@@ -166,21 +167,13 @@ module _ (s s' : SeatOf) (p : ℕ) (b : BlockOf) (h : ClaimsBlock s s' p b) wher
 
 -- ---- few sets take few widths
 
-pub length_filter_le : (p : ℕ → Bool) (xs : List ℕ) → length (filter p xs) ≤ length xs
-length_filter_le p [] = omega arith
-length_filter_le p (x ∷ xs) = by (p x) (length_filter_le p xs)
-  where
-    by : (b : Bool) → length (filter p xs) ≤ length xs → length (cond b (x ∷ filter p xs) (filter p xs)) ≤ length (x ∷ xs)
-    by true h = omega arith
-    by false h = omega arith
-
 pub few_each : (t : Setting) (mask : ℕ) → t.problem.inputs ≤ 16 → width_count t mask ≤ 16
 unfolding wanted members
 few_each t mask few =
     let n = t.problem.inputs in
-    let a = length_filter_le (λ x. is_lawful t.pairs.pairs (members n mask) && leb (cell_cost n (functions t.problem) t.pairs.pairs t.bound (mask - 2 ^ x)) t.bound) (tops t.pairs.pairs (members n mask)) in
-    let b = length_filter_le (λ x. is_lawful t.pairs.pairs (without x (members n mask))) (members n mask) in
-    let c = length_filter_le (λ x. eqb (bit_at mask x) 1) (variables n) in
+    let a = filter_at_most (λ x. is_lawful t.pairs.pairs (members n mask) && leb (cell_cost n (functions t.problem) t.pairs.pairs t.bound (mask - 2 ^ x)) t.bound) (tops t.pairs.pairs (members n mask)) in
+    let b = filter_at_most (λ x. is_lawful t.pairs.pairs (without x (members n mask))) (members n mask) in
+    let c = filter_at_most (λ x. eqb (bit_at mask x) 1) (variables n) in
     let d = length-range_with_len 0 n in
     omega (arith, a, b, c, d, few)
 

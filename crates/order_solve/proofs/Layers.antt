@@ -25,12 +25,12 @@ use Rattle.order_model.specs.Levels.{subfunctions, reach, dependents, level_coun
 use Rattle.subset_layers.specs.Layers.{layer_with, masks_of}
 use Rattle.subset_layers.specs.Costs.{CostsOf, start_costs, layer_of_costs, as_pair, AreTrueCosts, AreTrueCells}
 use Rattle.subset_layers.proofs.BlockLists.{masks_has}
-use Rattle.subset_layers.proofs.Sizes.{ones-members}
+use Rattle.order_model.proofs.Bits.Ones.{ones-members}
 use Rattle.layer_core.specs.Settings.{Setting, cell_for}
 use Rattle.layer_core.proofs.Layouts.{length-map_lem}
 use Rattle.order_solve.specs.Benches.{IsLayerFor}
 use Rattle.order_solve.specs.Bounded.{IsBounded, AreLayersFor}
-use Rattle.order_solve.proofs.Claimed.{length_filter_le}
+use Rattle.order_model.proofs.Lists.Ranges.{filter_at_most}
 
 -- ---- layers
 
@@ -71,7 +71,7 @@ pub ones_le : (n mask : ℕ) → mask < 2 ^ n → count_ones mask ≤ n
 unfolding members
 ones_le n mask lt =
     let e = ones-members n mask lt in
-    let l = length_filter_le (λ x. eqb (bit_at mask x) 1) (variables n) in
+    let l = filter_at_most (λ x. eqb (bit_at mask x) 1) (variables n) in
     let k = length-range_with_len 0 n in
     omega (arith, e, l, k)
 

@@ -13,7 +13,6 @@ use Rattle.std.proofs.lemmas.Option.{slice_get_within, get_or_from_slice_get}
 use Rattle.order_model.specs.Orders.{has, place_in}
 use Rattle.order_model.proofs.Lists.Orders.{has_at, has_filter, place_get}
 use Rattle.subset_layers.specs.declared.costs.Cell.{Cell}
-use Rattle.subset_layers.proofs.BlockLists.{has_get}
 use Rattle.order_model.specs.Functions.{Function}
 use Rattle.order_model.specs.Pairs.{Pair}
 use Rattle.order_model.specs.Problems.{functions}
@@ -26,6 +25,7 @@ use Rattle.order_solve.specs.Benches.{BenchOf, IsLayerFor}
 use Rattle.order_solve.specs.Gains.{width_count, widths_for}
 use Rattle.order_solve.specs.Placed.{IsPlaced, no_cell}
 use Rattle.order_solve.proofs.Claimed.{block_layer, in_place, sum_few, few_each}
+use Rattle.order_model.proofs.Lists.Accepted.{index_of}
 
 pub found_cell : (t : Setting) (masks : List ℕ) (cells : List Cell) (i mask : ℕ) → map pair_of cells ≡ map (cell_for t) masks → slice_get masks i ≡ Some mask → pair_of (get_or cells i no_cell) ≡ cell_for t mask
 found_cell t masks cells i mask same at =
@@ -127,7 +127,7 @@ module _ (b : BenchOf) (blk : BlockOf) (start : List Cell) (i : ℕ) (cells : Li
 pub places_all : (b : BenchOf) (blk : BlockOf) (start : List Cell) (i : ℕ) (cells : List Cell) → PlacesFirst b blk start i cells → length (block_masks blk) ≤ i → (p : ℕ) → p < length (masks_of b.layer) →
     has (block_masks blk) (slice_index (masks_of b.layer) p) ≡ true → IsPlaced b cells p
 places_all b blk start i cells h many p lt m =
-    let k = has_get (block_masks blk) (slice_index (masks_of b.layer) p) m in
+    let k = index_of (block_masks blk) (slice_index (masks_of b.layer) p) m in
     h.placed p k.0 (omega (arith, k.1, many)) lt (sym k.2)
 
 -- a slice that was written back

@@ -26,20 +26,16 @@ use Rattle.order_model.specs.OrderFaults.{Accepts}
 use Rattle.order_model.specs.Diagrams.{IsFirstKeeping}
 use Rattle.order_model.proofs.Lists.Orders.{has_at}
 use Rattle.order_model.proofs.Widths.Recurrence.{distinct_variables, distinct_without, length_without}
-use Rattle.order_model.proofs.Bits.Masks.{distinct_members, members_without, members_full}
+use Rattle.order_model.proofs.Bits.Masks.{distinct_members, members_without, members_full, all_ones}
 use Rattle.order_model.proofs.Widths.Cells.{members_zero, cell_member}
 use Rattle.order_model.proofs.Precedence.MaskLaws.{member_bit}
 use Rattle.order_model.proofs.Precedence.Greedy.{pow_le_bit}
 use Rattle.order_model.proofs.Functions.Exchange.{above_width, level_lem}
 use Rattle.order_model.proofs.Widths.Clipped.{clip, clip_unclipped}
-use Rattle.subset_layers.proofs.Sizes.{ones-members}
+use Rattle.order_model.proofs.Bits.Ones.{ones-members}
 use Rattle.layer_core.specs.Settings.{Setting, cell_for}
 use Rattle.order_solve.specs.Bounded.{IsBounded}
 use Rattle.order_model.proofs.Widths.SizeBounds.{order_length}
-
--- the set of all variables, as the code makes it
-pub all_ones : (n : ℕ) → n ≤ 16 → 65535 / 2 ^ (16 - n) ≡ 2 ^ n - 1
-all_ones n h = ones_shr 16 (16 - n) (omega arith) ∙ ap (λ (k : ℕ). 2 ^ k - 1) (omega arith)
 
 pub full_small : (n : ℕ) → 2 ^ n - 1 < 2 ^ n
 full_small zero = omega arith
@@ -80,7 +76,7 @@ module _ (t : Setting) where
   abbrev P : List Pair
   P = t.pairs.pairs
 
-  -- after some steps, whatever is read from the set that is left stands behind what was read
+  -- after some steps, whatever is read from the set that is left stands after what was read
   pub record ReadTo (mask : ℕ) (xs : List ℕ) (steps : ℕ) : Type 0 where
     pub small : mask < 2 ^ n
     pub left : length (members n mask) + steps ≡ n

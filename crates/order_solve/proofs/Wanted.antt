@@ -17,7 +17,6 @@ use Rattle.order_model.specs.Problems.{functions}
 use Rattle.order_model.specs.Cells.{wanted, cell_cost}
 use Rattle.order_model.proofs.Lists.Orders.{same_bool, has_filter}
 use Rattle.order_model.proofs.Precedence.Lists.{lawful_same}
-use Rattle.order_model.proofs.Precedence.Masks.{filter_same}
 use Rattle.order_model.proofs.Bits.Problems.{MaskOfFirst, mask_of_passing}
 use Rattle.order_model.proofs.Widths.Recurrence.{distinct_filter}
 use Rattle.order_model.proofs.Bits.Masks.{distinct_members, members_without, members_small, bit-mask_of, members_mask_of, mask_of_small}
@@ -25,11 +24,12 @@ use Rattle.order_model.proofs.Widths.Cells.{cost_known, members_zero}
 use Rattle.subset_layers.specs.Layers.{masks_of, layer_with}
 use Rattle.subset_layers.specs.Costs.{CostsOf, cost_without, AreTrueCosts}
 use Rattle.subset_layers.proofs.CostLists.{less_one}
-use Rattle.subset_layers.proofs.Sizes.{ones-members}
+use Rattle.order_model.proofs.Bits.Ones.{ones-members}
 use Rattle.layer_core.specs.Settings.{Setting}
 use Rattle.order_solve.specs.Needs.{affordable, needed}
 use Rattle.order_solve.specs.Gains.{width_count, widths_for}
 use Rattle.order_solve.proofs.Filters.{filter_twice, filter_none, sum_map}
+use Rattle.order_model.proofs.Lists.Ranges.{filter_same}
 
 -- whether a variable is a member without which the cost is within the bound
 pub is_affordable : CostsOf → ℕ → ℕ → ℕ → Bool

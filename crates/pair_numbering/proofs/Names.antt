@@ -11,7 +11,7 @@ use Rattle.std.proofs.lemmas.List.{length-map, get_or-map, map-id}
 use Rattle.std.proofs.lemmas.List.FromFn.{get_or-map-range_with_len, length-map-range_with_len}
 use Rattle.std.proofs.lemmas.Map.Made.{distinct_count-le}
 use Rattle.order_model.specs.Widths.{same_pair}
-use Rattle.order_model.proofs.Lists.Sets.{Among, among_map, member_from_among}
+use Rattle.order_model.proofs.Lists.Sets.{Among, among_map, member_from_among, nat_decides}
 use Rattle.order_model.proofs.Widths.ClassPairs.{pair_decides, rank_apart}
 use Rattle.class_laws.specs.Dependence.{joined_mask}
 use Rattle.class_laws.specs.Numbering.{rank, ranks}
@@ -20,9 +20,9 @@ use Rattle.pair_numbering.specs.Keys.{AreUsed, TellsPairs, joined_key, joined_ke
 use Rattle.class_laws.proofs.Ranks.{ranks_alike, rank_below, rank_reached}
 use Rattle.class_laws.proofs.Index.{length-pairs, pair_listed}
 use Rattle.class_laws.proofs.Joined.{pair_classes}
-use Rattle.class_laws.proofs.Lists.{map_map, map_same, place_of}
+use Rattle.class_laws.proofs.Lists.{map_same, place_of}
 use Rattle.order_model.proofs.Precedence.Masks.{among_at}
-use Rattle.class_laws.proofs.Counted.{nat_decides}
+use mathlib.Core.List.{map-map}
 
 module _ (masks : List ℕ) (x : ℕ) (ps : List (ℕ × ℕ)) (numbers joined : List ℕ) (t : TellsPairs masks x ps numbers joined) where
   -- equal names, equal pairs
@@ -38,7 +38,7 @@ module _ (masks : List ℕ) (x : ℕ) (ps : List (ℕ × ℕ)) (numbers joined :
 
   pub names_masks : map (λ k. get_or joined k 0) numbers ≡ map (joined_mask masks x) ps
   names_masks =
-      ap (map (λ k. get_or joined k 0)) t.numbers_are ∙ map_map (λ k. get_or joined k 0) t.name ps
+      ap (map (λ k. get_or joined k 0)) t.numbers_are ∙ map-map (λ k. get_or joined k 0) t.name ps
       ∙ map_same (λ p. get_or joined (t.name p) 0) (joined_mask masks x) ps (λ p a. let i = place_of (0, 0) ps p a in subst (λ q. get_or joined (t.name q) 0 ≡ joined_mask masks x q) i.1.1 (t.told i.0 i.1.0))
 
   pub names_below : (i : ℕ) → i < length numbers → get_or numbers i 0 < length joined

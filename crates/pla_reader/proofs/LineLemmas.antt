@@ -20,6 +20,7 @@ use Rattle.pla_reader.specs.Covers.{input_count, output_count, input_naming, out
 use Rattle.pla_reader.specs.Faults.{comes, head_fault, fault_of, term_fault, naming_fault, type_fault, takes_dont_cares, is_one_number}
 use Rattle.pla_reader.specs.Masks.{Fits}
 use Rattle.pla_reader.specs.Progress.{State, Agrees, IsSound, Taken, is_f, words_of}
+use Rattle.std.proofs.Math.Bool.{and-false}
 
 -- a further line that gives nothing, or something
 pub none_behind : {A : Type 0} (h : Line → Option A) (before : List Line) (line : Line) → h line ≡ None → filter_map h (before ++ line ∷ []) ≡ filter_map h before
@@ -94,14 +95,10 @@ pub names_wait : (names : Option (List (List ℕ))) (old new : Option ℕ) → o
 names_wait None old new e counted = tt
 names_wait (Some ns) old new e counted = absurd cc
 
-pub and_false : (b : Bool) → (b && false) ≡ false
-and_false true = refl
-and_false false = refl
-
 -- terms wait for both counts
 no_terms_yet : (s : State) → IsSound s → (s.inputs ≡ None) ⊎ (s.outputs ≡ None) → s.terms ≡ []
 no_terms_yet s sound (inl none) = sound.no_terms (rw none refl)
-no_terms_yet s sound (inr none) = sound.no_terms (rw none (and_false (is_some s.inputs)))
+no_terms_yet s sound (inr none) = sound.no_terms (rw none (and-false (is_some s.inputs)))
 
 -- after a line that gives nothing
 pub after_nothing : (before : List Line) (s : State) (line : Line) → input_count line ≡ None → output_count line ≡ None → input_naming line ≡ None → output_naming line ≡ None →

@@ -10,25 +10,19 @@ use Rattle.std.proofs.lemmas.Bool.Decides.{nat_tests}
 use mathlib.Core.List.{map-append}
 use Rattle.pla_reader.specs.Text.{is_name}
 use Rattle.pla_reader.specs.Covers.{numbered_names}
+use Rattle.order_model.proofs.Lists.Ranges.{range_append}
 
 -- a word that may be a name is ASCII
 pub ascii_name : (word : List ℕ) → is_name word ≡ true → IsAscii word
 ascii_name [] e = IsAscii-nil
 ascii_name (b ∷ bs) e = let parts = and_parts (is_ascii_graphic b) (is_name bs) e in IsAscii-cons b bs (grind (arith, nat_tests)) (ascii_name bs parts.1)
 
--- a range in two
-pub range_split : (a m n : ℕ) → range_with_len a (m + n) ≡ range_with_len a m ++ range_with_len (a + m) n
-range_split a zero n = let first : 0 + n ≡ n = omega arith in let second : a + 0 ≡ a = omega arith in rw first (rw second refl)
-range_split a (suc m) n =
-    let first : suc m + n ≡ suc (m + n) = omega arith in let second : a + suc m ≡ (a + 1) + m = omega arith in
-    rw first (rw second (ap (λ ks. a ∷ ks) (range_split (a + 1) m n)))
-
--- one name more with a number behind it
+-- one name more with a number after it
 pub numbered_next : (front : List ℕ) (n : ℕ) → numbered_names front (n + 1) ≡ numbered_names front n ++ (front ++ decimal n) ∷ []
 unfolding numbered_names
 numbered_next front n =
     let zero-plus : 0 + n ≡ n = omega arith in
-    ap (map (λ i. front ++ decimal i)) (range_split 0 n 1) ∙ map-append (λ i. front ++ decimal i) (range_with_len 0 n) (range_with_len (0 + n) 1) ∙ rw zero-plus refl
+    ap (map (λ i. front ++ decimal i)) (range_append 0 n 1) ∙ map-append (λ i. front ++ decimal i) (range_with_len 0 n) (range_with_len (0 + n) 1) ∙ rw zero-plus refl
 
 -- names that were given, or else numbered ones, are as many as their count says
 pub names_number : (given : Option (List (List ℕ))) (count : Option ℕ) (n : ℕ) (front : List ℕ) (names : List (List ℕ)) → count ≡ Some n → IfSome given (λ ns. count ≡ Some (length ns)) →

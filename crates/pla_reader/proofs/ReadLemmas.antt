@@ -25,8 +25,8 @@ use Rattle.pla_reader.specs.Reading.{judged, end_faults, faults, Gives, HasFirst
 use Rattle.pla_reader.specs.Progress.{State, start, Agrees, Taken, IsCoverOf, IsEndError}
 use Rattle.pla_reader.specs.Answering.{Answers}
 use Rattle.pla_reader.proofs.TextLemmas.{one_more}
-use Rattle.pla_reader.proofs.NameLemmas.{range_split}
 use Rattle.pla_reader.proofs.LineLemmas.{comes_known, inputs_known, outputs_known}
+use Rattle.order_model.proofs.Lists.Ranges.{range_append}
 
 abbrev goes_on : Line → Bool
 goes_on line = not (is_end line)
@@ -98,7 +98,7 @@ reached_next lines rest line number s s' here unended (none, agrees) =
       agrees = agrees;
     }
 
--- the description of open lines goes on behind them
+-- the description of open lines goes on after them
 description_open : (before rest : List Line) → list_all goes_on before ≡ true → description (before ++ rest) ≡ before ++ description rest
 unfolding description
 description_open [] rest all = refl
@@ -125,7 +125,7 @@ faults_behind : (before more : List Line) → ((k : ℕ) → k < length before �
 faults_behind before more none =
     let zero-plus : 0 + length before ≡ length before = omega arith in
     ap (λ n. filter_map (judged (before ++ more)) (range_with_len 0 n)) (length-append before more)
-    ∙ ap (filter_map (judged (before ++ more))) (range_split 0 (length before) (length more))
+    ∙ ap (filter_map (judged (before ++ more))) (range_append 0 (length before) (length more))
     ∙ filter_map-append (judged (before ++ more)) (range_with_len 0 (length before)) (range_with_len (0 + length before) (length more))
     ∙ ap (λ found. found ++ filter_map (judged (before ++ more)) (range_with_len (0 + length before) (length more)))
     (none_in_range (judged (before ++ more)) 0 (length before) (λ k low high. judged_front before more k (omega arith) ∙ none k (omega arith)))

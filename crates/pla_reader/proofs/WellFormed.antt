@@ -16,7 +16,8 @@ use Rattle.pla_reader.specs.Lines.Line.{Empty, Inputs, Outputs, InputNames, Outp
 use Rattle.pla_reader.specs.Covers.{NamedCover, input_count, output_count, input_naming, output_naming, row_bytes, IsProductOf, IsCover, first_number, first_or, inputs_of, outputs_of, numbered_names, term_of, literal_of, in_on_set, cover_of}
 use Rattle.pla_reader.specs.Faults.{comes, first_some, length_fault, term_fault, head_fault, naming_fault, fault_of, input_fault, output_fault, is_small, takes_dont_cares}
 use Rattle.pla_reader.specs.Reading.{judged, end_faults, end_number, faults, Gives}
-use Rattle.pla_reader.proofs.LineLemmas.{and_false, names_wait, none_behind, one_behind, first_given, comes_known, inputs_known, outputs_known}
+use Rattle.pla_reader.proofs.LineLemmas.{names_wait, none_behind, one_behind, first_given, comes_known, inputs_known, outputs_known}
+use Rattle.std.proofs.Math.Bool.{and-false}
 
 -- how many inputs there may be
 abbrev IsSmall : ℕ → Type 0
@@ -87,7 +88,7 @@ counted_names true false n given e = by (length given == n) refl where
   by false m = absurd (let wrong = rw m at e in cc)
   by true m = (refl, refl, grind (arith, nat_tests))
 
--- the first of what may be there, behind others
+-- the first of what may be there, after others
 first_some_behind : (xs ys : List (Option LineFault)) → first_some (xs ++ ys) ≡ None → first_some ys ≡ None
 first_some_behind [] ys e = e
 first_some_behind (None ∷ xs) ys e = first_some_behind xs ys e
@@ -122,7 +123,7 @@ no_names (Some x) e = absurd cc
 no_rows : (i o i' o' : Option ℕ) (rows : List (List ℕ)) → (is_some i && is_some o) ≡ false → All (FitsCounts i o) rows → All (FitsCounts i' o') rows
 no_rows i o i' o' rows missing all = λ k d inside. absurd (let both = (all k d inside).0 in cc)
 
--- a term behind both counts
+-- a term after both counts
 row_fits : (both : Bool) (found : Option LineFault) → cond both found (Some MissingHead) ≡ None → (both ≡ true) × (found ≡ None)
 row_fits true found e = (refl, e)
 row_fits false found e = absurd cc
@@ -179,7 +180,7 @@ sound_next before (Inputs given) sound e = let known = sound.known in
 sound_next before (Outputs given) sound e = let known = sound.known in
     let count = small_count (is_some sound.o) given OutputCount (rw (comes_known output_count before sound.o known.outputs) at e) in
     let none : sound.o ≡ None = none_is sound.o count.0 in
-    let missing : (is_some sound.i && is_some sound.o) ≡ false = rw none (and_false (is_some sound.i)) in
+    let missing : (is_some sound.i && is_some sound.o) ≡ false = rw none (and-false (is_some sound.i)) in
     record {
       i = sound.i;
       o = Some count.1;

@@ -20,7 +20,7 @@ file lines = flat_map (λ line. line ++ 10 ∷ []) lines
 abbrev first_of : List ℕ → Option (ℕ × LineFault)
 first_of bytes = slice_get (faults (said bytes)) 0
 
--- that of lines, of one line alone, and of one line behind the heads of three inputs and one output
+-- that of lines, of one line alone, and of one line after the heads of three inputs and one output
 abbrev first_of_lines : List (List ℕ) → Option (ℕ × LineFault)
 first_of_lines lines = first_of (file lines)
 

@@ -1,4 +1,4 @@
--- What the reader of covers answers.
+-- What the reader of covers returns.
 --     Answers bytes result      the answer for the bytes of an input within the limit
 --     IsAnswer bytes result      the answer for the bytes that a device has left
 --     failed_calls result      how many calls of the device failed

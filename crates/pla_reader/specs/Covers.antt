@@ -61,7 +61,7 @@ inputs_of lines = first_or 0 (filter_map input_count lines)
 unfoldable pub outputs_of : List Line → ℕ
 outputs_of lines = first_or 0 (filter_map output_count lines)
 
--- a text with each number below n behind it
+-- a text with each number below n after it
 unfoldable pub numbered_names : List ℕ → ℕ → List (List ℕ)
 numbered_names front n = map (λ i. front ++ decimal i) (range_with_len 0 n)
 

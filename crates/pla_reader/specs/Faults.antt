@@ -70,7 +70,7 @@ output_fault taken c = cond (c == 48 || (c == 49 || c == 126)) None
 abbrev pub length_fault : ℕ → ℕ → Option LineFault
 length_fault count wanted = cond (nat_lt count wanted) (Some ShortTerm) (cond (nat_lt wanted count) (Some LongTerm) None)
 
--- the first fault of a term from the left: n inputs, m outputs, and nothing behind them
+-- the first fault of a term from the left: n inputs, m outputs, and nothing after them
 unfoldable pub term_fault : Bool → ℕ → ℕ → List ℕ → Option LineFault
 term_fault taken n m bytes = first_some (map input_fault (take n bytes) ++ map (output_fault taken) (take m (drop n bytes)) ++ length_fault (length bytes) (n + m) ∷ [])
 

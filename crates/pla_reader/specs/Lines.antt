@@ -6,7 +6,7 @@ use Rattle.std.specs.Prelude.{ℕ, Bool, true, false, not, cond, ◌==◌, List,
 use Rattle.std.specs.Cmp.Lexicographic.{pointwise}
 use Rattle.pla_reader.specs.Text.{lines_of, content, words, positions}
 
--- a directive with the words behind it, or a term with its positions
+-- a directive with the words after it, or a term with its positions
 pub data Line : Type 0 where
   Empty : Line
   Inputs Outputs InputNames OutputNames Products LogicalType : (given : List (List ℕ)) → Line

@@ -74,7 +74,7 @@ pub record Agrees (before : List Line) (s : State) : Type 0 where
   pub rows : map (term_of (unwrap_or s.inputs 0)) (filter_map row_bytes before) ≡ map (product_of (unwrap_or s.inputs 0) (unwrap_or s.outputs 0)) s.terms
   pub sound : IsSound s
 
--- the answer for a line behind others: it has no fault and is held, or its fault
+-- the answer for a line after others: it has no fault and is held, or its fault
 abbrev pub Taken : {U : Type 0} → List Line → Line → State → Result U LineError → Type 0
 Taken before line after (Ok u) = (fault_of before line ≡ None) × Agrees (before ++ line ∷ []) after
 Taken before line after (Err line_errors.Memory) = Unit {0}

@@ -22,12 +22,12 @@ bar = 124
 abbrev pub is_blank : ℕ → Bool
 is_blank b = b == 32 || (b == 9 || b == 13)
 
--- the lines: each one ends at a line feed or at the end of the input, and nothing behind the last line feed is no line
+-- the lines: each one ends at a line feed or at the end of the input, and nothing after the last line feed is no line
 unfoldable pub lines_of : List ℕ → List (List ℕ)
 lines_of [] = []
 lines_of (b ∷ bytes) = cond (b == line_feed) ([] ∷ lines_of bytes) (onto_first b (lines_of bytes))
 
--- what stands before the first number sign: espresso(5) has comments behind a pound sign
+-- what stands before the first number sign: espresso(5) has comments after a pound sign
 abbrev pub content : List ℕ → List ℕ
 content line = take_while (λ b. not (b == number_sign)) line
 

@@ -12,12 +12,9 @@ use Rattle.order_model.proofs.Nodes.Appended.{get_left, get_right}
 use Rattle.node_words.specs.Nodes.{IsKnown, Grows, AreNodes, level_of, low_of, high_of}
 use Rattle.node_words.specs.Meaning.{depth}
 use Rattle.node_words.proofs.Growing.{grows_refl, grows_trans, grows_full}
-use Rattle.node_words.proofs.Meaning.{depth_node}
+use Rattle.node_words.proofs.Meaning.{depth_node, le_or_lt}
 use Rattle.node_words.proofs.Functions.{depth_below}
 use Rattle.reached_nodes.specs.Copies.{ref_of, node_of, IsEarlier, IsCopied, blank, blanks, AreCopied, Leads, here, below, Extends, Copies}
-
-pub le_or_lt : (a b : ℕ) → (a ≤ b) ⊎ (b < a)
-le_or_lt a b = grind arith
 
 choose : (b : Bool) (x y : Ref) → b ≡ true → (if b then x else y) ≡ x
 choose b x y e = ap (λ (c : Bool). if c then x else y) e

@@ -14,10 +14,10 @@ use Rattle.order_model.proofs.Nodes.Paths.{value_place, value_terminal}
 use Rattle.order_model.proofs.Nodes.Appended.{graph_of, diagram_of, get_left}
 use Rattle.node_words.specs.Nodes.{IsKnown, Grows, AreNodes, AreUnequal, IsBelow, node_word, level_of, low_of, high_of}
 use Rattle.node_words.specs.Meaning.{depth, function_of, branch}
-use Rattle.node_words.proofs.Meaning.{below_low, below_high, shallow}
+use Rattle.node_words.proofs.Meaning.{below_low, below_high, shallow, le_or_lt}
 use Rattle.node_words.proofs.Functions.{function_child, function_terminal}
 use Rattle.reached_nodes.specs.Copies.{ref_of, node_of, IsEarlier, IsCopied, AreCopied, Leads, here, below, Extends, AreRefs, AreReached, IsReducedOf}
-use Rattle.reached_nodes.proofs.Copying.{le_or_lt, ref_terminal, ref_place, ref_grows, ref_before, ref_one}
+use Rattle.reached_nodes.proofs.Copying.{ref_terminal, ref_place, ref_grows, ref_before, ref_one}
 
 -- ---- what is reached
 

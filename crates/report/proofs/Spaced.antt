@@ -6,11 +6,11 @@ use Rattle.report.specs.Texts.{each_spaced, each_name_spaced, name_of, names_in,
 
 -- pieces of text, one a number
 module _ (f : ℕ → List ℕ) where
-  -- each piece behind a space
+  -- each piece after a space
   abbrev behind : List ℕ → List ℕ
   behind ns = flat_map (λ n. 32 ∷ f n) ns
 
-  -- the first piece, and the others behind spaces
+  -- the first piece, and the others after spaces
   pub parts : (n : ℕ) (ns : List ℕ) → join_with_byte 32 (map f (n ∷ ns)) ≡ f n ++ behind ns
   parts n [] = sym (append-nil (f n))
   parts n (m ∷ ns) = ap (λ r. f n ++ (32 ∷ r)) (parts m ns)
@@ -23,12 +23,12 @@ module _ (f : ℕ → List ℕ) where
   pub behind_more : (ns : List ℕ) (i : ℕ) → i < length ns → behind (take (i + 1) ns) ≡ behind (take i ns) ++ (32 ∷ f (get_or ns i 0))
   behind_more ns i h = ap behind (take_more ns i 0 h) ∙ behind_append (take i ns) (get_or ns i 0 ∷ []) ∙ ap (λ r. behind (take i ns) ++ r) (append-nil (32 ∷ f (get_or ns i 0)))
 
-  -- a list behind a text: the first piece, then the others behind spaces
+  -- a list after a text: the first piece, then the others after spaces
   pub joined : (old first_in all_in : List ℕ) (n : ℕ) (rest ns : List ℕ) → ns ≡ n ∷ rest → first_in ≡ old ++ f n → all_in ≡ first_in ++ behind rest → all_in ≡ old ++ join_with_byte 32 (map f ns)
   joined old first_in all_in n rest ns e a b =
       b ∙ ap (λ s. s ++ behind rest) a ∙ append_assoc old (f n) (behind rest) ∙ ap (λ s. old ++ s) (sym (parts n rest)) ∙ ap (λ l. old ++ join_with_byte 32 (map f l)) (sym e)
 
--- the first number, and the others behind spaces
+-- the first number, and the others after spaces
 pub numbers_parts : (n : ℕ) (ns : List ℕ) → numbers (n ∷ ns) ≡ decimal n ++ each_spaced ns
 numbers_parts = parts decimal
 
@@ -36,7 +36,7 @@ numbers_parts = parts decimal
 pub spaced_more : (ns : List ℕ) (i : ℕ) → i < length ns → each_spaced (take (i + 1) ns) ≡ each_spaced (take i ns) ++ (32 ∷ decimal (get_or ns i 0))
 spaced_more = behind_more decimal
 
--- a list of numbers behind a text: the first one, then the others behind spaces
+-- a list of numbers after a text: the first one, then the others after spaces
 pub pushed : (old first_in all_in : List ℕ) (f : ℕ) (rest ns : List ℕ) → ns ≡ f ∷ rest → first_in ≡ old ++ decimal f → all_in ≡ first_in ++ each_spaced rest → all_in ≡ old ++ numbers ns
 pushed = joined decimal
 
@@ -44,11 +44,11 @@ pushed = joined decimal
 pub names_more : (names : List (List ℕ)) (xs : List ℕ) (i : ℕ) → i < length xs → each_name_spaced names (take (i + 1) xs) ≡ each_name_spaced names (take i xs) ++ (32 ∷ name_of names (get_or xs i 0))
 names_more names = behind_more (name_of names)
 
--- names behind a text: the first one, then the others behind spaces
+-- names after a text: the first one, then the others after spaces
 pub names_pushed : (names : List (List ℕ)) (old first_in all_in : List ℕ) (x : ℕ) (rest xs : List ℕ) → xs ≡ x ∷ rest → first_in ≡ old ++ name_of names x → all_in ≡ first_in ++ each_name_spaced names rest → all_in ≡ old ++ names_in names xs
 names_pushed names = joined (name_of names)
 
--- a text behind two others
+-- a text after two others
 after : (s₀ s₁ s₂ a b : List ℕ) → s₁ ≡ s₀ ++ a → s₂ ≡ s₁ ++ b → s₂ ≡ s₀ ++ (a ++ b)
 after s₀ s₁ s₂ a b e g = g ∙ ap (λ s. s ++ b) e ∙ append_assoc s₀ a b
 

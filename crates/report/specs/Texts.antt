@@ -23,7 +23,7 @@ functions_of cover = product_functions cover.outputs cover.products
 abbrev pub numbers : List ℕ → List ℕ
 numbers ns = join_with_byte 32 (map decimal ns)
 
--- numbers, each behind a space
+-- numbers, each after a space
 abbrev pub each_spaced : List ℕ → List ℕ
 each_spaced ns = flat_map (λ n. 32 ∷ decimal n) ns
 
@@ -31,7 +31,7 @@ each_spaced ns = flat_map (λ n. 32 ∷ decimal n) ns
 abbrev pub name_of : List (List ℕ) → ℕ → List ℕ
 name_of names x = get_or names x []
 
--- the names of variables, each behind a space
+-- the names of variables, each after a space
 abbrev pub each_name_spaced : List (List ℕ) → List ℕ → List ℕ
 each_name_spaced names xs = flat_map (λ x. 32 ∷ name_of names x) xs
 
@@ -39,7 +39,7 @@ each_name_spaced names xs = flat_map (λ x. 32 ∷ name_of names x) xs
 abbrev pub names_in : List (List ℕ) → List ℕ → List ℕ
 names_in names order = join_with_byte 32 (map (name_of names) order)
 
--- a line: its label, what stands behind it, and a line feed
+-- a line: its label, what stands after it, and a line feed
 abbrev pub labelled : List ℕ → List ℕ → List ℕ
 labelled label what = label ++ what ++ 10 ∷ []
 

@@ -16,31 +16,7 @@ use Rattle.sifting.specs.Managed.{Managed, IsManagedOrder}
 use Rattle.sifting.specs.Moves.{Moves, IsMoved, StopsAbove, StopsBelow, FindsBest, PassesBetween, placed_from}
 use Rattle.sifting.proofs.Placements.{length-placed, here, above_here, below_here, not_above, not_below, breaks}
 use Rattle.sifting.proofs.MoveSteps.{smallest_default, insert_tells}
-
-without_absent : (x : ℕ) (xs : List ℕ) → has xs x ≡ false → without x xs ≡ xs
-unfolding without
-without_absent x [] h = refl
-without_absent x (y ∷ xs) h =
-    let parts = or_parts (nat_eq x y) (has xs x) h in
-    ap (λ c. cond (not c) (y ∷ without x xs) (without x xs)) parts.0 ∙ ap (λ ys. y ∷ ys) (without_absent x xs parts.1)
-
--- the order is the placement at the variable's own place
-pub own_place : (x : ℕ) (xs : List ℕ) → IsDistinct nat_eq xs → has xs x ≡ true → (insert (without x xs) (place_in xs x) x ≡ xs) × (place_in xs x < length xs)
-unfolding IsDistinct place_in without
-own_place x [] d h = absurd (false≢true h)
-own_place x (y ∷ xs) d h = by (nat_eq x y) refl h (own_place x xs d.1)
-  where
-    Rest : Bool → ℕ
-    Rest c = cond (not c) (1 + place_in xs x) 0
-
-    by : (c : Bool) → nat_eq x y ≡ c → (c || has xs x) ≡ true → (has xs x ≡ true → (insert (without x xs) (place_in xs x) x ≡ xs) × (place_in xs x < length xs)) →
-        (insert (cond (not c) (y ∷ without x xs) (without x xs)) (Rest c) x ≡ y ∷ xs) × (Rest c < length (y ∷ xs))
-    by true e k r =
-        let s = eqb-true x y e in
-        (ap (λ zs. x ∷ zs) (without_absent x xs (ap (has xs) s ∙ absent_from_apart y xs d.0)) ∙ ap (λ v. v ∷ xs) s, omega arith)
-    by false e k r =
-        let is = r k in
-        (ap (λ i. insert (y ∷ without x xs) i x) (one-add (place_in xs x)) ∙ ap (λ zs. y ∷ zs) is.0, omega (arith, is.1))
+use Rattle.order_model.proofs.Sifting.Placements.{without_absent, own_place}
 
 -- ---- filters of placements
 

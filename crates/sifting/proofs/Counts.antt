@@ -24,6 +24,7 @@ use Rattle.order_model.proofs.Nodes.LevelBound.{enumerated, count_enumerated}
 use Rattle.order_model.proofs.Nodes.Construction.{reach_more}
 use Rattle.sifting.specs.Leveled.{Children, child, at, function_at, places, branching, IsLevel, AreLevels, AreTerminals, AreRoots}
 use Rattle.sifting.proofs.Paths.{child_has, restricted, canonical, same_children}
+use Rattle.order_model.proofs.Nodes.Reduced.{enumerated_from}
 
 -- what is left when one variable more is fixed last
 subfunctions_last : (x : ℕ) (xs : List ℕ) (f g : Function) → Among g (subfunctions (xs ++ x ∷ []) f) → (h : Function) × (b : Bool) × Among h (subfunctions xs f) × (g ≡ restrict x b h)
@@ -102,14 +103,6 @@ module _ (n : ℕ) (L : List Children) (levels : List (List Children)) (T : List
       ]
 
 -- ---- counting
-
-enumerated_from : {X : Type 0} (xs : List X) (s : ℕ) (e : ℕ × X) → Among e (enumerate_from s xs) → (k : ℕ) × (e.0 ≡ s + k) × (slice_get xs k ≡ Some e.1)
-enumerated_from [] s e h = absurd h
-enumerated_from (x ∷ xs) s e h =
-    elim h [
-      | inl i ↦ (0, ap (λ t. t.0) i ∙ sym (add-zero s), sym (ap (λ t. Some t.1) i))
-      | inr r ↦ let rest = enumerated_from xs (s + 1) e r in let f = rest.1 in (suc rest.0, omega arith, rest.2)
-    ]
 
 module _ (test : Children → Bool) (h : ℕ → List Bool) where
   all_apart : (t : List Bool) (es : List (ℕ × Children)) → ((e : ℕ × Children) → Among e es → t ≢ h e.0) → AllByRecursion (λ u. same_table t u ≡ false) (map (λ (e : ℕ × Children). h e.0) (filter (λ e. test e.1) es))

@@ -26,6 +26,7 @@ use Rattle.sifting.proofs.Branching.{branching_few}
 use Rattle.sifting.proofs.Counts.{roots_cover, all_counts}
 use Rattle.sifting.proofs.Exchanged.{At, placed, crossed, places_placed, levels_placed, path_placed}
 use Rattle.sifting.proofs.OrderSwaps.{crossed_is, order_crossed, length_crossed, keeps_crossed}
+use mathlib.Core.List.{map-map}
 
 -- ---- the nodes of a list of levels
 
@@ -102,10 +103,6 @@ map_get f [] j d h = absurd (omega arith)
 map_get f (r ∷ roots) zero d h = refl
 map_get f (r ∷ roots) (suc j) d h = map_get f roots j d (omega arith)
 
-map_map : {X Y Z : Type 0} (g : Y → Z) (f : X → Y) (xs : List X) → map g (map f xs) ≡ map (λ x. g (f x)) xs
-map_map g f [] = refl
-map_map g f (x ∷ xs) = ap (λ ys. g (f x) ∷ ys) (map_map g f xs)
-
 module _ (levels : List (List Children)) (T : List Bool) (order roots : List ℕ) (kept : KeptPairs) (held : HoldsDiagram levels T order roots kept) where
   n : ℕ
   n = length order
@@ -118,7 +115,7 @@ module _ (levels : List (List Children)) (T : List Bool) (order roots : List ℕ
   held_levels =
       let cover = roots_cover (length order) levels T order roots (map (λ r. function_at levels T order r) roots) held.leveled.roots_are (length-map roots (λ r. function_at levels T order r))
       (λ j g h. subst (λ k. SameFunction (length order) k (function_at levels T order (get_or roots j 0))) (sym (map_get (λ r. function_at levels T order r) roots j g h)) (same_refl (length order) (function_at levels T order (get_or roots j 0)))) in
-      ap (λ ts. level_counts (length order) (map from_table ts) order) (sym (map_map (table (length order)) (λ r. function_at levels T order r) roots))
+      ap (λ ts. level_counts (length order) (map from_table ts) order) (sym (map-map (table (length order)) (λ r. function_at levels T order r) roots))
       ∙ level_counts_same (length order) (map from_table (map (table (length order)) (map (λ r. function_at levels T order r) roots))) (map (λ r. function_at levels T order r) roots) (tables_same (length order) (map (λ r. function_at levels T order r) roots)) order
       ∙ all_counts (length order) 16 T (map (λ r. function_at levels T order r) roots) levels order held.is_order held.leveled.terminals_are held.leveled.long held.leveled.levels_are cover
 

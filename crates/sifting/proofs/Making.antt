@@ -65,7 +65,7 @@ module _ {K : Type 0} (d : K) (off_key on_key : ℕ → K) where
             | inr e ↦ (done, omega arith, inr (last.1 ∙ sym e))
           ]
 
-  -- the same, by what an `IndexSet` answers
+  -- the same, by what an `IndexSet` returns
   module _ (eq : K → K → Bool) (decides : (x y : K) → (eq x y ≡ true → x ≡ y) × (x ≡ y → eq x y ≡ true)) where
     pub numbers_step : (done : ℕ) (kept kept' : List Children) (keys keys1 keys2 : List K) (p q : K) (i j : ℕ) → NumbersFirst d off_key on_key done kept keys → p ≡ off_key done → q ≡ on_key done →
         keys1 ≡ (if list_any (eq p) keys then keys else keys ++ p ∷ []) → i ≡ position_or_len (eq p) keys →

@@ -60,7 +60,7 @@ moved_down place other from m to inside within moved e f g = record {
 abbrev pub LeastIs : Managed → ℕ → ℕ → ℕ → Type 0
 LeastIs m from best least = (others : List ℕ) (x : ℕ) → from ≤ length others → m.order ≡ insert others from x → least ≡ size_under m.problem.inputs (functions m.problem) (insert others best x)
 
--- one order more behind some
+-- one order more after some
 smallest_push : (n : ℕ) (F : List Function) (d y : List ℕ) (first : List ℕ) (rest : List (List ℕ)) →
     smallest_of n F d ((first ∷ rest) ++ y ∷ []) ≡ cond (ltb (size_under n F y) (size_under n F (smallest_of n F d (first ∷ rest)))) y (smallest_of n F d (first ∷ rest))
 unfolding smallest_of smallest_order

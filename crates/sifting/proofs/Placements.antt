@@ -69,12 +69,12 @@ none_above a b (z ∷ zs) h = by (nat_eq a z) (or_parts (nat_eq b z) (has zs b) 
     by true k r = k
     by false k r = r
 
--- y stands at place j among the others, at or behind the place of x: then y isn't above x
+-- y stands at place j among the others, at or after the place of x: then y isn't above x
 pub not_above : (y x : ℕ) (others : List ℕ) (i j : ℕ) → i ≤ j → j < length others → get_or others j 0 ≡ y → IsDistinct nat_eq others → has others x ≡ false → is_above y x (insert others i x) ≡ false
 unfolding is_above IsDistinct
 not_above y x [] i j le lt e d h = absurd (omega arith)
 not_above y x (z ∷ others) zero j le lt e d h =
-    -- x stands in front, and behind it there is no x
+    -- x stands first, and after it there is no x
     by (nat_eq y x) (none_above y x (z ∷ others) h)
   where
     by : (c : Bool) → is_above y x (z ∷ others) ≡ false → cond c (has (z ∷ others) x) (is_above y x (z ∷ others)) ≡ false

@@ -5,10 +5,9 @@ use Rattle.order_model.specs.Orders.{IsOrder, place_in}
 use Rattle.order_model.specs.Problems.{functions}
 use Rattle.order_model.specs.Levels.{size_under}
 use Rattle.order_model.specs.Sifting.{best, sifting_order, sifted}
-use Rattle.order_model.proofs.Sifting.Placements.{sifted_lem}
+use Rattle.order_model.proofs.Sifting.Placements.{sifted_lem, own_place}
 use Rattle.sifting.specs.Managed.{Managed, IsManagedOrder, size_of, count_of}
 use Rattle.sifting.specs.Moves.{by_falling_count}
-use Rattle.sifting.proofs.BestPlace.{own_place}
 use Rattle.sifting.proofs.Falling.{falling_is, falling_below}
 
 module _ (self : Managed) (ok : IsManagedOrder self) (n : ℕ) (e : n ≡ length self.order) (counts levels : List ℕ)

@@ -137,7 +137,7 @@ fn behind(ids: &[NodeId], from: usize) -> &[NodeId]
     if from <= ids.len() { &ids[from..] } else { ids }
 }
 
-// What a full store answers to a triple that it doesn't have, and to two that it has.
+// What a full store returns for a triple that it doesn't have, and to two that it has.
 type Asked = (
     Result<NodeId, StoreFull>,
     Result<NodeId, StoreFull>,

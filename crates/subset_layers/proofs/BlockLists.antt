@@ -1,6 +1,6 @@
 -- The masks of a layer and of a block.
 --     has_masks, has_low_bytes      which masks a layer has, and which low bytes
---     get_has, has_get      a member and its place
+--     get_has, index_of      a member and its place
 --     block_masks_are      the masks of a block, by what stands above the low byte
 use Rattle.std.proofs.Common.{◌≡◌, ◌≢◌, ℕ, zero, suc, ◌+◌, ◌-◌, ◌*◌, ◌/◌, ◌%◌, ◌^◌, ◌<◌, ◌≤◌, Bool, true, false, not, cond, ◌||◌, ◌⊎◌, inl, inr, List, [], ◌∷◌, ◌++◌, map, length, get_or, refl, sym, ap, ap₂, ◌∙◌, arith, nat_eq, eqb-true, eq-eqb, ne_eqb, zero-add, pow_mono, take, set, slice_get, Option, Some, None, IfSome, IsNone, IsFalse, ◌↔◌, rules}
 use Rattle.std.specs.List.{filter, list_any, range_with_len}
@@ -10,30 +10,12 @@ use Rattle.std.proofs.lemmas.List.{take_more_set, append-nil}
 use Rattle.std.proofs.lemmas.List.Elements.{filter-append}
 use Rattle.std.proofs.lemmas.List.FromFn.{map-range_with_len_more, filter_of_map_range_with_len_more}
 use Rattle.order_model.specs.Orders.{has, members, place_in}
-use Rattle.order_model.proofs.Lists.Orders.{has_filter, has_range, has_at, place_at}
+use Rattle.order_model.proofs.Lists.Orders.{has_filter, has_range, has_at, place_at, place_small}
 use Rattle.subset_layers.specs.Layers.{LayerOf, masks_of, BlockOf, block_of, blocks_of, block_masks, low_bytes, layer_with}
 use Rattle.subset_layers.specs.Selections.{ArePlaced, chosen}
 use Rattle.subset_layers.proofs.Choosing.{chosen-map}
-
--- a member stands somewhere
-pub has_get : (xs : List ℕ) (v : ℕ) → has xs v ≡ true → (i : ℕ) × (i < length xs) × (get_or xs i 0 ≡ v)
-has_get [] v h = absurd (false≢true h)
-has_get (x ∷ xs) v h = elim (or_cases (nat_eq v x) (has xs v) h) [
-  | inl e ↦ (0, omega arith, sym (eqb-true v x e))
-  | inr r ↦ let z = has_get xs v r in (suc z.0, (let s = z.1 in omega arith), z.2)
-]
-
-pub place_below : (xs : List ℕ) (v : ℕ) → has xs v ≡ true → place_in xs v < length xs
-unfolding place_in
-place_below [] v h = absurd (false≢true h)
-place_below (x ∷ xs) v h = by (nat_eq v x) refl (place_below xs v)
-  where
-    Rest : Bool → ℕ
-    Rest c = cond (not c) (1 + place_in xs v) 0
-
-    by : (c : Bool) → nat_eq v x ≡ c → (has xs v ≡ true → place_in xs v < length xs) → Rest c < length (x ∷ xs)
-    by true e r = omega arith
-    by false e r = let s = r (sym (ap (λ b. b || has xs v) e) ∙ h) in omega arith
+use Rattle.order_model.proofs.Lists.Accepted.{index_of}
+use Rattle.order_model.proofs.Bits.Masks.{power_small}
 
 -- a layer has the masks below 2 ^ n with the layer's number of members
 pub has_masks : (n k mask : ℕ) → has (masks_of (layer_with n k)) mask ≡ true → (mask < 2 ^ n) × (length (members n mask) ≡ k)
@@ -169,7 +151,7 @@ block_masks_are n k low h lt =
 -- a table of places gives a member's
 pub table_place : (numbers places : List ℕ) (v : ℕ) → ArePlaced numbers places → has numbers v ≡ true → (v < length places) × (get_or places v 0 ≡ place_in numbers v) × (place_in numbers v < length numbers)
 table_place numbers places v t h =
-    let below = place_below numbers v h in
+    let below = place_small numbers v h in
     let at = place_at numbers v below in
     let w = t.within (place_in numbers v) below in
     (omega arith, ap (λ k. get_or places k 0) (sym at) ∙ t.placed (place_in numbers v) below, below)
@@ -194,9 +176,6 @@ low_fits n k i h =
     (low.0, (let s = low.1.2 in let t = m.0 in omega arith))
 
 -- ---- the loop over what stands above the low byte
-
-pub power_small : (n : ℕ) → n ≤ 16 → 2 ^ n ≤ 65536
-power_small n h = pow_mono {j = 16} h
 
 pub mask_small : (n low high : ℕ) → low < 256 → low < 2 ^ n → high < (2 ^ n + 255) / 256 → high * 256 + low < 2 ^ n
 mask_small n low high a b h = elim (whole_or_low n) [ inl few ↦ omega arith | inr whole ↦ omega arith ]
@@ -229,7 +208,7 @@ has_slice_get (x ∷ xs) zero v h = let e : v ≡ x = cc in or_left _ _ (eq-eqb 
 has_slice_get (x ∷ xs) (suc i) v h = or_right (nat_eq v x) _ (has_slice_get xs i v h)
 
 pub position_none : (r : Option ℕ) (xs : List ℕ) (v : ℕ) → IfSome r (λ i. slice_get xs i ≡ Some v) → (IsNone r → (i : ℕ) → i < length xs → get_or xs i 0 ≢ v) → IsNone r ↔ IsFalse (has xs v)
-position_none None xs v some none = (λ h. false_from_ne_true (has xs v) (λ t. let z = has_get xs v t in none h z.0 z.1 z.2), λ h. search rules)
+position_none None xs v some none = (λ h. false_from_ne_true (has xs v) (λ t. let z = index_of xs v t in none h z.0 z.1 z.2), λ h. search rules)
 position_none (Some i) xs v some none = (λ h. absurd (search rules), λ h. absurd (true≢false (sym (has_slice_get xs i v some) ∙ h)))
 
 pub blocks_length : (l : LayerOf) → length (blocks_of l) ≡ length (low_bytes l)

@@ -21,19 +21,18 @@ use Rattle.order_model.proofs.Widths.Count.{essential_members}
 use Rattle.subset_layers.specs.Layers.{masks_of, layer_with}
 use Rattle.subset_layers.specs.Costs.{CostsOf, cost_without, AreTrueCosts, AreWidthsFor}
 use Rattle.subset_layers.specs.Sums.{IsBest}
-use Rattle.subset_layers.proofs.Sizes.{ones-members}
+use Rattle.order_model.proofs.Bits.Ones.{ones-members}
 use Rattle.subset_layers.proofs.Choosing.{filter_range_same}
 use Rattle.subset_layers.proofs.BlockLists.{has_masks}
 use Rattle.subset_layers.proofs.CostLists.{less_one}
+use Rattle.order_model.proofs.Widths.Outside.{bit_has, essential_small, outside_count}
+use Rattle.order_model.proofs.Lists.Ranges.{filter_twice}
 
 abbrev pub pair_of : ℕ → ℕ → ℕ × ℕ
 pair_of a b = (a, b)
 
 has_bit : (n mask y : ℕ) → has (members n mask) y ≡ true → bit_at mask y ≡ 1
 has_bit n mask y h = eqb-true (bit_at mask y) 1 (and_parts (has (variables n) y) (eqb (bit_at mask y) 1) (sym (has_members n mask y) ∙ h)).1
-
-bit_has : (n mask y : ℕ) → y < n → has (members n mask) y ≡ eqb (bit_at mask y) 1
-bit_has n mask y lt = has_members n mask y ∙ ap (λ b. b && eqb (bit_at mask y) 1) ((has_variables n y).1 lt)
 
 -- the lowest bit of a mask is its smallest member
 pub first_member : (n mask : ℕ) → 0 < mask → mask < 65536 → mask < 2 ^ n → trailing_zeros w16 mask ≡ first_of (members n mask)
@@ -48,57 +47,6 @@ first_member n mask pos small lt =
       | inl l ↦ let a = z.2 (first_of (members n mask)) l in absurd (omega arith)
       | inr g ↦ omega arith
     ]
-
-filter_twice : (p q : ℕ → Bool) (xs : List ℕ) → filter q (filter p xs) ≡ filter (λ x. p x && q x) xs
-filter_twice p q [] = refl
-filter_twice p q (x ∷ xs) = by (p x) (filter_twice p q xs)
-  where
-    by : (b : Bool) → filter q (filter p xs) ≡ filter (λ x. p x && q x) xs → filter q (cond b (x ∷ filter p xs) (filter p xs)) ≡ cond (b && q x) (x ∷ filter (λ x. p x && q x) xs) (filter (λ x. p x && q x) xs)
-    by true e = ap (λ zs. cond (q x) (x ∷ zs) zs) e
-    by false e = e
-
-both_bits : (a b : ℕ) → a < 2 → b < 2 → eqb (min a (1 - b)) 1 ≡ (eqb a 1 && not (eqb b 1))
-both_bits zero zero h k = refl
-both_bits zero (suc zero) h k = refl
-both_bits (suc zero) zero h k = refl
-both_bits (suc zero) (suc zero) h k = refl
-both_bits (suc (suc a)) b h k = absurd (omega arith)
-both_bits a (suc (suc b)) h k = absurd (omega arith)
-
-essential_low : (n : ℕ) (F : List Function) (y : ℕ) → has (essential n F) y ≡ true → y < n
-unfolding essential
-essential_low n F y h = (has_variables n y).0 (and_parts (has (variables n) y) (list_any (λ f. depends n f y) F) (sym (has_filter (λ z. list_any (λ f. depends n f z) F) (variables n) y) ∙ h)).0
-
--- the mask of the essential variables is one of all variables
-essential_small : (n : ℕ) (F : List Function) → essential_mask n F < 2 ^ n
-unfolding essential_mask
-essential_small n F = mask_of_small n (essential n F) (distinct_essential n F) (essential_low n F)
-
-outside_bit : (n E mask i : ℕ) → E < 65536 → mask < 65536 → i < n → eqb (bit_at (bit_and E (65535 - mask)) i) 1 ≡ (eqb (bit_at E i) 1 && not (has (members n mask) i))
-outside_bit n E mask i e small lt =
-    ap (λ b. eqb b 1) (bit_at_and E (65535 - mask) i)
-    ∙ elim (cases_lt i 16) [
-      | inl low ↦ ap (λ b. eqb (min (bit_at E i) b) 1) (bit_at_not w16 mask i small low) ∙ both_bits (bit_at E i) (bit_at mask i) (bit_at-lt E i) (bit_at-lt mask i)
-      | inr high ↦
-          let z : bit_at E i ≡ 0 = bit_at_above E 16 i e high in
-          let m : min (bit_at E i) (bit_at (65535 - mask) i) ≡ 0 = omega arith in
-          ap (λ b. eqb b 1) m ∙ ap (λ b. eqb b 1 && not (eqb (bit_at mask i) 1)) (sym z)
-    ]
-    ∙ ap (λ b. eqb (bit_at E i) 1 && not b) (sym (bit_has n mask i lt))
-
-outside_members : (n : ℕ) (F : List Function) (E mask : ℕ) → E < 65536 → mask < 65536 → E ≡ essential_mask n F →
-    members n (bit_and E (65535 - mask)) ≡ filter (λ x. not (has (members n mask) x)) (essential n F)
-unfolding members
-outside_members n F E mask e small is =
-    filter_range_same (λ x. eqb (bit_at (bit_and E (65535 - mask)) x) 1) (λ x. eqb (bit_at E x) 1 && not (has (members n mask) x)) n 0 (λ i low lt. outside_bit n E mask i e small (omega arith))
-    ∙ sym (filter_twice (λ x. eqb (bit_at E x) 1) (λ x. not (has (members n mask) x)) (variables n))
-    ∙ ap (filter (λ x. not (has (members n mask) x))) (ap (members n) is ∙ essential_members n F)
-
--- the essential variables outside a set, as set bits
-pub outside_count : (n : ℕ) (F : List Function) (E mask : ℕ) → E < 65536 → mask < 65536 → E ≡ essential_mask n F → count_ones (bit_and E (65535 - mask)) ≡ essentials_outside n F (members n mask)
-unfolding essentials_outside
-outside_count n F E mask e small is =
-    ones-members n (bit_and E (65535 - mask)) (let a = and_le_l E (65535 - mask) in let b = essential_small n F in omega arith) ∙ ap length (outside_members n F E mask e small is)
 
 -- ---- the cell
 

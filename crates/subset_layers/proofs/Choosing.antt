@@ -4,20 +4,17 @@
 use Rattle.std.proofs.Common.{◌≡◌, ℕ, zero, suc, ◌+◌, ◌<◌, ◌≤◌, Bool, true, false, cond, inl, inr, List, [], ◌∷◌, ◌++◌, map, length, get_or, refl, sym, ap, ap₂, ◌∙◌, arith, length-append}
 use Rattle.std.specs.List.{filter, range_with_len}
 use Rattle.std.proofs.lemmas.Bool.{cases_lt}
-use Rattle.std.proofs.lemmas.List.{get_or_append_left, get_or_push}
+use Rattle.std.proofs.lemmas.List.{get_or_append_left, get_or_push, append-nil}
 use Rattle.std.proofs.lemmas.List.Elements.{filter-append}
 use Rattle.std.proofs.lemmas.List.FromFn.{length-map-range_with_len, get_or-map-range_with_len}
 use Rattle.subset_layers.specs.Selections.{chosen, ArePlaced}
+use Rattle.order_model.proofs.Lists.Ranges.{range_last}
 
 -- two tests that agree on a range choose the same
 pub filter_range_same : (p q : ℕ → Bool) (k a : ℕ) → ((i : ℕ) → a ≤ i → i < a + k → p i ≡ q i) → filter p (range_with_len a k) ≡ filter q (range_with_len a k)
 filter_range_same p q zero a h = refl
 filter_range_same p q (suc k) a h =
     ap₂ (λ b zs. cond b (a ∷ zs) zs) (h a (omega arith) (omega arith)) (filter_range_same p q k (a + 1) (λ i low high. h i (omega arith) (omega arith)))
-
-range_last : (k a : ℕ) → range_with_len a (suc k) ≡ range_with_len a k ++ (a + k) ∷ []
-range_last zero a = ap (λ u. u ∷ []) (omega arith)
-range_last (suc k) a = ap (λ zs. a ∷ zs) (range_last k (a + 1) ∙ ap (λ u. range_with_len (a + 1) k ++ u ∷ []) (let s : a + 1 + k ≡ a + suc k = omega arith in s))
 
 -- one number more
 pub filter_range_more : (p : ℕ → Bool) (i : ℕ) → filter p (range_with_len 0 (i + 1)) ≡ filter p (range_with_len 0 i) ++ cond (p i) (i ∷ []) []
@@ -89,16 +86,12 @@ placed_yes numbers places i long h = record { within = within; placed = placed }
 
 pub choosing_no : (flags : List Bool) (i : ℕ) (numbers places : List ℕ) → get_or flags i false ≡ false → IsChoosing flags i numbers places → IsChoosing flags (i + 1) numbers (places ++ length numbers ∷ [])
 choosing_no flags i numbers places b h = record {
-  numbers_are = h.numbers_are ∙ sym (append_nil (filter (λ j. get_or flags j false) (range_with_len 0 i))) ∙ ap (λ c. filter (λ j. get_or flags j false) (range_with_len 0 i) ++ cond c (i ∷ []) []) (sym b)
+  numbers_are = h.numbers_are ∙ sym (append-nil (filter (λ j. get_or flags j false) (range_with_len 0 i))) ∙ ap (λ c. filter (λ j. get_or flags j false) (range_with_len 0 i) ++ cond c (i ∷ []) []) (sym b)
       ∙ sym (filter_range_more (λ j. get_or flags j false) i);
   long = let e = length-append places (length numbers ∷ []) in let l = h.long in omega arith;
   short = let l = h.short in omega arith;
   placed = placed_no numbers places (length numbers) h.placed;
 }
-  where
-    append_nil : (xs : List ℕ) → xs ++ [] ≡ xs
-    append_nil [] = refl
-    append_nil (x ∷ xs) = ap (λ ys. x ∷ ys) (append_nil xs)
 
 pub choosing_yes : (flags : List Bool) (i : ℕ) (numbers places : List ℕ) → get_or flags i false ≡ true → IsChoosing flags i numbers places →
     IsChoosing flags (i + 1) (numbers ++ i ∷ []) (places ++ length numbers ∷ [])

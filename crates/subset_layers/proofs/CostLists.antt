@@ -15,7 +15,7 @@ use Rattle.order_model.specs.Functions.{Function}
 use Rattle.order_model.specs.Orders.{has, members, without, variables, place_in}
 use Rattle.order_model.specs.Pairs.{Pair}
 use Rattle.order_model.specs.Cells.{cell_of, cell_cost}
-use Rattle.order_model.proofs.Lists.Orders.{has_variables, place_get, place_at}
+use Rattle.order_model.proofs.Lists.Orders.{has_variables, place_get, place_at, place_small}
 use Rattle.order_model.proofs.Widths.Recurrence.{distinct_filter, distinct_variables, distinct_without, length_without}
 use Rattle.std.specs.Int.{bit_at}
 use Rattle.std.proofs.Math.Nat.{div-eq_of_lt}
@@ -25,8 +25,8 @@ use Rattle.order_model.proofs.Widths.Cells.{members_zero}
 use Rattle.subset_layers.specs.declared.costs.Cell.{Cell}
 use Rattle.subset_layers.specs.Layers.{LayerOf, layer_with, masks_of}
 use Rattle.subset_layers.specs.Costs.{CostsOf, HaveCells, costs_with, layer_of_costs, cell_at, cost_at, as_pair, start_costs, AreTrueCells, AreTrueCosts}
-use Rattle.subset_layers.proofs.BlockLists.{place_below, has_slice_get, has_masks, masks_has}
-use Rattle.subset_layers.proofs.Sizes.{ones-members}
+use Rattle.subset_layers.proofs.BlockLists.{has_slice_get, has_masks, masks_has}
+use Rattle.order_model.proofs.Bits.Ones.{ones-members}
 
 pub distinct_masks : (l : LayerOf) → IsDistinct nat_eq (masks_of l)
 unfolding masks_of
@@ -71,7 +71,7 @@ module _ (c : CostsOf) (h : HaveCells c) where
 
   -- any other set of the layer has one
   pub cell_there : (mask : ℕ) → 0 < c.size → has (masks_of (layer_of_costs c)) mask ≡ true → place_in (masks_of (layer_of_costs c)) mask < length c.cells
-  cell_there mask lt m = let p = place_below (masks_of (layer_of_costs c)) mask m in let a = all_cells lt in omega arith
+  cell_there mask lt m = let p = place_small (masks_of (layer_of_costs c)) mask m in let a = all_cells lt in omega arith
 
 -- the cell at a place
 pub cell_at_place : (c : CostsOf) (mask i : ℕ) → slice_get (masks_of (layer_of_costs c)) i ≡ Some mask → cell_at c mask ≡ slice_get c.cells i
@@ -111,7 +111,7 @@ costs_from_cells n F P bound c h lt t mask m =
     let i = place_in (masks_of (layer_of_costs c)) mask in
     let there = cell_there c h mask lt m in
     let found : slice_get (masks_of (layer_of_costs c)) i ≡ Some mask =
-    slice_get-get_or (masks_of (layer_of_costs c)) i 0 (place_below (masks_of (layer_of_costs c)) mask m) ∙ ap Some (place_at (masks_of (layer_of_costs c)) mask (place_below (masks_of (layer_of_costs c)) mask m)) in
+    slice_get-get_or (masks_of (layer_of_costs c)) i 0 (place_small (masks_of (layer_of_costs c)) mask m) ∙ ap Some (place_at (masks_of (layer_of_costs c)) mask (place_small (masks_of (layer_of_costs c)) mask m)) in
     let read : slice_get c.cells i ≡ Some (get_or c.cells i no_cell) = slice_get-get_or c.cells i no_cell there in
     let is : as_pair (get_or c.cells i no_cell) ≡ cell_of n F P bound mask = true_cell n F P bound c t mask i (get_or c.cells i no_cell) found read in
     cost_at_place c mask i found ∙ ap (λ o. Some (option_map_or (λ (cell : Cell). cell.cost) o 0)) read ∙ ap Some (ap (λ (p : ℕ × ℕ). p.0) is)

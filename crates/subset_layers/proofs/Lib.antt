@@ -1,4 +1,3 @@
-pub mod Sizes
 pub mod Choosing
 pub mod BlockLists
 pub mod CostLists

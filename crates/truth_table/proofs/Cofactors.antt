@@ -12,14 +12,11 @@ use Rattle.order_model.proofs.Bits.Points.{table-from_table}
 use Rattle.order_model.proofs.Bits.Problems.{length-table_in}
 use Rattle.order_model.proofs.Functions.Tables.{restrict_same, same_from_table, table_same}
 use Rattle.truth_table.specs.Restrictions.{fixed}
+use Rattle.std.proofs.lemmas.List.{append-nil}
 
 map_id : (xs : List ℕ) → map (λ x. x) xs ≡ xs
 map_id [] = refl
 map_id (x ∷ xs) = ap (λ ys. x ∷ ys) (map_id xs)
-
-append_nil : (xs : List ℕ) → xs ++ [] ≡ xs
-append_nil [] = refl
-append_nil (x ∷ xs) = ap (λ ys. x ∷ ys) (append_nil xs)
 
 members_next : (x care : ℕ) → members (x + 1) care ≡ members x care ++ cond (eqb (bit_at care x) 1) (x ∷ []) []
 unfolding members
@@ -31,7 +28,7 @@ pub members_more : (x care : ℕ) → eqb (bit_at care x) 1 ≡ true → members
 members_more x care e = members_next x care ∙ ap (λ b. members x care ++ cond b (x ∷ []) []) e
 
 pub members_less : (x care : ℕ) → eqb (bit_at care x) 1 ≡ false → members (x + 1) care ≡ members x care
-members_less x care e = members_next x care ∙ ap (λ b. members x care ++ cond b (x ∷ []) []) e ∙ append_nil (members x care)
+members_less x care e = members_next x care ∙ ap (λ b. members x care ++ cond b (x ∷ []) []) e ∙ append-nil (members x care)
 
 fixed_last : (xs : List ℕ) (x value : ℕ) (f : Function) → fixed (xs ++ x ∷ []) value f ≡ restrict x (eqb (bit_at value x) 1) (fixed xs value f)
 unfolding fixed

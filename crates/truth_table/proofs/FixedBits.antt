@@ -23,6 +23,8 @@ use Rattle.order_model.proofs.Bits.PointNumbers.{weight, number-small, bit-numbe
 use Rattle.order_model.proofs.Functions.Tables.{table_same}
 use Rattle.truth_table.specs.Fixing.{fixed_bit}
 use Rattle.truth_table.proofs.Literals.{low_bit, high_bit}
+use Rattle.order_model.proofs.Precedence.Masks.{zero_or_one}
+use Rattle.order_model.proofs.Precedence.Greedy.{pow_le_bit}
 
 -- ---- numbers
 
@@ -32,16 +34,9 @@ flip m x =
     let d = ap (λ z. z / 2 ^ x) e ∙ add-mul-div_right m 1 (pow_pos x) in
     ap (λ z. z % 2) d ∙ omega arith
 
--- a number whose bit x is 1 is at least 2 ^ x, and its bit is 0 without it
-bit_there : (k x : ℕ) → bit_at k x ≡ 1 → 2 ^ x ≤ k
-bit_there k x e = elim (cases_lt k (2 ^ x)) [
-  | inl lt ↦ (let z = bit_at_above k x x lt (omega arith) in absurd (omega arith))
-  | inr ge ↦ ge
-]
-
 bit_without : (k x : ℕ) → bit_at k x ≡ 1 → bit_at (k - 2 ^ x) x ≡ 0
 bit_without k x e =
-    let l = bit_there k x e in
+    let l = pow_le_bit k x e in
     let s : k - 2 ^ x + 2 ^ x ≡ k = omega arith in
     let f = sym (flip (k - 2 ^ x) x) ∙ ap (λ z. bit_at z x) s ∙ e in
     omega arith
@@ -59,14 +54,6 @@ down_zero k x e = ap (λ z. k - z * 2 ^ x) e ∙ omega arith
 down_one : (k x : ℕ) → bit_at k x ≡ 1 → fixed_bit x false k ≡ k - 2 ^ x
 down_one k x e = ap (λ z. k - z * 2 ^ x) e ∙ omega arith
 
-cases_bit : (k x : ℕ) → (bit_at k x ≡ 0) ⊎ (bit_at k x ≡ 1)
-cases_bit k x = by (bit_at k x) (bit_at-lt k x)
-  where
-    by : (b : ℕ) → b < 2 → (b ≡ 0) ⊎ (b ≡ 1)
-    by zero h = inl refl
-    by (suc zero) h = inr refl
-    by (suc (suc b)) h = absurd (omega arith)
-
 -- a step of few places
 step_bound : (r : ℕ) → r < 10 → (1 ≤ 2 ^ r) × (2 ^ r ≤ 512)
 step_bound zero h = (omega arith, omega arith)
@@ -83,7 +70,7 @@ step_bound (suc (suc (suc (suc (suc (suc (suc (suc (suc (suc r)))))))))) h = abs
 
 -- a number below 2 ^ n stays below it
 pub fixed_inside : (n x : ℕ) (b : Bool) (k : ℕ) → x < n → k < 2 ^ n → fixed_bit x b k < 2 ^ n
-fixed_inside n x true k small h = elim (cases_bit k x) [
+fixed_inside n x true k small h = elim (zero_or_one k x) [
   | inl e ↦ (let r = room_above n k x h small e in let f = up_zero k x e in omega arith)
   | inr e ↦ (let f = up_one k x e in omega arith)
 ]
@@ -91,7 +78,7 @@ fixed_inside n x false k small h = omega arith
 
 -- fixing a bit twice is fixing it once
 fixed_twice : (x : ℕ) (b : Bool) (k : ℕ) → fixed_bit x b (fixed_bit x b k) ≡ fixed_bit x b k
-fixed_twice x true k = elim (cases_bit k x) [
+fixed_twice x true k = elim (zero_or_one k x) [
   | inl e ↦
       let f = up_zero k x e in
       let t = flip k x in
@@ -99,7 +86,7 @@ fixed_twice x true k = elim (cases_bit k x) [
       ap (fixed_bit x true) f ∙ up_one (k + 2 ^ x) x one ∙ sym f
   | inr e ↦ ap (fixed_bit x true) (up_one k x e)
 ]
-fixed_twice x false k = elim (cases_bit k x) [
+fixed_twice x false k = elim (zero_or_one k x) [
   | inl e ↦ ap (fixed_bit x false) (down_zero k x e)
   | inr e ↦ (let f = down_one k x e in ap (fixed_bit x false) f ∙ down_zero (k - 2 ^ x) x (bit_without k x e) ∙ sym f)
 ]
@@ -119,22 +106,22 @@ raised_step i r bit h k e =
 
 pub lowered_step : (i r bit : ℕ) → r < 10 → i < 1024 → bit ≡ bit_at i r → (bit * 2 ^ r % 18446744073709551616 ≡ bit_at i r * 2 ^ r) × (bit * 2 ^ r ≤ i)
 lowered_step i r bit h k e =
-    let s : bit * 2 ^ r ≤ i = ap_le (cases_bit i r) in
+    let s : bit * 2 ^ r ≤ i = ap_le (zero_or_one i r) in
     (omega arith ∙ ap (λ z. z * 2 ^ r) e, s)
   where
     ap_le : (bit_at i r ≡ 0) ⊎ (bit_at i r ≡ 1) → bit * 2 ^ r ≤ i
     ap_le (inl z) = let f = ap (λ y. y * 2 ^ r) (e ∙ z) in omega arith
-    ap_le (inr o) = let f = ap (λ y. y * 2 ^ r) (e ∙ o) in let t = bit_there i r o in omega arith
+    ap_le (inr o) = let f = ap (λ y. y * 2 ^ r) (e ∙ o) in let t = pow_le_bit i r o in omega arith
 
 -- and one that isn't below it doesn't come below it
 fixed_outside : (n x : ℕ) (b : Bool) (k : ℕ) → x < n → 2 ^ n ≤ k → 2 ^ n ≤ fixed_bit x b k
 fixed_outside n x true k small h = omega arith
-fixed_outside n x false k small h = elim (cases_bit k x) [
+fixed_outside n x false k small h = elim (zero_or_one k x) [
   | inl e ↦ (let f = down_zero k x e in omega arith)
   | inr e ↦
       let f = down_one k x e in
       elim (cases_lt (k - 2 ^ x) (2 ^ n)) [
-        | inl lt ↦ (let r = room_above n (k - 2 ^ x) x lt small (bit_without k x e) in let l = bit_there k x e in absurd (omega arith))
+        | inl lt ↦ (let r = room_above n (k - 2 ^ x) x lt small (bit_without k x e) in let l = pow_le_bit k x e in absurd (omega arith))
         | inr ge ↦ omega arith
       ]
 ]
@@ -252,7 +239,7 @@ module _ (from lower x : ℕ) (small : x < 6) (low : (b : ℕ) → b < 64 → bi
   pub doubled_one : (k : ℕ) → k < 64 → bit_at k x ≡ 1 → bit_at (bit_or (bit_and from lower) (bit_and from lower * 2 ^ (2 ^ x) % 2 ^ 64)) k ≡ bit_at from (k - 2 ^ x)
   unfolding half
   doubled_one k h e =
-      let there = bit_there k x e in
+      let there = pow_le_bit k x e in
       let without = bit_without k x e in
       let a = half_bit k h in
       let c = half_bit (k - 2 ^ x) (omega arith) in
@@ -263,16 +250,16 @@ module _ (from lower x : ℕ) (small : x < 6) (low : (b : ℕ) → b < 64 → bi
 
 module _ (word lower x : ℕ) (small : x < 6) (low : (b : ℕ) → b < 64 → bit_at lower b ≡ 1 - bit_at b x) where
   pub upper_bit : (k : ℕ) → k < 64 → bit_at (bit_or (bit_and (word / 2 ^ (2 ^ x)) lower) (bit_and (word / 2 ^ (2 ^ x)) lower * 2 ^ (2 ^ x) % 2 ^ 64)) k ≡ bit_at word (fixed_bit x true k)
-  upper_bit k h = elim (cases_bit k x) [
+  upper_bit k h = elim (zero_or_one k x) [
     | inl e ↦ doubled_zero (word / 2 ^ (2 ^ x)) lower x small low k h e ∙ shifted_bit word (2 ^ x) k ∙ sym (ap (bit_at word) (up_zero k x e))
     | inr e ↦
-        let there = bit_there k x e in
+        let there = pow_le_bit k x e in
         let s : k - 2 ^ x + 2 ^ x ≡ k = omega arith in
         doubled_one (word / 2 ^ (2 ^ x)) lower x small low k h e ∙ shifted_bit word (2 ^ x) (k - 2 ^ x) ∙ ap (bit_at word) (s ∙ sym (up_one k x e))
   ]
 
   pub lower_bit : (k : ℕ) → k < 64 → bit_at (bit_or (bit_and word lower) (bit_and word lower * 2 ^ (2 ^ x) % 2 ^ 64)) k ≡ bit_at word (fixed_bit x false k)
-  lower_bit k h = elim (cases_bit k x) [
+  lower_bit k h = elim (zero_or_one k x) [
     | inl e ↦ doubled_zero word lower x small low k h e ∙ sym (ap (bit_at word) (down_zero k x e))
     | inr e ↦ doubled_one word lower x small low k h e ∙ sym (ap (bit_at word) (down_one k x e))
   ]
@@ -301,9 +288,9 @@ module _ (n x : ℕ) (b : Bool) (old new : List ℕ) (small : x < n) where
       where
         by : (d : Bool) → fixed_bit x d (64 * i + c) ≡ 64 * i + fixed_bit x d c
         by true = ap (λ z. 64 * i + c + (1 - z) * 2 ^ x) (low_bit i c x low) ∙ omega arith
-        by false = elim (cases_bit c x) [
+        by false = elim (zero_or_one c x) [
           | inl e ↦ down_zero (64 * i + c) x (low_bit i c x low ∙ e) ∙ sym (ap (λ z. 64 * i + z) (down_zero c x e))
-          | inr e ↦ (let l = bit_there c x e in down_one (64 * i + c) x (low_bit i c x low ∙ e) ∙ omega arith ∙ sym (ap (λ z. 64 * i + z) (down_one c x e)))
+          | inr e ↦ (let l = pow_le_bit c x e in down_one (64 * i + c) x (low_bit i c x low ∙ e) ∙ omega arith ∙ sym (ap (λ z. 64 * i + z) (down_one c x e)))
         ]
 
     value_low : (i c : ℕ) → i < length new → c < 64 → packed_bit new (64 * i + c) ≡ packed_bit old (fixed_bit x b (64 * i + c))
@@ -327,7 +314,7 @@ module _ (n x : ℕ) (b : Bool) (old new : List ℕ) (small : x < n) where
     step_split = elim (whole_words x) [ inl w ↦ w.1 | inr w ↦ absurd (omega (arith, w.0)) ]
 
     fixed_high : (i c : ℕ) → c < 64 → fixed_bit x b (64 * i + c) ≡ 64 * fixed_bit (x - 6) b i + c
-    fixed_high i c h = by b (cases_bit i (x - 6))
+    fixed_high i c h = by b (zero_or_one i (x - 6))
       where
         bits : bit_at (64 * i + c) x ≡ bit_at i (x - 6)
         bits = high_bit i c x h high
@@ -338,7 +325,7 @@ module _ (n x : ℕ) (b : Bool) (old new : List ℕ) (small : x < n) where
         by false (inl e) = down_zero (64 * i + c) x (bits ∙ e) ∙ sym (ap (λ z. 64 * z + c) (down_zero i (x - 6) e))
         by false (inr e) =
             let s = step_split in
-            let l = bit_there i (x - 6) e in
+            let l = pow_le_bit i (x - 6) e in
             down_one (64 * i + c) x (bits ∙ e) ∙ omega arith ∙ sym (ap (λ z. 64 * z + c) (down_one i (x - 6) e))
 
     value_high : (i c : ℕ) → i < length new → c < 64 → packed_bit new (64 * i + c) ≡ packed_bit old (fixed_bit x b (64 * i + c))

@@ -6,7 +6,7 @@ use Rattle.std.proofs.Common.{◌≡◌, ◌≢◌, ℕ, zero, suc, ◌+◌, ◌
 use Rattle.std.specs.Int.{bit_at}
 use Rattle.std.specs.List.{All, flat_map, AllZip, AllByRecursion, IsDistinct}
 use Rattle.std.proofs.lemmas.Bool.{cases_eq, false≢true, true≢false}
-use Rattle.std.proofs.lemmas.List.{append_assoc, get_or_append_left, length-append, map-append, take_all, take_more, length-set, length-replicate, get_or-set_same, get_or-set_other}
+use Rattle.std.proofs.lemmas.List.{append_assoc, get_or_append_left, length-append, map-append, take_all, take_more, length-set, length-replicate, get_or-set_same, get_or-set_other, append-nil}
 use Rattle.std.proofs.lemmas.List.Concat.{flat_map-append}
 use Rattle.std.proofs.lemmas.List.Elements.{All-cons, All-head, All-nil, All-tail}
 use Rattle.std.proofs.lemmas.Nat.{one_shl, or_lt, pow_below, pow_pos}
@@ -17,8 +17,8 @@ use Rattle.order_model.specs.Orders.{has, IsOrder}
 use Rattle.order_model.specs.Problems.{packed_bit, table_in, words_per_table}
 use Rattle.order_model.proofs.Functions.Exchange.{below_from_has}
 use Rattle.order_model.proofs.Bits.Problems.{point_inside}
-use Rattle.order_model.proofs.Bits.Tables.{table_value}
-use Rattle.order_model.proofs.Bits.PointNumbers.{weight, number-small, bit-number}
+use Rattle.order_model.proofs.Bits.Tables.{table_value, same_bit}
+use Rattle.order_model.proofs.Bits.PointNumbers.{weight, number-small, bit-number, weight_bit}
 use Rattle.order_model.proofs.Functions.Tables.{table_same, same_from_table}
 use Rattle.truth_table.specs.Assignments.{assignments, value_number, values_at}
 use Rattle.truth_table.specs.Restrictions.{fixed}
@@ -147,11 +147,6 @@ bit-laid (x ∷ xs) k p y l h = elim (cases_eq y x) [
     get_at : Point → ℕ → Bool
     get_at q z = get_or q z false
 
-weight_bit : (b : ℕ) → b < 2 → weight (eqb b 1) ≡ b
-weight_bit zero h = refl
-weight_bit (suc zero) h = refl
-weight_bit (suc (suc b)) h = absurd (omega arith)
-
 -- with all variables set the point is that of the number
 number-laid : (n : ℕ) (xs : List ℕ) → ((y : ℕ) → y < n → has xs y ≡ true) → (k : ℕ) → k < 2 ^ n → (p : Point) → length p ≡ n → number (laid xs k p) ≡ k
 number-laid n xs all k small p l =
@@ -204,14 +199,6 @@ zip_at R (f ∷ fs) [] h j l = absurd h
 zip_at R (f ∷ fs) (c ∷ cs) h zero l = h.0
 zip_at R (f ∷ fs) (c ∷ cs) h (suc j) l = zip_at R fs cs h.1 j (omega arith)
 
-same_value : (a b : ℕ) → a < 2 → b < 2 → eqb a 1 ≡ eqb b 1 → a ≡ b
-same_value zero zero h k e = refl
-same_value zero (suc zero) h k e = absurd (false≢true e)
-same_value (suc zero) zero h k e = absurd (true≢false e)
-same_value (suc zero) (suc zero) h k e = refl
-same_value (suc (suc a)) b h k e = absurd (omega arith)
-same_value a (suc (suc b)) h k e = absurd (omega arith)
-
 -- leaves are told apart by their values
 leaves_apart : (n : ℕ) (fs : List Function) (cs : List ℕ) → AllZip (IsLeaf n) fs cs → Tells n fs cs
 unfolding SameFunction
@@ -223,7 +210,7 @@ leaves_apart n fs cs h = record {
       let p : Point = replicate n false in
       let l = length-replicate n false in (
         λ e. table_same n (function_at fs j) (function_at fs k) (λ q m. f.0 q m ∙ ap (λ z. eqb z 1) e ∙ sym (g.0 q m)),
-        λ e. same_value (get_or cs j 0) (get_or cs k 0) f.1 g.1 (sym (f.0 p l) ∙ same_from_table n (function_at fs j) (function_at fs k) e p l ∙ g.0 p l),
+        λ e. same_bit (get_or cs j 0) (get_or cs k 0) f.1 g.1 (sym (f.0 p l) ∙ same_from_table n (function_at fs j) (function_at fs k) e p l ∙ g.0 p l),
       );
 }
 
@@ -262,11 +249,7 @@ pub values_more : (ks : List ℕ) (tables : List (List Bool)) (j : ℕ) → j < 
 unfolding values_at
 values_more ks tables j h =
     ap (flat_map (λ t. map (value_number t) ks)) (take_more tables j [] h) ∙ flat_map-append (λ t. map (value_number t) ks) (take j tables) (get_or tables j [] ∷ [])
-    ∙ ap (λ us. flat_map (λ t. map (value_number t) ks) (take j tables) ++ us) (append_nil (map (value_number (get_or tables j [])) ks))
-  where
-    append_nil : (us : List ℕ) → us ++ [] ≡ us
-    append_nil [] = refl
-    append_nil (u ∷ us) = ap (λ vs. u ∷ vs) (append_nil us)
+    ∙ ap (λ us. flat_map (λ t. map (value_number t) ks) (take j tables) ++ us) (append-nil (map (value_number (get_or tables j [])) ks))
 
 -- the values that the words of a table have at points
 pub values_packed : (n : ℕ) (words : List ℕ) (t : List Bool) (ks : List ℕ) → table_in n words ≡ t → All (λ k. k < 2 ^ n) ks → map (λ k. cond (packed_bit words k) 1 0) ks ≡ map (value_number t) ks

@@ -14,13 +14,15 @@ use Rattle.std.proofs.lemmas.List.FromFn.{fill_by_all}
 use Rattle.order_model.specs.Functions.{Point, Function, bit, restrict, SameFunction, table, same_table, depends}
 use Rattle.order_model.specs.Levels.{subfunctions, reach, dependents, level_count, level_counts}
 use Rattle.order_model.specs.Widths.{same_pair}
-use Rattle.order_model.proofs.Widths.ClassPairs.{count_alike, pair_decides}
+use Rattle.order_model.proofs.Widths.ClassPairs.{count_alike, pair_decides, filter_map_same}
 use Rattle.order_model.proofs.Nodes.Construction.{own_restriction}
 use Rattle.order_model.proofs.Lists.Orders.{same_bool}
 use Rattle.order_model.proofs.Lists.Sets.{Among, among_from_filter}
 use Rattle.order_model.proofs.Functions.Tables.{restrict_same, table_same, same_from_table, same_table_decides}
 use Rattle.truth_table.specs.Numberings.{IsNumbering, is_unequal, pair_at, pairs_of, unequal_count}
 use Rattle.truth_table.proofs.PairNumbers.{length-pairs_of, get_or-pairs_of}
+use mathlib.Core.List.{map-map}
+use Rattle.order_model.proofs.Widths.SizeBounds.{length-subfunctions}
 
 -- ---- subfunctions in parts
 
@@ -55,14 +57,6 @@ unfolding reach subfunctions
 reach_last F xs x =
     flat_map_same (subfunctions (xs ++ x ∷ [])) (λ f. flat_map (subfunctions (x ∷ [])) (subfunctions xs f)) (subfunctions_parts xs (x ∷ [])) F
     ∙ sym (flat_map_parts (subfunctions (x ∷ [])) (subfunctions xs) F)
-
-length-subfunctions : (xs : List ℕ) (f : Function) → length (subfunctions xs f) ≡ 2 ^ length xs
-unfolding subfunctions
-length-subfunctions [] f = refl
-length-subfunctions (x ∷ xs) f =
-    let l = length-subfunctions xs (restrict x false f) in
-    let r = length-subfunctions xs (restrict x true f) in
-    length-append (subfunctions xs (restrict x false f)) (subfunctions xs (restrict x true f)) ∙ omega (arith, pow-suc 2 (length xs))
 
 pub length-reach : (F : List Function) (xs : List ℕ) → length (reach F xs) ≡ length F * 2 ^ length xs
 unfolding reach
@@ -115,21 +109,6 @@ among_range (suc len) a j h = elim h [
   | inl e ↦ (omega arith, omega arith)
   | inr r ↦ (let s = among_range len (a + 1) j r in (omega arith, omega arith))
 ]
-
-filter_mapped : {X Y : Type 0} (p : X → Bool) (q : Y → Bool) (f : X → Y) (xs : List X) → ((x : X) → Among x xs → p x ≡ q (f x)) → filter q (map f xs) ≡ map f (filter p xs)
-filter_mapped p q f [] h = refl
-filter_mapped p q f (x ∷ xs) h = by (p x) (q (f x)) (h x (inl refl)) (filter_mapped p q f xs (λ y k. h y (inr k)))
-  where
-    by : (b c : Bool) → b ≡ c → filter q (map f xs) ≡ map f (filter p xs) → cond c (f x ∷ filter q (map f xs)) (filter q (map f xs)) ≡ map f (cond b (x ∷ filter p xs) (filter p xs))
-    by b c e r = ap (λ d. cond d (f x ∷ filter q (map f xs)) (filter q (map f xs))) (sym e) ∙ one b r
-      where
-        one : (d : Bool) → filter q (map f xs) ≡ map f (filter p xs) → cond d (f x ∷ filter q (map f xs)) (filter q (map f xs)) ≡ map f (cond d (x ∷ filter p xs) (filter p xs))
-        one true s = ap (λ ys. f x ∷ ys) s
-        one false s = s
-
-map_of_map : {X Y Z : Type 0} (g : Y → Z) (f : X → Y) (xs : List X) → map g (map f xs) ≡ map (λ x. g (f x)) xs
-map_of_map g f [] = refl
-map_of_map g f (x ∷ xs) = ap (λ ys. g (f x) ∷ ys) (map_of_map g f xs)
 
 module _ (n x : ℕ) (fs : List Function) (cs : List ℕ) (t : Tells n (restricted x fs) cs) where
   half_long : length cs / 2 ≡ length fs
@@ -225,10 +204,10 @@ module _ (n x : ℕ) (fs : List Function) (cs : List ℕ) (t : Tells n (restrict
       let kept : ℕ → Bool = λ j. depends n (function_at fs j) x in
       let all : fs ≡ map (function_at fs) places = fill_by_all (function_at fs) fs (length fs) none refl (λ k h. refl) in
       let chosen : filter (λ f. depends n f x) fs ≡ map (function_at fs) (filter kept places) =
-      ap (filter (λ f. depends n f x)) all ∙ filter_mapped kept (λ f. depends n f x) (function_at fs) places (λ j h. refl) in
+      ap (filter (λ f. depends n f x)) all ∙ filter_map_same kept (λ f. depends n f x) (function_at fs) places (λ j h. refl) in
       let pairs : filter is_unequal (map (pair_at cs) (range_with_len 0 (length cs / 2))) ≡ map (pair_at cs) (filter kept places) =
-      ap (λ z. filter is_unequal (map (pair_at cs) (range_with_len 0 z))) half_long ∙ filter_mapped kept is_unequal (pair_at cs) places (λ j h. depends_by_parts j (inside j h)) in
-      ap (λ gs. distinct_count same_table (map (table n) gs)) chosen ∙ ap (distinct_count same_table) (map_of_map (table n) (function_at fs) (filter kept places))
+      ap (λ z. filter is_unequal (map (pair_at cs) (range_with_len 0 z))) half_long ∙ filter_map_same kept is_unequal (pair_at cs) places (λ j h. depends_by_parts j (inside j h)) in
+      ap (λ gs. distinct_count same_table (map (table n) gs)) chosen ∙ ap (distinct_count same_table) (map-map (table n) (function_at fs) (filter kept places))
       ∙ count_alike same_table same_table_decides same_pair pair_decides (λ j. table n (function_at fs j)) (pair_at cs) (filter kept places)
       (λ j k a b. both_tell j k (inside j (among_from_filter kept j places a).0) (inside k (among_from_filter kept k places b).0))
       ∙ ap (distinct_count same_pair) (sym pairs)

@@ -22,6 +22,7 @@ use Rattle.order_model.proofs.Bits.Words.{shifted_bit}
 use Rattle.order_model.proofs.Bits.PointNumbers.{bit-number, weight}
 use Rattle.pla_reader.specs.Masks.{Fits}
 use Rattle.truth_table.specs.Terms.{literal_at, literals_at, covered}
+use Rattle.std.proofs.Math.Bool.{and-true}
 
 -- ---- a test of each of some numbers
 
@@ -194,11 +195,7 @@ matches_is n m term p few fits l =
     ∙ sym (
     sym (ap (λ z. list_all (literal_at term (number p)) (range_with_len 0 z)) e) ∙ all_parts (literal_at term (number p)) n (16 - n) 0
     ∙ ap (λ b. list_all (literal_at term (number p)) (range_with_len 0 n) && b) (all_from (literal_at term (number p)) (16 - n) (0 + n) (λ x lo hi. no_literal term (number p) x (bit_at_above term.care n x fits (omega arith))))
-    ∙ and_true (list_all (literal_at term (number p)) (range_with_len 0 n)))
-  where
-    and_true : (b : Bool) → (b && true) ≡ b
-    and_true true = refl
-    and_true false = refl
+    ∙ and-true (list_all (literal_at term (number p)) (range_with_len 0 n)))
 
 output_is : (n m : ℕ) (term : Term) (j : ℕ) → j < m → has_output (product_of n m term) j ≡ eqb (bit_at term.outs j) 1
 unfolding product_of

@@ -14,6 +14,7 @@ use Rattle.order_model.specs.Widths.{same_pair}
 use Rattle.order_model.proofs.Widths.ClassPairs.{pair_decides}
 use Rattle.order_model.proofs.Lists.Sets.{Among, among_left, among_right, among_cases, among_filter, among_from_filter, among_from_member, member_from_among, count_same}
 use Rattle.truth_table.specs.Numberings.{IsNumbering, is_unequal, pair_at, pairs_of, unequal_count}
+use Rattle.order_model.proofs.Precedence.Masks.{among_at}
 
 -- ---- the pairs
 
@@ -240,11 +241,6 @@ get_or_map : {X : Type 0} (f : X → ℕ) (xs : List X) (j : ℕ) (d : X) → j 
 get_or_map f [] j d h = absurd (omega arith)
 get_or_map f (x ∷ xs) zero d h = refl
 get_or_map f (x ∷ xs) (suc j) d h = get_or_map f xs j d (omega arith)
-
-among_at : {X : Type 0} (xs : List X) (j : ℕ) (d : X) → j < length xs → Among (get_or xs j d) xs
-among_at [] j d h = absurd (omega arith)
-among_at (x ∷ xs) zero d h = inl refl
-among_at (x ∷ xs) (suc j) d h = inr (among_at xs j d (omega arith))
 
 -- the numbers tell the pairs apart
 pub merging_numbers : (keys done : List (ℕ × ℕ)) (out : List ℕ) (unequal : ℕ) → Merging keys done out unequal → IsNumbering done out

@@ -20,7 +20,7 @@ use Rattle.order_model.specs.declared.terms.Term.{Term}
 use Rattle.order_model.specs.Functions.{Point, Function, number, points, from_table, table, SameFunction}
 use Rattle.order_model.specs.Problems.{IsClean, IsPacked, tables_of, words_per_table}
 use Rattle.order_model.specs.Products.{Product, product_function, product_functions, product_of}
-use Rattle.order_model.proofs.Bits.Points.{numbers_rise, table-from_table}
+use Rattle.order_model.proofs.Bits.Points.{numbers_rise, table-from_table, point_count}
 use Rattle.order_model.proofs.Bits.Problems.{point_inside, block_inside, same_tables}
 use Rattle.order_model.proofs.Bits.Tables.{whole_words}
 use Rattle.order_model.proofs.Bits.Words.{step_is}
@@ -29,6 +29,8 @@ use Rattle.order_model.proofs.Functions.Tables.{same_from_table}
 use Rattle.pla_reader.specs.Masks.{Fits}
 use Rattle.truth_table.specs.Terms.{AddsTerm, AreGroupWords, literal_at, literals_at, covers, covered}
 use Rattle.truth_table.proofs.Literals.{all_parts, and_turned, literals_apart, product_is}
+use Rattle.std.proofs.Math.Bool.{and-false, and-true}
+use Rattle.order_model.proofs.Functions.Same.{table_long}
 
 -- ---- bits
 
@@ -114,11 +116,7 @@ unfolding literals_at
 literals_more term k x =
     let z : 0 + x ≡ x = omega arith in
     all_parts (literal_at term k) x 1 0 ∙ ap (λ y. list_all (literal_at term k) (range_with_len 0 x) && list_all (literal_at term k) (range_with_len y 1)) z
-    ∙ ap (λ b. list_all (literal_at term k) (range_with_len 0 x) && b) (and_true (literal_at term k x))
-  where
-    and_true : (b : Bool) → (b && true) ≡ b
-    and_true true = refl
-    and_true false = refl
+    ∙ ap (λ b. list_all (literal_at term k) (range_with_len 0 x) && b) (and-true (literal_at term k x))
 
 -- ---- terms
 
@@ -136,10 +134,6 @@ unfolding covered
 covered_more terms i h term read output k =
     list_any_more (λ t. covers t output k) terms i term h ∙ ap (λ z. list_any (λ t. covers t output k) (take i terms) || z) (ap (λ t. covers t output k) (sym read))
 
-and_false : (a : Bool) → (a && false) ≡ false
-and_false true = refl
-and_false false = refl
-
 -- what a word's bit is where the term counts, and where it doesn't
 word_with : (word pattern b : ℕ) (old above low : Bool) (out : Bool) → eqb (bit_at word b) 1 ≡ old → eqb (bit_at pattern b) 1 ≡ low → out ≡ true → above ≡ true →
     eqb (bit_at (bit_or word pattern) b) 1 ≡ (old || (out && (low && above)))
@@ -151,7 +145,7 @@ word_with word pattern b old above low out w p o a =
     turned false = refl
 
 word_without_above : (word b : ℕ) (old above low out : Bool) → eqb (bit_at word b) 1 ≡ old → above ≡ false → eqb (bit_at word b) 1 ≡ (old || (out && (low && above)))
-word_without_above word b old above low out w a = w ∙ or_false old ∙ sym (ap (λ z. old || (out && (low && z))) a ∙ ap (λ z. old || (out && z)) (and_false low) ∙ ap (λ z. old || z) (and_false out))
+word_without_above word b old above low out w a = w ∙ or_false old ∙ sym (ap (λ z. old || (out && (low && z))) a ∙ ap (λ z. old || (out && z)) (and-false low) ∙ ap (λ z. old || z) (and-false out))
 
 word_without_output : (word b : ℕ) (old rest out : Bool) → eqb (bit_at word b) 1 ≡ old → out ≡ false → eqb (bit_at word b) 1 ≡ (old || (out && rest))
 word_without_output word b old rest out w o = w ∙ or_false old ∙ sym (ap (λ z. old || (z && rest)) o)
@@ -195,17 +189,10 @@ place_added term group place initial words new done left stays here p low = elim
 
 -- ---- truth tables
 
-length-points : (n : ℕ) → length (points n) ≡ 2 ^ n
-length-points n = sym (length-map (points n) number) ∙ ap length (numbers_rise n) ∙ length-range_with_len 0 (2 ^ n)
-
-length-table : (n : ℕ) (g : Function) → length (table n g) ≡ 2 ^ n
-unfolding table
-length-table n g = length-map (points n) g ∙ length-points n
-
 -- the entry of a truth table at a point's number
 entry_at : (n : ℕ) (g : Function) (p : Point) → length p ≡ n → get_or (table n g) (number p) false ≡ g p
 unfolding SameFunction from_table
-entry_at n g p l = same_from_table n (from_table (table n g)) g (table-from_table n (table n g) (length-table n g)) p l
+entry_at n g p l = same_from_table n (from_table (table n g)) g (table-from_table n (table n g) (table_long n g)) p l
 
 -- the words of terms of n inputs and m outputs
 pub record AreTermWords (n m : ℕ) (terms : List Term) (words : List ℕ) : Type 0 where
@@ -261,7 +248,7 @@ module _ (n m : ℕ) (terms : List Term) (words : List ℕ) (some : 1 ≤ n) (fe
   -- the words hold the truth tables of the products' functions
   pub terms_tables : tables_of n m words ≡ map (table n) (product_functions m (map (product_of n m) terms))
   unfolding tables products
-  terms_tables = same_tables n m words tables length-tables (λ j h. ap length (table_is j h) ∙ length-table n (product_function products j)) value_is
+  terms_tables = same_tables n m words tables length-tables (λ j h. ap length (table_is j h) ∙ table_long n (product_function products j)) value_is
 
   clean : IsClean n words
   clean i b h big = elim (cases_lt b 64) [

@@ -1,23 +1,19 @@
 -- Masks and the lists of their variables.
 --     has_members, distinct_members, members_without, members_full      the members of a mask, of one without a member, and of all variables
 --     bit-mask_of, members_mask_of, full_mask      the mask of a list
-use Rattle.std.proofs.Common.{◌≡◌, ◌≢◌, ℕ, ◌+◌, ◌-◌, ◌*◌, ◌/◌, ◌%◌, ◌^◌, ◌<◌, ◌≤◌, max, Bool, true, false, not, cond, ◌&&◌, ◌||◌, inl, inr, List, [], ◌∷◌, refl, sym, ap, ap₂, ◌∙◌, arith, nat_eq, eqb, eqb-true, eq-eqb, ne_eqb, pow_pos, pow_mono, zero-mul}
+use Rattle.std.proofs.Common.{◌≡◌, lit<, ◌≢◌, ℕ, ◌+◌, ◌-◌, ◌*◌, ◌/◌, ◌%◌, ◌^◌, ◌<◌, ◌≤◌, max, Bool, true, false, not, cond, ◌&&◌, ◌||◌, inl, inr, List, [], ◌∷◌, refl, sym, ap, ap₂, ◌∙◌, arith, nat_eq, eqb, eqb-true, eq-eqb, ne_eqb, pow_pos, pow_mono, zero-mul}
 use Rattle.std.specs.Int.{bit_at}
 use Rattle.std.specs.List.{IsDistinct}
-use Rattle.std.proofs.Math.Nat.{div-eq_of_lt, div-eq-sub-div, div-add-mod, mod-lt, mul_comm}
+use Rattle.std.proofs.Math.Nat.{pow-le-pow_right, div-eq_of_lt, div-eq-sub-div, div-add-mod, mod-lt, mul_comm}
 use Rattle.std.proofs.lemmas.Bool.{cases_eq, cases_lt, or_cases, and_parts, false_from_ne_true}
-use Rattle.std.proofs.lemmas.Nat.Bits.{bit_at-zero, bit_at_or, and_pow, bit_at-pow_same, bit_at-pow_other, bit_at_ones, bit_at_above, bit_at_cat_low, bit_at-lt, same_from_bits}
+use Rattle.std.proofs.lemmas.Nat.Bits.{ones_shr, bit_at-zero, bit_at_or, and_pow, bit_at-pow_same, bit_at-pow_other, bit_at_ones, bit_at_above, bit_at_cat_low, bit_at-lt, same_from_bits}
 use Rattle.std.proofs.lemmas.Nat.{or_disjoint}
 use Rattle.order_model.specs.Orders.{has, IsOrder, variables, members, mask_of, without}
-use Rattle.order_model.specs.Widths.{}
 use Rattle.order_model.proofs.Lists.Orders.{absent_from_apart, has_filter, has_variables}
 use Rattle.order_model.proofs.Widths.Recurrence.{apart_from_absent, has_without, distinct_filter, distinct_variables}
+use Rattle.std.proofs.Math.Bool.{and-false, and-true}
 
 -- ---- the members of a mask
-
-and_false : (a : Bool) → (a && false) ≡ false
-and_false true = refl
-and_false false = refl
 
 pub has_members : (n mask y : ℕ) → has (members n mask) y ≡ (has (variables n) y && eqb (bit_at mask y) 1)
 unfolding members
@@ -65,19 +61,15 @@ members_without n mask x h y =
     bits : (bit_at (mask - 2 ^ x) x ≡ 0) × ((z : ℕ) → z ≢ x → bit_at (mask - 2 ^ x) z ≡ bit_at mask z)
     bits = bit_without mask x set_bit
 
-    and_true : (b : Bool) → (b && true) ≡ b
-    and_true true = refl
-    and_true false = refl
-
     middle : (has (variables n) y && eqb (bit_at (mask - 2 ^ x) y) 1) ≡ ((has (variables n) y && eqb (bit_at mask y) 1) && not (nat_eq x y))
     middle =
         elim (cases_eq y x) [
           | inl e ↦
-              ap (λ b. has (variables n) y && eqb b 1) (ap (bit_at (mask - 2 ^ x)) e ∙ bits.0) ∙ and_false (has (variables n) y)
-              ∙ sym (ap (λ b. (has (variables n) y && eqb (bit_at mask y) 1) && not b) (eq-eqb x y (sym e)) ∙ and_false (has (variables n) y && eqb (bit_at mask y) 1))
+              ap (λ b. has (variables n) y && eqb b 1) (ap (bit_at (mask - 2 ^ x)) e ∙ bits.0) ∙ and-false (has (variables n) y)
+              ∙ sym (ap (λ b. (has (variables n) y && eqb (bit_at mask y) 1) && not b) (eq-eqb x y (sym e)) ∙ and-false (has (variables n) y && eqb (bit_at mask y) 1))
           | inr ne ↦
               ap (λ b. has (variables n) y && eqb b 1) (bits.1 y ne)
-              ∙ sym (ap (λ b. (has (variables n) y && eqb (bit_at mask y) 1) && not b) (ne_eqb x y (λ e. ne (sym e))) ∙ and_true (has (variables n) y && eqb (bit_at mask y) 1))
+              ∙ sym (ap (λ b. (has (variables n) y && eqb (bit_at mask y) 1) && not b) (ne_eqb x y (λ e. ne (sym e))) ∙ and-true (has (variables n) y && eqb (bit_at mask y) 1))
         ]
 
 -- the mask of all variables
@@ -175,3 +167,10 @@ mask_with n mask x lt small out =
     let same : mask_of (members n mask) + 2 ^ x ≡ mask + 2 ^ x = ap (λ m. m + 2 ^ x) (mask_of_members n mask lt) in
     let a = mask_of_small n (x ∷ members n mask) d low in
     (omega arith, λ y. ap (λ m. has (members n m) y) (sym same) ∙ members_mask_of n (x ∷ members n mask) d low y)
+
+-- the masks of at most 16 variables
+pub power_small : (n : ℕ) → n ≤ 16 → 2 ^ n ≤ 65536
+power_small n small = pow-le-pow_right {n = 2} (lit< tt) {i = n} {j = 16} small
+
+pub all_ones : (n : ℕ) → n ≤ 16 → 65535 / 2 ^ (16 - n) ≡ 2 ^ n - 1
+all_ones n h = ones_shr 16 (16 - n) (omega arith) ∙ ap (λ (k : ℕ). 2 ^ k - 1) (omega arith)

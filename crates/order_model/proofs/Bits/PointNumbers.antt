@@ -15,6 +15,11 @@ abbrev pub weight : Bool → ℕ
 weight true = 1
 weight false = 0
 
+pub weight_bit : (b : ℕ) → b < 2 → weight (eqb b 1) ≡ b
+weight_bit zero h = refl
+weight_bit (suc zero) h = refl
+weight_bit (suc (suc b)) h = absurd (omega arith)
+
 weight_small : (b : Bool) → weight b < 2
 weight_small true = omega arith
 weight_small false = omega arith
@@ -69,12 +74,7 @@ odd k = eqb (k % 2) 1
 
 odd_weight : (k : ℕ) → weight (odd k) ≡ k % 2
 unfolding odd
-odd_weight k = by (k % 2) (omega arith)
-  where
-    by : (r : ℕ) → r < 2 → weight (eqb r 1) ≡ r
-    by zero h = refl
-    by (suc zero) h = refl
-    by (suc (suc r)) h = absurd (omega arith)
+odd_weight k = weight_bit (k % 2) (omega arith)
 
 pub some_point : (n k : ℕ) → k < 2 ^ n → (p : Point) × (length p ≡ n) × (number p ≡ k)
 unfolding number

@@ -19,6 +19,7 @@ use Rattle.order_model.proofs.Lists.Orders.{has_filter, has_variables}
 use Rattle.order_model.proofs.Widths.Recurrence.{distinct_filter, distinct_variables}
 use Rattle.order_model.proofs.Bits.Masks.{bit-mask_of}
 use Rattle.order_model.proofs.Bits.Tables.{table_value}
+use Rattle.std.proofs.Math.Bool.{or-true}
 
 pub length-tables_of : (n m : ℕ) (words : List ℕ) → length (tables_of n m words) ≡ m
 unfolding tables_of
@@ -232,14 +233,10 @@ module _ (n m : ℕ) (words : List ℕ) (packed : IsPacked n m words) where
 pub some_depends : (t : TruthTables) (x j : ℕ) → j < outputs_of t → depends t.inputs (from_table (table_at t j)) x ≡ true → list_any (λ f. depends t.inputs f x) (functions t) ≡ true
 some_depends t x j h e = go t.tables j h e
   where
-    or_true : (b : Bool) → (b || true) ≡ true
-    or_true true = refl
-    or_true false = refl
-
     go : (ts : List (List Bool)) (i : ℕ) → i < length ts → depends t.inputs (from_table (get_or ts i [])) x ≡ true → list_any (λ f. depends t.inputs f x) (map from_table ts) ≡ true
     go [] i h e = absurd (omega arith)
     go (u ∷ ts) zero h e = ap (λ b. b || list_any (λ f. depends t.inputs f x) (map from_table ts)) e
-    go (u ∷ ts) (suc i) h e = ap (λ b. depends t.inputs (from_table u) x || b) (go ts i (omega arith) e) ∙ or_true (depends t.inputs (from_table u) x)
+    go (u ∷ ts) (suc i) h e = ap (λ b. depends t.inputs (from_table u) x || b) (go ts i (omega arith) e) ∙ or-true (depends t.inputs (from_table u) x)
 
 pub none_depends : (t : TruthTables) (x : ℕ) → ((j : ℕ) → j < outputs_of t → depends t.inputs (from_table (table_at t j)) x ≡ false) → list_any (λ f. depends t.inputs f x) (functions t) ≡ false
 none_depends t x h = go t.tables h

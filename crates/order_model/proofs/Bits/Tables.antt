@@ -22,7 +22,7 @@ value_at_word words i b h =
     let f : (64 * i + b) % 64 ≡ b = omega arith in
     λ j. eqb (bit_at (get_or words (e j) 0) (f j)) 1
 
-same_bit : (a b : ℕ) → a < 2 → b < 2 → eqb a 1 ≡ eqb b 1 → a ≡ b
+pub same_bit : (a b : ℕ) → a < 2 → b < 2 → eqb a 1 ≡ eqb b 1 → a ≡ b
 same_bit zero zero h k e = refl
 same_bit zero (suc zero) h k e = absurd (false≢true e)
 same_bit (suc zero) zero h k e = absurd (false≢true (sym e))
@@ -136,7 +136,7 @@ module _ (n x : ℕ) (words : List ℕ) (low : x < 6) (small : x < n) (long : le
       let e : 64 * i + b + 2 ^ x ≡ 64 * i + (b + 2 ^ x) = omega arith in
       ap (packed_bit words) e ∙ value_at_word words i (b + 2 ^ x) h
 
-  -- a bit of a clean word that is not behind the last point
+  -- a bit of a clean word that is not after the last point
   inside : IsClean n words → (i b : ℕ) → i < length words → b + 2 ^ x < 64 → (bit_at (get_or words i 0) b ≡ bit_at (get_or words i 0) (b + 2 ^ x) → ⊥) → 64 * i + b < 2 ^ n
   inside clean i b h room ne = elim (whole_words n) [
     | inl w ↦

@@ -85,7 +85,7 @@ reserve_step n F cert x xs d small =
     by false e f = let s = essentials_step n F xs x (absent_from_apart x xs d.0) in omega arith
 
 -- all variables have no reserve
-reserve_full : (n : ℕ) (F : List Function) (cert : Certificate) → reserve n F cert (2 ^ n - 1) ≡ 0
+pub reserve_full : (n : ℕ) (F : List Function) (cert : Certificate) → reserve n F cert (2 ^ n - 1) ≡ 0
 unfolding reserve
 reserve_full n F cert = by (nat_eq cert.format 1) (essentials_all n F (members n (2 ^ n - 1)) (λ y lt. members_full n y ∙ (has_variables n y).1 lt))
   where

@@ -148,7 +148,7 @@ above_width n F above x below o =
     (below_from_has n (outside n (x ∷ below)) (λ y h. (has_variables n y).0 (and_parts _ _ (sym (has_outside n (x ∷ below) y) ∙ h)).0))
     (above_lem n above x below o)
 
--- the count of the level behind the variables above
+-- the count of the level after the variables above
 pub level_lem : (n : ℕ) (F : List Function) (above : List ℕ) (x : ℕ) (below : List ℕ) → level_count n F (above ++ x ∷ below) (length above) ≡ dependents n (reach F above) x
 unfolding level_count
 level_lem n F above x below =

@@ -1,8 +1,8 @@
 -- Lists of variables that are orders.
 --     index_of      where a member stands
 --     accepts_variables, accepts_distinct      the file order, and distinct variables below their number, are orders
-use Rattle.std.proofs.Common.{◌≡◌, ◌≢◌, ℕ, zero, suc, ◌+◌, ◌<◌, ◌≤◌, Bool, true, false, List, [], ◌∷◌, length, get_or, refl, sym, ap, ◌∙◌, arith, inl, inr, eqb, eqb-true, subst, ◌++◌, add-zero, add-one, zero-add, ◌||◌}
-use Rattle.std.specs.List.{All, IsDistinct, range_with_len}
+use Rattle.std.proofs.Common.{◌≡◌, ◌≢◌, ℕ, zero, suc, ◌+◌, ◌<◌, ◌≤◌, Bool, true, false, List, [], ◌∷◌, length, get_or, refl, sym, ap, ◌∙◌, arith, inl, inr, eqb, eqb-true, subst, ◌++◌, add-one, zero-add, ◌||◌}
+use Rattle.std.specs.List.{All, IsDistinct}
 use Rattle.std.proofs.lemmas.Bool.{cases_eq, ne_eqb, false≢true}
 use Rattle.std.proofs.lemmas.List.{get_or_default}
 use Rattle.std.proofs.lemmas.Map.Keys.{IsDistinct-from_apart}
@@ -14,6 +14,7 @@ use Rattle.order_model.specs.Orders.{IsOrder, has, variables, place_in}
 use Rattle.order_model.specs.OrderFaults.{Accepts, IsInRange}
 use Rattle.order_model.proofs.Lists.Orders.{has_variables, has_at, place_get}
 use Rattle.order_model.proofs.Widths.Recurrence.{distinct_variables, apart_from_absent}
+use Rattle.order_model.proofs.Lists.Ranges.{range_last}
 
 -- a member stands somewhere
 pub index_of : (xs : List ℕ) (y : ℕ) → has xs y ≡ true → (k : ℕ) × (k < length xs) × (get_or xs k 0 ≡ y)
@@ -110,13 +111,9 @@ module _ (xs : List ℕ) (i mask : ℕ) (s : Seen xs i mask) where
 pub seen_all : (xs : List ℕ) (mask : ℕ) → Seen xs (length xs) mask → IsDistinct eqb xs
 seen_all xs mask s = IsDistinct-from_apart eqb xs (λ i j d a b. ne_eqb _ _ (λ e. s.apart i j a b (get_or_default xs i 0 d (omega arith) ∙ e ∙ get_or_default xs j d 0 b)))
 
-range_more : (k a : ℕ) → range_with_len a (suc k) ≡ range_with_len a k ++ (a + k) ∷ []
-range_more zero a = ap (λ z. z ∷ []) (sym (add-zero a))
-range_more (suc k) a = ap (λ zs. a ∷ zs) (range_more k (a + 1) ∙ ap (λ z. range_with_len (a + 1) k ++ z ∷ []) (omega arith))
-
 -- one variable more
 pub variables_more : (n : ℕ) → variables (n + 1) ≡ variables n ++ n ∷ []
-variables_more n = ap variables (add-one n) ∙ range_more n 0 ∙ ap (λ z. variables n ++ z ∷ []) (zero-add n)
+variables_more n = ap variables (add-one n) ∙ range_last n 0 ∙ ap (λ z. variables n ++ z ∷ []) (zero-add n)
 
 -- each variable of an order is below its length
 pub member_at : (n : ℕ) (order : List ℕ) (k d : ℕ) → IsOrder n order → k < length order → get_or order k d < n

@@ -67,7 +67,7 @@ zip_get R (w ∷ xs) [] j x z e = absurd z
 zip_get R (w ∷ xs) (y ∷ ys) zero x z e = (y, subst (λ v. R v y) (same_Some w x e) z.0)
 zip_get R (w ∷ xs) (y ∷ ys) (suc j) x z e = zip_get R xs ys j x z.1 e
 
-zip_length : {A B : Type 0} (R : A → B → Type 0) (xs : List A) (ys : List B) → AllZip R xs ys → length xs ≡ length ys
+pub zip_length : {A B : Type 0} (R : A → B → Type 0) (xs : List A) (ys : List B) → AllZip R xs ys → length xs ≡ length ys
 zip_length R [] [] z = refl
 zip_length R [] (y ∷ ys) z = absurd z
 zip_length R (x ∷ xs) [] z = absurd z

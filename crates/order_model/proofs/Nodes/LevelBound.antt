@@ -20,6 +20,7 @@ use Rattle.order_model.proofs.Lists.Sets.{Among, Within, among_cases, among_filt
 use Rattle.order_model.proofs.Functions.Tables.{table_same, depends_true, same_table_decides}
 use Rattle.order_model.proofs.Lists.Orders.{has_at, place_at, place_get, absent_from_apart}
 use Rattle.order_model.proofs.Nodes.Paths.{before_more, child_before, value_place, value_terminal, StandsFrom, stands_less, stands_top, child_stands, independent}
+use mathlib.Core.List.{map-map}
 
 -- the variables xs stand at the places from i on, and nothing else does
 abbrev pub AtPlaces : ℕ → List ℕ → ℕ → List ℕ → Type 0
@@ -210,10 +211,6 @@ level_bound n F order d o rep i lt =
 
 -- ---- all levels
 
-map_map : {X Y Z : Type 0} (g : Y → Z) (f : X → Y) (xs : List X) → map g (map f xs) ≡ map (λ x. g (f x)) xs
-map_map g f [] = refl
-map_map g f (x ∷ xs) = ap (λ ys. g (f x) ∷ ys) (map_map g f xs)
-
 sum_map_le : (f g : ℕ → ℕ) (k a : ℕ) → ((i : ℕ) → i < a + k → f i ≤ g i) → sum (map f (range_with_len a k)) ≤ sum (map g (range_with_len a k))
 sum_map_le f g zero a h = omega arith
 sum_map_le f g (suc k) a h =
@@ -254,7 +251,7 @@ unfolding size_under level_counts
 size_bound n F order d o rep =
     let a = sum_map_le (level_count n F order) (λ i. nodes_at d (slice_index order i)) (length order) 0 (λ i l. level_bound n F order d o rep i (omega arith)) in
     let b = ap (λ xs. sum (map (nodes_at d) xs)) (fill_by_all (λ i. slice_index order i) order (length order) 0 refl (λ k l. refl)) in
-    let c = map_map (nodes_at d) (λ i. slice_index order i) (range_with_len 0 (length order)) in
+    let c = map-map (nodes_at d) (λ i. slice_index order i) (range_with_len 0 (length order)) in
     let e = levels_apart d order o.once in
     let f = count_by-le-length (λ (node : Node). has order node.variable) d.nodes in
     omega (arith, ap sum c)

@@ -1,7 +1,7 @@
 -- A reduced ordered diagram: equal functions have equal refs, and its levels have just the level counts.
-use Rattle.std.proofs.Common.{◌≡◌, ◌≢◌, ℕ, zero, suc, ◌+◌, ◌-◌, ◌<◌, ◌≤◌, Bool, true, false, not, cond, ◌||◌, ◌⊎◌, inl, inr, List, [], ◌∷◌, ◌++◌, map, length, set, get_or, take, drop, take-add, replicate, slice_get, slice_index, refl, sym, ap, ◌∙◌, subst, arith, nat_eq, eqb-true, zero-add, add-zero, Some, Contains}
+use Rattle.std.proofs.Common.{◌≡◌, ◌≢◌, ℕ, zero, suc, ◌+◌, ◌-◌, ◌<◌, ◌≤◌, Bool, true, false, cond, ◌⊎◌, inl, inr, List, [], ◌∷◌, ◌++◌, map, length, set, get_or, take, drop, take-add, replicate, slice_get, slice_index, refl, sym, ap, ◌∙◌, subst, arith, nat_eq, eqb-true, zero-add, add-zero, Some, Contains}
 use Rattle.std.specs.List.{filter, enumerate_from, AllZip, AllByRecursion, IsDistinct}
-use Rattle.std.proofs.lemmas.Bool.{false≢true, cases_eq, cases_order, false_from_ne_true}
+use Rattle.std.proofs.lemmas.Bool.{cases_eq, cases_order, false_from_ne_true}
 use Rattle.std.proofs.lemmas.List.{length-set, length-replicate, get_or-set_same, length-take-le, length-drop, get_or-take, get_or-drop, take_more, length-map}
 use Rattle.std.proofs.lemmas.List.Sums.{length-filter}
 use Rattle.std.proofs.lemmas.Map.Made.{distinct_count-from_IsDistinct}
@@ -12,13 +12,13 @@ use Rattle.order_model.specs.declared.diagrams.Ref.{Ref}
 use Rattle.order_model.specs.declared.diagrams.Ref.TheVariants.{Terminal, Place}
 use Rattle.order_model.specs.declared.diagrams.Node.{Node}
 use Rattle.order_model.specs.Functions.{Point, Function, restrict, SameFunction, DependsOn, table, same_table, depends}
-use Rattle.order_model.specs.Orders.{has, IsOrder, place_in}
+use Rattle.order_model.specs.Orders.{IsOrder, place_in}
 use Rattle.order_model.specs.Levels.{subfunctions, reach, dependents, level_count}
 use Rattle.order_model.specs.Diagrams.{Graph, IsDiagram, IsBefore, IsOrdered, IsOf, IsChild, IsReduced, Reached, Represents, value, nodes_at}
 use Rattle.order_model.specs.Diagrams.Reached.{from_root, from_parent}
 use Rattle.order_model.proofs.Lists.Sets.{Among, Within, among_left, among_right, among_cases, among_filter, among_from_filter, among_map, among_from_map, among_flat_map, among_from_flat_map, count_mono}
 use Rattle.order_model.proofs.Functions.Tables.{same_sym, same_trans, restrict_same, table_same, same_from_table, depends_lem, same_table_decides}
-use Rattle.order_model.proofs.Lists.Orders.{place_at, place_get}
+use Rattle.order_model.proofs.Lists.Orders.{place_at, place_get, place_small}
 use Rattle.order_model.proofs.Nodes.Paths.{before_more, child_before, value_place, value_terminal, StandsFrom, child_stands}
 use Rattle.order_model.proofs.Nodes.LevelBound.{free, AtPlaces, at_places, count_enumerated, level_bound}
 use Rattle.order_model.proofs.Nodes.Construction.{reach_more}
@@ -148,15 +148,6 @@ module _ (n : ℕ) (order : List ℕ) (d : Graph) (ok : IsDiagram n d) (ordered 
 
 -- ---- what a node's function is got from
 
-place_small : (xs : List ℕ) (v : ℕ) → has xs v ≡ true → place_in xs v < length xs
-unfolding place_in
-place_small [] v h = absurd (false≢true h)
-place_small (x ∷ xs) v h = by (nat_eq v x) h (place_small xs v)
-  where
-    by : (c : Bool) → (c || has xs v) ≡ true → (has xs v ≡ true → place_in xs v < length xs) → cond (not c) (1 + place_in xs v) 0 < suc (length xs)
-    by true k r = omega arith
-    by false k r = let a = r k in omega arith
-
 subfunctions_append : (xs ys : List ℕ) (f g h : Function) → Among g (subfunctions xs f) → Among h (subfunctions ys g) → Among h (subfunctions (xs ++ ys) f)
 unfolding subfunctions
 subfunctions_append [] ys f g h a b = elim a [ inl e ↦ subst (λ k. Among h (subfunctions ys k)) e b | inr r ↦ absurd r ]
@@ -265,7 +256,7 @@ module _ (n : ℕ) (F : List Function) (order : List ℕ) (o : IsOrder n order) 
 
 -- ---- counting
 
-enumerated_from : {X : Type 0} (xs : List X) (s : ℕ) (e : ℕ × X) → Among e (enumerate_from s xs) → (k : ℕ) × (e.0 ≡ s + k) × (slice_get xs k ≡ Some e.1)
+pub enumerated_from : {X : Type 0} (xs : List X) (s : ℕ) (e : ℕ × X) → Among e (enumerate_from s xs) → (k : ℕ) × (e.0 ≡ s + k) × (slice_get xs k ≡ Some e.1)
 enumerated_from [] s e h = absurd h
 enumerated_from (x ∷ xs) s e h =
     elim h [

@@ -26,6 +26,7 @@ use Rattle.order_model.proofs.Widths.Fewest.{order_from_arrangement, lawful_from
 use Rattle.order_model.proofs.Widths.Cells.{rising_filter, rising_members, first_has, first_le, has_tops, members_zero}
 use Rattle.order_model.proofs.Widths.Clipped.{moved}
 use Rattle.order_model.proofs.Certificates.Potential.{all_among}
+use Rattle.order_model.proofs.Precedence.Closure.{leads_on}
 
 -- ---- no order keeps pairs that lead back
 
@@ -80,10 +81,6 @@ some_member (x ∷ xs) h = (x, or_left _ _ (eq-eqb x x refl))
 
 -- ---- a top of each set
 
-leads_trans : {P : List Pair} {a b c : ℕ} → Leads P a b → Leads P b c → Leads P a c
-leads_trans (by_one h) r = by_more h r
-leads_trans (by_more h l) r = by_more h (leads_trans l r)
-
 -- a pair from a member of S down to v
 pair_above : (P : List Pair) (S : List ℕ) (v : ℕ) → ((p : Pair) × Among p P × (p.1 ≡ v) × (has S p.0 ≡ true)) ⊎ ((p : Pair) → Among p P → p.1 ≡ v → has S p.0 ≡ true → ⊥)
 pair_above [] S v = inr (λ p m. absurd m)
@@ -116,7 +113,7 @@ module _ (P : List Pair) (acyclic : (v : ℕ) → Leads P v v → ⊥) where
         elim (passed a s.3) [
           | inl e ↦ absurd (acyclic a (subst (Leads P a) (sym e) step))
           | inr r ↦ elim r [
-            | inl l ↦ absurd (acyclic a (leads_trans step l))
+            | inl l ↦ absurd (acyclic a (leads_on step l))
             | inr there ↦ next a s.3 step there
           ]
         ]
@@ -131,7 +128,7 @@ module _ (P : List Pair) (acyclic : (v : ℕ) → Leads P v v → ⊥) where
         | inr ne ↦ elim (passed u hu) [
           | inl e ↦ inr (inl (subst (Leads P a) (sym e) step))
           | inr r ↦ elim r [
-            | inl l ↦ inr (inl (leads_trans step l))
+            | inl l ↦ inr (inl (leads_on step l))
             | inr t ↦ inr (inr (has_without a left u ∙ and_from _ _ t (not_from_false _ (ne_eqb a u (λ f. ne (sym f))))))
           ]
         ]

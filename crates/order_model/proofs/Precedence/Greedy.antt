@@ -25,8 +25,9 @@ use Rattle.order_model.proofs.Precedence.Lists.{lawful_from, lawful_same}
 use Rattle.order_model.proofs.Precedence.Sets.{among_pair}
 use Rattle.order_model.proofs.Precedence.Cycles.{acyclic_kept, greedy_is_first, some_top}
 use Rattle.order_model.proofs.Lists.Accepted.{member_at}
-use Rattle.order_model.proofs.Precedence.Masks.{filter_same, some_bit, not_one_from_zero, below_at}
+use Rattle.order_model.proofs.Precedence.Masks.{some_bit, not_one_from_zero, below_at}
 use Rattle.order_model.proofs.Precedence.MaskLaws.{member_bit, member_from}
+use Rattle.order_model.proofs.Lists.Ranges.{filter_same}
 
 -- ---- tops
 

@@ -1,7 +1,6 @@
 -- Lawful sets, kept orders and numbers of pairs, where the pairs are kept as masks.
 --     lawful_in, unlawful_in      whether a set is lawful, by the bits of the masks
 --     keeps_in, unkept_in      whether an order keeps the pairs, by the bits of the masks
---     length_members      a mask has as many members as ones
 --     rows_more, row_few      the number of pairs, one mask more; a mask has at most 15 of them
 --     row_pair, row_skip, row_end      the list of pairs, one variable and one mask more
 use Rattle.std.proofs.Common.{◌≡◌, ◌≢◌, ℕ, zero, suc, ◌+◌, ◌-◌, ◌*◌, ◌/◌, ◌%◌, ◌^◌, ◌<◌, ◌≤◌, Bool, true, false, cond, inl, inr, List, [], ◌∷◌, ◌++◌, map, length, get_or, refl, sym, ap, ap₂, ◌∙◌, subst, arith, nat_eq, eqb, eqb-true, eq-eqb, ne_eqb, bit_and, w16, pow_pos, lt-ltb, le-ltb, ltb, count_ones, length-append, lit<, add-one, append-nil, append_assoc}
@@ -26,7 +25,9 @@ use Rattle.order_model.proofs.Bits.Masks.{has_members, distinct_members, members
 use Rattle.order_model.proofs.Precedence.Lists.{lawful_at, lawful_from, keeps_at, keeps_from, above_places}
 use Rattle.order_model.proofs.Precedence.Sets.{pair_among, among_pair}
 use Rattle.order_model.proofs.Lists.Accepted.{index_of, variables_more, Seen}
-use Rattle.order_model.proofs.Precedence.Masks.{among_in, has_in, filter_same, some_bit, both_bits, and_bit, zero_or_one, not_one_from_zero}
+use Rattle.order_model.proofs.Precedence.Masks.{among_in, has_in, some_bit, both_bits, and_bit, zero_or_one, not_one_from_zero}
+use Rattle.order_model.proofs.Lists.Ranges.{filter_same}
+use Rattle.order_model.proofs.Bits.Ones.{ones-members}
 
 -- ---- lawful sets
 
@@ -120,27 +121,6 @@ ones_zero = let l = ones-le 0 0 (lit< tt) in omega arith
 ones_one : count_ones 1 ≡ 1
 ones_one = let l = ones-le 1 1 (lit< tt) in let z : count_ones 1 ≢ 0 = (λ e. let r = zero_from_ones 1 e in absurd (omega arith)) in omega arith
 
-pub length_members : (n m : ℕ) → m < 2 ^ n → length (members n m) ≡ count_ones m
-unfolding members
-length_members zero m h = sym (ap count_ones (let z : m ≡ 0 = omega arith in z) ∙ ones_zero)
-length_members (suc n) m h =
-    let r : m % 2 ^ n < 2 ^ n = mod-lt m (pow_pos n) in
-    let whole : m / 2 ^ n * 2 ^ n + m % 2 ^ n ≡ m = ap (λ q. q + m % 2 ^ n) (mul_comm (m / 2 ^ n) (2 ^ n)) ∙ div-add-mod m (2 ^ n) in
-    let few : m / 2 ^ n < 2 = (div-lt_iff_lt-mul (pow_pos n)).1 (let p : 2 ^ suc n ≡ 2 * 2 ^ n = pow-succ' 2 n in omega arith) in
-    let low : filter (λ x. eqb (bit_at m x) 1) (variables n) ≡ members n (m % 2 ^ n) = filter_same (λ x. eqb (bit_at m x) 1) (λ x. eqb (bit_at (m % 2 ^ n) x) 1) (variables n)
-    (λ x k. ap (λ b. eqb b 1) (ap (λ v. bit_at v x) (sym whole) ∙ bit_at_cat_low (m / 2 ^ n) n (m % 2 ^ n) x ((has_variables n x).0 k))) in
-    let split : members (suc n) m ≡ members n (m % 2 ^ n) ++ filter (λ x. eqb (bit_at m x) 1) (n ∷ []) =
-    ap (filter (λ x. eqb (bit_at m x) 1)) (sym (ap variables (add-one n)) ∙ variables_more n) ∙ filter-append (λ x. eqb (bit_at m x) 1) (variables n) (n ∷ []) ∙ ap (λ xs. xs ++ filter (λ x. eqb (bit_at m x) 1) (n ∷ [])) low in
-    let sum : count_ones m ≡ count_ones (m / 2 ^ n) + count_ones (m % 2 ^ n) = ap count_ones (sym whole) ∙ ones_cat n (m / 2 ^ n) (m % 2 ^ n) r in
-    let rest : length (members n (m % 2 ^ n)) ≡ count_ones (m % 2 ^ n) = length_members n (m % 2 ^ n) r in
-    let top : length (cond (eqb (bit_at m n) 1) (n ∷ []) []) ≡ count_ones (m / 2 ^ n) = last (m / 2 ^ n) few in
-    ap length split ∙ length-append (members n (m % 2 ^ n)) (filter (λ x. eqb (bit_at m x) 1) (n ∷ [])) ∙ omega (arith, top, rest, sum)
-  where
-    last : (q : ℕ) → q < 2 → length (cond (eqb (q % 2) 1) (n ∷ []) []) ≡ count_ones q
-    last zero l = sym ones_zero
-    last (suc zero) l = sym ones_one
-    last (suc (suc q)) l = absurd (omega arith)
-
 -- the pairs of the first k masks
 pub rows_to : ℕ → List ℕ → ℕ → List Pair
 rows_to n below k = flat_map (λ a. map (λ b. (a, b)) (members n (get_or below a 0))) (variables k)
@@ -157,7 +137,7 @@ pub rows_more : (n : ℕ) (below : List ℕ) (k : ℕ) → get_or below k 0 < 2 
 unfolding rows_to
 rows_more n below k h =
     let f : ℕ → List Pair = λ a. map (λ (b : ℕ). (a, b)) (members n (get_or below a 0)) in
-    let last : length (f k ++ []) ≡ count_ones (get_or below k 0) = ap length (append-nil (f k)) ∙ length-map (members n (get_or below k 0)) (λ (b : ℕ). (k, b)) ∙ length_members n (get_or below k 0) h in
+    let last : length (f k ++ []) ≡ count_ones (get_or below k 0) = ap length (append-nil (f k)) ∙ length-map (members n (get_or below k 0)) (λ (b : ℕ). (k, b)) ∙ sym (ones-members n (get_or below k 0) h) in
     ap (λ xs. length (flat_map f xs)) (variables_more k) ∙ ap length (flat_map-append f (variables k) (k ∷ [])) ∙ length-append (flat_map f (variables k)) (f k ++ []) ∙ ap (λ m. length (flat_map f (variables k)) + m) last
 
 -- a variable isn't below itself, so a mask has at most 15 ones
@@ -170,7 +150,7 @@ row_few n below k few h acyclic small =
       | inl s ↦ let q = eqb-true y k s in omega arith
       | inr r ↦ members_small n m y r
     ]) in
-    let c = length_members n m small in
+    let c = sym (ones-members n m small) in
     omega arith
 
 -- the pairs of the first k masks, and of mask k those with one of the first j variables below

@@ -4,7 +4,7 @@
 --     leads_same      what leads where depends on which pairs there are alone
 --     holds_masks      masks that a struct may hold
 --     some_bit, both_bits, bit_outside      bits of a mask, of what two masks share, and of what one mask has outside another
-use Rattle.std.proofs.Common.{◌≡◌, ◌≢◌, ◌↔◌, ℕ, zero, suc, ◌+◌, ◌*◌, ◌/◌, ◌%◌, ◌^◌, ◌<◌, ◌≤◌, pow_pos, pow_mono, replicate, Bool, true, cond, ◌⊎◌, inl, inr, List, [], ◌∷◌, map, length, get_or, refl, sym, ap, ap₂, ◌∙◌, subst, arith, nat_eq, eqb, eqb-true, eq-eqb, ◌++◌, bit_and, w16}
+use Rattle.std.proofs.Common.{◌≡◌, ◌≢◌, ◌↔◌, ℕ, zero, suc, ◌+◌, ◌*◌, ◌/◌, ◌%◌, ◌^◌, ◌<◌, ◌≤◌, pow_pos, pow_mono, replicate, Bool, true, ◌⊎◌, inl, inr, List, [], ◌∷◌, map, length, get_or, refl, sym, ap, ap₂, ◌∙◌, subst, arith, nat_eq, eqb, eqb-true, eq-eqb, ◌++◌, bit_and, w16}
 use Rattle.std.specs.Int.{bit_at}
 use Rattle.std.specs.List.{flat_map, filter, list_all}
 use Rattle.std.proofs.lemmas.Bool.{cases_Bool, cases_lt, or_left, or_right, and_parts, false≢true, true≢false}
@@ -21,13 +21,9 @@ use Rattle.order_model.proofs.Lists.Orders.{same_bool, has_variables}
 use Rattle.order_model.proofs.Widths.Recurrence.{among_has, has_among}
 use Rattle.order_model.proofs.Precedence.Sets.{pair_among, among_pair}
 use Rattle.order_model.proofs.Certificates.Potential.{all_among}
+use Rattle.order_model.proofs.Lists.Ranges.{filter_same}
 
 -- ---- lists
-
-pub filter_same : (p q : ℕ → Bool) (xs : List ℕ) → ((x : ℕ) → has xs x ≡ true → p x ≡ q x) → filter p xs ≡ filter q xs
-filter_same p q [] h = refl
-filter_same p q (x ∷ xs) h =
-    ap₂ (λ (b : Bool) (ys : List ℕ). cond b (x ∷ ys) ys) (h x (or_left _ _ (eq-eqb x x refl))) (filter_same p q xs (λ y m. h y (or_right _ _ m)))
 
 flat_map_same : {Y : Type 0} (f g : ℕ → List Y) (xs : List ℕ) → ((x : ℕ) → has xs x ≡ true → f x ≡ g x) → flat_map f xs ≡ flat_map g xs
 flat_map_same f g [] h = refl

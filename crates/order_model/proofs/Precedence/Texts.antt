@@ -3,7 +3,7 @@
 --     pair_without_comma, pair_at      the pair of a part
 --     ReadTo parts k below      the masks of the pairs of the first k parts
 --     read_none, read_more, read_all, read_fails      before the first part, one part more, after the last, a part without a pair
---     bad, out_of_range, cycle, accepted, holds      what is answered
+--     bad, out_of_range, cycle, accepted, holds      what is returned
 use Rattle.std.proofs.Common.{◌≡◌, ◌↔◌, ℕ, zero, suc, ◌+◌, ◌-◌, ◌*◌, ◌/◌, ◌%◌, ◌^◌, ◌<◌, ◌≤◌, Bool, true, false, cond, ◌&&◌, ◌||◌, ◌⊎◌, inl, inr, List, [], ◌∷◌, ◌++◌, length, get_or, take, drop, set, refl, sym, ap, ap₂, ◌∙◌, subst, arith, nat_eq, eqb, eqb-true, eq-eqb, le-ltb, lt-ltb, Option, Some, None, Ok, Err, bit_or, w16, lit<, take_all}
 use Rattle.std.specs.Prelude.{decimal}
 use Rattle.std.specs.Int.{bit_at}
@@ -268,7 +268,7 @@ read_all parts k below r h =
 pub read_fails : (parts : List (List ℕ)) (k : ℕ) (part : List ℕ) → k < length parts → part ≡ get_or parts k part → pair_of part ≡ None → AreMasksOf (pairs_of parts) None
 read_fails parts k part h e f = subst (λ (o : Option (List Pair)). AreMasksOf o None) (sym (pairs_of-fails parts k part h (ap pair_of (sym e) ∙ f))) tt
 
--- ---- what is answered
+-- ---- what is returned
 
 pub bad : (o : Option (List Pair)) (n : ℕ) → AreMasksOf o None → ParsesAs o n (Err BadPair)
 bad None n m = tt

@@ -1,5 +1,5 @@
 -- The variables by falling count, ties by smaller index.
---     sifting_order_lem      each variable stands once, behind those of larger count and those of the same count that are smaller
+--     sifting_order_lem      each variable stands once, after those of larger count and those of the same count that are smaller
 use Rattle.std.proofs.Common.{◌≡◌, ℕ, zero, suc, ◌+◌, ◌<◌, ◌≤◌, Bool, true, false, cond, ◌||◌, ◌⊎◌, inl, inr, List, [], ◌∷◌, refl, sym, ap, ◌∙◌, subst, arith, nat_eq, eqb-true, eq-eqb, ltb}
 use Rattle.std.specs.List.{fold, range_with_len, IsDistinct}
 use Rattle.std.proofs.lemmas.Bool.{false≢true, cases_Bool, or_cases, or_left, or_right, ltb-true, ltb-false}
@@ -23,7 +23,7 @@ module _ (count : ℕ → ℕ) where
     | inr a ↦ let e = a.0 in let l = a.1 in elim k [ inl b ↦ omega arith | inr b ↦ let m = b.1 in omega arith ]
   ]
 
-  -- each goes in front of those behind it
+  -- each goes in front of those after it
   unfoldable IsSorted : List ℕ → Type 0
   IsSorted [] = Unit {0}
   IsSorted (y ∷ ys) = ((z : ℕ) → has ys z ≡ true → Before y z) × IsSorted ys

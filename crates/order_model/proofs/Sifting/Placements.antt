@@ -57,7 +57,7 @@ smallest_of_lem n F order own (first ∷ others) m = let s = smallest_lem n F fi
 
 -- ---- placements
 
-without_absent : (x : ℕ) (xs : List ℕ) → has xs x ≡ false → without x xs ≡ xs
+pub without_absent : (x : ℕ) (xs : List ℕ) → has xs x ≡ false → without x xs ≡ xs
 unfolding without
 without_absent x [] h = refl
 without_absent x (y ∷ xs) h =
@@ -148,7 +148,7 @@ inserted_has count x (y ∷ ys) z h = by (ltb (count y) (count x)) h (inserted_h
       | inr m ↦ elim (r m) [ inl e ↦ inl e | inr f ↦ inr (or_right (nat_eq z y) _ f) ]
     ]
 
-all_inserted : (count : ℕ → ℕ) (n : ℕ) (xs ys : List ℕ) → ((z : ℕ) → has xs z ≡ true → z < n) → ((z : ℕ) → has ys z ≡ true → z < n) →
+pub all_inserted : (count : ℕ → ℕ) (n : ℕ) (xs ys : List ℕ) → ((z : ℕ) → has xs z ≡ true → z < n) → ((z : ℕ) → has ys z ≡ true → z < n) →
     (z : ℕ) → has (fold (λ zs x. insert_by_count count x zs) ys xs) z ≡ true → z < n
 all_inserted count n [] ys a b z h = b z h
 all_inserted count n (x ∷ xs) ys a b z h =

@@ -1,6 +1,6 @@
 -- What a cell says, within the bound and beyond it, and how it follows from the cells of smaller sets.
 --     open_cell, closed_cell      a cell within the bound, and a clipped one
---     next_within      behind the best top the set is within the bound, too
+--     next_within      below the best top the set is within the bound, too
 --     cell_from_smaller      the cell from the costs without one member and the widths
 use Rattle.std.proofs.Common.{◌≡◌, ◌≢◌, ℕ, zero, suc, ◌+◌, ◌-◌, ◌^◌, ◌<◌, ◌≤◌, Bool, true, false, not, cond, ◌&&◌, inl, inr, List, [], ◌∷◌, map, length, refl, sym, ap, ◌∙◌, subst, arith, nat_eq, eqb, eqb-true, eq-eqb, ne_eqb, leb, leb-true, le-leb}
 use Rattle.std.specs.Int.{bit_at}
@@ -169,7 +169,7 @@ cell_smallest n F P base bound mask y o k h t e =
     let parts = and_parts (has (members n mask) y) (is_lawful P (without y (members n mask))) (sym (has_tops P (members n mask) y) ∙ t) in
     (open_cell n F P base o k bound mask y parts.0 h).smallest y parts.0 parts.1 e
 
--- behind a top of the least cost the set is within the bound, too
+-- below a top of the least cost the set is within the bound, too
 pub next_within : (n : ℕ) (F : List Function) (P : List Pair) (base : List ℕ) → IsOrder n base → Keeps P base → (bound mask x : ℕ) → is_within n F P bound (members n mask) ≡ true →
     has (members n mask) x ≡ true → is_lawful P (without x (members n mask)) ≡ true → least_with_top n F P (members n mask) x ≡ least n F P (members n mask) →
     is_within n F P bound (members n (mask - 2 ^ x)) ≡ true

@@ -20,18 +20,18 @@ module _ {K : Type 0} (eq : K → K → Bool) (decides : (x y : K) → (eq x y �
   differs x y ne = false_from_ne_true (eq x y) (λ e. ne ((decides x y).0 e))
 
   -- the elements before the first one equal to t
-  before : List K → K → List K
+  unfoldable pub before : List K → K → List K
   before ts t = take_while (λ u. not (eq t u)) ts
 
-  before_here : (w : K) (ts : List K) (t : K) → eq t w ≡ true → before (w ∷ ts) t ≡ []
+  pub before_here : (w : K) (ts : List K) (t : K) → eq t w ≡ true → before (w ∷ ts) t ≡ []
   unfolding before
   before_here w ts t e = take_while-cons (λ u. not (eq t u)) w ts ∙ ap (λ b. cond (not b) (w ∷ take_while (λ u. not (eq t u)) ts) []) e
 
-  before_next : (w : K) (ts : List K) (t : K) → eq t w ≡ false → before (w ∷ ts) t ≡ w ∷ before ts t
+  pub before_next : (w : K) (ts : List K) (t : K) → eq t w ≡ false → before (w ∷ ts) t ≡ w ∷ before ts t
   unfolding before
   before_next w ts t e = take_while-cons (λ u. not (eq t u)) w ts ∙ ap (λ b. cond (not b) (w ∷ take_while (λ u. not (eq t u)) ts) []) e
 
-  not_among_before : (ts : List K) (t : K) → Among t (before ts t) → ⊥
+  pub not_among_before : (ts : List K) (t : K) → Among t (before ts t) → ⊥
   unfolding before
   not_among_before [] t h = h
   not_among_before (w ∷ ts) t h =
@@ -141,7 +141,7 @@ has_reverse (x ∷ xs) y =
     turn false true = refl
     turn false false = refl
 
-filter_map_same : {X Y : Type 0} (p : X → Bool) (q : Y → Bool) (f : X → Y) (xs : List X) → ((x : X) → Among x xs → p x ≡ q (f x)) → filter q (map f xs) ≡ map f (filter p xs)
+pub filter_map_same : {X Y : Type 0} (p : X → Bool) (q : Y → Bool) (f : X → Y) (xs : List X) → ((x : X) → Among x xs → p x ≡ q (f x)) → filter q (map f xs) ≡ map f (filter p xs)
 filter_map_same p q f [] h = refl
 filter_map_same p q f (x ∷ xs) h = by (p x) (q (f x)) (h x (inl refl)) (filter_map_same p q f xs (λ y k. h y (inr k)))
   where

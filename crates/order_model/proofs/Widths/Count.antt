@@ -1,11 +1,10 @@
 -- All sets together take at most n * 2 ^ (n - 1) widths; and the mask of the essential variables.
 --     widths_bound      twice the number of widths is at most n * 2 ^ n
 --     essential_members      the members of the mask of the essential variables are these
-use Rattle.std.proofs.Common.{◌≡◌, ℕ, zero, suc, ◌+◌, ◌-◌, ◌*◌, ◌^◌, ◌<◌, ◌≤◌, Bool, true, false, cond, ◌&&◌, List, [], ◌∷◌, ◌++◌, map, length, refl, sym, ap, ap₂, ◌∙◌, subst, arith, eqb, eq-eqb, leb, lit≤}
+use Rattle.std.proofs.Common.{◌≡◌, ℕ, zero, suc, ◌+◌, ◌-◌, ◌*◌, ◌^◌, ◌<◌, ◌≤◌, Bool, true, false, cond, ◌&&◌, List, [], ◌∷◌, ◌++◌, map, length, refl, sym, ap, ap₂, ◌∙◌, subst, arith, eqb, leb, lit≤}
 use Rattle.std.specs.Int.{bit_at}
 use Rattle.std.specs.List.{filter, list_any, sum, range_with_len}
 use Rattle.std.proofs.Math.Nat.{suc-mul, two-pow-succ, mul-add, mul-one}
-use Rattle.std.proofs.lemmas.Bool.{or_left, or_right}
 use Rattle.std.proofs.lemmas.List.Sums.{sum_by-cons}
 use Rattle.std.proofs.lemmas.Nat.Bits.{bit_at_above, bit_at_cat_low, bit_at_cat_high}
 use Rattle.order_model.specs.Functions.{Function, depends}
@@ -16,6 +15,7 @@ use Rattle.order_model.specs.Cells.{cell_cost, wanted, widths_taken}
 use Rattle.order_model.proofs.Lists.Orders.{has_variables, has_filter}
 use Rattle.order_model.proofs.Bits.Masks.{bit-mask_of}
 use Rattle.order_model.proofs.Widths.Essential.{distinct_essential}
+use Rattle.order_model.proofs.Lists.Ranges.{range_last, filter_at_most, filter_same}
 
 -- ---- sums over ranges
 
@@ -64,22 +64,6 @@ filter_append p (x ∷ xs) ys = by (p x) (filter_append p xs ys)
     by : (b : Bool) → filter p (xs ++ ys) ≡ filter p xs ++ filter p ys → cond b (x ∷ filter p (xs ++ ys)) (filter p (xs ++ ys)) ≡ cond b (x ∷ filter p xs) (filter p xs) ++ filter p ys
     by true e = ap (λ zs. x ∷ zs) e
     by false e = e
-
-filter_same : (p q : ℕ → Bool) (xs : List ℕ) → ((y : ℕ) → has xs y ≡ true → p y ≡ q y) → filter p xs ≡ filter q xs
-filter_same p q [] h = refl
-filter_same p q (x ∷ xs) h = ap₂ (λ b zs. cond b (x ∷ zs) zs) (h x (or_left _ _ (eq-eqb x x refl))) (filter_same p q xs (λ y m. h y (or_right _ _ m)))
-
-range_last : (k a : ℕ) → range_with_len a (suc k) ≡ range_with_len a k ++ (a + k) ∷ []
-range_last zero a = ap (λ u. u ∷ []) (omega arith)
-range_last (suc k) a = ap (λ zs. a ∷ zs) (range_last k (a + 1) ∙ ap (λ u. range_with_len (a + 1) k ++ u ∷ []) (let s : a + 1 + k ≡ a + suc k = omega arith in s))
-
-filter_length : (p : ℕ → Bool) (xs : List ℕ) → length (filter p xs) ≤ length xs
-filter_length p [] = omega arith
-filter_length p (x ∷ xs) = by (p x) (filter_length p xs)
-  where
-    by : (b : Bool) → length (filter p xs) ≤ length xs → length (cond b (x ∷ filter p xs) (filter p xs)) ≤ length (x ∷ xs)
-    by true le = omega arith
-    by false le = omega arith
 
 length_append : (xs ys : List ℕ) → length (xs ++ ys) ≡ length xs + length ys
 length_append [] ys = omega arith
@@ -149,8 +133,8 @@ widths_bound n F P bound =
   where
     few : (mask : ℕ) → length (wanted n F P bound mask) ≤ length (members n mask)
     few mask =
-        let a = filter_length (λ x. is_lawful P (members n mask) && leb (cell_cost n F P bound (mask - 2 ^ x)) bound) (tops P (members n mask)) in
-        let b = filter_length (λ x. is_lawful P (without x (members n mask))) (members n mask) in
+        let a = filter_at_most (λ x. is_lawful P (members n mask) && leb (cell_cost n F P bound (mask - 2 ^ x)) bound) (tops P (members n mask)) in
+        let b = filter_at_most (λ x. is_lawful P (without x (members n mask))) (members n mask) in
         omega arith
 
 -- the members of the mask of the essential variables

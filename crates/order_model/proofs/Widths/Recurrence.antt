@@ -148,7 +148,7 @@ arrangement_lem (suc k) S d l xs h =
     } in
     subst (IsArrangement S) (sym tail.2) is
 
--- behind its first variable, a list of the members is one of the others
+-- after its first variable, a list of the members is one of the others
 pub tail_arrangement : (x : ℕ) (xs S : List ℕ) → IsArrangement S (x ∷ xs) → IsArrangement (without x S) xs
 unfolding IsDistinct
 tail_arrangement x xs S a = record { members = others; once = a.once.1 }
@@ -214,7 +214,7 @@ lawful_cons P x xs S l h a =
     let whole = cons_arrangement x xs S h a.arrangement in
     record { arrangement = whole; lawful = are_lawful_from P x xs (lawful_same P (x ∷ xs) S whole.members ∙ l) a.lawful }
 
--- the set behind the top of a lawful list is lawful
+-- the set below the top of a lawful list is lawful
 pub lawful_behind : (P : List Pair) (x : ℕ) (xs S : List ℕ) → IsLawfulList P S (x ∷ xs) → is_lawful P (without x S) ≡ true
 lawful_behind P x xs S a =
     let tail = lawful_tail P x xs S a in

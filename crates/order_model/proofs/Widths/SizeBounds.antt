@@ -29,7 +29,7 @@ order_length n order o =
     let a = arrangement_from_order n order o in
     length-from_same_keys nat_eq_equiv order (variables n) a.once (distinct_variables n) a.members ∙ length-range_with_len 0 n
 
-length-subfunctions : (xs : List ℕ) (f : Function) → length (subfunctions xs f) ≡ 2 ^ length xs
+pub length-subfunctions : (xs : List ℕ) (f : Function) → length (subfunctions xs f) ≡ 2 ^ length xs
 unfolding subfunctions
 length-subfunctions [] f = refl
 length-subfunctions (x ∷ xs) f =

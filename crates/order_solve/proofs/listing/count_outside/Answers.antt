@@ -1,5 +1,5 @@
 use Rattle.std.proofs.Common.{arith}
-use Rattle.subset_layers.proofs.CellSteps.{outside_count}
+use Rattle.order_model.proofs.Widths.Outside.{outside_count}
 use Rattle.order_solve.proofs.listing.count_outside.Goals as goal
 
 pub returns-clause-exact : goal.returns-clause-exact

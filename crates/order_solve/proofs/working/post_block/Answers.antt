@@ -5,11 +5,11 @@ use Rattle.std.proofs.lemmas.Option.{slice_get_within, get_or_from_slice_get}
 use Rattle.layer_core.proofs.Layouts.{length-map_lem}
 use Rattle.subset_layers.specs.Layers.{block_masks}
 use Rattle.subset_layers.specs.declared.costs.Cell.{Cell}
-use Rattle.subset_layers.proofs.BlockLists.{has_get}
 use Rattle.layer_core.specs.Settings.{cell_for}
 use Rattle.layer_core.specs.Pairing.{pair_of}
 use Rattle.order_solve.specs.Gains.{IsPosted}
 use Rattle.order_solve.proofs.Posts.{stays_trans, posted_stays}
+use Rattle.order_model.proofs.Lists.Accepted.{index_of}
 use Rattle.order_solve.proofs.working.post_block.Goals as goal
 
 pub post_cell-requires-clause-cell : goal.post_cell-requires-clause-cell
@@ -40,7 +40,7 @@ loop-i-preserved g c =
 pub returns-clause-posted : goal.returns-clause-posted
 returns-clause-posted g c = λ mask m.
     let masks = block_masks c.args.block.now in
-    let k = has_get masks mask m in
+    let k = index_of masks mask m in
     let f = c.loop-i-test.false in
     let l = c.len-i-end.ensures.value in
     subst (λ (n : ℕ). IsPosted c.loop-i.seat n) k.2 (c.loop-i.invariant.posted k.0 (omega (arith, k.1, f, l)))

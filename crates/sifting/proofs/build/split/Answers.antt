@@ -5,8 +5,8 @@ use Rattle.order_model.specs.Diagrams.{IsBefore}
 use Rattle.order_model.proofs.Nodes.Paths.{before_more}
 use Rattle.sifting.specs.Cuts.{code_of, ref_of, split_ref, ref_at, SplitsFirst}
 use Rattle.sifting.proofs.Making.{numbers_step}
-use Rattle.sifting.proofs.Rooting.{numbers_decide}
 use Rattle.sifting.proofs.Cutting.{half, split_before}
+use Rattle.order_model.proofs.Lists.Sets.{nat_decides}
 use Rattle.sifting.proofs.build.split.Goals as goal
 
 pub code-requires : goal.code-requires
@@ -28,7 +28,7 @@ loop-r-preserved c =
     let off : ℕ → ℕ = λ k. code_of (split_ref c.args.nodes.now c.args.variable (ref_at c.args.cut.now k)).0 in
     let on : ℕ → ℕ = λ k. code_of (split_ref c.args.nodes.now c.args.variable (ref_at c.args.cut.now k)).1 in
     let eq : ℕ → ℕ → Bool = nat_eq in
-    numbers_step 0 off on eq numbers_decide c.loop-r.r-index c.loop-r.level.items c.push.new.self.items c.loop-r.codes.keys c.insert_full.new.self.keys c.insert_full-in-loop-r.new.self.keys
+    numbers_step 0 off on eq nat_decides c.loop-r.r-index c.loop-r.level.items c.push.new.self.items c.loop-r.codes.keys c.insert_full.new.self.keys c.insert_full-in-loop-r.new.self.keys
     c.code.result c.code-in-loop-r.result c.in_ok-off.off c.in_ok-on.on c.loop-r.invariant
     (c.code.ensures ∙ ap (λ (h : Ref × Ref). code_of h.0) c.halves-low.ensures) (c.code-in-loop-r.ensures ∙ ap (λ (h : Ref × Ref). code_of h.1) c.halves-low.ensures)
     c.in_ok-off.ensures.keys c.in_ok-off.ensures.index c.in_ok-on.ensures.keys c.in_ok-on.ensures.index c.in_ok-push.ensures.items

@@ -1,7 +1,7 @@
 use Rattle.std.proofs.Common.{◌∷◌, [], ◌++◌, length, nat_eq, ap, ap₂, ◌∙◌, sym, arith}
 use Rattle.std.proofs.lemmas.List.FromFn.{map-range_with_len_more}
 use Rattle.order_model.specs.Orders.{members}
-use Rattle.subset_layers.proofs.Sizes.{ones-members}
+use Rattle.order_model.proofs.Bits.Ones.{ones-members}
 use Rattle.subset_layers.proofs.layers.size_flags.Goals as goal
 
 pub loop-mask-preserved : goal.loop-mask-preserved

@@ -1,15 +1,12 @@
 use Rattle.std.proofs.Common.{◌≡◌, ◌+◌, ◌-◌, ◌/◌, ◌^◌, ◌≤◌, ℕ, List, take, set, replicate, refl, sym, ap, ◌∙◌, subst, arith}
 use Rattle.std.proofs.lemmas.Nat.{one_shl}
-use Rattle.std.proofs.lemmas.Nat.Bits.{ones_shr}
 use Rattle.order_model.specs.OrderFaults.{Accepts, Refuses}
 use Rattle.order_model.specs.Pairs.{IsFirstOrder}
 use Rattle.order_model.specs.KeptPairs.{KeptPairs, CanBeKept}
 use Rattle.order_model.proofs.Precedence.MaskLaws.{member_bit}
 use Rattle.order_model.proofs.Precedence.Greedy.{GreedyTo, pow_le_bit, top_parts, greedy_start, greedy_some, greedy_step, greedy_end, first_accepted, in_range}
+use Rattle.order_model.proofs.Bits.Masks.{all_ones}
 use Rattle.order_model.proofs.pairs.Pairs.first_order.Goals as goal
-
-all_below : (n : ℕ) → n ≤ 16 → 65535 / 2 ^ (16 - n) ≡ 2 ^ n - 1
-all_below n h = ones_shr 16 (16 - n) (omega arith) ∙ ap (λ (k : ℕ). 2 ^ k - 1) (omega arith)
 
 same : (v w : KeptPairs) → v ≡ w → v.inputs ≡ w.inputs
 same v w e = ap (λ (u : KeptPairs). u.inputs) e
@@ -21,7 +18,7 @@ pub loop-place-init : goal.loop-place-init
 loop-place-init c =
     let n = c.args.self.now.inputs in
     let kept = kept_of _ _ c.self.view_is c.self.invariant.kept in
-    subst (λ (m : ℕ). GreedyTo n c.args.self.now.pairs (replicate 16 0) 0 m) (sym (all_below n kept.few) ∙ ap (λ (k : ℕ). 65535 / 2 ^ (16 - k)) (sym (same _ _ c.self.view_is)))
+    subst (λ (m : ℕ). GreedyTo n c.args.self.now.pairs (replicate 16 0) 0 m) (sym (all_ones n kept.few) ∙ ap (λ (k : ℕ). 65535 / 2 ^ (16 - k)) (sym (same _ _ c.self.view_is)))
     (greedy_start n c.args.self.now.pairs (replicate 16 0) kept refl)
 
 pub smallest_top-x-requires-clause-some : goal.smallest_top-x-requires-clause-some

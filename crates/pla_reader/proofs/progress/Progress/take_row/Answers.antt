@@ -1,11 +1,12 @@
 use Rattle.std.proofs.Common.{◌≡◌, ◌∙◌, ◌&&◌, refl, false, is_some}
 use Rattle.pla_reader.specs.Progress.{state_of}
-use Rattle.pla_reader.proofs.LineLemmas.{and_false, refused, row_fault, headless_row, takes_row}
+use Rattle.pla_reader.proofs.LineLemmas.{refused, row_fault, headless_row, takes_row}
+use Rattle.std.proofs.Math.Bool.{and-false}
 use Rattle.pla_reader.proofs.progress.Progress.take_row.Goals as goal
 
 pub returns-in_default : goal.returns-in_default
 returns-in_default c before agrees =
-    let none : (is_some c.args.self.now.inputs && is_some c.args.self.now.outputs) ≡ false = rw c.in_default.is-1 (and_false (is_some c.args.self.now.inputs)) in
+    let none : (is_some c.args.self.now.inputs && is_some c.args.self.now.outputs) ≡ false = rw c.in_default.is-1 (and-false (is_some c.args.self.now.inputs)) in
     headless_row before (state_of c.args.self.now) _ agrees none
 
 pub returns-in_default-2 : goal.returns-in_default-2

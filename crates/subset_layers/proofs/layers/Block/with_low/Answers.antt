@@ -2,10 +2,11 @@ use Rattle.std.proofs.Common.{◌≡◌, ◌≤◌, ◌<◌, ℕ, ◌+◌, ◌*�
 use Rattle.std.specs.List.{filter, range_with_len}
 use Rattle.std.proofs.lemmas.List.{length-set}
 use Rattle.order_model.specs.Orders.{members}
-use Rattle.subset_layers.proofs.Sizes.{ones-members}
-use Rattle.subset_layers.proofs.BlockLists.{block_masks_are, power_small, mask_small, high_mask, high_no_mask}
+use Rattle.order_model.proofs.Bits.Ones.{ones-members}
+use Rattle.subset_layers.proofs.BlockLists.{block_masks_are, mask_small, high_mask, high_no_mask}
 use Rattle.subset_layers.proofs.layers.Block.with_low.Goals as goal
 use Rattle.subset_layers.proofs.layers.Block.with_low.Goals.{then-mask-size, else-mask-size}
+use Rattle.order_model.proofs.Bits.Masks.{power_small}
 
 -- the end of the loop
 highs_are : (n : ℕ) → n ≤ 16 → (1 * 2 ^ n % 18446744073709551616 + 256 - 1) / 256 ≡ (2 ^ n + 255) / 256
