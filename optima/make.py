@@ -24,7 +24,7 @@ CASES = "crates/worked_cases/data"
 COLUMNS = ["family", "name", "inputs", "outputs", "file order nodes", "sifted nodes", "optimum", "first optimal order", "level counts", "listed sets", "sha256 of the PLA file", "sha256 of the certificate"]
 ABOUT = """# True optima
 
-The fewest decision nodes that any variable order gives, of functions that the field measures orders on. A node is a decision node of the shared reduced ordered diagram of all outputs, with one root an output and without complement edges; terminals aren't counted. Packages with complement edges (CUDD) have other numbers.
+The fewest decision nodes that any variable order gives, of functions that the field measures orders on. A node is a decision node of the shared reduced ordered diagram of all outputs, with one root per output and without complement edges; terminals aren't counted. Packages with complement edges (CUDD) have other numbers.
 
 Each optimum is proved: `minorder` found it, and `ordercheck`, which shares no code with the search, accepted its certificate. `optima/functions.py NAME` writes a function's PLA file, and
 
