@@ -3,11 +3,14 @@
 --     Tells plan file outcome      what the outcome says of the bytes of the file
 --     Delivers plan IsRead before after outcome      what the writers get, by what is known of the cover that was read
 --     IsPlanOf words plan, EndsWell words before after      the plan of words; what a program writes that ends with status 0
+--     IsHindered plan IsRead outcome      which faults need a cover that was read
+--     IsRunOf words, IsFullRunOf words, IsFaultyRunOf words      what words ask for that end with the statuses 3, 6 and 8
 --     FailsOnlyByDevice ..      when calls of its devices failed
-use Rattle.std.specs.Prelude.{◌≡◌, ◌⊎◌, ℕ, ◌+◌, ◌<◌, ◌≤◌, Bool, true, false, List, length, take, Option, Some, None, codes, option_map}
+use Rattle.std.specs.Prelude.{◌≡◌, ◌⊎◌, ℕ, ◌+◌, ◌<◌, ◌≤◌, Bool, true, false, List, length, take, Option, Some, None, Err, codes, option_map}
 use Rattle.std.specs.Borrow.{Bor}
 use Rattle.std.specs.Io.KnownBytes.{Appends}
 use Rattle.order_model.specs.Certificates.{Certificate, IsGood}
+use Rattle.order_model.specs.declared.pairs.PairsFault.{PairsFault}
 use Rattle.certificate.specs.Faults.{Spells}
 use Rattle.pla_reader.specs.Covers.{NamedCover, IsCover}
 use Rattle.pla_reader.specs.Reading.{Reads, FirstFault}
@@ -16,8 +19,8 @@ use Rattle.command_line.specs.Lines.{IsFlag, IsNumber, minorder, read_of, value_
 use Rattle.command_line.specs.Usages.{AsksForHelp}
 use Rattle.report.specs.declared.outcome.Outcome.{Outcome}
 use Rattle.report.specs.declared.outcome.Outcome.TheVariants.{Done, Invalid, Refused}
-use Rattle.report.specs.declared.outcome.Fault.TheVariants.{Line, TooLong, OutOfMemory, Device, CertificateLine, CertificateTooLong}
-use Rattle.report.specs.Answers.{IsTextOf, IsCertificateOf, Hinders}
+use Rattle.report.specs.declared.outcome.Fault.TheVariants.{Line, TooLong, OutOfMemory, Device, StoreFull, Pairs, CertificateLine, CertificateTooLong}
+use Rattle.report.specs.Answers.{IsTextOf, IsCertificateOf, Hinders, PairsAre}
 use Rattle.report.specs.Texts.{functions_of}
 
 -- the longest input
@@ -113,6 +116,24 @@ DeliversReport plan IsRead before after (Refused fault) = after ≡ before
 -- what it leaves on its output where a device failed: nothing, or a beginning of the text of some cover
 abbrev pub EndsInPart : List (List ℕ) → Option (List ℕ) → Option (List ℕ) → Type 0
 EndsInPart words before after = (after ≡ before) ⊎ ((plan : RunPlan) × IsPlanOf words plan × (cover : NamedCover) × (text : List ℕ) × (n : ℕ) × IsCover cover × IsTextOf plan cover text × Appends before after (take n text))
+
+-- a run that no store is large enough for, and one whose pairs are faulty, have read a cover that is hindered so
+abbrev pub IsHindered : RunPlan → (NamedCover → Type 0) → Outcome → Type 0
+IsHindered plan IsRead (Refused StoreFull) = (cover : NamedCover) × IsRead cover × Hinders plan cover StoreFull
+IsHindered plan IsRead (Refused (Pairs fault)) = (cover : NamedCover) × IsRead cover × Hinders plan cover (Pairs fault)
+IsHindered plan IsRead _ = Unit {0}
+
+-- the words ask for a run
+abbrev pub IsRunOf : List (List ℕ) → Type 0
+IsRunOf words = (plan : RunPlan) × IsPlanOf words plan
+
+-- the words ask for a run without count
+abbrev pub IsFullRunOf : List (List ℕ) → Type 0
+IsFullRunOf words = (plan : RunPlan) × IsPlanOf words plan × (plan.count ≡ false)
+
+-- the words ask for a run without count, with a list of pairs that is faulty for some cover
+abbrev pub IsFaultyRunOf : List (List ℕ) → Type 0
+IsFaultyRunOf words = (plan : RunPlan) × IsPlanOf words plan × (plan.count ≡ false) × (cover : NamedCover) × IsCover cover × (fault : PairsFault) × PairsAre plan.above cover.inputs (Err fault)
 
 -- how many calls failed, before and after
 abbrev pub FailsOnlyByDevice : ℕ → ℕ → Outcome → Type 0

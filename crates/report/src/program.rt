@@ -5,7 +5,7 @@ ghost use Rattle.order_model.specs.Orders.{has};
 ghost use Rattle.command_line.specs.Lines.{LacksArguments, minorder as minorder_line, texts};
 ghost use Rattle.command_line.specs.Usages.{AreFaulty};
 ghost use Rattle.pla_reader.specs.Covers.{IsCover};
-ghost use Rattle.report.specs.Runs.{DeliversReport, EndsInPart, EndsWell};
+ghost use Rattle.report.specs.Runs.{DeliversReport, EndsInPart, EndsWell, IsFaultyRunOf, IsFullRunOf, IsHindered, IsRunOf};
 ghost use Rattle.report.specs.Statuses.{exits};
 
 use crate::messages::{write_fault, write_usage};
@@ -24,7 +24,8 @@ fn run_on_files<'a, R: Files + AllocGlobal + Threads + Sync, W: CountedWrite>(
     out: &mut W,
 ) -> Outcome
     requires { W.failures out.old < 2 ^ 32 }
-    ensures { DeliversReport line.now.plan IsCover (W.contents out.old) (W.contents out.new) result }
+    ensures report { DeliversReport line.now.plan IsCover (W.contents out.old) (W.contents out.new) result }
+    ensures hindered { IsHindered line.now.plan IsCover result }
 {
     let Ok(file) = fs::open(rt, line.file) else {
         return Outcome::Refused(Fault::Device);
@@ -58,6 +59,10 @@ pub fn minorder<'a, R: Files + AllocGlobal + Threads + Sync, W: CountedWrite, E:
     ensures refused { result ≡ 2 → AreFaulty minorder_line LacksArguments (texts words.now) }
     ensures answered { result ≡ 0 → EndsWell (texts words.now) (W.contents out.old) (W.contents out.new) }
     ensures part { result ≡ 5 → EndsInPart (texts words.now) (W.contents out.old) (W.contents out.new) }
+    // 3 is a run's fault, 6 that of a run without count, 8 that of a list of pairs that is faulty for some cover
+    ensures run { result ≡ 3 → IsRunOf (texts words.now) }
+    ensures full { result ≡ 6 → IsFullRunOf (texts words.now) }
+    ensures pairs { result ≡ 8 → IsFaultyRunOf (texts words.now) }
     ensures quiet { result ≡ 0 → E.contents err.new ≡ E.contents err.old }
     ensures silent { result ≢ 0 → result ≢ 5 → W.contents out.new ≡ W.contents out.old }
 {

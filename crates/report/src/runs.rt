@@ -6,7 +6,7 @@ ghost use Rattle.pla_reader.specs.Reading.{Reads};
 ghost use Rattle.report.specs.Answers.{HasCertificate, Hinders, IsTextOf};
 ghost use Rattle.report.specs.Headline.{PrintsOptimum};
 ghost use Rattle.report.specs.Texts.{count_text as text_of, file_order_levels};
-ghost use Rattle.report.specs.Runs.{Delivers, FailsOnlyByDevice, GetsText, Tells, WritesGood, failures_in, held};
+ghost use Rattle.report.specs.Runs.{Delivers, FailsOnlyByDevice, GetsText, IsHindered, Tells, WritesGood, failures_in, held};
 
 use crate::answers::{RunTexts, answer_texts, pairs_of};
 use crate::outcome::{Fault, Outcome, fault_of};
@@ -115,6 +115,7 @@ pub fn run<'a, R: Threads + Sync, F: CountedRead, W: CountedWrite, C: CountedWri
     ensures writes { IfSome (F.remaining file.old) (λ bytes. Delivers plan.now (Reads bytes) (held (W.contents out.old) (option_map C.contents cert.old))
         (held (W.contents out.new) (option_map C.contents cert.new)) result) }
     ensures answers { Delivers plan.now IsCover (held (W.contents out.old) (option_map C.contents cert.old)) (held (W.contents out.new) (option_map C.contents cert.new)) result }
+    ensures hindered { IsHindered plan.now IsCover result }
     // what the certificate's writer got reads as a good certificate
     ensures good { IfSome (F.remaining file.old) (λ bytes. WritesGood plan.now bytes (option_map C.contents cert.old) (option_map C.contents cert.new) result) }
     // the printed order is the first under which the file's functions have the fewest nodes
