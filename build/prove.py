@@ -1,5 +1,5 @@
 #!/usr/bin/env python3
-"""prove.py NAME              proves the crates that a program needs, side by side where they don't build on one another, and builds it
+"""prove.py NAME              proves the crates that a program or a static library needs, side by side where they don't build on one another, and builds it
 prove.py --folders NAME     writes their folders"""
 import fcntl
 import hashlib
@@ -94,16 +94,30 @@ class Build:
             shutil.rmtree(f"{TOP}/crates/{crate}/out/incremental", ignore_errors=True)
 
 
+def is_library(name):
+    with open(f"{TOP}/crates.txt") as lines:
+        return any(line.partition(":")[0].split() == [name, "staticlib"] for line in lines)
+
+
+def add_allocator(made):
+    """Puts what the library calls of the kit, its allocator over malloc, into the archive."""
+    kit = os.path.dirname(subprocess.run(["rt", "doc"], check=True, stdout=subprocess.PIPE, text=True).stdout.strip())
+    script = f"open {made}\naddlib {kit}/c/liblibc_c.a\nsave\nend\n"
+    subprocess.run(["ar", "-M"], check=True, input=script, text=True)
+
+
 def main(name):
     build = Build(name)
     folder = f"{TOP}/crates/{name}/out"
+    library = is_library(name)
+    made = f"{folder}/lib{name}.a" if library else f"{folder}/{name}"
     os.makedirs(folder, exist_ok=True)
     with open(f"{folder}/lock", "w") as lock:
         fcntl.flock(lock, fcntl.LOCK_EX)
         sources = sum_of_sources(build.crates)
         try:
             with open(f"{folder}/sources") as it:
-                if it.read() == sources and os.access(f"{folder}/{name}", os.X_OK):
+                if it.read() == sources and os.access(made, os.R_OK if library else os.X_OK):
                     return
         except OSError:
             pass
@@ -112,7 +126,11 @@ def main(name):
         # all others wait for the lowest, which may use all processors
         build.call(build.crates[0], "lib")
         build.call(name, "all", "check", "--jobs", str(jobs))
-        build.call(name, "run", "--", "--help")
+        if library:
+            build.call(name, "lib")
+            add_allocator(made)
+        else:
+            build.call(name, "run", "--", "--help")
         build.forget()
         with open(f"{folder}/sources", "w") as it:
             it.write(sources)

@@ -14,5 +14,5 @@ mod values;
 mod verdict;
 mod walk;
 
-pub use checking::check;
+pub use checking::{check, check_alone};
 pub use verdict::{Reason, Verdict};

@@ -3,10 +3,10 @@
 ghost use Rattle.std.specs.Prelude.{◌≡◌, ◌≤◌, length, IfOk};
 
 use crate::plain::Plain;
-use cert_check::{Verdict, check};
+use cert_check::{Verdict, check, check_alone};
 use certificate::Certificate;
-use dd_builder::build_tables;
 use counted_io::Counting;
+use dd_builder::build_tables;
 use order_model::{ListedCell, NoGate, Pairs, Workers};
 use order_solve::{Solution, solve};
 use pla_reader::read_cover;
@@ -147,7 +147,8 @@ fn judge_changed<R: Threads + Sync>(
             cell.cost = cost;
         }
         let cert = certificate_with(alloc, tables, pairs, solution, cells, format)?;
-        if check(rt, alloc, tables, &cert)? != plain.verdict(&cert) {
+        let verdict = check_alone(alloc, tables, &cert)?;
+        if verdict != plain.verdict(&cert) || check(rt, alloc, tables, &cert)? != verdict {
             return Err("another verdict".into());
         }
     }

@@ -66,4 +66,3 @@ digit_range c e = (grind (arith, nat_tests), grind (arith, nat_tests))
 pub no_digits : (xs : List ℕ) → 0 < length xs → is_ascii_digit (get_or xs 0 0) ≡ false → all_ascii_digits xs ≡ false
 no_digits [] some e = absurd (omega (arith, some))
 no_digits (x ∷ xs) some e = rw e refl
-

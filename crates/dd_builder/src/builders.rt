@@ -13,7 +13,7 @@ use crate::parts::Source;
 use crate::roots::publish_roots;
 use crate::workers::{Job, build_parts, jobs, joined};
 use order_model::laws::{some_diagram_has_the_level_counts, truth_tables_keep_functions};
-use order_model::{Diagram, Gate, Order, Workers};
+use order_model::{Diagram, Gate, NoGate, Order, Workers};
 use pla_reader::Cover;
 use std::alloc::{AllocError, Global};
 use std::thread;
@@ -224,6 +224,42 @@ pub fn build_tables<R: Threads + Sync, G: Gate>(
     let _plan = store.order();
     some_diagram_has_the_level_counts();
     from_tables(rt, alloc, store, session, tables, workers, gate)
+}
+
+/// All parts, built by the calling thread: its session, which knows them, or has met a full store.
+fn parts_alone(store: &Store, session: Session, source: Source<'_>) -> Result<Session, BuildError>
+    requires session { session.store ≡ store.now }
+    requires source { IsSourceFor store.now.plan source }
+    ensures parts { IfOk result (λ s. (s.store ≡ store.now) × HasAllParts s) }
+    ensures refused { IfErr result (Refuses store.now) }
+{
+    match build_parts(store, session, 1, 1, source, &NoGate) {
+        Ok(knowing) => Ok(knowing),
+        Err(full) => Err(BuildError::StoreFull(full)),
+    }
+}
+
+/// The same as `build_tables`, by the calling thread alone.
+pub fn build_tables_alone(
+    alloc: Global,
+    tables: &Tables,
+    order: &Order,
+) -> Result<Diagram, BuildError>
+    requires order { length order.now ≡ tables.now.inputs }
+    ensures order { IfOk result (λ d. d.order ≡ order.now) }
+    ensures diagram { IfOk result (λ d. Represents tables.now.inputs (functions tables.now) order.now d.graph) }
+    ensures reduced { IfOk result (λ d. IsReduced d.graph) }
+    ensures levels { IfOk result (λ d. HasLevelCounts tables.now.inputs (functions tables.now) order.now d.graph) }
+    ensures refused { IfErr result (RefusesUnder order.now tables.now) }
+{
+    let Ok((store, session)) = tables_store(alloc, tables, order) else {
+        return Err(BuildError::OutOfMemory);
+    };
+    let _plan = store.order();
+    some_diagram_has_the_level_counts();
+    let source = Source::Tables(tables);
+    let session = parts_alone(&store, session, source)?;
+    finish(alloc, store, session, source)
 }
 
 /// The reduced diagram of a cover's functions under an order, built from its terms in the store handed in or, where that is full, from its truth

@@ -11,7 +11,8 @@ mod tables;
 mod workers;
 
 pub use builders::{
-    build, build_from, build_tables, cover_store, from_cover, from_tables, tables_store,
+    build, build_from, build_tables, build_tables_alone, cover_store, from_cover, from_tables,
+    tables_store,
 };
 pub use errors::BuildError;
 pub use operations::apply;

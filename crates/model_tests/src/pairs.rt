@@ -1,6 +1,6 @@
 //! Pairs that an order must keep.
 
-use order_model::{Order, Pairs};
+use order_model::{Order, Pairs, PairsFault};
 use std::test::Fail;
 
 /// Texts, numbers of variables, and the words of the faults.
@@ -54,6 +54,23 @@ fn orders_keep_pairs(rt: HostRuntime) -> Result<(), Fail> {
     assert_eq!(rt;
         pairs.to_vec(rt.alloc())?.as_slice(),
         [(1, 0), (2, 0)].as_slice()
+    );
+    let same = Pairs::of(&[(2, 0), (1, 0), (2, 0)], 3)?;
+    assert_eq!(rt;
+        same.to_vec(rt.alloc())?.as_slice(),
+        [(1, 0), (2, 0)].as_slice()
+    );
+    assert_eq!(rt;
+        Pairs::of(&[(0, 1), (0, 3)], 3).err(),
+        Some(PairsFault::PairOutOfRange)
+    );
+    assert_eq!(rt;
+        Pairs::of(&[(0, 16)], 16).err(),
+        Some(PairsFault::PairOutOfRange)
+    );
+    assert_eq!(rt;
+        Pairs::of(&[(1, 2), (2, 1)], 3).err(),
+        Some(PairsFault::PairCycle(1))
     );
     let kept = Order::try_from_slice(rt.alloc(), &[1, 2, 0])?;
     assert_eq!(rt; kept.len(), 3);

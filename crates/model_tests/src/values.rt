@@ -2,8 +2,8 @@
 
 ghost use Rattle.std.specs.Prelude.{◌≤◌};
 
-use order_model::packed::{bit_of, block, depends_on, lower_half, words_per_table};
 use counted_io::{Counting, Refused, read_all, write_whole};
+use order_model::packed::{bit_of, block, depends_on, lower_half, words_per_table};
 use order_model::{BadOrder, Diagram, Gate, NoGate, Node, Order, Problem, Ref, Workers, eval};
 use std::alloc::{AllocError, Global};
 use std::io::{self, Read, Write};

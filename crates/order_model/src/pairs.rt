@@ -1,9 +1,9 @@
 //! Pairs of variables that an order must keep.
 
-ghost use Rattle.std.specs.Prelude.{◌≡◌, ◌==◌, ◌↔◌, ◌^◌, ◌<◌, ◌≤◌, ℕ, [], length, position, IsTrue, IfSome, IfNone, IfOk};
+ghost use Rattle.std.specs.Prelude.{◌≡◌, ◌==◌, ◌↔◌, ◌^◌, ◌<◌, ◌≤◌, ℕ, List, Option, Some, [], length, position, IsTrue, IfSome, IfNone, IfOk};
 ghost use Rattle.std.specs.Int.{bit_at};
 ghost use Rattle.order_model.specs.Orders.{has, members};
-ghost use Rattle.order_model.specs.Pairs.{has_pair, keeps, is_lawful, tops, sorted_pairs, IsFirstOrder, IsPairCycle};
+ghost use Rattle.order_model.specs.Pairs.{AreBelow, Pair, has_pair, keeps, is_lawful, tops, sorted_pairs, IsFirstOrder, IsPairCycle};
 ghost use Rattle.order_model.specs.KeptPairs.{pairs_in, AreWithin, IsJoined, CanBeKept, HasNoCycle};
 ghost use Rattle.order_model.specs.PairTexts.{number_of, pair_of, listed, AreMasksOf, ParsesAs};
 
@@ -130,6 +130,37 @@ fn least_on_cycle(below: &[Mask; 16]) -> Option<VarIx>
     None
 }
 
+/// The masks of pairs, if their numbers are below 16.
+fn masks_of(pairs: &[(VarIx, VarIx)]) -> Option<[Mask; 16]>
+    ensures some { IfSome result (λ below. AreMasksOf (Some pairs.now) (Some below)) }
+    ensures none { IfNone result (AreBelow 16 pairs.now → ⊥) }
+{
+    let mut below = [0; 16];
+    for i in 0..pairs.len() {
+        let (a, b) = pairs[i];
+        if a >= 16 || b >= 16 {
+            return None;
+        }
+        below[a as usize] |= 1 << b;
+    }
+    Some(below)
+}
+
+/// The first fault of the pairs that masks stand for, or these pairs.
+fn of_masks(below: [Mask; 16], n: u8) -> Result<Pairs, PairsFault>
+    requires some { 1 ≤ n }
+    requires few { n ≤ 16 }
+    ensures { (P : Option (List Pair)) → AreMasksOf P (Some below) → ParsesAs P n result }
+{
+    if !are_within(&below, n) {
+        return Err(PairsFault::PairOutOfRange);
+    }
+    match least_on_cycle(&below) {
+        Some(v) => Err(PairsFault::PairCycle(v)),
+        None => Ok(Pairs { inputs: n, below }),
+    }
+}
+
 impl Pairs {
     /// No pairs of n variables.
     pub fn none(n: u8) -> Pairs
@@ -153,13 +184,19 @@ impl Pairs {
         let Some(below) = listed_masks(text) else {
             return Err(PairsFault::BadPair);
         };
-        if !are_within(&below, n) {
+        of_masks(below, n)
+    }
+
+    /// The pairs (a, b) of n variables, in any order. A pair that is listed again counts once. None is a `BadPair`.
+    pub fn of(pairs: &[(VarIx, VarIx)], n: u8) -> Result<Pairs, PairsFault>
+        requires some { 1 ≤ n }
+        requires few { n ≤ 16 }
+        ensures { ParsesAs (Some pairs.now) n result }
+    {
+        let Some(below) = masks_of(pairs) else {
             return Err(PairsFault::PairOutOfRange);
-        }
-        match least_on_cycle(&below) {
-            Some(v) => Err(PairsFault::PairCycle(v)),
-            None => Ok(Pairs { inputs: n, below }),
-        }
+        };
+        of_masks(below, n)
     }
 
     /// How many variables there are: 1 to 16.

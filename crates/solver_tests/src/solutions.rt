@@ -2,10 +2,10 @@
 
 ghost use Rattle.std.specs.Prelude.{◌≡◌, IfOk};
 
-use dd_builder::build_tables;
 use counted_io::Counting;
-use order_model::{Gate, Mask, NoGate, Pairs, Problem, Workers};
-use order_solve::{Solution, solve};
+use dd_builder::{build_tables, build_tables_alone};
+use order_model::{Gate, Mask, NoGate, Order, Pairs, Problem, Workers};
+use order_solve::{Solution, solve, solve_alone};
 use pla_reader::read_cover;
 use sifting::laws::diagrams_have_their_problems_tables;
 use sifting::{Manager, Sifted};
@@ -199,6 +199,23 @@ fn solves_the_rows(rt: HostRuntime) -> Result<(), Fail> {
             }
         }
     }
+    Ok(())
+}
+
+#[test]
+fn solves_words_alone(rt: HostRuntime) -> Result<(), Fail> {
+    let alloc = rt.alloc();
+    let tables = Tables::of_words(alloc, 3, 1, &[0xff96])?;
+    let order = Order::try_from_slice(alloc, &[2, 1, 0])?;
+    let Ok(diagram) = build_tables_alone(alloc, &tables, &order) else {
+        return Err("not built".into());
+    };
+    diagrams_have_their_problems_tables(tables.problem());
+    let sifted = Manager::of(alloc, diagram)?.sift(alloc)?;
+    let found = solve_alone(alloc, tables.problem(), sifted)?;
+    assert_eq!(rt; found.order.variables(), [0u8, 1, 2].as_slice());
+    assert_eq!(rt; found.levels.as_slice(), [1u32, 2, 2].as_slice());
+    assert_eq!(rt; found.total, 5);
     Ok(())
 }
 

@@ -5,11 +5,11 @@ ghost use Rattle.unique_table.specs.Plans.{levels_of};
 ghost use Rattle.unique_table.specs.Sessions.{Knows, IsKnownBelow, Follows, depth_in};
 ghost use Rattle.dd_builder.specs.Building.{AreTablesOf};
 
+use counted_io::Counting;
 use dd_builder::{
     BuildError, apply, build, build_from, build_tables, cover_store, from_cover, from_tables,
     tables_store,
 };
-use counted_io::Counting;
 use order_model::{Diagram, Gate, NoGate, Order, Workers};
 use pla_reader::{Cover, read_cover};
 use std::alloc::{AllocError, Global};

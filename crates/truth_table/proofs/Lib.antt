@@ -5,3 +5,4 @@ pub mod LevelSteps
 pub mod LeafClasses
 pub mod TermWords
 pub mod Cofactors
+pub mod KeptPoints

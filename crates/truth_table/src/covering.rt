@@ -98,7 +98,7 @@ fn group_words(terms: &[Term], group: usize) -> [[u64; 16]; 32]
 }
 
 /// The words that n variables leave free: the bits from that of the last point on are 0.
-fn points_mask(n: u8) -> u64
+pub(crate) fn points_mask(n: u8) -> u64
     requires { n ≤ 16 }
     ensures { (b : ℕ) → b < 64 → (bit_at result b == 1) ≡ nat_lt b (2 ^ n) }
 {

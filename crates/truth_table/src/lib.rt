@@ -3,6 +3,7 @@
 
 mod covering;
 mod fixing;
+mod kept_points;
 mod merging;
 mod row;
 mod tables;

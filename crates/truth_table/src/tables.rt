@@ -1,17 +1,18 @@
 //! Tables.
 
-ghost use Rattle.std.specs.Prelude.{◌≡◌, ◌<◌, ◌^◌, length, map, IfOk};
+ghost use Rattle.std.specs.Prelude.{◌≡◌, ◌*◌, ◌<◌, ◌≤◌, ◌^◌, length, map, IfOk};
 ghost use Rattle.order_model.specs.Functions.{from_table, table};
 ghost use Rattle.order_model.specs.Levels.{level_counts};
 ghost use Rattle.order_model.specs.Orders.{members};
-ghost use Rattle.order_model.specs.Problems.{functions, outputs_of, table_at, value_at};
+ghost use Rattle.order_model.specs.Problems.{functions, outputs_of, packed_tables, table_at, value_at, words_per_table};
 ghost use Rattle.order_model.specs.Products.{product_functions};
 ghost use Rattle.truth_table.specs.Assignments.{values_at};
 ghost use Rattle.truth_table.specs.Restrictions.{fixed};
 ghost use Rattle.std.specs.List.{All};
 
-use crate::covering::packed_words;
+use crate::covering::{packed_words, points_mask};
 use crate::fixing::fix_variable;
+use crate::kept_points::kept_points;
 use crate::merging::{assignment_points, merge, push_values};
 use crate::row::Row;
 use order_model::{Mask, Order, Problem};
@@ -49,6 +50,21 @@ impl Tables {
         let words = packed_words(rt, alloc, n, m, cover.terms())?;
         Ok(Tables {
             problem: Problem::from_words(n, m, words),
+        })
+    }
+
+    /// The truth tables that words of 64 points hold, one table after the other. What stands behind a table's last point is left out.
+    pub fn of_words(alloc: Global, n: u8, m: u8, words: &[u64]) -> Result<Tables, AllocError>
+        requires some_inputs { 1 ≤ n }
+        requires few_inputs { n ≤ 16 }
+        requires some_outputs { 1 ≤ m }
+        requires few_outputs { m ≤ 16 }
+        requires long { length words.now ≡ m * words_per_table n }
+        ensures { IfOk result (λ t. t ≡ packed_tables n m words.now) }
+    {
+        let kept = kept_points(alloc, words, points_mask(n))?;
+        Ok(Tables {
+            problem: Problem::from_words(n, m, kept),
         })
     }
 

@@ -3,6 +3,8 @@
 --     pair_without_comma, pair_at      the pair of a part
 --     ReadTo parts k below      the masks of the pairs of the first k parts
 --     read_none, read_more, read_all, read_fails      before the first part, one part more, after the last, a part without a pair
+--     MasksTo P k below      the masks of the first k of some pairs
+--     masks_none, masks_more, masks_all      before the first pair, one more, after the last
 --     bad, out_of_range, cycle, accepted, holds      what is returned
 use Rattle.std.proofs.Common.{◌≡◌, ◌↔◌, ℕ, zero, suc, ◌+◌, ◌-◌, ◌*◌, ◌/◌, ◌%◌, ◌^◌, ◌<◌, ◌≤◌, Bool, true, false, cond, ◌&&◌, ◌||◌, ◌⊎◌, inl, inr, List, [], ◌∷◌, ◌++◌, length, get_or, take, drop, set, refl, sym, ap, ap₂, ◌∙◌, subst, arith, nat_eq, eqb, eqb-true, eq-eqb, le-ltb, lt-ltb, Option, Some, None, Ok, Err, bit_or, w16, lit<, take_all}
 use Rattle.std.specs.Prelude.{decimal}
@@ -267,6 +269,26 @@ read_all parts k below r h =
 
 pub read_fails : (parts : List (List ℕ)) (k : ℕ) (part : List ℕ) → k < length parts → part ≡ get_or parts k part → pair_of part ≡ None → AreMasksOf (pairs_of parts) None
 read_fails parts k part h e f = subst (λ (o : Option (List Pair)). AreMasksOf o None) (sym (pairs_of-fails parts k part h (ap pair_of (sym e) ∙ f))) tt
+
+-- the masks of the first k of some pairs
+pub record MasksTo (P : List Pair) (k : ℕ) (below : List ℕ) : Type 0 where
+  pub same : Same (take k P) below
+  pub long : length below ≡ 16
+
+pub masks_none : (P : List Pair) (below : List ℕ) → length below ≡ 16 → ((a b : ℕ) → HasBit below a b → ⊥) → MasksTo P 0 below
+masks_none P below long empty = record { same = same_from [] below (λ a b. (λ h. absurd (false≢true h), λ e. absurd (empty a b e))); long = long }
+
+pub masks_more : (P : List Pair) (k : ℕ) (below : List ℕ) (d : Pair) → MasksTo P k below → k < length P → (get_or P k d).0 < 16 → (get_or P k d).1 < 16 → MasksTo P (k + 1) (with_bit below (get_or P k d).0 (get_or P k d).1)
+masks_more P k below d m h small few =
+    let a = (get_or P k d).0 in
+    let b = (get_or P k d).1 in
+    record {
+      same = subst (λ (Q : List Pair). Same Q (with_bit below a b)) (sym (take_more P k d h)) (same_more (take k P) below a b (let l = m.long in omega arith) few m.same);
+      long = length-set below a (bit_or (get_or below a 0) (1 * 2 ^ b % 2 ^ 16)) ∙ m.long;
+    }
+
+pub masks_all : (P : List Pair) (k : ℕ) (below : List ℕ) → MasksTo P k below → length P ≤ k → AreMasksOf (Some P) (Some below)
+masks_all P k below m h = same_at P below (subst (λ (Q : List Pair). Same Q below) (take_all k P h) m.same)
 
 -- ---- what is returned
 

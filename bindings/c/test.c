@@ -1,0 +1,303 @@
+/* Calls each function of minorder.h: worked cases, bad arguments of each kind, each allocation refused in turn, several threads
+   at once.
+   usage: test                  all of these
+          test INPUTS OUTPUTS < WORDS    the exact order, its level counts and its size, of tables in hexadecimal words */
+#include <inttypes.h>
+#include <pthread.h>
+#include <stdio.h>
+#include <stdlib.h>
+#include <string.h>
+
+#include "minorder.h"
+
+static int failures;
+
+#define EXPECT(condition) ((condition) ? (void)0 : (failures++, (void)printf("test.c:%d: %s\n", __LINE__, #condition)))
+
+/* ---- memory that is refused */
+
+static _Thread_local long until_refused = -1, live_blocks;
+
+void *__real_malloc(size_t size);
+void *__real_realloc(void *old, size_t size);
+void __real_free(void *block);
+
+static int refuses(void) { return until_refused >= 0 && until_refused-- == 0; }
+
+void *__wrap_malloc(size_t size) {
+    void *block = refuses() ? NULL : __real_malloc(size);
+    live_blocks += block != NULL;
+    return block;
+}
+
+void *__wrap_realloc(void *old, size_t size) {
+    void *block = refuses() ? NULL : __real_realloc(old, size);
+    live_blocks += old == NULL && block != NULL;
+    return block;
+}
+
+void __wrap_free(void *block) {
+    live_blocks -= block != NULL;
+    __real_free(block);
+}
+
+/* ---- functions */
+
+/* x0 x1 + x2 x3 + x4 x5, as in Bryant 1986 with the pairs (0, 3), (1, 4), (2, 5) */
+static uint64_t pairs_of_three(void) {
+    uint64_t table = 0;
+    for (unsigned p = 0; p < 64; p++)
+        if ((p & p >> 3 & 7) != 0)
+            table |= (uint64_t)1 << p;
+    return table;
+}
+
+/* the sum bits of two numbers of `bits` bits, a below b */
+static void adder(uint64_t *tables, unsigned bits) {
+    unsigned inputs = 2 * bits;
+    size_t words = minorder_words(inputs);
+    memset(tables, 0, words * (bits + 1) * sizeof *tables);
+    for (unsigned p = 0; p < 1u << inputs; p++) {
+        unsigned sum = (p & ((1u << bits) - 1)) + (p >> bits);
+        for (unsigned output = 0; output <= bits; output++)
+            if (sum >> output & 1)
+                tables[output * words + p / 64] |= (uint64_t)1 << p % 64;
+    }
+}
+
+static uint32_t sum(const uint32_t *levels, unsigned inputs) {
+    uint32_t total = 0;
+    for (unsigned i = 0; i < inputs; i++)
+        total += levels[i];
+    return total;
+}
+
+/* ---- worked cases */
+
+static void worked_cases(void) {
+    uint64_t table = pairs_of_three();
+    uint8_t order[6], file_order[6] = {0, 1, 2, 3, 4, 5};
+    uint32_t levels[6], total = 0;
+    EXPECT(minorder_exact_with_lengths(&table, 1, 6, 1, order, 6, levels, 6, &total) == MINORDER_DONE);
+    EXPECT(total == 6 && sum(levels, 6) == 6);
+    EXPECT(memcmp(order, (uint8_t[]){0, 3, 1, 4, 2, 5}, 6) == 0);
+    EXPECT(minorder_levels_with_lengths(&table, 1, 6, 1, file_order, 6, levels, 6) == MINORDER_DONE);
+    EXPECT(memcmp(levels, (uint32_t[]){1, 2, 4, 4, 2, 1}, sizeof levels) == 0);
+    EXPECT(minorder_sift_with_lengths(&table, 1, 6, 1, file_order, 6, levels, 6, &total) == MINORDER_DONE);
+    EXPECT(total == sum(levels, 6) && total >= 6 && total <= 14);
+
+    /* the calls that take the lengths from `inputs` */
+    EXPECT(minorder_exact(&table, 1, 6, 1, order, levels, &total) == MINORDER_DONE && total == 6 && order[1] == 3);
+    EXPECT(minorder_levels(&table, 1, 6, 1, order, levels) == MINORDER_DONE && sum(levels, 6) == 6);
+    EXPECT(minorder_sift(&table, 1, 6, 1, order, levels, &total) == MINORDER_DONE && total == 6);
+    EXPECT(minorder_exact(&table, 1, 17, 1, order, levels, &total) == MINORDER_BAD_SHAPE);
+
+    /* pairs: the orders with 3 above 0, with 0 to 2 above 3 to 5, and one that no pair changes */
+    const minorder_pair turned[] = {{3, 0}}, halves[] = {{0, 3}, {0, 4}, {0, 5}, {1, 3}, {1, 4}, {1, 5}, {2, 3}, {2, 4}, {2, 5}, {0, 3}};
+    EXPECT(minorder_exact_above(&table, 1, 6, 1, turned, 1, order, levels, &total) == MINORDER_DONE && total == 6);
+    EXPECT(memcmp(order, (uint8_t[]){1, 4, 2, 5, 3, 0}, 6) == 0);
+    EXPECT(minorder_exact_above(&table, 1, 6, 1, halves, 10, order, levels, &total) == MINORDER_DONE && total == 14);
+    EXPECT(memcmp(order, (uint8_t[]){0, 1, 2, 3, 4, 5}, 6) == 0);
+    EXPECT(minorder_exact_above(&table, 1, 6, 1, turned, 0, order, levels, &total) == MINORDER_DONE && total == 6 && order[1] == 3);
+
+    /* bits behind the last point are ignored: x0 and x1 */
+    uint64_t and_of_two = 0xdeadbeef00000008;
+    uint32_t two[2];
+    EXPECT(minorder_exact_with_lengths(&and_of_two, 1, 2, 1, order, 2, two, 2, &total) == MINORDER_DONE);
+    EXPECT(total == 2 && order[0] == 0 && order[1] == 1 && two[0] == 1 && two[1] == 1);
+
+    /* the adder of four bits, whose order and verdict the programs print */
+    uint64_t sums[5 * 4];
+    uint8_t best[8];
+    uint32_t counts[8];
+    adder(sums, 4);
+    EXPECT(minorder_exact_with_lengths(sums, 20, 8, 5, best, 8, counts, 8, &total) == MINORDER_DONE);
+    EXPECT(total == 29 && sum(counts, 8) == 29);
+    EXPECT(memcmp(best, (uint8_t[]){3, 7, 2, 6, 1, 5, 0, 4}, 8) == 0);
+}
+
+static const char good[] = "bddorder-certificate 1\ninputs 1\noutputs 1\norder 0\nlevels 1\ntotal 1\ncells 1\n0000 0\nend\n";
+
+static uint32_t checked(const char *text, minorder_verdict *verdict) {
+    uint64_t itself = 2;
+    return minorder_check(&itself, 1, 1, 1, (const uint8_t *)text, strlen(text), verdict);
+}
+
+static void certificates(void) {
+    minorder_verdict verdict = {99, 99, 99};
+    EXPECT(checked("certificate", &verdict) == MINORDER_BAD_CERTIFICATE && verdict.reason == 99);
+    EXPECT(checked("", &verdict) == MINORDER_BAD_CERTIFICATE && verdict.reason == 99);
+    EXPECT(checked(good, &verdict) == MINORDER_DONE);
+    EXPECT(verdict.reason == MINORDER_VALID && verdict.mask == 0 && verdict.variable == 0);
+    EXPECT(checked("bddorder-certificate 1\ninputs 1\noutputs 1\norder 0\nlevels 0\ntotal 0\ncells 1\n0000 0\nend\n", &verdict) == MINORDER_DONE);
+    EXPECT(verdict.reason == MINORDER_LEVELS);
+    EXPECT(checked("bddorder-certificate 1\ninputs 1\noutputs 2\norder 0\nlevels 1\ntotal 1\ncells 1\n0000 0\nend\n", &verdict) == MINORDER_DONE);
+    EXPECT(verdict.reason == MINORDER_SHAPE);
+    EXPECT(checked("bddorder-certificate 1\ninputs 1\noutputs 1\norder 0\nlevels 1\ntotal 1\ncells 0\nend\n", &verdict) == MINORDER_DONE);
+    EXPECT(verdict.reason == MINORDER_START);
+}
+
+/* ---- bad arguments, which write nothing */
+
+static void bad_arguments(void) {
+    uint64_t table[1025] = {0};
+    uint8_t order[17], twice[6] = {0, 1, 2, 2, 4, 5}, outside[6] = {0, 1, 2, 3, 4, 6};
+    uint32_t levels[17], total = 77;
+    minorder_verdict verdict = {99, 99, 99};
+    const minorder_pair pairs[] = {{0, 1}};
+    memset(order, 66, sizeof order);
+    memset(levels, 55, sizeof levels);
+    const struct { size_t words; uint32_t inputs, outputs; size_t places, counts; } bad[] = {
+        {1, 0, 1, 0, 0}, {1, 17, 1, 17, 17}, {2048, 17, 1, 17, 17}, {1, 6, 0, 6, 6}, {17, 6, 17, 6, 6},
+        {0, 6, 1, 6, 6}, {2, 6, 1, 6, 6}, {1, 6, 2, 6, 6}, {1, 6, 1, 5, 6}, {1, 6, 1, 6, 7},
+    };
+    for (size_t i = 0; i < sizeof bad / sizeof *bad; i++) {
+        EXPECT(minorder_exact_with_lengths(table, bad[i].words, bad[i].inputs, bad[i].outputs, order, bad[i].places, levels, bad[i].counts, &total) == MINORDER_BAD_SHAPE);
+        EXPECT(minorder_exact_above_with_lengths(table, bad[i].words, bad[i].inputs, bad[i].outputs, pairs, 0, order, bad[i].places, levels, bad[i].counts, &total) == MINORDER_BAD_SHAPE);
+        EXPECT(minorder_sift_with_lengths(table, bad[i].words, bad[i].inputs, bad[i].outputs, order, bad[i].places, levels, bad[i].counts, &total) == MINORDER_BAD_SHAPE);
+        EXPECT(minorder_levels_with_lengths(table, bad[i].words, bad[i].inputs, bad[i].outputs, order, bad[i].places, levels, bad[i].counts) == MINORDER_BAD_SHAPE);
+        if (bad[i].places == bad[i].inputs && bad[i].counts == bad[i].inputs)
+            EXPECT(minorder_check(table, bad[i].words, bad[i].inputs, bad[i].outputs, (const uint8_t *)good, strlen(good), &verdict) == MINORDER_BAD_SHAPE);
+    }
+    EXPECT(minorder_levels_with_lengths(table, 1, 6, 1, twice, 6, levels, 6) == MINORDER_BAD_ORDER);
+    EXPECT(minorder_levels_with_lengths(table, 1, 6, 1, outside, 6, levels, 6) == MINORDER_BAD_ORDER);
+    EXPECT(minorder_sift_with_lengths(table, 1, 6, 1, twice, 6, levels, 6, &total) == MINORDER_BAD_ORDER);
+    EXPECT(minorder_sift_with_lengths(table, 1, 6, 1, outside, 6, levels, 6, &total) == MINORDER_BAD_ORDER);
+    const minorder_pair out[] = {{0, 6}}, circle[] = {{1, 2}, {2, 5}, {5, 1}}, itself[] = {{16, 16}};
+    EXPECT(minorder_exact_above_with_lengths(table, 1, 6, 1, out, 1, order, 6, levels, 6, &total) == MINORDER_BAD_PAIRS);
+    EXPECT(minorder_exact_above_with_lengths(table, 1, 6, 1, circle, 3, order, 6, levels, 6, &total) == MINORDER_BAD_PAIRS);
+    EXPECT(minorder_exact_above_with_lengths(table, 1, 6, 1, itself, 1, order, 6, levels, 6, &total) == MINORDER_BAD_PAIRS);
+    EXPECT(total == 77 && verdict.reason == 99 && twice[3] == 2 && outside[5] == 6);
+    for (int i = 0; i < 17; i++)
+        EXPECT(order[i] == 66 && levels[i] == 0x37373737);
+}
+
+/* ---- each allocation refused in turn: status 4, nothing written, nothing kept */
+
+static uint64_t refused_tables[3];
+static uint8_t given_order[4], answered_order[4];
+static uint32_t answered_levels[4], answered_total;
+static minorder_verdict answered_verdict;
+
+static uint32_t exact_call(void) { return minorder_exact_with_lengths(refused_tables, 3, 4, 3, answered_order, 4, answered_levels, 4, &answered_total); }
+static uint32_t above_call(void) {
+    static const minorder_pair pairs[] = {{1, 0}, {3, 1}};
+    return minorder_exact_above(refused_tables, 3, 4, 3, pairs, 2, answered_order, answered_levels, &answered_total);
+}
+static uint32_t levels_call(void) { return minorder_levels_with_lengths(refused_tables, 3, 4, 3, given_order, 4, answered_levels, 4); }
+static uint32_t sift_call(void) { return minorder_sift_with_lengths(refused_tables, 3, 4, 3, answered_order, 4, answered_levels, 4, &answered_total); }
+static uint32_t check_call(void) { return checked(good, &answered_verdict); }
+
+static void clear_answers(void) {
+    memcpy(answered_order, given_order, sizeof given_order);
+    memset(answered_levels, 0, sizeof answered_levels);
+    answered_total = 0;
+    answered_verdict = (minorder_verdict){99, 99, 99};
+}
+
+static void refuse_each(const char *name, uint32_t (*call)(void)) {
+    static const uint32_t none[4];
+    for (long allocation = 0;; allocation++) {
+        clear_answers();
+        long before = live_blocks;
+        until_refused = allocation;
+        uint32_t status = call();
+        int reached = until_refused < 0;
+        until_refused = -1;
+        EXPECT(live_blocks == before);
+        if (!reached) {
+            EXPECT(status == MINORDER_DONE);
+            printf("%s: each of %ld allocations refused in turn\n", name, allocation);
+            return;
+        }
+        EXPECT(status == MINORDER_OUT_OF_MEMORY);
+        EXPECT(memcmp(answered_order, given_order, sizeof given_order) == 0 && memcmp(answered_levels, none, sizeof none) == 0);
+        EXPECT(answered_total == 0 && answered_verdict.reason == 99);
+    }
+}
+
+static void refusals(void) {
+    adder(refused_tables, 2);
+    for (int i = 0; i < 4; i++)
+        given_order[i] = (uint8_t)i;
+    refuse_each("minorder_exact", exact_call);
+    refuse_each("minorder_exact_above", above_call);
+    refuse_each("minorder_levels", levels_call);
+    refuse_each("minorder_sift", sift_call);
+    refuse_each("minorder_check", check_call);
+}
+
+/* ---- several threads, each with its own data */
+
+struct task {
+    uint64_t seed;
+    uint64_t table[4];
+    uint8_t order[8];
+    uint32_t levels[8], total, status;
+};
+
+static void *solve(void *at) {
+    struct task *task = at;
+    for (int word = 0; word < 4; word++) {
+        task->seed = task->seed * 6364136223846793005 + 1442695040888963407;
+        task->table[word] = task->seed ^ task->seed >> 29;
+    }
+    for (int round = 0; round < 20; round++)
+        task->status |= minorder_exact_with_lengths(task->table, 4, 8, 1, task->order, 8, task->levels, 8, &task->total);
+    return NULL;
+}
+
+static void threads(void) {
+    enum { COUNT = 8 };
+    pthread_t running[COUNT];
+    struct task tasks[COUNT], again[COUNT];
+    for (int i = 0; i < COUNT; i++) {
+        memset(&tasks[i], 0, sizeof tasks[i]);
+        tasks[i].seed = again[i].seed = (uint64_t)i;
+        EXPECT(pthread_create(&running[i], NULL, solve, &tasks[i]) == 0);
+    }
+    for (int i = 0; i < COUNT; i++)
+        EXPECT(pthread_join(running[i], NULL) == 0);
+    for (int i = 0; i < COUNT; i++) {
+        again[i].status = 0;
+        solve(&again[i]);
+        EXPECT(tasks[i].status == 0 && again[i].status == 0 && tasks[i].total == again[i].total);
+        EXPECT(memcmp(tasks[i].order, again[i].order, 8) == 0 && memcmp(tasks[i].levels, again[i].levels, sizeof again[i].levels) == 0);
+    }
+}
+
+/* ---- one function, for a comparison with the program's report */
+
+static int report(unsigned inputs, unsigned outputs) {
+    size_t words = minorder_words(inputs) * outputs;
+    uint64_t *tables = malloc(words * sizeof *tables);
+    uint8_t order[16];
+    uint32_t levels[16], total = 0;
+    for (size_t i = 0; i < words; i++)
+        if (scanf("%" SCNx64, &tables[i]) != 1)
+            return 2;
+    uint32_t status = minorder_exact_with_lengths(tables, words, inputs, outputs, order, inputs, levels, inputs, &total);
+    if (status != MINORDER_DONE)
+        return (int)status;
+    printf("order:");
+    for (unsigned i = 0; i < inputs; i++)
+        printf(" %u", order[i]);
+    printf("\nlevels:");
+    for (unsigned i = 0; i < inputs; i++)
+        printf(" %" PRIu32, levels[i]);
+    printf("\nnodes: %" PRIu32 "\n", total);
+    free(tables);
+    return 0;
+}
+
+int main(int count, char **words) {
+    if (count == 3)
+        return report((unsigned)atoi(words[1]), (unsigned)atoi(words[2]));
+    worked_cases();
+    certificates();
+    bad_arguments();
+    refusals();
+    threads();
+    printf(failures ? "%d failed\n" : "all as expected\n", failures);
+    return failures != 0;
+}

@@ -1,0 +1,23 @@
+#!/usr/bin/env bash
+# Builds test.c with the static library, as it is and under sanitizers where these are at hand, runs it, and compares its exact
+# orders with the program's reports on COUNT random functions (200 if left out).
+# usage: bindings/c/test.sh [COUNT]
+set -euo pipefail
+here=$(cd "$(dirname "${BASH_SOURCE[0]}")" && pwd)
+top=$here/../..
+"$top/libminorder"
+made=$(mktemp -d)
+trap 'rm -rf "$made"' EXIT
+flags=(-std=c11 -D_GNU_SOURCE -O2 -Wall -Wextra -Wno-unused-function -I "$top/include" -Wl,--wrap=malloc,--wrap=realloc,--wrap=free)
+build() { "${CC:-clang}" "${flags[@]}" "${@:2}" "$here/test.c" "$top/lib/libminorder.a" -lpthread -o "$1"; }
+build "$made/test"
+"$made/test"
+for sanitizer in address,undefined thread; do
+    if build "$made/sanitized" -g "-fsanitize=$sanitizer" 2> "$made/why"; then
+        echo "under -fsanitize=$sanitizer:"
+        "$made/sanitized"
+    else
+        echo "no -fsanitize=$sanitizer here: $(head -1 "$made/why")"
+    fi
+done
+python3 "$here/compare.py" "$made/test" "${1:-200}"

@@ -1,0 +1,2 @@
+mod Counts
+mod Refusals

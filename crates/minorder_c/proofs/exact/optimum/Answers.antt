@@ -1,0 +1,19 @@
+use Rattle.std.proofs.Common.{length, rules, ap, ◌∙◌}
+use Rattle.order_model.specs.Problems.{functions}
+use Rattle.order_model.proofs.Widths.SizeBounds.{order_length}
+use Rattle.minorder_c.proofs.Counts.{order_counts_long}
+use Rattle.minorder_c.proofs.exact.optimum.Goals as goal
+
+pub sifted_from-requires-clause-long : goal.sifted_from-requires-clause-long
+sifted_from-requires-clause-long c = order_length c.args.pairs.inputs c.in_ok-start.start c.in_ok-start.ensures.is_order ∙ c.requires
+
+pub returns-clause-optimum : goal.returns-clause-optimum
+returns-clause-optimum c = search rules
+
+pub returns-clause-long : goal.returns-clause-long
+returns-clause-long c = order_length c.args.tables.now.inputs c.in_ok-solution.solution.order (returns-clause-optimum c).first.fewest.is_order
+
+pub returns-clause-counts : goal.returns-clause-counts
+returns-clause-counts c =
+    let best = returns-clause-optimum c in
+    ap length best.levels_are ∙ order_counts_long c.args.tables.now.inputs (functions c.args.tables.now) c.in_ok-solution.solution.order best.first.fewest.is_order

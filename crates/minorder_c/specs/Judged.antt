@@ -1,0 +1,64 @@
+-- What minorder_check answers.
+--     told_verdict v      a verdict, as C is told it
+--     IsNoCertificate text, RefusesText shape text r      why a text is refused
+--     IsJudged n F text told      the verdict on the certificate that a text spells
+use Rattle.std.specs.Prelude.{◌≡◌, ℕ, ◌<◌, ◌⊎◌, List, length}
+use Rattle.order_model.specs.Functions.{Function}
+use Rattle.order_model.specs.Certificates.{Certificate}
+use Rattle.certificate.specs.Faults.{FirstFault}
+use Rattle.certificate.specs.declared.faults.LineFault.{LineFault}
+use Rattle.certificate.specs.Heads.{most_bytes}
+use Rattle.certificate.specs.Spelling.{spelling}
+use Rattle.cert_check.specs.declared.verdict.Verdict.{Verdict}
+use Rattle.cert_check.specs.declared.verdict.Verdict.TheVariants.{Valid, Invalid}
+use Rattle.cert_check.specs.declared.verdict.Reason.TheVariants as why
+use Rattle.cert_check.specs.Verdicts.{FewestUnder, Judges}
+use Rattle.minorder_c.specs.declared.status.Refusal.{Refusal}
+use Rattle.minorder_c.specs.declared.status.Refusal.TheVariants as refused
+use Rattle.minorder_c.specs.declared.judging.ToldVerdict.{ToldVerdict}
+use Rattle.minorder_c.specs.Statuses.{IsPlainStatus}
+
+-- a reason without an edge
+abbrev pub plain : ℕ → ToldVerdict
+plain reason = record { reason = reason; mask = 0; variable = 0 }
+
+-- a verdict, as C is told it
+abbrev pub told_verdict : Verdict → ToldVerdict
+told_verdict Valid = plain 0
+told_verdict (Invalid why.Shape) = plain 1
+told_verdict (Invalid why.Order) = plain 2
+told_verdict (Invalid why.Pairs) = plain 3
+told_verdict (Invalid why.Levels) = plain 4
+told_verdict (Invalid why.Total) = plain 5
+told_verdict (Invalid why.Start) = plain 6
+told_verdict (Invalid why.CellTooBig) = plain 7
+told_verdict (Invalid (why.Edge mask x)) = record { reason = 8; mask = mask; variable = x }
+
+-- the text has a first fault, or is too long
+abbrev pub IsNoCertificate : List ℕ → Type 0
+IsNoCertificate text = ((line : ℕ) × (fault : LineFault) × FirstFault text line fault) ⊎ (most_bytes < length text)
+
+-- tables without their shape, or a text that is no certificate, are refused for it; others only where something is wanting
+abbrev pub RefusesText : Type 0 → List ℕ → Refusal → Type 0
+RefusesText shape text refused.Shape = shape → ⊥
+RefusesText shape text refused.Certificate = shape × IsNoCertificate text
+RefusesText shape text refused.OutOfMemory = shape
+RefusesText shape text refused.StoreFull = shape
+RefusesText shape text _ = ⊥
+
+-- the text spells a certificate, and this is the verdict on it
+pub record IsJudged (n : ℕ) (F : List Function) (text : List ℕ) (v : Verdict) : Type 0 where
+  pub cert : Certificate
+  pub text_is : text ≡ spelling cert
+  pub judges : Judges n F cert v
+  pub fewest : v ≡ Valid → FewestUnder n F cert
+
+-- the same, as C is told it
+pub record IsTold (n : ℕ) (F : List Function) (text : List ℕ) (told : ToldVerdict) : Type 0 where
+  pub verdict : Verdict
+  pub judged : IsJudged n F text verdict
+  pub told_is : told ≡ told_verdict verdict
+
+-- the numbers of a call with a certificate
+abbrev pub IsTextStatus : ℕ → Type 0
+IsTextStatus s = (s ≡ 3) ⊎ IsPlainStatus s

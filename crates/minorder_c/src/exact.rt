@@ -1,0 +1,146 @@
+//! The order of the fewest nodes.
+
+ghost use Rattle.std.specs.Prelude.{◌≡◌, ◌≢◌, ◌↔◌, ◌⊎◌, [], length, IfOk, IfErr, OnOk};
+ghost use Rattle.order_model.specs.Problems.{functions};
+ghost use Rattle.order_model.specs.KeptPairs.{CanBeKept};
+ghost use Rattle.order_model.specs.Pairs.{sorted_pairs};
+ghost use Rattle.minorder_c.specs.Answers.{HasShape, IsOptimum, functions_in, pairs_given};
+ghost use Rattle.minorder_c.specs.Statuses.{IsPlainStatus, IsShortage, Refuses, RefusesPairs};
+
+use crate::above::{AbovePair, kept_pairs};
+use crate::arguments::tables_of;
+use crate::sifting_from::sifted_from;
+use crate::status::Refusal;
+use order_model::Pairs;
+use order_solve::{Solution, solve_alone};
+use std::alloc::Global;
+use truth_table::Tables;
+
+/// The first order of the fewest nodes among those that keep the pairs, searched below the size of one sifted from the first that keeps them.
+fn optimum(alloc: Global, tables: &Tables, pairs: Pairs) -> Result<Solution, Refusal>
+    requires { pairs.inputs ≡ tables.now.inputs }
+    ensures optimum { IfOk result (λ s. IsOptimum tables.now.inputs (functions tables.now) pairs.pairs s.order s.levels.items s.total) }
+    ensures long { IfOk result (λ s. length s.order ≡ tables.now.inputs) }
+    ensures counts { IfOk result (λ s. length s.levels.items ≡ tables.now.inputs) }
+    ensures short { IfErr result IsShortage }
+{
+    let start = pairs.first_order(alloc)?;
+    let sifted = sifted_from(alloc, tables, &start, pairs)?;
+    let solution = solve_alone(alloc, tables.problem(), sifted)?;
+    let _order = solution.order.variables();
+    Ok(solution)
+}
+
+/// The first order of the fewest nodes, for so many places and level counts.
+fn exact(
+    alloc: Global,
+    words: &[u64],
+    inputs: u32,
+    outputs: u32,
+    places: usize,
+    counts: usize,
+) -> Result<Solution, Refusal>
+    ensures shape { OnOk result (HasShape inputs outputs words.now places counts) }
+    ensures optimum { IfOk result (λ s. IsOptimum inputs (functions_in inputs outputs words.now) [] s.order s.levels.items s.total) }
+    ensures long { IfOk result (λ s. length s.order ≡ inputs) }
+    ensures counts { IfOk result (λ s. length s.levels.items ≡ inputs) }
+    ensures refused { IfErr result (Refuses (HasShape inputs outputs words.now places counts)) }
+{
+    if places != inputs as usize || counts != inputs as usize {
+        return Err(Refusal::Shape);
+    }
+    let tables = tables_of(alloc, words, inputs, outputs)?;
+    let solution = optimum(alloc, &tables, Pairs::none(inputs as u8))?;
+    Ok(solution)
+}
+
+/// The first order of the fewest nodes among those that keep some pairs, for so many places and level counts.
+fn exact_above(
+    alloc: Global,
+    words: &[u64],
+    inputs: u32,
+    outputs: u32,
+    above: &[AbovePair],
+    places: usize,
+    counts: usize,
+) -> Result<Solution, Refusal>
+    ensures shape { OnOk result (HasShape inputs outputs words.now places counts) }
+    ensures kept { OnOk result (CanBeKept inputs (pairs_given above.now)) }
+    ensures optimum { IfOk result (λ s. IsOptimum inputs (functions_in inputs outputs words.now) (sorted_pairs inputs (pairs_given above.now)) s.order s.levels.items s.total) }
+    ensures long { IfOk result (λ s. length s.order ≡ inputs) }
+    ensures counts { IfOk result (λ s. length s.levels.items ≡ inputs) }
+    ensures refused { IfErr result (RefusesPairs (HasShape inputs outputs words.now places counts) (CanBeKept inputs (pairs_given above.now))) }
+{
+    if places != inputs as usize || counts != inputs as usize {
+        return Err(Refusal::Shape);
+    }
+    let tables = tables_of(alloc, words, inputs, outputs)?;
+    let pairs = kept_pairs(alloc, above, inputs as u8)?;
+    let solution = optimum(alloc, &tables, pairs)?;
+    Ok(solution)
+}
+
+/// The first order of the fewest nodes of some functions, its level counts and its size. A call that is refused writes nothing.
+#[unsafe(no_mangle)]
+pub extern "C" fn minorder_exact_with_lengths(
+    alloc: Global,
+    tables: &[u64],
+    inputs: u32,
+    outputs: u32,
+    order: &mut [u8],
+    levels: &mut [u32],
+    total: &mut u32,
+) -> u32
+    ensures status { IsPlainStatus result }
+    ensures shape { (result ≡ 2) ↔ (HasShape inputs outputs tables.now (length order.old) (length levels.old) → ⊥) }
+    ensures optimum { result ≡ 0 → IsOptimum inputs (functions_in inputs outputs tables.now) [] order.new levels.new total.new }
+    ensures refused { result ≢ 0 → (order.new ≡ order.old) × (levels.new ≡ levels.old) × (total.new ≡ total.old) }
+{
+    match exact(alloc, tables, inputs, outputs, order.len(), levels.len()) {
+        Ok(found) => {
+            order.copy_from_slice(found.order.variables());
+            levels.copy_from_slice(&found.levels);
+            *total = found.total;
+            0
+        }
+        Err(refusal) => refusal.status(),
+    }
+}
+
+/// The same among the orders that keep some pairs. Pairs that no order keeps, or of other variables, are refused.
+#[unsafe(no_mangle)]
+pub extern "C" fn minorder_exact_above_with_lengths(
+    alloc: Global,
+    tables: &[u64],
+    inputs: u32,
+    outputs: u32,
+    above: &[AbovePair],
+    order: &mut [u8],
+    levels: &mut [u32],
+    total: &mut u32,
+) -> u32
+    ensures status { (result ≡ 8) ⊎ IsPlainStatus result }
+    ensures shape { (result ≡ 2) ↔ (HasShape inputs outputs tables.now (length order.old) (length levels.old) → ⊥) }
+    ensures bad_pairs { result ≡ 8 → CanBeKept inputs (pairs_given above.now) → ⊥ }
+    ensures kept { result ≡ 0 → CanBeKept inputs (pairs_given above.now) }
+    ensures optimum { result ≡ 0 → IsOptimum inputs (functions_in inputs outputs tables.now) (sorted_pairs inputs (pairs_given above.now)) order.new levels.new total.new }
+    ensures refused { result ≢ 0 → (order.new ≡ order.old) × (levels.new ≡ levels.old) × (total.new ≡ total.old) }
+{
+    match exact_above(
+        alloc,
+        tables,
+        inputs,
+        outputs,
+        above,
+        order.len(),
+        levels.len(),
+    ) {
+        Ok(best) => {
+            order.copy_from_slice(best.order.variables());
+            levels.copy_from_slice(&best.levels);
+            *total = best.total;
+            0
+        }
+        Err(refusal) => refusal.status(),
+    }
+}

@@ -1,0 +1,111 @@
+//! The checker of certificates.
+
+ghost use Rattle.std.specs.Prelude.{◌≡◌, ◌≢◌, ◌↔◌, IfOk, IfErr, OnOk};
+ghost use Rattle.certificate.specs.Spelling.{spelling};
+ghost use Rattle.minorder_c.specs.Answers.{AreTables, functions_in};
+ghost use Rattle.minorder_c.specs.Judged.{IsJudged, IsNoCertificate, IsTextStatus, IsTold, RefusesText, told_verdict};
+
+use crate::arguments::tables_of;
+use crate::status::Refusal;
+use cert_check::{Reason, Verdict, check_alone};
+use certificate::{CertFault, Certificate};
+use std::alloc::Global;
+
+/// A verdict, as C is told it: 0 is valid, and an edge has the mask of its set and its variable.
+#[repr(C)]
+#[derive(Clone, Copy, Debug)]
+pub struct ToldVerdict {
+    pub reason: u32,
+    pub mask: u32,
+    pub variable: u32,
+}
+
+/// A reason without an edge.
+fn plain(reason: u32) -> ToldVerdict
+    ensures { result ≡ record { reason = reason; mask = 0; variable = 0 } }
+{
+    ToldVerdict {
+        reason,
+        mask: 0,
+        variable: 0,
+    }
+}
+
+/// A verdict, as C is told it.
+fn told(verdict: Verdict) -> ToldVerdict
+    ensures { result ≡ told_verdict verdict }
+{
+    match verdict {
+        Verdict::Valid => plain(0),
+        Verdict::Invalid(Reason::Shape) => plain(1),
+        Verdict::Invalid(Reason::Order) => plain(2),
+        Verdict::Invalid(Reason::Pairs) => plain(3),
+        Verdict::Invalid(Reason::Levels) => plain(4),
+        Verdict::Invalid(Reason::Total) => plain(5),
+        Verdict::Invalid(Reason::Start) => plain(6),
+        Verdict::Invalid(Reason::CellTooBig) => plain(7),
+        Verdict::Invalid(Reason::Edge { mask, x }) => ToldVerdict {
+            reason: 8,
+            mask: u32::from(mask),
+            variable: u32::from(x),
+        },
+    }
+}
+
+/// The certificate that a text spells.
+fn certificate_of(alloc: Global, text: &[u8]) -> Result<Certificate, Refusal>
+    ensures spelled { IfOk result (λ cert. text.now ≡ spelling cert) }
+    ensures refused { IfErr result (RefusesText (Unit {0}) text.now) }
+{
+    match Certificate::parse(alloc, text) {
+        Ok(cert) => Ok(cert),
+        Err(CertFault::Line(_, _)) => Err(Refusal::Certificate),
+        Err(CertFault::TooLong) => Err(Refusal::Certificate),
+        Err(CertFault::OutOfMemory) => Err(Refusal::OutOfMemory),
+    }
+}
+
+/// The verdict on the certificate that a text spells.
+fn verdict_on(
+    alloc: Global,
+    words: &[u64],
+    inputs: u32,
+    outputs: u32,
+    text: &[u8],
+) -> Result<Verdict, Refusal>
+    ensures shape { OnOk result (AreTables inputs outputs words.now) }
+    ensures judged { IfOk result (IsJudged inputs (functions_in inputs outputs words.now) text.now) }
+    ensures refused { IfErr result (RefusesText (AreTables inputs outputs words.now) text.now) }
+{
+    let tables = tables_of(alloc, words, inputs, outputs)?;
+    let cert = certificate_of(alloc, text)?;
+    match check_alone(alloc, &tables, &cert) {
+        Ok(verdict) => Ok(verdict),
+        Err(_) => Err(Refusal::OutOfMemory),
+    }
+}
+
+/// The verdict on a certificate for some functions. A call that is refused writes nothing.
+#[unsafe(no_mangle)]
+pub extern "C" fn minorder_check(
+    alloc: Global,
+    tables: &[u64],
+    inputs: u32,
+    outputs: u32,
+    certificate: &[u8],
+    verdict: &mut ToldVerdict,
+) -> u32
+    ensures status { IsTextStatus result }
+    ensures shape { (result ≡ 2) ↔ (AreTables inputs outputs tables.now → ⊥) }
+    ensures no_certificate { result ≡ 3 → IsNoCertificate certificate.now }
+    ensures told { result ≡ 0 → IsTold inputs (functions_in inputs outputs tables.now) certificate.now verdict.new }
+    ensures refused { result ≢ 0 → verdict.new ≡ verdict.old }
+{
+    match verdict_on(alloc, tables, inputs, outputs, certificate) {
+        Ok(found) => {
+            *verdict = told(found);
+            0
+        }
+        Err(refusal) => refusal.status(),
+    }
+}

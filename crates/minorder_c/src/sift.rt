@@ -1,0 +1,87 @@
+//! One pass of sifting from any order.
+
+ghost use Rattle.std.specs.Prelude.{◌≡◌, ◌≢◌, ◌↔◌, ◌<◌, ℕ, [], length, slice_index, IfOk, IfErr, OnOk};
+ghost use Rattle.order_model.specs.Orders.{IsOrder};
+ghost use Rattle.order_model.specs.Problems.{functions};
+ghost use Rattle.order_model.specs.Levels.{level_count};
+ghost use Rattle.minorder_c.specs.Answers.{HasShape, IsSiftedFrom, functions_in};
+ghost use Rattle.minorder_c.specs.Statuses.{IsOrderStatus, RefusesOrder};
+
+use crate::arguments::given;
+use crate::sifting_from::sifted_from;
+use crate::status::Refusal;
+use order_model::{Order, Pairs};
+use sifting::Sifted;
+use std::alloc::{AllocError, Global};
+
+/// A sifted order, its level counts and its size.
+#[derive(Drop)]
+struct Found {
+    order: Order,
+    levels: Vec<u32>,
+    total: u32,
+}
+
+/// The level counts of a sifted order, one a level.
+fn levels_of(alloc: Global, sifted: &Sifted) -> Result<Vec<u32>, AllocError>
+    ensures long { IfOk result (λ v. length v.items ≡ length sifted.now.order) }
+    ensures counts { IfOk result (λ v. (i : ℕ) → i < length sifted.now.order → slice_index v.items i ≡ level_count sifted.now.problem.inputs (functions sifted.now.problem) sifted.now.order i) }
+{
+    let counts = sifted.levels();
+    counts[..sifted.order().len()].to_vec(alloc)
+}
+
+/// What sifting makes of an order, for so many places of level counts.
+fn sifted_order(
+    alloc: Global,
+    words: &[u64],
+    inputs: u32,
+    outputs: u32,
+    order: &[u8],
+    counts: usize,
+) -> Result<Found, Refusal>
+    ensures shape { OnOk result (HasShape inputs outputs words.now (length order.now) counts) }
+    ensures order { OnOk result (IsOrder inputs order.now) }
+    ensures sifted { IfOk result (λ f. IsSiftedFrom inputs (functions_in inputs outputs words.now) [] order.now f.order f.levels.items f.total) }
+    ensures long { IfOk result (λ f. length f.order ≡ length order.now) }
+    ensures counts { IfOk result (λ f. length f.levels.items ≡ counts) }
+    ensures refused { IfErr result (RefusesOrder (HasShape inputs outputs words.now (length order.now) counts) (IsOrder inputs order.now)) }
+{
+    let given = given(alloc, words, inputs, outputs, order, counts)?;
+    let pairs = Pairs::none(inputs as u8);
+    let sifted = sifted_from(alloc, &given.tables, &given.order, pairs)?;
+    Ok(Found {
+        order: sifted.order().try_clone(alloc)?,
+        levels: levels_of(alloc, &sifted)?,
+        total: sifted.size(),
+    })
+}
+
+/// Puts in the place of an order what one pass of sifting makes of it, and writes its level counts and its size. A call that is refused writes nothing.
+#[unsafe(no_mangle)]
+pub extern "C" fn minorder_sift_with_lengths(
+    alloc: Global,
+    tables: &[u64],
+    inputs: u32,
+    outputs: u32,
+    order: &mut [u8],
+    levels: &mut [u32],
+    total: &mut u32,
+) -> u32
+    ensures status { IsOrderStatus result }
+    ensures shape { (result ≡ 2) ↔ (HasShape inputs outputs tables.now (length order.old) (length levels.old) → ⊥) }
+    ensures no_order { result ≡ 5 → IsOrder inputs order.old → ⊥ }
+    ensures order { result ≡ 0 → IsOrder inputs order.old }
+    ensures sifted { result ≡ 0 → IsSiftedFrom inputs (functions_in inputs outputs tables.now) [] order.old order.new levels.new total.new }
+    ensures refused { result ≢ 0 → (order.new ≡ order.old) × (levels.new ≡ levels.old) × (total.new ≡ total.old) }
+{
+    match sifted_order(alloc, tables, inputs, outputs, order, levels.len()) {
+        Ok(found) => {
+            order.copy_from_slice(found.order.variables());
+            levels.copy_from_slice(&found.levels);
+            *total = found.total;
+            0
+        }
+        Err(refusal) => refusal.status(),
+    }
+}

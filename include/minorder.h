@@ -1,0 +1,118 @@
+/* Exact minimum variable orders of shared reduced ordered binary decision diagrams, for C and C++.
+
+   Functions are given as truth tables in words of 64 points: bit p % 64 of word p / 64 of a table is its value at the point p,
+   and bit i of p is the value of variable i. A table of n variables takes minorder_words(n) words; where n is below 6 it takes
+   one, whose bits from 2^n on are ignored. The tables of all outputs stand one after the other in `tables`, and `words` is the
+   number of all their words.
+
+   An order lists each variable once, top first. Level counts are numbers of decision nodes, top level first: one root an
+   output, no complement edges, terminals not counted.
+
+   Each call runs on the calling thread and keeps nothing: threads may call at the same time, each with its own data. Pointers
+   are never null, also where a length is 0, and what a call writes overlaps nothing else that it is given. Memory comes from
+   malloc and goes back to free before the call returns. Don't call from a signal handler. */
+#ifndef MINORDER_H
+#define MINORDER_H
+
+#include <stddef.h>
+#include <stdint.h>
+
+#ifdef __cplusplus
+extern "C" {
+#endif
+
+/* How a call ends. Where it isn't MINORDER_DONE the call has written nothing. */
+enum {
+    MINORDER_DONE = 0,
+    /* inputs or outputs isn't 1 to 16, or a length isn't what these ask for */
+    MINORDER_BAD_SHAPE = 2,
+    /* the text is no certificate */
+    MINORDER_BAD_CERTIFICATE = 3,
+    MINORDER_OUT_OF_MEMORY = 4,
+    /* the order hasn't each variable once */
+    MINORDER_BAD_ORDER = 5,
+    /* a store of 262,144 nodes for building a diagram was full */
+    MINORDER_STORE_FULL = 6,
+    /* a pair has another variable, or the pairs lead from a variable back to itself */
+    MINORDER_BAD_PAIRS = 8
+};
+
+/* How many words the truth table of a function takes. */
+static inline size_t minorder_words(uint32_t inputs) { return inputs < 6 ? 1 : (size_t)1 << (inputs - 6); }
+
+/* Pairs of variables: `above` has to stand above `below`. */
+typedef struct {
+    uint8_t above, below;
+} minorder_pair;
+
+/* The calls as the library has them, with the lengths of all arrays; those behind them ask for `inputs` entries of each. */
+uint32_t minorder_exact_with_lengths(const uint64_t *tables, size_t words, uint32_t inputs, uint32_t outputs,
+                                     uint8_t *order, size_t order_length, uint32_t *levels, size_t levels_length, uint32_t *total);
+uint32_t minorder_exact_above_with_lengths(const uint64_t *tables, size_t words, uint32_t inputs, uint32_t outputs,
+                                           const minorder_pair *pairs, size_t count,
+                                           uint8_t *order, size_t order_length, uint32_t *levels, size_t levels_length, uint32_t *total);
+uint32_t minorder_levels_with_lengths(const uint64_t *tables, size_t words, uint32_t inputs, uint32_t outputs,
+                                      const uint8_t *order, size_t order_length, uint32_t *levels, size_t levels_length);
+uint32_t minorder_sift_with_lengths(const uint64_t *tables, size_t words, uint32_t inputs, uint32_t outputs,
+                                    uint8_t *order, size_t order_length, uint32_t *levels, size_t levels_length, uint32_t *total);
+
+/* As many entries as an order of so many variables has; 0 where there are no such functions, which is then a bad shape. */
+static inline size_t minorder_places(uint32_t inputs) { return inputs <= 16 ? inputs : 0; }
+
+/* Writes the first order of the fewest nodes, its level counts and its size. `order` and `levels` have `inputs` entries. */
+static inline uint32_t minorder_exact(const uint64_t *tables, size_t words, uint32_t inputs, uint32_t outputs,
+                                      uint8_t *order, uint32_t *levels, uint32_t *total) {
+    size_t places = minorder_places(inputs);
+    return minorder_exact_with_lengths(tables, words, inputs, outputs, order, places, levels, places, total);
+}
+
+/* The same among the orders that keep `count` pairs. A pair may be given twice. */
+static inline uint32_t minorder_exact_above(const uint64_t *tables, size_t words, uint32_t inputs, uint32_t outputs,
+                                            const minorder_pair *pairs, size_t count,
+                                            uint8_t *order, uint32_t *levels, uint32_t *total) {
+    size_t places = minorder_places(inputs);
+    return minorder_exact_above_with_lengths(tables, words, inputs, outputs, pairs, count, order, places, levels, places, total);
+}
+
+/* Writes the level counts under an order. `order` and `levels` have `inputs` entries. */
+static inline uint32_t minorder_levels(const uint64_t *tables, size_t words, uint32_t inputs, uint32_t outputs,
+                                       const uint8_t *order, uint32_t *levels) {
+    size_t places = minorder_places(inputs);
+    return minorder_levels_with_lengths(tables, words, inputs, outputs, order, places, levels, places);
+}
+
+/* Puts in the place of an order what one pass of sifting makes of it, and writes its level counts and its size. `order` and
+   `levels` have `inputs` entries. */
+static inline uint32_t minorder_sift(const uint64_t *tables, size_t words, uint32_t inputs, uint32_t outputs,
+                                     uint8_t *order, uint32_t *levels, uint32_t *total) {
+    size_t places = minorder_places(inputs);
+    return minorder_sift_with_lengths(tables, words, inputs, outputs, order, places, levels, places, total);
+}
+
+/* Why a certificate isn't good: the first of these that applies, edges by mask and then by variable. */
+enum {
+    MINORDER_VALID = 0,
+    MINORDER_SHAPE = 1,        /* its inputs or outputs are others */
+    MINORDER_ORDER = 2,        /* its order hasn't each variable once */
+    MINORDER_PAIRS = 3,        /* its order breaks a pair */
+    MINORDER_LEVELS = 4,       /* its levels are not its order's level counts */
+    MINORDER_TOTAL = 5,        /* its total is not the sum of its levels */
+    MINORDER_START = 6,        /* the value of the empty set is not 0 */
+    MINORDER_CELL_TOO_BIG = 7, /* a listed cost, with its reserve, is above the total */
+    MINORDER_EDGE = 8          /* from the set `mask` by `variable` the value rises by more than the width */
+};
+
+typedef struct {
+    uint32_t reason;
+    uint32_t mask, variable; /* of an edge, else 0 */
+} minorder_verdict;
+
+/* Writes the verdict on a certificate's text of so many bytes. */
+uint32_t minorder_check(const uint64_t *tables, size_t words, uint32_t inputs, uint32_t outputs,
+                        const uint8_t *certificate, size_t length, minorder_verdict *verdict);
+
+#ifdef __cplusplus
+}
+#endif
+
+#endif
