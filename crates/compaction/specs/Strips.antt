@@ -3,6 +3,7 @@
 --     names_of pairs      the names in pairs of strips, one behind the other
 --     low_variables p      how many variables run inside a strip of the empty set
 --     AreNamed, AreStrips      each strip is whole; each is used, too
+--     ArePairsNumbered names rank numbers pairs      the pairs of names have numbers by first occurrence, and each number its pair
 --     masks_in_use numbers masks      the masks of the numbers that occur, rising
 --     HoldsKeys t keys masks      the numbers tell the set's subfunctions apart, in any order; the masks are what the function with each number depends on
 --     HoldsStrips t low outer numbers masks      the unrolled table holds the keys of t; `low` parts the variables
@@ -16,6 +17,9 @@ use Rattle.order_model.specs.Problems.{TruthTables}
 use Rattle.order_model.specs.Levels.{reach}
 use Rattle.order_model.specs.Widths.{class_numbers, outside}
 use Rattle.class_laws.specs.Numbering.{ranks}
+use Rattle.std.specs.Set.{distinct_count}
+use Rattle.order_model.specs.Widths.{same_pair}
+use Rattle.class_laws.specs.Places as places
 use Rattle.class_laws.specs.Dependence.{dependence}
 use Rattle.class_laws.specs.Table.{ClassesOf, functions_of, set_of, free_below}
 use Rattle.pair_numbering.specs.Keys.{AreUsed}
@@ -48,6 +52,12 @@ pub record AreStrips (outer numbers : List ℕ) (len : ℕ) : Type 0 where
   pub whole : length numbers ≡ count * len
   pub within : (i : ℕ) → i < length outer → get_or outer i 0 < count
   pub used : (k : ℕ) → k < count → (i : ℕ) × ((i < length outer) × (get_or outer i 0 ≡ k))
+
+-- the pairs of names by the variable of a rank are numbered by first occurrence
+pub record ArePairsNumbered (names : List ℕ) (rank : ℕ) (numbers : List ℕ) (pairs : List (ℕ × ℕ)) : Type 0 where
+  pub numbered : numbers ≡ ranks same_pair (places.pairs names (2 ^ rank))
+  pub many : length pairs ≡ distinct_count same_pair (places.pairs names (2 ^ rank))
+  pub told : map (λ c. get_or pairs c (0, 0)) numbers ≡ places.pairs names (2 ^ rank)
 
 -- the masks of the numbers that occur
 unfoldable pub masks_in_use : List ℕ → List ℕ → List ℕ

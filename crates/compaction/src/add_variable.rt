@@ -5,7 +5,8 @@ ghost use Rattle.class_laws.specs.Places as places;
 ghost use Rattle.compaction.specs.Strips.{AreNamed, AreStrips, names_of, unrolled};
 ghost use Rattle.pair_numbering.specs.Keys.{AreUsed, TellsPairs};
 
-use pair_numbering::{number_pairs, tell_pairs};
+use crate::names::{NamePairs, number_names};
+use pair_numbering::tell_pairs;
 use std::alloc::{AllocError, Global};
 
 /// Strips, the names of the runs, and the mask of each number. Where `all_used` is true each mask is that of a number that
@@ -114,7 +115,8 @@ fn add_in_order(
     })
 }
 
-/// Strips with one more variable, which stands above those inside a strip: pairs of strips become strips.
+/// Strips with one more variable, which stands above those inside a strip: pairs of strips become strips. What is known of the
+/// pairs of names isn't numbered again.
 fn add_by_pairs(
     alloc: Global,
     outer: &[u32],
@@ -123,6 +125,7 @@ fn add_by_pairs(
     bits: u32,
     x: u8,
     masks: &[u16],
+    known: Option<&NamePairs>,
 ) -> Result<Grown, AllocError>
     requires steps { bits + rank < 16 }
     requires variable { x < 16 }
@@ -138,7 +141,7 @@ fn add_by_pairs(
     ensures few { IfOk result (λ g. length g.numbers.items ≤ 2 ^ 20) }
     ensures used { IfOk result (λ g. IsTrue g.all_used → AreUsed g.numbers.items g.masks.items) }
 {
-    let runs = number_pairs(alloc, outer, rank, numbers.len() >> bits)?;
+    let runs = number_names(alloc, outer, rank, numbers.len() >> bits, known)?;
     let paired = pair_strips(alloc, &runs.pairs, numbers, bits)?;
     let told = tell_pairs(alloc, &paired, bits, x, masks)?;
     Ok(Grown {
@@ -158,6 +161,7 @@ pub fn add_above(
     bits: u32,
     x: u8,
     masks: &[u16],
+    known: Option<&NamePairs>,
 ) -> Result<Grown, AllocError>
     requires steps { bits + rank < 16 }
     requires variable { x < 16 }
@@ -176,7 +180,7 @@ pub fn add_above(
     let grown = if count_up(outer) {
         add_in_order(alloc, outer, rank, numbers, bits, x, masks)?
     } else {
-        add_by_pairs(alloc, outer, rank, numbers, bits, x, masks)?
+        add_by_pairs(alloc, outer, rank, numbers, bits, x, masks, known)?
     };
     Ok(grown)
 }

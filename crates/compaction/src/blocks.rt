@@ -6,7 +6,8 @@ ghost use Rattle.compaction.specs.Strips.{low_variables as low_of};
 ghost use Rattle.class_laws.specs.Table.{classes_of};
 ghost use Rattle.compaction.specs.Rows.{IsRow, AreRows, AreMembers, AreBlank, AreFilled, wanted_count};
 
-use crate::bytes::ByteKeys;
+use crate::beginning::Beginning;
+use crate::names::AllNamePairs;
 use crate::strips::{Strips, low_variables};
 use crate::tally::Tally;
 use order_model::{Mask, Problem};
@@ -113,6 +114,7 @@ fn fill_row(
 fn walk(
     alloc: Global,
     table: &Strips<'_>,
+    names: &AllNamePairs,
     y: u8,
     block: &Block,
     needed: &[Mask],
@@ -138,21 +140,26 @@ fn walk(
         fill_row(alloc, table, block, needed, rows)?;
         return Ok(0);
     }
-    let before = walk(alloc, table, y + 1, block, needed, rows)?;
+    let before = walk(alloc, table, names, y + 1, block, needed, rows)?;
     if !is_wanted(block, needed, set + (1 << y), y + 1) {
         return Ok(before);
     }
-    let next = table.add_high(alloc, y)?;
-    let after = walk(alloc, &next, y + 1, block, needed, rows)?;
+    let known = names.at((set + (1 << y)) / 256);
+    let next = table.add_high(alloc, y, known)?;
+    let after = walk(alloc, &next, names, y + 1, block, needed, rows)?;
     Ok(before + after + 1)
 }
 
 /// The keys of a set's members below 3.
-fn low_bytes<'a>(alloc: Global, problem: &'a Problem, low: Mask) -> Result<Strips<'a>, AllocError>
-    requires { 8 ≤ problem.now.inputs }
-    ensures { IfOk result (λ c. c ≡ classes_of problem.now (low % 8)) }
+fn low_bytes<'a>(
+    alloc: Global,
+    beginning: &Beginning<'a>,
+    low: Mask,
+) -> Result<Strips<'a>, AllocError>
+    requires { 8 ≤ beginning.now.inputs }
+    ensures { IfOk result (λ c. c ≡ classes_of beginning.now (low % 8)) }
 {
-    let mut keys = ByteKeys::of_problem(alloc, problem)?;
+    let mut keys = beginning.keys(alloc)?;
     for y in 0..3 {
         if (low >> y) & 1 == 1 {
             keys = keys.add(alloc, y)?;
@@ -184,21 +191,65 @@ fn add_members<'a>(
 }
 
 /// The keys of a set of low variables.
-fn low_strips<'a>(alloc: Global, problem: &'a Problem, low: Mask) -> Result<Strips<'a>, AllocError>
-    requires { low < 2 ^ low_of problem.now }
-    ensures { IfOk result (λ c. c ≡ classes_of problem.now low) }
+fn low_strips<'a>(
+    alloc: Global,
+    beginning: &Beginning<'a>,
+    low: Mask,
+) -> Result<Strips<'a>, AllocError>
+    requires { low < 2 ^ low_of beginning.now }
+    ensures { IfOk result (λ c. c ≡ classes_of beginning.now low) }
 {
+    let problem = beginning.problem();
     if problem.inputs() < 8 {
         let strips = Strips::of_problem(alloc, problem)?;
         return add_members(alloc, strips, low, 0);
     }
-    let strips = low_bytes(alloc, problem, low)?;
+    let strips = low_bytes(alloc, beginning, low)?;
     add_members(alloc, strips, low, 3)
 }
 
+/// The rows of a block's sets. The table of the low byte is made once, and the others by a walk over the high variables that
+/// shares common beginnings. Where nothing is wanted no table is made.
+fn wanted_rows(
+    alloc: Global,
+    beginning: &Beginning<'_>,
+    block: &Block,
+    needed: &[Mask],
+) -> Result<BlockWidths, AllocError>
+    requires inputs { block.now.inputs ≡ beginning.now.inputs }
+    requires needed { length needed.now ≡ length (block_masks block.now) }
+    requires members { AreMembers beginning.now (block_masks block.now) needed.now }
+    ensures rows { IfOk result (λ widths. AreRows beginning.now (block_masks block.now) needed.now widths.rows) }
+    ensures compactions { IfOk result (λ widths. widths.compactions ≤ 2367) }
+{
+    let problem = beginning.problem();
+    prove!(problem.inputs() <= 16);
+    let low = Mask::from(block.low());
+    let mut rows = blank_rows(alloc, block.len())?;
+    if !is_wanted(block, needed, low, low_variables(problem)) {
+        return Ok(BlockWidths {
+            rows,
+            compactions: 0,
+        });
+    }
+    let table = low_strips(alloc, beginning, low)?;
+    let walked = walk(
+        alloc,
+        &table,
+        beginning.names(),
+        low_variables(problem),
+        block,
+        needed,
+        &mut rows,
+    )?;
+    Ok(BlockWidths {
+        rows,
+        compactions: low.count_ones() + walked,
+    })
+}
+
 /// The widths that the cells of a block's sets need: of each set those of the variables in `needed`, all of which are its
-/// members. The tally rises by their number. The table of the low byte is made once, and the others by a walk over the
-/// high variables that shares common beginnings.
+/// members. The tally rises by their number.
 pub fn block_widths(
     alloc: Global,
     problem: &Problem,
@@ -215,23 +266,54 @@ pub fn block_widths(
     ensures ok { OnOk result (tally.new ≡ tally.old + wanted_count needed.now) }
     ensures err { OnErr result (tally.new ≡ tally.old) }
 {
-    prove!(problem.inputs() <= 16);
-    let low = Mask::from(block.low());
-    let table = low_strips(alloc, problem, low)?;
-    let mut rows = blank_rows(alloc, block.len())?;
-    let walked = walk(
-        alloc,
-        &table,
-        low_variables(problem),
-        block,
-        needed,
-        &mut rows,
-    )?;
-    tally.add(count_wanted(needed));
-    Ok(BlockWidths {
-        rows,
-        compactions: low.count_ones() + walked,
-    })
+    let beginning = Beginning::bare(alloc, problem);
+    let widths = beginning.block_widths(alloc, block, needed, tally)?;
+    Ok(widths)
+}
+
+impl<'a> Beginning<'a> {
+    /// As `block_widths`, of the problem that this is the beginning of.
+    pub fn block_widths(
+        &self,
+        alloc: Global,
+        block: &Block,
+        needed: &[Mask],
+        tally: &mut Tally,
+    ) -> Result<BlockWidths, AllocError>
+        requires inputs { block.now.inputs ≡ self.now.inputs }
+        requires needed { length needed.now ≡ length (block_masks block.now) }
+        requires members { AreMembers self.now (block_masks block.now) needed.now }
+        requires room { tally.old + wanted_count needed.now ≤ 2 ^ 32 }
+        ensures rows { IfOk result (λ widths. AreRows self.now (block_masks block.now) needed.now widths.rows) }
+        ensures compactions { IfOk result (λ widths. widths.compactions ≤ 2367) }
+        ensures ok { OnOk result (tally.new ≡ tally.old + wanted_count needed.now) }
+        ensures err { OnErr result (tally.new ≡ tally.old) }
+    {
+        prove!(block.len() <= 256);
+        let widths = wanted_rows(alloc, self, block, needed)?;
+        tally.add(count_wanted(needed));
+        Ok(widths)
+    }
+
+    /// The widths of all members of a block's sets, for measurements and tests.
+    pub fn all_widths(
+        &self,
+        alloc: Global,
+        block: &Block,
+        tally: &mut Tally,
+    ) -> Result<BlockWidths, AllocError>
+        requires inputs { block.now.inputs ≡ self.now.inputs }
+        requires room { tally.old < 2 ^ 31 }
+        ensures rows { IfOk result (λ widths. AreRows self.now (block_masks block.now) (block_masks block.now) widths.rows) }
+        ensures compactions { IfOk result (λ widths. widths.compactions ≤ 2367) }
+        ensures ok { OnOk result (tally.new ≡ tally.old + wanted_count (block_masks block.now)) }
+        ensures err { OnErr result (tally.new ≡ tally.old) }
+    {
+        prove!(self.problem().inputs() <= 16);
+        prove!(block.len() <= 256);
+        let masks = masks_of(alloc, block)?;
+        self.block_widths(alloc, block, &masks, tally)
+    }
 }
 
 /// The masks of a block.
@@ -259,8 +341,7 @@ pub fn all_widths(
     ensures ok { OnOk result (tally.new ≡ tally.old + wanted_count (block_masks block.now)) }
     ensures err { OnErr result (tally.new ≡ tally.old) }
 {
-    prove!(problem.inputs() <= 16);
-    prove!(block.len() <= 256);
-    let masks = masks_of(alloc, block)?;
-    block_widths(alloc, problem, block, &masks, tally)
+    let beginning = Beginning::bare(alloc, problem);
+    let widths = beginning.all_widths(alloc, block, tally)?;
+    Ok(widths)
 }

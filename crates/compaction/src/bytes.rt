@@ -7,6 +7,7 @@ ghost use Rattle.compaction.specs.Strips.{AreNamed, unrolled};
 
 use crate::classes::rank_of;
 use crate::columns::{ByteStrips, byte_strips};
+use crate::names::copied;
 use crate::strips::Strips;
 use order_model::{Mask, Problem, VarIx};
 use pair_numbering::tell_pairs;
@@ -96,6 +97,29 @@ impl<'a> ByteKeys<'a> {
             outer,
             bytes,
             rows,
+            masks,
+        })
+    }
+
+    /// The names of the strips, function by function.
+    pub fn names(&self) -> &[u32] {
+        self.outer.as_slice()
+    }
+
+    /// The same keys once more.
+    pub fn copied(&self, alloc: Global) -> Result<ByteKeys<'a>, AllocError>
+        ensures { IfOk result (λ c. c ≡ self.now) }
+    {
+        let mut bytes = Vec::with_capacity(alloc, self.bytes.len())?;
+        bytes.extend_from_slice(&self.bytes)?;
+        let mut masks = Vec::with_capacity(alloc, self.masks.len())?;
+        masks.extend_from_slice(&self.masks)?;
+        Ok(ByteKeys {
+            problem: self.problem,
+            set: self.set,
+            outer: copied(alloc, &self.outer)?,
+            bytes,
+            rows: copied(alloc, &self.rows)?,
             masks,
         })
     }

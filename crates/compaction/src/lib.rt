@@ -2,14 +2,17 @@
 #![tactic(auto)]
 
 mod add_variable;
+mod beginning;
 mod blocks;
 mod bytes;
 mod classes;
 mod columns;
+mod names;
 mod start;
 mod strips;
 mod tally;
 
+pub use beginning::Beginning;
 pub use blocks::{BlockWidths, all_widths, block_widths};
 pub use classes::Classes;
 pub use pair_numbering::Scratch;

@@ -10,6 +10,7 @@ ghost use Rattle.compaction.specs.Strips.{masks_in_use, low_variables as low_of}
 use crate::add_variable::{add_above, count_up};
 use crate::classes::{rank_of, row_of};
 use crate::columns::{ValueStrips, whole_strips};
+use crate::names::NamePairs;
 use order_model::{Mask, Problem, VarIx};
 use pair_numbering::tell_pairs;
 use std::alloc::{AllocError, Global};
@@ -213,8 +214,13 @@ impl<'a> Strips<'a> {
         }
     }
 
-    /// The keys with one more high variable in the set.
-    pub fn add_high(&self, alloc: Global, x: VarIx) -> Result<Strips<'a>, AllocError>
+    /// The keys with one more high variable in the set. What is known of the pairs of names isn't numbered again.
+    pub fn add_high(
+        &self,
+        alloc: Global,
+        x: VarIx,
+        known: Option<&NamePairs>,
+    ) -> Result<Strips<'a>, AllocError>
         requires high { low_variables self.now.problem ≤ x }
         requires inside { x < self.now.problem.inputs }
         requires new { IsFalse (has (set_of self.now) x) }
@@ -235,6 +241,7 @@ impl<'a> Strips<'a> {
                     bits,
                     x,
                     &self.masks,
+                    known,
                 )?;
                 let strips = Strips::of_parts(
                     alloc,

@@ -1,4 +1,6 @@
-use compaction::{Classes, Scratch, Tally, all_widths};
+ghost use Rattle.std.specs.Prelude.{◌≡◌};
+
+use compaction::{Beginning, Classes, Scratch, Tally, all_widths};
 use order_model::Problem;
 use pair_numbering::number_pairs;
 use std::alloc::Global;
@@ -130,11 +132,14 @@ fn try_block(
     rt: &impl Abort,
     alloc: Global,
     problem: &Problem,
+    beginning: &Beginning<'_>,
     block: &Block,
-) -> Result<u64, Fail> {
+) -> Result<u64, Fail>
+    requires { beginning.now ≡ problem.now }
+{
     assert!(rt; block.inputs() == problem.inputs());
     let mut tally = Tally::new();
-    let widths = all_widths(alloc, problem, block, &mut tally)?;
+    let widths = beginning.all_widths(alloc, block, &mut tally)?;
     let mut count = 0u64;
     let mut sum = 0u64;
     for i in 0..block.len() {
@@ -168,9 +173,10 @@ fn try_block(
 /// The same for all blocks of a layer.
 fn try_layer(rt: &impl Abort, alloc: Global, problem: &Problem, size: u8) -> Result<u64, Fail> {
     let layer = Layer::of(alloc, problem.inputs(), size)?;
+    let beginning = Beginning::of(alloc, problem)?;
     let mut sum = 0u64;
     for i in 0..layer.blocks() {
-        let own = try_block(rt, alloc, problem, &layer.block(i))?;
+        let own = try_block(rt, alloc, problem, &beginning, &layer.block(i))?;
         assert!(rt; sum < 1 << 40 && own < 1 << 41);
         sum += own;
     }

@@ -5,7 +5,7 @@
 #![tactic(auto)]
 
 use anyhow::Error;
-use compaction::{Tally, all_widths};
+use compaction::{Beginning, Tally};
 use order_model::{Mask, Problem};
 use std::alloc::{AllocError, Global};
 use std::io::Read;
@@ -36,13 +36,14 @@ fn fewest_nodes(
     if let Some(none) = costs.first_mut() {
         *none = 0;
     }
+    let beginning = Beginning::of(alloc, problem)?;
     for size in 1..=problem.inputs() {
         let layer = Layer::of(alloc, problem.inputs(), size)?;
         for i in 0..layer.blocks() {
             let block = layer.block(i);
             if block.inputs() == problem.inputs() {
                 let mut tally = Tally::new();
-                let widths = all_widths(alloc, problem, &block, &mut tally)?;
+                let widths = beginning.all_widths(alloc, &block, &mut tally)?;
                 *compactions = compactions.saturating_add(u64::from(widths.compactions()));
                 for i in 0..block.len() {
                     let mask = block.mask(i);

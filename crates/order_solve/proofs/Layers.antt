@@ -1,19 +1,15 @@
 -- The layers of all sets.
 --     start_layer, layers_start, layers_push      the layer of the empty set, and a layer more
 --     set_layer      the layer in which a set is
-use Rattle.std.proofs.Common.{◌≡◌, ℕ, zero, suc, ◌+◌, ◌-◌, ◌*◌, ◌^◌, ◌<◌, ◌≤◌, inl, inr, Bool, true, false, cond, List, [], ◌∷◌, ◌++◌, map, take, length, length-append, slice_index, Some, IfSome, Option, refl, sym, ap, ◌∙◌, subst, arith, count_ones, pow_mono, eqb}
-use Rattle.std.specs.List.{filter, flat_map, sum_by, range_with_len}
-use Rattle.std.proofs.Math.Nat.{two-pow-succ}
+use Rattle.std.proofs.Common.{◌≡◌, ℕ, zero, suc, ◌+◌, ◌-◌, ◌^◌, ◌<◌, ◌≤◌, inl, inr, true, List, [], ◌∷◌, ◌++◌, length, length-append, Some, IfSome, Option, sym, ap, ◌∙◌, subst, arith, count_ones, eqb}
 use Rattle.std.proofs.lemmas.Bool.{cases_eq, cases_lt}
-use Rattle.std.proofs.lemmas.List.Sums.{sum_by-cons, sum-map}
 use Rattle.std.proofs.lemmas.List.FromFn.{length-range_with_len}
 use Rattle.std.proofs.lemmas.List.{get_or_append_left, get_or_push}
-use Rattle.std.proofs.lemmas.Map.Made.{distinct_count-le}
 use Rattle.std.proofs.lemmas.Option.{slice_get_within, slice_get-get_or, get_or_from_slice_get, same_Some}
-use Rattle.order_model.specs.Functions.{Function, restrict, table, same_table, depends, from_table}
+use Rattle.order_model.specs.Functions.{Function, from_table}
 use Rattle.std.specs.Int.{bit_at}
 use Rattle.std.proofs.lemmas.Nat.{zero_from_ones}
-use Rattle.order_model.specs.Orders.{has, members, variables, mask_of, IsOrder}
+use Rattle.order_model.specs.Orders.{has, members, variables, mask_of}
 use Rattle.order_model.specs.Cells.{cell_of, wanted}
 use Rattle.order_model.proofs.Widths.SizeBounds.{size_bound}
 use Rattle.subset_layers.specs.declared.costs.Cell.{Cell}
@@ -21,7 +17,6 @@ use Rattle.order_solve.specs.Needs.{needed}
 use Rattle.layer_core.specs.Pairing.{pair_of}
 use Rattle.order_model.specs.Pairs.{Pair}
 use Rattle.order_model.specs.Problems.{functions}
-use Rattle.order_model.specs.Levels.{subfunctions, reach, dependents, level_count, level_counts, size_under}
 use Rattle.subset_layers.specs.Layers.{layer_with, masks_of}
 use Rattle.subset_layers.specs.Costs.{CostsOf, start_costs, layer_of_costs, as_pair, AreTrueCosts, AreTrueCells}
 use Rattle.subset_layers.proofs.BlockLists.{masks_has}

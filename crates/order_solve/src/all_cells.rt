@@ -10,8 +10,10 @@ ghost use Rattle.order_solve.specs.Needs.{needed};
 ghost use Rattle.order_solve.specs.Benches.{setting_with, IsLayerFor};
 ghost use Rattle.order_solve.specs.Bounded.{AreLayersFor};
 
+use crate::alone::layers_alone;
 use crate::layering::next_layer;
 use crate::needs::needed_members;
+use compaction::Beginning;
 use order_model::{Gate, Mask, Pairs, Problem, Workers};
 use std::alloc::{AllocError, Global};
 use std::marker::Model;
@@ -54,6 +56,7 @@ pub(crate) fn layers_of<R: Threads + Sync, G: Gate>(
     ensures many { IfOk result (λ v. length v.items ≡ problem.now.inputs + 1) }
     ensures layers { IfOk result (λ v. AreLayersFor (setting_with problem.now pairs.now bound) v.items) }
 {
+    let beginning = Beginning::of(alloc, problem)?;
     let mut layers = Vec::new(alloc);
     layers.push(Costs::start(alloc, problem.inputs())?)?;
     for size in 0..problem.inputs() {
@@ -66,6 +69,7 @@ pub(crate) fn layers_of<R: Threads + Sync, G: Gate>(
             bound,
             before,
             size + 1,
+            &beginning,
             workers,
             gate,
         )?;
@@ -94,6 +98,28 @@ impl<'a> AllCells<'a> {
         let _few = problem.outputs();
         let _inputs = problem.inputs();
         let layers = layers_of(rt, alloc, problem, pairs, bound, workers, gate)?;
+        Ok(AllCells {
+            problem,
+            pairs,
+            bound,
+            layers,
+        })
+    }
+
+    /// The cells of all layers, by the calling thread.
+    pub fn alone(
+        alloc: Global,
+        problem: &'a Problem,
+        pairs: &'a Pairs,
+        bound: u32,
+    ) -> Result<AllCells<'a>, AllocError>
+        requires pairs { pairs.now.inputs ≡ problem.now.inputs }
+        requires bounded { IsBounded (setting_with problem.now pairs.now bound) }
+        ensures { IfOk result (λ a. a ≡ setting_with problem.now pairs.now bound) }
+    {
+        let _few = problem.outputs();
+        let _inputs = problem.inputs();
+        let layers = layers_alone(alloc, problem, pairs, bound)?;
         Ok(AllCells {
             problem,
             pairs,

@@ -1,6 +1,7 @@
 //! The cells of a block's sets.
 
-ghost use Rattle.std.specs.Prelude.{◌≡◌, ◌+◌, ◌^◌, ◌<◌, ◌≤◌, map, IfOk, OnOk};
+ghost use Rattle.std.specs.Prelude.{◌≡◌, ◌+◌, ◌^◌, ◌<◌, ◌≤◌, length, map, IfOk, OnOk};
+ghost use Rattle.compaction.specs.Rows.{AreMembers, AreRows, wanted_count};
 ghost use Rattle.subset_layers.specs.Layers.{layer_of, block_masks};
 ghost use Rattle.layer_core.specs.Settings.{cell_for};
 ghost use Rattle.layer_core.specs.Pairing.{pair_of};
@@ -8,9 +9,32 @@ ghost use Rattle.order_solve.specs.Gains.{widths_for};
 
 use crate::bench::Bench;
 use crate::needs::needs_of_block;
-use compaction::{Tally, block_widths};
+use compaction::{BlockWidths, Tally, block_widths};
+use order_model::Mask;
 use std::alloc::{AllocError, Global};
 use subset_layers::{Block, Cell, least_cell};
+
+/// The widths that are wanted of a block's sets.
+fn widths_of(
+    alloc: Global,
+    block: &Block,
+    bench: &Bench<'_>,
+    needed: &[Mask],
+    tally: &mut Tally,
+) -> Result<BlockWidths, AllocError>
+    requires inputs { block.now.inputs ≡ bench.now.setting.problem.inputs }
+    requires needed { length needed.now ≡ length (block_masks block.now) }
+    requires members { AreMembers bench.now.setting.problem (block_masks block.now) needed.now }
+    requires room { tally.old + wanted_count needed.now ≤ 2 ^ 32 }
+    ensures rows { IfOk result (λ widths. AreRows bench.now.setting.problem (block_masks block.now) needed.now widths.rows) }
+    ensures ok { OnOk result (tally.new ≡ tally.old + wanted_count needed.now) }
+{
+    let widths = match bench.beginning {
+        Some(beginning) => beginning.block_widths(alloc, block, needed, tally)?,
+        None => block_widths(alloc, bench.problem, block, needed, tally)?,
+    };
+    Ok(widths)
+}
 
 /// The cells of a block's sets, in their order. The tally rises by the number of widths that they take.
 pub fn cells_of_block(
@@ -24,8 +48,9 @@ pub fn cells_of_block(
     ensures cells { IfOk result (λ v. map pair_of v.items ≡ map (cell_for bench.now.setting) (block_masks block.now)) }
     ensures tally { OnOk result (tally.new ≡ tally.old + widths_for bench.now.setting (block_masks block.now)) }
 {
+    let _few = bench.problem.inputs();
     let needs = needs_of_block(alloc, block, bench)?;
-    let widths = block_widths(alloc, bench.problem, block, &needs, tally)?;
+    let widths = widths_of(alloc, block, bench, &needs, tally)?;
     let mut cells = Vec::with_capacity(alloc, block.len())?;
     for i in 0..block.len() {
         let row = widths.row(i);

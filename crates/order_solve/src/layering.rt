@@ -10,6 +10,7 @@ ghost use Rattle.order_solve.specs.Benches.{AreCostsFor, setting_with, IsLayerFo
 use crate::alone::cells_alone;
 use crate::bench::Bench;
 use crate::working::{WorkerEnd, work_layer};
+use compaction::Beginning;
 use layer_board::{Board, BoardSeat, CloseError};
 use order_model::{Gate, Pairs, Problem, Workers};
 use std::alloc::{AllocError, Global};
@@ -85,6 +86,21 @@ fn some_seat(
     Ok(last.seat)
 }
 
+/// How many entries of truth tables are worth a thread.
+const ENTRIES_A_WORKER: usize = 1 << 18;
+
+/// As many workers as a layer's blocks keep busy, and no more than there are.
+fn busy_workers(problem: &Problem, layer: &Layer, workers: Workers) -> Workers
+    ensures { result ≤ workers }
+{
+    let entries = (usize::from(problem.outputs()) << problem.inputs()) * layer.blocks().min(256);
+    let busy = entries / ENTRIES_A_WORKER + 1;
+    match Workers::new(busy.min(usize::from(workers.count())) as u8) {
+        Some(fewer) => fewer,
+        None => workers,
+    }
+}
+
 /// The cells of a layer in its order, by workers. Where some cell is missing although none of them ran out of memory, the
 /// calling thread does the layer over alone.
 fn cells_of_layer<R: Threads + Sync, G: Gate>(
@@ -101,7 +117,7 @@ fn cells_of_layer<R: Threads + Sync, G: Gate>(
         bench.problem,
         bench.bound,
         bench.layer,
-        workers,
+        busy_workers(bench.problem, bench.layer, workers),
         bench.pairs,
     )?;
     let jobs = numbered(alloc, &board, seats)?;
@@ -123,9 +139,11 @@ pub fn next_layer<R: Threads + Sync, G: Gate>(
     bound: u32,
     before: &Costs,
     size: u8,
+    beginning: &Beginning<'_>,
     workers: Workers,
     gate: &G,
 ) -> Result<Costs, AllocError>
+    requires beginning { beginning.now ≡ problem.now }
     requires pairs { pairs.now.inputs ≡ problem.now.inputs }
     requires inputs { before.now.inputs ≡ problem.now.inputs }
     requires size { size ≡ before.now.size + 1 }
@@ -134,7 +152,7 @@ pub fn next_layer<R: Threads + Sync, G: Gate>(
     ensures { IfOk result (IsLayerFor (setting_with problem.now pairs.now bound) size) }
 {
     let layer = Layer::of(alloc, problem.inputs(), size)?;
-    let bench = Bench::new(problem, pairs, bound, &layer, before);
+    let bench = Bench::new(problem, pairs, bound, &layer, before).with_beginning(beginning);
     let cells = cells_of_layer(rt, alloc, &bench, workers, gate)?;
     Ok(Costs::of(layer, cells))
 }

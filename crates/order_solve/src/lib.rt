@@ -15,5 +15,5 @@ mod working;
 
 pub use bench::Bench;
 pub use solution::Solution;
-pub use solving::solve;
+pub use solving::{solve, solve_alone};
 pub use working::{WorkerEnd, work_layer};

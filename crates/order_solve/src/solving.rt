@@ -19,6 +19,29 @@ use sifting::Sifted;
 use std::alloc::{AllocError, Global};
 use std::thread::Threads;
 
+/// What the cells of all sets give: the first order of the fewest nodes among those that keep the pairs.
+fn solution_of(alloc: Global, cells: &AllCells<'_>) -> Result<Solution, AllocError>
+    ensures first { IfOk result (λ s. IsFirstKeeping cells.now.problem.inputs (functions cells.now.problem) cells.now.pairs.pairs s.order) }
+    ensures fewest { IfOk result (λ s. FewestKeeping cells.now.problem.inputs (functions cells.now.problem) cells.now.pairs.pairs s.total) }
+    ensures size { IfOk result (λ s. s.total ≡ size_under cells.now.problem.inputs (functions cells.now.problem) s.order) }
+    ensures levels { IfOk result (λ s. s.levels.items ≡ counts_under cells.now.problem.inputs (functions cells.now.problem) s.order) }
+    ensures cells { IfOk result (λ s. map listed s.cells.items ≡ (certificate_of cells.now.problem.inputs (functions cells.now.problem) cells.now.pairs.pairs s.order).cells) }
+    ensures widths { IfOk result (λ s. s.widths ≡ widths_taken cells.now.problem.inputs (functions cells.now.problem) cells.now.pairs.pairs cells.now.bound) }
+{
+    let total = cells.cost(all_variables(cells.inputs()));
+    let order = read_order(alloc, cells)?;
+    let levels = level_counts(alloc, cells, &order)?;
+    let listed = listed_cells(alloc, cells, total)?;
+    let widths = count_widths(cells);
+    Ok(Solution {
+        order,
+        total,
+        levels,
+        cells: listed,
+        widths,
+    })
+}
+
 /// The first order of the fewest nodes among those that keep the pairs, for a bound that is the size of one of them.
 pub(crate) fn solve_within<R: Threads + Sync, G: Gate>(
     rt: &R,
@@ -39,18 +62,8 @@ pub(crate) fn solve_within<R: Threads + Sync, G: Gate>(
     ensures widths { IfOk result (λ s. s.widths ≡ widths_taken problem.now.inputs (functions problem.now) pairs.now.pairs bound) }
 {
     let cells = AllCells::of(rt, alloc, problem, pairs, bound, workers, gate)?;
-    let total = cells.cost(all_variables(cells.inputs()));
-    let order = read_order(alloc, &cells)?;
-    let levels = level_counts(alloc, &cells, &order)?;
-    let listed = listed_cells(alloc, &cells, total)?;
-    let widths = count_widths(&cells);
-    Ok(Solution {
-        order,
-        total,
-        levels,
-        cells: listed,
-        widths,
-    })
+    let solution = solution_of(alloc, &cells)?;
+    Ok(solution)
 }
 
 /// The first order of the fewest nodes among those that keep the pairs of a sifted order of the same functions. The size of
@@ -75,5 +88,21 @@ pub fn solve<R: Threads + Sync, G: Gate>(
 {
     let bound = sifted.size();
     let solution = solve_within(rt, alloc, problem, sifted.pairs(), bound, workers, gate)?;
+    Ok(solution)
+}
+
+/// The same as `solve`, by the calling thread alone.
+pub fn solve_alone(alloc: Global, problem: &Problem, sifted: Sifted) -> Result<Solution, AllocError>
+    requires { sifted.problem ≡ problem.now }
+    ensures first { IfOk result (λ s. IsFirstKeeping problem.now.inputs (functions problem.now) sifted.pairs s.order) }
+    ensures fewest { IfOk result (λ s. FewestKeeping problem.now.inputs (functions problem.now) sifted.pairs s.total) }
+    ensures size { IfOk result (λ s. s.total ≡ size_under problem.now.inputs (functions problem.now) s.order) }
+    ensures levels { IfOk result (λ s. s.levels.items ≡ counts_under problem.now.inputs (functions problem.now) s.order) }
+    ensures cells { IfOk result (λ s. map listed s.cells.items ≡ (certificate_of problem.now.inputs (functions problem.now) sifted.pairs s.order).cells) }
+    ensures widths { IfOk result (λ s. s.widths ≡ widths_taken problem.now.inputs (functions problem.now) sifted.pairs sifted.size) }
+{
+    let bound = sifted.size();
+    let cells = AllCells::alone(alloc, problem, sifted.pairs(), bound)?;
+    let solution = solution_of(alloc, &cells)?;
     Ok(solution)
 }

@@ -10,8 +10,8 @@ use Rattle.compaction.proofs.Paired.{paired_few, paired_long, paired_lower, pair
 use Rattle.compaction.proofs.Stripped.{high_strips, high_tells, unrolled_below}
 use Rattle.compaction.proofs.add_variable.add_by_pairs.Goals as goal
 
-pub number_pairs-requires-clause-classes : goal.number_pairs-requires-clause-classes
-number_pairs-requires-clause-classes c = λ i h.
+pub number_names-requires-clause-names : goal.number_names-requires-clause-names
+number_names-requires-clause-names c = λ i h.
     let w = c.requires.strips.within i h in
     let some = pow_pos c.args.bits in
     let z = div-eq_of_lt some in

@@ -6,12 +6,12 @@ use Rattle.compaction.proofs.blocks.low_bytes.Goals as goal
 use Rattle.compaction.proofs.blocks.low_bytes.Goals.{then-low-y-eq1+in_ok-keys-2, else-low-y-eq1}
 
 pub add-requires-clause-new : goal.add-requires-clause-new
-add-requires-clause-new c = ap (λ (t : ClassesOf). has (set_of t) c.loop-y.y) c.loop-y.invariant ∙ low_new c.args.problem.now.inputs c.args.low c.loop-y.y
+add-requires-clause-new c = ap (λ (t : ClassesOf). has (set_of t) c.loop-y.y) c.loop-y.invariant ∙ low_new c.args.beginning.now.inputs c.args.low c.loop-y.y
 
 pub loop-y-preserved : goal.loop-y-preserved
 loop-y-preserved c =
     elim c.if-low-y-eq1.branch [
       | then-low-y-eq1+in_ok-keys-2 w ↦
-          w.keys-is ∙ w.in_ok-keys-2.ensures ∙ ap (λ (t : ClassesOf). with_variable t c.loop-y.y) c.loop-y.invariant ∙ ap (classes_of c.args.problem.now) (low_more c.args.low c.loop-y.y w.if-low-y-eq1.true)
-      | else-low-y-eq1 w ↦ w.keys-is ∙ c.loop-y.invariant ∙ ap (classes_of c.args.problem.now) (low_same c.args.low c.loop-y.y w.if-low-y-eq1.false)
+          w.keys-is ∙ w.in_ok-keys-2.ensures ∙ ap (λ (t : ClassesOf). with_variable t c.loop-y.y) c.loop-y.invariant ∙ ap (classes_of c.args.beginning.now) (low_more c.args.low c.loop-y.y w.if-low-y-eq1.true)
+      | else-low-y-eq1 w ↦ w.keys-is ∙ c.loop-y.invariant ∙ ap (classes_of c.args.beginning.now) (low_same c.args.low c.loop-y.y w.if-low-y-eq1.false)
     ]

@@ -1,7 +1,7 @@
 use Rattle.std.proofs.Common.{◌≡◌, ℕ, ◌+◌, ◌++◌, List, [], ◌∷◌, map, slice_index, sym, ap, ap₂, ◌∙◌, subst, arith}
 use Rattle.std.proofs.lemmas.List.{map_more, map-append, get_or-map}
 use Rattle.std.proofs.lemmas.Option.{slice_get_within, get_or_from_slice_get}
-use Rattle.subset_layers.specs.Layers.{block_masks}
+use Rattle.subset_layers.specs.Layers.{LayerOf, block_masks}
 use Rattle.compaction.specs.Rows.{AreMembers, IsRow, wanted_count}
 use Rattle.layer_core.specs.Settings.{cell_for}
 use Rattle.layer_core.specs.Pairing.{pair_of}
@@ -12,16 +12,20 @@ use Rattle.order_solve.proofs.Wanted.{needed_sum}
 use Rattle.order_solve.proofs.Blocks.{are_members, in_layer, row_there, cell_is}
 use Rattle.order_solve.proofs.cells.cells_of_block.Goals as goal
 
-pub block_widths-requires-clause-members : goal.block_widths-requires-clause-members
-block_widths-requires-clause-members c =
+pub widths_of-requires-clause-inputs : goal.widths_of-requires-clause-inputs
+widths_of-requires-clause-inputs c =
+    ap (λ (l : LayerOf). l.inputs) (c.requires.layer ∙ ap (λ (b : BenchOf). b.layer) (sym c.bench.view_is) ∙ c.bench.invariant.0.bench.layer) ∙ ap (λ (b : BenchOf). b.setting.problem.inputs) c.bench.view_is
+
+pub widths_of-requires-clause-members : goal.widths_of-requires-clause-members
+widths_of-requires-clause-members c =
     let i = c.bench.inside in
     let masks = block_masks c.args.block.now in
     let is = c.deref.ensures.value ∙ c.in_ok-needs.ensures in
-    subst (λ (ns : List ℕ). AreMembers i.problem.now masks ns) (sym (is ∙ ap (λ (b : BenchOf). map (needed b.setting) masks) (sym c.bench.view_is)))
-    (are_members _ i.essential c.bench.invariant c.args.block.now)
+    subst (λ (ns : List ℕ). AreMembers c.args.bench.now.setting.problem masks ns) (sym is)
+    (subst (λ (b : BenchOf). AreMembers b.setting.problem masks (map (needed b.setting) masks)) c.bench.view_is (are_members _ i.essential c.bench.invariant.0 c.args.block.now))
 
-pub block_widths-requires-clause-room : goal.block_widths-requires-clause-room
-block_widths-requires-clause-room c =
+pub widths_of-requires-clause-room : goal.widths_of-requires-clause-room
+widths_of-requires-clause-room c =
     let t = c.args.bench.now.setting in
     let masks = block_masks c.args.block.now in
     let e : wanted_count c.deref.result.now ≡ widths_for t masks = ap wanted_count (c.deref.ensures.value ∙ c.in_ok-needs.ensures) ∙ needed_sum t masks in
@@ -31,7 +35,7 @@ block_widths-requires-clause-room c =
 pub least_cell-requires-clause-next : goal.least_cell-requires-clause-next
 least_cell-requires-clause-next c =
     let i = c.bench.inside in
-    in_layer _ i.essential c.bench.invariant c.args.block.now (c.requires.layer ∙ ap (λ (b : BenchOf). b.layer) (sym c.bench.view_is)) c.loop-i.i c.mask.result c.mask.ensures
+    in_layer _ i.essential c.bench.invariant.0 c.args.block.now (c.requires.layer ∙ ap (λ (b : BenchOf). b.layer) (sym c.bench.view_is)) c.loop-i.i c.mask.result c.mask.ensures
 
 pub loop-i-preserved : goal.loop-i-preserved
 loop-i-preserved c =
@@ -40,11 +44,11 @@ loop-i-preserved c =
     let t = c.args.bench.now.setting in
     let lt = slice_get_within masks c.loop-i.i c.mask.result c.mask.ensures in
     let at : slice_index masks c.loop-i.i ≡ c.mask.result = get_or_from_slice_get masks c.loop-i.i c.mask.result 0 c.mask.ensures in
-    let next = in_layer _ i.essential c.bench.invariant c.args.block.now (c.requires.layer ∙ ap (λ (b : BenchOf). b.layer) (sym c.bench.view_is)) c.loop-i.i c.mask.result c.mask.ensures in
+    let next = in_layer _ i.essential c.bench.invariant.0 c.args.block.now (c.requires.layer ∙ ap (λ (b : BenchOf). b.layer) (sym c.bench.view_is)) c.loop-i.i c.mask.result c.mask.ensures in
     let need : slice_index c.deref.result.now c.loop-i.i ≡ needed t c.mask.result = ap (λ xs. slice_index xs c.loop-i.i) (c.deref.ensures.value ∙ c.in_ok-needs.ensures) ∙ get_or-map (needed t) masks c.loop-i.i 0 0 lt ∙ ap (needed t) at in
-    let row = row_there i.problem.now masks c.deref.result.now c.in_ok-widths.widths.rows c.loop-i.i c.mask.result (needed t c.mask.result) c.row-row.result c.in_ok-widths.ensures.rows c.mask.ensures need c.row-row.ensures in
-    let is = cell_is _ i.essential c.bench.invariant c.mask.result next c.row-row.result
-    (subst (λ (b : BenchOf). IsRow i.problem.now c.mask.result (needed b.setting c.mask.result) c.row-row.result) (sym c.bench.view_is) row)
+    let row = row_there t.problem masks c.deref.result.now c.in_ok-widths.widths.rows c.loop-i.i c.mask.result (needed t c.mask.result) c.row-row.result c.in_ok-widths.ensures.rows c.mask.ensures need c.row-row.ensures in
+    let is = cell_is _ i.essential c.bench.invariant.0 c.mask.result next c.row-row.result
+    (subst (λ (b : BenchOf). IsRow b.setting.problem c.mask.result (needed b.setting c.mask.result) c.row-row.result) (sym c.bench.view_is) row)
     (pair_of c.least_cell.result) c.least_cell.ensures ∙ ap (λ (b : BenchOf). cell_for b.setting c.mask.result) c.bench.view_is in
     ap (map pair_of) c.in_ok-push.ensures.items
     ∙ map-append pair_of c.loop-i.cells.items (c.least_cell.result ∷ [])

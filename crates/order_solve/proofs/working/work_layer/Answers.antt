@@ -28,10 +28,10 @@ cells_of_block-requires-clause-room g c =
     let h = claims_at c.args.board.now s s1 p b (w.board ∙ c.requires.seat) e.block e.gained e.claimed e.later in
     let gains : widths_for t _ ≡ c.loop-claim.tally + widths_for t (block_masks c.block.result.now) = round_gains t c.args.seat s s1 s1 c.loop-claim.tally p b w h ∙ ap (λ (z : BlockOf). c.loop-claim.tally + widths_for t (block_masks z)) (sym c.block.ensures) in
     let few = few_gained t c.args.seat s1 t.problem.inputs
-    (let f = c.bench.invariant.few in let v = ap (λ (z : BenchOf). z.setting.problem.inputs) c.bench.view_is in omega (arith, f, v))
-    (ap (λ (z : BoardId). z.brief.layer.inputs) c.requires.seat ∙ ap (λ (l : LayerOf). l.inputs) c.requires.layer ∙ ap (λ (z : BenchOf). z.layer.inputs) (sym c.bench.view_is) ∙ ap (λ (l : LayerOf). l.inputs) c.bench.invariant.bench.layer
+    (let f = c.bench.invariant.0.few in let v = ap (λ (z : BenchOf). z.setting.problem.inputs) c.bench.view_is in omega (arith, f, v))
+    (ap (λ (z : BoardId). z.brief.layer.inputs) c.requires.seat ∙ ap (λ (l : LayerOf). l.inputs) c.requires.layer ∙ ap (λ (z : BenchOf). z.layer.inputs) (sym c.bench.view_is) ∙ ap (λ (l : LayerOf). l.inputs) c.bench.invariant.0.bench.layer
     ∙ ap (λ (z : BenchOf). z.setting.problem.inputs) c.bench.view_is)
-    (let f = c.bench.invariant.few in let v = ap (λ (z : BenchOf). z.setting.problem.inputs) c.bench.view_is in omega (arith, f, v)) in
+    (let f = c.bench.invariant.0.few in let v = ap (λ (z : BenchOf). z.setting.problem.inputs) c.bench.view_is in omega (arith, f, v)) in
     omega (arith, gains, few)
 
 pub loop-claim-smaller : goal.loop-claim-smaller

@@ -1,13 +1,10 @@
-use Rattle.std.proofs.Common.{◌≡◌, ℕ, ◌-◌, ◌^◌, ap, ◌∙◌, subst}
+use Rattle.std.proofs.Common.{◌≡◌, ℕ, ◌-◌, ◌^◌, ap, ◌∙◌}
 use Rattle.order_model.specs.Problems.{functions}
-use Rattle.order_model.specs.Levels.{size_under}
-use Rattle.order_model.specs.Diagrams.{FewestKeeping, IsFirstKeeping}
 use Rattle.order_model.specs.Cells.{cell_cost}
-use Rattle.order_model.specs.Certificates.{certificate_of}
 use Rattle.layer_core.specs.Settings.{Setting}
 use Rattle.order_solve.proofs.ReadOrders.{order_first}
 use Rattle.order_solve.proofs.Solved.{total_size, total_small, total_fewest, cells_listed}
-use Rattle.order_solve.proofs.solving.solve_within.Goals as goal
+use Rattle.order_solve.proofs.solving.solution_of.Goals as goal
 
 -- the total is the cost of the set of all variables
 total_is : (t : Setting) (inputs mask total : ℕ) → inputs ≡ t.problem.inputs → mask ≡ 2 ^ inputs - 1 → total ≡ cell_cost t.problem.inputs (functions t.problem) t.pairs.pairs t.bound mask →
@@ -15,40 +12,39 @@ total_is : (t : Setting) (inputs mask total : ℕ) → inputs ≡ t.problem.inpu
 total_is t inputs mask total v m e = e ∙ ap (cell_cost t.problem.inputs (functions t.problem) t.pairs.pairs t.bound) (m ∙ ap (λ (k : ℕ). 2 ^ k - 1) v)
 
 pub listed_cells-requires : goal.listed_cells-requires
-listed_cells-requires g c =
-    let t = c.in_ok-cells.cells in
+listed_cells-requires c =
+    let t = c.args.cells.now in
     let e = c.inputs.ensures in
     total_small t e.bounded c.in_ok-order.order c.in_ok-order.ensures c.cost-total.result (total_is t c.inputs.result c.all_variables.result c.cost-total.result e.value c.all_variables.ensures c.cost-total.ensures)
 
 pub returns-clause-first : goal.returns-clause-first
-returns-clause-first g c =
-    let t = c.in_ok-cells.cells in
+returns-clause-first c =
+    let t = c.args.cells.now in
     let e = c.inputs.ensures in
     let o = c.in_ok-order.order in
-    subst (λ (z : Setting). IsFirstKeeping z.problem.inputs (functions z.problem) z.pairs.pairs o) c.in_ok-cells.ensures (order_first t e.bounded o c.in_ok-order.ensures)
+    order_first t e.bounded o c.in_ok-order.ensures
 
 pub returns-clause-fewest : goal.returns-clause-fewest
-returns-clause-fewest g c =
-    let t = c.in_ok-cells.cells in
+returns-clause-fewest c =
+    let t = c.args.cells.now in
     let e = c.inputs.ensures in
     let o = c.in_ok-order.order in
     let is = total_is t c.inputs.result c.all_variables.result c.cost-total.result e.value c.all_variables.ensures c.cost-total.ensures in
-    subst (λ (z : Setting). FewestKeeping z.problem.inputs (functions z.problem) z.pairs.pairs c.cost-total.result) c.in_ok-cells.ensures (total_fewest t e.bounded o c.in_ok-order.ensures c.cost-total.result is)
+    total_fewest t e.bounded o c.in_ok-order.ensures c.cost-total.result is
 
 pub returns-clause-size : goal.returns-clause-size
-returns-clause-size g c =
-    let t = c.in_ok-cells.cells in
+returns-clause-size c =
+    let t = c.args.cells.now in
     let e = c.inputs.ensures in
     let o = c.in_ok-order.order in
     let is = total_is t c.inputs.result c.all_variables.result c.cost-total.result e.value c.all_variables.ensures c.cost-total.ensures in
-    total_size t e.bounded o c.in_ok-order.ensures c.cost-total.result is ∙ ap (λ (z : Setting). size_under z.problem.inputs (functions z.problem) o) c.in_ok-cells.ensures
+    total_size t e.bounded o c.in_ok-order.ensures c.cost-total.result is
 
 pub returns-clause-cells : goal.returns-clause-cells
-returns-clause-cells g c =
-    let t = c.in_ok-cells.cells in
+returns-clause-cells c =
+    let t = c.args.cells.now in
     let e = c.inputs.ensures in
     let o = c.in_ok-order.order in
     let is = total_is t c.inputs.result c.all_variables.result c.cost-total.result e.value c.all_variables.ensures c.cost-total.ensures in
     c.in_ok-listed.ensures
     ∙ cells_listed t e.bounded o c.in_ok-order.ensures c.cost-total.result is
-    ∙ ap (λ (z : Setting). (certificate_of z.problem.inputs (functions z.problem) z.pairs.pairs o).cells) c.in_ok-cells.ensures

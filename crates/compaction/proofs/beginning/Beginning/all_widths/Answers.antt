@@ -1,12 +1,13 @@
 use Rattle.std.proofs.Common.{sym, ap, ◌∙◌, subst, arith}
+use Rattle.order_model.specs.Problems.{TruthTables}
 use Rattle.subset_layers.specs.Layers.{block_masks}
 use Rattle.compaction.specs.Rows.{AreMembers, wanted_count}
 use Rattle.compaction.proofs.Wanted.{own_members, own_count}
-use Rattle.compaction.proofs.blocks.all_widths.Goals as goal
+use Rattle.compaction.proofs.beginning.Beginning.all_widths.Goals as goal
 
 pub block_widths-requires-clause-members : goal.block_widths-requires-clause-members
 block_widths-requires-clause-members c =
-    subst (λ needed. AreMembers c.args.problem.now (block_masks c.args.block.now) needed) (sym (c.deref.ensures.value ∙ c.in_ok-masks.ensures)) (own_members c.args.problem.now c.args.block.now c.requires.inputs)
+    subst (λ needed. AreMembers c.args.self.now (block_masks c.args.block.now) needed) (sym (c.deref.ensures.value ∙ c.in_ok-masks.ensures)) (own_members c.args.self.now c.args.block.now c.requires.inputs)
 
 pub block_widths-requires-clause-room : goal.block_widths-requires-clause-room
 block_widths-requires-clause-room c =
@@ -14,6 +15,7 @@ block_widths-requires-clause-room c =
     let v = c.inputs.ensures.value in
     let f = c.inputs.ensures.few in
     let i = c.requires.inputs in
+    let p = ap (λ (t : TruthTables). t.inputs) c.problem.ensures in
     let l = c.len.ensures.value in
     let s = c.len.ensures.few in
     let k = own_count c.args.block.now (omega arith) (omega arith) in

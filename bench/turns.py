@@ -1,0 +1,33 @@
+#!/usr/bin/env python3
+"""turns.py RUNS PROGRAM.. -- FILE..   runs programs on files in turns, and prints of each the least wall time and processor time in seconds"""
+import os
+import subprocess
+import sys
+import time
+
+
+def run(program, file):
+    begin = time.perf_counter()
+    ran = subprocess.Popen([program, file], stdout=subprocess.DEVNULL)
+    _, status, used = os.wait4(ran.pid, 0)
+    if status:
+        sys.exit(f"{program} {file}: status {status}")
+    return time.perf_counter() - begin, used.ru_utime + used.ru_stime
+
+
+def main():
+    if "--" not in sys.argv or len(sys.argv) < 5:
+        sys.exit(__doc__)
+    at = sys.argv.index("--")
+    runs, programs, files = int(sys.argv[1]), sys.argv[2:at], sys.argv[at + 1:]
+    for file in files:
+        found = {program: [] for program in programs}
+        for _ in range(runs):
+            for program in programs:
+                found[program].append(run(program, file))
+        for program in programs:
+            wall, processor = zip(*found[program])
+            print(f"{os.path.basename(file)} {program}: wall {min(wall):.4f}, processor {min(processor):.3f}", flush=True)
+
+
+main()

@@ -1,0 +1,51 @@
+use Rattle.std.proofs.Common.{◌≡◌, ◌<◌, ◌^◌, [], ℕ, List, length, slice_index, get_or, refl, sym, ap, ◌∙◌, subst, arith}
+use Rattle.order_model.specs.Problems.{TruthTables}
+use Rattle.order_model.proofs.Lists.Orders.{has_at}
+use Rattle.subset_layers.specs.Layers.{block_masks}
+use Rattle.subset_layers.proofs.BlockLists.{in_block}
+use Rattle.class_laws.specs.Table.{ClassesOf}
+use Rattle.compaction.specs.Rows.{AreRows, AreFilled}
+use Rattle.compaction.proofs.Filled.{agree_low, rows_back, blank_row}
+use Rattle.compaction.proofs.blocks.wanted_rows.Goals as goal
+
+pub walk-requires-clause-blank : goal.walk-requires-clause-blank
+walk-requires-clause-blank c = λ i lt z x few.
+    let rows = c.deref_mut.result.now in
+    let v = c.deref_mut.ensures.value in
+    blank_row c.in_ok-table.table.problem (slice_index (block_masks c.args.block.now) i) (slice_index c.args.needed.now i) x (get_or rows i []) z
+    (ap (λ (rs : List (List ℕ)). slice_index (get_or rs i []) x) v ∙ c.in_ok-rows.ensures.zeros i x (let l = c.len.ensures.value in omega arith))
+
+pub returns-then-not-is_wanted-clause-rows : goal.returns-then-not-is_wanted-clause-rows
+returns-then-not-is_wanted-clause-rows c =
+    let masks = block_masks c.args.block.now in
+    let l = c.len.ensures.value in
+    let k = c.in_ok-rows.ensures.long in
+    let n = c.requires.needed in
+    record {
+      each = omega arith;
+      are = λ i lt x few.
+          let b = in_block c.args.block.now (slice_index masks i) (has_at masks i lt) in
+          blank_row c.args.beginning.now (slice_index masks i) (slice_index c.args.needed.now i) x (get_or c.in_ok-rows.rows.items i [])
+          (c.if-not-is_wanted.ensures refl i (omega arith) (agree_low c.args.beginning.now.inputs c.from-low.result (slice_index masks i) c.low_variables.result (let m = c.low_variables.ensures in let q = ap (λ (t : TruthTables). t.inputs) c.problem-problem.ensures in omega arith)
+          (subst (λ m. slice_index masks i < 2 ^ m) c.requires.inputs b.0) (b.1 ∙ sym (c.from-low.ensures ∙ c.low.ensures.value))))
+          (c.in_ok-rows.ensures.zeros i x (omega arith));
+    }
+
+pub returns-clause-rows : goal.returns-clause-rows
+returns-clause-rows c =
+    let masks = block_masks c.args.block.now in
+    let new = c.walk.new.rows in
+    let a = c.walk.auto.rows in
+    let v = ap length c.deref_mut.ensures.value in
+    let l = c.len.ensures.value in
+    let k = c.in_ok-rows.ensures.long in
+    let n : c.in_ok-rows.rows.len ≡ length c.in_ok-rows.rows.items = omega arith in
+    let filled = subst (λ (t : ClassesOf). AreFilled t.problem masks c.args.needed.now t.set c.low_variables-2.result c.deref_mut.result.now new) c.in_ok-table.ensures c.in_ok-walked.ensures.rows in
+    subst (λ (rs : List (List ℕ)). AreRows c.args.beginning.now masks c.args.needed.now rs) (sym (rows_back new c.in_ok-rows.rows.items c.in_ok-rows.rows.len (omega arith)))
+    (record {
+      each = omega arith;
+      are = λ i lt.
+          let b = in_block c.args.block.now (slice_index masks i) (has_at masks i lt) in
+          (filled i lt).0 (agree_low c.args.beginning.now.inputs c.from-low.result (slice_index masks i) c.low_variables-2.result (let m = c.low_variables-2.ensures in let q = ap (λ (t : TruthTables). t.inputs) c.problem-problem.ensures in omega arith)
+          (subst (λ m. slice_index masks i < 2 ^ m) c.requires.inputs b.0) (b.1 ∙ sym (c.from-low.ensures ∙ c.low.ensures.value)));
+    })

@@ -1,0 +1,162 @@
+//! Pairs of the names of strips, numbered beforehand: they depend on the high variables alone, and so serve all blocks.
+
+ghost use Rattle.std.specs.Prelude.{◌≡◌, ℕ, ◌*◌, ◌^◌, ◌<◌, ◌≤◌, map, get_or, length, slice_index, IfOk, IfSome, IsTrue};
+ghost use Rattle.std.specs.Set.{distinct_count};
+ghost use Rattle.order_model.specs.Widths.{same_pair};
+ghost use Rattle.class_laws.specs.Numbering.{ranks};
+ghost use Rattle.class_laws.specs.Places as places;
+ghost use Rattle.compaction.specs.Strips.{ArePairsNumbered};
+
+use crate::add_variable::count_up;
+use pair_numbering::{NumberedPairs, number_pairs};
+use std::alloc::{AllocError, Global};
+
+/// Names of strips, and the numbers of their pairs by one variable.
+#[derive(Drop)]
+pub struct NamePairs {
+    names: Vec<u32>,
+    rank: u32,
+    numbers: Vec<u32>,
+    pairs: Vec<(u32, u32)>,
+    ghost numbered: { ArePairsNumbered names.items rank numbers.items pairs.items },
+}
+
+/// Whether all names are below a limit.
+fn are_below(names: &[u32], limit: usize) -> bool
+    ensures { IsTrue result → (i : ℕ) → i < length names.now → slice_index names.now i < limit }
+{
+    for name in names {
+        if *name as usize >= limit {
+            return false;
+        }
+    }
+    true
+}
+
+/// Whether so many names are whole blocks of pairs.
+fn are_whole(count: usize, rank: u32) -> bool
+    requires { rank < 16 }
+    ensures { IsTrue result → (blocks : ℕ) × (count ≡ blocks * (2 * 2 ^ rank)) }
+{
+    let step = 1usize << rank;
+    count % (2 * step) == 0
+}
+
+/// The same words once more.
+pub fn copied(alloc: Global, words: &[u32]) -> Result<Vec<u32>, AllocError>
+    ensures { IfOk result (λ v. v.items ≡ words.now) }
+{
+    let mut copy = Vec::with_capacity(alloc, words.len())?;
+    copy.extend_from_slice(words)?;
+    Ok(copy)
+}
+
+/// The same pairs once more.
+fn copied_pairs(alloc: Global, pairs: &[(u32, u32)]) -> Result<Vec<(u32, u32)>, AllocError>
+    ensures { IfOk result (λ v. v.items ≡ pairs.now) }
+{
+    let mut copy = Vec::with_capacity(alloc, pairs.len())?;
+    copy.extend_from_slice(pairs)?;
+    Ok(copy)
+}
+
+impl NamePairs {
+    /// The pairs of names, where they are worth keeping: names that count up aren't paired by number.
+    fn of(alloc: Global, names: &[u32], rank: u32) -> Result<Option<NamePairs>, AllocError>
+        requires rank { rank < 16 }
+    {
+        if names.len() > 1 << 12 || !are_whole(names.len(), rank) || count_up(names) {
+            return Ok(None);
+        }
+        if !are_below(names, names.len()) {
+            return Ok(None);
+        }
+        let paired = number_pairs(alloc, names, rank, names.len())?;
+        Ok(Some(NamePairs {
+            names: copied(alloc, names)?,
+            rank,
+            numbers: paired.numbers,
+            pairs: paired.pairs,
+        }))
+    }
+
+    /// The pairs of names with the numbers that they were given before.
+    fn given(&self, alloc: Global) -> Result<NumberedPairs, AllocError>
+        ensures { IfOk result (λ v. ArePairsNumbered self.now.names.items self.now.rank v.numbers.items v.pairs.items) }
+    {
+        Ok(NumberedPairs {
+            numbers: copied(alloc, &self.numbers)?,
+            pairs: copied_pairs(alloc, &self.pairs)?,
+        })
+    }
+}
+
+/// The numbers of the pairs of names, as they were given before if these names are those.
+pub fn number_names(
+    alloc: Global,
+    names: &[u32],
+    rank: u32,
+    count: usize,
+    known: Option<&NamePairs>,
+) -> Result<NumberedPairs, AllocError>
+    requires rank { rank < 16 }
+    requires len { length names.now ≤ 2 ^ 20 }
+    requires whole { (blocks : ℕ) × (length names.now ≡ blocks * (2 * 2 ^ rank)) }
+    requires names { (i : ℕ) → i < length names.now → slice_index names.now i < count }
+    requires few { count ≤ 2 ^ 20 }
+    ensures numbers { IfOk result (λ v. v.numbers.items ≡ ranks same_pair (places.pairs names.now (2 ^ rank))) }
+    ensures many { IfOk result (λ v. length v.pairs.items ≡ distinct_count same_pair (places.pairs names.now (2 ^ rank))) }
+    ensures told { IfOk result (λ v. map (λ c. get_or v.pairs.items c (0, 0)) v.numbers.items ≡ places.pairs names.now (2 ^ rank)) }
+{
+    if let Some(known) = known {
+        if known.rank == rank && known.names.as_slice() == names {
+            let given = known.given(alloc)?;
+            return Ok(given);
+        }
+    }
+    number_pairs(alloc, names, rank, count)
+}
+
+/// The pairs of names for each set of high variables, by the mask of the set: the names of the set without its largest member,
+/// paired by that.
+#[derive(Drop)]
+pub struct AllNamePairs {
+    steps: Vec<Option<NamePairs>>,
+}
+
+impl AllNamePairs {
+    /// The pairs of a problem's names, of so many high variables.
+    pub fn of(alloc: Global, names: &[u32], high: u8) -> Result<AllNamePairs, AllocError>
+        requires { high ≤ 8 }
+    {
+        let mut steps: Vec<Option<NamePairs>> = Vec::with_capacity(alloc, 1usize << high)?;
+        steps.push(None)?;
+        for largest in 0..high {
+            for without in 0..1usize << largest {
+                let rank = u32::from(largest) - without.count_ones().min(u32::from(largest));
+                let step = match steps.get(without) {
+                    Some(Some(earlier)) => NamePairs::of(alloc, &earlier.numbers, rank)?,
+                    _ if without == 0 => NamePairs::of(alloc, names, rank)?,
+                    _ => None,
+                };
+                steps.push(step)?;
+            }
+        }
+        Ok(AllNamePairs { steps })
+    }
+
+    /// Nothing is known.
+    pub fn none(alloc: Global) -> AllNamePairs {
+        AllNamePairs {
+            steps: Vec::new(alloc),
+        }
+    }
+
+    /// What is known of the pairs of a set.
+    pub fn at(&self, high: u16) -> Option<&NamePairs> {
+        match self.steps.get(usize::from(high)) {
+            Some(Some(step)) => Some(step),
+            _ => None,
+        }
+    }
+}
