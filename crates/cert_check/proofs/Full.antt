@@ -2,17 +2,18 @@
 --     full_of      how numbers and masks show it
 --     full_more      with one more variable there are half as many
 --     full_width      each width into the set is their count
-use Rattle.std.proofs.Common.{◌≡◌, ◌≢◌, ℕ, zero, suc, ◌+◌, ◌*◌, ◌/◌, ◌^◌, ◌<◌, ◌≤◌, zero-add, Bool, true, false, cond, eqb, ne_eqb, List, ◌∷◌, length, get_or, set, replicate, bit_or, refl, sym, ap, ◌∙◌, subst, arith}
+use Rattle.std.proofs.Common.{◌≡◌, ◌≢◌, ℕ, zero, suc, ◌+◌, ◌*◌, ◌/◌, ◌^◌, ◌<◌, ◌≤◌, Bool, true, false, cond, eqb, ne_eqb, List, ◌∷◌, length, get_or, set, replicate, bit_or, refl, sym, ap, ◌∙◌, subst, arith}
 use Rattle.std.specs.Int.{bit_at}
 use Rattle.std.specs.Int.Bits.{or_self}
 use Rattle.std.specs.List.{filter, range_with_len}
 use Rattle.std.proofs.lemmas.Bool.{and_parts}
 use Rattle.std.proofs.lemmas.Nat.{pow_pos}
 use Rattle.std.proofs.lemmas.List.{ext_get_or, get_or-replicate, length-replicate, set-get_or, replicate-append-replicate}
-use Rattle.std.proofs.lemmas.List.FromFn.{get_or-range_with_len, length-range_with_len}
+use Rattle.std.proofs.lemmas.List.FromFn.{length-range_with_len}
 use Rattle.order_model.specs.Orders.{has, variables, without}
 use Rattle.order_model.specs.Widths.{width}
 use Rattle.order_model.proofs.Bits.Masks.{has_members, members_small}
+use Rattle.order_model.proofs.Lists.Ranges.{range_at}
 use Rattle.class_laws.specs.Dependence.{joined_mask}
 use Rattle.class_laws.specs.Places.{low_place, pairs}
 use Rattle.class_laws.specs.Table.{ClassesOf, HoldsClasses, with_variable, functions_of, set_of, free_below}
@@ -23,15 +24,12 @@ use Rattle.class_laws.proofs.Firsts.{Made, made_none, made_first, made_numbers, 
 use Rattle.class_laws.proofs.Index.{length-pairs, pair_listed, pair_within}
 use Rattle.cert_check.specs.Tables.{IsFull}
 
-count_at : (n i : ℕ) → i < n → get_or (range_with_len 0 n) i 0 ≡ i
-count_at n i l = get_or-range_with_len 0 n i 0 l ∙ zero-add i
-
 pub full_of : (t : ClassesOf) (numbers masks : List ℕ) → HoldsClasses t numbers masks → length masks ≡ length numbers → ((i : ℕ) → i < length numbers → get_or numbers i 0 ≡ i) →
     ((i : ℕ) → i < length masks → get_or masks i 0 ≡ t.set) → IsFull t (length masks)
 full_of t numbers masks h e own full = subst (λ us. HoldsClasses t us (replicate (length masks) t.set)) same_numbers (subst (HoldsClasses t numbers) same_masks h)
   where
     same_numbers : numbers ≡ range_with_len 0 (length masks)
-    same_numbers = ext_get_or 0 numbers (range_with_len 0 (length masks)) (sym e ∙ sym (length-range_with_len 0 (length masks))) (λ i l. own i l ∙ sym (count_at (length masks) i (omega arith)))
+    same_numbers = ext_get_or 0 numbers (range_with_len 0 (length masks)) (sym e ∙ sym (length-range_with_len 0 (length masks))) (λ i l. own i l ∙ sym (range_at (length masks) i (omega arith)))
 
     same_masks : masks ≡ replicate (length masks) t.set
     same_masks = ext_get_or 0 masks (replicate (length masks) t.set) (sym (length-replicate (length masks) t.set)) (λ i l. full i l ∙ sym (get_or-replicate (length masks) i t.set 0 l))
@@ -61,8 +59,8 @@ module _ (t : ClassesOf) (count : ℕ) (h : IsFull t count) (x : ℕ) (inside : 
   apart : (i j : ℕ) → i < j → j < length cs → get_or cs i 0 ≢ get_or cs j 0
   apart i j a b e =
       let l = length-range_with_len 0 count in
-      let p = count_at count i (omega arith) in
-      let q = count_at count j (omega arith) in
+      let p = range_at count i (omega arith) in
+      let q = range_at count j (omega arith) in
       omega arith
 
   within : (j : ℕ) → j < count / 2 → low_place step j + step < count
@@ -75,8 +73,8 @@ module _ (t : ClassesOf) (count : ℕ) (h : IsFull t count) (x : ℕ) (inside : 
   pair_is j l =
       let n = length-range_with_len 0 count in
       let w = within j l in
-      let a = count_at count (low_place step j) (omega arith) in
-      let b = count_at count (low_place step j + step) w in
+      let a = range_at count (low_place step j) (omega arith) in
+      let b = range_at count (low_place step j + step) w in
       pair_listed cs step j (omega arith) ∙ (λ i. (a i, b i))
 
   join_is : (j : ℕ) → j < count / 2 → union ≡ join (get_or ps j (0, 0))
@@ -92,7 +90,7 @@ module _ (t : ClassesOf) (count : ℕ) (h : IsFull t count) (x : ℕ) (inside : 
   out = range_with_len 0 (count / 2)
 
   same_out : (j : ℕ) → j < count / 2 → set out j (length (replicate j union)) ≡ out
-  same_out j l = ap (set out j) (length-replicate j union ∙ sym (count_at (count / 2) j l)) ∙ set-get_or out j 0
+  same_out j l = ap (set out j) (length-replicate j union ∙ sym (range_at (count / 2) j l)) ∙ set-get_or out j 0
 
   made : (j : ℕ) → j ≤ count / 2 → Made 0 ps join out (replicate j union) j
   made zero l = made_none 0 ps join out (length-range_with_len 0 (count / 2) ∙ sym half)

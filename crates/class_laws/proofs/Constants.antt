@@ -16,7 +16,8 @@ use Rattle.order_model.specs.Levels.{subfunctions, reach}
 use Rattle.order_model.specs.Widths.{outside}
 use Rattle.order_model.proofs.Lists.Sets.{Among, among_from_flat_map, among_from_map}
 use Rattle.order_model.proofs.Functions.Tables.{table_same, same_from_table}
-use Rattle.class_laws.proofs.Lists.{map_flat_map, map_ranges, flat_map_same}
+use Rattle.order_model.proofs.Lists.Maps.{flat_map_same}
+use Rattle.class_laws.proofs.Lists.{map_flat_map, map_ranges}
 use mathlib.Core.List.{map-map}
 use Rattle.order_model.proofs.Lists.Ranges.{range_append}
 

@@ -15,7 +15,7 @@ use Rattle.class_laws.proofs.BlockPlaces.{listed_classes}
 use Rattle.class_laws.proofs.Progress.{among_take, take_among}
 use Rattle.class_laws.proofs.Counted.{same_at}
 use Rattle.class_laws.proofs.Joined.{length-ranks, number_at}
-use Rattle.class_laws.proofs.Lists.{map_same}
+use Rattle.order_model.proofs.Lists.Maps.{map_same}
 use Rattle.class_laws.proofs.Ranks.{rank_below, rank_reached}
 use mathlib.Core.List.{map-map}
 

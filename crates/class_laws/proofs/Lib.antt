@@ -7,6 +7,7 @@ pub mod Counted
 pub mod MaskStep
 pub mod Constants
 pub mod StartClasses
+pub mod ValueRows
 pub mod Index
 pub mod Progress
 pub mod Joined

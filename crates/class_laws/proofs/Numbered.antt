@@ -8,7 +8,7 @@ use Rattle.std.proofs.lemmas.List.{map-id}
 use Rattle.order_model.specs.Widths.{same_pair}
 use Rattle.order_model.proofs.Widths.ClassPairs.{pair_decides}
 use Rattle.class_laws.specs.Numbering.{rank, ranks}
-use Rattle.class_laws.proofs.Lists.{map_same}
+use Rattle.order_model.proofs.Lists.Maps.{map_same}
 use Rattle.class_laws.proofs.Ranks.{Numbers, rank_below}
 use mathlib.Core.List.{map-map}
 

@@ -9,12 +9,13 @@ use Rattle.std.specs.List.{filter, range_with_len}
 use Rattle.std.proofs.Math.Nat.{add-mul-mod_self_right, add-mul-div_right, mod-eq_of_lt, div-eq_of_lt, div-lt_iff_lt-mul, mod-lt}
 use Rattle.std.proofs.lemmas.Bool.{and_parts, cases_eq, cases_lt}
 use Rattle.std.proofs.lemmas.Nat.{pow_pos}
-use Rattle.std.proofs.lemmas.List.{length-map, get_or-map, map-id}
+use Rattle.std.proofs.lemmas.List.{length-map, get_or-map}
 use Rattle.std.proofs.lemmas.List.FromFn.{length-range_with_len, get_or-map-range_with_len, length-map-range_with_len}
 use Rattle.order_model.specs.Orders.{has, variables, without}
 use Rattle.order_model.specs.Widths.{width}
 use Rattle.order_model.proofs.Bits.Masks.{has_members}
 use Rattle.order_model.proofs.Lists.Orders.{has_variables}
+use Rattle.order_model.proofs.Lists.Ranges.{range_at}
 use Rattle.class_laws.specs.Dependence.{joined_mask}
 use Rattle.class_laws.specs.Places.{low_place, pairs}
 use Rattle.compaction.specs.Rows.{width_wanted}
@@ -27,9 +28,6 @@ use Rattle.compaction.proofs.Keyed.{keys_ready, keys_by_names}
 use Rattle.compaction.proofs.Stripped.{parts_of}
 use Rattle.compaction.proofs.Unrolled.{same_by_places, length_unrolled, unrolled_at}
 use Rattle.compaction.proofs.Used.{in_use_same, width_by_use}
-
-at_range : (n i : ℕ) → i < n → get_or (range_with_len 0 n) i 0 ≡ i
-at_range n i h = ap (λ us. get_or us i 0) (sym (map-id (range_with_len 0 n))) ∙ get_or-map-range_with_len (λ k. k) 0 n i i 0 h (omega arith)
 
 -- the same value so many times
 same_list : ℕ → ℕ → List ℕ
@@ -61,8 +59,8 @@ module _ (t : ClassesOf) (count : ℕ) (d : AreDistinct t count) (x : ℕ) (insi
   pair_is j h =
       let l = length-range_with_len 0 count in
       let w = pair_within (2 ^ free_below t.set x) whole.0 (length (range_with_len 0 count)) j (pow_pos (free_below t.set x)) whole.1 (omega arith) in
-      let a = at_range count (low_place (2 ^ free_below t.set x) j) (omega arith) in
-      let b = at_range count (low_place (2 ^ free_below t.set x) j + 2 ^ free_below t.set x) (omega arith) in
+      let a = range_at count (low_place (2 ^ free_below t.set x) j) (omega arith) in
+      let b = range_at count (low_place (2 ^ free_below t.set x) j + 2 ^ free_below t.set x) (omega arith) in
       pair_listed (range_with_len 0 count) (2 ^ free_below t.set x) j (omega arith) ∙ (λ i. (a i, b i))
 
   -- a pair's place, from its lower part
@@ -90,7 +88,7 @@ module _ (t : ClassesOf) (count : ℕ) (d : AreDistinct t count) (x : ℕ) (insi
     name = name;
     numbers_are = same_by_places (range_with_len 0 (count / 2)) (map name (pairs (range_with_len 0 count) (2 ^ free_below t.set x)))
         (length-range_with_len 0 (count / 2) ∙ sym (length-map (pairs (range_with_len 0 count) (2 ^ free_below t.set x)) name ∙ many))
-        (λ i h. let l = length-range_with_len 0 (count / 2) in let m = many in at_range (count / 2) i (omega arith) ∙ sym (get_or-map name (pairs (range_with_len 0 count) (2 ^ free_below t.set x)) i (0, 0) 0 (omega arith) ∙ name_is i (omega arith)));
+        (λ i h. let l = length-range_with_len 0 (count / 2) in let m = many in range_at (count / 2) i (omega arith) ∙ sym (get_or-map name (pairs (range_with_len 0 count) (2 ^ free_below t.set x)) i (0, 0) 0 (omega arith) ∙ name_is i (omega arith)));
     apart = λ i j a b e. let m = many in ap (λ k. get_or (pairs (range_with_len 0 count) (2 ^ free_below t.set x)) k (0, 0)) (sym (name_is i (omega arith)) ∙ e ∙ name_is j (omega arith));
     below = λ i a. let m = many in let n = name_is i (omega arith) in let l = length_same (bit_or t.set (2 ^ x)) (count / 2) in omega arith;
     told = λ i a.
@@ -129,7 +127,7 @@ distinct_width t count x d small inside =
     ∙ length_filter_map (λ m. eqb (bit_at m x) 1) (λ k. get_or d.masks k 0) (range_with_len 0 count)
     ∙ filter_all (λ k. eqb (bit_at (get_or d.masks k 0) x) 1) (range_with_len 0 count) (λ i h.
     let l = length-range_with_len 0 count in
-    ap (λ k. eqb (bit_at (get_or d.masks k 0) x) 1) (at_range count i (omega arith)) ∙ ap (λ m. eqb (bit_at m x) 1) (d.full i (omega arith)) ∙ bit)
+    ap (λ k. eqb (bit_at (get_or d.masks k 0) x) 1) (range_at count i (omega arith)) ∙ ap (λ m. eqb (bit_at m x) 1) (d.full i (omega arith)) ∙ bit)
     ∙ length-range_with_len 0 count
   where
     kept : (xs : List ℕ) → filter (λ _. true) xs ≡ xs
@@ -189,7 +187,7 @@ distinct_strips t low outer numbers masks h exact own counted full = record {
         let e = parts_of i (2 ^ free_below t.set low) some in
         ap (λ k. get_or (unrolled outer numbers (2 ^ free_below t.set low)) k 0) e ∙ unrolled_at outer numbers (2 ^ free_below t.set low) h.strips (i / 2 ^ free_below t.set low) (i % 2 ^ free_below t.set low) q m
         ∙ ap (λ k. get_or numbers (k * 2 ^ free_below t.set low + i % 2 ^ free_below t.set low) 0) (own (i / 2 ^ free_below t.set low) q) ∙ ap (λ k. get_or numbers k 0) (sym e)
-        ∙ counted i (omega arith) ∙ sym (at_range (length numbers) i (omega arith)))
+        ∙ counted i (omega arith) ∙ sym (range_at (length numbers) i (omega arith)))
 
 -- which of both a table holds
 pub table_strips : (t : ClassesOf) (low : ℕ) (distinct : Option ℕ) (all_used : Bool) (outer numbers masks : List ℕ) → HoldsTable t low distinct all_used outer numbers masks → distinct ≡ None → HoldsStrips t low outer numbers masks

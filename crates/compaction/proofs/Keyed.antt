@@ -32,7 +32,7 @@ use Rattle.order_model.proofs.Precedence.Masks.{among_at}
 use Rattle.class_laws.proofs.Ranks.{ranks_alike}
 use Rattle.class_laws.proofs.Index.{length-pairs, pair_within}
 use Rattle.class_laws.proofs.DependenceMasks.{dependence_joined}
-use Rattle.class_laws.proofs.Lists.{map_same}
+use Rattle.order_model.proofs.Lists.Maps.{map_same}
 use Rattle.class_laws.proofs.Compacted.{step_of, tops, length_numbers, pairs_told, pairs_of_classes, compacted, counted, class_numbers_same, class_pair_same}
 use Rattle.class_laws.proofs.Extended.{members_more, step_is, class_below, few_masks, IsReady, rank_small, free_none, free_more}
 use mathlib.Core.List.{map-map}

@@ -32,7 +32,8 @@ use Rattle.pair_numbering.specs.Keys.{AreUsed}
 use Rattle.class_laws.specs.Table.{ClassesOf, functions_of, set_of, free_below}
 use Rattle.class_laws.proofs.Compacted.{filter_range_same}
 use Rattle.class_laws.proofs.Counted.{among_variables, distinct_by_numbers, length_filter_map, width_is_dependent_classes}
-use Rattle.class_laws.proofs.Lists.{map_same, place_of}
+use Rattle.order_model.proofs.Lists.Maps.{map_same}
+use Rattle.class_laws.proofs.Lists.{place_of}
 use Rattle.order_model.proofs.Precedence.Masks.{among_at}
 use Rattle.compaction.proofs.Stripped.{parts_of, below_product}
 use Rattle.compaction.proofs.Unrolled.{length_unrolled, unrolled_at}

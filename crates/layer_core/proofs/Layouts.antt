@@ -1,13 +1,14 @@
 -- The blocks of a layer's masks, and the places of its masks.
 use Rattle.std.proofs.Common.{◌≡◌, ◌↔◌, IsNone, IsFalse, ℕ, zero, suc, ◌^◌, ◌<◌, ◌≤◌, ◌&&◌, ◌||◌, Bool, true, false, cond, nat_eq, List, [], ◌∷◌, map, get_or, length, Option, Some, None, slice_get, sym, refl, ap, ◌∙◌, subst, pow_mono, arith}
-use Rattle.std.specs.List.{IsDistinct, filter, list_any, range_with_len}
+use Rattle.std.specs.List.{filter, list_any, range_with_len}
 use Rattle.std.proofs.lemmas.List.FromFn.{length-range_with_len, get_or-range_with_len}
 use Rattle.std.proofs.lemmas.Option.{get_or_from_slice_get, slice_get_within}
 use Rattle.std.proofs.lemmas.Bool.Decides.{nat_tests}
 use Rattle.order_model.specs.Orders.{has, place_in, members, variables}
 use Rattle.order_model.proofs.Lists.Orders.{has_filter, has_range, place_small}
-use Rattle.order_model.proofs.Widths.Recurrence.{distinct_filter, distinct_variables}
 use Rattle.subset_layers.specs.Layers.{LayerOf, masks_of, low_byte, low_bytes, blocks_of, block_of, block_place}
+use Rattle.subset_layers.proofs.BlockLists.{blocks_length}
+use Rattle.subset_layers.proofs.CostLists.{distinct_masks}
 use Rattle.layer_core.specs.Machine.{place_of}
 use Rattle.layer_core.specs.Rights.{IsLayout}
 use Rattle.layer_core.specs.Settings.{layout_of}
@@ -32,10 +33,6 @@ any_at p (x ∷ xs) (suc i) d h e = or_true (p x) (list_any p xs) (any_at p xs i
     or_true true b e = refl
     or_true false b e = e
 
-blocks_many : (l : LayerOf) → length (blocks_of l) ≡ length (low_bytes l)
-unfolding blocks_of
-blocks_many l = length-map_lem (block_of l.inputs l.size) (low_bytes l)
-
 place_is : (l : LayerOf) (p : ℕ) → block_place l p ≡ place_in (low_bytes l) (low_byte (get_or (masks_of l) p 0))
 unfolding block_place
 place_is l p = refl
@@ -54,7 +51,7 @@ block_below l p low =
     let here : has (range_with_len 0 256) (low_byte m) ≡ true = in_range (low_byte m) 256 (omega arith) in
     let is_low : list_any (λ mask. nat_eq (low_byte mask) (low_byte m)) (masks_of l) ≡ true = any_at (λ (mask : ℕ). nat_eq (low_byte mask) (low_byte m)) (masks_of l) p 0 low (same (low_byte m)) in
     let among : has (low_bytes l) (low_byte m) ≡ true = has_low l (low_byte m) ∙ both _ _ here is_low in
-    rw (place_is l p, blocks_many l) (place_small (low_bytes l) (low_byte m) among)
+    rw (place_is l p, blocks_length l) (place_small (low_bytes l) (low_byte m) among)
   where
     same : (n : ℕ) → nat_eq n n ≡ true
     same n = grind (arith, nat_tests)
@@ -79,15 +76,11 @@ unfolding low_bytes
 few_low_bytes l = length-range_le 256 (λ low. list_any (λ mask. nat_eq (low_byte mask) low) (masks_of l))
 
 pub few_blocks : (l : LayerOf) → length (blocks_of l) ≤ 256
-few_blocks l = subst (λ (k : ℕ). k ≤ 256) (sym (blocks_many l)) (few_low_bytes l)
+few_blocks l = subst (λ (k : ℕ). k ≤ 256) (sym (blocks_length l)) (few_low_bytes l)
 
 pub few_masks : (l : LayerOf) → length (masks_of l) ≤ 2 ^ l.inputs
 unfolding masks_of
 few_masks l = length-range_le (2 ^ l.inputs) (λ mask. nat_eq (length (members l.inputs mask)) l.size)
-
-pub distinct_masks : (l : LayerOf) → IsDistinct nat_eq (masks_of l)
-unfolding masks_of
-distinct_masks l = distinct_filter _ (variables (2 ^ l.inputs)) (distinct_variables (2 ^ l.inputs))
 
 -- a mask stands at its place
 pub place_found : (l : LayerOf) (p mask : ℕ) → slice_get (masks_of l) p ≡ Some mask → place_of (layout_of l) mask ≡ Some p

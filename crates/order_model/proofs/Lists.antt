@@ -1,6 +1,7 @@
 -- Lists: as sets, runs of numbers and filters, lists of variables that are orders, and which order comes first.
 pub mod Sets
 pub mod Ranges
+pub mod Maps
 pub mod Digits
 pub mod Orders
 pub mod Accepted

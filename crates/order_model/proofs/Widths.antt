@@ -4,6 +4,7 @@ pub mod Recurrence
 pub mod Essential
 pub mod Fewest
 pub mod SizeBounds
+pub mod Parts
 pub mod Count
 pub mod Cells
 pub mod Clipped

@@ -20,7 +20,8 @@ use Rattle.pair_numbering.specs.Keys.{AreUsed, TellsPairs, joined_key, joined_ke
 use Rattle.class_laws.proofs.Ranks.{ranks_alike, rank_below, rank_reached}
 use Rattle.class_laws.proofs.Index.{length-pairs, pair_listed}
 use Rattle.class_laws.proofs.Joined.{pair_classes}
-use Rattle.class_laws.proofs.Lists.{map_same, place_of}
+use Rattle.order_model.proofs.Lists.Maps.{map_same}
+use Rattle.class_laws.proofs.Lists.{place_of}
 use Rattle.order_model.proofs.Precedence.Masks.{among_at}
 use mathlib.Core.List.{map-map}
 

@@ -22,28 +22,8 @@ use Rattle.order_model.proofs.Functions.Tables.{restrict_same, table_same, same_
 use Rattle.truth_table.specs.Numberings.{IsNumbering, is_unequal, pair_at, pairs_of, unequal_count}
 use Rattle.truth_table.proofs.PairNumbers.{length-pairs_of, get_or-pairs_of}
 use mathlib.Core.List.{map-map}
+use Rattle.order_model.proofs.Widths.Parts.{reach_parts}
 use Rattle.order_model.proofs.Widths.SizeBounds.{length-subfunctions}
-
--- ---- subfunctions in parts
-
-flat_map_parts : {X Y Z : Type 0} (g : Y → List Z) (f : X → List Y) (xs : List X) → flat_map g (flat_map f xs) ≡ flat_map (λ x. flat_map g (f x)) xs
-flat_map_parts g f [] = refl
-flat_map_parts g f (x ∷ xs) = flat_map-append g (f x) (flat_map f xs) ∙ ap (λ zs. flat_map g (f x) ++ zs) (flat_map_parts g f xs)
-
-subfunctions_parts : (xs ys : List ℕ) (f : Function) → subfunctions (xs ++ ys) f ≡ flat_map (subfunctions ys) (subfunctions xs f)
-unfolding subfunctions
-subfunctions_parts [] ys f = append_nil (subfunctions ys f)
-  where
-    append_nil : (zs : List Function) → zs ≡ zs ++ []
-    append_nil [] = refl
-    append_nil (z ∷ zs) = ap (λ us. z ∷ us) (append_nil zs)
-subfunctions_parts (x ∷ xs) ys f =
-    ap₂ (λ us vs. us ++ vs) (subfunctions_parts xs ys (restrict x false f)) (subfunctions_parts xs ys (restrict x true f))
-    ∙ sym (flat_map-append (subfunctions ys) (subfunctions xs (restrict x false f)) (subfunctions xs (restrict x true f)))
-
-flat_map_same : {X Y : Type 0} (f g : X → List Y) → ((x : X) → f x ≡ g x) → (xs : List X) → flat_map f xs ≡ flat_map g xs
-flat_map_same f g h [] = refl
-flat_map_same f g h (x ∷ xs) = λ i. h x i ++ flat_map_same f g h xs i
 
 -- each function restricted by x both ways
 abbrev pub both_restricted : ℕ → Function → List Function
@@ -54,9 +34,7 @@ restricted x fs = flat_map (both_restricted x) fs
 
 pub reach_last : (F : List Function) (xs : List ℕ) (x : ℕ) → reach F (xs ++ x ∷ []) ≡ restricted x (reach F xs)
 unfolding reach subfunctions
-reach_last F xs x =
-    flat_map_same (subfunctions (xs ++ x ∷ [])) (λ f. flat_map (subfunctions (x ∷ [])) (subfunctions xs f)) (subfunctions_parts xs (x ∷ [])) F
-    ∙ sym (flat_map_parts (subfunctions (x ∷ [])) (subfunctions xs) F)
+reach_last F xs x = reach_parts F xs (x ∷ [])
 
 pub length-reach : (F : List Function) (xs : List ℕ) → length (reach F xs) ≡ length F * 2 ^ length xs
 unfolding reach

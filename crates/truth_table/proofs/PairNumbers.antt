@@ -14,6 +14,7 @@ use Rattle.order_model.specs.Widths.{same_pair}
 use Rattle.order_model.proofs.Widths.ClassPairs.{pair_decides}
 use Rattle.order_model.proofs.Lists.Sets.{Among, among_left, among_right, among_cases, among_filter, among_from_filter, among_from_member, member_from_among, count_same}
 use Rattle.truth_table.specs.Numberings.{IsNumbering, is_unequal, pair_at, pairs_of, unequal_count}
+use Rattle.order_model.proofs.Lists.Maps.{map_same}
 use Rattle.order_model.proofs.Precedence.Masks.{among_at}
 
 -- ---- the pairs
@@ -112,13 +113,6 @@ place_new k ks h =
     position_or_len_push (same_pair k) ks k ∙ ap (λ b. cond b (length ks + cond (same_pair k k) 0 1) (position_or_len (same_pair k) ks)) (eq-eqb _ _ e)
     ∙ ap (λ b. length ks + cond b 0 1) ((pair_decides k k).1 refl) ∙ z ∙ sym e
 
-map_among : {X Y : Type 0} (f g : X → Y) (xs : List X) → ((x : X) → Among x xs → f x ≡ g x) → map f xs ≡ map g xs
-map_among f g [] h = refl
-map_among f g (x ∷ xs) h =
-    let here = h x (inl refl) in
-    let rest = map_among f g xs (λ y a. h y (inr a)) in
-    λ i. here i ∷ rest i
-
 -- ---- counts
 
 append_nil : {X : Type 0} (xs : List X) → xs ++ [] ≡ xs
@@ -205,7 +199,7 @@ module _ (keys done : List (ℕ × ℕ)) (out : List ℕ) (unequal : ℕ) (m : M
         known = λ u h. elim (among_cases u done (k ∷ []) h) [ inl b ↦ among_left u keys (k ∷ []) (m.known u b) | inr b ↦ among_right u keys (k ∷ []) b ];
         listed = λ u h. elim (among_cases u keys (k ∷ []) h) [ inl b ↦ among_left u done (k ∷ []) (m.listed u b) | inr b ↦ among_right u done (k ∷ []) b ];
         numbers =
-            (λ i. (m.numbers ∙ map_among (λ u. position_or_len (same_pair u) keys) (λ u. position_or_len (same_pair u) (keys ++ k ∷ [])) done (λ u h. sym (place_kept u k keys (m.known u h)))) i ++ sym (place_new k keys a) i ∷ [])
+            (λ i. (m.numbers ∙ map_same (λ u. position_or_len (same_pair u) keys) (λ u. position_or_len (same_pair u) (keys ++ k ∷ [])) done (λ u h. sym (place_kept u k keys (m.known u h)))) i ++ sym (place_new k keys a) i ∷ [])
             ∙ sym (map-append (λ u. position_or_len (same_pair u) (keys ++ k ∷ [])) done (k ∷ []));
         count = counted (is_unequal k) ∙ sym (unequal_new k done (λ b. a (m.known k b)));
         few = omega arith;

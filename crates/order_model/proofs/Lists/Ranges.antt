@@ -1,9 +1,10 @@
 -- Runs of rising numbers, and what filters keep.
---     range_append, range_last      a run of m + k numbers; a run of one more
+--     range_append, range_last, range_at      a run of m + k numbers; a run of one more; its numbers
 --     filter_at_most, filter_same, filter_twice      a filter keeps at most all; two that agree on a list; one after another
-use Rattle.std.proofs.Common.{◌≡◌, ℕ, zero, suc, ◌+◌, ◌≤◌, ◌&&◌, Bool, true, false, cond, List, [], ◌∷◌, ◌++◌, length, refl, ap, ap₂, ◌∙◌, eq-eqb, arith}
+use Rattle.std.proofs.Common.{◌≡◌, ℕ, zero, suc, ◌+◌, ◌<◌, ◌≤◌, zero-add, ◌&&◌, Bool, true, false, cond, List, [], ◌∷◌, ◌++◌, length, get_or, refl, ap, ap₂, ◌∙◌, eq-eqb, arith}
 use Rattle.std.specs.List.{filter, range_with_len}
 use Rattle.std.proofs.lemmas.Bool.{or_left, or_right}
+use Rattle.std.proofs.lemmas.List.FromFn.{get_or-range_with_len}
 use Rattle.order_model.specs.Orders.{has}
 
 pub range_append : (a m k : ℕ) → range_with_len a (m + k) ≡ range_with_len a m ++ range_with_len (a + m) k
@@ -16,6 +17,9 @@ range_append a (suc m) k =
 pub range_last : (k a : ℕ) → range_with_len a (suc k) ≡ range_with_len a k ++ (a + k) ∷ []
 range_last zero a = ap (λ u. u ∷ []) (omega arith)
 range_last (suc k) a = ap (λ zs. a ∷ zs) (range_last k (a + 1) ∙ ap (λ u. range_with_len (a + 1) k ++ u ∷ []) (let s : a + 1 + k ≡ a + suc k = omega arith in s))
+
+pub range_at : (n i : ℕ) → i < n → get_or (range_with_len 0 n) i 0 ≡ i
+range_at n i lt = get_or-range_with_len 0 n i 0 lt ∙ zero-add i
 
 pub filter_at_most : {X : Type 0} (p : X → Bool) (xs : List X) → length (filter p xs) ≤ length xs
 filter_at_most p [] = omega arith

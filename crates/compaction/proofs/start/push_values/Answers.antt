@@ -1,18 +1,11 @@
-use Rattle.std.proofs.Common.{◌≡◌, ℕ, Bool, List, ◌<◌, ◌++◌, ◌∷◌, [], ◌^◌, map, get_or, false, sym, ap, ◌∙◌, arith}
+use Rattle.std.proofs.Common.{◌≡◌, ℕ, ◌<◌, ◌++◌, ◌∷◌, [], ◌^◌, map, get_or, false, sym, ap, ◌∙◌, arith}
 use Rattle.std.specs.List.{range_with_len}
 use Rattle.std.proofs.lemmas.Nat.{one_shl}
-use Rattle.std.proofs.lemmas.List.{append_assoc, map-append}
-use Rattle.std.proofs.lemmas.List.FromFn.{map-range_with_len_more, get_or-map-range_with_len}
-use Rattle.order_model.specs.Problems.{table_in, packed_bit}
+use Rattle.std.proofs.lemmas.List.FromFn.{map-range_with_len_more}
+use Rattle.order_model.specs.Problems.{table_in}
 use Rattle.class_laws.specs.Values.{number_of, row}
+use Rattle.class_laws.proofs.ValueRows.{bit_in, one_more}
 use Rattle.compaction.proofs.start.push_values.Goals as goal
-
-bit_in : (n : ℕ) (words : List ℕ) (point : ℕ) → point < 2 ^ n → packed_bit words point ≡ get_or (table_in n words) point false
-unfolding table_in
-bit_in n words point lt = sym (get_or-map-range_with_len (packed_bit words) 0 (2 ^ n) point point false lt (omega arith))
-
-one_more : (before : List ℕ) (values : List Bool) (num : Bool → ℕ) (v : Bool) → (before ++ map num values) ++ num v ∷ [] ≡ before ++ map num (values ++ v ∷ [])
-one_more before values num v = append_assoc before (map num values) (num v ∷ []) ∙ ap (λ us. before ++ us) (sym (map-append num values (v ∷ [])))
 
 pub bit_of-requires : goal.bit_of-requires
 bit_of-requires c =
