@@ -1,5 +1,6 @@
 pub mod Dependence
 pub mod Numbering
+pub mod PairTables
 pub mod Places
 pub mod Table
 pub mod Values
