@@ -5,7 +5,6 @@
 --     ranks_used      each number by first occurrence is one that occurs
 use Rattle.std.proofs.Common.{◌≡◌, ℕ, suc, ◌+◌, ◌*◌, ◌/◌, ◌%◌, ◌^◌, ◌<◌, ◌≤◌, List, map, length, get_or, nat_eq, refl, sym, ap, ◌∙◌, subst, arith}
 use Rattle.std.specs.List.{range_with_len}
-use Rattle.std.specs.Set.{distinct_count}
 use Rattle.std.proofs.Math.Nat.{mul-le-mul_left, mul-le-mul_right, add-mul-mod_self_right, add-mul-div_right, mod-eq_of_lt, div-eq_of_lt}
 use Rattle.std.proofs.lemmas.List.{length-map, get_or-map, map-id}
 use Rattle.std.proofs.lemmas.List.FromFn.{get_or-map-range_with_len, length-map-range_with_len}
@@ -15,6 +14,7 @@ use Rattle.order_model.proofs.Lists.Sets.{Among, among_map, member_from_among, n
 use Rattle.order_model.proofs.Widths.ClassPairs.{pair_decides, rank_apart}
 use Rattle.class_laws.specs.Dependence.{joined_mask}
 use Rattle.class_laws.specs.Numbering.{rank, ranks}
+use Rattle.class_laws.specs.PairTables.{IsPairTable, NumbersPairs}
 use Rattle.class_laws.specs.Places.{pairs}
 use Rattle.pair_numbering.specs.Keys.{AreUsed, TellsPairs, joined_key, joined_key_mask}
 use Rattle.class_laws.proofs.Ranks.{ranks_alike, rank_below, rank_reached}
@@ -67,26 +67,25 @@ module _ (masks : List ℕ) (x : ℕ) (ps : List (ℕ × ℕ)) (numbers joined :
   }
 
 -- numbers by first occurrence are names
-pub names_numbered : (masks : List ℕ) (x : ℕ) (ps : List (ℕ × ℕ)) (numbers joined : List ℕ) → length ps ≤ 2 ^ 20 → numbers ≡ ranks same_pair ps → length joined ≡ distinct_count same_pair ps →
-    map (λ c. get_or joined c 0) numbers ≡ map (joined_mask masks x) ps → TellsPairs masks x ps numbers joined
+pub names_numbered : (masks : List ℕ) (x : ℕ) (ps : List (ℕ × ℕ)) (numbers joined : List ℕ) → length ps ≤ 2 ^ 20 → NumbersPairs masks x ps numbers joined → TellsPairs masks x ps numbers joined
 unfolding ranks rank
-names_numbered masks x ps numbers joined small e many told = record {
+names_numbered masks x ps numbers joined small h = record {
   name = rank same_pair ps;
-  numbers_are = e;
+  numbers_are = h.numbers_are;
   apart = λ i j a b. rank_apart same_pair pair_decides ps (get_or ps i (0, 0)) (get_or ps j (0, 0)) (among_at ps i (0, 0) a) (among_at ps j (0, 0) b);
   below = λ i a. let b = rank_below same_pair pair_decides ps (get_or ps i (0, 0)) (among_at ps i (0, 0) a) in omega arith;
   told = λ i a.
-      let l = ap length e ∙ length-map ps (rank same_pair ps) in
-      sym (ap (λ c. get_or joined c 0) (ap (λ us. get_or us i 0) e ∙ get_or-map (rank same_pair ps) ps i (0, 0) 0 a))
+      let l = ap length h.numbers_are ∙ length-map ps (rank same_pair ps) in
+      sym (ap (λ c. get_or joined c 0) (ap (λ us. get_or us i 0) h.numbers_are ∙ get_or-map (rank same_pair ps) ps i (0, 0) 0 a))
       ∙ sym (get_or-map (λ c. get_or joined c 0) numbers i 0 0 (omega arith))
-      ∙ ap (λ us. get_or us i 0) told ∙ get_or-map (joined_mask masks x) ps i (0, 0) 0 a;
-  few = (let d = distinct_count-le same_pair ps in omega arith);
+      ∙ ap (λ us. get_or us i 0) h.told ∙ get_or-map (joined_mask masks x) ps i (0, 0) 0 a;
+  few = (let d = distinct_count-le same_pair ps in let m = h.many in omega arith);
 }
 
 -- joined keys are names
-pub names_joined : (masks : List ℕ) (x : ℕ) (cs : List ℕ) (r : ℕ) → ((blocks : ℕ) × (length cs ≡ blocks * (2 * 2 ^ r))) → ((i : ℕ) → i < length cs → get_or cs i 0 < length masks) → length masks ≤ 256 → (numbers joined : List ℕ) →
+pub names_joined : (masks : List ℕ) (x : ℕ) (cs : List ℕ) (r : ℕ) → IsPairTable cs r (length masks) → length masks ≤ 256 → (numbers joined : List ℕ) →
     numbers ≡ map (joined_key (length masks)) (pairs cs (2 ^ r)) → joined ≡ map (joined_key_mask masks x) (range_with_len 0 (length masks * length masks)) → TellsPairs masks x (pairs cs (2 ^ r)) numbers joined
-names_joined masks x cs r whole small narrow numbers joined e d = record {
+names_joined masks x cs r table narrow numbers joined e d = record {
   name = joined_key (length masks);
   numbers_are = e;
   apart = λ i j a b q.
@@ -116,7 +115,7 @@ names_joined masks x cs r whole small narrow numbers joined e d = record {
     parts : (i : ℕ) → i < length (pairs cs (2 ^ r)) → ((at i).0 < length masks) × ((at i).1 < length masks)
     parts i a =
         let l = length-pairs cs (2 ^ r) in
-        subst (λ (p : ℕ × ℕ). (p.0 < length masks) × (p.1 < length masks)) (sym (pair_listed cs (2 ^ r) i (omega arith))) (pair_classes cs r (length masks) i whole small (omega arith))
+        subst (λ (p : ℕ × ℕ). (p.0 < length masks) × (p.1 < length masks)) (sym (pair_listed cs (2 ^ r) i (omega arith))) (pair_classes cs r (length masks) i table.paired.whole table.below (omega arith))
 
     high : (u : ℕ × ℕ) → u.0 < length masks → 0 < length masks → (u.0 + u.1 * length masks) / length masks ≡ u.1
     high u l some = let d = add-mul-div_right u.0 u.1 some in let z = div-eq_of_lt l in omega arith
@@ -131,8 +130,9 @@ names_joined masks x cs r whole small narrow numbers joined e d = record {
         product_below u k b l = (let q = mul-le-mul_right b (let s : suc u ≤ k = omega arith in s) in let z : suc u * b ≡ u * b + b = grind arith in omega arith)
 
 -- numbers by first occurrence occur, all of them
-pub ranks_used : (ps : List (ℕ × ℕ)) (numbers masks : List ℕ) → numbers ≡ ranks same_pair ps → length masks ≡ distinct_count same_pair ps → AreUsed numbers masks
+pub ranks_used : (masks : List ℕ) (x : ℕ) (ps : List (ℕ × ℕ)) (numbers joined : List ℕ) → NumbersPairs masks x ps numbers joined → AreUsed numbers joined
 unfolding ranks
-ranks_used ps numbers masks e m k l =
+ranks_used masks x ps numbers joined h k l =
+    let m = h.many in
     let t = rank_reached same_pair pair_decides ps k (omega arith) in
-    member_from_among nat_eq nat_decides numbers k (subst (Among k) (sym e) (subst (λ z. Among z (map (rank same_pair ps) ps)) t.2 (among_map (rank same_pair ps) t.0 ps t.1)))
+    member_from_among nat_eq nat_decides numbers k (subst (Among k) (sym h.numbers_are) (subst (λ z. Among z (map (rank same_pair ps) ps)) t.2 (among_map (rank same_pair ps) t.0 ps t.1)))

@@ -1,4 +1,5 @@
 pub mod Chains
 pub mod Keys
+pub mod Numbers
 pub mod Scratch
 pub mod Slots

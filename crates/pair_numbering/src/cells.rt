@@ -1,11 +1,8 @@
 //! Numbers of pairs by first occurrence, by a cell for each pair of classes.
 
-ghost use Rattle.std.specs.Prelude.{◌≡◌, ℕ, ◌+◌, ◌*◌, ◌^◌, ◌<◌, ◌≤◌, map, get_or, length, slice_index, IfOk};
-ghost use Rattle.std.specs.Set.{distinct_count};
-ghost use Rattle.order_model.specs.Widths.{same_pair};
-ghost use Rattle.class_laws.specs.Dependence.{joined_mask};
-ghost use Rattle.class_laws.specs.Numbering.{ranks};
+ghost use Rattle.std.specs.Prelude.{◌≡◌, ℕ, ◌+◌, ◌*◌, ◌^◌, ◌<◌, ◌≤◌, length, slice_index, IfOk};
 ghost use Rattle.class_laws.specs.Places as places;
+ghost use Rattle.class_laws.specs.PairTables.{IsPairTable, NumbersPairs};
 
 use crate::masks::join_mask;
 use crate::numbering::Numbered;
@@ -21,17 +18,12 @@ pub fn number_pairs_by_cells(
     masks: &[u16],
     cells: &mut [u32],
 ) -> Result<Numbered, AllocError>
-    requires rank { rank < 16 }
+    requires table { IsPairTable numbers.now rank (length masks.now) }
     requires variable { x < 16 }
-    requires len { length numbers.now ≤ 2 ^ 20 }
-    requires whole { (blocks : ℕ) × (length numbers.now ≡ blocks * (2 * 2 ^ rank)) }
-    requires classes { (i : ℕ) → i < length numbers.now → slice_index numbers.now i < length masks.now }
     requires few { length masks.now ≤ 2 ^ 20 }
     requires cells { length cells.old ≡ length masks.now * length masks.now }
     requires empty { (k : ℕ) → k < length cells.old → slice_index cells.old k ≡ 0 }
-    ensures numbers { IfOk result (λ v. v.numbers.items ≡ ranks same_pair (places.pairs numbers.now (2 ^ rank))) }
-    ensures many { IfOk result (λ v. length v.masks.items ≡ distinct_count same_pair (places.pairs numbers.now (2 ^ rank))) }
-    ensures told { IfOk result (λ v. map (λ c. get_or v.masks.items c 0) v.numbers.items ≡ map (joined_mask masks.now x) (places.pairs numbers.now (2 ^ rank))) }
+    ensures { IfOk result (λ v. NumbersPairs masks.now x (places.pairs numbers.now (2 ^ rank)) v.numbers.items v.masks.items) }
 {
     let step = 1usize << rank;
     let half = numbers.len() / 2;

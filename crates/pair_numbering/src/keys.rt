@@ -1,10 +1,11 @@
 //! Numbers that tell pairs apart, in any order. Joined keys cost less than numbers by first occurrence, and are taken as long
 //! as there are few.
 
-ghost use Rattle.std.specs.Prelude.{◌≡◌, ℕ, ◌+◌, ◌*◌, ◌/◌, ◌^◌, ◌<◌, ◌≤◌, map, length, slice_index, IfOk, IsTrue};
+ghost use Rattle.std.specs.Prelude.{◌≡◌, ℕ, ◌+◌, ◌*◌, ◌/◌, ◌^◌, ◌<◌, ◌≤◌, map, length, IfOk, IsTrue};
 ghost use Rattle.std.specs.List.{range_with_len};
 ghost use Rattle.class_laws.specs.Places as places;
 ghost use Rattle.pair_numbering.specs.Keys.{AreUsed, TellsPairs, joined_key, joined_key_mask};
+ghost use Rattle.class_laws.specs.PairTables.{AllBelow, IsPaired, IsPairTable};
 
 use crate::masks::join_mask;
 use crate::numbering::number_pairs_with_masks;
@@ -24,10 +25,8 @@ pub struct Told {
 /// Writes the keys of pairs of keys below `base`, block by block.
 #[inline(always)]
 fn join_blocks(keys: &[u32], rank: u32, base: u32, joined: &mut [u32])
-    requires rank { rank < 16 }
-    requires len { length keys.now < 2 ^ 32 }
-    requires whole { (blocks : ℕ) × (length keys.now ≡ blocks * (2 * 2 ^ rank)) }
-    requires below { (i : ℕ) → i < length keys.now → slice_index keys.now i < base }
+    requires paired { IsPaired keys.now rank }
+    requires below { AllBelow keys.now base }
     requires base { base ≤ 256 }
     requires long { length joined.old ≡ length keys.now / 2 }
     ensures { joined.new ≡ map (joined_key base) (places.pairs keys.now (2 ^ rank)) }
@@ -43,10 +42,8 @@ fn join_blocks(keys: &[u32], rank: u32, base: u32, joined: &mut [u32])
 
 /// The keys of pairs of keys below `base`. The small ranks, which are frequent, are loops of their own.
 fn join_keys(alloc: Global, keys: &[u32], rank: u32, base: u32) -> Result<Vec<u32>, AllocError>
-    requires rank { rank < 16 }
-    requires len { length keys.now < 2 ^ 32 }
-    requires whole { (blocks : ℕ) × (length keys.now ≡ blocks * (2 * 2 ^ rank)) }
-    requires below { (i : ℕ) → i < length keys.now → slice_index keys.now i < base }
+    requires paired { IsPaired keys.now rank }
+    requires below { AllBelow keys.now base }
     requires base { base ≤ 256 }
     ensures { IfOk result (λ v. v.items ≡ map (joined_key base) (places.pairs keys.now (2 ^ rank))) }
 {
@@ -83,11 +80,8 @@ pub fn tell_pairs(
     x: u8,
     masks: &[u16],
 ) -> Result<Told, AllocError>
-    requires rank { rank < 16 }
+    requires table { IsPairTable numbers.now rank (length masks.now) }
     requires variable { x < 16 }
-    requires len { length numbers.now ≤ 2 ^ 20 }
-    requires whole { (blocks : ℕ) × (length numbers.now ≡ blocks * (2 * 2 ^ rank)) }
-    requires classes { (i : ℕ) → i < length numbers.now → slice_index numbers.now i < length masks.now }
     requires few { length masks.now ≤ 2 ^ 20 }
     ensures tells { IfOk result (λ v. TellsPairs masks.now x (places.pairs numbers.now (2 ^ rank)) v.numbers.items v.masks.items) }
     ensures used { IfOk result (λ v. IsTrue v.all_used → AreUsed v.numbers.items v.masks.items) }

@@ -1,11 +1,9 @@
 //! Numbers of pairs by first occurrence, and their masks, in the fastest of several ways.
 
-ghost use Rattle.std.specs.Prelude.{◌≡◌, ℕ, ◌*◌, ◌^◌, ◌<◌, ◌≤◌, map, get_or, length, slice_index, IfOk};
-ghost use Rattle.std.specs.Set.{distinct_count};
-ghost use Rattle.order_model.specs.Widths.{same_pair};
-ghost use Rattle.class_laws.specs.Dependence.{joined_mask};
-ghost use Rattle.class_laws.specs.Numbering.{ranks};
+ghost use Rattle.std.specs.Prelude.{◌≡◌, ℕ, ◌*◌, ◌^◌, ◌<◌, ◌≤◌, length, IfOk};
 ghost use Rattle.class_laws.specs.Places as places;
+ghost use Rattle.class_laws.specs.PairTables.{IsPairTable, NumbersPairs};
+ghost use Rattle.pair_numbering.specs.Numbers.{ArePairsNumbered};
 
 use crate::cells::number_pairs_by_cells;
 use crate::chains::number_pairs_by_chains;
@@ -29,14 +27,9 @@ pub fn number_pairs(
     rank: u32,
     classes: usize,
 ) -> Result<NumberedPairs, AllocError>
-    requires rank { rank < 16 }
-    requires len { length numbers.now ≤ 2 ^ 20 }
-    requires whole { (blocks : ℕ) × (length numbers.now ≡ blocks * (2 * 2 ^ rank)) }
-    requires classes { (i : ℕ) → i < length numbers.now → slice_index numbers.now i < classes }
+    requires table { IsPairTable numbers.now rank classes }
     requires few { classes ≤ 2 ^ 20 }
-    ensures numbers { IfOk result (λ v. v.numbers.items ≡ ranks same_pair (places.pairs numbers.now (2 ^ rank))) }
-    ensures many { IfOk result (λ v. length v.pairs.items ≡ distinct_count same_pair (places.pairs numbers.now (2 ^ rank))) }
-    ensures told { IfOk result (λ v. map (λ c. get_or v.pairs.items c (0, 0)) v.numbers.items ≡ places.pairs numbers.now (2 ^ rank)) }
+    ensures { IfOk result (λ v. ArePairsNumbered numbers.now rank v.numbers.items v.pairs.items) }
 {
     match number_pairs_by_slots(alloc, numbers, rank)? {
         Some(numbered) => Ok(numbered),
@@ -53,15 +46,10 @@ pub fn number_pairs_with_masks(
     x: u8,
     masks: &[u16],
 ) -> Result<Numbered, AllocError>
-    requires rank { rank < 16 }
+    requires table { IsPairTable numbers.now rank (length masks.now) }
     requires variable { x < 16 }
-    requires len { length numbers.now ≤ 2 ^ 20 }
-    requires whole { (blocks : ℕ) × (length numbers.now ≡ blocks * (2 * 2 ^ rank)) }
-    requires classes { (i : ℕ) → i < length numbers.now → slice_index numbers.now i < length masks.now }
     requires few { length masks.now ≤ 2 ^ 20 }
-    ensures numbers { IfOk result (λ v. v.numbers.items ≡ ranks same_pair (places.pairs numbers.now (2 ^ rank))) }
-    ensures many { IfOk result (λ v. length v.masks.items ≡ distinct_count same_pair (places.pairs numbers.now (2 ^ rank))) }
-    ensures told { IfOk result (λ v. map (λ c. get_or v.masks.items c 0) v.numbers.items ≡ map (joined_mask masks.now x) (places.pairs numbers.now (2 ^ rank))) }
+    ensures { IfOk result (λ v. NumbersPairs masks.now x (places.pairs numbers.now (2 ^ rank)) v.numbers.items v.masks.items) }
 {
     let classes = masks.len();
     if classes == numbers.len() {
@@ -93,15 +81,10 @@ pub fn number_pairs_by_index(
     x: u8,
     masks: &[u16],
 ) -> Result<Numbered, AllocError>
-    requires rank { rank < 16 }
+    requires table { IsPairTable numbers.now rank (length masks.now) }
     requires variable { x < 16 }
-    requires len { length numbers.now ≤ 2 ^ 20 }
-    requires whole { (blocks : ℕ) × (length numbers.now ≡ blocks * (2 * 2 ^ rank)) }
-    requires classes { (i : ℕ) → i < length numbers.now → slice_index numbers.now i < length masks.now }
     requires few { length masks.now ≤ 2 ^ 20 }
-    ensures numbers { IfOk result (λ v. v.numbers.items ≡ ranks same_pair (places.pairs numbers.now (2 ^ rank))) }
-    ensures many { IfOk result (λ v. length v.masks.items ≡ distinct_count same_pair (places.pairs numbers.now (2 ^ rank))) }
-    ensures told { IfOk result (λ v. map (λ c. get_or v.masks.items c 0) v.numbers.items ≡ map (joined_mask masks.now x) (places.pairs numbers.now (2 ^ rank))) }
+    ensures { IfOk result (λ v. NumbersPairs masks.now x (places.pairs numbers.now (2 ^ rank)) v.numbers.items v.masks.items) }
 {
     let indexed = index_pairs(alloc, numbers, rank)?;
     let pairs = distinct_pairs(alloc, numbers, rank, &indexed)?;

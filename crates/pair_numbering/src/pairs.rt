@@ -1,10 +1,11 @@
 //! Numbers of pairs of entries by first occurrence.
 
-ghost use Rattle.std.specs.Prelude.{◌≡◌, ℕ, ◌+◌, ◌*◌, ◌/◌, ◌^◌, ◌<◌, map, get_or, length, IfOk};
-ghost use Rattle.std.specs.Set.{distinct_count};
+ghost use Rattle.std.specs.Prelude.{◌≡◌, ℕ, ◌+◌, ◌*◌, ◌/◌, ◌^◌, ◌<◌, length, IfOk};
 ghost use Rattle.order_model.specs.Widths.{same_pair};
 ghost use Rattle.class_laws.specs.Numbering.{ranks};
 ghost use Rattle.class_laws.specs.Places as places;
+ghost use Rattle.class_laws.specs.PairTables.{IsPaired};
+ghost use Rattle.pair_numbering.specs.Numbers.{ArePairsNumbered};
 
 use indexmap::IndexSet;
 use std::alloc::{AllocError, Global};
@@ -30,9 +31,7 @@ pub fn low_place(rank: u32, j: usize) -> usize
 /// Pair `j`: the entries at which the variable is 0 and 1.
 #[inline(always)]
 pub fn pair_at(numbers: &[u32], rank: u32, j: usize) -> (u32, u32)
-    requires rank { rank < 16 }
-    requires len { length numbers.now < 2 ^ 32 }
-    requires whole { (blocks : ℕ) × (length numbers.now ≡ blocks * (2 * 2 ^ rank)) }
+    requires paired { IsPaired numbers.now rank }
     requires place { j < length numbers.now / 2 }
     ensures { result ≡ places.pair_at numbers.now (2 ^ rank) j }
 {
@@ -43,9 +42,7 @@ pub fn pair_at(numbers: &[u32], rank: u32, j: usize) -> (u32, u32)
 
 /// The numbers of the pairs, in an `IndexSet`.
 pub fn index_pairs(alloc: Global, numbers: &[u32], rank: u32) -> Result<Vec<u32>, AllocError>
-    requires rank { rank < 16 }
-    requires len { length numbers.now < 2 ^ 32 }
-    requires whole { (blocks : ℕ) × (length numbers.now ≡ blocks * (2 * 2 ^ rank)) }
+    requires { IsPaired numbers.now rank }
     ensures { IfOk result (λ v. v.items ≡ ranks same_pair (places.pairs numbers.now (2 ^ rank))) }
 {
     let step = 1usize << rank;
@@ -67,12 +64,9 @@ pub fn distinct_pairs(
     rank: u32,
     numbered: &[u32],
 ) -> Result<Vec<(u32, u32)>, AllocError>
-    requires rank { rank < 16 }
-    requires len { length numbers.now < 2 ^ 32 }
-    requires whole { (blocks : ℕ) × (length numbers.now ≡ blocks * (2 * 2 ^ rank)) }
+    requires paired { IsPaired numbers.now rank }
     requires numbered { numbered.now ≡ ranks same_pair (places.pairs numbers.now (2 ^ rank)) }
-    ensures many { IfOk result (λ v. length v.items ≡ distinct_count same_pair (places.pairs numbers.now (2 ^ rank))) }
-    ensures told { IfOk result (λ v. map (λ c. get_or v.items c (0, 0)) numbered.now ≡ places.pairs numbers.now (2 ^ rank)) }
+    ensures { IfOk result (λ v. ArePairsNumbered numbers.now rank numbered.now v.items) }
 {
     let mut pairs = Vec::new(alloc);
     for (j, number) in numbered.iter().enumerate() {

@@ -1,9 +1,10 @@
 //! Counts of masks that take no memory: by chains and marks in rows that are lent.
 
-ghost use Rattle.std.specs.Prelude.{◌≡◌, ◌==◌, ℕ, ◌+◌, ◌*◌, ◌/◌, ◌^◌, ◌<◌, ◌≤◌, length, slice_index, IfOk};
-ghost use Rattle.class_laws.specs.Numbering.{IsFirst};
+ghost use Rattle.std.specs.Prelude.{◌≡◌, ◌==◌, ℕ, ◌+◌, ◌*◌, ◌/◌, ◌^◌, ◌<◌, ◌≤◌, length, IfOk};
 ghost use Rattle.pair_numbering.specs.Scratch.{CountsMasks, most_entries};
 ghost use Rattle.class_laws.specs.Places as places;
+ghost use Rattle.class_laws.specs.PairTables.{IsPairTable};
+ghost use Rattle.pair_numbering.specs.Chains.{AreFirsts};
 
 use crate::chains::{chain, find_firsts};
 use crate::masks::join_mask;
@@ -50,11 +51,8 @@ impl Scratch {
 
     /// How many distinct pairs have a mask with `x`.
     pub fn count_joined(&mut self, numbers: &[u32], rank: u32, x: u8, masks: &[u16]) -> u32
-        requires rank { rank < 16 }
+        requires table { IsPairTable numbers.now rank (length masks.now) }
         requires variable { x < 16 }
-        requires len { length numbers.now ≤ 2 ^ 20 }
-        requires whole { (blocks : ℕ) × (length numbers.now ≡ blocks * (2 * 2 ^ rank)) }
-        requires classes { (i : ℕ) → i < length numbers.now → slice_index numbers.now i < length masks.now }
         requires few { length masks.now ≤ length numbers.now }
         requires long { length numbers.now ≤ self.old }
         ensures count { CountsMasks masks.now x (places.pairs numbers.now (2 ^ rank)) result }
@@ -86,11 +84,8 @@ fn count_in(
     marks: &mut [u32],
     first: &mut [u32],
 ) -> u32
-    requires rank { rank < 16 }
+    requires table { IsPairTable numbers.now rank (length masks.now) }
     requires variable { x < 16 }
-    requires len { length numbers.now ≤ 2 ^ 20 }
-    requires whole { (blocks : ℕ) × (length numbers.now ≡ blocks * (2 * 2 ^ rank)) }
-    requires classes { (i : ℕ) → i < length numbers.now → slice_index numbers.now i < length masks.now }
     requires few { length masks.now ≤ length numbers.now }
     requires heads { length numbers.now ≤ length heads.old }
     requires next { length numbers.now ≤ length next.old }
@@ -115,13 +110,9 @@ fn count_in(
 
 /// How many pairs that are the first of their kind have a mask with `x`.
 fn count_firsts(numbers: &[u32], rank: u32, x: u8, masks: &[u16], first: &[u32]) -> u32
-    requires rank { rank < 16 }
+    requires table { IsPairTable numbers.now rank (length masks.now) }
     requires variable { x < 16 }
-    requires len { length numbers.now ≤ 2 ^ 20 }
-    requires whole { (blocks : ℕ) × (length numbers.now ≡ blocks * (2 * 2 ^ rank)) }
-    requires classes { (i : ℕ) → i < length numbers.now → slice_index numbers.now i < length masks.now }
-    requires long { length first.now ≡ length numbers.now / 2 }
-    requires first { (j : ℕ) → j < length numbers.now / 2 → IsFirst (places.pair_at numbers.now (2 ^ rank)) j (slice_index first.now j) }
+    requires first { AreFirsts numbers.now rank first.now }
     ensures { CountsMasks masks.now x (places.pairs numbers.now (2 ^ rank)) result }
 {
     let mut count = 0;

@@ -1,11 +1,9 @@
 //! Numbers of pairs by first occurrence, by slots that each have the number of a pair.
 
-ghost use Rattle.std.specs.Prelude.{◌≡◌, ℕ, ◌+◌, ◌*◌, ◌^◌, ◌<◌, ◌≤◌, map, get_or, length, IfOk, IfSome};
-ghost use Rattle.std.specs.Set.{distinct_count};
-ghost use Rattle.order_model.specs.Widths.{same_pair};
+ghost use Rattle.std.specs.Prelude.{◌≡◌, ℕ, ◌+◌, ◌*◌, ◌^◌, ◌<◌, ◌≤◌, length, IfOk, IfSome};
 ghost use Rattle.pair_numbering.specs.Slots.{IsSlot, home_of};
-ghost use Rattle.class_laws.specs.Numbering.{ranks};
-ghost use Rattle.class_laws.specs.Places as places;
+ghost use Rattle.class_laws.specs.PairTables.{IsPaired};
+ghost use Rattle.pair_numbering.specs.Numbers.{ArePairsNumbered};
 
 use crate::pairs::{NumberedPairs, pair_at};
 use std::alloc::{AllocError, Global};
@@ -55,12 +53,9 @@ pub fn number_pairs_by_slots(
     numbers: &[u32],
     rank: u32,
 ) -> Result<Option<NumberedPairs>, AllocError>
-    requires rank { rank < 16 }
+    requires paired { IsPaired numbers.now rank }
     requires len { length numbers.now ≤ 2 ^ 20 }
-    requires whole { (blocks : ℕ) × (length numbers.now ≡ blocks * (2 * 2 ^ rank)) }
-    ensures numbers { IfOk result (λ o. IfSome o (λ v. v.numbers.items ≡ ranks same_pair (places.pairs numbers.now (2 ^ rank)))) }
-    ensures many { IfOk result (λ o. IfSome o (λ v. length v.pairs.items ≡ distinct_count same_pair (places.pairs numbers.now (2 ^ rank)))) }
-    ensures told { IfOk result (λ o. IfSome o (λ v. map (λ c. get_or v.pairs.items c (0, 0)) v.numbers.items ≡ places.pairs numbers.now (2 ^ rank))) }
+    ensures { IfOk result (λ o. IfSome o (λ v. ArePairsNumbered numbers.now rank v.numbers.items v.pairs.items)) }
 {
     let half = numbers.len() / 2;
     let homes = 4 * half;

@@ -26,7 +26,7 @@ loop-block-init c =
 
 pub loop-block-preserved : goal.loop-block-preserved
 loop-block-preserved c =
-    let s = one_shl c.args.rank 64 (let h = c.requires.rank in omega arith) in
+    let s = one_shl c.args.rank 64 (let h = c.requires.table.paired.small_rank in omega arith) in
     let next = block_next (2 ^ c.args.rank) c.loop-block.block in
     elim c.if-count-block.branch [
       | then-count-block+else-loop-i-test w ↦
@@ -55,25 +55,21 @@ loop-block-preserved c =
           }
     ]
 
-pub returns-clause-numbers : goal.returns-clause-numbers
-returns-clause-numbers c =
+pub returns : goal.returns
+returns c =
+    let ps = places.pairs c.args.numbers.now (2 ^ c.args.rank) in
+    let join = joined_mask c.args.masks.now c.args.x in
+    let out = c.loop-block.out.items in
+    let joined = take c.loop-block.count c.loop-block.joined.items in
+    let j = c.loop-block.block * 2 ^ c.args.rank in
+    let made = c.loop-block.invariant.celled.made in
     let l = length-pairs c.args.numbers.now (2 ^ c.args.rank) in
-    let a = block_all (length c.args.numbers.now) c.args.rank c.loop-block.block c.requires.whole (let t = c.loop-block-test.false in omega arith) in
-    made_numbers 0 (places.pairs c.args.numbers.now (2 ^ c.args.rank)) (joined_mask c.args.masks.now c.args.x) c.loop-block.out.items (take c.loop-block.count c.loop-block.joined.items) (c.loop-block.block * 2 ^ c.args.rank) (omega arith) c.loop-block.invariant.celled.made
-
-pub returns-clause-many : goal.returns-clause-many
-returns-clause-many c =
-    let l = length-pairs c.args.numbers.now (2 ^ c.args.rank) in
-    let a = block_all (length c.args.numbers.now) c.args.rank c.loop-block.block c.requires.whole (let t = c.loop-block-test.false in omega arith) in
-    ap length c.truncate.ensures.items
-    ∙ made_many 0 (places.pairs c.args.numbers.now (2 ^ c.args.rank)) (joined_mask c.args.masks.now c.args.x) c.loop-block.out.items (take c.loop-block.count c.loop-block.joined.items) (c.loop-block.block * 2 ^ c.args.rank) (omega arith) c.loop-block.invariant.celled.made
-
-pub returns-clause-told : goal.returns-clause-told
-returns-clause-told c =
-    let l = length-pairs c.args.numbers.now (2 ^ c.args.rank) in
-    let a = block_all (length c.args.numbers.now) c.args.rank c.loop-block.block c.requires.whole (let t = c.loop-block-test.false in omega arith) in
-    ap (λ us. map (λ k. get_or us k 0) c.loop-block.out.items) c.truncate.ensures.items
-    ∙ made_told 0 (places.pairs c.args.numbers.now (2 ^ c.args.rank)) (joined_mask c.args.masks.now c.args.x) c.loop-block.out.items (take c.loop-block.count c.loop-block.joined.items) (c.loop-block.block * 2 ^ c.args.rank) (omega arith) c.loop-block.invariant.celled.made
+    let a = block_all (length c.args.numbers.now) c.args.rank c.loop-block.block c.requires.table.paired.whole (let t = c.loop-block-test.false in omega arith) in
+    record {
+      numbers_are = made_numbers 0 ps join out joined j (omega arith) made;
+      many = ap length c.truncate.ensures.items ∙ made_many 0 ps join out joined j (omega arith) made;
+      told = ap (λ us. map (λ k. get_or us k 0) out) c.truncate.ensures.items ∙ made_told 0 ps join out joined j (omega arith) made;
+    }
 
 pub loop-i-init : goal.loop-i-init
 loop-i-init c = record {
@@ -85,32 +81,32 @@ loop-i-init c = record {
 
 pub join_mask-requires-clause-lower : goal.join_mask-requires-clause-lower
 join_mask-requires-clause-lower c =
-    let s = one_shl c.args.rank 64 (let h = c.requires.rank in omega arith) in
-    let b = coded_classes c.args.numbers.now c.args.rank (length c.args.masks.now) (1 * 2 ^ c.args.rank % 2 ^ 64) c.loop-block.block c.loop-i.i s c.requires.whole c.requires.classes c.loop-block-test.true c.loop-i-test.true in
+    let s = one_shl c.args.rank 64 (let h = c.requires.table.paired.small_rank in omega arith) in
+    let b = coded_classes c.args.numbers.now c.args.rank (length c.args.masks.now) (1 * 2 ^ c.args.rank % 2 ^ 64) c.loop-block.block c.loop-i.i s c.requires.table.paired.whole c.requires.table.below c.loop-block-test.true c.loop-i-test.true in
     b.0
 
 pub join_mask-requires-clause-upper : goal.join_mask-requires-clause-upper
 join_mask-requires-clause-upper c =
-    let s = one_shl c.args.rank 64 (let h = c.requires.rank in omega arith) in
-    let b = coded_classes c.args.numbers.now c.args.rank (length c.args.masks.now) (1 * 2 ^ c.args.rank % 2 ^ 64) c.loop-block.block c.loop-i.i s c.requires.whole c.requires.classes c.loop-block-test.true c.loop-i-test.true in
+    let s = one_shl c.args.rank 64 (let h = c.requires.table.paired.small_rank in omega arith) in
+    let b = coded_classes c.args.numbers.now c.args.rank (length c.args.masks.now) (1 * 2 ^ c.args.rank % 2 ^ 64) c.loop-block.block c.loop-i.i s c.requires.table.paired.whole c.requires.table.below c.loop-block-test.true c.loop-i-test.true in
     b.1
 
 pub bounds-cells-cell : goal.bounds-cells-cell
 bounds-cells-cell c =
-    let s = one_shl c.args.rank 64 (let h = c.requires.rank in omega arith) in
-    let b = coded_classes c.args.numbers.now c.args.rank (length c.args.masks.now) (1 * 2 ^ c.args.rank % 2 ^ 64) c.loop-block.block c.loop-i.i s c.requires.whole c.requires.classes c.loop-block-test.true c.loop-i-test.true in
+    let s = one_shl c.args.rank 64 (let h = c.requires.table.paired.small_rank in omega arith) in
+    let b = coded_classes c.args.numbers.now c.args.rank (length c.args.masks.now) (1 * 2 ^ c.args.rank % 2 ^ 64) c.loop-block.block c.loop-i.i s c.requires.table.paired.whole c.requires.table.below c.loop-block-test.true c.loop-i-test.true in
     cell_within (length c.args.masks.now) _ _ (length c.loop-i.cells) c.loop-i.invariant.celled.room b.0 b.1
 
 pub bounds-cells-cell-in-loop-i : goal.bounds-cells-cell-in-loop-i
 bounds-cells-cell-in-loop-i c =
-    let s = one_shl c.args.rank 64 (let h = c.requires.rank in omega arith) in
-    let b = coded_classes c.args.numbers.now c.args.rank (length c.args.masks.now) (1 * 2 ^ c.args.rank % 2 ^ 64) c.loop-block.block c.loop-i.i s c.requires.whole c.requires.classes c.loop-block-test.true c.loop-i-test.true in
+    let s = one_shl c.args.rank 64 (let h = c.requires.table.paired.small_rank in omega arith) in
+    let b = coded_classes c.args.numbers.now c.args.rank (length c.args.masks.now) (1 * 2 ^ c.args.rank % 2 ^ 64) c.loop-block.block c.loop-i.i s c.requires.table.paired.whole c.requires.table.below c.loop-block-test.true c.loop-i-test.true in
     cell_within (length c.args.masks.now) _ _ (length c.loop-i.cells) c.loop-i.invariant.celled.room b.0 b.1
 
 pub index_mut-requires-in-loop-i : goal.index_mut-requires-in-loop-i
 index_mut-requires-in-loop-i c =
-    let s = one_shl c.args.rank 64 (let h = c.requires.rank in omega arith) in
-    let i = block_inside (length c.args.numbers.now) c.args.rank c.loop-block.block c.loop-i.i c.requires.whole c.loop-block-test.true (let t = c.loop-i-test.true in omega arith) in
+    let s = one_shl c.args.rank 64 (let h = c.requires.table.paired.small_rank in omega arith) in
+    let i = block_inside (length c.args.numbers.now) c.args.rank c.loop-block.block c.loop-i.i c.requires.table.paired.whole c.loop-block-test.true (let t = c.loop-i-test.true in omega arith) in
     let l = length-pairs c.args.numbers.now (2 ^ c.args.rank) in
     let o = c.loop-i.invariant.celled.made.long in
     let e : c.loop-block.block * (1 * 2 ^ c.args.rank % 2 ^ 64) ≡ c.loop-block.block * 2 ^ c.args.rank = ap (λ z. c.loop-block.block * z) s in
@@ -127,15 +123,15 @@ loop-i-preserved c =
     let out = c.loop-i.out.items in
     let all = c.loop-i.joined.items in
     let count = c.loop-i.count in
-    let s = one_shl c.args.rank 64 (let h = c.requires.rank in omega arith) in
-    let i = block_inside (length cs) c.args.rank c.loop-block.block c.loop-i.i c.requires.whole c.loop-block-test.true (let t = c.loop-i-test.true in omega arith) in
-    let p = coded_pair cs c.args.rank (1 * 2 ^ c.args.rank % 2 ^ 64) c.loop-block.block c.loop-i.i s c.requires.whole c.loop-block-test.true c.loop-i-test.true in
+    let s = one_shl c.args.rank 64 (let h = c.requires.table.paired.small_rank in omega arith) in
+    let i = block_inside (length cs) c.args.rank c.loop-block.block c.loop-i.i c.requires.table.paired.whole c.loop-block-test.true (let t = c.loop-i-test.true in omega arith) in
+    let p = coded_pair cs c.args.rank (1 * 2 ^ c.args.rank % 2 ^ 64) c.loop-block.block c.loop-i.i s c.requires.table.paired.whole c.loop-block-test.true c.loop-i-test.true in
     let l = length-pairs cs (2 ^ c.args.rank) in
     let o = c.loop-i.invariant.long in
     let f = c.loop-i.invariant.few in
     let small : j < length ps = omega arith in
     let same_long : length all ≡ length ps = omega arith in
-    let below : Below ps n = λ k h. listed_classes cs c.args.rank n k c.requires.whole c.requires.classes h in
+    let below : Below ps n = λ k h. listed_classes cs c.args.rank n k c.requires.table.paired.whole c.requires.table.below h in
     let at = ap (λ (q : ℕ × ℕ). q.0 * n + q.1) p in
     let place = ap (λ z. c.loop-block.block * z + c.loop-i.i) s in
     let k : j + 1 ≡ c.loop-block.block * 2 ^ c.args.rank + (c.loop-i.i + 1) = omega arith in
@@ -179,26 +175,26 @@ loop-i-else-count-block-init c = record {
 
 pub join_mask-requires-then-next-eq0-3-clause-lower : goal.join_mask-requires-then-next-eq0-3-clause-lower
 join_mask-requires-then-next-eq0-3-clause-lower c =
-    let s = one_shl c.args.rank 64 (let h = c.requires.rank in omega arith) in
-    let b = coded_classes c.args.numbers.now c.args.rank (length c.args.masks.now) (1 * 2 ^ c.args.rank % 2 ^ 64) c.loop-block.block c.loop-i-else-count-block.i s c.requires.whole c.requires.classes c.loop-block-test.true c.loop-i-else-count-block-test.true in
+    let s = one_shl c.args.rank 64 (let h = c.requires.table.paired.small_rank in omega arith) in
+    let b = coded_classes c.args.numbers.now c.args.rank (length c.args.masks.now) (1 * 2 ^ c.args.rank % 2 ^ 64) c.loop-block.block c.loop-i-else-count-block.i s c.requires.table.paired.whole c.requires.table.below c.loop-block-test.true c.loop-i-else-count-block-test.true in
     b.0
 
 pub join_mask-requires-then-next-eq0-3-clause-upper : goal.join_mask-requires-then-next-eq0-3-clause-upper
 join_mask-requires-then-next-eq0-3-clause-upper c =
-    let s = one_shl c.args.rank 64 (let h = c.requires.rank in omega arith) in
-    let b = coded_classes c.args.numbers.now c.args.rank (length c.args.masks.now) (1 * 2 ^ c.args.rank % 2 ^ 64) c.loop-block.block c.loop-i-else-count-block.i s c.requires.whole c.requires.classes c.loop-block-test.true c.loop-i-else-count-block-test.true in
+    let s = one_shl c.args.rank 64 (let h = c.requires.table.paired.small_rank in omega arith) in
+    let b = coded_classes c.args.numbers.now c.args.rank (length c.args.masks.now) (1 * 2 ^ c.args.rank % 2 ^ 64) c.loop-block.block c.loop-i-else-count-block.i s c.requires.table.paired.whole c.requires.table.below c.loop-block-test.true c.loop-i-else-count-block-test.true in
     b.1
 
 pub bounds-cells-cell-in-loop-i-else-count-block : goal.bounds-cells-cell-in-loop-i-else-count-block
 bounds-cells-cell-in-loop-i-else-count-block c =
-    let s = one_shl c.args.rank 64 (let h = c.requires.rank in omega arith) in
-    let b = coded_classes c.args.numbers.now c.args.rank (length c.args.masks.now) (1 * 2 ^ c.args.rank % 2 ^ 64) c.loop-block.block c.loop-i-else-count-block.i s c.requires.whole c.requires.classes c.loop-block-test.true c.loop-i-else-count-block-test.true in
+    let s = one_shl c.args.rank 64 (let h = c.requires.table.paired.small_rank in omega arith) in
+    let b = coded_classes c.args.numbers.now c.args.rank (length c.args.masks.now) (1 * 2 ^ c.args.rank % 2 ^ 64) c.loop-block.block c.loop-i-else-count-block.i s c.requires.table.paired.whole c.requires.table.below c.loop-block-test.true c.loop-i-else-count-block-test.true in
     cell_within (length c.args.masks.now) _ _ (length c.loop-i-else-count-block.cells) c.loop-i-else-count-block.invariant.celled.room b.0 b.1
 
 pub index_mut-requires-in-loop-i-else-count-block : goal.index_mut-requires-in-loop-i-else-count-block
 index_mut-requires-in-loop-i-else-count-block c =
-    let s = one_shl c.args.rank 64 (let h = c.requires.rank in omega arith) in
-    let i = block_inside (length c.args.numbers.now) c.args.rank c.loop-block.block c.loop-i-else-count-block.i c.requires.whole c.loop-block-test.true (let t = c.loop-i-else-count-block-test.true in omega arith) in
+    let s = one_shl c.args.rank 64 (let h = c.requires.table.paired.small_rank in omega arith) in
+    let i = block_inside (length c.args.numbers.now) c.args.rank c.loop-block.block c.loop-i-else-count-block.i c.requires.table.paired.whole c.loop-block-test.true (let t = c.loop-i-else-count-block-test.true in omega arith) in
     let l = length-pairs c.args.numbers.now (2 ^ c.args.rank) in
     let o = c.loop-i-else-count-block.invariant.celled.made.long in
     let e : c.loop-block.block * (1 * 2 ^ c.args.rank % 2 ^ 64) ≡ c.loop-block.block * 2 ^ c.args.rank = ap (λ z. c.loop-block.block * z) s in
@@ -215,15 +211,15 @@ loop-i-else-count-block-preserved c =
     let out = c.loop-i-else-count-block.out.items in
     let all = c.loop-i-else-count-block.joined.items in
     let count = c.loop-i-else-count-block.count in
-    let s = one_shl c.args.rank 64 (let h = c.requires.rank in omega arith) in
-    let i = block_inside (length cs) c.args.rank c.loop-block.block c.loop-i-else-count-block.i c.requires.whole c.loop-block-test.true (let t = c.loop-i-else-count-block-test.true in omega arith) in
-    let p = coded_pair cs c.args.rank (1 * 2 ^ c.args.rank % 2 ^ 64) c.loop-block.block c.loop-i-else-count-block.i s c.requires.whole c.loop-block-test.true c.loop-i-else-count-block-test.true in
+    let s = one_shl c.args.rank 64 (let h = c.requires.table.paired.small_rank in omega arith) in
+    let i = block_inside (length cs) c.args.rank c.loop-block.block c.loop-i-else-count-block.i c.requires.table.paired.whole c.loop-block-test.true (let t = c.loop-i-else-count-block-test.true in omega arith) in
+    let p = coded_pair cs c.args.rank (1 * 2 ^ c.args.rank % 2 ^ 64) c.loop-block.block c.loop-i-else-count-block.i s c.requires.table.paired.whole c.loop-block-test.true c.loop-i-else-count-block-test.true in
     let l = length-pairs cs (2 ^ c.args.rank) in
     let o = c.loop-i-else-count-block.invariant.long in
     let f = c.loop-i-else-count-block.invariant.few in
     let small : j < length ps = omega arith in
     let same_long : length all ≡ length ps = omega arith in
-    let below : Below ps n = λ k h. listed_classes cs c.args.rank n k c.requires.whole c.requires.classes h in
+    let below : Below ps n = λ k h. listed_classes cs c.args.rank n k c.requires.table.paired.whole c.requires.table.below h in
     let at = ap (λ (q : ℕ × ℕ). q.0 * n + q.1) p in
     let place = ap (λ z. c.loop-block.block * z + c.loop-i-else-count-block.i) s in
     let k : j + 1 ≡ c.loop-block.block * 2 ^ c.args.rank + (c.loop-i-else-count-block.i + 1) = omega arith in

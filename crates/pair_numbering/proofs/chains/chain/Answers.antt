@@ -1,4 +1,4 @@
-use Rattle.std.proofs.Common.{◌≡◌, ℕ, suc, ◌+◌, ◌-◌, ◌/◌, ◌^◌, ◌<◌, ◌≤◌, get_or, set, length, sym, ap, subst, arith}
+use Rattle.std.proofs.Common.{◌≡◌, ℕ, suc, ◌+◌, ◌-◌, ◌/◌, ◌^◌, ◌<◌, ◌≤◌, get_or, set, length, sym, ap, ◌∙◌, subst, arith}
 use Rattle.std.proofs.lemmas.Nat.{pow_pos}
 use Rattle.pair_numbering.specs.Chains.{IsNext, lower_at}
 use Rattle.class_laws.proofs.Index.{pair_within}
@@ -19,7 +19,7 @@ loop-j-preserved c =
     let kl : k < half = omega arith in
     let up : c.loop-j.j ≡ suc k = omega arith in
     let v : get_or cs c.low_place.result 0 ≡ value k = ap (λ z. get_or cs z 0) c.low_place.ensures in
-    let w = pair_within step c.requires.whole.0 (length cs) k (pow_pos c.args.rank) c.requires.whole.1 kl in
+    let w = pair_within step c.requires.paired.whole.0 (length cs) k (pow_pos c.args.rank) c.requires.paired.whole.1 kl in
     let p = c.low_place.ensures in
     let lo : c.low_place.result < length cs = omega arith in
     let b = c.requires.classes c.low_place.result lo in
@@ -35,3 +35,9 @@ loop-j-preserved c =
       next = λ i l m. let P : ℕ → Type 0 = λ z. IsNext value half (value i) (i + 1) (get_or (set next k (get_or heads z 0)) i 0) in
           subst P (sym v) (next_more value half heads next k (omega arith) lt hs (λ j a b. c.loop-j.invariant.next j (omega arith) b) i l m);
     }
+
+pub returns-clause-next : goal.returns-clause-next
+returns-clause-next c = record {
+  long = c.loop-j.auto.next ∙ c.requires.half;
+  each = λ j l. c.loop-j.invariant.next j (omega arith) l;
+}

@@ -1,4 +1,4 @@
-use Rattle.std.proofs.Common.{◌^◌, inl, inr, sym, subst, arith}
+use Rattle.std.proofs.Common.{◌^◌, inl, inr, sym, subst, ◌∙◌, arith}
 use Rattle.std.proofs.lemmas.Bool.{cases_eq}
 use Rattle.class_laws.specs.Numbering.{IsFirst}
 use Rattle.pair_numbering.specs.Chains.{lower_at}
@@ -12,4 +12,10 @@ loop-lower-preserved c = record {
     | inl e ↦ c.walk_chain.ensures.own j l e
     | inr ne ↦ subst (IsFirst (pair_at c.args.numbers.now (2 ^ c.args.rank)) j) (sym (c.walk_chain.ensures.others j l ne)) (c.loop-lower.invariant.done j l (omega arith))
   ];
+}
+
+pub returns : goal.returns
+returns c = record {
+  long = c.loop-lower.auto.first ∙ c.requires.first_len;
+  each = λ j l. c.loop-lower.invariant.done j l (omega arith);
 }

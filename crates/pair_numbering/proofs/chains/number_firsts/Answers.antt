@@ -12,12 +12,12 @@ loop-j-init c =
     let ps = places.pairs c.args.numbers.now (2 ^ c.args.rank) in
     let l = length-pairs c.args.numbers.now (2 ^ c.args.rank) in
     let n = c.in_ok-out.ensures.len in
-    let m = c.requires.long in
+    let m = c.requires.first.long in
     subst (λ us. Made (0, 0) ps (λ p. p) c.in_ok-out.out.items us 0) (sym c.new-pairs.ensures.items) (made_none (0, 0) ps (λ p. p) c.in_ok-out.out.items (omega arith))
 
 pub index_mut-requires-else-f-j : goal.index_mut-requires-else-f-j
 index_mut-requires-else-f-j c =
-    let long = c.requires.long in
+    let long = c.requires.first.long in
     let o = c.loop-j.invariant.long in
     let t = c.loop-j-test.true in
     let l = length-pairs c.args.numbers.now (2 ^ c.args.rank) in
@@ -33,10 +33,10 @@ loop-j-preserved c =
     let masks = c.loop-j.pairs.items in
     let lp = length-pairs cs step in
     let t = c.loop-j-test.true in
-    let long = c.requires.long in
+    let long = c.requires.first.long in
     let small : j < length cs / 2 = omega arith in
     let listed : j < length ps = omega arith in
-    let first = first_listed cs step j (get_or c.args.first.now j 0) small (c.requires.first j small) in
+    let first = first_listed cs step j (get_or c.args.first.now j 0) small (c.requires.first.each j small) in
     elim c.if-f-j.branch [
       | then-f-j+in_ok-push w ↦
           let d = ap (λ (v : Vec (ℕ × ℕ) Global). v.items) w.pairs-is ∙ w.in_ok-push.ensures.items in
@@ -56,23 +56,16 @@ loop-j-preserved c =
           (made_again (0, 0) ps (λ p. p) out masks j (get_or c.args.first.now j 0) listed first (omega arith) c.loop-j.invariant)
     ]
 
-pub returns-clause-numbers : goal.returns-clause-numbers
-returns-clause-numbers c =
+pub returns : goal.returns
+returns c =
+    let ps = places.pairs c.args.numbers.now (2 ^ c.args.rank) in
+    let out = c.loop-j.out.items in
+    let pairs = c.loop-j.pairs.items in
     let l = length-pairs c.args.numbers.now (2 ^ c.args.rank) in
     let t = c.loop-j-test.false in
-    let long = c.requires.long in
-    made_numbers (0, 0) (places.pairs c.args.numbers.now (2 ^ c.args.rank)) (λ p. p) c.loop-j.out.items c.loop-j.pairs.items c.loop-j.j (omega arith) c.loop-j.invariant
-
-pub returns-clause-many : goal.returns-clause-many
-returns-clause-many c =
-    let l = length-pairs c.args.numbers.now (2 ^ c.args.rank) in
-    let t = c.loop-j-test.false in
-    let long = c.requires.long in
-    made_many (0, 0) (places.pairs c.args.numbers.now (2 ^ c.args.rank)) (λ p. p) c.loop-j.out.items c.loop-j.pairs.items c.loop-j.j (omega arith) c.loop-j.invariant
-
-pub returns-clause-told : goal.returns-clause-told
-returns-clause-told c =
-    let l = length-pairs c.args.numbers.now (2 ^ c.args.rank) in
-    let t = c.loop-j-test.false in
-    let long = c.requires.long in
-    made_told (0, 0) (places.pairs c.args.numbers.now (2 ^ c.args.rank)) (λ p. p) c.loop-j.out.items c.loop-j.pairs.items c.loop-j.j (omega arith) c.loop-j.invariant ∙ map-id (places.pairs c.args.numbers.now (2 ^ c.args.rank))
+    let long = c.requires.first.long in
+    record {
+      numbered_are = made_numbers (0, 0) ps (λ p. p) out pairs c.loop-j.j (omega arith) c.loop-j.invariant;
+      many = made_many (0, 0) ps (λ p. p) out pairs c.loop-j.j (omega arith) c.loop-j.invariant;
+      told = made_told (0, 0) ps (λ p. p) out pairs c.loop-j.j (omega arith) c.loop-j.invariant ∙ map-id ps;
+    }

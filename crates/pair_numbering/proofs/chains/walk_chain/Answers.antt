@@ -10,10 +10,10 @@ use Rattle.pair_numbering.proofs.chains.walk_chain.Goals.{then-stamps-upper, els
 
 pub bounds-numbers-low_place : goal.bounds-numbers-low_place
 bounds-numbers-low_place c =
-    let s = one_shl c.args.rank 64 (let h = c.requires.rank in omega arith) in
-    let n = c.requires.next_len in
+    let s = one_shl c.args.rank 64 (let h = c.requires.paired.small_rank in omega arith) in
+    let n = c.requires.next.long in
     let t = c.loop-j-test.true in
-    let w = pair_within (2 ^ c.args.rank) c.requires.whole.0 (length c.args.numbers.now) c.loop-j.j (pow_pos c.args.rank) c.requires.whole.1 (omega arith) in
+    let w = pair_within (2 ^ c.args.rank) c.requires.paired.whole.0 (length c.args.numbers.now) c.loop-j.j (pow_pos c.args.rank) c.requires.paired.whole.1 (omega arith) in
     let e = c.low_place.ensures in
     omega arith
 
@@ -28,11 +28,11 @@ loop-j-preserved c =
     let marks = c.loop-j.marks in
     let first = c.loop-j.first in
     let k = get_or c.args.next.now j 0 in
-    let s = one_shl c.args.rank 64 (let h = c.requires.rank in omega arith) in
-    let n = c.requires.next_len in
+    let s = one_shl c.args.rank 64 (let h = c.requires.paired.small_rank in omega arith) in
+    let n = c.requires.next.long in
     let t = c.loop-j-test.true in
     let small : j < half = omega arith in
-    let w = pair_within step c.requires.whole.0 (length cs) j (pow_pos c.args.rank) c.requires.whole.1 small in
+    let w = pair_within step c.requires.paired.whole.0 (length cs) j (pow_pos c.args.rank) c.requires.paired.whole.1 small in
     let e = c.low_place.ensures in
     let at : c.low_place.result + 1 * 2 ^ c.args.rank % 2 ^ 64 ≡ places.low_place step j + step = omega arith in
     let v : get_or cs (c.low_place.result + 1 * 2 ^ c.args.rank % 2 ^ 64) 0 ≡ upper_at cs step j = ap (λ z. get_or cs z 0) at in
@@ -44,7 +44,7 @@ loop-j-preserved c =
     let fl = c.requires.first_len in
     let inside : upper_at cs step j < length stamps = omega arith in
     let here = c.loop-j.invariant.walk.here small in
-    let nx = subst (λ z. IsNext (lower_at cs step) half z (j + 1) k) here (c.requires.next j small) in
+    let nx = subst (λ z. IsNext (lower_at cs step) half z (j + 1) k) here (c.requires.next.each j small) in
     record {
       walk = elim c.if-stamps-upper.branch [
         | then-stamps-upper u ↦

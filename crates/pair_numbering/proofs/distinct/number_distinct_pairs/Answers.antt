@@ -32,31 +32,25 @@ loop-j-preserved c =
     let l = length-pairs cs (2 ^ c.args.rank) in
     let o = c.loop-j.invariant.long in
     let few : length (take j masks) ≡ j = (let t = length-take j masks in omega arith) in
-    let first = distinct_first cs c.args.rank c.requires.whole c.requires.distinct j small in
+    let first = distinct_first cs c.args.rank c.requires.table.paired.whole c.requires.distinct j small in
     record {
       long = length-set masks _ _ ∙ o;
       made = subst (λ z. z) (λ t. Made 0 ps join (set out j (few t)) (sym (take_more_set masks j mask (omega arith)) t) (j + 1))
           (made_first 0 ps join out (take j masks) j mask (omega arith) first (c.join_mask.ensures ∙ ap join p) c.loop-j.invariant.made);
     }
 
-pub returns-clause-numbers : goal.returns-clause-numbers
-returns-clause-numbers c =
-    let l = length-pairs c.args.numbers.now (2 ^ c.args.rank) in
-    let t = c.loop-j-test.false in
-    made_numbers 0 (places.pairs c.args.numbers.now (2 ^ c.args.rank)) (joined_mask c.args.masks.now c.args.x) c.loop-j.out.items (take c.loop-j.j c.loop-j.joined.items) c.loop-j.j (omega arith) c.loop-j.invariant.made
-
-pub returns-clause-many : goal.returns-clause-many
-returns-clause-many c =
+pub returns : goal.returns
+returns c =
+    let ps = places.pairs c.args.numbers.now (2 ^ c.args.rank) in
+    let join = joined_mask c.args.masks.now c.args.x in
+    let out = c.loop-j.out.items in
+    let joined = take c.loop-j.j c.loop-j.joined.items in
     let l = length-pairs c.args.numbers.now (2 ^ c.args.rank) in
     let o = c.loop-j.invariant.long in
     let t = c.loop-j-test.false in
-    ap length (sym (take_all c.loop-j.j c.loop-j.joined.items (omega arith)))
-    ∙ made_many 0 (places.pairs c.args.numbers.now (2 ^ c.args.rank)) (joined_mask c.args.masks.now c.args.x) c.loop-j.out.items (take c.loop-j.j c.loop-j.joined.items) c.loop-j.j (omega arith) c.loop-j.invariant.made
-
-pub returns-clause-told : goal.returns-clause-told
-returns-clause-told c =
-    let l = length-pairs c.args.numbers.now (2 ^ c.args.rank) in
-    let o = c.loop-j.invariant.long in
-    let t = c.loop-j-test.false in
-    ap (λ us. map (λ k. get_or us k 0) c.loop-j.out.items) (sym (take_all c.loop-j.j c.loop-j.joined.items (omega arith)))
-    ∙ made_told 0 (places.pairs c.args.numbers.now (2 ^ c.args.rank)) (joined_mask c.args.masks.now c.args.x) c.loop-j.out.items (take c.loop-j.j c.loop-j.joined.items) c.loop-j.j (omega arith) c.loop-j.invariant.made
+    let all = sym (take_all c.loop-j.j c.loop-j.joined.items (omega arith)) in
+    record {
+      numbers_are = made_numbers 0 ps join out joined c.loop-j.j (omega arith) c.loop-j.invariant.made;
+      many = ap length all ∙ made_many 0 ps join out joined c.loop-j.j (omega arith) c.loop-j.invariant.made;
+      told = ap (λ us. map (λ k. get_or us k 0) out) all ∙ made_told 0 ps join out joined c.loop-j.j (omega arith) c.loop-j.invariant.made;
+    }

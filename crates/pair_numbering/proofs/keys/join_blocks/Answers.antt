@@ -21,10 +21,10 @@ loop-i-preserved c =
     let ps = places.pairs cs step in
     let j = c.loop-block.block * 2 ^ c.args.rank + c.loop-i.i in
     let out = c.loop-i.joined in
-    let s = one_shl c.args.rank 64 (let h = c.requires.rank in omega arith) in
+    let s = one_shl c.args.rank 64 (let h = c.requires.paired.small_rank in omega arith) in
     let b : c.loop-block.block < length cs / 2 / 2 ^ c.args.rank = (let e = ap (λ z. z / 2 ^ c.args.rank) c.requires.long in let t = c.loop-block-test.true in omega arith) in
-    let small = block_inside (length cs) c.args.rank c.loop-block.block c.loop-i.i c.requires.whole b (let t = c.loop-i-test.true in omega arith) in
-    let p = coded_pair cs c.args.rank (1 * 2 ^ c.args.rank % 2 ^ 64) c.loop-block.block c.loop-i.i s c.requires.whole b c.loop-i-test.true in
+    let small = block_inside (length cs) c.args.rank c.loop-block.block c.loop-i.i c.requires.paired.whole b (let t = c.loop-i-test.true in omega arith) in
+    let p = coded_pair cs c.args.rank (1 * 2 ^ c.args.rank % 2 ^ 64) c.loop-block.block c.loop-i.i s c.requires.paired.whole b c.loop-i-test.true in
     let o = c.loop-i.invariant.long in
     let place = ap (λ z. c.loop-block.block * z + c.loop-i.i) s in
     let k : j + 1 ≡ c.loop-block.block * 2 ^ c.args.rank + (c.loop-i.i + 1) = omega arith in
@@ -38,7 +38,7 @@ loop-i-preserved c =
 
 pub loop-block-preserved : goal.loop-block-preserved
 loop-block-preserved c =
-    let s = one_shl c.args.rank 64 (let h = c.requires.rank in omega arith) in
+    let s = one_shl c.args.rank 64 (let h = c.requires.paired.small_rank in omega arith) in
     let t = c.loop-i-test.false in
     let all : c.loop-i.i ≡ 2 ^ c.args.rank = (let u = c.loop-i.auto.i-end in omega arith) in
     record {
@@ -51,6 +51,6 @@ pub returns : goal.returns
 returns c =
     let l = length-pairs c.args.keys.now (2 ^ c.args.rank) in
     let o = c.loop-block.invariant.long in
-    let a = block_all (length c.args.keys.now) c.args.rank c.loop-block.block c.requires.whole (let e = ap (λ z. z / 2 ^ c.args.rank) c.requires.long in let t = c.loop-block-test.false in omega arith) in
+    let a = block_all (length c.args.keys.now) c.args.rank c.loop-block.block c.requires.paired.whole (let e = ap (λ z. z / 2 ^ c.args.rank) c.requires.long in let t = c.loop-block-test.false in omega arith) in
     sym (take_all (c.loop-block.block * 2 ^ c.args.rank) c.loop-block.joined (omega arith)) ∙ c.loop-block.invariant.done
     ∙ ap (map (joined_key c.args.base)) (take_all (c.loop-block.block * 2 ^ c.args.rank) (places.pairs c.args.keys.now (2 ^ c.args.rank)) (omega arith))

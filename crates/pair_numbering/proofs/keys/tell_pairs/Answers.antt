@@ -7,15 +7,14 @@ use Rattle.pair_numbering.proofs.keys.tell_pairs.Goals as goal
 pub returns-then-base-le-MOST_JOINED-clause-tells : goal.returns-then-base-le-MOST_JOINED-clause-tells
 returns-then-base-le-MOST_JOINED-clause-tells c =
     let l = c.if-base-le-MOST_JOINED.true in
-    names_joined c.args.masks.now c.args.x c.args.numbers.now c.args.rank c.requires.whole c.requires.classes (omega arith) c.in_ok-keys.keys.items c.in_ok-joined.joined.items
+    names_joined c.args.masks.now c.args.x c.args.numbers.now c.args.rank c.requires.table (omega arith) c.in_ok-keys.keys.items c.in_ok-joined.joined.items
     c.in_ok-keys.ensures c.in_ok-joined.ensures
 
 pub returns-clause-tells : goal.returns-clause-tells
 returns-clause-tells c =
     let l = length-pairs c.args.numbers.now (2 ^ c.args.rank) in
-    let f = c.requires.len in
-    names_numbered c.args.masks.now c.args.x (places.pairs c.args.numbers.now (2 ^ c.args.rank)) c.in_ok-numbered.numbered.numbers.items c.in_ok-numbered.numbered.masks.items (omega arith)
-    c.in_ok-numbered.ensures.numbers c.in_ok-numbered.ensures.many c.in_ok-numbered.ensures.told
+    let f = c.requires.table.few in
+    names_numbered c.args.masks.now c.args.x (places.pairs c.args.numbers.now (2 ^ c.args.rank)) c.in_ok-numbered.numbered.numbers.items c.in_ok-numbered.numbered.masks.items (omega arith) c.in_ok-numbered.ensures
 
 pub returns-clause-used : goal.returns-clause-used
-returns-clause-used c = λ e. ranks_used (places.pairs c.args.numbers.now (2 ^ c.args.rank)) c.in_ok-numbered.numbered.numbers.items c.in_ok-numbered.numbered.masks.items c.in_ok-numbered.ensures.numbers c.in_ok-numbered.ensures.many
+returns-clause-used c = λ e. ranks_used c.args.masks.now c.args.x (places.pairs c.args.numbers.now (2 ^ c.args.rank)) c.in_ok-numbered.numbered.numbers.items c.in_ok-numbered.numbered.masks.items c.in_ok-numbered.ensures

@@ -10,7 +10,7 @@ join_masks-requires-clause-lower c = λ k l.
     let d = c.deref.ensures.value in
     let e = ap (λ (us : List (ℕ × ℕ)). length us) d in
     subst (λ (us : List (ℕ × ℕ)). (get_or us k (0, 0)).0 < length c.args.masks.now) (sym d)
-    (met_classes c.args.numbers.now c.args.rank (length c.args.masks.now) c.requires.whole c.requires.classes c.in_ok-numbered-3.numbered.numbers.items c.in_ok-numbered-3.numbered.pairs.items n.numbers n.many n.told k (omega arith)).0
+    (met_classes c.args.numbers.now c.args.rank (length c.args.masks.now) c.requires.table.paired.whole c.requires.table.below c.in_ok-numbered-3.numbered.numbers.items c.in_ok-numbered-3.numbered.pairs.items n.numbered_are n.many n.told k (omega arith)).0
 
 pub join_masks-requires-clause-upper : goal.join_masks-requires-clause-upper
 join_masks-requires-clause-upper c = λ k l.
@@ -18,16 +18,18 @@ join_masks-requires-clause-upper c = λ k l.
     let d = c.deref.ensures.value in
     let e = ap (λ (us : List (ℕ × ℕ)). length us) d in
     subst (λ (us : List (ℕ × ℕ)). (get_or us k (0, 0)).1 < length c.args.masks.now) (sym d)
-    (met_classes c.args.numbers.now c.args.rank (length c.args.masks.now) c.requires.whole c.requires.classes c.in_ok-numbered-3.numbered.numbers.items c.in_ok-numbered-3.numbered.pairs.items n.numbers n.many n.told k (omega arith)).1
+    (met_classes c.args.numbers.now c.args.rank (length c.args.masks.now) c.requires.table.paired.whole c.requires.table.below c.in_ok-numbered-3.numbered.numbers.items c.in_ok-numbered-3.numbered.pairs.items n.numbered_are n.many n.told k (omega arith)).1
 
-pub returns-clause-many : goal.returns-clause-many
-returns-clause-many c =
+pub returns : goal.returns
+returns c =
+    let ps = places.pairs c.args.numbers.now (2 ^ c.args.rank) in
+    let join = joined_mask c.args.masks.now c.args.x in
+    let numbers = c.in_ok-numbered-3.numbered.numbers.items in
+    let pairs = c.in_ok-numbered-3.numbered.pairs.items in
     let n = c.in_ok-numbered-3.ensures in
-    ap length (c.in_ok-joined.ensures ∙ ap (map (joined_mask c.args.masks.now c.args.x)) c.deref.ensures.value)
-    ∙ masks_many (places.pairs c.args.numbers.now (2 ^ c.args.rank)) c.in_ok-numbered-3.numbered.numbers.items c.in_ok-numbered-3.numbered.pairs.items n.numbers n.many n.told (joined_mask c.args.masks.now c.args.x)
-
-pub returns-clause-told : goal.returns-clause-told
-returns-clause-told c =
-    let n = c.in_ok-numbered-3.ensures in
-    ap (λ us. map (λ k. get_or us k 0) c.in_ok-numbered-3.numbered.numbers.items) (c.in_ok-joined.ensures ∙ ap (map (joined_mask c.args.masks.now c.args.x)) c.deref.ensures.value)
-    ∙ masks_told (places.pairs c.args.numbers.now (2 ^ c.args.rank)) c.in_ok-numbered-3.numbered.numbers.items c.in_ok-numbered-3.numbered.pairs.items n.numbers n.many n.told (joined_mask c.args.masks.now c.args.x)
+    let joined = c.in_ok-joined.ensures ∙ ap (map join) c.deref.ensures.value in
+    record {
+      numbers_are = n.numbered_are;
+      many = ap length joined ∙ masks_many ps numbers pairs n.numbered_are n.many n.told join;
+      told = ap (λ us. map (λ k. get_or us k 0) numbers) joined ∙ masks_told ps numbers pairs n.numbered_are n.many n.told join;
+    }

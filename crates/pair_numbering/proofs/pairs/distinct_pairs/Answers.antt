@@ -31,15 +31,14 @@ loop-j-preserved c =
           (joined_old (0, 0) ps (λ p. p) out j (get_or c.args.numbered.now j 0) small c.loop-j.invariant number (λ e. len (omega arith)))
     ]
 
-pub returns-clause-many : goal.returns-clause-many
-returns-clause-many c =
+pub returns : goal.returns
+returns c =
+    let ps = places.pairs c.args.numbers.now (2 ^ c.args.rank) in
+    let pairs = c.loop-j.pairs.items in
     let l = numbered_place c.args.numbers.now c.args.numbered.now c.args.rank c.requires.numbered in
     let m = length-pairs c.args.numbers.now (2 ^ c.args.rank) in
-    joined_many (0, 0) (places.pairs c.args.numbers.now (2 ^ c.args.rank)) (λ p. p) c.loop-j.pairs.items c.loop-j.j (omega arith) c.loop-j.invariant
-
-pub returns-clause-told : goal.returns-clause-told
-returns-clause-told c =
-    let l = numbered_place c.args.numbers.now c.args.numbered.now c.args.rank c.requires.numbered in
-    let m = length-pairs c.args.numbers.now (2 ^ c.args.rank) in
-    ap (map (λ k. get_or c.loop-j.pairs.items k (0, 0))) c.requires.numbered
-    ∙ joined_told (0, 0) (places.pairs c.args.numbers.now (2 ^ c.args.rank)) (λ p. p) c.loop-j.pairs.items c.loop-j.j (omega arith) c.loop-j.invariant ∙ map-id (places.pairs c.args.numbers.now (2 ^ c.args.rank))
+    record {
+      numbered_are = c.requires.numbered;
+      many = joined_many (0, 0) ps (λ p. p) pairs c.loop-j.j (omega arith) c.loop-j.invariant;
+      told = ap (map (λ k. get_or pairs k (0, 0))) c.requires.numbered ∙ joined_told (0, 0) ps (λ p. p) pairs c.loop-j.j (omega arith) c.loop-j.invariant ∙ map-id ps;
+    }

@@ -17,7 +17,7 @@ loop-j-init c = record {
 
 pub bounds-numbers-low-in-loop-j : goal.bounds-numbers-low-in-loop-j
 bounds-numbers-low-in-loop-j c =
-    let s = one_shl c.args.rank 64 (let h = c.requires.rank in omega arith) in
+    let s = one_shl c.args.rank 64 (let h = c.requires.small_rank in omega arith) in
     let t : c.loop-j.j < length c.args.numbers.now / 2 = c.loop-j-test.true in
     let w = pair_within (2 ^ c.args.rank) c.requires.whole.0 (length c.args.numbers.now) c.loop-j.j (pow_pos c.args.rank) c.requires.whole.1 t in
     let e = c.low_place-low.ensures in
@@ -25,19 +25,19 @@ bounds-numbers-low-in-loop-j c =
 
 pub overflow_cast-number : goal.overflow_cast-number
 overflow_cast-number c =
-    let s = one_shl c.args.rank 64 (let h = c.requires.rank in omega arith) in
+    let s = one_shl c.args.rank 64 (let h = c.requires.small_rank in omega arith) in
     let e = c.low_place-low.ensures in
     let cs = c.args.numbers.now in
     let here : (get_or cs c.low_place-low.result 0, get_or cs (c.low_place-low.result + 1 * 2 ^ c.args.rank % 2 ^ 64) 0) ≡ places.pair_at cs (2 ^ c.args.rank) c.loop-j.j = λ i. (get_or cs (e i) 0, get_or cs (e i + s i) 0) in
     let n = c.in_ok-number.ensures.index ∙ ap (λ k. position_or_len (same_pair k) c.loop-j.seen.keys) here in
     let l = number_small cs (2 ^ c.args.rank) c.loop-j.j c.loop-j-test.true c.loop-j.seen.keys c.loop-j.invariant.seen in
     let t = c.loop-j-test.true in
-    let u = c.requires.len in
+    let u = c.requires.short in
     omega arith
 
 pub loop-j-preserved : goal.loop-j-preserved
 loop-j-preserved c =
-    let s = one_shl c.args.rank 64 (let h = c.requires.rank in omega arith) in
+    let s = one_shl c.args.rank 64 (let h = c.requires.small_rank in omega arith) in
     let e = c.low_place-low.ensures in
     let cs = c.args.numbers.now in
     let here : (get_or cs c.low_place-low.result 0, get_or cs (c.low_place-low.result + 1 * 2 ^ c.args.rank % 2 ^ 64) 0) ≡ places.pair_at cs (2 ^ c.args.rank) c.loop-j.j = λ i. (get_or cs (e i) 0, get_or cs (e i + s i) 0) in

@@ -17,10 +17,10 @@ loop-j-preserved c =
     let j = c.loop-j.j in
     let lp = length-pairs cs step in
     let t = c.loop-j-test.true in
-    let long = c.requires.long in
+    let long = c.requires.first.long in
     let small : j < length cs / 2 = omega arith in
     let listed : j < length ps = omega arith in
-    let first = first_listed cs step j (get_or c.args.first.now j 0) small (c.requires.first j small) in
+    let first = first_listed cs step j (get_or c.args.first.now j 0) small (c.requires.first.each j small) in
     elim c.if-f-j.branch [
       | then-f-j w ↦
           let m = w.join_mask-mask.ensures ∙ ap (joined_mask c.args.masks.now c.args.x) (w.pair_at.ensures ∙ sym (pair_listed cs step j small)) in
@@ -38,5 +38,5 @@ pub returns : goal.returns
 returns c =
     let lp = length-pairs c.args.numbers.now (2 ^ c.args.rank) in
     let t = c.loop-j-test.false in
-    let long = c.requires.long in
+    let long = c.requires.first.long in
     counting_all (places.pairs c.args.numbers.now (2 ^ c.args.rank)) c.args.masks.now c.args.x c.loop-j.count c.loop-j.j (omega arith) c.loop-j.invariant

@@ -20,25 +20,19 @@ loop-j-init c =
     slotted_none ps (home_of (4 * (length c.args.numbers.now / 2))) c.in_ok-slots.slots.items c.in_ok-keys.keys.items c.in_ok-out.out.items
     (omega arith) (omega arith) (omega arith) (λ t h. empty t h ∙ sym l)
 
-pub returns-clause-numbers : goal.returns-clause-numbers
-returns-clause-numbers c =
+pub returns : goal.returns
+returns c =
+    let ps = places.pairs c.args.numbers.now (2 ^ c.args.rank) in
+    let out = c.loop-j.out.items in
+    let keys = take c.loop-j.count c.loop-j.keys.items in
+    let made = c.loop-j.invariant.made in
     let l = length-pairs c.args.numbers.now (2 ^ c.args.rank) in
     let t = c.loop-j-test.false in
-    made_numbers (0, 0) (places.pairs c.args.numbers.now (2 ^ c.args.rank)) (λ p. p) c.loop-j.out.items (take c.loop-j.count c.loop-j.keys.items) c.loop-j.j (omega arith) c.loop-j.invariant.made
-
-pub returns-clause-many : goal.returns-clause-many
-returns-clause-many c =
-    let l = length-pairs c.args.numbers.now (2 ^ c.args.rank) in
-    let t = c.loop-j-test.false in
-    ap length c.truncate.ensures.items
-    ∙ made_many (0, 0) (places.pairs c.args.numbers.now (2 ^ c.args.rank)) (λ p. p) c.loop-j.out.items (take c.loop-j.count c.loop-j.keys.items) c.loop-j.j (omega arith) c.loop-j.invariant.made
-
-pub returns-clause-told : goal.returns-clause-told
-returns-clause-told c =
-    let l = length-pairs c.args.numbers.now (2 ^ c.args.rank) in
-    let t = c.loop-j-test.false in
-    ap (λ us. map (λ k. get_or us k (0, 0)) c.loop-j.out.items) c.truncate.ensures.items
-    ∙ made_told (0, 0) (places.pairs c.args.numbers.now (2 ^ c.args.rank)) (λ p. p) c.loop-j.out.items (take c.loop-j.count c.loop-j.keys.items) c.loop-j.j (omega arith) c.loop-j.invariant.made ∙ map-id (places.pairs c.args.numbers.now (2 ^ c.args.rank))
+    record {
+      numbered_are = made_numbers (0, 0) ps (λ p. p) out keys c.loop-j.j (omega arith) made;
+      many = ap length c.truncate.ensures.items ∙ made_many (0, 0) ps (λ p. p) out keys c.loop-j.j (omega arith) made;
+      told = ap (λ us. map (λ k. get_or us k (0, 0)) out) c.truncate.ensures.items ∙ made_told (0, 0) ps (λ p. p) out keys c.loop-j.j (omega arith) made ∙ map-id ps;
+    }
 
 pub loop-j-preserved : goal.loop-j-preserved
 loop-j-preserved c =
