@@ -1,16 +1,17 @@
 -- Strips whose entries stand in rows that bytes name.
 --     bytes_values      the values
---     bytes_whole, bytes_more      one more of the lowest three variables
+--     bytes_table, bytes_more      one more of the lowest three variables
 use Rattle.std.proofs.Common.{◌≡◌, ℕ, ◌*◌, ◌^◌, ◌<◌, ◌≤◌, false, List, [], ◌∷◌, map, length, get_or, sym, ap, ◌∙◌, subst, arith}
 use Rattle.std.proofs.lemmas.Nat.{pow_pos}
 use Rattle.order_model.specs.Orders.{has}
 use Rattle.order_model.specs.Problems.{TruthTables, value_at}
+use Rattle.class_laws.specs.PairTables.{IsPairTable}
 use Rattle.class_laws.specs.Places.{pairs}
 use Rattle.compaction.specs.Strips.{AreNamed, AreStrips, HoldsBytes, HoldsStrips, unrolled}
 use Rattle.pair_numbering.specs.Keys.{TellsPairs}
 use Rattle.class_laws.specs.Table.{ClassesOf, classes_of, with_variable, set_of, free_below}
 use Rattle.class_laws.specs.Values.{values_of, number_of}
-use Rattle.compaction.proofs.HeldStrips.{rest, parts, less, holds_low, holds_values}
+use Rattle.compaction.proofs.HeldStrips.{rest, parts, less, rank_few, holds_low, holds_values}
 use Rattle.class_laws.proofs.Index.{length-pairs}
 use Rattle.compaction.proofs.Keyed.{free_zero}
 use Rattle.pair_numbering.proofs.Names.{names_below, length_names}
@@ -39,8 +40,11 @@ module _ (t : ClassesOf) (x : ℕ) (inside : x < t.problem.inputs) (new : has (s
   named : AreNamed bytes rows (2 ^ rest t x inside new 3 inner * (2 * 2 ^ free_below t.set x))
   named = subst (AreNamed bytes rows) (parts t x inside new 3 inner) h.named
 
-  pub bytes_whole : (blocks : ℕ) × (length rows ≡ blocks * (2 * 2 ^ free_below t.set x))
+  bytes_whole : (blocks : ℕ) × (length rows ≡ blocks * (2 * 2 ^ free_below t.set x))
   bytes_whole = (named.count * 2 ^ rest t x inside new 3 inner, named.whole ∙ grind arith)
+
+  pub bytes_table : IsPairTable rows (free_below t.set x) (length masks)
+  bytes_table = record { paired = record { small_rank = rank_few t x inside new 8 outer (unrolled bytes rows (2 ^ free_below t.set 3)) masks h.strips; short = (let f = h.few_rows in omega arith); whole = bytes_whole }; few = (let f = h.few_rows in omega arith); below = h.below }
 
   pub bytes_more : (told joined : List ℕ) → TellsPairs masks x (pairs rows (2 ^ free_below t.set x)) told joined → HoldsBytes (with_variable t x) 8 outer bytes told joined
   bytes_more told joined names =

@@ -1,7 +1,8 @@
 -- A table kept in strips holds the keys of a set, and with one more variable those of the set with it.
 --     free_split, free_other, free_less      how many variables outside the set stand below
+--     table_high, table_low      the strips are paired by a variable above them, or by one inside them
 --     holds_high, holds_low      a variable above the strips, and one inside them
-use Rattle.std.proofs.Common.{◌≡◌, ◌≢◌, ℕ, zero, suc, ◌+◌, ◌-◌, ◌*◌, ◌/◌, ◌%◌, ◌^◌, ◌<◌, ◌≤◌, true, false, not, cond, ◌&&◌, inl, inr, List, [], ◌∷◌, map, length, get_or, bit_or, eqb, eq-eqb, ne_eqb, refl, sym, ap, ap₂, ◌∙◌, subst, arith}
+use Rattle.std.proofs.Common.{◌≡◌, ◌≢◌, ℕ, Bool, zero, suc, ◌+◌, ◌-◌, ◌*◌, ◌/◌, ◌%◌, ◌^◌, ◌<◌, ◌≤◌, true, false, not, cond, ◌&&◌, inl, inr, List, [], ◌∷◌, map, length, get_or, bit_or, eqb, eq-eqb, ne_eqb, refl, sym, ap, ap₂, ◌∙◌, subst, arith}
 use Rattle.std.specs.Int.{bit_at}
 use Rattle.std.proofs.Math.Nat.{eq_of_mul-eq-mul_right, div-lt_iff_lt-mul, mod-lt}
 use Rattle.std.proofs.lemmas.Bool.{cases_eq}
@@ -10,8 +11,9 @@ use Rattle.std.proofs.lemmas.Nat.Bits.{bit_at_or, bit_at-pow_same, bit_at-pow_ot
 use Rattle.order_model.specs.Orders.{has}
 use Rattle.order_model.proofs.Bits.Masks.{has_members}
 use Rattle.order_model.proofs.Lists.Orders.{has_variables}
+use Rattle.class_laws.specs.PairTables.{IsPairTable}
 use Rattle.class_laws.specs.Places.{pairs}
-use Rattle.compaction.specs.Strips.{AreStrips, HoldsStrips, unrolled, HoldsKeys}
+use Rattle.compaction.specs.Strips.{AreStrips, GrowsStrips, HoldsStrips, IsStripTable, unrolled, HoldsKeys}
 use Rattle.pair_numbering.specs.Keys.{TellsPairs}
 use Rattle.class_laws.specs.Table.{ClassesOf, classes_of, with_variable, set_of, free_below}
 use Rattle.class_laws.proofs.Extended.{free_none, free_step, rank_small}
@@ -104,18 +106,15 @@ module _ (t : ClassesOf) (x : ℕ) (inside : x < t.problem.inputs) (new : has (s
     pub rank_few : free_below t.set x < 16
     rank_few = (let a = rank_small t x inside new in let n = h.keys.few_inputs in omega arith)
 
-    pub few_runs : length outer * 2 ^ free_below t.set low ≤ 2 ^ 20
+    few_runs : length outer * 2 ^ free_below t.set low ≤ 2 ^ 20
     few_runs = (let l = length_unrolled outer numbers (2 ^ free_below t.set low) h.strips in let f = h.keys.few in omega arith)
-
-    pub few_masks : length masks ≤ 2 ^ 20
-    few_masks = h.keys.few_masks
 
     -- ---- a variable above the strips
     module _ (high : low ≤ x) (rank : ℕ) (rank_is : free_below t.set x ≡ free_below t.set low + rank) where
       steps : 2 ^ free_below t.set x ≡ 2 ^ free_below t.set low * 2 ^ rank
       steps = ap (λ k. 2 ^ k) rank_is ∙ pow-add 2 (free_below t.set low) rank
 
-      pub whole_outer : (blocks : ℕ) × (length outer ≡ blocks * (2 * 2 ^ rank))
+      whole_outer : (blocks : ℕ) × (length outer ≡ blocks * (2 * 2 ^ rank))
       whole_outer =
           let w = whole_keys in (
             w.0,
@@ -123,24 +122,28 @@ module _ (t : ClassesOf) (x : ℕ) (inside : x < t.problem.inputs) (new : has (s
                 (sym (length_unrolled outer numbers (2 ^ free_below t.set low) h.strips) ∙ w.1 ∙ ap (λ k. w.0 * (2 * k)) steps ∙ grind arith),
           )
 
-      pub holds_high : (outer' numbers' masks' : List ℕ) → AreStrips outer' numbers' (2 ^ free_below t.set low) →
-          TellsPairs masks x (pairs (unrolled outer numbers (2 ^ free_below t.set low)) (2 ^ free_below t.set low * 2 ^ rank)) (unrolled outer' numbers' (2 ^ free_below t.set low)) masks' →
-          ((i : ℕ) → i < length numbers' → get_or numbers' i 0 < length masks') → length numbers' ≤ 2 ^ 20 → HoldsStrips (with_variable t x) low outer' numbers' masks'
-      holds_high outer' numbers' masks' strips tells below few =
+      pub table_high : IsStripTable outer rank numbers (free_below t.set low) masks
+      table_high = record { small_rank = (let r = rank_few in omega arith); len = few_runs; few = h.few_numbers; few_masks = h.keys.few_masks; whole = whole_outer; strips = h.strips; below = h.below }
+
+      pub holds_high : (grown told joined : List ℕ) (all_used : Bool) → GrowsStrips outer rank numbers (free_below t.set low) masks x grown told joined all_used → HoldsStrips (with_variable t x) low grown told joined
+      holds_high grown told joined all_used g =
           let e : 2 ^ free_below (with_variable t x).set low ≡ 2 ^ free_below t.set low = ap (λ k. 2 ^ k) (free_other t.set x low high) in
           record {
-            strips = subst (AreStrips outer' numbers') (sym e) strips;
-            keys = subst (λ k. HoldsKeys (with_variable t x) (unrolled outer' numbers' k) masks') (sym e)
-                (keys_by_names t x inside new (unrolled outer numbers (2 ^ free_below t.set low)) masks h.keys whole_keys (unrolled outer' numbers' (2 ^ free_below t.set low)) masks'
-                (subst (λ k. TellsPairs masks x (pairs (unrolled outer numbers (2 ^ free_below t.set low)) k) (unrolled outer' numbers' (2 ^ free_below t.set low)) masks') (sym steps) tells));
-            below = below;
-            few_numbers = few;
+            strips = subst (AreStrips grown told) (sym e) g.strips;
+            keys = subst (λ k. HoldsKeys (with_variable t x) (unrolled grown told k) joined) (sym e)
+                (keys_by_names t x inside new (unrolled outer numbers (2 ^ free_below t.set low)) masks h.keys whole_keys (unrolled grown told (2 ^ free_below t.set low)) joined
+                (subst (λ k. TellsPairs masks x (pairs (unrolled outer numbers (2 ^ free_below t.set low)) k) (unrolled grown told (2 ^ free_below t.set low)) joined) (sym steps) g.tells));
+            below = g.below;
+            few_numbers = g.few;
           }
 
     -- ---- a variable inside the strips
     module _ (inner : x < low) where
-      pub whole_numbers : (blocks : ℕ) × (length numbers ≡ blocks * (2 * 2 ^ free_below t.set x))
+      whole_numbers : (blocks : ℕ) × (length numbers ≡ blocks * (2 * 2 ^ free_below t.set x))
       whole_numbers = (h.strips.count * 2 ^ rest low inner, h.strips.whole ∙ ap (λ k. h.strips.count * k) (parts low inner) ∙ grind arith)
+
+      pub table_low : IsPairTable numbers (free_below t.set x) (length masks)
+      table_low = record { paired = record { small_rank = rank_few; short = (let f = h.few_numbers in omega arith); whole = whole_numbers }; few = h.few_numbers; below = h.below }
 
       pub holds_low : (numbers' masks' : List ℕ) → TellsPairs masks x (pairs numbers (2 ^ free_below t.set x)) numbers' masks' → HoldsStrips (with_variable t x) low outer numbers' masks'
       holds_low numbers' masks' names =

@@ -2,14 +2,14 @@
 --     length_names_of, name_low, name_high      the names in pairs
 --     names_more      one pair more
 --     paired_named, paired_long, paired_few, paired_lower, paired_upper      the strips of the pairs of names
-use Rattle.std.proofs.Common.{◌≡◌, ℕ, zero, suc, ◌+◌, ◌*◌, ◌/◌, ◌^◌, ◌<◌, ◌≤◌, List, [], ◌∷◌, ◌++◌, map, length, get_or, refl, ap, ◌∙◌, arith}
+use Rattle.std.proofs.Common.{◌≡◌, ℕ, zero, suc, ◌+◌, ◌*◌, ◌/◌, ◌^◌, ◌<◌, ◌≤◌, List, [], ◌∷◌, ◌++◌, length, get_or, refl, ap, ◌∙◌, arith}
 use Rattle.std.specs.List.{flat_map}
 use Rattle.std.specs.Set.{distinct_count}
 use Rattle.std.proofs.Math.Nat.{mul-le-mul_right}
 use Rattle.std.proofs.lemmas.Map.Made.{distinct_count-le}
 use Rattle.order_model.specs.Widths.{same_pair}
 use Rattle.pair_numbering.specs.Chains.{lower_at, upper_at}
-use Rattle.class_laws.specs.Numbering.{ranks}
+use Rattle.pair_numbering.specs.Numbers.{ArePairsNumbered}
 use Rattle.class_laws.specs.Places as places
 use Rattle.compaction.specs.Strips.{AreNamed, AreStrips, names_of, unrolled}
 use Rattle.class_laws.proofs.DistinctPairs.{met_classes, number_below, pair_numbered}
@@ -46,36 +46,35 @@ names_more [] p = refl
 names_more (q ∷ qs) p = ap (λ us. q.0 ∷ q.1 ∷ us) (names_more qs p)
 
 module _ (outer numbers : List ℕ) (len r : ℕ) (strips : AreStrips outer numbers len) (whole : (blocks : ℕ) × (length outer ≡ blocks * (2 * 2 ^ r))) (numbered : List ℕ) (pairs : List (ℕ × ℕ))
-    (ranked : numbered ≡ ranks same_pair (places.pairs outer (2 ^ r))) (many : length pairs ≡ distinct_count same_pair (places.pairs outer (2 ^ r)))
-    (told : map (λ c. get_or pairs c (0, 0)) numbered ≡ places.pairs outer (2 ^ r)) where
+    (h : ArePairsNumbered outer r numbered pairs) where
   pub paired_named : AreNamed (names_of pairs) numbers len
-  paired_named = record { count = strips.count; whole = strips.whole; within = names_of_below strips.count pairs (met_classes outer r strips.count whole strips.within numbered pairs ranked many told) }
+  paired_named = record { count = strips.count; whole = strips.whole; within = names_of_below strips.count pairs (met_classes outer r strips.count whole strips.within numbered pairs h.numbered_are h.many h.told) }
 
   module _ (paired : List ℕ) (are : paired ≡ unrolled (names_of pairs) numbers len) where
     pub paired_long : length paired ≡ distinct_count same_pair (places.pairs outer (2 ^ r)) * (2 * len)
     paired_long =
-        ap length are ∙ length_named (names_of pairs) numbers len paired_named ∙ ap (λ k. k * len) (length_names_of pairs ∙ ap (λ k. k * 2) many)
+        ap length are ∙ length_named (names_of pairs) numbers len paired_named ∙ ap (λ k. k * len) (length_names_of pairs ∙ ap (λ k. k * 2) h.many)
         ∙ (let e : distinct_count same_pair (places.pairs outer (2 ^ r)) * 2 * len ≡ distinct_count same_pair (places.pairs outer (2 ^ r)) * (2 * len) = grind arith in e)
 
     pub paired_lower : (j a : ℕ) → j < length outer / 2 → a < len → get_or paired (get_or numbered j 0 * (2 * len) + a) 0 ≡ get_or numbers (lower_at outer (2 ^ r) j * len + a) 0
-    paired_lower j a h i =
+    paired_lower j a l i =
         let s = length-pairs outer (2 ^ r) in
         let n = length_names_of pairs in
         let k = get_or numbered j 0 in
-        let b = number_below (places.pairs outer (2 ^ r)) numbered pairs ranked many told j (omega arith) in
-        let p = pair_numbered (places.pairs outer (2 ^ r)) numbered pairs ranked many told j (omega arith) ∙ pair_listed outer (2 ^ r) j h in
+        let b = number_below (places.pairs outer (2 ^ r)) numbered pairs h.numbered_are h.many h.told j (omega arith) in
+        let p = pair_numbered (places.pairs outer (2 ^ r)) numbered pairs h.numbered_are h.many h.told j (omega arith) ∙ pair_listed outer (2 ^ r) j l in
         ap (λ us. get_or us (k * (2 * len) + a) 0) are
         ∙ ap (λ z. get_or (unrolled (names_of pairs) numbers len) z 0) (let e : k * (2 * len) + a ≡ k * 2 * len + a = grind arith in e)
         ∙ named_at (names_of pairs) numbers len paired_named (k * 2) a (omega arith) i
         ∙ ap (λ z. get_or numbers (z * len + a) 0) (name_low pairs k b ∙ ap (λ (q : ℕ × ℕ). q.0) p)
 
     pub paired_upper : (j a : ℕ) → j < length outer / 2 → a < len → get_or paired (get_or numbered j 0 * (2 * len) + len + a) 0 ≡ get_or numbers (upper_at outer (2 ^ r) j * len + a) 0
-    paired_upper j a h i =
+    paired_upper j a l i =
         let s = length-pairs outer (2 ^ r) in
         let n = length_names_of pairs in
         let k = get_or numbered j 0 in
-        let b = number_below (places.pairs outer (2 ^ r)) numbered pairs ranked many told j (omega arith) in
-        let p = pair_numbered (places.pairs outer (2 ^ r)) numbered pairs ranked many told j (omega arith) ∙ pair_listed outer (2 ^ r) j h in
+        let b = number_below (places.pairs outer (2 ^ r)) numbered pairs h.numbered_are h.many h.told j (omega arith) in
+        let p = pair_numbered (places.pairs outer (2 ^ r)) numbered pairs h.numbered_are h.many h.told j (omega arith) ∙ pair_listed outer (2 ^ r) j l in
         ap (λ us. get_or us (k * (2 * len) + len + a) 0) are
         ∙ ap (λ z. get_or (unrolled (names_of pairs) numbers len) z 0) (let e : k * (2 * len) + len + a ≡ (k * 2 + 1) * len + a = grind arith in e)
         ∙ named_at (names_of pairs) numbers len paired_named (k * 2 + 1) a (omega arith) i

@@ -3,26 +3,26 @@
 --     names_of pairs      the names in pairs of strips, one behind the other
 --     low_variables p      how many variables run inside a strip of the empty set
 --     AreNamed, AreStrips      each strip is whole; each is used, too
---     ArePairsNumbered names rank numbers pairs      the pairs of names have numbers by first occurrence, and each number its pair
+--     IsStripTable outer rank numbers bits masks      strips whose names are paired by a variable
+--     GrowsStrips outer rank numbers bits masks x grown told joined all_used      the strips with that variable too
 --     masks_in_use numbers masks      the masks of the numbers that occur, rising
 --     HoldsKeys t keys masks      the numbers tell the set's subfunctions apart, in any order; the masks are what the function with each number depends on
 --     HoldsStrips t low outer numbers masks      the unrolled table holds the keys of t; `low` parts the variables
 --     AreDistinct t count      all subfunctions are distinct and depend on the whole set
 --     HoldsTable      either of them
 --     HoldsBytes t low outer bytes rows masks      strips whose entries stand in rows, which bytes name: a row has an entry for each assignment of the variables below 3 outside the set
-use Rattle.std.specs.Prelude.{◌≡◌, ℕ, ◌*◌, ◌^◌, ◌<◌, ◌≤◌, Bool, IsTrue, min, List, [], ◌∷◌, Option, None, Some, map, take, drop, length, reverse, get_or, nat_eq}
+use Rattle.std.specs.Prelude.{◌≡◌, ℕ, ◌+◌, ◌*◌, ◌^◌, ◌<◌, ◌≤◌, Bool, IsTrue, min, List, [], ◌∷◌, Option, None, Some, map, take, drop, length, reverse, get_or, nat_eq}
 use Rattle.std.specs.List.{filter, flat_map, range_with_len}
 use Rattle.order_model.specs.Orders.{has, variables}
 use Rattle.order_model.specs.Problems.{TruthTables}
 use Rattle.order_model.specs.Levels.{reach}
 use Rattle.order_model.specs.Widths.{class_numbers, outside}
 use Rattle.class_laws.specs.Numbering.{ranks}
-use Rattle.std.specs.Set.{distinct_count}
-use Rattle.order_model.specs.Widths.{same_pair}
-use Rattle.class_laws.specs.Places as places
+use Rattle.class_laws.specs.PairTables.{AllBelow}
+use Rattle.class_laws.specs.Places.{pairs}
 use Rattle.class_laws.specs.Dependence.{dependence}
 use Rattle.class_laws.specs.Table.{ClassesOf, functions_of, set_of, free_below}
-use Rattle.pair_numbering.specs.Keys.{AreUsed}
+use Rattle.pair_numbering.specs.Keys.{AreUsed, TellsPairs}
 
 -- how many variables run inside a strip of the empty set
 abbrev pub low_variables : TruthTables → ℕ
@@ -53,11 +53,23 @@ pub record AreStrips (outer numbers : List ℕ) (len : ℕ) : Type 0 where
   pub within : (i : ℕ) → i < length outer → get_or outer i 0 < count
   pub used : (k : ℕ) → k < count → (i : ℕ) × ((i < length outer) × (get_or outer i 0 ≡ k))
 
--- the pairs of names by the variable of a rank are numbered by first occurrence
-pub record ArePairsNumbered (names : List ℕ) (rank : ℕ) (numbers : List ℕ) (pairs : List (ℕ × ℕ)) : Type 0 where
-  pub numbered : numbers ≡ ranks same_pair (places.pairs names (2 ^ rank))
-  pub many : length pairs ≡ distinct_count same_pair (places.pairs names (2 ^ rank))
-  pub told : map (λ c. get_or pairs c (0, 0)) numbers ≡ places.pairs names (2 ^ rank)
+-- strips of 2 ^ bits entries, whose names are paired by a variable above those inside a strip
+pub record IsStripTable (outer : List ℕ) (rank : ℕ) (numbers : List ℕ) (bits : ℕ) (masks : List ℕ) : Type 0 where
+  pub small_rank : bits + rank < 16
+  pub len : length outer * 2 ^ bits ≤ 2 ^ 20
+  pub few : length numbers ≤ 2 ^ 20
+  pub few_masks : length masks ≤ 2 ^ 20
+  pub whole : (blocks : ℕ) × (length outer ≡ blocks * (2 * 2 ^ rank))
+  pub strips : AreStrips outer numbers (2 ^ bits)
+  pub below : AllBelow numbers (length masks)
+
+-- strips with that variable x too: all their entries tell the pairs of the entries apart, and the masks are those of the pairs
+pub record GrowsStrips (outer : List ℕ) (rank : ℕ) (numbers : List ℕ) (bits : ℕ) (masks : List ℕ) (x : ℕ) (grown told joined : List ℕ) (all_used : Bool) : Type 0 where
+  pub strips : AreStrips grown told (2 ^ bits)
+  pub tells : TellsPairs masks x (pairs (unrolled outer numbers (2 ^ bits)) (2 ^ bits * 2 ^ rank)) (unrolled grown told (2 ^ bits)) joined
+  pub below : AllBelow told (length joined)
+  pub few : length told ≤ 2 ^ 20
+  pub used : IsTrue all_used → AreUsed told joined
 
 -- the masks of the numbers that occur
 unfoldable pub masks_in_use : List ℕ → List ℕ → List ℕ
@@ -68,7 +80,7 @@ pub record HoldsKeys (t : ClassesOf) (keys masks : List ℕ) : Type 0 where
   pub few_inputs : t.problem.inputs ≤ 16
   pub few : length keys ≤ 2 ^ 20
   pub few_masks : length masks ≤ 2 ^ 20
-  pub below : (i : ℕ) → i < length keys → get_or keys i 0 < length masks
+  pub below : AllBelow keys (length masks)
   pub classes : class_numbers t.problem.inputs (functions_of t) (set_of t) ≡ ranks nat_eq keys
   pub told : map (λ k. get_or masks k 0) keys ≡ map (dependence t.problem.inputs) (reach (functions_of t) (reverse (outside t.problem.inputs (set_of t))))
 
@@ -76,7 +88,7 @@ pub record HoldsKeys (t : ClassesOf) (keys masks : List ℕ) : Type 0 where
 pub record HoldsStrips (t : ClassesOf) (low : ℕ) (outer numbers masks : List ℕ) : Type 0 where
   pub strips : AreStrips outer numbers (2 ^ free_below t.set low)
   pub keys : HoldsKeys t (unrolled outer numbers (2 ^ free_below t.set low)) masks
-  pub below : (i : ℕ) → i < length numbers → get_or numbers i 0 < length masks
+  pub below : AllBelow numbers (length masks)
   pub few_numbers : length numbers ≤ 2 ^ 20
 
 -- all subfunctions over the set are distinct, there are so many of them, and each depends on the whole set
@@ -95,5 +107,5 @@ HoldsTable t low (Some count) all_used outer numbers masks = AreDistinct t count
 pub record HoldsBytes (t : ClassesOf) (low : ℕ) (outer bytes rows masks : List ℕ) : Type 0 where
   pub named : AreNamed bytes rows (2 ^ free_below t.set 3)
   pub strips : HoldsStrips t low outer (unrolled bytes rows (2 ^ free_below t.set 3)) masks
-  pub below : (i : ℕ) → i < length rows → get_or rows i 0 < length masks
+  pub below : AllBelow rows (length masks)
   pub few_rows : length rows ≤ 2 ^ 11

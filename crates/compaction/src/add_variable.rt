@@ -1,9 +1,8 @@
 //! One more variable in strips: pairs of strips, whose entries are told apart.
 
 ghost use Rattle.std.specs.Prelude.{◌≡◌, ℕ, ◌+◌, ◌*◌, ◌^◌, ◌<◌, ◌≤◌, length, slice_index, IfOk, IsTrue};
-ghost use Rattle.class_laws.specs.Places as places;
-ghost use Rattle.compaction.specs.Strips.{AreNamed, AreStrips, names_of, unrolled};
-ghost use Rattle.pair_numbering.specs.Keys.{AreUsed, TellsPairs};
+ghost use Rattle.class_laws.specs.PairTables.{AreOwn};
+ghost use Rattle.compaction.specs.Strips.{AreNamed, GrowsStrips, IsStripTable, names_of, unrolled};
 
 use crate::names::{NamePairs, number_names};
 use pair_numbering::tell_pairs;
@@ -21,8 +20,8 @@ pub struct Grown {
 
 /// Whether the numbers count up from 0, as they do where each is new.
 pub fn count_up(numbers: &[u32]) -> bool
-    ensures up { IsTrue result → (i : ℕ) → i < length numbers.now → slice_index numbers.now i ≡ i }
-    ensures all { ((i : ℕ) → i < length numbers.now → slice_index numbers.now i ≡ i) → IsTrue result }
+    ensures up { IsTrue result → AreOwn numbers.now }
+    ensures all { AreOwn numbers.now → IsTrue result }
 {
     for (i, number) in numbers.iter().enumerate() {
         if *number as usize != i {
@@ -90,20 +89,11 @@ fn add_in_order(
     x: u8,
     masks: &[u16],
 ) -> Result<Grown, AllocError>
-    requires steps { bits + rank < 16 }
+    requires table { IsStripTable outer.now rank numbers.now bits masks.now }
     requires variable { x < 16 }
-    requires len { length outer.now * 2 ^ bits ≤ 2 ^ 20 }
-    requires few { length numbers.now ≤ 2 ^ 20 }
-    requires few_masks { length masks.now ≤ 2 ^ 20 }
-    requires whole { (blocks : ℕ) × (length outer.now ≡ blocks * (2 * 2 ^ rank)) }
-    requires strips { AreStrips outer.now numbers.now (2 ^ bits) }
-    requires own { (i : ℕ) → i < length outer.now → slice_index outer.now i ≡ i }
-    requires below { (i : ℕ) → i < length numbers.now → slice_index numbers.now i < length masks.now }
-    ensures strips { IfOk result (λ g. AreStrips g.outer.items g.numbers.items (2 ^ bits)) }
-    ensures tells { IfOk result (λ g. TellsPairs masks.now x (places.pairs (unrolled outer.now numbers.now (2 ^ bits)) (2 ^ bits * 2 ^ rank)) (unrolled g.outer.items g.numbers.items (2 ^ bits)) g.masks.items) }
-    ensures below { IfOk result (λ g. (i : ℕ) → i < length g.numbers.items → slice_index g.numbers.items i < length g.masks.items) }
-    ensures few { IfOk result (λ g. length g.numbers.items ≤ 2 ^ 20) }
-    ensures used { IfOk result (λ g. IsTrue g.all_used → AreUsed g.numbers.items g.masks.items) }
+    requires own { AreOwn outer.now }
+    ensures { IfOk result (λ g.
+        GrowsStrips outer.now rank numbers.now bits masks.now x g.outer.items g.numbers.items g.masks.items g.all_used) }
 {
     let told = tell_pairs(alloc, numbers, bits + rank, x, masks)?;
     let outer = first_numbers(alloc, outer.len() / 2)?;
@@ -127,19 +117,10 @@ fn add_by_pairs(
     masks: &[u16],
     known: Option<&NamePairs>,
 ) -> Result<Grown, AllocError>
-    requires steps { bits + rank < 16 }
+    requires table { IsStripTable outer.now rank numbers.now bits masks.now }
     requires variable { x < 16 }
-    requires len { length outer.now * 2 ^ bits ≤ 2 ^ 20 }
-    requires few { length numbers.now ≤ 2 ^ 20 }
-    requires few_masks { length masks.now ≤ 2 ^ 20 }
-    requires whole { (blocks : ℕ) × (length outer.now ≡ blocks * (2 * 2 ^ rank)) }
-    requires strips { AreStrips outer.now numbers.now (2 ^ bits) }
-    requires below { (i : ℕ) → i < length numbers.now → slice_index numbers.now i < length masks.now }
-    ensures strips { IfOk result (λ g. AreStrips g.outer.items g.numbers.items (2 ^ bits)) }
-    ensures tells { IfOk result (λ g. TellsPairs masks.now x (places.pairs (unrolled outer.now numbers.now (2 ^ bits)) (2 ^ bits * 2 ^ rank)) (unrolled g.outer.items g.numbers.items (2 ^ bits)) g.masks.items) }
-    ensures below { IfOk result (λ g. (i : ℕ) → i < length g.numbers.items → slice_index g.numbers.items i < length g.masks.items) }
-    ensures few { IfOk result (λ g. length g.numbers.items ≤ 2 ^ 20) }
-    ensures used { IfOk result (λ g. IsTrue g.all_used → AreUsed g.numbers.items g.masks.items) }
+    ensures { IfOk result (λ g.
+        GrowsStrips outer.now rank numbers.now bits masks.now x g.outer.items g.numbers.items g.masks.items g.all_used) }
 {
     let runs = number_names(alloc, outer, rank, numbers.len() >> bits, known)?;
     let paired = pair_strips(alloc, &runs.pairs, numbers, bits)?;
@@ -163,19 +144,10 @@ pub fn add_above(
     masks: &[u16],
     known: Option<&NamePairs>,
 ) -> Result<Grown, AllocError>
-    requires steps { bits + rank < 16 }
+    requires table { IsStripTable outer.now rank numbers.now bits masks.now }
     requires variable { x < 16 }
-    requires len { length outer.now * 2 ^ bits ≤ 2 ^ 20 }
-    requires few { length numbers.now ≤ 2 ^ 20 }
-    requires few_masks { length masks.now ≤ 2 ^ 20 }
-    requires whole { (blocks : ℕ) × (length outer.now ≡ blocks * (2 * 2 ^ rank)) }
-    requires strips { AreStrips outer.now numbers.now (2 ^ bits) }
-    requires below { (i : ℕ) → i < length numbers.now → slice_index numbers.now i < length masks.now }
-    ensures strips { IfOk result (λ g. AreStrips g.outer.items g.numbers.items (2 ^ bits)) }
-    ensures tells { IfOk result (λ g. TellsPairs masks.now x (places.pairs (unrolled outer.now numbers.now (2 ^ bits)) (2 ^ bits * 2 ^ rank)) (unrolled g.outer.items g.numbers.items (2 ^ bits)) g.masks.items) }
-    ensures below { IfOk result (λ g. (i : ℕ) → i < length g.numbers.items → slice_index g.numbers.items i < length g.masks.items) }
-    ensures few { IfOk result (λ g. length g.numbers.items ≤ 2 ^ 20) }
-    ensures used { IfOk result (λ g. IsTrue g.all_used → AreUsed g.numbers.items g.masks.items) }
+    ensures { IfOk result (λ g.
+        GrowsStrips outer.now rank numbers.now bits masks.now x g.outer.items g.numbers.items g.masks.items g.all_used) }
 {
     let grown = if count_up(outer) {
         add_in_order(alloc, outer, rank, numbers, bits, x, masks)?

@@ -5,6 +5,7 @@ ghost use Rattle.std.specs.Int.{bit_at};
 ghost use Rattle.order_model.specs.Problems.{value_at, outputs_of, packed_bit};
 ghost use Rattle.compaction.specs.Columns.{AreChained, KeepsRuns, low_numbers, packed_numbers};
 ghost use Rattle.compaction.specs.Strips.{AreNamed, AreStrips, strip, unrolled};
+ghost use Rattle.class_laws.specs.PairTables.{AllBelow};
 ghost use Rattle.class_laws.specs.Values.{values_of, number_of as number};
 
 use crate::start::value_numbers;
@@ -158,7 +159,7 @@ fn number_at(byte: u32, b: u32, first: bool) -> u32
 fn byte_numbers(alloc: Global, first: bool) -> Result<Vec<u32>, AllocError>
     ensures long { IfOk result (λ rows. length rows.items ≡ 2048) }
     ensures rows { IfOk result (λ rows. (byte : ℕ) → byte < 256 → strip rows.items 8 byte ≡ low_numbers first byte 8) }
-    ensures below { IfOk result (λ rows. (i : ℕ) → i < length rows.items → slice_index rows.items i < 2) }
+    ensures below { IfOk result (λ rows. AllBelow rows.items 2) }
 {
     let mut rows = Vec::with_capacity(alloc, 2048)?;
     for place in 0..2048u32 {
@@ -170,8 +171,8 @@ fn byte_numbers(alloc: Global, first: bool) -> Result<Vec<u32>, AllocError>
 /// Adds the bytes of a word, the lowest first.
 #[inline(always)]
 fn push_bytes(bytes: &mut Vec<u8>, word: u64) -> Result<(), AllocError>
-    requires { (i : ℕ) → i < length bytes.old.items → slice_index bytes.old.items i < 256 }
-    ensures small { OnOk result ((i : ℕ) → i < length bytes.new.items → slice_index bytes.new.items i < 256) }
+    requires { AllBelow bytes.old.items 256 }
+    ensures small { OnOk result (AllBelow bytes.new.items 256) }
     ensures numbers { OnOk result ((first : Bool) (rows : List ℕ) → ((byte : ℕ) → byte < 256 → strip rows 8 byte ≡ low_numbers first byte 8) →
         unrolled bytes.new.items rows 8 ≡ unrolled bytes.old.items rows 8 ++ low_numbers first word 64) }
 {
@@ -184,7 +185,7 @@ fn push_bytes(bytes: &mut Vec<u8>, word: u64) -> Result<(), AllocError>
 /// The bytes of words.
 fn bytes_of(alloc: Global, words: &[u64]) -> Result<Vec<u8>, AllocError>
     requires { length words.now ≤ 2 ^ 16 }
-    ensures small { IfOk result (λ v. (i : ℕ) → i < length v.items → slice_index v.items i < 256) }
+    ensures small { IfOk result (λ v. AllBelow v.items 256) }
     ensures numbers { IfOk result (λ v. (first : Bool) (rows : List ℕ) → ((byte : ℕ) → byte < 256 → strip rows 8 byte ≡ low_numbers first byte 8) →
         unrolled v.items rows 8 ≡ packed_numbers first words.now (length words.now * 64)) }
 {
@@ -228,7 +229,7 @@ pub fn byte_strips(alloc: Global, problem: &Problem) -> Result<ByteStrips, Alloc
     ensures values { IfOk result (λ v. unrolled v.outer.items (unrolled v.bytes.items v.rows.items 8) 256 ≡ map (number (value_at problem.now 0 0)) (values_of problem.now)) }
     ensures few { IfOk result (λ v. length (unrolled v.bytes.items v.rows.items 8) ≤ 2 ^ 20) }
     ensures long { IfOk result (λ v. length v.rows.items ≡ 2048) }
-    ensures below { IfOk result (λ v. (i : ℕ) → i < length v.rows.items → slice_index v.rows.items i < 2) }
+    ensures below { IfOk result (λ v. AllBelow v.rows.items 2) }
 {
     let Columns { outer, kept, .. } = columns_of(alloc, problem)?;
     let bytes = bytes_of(alloc, &kept)?;

@@ -1,11 +1,8 @@
 //! Pairs of the names of strips, numbered beforehand: they depend on the high variables alone, and so serve all blocks.
 
-ghost use Rattle.std.specs.Prelude.{◌≡◌, ℕ, ◌*◌, ◌^◌, ◌<◌, ◌≤◌, map, get_or, length, slice_index, IfOk, IfSome, IsTrue};
-ghost use Rattle.std.specs.Set.{distinct_count};
-ghost use Rattle.order_model.specs.Widths.{same_pair};
-ghost use Rattle.class_laws.specs.Numbering.{ranks};
-ghost use Rattle.class_laws.specs.Places as places;
-ghost use Rattle.compaction.specs.Strips.{ArePairsNumbered};
+ghost use Rattle.std.specs.Prelude.{◌≡◌, ℕ, ◌*◌, ◌^◌, ◌<◌, ◌≤◌, IfOk, IsTrue};
+ghost use Rattle.class_laws.specs.PairTables.{AllBelow, IsPairTable};
+ghost use Rattle.pair_numbering.specs.Numbers.{ArePairsNumbered};
 
 use crate::add_variable::count_up;
 use pair_numbering::{NumberedPairs, number_pairs};
@@ -23,7 +20,7 @@ pub struct NamePairs {
 
 /// Whether all names are below a limit.
 fn are_below(names: &[u32], limit: usize) -> bool
-    ensures { IsTrue result → (i : ℕ) → i < length names.now → slice_index names.now i < limit }
+    ensures { IsTrue result → AllBelow names.now limit }
 {
     for name in names {
         if *name as usize >= limit {
@@ -99,14 +96,9 @@ pub fn number_names(
     count: usize,
     known: Option<&NamePairs>,
 ) -> Result<NumberedPairs, AllocError>
-    requires rank { rank < 16 }
-    requires len { length names.now ≤ 2 ^ 20 }
-    requires whole { (blocks : ℕ) × (length names.now ≡ blocks * (2 * 2 ^ rank)) }
-    requires names { (i : ℕ) → i < length names.now → slice_index names.now i < count }
+    requires table { IsPairTable names.now rank count }
     requires few { count ≤ 2 ^ 20 }
-    ensures numbers { IfOk result (λ v. v.numbers.items ≡ ranks same_pair (places.pairs names.now (2 ^ rank))) }
-    ensures many { IfOk result (λ v. length v.pairs.items ≡ distinct_count same_pair (places.pairs names.now (2 ^ rank))) }
-    ensures told { IfOk result (λ v. map (λ c. get_or v.pairs.items c (0, 0)) v.numbers.items ≡ places.pairs names.now (2 ^ rank)) }
+    ensures { IfOk result (λ v. ArePairsNumbered names.now rank v.numbers.items v.pairs.items) }
 {
     if let Some(known) = known {
         if known.rank == rank && known.names.as_slice() == names {

@@ -4,6 +4,7 @@
 ghost use Rattle.std.specs.Prelude.{◌≡◌, ℕ, ◌<◌, ◌≤◌, length, slice_index, get_or, cond, ◌==◌, false, IfOk, IsFalse, IsTrue};
 ghost use Rattle.std.specs.Int.{bit_at};
 ghost use Rattle.order_model.specs.Orders.{has};
+ghost use Rattle.class_laws.specs.PairTables.{AllBelow, AreOwn};
 ghost use Rattle.pair_numbering.specs.Keys.{AreUsed};
 ghost use Rattle.compaction.specs.Strips.{masks_in_use, low_variables as low_of};
 
@@ -51,7 +52,7 @@ pub fn low_variables(problem: &Problem) -> u8
 
 /// Which numbers occur.
 fn numbers_in_use(alloc: Global, numbers: &[u32], count: usize) -> Result<Vec<bool>, AllocError>
-    requires below { (i : ℕ) → i < length numbers.now → slice_index numbers.now i < count }
+    requires below { AllBelow numbers.now count }
     ensures long { IfOk result (λ v. length v.items ≡ count) }
     ensures told { IfOk result (λ v. (k : ℕ) → k < count → get_or v.items k false ≡ has numbers.now k) }
 {
@@ -64,7 +65,7 @@ fn numbers_in_use(alloc: Global, numbers: &[u32], count: usize) -> Result<Vec<bo
 
 /// The masks of the numbers that occur.
 fn used_masks(alloc: Global, numbers: &[u32], masks: &[u16]) -> Result<Vec<u16>, AllocError>
-    requires below { (i : ℕ) → i < length numbers.now → slice_index numbers.now i < length masks.now }
+    requires below { AllBelow numbers.now (length masks.now) }
     ensures { IfOk result (λ v. v.items ≡ masks_in_use numbers.now masks.now) }
 {
     let used = numbers_in_use(alloc, numbers, masks.len())?;
@@ -92,8 +93,8 @@ fn are_all(masks: &[u16], mask: u16) -> bool
 /// Whether all entries are distinct and have the mask of the whole set.
 fn all_distinct(outer: &[u32], numbers: &[u32], masks: &[u16], set: Mask) -> bool
     ensures exact { IsTrue result → length masks.now ≡ length numbers.now }
-    ensures outer { IsTrue result → (i : ℕ) → i < length outer.now → slice_index outer.now i ≡ i }
-    ensures numbers { IsTrue result → (i : ℕ) → i < length numbers.now → slice_index numbers.now i ≡ i }
+    ensures outer { IsTrue result → AreOwn outer.now }
+    ensures numbers { IsTrue result → AreOwn numbers.now }
     ensures full { IsTrue result → (i : ℕ) → i < length masks.now → slice_index masks.now i ≡ set }
 {
     masks.len() == numbers.len() && count_up(outer) && count_up(numbers) && are_all(masks, set)

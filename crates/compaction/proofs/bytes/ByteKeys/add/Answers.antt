@@ -1,30 +1,21 @@
-use Rattle.std.proofs.Common.{◌*◌, ◌^◌, length, bit_or, sym, ap, ◌∙◌, subst, arith}
+use Rattle.std.proofs.Common.{◌^◌, length, bit_or, sym, ap, ◌∙◌, subst, arith}
 use Rattle.std.proofs.lemmas.Nat.{one_shl}
+use Rattle.class_laws.specs.PairTables.{IsPairTable}
 use Rattle.class_laws.specs.Places as places
 use Rattle.compaction.specs.Strips.{HoldsBytes}
 use Rattle.pair_numbering.specs.Keys.{TellsPairs}
 use Rattle.class_laws.specs.Table.{ClassesOf, classes_of, free_below}
-use Rattle.compaction.proofs.HeldBytes.{bytes_more, bytes_whole}
-use Rattle.compaction.proofs.HeldStrips.{rank_few}
+use Rattle.compaction.proofs.HeldBytes.{bytes_more, bytes_table}
 use Rattle.compaction.proofs.bytes.ByteKeys.add.Goals as goal
 
-pub tell_pairs-requires-clause-rank : goal.tell_pairs-requires-clause-rank
-tell_pairs-requires-clause-rank c =
+pub tell_pairs-requires-clause-table : goal.tell_pairs-requires-clause-table
+tell_pairs-requires-clause-table c =
     let h = subst (λ (z : ClassesOf). HoldsBytes z 8 c.self.inside.outer.items c.self.inside.bytes.items c.self.inside.rows.items c.self.inside.masks.items) c.self.view_is c.self.invariant in
     let i = c.requires.inside in
     let n = c.requires.inner in
     let e = c.rank_of-rank.ensures ∙ ap (λ (z : ClassesOf). free_below z.set c.args.x) c.self.view_is in
-    let r = rank_few c.args.self c.args.x (omega arith) c.requires.new 8 c.self.inside.outer.items _ c.self.inside.masks.items h.strips in
-    omega arith
-
-pub tell_pairs-requires-clause-whole : goal.tell_pairs-requires-clause-whole
-tell_pairs-requires-clause-whole c =
-    let h = subst (λ (z : ClassesOf). HoldsBytes z 8 c.self.inside.outer.items c.self.inside.bytes.items c.self.inside.rows.items c.self.inside.masks.items) c.self.view_is c.self.invariant in
-    let i = c.requires.inside in
-    let n = c.requires.inner in
-    let e = c.rank_of-rank.ensures ∙ ap (λ (z : ClassesOf). free_below z.set c.args.x) c.self.view_is in
-    let w = bytes_whole c.args.self c.args.x (omega arith) c.requires.new n c.self.inside.outer.items c.self.inside.bytes.items c.self.inside.rows.items c.self.inside.masks.items h in
-    (w.0, ap length c.deref.ensures.value ∙ w.1 ∙ ap (λ k. w.0 * (2 * 2 ^ k)) (sym e))
+    subst (λ z. z) (λ i. IsPairTable (sym c.deref.ensures.value i) (sym e i) (length (sym c.deref-2.ensures.value i)))
+    (bytes_table c.args.self c.args.x (omega arith) c.requires.new n c.self.inside.outer.items c.self.inside.bytes.items c.self.inside.rows.items c.self.inside.masks.items h)
 
 pub invariant_of-result : goal.invariant_of-result
 invariant_of-result c =

@@ -1,5 +1,6 @@
-use Rattle.std.proofs.Common.{◌≡◌, ℕ, ◌<◌, ◌^◌, List, false, refl, sym, length, get_or, ap, subst, ◌∙◌, arith}
+use Rattle.std.proofs.Common.{◌≡◌, ℕ, ◌<◌, ◌^◌, List, false, refl, sym, length, ap, subst, ◌∙◌, arith}
 use Rattle.pair_numbering.specs.Scratch.{CountsMasks}
+use Rattle.class_laws.specs.PairTables.{IsPairTable}
 use Rattle.class_laws.specs.Places as places
 use Rattle.class_laws.specs.Table.{ClassesOf, HoldsClasses, with_variable, functions_of, set_of, free_below}
 use Rattle.class_laws.proofs.Counted.{width_is_dependent_classes}
@@ -7,7 +8,7 @@ use Rattle.class_laws.specs.Numbering.{ranks}
 use Rattle.class_laws.specs.Places.{pairs}
 use Rattle.order_model.specs.Widths.{same_pair, width}
 use Rattle.order_model.specs.Orders.{has}
-use Rattle.class_laws.proofs.Extended.{is_ready, few_masks, few_of_most, holds_more, width_into}
+use Rattle.class_laws.proofs.Extended.{is_ready, ready_table, few_masks, few_of_most, holds_more, width_into}
 use Rattle.compaction.proofs.classes.Classes.width_in.Goals as goal
 
 -- so many pairs with x are the width of x
@@ -18,32 +19,13 @@ width_counted t x inside new numbers masks count h q =
     let w = width_into t x inside new in
     q.counted ∙ sym (width_is_dependent_classes t.problem.inputs (functions_of t) (set_of (with_variable t x)) q.joined x inside w.0 k.masks_are) ∙ w.1
 
-pub count_joined-width-requires-clause-rank : goal.count_joined-width-requires-clause-rank
-count_joined-width-requires-clause-rank c =
+pub count_joined-width-requires-clause-table : goal.count_joined-width-requires-clause-table
+count_joined-width-requires-clause-table c =
     let h = subst (λ (z : ClassesOf). HoldsClasses z c.self.inside.numbers.items c.self.inside.masks.items) c.self.view_is c.self.invariant in
     let e = c.rank_of-rank.ensures ∙ ap (λ (z : ClassesOf). free_below z.set c.args.x) c.self.view_is in
     let r = is_ready c.args.self.now c.args.x c.requires.inside c.requires.new c.self.inside.numbers.items c.self.inside.masks.items c.rank_of-rank.result h e in
-    r.rank
-
-pub count_joined-width-requires-clause-whole : goal.count_joined-width-requires-clause-whole
-count_joined-width-requires-clause-whole c =
-    let h = subst (λ (z : ClassesOf). HoldsClasses z c.self.inside.numbers.items c.self.inside.masks.items) c.self.view_is c.self.invariant in
-    let e = c.rank_of-rank.ensures ∙ ap (λ (z : ClassesOf). free_below z.set c.args.x) c.self.view_is in
-    let r = is_ready c.args.self.now c.args.x c.requires.inside c.requires.new c.self.inside.numbers.items c.self.inside.masks.items c.rank_of-rank.result h e in
-    (r.whole.0, ap length c.deref.ensures.value ∙ r.whole.1)
-
-pub count_joined-width-requires-clause-classes : goal.count_joined-width-requires-clause-classes
-count_joined-width-requires-clause-classes c =
-    let h = subst (λ (z : ClassesOf). HoldsClasses z c.self.inside.numbers.items c.self.inside.masks.items) c.self.view_is c.self.invariant in
-    let e = c.rank_of-rank.ensures ∙ ap (λ (z : ClassesOf). free_below z.set c.args.x) c.self.view_is in
-    let r = is_ready c.args.self.now c.args.x c.requires.inside c.requires.new c.self.inside.numbers.items c.self.inside.masks.items c.rank_of-rank.result h e in
-    λ i lt.
-    let v = c.deref.ensures.value in
-    let l = ap length v in
-    let k = r.classes i (omega arith) in
-    let s = ap (λ us. get_or us i 0) v in
-    let m = ap length c.deref-2.ensures.value in
-    omega arith
+    subst (λ z. z) (λ i. IsPairTable (sym c.deref.ensures.value i) c.rank_of-rank.result (length (sym c.deref-2.ensures.value i)))
+    (ready_table c.self.inside.numbers.items c.self.inside.masks.items c.rank_of-rank.result r)
 
 pub count_joined-width-requires-clause-few : goal.count_joined-width-requires-clause-few
 count_joined-width-requires-clause-few c =

@@ -1,11 +1,9 @@
-use Rattle.std.proofs.Common.{◌-◌, ◌≤◌, ◌*◌, ◌/◌, ◌^◌, length, get_or, bit_or, sym, ap, ◌∙◌, subst, arith}
+use Rattle.std.proofs.Common.{◌-◌, ◌/◌, bit_or, sym, ap, ◌∙◌, subst, arith}
 use Rattle.std.proofs.lemmas.Nat.{one_shl}
-use Rattle.compaction.specs.Strips.{AreDistinct, AreStrips, HoldsStrips, HoldsTable, low_variables, unrolled}
-use Rattle.pair_numbering.specs.Keys.{TellsPairs}
-use Rattle.class_laws.specs.Places as places
+use Rattle.compaction.specs.Strips.{AreDistinct, GrowsStrips, HoldsStrips, HoldsTable, IsStripTable, low_variables}
 use Rattle.class_laws.specs.Table.{ClassesOf, classes_of, free_below}
 use Rattle.compaction.proofs.AllDistinct.{distinct_more, table_distinct, table_strips}
-use Rattle.compaction.proofs.HeldStrips.{free_split, rank_few, few_runs, whole_outer, holds_high}
+use Rattle.compaction.proofs.HeldStrips.{free_split, table_high, holds_high}
 use Rattle.compaction.proofs.strips.Strips.add_high.Goals as goal
 
 pub overflow_sub-rank : goal.overflow_sub-rank
@@ -17,31 +15,15 @@ overflow_sub-rank c =
     let e = ap (free_below c.self.inside.set) l in
     omega arith
 
-pub add_above-requires-clause-steps : goal.add_above-requires-clause-steps
-add_above-requires-clause-steps c =
-    let h = table_strips c.args.self.now (low_variables c.args.self.now.problem) c.self.inside.distinct c.self.inside.all_used c.self.inside.outer.items c.self.inside.numbers.items c.self.inside.masks.items (subst (λ (z : ClassesOf). HoldsTable z (low_variables z.problem) c.self.inside.distinct c.self.inside.all_used c.self.inside.outer.items c.self.inside.numbers.items c.self.inside.masks.items) c.self.view_is c.self.invariant) c.in-None.is in
-    let e = c.rank_of.ensures ∙ ap (λ (z : ClassesOf). free_below z.set c.args.x) c.self.view_is in
-    let r = rank_few c.args.self.now c.args.x c.requires.inside c.requires.new (low_variables c.args.self.now.problem) c.self.inside.outer.items c.self.inside.numbers.items c.self.inside.masks.items h in
-    let b = c.rank_of-bits.ensures ∙ ap (free_below c.self.inside.set) c.low_variables.ensures ∙ ap (λ (z : ClassesOf). free_below z.set (low_variables z.problem)) c.self.view_is in
-    let s = free_split c.args.self.now.set (low_variables c.args.self.now.problem) c.args.x c.requires.high in
-    omega arith
-
-pub add_above-requires-clause-len : goal.add_above-requires-clause-len
-add_above-requires-clause-len c =
-    let h = table_strips c.args.self.now (low_variables c.args.self.now.problem) c.self.inside.distinct c.self.inside.all_used c.self.inside.outer.items c.self.inside.numbers.items c.self.inside.masks.items (subst (λ (z : ClassesOf). HoldsTable z (low_variables z.problem) c.self.inside.distinct c.self.inside.all_used c.self.inside.outer.items c.self.inside.numbers.items c.self.inside.masks.items) c.self.view_is c.self.invariant) c.in-None.is in
-    let e = c.rank_of-bits.ensures ∙ ap (free_below c.self.inside.set) c.low_variables.ensures ∙ ap (λ (z : ClassesOf). free_below z.set (low_variables z.problem)) c.self.view_is in
-    let r = few_runs c.args.self.now c.args.x c.requires.inside c.requires.new (low_variables c.args.self.now.problem) c.self.inside.outer.items c.self.inside.numbers.items c.self.inside.masks.items h in
-    subst (λ us. length us * 2 ^ c.rank_of-bits.result ≤ 2 ^ 20) (sym c.deref.ensures.value) (subst (λ k. length c.self.inside.outer.items * 2 ^ k ≤ 2 ^ 20) (sym e) r)
-
-pub add_above-requires-clause-whole : goal.add_above-requires-clause-whole
-add_above-requires-clause-whole c =
+pub add_above-requires-clause-table : goal.add_above-requires-clause-table
+add_above-requires-clause-table c =
     let h = table_strips c.args.self.now (low_variables c.args.self.now.problem) c.self.inside.distinct c.self.inside.all_used c.self.inside.outer.items c.self.inside.numbers.items c.self.inside.masks.items (subst (λ (z : ClassesOf). HoldsTable z (low_variables z.problem) c.self.inside.distinct c.self.inside.all_used c.self.inside.outer.items c.self.inside.numbers.items c.self.inside.masks.items) c.self.view_is c.self.invariant) c.in-None.is in
     let b = c.rank_of-bits.ensures ∙ ap (free_below c.self.inside.set) c.low_variables.ensures ∙ ap (λ (z : ClassesOf). free_below z.set (low_variables z.problem)) c.self.view_is in
     let e = c.rank_of.ensures ∙ ap (λ (z : ClassesOf). free_below z.set c.args.x) c.self.view_is in
     let s = free_split c.args.self.now.set (low_variables c.args.self.now.problem) c.args.x c.requires.high in
-    let w = whole_outer c.args.self.now c.args.x c.requires.inside c.requires.new (low_variables c.args.self.now.problem) c.self.inside.outer.items c.self.inside.numbers.items c.self.inside.masks.items h
-    c.requires.high (c.rank_of.result - c.rank_of-bits.result) (omega arith) in
-    (w.0, ap length c.deref.ensures.value ∙ w.1)
+    let rank = c.rank_of.result - c.rank_of-bits.result in
+    subst (λ z. z) (λ i. IsStripTable (sym c.deref.ensures.value i) rank (sym c.deref-in-None.ensures.value i) (sym b i) (sym c.deref-in-None-2.ensures.value i))
+    (table_high c.args.self.now c.args.x c.requires.inside c.requires.new (low_variables c.args.self.now.problem) c.self.inside.outer.items c.self.inside.numbers.items c.self.inside.masks.items h c.requires.high rank (omega arith))
 
 pub of_parts-strips-requires-clause-holds : goal.of_parts-strips-requires-clause-holds
 of_parts-strips-requires-clause-holds c =
@@ -54,15 +36,9 @@ of_parts-strips-requires-clause-holds c =
     let o = one_shl c.args.x 16 (omega arith) in
     let rank = c.rank_of.result - c.rank_of-bits.result in
     let g = c.in_ok-grown-in-None.grown in
-    let told = c.in_ok-grown-in-None.ensures.tells in
+    let grown = subst (λ z. z) (λ i. GrowsStrips (c.deref.ensures.value i) rank (c.deref-in-None.ensures.value i) (b i) (c.deref-in-None-2.ensures.value i) c.args.x g.outer.items g.numbers.items g.masks.items g.all_used) c.in_ok-grown-in-None.ensures in
     let k = holds_high c.args.self.now c.args.x c.requires.inside c.requires.new (low_variables c.args.self.now.problem) c.self.inside.outer.items c.self.inside.numbers.items c.self.inside.masks.items h
-    c.requires.high rank (omega arith) g.outer.items g.numbers.items g.masks.items
-    (subst (λ k. AreStrips g.outer.items g.numbers.items (2 ^ k)) b c.in_ok-grown-in-None.ensures.strips)
-    (subst (λ k. TellsPairs c.self.inside.masks.items c.args.x (places.pairs (unrolled c.self.inside.outer.items c.self.inside.numbers.items (2 ^ k)) (2 ^ k * 2 ^ rank)) (unrolled g.outer.items g.numbers.items (2 ^ k)) g.masks.items) b
-    (subst (λ us. TellsPairs us c.args.x (places.pairs (unrolled c.self.inside.outer.items c.self.inside.numbers.items (2 ^ c.rank_of-bits.result)) (2 ^ c.rank_of-bits.result * 2 ^ rank)) (unrolled g.outer.items g.numbers.items (2 ^ c.rank_of-bits.result)) g.masks.items) c.deref-in-None-2.ensures.value
-    (subst (λ us. TellsPairs c.deref-in-None-2.result.now c.args.x (places.pairs (unrolled c.self.inside.outer.items us (2 ^ c.rank_of-bits.result)) (2 ^ c.rank_of-bits.result * 2 ^ rank)) (unrolled g.outer.items g.numbers.items (2 ^ c.rank_of-bits.result)) g.masks.items) c.deref-in-None.ensures.value
-    (subst (λ us. TellsPairs c.deref-in-None-2.result.now c.args.x (places.pairs (unrolled us c.deref-in-None.result.now (2 ^ c.rank_of-bits.result)) (2 ^ c.rank_of-bits.result * 2 ^ rank)) (unrolled g.outer.items g.numbers.items (2 ^ c.rank_of-bits.result)) g.masks.items) c.deref.ensures.value told))))
-    c.in_ok-grown-in-None.ensures.below c.in_ok-grown-in-None.ensures.few in
+    c.requires.high rank (omega arith) g.outer.items g.numbers.items g.masks.items g.all_used grown in
     subst (λ (z : ClassesOf). HoldsStrips z (low_variables z.problem) g.outer.items g.numbers.items g.masks.items)
     (λ i. classes_of (sym c.self.view_is i).problem (bit_or (sym c.self.view_is i).set (sym o i))) k
 
@@ -74,38 +50,6 @@ of_count-requires c =
     let s = one_shl c.args.x 16 (omega arith) in
     subst (λ (z : ClassesOf). AreDistinct z (c.in-Some.count / 2)) (λ i. classes_of (sym c.self.view_is i).problem (bit_or (sym c.self.view_is i).set (sym s i)))
     (distinct_more c.args.self.now c.in-Some.count d c.args.x c.requires.inside c.requires.new)
-
-pub add_above-requires-clause-few : goal.add_above-requires-clause-few
-add_above-requires-clause-few c =
-    let h = table_strips c.args.self.now (low_variables c.args.self.now.problem) c.self.inside.distinct c.self.inside.all_used c.self.inside.outer.items c.self.inside.numbers.items c.self.inside.masks.items (subst (λ (z : ClassesOf). HoldsTable z (low_variables z.problem) c.self.inside.distinct c.self.inside.all_used c.self.inside.outer.items c.self.inside.numbers.items c.self.inside.masks.items) c.self.view_is c.self.invariant) c.in-None.is in
-    let v = ap length c.deref-in-None.ensures.value in
-    let f = h.few_numbers in
-    omega arith
-
-pub add_above-requires-clause-few_masks : goal.add_above-requires-clause-few_masks
-add_above-requires-clause-few_masks c =
-    let h = table_strips c.args.self.now (low_variables c.args.self.now.problem) c.self.inside.distinct c.self.inside.all_used c.self.inside.outer.items c.self.inside.numbers.items c.self.inside.masks.items (subst (λ (z : ClassesOf). HoldsTable z (low_variables z.problem) c.self.inside.distinct c.self.inside.all_used c.self.inside.outer.items c.self.inside.numbers.items c.self.inside.masks.items) c.self.view_is c.self.invariant) c.in-None.is in
-    let v = ap length c.deref-in-None-2.ensures.value in
-    let f = h.keys.few_masks in
-    omega arith
-
-pub add_above-requires-clause-strips : goal.add_above-requires-clause-strips
-add_above-requires-clause-strips c =
-    let h = table_strips c.args.self.now (low_variables c.args.self.now.problem) c.self.inside.distinct c.self.inside.all_used c.self.inside.outer.items c.self.inside.numbers.items c.self.inside.masks.items (subst (λ (z : ClassesOf). HoldsTable z (low_variables z.problem) c.self.inside.distinct c.self.inside.all_used c.self.inside.outer.items c.self.inside.numbers.items c.self.inside.masks.items) c.self.view_is c.self.invariant) c.in-None.is in
-    let b = c.rank_of-bits.ensures ∙ ap (free_below c.self.inside.set) c.low_variables.ensures ∙ ap (λ (z : ClassesOf). free_below z.set (low_variables z.problem)) c.self.view_is in
-    subst (λ us. AreStrips us c.deref-in-None.result.now (2 ^ c.rank_of-bits.result)) (sym c.deref.ensures.value) (subst (λ us. AreStrips c.self.inside.outer.items us (2 ^ c.rank_of-bits.result)) (sym c.deref-in-None.ensures.value)
-    (subst (λ k. AreStrips c.self.inside.outer.items c.self.inside.numbers.items (2 ^ k)) (sym b) h.strips))
-
-pub add_above-requires-clause-below : goal.add_above-requires-clause-below
-add_above-requires-clause-below c =
-    let h = table_strips c.args.self.now (low_variables c.args.self.now.problem) c.self.inside.distinct c.self.inside.all_used c.self.inside.outer.items c.self.inside.numbers.items c.self.inside.masks.items (subst (λ (z : ClassesOf). HoldsTable z (low_variables z.problem) c.self.inside.distinct c.self.inside.all_used c.self.inside.outer.items c.self.inside.numbers.items c.self.inside.masks.items) c.self.view_is c.self.invariant) c.in-None.is in
-    λ i lt.
-    let v = c.deref-in-None.ensures.value in
-    let l = ap length v in
-    let b = h.below i (omega arith) in
-    let s = ap (λ us. get_or us i 0) v in
-    let m = ap length c.deref-in-None-2.ensures.value in
-    omega arith
 
 pub returns-in-Some : goal.returns-in-Some
 returns-in-Some c =

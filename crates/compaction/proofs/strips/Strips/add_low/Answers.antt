@@ -1,28 +1,21 @@
-use Rattle.std.proofs.Common.{◌*◌, ◌/◌, ◌^◌, length, get_or, bit_or, sym, ap, ◌∙◌, subst, arith}
+use Rattle.std.proofs.Common.{◌/◌, ◌^◌, length, bit_or, sym, ap, ◌∙◌, subst, arith}
 use Rattle.std.proofs.lemmas.Nat.{one_shl}
 use Rattle.compaction.specs.Strips.{AreDistinct, HoldsStrips, HoldsTable, low_variables}
 use Rattle.pair_numbering.specs.Keys.{TellsPairs}
+use Rattle.class_laws.specs.PairTables.{IsPairTable}
 use Rattle.class_laws.specs.Places as places
 use Rattle.class_laws.specs.Table.{ClassesOf, classes_of, free_below}
 use Rattle.compaction.proofs.AllDistinct.{distinct_more, table_distinct, table_strips}
-use Rattle.compaction.proofs.HeldStrips.{rank_few, whole_numbers, holds_low}
+use Rattle.compaction.proofs.HeldStrips.{table_low, holds_low}
 use Rattle.compaction.proofs.strips.Strips.add_low.Goals as goal
 
-pub tell_pairs-requires-clause-rank : goal.tell_pairs-requires-clause-rank
-tell_pairs-requires-clause-rank c =
+pub tell_pairs-requires-clause-table : goal.tell_pairs-requires-clause-table
+tell_pairs-requires-clause-table c =
     let l = c.requires.low in
     let h = table_strips c.args.self (low_variables c.args.self.problem) c.self.inside.distinct c.self.inside.all_used c.self.inside.outer.items c.self.inside.numbers.items c.self.inside.masks.items (subst (λ (z : ClassesOf). HoldsTable z (low_variables z.problem) c.self.inside.distinct c.self.inside.all_used c.self.inside.outer.items c.self.inside.numbers.items c.self.inside.masks.items) c.self.view_is c.self.invariant) c.in-None.is in
     let e = c.rank_of-rank.ensures ∙ ap (λ (z : ClassesOf). free_below z.set c.args.x) c.self.view_is in
-    let r = rank_few c.args.self c.args.x (omega arith) c.requires.new (low_variables c.args.self.problem) c.self.inside.outer.items c.self.inside.numbers.items c.self.inside.masks.items h in
-    omega arith
-
-pub tell_pairs-requires-clause-whole : goal.tell_pairs-requires-clause-whole
-tell_pairs-requires-clause-whole c =
-    let l = c.requires.low in
-    let h = table_strips c.args.self (low_variables c.args.self.problem) c.self.inside.distinct c.self.inside.all_used c.self.inside.outer.items c.self.inside.numbers.items c.self.inside.masks.items (subst (λ (z : ClassesOf). HoldsTable z (low_variables z.problem) c.self.inside.distinct c.self.inside.all_used c.self.inside.outer.items c.self.inside.numbers.items c.self.inside.masks.items) c.self.view_is c.self.invariant) c.in-None.is in
-    let e = c.rank_of-rank.ensures ∙ ap (λ (z : ClassesOf). free_below z.set c.args.x) c.self.view_is in
-    let w = whole_numbers c.args.self c.args.x (omega arith) c.requires.new (low_variables c.args.self.problem) c.self.inside.outer.items c.self.inside.numbers.items c.self.inside.masks.items h l in
-    (w.0, ap length c.deref.ensures.value ∙ w.1 ∙ ap (λ k. w.0 * (2 * 2 ^ k)) (sym e))
+    subst (λ z. z) (λ i. IsPairTable (sym c.deref.ensures.value i) (sym e i) (length (sym c.deref-in-None.ensures.value i)))
+    (table_low c.args.self c.args.x (omega arith) c.requires.new (low_variables c.args.self.problem) c.self.inside.outer.items c.self.inside.numbers.items c.self.inside.masks.items h l)
 
 pub of_parts-strips-requires-clause-holds : goal.of_parts-strips-requires-clause-holds
 of_parts-strips-requires-clause-holds c =
@@ -49,24 +42,6 @@ of_count-requires c =
     let s = one_shl c.args.x 16 (omega arith) in
     subst (λ (z : ClassesOf). AreDistinct z (c.in-Some.count / 2)) (λ i. classes_of (sym c.self.view_is i).problem (bit_or (sym c.self.view_is i).set (sym s i)))
     (distinct_more c.args.self c.in-Some.count d c.args.x (omega arith) c.requires.new)
-
-pub tell_pairs-requires-clause-len : goal.tell_pairs-requires-clause-len
-tell_pairs-requires-clause-len c =
-    let h = table_strips c.args.self (low_variables c.args.self.problem) c.self.inside.distinct c.self.inside.all_used c.self.inside.outer.items c.self.inside.numbers.items c.self.inside.masks.items (subst (λ (z : ClassesOf). HoldsTable z (low_variables z.problem) c.self.inside.distinct c.self.inside.all_used c.self.inside.outer.items c.self.inside.numbers.items c.self.inside.masks.items) c.self.view_is c.self.invariant) c.in-None.is in
-    let v = ap length c.deref.ensures.value in
-    let f = h.few_numbers in
-    omega arith
-
-pub tell_pairs-requires-clause-classes : goal.tell_pairs-requires-clause-classes
-tell_pairs-requires-clause-classes c =
-    let h = table_strips c.args.self (low_variables c.args.self.problem) c.self.inside.distinct c.self.inside.all_used c.self.inside.outer.items c.self.inside.numbers.items c.self.inside.masks.items (subst (λ (z : ClassesOf). HoldsTable z (low_variables z.problem) c.self.inside.distinct c.self.inside.all_used c.self.inside.outer.items c.self.inside.numbers.items c.self.inside.masks.items) c.self.view_is c.self.invariant) c.in-None.is in
-    λ i lt.
-    let v = c.deref.ensures.value in
-    let l = ap length v in
-    let b = h.below i (omega arith) in
-    let s = ap (λ us. get_or us i 0) v in
-    let m = ap length c.deref-in-None.ensures.value in
-    omega arith
 
 pub tell_pairs-requires-clause-few : goal.tell_pairs-requires-clause-few
 tell_pairs-requires-clause-few c =
