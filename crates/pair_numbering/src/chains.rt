@@ -1,9 +1,7 @@
 //! Numbers of pairs by first occurrence, without hashing.
 
 ghost use Rattle.std.specs.Prelude.{◌≡◌, ◌≢◌, ℕ, ◌+◌, ◌*◌, ◌/◌, ◌^◌, ◌<◌, ◌≤◌, length, slice_index, IfOk};
-ghost use Rattle.class_laws.specs.Numbering.{IsFirst};
-ghost use Rattle.pair_numbering.specs.Chains.{IsNext, lower_at, AreHeads, AreLinks, AreFirsts};
-ghost use Rattle.class_laws.specs.Places as places;
+ghost use Rattle.pair_numbering.specs.Chains.{IsNext, lower_at, AreHeads, AreLinks, AreFirsts, AreFirstsOf, KeepsOthers};
 ghost use Rattle.class_laws.specs.PairTables.{AllBelow, IsPaired, IsPairTable};
 ghost use Rattle.pair_numbering.specs.Numbers.{ArePairsNumbered};
 
@@ -78,8 +76,8 @@ fn walk_chain(
     requires next { AreLinks numbers.now rank next.now }
     requires stamps { (h : ℕ) → h < length stamps.old → slice_index stamps.old h ≤ lower }
     ensures stamps { (h : ℕ) → h < length stamps.new → slice_index stamps.new h ≤ lower + 1 }
-    ensures own { (j : ℕ) → j < length numbers.now / 2 → lower_at numbers.now (2 ^ rank) j ≡ lower → IsFirst (places.pair_at numbers.now (2 ^ rank)) j (slice_index first.new j) }
-    ensures others { (j : ℕ) → j < length numbers.now / 2 → lower_at numbers.now (2 ^ rank) j ≢ lower → slice_index first.new j ≡ slice_index first.old j }
+    ensures own { AreFirstsOf numbers.now rank lower first.new }
+    ensures others { KeepsOthers numbers.now rank lower first.old first.new }
 {
     let half = next.len();
     let step = 1usize << rank;

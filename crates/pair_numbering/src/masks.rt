@@ -1,7 +1,8 @@
 //! What the functions of a class depend on, as a mask for each class.
 
-ghost use Rattle.std.specs.Prelude.{◌≡◌, ℕ, ◌<◌, map, get_or, length, IfOk};
+ghost use Rattle.std.specs.Prelude.{◌≡◌, ℕ, ◌<◌, map, length, IfOk};
 ghost use Rattle.class_laws.specs.Dependence.{joined_mask};
+ghost use Rattle.pair_numbering.specs.Numbers.{ArePairsBelow};
 
 use std::alloc::{AllocError, Global};
 
@@ -30,8 +31,7 @@ pub fn join_masks(
     masks: &[u16],
 ) -> Result<Vec<u16>, AllocError>
     requires variable { x < 16 }
-    requires lower { (k : ℕ) → k < length pairs.now → (get_or pairs.now k (0, 0)).0 < length masks.now }
-    requires upper { (k : ℕ) → k < length pairs.now → (get_or pairs.now k (0, 0)).1 < length masks.now }
+    requires classes { ArePairsBelow pairs.now (length masks.now) }
     ensures { IfOk result (λ v. v.items ≡ map (joined_mask masks.now x) pairs.now) }
 {
     let mut joined = vec![in alloc; 0u16; pairs.len()]?;

@@ -1,26 +1,15 @@
-use Rattle.std.proofs.Common.{◌^◌, ◌<◌, ℕ, List, get_or, length, map, sym, ap, ◌∙◌, subst, arith}
+use Rattle.std.proofs.Common.{◌^◌, get_or, length, map, sym, ap, ◌∙◌, subst}
 use Rattle.class_laws.specs.Dependence.{joined_mask}
 use Rattle.class_laws.specs.Places as places
+use Rattle.pair_numbering.specs.Numbers.{ArePairsBelow}
 use Rattle.class_laws.proofs.DistinctPairs.{met_classes, masks_many, masks_told}
 use Rattle.pair_numbering.proofs.numbering.number_pairs_by_index.Goals as goal
 
-pub join_masks-requires-clause-lower : goal.join_masks-requires-clause-lower
-join_masks-requires-clause-lower c = λ k l.
-    let n = c.deref.ensures.value in
+pub join_masks-requires-clause-classes : goal.join_masks-requires-clause-classes
+join_masks-requires-clause-classes c =
     let m = c.in_ok-pairs.ensures in
-    let d = c.deref-2.ensures.value in
-    let e = ap (λ (us : List (ℕ × ℕ)). length us) d in
-    subst (λ (us : List (ℕ × ℕ)). (get_or us k (0, 0)).0 < length c.args.masks.now) (sym d)
-    (met_classes c.args.numbers.now c.args.rank (length c.args.masks.now) c.requires.table.paired.whole c.requires.table.below c.deref.result.now c.in_ok-pairs.pairs.items m.numbered_are m.many m.told k (omega arith)).0
-
-pub join_masks-requires-clause-upper : goal.join_masks-requires-clause-upper
-join_masks-requires-clause-upper c = λ k l.
-    let n = c.deref.ensures.value in
-    let m = c.in_ok-pairs.ensures in
-    let d = c.deref-2.ensures.value in
-    let e = ap (λ (us : List (ℕ × ℕ)). length us) d in
-    subst (λ (us : List (ℕ × ℕ)). (get_or us k (0, 0)).1 < length c.args.masks.now) (sym d)
-    (met_classes c.args.numbers.now c.args.rank (length c.args.masks.now) c.requires.table.paired.whole c.requires.table.below c.deref.result.now c.in_ok-pairs.pairs.items m.numbered_are m.many m.told k (omega arith)).1
+    subst (λ us. ArePairsBelow us (length c.args.masks.now)) (sym c.deref-2.ensures.value)
+    (met_classes c.args.numbers.now c.args.rank (length c.args.masks.now) c.requires.table.paired.whole c.requires.table.below c.deref.result.now c.in_ok-pairs.pairs.items m.numbered_are m.many m.told)
 
 pub returns : goal.returns
 returns c =

@@ -1,24 +1,15 @@
-use Rattle.std.proofs.Common.{◌^◌, ◌<◌, ℕ, List, get_or, length, map, sym, ap, ◌∙◌, subst, arith}
+use Rattle.std.proofs.Common.{◌^◌, get_or, length, map, sym, ap, ◌∙◌, subst}
 use Rattle.class_laws.specs.Dependence.{joined_mask}
 use Rattle.class_laws.specs.Places as places
+use Rattle.pair_numbering.specs.Numbers.{ArePairsBelow}
 use Rattle.class_laws.proofs.DistinctPairs.{met_classes, masks_many, masks_told}
 use Rattle.pair_numbering.proofs.numbering.number_pairs_with_masks.Goals as goal
 
-pub join_masks-requires-clause-lower : goal.join_masks-requires-clause-lower
-join_masks-requires-clause-lower c = λ k l.
+pub join_masks-requires-clause-classes : goal.join_masks-requires-clause-classes
+join_masks-requires-clause-classes c =
     let n = c.in_ok-numbered-3.ensures in
-    let d = c.deref.ensures.value in
-    let e = ap (λ (us : List (ℕ × ℕ)). length us) d in
-    subst (λ (us : List (ℕ × ℕ)). (get_or us k (0, 0)).0 < length c.args.masks.now) (sym d)
-    (met_classes c.args.numbers.now c.args.rank (length c.args.masks.now) c.requires.table.paired.whole c.requires.table.below c.in_ok-numbered-3.numbered.numbers.items c.in_ok-numbered-3.numbered.pairs.items n.numbered_are n.many n.told k (omega arith)).0
-
-pub join_masks-requires-clause-upper : goal.join_masks-requires-clause-upper
-join_masks-requires-clause-upper c = λ k l.
-    let n = c.in_ok-numbered-3.ensures in
-    let d = c.deref.ensures.value in
-    let e = ap (λ (us : List (ℕ × ℕ)). length us) d in
-    subst (λ (us : List (ℕ × ℕ)). (get_or us k (0, 0)).1 < length c.args.masks.now) (sym d)
-    (met_classes c.args.numbers.now c.args.rank (length c.args.masks.now) c.requires.table.paired.whole c.requires.table.below c.in_ok-numbered-3.numbered.numbers.items c.in_ok-numbered-3.numbered.pairs.items n.numbered_are n.many n.told k (omega arith)).1
+    subst (λ us. ArePairsBelow us (length c.args.masks.now)) (sym c.deref.ensures.value)
+    (met_classes c.args.numbers.now c.args.rank (length c.args.masks.now) c.requires.table.paired.whole c.requires.table.below c.in_ok-numbered-3.numbered.numbers.items c.in_ok-numbered-3.numbered.pairs.items n.numbered_are n.many n.told)
 
 pub returns : goal.returns
 returns c =
