@@ -11,7 +11,7 @@ use Rattle.order_model.specs.Orders.{members, without}
 use Rattle.order_model.specs.Widths.{width}
 use Rattle.order_model.specs.Problems.{TruthTables, functions}
 use Rattle.class_laws.proofs.LowSets.{split_low, join_low, join_high}
-use Rattle.compaction.specs.Rows.{width_wanted, IsRow, AreFilled, AreBlank}
+use Rattle.compaction.specs.Rows.{width_wanted, IsRow, IsFilled, AreFilled, AreBlank, AreUnwanted}
 
 -- the rows of one set among the first k masks
 pub record IsFilling (p : TruthTables) (masks needed : List ℕ) (own k : ℕ) (old new : List (List ℕ)) : Type 0 where
@@ -33,14 +33,12 @@ fewer_compactions n y before lt a = let d = power_double n y lt in omega arith
 
 module _ (p : TruthTables) (masks needed : List ℕ) where
   -- nothing is wanted
-  pub filled_unwanted : (set y : ℕ) (old : List (List ℕ)) → AreBlank p masks needed old → ((i : ℕ) → i < length needed → slice_index masks i % 2 ^ y ≡ set → slice_index needed i ≡ 0) → length needed ≡ length masks →
+  pub filled_unwanted : (set y : ℕ) (old : List (List ℕ)) → AreBlank p masks needed old → AreUnwanted masks needed set y → length needed ≡ length masks →
       AreFilled p masks needed set y old old
   filled_unwanted set y old blank none l = λ i lt. (λ e. blank i lt (none i (omega arith) e), λ ne. refl)
 
   -- all variables are there
-  pub filled_own : (set y : ℕ) (old new : List (List ℕ)) → ((i : ℕ) → i < length masks → slice_index masks i < 2 ^ y) →
-      ((i : ℕ) → i < length masks → ((slice_index masks i ≡ set) → IsRow p set (slice_index needed i) (get_or new i [])) × ((slice_index masks i ≢ set) → get_or new i [] ≡ get_or old i [])) →
-      AreFilled p masks needed set y old new
+  pub filled_own : (set y : ℕ) (old new : List (List ℕ)) → ((i : ℕ) → i < length masks → slice_index masks i < 2 ^ y) → IsFilled p masks needed set old new → AreFilled p masks needed set y old new
   filled_own set y old new small own = λ i lt.
       let whole = mod-eq_of_lt (small i lt) in
       (λ e. let s : slice_index masks i ≡ set = sym whole ∙ e in subst (λ m. IsRow p m (slice_index needed i) (get_or new i [])) (sym s) ((own i lt).0 s), λ ne. (own i lt).1 (λ s. ne (whole ∙ s)))

@@ -1,16 +1,15 @@
 -- Strips whose entries stand in rows that bytes name.
 --     bytes_values      the values
 --     bytes_table, bytes_more      one more of the lowest three variables
-use Rattle.std.proofs.Common.{◌≡◌, ℕ, ◌*◌, ◌^◌, ◌<◌, ◌≤◌, false, List, [], ◌∷◌, map, length, get_or, sym, ap, ◌∙◌, subst, arith}
+use Rattle.std.proofs.Common.{◌≡◌, ℕ, ◌*◌, ◌^◌, ◌<◌, ◌≤◌, false, List, [], ◌∷◌, length, sym, ap, ◌∙◌, subst, arith}
 use Rattle.std.proofs.lemmas.Nat.{pow_pos}
 use Rattle.order_model.specs.Orders.{has}
-use Rattle.order_model.specs.Problems.{TruthTables, value_at}
-use Rattle.class_laws.specs.PairTables.{IsPairTable}
+use Rattle.order_model.specs.Problems.{TruthTables}
+use Rattle.class_laws.specs.PairTables.{AllBelow, IsPairTable}
 use Rattle.class_laws.specs.Places.{pairs}
-use Rattle.compaction.specs.Strips.{AreNamed, AreStrips, HoldsBytes, HoldsStrips, unrolled}
+use Rattle.compaction.specs.Strips.{AreNamed, HoldsBytes, HoldsStrips, HoldsValues, unrolled}
 use Rattle.pair_numbering.specs.Keys.{TellsPairs}
 use Rattle.class_laws.specs.Table.{ClassesOf, classes_of, with_variable, set_of, free_below}
-use Rattle.class_laws.specs.Values.{values_of, number_of}
 use Rattle.compaction.proofs.HeldStrips.{rest, parts, less, rank_few, holds_low, holds_values}
 use Rattle.class_laws.proofs.Index.{length-pairs}
 use Rattle.compaction.proofs.Keyed.{free_zero}
@@ -18,14 +17,13 @@ use Rattle.pair_numbering.proofs.Names.{names_below, length_names}
 use Rattle.compaction.proofs.Stripped.{low_named, low_tells}
 
 -- the values of a problem of at least eight variables
-pub bytes_values : (p : TruthTables) → p.inputs ≤ 16 → length p.tables ≤ 16 → 0 < length p.tables → (outer bytes rows : List ℕ) → AreNamed bytes rows 8 → AreStrips outer (unrolled bytes rows 8) 256 →
-    unrolled outer (unrolled bytes rows 8) 256 ≡ map (number_of (value_at p 0 0)) (values_of p) → length (unrolled bytes rows 8) ≤ 2 ^ 20 → length rows ≡ 2048 → ((i : ℕ) → i < length rows → get_or rows i 0 < 2) →
-    HoldsBytes (classes_of p 0) 8 outer bytes rows (0 ∷ 0 ∷ [])
-bytes_values p inputs outputs some outer bytes rows named strips values few long below =
+pub bytes_values : (p : TruthTables) → p.inputs ≤ 16 → length p.tables ≤ 16 → 0 < length p.tables → (outer bytes rows : List ℕ) → AreNamed bytes rows 8 → HoldsValues p outer (unrolled bytes rows 8) 256 →
+    length rows ≡ 2048 → AllBelow rows 2 → HoldsBytes (classes_of p 0) 8 outer bytes rows (0 ∷ 0 ∷ [])
+bytes_values p inputs outputs some outer bytes rows named values long below =
     let e : 8 ≡ 2 ^ free_below 0 3 = sym (ap (λ k. 2 ^ k) (free_zero 3)) in
     record {
       named = subst (AreNamed bytes rows) e named;
-      strips = subst (λ k. HoldsStrips (classes_of p 0) 8 outer (unrolled bytes rows k) (0 ∷ 0 ∷ [])) e (holds_values p inputs outputs some 8 outer (unrolled bytes rows 8) strips values few);
+      strips = subst (λ k. HoldsStrips (classes_of p 0) 8 outer (unrolled bytes rows k) (0 ∷ 0 ∷ [])) e (holds_values p inputs outputs some 8 outer (unrolled bytes rows 8) values);
       below = below;
       few_rows = omega arith;
     }

@@ -2,7 +2,7 @@
 --     free_split, free_other, free_less      how many variables outside the set stand below
 --     table_high, table_low      the strips are paired by a variable above them, or by one inside them
 --     holds_high, holds_low      a variable above the strips, and one inside them
-use Rattle.std.proofs.Common.{◌≡◌, ◌≢◌, ℕ, Bool, zero, suc, ◌+◌, ◌-◌, ◌*◌, ◌/◌, ◌%◌, ◌^◌, ◌<◌, ◌≤◌, true, false, not, cond, ◌&&◌, inl, inr, List, [], ◌∷◌, map, length, get_or, bit_or, eqb, eq-eqb, ne_eqb, refl, sym, ap, ap₂, ◌∙◌, subst, arith}
+use Rattle.std.proofs.Common.{◌≡◌, ◌≢◌, ℕ, Bool, zero, suc, ◌+◌, ◌-◌, ◌*◌, ◌/◌, ◌%◌, ◌^◌, ◌<◌, ◌≤◌, true, false, not, cond, ◌&&◌, inl, inr, List, [], ◌∷◌, length, get_or, bit_or, eqb, eq-eqb, ne_eqb, refl, sym, ap, ap₂, ◌∙◌, subst, arith}
 use Rattle.std.specs.Int.{bit_at}
 use Rattle.std.proofs.Math.Nat.{eq_of_mul-eq-mul_right, div-lt_iff_lt-mul, mod-lt}
 use Rattle.std.proofs.lemmas.Bool.{cases_eq}
@@ -13,12 +13,11 @@ use Rattle.order_model.proofs.Bits.Masks.{has_members}
 use Rattle.order_model.proofs.Lists.Orders.{has_variables}
 use Rattle.class_laws.specs.PairTables.{IsPairTable}
 use Rattle.class_laws.specs.Places.{pairs}
-use Rattle.compaction.specs.Strips.{AreStrips, GrowsStrips, HoldsStrips, IsStripTable, unrolled, HoldsKeys}
+use Rattle.compaction.specs.Strips.{AreStrips, GrowsStrips, HoldsStrips, HoldsValues, IsStripTable, unrolled, HoldsKeys}
 use Rattle.pair_numbering.specs.Keys.{TellsPairs}
 use Rattle.class_laws.specs.Table.{ClassesOf, classes_of, with_variable, set_of, free_below}
 use Rattle.class_laws.proofs.Extended.{free_none, free_step, rank_small}
-use Rattle.order_model.specs.Problems.{TruthTables, value_at}
-use Rattle.class_laws.specs.Values.{values_of, number_of}
+use Rattle.order_model.specs.Problems.{TruthTables}
 use Rattle.compaction.proofs.Keyed.{keys_ready, free_zero, value_keys, keys_by_names}
 use Rattle.pair_numbering.proofs.Names.{names_below, length_names}
 use Rattle.compaction.proofs.Stripped.{parts_of, below_product, low_strips, low_tells}
@@ -172,14 +171,13 @@ strips_below outer numbers len m some s h i lt =
     omega arith
 
 -- the values
-pub holds_values : (p : TruthTables) → p.inputs ≤ 16 → length p.tables ≤ 16 → 0 < length p.tables → (low : ℕ) (outer numbers : List ℕ) → AreStrips outer numbers (2 ^ low) →
-    unrolled outer numbers (2 ^ low) ≡ map (number_of (value_at p 0 0)) (values_of p) → length numbers ≤ 2 ^ 20 → HoldsStrips (classes_of p 0) low outer numbers (0 ∷ 0 ∷ [])
-holds_values p inputs outputs some low outer numbers strips values few =
+pub holds_values : (p : TruthTables) → p.inputs ≤ 16 → length p.tables ≤ 16 → 0 < length p.tables → (low : ℕ) (outer numbers : List ℕ) → HoldsValues p outer numbers (2 ^ low) → HoldsStrips (classes_of p 0) low outer numbers (0 ∷ 0 ∷ [])
+holds_values p inputs outputs some low outer numbers h =
     let e : 2 ^ free_below 0 low ≡ 2 ^ low = ap (λ k. 2 ^ k) (free_zero low) in
-    let k = subst (λ us. HoldsKeys (classes_of p 0) us (0 ∷ 0 ∷ [])) (sym values) (value_keys p inputs outputs some) in
+    let k = subst (λ us. HoldsKeys (classes_of p 0) us (0 ∷ 0 ∷ [])) (sym h.values) (value_keys p inputs outputs some) in
     record {
-      strips = subst (AreStrips outer numbers) (sym e) strips;
+      strips = subst (AreStrips outer numbers) (sym e) h.strips;
       keys = subst (λ z. HoldsKeys (classes_of p 0) (unrolled outer numbers z) (0 ∷ 0 ∷ [])) (sym e) k;
-      below = strips_below outer numbers (2 ^ low) 2 (pow_pos low) strips k.below;
-      few_numbers = few;
+      below = strips_below outer numbers (2 ^ low) 2 (pow_pos low) h.strips k.below;
+      few_numbers = h.few;
     }

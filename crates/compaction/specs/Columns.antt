@@ -1,12 +1,14 @@
 -- Runs of 256 points, four words each, of which equal ones are kept once.
 --     AreChained kept next heads      the kept runs are chained: a head, or a run's next, is one more than an earlier run's number, or 0 at the end
 --     KeepsRuns values outer kept count      `outer` names a kept run for each run of the values
+--     AreByteRows first rows      the numbers of each byte's values stand in its row
 --     low_numbers first word count, packed_numbers first words count      the numbers of the values in a word's lowest bits; those in words
 use Rattle.std.specs.Prelude.{◌≡◌, ℕ, ◌+◌, ◌*◌, ◌<◌, ◌≤◌, ◌==◌, Bool, false, List, length, map, get_or}
 use Rattle.std.specs.Int.{bit_at}
 use Rattle.std.specs.List.{range_with_len}
 use Rattle.order_model.specs.Problems.{packed_bit}
 use Rattle.class_laws.specs.Values.{number_of}
+use Rattle.compaction.specs.Strips.{strip}
 
 -- chains go from later runs to earlier ones
 pub record AreChained (kept next heads : List ℕ) : Type 0 where
@@ -25,6 +27,10 @@ pub record KeepsRuns (values : List Bool) (outer kept : List ℕ) (count : ℕ) 
 -- the numbers of the values in a word's lowest bits
 unfoldable pub low_numbers : Bool → ℕ → ℕ → List ℕ
 low_numbers first word count = map (λ b. number_of first (bit_at word b == 1)) (range_with_len 0 count)
+
+-- the numbers of each byte's eight values stand in its row
+abbrev pub AreByteRows : Bool → List ℕ → Type 0
+AreByteRows first rows = (byte : ℕ) → byte < 256 → strip rows 8 byte ≡ low_numbers first byte 8
 
 -- the numbers of the first values in words
 unfoldable pub packed_numbers : Bool → List ℕ → ℕ → List ℕ

@@ -43,3 +43,12 @@ AreBlank p masks needed rows = (i : ℕ) → i < length masks → slice_index ne
 abbrev pub AreFilled : TruthTables → List ℕ → List ℕ → ℕ → ℕ → List (List ℕ) → List (List ℕ) → Type 0
 AreFilled p masks needed set y old new = (i : ℕ) → i < length masks →
     ((slice_index masks i % 2 ^ y ≡ set) → IsRow p (slice_index masks i) (slice_index needed i) (get_or new i [])) × ((slice_index masks i % 2 ^ y ≢ set) → get_or new i [] ≡ get_or old i [])
+
+-- nothing is wanted of the sets whose variables below y are those of `set`
+abbrev pub AreUnwanted : List ℕ → List ℕ → ℕ → ℕ → Type 0
+AreUnwanted masks needed set y = (i : ℕ) → i < length needed → slice_index masks i % 2 ^ y ≡ set → slice_index needed i ≡ 0
+
+-- the row of one set holds its widths, and the others are as they were
+abbrev pub IsFilled : TruthTables → List ℕ → List ℕ → ℕ → List (List ℕ) → List (List ℕ) → Type 0
+IsFilled p masks needed set old new = (i : ℕ) → i < length masks →
+    ((slice_index masks i ≡ set) → IsRow p set (slice_index needed i) (get_or new i [])) × ((slice_index masks i ≢ set) → get_or new i [] ≡ get_or old i [])

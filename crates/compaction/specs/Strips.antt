@@ -3,6 +3,7 @@
 --     names_of pairs      the names in pairs of strips, one behind the other
 --     low_variables p      how many variables run inside a strip of the empty set
 --     AreNamed, AreStrips      each strip is whole; each is used, too
+--     HoldsValues p outer numbers len      strips that hold a problem's values
 --     IsStripTable outer rank numbers bits masks      strips whose names are paired by a variable
 --     GrowsStrips outer rank numbers bits masks x grown told joined all_used      the strips with that variable too
 --     masks_in_use numbers masks      the masks of the numbers that occur, rising
@@ -14,12 +15,13 @@
 use Rattle.std.specs.Prelude.{◌≡◌, ℕ, ◌+◌, ◌*◌, ◌^◌, ◌<◌, ◌≤◌, Bool, IsTrue, min, List, [], ◌∷◌, Option, None, Some, map, take, drop, length, reverse, get_or, nat_eq}
 use Rattle.std.specs.List.{filter, flat_map, range_with_len}
 use Rattle.order_model.specs.Orders.{has, variables}
-use Rattle.order_model.specs.Problems.{TruthTables}
+use Rattle.order_model.specs.Problems.{TruthTables, value_at}
 use Rattle.order_model.specs.Levels.{reach}
 use Rattle.order_model.specs.Widths.{class_numbers, outside}
 use Rattle.class_laws.specs.Numbering.{ranks}
 use Rattle.class_laws.specs.PairTables.{AllBelow}
 use Rattle.class_laws.specs.Places.{pairs}
+use Rattle.class_laws.specs.Values.{values_of, number_of}
 use Rattle.class_laws.specs.Dependence.{dependence}
 use Rattle.class_laws.specs.Table.{ClassesOf, functions_of, set_of, free_below}
 use Rattle.pair_numbering.specs.Keys.{AreUsed, TellsPairs}
@@ -52,6 +54,12 @@ pub record AreStrips (outer numbers : List ℕ) (len : ℕ) : Type 0 where
   pub whole : length numbers ≡ count * len
   pub within : (i : ℕ) → i < length outer → get_or outer i 0 < count
   pub used : (k : ℕ) → k < count → (i : ℕ) × ((i < length outer) × (get_or outer i 0 ≡ k))
+
+-- strips whose entries are the numbers of a problem's values
+pub record HoldsValues (p : TruthTables) (outer numbers : List ℕ) (len : ℕ) : Type 0 where
+  pub strips : AreStrips outer numbers len
+  pub values : unrolled outer numbers len ≡ map (number_of (value_at p 0 0)) (values_of p)
+  pub few : length numbers ≤ 2 ^ 20
 
 -- strips of 2 ^ bits entries, whose names are paired by a variable above those inside a strip
 pub record IsStripTable (outer : List ℕ) (rank : ℕ) (numbers : List ℕ) (bits : ℕ) (masks : List ℕ) : Type 0 where

@@ -4,7 +4,7 @@ ghost use Rattle.std.specs.Prelude.{◌≡◌, ℕ, ◌+◌, ◌-◌, ◌%◌, �
 ghost use Rattle.subset_layers.specs.Layers.{block_masks};
 ghost use Rattle.compaction.specs.Strips.{low_variables as low_of};
 ghost use Rattle.class_laws.specs.Table.{classes_of};
-ghost use Rattle.compaction.specs.Rows.{IsRow, AreRows, AreMembers, AreBlank, AreFilled, wanted_count};
+ghost use Rattle.compaction.specs.Rows.{AreRows, AreMembers, AreBlank, AreFilled, AreUnwanted, IsFilled, wanted_count};
 
 use crate::beginning::Beginning;
 use crate::names::AllNamePairs;
@@ -75,7 +75,7 @@ fn count_wanted(needed: &[Mask]) -> u64
 fn is_wanted(block: &Block, needed: &[Mask], set: Mask, y: u8) -> bool
     requires few { y ≤ 16 }
     requires needed { length needed.now ≡ length (block_masks block.now) }
-    ensures { IsFalse result → (i : ℕ) → i < length needed.now → slice_index (block_masks block.now) i % 2 ^ y ≡ set → slice_index needed.now i ≡ 0 }
+    ensures { IsFalse result → AreUnwanted (block_masks block.now) needed.now set y }
 {
     for (i, wanted) in needed.iter().enumerate() {
         if *wanted != 0 && u32::from(block.mask(i)) % (1u32 << y) == u32::from(set) {
@@ -96,9 +96,7 @@ fn fill_row(
     requires needed { length needed.now ≡ length (block_masks block.now) }
     requires rows { length rows.old ≡ length (block_masks block.now) }
     requires members { AreMembers table.now.problem (block_masks block.now) needed.now }
-    ensures { OnOk result ((i : ℕ) → i < length (block_masks block.now) →
-        ((slice_index (block_masks block.now) i ≡ table.now.set) → IsRow table.now.problem table.now.set (slice_index needed.now i) (get_or rows.new i [])) ×
-        ((slice_index (block_masks block.now) i ≢ table.now.set) → get_or rows.new i [] ≡ get_or rows.old i [])) }
+    ensures { OnOk result (IsFilled table.now.problem (block_masks block.now) needed.now table.now.set rows.old rows.new) }
 {
     let set = table.set();
     for (i, wanted) in needed.iter().enumerate() {

@@ -1,10 +1,10 @@
 //! The numbers of a problem's values, in strips: runs of 256 points are four words of a function, and equal ones are kept once.
 
-ghost use Rattle.std.specs.Prelude.{◌≡◌, ◌==◌, ℕ, ◌+◌, ◌*◌, ◌/◌, ◌^◌, ◌<◌, ◌≤◌, ◌++◌, Bool, List, false, map, length, get_or, slice_index, IfOk, IfSome, OnOk};
+ghost use Rattle.std.specs.Prelude.{◌≡◌, ◌==◌, ℕ, ◌+◌, ◌*◌, ◌/◌, ◌^◌, ◌<◌, ◌≤◌, ◌++◌, Bool, List, false, length, get_or, slice_index, IfOk, IfSome, OnOk};
 ghost use Rattle.std.specs.Int.{bit_at};
-ghost use Rattle.order_model.specs.Problems.{value_at, outputs_of, packed_bit};
-ghost use Rattle.compaction.specs.Columns.{AreChained, KeepsRuns, low_numbers, packed_numbers};
-ghost use Rattle.compaction.specs.Strips.{AreNamed, AreStrips, strip, unrolled};
+ghost use Rattle.order_model.specs.Problems.{outputs_of, packed_bit};
+ghost use Rattle.compaction.specs.Columns.{AreByteRows, AreChained, KeepsRuns, low_numbers, packed_numbers};
+ghost use Rattle.compaction.specs.Strips.{AreNamed, HoldsValues, unrolled};
 ghost use Rattle.class_laws.specs.PairTables.{AllBelow};
 ghost use Rattle.class_laws.specs.Values.{values_of, number_of as number};
 
@@ -158,7 +158,7 @@ fn number_at(byte: u32, b: u32, first: bool) -> u32
 /// The numbers of each byte's eight values, one byte after the other.
 fn byte_numbers(alloc: Global, first: bool) -> Result<Vec<u32>, AllocError>
     ensures long { IfOk result (λ rows. length rows.items ≡ 2048) }
-    ensures rows { IfOk result (λ rows. (byte : ℕ) → byte < 256 → strip rows.items 8 byte ≡ low_numbers first byte 8) }
+    ensures rows { IfOk result (λ rows. AreByteRows first rows.items) }
     ensures below { IfOk result (λ rows. AllBelow rows.items 2) }
 {
     let mut rows = Vec::with_capacity(alloc, 2048)?;
@@ -173,7 +173,7 @@ fn byte_numbers(alloc: Global, first: bool) -> Result<Vec<u32>, AllocError>
 fn push_bytes(bytes: &mut Vec<u8>, word: u64) -> Result<(), AllocError>
     requires { AllBelow bytes.old.items 256 }
     ensures small { OnOk result (AllBelow bytes.new.items 256) }
-    ensures numbers { OnOk result ((first : Bool) (rows : List ℕ) → ((byte : ℕ) → byte < 256 → strip rows 8 byte ≡ low_numbers first byte 8) →
+    ensures numbers { OnOk result ((first : Bool) (rows : List ℕ) → AreByteRows first rows →
         unrolled bytes.new.items rows 8 ≡ unrolled bytes.old.items rows 8 ++ low_numbers first word 64) }
 {
     for place in 0..8u32 {
@@ -186,7 +186,7 @@ fn push_bytes(bytes: &mut Vec<u8>, word: u64) -> Result<(), AllocError>
 fn bytes_of(alloc: Global, words: &[u64]) -> Result<Vec<u8>, AllocError>
     requires { length words.now ≤ 2 ^ 16 }
     ensures small { IfOk result (λ v. AllBelow v.items 256) }
-    ensures numbers { IfOk result (λ v. (first : Bool) (rows : List ℕ) → ((byte : ℕ) → byte < 256 → strip rows 8 byte ≡ low_numbers first byte 8) →
+    ensures numbers { IfOk result (λ v. (first : Bool) (rows : List ℕ) → AreByteRows first rows →
         unrolled v.items rows 8 ≡ packed_numbers first words.now (length words.now * 64)) }
 {
     let mut bytes = Vec::with_capacity(alloc, words.len() * 8)?;
@@ -199,9 +199,7 @@ fn bytes_of(alloc: Global, words: &[u64]) -> Result<Vec<u8>, AllocError>
 /// A strip for each run of 2^low points, function by function.
 pub fn whole_strips(alloc: Global, problem: &Problem, low: u8) -> Result<ValueStrips, AllocError>
     requires inside { low ≤ problem.now.inputs }
-    ensures strips { IfOk result (λ v. AreStrips v.outer.items v.numbers.items (2 ^ low)) }
-    ensures values { IfOk result (λ v. unrolled v.outer.items v.numbers.items (2 ^ low) ≡ map (number (value_at problem.now 0 0)) (values_of problem.now)) }
-    ensures few { IfOk result (λ v. length v.numbers.items ≤ 2 ^ 20) }
+    ensures { IfOk result (λ v. HoldsValues problem.now v.outer.items v.numbers.items (2 ^ low)) }
 {
     let numbers = value_numbers(alloc, problem)?;
     let runs = u32::from(problem.outputs()) << (problem.inputs() - low);
@@ -225,9 +223,7 @@ pub struct ByteStrips {
 pub fn byte_strips(alloc: Global, problem: &Problem) -> Result<ByteStrips, AllocError>
     requires { 8 ≤ problem.now.inputs }
     ensures named { IfOk result (λ v. AreNamed v.bytes.items v.rows.items 8) }
-    ensures strips { IfOk result (λ v. AreStrips v.outer.items (unrolled v.bytes.items v.rows.items 8) 256) }
-    ensures values { IfOk result (λ v. unrolled v.outer.items (unrolled v.bytes.items v.rows.items 8) 256 ≡ map (number (value_at problem.now 0 0)) (values_of problem.now)) }
-    ensures few { IfOk result (λ v. length (unrolled v.bytes.items v.rows.items 8) ≤ 2 ^ 20) }
+    ensures values { IfOk result (λ v. HoldsValues problem.now v.outer.items (unrolled v.bytes.items v.rows.items 8) 256) }
     ensures long { IfOk result (λ v. length v.rows.items ≡ 2048) }
     ensures below { IfOk result (λ v. AllBelow v.rows.items 2) }
 {

@@ -28,24 +28,17 @@ numbers_are c =
 pub returns-clause-named : goal.returns-clause-named
 returns-clause-named c = record { count = 256; whole = c.in_ok-rows.ensures.long; within = c.in_ok-bytes.ensures.small }
 
-pub returns-clause-strips : goal.returns-clause-strips
-returns-clause-strips c =
-    let p = c.args.problem.now in
-    let runs = c.in_ok-outer.field-0 in
-    kept_strips (values_of p) (value_at p 0 0) runs.outer.items runs.kept.items (unrolled c.in_ok-bytes.bytes.items c.in_ok-rows.rows.items 8) (length runs.next.items) (numbers_are c) c.in_ok-outer.ensures.whole c.in_ok-outer.ensures.keeps
-
 pub returns-clause-values : goal.returns-clause-values
 returns-clause-values c =
     let p = c.args.problem.now in
+    let first = value_at p 0 0 in
     let runs = c.in_ok-outer.field-0 in
-    kept_values (values_of p) (value_at p 0 0) runs.outer.items runs.kept.items (unrolled c.in_ok-bytes.bytes.items c.in_ok-rows.rows.items 8) (length runs.next.items) (numbers_are c) c.in_ok-outer.ensures.whole c.in_ok-outer.ensures.keeps
-    (c.in_ok-outer.ensures.long ∙ sym (length_values p))
-
-pub returns-clause-few : goal.returns-clause-few
-returns-clause-few c =
-    let kept = c.in_ok-outer.field-0.kept.items in
-    let l = ap length (numbers_are c) ∙ length_packed (value_at c.args.problem.now 0 0) kept (length kept * 64) in
+    let kept = runs.kept.items in
+    let numbers = unrolled c.in_ok-bytes.bytes.items c.in_ok-rows.rows.items 8 in
     let w = c.in_ok-outer.ensures.whole in
-    let f = c.in_ok-outer.ensures.few in
-    let k = c.in_ok-outer.ensures.keeps.few in
-    omega arith
+    let k = c.in_ok-outer.ensures.keeps in
+    record {
+      strips = kept_strips (values_of p) first runs.outer.items kept numbers (length runs.next.items) (numbers_are c) w k;
+      values = kept_values (values_of p) first runs.outer.items kept numbers (length runs.next.items) (numbers_are c) w k (c.in_ok-outer.ensures.long ∙ sym (length_values p));
+      few = (let l = ap length (numbers_are c) ∙ length_packed first kept (length kept * 64) in let f = c.in_ok-outer.ensures.few in let m = k.few in omega arith);
+    }

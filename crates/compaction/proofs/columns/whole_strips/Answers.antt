@@ -22,16 +22,12 @@ runs_are c =
 whole : (c : goal.After-loop-run) → length c.in_ok-numbers.numbers.items ≡ length c.loop-run.outer.items * 2 ^ c.args.low
 whole c = ap length c.in_ok-numbers.ensures.numbers ∙ length_numbers c.args.problem.now (number_of (value_at c.args.problem.now 0 0)) c.args.low (length c.loop-run.outer.items) c.requires.inside (runs_are c)
 
-pub returns-clause-strips : goal.returns-clause-strips
-returns-clause-strips c = whole_are c.loop-run.outer.items c.in_ok-numbers.numbers.items (2 ^ c.args.low) (whole c) c.loop-run.invariant.places
-
-pub returns-clause-values : goal.returns-clause-values
-returns-clause-values c =
-    whole_values c.loop-run.outer.items c.in_ok-numbers.numbers.items (2 ^ c.args.low) (pow_pos c.args.low) (whole c) c.loop-run.invariant.places
-    ∙ c.in_ok-numbers.ensures.numbers
-
-pub returns-clause-few : goal.returns-clause-few
-returns-clause-few c =
-    let l = ap length c.in_ok-numbers.ensures.numbers in
-    let f = few_numbers c.args.problem.now (number_of (value_at c.args.problem.now 0 0)) c.in_ok-numbers.ensures.inputs c.in_ok-numbers.ensures.outputs in
-    omega arith
+pub returns : goal.returns
+returns c = record {
+  strips = whole_are c.loop-run.outer.items c.in_ok-numbers.numbers.items (2 ^ c.args.low) (whole c) c.loop-run.invariant.places;
+  values = whole_values c.loop-run.outer.items c.in_ok-numbers.numbers.items (2 ^ c.args.low) (pow_pos c.args.low) (whole c) c.loop-run.invariant.places ∙ c.in_ok-numbers.ensures.numbers;
+  few =
+      let l = ap length c.in_ok-numbers.ensures.numbers in
+      let f = few_numbers c.args.problem.now (number_of (value_at c.args.problem.now 0 0)) c.in_ok-numbers.ensures.inputs c.in_ok-numbers.ensures.outputs in
+      omega arith;
+}

@@ -1,4 +1,4 @@
-use Rattle.std.proofs.Common.{◌≡◌, ◌<◌, ℕ, slice_index}
+use Rattle.std.proofs.Common.{◌<◌, ℕ, slice_index}
 use Rattle.compaction.proofs.names.are_below.Given as goal
 
 abbrev pub invariant-loop-name : goal.invariant-loop-name

@@ -16,4 +16,4 @@ invariant_of-result c =
     let e = c.in_ok-outer.ensures in
     subst (HoldsBytes (classes_of p 0) 8 v.outer.items v.bytes.items v.rows.items)
     (sym (c.in_ok-push-2.ensures.items ∙ ap (λ us. us ++ 0 ∷ []) (c.in_ok-push.ensures.items ∙ ap (λ us. us ++ 0 ∷ []) c.in_ok-masks.ensures.items)))
-    (bytes_values p (omega arith) (omega arith) (omega arith) v.outer.items v.bytes.items v.rows.items e.named e.strips e.values e.few e.long e.below)
+    (bytes_values p (omega arith) (omega arith) (omega arith) v.outer.items v.bytes.items v.rows.items e.named e.values e.long e.below)

@@ -1,8 +1,6 @@
-use Rattle.std.proofs.Common.{◌^◌, ◌≡◌, sym, ap, subst, ◌∙◌, arith, [], ◌∷◌, ◌++◌, map}
-use Rattle.order_model.specs.Problems.{value_at}
-use Rattle.compaction.specs.Strips.{AreStrips, HoldsStrips, low_variables, unrolled}
+use Rattle.std.proofs.Common.{◌^◌, sym, ap, subst, ◌∙◌, arith, [], ◌∷◌, ◌++◌}
+use Rattle.compaction.specs.Strips.{HoldsStrips, HoldsValues, low_variables}
 use Rattle.class_laws.specs.Table.{classes_of}
-use Rattle.class_laws.specs.Values.{values_of, number_of}
 use Rattle.compaction.proofs.HeldStrips.{holds_values}
 use Rattle.compaction.proofs.strips.Strips.of_problem.Goals as goal
 
@@ -19,6 +17,4 @@ of_parts-requires-clause-holds c =
     let numbers = c.in_ok-outer.field-0.numbers.items in
     subst (HoldsStrips (classes_of p 0) (low_variables p) outer numbers) (sym (c.in_ok-push-2.ensures.items ∙ ap (λ us. us ++ 0 ∷ []) (c.in_ok-push.ensures.items ∙ ap (λ us. us ++ 0 ∷ []) c.in_ok-masks.ensures.items)))
     (holds_values p (omega arith) (omega arith) (omega arith) (low_variables p) outer numbers
-    (subst (λ k. AreStrips outer numbers (2 ^ k)) l c.in_ok-outer.ensures.strips)
-    (subst (λ k. unrolled outer numbers (2 ^ k) ≡ map (number_of (value_at p 0 0)) (values_of p)) l c.in_ok-outer.ensures.values)
-    c.in_ok-outer.ensures.few)
+    (subst (λ k. HoldsValues p outer numbers (2 ^ k)) l c.in_ok-outer.ensures))
