@@ -1,8 +1,8 @@
 //! Recalling and remembering the results of operations.
 
-ghost use Rattle.std.specs.Prelude.{◌≡◌, ℕ, ◌+◌, ◌^◌, ◌<◌, ◌≤◌, IfSome};
+ghost use Rattle.std.specs.Prelude.{◌≡◌, ℕ, ◌^◌, ◌<◌, ◌≤◌, IfSome};
 ghost use Rattle.node_words.specs.Entries.{combine};
-ghost use Rattle.unique_table.specs.Sessions.{Knows, Means, Follows, function_in, depth_in};
+ghost use Rattle.unique_table.specs.Sessions.{Knows, Means, MakesStep, function_in, depth_in};
 
 use node_words::start;
 use unique_table::{NodeId, Operation, Session, Store};
@@ -34,11 +34,9 @@ pub fn recall(
 ) -> Option<NodeId>
     requires session { session.old.store ≡ store.now }
     requires known { Knows session.old first × Knows session.old second }
-    ensures follows { Follows session.old session.new }
+    ensures step { MakesStep session.old session.new 0 }
     ensures function { IfSome result (λ id. Means session.new id (combine operation (function_in session.new first) (function_in session.new second))) }
     ensures level { IfSome result (λ id. (k : ℕ) → k ≤ depth_in session.new first → k ≤ depth_in session.new second → k ≤ depth_in session.new id) }
-    ensures steps { session.new.steps ≡ session.old.steps + 1 }
-    ensures writes { session.new.writes ≡ session.old.writes }
 {
     let place = place_of(store.cache_places(), operation, first, second);
     store.entry(session, place, operation, first, second)
@@ -56,9 +54,7 @@ pub fn remember(
     requires session { session.old.store ≡ store.now }
     requires known { Knows session.old first × Knows session.old second }
     requires function { Means session.old id (combine operation (function_in session.old first) (function_in session.old second)) }
-    ensures follows { Follows session.old session.new }
-    ensures steps { session.new.steps ≡ session.old.steps + 1 }
-    ensures writes { session.new.writes ≡ session.old.writes + 1 }
+    ensures step { MakesStep session.old session.new 1 }
 {
     let place = place_of(store.cache_places(), operation, first, second);
     store.set_entry(session, place, operation, first, second, id);

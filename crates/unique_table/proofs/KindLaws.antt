@@ -6,7 +6,7 @@ use mathlib.Core.Option.{Option}
 use mathlib.Core.Logic.{dite}
 use native.Mathlib.Decide.{ℕ_discrete}
 use prog.Atomic.{either}
-use Rattle.atomic_table.specs.Table.{State, carried_after, homes_after}
+use Rattle.atomic_table.specs.Table.{carried_after, homes_after}
 use Rattle.order_model.specs.Functions.{Function, SameFunction}
 use Rattle.node_words.specs.Nodes.{Grows, AreNodes, IsNode, IsNext, IsTaken, probe}
 use Rattle.node_words.specs.Meaning.{Denotes}
@@ -15,16 +15,13 @@ use Rattle.node_words.proofs.Functions.{denotes_grows, one_id}
 use Rattle.unique_table.specs.declared.plan.Plan.{Plan}
 use Rattle.unique_table.specs.declared.session.View.{View}
 use Rattle.unique_table.specs.Plans.{order_of, levels_of, piece_function}
-use Rattle.unique_table.specs.Picture.{IsKept, nodes_of, pieces_of}
+use Rattle.unique_table.specs.Picture.{StoreState, IsKept, nodes_of, pieces_of}
 use Rattle.unique_table.specs.Views.{After}
 use Rattle.unique_table.specs.Steps.{IsSeat, Becomes, put_words}
 use Rattle.unique_table.proofs.Rule.{M, pieces_grow, may_look, may_put, may_publish, may_collect, may_recall, may_remember}
 use Rattle.unique_table.proofs.Steps.{after_goes, gains_after}
 
-abbrev St : Type 0
-St = State (Unit {0}) View
-
-module _ (b : Plan) (s : St) (id : ℕ) (v : View) (is : IsSeat b s id v) where
+module _ (b : Plan) (s : StoreState) (id : ℕ) (v : View) (is : IsSeat b s id v) where
   abbrev me : M
   me = (v, [])
 
@@ -34,13 +31,17 @@ module _ (b : Plan) (s : St) (id : ℕ) (v : View) (is : IsSeat b s id v) where
   good : AreNodes (levels_of b) v.seen
   good = (is.kept.seen id v is.seat is.live).nodes
 
-  -- the rule doesn't read the slots
-  becomes : (words : List ℕ) (homes : List (Option (Unit {0}))) (m' : M) (wrote : ℕ) → IsKept b record { words = words; homes = homes; views = set s.views id m'.0 } → After v m'.0 wrote → Becomes b s id v words m'.0
+  -- the rule after a step of the seat
+  abbrev Keeps : List ℕ → List (Option (Unit {0})) → View → Type 0
+  Keeps words homes v' = IsKept b record { words = words; homes = homes; views = set s.views id v' }
+
+  -- it doesn't read the slots
+  becomes : (words : List ℕ) (homes : List (Option (Unit {0}))) (m' : M) (wrote : ℕ) → Keeps words homes m'.0 → After v m'.0 wrote → Becomes b s id v words m'.0
   becomes words homes m' wrote k a =
       record { kept = record { order = k.order; size = k.size; stored = k.stored; entries = k.entries; pieces = k.pieces; seen = k.seen }; gains = gains_after v m'.0 wrote a }
 
-  same_words : (p : ℕ) (homes : List (Option (Unit {0}))) (v' : View) → IsKept b record { words = set s.words p (get_or s.words p 0); homes = homes; views = set s.views id v' } → IsKept b record { words = s.words; homes = homes; views = set s.views id v' }
-  same_words p homes v' k = subst (λ (z : List ℕ). IsKept b record { words = z; homes = homes; views = set s.views id v' }) (set-get_or s.words p 0) k
+  same_words : (p : ℕ) (homes : List (Option (Unit {0}))) (v' : View) → Keeps (set s.words p (get_or s.words p 0)) homes v' → Keeps s.words homes v'
+  same_words p homes v' k = subst (λ (z : List ℕ). Keeps z homes v') (set-get_or s.words p 0) k
 
   pub kind_look : (p : ℕ) → p < b.places → (v' : View) × Becomes b s id v s.words v' × (get_or v'.seen p 0 ≡ get_or s.words p 0)
   kind_look p inside =
@@ -86,7 +87,7 @@ module _ (b : Plan) (s : St) (id : ℕ) (v : View) (is : IsSeat b s id v) where
       let a = may_put b (length s.homes) id me is.live p w k.passed (subst (λ (z : Plan). p < z.places) (sym plan) inside) full (subst (λ (z : Plan). p ≡ probe z.places w k.passed) (sym plan) here)
       (subst (λ (z : Plan). (j : ℕ) → j < k.passed → IsTaken v.seen w (probe z.places w j)) (sym plan) before) (subst (λ (z : Plan). IsNode (levels_of z) v.seen w) (sym plan) node) s is.kept refl is.seat (is.fits p) in
       let g = a.4 in let m' : M = (a.0, carried_after [] a.1) in let homes : List (Option (Unit {0})) = homes_after s.homes [] a.1 in
-      let kept : IsKept b record { words = put_words s.words p w; homes = homes; views = set s.views id a.0 } = subst (λ (z : List ℕ). IsKept b record { words = z; homes = homes; views = set s.views id a.0 }) (put_is p w) a.3 in
+      let kept : Keeps (put_words s.words p w) homes a.0 = subst (λ (z : List ℕ). Keeps z homes a.0) (put_is p w) a.3 in
       dite (ℕ_discrete (get_or s.words p 0) 0)
       (λ empty. let h = g.0 empty in (
         a.0,
@@ -114,7 +115,7 @@ module _ (b : Plan) (s : St) (id : ℕ) (v : View) (is : IsSeat b s id v) where
         pieces_grow b s is.kept q ref inside (denotes_grows (order_of b) v.seen good (nodes_of b s.words) (is.kept.seen id v is.seat is.live).grows ref (piece_function b q) d),
       )
 
-module _ (b : Plan) (s : St) (i j : ℕ) (v w : View) (a : IsSeat b s i v) (d : IsSeat b s j w) where
+module _ (b : Plan) (s : StoreState) (i j : ℕ) (v w : View) (a : IsSeat b s i v) (d : IsSeat b s j w) where
   in_words : (k : ℕ) (u : View) (at : IsSeat b s k u) (x : ℕ) (f : Function) → Denotes (order_of b) u.seen x f → Denotes (order_of b) (nodes_of b s.words) x f
   in_words k u at x f m = let seen = at.kept.seen k u at.seat at.live in denotes_grows (order_of b) u.seen seen.nodes (nodes_of b s.words) seen.grows x f m
 

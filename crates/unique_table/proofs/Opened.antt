@@ -8,20 +8,15 @@ use Rattle.node_words.specs.declared.operation.Operation.{Operation}
 use Rattle.node_words.specs.Entries.{code_of, combine, entry_word, result_of, IsEntry}
 use Rattle.node_words.proofs.Entries.{code_some, entry_made, entry_found}
 use Rattle.node_words.proofs.Functions.{known_small, below_depth, denotes_made, depth_made, operation_no_higher, one_id}
-use Rattle.atomic_table.specs.declared.shared.Seat.{Seat}
 use Rattle.unique_table.specs.declared.plan.Plan.{Plan}
-use Rattle.unique_table.specs.declared.session.View.{View}
 use Rattle.unique_table.specs.declared.store.Store.TheInside as store
 use Rattle.unique_table.specs.declared.session.Session.TheInside as session
 use Rattle.unique_table.specs.Plans.{order_of, levels_of, variable_at}
-use Rattle.unique_table.specs.Sessions.{StoreId, Knowledge, Follows, Knows, IsKnownBelow, Means, HasUniqueIds, function_in, depth_in}
+use Rattle.unique_table.specs.Sessions.{StoreId, Knowledge, Follows, MakesStep, Knows, IsKnownBelow, Means, HasUniqueIds, function_in, depth_in}
 use Rattle.unique_table.specs.Insides.{store_id, IsStore, knowledge, IsSession}
-use Rattle.unique_table.specs.Views.{After, Gains}
-use Rattle.unique_table.specs.Seats.{IsSeatOf}
+use Rattle.unique_table.specs.Views.{Gains}
+use Rattle.unique_table.specs.Seats.{Sitting, IsSeatOf, IsSeatAfter, IsNodeWord}
 use Rattle.unique_table.proofs.Following.{follows}
-
-abbrev Sitting : Type 0
-Sitting = Seat (Unit {0}) View
 
 abbrev pub seated : Sitting → Knowledge
 seated seat = knowledge record { seat = seat }
@@ -51,15 +46,15 @@ module _ (t : store.Inside) (s : session.Inside) (T : StoreId) (K : Knowledge) (
   few_levels = subst (λ (z : StoreId). levels_of z.plan ≤ 16) is_t kt.plan.order.few
 
   pub word_ready : (level low high word : ℕ) → level < levels_of T.plan → IsKnownBelow K level low → IsKnownBelow K level high → low ≢ high → word ≡ node_word level low high
-      → (word ≢ 0) × IsNode (levels_of t.table.shared.key) s.seat.me.0.seen word
+      → IsNodeWord t.table.shared s.seat word
   word_ready level low high word small kl ku ne is =
       let few = few_levels in let a = small_id low kl.0 in let b = small_id high ku.0 in
       let node : IsNode (levels_of K.store.plan) K.seen word = subst (IsNode (levels_of K.store.plan) K.seen) (sym is)
       (word_node (levels_of K.store.plan) level low high K.seen (subst (λ (z : StoreId). levels_of z.plan ≤ 16) (sym fits) few) (subst (λ (z : StoreId). level < levels_of z.plan) (sym fits) small) a b ne
-      (below_depth (levels_of K.store.plan) K.seen level low kl.0 kl.1) (below_depth (levels_of K.store.plan) K.seen level high ku.0 ku.1)) in (
-        (λ e. omega arith),
-        subst (λ (z : Plan). IsNode (levels_of z) s.seat.me.0.seen word) plan_is (subst (λ (z : Knowledge). IsNode (levels_of z.store.plan) z.seen word) (sym is_s) node),
-      )
+      (below_depth (levels_of K.store.plan) K.seen level low kl.0 kl.1) (below_depth (levels_of K.store.plan) K.seen level high ku.0 ku.1)) in record {
+        some = λ e. omega arith;
+        node = subst (λ (z : Plan). IsNode (levels_of z) s.seat.me.0.seen word) plan_is (subst (λ (z : Knowledge). IsNode (levels_of z.store.plan) z.seen word) (sym is_s) node);
+      }
 
   pub nodes_are : AreNodes (levels_of K.store.plan) K.seen
   nodes_are = subst (λ (z : Knowledge). AreNodes (levels_of z.store.plan) z.seen) is_s ks.good.nodes
@@ -71,8 +66,13 @@ module _ (t : store.Inside) (s : session.Inside) (T : StoreId) (K : Knowledge) (
     pub goes_grown : Grows s.seat.me.0.seen seat.me.0.seen → Grows s.seat.me.0.pieces seat.me.0.pieces → Follows K (seated seat)
     goes_grown g gp = follows K (seated seat) nodes_are (store_is t T seat is_t sits ∙ sym fits) (subst (λ (z : Knowledge). Grows z.seen seat.me.0.seen) is_s g) (subst (λ (z : Knowledge). Grows z.pieces seat.me.0.pieces) is_s gp)
 
-    pub goes_after : (wrote : ℕ) → After s.seat.me.0 seat.me.0 wrote → Follows K (seated seat)
-    goes_after wrote a = goes_on record { good = a.good; plan = a.plan; nodes = a.nodes; pieces = a.pieces }
+  -- a session after a step
+  pub goes_step : (seat : Sitting) (wrote : ℕ) → IsSeatAfter t.table.shared s.seat seat wrote → MakesStep K (seated seat) wrote
+  goes_step seat wrote a = record {
+    follows = goes_on seat a.seat record { good = a.view.good; plan = a.view.plan; nodes = a.view.nodes; pieces = a.view.pieces };
+    steps = a.view.steps ∙ ap (λ (z : Knowledge). z.steps + 1) is_s;
+    writes = a.view.writes ∙ ap (λ (z : Knowledge). z.writes + wrote) is_s;
+  }
 
   -- the word that is stored for an operation
   pub entry_ready : (o : Operation) (a b r word : ℕ) → Knows K a → Knows K b → Means K r (combine o (function_in K a) (function_in K b)) → word ≡ entry_word (code_of o) a b r → IsEntry (order_of t.table.shared.key) s.seat.me.0.seen word

@@ -7,7 +7,7 @@ use mathlib.Core.Logic.{dite}
 use native.Mathlib.Decide.{ℕ_discrete}
 use lib.ListN.{get_elem?}
 use prog.Atomic.{either}
-use Rattle.atomic_table.specs.Table.{State, Me, step, keeps, Allows, Splits, Joins}
+use Rattle.atomic_table.specs.Table.{Me, step, keeps, Allows, Splits, Joins}
 use Rattle.atomic_table.proofs.Lists.{at_set, at_snoc, set_else}
 use Rattle.node_words.specs.Nodes.{IsNode, AreNodes, AreStored, Grows, probe, IsNext, IsTaken}
 use Rattle.node_words.specs.Meaning.{Denotes}
@@ -18,13 +18,10 @@ use Rattle.node_words.proofs.Entries.{entry_grows}
 use Rattle.unique_table.specs.declared.plan.Plan.{Plan}
 use Rattle.unique_table.specs.declared.session.View.{View}
 use Rattle.unique_table.specs.Plans.{order_of, levels_of, piece_function}
-use Rattle.unique_table.specs.Picture.{IsKept, IsSeen, Sees, AreEntries, ArePieces, sees, nodes_of, entry_in, pieces_of, stepped, another, informed, spent, looks, puts, publishes, collects, recalls, remembers}
+use Rattle.unique_table.specs.Picture.{StoreState, IsKept, IsSeen, moved, Sees, AreEntries, ArePieces, sees, nodes_of, entry_in, pieces_of, stepped, another, informed, spent, looks, puts, publishes, collects, recalls, remembers}
 
 abbrev pub M : Type 0
 M = Me (Unit {0}) View
-
-abbrev St : Type 0
-St = State (Unit {0}) View
 
 each_set : {A : Type 0} (P : A → Type 0) (l : List A) (i : ℕ) (w : A) → ((j : ℕ) (u : A) → get_elem? l j ≡ some u → P u) → P w → (j : ℕ) (u : A) → get_elem? (set l i w) j ≡ some u → P u
 each_set {A} P l i w all it j u e = ⊎_elim (λ (t : (j ≡ i) × (w ≡ u)). subst (λ (z : A). P z) t.1 it) (λ (t : (j ≢ i) × (get_elem? l j ≡ some u)). all j u t.1) (at_set l i j w u e)
@@ -33,10 +30,10 @@ none_told : (xs : List ℕ) → Grows [] xs
 none_told xs p full = absurd (full refl)
 
 -- the seat that steps sees all words, and the others saw no more than they have
-placed : (b : Plan) (s : St) (k : IsKept b s) (words : List ℕ) → length words ≡ b.places + b.entries + b.pieces → Grows (nodes_of b s.words) (nodes_of b words) → Grows (pieces_of b s.words) (pieces_of b words)
+placed : (b : Plan) (s : StoreState) (k : IsKept b s) (words : List ℕ) → length words ≡ b.places + b.entries + b.pieces → Grows (nodes_of b s.words) (nodes_of b words) → Grows (pieces_of b s.words) (pieces_of b words)
     → AreStored (levels_of b) b.places (nodes_of b words) → AreEntries b (nodes_of b words) words → ArePieces b (nodes_of b words) (pieces_of b words)
     → (id : ℕ) (v : View) (wrote : ℕ) → get_elem? s.views id ≡ some v → v.live ≡ true
-    → IsKept b record { words = words; homes = s.homes; views = set s.views id (sees v (nodes_of b words) (pieces_of b words) wrote) }
+    → IsKept b (moved s words id (sees v (nodes_of b words) (pieces_of b words) wrote))
 placed b s k words size g gp st ens pcs id v wrote at live = let ws : List ℕ = nodes_of b words in let ps : List ℕ = pieces_of b words in record {
   order = k.order;
   size = size;
@@ -68,7 +65,7 @@ placed b s k words size g gp st ens pcs id v wrote at live = let ws : List ℕ =
       });
 }
 
-sees_all : (b : Plan) (s : St) (k : IsKept b s) (ws ps : List ℕ) → Grows (nodes_of b s.words) ws → Grows (pieces_of b s.words) ps → AreStored (levels_of b) b.places ws → ArePieces b ws ps
+sees_all : (b : Plan) (s : StoreState) (k : IsKept b s) (ws ps : List ℕ) → Grows (nodes_of b s.words) ws → Grows (pieces_of b s.words) ps → AreStored (levels_of b) b.places ws → ArePieces b ws ps
     → (id : ℕ) (v : View) → get_elem? s.views id ≡ some v → v.live ≡ true → Sees v ws ps
 sees_all b s k ws ps g gp st pcs id v at live = let i = k.seen id v at live in record {
   size = st.size ∙ ap (λ (z : Plan). z.places) (sym i.plan);
@@ -82,7 +79,7 @@ sees_all b s k ws ps g gp st pcs id v at live = let i = k.seen id v at live in r
 }
 
 -- a piece's word is the same where there was one, since ids that denote one function are one id
-pieces_same : (b : Plan) (s : St) (k : IsKept b s) (q ref : ℕ) → q < length (pieces_of b s.words) → Denotes (order_of b) (nodes_of b s.words) ref (piece_function b q) → Grows (pieces_of b s.words) (set (pieces_of b s.words) q (ref + 1))
+pieces_same : (b : Plan) (s : StoreState) (k : IsKept b s) (q ref : ℕ) → q < length (pieces_of b s.words) → Denotes (order_of b) (nodes_of b s.words) ref (piece_function b q) → Grows (pieces_of b s.words) (set (pieces_of b s.words) q (ref + 1))
 pieces_same b s k q ref wide mine r full =
     let nodes : List ℕ = nodes_of b s.words in let pieces : List ℕ = pieces_of b s.words in let there : get_or (set pieces q (ref + 1)) q 0 ≡ ref + 1 = get_or-set_same pieces q (ref + 1) 0 wide in
     dite (ℕ_discrete r q)
@@ -92,7 +89,7 @@ pieces_same b s k q ref wide mine r full =
     subst (λ (z : ℕ). get_or (set pieces q (ref + 1)) z 0 ≡ get_or pieces z 0) (sym same) (there ∙ up))
     (λ other. get_or-set_other pieces q r (ref + 1) 0 other)
 
-pub pieces_grow : (b : Plan) (s : St) (k : IsKept b s) (q ref : ℕ) → q < b.pieces → Denotes (order_of b) (nodes_of b s.words) ref (piece_function b q) → Grows (pieces_of b s.words) (pieces_of b (set s.words (b.places + b.entries + q) (ref + 1)))
+pub pieces_grow : (b : Plan) (s : StoreState) (k : IsKept b s) (q ref : ℕ) → q < b.pieces → Denotes (order_of b) (nodes_of b s.words) ref (piece_function b q) → Grows (pieces_of b s.words) (pieces_of b (set s.words (b.places + b.entries + q) (ref + 1)))
 pieces_grow b s k q ref inside mine =
     subst (Grows (pieces_of b s.words)) (sym (drop-set-add (b.places + b.entries) s.words q (ref + 1)))
     (pieces_same b s k q ref (let e = length-drop (b.places + b.entries) s.words in let f = k.size in omega arith) mine)
@@ -101,17 +98,17 @@ module _ (b : Plan) (slots id : ℕ) (me : M) (live : me.0.live ≡ true) where
   abbrev v : View
   v = me.0
 
-  still : (s : St) → IsKept b s → get_elem? s.views id ≡ some v → Sees v (nodes_of b s.words) (pieces_of b s.words)
+  still : (s : StoreState) → IsKept b s → get_elem? s.views id ≡ some v → Sees v (nodes_of b s.words) (pieces_of b s.words)
   still s k at = sees_all b s k (nodes_of b s.words) (pieces_of b s.words) (grows_refl (nodes_of b s.words)) (grows_refl (pieces_of b s.words)) k.stored k.pieces id v at live
 
   -- the words are set to what they are
-  unmoved : (s : St) → IsKept b s → get_elem? s.views id ≡ some v → (p : ℕ)
-      → IsKept b record { words = set s.words p (get_or s.words p 0); homes = s.homes; views = set s.views id (sees v (nodes_of b s.words) (pieces_of b s.words) 0) }
-  unmoved s k at p = subst (λ (z : List ℕ). IsKept b record { words = z; homes = s.homes; views = set s.views id (sees v (nodes_of b s.words) (pieces_of b s.words) 0) }) (sym (set-get_or s.words p 0))
+  unmoved : (s : StoreState) → IsKept b s → get_elem? s.views id ≡ some v → (p : ℕ)
+      → IsKept b (moved s (set s.words p (get_or s.words p 0)) id (sees v (nodes_of b s.words) (pieces_of b s.words) 0))
+  unmoved s k at p = subst (λ (z : List ℕ). IsKept b (moved s z id (sees v (nodes_of b s.words) (pieces_of b s.words) 0))) (sym (set-get_or s.words p 0))
       (placed b s k s.words k.size (grows_refl (nodes_of b s.words)) (grows_refl (pieces_of b s.words)) k.stored k.entries k.pieces id v 0 at live)
 
   -- a node's word, as it is found
-  node_read : (s : St) → IsKept b s → get_elem? s.views id ≡ some v → (p : ℕ) → p < v.plan.places → get_or (nodes_of b s.words) p 0 ≡ get_or s.words p 0
+  node_read : (s : StoreState) → IsKept b s → get_elem? s.views id ≡ some v → (p : ℕ) → p < v.plan.places → get_or (nodes_of b s.words) p 0 ≡ get_or s.words p 0
   node_read s k at p inside = get_or-take b.places s.words p 0 (subst (λ (z : Plan). p < z.places) (k.seen id v at live).plan inside)
 
   pub may_look : (p : ℕ) → Allows (IsKept b) slots id me p (λ n. n) (looks (step slots p 0 0 none) me)
@@ -202,7 +199,7 @@ module _ (b : Plan) (slots id : ℕ) (me : M) (live : me.0.live ≡ true) where
         sees v (nodes_of b words) (pieces_of b words) 1,
         keeps,
         tt,
-        subst (λ (z : Bool). IsKept b record { words = set s.words p (either z w n); homes = s.homes; views = set s.views id (sees v (nodes_of b words) (pieces_of b words) 1) }) (sym (eq-eqb n 0 empty))
+        subst (λ (z : Bool). IsKept b (moved s (set s.words p (either z w n)) id (sees v (nodes_of b words) (pieces_of b words) 1))) (sym (eq-eqb n 0 empty))
             (placed b s k words (length-set s.words p w ∙ k.size) g gp st ens pcs id v 1 at live),
         ((λ _. (nodes_of b words, pieces_of b words, refl, sees_all b s k (nodes_of b words) (pieces_of b words) g gp st pcs id v at live, there)), (λ full. absurd (full empty))),
       ))
@@ -210,7 +207,7 @@ module _ (b : Plan) (slots id : ℕ) (me : M) (live : me.0.live ≡ true) where
         sees v nodes pieces 0,
         keeps,
         tt,
-        subst (λ (z : Bool). IsKept b record { words = set s.words p (either z w n); homes = s.homes; views = set s.views id (sees v nodes pieces 0) }) (sym (ne_eqb n 0 full)) (unmoved s k at p),
+        subst (λ (z : Bool). IsKept b (moved s (set s.words p (either z w n)) id (sees v nodes pieces 0))) (sym (ne_eqb n 0 full)) (unmoved s k at p),
         ((λ empty. absurd (full empty)), (λ _. (nodes, pieces, refl, still s k at, node_read s k at p inside))),
       ))
 

@@ -1,21 +1,11 @@
 -- What a step leaves of a seat.
 use Rattle.std.proofs.Common.{◌≡◌, ℕ, List, sym, refl, ap, ◌∙◌, subst, arith}
-use Rattle.atomic_table.specs.declared.shared.Shared.{Shared}
-use Rattle.atomic_table.specs.declared.shared.Seat.{Seat}
 use Rattle.node_words.proofs.Growing.{grows_trans}
-use Rattle.unique_table.specs.declared.plan.Plan.{Plan}
 use Rattle.unique_table.specs.declared.session.View.{View}
-use Rattle.unique_table.specs.declared.plays.Words.{Words}
 use Rattle.unique_table.specs.Picture.{Sees, sees}
 use Rattle.unique_table.specs.Views.{After, Gains}
-use Rattle.unique_table.specs.Seats.{IsSeatOf}
+use Rattle.unique_table.specs.Seats.{Board, Sitting, IsSeatOf, IsSeatAfter}
 use Rattle.unique_table.proofs.Rule.{M}
-
-abbrev Board : Type 0
-Board = Shared (Unit {0}) View Plan Words
-
-abbrev Sitting : Type 0
-Sitting = Seat (Unit {0}) View
 
 pub after_goes : (m m' : M) (wrote : ℕ) (ws ps : List ℕ) → m' ≡ (sees m.0 ws ps wrote, m.1) → Sees m.0 ws ps → After m.0 m'.0 wrote
 after_goes m m' wrote ws ps is s = subst (λ (z : M). After m.0 z.0 wrote) (sym is) record {
@@ -29,12 +19,10 @@ after_goes m m' wrote ws ps is s = subst (λ (z : M). After m.0 z.0 wrote) (sym 
   writes = refl;
 }
 
-pub seat_after : (t : Board) (s s' : Sitting) (wrote : ℕ) (ws ps : List ℕ) → IsSeatOf t s → s'.table_id ≡ s.table_id → s'.me ≡ (sees s.me.0 ws ps wrote, s.me.1) → Sees s.me.0 ws ps → IsSeatOf t s'
+pub seat_after : (t : Board) (s s' : Sitting) (wrote : ℕ) (ws ps : List ℕ) → IsSeatOf t s → s'.table_id ≡ s.table_id → s'.me ≡ (sees s.me.0 ws ps wrote, s.me.1) → Sees s.me.0 ws ps → IsSeatAfter t s s' wrote
 seat_after t s s' wrote ws ps fits same is sees_all = let a = after_goes s.me s'.me wrote ws ps is sees_all in record {
-  table = same ∙ fits.table;
-  plan = a.plan ∙ fits.plan;
-  empty = ap (λ (m : M). m.1) is ∙ fits.empty;
-  good = a.good;
+  seat = record { table = same ∙ fits.table; plan = a.plan ∙ fits.plan; empty = ap (λ (m : M). m.1) is ∙ fits.empty; good = a.good };
+  view = a;
 }
 
 pub gains_after : (v v' : View) (wrote : ℕ) → After v v' wrote → Gains v v'

@@ -1,7 +1,8 @@
 -- The picture of a store: what is so between any two steps, and what the steps tell.
+--     StoreState, moved s words id v      the words and the views of all seats, and what a step makes of them
 --     IsKept b s      the rule: nodes, meaning, and what sessions know
 --     looks, puts, publishes, collects, recalls, remembers      the kinds of steps
-use Rattle.std.specs.Prelude.{◌≡◌, ◌≢◌, ℕ, ◌+◌, ◌-◌, ◌<◌, ◌≤◌, true, false, List, [], length, slice_index, take, drop}
+use Rattle.std.specs.Prelude.{◌≡◌, ◌≢◌, ℕ, ◌+◌, ◌-◌, ◌<◌, ◌≤◌, true, false, List, [], length, slice_index, slice_set, take, drop}
 use mathlib.Core.Option.{some}
 use lib.ListN.{get_elem?}
 use Rattle.atomic_table.specs.Table.{State, Me, Step}
@@ -13,6 +14,14 @@ use Rattle.unique_table.specs.declared.plan.Plan.{Plan}
 use Rattle.unique_table.specs.declared.session.View.{View}
 use Rattle.unique_table.specs.declared.plan.PieceKind.TheVariants.{Restrictions}
 use Rattle.unique_table.specs.Plans.{order_of, levels_of, piece_function}
+
+-- the words of a table, and the view of each seat
+abbrev pub StoreState : Type 0
+StoreState = State (Unit {0}) View
+
+-- the state after a step of seat id, which has the view v now
+abbrev pub moved : StoreState → List ℕ → ℕ → View → StoreState
+moved s words id v = record { words = words; homes = s.homes; views = slice_set s.views id v }
 
 -- the words of nodes, of the cache, and of pieces
 abbrev pub nodes_of : Plan → List ℕ → List ℕ
@@ -45,7 +54,7 @@ pub record IsSeen (b : Plan) (ws ps : List ℕ) (v : View) : Type 0 where
   pub pieces_told : Grows v.pieces_told ps
 
 -- the rule of a store's table; the view that a join leaves behind is excepted
-pub record IsKept (b : Plan) (s : State (Unit {0}) View) : Type 0 where
+pub record IsKept (b : Plan) (s : StoreState) : Type 0 where
   pub order : IsOrder (levels_of b) (order_of b)
   pub size : length s.words ≡ b.places + b.entries + b.pieces
   pub stored : AreStored (levels_of b) b.places (nodes_of b s.words)

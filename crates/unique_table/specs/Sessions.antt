@@ -5,6 +5,7 @@
 --     HasUniqueIds s      ids that a session knows are equal where they denote the same function
 --     HasPiece s q id      the session knows that the piece has the id
 --     Follows s s'      a session goes on: what it knew it still knows
+--     MakesStep s s' wrote      a session goes on by one step
 --     HasParts s id parts      the level and the children of a node
 use Rattle.std.specs.Prelude.{◌≡◌, ◌≢◌, ℕ, ◌+◌, ◌-◌, ◌<◌, List, slice_index}
 use Rattle.atomic_table.specs.Seated.{TableId}
@@ -65,6 +66,12 @@ pub record Follows (s s' : Knowledge) : Type 0 where
   pub functions : (id : ℕ) (p : Point) → Knows s id → function_in s' id p ≡ function_in s id p
   pub means : (id : ℕ) (f : Function) → Means s id f → Means s' id f
   pub depths : (id : ℕ) → Knows s id → depth_in s' id ≡ depth_in s id
+
+-- a session goes on by one step, which wrote `wrote` words
+pub record MakesStep (s s' : Knowledge) (wrote : ℕ) : Type 0 where
+  pub follows : Follows s s'
+  pub steps : s'.steps ≡ s.steps + 1
+  pub writes : s'.writes ≡ s.writes + wrote
 
 -- the parts of a known node: its level, and two unequal children below it, of whose functions its own is made
 pub record HasParts (s : Knowledge) (id : ℕ) (parts : NodeParts) : Type 0 where

@@ -6,7 +6,7 @@ ghost use Rattle.order_model.specs.Problems.{functions};
 ghost use Rattle.order_model.specs.Functions.{Point};
 ghost use Rattle.node_words.specs.Nodes.{node_word, IsFullFor, IsIdOf};
 ghost use Rattle.node_words.specs.Meaning.{branch};
-ghost use Rattle.unique_table.specs.Sessions.{Knows, IsKnownBelow, Means, Follows, HasParts, HasUniqueIds, function_in, depth_in, HasPiece};
+ghost use Rattle.unique_table.specs.Sessions.{Knows, IsKnownBelow, Means, Follows, MakesStep, HasParts, HasUniqueIds, function_in, depth_in, HasPiece};
 ghost use Rattle.node_words.specs.Entries.{combine};
 ghost use Rattle.order_model.specs.Diagrams.{Represents, IsReduced};
 ghost use Rattle.unique_table.specs.Closing.{Lacks};
@@ -191,11 +191,9 @@ impl Store {
         requires session { session.old.store ≡ self.now }
         requires place { place < self.now.plan.entries }
         requires known { Knows session.old first × Knows session.old second }
-        ensures follows { Follows session.old session.new }
+        ensures step { MakesStep session.old session.new 0 }
         ensures function { IfSome result (λ id. Means session.new id (combine operation (function_in session.new first) (function_in session.new second))) }
         ensures level { IfSome result (λ id. (k : ℕ) → k ≤ depth_in session.new first → k ≤ depth_in session.new second → k ≤ depth_in session.new id) }
-        ensures steps { session.new.steps ≡ session.old.steps + 1 }
-        ensures writes { session.new.writes ≡ session.old.writes }
     {
         let at = self.places + place;
         let seat = &mut session.seat;
@@ -221,9 +219,7 @@ impl Store {
         requires place { place < self.now.plan.entries }
         requires known { Knows session.old first × Knows session.old second }
         requires function { Means session.old id (combine operation (function_in session.old first) (function_in session.old second)) }
-        ensures follows { Follows session.old session.new }
-        ensures steps { session.new.steps ≡ session.old.steps + 1 }
-        ensures writes { session.new.writes ≡ session.old.writes + 1 }
+        ensures step { MakesStep session.old session.new 1 }
     {
         let at = self.places + place;
         let seat = &mut session.seat;
@@ -237,10 +233,8 @@ impl Store {
         requires session { session.old.store ≡ self.now }
         requires piece { piece < self.now.plan.pieces }
         requires function { Means session.old id (piece_function self.now.plan piece) }
-        ensures follows { Follows session.old session.new }
+        ensures step { MakesStep session.old session.new 1 }
         ensures stored { HasPiece session.new piece id }
-        ensures steps { session.new.steps ≡ session.old.steps + 1 }
-        ensures writes { session.new.writes ≡ session.old.writes + 1 }
     {
         let place = self.places + self.entries + piece;
         words::publish(&self.table.shared, &mut session.seat, place, piece, id);
@@ -250,12 +244,10 @@ impl Store {
     pub fn collect(&self, session: &mut Session, piece: usize) -> Option<NodeId>
         requires session { session.old.store ≡ self.now }
         requires piece { piece < self.now.plan.pieces }
-        ensures follows { Follows session.old session.new }
+        ensures step { MakesStep session.old session.new 0 }
         ensures stored { IfSome result (λ id. HasPiece session.new piece id) }
         ensures function { IfSome result (λ id. Means session.new id (piece_function self.now.plan piece)) }
         ensures none { IfNone result (slice_index session.new.pieces piece ≡ 0) }
-        ensures steps { session.new.steps ≡ session.old.steps + 1 }
-        ensures writes { session.new.writes ≡ session.old.writes }
     {
         let place = self.places + self.entries + piece;
         let word = words::collect(&self.table.shared, &mut session.seat, place, piece);

@@ -1,12 +1,12 @@
 //! The steps on words, each with what the seat's view gains.
 
 ghost use Rattle.std.specs.Prelude.{◌≡◌, ◌≢◌, ◌+◌, ◌-◌, ◌*◌, ◌^◌, ◌<◌, ◌≤◌, slice_index, MatchBool, IfSome, IfNone};
-ghost use Rattle.node_words.specs.Nodes.{IsNode, IsNext, IsTaken, IsFullFor};
+ghost use Rattle.node_words.specs.Nodes.{IsTaken, IsFullFor};
 ghost use Rattle.node_words.specs.Meaning.{Denotes};
 ghost use Rattle.node_words.specs.Entries.{IsEntry};
-ghost use Rattle.unique_table.specs.Plans.{order_of, levels_of, piece_function};
+ghost use Rattle.unique_table.specs.Plans.{order_of, piece_function};
 ghost use Rattle.unique_table.specs.Views.{After, Gains};
-ghost use Rattle.unique_table.specs.Seats.{IsSeatOf};
+ghost use Rattle.unique_table.specs.Seats.{IsSeatOf, IsSeatAfter, IsNodePlace, IsEntryPlace, IsPiecePlace, IsNodeWord, MayPut};
 
 use crate::plan::Plan;
 use crate::plays::{Collects, Looks, Publishes, Puts, Recalls, Remembers, Words};
@@ -19,9 +19,8 @@ type Board = Shared<(), View, Plan, Words>;
 /// Loads a node word.
 pub(crate) fn look(shared: &Board, seat: &mut Seat<(), View>, place: usize) -> u64
     requires seat { IsSeatOf shared.now seat.old }
-    requires place { (place < shared.now.key.places) × (place < shared.now.table_id.words) }
-    ensures seat { IsSeatOf shared.now seat.new }
-    ensures after { After seat.old.me.0 seat.new.me.0 0 }
+    requires place { IsNodePlace shared.now place }
+    ensures step { IsSeatAfter shared.now seat.old seat.new 0 }
     ensures found { slice_index seat.new.me.0.seen place ≡ result }
 {
     shared.load::<Looks>(seat, place)
@@ -29,10 +28,7 @@ pub(crate) fn look(shared: &Board, seat: &mut Seat<(), View>, place: usize) -> u
 
 /// Puts a node's word into the place that comes next in the search for it, if the place is empty, and returns what was found.
 fn put(shared: &Board, seat: &mut Seat<(), View>, place: usize, word: u64) -> u64
-    requires seat { IsSeatOf shared.now seat.old }
-    requires place { (place < shared.now.key.places) × (place < shared.now.table_id.words) }
-    requires next { IsNext seat.old.me.0.seen shared.now.key.places word place }
-    requires word { (word ≢ 0) × IsNode (levels_of shared.now.key) seat.old.me.0.seen word }
+    requires { MayPut shared.now seat.old word place }
     ensures seat { IsSeatOf shared.now seat.new }
     ensures empty { result ≡ 0 → After seat.old.me.0 seat.new.me.0 1 × (slice_index seat.new.me.0.seen place ≡ word) }
     ensures full { result ≢ 0 → After seat.old.me.0 seat.new.me.0 0 × (slice_index seat.new.me.0.seen place ≡ result) }
@@ -42,10 +38,7 @@ fn put(shared: &Board, seat: &mut Seat<(), View>, place: usize, word: u64) -> u6
 
 /// Looks at the place that comes next in the search for a node's word, and puts the word there if it is seen empty. Says whether the word stands there.
 pub(crate) fn take(shared: &Board, seat: &mut Seat<(), View>, place: usize, word: u64) -> bool
-    requires seat { IsSeatOf shared.now seat.old }
-    requires place { (place < shared.now.key.places) × (place < shared.now.table_id.words) }
-    requires next { IsNext seat.old.me.0.seen shared.now.key.places word place }
-    requires word { (word ≢ 0) × IsNode (levels_of shared.now.key) seat.old.me.0.seen word }
+    requires { MayPut shared.now seat.old word place }
     ensures seat { IsSeatOf shared.now seat.new }
     ensures gains { Gains seat.old.me.0 seat.new.me.0 }
     ensures found { MatchBool result (slice_index seat.new.me.0.seen place ≡ word) (IsTaken seat.new.me.0.seen word place) }
@@ -69,11 +62,10 @@ pub(crate) fn publish(
     id: u32,
 )
     requires seat { IsSeatOf shared.now seat.old }
-    requires place { (place ≡ shared.now.key.places + shared.now.key.entries + piece) × (place < shared.now.table_id.words) }
+    requires place { IsPiecePlace shared.now piece place }
     requires piece { piece < shared.now.key.pieces }
     requires function { Denotes (order_of shared.now.key) seat.old.me.0.seen id (piece_function shared.now.key piece) }
-    ensures seat { IsSeatOf shared.now seat.new }
-    ensures after { After seat.old.me.0 seat.new.me.0 1 }
+    ensures step { IsSeatAfter shared.now seat.old seat.new 1 }
     ensures stored { slice_index seat.new.me.0.pieces piece ≡ id + 1 }
 {
     shared.store::<Publishes>(seat, place, u64::from(id) + 1);
@@ -82,9 +74,8 @@ pub(crate) fn publish(
 /// Loads a piece word.
 pub(crate) fn collect(shared: &Board, seat: &mut Seat<(), View>, place: usize, piece: usize) -> u64
     requires seat { IsSeatOf shared.now seat.old }
-    requires place { (place ≡ shared.now.key.places + shared.now.key.entries + piece) × (place < shared.now.table_id.words) }
-    ensures seat { IsSeatOf shared.now seat.new }
-    ensures after { After seat.old.me.0 seat.new.me.0 0 }
+    requires place { IsPiecePlace shared.now piece place }
+    ensures step { IsSeatAfter shared.now seat.old seat.new 0 }
     ensures found { slice_index seat.new.me.0.pieces piece ≡ result }
 {
     let _ = piece;
@@ -94,10 +85,8 @@ pub(crate) fn collect(shared: &Board, seat: &mut Seat<(), View>, place: usize, p
 /// Loads a cache word.
 pub(crate) fn recall(shared: &Board, seat: &mut Seat<(), View>, place: usize, entry: usize) -> u64
     requires seat { IsSeatOf shared.now seat.old }
-    requires place { (place ≡ shared.now.key.places + entry) × (place < shared.now.table_id.words) }
-    requires entry { entry < shared.now.key.entries }
-    ensures seat { IsSeatOf shared.now seat.new }
-    ensures after { After seat.old.me.0 seat.new.me.0 0 }
+    requires place { IsEntryPlace shared.now entry place }
+    ensures step { IsSeatAfter shared.now seat.old seat.new 0 }
     ensures found { result ≢ 0 → IsEntry (order_of shared.now.key) seat.new.me.0.seen result }
 {
     let _ = entry;
@@ -113,11 +102,9 @@ pub(crate) fn remember(
     word: u64,
 )
     requires seat { IsSeatOf shared.now seat.old }
-    requires place { (place ≡ shared.now.key.places + entry) × (place < shared.now.table_id.words) }
-    requires entry { entry < shared.now.key.entries }
+    requires place { IsEntryPlace shared.now entry place }
     requires word { IsEntry (order_of shared.now.key) seat.old.me.0.seen word }
-    ensures seat { IsSeatOf shared.now seat.new }
-    ensures after { After seat.old.me.0 seat.new.me.0 1 }
+    ensures step { IsSeatAfter shared.now seat.old seat.new 1 }
 {
     let _ = entry;
     shared.store::<Remembers>(seat, place, word);
@@ -133,7 +120,7 @@ pub(crate) fn find_or_put(
     requires seat { IsSeatOf shared.now seat.old }
     requires places { (places ≡ shared.now.key.places) × (places ≤ shared.now.table_id.words) }
     requires count { (0 < places) × (places < 2 ^ 32) }
-    requires word { (word ≢ 0) × IsNode (levels_of shared.now.key) seat.old.me.0.seen word }
+    requires word { IsNodeWord shared.now seat.old word }
     ensures seat { IsSeatOf shared.now seat.new }
     ensures gains { Gains seat.old.me.0 seat.new.me.0 }
     ensures found { IfSome result (λ place. (place < places) × (slice_index seat.new.me.0.seen place ≡ word)) }

@@ -10,7 +10,7 @@ pub loop-passed-init : goal.loop-passed-init
 loop-passed-init c = record {
   seat = c.requires.seat;
   gains = record { good = c.requires.seat.good; plan = refl; nodes = grows_refl c.args.seat.now.me.0.seen; pieces = grows_refl c.args.seat.now.me.0.pieces };
-  node = c.requires.word.1;
+  word = c.requires.word;
   before = λ j none. absurd (omega arith);
   steps = omega arith;
   writes = refl;
@@ -20,7 +20,7 @@ pub loop-passed-preserved : goal.loop-passed-preserved
 loop-passed-preserved c = let i = c.loop-passed.invariant in record {
   seat = c.take.ensures.seat;
   gains = gains_both c.args.seat.now.me.0 c.loop-passed.seat.me.0 c.take.new.seat.me.0 i.gains c.take.ensures.gains;
-  node = node_grows (levels_of c.args.shared.now.key) c.loop-passed.seat.me.0.seen c.take.new.seat.me.0.seen c.args.word c.take.ensures.gains.nodes i.node;
+  word = record { some = i.word.some; node = node_grows (levels_of c.args.shared.now.key) c.loop-passed.seat.me.0.seen c.take.new.seat.me.0.seen c.args.word c.take.ensures.gains.nodes i.word.node };
   before = one_more c.loop-passed.seat.me.0.seen c.take.new.seat.me.0.seen c.args.places c.args.word c.loop-passed.passed c.probe-place.result c.take.ensures.gains.nodes i.before
       (c.probe-place.ensures.is c.args.word c.start-start.ensures.is) c.if-take.ensures.found;
   steps = let a = c.take.ensures.steps in let b = i.steps in omega arith;

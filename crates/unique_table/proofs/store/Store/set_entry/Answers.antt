@@ -1,7 +1,7 @@
 use Rattle.std.proofs.Common.{◌≡◌, ℕ, ◌+◌, ◌*◌, ◌%◌, ap, ◌∙◌, arith}
 use Rattle.node_words.proofs.Entries.{code_small, entry_packed, entry_fits}
 use Rattle.node_words.specs.Entries.{code_of, entry_word}
-use Rattle.unique_table.proofs.Opened.{goes_after, small_id, entry_ready}
+use Rattle.unique_table.proofs.Opened.{goes_step, small_id, entry_ready}
 use Rattle.unique_table.proofs.store.Store.set_entry.Goals as goal
 
 pub entry_key-key-requires-clause-first : goal.entry_key-key-requires-clause-first
@@ -23,5 +23,5 @@ overflow_add-word c = let e = packed c in let f = entry_fits (code_of c.args.ope
 pub remember-requires-clause-word : goal.remember-requires-clause-word
 remember-requires-clause-word c = entry_ready c.self.inside c.session.inside c.args.self.now c.args.session.now c.self.view_is c.session.view_is c.self.invariant c.session.invariant c.requires.session c.args.operation c.args.first c.args.second c.args.id _ c.requires.known.0 c.requires.known.1 c.requires.function (packed c)
 
-pub returns-clause-follows : goal.returns-clause-follows
-returns-clause-follows c = goes_after c.self.inside c.session.inside c.args.self.now c.args.session.now c.self.view_is c.session.view_is c.self.invariant c.session.invariant c.requires.session c.remember.new.seat c.remember.ensures.seat 1 c.remember.ensures.after
+pub returns : goal.returns
+returns c = record { step = goes_step c.self.inside c.session.inside c.args.self.now c.args.session.now c.self.view_is c.session.view_is c.self.invariant c.session.invariant c.requires.session c.remember.new.seat 1 c.remember.ensures.step }
