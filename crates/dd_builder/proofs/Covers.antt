@@ -1,11 +1,13 @@
 -- The functions of covers, tables and stores.
-use Rattle.std.proofs.Common.{◌≡◌, ℕ, suc, ◌+◌, ◌<◌, Bool, Bor, Result, Ok, Err, IfOk, List, [], ◌∷◌, length, map, get_or, sym, ap, ◌∙◌, arith, subst, zero-add}
+use Rattle.std.proofs.Common.{◌≡◌, ℕ, suc, ◌+◌, ◌<◌, Bool, Bor, List, [], ◌∷◌, length, map, get_or, sym, ap, ◌∙◌, arith, subst, zero-add}
 use Rattle.std.specs.List.{AllZip, range_with_len}
 use Rattle.std.proofs.lemmas.List.{length-map, get_or-map}
 use Rattle.std.proofs.lemmas.List.FromFn.{length-map-range_with_len, get_or-map-range_with_len}
 use Rattle.order_model.specs.declared.terms.Term.{Term}
 use Rattle.order_model.specs.Functions.{Function, SameFunction, from_table, table}
-use Rattle.order_model.specs.Diagrams.{Graph, Represents}
+use Rattle.order_model.specs.Diagrams.{Graph, Represents, IsReduced}
+use Rattle.order_model.specs.OrderedGraphs.{OrderedGraph}
+use Rattle.order_model.specs.Orders.{IsOrder}
 use Rattle.order_model.specs.Problems.{TruthTables, functions, outputs_of, table_at}
 use Rattle.order_model.specs.Products.{product_of, product_function, product_functions}
 use Rattle.pla_reader.specs.Covers.{NamedCover}
@@ -13,22 +15,26 @@ use Rattle.unique_table.specs.declared.plan.Plan.{Plan}
 use Rattle.unique_table.specs.declared.plan.PieceKind.{PieceKind}
 use Rattle.unique_table.specs.declared.plan.PieceKind.TheVariants.{Restrictions, Products}
 use Rattle.unique_table.specs.declared.plan.Pieces.TheVariants.{Terms}
-use Rattle.unique_table.specs.Plans.{order_of, levels_of, output_at, products_of, AreTermsOf, IsKind, IsPlan}
+use Rattle.unique_table.specs.Plans.{order_of, output_at, products_of, AreTermsOf, IsKind, IsPlan}
 use Rattle.unique_table.proofs.Roots.{represents_same}
-use Rattle.dd_builder.specs.Building.{AreTablesOf, AreProductsOf, IsForCover, functions_of}
+use Rattle.dd_builder.specs.Building.{AreTablesOf, AreProductsOf, IsForCover, HasLevelCounts, IsDiagramOf, IsDiagramFor, functions_of}
 use Rattle.order_model.proofs.Functions.Tables.{same_sym}
 
--- what an answer has, if it is Ok, where two facts hold of it
-pub ok_both : {A E : Type 0} (P Q R : A → Type 0) (r : Result A E) → IfOk r P → IfOk r Q → ((x : A) → P x → Q x → R x) → IfOk r R
-ok_both P Q R (Ok x) p q h = h x p q
-ok_both P Q R (Err e) p q h = tt
+-- a reduced diagram has the level counts, and the functions of tables are those that the tables were made of
+abbrev pub CountsLevels : Type 0
+CountsLevels = (n : ℕ) (F : List Function) (order : List ℕ) (d : Graph) → IsOrder n order → Represents n F order d → IsReduced d → HasLevelCounts n F order d
 
--- a diagram of a cover's truth tables is one of the cover's functions
-pub tables_diagram : (keep : (n : ℕ) (F : List Function) → AllZip (SameFunction n) (map from_table (map (table n) F)) F) (cover : NamedCover) (t : TruthTables) (order : List ℕ) (d : Graph) → AreTablesOf cover t
-    → Represents t.inputs (functions t) order d → Represents cover.inputs (functions_of cover) order d
-tables_diagram keep cover t order d are h =
-    represents_same cover.inputs (map from_table (map (table cover.inputs) (functions_of cover))) (functions_of cover) order d (keep cover.inputs (functions_of cover))
-    (subst (λ (ts : List (List Bool)). Represents cover.inputs (map from_table ts) order d) are.tables (subst (λ n. Represents n (functions t) order d) are.inputs h))
+abbrev pub KeepsFunctions : Type 0
+KeepsFunctions = (n : ℕ) (F : List Function) → AllZip (SameFunction n) (map from_table (map (table n) F)) F
+
+-- the diagram of a cover's truth tables is that of the cover's functions
+pub tables_diagram : CountsLevels → KeepsFunctions → (cover : NamedCover) (t : TruthTables) (order : List ℕ) (d : OrderedGraph) → AreTablesOf cover t → IsOrder cover.inputs order
+    → IsDiagramOf t.inputs (functions t) order d → IsDiagramOf cover.inputs (functions_of cover) order d
+tables_diagram counts keep cover t order d are is h =
+    let rep : Represents cover.inputs (functions_of cover) order d.graph =
+    represents_same cover.inputs (map from_table (map (table cover.inputs) (functions_of cover))) (functions_of cover) order d.graph (keep cover.inputs (functions_of cover))
+    (subst (λ (ts : List (List Bool)). Represents cover.inputs (map from_table ts) order d.graph) are.tables (subst (λ n. Represents n (functions t) order d.graph) are.inputs h.diagram)) in
+    record { order = h.order; diagram = rep; reduced = h.reduced; levels = counts cover.inputs (functions_of cover) order d.graph is rep h.reduced }
 
 -- ---- the functions of a store for a cover
 
@@ -62,12 +68,17 @@ store_functions b cover plan is =
     (subst (λ n. SameFunction n (from_table (get_or t.tables j [])) (product_function cover.products j)) is.inputs
     (same_sym t.inputs (product_function cover.products j) (output_at t j) (products_same cover b.kind t is.kind plan.terms is.inputs is.outputs j low)))))
 
--- a diagram of such a store is one of the cover's functions
-pub store_diagram : (b : Plan) (cover : NamedCover) (order : List ℕ) (d : Graph) → IsPlan b → IsForCover b cover → order_of b ≡ order
-    → Represents (levels_of b) (functions b.problem.value) (order_of b) d → Represents cover.inputs (functions_of cover) order d
-store_diagram b cover order d plan is same h =
-    represents_same cover.inputs (functions b.problem.value) (functions_of cover) order d (store_functions b cover plan is)
-    (subst (λ xs. Represents cover.inputs (functions b.problem.value) xs d) same (subst (λ n. Represents n (functions b.problem.value) (order_of b) d) (sym plan.inputs ∙ is.inputs) h))
+-- the order of such a store is one of the cover's inputs
+pub store_order : (b : Plan) (cover : NamedCover) (order : List ℕ) → IsPlan b → IsForCover b cover → order_of b ≡ order → IsOrder cover.inputs order
+store_order b cover order plan is same = subst (λ xs. IsOrder cover.inputs xs) same (subst (λ n. IsOrder n (order_of b)) (sym plan.inputs ∙ is.inputs) plan.order.order)
+
+-- the diagram of such a store is that of the cover's functions
+pub store_diagram : CountsLevels → (b : Plan) (cover : NamedCover) (order : List ℕ) (d : OrderedGraph) → IsPlan b → IsForCover b cover → order_of b ≡ order → IsDiagramFor b d → IsDiagramOf cover.inputs (functions_of cover) order d
+store_diagram counts b cover order d plan is same h =
+    let at : IsDiagramOf cover.inputs (functions b.problem.value) order d =
+    subst (λ xs. IsDiagramOf cover.inputs (functions b.problem.value) xs d) same (subst (λ n. IsDiagramOf n (functions b.problem.value) (order_of b) d) (sym plan.inputs ∙ is.inputs) h) in
+    let rep : Represents cover.inputs (functions_of cover) order d.graph = represents_same cover.inputs (functions b.problem.value) (functions_of cover) order d.graph (store_functions b cover plan is) at.diagram in
+    record { order = at.order; diagram = rep; reduced = at.reduced; levels = counts cover.inputs (functions_of cover) order d.graph (store_order b cover order plan is same) rep at.reduced }
 
 -- ---- a store made for a cover
 
@@ -76,7 +87,7 @@ unfolding product_functions
 outputs_are cover t are = ap length are.tables ∙ (length-map (functions_of cover) (table cover.inputs) ∙ length-map-range_with_len (product_function cover.products) 0 cover.outputs)
 
 -- the cover's terms give the functions of its truth tables
-pub terms_give : (keep : (n : ℕ) (F : List Function) → AllZip (SameFunction n) (map from_table (map (table n) F)) F) (cover : NamedCover) (t : TruthTables) (terms : List Term) → AreTablesOf cover t
+pub terms_give : KeepsFunctions → (cover : NamedCover) (t : TruthTables) (terms : List Term) → AreTablesOf cover t
     → map (product_of cover.inputs cover.outputs) terms ≡ cover.products → (j : ℕ) → j < outputs_of t → SameFunction t.inputs (product_function (products_of t terms) j) (output_at t j)
 unfolding output_at product_functions
 terms_give keep cover t terms are same j low =

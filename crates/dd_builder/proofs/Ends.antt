@@ -2,7 +2,7 @@
 use Rattle.std.proofs.Common.{◌≡◌, ◌≢◌, ℕ, zero, suc, ◌+◌, ◌-◌, ◌%◌, ◌<◌, ◌≤◌, ◌⊎◌, inl, inr, Some, Result, List, [], ◌∷◌, ◌++◌, length, slice_get, slice_index, refl, sym, ap, ◌∙◌, arith, subst}
 use Rattle.std.proofs.lemmas.Option.{slice_get_within}
 use Rattle.unique_table.specs.Sessions.{StoreId, Knowledge, Follows, HasPiece, depth_in}
-use Rattle.dd_builder.specs.Parts.{HasPart, HasShare, HasAllParts, IsEndOf, AreEndsOf, part_level}
+use Rattle.dd_builder.specs.Parts.{HasPart, HasShare, KnowsParts, IsEndOf, AreEndsOf, part_level}
 use Rattle.std.proofs.lemmas.Bool.{cases_lt}
 
 -- ---- parts
@@ -17,26 +17,26 @@ part_follows s s' q f h =
 pub part_made : (s : Knowledge) (store : StoreId) (q id : ℕ) → s.store ≡ store → HasPiece s q id → (known : (2 ≤ id → slice_index s.seen (id - 2) ≡ 0 → ⊥)) → part_level store.plan ≤ depth_in s id → HasPart s q
 part_made s store q id same piece known level = record { id = id; piece = piece; known = known; level = subst (λ (z : StoreId). part_level z.plan ≤ depth_in s id) (sym same) level }
 
-pub parts_follow : (s s' : Knowledge) → Follows s s' → HasAllParts s → HasAllParts s'
-parts_follow s s' f h q low = part_follows s s' q f (h q (subst (λ (z : StoreId). q < z.plan.roots) f.store low))
+pub parts_follow : (s s' : Knowledge) (store : StoreId) → Follows s s' → KnowsParts store s → KnowsParts store s'
+parts_follow s s' store f h = record { same = f.store ∙ h.same; parts = λ q low. part_follows s s' q f (h.parts q (subst (λ (z : StoreId). q < z.plan.roots) f.store low)) }
 
 -- a part stays published
-pub part_there : (s s' : Knowledge) (store : StoreId) (q : ℕ) → s.store ≡ store → Follows s s' → HasAllParts s → q < store.plan.roots → slice_index s'.pieces q ≡ 0 → ⊥
-part_there s s' store q same f h low empty =
-    let p = (h q (subst (λ (z : StoreId). q < z.plan.roots) (sym same) low)).piece in
+pub part_there : (s s' : Knowledge) (store : StoreId) (q : ℕ) → Follows s s' → KnowsParts store s → q < store.plan.roots → slice_index s'.pieces q ≡ 0 → ⊥
+part_there s s' store q f h low empty =
+    let p = (h.parts q (subst (λ (z : StoreId). q < z.plan.roots) (sym h.same) low)).piece in
     let stays : slice_index s'.pieces q ≡ slice_index s.pieces q = f.pieces q (λ z. omega arith) in
     omega arith
 
 -- the id that is collected stands where the part does
-pub part_found : (s s' : Knowledge) (store : StoreId) (q id : ℕ) → s.store ≡ store → Follows s s' → HasAllParts s → q < store.plan.roots → HasPiece s' q id → part_level store.plan ≤ depth_in s' id
-part_found s s' store q id same f h low there =
-    let part = h q (subst (λ (z : StoreId). q < z.plan.roots) (sym same) low) in
+pub part_found : (s s' : Knowledge) (store : StoreId) (q id : ℕ) → Follows s s' → KnowsParts store s → q < store.plan.roots → HasPiece s' q id → part_level store.plan ≤ depth_in s' id
+part_found s s' store q id f h low there =
+    let part = h.parts q (subst (λ (z : StoreId). q < z.plan.roots) (sym h.same) low) in
     let old = part.piece in
     let stays : slice_index s'.pieces q ≡ slice_index s.pieces q = f.pieces q (λ z. omega arith) in
     let is : part.id ≡ id = omega arith in
     let d = f.depths part.id part.known in let l = part.level in
     let level : part_level s.store.plan ≤ depth_in s' part.id = omega arith in
-    subst (λ k. part_level store.plan ≤ depth_in s' k) is (subst (λ (z : StoreId). part_level z.plan ≤ depth_in s' part.id) same level)
+    subst (λ k. part_level store.plan ≤ depth_in s' k) is (subst (λ (z : StoreId). part_level z.plan ≤ depth_in s' part.id) h.same level)
 
 -- one more root
 pub root_more : (s s' : Knowledge) (roots output place id : ℕ) → Follows s s' → ((j : ℕ) → j < output → slice_index s.pieces (roots + j) ≢ 0) → place ≡ roots + output → HasPiece s' place id → (j : ℕ) → j < output + 1 → slice_index s'.pieces (roots + j) ≢ 0

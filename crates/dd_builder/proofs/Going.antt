@@ -1,14 +1,19 @@
 -- Sessions that go on, and what ids denote.
 --     stays      a session that does nothing goes on
 --     means_same      an id denotes each function of the same values
+--     makes_same, makes_made      a call makes the id of each function of the same values; a node that is made
 --     function_zero, function_one      the functions of the terminals
-use Rattle.std.proofs.Common.{◌≡◌, ℕ, ◌<◌, true, false, Result, Ok, Err, IfOk, length, sym, refl, ◌∙◌, subst, arith}
+use Rattle.std.proofs.Common.{◌≡◌, ℕ, ◌<◌, true, false, Result, Ok, Err, IfOk, OnErr, length, sym, refl, ◌∙◌, subst, arith}
 use Rattle.order_model.specs.Functions.{Point, Function, SameFunction}
+use Rattle.node_words.specs.Nodes.{IsFullFor}
 use Rattle.node_words.specs.Meaning.{function_of}
 use Rattle.node_words.proofs.Meaning.{value_terminal, depth_terminal}
 use Rattle.unique_table.specs.Plans.{levels_of}
-use Rattle.unique_table.specs.Sessions.{Knowledge, Follows, Knows, Means, function_in, depth_in}
+use Rattle.unique_table.specs.Sessions.{StoreId, Knowledge, Follows, Knows, Means, function_in, depth_in}
+use Rattle.unique_table.specs.declared.store.StoreFull.{StoreFull}
+use Rattle.unique_table.proofs.Following.{follows_trans}
 use Rattle.dd_builder.specs.Building.{KnowsFull}
+use Rattle.dd_builder.specs.Making.{Makes}
 
 pub stays : (s : Knowledge) → Follows s s
 stays s = record {
@@ -59,3 +64,21 @@ full_follows s s' f full p low empty =
 pub ok_same : {A E : Type 0} (P Q : A → Type 0) (r : Result A E) → IfOk r P → ((x : A) → P x → Q x) → IfOk r Q
 ok_same P Q (Ok x) p h = h x p
 ok_same P Q (Err e) p h = tt
+
+-- a session went on, and then made an id that denotes g if it denotes f
+pub makes_same : (s1 s2 s3 : Knowledge) (r : Result ℕ StoreFull) (f g : Function) → Follows s1 s2 → Makes s2 s3 r f → ((id : ℕ) → Means s3 id f → Means s3 id g) → Makes s1 s3 r g
+makes_same s1 s2 s3 r f g on made same = record {
+  follows = follows_trans s1 s2 s3 on made.follows;
+  function = ok_same (λ id. Means s3 id f) (λ id. Means s3 id g) r made.function same;
+  full = made.full;
+}
+
+-- the same of a node that the store made
+pub makes_node : (s1 s2 s3 : Knowledge) (store : StoreId) (r : Result ℕ StoreFull) (f g : Function) (word : ℕ) → Follows s1 s2 → Follows s2 s3 → s2.store ≡ store → IfOk r (λ id. Means s3 id f)
+    → OnErr r (IsFullFor s3.seen store.plan.places word) → ((id : ℕ) → Means s3 id f → Means s3 id g) → Makes s1 s3 r g
+makes_node s1 s2 s3 store (Ok id) f g word on go is m full same = record { follows = follows_trans s1 s2 s3 on go; function = same id m; full = tt }
+makes_node s1 s2 s3 store (Err e) f g word on go is m full same = record {
+  follows = follows_trans s1 s2 s3 on go;
+  function = tt;
+  full = λ p low. (full p (subst (λ (z : StoreId). p < z.plan.places) (go.store ∙ is) low)).0;
+}

@@ -13,7 +13,7 @@ use Rattle.unique_table.specs.declared.plan.PieceKind.{PieceKind}
 use Rattle.unique_table.specs.declared.plan.PieceKind.TheVariants.{Restrictions, Products}
 use Rattle.unique_table.specs.Plans.{order_of, levels_of, variable_at, output_at, fixed, tops, ways, part_function, piece_function, parts_count, IsPlan}
 use Rattle.unique_table.specs.Sessions.{StoreId, Knowledge, Follows, Means, function_in}
-use Rattle.dd_builder.specs.Building.{AreRestrictions, IsForTables}
+use Rattle.dd_builder.specs.Building.{AreRestrictions}
 use Rattle.dd_builder.specs.Paths.{IsPointOf}
 use Rattle.dd_builder.proofs.Going.{means_same, means_at, function_zero, function_one, terminal_known}
 use Rattle.dd_builder.proofs.Combining.{branch_same}
@@ -83,13 +83,13 @@ unfolding piece_function
 part_piece b q short = ap (λ (c : Bool). if c then part_function b.kind (order_of b) b.problem.value q else output_at b.problem.value (q - b.roots)) (lt-ltb q b.roots short)
 
 -- an output with the variables on top fixed is a piece
-pub restriction_piece : (b : Plan) (t : TruthTables) (q count ways' output path : ℕ) → IsForTables b t → q < b.roots → count ≡ length (tops (order_of b)) → ways' ≡ 2 ^ count → output ≡ q / ways' → path ≡ q % ways'
-    → fixed (take count (order_of b)) path (output_at t output) ≡ piece_function b q
-restriction_piece b t q count ways' output path is short top w o r =
+pub restriction_piece : (b : Plan) (q count ways' output path : ℕ) → AreRestrictions b.kind → q < b.roots → count ≡ length (tops (order_of b)) → ways' ≡ 2 ^ count → output ≡ q / ways' → path ≡ q % ways'
+    → fixed (take count (order_of b)) path (output_at b.problem.value output) ≡ piece_function b q
+restriction_piece b q count ways' output path is short top w o r =
     let pow : ways' ≡ ways (order_of b) = w ∙ ap (λ k. 2 ^ k) top in
     let taken : take count (order_of b) ≡ tops (order_of b) = ap (λ k. take k (order_of b)) top ∙ take_taken 2 (order_of b) in
-    (λ i. fixed (taken i) ((r ∙ ap (λ k. q % k) pow) i) (output_at (sym is.problem i) ((o ∙ ap (λ k. q / k) pow) i)))
-    ∙ (sym (part_restriction b.kind (order_of b) b.problem.value q is.kind) ∙ sym (part_piece b q short))
+    (λ i. fixed (taken i) ((r ∙ ap (λ k. q % k) pow) i) (output_at b.problem.value ((o ∙ ap (λ k. q / k) pow) i)))
+    ∙ (sym (part_restriction b.kind (order_of b) b.problem.value q is) ∙ sym (part_piece b q short))
 
 restrictions_count : (kind : PieceKind) (order : List ℕ) (t : TruthTables) → AreRestrictions kind → parts_count kind order t ≡ outputs_of t * ways order
 restrictions_count Restrictions order t is = refl
@@ -107,13 +107,13 @@ pub restriction_at : (b : Plan) (count q output path : ℕ) → IsPlan b → Are
     → q ≡ output * 2 ^ count % 18446744073709551616 + path → fixed (take count (order_of b)) path (output_at b.problem.value output) ≡ piece_function b q
 restriction_at b zero q output path plan is short top few small inside e =
     let here = restriction_inside b 0 path output plan is top short inside in
-    restriction_piece b b.problem.value q 0 1 output path (record { kind = is; problem = refl }) (omega arith) top refl (omega arith) (omega arith)
+    restriction_piece b q 0 1 output path is (omega arith) top refl (omega arith) (omega arith)
 restriction_at b (suc zero) q output path plan is short top few small inside e =
     let here = restriction_inside b 1 path output plan is top short inside in
-    restriction_piece b b.problem.value q 1 2 output path (record { kind = is; problem = refl }) (omega arith) top refl (omega arith) (omega arith)
+    restriction_piece b q 1 2 output path is (omega arith) top refl (omega arith) (omega arith)
 restriction_at b (suc (suc zero)) q output path plan is short top few small inside e =
     let here = restriction_inside b 2 path output plan is top short inside in
-    restriction_piece b b.problem.value q 2 4 output path (record { kind = is; problem = refl }) (omega arith) top refl (omega arith) (omega arith)
+    restriction_piece b q 2 4 output path is (omega arith) top refl (omega arith) (omega arith)
 restriction_at b (suc (suc (suc count))) q output path plan is short top few small inside e = absurd (omega arith)
 
 -- with no variable fixed

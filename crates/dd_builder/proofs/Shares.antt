@@ -1,5 +1,5 @@
 -- Products by the remainders of their numbers.
-use Rattle.std.proofs.Common.{◌≡◌, ◌≢◌, ℕ, zero, suc, ◌+◌, ◌/◌, ◌%◌, ◌<◌, ◌≤◌, Bool, true, false, ◌&&◌, ◌||◌, cond, List, [], ◌∷◌, ◌++◌, length, map, take, get_or, refl, sym, ap, ◌∙◌, arith, ◌⊎◌, inl, inr, eqb, eq-eqb, ne_eqb, zero-add}
+use Rattle.std.proofs.Common.{◌≡◌, ◌≢◌, ℕ, zero, suc, ◌+◌, ◌/◌, ◌%◌, ◌<◌, ◌≤◌, Bool, true, false, ◌&&◌, ◌||◌, cond, List, [], ◌∷◌, ◌++◌, length, map, take, get_or, refl, sym, ap, ◌∙◌, arith, inl, inr, eqb, eq-eqb, ne_eqb, zero-add}
 use Rattle.std.specs.List.{list_any, filter, enumerate_from}
 use Rattle.std.proofs.lemmas.List.{take_more, take_all, length-take, map-append, append-nil}
 use Rattle.std.proofs.lemmas.List.Elements.{filter-append}

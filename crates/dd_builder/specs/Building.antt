@@ -4,17 +4,19 @@
 --     functions_of cover, AreTablesOf cover t      the functions of a cover, and their truth tables
 --     IsForTables b t, IsForCover b cover      what a store was made for
 --     HasLevelCounts n F order d      a diagram has the level counts of the functions
+--     IsDiagramOf n F order d, IsDiagramFor b d      the reduced diagram of some functions under an order, and that of a store's functions
 use Rattle.std.specs.Prelude.{◌≡◌, ◌≢◌, ℕ, ◌<◌, List, map, length, slice_index}
 use Rattle.order_model.specs.Functions.{Function, table}
 use Rattle.order_model.specs.Levels.{level_count}
-use Rattle.order_model.specs.Diagrams.{Graph, nodes_at}
-use Rattle.order_model.specs.Problems.{TruthTables, outputs_of}
+use Rattle.order_model.specs.Diagrams.{Graph, Represents, IsReduced, nodes_at}
+use Rattle.order_model.specs.OrderedGraphs.{OrderedGraph}
+use Rattle.order_model.specs.Problems.{TruthTables, functions, outputs_of}
 use Rattle.order_model.specs.Products.{product_of, product_functions}
 use Rattle.pla_reader.specs.Covers.{NamedCover}
 use Rattle.unique_table.specs.declared.plan.Plan.{Plan}
 use Rattle.unique_table.specs.declared.plan.PieceKind.{PieceKind}
 use Rattle.unique_table.specs.declared.plan.PieceKind.TheVariants.{Restrictions, Products}
-use Rattle.unique_table.specs.Plans.{IsPlan, order_of}
+use Rattle.unique_table.specs.Plans.{IsPlan, order_of, levels_of}
 use Rattle.unique_table.specs.Sessions.{StoreId, Knowledge}
 use Rattle.dd_builder.specs.declared.errors.BuildError.{BuildError}
 use Rattle.dd_builder.specs.declared.errors.BuildError.TheVariants.{StoreFull, OutOfMemory}
@@ -66,3 +68,14 @@ pub record IsForCover (b : Plan) (cover : NamedCover) : Type 0 where
 -- on each level the diagram has as many nodes as the functions' level count
 abbrev pub HasLevelCounts : ℕ → List Function → List ℕ → Graph → Type 0
 HasLevelCounts n F order d = (i : ℕ) → i < length order → nodes_at d (slice_index order i) ≡ level_count n F order i
+
+-- the reduced diagram of the functions under the given order, with their level counts
+pub record IsDiagramOf (n : ℕ) (F : List Function) (given : List ℕ) (d : OrderedGraph) : Type 0 where
+  pub order : d.order ≡ given
+  pub diagram : Represents n F given d.graph
+  pub reduced : IsReduced d.graph
+  pub levels : HasLevelCounts n F given d.graph
+
+-- the same of a store's functions under its order
+abbrev pub IsDiagramFor : Plan → OrderedGraph → Type 0
+IsDiagramFor b d = IsDiagramOf (levels_of b) (functions b.problem.value) (order_of b) d

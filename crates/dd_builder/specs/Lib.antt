@@ -1,4 +1,5 @@
 pub mod Building
+pub mod Making
 pub mod Parts
 pub mod Operating
 pub mod Paths

@@ -1,25 +1,42 @@
 -- Operations on functions, level by level.
 --     IsFrom s from id      a known id that lies at a level or below it
+--     HasNode a b, AreOperands s a b      two ids of which one is a node, and a session that knows them
 --     Settles operation a b id      an operand or a terminal that has the operation's value whatever the functions of the operands are
+--     IsSettled operation a b settled      such an id, if there is one
 --     IsCut s level id low high      an id as a node of a level, with two children below
 --     IsCombined s from operation a b id      the id of an operation, which lies at a level or below it
-use Rattle.std.specs.Prelude.{◌≡◌, ℕ, ◌<◌, ◌≤◌, ◌⊎◌, Bool, true, false}
+use Rattle.std.specs.Prelude.{◌≡◌, ℕ, ◌<◌, ◌≤◌, ◌⊎◌, Bool, true, false, Option, Some, None}
 use Rattle.order_model.specs.Functions.{Point}
 use Rattle.node_words.specs.declared.operation.Operation.{Operation}
-use Rattle.node_words.specs.Entries.{combine, combine_values}
+use Rattle.node_words.specs.Entries.{combine_values}
 use Rattle.node_words.specs.Meaning.{branch}
 use Rattle.unique_table.specs.Plans.{variable_at}
-use Rattle.unique_table.specs.Sessions.{Knowledge, Knows, Means, IsKnownBelow, function_in, depth_in}
+use Rattle.unique_table.specs.Sessions.{Knowledge, Knows, Means, IsKnownBelow, combined_in, function_in, depth_in}
 
 -- a known id that lies at a level or below it
 pub record IsFrom (s : Knowledge) (from id : ℕ) : Type 0 where
   pub known : Knows s id
   pub level : from ≤ depth_in s id
 
+-- one of two ids is a node: they are not both terminals
+abbrev pub HasNode : ℕ → ℕ → Type 0
+HasNode a b = a < 2 → 2 ≤ b
+
+-- two known ids, one of which is a node
+pub record AreOperands (s : Knowledge) (a b : ℕ) : Type 0 where
+  pub first : Knows s a
+  pub second : Knows s b
+  pub node : HasNode a b
+
 -- an operand or a terminal that has the operation's value, whatever values the ids that are no terminals have
 pub record Settles (operation : Operation) (a b id : ℕ) : Type 0 where
   pub value : (v : ℕ → Bool) → v 0 ≡ false → v 1 ≡ true → v id ≡ combine_values operation (v a) (v b)
   pub origin : (id < 2) ⊎ ((id ≡ a) ⊎ (id ≡ b))
+
+-- whether an operation is settled: one of its operands is a node if it isn't
+abbrev pub IsSettled : Operation → ℕ → ℕ → Option ℕ → Type 0
+IsSettled operation a b (Some id) = Settles operation a b id
+IsSettled operation a b None = HasNode a b
 
 -- an id as a node of a level: where the level's variable is 1 it has the high one's function, else the low one's
 pub record IsCut (s : Knowledge) (level id low high : ℕ) : Type 0 where
@@ -30,5 +47,5 @@ pub record IsCut (s : Knowledge) (level id low high : ℕ) : Type 0 where
 
 -- the id of an operation on two ids, which lies at a level or below it
 pub record IsCombined (s : Knowledge) (from : ℕ) (operation : Operation) (a b id : ℕ) : Type 0 where
-  pub means : Means s id (combine operation (function_in s a) (function_in s b))
+  pub means : Means s id (combined_in s operation a b)
   pub level : from ≤ depth_in s id

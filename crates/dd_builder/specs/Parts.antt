@@ -1,6 +1,7 @@
 -- The parts of a store's functions: its pieces that aren't outputs.
 --     IsForTerms b terms, IsSourceFor b source      parts that are made of terms, and of a source
---     HasPart s q, HasAllParts s, HasRoots s      the parts and the outputs whose ids a session knows
+--     HasPart s q, HasRoots s      the parts and the outputs whose ids a session knows
+--     KnowsParts store s      a session of a store that knows all its parts
 --     shares_union b output first count      the union of some parts of an output
 --     AreJobsOf store workers jobs      a job for each worker
 --     HasShare s workers k, IsEndOf store workers k end, AreEndsOf store workers ends      what a worker builds, and how workers end
@@ -54,9 +55,10 @@ pub record HasPart (s : Knowledge) (q : ℕ) : Type 0 where
   pub known : Knows s id
   pub level : part_level s.store.plan ≤ depth_in s id
 
--- the session knows all parts
-abbrev pub HasAllParts : Knowledge → Type 0
-HasAllParts s = (q : ℕ) → q < s.store.plan.roots → HasPart s q
+-- a session of the store, which knows all parts
+pub record KnowsParts (store : StoreId) (s : Knowledge) : Type 0 where
+  pub same : s.store ≡ store
+  pub parts : (q : ℕ) → q < s.store.plan.roots → HasPart s q
 
 -- the session knows the ids of all outputs
 abbrev pub HasRoots : Knowledge → Type 0
@@ -87,5 +89,5 @@ AreEndsOf store workers ends = (k : ℕ) (end : Result Knowledge Knowledge) → 
 
 -- how all workers together end: with all parts, or one of them knowing that the store is full
 abbrev pub IsJoined : StoreId → Result Knowledge Knowledge → Type 0
-IsJoined store (Ok s) = (s.store ≡ store) × HasAllParts s
+IsJoined store (Ok s) = KnowsParts store s
 IsJoined store (Err s) = (s.store ≡ store) × KnowsFull s

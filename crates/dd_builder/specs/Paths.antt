@@ -1,9 +1,17 @@
 -- Paths: the values of the variables of an order, bit i for that of level i.
 --     IsPointOf order path point      the number of the point that a path leads to
-use Rattle.std.specs.Prelude.{◌≡◌, ℕ, ◌^◌, ◌<◌, List, length, slice_index}
+--     output_along b level path output      an output with the variables above a level fixed to the bits of a path
+use Rattle.std.specs.Prelude.{◌≡◌, ℕ, ◌^◌, ◌<◌, List, length, slice_index, take}
 use Rattle.std.specs.Int.{bit_at}
+use Rattle.order_model.specs.Functions.{Function}
+use Rattle.unique_table.specs.declared.plan.Plan.{Plan}
+use Rattle.unique_table.specs.Plans.{order_of, output_at, fixed}
 
 -- the number of a point at which the variable of each level has the path's bit for the level
 pub record IsPointOf (order : List ℕ) (path point : ℕ) : Type 0 where
   pub small : point < 2 ^ length order
   pub bits : (i : ℕ) → i < length order → bit_at point (slice_index order i) ≡ bit_at path i
+
+-- an output of a store with the variables above a level fixed to the bits of a path
+abbrev pub output_along : Plan → ℕ → ℕ → ℕ → Function
+output_along b level path output = fixed (take level (order_of b)) path (output_at b.problem.value output)

@@ -2,11 +2,10 @@
 
 ghost use Rattle.std.specs.Prelude.{◌≡◌, ◌-◌, ◌≤◌, length, IfOk, IfErr};
 ghost use Rattle.std.specs.Thread.{IsSync};
-ghost use Rattle.order_model.specs.Diagrams.{Represents, IsReduced};
 ghost use Rattle.order_model.specs.Problems.{functions};
-ghost use Rattle.unique_table.specs.Plans.{order_of, levels_of};
-ghost use Rattle.dd_builder.specs.Building.{Refuses, RefusesUnder, AreTablesOf, HasLevelCounts, IsForTables, IsForCover, functions_of};
-ghost use Rattle.dd_builder.specs.Parts.{IsSourceFor, HasAllParts, IsEndOf};
+ghost use Rattle.unique_table.specs.Plans.{order_of};
+ghost use Rattle.dd_builder.specs.Building.{Refuses, RefusesUnder, AreTablesOf, IsDiagramOf, IsDiagramFor, IsForTables, IsForCover, functions_of};
+ghost use Rattle.dd_builder.specs.Parts.{IsSourceFor, KnowsParts, IsEndOf};
 
 use crate::errors::BuildError;
 use crate::parts::Source;
@@ -28,14 +27,13 @@ fn finish(
     mut session: Session,
     source: Source<'_>,
 ) -> Result<Diagram, BuildError>
-    requires session { session.store ≡ store }
+    requires session { KnowsParts store session }
     requires source { IsSourceFor store.plan source }
-    requires parts { HasAllParts session }
-    ensures order { IfOk result (λ d. d.order ≡ order_of store.plan) }
-    ensures diagram { IfOk result (λ d. Represents (levels_of store.plan) (functions store.plan.problem.value) (order_of store.plan) d.graph) }
-    ensures reduced { IfOk result (λ d. IsReduced d.graph) }
+    ensures diagram { IfOk result (IsDiagramFor store.plan) }
     ensures refused { IfErr result (Refuses store) }
 {
+    let _plan = store.order();
+    some_diagram_has_the_level_counts();
     let Ok(()) = publish_roots(&store, &mut session, source) else {
         return Err(BuildError::StoreFull(session));
     };
@@ -58,7 +56,7 @@ fn parts_by_workers<R: Threads + Sync, G: Gate>(
 ) -> Result<Session, BuildError>
     requires session { session.store ≡ store.now }
     requires source { IsSourceFor store.now.plan source }
-    ensures parts { IfOk result (λ s. (s.store ≡ store.now) × HasAllParts s) }
+    ensures parts { IfOk result (KnowsParts store.now) }
     ensures refused { IfErr result (Refuses store.now) }
 {
     let count = workers.count();
@@ -96,9 +94,7 @@ fn build_in<R: Threads + Sync, G: Gate>(
 ) -> Result<Diagram, BuildError>
     requires session { session.store ≡ store }
     requires source { IsSourceFor store.plan source }
-    ensures order { IfOk result (λ d. d.order ≡ order_of store.plan) }
-    ensures diagram { IfOk result (λ d. Represents (levels_of store.plan) (functions store.plan.problem.value) (order_of store.plan) d.graph) }
-    ensures reduced { IfOk result (λ d. IsReduced d.graph) }
+    ensures diagram { IfOk result (IsDiagramFor store.plan) }
     ensures refused { IfErr result (Refuses store) }
 {
     let session = parts_by_workers(rt, alloc, &store, session, source, workers, gate)?;
@@ -119,9 +115,7 @@ pub fn from_tables<R: Threads + Sync, G: Gate>(
 ) -> Result<Diagram, BuildError>
     requires session { session.store ≡ store }
     requires tables { IsForTables store.plan tables.now }
-    ensures order { IfOk result (λ d. d.order ≡ order_of store.plan) }
-    ensures diagram { IfOk result (λ d. Represents (levels_of store.plan) (functions store.plan.problem.value) (order_of store.plan) d.graph) }
-    ensures reduced { IfOk result (λ d. IsReduced d.graph) }
+    ensures diagram { IfOk result (IsDiagramFor store.plan) }
     ensures refused { IfErr result (Refuses store) }
 {
     build_in(
@@ -149,9 +143,7 @@ pub fn from_cover<R: Threads + Sync, G: Gate>(
 ) -> Result<Diagram, BuildError>
     requires session { session.store ≡ store }
     requires cover { IsForCover store.plan cover.now }
-    ensures order { IfOk result (λ d. d.order ≡ order_of store.plan) }
-    ensures diagram { IfOk result (λ d. Represents (levels_of store.plan) (functions store.plan.problem.value) (order_of store.plan) d.graph) }
-    ensures reduced { IfOk result (λ d. IsReduced d.graph) }
+    ensures diagram { IfOk result (IsDiagramFor store.plan) }
     ensures refused { IfErr result (Refuses store) }
 {
     build_in(
@@ -212,17 +204,13 @@ pub fn build_tables<R: Threads + Sync, G: Gate>(
     gate: &G,
 ) -> Result<Diagram, BuildError>
     requires order { length order.now ≡ tables.now.inputs }
-    ensures order { IfOk result (λ d. d.order ≡ order.now) }
-    ensures diagram { IfOk result (λ d. Represents tables.now.inputs (functions tables.now) order.now d.graph) }
-    ensures reduced { IfOk result (λ d. IsReduced d.graph) }
-    ensures levels { IfOk result (λ d. HasLevelCounts tables.now.inputs (functions tables.now) order.now d.graph) }
+    ensures diagram { IfOk result (IsDiagramOf tables.now.inputs (functions tables.now) order.now) }
     ensures refused { IfErr result (RefusesUnder order.now tables.now) }
 {
     let Ok((store, session)) = tables_store(alloc, tables, order) else {
         return Err(BuildError::OutOfMemory);
     };
     let _plan = store.order();
-    some_diagram_has_the_level_counts();
     from_tables(rt, alloc, store, session, tables, workers, gate)
 }
 
@@ -230,7 +218,7 @@ pub fn build_tables<R: Threads + Sync, G: Gate>(
 fn parts_alone(store: &Store, session: Session, source: Source<'_>) -> Result<Session, BuildError>
     requires session { session.store ≡ store.now }
     requires source { IsSourceFor store.now.plan source }
-    ensures parts { IfOk result (λ s. (s.store ≡ store.now) × HasAllParts s) }
+    ensures parts { IfOk result (KnowsParts store.now) }
     ensures refused { IfErr result (Refuses store.now) }
 {
     match build_parts(store, session, 1, 1, source, &NoGate) {
@@ -246,17 +234,13 @@ pub fn build_tables_alone(
     order: &Order,
 ) -> Result<Diagram, BuildError>
     requires order { length order.now ≡ tables.now.inputs }
-    ensures order { IfOk result (λ d. d.order ≡ order.now) }
-    ensures diagram { IfOk result (λ d. Represents tables.now.inputs (functions tables.now) order.now d.graph) }
-    ensures reduced { IfOk result (λ d. IsReduced d.graph) }
-    ensures levels { IfOk result (λ d. HasLevelCounts tables.now.inputs (functions tables.now) order.now d.graph) }
+    ensures diagram { IfOk result (IsDiagramOf tables.now.inputs (functions tables.now) order.now) }
     ensures refused { IfErr result (RefusesUnder order.now tables.now) }
 {
     let Ok((store, session)) = tables_store(alloc, tables, order) else {
         return Err(BuildError::OutOfMemory);
     };
     let _plan = store.order();
-    some_diagram_has_the_level_counts();
     let source = Source::Tables(tables);
     let session = parts_alone(&store, session, source)?;
     finish(alloc, store, session, source)
@@ -279,10 +263,7 @@ pub fn build_from<R: Threads + Sync, G: Gate>(
     requires order { order_of store.plan ≡ order.now }
     requires cover { IsForCover store.plan cover.now }
     requires tables { AreTablesOf cover.now tables.now }
-    ensures order { IfOk result (λ d. d.order ≡ order.now) }
-    ensures diagram { IfOk result (λ d. Represents cover.now.inputs (functions_of cover.now) order.now d.graph) }
-    ensures reduced { IfOk result (λ d. IsReduced d.graph) }
-    ensures levels { IfOk result (λ d. HasLevelCounts cover.now.inputs (functions_of cover.now) order.now d.graph) }
+    ensures diagram { IfOk result (IsDiagramOf cover.now.inputs (functions_of cover.now) order.now) }
     ensures refused { IfErr result (RefusesUnder order.now tables.now) }
 {
     let _plan = store.order();
@@ -314,10 +295,7 @@ pub fn build<R: Threads + Sync, G: Gate>(
 ) -> Result<Diagram, BuildError>
     requires order { length order.now ≡ cover.now.inputs }
     requires tables { AreTablesOf cover.now tables.now }
-    ensures order { IfOk result (λ d. d.order ≡ order.now) }
-    ensures diagram { IfOk result (λ d. Represents cover.now.inputs (functions_of cover.now) order.now d.graph) }
-    ensures reduced { IfOk result (λ d. IsReduced d.graph) }
-    ensures levels { IfOk result (λ d. HasLevelCounts cover.now.inputs (functions_of cover.now) order.now d.graph) }
+    ensures diagram { IfOk result (IsDiagramOf cover.now.inputs (functions_of cover.now) order.now) }
     ensures refused { IfErr result (RefusesUnder order.now tables.now) }
 {
     if has_many_terms(cover) {

@@ -5,7 +5,7 @@ ghost use Rattle.order_model.specs.Problems.{outputs_of};
 ghost use Rattle.order_model.specs.Products.{matches, product_function};
 ghost use Rattle.unique_table.specs.Plans.{levels_of, variable_at, share as share_of, products_of, piece_function};
 ghost use Rattle.unique_table.specs.Sessions.{Knows, Means, Follows, IsKnownBelow, function_in, depth_in};
-ghost use Rattle.dd_builder.specs.Building.{KnowsFull};
+ghost use Rattle.dd_builder.specs.Making.{Makes};
 ghost use Rattle.dd_builder.specs.Parts.{IsForTerms};
 ghost use Rattle.dd_builder.specs.Literals.{with_literal, with_product, product_in};
 
@@ -24,10 +24,8 @@ fn literal_and(
     requires session { session.old.store ≡ store.now }
     requires level { level < levels_of store.now.plan }
     requires id { IsKnownBelow session.old level id }
-    ensures follows { Follows session.old session.new }
-    ensures function { IfOk result (λ made. Means session.new made (with_literal term (variable_at store.now.plan level) (function_in session.new id))) }
+    ensures made { Makes session.old session.new result (with_literal term (variable_at store.now.plan level) (function_in session.new id)) }
     ensures level { IfOk result (λ made. level ≤ depth_in session.new made) }
-    ensures full { OnErr result (KnowsFull session.new) }
 {
     let x = store.order().variables()[usize::from(level)];
     if (term.care >> x) & 1 == 0 {
@@ -43,9 +41,7 @@ fn literal_and(
 /// The id of a term: 1 where all its literals hold.
 fn term_id(store: &Store, session: &mut Session, term: Term) -> Result<NodeId, StoreFull>
     requires session { session.old.store ≡ store.now }
-    ensures follows { Follows session.old session.new }
-    ensures function { IfOk result (λ id. Means session.new id (matches (product_in store.now.plan term))) }
-    ensures full { OnErr result (KnowsFull session.new) }
+    ensures { Makes session.old session.new result (matches (product_in store.now.plan term)) }
 {
     let mut level = store.order().len() as u8;
     let mut id = 1;
@@ -68,9 +64,7 @@ fn or_term(
     requires known { Knows session.old id }
     requires output { output < outputs_of store.now.plan.problem.value }
     requires few { output < 16 }
-    ensures follows { Follows session.old session.new }
-    ensures function { IfOk result (λ made. Means session.new made (with_product (product_in store.now.plan term) output (function_in session.new id))) }
-    ensures full { OnErr result (KnowsFull session.new) }
+    ensures { Makes session.old session.new result (with_product (product_in store.now.plan term) output (function_in session.new id)) }
 {
     if (term.outs >> output) & 1 == 0 {
         return Ok(id);
@@ -91,9 +85,7 @@ fn output_share(
     requires output { output < outputs_of store.now.plan.problem.value }
     requires few { output < 16 }
     requires share { share < 64 }
-    ensures follows { Follows session.old session.new }
-    ensures function { IfOk result (λ id. Means session.new id (product_function (share_of share (products_of store.now.plan.problem.value terms.now)) output)) }
-    ensures full { OnErr result (KnowsFull session.new) }
+    ensures { Makes session.old session.new result (product_function (share_of share (products_of store.now.plan.problem.value terms.now)) output) }
 {
     let mut id = 0;
     let mut number = share;
@@ -114,9 +106,7 @@ pub(crate) fn terms_share(
     requires session { session.old.store ≡ store.now }
     requires terms { IsForTerms store.now.plan terms.now }
     requires piece { piece < store.now.plan.roots }
-    ensures follows { Follows session.old session.new }
-    ensures function { IfOk result (λ id. Means session.new id (piece_function store.now.plan piece)) }
-    ensures full { OnErr result (KnowsFull session.new) }
+    ensures { Makes session.old session.new result (piece_function store.now.plan piece) }
 {
     let _plan = store.order();
     output_share(store, session, terms, (piece / 64) as u8, piece % 64)

@@ -1,19 +1,18 @@
 //! Operations on the functions of two ids.
 
 ghost use Rattle.std.specs.Prelude.{◌≡◌, ℕ, ◌+◌, ◌-◌, ◌<◌, ◌≤◌, IfOk, IfSome, IfNone, OnErr, min};
-ghost use Rattle.node_words.specs.Entries.{combine};
 ghost use Rattle.unique_table.specs.Plans.{levels_of};
-ghost use Rattle.unique_table.specs.Sessions.{Knows, Means, Follows, function_in, depth_in};
+ghost use Rattle.unique_table.specs.Sessions.{Knows, Follows, combined_in, depth_in};
 ghost use Rattle.dd_builder.specs.Building.{KnowsFull};
-ghost use Rattle.dd_builder.specs.Operating.{IsFrom, Settles, IsCut, IsCombined};
+ghost use Rattle.dd_builder.specs.Making.{Makes};
+ghost use Rattle.dd_builder.specs.Operating.{AreOperands, IsFrom, IsSettled, IsCut, IsCombined};
 
 use op_cache::{recall, remember};
 use unique_table::{NodeId, Operation, Session, Store, StoreFull};
 
 /// What a conjunction is where an operand is a terminal, or both are one.
 fn settled_and(first: NodeId, second: NodeId) -> Option<NodeId>
-    ensures some { IfSome result (Settles Operation.And first second) }
-    ensures none { IfNone result (first < 2 → 2 ≤ second) }
+    ensures { IsSettled Operation.And first second result }
 {
     if first == 0 || second == 0 {
         Some(0)
@@ -28,8 +27,7 @@ fn settled_and(first: NodeId, second: NodeId) -> Option<NodeId>
 
 /// What a disjunction is where an operand is a terminal, or both are one.
 fn settled_or(first: NodeId, second: NodeId) -> Option<NodeId>
-    ensures some { IfSome result (Settles Operation.Or first second) }
-    ensures none { IfNone result (first < 2 → 2 ≤ second) }
+    ensures { IsSettled Operation.Or first second result }
 {
     if first == 1 || second == 1 {
         Some(1)
@@ -44,8 +42,7 @@ fn settled_or(first: NodeId, second: NodeId) -> Option<NodeId>
 
 /// What an exclusive disjunction is where an operand is 0, or both are one.
 fn settled_xor(first: NodeId, second: NodeId) -> Option<NodeId>
-    ensures some { IfSome result (Settles Operation.Xor first second) }
-    ensures none { IfNone result (first < 2 → 2 ≤ second) }
+    ensures { IsSettled Operation.Xor first second result }
 {
     if first == second {
         Some(0)
@@ -60,8 +57,7 @@ fn settled_xor(first: NodeId, second: NodeId) -> Option<NodeId>
 
 /// What an operation is where no node has to be taken apart.
 fn settled(operation: Operation, first: NodeId, second: NodeId) -> Option<NodeId>
-    ensures some { IfSome result (Settles operation first second) }
-    ensures none { IfNone result (first < 2 → 2 ≤ second) }
+    ensures { IsSettled operation first second result }
 {
     match operation {
         Operation::And => settled_and(first, second),
@@ -89,9 +85,7 @@ fn level_of(store: &Store, session: &mut Session, id: NodeId) -> u8
 /// The higher level of two ids, not both of which are terminals.
 fn top_level(store: &Store, session: &mut Session, first: NodeId, second: NodeId) -> u8
     requires session { session.old.store ≡ store.now }
-    requires first { Knows session.old first }
-    requires second { Knows session.old second }
-    requires node { first < 2 → 2 ≤ second }
+    requires operands { AreOperands session.old first second }
     ensures follows { Follows session.old session.new }
     ensures level { result ≡ min (depth_in session.new first) (depth_in session.new second) }
     ensures few { levels_of store.now.plan ≤ 16 }
@@ -128,9 +122,7 @@ struct Cut {
 /// Takes two ids apart, not both of which are terminals.
 fn take_apart(store: &Store, session: &mut Session, first: NodeId, second: NodeId) -> Cut
     requires session { session.old.store ≡ store.now }
-    requires first { Knows session.old first }
-    requires second { Knows session.old second }
-    requires node { first < 2 → 2 ≤ second }
+    requires operands { AreOperands session.old first second }
     ensures follows { Follows session.old session.new }
     ensures level { (k : ℕ) → k ≤ depth_in session.old first → k ≤ depth_in session.old second → k ≤ result.level }
     ensures few { levels_of store.now.plan ≤ 16 }
@@ -191,9 +183,7 @@ pub fn apply(
 ) -> Result<NodeId, StoreFull>
     requires session { session.old.store ≡ store.now }
     requires known { Knows session.old first × Knows session.old second }
-    ensures follows { Follows session.old session.new }
-    ensures function { IfOk result (λ id. Means session.new id (combine operation (function_in session.new first) (function_in session.new second))) }
-    ensures full { OnErr result (KnowsFull session.new) }
+    ensures { Makes session.old session.new result (combined_in session.new operation first second) }
 {
     apply_from(store, session, operation, first, second, 0)
 }

@@ -3,7 +3,7 @@
 ghost use Rattle.std.specs.Prelude.{◌≡◌, ◌<◌, ◌≤◌, IfOk, OnErr};
 ghost use Rattle.unique_table.specs.Plans.{piece_function};
 ghost use Rattle.unique_table.specs.Sessions.{Means, Follows, depth_in};
-ghost use Rattle.dd_builder.specs.Building.{KnowsFull};
+ghost use Rattle.dd_builder.specs.Making.{Makes};
 ghost use Rattle.dd_builder.specs.Parts.{IsSourceFor, part_level};
 
 use crate::cover_terms::terms_share;
@@ -29,10 +29,8 @@ pub(crate) fn part(
     requires session { session.old.store ≡ store.now }
     requires source { IsSourceFor store.now.plan source }
     requires piece { piece < store.now.plan.roots }
-    ensures follows { Follows session.old session.new }
-    ensures function { IfOk result (λ id. Means session.new id (piece_function store.now.plan piece)) }
+    ensures made { Makes session.old session.new result (piece_function store.now.plan piece) }
     ensures level { IfOk result (λ id. part_level store.now.plan ≤ depth_in session.new id) }
-    ensures full { OnErr result (KnowsFull session.new) }
 {
     match source {
         Source::Tables(tables) => restriction(store, session, tables, piece),

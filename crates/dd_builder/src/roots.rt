@@ -5,7 +5,9 @@ ghost use Rattle.order_model.specs.Problems.{outputs_of};
 ghost use Rattle.unique_table.specs.Plans.{order_of, output_at, piece_function, fixed, tops as tops_of};
 ghost use Rattle.unique_table.specs.Sessions.{Means, Follows, depth_in};
 ghost use Rattle.dd_builder.specs.Building.{KnowsFull, AreRestrictions};
-ghost use Rattle.dd_builder.specs.Parts.{IsSourceFor, AreOfTerms, HasAllParts, HasRoots, part_level, shares_union};
+ghost use Rattle.dd_builder.specs.Making.{Makes};
+ghost use Rattle.dd_builder.specs.Paths.{output_along};
+ghost use Rattle.dd_builder.specs.Parts.{IsSourceFor, AreOfTerms, KnowsParts, HasRoots, part_level, shares_union};
 
 use crate::operations::apply;
 use crate::parts::Source;
@@ -14,8 +16,7 @@ use unique_table::{NodeId, Operation, Session, Store, StoreFull};
 
 /// The id of a part, which the session knows.
 fn part_id(store: &Store, session: &mut Session, piece: usize) -> NodeId
-    requires session { session.old.store ≡ store.now }
-    requires parts { HasAllParts session.old }
+    requires session { KnowsParts store.now session.old }
     requires piece { piece < store.now.plan.roots }
     ensures follows { Follows session.old session.new }
     ensures function { Means session.new result (piece_function store.now.plan piece) }
@@ -36,16 +37,13 @@ fn of_restrictions(
     level: u8,
     path: usize,
 ) -> Result<NodeId, StoreFull>
-    requires session { session.old.store ≡ store.now }
+    requires session { KnowsParts store.now session.old }
     requires kind { AreRestrictions store.now.plan.kind }
-    requires parts { HasAllParts session.old }
     requires output { output < outputs_of store.now.plan.problem.value }
     requires level { level ≤ length (tops_of (order_of store.now.plan)) }
     requires path { path < 2 ^ level }
-    ensures follows { Follows session.old session.new }
-    ensures function { IfOk result (λ id. Means session.new id (fixed (take level (order_of store.now.plan)) path (output_at store.now.plan.problem.value output))) }
+    ensures made { Makes session.old session.new result (output_along store.now.plan level path output) }
     ensures level { IfOk result (λ id. level ≤ depth_in session.new id) }
-    ensures full { OnErr result (KnowsFull session.new) }
 {
     let tops = tops(store.order().variables());
     if level == tops {
@@ -64,15 +62,12 @@ fn of_shares(
     first: usize,
     count: usize,
 ) -> Result<NodeId, StoreFull>
-    requires session { session.old.store ≡ store.now }
+    requires session { KnowsParts store.now session.old }
     requires kind { AreOfTerms store.now.plan.kind }
-    requires parts { HasAllParts session.old }
     requires output { output < outputs_of store.now.plan.problem.value }
     requires some { 1 ≤ count }
     requires inside { first + count ≤ 64 }
-    ensures follows { Follows session.old session.new }
-    ensures function { IfOk result (λ id. Means session.new id (shares_union store.now.plan output first count)) }
-    ensures full { OnErr result (KnowsFull session.new) }
+    ensures { Makes session.old session.new result (shares_union store.now.plan output first count) }
 {
     let _plan = store.order();
     if count == 1 {
@@ -86,13 +81,10 @@ fn of_shares(
 
 /// The id of an output, made of the parts, each of which has the terms of one remainder.
 fn of_all_shares(store: &Store, session: &mut Session, output: u8) -> Result<NodeId, StoreFull>
-    requires session { session.old.store ≡ store.now }
+    requires session { KnowsParts store.now session.old }
     requires kind { AreOfTerms store.now.plan.kind }
-    requires parts { HasAllParts session.old }
     requires output { output < outputs_of store.now.plan.problem.value }
-    ensures follows { Follows session.old session.new }
-    ensures function { IfOk result (λ id. Means session.new id (output_at store.now.plan.problem.value output)) }
-    ensures full { OnErr result (KnowsFull session.new) }
+    ensures { Makes session.old session.new result (output_at store.now.plan.problem.value output) }
 {
     let _plan = store.order();
     of_shares(store, session, output, 0, 64)
@@ -105,13 +97,10 @@ fn root(
     source: Source<'_>,
     output: u8,
 ) -> Result<NodeId, StoreFull>
-    requires session { session.old.store ≡ store.now }
+    requires session { KnowsParts store.now session.old }
     requires source { IsSourceFor store.now.plan source }
-    requires parts { HasAllParts session.old }
     requires output { output < outputs_of store.now.plan.problem.value }
-    ensures follows { Follows session.old session.new }
-    ensures function { IfOk result (λ id. Means session.new id (output_at store.now.plan.problem.value output)) }
-    ensures full { OnErr result (KnowsFull session.new) }
+    ensures { Makes session.old session.new result (output_at store.now.plan.problem.value output) }
 {
     match source {
         Source::Tables(_) => of_restrictions(store, session, output, 0, 0),
@@ -125,9 +114,8 @@ pub(crate) fn publish_roots(
     session: &mut Session,
     source: Source<'_>,
 ) -> Result<(), StoreFull>
-    requires session { session.old.store ≡ store.now }
+    requires session { KnowsParts store.now session.old }
     requires source { IsSourceFor store.now.plan source }
-    requires parts { HasAllParts session.old }
     ensures follows { Follows session.old session.new }
     ensures roots { OnOk result (HasRoots session.new) }
     ensures full { OnErr result (KnowsFull session.new) }

@@ -5,8 +5,9 @@ ghost use Rattle.order_model.specs.Orders.{IsOrder};
 ghost use Rattle.order_model.specs.Problems.{outputs_of};
 ghost use Rattle.unique_table.specs.Plans.{order_of, levels_of, output_at, fixed, piece_function, tops};
 ghost use Rattle.unique_table.specs.Sessions.{Means, Follows, depth_in};
-ghost use Rattle.dd_builder.specs.Building.{KnowsFull, IsForTables};
-ghost use Rattle.dd_builder.specs.Paths.{IsPointOf};
+ghost use Rattle.dd_builder.specs.Building.{IsForTables};
+ghost use Rattle.dd_builder.specs.Making.{Makes};
+ghost use Rattle.dd_builder.specs.Paths.{IsPointOf, output_along};
 
 use order_model::VarIx;
 use truth_table::Tables;
@@ -39,10 +40,8 @@ fn output_below(
     requires output { output < outputs_of tables.now }
     requires level { level ≤ levels_of store.now.plan }
     requires path { path < 2 ^ level }
-    ensures follows { Follows session.old session.new }
-    ensures function { IfOk result (λ id. Means session.new id (fixed (take level (order_of store.now.plan)) path (output_at tables.now output))) }
+    ensures made { Makes session.old session.new result (output_along store.now.plan level path output) }
     ensures level { IfOk result (λ id. level ≤ depth_in session.new id) }
-    ensures full { OnErr result (KnowsFull session.new) }
 {
     let order = store.order().variables();
     if usize::from(level) == order.len() {
@@ -79,10 +78,8 @@ pub(crate) fn restriction(
     requires session { session.old.store ≡ store.now }
     requires tables { IsForTables store.now.plan tables.now }
     requires piece { piece < store.now.plan.roots }
-    ensures follows { Follows session.old session.new }
-    ensures function { IfOk result (λ id. Means session.new id (piece_function store.now.plan piece)) }
+    ensures made { Makes session.old session.new result (piece_function store.now.plan piece) }
     ensures level { IfOk result (λ id. length (tops (order_of store.now.plan)) ≤ depth_in session.new id) }
-    ensures full { OnErr result (KnowsFull session.new) }
 {
     let tops = tops(store.order().variables());
     let ways = 1usize << tops;

@@ -1,8 +1,7 @@
 //! Recalling and remembering the results of operations.
 
-ghost use Rattle.std.specs.Prelude.{◌≡◌, ℕ, ◌^◌, ◌<◌, ◌≤◌, IfSome};
-ghost use Rattle.node_words.specs.Entries.{combine};
-ghost use Rattle.unique_table.specs.Sessions.{Knows, Means, MakesStep, function_in, depth_in};
+ghost use Rattle.std.specs.Prelude.{◌≡◌, ◌^◌, ◌<◌, IfSome};
+ghost use Rattle.unique_table.specs.Sessions.{Knows, Means, MakesStep, LiesNoHigher, combined_in};
 
 use node_words::start;
 use unique_table::{NodeId, Operation, Session, Store};
@@ -35,8 +34,8 @@ pub fn recall(
     requires session { session.old.store ≡ store.now }
     requires known { Knows session.old first × Knows session.old second }
     ensures step { MakesStep session.old session.new 0 }
-    ensures function { IfSome result (λ id. Means session.new id (combine operation (function_in session.new first) (function_in session.new second))) }
-    ensures level { IfSome result (λ id. (k : ℕ) → k ≤ depth_in session.new first → k ≤ depth_in session.new second → k ≤ depth_in session.new id) }
+    ensures function { IfSome result (λ id. Means session.new id (combined_in session.new operation first second)) }
+    ensures level { IfSome result (LiesNoHigher session.new first second) }
 {
     let place = place_of(store.cache_places(), operation, first, second);
     store.entry(session, place, operation, first, second)
@@ -53,7 +52,7 @@ pub fn remember(
 )
     requires session { session.old.store ≡ store.now }
     requires known { Knows session.old first × Knows session.old second }
-    requires function { Means session.old id (combine operation (function_in session.old first) (function_in session.old second)) }
+    requires function { Means session.old id (combined_in session.old operation first second) }
     ensures step { MakesStep session.old session.new 1 }
 {
     let place = place_of(store.cache_places(), operation, first, second);

@@ -2,15 +2,19 @@
 --     StoreId      a store: its table and its plan
 --     Knowledge      a session: its store, the node words and piece words that it knows, and its counts of steps and writes
 --     Knows s id, function_in s id, depth_in s id, Means s id f      the ids that a session knows
+--     combined_in s operation a b      an operation on the functions of two ids
+--     LiesNoHigher s a b id      an id lies no higher than the higher one of two others
 --     HasUniqueIds s      ids that a session knows are equal where they denote the same function
 --     HasPiece s q id      the session knows that the piece has the id
 --     Follows s s'      a session goes on: what it knew it still knows
 --     MakesStep s s' wrote      a session goes on by one step
 --     HasParts s id parts      the level and the children of a node
-use Rattle.std.specs.Prelude.{◌≡◌, ◌≢◌, ℕ, ◌+◌, ◌-◌, ◌<◌, List, slice_index}
+use Rattle.std.specs.Prelude.{◌≡◌, ◌≢◌, ℕ, ◌+◌, ◌-◌, ◌<◌, ◌≤◌, List, slice_index}
 use Rattle.atomic_table.specs.Seated.{TableId}
 use Rattle.order_model.specs.Functions.{Point, Function}
+use Rattle.node_words.specs.declared.operation.Operation.{Operation}
 use Rattle.node_words.specs.declared.words.NodeParts.{NodeParts}
+use Rattle.node_words.specs.Entries.{combine}
 use Rattle.node_words.specs.Nodes.{IsKnown, Grows, node_word}
 use Rattle.node_words.specs.Meaning.{function_of, Denotes, depth, branch}
 use Rattle.unique_table.specs.declared.plan.Plan.{Plan}
@@ -37,6 +41,10 @@ Knows s id = IsKnown s.seen id
 abbrev pub function_in : Knowledge → ℕ → Function
 function_in s id = function_of (order_of s.store.plan) s.seen id
 
+-- an operation on the functions that two known ids denote
+abbrev pub combined_in : Knowledge → Operation → ℕ → ℕ → Function
+combined_in s operation a b = combine operation (function_in s a) (function_in s b)
+
 -- the session knows the id, and it denotes f
 abbrev pub Means : Knowledge → ℕ → Function → Type 0
 Means s id f = Denotes (order_of s.store.plan) s.seen id f
@@ -44,6 +52,10 @@ Means s id f = Denotes (order_of s.store.plan) s.seen id f
 -- the level of a known id; a terminal lies below all levels
 abbrev pub depth_in : Knowledge → ℕ → ℕ
 depth_in s id = depth (levels_of s.store.plan) s.seen id
+
+-- the id lies no higher than the higher one of two others
+abbrev pub LiesNoHigher : Knowledge → ℕ → ℕ → ℕ → Type 0
+LiesNoHigher s a b id = (k : ℕ) → k ≤ depth_in s a → k ≤ depth_in s b → k ≤ depth_in s id
 
 -- the session knows the id, and it lies below the level
 abbrev pub IsKnownBelow : Knowledge → ℕ → ℕ → Type 0

@@ -6,8 +6,7 @@ ghost use Rattle.order_model.specs.Problems.{functions};
 ghost use Rattle.order_model.specs.Functions.{Point};
 ghost use Rattle.node_words.specs.Nodes.{node_word, IsFullFor, IsIdOf};
 ghost use Rattle.node_words.specs.Meaning.{branch};
-ghost use Rattle.unique_table.specs.Sessions.{Knows, IsKnownBelow, Means, Follows, MakesStep, HasParts, HasUniqueIds, function_in, depth_in, HasPiece};
-ghost use Rattle.node_words.specs.Entries.{combine};
+ghost use Rattle.unique_table.specs.Sessions.{Knows, IsKnownBelow, Means, Follows, MakesStep, HasParts, HasUniqueIds, LiesNoHigher, combined_in, function_in, depth_in, HasPiece};
 ghost use Rattle.order_model.specs.Diagrams.{Represents, IsReduced};
 ghost use Rattle.unique_table.specs.Closing.{Lacks};
 
@@ -192,8 +191,8 @@ impl Store {
         requires place { place < self.now.plan.entries }
         requires known { Knows session.old first × Knows session.old second }
         ensures step { MakesStep session.old session.new 0 }
-        ensures function { IfSome result (λ id. Means session.new id (combine operation (function_in session.new first) (function_in session.new second))) }
-        ensures level { IfSome result (λ id. (k : ℕ) → k ≤ depth_in session.new first → k ≤ depth_in session.new second → k ≤ depth_in session.new id) }
+        ensures function { IfSome result (λ id. Means session.new id (combined_in session.new operation first second)) }
+        ensures level { IfSome result (LiesNoHigher session.new first second) }
     {
         let at = self.places + place;
         let seat = &mut session.seat;
@@ -218,7 +217,7 @@ impl Store {
         requires session { session.old.store ≡ self.now }
         requires place { place < self.now.plan.entries }
         requires known { Knows session.old first × Knows session.old second }
-        requires function { Means session.old id (combine operation (function_in session.old first) (function_in session.old second)) }
+        requires function { Means session.old id (combined_in session.old operation first second) }
         ensures step { MakesStep session.old session.new 1 }
     {
         let at = self.places + place;

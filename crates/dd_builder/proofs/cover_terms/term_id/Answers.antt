@@ -24,16 +24,20 @@ loop-level-preserved c =
     let i = c.loop-level.invariant in let inside = i.inside in let some = c.loop-level-test.true in
     let up : c.loop-level.level ≡ c.loop-level.level - 1 + 1 = omega arith in
     record {
-      store = c.literal_and.ensures.follows.store ∙ i.store;
-      follows = follows_trans _ _ _ i.follows c.literal_and.ensures.follows;
+      store = c.literal_and.ensures.made.follows.store ∙ i.store;
+      follows = follows_trans _ _ _ i.follows c.literal_and.ensures.made.follows;
       inside = omega arith;
       deep = c.in_ok-id.ensures.level;
       means = literals_more c.loop-level.session c.literal_and.new.session (order_of c.args.store.now.plan) c.args.term (c.loop-level.level - 1) (variable_at c.args.store.now.plan (c.loop-level.level - 1)) c.loop-level.id c.in_ok-id.id (omega arith) refl i.means.known
-          (subst (λ k. Means c.loop-level.session c.loop-level.id (literals_from (order_of c.args.store.now.plan) c.args.term k)) up i.means) c.literal_and.ensures.follows c.in_ok-id.ensures.function;
+          (subst (λ k. Means c.loop-level.session c.loop-level.id (literals_from (order_of c.args.store.now.plan) c.args.term k)) up i.means) c.literal_and.ensures.made.follows c.in_ok-id.ensures.made.function;
     }
 
-pub returns-clause-function : goal.returns-clause-function
-returns-clause-function c =
+pub returns : goal.returns
+returns c =
     let plan = c.order.ensures.plan in let none = c.loop-level-test.false in
-    term_means c.loop-level.session (order_of c.args.store.now.plan) c.args.term c.args.store.now.plan.problem.value.inputs (outputs_of c.args.store.now.plan.problem.value) c.loop-level.level c.loop-level.id
-    (subst (λ n. IsOrder n (order_of c.args.store.now.plan)) (sym plan.inputs) plan.order.order) (omega arith) c.loop-level.invariant.means
+    record {
+      follows = c.loop-level.invariant.follows;
+      full = tt;
+      function = term_means c.loop-level.session (order_of c.args.store.now.plan) c.args.term c.args.store.now.plan.problem.value.inputs (outputs_of c.args.store.now.plan.problem.value) c.loop-level.level c.loop-level.id
+          (subst (λ n. IsOrder n (order_of c.args.store.now.plan)) (sym plan.inputs) plan.order.order) (omega arith) c.loop-level.invariant.means;
+    }

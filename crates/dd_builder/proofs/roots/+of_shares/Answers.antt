@@ -1,33 +1,34 @@
-use Rattle.std.proofs.Common.{◌≡◌, ◌+◌, ◌-◌, ◌*◌, ◌/◌, ◌∙◌, subst, arith}
+use Rattle.std.proofs.Common.{◌≡◌, ◌+◌, ◌-◌, ◌*◌, ◌/◌, subst, arith}
 use Rattle.unique_table.specs.Plans.{piece_function}
 use Rattle.unique_table.specs.Sessions.{Means}
 use Rattle.unique_table.proofs.Following.{follows_trans}
-use Rattle.dd_builder.proofs.Going.{ok_same}
+use Rattle.dd_builder.proofs.Going.{makes_same}
 use Rattle.dd_builder.proofs.Ends.{parts_follow}
 use Rattle.dd_builder.proofs.Unions.{part_union, halves_union}
 use Rattle.dd_builder.proofs.roots.+of_shares.Goals as goal
 
-pub returns-then-count-eq1-clause-function : goal.returns-then-count-eq1-clause-function
-returns-then-count-eq1-clause-function t c =
-    part_union c.part_id.new.session c.args.store.now.plan c.args.output c.args.first c.args.count c.part_id.result c.if-count-eq1.true
-    (subst (λ k. Means c.part_id.new.session c.part_id.result (piece_function c.args.store.now.plan (k * 64 + c.args.first))) c.from.ensures c.part_id.ensures.function)
+pub returns-then-count-eq1 : goal.returns-then-count-eq1
+returns-then-count-eq1 t c =
+    record {
+      follows = c.part_id.ensures.follows;
+      full = tt;
+      function = part_union c.part_id.new.session c.args.store.now.plan c.args.output c.args.first c.args.count c.part_id.result c.if-count-eq1.true
+          (subst (λ k. Means c.part_id.new.session c.part_id.result (piece_function c.args.store.now.plan (k * 64 + c.args.first))) c.from.ensures c.part_id.ensures.function);
+    }
 
 pub of_shares-requires-2 : goal.of_shares-requires-2
 of_shares-requires-2 t c =
     let some = c.requires.some in let inside = c.requires.inside in let more = c.if-count-eq1.false in (
       omega arith,
       (
-        c.of_shares.ensures.follows.store ∙ c.requires.session,
-        (c.requires.kind, (parts_follow _ _ c.of_shares.ensures.follows c.requires.parts, (c.requires.output, (omega arith, omega arith)))),
+        parts_follow _ _ _ c.of_shares.ensures.follows c.requires.session,
+        (c.requires.kind, (c.requires.output, (omega arith, omega arith))),
       ),
     )
 
-pub returns-clause-follows : goal.returns-clause-follows
-returns-clause-follows t c = follows_trans _ _ _ c.of_shares.ensures.follows (follows_trans _ _ _ c.of_shares-2.ensures.follows c.apply.ensures.follows)
-
-pub returns-clause-function : goal.returns-clause-function
-returns-clause-function t c =
+pub returns : goal.returns
+returns t c =
     let all : c.args.count ≡ c.args.count / 2 + (c.args.count - c.args.count / 2) = omega arith in
-    ok_same _ _ c.apply.result c.apply.ensures.function (λ id m.
+    makes_same _ _ _ c.apply.result _ _ (follows_trans _ _ _ c.of_shares.ensures.follows c.of_shares-2.ensures.follows) c.apply.ensures (λ id m.
     halves_union c.of_shares.new.session c.of_shares-2.new.session c.apply.new.session c.args.store.now.plan c.args.output c.args.first (c.args.count / 2) (c.args.count - c.args.count / 2) c.args.count c.in_ok-lower.lower c.in_ok-upper.upper id
     all c.in_ok-lower.ensures.function c.of_shares-2.ensures.follows c.in_ok-upper.ensures.function c.apply.ensures.follows m)

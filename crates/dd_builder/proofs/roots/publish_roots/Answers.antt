@@ -1,4 +1,4 @@
-use Rattle.std.proofs.Common.{◌≡◌, ◌+◌, sym, ◌∙◌, subst, arith}
+use Rattle.std.proofs.Common.{◌≡◌, ◌+◌, sym, subst, arith}
 use Rattle.unique_table.specs.Sessions.{Means}
 use Rattle.unique_table.proofs.Following.{follows_trans}
 use Rattle.dd_builder.proofs.Ends.{parts_follow, root_more}
@@ -13,12 +13,11 @@ publish-requires-clause-function c =
 
 pub loop-output-preserved : goal.loop-output-preserved
 loop-output-preserved c =
-    let f = follows_trans _ _ _ c.root.ensures.follows c.publish.ensures.follows in
+    let f = follows_trans _ _ _ c.root.ensures.follows c.publish.ensures.step.follows in
     let r = c.roots-roots.ensures.value in let e = c.from.ensures in
     let at : c.roots-roots.result + c.from.result ≡ c.args.store.now.plan.roots + c.loop-output.output = omega arith in
     record {
-      store = f.store ∙ c.loop-output.invariant.store;
       follows = follows_trans _ _ _ c.loop-output.invariant.follows f;
-      parts = parts_follow _ _ f c.loop-output.invariant.parts;
+      parts = parts_follow _ _ _ f c.loop-output.invariant.parts;
       published = root_more c.loop-output.session c.publish.new.session c.args.store.now.plan.roots c.loop-output.output _ c.in_ok-id.id f c.loop-output.invariant.published at c.publish.ensures.stored;
     }

@@ -1,10 +1,10 @@
 use Rattle.std.proofs.Common.{subst}
 use Rattle.unique_table.specs.Plans.{order_of, output_at}
 use Rattle.unique_table.specs.Sessions.{Means}
-use Rattle.dd_builder.proofs.Going.{ok_same}
+use Rattle.dd_builder.proofs.Going.{stays, makes_same}
 use Rattle.dd_builder.proofs.Restricted.{none_fixed}
 use Rattle.dd_builder.proofs.roots.root.Goals as goal
 
-pub returns-in-Tables-clause-function : goal.returns-in-Tables-clause-function
-returns-in-Tables-clause-function c = ok_same _ _ c.of_restrictions.result c.of_restrictions.ensures.function (λ id m.
+pub returns-in-Tables : goal.returns-in-Tables
+returns-in-Tables c = makes_same _ _ _ c.of_restrictions.result _ _ (stays _) c.of_restrictions.ensures.made (λ id m.
     subst (Means c.of_restrictions.new.session id) (none_fixed (order_of c.args.store.now.plan) (output_at c.args.store.now.plan.problem.value c.args.output)) m)

@@ -9,15 +9,15 @@ use Rattle.dd_builder.proofs.workers.build_parts.Goals.{then-piece-from+in-Ok, e
 pub loop-piece-preserved : goal.loop-piece-preserved
 loop-piece-preserved g c = elim c.if-piece-from.branch [
   | then-piece-from+in-Ok w ↦
-      let known = w.in-Ok.ensures.function.known in
-      let published = w.publish.ensures.follows in
-      let same = published.store ∙ (w.part.ensures.follows.store ∙ c.loop-piece.invariant.store) in
+      let known = w.in-Ok.ensures.made.function.known in
+      let published = w.publish.ensures.step.follows in
+      let same = published.store ∙ (w.part.ensures.made.follows.store ∙ c.loop-piece.invariant.store) in
       let d = published.depths w.in-Ok.id known in let l = w.in-Ok.ensures.level in
       let level : part_level c.args.store.now.plan ≤ depth_in w.publish.new.session w.in-Ok.id = omega arith in
       record {
         store = ap (λ (s : Knowledge). s.store) w.session-is ∙ same;
         built = λ q low e. subst (λ (s : Knowledge). HasPart s q) (sym w.session-is)
-            (share_more c.loop-piece.session w.publish.new.session c.loop-piece.piece c.args.workers _ (follows_trans _ _ _ w.part.ensures.follows published) c.loop-piece.invariant.built
+            (share_more c.loop-piece.session w.publish.new.session c.loop-piece.piece c.args.workers _ (follows_trans _ _ _ w.part.ensures.made.follows published) c.loop-piece.invariant.built
             (part_made w.publish.new.session c.args.store.now c.loop-piece.piece w.in-Ok.id same w.publish.ensures.stored (published.knows w.in-Ok.id known) level) q low e);
       }
   | else-piece-from w ↦ record {
