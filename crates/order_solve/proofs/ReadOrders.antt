@@ -4,7 +4,7 @@
 --     order_first, order_accepted      the order that is read
 --     left order mask i      the set below the first i variables of an order
 --     CountedTo, counted_start, counted_next      the level counts, as falls of the cost
-use Rattle.std.proofs.Common.{◌≡◌, ℕ, zero, suc, ◌+◌, ◌-◌, ◌/◌, ◌^◌, ◌<◌, ◌≤◌, inl, inr, true, List, [], ◌∷◌, ◌++◌, map, take, drop, length, get_or, refl, sym, ap, ap₂, ◌∙◌, subst, arith, cond, eq-eqb, ne_eqb}
+use Rattle.std.proofs.Common.{◌≡◌, ℕ, zero, suc, ◌+◌, ◌-◌, ◌^◌, ◌<◌, ◌≤◌, inl, inr, true, List, [], ◌∷◌, ◌++◌, map, take, drop, length, get_or, refl, sym, ap, ap₂, ◌∙◌, subst, arith, cond, eq-eqb, ne_eqb}
 use Rattle.std.specs.List.{range_with_len}
 use Rattle.std.proofs.Math.Seq.{drop-cons}
 use Rattle.std.proofs.Math.Nat.{two-pow-succ}
@@ -12,7 +12,6 @@ use Rattle.std.proofs.lemmas.Bool.{cases_eq}
 use Rattle.std.proofs.lemmas.Cmp.{nat_eq_equiv}
 use Rattle.std.proofs.lemmas.Map.Made.{length-from_same_keys}
 use Rattle.std.proofs.lemmas.Nat.{zero_from_ones}
-use Rattle.std.proofs.lemmas.Nat.Bits.{ones_shr}
 use Rattle.std.proofs.lemmas.List.{append_assoc, append-nil}
 use Rattle.std.proofs.lemmas.List.FromFn.{length-range_with_len, map-range_with_len_more}
 use Rattle.order_model.specs.Functions.{Function}
@@ -26,7 +25,7 @@ use Rattle.order_model.specs.OrderFaults.{Accepts}
 use Rattle.order_model.specs.Diagrams.{IsFirstKeeping}
 use Rattle.order_model.proofs.Lists.Orders.{has_at}
 use Rattle.order_model.proofs.Widths.Recurrence.{distinct_variables, distinct_without, length_without}
-use Rattle.order_model.proofs.Bits.Masks.{distinct_members, members_without, members_full, all_ones}
+use Rattle.order_model.proofs.Bits.Masks.{distinct_members, members_without, members_full}
 use Rattle.order_model.proofs.Widths.Cells.{members_zero, cell_member}
 use Rattle.order_model.proofs.Precedence.MaskLaws.{member_bit}
 use Rattle.order_model.proofs.Precedence.Greedy.{pow_le_bit}

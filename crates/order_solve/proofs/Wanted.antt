@@ -28,8 +28,8 @@ use Rattle.order_model.proofs.Bits.Ones.{ones-members}
 use Rattle.layer_core.specs.Settings.{Setting}
 use Rattle.order_solve.specs.Needs.{affordable, needed}
 use Rattle.order_solve.specs.Gains.{width_count, widths_for}
-use Rattle.order_solve.proofs.Filters.{filter_twice, filter_none, sum_map}
-use Rattle.order_model.proofs.Lists.Ranges.{filter_same}
+use Rattle.order_solve.proofs.Filters.{filter_none, sum_map}
+use Rattle.order_model.proofs.Lists.Ranges.{filter_same, filter_twice}
 
 -- whether a variable is a member without which the cost is within the bound
 pub is_affordable : CostsOf → ℕ → ℕ → ℕ → Bool

@@ -1,15 +1,19 @@
 -- What the workers of a layer are lent.
 --     BenchOf, bench_with problem pairs bound layer before      what the cells are for, the layer, and the costs of the layer before
 --     setting_with problem pairs bound      what the cells are for
+--     AreCells t masks cells      the cells of some sets
 --     AreCostsFor t costs, IsLayerFor t size costs      the costs are the definition's; the costs and the cells of the layer of a size are
+--     CanFollow t size costs      the layer of a size may be done after the one of some costs
 --     IsBench b      the costs are the definition's, and the layer is the one after theirs
-use Rattle.std.specs.Prelude.{◌≡◌, ℕ, ◌+◌, ◌^◌, ◌<◌, ◌≤◌}
+use Rattle.std.specs.Prelude.{◌≡◌, ℕ, ◌+◌, ◌^◌, ◌<◌, ◌≤◌, List, map}
 use Rattle.order_model.specs.Problems.{TruthTables, functions}
 use Rattle.order_model.specs.KeptPairs.{KeptPairs}
 use Rattle.order_model.specs.Widths.{essential_mask}
 use Rattle.subset_layers.specs.Layers.{LayerOf, layer_with}
 use Rattle.subset_layers.specs.Costs.{CostsOf, AreTrueCosts, AreTrueCells}
-use Rattle.layer_core.specs.Settings.{Setting}
+use Rattle.subset_layers.specs.declared.costs.Cell.{Cell}
+use Rattle.layer_core.specs.Pairing.{pair_of}
+use Rattle.layer_core.specs.Settings.{Setting, cell_for}
 
 -- what the cells are for, the layer, and the costs of the layer before
 pub record BenchOf : Type 0 where
@@ -23,6 +27,10 @@ setting_with problem pairs bound = record { problem = problem; pairs = pairs; bo
 abbrev pub bench_with : TruthTables → KeptPairs → ℕ → LayerOf → CostsOf → BenchOf
 bench_with problem pairs bound layer before = record { setting = setting_with problem pairs bound; layer = layer; before = before }
 
+-- the cells of some sets, in their order
+abbrev pub AreCells : Setting → List ℕ → List Cell → Type 0
+AreCells t masks cells = map pair_of cells ≡ map (cell_for t) masks
+
 -- the costs are the definition's for the setting
 abbrev pub AreCostsFor : Setting → CostsOf → Type 0
 AreCostsFor t costs = AreTrueCosts t.problem.inputs (functions t.problem) t.pairs.pairs t.bound costs
@@ -33,6 +41,14 @@ pub record IsLayerFor (t : Setting) (size : ℕ) (costs : CostsOf) : Type 0 wher
   pub size_is : costs.size ≡ size
   pub costs_are : AreCostsFor t costs
   pub cells_are : AreTrueCells t.problem.inputs (functions t.problem) t.pairs.pairs t.bound costs
+
+-- the costs are those of the layer before the one of a size
+pub record CanFollow (t : Setting) (size : ℕ) (costs : CostsOf) : Type 0 where
+  pub pairs : t.pairs.inputs ≡ t.problem.inputs
+  pub inputs : costs.inputs ≡ t.problem.inputs
+  pub size_is : size ≡ costs.size + 1
+  pub room : t.bound + 1 < 2 ^ 32
+  pub costs_are : AreCostsFor t costs
 
 -- the layer is the one after the costs', which are the definition's
 pub record IsBench (b : BenchOf) : Type 0 where

@@ -3,3 +3,4 @@ pub mod Needs
 pub mod Gains
 pub mod Placed
 pub mod Bounded
+pub mod Solutions

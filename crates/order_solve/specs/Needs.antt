@@ -1,13 +1,19 @@
 -- The variables whose widths the cell of a set takes.
+--     IsInNextLayer costs mask      a set of the layer after the one of some costs
 --     affordable costs bound mask      the members of a set without which the cost is within the bound
 --     needed t mask      the mask of the members whose widths the cell of a set takes
-use Rattle.std.specs.Prelude.{ℕ, List, nat_le}
+use Rattle.std.specs.Prelude.{ℕ, ◌+◌, List, IsTrue, nat_le}
 use Rattle.std.specs.List.{filter}
-use Rattle.order_model.specs.Orders.{members, mask_of}
+use Rattle.order_model.specs.Orders.{has, members, mask_of}
 use Rattle.order_model.specs.Problems.{functions}
 use Rattle.order_model.specs.Cells.{wanted}
+use Rattle.subset_layers.specs.Layers.{layer_with, masks_of}
 use Rattle.subset_layers.specs.Costs.{CostsOf, cost_without}
 use Rattle.layer_core.specs.Settings.{Setting}
+
+-- a set of the layer after the one of some costs
+abbrev pub IsInNextLayer : CostsOf → ℕ → Type 0
+IsInNextLayer costs mask = IsTrue (has (masks_of (layer_with costs.inputs (costs.size + 1))) mask)
 
 -- the members of a set without which the cost is within the bound
 unfoldable pub affordable : CostsOf → ℕ → ℕ → List ℕ

@@ -1,14 +1,14 @@
 //! The cells of all sets.
 
-ghost use Rattle.std.specs.Prelude.{◌≡◌, ◌+◌, ◌<◌, ◌≤◌, ◌^◌, IfOk, length};
+ghost use Rattle.std.specs.Prelude.{◌≡◌, ◌+◌, ◌<◌, ◌≤◌, ◌^◌, IfOk};
 ghost use Rattle.order_model.specs.Problems.{functions};
-ghost use Rattle.order_model.specs.Cells.{cell_cost};
 ghost use Rattle.order_model.specs.Widths.{essential_mask};
 ghost use Rattle.layer_core.specs.Settings.{cell_for};
 ghost use Rattle.layer_core.specs.Pairing.{pair_of};
 ghost use Rattle.order_solve.specs.Needs.{needed};
+ghost use Rattle.order_solve.specs.Solutions.{cost_for};
 ghost use Rattle.order_solve.specs.Benches.{setting_with, IsLayerFor};
-ghost use Rattle.order_solve.specs.Bounded.{AreLayersFor};
+ghost use Rattle.order_solve.specs.Bounded.{AreAllLayers};
 
 use crate::alone::layers_alone;
 use crate::layering::next_layer;
@@ -53,8 +53,7 @@ pub(crate) fn layers_of<R: Threads + Sync, G: Gate>(
 ) -> Result<Vec<Costs>, AllocError>
     requires pairs { pairs.now.inputs ≡ problem.now.inputs }
     requires room { bound + 1 < 2 ^ 32 }
-    ensures many { IfOk result (λ v. length v.items ≡ problem.now.inputs + 1) }
-    ensures layers { IfOk result (λ v. AreLayersFor (setting_with problem.now pairs.now bound) v.items) }
+    ensures { IfOk result (λ v. AreAllLayers (setting_with problem.now pairs.now bound) v.items) }
 {
     let beginning = Beginning::of(alloc, problem)?;
     let mut layers = Vec::new(alloc);
@@ -157,7 +156,7 @@ impl<'a> AllCells<'a> {
     /// The cost of a set.
     pub fn cost(&self, mask: Mask) -> u32
         requires { mask < 2 ^ self.now.problem.inputs }
-        ensures { result ≡ cell_cost self.now.problem.inputs (functions self.now.problem) self.now.pairs.pairs self.now.bound mask }
+        ensures { result ≡ cost_for self.now mask }
     {
         self.layer(mask.count_ones()).cost_of(mask).unwrap()
     }

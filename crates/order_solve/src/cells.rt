@@ -1,10 +1,9 @@
 //! The cells of a block's sets.
 
-ghost use Rattle.std.specs.Prelude.{◌≡◌, ◌+◌, ◌^◌, ◌<◌, ◌≤◌, length, map, IfOk, OnOk};
+ghost use Rattle.std.specs.Prelude.{◌≡◌, ◌+◌, ◌^◌, ◌<◌, ◌≤◌, length, IfOk, OnOk};
 ghost use Rattle.compaction.specs.Rows.{AreMembers, AreRows, wanted_count};
 ghost use Rattle.subset_layers.specs.Layers.{layer_of, block_masks};
-ghost use Rattle.layer_core.specs.Settings.{cell_for};
-ghost use Rattle.layer_core.specs.Pairing.{pair_of};
+ghost use Rattle.order_solve.specs.Benches.{AreCells};
 ghost use Rattle.order_solve.specs.Gains.{widths_for};
 
 use crate::bench::Bench;
@@ -45,7 +44,7 @@ pub fn cells_of_block(
 ) -> Result<Vec<Cell>, AllocError>
     requires layer { layer_of block.now ≡ bench.now.layer }
     requires room { tally.old + widths_for bench.now.setting (block_masks block.now) ≤ 2 ^ 32 }
-    ensures cells { IfOk result (λ v. map pair_of v.items ≡ map (cell_for bench.now.setting) (block_masks block.now)) }
+    ensures cells { IfOk result (λ v. AreCells bench.now.setting (block_masks block.now) v.items) }
     ensures tally { OnOk result (tally.new ≡ tally.old + widths_for bench.now.setting (block_masks block.now)) }
 {
     let _few = bench.problem.inputs();

@@ -1,11 +1,9 @@
 //! The cells of a layer by workers.
 
-ghost use Rattle.std.specs.Prelude.{◌≡◌, ◌≤◌, ◌+◌, ◌^◌, ◌<◌, All, IfOk, map, vec_len};
+ghost use Rattle.std.specs.Prelude.{◌≡◌, ◌≤◌, All, IfOk, vec_len};
 ghost use Rattle.std.specs.Thread.{IsSync};
 ghost use Rattle.subset_layers.specs.Layers.{masks_of};
-ghost use Rattle.layer_core.specs.Settings.{cell_for};
-ghost use Rattle.layer_core.specs.Pairing.{pair_of};
-ghost use Rattle.order_solve.specs.Benches.{AreCostsFor, setting_with, IsLayerFor};
+ghost use Rattle.order_solve.specs.Benches.{AreCells, CanFollow, setting_with, IsLayerFor};
 
 use crate::alone::cells_alone;
 use crate::bench::Bench;
@@ -110,7 +108,7 @@ fn cells_of_layer<R: Threads + Sync, G: Gate>(
     workers: Workers,
     gate: &G,
 ) -> Result<Vec<Cell>, AllocError>
-    ensures { IfOk result (λ v. map pair_of v.items ≡ map (cell_for bench.now.setting) (masks_of bench.now.layer)) }
+    ensures { IfOk result (λ v. AreCells bench.now.setting (masks_of bench.now.layer) v.items) }
 {
     let (board, seats) = Board::new(
         alloc,
@@ -144,11 +142,7 @@ pub fn next_layer<R: Threads + Sync, G: Gate>(
     gate: &G,
 ) -> Result<Costs, AllocError>
     requires beginning { beginning.now ≡ problem.now }
-    requires pairs { pairs.now.inputs ≡ problem.now.inputs }
-    requires inputs { before.now.inputs ≡ problem.now.inputs }
-    requires size { size ≡ before.now.size + 1 }
-    requires room { bound + 1 < 2 ^ 32 }
-    requires costs { AreCostsFor (setting_with problem.now pairs.now bound) before.now }
+    requires before { CanFollow (setting_with problem.now pairs.now bound) size before.now }
     ensures { IfOk result (IsLayerFor (setting_with problem.now pairs.now bound) size) }
 {
     let layer = Layer::of(alloc, problem.inputs(), size)?;

@@ -1,13 +1,10 @@
 //! What a certificate lists of the cells, and how many widths they take.
 
-ghost use Rattle.std.specs.Prelude.{◌≡◌, ◌<◌, ◌≤◌, ℕ, map, count_ones, IfOk, List};
+ghost use Rattle.std.specs.Prelude.{◌≡◌, ◌<◌, ◌≤◌, ℕ, count_ones, IfOk, List};
 ghost use Rattle.order_model.specs.Functions.{Function};
 ghost use Rattle.order_model.specs.Orders.{members};
-ghost use Rattle.order_model.specs.Problems.{functions};
 ghost use Rattle.order_model.specs.Widths.{essential_mask, essentials_outside};
-ghost use Rattle.order_model.specs.Cells.{widths_taken};
-ghost use Rattle.order_model.specs.Certificates.{least_listed, listed_masks};
-ghost use Rattle.order_model.specs.Listed.{listed};
+ghost use Rattle.order_solve.specs.Solutions.{AreListedFor, widths_for_all};
 
 use crate::all_cells::AllCells;
 use order_model::{ListedCell, Mask};
@@ -28,7 +25,7 @@ pub fn listed_cells(
     total: u32,
 ) -> Result<Vec<ListedCell>, AllocError>
     requires { total ≤ cells.now.bound }
-    ensures { IfOk result (λ v. map listed v.items ≡ map (least_listed cells.now.problem.inputs (functions cells.now.problem) cells.now.pairs.pairs) (listed_masks cells.now.problem.inputs (functions cells.now.problem) cells.now.pairs.pairs total)) }
+    ensures { IfOk result (λ v. AreListedFor cells.now total v.items) }
 {
     let essential = cells.essential();
     let mut found = Vec::new(alloc);
@@ -44,7 +41,7 @@ pub fn listed_cells(
 
 /// How many widths the cells of all sets take.
 pub fn count_widths(cells: &AllCells<'_>) -> u64
-    ensures { result ≡ widths_taken cells.now.problem.inputs (functions cells.now.problem) cells.now.pairs.pairs cells.now.bound }
+    ensures { result ≡ widths_for_all cells.now }
 {
     let mut count = 0;
     for number in 1..1u32 << cells.inputs() {

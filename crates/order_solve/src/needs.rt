@@ -1,12 +1,12 @@
 //! The variables whose widths the cell of a set takes.
 
-ghost use Rattle.std.specs.Prelude.{◌≡◌, ◌+◌, ◌<◌, List, map, IfOk, IsTrue};
+ghost use Rattle.std.specs.Prelude.{◌≡◌, ◌<◌, List, map, IfOk};
 ghost use Rattle.order_model.specs.Functions.{Function};
-ghost use Rattle.order_model.specs.Orders.{has, mask_of};
+ghost use Rattle.order_model.specs.Orders.{mask_of};
 ghost use Rattle.order_model.specs.Cells.{wanted};
-ghost use Rattle.subset_layers.specs.Layers.{layer_of, layer_with, masks_of, block_masks};
+ghost use Rattle.subset_layers.specs.Layers.{layer_of, block_masks};
 ghost use Rattle.subset_layers.specs.Costs.{AreTrueCosts};
-ghost use Rattle.order_solve.specs.Needs.{affordable, needed};
+ghost use Rattle.order_solve.specs.Needs.{IsInNextLayer, affordable, needed};
 
 use crate::bench::Bench;
 use order_model::{Mask, Pairs};
@@ -15,7 +15,7 @@ use subset_layers::{Block, Costs};
 
 /// The members of a set without which the cost is within the bound.
 fn affordable_members(mask: Mask, costs: &Costs, bound: u32) -> Mask
-    requires { IsTrue (has (masks_of (layer_with costs.now.inputs (costs.now.size + 1))) mask) }
+    requires { IsInNextLayer costs.now mask }
     ensures { result ≡ mask_of (affordable costs.now bound mask) }
 {
     let mut found: Mask = 0;
@@ -32,7 +32,7 @@ fn affordable_members(mask: Mask, costs: &Costs, bound: u32) -> Mask
 
 /// The members of a set whose widths its cell takes.
 pub fn needed_members(mask: Mask, costs: &Costs, pairs: &Pairs, bound: u32) -> Mask
-    requires next { IsTrue (has (masks_of (layer_with costs.now.inputs (costs.now.size + 1))) mask) }
+    requires next { IsInNextLayer costs.now mask }
     requires inputs { pairs.now.inputs ≡ costs.now.inputs }
     ensures { (F : List Function) → AreTrueCosts costs.now.inputs F pairs.now.pairs bound costs.now →
         result ≡ mask_of (wanted costs.now.inputs F pairs.now.pairs bound mask) }

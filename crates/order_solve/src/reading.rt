@@ -3,7 +3,7 @@
 ghost use Rattle.std.specs.Prelude.{◌≡◌, ◌≤◌, ◌-◌, ◌^◌, IfOk};
 ghost use Rattle.order_model.specs.Problems.{functions};
 ghost use Rattle.order_model.specs.Levels.{level_counts as counts_under};
-ghost use Rattle.order_model.specs.Cells.{IsReadFrom};
+ghost use Rattle.order_solve.specs.Solutions.{IsReadOff};
 
 use crate::all_cells::AllCells;
 use order_model::{BadOrder, Mask, Order, VarIx};
@@ -20,7 +20,7 @@ pub fn all_variables(inputs: u8) -> Mask
 
 /// The variables that the cells give from the set of all variables downward: each cell's variable is the next one from the top.
 fn read_variables(alloc: Global, cells: &AllCells<'_>) -> Result<Vec<VarIx>, AllocError>
-    ensures { IfOk result (λ v. IsReadFrom cells.now.problem.inputs (functions cells.now.problem) cells.now.pairs.pairs cells.now.bound (2 ^ cells.now.problem.inputs - 1) v.items) }
+    ensures { IfOk result (λ v. IsReadOff cells.now v.items) }
 {
     let inputs = cells.inputs();
     let mut variables = Vec::with_capacity(alloc, usize::from(inputs))?;
@@ -35,7 +35,7 @@ fn read_variables(alloc: Global, cells: &AllCells<'_>) -> Result<Vec<VarIx>, All
 
 /// The order that the cells give.
 pub fn read_order(alloc: Global, cells: &AllCells<'_>) -> Result<Order, AllocError>
-    ensures { IfOk result (λ o. IsReadFrom cells.now.problem.inputs (functions cells.now.problem) cells.now.pairs.pairs cells.now.bound (2 ^ cells.now.problem.inputs - 1) o) }
+    ensures { IfOk result (λ o. IsReadOff cells.now o) }
 {
     let _few = cells.inputs();
     let variables = read_variables(alloc, cells)?;
@@ -53,7 +53,7 @@ pub fn level_counts(
     cells: &AllCells<'_>,
     order: &Order,
 ) -> Result<Vec<u32>, AllocError>
-    requires { IsReadFrom cells.now.problem.inputs (functions cells.now.problem) cells.now.pairs.pairs cells.now.bound (2 ^ cells.now.problem.inputs - 1) order.now }
+    requires { IsReadOff cells.now order.now }
     ensures { IfOk result (λ v. v.items ≡ counts_under cells.now.problem.inputs (functions cells.now.problem) order.now) }
 {
     let mut counts = Vec::with_capacity(alloc, order.len())?;

@@ -1,14 +1,11 @@
 //! The solver.
 
-ghost use Rattle.std.specs.Prelude.{◌≡◌, map, IfOk};
+ghost use Rattle.std.specs.Prelude.{◌≡◌, IfOk};
 ghost use Rattle.order_model.specs.Problems.{functions};
-ghost use Rattle.order_model.specs.Levels.{level_counts as counts_under, size_under};
-ghost use Rattle.order_model.specs.Diagrams.{FewestKeeping, IsFirstKeeping};
 ghost use Rattle.order_model.specs.Cells.{widths_taken};
-ghost use Rattle.order_model.specs.Certificates.{certificate_of};
 ghost use Rattle.order_solve.specs.Benches.{setting_with};
 ghost use Rattle.order_solve.specs.Bounded.{IsBounded};
-ghost use Rattle.order_model.specs.Listed.{listed};
+ghost use Rattle.order_solve.specs.Solutions.{IsSolution, widths_for_all};
 
 use crate::all_cells::AllCells;
 use crate::listing::{count_widths, listed_cells};
@@ -21,12 +18,8 @@ use std::thread::Threads;
 
 /// What the cells of all sets give: the first order of the fewest nodes among those that keep the pairs.
 fn solution_of(alloc: Global, cells: &AllCells<'_>) -> Result<Solution, AllocError>
-    ensures first { IfOk result (λ s. IsFirstKeeping cells.now.problem.inputs (functions cells.now.problem) cells.now.pairs.pairs s.order) }
-    ensures fewest { IfOk result (λ s. FewestKeeping cells.now.problem.inputs (functions cells.now.problem) cells.now.pairs.pairs s.total) }
-    ensures size { IfOk result (λ s. s.total ≡ size_under cells.now.problem.inputs (functions cells.now.problem) s.order) }
-    ensures levels { IfOk result (λ s. s.levels.items ≡ counts_under cells.now.problem.inputs (functions cells.now.problem) s.order) }
-    ensures cells { IfOk result (λ s. map listed s.cells.items ≡ (certificate_of cells.now.problem.inputs (functions cells.now.problem) cells.now.pairs.pairs s.order).cells) }
-    ensures widths { IfOk result (λ s. s.widths ≡ widths_taken cells.now.problem.inputs (functions cells.now.problem) cells.now.pairs.pairs cells.now.bound) }
+    ensures solution { IfOk result (IsSolution cells.now.problem cells.now.pairs.pairs) }
+    ensures widths { IfOk result (λ s. s.widths ≡ widths_for_all cells.now) }
 {
     let total = cells.cost(all_variables(cells.inputs()));
     let order = read_order(alloc, cells)?;
@@ -54,12 +47,8 @@ pub(crate) fn solve_within<R: Threads + Sync, G: Gate>(
 ) -> Result<Solution, AllocError>
     requires pairs { pairs.now.inputs ≡ problem.now.inputs }
     requires bounded { IsBounded (setting_with problem.now pairs.now bound) }
-    ensures first { IfOk result (λ s. IsFirstKeeping problem.now.inputs (functions problem.now) pairs.now.pairs s.order) }
-    ensures fewest { IfOk result (λ s. FewestKeeping problem.now.inputs (functions problem.now) pairs.now.pairs s.total) }
-    ensures size { IfOk result (λ s. s.total ≡ size_under problem.now.inputs (functions problem.now) s.order) }
-    ensures levels { IfOk result (λ s. s.levels.items ≡ counts_under problem.now.inputs (functions problem.now) s.order) }
-    ensures cells { IfOk result (λ s. map listed s.cells.items ≡ (certificate_of problem.now.inputs (functions problem.now) pairs.now.pairs s.order).cells) }
-    ensures widths { IfOk result (λ s. s.widths ≡ widths_taken problem.now.inputs (functions problem.now) pairs.now.pairs bound) }
+    ensures solution { IfOk result (IsSolution problem.now pairs.now.pairs) }
+    ensures widths { IfOk result (λ s. s.widths ≡ widths_for_all (setting_with problem.now pairs.now bound)) }
 {
     let cells = AllCells::of(rt, alloc, problem, pairs, bound, workers, gate)?;
     let solution = solution_of(alloc, &cells)?;
@@ -79,11 +68,7 @@ pub fn solve<R: Threads + Sync, G: Gate>(
     gate: &G,
 ) -> Result<Solution, AllocError>
     requires { sifted.problem ≡ problem.now }
-    ensures first { IfOk result (λ s. IsFirstKeeping problem.now.inputs (functions problem.now) sifted.pairs s.order) }
-    ensures fewest { IfOk result (λ s. FewestKeeping problem.now.inputs (functions problem.now) sifted.pairs s.total) }
-    ensures size { IfOk result (λ s. s.total ≡ size_under problem.now.inputs (functions problem.now) s.order) }
-    ensures levels { IfOk result (λ s. s.levels.items ≡ counts_under problem.now.inputs (functions problem.now) s.order) }
-    ensures cells { IfOk result (λ s. map listed s.cells.items ≡ (certificate_of problem.now.inputs (functions problem.now) sifted.pairs s.order).cells) }
+    ensures solution { IfOk result (IsSolution problem.now sifted.pairs) }
     ensures widths { IfOk result (λ s. s.widths ≡ widths_taken problem.now.inputs (functions problem.now) sifted.pairs sifted.size) }
 {
     let bound = sifted.size();
@@ -94,11 +79,7 @@ pub fn solve<R: Threads + Sync, G: Gate>(
 /// The same as `solve`, by the calling thread alone.
 pub fn solve_alone(alloc: Global, problem: &Problem, sifted: Sifted) -> Result<Solution, AllocError>
     requires { sifted.problem ≡ problem.now }
-    ensures first { IfOk result (λ s. IsFirstKeeping problem.now.inputs (functions problem.now) sifted.pairs s.order) }
-    ensures fewest { IfOk result (λ s. FewestKeeping problem.now.inputs (functions problem.now) sifted.pairs s.total) }
-    ensures size { IfOk result (λ s. s.total ≡ size_under problem.now.inputs (functions problem.now) s.order) }
-    ensures levels { IfOk result (λ s. s.levels.items ≡ counts_under problem.now.inputs (functions problem.now) s.order) }
-    ensures cells { IfOk result (λ s. map listed s.cells.items ≡ (certificate_of problem.now.inputs (functions problem.now) sifted.pairs s.order).cells) }
+    ensures solution { IfOk result (IsSolution problem.now sifted.pairs) }
     ensures widths { IfOk result (λ s. s.widths ≡ widths_taken problem.now.inputs (functions problem.now) sifted.pairs sifted.size) }
 {
     let bound = sifted.size();

@@ -1,11 +1,12 @@
 //! A worker at the board of a layer.
 
-ghost use Rattle.std.specs.Prelude.{◌≡◌, ℕ, map, Some, IfOk, IsTrue};
+ghost use Rattle.std.specs.Prelude.{◌≡◌, ℕ, Some, IfOk, IsTrue};
 ghost use Rattle.order_model.specs.Orders.{has};
 ghost use Rattle.subset_layers.specs.Layers.{block_masks};
 ghost use Rattle.layer_core.specs.Settings.{cell_for};
 ghost use Rattle.layer_board.specs.Views.{has_claimed, knows_filled};
 ghost use Rattle.layer_core.specs.Pairing.{pair_of};
+ghost use Rattle.order_solve.specs.Benches.{AreCells};
 ghost use Rattle.order_solve.specs.Gains.{gains, gained, widths_for, IsPosted, StaysClaimed};
 
 use crate::bench::Bench;
@@ -48,7 +49,7 @@ fn post_block<G: Gate>(
 )
     requires seat { seat.old.board ≡ board.now }
     requires setting { board.now.brief.setting ≡ bench.now.setting }
-    requires cells { map pair_of cells.now ≡ map (cell_for bench.now.setting) (block_masks block.now) }
+    requires cells { AreCells bench.now.setting (block_masks block.now) cells.now }
     ensures stays { StaysClaimed seat.old seat.new }
     ensures posted { (mask : ℕ) → IsTrue (has (block_masks block.now) mask) → IsPosted seat.new mask }
 {

@@ -5,11 +5,17 @@ use Rattle.order_solve.specs.Benches.{setting_with, IsLayerFor}
 use Rattle.order_solve.proofs.Layers.{layers_push}
 use Rattle.order_solve.proofs.all_cells.layers_of.Goals as goal
 
-pub next_layer-requires-clause-costs : goal.next_layer-requires-clause-costs
-next_layer-requires-clause-costs g c κs within =
+pub next_layer-requires-clause-before : goal.next_layer-requires-clause-before
+next_layer-requires-clause-before g c κs within =
     let items = c.loop-size.layers.items in
     let at : slice_get items c.from.result ≡ Some c.index-before.result.now = slice_get_read items (length items) c.from.result c.index-before.result.now refl (let m = c.loop-size.invariant.many in let f = c.from.ensures in omega (arith, m, f)) c.index-before.ensures in
-    (c.loop-size.invariant.layers_are c.from.result c.index-before.result.now at).costs_are
+    let is = c.loop-size.invariant.layers_are c.from.result c.index-before.result.now at in record {
+      pairs = c.requires.pairs;
+      inputs = is.inputs;
+      size_is = (let s = is.size_is in let f = c.from.ensures in omega (arith, s, f));
+      room = c.requires.room;
+      costs_are = is.costs_are;
+    }
 
 pub loop-size-preserved : goal.loop-size-preserved
 loop-size-preserved g c =

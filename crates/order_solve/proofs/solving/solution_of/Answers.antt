@@ -17,34 +17,18 @@ listed_cells-requires c =
     let e = c.inputs.ensures in
     total_small t e.bounded c.in_ok-order.order c.in_ok-order.ensures c.cost-total.result (total_is t c.inputs.result c.all_variables.result c.cost-total.result e.value c.all_variables.ensures c.cost-total.ensures)
 
-pub returns-clause-first : goal.returns-clause-first
-returns-clause-first c =
+pub returns-clause-solution : goal.returns-clause-solution
+returns-clause-solution c =
     let t = c.args.cells.now in
-    let e = c.inputs.ensures in
+    let b = c.inputs.ensures.bounded in
     let o = c.in_ok-order.order in
-    order_first t e.bounded o c.in_ok-order.ensures
-
-pub returns-clause-fewest : goal.returns-clause-fewest
-returns-clause-fewest c =
-    let t = c.args.cells.now in
-    let e = c.inputs.ensures in
-    let o = c.in_ok-order.order in
-    let is = total_is t c.inputs.result c.all_variables.result c.cost-total.result e.value c.all_variables.ensures c.cost-total.ensures in
-    total_fewest t e.bounded o c.in_ok-order.ensures c.cost-total.result is
-
-pub returns-clause-size : goal.returns-clause-size
-returns-clause-size c =
-    let t = c.args.cells.now in
-    let e = c.inputs.ensures in
-    let o = c.in_ok-order.order in
-    let is = total_is t c.inputs.result c.all_variables.result c.cost-total.result e.value c.all_variables.ensures c.cost-total.ensures in
-    total_size t e.bounded o c.in_ok-order.ensures c.cost-total.result is
-
-pub returns-clause-cells : goal.returns-clause-cells
-returns-clause-cells c =
-    let t = c.args.cells.now in
-    let e = c.inputs.ensures in
-    let o = c.in_ok-order.order in
-    let is = total_is t c.inputs.result c.all_variables.result c.cost-total.result e.value c.all_variables.ensures c.cost-total.ensures in
-    c.in_ok-listed.ensures
-    ∙ cells_listed t e.bounded o c.in_ok-order.ensures c.cost-total.result is
+    let read = c.in_ok-order.ensures in
+    let total = c.cost-total.result in
+    let is = total_is t c.inputs.result c.all_variables.result total c.inputs.ensures.value c.all_variables.ensures c.cost-total.ensures in
+    record {
+      first = order_first t b o read;
+      fewest = total_fewest t b o read total is;
+      size = total_size t b o read total is;
+      levels = c.in_ok-levels.ensures;
+      cells = c.in_ok-listed.ensures ∙ cells_listed t b o read total is;
+    }
