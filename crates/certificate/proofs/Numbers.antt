@@ -1,5 +1,5 @@
 -- Words that are numbers as a certificate has them.
-use Rattle.std.proofs.Common.{◌≡◌, ℕ, ◌+◌, ◌-◌, ◌*◌, ◌^◌, ◌≤◌, ◌<◌, suc, refl, sym, ◌∙◌, ap, Bool, true, false, nat_le, inl, inr, ◌⊎◌, List, [], ◌∷◌, length, take, drop, get_or, decimal, arith, lit<}
+use Rattle.std.proofs.Common.{◌≡◌, ℕ, ◌+◌, ◌-◌, ◌*◌, ◌^◌, ◌≤◌, ◌<◌, refl, sym, ◌∙◌, ap, true, false, nat_le, inl, inr, ◌⊎◌, List, [], ◌∷◌, length, take, drop, get_or, decimal, arith, lit<}
 use Rattle.std.specs.Fmt.{digits}
 use Rattle.std.specs.Str.{all_ascii_digits}
 use Rattle.std.specs.Str.Parse.{digits_value_after}
@@ -9,12 +9,10 @@ use Rattle.std.proofs.lemmas.Bool.{cases_lt, false_from_ne_true}
 use Rattle.std.proofs.lemmas.Fmt.{decimal_nonempty, first_decimal, length-decimal-le, decimal-digits_value, digits_decimal}
 use Rattle.std.proofs.lemmas.Str.{digit_value_digit}
 use Rattle.std.proofs.lemmas.Str.Parse.{tells_all_ascii_digits, numerals_by_value}
-use Rattle.std.proofs.lemmas.List.{take_all, length-drop}
-use Rattle.std.proofs.Math.Nat.{pow-suc}
 use Rattle.certificate.specs.Spelling.{most_nodes}
 use Rattle.certificate.specs.Faults.{number_of, is_decimal}
 use Rattle.certificate.proofs.Judges.{same_self, decimal_is}
-use Rattle.order_model.proofs.Lists.Digits.{pow_more, no_more_digits, no_more_value, behind_first}
+use Rattle.order_model.proofs.Lists.Digits.{behind_first}
 
 -- digits without a leading zero, or just zero, are their number's decimal
 pub spelled_digits : (word : List ℕ) → all_ascii_digits word ≡ true → 0 < length word → (get_or word 0 0 ≡ 48 → length word ≡ 1) → number_of word < 2 ^ 64 → decimal (number_of word) ≡ word

@@ -1,22 +1,22 @@
 -- The certificate that the tool writes has a spelling.
 --     InRange key low high es      keys rise from low on and are below high
 --     tool_spelled      the bounds of all its parts
-use Rattle.std.proofs.Common.{◌≡◌, ℕ, zero, suc, ◌+◌, ◌-◌, ◌*◌, ◌^◌, ◌<◌, ◌≤◌, ◌&&◌, inr, Bool, true, false, cond, List, [], ◌∷◌, ◌++◌, length, map, Option, None, Some, refl, sym, ap, ◌∙◌, subst, arith, nat_lt}
-use Rattle.std.specs.List.{All, AllByRecursion, AllPairs, filter, flat_map, range_with_len, sum}
+use Rattle.std.proofs.Common.{◌≡◌, ℕ, zero, suc, ◌+◌, ◌-◌, ◌*◌, ◌^◌, ◌<◌, ◌≤◌, ◌&&◌, inr, Bool, true, false, cond, List, [], ◌∷◌, ◌++◌, length, map, Option, None, Some, refl, ◌∙◌, arith, nat_lt}
+use Rattle.std.specs.List.{AllByRecursion, AllPairs, filter, flat_map, range_with_len, sum}
 use Rattle.std.proofs.lemmas.Bool.Decides.{nat_tests}
 use Rattle.std.proofs.lemmas.List.{length-map}
 use Rattle.std.proofs.lemmas.List.Elements.{All-from_recursion}
-use Rattle.std.proofs.lemmas.List.FromFn.{length-range_with_len, length-map-range_with_len}
+use Rattle.std.proofs.lemmas.List.FromFn.{length-map-range_with_len}
 use Rattle.std.proofs.lemmas.List.Sums.{sum_by-cons}
 use Rattle.order_model.specs.Functions.{Function}
-use Rattle.order_model.specs.Orders.{IsOrder, variables, members}
+use Rattle.order_model.specs.Orders.{IsOrder, members}
 use Rattle.order_model.specs.Pairs.{Pair, AreBelow, has_pair, is_lawful, sorted_pairs}
 use Rattle.order_model.specs.Levels.{level_count, level_counts, size_under}
 use Rattle.order_model.specs.Widths.{least, essentials_outside}
-use Rattle.order_model.specs.Certificates.{Cell, Certificate, certificate_of, least_listed, listed_masks}
+use Rattle.order_model.specs.Certificates.{Cell, certificate_of, least_listed, listed_masks}
 use Rattle.order_model.proofs.Functions.Exchange.{Below, below_from_has}
 use Rattle.order_model.proofs.Widths.SizeBounds.{order_length, size_bound}
-use Rattle.certificate.specs.Spelling.{HasSpelling, IsCell, IsPair, most_nodes, most_pairs, pair_key}
+use Rattle.certificate.specs.Spelling.{HasSpelling, IsCell, most_nodes, pair_key}
 use Rattle.certificate.proofs.Judges.{both_are}
 use Rattle.certificate.proofs.Rising.{IsAbove, RiseFrom, rise_pairs}
 

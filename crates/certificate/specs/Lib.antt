@@ -3,4 +3,5 @@ pub mod Faults
 pub mod Decoded
 pub mod Values
 pub mod Parsing
+pub mod Reading
 pub mod Heads

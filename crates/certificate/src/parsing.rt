@@ -4,6 +4,7 @@ ghost use Rattle.std.specs.Prelude.{◌≡◌, ◌+◌, ◌^◌, ◌<◌, ◌≤
 ghost use Rattle.std.specs.List.{All};
 ghost use Rattle.certificate.specs.declared.faults.CertFault.TheVariants.{OutOfMemory};
 ghost use Rattle.certificate.specs.Heads.{Refuses, TakesBody, TakesHead, TakesSets, most_bytes, parts_of};
+ghost use Rattle.certificate.specs.Reading.{FitsCount, StaysWithin};
 ghost use Rattle.certificate.specs.Spelling.{HasSpelling, spelling};
 
 use crate::bounds::MOST_NODES;
@@ -42,9 +43,9 @@ pub struct Head {
 
 /// Takes the first six lines.
 fn read_head(alloc: Global, lines: &mut Lines<'_>) -> Result<Head, CertFault>
-    requires { lines.old.number + length lines.old.rest.now < 2 ^ 63 }
+    requires { FitsCount lines.old }
     ensures head { TakesHead lines.old.number lines.old.rest.now lines.new.number lines.new.rest.now result }
-    ensures bound { lines.new.number + length lines.new.rest.now ≤ lines.old.number + length lines.old.rest.now }
+    ensures bound { StaysWithin lines.old lines.new }
 {
     let format = lines.title()?;
     let inputs = lines.number(b"inputs", 1, 16)?;
@@ -65,7 +66,7 @@ fn read_head(alloc: Global, lines: &mut Lines<'_>) -> Result<Head, CertFault>
 
 /// Takes the lines of listed sets, and the last one.
 fn read_sets(alloc: Global, lines: &mut Lines<'_>, n: u8) -> Result<Vec<ListedCell>, CertFault>
-    requires small { lines.old.number + length lines.old.rest.now < 2 ^ 63 }
+    requires small { FitsCount lines.old }
     requires few { n ≤ 16 }
     ensures { TakesSets n lines.old.number lines.old.rest.now result }
 {
@@ -81,7 +82,7 @@ fn read_body(
     format: u8,
     n: u8,
 ) -> Result<(Option<Vec<(VarIx, VarIx)>>, Vec<ListedCell>), CertFault>
-    requires small { lines.old.number + length lines.old.rest.now < 2 ^ 63 }
+    requires small { FitsCount lines.old }
     requires known { (format ≡ 1) ⊎ (format ≡ 2) }
     requires some { 1 ≤ n }
     requires few { n ≤ 16 }

@@ -7,7 +7,8 @@ ghost use Rattle.certificate.specs.declared.faults.LineFault.TheVariants.{BadNum
 ghost use Rattle.order_model.specs.Listed.{listed};
 ghost use Rattle.certificate.specs.Decoded.{numbers_of, read_pair, read_cell};
 ghost use Rattle.certificate.specs.Faults.{cell_key_of, entry_fault, field_fault, fixed_fault, is_cell, is_decimal, is_pair, number_of, pair_key_of, title_fault, words};
-ghost use Rattle.certificate.specs.Parsing.{Asks, Cuts, Fails, Lacks, TakesSection, outcome};
+ghost use Rattle.certificate.specs.Parsing.{Cuts, Fails, Lacks, outcome};
+ghost use Rattle.certificate.specs.Reading.{FitsCount, StaysWithin, TakesEntries, TakesLine};
 ghost use Rattle.certificate.specs.Spelling.{most_nodes, most_pairs};
 ghost use Rattle.certificate.specs.Values.{is_above as above};
 
@@ -80,12 +81,12 @@ impl<'a> Lines<'a> {
 
     /// Takes the next line.
     fn next(&mut self) -> Result<&'a [u8], CertFault>
-        requires { self.old.number + length self.old.rest.now < 2 ^ 63 }
+        requires { FitsCount self.old }
         ensures line { IfOk result (λ line. Cuts 10 self.old.rest.now line.now self.new.rest.now) }
         ensures number { IfOk result (λ _. self.new.number ≡ self.old.number + 1) }
         ensures fault { IfErr result (λ fault. fault ≡ Line self.old.number MissingLine) }
         ensures none { IfErr result (λ _. Lacks 10 self.old.rest.now) }
-        ensures bound { self.new.number + length self.new.rest.now ≤ self.old.number + length self.old.rest.now }
+        ensures bound { StaysWithin self.old self.new }
     {
         let Some((line, rest)) = cut(self.rest, b'\n') else {
             return Err(CertFault::Line(self.number, LineFault::MissingLine));
@@ -97,11 +98,11 @@ impl<'a> Lines<'a> {
 
     /// Takes a line of a fixed word and a number.
     pub(crate) fn number(&mut self, name: &[u8], least: u32, most: u32) -> Result<u32, CertFault>
-        requires small { self.old.number + length self.old.rest.now < 2 ^ 63 }
+        requires small { FitsCount self.old }
         requires bounds { most ≤ most_nodes }
-        ensures line { Asks (field_fault name.now 1 least most) self.old.number self.old.rest.now self.new.number self.new.rest.now (λ ws value. value ≡ number_of (get_or ws 1 [])) result }
+        ensures line { TakesLine (field_fault name.now 1 least most) self.old self.new (λ ws value. value ≡ number_of (get_or ws 1 [])) result }
         ensures within { IfOk result (λ value. (least ≤ value) × (value ≤ most)) }
-        ensures bound { self.new.number + length self.new.rest.now ≤ self.old.number + length self.old.rest.now }
+        ensures bound { StaysWithin self.old self.new }
     {
         let number = self.number;
         let line = self.next()?;
@@ -113,9 +114,9 @@ impl<'a> Lines<'a> {
 
     /// Takes the first line, which says the format.
     pub(crate) fn title(&mut self) -> Result<u8, CertFault>
-        requires { self.old.number + length self.old.rest.now < 2 ^ 63 }
-        ensures line { Asks title_fault self.old.number self.old.rest.now self.new.number self.new.rest.now (λ ws format. format ≡ number_of (get_or ws 1 [])) result }
-        ensures bound { self.new.number + length self.new.rest.now ≤ self.old.number + length self.old.rest.now }
+        requires { FitsCount self.old }
+        ensures line { TakesLine title_fault self.old self.new (λ ws format. format ≡ number_of (get_or ws 1 [])) result }
+        ensures bound { StaysWithin self.old self.new }
     {
         let number = self.number;
         let line = self.next()?;
@@ -127,11 +128,11 @@ impl<'a> Lines<'a> {
 
     /// Takes the line of a pair, whose key is above one that may have come before.
     fn pair(&mut self, n: u8, last: Option<u32>) -> Result<(VarIx, VarIx), CertFault>
-        requires small { self.old.number + length self.old.rest.now < 2 ^ 63 }
+        requires small { FitsCount self.old }
         requires some { 1 ≤ n }
         requires few { n ≤ 16 }
-        ensures line { Asks (entry_fault (is_pair n) (λ a b. above last (pair_key_of a b))) self.old.number self.old.rest.now self.new.number self.new.rest.now (λ ws pair. pair ≡ read_pair ws) result }
-        ensures bound { self.new.number + length self.new.rest.now ≤ self.old.number + length self.old.rest.now }
+        ensures line { TakesLine (entry_fault (is_pair n) (λ a b. above last (pair_key_of a b))) self.old self.new (λ ws pair. pair ≡ read_pair ws) result }
+        ensures bound { StaysWithin self.old self.new }
     {
         let number = self.number;
         let line = self.next()?;
@@ -143,10 +144,10 @@ impl<'a> Lines<'a> {
 
     /// Takes the line of a listed set, whose mask is above one that may have come before.
     fn cell(&mut self, n: u8, last: Option<u32>) -> Result<ListedCell, CertFault>
-        requires small { self.old.number + length self.old.rest.now < 2 ^ 63 }
+        requires small { FitsCount self.old }
         requires few { n ≤ 16 }
-        ensures line { Asks (entry_fault (is_cell n) (λ a b. above last (cell_key_of a b))) self.old.number self.old.rest.now self.new.number self.new.rest.now (λ ws cell. listed cell ≡ read_cell ws) result }
-        ensures bound { self.new.number + length self.new.rest.now ≤ self.old.number + length self.old.rest.now }
+        ensures line { TakesLine (entry_fault (is_cell n) (λ a b. above last (cell_key_of a b))) self.old self.new (λ ws cell. listed cell ≡ read_cell ws) result }
+        ensures bound { StaysWithin self.old self.new }
     {
         let number = self.number;
         let line = self.next()?;
@@ -158,7 +159,7 @@ impl<'a> Lines<'a> {
 
     /// Takes the last line, after which nothing follows.
     pub(crate) fn end(&mut self) -> Result<(), CertFault>
-        requires { self.old.number + length self.old.rest.now < 2 ^ 63 }
+        requires { FitsCount self.old }
         ensures passed { OnOk result (outcome self.old.number (fixed_fault (codes "end" ∷ []) ∷ []) self.old.rest.now ≡ []) }
         ensures failed { IfErr result (Fails (outcome self.old.number (fixed_fault (codes "end" ∷ []) ∷ []) self.old.rest.now)) }
     {
@@ -182,11 +183,11 @@ impl<'a> Lines<'a> {
         count: usize,
         most: u32,
     ) -> Result<Vec<u32>, CertFault>
-        requires small { self.old.number + length self.old.rest.now < 2 ^ 63 }
+        requires small { FitsCount self.old }
         requires some { 1 ≤ count }
         requires bounds { most ≤ most_nodes }
-        ensures line { Asks (field_fault name.now count 0 most) self.old.number self.old.rest.now self.new.number self.new.rest.now (λ ws numbers. numbers.items ≡ numbers_of ws) result }
-        ensures bound { self.new.number + length self.new.rest.now ≤ self.old.number + length self.old.rest.now }
+        ensures line { TakesLine (field_fault name.now count 0 most) self.old self.new (λ ws numbers. numbers.items ≡ numbers_of ws) result }
+        ensures bound { StaysWithin self.old self.new }
     {
         let number = self.number;
         let line = self.next()?;
@@ -198,11 +199,11 @@ impl<'a> Lines<'a> {
 
     /// Takes the lines of pairs.
     pub(crate) fn pairs(&mut self, alloc: Global, n: u8) -> Result<Vec<(VarIx, VarIx)>, CertFault>
-        requires small { self.old.number + length self.old.rest.now < 2 ^ 63 }
+        requires small { FitsCount self.old }
         requires some { 1 ≤ n }
         requires few { n ≤ 16 }
-        ensures section { TakesSection (codes "pairs") most_pairs (is_pair n) pair_key_of read_pair (λ v. v.items) self.old.number self.old.rest.now self.new.number self.new.rest.now result }
-        ensures bound { self.new.number + length self.new.rest.now ≤ self.old.number + length self.old.rest.now }
+        ensures section { TakesEntries (codes "pairs") most_pairs (is_pair n) pair_key_of read_pair (λ v. v.items) self.old self.new result }
+        ensures bound { StaysWithin self.old self.new }
     {
         let count = self.number(b"pairs", 0, MOST_PAIRS as u32)?;
         let mut pairs = Vec::new(alloc);
@@ -217,10 +218,10 @@ impl<'a> Lines<'a> {
 
     /// Takes the lines of listed sets.
     pub(crate) fn cells(&mut self, alloc: Global, n: u8) -> Result<Vec<ListedCell>, CertFault>
-        requires small { self.old.number + length self.old.rest.now < 2 ^ 63 }
+        requires small { FitsCount self.old }
         requires few { n ≤ 16 }
-        ensures section { TakesSection (codes "cells") (2 ^ n - 1) (is_cell n) cell_key_of read_cell (λ v. map listed v.items) self.old.number self.old.rest.now self.new.number self.new.rest.now result }
-        ensures bound { self.new.number + length self.new.rest.now ≤ self.old.number + length self.old.rest.now }
+        ensures section { TakesEntries (codes "cells") (2 ^ n - 1) (is_cell n) cell_key_of read_cell (λ v. map listed v.items) self.old self.new result }
+        ensures bound { StaysWithin self.old self.new }
     {
         let count = self.number(b"cells", 0, sets_below_all(n))?;
         let mut cells = Vec::new(alloc);

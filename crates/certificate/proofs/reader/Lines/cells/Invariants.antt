@@ -1,6 +1,7 @@
-use Rattle.std.proofs.Common.{◌≤◌, ◌+◌, ◌-◌, ◌^◌, ◌<◌, refl, map, length, codes}
+use Rattle.std.proofs.Common.{◌≤◌, ◌-◌, ◌^◌, refl, map, length, codes}
 use Rattle.order_model.specs.Listed.{listed}
 use Rattle.certificate.specs.Faults.{is_cell, cell_key_of}
+use Rattle.certificate.specs.Reading.{FitsCount, StaysWithin}
 use Rattle.certificate.specs.Decoded.{read_cell, mask_key}
 use Rattle.certificate.proofs.Taking.{Reached}
 use Rattle.certificate.proofs.reader.Lines.cells.Given as goal
@@ -9,8 +10,8 @@ abbrev pub invariant-loop-last : goal.invariant-loop-last
 invariant-loop-last l = record {
   reached : Reached read_cell mask_key (codes "cells") (2 ^ l.fn.n - 1) (is_cell l.fn.n) cell_key_of (λ a b. refl) l.fn.self.number l.fn.self.rest.now l.count (length l.cells.items) l.last (map listed l.cells.items) l.self.number l.self.rest.now;
   few : length l.cells.items ≤ l.count;
-  small : l.self.number + length l.self.rest.now < 2 ^ 63;
-  bound : l.self.number + length l.self.rest.now ≤ l.fn.self.number + length l.fn.self.rest.now;
+  small : FitsCount l.self;
+  bound : StaysWithin l.fn.self l.self;
 }
 
 abbrev pub decreases-loop-last : goal.decreases-loop-last

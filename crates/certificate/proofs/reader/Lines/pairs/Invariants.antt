@@ -1,6 +1,7 @@
-use Rattle.std.proofs.Common.{◌≤◌, ◌+◌, ◌-◌, ◌^◌, ◌<◌, refl, length, codes}
+use Rattle.std.proofs.Common.{◌≤◌, ◌-◌, refl, length, codes}
 use Rattle.certificate.specs.Spelling.{most_pairs, pair_key}
 use Rattle.certificate.specs.Faults.{is_pair, pair_key_of}
+use Rattle.certificate.specs.Reading.{FitsCount, StaysWithin}
 use Rattle.certificate.specs.Decoded.{read_pair}
 use Rattle.certificate.proofs.Taking.{Reached}
 use Rattle.certificate.proofs.reader.Lines.pairs.Given as goal
@@ -9,8 +10,8 @@ abbrev pub invariant-loop-last : goal.invariant-loop-last
 invariant-loop-last l = record {
   reached : Reached read_pair pair_key (codes "pairs") most_pairs (is_pair l.fn.n) pair_key_of (λ a b. refl) l.fn.self.number l.fn.self.rest.now l.count (length l.pairs.items) l.last l.pairs.items l.self.number l.self.rest.now;
   few : length l.pairs.items ≤ l.count;
-  small : l.self.number + length l.self.rest.now < 2 ^ 63;
-  bound : l.self.number + length l.self.rest.now ≤ l.fn.self.number + length l.fn.self.rest.now;
+  small : FitsCount l.self;
+  bound : StaysWithin l.fn.self l.self;
 }
 
 abbrev pub decreases-loop-last : goal.decreases-loop-last
