@@ -1,19 +1,17 @@
 -- What is left of a certificate whose edges alone are to be judged.
 --     IsOpen n F cert values judged      the first edge that fails decides the verdict
 --     LeavesEdges n F cert left      the first reason but for edges, or what is left
-use Rattle.std.specs.Prelude.{◌≡◌, ℕ, ◌^◌, List, length, Option, Result, Ok, Err}
+use Rattle.std.specs.Prelude.{ℕ, List, Option, Result, Ok, Err}
 use Rattle.order_model.specs.Functions.{Function}
 use Rattle.order_model.specs.Certificates as certs
 use Rattle.cert_check.specs.declared.verdict.Reason.{Reason}
 use Rattle.cert_check.specs.declared.checking.Open.{Open}
-use Rattle.cert_check.specs.Edges.{AreJudged, Fails, IsFirstEdge}
+use Rattle.cert_check.specs.Edges.{AreEdgeTables, Fails, IsFirstEdge}
 use Rattle.cert_check.specs.Verdicts.{Judges, edge_verdict, reason_of}
 
 -- the first edge that fails decides the verdict
 pub record IsOpen (n : ℕ) (F : List Function) (cert : certs.Certificate) (values judged : List ℕ) : Type 0 where
-  pub values_all : length values ≡ 2 ^ n
-  pub judged_all : length judged ≡ 2 ^ n
-  pub members : AreJudged n judged
+  pub edges : AreEdgeTables n values judged
   pub decides : (first : Option (ℕ × ℕ)) → IsFirstEdge (Fails n F values judged) first → Judges n F cert (edge_verdict first)
 
 -- the first reason but for those of edges, or what is left
