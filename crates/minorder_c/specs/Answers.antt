@@ -4,6 +4,7 @@
 --     HasShape inputs outputs words places counts      the same, with a place and a count for each variable
 --     pairs_given above      the pairs that an order has to keep
 --     IsOptimum n F P order levels total, IsSiftedFrom n F start order levels total      what is answered
+--     AllStay order order' levels levels' total total'      nothing is written
 use Rattle.std.specs.Prelude.{◌≡◌, ℕ, ◌*◌, ◌≤◌, List, length, map}
 use Rattle.order_model.specs.Functions.{Function}
 use Rattle.order_model.specs.Pairs.{Pair}
@@ -41,6 +42,10 @@ pub record IsOptimum (n : ℕ) (F : List Function) (P : List Pair) (order levels
   pub fewest : FewestKeeping n F P total
   pub size : total ≡ size_under n F order
   pub levels_are : levels ≡ level_counts n F order
+
+-- nothing is written: the order, the level counts and the total stay
+abbrev pub AllStay : List ℕ → List ℕ → List ℕ → List ℕ → ℕ → ℕ → Type 0
+AllStay order order' levels levels' total total' = (order' ≡ order) × (levels' ≡ levels) × (total' ≡ total)
 
 -- the order that one pass of sifting makes of another, with its level counts and its size
 pub record IsSiftedFrom (n : ℕ) (F : List Function) (P : List Pair) (start order levels : List ℕ) (total : ℕ) : Type 0 where

@@ -12,7 +12,7 @@ use Rattle.certificate.specs.Spelling.{spelling}
 use Rattle.cert_check.specs.declared.verdict.Verdict.{Verdict}
 use Rattle.cert_check.specs.declared.verdict.Verdict.TheVariants.{Valid, Invalid}
 use Rattle.cert_check.specs.declared.verdict.Reason.TheVariants as why
-use Rattle.cert_check.specs.Verdicts.{FewestUnder, Judges}
+use Rattle.cert_check.specs.Verdicts.{IsVerdict}
 use Rattle.minorder_c.specs.declared.status.Refusal.{Refusal}
 use Rattle.minorder_c.specs.declared.status.Refusal.TheVariants as refused
 use Rattle.minorder_c.specs.declared.judging.ToldVerdict.{ToldVerdict}
@@ -50,8 +50,7 @@ RefusesText shape text _ = ⊥
 pub record IsJudged (n : ℕ) (F : List Function) (text : List ℕ) (v : Verdict) : Type 0 where
   pub cert : Certificate
   pub text_is : text ≡ spelling cert
-  pub judges : Judges n F cert v
-  pub fewest : v ≡ Valid → FewestUnder n F cert
+  pub verdict : IsVerdict n F cert v
 
 -- the same, as C is told it
 pub record IsTold (n : ℕ) (F : List Function) (text : List ℕ) (told : ToldVerdict) : Type 0 where

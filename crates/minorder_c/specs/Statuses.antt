@@ -4,7 +4,8 @@
 --     RefusesOrder shape order r      the same, or what is given is no order
 --     RefusesPairs shape keepable r      the same, or no order keeps the pairs
 --     IsPlainStatus s, IsOrderStatus s      the numbers of calls without an order and with one
-use Rattle.std.specs.Prelude.{ℕ, ◌≡◌, ◌⊎◌}
+--     TellsShape shape s      the number says whether the arguments have their shape
+use Rattle.std.specs.Prelude.{ℕ, ◌≡◌, ◌⊎◌, ◌↔◌}
 use Rattle.minorder_c.specs.declared.status.Refusal.{Refusal}
 use Rattle.minorder_c.specs.declared.status.Refusal.TheVariants.{Shape, Certificate, OutOfMemory, Order, StoreFull, Pairs}
 
@@ -49,6 +50,10 @@ RefusesPairs shape keepable Pairs = shape × (keepable → ⊥)
 RefusesPairs shape keepable OutOfMemory = shape
 RefusesPairs shape keepable StoreFull = shape
 RefusesPairs shape keepable _ = ⊥
+
+-- 2 is the number of the calls whose arguments haven't their shape
+abbrev pub TellsShape : Type 0 → ℕ → Type 0
+TellsShape shape s = (s ≡ 2) ↔ (shape → ⊥)
 
 -- the numbers of the calls that take an order
 abbrev pub IsOrderStatus : ℕ → Type 0

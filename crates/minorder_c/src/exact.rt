@@ -1,11 +1,11 @@
 //! The order of the fewest nodes.
 
-ghost use Rattle.std.specs.Prelude.{◌≡◌, ◌≢◌, ◌↔◌, ◌⊎◌, [], length, IfOk, IfErr, OnOk};
+ghost use Rattle.std.specs.Prelude.{◌≡◌, ◌≢◌, ◌⊎◌, [], length, IfOk, IfErr, OnOk};
 ghost use Rattle.order_model.specs.Problems.{functions};
 ghost use Rattle.order_model.specs.KeptPairs.{CanBeKept};
 ghost use Rattle.order_model.specs.Pairs.{sorted_pairs};
-ghost use Rattle.minorder_c.specs.Answers.{HasShape, IsOptimum, functions_in, pairs_given};
-ghost use Rattle.minorder_c.specs.Statuses.{IsPlainStatus, IsShortage, Refuses, RefusesPairs};
+ghost use Rattle.minorder_c.specs.Answers.{AllStay, HasShape, IsOptimum, functions_in, pairs_given};
+ghost use Rattle.minorder_c.specs.Statuses.{IsPlainStatus, IsShortage, Refuses, RefusesPairs, TellsShape};
 
 use crate::above::{AbovePair, kept_pairs};
 use crate::arguments::tables_of;
@@ -92,9 +92,9 @@ pub extern "C" fn minorder_exact_with_lengths(
     total: &mut u32,
 ) -> u32
     ensures status { IsPlainStatus result }
-    ensures shape { (result ≡ 2) ↔ (HasShape inputs outputs tables.now (length order.old) (length levels.old) → ⊥) }
+    ensures shape { TellsShape (HasShape inputs outputs tables.now (length order.old) (length levels.old)) result }
     ensures optimum { result ≡ 0 → IsOptimum inputs (functions_in inputs outputs tables.now) [] order.new levels.new total.new }
-    ensures refused { result ≢ 0 → (order.new ≡ order.old) × (levels.new ≡ levels.old) × (total.new ≡ total.old) }
+    ensures refused { result ≢ 0 → AllStay order.old order.new levels.old levels.new total.old total.new }
 {
     match exact(alloc, tables, inputs, outputs, order.len(), levels.len()) {
         Ok(found) => {
@@ -120,11 +120,11 @@ pub extern "C" fn minorder_exact_above_with_lengths(
     total: &mut u32,
 ) -> u32
     ensures status { (result ≡ 8) ⊎ IsPlainStatus result }
-    ensures shape { (result ≡ 2) ↔ (HasShape inputs outputs tables.now (length order.old) (length levels.old) → ⊥) }
+    ensures shape { TellsShape (HasShape inputs outputs tables.now (length order.old) (length levels.old)) result }
     ensures bad_pairs { result ≡ 8 → CanBeKept inputs (pairs_given above.now) → ⊥ }
     ensures kept { result ≡ 0 → CanBeKept inputs (pairs_given above.now) }
     ensures optimum { result ≡ 0 → IsOptimum inputs (functions_in inputs outputs tables.now) (sorted_pairs inputs (pairs_given above.now)) order.new levels.new total.new }
-    ensures refused { result ≢ 0 → (order.new ≡ order.old) × (levels.new ≡ levels.old) × (total.new ≡ total.old) }
+    ensures refused { result ≢ 0 → AllStay order.old order.new levels.old levels.new total.old total.new }
 {
     match exact_above(
         alloc,

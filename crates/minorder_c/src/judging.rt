@@ -1,9 +1,10 @@
 //! The checker of certificates.
 
-ghost use Rattle.std.specs.Prelude.{◌≡◌, ◌≢◌, ◌↔◌, IfOk, IfErr, OnOk};
+ghost use Rattle.std.specs.Prelude.{◌≡◌, ◌≢◌, IfOk, IfErr, OnOk};
 ghost use Rattle.certificate.specs.Spelling.{spelling};
 ghost use Rattle.minorder_c.specs.Answers.{AreTables, functions_in};
 ghost use Rattle.minorder_c.specs.Judged.{IsJudged, IsNoCertificate, IsTextStatus, IsTold, RefusesText, told_verdict};
+ghost use Rattle.minorder_c.specs.Statuses.{TellsShape};
 
 use crate::arguments::tables_of;
 use crate::status::Refusal;
@@ -96,7 +97,7 @@ pub extern "C" fn minorder_check(
     verdict: &mut ToldVerdict,
 ) -> u32
     ensures status { IsTextStatus result }
-    ensures shape { (result ≡ 2) ↔ (AreTables inputs outputs tables.now → ⊥) }
+    ensures shape { TellsShape (AreTables inputs outputs tables.now) result }
     ensures no_certificate { result ≡ 3 → IsNoCertificate certificate.now }
     ensures told { result ≡ 0 → IsTold inputs (functions_in inputs outputs tables.now) certificate.now verdict.new }
     ensures refused { result ≢ 0 → verdict.new ≡ verdict.old }

@@ -1,10 +1,10 @@
 //! Level counts under any order.
 
-ghost use Rattle.std.specs.Prelude.{◌≡◌, ◌≢◌, ◌↔◌, length, IfOk, IfErr, OnOk};
+ghost use Rattle.std.specs.Prelude.{◌≡◌, ◌≢◌, length, IfOk, IfErr, OnOk};
 ghost use Rattle.order_model.specs.Levels.{level_counts};
 ghost use Rattle.order_model.specs.Orders.{IsOrder};
 ghost use Rattle.minorder_c.specs.Answers.{HasShape, functions_in};
-ghost use Rattle.minorder_c.specs.Statuses.{IsOrderStatus, RefusesOrder};
+ghost use Rattle.minorder_c.specs.Statuses.{IsOrderStatus, RefusesOrder, TellsShape};
 
 use crate::arguments::given;
 use crate::status::Refusal;
@@ -41,7 +41,7 @@ pub extern "C" fn minorder_levels_with_lengths(
     levels: &mut [u32],
 ) -> u32
     ensures status { IsOrderStatus result }
-    ensures shape { (result ≡ 2) ↔ (HasShape inputs outputs tables.now (length order.now) (length levels.old) → ⊥) }
+    ensures shape { TellsShape (HasShape inputs outputs tables.now (length order.now) (length levels.old)) result }
     ensures no_order { result ≡ 5 → IsOrder inputs order.now → ⊥ }
     ensures order { result ≡ 0 → IsOrder inputs order.now }
     ensures levels { result ≡ 0 → levels.new ≡ level_counts inputs (functions_in inputs outputs tables.now) order.now }

@@ -1,11 +1,11 @@
 //! One pass of sifting from any order.
 
-ghost use Rattle.std.specs.Prelude.{◌≡◌, ◌≢◌, ◌↔◌, ◌<◌, ℕ, [], length, slice_index, IfOk, IfErr, OnOk};
+ghost use Rattle.std.specs.Prelude.{◌≡◌, ◌≢◌, ◌<◌, ℕ, [], length, slice_index, IfOk, IfErr, OnOk};
 ghost use Rattle.order_model.specs.Orders.{IsOrder};
 ghost use Rattle.order_model.specs.Problems.{functions};
 ghost use Rattle.order_model.specs.Levels.{level_count};
-ghost use Rattle.minorder_c.specs.Answers.{HasShape, IsSiftedFrom, functions_in};
-ghost use Rattle.minorder_c.specs.Statuses.{IsOrderStatus, RefusesOrder};
+ghost use Rattle.minorder_c.specs.Answers.{AllStay, HasShape, IsSiftedFrom, functions_in};
+ghost use Rattle.minorder_c.specs.Statuses.{IsOrderStatus, RefusesOrder, TellsShape};
 
 use crate::arguments::given;
 use crate::sifting_from::sifted_from;
@@ -69,11 +69,11 @@ pub extern "C" fn minorder_sift_with_lengths(
     total: &mut u32,
 ) -> u32
     ensures status { IsOrderStatus result }
-    ensures shape { (result ≡ 2) ↔ (HasShape inputs outputs tables.now (length order.old) (length levels.old) → ⊥) }
+    ensures shape { TellsShape (HasShape inputs outputs tables.now (length order.old) (length levels.old)) result }
     ensures no_order { result ≡ 5 → IsOrder inputs order.old → ⊥ }
     ensures order { result ≡ 0 → IsOrder inputs order.old }
     ensures sifted { result ≡ 0 → IsSiftedFrom inputs (functions_in inputs outputs tables.now) [] order.old order.new levels.new total.new }
-    ensures refused { result ≢ 0 → (order.new ≡ order.old) × (levels.new ≡ levels.old) × (total.new ≡ total.old) }
+    ensures refused { result ≢ 0 → AllStay order.old order.new levels.old levels.new total.old total.new }
 {
     match sifted_order(alloc, tables, inputs, outputs, order, levels.len()) {
         Ok(found) => {
