@@ -1,5 +1,9 @@
-use Rattle.std.proofs.Common.{arith}
+use Rattle.std.proofs.Common.{arith, rules}
 use Rattle.compaction_tests.proofs.tests.pairs_by_first_occurrence.Goals as goal
 
-pub number_pairs-requires-clause-whole : goal.number_pairs-requires-clause-whole
-number_pairs-requires-clause-whole g c = (3, omega arith)
+pub number_pairs-requires-clause-table : goal.number_pairs-requires-clause-table
+number_pairs-requires-clause-table g c = record {
+  paired = record { small_rank = omega arith; short = omega arith; whole = (3, omega arith) };
+  few = omega arith;
+  below = search rules;
+}
