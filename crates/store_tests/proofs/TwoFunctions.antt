@@ -5,10 +5,7 @@ use Rattle.node_words.specs.Meaning.{function_of, along, Denotes, branch}
 use Rattle.node_words.proofs.Meaning.{value_terminal}
 use Rattle.unique_table.specs.Plans.{order_of, output_at, variable_at}
 use Rattle.unique_table.specs.Sessions.{StoreId, Knowledge, Means, function_in}
-
--- the two truth tables
-abbrev pub two_tables : List (List Bool)
-two_tables = (false ∷ false ∷ false ∷ true ∷ []) ∷ (false ∷ true ∷ true ∷ true ∷ []) ∷ []
+use Rattle.store_tests.specs.Cases.{two_tables}
 
 -- what is so of each point of two variables
 each_point : (P : Point → Type 0) → ((a b : Bool) → P (a ∷ b ∷ [])) → (p : Point) → length p ≡ 2 → P p

@@ -2,7 +2,8 @@
 ghost use Rattle.std.specs.Prelude.{◌≡◌, ◌+◌, ◌<◌, ◌≤◌, length, IfOk, OnOk};
 ghost use Rattle.std.specs.List.{All};
 ghost use Rattle.unique_table.specs.Plans.{levels_of};
-ghost use Rattle.unique_table.specs.Sessions.{Knows, IsKnownBelow, Follows, depth_in};
+ghost use Rattle.unique_table.specs.Sessions.{IsKnownBelow, Follows};
+ghost use Rattle.store_tests.specs.Cases.{AreFrom};
 ghost use Rattle.dd_builder.specs.Building.{AreTablesOf};
 
 use counted_io::Counting;
@@ -277,9 +278,9 @@ fn make_all(
     requires session { session.old.store ≡ store.now }
     requires level { level < levels_of store.now.plan }
     requires below { All (IsKnownBelow session.old level) below.now }
-    requires ids { All (λ id. Knows session.old id × (level ≤ depth_in session.old id)) ids.old.items }
+    requires ids { AreFrom session.old level ids.old.items }
     ensures follows { OnOk result (Follows session.old session.new) }
-    ensures ids { OnOk result (All (λ id. Knows session.new id × (level ≤ depth_in session.new id)) ids.new.items) }
+    ensures ids { OnOk result (AreFrom session.new level ids.new.items) }
 {
     for low in below {
         for high in below {

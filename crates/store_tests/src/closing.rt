@@ -1,9 +1,10 @@
 //! A store of the conjunction and the disjunction of two variables.
 
-ghost use Rattle.std.specs.Prelude.{◌≡◌, ◌∷◌, [], true, false, ◌<◌, IfOk, OnOk};
+ghost use Rattle.std.specs.Prelude.{◌≡◌, ◌∷◌, [], ◌<◌, IfOk, OnOk};
 ghost use Rattle.order_model.specs.Problems.{outputs_of};
 ghost use Rattle.unique_table.specs.Plans.{order_of, output_at};
 ghost use Rattle.unique_table.specs.Sessions.{Means, Follows};
+ghost use Rattle.store_tests.specs.Cases.{two_tables};
 
 use order_model::{Diagram, Order, Problem};
 use std::alloc::{AllocError, Global};
@@ -12,7 +13,7 @@ use unique_table::{CloseFault, NodeId, Pieces, Session, Store, StoreFull};
 
 fn two_functions(alloc: Global) -> Result<Problem, AllocError>
     ensures inputs { IfOk result (λ p. p.inputs ≡ 2) }
-    ensures tables { IfOk result (λ p. p.tables ≡ (false ∷ false ∷ false ∷ true ∷ []) ∷ (false ∷ true ∷ true ∷ true ∷ []) ∷ []) }
+    ensures tables { IfOk result (λ p. p.tables ≡ two_tables) }
 {
     let mut problem = Problem::new(alloc, 2, 2)?;
     problem.set(0, 3);
@@ -25,7 +26,7 @@ fn two_functions(alloc: Global) -> Result<Problem, AllocError>
 fn store_of_both(alloc: Global) -> Result<(Store, Session), AllocError>
     ensures session { IfOk result (λ r. r.1.store ≡ r.0) }
     ensures order { IfOk result (λ r. order_of r.0.plan ≡ 0 ∷ 1 ∷ []) }
-    ensures tables { IfOk result (λ r. r.0.plan.problem.value.tables ≡ (false ∷ false ∷ false ∷ true ∷ []) ∷ (false ∷ true ∷ true ∷ true ∷ []) ∷ []) }
+    ensures tables { IfOk result (λ r. r.0.plan.problem.value.tables ≡ two_tables) }
 {
     let problem = two_functions(alloc)?;
     let order = Order::file_order(alloc, 2)?;
@@ -36,7 +37,7 @@ fn store_of_both(alloc: Global) -> Result<(Store, Session), AllocError>
 fn make_both(store: &Store, session: &mut Session) -> Result<(NodeId, NodeId), StoreFull>
     requires session { session.old.store ≡ store.now }
     requires order { order_of store.now.plan ≡ 0 ∷ 1 ∷ [] }
-    requires tables { store.now.plan.problem.value.tables ≡ (false ∷ false ∷ false ∷ true ∷ []) ∷ (false ∷ true ∷ true ∷ true ∷ []) ∷ [] }
+    requires tables { store.now.plan.problem.value.tables ≡ two_tables }
     ensures follows { OnOk result (Follows session.old session.new) }
     ensures conjunction { IfOk result (λ r. Means session.new r.0 (output_at store.now.plan.problem.value 0)) }
     ensures disjunction { IfOk result (λ r. Means session.new r.1 (output_at store.now.plan.problem.value 1)) }

@@ -3,7 +3,8 @@
 ghost use Rattle.std.specs.Prelude.{◌≡◌, ◌<◌, ◌≤◌, IfOk, OnOk};
 ghost use Rattle.std.specs.List.{All};
 ghost use Rattle.unique_table.specs.Plans.{levels_of};
-ghost use Rattle.unique_table.specs.Sessions.{Knows, IsKnownBelow, Follows, Knowledge, depth_in};
+ghost use Rattle.unique_table.specs.Sessions.{IsKnownBelow, Follows, Knowledge};
+ghost use Rattle.store_tests.specs.Cases.{AreFrom};
 
 use order_model::{Order, Problem};
 use std::alloc::{AllocError, Global};
@@ -24,9 +25,9 @@ fn make_one(
     requires level { level < levels_of store.now.plan }
     requires low { IsKnownBelow session.old level low }
     requires high { IsKnownBelow session.old level high }
-    requires ids { All (λ id. Knows session.old id × (level ≤ depth_in session.old id)) ids.old.items }
+    requires ids { AreFrom session.old level ids.old.items }
     ensures follows { Follows session.old session.new }
-    ensures ids { OnOk result (All (λ id. Knows session.new id × (level ≤ depth_in session.new id)) ids.new.items) }
+    ensures ids { OnOk result (AreFrom session.new level ids.new.items) }
 {
     if low == high {
         return Ok(true);
@@ -52,9 +53,9 @@ fn make_all(
     requires level { level < levels_of store.now.plan }
     requires lows { All (IsKnownBelow session.old level) lows.now }
     requires highs { All (IsKnownBelow session.old level) highs.now }
-    requires ids { All (λ id. Knows session.old id × (level ≤ depth_in session.old id)) ids.old.items }
+    requires ids { AreFrom session.old level ids.old.items }
     ensures follows { OnOk result (Follows session.old session.new) }
-    ensures ids { OnOk result (All (λ id. Knows session.new id × (level ≤ depth_in session.new id)) ids.new.items) }
+    ensures ids { OnOk result (AreFrom session.new level ids.new.items) }
 {
     for low in lows {
         for high in highs {

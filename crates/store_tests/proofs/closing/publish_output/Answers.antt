@@ -8,4 +8,4 @@ use Rattle.store_tests.proofs.closing.publish_output.Goals as goal
 pub publish-requires-clause-function : goal.publish-requires-clause-function
 publish-requires-clause-function c = subst (λ (f : Function). Means c.collect-before.new.session c.args.id f)
     (sym ((λ i. piece_function c.args.store.now.plan (c.roots.ensures.value i + c.from.ensures i)) ∙ root_function c.args.store.now.plan c.args.output))
-    (c.collect-before.ensures.follows.means c.args.id (output_at c.args.store.now.plan.problem.value c.args.output) c.requires.function)
+    (c.collect-before.ensures.step.follows.means c.args.id (output_at c.args.store.now.plan.problem.value c.args.output) c.requires.function)

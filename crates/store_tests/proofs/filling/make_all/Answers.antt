@@ -8,3 +8,6 @@ loop-high-preserved c = let i = c.loop-high.invariant in record {
   highs = all_below c.loop-high.session c.make_one.new.session c.args.level c.args.highs.now c.make_one.ensures.follows i.highs;
   ids = c.in_ok-make_one.ensures.ids;
 }
+
+pub returns-then-not-branch-clause-follows : goal.returns-then-not-branch-clause-follows
+returns-then-not-branch-clause-follows c = follows_trans c.args.session.now c.loop-high.session c.make_one.new.session c.loop-high.invariant.follows c.make_one.ensures.follows
