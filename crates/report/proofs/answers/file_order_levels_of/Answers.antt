@@ -22,7 +22,7 @@ returns-then-eq-clause-counts g c =
 pub returns-clause-counts : goal.returns-clause-counts
 returns-clause-counts g c =
     let read = counts_read c.args.cover.now.inputs (functions_of c.args.cover.now) c.in_ok-order.order c.in_ok-levels-2.levels.items c.in_ok-diagram.diagram.graph
-    (rw (← c.in_ok-diagram.ensures.order) c.in_ok-levels-2.ensures.long)
-    (rw (← c.in_ok-diagram.ensures.order) c.in_ok-levels-2.ensures.counts)
-    c.in_ok-diagram.ensures.levels in
+    (rw (← c.in_ok-diagram.ensures.diagram.order) c.in_ok-levels-2.ensures.long)
+    (rw (← c.in_ok-diagram.ensures.diagram.order) c.in_ok-levels-2.ensures.counts)
+    c.in_ok-diagram.ensures.diagram.levels in
     read ∙ ap (level_counts c.args.cover.now.inputs (functions_of c.args.cover.now)) (c.in_ok-order.ensures ∙ ap (λ k. variables k) c.inputs.ensures.value)
