@@ -8,7 +8,8 @@ use Rattle.certificate.specs.Faults.{FirstFault as CertificateFault}
 use Rattle.certificate.specs.Heads.{most_bytes}
 use Rattle.certificate.proofs.Faultless.{spelled_not_faulty, one_first_fault}
 use Rattle.certificate.proofs.Spelled.{one_form}
-use Rattle.cert_check.proofs.Reasons.{good_has_none, first_reason_unique}
+use Rattle.order_model.proofs.Certificates.Potential.{good_has_no_reason}
+use Rattle.cert_check.proofs.Reasons.{first_reason_unique}
 use Rattle.pla_reader.specs.declared.errors.LineFault.{LineFault}
 use Rattle.pla_reader.specs.Covers.{NamedCover}
 use Rattle.pla_reader.specs.Lines.{said}
@@ -23,9 +24,9 @@ use Rattle.report.specs.Texts.{functions_of, invalid_line}
 
 pub verdict_unique : (cover : NamedCover) (cert : Certificate) (outcome other : Outcome) (a b : List ℕ) → HasVerdict cover cert outcome a → HasVerdict cover cert other b → (outcome ≡ other) × (a ≡ b)
 verdict_unique cover cert Done Done a b p q = (refl, p.1 ∙ sym q.1)
-verdict_unique cover cert Done Invalid a b p q = absurd (good_has_none cover.inputs (functions_of cover) cert p.0 q.0 q.1.applies)
+verdict_unique cover cert Done Invalid a b p q = absurd (good_has_no_reason cover.inputs (functions_of cover) cert p.0 q.0 q.1.applies)
 verdict_unique cover cert Done (Refused fault) a b p q = absurd q
-verdict_unique cover cert Invalid Done a b p q = absurd (good_has_none cover.inputs (functions_of cover) cert q.0 p.0 p.1.applies)
+verdict_unique cover cert Invalid Done a b p q = absurd (good_has_no_reason cover.inputs (functions_of cover) cert q.0 p.0 p.1.applies)
 verdict_unique cover cert Invalid Invalid a b p q = (refl, p.2 ∙ ap invalid_line (first_reason_unique cover.inputs (functions_of cover) cert p.0 q.0 p.1 q.1) ∙ sym q.2)
 verdict_unique cover cert Invalid (Refused fault) a b p q = absurd q
 verdict_unique cover cert (Refused fault) other a b p q = absurd p

@@ -1,7 +1,6 @@
 pub mod Texts
 pub mod Answers
 pub mod Statuses
-pub mod Solved
 pub mod FirstDiagrams
 pub mod Runs
 pub mod Judging

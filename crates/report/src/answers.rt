@@ -1,16 +1,16 @@
 //! The answer of a run: the best order of a cover, beside the sifted and the file order.
 
 ghost use Rattle.std.specs.Prelude.{◌≡◌, ◌<◌, ◌≤◌, ℕ, Ok, IfOk, length, slice_index, string_bytes};
-ghost use Rattle.order_model.specs.Diagrams.{IsFirstKeeping, nodes_at};
+ghost use Rattle.order_model.specs.Diagrams.{nodes_at};
 ghost use Rattle.order_model.specs.Levels.{level_counts, size_under};
 ghost use Rattle.order_model.specs.Orders.{IsOrder};
 ghost use Rattle.order_model.specs.Pairs.{IsFirstOrder};
 ghost use Rattle.order_model.specs.Problems.{functions};
 ghost use Rattle.order_model.specs.Sifting.{sifted as sifted_order};
 ghost use Rattle.dd_builder.specs.Building.{AreTablesOf, HasLevelCounts};
+ghost use Rattle.order_solve.specs.Solutions.{IsSolution};
 ghost use Rattle.report.specs.Answers.{IsAnswer, IsCertified, PairsAre};
 ghost use Rattle.report.specs.FirstDiagrams.{IsFirstDiagram};
-ghost use Rattle.report.specs.Solved.{IsSolved};
 ghost use Rattle.report.specs.Texts.{file_order_levels, functions_of, report_parts};
 
 use crate::certificates::certificate_text;
@@ -155,8 +155,7 @@ fn search<R: Threads + Sync>(
     requires tables { AreTablesOf cover.now tables.now }
     requires first { IsFirstDiagram cover.now pairs.pairs first }
     requires pairs { pairs.inputs ≡ cover.now.inputs }
-    ensures best { IfOk result (λ f. IsFirstKeeping tables.now.inputs (functions tables.now) pairs.pairs f.solution.order) }
-    ensures solved { IfOk result (λ f. IsSolved tables.now.inputs (functions tables.now) pairs.pairs f.solution) }
+    ensures solution { IfOk result (λ f. IsSolution tables.now pairs.pairs f.solution) }
     ensures sifted { IfOk result (λ f. (start : _) × IsFirstOrder cover.now.inputs pairs.pairs start
         × (f.sifted ≡ sifted_order tables.now.inputs (functions tables.now) pairs.pairs start)) }
     ensures size { IfOk result (λ f. f.sifted_size ≡ size_under tables.now.inputs (functions tables.now) f.sifted) }

@@ -3,9 +3,8 @@
 ghost use Rattle.std.specs.Prelude.{◌≡◌, IfOk, string_bytes};
 ghost use Rattle.certificate.specs.Faults.{Spells};
 ghost use Rattle.order_model.specs.Certificates.{certificate_of};
-ghost use Rattle.order_model.specs.Orders.{IsOrder};
 ghost use Rattle.order_model.specs.Problems.{functions};
-ghost use Rattle.report.specs.Solved.{IsSolved};
+ghost use Rattle.order_solve.specs.Solutions.{IsSolution};
 
 use certificate::Certificate;
 use certificate::laws::orders_have_certificates;
@@ -21,8 +20,7 @@ pub(crate) fn certificate_text(
     solution: Solution,
 ) -> Result<String, AllocError>
     requires inputs { pairs.now.inputs ≡ problem.now.inputs }
-    requires order { IsOrder problem.now.inputs solution.order }
-    requires parts { IsSolved problem.now.inputs (functions problem.now) pairs.now.pairs solution }
+    requires solution { IsSolution problem.now pairs.now.pairs solution }
     ensures { IfOk result (λ text. Spells (string_bytes text) (certificate_of problem.now.inputs (functions problem.now) pairs.now.pairs solution.order)) }
 {
     let _few = pairs.count();

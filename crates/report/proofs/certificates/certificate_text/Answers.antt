@@ -27,8 +27,8 @@ unreachable-requires c =
     let some = rw outputs at c.outputs-outputs.ensures.some in
     let few = rw outputs at c.outputs-outputs.ensures.few in
     let same = parts_same n F P c.args.solution.order c.inputs-inputs.result c.outputs-outputs.result c.in_ok-order.order.items c.args.solution.levels.items c.args.solution.total c.in_ok-kept.kept.items c.args.solution.cells.items
-    (c.inputs-inputs.ensures.value ∙ c.requires.inputs) outputs (c.in_ok-order.ensures.items_if_clones_equal (λ x y h. h) ∙ c.variables.ensures.value) c.requires.parts.levels c.requires.parts.total c.in_ok-kept.ensures sorted c.requires.parts.cells in
-    c.in-None.ensures.none (subst HasSpelling (sym same) (c.orders_have_certificates.ensures n F P c.args.solution.order kept.some kept.few some few c.requires.order kept.below most sorted))
+    (c.inputs-inputs.ensures.value ∙ c.requires.inputs) outputs (c.in_ok-order.ensures.items_if_clones_equal (λ x y h. h) ∙ c.variables.ensures.value) c.requires.solution.levels c.requires.solution.size c.in_ok-kept.ensures sorted c.requires.solution.cells in
+    c.in-None.ensures.none (subst HasSpelling (sym same) (c.orders_have_certificates.ensures n F P c.args.solution.order kept.some kept.few some few c.requires.solution.first.fewest.is_order kept.below most sorted))
 
 pub returns : goal.returns
 returns c =
@@ -38,6 +38,6 @@ returns c =
     let sorted = rw c.requires.inputs at c.inputs-inputs.ensures.sorted in
     let outputs = c.outputs-outputs.ensures.value ∙ sym (length-map c.args.problem.now.tables from_table) in
     let same = parts_same n F P c.args.solution.order c.inputs-inputs.result c.outputs-outputs.result c.in_ok-order.order.items c.args.solution.levels.items c.args.solution.total c.in_ok-kept.kept.items c.args.solution.cells.items
-    (c.inputs-inputs.ensures.value ∙ c.requires.inputs) outputs (c.in_ok-order.ensures.items_if_clones_equal (λ x y h. h) ∙ c.variables.ensures.value) c.requires.parts.levels c.requires.parts.total c.in_ok-kept.ensures sorted c.requires.parts.cells in
+    (c.inputs-inputs.ensures.value ∙ c.requires.inputs) outputs (c.in_ok-order.ensures.items_if_clones_equal (λ x y h. h) ∙ c.variables.ensures.value) c.requires.solution.levels c.requires.solution.size c.in_ok-kept.ensures sorted c.requires.solution.cells in
     let cert = c.in-Some.ensures.some ∙ same in
     told (certificate_of n F P c.args.solution.order) c.in-Some.cert c.text.result cert (subst HasSpelling c.cert.view_is c.cert.invariant) c.text.ensures
