@@ -1,6 +1,6 @@
 -- What a class table keeps.
 --     IsFull t count      all subfunctions over the set are distinct, there are so many, and each depends on the whole set
---     HoldsTable t full numbers masks      where it is so that count, else the numbers and masks
+--     HoldsTable t full numbers masks      if it is so that count, else the numbers and masks
 use Rattle.std.specs.Prelude.{ℕ, List, replicate, Option, Some, None}
 use Rattle.std.specs.List.{range_with_len}
 use Rattle.class_laws.specs.Table.{ClassesOf, HoldsClasses}

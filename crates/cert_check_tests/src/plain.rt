@@ -34,7 +34,7 @@ fn depends(function: u64, x: VarIx) -> bool
     false
 }
 
-/// How many functions are left where the variables outside a set and one more are fixed in all ways, of those that depend on that one.
+/// How many functions are left if the variables outside a set and one more are fixed in all ways, of those that depend on that one.
 fn width(alloc: Global, functions: &[u64], set: Mask, x: VarIx) -> Result<u64, AllocError>
     requires { x < 6 }
 {
@@ -139,7 +139,7 @@ fn is_listed(cert: &Certificate, set: Mask) -> bool {
         .any(|cell: &ListedCell| cell.mask == set)
 }
 
-/// Whether a set has b where it has a, of each pair (a, b).
+/// Whether a set has b if it has a, of each pair (a, b).
 fn is_lawful(cert: &Certificate, set: Mask) -> bool {
     for (a, b) in cert.pairs() {
         if (set >> (a % 16)) & 1 == 1 && (set >> (b % 16)) & 1 == 0 {

@@ -38,7 +38,7 @@ impl Model for Certificate {
 }
 
 impl Certificate {
-    /// A certificate in format 1, which has no pairs. `None` where the format has no spelling for it.
+    /// A certificate in format 1, which has no pairs. `None` if the format has no spelling for it.
     pub fn new(
         inputs: u8,
         outputs: u8,
@@ -64,7 +64,7 @@ impl Certificate {
         })
     }
 
-    /// A certificate in format 2, with the pairs that an order has to keep, by rising first and then second variable. `None` where
+    /// A certificate in format 2, with the pairs that an order has to keep, by rising first and then second variable. `None` if
     /// the format has no spelling for it.
     pub fn new2(
         inputs: u8,

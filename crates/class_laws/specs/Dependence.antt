@@ -18,7 +18,7 @@ support n f = filter (λ y. depends n f y) (variables n)
 unfoldable pub dependence : ℕ → Function → ℕ
 dependence n f = mask_of (support n f)
 
--- the mask of a pair of classes: what its halves depend on, and x where they differ
+-- the mask of a pair of classes: what its halves depend on, and x if they differ
 abbrev pub joined_mask : List ℕ → ℕ → ℕ × ℕ → ℕ
 joined_mask masks x p = bit_or (bit_or (get_or masks p.0 0) (get_or masks p.1 0)) (cond (nat_eq p.0 p.1) 0 (2 ^ x))
 

@@ -4,7 +4,7 @@
 --     value_of app words id, read_of app words id      the value of an argument, as it was written and as it is read
 --     IsFlag, IsNumber      what a read value means
 --     LacksValues file number, LacksFiles file cert      an argument that is needed is missing
---     faults_of app words      the kinds of error that clap may give at the words, none where it takes them
+--     faults_of app words      the kinds of error that clap may give at the words, none if it takes them
 use Rattle.std.specs.Prelude.{◌≡◌, ◌⊎◌, ◌≤◌, ℕ, Bool, List, [], ◌∷◌, map, Option, Some, None, codes, true, false, pos}
 use Rattle.std.specs.Borrow.{Bor}
 use Rattle.std.specs.Str.Parse.{IsNumeral, digits_value, without_leading_plus}
@@ -53,7 +53,7 @@ value_of app words id = first_of id (matches_of app words)
 unfoldable pub read_of : App → List Text → Text → Option Text
 read_of app words id = one_of id (matches_of app words)
 
--- a flag is set where its value is `true`
+-- a flag is set if its value is `true`
 abbrev pub IsFlag : Option Text → Bool → Type 0
 IsFlag value flag = (value ≡ None → flag ≡ false) × (value ≡ Some (codes "true") → flag ≡ true) × (value ≡ Some (codes "false") → flag ≡ false)
 
@@ -77,6 +77,6 @@ LacksArguments words = LacksValues (value_of minorder words (codes "FILE")) (rea
 abbrev pub LacksPaths : List Text → Type 0
 LacksPaths words = LacksFiles (value_of ordercheck words (codes "FILE")) (value_of ordercheck words (codes "CERT"))
 
--- the kinds of error that clap may give at the words, none where it takes them
+-- the kinds of error that clap may give at the words, none if it takes them
 unfoldable pub faults_of : App → List Text → Kinds
 faults_of app words = fault_of app words

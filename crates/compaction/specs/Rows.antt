@@ -1,5 +1,5 @@
 -- The widths that a block's cells need.
---     width_wanted p mask wanted x      the width of x over the set without it, where x is wanted, else 0
+--     width_wanted p mask wanted x      the width of x over the set without it, if x is wanted, else 0
 --     IsRow p mask wanted row, AreRows p masks needed rows      a set's widths; those of all sets of a block
 --     wanted_count needed      how many widths are wanted
 --     WidthsOf      the rows of a block, and how many compactions they took
@@ -9,7 +9,7 @@ use Rattle.order_model.specs.Orders.{has, members, without}
 use Rattle.order_model.specs.Problems.{TruthTables, functions}
 use Rattle.order_model.specs.Widths.{width}
 
--- the width of x over the set without it, where it is wanted
+-- the width of x over the set without it, if it is wanted
 unfoldable pub width_wanted : TruthTables → ℕ → ℕ → ℕ → ℕ
 width_wanted p mask wanted x = cond (bit_at wanted x == 1) (width p.inputs (functions p) (without x (members p.inputs mask)) x) 0
 

@@ -106,7 +106,7 @@ pub record AreDistinct (t : ClassesOf) (count : ℕ) : Type 0 where
   pub keys : HoldsKeys t (range_with_len 0 count) masks
   pub full : (i : ℕ) → i < count → get_or masks i 0 ≡ t.set
 
--- where all are distinct nothing else is kept; else it may be known that all masks are used
+-- if all are distinct nothing else is kept; else it may be known that all masks are used
 unfoldable pub HoldsTable : ClassesOf → ℕ → Option ℕ → Bool → List ℕ → List ℕ → List ℕ → Type 0
 HoldsTable t low None all_used outer numbers masks = HoldsStrips t low outer numbers masks × (IsTrue all_used → AreUsed numbers masks)
 HoldsTable t low (Some count) all_used outer numbers masks = AreDistinct t count

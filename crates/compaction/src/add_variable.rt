@@ -8,7 +8,7 @@ use crate::names::{NamePairs, number_names};
 use pair_numbering::tell_pairs;
 use std::alloc::{AllocError, Global};
 
-/// Strips, the names of the runs, and the mask of each number. Where `all_used` is true each mask is that of a number that
+/// Strips, the names of the runs, and the mask of each number. If `all_used` is true each mask is that of a number that
 /// occurs.
 #[derive(Drop)]
 pub struct Grown {
@@ -18,7 +18,7 @@ pub struct Grown {
     pub all_used: bool,
 }
 
-/// Whether the numbers count up from 0, as they do where each is new.
+/// Whether the numbers count up from 0, as they do if each is new.
 pub fn count_up(numbers: &[u32]) -> bool
     ensures up { IsTrue result → AreOwn numbers.now }
     ensures all { AreOwn numbers.now → IsTrue result }
@@ -78,7 +78,7 @@ fn first_numbers(alloc: Global, count: usize) -> Result<Vec<u32>, AllocError>
     Ok(numbers)
 }
 
-/// Strips with one more variable, which stands above those inside a strip, where the strips are named in order: their entries
+/// Strips with one more variable, which stands above those inside a strip, if the strips are named in order: their entries
 /// are all entries.
 fn add_in_order(
     alloc: Global,

@@ -207,7 +207,7 @@ fn low_strips<'a>(
 }
 
 /// The rows of a block's sets. The table of the low byte is made once, and the others by a walk over the high variables that
-/// shares common beginnings. Where nothing is wanted no table is made.
+/// shares common beginnings. If nothing is wanted no table is made.
 fn wanted_rows(
     alloc: Global,
     beginning: &Beginning<'_>,

@@ -58,7 +58,7 @@ fn copied_pairs(alloc: Global, pairs: &[(u32, u32)]) -> Result<Vec<(u32, u32)>, 
 }
 
 impl NamePairs {
-    /// The pairs of names, where they are worth keeping: names that count up aren't paired by number.
+    /// The pairs of names, if they are worth keeping: names that count up aren't paired by number.
     fn of(alloc: Global, names: &[u32], rank: u32) -> Result<Option<NamePairs>, AllocError>
         requires rank { rank < 16 }
     {

@@ -19,7 +19,7 @@ use std::marker::Model;
 
 /// The keys of a set in strips: equal subfunctions have one key, and each key that occurs has the mask of what its function
 /// depends on. A strip has an entry for each assignment of the low variables outside the set; `outer` names the strip of each
-/// assignment of the high ones, function by function. Where `all_used` is true each mask is that of a key that occurs. Where all
+/// assignment of the high ones, function by function. If `all_used` is true each mask is that of a key that occurs. If all
 /// subfunctions are distinct and depend on the whole set their count is kept alone.
 #[derive(Drop)]
 pub struct Strips<'a> {
@@ -118,7 +118,7 @@ impl<'a> Strips<'a> {
     ghost use Rattle.compaction.specs.Strips.{AreDistinct, HoldsStrips, low_variables};
     ghost use Rattle.class_laws.specs.Table.{set_of, with_variable, classes_of};
 
-    /// A table of strips, or the count alone where all subfunctions are distinct and depend on the whole set.
+    /// A table of strips, or the count alone if all subfunctions are distinct and depend on the whole set.
     pub fn of_parts(
         alloc: Global,
         problem: &'a Problem,

@@ -11,7 +11,7 @@ use std::marker::Model;
 
 /// A reader with a count of its failed calls.
 pub trait CountedRead {
-    // The bytes that reads will give from here on, where they are known.
+    // The bytes that reads will give from here on, if they are known.
     ghost remaining: { Self → Option (List ℕ) } = { λ _. None };
     // How many calls have failed.
     ghost failures: { Self → ℕ };
@@ -26,7 +26,7 @@ pub trait CountedRead {
 
 /// A writer with a count of its failed calls. One that takes no byte of a non-empty piece has failed.
 pub trait CountedWrite {
-    // The bytes that the writer holds, where they are known.
+    // The bytes that the writer holds, if they are known.
     ghost contents: { Self → Option (List ℕ) } = { λ _. None };
     // How many calls have failed.
     ghost failures: { Self → ℕ };

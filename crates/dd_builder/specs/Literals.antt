@@ -8,7 +8,7 @@ use Rattle.order_model.specs.Problems.{outputs_of}
 use Rattle.order_model.specs.Products.{Product, product_of, literal_holds, literal_in, matches, has_output}
 use Rattle.unique_table.specs.declared.plan.Plan.{Plan}
 
--- 1 where a term's literal of a variable, if it has one, holds and a function is 1
+-- 1 if a term's literal of a variable, if it has one, holds and a function is 1
 unfoldable pub with_literal : Term → ℕ → Function → Function
 with_literal term x f p = literal_holds p (x, literal_in term x) && f p
 
@@ -16,6 +16,6 @@ with_literal term x f p = literal_holds p (x, literal_in term x) && f p
 abbrev pub product_in : Plan → Term → Product
 product_in b term = product_of b.problem.value.inputs (outputs_of b.problem.value) term
 
--- 1 where a function is 1, or a product matches that belongs to an output's ON-set
+-- 1 if a function is 1, or a product matches that belongs to an output's ON-set
 unfoldable pub with_product : Product → ℕ → Function → Function
 with_product product output f p = f p || (matches product p && has_output product output)

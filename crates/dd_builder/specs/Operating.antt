@@ -38,7 +38,7 @@ abbrev pub IsSettled : Operation → ℕ → ℕ → Option ℕ → Type 0
 IsSettled operation a b (Some id) = Settles operation a b id
 IsSettled operation a b None = HasNode a b
 
--- an id as a node of a level: where the level's variable is 1 it has the high one's function, else the low one's
+-- an id as a node of a level: if the level's variable is 1 it has the high one's function, else the low one's
 pub record IsCut (s : Knowledge) (level id low high : ℕ) : Type 0 where
   pub known : Knows s id
   pub low_below : IsKnownBelow s level low

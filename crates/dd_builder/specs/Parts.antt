@@ -64,7 +64,7 @@ pub record KnowsParts (store : StoreId) (s : Knowledge) : Type 0 where
 abbrev pub HasRoots : Knowledge → Type 0
 HasRoots s = (j : ℕ) → j < outputs_of s.store.plan.problem.value → slice_index s.pieces (s.store.plan.roots + j) ≢ 0
 
--- 1 where one of an output's parts by terms is, of `count` parts from a share on
+-- 1 if one of an output's parts by terms is, of `count` parts from a share on
 unfoldable pub shares_union : Plan → ℕ → ℕ → ℕ → Function
 shares_union b output first count p = list_any (λ share. piece_function b (output * 64 + share) p) (range_with_len first count)
 

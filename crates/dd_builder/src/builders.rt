@@ -246,7 +246,7 @@ pub fn build_tables_alone(
     finish(alloc, store, session, source)
 }
 
-/// The reduced diagram of a cover's functions under an order, built from its terms in the store handed in or, where that is full, from its truth
+/// The reduced diagram of a cover's functions under an order, built from its terms in the store handed in or, if that is full, from its truth
 /// tables in a store of its own.
 pub fn build_from<R: Threads + Sync, G: Gate>(
     rt: &R,
@@ -282,7 +282,7 @@ fn has_many_terms(cover: &Cover) -> bool {
     cover.terms().len() > (1usize << cover.inputs()) / 64
 }
 
-/// The reduced diagram of a cover's functions under an order: built from its truth tables where it has many terms, else from its terms and, where they
+/// The reduced diagram of a cover's functions under an order: built from its truth tables if it has many terms, else from its terms and, if they
 /// fill a store, from its truth tables.
 pub fn build<R: Threads + Sync, G: Gate>(
     rt: &R,

@@ -38,7 +38,7 @@ fn literal_and(
     }
 }
 
-/// The id of a term: 1 where all its literals hold.
+/// The id of a term: 1 if all its literals hold.
 fn term_id(store: &Store, session: &mut Session, term: Term) -> Result<NodeId, StoreFull>
     requires session { session.old.store ≡ store.now }
     ensures { Makes session.old session.new result (matches (product_in store.now.plan term)) }
@@ -52,7 +52,7 @@ fn term_id(store: &Store, session: &mut Session, term: Term) -> Result<NodeId, S
     Ok(id)
 }
 
-/// The id of the function of an id, or of a term where it belongs to an output.
+/// The id of the function of an id, or of a term if it belongs to an output.
 fn or_term(
     store: &Store,
     session: &mut Session,

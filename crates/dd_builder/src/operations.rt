@@ -10,7 +10,7 @@ ghost use Rattle.dd_builder.specs.Operating.{AreOperands, IsFrom, IsSettled, IsC
 use op_cache::{recall, remember};
 use unique_table::{NodeId, Operation, Session, Store, StoreFull};
 
-/// What a conjunction is where an operand is a terminal, or both are one.
+/// What a conjunction is if an operand is a terminal, or both are one.
 fn settled_and(first: NodeId, second: NodeId) -> Option<NodeId>
     ensures { IsSettled Operation.And first second result }
 {
@@ -25,7 +25,7 @@ fn settled_and(first: NodeId, second: NodeId) -> Option<NodeId>
     }
 }
 
-/// What a disjunction is where an operand is a terminal, or both are one.
+/// What a disjunction is if an operand is a terminal, or both are one.
 fn settled_or(first: NodeId, second: NodeId) -> Option<NodeId>
     ensures { IsSettled Operation.Or first second result }
 {
@@ -40,7 +40,7 @@ fn settled_or(first: NodeId, second: NodeId) -> Option<NodeId>
     }
 }
 
-/// What an exclusive disjunction is where an operand is 0, or both are one.
+/// What an exclusive disjunction is if an operand is 0, or both are one.
 fn settled_xor(first: NodeId, second: NodeId) -> Option<NodeId>
     ensures { IsSettled Operation.Xor first second result }
 {
@@ -55,7 +55,7 @@ fn settled_xor(first: NodeId, second: NodeId) -> Option<NodeId>
     }
 }
 
-/// What an operation is where no node has to be taken apart.
+/// What an operation is if no node has to be taken apart.
 fn settled(operation: Operation, first: NodeId, second: NodeId) -> Option<NodeId>
     ensures { IsSettled operation first second result }
 {

@@ -25,7 +25,7 @@ pub record SeatView : Type 0 where
 abbrev pub fresh : BriefOf → ℕ → SeatView
 fresh b n = record { brief = b; worker = unmarked (length (blocks_of b.layer)) (length (masks_of b.layer)); seats = n; steps = 0; writes = 0 }
 
--- a seat after a step, which was also a write where `wrote` is 1
+-- a seat after a step, which was also a write if `wrote` is 1
 abbrev pub after : SeatView → Worker → ℕ → SeatView
 after v w wrote = record { brief = v.brief; worker = w; seats = v.seats; steps = v.steps + 1; writes = v.writes + wrote }
 
@@ -44,7 +44,7 @@ pub record SeatOf : Type 0 where
 abbrev pub first_seat : BoardId → SeatOf
 first_seat b = record { board = b; worker = unmarked (length (blocks_of b.brief.layer)) (length (masks_of b.brief.layer)); steps = 0; writes = 0 }
 
--- a seat after a step, which was also a write where `wrote` is 1
+-- a seat after a step, which was also a write if `wrote` is 1
 abbrev pub stepped : SeatOf → Worker → ℕ → SeatOf
 stepped s w wrote = record { board = s.board; worker = w; steps = s.steps + 1; writes = s.writes + wrote }
 
@@ -73,7 +73,7 @@ abbrev pub learns_place : Worker → Option ℕ → Worker
 learns_place w None = w
 learns_place w (Some p) = learns w p
 
--- a seat after a step, or a write where `wrote` is 1, by which it knows the cell of a mask to be filled
+-- a seat after a step, or a write if `wrote` is 1, by which it knows the cell of a mask to be filled
 abbrev pub learned : SeatOf → ℕ → ℕ → SeatOf
 learned s mask wrote = stepped s (learns_place s.worker (place_of (layout_of s.board.brief.layer) mask)) wrote
 
@@ -85,7 +85,7 @@ abbrev pub found_empty_at : SeatOf → Option ℕ → SeatOf
 found_empty_at s None = s
 found_empty_at s (Some p) = stepped s s.worker 0
 
--- a seat after it read a mask and found no cell: it takes no step where the mask is not in the layer
+-- a seat after it read a mask and found no cell: it takes no step if the mask is not in the layer
 abbrev pub found_empty : SeatOf → ℕ → SeatOf
 found_empty s mask = found_empty_at s (place_of (layout_of s.board.brief.layer) mask)
 

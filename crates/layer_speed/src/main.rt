@@ -58,7 +58,7 @@ fn fewest_nodes(
     Ok(costs.last().copied().unwrap_or(0))
 }
 
-/// The problem that standard input holds, where it holds one.
+/// The problem that standard input holds, if it holds one.
 fn problem_in(alloc: Global, bytes: &[u8]) -> Result<Option<Problem>, AllocError> {
     let [inputs, outputs, tables @ ..] = bytes else {
         return Ok(None);

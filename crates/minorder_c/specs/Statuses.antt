@@ -24,7 +24,7 @@ IsShortage OutOfMemory = Unit {0}
 IsShortage StoreFull = Unit {0}
 IsShortage _ = ⊥
 
--- arguments without their shape are refused for it; others only where something is wanting
+-- arguments without their shape are refused for it; others only if something is wanting
 abbrev pub Refuses : Type 0 → Refusal → Type 0
 Refuses shape Shape = shape → ⊥
 Refuses shape OutOfMemory = shape
@@ -35,7 +35,7 @@ Refuses shape _ = ⊥
 abbrev pub IsPlainStatus : ℕ → Type 0
 IsPlainStatus s = (s ≡ 0) ⊎ ((s ≡ 2) ⊎ ((s ≡ 4) ⊎ (s ≡ 6)))
 
--- arguments without their shape, or with their shape and no order, are refused for it; others only where something is wanting
+-- arguments without their shape, or with their shape and no order, are refused for it; others only if something is wanting
 abbrev pub RefusesOrder : Type 0 → Type 0 → Refusal → Type 0
 RefusesOrder shape order Shape = shape → ⊥
 RefusesOrder shape order Order = shape × (order → ⊥)
@@ -43,7 +43,7 @@ RefusesOrder shape order OutOfMemory = shape
 RefusesOrder shape order StoreFull = shape
 RefusesOrder shape order _ = ⊥
 
--- arguments without their shape, or with their shape and pairs that no order keeps, are refused for it; others only where something is wanting
+-- arguments without their shape, or with their shape and pairs that no order keeps, are refused for it; others only if something is wanting
 abbrev pub RefusesPairs : Type 0 → Type 0 → Refusal → Type 0
 RefusesPairs shape keepable Shape = shape → ⊥
 RefusesPairs shape keepable Pairs = shape × (keepable → ⊥)

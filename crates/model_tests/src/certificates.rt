@@ -11,7 +11,7 @@ use std::test::Fail;
 const MULTIPLEXER: &str =
     "bddorder-certificate 1\ninputs 3\noutputs 1\norder 2 0 1\nlevels 1 1 1\ntotal 3\ncells 5\n0000 0\n0001 1\n0002 1\n0003 2\n0004 2\nend\n";
 
-/// Its certificate in format 2 where variable 0 has to stand above variable 2.
+/// Its certificate in format 2, with variable 0 above variable 2.
 const ABOVE: &str =
     "bddorder-certificate 2\ninputs 3\noutputs 1\norder 0 2 1\nlevels 1 2 1\ntotal 4\npairs 1\n0 2\ncells 2\n0000 0\n0002 1\nend\n";
 
@@ -40,7 +40,7 @@ type Parts = (
     &'static [(Mask, u32)],
 );
 
-/// A certificate of parts, in format 1 where they have no list of pairs.
+/// A certificate of parts, in format 1 if they have no list of pairs.
 fn certificate_of(alloc: Global, parts: Parts) -> Result<Option<Certificate>, AllocError> {
     let ((inputs, outputs), order, levels, total, pairs, cells) = parts;
     let order = order.to_vec(alloc)?;

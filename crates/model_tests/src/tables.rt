@@ -8,7 +8,7 @@ use std::test::Fail;
 use std::thread::Threads;
 use truth_table::Tables;
 
-/// Three products of the variables 0 to 5, where variable i meets variable i + 3.
+/// Three products of the variables 0 to 5, in which variable i meets variable i + 3.
 static INTERLEAVED: &[u8] = b".i 6\n.o 1\n1--1-- 1\n-1--1- 1\n--1--1 1\n.e\n";
 
 /// Covers, and the level counts under their file orders.

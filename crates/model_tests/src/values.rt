@@ -49,7 +49,7 @@ fn orders(rt: HostRuntime) -> Result<(), Fail> {
     Ok(())
 }
 
-// A problem with the value 1 at the given outputs and points, where it has them.
+// A problem with the value 1 at the given outputs and points, if it has them.
 fn problem_of(alloc: Global, n: u8, m: u8, ones: &[(u8, u32)]) -> Result<Problem, AllocError>
     requires some_inputs { 1 ≤ n }
     requires few_inputs { n ≤ 16 }
@@ -65,7 +65,7 @@ fn problem_of(alloc: Global, n: u8, m: u8, ones: &[(u8, u32)]) -> Result<Problem
     Ok(problem)
 }
 
-// The value of an output at a point, where the problem has them.
+// The value of an output at a point, if the problem has them.
 fn value_in(problem: &Problem, output: u8, point: u32) -> Option<bool> {
     if output < problem.outputs() && point < 1u32 << problem.inputs() {
         Some(problem.value(output, point))
@@ -96,7 +96,7 @@ fn conjunction_and_disjunction(rt: HostRuntime) -> Result<(), Fail> {
     Ok(())
 }
 
-// Three inputs a, b, s: b where s is 1, else a.
+// Three inputs a, b, s: b if s is 1, else a.
 const MULTIPLEXER: u64 = 0b1100_1010;
 
 #[test]

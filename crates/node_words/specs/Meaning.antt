@@ -26,7 +26,7 @@ depth levels ws id = if nat_lt id 2 then levels else level_of (slice_index ws (i
 abbrev pub along : List ℕ → Point → ℕ → Bool
 along order p level = bit p (slice_index order level)
 
--- the function that an id denotes: the high child's where the level's variable is 1, else the low child's
+-- the function that an id denotes: the high child's if the level's variable is 1, else the low child's
 unfoldable pub function_of : List ℕ → List ℕ → ℕ → Function
 function_of order ws id p = value (length order) ws id (along order p)
 
@@ -35,6 +35,6 @@ pub record Denotes (order ws : List ℕ) (id : ℕ) (f : Function) : Type 0 wher
   pub known : IsKnown ws id
   pub function : SameFunction (length order) (function_of order ws id) f
 
--- g where the variable is 1, else f
+-- g if the variable is 1, else f
 unfoldable pub branch : ℕ → Function → Function → Function
 branch x f g p = cond (bit p x) (g p) (f p)

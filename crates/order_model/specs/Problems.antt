@@ -40,7 +40,7 @@ packed_bit words k = bit_at (get_or words (k / 64) 0) (k % 64) == 1
 unfoldable pub table_in : ℕ → List ℕ → List Bool
 table_in n words = map (packed_bit words) (range_with_len 0 (2 ^ n))
 
--- the words of table j, where each table takes `size` of them
+-- the words of table j, if each table takes `size` of them
 abbrev pub words_of : ℕ → List ℕ → ℕ → List ℕ
 words_of size words j = take size (drop (j * size) words)
 

@@ -1,7 +1,7 @@
 -- Product terms and the functions of a list of them (espresso(5), logical type f).
 --     Product      a product term: for each input the value that it asks for, if any, and for each output whether it belongs to its ON-set
 --     matches product p      whether a point has all the values that a product asks for
---     product_function products j, product_functions m products      output j: 1 where some product of its ON-set matches; the outputs' functions
+--     product_function products j, product_functions m products      output j: 1 if some product of its ON-set matches; the outputs' functions
 --     product_of n m term      the product that the program's masks stand for
 use Rattle.std.specs.Prelude.{ℕ, Bool, true, cond, ◌&&◌, ◌==◌, List, map, Option, Some, None}
 use Rattle.std.specs.Int.{bit_at}
@@ -28,7 +28,7 @@ matches product p = list_all (literal_holds p) (enumerate_from 0 product.literal
 abbrev pub has_output : Product → ℕ → Bool
 has_output product j = bit product.outputs j
 
--- output j: 1 where some product of its ON-set matches
+-- output j: 1 if some product of its ON-set matches
 unfoldable pub product_function : List Product → ℕ → Function
 product_function products j p = list_any (λ product. matches product p && has_output product j) products
 
@@ -36,7 +36,7 @@ product_function products j p = list_any (λ product. matches product p && has_o
 unfoldable pub product_functions : ℕ → List Product → List Function
 product_functions m products = map (product_function products) (range_with_len 0 m)
 
--- the literal of input i: a term asks for a value where its mask `care` has the bit
+-- the literal of input i: a term asks for a value if its mask `care` has the bit
 abbrev pub literal_in : Term → ℕ → Option Bool
 literal_in term i = cond (bit_at term.care i == 1) (Some (bit_at term.value i == 1)) None
 

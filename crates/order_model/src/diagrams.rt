@@ -18,7 +18,7 @@ pub enum Ref {
     Place(usize),
 }
 
-/// A decision node: the low child is taken where the variable is 0, the high child where it is 1.
+/// A decision node: the low child is taken if the variable is 0, the high child if it is 1.
 #[derive(Clone, Copy, Debug, PartialEq, Eq)]
 pub struct Node {
     pub variable: u8,

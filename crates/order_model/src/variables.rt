@@ -27,7 +27,7 @@ impl Model for Workers {
 }
 
 impl Workers {
-    /// That many workers, where there may be so many.
+    /// That many workers, if there may be so many.
     pub fn new(count: u8) -> Option<Workers>
         ensures some { IsSome result ↔ ((1 ≤ count) × (count ≤ 64)) }
         ensures value { IfSome result (λ w. w ≡ count) }

@@ -7,7 +7,7 @@ use order_model::{Mask, Pairs, Problem};
 use std::marker::Model;
 use subset_layers::{Costs, Layer};
 
-/// What the workers of a layer are lent: what its cells are for, the costs of the layer before, and, where several layers are
+/// What the workers of a layer are lent: what its cells are for, the costs of the layer before, and, if several layers are
 /// done, what the walks of all blocks begin with.
 #[derive(Drop)]
 pub struct Bench<'a> {

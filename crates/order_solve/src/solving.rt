@@ -58,7 +58,7 @@ pub(crate) fn solve_within<R: Threads + Sync, G: Gate>(
 /// The first order of the fewest nodes among those that keep the pairs of a sifted order of the same functions. The size of
 /// that order bounds the search. The gate is called by the workers for each set but the empty one.
 ///
-/// Memory alone is refused: where any worker met it, no layer is done over.
+/// Memory alone is refused: if any worker met it, no layer is done over.
 pub fn solve<R: Threads + Sync, G: Gate>(
     rt: &R,
     alloc: Global,

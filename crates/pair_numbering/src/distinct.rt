@@ -1,4 +1,4 @@
-//! Numbers of pairs where all classes are distinct.
+//! Numbers of pairs if all classes are distinct.
 
 ghost use Rattle.std.specs.Prelude.{◌≡◌, ◌≢◌, ℕ, ◌*◌, ◌/◌, ◌^◌, ◌<◌, ◌≤◌, length, IfOk, IsTrue};
 ghost use Rattle.class_laws.specs.Places as places;

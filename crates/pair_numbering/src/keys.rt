@@ -14,7 +14,7 @@ use std::alloc::{AllocError, Global};
 /// Pairs of more keys than these are numbered by first occurrence.
 const MOST_JOINED: usize = 16;
 
-/// Numbers that tell pairs apart, and the mask of each. Where `all_used` is true each mask is that of a number that occurs.
+/// Numbers that tell pairs apart, and the mask of each. If `all_used` is true each mask is that of a number that occurs.
 #[derive(Drop)]
 pub struct Told {
     pub numbers: Vec<u32>,
@@ -72,7 +72,7 @@ fn join_key_masks(alloc: Global, masks: &[u16], x: u8) -> Result<Vec<u16>, Alloc
     Ok(joined)
 }
 
-/// Tells the pairs apart: by joined keys where there are few, else by numbers.
+/// Tells the pairs apart: by joined keys if there are few, else by numbers.
 pub fn tell_pairs(
     alloc: Global,
     numbers: &[u32],

@@ -6,7 +6,7 @@ ghost use Rattle.pair_numbering.specs.Numbers.{ArePairsBelow};
 
 use std::alloc::{AllocError, Global};
 
-/// The mask of a pair of classes: what its halves depend on, and `x` where they differ.
+/// The mask of a pair of classes: what its halves depend on, and `x` if they differ.
 #[inline(always)]
 pub fn join_mask(masks: &[u16], x: u8, pair: (u32, u32)) -> u16
     requires variable { x < 16 }

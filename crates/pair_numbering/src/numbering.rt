@@ -20,7 +20,7 @@ pub struct Numbered {
     pub masks: Vec<u16>,
 }
 
-/// The numbers of the pairs: by slots, or by chains where slots are crowded. All classes are below `classes`.
+/// The numbers of the pairs: by slots, or by chains if slots are crowded. All classes are below `classes`.
 pub fn number_pairs(
     alloc: Global,
     numbers: &[u32],
@@ -37,8 +37,8 @@ pub fn number_pairs(
     }
 }
 
-/// The numbers of the pairs, and the masks of the numbers, from those of the classes: in order where all classes are distinct,
-/// by a cell for each pair of classes where these are few, else by slots or chains.
+/// The numbers of the pairs, and the masks of the numbers, from those of the classes: in order if all classes are distinct,
+/// by a cell for each pair of classes if these are few, else by slots or chains.
 pub fn number_pairs_with_masks(
     alloc: Global,
     numbers: &[u32],

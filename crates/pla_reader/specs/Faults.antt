@@ -53,7 +53,7 @@ is_plain_type given = option_map_or is_plain (only_word given) false
 abbrev pub is_type : List (List ℕ) → Bool
 is_type given = option_map_or is_known (only_word given) false
 
--- whether an earlier line says .type f, where an output - or 2 says nothing
+-- whether an earlier line says .type f, under which an output - or 2 says nothing
 abbrev pub takes_dont_cares : List Line → Bool
 takes_dont_cares before = list_all is_plain_type (filter_map type_words before) && comes type_words before
 

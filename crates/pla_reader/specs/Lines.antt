@@ -34,7 +34,7 @@ directive word given =
     (cond (same word (codes ".e")) End
     (cond (same word (codes ".end")) End UnknownWord)))))))
 
--- the meaning of a line of these words: a directive where the first one begins with a point
+-- the meaning of a line of these words: a directive if the first one begins with a point
 unfoldable pub meaning : List (List ℕ) → Line → Line
 meaning [] row = Empty
 meaning (word ∷ given) row = cond (slice_index word 0 == 46) (directive word given) row

@@ -84,7 +84,7 @@ Taken before line after (Err (line_errors.Fault fault)) = fault_of before line �
 abbrev pub Takes : {U : Type 0} → Progress → Line → Progress → Result U LineError → Type 0
 Takes old line new result = (before : List Line) → Agrees before (state_of old) → Taken before line (state_of new) result
 
--- the cover is what the program holds, with numbered names where none came
+-- the cover is what the program holds, with numbered names if none came
 pub record IsCoverOf (s : State) (cover : NamedCover) : Type 0 where
   pub inputs : s.inputs ≡ Some cover.inputs
   pub outputs : s.outputs ≡ Some cover.outputs

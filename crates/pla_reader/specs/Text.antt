@@ -44,7 +44,7 @@ words line = filter is_filled (slice_split is_blank line)
 unfoldable pub positions : List ℕ → List ℕ
 positions line = filter (λ b. not (is_blank b || b == bar)) line
 
--- the word, where there is just one
+-- the word, if there is just one
 abbrev pub only_word : List (List ℕ) → Option (List ℕ)
 only_word (word ∷ []) = Some word
 only_word _ = None

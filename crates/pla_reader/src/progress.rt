@@ -252,7 +252,7 @@ impl Progress {
         }
     }
 
-    /// The cover of the lines read, where both counts came; the line that ends the description has the number.
+    /// The cover of the lines read, if both counts came; the line that ends the description has the number.
     pub(crate) fn finish(self, alloc: Global, number: usize) -> Result<Cover, PlaError>
         requires { IsSound (state_of self) }
         ensures ok { IfOk result (IsCoverOf (state_of self)) }

@@ -1,5 +1,5 @@
 -- A diagram made of the nodes that some roots reach: each node of the diagram is the copy of a place, after the copies of its children.
---     numbers      for each place 1 more than the place of its copy; 0 where it has none
+--     numbers      for each place 1 more than the place of its copy; 0 if it has none
 --     ref_of, node_of      the ref of an id, and the copy of a node's word
 --     AreCopied      the copies made so far
 --     Copies      what copying one more id does

@@ -1,5 +1,5 @@
 -- The answer of a run, by the cover and the pairs that the order has to keep.
---     PairsAre above n r      what the list of pairs says: none where there is no list
+--     PairsAre above n r      what the list of pairs says: none if there is no list
 --     IsAnswer cover P text, IsCertificate cover P text      the text of the answer, and that of its certificate
 --     IsTextOf plan cover text, IsCertificateOf above cover text      what a run writes of a cover: its report, and its certificate
 --     AskTheSame plan other      they differ in the number of workers alone
@@ -21,7 +21,7 @@ use Rattle.report.specs.declared.outcome.Fault.{Fault}
 use Rattle.report.specs.declared.outcome.Fault.TheVariants as fault
 use Rattle.report.specs.Texts.{count_text, functions_of, report_text}
 
--- the pairs of a list for n variables, or its fault; none where there is no list
+-- the pairs of a list for n variables, or its fault; none if there is no list
 abbrev pub PairsAre : Option (Bor (List ℕ)) → ℕ → Result KeptPairs PairsFault → Type 0
 PairsAre None n (Ok kept) = kept ≡ record { inputs = n; pairs = [] }
 PairsAre None n (Err fault) = ⊥
@@ -41,7 +41,7 @@ pub record IsCertificate (cover : NamedCover) (P : List Pair) (text : List ℕ) 
   pub is : IsCertOf cover.inputs (functions_of cover) P cert
   pub spells : Spells text cert
 
--- a certificate where one is asked for
+-- a certificate if one is asked for
 abbrev pub IsCertified : NamedCover → List Pair → Bool → Option (String Global) → Type 0
 IsCertified cover P false text = text ≡ None
 IsCertified cover P true None = ⊥
@@ -68,7 +68,7 @@ pub record AskTheSame (plan other : RunPlan) : Type 0 where
 abbrev pub IsCertificateOf : Option (Bor (List ℕ)) → NamedCover → List ℕ → Type 0
 IsCertificateOf above cover text = (kept : KeptPairs) × PairsAre above cover.inputs (Ok kept) × IsCertificate cover kept.pairs text
 
--- what is made of a cover for a certificate's writer: nothing by a count or where there is no writer
+-- what is made of a cover for a certificate's writer: nothing by a count or if there is no writer
 abbrev pub HasCertificate : Bool → Option (Bor (List ℕ)) → NamedCover → Bool → Option (String Global) → Type 0
 HasCertificate true above cover asked text = text ≡ None
 HasCertificate false above cover false text = text ≡ None

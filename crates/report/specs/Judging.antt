@@ -72,7 +72,7 @@ Judge file text (Refused CertificateTooLong) written = ((cover : NamedCover) × 
 Judge file text (Refused fault) written = ⊥
 Judge file text outcome written = (cover : NamedCover) × (cert : Certificate) × ReadsWithin file cover × SpellsWithin text cert × HasVerdict cover cert outcome written
 
--- what a check writes: what the bytes lead to; nothing where it is out of memory; a beginning of the line after a failed call
+-- what a check writes: what the bytes lead to; nothing if it is out of memory; a beginning of the line after a failed call
 abbrev pub ChecksAs : List ℕ → List ℕ → Option (List ℕ) → Option (List ℕ) → Outcome → Type 0
 ChecksAs file text before after (Refused OutOfMemory) = after ≡ before
 ChecksAs file text before after (Refused Device) = (after ≡ before) ⊎ ((outcome : Outcome) × (line : List ℕ) × (n : ℕ) × Judge file text outcome line × Appends before after (take n line))
@@ -86,7 +86,7 @@ Verdicts before after (Refused (Pairs fault)) = ⊥
 Verdicts before after (Refused fault) = after ≡ before
 Verdicts before after outcome = (cover : NamedCover) × (cert : Certificate) × (line : List ℕ) × HasVerdict cover cert outcome line × Appends before after line
 
--- what the program writes that ends with status 0: help, where clap answers the words with it, else the line of a good certificate of some cover
+-- what the program writes that ends with status 0: help, if clap answers the words with it, else the line of a good certificate of some cover
 abbrev pub ChecksWell : List (List ℕ) → Option (List ℕ) → Option (List ℕ) → Type 0
 ChecksWell words before after = AsksForHelp ordercheck words ⊎ Verdicts before after Done
 
@@ -94,6 +94,6 @@ ChecksWell words before after = AsksForHelp ordercheck words ⊎ Verdicts before
 abbrev pub IsInvalid : Option (List ℕ) → Option (List ℕ) → Type 0
 IsInvalid before after = Verdicts before after Invalid
 
--- what it leaves where a device failed: nothing, or a beginning of the line of a verdict
+-- what it leaves if a device failed: nothing, or a beginning of the line of a verdict
 abbrev pub ChecksInPart : Option (List ℕ) → Option (List ℕ) → Type 0
 ChecksInPart before after = Verdicts before after (Refused Device)

@@ -27,7 +27,7 @@ use Rattle.report.specs.Texts.{functions_of}
 abbrev pub longest : ℕ
 longest = 16777216
 
--- what the writers hold, where it is known: that of the report, and that of the certificate, if there is one
+-- what the writers hold, if it is known: that of the report, and that of the certificate, if there is one
 pub record Held : Type 0 where
   pub out : Option (List ℕ)
   pub cert : Option (Option (List ℕ))
@@ -88,7 +88,7 @@ Delivers plan IsRead before after (Refused fault) = after ≡ before
 abbrev pub ReadsAsGood : NamedCover → List ℕ → Type 0
 ReadsAsGood cover text = (cert : Certificate) × Spells text cert × IsGood cover.inputs (functions_of cover) cert × ((other : Certificate) → Spells text other → other ≡ cert)
 
--- where a run without count is done, what the certificate's writer got reads as a good certificate of the file's functions
+-- if a run without count is done, what the certificate's writer got reads as a good certificate of the file's functions
 abbrev pub WritesGood : RunPlan → List ℕ → Option (Option (List ℕ)) → Option (Option (List ℕ)) → Outcome → Type 0
 WritesGood plan file before after Done = plan.count ≡ false → (cover : NamedCover) × Reads file cover × Gets (ReadsAsGood cover) whole before after
 WritesGood plan file before after (Refused fault) = Unit {0}
@@ -100,7 +100,7 @@ pub record IsPlanOf (words : List (List ℕ)) (plan : RunPlan) : Type 0 where
   pub count : IsFlag (read_of minorder words (codes "count")) plan.count
   pub workers : IsNumber (read_of minorder words (codes "workers")) plan.workers
 
--- what a program writes to its output that ends with status 0: help, where clap answers the words with it, else the text of some cover
+-- what a program writes to its output that ends with status 0: help, if clap answers the words with it, else the text of some cover
 abbrev pub EndsWell : List (List ℕ) → Option (List ℕ) → Option (List ℕ) → Type 0
 EndsWell words before after = AsksForHelp minorder words ⊎ ((plan : RunPlan) × IsPlanOf words plan × (cover : NamedCover) × (text : List ℕ) × IsCover cover × IsTextOf plan cover text × Appends before after text)
 
@@ -113,7 +113,7 @@ DeliversReport plan IsRead before after (Refused (CertificateLine line fault)) =
 DeliversReport plan IsRead before after (Refused CertificateTooLong) = ⊥
 DeliversReport plan IsRead before after (Refused fault) = after ≡ before
 
--- what it leaves on its output where a device failed: nothing, or a beginning of the text of some cover
+-- what it leaves on its output if a device failed: nothing, or a beginning of the text of some cover
 abbrev pub EndsInPart : List (List ℕ) → Option (List ℕ) → Option (List ℕ) → Type 0
 EndsInPart words before after = (after ≡ before) ⊎ ((plan : RunPlan) × IsPlanOf words plan × (cover : NamedCover) × (text : List ℕ) × (n : ℕ) × IsCover cover × IsTextOf plan cover text × Appends before after (take n text))
 

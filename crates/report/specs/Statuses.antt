@@ -50,7 +50,7 @@ fault_of_shortage shortage.OutOfMemory = OutOfMemory
 abbrev pub want_of_memory : Shortage
 want_of_memory = shortage.OutOfMemory
 
--- what was wanting where no diagram was built
+-- what was wanting if no diagram was built
 abbrev pub shortage_of : BuildError → Shortage
 shortage_of (build.StoreFull session) = shortage.StoreFull
 shortage_of build.OutOfMemory = shortage.OutOfMemory

@@ -68,7 +68,7 @@ fn first_diagram<R: Threads + Sync>(
     Ok(diagram)
 }
 
-/// The level counts under the file order, off the diagram under the first order where that is the file order, else off one that is built under it.
+/// The level counts under the file order, off the diagram under the first order if that is the file order, else off one that is built under it.
 fn file_order_levels_of<R: Threads + Sync>(
     rt: &R,
     alloc: Global,
@@ -201,7 +201,7 @@ fn report_of<R: Threads + Sync>(
     Ok(text)
 }
 
-/// The texts that a run writes of a cover: its report, and its certificate where one is asked for.
+/// The texts that a run writes of a cover: its report, and its certificate if one is asked for.
 #[derive(Drop)]
 pub(crate) struct RunTexts {
     pub(crate) report: String,

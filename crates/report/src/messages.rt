@@ -23,7 +23,7 @@ const MEMORY_STATUS: u8 = 4;
 /// The longest line of a fault has a name, two numbers and two words.
 const LONGEST_FAULT: usize = 128;
 
-/// The words after a program's name, or its exit status where they can't be had: 2 where one is no text, 4 out of memory.
+/// The words after a program's name, or its exit status if they can't be had: 2 if one is no text, 4 out of memory.
 pub fn words_of_program<R: Env + AllocGlobal>(rt: &R) -> Result<Vec<String>, u8> {
     match env::args(rt) {
         Ok(words) => match words.skip(1).collect::<Vec<String>>(rt.alloc()) {

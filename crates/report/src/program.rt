@@ -46,7 +46,7 @@ fn run_on_files<'a, R: Files + AllocGlobal + Threads + Sync, W: CountedWrite>(
 /// The program: the words are those after its name, the report goes to `out`, messages to `err`. Returns the exit status.
 ///
 /// The words are `[--workers W] [--cert OUT] [--count] [--above LIST] FILE`. FILE is opened, then OUT is made, empty, and then FILE is
-/// read; where a run is refused OUT stays as it was made.
+/// read; if a run is refused OUT stays as it was made.
 pub fn minorder<'a, R: Files + AllocGlobal + Threads + Sync, W: CountedWrite, E: CountedWrite>(
     rt: &R,
     words: &'a [&'a str],

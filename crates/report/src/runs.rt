@@ -45,7 +45,7 @@ fn counts_of<R: Threads + Sync>(rt: &R, alloc: Global, cover: &Cover) -> Result<
     Ok(text)
 }
 
-/// What the plan asks to be written of a cover; a certificate only where it has a writer.
+/// What the plan asks to be written of a cover; a certificate only if it has a writer.
 fn planned_texts<'a, R: Threads + Sync>(
     rt: &R,
     alloc: Global,
@@ -75,7 +75,7 @@ fn planned_texts<'a, R: Threads + Sync>(
     }
 }
 
-/// Writes the certificate, where there are a text and a writer.
+/// Writes the certificate, if there are a text and a writer.
 fn write_certificate<C: CountedWrite>(
     cert: &mut Option<C>,
     text: &Option<String>,
@@ -96,7 +96,7 @@ fn write_certificate<C: CountedWrite>(
 }
 
 /// Reads a PLA file and writes what is asked of it: with `count`, the level counts and the size under the file order, else the
-/// first order of the fewest nodes that keeps the pairs, beside the sifted one, and its certificate where this has a writer.
+/// first order of the fewest nodes that keeps the pairs, beside the sifted one, and its certificate if this has a writer.
 ///
 /// The file is read to its end before anything is decided, and both texts are made whole before the first byte is written. The
 /// certificate goes out first. A count leaves the certificate's writer alone.

@@ -42,7 +42,7 @@ pub(crate) fn invalid_text(alloc: Global, reason: Reason) -> Result<String, Allo
     Ok(text)
 }
 
-/// Appends how many pairs there are, where there are any.
+/// Appends how many pairs there are, if there are any.
 fn push_pairs(text: &mut String, pairs: usize) -> Result<(), AllocError>
     ensures { OnOk result (string_bytes text.new ≡ string_bytes text.old ++ pairs_words pairs) }
 {

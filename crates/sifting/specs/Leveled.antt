@@ -9,7 +9,7 @@ use Rattle.std.specs.Prelude.{◌≡◌, ℕ, ◌*◌, ◌<◌, ◌≤◌, Bool,
 use Rattle.std.specs.List.{count_by}
 use Rattle.order_model.specs.Functions.{Point, Function, bit}
 
--- the places of a node's children: where the variable is 0, and where it is 1
+-- the places of a node's low and high child
 abbrev pub Children : Type 0
 Children = ℕ × ℕ
 
@@ -77,7 +77,7 @@ pub record NumbersFirst {K : Type 0} (d : K) (off_key on_key : ℕ → K) (done 
   pub once : (j k : ℕ) → j < length keys → k < length keys → get_or keys j d ≡ get_or keys k d → j ≡ k
   pub reached : ReachedFirst done (length keys) nodes
 
--- the grandchildren of a node where the lower variable has a value
+-- the grandchildren of a node if the lower variable has a value
 abbrev pub grandchildren : List Children → List Children → Bool → ℕ → Children
 grandchildren upper lower b k = (child b (at lower (at upper k).0), child b (at lower (at upper k).1))
 

@@ -10,7 +10,7 @@ ghost use Rattle.sifting.specs.Leveled.{branching, HasChildren, Exchanges};
 use indexmap::IndexSet;
 use std::alloc::{AllocError, Global};
 
-/// The places of a node's children on the next level: where the variable is 0, and where it is 1.
+/// The places of a node's low and high child on the next level.
 pub type Children = (u32, u32);
 
 /// The nodes of a level, each once, and how many of them have two different children.

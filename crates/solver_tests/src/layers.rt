@@ -36,7 +36,7 @@ fn sets_of_two_of_ten_variables(rt: HostRuntime) -> Result<(), Fail> {
 }
 
 /// Of each set of a layer of the multiplexer (the variable 2 selects 0 or 1) the widths of the variables over the set
-/// without them, where they are needed, and its cell for the bound 3.
+/// without them, if they are needed, and its cell for the bound 3.
 type Row = (Mask, [u32; 3], Cell);
 
 const fn cell(cost: u32, variable: u8) -> Cell {

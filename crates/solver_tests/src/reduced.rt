@@ -108,7 +108,7 @@ fn are_checked(order: &Order, nodes: &[Node], roots: &[Ref]) -> bool
     are_roots(nodes.len(), roots)
 }
 
-/// The diagram of some nodes and at most 16 roots, where it is reduced.
+/// The diagram of some nodes and at most 16 roots, if it is reduced.
 pub fn reduced_diagram(order: Order, nodes: Vec<Node>, roots: Vec<Ref>) -> Option<Diagram>
     ensures order { IfSome result (λ d. d.order ≡ order) }
     ensures few { IfSome result (λ d. length d.graph.roots ≤ 16) }

@@ -33,7 +33,7 @@ const INTERLEAVED: &[Triple] = &[
     (0, 7, 14),
 ];
 
-// Three inputs a, b, s: b where s is 1, else a; under the file order, and under b, s, a.
+// Three inputs a, b, s: b if s is 1, else a; under the file order, and under b, s, a.
 const MULTIPLEXER: &[Triple] = &[(2, 0, 1), (1, 0, 2), (2, 1, 0), (1, 4, 1), (0, 3, 5)];
 
 const MULTIPLEXER_B_S_A: &[Triple] = &[(0, 0, 1), (2, 2, 0), (2, 2, 1), (1, 3, 4)];
@@ -85,7 +85,7 @@ fn sifted(alloc: Global, diagram: Diagram, pairs: Pairs) -> Result<Sifted, Fail>
     Ok(manager.sift(alloc)?)
 }
 
-// The manager with the variable at a level on a higher one, where the pairs let it there.
+// The manager with the variable at a level on a higher one, if the pairs let it there.
 fn lifted(alloc: Global, manager: Manager, from: usize, to: usize) -> Result<Manager, AllocError> {
     let mut manager = manager;
     for level in (to..from).rev() {

@@ -160,7 +160,7 @@ fn sift_from_first<R: Threads + Sync>(
     Ok(manager.sift(alloc)?)
 }
 
-/// The solution of a cover under some pairs, where that is the sifted order.
+/// The solution of a cover under some pairs, if that is the sifted order.
 fn solved<R: Threads + Sync, G: Gate>(
     rt: &R,
     alloc: Global,

@@ -1,6 +1,6 @@
 -- The costs of the sets of a layer.
 --     CostsOf, layer_of_costs c      a layer with a cell for each of its sets; of the empty set's layer there is none
---     cell_at c mask, cost_at c mask      the cell and the cost of a set, where it is in the layer; the empty set has the cost 0
+--     cell_at c mask, cost_at c mask      the cell and the cost of a set, if it is in the layer; the empty set has the cost 0
 --     AreTrueCosts n F P bound c      the costs are those of the definition's cells
 --     AreWidthsFor n F P bound mask costs widths      the widths that the cell of a set needs are the definition's
 use Rattle.std.specs.Prelude.{◌≡◌, ℕ, ◌-◌, ◌^◌, ◌≤◌, Option, Some, None, List, [], cond, ◌<◌, IsTrue, nat_eq, length, slice_get, slice_index, unwrap_or}
@@ -60,7 +60,7 @@ AreTrueCells n F P bound c = (i : ℕ) → i < length c.cells → (cell : Cell) 
 abbrev pub cost_without : CostsOf → ℕ → ℕ → ℕ
 cost_without c mask x = unwrap_or (cost_at c (mask - 2 ^ x)) 0
 
--- the widths that the cell of a lawful set needs are the definition's: where the cost without the variable is within the bound
+-- the widths that the cell of a lawful set needs are the definition's: if the cost without the variable is within the bound
 abbrev pub AreWidthsFor : ℕ → List Function → List Pair → ℕ → ℕ → CostsOf → List ℕ → Type 0
 AreWidthsFor n F P bound mask c widths =
     IsTrue (is_lawful P (members n mask)) → (x : ℕ) → IsTrue (has (members n mask) x) → cost_without c mask x ≤ bound → slice_index widths x ≡ width n F (without x (members n mask)) x

@@ -20,7 +20,7 @@ struct Sum {
     variable: VarIx,
 }
 
-/// The one of two sums that is smaller, and the earlier one where they are equal.
+/// The one of two sums that is smaller, and the earlier one if they are equal.
 fn smaller(best: Option<Sum>, next: Sum) -> Sum
     ensures none { best ≡ None → result ≡ next }
     ensures some { IfSome best (λ b. (b.sum ≤ next.sum → result ≡ b) × (next.sum < b.sum → result ≡ next)) }

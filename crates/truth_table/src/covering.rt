@@ -133,7 +133,7 @@ fn lay_out(
     Ok(words)
 }
 
-/// How many groups are worth a thread where so many terms are asked in each.
+/// How many groups are worth a thread if so many terms are asked in each.
 fn least_groups(terms: usize) -> usize {
     if terms == 0 { 8_192 } else { 8_192 / terms }
 }

@@ -36,7 +36,7 @@ impl Model for Tables {
 }
 
 impl Tables {
-    /// The truth tables of a cover's outputs. Threads share groups of 32 words of 64 points; the time is that of a step for each group and term, of one for each word of a group where the term may hold, and of one for each output of a word where it holds.
+    /// The truth tables of a cover's outputs. Threads share groups of 32 words of 64 points; the time is that of a step for each group and term, of one for each word of a group if the term may hold, and of one for each output of a word if it holds.
     pub fn of_cover<R: Threads + Sync>(
         rt: &R,
         alloc: Global,

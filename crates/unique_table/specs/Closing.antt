@@ -34,7 +34,7 @@ abbrev pub LacksRoot : List ℕ → ℕ → ℕ → CloseFault → Type 0
 LacksRoot words first m (MissingRoot j) = IsLeastEmpty words first m j
 LacksRoot words first m OutOfMemory = Unit {0}
 
--- words that a store may end with, where a session knows what it knows
+-- words that a store may end with, if a session knows what it knows
 pub record IsLast (s : Knowledge) (words : List ℕ) : Type 0 where
   pub size : length words ≡ s.store.plan.places + s.store.plan.entries + s.store.plan.pieces
   pub stored : AreStored (levels_of s.store.plan) s.store.plan.places (nodes_of s.store.plan words)

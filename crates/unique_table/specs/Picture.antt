@@ -130,7 +130,7 @@ publishes st m n m' = Goes m m' 1 (λ ws pieces. slice_index pieces (st.word - (
 abbrev pub collects : Step (Unit {0}) → Seated → ℕ → Seated → Type 0
 collects st m n m' = Goes m m' 0 (λ ws pieces. slice_index pieces (st.word - (m.0.plan.places + m.0.plan.entries)) ≡ n)
 
--- a load of a cache word: the session sees the result, where there is one
+-- a load of a cache word: the session sees the result, if there is one
 abbrev pub recalls : Step (Unit {0}) → Seated → ℕ → Seated → Type 0
 recalls st m n m' = Goes m m' 0 (λ ws pieces. n ≢ 0 → IsEntry (order_of m.0.plan) ws n)
 

@@ -1,7 +1,7 @@
 -- Seats at a store's table, and the places of its words.
 --     Board, Sitting      the table and a seat at it
 --     IsSeatOf t s, IsSeatAfter t s s' wrote      a seat of the table, and one after a step that wrote `wrote` words
---     IsNodePlace t place, IsEntryPlace t entry place, IsPiecePlace t piece place      where the words of nodes, of the cache and of pieces stand
+--     IsNodePlace t place, IsEntryPlace t entry place, IsPiecePlace t piece place      if the words of nodes, of the cache and of pieces stand
 --     IsNodeWord t s word, MayPut t s word place      a node's word, and the place at which a seat may put it
 use Rattle.std.specs.Prelude.{◌≡◌, ◌≢◌, ℕ, ◌+◌, ◌<◌, []}
 use Rattle.atomic_table.specs.declared.shared.Shared.{Shared}

@@ -4,7 +4,7 @@
 --     Knows s id, function_in s id, depth_in s id, Means s id f      the ids that a session knows
 --     combined_in s operation a b      an operation on the functions of two ids
 --     LiesNoHigher s a b id      an id lies no higher than the higher one of two others
---     HasUniqueIds s      ids that a session knows are equal where they denote the same function
+--     HasUniqueIds s      ids that a session knows are equal if they denote the same function
 --     HasPiece s q id      the session knows that the piece has the id
 --     Follows s s'      a session goes on: what it knew it still knows
 --     MakesStep s s' wrote      a session goes on by one step
@@ -61,7 +61,7 @@ LiesNoHigher s a b id = (k : ℕ) → k ≤ depth_in s a → k ≤ depth_in s b 
 abbrev pub IsKnownBelow : Knowledge → ℕ → ℕ → Type 0
 IsKnownBelow s level id = Knows s id × (level < depth_in s id)
 
--- two ids that the session knows are one, where they denote the same function
+-- two ids that the session knows are one, if they denote the same function
 abbrev pub HasUniqueIds : Knowledge → Type 0
 HasUniqueIds s = (id other : ℕ) (f : Function) → Means s id f → Means s other f → id ≡ other
 

@@ -50,7 +50,7 @@ abbrev pub Puts : Type 0
 Puts = (b : Plan) (s : StoreState) (id : ℕ) (v : View) (p w : ℕ) → IsSeat b s id v → p < b.places → w ≢ 0 → IsNext v.seen b.places w p → IsNode (levels_of b) v.seen w →
     (v' : View) × Becomes b s id v (put_words s.words p w) v' × (slice_index v'.seen p ≡ slice_index (put_words s.words p w) p)
 
--- a store of a piece's id: where there was one, it is the same
+-- a store of a piece's id: if there was one, it is the same
 abbrev pub Publishes : Type 0
 Publishes = (b : Plan) (s : StoreState) (id : ℕ) (v : View) (q ref : ℕ) → IsSeat b s id v → q < b.pieces → Denotes (order_of b) v.seen ref (piece_function b q) →
     (v' : View) × Becomes b s id v (slice_set s.words (b.places + b.entries + q) (ref + 1)) v' × (slice_index v'.pieces q ≡ ref + 1) × Grows (pieces_of b s.words) (pieces_of b (slice_set s.words (b.places + b.entries + q) (ref + 1)))

@@ -126,7 +126,7 @@ impl Store {
         self.entries
     }
 
-    /// The id of the node with this level and these children, or the child where they are equal. It takes at most two steps per place.
+    /// The id of the node with this level and these children, or the child if they are equal. It takes at most two steps per place.
     pub fn make(
         &self,
         session: &mut Session,

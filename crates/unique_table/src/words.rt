@@ -110,7 +110,7 @@ pub(crate) fn remember(
     shared.store::<Remembers>(seat, place, word);
 }
 
-/// Searches for a node's word, and puts it into the first empty place that it comes to. None where each place is taken by another word.
+/// Searches for a node's word, and puts it into the first empty place that it comes to. None if each place is taken by another word.
 pub(crate) fn find_or_put(
     shared: &Board,
     seat: &mut Seat<(), View>,
