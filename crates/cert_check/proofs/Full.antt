@@ -24,15 +24,21 @@ use Rattle.class_laws.proofs.Firsts.{Made, made_none, made_first, made_numbers, 
 use Rattle.class_laws.proofs.Index.{length-pairs, pair_listed, pair_within}
 use Rattle.cert_check.specs.Tables.{IsFull}
 
-pub full_of : (t : ClassesOf) (numbers masks : List ℕ) → HoldsClasses t numbers masks → length masks ≡ length numbers → ((i : ℕ) → i < length numbers → get_or numbers i 0 ≡ i) →
+pub full_of : (t : ClassesOf) (numbers masks : List ℕ) → HoldsClasses t numbers masks → length masks ≡ length numbers →
+    ((i : ℕ) → i < length numbers → get_or numbers i 0 ≡ i) →
     ((i : ℕ) → i < length masks → get_or masks i 0 ≡ t.set) → IsFull t (length masks)
-full_of t numbers masks h e own full = subst (λ us. HoldsClasses t us (replicate (length masks) t.set)) same_numbers (subst (HoldsClasses t numbers) same_masks h)
+full_of t numbers masks h e own full =
+    subst (λ us. HoldsClasses t us (replicate (length masks) t.set)) same_numbers (subst (HoldsClasses t numbers) same_masks h)
   where
     same_numbers : numbers ≡ range_with_len 0 (length masks)
-    same_numbers = ext_get_or 0 numbers (range_with_len 0 (length masks)) (sym e ∙ sym (length-range_with_len 0 (length masks))) (λ i l. own i l ∙ sym (range_at (length masks) i (omega arith)))
+    same_numbers =
+        ext_get_or 0 numbers (range_with_len 0 (length masks)) (sym e ∙ sym (length-range_with_len 0 (length masks)))
+        (λ i l. own i l ∙ sym (range_at (length masks) i (omega arith)))
 
     same_masks : masks ≡ replicate (length masks) t.set
-    same_masks = ext_get_or 0 masks (replicate (length masks) t.set) (sym (length-replicate (length masks) t.set)) (λ i l. full i l ∙ sym (get_or-replicate (length masks) i t.set 0 l))
+    same_masks =
+        ext_get_or 0 masks (replicate (length masks) t.set) (sym (length-replicate (length masks) t.set))
+        (λ i l. full i l ∙ sym (get_or-replicate (length masks) i t.set 0 l))
 
 module _ (t : ClassesOf) (count : ℕ) (h : IsFull t count) (x : ℕ) (inside : x < t.problem.inputs) (new : has (set_of t) x ≡ false) where
   abbrev cs : List ℕ
@@ -83,7 +89,10 @@ module _ (t : ClassesOf) (count : ℕ) (h : IsFull t count) (x : ℕ) (inside : 
       let some = pow_pos (free_below t.set x) in
       let a = get_or-replicate count (low_place step j) t.set 0 (omega arith) in
       let b = get_or-replicate count (low_place step j + step) t.set 0 w in
-      sym (ap join (pair_is j l) ∙ (λ i. bit_or (bit_or (a i) (b i)) (cond (ne_eqb (low_place step j) (low_place step j + step) (λ e. let f : ⊥ = omega arith in f) i) 0 (2 ^ x))) ∙ ap (λ z. bit_or z (2 ^ x)) (or_self t.set))
+      sym (ap join (pair_is j l)
+      ∙ (λ i. bit_or (bit_or (a i) (b i))
+      (cond (ne_eqb (low_place step j) (low_place step j + step) (λ e. let f : ⊥ = omega arith in f) i) 0 (2 ^ x)))
+      ∙ ap (λ z. bit_or z (2 ^ x)) (or_self t.set))
 
   -- the numbers of so many pairs
   abbrev out : List ℕ
@@ -98,7 +107,8 @@ module _ (t : ClassesOf) (count : ℕ) (h : IsFull t count) (x : ℕ) (inside : 
       let n = half in
       let d = length-range_with_len 0 count in
       let e : j + 1 ≡ suc j = omega arith in
-      let m = made_first 0 ps join out (replicate j union) j union (omega arith) (distinct_first cs (free_below t.set x) whole apart j (omega arith)) (join_is j (omega arith)) (made j (omega arith)) in
+      let m = made_first 0 ps join out (replicate j union) j union (omega arith)
+      (distinct_first cs (free_below t.set x) whole apart j (omega arith)) (join_is j (omega arith)) (made j (omega arith)) in
       subst (λ k. Made 0 ps join out (replicate k union) k) e
       (subst (λ us. Made 0 ps join us (replicate (j + 1) union) (j + 1)) (same_out j (omega arith))
       (subst (λ us. Made 0 ps join (set out j (length (replicate j union))) us (j + 1)) (replicate-append-replicate j 1 union) m))
@@ -107,16 +117,20 @@ module _ (t : ClassesOf) (count : ℕ) (h : IsFull t count) (x : ℕ) (inside : 
   full_more =
       let n = half in
       let m = made (count / 2) (omega arith) in
-      holds_more t x inside new cs (replicate count t.set) out (replicate (count / 2) union) h (made_numbers 0 ps join out (replicate (count / 2) union) (count / 2) (omega arith) m)
-      (made_many 0 ps join out (replicate (count / 2) union) (count / 2) (omega arith) m) (made_told 0 ps join out (replicate (count / 2) union) (count / 2) (omega arith) m)
+      holds_more t x inside new cs (replicate count t.set) out (replicate (count / 2) union) h
+      (made_numbers 0 ps join out (replicate (count / 2) union) (count / 2) (omega arith) m)
+      (made_many 0 ps join out (replicate (count / 2) union) (count / 2) (omega arith) m)
+      (made_told 0 ps join out (replicate (count / 2) union) (count / 2) (omega arith) m)
 
 all_kept : (p : ℕ → Bool) (v n : ℕ) → p v ≡ true → length (filter p (replicate n v)) ≡ n
 all_kept p v zero e = refl
 all_kept p v (suc n) e = ap (λ b. length (cond b (v ∷ filter p (replicate n v)) (filter p (replicate n v)))) e ∙ ap suc (all_kept p v n e)
 
-pub full_width : (t : ClassesOf) (count x : ℕ) → IsFull t count → has (set_of t) x ≡ true → width t.problem.inputs (functions_of t) (without x (set_of t)) x ≡ count
+pub full_width : (t : ClassesOf) (count x : ℕ) → IsFull t count → has (set_of t) x ≡ true →
+    width t.problem.inputs (functions_of t) (without x (set_of t)) x ≡ count
 full_width t count x h inside =
-    width_is_dependent_classes t.problem.inputs (functions_of t) (set_of t) (replicate count t.set) x (members_small t.problem.inputs t.set x inside) inside h.masks_are
+    width_is_dependent_classes t.problem.inputs (functions_of t) (set_of t) (replicate count t.set) x
+    (members_small t.problem.inputs t.set x inside) inside h.masks_are
     ∙ all_kept (λ m. eqb (bit_at m x) 1) t.set count bit
   where
     bit : eqb (bit_at t.set x) 1 ≡ true

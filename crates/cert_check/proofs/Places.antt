@@ -30,8 +30,12 @@ owned end k few small = at_each (is_own end) (2 ^ end) (at_each (λ e. all_below
 
 pub part_within : (end k : ℕ) → end < 7 → k < 2 ^ end → part_at end k < 2 ^ end
 unfolding is_own
-part_within end k few small = ltb-true (part_at end k) (2 ^ end) (and_parts (ltb (part_at end k) (2 ^ end)) (eqb (part_at end (part_at end k)) k) (owned end k few small)).0
+part_within end k few small =
+    ltb-true (part_at end k) (2 ^ end)
+    (and_parts (ltb (part_at end k) (2 ^ end)) (eqb (part_at end (part_at end k)) k) (owned end k few small)).0
 
 pub part_twice : (end k : ℕ) → end < 7 → k < 2 ^ end → part_at end (part_at end k) ≡ k
 unfolding is_own
-part_twice end k few small = eqb-true (part_at end (part_at end k)) k (and_parts (ltb (part_at end k) (2 ^ end)) (eqb (part_at end (part_at end k)) k) (owned end k few small)).1
+part_twice end k few small =
+    eqb-true (part_at end (part_at end k)) k
+    (and_parts (ltb (part_at end k) (2 ^ end)) (eqb (part_at end (part_at end k)) k) (owned end k few small)).1

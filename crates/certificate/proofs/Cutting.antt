@@ -19,7 +19,8 @@ no_place p xs e = grind (arith, common_steps)
 front_lacks : (byte : ℕ) (text : List ℕ) → AllByRecursion (λ b. (b == byte) ≡ false) (take (position_or_len (λ b. b == byte) text) text)
 front_lacks byte [] = tt
 front_lacks byte (b ∷ text) = by (b == byte) refl (front_lacks byte text) where
-  by : (t : Bool) → (b == byte) ≡ t → AllByRecursion (λ x. (x == byte) ≡ false) (take (position_or_len (λ x. x == byte) text) text) → AllByRecursion (λ x. (x == byte) ≡ false) (take (position_or_len (λ x. x == byte) (b ∷ text)) (b ∷ text))
+  by : (t : Bool) → (b == byte) ≡ t → AllByRecursion (λ x. (x == byte) ≡ false) (take (position_or_len (λ x. x == byte) text) text) →
+      AllByRecursion (λ x. (x == byte) ≡ false) (take (position_or_len (λ x. x == byte) (b ∷ text)) (b ∷ text))
   by true e ih = rw e tt
   by false e ih = rw e (let next : 1 + position_or_len (λ x. x == byte) text ≡ suc (position_or_len (λ x. x == byte) text) = omega arith in rw next (e, ih))
 
@@ -28,7 +29,9 @@ parted : (byte : ℕ) (text : List ℕ) → position_or_len (λ b. b == byte) te
     text ≡ take (position_or_len (λ b. b == byte) text) text ++ byte ∷ drop 1 (drop (position_or_len (λ b. b == byte) text) text)
 parted byte [] within = absurd (omega (arith, within))
 parted byte (b ∷ text) within = by (b == byte) refl (parted byte text) where
-  by : (t : Bool) → (b == byte) ≡ t → (position_or_len (λ x. x == byte) text < length text → text ≡ take (position_or_len (λ x. x == byte) text) text ++ byte ∷ drop 1 (drop (position_or_len (λ x. x == byte) text) text)) →
+  by : (t : Bool) → (b == byte) ≡ t →
+      (position_or_len (λ x. x == byte) text < length text →
+      text ≡ take (position_or_len (λ x. x == byte) text) text ++ byte ∷ drop 1 (drop (position_or_len (λ x. x == byte) text) text)) →
       b ∷ text ≡ take (position_or_len (λ x. x == byte) (b ∷ text)) (b ∷ text) ++ byte ∷ drop 1 (drop (position_or_len (λ x. x == byte) (b ∷ text)) (b ∷ text))
   by true e ih = let same : b ≡ byte = grind (arith, nat_tests) in rw e (rw same refl)
   by false e ih =
@@ -42,7 +45,8 @@ drop_next (suc k) [] = ap (λ n. drop n []) (let e : suc (k + 1) ≡ suc k + 1 =
 drop_next (suc k) (x ∷ xs) = drop_next k xs ∙ ap (λ n. drop n (x ∷ xs)) (let e : suc (k + 1) ≡ suc k + 1 = omega arith in e)
 
 -- a byte that is found parts the text at its place
-pub cut_at : (byte : ℕ) (text : List ℕ) (found : Option ℕ) (k : ℕ) → found ≡ position (λ b. b == byte) text → found ≡ Some k → Cuts byte text (take k text) (drop (k + 1) text)
+pub cut_at : (byte : ℕ) (text : List ℕ) (found : Option ℕ) (k : ℕ) → found ≡ position (λ b. b == byte) text → found ≡ Some k →
+    Cuts byte text (take k text) (drop (k + 1) text)
 cut_at byte text found k place is =
     let at : position_or_len (λ b. b == byte) text ≡ k = first_place (λ b. b == byte) text k (sym place ∙ is) in
     let within : k < length text = (position-Some (λ b. b == byte) text k 0 (sym place ∙ is)).0 in

@@ -29,7 +29,9 @@ pair_kind n some small = record { written = written; back = back; told = told } 
   back : (p : Pair) → IsPair n p → read_pair (pair_words p) ≡ p
   back (a, b) (above, below) = rw (decimal_back a (omega arith)) (rw (decimal_back b (omega arith)) refl)
 
-  told : (a b : List ℕ) → is_pair n a b ≡ true → (pair_words (read_pair (a ∷ b ∷ [])) ≡ a ∷ b ∷ []) × IsPair n (read_pair (a ∷ b ∷ [])) × (pair_key (read_pair (a ∷ b ∷ [])) ≡ pair_key_of a b)
+  told : (a b : List ℕ) → is_pair n a b ≡ true →
+      (pair_words (read_pair (a ∷ b ∷ [])) ≡ a ∷ b ∷ []) × IsPair n (read_pair (a ∷ b ∷ []))
+      × (pair_key (read_pair (a ∷ b ∷ [])) ≡ pair_key_of a b)
   told a b e =
       let t = both_are _ _ e in let first = decimal_is 0 (n - 1) a t.0 in let second = decimal_is 0 (n - 1) b t.1 in
       let above = first.1.1 in let below = second.1.1 in
@@ -48,29 +50,38 @@ cell_kind n small = record { written = written; back = back; told = told } where
       )
 
   back : (c : Cell) → IsCell n c → read_cell (cell_words c) ≡ c
-  back c is = let mask = is.mask in let cost = is.cost in let top = power_small n small in rw (hex_back c.mask (omega arith)) (rw (decimal_back c.cost (omega (arith, cost))) refl)
+  back c is = let mask = is.mask in let cost = is.cost in let top = power_small n small in
+      rw (hex_back c.mask (omega arith)) (rw (decimal_back c.cost (omega (arith, cost))) refl)
 
-  told : (a b : List ℕ) → is_cell n a b ≡ true → (cell_words (read_cell (a ∷ b ∷ [])) ≡ a ∷ b ∷ []) × IsCell n (read_cell (a ∷ b ∷ [])) × (mask_key (read_cell (a ∷ b ∷ [])) ≡ cell_key_of a b)
+  told : (a b : List ℕ) → is_cell n a b ≡ true →
+      (cell_words (read_cell (a ∷ b ∷ [])) ≡ a ∷ b ∷ []) × IsCell n (read_cell (a ∷ b ∷ []))
+      × (mask_key (read_cell (a ∷ b ∷ [])) ≡ cell_key_of a b)
   told a b e =
       let t = both_are _ _ e in let first = mask_is n a t.0 in let second = decimal_is 0 most_nodes b t.1 in
       (rw first.0 (rw second.0 refl), record { mask = first.1; cost = second.1.1 }, refl)
 
 -- lines that stand between others
-pub stand_behind : (is_entry : List ℕ → List ℕ → Bool) (key : List ℕ → List ℕ → ℕ) (pre es post : List (List (List ℕ))) → StandAt is_entry key (pre ++ (es ++ post)) (length pre) es
+pub stand_behind : (is_entry : List ℕ → List ℕ → Bool) (key : List ℕ → List ℕ → ℕ) (pre es post : List (List (List ℕ))) →
+    StandAt is_entry key (pre ++ (es ++ post)) (length pre) es
 stand_behind is_entry key pre [] post = tt
 stand_behind is_entry key pre (e ∷ es) post =
     let same : (pre ++ e ∷ []) ++ (es ++ post) ≡ pre ++ (e ∷ (es ++ post)) = append_assoc pre (e ∷ []) (es ++ post) in
     let long : length (pre ++ e ∷ []) ≡ length pre + 1 = length-append pre (e ∷ []) in
     let more = stand_behind is_entry key (pre ++ e ∷ []) es post in
-    let moved : StandAt is_entry key (pre ++ (e ∷ (es ++ post))) (length (pre ++ e ∷ [])) es = subst (λ ws. StandAt is_entry key ws (length (pre ++ e ∷ [])) es) same more in
+    let moved : StandAt is_entry key (pre ++ (e ∷ (es ++ post))) (length (pre ++ e ∷ [])) es =
+    subst (λ ws. StandAt is_entry key ws (length (pre ++ e ∷ [])) es) same more in
     (get_or-append_seam pre e (es ++ post) [], subst (λ k. StandAt is_entry key (pre ++ (e ∷ (es ++ post))) k es) long moved)
 
-module _ {E : Type 0} (write : E → List (List ℕ)) (read : List (List ℕ) → E) (key_of : E → ℕ) (Is : E → Type 0) (is_entry : List ℕ → List ℕ → Bool) (key : List ℕ → List ℕ → ℕ)
+module _ {E : Type 0} (write : E → List (List ℕ)) (read : List (List ℕ) → E) (key_of : E → ℕ) (Is : E → Type 0)
+    (is_entry : List ℕ → List ℕ → Bool) (key : List ℕ → List ℕ → ℕ)
     (kind : IsKind write read key_of Is is_entry key) (name : List ℕ) (most : ℕ) (fits : most < 2 ^ 64) where
   -- the number of entries that stands in a section's first line
-  count_said : (pre post entries : List (List (List ℕ))) → length entries < 2 ^ 64 → number_said (pre ++ (section name entries ++ post)) (length pre) ≡ length entries
+  count_said : (pre post entries : List (List (List ℕ))) → length entries < 2 ^ 64 →
+      number_said (pre ++ (section name entries ++ post)) (length pre) ≡ length entries
   count_said pre post entries few =
-      ap (λ (ws : List (List ℕ)). number_of (get_or ws 1 [])) (get_or-append_seam pre (field name (length entries ∷ [])) (entries ++ post) []) ∙ decimal_back (length entries) few
+      ap (λ (ws : List (List ℕ)). number_of (get_or ws 1 []))
+      (get_or-append_seam pre (field name (length entries ∷ [])) (entries ++ post) [])
+      ∙ decimal_back (length entries) few
 
   -- a section that is spelled passes
   pub section_passes : (pre post : List (List (List ℕ))) (es : List E) → length es ≤ most → AllByRecursion Is es → AllPairs (λ a b. key_of a < key_of b) es →
@@ -103,7 +114,8 @@ module _ {E : Type 0} (write : E → List (List ℕ)) (read : List (List ℕ) �
     pub all : AllByRecursion Is (section_said read ws at)
     pub rise : AllPairs (λ a b. key_of a < key_of b) (section_said read ws at)
 
-  pub section_is : (pre post vs : List (List (List ℕ))) → Pass (section_judges name most is_entry key (pre ++ (vs ++ post)) (length pre)) vs → IsSection (pre ++ (vs ++ post)) vs (length pre)
+  pub section_is : (pre post vs : List (List (List ℕ))) →
+      Pass (section_judges name most is_entry key (pre ++ (vs ++ post)) (length pre)) vs → IsSection (pre ++ (vs ++ post)) vs (length pre)
   section_is pre post [] pass = elim pass [ ]
   section_is pre post (head ∷ es) (passes, pass) =
       let ws = pre ++ ((head ∷ es) ++ post) in

@@ -21,7 +21,8 @@ use Rattle.certificate.proofs.Decoded.{pair_kind, cell_kind, IsSection, section_
 use Rattle.order_model.proofs.Bits.Masks.{power_small}
 
 -- lines without a fault pass
-none_pass : (number : ℕ) (js : List Judge) (ws : List (List (List ℕ))) → line_faults number js ws ≡ [] → (vs : List (List (List ℕ))) × (us : List (List (List ℕ))) × (ws ≡ vs ++ us) × Pass js vs
+none_pass : (number : ℕ) (js : List Judge) (ws : List (List (List ℕ))) → line_faults number js ws ≡ [] →
+    (vs : List (List (List ℕ))) × (us : List (List (List ℕ))) × (ws ≡ vs ++ us) × Pass js vs
 unfolding line_faults
 none_pass number [] ws none = ([], ws, refl, refl)
 none_pass number (j ∷ js) [] none = absurd (cc (none))
@@ -37,10 +38,12 @@ behind_lines : (text : List ℕ) → (rest : List ℕ) × (text ≡ with_feeds (
 unfolding whole_lines
 behind_lines [] = ([], refl)
 behind_lines (b ∷ text) = by (b == 10) refl (behind_lines text) where
-  by : (t : Bool) → (b == 10) ≡ t → (rest : List ℕ) × (text ≡ with_feeds (whole_lines text) ++ rest) → (rest : List ℕ) × (b ∷ text ≡ with_feeds (cond (b == 10) ([] ∷ whole_lines text) (onto_line b (whole_lines text))) ++ rest)
+  by : (t : Bool) → (b == 10) ≡ t → (rest : List ℕ) × (text ≡ with_feeds (whole_lines text) ++ rest) →
+      (rest : List ℕ) × (b ∷ text ≡ with_feeds (cond (b == 10) ([] ∷ whole_lines text) (onto_line b (whole_lines text))) ++ rest)
   by true is (rest, e) = (rest, rw is (let feed : b ≡ 10 = grind (arith, nat_tests) in rw feed (ap (λ xs. 10 ∷ xs) e)))
   by false is (rest, e) = onto (whole_lines text) refl where
-    onto : (lines : List (List ℕ)) → whole_lines text ≡ lines → (rest : List ℕ) × (b ∷ text ≡ with_feeds (cond (b == 10) ([] ∷ whole_lines text) (onto_line b (whole_lines text))) ++ rest)
+    onto : (lines : List (List ℕ)) → whole_lines text ≡ lines →
+        (rest : List ℕ) × (b ∷ text ≡ with_feeds (cond (b == 10) ([] ∷ whole_lines text) (onto_line b (whole_lines text))) ++ rest)
     onto [] none = (b ∷ text, rw is (rw none refl))
     onto (line ∷ lines) some = (rest, rw is (rw some (ap (λ xs. b ∷ xs) (e ∙ ap (λ ls. with_feeds ls ++ rest) some))))
 
@@ -53,7 +56,8 @@ feeds_append (x ∷ xs) ys = ap (λ more. (x ++ 10 ∷ []) ++ more) (feeds_appen
 none_behind : (count : ℕ) (text : List ℕ) → trailing count text ≡ [] → length text ≤ length (with_feeds (take count (whole_lines text)))
 unfolding trailing
 none_behind count text none = by (nat_lt (length (with_feeds (take count (whole_lines text)))) (length text)) refl where
-  by : (t : Bool) → nat_lt (length (with_feeds (take count (whole_lines text)))) (length text) ≡ t → length text ≤ length (with_feeds (take count (whole_lines text)))
+  by : (t : Bool) → nat_lt (length (with_feeds (take count (whole_lines text)))) (length text) ≡ t →
+      length text ≤ length (with_feeds (take count (whole_lines text)))
   by true is = absurd (let wrong = rw is at none in cc)
   by false is = grind (arith, nat_tests)
 
@@ -69,13 +73,16 @@ unfolding text_line words
 joined_back [] = refl
 joined_back (line ∷ lines) = rw (join_with_byte-slice_split 32 line) (rw (joined_back lines) refl)
 
-all_are_taken : (count : ℕ) (text : List ℕ) → trailing count text ≡ [] → (take count (whole_lines text) ≡ whole_lines text) × (text ≡ flat_map text_line (said text))
+all_are_taken : (count : ℕ) (text : List ℕ) → trailing count text ≡ [] →
+    (take count (whole_lines text) ≡ whole_lines text) × (text ≡ flat_map text_line (said text))
 all_are_taken count text none =
     let b = behind_lines text in let lines = whole_lines text in
     let split : take count lines ++ drop count lines ≡ lines = take-append-drop count lines in
-    let parts : text ≡ (with_feeds (take count lines) ++ with_feeds (drop count lines)) ++ b.0 = b.1 ∙ ap (λ ls. with_feeds ls ++ b.0) (sym split) ∙ ap (λ xs. xs ++ b.0) (feeds_append (take count lines) (drop count lines)) in
+    let parts : text ≡ (with_feeds (take count lines) ++ with_feeds (drop count lines)) ++ b.0 = b.1
+    ∙ ap (λ ls. with_feeds ls ++ b.0) (sym split) ∙ ap (λ xs. xs ++ b.0) (feeds_append (take count lines) (drop count lines)) in
     let sizes : length text ≡ (length (with_feeds (take count lines)) + length (with_feeds (drop count lines))) + length b.0 =
-    ap length parts ∙ length-append (with_feeds (take count lines) ++ with_feeds (drop count lines)) b.0 ∙ ap (λ k. k + length b.0) (length-append (with_feeds (take count lines)) (with_feeds (drop count lines))) in
+    ap length parts ∙ length-append (with_feeds (take count lines) ++ with_feeds (drop count lines)) b.0
+    ∙ ap (λ k. k + length b.0) (length-append (with_feeds (take count lines)) (with_feeds (drop count lines))) in
     let bound = none_behind count text none in
     let no_lines : drop count lines ≡ [] = empty_lines (drop count lines) (omega (arith, sizes, bound)) in
     let no_rest : b.0 ≡ [] = empty b.0 (omega (arith, sizes, bound)) in (
@@ -91,20 +98,26 @@ all_are_taken count text none =
       empty (x ∷ xs) e = absurd (omega (arith, e))
 
 -- a pass in parts
-pass_split : (js ks : List Judge) (ws : List (List (List ℕ))) → Pass (js ++ ks) ws → (vs : List (List (List ℕ))) × (us : List (List (List ℕ))) × (ws ≡ vs ++ us) × Pass js vs × Pass ks us
+pass_split : (js ks : List Judge) (ws : List (List (List ℕ))) → Pass (js ++ ks) ws →
+    (vs : List (List (List ℕ))) × (us : List (List (List ℕ))) × (ws ≡ vs ++ us) × Pass js vs × Pass ks us
 pass_split [] ks ws pass = ([], ws, refl, refl, pass)
 pass_split (j ∷ js) ks [] pass = elim pass [ ]
-pass_split (j ∷ js) ks (line ∷ ws) (here, pass) = let more = pass_split js ks ws pass in (line ∷ more.0, more.1, ap (λ xs. line ∷ xs) more.2, (here, more.3), more.4)
+pass_split (j ∷ js) ks (line ∷ ws) (here, pass) = let more = pass_split js ks ws pass in
+    (line ∷ more.0, more.1, ap (λ xs. line ∷ xs) more.2, (here, more.3), more.4)
 
 -- the first line says format 1 or 2
-title_is : (line : List (List ℕ)) → title_fault line ≡ None → (line ≡ field (codes "bddorder-certificate") (1 ∷ [])) ⊎ (line ≡ field (codes "bddorder-certificate") (2 ∷ []))
+title_is : (line : List (List ℕ)) → title_fault line ≡ None →
+    (line ≡ field (codes "bddorder-certificate") (1 ∷ [])) ⊎ (line ≡ field (codes "bddorder-certificate") (2 ∷ []))
 unfolding digits
-title_is line none = by (pointwise same line (codes "bddorder-certificate" ∷ codes "1" ∷ [])) (pointwise same line (codes "bddorder-certificate" ∷ codes "2" ∷ [])) refl refl where
-  by : (s t : Bool) → pointwise same line (codes "bddorder-certificate" ∷ codes "1" ∷ []) ≡ s → pointwise same line (codes "bddorder-certificate" ∷ codes "2" ∷ []) ≡ t →
-      (line ≡ field (codes "bddorder-certificate") (1 ∷ [])) ⊎ (line ≡ field (codes "bddorder-certificate") (2 ∷ []))
-  by true t es et = inl (all_same_is line (codes "bddorder-certificate" ∷ codes "1" ∷ []) es)
-  by false true es et = inr (all_same_is line (codes "bddorder-certificate" ∷ codes "2" ∷ []) et)
-  by false false es et = absurd (let half = rw es at none in let wrong = rw et at half in cc)
+title_is line none =
+    by (pointwise same line (codes "bddorder-certificate" ∷ codes "1" ∷ []))
+    (pointwise same line (codes "bddorder-certificate" ∷ codes "2" ∷ [])) refl refl where
+      by : (s t : Bool) → pointwise same line (codes "bddorder-certificate" ∷ codes "1" ∷ []) ≡ s →
+          pointwise same line (codes "bddorder-certificate" ∷ codes "2" ∷ []) ≡ t →
+          (line ≡ field (codes "bddorder-certificate") (1 ∷ [])) ⊎ (line ≡ field (codes "bddorder-certificate") (2 ∷ []))
+      by true t es et = inl (all_same_is line (codes "bddorder-certificate" ∷ codes "1" ∷ []) es)
+      by false true es et = inr (all_same_is line (codes "bddorder-certificate" ∷ codes "2" ∷ []) et)
+      by false false es et = absurd (let half = rw es at none in let wrong = rw et at half in cc)
 
 -- a line of fixed words
 fixed_is : (wanted line : List (List ℕ)) → fixed_fault wanted line ≡ None → line ≡ wanted
@@ -140,9 +153,16 @@ pairs_said n pre vs post ws some few six parts number (inr two) pass =
     let known = subst (λ k. Pass (section_judges (codes "pairs") most_pairs (is_pair k) pair_key_of ws 6) vs) number asked in
     let placed = subst (λ at. Pass (section_judges (codes "pairs") most_pairs (is_pair n) pair_key_of ws at) vs) (sym six) known in
     let moved = subst (λ lines. Pass (section_judges (codes "pairs") most_pairs (is_pair n) pair_key_of lines (length pre)) vs) parts placed in
-    let is = section_is pair_words read_pair pair_key (IsPair n) (is_pair n) pair_key_of (pair_kind n some few) (codes "pairs") most_pairs (lit< tt) pre post vs moved in
-    let back = subst (λ lines. IsSection pair_words read_pair pair_key (IsPair n) (is_pair n) pair_key_of (pair_kind n some few) (codes "pairs") most_pairs (lit< tt) lines vs (length pre)) (sym parts) is in
-    let here = subst (λ at. IsSection pair_words read_pair pair_key (IsPair n) (is_pair n) pair_key_of (pair_kind n some few) (codes "pairs") most_pairs (lit< tt) ws vs at) six back in
+    let is = section_is pair_words read_pair pair_key (IsPair n) (is_pair n) pair_key_of (pair_kind n some few) (codes "pairs") most_pairs
+    (lit< tt) pre post vs moved in
+    let back = subst
+    (λ lines. IsSection pair_words read_pair pair_key (IsPair n) (is_pair n) pair_key_of (pair_kind n some few) (codes "pairs")
+    most_pairs (lit< tt) lines vs (length pre))
+    (sym parts) is in
+    let here = subst
+    (λ at. IsSection pair_words read_pair pair_key (IsPair n) (is_pair n) pair_key_of (pair_kind n some few) (codes "pairs") most_pairs
+    (lit< tt) ws vs at)
+    six back in
     let same : (cert_of ws).pairs ≡ section_said read_pair ws 6 = rw two refl in
     record {
       lines_are = rw two here.lines_are;
@@ -163,15 +183,23 @@ cells_said : (n : ℕ) (pre vs cs post ws : List (List (List ℕ))) → n ≤ 16
     Pass (pairs_judges ws) vs → Pass (cells_judges ws (cells_place ws)) cs → CellsSaid n ws cs
 cells_said n pre vs cs post ws few six parts number pairs pass =
     let front = pre ++ vs in
-    let place : cells_place ws ≡ length front = ap (λ k. 6 + k) (pass_length (pairs_judges ws) vs pairs) ∙ ap (λ k. k + length vs) (sym six) ∙ sym (length-append pre vs) in
+    let place : cells_place ws ≡ length front = ap (λ k. 6 + k) (pass_length (pairs_judges ws) vs pairs) ∙ ap (λ k. k + length vs) (sym six)
+    ∙ sym (length-append pre vs) in
     let apart : ws ≡ front ++ (cs ++ post) = parts ∙ sym (append_assoc pre vs (cs ++ post)) in
     let most_small : 2 ^ n - 1 < 2 ^ 64 = let top = power_small n few in omega (arith, top) in
     let known = subst (λ k. Pass (section_judges (codes "cells") (2 ^ k - 1) (is_cell k) cell_key_of ws (cells_place ws)) cs) number pass in
     let placed = subst (λ at. Pass (section_judges (codes "cells") (2 ^ n - 1) (is_cell n) cell_key_of ws at) cs) place known in
     let moved = subst (λ lines. Pass (section_judges (codes "cells") (2 ^ n - 1) (is_cell n) cell_key_of lines (length front)) cs) apart placed in
-    let is = section_is cell_words read_cell mask_key (IsCell n) (is_cell n) cell_key_of (cell_kind n few) (codes "cells") (2 ^ n - 1) most_small front post cs moved in
-    let back = subst (λ lines. IsSection cell_words read_cell mask_key (IsCell n) (is_cell n) cell_key_of (cell_kind n few) (codes "cells") (2 ^ n - 1) most_small lines cs (length front)) (sym apart) is in
-    let here = subst (λ at. IsSection cell_words read_cell mask_key (IsCell n) (is_cell n) cell_key_of (cell_kind n few) (codes "cells") (2 ^ n - 1) most_small ws cs at) (sym place) back in
+    let is = section_is cell_words read_cell mask_key (IsCell n) (is_cell n) cell_key_of (cell_kind n few) (codes "cells") (2 ^ n - 1)
+    most_small front post cs moved in
+    let back = subst
+    (λ lines. IsSection cell_words read_cell mask_key (IsCell n) (is_cell n) cell_key_of (cell_kind n few) (codes "cells") (2 ^ n - 1)
+    most_small lines cs (length front))
+    (sym apart) is in
+    let here = subst
+    (λ at. IsSection cell_words read_cell mask_key (IsCell n) (is_cell n) cell_key_of (cell_kind n few) (codes "cells") (2 ^ n - 1)
+    most_small ws cs at)
+    (sym place) back in
     record { lines_are = here.lines_are; few = here.few; all = here.all; rise = here.rise }
 
 end_is : (last : List (List (List ℕ))) → Pass (fixed_fault (codes "end" ∷ []) ∷ []) last → last ≡ (codes "end" ∷ []) ∷ []
@@ -181,15 +209,23 @@ end_is (line ∷ more) (here, none) = rw (fixed_is (codes "end" ∷ []) line her
 -- the number in the first line
 pub format_of : (t : List (List ℕ)) → title_fault t ≡ None → (number_of (get_or t 1 []) ≡ 1) ⊎ (number_of (get_or t 1 []) ≡ 2)
 format_of t title = by (title_is t title) where
-  by : (t ≡ field (codes "bddorder-certificate") (1 ∷ [])) ⊎ (t ≡ field (codes "bddorder-certificate") (2 ∷ [])) → (number_of (get_or t 1 []) ≡ 1) ⊎ (number_of (get_or t 1 []) ≡ 2)
+  by : (t ≡ field (codes "bddorder-certificate") (1 ∷ [])) ⊎ (t ≡ field (codes "bddorder-certificate") (2 ∷ [])) →
+      (number_of (get_or t 1 []) ≡ 1) ⊎ (number_of (get_or t 1 []) ≡ 2)
   by (inl one) = inl (rw one (decimal_back 1 (lit< tt)))
   by (inr two) = inr (rw two (decimal_back 2 (lit< tt)))
 
 title_back : (t : List (List ℕ)) → title_fault t ≡ None → field (codes "bddorder-certificate") (number_of (get_or t 1 []) ∷ []) ≡ t
 title_back t title = by (title_is t title) where
-  by : (t ≡ field (codes "bddorder-certificate") (1 ∷ [])) ⊎ (t ≡ field (codes "bddorder-certificate") (2 ∷ [])) → field (codes "bddorder-certificate") (number_of (get_or t 1 []) ∷ []) ≡ t
-  by (inl one) = ap (λ k. field (codes "bddorder-certificate") (k ∷ [])) (ap (λ (w : List (List ℕ)). number_of (get_or w 1 [])) one ∙ decimal_back 1 (lit< tt)) ∙ sym one
-  by (inr two) = ap (λ k. field (codes "bddorder-certificate") (k ∷ [])) (ap (λ (w : List (List ℕ)). number_of (get_or w 1 [])) two ∙ decimal_back 2 (lit< tt)) ∙ sym two
+  by : (t ≡ field (codes "bddorder-certificate") (1 ∷ [])) ⊎ (t ≡ field (codes "bddorder-certificate") (2 ∷ [])) →
+      field (codes "bddorder-certificate") (number_of (get_or t 1 []) ∷ []) ≡ t
+  by (inl one) =
+      ap (λ k. field (codes "bddorder-certificate") (k ∷ []))
+      (ap (λ (w : List (List ℕ)). number_of (get_or w 1 [])) one ∙ decimal_back 1 (lit< tt))
+      ∙ sym one
+  by (inr two) =
+      ap (λ k. field (codes "bddorder-certificate") (k ∷ []))
+      (ap (λ (w : List (List ℕ)). number_of (get_or w 1 [])) two ∙ decimal_back 2 (lit< tt))
+      ∙ sym two
 
 no_least : (most : ℕ) (ns : List ℕ) → AllByRecursion (IsFrom 0 most) ns → AllByRecursion (λ x. x ≤ most) ns
 no_least most [] all = tt
@@ -197,12 +233,15 @@ no_least most (n ∷ ns) (here, all) = (here.1, no_least most ns all)
 
 -- the lines of a certificate, line by line
 by_lines : (cert : Certificate) (t i o r l s : List (List ℕ)) (rest vs cs last : List (List (List ℕ))) →
-    field (codes "bddorder-certificate") (cert.format ∷ []) ≡ t → field (codes "inputs") (cert.inputs ∷ []) ≡ i → field (codes "outputs") (cert.outputs ∷ []) ≡ o →
+    field (codes "bddorder-certificate") (cert.format ∷ []) ≡ t → field (codes "inputs") (cert.inputs ∷ []) ≡ i →
+    field (codes "outputs") (cert.outputs ∷ []) ≡ o →
     field (codes "order") cert.order ≡ r → field (codes "levels") cert.levels ≡ l → field (codes "total") (cert.total ∷ []) ≡ s →
-    pair_lines cert.format cert.pairs ≡ vs → section (codes "cells") (map cell_words cert.cells) ≡ cs → last ≡ (codes "end" ∷ []) ∷ [] → rest ≡ vs ++ (cs ++ last) →
+    pair_lines cert.format cert.pairs ≡ vs → section (codes "cells") (map cell_words cert.cells) ≡ cs → last ≡ (codes "end" ∷ []) ∷ [] →
+    rest ≡ vs ++ (cs ++ last) →
     word_lines cert ≡ t ∷ i ∷ o ∷ r ∷ l ∷ s ∷ rest
 unfolding word_lines
-by_lines cert t i o r l s rest vs cs last et ei eo er el es ev ec end whole = rw whole (rw end (rw (sym et) (rw (sym ei) (rw (sym eo) (rw (sym er) (rw (sym el) (rw (sym es) (rw (sym ev) (rw (sym ec) refl)))))))))
+by_lines cert t i o r l s rest vs cs last et ei eo er el es ev ec end whole =
+    rw whole (rw end (rw (sym et) (rw (sym ei) (rw (sym eo) (rw (sym er) (rw (sym el) (rw (sym es) (rw (sym ev) (rw (sym ec) refl)))))))))
 
 -- what lines that pass say
 record LinesSaid (ws : List (List (List ℕ))) : Type 0 where
@@ -248,7 +287,9 @@ lines_said (t ∷ i ∷ o ∷ r ∷ l ∷ s ∷ rest) (title, (inputs, (outputs,
         cells = All-from_recursion _ _ cells.all;
         cells_rise = cells.rise;
       };
-      lines_are = by_lines (cert_of ws) t i o r l s rest vs cs last (title_back t title) input_line.0 output_line.0 order_line.line_is level_line.line_is total_line.0 said.lines_are cells.lines_are end whole;
+      lines_are =
+          by_lines (cert_of ws) t i o r l s rest vs cs last (title_back t title) input_line.0 output_line.0 order_line.line_is
+          level_line.line_is total_line.0 said.lines_are cells.lines_are end whole;
     }
 
 -- a text without a fault
@@ -281,19 +322,22 @@ faultless text none =
 -- a text has a fault, or is a spelling
 pub spelled_or_faulty : (text : List ℕ) → ((cert : Certificate) × Spells text cert) ⊎ ((line : ℕ) × (fault : LineFault) × FirstFault text line fault)
 spelled_or_faulty text = by (faults text) refl where
-  by : (fs : List (ℕ × LineFault)) → faults text ≡ fs → ((cert : Certificate) × Spells text cert) ⊎ ((line : ℕ) × (fault : LineFault) × FirstFault text line fault)
+  by : (fs : List (ℕ × LineFault)) → faults text ≡ fs →
+      ((cert : Certificate) × Spells text cert) ⊎ ((line : ℕ) × (fault : LineFault) × FirstFault text line fault)
   by [] none = let f = faultless text none in inl (cert_of (said text), record { has = f.has; text_is = f.text_is })
   by ((line, fault) ∷ others) some = inr (line, fault, record { others = others; first = some })
 
 -- and not both
 pub spelled_not_faulty : (text : List ℕ) (cert : Certificate) (line : ℕ) (fault : LineFault) → Spells text cert → FirstFault text line fault → ⊥
 spelled_not_faulty text cert line fault spells first =
-    let none : faults text ≡ [] = ap faults spells.text_is ∙ no_fault cert spells.has in let some = first.first in absurd (let wrong = sym none ∙ some in cc (wrong))
+    let none : faults text ≡ [] = ap faults spells.text_is ∙ no_fault cert spells.has in let some = first.first in
+    absurd (let wrong = sym none ∙ some in cc (wrong))
 
 -- one first fault
 pub one_first_fault : (text : List ℕ) (i j : ℕ) (e f : LineFault) → FirstFault text i e → FirstFault text j f → (i ≡ j) × (e ≡ f)
 one_first_fault text i j e f a b =
-    let same : (i, e) ∷ a.others ≡ (j, f) ∷ b.others = sym a.first ∙ b.first in (ap (λ (fs : List (ℕ × LineFault)). head_number fs) same, ap (λ (fs : List (ℕ × LineFault)). head_fault fs e) same) where
+    let same : (i, e) ∷ a.others ≡ (j, f) ∷ b.others = sym a.first ∙ b.first in
+    (ap (λ (fs : List (ℕ × LineFault)). head_number fs) same, ap (λ (fs : List (ℕ × LineFault)). head_fault fs e) same) where
       head_number : List (ℕ × LineFault) → ℕ
       head_number [] = 0
       head_number (x ∷ xs) = x.0

@@ -27,14 +27,16 @@ module _ {E X : Type 0} (see : E → X) (is : E → Bool) (Is : X → Type 0) (k
   fit_rises : (before : Option ℕ) (es : List E) → fit is key before es ≡ true → AllByRecursion Is (map see es) × RiseFrom key_of before (map see es)
   fit_rises before [] e = (tt, tt)
   fit_rises before (x ∷ es) e =
-      let b = both_are (is x) (is_above before (key x) && fit is key (Some (key x)) es) e in let c = both_are (is_above before (key x)) (fit is key (Some (key x)) es) b.1 in
+      let b = both_are (is x) (is_above before (key x) && fit is key (Some (key x)) es) e in
+      let c = both_are (is_above before (key x)) (fit is key (Some (key x)) es) b.1 in
       let rest = fit_rises (Some (key x)) es c.1 in let k = same_key x in
       ((told x b.0, rest.0), (rw (sym k) (above_is before (key x) c.0), rw (sym k) rest.1))
 
   rises_fit : (before : Option ℕ) (es : List E) → AllByRecursion Is (map see es) → RiseFrom key_of before (map see es) → fit is key before es ≡ true
   rises_fit before [] all rise = refl
   rises_fit before (x ∷ es) (here, all) (above, rise) =
-      let k = same_key x in let first : is_above before (key x) ≡ true = is_above_at before (key x) (rw k above) in let more : fit is key (Some (key x)) es ≡ true = rises_fit (Some (key x)) es all (rw k rise) in
+      let k = same_key x in let first : is_above before (key x) ≡ true = is_above_at before (key x) (rw k above) in
+      let more : fit is key (Some (key x)) es ≡ true = rises_fit (Some (key x)) es all (rw k rise) in
       rw (tells x here) (rw first more)
 
   pub fit_is : (es : List E) → fit is key None es ≡ true → All Is (map see es) × AllPairs (λ a b. key_of a < key_of b) (map see es)
@@ -44,42 +46,56 @@ module _ {E X : Type 0} (see : E → X) (is : E → Bool) (Is : X → Type 0) (k
   is_fit es all rise = rises_fit None es (recursion_from_All _ _ all) (pairs_rise key_of (map see es) rise)
 
 pair_told : (n : ℕ) (p : Pair) → is_pair_of n p ≡ true → IsPair n p
-pair_told n p e = let b = both_are (nat_lt p.0 n) (nat_lt p.1 n) e in let first : nat_lt p.0 n ≡ true = b.0 in let second : nat_lt p.1 n ≡ true = b.1 in (grind (arith, nat_tests), grind (arith, nat_tests))
+pair_told n p e = let b = both_are (nat_lt p.0 n) (nat_lt p.1 n) e in let first : nat_lt p.0 n ≡ true = b.0 in
+    let second : nat_lt p.1 n ≡ true = b.1 in (grind (arith, nat_tests), grind (arith, nat_tests))
 
 pair_tells : (n : ℕ) (p : Pair) → IsPair n p → is_pair_of n p ≡ true
-pair_tells n p (a, b) = let first : nat_lt p.0 n ≡ true = grind (arith, nat_tests) in let second : nat_lt p.1 n ≡ true = grind (arith, nat_tests) in rw first second
+pair_tells n p (a, b) = let first : nat_lt p.0 n ≡ true = grind (arith, nat_tests) in
+    let second : nat_lt p.1 n ≡ true = grind (arith, nat_tests) in rw first second
 
 cell_told : (n : ℕ) (c : ListedCell) → is_cell_of n c ≡ true → IsCell n (listed c)
 cell_told n c e =
-    let b = both_are (nat_lt c.mask (2 ^ n - 1)) (nat_le c.cost most_nodes) e in let first : nat_lt c.mask (2 ^ n - 1) ≡ true = b.0 in let second : nat_le c.cost most_nodes ≡ true = b.1 in
+    let b = both_are (nat_lt c.mask (2 ^ n - 1)) (nat_le c.cost most_nodes) e in let first : nat_lt c.mask (2 ^ n - 1) ≡ true = b.0 in
+    let second : nat_le c.cost most_nodes ≡ true = b.1 in
     record { mask = grind (arith, nat_tests); cost = grind (arith, nat_tests) }
 
 cell_tells : (n : ℕ) (c : ListedCell) → IsCell n (listed c) → is_cell_of n c ≡ true
 cell_tells n c is =
     let mask = is.mask in let cost = is.cost in
-    let first : nat_lt c.mask (2 ^ n - 1) ≡ true = grind (arith, nat_tests) in let second : nat_le c.cost most_nodes ≡ true = grind (arith, nat_tests) in rw first second
+    let first : nat_lt c.mask (2 ^ n - 1) ≡ true = grind (arith, nat_tests) in
+    let second : nat_le c.cost most_nodes ≡ true = grind (arith, nat_tests) in rw first second
 
 map-same : (ps : List Pair) → map (λ (p : Pair). p) ps ≡ ps
 map-same [] = refl
 map-same (p ∷ ps) = ap (λ xs. p ∷ xs) (map-same ps)
 
 -- pairs that fit, and listed sets
-pub pairs_fit_is : (n : ℕ) (ps : List Pair) → fit (is_pair_of n) pair_key None ps ≡ true → All (IsPair n) ps × AllPairs (λ (p q : Pair). pair_key p < pair_key q) ps
-pairs_fit_is n ps e = let f = fit_is (λ (p : Pair). p) (is_pair_of n) (IsPair n) pair_key pair_key (λ p. refl) (pair_told n) (pair_tells n) ps e in rw (map-same ps) at f
+pub pairs_fit_is : (n : ℕ) (ps : List Pair) → fit (is_pair_of n) pair_key None ps ≡ true →
+    All (IsPair n) ps × AllPairs (λ (p q : Pair). pair_key p < pair_key q) ps
+pairs_fit_is n ps e =
+    let f = fit_is (λ (p : Pair). p) (is_pair_of n) (IsPair n) pair_key pair_key (λ p. refl) (pair_told n) (pair_tells n) ps e in
+    rw (map-same ps) at f
 
-pub pairs_is_fit : (n : ℕ) (ps : List Pair) → All (IsPair n) ps → AllPairs (λ (p q : Pair). pair_key p < pair_key q) ps → fit (is_pair_of n) pair_key None ps ≡ true
-pairs_is_fit n ps all rise = is_fit (λ (p : Pair). p) (is_pair_of n) (IsPair n) pair_key pair_key (λ p. refl) (pair_told n) (pair_tells n) ps (rw (map-same ps) all) (rw (map-same ps) rise)
+pub pairs_is_fit : (n : ℕ) (ps : List Pair) → All (IsPair n) ps → AllPairs (λ (p q : Pair). pair_key p < pair_key q) ps →
+    fit (is_pair_of n) pair_key None ps ≡ true
+pairs_is_fit n ps all rise =
+    is_fit (λ (p : Pair). p) (is_pair_of n) (IsPair n) pair_key pair_key (λ p. refl) (pair_told n) (pair_tells n) ps (rw (map-same ps) all)
+    (rw (map-same ps) rise)
 
-pub cells_fit_is : (n : ℕ) (cs : List ListedCell) → fit (is_cell_of n) mask_in None cs ≡ true → All (IsCell n) (map listed cs) × AllPairs (λ (a b : Cell). a.mask < b.mask) (map listed cs)
+pub cells_fit_is : (n : ℕ) (cs : List ListedCell) → fit (is_cell_of n) mask_in None cs ≡ true →
+    All (IsCell n) (map listed cs) × AllPairs (λ (a b : Cell). a.mask < b.mask) (map listed cs)
 cells_fit_is n cs e = fit_is listed (is_cell_of n) (IsCell n) mask_in (λ c. c.mask) (λ c. refl) (cell_told n) (cell_tells n) cs e
 
-pub cells_is_fit : (n : ℕ) (cs : List ListedCell) → All (IsCell n) (map listed cs) → AllPairs (λ (a b : Cell). a.mask < b.mask) (map listed cs) → fit (is_cell_of n) mask_in None cs ≡ true
+pub cells_is_fit : (n : ℕ) (cs : List ListedCell) → All (IsCell n) (map listed cs) →
+    AllPairs (λ (a b : Cell). a.mask < b.mask) (map listed cs) → fit (is_cell_of n) mask_in None cs ≡ true
 cells_is_fit n cs all rise = is_fit listed (is_cell_of n) (IsCell n) mask_in (λ c. c.mask) (λ c. refl) (cell_told n) (cell_tells n) cs all rise
 
 -- parts that have a spelling, whichever format has the pairs
 pub spelled : (format inputs outputs : ℕ) (order levels : List ℕ) (total : ℕ) (pairs : List Pair) (cells : List ListedCell) → HasPairs format pairs →
-    (1 ≤ inputs) × (inputs ≤ 16) → (1 ≤ outputs) × (outputs ≤ 16) → (length order ≡ inputs) × All (λ x. x ≤ 15) order → (length levels ≡ inputs) × All (λ count. count ≤ most_nodes) levels → total ≤ most_nodes →
-    (length pairs ≤ most_pairs) × (fit (is_pair_of inputs) pair_key None pairs ≡ true) → (length cells ≤ 2 ^ inputs - 1) × (fit (is_cell_of inputs) mask_in None cells ≡ true) →
+    (1 ≤ inputs) × (inputs ≤ 16) → (1 ≤ outputs) × (outputs ≤ 16) → (length order ≡ inputs) × All (λ x. x ≤ 15) order →
+    (length levels ≡ inputs) × All (λ count. count ≤ most_nodes) levels → total ≤ most_nodes →
+    (length pairs ≤ most_pairs) × (fit (is_pair_of inputs) pair_key None pairs ≡ true) →
+    (length cells ≤ 2 ^ inputs - 1) × (fit (is_cell_of inputs) mask_in None cells ≡ true) →
     HasSpelling (value_of format inputs outputs order levels total pairs cells)
 spelled format inputs outputs order levels total pairs cells known i o r l t (pair_count, pair_fit) (cell_count, cell_fit) =
     let p = pairs_fit_is inputs pairs pair_fit in let c = cells_fit_is inputs cells cell_fit in
@@ -98,7 +114,8 @@ spelled format inputs outputs order levels total pairs cells known i o r l t (pa
       cells_rise = c.1;
     }
 
-module _ (format inputs outputs : ℕ) (order levels : List ℕ) (total : ℕ) (pairs : List Pair) (cells : List ListedCell) (has : HasSpelling (value_of format inputs outputs order levels total pairs cells)) where
+module _ (format inputs outputs : ℕ) (order levels : List ℕ) (total : ℕ) (pairs : List Pair) (cells : List ListedCell)
+    (has : HasSpelling (value_of format inputs outputs order levels total pairs cells)) where
   pub spelled_pairs : (length pairs ≤ most_pairs) × (fit (is_pair_of inputs) pair_key None pairs ≡ true)
   spelled_pairs = (has.pair_count, pairs_is_fit inputs pairs has.pairs has.pairs_rise)
 

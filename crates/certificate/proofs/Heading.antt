@@ -22,36 +22,48 @@ taken_none number text = record { parts = refl; left = λ ks. refl }
 
 -- a line passes what it is asked
 abbrev pub Passes : Judge → ℕ → List ℕ → ℕ → List ℕ → Type 0
-Passes judge number text after rest = (ws : List (List ℕ)) × (said text ≡ ws ∷ said rest) × (judge ws ≡ None) × ((js : List Judge) → outcome number (judge ∷ js) text ≡ outcome after js rest)
+Passes judge number text after rest =
+    (ws : List (List ℕ)) × (said text ≡ ws ∷ said rest) × (judge ws ≡ None)
+    × ((js : List Judge) → outcome number (judge ∷ js) text ≡ outcome after js rest)
 
-pub taken_more : (number₀ : ℕ) (text : List ℕ) (js : List Judge) (lines : List (List (List ℕ))) (number : ℕ) (rest : List ℕ) (judge : Judge) (after : ℕ) (rest' : List ℕ) →
-    Taken number₀ text js lines number rest → (passes : Passes judge number rest after rest') → Taken number₀ text (js ++ judge ∷ []) (lines ++ passes.0 ∷ []) after rest'
+pub taken_more : (number₀ : ℕ) (text : List ℕ) (js : List Judge) (lines : List (List (List ℕ))) (number : ℕ) (rest : List ℕ) (judge : Judge)
+    (after : ℕ) (rest' : List ℕ) →
+    Taken number₀ text js lines number rest → (passes : Passes judge number rest after rest') →
+    Taken number₀ text (js ++ judge ∷ []) (lines ++ passes.0 ∷ []) after rest'
 taken_more number₀ text js lines number rest judge after rest' taken (ws, parts, passes, left) = record {
   parts = taken.parts ∙ ap (λ xs. lines ++ xs) parts ∙ sym (append_assoc lines (ws ∷ []) (said rest'));
   left = λ ks. ap (λ all. outcome number₀ all text) (append_assoc js (judge ∷ []) ks) ∙ taken.left (judge ∷ ks) ∙ left ks;
 }
 
 -- what is asked of the first six lines, so far as the lines taken say it
-pub head_fails : (number₀ : ℕ) (text : List ℕ) (js : List Judge) (lines : List (List (List ℕ))) (number : ℕ) (rest : List ℕ) (judge : Judge) (others : List Judge) (fault : CertFault) →
-    Taken number₀ text js lines number rest → ((ks : List Judge) → Fails (outcome number (judge ∷ ks) rest) fault) → (ks : List Judge) → Fails (outcome number₀ (js ++ (judge ∷ (others ++ ks))) text) fault
-head_fails number₀ text js lines number rest judge others fault taken asks ks = subst (λ faults. Fails faults fault) (sym (taken.left (judge ∷ (others ++ ks)))) (asks (others ++ ks))
+pub head_fails : (number₀ : ℕ) (text : List ℕ) (js : List Judge) (lines : List (List (List ℕ))) (number : ℕ) (rest : List ℕ) (judge : Judge)
+    (others : List Judge) (fault : CertFault) →
+    Taken number₀ text js lines number rest → ((ks : List Judge) → Fails (outcome number (judge ∷ ks) rest) fault) → (ks : List Judge) →
+    Fails (outcome number₀ (js ++ (judge ∷ (others ++ ks))) text) fault
+head_fails number₀ text js lines number rest judge others fault taken asks ks =
+    subst (λ faults. Fails faults fault) (sym (taken.left (judge ∷ (others ++ ks)))) (asks (others ++ ks))
 
 -- a refusal of the first six lines, where their number of inputs is known or not asked for
-pub told_fails : (number₀ : ℕ) (text : List ℕ) (after : ℕ) (rest : List ℕ) (n : ℕ) (fault : CertFault) (result : Result Head CertFault) → IsErrAnd result (λ e. e ≡ fault) → inputs_said (said text) ≡ n →
+pub told_fails : (number₀ : ℕ) (text : List ℕ) (after : ℕ) (rest : List ℕ) (n : ℕ) (fault : CertFault) (result : Result Head CertFault) →
+    IsErrAnd result (λ e. e ≡ fault) → inputs_said (said text) ≡ n →
     ((ks : List Judge) → Fails (outcome number₀ (head_judges n ++ ks) text) fault) → TakesHead number₀ text after rest result
 told_fails number₀ text after rest n fault (Ok head) is known fails = elim is [ ]
-told_fails number₀ text after rest n fault (Err e) is known fails = rw is (λ ks. subst (λ m. Fails (outcome number₀ (head_judges m ++ ks) text) fault) (sym known) (fails ks))
+told_fails number₀ text after rest n fault (Err e) is known fails =
+    rw is (λ ks. subst (λ m. Fails (outcome number₀ (head_judges m ++ ks) text) fault) (sym known) (fails ks))
 
-pub head_memory : (number₀ : ℕ) (text : List ℕ) (after : ℕ) (rest : List ℕ) (fault : CertFault) (result : Result Head CertFault) → IsErrAnd result (λ e. e ≡ fault) → fault ≡ found.OutOfMemory → TakesHead number₀ text after rest result
+pub head_memory : (number₀ : ℕ) (text : List ℕ) (after : ℕ) (rest : List ℕ) (fault : CertFault) (result : Result Head CertFault) →
+    IsErrAnd result (λ e. e ≡ fault) → fault ≡ found.OutOfMemory → TakesHead number₀ text after rest result
 head_memory number₀ text after rest fault (Ok head) is memory = elim is [ ]
 head_memory number₀ text after rest fault (Err e) is memory = rw (is ∙ memory) (λ ks. tt)
 
 -- line k of some lines that are taken
-pub line_at : (text : List ℕ) (lines others : List (List (List ℕ))) (k : ℕ) → said text ≡ lines ++ others → get_or (said text) k [] ≡ get_or (lines ++ others) k []
+pub line_at : (text : List ℕ) (lines others : List (List (List ℕ))) (k : ℕ) → said text ≡ lines ++ others →
+    get_or (said text) k [] ≡ get_or (lines ++ others) k []
 line_at text lines others k e = ap (λ xs. get_or xs k []) e
 
 -- numbers of a line that passes are in bounds
-pub small_numbers : {V : Type 0} (items : V → List ℕ) (name : List ℕ) (count most number after : ℕ) (text rest : List ℕ) (v : V) → Asks (field_fault name count 0 most) number text after rest (λ ws w. items w ≡ numbers_of ws) (Ok v) → All (λ k. k ≤ most) (items v)
+pub small_numbers : {V : Type 0} (items : V → List ℕ) (name : List ℕ) (count most number after : ℕ) (text rest : List ℕ) (v : V) →
+    Asks (field_fault name count 0 most) number text after rest (λ ws w. items w ≡ numbers_of ws) (Ok v) → All (λ k. k ≤ most) (items v)
 small_numbers items name count most number after text rest v (ws, parts, passes, left, told) =
     let is = field_is name count 0 most ws passes in rw told (All-from_recursion _ _ (upper (numbers_of ws) is.bounds)) where
       upper : (ns : List ℕ) → AllByRecursion (IsFrom 0 most) ns → AllByRecursion (λ k. k ≤ most) ns

@@ -81,11 +81,13 @@ decimal_is least most word e =
     let low : nat_le least (number_of word) ≡ true = c.0 in let high : nat_le (number_of word) most ≡ true = c.1 in
     (sym (same_is word (decimal (number_of word)) b.0), (grind (arith, nat_tests), grind (arith, nat_tests)))
 
-pub decimals_pass : (least most : ℕ) (ns : List ℕ) → most < 2 ^ 64 → AllByRecursion (IsFrom least most) ns → list_all (is_decimal least most) (map decimal ns) ≡ true
+pub decimals_pass : (least most : ℕ) (ns : List ℕ) → most < 2 ^ 64 → AllByRecursion (IsFrom least most) ns →
+    list_all (is_decimal least most) (map decimal ns) ≡ true
 decimals_pass least most [] fits all = refl
 decimals_pass least most (n ∷ ns) fits (here, all) = rw (decimal_passes least most n fits here) (decimals_pass least most ns fits all)
 
-pub decimals_are : (least most : ℕ) (ws : List (List ℕ)) → list_all (is_decimal least most) ws ≡ true → (map decimal (map number_of ws) ≡ ws) × AllByRecursion (IsFrom least most) (map number_of ws)
+pub decimals_are : (least most : ℕ) (ws : List (List ℕ)) → list_all (is_decimal least most) ws ≡ true →
+    (map decimal (map number_of ws) ≡ ws) × AllByRecursion (IsFrom least most) (map number_of ws)
 decimals_are least most [] e = (refl, tt)
 decimals_are least most (w ∷ ws) e =
     let b = both_are (is_decimal least most w) (list_all (is_decimal least most) ws) e in
@@ -105,7 +107,8 @@ mask_is n word e =
     (sym (same_is word (hex4 (mask_of word)) b.0), grind (arith, nat_tests))
 
 -- a line of a fixed word with numbers
-pub field_passes : (name : List ℕ) (count least most : ℕ) (ns : List ℕ) → length ns ≡ count → most < 2 ^ 64 → AllByRecursion (IsFrom least most) ns → field_fault name count least most (field name ns) ≡ None
+pub field_passes : (name : List ℕ) (count least most : ℕ) (ns : List ℕ) → length ns ≡ count → most < 2 ^ 64 →
+    AllByRecursion (IsFrom least most) ns → field_fault name count least most (field name ns) ≡ None
 field_passes name count least most ns e fits all =
     let number : (length (map decimal ns) == count) ≡ true = rw (length-map ns decimal) (grind (arith, nat_tests)) in
     rw (same_self name) (rw number (rw (decimals_pass least most ns fits all) refl))

@@ -44,7 +44,8 @@ not_two name least most (w ∷ n ∷ m ∷ more) never =
       by false e other = rw e refl
 
 -- a line that isn't what is wanted
-other_words : (wanted : List (List ℕ)) (line text : List ℕ) → join_with_byte 32 wanted ≡ text → same line text ≡ false → pointwise same (words line) wanted ≡ false
+other_words : (wanted : List (List ℕ)) (line text : List ℕ) → join_with_byte 32 wanted ≡ text → same line text ≡ false →
+    pointwise same (words line) wanted ≡ false
 other_words wanted line text joined other = false_from_ne_true (pointwise same (words line) wanted) (λ yes.
     let here : line ≡ text = sym (words_join line) ∙ ap (join_with_byte 32) (all_same_is (words line) wanted yes) ∙ joined in
     let wrong : false ≡ true = sym other ∙ (rw here (same_self text)) in absurd (cc (wrong)))
@@ -65,14 +66,24 @@ first_words = codes "bddorder-certificate" ∷ codes "1" ∷ []
 abbrev second_words : List (List ℕ)
 second_words = codes "bddorder-certificate" ∷ codes "2" ∷ []
 
-pub first_title : (line : List ℕ) → same line (codes "bddorder-certificate 1") ≡ true → (title_fault (words line) ≡ None) × (1 ≡ number_of (get_or (words line) 1 []))
+pub first_title : (line : List ℕ) → same line (codes "bddorder-certificate 1") ≡ true →
+    (title_fault (words line) ≡ None) × (1 ≡ number_of (get_or (words line) 1 []))
 unfolding words
-first_title line e = let is : slice_split (λ b. b == 32) line ≡ first_words = ap (slice_split (λ b. b == 32)) (same_is line (codes "bddorder-certificate 1") e) in rw is (refl, refl)
+first_title line e =
+    let is : slice_split (λ b. b == 32) line ≡ first_words =
+    ap (slice_split (λ b. b == 32)) (same_is line (codes "bddorder-certificate 1") e) in
+    rw is (refl, refl)
 
-pub second_title : (line : List ℕ) → same line (codes "bddorder-certificate 2") ≡ true → (title_fault (words line) ≡ None) × (2 ≡ number_of (get_or (words line) 1 []))
+pub second_title : (line : List ℕ) → same line (codes "bddorder-certificate 2") ≡ true →
+    (title_fault (words line) ≡ None) × (2 ≡ number_of (get_or (words line) 1 []))
 unfolding words
-second_title line e = let is : slice_split (λ b. b == 32) line ≡ second_words = ap (slice_split (λ b. b == 32)) (same_is line (codes "bddorder-certificate 2") e) in rw is (refl, refl)
+second_title line e =
+    let is : slice_split (λ b. b == 32) line ≡ second_words =
+    ap (slice_split (λ b. b == 32)) (same_is line (codes "bddorder-certificate 2") e) in
+    rw is (refl, refl)
 
-pub no_title : (line : List ℕ) → same line (codes "bddorder-certificate 1") ≡ false → same line (codes "bddorder-certificate 2") ≡ false → title_fault (words line) ≡ Some BadLine
+pub no_title : (line : List ℕ) → same line (codes "bddorder-certificate 1") ≡ false → same line (codes "bddorder-certificate 2") ≡ false →
+    title_fault (words line) ≡ Some BadLine
 no_title line first second =
-    rw (other_words first_words line (codes "bddorder-certificate 1") refl first) (rw (other_words second_words line (codes "bddorder-certificate 2") refl second) refl)
+    rw (other_words first_words line (codes "bddorder-certificate 1") refl first)
+    (rw (other_words second_words line (codes "bddorder-certificate 2") refl second) refl)

@@ -26,10 +26,12 @@ mask_digits a b c d sa sb sc sd =
     rw first (rw second (rw third (rw fourth refl)))
 
 -- a word of four digits
-pub word_mask : (word : List ℕ) (a b c d : ℕ) → word ≡ glyph a ∷ glyph b ∷ glyph c ∷ glyph d ∷ [] → a < 16 → b < 16 → c < 16 → d < 16 → mask_of word ≡ of_digits a b c d
+pub word_mask : (word : List ℕ) (a b c d : ℕ) → word ≡ glyph a ∷ glyph b ∷ glyph c ∷ glyph d ∷ [] → a < 16 → b < 16 → c < 16 → d < 16 →
+    mask_of word ≡ of_digits a b c d
 word_mask word a b c d e sa sb sc sd = rw e (digits_mask a b c d sa sb sc sd)
 
-pub mask_yes : (n : ℕ) (word : List ℕ) (a b c d : ℕ) → word ≡ glyph a ∷ glyph b ∷ glyph c ∷ glyph d ∷ [] → a < 16 → b < 16 → c < 16 → d < 16 → of_digits a b c d < 2 ^ n - 1 → is_mask n word ≡ true
+pub mask_yes : (n : ℕ) (word : List ℕ) (a b c d : ℕ) → word ≡ glyph a ∷ glyph b ∷ glyph c ∷ glyph d ∷ [] → a < 16 → b < 16 → c < 16 →
+    d < 16 → of_digits a b c d < 2 ^ n - 1 → is_mask n word ≡ true
 mask_yes n word a b c d e sa sb sc sd within =
     let value = word_mask word a b c d e sa sb sc sd in
     let test : nat_lt (of_digits a b c d) (2 ^ n - 1) ≡ true = grind (arith, nat_tests) in
@@ -53,7 +55,8 @@ digit_at word e (suc (suc (suc zero))) within = (mask_of word / 16 ^ 0 % 16, ome
 digit_at word e (suc (suc (suc (suc i)))) within = absurd (omega (arith, within))
 
 -- a word of four bytes
-pub four_bytes : (word : List ℕ) (a b c d : ℕ) → length word ≡ 4 → get_or word 0 0 ≡ a → get_or word 1 0 ≡ b → get_or word 2 0 ≡ c → get_or word 3 0 ≡ d → word ≡ a ∷ b ∷ c ∷ d ∷ []
+pub four_bytes : (word : List ℕ) (a b c d : ℕ) → length word ≡ 4 → get_or word 0 0 ≡ a → get_or word 1 0 ≡ b → get_or word 2 0 ≡ c →
+    get_or word 3 0 ≡ d → word ≡ a ∷ b ∷ c ∷ d ∷ []
 four_bytes [] a b c d long ea eb ec ed = absurd (omega (arith, long))
 four_bytes (x ∷ []) a b c d long ea eb ec ed = absurd (omega (arith, long))
 four_bytes (x ∷ y ∷ []) a b c d long ea eb ec ed = absurd (omega (arith, long))

@@ -28,9 +28,11 @@ module _ (p : List ℕ → Bool) where
   last_fails rest lacks e = rw (whole_word rest lacks) (rw e refl)
 
 -- one number more
-pub cut_numbers : (old new : List ℕ) (rest word more : List ℕ) → Cuts 32 rest word more → new ≡ old ++ number_of word ∷ [] → new ++ map number_of (words more) ≡ old ++ map number_of (words rest)
+pub cut_numbers : (old new : List ℕ) (rest word more : List ℕ) → Cuts 32 rest word more → new ≡ old ++ number_of word ∷ [] →
+    new ++ map number_of (words more) ≡ old ++ map number_of (words rest)
 cut_numbers old new rest word more cuts e =
-    ap (λ xs. xs ++ map number_of (words more)) e ∙ append_assoc old (number_of word ∷ []) (map number_of (words more)) ∙ ap (λ ws. old ++ map number_of ws) (sym (cut_words rest word more cuts))
+    ap (λ xs. xs ++ map number_of (words more)) e ∙ append_assoc old (number_of word ∷ []) (map number_of (words more))
+    ∙ ap (λ ws. old ++ map number_of ws) (sym (cut_words rest word more cuts))
 
 pub last_number : (old new : List ℕ) (rest : List ℕ) → Lacks 32 rest → new ≡ old ++ number_of rest ∷ [] → new ≡ old ++ map number_of (words rest)
 last_number old new rest lacks e = e ∙ ap (λ ws. old ++ map number_of ws) (sym (whole_word rest lacks))
@@ -53,30 +55,45 @@ no_name name count least most line some lacks = rw (whole_word line lacks) (by (
   by true e = rw e (rw other refl)
   by false e = rw e refl
 
-pub other_name : (name : List ℕ) (count least most : ℕ) (line word rest : List ℕ) → Cuts 32 line word rest → same word name ≡ false → field_fault name count least most (words line) ≡ Some BadLine
+pub other_name : (name : List ℕ) (count least most : ℕ) (line word rest : List ℕ) → Cuts 32 line word rest → same word name ≡ false →
+    field_fault name count least most (words line) ≡ Some BadLine
 other_name name count least most line word rest cuts e = rw (cut_words line word rest cuts) (rw e refl)
 
-pub other_count : (name : List ℕ) (count least most : ℕ) (line word rest : List ℕ) → Cuts 32 line word rest → (length (words rest) == count) ≡ false → field_fault name count least most (words line) ≡ Some BadLine
+pub other_count : (name : List ℕ) (count least most : ℕ) (line word rest : List ℕ) → Cuts 32 line word rest →
+    (length (words rest) == count) ≡ false → field_fault name count least most (words line) ≡ Some BadLine
 other_count name count least most line word rest cuts other = rw (cut_words line word rest cuts) (by (same word name) refl) where
   by : (t : Bool) → same word name ≡ t → field_fault name count least most (word ∷ words rest) ≡ Some BadLine
   by true e = rw e (rw other refl)
   by false e = rw e refl
 
 -- a line of the words that are wanted
-pub field_told : (name : List ℕ) (count most : ℕ) (ws numbers : List (List ℕ)) → ws ≡ name ∷ numbers → length numbers ≡ count → list_all (is_decimal 0 most) numbers ≡ true → field_fault name count 0 most ws ≡ None
-field_told name count most ws numbers is many all = let number : (length numbers == count) ≡ true = grind (arith, nat_tests) in rw is (rw (same_self name) (rw number (rw all refl)))
+pub field_told : (name : List ℕ) (count most : ℕ) (ws numbers : List (List ℕ)) → ws ≡ name ∷ numbers → length numbers ≡ count →
+    list_all (is_decimal 0 most) numbers ≡ true → field_fault name count 0 most ws ≡ None
+field_told name count most ws numbers is many all = let number : (length numbers == count) ≡ true = grind (arith, nat_tests) in
+    rw is (rw (same_self name) (rw number (rw all refl)))
 
-pub field_bad : (name : List ℕ) (count most : ℕ) (ws numbers : List (List ℕ)) → ws ≡ name ∷ numbers → length numbers ≡ count → list_all (is_decimal 0 most) numbers ≡ false → field_fault name count 0 most ws ≡ Some BadNumber
-field_bad name count most ws numbers is many some = let number : (length numbers == count) ≡ true = grind (arith, nat_tests) in rw is (rw (same_self name) (rw number (rw some refl)))
+pub field_bad : (name : List ℕ) (count most : ℕ) (ws numbers : List (List ℕ)) → ws ≡ name ∷ numbers → length numbers ≡ count →
+    list_all (is_decimal 0 most) numbers ≡ false → field_fault name count 0 most ws ≡ Some BadNumber
+field_bad name count most ws numbers is many some = let number : (length numbers == count) ≡ true = grind (arith, nat_tests) in
+    rw is (rw (same_self name) (rw number (rw some refl)))
 
 -- what taking such a line tells
-pub asked_numbers : {V : Type 0} (items : V → List ℕ) (name : List ℕ) (count most number after : ℕ) (text line rest digits : List ℕ) (result : Result V CertFault) → Cuts 10 text line rest → after ≡ number + 1 → words line ≡ name ∷ words digits → length (words digits) ≡ count →
+pub asked_numbers : {V : Type 0} (items : V → List ℕ) (name : List ℕ) (count most number after : ℕ) (text line rest digits : List ℕ)
+    (result : Result V CertFault) →
+    Cuts 10 text line rest → after ≡ number + 1 → words line ≡ name ∷ words digits → length (words digits) ≡ count →
     IfOk result (λ v. items v ≡ map number_of (words digits)) → IfOk result (λ _. list_all (is_decimal 0 most) (words digits) ≡ true) →
     IfErr result (λ fault. (fault ≡ found.OutOfMemory) ⊎ ((fault ≡ found.Line number BadNumber) × (list_all (is_decimal 0 most) (words digits) ≡ false))) →
     Asks (field_fault name count 0 most) number text after rest (λ ws v. items v ≡ numbers_of ws) result
 asked_numbers items name count most number after text line rest digits (Ok v) cuts next is many numbers all refused =
-    let passes = field_told name count most (words line) (words digits) is many all in
-    (words line, said_first text line rest cuts, passes, λ js. rw next (step number (field_fault name count 0 most) js text line rest cuts passes), numbers ∙ ap numbers_of (sym is))
+    let passes = field_told name count most (words line) (words digits) is many all in (
+      words line,
+      said_first text line rest cuts,
+      passes,
+      λ js. rw next (step number (field_fault name count 0 most) js text line rest cuts passes),
+      numbers
+          ∙ ap numbers_of (sym is),
+    )
 asked_numbers items name count most number after text line rest digits (Err fault) cuts next is many numbers all (inl memory) = rw memory (λ js. tt)
 asked_numbers items name count most number after text line rest digits (Err fault) cuts next is many numbers all (inr (bad, some)) =
-    rw bad (λ js. stop number (field_fault name count 0 most) js text line rest BadNumber cuts (field_bad name count most (words line) (words digits) is many some))
+    rw bad (λ js. stop number (field_fault name count 0 most) js text line rest BadNumber cuts
+    (field_bad name count most (words line) (words digits) is many some))

@@ -15,8 +15,10 @@ use Rattle.certificate.proofs.Judges.{same_self, decimal_is}
 use Rattle.order_model.proofs.Lists.Digits.{behind_first}
 
 -- digits without a leading zero, or just zero, are their number's decimal
-pub spelled_digits : (word : List ℕ) → all_ascii_digits word ≡ true → 0 < length word → (get_or word 0 0 ≡ 48 → length word ≡ 1) → number_of word < 2 ^ 64 → decimal (number_of word) ≡ word
-spelled_digits word all some leading small = decimal-digits_value (numerals_by_value (λ ds. all_ascii_digits ds ≡ true) tells_all_ascii_digits) word all some leading small
+pub spelled_digits : (word : List ℕ) → all_ascii_digits word ≡ true → 0 < length word → (get_or word 0 0 ≡ 48 → length word ≡ 1) →
+    number_of word < 2 ^ 64 → decimal (number_of word) ≡ word
+spelled_digits word all some leading small =
+    decimal-digits_value (numerals_by_value (λ ds. all_ascii_digits ds ≡ true) tells_all_ascii_digits) word all some leading small
 
 -- what a decimal of a number in bounds is
 pub decimal_some : (n : ℕ) (word : List ℕ) → n ≤ most_nodes → word ≡ decimal n → 0 < length word
@@ -31,7 +33,8 @@ decimal_leads n word few e first_zero = by (cases_lt 0 n) where
   nothing m none = unfold digits in rw none refl
 
   by : (0 < n) ⊎ (n ≤ 0) → length word ≡ 1
-  by (inl more) = let above = first_decimal n more (omega (arith, few)) in let first : get_or (decimal n) 0 0 ≡ 48 = ap (λ w. get_or w 0 0) (sym e) ∙ first_zero in absurd (omega (arith, above, first))
+  by (inl more) = let above = first_decimal n more (omega (arith, few)) in
+      let first : get_or (decimal n) 0 0 ≡ 48 = ap (λ w. get_or w 0 0) (sym e) ∙ first_zero in absurd (omega (arith, above, first))
   by (inr none) = rw e (nothing n (omega (arith, none)))
 
 pub decimal_all : (n : ℕ) (word : List ℕ) → n ≤ most_nodes → word ≡ decimal n → all_ascii_digits word ≡ true
@@ -43,11 +46,15 @@ bounded least most v word e number low high =
     let first : nat_le least v ≡ true = grind (arith, nat_tests) in let second : nat_le v most ≡ true = grind (arith, nat_tests) in
     rw number (rw e (rw (same_self word) (rw first (rw second refl))))
 
-pub unbounded : (least most : ℕ) (word : List ℕ) → most ≤ most_nodes → ((n : ℕ) → n ≤ most_nodes → least ≤ n → n ≤ most → n ≡ number_of word → word ≡ decimal n → ⊥) → is_decimal least most word ≡ false
+pub unbounded : (least most : ℕ) (word : List ℕ) → most ≤ most_nodes →
+    ((n : ℕ) → n ≤ most_nodes → least ≤ n → n ≤ most → n ≡ number_of word → word ≡ decimal n → ⊥) → is_decimal least most word ≡ false
 unbounded least most word few never =
-    false_from_ne_true (is_decimal least most word) (λ yes. let d = decimal_is least most word yes in let high = d.1.1 in never (number_of word) (omega (arith, high, few)) d.1.0 d.1.1 refl (sym d.0))
+    false_from_ne_true (is_decimal least most word)
+    (λ yes. let d = decimal_is least most word yes in let high = d.1.1 in
+    never (number_of word) (omega (arith, high, few)) d.1.0 d.1.1 refl (sym d.0))
 
-pub digits_rest : (xs : List ℕ) → 0 < length xs → is_ascii_digit (get_or xs 0 0) ≡ true → all_ascii_digits xs ≡ all_ascii_digits (take (length xs - 1) (drop 1 xs))
+pub digits_rest : (xs : List ℕ) → 0 < length xs → is_ascii_digit (get_or xs 0 0) ≡ true →
+    all_ascii_digits xs ≡ all_ascii_digits (take (length xs - 1) (drop 1 xs))
 digits_rest [] some e = absurd (omega (arith, some))
 digits_rest (x ∷ xs) some e = rw e (ap all_ascii_digits (sym (behind_first (x ∷ xs))))
 
@@ -55,7 +62,8 @@ pub value_rest : (v : ℕ) (xs : List ℕ) → 0 < length xs → 48 ≤ get_or x
     digits_value_after 10 v xs ≡ digits_value_after 10 (v * 10 + (get_or xs 0 0 - 48)) (take (length xs - 1) (drop 1 xs))
 value_rest v [] some low high = absurd (omega (arith, some))
 value_rest v (x ∷ xs) some low high =
-    let digit : digit_value x ≡ x - 48 = omega (arith, digit_value_digit x (low, high)) in rw digit (ap (digits_value_after 10 (v * 10 + (x - 48))) (sym (behind_first (x ∷ xs))))
+    let digit : digit_value x ≡ x - 48 = omega (arith, digit_value_digit x (low, high)) in
+    rw digit (ap (digits_value_after 10 (v * 10 + (x - 48))) (sym (behind_first (x ∷ xs))))
 
 pub digit_range : (c : ℕ) → is_ascii_digit c ≡ true → (48 ≤ c) × (c ≤ 57)
 digit_range c e = (grind (arith, nat_tests), grind (arith, nat_tests))

@@ -38,27 +38,35 @@ trails : (number count : ℕ) (text line rest : List ℕ) → Cuts 10 text line 
 trails number count text line rest cuts =
     let front = line ++ 10 ∷ [] in
     let taken : length (with_feeds (take (suc count) (whole_lines text))) ≡ length front + length (with_feeds (take count (whole_lines rest))) =
-    ap (λ lines. length (with_feeds (take (suc count) lines))) (first_line text line rest cuts) ∙ length-append front (with_feeds (take count (whole_lines rest))) in
+    ap (λ lines. length (with_feeds (take (suc count) lines))) (first_line text line rest cuts)
+    ∙ length-append front (with_feeds (take count (whole_lines rest))) in
     let long : length text ≡ length front + length rest = omega (arith, ap length cuts.0, length-append line (10 ∷ rest), length-append line (10 ∷ [])) in
-    let less : nat_lt (length (with_feeds (take (suc count) (whole_lines text)))) (length text) ≡ nat_lt (length (with_feeds (take count (whole_lines rest)))) (length rest) =
-    ap (λ k. nat_lt k (length text)) taken ∙ ap (nat_lt (length front + length (with_feeds (take count (whole_lines rest))))) long ∙ same_less (length front) (length (with_feeds (take count (whole_lines rest)))) (length rest) in
+    let less : nat_lt (length (with_feeds (take (suc count) (whole_lines text)))) (length text) ≡ nat_lt
+    (length (with_feeds (take count (whole_lines rest)))) (length rest) =
+    ap (λ k. nat_lt k (length text)) taken ∙ ap (nat_lt (length front + length (with_feeds (take count (whole_lines rest))))) long
+    ∙ same_less (length front) (length (with_feeds (take count (whole_lines rest)))) (length rest) in
     let number_is : number + suc count ≡ (number + 1) + count = omega arith in
     rw less (rw number_is refl)
 
 -- the first line passes
-pub step : (number : ℕ) (judge : Judge) (js : List Judge) (text line rest : List ℕ) → Cuts 10 text line rest → judge (words line) ≡ None → outcome number (judge ∷ js) text ≡ outcome (number + 1) js rest
+pub step : (number : ℕ) (judge : Judge) (js : List Judge) (text line rest : List ℕ) → Cuts 10 text line rest → judge (words line) ≡ None →
+    outcome number (judge ∷ js) text ≡ outcome (number + 1) js rest
 unfolding outcome line_faults
-step number judge js text line rest cuts passes = rw (said_first text line rest cuts) (rw passes (ap (λ xs. line_faults (number + 1) js (said rest) ++ xs) (trails number (length js) text line rest cuts)))
+step number judge js text line rest cuts passes =
+    rw (said_first text line rest cuts)
+    (rw passes (ap (λ xs. line_faults (number + 1) js (said rest) ++ xs) (trails number (length js) text line rest cuts)))
 
 -- it has a fault
-pub stop : (number : ℕ) (judge : Judge) (js : List Judge) (text line rest : List ℕ) (fault : LineFault) → Cuts 10 text line rest → judge (words line) ≡ Some fault →
+pub stop : (number : ℕ) (judge : Judge) (js : List Judge) (text line rest : List ℕ) (fault : LineFault) → Cuts 10 text line rest →
+    judge (words line) ≡ Some fault →
     (others : List (ℕ × LineFault)) × (outcome number (judge ∷ js) text ≡ (number, fault) ∷ others)
 unfolding outcome line_faults
 stop number judge js text line rest fault cuts fails =
     (line_faults (number + 1) js (said rest) ++ trailing_from number (suc (length js)) text, rw (said_first text line rest cuts) (rw fails refl))
 
 -- it is missing
-pub missing : (number : ℕ) (judge : Judge) (js : List Judge) (text : List ℕ) → Lacks 10 text → (others : List (ℕ × LineFault)) × (outcome number (judge ∷ js) text ≡ (number, MissingLine) ∷ others)
+pub missing : (number : ℕ) (judge : Judge) (js : List Judge) (text : List ℕ) → Lacks 10 text →
+    (others : List (ℕ × LineFault)) × (outcome number (judge ∷ js) text ≡ (number, MissingLine) ∷ others)
 unfolding outcome line_faults
 missing number judge js text lacks = (line_faults (number + 1) js [] ++ trailing_from number (suc (length js)) text, rw (said_none text lacks) refl)
 
@@ -67,18 +75,23 @@ pub ended : (number : ℕ) → outcome number [] [] ≡ []
 unfolding outcome line_faults
 ended number = refl
 
-pub trailing_text : (number : ℕ) (text : List ℕ) → 0 < length text → (others : List (ℕ × LineFault)) × (outcome number [] text ≡ (number, TrailingText) ∷ others)
+pub trailing_text : (number : ℕ) (text : List ℕ) → 0 < length text →
+    (others : List (ℕ × LineFault)) × (outcome number [] text ≡ (number, TrailingText) ∷ others)
 unfolding outcome line_faults
-trailing_text number text some = let test : nat_lt 0 (length text) ≡ true = grind (arith, nat_tests) in let first : number + 0 ≡ number = omega arith in ([], rw test (rw first refl))
+trailing_text number text some = let test : nat_lt 0 (length text) ≡ true = grind (arith, nat_tests) in
+    let first : number + 0 ≡ number = omega arith in ([], rw test (rw first refl))
 
 -- what taking a line tells
-pub asked_missing : {V : Type 0} (judge : Judge) (number after : ℕ) (text rest' : List ℕ) (P : List (List ℕ) → V → Type 0) (fault : CertFault) (result : Result V CertFault) → IsErrAnd result (λ e. e ≡ fault) → Lacks 10 text →
+pub asked_missing : {V : Type 0} (judge : Judge) (number after : ℕ) (text rest' : List ℕ) (P : List (List ℕ) → V → Type 0)
+    (fault : CertFault) (result : Result V CertFault) →
+    IsErrAnd result (λ e. e ≡ fault) → Lacks 10 text →
     fault ≡ found.Line number MissingLine → Asks judge number text after rest' P result
 asked_missing judge number after text rest' P fault (Ok value) is lacks e = elim is [ ]
 asked_missing judge number after text rest' P fault (Err given) is lacks e = rw (is ∙ e) (λ js. missing number judge js text lacks)
 
 -- a missing line, where one alone is asked for
-pub only_missing : {V : Type 0} (judge : Judge) (number : ℕ) (text : List ℕ) (fault : CertFault) (result : Result V CertFault) → IsErrAnd result (λ e. e ≡ fault) → Lacks 10 text → fault ≡ found.Line number MissingLine →
+pub only_missing : {V : Type 0} (judge : Judge) (number : ℕ) (text : List ℕ) (fault : CertFault) (result : Result V CertFault) →
+    IsErrAnd result (λ e. e ≡ fault) → Lacks 10 text → fault ≡ found.Line number MissingLine →
     IfErr result (Fails (outcome number (judge ∷ []) text))
 only_missing judge number text fault (Ok value) is lacks e = elim is [ ]
 only_missing judge number text fault (Err given) is lacks e = rw (is ∙ e) (missing number judge [] text lacks)

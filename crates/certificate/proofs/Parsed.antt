@@ -27,9 +27,11 @@ refuses text (found.Line number fault) short (others, first) = (short, record { 
 refuses text found.TooLong short fails = elim fails [ ]
 refuses text found.OutOfMemory short fails = tt
 
-pub head_refused : {V : Type 0} (text : List ℕ) (after : ℕ) (rest : List ℕ) (fault : CertFault) (result : Result V CertFault) → IsErrAnd result (λ e. e ≡ fault) → length text ≤ most_bytes → TakesHead 1 text after rest (Err fault) → IfErr result (Refuses text)
+pub head_refused : {V : Type 0} (text : List ℕ) (after : ℕ) (rest : List ℕ) (fault : CertFault) (result : Result V CertFault) →
+    IsErrAnd result (λ e. e ≡ fault) → length text ≤ most_bytes → TakesHead 1 text after rest (Err fault) → IfErr result (Refuses text)
 head_refused text after rest fault (Ok v) is short takes = elim is [ ]
-head_refused text after rest fault (Err e) is short takes = rw is (refuses text fault short (subst (λ fs. Fails fs fault) (faults_are text) (takes (body_judges (said text)))))
+head_refused text after rest fault (Err e) is short takes =
+    rw is (refuses text fault short (subst (λ fs. Fails fs fault) (faults_are text) (takes (body_judges (said text)))))
 
 module _ (text : List ℕ) (after : ℕ) (rest : List ℕ) (head : Head) (takes : TakesHead 1 text after rest (Ok head)) where
   -- what is asked of the lines after the first six
@@ -42,9 +44,11 @@ module _ (text : List ℕ) (after : ℕ) (rest : List ℕ) (head : Head) (takes 
   inputs_here : inputs_said (takes.1 ++ said rest) ≡ head.inputs
   inputs_here = ap inputs_said (sym takes.2) ∙ sym takes.0.inputs
 
-  pub body_refused : {V : Type 0} (fault : CertFault) (result : Result V CertFault) → IsErrAnd result (λ e. e ≡ fault) → length text ≤ most_bytes → TakesBody head.format head.inputs after rest (Err fault) → IfErr result (Refuses text)
+  pub body_refused : {V : Type 0} (fault : CertFault) (result : Result V CertFault) → IsErrAnd result (λ e. e ≡ fault) →
+      length text ≤ most_bytes → TakesBody head.format head.inputs after rest (Err fault) → IfErr result (Refuses text)
   body_refused fault (Ok v) is short body = elim is [ ]
-  body_refused fault (Err e) is short body = rw is (refuses text fault short (subst (λ fs. Fails fs fault) (sym behind) (body takes.1 takes.3 format_here inputs_here)))
+  body_refused fault (Err e) is short body =
+      rw is (refuses text fault short (subst (λ fs. Fails fs fault) (sym behind) (body takes.1 takes.3 format_here inputs_here)))
 
   module _ (pairs : Option (Vec Pair Global)) (cells : Vec ListedCell Global) (body : TakesBody head.format head.inputs after rest (Ok (pairs, cells))) where
     told : Faultless text
@@ -53,7 +57,8 @@ module _ (text : List ℕ) (after : ℕ) (rest : List ℕ) (head : Head) (takes 
     pub parts_are : parts_of head pairs cells.items ≡ cert_of (said text)
     parts_are =
         let b = body takes.1 takes.3 format_here inputs_here in let h = takes.0 in
-        by_parts _ _ _ _ _ _ _ _ _ _ _ _ _ _ _ _ (b.1 ∙ h.format) h.inputs h.outputs h.order h.levels h.total (b.2 ∙ ap (λ ws. (cert_of ws).pairs) (sym takes.2)) (b.3 ∙ ap (λ ws. (cert_of ws).cells) (sym takes.2))
+        by_parts _ _ _ _ _ _ _ _ _ _ _ _ _ _ _ _ (b.1 ∙ h.format) h.inputs h.outputs h.order h.levels h.total
+        (b.2 ∙ ap (λ ws. (cert_of ws).pairs) (sym takes.2)) (b.3 ∙ ap (λ ws. (cert_of ws).cells) (sym takes.2))
 
     pub parts_spelled : HasSpelling (parts_of head pairs cells.items)
     parts_spelled = rw parts_are told.has

@@ -22,14 +22,15 @@ module _ {E : Type 0} (key_of : E → ℕ) where
   rise_pairs before [] rise = none where
     none : AllPairs Rise []
     none i j d less within = absurd (omega (arith, within))
-  rise_pairs before (e ∷ es) (above, rise) = AllPairs-cons Rise e es (All-from_recursion _ es (later (key_of e) es rise)) (rise_pairs (Some (key_of e)) es rise) where
-    lower : (j k : ℕ) (xs : List E) → j < k → AllByRecursion (λ x. k < key_of x) xs → AllByRecursion (λ x. j < key_of x) xs
-    lower j k [] less all = tt
-    lower j k (x ∷ xs) less (here, all) = (omega arith, lower j k xs less all)
+  rise_pairs before (e ∷ es) (above, rise) =
+      AllPairs-cons Rise e es (All-from_recursion _ es (later (key_of e) es rise)) (rise_pairs (Some (key_of e)) es rise) where
+        lower : (j k : ℕ) (xs : List E) → j < k → AllByRecursion (λ x. k < key_of x) xs → AllByRecursion (λ x. j < key_of x) xs
+        lower j k [] less all = tt
+        lower j k (x ∷ xs) less (here, all) = (omega arith, lower j k xs less all)
 
-    later : (k : ℕ) (xs : List E) → RiseFrom (Some k) xs → AllByRecursion (λ x. k < key_of x) xs
-    later k [] more = tt
-    later k (x ∷ xs) (first, more) = (first, lower k (key_of x) xs first (later (key_of x) xs more))
+        later : (k : ℕ) (xs : List E) → RiseFrom (Some k) xs → AllByRecursion (λ x. k < key_of x) xs
+        later k [] more = tt
+        later k (x ∷ xs) (first, more) = (first, lower k (key_of x) xs first (later (key_of x) xs more))
 
   pub pairs_rise : (es : List E) → AllPairs Rise es → RiseFrom None es
   pairs_rise [] all = tt

@@ -10,7 +10,8 @@ module _ (is_entry : List ℕ → List ℕ → Bool) (key : List ℕ → List �
   -- lines that are entries, whose keys rise from one that may have come before
   abbrev pub AreEntries : Option ℕ → List (List (List ℕ)) → Type 0
   AreEntries before [] = Unit {0}
-  AreEntries before (e ∷ es) = (a : List ℕ) × (b : List ℕ) × (e ≡ a ∷ b ∷ []) × (is_entry a b ≡ true) × IsAbove before (key a b) × AreEntries (Some (key a b)) es
+  AreEntries before (e ∷ es) =
+      (a : List ℕ) × (b : List ℕ) × (e ≡ a ∷ b ∷ []) × (is_entry a b ≡ true) × IsAbove before (key a b) × AreEntries (Some (key a b)) es
 
   -- what stands before line k of a text, of whose entries the first one is line first
   abbrev pub Before : List (List (List ℕ)) → ℕ → ℕ → Option ℕ → Type 0
@@ -22,16 +23,19 @@ module _ (is_entry : List ℕ → List ℕ → Bool) (key : List ℕ → List �
   StandAt ws k [] = Unit {0}
   StandAt ws k (e ∷ es) = (get_or ws k [] ≡ e) × StandAt ws (k + 1) es
 
-  rises_after : (ws : List (List (List ℕ))) (first k : ℕ) (before : Option ℕ) (a b : List ℕ) → Before ws first k before → IsAbove before (key a b) → rises key ws first k a b ≡ true
+  rises_after : (ws : List (List (List ℕ))) (first k : ℕ) (before : Option ℕ) (a b : List ℕ) → Before ws first k before →
+      IsAbove before (key a b) → rises key ws first k a b ≡ true
   rises_after ws first k None a b e above = let here : (k == first) ≡ true = grind (arith, nat_tests) in rw here refl
   rises_after ws first k (Some j) a b (later, e) above = let here : (k == first) ≡ false = grind (arith, nat_tests) in rw here (rw e (grind (arith, nat_tests)))
 
-  above_after : (ws : List (List (List ℕ))) (first k : ℕ) (before : Option ℕ) (a b : List ℕ) → Before ws first k before → rises key ws first k a b ≡ true → IsAbove before (key a b)
+  above_after : (ws : List (List (List ℕ))) (first k : ℕ) (before : Option ℕ) (a b : List ℕ) → Before ws first k before →
+      rises key ws first k a b ≡ true → IsAbove before (key a b)
   above_after ws first k None a b e told = tt
   above_after ws first k (Some j) a b (later, e) told =
       let here : (k == first) ≡ false = grind (arith, nat_tests) in let lower = rw here at told in let less = rw e at lower in grind (arith, nat_tests)
 
-  pub next_before : (ws : List (List (List ℕ))) (first k : ℕ) (before : Option ℕ) (a b : List ℕ) → Before ws first k before → get_or ws k [] ≡ a ∷ b ∷ [] → Before ws first (k + 1) (Some (key a b))
+  pub next_before : (ws : List (List (List ℕ))) (first k : ℕ) (before : Option ℕ) (a b : List ℕ) → Before ws first k before →
+      get_or ws k [] ≡ a ∷ b ∷ [] → Before ws first (k + 1) (Some (key a b))
   next_before ws first k None a b e is = (omega arith, let place : (k + 1) - 1 ≡ k = omega arith in rw place (rw is refl))
   next_before ws first k (Some j) a b (later, e) is = (omega arith, let place : (k + 1) - 1 ≡ k = omega arith in rw place (rw is refl))
 
@@ -39,7 +43,8 @@ module _ (is_entry : List ℕ → List ℕ → Bool) (key : List ℕ → List �
   abbrev pub entry_judges : List (List (List ℕ)) → ℕ → ℕ → ℕ → List Judge
   entry_judges ws first k count = map (λ j. entry_fault is_entry (rises key ws first j)) (range_with_len k count)
 
-  pub entries_pass : (ws : List (List (List ℕ))) (first k : ℕ) (before : Option ℕ) (es : List (List (List ℕ))) → Before ws first k before → StandAt ws k es → AreEntries before es →
+  pub entries_pass : (ws : List (List (List ℕ))) (first k : ℕ) (before : Option ℕ) (es : List (List (List ℕ))) → Before ws first k before →
+      StandAt ws k es → AreEntries before es →
       Pass (entry_judges ws first k (length es)) es
   entries_pass ws first k before [] from stand are = refl
   entries_pass ws first k before (e ∷ es) from (here, stand) (a, b, is, entry, above, more) = (
@@ -77,7 +82,8 @@ pub record IsKind {E : Type 0} (write : E → List (List ℕ)) (read : List (Lis
   pub back : (e : E) → Is e → read (write e) ≡ e
   pub told : (a b : List ℕ) → is_entry a b ≡ true → (write (read (a ∷ b ∷ [])) ≡ a ∷ b ∷ []) × Is (read (a ∷ b ∷ [])) × (key_of (read (a ∷ b ∷ [])) ≡ key a b)
 
-module _ {E : Type 0} (write : E → List (List ℕ)) (read : List (List ℕ) → E) (key_of : E → ℕ) (Is : E → Type 0) (is_entry : List ℕ → List ℕ → Bool) (key : List ℕ → List ℕ → ℕ)
+module _ {E : Type 0} (write : E → List (List ℕ)) (read : List (List ℕ) → E) (key_of : E → ℕ) (Is : E → Type 0)
+    (is_entry : List ℕ → List ℕ → Bool) (key : List ℕ → List ℕ → ℕ)
     (kind : IsKind write read key_of Is is_entry key) where
   -- entries that are written
   pub write_entries : (before : Option ℕ) (es : List E) → AllByRecursion Is es → RiseFrom key_of before es → AreEntries is_entry key before (map write es)

@@ -45,7 +45,8 @@ certificate_of format inputs outputs order levels total pairs cells =
     record { format = format; inputs = inputs; outputs = outputs; order = order; levels = levels; total = total; pairs = pairs; cells = cells }
 
 -- certificates with equal parts
-pub by_parts : (f f' i i' o o' : ℕ) (r r' l l' : List ℕ) (t t' : ℕ) (p p' : List Pair) (c c' : List Cell) → f ≡ f' → i ≡ i' → o ≡ o' → r ≡ r' → l ≡ l' → t ≡ t' → p ≡ p' → c ≡ c' →
+pub by_parts : (f f' i i' o o' : ℕ) (r r' l l' : List ℕ) (t t' : ℕ) (p p' : List Pair) (c c' : List Cell) → f ≡ f' → i ≡ i' → o ≡ o' →
+    r ≡ r' → l ≡ l' → t ≡ t' → p ≡ p' → c ≡ c' →
     certificate_of f i o r l t p c ≡ certificate_of f' i' o' r' l' t' p' c'
 by_parts f f' i i' o o' r r' l l' t t' p p' c c' ef ei eo er el et ep ec = rw ef (rw ei (rw eo (rw er (rw el (rw et (rw ep (rw ec refl)))))))
 
@@ -54,7 +55,8 @@ abbrev IsFormat : ℕ → List Pair → Type 0
 IsFormat format ps = ((format ≡ 1) × (ps ≡ [])) ⊎ (format ≡ 2)
 
 module _ (format n : ℕ) (ps : List Pair) (cells : List Cell) (pre post ws : List (List (List ℕ))) (some : 1 ≤ n) (few : n ≤ 16) (six_long : length pre ≡ 6)
-    (parts : ws ≡ pre ++ (pair_lines format ps ++ (section (codes "cells") (map cell_words cells) ++ post))) (format_said : number_said ws 0 ≡ format) (number : inputs_said ws ≡ n) (known : IsFormat format ps)
+    (parts : ws ≡ pre ++ (pair_lines format ps ++ (section (codes "cells") (map cell_words cells) ++ post)))
+    (format_said : number_said ws 0 ≡ format) (number : inputs_said ws ≡ n) (known : IsFormat format ps)
     (pair_count : length ps ≤ most_pairs) (pairs : AllByRecursion (IsPair n) ps) (pairs_rise : AllPairs (λ (p q : Pair). pair_key p < pair_key q) ps)
     (cell_count : length cells ≤ 2 ^ n - 1) (listed : AllByRecursion (IsCell n) cells) (cells_rise : AllPairs (λ (a b : Cell). a.mask < b.mask) cells) where
   abbrev after_pairs : List (List (List ℕ))
@@ -75,8 +77,11 @@ module _ (format n : ℕ) (ps : List Pair) (cells : List Cell) (pre post ws : Li
     by (inl (one, none)) = rw (format_said ∙ one) (rw one refl)
     by (inr two) =
         let s : PairsPass n (pre ++ (section (codes "pairs") (map pair_words ps) ++ after_pairs)) (length pre) =
-        section_passes pair_words read_pair pair_key (IsPair n) (is_pair n) pair_key_of (pair_kind n some few) (codes "pairs") most_pairs (lit< tt) pre after_pairs ps pair_count pairs pairs_rise in
-        let v = subst (λ k. PairsPass k ws 6) (sym number) (subst (λ lines. PairsPass n lines 6) (two_parts two) (subst (PairsPass n (pre ++ (section (codes "pairs") (map pair_words ps) ++ after_pairs))) six_long s)) in
+        section_passes pair_words read_pair pair_key (IsPair n) (is_pair n) pair_key_of (pair_kind n some few) (codes "pairs") most_pairs
+        (lit< tt) pre after_pairs ps pair_count pairs pairs_rise in
+        let v = subst (λ k. PairsPass k ws 6) (sym number)
+        (subst (λ lines. PairsPass n lines 6) (two_parts two)
+        (subst (PairsPass n (pre ++ (section (codes "pairs") (map pair_words ps) ++ after_pairs))) six_long s)) in
         rw (format_said ∙ two) (rw two v)
 
   pub pairs_back : cond (nat_eq (number_said ws 0) 1) [] (section_said read_pair ws 6) ≡ ps
@@ -84,7 +89,8 @@ module _ (format n : ℕ) (ps : List Pair) (cells : List Cell) (pre post ws : Li
     by : IsFormat format ps → cond (nat_eq (number_said ws 0) 1) [] (section_said read_pair ws 6) ≡ ps
     by (inl (one, none)) = rw (format_said ∙ one) (sym none)
     by (inr two) =
-        let s = section_back pair_words read_pair pair_key (IsPair n) (is_pair n) pair_key_of (pair_kind n some few) (codes "pairs") most_pairs (lit< tt) pre after_pairs ps pair_count pairs in
+        let s = section_back pair_words read_pair pair_key (IsPair n) (is_pair n) pair_key_of (pair_kind n some few) (codes "pairs")
+        most_pairs (lit< tt) pre after_pairs ps pair_count pairs in
         let t = rw six_long at s in let u = rw (two_parts two) at t in
         rw (format_said ∙ two) u
 
@@ -92,7 +98,8 @@ module _ (format n : ℕ) (ps : List Pair) (cells : List Cell) (pre post ws : Li
   cells_parts = append_assoc pre (pair_lines format ps) (section (codes "cells") (map cell_words cells) ++ post) ∙ sym parts
 
   place : length (pre ++ pair_lines format ps) ≡ 6 + length (pairs_judges ws)
-  place = length-append pre (pair_lines format ps) ∙ ap (λ k. k + length (pair_lines format ps)) six_long ∙ ap (λ k. 6 + k) (sym (pass_length (pairs_judges ws) (pair_lines format ps) pairs_pass))
+  place = length-append pre (pair_lines format ps) ∙ ap (λ k. k + length (pair_lines format ps)) six_long
+      ∙ ap (λ k. 6 + k) (sym (pass_length (pairs_judges ws) (pair_lines format ps) pairs_pass))
 
   most_small : 2 ^ n - 1 < 2 ^ 64
   most_small = let top = power_small n few in omega (arith, top)
@@ -101,12 +108,16 @@ module _ (format n : ℕ) (ps : List Pair) (cells : List Cell) (pre post ws : Li
   cells_pass =
       let before = pre ++ pair_lines format ps in
       let s : CellsPass n (before ++ (section (codes "cells") (map cell_words cells) ++ post)) (length before) =
-      section_passes cell_words read_cell mask_key (IsCell n) (is_cell n) cell_key_of (cell_kind n few) (codes "cells") (2 ^ n - 1) most_small before post cells cell_count listed cells_rise in
-      subst (λ k. CellsPass k ws (cells_place ws)) (sym number) (subst (λ lines. CellsPass n lines (cells_place ws)) cells_parts (subst (CellsPass n (before ++ (section (codes "cells") (map cell_words cells) ++ post))) place s))
+      section_passes cell_words read_cell mask_key (IsCell n) (is_cell n) cell_key_of (cell_kind n few) (codes "cells") (2 ^ n - 1)
+      most_small before post cells cell_count listed cells_rise in
+      subst (λ k. CellsPass k ws (cells_place ws)) (sym number)
+      (subst (λ lines. CellsPass n lines (cells_place ws)) cells_parts
+      (subst (CellsPass n (before ++ (section (codes "cells") (map cell_words cells) ++ post))) place s))
 
   pub cells_back : section_said read_cell ws (cells_place ws) ≡ cells
   cells_back =
-      let s = section_back cell_words read_cell mask_key (IsCell n) (is_cell n) cell_key_of (cell_kind n few) (codes "cells") (2 ^ n - 1) most_small (pre ++ pair_lines format ps) post cells cell_count listed in
+      let s = section_back cell_words read_cell mask_key (IsCell n) (is_cell n) cell_key_of (cell_kind n few) (codes "cells") (2 ^ n - 1)
+      most_small (pre ++ pair_lines format ps) post cells cell_count listed in
       let t = rw place at s in rw cells_parts at t
 
 module _ (cert : Certificate) (has : HasSpelling cert) where
@@ -144,14 +155,18 @@ module _ (cert : Certificate) (has : HasSpelling cert) where
     by (inl (one, none)) = rw one (lit< tt)
     by (inr two) = rw two (lit< tt)
 
-  section_plain : (name : List ℕ) (entries : List (List (List ℕ))) → length entries < 2 ^ 64 → ArePlain (name ∷ []) → AllPlain entries → AllPlain (section name entries)
+  section_plain : (name : List ℕ) (entries : List (List (List ℕ))) → length entries < 2 ^ 64 → ArePlain (name ∷ []) → AllPlain entries →
+      AllPlain (section name entries)
   section_plain name entries few (plain, rest) all = ((plain, (decimal_plain (length entries) few, tt)), tt, all)
 
   pairs_are_plain : AllPlain pairs_here
   pairs_are_plain = by has.format where
     by : ((cert.format ≡ 1) × (cert.pairs ≡ [])) ⊎ (cert.format ≡ 2) → AllPlain pairs_here
     by (inl (one, none)) = rw one tt
-    by (inr two) = rw two (section_plain (codes "pairs") (map pair_words cert.pairs) (let few = has.pair_count in omega (arith, few, length-map cert.pairs pair_words)) (list_word (codes "pairs") refl, tt) (pairs_plain cert.inputs cert.pairs is_few all_pairs))
+    by (inr two) =
+        rw two (section_plain (codes "pairs") (map pair_words cert.pairs)
+        (let few = has.pair_count in omega (arith, few, length-map cert.pairs pair_words)) (list_word (codes "pairs") refl, tt)
+        (pairs_plain cert.inputs cert.pairs is_few all_pairs))
 
   one_plain : (name : List ℕ) (k : ℕ) → ArePlain (name ∷ []) → k < 2 ^ 64 → ArePlain (field name (k ∷ []))
   one_plain name k (plain, rest) few = (plain, (decimal_plain k few, tt))
@@ -171,7 +186,10 @@ module _ (cert : Certificate) (has : HasSpelling cert) where
               (list_word (codes "order") refl, decimals_plain cert.order (small 0 15 cert.order (lit< tt) (recursion_from_All _ cert.order has.order.1))),
               tt,
               (
-                (list_word (codes "levels") refl, decimals_plain cert.levels (small 0 most_nodes cert.levels (lit< tt) (recursion_from_All _ cert.levels has.levels.1))),
+                (
+                  list_word (codes "levels") refl,
+                  decimals_plain cert.levels (small 0 most_nodes cert.levels (lit< tt) (recursion_from_All _ cert.levels has.levels.1)),
+                ),
                 tt,
                 (
                   one_plain (codes "total") cert.total (list_word (codes "total") refl, tt) (omega (arith, total)),
@@ -189,7 +207,8 @@ module _ (cert : Certificate) (has : HasSpelling cert) where
       rw lines_are (plain_append six (pairs_here ++ (cells_here ++ last)) six_plain
       (plain_append pairs_here (cells_here ++ last) pairs_are_plain
       (plain_append cells_here last
-      (section_plain (codes "cells") (map cell_words cert.cells) (omega (arith, few_cells, length-map cert.cells cell_words)) (list_word (codes "cells") refl, tt) (cells_plain cert.inputs cert.cells all_cells))
+      (section_plain (codes "cells") (map cell_words cert.cells) (omega (arith, few_cells, length-map cert.cells cell_words))
+      (list_word (codes "cells") refl, tt) (cells_plain cert.inputs cert.cells all_cells))
       ((list_word (codes "end") refl, tt), tt, tt))))
 
   -- the words of the lines of a spelling
@@ -206,16 +225,24 @@ module _ (cert : Certificate) (has : HasSpelling cert) where
   parts = lines_are
 
   pairs_pass_here : Pass (pairs_judges (word_lines cert)) (pair_lines cert.format cert.pairs)
-  pairs_pass_here = pairs_pass cert.format cert.inputs cert.pairs cert.cells six last (word_lines cert) has.inputs.0 is_few refl parts format_is inputs_are has.format has.pair_count all_pairs has.pairs_rise has.cell_count all_cells has.cells_rise
+  pairs_pass_here =
+      pairs_pass cert.format cert.inputs cert.pairs cert.cells six last (word_lines cert) has.inputs.0 is_few refl parts format_is
+      inputs_are has.format has.pair_count all_pairs has.pairs_rise has.cell_count all_cells has.cells_rise
 
   pairs_are_back : (cert_of (word_lines cert)).pairs ≡ cert.pairs
-  pairs_are_back = pairs_back cert.format cert.inputs cert.pairs cert.cells six last (word_lines cert) has.inputs.0 is_few refl parts format_is inputs_are has.format has.pair_count all_pairs has.pairs_rise has.cell_count all_cells has.cells_rise
+  pairs_are_back =
+      pairs_back cert.format cert.inputs cert.pairs cert.cells six last (word_lines cert) has.inputs.0 is_few refl parts format_is
+      inputs_are has.format has.pair_count all_pairs has.pairs_rise has.cell_count all_cells has.cells_rise
 
   cells_pass_here : Pass (cells_judges (word_lines cert) (cells_place (word_lines cert))) (section (codes "cells") (map cell_words cert.cells))
-  cells_pass_here = cells_pass cert.format cert.inputs cert.pairs cert.cells six last (word_lines cert) has.inputs.0 is_few refl parts format_is inputs_are has.format has.pair_count all_pairs has.pairs_rise has.cell_count all_cells has.cells_rise
+  cells_pass_here =
+      cells_pass cert.format cert.inputs cert.pairs cert.cells six last (word_lines cert) has.inputs.0 is_few refl parts format_is
+      inputs_are has.format has.pair_count all_pairs has.pairs_rise has.cell_count all_cells has.cells_rise
 
   cells_are_back : (cert_of (word_lines cert)).cells ≡ cert.cells
-  cells_are_back = cells_back cert.format cert.inputs cert.pairs cert.cells six last (word_lines cert) has.inputs.0 is_few refl parts format_is inputs_are has.format has.pair_count all_pairs has.pairs_rise has.cell_count all_cells has.cells_rise
+  cells_are_back =
+      cells_back cert.format cert.inputs cert.pairs cert.cells six last (word_lines cert) has.inputs.0 is_few refl parts format_is
+      inputs_are has.format has.pair_count all_pairs has.pairs_rise has.cell_count all_cells has.cells_rise
 
   title_passes : title_fault (field (codes "bddorder-certificate") (cert.format ∷ [])) ≡ None
   title_passes = by cert.format has.format where
@@ -232,9 +259,11 @@ module _ (cert : Certificate) (has : HasSpelling cert) where
           (
             field_passes (codes "outputs") 1 1 16 (cert.outputs ∷ []) refl (lit< tt) (outputs, tt),
             (
-              field_passes (codes "order") cert.inputs 0 15 cert.order has.order.0 (lit< tt) (from_zero 15 cert.order (recursion_from_All _ cert.order has.order.1)),
+              field_passes (codes "order") cert.inputs 0 15 cert.order has.order.0 (lit< tt)
+                  (from_zero 15 cert.order (recursion_from_All _ cert.order has.order.1)),
               (
-                field_passes (codes "levels") cert.inputs 0 most_nodes cert.levels has.levels.0 (lit< tt) (from_zero most_nodes cert.levels (recursion_from_All _ cert.levels has.levels.1)),
+                field_passes (codes "levels") cert.inputs 0 most_nodes cert.levels has.levels.0 (lit< tt)
+                    (from_zero most_nodes cert.levels (recursion_from_All _ cert.levels has.levels.1)),
                 (
                   field_passes (codes "total") 1 0 most_nodes (cert.total ∷ []) refl (lit< tt) ((omega arith, total), tt),
                   refl,
@@ -249,13 +278,23 @@ module _ (cert : Certificate) (has : HasSpelling cert) where
   all_pass : Pass (judges (word_lines cert)) (word_lines cert)
   all_pass =
       let ws = word_lines cert in
-      let asked : head_judges (inputs_said ws) ++ (pairs_judges ws ++ (cells_judges ws (cells_place ws) ++ fixed_fault (codes "end" ∷ []) ∷ [])) ≡ judges ws = unfold judges in refl in
+      let asked : head_judges (inputs_said ws)
+      ++ (pairs_judges ws ++ (cells_judges ws (cells_place ws) ++ fixed_fault (codes "end" ∷ []) ∷ [])) ≡ judges ws =
+      unfold judges in refl in
       let first : Pass (head_judges (inputs_said ws)) six = subst (λ n. Pass (head_judges n) six) (sym inputs_are) six_pass in
       let end : Pass (fixed_fault (codes "end" ∷ []) ∷ []) last = (refl, refl) in
-      let rest = pass_append (cells_judges ws (cells_place ws)) (fixed_fault (codes "end" ∷ []) ∷ []) (section (codes "cells") (map cell_words cert.cells)) last cells_pass_here end in
-      let more = pass_append (pairs_judges ws) (cells_judges ws (cells_place ws) ++ fixed_fault (codes "end" ∷ []) ∷ []) (pair_lines cert.format cert.pairs) (section (codes "cells") (map cell_words cert.cells) ++ last) pairs_pass_here rest in
-      let all = pass_append (head_judges (inputs_said ws)) (pairs_judges ws ++ (cells_judges ws (cells_place ws) ++ fixed_fault (codes "end" ∷ []) ∷ [])) six (pair_lines cert.format cert.pairs ++ (section (codes "cells") (map cell_words cert.cells) ++ last)) first more in
-      subst (λ js. Pass js ws) asked (subst (Pass (head_judges (inputs_said ws) ++ (pairs_judges ws ++ (cells_judges ws (cells_place ws) ++ fixed_fault (codes "end" ∷ []) ∷ [])))) (sym parts) all)
+      let rest = pass_append (cells_judges ws (cells_place ws)) (fixed_fault (codes "end" ∷ []) ∷ [])
+      (section (codes "cells") (map cell_words cert.cells)) last cells_pass_here end in
+      let more = pass_append (pairs_judges ws) (cells_judges ws (cells_place ws) ++ fixed_fault (codes "end" ∷ []) ∷ [])
+      (pair_lines cert.format cert.pairs) (section (codes "cells") (map cell_words cert.cells) ++ last) pairs_pass_here rest in
+      let all = pass_append (head_judges (inputs_said ws))
+      (pairs_judges ws ++ (cells_judges ws (cells_place ws) ++ fixed_fault (codes "end" ∷ []) ∷ [])) six
+      (pair_lines cert.format cert.pairs ++ (section (codes "cells") (map cell_words cert.cells) ++ last)) first more in
+      subst (λ js. Pass js ws) asked
+      (subst (Pass
+      (head_judges (inputs_said ws)
+      ++ (pairs_judges ws ++ (cells_judges ws (cells_place ws) ++ fixed_fault (codes "end" ∷ []) ∷ []))))
+      (sym parts) all)
 
   -- the lines of a spelling, each with its line feed, are the spelling
   feeds_back : (lines : List (List (List ℕ))) → with_feeds (map (join_with_byte 32) lines) ≡ flat_map text_line lines
@@ -270,7 +309,9 @@ module _ (cert : Certificate) (has : HasSpelling cert) where
 
   nothing_trails : trailing (length (judges (word_lines cert))) (spelling cert) ≡ []
   nothing_trails =
-      let count : length (judges (word_lines cert)) ≡ length (map (join_with_byte 32) (word_lines cert)) = pass_length (judges (word_lines cert)) (word_lines cert) all_pass ∙ sym (length-map (word_lines cert) (join_with_byte 32)) in
+      let count : length (judges (word_lines cert)) ≡ length (map (join_with_byte 32) (word_lines cert)) =
+      pass_length (judges (word_lines cert)) (word_lines cert) all_pass
+      ∙ sym (length-map (word_lines cert) (join_with_byte 32)) in
       nothing_behind (length (judges (word_lines cert))) (spelling cert)
       (
       ap (λ lines. with_feeds (take (length (judges (word_lines cert))) lines)) whole_are

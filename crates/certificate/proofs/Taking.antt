@@ -15,20 +15,23 @@ use Rattle.certificate.specs.Values.{is_above}
 use Rattle.certificate.proofs.Sections.{Before, entry_judges, entry_is}
 
 -- judges that agree find the same
-pub same_judge : (number : ℕ) (j k : Judge) (js : List Judge) (text : List ℕ) → ((ws : List (List ℕ)) → j ws ≡ k ws) → outcome number (j ∷ js) text ≡ outcome number (k ∷ js) text
+pub same_judge : (number : ℕ) (j k : Judge) (js : List Judge) (text : List ℕ) → ((ws : List (List ℕ)) → j ws ≡ k ws) →
+    outcome number (j ∷ js) text ≡ outcome number (k ∷ js) text
 unfolding outcome line_faults
 same_judge number j k js text same = by (said text) refl where
   by : (lines : List (List (List ℕ))) → said text ≡ lines → outcome number (j ∷ js) text ≡ outcome number (k ∷ js) text
   by [] e = unfold outcome in rw e refl
   by (ws ∷ lines) e = unfold outcome in rw e (rw (same ws) refl)
 
-entry_same : (is_entry f g : List ℕ → List ℕ → Bool) → ((a b : List ℕ) → f a b ≡ g a b) → (ws : List (List ℕ)) → entry_fault is_entry f ws ≡ entry_fault is_entry g ws
+entry_same : (is_entry f g : List ℕ → List ℕ → Bool) → ((a b : List ℕ) → f a b ≡ g a b) → (ws : List (List ℕ)) →
+    entry_fault is_entry f ws ≡ entry_fault is_entry g ws
 entry_same is_entry f g same [] = refl
 entry_same is_entry f g same (a ∷ []) = refl
 entry_same is_entry f g same (a ∷ b ∷ []) = rw (same a b) refl
 entry_same is_entry f g same (a ∷ b ∷ d ∷ more) = refl
 
-module _ {E : Type 0} (read : List (List ℕ) → E) (key_of : E → ℕ) (name : List ℕ) (most : ℕ) (is_entry : List ℕ → List ℕ → Bool) (key : List ℕ → List ℕ → ℕ) (keyed : (a b : List ℕ) → key_of (read (a ∷ b ∷ [])) ≡ key a b) where
+module _ {E : Type 0} (read : List (List ℕ) → E) (key_of : E → ℕ) (name : List ℕ) (most : ℕ) (is_entry : List ℕ → List ℕ → Bool)
+    (key : List ℕ → List ℕ → ℕ) (keyed : (a b : List ℕ) → key_of (read (a ∷ b ∷ [])) ≡ key a b) where
   -- so many entries of a section are taken
   pub record Reached (number₀ : ℕ) (text₀ : List ℕ) (count i : ℕ) (last : Option ℕ) (items : List E) (number : ℕ) (rest : List ℕ) : Type 0 where
     pub head : List (List ℕ)
@@ -42,19 +45,24 @@ module _ {E : Type 0} (read : List (List ℕ) → E) (key_of : E → ℕ) (name 
         outcome number₀ (section_judges name most is_entry key (pre ++ said text₀) (length pre) ++ js) text₀
         ≡ outcome number (entry_judges is_entry key (pre ++ said text₀) (length pre + 1) ((length pre + 1) + i) (count - i) ++ js) rest
 
-  rises_is : (ws : List (List (List ℕ))) (first k : ℕ) (last : Option ℕ) → Before is_entry key ws first k last → (a b : List ℕ) → rises key ws first k a b ≡ is_above last (key a b)
+  rises_is : (ws : List (List (List ℕ))) (first k : ℕ) (last : Option ℕ) → Before is_entry key ws first k last → (a b : List ℕ) →
+      rises key ws first k a b ≡ is_above last (key a b)
   rises_is ws first k None e a b = let here : (k == first) ≡ true = grind (arith, nat_tests) in rw here refl
   rises_is ws first k (Some j) (later, e) a b = let here : (k == first) ≡ false = grind (arith, nat_tests) in rw here (rw e refl)
 
   -- what is asked of the next entry, and what of those after it
-  next_judges : (ws : List (List (List ℕ))) (first k left : ℕ) → 0 < left → entry_judges is_entry key ws first k left ≡ entry_fault is_entry (rises key ws first k) ∷ entry_judges is_entry key ws first (k + 1) (left - 1)
+  next_judges : (ws : List (List (List ℕ))) (first k left : ℕ) → 0 < left →
+      entry_judges is_entry key ws first k left ≡ entry_fault is_entry (rises key ws first k) ∷ entry_judges is_entry key ws first (k + 1)
+      (left - 1)
   next_judges ws first k zero some = absurd (omega (arith, some))
   next_judges ws first k (suc left) some = let less : suc left - 1 ≡ left = omega arith in rw less refl
 
-  number_here : (pre : List (List (List ℕ))) (text : List ℕ) (head : List (List ℕ)) (others : List (List (List ℕ))) → said text ≡ head ∷ others → number_said (pre ++ said text) (length pre) ≡ number_of (get_or head 1 [])
+  number_here : (pre : List (List (List ℕ))) (text : List ℕ) (head : List (List ℕ)) (others : List (List (List ℕ))) →
+      said text ≡ head ∷ others → number_said (pre ++ said text) (length pre) ≡ number_of (get_or head 1 [])
   number_here pre text head others e = rw e (ap (λ (w : List (List ℕ)). number_of (get_or w 1 [])) (get_or-append_seam pre head others []))
 
-  pub reached_first : (number₀ : ℕ) (text₀ : List ℕ) (number : ℕ) (rest : List ℕ) (count : ℕ) → Asks (field_fault name 1 0 most) number₀ text₀ number rest (λ ws v. v ≡ number_of (get_or ws 1 [])) (Ok count) →
+  pub reached_first : (number₀ : ℕ) (text₀ : List ℕ) (number : ℕ) (rest : List ℕ) (count : ℕ) →
+      Asks (field_fault name 1 0 most) number₀ text₀ number rest (λ ws v. v ≡ number_of (get_or ws 1 [])) (Ok count) →
       Reached number₀ text₀ count 0 None [] number rest
   reached_first number₀ text₀ number rest count (ws, parts, passes, left, value) = record {
     head = ws;
@@ -72,30 +80,44 @@ module _ {E : Type 0} (read : List (List ℕ) → E) (key_of : E → ℕ) (name 
     first_left pre js =
         let same : number_said (pre ++ said text₀) (length pre) ≡ count - 0 = number_here pre text₀ ws (said rest) parts ∙ sym value ∙ (omega arith) in
         let start : (length pre + 1) + 0 ≡ length pre + 1 = omega arith in
-        let all = left (map (λ k. entry_fault is_entry (rises key (pre ++ said text₀) (length pre + 1) k)) (range_with_len (length pre + 1) (number_said (pre ++ said text₀) (length pre))) ++ js) in
-        all ∙ ap (λ n. outcome number (map (λ k. entry_fault is_entry (rises key (pre ++ said text₀) (length pre + 1) k)) (range_with_len (length pre + 1) n) ++ js) rest) same
+        let all = left
+        (map (λ k. entry_fault is_entry (rises key (pre ++ said text₀) (length pre + 1) k))
+        (range_with_len (length pre + 1) (number_said (pre ++ said text₀) (length pre)))
+        ++ js) in
+        all ∙ ap (λ n. outcome number
+        (map (λ k. entry_fault is_entry (rises key (pre ++ said text₀) (length pre + 1) k)) (range_with_len (length pre + 1) n) ++ js)
+        rest) same
         ∙ ap (λ k. outcome number (entry_judges is_entry key (pre ++ said text₀) (length pre + 1) k (count - 0) ++ js) rest) (sym start)
 
   -- what is left with one entry to be asked
-  with_next : (number₀ : ℕ) (text₀ : List ℕ) (count i : ℕ) (last : Option ℕ) (items : List E) (number : ℕ) (rest : List ℕ) → Reached number₀ text₀ count i last items number rest → i < count →
+  with_next : (number₀ : ℕ) (text₀ : List ℕ) (count i : ℕ) (last : Option ℕ) (items : List E) (number : ℕ) (rest : List ℕ) →
+      Reached number₀ text₀ count i last items number rest → i < count →
       (pre : List (List (List ℕ))) (js : List Judge) →
       outcome number₀ (section_judges name most is_entry key (pre ++ said text₀) (length pre) ++ js) text₀
-      ≡ outcome number (entry_fault is_entry (λ a b. is_above last (key a b)) ∷ (entry_judges is_entry key (pre ++ said text₀) (length pre + 1) (((length pre + 1) + i) + 1) ((count - i) - 1) ++ js)) rest
+      ≡ outcome number
+      (entry_fault is_entry (λ a b. is_above last (key a b)) ∷
+      (entry_judges is_entry key (pre ++ said text₀) (length pre + 1) (((length pre + 1) + i) + 1) ((count - i) - 1) ++ js)) rest
   with_next number₀ text₀ count i last items number rest r more pre js =
       let ws = pre ++ said text₀ in let first = length pre + 1 in
       r.left pre js ∙ ap (λ ks. outcome number (ks ++ js) rest) (next_judges ws first (first + i) (count - i) (omega (arith, more)))
-      ∙ same_judge number (entry_fault is_entry (rises key ws first (first + i))) (entry_fault is_entry (λ a b. is_above last (key a b))) (entry_judges is_entry key ws first ((first + i) + 1) ((count - i) - 1) ++ js) rest
+      ∙ same_judge number (entry_fault is_entry (rises key ws first (first + i))) (entry_fault is_entry (λ a b. is_above last (key a b)))
+      (entry_judges is_entry key ws first ((first + i) + 1) ((count - i) - 1) ++ js) rest
       (entry_same is_entry (rises key ws first (first + i)) (λ a b. is_above last (key a b)) (rises_is ws first (first + i) last (r.before pre)))
 
-  pub reached_fails : (number₀ : ℕ) (text₀ : List ℕ) (count i : ℕ) (last : Option ℕ) (items : List E) (number : ℕ) (rest : List ℕ) (after : ℕ) (rest' : List ℕ) (P : List (List ℕ) → E → Type 0) (fault : CertFault) →
-      Reached number₀ text₀ count i last items number rest → i < count → Asks {V = E} (entry_fault is_entry (λ a b. is_above last (key a b))) number rest after rest' P (Err fault) →
-      (pre : List (List (List ℕ))) (js : List Judge) → Fails (outcome number₀ (section_judges name most is_entry key (pre ++ said text₀) (length pre) ++ js) text₀) fault
+  pub reached_fails : (number₀ : ℕ) (text₀ : List ℕ) (count i : ℕ) (last : Option ℕ) (items : List E) (number : ℕ) (rest : List ℕ)
+      (after : ℕ) (rest' : List ℕ) (P : List (List ℕ) → E → Type 0) (fault : CertFault) →
+      Reached number₀ text₀ count i last items number rest → i < count →
+      Asks {V = E} (entry_fault is_entry (λ a b. is_above last (key a b))) number rest after rest' P (Err fault) →
+      (pre : List (List (List ℕ))) (js : List Judge) →
+      Fails (outcome number₀ (section_judges name most is_entry key (pre ++ said text₀) (length pre) ++ js) text₀) fault
   reached_fails number₀ text₀ count i last items number rest after rest' P fault r more asks pre js =
       subst (λ faults. Fails faults fault) (sym (with_next number₀ text₀ count i last items number rest r more pre js)) (asks _)
 
   -- one entry more
-  pub reached_more : (number₀ : ℕ) (text₀ : List ℕ) (count i : ℕ) (last : Option ℕ) (items : List E) (number : ℕ) (rest : List ℕ) (after : ℕ) (rest' : List ℕ) (e : E) (k : ℕ) →
-      Reached number₀ text₀ count i last items number rest → i < count → Asks (entry_fault is_entry (λ a b. is_above last (key a b))) number rest after rest' (λ ws v. v ≡ read ws) (Ok e) → k ≡ key_of e →
+  pub reached_more : (number₀ : ℕ) (text₀ : List ℕ) (count i : ℕ) (last : Option ℕ) (items : List E) (number : ℕ) (rest : List ℕ)
+      (after : ℕ) (rest' : List ℕ) (e : E) (k : ℕ) →
+      Reached number₀ text₀ count i last items number rest → i < count →
+      Asks (entry_fault is_entry (λ a b. is_above last (key a b))) number rest after rest' (λ ws v. v ≡ read ws) (Ok e) → k ≡ key_of e →
       Reached number₀ text₀ count (i + 1) (Some k) (items ++ e ∷ []) after rest'
   reached_more number₀ text₀ count i last items number rest after rest' e k r more (ws, parts, passes, left, value) key_is =
       let told = entry_is is_entry key (λ a b. is_above last (key a b)) ws passes in
@@ -120,7 +142,8 @@ module _ {E : Type 0} (read : List (List ℕ) → E) (key_of : E → ℕ) (name 
             ∙ ap (λ n. get_or ((pre ++ (r.head ∷ r.es)) ++ ws ∷ said rest') n []) (sym (place_is pre))
             ∙ get_or-append_seam (pre ++ (r.head ∷ r.es)) ws (said rest') []
 
-        later : (pre : List (List (List ℕ))) (a b : List ℕ) → ws ≡ a ∷ b ∷ [] → k ≡ key a b → Before is_entry key (pre ++ said text₀) (length pre + 1) ((length pre + 1) + (i + 1)) (Some k)
+        later : (pre : List (List (List ℕ))) (a b : List ℕ) → ws ≡ a ∷ b ∷ [] → k ≡ key a b →
+            Before is_entry key (pre ++ said text₀) (length pre + 1) ((length pre + 1) + (i + 1)) (Some k)
         later pre a b is same =
             let place : ((length pre + 1) + (i + 1)) - 1 ≡ (length pre + 1) + i = omega arith in
             (omega arith, rw place (rw (here pre ∙ is) (sym same)))
@@ -136,7 +159,9 @@ module _ {E : Type 0} (read : List (List ℕ) → E) (key_of : E → ℕ) (name 
             ∙ ap (λ n. outcome after (entry_judges is_entry key (pre ++ said text₀) (length pre + 1) ((length pre + 1) + (i + 1)) n ++ js) rest') less
 
   -- all entries are taken
-  pub reached_all : {V : Type 0} (items_of : V → List E) (v : V) (number₀ : ℕ) (text₀ : List ℕ) (count i : ℕ) (last : Option ℕ) (number : ℕ) (rest : List ℕ) → Reached number₀ text₀ count i last (items_of v) number rest → count ≤ i → i ≤ count →
+  pub reached_all : {V : Type 0} (items_of : V → List E) (v : V) (number₀ : ℕ) (text₀ : List ℕ) (count i : ℕ) (last : Option ℕ) (number : ℕ)
+      (rest : List ℕ) →
+      Reached number₀ text₀ count i last (items_of v) number rest → count ≤ i → i ≤ count →
       TakesSection name most is_entry key read items_of number₀ text₀ number rest (Ok v)
   reached_all items_of v number₀ text₀ count i last number rest r low high pre =
       ((λ js. whole js), r.head ∷ r.es, r.parts, long, said_here) where
@@ -147,28 +172,42 @@ module _ {E : Type 0} (read : List (List ℕ) → E) (key_of : E → ℕ) (name 
         none = omega (arith, low)
 
         whole : (js : List Judge) → outcome number₀ (section_judges name most is_entry key ws (length pre) ++ js) text₀ ≡ outcome number js rest
-        whole js = r.left pre js ∙ ap (λ n. outcome number (entry_judges is_entry key (pre ++ said text₀) (length pre + 1) ((length pre + 1) + i) n ++ js) rest) none
+        whole js = r.left pre js
+            ∙ ap (λ n. outcome number (entry_judges is_entry key (pre ++ said text₀) (length pre + 1) ((length pre + 1) + i) n ++ js)
+            rest) none
 
         count_here : number_said ws (length pre) ≡ length r.es
         count_here = number_here pre text₀ r.head (r.es ++ said rest) r.parts ∙ r.count_is ∙ (omega (arith, low, high, r.many))
 
         long : length (r.head ∷ r.es) ≡ length (section_judges name most is_entry key ws (length pre))
-        long = ap suc (sym (length-map (range_with_len (length pre + 1) (number_said ws (length pre))) (λ k. entry_fault is_entry (rises key ws (length pre + 1) k)) ∙ length-range_with_len (length pre + 1) (number_said ws (length pre)) ∙ count_here))
+        long = ap suc
+            (sym (length-map (range_with_len (length pre + 1) (number_said ws (length pre)))
+            (λ k. entry_fault is_entry (rises key ws (length pre + 1) k))
+            ∙ length-range_with_len (length pre + 1) (number_said ws (length pre)) ∙ count_here))
 
         behind : drop (length pre + 1) ws ≡ r.es ++ said rest
         behind = drop-append-add pre (said text₀) 1 ∙ ap (drop 1) r.parts
 
         said_here : items_of v ≡ section_said read ws (length pre)
-        said_here = r.items_are ∙ ap (map read) (sym (ap (λ n. take n (drop (length pre + 1) ws)) count_here ∙ ap (take (length r.es)) behind ∙ take-append_seam r.es (said rest)))
+        said_here = r.items_are
+            ∙ ap (map read)
+            (sym (ap (λ n. take n (drop (length pre + 1) ws)) count_here ∙ ap (take (length r.es)) behind
+            ∙ take-append_seam r.es (said rest)))
 
 -- a refusal of a section
-pub section_fails : {V E : Type 0} (name : List ℕ) (most : ℕ) (is_entry : List ℕ → List ℕ → Bool) (key : List ℕ → List ℕ → ℕ) (read : List (List ℕ) → E) (items : V → List E) (number : ℕ) (text : List ℕ) (after : ℕ) (rest : List ℕ) (result : Result V CertFault) (fault : CertFault) →
-    IsErrAnd result (λ e. e ≡ fault) → ((pre : List (List (List ℕ))) (js : List Judge) → Fails (outcome number (section_judges name most is_entry key (pre ++ said text) (length pre) ++ js) text) fault) →
+pub section_fails : {V E : Type 0} (name : List ℕ) (most : ℕ) (is_entry : List ℕ → List ℕ → Bool) (key : List ℕ → List ℕ → ℕ)
+    (read : List (List ℕ) → E) (items : V → List E) (number : ℕ) (text : List ℕ) (after : ℕ) (rest : List ℕ) (result : Result V CertFault)
+    (fault : CertFault) →
+    IsErrAnd result (λ e. e ≡ fault) →
+    ((pre : List (List (List ℕ))) (js : List Judge) →
+    Fails (outcome number (section_judges name most is_entry key (pre ++ said text) (length pre) ++ js) text) fault) →
     TakesSection name most is_entry key read items number text after rest result
 section_fails name most is_entry key read items number text after rest (Ok v) fault is fails = elim is [ ]
 section_fails name most is_entry key read items number text after rest (Err e) fault is fails = rw is fails
 
-pub memory_fails : {V E : Type 0} (name : List ℕ) (most : ℕ) (is_entry : List ℕ → List ℕ → Bool) (key : List ℕ → List ℕ → ℕ) (read : List (List ℕ) → E) (items : V → List E) (number : ℕ) (text : List ℕ) (after : ℕ) (rest : List ℕ) (result : Result V CertFault) (fault : CertFault) →
+pub memory_fails : {V E : Type 0} (name : List ℕ) (most : ℕ) (is_entry : List ℕ → List ℕ → Bool) (key : List ℕ → List ℕ → ℕ)
+    (read : List (List ℕ) → E) (items : V → List E) (number : ℕ) (text : List ℕ) (after : ℕ) (rest : List ℕ) (result : Result V CertFault)
+    (fault : CertFault) →
     IsErrAnd result (λ e. e ≡ fault) → fault ≡ found.OutOfMemory → TakesSection name most is_entry key read items number text after rest result
 memory_fails name most is_entry key read items number text after rest (Ok v) fault is memory = elim is [ ]
 memory_fails name most is_entry key read items number text after rest (Err e) fault is memory = rw (is ∙ memory) (λ pre js. tt)

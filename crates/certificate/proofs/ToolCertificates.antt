@@ -28,22 +28,27 @@ module _ {E : Type 0} (key : E → ℕ) where
 
   range_rises : (before : Option ℕ) (low high : ℕ) (es : List E) → ((k : ℕ) → low ≤ k → IsAbove before k) → InRange low high es → RiseFrom key before es
   range_rises before low high [] above within = tt
-  range_rises before low high (e ∷ es) above (here, under, within) = (above (key e) here, range_rises (Some (key e)) (key e + 1) high es (λ k h. omega (arith, h)) within)
+  range_rises before low high (e ∷ es) above (here, under, within) =
+      (above (key e) here, range_rises (Some (key e)) (key e + 1) high es (λ k h. omega (arith, h)) within)
 
   range_wider : (low low' high high' : ℕ) (es : List E) → low' ≤ low → high ≤ high' → InRange low high es → InRange low' high' es
   range_wider low low' high high' [] a b within = tt
-  range_wider low low' high high' (e ∷ es) a b (here, under, within) = (omega (arith, a, here), omega (arith, b, under), range_wider (key e + 1) (key e + 1) high high' es (omega arith) b within)
+  range_wider low low' high high' (e ∷ es) a b (here, under, within) =
+      (omega (arith, a, here), omega (arith, b, under), range_wider (key e + 1) (key e + 1) high high' es (omega arith) b within)
 
-  range_append : (low middle high : ℕ) (es fs : List E) → low ≤ middle → middle ≤ high → InRange low middle es → InRange middle high fs → InRange low high (es ++ fs)
+  range_append : (low middle high : ℕ) (es fs : List E) → low ≤ middle → middle ≤ high → InRange low middle es → InRange middle high fs →
+      InRange low high (es ++ fs)
   range_append low middle high [] fs a b here more = range_wider middle low high high fs a (omega arith) more
-  range_append low middle high (e ∷ es) fs a b (first, under, here) more = (first, omega (arith, b, under), range_append (key e + 1) middle high es fs (omega (arith, under)) b here more)
+  range_append low middle high (e ∷ es) fs a b (first, under, here) more =
+      (first, omega (arith, b, under), range_append (key e + 1) middle high es fs (omega (arith, under)) b here more)
 
   pub range_pairs : (low high : ℕ) (es : List E) → InRange low high es → AllPairs (λ a b. key a < key b) es
   range_pairs low high es within = rise_pairs key None es (range_rises None low high es (λ k h. tt) within)
 
 -- what is made of the numbers of a range that pass a test
 module _ {E : Type 0} (make : ℕ → E) (p : ℕ → Bool) where
-  pub kept_range : (key : E → ℕ) (base : ℕ) → ((k : ℕ) → key (make k) ≡ base + k) → (low count : ℕ) → InRange key (base + low) (base + low + count) (map make (filter p (range_with_len low count)))
+  pub kept_range : (key : E → ℕ) (base : ℕ) → ((k : ℕ) → key (make k) ≡ base + k) → (low count : ℕ) →
+      InRange key (base + low) (base + low + count) (map make (filter p (range_with_len low count)))
   kept_range key base is low zero = tt
   kept_range key base is low (suc count) = by (p low) (kept_range key base is (low + 1) count)
     where
@@ -51,15 +56,20 @@ module _ {E : Type 0} (make : ℕ → E) (p : ℕ → Bool) where
       here = is low
 
       by : (b : Bool) → InRange key (base + (low + 1)) (base + (low + 1) + count) (map make (filter p (range_with_len (low + 1) count))) →
-          InRange key (base + low) (base + low + suc count) (map make (cond b (low ∷ filter p (range_with_len (low + 1) count)) (filter p (range_with_len (low + 1) count))))
+          InRange key (base + low) (base + low + suc count)
+          (map make (cond b (low ∷ filter p (range_with_len (low + 1) count)) (filter p (range_with_len (low + 1) count))))
       by true rest = (
         omega (arith, here),
         omega (arith, here),
-        range_wider key (base + (low + 1)) (key (make low) + 1) (base + (low + 1) + count) (base + low + suc count) (map make (filter p (range_with_len (low + 1) count))) (omega (arith, here)) (omega arith) rest,
+        range_wider key (base + (low + 1)) (key (make low) + 1) (base + (low + 1) + count) (base + low + suc count)
+            (map make (filter p (range_with_len (low + 1) count))) (omega (arith, here)) (omega arith) rest,
       )
-      by false rest = range_wider key (base + (low + 1)) (base + low) (base + (low + 1) + count) (base + low + suc count) (map make (filter p (range_with_len (low + 1) count))) (omega arith) (omega arith) rest
+      by false rest =
+          range_wider key (base + (low + 1)) (base + low) (base + (low + 1) + count) (base + low + suc count)
+          (map make (filter p (range_with_len (low + 1) count))) (omega arith) (omega arith) rest
 
-  pub kept_all : (Q : E → Type 0) (low count : ℕ) → ((k : ℕ) → low ≤ k → k < low + count → p k ≡ true → Q (make k)) → AllByRecursion Q (map make (filter p (range_with_len low count)))
+  pub kept_all : (Q : E → Type 0) (low count : ℕ) → ((k : ℕ) → low ≤ k → k < low + count → p k ≡ true → Q (make k)) →
+      AllByRecursion Q (map make (filter p (range_with_len low count)))
   kept_all Q low zero holds = tt
   kept_all Q low (suc count) holds = by (p low) refl (kept_all Q (low + 1) count (λ k a b e. holds k (omega (arith, a)) (omega (arith, b)) e))
     where
@@ -72,7 +82,8 @@ kept_few : (p : ℕ → Bool) (low count : ℕ) → length (filter p (range_with
 kept_few p low zero = omega arith
 kept_few p low (suc count) = by (p low) (kept_few p (low + 1) count)
   where
-    by : (b : Bool) → length (filter p (range_with_len (low + 1) count)) ≤ count → length (cond b (low ∷ filter p (range_with_len (low + 1) count)) (filter p (range_with_len (low + 1) count))) ≤ suc count
+    by : (b : Bool) → length (filter p (range_with_len (low + 1) count)) ≤ count →
+        length (cond b (low ∷ filter p (range_with_len (low + 1) count)) (filter p (range_with_len (low + 1) count))) ≤ suc count
     by true few = omega (arith, few)
     by false few = omega (arith, few)
 
@@ -84,11 +95,14 @@ pairs_rise : (has : ℕ → ℕ → Bool) (n low count : ℕ) → n ≤ 16 → I
 unfolding pairs_of
 pairs_rise has n low zero few = tt
 pairs_rise has n low (suc count) few =
-    range_append pair_key (low * 16) ((low + 1) * 16) ((low + suc count) * 16) (map (λ b. (low, b)) (filter (has low) (range_with_len 0 n))) (pairs_of has n (range_with_len (low + 1) count))
+    range_append pair_key (low * 16) ((low + 1) * 16) ((low + suc count) * 16) (map (λ b. (low, b)) (filter (has low) (range_with_len 0 n)))
+    (pairs_of has n (range_with_len (low + 1) count))
     (omega arith) (omega arith)
-    (range_wider pair_key (low * 16 + 0) (low * 16) (low * 16 + 0 + n) ((low + 1) * 16) (map (λ b. (low, b)) (filter (has low) (range_with_len 0 n))) (omega arith) (omega (arith, few))
+    (range_wider pair_key (low * 16 + 0) (low * 16) (low * 16 + 0 + n) ((low + 1) * 16)
+    (map (λ b. (low, b)) (filter (has low) (range_with_len 0 n))) (omega arith) (omega (arith, few))
     (kept_range (λ (b : ℕ). (low, b)) (has low) pair_key (low * 16) (λ k. refl) 0 n))
-    (range_wider pair_key ((low + 1) * 16) ((low + 1) * 16) ((low + 1 + count) * 16) ((low + suc count) * 16) (pairs_of has n (range_with_len (low + 1) count)) (omega arith) (omega arith) (pairs_rise has n (low + 1) count few))
+    (range_wider pair_key ((low + 1) * 16) ((low + 1) * 16) ((low + 1 + count) * 16) ((low + suc count) * 16)
+    (pairs_of has n (range_with_len (low + 1) count)) (omega arith) (omega arith) (pairs_rise has n (low + 1) count few))
 
 -- no element is above a sum
 each_within : (xs : List ℕ) (most : ℕ) → sum xs ≤ most → AllByRecursion (λ x. x ≤ most) xs
@@ -127,12 +141,18 @@ module _ (n : ℕ) (F : List Function) (P : List Pair) (order : List ℕ) (some 
   listed : AllByRecursion (IsCell n) (map (least_listed n F P) (listed_masks n F P (size_under n F order)))
   unfolding listed_masks least_listed
   listed = kept_all (least_listed n F P)
-      (λ mask. is_lawful P (members n mask) && nat_lt (least n F P (members n mask) + essentials_outside n F (members n mask)) (size_under n F order)) (IsCell n) 0 (2 ^ n - 1) one
+      (λ mask. is_lawful P (members n mask)
+      && nat_lt (least n F P (members n mask) + essentials_outside n F (members n mask)) (size_under n F order))
+      (IsCell n) 0 (2 ^ n - 1) one
     where
-      one : (k : ℕ) → 0 ≤ k → k < 0 + (2 ^ n - 1) → (is_lawful P (members n k) && nat_lt (least n F P (members n k) + essentials_outside n F (members n k)) (size_under n F order)) ≡ true →
+      one : (k : ℕ) → 0 ≤ k → k < 0 + (2 ^ n - 1) →
+          (is_lawful P (members n k)
+          && nat_lt (least n F P (members n k) + essentials_outside n F (members n k)) (size_under n F order)) ≡ true →
           IsCell n (least_listed n F P k)
       one k a b e =
-          let parts = both_are (is_lawful P (members n k)) (nat_lt (least n F P (members n k) + essentials_outside n F (members n k)) (size_under n F order)) e in
+          let parts =
+          both_are (is_lawful P (members n k))
+          (nat_lt (least n F P (members n k) + essentials_outside n F (members n k)) (size_under n F order)) e in
           let under : nat_lt (least n F P (members n k) + essentials_outside n F (members n k)) (size_under n F order) ≡ true = parts.1 in
           let room : least n F P (members n k) + essentials_outside n F (members n k) < size_under n F order = grind (arith, nat_tests) in
           let bound = small in
@@ -141,14 +161,19 @@ module _ (n : ℕ) (F : List Function) (P : List Pair) (order : List ℕ) (some 
   cells_rise : AllPairs (λ (a b : Cell). a.mask < b.mask) (map (least_listed n F P) (listed_masks n F P (size_under n F order)))
   unfolding listed_masks least_listed
   cells_rise = range_pairs (λ (c : Cell). c.mask) (0 + 0) (0 + 0 + (2 ^ n - 1)) (map (least_listed n F P) (listed_masks n F P (size_under n F order)))
-      (kept_range (least_listed n F P) (λ mask. is_lawful P (members n mask) && nat_lt (least n F P (members n mask) + essentials_outside n F (members n mask)) (size_under n F order))
+      (kept_range (least_listed n F P)
+      (λ mask. is_lawful P (members n mask)
+      && nat_lt (least n F P (members n mask) + essentials_outside n F (members n mask)) (size_under n F order))
       (λ (c : Cell). c.mask) 0 (λ k. omega arith) 0 (2 ^ n - 1))
 
   cells_few : length (map (least_listed n F P) (listed_masks n F P (size_under n F order))) ≤ 2 ^ n - 1
   unfolding listed_masks
   cells_few =
       let l = length-map (listed_masks n F P (size_under n F order)) (least_listed n F P) in
-      let k = kept_few (λ mask. is_lawful P (members n mask) && nat_lt (least n F P (members n mask) + essentials_outside n F (members n mask)) (size_under n F order)) 0 (2 ^ n - 1) in
+      let k = kept_few
+      (λ mask. is_lawful P (members n mask)
+      && nat_lt (least n F P (members n mask) + essentials_outside n F (members n mask)) (size_under n F order))
+      0 (2 ^ n - 1) in
       omega (arith, l, k)
 
   -- the certificate that the tool writes has a spelling

@@ -143,7 +143,9 @@ hex_plain mask =
 pub hex_back : (mask : ℕ) → mask < 65536 → mask_of (hex4 mask) ≡ mask
 unfolding hex4
 hex_back mask small =
-    rw (glyph_value (mask / 16 ^ 3 % 16) (omega arith)) (rw (glyph_value (mask / 16 ^ 2 % 16) (omega arith)) (rw (glyph_value (mask / 16 ^ 1 % 16) (omega arith)) (rw (glyph_value (mask / 16 ^ 0 % 16) (omega arith)) (omega arith))))
+    rw (glyph_value (mask / 16 ^ 3 % 16) (omega arith))
+    (rw (glyph_value (mask / 16 ^ 2 % 16) (omega arith))
+    (rw (glyph_value (mask / 16 ^ 1 % 16) (omega arith)) (rw (glyph_value (mask / 16 ^ 0 % 16) (omega arith)) (omega arith))))
 
 -- decimals of small numbers
 pub decimals_plain : (ns : List ℕ) → AllByRecursion (λ n. n < 2 ^ 64) ns → ArePlain (map decimal ns)

@@ -21,10 +21,12 @@ multiplexer = record {
   levels = 1 ∷ 1 ∷ 1 ∷ [];
   total = 3;
   pairs = [];
-  cells = record { mask = 0; cost = 0 } ∷ record { mask = 1; cost = 1 } ∷ record { mask = 2; cost = 1 } ∷ record { mask = 3; cost = 2 } ∷ record { mask = 4; cost = 2 } ∷ [];
+  cells = record { mask = 0; cost = 0 } ∷ record { mask = 1; cost = 1 } ∷ record { mask = 2; cost = 1 } ∷ record { mask = 3; cost = 2 } ∷
+      record { mask = 4; cost = 2 } ∷ [];
 }
 
-multiplexer_text : spelling multiplexer ≡ codes "bddorder-certificate 1\ninputs 3\noutputs 1\norder 2 0 1\nlevels 1 1 1\ntotal 3\ncells 5\n0000 0\n0001 1\n0002 1\n0003 2\n0004 2\nend\n"
+multiplexer_text : spelling multiplexer ≡ codes
+    "bddorder-certificate 1\ninputs 3\noutputs 1\norder 2 0 1\nlevels 1 1 1\ntotal 3\ncells 5\n0000 0\n0001 1\n0002 1\n0003 2\n0004 2\nend\n"
 unfolding hex4 digits word_lines text_line spelling
 multiplexer_text = refl
 
@@ -41,7 +43,8 @@ above = record {
   cells = record { mask = 0; cost = 0 } ∷ record { mask = 2; cost = 1 } ∷ [];
 }
 
-above_text : spelling above ≡ codes "bddorder-certificate 2\ninputs 3\noutputs 1\norder 0 2 1\nlevels 1 2 1\ntotal 4\npairs 1\n0 2\ncells 2\n0000 0\n0002 1\nend\n"
+above_text : spelling above ≡ codes
+    "bddorder-certificate 2\ninputs 3\noutputs 1\norder 0 2 1\nlevels 1 2 1\ntotal 4\npairs 1\n0 2\ncells 2\n0000 0\n0002 1\nend\n"
 unfolding hex4 digits word_lines text_line spelling
 above_text = refl
 
@@ -77,6 +80,18 @@ first_faults : map first_of (
     ∷ (codes "bddorder-certificate 2\ninputs 3\noutputs 1\norder 0 2 1\nlevels 1 2 1\ntotal 4\npairs 241\n0 2\ncells 2\n0000 0\n0002 1\nend\n")
     ∷ (codes "bddorder-certificate 2\ninputs 3\noutputs 1\norder 0 2 1\nlevels 1 2 1\ntotal 4\npairs 2\n0 2\ncells 2\n0000 0\n0002 1\nend\n")
     ∷ (codes "bddorder-certificate 2\ninputs 3\noutputs 1\norder 0 2 1\nlevels 1 2 1\ntotal 4\npairs 1\n0 2 1\ncells 2\n0000 0\n0002 1\nend\n")
-    ∷ []) ≡ None ∷ None ∷ Some (13, MissingLine) ∷ Some (9, BadNumber) ∷ Some (10, NotRising) ∷ Some (12, BadLine) ∷ Some (7, BadNumber) ∷ Some (12, BadNumber) ∷ Some (4, BadLine) ∷ Some (4, BadNumber) ∷ None ∷ Some (14, TrailingText) ∷ Some (14, TrailingText) ∷ Some (1, MissingLine) ∷ Some (2, BadLine) ∷ Some (12, BadNumber) ∷ Some (1, BadLine) ∷ Some (1, BadLine) ∷ Some (7, BadLine) ∷ Some (7, BadLine) ∷ Some (6, BadNumber) ∷ Some (13, MissingLine) ∷ Some (8, BadNumber) ∷ None ∷ Some (9, NotRising) ∷ Some (9, NotRising) ∷ None ∷ None ∷ Some (7, BadNumber) ∷ Some (9, BadNumber) ∷ Some (8, BadLine) ∷ []
+    ∷ []) ≡ None ∷ None ∷ Some (13, MissingLine) ∷ Some (9, BadNumber) ∷ Some (10, NotRising) ∷ Some (12, BadLine) ∷ Some (
+      7,
+      BadNumber,
+    ) ∷ Some (12, BadNumber) ∷ Some (4, BadLine) ∷ Some (4, BadNumber) ∷ None ∷ Some (14, TrailingText) ∷ Some (
+      14,
+      TrailingText,
+    ) ∷ Some (1, MissingLine) ∷ Some (2, BadLine) ∷ Some (12, BadNumber) ∷ Some (1, BadLine) ∷ Some (1, BadLine) ∷ Some (
+      7,
+      BadLine,
+    ) ∷ Some (7, BadLine) ∷ Some (6, BadNumber) ∷ Some (13, MissingLine) ∷ Some (8, BadNumber) ∷ None ∷ Some (
+      9,
+      NotRising,
+    ) ∷ Some (9, NotRising) ∷ None ∷ None ∷ Some (7, BadNumber) ∷ Some (9, BadNumber) ∷ Some (8, BadLine) ∷ []
 unfolding hex4 digits whole_lines words judges line_faults trailing faults
 first_faults = refl

@@ -17,10 +17,13 @@ behind w [] = sym (append-nil w)
 behind w (n ∷ ns) = ap (λ r. w ++ (32 ∷ r)) (behind (decimal n) ns)
 
 -- a line of a fixed word and numbers, written piece by piece
-pub numbers_written : (s₀ s₁ s₂ s₃ name : List ℕ) (ns : List ℕ) → s₁ ≡ s₀ ++ name → s₂ ≡ s₁ ++ each_spaced ns → s₃ ≡ s₂ ++ 10 ∷ [] → s₃ ≡ s₀ ++ text_line (field name ns)
+pub numbers_written : (s₀ s₁ s₂ s₃ name : List ℕ) (ns : List ℕ) → s₁ ≡ s₀ ++ name → s₂ ≡ s₁ ++ each_spaced ns → s₃ ≡ s₂ ++ 10 ∷ [] →
+    s₃ ≡ s₀ ++ text_line (field name ns)
 unfolding text_line
 numbers_written s₀ s₁ s₂ s₃ name ns a b c =
-    c ∙ ap (λ s. s ++ 10 ∷ []) (b ∙ ap (λ s. s ++ each_spaced ns) a ∙ append_assoc s₀ name (each_spaced ns) ∙ ap (λ r. s₀ ++ r) (sym (behind name ns))) ∙ append_assoc s₀ (join_with_byte 32 (name ∷ map decimal ns)) (10 ∷ [])
+    c ∙ ap (λ s. s ++ 10 ∷ [])
+    (b ∙ ap (λ s. s ++ each_spaced ns) a ∙ append_assoc s₀ name (each_spaced ns) ∙ ap (λ r. s₀ ++ r) (sym (behind name ns)))
+    ∙ append_assoc s₀ (join_with_byte 32 (name ∷ map decimal ns)) (10 ∷ [])
 
 pub number_written : (name : List ℕ) (n : ℕ) → name ++ (32 ∷ (decimal n ++ 10 ∷ [])) ≡ text_line (field name (n ∷ []))
 unfolding text_line
@@ -35,19 +38,23 @@ unfolding text_line
 cell_written cell = sym (append_assoc (hex4 cell.mask) (32 ∷ decimal cell.cost) (10 ∷ []))
 
 -- one entry more
-pub entries_more : {E : Type 0} (write : E → List (List ℕ)) (s₀ s₁ s₂ : List ℕ) (es : List E) (i : ℕ) (d : E) → i < length es → s₁ ≡ s₀ ++ flat_map text_line (map write (take i es)) → s₂ ≡ s₁ ++ text_line (write (get_or es i d)) →
+pub entries_more : {E : Type 0} (write : E → List (List ℕ)) (s₀ s₁ s₂ : List ℕ) (es : List E) (i : ℕ) (d : E) → i < length es →
+    s₁ ≡ s₀ ++ flat_map text_line (map write (take i es)) → s₂ ≡ s₁ ++ text_line (write (get_or es i d)) →
     s₂ ≡ s₀ ++ flat_map text_line (map write (take (i + 1) es))
 entries_more write s₀ s₁ s₂ es i d within a b =
     let more : flat_map text_line (map write (take (i + 1) es)) ≡ flat_map text_line (map write (take i es)) ++ text_line (write (get_or es i d)) =
     ap (λ xs. flat_map text_line (map write xs)) (take_more es i d within) ∙ ap (flat_map text_line) (map-append write (take i es) (get_or es i d ∷ []))
-    ∙ flat_map-append text_line (map write (take i es)) (write (get_or es i d) ∷ []) ∙ ap (λ r. flat_map text_line (map write (take i es)) ++ r) (append-nil (text_line (write (get_or es i d)))) in
-    b ∙ ap (λ s. s ++ text_line (write (get_or es i d))) a ∙ append_assoc s₀ (flat_map text_line (map write (take i es))) (text_line (write (get_or es i d))) ∙ ap (λ r. s₀ ++ r) (sym more)
+    ∙ flat_map-append text_line (map write (take i es)) (write (get_or es i d) ∷ [])
+    ∙ ap (λ r. flat_map text_line (map write (take i es)) ++ r) (append-nil (text_line (write (get_or es i d)))) in
+    b ∙ ap (λ s. s ++ text_line (write (get_or es i d))) a
+    ∙ append_assoc s₀ (flat_map text_line (map write (take i es))) (text_line (write (get_or es i d))) ∙ ap (λ r. s₀ ++ r) (sym more)
 
 -- a mask in four hexadecimal digits
 abbrev glyph : ℕ → ℕ
 glyph d = digit_glyph false d
 
-four : (a b c d : ℕ) (mask : ℕ) → a ≡ mask / 4096 % 16 → b ≡ mask / 256 % 16 → c ≡ mask / 16 % 16 → d ≡ mask / 1 % 16 → glyph a ∷ glyph b ∷ glyph c ∷ glyph d ∷ [] ≡ hex4 mask
+four : (a b c d : ℕ) (mask : ℕ) → a ≡ mask / 4096 % 16 → b ≡ mask / 256 % 16 → c ≡ mask / 16 % 16 → d ≡ mask / 1 % 16 →
+    glyph a ∷ glyph b ∷ glyph c ∷ glyph d ∷ [] ≡ hex4 mask
 unfolding hex4
 four a b c d mask ea eb ec ed = rw ea (rw eb (rw ec (rw ed refl)))
 
@@ -87,7 +94,8 @@ three_digits mask low small =
     let more : (mask / 16 == 0) ≡ false = grind (arith, nat_tests) in let third : (mask / 16 / 16 == 0) ≡ false = grind (arith, nat_tests) in
     let end : (mask / 16 / 16 / 16 == 0) ≡ true = grind (arith, nat_tests) in rw more (rw third (rw end refl))
 
-four_digits : (mask : ℕ) → 4096 ≤ mask → mask < 65536 → digits 16 false mask ≡ glyph (mask / 16 / 16 / 16 % 16) ∷ glyph (mask / 16 / 16 % 16) ∷ glyph (mask / 16 % 16) ∷ glyph (mask % 16) ∷ []
+four_digits : (mask : ℕ) → 4096 ≤ mask → mask < 65536 →
+    digits 16 false mask ≡ glyph (mask / 16 / 16 / 16 % 16) ∷ glyph (mask / 16 / 16 % 16) ∷ glyph (mask / 16 % 16) ∷ glyph (mask % 16) ∷ []
 unfolding digits
 four_digits mask low small =
     let more : (mask / 16 == 0) ≡ false = grind (arith, nat_tests) in let third : (mask / 16 / 16 == 0) ≡ false = grind (arith, nat_tests) in
@@ -98,13 +106,16 @@ four_digits mask low small =
 pub zero_padded : (mask : ℕ) → mask < 65536 → padded_integral (format_spec 32 0 4 4 18446744073709551615) false [] (digits 16 false mask) ≡ hex4 mask
 zero_padded mask small = by (cases_lt mask 16) (cases_lt mask 256) (cases_lt mask 4096) where
   by : (mask < 16) ⊎ (16 ≤ mask) → (mask < 256) ⊎ (256 ≤ mask) → (mask < 4096) ⊎ (4096 ≤ mask) → padded_to (digits 16 false mask) ≡ hex4 mask
-  by (inl a) b c = ap padded_to (one_digit mask a) ∙ pad_one (glyph (mask % 16)) ∙ four 0 0 0 (mask % 16) mask (omega arith) (omega arith) (omega arith) (omega arith)
-  by (inr a) (inl b) c = ap padded_to (two_digits mask a b) ∙ pad_two (glyph (mask / 16 % 16)) (glyph (mask % 16)) ∙ four 0 0 (mask / 16 % 16) (mask % 16) mask (omega arith) (omega arith) (omega arith) (omega arith)
+  by (inl a) b c = ap padded_to (one_digit mask a) ∙ pad_one (glyph (mask % 16))
+      ∙ four 0 0 0 (mask % 16) mask (omega arith) (omega arith) (omega arith) (omega arith)
+  by (inr a) (inl b) c = ap padded_to (two_digits mask a b) ∙ pad_two (glyph (mask / 16 % 16)) (glyph (mask % 16))
+      ∙ four 0 0 (mask / 16 % 16) (mask % 16) mask (omega arith) (omega arith) (omega arith) (omega arith)
   by (inr a) (inr b) (inl c) =
       ap padded_to (three_digits mask b c) ∙ pad_three (glyph (mask / 16 / 16 % 16)) (glyph (mask / 16 % 16)) (glyph (mask % 16))
       ∙ four 0 (mask / 16 / 16 % 16) (mask / 16 % 16) (mask % 16) mask (omega arith) (omega arith) (omega arith) (omega arith)
   by (inr a) (inr b) (inr c) =
-      ap padded_to (four_digits mask c small) ∙ pad_four (glyph (mask / 16 / 16 / 16 % 16)) (glyph (mask / 16 / 16 % 16)) (glyph (mask / 16 % 16)) (glyph (mask % 16))
+      ap padded_to (four_digits mask c small)
+      ∙ pad_four (glyph (mask / 16 / 16 / 16 % 16)) (glyph (mask / 16 / 16 % 16)) (glyph (mask / 16 % 16)) (glyph (mask % 16))
       ∙ four (mask / 16 / 16 / 16 % 16) (mask / 16 / 16 % 16) (mask / 16 % 16) (mask % 16) mask (omega arith) (omega arith) (omega arith) (omega arith)
 
 -- a text after two others
@@ -112,7 +123,8 @@ pub after : (s₀ s₁ s₂ a b : List ℕ) → s₁ ≡ s₀ ++ a → s₂ ≡ 
 after s₀ s₁ s₂ a b e g = g ∙ ap (λ s. s ++ b) e ∙ append_assoc s₀ a b
 
 -- six lines, one after another
-pub six_written : (s₀ s₁ s₂ s₃ s₄ s₅ s₆ : List ℕ) (a b c d e f : List (List ℕ)) → s₁ ≡ s₀ ++ text_line a → s₂ ≡ s₁ ++ text_line b → s₃ ≡ s₂ ++ text_line c → s₄ ≡ s₃ ++ text_line d → s₅ ≡ s₄ ++ text_line e → s₆ ≡ s₅ ++ text_line f →
+pub six_written : (s₀ s₁ s₂ s₃ s₄ s₅ s₆ : List ℕ) (a b c d e f : List (List ℕ)) → s₁ ≡ s₀ ++ text_line a → s₂ ≡ s₁ ++ text_line b →
+    s₃ ≡ s₂ ++ text_line c → s₄ ≡ s₃ ++ text_line d → s₅ ≡ s₄ ++ text_line e → s₆ ≡ s₅ ++ text_line f →
     s₆ ≡ s₀ ++ flat_map text_line (a ∷ b ∷ c ∷ d ∷ e ∷ f ∷ [])
 six_written s₀ s₁ s₂ s₃ s₄ s₅ s₆ a b c d e f ea eb ec ed ee ef =
     let five = after s₄ s₅ s₆ (text_line e) (text_line f ++ []) ee (ef ∙ ap (λ r. s₅ ++ r) (sym (append-nil (text_line f)))) in
@@ -122,12 +134,14 @@ six_written s₀ s₁ s₂ s₃ s₄ s₅ s₆ a b c d e f ea eb ec ed ee ef =
     after s₀ s₁ s₆ (text_line a) _ ea two
 
 -- a section
-pub section_written : (s₀ s₁ s₂ name : List ℕ) (n : ℕ) (entries : List (List (List ℕ))) → n ≡ length entries → s₁ ≡ s₀ ++ text_line (field name (n ∷ [])) → s₂ ≡ s₁ ++ flat_map text_line entries →
+pub section_written : (s₀ s₁ s₂ name : List ℕ) (n : ℕ) (entries : List (List (List ℕ))) → n ≡ length entries →
+    s₁ ≡ s₀ ++ text_line (field name (n ∷ [])) → s₂ ≡ s₁ ++ flat_map text_line entries →
     s₂ ≡ s₀ ++ flat_map text_line (section name entries)
 section_written s₀ s₁ s₂ name n entries e a b = after s₀ s₁ s₂ (text_line (field name (length entries ∷ []))) (flat_map text_line entries) (rw (sym e) a) b
 
 -- the whole text
-pub spelling_written : (s₀ s₁ s₂ s₃ s₄ : List ℕ) (cert : Certificate) → s₀ ≡ [] → s₁ ≡ s₀ ++ flat_map text_line (head_lines cert) → s₂ ≡ s₁ ++ flat_map text_line (pair_lines cert.format cert.pairs) →
+pub spelling_written : (s₀ s₁ s₂ s₃ s₄ : List ℕ) (cert : Certificate) → s₀ ≡ [] → s₁ ≡ s₀ ++ flat_map text_line (head_lines cert) →
+    s₂ ≡ s₁ ++ flat_map text_line (pair_lines cert.format cert.pairs) →
     s₃ ≡ s₂ ++ flat_map text_line (section (codes "cells") (map cell_words cert.cells)) → s₄ ≡ s₃ ++ codes "end\n" → s₄ ≡ spelling cert
 unfolding spelling word_lines text_line
 spelling_written s₀ s₁ s₂ s₃ s₄ cert none a b c d =
@@ -135,9 +149,16 @@ spelling_written s₀ s₁ s₂ s₃ s₄ cert none a b c d =
     let three = after s₂ s₃ s₄ (flat_map text_line cells) (flat_map text_line last) c d in
     let two = after s₁ s₂ s₄ (flat_map text_line pairs) _ b three in
     let one = after s₀ s₁ s₄ (flat_map text_line (head_lines cert)) _ a two in
-    let joined : flat_map text_line (head_lines cert ++ (pairs ++ (cells ++ last))) ≡ flat_map text_line (head_lines cert) ++ (flat_map text_line pairs ++ (flat_map text_line cells ++ flat_map text_line last)) =
-    flat_map-append text_line (head_lines cert) (pairs ++ (cells ++ last)) ∙ ap (λ r. flat_map text_line (head_lines cert) ++ r) (flat_map-append text_line pairs (cells ++ last) ∙ ap (λ r. flat_map text_line pairs ++ r) (flat_map-append text_line cells last)) in
-    one ∙ ap (λ s. s ++ (flat_map text_line (head_lines cert) ++ (flat_map text_line pairs ++ (flat_map text_line cells ++ flat_map text_line last)))) none ∙ sym joined
+    let joined : flat_map text_line (head_lines cert ++ (pairs ++ (cells ++ last))) ≡ flat_map text_line (head_lines cert)
+    ++ (flat_map text_line pairs ++ (flat_map text_line cells ++ flat_map text_line last)) =
+    flat_map-append text_line (head_lines cert) (pairs ++ (cells ++ last))
+    ∙ ap (λ r. flat_map text_line (head_lines cert) ++ r)
+    (flat_map-append text_line pairs (cells ++ last)
+    ∙ ap (λ r. flat_map text_line pairs ++ r) (flat_map-append text_line cells last)) in
+    one ∙ ap (λ s. s
+    ++ (flat_map text_line (head_lines cert)
+    ++ (flat_map text_line pairs ++ (flat_map text_line cells ++ flat_map text_line last)))) none
+    ∙ sym joined
 
 -- a line of numbers that are told
 pub told : (s₀ s₁ name : List ℕ) (ms ns : List ℕ) → s₁ ≡ s₀ ++ text_line (field name ms) → ms ≡ ns → s₁ ≡ s₀ ++ text_line (field name ns)

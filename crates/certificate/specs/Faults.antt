@@ -72,8 +72,11 @@ fixed_fault wanted given = first_fault ((not (pointwise same given wanted), BadL
 
 -- the first line, of either format
 abbrev pub title_fault : Judge
-title_fault given = first_fault (
-    (not (pointwise same given (codes "bddorder-certificate" ∷ codes "1" ∷ []) || pointwise same given (codes "bddorder-certificate" ∷ codes "2" ∷ [])), BadLine) ∷ [])
+title_fault given = first_fault ((
+  not (pointwise same given (codes "bddorder-certificate" ∷ codes "1" ∷ []) || pointwise same given
+      (codes "bddorder-certificate" ∷ codes "2" ∷ [])),
+  BadLine,
+) ∷ [])
 
 -- a line of a fixed word with a count of decimals from least to most
 abbrev pub field_fault : List ℕ → ℕ → ℕ → ℕ → Judge

@@ -44,7 +44,8 @@ body_judges ws = pairs_judges ws ++ (cells_judges ws (cells_place ws) ++ fixed_f
 -- the lines of listed sets and the last one are taken, after some lines that say a number of inputs, or the first fault is told
 abbrev pub TakesSets : ℕ → ℕ → List ℕ → Result (Vec ListedCell Global) CertFault → Type 0
 TakesSets n number text (Ok cells) = (pre : List (List (List ℕ))) → length pre ≡ cells_place (pre ++ said text) → inputs_said (pre ++ said text) ≡ n →
-    (outcome number (cells_judges (pre ++ said text) (cells_place (pre ++ said text)) ++ fixed_fault (codes "end" ∷ []) ∷ []) text ≡ []) × (map listed cells.items ≡ (cert_of (pre ++ said text)).cells)
+    (outcome number (cells_judges (pre ++ said text) (cells_place (pre ++ said text)) ++ fixed_fault (codes "end" ∷ []) ∷ []) text ≡ [])
+    × (map listed cells.items ≡ (cert_of (pre ++ said text)).cells)
 TakesSets n number text (Err fault) = (pre : List (List (List ℕ))) → length pre ≡ cells_place (pre ++ said text) → inputs_said (pre ++ said text) ≡ n →
     Fails (outcome number (cells_judges (pre ++ said text) (cells_place (pre ++ said text)) ++ fixed_fault (codes "end" ∷ []) ∷ []) text) fault
 
@@ -55,9 +56,12 @@ pairs_in (Some pairs) = pairs.items
 
 -- what stands after six lines that say a format and a number of inputs is taken to its end, or the first fault is told
 abbrev pub TakesBody : ℕ → ℕ → ℕ → List ℕ → Result (Option (Vec Pair Global) × Vec ListedCell Global) CertFault → Type 0
-TakesBody format n number text (Ok parts) = (pre : List (List (List ℕ))) → length pre ≡ 6 → number_said (pre ++ said text) 0 ≡ format → inputs_said (pre ++ said text) ≡ n →
-    (outcome number (body_judges (pre ++ said text)) text ≡ []) × (format_of parts.0 ≡ format) × (pairs_in parts.0 ≡ (cert_of (pre ++ said text)).pairs) × (map listed parts.1.items ≡ (cert_of (pre ++ said text)).cells)
-TakesBody format n number text (Err fault) = (pre : List (List (List ℕ))) → length pre ≡ 6 → number_said (pre ++ said text) 0 ≡ format → inputs_said (pre ++ said text) ≡ n →
+TakesBody format n number text (Ok parts) =
+    (pre : List (List (List ℕ))) → length pre ≡ 6 → number_said (pre ++ said text) 0 ≡ format → inputs_said (pre ++ said text) ≡ n →
+    (outcome number (body_judges (pre ++ said text)) text ≡ []) × (format_of parts.0 ≡ format)
+    × (pairs_in parts.0 ≡ (cert_of (pre ++ said text)).pairs) × (map listed parts.1.items ≡ (cert_of (pre ++ said text)).cells)
+TakesBody format n number text (Err fault) =
+    (pre : List (List (List ℕ))) → length pre ≡ 6 → number_said (pre ++ said text) 0 ≡ format → inputs_said (pre ++ said text) ≡ n →
     Fails (outcome number (body_judges (pre ++ said text)) text) fault
 
 -- the parts of a certificate, as they are read

@@ -89,14 +89,16 @@ fn order_fits(n: u8, order: &[VarIx]) -> bool
 
 /// Whether there is a level count for each input, each in bounds.
 fn levels_fit(n: u8, levels: &[u32]) -> bool
-    ensures { IsTrue result ↔ ((length levels.now ≡ n) × All (λ count. count ≤ most_nodes) levels.now) }
+    ensures { IsTrue result ↔
+        ((length levels.now ≡ n) × All (λ count. count ≤ most_nodes) levels.now) }
 {
     levels.len() == n as usize && levels.iter().all(|count| *count <= MOST_NODES)
 }
 
 /// Whether pairs may stand in a certificate of n inputs.
 fn pairs_fit(n: u8, pairs: &[(VarIx, VarIx)]) -> bool
-    ensures { IsTrue result ↔ ((length pairs.now ≤ most_pairs) × IsTrue (fit (is_pair_of n) pair_key None pairs.now)) }
+    ensures { IsTrue result ↔
+        ((length pairs.now ≤ most_pairs) × IsTrue (fit (is_pair_of n) pair_key None pairs.now)) }
 {
     pairs.len() <= MOST_PAIRS && pairs_rise(n, pairs)
 }
@@ -104,7 +106,8 @@ fn pairs_fit(n: u8, pairs: &[(VarIx, VarIx)]) -> bool
 /// Whether listed sets may stand in a certificate of n inputs.
 fn cells_fit(n: u8, cells: &[ListedCell]) -> bool
     requires { n ≤ 16 }
-    ensures { IsTrue result ↔ ((length cells.now ≤ 2 ^ n - 1) × IsTrue (fit (is_cell_of n) mask_in None cells.now)) }
+    ensures { IsTrue result ↔
+        ((length cells.now ≤ 2 ^ n - 1) × IsTrue (fit (is_cell_of n) mask_in None cells.now)) }
 {
     cells.len() <= sets_below_all(n) as usize && cells_rise(n, cells)
 }
@@ -119,8 +122,12 @@ pub(crate) fn have_spelling(
     pairs: &[(VarIx, VarIx)],
     cells: &[ListedCell],
 ) -> bool
-    ensures spelled { IsTrue result → (format : ℕ) → HasPairs format pairs.now → HasSpelling (value_of format inputs outputs order.now levels.now total pairs.now cells.now) }
-    ensures unspelled { IsFalse result → (format : ℕ) → HasSpelling (value_of format inputs outputs order.now levels.now total pairs.now cells.now) → ⊥ }
+    ensures spelled { IsTrue result → (format : ℕ) → HasPairs format pairs.now →
+        HasSpelling
+        (value_of format inputs outputs order.now levels.now total pairs.now cells.now) }
+    ensures unspelled { IsFalse result → (format : ℕ) →
+        HasSpelling
+        (value_of format inputs outputs order.now levels.now total pairs.now cells.now) → ⊥ }
 {
     if !count_fits(inputs) {
         return false;

@@ -47,8 +47,11 @@ impl Certificate {
         total: u32,
         cells: Vec<ListedCell>,
     ) -> Option<Certificate>
-        ensures some { IfSome result (λ c. c ≡ value_of 1 inputs outputs order.items levels.items total [] cells.items) }
-        ensures none { IfNone result (HasSpelling (value_of 1 inputs outputs order.items levels.items total [] cells.items) → ⊥) }
+        ensures some { IfSome result
+            (λ c. c ≡ value_of 1 inputs outputs order.items levels.items total [] cells.items) }
+        ensures none { IfNone result
+            (HasSpelling
+            (value_of 1 inputs outputs order.items levels.items total [] cells.items) → ⊥) }
     {
         if !have_spelling(inputs, outputs, &order, &levels, total, &[], &cells) {
             return None;
@@ -75,8 +78,13 @@ impl Certificate {
         pairs: Vec<(VarIx, VarIx)>,
         cells: Vec<ListedCell>,
     ) -> Option<Certificate>
-        ensures some { IfSome result (λ c. c ≡ value_of 2 inputs outputs order.items levels.items total pairs.items cells.items) }
-        ensures none { IfNone result (HasSpelling (value_of 2 inputs outputs order.items levels.items total pairs.items cells.items) → ⊥) }
+        ensures some { IfSome result
+            (λ c. c ≡ value_of 2 inputs outputs order.items levels.items total pairs.items
+            cells.items) }
+        ensures none { IfNone result
+            (HasSpelling
+            (value_of 2 inputs outputs order.items levels.items total pairs.items
+            cells.items) → ⊥) }
     {
         if !have_spelling(inputs, outputs, &order, &levels, total, &pairs, &cells) {
             return None;

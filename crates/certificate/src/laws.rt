@@ -11,7 +11,8 @@ ghost use Rattle.certificate.specs.Faults.{Spells, FirstFault, faults};
 
 /// A text is the spelling of at most one certificate.
 pub fn texts_have_one_certificate()
-    ensures { (a b : Certificate) → HasSpelling a → HasSpelling b → spelling a ≡ spelling b → a ≡ b }
+    ensures { (a b : Certificate) → HasSpelling a → HasSpelling b →
+        spelling a ≡ spelling b → a ≡ b }
 {}
 
 /// A spelling has no fault.
@@ -21,13 +22,18 @@ pub fn spellings_have_no_fault()
 
 /// Each text is the spelling of a certificate or has a first fault, not both, and one at most.
 pub fn texts_have_one_reading()
-    ensures some { (text : List ℕ) → ((cert : Certificate) × Spells text cert) ⊎ ((line : ℕ) × (fault : LineFault) × FirstFault text line fault) }
-    ensures not_both { (text : List ℕ) (cert : Certificate) (line : ℕ) (fault : LineFault) → Spells text cert → FirstFault text line fault → ⊥ }
-    ensures one_fault { (text : List ℕ) (i j : ℕ) (e f : LineFault) → FirstFault text i e → FirstFault text j f → (i ≡ j) × (e ≡ f) }
+    ensures some { (text : List ℕ) →
+        ((cert : Certificate) × Spells text cert) ⊎
+        ((line : ℕ) × (fault : LineFault) × FirstFault text line fault) }
+    ensures not_both { (text : List ℕ) (cert : Certificate) (line : ℕ) (fault : LineFault) →
+        Spells text cert → FirstFault text line fault → ⊥ }
+    ensures one_fault { (text : List ℕ) (i j : ℕ) (e f : LineFault) → FirstFault text i e →
+        FirstFault text j f → (i ≡ j) × (e ≡ f) }
 {}
 
 /// The certificate of an order has a spelling: that of 1 to 16 functions of 1 to 16 variables, with sorted pairs of which there are at most 240.
 pub fn orders_have_certificates()
-    ensures { (n : ℕ) (F : List Function) (P : List Pair) (order : List ℕ) → 1 ≤ n → n ≤ 16 → 1 ≤ length F → length F ≤ 16 → IsOrder n order →
+    ensures { (n : ℕ) (F : List Function) (P : List Pair) (order : List ℕ) → 1 ≤ n → n ≤ 16 →
+        1 ≤ length F → length F ≤ 16 → IsOrder n order →
         AreBelow n P → length P ≤ 240 → sorted_pairs n P ≡ P → HasSpelling (certificate_of n F P order) }
 {}

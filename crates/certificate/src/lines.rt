@@ -30,7 +30,8 @@ fn two_words(line: &[u8]) -> Option<(&[u8], &[u8])>
 /// The number of a line of a fixed word and a number.
 pub fn number_line(line: &[u8], name: &[u8], least: u32, most: u32) -> Result<u32, LineFault>
     requires { most ≤ most_nodes }
-    ensures says { Says (field_fault name.now 1 least most) line.now (λ value. value ≡ number_of (get_or (words line.now) 1 [])) result }
+    ensures says { Says (field_fault name.now 1 least most) line.now
+        (λ value. value ≡ number_of (get_or (words line.now) 1 [])) result }
     ensures within { IfOk result (λ value. (least ≤ value) × (value ≤ most)) }
 {
     let Some((word, digits)) = two_words(line) else {
@@ -49,7 +50,10 @@ pub fn number_line(line: &[u8], name: &[u8], least: u32, most: u32) -> Result<u3
 pub fn pair_line(line: &[u8], n: u8, last: Option<u32>) -> Result<(VarIx, VarIx), LineFault>
     requires some { 1 ≤ n }
     requires few { n ≤ 16 }
-    ensures { Says (entry_fault (is_pair n) (λ a b. above last (pair_key_of a b))) line.now (λ pair. pair ≡ (number_of (get_or (words line.now) 0 []), number_of (get_or (words line.now) 1 []))) result }
+    ensures { Says (entry_fault (is_pair n) (λ a b. above last (pair_key_of a b))) line.now
+        (λ pair. pair ≡
+        (number_of (get_or (words line.now) 0 []), number_of (get_or (words line.now) 1 [])))
+        result }
 {
     let Some((first, second)) = two_words(line) else {
         return Err(LineFault::BadLine);
@@ -71,7 +75,12 @@ pub fn pair_line(line: &[u8], n: u8, last: Option<u32>) -> Result<(VarIx, VarIx)
 /// The listed set of a line, whose mask is above one that may have come before.
 pub fn cell_line(line: &[u8], n: u8, last: Option<u32>) -> Result<ListedCell, LineFault>
     requires { n ≤ 16 }
-    ensures { Says (entry_fault (is_cell n) (λ a b. above last (cell_key_of a b))) line.now (λ cell. listed cell ≡ record { mask = mask_of (get_or (words line.now) 0 []); cost = number_of (get_or (words line.now) 1 []) }) result }
+    ensures { Says (entry_fault (is_cell n) (λ a b. above last (cell_key_of a b))) line.now
+        (λ cell. listed cell ≡ record {
+          mask = mask_of (get_or (words line.now) 0 []);
+          cost = number_of (get_or (words line.now) 1 []);
+        })
+        result }
 {
     let Some((first, second)) = two_words(line) else {
         return Err(LineFault::BadLine);
@@ -90,7 +99,8 @@ pub fn cell_line(line: &[u8], n: u8, last: Option<u32>) -> Result<ListedCell, Li
 
 /// The format that the first line says.
 pub fn title_line(line: &[u8]) -> Result<u8, LineFault>
-    ensures { Says title_fault line.now (λ format. format ≡ number_of (get_or (words line.now) 1 [])) result }
+    ensures { Says title_fault line.now
+        (λ format. format ≡ number_of (get_or (words line.now) 1 [])) result }
 {
     if line == b"bddorder-certificate 1".as_slice() {
         Ok(1)
@@ -128,8 +138,10 @@ fn count_words(text: &[u8]) -> usize
 /// What stands after the fixed word of a line that has as many words after it as are wanted.
 pub(crate) fn behind_name<'a>(line: &'a [u8], name: &[u8], count: usize) -> Option<&'a [u8]>
     requires { 1 ≤ count }
-    ensures some { IfSome result (λ rest. (words line.now ≡ name.now ∷ words rest.now) × (length (words rest.now) ≡ count)) }
-    ensures none { IfNone result ((least most : ℕ) → field_fault name.now count least most (words line.now) ≡ Some BadLine) }
+    ensures some { IfSome result
+        (λ rest. (words line.now ≡ name.now ∷ words rest.now) × (length (words rest.now) ≡ count)) }
+    ensures none { IfNone result
+        ((least most : ℕ) → field_fault name.now count least most (words line.now) ≡ Some BadLine) }
 {
     let Some((word, rest)) = cut(line, b' ') else {
         return None;

@@ -44,7 +44,8 @@ pub struct Head {
 /// Takes the first six lines.
 fn read_head(alloc: Global, lines: &mut Lines<'_>) -> Result<Head, CertFault>
     requires { FitsCount lines.old }
-    ensures head { TakesHead lines.old.number lines.old.rest.now lines.new.number lines.new.rest.now result }
+    ensures head { TakesHead lines.old.number lines.old.rest.now lines.new.number lines.new.rest.now
+        result }
     ensures bound { StaysWithin lines.old lines.new }
 {
     let format = lines.title()?;

@@ -35,7 +35,9 @@ fn push_number(numbers: &mut Vec<u32>, word: &[u8], most: u32, line: usize) -> R
     requires { most ≤ most_nodes }
     ensures added { OnOk result (numbers.new.items ≡ numbers.old.items ++ number_of word.now ∷ []) }
     ensures passes { OnOk result (is_decimal 0 most word.now ≡ true) }
-    ensures refused { IfErr result (λ fault. (fault ≡ OutOfMemory) ⊎ ((fault ≡ Line line BadNumber) × (is_decimal 0 most word.now ≡ false))) }
+    ensures refused { IfErr result
+        (λ fault. (fault ≡ OutOfMemory) ⊎
+        ((fault ≡ Line line BadNumber) × (is_decimal 0 most word.now ≡ false))) }
 {
     let Some(value) = number(word, 0, most) else {
         return Err(CertFault::Line(line, LineFault::BadNumber));
@@ -48,7 +50,10 @@ fn numbers_in(alloc: Global, text: &[u8], most: u32, line: usize) -> Result<Vec<
     requires { most ≤ most_nodes }
     ensures numbers { IfOk result (λ v. v.items ≡ map number_of (words text.now)) }
     ensures passes { IfOk result (λ _. list_all (is_decimal 0 most) (words text.now) ≡ true) }
-    ensures refused { IfErr result (λ fault. (fault ≡ OutOfMemory) ⊎ ((fault ≡ Line line BadNumber) × (list_all (is_decimal 0 most) (words text.now) ≡ false))) }
+    ensures refused { IfErr result
+        (λ fault. (fault ≡ OutOfMemory) ⊎
+        ((fault ≡ Line line BadNumber)
+        × (list_all (is_decimal 0 most) (words text.now) ≡ false))) }
 {
     let mut numbers = Vec::new(alloc);
     let mut rest = text;
@@ -100,7 +105,8 @@ impl<'a> Lines<'a> {
     pub(crate) fn number(&mut self, name: &[u8], least: u32, most: u32) -> Result<u32, CertFault>
         requires small { FitsCount self.old }
         requires bounds { most ≤ most_nodes }
-        ensures line { TakesLine (field_fault name.now 1 least most) self.old self.new (λ ws value. value ≡ number_of (get_or ws 1 [])) result }
+        ensures line { TakesLine (field_fault name.now 1 least most) self.old self.new
+            (λ ws value. value ≡ number_of (get_or ws 1 [])) result }
         ensures within { IfOk result (λ value. (least ≤ value) × (value ≤ most)) }
         ensures bound { StaysWithin self.old self.new }
     {
@@ -115,7 +121,8 @@ impl<'a> Lines<'a> {
     /// Takes the first line, which says the format.
     pub(crate) fn title(&mut self) -> Result<u8, CertFault>
         requires { FitsCount self.old }
-        ensures line { TakesLine title_fault self.old self.new (λ ws format. format ≡ number_of (get_or ws 1 [])) result }
+        ensures line { TakesLine title_fault self.old self.new
+            (λ ws format. format ≡ number_of (get_or ws 1 [])) result }
         ensures bound { StaysWithin self.old self.new }
     {
         let number = self.number;
@@ -131,7 +138,8 @@ impl<'a> Lines<'a> {
         requires small { FitsCount self.old }
         requires some { 1 ≤ n }
         requires few { n ≤ 16 }
-        ensures line { TakesLine (entry_fault (is_pair n) (λ a b. above last (pair_key_of a b))) self.old self.new (λ ws pair. pair ≡ read_pair ws) result }
+        ensures line { TakesLine (entry_fault (is_pair n) (λ a b. above last (pair_key_of a b)))
+            self.old self.new (λ ws pair. pair ≡ read_pair ws) result }
         ensures bound { StaysWithin self.old self.new }
     {
         let number = self.number;
@@ -146,7 +154,8 @@ impl<'a> Lines<'a> {
     fn cell(&mut self, n: u8, last: Option<u32>) -> Result<ListedCell, CertFault>
         requires small { FitsCount self.old }
         requires few { n ≤ 16 }
-        ensures line { TakesLine (entry_fault (is_cell n) (λ a b. above last (cell_key_of a b))) self.old self.new (λ ws cell. listed cell ≡ read_cell ws) result }
+        ensures line { TakesLine (entry_fault (is_cell n) (λ a b. above last (cell_key_of a b)))
+            self.old self.new (λ ws cell. listed cell ≡ read_cell ws) result }
         ensures bound { StaysWithin self.old self.new }
     {
         let number = self.number;
@@ -160,8 +169,11 @@ impl<'a> Lines<'a> {
     /// Takes the last line, after which nothing follows.
     pub(crate) fn end(&mut self) -> Result<(), CertFault>
         requires { FitsCount self.old }
-        ensures passed { OnOk result (outcome self.old.number (fixed_fault (codes "end" ∷ []) ∷ []) self.old.rest.now ≡ []) }
-        ensures failed { IfErr result (Fails (outcome self.old.number (fixed_fault (codes "end" ∷ []) ∷ []) self.old.rest.now)) }
+        ensures passed { OnOk result
+            (outcome self.old.number (fixed_fault (codes "end" ∷ []) ∷ []) self.old.rest.now ≡ []) }
+        ensures failed { IfErr result
+            (Fails (outcome self.old.number (fixed_fault (codes "end" ∷ []) ∷ [])
+            self.old.rest.now)) }
     {
         let number = self.number;
         let line = self.next()?;
@@ -186,7 +198,8 @@ impl<'a> Lines<'a> {
         requires small { FitsCount self.old }
         requires some { 1 ≤ count }
         requires bounds { most ≤ most_nodes }
-        ensures line { TakesLine (field_fault name.now count 0 most) self.old self.new (λ ws numbers. numbers.items ≡ numbers_of ws) result }
+        ensures line { TakesLine (field_fault name.now count 0 most) self.old self.new
+            (λ ws numbers. numbers.items ≡ numbers_of ws) result }
         ensures bound { StaysWithin self.old self.new }
     {
         let number = self.number;
@@ -202,7 +215,8 @@ impl<'a> Lines<'a> {
         requires small { FitsCount self.old }
         requires some { 1 ≤ n }
         requires few { n ≤ 16 }
-        ensures section { TakesEntries (codes "pairs") most_pairs (is_pair n) pair_key_of read_pair (λ v. v.items) self.old self.new result }
+        ensures section { TakesEntries (codes "pairs") most_pairs (is_pair n) pair_key_of read_pair
+            (λ v. v.items) self.old self.new result }
         ensures bound { StaysWithin self.old self.new }
     {
         let count = self.number(b"pairs", 0, MOST_PAIRS as u32)?;
@@ -220,7 +234,8 @@ impl<'a> Lines<'a> {
     pub(crate) fn cells(&mut self, alloc: Global, n: u8) -> Result<Vec<ListedCell>, CertFault>
         requires small { FitsCount self.old }
         requires few { n ≤ 16 }
-        ensures section { TakesEntries (codes "cells") (2 ^ n - 1) (is_cell n) cell_key_of read_cell (λ v. map listed v.items) self.old self.new result }
+        ensures section { TakesEntries (codes "cells") (2 ^ n - 1) (is_cell n) cell_key_of read_cell
+            (λ v. map listed v.items) self.old self.new result }
         ensures bound { StaysWithin self.old self.new }
     {
         let count = self.number(b"cells", 0, sets_below_all(n))?;

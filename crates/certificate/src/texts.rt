@@ -20,7 +20,9 @@ const LONGEST_CELL: usize = 12;
 
 /// Appends the line of a fixed word and a number.
 fn push_number(text: &mut String, name: &str, number: usize) -> Result<(), AllocError>
-    ensures { OnOk result (string_bytes text.new ≡ string_bytes text.old ++ text_line (field name.now (number ∷ []))) }
+    ensures { OnOk result
+        (string_bytes text.new ≡ string_bytes text.old
+        ++ text_line (field name.now (number ∷ []))) }
 {
     write!(text, "{name} {number}\n")?;
     Ok(())
@@ -28,7 +30,8 @@ fn push_number(text: &mut String, name: &str, number: usize) -> Result<(), Alloc
 
 /// Appends the line of a fixed word and numbers.
 fn push_numbers(text: &mut String, name: &str, numbers: &[u32]) -> Result<(), AllocError>
-    ensures { OnOk result (string_bytes text.new ≡ string_bytes text.old ++ text_line (field name.now numbers.now)) }
+    ensures { OnOk result
+        (string_bytes text.new ≡ string_bytes text.old ++ text_line (field name.now numbers.now)) }
 {
     text.push_str(name)?;
     for number in numbers {
@@ -40,7 +43,9 @@ fn push_numbers(text: &mut String, name: &str, numbers: &[u32]) -> Result<(), Al
 
 /// Appends the line of a fixed word and variables.
 fn push_variables(text: &mut String, name: &str, variables: &[VarIx]) -> Result<(), AllocError>
-    ensures { OnOk result (string_bytes text.new ≡ string_bytes text.old ++ text_line (field name.now variables.now)) }
+    ensures { OnOk result
+        (string_bytes text.new ≡ string_bytes text.old
+        ++ text_line (field name.now variables.now)) }
 {
     text.push_str(name)?;
     for variable in variables {
@@ -52,7 +57,9 @@ fn push_variables(text: &mut String, name: &str, variables: &[VarIx]) -> Result<
 
 /// Appends the lines of pairs.
 fn push_pairs(text: &mut String, pairs: &[(VarIx, VarIx)]) -> Result<(), AllocError>
-    ensures { OnOk result (string_bytes text.new ≡ string_bytes text.old ++ flat_map text_line (map pair_words pairs.now)) }
+    ensures { OnOk result
+        (string_bytes text.new ≡ string_bytes text.old
+        ++ flat_map text_line (map pair_words pairs.now)) }
 {
     for (a, b) in pairs {
         write!(text, "{a} {b}\n")?;
@@ -62,7 +69,8 @@ fn push_pairs(text: &mut String, pairs: &[(VarIx, VarIx)]) -> Result<(), AllocEr
 
 /// Appends the line of a listed set.
 fn push_cell(text: &mut String, cell: ListedCell) -> Result<(), AllocError>
-    ensures { OnOk result (string_bytes text.new ≡ string_bytes text.old ++ text_line (cell_words (listed cell))) }
+    ensures { OnOk result
+        (string_bytes text.new ≡ string_bytes text.old ++ text_line (cell_words (listed cell))) }
 {
     let mask = cell.mask;
     let cost = cell.cost;
@@ -72,7 +80,9 @@ fn push_cell(text: &mut String, cell: ListedCell) -> Result<(), AllocError>
 
 /// Appends the lines of listed sets.
 fn push_cells(text: &mut String, cells: &[ListedCell]) -> Result<(), AllocError>
-    ensures { OnOk result (string_bytes text.new ≡ string_bytes text.old ++ flat_map text_line (map cell_words (map listed cells.now))) }
+    ensures { OnOk result
+        (string_bytes text.new ≡ string_bytes text.old
+        ++ flat_map text_line (map cell_words (map listed cells.now))) }
 {
     for cell in cells {
         push_cell(text, *cell)?;
@@ -82,7 +92,9 @@ fn push_cells(text: &mut String, cells: &[ListedCell]) -> Result<(), AllocError>
 
 /// Appends the first six lines.
 fn push_head(text: &mut String, cert: &Certificate) -> Result<(), AllocError>
-    ensures { OnOk result (string_bytes text.new ≡ string_bytes text.old ++ flat_map text_line (head_lines cert.now)) }
+    ensures { OnOk result
+        (string_bytes text.new ≡ string_bytes text.old
+        ++ flat_map text_line (head_lines cert.now)) }
 {
     push_number(text, "bddorder-certificate", cert.format() as usize)?;
     push_number(text, "inputs", cert.inputs() as usize)?;
@@ -95,7 +107,9 @@ fn push_head(text: &mut String, cert: &Certificate) -> Result<(), AllocError>
 
 /// Appends the lines of pairs, which format 2 alone has.
 fn push_pair_lines(text: &mut String, cert: &Certificate) -> Result<(), AllocError>
-    ensures { OnOk result (string_bytes text.new ≡ string_bytes text.old ++ flat_map text_line (pair_lines cert.now.format cert.now.pairs)) }
+    ensures { OnOk result
+        (string_bytes text.new ≡ string_bytes text.old
+        ++ flat_map text_line (pair_lines cert.now.format cert.now.pairs)) }
 {
     if cert.format() == 1 {
         return Ok(());
@@ -107,7 +121,9 @@ fn push_pair_lines(text: &mut String, cert: &Certificate) -> Result<(), AllocErr
 
 /// Appends the lines of listed sets.
 fn push_cell_lines(text: &mut String, cert: &Certificate) -> Result<(), AllocError>
-    ensures { OnOk result (string_bytes text.new ≡ string_bytes text.old ++ flat_map text_line (section (codes "cells") (map cell_words cert.now.cells))) }
+    ensures { OnOk result
+        (string_bytes text.new ≡ string_bytes text.old
+        ++ flat_map text_line (section (codes "cells") (map cell_words cert.now.cells))) }
 {
     push_number(text, "cells", cert.cells().len())?;
     push_cells(text, cert.cells())?;

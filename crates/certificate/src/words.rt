@@ -31,7 +31,8 @@ pub(crate) fn cut(text: &[u8], byte: u8) -> Option<(&[u8], &[u8])>
 
 /// The number of a word that is a decimal of at most 999,999, as a certificate writes it.
 fn decimal(word: &[u8]) -> Option<u32>
-    ensures some { IfSome result (λ value. (decimal_of value ≡ word.now) × (number_of word.now ≡ value)) }
+    ensures some { IfSome result
+        (λ value. (decimal_of value ≡ word.now) × (number_of word.now ≡ value)) }
     ensures none { IfNone result ((n : ℕ) → n ≤ most_nodes → word.now ≡ decimal_of n → ⊥) }
 {
     if word.is_empty() {
@@ -58,7 +59,8 @@ fn decimal(word: &[u8]) -> Option<u32>
 /// The number of a word that is a decimal in bounds, as a certificate writes it.
 pub(crate) fn number(word: &[u8], least: u32, most: u32) -> Option<u32>
     requires { most ≤ most_nodes }
-    ensures some { IfSome result (λ value. (is_decimal least most word.now ≡ true) × (number_of word.now ≡ value)) }
+    ensures some { IfSome result
+        (λ value. (is_decimal least most word.now ≡ true) × (number_of word.now ≡ value)) }
     ensures none { IfNone result (is_decimal least most word.now ≡ false) }
     ensures within { IfSome result (λ value. (least ≤ value) × (value ≤ most)) }
 {

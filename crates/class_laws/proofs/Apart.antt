@@ -33,7 +33,9 @@ low_rises step i j some lt =
     let m = quotient_rises step i j some lt in
     omega arith
 
-pub distinct_first : (cs : List ℕ) (r : ℕ) → ((blocks : ℕ) × (length cs ≡ blocks * (2 * 2 ^ r))) → ((i j : ℕ) → i < j → j < length cs → get_or cs i 0 ≢ get_or cs j 0) → (j : ℕ) → j < length cs / 2 → IsFirst (λ i. get_or (pairs cs (2 ^ r)) i (0, 0)) j j
+pub distinct_first : (cs : List ℕ) (r : ℕ) → ((blocks : ℕ) × (length cs ≡ blocks * (2 * 2 ^ r))) →
+    ((i j : ℕ) → i < j → j < length cs → get_or cs i 0 ≢ get_or cs j 0) → (j : ℕ) → j < length cs / 2 →
+    IsFirst (λ i. get_or (pairs cs (2 ^ r)) i (0, 0)) j j
 distinct_first cs r whole apart j h = first_listed cs (2 ^ r) j j h (record {
   before = omega arith;
   same = refl;

@@ -33,7 +33,8 @@ fixed_same (suc k) i j h f =
     ap (λ b. fixed k i (restrict k (eqb b 1) f)) (h k (omega arith)) ∙ fixed_same k i j (λ x lt. h x (omega arith)) (restrict k (eqb (bit_at j k) 1) f)
 
 range_last : (k : ℕ) → variables (suc k) ≡ variables k ++ k ∷ []
-range_last k = ap (range_with_len 0) (let s : suc k ≡ k + 1 = omega arith in s) ∙ range_append 0 k 1 ∙ ap (λ z. range_with_len 0 k ++ z ∷ []) (let s : 0 + k ≡ k = omega arith in s)
+range_last k = ap (range_with_len 0) (let s : suc k ≡ k + 1 = omega arith in s) ∙ range_append 0 k 1
+    ∙ ap (λ z. range_with_len 0 k ++ z ∷ []) (let s : 0 + k ≡ k = omega arith in s)
 
 subfunctions_fixed : (k : ℕ) (f : Function) → subfunctions (reverse (variables k)) f ≡ map (λ j. fixed k j f) (range_with_len 0 (2 ^ k))
 unfolding subfunctions fixed
@@ -54,9 +55,12 @@ subfunctions_fixed (suc k) f =
     high i lt =
         let shape : 0 + 2 ^ k + i ≡ 1 * 2 ^ k + i = omega arith in
         let zero_add : 0 + i ≡ i = omega arith in
-        let top : bit_at (0 + 2 ^ k + i) k ≡ 1 = ap (λ z. bit_at z k) shape ∙ bit_at_cat_high 1 k i k lt (omega arith) ∙ ap (bit_at 1) (let z : k - k ≡ 0 = omega arith in z) in
+        let top : bit_at (0 + 2 ^ k + i) k ≡ 1 = ap (λ z. bit_at z k) shape ∙ bit_at_cat_high 1 k i k lt (omega arith)
+        ∙ ap (bit_at 1) (let z : k - k ≡ 0 = omega arith in z) in
         ap (λ b. fixed k (0 + i) (restrict k b f)) (sym (eq-eqb (bit_at (0 + 2 ^ k + i) k) 1 top))
-        ∙ fixed_same k (0 + i) (0 + 2 ^ k + i) (λ x m. ap (λ z. bit_at z x) zero_add ∙ sym (ap (λ z. bit_at z x) shape ∙ bit_at_cat_low 1 k i x m)) (restrict k (eqb (bit_at (0 + 2 ^ k + i) k) 1) f)
+        ∙ fixed_same k (0 + i) (0 + 2 ^ k + i)
+        (λ x m. ap (λ z. bit_at z x) zero_add ∙ sym (ap (λ z. bit_at z x) shape ∙ bit_at_cat_low 1 k i x m))
+        (restrict k (eqb (bit_at (0 + 2 ^ k + i) k) 1) f)
 
 -- ---- values
 
@@ -79,7 +83,9 @@ bit-put : (k j : ℕ) (p : Point) → k ≤ length p → (x : ℕ) → x < k →
 unfolding put
 bit-put zero j p h x lt = absurd (omega arith)
 bit-put (suc k) j p h x lt = elim (cases_eq x k) [
-  | inl e ↦ ap (λ z. get_or (set (put k j p) k (eqb (bit_at j k) 1)) z false) e ∙ get_or-set_same (put k j p) k (eqb (bit_at j k) 1) false (let l = length-put k j p in omega arith) ∙ ap (λ z. eqb (bit_at j z) 1) (sym e)
+  | inl e ↦ ap (λ z. get_or (set (put k j p) k (eqb (bit_at j k) 1)) z false) e
+      ∙ get_or-set_same (put k j p) k (eqb (bit_at j k) 1) false (let l = length-put k j p in omega arith)
+      ∙ ap (λ z. eqb (bit_at j z) 1) (sym e)
   | inr ne ↦ get_or-set_other (put k j p) k x (eqb (bit_at j k) 1) false ne ∙ bit-put k j p (omega arith) x (omega arith)
 ]
 
@@ -109,7 +115,9 @@ unfolding reach all_values
 values_reached n F =
     map_flat_map (value_of n) (subfunctions (reverse (variables n))) F
     ∙ flat_map_same (λ f. map (value_of n) (subfunctions (reverse (variables n)) f)) (λ f. map (λ j. f (point_of n j)) (range_with_len 0 (2 ^ n)))
-    (λ f. ap (map (value_of n)) (subfunctions_fixed n f) ∙ map-map (value_of n) (λ j. fixed n j f) (range_with_len 0 (2 ^ n)) ∙ map_ranges (λ j. value_of n (fixed n j f)) (λ j. f (point_of n j)) (2 ^ n) 0 0 (λ i lt. fixed_value n (0 + i) f (point_of n 0) (long_point n 0))) F
+    (λ f. ap (map (value_of n)) (subfunctions_fixed n f) ∙ map-map (value_of n) (λ j. fixed n j f) (range_with_len 0 (2 ^ n))
+    ∙ map_ranges (λ j. value_of n (fixed n j f)) (λ j. f (point_of n j)) (2 ^ n) 0 0
+    (λ i lt. fixed_value n (0 + i) f (point_of n 0) (long_point n 0))) F
 
 -- each function reached is constant
 pub reached_constant : (n : ℕ) (F : List Function) (g : Function) → Among g (reach F (reverse (variables n))) → (p : Point) → length p ≡ n → g p ≡ value_of n g

@@ -31,14 +31,16 @@ among_variables n y h = among_from_member nat_eq nat_decides (variables n) y ((h
 variables_below : (n y : ℕ) → Among y (variables n) → y < n
 variables_below n y h = (has_variables n y).0 (member_from_among nat_eq nat_decides (variables n) y h)
 
-module _ {X K : Type 0} (eq : K → K → Bool) (decides : (x y : K) → (eq x y ≡ true → x ≡ y) × (x ≡ y → eq x y ≡ true)) (f : X → K) (p : X → Bool) (xs : List X) (q : ℕ → Bool) where
+module _ {X K : Type 0} (eq : K → K → Bool) (decides : (x y : K) → (eq x y ≡ true → x ≡ y) × (x ≡ y → eq x y ≡ true)) (f : X → K)
+    (p : X → Bool) (xs : List X) (q : ℕ → Bool) where
   number_of : X → ℕ
   number_of y = rank eq (map f xs) (f y)
 
   many : ℕ
   many = distinct_count eq (map f xs)
 
-  pub distinct_by_numbers : ((y : X) → Among y xs → q (rank eq (map f xs) (f y)) ≡ p y) → distinct_count eq (map f (filter p xs)) ≡ length (filter q (variables (distinct_count eq (map f xs))))
+  pub distinct_by_numbers : ((y : X) → Among y xs → q (rank eq (map f xs) (f y)) ≡ p y) →
+      distinct_count eq (map f (filter p xs)) ≡ length (filter q (variables (distinct_count eq (map f xs))))
   unfolding number_of many rank
   distinct_by_numbers agree =
       count_alike eq decides nat_eq nat_decides f number_of (filter p xs) tells
@@ -56,7 +58,8 @@ module _ {X K : Type 0} (eq : K → K → Bool) (decides : (x y : K) → (eq x y
           let s = among_from_map number_of m (filter p xs) h in
           let k = among_from_filter p s.0 xs s.1 in
           let small = rank_below eq decides (map f xs) (f s.0) (among_map f s.0 xs k.0) in
-          subst (λ z. Among z (filter q (variables many))) (sym s.2) (among_filter q (number_of s.0) (variables many) (among_variables many (number_of s.0) small) (agree s.0 k.0 ∙ k.1))
+          subst (λ z. Among z (filter q (variables many))) (sym s.2)
+          (among_filter q (number_of s.0) (variables many) (among_variables many (number_of s.0) small) (agree s.0 k.0 ∙ k.1))
 
       onto : Within (filter q (variables many)) (map number_of (filter p xs))
       onto c h =
@@ -64,13 +67,16 @@ module _ {X K : Type 0} (eq : K → K → Bool) (decides : (x y : K) → (eq x y
           let t = rank_reached eq decides (map f xs) c (variables_below many c k.0) in
           let s = among_from_map f t.0 xs t.1 in
           let e : number_of s.0 ≡ c = ap (rank eq (map f xs)) (sym s.2) ∙ t.2 in
-          subst (λ z. Among z (map number_of (filter p xs))) e (among_map number_of s.0 (filter p xs) (among_filter p s.0 xs s.1 (sym (agree s.0 s.1) ∙ ap q e ∙ k.1)))
+          subst (λ z. Among z (map number_of (filter p xs))) e
+          (among_map number_of s.0 (filter p xs) (among_filter p s.0 xs s.1 (sym (agree s.0 s.1) ∙ ap q e ∙ k.1)))
 
 pub length_filter_map : {A B : Type 0} (q : B → Bool) (g : A → B) (xs : List A) → length (filter q (map g xs)) ≡ length (filter (λ x. q (g x)) xs)
 length_filter_map q g [] = refl
 length_filter_map q g (x ∷ xs) = by (q (g x)) (length_filter_map q g xs)
   where
-    by : (b : Bool) → length (filter q (map g xs)) ≡ length (filter (λ z. q (g z)) xs) → length (cond b (g x ∷ filter q (map g xs)) (filter q (map g xs))) ≡ length (cond b (x ∷ filter (λ z. q (g z)) xs) (filter (λ z. q (g z)) xs))
+    by : (b : Bool) → length (filter q (map g xs)) ≡ length (filter (λ z. q (g z)) xs) →
+        length (cond b (g x ∷ filter q (map g xs)) (filter q (map g xs))) ≡ length
+        (cond b (x ∷ filter (λ z. q (g z)) xs) (filter (λ z. q (g z)) xs))
     by true e = omega arith
     by false e = e
 
@@ -86,9 +92,11 @@ pub width_is_dependent_classes : (n : ℕ) (F : List Function) (S masks : List �
     width n F (without x S) x ≡ length (filter (λ m. eqb (bit_at m x) 1) masks)
 unfolding width dependents entries class_numbers class_of rank
 width_is_dependent_classes n F S masks x small in_set are =
-    dependents_same n F (outside n (x ∷ without x S)) (reverse (outside n S)) x (below_from_has n _ inside) (below_from_has n _ (λ y h. inside' y (sym (has_reverse (outside n S) y) ∙ h))) same
+    dependents_same n F (outside n (x ∷ without x S)) (reverse (outside n S)) x (below_from_has n _ inside)
+    (below_from_has n _ (λ y h. inside' y (sym (has_reverse (outside n S) y) ∙ h))) same
     ∙ counted
-    ∙ sym (ap (λ ms. length (filter (λ m. eqb (bit_at m x) 1) ms)) listed ∙ length_filter_map (λ m. eqb (bit_at m x) 1) (λ c. get_or masks c 0) (variables (distinct_count same_table (entries n F S))))
+    ∙ sym (ap (λ ms. length (filter (λ m. eqb (bit_at m x) 1) ms)) listed
+    ∙ length_filter_map (λ m. eqb (bit_at m x) 1) (λ c. get_or masks c 0) (variables (distinct_count same_table (entries n F S))))
   where
     inside : (y : ℕ) → has (outside n (x ∷ without x S)) y ≡ true → y < n
     inside y h = (has_variables n y).0 (and_parts (has (variables n) y) (not (has (x ∷ without x S) y)) (sym (has_outside n (x ∷ without x S) y) ∙ h)).0
@@ -107,7 +115,8 @@ width_is_dependent_classes n F S masks x small in_set are =
         members =
             elim (cases_eq y x) [
               | inl e ↦ ap (λ b. b || has (without x S) y) (eq-eqb y x e) ∙ sym (ap (has S) e ∙ in_set)
-              | inr ne ↦ ap (λ b. b || has (without x S) y) (ne_eqb y x ne) ∙ has_without x S y ∙ ap (λ b. has S y && not b) (ne_eqb x y (λ e. ne (sym e))) ∙ kept (has S y)
+              | inr ne ↦ ap (λ b. b || has (without x S) y) (ne_eqb y x ne) ∙ has_without x S y
+                  ∙ ap (λ b. has S y && not b) (ne_eqb x y (λ e. ne (sym e))) ∙ kept (has S y)
             ]
 
     listed : masks ≡ map (λ c. get_or masks c 0) (variables (distinct_count same_table (entries n F S)))
@@ -119,11 +128,15 @@ width_is_dependent_classes n F S masks x small in_set are =
     masks_told : (g : Function) → Among g (reach F (reverse (outside n S))) → get_or masks (class_of (entries n F S) (table n g)) 0 ≡ dependence n g
     masks_told g a =
         same_at (λ h. get_or masks (class_of (entries n F S) (table n h)) 0) (dependence n) (reach F (reverse (outside n S)))
-        (sym (ap (map (λ c. get_or masks c 0)) (map-map (class_of (entries n F S)) (table n) (reach F (reverse (outside n S)))) ∙ map-map (λ c. get_or masks c 0) (λ h. class_of (entries n F S) (table n h)) (reach F (reverse (outside n S)))) ∙ are.told) g a
+        (sym (ap (map (λ c. get_or masks c 0)) (map-map (class_of (entries n F S)) (table n) (reach F (reverse (outside n S))))
+        ∙ map-map (λ c. get_or masks c 0) (λ h. class_of (entries n F S) (table n h)) (reach F (reverse (outside n S))))
+        ∙ are.told) g a
 
     counted : dependents n (reach F (reverse (outside n S))) x ≡ length (filter test (variables (distinct_count same_table (entries n F S))))
     counted = distinct_by_numbers same_table same_table_decides (table n) (λ f. depends n f x) (reach F (reverse (outside n S))) test
-        (λ g a. ap (λ m. eqb (bit_at m x) 1) (masks_told g a) ∙ ap (λ m. eqb m 1) (bit-dependence n g x ∙ ap (λ b. cond (b && depends n g x) 1 0) ((has_variables n x).1 small)) ∙ by (depends n g x))
+        (λ g a. ap (λ m. eqb (bit_at m x) 1) (masks_told g a)
+        ∙ ap (λ m. eqb m 1) (bit-dependence n g x ∙ ap (λ b. cond (b && depends n g x) 1 0) ((has_variables n x).1 small))
+        ∙ by (depends n g x))
       where
         by : (b : Bool) → eqb (cond b 1 0) 1 ≡ b
         by true = refl
@@ -134,6 +147,8 @@ pub masks_same : (n : ℕ) (F : List Function) (S T : List ℕ) → ((y : ℕ) �
 unfolding outside class_numbers entries
 masks_same n F S T h masks are = record {
   many = are.many ∙ (λ i. distinct_count same_table (map (table n) (reach F (reverse (filter (λ y. not (h y i)) (variables n))))));
-  told = (λ i. map (λ c. get_or masks c 0) (map (class_of (map (table n) (reach F (reverse (filter (λ y. not (sym (h y) i)) (variables n)))))) (map (table n) (reach F (reverse (filter (λ y. not (sym (h y) i)) (variables n)))))))
+  told = (λ i. map (λ c. get_or masks c 0)
+      (map (class_of (map (table n) (reach F (reverse (filter (λ y. not (sym (h y) i)) (variables n))))))
+      (map (table n) (reach F (reverse (filter (λ y. not (sym (h y) i)) (variables n)))))))
       ∙ are.told ∙ (λ i. map (dependence n) (reach F (reverse (filter (λ y. not (h y i)) (variables n)))));
 }

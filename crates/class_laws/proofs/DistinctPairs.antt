@@ -56,8 +56,10 @@ module _ (ps : List (ℕ × ℕ)) (numbers : List ℕ) (met : List (ℕ × ℕ))
       (λ p a. let b = rank_below same_pair pair_decides ps p a in get_or-map join met (rank same_pair ps p) (0, 0) 0 (omega arith) ∙ ap join (pair_told p a))
 
 -- the pairs of a table's entries are pairs of its classes
-pub met_classes : (cs : List ℕ) (r classes : ℕ) → ((blocks : ℕ) × (length cs ≡ blocks * (2 * 2 ^ r))) → ((i : ℕ) → i < length cs → get_or cs i 0 < classes) → (numbers : List ℕ) (met : List (ℕ × ℕ)) →
-    numbers ≡ ranks same_pair (pairs cs (2 ^ r)) → length met ≡ distinct_count same_pair (pairs cs (2 ^ r)) → map (λ c. get_or met c (0, 0)) numbers ≡ pairs cs (2 ^ r) →
+pub met_classes : (cs : List ℕ) (r classes : ℕ) → ((blocks : ℕ) × (length cs ≡ blocks * (2 * 2 ^ r))) →
+    ((i : ℕ) → i < length cs → get_or cs i 0 < classes) → (numbers : List ℕ) (met : List (ℕ × ℕ)) →
+    numbers ≡ ranks same_pair (pairs cs (2 ^ r)) → length met ≡ distinct_count same_pair (pairs cs (2 ^ r)) →
+    map (λ c. get_or met c (0, 0)) numbers ≡ pairs cs (2 ^ r) →
     (k : ℕ) → k < length met → ((get_or met k (0, 0)).0 < classes) × ((get_or met k (0, 0)).1 < classes)
 met_classes cs r classes whole small numbers met n m t k l =
     let q = pair_met (pairs cs (2 ^ r)) numbers met n m t k l in

@@ -15,13 +15,18 @@ use Rattle.class_laws.proofs.Joined.{Joined, joined_none, joined_new, joined_old
 
 module _ {M : Type 0} (none : M) (ps : List (ℕ × ℕ)) (join : ℕ × ℕ → M) where
   -- the masks with one more pair, which is the first of its kind
-  pub joined_first : (masks : List M) (j : ℕ) (mask : M) → j < length ps → IsFirst (λ i. get_or ps i (0, 0)) j j → mask ≡ join (get_or ps j (0, 0)) → Joined none ps join masks j → Joined none ps join (masks ++ mask ∷ []) (j + 1)
+  pub joined_first : (masks : List M) (j : ℕ) (mask : M) → j < length ps → IsFirst (λ i. get_or ps i (0, 0)) j j →
+      mask ≡ join (get_or ps j (0, 0)) → Joined none ps join masks j → Joined none ps join (masks ++ mask ∷ []) (j + 1)
   joined_first masks j mask l f m h =
       joined_new none ps join masks j (rank same_pair ps (get_or ps j (0, 0))) mask l h refl
-      (rank_is ps j l ∙ rank_absent same_pair pair_decides (take j ps) (get_or ps j (0, 0)) (λ a. let s = among_take ps ps j (get_or ps j (0, 0)) a in f.none s.0 s.1 s.3) ∙ sym h.many) m
+      (rank_is ps j l
+      ∙ rank_absent same_pair pair_decides (take j ps) (get_or ps j (0, 0))
+      (λ a. let s = among_take ps ps j (get_or ps j (0, 0)) a in f.none s.0 s.1 s.3)
+      ∙ sym h.many) m
 
   -- with one that has come before
-  pub joined_again : (masks : List M) (j first : ℕ) → j < length ps → IsFirst (λ i. get_or ps i (0, 0)) j first → first < j → Joined none ps join masks j → Joined none ps join masks (j + 1)
+  pub joined_again : (masks : List M) (j first : ℕ) → j < length ps → IsFirst (λ i. get_or ps i (0, 0)) j first → first < j →
+      Joined none ps join masks j → Joined none ps join masks (j + 1)
   joined_again masks j first l f lt h =
       let there : Among (get_or ps j (0, 0)) (take j ps) = subst (λ t. Among t (take j ps)) f.same (take_among ps ps j first lt (omega arith)) in
       joined_old none ps join masks j (rank same_pair ps (get_or ps j (0, 0))) l h refl
@@ -38,7 +43,8 @@ module _ {M : Type 0} (none : M) (ps : List (ℕ × ℕ)) (join : ℕ × ℕ →
   pub made_none : (out : List ℕ) → length out ≡ length ps → Made out [] 0
   made_none out l = record { long = l; few = omega arith; within = omega arith; progress = progress_none ps; joined = joined_none none ps join }
 
-  pub made_first : (out : List ℕ) (masks : List M) (j : ℕ) (mask : M) → j < length ps → IsFirst (λ i. get_or ps i (0, 0)) j j → mask ≡ join (get_or ps j (0, 0)) → Made out masks j → Made (set out j (length masks)) (masks ++ mask ∷ []) (j + 1)
+  pub made_first : (out : List ℕ) (masks : List M) (j : ℕ) (mask : M) → j < length ps → IsFirst (λ i. get_or ps i (0, 0)) j j →
+      mask ≡ join (get_or ps j (0, 0)) → Made out masks j → Made (set out j (length masks)) (masks ++ mask ∷ []) (j + 1)
   made_first out masks j mask l f m h =
       let o = h.long in
       let w = h.few in
@@ -53,7 +59,8 @@ module _ {M : Type 0} (none : M) (ps : List (ℕ × ℕ)) (join : ℕ × ℕ →
         joined = joined_first masks j mask l f m h.joined;
       }
 
-  pub made_again : (out : List ℕ) (masks : List M) (j first : ℕ) → j < length ps → IsFirst (λ i. get_or ps i (0, 0)) j first → first < j → Made out masks j → Made (set out j (get_or out first 0)) masks (j + 1)
+  pub made_again : (out : List ℕ) (masks : List M) (j first : ℕ) → j < length ps → IsFirst (λ i. get_or ps i (0, 0)) j first → first < j →
+      Made out masks j → Made (set out j (get_or out first 0)) masks (j + 1)
   made_again out masks j first l f lt h =
       let o = h.long in
       let w = h.few in
@@ -62,7 +69,8 @@ module _ {M : Type 0} (none : M) (ps : List (ℕ × ℕ)) (join : ℕ × ℕ →
         few = omega arith;
         within = omega arith;
         progress = subst (λ us. Progress ps us (length masks) (j + 1)) (sym (take_more_set out j (get_or out first 0) (omega arith)))
-            (subst (λ k. Progress ps (take j out ++ k ∷ []) (length masks) (j + 1)) (get_or-take j out first 0 lt) (progress_old ps (take j out) (length masks) j first l h.progress lt f));
+            (subst (λ k. Progress ps (take j out ++ k ∷ []) (length masks) (j + 1)) (get_or-take j out first 0 lt)
+            (progress_old ps (take j out) (length masks) j first l h.progress lt f));
         joined = joined_again masks j first l f lt h.joined;
       }
 

@@ -20,16 +20,19 @@ use Rattle.std.proofs.lemmas.Nat.{pow_pos}
 
 module _ (ps : List (ℕ × ℕ)) where
   parts : (j : ℕ) → j < length ps → ps ≡ take j ps ++ get_or ps j (0, 0) ∷ drop (j + 1) ps
-  parts j l = sym (take-append-drop (j + 1) ps) ∙ ap (λ us. us ++ drop (j + 1) ps) (take_more ps j (0, 0) l) ∙ append_assoc (take j ps) (get_or ps j (0, 0) ∷ []) (drop (j + 1) ps)
+  parts j l = sym (take-append-drop (j + 1) ps) ∙ ap (λ us. us ++ drop (j + 1) ps) (take_more ps j (0, 0) l)
+      ∙ append_assoc (take j ps) (get_or ps j (0, 0) ∷ []) (drop (j + 1) ps)
 
   -- a pair's number is that among those before
   pub rank_is : (j : ℕ) → j < length ps → rank same_pair ps (get_or ps j (0, 0)) ≡ rank same_pair (take j ps) (get_or ps j (0, 0))
-  rank_is j l = ap (λ us. rank same_pair us (get_or ps j (0, 0))) (parts j l) ∙ rank_next same_pair pair_decides (take j ps) (drop (j + 1) ps) (get_or ps j (0, 0))
+  rank_is j l = ap (λ us. rank same_pair us (get_or ps j (0, 0))) (parts j l)
+      ∙ rank_next same_pair pair_decides (take j ps) (drop (j + 1) ps) (get_or ps j (0, 0))
 
   pub rank_before : (i j : ℕ) → i < j → j < length ps → rank same_pair ps (get_or ps i (0, 0)) < distinct_count same_pair (take j ps)
   rank_before i j l m =
       let a = take_among ps ps j i l (omega arith) in
-      let e = ap (λ us. rank same_pair us (get_or ps i (0, 0))) (parts j m) ∙ rank_found same_pair pair_decides (take j ps) (get_or ps j (0, 0) ∷ drop (j + 1) ps) (get_or ps i (0, 0)) a in
+      let e = ap (λ us. rank same_pair us (get_or ps i (0, 0))) (parts j m)
+      ∙ rank_found same_pair pair_decides (take j ps) (get_or ps j (0, 0) ∷ drop (j + 1) ps) (get_or ps i (0, 0)) a in
       let b = rank_below same_pair pair_decides (take j ps) (get_or ps i (0, 0)) a in
       omega arith
 
@@ -46,15 +49,21 @@ module _ {M : Type 0} (none : M) (ps : List (ℕ × ℕ)) (join : ℕ × ℕ →
   joined_none = record { many = refl; told = λ i l. absurd (omega arith) }
 
   -- a pair with the next number
-  pub joined_new : (out : List M) (j number : ℕ) (mask : M) → j < length ps → Joined out j → number ≡ rank same_pair ps (get_or ps j (0, 0)) → number ≡ length out → mask ≡ join (get_or ps j (0, 0)) → Joined (out ++ mask ∷ []) (j + 1)
+  pub joined_new : (out : List M) (j number : ℕ) (mask : M) → j < length ps → Joined out j →
+      number ≡ rank same_pair ps (get_or ps j (0, 0)) → number ≡ length out → mask ≡ join (get_or ps j (0, 0)) →
+      Joined (out ++ mask ∷ []) (j + 1)
   joined_new out j number mask l h e f m = record {
-    many = (let n = count_is ps j l ∙ count_new same_pair pair_decides (get_or ps j (0, 0)) (take j ps) absent in let a = length-append out (mask ∷ []) in let b = h.many in omega arith);
+    many = (let n = count_is ps j l ∙ count_new same_pair pair_decides (get_or ps j (0, 0)) (take j ps) absent in
+        let a = length-append out (mask ∷ []) in let b = h.many in omega arith);
     told = λ i lt. elim (cases_lt i j) [
       | inl before ↦
-          get_or_append_left out (mask ∷ []) none (rank same_pair ps (get_or ps i (0, 0))) (let r = rank_before ps i j before l in let b = h.many in omega arith) ∙ h.told i before
+          get_or_append_left out (mask ∷ []) none (rank same_pair ps (get_or ps i (0, 0)))
+          (let r = rank_before ps i j before l in let b = h.many in omega arith)
+          ∙ h.told i before
       | inr here ↦
           let s : j ≡ i = omega arith in
-          subst (λ k. get_or (out ++ mask ∷ []) (rank same_pair ps (get_or ps k (0, 0))) none ≡ join (get_or ps k (0, 0))) s (get_or_push out mask none (rank same_pair ps (get_or ps j (0, 0))) (sym f ∙ e) ∙ m)
+          subst (λ k. get_or (out ++ mask ∷ []) (rank same_pair ps (get_or ps k (0, 0))) none ≡ join (get_or ps k (0, 0))) s
+          (get_or_push out mask none (rank same_pair ps (get_or ps j (0, 0))) (sym f ∙ e) ∙ m)
     ];
   }
     where
@@ -66,7 +75,8 @@ module _ {M : Type 0} (none : M) (ps : List (ℕ × ℕ)) (join : ℕ × ℕ →
           omega arith
 
   -- a pair with an older number
-  pub joined_old : (out : List M) (j number : ℕ) → j < length ps → Joined out j → number ≡ rank same_pair ps (get_or ps j (0, 0)) → number ≢ length out → Joined out (j + 1)
+  pub joined_old : (out : List M) (j number : ℕ) → j < length ps → Joined out j → number ≡ rank same_pair ps (get_or ps j (0, 0)) →
+      number ≢ length out → Joined out (j + 1)
   joined_old out j number l h e f = elim (among_or_not same_pair pair_decides (get_or ps j (0, 0)) (take j ps)) [
     | inl a ↦ record {
       many = h.many ∙ sym (count_is ps j l ∙ count_old same_pair pair_decides (get_or ps j (0, 0)) (take j ps) a);
@@ -89,12 +99,15 @@ module _ {M : Type 0} (none : M) (ps : List (ℕ × ℕ)) (join : ℕ × ℕ →
   unfolding ranks
   joined_told out j l h = alike ps (λ i lt. h.told i (omega arith))
     where
-      alike : (qs : List (ℕ × ℕ)) → ((i : ℕ) → i < length qs → get_or out (rank same_pair ps (get_or qs i (0, 0))) none ≡ join (get_or qs i (0, 0))) → map (λ c. get_or out c none) (map (rank same_pair ps) qs) ≡ map join qs
+      alike : (qs : List (ℕ × ℕ)) →
+          ((i : ℕ) → i < length qs → get_or out (rank same_pair ps (get_or qs i (0, 0))) none ≡ join (get_or qs i (0, 0))) →
+          map (λ c. get_or out c none) (map (rank same_pair ps) qs) ≡ map join qs
       alike [] g = refl
       alike (q ∷ qs) g = λ i. g 0 (omega arith) i ∷ alike qs (λ k lt. g (suc k) (omega arith)) i
 
 -- the number of a pair
-pub number_at : (ps : List (ℕ × ℕ)) (numbered : List ℕ) (j : ℕ) → numbered ≡ ranks same_pair ps → j < length ps → get_or numbered j 0 ≡ rank same_pair ps (get_or ps j (0, 0))
+pub number_at : (ps : List (ℕ × ℕ)) (numbered : List ℕ) (j : ℕ) → numbered ≡ ranks same_pair ps → j < length ps →
+    get_or numbered j 0 ≡ rank same_pair ps (get_or ps j (0, 0))
 unfolding ranks
 number_at ps numbered j e l = ap (λ us. get_or us j 0) e ∙ get_or-map (rank same_pair ps) ps j (0, 0) 0 l
 
@@ -107,7 +120,8 @@ length-ranks ps numbered e = ap length e ∙ mapped ps
     mapped (q ∷ qs) = ap suc (mapped qs)
 
 -- both classes of a pair are among those numbered
-pub pair_classes : (cs : List ℕ) (rank classes j : ℕ) → ((blocks : ℕ) × (length cs ≡ blocks * (2 * 2 ^ rank))) → ((i : ℕ) → i < length cs → get_or cs i 0 < classes) → j < length cs / 2 →
+pub pair_classes : (cs : List ℕ) (rank classes j : ℕ) → ((blocks : ℕ) × (length cs ≡ blocks * (2 * 2 ^ rank))) →
+    ((i : ℕ) → i < length cs → get_or cs i 0 < classes) → j < length cs / 2 →
     ((pair_at cs (2 ^ rank) j).0 < classes) × ((pair_at cs (2 ^ rank) j).1 < classes)
 pair_classes cs rank classes j whole small h =
     let w = pair_within (2 ^ rank) whole.0 (length cs) j (pow_pos rank) whole.1 h in

@@ -16,7 +16,9 @@ pub map_ranges : {X : Type 0} (f g : ℕ → X) (m a b : ℕ) → ((i : ℕ) →
 map_ranges f g zero a b h = refl
 map_ranges f g (suc m) a b h =
     λ i. (ap f (let s : a ≡ a + 0 = omega arith in s) ∙ h 0 (omega arith) ∙ ap g (let s : b + 0 ≡ b = omega arith in s)) i
-    ∷ map_ranges f g m (a + 1) (b + 1) (λ k lt. ap f (let s : a + 1 + k ≡ a + (k + 1) = omega arith in s) ∙ h (k + 1) (omega arith) ∙ ap g (let s : b + (k + 1) ≡ b + 1 + k = omega arith in s)) i
+    ∷ map_ranges f g m (a + 1) (b + 1)
+    (λ k lt. ap f (let s : a + 1 + k ≡ a + (k + 1) = omega arith in s) ∙ h (k + 1) (omega arith)
+    ∙ ap g (let s : b + (k + 1) ≡ b + 1 + k = omega arith in s)) i
 
 pub place_of : {X : Type 0} (none : X) (xs : List X) (x : X) → Among x xs → (i : ℕ) × ((i < length xs) × (get_or xs i none ≡ x))
 place_of none [] x h = absurd h

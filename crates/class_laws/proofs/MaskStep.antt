@@ -25,7 +25,10 @@ module _ (n : ℕ) (F : List Function) (T : List ℕ) (x : ℕ) (small : x < n) 
 
   told_alike : map mask_of_class (reach F (reverse (outside n T))) ≡ map (dependence n) (reach F (reverse (outside n T)))
   unfolding mask_of_class tell_class
-  told_alike = sym (ap (map (λ c. get_or masks c 0)) (numbers_told n T x small new F) ∙ map-map (λ c. get_or masks c 0) (tell_class n T x small new F) (reach F (reverse (outside n T)))) ∙ are.told
+  told_alike =
+      sym (ap (map (λ c. get_or masks c 0)) (numbers_told n T x small new F)
+      ∙ map-map (λ c. get_or masks c 0) (tell_class n T x small new F) (reach F (reverse (outside n T))))
+      ∙ are.told
 
   own : Function → ℕ × ℕ
   own g = (mask_of_class (restrict x false g), mask_of_class (restrict x true g))
@@ -51,7 +54,8 @@ module _ (n : ℕ) (F : List Function) (T : List ℕ) (x : ℕ) (small : x < n) 
   unfolding mask_of_class class_pair own true_own
   joined_at g a =
       let h = half_at g a in
-      ap₂ (λ u v. bit_or u v) (ap₂ (λ u v. bit_or u v) (ap (λ p. p.0) h) (ap (λ p. p.1) h)) (turn (nat_eq (class_pair n F T x g).0 (class_pair n F T x g).1) ∙ ap (λ b. cond b (2 ^ x) 0) (sym (depends_at g a)))
+      ap₂ (λ u v. bit_or u v) (ap₂ (λ u v. bit_or u v) (ap (λ p. p.0) h) (ap (λ p. p.1) h))
+      (turn (nat_eq (class_pair n F T x g).0 (class_pair n F T x g).1) ∙ ap (λ b. cond b (2 ^ x) 0) (sym (depends_at g a)))
       ∙ sym (dependence_joined n x g small)
     where
       turn : (b : Bool) → cond b 0 (2 ^ x) ≡ cond (not b) (2 ^ x) 0
@@ -64,9 +68,14 @@ module _ (n : ℕ) (F : List Function) (T : List ℕ) (x : ℕ) (small : x < n) 
 
   -- what the numbering has to give
   pub masks_more : (masks' : List ℕ) → length masks' ≡ distinct_count same_pair (pairs (class_numbers n F T) (step_of T x)) →
-      map (λ c. get_or masks' c 0) (ranks same_pair (pairs (class_numbers n F T) (step_of T x))) ≡ map (joined_mask masks x) (pairs (class_numbers n F T) (step_of T x)) → AreMasks n F (x ∷ T) masks'
+      map (λ c. get_or masks' c 0) (ranks same_pair (pairs (class_numbers n F T) (step_of T x))) ≡ map (joined_mask masks x)
+      (pairs (class_numbers n F T) (step_of T x)) →
+      AreMasks n F (x ∷ T) masks'
   unfolding R entries
   masks_more masks' l m = record {
-    many = l ∙ ap (distinct_count same_pair) (pairs_of_classes n T x small new F) ∙ count_alike same_pair pair_decides same_table same_table_decides (class_pair n F T x) (table n) R (told_apart n T x small new F);
-    told = ap (map (λ c. get_or masks' c 0)) (compacted n T x small new F) ∙ m ∙ ap (map (joined_mask masks x)) (pairs_of_classes n T x small new F) ∙ map-map (joined_mask masks x) (class_pair n F T x) R ∙ each_at R (λ g a. a);
+    many = l ∙ ap (distinct_count same_pair) (pairs_of_classes n T x small new F)
+        ∙ count_alike same_pair pair_decides same_table same_table_decides (class_pair n F T x) (table n) R (told_apart n T x small new F);
+    told = ap (map (λ c. get_or masks' c 0)) (compacted n T x small new F) ∙ m
+        ∙ ap (map (joined_mask masks x)) (pairs_of_classes n T x small new F) ∙ map-map (joined_mask masks x) (class_pair n F T x) R
+        ∙ each_at R (λ g a. a);
   }

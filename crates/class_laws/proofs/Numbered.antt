@@ -17,7 +17,9 @@ position_at p [] l = absurd (omega arith)
 position_at p (x ∷ xs) l = elim (cases_Bool (same_pair p x)) [
   | inl t ↦ ap (λ b. get_or (x ∷ xs) (cond (not b) (1 + position_or_len (same_pair p) xs) 0) (0, 0)) t ∙ sym ((pair_decides p x).0 t)
   | inr f ↦
-      let e : cond (not (same_pair p x)) (1 + position_or_len (same_pair p) xs) 0 ≡ suc (position_or_len (same_pair p) xs) = ap (λ b. cond (not b) (1 + position_or_len (same_pair p) xs) 0) f ∙ omega arith in
+      let e : cond (not (same_pair p x)) (1 + position_or_len (same_pair p) xs) 0 ≡ suc (position_or_len (same_pair p) xs) =
+      ap (λ b. cond (not b) (1 + position_or_len (same_pair p) xs) 0) f
+      ∙ omega arith in
       ap (λ k. get_or (x ∷ xs) k (0, 0)) e ∙ position_at p xs (omega arith)
 ]
 

@@ -18,7 +18,12 @@ module _ (ps : List (ℕ × ℕ)) where
   pub among_take : (qs : List (ℕ × ℕ)) (j : ℕ) (t : ℕ × ℕ) → Among t (take j qs) → (i : ℕ) × (i < j) × (i < length qs) × (get_or qs i (0, 0) ≡ t)
   among_take qs zero t h = absurd h
   among_take [] (suc j) t h = absurd h
-  among_take (q ∷ qs) (suc j) t h = elim h [ inl e ↦ (0, omega arith, omega arith, sym e) | inr a ↦ let s = among_take qs j t a in (suc s.0, omega (arith, s.1), omega (arith, s.2), s.3) ]
+  among_take (q ∷ qs) (suc j) t h =
+      elim h [
+        | inl e ↦ (0, omega arith, omega arith, sym e)
+        | inr a ↦ let s = among_take qs j t a in
+            (suc s.0, omega (arith, s.1), omega (arith, s.2), s.3)
+      ]
 
   pub take_among : (qs : List (ℕ × ℕ)) (j i : ℕ) → i < j → i < length qs → Among (get_or qs i (0, 0)) (take j qs)
   take_among [] j i l m = absurd (omega arith)
@@ -41,26 +46,40 @@ module _ (ps : List (ℕ × ℕ)) where
   parts : (j : ℕ) → j < length ps → ps ≡ take j ps ++ key j ∷ drop (j + 1) ps
   parts j l = sym (take-append-drop (j + 1) ps) ∙ ap (λ us. us ++ drop (j + 1) ps) (one_more j l) ∙ append_assoc (take j ps) (key j ∷ []) (drop (j + 1) ps)
 
-  out_more : (out : List ℕ) (number j : ℕ) → j < length ps → out ≡ map (rank same_pair ps) (take j ps) → number ≡ rank same_pair ps (key j) → out ++ number ∷ [] ≡ map (rank same_pair ps) (take (j + 1) ps)
-  out_more out number j l o e = (λ i. o i ++ e i ∷ []) ∙ sym (ap (map (rank same_pair ps)) (one_more j l) ∙ map-append (rank same_pair ps) (take j ps) (key j ∷ []))
+  out_more : (out : List ℕ) (number j : ℕ) → j < length ps → out ≡ map (rank same_pair ps) (take j ps) →
+      number ≡ rank same_pair ps (key j) → out ++ number ∷ [] ≡ map (rank same_pair ps) (take (j + 1) ps)
+  out_more out number j l o e = (λ i. o i ++ e i ∷ [])
+      ∙ sym (ap (map (rank same_pair ps)) (one_more j l) ∙ map-append (rank same_pair ps) (take j ps) (key j ∷ []))
 
   -- a pair that none before equals has the next number
-  pub progress_new : (out : List ℕ) (count j : ℕ) → j < length ps → Progress out count j → IsFirst (λ i. get_or ps i (0, 0)) j j → Progress (out ++ count ∷ []) (count + 1) (j + 1)
+  pub progress_new : (out : List ℕ) (count j : ℕ) → j < length ps → Progress out count j → IsFirst (λ i. get_or ps i (0, 0)) j j →
+      Progress (out ++ count ∷ []) (count + 1) (j + 1)
   unfolding key
   progress_new out count j l p f = record {
-    done = out_more out count j l p.done (p.many ∙ sym (ap (λ us. rank same_pair us (key j)) (parts j l) ∙ rank_here same_pair pair_decides (take j ps) (drop (j + 1) ps) (key j) absent));
-    many = let m = p.many in let n = ap (distinct_count same_pair) (one_more j l) ∙ count_end same_pair pair_decides (key j) (take j ps) ∙ count_new same_pair pair_decides (key j) (take j ps) absent in omega arith;
+    done = out_more out count j l p.done
+        (p.many ∙ sym (ap (λ us. rank same_pair us (key j)) (parts j l)
+        ∙ rank_here same_pair pair_decides (take j ps) (drop (j + 1) ps) (key j) absent));
+    many = let m = p.many in
+        let n = ap (distinct_count same_pair) (one_more j l) ∙ count_end same_pair pair_decides (key j) (take j ps)
+        ∙ count_new same_pair pair_decides (key j) (take j ps) absent in
+        omega arith;
   }
     where
       absent : Among (get_or ps j (0, 0)) (take j ps) → ⊥
       absent a = let s = among_take ps j (get_or ps j (0, 0)) a in f.none s.0 s.1 s.3
 
   -- another one has the number of its first place
-  pub progress_old : (out : List ℕ) (count j first : ℕ) → j < length ps → Progress out count j → first < j → IsFirst (λ i. get_or ps i (0, 0)) j first → Progress (out ++ get_or out first 0 ∷ []) count (j + 1)
+  pub progress_old : (out : List ℕ) (count j first : ℕ) → j < length ps → Progress out count j → first < j →
+      IsFirst (λ i. get_or ps i (0, 0)) j first → Progress (out ++ get_or out first 0 ∷ []) count (j + 1)
   unfolding key
   progress_old out count j first l p lt f = record {
-    done = out_more out (get_or out first 0) j l p.done (ap (λ us. get_or us first 0) p.done ∙ get_or-map (rank same_pair ps) (take j ps) first (0, 0) 0 (let t = length-take j ps in omega arith) ∙ ap (rank same_pair ps) (get_or-take j ps first (0, 0) lt ∙ f.same));
-    many = p.many ∙ sym (ap (distinct_count same_pair) (one_more j l) ∙ count_end same_pair pair_decides (key j) (take j ps) ∙ count_old same_pair pair_decides (key j) (take j ps) there);
+    done = out_more out (get_or out first 0) j l p.done
+        (ap (λ us. get_or us first 0) p.done
+        ∙ get_or-map (rank same_pair ps) (take j ps) first (0, 0) 0 (let t = length-take j ps in omega arith)
+        ∙ ap (rank same_pair ps) (get_or-take j ps first (0, 0) lt ∙ f.same));
+    many = p.many
+        ∙ sym (ap (distinct_count same_pair) (one_more j l) ∙ count_end same_pair pair_decides (key j) (take j ps)
+        ∙ count_old same_pair pair_decides (key j) (take j ps) there);
   }
     where
       there : Among (get_or ps j (0, 0)) (take j ps)

@@ -52,7 +52,8 @@ rank_value first bs b = ap (distinct_count beq) (take_while-cons (λ u. not (beq
     same [] e u h = absurd h
     same (x ∷ xs) e u h = one (beq b x) refl (subst (Among u) (take_while-cons (λ v. not (beq b v)) x xs) h) (same xs e u)
       where
-        one : (c : Bool) → beq b x ≡ c → Among u (cond (not c) (x ∷ take_while (λ v. not (beq b v)) xs) []) → (Among u (take_while (λ v. not (beq b v)) xs) → u ≡ first) → u ≡ first
+        one : (c : Bool) → beq b x ≡ c → Among u (cond (not c) (x ∷ take_while (λ v. not (beq b v)) xs) []) →
+            (Among u (take_while (λ v. not (beq b v)) xs) → u ≡ first) → u ≡ first
         one true q k r = absurd k
         one false q k r = elim k [ inl s ↦ s ∙ other b x first q e | inr a ↦ r a ]
 
@@ -73,11 +74,13 @@ ranks_values first bs = each (first ∷ bs)
     each (x ∷ xs) = λ i. rank_value first bs x i ∷ each xs i
 
 -- the class numbers of the empty set
-pub start_numbers : (n : ℕ) (F : List Function) (first : Bool) (rest : List Bool) → all_values n F ≡ first ∷ rest → class_numbers n F [] ≡ map (number_of first) (all_values n F)
+pub start_numbers : (n : ℕ) (F : List Function) (first : Bool) (rest : List Bool) → all_values n F ≡ first ∷ rest →
+    class_numbers n F [] ≡ map (number_of first) (all_values n F)
 unfolding class_numbers class_of entries ranks rank
 start_numbers n F first rest e =
     ap (λ o. ranks same_table (map (table n) (reach F (reverse o)))) (outside_none n)
-    ∙ sym (ranks_alike beq beq_decides same_table same_table_decides (value_of n) (table n) (reach F (reverse (variables n))) (λ g h a b. let t = tables_as_values n F g h a b in (t.1, t.0)))
+    ∙ sym (ranks_alike beq beq_decides same_table same_table_decides (value_of n) (table n) (reach F (reverse (variables n)))
+    (λ g h a b. let t = tables_as_values n F g h a b in (t.1, t.0)))
     ∙ ap (ranks beq) (values_reached n F ∙ e) ∙ ranks_values first rest ∙ ap (map (number_of first)) (sym e)
 
 -- ---- masks
@@ -123,7 +126,8 @@ count_values first bs = by (list_any (λ k. nat_eq k 1) (map (number_of first) (
 
     few : distinct_count beq (first ∷ bs) ≤ 2
     few = elim (cases_lt 2 (distinct_count beq (first ∷ bs))) [
-      | inl lt ↦ let t = rank_reached beq beq_decides (first ∷ bs) 2 lt in let r = rank_value first bs t.0 in let m = at_most t.0 in let e = t.2 in absurd (omega arith)
+      | inl lt ↦ let t = rank_reached beq beq_decides (first ∷ bs) 2 lt in let r = rank_value first bs t.0 in let m = at_most t.0 in
+          let e = t.2 in absurd (omega arith)
       | inr le ↦ le
     ]
 
@@ -155,12 +159,14 @@ nothings-map f [] = refl
 nothings-map f (x ∷ xs) = ap (λ zs. 0 ∷ zs) (nothings-map f xs)
 
 -- the masks of the empty set's classes
-pub start_masks : (n : ℕ) (F : List Function) (first : Bool) (rest : List Bool) → all_values n F ≡ first ∷ rest → (masks : List ℕ) → ((c : ℕ) → get_or masks c 0 ≡ 0) →
+pub start_masks : (n : ℕ) (F : List Function) (first : Bool) (rest : List Bool) → all_values n F ≡ first ∷ rest → (masks : List ℕ) →
+    ((c : ℕ) → get_or masks c 0 ≡ 0) →
     length masks ≡ class_count (map (number_of first) (all_values n F)) → AreMasks n F [] masks
 unfolding entries class_numbers nothings
 start_masks n F first rest e masks zeros l = record {
   many = l ∙ ap (λ vs. class_count (map (number_of first) vs)) e ∙ sym (count_values first rest) ∙ ap (distinct_count beq) (sym e ∙ sym (values_reached n F))
-      ∙ count_alike beq beq_decides same_table same_table_decides (value_of n) (table n) (reach F (reverse (variables n))) (λ g h a b. let t = tables_as_values n F g h a b in (t.1, t.0))
+      ∙ count_alike beq beq_decides same_table same_table_decides (value_of n) (table n) (reach F (reverse (variables n)))
+      (λ g h a b. let t = tables_as_values n F g h a b in (t.1, t.0))
       ∙ ap (λ o. distinct_count same_table (map (table n) (reach F (reverse o)))) (sym (outside_none n));
   told = all_zero (class_numbers n F []) ∙ numbers_long ∙ ap (λ o. map (dependence n) (reach F (reverse o))) (sym (outside_none n));
 }
@@ -175,7 +181,8 @@ start_masks n F first rest e masks zeros l = record {
 
     numbers_long : nothings (class_numbers n F []) ≡ map (dependence n) (reach F (reverse (variables n)))
     numbers_long =
-        nothings-map (class_of (entries n F [])) (entries n F []) ∙ nothings-map (table n) (reach F (reverse (outside n []))) ∙ ap (λ o. nothings (reach F (reverse o))) (outside_none n)
+        nothings-map (class_of (entries n F [])) (entries n F []) ∙ nothings-map (table n) (reach F (reverse (outside n [])))
+        ∙ ap (λ o. nothings (reach F (reverse o))) (outside_none n)
         ∙ constant_masks (reach F (reverse (variables n))) (λ g a. a)
 
 -- ---- the values of truth tables
@@ -186,7 +193,8 @@ unfolding number point_of
 number-point_of zero k h = omega arith
 number-point_of (suc n) k h =
     ap (λ xs. cond (eqb (bit_at k 0) 1) 1 0 + 2 * number xs) rest
-    ∙ (let ih = number-point_of n (k / 2) (let p = two-pow-succ n in omega arith) in let l = bit_at_lowest k in let b = low (bit_at k 0) (bit_at-lt k 0) in omega arith)
+    ∙ (let ih = number-point_of n (k / 2) (let p = two-pow-succ n in omega arith) in let l = bit_at_lowest k in
+    let b = low (bit_at k 0) (bit_at-lt k 0) in omega arith)
   where
     low : (b : ℕ) → b < 2 → cond (eqb b 1) 1 0 ≡ b
     low zero lt = refl
@@ -194,18 +202,25 @@ number-point_of (suc n) k h =
     low (suc (suc b)) lt = absurd (omega arith)
 
     rest : map (λ x. eqb (bit_at k x) 1) (range_with_len (0 + 1) n) ≡ point_of n (k / 2)
-    rest = map_ranges (λ x. eqb (bit_at k x) 1) (λ x. eqb (bit_at (k / 2) x) 1) n (0 + 1) 0 (λ i lt. ap (λ b. eqb b 1) (ap (bit_at k) (let s : 0 + 1 + i ≡ suc i = omega arith in s) ∙ bit_at-suc k i ∙ ap (bit_at (k / 2)) (let s : i ≡ 0 + i = omega arith in s)))
+    rest = map_ranges (λ x. eqb (bit_at k x) 1) (λ x. eqb (bit_at (k / 2) x) 1) n (0 + 1) 0
+        (λ i lt. ap (λ b. eqb b 1)
+        (ap (bit_at k) (let s : 0 + 1 + i ≡ suc i = omega arith in s) ∙ bit_at-suc k i
+        ∙ ap (bit_at (k / 2)) (let s : i ≡ 0 + i = omega arith in s)))
 
 row_is : (n : ℕ) (t : List Bool) → map (λ j. from_table t (point_of n j)) (range_with_len 0 (2 ^ n)) ≡ row n t
 unfolding row from_table
-row_is n t = map_ranges (λ j. from_table t (point_of n j)) (λ j. get_or t j false) (2 ^ n) 0 0 (λ i lt. ap (λ k. get_or t k false) (number-point_of n (0 + i) (omega arith)))
+row_is n t =
+    map_ranges (λ j. from_table t (point_of n j)) (λ j. get_or t j false) (2 ^ n) 0 0
+    (λ i lt. ap (λ k. get_or t k false) (number-point_of n (0 + i) (omega arith)))
 
 -- the values of a problem's functions
 pub values_are : (p : TruthTables) → all_values p.inputs (functions p) ≡ values_of p
 unfolding all_values values_of
 values_are p = each p.tables
   where
-    each : (ts : List (List Bool)) → flat_map (λ f. map (λ j. f (point_of p.inputs j)) (range_with_len 0 (2 ^ p.inputs))) (map from_table ts) ≡ flat_map (row p.inputs) ts
+    each : (ts : List (List Bool)) →
+        flat_map (λ f. map (λ j. f (point_of p.inputs j)) (range_with_len 0 (2 ^ p.inputs))) (map from_table ts) ≡ flat_map
+        (row p.inputs) ts
     each [] = refl
     each (t ∷ ts) = λ i. row_is p.inputs t i ++ each ts i
 
@@ -239,7 +254,8 @@ length_values p = each p.tables
         length-append (row p.inputs t) (flat_map (row p.inputs) ts) ∙ omega arith
 
 -- the class table of the empty set
-pub holds_start : (p : TruthTables) (numbers masks : List ℕ) → p.inputs ≤ 16 → length p.tables ≤ 16 → 0 < length p.tables → numbers ≡ map (number_of (value_at p 0 0)) (values_of p) →
+pub holds_start : (p : TruthTables) (numbers masks : List ℕ) → p.inputs ≤ 16 → length p.tables ≤ 16 → 0 < length p.tables →
+    numbers ≡ map (number_of (value_at p 0 0)) (values_of p) →
     ((c : ℕ) → get_or masks c 0 ≡ 0) → length masks ≡ class_count numbers → HoldsClasses (classes_of p 0) numbers masks
 holds_start p numbers masks inputs outputs some e zeros l =
     let start = values_start p some in
@@ -247,16 +263,24 @@ holds_start p numbers masks inputs outputs some e zeros l =
     let none = members_zero p.inputs in
     record {
       few_inputs = inputs;
-      few = (let a = ap length e ∙ length-map (values_of p) (number_of (value_at p 0 0)) ∙ length_values p in let b : 2 ^ p.inputs ≤ 65536 = pow_mono {j = 16} inputs in let c = mul-le-mul_left (length p.tables) b in let d = mul-le-mul_right 65536 outputs in omega arith);
-      classes = e ∙ ap (map (number_of (value_at p 0 0))) (sym (values_are p)) ∙ sym (start_numbers p.inputs (functions p) (value_at p 0 0) start.0 head) ∙ ap (class_numbers p.inputs (functions p)) (sym none);
+      few = (let a = ap length e ∙ length-map (values_of p) (number_of (value_at p 0 0)) ∙ length_values p in
+          let b : 2 ^ p.inputs ≤ 65536 = pow_mono {j = 16} inputs in let c = mul-le-mul_left (length p.tables) b in
+          let d = mul-le-mul_right 65536 outputs in omega arith);
+      classes = e ∙ ap (map (number_of (value_at p 0 0))) (sym (values_are p))
+          ∙ sym (start_numbers p.inputs (functions p) (value_at p 0 0) start.0 head) ∙ ap (class_numbers p.inputs (functions p)) (sym none);
       masks_are = subst (λ T. AreMasks p.inputs (functions p) T masks) (sym none)
-          (start_masks p.inputs (functions p) (value_at p 0 0) start.0 head masks zeros (l ∙ ap class_count (e ∙ ap (map (number_of (value_at p 0 0))) (sym (values_are p)))));
+          (start_masks p.inputs (functions p) (value_at p 0 0) start.0 head masks zeros
+          (l ∙ ap class_count (e ∙ ap (map (number_of (value_at p 0 0))) (sym (values_are p)))));
     }
 
 -- one function more
-pub rows_more : (num : Bool → ℕ) (n : ℕ) (ts : List (List Bool)) (j : ℕ) → j < length ts → map num (flat_map (row n) (take j ts)) ++ map num (row n (get_or ts j [])) ≡ map num (flat_map (row n) (take (j + 1) ts))
+pub rows_more : (num : Bool → ℕ) (n : ℕ) (ts : List (List Bool)) (j : ℕ) → j < length ts →
+    map num (flat_map (row n) (take j ts)) ++ map num (row n (get_or ts j [])) ≡ map num (flat_map (row n) (take (j + 1) ts))
 rows_more num n ts j h =
-    sym (ap (λ us. map num (flat_map (row n) us)) (take_more ts j [] h) ∙ ap (map num) (flat_map-append (row n) (take j ts) (get_or ts j [] ∷ []) ∙ ap (λ us. flat_map (row n) (take j ts) ++ us) (one (row n (get_or ts j []))))
+    sym (ap (λ us. map num (flat_map (row n) us)) (take_more ts j [] h)
+    ∙ ap (map num)
+    (flat_map-append (row n) (take j ts) (get_or ts j [] ∷ [])
+    ∙ ap (λ us. flat_map (row n) (take j ts) ++ us) (one (row n (get_or ts j []))))
     ∙ map-append num (flat_map (row n) (take j ts)) (row n (get_or ts j [])))
   where
     one : (xs : List Bool) → xs ++ [] ≡ xs

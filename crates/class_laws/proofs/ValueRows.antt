@@ -10,5 +10,6 @@ pub bit_in : (n : ℕ) (words : List ℕ) (point : ℕ) → point < 2 ^ n → pa
 unfolding table_in
 bit_in n words point lt = sym (get_or-map-range_with_len (packed_bit words) 0 (2 ^ n) point point false lt (omega arith))
 
-pub one_more : (before : List ℕ) (values : List Bool) (num : Bool → ℕ) (v : Bool) → (before ++ map num values) ++ num v ∷ [] ≡ before ++ map num (values ++ v ∷ [])
+pub one_more : (before : List ℕ) (values : List Bool) (num : Bool → ℕ) (v : Bool) →
+    (before ++ map num values) ++ num v ∷ [] ≡ before ++ map num (values ++ v ∷ [])
 one_more before values num v = append_assoc before (map num values) (num v ∷ []) ∙ ap (λ us. before ++ us) (sym (map-append num values (v ∷ [])))

@@ -29,7 +29,8 @@ unfolding clap_on_literals
 ordercheck_is_free = refl
 
 -- a command that was built as one that is simple, and its words
-module _ (built app : App) (is : built ≡ app) (simple : is_simple app ≡ true) (words : List Text) (m : ArgMatches) (h : HasMatchesOf built words m) (id : Text) where
+module _ (built app : App) (is : built ≡ app) (simple : is_simple app ≡ true) (words : List Text) (m : ArgMatches)
+    (h : HasMatchesOf built words m) (id : Text) where
   -- the value of an id, as it was written
   pub value_matched : value_of app words id ≡ first_value (found_of m) id
   unfolding value_of
@@ -41,7 +42,8 @@ module _ (built app : App) (is : built ≡ app) (simple : is_simple app ≡ true
   read_matched = ap (one_of id) (sym ((h (ap is_simple is ∙ simple)).0 ∙ ap (λ a. matches_of a words) is)) ∙ sym (one_text-rows (found_of m) id)
 
 -- words that clap takes have no fault
-pub taken_faultless : (built app : App) (words : List Text) → built ≡ app → is_simple_and_free app ≡ true → (is_simple_and_free built ≡ true → fault_of built words ≡ []) → faults_of app words ≡ []
+pub taken_faultless : (built app : App) (words : List Text) → built ≡ app → is_simple_and_free app ≡ true →
+    (is_simple_and_free built ≡ true → fault_of built words ≡ []) → faults_of app words ≡ []
 unfolding faults_of
 taken_faultless built app words is free none = subst (λ a. fault_of a words ≡ []) is (none (ap is_simple_and_free is ∙ free))
 
@@ -71,16 +73,19 @@ module _ (app : App) (Lacks : List Text → Type 0) (words : List Text) where
   explained e kinds.ArgumentConflict h = inl (some_fault kinds.ArgumentConflict (faults_of app words) (λ e. cc) h)
   explained e kinds.MissingRequiredArgument h = inl (some_fault kinds.MissingRequiredArgument (faults_of app words) (λ e. cc) h)
   explained e kinds.MissingSubcommand h = inl (some_fault kinds.MissingSubcommand (faults_of app words) (λ e. cc) h)
-  explained e kinds.DisplayHelpOnMissingArgumentOrSubcommand h = inl (some_fault kinds.DisplayHelpOnMissingArgumentOrSubcommand (faults_of app words) (λ e. cc) h)
+  explained e kinds.DisplayHelpOnMissingArgumentOrSubcommand h =
+      inl (some_fault kinds.DisplayHelpOnMissingArgumentOrSubcommand (faults_of app words) (λ e. cc) h)
   explained e kinds.DisplayVersion h = inl (some_fault kinds.DisplayVersion (faults_of app words) (λ e. cc) h)
   explained e kinds.Io h = inl (some_fault kinds.Io (faults_of app words) (λ e. cc) h)
   explained e kinds.Format h = inl (some_fault kinds.Format (faults_of app words) (λ e. cc) h)
 
   -- an error of clap says why words give no plan
-  pub error_explained : (built : App) (e : Error) (u : Usage) → built ≡ app → is_simple_and_free app ≡ true → (is_simple_and_free built ≡ true → HasKind (fault_of built words) e) → u ≡ usage_kind e → Explains app Lacks words u
+  pub error_explained : (built : App) (e : Error) (u : Usage) → built ≡ app → is_simple_and_free app ≡ true →
+      (is_simple_and_free built ≡ true → HasKind (fault_of built words) e) → u ≡ usage_kind e → Explains app Lacks words u
   unfolding faults_of
   error_explained built e u is free has usage =
-      subst (Explains app Lacks words) (sym usage) (explained e (kind_of e) (subst (λ a. HasKind (fault_of a words) e) is (has (ap is_simple_and_free is ∙ free))))
+      subst (Explains app Lacks words) (sym usage)
+      (explained e (kind_of e) (subst (λ a. HasKind (fault_of a words) e) is (has (ap is_simple_and_free is ∙ free))))
 
   -- so does an argument that is missing
   pub lacking_explained : (u : Usage) → IsNoHelp u → Lacks words → Explains app Lacks words u

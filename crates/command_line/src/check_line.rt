@@ -39,9 +39,13 @@ fn command<'a>(alloc: Global) -> Result<Command<'a>, AllocError>
 
 /// What the matches of the command hold.
 fn line_of<'a>(matches: &ArgMatches<'a>) -> Option<CheckLine<'a>>
-    ensures file { IfSome result (λ line. first_value (found_of matches.now) (codes "FILE") ≡ Some line.file.now) }
-    ensures cert { IfSome result (λ line. first_value (found_of matches.now) (codes "CERT") ≡ Some line.cert.now) }
-    ensures lacks { IsNone result → LacksFiles (first_value (found_of matches.now) (codes "FILE")) (first_value (found_of matches.now) (codes "CERT")) }
+    ensures file { IfSome result
+        (λ line. first_value (found_of matches.now) (codes "FILE") ≡ Some line.file.now) }
+    ensures cert { IfSome result
+        (λ line. first_value (found_of matches.now) (codes "CERT") ≡ Some line.cert.now) }
+    ensures lacks { IsNone result →
+        LacksFiles (first_value (found_of matches.now) (codes "FILE"))
+        (first_value (found_of matches.now) (codes "CERT")) }
 {
     let file = matches.get_str("FILE")?;
     let cert = matches.get_str("CERT")?;
@@ -51,8 +55,10 @@ fn line_of<'a>(matches: &ArgMatches<'a>) -> Option<CheckLine<'a>>
 impl<'a> CheckLine<'a> {
     /// What the words after the program's name ask for, by clap's rules.
     pub fn of_words(alloc: Global, words: &'a [&'a str]) -> Result<CheckLine<'a>, Usage>
-        ensures file { IfOk result (λ line. value_of ordercheck (texts words.now) (codes "FILE") ≡ Some line.file.now) }
-        ensures cert { IfOk result (λ line. value_of ordercheck (texts words.now) (codes "CERT") ≡ Some line.cert.now) }
+        ensures file { IfOk result
+            (λ line. value_of ordercheck (texts words.now) (codes "FILE") ≡ Some line.file.now) }
+        ensures cert { IfOk result
+            (λ line. value_of ordercheck (texts words.now) (codes "CERT") ≡ Some line.cert.now) }
         ensures taken { IfOk result (λ _. faults_of ordercheck (texts words.now) ≡ []) }
         ensures refused { IfErr result (Explains ordercheck LacksPaths (texts words.now)) }
     {

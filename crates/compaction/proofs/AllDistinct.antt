@@ -55,7 +55,9 @@ module _ (t : ClassesOf) (count : ℕ) (d : AreDistinct t count) (x : ℕ) (insi
   many = length-pairs (range_with_len 0 count) (2 ^ free_below t.set x) ∙ ap (λ k. k / 2) (length-range_with_len 0 count)
 
   -- the j-th pair
-  pair_is : (j : ℕ) → j < count / 2 → get_or (pairs (range_with_len 0 count) (2 ^ free_below t.set x)) j (0, 0) ≡ (low_place (2 ^ free_below t.set x) j, low_place (2 ^ free_below t.set x) j + 2 ^ free_below t.set x)
+  pair_is : (j : ℕ) → j < count / 2 →
+      get_or (pairs (range_with_len 0 count) (2 ^ free_below t.set x)) j (0, 0) ≡
+      (low_place (2 ^ free_below t.set x) j, low_place (2 ^ free_below t.set x) j + 2 ^ free_below t.set x)
   pair_is j h =
       let l = length-range_with_len 0 count in
       let w = pair_within (2 ^ free_below t.set x) whole.0 (length (range_with_len 0 count)) j (pow_pos (free_below t.set x)) whole.1 (omega arith) in
@@ -76,20 +78,28 @@ module _ (t : ClassesOf) (count : ℕ) (d : AreDistinct t count) (x : ℕ) (insi
       let r = j % s in
       let m : r < s = mod-lt j some in
       let e : low_place s j ≡ r + q * (2 * s) = omega arith in
-      let div : low_place s j / (2 * s) ≡ q = ap (λ k. k / (2 * s)) e ∙ add-mul-div_right r q (let z : 0 < 2 * s = omega arith in z) ∙ (let z = div-eq_of_lt (let l : r < 2 * s = omega arith in l) in omega arith) in
-      let rem : low_place s j % (2 * s) ≡ r = ap (λ k. k % (2 * s)) e ∙ add-mul-mod_self_right r q (2 * s) ∙ mod-eq_of_lt (let z : r < 2 * s = omega arith in z) in
+      let div : low_place s j / (2 * s) ≡ q = ap (λ k. k / (2 * s)) e ∙ add-mul-div_right r q (let z : 0 < 2 * s = omega arith in z)
+      ∙ (let z = div-eq_of_lt (let l : r < 2 * s = omega arith in l) in omega arith) in
+      let rem : low_place s j % (2 * s) ≡ r = ap (λ k. k % (2 * s)) e ∙ add-mul-mod_self_right r q (2 * s)
+      ∙ mod-eq_of_lt (let z : r < 2 * s = omega arith in z) in
       ap (λ (p : ℕ × ℕ). p.0 / (2 * s) * s + p.0 % (2 * s)) (pair_is j h) ∙ ap₂ (λ a b. a * s + b) div rem ∙ sym (parts_of j s some)
 
   few_pairs : count / 2 ≤ 2 ^ 20
   few_pairs = (let f = d.keys.few in let l = length-range_with_len 0 count in omega arith)
 
-  names : TellsPairs d.masks x (pairs (range_with_len 0 count) (2 ^ free_below t.set x)) (range_with_len 0 (count / 2)) (same_list (bit_or t.set (2 ^ x)) (count / 2))
+  names : TellsPairs d.masks x (pairs (range_with_len 0 count) (2 ^ free_below t.set x)) (range_with_len 0 (count / 2))
+      (same_list (bit_or t.set (2 ^ x)) (count / 2))
   names = record {
     name = name;
     numbers_are = same_by_places (range_with_len 0 (count / 2)) (map name (pairs (range_with_len 0 count) (2 ^ free_below t.set x)))
         (length-range_with_len 0 (count / 2) ∙ sym (length-map (pairs (range_with_len 0 count) (2 ^ free_below t.set x)) name ∙ many))
-        (λ i h. let l = length-range_with_len 0 (count / 2) in let m = many in range_at (count / 2) i (omega arith) ∙ sym (get_or-map name (pairs (range_with_len 0 count) (2 ^ free_below t.set x)) i (0, 0) 0 (omega arith) ∙ name_is i (omega arith)));
-    apart = λ i j a b e. let m = many in ap (λ k. get_or (pairs (range_with_len 0 count) (2 ^ free_below t.set x)) k (0, 0)) (sym (name_is i (omega arith)) ∙ e ∙ name_is j (omega arith));
+        (λ i h. let l = length-range_with_len 0 (count / 2) in let m = many in
+        range_at (count / 2) i (omega arith)
+        ∙ sym (get_or-map name (pairs (range_with_len 0 count) (2 ^ free_below t.set x)) i (0, 0) 0 (omega arith)
+        ∙ name_is i (omega arith)));
+    apart = λ i j a b e. let m = many in
+        ap (λ k. get_or (pairs (range_with_len 0 count) (2 ^ free_below t.set x)) k (0, 0))
+        (sym (name_is i (omega arith)) ∙ e ∙ name_is j (omega arith));
     below = λ i a. let m = many in let n = name_is i (omega arith) in let l = length_same (bit_or t.set (2 ^ x)) (count / 2) in omega arith;
     told = λ i a.
         let m = many in
@@ -99,8 +109,12 @@ module _ (t : ClassesOf) (count : ℕ) (d : AreDistinct t count) (x : ℕ) (insi
         let some = pow_pos (free_below t.set x) in
         ap (λ k. get_or (same_list (bit_or t.set (2 ^ x)) (count / 2)) k 0) (name_is i h) ∙ same_at (bit_or t.set (2 ^ x)) (count / 2) i h
         ∙ sym (ap (joined_mask d.masks x) (pair_is i h)
-        ∙ (λ k. bit_or (bit_or (d.full (low_place (2 ^ free_below t.set x) i) (omega arith) k) (d.full (low_place (2 ^ free_below t.set x) i + 2 ^ free_below t.set x) (omega arith) k))
-        (cond (ne_eqb (low_place (2 ^ free_below t.set x) i) (low_place (2 ^ free_below t.set x) i + 2 ^ free_below t.set x) (λ e. let f : ⊥ = omega arith in f) k) 0 (2 ^ x)))
+        ∙ (λ k. bit_or
+        (bit_or (d.full (low_place (2 ^ free_below t.set x) i) (omega arith) k)
+        (d.full (low_place (2 ^ free_below t.set x) i + 2 ^ free_below t.set x) (omega arith) k))
+        (cond (ne_eqb (low_place (2 ^ free_below t.set x) i) (low_place (2 ^ free_below t.set x) i + 2 ^ free_below t.set x)
+        (λ e. let f : ⊥ = omega arith in f) k)
+        0 (2 ^ x)))
         ∙ ap (λ z. bit_or z (2 ^ x)) (or_self t.set));
     few = (let l = length_same (bit_or t.set (2 ^ x)) (count / 2) in let f = few_pairs in omega arith);
   }
@@ -109,21 +123,26 @@ module _ (t : ClassesOf) (count : ℕ) (d : AreDistinct t count) (x : ℕ) (insi
   distinct_more = record {
     masks = same_list (bit_or t.set (2 ^ x)) (count / 2);
     exact = length_same (bit_or t.set (2 ^ x)) (count / 2);
-    keys = keys_by_names t x inside new (range_with_len 0 count) d.masks d.keys whole (range_with_len 0 (count / 2)) (same_list (bit_or t.set (2 ^ x)) (count / 2)) names;
+    keys = keys_by_names t x inside new (range_with_len 0 count) d.masks d.keys whole (range_with_len 0 (count / 2))
+        (same_list (bit_or t.set (2 ^ x)) (count / 2)) names;
     full = same_at (bit_or t.set (2 ^ x)) (count / 2);
   }
 
 -- each width into the set is the count
 filter_all : (p : ℕ → Bool) (xs : List ℕ) → ((i : ℕ) → i < length xs → p (get_or xs i 0) ≡ true) → length (filter p xs) ≡ length xs
 filter_all p [] h = refl
-filter_all p (x ∷ xs) h = ap (λ b. length (cond b (x ∷ filter p xs) (filter p xs))) (h 0 (omega arith)) ∙ ap suc (filter_all p xs (λ i l. h (suc i) (omega arith)))
+filter_all p (x ∷ xs) h = ap (λ b. length (cond b (x ∷ filter p xs) (filter p xs))) (h 0 (omega arith))
+    ∙ ap suc (filter_all p xs (λ i l. h (suc i) (omega arith)))
 
-pub distinct_width : (t : ClassesOf) (count x : ℕ) → AreDistinct t count → x < t.problem.inputs → has (set_of t) x ≡ true → width t.problem.inputs (functions_of t) (without x (set_of t)) x ≡ count
+pub distinct_width : (t : ClassesOf) (count x : ℕ) → AreDistinct t count → x < t.problem.inputs → has (set_of t) x ≡ true →
+    width t.problem.inputs (functions_of t) (without x (set_of t)) x ≡ count
 unfolding masks_in_use
 distinct_width t count x d small inside =
     width_by_use t.problem.inputs (functions_of t) (set_of t) (range_with_len 0 count) d.masks d.keys.below d.keys.classes d.keys.told x small inside
-    ∙ ap (λ us. length (filter (λ m. eqb (bit_at m x) 1) (map (λ k. get_or d.masks k 0) (filter (has (range_with_len 0 count)) us)))) (ap (range_with_len 0) d.exact)
-    ∙ ap (λ us. length (filter (λ m. eqb (bit_at m x) 1) (map (λ k. get_or d.masks k 0) us))) (in_use_same (has (range_with_len 0 count)) (λ _. true) count (λ k h. (has_variables count k).1 h) ∙ kept (range_with_len 0 count))
+    ∙ ap (λ us. length (filter (λ m. eqb (bit_at m x) 1) (map (λ k. get_or d.masks k 0) (filter (has (range_with_len 0 count)) us))))
+    (ap (range_with_len 0) d.exact)
+    ∙ ap (λ us. length (filter (λ m. eqb (bit_at m x) 1) (map (λ k. get_or d.masks k 0) us)))
+    (in_use_same (has (range_with_len 0 count)) (λ _. true) count (λ k h. (has_variables count k).1 h) ∙ kept (range_with_len 0 count))
     ∙ length_filter_map (λ m. eqb (bit_at m x) 1) (λ k. get_or d.masks k 0) (range_with_len 0 count)
     ∙ filter_all (λ k. eqb (bit_at (get_or d.masks k 0) x) 1) (range_with_len 0 count) (λ i h.
     let l = length-range_with_len 0 count in
@@ -137,18 +156,25 @@ distinct_width t count x d small inside =
     bit : eqb (bit_at t.set x) 1 ≡ true
     bit = (and_parts (has (variables t.problem.inputs) x) (eqb (bit_at t.set x) 1) (sym (has_members t.problem.inputs t.set x) ∙ inside)).1
 
-pub distinct_row : (t : ClassesOf) (count : ℕ) → AreDistinct t count → (wanted x w : ℕ) → (bit_at wanted x ≡ 1 → has (set_of t) x ≡ true) → w ≡ cond (eqb (bit_at wanted x) 1) count 0 → w ≡ width_wanted t.problem t.set wanted x
+pub distinct_row : (t : ClassesOf) (count : ℕ) → AreDistinct t count → (wanted x w : ℕ) → (bit_at wanted x ≡ 1 → has (set_of t) x ≡ true) →
+    w ≡ cond (eqb (bit_at wanted x) 1) count 0 → w ≡ width_wanted t.problem t.set wanted x
 unfolding width_wanted
 distinct_row t count d wanted x w inside e = e ∙ elim (cases_eq (bit_at wanted x) 1) [
   | inl one ↦
       let s = inside one in
-      let small : x < t.problem.inputs = (has_variables t.problem.inputs x).0 (and_parts (has (variables t.problem.inputs) x) (eqb (bit_at t.set x) 1) (sym (has_members t.problem.inputs t.set x) ∙ s)).0 in
-      ap (λ b. cond b count 0) (eq-eqb (bit_at wanted x) 1 one) ∙ sym (distinct_width t count x d small s) ∙ sym (ap (λ b. cond b (width t.problem.inputs (functions_of t) (without x (set_of t)) x) 0) (eq-eqb (bit_at wanted x) 1 one))
-  | inr none ↦ ap (λ b. cond b count 0) (ne_eqb (bit_at wanted x) 1 none) ∙ sym (ap (λ b. cond b (width t.problem.inputs (functions_of t) (without x (set_of t)) x) 0) (ne_eqb (bit_at wanted x) 1 none))
+      let small : x < t.problem.inputs =
+      (has_variables t.problem.inputs x).0
+      (and_parts (has (variables t.problem.inputs) x) (eqb (bit_at t.set x) 1)
+      (sym (has_members t.problem.inputs t.set x) ∙ s)).0 in
+      ap (λ b. cond b count 0) (eq-eqb (bit_at wanted x) 1 one) ∙ sym (distinct_width t count x d small s)
+      ∙ sym (ap (λ b. cond b (width t.problem.inputs (functions_of t) (without x (set_of t)) x) 0) (eq-eqb (bit_at wanted x) 1 one))
+  | inr none ↦ ap (λ b. cond b count 0) (ne_eqb (bit_at wanted x) 1 none)
+      ∙ sym (ap (λ b. cond b (width t.problem.inputs (functions_of t) (without x (set_of t)) x) 0) (ne_eqb (bit_at wanted x) 1 none))
 ]
 
 -- strips that are named in order are as many as the runs
-pub own_count : (outer numbers : List ℕ) (len : ℕ) (strips : AreStrips outer numbers len) → ((i : ℕ) → i < length outer → get_or outer i 0 ≡ i) → strips.count ≡ length outer
+pub own_count : (outer numbers : List ℕ) (len : ℕ) (strips : AreStrips outer numbers len) →
+    ((i : ℕ) → i < length outer → get_or outer i 0 ≡ i) → strips.count ≡ length outer
 own_count outer numbers len strips own = elim (cases_lt strips.count (length outer)) [
   | inl less ↦ absurd (let w = strips.within strips.count less in let e = own strips.count less in let f : ⊥ = omega arith in f)
   | inr more ↦ elim (cases_lt (length outer) strips.count) [
@@ -158,7 +184,8 @@ own_count outer numbers len strips own = elim (cases_lt strips.count (length out
 ]
 
 -- strips that show it
-pub distinct_strips : (t : ClassesOf) (low : ℕ) (outer numbers masks : List ℕ) → HoldsStrips t low outer numbers masks → length masks ≡ length numbers → ((i : ℕ) → i < length outer → get_or outer i 0 ≡ i) →
+pub distinct_strips : (t : ClassesOf) (low : ℕ) (outer numbers masks : List ℕ) → HoldsStrips t low outer numbers masks →
+    length masks ≡ length numbers → ((i : ℕ) → i < length outer → get_or outer i 0 ≡ i) →
     ((i : ℕ) → i < length numbers → get_or numbers i 0 ≡ i) → ((i : ℕ) → i < length masks → get_or masks i 0 ≡ t.set) → AreDistinct t (length numbers)
 distinct_strips t low outer numbers masks h exact own counted full = record {
   masks = masks;
@@ -185,19 +212,25 @@ distinct_strips t low outer numbers masks h exact own counted full = record {
         let q : i / 2 ^ free_below t.set low < length outer = (div-lt_iff_lt-mul some).1 (let w' = w in let u' = u in omega arith) in
         let m = mod-lt i some in
         let e = parts_of i (2 ^ free_below t.set low) some in
-        ap (λ k. get_or (unrolled outer numbers (2 ^ free_below t.set low)) k 0) e ∙ unrolled_at outer numbers (2 ^ free_below t.set low) h.strips (i / 2 ^ free_below t.set low) (i % 2 ^ free_below t.set low) q m
-        ∙ ap (λ k. get_or numbers (k * 2 ^ free_below t.set low + i % 2 ^ free_below t.set low) 0) (own (i / 2 ^ free_below t.set low) q) ∙ ap (λ k. get_or numbers k 0) (sym e)
+        ap (λ k. get_or (unrolled outer numbers (2 ^ free_below t.set low)) k 0) e
+        ∙ unrolled_at outer numbers (2 ^ free_below t.set low) h.strips (i / 2 ^ free_below t.set low)
+        (i % 2 ^ free_below t.set low) q m
+        ∙ ap (λ k. get_or numbers (k * 2 ^ free_below t.set low + i % 2 ^ free_below t.set low) 0) (own (i / 2 ^ free_below t.set low) q)
+        ∙ ap (λ k. get_or numbers k 0) (sym e)
         ∙ counted i (omega arith) ∙ sym (range_at (length numbers) i (omega arith)))
 
 -- which of both a table holds
-pub table_strips : (t : ClassesOf) (low : ℕ) (distinct : Option ℕ) (all_used : Bool) (outer numbers masks : List ℕ) → HoldsTable t low distinct all_used outer numbers masks → distinct ≡ None → HoldsStrips t low outer numbers masks
+pub table_strips : (t : ClassesOf) (low : ℕ) (distinct : Option ℕ) (all_used : Bool) (outer numbers masks : List ℕ) →
+    HoldsTable t low distinct all_used outer numbers masks → distinct ≡ None → HoldsStrips t low outer numbers masks
 unfolding HoldsTable
 table_strips t low distinct all_used outer numbers masks h e = (subst (λ d. HoldsTable t low d all_used outer numbers masks) e h).0
 
-pub table_used : (t : ClassesOf) (low : ℕ) (distinct : Option ℕ) (all_used : Bool) (outer numbers masks : List ℕ) → HoldsTable t low distinct all_used outer numbers masks → distinct ≡ None → all_used ≡ true → AreUsed numbers masks
+pub table_used : (t : ClassesOf) (low : ℕ) (distinct : Option ℕ) (all_used : Bool) (outer numbers masks : List ℕ) →
+    HoldsTable t low distinct all_used outer numbers masks → distinct ≡ None → all_used ≡ true → AreUsed numbers masks
 unfolding HoldsTable
 table_used t low distinct all_used outer numbers masks h e = (subst (λ d. HoldsTable t low d all_used outer numbers masks) e h).1
 
-pub table_distinct : (t : ClassesOf) (low : ℕ) (distinct : Option ℕ) (count : ℕ) (all_used : Bool) (outer numbers masks : List ℕ) → HoldsTable t low distinct all_used outer numbers masks → distinct ≡ Some count → AreDistinct t count
+pub table_distinct : (t : ClassesOf) (low : ℕ) (distinct : Option ℕ) (count : ℕ) (all_used : Bool) (outer numbers masks : List ℕ) →
+    HoldsTable t low distinct all_used outer numbers masks → distinct ≡ Some count → AreDistinct t count
 unfolding HoldsTable
 table_distinct t low distinct count all_used outer numbers masks h e = subst (λ d. HoldsTable t low d all_used outer numbers masks) e h

@@ -27,7 +27,8 @@ pub place_parts : (len k : ℕ) → 0 < len → (k / len * len + k % len ≡ k) 
 place_parts len k h = let e = div-add-mod k len in let c = mul_comm len (k / len) in (omega arith, mod-lt k h)
 
 -- all strips are kept, in order
-pub whole_are : (outer numbers : List ℕ) (len : ℕ) → length numbers ≡ length outer * len → ((i : ℕ) → i < length outer → get_or outer i 0 ≡ i) → AreStrips outer numbers len
+pub whole_are : (outer numbers : List ℕ) (len : ℕ) → length numbers ≡ length outer * len →
+    ((i : ℕ) → i < length outer → get_or outer i 0 ≡ i) → AreStrips outer numbers len
 whole_are outer numbers len l h = record {
   count = length outer;
   whole = l;
@@ -35,7 +36,8 @@ whole_are outer numbers len l h = record {
   used = λ k lt. (k, (lt, h k lt));
 }
 
-pub whole_values : (outer numbers : List ℕ) (len : ℕ) → 0 < len → length numbers ≡ length outer * len → ((i : ℕ) → i < length outer → get_or outer i 0 ≡ i) → unrolled outer numbers len ≡ numbers
+pub whole_values : (outer numbers : List ℕ) (len : ℕ) → 0 < len → length numbers ≡ length outer * len →
+    ((i : ℕ) → i < length outer → get_or outer i 0 ≡ i) → unrolled outer numbers len ≡ numbers
 whole_values outer numbers len some l h = same_by_places (unrolled outer numbers len) numbers (long ∙ sym l) each
   where
     are : AreStrips outer numbers len
@@ -53,10 +55,12 @@ whole_values outer numbers len some l h = same_by_places (unrolled outer numbers
         ∙ ap (λ j. get_or numbers (j * len + k % len) 0) (h (k / len) i) ∙ ap (λ j. get_or numbers j 0) p.0
 
 -- as many strips as runs
-pub length_numbers : (p : TruthTables) (num : Bool → ℕ) (low runs : ℕ) → low ≤ p.inputs → runs ≡ length p.tables * 2 ^ (p.inputs - low) → length (map num (values_of p)) ≡ runs * 2 ^ low
+pub length_numbers : (p : TruthTables) (num : Bool → ℕ) (low runs : ℕ) → low ≤ p.inputs → runs ≡ length p.tables * 2 ^ (p.inputs - low) →
+    length (map num (values_of p)) ≡ runs * 2 ^ low
 length_numbers p num low runs h e =
     length-map (values_of p) num ∙ length_values p
-    ∙ (let w : 2 ^ p.inputs ≡ 2 ^ (p.inputs - low) * 2 ^ low = ap (λ k. 2 ^ k) (let s : p.inputs ≡ p.inputs - low + low = omega arith in s) ∙ pow-add 2 (p.inputs - low) low in
+    ∙ (let w : 2 ^ p.inputs ≡ 2 ^ (p.inputs - low) * 2 ^ low = ap (λ k. 2 ^ k) (let s : p.inputs ≡ p.inputs - low + low = omega arith in s)
+    ∙ pow-add 2 (p.inputs - low) low in
     ap (λ k. length p.tables * k) w ∙ sym (mul_assoc (length p.tables) (2 ^ (p.inputs - low)) (2 ^ low)) ∙ ap (λ k. k * 2 ^ low) (sym e))
 
 pub few_numbers : (p : TruthTables) (num : Bool → ℕ) → p.inputs ≤ 16 → length p.tables ≤ 16 → length (map num (values_of p)) ≤ 2 ^ 20
@@ -71,14 +75,20 @@ few_numbers p num inputs outputs =
 
 -- one range behind the other
 range_behind : {X : Type 0} (f : ℕ → X) (a n m : ℕ) → map f (range_with_len a n) ++ map f (range_with_len (a + n) m) ≡ map f (range_with_len a (n + m))
-range_behind f a zero m = ap (λ k. map f (range_with_len k m)) (let e : a + 0 ≡ a = omega arith in e) ∙ ap (λ k. map f (range_with_len a k)) (let e : m ≡ 0 + m = omega arith in e)
+range_behind f a zero m = ap (λ k. map f (range_with_len k m)) (let e : a + 0 ≡ a = omega arith in e)
+    ∙ ap (λ k. map f (range_with_len a k)) (let e : m ≡ 0 + m = omega arith in e)
 range_behind f a (suc n) m =
-    ap (λ us. f a ∷ us) (ap (λ k. map f (range_with_len (a + 1) n) ++ map f (range_with_len k m)) (let e : a + suc n ≡ a + 1 + n = omega arith in e) ∙ range_behind f (a + 1) n m)
+    ap (λ us. f a ∷ us)
+    (ap (λ k. map f (range_with_len (a + 1) n) ++ map f (range_with_len k m)) (let e : a + suc n ≡ a + 1 + n = omega arith in e)
+    ∙ range_behind f (a + 1) n m)
     ∙ ap (λ k. map f (range_with_len a k)) (let e : suc (n + m) ≡ suc n + m = omega arith in e)
 
-pub ranges : {X : Type 0} (f g : ℕ → X) (n m : ℕ) → ((b : ℕ) → b < m → g b ≡ f (n + b)) → map f (range_with_len 0 n) ++ map g (range_with_len 0 m) ≡ map f (range_with_len 0 (n + m))
+pub ranges : {X : Type 0} (f g : ℕ → X) (n m : ℕ) → ((b : ℕ) → b < m → g b ≡ f (n + b)) →
+    map f (range_with_len 0 n) ++ map g (range_with_len 0 m) ≡ map f (range_with_len 0 (n + m))
 ranges f g n m h =
-    ap (λ us. map f (range_with_len 0 n) ++ us) (map_ranges g f m 0 (0 + n) (λ b lt. ap g (let e : 0 + b ≡ b = omega arith in e) ∙ h b lt ∙ ap f (let e : n + b ≡ 0 + n + b = omega arith in e)))
+    ap (λ us. map f (range_with_len 0 n) ++ us)
+    (map_ranges g f m 0 (0 + n)
+    (λ b lt. ap g (let e : 0 + b ≡ b = omega arith in e) ∙ h b lt ∙ ap f (let e : n + b ≡ 0 + n + b = omega arith in e)))
     ∙ range_behind f 0 n m
 
 -- a bit of a byte of a word
@@ -90,7 +100,8 @@ bit_of_byte word j b h =
     sym (bit_at_cat_low (m / 256) 8 (m % 256) b h) ∙ ap (λ k. bit_at k b) s
     ∙ ap (λ k. k % 2) (div-div-eq-div-mul word (2 ^ j) (2 ^ b) ∙ ap (λ k. word / k) (sym (pow-add 2 j b)))
 
-pub low_more : (first : Bool) (word place : ℕ) → low_numbers first word (place * 8) ++ low_numbers first (word / 2 ^ (place * 8) % 256) 8 ≡ low_numbers first word ((place + 1) * 8)
+pub low_more : (first : Bool) (word place : ℕ) →
+    low_numbers first word (place * 8) ++ low_numbers first (word / 2 ^ (place * 8) % 256) 8 ≡ low_numbers first word ((place + 1) * 8)
 unfolding low_numbers
 low_more first word place =
     ranges (λ b. number_of first (bit_at word b == 1)) (λ b. number_of first (bit_at (word / 2 ^ (place * 8) % 256) b == 1)) (place * 8) 8
@@ -107,7 +118,8 @@ low_none first word = refl
 pub bit_in_word : (words : List ℕ) (i b : ℕ) → b < 64 → packed_bit words (i * 64 + b) ≡ (bit_at (get_or words i 0) b == 1)
 bit_in_word words i b h = (λ k. bit_at (get_or words (div-mul-add i 64 b h k) 0) (mod-mul-add i 64 b h k) == 1)
 
-pub packed_more : (first : Bool) (words : List ℕ) (i : ℕ) → packed_numbers first words (i * 64) ++ low_numbers first (get_or words i 0) 64 ≡ packed_numbers first words ((i + 1) * 64)
+pub packed_more : (first : Bool) (words : List ℕ) (i : ℕ) →
+    packed_numbers first words (i * 64) ++ low_numbers first (get_or words i 0) 64 ≡ packed_numbers first words ((i + 1) * 64)
 unfolding low_numbers packed_numbers
 packed_more first words i =
     ranges (λ k. number_of first (packed_bit words k)) (λ b. number_of first (bit_at (get_or words i 0) b == 1)) (i * 64) 64

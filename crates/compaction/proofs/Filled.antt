@@ -38,10 +38,14 @@ module _ (p : TruthTables) (masks needed : List ℕ) where
   filled_unwanted set y old blank none l = λ i lt. (λ e. blank i lt (none i (omega arith) e), λ ne. refl)
 
   -- all variables are there
-  pub filled_own : (set y : ℕ) (old new : List (List ℕ)) → ((i : ℕ) → i < length masks → slice_index masks i < 2 ^ y) → IsFilled p masks needed set old new → AreFilled p masks needed set y old new
+  pub filled_own : (set y : ℕ) (old new : List (List ℕ)) → ((i : ℕ) → i < length masks → slice_index masks i < 2 ^ y) →
+      IsFilled p masks needed set old new → AreFilled p masks needed set y old new
   filled_own set y old new small own = λ i lt.
-      let whole = mod-eq_of_lt (small i lt) in
-      (λ e. let s : slice_index masks i ≡ set = sym whole ∙ e in subst (λ m. IsRow p m (slice_index needed i) (get_or new i [])) (sym s) ((own i lt).0 s), λ ne. (own i lt).1 (λ s. ne (whole ∙ s)))
+      let whole = mod-eq_of_lt (small i lt) in (
+        λ e. let s : slice_index masks i ≡ set = sym whole ∙ e in
+            subst (λ m. IsRow p m (slice_index needed i) (get_or new i [])) (sym s) ((own i lt).0 s),
+        λ ne. (own i lt).1 (λ s. ne (whole ∙ s)),
+      )
 
   -- what is blank stays so
   pub blank_kept : (set y : ℕ) (old new : List (List ℕ)) → AreBlank p masks needed old → AreFilled p masks needed set y old new → AreBlank p masks needed new
@@ -51,7 +55,8 @@ module _ (p : TruthTables) (masks needed : List ℕ) where
   ]
 
   -- both halves
-  pub filled_both : (set y : ℕ) (old mid new : List (List ℕ)) → set < 2 ^ y → AreFilled p masks needed set (y + 1) old mid → AreFilled p masks needed (set + 2 ^ y) (y + 1) mid new → AreFilled p masks needed set y old new
+  pub filled_both : (set y : ℕ) (old mid new : List (List ℕ)) → set < 2 ^ y → AreFilled p masks needed set (y + 1) old mid →
+      AreFilled p masks needed (set + 2 ^ y) (y + 1) mid new → AreFilled p masks needed set y old new
   filled_both set y old mid new h a b = λ i lt. (
     λ e. elim (split_low (slice_index masks i) set y h e) [
       | inl low ↦
@@ -65,7 +70,8 @@ module _ (p : TruthTables) (masks needed : List ℕ) where
 
   -- nothing is wanted of the upper half
   pub filled_lower : (set y : ℕ) (old mid : List (List ℕ)) → set < 2 ^ y → AreFilled p masks needed set (y + 1) old mid → AreBlank p masks needed mid →
-      ((i : ℕ) → i < length needed → slice_index masks i % 2 ^ (y + 1) ≡ set + 2 ^ y → slice_index needed i ≡ 0) → length needed ≡ length masks → AreFilled p masks needed set y old mid
+      ((i : ℕ) → i < length needed → slice_index masks i % 2 ^ (y + 1) ≡ set + 2 ^ y → slice_index needed i ≡ 0) →
+      length needed ≡ length masks → AreFilled p masks needed set y old mid
   filled_lower set y old mid h a blank none l = filled_both set y old mid mid h a (filled_unwanted (set + 2 ^ y) (y + 1) mid blank none l)
 
 -- ---- the whole block
@@ -95,7 +101,8 @@ unfolding width_wanted
 blank_row p mask wanted x row e z =
     z ∙ ap (λ b. cond (eqb b 1) (width p.inputs (functions p) (without x (members p.inputs mask)) x) 0) (sym (ap (λ w. bit_at w x) e ∙ bit_at-zero x))
 
-pub blank_pushed : (rows : List (List ℕ)) (row : List ℕ) (n : ℕ) → length rows ≡ n → ((x : ℕ) → slice_index row x ≡ 0) → ((i x : ℕ) → i < n → slice_index (get_or rows i []) x ≡ 0) →
+pub blank_pushed : (rows : List (List ℕ)) (row : List ℕ) (n : ℕ) → length rows ≡ n → ((x : ℕ) → slice_index row x ≡ 0) →
+    ((i x : ℕ) → i < n → slice_index (get_or rows i []) x ≡ 0) →
     (i x : ℕ) → i < n + 1 → slice_index (get_or (rows ++ row ∷ []) i []) x ≡ 0
 blank_pushed rows row n e z h i x lt = elim (cases_lt i n) [
   | inl low ↦ ap (λ r. slice_index r x) (get_or_append_left rows (row ∷ []) [] i (omega arith)) ∙ h i x low

@@ -55,7 +55,8 @@ free_less set x (suc low) h n = elim (cases_eq x low) [
       let l = bit_at-lt set x in
       let b : bit_at (bit_or set (2 ^ x)) x ≡ 1 = omega arith in
       subst (λ k. free_below set (suc k) ≡ suc (free_below (bit_or set (2 ^ x)) (suc k))) e
-      (let new = step_of_bit (bit_or set (2 ^ x)) x ∙ ap (λ q. free_below (bit_or set (2 ^ x)) x + cond (not q) 1 0) (eq-eqb (bit_at (bit_or set (2 ^ x)) x) 1 b) in
+      (let new = step_of_bit (bit_or set (2 ^ x)) x
+      ∙ ap (λ q. free_below (bit_or set (2 ^ x)) x + cond (not q) 1 0) (eq-eqb (bit_at (bit_or set (2 ^ x)) x) 1 b) in
       let old = step_of_bit set x ∙ ap (λ q. free_below set x + cond (not q) 1 0) (ne_eqb (bit_at set x) 1 n) in
       let same = free_other set x x (omega arith) in
       omega arith)
@@ -72,7 +73,10 @@ free_less set x (suc low) h n = elim (cases_eq x low) [
 module _ (t : ClassesOf) (x : ℕ) (inside : x < t.problem.inputs) (new : has (set_of t) x ≡ false) where
   -- a variable that is not a member has no bit
   pub no_bit : bit_at t.set x ≢ 1
-  no_bit e = absurd (let m = sym new ∙ has_members t.problem.inputs t.set x ∙ ap₂ (λ a b. a && b) ((has_variables t.problem.inputs x).1 inside) (eq-eqb (bit_at t.set x) 1 e) in differ m)
+  no_bit e = absurd
+      (let m = sym new ∙ has_members t.problem.inputs t.set x
+      ∙ ap₂ (λ a b. a && b) ((has_variables t.problem.inputs x).1 inside) (eq-eqb (bit_at t.set x) 1 e) in
+      differ m)
     where
       differ : false ≡ true → ⊥
       differ q = absurd (cc)
@@ -90,10 +94,14 @@ module _ (t : ClassesOf) (x : ℕ) (inside : x < t.problem.inputs) (new : has (s
         omega arith
 
     pub parts : 2 ^ free_below t.set low ≡ 2 ^ rest * (2 * 2 ^ free_below t.set x)
-    parts = ap (λ k. 2 ^ k) (let s = split in let e : free_below t.set low ≡ rest + (1 + free_below t.set x) = omega arith in e) ∙ pow-add 2 rest (1 + free_below t.set x) ∙ ap (λ k. 2 ^ rest * k) (pow-add 2 1 (free_below t.set x))
+    parts = ap (λ k. 2 ^ k) (let s = split in let e : free_below t.set low ≡ rest + (1 + free_below t.set x) = omega arith in e)
+        ∙ pow-add 2 rest (1 + free_below t.set x) ∙ ap (λ k. 2 ^ rest * k) (pow-add 2 1 (free_below t.set x))
 
     pub less : 2 ^ free_below (with_variable t x).set low ≡ 2 ^ rest * 2 ^ free_below t.set x
-    less = ap (λ k. 2 ^ k) (let s = split in let f = free_less t.set x low inner no_bit in let e : free_below (with_variable t x).set low ≡ rest + free_below t.set x = omega arith in e) ∙ pow-add 2 rest (free_below t.set x)
+    less = ap (λ k. 2 ^ k)
+        (let s = split in let f = free_less t.set x low inner no_bit in
+        let e : free_below (with_variable t x).set low ≡ rest + free_below t.set x = omega arith in e)
+        ∙ pow-add 2 rest (free_below t.set x)
 
   module _ (low : ℕ) (outer numbers masks : List ℕ) (h : HoldsStrips t low outer numbers masks) where
     U : List ℕ
@@ -122,16 +130,32 @@ module _ (t : ClassesOf) (x : ℕ) (inside : x < t.problem.inputs) (new : has (s
           )
 
       pub table_high : IsStripTable outer rank numbers (free_below t.set low) masks
-      table_high = record { small_rank = (let r = rank_few in omega arith); len = few_runs; few = h.few_numbers; few_masks = h.keys.few_masks; whole = whole_outer; strips = h.strips; below = h.below }
+      table_high =
+          record {
+            small_rank =
+                (let r = rank_few in omega arith);
+            len =
+                few_runs;
+            few = h.few_numbers;
+            few_masks = h.keys.few_masks;
+            whole = whole_outer;
+            strips = h.strips;
+            below = h.below;
+          }
 
-      pub holds_high : (grown told joined : List ℕ) (all_used : Bool) → GrowsStrips outer rank numbers (free_below t.set low) masks x grown told joined all_used → HoldsStrips (with_variable t x) low grown told joined
+      pub holds_high : (grown told joined : List ℕ) (all_used : Bool) →
+          GrowsStrips outer rank numbers (free_below t.set low) masks x grown told joined all_used →
+          HoldsStrips (with_variable t x) low grown told joined
       holds_high grown told joined all_used g =
           let e : 2 ^ free_below (with_variable t x).set low ≡ 2 ^ free_below t.set low = ap (λ k. 2 ^ k) (free_other t.set x low high) in
           record {
             strips = subst (AreStrips grown told) (sym e) g.strips;
             keys = subst (λ k. HoldsKeys (with_variable t x) (unrolled grown told k) joined) (sym e)
-                (keys_by_names t x inside new (unrolled outer numbers (2 ^ free_below t.set low)) masks h.keys whole_keys (unrolled grown told (2 ^ free_below t.set low)) joined
-                (subst (λ k. TellsPairs masks x (pairs (unrolled outer numbers (2 ^ free_below t.set low)) k) (unrolled grown told (2 ^ free_below t.set low)) joined) (sym steps) g.tells));
+                (keys_by_names t x inside new (unrolled outer numbers (2 ^ free_below t.set low)) masks h.keys whole_keys
+                (unrolled grown told (2 ^ free_below t.set low)) joined
+                (subst (λ k. TellsPairs masks x (pairs (unrolled outer numbers (2 ^ free_below t.set low)) k)
+                (unrolled grown told (2 ^ free_below t.set low)) joined)
+                (sym steps) g.tells));
             below = g.below;
             few_numbers = g.few;
           }
@@ -142,23 +166,41 @@ module _ (t : ClassesOf) (x : ℕ) (inside : x < t.problem.inputs) (new : has (s
       whole_numbers = (h.strips.count * 2 ^ rest low inner, h.strips.whole ∙ ap (λ k. h.strips.count * k) (parts low inner) ∙ grind arith)
 
       pub table_low : IsPairTable numbers (free_below t.set x) (length masks)
-      table_low = record { paired = record { small_rank = rank_few; short = (let f = h.few_numbers in omega arith); whole = whole_numbers }; few = h.few_numbers; below = h.below }
+      table_low =
+          record {
+            paired =
+                record { small_rank = rank_few; short = (let f = h.few_numbers in omega arith); whole = whole_numbers };
+            few =
+                h.few_numbers;
+            below = h.below;
+          }
 
-      pub holds_low : (numbers' masks' : List ℕ) → TellsPairs masks x (pairs numbers (2 ^ free_below t.set x)) numbers' masks' → HoldsStrips (with_variable t x) low outer numbers' masks'
+      pub holds_low : (numbers' masks' : List ℕ) → TellsPairs masks x (pairs numbers (2 ^ free_below t.set x)) numbers' masks' →
+          HoldsStrips (with_variable t x) low outer numbers' masks'
       holds_low numbers' masks' names =
           let strips = subst (AreStrips outer numbers) (parts low inner) h.strips in
           record {
-            strips = subst (AreStrips outer numbers') (sym (less low inner)) (low_strips outer numbers (2 ^ rest low inner) (2 ^ free_below t.set x) strips (pow_pos (rest low inner)) (pow_pos (free_below t.set x)) masks x numbers' masks' names);
+            strips = subst (AreStrips outer numbers') (sym (less low inner))
+                (low_strips outer numbers (2 ^ rest low inner) (2 ^ free_below t.set x) strips (pow_pos (rest low inner))
+                (pow_pos (free_below t.set x)) masks x numbers' masks' names);
             keys = subst (λ k. HoldsKeys (with_variable t x) (unrolled outer numbers' k) masks') (sym (less low inner))
-                (keys_by_names t x inside new (unrolled outer numbers (2 ^ free_below t.set low)) masks h.keys whole_keys (unrolled outer numbers' (2 ^ rest low inner * 2 ^ free_below t.set x)) masks'
-                (subst (λ k. TellsPairs masks x (pairs (unrolled outer numbers k) (2 ^ free_below t.set x)) (unrolled outer numbers' (2 ^ rest low inner * 2 ^ free_below t.set x)) masks') (sym (parts low inner))
-                (low_tells outer numbers (2 ^ rest low inner) (2 ^ free_below t.set x) (named_of outer numbers (2 ^ rest low inner * (2 * 2 ^ free_below t.set x)) strips) (pow_pos (rest low inner)) (pow_pos (free_below t.set x)) masks x numbers' masks' names)));
+                (keys_by_names t x inside new (unrolled outer numbers (2 ^ free_below t.set low)) masks h.keys whole_keys
+                (unrolled outer numbers' (2 ^ rest low inner * 2 ^ free_below t.set x)) masks'
+                (subst (λ k. TellsPairs masks x (pairs (unrolled outer numbers k) (2 ^ free_below t.set x))
+                (unrolled outer numbers' (2 ^ rest low inner * 2 ^ free_below t.set x)) masks')
+                (sym (parts low inner))
+                (low_tells outer numbers (2 ^ rest low inner) (2 ^ free_below t.set x)
+                (named_of outer numbers (2 ^ rest low inner * (2 * 2 ^ free_below t.set x)) strips) (pow_pos (rest low inner))
+                (pow_pos (free_below t.set x)) masks x numbers' masks' names)));
             below = names_below masks x (pairs numbers (2 ^ free_below t.set x)) numbers' masks' names;
-            few_numbers = (let l = length_names masks x (pairs numbers (2 ^ free_below t.set x)) numbers' masks' names in let m = length-pairs numbers (2 ^ free_below t.set x) in let f = h.few_numbers in omega arith);
+            few_numbers =
+                (let l = length_names masks x (pairs numbers (2 ^ free_below t.set x)) numbers' masks' names in
+                let m = length-pairs numbers (2 ^ free_below t.set x) in let f = h.few_numbers in omega arith);
           }
 
 -- what holds of all entries holds of those in the strips
-pub strips_below : (outer numbers : List ℕ) (len m : ℕ) → 0 < len → AreStrips outer numbers len → ((i : ℕ) → i < length (unrolled outer numbers len) → get_or (unrolled outer numbers len) i 0 < m) →
+pub strips_below : (outer numbers : List ℕ) (len m : ℕ) → 0 < len → AreStrips outer numbers len →
+    ((i : ℕ) → i < length (unrolled outer numbers len) → get_or (unrolled outer numbers len) i 0 < m) →
     (i : ℕ) → i < length numbers → get_or numbers i 0 < m
 strips_below outer numbers len m some s h i lt =
     let k : i / len < s.count = (div-lt_iff_lt-mul some).1 (let w = s.whole in omega arith) in
@@ -167,11 +209,14 @@ strips_below outer numbers len m some s h i lt =
     let e = parts_of i len some in
     let l = length_unrolled outer numbers len s in
     let b = h (u.0 * len + i % len) (let p = below_product u.0 (length outer) len (i % len) u.1.0 a in omega arith) in
-    let v : get_or (unrolled outer numbers len) (u.0 * len + i % len) 0 ≡ get_or numbers i 0 = unrolled_at outer numbers len s u.0 (i % len) u.1.0 a ∙ ap (λ z. get_or numbers (z * len + i % len) 0) u.1.1 ∙ ap (λ z. get_or numbers z 0) (sym e) in
+    let v : get_or (unrolled outer numbers len) (u.0 * len + i % len) 0 ≡ get_or numbers i 0 =
+    unrolled_at outer numbers len s u.0 (i % len) u.1.0 a
+    ∙ ap (λ z. get_or numbers (z * len + i % len) 0) u.1.1 ∙ ap (λ z. get_or numbers z 0) (sym e) in
     omega arith
 
 -- the values
-pub holds_values : (p : TruthTables) → p.inputs ≤ 16 → length p.tables ≤ 16 → 0 < length p.tables → (low : ℕ) (outer numbers : List ℕ) → HoldsValues p outer numbers (2 ^ low) → HoldsStrips (classes_of p 0) low outer numbers (0 ∷ 0 ∷ [])
+pub holds_values : (p : TruthTables) → p.inputs ≤ 16 → length p.tables ≤ 16 → 0 < length p.tables → (low : ℕ) (outer numbers : List ℕ) →
+    HoldsValues p outer numbers (2 ^ low) → HoldsStrips (classes_of p 0) low outer numbers (0 ∷ 0 ∷ [])
 holds_values p inputs outputs some low outer numbers h =
     let e : 2 ^ free_below 0 low ≡ 2 ^ low = ap (λ k. 2 ^ k) (free_zero low) in
     let k = subst (λ us. HoldsKeys (classes_of p 0) us (0 ∷ 0 ∷ [])) (sym h.values) (value_keys p inputs outputs some) in

@@ -24,7 +24,8 @@ word_of : (words : List ℕ) (w b : ℕ) → packed_bit words (w * 64 + b % 64) 
 word_of words w b = bit_in_word words w (b % 64) (mod-lt b (omega arith))
 
 -- runs of the same words have the same bits
-pub same_bits : (xs ys : List ℕ) (i j : ℕ) → ((a : ℕ) → a < 4 → get_or xs (i * 4 + a) 0 ≡ get_or ys (j * 4 + a) 0) → (b : ℕ) → b < 256 → packed_bit xs (i * 256 + b) ≡ packed_bit ys (j * 256 + b)
+pub same_bits : (xs ys : List ℕ) (i j : ℕ) → ((a : ℕ) → a < 4 → get_or xs (i * 4 + a) 0 ≡ get_or ys (j * 4 + a) 0) → (b : ℕ) → b < 256 →
+    packed_bit xs (i * 256 + b) ≡ packed_bit ys (j * 256 + b)
 same_bits xs ys i j h b small =
     ap (packed_bit xs) (place i) ∙ word_of xs (i * 4 + b / 64) b ∙ ap (λ w. bit_at w (b % 64) == 1) (h (b / 64) (let d = div-add-mod b 64 in omega arith))
     ∙ sym (word_of ys (j * 4 + b / 64) b) ∙ ap (packed_bit ys) (sym (place j))
@@ -46,10 +47,12 @@ run_added values outer kept run count k small same within used few told here = r
     | inr e ↦ (length outer, (let l = length_push outer k in omega arith, get_or_push outer k 0 (length outer) refl ∙ sym e))
   ];
   few = (let l = length_push outer k in omega arith);
-  told = λ i b h small_b. at i h (λ n o. packed_bit kept (n * 256 + b) ≡ get_or values (o * 256 + b) false) (λ lt. told i b lt small_b) (last b small_b ∙ here b small_b);
+  told = λ i b h small_b. at i h (λ n o. packed_bit kept (n * 256 + b) ≡ get_or values (o * 256 + b) false) (λ lt. told i b lt small_b)
+      (last b small_b ∙ here b small_b);
 }
   where
-    at : (i : ℕ) → i < length (outer ++ k ∷ []) → (P : ℕ → ℕ → Type 0) → (i < length outer → P (get_or outer i 0) i) → P k (length outer) → P (get_or (outer ++ k ∷ []) i 0) i
+    at : (i : ℕ) → i < length (outer ++ k ∷ []) → (P : ℕ → ℕ → Type 0) → (i < length outer → P (get_or outer i 0) i) → P k (length outer) →
+        P (get_or (outer ++ k ∷ []) i 0) i
     at i h P before there = elim (cases_lt i (length outer)) [
       | inl lt ↦ subst (λ n. P n i) (sym (get_or_append_left outer (k ∷ []) 0 i lt)) (before lt)
       | inr le ↦
@@ -65,13 +68,15 @@ run_added values outer kept run count k small same within used few told here = r
 
 -- a run that was kept before is named once more
 pub run_again : (values : List Bool) (outer kept run : List ℕ) (count k : ℕ) → k < count → ((a : ℕ) → a < 4 → get_or kept (k * 4 + a) 0 ≡ get_or run a 0) →
-    KeepsRuns values outer kept count → ((b : ℕ) → b < 256 → packed_bit run b ≡ get_or values (length outer * 256 + b) false) → KeepsRuns values (outer ++ k ∷ []) kept count
+    KeepsRuns values outer kept count → ((b : ℕ) → b < 256 → packed_bit run b ≡ get_or values (length outer * 256 + b) false) →
+    KeepsRuns values (outer ++ k ∷ []) kept count
 run_again values outer kept run count k small same s here =
     run_added values outer kept run count k small same s.within (λ j h. inl (s.used j h)) (let f = s.few in omega arith) s.told here
 
 -- a run is kept, and named
 pub run_first : (values : List Bool) (outer kept run : List ℕ) (count : ℕ) → length kept ≡ count * 4 → length run ≡ 4 →
-    KeepsRuns values outer kept count → ((b : ℕ) → b < 256 → packed_bit run b ≡ get_or values (length outer * 256 + b) false) → KeepsRuns values (outer ++ count ∷ []) (kept ++ run) (count + 1)
+    KeepsRuns values outer kept count → ((b : ℕ) → b < 256 → packed_bit run b ≡ get_or values (length outer * 256 + b) false) →
+    KeepsRuns values (outer ++ count ∷ []) (kept ++ run) (count + 1)
 run_first values outer kept run count whole four s here =
     run_added values outer (kept ++ run) run (count + 1) count (omega arith) own
     (λ i h. let w = s.within i h in omega arith)
@@ -84,19 +89,24 @@ run_first values outer kept run count whole four s here =
     old : (i b : ℕ) → i < length outer → b < 256 → packed_bit (kept ++ run) (get_or outer i 0 * 256 + b) ≡ get_or values (i * 256 + b) false
     old i b h small =
         let w = s.within i h in
-        same_bits (kept ++ run) kept (get_or outer i 0) (get_or outer i 0) (λ a lt. get_or_append_left kept run 0 (get_or outer i 0 * 4 + a) (omega arith)) b small
+        same_bits (kept ++ run) kept (get_or outer i 0) (get_or outer i 0)
+        (λ a lt. get_or_append_left kept run 0 (get_or outer i 0 * 4 + a) (omega arith)) b small
         ∙ s.told i b h small
 
 -- the same under other names
-pub renamed : (values : List Bool) (outer outer' kept kept' : List ℕ) (count count' : ℕ) → outer' ≡ outer → kept' ≡ kept → count' ≡ count → KeepsRuns values outer kept count → KeepsRuns values outer' kept' count'
+pub renamed : (values : List Bool) (outer outer' kept kept' : List ℕ) (count count' : ℕ) → outer' ≡ outer → kept' ≡ kept → count' ≡ count →
+    KeepsRuns values outer kept count → KeepsRuns values outer' kept' count'
 renamed values outer outer' kept kept' count count' p q r s =
-    subst (λ o. KeepsRuns values o kept' count') (sym p) (subst (λ k. KeepsRuns values outer k count') (sym q) (subst (λ n. KeepsRuns values outer kept n) (sym r) s))
+    subst (λ o. KeepsRuns values o kept' count') (sym p)
+    (subst (λ k. KeepsRuns values outer k count') (sym q) (subst (λ n. KeepsRuns values outer kept n) (sym r) s))
 
 -- a run of a function's words
 pub run_bits : (words : List ℕ) (r m b : ℕ) → m ≡ 4 → b < 256 → packed_bit (take m (drop (r * 4) words)) b ≡ packed_bit words (r * 256 + b)
 run_bits words r m b e h =
     ap (packed_bit (take m (drop (r * 4) words))) (let z : b ≡ 0 * 256 + b = omega arith in z)
-    ∙ same_bits (take m (drop (r * 4) words)) words 0 r (λ a lt. get_or-take m (drop (r * 4) words) (0 * 4 + a) 0 (omega arith) ∙ get_or-drop (r * 4) words (0 * 4 + a) 0 ∙ ap (λ j. get_or words j 0) (let z : r * 4 + (0 * 4 + a) ≡ r * 4 + a = omega arith in z)) b h
+    ∙ same_bits (take m (drop (r * 4) words)) words 0 r
+    (λ a lt. get_or-take m (drop (r * 4) words) (0 * 4 + a) 0 (omega arith) ∙ get_or-drop (r * 4) words (0 * 4 + a) 0
+    ∙ ap (λ j. get_or words j 0) (let z : r * 4 + (0 * 4 + a) ≡ r * 4 + a = omega arith in z)) b h
 
 pub keeps_none : (values : List Bool) → KeepsRuns values [] [] 0
 keeps_none values = record {
@@ -108,7 +118,8 @@ keeps_none values = record {
 
 -- ---- a function's values among all
 
-pub values_at : (p : TruthTables) (j k : ℕ) → j < length p.tables → k < 2 ^ p.inputs → get_or (values_of p) (j * 2 ^ p.inputs + k) false ≡ get_or (get_or p.tables j []) k false
+pub values_at : (p : TruthTables) (j k : ℕ) → j < length p.tables → k < 2 ^ p.inputs →
+    get_or (values_of p) (j * 2 ^ p.inputs + k) false ≡ get_or (get_or p.tables j []) k false
 unfolding values_of row
 values_at p j k small inside = each p.tables j small
   where
@@ -123,12 +134,14 @@ values_at p j k small inside = each p.tables j small
     each (t ∷ ts) zero h =
         let l = length_row p.inputs t in
         let z : 0 * n + k ≡ k = omega (arith, zero-mul n) in
-        ap (λ m. get_or (row p.inputs t ++ flat_map (row p.inputs) ts) m false) z ∙ get_or_append_left (row p.inputs t) (flat_map (row p.inputs) ts) false k (omega arith) ∙ first t
+        ap (λ m. get_or (row p.inputs t ++ flat_map (row p.inputs) ts) m false) z
+        ∙ get_or_append_left (row p.inputs t) (flat_map (row p.inputs) ts) false k (omega arith) ∙ first t
     each (t ∷ ts) (suc i) h =
         let l = length_row p.inputs t in
         let m = suc-mul i n in
         let e : suc i * n + k ≡ length (row p.inputs t) + (i * n + k) = omega arith in
-        ap (λ o. get_or (row p.inputs t ++ flat_map (row p.inputs) ts) o false) e ∙ get_or-append-add (row p.inputs t) (flat_map (row p.inputs) ts) (i * n + k) false ∙ each ts i (omega arith)
+        ap (λ o. get_or (row p.inputs t ++ flat_map (row p.inputs) ts) o false) e
+        ∙ get_or-append-add (row p.inputs t) (flat_map (row p.inputs) ts) (i * n + k) false ∙ each ts i (omega arith)
 
 pub table_bit : (n : ℕ) (words : List ℕ) (k : ℕ) → k < 2 ^ n → packed_bit words k ≡ get_or (table_in n words) k false
 unfolding table_in
@@ -143,7 +156,8 @@ words_parted n h =
 
 -- ---- strips of the kept runs
 
-pub kept_strips : (values : List Bool) (first : Bool) (outer kept numbers : List ℕ) (count : ℕ) → numbers ≡ packed_numbers first kept (length kept * 64) → length kept ≡ count * 4 →
+pub kept_strips : (values : List Bool) (first : Bool) (outer kept numbers : List ℕ) (count : ℕ) →
+    numbers ≡ packed_numbers first kept (length kept * 64) → length kept ≡ count * 4 →
     KeepsRuns values outer kept count → AreStrips outer numbers 256
 kept_strips values first outer kept numbers count e whole s = record {
   count = count;
@@ -152,9 +166,11 @@ kept_strips values first outer kept numbers count e whole s = record {
   used = s.used;
 }
 
-pub kept_values : (values : List Bool) (first : Bool) (outer kept numbers : List ℕ) (count : ℕ) → numbers ≡ packed_numbers first kept (length kept * 64) → length kept ≡ count * 4 →
+pub kept_values : (values : List Bool) (first : Bool) (outer kept numbers : List ℕ) (count : ℕ) →
+    numbers ≡ packed_numbers first kept (length kept * 64) → length kept ≡ count * 4 →
     KeepsRuns values outer kept count → length outer * 256 ≡ length values → unrolled outer numbers 256 ≡ map (number_of first) values
-kept_values values first outer kept numbers count e whole s all = same_by_places (unrolled outer numbers 256) (map (number_of first) values) (long ∙ all ∙ sym (length-map values (number_of first))) each
+kept_values values first outer kept numbers count e whole s all =
+    same_by_places (unrolled outer numbers 256) (map (number_of first) values) (long ∙ all ∙ sym (length-map values (number_of first))) each
   where
     are : AreStrips outer numbers 256
     are = kept_strips values first outer kept numbers count e whole s
@@ -172,4 +188,5 @@ kept_values values first outer kept numbers count e whole s all = same_by_places
     each : (k : ℕ) → k < length (unrolled outer numbers 256) → get_or (unrolled outer numbers 256) k 0 ≡ get_or (map (number_of first) values) k 0
     each k lt =
         let p = place_parts 256 k (omega arith) in
-        subst (λ j. get_or (unrolled outer numbers 256) j 0 ≡ get_or (map (number_of first) values) j 0) p.0 (at (k / 256) (k % 256) (let l = long in let a = p.0 in let b = p.1 in omega arith) p.1)
+        subst (λ j. get_or (unrolled outer numbers 256) j 0 ≡ get_or (map (number_of first) values) j 0) p.0
+        (at (k / 256) (k % 256) (let l = long in let a = p.0 in let b = p.1 in omega arith) p.1)

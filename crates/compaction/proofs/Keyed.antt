@@ -51,7 +51,8 @@ range_below a (suc m) k h = elim h [
 ]
 
 -- two lists that are told alike
-told_zip : {P G A B : Type 0} (F : P → A) (F' : G → A) (H : P → B) (H' : G → B) (J : P → ℕ) (D : G → ℕ) (ps : List P) (gs : List G) → map F ps ≡ map F' gs → map H ps ≡ map H' gs →
+told_zip : {P G A B : Type 0} (F : P → A) (F' : G → A) (H : P → B) (H' : G → B) (J : P → ℕ) (D : G → ℕ) (ps : List P) (gs : List G) →
+    map F ps ≡ map F' gs → map H ps ≡ map H' gs →
     ((p : P) (g : G) → Among p ps → Among g gs → F p ≡ F' g → H p ≡ H' g → J p ≡ D g) → map J ps ≡ map D gs
 told_zip F F' H H' J D [] [] e d t = refl
 told_zip F F' H H' J D [] (g ∷ gs) e d t = absurd (cc)
@@ -89,8 +90,10 @@ module _ (cs : List ℕ) (r : ℕ) (whole : (blocks : ℕ) × (length cs ≡ blo
   pair_among p h =
       let s = among_from_map (pair_at cs (2 ^ r)) p (range_with_len 0 (length cs / 2)) h in
       let b = (range_below 0 (length cs / 2) s.0 s.1).1 in
-      let w = place_within s.0 (omega arith) in
-      (subst (λ (q : ℕ × ℕ). Among q.0 cs) (sym s.2) (among_at cs (low_place (2 ^ r) s.0) 0 (omega arith)), subst (λ (q : ℕ × ℕ). Among q.1 cs) (sym s.2) (among_at cs (low_place (2 ^ r) s.0 + 2 ^ r) 0 w))
+      let w = place_within s.0 (omega arith) in (
+        subst (λ (q : ℕ × ℕ). Among q.0 cs) (sym s.2) (among_at cs (low_place (2 ^ r) s.0) 0 (omega arith)),
+        subst (λ (q : ℕ × ℕ). Among q.1 cs) (sym s.2) (among_at cs (low_place (2 ^ r) s.0 + 2 ^ r) 0 w),
+      )
 
   pub own : ℕ → ℕ
   own k = rank nat_eq cs k
@@ -144,23 +147,28 @@ module _ (n : ℕ) (F : List Function) (T : List ℕ) (x : ℕ) (small : x < n) 
       ∙ ap (λ p. not (nat_eq p.0 p.1)) (sym (class_pair_same n T x small new F g k.0 k.2))
 
   -- what the functions of the pairs depend on
-  pub pairs_depend : (keys masks : List ℕ) (r : ℕ) → ((blocks : ℕ) × (length keys ≡ blocks * (2 * 2 ^ r))) → 2 ^ r ≡ step_of T x → class_numbers n F T ≡ ranks nat_eq keys →
-      map (λ k. get_or masks k 0) keys ≡ map (dependence n) (reach F (reverse (outside n T))) → map (joined_mask masks x) (pairs keys (2 ^ r)) ≡ map (dependence n) (reach F (reverse (outside n (x ∷ T))))
+  pub pairs_depend : (keys masks : List ℕ) (r : ℕ) → ((blocks : ℕ) × (length keys ≡ blocks * (2 * 2 ^ r))) → 2 ^ r ≡ step_of T x →
+      class_numbers n F T ≡ ranks nat_eq keys →
+      map (λ k. get_or masks k 0) keys ≡ map (dependence n) (reach F (reverse (outside n T))) →
+      map (joined_mask masks x) (pairs keys (2 ^ r)) ≡ map (dependence n) (reach F (reverse (outside n (x ∷ T))))
   unfolding R own_pair both own
   pairs_depend keys masks r whole step classes told =
-      told_zip (both (λ k. get_or masks k 0)) own_pair (both (rank nat_eq keys)) (class_pair n F T x) (joined_mask masks x) (dependence n) (pairs keys (2 ^ r)) R
+      told_zip (both (λ k. get_or masks k 0)) own_pair (both (rank nat_eq keys)) (class_pair n F T x) (joined_mask masks x) (dependence n)
+      (pairs keys (2 ^ r)) R
       (sym (pairs_mapped keys r whole (λ k. get_or masks k 0)) ∙ ap₂ pairs told step ∙ pairs_told n T x small new F (dependence n))
       (sym (ranked_pairs keys r whole) ∙ ap₂ pairs (sym classes) step ∙ pairs_of_classes n T x small new F)
       (λ p g a b e d.
       ap₂ bit_or (ap₂ bit_or (ap (λ (z : ℕ × ℕ). z.0) e) (ap (λ (z : ℕ × ℕ). z.1) e))
-      (ap (λ t. cond t 0 (2 ^ x)) (same_numbers keys r whole p a ∙ ap (λ (z : ℕ × ℕ). nat_eq z.0 z.1) d) ∙ turn (nat_eq (class_pair n F T x g).0 (class_pair n F T x g).1) ∙ ap (λ t. cond t (2 ^ x) 0) (sym (depends_at g b)))
+      (ap (λ t. cond t 0 (2 ^ x)) (same_numbers keys r whole p a ∙ ap (λ (z : ℕ × ℕ). nat_eq z.0 z.1) d)
+      ∙ turn (nat_eq (class_pair n F T x g).0 (class_pair n F T x g).1) ∙ ap (λ t. cond t (2 ^ x) 0) (sym (depends_at g b)))
       ∙ sym (dependence_joined n x g small))
     where
       turn : (b : Bool) → cond b 0 (2 ^ x) ≡ cond (not b) (2 ^ x) 0
       turn true = refl
       turn false = refl
 
-  pub more_classes : (keys : List ℕ) (r : ℕ) → ((blocks : ℕ) × (length keys ≡ blocks * (2 * 2 ^ r))) → 2 ^ r ≡ step_of T x → class_numbers n F T ≡ ranks nat_eq keys →
+  pub more_classes : (keys : List ℕ) (r : ℕ) → ((blocks : ℕ) × (length keys ≡ blocks * (2 * 2 ^ r))) → 2 ^ r ≡ step_of T x →
+      class_numbers n F T ≡ ranks nat_eq keys →
       class_numbers n F (x ∷ T) ≡ ranks same_pair (pairs keys (2 ^ r))
   more_classes keys r whole step classes =
       compacted n T x small new F ∙ ap (ranks same_pair) (ap₂ pairs classes (sym step)) ∙ pairs_ranked keys r whole
@@ -183,12 +191,14 @@ keys_of_classes t numbers masks h = record {
     es : List (List Bool)
     es = entries t.problem.inputs (functions_of t) (set_of t)
 
-pub outside_same : (n : ℕ) (F : List Function) (S T : List ℕ) → ((y : ℕ) → has S y ≡ has T y) → map (dependence n) (reach F (reverse (outside n S))) ≡ map (dependence n) (reach F (reverse (outside n T)))
+pub outside_same : (n : ℕ) (F : List Function) (S T : List ℕ) → ((y : ℕ) → has S y ≡ has T y) →
+    map (dependence n) (reach F (reverse (outside n S))) ≡ map (dependence n) (reach F (reverse (outside n T)))
 unfolding outside
 outside_same n F S T h = λ i. map (dependence n) (reach F (reverse (filter (λ y. not (h y i)) (variables n))))
 
 -- what the numbering of the pairs asks for
-pub keys_ready : (t : ClassesOf) (x : ℕ) → x < t.problem.inputs → has (set_of t) x ≡ false → (keys masks : List ℕ) (r : ℕ) → HoldsKeys t keys masks → r ≡ free_below t.set x → IsReady keys masks r
+pub keys_ready : (t : ClassesOf) (x : ℕ) → x < t.problem.inputs → has (set_of t) x ≡ false → (keys masks : List ℕ) (r : ℕ) →
+    HoldsKeys t keys masks → r ≡ free_below t.set x → IsReady keys masks r
 unfolding ranks
 keys_ready t x inside new keys masks r h e = record {
   rank = (let a = rank_small t x inside new in let n = h.few_inputs in omega arith);
@@ -203,7 +213,9 @@ keys_ready t x inside new keys masks r h e = record {
 }
 
 -- the keys of the values, with masks of both
-pub start_keys : (p : TruthTables) (numbers exact masks : List ℕ) → HoldsClasses (classes_of p 0) numbers exact → length exact ≤ length masks → length masks ≤ 2 ^ 20 → ((c : ℕ) → get_or exact c 0 ≡ get_or masks c 0) → HoldsKeys (classes_of p 0) numbers masks
+pub start_keys : (p : TruthTables) (numbers exact masks : List ℕ) → HoldsClasses (classes_of p 0) numbers exact →
+    length exact ≤ length masks → length masks ≤ 2 ^ 20 → ((c : ℕ) → get_or exact c 0 ≡ get_or masks c 0) →
+    HoldsKeys (classes_of p 0) numbers masks
 start_keys p numbers exact masks h long few same =
     let k = keys_of_classes (classes_of p 0) numbers exact h in
     record {
@@ -217,16 +229,19 @@ start_keys p numbers exact masks h long few same =
 
 pub free_zero : (x : ℕ) → free_below 0 x ≡ x
 free_zero zero = free_none 0
-free_zero (suc x) = ap (free_below 0) (let s : suc x ≡ x + 1 = omega arith in s) ∙ free_more 0 x (shr_and_one 0 x ∙ bit_at-zero x) ∙ (let r = free_zero x in omega arith)
+free_zero (suc x) = ap (free_below 0) (let s : suc x ≡ x + 1 = omega arith in s) ∙ free_more 0 x (shr_and_one 0 x ∙ bit_at-zero x)
+    ∙ (let r = free_zero x in omega arith)
 
 few_zeros : Bool → List ℕ
 few_zeros b = cond b (0 ∷ 0 ∷ []) (0 ∷ [])
 
-pub value_keys : (p : TruthTables) → p.inputs ≤ 16 → length p.tables ≤ 16 → 0 < length p.tables → HoldsKeys (classes_of p 0) (map (number_of (value_at p 0 0)) (values_of p)) (0 ∷ 0 ∷ [])
+pub value_keys : (p : TruthTables) → p.inputs ≤ 16 → length p.tables ≤ 16 → 0 < length p.tables →
+    HoldsKeys (classes_of p 0) (map (number_of (value_at p 0 0)) (values_of p)) (0 ∷ 0 ∷ [])
 unfolding few_zeros
 value_keys p inputs outputs some =
     start_keys p (map (number_of (value_at p 0 0)) (values_of p)) exact (0 ∷ 0 ∷ [])
-    (holds_start p (map (number_of (value_at p 0 0)) (values_of p)) exact inputs outputs some refl (zeros both_occur) (long both_occur)) (short both_occur) (omega arith) (λ c. zeros both_occur c ∙ sym (zeros true c))
+    (holds_start p (map (number_of (value_at p 0 0)) (values_of p)) exact inputs outputs some refl (zeros both_occur) (long both_occur))
+    (short both_occur) (omega arith) (λ c. zeros both_occur c ∙ sym (zeros true c))
   where
     both_occur : Bool
     both_occur = list_any (λ k. nat_eq k 1) (map (number_of (value_at p 0 0)) (values_of p))
@@ -252,7 +267,8 @@ value_keys p inputs outputs some =
 -- ---- names of pairs
 
 -- the keys with one more variable
-pub keys_by_names : (t : ClassesOf) (x : ℕ) → x < t.problem.inputs → has (set_of t) x ≡ false → (keys masks : List ℕ) → HoldsKeys t keys masks → ((blocks : ℕ) × (length keys ≡ blocks * (2 * 2 ^ free_below t.set x))) →
+pub keys_by_names : (t : ClassesOf) (x : ℕ) → x < t.problem.inputs → has (set_of t) x ≡ false → (keys masks : List ℕ) →
+    HoldsKeys t keys masks → ((blocks : ℕ) × (length keys ≡ blocks * (2 * 2 ^ free_below t.set x))) →
     (numbers joined : List ℕ) → TellsPairs masks x (pairs keys (2 ^ free_below t.set x)) numbers joined → HoldsKeys (with_variable t x) numbers joined
 keys_by_names t x inside new keys masks h whole numbers joined names =
     let n = t.problem.inputs in
@@ -265,7 +281,10 @@ keys_by_names t x inside new keys masks h whole numbers joined names =
       few = (let l = length_names masks x ps numbers joined names in let m = length-pairs keys (2 ^ free_below t.set x) in let f = h.few in omega arith);
       few_masks = names.few;
       below = names_below masks x ps numbers joined names;
-      classes = sym (class_numbers_same n F (x ∷ T) (set_of (with_variable t x)) (members_more t x inside new)) ∙ more_classes n F T x inside new keys (free_below t.set x) whole s h.classes
+      classes = sym (class_numbers_same n F (x ∷ T) (set_of (with_variable t x)) (members_more t x inside new))
+          ∙ more_classes n F T x inside new keys (free_below t.set x) whole s h.classes
           ∙ sym (names_ranked masks x ps numbers joined names);
-      told = names_masks masks x ps numbers joined names ∙ pairs_depend n F T x inside new keys masks (free_below t.set x) whole s h.classes h.told ∙ outside_same n F (x ∷ T) (set_of (with_variable t x)) (members_more t x inside new);
+      told = names_masks masks x ps numbers joined names
+          ∙ pairs_depend n F T x inside new keys masks (free_below t.set x) whole s h.classes h.told
+          ∙ outside_same n F (x ∷ T) (set_of (with_variable t x)) (members_more t x inside new);
     }

@@ -10,14 +10,16 @@ use Rattle.compaction.proofs.Expanded.{whole_are, whole_values}
 use Rattle.class_laws.proofs.Index.{length-pairs}
 use Rattle.pair_numbering.proofs.Names.{length_names}
 
-module _ (outer numbers : List ℕ) (len s : ℕ) (strips : AreStrips outer numbers len) (some : 0 < len) (own : (i : ℕ) → i < length outer → get_or outer i 0 ≡ i) (whole : (blocks : ℕ) × (length outer ≡ blocks * (2 * s))) where
+module _ (outer numbers : List ℕ) (len s : ℕ) (strips : AreStrips outer numbers len) (some : 0 < len)
+    (own : (i : ℕ) → i < length outer → get_or outer i 0 ≡ i) (whole : (blocks : ℕ) × (length outer ≡ blocks * (2 * s))) where
   numbers_long : length numbers ≡ length outer * len
   numbers_long = strips.whole ∙ ap (λ k. k * len) (own_count outer numbers len strips own)
 
   pub ordered_whole : (blocks : ℕ) × (length numbers ≡ blocks * (2 * (len * s)))
   ordered_whole = (whole.0, numbers_long ∙ ap (λ k. k * len) whole.1 ∙ grind arith)
 
-  module _ (masks : List ℕ) (x : ℕ) (told joined : List ℕ) (names : TellsPairs masks x (pairs numbers (len * s)) told joined) (outer' : List ℕ) (long : length outer' ≡ length outer / 2)
+  module _ (masks : List ℕ) (x : ℕ) (told joined : List ℕ) (names : TellsPairs masks x (pairs numbers (len * s)) told joined)
+      (outer' : List ℕ) (long : length outer' ≡ length outer / 2)
       (own' : (i : ℕ) → i < length outer / 2 → get_or outer' i 0 ≡ i) where
     told_long : length told ≡ length outer' * len
     told_long =

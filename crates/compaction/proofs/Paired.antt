@@ -25,15 +25,23 @@ pub name_low : (pairs : List (ℕ × ℕ)) (k : ℕ) → k < length pairs → ge
 unfolding names_of
 name_low [] k l = absurd (omega arith)
 name_low (p ∷ ps) zero l = refl
-name_low (p ∷ ps) (suc k) l = ap (λ z. get_or (p.0 ∷ p.1 ∷ flat_map (λ (q : ℕ × ℕ). q.0 ∷ q.1 ∷ []) ps) z 0) (let e : suc k * 2 ≡ suc (suc (k * 2)) = omega arith in e) ∙ name_low ps k (omega arith)
+name_low (p ∷ ps) (suc k) l =
+    ap (λ z. get_or (p.0 ∷ p.1 ∷ flat_map (λ (q : ℕ × ℕ). q.0 ∷ q.1 ∷ []) ps) z 0)
+    (let e : suc k * 2 ≡ suc (suc (k * 2)) = omega arith in e)
+    ∙ name_low ps k (omega arith)
 
 pub name_high : (pairs : List (ℕ × ℕ)) (k : ℕ) → k < length pairs → get_or (names_of pairs) (k * 2 + 1) 0 ≡ (get_or pairs k (0, 0)).1
 unfolding names_of
 name_high [] k l = absurd (omega arith)
 name_high (p ∷ ps) zero l = refl
-name_high (p ∷ ps) (suc k) l = ap (λ z. get_or (p.0 ∷ p.1 ∷ flat_map (λ (q : ℕ × ℕ). q.0 ∷ q.1 ∷ []) ps) z 0) (let e : suc k * 2 + 1 ≡ suc (suc (k * 2 + 1)) = omega arith in e) ∙ name_high ps k (omega arith)
+name_high (p ∷ ps) (suc k) l =
+    ap (λ z. get_or (p.0 ∷ p.1 ∷ flat_map (λ (q : ℕ × ℕ). q.0 ∷ q.1 ∷ []) ps) z 0)
+    (let e : suc k * 2 + 1 ≡ suc (suc (k * 2 + 1)) = omega arith in e)
+    ∙ name_high ps k (omega arith)
 
-pub names_of_below : (count : ℕ) (pairs : List (ℕ × ℕ)) → ((k : ℕ) → k < length pairs → ((get_or pairs k (0, 0)).0 < count) × ((get_or pairs k (0, 0)).1 < count)) → (i : ℕ) → i < length (names_of pairs) → get_or (names_of pairs) i 0 < count
+pub names_of_below : (count : ℕ) (pairs : List (ℕ × ℕ)) →
+    ((k : ℕ) → k < length pairs → ((get_or pairs k (0, 0)).0 < count) × ((get_or pairs k (0, 0)).1 < count)) → (i : ℕ) →
+    i < length (names_of pairs) → get_or (names_of pairs) i 0 < count
 unfolding names_of
 names_of_below count [] h i l = absurd (omega arith)
 names_of_below count (p ∷ ps) h zero l = (h 0 (omega arith)).0
@@ -45,18 +53,31 @@ unfolding names_of
 names_more [] p = refl
 names_more (q ∷ qs) p = ap (λ us. q.0 ∷ q.1 ∷ us) (names_more qs p)
 
-module _ (outer numbers : List ℕ) (len r : ℕ) (strips : AreStrips outer numbers len) (whole : (blocks : ℕ) × (length outer ≡ blocks * (2 * 2 ^ r))) (numbered : List ℕ) (pairs : List (ℕ × ℕ))
+module _ (outer numbers : List ℕ) (len r : ℕ) (strips : AreStrips outer numbers len)
+    (whole : (blocks : ℕ) × (length outer ≡ blocks * (2 * 2 ^ r))) (numbered : List ℕ) (pairs : List (ℕ × ℕ))
     (h : ArePairsNumbered outer r numbered pairs) where
   pub paired_named : AreNamed (names_of pairs) numbers len
-  paired_named = record { count = strips.count; whole = strips.whole; within = names_of_below strips.count pairs (met_classes outer r strips.count whole strips.within numbered pairs h.numbered_are h.many h.told) }
+  paired_named =
+      record {
+        count =
+            strips.count;
+        whole =
+            strips.whole;
+        within =
+            names_of_below strips.count pairs
+            (met_classes outer r strips.count whole strips.within numbered pairs h.numbered_are h.many h.told);
+      }
 
   module _ (paired : List ℕ) (are : paired ≡ unrolled (names_of pairs) numbers len) where
     pub paired_long : length paired ≡ distinct_count same_pair (places.pairs outer (2 ^ r)) * (2 * len)
     paired_long =
         ap length are ∙ length_named (names_of pairs) numbers len paired_named ∙ ap (λ k. k * len) (length_names_of pairs ∙ ap (λ k. k * 2) h.many)
-        ∙ (let e : distinct_count same_pair (places.pairs outer (2 ^ r)) * 2 * len ≡ distinct_count same_pair (places.pairs outer (2 ^ r)) * (2 * len) = grind arith in e)
+        ∙ (let e : distinct_count same_pair (places.pairs outer (2 ^ r)) * 2 * len ≡ distinct_count same_pair (places.pairs outer (2 ^ r)) *
+        (2 * len) =
+        grind arith in e)
 
-    pub paired_lower : (j a : ℕ) → j < length outer / 2 → a < len → get_or paired (get_or numbered j 0 * (2 * len) + a) 0 ≡ get_or numbers (lower_at outer (2 ^ r) j * len + a) 0
+    pub paired_lower : (j a : ℕ) → j < length outer / 2 → a < len →
+        get_or paired (get_or numbered j 0 * (2 * len) + a) 0 ≡ get_or numbers (lower_at outer (2 ^ r) j * len + a) 0
     paired_lower j a l i =
         let s = length-pairs outer (2 ^ r) in
         let n = length_names_of pairs in
@@ -68,7 +89,8 @@ module _ (outer numbers : List ℕ) (len r : ℕ) (strips : AreStrips outer numb
         ∙ named_at (names_of pairs) numbers len paired_named (k * 2) a (omega arith) i
         ∙ ap (λ z. get_or numbers (z * len + a) 0) (name_low pairs k b ∙ ap (λ (q : ℕ × ℕ). q.0) p)
 
-    pub paired_upper : (j a : ℕ) → j < length outer / 2 → a < len → get_or paired (get_or numbered j 0 * (2 * len) + len + a) 0 ≡ get_or numbers (upper_at outer (2 ^ r) j * len + a) 0
+    pub paired_upper : (j a : ℕ) → j < length outer / 2 → a < len →
+        get_or paired (get_or numbered j 0 * (2 * len) + len + a) 0 ≡ get_or numbers (upper_at outer (2 ^ r) j * len + a) 0
     paired_upper j a l i =
         let s = length-pairs outer (2 ^ r) in
         let n = length_names_of pairs in
@@ -89,5 +111,7 @@ module _ (outer numbers : List ℕ) (len r : ℕ) (strips : AreStrips outer numb
         let m = paired_long in
         let z : whole.0 * (2 * 2 ^ r) ≡ 2 * (whole.0 * 2 ^ r) = grind arith in
         let p = mul-le-mul_right len (let q : 2 * distinct_count same_pair (places.pairs outer (2 ^ r)) ≤ length outer = omega arith in q) in
-        let e : 2 * distinct_count same_pair (places.pairs outer (2 ^ r)) * len ≡ distinct_count same_pair (places.pairs outer (2 ^ r)) * (2 * len) = grind arith in
+        let e : 2 * distinct_count same_pair (places.pairs outer (2 ^ r)) * len ≡ distinct_count same_pair (places.pairs outer (2 ^ r)) *
+        (2 * len) =
+        grind arith in
         omega arith

@@ -63,10 +63,14 @@ half c b = (let z : c * (2 * b) ≡ c * b + c * b = grind arith in omega arith)
 
 -- ---- a variable above the strips
 
-module _ (outer numbers : List ℕ) (len s : ℕ) (strips : AreStrips outer numbers len) (some : 0 < len) (some_s : 0 < s) (whole : (blocks : ℕ) × (length outer ≡ blocks * (2 * s)))
-    (numbered paired : List ℕ) (ranked : numbered ≡ ranks same_pair (pairs outer s)) (long : length paired ≡ distinct_count same_pair (pairs outer s) * (2 * len))
-    (lower : (j a : ℕ) → j < length outer / 2 → a < len → get_or paired (get_or numbered j 0 * (2 * len) + a) 0 ≡ get_or numbers (lower_at outer s j * len + a) 0)
-    (upper : (j a : ℕ) → j < length outer / 2 → a < len → get_or paired (get_or numbered j 0 * (2 * len) + len + a) 0 ≡ get_or numbers (upper_at outer s j * len + a) 0)
+module _ (outer numbers : List ℕ) (len s : ℕ) (strips : AreStrips outer numbers len) (some : 0 < len) (some_s : 0 < s)
+    (whole : (blocks : ℕ) × (length outer ≡ blocks * (2 * s)))
+    (numbered paired : List ℕ) (ranked : numbered ≡ ranks same_pair (pairs outer s))
+    (long : length paired ≡ distinct_count same_pair (pairs outer s) * (2 * len))
+    (lower : (j a : ℕ) → j < length outer / 2 → a < len →
+    get_or paired (get_or numbered j 0 * (2 * len) + a) 0 ≡ get_or numbers (lower_at outer s j * len + a) 0)
+    (upper : (j a : ℕ) → j < length outer / 2 → a < len →
+    get_or paired (get_or numbered j 0 * (2 * len) + len + a) 0 ≡ get_or numbers (upper_at outer s j * len + a) 0)
     (masks : List ℕ) (x : ℕ) (told joined : List ℕ) (names : TellsPairs masks x (pairs paired len) told joined) where
   ps : List (ℕ × ℕ)
   ps = pairs outer s
@@ -75,7 +79,8 @@ module _ (outer numbers : List ℕ) (len s : ℕ) (strips : AreStrips outer numb
   many_numbered = length-ranks (pairs outer s) numbered ranked ∙ length-pairs outer s
 
   many_told : length told ≡ distinct_count same_pair (pairs outer s) * len
-  many_told = length_names masks x (pairs paired len) told joined names ∙ length-pairs paired len ∙ ap (λ k. k / 2) long ∙ half (distinct_count same_pair (pairs outer s)) len
+  many_told = length_names masks x (pairs paired len) told joined names ∙ length-pairs paired len ∙ ap (λ k. k / 2) long
+      ∙ half (distinct_count same_pair (pairs outer s)) len
 
   numbered_small : (i : ℕ) → i < length numbered → get_or numbered i 0 < distinct_count same_pair (pairs outer s)
   numbered_small i h =
@@ -106,7 +111,9 @@ module _ (outer numbers : List ℕ) (len s : ℕ) (strips : AreStrips outer numb
   even = (let w = whole.1 in let z : whole.0 * (2 * s) ≡ 2 * (whole.0 * s) = grind arith in omega arith)
 
   -- the place of a run's entry among the pairs of the longer table, and the place of its name
-  entry_pair : (i a : ℕ) → i < length outer / 2 → a < len → pair_at (unrolled outer numbers len) (len * s) (i * len + a) ≡ (get_or numbers (lower_at outer s i * len + a) 0, get_or numbers (upper_at outer s i * len + a) 0)
+  entry_pair : (i a : ℕ) → i < length outer / 2 → a < len →
+      pair_at (unrolled outer numbers len) (len * s) (i * len + a) ≡
+      (get_or numbers (lower_at outer s i * len + a) 0, get_or numbers (upper_at outer s i * len + a) 0)
   entry_pair i a h k =
       let w = pair_within s whole.0 (length outer) i some_s whole.1 h in
       let p = high_place len s i a some_s k in
@@ -122,7 +129,9 @@ module _ (outer numbers : List ℕ) (len s : ℕ) (strips : AreStrips outer numb
       let l = ap (λ z. z / 2) long ∙ half (distinct_count same_pair (pairs outer s)) len in
       omega arith
 
-  name_pair : (i a : ℕ) → i < length outer / 2 → a < len → get_or (pairs paired len) (get_or numbered i 0 * len + a) (0, 0) ≡ (get_or numbers (lower_at outer s i * len + a) 0, get_or numbers (upper_at outer s i * len + a) 0)
+  name_pair : (i a : ℕ) → i < length outer / 2 → a < len →
+      get_or (pairs paired len) (get_or numbered i 0 * len + a) (0, 0) ≡
+      (get_or numbers (lower_at outer s i * len + a) 0, get_or numbers (upper_at outer s i * len + a) 0)
   name_pair i a h k =
       let p = low_place_parts len (get_or numbered i 0) a k in
       let l = ap (λ z. get_or paired z 0) p ∙ lower i a h k in
@@ -139,14 +148,18 @@ module _ (outer numbers : List ℕ) (len s : ℕ) (strips : AreStrips outer numb
       omega arith)
 
   -- the pair of a place
-  place_pair : (j : ℕ) → j < length (pairs (unrolled outer numbers len) (len * s)) → (get_or (pairs paired len) (get_or numbered (j / len) 0 * len + j % len) (0, 0) ≡ get_or (pairs (unrolled outer numbers len) (len * s)) j (0, 0))
+  place_pair : (j : ℕ) → j < length (pairs (unrolled outer numbers len) (len * s)) →
+      (get_or (pairs paired len) (get_or numbered (j / len) 0 * len + j % len) (0, 0) ≡ get_or
+      (pairs (unrolled outer numbers len) (len * s)) j (0, 0))
   place_pair j h =
       let l = long_pairs in
       let i : j / len < length outer / 2 = (div-lt_iff_lt-mul some).1 (omega arith) in
       let a = mod-lt j some in
       let e = parts_of j len some in
       let m = length-pairs (unrolled outer numbers len) (len * s) in
-      name_pair (j / len) (j % len) i a ∙ sym (entry_pair (j / len) (j % len) i a) ∙ ap (pair_at (unrolled outer numbers len) (len * s)) (sym e) ∙ sym (pair_listed (unrolled outer numbers len) (len * s) j (omega arith))
+      name_pair (j / len) (j % len) i a ∙ sym (entry_pair (j / len) (j % len) i a)
+      ∙ ap (pair_at (unrolled outer numbers len) (len * s)) (sym e)
+      ∙ sym (pair_listed (unrolled outer numbers len) (len * s) j (omega arith))
 
   pub high_tells : TellsPairs masks x (pairs (unrolled outer numbers len) (len * s)) (unrolled numbered told len) joined
   high_tells =
@@ -164,7 +177,8 @@ module _ (outer numbers : List ℕ) (len s : ℕ) (strips : AreStrips outer numb
       same : unrolled numbered told len ≡ map names.name (pairs (unrolled outer numbers len) (len * s))
       same =
           same_by_places (unrolled numbered told len) (map names.name (pairs (unrolled outer numbers len) (len * s)))
-          (length_unrolled numbered told len high_strips ∙ ap (λ z. z * len) many_numbered ∙ sym long_pairs ∙ sym (length-map (pairs (unrolled outer numbers len) (len * s)) names.name)) (λ j h.
+          (length_unrolled numbered told len high_strips ∙ ap (λ z. z * len) many_numbered ∙ sym long_pairs
+          ∙ sym (length-map (pairs (unrolled outer numbers len) (len * s)) names.name)) (λ j h.
           let u = length_unrolled numbered told len high_strips in
           let m = many_numbered in
           let v = ap (λ z. z * len) many_numbered in
@@ -175,13 +189,16 @@ module _ (outer numbers : List ℕ) (len s : ℕ) (strips : AreStrips outer numb
           let n = name_place (j / len) (j % len) i a in
           let k = length-pairs paired len in
           ap (λ z. get_or (unrolled numbered told len) z 0) e ∙ unrolled_at numbered told len high_strips (j / len) (j % len) (omega arith) a
-          ∙ ap (λ us. get_or us (get_or numbered (j / len) 0 * len + j % len) 0) names.numbers_are ∙ get_or-map names.name (pairs paired len) (get_or numbered (j / len) 0 * len + j % len) (0, 0) 0 (omega arith)
+          ∙ ap (λ us. get_or us (get_or numbered (j / len) 0 * len + j % len) 0) names.numbers_are
+          ∙ get_or-map names.name (pairs paired len) (get_or numbered (j / len) 0 * len + j % len) (0, 0) 0 (omega arith)
           ∙ ap names.name (place_pair j (omega arith)) ∙ sym (get_or-map names.name (pairs (unrolled outer numbers len) (len * s)) j (0, 0) 0 (omega arith)))
 
 -- ---- what named strips hold
 
 -- entries of strips that are named are entries of the table
-pub unrolled_below : (names numbers : List ℕ) (len m : ℕ) → 0 < len → AreNamed names numbers len → ((i : ℕ) → i < length numbers → get_or numbers i 0 < m) → (i : ℕ) → i < length (unrolled names numbers len) → get_or (unrolled names numbers len) i 0 < m
+pub unrolled_below : (names numbers : List ℕ) (len m : ℕ) → 0 < len → AreNamed names numbers len →
+    ((i : ℕ) → i < length numbers → get_or numbers i 0 < m) → (i : ℕ) → i < length (unrolled names numbers len) →
+    get_or (unrolled names numbers len) i 0 < m
 unrolled_below names numbers len m some s below i h =
     let l = length_named names numbers len s in
     let q : i / len < length names = (div-lt_iff_lt-mul some).1 (omega arith) in
@@ -200,7 +217,8 @@ module _ (outer numbers : List ℕ) (c s : ℕ) (strips : AreNamed outer numbers
   whole_numbers = strips.whole ∙ grind arith
 
   pub low_whole : length told ≡ strips.count * (c * s)
-  low_whole = length_names masks x (pairs numbers s) told joined names ∙ length-pairs numbers s ∙ ap (λ k. k / 2) whole_numbers ∙ half (strips.count * c) s ∙ grind arith
+  low_whole = length_names masks x (pairs numbers s) told joined names ∙ length-pairs numbers s ∙ ap (λ k. k / 2) whole_numbers
+      ∙ half (strips.count * c) s ∙ grind arith
 
   pub low_named : AreNamed outer told (c * s)
   low_named = record {
@@ -217,14 +235,19 @@ module _ (outer numbers : List ℕ) (c s : ℕ) (strips : AreNamed outer numbers
       length-pairs (unrolled outer numbers (c * (2 * s))) s ∙ ap (λ k. k / 2) (length_named outer numbers (c * (2 * s)) strips)
       ∙ (let z : length outer * (c * (2 * s)) ≡ length outer * (c * s) + length outer * (c * s) = grind arith in omega arith)
 
-  inner_pair : (i b : ℕ) → i < length outer → b < c * s → pair_at (unrolled outer numbers (c * (2 * s))) s (i * (c * s) + b) ≡ pair_at numbers s (get_or outer i 0 * (c * s) + b)
+  inner_pair : (i b : ℕ) → i < length outer → b < c * s →
+      pair_at (unrolled outer numbers (c * (2 * s))) s (i * (c * s) + b) ≡ pair_at numbers s (get_or outer i 0 * (c * s) + b)
   inner_pair i b h k =
       let w = pair_within s c (c * (2 * s)) b some_s refl (let z = half c s in omega arith) in
       let p = inner_place c s i b some_s in
       let q = inner_place c s (get_or outer i 0) b some_s in
-      let l = ap (λ z. get_or (unrolled outer numbers (c * (2 * s))) z 0) p ∙ named_at outer numbers (c * (2 * s)) strips i (low_place s b) h (omega arith) ∙ ap (λ z. get_or numbers z 0) (sym q) in
-      let u = ap (λ z. get_or (unrolled outer numbers (c * (2 * s))) z 0) (ap (λ z. z + s) p ∙ omega arith) ∙ named_at outer numbers (c * (2 * s)) strips i (low_place s b + s) h w
-      ∙ ap (λ z. get_or numbers z 0) (let e : get_or outer i 0 * (c * (2 * s)) + (low_place s b + s) ≡ low_place s (get_or outer i 0 * (c * s) + b) + s = omega arith in e) in
+      let l = ap (λ z. get_or (unrolled outer numbers (c * (2 * s))) z 0) p
+      ∙ named_at outer numbers (c * (2 * s)) strips i (low_place s b) h (omega arith) ∙ ap (λ z. get_or numbers z 0) (sym q) in
+      let u = ap (λ z. get_or (unrolled outer numbers (c * (2 * s))) z 0) (ap (λ z. z + s) p ∙ omega arith)
+      ∙ named_at outer numbers (c * (2 * s)) strips i (low_place s b + s) h w
+      ∙ ap (λ z. get_or numbers z 0)
+      (let e : get_or outer i 0 * (c * (2 * s)) + (low_place s b + s) ≡ low_place s (get_or outer i 0 * (c * s) + b) + s =
+      omega arith in e) in
       λ z. (l z, u z)
 
   inner_small : (i b : ℕ) → i < length outer → b < c * s → get_or outer i 0 * (c * s) + b < length numbers / 2
@@ -242,7 +265,8 @@ module _ (outer numbers : List ℕ) (c s : ℕ) (strips : AreNamed outer numbers
       let a = mod-lt j some_strip in
       let e = parts_of j (c * s) some_strip in
       let m = length-pairs (unrolled outer numbers (c * (2 * s))) s in
-      pair_listed numbers s (get_or outer (j / (c * s)) 0 * (c * s) + j % (c * s)) (inner_small (j / (c * s)) (j % (c * s)) i a) ∙ sym (inner_pair (j / (c * s)) (j % (c * s)) i a)
+      pair_listed numbers s (get_or outer (j / (c * s)) 0 * (c * s) + j % (c * s)) (inner_small (j / (c * s)) (j % (c * s)) i a)
+      ∙ sym (inner_pair (j / (c * s)) (j % (c * s)) i a)
       ∙ ap (pair_at (unrolled outer numbers (c * (2 * s))) s) (sym e) ∙ sym (pair_listed (unrolled outer numbers (c * (2 * s))) s j (omega arith))
 
   pub low_tells : TellsPairs masks x (pairs (unrolled outer numbers (c * (2 * s))) s) (unrolled outer told (c * s)) joined
@@ -271,7 +295,8 @@ module _ (outer numbers : List ℕ) (c s : ℕ) (strips : AreNamed outer numbers
           ∙ get_or-map names.name (pairs numbers s) (get_or outer (j / (c * s)) 0 * (c * s) + j % (c * s)) (0, 0) 0 (omega arith)
           ∙ ap names.name (place_pair' j (omega arith)) ∙ sym (get_or-map names.name (pairs (unrolled outer numbers (c * (2 * s))) s) j (0, 0) 0 (omega arith)))
 
-pub low_strips : (outer numbers : List ℕ) (c s : ℕ) → AreStrips outer numbers (c * (2 * s)) → 0 < c → 0 < s → (masks : List ℕ) (x : ℕ) (told joined : List ℕ) → TellsPairs masks x (pairs numbers s) told joined → AreStrips outer told (c * s)
+pub low_strips : (outer numbers : List ℕ) (c s : ℕ) → AreStrips outer numbers (c * (2 * s)) → 0 < c → 0 < s →
+    (masks : List ℕ) (x : ℕ) (told joined : List ℕ) → TellsPairs masks x (pairs numbers s) told joined → AreStrips outer told (c * s)
 low_strips outer numbers c s strips some some_s masks x told joined names =
     let w = low_whole outer numbers c s (named_of outer numbers (c * (2 * s)) strips) some some_s masks x told joined names in
     record { count = strips.count; whole = w; within = strips.within; used = strips.used }

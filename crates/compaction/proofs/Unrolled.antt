@@ -81,7 +81,8 @@ unrolled_at outer numbers len s = named_at outer numbers len (named_of outer num
 
 pub unrolled_more : (outer numbers : List ℕ) (len k : ℕ) → unrolled (outer ++ k ∷ []) numbers len ≡ unrolled outer numbers len ++ strip numbers len k
 unfolding unrolled
-unrolled_more outer numbers len k = flat_map-append (strip numbers len) outer (k ∷ []) ∙ ap (λ us. flat_map (strip numbers len) outer ++ us) (append-nil (strip numbers len k))
+unrolled_more outer numbers len k = flat_map-append (strip numbers len) outer (k ∷ [])
+    ∙ ap (λ us. flat_map (strip numbers len) outer ++ us) (append-nil (strip numbers len k))
 
 pub unrolled_none : (numbers : List ℕ) (len : ℕ) → unrolled [] numbers len ≡ []
 unfolding unrolled

@@ -42,10 +42,12 @@ use mathlib.Core.List.{map-map}
 use Rattle.order_model.proofs.Lists.Ranges.{range_append, filter_at_most}
 
 -- one more mask, where the number occurs or not
-pub in_use_more : {X : Type 0} (f : ℕ → X) (p : ℕ → Bool) (k : ℕ) → map f (filter p (range_with_len 0 (k + 1))) ≡ map f (filter p (range_with_len 0 k)) ++ cond (p k) (f k ∷ []) []
+pub in_use_more : {X : Type 0} (f : ℕ → X) (p : ℕ → Bool) (k : ℕ) →
+    map f (filter p (range_with_len 0 (k + 1))) ≡ map f (filter p (range_with_len 0 k)) ++ cond (p k) (f k ∷ []) []
 in_use_more f p k =
     ap (λ us. map f (filter p us)) (range_append 0 k 1 ∙ ap (λ z. range_with_len 0 k ++ z ∷ []) (let e : 0 + k ≡ k = omega arith in e))
-    ∙ ap (map f) (filter-append p (range_with_len 0 k) (k ∷ [])) ∙ map-append f (filter p (range_with_len 0 k)) (filter p (k ∷ [])) ∙ ap (λ us. map f (filter p (range_with_len 0 k)) ++ us) (by (p k))
+    ∙ ap (map f) (filter-append p (range_with_len 0 k) (k ∷ [])) ∙ map-append f (filter p (range_with_len 0 k)) (filter p (k ∷ []))
+    ∙ ap (λ us. map f (filter p (range_with_len 0 k)) ++ us) (by (p k))
   where
     by : (b : Bool) → map f (cond b (k ∷ []) []) ≡ cond b (f k ∷ []) []
     by true = refl
@@ -56,16 +58,19 @@ in_use_same p q m h = filter_range_same p q 0 m (λ k l u. h k (omega arith))
 
 -- ---- widths
 
-module _ (n : ℕ) (F : List Function) (S keys masks : List ℕ) (below : (i : ℕ) → i < length keys → get_or keys i 0 < length masks) (classes : class_numbers n F S ≡ ranks nat_eq keys)
+module _ (n : ℕ) (F : List Function) (S keys masks : List ℕ) (below : (i : ℕ) → i < length keys → get_or keys i 0 < length masks)
+    (classes : class_numbers n F S ≡ ranks nat_eq keys)
     (told : map (λ k. get_or masks k 0) keys ≡ map (dependence n) (reach F (reverse (outside n S)))) where
   -- as many keys as classes
   pub many_keys : distinct_count nat_eq keys ≡ distinct_count same_table (entries n F S)
   unfolding class_numbers class_of ranks rank
   many_keys =
       ap (distinct_count nat_eq) (sym (map-id keys))
-      ∙ sym (count_alike nat_eq nat_decides nat_eq nat_decides (rank nat_eq keys) (λ k. k) keys (λ k l a b. (rank_apart nat_eq nat_decides keys k l a b, ap (rank nat_eq keys))))
+      ∙ sym (count_alike nat_eq nat_decides nat_eq nat_decides (rank nat_eq keys) (λ k. k) keys
+      (λ k l a b. (rank_apart nat_eq nat_decides keys k l a b, ap (rank nat_eq keys))))
       ∙ ap (distinct_count nat_eq) (sym classes)
-      ∙ count_alike nat_eq nat_decides same_table same_table_decides (rank same_table (entries n F S)) (λ t. t) (entries n F S) (λ t u a b. (rank_apart same_table same_table_decides (entries n F S) t u a b, ap (rank same_table (entries n F S))))
+      ∙ count_alike nat_eq nat_decides same_table same_table_decides (rank same_table (entries n F S)) (λ t. t) (entries n F S)
+      (λ t u a b. (rank_apart same_table same_table_decides (entries n F S) t u a b, ap (rank same_table (entries n F S))))
       ∙ ap (distinct_count same_table) (map-id (entries n F S))
 
   apart : (k l : ℕ) → Among k keys → Among l keys → rank nat_eq keys k ≡ rank nat_eq keys l → k ≡ l
@@ -107,7 +112,8 @@ module _ (n : ℕ) (F : List Function) (S keys masks : List ℕ) (below : (i : �
   are_masks = record {
     many = all_classes.1.0 ∙ many_keys;
     told = ap (map (λ c. get_or class_masks c 0)) classes ∙ map-map (λ c. get_or class_masks c 0) (rank nat_eq keys) keys
-        ∙ map_same (λ k. get_or class_masks (rank nat_eq keys k) 0) (λ k. get_or masks k 0) keys (λ k a. all_classes.1.1 k a (rank_below nat_eq nat_decides keys k a)) ∙ told;
+        ∙ map_same (λ k. get_or class_masks (rank nat_eq keys k) 0) (λ k. get_or masks k 0) keys
+        (λ k a. all_classes.1.1 k a (rank_below nat_eq nat_decides keys k a)) ∙ told;
   }
 
   key_below : (k : ℕ) → Among k keys → k < length masks
@@ -122,12 +128,17 @@ module _ (n : ℕ) (F : List Function) (S keys masks : List ℕ) (below : (i : �
   unfolding By class_masks masks_in_use rank
   width_by_use x small inside =
       width_is_dependent_classes n F S class_masks x small inside are_masks
-      ∙ ap (λ ms. length (filter (λ m. eqb (bit_at m x) 1) ms)) listed ∙ length_filter_map (λ m. eqb (bit_at m x) 1) (λ c. get_or class_masks c 0) (variables (distinct_count nat_eq keys))
+      ∙ ap (λ ms. length (filter (λ m. eqb (bit_at m x) 1) ms)) listed
+      ∙ length_filter_map (λ m. eqb (bit_at m x) 1) (λ c. get_or class_masks c 0) (variables (distinct_count nat_eq keys))
       ∙ ap (λ ks. length (filter test (variables (distinct_count nat_eq ks)))) (sym (map-id keys))
-      ∙ sym (distinct_by_numbers nat_eq nat_decides (λ k. k) has_bit keys test (λ k a. ap (λ us. eqb (bit_at (get_or class_masks (rank nat_eq us k) 0) x) 1) (map-id keys) ∙ ap (λ m. eqb (bit_at m x) 1) (all_classes.1.1 k a (rank_below nat_eq nat_decides keys k a))))
+      ∙ sym (distinct_by_numbers nat_eq nat_decides (λ k. k) has_bit keys test
+      (λ k a. ap (λ us. eqb (bit_at (get_or class_masks (rank nat_eq us k) 0) x) 1) (map-id keys)
+      ∙ ap (λ m. eqb (bit_at m x) 1) (all_classes.1.1 k a (rank_below nat_eq nat_decides keys k a))))
       ∙ ap (distinct_count nat_eq) (map-id (filter has_bit keys))
       ∙ count_same nat_eq nat_decides (filter has_bit keys) (filter has_bit (filter (has keys) (variables (length masks)))) into onto
-      ∙ distinct_count-from_IsDistinct nat_eq_equiv (filter has_bit (filter (has keys) (variables (length masks)))) (distinct_filter has_bit (filter (has keys) (variables (length masks))) (distinct_filter (has keys) (variables (length masks)) (distinct_variables (length masks))))
+      ∙ distinct_count-from_IsDistinct nat_eq_equiv (filter has_bit (filter (has keys) (variables (length masks))))
+      (distinct_filter has_bit (filter (has keys) (variables (length masks)))
+      (distinct_filter (has keys) (variables (length masks)) (distinct_variables (length masks))))
       ∙ sym (length_filter_map (λ m. eqb (bit_at m x) 1) (λ k. get_or masks k 0) (filter (has keys) (variables (length masks))))
     where
       has_bit : ℕ → Bool
@@ -142,7 +153,9 @@ module _ (n : ℕ) (F : List Function) (S keys masks : List ℕ) (below : (i : �
       into : Within (filter has_bit keys) (filter has_bit (filter (has keys) (variables (length masks))))
       into k h =
           let a = among_from_filter has_bit k keys h in
-          among_filter has_bit k (filter (has keys) (variables (length masks))) (among_filter (has keys) k (variables (length masks)) (among_variables (length masks) k (key_below k a.0)) (member_from_among nat_eq nat_decides keys k a.0)) a.1
+          among_filter has_bit k (filter (has keys) (variables (length masks)))
+          (among_filter (has keys) k (variables (length masks)) (among_variables (length masks) k (key_below k a.0))
+          (member_from_among nat_eq nat_decides keys k a.0)) a.1
 
       onto : Within (filter has_bit (filter (has keys) (variables (length masks)))) (filter has_bit keys)
       onto k h =
@@ -154,7 +167,9 @@ module _ (n : ℕ) (F : List Function) (S keys masks : List ℕ) (below : (i : �
 
 -- the strips hold the numbers of all entries, and no others
 pub strips_hold : (outer numbers : List ℕ) (len : ℕ) → 0 < len → AreStrips outer numbers len → (k : ℕ) → has numbers k ≡ has (unrolled outer numbers len) k
-strips_hold outer numbers len some s k = same_bool _ _ (λ h. member_from_among nat_eq nat_decides (unrolled outer numbers len) k (into (among_from_member nat_eq nat_decides numbers k h)))
+strips_hold outer numbers len some s k =
+    same_bool _ _
+    (λ h. member_from_among nat_eq nat_decides (unrolled outer numbers len) k (into (among_from_member nat_eq nat_decides numbers k h)))
     (λ h. member_from_among nat_eq nat_decides numbers k (onto (among_from_member nat_eq nat_decides (unrolled outer numbers len) k h)))
   where
     into : Among k numbers → Among k (unrolled outer numbers len)
@@ -166,8 +181,11 @@ strips_hold outer numbers len some s k = same_bool _ _ (λ h. member_from_among 
         let u = s.used (i.0 / len) q in
         let m = mod-lt i.0 some in
         let e = parts_of i.0 len some in
-        let v = unrolled_at outer numbers len s u.0 (i.0 % len) u.1.0 m ∙ ap (λ z. get_or numbers (z * len + i.0 % len) 0) u.1.1 ∙ ap (λ z. get_or numbers z 0) (sym e) ∙ i.1.1 in
-        subst (λ z. Among z (unrolled outer numbers len)) v (among_at (unrolled outer numbers len) (u.0 * len + i.0 % len) 0 (let p = below_product u.0 (length outer) len (i.0 % len) u.1.0 m in omega arith))
+        let v = unrolled_at outer numbers len s u.0 (i.0 % len) u.1.0 m ∙ ap (λ z. get_or numbers (z * len + i.0 % len) 0) u.1.1
+        ∙ ap (λ z. get_or numbers z 0) (sym e) ∙ i.1.1 in
+        subst (λ z. Among z (unrolled outer numbers len)) v
+        (among_at (unrolled outer numbers len) (u.0 * len + i.0 % len) 0
+        (let p = below_product u.0 (length outer) len (i.0 % len) u.1.0 m in omega arith))
 
     onto : Among k (unrolled outer numbers len) → Among k numbers
     onto a =
@@ -181,9 +199,12 @@ strips_hold outer numbers len some s k = same_bool _ _ (λ h. member_from_among 
         subst (λ z. Among z numbers) v (among_at numbers (get_or outer (i.0 / len) 0 * len + i.0 % len) 0
         (let p = below_product (get_or outer (i.0 / len) 0) s.count len (i.0 % len) (s.within (i.0 / len) q) m in let w = s.whole in omega arith))
 
-pub in_use_strips : (outer numbers : List ℕ) (len : ℕ) → 0 < len → AreStrips outer numbers len → (masks : List ℕ) → masks_in_use numbers masks ≡ masks_in_use (unrolled outer numbers len) masks
+pub in_use_strips : (outer numbers : List ℕ) (len : ℕ) → 0 < len → AreStrips outer numbers len → (masks : List ℕ) →
+    masks_in_use numbers masks ≡ masks_in_use (unrolled outer numbers len) masks
 unfolding masks_in_use
-in_use_strips outer numbers len some s masks = ap (map (λ k. get_or masks k 0)) (in_use_same (has numbers) (has (unrolled outer numbers len)) (length masks) (λ k h. strips_hold outer numbers len some s k))
+in_use_strips outer numbers len some s masks =
+    ap (map (λ k. get_or masks k 0))
+    (in_use_same (has numbers) (has (unrolled outer numbers len)) (length masks) (λ k h. strips_hold outer numbers len some s k))
 
 -- where each mask is that of a number that occurs they are all in use
 pub all_in_use : (numbers masks : List ℕ) → AreUsed numbers masks → masks_in_use numbers masks ≡ masks
@@ -205,16 +226,22 @@ few_in_use numbers masks =
     omega arith
 
 -- the row of a table kept in strips
-pub strips_row : (t : ClassesOf) (low : ℕ) (outer numbers masks : List ℕ) → HoldsStrips t low outer numbers masks → (wanted x w : ℕ) → (bit_at wanted x ≡ 1 → has (set_of t) x ≡ true) →
+pub strips_row : (t : ClassesOf) (low : ℕ) (outer numbers masks : List ℕ) → HoldsStrips t low outer numbers masks → (wanted x w : ℕ) →
+    (bit_at wanted x ≡ 1 → has (set_of t) x ≡ true) →
     w ≡ cond (eqb (bit_at wanted x) 1) (length (filter (λ m. eqb (bit_at m x) 1) (masks_in_use numbers masks))) 0 → w ≡ width_wanted t.problem t.set wanted x
 unfolding width_wanted
 strips_row t low outer numbers masks h wanted x w inside e = e ∙ elim (cases_eq (bit_at wanted x) 1) [
   | inl one ↦
       let s = inside one in
-      let small : x < t.problem.inputs = (has_variables t.problem.inputs x).0 (and_parts (has (variables t.problem.inputs) x) (eqb (bit_at t.set x) 1) (sym (has_members t.problem.inputs t.set x) ∙ s)).0 in
+      let small : x < t.problem.inputs =
+      (has_variables t.problem.inputs x).0
+      (and_parts (has (variables t.problem.inputs) x) (eqb (bit_at t.set x) 1)
+      (sym (has_members t.problem.inputs t.set x) ∙ s)).0 in
       ap (λ b. cond b (length (filter (λ m. eqb (bit_at m x) 1) (masks_in_use numbers masks))) 0) (eq-eqb (bit_at wanted x) 1 one)
-      ∙ ap (λ ms. length (filter (λ m. eqb (bit_at m x) 1) ms)) (in_use_strips outer numbers (2 ^ free_below t.set low) (pow_pos (free_below t.set low)) h.strips masks)
-      ∙ sym (width_by_use t.problem.inputs (functions_of t) (set_of t) (unrolled outer numbers (2 ^ free_below t.set low)) masks h.keys.below h.keys.classes h.keys.told x small s)
+      ∙ ap (λ ms. length (filter (λ m. eqb (bit_at m x) 1) ms))
+      (in_use_strips outer numbers (2 ^ free_below t.set low) (pow_pos (free_below t.set low)) h.strips masks)
+      ∙ sym (width_by_use t.problem.inputs (functions_of t) (set_of t) (unrolled outer numbers (2 ^ free_below t.set low)) masks
+      h.keys.below h.keys.classes h.keys.told x small s)
       ∙ sym (ap (λ b. cond b (width t.problem.inputs (functions_of t) (without x (set_of t)) x) 0) (eq-eqb (bit_at wanted x) 1 one))
   | inr none ↦
       ap (λ b. cond b (length (filter (λ m. eqb (bit_at m x) 1) (masks_in_use numbers masks))) 0) (ne_eqb (bit_at wanted x) 1 none)

@@ -37,5 +37,7 @@ count_few (x ∷ xs) h =
 
 pub own_count : (b : BlockOf) → b.inputs ≤ 16 → length (block_masks b) ≤ 256 → wanted_count (block_masks b) ≤ 4096
 own_count b few short =
-    let c = count_few (block_masks b) (λ i lt. let m = in_block b (slice_index (block_masks b) i) (has_at (block_masks b) i lt) in let p : 2 ^ b.inputs ≤ 65536 = pow_mono {j = 16} few in let s = m.0 in omega arith) in
+    let c = count_few (block_masks b)
+    (λ i lt. let m = in_block b (slice_index (block_masks b) i) (has_at (block_masks b) i lt) in
+    let p : 2 ^ b.inputs ≤ 65536 = pow_mono {j = 16} few in let s = m.0 in omega arith) in
     omega arith

@@ -42,7 +42,8 @@ AreBlank p masks needed rows = (i : ℕ) → i < length masks → slice_index ne
 -- the rows of the sets whose variables below y are those of `set` hold their widths, and the others are as they were
 abbrev pub AreFilled : TruthTables → List ℕ → List ℕ → ℕ → ℕ → List (List ℕ) → List (List ℕ) → Type 0
 AreFilled p masks needed set y old new = (i : ℕ) → i < length masks →
-    ((slice_index masks i % 2 ^ y ≡ set) → IsRow p (slice_index masks i) (slice_index needed i) (get_or new i [])) × ((slice_index masks i % 2 ^ y ≢ set) → get_or new i [] ≡ get_or old i [])
+    ((slice_index masks i % 2 ^ y ≡ set) → IsRow p (slice_index masks i) (slice_index needed i) (get_or new i []))
+    × ((slice_index masks i % 2 ^ y ≢ set) → get_or new i [] ≡ get_or old i [])
 
 -- nothing is wanted of the sets whose variables below y are those of `set`
 abbrev pub AreUnwanted : List ℕ → List ℕ → ℕ → ℕ → Type 0

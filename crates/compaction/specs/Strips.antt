@@ -72,7 +72,8 @@ pub record IsStripTable (outer : List ℕ) (rank : ℕ) (numbers : List ℕ) (bi
   pub below : AllBelow numbers (length masks)
 
 -- strips with that variable x too: all their entries tell the pairs of the entries apart, and the masks are those of the pairs
-pub record GrowsStrips (outer : List ℕ) (rank : ℕ) (numbers : List ℕ) (bits : ℕ) (masks : List ℕ) (x : ℕ) (grown told joined : List ℕ) (all_used : Bool) : Type 0 where
+pub record GrowsStrips (outer : List ℕ) (rank : ℕ) (numbers : List ℕ) (bits : ℕ) (masks : List ℕ) (x : ℕ) (grown told joined : List ℕ)
+    (all_used : Bool) : Type 0 where
   pub strips : AreStrips grown told (2 ^ bits)
   pub tells : TellsPairs masks x (pairs (unrolled outer numbers (2 ^ bits)) (2 ^ bits * 2 ^ rank)) (unrolled grown told (2 ^ bits)) joined
   pub below : AllBelow told (length joined)

@@ -37,7 +37,8 @@ fn strip_at(numbers: &[u32], strip: usize, k: u32) -> &[u32]
     requires few { length numbers.now ≤ 2 ^ 20 }
     requires inside { k * strip + strip ≤ length numbers.now }
     ensures long { length result.now ≡ strip }
-    ensures entries { (a : ℕ) → a < strip → slice_index result.now a ≡ slice_index numbers.now (k * strip + a) }
+    ensures entries { (a : ℕ) → a < strip →
+        slice_index result.now a ≡ slice_index numbers.now (k * strip + a) }
 {
     let start = k as usize * strip;
     let end = start + strip;

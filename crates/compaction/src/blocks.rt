@@ -50,7 +50,8 @@ impl BlockWidths {
 /// Rows of zeros.
 fn blank_rows(alloc: Global, count: usize) -> Result<Vec<[u32; 16]>, AllocError>
     ensures long { IfOk result (λ rows. length rows.items ≡ count) }
-    ensures zeros { IfOk result (λ rows. (i x : ℕ) → i < count → slice_index (get_or rows.items i []) x ≡ 0) }
+    ensures zeros { IfOk result
+        (λ rows. (i x : ℕ) → i < count → slice_index (get_or rows.items i []) x ≡ 0) }
 {
     let mut rows = Vec::with_capacity(alloc, count)?;
     for _place in 0..count {
@@ -96,7 +97,9 @@ fn fill_row(
     requires needed { length needed.now ≡ length (block_masks block.now) }
     requires rows { length rows.old ≡ length (block_masks block.now) }
     requires members { AreMembers table.now.problem (block_masks block.now) needed.now }
-    ensures { OnOk result (IsFilled table.now.problem (block_masks block.now) needed.now table.now.set rows.old rows.new) }
+    ensures { OnOk result
+        (IsFilled table.now.problem (block_masks block.now) needed.now table.now.set rows.old
+        rows.new) }
 {
     let set = table.set();
     for (i, wanted) in needed.iter().enumerate() {
@@ -127,7 +130,9 @@ fn walk(
     requires rows { length rows.old ≡ length (block_masks block.now) }
     requires members { AreMembers table.now.problem (block_masks block.now) needed.now }
     requires blank { AreBlank table.now.problem (block_masks block.now) needed.now rows.old }
-    ensures rows { OnOk result (AreFilled table.now.problem (block_masks block.now) needed.now table.now.set y rows.old rows.new) }
+    ensures rows { OnOk result
+        (AreFilled table.now.problem (block_masks block.now) needed.now table.now.set y rows.old
+        rows.new) }
     ensures compactions { IfOk result (λ count. count + 1 ≤ 2 ^ (table.now.problem.inputs - y)) }
 {
     let set = table.set();
@@ -217,7 +222,8 @@ fn wanted_rows(
     requires inputs { block.now.inputs ≡ beginning.now.inputs }
     requires needed { length needed.now ≡ length (block_masks block.now) }
     requires members { AreMembers beginning.now (block_masks block.now) needed.now }
-    ensures rows { IfOk result (λ widths. AreRows beginning.now (block_masks block.now) needed.now widths.rows) }
+    ensures rows { IfOk result
+        (λ widths. AreRows beginning.now (block_masks block.now) needed.now widths.rows) }
     ensures compactions { IfOk result (λ widths. widths.compactions ≤ 2367) }
 {
     let problem = beginning.problem();
@@ -259,7 +265,8 @@ pub fn block_widths(
     requires needed { length needed.now ≡ length (block_masks block.now) }
     requires members { AreMembers problem.now (block_masks block.now) needed.now }
     requires room { tally.old + wanted_count needed.now ≤ 2 ^ 32 }
-    ensures rows { IfOk result (λ widths. AreRows problem.now (block_masks block.now) needed.now widths.rows) }
+    ensures rows { IfOk result
+        (λ widths. AreRows problem.now (block_masks block.now) needed.now widths.rows) }
     ensures compactions { IfOk result (λ widths. widths.compactions ≤ 2367) }
     ensures ok { OnOk result (tally.new ≡ tally.old + wanted_count needed.now) }
     ensures err { OnErr result (tally.new ≡ tally.old) }
@@ -282,7 +289,8 @@ impl<'a> Beginning<'a> {
         requires needed { length needed.now ≡ length (block_masks block.now) }
         requires members { AreMembers self.now (block_masks block.now) needed.now }
         requires room { tally.old + wanted_count needed.now ≤ 2 ^ 32 }
-        ensures rows { IfOk result (λ widths. AreRows self.now (block_masks block.now) needed.now widths.rows) }
+        ensures rows { IfOk result
+            (λ widths. AreRows self.now (block_masks block.now) needed.now widths.rows) }
         ensures compactions { IfOk result (λ widths. widths.compactions ≤ 2367) }
         ensures ok { OnOk result (tally.new ≡ tally.old + wanted_count needed.now) }
         ensures err { OnErr result (tally.new ≡ tally.old) }
@@ -302,7 +310,9 @@ impl<'a> Beginning<'a> {
     ) -> Result<BlockWidths, AllocError>
         requires inputs { block.now.inputs ≡ self.now.inputs }
         requires room { tally.old < 2 ^ 31 }
-        ensures rows { IfOk result (λ widths. AreRows self.now (block_masks block.now) (block_masks block.now) widths.rows) }
+        ensures rows { IfOk result
+            (λ widths. AreRows self.now (block_masks block.now) (block_masks block.now)
+            widths.rows) }
         ensures compactions { IfOk result (λ widths. widths.compactions ≤ 2367) }
         ensures ok { OnOk result (tally.new ≡ tally.old + wanted_count (block_masks block.now)) }
         ensures err { OnErr result (tally.new ≡ tally.old) }
@@ -334,7 +344,9 @@ pub fn all_widths(
 ) -> Result<BlockWidths, AllocError>
     requires inputs { block.now.inputs ≡ problem.now.inputs }
     requires room { tally.old < 2 ^ 31 }
-    ensures rows { IfOk result (λ widths. AreRows problem.now (block_masks block.now) (block_masks block.now) widths.rows) }
+    ensures rows { IfOk result
+        (λ widths. AreRows problem.now (block_masks block.now) (block_masks block.now)
+        widths.rows) }
     ensures compactions { IfOk result (λ widths. widths.compactions ≤ 2367) }
     ensures ok { OnOk result (tally.new ≡ tally.old + wanted_count (block_masks block.now)) }
     ensures err { OnErr result (tally.new ≡ tally.old) }

@@ -67,7 +67,9 @@ fn count_with(masks: &[u16], x: VarIx) -> u32
 /// At each wanted variable how many masks have its bit, else 0.
 pub(crate) fn row_of(masks: &[u16], wanted: Mask) -> [u32; 16]
     requires few { length masks.now ≤ 2 ^ 20 }
-    ensures { (x : ℕ) → x < 16 → slice_index result x ≡ cond (bit_at wanted x == 1) (length (filter (λ m. bit_at m x == 1) masks.now)) 0 }
+    ensures { (x : ℕ) → x < 16 →
+        slice_index result x ≡ cond (bit_at wanted x == 1)
+        (length (filter (λ m. bit_at m x == 1) masks.now)) 0 }
 {
     let mut row = [0; 16];
     for x in 0..16 {
@@ -117,7 +119,8 @@ impl<'a> Classes<'a> {
     pub fn lacks(&self, x: VarIx) -> bool
         ensures inside { IsTrue result → x < self.now.problem.inputs }
         ensures new { IsTrue result → IsFalse (has (set_of self.now) x) }
-        ensures all { x < self.now.problem.inputs → IsFalse (has (set_of self.now) x) → IsTrue result }
+        ensures all { x < self.now.problem.inputs → IsFalse (has (set_of self.now) x) →
+            IsTrue result }
     {
         x < self.problem.inputs() && (self.set >> x) & 1 == 0
     }
@@ -125,7 +128,8 @@ impl<'a> Classes<'a> {
     /// The class of each entry, by first occurrence: function by function, assignments of the variables outside the set
     /// rising, the lowest variable in the lowest bit.
     pub fn numbers(&self) -> &[u32]
-        ensures { result.now ≡ class_numbers self.now.problem.inputs (functions_of self.now) (set_of self.now) }
+        ensures { result.now ≡ class_numbers self.now.problem.inputs (functions_of self.now)
+            (set_of self.now) }
     {
         self.numbers.as_slice()
     }
@@ -135,7 +139,9 @@ impl<'a> Classes<'a> {
         requires inside { x < self.now.problem.inputs }
         requires new { IsFalse (has (set_of self.now) x) }
         requires room { tally.old < 2 ^ 32 }
-        ensures width { IfOk result (λ w. w ≡ width_over self.now.problem.inputs (functions_of self.now) (set_of self.now) x) }
+        ensures width { IfOk result
+            (λ w. w ≡ width_over self.now.problem.inputs (functions_of self.now)
+            (set_of self.now) x) }
         ensures ok { OnOk result (tally.new ≡ tally.old + 1) }
         ensures err { OnErr result (tally.new ≡ tally.old) }
     {
@@ -151,7 +157,8 @@ impl<'a> Classes<'a> {
         requires new { IsFalse (has (set_of self.now) x) }
         requires long { most_entries self.now.problem ≤ scratch.old }
         requires room { tally.old < 2 ^ 32 }
-        ensures width { result ≡ width_over self.now.problem.inputs (functions_of self.now) (set_of self.now) x }
+        ensures width { result ≡ width_over self.now.problem.inputs (functions_of self.now)
+            (set_of self.now) x }
         ensures tally { tally.new ≡ tally.old + 1 }
         ensures scratch { scratch.new ≡ scratch.old }
     {
@@ -164,7 +171,8 @@ impl<'a> Classes<'a> {
     /// The width of a variable of the set over the set without it.
     fn width_into(&self, x: VarIx) -> u32
         requires { IsTrue (has (set_of self.now) x) }
-        ensures { result ≡ width_over self.now.problem.inputs (functions_of self.now) (without x (set_of self.now)) x }
+        ensures { result ≡ width_over self.now.problem.inputs (functions_of self.now)
+            (without x (set_of self.now)) x }
     {
         count_with(&self.masks, x)
     }

@@ -56,7 +56,8 @@ fn find_run(kept: &[u64], next: &[u32], head: u32, run: &[u64]) -> Option<u32>
     requires start { head ≤ length next.now }
     requires run { length run.now ≡ 4 }
     ensures within { IfSome result (λ k. k < length next.now) }
-    ensures same { IfSome result (λ k. (a : ℕ) → a < 4 → slice_index kept.now (k * 4 + a) ≡ slice_index run.now a) }
+    ensures same { IfSome result
+        (λ k. (a : ℕ) → a < 4 → slice_index kept.now (k * 4 + a) ≡ slice_index run.now a) }
 {
     let mut link = head;
     while link > 0 {
@@ -77,13 +78,19 @@ fn find_run(kept: &[u64], next: &[u32], head: u32, run: &[u64]) -> Option<u32>
 /// Adds a run.
 #[inline(always)]
 fn push_run(columns: &mut Columns, run: &[u64]) -> Result<(), AllocError>
-    requires chained { AreChained columns.old.kept.items columns.old.next.items columns.old.heads.items }
+    requires chained { AreChained columns.old.kept.items columns.old.next.items
+        columns.old.heads.items }
     requires run { length run.now ≡ 4 }
     requires room { length columns.old.next.items < 2 ^ 20 }
-    ensures chained { OnOk result (AreChained columns.new.kept.items columns.new.next.items columns.new.heads.items) }
-    ensures long { OnOk result (length columns.new.outer.items ≡ length columns.old.outer.items + 1) }
+    ensures chained { OnOk result
+        (AreChained columns.new.kept.items columns.new.next.items columns.new.heads.items) }
+    ensures long { OnOk result
+        (length columns.new.outer.items ≡ length columns.old.outer.items + 1) }
     ensures room { OnOk result (length columns.new.next.items ≤ length columns.old.next.items + 1) }
-    ensures keeps { OnOk result ((values : List Bool) → KeepsRuns values columns.old.outer.items columns.old.kept.items (length columns.old.next.items) →
+    ensures keeps { OnOk result
+        ((values : List Bool) →
+        KeepsRuns values columns.old.outer.items columns.old.kept.items
+        (length columns.old.next.items) →
         ((b : ℕ) → b < 256 → packed_bit run.now b ≡ get_or values (length columns.old.outer.items * 256 + b) false) →
         KeepsRuns values columns.new.outer.items columns.new.kept.items (length columns.new.next.items)) }
 {
@@ -106,14 +113,21 @@ fn push_run(columns: &mut Columns, run: &[u64]) -> Result<(), AllocError>
 
 /// Adds the runs of a function.
 fn push_runs(columns: &mut Columns, words: &[u64]) -> Result<(), AllocError>
-    requires chained { AreChained columns.old.kept.items columns.old.next.items columns.old.heads.items }
+    requires chained { AreChained columns.old.kept.items columns.old.next.items
+        columns.old.heads.items }
     requires whole { (runs : ℕ) × (length words.now ≡ runs * 4) }
     requires few { length words.now ≤ 2 ^ 10 }
     requires room { length columns.old.next.items ≤ 2 ^ 16 }
-    ensures chained { OnOk result (AreChained columns.new.kept.items columns.new.next.items columns.new.heads.items) }
-    ensures long { OnOk result (length columns.new.outer.items ≡ length columns.old.outer.items + length words.now / 4) }
-    ensures room { OnOk result (length columns.new.next.items ≤ length columns.old.next.items + length words.now / 4) }
-    ensures keeps { OnOk result ((values : List Bool) → KeepsRuns values columns.old.outer.items columns.old.kept.items (length columns.old.next.items) →
+    ensures chained { OnOk result
+        (AreChained columns.new.kept.items columns.new.next.items columns.new.heads.items) }
+    ensures long { OnOk result
+        (length columns.new.outer.items ≡ length columns.old.outer.items + length words.now / 4) }
+    ensures room { OnOk result
+        (length columns.new.next.items ≤ length columns.old.next.items + length words.now / 4) }
+    ensures keeps { OnOk result
+        ((values : List Bool) →
+        KeepsRuns values columns.old.outer.items columns.old.kept.items
+        (length columns.old.next.items) →
         ((k : ℕ) → k < length words.now * 64 → packed_bit words.now k ≡ get_or values (length columns.old.outer.items * 256 + k) false) →
         KeepsRuns values columns.new.outer.items columns.new.kept.items (length columns.new.next.items)) }
 {
@@ -127,10 +141,12 @@ fn push_runs(columns: &mut Columns, words: &[u64]) -> Result<(), AllocError>
 fn columns_of(alloc: Global, problem: &Problem) -> Result<Columns, AllocError>
     requires { 8 ≤ problem.now.inputs }
     ensures some { 0 < outputs_of problem.now }
-    ensures long { IfOk result (λ c. length c.outer.items * 256 ≡ outputs_of problem.now * 2 ^ problem.now.inputs) }
+    ensures long { IfOk result
+        (λ c. length c.outer.items * 256 ≡ outputs_of problem.now * 2 ^ problem.now.inputs) }
     ensures few { IfOk result (λ c. length c.outer.items ≤ 2 ^ 12) }
     ensures whole { IfOk result (λ c. length c.kept.items ≡ length c.next.items * 4) }
-    ensures keeps { IfOk result (λ c. KeepsRuns (values_of problem.now) c.outer.items c.kept.items (length c.next.items)) }
+    ensures keeps { IfOk result
+        (λ c. KeepsRuns (values_of problem.now) c.outer.items c.kept.items (length c.next.items)) }
 {
     let runs = (problem.outputs() as usize) << (problem.inputs() - 8);
     let mut columns = Columns {
@@ -223,7 +239,8 @@ pub struct ByteStrips {
 pub fn byte_strips(alloc: Global, problem: &Problem) -> Result<ByteStrips, AllocError>
     requires { 8 ≤ problem.now.inputs }
     ensures named { IfOk result (λ v. AreNamed v.bytes.items v.rows.items 8) }
-    ensures values { IfOk result (λ v. HoldsValues problem.now v.outer.items (unrolled v.bytes.items v.rows.items 8) 256) }
+    ensures values { IfOk result
+        (λ v. HoldsValues problem.now v.outer.items (unrolled v.bytes.items v.rows.items 8) 256) }
     ensures long { IfOk result (λ v. length v.rows.items ≡ 2048) }
     ensures below { IfOk result (λ v. AllBelow v.rows.items 2) }
 {

@@ -79,7 +79,9 @@ impl NamePairs {
 
     /// The pairs of names with the numbers that they were given before.
     fn given(&self, alloc: Global) -> Result<NumberedPairs, AllocError>
-        ensures { IfOk result (λ v. ArePairsNumbered self.now.names.items self.now.rank v.numbers.items v.pairs.items) }
+        ensures { IfOk result
+            (λ v. ArePairsNumbered self.now.names.items self.now.rank v.numbers.items
+            v.pairs.items) }
     {
         Ok(NumberedPairs {
             numbers: copied(alloc, &self.numbers)?,

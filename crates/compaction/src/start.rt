@@ -25,7 +25,9 @@ fn push_values(
 ) -> Result<(), AllocError>
     requires few { inputs ≤ 16 }
     requires long { length words.now ≡ words_per_table inputs }
-    ensures { OnOk result (numbers.new.items ≡ numbers.old.items ++ map (number first) (row inputs (table_in inputs words.now))) }
+    ensures { OnOk result
+        (numbers.new.items ≡ numbers.old.items
+        ++ map (number first) (row inputs (table_in inputs words.now))) }
 {
     for point in 0..1usize << inputs {
         numbers.push(number_of_value(bit_of(words, point), first))?;
@@ -35,7 +37,8 @@ fn push_values(
 
 /// The numbers of all values: 0 for the first one met.
 pub fn value_numbers(alloc: Global, problem: &Problem) -> Result<Vec<u32>, AllocError>
-    ensures numbers { IfOk result (λ v. v.items ≡ map (number (value_at problem.now 0 0)) (values_of problem.now)) }
+    ensures numbers { IfOk result
+        (λ v. v.items ≡ map (number (value_at problem.now 0 0)) (values_of problem.now)) }
     ensures inputs { problem.now.inputs ≤ 16 }
     ensures outputs { outputs_of problem.now ≤ 16 }
     ensures some { 0 < outputs_of problem.now }

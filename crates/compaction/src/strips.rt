@@ -54,7 +54,8 @@ pub fn low_variables(problem: &Problem) -> u8
 fn numbers_in_use(alloc: Global, numbers: &[u32], count: usize) -> Result<Vec<bool>, AllocError>
     requires below { AllBelow numbers.now count }
     ensures long { IfOk result (λ v. length v.items ≡ count) }
-    ensures told { IfOk result (λ v. (k : ℕ) → k < count → get_or v.items k false ≡ has numbers.now k) }
+    ensures told { IfOk result
+        (λ v. (k : ℕ) → k < count → get_or v.items k false ≡ has numbers.now k) }
 {
     let mut used = vec![in alloc; false; count]?;
     for number in numbers {
@@ -128,7 +129,8 @@ impl<'a> Strips<'a> {
         masks: Vec<u16>,
         all_used: bool,
     ) -> Strips<'a>
-        requires holds { HoldsStrips (classes_of problem.now set) (low_variables problem.now) outer.items numbers.items masks.items }
+        requires holds { HoldsStrips (classes_of problem.now set) (low_variables problem.now)
+            outer.items numbers.items masks.items }
         requires used { IsTrue all_used → AreUsed numbers.items masks.items }
         ensures { result ≡ classes_of problem.now set }
     {

@@ -30,7 +30,8 @@ pub fn read_all<R: CountedRead>(
     ensures fits { IfOk result (λ v. vec_len v ≤ limit) }
     ensures end { OnOk result (IsAtEnd (R.remaining device.new)) }
     ensures ok { OnOk result (R.failures device.new ≡ R.failures device.old) }
-    ensures err { IfErr result (Refuses limit (R.remaining device.old) (R.failures device.old) (R.failures device.new)) }
+    ensures err { IfErr result
+        (Refuses limit (R.remaining device.old) (R.failures device.old) (R.failures device.new)) }
 {
     let mut bytes = Vec::new(alloc);
     let mut piece = [0u8; 4096];
@@ -55,7 +56,8 @@ pub fn write_whole<W: CountedWrite>(device: &mut W, text: &[u8]) -> Result<(), R
     requires { W.failures device.old < 2 ^ 32 }
     ensures ok { OnOk result (Appends (W.contents device.old) (W.contents device.new) text.now) }
     ensures ok_calls { OnOk result (W.failures device.new ≡ W.failures device.old) }
-    ensures err { OnErr result ((n : ℕ) × Appends (W.contents device.old) (W.contents device.new) (take n text.now)) }
+    ensures err { OnErr result
+        ((n : ℕ) × Appends (W.contents device.old) (W.contents device.new) (take n text.now)) }
     ensures err_calls { OnErr result (W.failures device.new ≡ W.failures device.old + 1) }
     ensures device { OnErr result (IsErrOf result Refused.Device) }
 {

@@ -17,14 +17,19 @@ settled_known : (s : Knowledge) (operation : Operation) (a b id : ℕ) → Knows
 settled_known s operation a b id ka kb h = ⊎_elim (λ (small : id < 2). terminal_known s id small)
     (⊎_elim (λ (e : id ≡ a). subst (Knows s) (sym e) ka) (λ (e : id ≡ b). subst (Knows s) (sym e) kb)) h.origin
 
-settled_level : (s : Knowledge) (from : ℕ) (operation : Operation) (a b id : ℕ) → IsFrom s from a → IsFrom s from b → from ≤ levels_of s.store.plan → Settles operation a b id → from ≤ depth_in s id
+settled_level : (s : Knowledge) (from : ℕ) (operation : Operation) (a b id : ℕ) → IsFrom s from a → IsFrom s from b →
+    from ≤ levels_of s.store.plan → Settles operation a b id → from ≤ depth_in s id
 settled_level s from operation a b id fa fb most h = ⊎_elim (λ (small : id < 2). let e = terminal_depth s id small in omega arith)
     (⊎_elim (λ (e : id ≡ a). subst (λ k. from ≤ depth_in s k) (sym e) fa.level) (λ (e : id ≡ b). subst (λ k. from ≤ depth_in s k) (sym e) fb.level)) h.origin
 
-pub settled_combined : (s : Knowledge) (from : ℕ) (operation : Operation) (a b id : ℕ) → IsFrom s from a → IsFrom s from b → from ≤ levels_of s.store.plan → Settles operation a b id → IsCombined s from operation a b id
+pub settled_combined : (s : Knowledge) (from : ℕ) (operation : Operation) (a b id : ℕ) → IsFrom s from a → IsFrom s from b →
+    from ≤ levels_of s.store.plan → Settles operation a b id → IsCombined s from operation a b id
 unfolding SameFunction combine
 settled_combined s from operation a b id fa fb most h = record {
-  means = record { known = settled_known s operation a b id fa.known fb.known h; function = λ p l. h.value (λ k. function_in s k p) (function_zero s p) (function_one s p) };
+  means = record {
+    known = settled_known s operation a b id fa.known fb.known h;
+    function = λ p l. h.value (λ k. function_in s k p) (function_zero s p) (function_one s p);
+  };
   level = settled_level s from operation a b id fa fb most h;
 }
 
@@ -43,7 +48,8 @@ cut_follows s s' level id low high f c = record {
   low_below = known_below_follows s s' level low f c.low_below;
   high_below = known_below_follows s s' level high f c.high_below;
   function = λ p. f.functions id p c.known ∙ (c.function p
-      ∙ (branch_same (variable_at s.store.plan level) (function_in s low) (function_in s high) (function_in s' low) (function_in s' high) p (sym (f.functions low p c.low_below.0)) (sym (f.functions high p c.high_below.0))
+      ∙ (branch_same (variable_at s.store.plan level) (function_in s low) (function_in s high) (function_in s' low) (function_in s' high) p
+      (sym (f.functions low p c.low_below.0)) (sym (f.functions high p c.high_below.0))
       ∙ ap (λ (z : StoreId). branch (variable_at z.plan level) (function_in s' low) (function_in s' high) p) (sym f.store)));
 }
 
@@ -51,16 +57,20 @@ combine_same : (operation : Operation) (f g f' g' : Function) (p : Point) → f 
 unfolding combine
 combine_same operation f g f' g' p e e' = λ i. combine_values operation (e i) (e' i)
 
-pub combined_follows : (s s' : Knowledge) (from : ℕ) (operation : Operation) (a b id : ℕ) → Knows s a → Knows s b → Follows s s' → IsCombined s from operation a b id → IsCombined s' from operation a b id
+pub combined_follows : (s s' : Knowledge) (from : ℕ) (operation : Operation) (a b id : ℕ) → Knows s a → Knows s b → Follows s s' →
+    IsCombined s from operation a b id → IsCombined s' from operation a b id
 combined_follows s s' from operation a b id ka kb f c = record {
-  means = means_same s' id (combine operation (function_in s a) (function_in s b)) (combine operation (function_in s' a) (function_in s' b)) (f.means id _ c.means)
-      (λ p l. combine_same operation (function_in s a) (function_in s b) (function_in s' a) (function_in s' b) p (sym (f.functions a p ka)) (sym (f.functions b p kb)));
+  means = means_same s' id (combine operation (function_in s a) (function_in s b)) (combine operation (function_in s' a) (function_in s' b))
+      (f.means id _ c.means)
+      (λ p l. combine_same operation (function_in s a) (function_in s b) (function_in s' a) (function_in s' b) p (sym (f.functions a p ka))
+      (sym (f.functions b p kb)));
   level = let e = f.depths id c.means.known in let l = c.level in omega arith;
 }
 
 -- ---- an id as a node of a level
 
-pub parts_cut : (s : Knowledge) (level id : ℕ) (parts : NodeParts) → Knows s id → HasParts s id parts → parts.level ≡ level → IsCut s level id parts.low parts.high
+pub parts_cut : (s : Knowledge) (level id : ℕ) (parts : NodeParts) → Knows s id → HasParts s id parts → parts.level ≡ level →
+    IsCut s level id parts.low parts.high
 parts_cut s level id parts known h e = record {
   known = known;
   low_below = (h.low.0, (let l = h.low.1 in omega arith));
@@ -77,27 +87,40 @@ both_same x f p = either (bit p x) (f p)
     either false v = refl
 
 pub same_cut : (s : Knowledge) (level id : ℕ) → Knows s id → level < depth_in s id → IsCut s level id id id
-same_cut s level id known less = record { known = known; low_below = (known, less); high_below = (known, less); function = λ p. both_same (variable_at s.store.plan level) (function_in s id) p }
+same_cut s level id known less =
+    record {
+      known =
+          known;
+      low_below =
+          (known, less);
+      high_below = (known, less);
+      function = λ p. both_same (variable_at s.store.plan level) (function_in s id) p;
+    }
 
 -- ---- the node of an operation
 
-spread : (operation : Operation) (b u v u' v' : Bool) → cond b (combine_values operation u' v') (combine_values operation u v) ≡ combine_values operation (cond b u' u) (cond b v' v)
+spread : (operation : Operation) (b u v u' v' : Bool) →
+    cond b (combine_values operation u' v') (combine_values operation u v) ≡ combine_values operation (cond b u' u) (cond b v' v)
 spread operation true u v u' v' = refl
 spread operation false u v u' v' = refl
 
-branch_combine : (operation : Operation) (x : ℕ) (f g f' g' : Function) (p : Point) → branch x (combine operation f g) (combine operation f' g') p ≡ combine operation (branch x f f') (branch x g g') p
+branch_combine : (operation : Operation) (x : ℕ) (f g f' g' : Function) (p : Point) →
+    branch x (combine operation f g) (combine operation f' g') p ≡ combine operation (branch x f f') (branch x g g') p
 unfolding branch combine
 branch_combine operation x f g f' g' p = spread operation (bit p x) (f p) (g p) (f' p) (g' p)
 
 pub combined_cut : (s : Knowledge) (from level : ℕ) (operation : Operation) (a b al au bl bu low high id : ℕ) → IsCut s level a al au → IsCut s level b bl bu
     → IsCombined s (level + 1) operation al bl low → IsCombined s (level + 1) operation au bu high
-    → Means s id (branch (variable_at s.store.plan level) (function_in s low) (function_in s high)) → from ≤ level → level ≤ depth_in s id → IsCombined s from operation a b id
+    → Means s id (branch (variable_at s.store.plan level) (function_in s low) (function_in s high)) → from ≤ level → level ≤ depth_in s id →
+    IsCombined s from operation a b id
 unfolding SameFunction
 combined_cut s from level operation a b al au bl bu low high id ca cb cl cu m most deep = record {
   means = means_same s id (branch x (function_in s low) (function_in s high)) (combine operation (function_in s a) (function_in s b)) m
-      (λ p l. branch_same x (function_in s low) (function_in s high) (combine operation (function_in s al) (function_in s bl)) (combine operation (function_in s au) (function_in s bu)) p (cl.means.function p l) (cu.means.function p l)
+      (λ p l. branch_same x (function_in s low) (function_in s high) (combine operation (function_in s al) (function_in s bl))
+      (combine operation (function_in s au) (function_in s bu)) p (cl.means.function p l) (cu.means.function p l)
       ∙ (branch_combine operation x (function_in s al) (function_in s bl) (function_in s au) (function_in s bu) p
-      ∙ combine_same operation (branch x (function_in s al) (function_in s au)) (branch x (function_in s bl) (function_in s bu)) (function_in s a) (function_in s b) p (sym (ca.function p)) (sym (cb.function p))));
+      ∙ combine_same operation (branch x (function_in s al) (function_in s au)) (branch x (function_in s bl) (function_in s bu))
+      (function_in s a) (function_in s b) p (sym (ca.function p)) (sym (cb.function p))));
   level = omega arith;
 }
   where
@@ -112,9 +135,11 @@ pub combined_below : (s : Knowledge) (level : ℕ) (operation : Operation) (a b 
 combined_below s level operation a b id h = (h.means.known, (let l = h.level in omega arith))
 
 -- the node made of an operation on both children
-pub made_combined : (store : StoreId) (s2 s3 s4 s5 : Knowledge) (from level : ℕ) (operation : Operation) (a b al au bl bu low high id : ℕ) → s2.store ≡ store → IsCut s2 level a al au → IsCut s2 level b bl bu
+pub made_combined : (store : StoreId) (s2 s3 s4 s5 : Knowledge) (from level : ℕ) (operation : Operation) (a b al au bl bu low high id : ℕ) →
+    s2.store ≡ store → IsCut s2 level a al au → IsCut s2 level b bl bu
     → Follows s2 s3 → IsCombined s3 (level + 1) operation al bl low → Follows s3 s4 → IsCombined s4 (level + 1) operation au bu high → Follows s4 s5
-    → Means s5 id (branch (variable_at store.plan level) (function_in s5 low) (function_in s5 high)) → from ≤ level → level ≤ depth_in s5 id → IsCombined s5 from operation a b id
+    → Means s5 id (branch (variable_at store.plan level) (function_in s5 low) (function_in s5 high)) → from ≤ level →
+    level ≤ depth_in s5 id → IsCombined s5 from operation a b id
 made_combined store s2 s3 s4 s5 from level operation a b al au bl bu low high id same ca cb f23 cl f34 cu f45 m most deep =
     let f35 : Follows s3 s5 = follows_trans s3 s4 s5 f34 f45 in
     let f24 : Follows s2 s4 = follows_trans s2 s3 s4 f23 f34 in

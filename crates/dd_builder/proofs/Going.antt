@@ -66,7 +66,8 @@ ok_same P Q (Ok x) p h = h x p
 ok_same P Q (Err e) p h = tt
 
 -- a session went on, and then made an id that denotes g if it denotes f
-pub makes_same : (s1 s2 s3 : Knowledge) (r : Result ℕ StoreFull) (f g : Function) → Follows s1 s2 → Makes s2 s3 r f → ((id : ℕ) → Means s3 id f → Means s3 id g) → Makes s1 s3 r g
+pub makes_same : (s1 s2 s3 : Knowledge) (r : Result ℕ StoreFull) (f g : Function) → Follows s1 s2 → Makes s2 s3 r f →
+    ((id : ℕ) → Means s3 id f → Means s3 id g) → Makes s1 s3 r g
 makes_same s1 s2 s3 r f g on made same = record {
   follows = follows_trans s1 s2 s3 on made.follows;
   function = ok_same (λ id. Means s3 id f) (λ id. Means s3 id g) r made.function same;
@@ -74,7 +75,8 @@ makes_same s1 s2 s3 r f g on made same = record {
 }
 
 -- the same of a node that the store made
-pub makes_node : (s1 s2 s3 : Knowledge) (store : StoreId) (r : Result ℕ StoreFull) (f g : Function) (word : ℕ) → Follows s1 s2 → Follows s2 s3 → s2.store ≡ store → IfOk r (λ id. Means s3 id f)
+pub makes_node : (s1 s2 s3 : Knowledge) (store : StoreId) (r : Result ℕ StoreFull) (f g : Function) (word : ℕ) → Follows s1 s2 →
+    Follows s2 s3 → s2.store ≡ store → IfOk r (λ id. Means s3 id f)
     → OnErr r (IsFullFor s3.seen store.plan.places word) → ((id : ℕ) → Means s3 id f → Means s3 id g) → Makes s1 s3 r g
 makes_node s1 s2 s3 store (Ok id) f g word on go is m full same = record { follows = follows_trans s1 s2 s3 on go; function = same id m; full = tt }
 makes_node s1 s2 s3 store (Err e) f g word on go is m full same = record {

@@ -37,7 +37,8 @@ one_bit n x ne = let e = shr_and_one n x in let l = bit_at-lt n x in let ne' : b
 zero_bit : (n x : ℕ) → bit_and (n / 2 ^ x) 1 ≢ 1 → bit_at n x ≡ 0
 zero_bit n x ne = let e = shr_and_one n x in let l = bit_at-lt n x in let ne' : bit_at n x ≢ 1 = (λ z. ne (e ∙ z)) in omega arith
 
-pub literal_absent : (s : Knowledge) (term : Term) (x id : ℕ) → Knows s id → bit_and (term.care / 2 ^ x) 1 ≡ 0 → Means s id (with_literal term x (function_in s id))
+pub literal_absent : (s : Knowledge) (term : Term) (x id : ℕ) → Knows s id → bit_and (term.care / 2 ^ x) 1 ≡ 0 →
+    Means s id (with_literal term x (function_in s id))
 unfolding with_literal
 literal_absent s term x id known e = means_same s id (function_in s id) (with_literal term x (function_in s id)) (means_own s id known)
     (λ p l. ap (λ b. b && function_in s id p) (sym (no_literal term x p (sym (shr_and_one term.care x) ∙ e))))
@@ -50,14 +51,18 @@ lower_only : (b v z : Bool) → z ≡ false → cond b z v ≡ (beq b false && v
 lower_only true v z e = e
 lower_only false v z e = refl
 
-pub literal_upper : (s : Knowledge) (term : Term) (x y id made : ℕ) → x ≡ y → bit_and (term.care / 2 ^ y) 1 ≢ 0 → bit_and (term.value / 2 ^ y) 1 ≡ 1 → Means s made (branch x (function_in s 0) (function_in s id)) → Means s made (with_literal term x (function_in s id))
+pub literal_upper : (s : Knowledge) (term : Term) (x y id made : ℕ) → x ≡ y → bit_and (term.care / 2 ^ y) 1 ≢ 0 →
+    bit_and (term.value / 2 ^ y) 1 ≡ 1 → Means s made (branch x (function_in s 0) (function_in s id)) →
+    Means s made (with_literal term x (function_in s id))
 unfolding with_literal branch
 literal_upper s term x y id made at care value m = means_same s made (branch x (function_in s 0) (function_in s id)) (with_literal term x (function_in s id)) m
     (λ p l. upper_only (bit p x) (function_in s id p) (function_in s 0 p) (function_zero s p)
     ∙ ap (λ b. b && function_in s id p) (sym (some_literal term x p (ap (bit_at term.care) at ∙ one_bit term.care y care)
     ∙ ap (λ k. beq (bit p x) (eqb k 1)) (ap (bit_at term.value) at ∙ (sym (shr_and_one term.value y) ∙ value)))))
 
-pub literal_lower : (s : Knowledge) (term : Term) (x y id made : ℕ) → x ≡ y → bit_and (term.care / 2 ^ y) 1 ≢ 0 → bit_and (term.value / 2 ^ y) 1 ≢ 1 → Means s made (branch x (function_in s id) (function_in s 0)) → Means s made (with_literal term x (function_in s id))
+pub literal_lower : (s : Knowledge) (term : Term) (x y id made : ℕ) → x ≡ y → bit_and (term.care / 2 ^ y) 1 ≢ 0 →
+    bit_and (term.value / 2 ^ y) 1 ≢ 1 → Means s made (branch x (function_in s id) (function_in s 0)) →
+    Means s made (with_literal term x (function_in s id))
 unfolding with_literal branch
 literal_lower s term x y id made at care value m = means_same s made (branch x (function_in s id) (function_in s 0)) (with_literal term x (function_in s id)) m
     (λ p l. lower_only (bit p x) (function_in s id p) (function_in s 0 p) (function_zero s p)
@@ -72,9 +77,15 @@ literals_from order term level p = list_all (λ x. literal_holds p (x, literal_i
 
 pub literals_none : (s : Knowledge) (order : List ℕ) (term : Term) (level : ℕ) → length order ≤ level → Means s 1 (literals_from order term level)
 unfolding literals_from SameFunction
-literals_none s order term level past = record { known = terminal_known s 1 (omega arith); function = λ p l. function_one s p ∙ sym (ap (list_all (λ x. literal_holds p (x, literal_in term x))) (drop_all level order past)) }
+literals_none s order term level past =
+    record {
+      known = terminal_known s 1 (omega arith);
+      function = λ p l. function_one s p
+          ∙ sym (ap (list_all (λ x. literal_holds p (x, literal_in term x))) (drop_all level order past));
+    }
 
-pub literals_more : (s s' : Knowledge) (order : List ℕ) (term : Term) (level x id made : ℕ) → level < length order → x ≡ get_or order level 0 → Knows s id → Means s id (literals_from order term (level + 1)) → Follows s s'
+pub literals_more : (s s' : Knowledge) (order : List ℕ) (term : Term) (level x id made : ℕ) → level < length order →
+    x ≡ get_or order level 0 → Knows s id → Means s id (literals_from order term (level + 1)) → Follows s s'
     → Means s' made (with_literal term x (function_in s' id)) → Means s' made (literals_from order term level)
 unfolding literals_from with_literal
 literals_more s s' order term level x id made inside at known below f m =
@@ -96,10 +107,12 @@ list_all_each test (x ∷ xs) h y m =
 each_list_all : (test : ℕ → Bool) (xs : List ℕ) → ((y : ℕ) → has xs y ≡ true → test y ≡ true) → list_all test xs ≡ true
 each_list_all test [] h = refl
 each_list_all test (x ∷ xs) h =
-    ap₂ (λ a b. a && b) (h x (ap (λ b. b || has xs x) (eq-eqb x x refl))) (each_list_all test xs (λ y m. h y (ap (λ b. nat_eq y x || b) m ∙ or-true (nat_eq y x))))
+    ap₂ (λ a b. a && b) (h x (ap (λ b. b || has xs x) (eq-eqb x x refl)))
+    (each_list_all test xs (λ y m. h y (ap (λ b. nat_eq y x || b) m ∙ or-true (nat_eq y x))))
 
 numbered_literals : (term : Term) (p : Point) (len a : ℕ)
-    → list_all (literal_holds p) (enumerate_from a (map (literal_in term) (range_with_len a len))) ≡ list_all (λ x. literal_holds p (x, literal_in term x)) (range_with_len a len)
+    → list_all (literal_holds p) (enumerate_from a (map (literal_in term) (range_with_len a len))) ≡ list_all
+    (λ x. literal_holds p (x, literal_in term x)) (range_with_len a len)
 numbered_literals term p zero a = refl
 numbered_literals term p (suc len) a = ap (λ b. literal_holds p (a, literal_in term a) && b) (numbered_literals term p len (a + 1))
 
@@ -113,8 +126,11 @@ literals_match order term n m p is =
     (λ h. each_list_all test order (λ y m. all_at test n 0 h y (omega arith) (let low = (is.all y).0 m in omega arith)))
     ∙ sym (numbered_literals term p n 0)
 
-pub term_means : (s : Knowledge) (order : List ℕ) (term : Term) (n m level id : ℕ) → IsOrder n order → level ≡ 0 → Means s id (literals_from order term level) → Means s id (matches (product_of n m term))
-term_means s order term n m level id is top h = means_same s id (literals_from order term level) (matches (product_of n m term)) h (λ p l. ap (λ k. literals_from order term k p) top ∙ literals_match order term n m p is)
+pub term_means : (s : Knowledge) (order : List ℕ) (term : Term) (n m level id : ℕ) → IsOrder n order → level ≡ 0 →
+    Means s id (literals_from order term level) → Means s id (matches (product_of n m term))
+term_means s order term n m level id is top h =
+    means_same s id (literals_from order term level) (matches (product_of n m term)) h
+    (λ p l. ap (λ k. literals_from order term k p) top ∙ literals_match order term n m p is)
 
 -- ---- a term of an output
 
@@ -134,16 +150,23 @@ and_all : (w : Bool) → w ≡ (w && true)
 and_all true = refl
 and_all false = refl
 
-pub other_output : (s : Knowledge) (b : Plan) (term : Term) (output id : ℕ) → Knows s id → output < outputs_of b.problem.value → bit_and (term.outs / 2 ^ output) 1 ≡ 0 → Means s id (with_product (product_in b term) output (function_in s id))
+pub other_output : (s : Knowledge) (b : Plan) (term : Term) (output id : ℕ) → Knows s id → output < outputs_of b.problem.value →
+    bit_and (term.outs / 2 ^ output) 1 ≡ 0 → Means s id (with_product (product_in b term) output (function_in s id))
 unfolding with_product
-other_output s b term output id known low e = means_same s id (function_in s id) (with_product (product_in b term) output (function_in s id)) (means_own s id known)
+other_output s b term output id known low e =
+    means_same s id (function_in s id) (with_product (product_in b term) output (function_in s id)) (means_own s id known)
     (λ p l. or_nothing (function_in s id p) (matches (product_in b term) p)
-    ∙ ap (λ c. function_in s id p || (matches (product_in b term) p && c)) (sym (has_output_bit b.problem.value.inputs (outputs_of b.problem.value) term output low ∙ ap (λ k. eqb k 1) (sym (shr_and_one term.outs output) ∙ e))))
+    ∙ ap (λ c. function_in s id p || (matches (product_in b term) p && c))
+    (sym (has_output_bit b.problem.value.inputs (outputs_of b.problem.value) term output low
+    ∙ ap (λ k. eqb k 1) (sym (shr_and_one term.outs output) ∙ e))))
 
-pub own_output : (s s' : Knowledge) (b : Plan) (term : Term) (output id cube made : ℕ) → Knows s id → output < outputs_of b.problem.value → bit_and (term.outs / 2 ^ output) 1 ≢ 0 → Means s cube (matches (product_in b term)) → Follows s s'
+pub own_output : (s s' : Knowledge) (b : Plan) (term : Term) (output id cube made : ℕ) → Knows s id → output < outputs_of b.problem.value →
+    bit_and (term.outs / 2 ^ output) 1 ≢ 0 → Means s cube (matches (product_in b term)) → Follows s s'
     → Means s' made (combine Or (function_in s' id) (function_in s' cube)) → Means s' made (with_product (product_in b term) output (function_in s' id))
 unfolding with_product combine
 own_output s s' b term output id cube made known low e mc f m =
     means_same s' made (combine Or (function_in s' id) (function_in s' cube)) (with_product (product_in b term) output (function_in s' id)) m
     (λ p l. ap (λ c. function_in s' id p || c) (means_at s' cube _ p (f.means cube _ mc) l ∙ (and_all (matches (product_in b term) p)
-    ∙ ap (λ c. matches (product_in b term) p && c) (sym (has_output_bit b.problem.value.inputs (outputs_of b.problem.value) term output low ∙ ap (λ k. eqb k 1) (one_bit term.outs output e))))))
+    ∙ ap (λ c. matches (product_in b term) p && c)
+    (sym (has_output_bit b.problem.value.inputs (outputs_of b.problem.value) term output low
+    ∙ ap (λ k. eqb k 1) (one_bit term.outs output e))))))

@@ -14,7 +14,13 @@ pub record IsPointAbove (order : List ℕ) (level path point : ℕ) : Type 0 whe
   pub clear : (i : ℕ) → level ≤ i → i < length order → bit_at point (get_or order i 0) ≡ 0
 
 pub point_start : (order : List ℕ) (path : ℕ) → IsPointAbove order 0 path 0
-point_start order path = record { small = pow_pos (length order); bits = λ i l inside. absurd (omega arith); clear = λ i l inside. bit_at-zero (get_or order i 0) }
+point_start order path =
+    record {
+      small =
+          pow_pos (length order);
+      bits = λ i l inside. absurd (omega arith);
+      clear = λ i l inside. bit_at-zero (get_or order i 0);
+    }
 
 pub point_end : (order : List ℕ) (level path point : ℕ) → length order ≤ level → IsPointAbove order level path point → IsPointOf order path point
 point_end order level path point past h = record { small = h.small; bits = λ i l. h.bits i (omega arith) l }
@@ -65,25 +71,33 @@ module _ (order : List ℕ) (is : IsOrder (length order) order) where
       let b : ℕ = bit_at path level in
       let b2 = bit_at-lt path level in
       let low = variable_below level inside in
-      let added : now ≡ bit_or point (b * 2 ^ x) = e ∙ (ap (λ k. bit_or point (k * 2 ^ x % 4294967296)) (shr_and_one path level) ∙ ap (bit_or point) (shifted b x b2 (omega arith))) in
+      let added : now ≡ bit_or point (b * 2 ^ x) = e
+      ∙ (ap (λ k. bit_or point (k * 2 ^ x % 4294967296)) (shr_and_one path level) ∙ ap (bit_or point) (shifted b x b2 (omega arith))) in
       record {
         small = subst (λ k. k < 2 ^ length order) (sym added) (or_lt (length order) point (b * 2 ^ x) h.small (bit_small b x (length order) b2 (omega arith)));
         bits = λ i l in_order. by_cases i l in_order (same i level) added b2;
         clear = λ i l in_order. ap (λ k. bit_at k (get_or order i 0)) added ∙ (bit_at_or point (b * 2 ^ x) (get_or order i 0)
-            ∙ (let z = bit_elsewhere b x (get_or order i 0) b2 (λ s. other_place i level in_order inside (λ q. omega arith) (s ∙ at)) in let c = h.clear i (omega arith) in_order in omega arith));
+            ∙ (let z = bit_elsewhere b x (get_or order i 0) b2 (λ s. other_place i level in_order inside (λ q. omega arith) (s ∙ at)) in
+            let c = h.clear i (omega arith) in_order in omega arith));
       }
     where
       same : (i j : ℕ) → (i ≡ j) ⊎ (i ≢ j)
       same i j = grind arith
 
-      by_cases : (i : ℕ) → i < level + 1 → i < length order → (i ≡ level) ⊎ (i ≢ level) → now ≡ bit_or point (bit_at path level * 2 ^ x) → bit_at path level < 2 → bit_at now (get_or order i 0) ≡ bit_at path i
+      by_cases : (i : ℕ) → i < level + 1 → i < length order → (i ≡ level) ⊎ (i ≢ level) → now ≡ bit_or point (bit_at path level * 2 ^ x) →
+          bit_at path level < 2 → bit_at now (get_or order i 0) ≡ bit_at path i
       by_cases i l in_order t added b2 = elim t [
         | inl s ↦
             let z = bit_there (bit_at path level) x b2 in let c = h.clear level (omega arith) inside in
             let there : get_or order i 0 ≡ x = ap (λ k. get_or order k 0) s ∙ sym at in
             let c' : bit_at point x ≡ 0 = ap (bit_at point) at ∙ c in
-            ap (bit_at now) there ∙ (ap (λ k. bit_at k x) added ∙ (bit_at_or point (bit_at path level * 2 ^ x) x ∙ (ap₂ max c' z ∙ (max_zero (bit_at path level) ∙ ap (bit_at path) (sym s)))))
+            ap (bit_at now) there
+            ∙ (ap (λ k. bit_at k x) added
+            ∙ (bit_at_or point (bit_at path level * 2 ^ x) x
+            ∙ (ap₂ max c' z ∙ (max_zero (bit_at path level) ∙ ap (bit_at path) (sym s)))))
         | inr ne ↦
-            let z = bit_elsewhere (bit_at path level) x (get_or order i 0) b2 (λ q. other_place i level in_order inside ne (q ∙ at)) in let c = h.bits i (omega arith) in_order in
-            ap (λ k. bit_at k (get_or order i 0)) added ∙ (bit_at_or point (bit_at path level * 2 ^ x) (get_or order i 0) ∙ (ap₂ max c z ∙ zero_max (bit_at path i)))
+            let z = bit_elsewhere (bit_at path level) x (get_or order i 0) b2 (λ q. other_place i level in_order inside ne (q ∙ at)) in
+            let c = h.bits i (omega arith) in_order in
+            ap (λ k. bit_at k (get_or order i 0)) added
+            ∙ (bit_at_or point (bit_at path level * 2 ^ x) (get_or order i 0) ∙ (ap₂ max c z ∙ zero_max (bit_at path i)))
       ]

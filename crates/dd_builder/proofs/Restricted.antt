@@ -37,24 +37,30 @@ unfolding SameFunction
 constant_means s b f same = record { known = terminal_known s (cond b 1 0) (constant_low b); function = λ p l. constant s b p ∙ sym (same p l) }
 
 -- an output with all variables fixed
-pub output_leaf : (s : Knowledge) (order : List ℕ) (level path point id output : ℕ) (t : TruthTables) (b : Bool) → order_of s.store.plan ≡ order → IsOrder (length order) order → length order ≤ level
+pub output_leaf : (s : Knowledge) (order : List ℕ) (level path point id output : ℕ) (t : TruthTables) (b : Bool) →
+    order_of s.store.plan ≡ order → IsOrder (length order) order → length order ≤ level
     → IsPointOf order path point → b ≡ value_at t output point → id ≡ bool_byte b → Means s id (fixed (take level order) path (output_at t output))
 unfolding output_at
 output_leaf s order level path point id output t b same is past at value terminal =
     subst (λ k. Means s k (fixed (take level order) path (output_at t output))) (sym (terminal ∙ byte b))
     (constant_means s b (fixed (take level order) path (output_at t output)) (λ p l.
-    ap (λ xs. fixed xs path (from_table (table_at t output)) p) (take_all level order past) ∙ (fixed_point order is path point (table_at t output) p at (l ∙ ap length same) ∙ sym value)))
+    ap (λ xs. fixed xs path (from_table (table_at t output)) p) (take_all level order past)
+    ∙ (fixed_point order is path point (table_at t output) p at (l ∙ ap length same) ∙ sym value)))
 
 -- a node above two functions in which one more variable is fixed
-pub restricted_node : (store : StoreId) (s1 s2 s3 : Knowledge) (level path low high id : ℕ) (f : Function) → s1.store ≡ store → Follows s1 s2 → Follows s2 s3 → IsOrder (levels_of store.plan) (order_of store.plan)
-    → level < levels_of store.plan → path < 2 ^ level → Means s1 low (fixed (take (level + 1) (order_of store.plan)) path f) → Means s2 high (fixed (take (level + 1) (order_of store.plan)) (path + 2 ^ level) f)
-    → Means s3 id (branch (variable_at store.plan level) (function_in s3 low) (function_in s3 high)) → Means s3 id (fixed (take level (order_of store.plan)) path f)
+pub restricted_node : (store : StoreId) (s1 s2 s3 : Knowledge) (level path low high id : ℕ) (f : Function) → s1.store ≡ store →
+    Follows s1 s2 → Follows s2 s3 → IsOrder (levels_of store.plan) (order_of store.plan)
+    → level < levels_of store.plan → path < 2 ^ level → Means s1 low (fixed (take (level + 1) (order_of store.plan)) path f) →
+    Means s2 high (fixed (take (level + 1) (order_of store.plan)) (path + 2 ^ level) f)
+    → Means s3 id (branch (variable_at store.plan level) (function_in s3 low) (function_in s3 high)) →
+    Means s3 id (fixed (take level (order_of store.plan)) path f)
 restricted_node store s1 s2 s3 level path low high id f same f12 f23 is inside small ml mu m =
     let l3 : Means s3 low (fixed (take (level + 1) (order_of store.plan)) path f) = f23.means low _ (f12.means low _ ml) in
     let u3 : Means s3 high (fixed (take (level + 1) (order_of store.plan)) (path + 2 ^ level) f) = f23.means high _ mu in
     let here : s3.store ≡ store = f23.store ∙ (f12.store ∙ same) in
     means_same s3 id (branch (variable_at store.plan level) (function_in s3 low) (function_in s3 high)) (fixed (take level (order_of store.plan)) path f) m
-    (λ p l. branch_same (variable_at store.plan level) (function_in s3 low) (function_in s3 high) (fixed (take (level + 1) (order_of store.plan)) path f) (fixed (take (level + 1) (order_of store.plan)) (path + 2 ^ level) f) p
+    (λ p l. branch_same (variable_at store.plan level) (function_in s3 low) (function_in s3 high)
+    (fixed (take (level + 1) (order_of store.plan)) path f) (fixed (take (level + 1) (order_of store.plan)) (path + 2 ^ level) f) p
     (means_at s3 low _ p l3 l) (means_at s3 high _ p u3 l)
     ∙ fixed_step (order_of store.plan) level path f p is.once inside small)
 
@@ -72,7 +78,8 @@ take_taken zero xs = refl
 take_taken (suc k) [] = refl
 take_taken (suc k) (x ∷ xs) = ap (λ ys. x ∷ ys) (take_taken k xs)
 
-part_restriction : (kind : PieceKind) (order : List ℕ) (t : TruthTables) (q : ℕ) → AreRestrictions kind → part_function kind order t q ≡ fixed (tops order) (q % ways order) (output_at t (q / ways order))
+part_restriction : (kind : PieceKind) (order : List ℕ) (t : TruthTables) (q : ℕ) → AreRestrictions kind →
+    part_function kind order t q ≡ fixed (tops order) (q % ways order) (output_at t (q / ways order))
 unfolding part_function
 part_restriction Restrictions order t q h = refl
 part_restriction (Products terms) order t q h = absurd h
@@ -80,10 +87,13 @@ part_restriction (Products terms) order t q h = absurd h
 -- a piece of the parts
 pub part_piece : (b : Plan) (q : ℕ) → q < b.roots → piece_function b q ≡ part_function b.kind (order_of b) b.problem.value q
 unfolding piece_function
-part_piece b q short = ap (λ (c : Bool). if c then part_function b.kind (order_of b) b.problem.value q else output_at b.problem.value (q - b.roots)) (lt-ltb q b.roots short)
+part_piece b q short =
+    ap (λ (c : Bool). if c then part_function b.kind (order_of b) b.problem.value q else output_at b.problem.value (q - b.roots))
+    (lt-ltb q b.roots short)
 
 -- an output with the variables on top fixed is a piece
-pub restriction_piece : (b : Plan) (q count ways' output path : ℕ) → AreRestrictions b.kind → q < b.roots → count ≡ length (tops (order_of b)) → ways' ≡ 2 ^ count → output ≡ q / ways' → path ≡ q % ways'
+pub restriction_piece : (b : Plan) (q count ways' output path : ℕ) → AreRestrictions b.kind → q < b.roots →
+    count ≡ length (tops (order_of b)) → ways' ≡ 2 ^ count → output ≡ q / ways' → path ≡ q % ways'
     → fixed (take count (order_of b)) path (output_at b.problem.value output) ≡ piece_function b q
 restriction_piece b q count ways' output path is short top w o r =
     let pow : ways' ≡ ways (order_of b) = w ∙ ap (λ k. 2 ^ k) top in
@@ -95,7 +105,8 @@ restrictions_count : (kind : PieceKind) (order : List ℕ) (t : TruthTables) →
 restrictions_count Restrictions order t is = refl
 restrictions_count (Products terms) order t is = absurd is
 
-restriction_inside : (b : Plan) (count path output : ℕ) → IsPlan b → AreRestrictions b.kind → count ≡ length (tops (order_of b)) → output < outputs_of b.problem.value → path < 2 ^ count → output * 2 ^ count + path < b.roots
+restriction_inside : (b : Plan) (count path output : ℕ) → IsPlan b → AreRestrictions b.kind → count ≡ length (tops (order_of b)) →
+    output < outputs_of b.problem.value → path < 2 ^ count → output * 2 ^ count + path < b.roots
 restriction_inside b count path output plan is top short inside =
     let n = plan.roots ∙ (restrictions_count b.kind (order_of b) b.problem.value is ∙ ap (λ k. outputs_of b.problem.value * 2 ^ k) (sym top)) in
     let up : output + 1 ≤ outputs_of b.problem.value = omega arith in
@@ -103,7 +114,8 @@ restriction_inside b count path output plan is top short inside =
     omega (arith, n, m)
 
 -- a part's number, as the program has it
-pub restriction_at : (b : Plan) (count q output path : ℕ) → IsPlan b → AreRestrictions b.kind → output < outputs_of b.problem.value → count ≡ length (tops (order_of b)) → count ≤ 2 → output < 256 → path < 2 ^ count
+pub restriction_at : (b : Plan) (count q output path : ℕ) → IsPlan b → AreRestrictions b.kind → output < outputs_of b.problem.value →
+    count ≡ length (tops (order_of b)) → count ≤ 2 → output < 256 → path < 2 ^ count
     → q ≡ output * 2 ^ count % 18446744073709551616 + path → fixed (take count (order_of b)) path (output_at b.problem.value output) ≡ piece_function b q
 restriction_at b zero q output path plan is short top few small inside e =
     let here = restriction_inside b 0 path output plan is top short inside in

@@ -104,13 +104,19 @@ rest_distinct : (y : ℕ) (ys : List ℕ) → IsDistinct nat_eq (y ∷ ys) → I
 unfolding IsDistinct
 rest_distinct y ys o = o.1
 
-bit-laid : (xs : List ℕ) (v i : ℕ) (p : Point) → IsDistinct nat_eq xs → i < length xs → ((j : ℕ) → j < length xs → get_or xs j 0 < length p) → bit (laid xs v p) (get_or xs i 0) ≡ eqb (bit_at v i) 1
+bit-laid : (xs : List ℕ) (v i : ℕ) (p : Point) → IsDistinct nat_eq xs → i < length xs →
+    ((j : ℕ) → j < length xs → get_or xs j 0 < length p) → bit (laid xs v p) (get_or xs i 0) ≡ eqb (bit_at v i) 1
 bit-laid [] v i p once l inside = absurd (omega arith)
 bit-laid (x ∷ xs) v zero p once l inside =
-    laid_apart xs (v / 2) x (set p x (eqb (bit_at v 0) 1)) (apart_places xs x (λ j k e. let s : 0 ≡ suc j = sym (place_get (x ∷ xs) 0 once (omega arith)) ∙ (ap (place_in (x ∷ xs)) e ∙ place_get (x ∷ xs) (suc j) once (omega arith)) in omega arith))
+    laid_apart xs (v / 2) x (set p x (eqb (bit_at v 0) 1))
+    (apart_places xs x
+    (λ j k e. let s : 0 ≡ suc j = sym (place_get (x ∷ xs) 0 once (omega arith))
+    ∙ (ap (place_in (x ∷ xs)) e ∙ place_get (x ∷ xs) (suc j) once (omega arith)) in
+    omega arith))
     ∙ get_or-set_same p x (eqb (bit_at v 0) 1) false (inside 0 (omega arith))
 bit-laid (x ∷ xs) v (suc i) p once l inside =
-    bit-laid xs (v / 2) i (set p x (eqb (bit_at v 0) 1)) (rest_distinct x xs once) (omega arith) (λ j k. let e = length-set p x (eqb (bit_at v 0) 1) in let h = inside (suc j) (omega arith) in omega arith)
+    bit-laid xs (v / 2) i (set p x (eqb (bit_at v 0) 1)) (rest_distinct x xs once) (omega arith)
+    (λ j k. let e = length-set p x (eqb (bit_at v 0) 1) in let h = inside (suc j) (omega arith) in omega arith)
     ∙ ap (λ b. eqb b 1) (sym (bit_at-suc v i))
 
 module _ (order : List ℕ) (is : IsOrder (length order) order) where
@@ -121,7 +127,8 @@ module _ (order : List ℕ) (is : IsOrder (length order) order) where
   number-laid path point p h l =
       let n : ℕ = length order in
       let long = length-laid order path p ∙ l in
-      same_from_bits_below n (number (laid order path p)) point (subst (λ (z : ℕ). number (laid order path p) < 2 ^ z) long (number-small (laid order path p))) h.small
+      same_from_bits_below n (number (laid order path p)) point
+      (subst (λ (z : ℕ). number (laid order path p) < 2 ^ z) long (number-small (laid order path p))) h.small
       (λ y few.
       let i : ℕ = place_in order y in
       let there = place_inside y few in
@@ -134,6 +141,7 @@ module _ (order : List ℕ) (is : IsOrder (length order) order) where
       place_inside y few = (own_place y order is.once ((is.all y).1 few)).1
 
   -- with all variables fixed to the bits of a path a function is its value at the path's point
-  pub fixed_point : (path point : ℕ) (t : List Bool) (p : Point) → IsPointOf order path point → length p ≡ length order → fixed order path (from_table t) p ≡ get_or t point false
+  pub fixed_point : (path point : ℕ) (t : List Bool) (p : Point) → IsPointOf order path point → length p ≡ length order →
+      fixed order path (from_table t) p ≡ get_or t point false
   unfolding from_table
   fixed_point path point t p h l = fixed_laid order path (from_table t) p ∙ ap (λ z. get_or t z false) (number-laid path point p h l)

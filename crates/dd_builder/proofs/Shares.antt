@@ -32,7 +32,8 @@ enumerate_append n (x ∷ xs) ys = ap (λ zs. (n, x) ∷ zs) (enumerate_append (
 pub share_last : (b : ℕ) (xs : List Product) (x : Product) → share b (xs ++ x ∷ []) ≡ share b xs ++ cond (eqb (length xs % 64) b) (x ∷ []) []
 unfolding share
 share_last b xs x =
-    ap (λ zs. map (λ e. e.1) (filter (λ e. eqb (e.0 % 64) b) zs)) (enumerate_append 0 xs (x ∷ []) ∙ ap (λ k. enumerate_from 0 xs ++ (k, x) ∷ []) (zero-add (length xs)))
+    ap (λ zs. map (λ e. e.1) (filter (λ e. eqb (e.0 % 64) b) zs))
+    (enumerate_append 0 xs (x ∷ []) ∙ ap (λ k. enumerate_from 0 xs ++ (k, x) ∷ []) (zero-add (length xs)))
     ∙ (ap (map (λ e. e.1)) (filter-append (λ e. eqb (e.0 % 64) b) (enumerate_from 0 xs) ((length xs, x) ∷ []))
     ∙ (map-append (λ e. e.1) (filter (λ e. eqb (e.0 % 64) b) (enumerate_from 0 xs)) (filter (λ e. eqb (e.0 % 64) b) ((length xs, x) ∷ []))
     ∙ ap (λ zs. map (λ e. e.1) (filter (λ e. eqb (e.0 % 64) b) (enumerate_from 0 xs)) ++ zs) (single (eqb (length xs % 64) b) (length xs) x)))
@@ -50,7 +51,8 @@ share_other b i xs ne = elim (cases_lt i (length xs)) [
   | inl low ↦
       let size : length (take i xs) ≡ i = length-take i xs ∙ omega arith in
       ap (share b) (take_more xs i none low) ∙ (share_last b (take i xs) (get_or xs i none)
-      ∙ (ap (λ c. share b (take i xs) ++ cond c (get_or xs i none ∷ []) []) (ap (λ k. eqb (k % 64) b) size ∙ ne_eqb (i % 64) b ne) ∙ append-nil (share b (take i xs))))
+      ∙ (ap (λ c. share b (take i xs) ++ cond c (get_or xs i none ∷ []) []) (ap (λ k. eqb (k % 64) b) size ∙ ne_eqb (i % 64) b ne)
+      ∙ append-nil (share b (take i xs))))
   | inr past ↦ ap (share b) (take_all (i + 1) xs (omega arith) ∙ sym (take_all i xs past))
 ]
 
@@ -61,7 +63,8 @@ share_others b i zero xs h = ap (λ k. share b (take k xs)) here
     here : i + 0 ≡ i
     here = omega arith
 share_others b i (suc d) xs h =
-    ap (λ k. share b (take k xs)) next ∙ (share_other b (i + d) xs (h (i + d) (omega arith) (omega arith)) ∙ share_others b i d xs (λ k l u. h k l (omega arith)))
+    ap (λ k. share b (take k xs)) next
+    ∙ (share_other b (i + d) xs (h (i + d) (omega arith) (omega arith)) ∙ share_others b i d xs (λ k l u. h k l (omega arith)))
   where
     next : i + suc d ≡ i + d + 1
     next = omega arith
@@ -80,10 +83,13 @@ share_own b i xs e low =
 -- before the first product of the remainder there is none
 pub share_start : (b output : ℕ) (xs : List Product) (p : Point) → b < 64 → product_function (share b (take b xs)) output p ≡ false
 unfolding product_function share
-share_start b output xs p low = ap (λ ys. list_any (λ product. matches product p && has_output product output) ys) (ap (λ k. share b (take k xs)) (sym (zero-add b)) ∙ (share_others b 0 b xs (λ k l u q. omega arith)))
+share_start b output xs p low =
+    ap (λ ys. list_any (λ product. matches product p && has_output product output) ys)
+    (ap (λ k. share b (take k xs)) (sym (zero-add b)) ∙ (share_others b 0 b xs (λ k l u q. omega arith)))
 
 -- the function with one more product of the remainder
-pub share_next : (b output i : ℕ) (xs : List Product) (x : Product) (f : Function) (p : Point) → i % 64 ≡ b → i < length xs → x ≡ get_or xs i none → f p ≡ product_function (share b (take i xs)) output p
+pub share_next : (b output i : ℕ) (xs : List Product) (x : Product) (f : Function) (p : Point) → i % 64 ≡ b → i < length xs →
+    x ≡ get_or xs i none → f p ≡ product_function (share b (take i xs)) output p
     → with_product x output f p ≡ product_function (share b (take (i + 64) xs)) output p
 unfolding product_function with_product
 share_next b output i xs x f p e low at h =
@@ -92,11 +98,14 @@ share_next b output i xs x f p e low at h =
     ∙ ap (λ c. list_any test (share b (take i xs)) || c) (or-false (test (get_or xs i none))))))
 
 -- the terms of a remainder are a piece
-pub terms_part : (kind : PieceKind) (order : List ℕ) (t : TruthTables) (terms : List Term) (q : ℕ) → AreTermsOfKind t terms kind → part_function kind order t q ≡ product_function (share (q % 64) (products_of t terms)) (q / 64)
+pub terms_part : (kind : PieceKind) (order : List ℕ) (t : TruthTables) (terms : List Term) (q : ℕ) → AreTermsOfKind t terms kind →
+    part_function kind order t q ≡ product_function (share (q % 64) (products_of t terms)) (q / 64)
 unfolding part_function
 terms_part Restrictions order t terms q h = absurd h
 terms_part (Products own) order t terms q h = ap (λ ps. product_function (share (q % 64) ps) (q / 64)) (sym h)
 
-pub terms_piece : (b : Plan) (terms : List Term) (q output : ℕ) → IsForTerms b terms → q < b.roots → output ≡ q / 64 → product_function (share (q % 64) (products_of b.problem.value terms)) output ≡ piece_function b q
+pub terms_piece : (b : Plan) (terms : List Term) (q output : ℕ) → IsForTerms b terms → q < b.roots → output ≡ q / 64 →
+    product_function (share (q % 64) (products_of b.problem.value terms)) output ≡ piece_function b q
 terms_piece b terms q output is low e =
-    ap (product_function (share (q % 64) (products_of b.problem.value terms))) e ∙ (sym (terms_part b.kind (order_of b) b.problem.value terms q is) ∙ sym (part_piece b q low))
+    ap (product_function (share (q % 64) (products_of b.problem.value terms))) e
+    ∙ (sym (terms_part b.kind (order_of b) b.problem.value terms q is) ∙ sym (part_piece b q low))

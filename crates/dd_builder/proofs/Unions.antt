@@ -22,25 +22,31 @@ use Rattle.std.proofs.Math.Bool.{or-false}
 use Rattle.order_model.proofs.Lists.Ranges.{range_append}
 
 -- one part
-pub part_union : (s : Knowledge) (b : Plan) (output first count id : ℕ) → count ≡ 1 → Means s id (piece_function b (output * 64 + first)) → Means s id (shares_union b output first count)
+pub part_union : (s : Knowledge) (b : Plan) (output first count id : ℕ) → count ≡ 1 → Means s id (piece_function b (output * 64 + first)) →
+    Means s id (shares_union b output first count)
 unfolding shares_union
 part_union s b output first count id one m =
     means_same s id (piece_function b (output * 64 + first)) (shares_union b output first count) m
-    (λ p l. sym (or-false (piece_function b (output * 64 + first) p)) ∙ ap (λ n. list_any (λ share. piece_function b (output * 64 + share) p) (range_with_len first n)) (sym one))
+    (λ p l. sym (or-false (piece_function b (output * 64 + first) p))
+    ∙ ap (λ n. list_any (λ share. piece_function b (output * 64 + share) p) (range_with_len first n)) (sym one))
 
 -- the parts of two halves
-pub halves_union : (s1 s2 s3 : Knowledge) (b : Plan) (output first half rest count lower upper made : ℕ) → count ≡ half + rest → Means s1 lower (shares_union b output first half) → Follows s1 s2
-    → Means s2 upper (shares_union b output (first + half) rest) → Follows s2 s3 → Means s3 made (combine Or (function_in s3 lower) (function_in s3 upper)) → Means s3 made (shares_union b output first count)
+pub halves_union : (s1 s2 s3 : Knowledge) (b : Plan) (output first half rest count lower upper made : ℕ) → count ≡ half + rest →
+    Means s1 lower (shares_union b output first half) → Follows s1 s2
+    → Means s2 upper (shares_union b output (first + half) rest) → Follows s2 s3 →
+    Means s3 made (combine Or (function_in s3 lower) (function_in s3 upper)) → Means s3 made (shares_union b output first count)
 unfolding shares_union combine
 halves_union s1 s2 s3 b output first half rest count lower upper made all ml f12 mu f23 m =
     let test : (p : Point) → ℕ → Bool = λ p share. piece_function b (output * 64 + share) p in
     means_same s3 made (combine Or (function_in s3 lower) (function_in s3 upper)) (shares_union b output first count) m
     (λ p l. (λ i. means_at s3 lower _ p (f23.means lower _ (f12.means lower _ ml)) l i || means_at s3 upper _ p (f23.means upper _ mu) l i)
-    ∙ (sym (list_any-append (test p) (range_with_len first half) (range_with_len (first + half) rest)) ∙ ap (list_any (test p)) (sym (range_append first half rest)) ∙ ap (λ n. list_any (test p) (range_with_len first n)) (sym all)))
+    ∙ (sym (list_any-append (test p) (range_with_len first half) (range_with_len (first + half) rest))
+    ∙ ap (list_any (test p)) (sym (range_append first half rest)) ∙ ap (λ n. list_any (test p) (range_with_len first n)) (sym all)))
 
 -- ---- all products
 
-any_none : (A : ℕ → Bool) (c : ℕ) (t : Bool) (len a : ℕ) → ((x : ℕ) → a ≤ x → x < a + len → c ≢ x) → list_any (λ b. A b || cond (eqb c b) t false) (range_with_len a len) ≡ list_any A (range_with_len a len)
+any_none : (A : ℕ → Bool) (c : ℕ) (t : Bool) (len a : ℕ) → ((x : ℕ) → a ≤ x → x < a + len → c ≢ x) →
+    list_any (λ b. A b || cond (eqb c b) t false) (range_with_len a len) ≡ list_any A (range_with_len a len)
 any_none A c t zero a h = refl
 any_none A c t (suc len) a h =
     let here : (A a || cond (eqb c a) t false) ≡ A a = ap (λ e. A a || cond e t false) (ne_eqb c a (h a (omega arith) (omega arith))) ∙ or-false (A a) in
@@ -59,7 +65,8 @@ or_assoc true y t = refl
 or_assoc false y t = refl
 
 -- a test that one number meets besides
-any_one : (A : ℕ → Bool) (c : ℕ) (t : Bool) (len a : ℕ) → a ≤ c → c < a + len → list_any (λ b. A b || cond (eqb c b) t false) (range_with_len a len) ≡ (list_any A (range_with_len a len) || t)
+any_one : (A : ℕ → Bool) (c : ℕ) (t : Bool) (len a : ℕ) → a ≤ c → c < a + len →
+    list_any (λ b. A b || cond (eqb c b) t false) (range_with_len a len) ≡ (list_any A (range_with_len a len) || t)
 any_one A c t zero a l u = absurd (omega arith)
 any_one A c t (suc len) a l u = elim (cases_eq c a) [
   | inl e ↦
@@ -88,19 +95,25 @@ module _ (output : ℕ) (p : Point) where
   single false x = refl
 
   -- the products of all remainders are all products
-  all_shares : (xs : List Product) (i : ℕ) → i ≤ length xs → list_any (λ b. product_function (share b (take i xs)) output p) (range_with_len 0 64) ≡ product_function (take i xs) output p
+  all_shares : (xs : List Product) (i : ℕ) → i ≤ length xs →
+      list_any (λ b. product_function (share b (take i xs)) output p) (range_with_len 0 64) ≡ product_function (take i xs) output p
   unfolding product_function test share
   all_shares xs zero l = refl
   all_shares xs (suc i) l =
       let x : Product = get_or xs i none in
       let more : take (suc i) xs ≡ take i xs ++ x ∷ [] = ap (λ k. take k xs) next ∙ take_more xs i none (omega arith) in
       let size : length (take i xs) ≡ i = length-take i xs ∙ omega arith in
-      any_same (λ b. product_function (share b (take (suc i) xs)) output p) (λ b. product_function (share b (take i xs)) output p || cond (eqb (i % 64) b) (test x) false) 64 0
-      (λ b low up. ap (λ ys. list_any test (share b ys)) more ∙ (ap (list_any test) (share_last b (take i xs) x) ∙ (list_any-append test (share b (take i xs)) (cond (eqb (length (take i xs) % 64) b) (x ∷ []) [])
-      ∙ (ap (λ c. list_any test (share b (take i xs)) || c) (single (eqb (length (take i xs) % 64) b) x) ∙ ap (λ k. list_any test (share b (take i xs)) || cond (eqb (k % 64) b) (test x) false) size))))
+      any_same (λ b. product_function (share b (take (suc i) xs)) output p)
+      (λ b. product_function (share b (take i xs)) output p || cond (eqb (i % 64) b) (test x) false) 64 0
+      (λ b low up. ap (λ ys. list_any test (share b ys)) more
+      ∙ (ap (list_any test) (share_last b (take i xs) x)
+      ∙ (list_any-append test (share b (take i xs)) (cond (eqb (length (take i xs) % 64) b) (x ∷ []) [])
+      ∙ (ap (λ c. list_any test (share b (take i xs)) || c) (single (eqb (length (take i xs) % 64) b) x)
+      ∙ ap (λ k. list_any test (share b (take i xs)) || cond (eqb (k % 64) b) (test x) false) size))))
       ∙ (any_one (λ b. product_function (share b (take i xs)) output p) (i % 64) (test x) 64 0 (omega arith) (omega arith)
       ∙ (ap (λ c. c || test x) (all_shares xs i (omega arith))
-      ∙ (ap (λ c. list_any test (take i xs) || c) (sym (or-false (test x))) ∙ (sym (list_any-append test (take i xs) (x ∷ [])) ∙ ap (list_any test) (sym more)))))
+      ∙ (ap (λ c. list_any test (take i xs) || c) (sym (or-false (test x)))
+      ∙ (sym (list_any-append test (take i xs) (x ∷ [])) ∙ ap (list_any test) (sym more)))))
     where
       next : suc i ≡ i + 1
       next = omega arith
@@ -113,7 +126,8 @@ module _ (output : ℕ) (p : Point) where
   parts_output (Products own) order t some are low l =
       let ps : List Product = products_of t own.value in
       any_same (λ k. part_function (Products own) order t (output * 64 + k) p) (λ b. product_function (share b ps) output p) 64 0
-      (λ k a u. ap (λ f. f p) (terms_part (Products own) order t own.value (output * 64 + k) refl) ∙ (λ i. product_function (share (rest k a u i) ps) (quotient k a u i) p))
+      (λ k a u. ap (λ f. f p) (terms_part (Products own) order t own.value (output * 64 + k) refl)
+      ∙ (λ i. product_function (share (rest k a u i) ps) (quotient k a u i) p))
       ∙ (ap (λ xs. list_any (λ b. product_function (share b xs) output p) (range_with_len 0 64)) (sym (take_all (length ps) ps (omega arith)))
       ∙ (all_shares ps (length ps) (omega arith) ∙ (ap (λ xs. product_function xs output p) (take_all (length ps) ps (omega arith)) ∙ are output low p l)))
     where
@@ -128,19 +142,24 @@ terms_count Restrictions order t some = absurd some
 terms_count (Products own) order t some = refl
 
 -- the union of all parts by terms is the output
-pub parts_all : (s : Knowledge) (b : Plan) (output id : ℕ) → IsPlan b → AreOfTerms b.kind → output < outputs_of b.problem.value → levels_of s.store.plan ≡ levels_of b → Means s id (shares_union b output 0 64) → Means s id (output_at b.problem.value output)
+pub parts_all : (s : Knowledge) (b : Plan) (output id : ℕ) → IsPlan b → AreOfTerms b.kind → output < outputs_of b.problem.value →
+    levels_of s.store.plan ≡ levels_of b → Means s id (shares_union b output 0 64) → Means s id (output_at b.problem.value output)
 unfolding shares_union
 parts_all s b output id plan some low same m =
     means_same s id (shares_union b output 0 64) (output_at b.problem.value output) m (λ p l.
     any_same (λ share. piece_function b (output * 64 + share) p) (λ share. part_function b.kind (order_of b) b.problem.value (output * 64 + share) p) 64 0
-    (λ j a u. ap (λ f. f p) (part_piece b (output * 64 + j) (let e = plan.roots in let c = terms_count b.kind (order_of b) b.problem.value some in omega arith)))
+    (λ j a u. ap (λ f. f p)
+    (part_piece b (output * 64 + j)
+    (let e = plan.roots in let c = terms_count b.kind (order_of b) b.problem.value some in omega arith)))
     ∙ parts_output output p b.kind (order_of b) b.problem.value some plan.terms low (l ∙ (same ∙ sym plan.inputs)))
 
 -- an output is the piece after the parts
 pub root_piece : (b : Plan) (j q : ℕ) → q ≡ b.roots + j → piece_function b q ≡ output_at b.problem.value j
 unfolding piece_function
 root_piece b j q e =
-    ap (λ (c : Bool). if c then part_function b.kind (order_of b) b.problem.value q else output_at b.problem.value (q - b.roots)) (le-ltb q b.roots (omega arith)) ∙ ap (output_at b.problem.value) there
+    ap (λ (c : Bool). if c then part_function b.kind (order_of b) b.problem.value q else output_at b.problem.value (q - b.roots))
+    (le-ltb q b.roots (omega arith))
+    ∙ ap (output_at b.problem.value) there
   where
     there : q - b.roots ≡ j
     there = omega arith

@@ -67,7 +67,8 @@ fn parts_by_workers<R: Threads + Sync, G: Gate>(
         rt,
         jobs,
         &|job: Job| -> Result<Session, Session>
-            requires { IsSync G.row × (job.session.store ≡ store.now) × IsSourceFor store.now.plan source × (1 ≤ job.worker) × (job.worker ≤ count) }
+            requires { IsSync G.row × (job.session.store ≡ store.now)
+                × IsSourceFor store.now.plan source × (1 ≤ job.worker) × (job.worker ≤ count) }
             ensures { IsEndOf store.entry.now count (job.worker - 1) result }
         {
             let Job { worker, session } = job;
@@ -263,7 +264,8 @@ pub fn build_from<R: Threads + Sync, G: Gate>(
     requires order { order_of store.plan ≡ order.now }
     requires cover { IsForCover store.plan cover.now }
     requires tables { AreTablesOf cover.now tables.now }
-    ensures diagram { IfOk result (IsDiagramOf cover.now.inputs (functions_of cover.now) order.now) }
+    ensures diagram { IfOk result
+        (IsDiagramOf cover.now.inputs (functions_of cover.now) order.now) }
     ensures refused { IfErr result (RefusesUnder order.now tables.now) }
 {
     let _plan = store.order();
@@ -295,7 +297,8 @@ pub fn build<R: Threads + Sync, G: Gate>(
 ) -> Result<Diagram, BuildError>
     requires order { length order.now ≡ cover.now.inputs }
     requires tables { AreTablesOf cover.now tables.now }
-    ensures diagram { IfOk result (IsDiagramOf cover.now.inputs (functions_of cover.now) order.now) }
+    ensures diagram { IfOk result
+        (IsDiagramOf cover.now.inputs (functions_of cover.now) order.now) }
     ensures refused { IfErr result (RefusesUnder order.now tables.now) }
 {
     if has_many_terms(cover) {

@@ -24,7 +24,8 @@ fn literal_and(
     requires session { session.old.store ≡ store.now }
     requires level { level < levels_of store.now.plan }
     requires id { IsKnownBelow session.old level id }
-    ensures made { Makes session.old session.new result (with_literal term (variable_at store.now.plan level) (function_in session.new id)) }
+    ensures made { Makes session.old session.new result
+        (with_literal term (variable_at store.now.plan level) (function_in session.new id)) }
     ensures level { IfOk result (λ made. level ≤ depth_in session.new made) }
 {
     let x = store.order().variables()[usize::from(level)];
@@ -64,7 +65,8 @@ fn or_term(
     requires known { Knows session.old id }
     requires output { output < outputs_of store.now.plan.problem.value }
     requires few { output < 16 }
-    ensures { Makes session.old session.new result (with_product (product_in store.now.plan term) output (function_in session.new id)) }
+    ensures { Makes session.old session.new result
+        (with_product (product_in store.now.plan term) output (function_in session.new id)) }
 {
     if (term.outs >> output) & 1 == 0 {
         return Ok(id);
@@ -85,7 +87,9 @@ fn output_share(
     requires output { output < outputs_of store.now.plan.problem.value }
     requires few { output < 16 }
     requires share { share < 64 }
-    ensures { Makes session.old session.new result (product_function (share_of share (products_of store.now.plan.problem.value terms.now)) output) }
+    ensures { Makes session.old session.new result
+        (product_function (share_of share (products_of store.now.plan.problem.value terms.now))
+        output) }
 {
     let mut id = 0;
     let mut number = share;

@@ -124,7 +124,8 @@ fn take_apart(store: &Store, session: &mut Session, first: NodeId, second: NodeI
     requires session { session.old.store ≡ store.now }
     requires operands { AreOperands session.old first second }
     ensures follows { Follows session.old session.new }
-    ensures level { (k : ℕ) → k ≤ depth_in session.old first → k ≤ depth_in session.old second → k ≤ result.level }
+    ensures level { (k : ℕ) → k ≤ depth_in session.old first → k ≤ depth_in session.old second →
+        k ≤ result.level }
     ensures few { levels_of store.now.plan ≤ 16 }
     ensures inside { result.level < levels_of store.now.plan }
     ensures first { IsCut session.new result.level first result.first.0 result.first.1 }
@@ -183,7 +184,8 @@ pub fn apply(
 ) -> Result<NodeId, StoreFull>
     requires session { session.old.store ≡ store.now }
     requires known { Knows session.old first × Knows session.old second }
-    ensures { Makes session.old session.new result (combined_in session.new operation first second) }
+    ensures { Makes session.old session.new result
+        (combined_in session.new operation first second) }
 {
     apply_from(store, session, operation, first, second, 0)
 }

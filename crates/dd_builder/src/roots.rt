@@ -42,7 +42,8 @@ fn of_restrictions(
     requires output { output < outputs_of store.now.plan.problem.value }
     requires level { level ≤ length (tops_of (order_of store.now.plan)) }
     requires path { path < 2 ^ level }
-    ensures made { Makes session.old session.new result (output_along store.now.plan level path output) }
+    ensures made { Makes session.old session.new result
+        (output_along store.now.plan level path output) }
     ensures level { IfOk result (λ id. level ≤ depth_in session.new id) }
 {
     let tops = tops(store.order().variables());
@@ -67,7 +68,8 @@ fn of_shares(
     requires output { output < outputs_of store.now.plan.problem.value }
     requires some { 1 ≤ count }
     requires inside { first + count ≤ 64 }
-    ensures { Makes session.old session.new result (shares_union store.now.plan output first count) }
+    ensures { Makes session.old session.new result
+        (shares_union store.now.plan output first count) }
 {
     let _plan = store.order();
     if count == 1 {

@@ -40,7 +40,8 @@ fn output_below(
     requires output { output < outputs_of tables.now }
     requires level { level ≤ levels_of store.now.plan }
     requires path { path < 2 ^ level }
-    ensures made { Makes session.old session.new result (output_along store.now.plan level path output) }
+    ensures made { Makes session.old session.new result
+        (output_along store.now.plan level path output) }
     ensures level { IfOk result (λ id. level ≤ depth_in session.new id) }
 {
     let order = store.order().variables();
@@ -79,7 +80,8 @@ pub(crate) fn restriction(
     requires tables { IsForTables store.now.plan tables.now }
     requires piece { piece < store.now.plan.roots }
     ensures made { Makes session.old session.new result (piece_function store.now.plan piece) }
-    ensures level { IfOk result (λ id. length (tops (order_of store.now.plan)) ≤ depth_in session.new id) }
+    ensures level { IfOk result
+        (λ id. length (tops (order_of store.now.plan)) ≤ depth_in session.new id) }
 {
     let tops = tops(store.order().variables());
     let ways = 1usize << tops;

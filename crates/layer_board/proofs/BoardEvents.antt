@@ -26,34 +26,55 @@ module _ (b : BriefOf) (s : St) (k : Kept b s) (id : ℕ) (v : SeatView) (at : g
   same_blocks = ap (λ (z : BriefOf). length (blocks_of z.layer)) (k.briefs id v at).0
 
   -- the state after a step that changes a word
-  after_step : (i n counter : ℕ) (cells : List (Option (ℕ × ℕ))) (m : Sat) (w : Worker) (wrote : ℕ) → counter_of (set s.words i n) ≡ counter → map cell_in (cell_words (set s.words i n)) ≡ cells → m ≡ (after v w wrote, [])
+  after_step : (i n counter : ℕ) (cells : List (Option (ℕ × ℕ))) (m : Sat) (w : Worker) (wrote : ℕ) →
+      counter_of (set s.words i n) ≡ counter → map cell_in (cell_words (set s.words i n)) ≡ cells → m ≡ (after v w wrote, [])
       → shows b (stepped s i n id [] m.0 keeps) ≡ moved (shows b s) counter cells id w
   after_step i n counter cells m w wrote new_counter new_cells is =
       picture_moved b.layer s.words s.views i n id counter cells m.0 new_counter new_cells ∙ ap (λ (z : Sat). moved (shows b s) counter cells id z.0.worker) is
 
   pub claim_event : (slots : ℕ) (m : Sat) → v.worker.told ≡ false → claims (table_step slots 0 1 0 none) (v, []) (get_or s.words 0 0) m
-      → (claim_reply (length (blocks_of b.layer)) (get_or s.words 0 0), shows b (stepped s 0 ((get_or s.words 0 0 + 1) % 2 ^ 64) id [] m.0 keeps)) ≡ step (shows b s) (Claim id)
+      → (
+        claim_reply (length (blocks_of b.layer)) (get_or s.words 0 0),
+        shows b (stepped s 0 ((get_or s.words 0 0 + 1) % 2 ^ 64) id [] m.0 keeps),
+      ) ≡
+      step (shows b s) (Claim id)
   claim_event slots m untold told =
       let n : ℕ = get_or s.words 0 0 in let is : n ≡ counter_of s.words = counter_read s.words in
       let small = small_counter b s k in let wide : 0 < length s.words = (let l = k.size in omega arith) in
       let up : (n + 1) % 2 ^ 64 ≡ counter_of s.words + 1 = mod-eq_of_lt (omega arith) ∙ ap (λ (z : ℕ). z + 1) is in
       let now : counter_of (set s.words 0 ((n + 1) % 2 ^ 64)) ≡ counter_of s.words + 1 = counter_set s.words ((n + 1) % 2 ^ 64) wide ∙ up in
-      let same : map cell_in (cell_words (set s.words 0 ((n + 1) % 2 ^ 64))) ≡ map cell_in (cell_words s.words) = ap (map cell_in) (cells_set_counter s.words ((n + 1) % 2 ^ 64)) in
+      let same : map cell_in (cell_words (set s.words 0 ((n + 1) % 2 ^ 64))) ≡ map cell_in (cell_words s.words) =
+      ap (map cell_in) (cells_set_counter s.words ((n + 1) % 2 ^ 64)) in
       ⊎_elim
       (λ (low : n < length (blocks_of b.layer)).
-      let next : shows b (stepped s 0 ((n + 1) % 2 ^ 64) id [] m.0 keeps) ≡ moved (shows b s) (counter_of s.words + 1) (map cell_in (cell_words s.words)) id (claims_block v.worker n) =
-      after_step 0 ((n + 1) % 2 ^ 64) (counter_of s.words + 1) (map cell_in (cell_words s.words)) m (claims_block v.worker n) 1 now same (told.0 (omega (arith, same_blocks))).0 in
+      let next : shows b (stepped s 0 ((n + 1) % 2 ^ 64) id [] m.0 keeps) ≡ moved (shows b s) (counter_of s.words + 1)
+      (map cell_in (cell_words s.words)) id (claims_block v.worker n) =
+      after_step 0 ((n + 1) % 2 ^ 64) (counter_of s.words + 1) (map cell_in (cell_words s.words)) m (claims_block v.worker n) 1 now same
+      (told.0 (omega (arith, same_blocks))).0 in
       (λ i. (cond (lt-ltb n (length (blocks_of b.layer)) low i) (Claimed n) NoMore, next i))
-      ∙ ((λ i. (Claimed (is i), moved (shows b s) (counter_of s.words + 1) (map cell_in (cell_words s.words)) id (claims_block v.worker (is i)))) ∙ sym (claim_next (shows b s) id v.worker there untold (omega arith))))
+      ∙ ((λ i. (
+        Claimed (is i),
+        moved (shows b s) (counter_of s.words + 1) (map cell_in (cell_words s.words)) id (claims_block v.worker (is i)),
+      ))
+      ∙ sym (claim_next (shows b s) id v.worker there untold (omega arith))))
       (λ (high : length (blocks_of b.layer) ≤ n).
-      let next : shows b (stepped s 0 ((n + 1) % 2 ^ 64) id [] m.0 keeps) ≡ moved (shows b s) (counter_of s.words + 1) (map cell_in (cell_words s.words)) id (ends v.worker) =
-      after_step 0 ((n + 1) % 2 ^ 64) (counter_of s.words + 1) (map cell_in (cell_words s.words)) m (ends v.worker) 1 now same (told.1 (omega (arith, same_blocks))) in
-      (λ i. (cond (le-ltb n (length (blocks_of b.layer)) high i) (Claimed n) NoMore, next i)) ∙ sym (claim_past (shows b s) id v.worker there untold (omega arith)))
+      let next : shows b (stepped s 0 ((n + 1) % 2 ^ 64) id [] m.0 keeps) ≡ moved (shows b s) (counter_of s.words + 1)
+      (map cell_in (cell_words s.words)) id (ends v.worker) =
+      after_step 0 ((n + 1) % 2 ^ 64) (counter_of s.words + 1) (map cell_in (cell_words s.words)) m (ends v.worker) 1 now same
+      (told.1 (omega (arith, same_blocks))) in
+      (λ i. (cond (le-ltb n (length (blocks_of b.layer)) high i) (Claimed n) NoMore, next i))
+      ∙ sym (claim_past (shows b s) id v.worker there untold (omega arith)))
       (cases_lt n (length (blocks_of b.layer)))
 
   -- a step that changes no worker
   nothing_moved : moved (shows b s) (counter_of s.words) (map cell_in (cell_words s.words)) id v.worker ≡ shows b s
-  nothing_moved = λ i. record { layout = layout_of b.layer; counter = counter_of s.words; cells = map cell_in (cell_words s.words); workers = set_again (map worker_of s.views) id v.worker there i }
+  nothing_moved =
+      λ i. record {
+        layout = layout_of b.layer;
+        counter = counter_of s.words;
+        cells = map cell_in (cell_words s.words);
+        workers = set_again (map worker_of s.views) id v.worker there i;
+      }
 
   module _ (p mask : ℕ) (place : place_of (layout_of b.layer) mask ≡ Some p) where
     word : ℕ
@@ -71,25 +92,42 @@ module _ (b : BriefOf) (s : St) (k : Kept b s) (id : ℕ) (v : SeatView) (at : g
         let n : ℕ = get_or s.words (p + 1) 0 in let tells = read_at slots p 0 0 n (v, []) m told in
         dite (ℕ_discrete n 0)
         (λ empty.
-        let next = after_step (p + 1) n (counter_of s.words) (map cell_in (cell_words s.words)) m v.worker 0 (ap counter_of unchanged) (ap (λ z. map cell_in (cell_words z)) unchanged) (tells.0 empty).0 ∙ nothing_moved in
-        (λ i. (cond (eq-eqb n 0 empty i) Empty (Seen (n / 32 - 1, n % 32)), next i)) ∙ sym (read_empty (shows b s) id mask p place (shown ∙ empty_word n empty)))
+        let next = after_step (p + 1) n (counter_of s.words) (map cell_in (cell_words s.words)) m v.worker 0 (ap counter_of unchanged)
+        (ap (λ z. map cell_in (cell_words z)) unchanged) (tells.0 empty).0
+        ∙ nothing_moved in
+        (λ i. (cond (eq-eqb n 0 empty i) Empty (Seen (n / 32 - 1, n % 32)), next i))
+        ∙ sym (read_empty (shows b s) id mask p place (shown ∙ empty_word n empty)))
         (λ full.
-        let next = after_step (p + 1) n (counter_of s.words) (map cell_in (cell_words s.words)) m (learns v.worker p) 0 (ap counter_of unchanged) (ap (λ z. map cell_in (cell_words z)) unchanged) (tells.1 full).0 in
-        (λ i. (cond (ne_eqb n 0 full i) Empty (Seen (n / 32 - 1, n % 32)), next i)) ∙ sym (read_sees (shows b s) id v.worker there mask p place (n / 32 - 1, n % 32) (shown ∙ full_word n full)))
+        let next = after_step (p + 1) n (counter_of s.words) (map cell_in (cell_words s.words)) m (learns v.worker p) 0
+        (ap counter_of unchanged) (ap (λ z. map cell_in (cell_words z)) unchanged) (tells.1 full).0 in
+        (λ i. (cond (ne_eqb n 0 full i) Empty (Seen (n / 32 - 1, n % 32)), next i))
+        ∙ sym (read_sees (shows b s) id v.worker there mask p place (n / 32 - 1, n % 32) (shown ∙ full_word n full)))
 
-    pub post_event : (slots new : ℕ) (cell : ℕ × ℕ) (m : Sat) → claimed v.worker (get_or (layout_of b.layer).block_of p 0) ≡ true → cell_in new ≡ Some cell → posts (table_step slots (p + 1) 0 new none) (v, []) (get_or s.words (p + 1) 0) m
-        → (post_reply (get_or s.words (p + 1) 0), shows b (stepped s (p + 1) (either (eqb (get_or s.words (p + 1) 0) 0) new (get_or s.words (p + 1) 0)) id [] m.0 keeps)) ≡ step (shows b s) (Post id mask cell)
+    pub post_event : (slots new : ℕ) (cell : ℕ × ℕ) (m : Sat) → claimed v.worker (get_or (layout_of b.layer).block_of p 0) ≡ true →
+        cell_in new ≡ Some cell → posts (table_step slots (p + 1) 0 new none) (v, []) (get_or s.words (p + 1) 0) m
+        → (
+          post_reply (get_or s.words (p + 1) 0),
+          shows b (stepped s (p + 1) (either (eqb (get_or s.words (p + 1) 0) 0) new (get_or s.words (p + 1) 0)) id [] m.0 keeps),
+        ) ≡
+        step (shows b s) (Post id mask cell)
     post_event slots new cell m mine stands told =
         let n : ℕ = get_or s.words (p + 1) 0 in let tells = posted_at slots p 0 new n (v, []) m told in
         dite (ℕ_discrete n 0)
         (λ empty.
-        let counter : counter_of (set s.words (p + 1) new) ≡ counter_of s.words = ap (λ (z : ℕ). counter_of (set s.words z new)) (add-one p) ∙ counter_set_cell s.words p new in
+        let counter : counter_of (set s.words (p + 1) new) ≡ counter_of s.words = ap (λ (z : ℕ). counter_of (set s.words z new)) (add-one p)
+        ∙ counter_set_cell s.words p new in
         let cells : map cell_in (cell_words (set s.words (p + 1) new)) ≡ set (map cell_in (cell_words s.words)) p (Some cell) =
-        ap (λ (z : ℕ). map cell_in (cell_words (set s.words z new))) (add-one p) ∙ (ap (map cell_in) (cells_set s.words p new) ∙ (cells_shown_set (cell_words s.words) p new ∙ ap (set (map cell_in (cell_words s.words)) p) stands)) in
-        let next = after_step (p + 1) new (counter_of s.words) (set (map cell_in (cell_words s.words)) p (Some cell)) m (learns v.worker p) 1 counter cells (tells.0 empty) in
+        ap (λ (z : ℕ). map cell_in (cell_words (set s.words z new))) (add-one p)
+        ∙ (ap (map cell_in) (cells_set s.words p new)
+        ∙ (cells_shown_set (cell_words s.words) p new ∙ ap (set (map cell_in (cell_words s.words)) p) stands)) in
+        let next = after_step (p + 1) new (counter_of s.words) (set (map cell_in (cell_words s.words)) p (Some cell)) m (learns v.worker p)
+        1 counter cells (tells.0 empty) in
         (λ i. (cond (eq-eqb n 0 empty i) Posted Double, shows b (stepped s (p + 1) (either (eq-eqb n 0 empty i) new n) id [] m.0 keeps)))
         ∙ (ap (λ (w : World). (Posted, w)) next ∙ sym (post_fills (shows b s) id v.worker there mask p place cell mine (shown ∙ empty_word n empty))))
         (λ full.
-        let next = after_step (p + 1) n (counter_of s.words) (map cell_in (cell_words s.words)) m v.worker 0 (ap counter_of unchanged) (ap (λ z. map cell_in (cell_words z)) unchanged) (tells.1 full).0 ∙ nothing_moved in
+        let next = after_step (p + 1) n (counter_of s.words) (map cell_in (cell_words s.words)) m v.worker 0 (ap counter_of unchanged)
+        (ap (λ z. map cell_in (cell_words z)) unchanged) (tells.1 full).0
+        ∙ nothing_moved in
         (λ i. (cond (ne_eqb n 0 full i) Posted Double, shows b (stepped s (p + 1) (either (ne_eqb n 0 full i) new n) id [] m.0 keeps)))
-        ∙ (ap (λ (w : World). (Double, w)) next ∙ sym (post_double (shows b s) id v.worker there mask p place cell mine (n / 32 - 1, n % 32) (shown ∙ full_word n full))))
+        ∙ (ap (λ (w : World). (Double, w)) next
+        ∙ sym (post_double (shows b s) id v.worker there mask p place cell mine (n / 32 - 1, n % 32) (shown ∙ full_word n full))))

@@ -51,20 +51,25 @@ module _ (b : BriefOf) (V : SeatView) (id : ℕ) (s : St) (k : Kept b s) (at : g
   last = picture b.layer s.words s.views
 
   -- all cells
-  all_filled : (cells : List Cell) → map (λ c. Some (pair_of c)) cells ≡ take (length (masks_of b.layer)) (map cell_in (cell_words ws)) → map pair_of cells ≡ map (cell_for b.setting) (masks_of b.layer)
+  all_filled : (cells : List Cell) → map (λ c. Some (pair_of c)) cells ≡ take (length (masks_of b.layer)) (map cell_in (cell_words ws)) →
+      map pair_of cells ≡ map (cell_for b.setting) (masks_of b.layer)
   all_filled cells e =
       let words : map cell_in (cell_words ws) ≡ map cell_in (cell_words s.words) = ap (λ z. map cell_in (cell_words z)) (sym is) in
       let shown : map (λ c. Some (pair_of c)) cells ≡ map cell_in (cell_words s.words) =
-      e ∙ (ap (take (length (masks_of b.layer))) words ∙ take_all (length (masks_of b.layer)) (map cell_in (cell_words s.words)) (omega (arith, k.right.size))) in
+      e ∙ (ap (take (length (masks_of b.layer))) words
+      ∙ take_all (length (masks_of b.layer)) (map cell_in (cell_words s.words)) (omega (arith, k.right.size))) in
       let many : length (map (λ c. Some (pair_of c)) cells) ≡ length (masks_of b.layer) = ap length shown ∙ k.right.size in
       let as_many = length-map_lem (λ (c : Cell). Some (pair_of c)) cells in
       strip pair_of (cell_for b.setting) cells (masks_of b.layer)
       (shown ∙ cells_are (cell_for b.setting) (masks_of b.layer) (map cell_in (cell_words s.words)) k.right.size k.right.true_cells
       (λ p low. subst (λ (l : List (Option (ℕ × ℕ))). get_or l p None ≢ None) shown (some_there pair_of cells p (omega arith))))
 
-  pub cells_if : {T E : Type 0} (items : T → List Cell) (r : Result T E) (l : LayerOf) (B : BriefOf) → l ≡ b.layer → b ≡ B → IfOk r (λ v. map (λ c. Some (pair_of c)) (items v) ≡ take (length (masks_of l)) (map cell_in (cell_words ws)))
+  pub cells_if : {T E : Type 0} (items : T → List Cell) (r : Result T E) (l : LayerOf) (B : BriefOf) → l ≡ b.layer → b ≡ B →
+      IfOk r (λ v. map (λ c. Some (pair_of c)) (items v) ≡ take (length (masks_of l)) (map cell_in (cell_words ws)))
       → IfOk r (λ v. map pair_of (items v) ≡ map (cell_for B.setting) (masks_of B.layer))
-  cells_if items (Ok v) l B same seen e = all_filled (items v) (e ∙ ap (λ (z : LayerOf). take (length (masks_of z)) (map cell_in (cell_words ws))) same) ∙ ap (λ (z : BriefOf). map (cell_for z.setting) (masks_of z.layer)) seen
+  cells_if items (Ok v) l B same seen e =
+      all_filled (items v) (e ∙ ap (λ (z : LayerOf). take (length (masks_of z)) (map cell_in (cell_words ws))) same)
+      ∙ ap (λ (z : BriefOf). map (cell_for z.setting) (masks_of z.layer)) seen
   cells_if items (Err x) l B same seen e = tt
 
   -- an empty cell
@@ -72,15 +77,32 @@ module _ (b : BriefOf) (V : SeatView) (id : ℕ) (s : St) (k : Kept b s) (at : g
   first_gap S brief worker OutOfMemory gap = tt
   first_gap S brief worker (Missing mask) gap =
       let p : ℕ = gap.0 in let there = place_found b.layer p mask gap.1 in
-      let same : (q : ℕ) → cell_at (picture b.layer s.words s.views) q ≡ cell_in (get_or (cell_words ws) q 0) = λ q. cell_shown (cell_words s.words) q ∙ ap (λ z. cell_in (get_or (cell_words z) q 0)) is in
+      let same : (q : ℕ) → cell_at (picture b.layer s.words s.views) q ≡ cell_in (get_or (cell_words ws) q 0) =
+      λ q. cell_shown (cell_words s.words) q
+      ∙ ap (λ z. cell_in (get_or (cell_words z) q 0)) is in
       let empty : cell_at (picture b.layer s.words s.views) p ≡ None = same p ∙ empty_word (get_or (cell_words ws) p 0) gap.2 in
-      let unknown : knows V.worker p ≡ false = false_from_ne_true (knows V.worker p) (λ known. k.right.known id V.worker (at_map worker_of s.views id V at) p known empty) in record {
+      let unknown : knows V.worker p ≡ false =
+      false_from_ne_true (knows V.worker p) (λ known. k.right.known id V.worker (at_map worker_of s.views id V at) p known empty) in
+      record {
         unknown = (λ i. knows_place (worker i) (place_of (layout_of (brief i).layer) mask)) ∙ (ap (knows_place V.worker) there ∙ unknown);
         last = picture b.layer s.words s.views;
-        is_last = record { right = subst (λ (z : BriefOf). Right (IsCellAt z.setting) (picture b.layer s.words s.views)) (sym brief) k.right; layout = ap (λ (z : BriefOf). layout_of z.layer) (sym brief); seat = id; has = at_map worker_of s.views id V at ∙ ap some (sym worker) };
-        least = record { place = p; within = slice_get_within (masks_of b.layer) p mask gap.1; is = get_or_from_slice_get (masks_of b.layer) p mask 0 gap.1; empty = empty; least = λ q low e. shown_empty (get_or (cell_words ws) q 0) (gap.3 q low) (sym (same q) ∙ e) };
+        is_last = record {
+          right = subst (λ (z : BriefOf). Right (IsCellAt z.setting) (picture b.layer s.words s.views)) (sym brief) k.right;
+          layout = ap (λ (z : BriefOf). layout_of z.layer) (sym brief);
+          seat = id;
+          has = at_map worker_of s.views id V at
+              ∙ ap some (sym worker);
+        };
+        least = record {
+          place = p;
+          within = slice_get_within (masks_of b.layer) p mask gap.1;
+          is = get_or_from_slice_get (masks_of b.layer) p mask 0 gap.1;
+          empty = empty;
+          least = λ q low e. shown_empty (get_or (cell_words ws) q 0) (gap.3 q low) (sym (same q) ∙ e);
+        };
       }
 
-  pub lacks_if : {X : Type 0} (S : SeatOf) → S.board.brief ≡ b → S.worker ≡ V.worker → (r : Result X CloseError) (l : LayerOf) → l ≡ b.layer → IfErr r (IsFirstGap (masks_of l) (cell_words ws)) → IfErr r (Lacks S)
+  pub lacks_if : {X : Type 0} (S : SeatOf) → S.board.brief ≡ b → S.worker ≡ V.worker → (r : Result X CloseError) (l : LayerOf) →
+      l ≡ b.layer → IfErr r (IsFirstGap (masks_of l) (cell_words ws)) → IfErr r (Lacks S)
   lacks_if S brief worker (Ok v) l same gap = tt
   lacks_if S brief worker (Err e) l same gap = first_gap S brief worker e (subst (λ (z : LayerOf). IsFirstGap (masks_of z) (cell_words ws) e) same gap)

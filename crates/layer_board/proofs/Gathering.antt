@@ -5,7 +5,8 @@ use Rattle.layer_board.specs.Picture.{cell_in}
 use Rattle.layer_board.proofs.Words.{full_word, cell_shown}
 
 pub full_more : (ns : List ℕ) (p : ℕ) → ((q : ℕ) → q < p → get_or ns q 0 ≢ 0) → (n : ℕ) → n ≡ get_or ns p 0 → n ≢ 0 → (q : ℕ) → q < p + 1 → get_or ns q 0 ≢ 0
-full_more ns p full n is some_n q low = ⊎_elim (λ (t : q < p). full q t) (λ (t : q ≡ p). λ e. some_n (is ∙ (ap (λ k. get_or ns k 0) (sym t) ∙ e))) (either q p low)
+full_more ns p full n is some_n q low =
+    ⊎_elim (λ (t : q < p). full q t) (λ (t : q ≡ p). λ e. some_n (is ∙ (ap (λ k. get_or ns k 0) (sym t) ∙ e))) (either q p low)
   where
     either : (q p : ℕ) → q < p + 1 → (q < p) ⊎ (q ≡ p)
     either q p low = grind arith
@@ -18,7 +19,9 @@ take_next (x ∷ xs) (suc p) h = λ i. x ∷ take_next xs p (omega arith) i
 take_more : (xs : List (Option (ℕ × ℕ))) (p : ℕ) → p < length xs → take (p + 1) xs ≡ take p xs ++ get_or xs p None ∷ []
 take_more xs p h = ap (λ n. take n xs) (add-one p) ∙ take_next xs p h
 
-pub one_more : {A : Type 0} (f : A → ℕ × ℕ) (xs ys : List A) (y : A) (ns : List ℕ) (p : ℕ) → p < length ns → map (λ x. Some (f x)) xs ≡ take p (map cell_in ns) → ys ≡ xs ++ y ∷ [] → get_or ns p 0 ≢ 0 → f y ≡ (get_or ns p 0 / 32 - 1, get_or ns p 0 % 32)
+pub one_more : {A : Type 0} (f : A → ℕ × ℕ) (xs ys : List A) (y : A) (ns : List ℕ) (p : ℕ) → p < length ns →
+    map (λ x. Some (f x)) xs ≡ take p (map cell_in ns) → ys ≡ xs ++ y ∷ [] → get_or ns p 0 ≢ 0 →
+    f y ≡ (get_or ns p 0 / 32 - 1, get_or ns p 0 % 32)
     → map (λ x. Some (f x)) ys ≡ take (p + 1) (map cell_in ns)
 one_more f xs ys y ns p low done new some_n is =
     ap (map (λ x. Some (f x))) new ∙ (map-append (λ x. Some (f x)) xs (y ∷ []) ∙ (

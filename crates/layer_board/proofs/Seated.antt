@@ -12,7 +12,8 @@ use Rattle.layer_core.proofs.Layouts.{place_found, block_at}
 use Rattle.layer_core.proofs.CoreSteps.{mark_at}
 
 -- a seat after a step, from its new view
-pub shown_after : (s s' : seat.Inside) (w : Worker) (wrote : ℕ) → s'.seat.table_id ≡ s.seat.table_id → s'.seat.me ≡ (after (view_of s) w wrote, s.seat.me.1) → seat_shown s' ≡ stepped (seat_shown s) w wrote
+pub shown_after : (s s' : seat.Inside) (w : Worker) (wrote : ℕ) → s'.seat.table_id ≡ s.seat.table_id →
+    s'.seat.me ≡ (after (view_of s) w wrote, s.seat.me.1) → seat_shown s' ≡ stepped (seat_shown s) w wrote
 shown_after s s' w wrote table me = λ i. record {
   board = record { table = table i; brief = (me i).0.brief };
   worker = (me i).0.worker;
@@ -21,9 +22,11 @@ shown_after s s' w wrote table me = λ i. record {
 }
 
 -- a mask that is not in the layer
-module _ (b : board.Inside) (B : BoardId) (S : SeatOf) (kept : IsBoard b) (bv : board_shown b ≡ B) (fits : S.board ≡ B) (mask : ℕ) (missing : place_of (layout_of b.layer) mask ≡ None) where
+module _ (b : board.Inside) (B : BoardId) (S : SeatOf) (kept : IsBoard b) (bv : board_shown b ≡ B) (fits : S.board ≡ B) (mask : ℕ)
+    (missing : place_of (layout_of b.layer) mask ≡ None) where
   gone : place_of (layout_of S.board.brief.layer) mask ≡ None
-  gone = subst (λ (l : LayerOf). place_of (layout_of l) mask ≡ None) (kept.layer ∙ (ap (λ (z : BoardId). z.brief.layer) bv ∙ ap (λ (z : BoardId). z.brief.layer) (sym fits))) missing
+  gone = subst (λ (l : LayerOf). place_of (layout_of l) mask ≡ None)
+      (kept.layer ∙ (ap (λ (z : BoardId). z.brief.layer) bv ∙ ap (λ (z : BoardId). z.brief.layer) (sym fits))) missing
 
   pub missing_unclaimed : has_claimed S mask ≡ false
   missing_unclaimed = ap (claims_place S.board.brief.layer S.worker) gone
@@ -34,7 +37,8 @@ module _ (b : board.Inside) (B : BoardId) (S : SeatOf) (kept : IsBoard b) (bv : 
   pub missing_empty : S ≡ found_empty S mask
   missing_empty = sym (ap (found_empty_at S) gone)
 
-module _ (b : board.Inside) (s : seat.Inside) (B : BoardId) (S : SeatOf) (kept : IsBoard b) (held : IsSeat s) (bv : board_shown b ≡ B) (sv : seat_shown s ≡ S) (fits : S.board ≡ B) where
+module _ (b : board.Inside) (s : seat.Inside) (B : BoardId) (S : SeatOf) (kept : IsBoard b) (held : IsSeat s) (bv : board_shown b ≡ B)
+    (sv : seat_shown s ≡ S) (fits : S.board ≡ B) where
   same_board : (seat_shown s).board ≡ board_shown b
   same_board = ap (λ (z : SeatOf). z.board) sv ∙ (fits ∙ sym bv)
 
@@ -51,7 +55,8 @@ module _ (b : board.Inside) (s : seat.Inside) (B : BoardId) (S : SeatOf) (kept :
   same_blocks = ap (λ (l : LayerOf). length (blocks_of l)) same_layer
 
   -- the seat's board stays
-  pub still_there : (s' : seat.Inside) (w : Worker) (wrote : ℕ) → s'.seat.table_id ≡ s.seat.table_id → s'.seat.me ≡ (after (view_of s) w wrote, s.seat.me.1) → (seat_shown s').board ≡ B
+  pub still_there : (s' : seat.Inside) (w : Worker) (wrote : ℕ) → s'.seat.table_id ≡ s.seat.table_id →
+      s'.seat.me ≡ (after (view_of s) w wrote, s.seat.me.1) → (seat_shown s').board ≡ B
   still_there s' w wrote table me = ap (λ (z : SeatOf). z.board) (shown_after s s' w wrote table me) ∙ (same_board ∙ bv)
 
   -- the layer of the board that callers see
@@ -92,7 +97,8 @@ module _ (b : board.Inside) (s : seat.Inside) (B : BoardId) (S : SeatOf) (kept :
     known_there = subst (λ (z : SeatOf). knows_filled z mask ≡ knows W p) sv (ap (knows_place W) there)
 
     -- the seat's mark of the mask's block
-    pub marked : (block : ℕ) (r t : Bool) → block ≡ block_place b.layer p → block < length (blocks_of b.layer) → r ≡ get_or s.claims.items block r → r ≡ t → claimed W (get_or (layout_of L).block_of p 0) ≡ t
+    pub marked : (block : ℕ) (r t : Bool) → block ≡ block_place b.layer p → block < length (blocks_of b.layer) →
+        r ≡ get_or s.claims.items block r → r ≡ t → claimed W (get_or (layout_of L).block_of p 0) ≡ t
     marked block r t same under read value =
         subst (λ (l : List Bool). get_or l (get_or (layout_of L).block_of p 0) false ≡ t) held.claims
         (mark_at s.claims.items (get_or (layout_of L).block_of p 0) block r t (block_at L p low ∙ (ap (λ (l : LayerOf). block_place l p) same_layer ∙ sym same))
@@ -102,14 +108,16 @@ module _ (b : board.Inside) (s : seat.Inside) (B : BoardId) (S : SeatOf) (kept :
     claims_long block under = subst (λ (l : List Bool). block < length l) (sym held.claims) (omega (arith, held.claims_wide, same_blocks, under))
 
     -- the posted cell is the one of the mask
-    pub cell_there : (r : ResultOf) → r.cell ≡ cell_for r.setting r.mask → r.setting ≡ B.brief.setting → r.mask ≡ mask → r.cell ≡ cell_for (view_of s).brief.setting (get_or (masks_of L) p 0)
+    pub cell_there : (r : ResultOf) → r.cell ≡ cell_for r.setting r.mask → r.setting ≡ B.brief.setting → r.mask ≡ mask →
+        r.cell ≡ cell_for (view_of s).brief.setting (get_or (masks_of L) p 0)
     cell_there r right same_setting same_mask = right ∙ λ i. cell_for ((same_setting ∙ sym seen_setting) i) ((same_mask ∙ sym mask_there) i)
 
     module _ (s' : seat.Inside) (wrote : ℕ) (table : s'.seat.table_id ≡ s.seat.table_id) where
       -- the seat learned that the cell is filled
       pub after_learning : s'.seat.me ≡ (after (view_of s) (learns W p) wrote, s.seat.me.1) → seat_shown s' ≡ learned S mask wrote
       after_learning me = shown_after s s' (learns W p) wrote table me
-          ∙ subst (λ (z : SeatOf). stepped (seat_shown s) (learns W p) wrote ≡ learned z mask wrote) sv (ap (λ (o : Option ℕ). stepped (seat_shown s) (learns_place W o) wrote) (sym there))
+          ∙ subst (λ (z : SeatOf). stepped (seat_shown s) (learns W p) wrote ≡ learned z mask wrote) sv
+          (ap (λ (o : Option ℕ). stepped (seat_shown s) (learns_place W o) wrote) (sym there))
 
       pub knows_after : s'.seat.me ≡ (after (view_of s) (learns W p) wrote, s.seat.me.1) → knows_filled (seat_shown s') mask ≡ true
       knows_after me = subst (λ (z : SeatOf). knows_filled z mask ≡ true) (sym (shown_after s s' (learns W p) wrote table me))

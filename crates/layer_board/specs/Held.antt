@@ -18,7 +18,15 @@ abbrev pub view_of : seat.Inside → SeatView
 view_of s = s.seat.me.0
 
 abbrev pub seat_shown : seat.Inside → SeatOf
-seat_shown s = record { board = record { table = s.seat.table_id; brief = (view_of s).brief }; worker = (view_of s).worker; steps = (view_of s).steps; writes = (view_of s).writes }
+seat_shown s =
+    record {
+      board =
+          record { table = s.seat.table_id; brief = (view_of s).brief };
+      worker =
+          (view_of s).worker;
+      steps = (view_of s).steps;
+      writes = (view_of s).writes;
+    }
 
 -- the seat's own marks are what its view says
 pub record IsSeat (s : seat.Inside) : Type 0 where

@@ -76,7 +76,8 @@ posts_at p m n m' =
 abbrev pub reads_at : ℕ → Sat → ℕ → Sat → Type 0
 reads_at p m n m' =
     (n ≡ 0 → (m' ≡ (after m.0 m.0.worker 0, m.1)) × (knows m.0.worker p ≡ false))
-    × (n ≢ 0 → (m' ≡ (after m.0 (learns m.0.worker p) 0, m.1)) × IsCellWord n × ((n / 32 - 1, n % 32) ≡ cell_for m.0.brief.setting (slice_index (masks_of m.0.brief.layer) p)))
+    × (n ≢ 0 → (m' ≡ (after m.0 (learns m.0.worker p) 0, m.1)) × IsCellWord n
+    × ((n / 32 - 1, n % 32) ≡ cell_for m.0.brief.setting (slice_index (masks_of m.0.brief.layer) p)))
 
 -- the word of the place p is p + 1
 abbrev pub posts : Step (Unit {0}) → Sat → ℕ → Sat → Type 0

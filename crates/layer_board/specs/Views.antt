@@ -92,7 +92,13 @@ found_empty s mask = found_empty_at s (place_of (layout_of s.board.brief.layer) 
 -- some view, of which nothing is used
 abbrev pub nothing_known : SeatView
 nothing_known = record {
-  brief = record { setting = record { problem = record { inputs = 0; tables = [] }; pairs = record { inputs = 0; pairs = [] }; bound = 0 }; layer = record { inputs = 0; size = 0 }; workers = 0 };
+  brief = record {
+    setting =
+        record { problem = record { inputs = 0; tables = [] }; pairs = record { inputs = 0; pairs = [] }; bound = 0 };
+    layer =
+        record { inputs = 0; size = 0 };
+    workers = 0;
+  };
   worker = record { claims = []; known = []; told = false };
   seats = 0;
   steps = 0;

@@ -69,7 +69,14 @@ impl Board {
         pairs: &Pairs,
     ) -> Result<(Board, Vec<BoardSeat>), AllocError>
         requires { layer.now.inputs ≡ problem.now.inputs }
-        ensures board { IfOk result (λ r. r.0.brief ≡ record { setting = record { problem = problem.now; pairs = pairs.now; bound = bound }; layer = layer.now; workers = workers }) }
+        ensures board { IfOk result
+            (λ r. r.0.brief ≡ record {
+              setting =
+                  record { problem = problem.now; pairs = pairs.now; bound = bound };
+              layer =
+                  layer.now;
+              workers = workers;
+            }) }
         ensures count { IfOk result (λ r. vec_len r.1 ≡ workers) }
         ensures seats { IfOk result (λ r. All (λ s. s ≡ first_seat r.0) r.1.items) }
     {
@@ -116,10 +123,13 @@ impl Board {
     pub fn claim(&self, seat: &mut BoardSeat) -> Option<Claim>
         requires { seat.old.board ≡ self.now }
         ensures board { seat.new.board ≡ self.now }
-        ensures block { IfSome result (λ c. slice_get (blocks_of self.now.brief.layer) c.place ≡ Some c.block) }
-        ensures gained { IfSome result (λ c. seat.new ≡ stepped seat.old (claims_block seat.old.worker c.place) 1) }
+        ensures block { IfSome result
+            (λ c. slice_get (blocks_of self.now.brief.layer) c.place ≡ Some c.block) }
+        ensures gained { IfSome result
+            (λ c. seat.new ≡ stepped seat.old (claims_block seat.old.worker c.place) 1) }
         ensures claimed { IfSome result (λ c. IsTrue (claimed seat.new.worker c.place)) }
-        ensures later { IfSome result (λ c. (b : ℕ) → IsTrue (claimed seat.old.worker b) → b < c.place) }
+        ensures later { IfSome result
+            (λ c. (b : ℕ) → IsTrue (claimed seat.old.worker b) → b < c.place) }
         ensures told { IsTrue seat.old.worker.told → IsNone result }
         ensures none { IsNone result → seat.new ≡ no_more seat.old }
     {
@@ -144,7 +154,8 @@ impl Board {
         ensures claimed { IfOk result (λ _. has_claimed seat.old cell.mask ≡ true) }
         ensures filled { IfOk result (λ _. seat.new ≡ learned seat.old cell.mask 1) }
         ensures refused { IfErr result (λ e. Refuses seat.old cell.mask seat.new e) }
-        ensures known { has_claimed seat.old cell.mask ≡ true → knows_filled seat.new cell.mask ≡ true }
+        ensures known { has_claimed seat.old cell.mask ≡ true →
+            knows_filled seat.new cell.mask ≡ true }
     {
         let Some(place) = self.layer.position(cell.mask()) else {
             return Err(PostRefused::Stranger);
@@ -185,7 +196,9 @@ impl Board {
     /// All cells in the layer's order, or the least mask whose cell is empty.
     pub fn close(self, alloc: Global, seat: BoardSeat) -> Result<Vec<Cell>, CloseError>
         requires { seat.board ≡ self }
-        ensures cells { IfOk result (λ v. map pair_of v.items ≡ map (cell_for self.brief.setting) (masks_of self.brief.layer)) }
+        ensures cells { IfOk result
+            (λ v. map pair_of v.items ≡ map (cell_for self.brief.setting)
+            (masks_of self.brief.layer)) }
         ensures lacks { IfErr result (Lacks seat) }
     {
         let Board { table, layer } = self;
@@ -218,10 +231,15 @@ fn gather(
     requires full { IsFull closed.now.words }
     requires size { slots_len closed.now.words ≡ length (masks_of layer.now) + 1 }
     requires few { length (masks_of layer.now) ≤ 2 ^ 16 }
-    requires count { length (cell_words (slots_items closed.now.words)) ≡ length (masks_of layer.now) }
-    requires words { (p : ℕ) → slice_index (cell_words (slots_items closed.now.words)) p ≢ 0 → IsCellWord (slice_index (cell_words (slots_items closed.now.words)) p) }
-    ensures cells { IfOk result (λ v. map (λ c. Some (pair_of c)) v.items ≡ take (length (masks_of layer.now)) (map cell_in (cell_words (slots_items closed.now.words)))) }
-    ensures lacks { IfErr result (IsFirstGap (masks_of layer.now) (cell_words (slots_items closed.now.words))) }
+    requires count { length (cell_words (slots_items closed.now.words)) ≡ length
+        (masks_of layer.now) }
+    requires words { (p : ℕ) → slice_index (cell_words (slots_items closed.now.words)) p ≢ 0 →
+        IsCellWord (slice_index (cell_words (slots_items closed.now.words)) p) }
+    ensures cells { IfOk result
+        (λ v. map (λ c. Some (pair_of c)) v.items ≡ take (length (masks_of layer.now))
+        (map cell_in (cell_words (slots_items closed.now.words)))) }
+    ensures lacks { IfErr result
+        (IsFirstGap (masks_of layer.now) (cell_words (slots_items closed.now.words))) }
 {
     let Ok(mut cells) = Vec::with_capacity(alloc, layer.len()) else {
         return Err(CloseError::OutOfMemory);

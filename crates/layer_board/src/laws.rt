@@ -14,20 +14,46 @@ ghost use Rattle.layer_board.specs.Picture.{Kept, IsCellAt, Sat, cell_in, shows,
 
 /// Between any two steps on the table, the words and the seats show a right state of the machine.
 pub fn tables_show_right_states()
-    ensures { (b : BriefOf) (s : State (Unit {0}) SeatView) → Kept b s → Right (IsCellAt b.setting) (shows b s) }
+    ensures { (b : BriefOf) (s : State (Unit {0}) SeatView) → Kept b s →
+        Right (IsCellAt b.setting) (shows b s) }
 {}
 
 /// The step of a claim is the machine's claim by the seat.
 pub fn claims_are_events()
-    ensures { (b : BriefOf) (s : State (Unit {0}) SeatView) (id : ℕ) (v : SeatView) (slots : ℕ) (m : Sat) → Kept b s → get_elem? s.views id ≡ some v → v.worker.told ≡ false → claims (table_step slots 0 1 0 none) (v, []) (slice_index s.words 0) m → (claim_reply (length (blocks_of b.layer)) (slice_index s.words 0), shows b (stepped s 0 ((slice_index s.words 0 + 1) % 2 ^ 64) id [] m.0 keeps)) ≡ step (shows b s) (Claim id) }
+    ensures { (b : BriefOf) (s : State (Unit {0}) SeatView) (id : ℕ) (v : SeatView) (slots : ℕ)
+        (m : Sat) →
+        Kept b s → get_elem? s.views id ≡ some v → v.worker.told ≡ false →
+        claims (table_step slots 0 1 0 none) (v, []) (slice_index s.words 0) m → (
+          claim_reply (length (blocks_of b.layer)) (slice_index s.words 0),
+          shows b (stepped s 0 ((slice_index s.words 0 + 1) % 2 ^ 64) id [] m.0 keeps),
+        ) ≡
+        step (shows b s) (Claim id) }
 {}
 
 /// The step of a post, by a seat that claimed the mask's block, is the machine's post by the seat.
 pub fn posts_are_events()
-    ensures { (b : BriefOf) (s : State (Unit {0}) SeatView) (id : ℕ) (v : SeatView) (slots p mask new : ℕ) (cell : ℕ × ℕ) (m : Sat) → Kept b s → get_elem? s.views id ≡ some v → place_of (layout_of b.layer) mask ≡ Some p → claimed v.worker (slice_index (layout_of b.layer).block_of p) ≡ true → cell_in new ≡ Some cell → posts (table_step slots (p + 1) 0 new none) (v, []) (slice_index s.words (p + 1)) m → (post_reply (slice_index s.words (p + 1)), shows b (stepped s (p + 1) (either (slice_index s.words (p + 1) == 0) new (slice_index s.words (p + 1))) id [] m.0 keeps)) ≡ step (shows b s) (Post id mask cell) }
+    ensures { (b : BriefOf) (s : State (Unit {0}) SeatView) (id : ℕ) (v : SeatView)
+        (slots p mask new : ℕ) (cell : ℕ × ℕ) (m : Sat) →
+        Kept b s → get_elem? s.views id ≡ some v → place_of (layout_of b.layer) mask ≡ Some p →
+        claimed v.worker (slice_index (layout_of b.layer).block_of p) ≡ true →
+        cell_in new ≡ Some cell →
+        posts (table_step slots (p + 1) 0 new none) (v, []) (slice_index s.words (p + 1)) m → (
+          post_reply (slice_index s.words (p + 1)),
+          shows b (stepped s (p + 1)
+              (either (slice_index s.words (p + 1) == 0) new (slice_index s.words (p + 1))) id []
+              m.0 keeps),
+        ) ≡
+        step (shows b s) (Post id mask cell) }
 {}
 
 /// The step of a read is the machine's read by the seat.
 pub fn reads_are_events()
-    ensures { (b : BriefOf) (s : State (Unit {0}) SeatView) (id : ℕ) (v : SeatView) (slots p mask : ℕ) (m : Sat) → Kept b s → get_elem? s.views id ≡ some v → place_of (layout_of b.layer) mask ≡ Some p → reads (table_step slots (p + 1) 0 0 none) (v, []) (slice_index s.words (p + 1)) m → (read_reply (slice_index s.words (p + 1)), shows b (stepped s (p + 1) (slice_index s.words (p + 1)) id [] m.0 keeps)) ≡ step (shows b s) (Read id mask) }
+    ensures { (b : BriefOf) (s : State (Unit {0}) SeatView) (id : ℕ) (v : SeatView)
+        (slots p mask : ℕ) (m : Sat) →
+        Kept b s → get_elem? s.views id ≡ some v → place_of (layout_of b.layer) mask ≡ Some p →
+        reads (table_step slots (p + 1) 0 0 none) (v, []) (slice_index s.words (p + 1)) m → (
+          read_reply (slice_index s.words (p + 1)),
+          shows b (stepped s (p + 1) (slice_index s.words (p + 1)) id [] m.0 keeps),
+        ) ≡
+        step (shows b s) (Read id mask) }
 {}

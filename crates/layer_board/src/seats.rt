@@ -39,7 +39,8 @@ impl BoardSeat {
     ) -> Result<BoardSeat, AllocError>
         requires view { seat.me ≡ (fresh (seat.me.0).brief 1, []) }
         requires blocks { blocks ≡ length (blocks_of (seat.me.0).brief.layer) }
-        ensures { IfOk result (λ s. s ≡ first_seat record { table = seat.table_id; brief = (seat.me.0).brief }) }
+        ensures { IfOk result
+            (λ s. s ≡ first_seat record { table = seat.table_id; brief = (seat.me.0).brief }) }
     {
         let claims = vec![in alloc; false; blocks]?;
         Ok(BoardSeat {

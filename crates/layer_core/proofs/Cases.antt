@@ -41,7 +41,8 @@ module _ (s : World) (i : ℕ) (w : Worker) (at : get_elem? s.workers i ≡ foun
   pub claim_told : w.told ≡ true → step s (Claim i) ≡ (NoMore, s)
   claim_told e = claim_at ∙ choose w.told _ _ e
 
-  pub claim_next : w.told ≡ false → s.counter < s.layout.blocks → step s (Claim i) ≡ (Claimed s.counter, moved s (s.counter + 1) s.cells i (claims_block w s.counter))
+  pub claim_next : w.told ≡ false → s.counter < s.layout.blocks →
+      step s (Claim i) ≡ (Claimed s.counter, moved s (s.counter + 1) s.cells i (claims_block w s.counter))
   claim_next e low = claim_at ∙ (refuse w.told _ _ e ∙ choose (nat_lt s.counter s.layout.blocks) _ _ (lt-ltb s.counter s.layout.blocks low))
 
   pub claim_past : w.told ≡ false → s.layout.blocks ≤ s.counter → step s (Claim i) ≡ (NoMore, moved s (s.counter + 1) s.cells i (ends w))

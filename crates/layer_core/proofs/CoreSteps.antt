@@ -42,10 +42,14 @@ told_most (x ∷ xs) = let r = told_most xs in let one = most x.told in omega ar
 
 -- the fields after a step: the counter, the cells, and one worker's marks
 abbrev pub shown_with : Inside → ℕ → List (Option Cell) → ℕ → Marks → World
-shown_with x counter cells i m = record { layout = layout_of x.layer; counter = counter; cells = map cell_of cells; workers = map marks_of (set x.workers.items i m) }
+shown_with x counter cells i m =
+    record { layout = layout_of x.layer; counter = counter; cells = map cell_of cells; workers = map marks_of (set x.workers.items i m) }
 
-shown_moved : (x : Inside) (counter : ℕ) (cells : List (Option Cell)) (i : ℕ) (m : Marks) → shown_with x counter cells i m ≡ moved (shown x) counter (map cell_of cells) i (marks_of m)
-shown_moved x counter cells i m = λ j. record { layout = layout_of x.layer; counter = counter; cells = map cell_of cells; workers = map-set marks_of x.workers.items i m j }
+shown_moved : (x : Inside) (counter : ℕ) (cells : List (Option Cell)) (i : ℕ) (m : Marks) →
+    shown_with x counter cells i m ≡ moved (shown x) counter (map cell_of cells) i (marks_of m)
+shown_moved x counter cells i m =
+    λ j. record
+    { layout = layout_of x.layer; counter = counter; cells = map cell_of cells; workers = map-set marks_of x.workers.items i m j }
 
 -- two reads of one place
 pub same_there : (xs : List Marks) (i : ℕ) (a b : Marks) → i < length xs → a ≡ get_or xs i a → b ≡ get_or xs i b → a ≡ b
@@ -61,7 +65,8 @@ has_marks x s i is low = omega (arith, ap (λ (w : World). length w.workers) is,
 
 module _ (x : Inside) (sound : IsSound x) where
   pub small_counter : x.counter ≤ 320
-  small_counter = let c = sound.0.counted in let t = told_most (map marks_of x.workers.items) in let n = length-map_lem marks_of x.workers.items in let b = few_blocks x.layer in let w = sound.1 in omega arith
+  small_counter = let c = sound.0.counted in let t = told_most (map marks_of x.workers.items) in
+      let n = length-map_lem marks_of x.workers.items in let b = few_blocks x.layer in let w = sound.1 in omega arith
 
   pub cells_wide : length x.cells.items ≡ length (masks_of x.layer)
   cells_wide = sym (length-map_lem cell_of x.cells.items) ∙ sound.0.size
@@ -76,7 +81,8 @@ module _ (x : Inside) (sound : IsSound x) where
     pub post_outside : (cell : Cell) → place_of (layout_of x.layer) mask ≡ None → (Stranger, shown x) ≡ step (shown x) (Post i mask (pair_of cell))
     post_outside cell e = sym (post_missing (shown x) i mask (pair_of cell) e)
 
-    pub read_none : (p : ℕ) → place_of (layout_of x.layer) mask ≡ Some p → p < length (masks_of x.layer) → None ≡ get_or x.cells.items p None → (Empty, shown x) ≡ step (shown x) (Read i mask)
+    pub read_none : (p : ℕ) → place_of (layout_of x.layer) mask ≡ Some p → p < length (masks_of x.layer) →
+        None ≡ get_or x.cells.items p None → (Empty, shown x) ≡ step (shown x) (Read i mask)
     read_none p there low e = sym (read_empty (shown x) i mask p there (cell_there p None low e))
 
   module _ (i : ℕ) (m : Marks) (inside : i < length x.workers.items) (is : m ≡ get_or x.workers.items i m) where
@@ -94,22 +100,29 @@ module _ (x : Inside) (sound : IsSound x) where
 
     pub drawn : (after : Marks) → marks_of after ≡ claims_block (marks_of m) x.counter → m.told ≡ false → x.counter < length (blocks_of x.layer)
         → (Claimed x.counter, shown_with x (x.counter + 1) x.cells.items i after) ≡ step (shown x) (Claim i)
-    drawn after new untold low = ap (λ (w : World). (Claimed x.counter, w)) (shown_moved x (x.counter + 1) x.cells.items i after ∙ ap (moved (shown x) (x.counter + 1) (map cell_of x.cells.items) i) new)
+    drawn after new untold low =
+        ap (λ (w : World). (Claimed x.counter, w))
+        (shown_moved x (x.counter + 1) x.cells.items i after ∙ ap (moved (shown x) (x.counter + 1) (map cell_of x.cells.items) i) new)
         ∙ sym (claim_next (shown x) i (marks_of m) at untold low)
 
     pub ended : (after : Marks) → marks_of after ≡ ends (marks_of m) → m.told ≡ false → length (blocks_of x.layer) ≤ x.counter
         → (NoMore, shown_with x (x.counter + 1) x.cells.items i after) ≡ step (shown x) (Claim i)
-    ended after new untold high = ap (λ (w : World). (NoMore, w)) (shown_moved x (x.counter + 1) x.cells.items i after ∙ ap (moved (shown x) (x.counter + 1) (map cell_of x.cells.items) i) new)
+    ended after new untold high =
+        ap (λ (w : World). (NoMore, w))
+        (shown_moved x (x.counter + 1) x.cells.items i after ∙ ap (moved (shown x) (x.counter + 1) (map cell_of x.cells.items) i) new)
         ∙ sym (claim_past (shown x) i (marks_of m) at untold high)
 
     module _ (mask : ℕ) where
       module _ (p : ℕ) (there : place_of (layout_of x.layer) mask ≡ Some p) (low : p < length (masks_of x.layer)) where
         pub read_one : (cell : Cell) (after : Marks) → marks_of after ≡ learns (marks_of m) p → Some cell ≡ get_or x.cells.items p (Some cell)
             → (Seen (pair_of cell), shown_with x x.counter x.cells.items i after) ≡ step (shown x) (Read i mask)
-        read_one cell after new e = ap (λ (w : World). (Seen (pair_of cell), w)) (shown_moved x x.counter x.cells.items i after ∙ ap (moved (shown x) x.counter (map cell_of x.cells.items) i) new)
+        read_one cell after new e =
+            ap (λ (w : World). (Seen (pair_of cell), w))
+            (shown_moved x x.counter x.cells.items i after ∙ ap (moved (shown x) x.counter (map cell_of x.cells.items) i) new)
             ∙ sym (read_sees (shown x) i (marks_of m) at mask p there (pair_of cell) (cell_there p (Some cell) low e))
 
-        pub post_not_mine : (cell : Cell) → claimed (marks_of m) (get_or (layout_of x.layer).block_of p 0) ≡ false → (Stranger, shown x) ≡ step (shown x) (Post i mask (pair_of cell))
+        pub post_not_mine : (cell : Cell) → claimed (marks_of m) (get_or (layout_of x.layer).block_of p 0) ≡ false →
+            (Stranger, shown x) ≡ step (shown x) (Post i mask (pair_of cell))
         post_not_mine cell e = sym (post_stranger (shown x) i (marks_of m) at mask p there (pair_of cell) e)
 
         module _ (cell : Cell) (mine : claimed (marks_of m) (get_or (layout_of x.layer).block_of p 0) ≡ true) where
@@ -127,8 +140,15 @@ pub mark_at : (xs : List Bool) (i j : ℕ) (r b : Bool) → i ≡ j → j < leng
 mark_at xs i j r b same low read is = subst (λ (k : ℕ). get_or xs k false ≡ b) (sym same) (get_or_default xs j false r low ∙ (sym read ∙ is))
 
 -- the fields of a new core
-pub opened : (x : Inside) (workers : ℕ) → x.counter ≡ 0 → x.cells.items ≡ replicate (length (masks_of x.layer)) None → map marks_of x.workers.items ≡ replicate workers (blank (layout_of x.layer)) → shown x ≡ opening (layout_of x.layer) workers
-opened x workers zero_is empty blanks = λ i. record { layout = layout_of x.layer; counter = zero_is i; cells = (ap (map cell_of) empty ∙ none_shown (length (masks_of x.layer))) i; workers = blanks i }
+pub opened : (x : Inside) (workers : ℕ) → x.counter ≡ 0 → x.cells.items ≡ replicate (length (masks_of x.layer)) None →
+    map marks_of x.workers.items ≡ replicate workers (blank (layout_of x.layer)) → shown x ≡ opening (layout_of x.layer) workers
+opened x workers zero_is empty blanks =
+    λ i. record {
+      layout = layout_of x.layer;
+      counter = zero_is i;
+      cells = (ap (map cell_of) empty ∙ none_shown (length (masks_of x.layer))) i;
+      workers = blanks i;
+    }
   where
     none_shown : (n : ℕ) → map cell_of (replicate n None) ≡ replicate n None
     none_shown zero = refl

@@ -49,7 +49,8 @@ pub block_below : (l : LayerOf) (p : ℕ) → p < length (masks_of l) → block_
 block_below l p low =
     let m : ℕ = get_or (masks_of l) p 0 in
     let here : has (range_with_len 0 256) (low_byte m) ≡ true = in_range (low_byte m) 256 (omega arith) in
-    let is_low : list_any (λ mask. nat_eq (low_byte mask) (low_byte m)) (masks_of l) ≡ true = any_at (λ (mask : ℕ). nat_eq (low_byte mask) (low_byte m)) (masks_of l) p 0 low (same (low_byte m)) in
+    let is_low : list_any (λ mask. nat_eq (low_byte mask) (low_byte m)) (masks_of l) ≡ true =
+    any_at (λ (mask : ℕ). nat_eq (low_byte mask) (low_byte m)) (masks_of l) p 0 low (same (low_byte m)) in
     let among : has (low_bytes l) (low_byte m) ≡ true = has_low l (low_byte m) ∙ both _ _ here is_low in
     rw (place_is l p, blocks_length l) (place_small (low_bytes l) (low_byte m) among)
   where
@@ -84,7 +85,9 @@ few_masks l = length-range_le (2 ^ l.inputs) (λ mask. nat_eq (length (members l
 
 -- a mask stands at its place
 pub place_found : (l : LayerOf) (p mask : ℕ) → slice_get (masks_of l) p ≡ Some mask → place_of (layout_of l) mask ≡ Some p
-place_found l p mask is = found_at (masks_of l) p mask (distinct_masks l) (slice_get_within (masks_of l) p mask is) (get_or_from_slice_get (masks_of l) p mask 0 is)
+place_found l p mask is =
+    found_at (masks_of l) p mask (distinct_masks l) (slice_get_within (masks_of l) p mask is)
+    (get_or_from_slice_get (masks_of l) p mask 0 is)
 
 -- another mask has none
 pub place_missing : (l : LayerOf) (mask : ℕ) → has (masks_of l) mask ≡ false → place_of (layout_of l) mask ≡ None
@@ -96,4 +99,5 @@ missing_if l mask o is none = place_missing l mask (none.0 (subst (λ (z : Optio
 
 -- a layer of at most 16 variables has few masks
 pub few_masks_in : (l : LayerOf) (n : ℕ) → l.inputs ≡ n → n ≤ 16 → length (masks_of l) ≤ 2 ^ 16
-few_masks_in l n is few = let m = few_masks l in let p : 2 ^ n ≤ 2 ^ 16 = pow_mono {j = 16} few in let q : 2 ^ l.inputs ≡ 2 ^ n = ap (λ (k : ℕ). 2 ^ k) is in omega arith
+few_masks_in l n is few = let m = few_masks l in let p : 2 ^ n ≤ 2 ^ 16 = pow_mono {j = 16} few in
+    let q : 2 ^ l.inputs ≡ 2 ^ n = ap (λ (k : ℕ). 2 ^ k) is in omega arith

@@ -56,9 +56,11 @@ module _ {A : Type 0} where
   pub each_set : (P : ℕ → A → Type 0) (l : List A) (i : ℕ) (w : A) → ((j : ℕ) (u : A) → get_elem? l j ≡ some u → P j u) → P i w
       → (j : ℕ) (u : A) → get_elem? (set l i w) j ≡ some u → P j u
   each_set P l i w all it j u e =
-      ⊎_elim (λ (t : (j ≡ i) × (w ≡ u)). subst (λ (z : ℕ). P z u) (sym t.0) (subst (λ (z : A). P i z) t.1 it)) (λ (t : (j ≢ i) × (get_elem? l j ≡ some u)). all j u t.1) (at_set l i j w u e)
+      ⊎_elim (λ (t : (j ≡ i) × (w ≡ u)). subst (λ (z : ℕ). P z u) (sym t.0) (subst (λ (z : A). P i z) t.1 it))
+      (λ (t : (j ≢ i) × (get_elem? l j ≡ some u)). all j u t.1) (at_set l i j w u e)
 
-  pub each_snoc : (P : A → Type 0) (l : List A) (x : A) → ((j : ℕ) (u : A) → get_elem? l j ≡ some u → P u) → P x → (j : ℕ) (u : A) → get_elem? (l ++ x ∷ []) j ≡ some u → P u
+  pub each_snoc : (P : A → Type 0) (l : List A) (x : A) → ((j : ℕ) (u : A) → get_elem? l j ≡ some u → P u) → P x → (j : ℕ) (u : A) →
+      get_elem? (l ++ x ∷ []) j ≡ some u → P u
   each_snoc P l x all it j u e = ⊎_elim (λ (t : get_elem? l j ≡ some u). all j u t) (λ (t : x ≡ u). subst (λ (z : A). P z) t it) (at_snoc l x u j e)
 
   -- the element at a place, after one is replaced: itself, or what it became
@@ -90,7 +92,9 @@ module _ {A : Type 0} where
   inside (x ∷ xs) (suc p) d h = let r = inside xs p d h in omega arith
 
 pub marked_more : (xs : List Bool) (n p : ℕ) → n < length xs → get_or xs p false ≡ true → get_or (set xs n true) p false ≡ true
-marked_more xs n p h e = dite (ℕ_discrete p n) (λ same. subst (λ (z : ℕ). get_or (set xs n true) z false ≡ true) (sym same) (get_or-set_same xs n true false h)) (λ other. get_or-set_other xs n p true false other ∙ e)
+marked_more xs n p h e =
+    dite (ℕ_discrete p n) (λ same. subst (λ (z : ℕ). get_or (set xs n true) z false ≡ true) (sym same) (get_or-set_same xs n true false h))
+    (λ other. get_or-set_other xs n p true false other ∙ e)
 
 pub marked_less : (xs : List Bool) (n p : ℕ) → get_or (set xs n true) p false ≡ true → (p ≡ n) ⊎ (get_or xs p false ≡ true)
 marked_less xs n p e = dite (ℕ_discrete p n) (λ same. inl same) (λ other. inr (sym (get_or-set_other xs n p true false other) ∙ e))

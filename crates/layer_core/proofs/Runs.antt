@@ -27,18 +27,24 @@ module _ (C : ℕ → ℕ × ℕ → Type 0) where
 
   pub right_claim : (s : World) (i : ℕ) (o : found.Option Worker) → Right C s → get_elem? s.workers i ≡ o → Right C (claim s i o).1
   right_claim s i found.none r at = r
-  right_claim s i (found.some w) r at = either_way Ends w.told _ _ (λ t. r) (λ t. either_way Ends (nat_lt s.counter s.layout.blocks) _ _ (λ e. right_drawn C s i w r at (grind (arith, nat_tests))) (λ e. right_ended C s i w r at t (grind (arith, nat_tests))))
+  right_claim s i (found.some w) r at =
+      either_way Ends w.told _ _ (λ t. r)
+      (λ t. either_way Ends (nat_lt s.counter s.layout.blocks) _ _ (λ e. right_drawn C s i w r at (grind (arith, nat_tests)))
+      (λ e. right_ended C s i w r at t (grind (arith, nat_tests))))
 
-  right_fill : (s : World) (i p : ℕ) (cell : ℕ × ℕ) (w : Worker) (o : Cell) → Right C s → get_elem? s.workers i ≡ some w → p < length s.layout.masks → claimed w (get_or s.layout.block_of p 0) ≡ true → C (get_or s.layout.masks p 0) cell
+  right_fill : (s : World) (i p : ℕ) (cell : ℕ × ℕ) (w : Worker) (o : Cell) → Right C s → get_elem? s.workers i ≡ some w →
+      p < length s.layout.masks → claimed w (get_or s.layout.block_of p 0) ≡ true → C (get_or s.layout.masks p 0) cell
       → Right C (fill s i p cell w o).1
   right_fill s i p cell w None r at low mine true_c = right_filled C s i w p cell r at low mine true_c
   right_fill s i p cell w (Some old) r at low mine true_c = r
 
-  pub right_post : (s : World) (i mask : ℕ) (cell : ℕ × ℕ) (place : Option ℕ) (o : found.Option Worker) → Right C s → C mask cell → place_of s.layout mask ≡ place → get_elem? s.workers i ≡ o → Right C (post s i cell place o).1
+  pub right_post : (s : World) (i mask : ℕ) (cell : ℕ × ℕ) (place : Option ℕ) (o : found.Option Worker) → Right C s → C mask cell →
+      place_of s.layout mask ≡ place → get_elem? s.workers i ≡ o → Right C (post s i cell place o).1
   right_post s i mask cell place found.none r true_c there at = r
   right_post s i mask cell None (found.some w) r true_c there at = r
   right_post s i mask cell (Some p) (found.some w) r true_c there at = let here = placed_mask s.layout mask p there in
-      either_way Ends (claimed w (get_or s.layout.block_of p 0)) _ _ (λ mine. right_fill s i p cell w (cell_at s p) r at here.0 mine (subst (λ (m : ℕ). C m cell) (sym here.1) true_c)) (λ e. r)
+      either_way Ends (claimed w (get_or s.layout.block_of p 0)) _ _
+      (λ mine. right_fill s i p cell w (cell_at s p) r at here.0 mine (subst (λ (m : ℕ). C m cell) (sym here.1) true_c)) (λ e. r)
 
   right_look : (s : World) (i p : ℕ) (w : Worker) (o : Cell) → Right C s → get_elem? s.workers i ≡ some w → cell_at s p ≡ o → Right C (look s i p w o).1
   right_look s i p w None r at is = r
@@ -67,7 +73,10 @@ module _ (C : ℕ → ℕ × ℕ → Type 0) where
 module _ (P : World → Type 0) (s : World) (old : P s) (next : (counter : ℕ) (cells : List Cell) (i : ℕ) (w : Worker) → P (moved s counter cells i w)) where
   of_claim : (i : ℕ) (o : found.Option Worker) → P (claim s i o).1
   of_claim i found.none = old
-  of_claim i (found.some w) = either_way (λ z. P z.1) w.told _ _ (λ t. old) (λ t. either_way (λ z. P z.1) (nat_lt s.counter s.layout.blocks) _ _ (λ e. next (s.counter + 1) s.cells i (claims_block w s.counter)) (λ e. next (s.counter + 1) s.cells i (ends w)))
+  of_claim i (found.some w) =
+      either_way (λ z. P z.1) w.told _ _ (λ t. old)
+      (λ t. either_way (λ z. P z.1) (nat_lt s.counter s.layout.blocks) _ _
+      (λ e. next (s.counter + 1) s.cells i (claims_block w s.counter)) (λ e. next (s.counter + 1) s.cells i (ends w)))
 
   of_fill : (i p : ℕ) (cell : ℕ × ℕ) (w : Worker) (o : Cell) → P (fill s i p cell w o).1
   of_fill i p cell w None = next s.counter (set s.cells p (Some cell)) i (learns w p)
@@ -76,7 +85,8 @@ module _ (P : World → Type 0) (s : World) (old : P s) (next : (counter : ℕ) 
   of_post : (i : ℕ) (cell : ℕ × ℕ) (place : Option ℕ) (o : found.Option Worker) → P (post s i cell place o).1
   of_post i cell place found.none = old
   of_post i cell None (found.some w) = old
-  of_post i cell (Some p) (found.some w) = either_way (λ z. P z.1) (claimed w (get_or s.layout.block_of p 0)) _ _ (λ t. of_fill i p cell w (cell_at s p)) (λ t. old)
+  of_post i cell (Some p) (found.some w) =
+      either_way (λ z. P z.1) (claimed w (get_or s.layout.block_of p 0)) _ _ (λ t. of_fill i p cell w (cell_at s p)) (λ t. old)
 
   of_look : (i p : ℕ) (w : Worker) (o : Cell) → P (look s i p w o).1
   of_look i p w None = old
@@ -105,7 +115,8 @@ layout_stays s [] = refl
 layout_stays s (e ∷ es) = layout_stays (step s e).1 es ∙ same_layout s e
 
 -- cells that all are filled, each with what f has for its mask
-pub cells_are : (f : ℕ → ℕ × ℕ) (masks : List ℕ) (cells : List Cell) → length cells ≡ length masks → ((p : ℕ) → IfSome (get_or cells p None) (λ c. c ≡ f (get_or masks p 0)))
+pub cells_are : (f : ℕ → ℕ × ℕ) (masks : List ℕ) (cells : List Cell) → length cells ≡ length masks →
+    ((p : ℕ) → IfSome (get_or cells p None) (λ c. c ≡ f (get_or masks p 0)))
     → ((p : ℕ) → p < length masks → get_or cells p None ≢ None) → cells ≡ map (λ m. Some (f m)) masks
 cells_are f [] [] same right full = refl
 cells_are f [] (c ∷ cells) same right full = absurd (omega arith)

@@ -37,7 +37,10 @@ module _ (n : ℕ) (F : List Function) (P : List Pair) (bound mask : ℕ) where
   top_small : best_top n F P S ≤ n
   unfolding best_top
   top_small = first_small (filter (λ x. nat_eq (least_with_top n F P S x) (least n F P S)) (tops P S)) n
-      (λ y h. members_small n mask y (and_left _ _ (sym (has_tops P S y) ∙ and_left _ _ (sym (has_filter (λ x. nat_eq (least_with_top n F P S x) (least n F P S)) (tops P S) y) ∙ h))))
+      (λ y h. members_small n mask y
+      (and_left _ _
+      (sym (has_tops P S y)
+      ∙ and_left _ _ (sym (has_filter (λ x. nat_eq (least_with_top n F P S x) (least n F P S)) (tops P S) y) ∙ h))))
 
   within_bound : is_within n F P bound S ≡ true → least n F P S ≤ bound
   unfolding is_within

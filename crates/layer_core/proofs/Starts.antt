@@ -28,11 +28,14 @@ module _ (C : ℕ → ℕ × ℕ → Type 0) where
   pub right_opening : (l : Layout) (workers : ℕ) → IsLayout l → Right C (opening l workers)
   right_opening l workers laid = let empty : (p : ℕ) → cell_at (opening l workers) p ≡ None = λ p. all_same (length l.masks) p None in
       let is_blank : (i : ℕ) (w : Worker) → get_elem? (replicate workers (blank l)) i ≡ some w → blank l ≡ w = λ i w at. found_same workers i (blank l) w at in
-      let none_claims : (b : ℕ) → claimants b (replicate workers (blank l)) ≡ 0 = λ b. total_same (λ (u : Worker). weight (claimed u b)) workers (blank l) (ap weight (no_claim l b)) in record {
+      let none_claims : (b : ℕ) → claimants b (replicate workers (blank l)) ≡ 0 =
+      λ b. total_same (λ (u : Worker). weight (claimed u b)) workers (blank l) (ap weight (no_claim l b)) in
+      record {
         laid = laid;
         size = length-same (length l.masks) None;
         true_cells = λ p. subst (λ (o : Cell). IfSome o (C (get_or l.masks p 0))) (sym (empty p)) tt;
-        marks = λ i w at. subst (λ (u : Worker). (length u.claims ≡ l.blocks) × (length u.known ≡ length l.masks)) (is_blank i w at) (length-same l.blocks false, length-same (length l.masks) false);
+        marks = λ i w at. subst (λ (u : Worker). (length u.claims ≡ l.blocks) × (length u.known ≡ length l.masks)) (is_blank i w at)
+            (length-same l.blocks false, length-same (length l.masks) false);
         below = λ b inside low. absurd (omega arith);
         above = λ b inside high. none_claims b;
         filled = λ p full. absurd (full (empty p));
@@ -41,17 +44,22 @@ module _ (C : ℕ → ℕ × ℕ → Type 0) where
         told = λ i w at h. absurd (false_true (ap (λ (u : Worker). u.told) (is_blank i w at) ∙ h));
       }
 
-  pub right_joined : (l : Layout) (counter : ℕ) (cells : List Cell) (workers : List Worker) → Right C record { layout = l; counter = counter; cells = cells; workers = workers }
+  pub right_joined : (l : Layout) (counter : ℕ) (cells : List Cell) (workers : List Worker) →
+      Right C record { layout = l; counter = counter; cells = cells; workers = workers }
       → Right C record { layout = l; counter = counter; cells = cells; workers = workers ++ blank l ∷ [] }
   right_joined l counter cells workers r = record {
     laid = r.laid;
     size = r.size;
     true_cells = r.true_cells;
-    marks = each_snoc (λ (u : Worker). (length u.claims ≡ l.blocks) × (length u.known ≡ length l.masks)) workers (blank l) r.marks (length-same l.blocks false, length-same (length l.masks) false);
-    below = λ b inside low. let t = total_snoc (λ (u : Worker). weight (claimed u b)) workers (blank l) in let n : weight (claimed (blank l) b) ≡ 0 = ap weight (no_claim l b) in let was = r.below b inside low in omega arith;
-    above = λ b inside high. let t = total_snoc (λ (u : Worker). weight (claimed u b)) workers (blank l) in let n : weight (claimed (blank l) b) ≡ 0 = ap weight (no_claim l b) in let was = r.above b inside high in omega arith;
+    marks = each_snoc (λ (u : Worker). (length u.claims ≡ l.blocks) × (length u.known ≡ length l.masks)) workers (blank l) r.marks
+        (length-same l.blocks false, length-same (length l.masks) false);
+    below = λ b inside low. let t = total_snoc (λ (u : Worker). weight (claimed u b)) workers (blank l) in
+        let n : weight (claimed (blank l) b) ≡ 0 = ap weight (no_claim l b) in let was = r.below b inside low in omega arith;
+    above = λ b inside high. let t = total_snoc (λ (u : Worker). weight (claimed u b)) workers (blank l) in
+        let n : weight (claimed (blank l) b) ≡ 0 = ap weight (no_claim l b) in let was = r.above b inside high in omega arith;
     filled = λ p full. let z = r.filled p full in (z.0, z.1, at_longer workers (blank l ∷ []) z.0 z.1 z.2, z.3);
-    known = each_snoc (λ (u : Worker). (p : ℕ) → knows u p ≡ true → get_or cells p None ≢ None) workers (blank l) r.known (λ p h. absurd (false_true (sym (no_knowledge l p) ∙ h)));
+    known = each_snoc (λ (u : Worker). (p : ℕ) → knows u p ≡ true → get_or cells p None ≢ None) workers (blank l) r.known
+        (λ p h. absurd (false_true (sym (no_knowledge l p) ∙ h)));
     counted = let t = total_snoc (λ (u : Worker). weight u.told) workers (blank l) in let was = r.counted in omega arith;
     told = each_snoc (λ (u : Worker). u.told ≡ true → l.blocks ≤ counter) workers (blank l) r.told (λ h. absurd (false_true h));
   }

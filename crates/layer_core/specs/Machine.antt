@@ -81,7 +81,8 @@ abbrev pub claim : World → ℕ → found.Option Worker → Reply × World
 claim s i found.none = (NoMore, s)
 claim s i (found.some w) =
     if w.told then (NoMore, s)
-    else (if nat_lt s.counter s.layout.blocks then (Claimed s.counter, moved s (s.counter + 1) s.cells i (claims_block w s.counter)) else (NoMore, moved s (s.counter + 1) s.cells i (ends w)))
+    else (if nat_lt s.counter s.layout.blocks then (Claimed s.counter, moved s (s.counter + 1) s.cells i (claims_block w s.counter)) else
+    (NoMore, moved s (s.counter + 1) s.cells i (ends w)))
 
 -- a post at the place p, whose cell is that of the last argument
 abbrev pub fill : World → ℕ → ℕ → ℕ × ℕ → Worker → Option (ℕ × ℕ) → Reply × World

@@ -42,7 +42,9 @@ pub record Right (IsCell : ℕ → ℕ × ℕ → Type 0) (s : World) : Type 0 w
   pub below : (b : ℕ) → b < s.layout.blocks → b < s.counter → claimants b s.workers ≡ 1
   pub above : (b : ℕ) → b < s.layout.blocks → s.counter ≤ b → claimants b s.workers ≡ 0
   -- each filled mask was claimed by a worker that knows it to be filled
-  pub filled : (p : ℕ) → cell_at s p ≢ None → (i : ℕ) × (w : Worker) × (get_elem? s.workers i ≡ some w) × ((claimed w (slice_index s.layout.block_of p) ≡ true) × (knows w p ≡ true))
+  pub filled : (p : ℕ) → cell_at s p ≢ None →
+      (i : ℕ) × (w : Worker) × (get_elem? s.workers i ≡ some w)
+      × ((claimed w (slice_index s.layout.block_of p) ≡ true) × (knows w p ≡ true))
   -- what a worker knows to be filled is filled
   pub known : (i : ℕ) (w : Worker) → get_elem? s.workers i ≡ some w → (p : ℕ) → knows w p ≡ true → cell_at s p ≢ None
   -- the counter passes the number of blocks only by the workers that were told so

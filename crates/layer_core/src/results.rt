@@ -36,8 +36,15 @@ impl CellResult {
     /// The cell of a mask.
     pub fn new(problem: &Problem, bound: u32, mask: Mask, cell: Cell, pairs: &Pairs) -> CellResult
         requires bound { bound < 2 ^ 32 - 1 }
-        requires cell { pair_of cell ≡ cell_for record { problem = problem.now; pairs = pairs.now; bound = bound } mask }
-        ensures { result ≡ record { setting = record { problem = problem.now; pairs = pairs.now; bound = bound }; mask = mask; cell = pair_of cell } }
+        requires cell { pair_of cell ≡ cell_for record
+            { problem = problem.now; pairs = pairs.now; bound = bound } mask }
+        ensures { result ≡ record {
+          setting =
+              record { problem = problem.now; pairs = pairs.now; bound = bound };
+          mask =
+              mask;
+          cell = pair_of cell;
+        } }
     {
         let _few = problem.inputs();
         CellResult {

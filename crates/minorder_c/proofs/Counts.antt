@@ -17,9 +17,11 @@ counts_long n F order = length-map-range_with_len (level_count n F order) 0 (len
 pub order_counts_long : (n : ℕ) (F : List Function) (order : List ℕ) → IsOrder n order → length (level_counts n F order) ≡ n
 order_counts_long n F order o = counts_long n F order ∙ order_length n order o
 
-pub counts_read : (n : ℕ) (F : List Function) (order items : List ℕ) → length items ≡ length order → ((i : ℕ) → i < length order → slice_index items i ≡ level_count n F order i) → items ≡ level_counts n F order
+pub counts_read : (n : ℕ) (F : List Function) (order items : List ℕ) → length items ≡ length order →
+    ((i : ℕ) → i < length order → slice_index items i ≡ level_count n F order i) → items ≡ level_counts n F order
 unfolding level_counts
 counts_read n F order items long read =
-    ext_get_or 0 items (map (level_count n F order) (range_with_len 0 (length order))) (long ∙ sym (length-map-range_with_len (level_count n F order) 0 (length order)))
+    ext_get_or 0 items (map (level_count n F order) (range_with_len 0 (length order)))
+    (long ∙ sym (length-map-range_with_len (level_count n F order) 0 (length order)))
     (λ i low. let within : i < length order = omega (arith, long) in
     read i within ∙ sym (get_or-map-range_with_len (level_count n F order) 0 (length order) i i 0 within (omega arith)))

@@ -35,7 +35,8 @@ pub(crate) fn kept_pairs(alloc: Global, given: &[AbovePair], n: u8) -> Result<Pa
     requires some { 1 ≤ n }
     requires few { n ≤ 16 }
     ensures kept { OnOk result (CanBeKept n (pairs_given given.now)) }
-    ensures value { IfOk result (λ p. p ≡ record { inputs = n; pairs = sorted_pairs n (pairs_given given.now) }) }
+    ensures value { IfOk result
+        (λ p. p ≡ record { inputs = n; pairs = sorted_pairs n (pairs_given given.now) }) }
     ensures refused { IfErr result (RefusesPairs (Unit {0}) (CanBeKept n (pairs_given given.now))) }
 {
     let pairs = numbers_of(alloc, given)?;

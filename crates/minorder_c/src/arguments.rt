@@ -43,7 +43,8 @@ fn order_of(alloc: Global, variables: &[u8]) -> Result<Order, Refusal>
     requires few { length variables.now ≤ 16 }
     ensures order { OnOk result (IsOrder (length variables.now) variables.now) }
     ensures value { IfOk result (λ o. o ≡ variables.now) }
-    ensures refused { IfErr result (RefusesOrder (Unit {0}) (IsOrder (length variables.now) variables.now)) }
+    ensures refused { IfErr result
+        (RefusesOrder (Unit {0}) (IsOrder (length variables.now) variables.now)) }
 {
     match Order::try_from_slice(alloc, variables) {
         Ok(order) => Ok(order),
@@ -73,7 +74,9 @@ pub(crate) fn given(
     ensures is_order { OnOk result (IsOrder inputs variables.now) }
     ensures tables { IfOk result (λ g. g.tables ≡ packed_tables inputs outputs words.now) }
     ensures order { IfOk result (λ g. g.order ≡ variables.now) }
-    ensures refused { IfErr result (RefusesOrder (HasShape inputs outputs words.now (length variables.now) counts) (IsOrder inputs variables.now)) }
+    ensures refused { IfErr result
+        (RefusesOrder (HasShape inputs outputs words.now (length variables.now) counts)
+        (IsOrder inputs variables.now)) }
 {
     if variables.len() != inputs as usize || counts != inputs as usize {
         return Err(Refusal::Shape);

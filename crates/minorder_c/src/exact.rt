@@ -19,7 +19,9 @@ use truth_table::Tables;
 /// The first order of the fewest nodes among those that keep the pairs, searched below the size of one sifted from the first that keeps them.
 fn optimum(alloc: Global, tables: &Tables, pairs: Pairs) -> Result<Solution, Refusal>
     requires { pairs.inputs ≡ tables.now.inputs }
-    ensures optimum { IfOk result (λ s. IsOptimum tables.now.inputs (functions tables.now) pairs.pairs s.order s.levels.items s.total) }
+    ensures optimum { IfOk result
+        (λ s. IsOptimum tables.now.inputs (functions tables.now) pairs.pairs s.order s.levels.items
+        s.total) }
     ensures long { IfOk result (λ s. length s.order ≡ tables.now.inputs) }
     ensures counts { IfOk result (λ s. length s.levels.items ≡ tables.now.inputs) }
     ensures short { IfErr result IsShortage }
@@ -41,7 +43,9 @@ fn exact(
     counts: usize,
 ) -> Result<Solution, Refusal>
     ensures shape { OnOk result (HasShape inputs outputs words.now places counts) }
-    ensures optimum { IfOk result (λ s. IsOptimum inputs (functions_in inputs outputs words.now) [] s.order s.levels.items s.total) }
+    ensures optimum { IfOk result
+        (λ s. IsOptimum inputs (functions_in inputs outputs words.now) [] s.order s.levels.items
+        s.total) }
     ensures long { IfOk result (λ s. length s.order ≡ inputs) }
     ensures counts { IfOk result (λ s. length s.levels.items ≡ inputs) }
     ensures refused { IfErr result (Refuses (HasShape inputs outputs words.now places counts)) }
@@ -66,10 +70,14 @@ fn exact_above(
 ) -> Result<Solution, Refusal>
     ensures shape { OnOk result (HasShape inputs outputs words.now places counts) }
     ensures kept { OnOk result (CanBeKept inputs (pairs_given above.now)) }
-    ensures optimum { IfOk result (λ s. IsOptimum inputs (functions_in inputs outputs words.now) (sorted_pairs inputs (pairs_given above.now)) s.order s.levels.items s.total) }
+    ensures optimum { IfOk result
+        (λ s. IsOptimum inputs (functions_in inputs outputs words.now)
+        (sorted_pairs inputs (pairs_given above.now)) s.order s.levels.items s.total) }
     ensures long { IfOk result (λ s. length s.order ≡ inputs) }
     ensures counts { IfOk result (λ s. length s.levels.items ≡ inputs) }
-    ensures refused { IfErr result (RefusesPairs (HasShape inputs outputs words.now places counts) (CanBeKept inputs (pairs_given above.now))) }
+    ensures refused { IfErr result
+        (RefusesPairs (HasShape inputs outputs words.now places counts)
+        (CanBeKept inputs (pairs_given above.now))) }
 {
     if places != inputs as usize || counts != inputs as usize {
         return Err(Refusal::Shape);
@@ -92,9 +100,13 @@ pub extern "C" fn minorder_exact_with_lengths(
     total: &mut u32,
 ) -> u32
     ensures status { IsPlainStatus result }
-    ensures shape { TellsShape (HasShape inputs outputs tables.now (length order.old) (length levels.old)) result }
-    ensures optimum { result ≡ 0 → IsOptimum inputs (functions_in inputs outputs tables.now) [] order.new levels.new total.new }
-    ensures refused { result ≢ 0 → AllStay order.old order.new levels.old levels.new total.old total.new }
+    ensures shape { TellsShape
+        (HasShape inputs outputs tables.now (length order.old) (length levels.old)) result }
+    ensures optimum { result ≡ 0 →
+        IsOptimum inputs (functions_in inputs outputs tables.now) [] order.new levels.new
+        total.new }
+    ensures refused { result ≢ 0 →
+        AllStay order.old order.new levels.old levels.new total.old total.new }
 {
     match exact(alloc, tables, inputs, outputs, order.len(), levels.len()) {
         Ok(found) => {
@@ -120,11 +132,15 @@ pub extern "C" fn minorder_exact_above_with_lengths(
     total: &mut u32,
 ) -> u32
     ensures status { (result ≡ 8) ⊎ IsPlainStatus result }
-    ensures shape { TellsShape (HasShape inputs outputs tables.now (length order.old) (length levels.old)) result }
+    ensures shape { TellsShape
+        (HasShape inputs outputs tables.now (length order.old) (length levels.old)) result }
     ensures bad_pairs { result ≡ 8 → CanBeKept inputs (pairs_given above.now) → ⊥ }
     ensures kept { result ≡ 0 → CanBeKept inputs (pairs_given above.now) }
-    ensures optimum { result ≡ 0 → IsOptimum inputs (functions_in inputs outputs tables.now) (sorted_pairs inputs (pairs_given above.now)) order.new levels.new total.new }
-    ensures refused { result ≢ 0 → AllStay order.old order.new levels.old levels.new total.old total.new }
+    ensures optimum { result ≡ 0 →
+        IsOptimum inputs (functions_in inputs outputs tables.now)
+        (sorted_pairs inputs (pairs_given above.now)) order.new levels.new total.new }
+    ensures refused { result ≢ 0 →
+        AllStay order.old order.new levels.old levels.new total.old total.new }
 {
     match exact_above(
         alloc,

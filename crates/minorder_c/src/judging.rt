@@ -75,7 +75,8 @@ fn verdict_on(
     text: &[u8],
 ) -> Result<Verdict, Refusal>
     ensures shape { OnOk result (AreTables inputs outputs words.now) }
-    ensures judged { IfOk result (IsJudged inputs (functions_in inputs outputs words.now) text.now) }
+    ensures judged { IfOk result
+        (IsJudged inputs (functions_in inputs outputs words.now) text.now) }
     ensures refused { IfErr result (RefusesText (AreTables inputs outputs words.now) text.now) }
 {
     let tables = tables_of(alloc, words, inputs, outputs)?;
@@ -99,7 +100,8 @@ pub extern "C" fn minorder_check(
     ensures status { IsTextStatus result }
     ensures shape { TellsShape (AreTables inputs outputs tables.now) result }
     ensures no_certificate { result ≡ 3 → IsNoCertificate certificate.now }
-    ensures told { result ≡ 0 → IsTold inputs (functions_in inputs outputs tables.now) certificate.now verdict.new }
+    ensures told { result ≡ 0 →
+        IsTold inputs (functions_in inputs outputs tables.now) certificate.now verdict.new }
     ensures refused { result ≢ 0 → verdict.new ≡ verdict.old }
 {
     match verdict_on(alloc, tables, inputs, outputs, certificate) {

@@ -21,9 +21,12 @@ fn level_counts_of(
 ) -> Result<Vec<u32>, Refusal>
     ensures shape { OnOk result (HasShape inputs outputs words.now (length order.now) counts) }
     ensures order { OnOk result (IsOrder inputs order.now) }
-    ensures levels { IfOk result (λ v. v.items ≡ level_counts inputs (functions_in inputs outputs words.now) order.now) }
+    ensures levels { IfOk result
+        (λ v. v.items ≡ level_counts inputs (functions_in inputs outputs words.now) order.now) }
     ensures counts { IfOk result (λ v. length v.items ≡ counts) }
-    ensures refused { IfErr result (RefusesOrder (HasShape inputs outputs words.now (length order.now) counts) (IsOrder inputs order.now)) }
+    ensures refused { IfErr result
+        (RefusesOrder (HasShape inputs outputs words.now (length order.now) counts)
+        (IsOrder inputs order.now)) }
 {
     let given = given(alloc, words, inputs, outputs, order, counts)?;
     let levels = given.tables.widths_of(alloc, &given.order)?;
@@ -41,10 +44,12 @@ pub extern "C" fn minorder_levels_with_lengths(
     levels: &mut [u32],
 ) -> u32
     ensures status { IsOrderStatus result }
-    ensures shape { TellsShape (HasShape inputs outputs tables.now (length order.now) (length levels.old)) result }
+    ensures shape { TellsShape
+        (HasShape inputs outputs tables.now (length order.now) (length levels.old)) result }
     ensures no_order { result ≡ 5 → IsOrder inputs order.now → ⊥ }
     ensures order { result ≡ 0 → IsOrder inputs order.now }
-    ensures levels { result ≡ 0 → levels.new ≡ level_counts inputs (functions_in inputs outputs tables.now) order.now }
+    ensures levels { result ≡ 0 →
+        levels.new ≡ level_counts inputs (functions_in inputs outputs tables.now) order.now }
     ensures refused { result ≢ 0 → levels.new ≡ levels.old }
 {
     match level_counts_of(alloc, tables, inputs, outputs, order, levels.len()) {

@@ -25,7 +25,10 @@ struct Found {
 /// The level counts of a sifted order, one a level.
 fn levels_of(alloc: Global, sifted: &Sifted) -> Result<Vec<u32>, AllocError>
     ensures long { IfOk result (λ v. length v.items ≡ length sifted.now.order) }
-    ensures counts { IfOk result (λ v. (i : ℕ) → i < length sifted.now.order → slice_index v.items i ≡ level_count sifted.now.problem.inputs (functions sifted.now.problem) sifted.now.order i) }
+    ensures counts { IfOk result
+        (λ v. (i : ℕ) → i < length sifted.now.order →
+        slice_index v.items i ≡ level_count sifted.now.problem.inputs
+        (functions sifted.now.problem) sifted.now.order i) }
 {
     let counts = sifted.levels();
     counts[..sifted.order().len()].to_vec(alloc)
@@ -42,10 +45,14 @@ fn sifted_order(
 ) -> Result<Found, Refusal>
     ensures shape { OnOk result (HasShape inputs outputs words.now (length order.now) counts) }
     ensures order { OnOk result (IsOrder inputs order.now) }
-    ensures sifted { IfOk result (λ f. IsSiftedFrom inputs (functions_in inputs outputs words.now) [] order.now f.order f.levels.items f.total) }
+    ensures sifted { IfOk result
+        (λ f. IsSiftedFrom inputs (functions_in inputs outputs words.now) [] order.now f.order
+        f.levels.items f.total) }
     ensures long { IfOk result (λ f. length f.order ≡ length order.now) }
     ensures counts { IfOk result (λ f. length f.levels.items ≡ counts) }
-    ensures refused { IfErr result (RefusesOrder (HasShape inputs outputs words.now (length order.now) counts) (IsOrder inputs order.now)) }
+    ensures refused { IfErr result
+        (RefusesOrder (HasShape inputs outputs words.now (length order.now) counts)
+        (IsOrder inputs order.now)) }
 {
     let given = given(alloc, words, inputs, outputs, order, counts)?;
     let pairs = Pairs::none(inputs as u8);
@@ -69,11 +76,15 @@ pub extern "C" fn minorder_sift_with_lengths(
     total: &mut u32,
 ) -> u32
     ensures status { IsOrderStatus result }
-    ensures shape { TellsShape (HasShape inputs outputs tables.now (length order.old) (length levels.old)) result }
+    ensures shape { TellsShape
+        (HasShape inputs outputs tables.now (length order.old) (length levels.old)) result }
     ensures no_order { result ≡ 5 → IsOrder inputs order.old → ⊥ }
     ensures order { result ≡ 0 → IsOrder inputs order.old }
-    ensures sifted { result ≡ 0 → IsSiftedFrom inputs (functions_in inputs outputs tables.now) [] order.old order.new levels.new total.new }
-    ensures refused { result ≢ 0 → AllStay order.old order.new levels.old levels.new total.old total.new }
+    ensures sifted { result ≡ 0 →
+        IsSiftedFrom inputs (functions_in inputs outputs tables.now) [] order.old order.new
+        levels.new total.new }
+    ensures refused { result ≢ 0 →
+        AllStay order.old order.new levels.old levels.new total.old total.new }
 {
     match sifted_order(alloc, tables, inputs, outputs, order, levels.len()) {
         Ok(found) => {

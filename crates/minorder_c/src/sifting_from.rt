@@ -24,7 +24,9 @@ pub(crate) fn sifted_from(
     requires long { length start.now ≡ tables.now.inputs }
     requires inputs { pairs.inputs ≡ tables.now.inputs }
     requires kept { Keeps pairs.pairs start.now }
-    ensures order { IfOk result (λ s. s.order ≡ sifted_order tables.now.inputs (functions tables.now) pairs.pairs start.now) }
+    ensures order { IfOk result
+        (λ s. s.order ≡ sifted_order tables.now.inputs (functions tables.now) pairs.pairs
+        start.now) }
     ensures problem { IfOk result (λ s. s.problem ≡ tables.now) }
     ensures pairs { IfOk result (λ s. s.pairs ≡ pairs.pairs) }
     ensures short { IfErr result IsShortage }

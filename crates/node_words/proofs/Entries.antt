@@ -41,7 +41,9 @@ entry_grows order xs ys w nodes g e = record {
   denotes = record {
     known = λ two. grows_full xs ys (result_of w - 2) g (e.denotes.known two);
     function = λ p l. function_grows order xs nodes ys g (result_of w) e.denotes.known p
-        ∙ (e.denotes.function p l ∙ (λ i. combine_values e.operation (sym (function_grows order xs nodes ys g (first_of w) e.first p) i) (sym (function_grows order xs nodes ys g (second_of w) e.second p) i)));
+        ∙ (e.denotes.function p l
+        ∙ (λ i. combine_values e.operation (sym (function_grows order xs nodes ys g (first_of w) e.first p) i)
+        (sym (function_grows order xs nodes ys g (second_of w) e.second p) i)));
   };
 }
 
@@ -65,21 +67,26 @@ module _ (order ws : List ℕ) (o : Operation) (a b r : ℕ) (small_a : a < 2 ^ 
     word = λ i. entry_word (code_of o) (sym first_is i) (sym second_is i) (sym result_is i);
     first = subst (IsKnown ws) (sym first_is) ka;
     second = subst (IsKnown ws) (sym second_is) kb;
-    denotes = subst (λ (z : ℕ × ℕ × ℕ). Denotes order ws z.2 (combine o (function_of order ws z.0) (function_of order ws z.1))) (λ i. (sym first_is i, sym second_is i, sym result_is i)) d;
+    denotes = subst (λ (z : ℕ × ℕ × ℕ). Denotes order ws z.2 (combine o (function_of order ws z.0) (function_of order ws z.1)))
+        (λ i. (sym first_is i, sym second_is i, sym result_is i)) d;
   }
 
 -- a word with the key of an operation on a and b has its result
-pub entry_found : (order ws : List ℕ) (o : Operation) (a b w : ℕ) → a < 2 ^ 20 → b < 2 ^ 20 → IsEntry order ws w → w / 2 ^ 20 ≡ code_of o * 2 ^ 40 + a * 2 ^ 20 + b
+pub entry_found : (order ws : List ℕ) (o : Operation) (a b w : ℕ) → a < 2 ^ 20 → b < 2 ^ 20 → IsEntry order ws w →
+    w / 2 ^ 20 ≡ code_of o * 2 ^ 40 + a * 2 ^ 20 + b
     → Denotes order ws (result_of w) (combine o (function_of order ws a) (function_of order ws b))
 entry_found order ws o a b w small_a small_b e key =
     let c = code_small o in let c' = code_small e.operation in let word = e.word in
     let first : first_of w ≡ a = omega arith in let second : second_of w ≡ b = omega arith in
     let code : code_of e.operation ≡ code_of o = omega arith in
-    subst (λ (z : Operation × ℕ × ℕ). Denotes order ws (result_of w) (combine z.0 (function_of order ws z.1) (function_of order ws z.2))) (λ i. (one_code e.operation o code i, first i, second i)) e.denotes
+    subst (λ (z : Operation × ℕ × ℕ). Denotes order ws (result_of w) (combine z.0 (function_of order ws z.1) (function_of order ws z.2)))
+    (λ i. (one_code e.operation o code i, first i, second i)) e.denotes
 
 -- the word that a key and a result make
-pub entry_packed : (code a b r key : ℕ) → code < 4 → a < 2 ^ 20 → b < 2 ^ 20 → r < 2 ^ 20 → key ≡ code * 2 ^ 40 + a * 2 ^ 20 + b → (key * 1048576) % 18446744073709551616 + r ≡ entry_word code a b r
-entry_packed code a b r key c x y z is = let small : key * 1048576 < 18446744073709551616 = omega arith in let same : (key * 1048576) % 18446744073709551616 ≡ key * 1048576 = omega arith in omega arith
+pub entry_packed : (code a b r key : ℕ) → code < 4 → a < 2 ^ 20 → b < 2 ^ 20 → r < 2 ^ 20 → key ≡ code * 2 ^ 40 + a * 2 ^ 20 + b →
+    (key * 1048576) % 18446744073709551616 + r ≡ entry_word code a b r
+entry_packed code a b r key c x y z is = let small : key * 1048576 < 18446744073709551616 = omega arith in
+    let same : (key * 1048576) % 18446744073709551616 ≡ key * 1048576 = omega arith in omega arith
 
 pub entry_fits : (code a b r : ℕ) → code < 4 → a < 2 ^ 20 → b < 2 ^ 20 → r < 2 ^ 20 → entry_word code a b r < 2 ^ 64
 entry_fits code a b r c x y z = omega arith

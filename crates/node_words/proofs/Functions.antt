@@ -24,24 +24,31 @@ point_along order t = map (λ x. t (place_in order x)) (range_with_len 0 (length
 pub length-point_along : (order : List ℕ) (t : ℕ → Bool) → length (point_along order t) ≡ length order
 length-point_along order t = length-map-range_with_len (λ x. t (place_in order x)) 0 (length order)
 
-pub along-point_along : (order : List ℕ) (t : ℕ → Bool) (level : ℕ) → IsOrder (length order) order → level < length order → along order (point_along order t) level ≡ t level
+pub along-point_along : (order : List ℕ) (t : ℕ → Bool) (level : ℕ) → IsOrder (length order) order → level < length order →
+    along order (point_along order t) level ≡ t level
 along-point_along order t level is inside =
     let x : ℕ = get_or order level 0 in let small : x < length order = (is.all x).0 (has_at order level inside) in
     get_or-map-range_with_len (λ y. t (place_in order y)) 0 (length order) x x false small (zero-add x) ∙ ap t (place_get order level is.once inside)
 
 module _ (order ws : List ℕ) (nodes : AreNodes (length order) ws) where
   -- each choice of children is that of a point
-  pub value_at : (id : ℕ) (t : ℕ → Bool) → IsOrder (length order) order → IsKnown ws id → value (length order) ws id t ≡ function_of order ws id (point_along order t)
+  pub value_at : (id : ℕ) (t : ℕ → Bool) → IsOrder (length order) order → IsKnown ws id →
+      value (length order) ws id t ≡ function_of order ws id (point_along order t)
   unfolding function_of
-  value_at id t is known = value_within (length order) ws nodes (length order) id t (along order (point_along order t)) known (λ j small. sym (along-point_along order t j is small))
+  value_at id t is known =
+      value_within (length order) ws nodes (length order) id t (along order (point_along order t)) known
+      (λ j small. sym (along-point_along order t j is small))
 
-  pub same_values : (a b : ℕ) → IsOrder (length order) order → IsKnown ws a → IsKnown ws b → SameFunction (length order) (function_of order ws a) (function_of order ws b) → IsSame (length order) ws a b
+  pub same_values : (a b : ℕ) → IsOrder (length order) order → IsKnown ws a → IsKnown ws b →
+      SameFunction (length order) (function_of order ws a) (function_of order ws b) → IsSame (length order) ws a b
   unfolding SameFunction
   same_values a b is ka kb same t = value_at a t is ka ∙ (same (point_along order t) (length-point_along order t) ∙ sym (value_at b t is kb))
 
   -- ids of one function are one id
-  pub same_ids : AreUnequal ws → (a b : ℕ) → IsOrder (length order) order → IsKnown ws a → IsKnown ws b → SameFunction (length order) (function_of order ws a) (function_of order ws b) → a ≡ b
-  same_ids unequal a b is ka kb same = canonical (length order) ws nodes unequal (length order) a b ka kb (omega arith) (omega arith) (same_values a b is ka kb same)
+  pub same_ids : AreUnequal ws → (a b : ℕ) → IsOrder (length order) order → IsKnown ws a → IsKnown ws b →
+      SameFunction (length order) (function_of order ws a) (function_of order ws b) → a ≡ b
+  same_ids unequal a b is ka kb same =
+      canonical (length order) ws nodes unequal (length order) a b ka kb (omega arith) (omega arith) (same_values a b is ka kb same)
 
   pub one_id : AreUnequal ws → (a b : ℕ) (f : Function) → IsOrder (length order) order → Denotes order ws a f → Denotes order ws b f → a ≡ b
   unfolding SameFunction
@@ -54,11 +61,17 @@ module _ (order ws : List ℕ) (nodes : AreNodes (length order) ws) where
 
   pub denotes_grows : (later : List ℕ) → Grows ws later → (id : ℕ) (f : Function) → Denotes order ws id f → Denotes order later id f
   unfolding SameFunction
-  denotes_grows later g id f d = record { known = λ two. grows_full ws later (id - 2) g (d.known two); function = λ p l. function_grows later g id d.known p ∙ d.function p l }
+  denotes_grows later g id f d =
+      record {
+        known = λ two. grows_full ws later (id - 2) g (d.known two);
+        function = λ p l. function_grows later g id d.known p
+            ∙ d.function p l;
+      }
 
   -- a node denotes the high child's function where its variable is 1, else the low child's
   pub function_child : (id : ℕ) → 2 ≤ id → IsKnown ws id → (p : Point)
-      → function_of order ws id p ≡ branch (get_or order (level_of (get_or ws (id - 2) 0)) 0) (function_of order ws (low_of (get_or ws (id - 2) 0))) (function_of order ws (high_of (get_or ws (id - 2) 0))) p
+      → function_of order ws id p ≡ branch (get_or order (level_of (get_or ws (id - 2) 0)) 0)
+      (function_of order ws (low_of (get_or ws (id - 2) 0))) (function_of order ws (high_of (get_or ws (id - 2) 0))) p
   unfolding function_of branch
   function_child id node known p = value_child (length order) ws nodes id (along order p) node known
 
@@ -67,13 +80,20 @@ module _ (order ws : List ℕ) (nodes : AreNodes (length order) ws) where
   function_terminal id small p = value_terminal (length order) ws id (along order p) small
 
   -- what a made id denotes
-  pub function_made : (level low high id : ℕ) → level < 16 → low < 2 ^ 20 → high < 2 ^ 20 → node_word level low high ≢ 0 → IsIdOf ws level low high id → (p : Point)
+  pub function_made : (level low high id : ℕ) → level < 16 → low < 2 ^ 20 → high < 2 ^ 20 → node_word level low high ≢ 0 →
+      IsIdOf ws level low high id → (p : Point)
       → function_of order ws id p ≡ branch (get_or order level 0) (function_of order ws low) (function_of order ws high) p
   unfolding branch
   function_made level low high id a b c full made p = dite (ℕ_discrete low high)
-      (λ same. let is : id ≡ low = subst (λ (t : Bool). MatchBool t (id ≡ low) ((2 ≤ id) × (get_or ws (id - 2) 0 ≡ node_word level low high))) (eq-eqb low high same) made in
-      ap (λ (k : ℕ). function_of order ws k p) is ∙ both_same (bit p (get_or order level 0)) (function_of order ws low p) (function_of order ws high p) (ap (λ (k : ℕ). function_of order ws k p) same))
-      (λ ne. let m : (2 ≤ id) × (get_or ws (id - 2) 0 ≡ node_word level low high) = subst (λ (t : Bool). MatchBool t (id ≡ low) ((2 ≤ id) × (get_or ws (id - 2) 0 ≡ node_word level low high))) (ne_eqb low high ne) made in
+      (λ same. let is : id ≡ low =
+      subst (λ (t : Bool). MatchBool t (id ≡ low) ((2 ≤ id) × (get_or ws (id - 2) 0 ≡ node_word level low high)))
+      (eq-eqb low high same) made in
+      ap (λ (k : ℕ). function_of order ws k p) is
+      ∙ both_same (bit p (get_or order level 0)) (function_of order ws low p) (function_of order ws high p)
+      (ap (λ (k : ℕ). function_of order ws k p) same))
+      (λ ne. let m : (2 ≤ id) × (get_or ws (id - 2) 0 ≡ node_word level low high) =
+      subst (λ (t : Bool). MatchBool t (id ≡ low) ((2 ≤ id) × (get_or ws (id - 2) 0 ≡ node_word level low high)))
+      (ne_eqb low high ne) made in
       let known : IsKnown ws id = (λ two e. full (sym m.1 ∙ e)) in
       let l : level_of (get_or ws (id - 2) 0) ≡ level = ap level_of m.1 ∙ word_level level low high a b c in
       let x : low_of (get_or ws (id - 2) 0) ≡ low = ap low_of m.1 ∙ word_low level low high a b c in
@@ -85,16 +105,20 @@ module _ (order ws : List ℕ) (nodes : AreNodes (length order) ws) where
       both_same false x y e = refl
 
   -- an id lies no higher than the ids of which it is an operation
-  pub operation_no_higher : AreUnequal ws → IsOrder (length order) order → (operation : Operation) (a b r k : ℕ) → IsKnown ws a → IsKnown ws b → Denotes order ws r (combine operation (function_of order ws a) (function_of order ws b))
+  pub operation_no_higher : AreUnequal ws → IsOrder (length order) order → (operation : Operation) (a b r k : ℕ) → IsKnown ws a →
+      IsKnown ws b → Denotes order ws r (combine operation (function_of order ws a) (function_of order ws b))
       → k ≤ depth (length order) ws a → k ≤ depth (length order) ws b → k ≤ depth (length order) ws r
   unfolding SameFunction combine
   operation_no_higher unequal is operation a b r k ka kb d ha hb =
       let n : ℕ = length order in
       let value_is : (t : ℕ → Bool) → value n ws r t ≡ combine_values operation (value n ws a t) (value n ws b t) = (λ t.
-      value_at r t is d.known ∙ (d.function (point_along order t) (length-point_along order t) ∙ (λ i. combine_values operation (sym (value_at a t is ka) i) (sym (value_at b t is kb) i)))) in
+      value_at r t is d.known
+      ∙ (d.function (point_along order t) (length-point_along order t)
+      ∙ (λ i. combine_values operation (sym (value_at a t is ka) i) (sym (value_at b t is kb) i)))) in
       let most : k ≤ n = (let e = deepest n ws nodes a ka in omega arith) in
       no_higher n ws nodes unequal k r d.known most (λ t t' agree. value_is t
-      ∙ ((λ i. combine_values operation (value_same n ws nodes n n a t t' ka (omega arith) (omega arith) (λ j le. agree j (omega arith)) i) (value_same n ws nodes n n b t t' kb (omega arith) (omega arith) (λ j le. agree j (omega arith)) i))
+      ∙ ((λ i. combine_values operation (value_same n ws nodes n n a t t' ka (omega arith) (omega arith) (λ j le. agree j (omega arith)) i)
+      (value_same n ws nodes n n b t t' kb (omega arith) (omega arith) (λ j le. agree j (omega arith)) i))
       ∙ sym (value_is t')))
 
 -- growth keeps levels
@@ -121,11 +145,16 @@ depth_below levels ws level id small below = ⊎_elim
     two_or_less a = grind arith
 
 -- a made id lies no higher than its level
-pub depth_made : (levels : ℕ) (ws : List ℕ) (level low high id : ℕ) → level < 16 → low < 2 ^ 20 → high < 2 ^ 20 → level < depth levels ws low → IsIdOf ws level low high id → level ≤ depth levels ws id
+pub depth_made : (levels : ℕ) (ws : List ℕ) (level low high id : ℕ) → level < 16 → low < 2 ^ 20 → high < 2 ^ 20 →
+    level < depth levels ws low → IsIdOf ws level low high id → level ≤ depth levels ws id
 depth_made levels ws level low high id a b c less made = dite (ℕ_discrete low high)
-    (λ same. let is : id ≡ low = subst (λ (t : Bool). MatchBool t (id ≡ low) ((2 ≤ id) × (get_or ws (id - 2) 0 ≡ node_word level low high))) (eq-eqb low high same) made in
+    (λ same. let is : id ≡ low =
+    subst (λ (t : Bool). MatchBool t (id ≡ low) ((2 ≤ id) × (get_or ws (id - 2) 0 ≡ node_word level low high)))
+    (eq-eqb low high same) made in
     subst (λ (k : ℕ). level ≤ depth levels ws k) (sym is) (omega arith))
-    (λ ne. let m : (2 ≤ id) × (get_or ws (id - 2) 0 ≡ node_word level low high) = subst (λ (t : Bool). MatchBool t (id ≡ low) ((2 ≤ id) × (get_or ws (id - 2) 0 ≡ node_word level low high))) (ne_eqb low high ne) made in
+    (λ ne. let m : (2 ≤ id) × (get_or ws (id - 2) 0 ≡ node_word level low high) =
+    subst (λ (t : Bool). MatchBool t (id ≡ low) ((2 ≤ id) × (get_or ws (id - 2) 0 ≡ node_word level low high)))
+    (ne_eqb low high ne) made in
     let e = depth_node levels ws id m.0 in let l : level_of (get_or ws (id - 2) 0) ≡ level = ap level_of m.1 ∙ word_level level low high a b c in omega arith)
 
 -- a known id fits 20 bits
@@ -137,13 +166,18 @@ known_small ws places id size known = ⊎_elim
 
 pub known_made : (ws : List ℕ) (level low high id : ℕ) → IsKnown ws low → IsIdOf ws level low high id → IsKnown ws id
 known_made ws level low high id known made = dite (ℕ_discrete low high)
-    (λ same. let is : id ≡ low = subst (λ (t : Bool). MatchBool t (id ≡ low) ((2 ≤ id) × (get_or ws (id - 2) 0 ≡ node_word level low high))) (eq-eqb low high same) made in
+    (λ same. let is : id ≡ low =
+    subst (λ (t : Bool). MatchBool t (id ≡ low) ((2 ≤ id) × (get_or ws (id - 2) 0 ≡ node_word level low high)))
+    (eq-eqb low high same) made in
     subst (IsKnown ws) (sym is) known)
-    (λ ne. let m : (2 ≤ id) × (get_or ws (id - 2) 0 ≡ node_word level low high) = subst (λ (t : Bool). MatchBool t (id ≡ low) ((2 ≤ id) × (get_or ws (id - 2) 0 ≡ node_word level low high))) (ne_eqb low high ne) made in
+    (λ ne. let m : (2 ≤ id) × (get_or ws (id - 2) 0 ≡ node_word level low high) =
+    subst (λ (t : Bool). MatchBool t (id ≡ low) ((2 ≤ id) × (get_or ws (id - 2) 0 ≡ node_word level low high)))
+    (ne_eqb low high ne) made in
     let word = m.1 in λ two empty. omega arith)
 
 -- a made id is known, and denotes the branch of the children's functions by the level's variable
-pub denotes_made : (order ws : List ℕ) → AreNodes (length order) ws → (level low high id : ℕ) → level < 16 → low < 2 ^ 20 → high < 2 ^ 20 → IsKnown ws low → IsIdOf ws level low high id
+pub denotes_made : (order ws : List ℕ) → AreNodes (length order) ws → (level low high id : ℕ) → level < 16 → low < 2 ^ 20 → high < 2 ^ 20 →
+    IsKnown ws low → IsIdOf ws level low high id
     → Denotes order ws id (branch (get_or order level 0) (function_of order ws low) (function_of order ws high))
 unfolding SameFunction
 denotes_made order ws nodes level low high id a b c known made = record {

@@ -12,9 +12,11 @@ word_low level low high a b c = omega arith
 pub word_high : (level low high : ℕ) → level < 16 → low < 2 ^ 20 → high < 2 ^ 20 → high_of (node_word level low high) ≡ high
 word_high level low high a b c = omega arith
 
-pub word_node : (levels level low high : ℕ) (ws : List ℕ) → levels ≤ 16 → level < levels → low < 2 ^ 20 → high < 2 ^ 20 → low ≢ high → IsBelow ws level low → IsBelow ws level high → IsNode levels ws (node_word level low high)
+pub word_node : (levels level low high : ℕ) (ws : List ℕ) → levels ≤ 16 → level < levels → low < 2 ^ 20 → high < 2 ^ 20 → low ≢ high →
+    IsBelow ws level low → IsBelow ws level high → IsNode levels ws (node_word level low high)
 word_node levels level low high ws most small a b ne below_low below_high =
-    let l = word_level level low high (omega arith) a b in let x = word_low level low high (omega arith) a b in let y = word_high level low high (omega arith) a b in record {
+    let l = word_level level low high (omega arith) a b in let x = word_low level low high (omega arith) a b in
+    let y = word_high level low high (omega arith) a b in record {
       word = (λ i. node_word (sym l i) (sym x i) (sym y i));
       level = omega arith;
       unequal = λ e. ne (sym x ∙ (e ∙ y));
@@ -23,7 +25,8 @@ word_node levels level low high ws most small a b ne below_low below_high =
     }
 
 -- the place after those that were passed
-pub one_more : (xs ys : List ℕ) (places w passed place : ℕ) → Grows xs ys → ((j : ℕ) → j < passed → (get_or xs (probe places w j) 0 ≢ 0) × (get_or xs (probe places w j) 0 ≢ w)) → place ≡ probe places w passed
+pub one_more : (xs ys : List ℕ) (places w passed place : ℕ) → Grows xs ys →
+    ((j : ℕ) → j < passed → (get_or xs (probe places w j) 0 ≢ 0) × (get_or xs (probe places w j) 0 ≢ w)) → place ≡ probe places w passed
     → (get_or ys place 0 ≢ 0) × (get_or ys place 0 ≢ w) → (j : ℕ) → j < passed + 1 → (get_or ys (probe places w j) 0 ≢ 0) × (get_or ys (probe places w j) 0 ≢ w)
 one_more xs ys places w passed place g before here taken j lt = ⊎_elim
     (λ (less : j < passed). let t = before j less in let same = g (probe places w j) t.0 in ((λ e. t.0 (sym same ∙ e)), (λ e. t.1 (sym same ∙ e))))
@@ -48,8 +51,11 @@ onto places w p inside small = ⊎_elim
 
 pub full_for : (seen : List ℕ) (places w passed : ℕ) → home places w < places → places ≤ passed
     → ((j : ℕ) → j < passed → (get_or seen (probe places w j) 0 ≢ 0) × (get_or seen (probe places w j) 0 ≢ w)) → IsFullFor seen places w
-full_for seen places w passed inside all before p small = let k = onto places w p inside small in subst (λ (z : ℕ). (get_or seen z 0 ≢ 0) × (get_or seen z 0 ≢ w)) k.2 (before k.0 (let e = k.1 in omega arith))
+full_for seen places w passed inside all before p small = let k = onto places w p inside small in
+    subst (λ (z : ℕ). (get_or seen z 0 ≢ 0) × (get_or seen z 0 ≢ w)) k.2 (before k.0 (let e = k.1 in omega arith))
 
 pub makes : (seen : List ℕ) (level low high place : ℕ) → low ≢ high → get_or seen place 0 ≡ node_word level low high → IsIdOf seen level low high (place + 2)
-makes seen level low high place ne is = subst (λ (b : Bool). MatchBool b (place + 2 ≡ low) ((2 ≤ place + 2) × (get_or seen (place + 2 - 2) 0 ≡ node_word level low high))) (sym (ne_eqb low high ne))
+makes seen level low high place ne is =
+    subst (λ (b : Bool). MatchBool b (place + 2 ≡ low) ((2 ≤ place + 2) × (get_or seen (place + 2 - 2) 0 ≡ node_word level low high)))
+    (sym (ne_eqb low high ne))
     (let back : place + 2 - 2 ≡ place = omega arith in (omega arith, subst (λ (z : ℕ). get_or seen z 0 ≡ node_word level low high) (sym back) is))

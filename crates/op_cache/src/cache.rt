@@ -34,7 +34,8 @@ pub fn recall(
     requires session { session.old.store ≡ store.now }
     requires known { Knows session.old first × Knows session.old second }
     ensures step { MakesStep session.old session.new 0 }
-    ensures function { IfSome result (λ id. Means session.new id (combined_in session.new operation first second)) }
+    ensures function { IfSome result
+        (λ id. Means session.new id (combined_in session.new operation first second)) }
     ensures level { IfSome result (LiesNoHigher session.new first second) }
 {
     let place = place_of(store.cache_places(), operation, first, second);

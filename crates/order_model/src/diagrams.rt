@@ -73,7 +73,8 @@ fn counts_by_variable(nodes: &[Node]) -> [u32; 16]
 fn in_order(order: &[VarIx], counts: [u32; 16]) -> [u32; 16]
     requires few { length order.now ≤ 16 }
     requires variables { All (λ x. x < 16) order.now }
-    ensures counts { (i : ℕ) → i < length order.now → slice_index result i ≡ slice_index counts (slice_index order.now i) }
+    ensures counts { (i : ℕ) → i < length order.now →
+        slice_index result i ≡ slice_index counts (slice_index order.now i) }
     ensures others { (i : ℕ) → length order.now ≤ i → slice_index result i ≡ 0 }
 {
     let mut levels = [0u32; 16];
@@ -151,7 +152,8 @@ impl Diagram {
     /// The value of an output at the point with a number.
     pub fn eval(&self, output: usize, point: u32) -> bool
         requires { output < length self.now.graph.roots }
-        ensures { result ≡ root_value self.now.graph output (point_of (length self.now.order) point) }
+        ensures { result ≡ root_value self.now.graph output
+            (point_of (length self.now.order) point) }
     {
         let variables = self.order.len() as u8;
         eval(variables, &self.nodes, self.roots[output], point)
@@ -159,7 +161,8 @@ impl Diagram {
 
     /// How many nodes each level has, top first; levels that the order doesn't have are given 0.
     pub fn level_counts(&self) -> [u32; 16]
-        ensures counts { (i : ℕ) → i < length self.now.order → slice_index result i ≡ nodes_at self.now.graph (slice_index self.now.order i) }
+        ensures counts { (i : ℕ) → i < length self.now.order →
+            slice_index result i ≡ nodes_at self.now.graph (slice_index self.now.order i) }
         ensures others { (i : ℕ) → length self.now.order ≤ i → slice_index result i ≡ 0 }
     {
         in_order(self.order.variables(), counts_by_variable(&self.nodes))

@@ -53,8 +53,11 @@ pub fn lower_half(x: VarIx) -> u64
 /// Whether some bit of a word differs from the one 2^x places above, x being below 6.
 fn halves_differ(word: u64, x: VarIx) -> bool
     requires { x < 6 }
-    ensures differ { IsTrue result → (b : ℕ) × (b + 2 ^ x < 64) × (bit_at b x ≡ 0) × (bit_at word b ≡ bit_at word (b + 2 ^ x) → ⊥) }
-    ensures alike { result ≡ false → (b : ℕ) → b + 2 ^ x < 64 → bit_at b x ≡ 0 → bit_at word b ≡ bit_at word (b + 2 ^ x) }
+    ensures differ { IsTrue result →
+        (b : ℕ) × (b + 2 ^ x < 64) × (bit_at b x ≡ 0)
+        × (bit_at word b ≡ bit_at word (b + 2 ^ x) → ⊥) }
+    ensures alike { result ≡ false → (b : ℕ) → b + 2 ^ x < 64 → bit_at b x ≡ 0 →
+        bit_at word b ≡ bit_at word (b + 2 ^ x) }
 {
     ((word >> (1u32 << x)) ^ word) & lower_half(x) != 0
 }
@@ -64,8 +67,11 @@ fn rows_differ(words: &[u64], r: u8) -> bool
     requires few { length words.now ≤ 1024 }
     requires small { r < 10 }
     requires room { (i : ℕ) → i < length words.now → bit_at i r ≡ 0 → i + 2 ^ r < length words.now }
-    ensures differ { IsTrue result → (i : ℕ) × (i + 2 ^ r < length words.now) × (bit_at i r ≡ 0) × (slice_index words.now i ≡ slice_index words.now (i + 2 ^ r) → ⊥) }
-    ensures alike { result ≡ false → (i : ℕ) → i + 2 ^ r < length words.now → bit_at i r ≡ 0 → slice_index words.now i ≡ slice_index words.now (i + 2 ^ r) }
+    ensures differ { IsTrue result →
+        (i : ℕ) × (i + 2 ^ r < length words.now) × (bit_at i r ≡ 0)
+        × (slice_index words.now i ≡ slice_index words.now (i + 2 ^ r) → ⊥) }
+    ensures alike { result ≡ false → (i : ℕ) → i + 2 ^ r < length words.now → bit_at i r ≡ 0 →
+        slice_index words.now i ≡ slice_index words.now (i + 2 ^ r) }
 {
     let step = 1usize << r;
     for i in 0..words.len() {

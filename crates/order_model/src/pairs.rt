@@ -278,7 +278,8 @@ impl Pairs {
         requires within { set < 2 ^ self.now.inputs }
         requires lawful { IsTrue (is_lawful self.now.pairs (members self.now.inputs set)) }
         ensures top { IsTrue (has (tops self.now.pairs (members self.now.inputs set)) result) }
-        ensures smallest { (y : ℕ) → IsTrue (has (tops self.now.pairs (members self.now.inputs set)) y) → result ≤ y }
+        ensures smallest { (y : ℕ) →
+            IsTrue (has (tops self.now.pairs (members self.now.inputs set)) y) → result ≤ y }
     {
         for x in 0..self.inputs {
             if (set >> x) & 1 == 1 && self.lawful(set - (1 << x)) {

@@ -90,7 +90,8 @@ impl Problem {
         requires output { output < outputs_of self.old }
         requires point { point < 2 ^ self.old.inputs }
         ensures inputs { self.new.inputs ≡ self.old.inputs }
-        ensures tables { self.new.tables ≡ set self.old.tables output (set (table_at self.old output) point true) }
+        ensures tables { self.new.tables ≡ set self.old.tables output
+            (set (table_at self.old output) point true) }
     {
         let place = output as usize * words_per_table(self.inputs) + point as usize / 64;
         self.words[place] |= 1 << (point % 64);

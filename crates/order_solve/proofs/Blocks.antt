@@ -27,15 +27,19 @@ use Rattle.order_solve.proofs.Wanted.{wanted_lawful, wanted_member, wanted_bit, 
 
 pub block_has : (blk : BlockOf) (i mask : ℕ) → slice_get (block_masks blk) i ≡ Some mask → has (masks_of (layer_of blk)) mask ≡ true
 unfolding block_masks
-block_has blk i mask is = (and_parts _ _ (sym (has_filter (λ m. eqb (low_byte m) blk.low) (masks_of (layer_of blk)) mask) ∙ has_slice_get (block_masks blk) i mask is)).0
+block_has blk i mask is =
+    (and_parts _ _
+    (sym (has_filter (λ m. eqb (low_byte m) blk.low) (masks_of (layer_of blk)) mask) ∙ has_slice_get (block_masks blk) i mask is)).0
 
 -- the row of a set
-pub row_there : (p : TruthTables) (masks needs : List ℕ) (rows : List (List ℕ)) (i mask need : ℕ) (row : List ℕ) → AreRows p masks needs rows → slice_get masks i ≡ Some mask → slice_index needs i ≡ need → slice_get rows i ≡ Some row →
+pub row_there : (p : TruthTables) (masks needs : List ℕ) (rows : List (List ℕ)) (i mask need : ℕ) (row : List ℕ) →
+    AreRows p masks needs rows → slice_get masks i ≡ Some mask → slice_index needs i ≡ need → slice_get rows i ≡ Some row →
     IsRow p mask need row
 row_there p masks needs rows i mask need row are at is there =
     subst (λ (r : List ℕ). IsRow p mask need r) (get_or_from_slice_get rows i row [] there)
     (subst (λ (k : ℕ). IsRow p mask k (get_or rows i [])) is
-    (subst (λ (m : ℕ). IsRow p m (slice_index needs i) (get_or rows i [])) (get_or_from_slice_get masks i mask 0 at) (are.are i (slice_get_within masks i mask at))))
+    (subst (λ (m : ℕ). IsRow p m (slice_index needs i) (get_or rows i [])) (get_or_from_slice_get masks i mask 0 at)
+    (are.are i (slice_get_within masks i mask at))))
 
 module _ (b : BenchOf) (essential : ℕ) (h : HoldsBench b essential) where
   abbrev t : Setting
@@ -56,10 +60,13 @@ module _ (b : BenchOf) (essential : ℕ) (h : HoldsBench b essential) where
   pub in_next : (mask : ℕ) → has (masks_of b.layer) mask ≡ true → has (masks_of (layer_with c.inputs (c.size + 1))) mask ≡ true
   in_next mask m = subst (λ (l : LayerOf). has (masks_of l) mask ≡ true) own_layer m
 
-  pub in_layer : (blk : BlockOf) → layer_of blk ≡ b.layer → (i mask : ℕ) → slice_get (block_masks blk) i ≡ Some mask → has (masks_of (layer_with c.inputs (c.size + 1))) mask ≡ true
+  pub in_layer : (blk : BlockOf) → layer_of blk ≡ b.layer → (i mask : ℕ) → slice_get (block_masks blk) i ≡ Some mask →
+      has (masks_of (layer_with c.inputs (c.size + 1))) mask ≡ true
   in_layer blk e i mask is = in_next mask (subst (λ (l : LayerOf). has (masks_of l) mask ≡ true) e (block_has blk i mask is))
 
-  pub need_is : (mask r : ℕ) → ((G : List Function) → AreTrueCosts c.inputs G t.pairs.pairs t.bound c → r ≡ mask_of (wanted c.inputs G t.pairs.pairs t.bound mask)) → r ≡ needed t mask
+  pub need_is : (mask r : ℕ) →
+      ((G : List Function) → AreTrueCosts c.inputs G t.pairs.pairs t.bound c → r ≡ mask_of (wanted c.inputs G t.pairs.pairs t.bound mask)) →
+      r ≡ needed t mask
   unfolding needed
   need_is mask r f = f F own_costs ∙ ap (λ k. mask_of (wanted k F t.pairs.pairs t.bound mask)) h.bench.inputs
 
@@ -74,12 +81,15 @@ module _ (b : BenchOf) (essential : ℕ) (h : HoldsBench b essential) where
   needs_count blk = needed_sum t (block_masks blk)
 
   -- the widths of a set, as its cell needs them
-  module _ (mask : ℕ) (next : has (masks_of (layer_with c.inputs (c.size + 1))) mask ≡ true) (row : List ℕ) (is_row : IsRow t.problem mask (needed t mask) row) where
+  module _ (mask : ℕ) (next : has (masks_of (layer_with c.inputs (c.size + 1))) mask ≡ true) (row : List ℕ)
+      (is_row : IsRow t.problem mask (needed t mask) row) where
     affordable_has : (x : ℕ) → has (members c.inputs mask) x ≡ true → cost_without c mask x ≤ t.bound → has (affordable c t.bound mask) x ≡ true
     unfolding affordable
-    affordable_has x m le = has_filter (λ y. leb (cost_without c mask y) t.bound) (members c.inputs mask) x ∙ and_from _ _ m (le-leb (cost_without c mask x) t.bound le)
+    affordable_has x m le = has_filter (λ y. leb (cost_without c mask y) t.bound) (members c.inputs mask) x
+        ∙ and_from _ _ m (le-leb (cost_without c mask x) t.bound le)
 
-    wanted_has : (x : ℕ) → is_lawful t.pairs.pairs (members c.inputs mask) ≡ true → has (members c.inputs mask) x ≡ true → cost_without c mask x ≤ t.bound → has (wanted t.problem.inputs F t.pairs.pairs t.bound mask) x ≡ true
+    wanted_has : (x : ℕ) → is_lawful t.pairs.pairs (members c.inputs mask) ≡ true → has (members c.inputs mask) x ≡ true →
+        cost_without c mask x ≤ t.bound → has (wanted t.problem.inputs F t.pairs.pairs t.bound mask) x ≡ true
     wanted_has x low m le =
         ap (λ k. has (wanted k F t.pairs.pairs t.bound mask) x) (sym h.bench.inputs)
         ∙ ap (λ xs. has xs x) (wanted_lawful c F t.pairs.pairs t.bound mask next own_costs low)
@@ -89,15 +99,20 @@ module _ (b : BenchOf) (essential : ℕ) (h : HoldsBench b essential) where
     unfolding needed
     bit_there x w = wanted_bit t.problem.inputs F t.pairs.pairs t.bound mask x ∙ ap (λ b. cond b 1 0) w
 
-    width_there : (x : ℕ) → bit_at (needed t mask) x ≡ 1 → width_wanted t.problem mask (needed t mask) x ≡ width t.problem.inputs F (without x (members t.problem.inputs mask)) x
+    width_there : (x : ℕ) → bit_at (needed t mask) x ≡ 1 →
+        width_wanted t.problem mask (needed t mask) x ≡ width t.problem.inputs F (without x (members t.problem.inputs mask)) x
     unfolding width_wanted
     width_there x e = ap (λ k. cond k (width t.problem.inputs F (without x (members t.problem.inputs mask)) x) 0) (eq-eqb (bit_at (needed t mask) x) 1 e)
 
     widths_are : AreWidthsFor c.inputs F t.pairs.pairs t.bound mask c row
     widths_are low x m le =
         let small = members_small c.inputs mask x m in
-        is_row x (omega (arith, small, h.few, h.bench.inputs)) ∙ width_there x (bit_there x (wanted_has x low m le)) ∙ ap (λ k. width k F (without x (members k mask)) x) (sym h.bench.inputs)
+        is_row x (omega (arith, small, h.few, h.bench.inputs)) ∙ width_there x (bit_there x (wanted_has x low m le))
+        ∙ ap (λ k. width k F (without x (members k mask)) x) (sym h.bench.inputs)
 
-    pub cell_is : (cell : ℕ × ℕ) → ((G : List Function) → essential ≡ essential_mask c.inputs G → AreTrueCosts c.inputs G t.pairs.pairs t.bound c → AreWidthsFor c.inputs G t.pairs.pairs t.bound mask c row → cell ≡ cell_of c.inputs G t.pairs.pairs t.bound mask) →
+    pub cell_is : (cell : ℕ × ℕ) →
+        ((G : List Function) → essential ≡ essential_mask c.inputs G → AreTrueCosts c.inputs G t.pairs.pairs t.bound c →
+        AreWidthsFor c.inputs G t.pairs.pairs t.bound mask c row → cell ≡ cell_of c.inputs G t.pairs.pairs t.bound mask) →
         cell ≡ cell_for t mask
-    cell_is cell f = f F (h.essential_is ∙ ap (λ k. essential_mask k F) (sym h.bench.inputs)) own_costs widths_are ∙ ap (λ k. cell_of k F t.pairs.pairs t.bound mask) h.bench.inputs
+    cell_is cell f = f F (h.essential_is ∙ ap (λ k. essential_mask k F) (sym h.bench.inputs)) own_costs widths_are
+        ∙ ap (λ k. cell_of k F t.pairs.pairs t.bound mask) h.bench.inputs

@@ -27,7 +27,8 @@ use Rattle.order_model.proofs.Lists.Ranges.{filter_at_most}
 
 -- ---- a mask and its block
 
-pub claims_mask : (s : SeatOf) (mask : ℕ) → has (masks_of s.board.brief.layer) mask ≡ true → has_claimed s mask ≡ claimed s.worker (place_in (low_bytes s.board.brief.layer) (low_byte mask))
+pub claims_mask : (s : SeatOf) (mask : ℕ) → has (masks_of s.board.brief.layer) mask ≡ true →
+    has_claimed s mask ≡ claimed s.worker (place_in (low_bytes s.board.brief.layer) (low_byte mask))
 unfolding block_place
 claims_mask s mask m =
     let l = s.board.brief.layer in
@@ -45,10 +46,14 @@ claimed_has s mask e = elim (cases_Bool (has (masks_of s.board.brief.layer) mask
 ]
 
 -- the block at a place has the low byte there
-block_is : (l : LayerOf) (p : ℕ) (b : BlockOf) → slice_get (blocks_of l) p ≡ Some b → (p < length (low_bytes l)) × (b ≡ block_of l.inputs l.size (get_or (low_bytes l) p 0))
+block_is : (l : LayerOf) (p : ℕ) (b : BlockOf) → slice_get (blocks_of l) p ≡ Some b →
+    (p < length (low_bytes l)) × (b ≡ block_of l.inputs l.size (get_or (low_bytes l) p 0))
 block_is l p b is =
-    let lt : p < length (low_bytes l) = (let w = slice_get_within (blocks_of l) p b is in let e = blocks_length l in omega arith) in
-    (lt, same_Some b (block_of l.inputs l.size (get_or (low_bytes l) p 0)) (sym is ∙ block_there l p (get_or (low_bytes l) p 0) (slice_get_at (low_bytes l) p lt)))
+    let lt : p < length (low_bytes l) = (let w = slice_get_within (blocks_of l) p b is in let e = blocks_length l in omega arith) in (
+      lt,
+      same_Some b (block_of l.inputs l.size (get_or (low_bytes l) p 0))
+          (sym is ∙ block_there l p (get_or (low_bytes l) p 0) (slice_get_at (low_bytes l) p lt)),
+    )
 
 pub block_layer : (l : LayerOf) (p : ℕ) (b : BlockOf) → slice_get (blocks_of l) p ≡ Some b → layer_of b ≡ l
 block_layer l p b is = ap layer_of (block_is l p b is).1
@@ -58,7 +63,9 @@ unfolding low_bytes
 distinct_lows l = distinct_filter (λ low. list_any (λ mask. nat_eq (low_byte mask) low) (masks_of l)) (range_with_len 0 256) (distinct_variables 256)
 
 -- a mask lies in the block just where its low byte has the block's place
-pub in_place : (l : LayerOf) (p : ℕ) (b : BlockOf) (mask : ℕ) → slice_get (blocks_of l) p ≡ Some b → has (masks_of l) mask ≡ true → (low_byte mask ≡ b.low → place_in (low_bytes l) (low_byte mask) ≡ p) × (place_in (low_bytes l) (low_byte mask) ≡ p → low_byte mask ≡ b.low)
+pub in_place : (l : LayerOf) (p : ℕ) (b : BlockOf) (mask : ℕ) → slice_get (blocks_of l) p ≡ Some b → has (masks_of l) mask ≡ true →
+    (low_byte mask ≡ b.low → place_in (low_bytes l) (low_byte mask) ≡ p)
+    × (place_in (low_bytes l) (low_byte mask) ≡ p → low_byte mask ≡ b.low)
 in_place l p b mask is m =
     let k = block_is l p b is in
     let low : b.low ≡ get_or (low_bytes l) p 0 = ap (λ (z : BlockOf). z.low) k.1 in
@@ -69,7 +76,8 @@ in_place l p b mask is m =
 
 -- ---- sums over filters
 
-sum_split : (f : ℕ → ℕ) (p q r : ℕ → Bool) (xs : List ℕ) → ((x : ℕ) → has xs x ≡ true → (r x ≡ true → (q x ≡ true) × (p x ≡ false)) × (r x ≡ false → q x ≡ p x)) →
+sum_split : (f : ℕ → ℕ) (p q r : ℕ → Bool) (xs : List ℕ) →
+    ((x : ℕ) → has xs x ≡ true → (r x ≡ true → (q x ≡ true) × (p x ≡ false)) × (r x ≡ false → q x ≡ p x)) →
     sum_by f (filter q xs) ≡ sum_by f (filter p xs) + sum_by f (filter r xs)
 sum_split f p q r [] h = refl
 sum_split f p q r (x ∷ xs) h = by (r x) (p x) (q x) (h x (first x xs)) (sum_split f p q r xs (λ y m. h y (later y x xs m)))
@@ -80,8 +88,10 @@ sum_split f p q r (x ∷ xs) h = by (r x) (p x) (q x) (h x (first x xs)) (sum_sp
     later : (y z : ℕ) (ys : List ℕ) → has ys y ≡ true → has (z ∷ ys) y ≡ true
     later y z ys m = or_right (nat_eq y z) (has ys y) m
 
-    by : (a b c : Bool) → (a ≡ true → (c ≡ true) × (b ≡ false)) × (a ≡ false → c ≡ b) → sum_by f (filter q xs) ≡ sum_by f (filter p xs) + sum_by f (filter r xs) →
-        sum_by f (cond c (x ∷ filter q xs) (filter q xs)) ≡ sum_by f (cond b (x ∷ filter p xs) (filter p xs)) + sum_by f (cond a (x ∷ filter r xs) (filter r xs))
+    by : (a b c : Bool) → (a ≡ true → (c ≡ true) × (b ≡ false)) × (a ≡ false → c ≡ b) →
+        sum_by f (filter q xs) ≡ sum_by f (filter p xs) + sum_by f (filter r xs) →
+        sum_by f (cond c (x ∷ filter q xs) (filter q xs)) ≡ sum_by f (cond b (x ∷ filter p xs) (filter p xs)) + sum_by f
+        (cond a (x ∷ filter r xs) (filter r xs))
     by true true c k e = absurd (true≢false (k.0 refl).1)
     by true false true k e = let u = sum_by-cons f x (filter q xs) in let v = sum_by-cons f x (filter r xs) in omega arith
     by true false false k e = absurd (false≢true (k.0 refl).0)
@@ -113,7 +123,8 @@ module _ (s s' : SeatOf) (p : ℕ) (b : BlockOf) (h : ClaimsBlock s s' p b) wher
   others q ne = ap (λ (z : SeatOf). claimed z.worker q) h.is ∙ get_or-set_other s.worker.claims p q true false ne
 
   same_masks : (mask : ℕ) → has (masks_of L) mask ≡ true → has_claimed s' mask ≡ claimed s'.worker (place_in (low_bytes L) (low_byte mask))
-  same_masks mask m = claims_mask s' mask (subst (λ (l : LayerOf). has (masks_of l) mask ≡ true) (sym same_layer) m) ∙ ap (λ (l : LayerOf). claimed s'.worker (place_in (low_bytes l) (low_byte mask))) same_layer
+  same_masks mask m = claims_mask s' mask (subst (λ (l : LayerOf). has (masks_of l) mask ≡ true) (sym same_layer) m)
+      ∙ ap (λ (l : LayerOf). claimed s'.worker (place_in (low_bytes l) (low_byte mask))) same_layer
     where
       same_layer : s'.board.brief.layer ≡ L
       same_layer = ap (λ (z : SeatOf). z.board.brief.layer) h.is
@@ -129,7 +140,10 @@ module _ (s s' : SeatOf) (p : ℕ) (b : BlockOf) (h : ClaimsBlock s s' p b) wher
   -- the others
   pub as_before : (mask : ℕ) → has (masks_of L) mask ≡ true → nat_eq (low_byte mask) b.low ≡ false → has_claimed s' mask ≡ has_claimed s mask
   as_before mask m e =
-      same_masks mask m ∙ others (place_in (low_bytes L) (low_byte mask)) (λ at. true≢false (sym (eq-eqb (low_byte mask) b.low ((in_place L p b mask h.block m).1 at)) ∙ e)) ∙ sym (claims_mask s mask m)
+      same_masks mask m
+      ∙ others (place_in (low_bytes L) (low_byte mask))
+      (λ at. true≢false (sym (eq-eqb (low_byte mask) b.low ((in_place L p b mask h.block m).1 at)) ∙ e))
+      ∙ sym (claims_mask s mask m)
 
   pub kept : (mask : ℕ) → has (masks_of L) mask ≡ true → has_claimed s mask ≡ true → has_claimed s' mask ≡ true
   kept mask m e = elim (cases_Bool (nat_eq (low_byte mask) b.low)) [
@@ -138,13 +152,16 @@ module _ (s s' : SeatOf) (p : ℕ) (b : BlockOf) (h : ClaimsBlock s s' p b) wher
   ]
 
   -- the widths of the sets that are gained
-  pub claim_gains : (t : Setting) (s0 : SeatOf) → s.board ≡ s0.board → ((mask : ℕ) → has_claimed s0 mask ≡ true → has_claimed s mask ≡ true) → widths_for t (gained s0 s') ≡ widths_for t (gained s0 s) + widths_for t (block_masks b)
+  pub claim_gains : (t : Setting) (s0 : SeatOf) → s.board ≡ s0.board →
+      ((mask : ℕ) → has_claimed s0 mask ≡ true → has_claimed s mask ≡ true) →
+      widths_for t (gained s0 s') ≡ widths_for t (gained s0 s) + widths_for t (block_masks b)
   unfolding gained widths_for block_masks
   claim_gains t s0 board stays =
       sum-map (width_count t) (filter (gains s0 s') M)
       ∙ sum_split (width_count t) (gains s0 s) (gains s0 s') in_block M each
       ∙ ap₂ (λ x y. x + y) (sym (sum-map (width_count t) (filter (gains s0 s) M)))
-      (ap (λ (l : LayerOf). sum_by (width_count t) (filter in_block (masks_of l))) (same ∙ sym (block_layer L p b h.block)) ∙ sym (sum-map (width_count t) (filter in_block (masks_of (layer_of b)))))
+      (ap (λ (l : LayerOf). sum_by (width_count t) (filter in_block (masks_of l))) (same ∙ sym (block_layer L p b h.block))
+      ∙ sym (sum-map (width_count t) (filter in_block (masks_of (layer_of b)))))
     where
       M : List ℕ
       M = masks_of s0.board.brief.layer
@@ -155,7 +172,8 @@ module _ (s s' : SeatOf) (p : ℕ) (b : BlockOf) (h : ClaimsBlock s s' p b) wher
       in_block : ℕ → Bool
       in_block mask = nat_eq (low_byte mask) b.low
 
-      each : (x : ℕ) → has M x ≡ true → (in_block x ≡ true → (gains s0 s' x ≡ true) × (gains s0 s x ≡ false)) × (in_block x ≡ false → gains s0 s' x ≡ gains s0 s x)
+      each : (x : ℕ) → has M x ≡ true →
+          (in_block x ≡ true → (gains s0 s' x ≡ true) × (gains s0 s x ≡ false)) × (in_block x ≡ false → gains s0 s' x ≡ gains s0 s x)
       each x m =
           let mine : has (masks_of L) x ≡ true = subst (λ (l : LayerOf). has (masks_of l) x ≡ true) same m in (
             λ y.
@@ -171,7 +189,10 @@ pub few_each : (t : Setting) (mask : ℕ) → t.problem.inputs ≤ 16 → width_
 unfolding wanted members
 few_each t mask few =
     let n = t.problem.inputs in
-    let a = filter_at_most (λ x. is_lawful t.pairs.pairs (members n mask) && leb (cell_cost n (functions t.problem) t.pairs.pairs t.bound (mask - 2 ^ x)) t.bound) (tops t.pairs.pairs (members n mask)) in
+    let a = filter_at_most
+    (λ x. is_lawful t.pairs.pairs (members n mask)
+    && leb (cell_cost n (functions t.problem) t.pairs.pairs t.bound (mask - 2 ^ x)) t.bound)
+    (tops t.pairs.pairs (members n mask)) in
     let b = filter_at_most (λ x. is_lawful t.pairs.pairs (without x (members n mask))) (members n mask) in
     let c = filter_at_most (λ x. eqb (bit_at mask x) 1) (variables n) in
     let d = length-range_with_len 0 n in
@@ -185,7 +206,8 @@ sum_few f p (x ∷ xs) h = by (p x) (sum_few f p xs h)
     by true k = let e = sum_by-cons f x (filter p xs) in let l = h x in omega arith
     by false k = omega arith
 
-pub few_gained : (t : Setting) (s s' : SeatOf) (n : ℕ) → t.problem.inputs ≤ 16 → s.board.brief.layer.inputs ≡ n → n ≤ 16 → widths_for t (gained s s') ≤ 16 * 2 ^ 16
+pub few_gained : (t : Setting) (s s' : SeatOf) (n : ℕ) → t.problem.inputs ≤ 16 → s.board.brief.layer.inputs ≡ n → n ≤ 16 →
+    widths_for t (gained s s') ≤ 16 * 2 ^ 16
 unfolding gained widths_for
 few_gained t s s' n few is less =
     let M = masks_of s.board.brief.layer in

@@ -29,7 +29,8 @@ use Rattle.order_model.proofs.Lists.Ranges.{filter_at_most}
 
 -- ---- layers
 
-pub layers_start : (t : Setting) (c : CostsOf) → c ≡ start_costs t.problem.inputs → ((F : List Function) (P : List Pair) (bound : ℕ) → AreTrueCosts t.problem.inputs F P bound c) → AreLayersFor t (c ∷ [])
+pub layers_start : (t : Setting) (c : CostsOf) → c ≡ start_costs t.problem.inputs →
+    ((F : List Function) (P : List Pair) (bound : ℕ) → AreTrueCosts t.problem.inputs F P bound c) → AreLayersFor t (c ∷ [])
 layers_start t c is exact zero d e = subst (λ (z : CostsOf). IsLayerFor t 0 z) (same_Some c d e) (record {
   inputs = ap (λ (z : CostsOf). z.inputs) is;
   size_is = ap (λ (z : CostsOf). z.size) is;
@@ -38,9 +39,12 @@ layers_start t c is exact zero d e = subst (λ (z : CostsOf). IsLayerFor t 0 z) 
 })
 layers_start t c is exact (suc k) d e = absurd (let w = slice_get_within (c ∷ []) (suc k) d e in omega (arith, w))
 
-pub layers_push : (t : Setting) (layers : List CostsOf) (c : CostsOf) → AreLayersFor t layers → IsLayerFor t (length layers) c → AreLayersFor t (layers ++ c ∷ [])
+pub layers_push : (t : Setting) (layers : List CostsOf) (c : CostsOf) → AreLayersFor t layers → IsLayerFor t (length layers) c →
+    AreLayersFor t (layers ++ c ∷ [])
 layers_push t layers c h new k d e = elim (cases_lt k (length layers)) [
-  | inl lt ↦ h k d (slice_get-get_or layers k d lt ∙ ap Some (sym (get_or_append_left layers (c ∷ []) d k lt) ∙ get_or_from_slice_get (layers ++ c ∷ []) k d d e))
+  | inl lt ↦ h k d
+      (slice_get-get_or layers k d lt
+      ∙ ap Some (sym (get_or_append_left layers (c ∷ []) d k lt) ∙ get_or_from_slice_get (layers ++ c ∷ []) k d d e))
   | inr ge ↦
       let w = slice_get_within (layers ++ c ∷ []) k d e in
       let l = length-append layers (c ∷ []) in
@@ -81,20 +85,25 @@ from_some : {X : Type 0} (P : X → Type 0) (o : Option X) (x : X) → IfSome o 
 from_some P o x h e = subst (λ z. IfSome z P) e h
 
 pub cell_found : (t : Setting) (k mask : ℕ) (c : CostsOf) (o : Option Cell) (cell : Cell) → IsLayerFor t k c →
-    ((F : List Function) (P : List Pair) (bound : ℕ) → AreTrueCells c.inputs F P bound c → IfSome o (λ x. as_pair x ≡ cell_of c.inputs F P bound mask)) → o ≡ Some cell → pair_of cell ≡ cell_for t mask
+    ((F : List Function) (P : List Pair) (bound : ℕ) → AreTrueCells c.inputs F P bound c →
+    IfSome o (λ x. as_pair x ≡ cell_of c.inputs F P bound mask)) →
+    o ≡ Some cell → pair_of cell ≡ cell_for t mask
 cell_found t k mask c o cell h exact e =
     from_some (λ x. as_pair x ≡ cell_of c.inputs (functions t.problem) t.pairs.pairs t.bound mask) o cell
-    (exact (functions t.problem) t.pairs.pairs t.bound (subst (λ (n : ℕ). AreTrueCells n (functions t.problem) t.pairs.pairs t.bound c) (sym h.inputs) h.cells_are)) e
+    (exact (functions t.problem) t.pairs.pairs t.bound
+    (subst (λ (n : ℕ). AreTrueCells n (functions t.problem) t.pairs.pairs t.bound c) (sym h.inputs) h.cells_are)) e
     ∙ ap (λ n. cell_of n (functions t.problem) t.pairs.pairs t.bound mask) h.inputs
 
 pub needed_is : (t : Setting) (k mask r : ℕ) (c : CostsOf) → IsLayerFor t k c →
     ((G : List Function) → AreTrueCosts c.inputs G t.pairs.pairs t.bound c → r ≡ mask_of (wanted c.inputs G t.pairs.pairs t.bound mask)) → r ≡ needed t mask
 unfolding needed
-needed_is t k mask r c h f = f (functions t.problem) (subst (λ (n : ℕ). AreTrueCosts n (functions t.problem) t.pairs.pairs t.bound c) (sym h.inputs) h.costs_are)
+needed_is t k mask r c h f =
+    f (functions t.problem) (subst (λ (n : ℕ). AreTrueCosts n (functions t.problem) t.pairs.pairs t.bound c) (sym h.inputs) h.costs_are)
     ∙ ap (λ n. mask_of (wanted n (functions t.problem) t.pairs.pairs t.bound mask)) h.inputs
 
 -- the layer before that of a set
-pub next_there : (t : Setting) (mask : ℕ) (c : CostsOf) → mask < 2 ^ t.problem.inputs → 0 < mask → IsLayerFor t (count_ones mask - 1) c → has (masks_of (layer_with c.inputs (c.size + 1))) mask ≡ true
+pub next_there : (t : Setting) (mask : ℕ) (c : CostsOf) → mask < 2 ^ t.problem.inputs → 0 < mask → IsLayerFor t (count_ones mask - 1) c →
+    has (masks_of (layer_with c.inputs (c.size + 1))) mask ≡ true
 next_there t mask c small some h =
     let e = ones-members t.problem.inputs mask small in
     let s = ones_some mask some in

@@ -52,8 +52,10 @@ module _ (t : Setting) where
     unfolding ListedTo least_listed
     listed_yes le lt =
         let known = cost_known n F P t.bound number (omega (arith, is, lt, le)) in
-        let cell : listed (record { mask = number; cost = cost }) ≡ least_listed n F P number = ap (λ (k : ℕ). record { mask = number; cost = k }) (is ∙ known.1) in
-        let yes : is_listed total number ≡ true = lt-ltb (cell_cost n F P t.bound number + essentials_outside n F (members n number)) total (omega (arith, is, out, lt)) in
+        let cell : listed (record { mask = number; cost = cost }) ≡ least_listed n F P number =
+        ap (λ (k : ℕ). record { mask = number; cost = k }) (is ∙ known.1) in
+        let yes : is_listed total number ≡ true =
+        lt-ltb (cell_cost n F P t.bound number + essentials_outside n F (members n number)) total (omega (arith, is, out, lt)) in
         map-append listed found (record { mask = number; cost = cost } ∷ [])
         ∙ ap₂ (λ (xs : List Cell) (c : Cell). xs ++ c ∷ []) h cell
         ∙ sym (map-append (least_listed n F P) (filter (is_listed total) (range_with_len 0 number)) (number ∷ []))
@@ -63,14 +65,17 @@ module _ (t : Setting) where
     pub listed_no : total ≤ cost + outside → ListedTo total (number + 1) found
     unfolding ListedTo
     listed_no le =
-        let no : is_listed total number ≡ false = le-ltb (cell_cost n F P t.bound number + essentials_outside n F (members n number)) total (omega (arith, is, out, le)) in
+        let no : is_listed total number ≡ false =
+        le-ltb (cell_cost n F P t.bound number + essentials_outside n F (members n number)) total (omega (arith, is, out, le)) in
         h ∙ ap (map (least_listed n F P)) (sym (append-nil (filter (is_listed total) (range_with_len 0 number)))
         ∙ ap (λ b. filter (is_listed total) (range_with_len 0 number) ++ cond b (number ∷ []) []) (sym no)
         ∙ sym (filter_range_more (is_listed total) number))
 
-  pub listed_whole : (total number : ℕ) (found : List ListedCell) → ListedTo total number found → number ≡ 2 ^ n - 1 → total ≤ t.bound → map listed found ≡ map (least_listed n F P) (listed_masks n F P total)
+  pub listed_whole : (total number : ℕ) (found : List ListedCell) → ListedTo total number found → number ≡ 2 ^ n - 1 → total ≤ t.bound →
+      map listed found ≡ map (least_listed n F P) (listed_masks n F P total)
   unfolding ListedTo
-  listed_whole total number found h e le = h ∙ ap (λ k. map (least_listed n F P) (filter (is_listed total) (range_with_len 0 k))) e ∙ ap (map (least_listed n F P)) (sym (listed_by_cells n F P t.bound total le))
+  listed_whole total number found h e le = h ∙ ap (λ k. map (least_listed n F P) (filter (is_listed total) (range_with_len 0 k))) e
+      ∙ ap (map (least_listed n F P)) (sym (listed_by_cells n F P t.bound total le))
 
   -- ---- widths
 
@@ -80,7 +85,8 @@ module _ (t : Setting) where
 
   pub widths_start : WidthsTo 1 0
   widths_start = record {
-    are = (let e = sum_by-map-range_with_len_more (λ x. x) (width_count t) 0 0 0 (omega arith) in let z : width_count t 0 ≡ 0 = ap length (wanted_none n F P t.bound) in omega (arith, e, z));
+    are = (let e = sum_by-map-range_with_len_more (λ x. x) (width_count t) 0 0 0 (omega arith) in
+        let z : width_count t 0 ≡ 0 = ap length (wanted_none n F P t.bound) in omega (arith, e, z));
     few = omega arith;
   }
 

@@ -27,7 +27,8 @@ use Rattle.order_solve.specs.Placed.{IsPlaced, no_cell}
 use Rattle.order_solve.proofs.Claimed.{block_layer, in_place, sum_few, few_each}
 use Rattle.order_model.proofs.Lists.Accepted.{index_of}
 
-pub found_cell : (t : Setting) (masks : List ℕ) (cells : List Cell) (i mask : ℕ) → map pair_of cells ≡ map (cell_for t) masks → slice_get masks i ≡ Some mask → pair_of (get_or cells i no_cell) ≡ cell_for t mask
+pub found_cell : (t : Setting) (masks : List ℕ) (cells : List Cell) (i mask : ℕ) → map pair_of cells ≡ map (cell_for t) masks →
+    slice_get masks i ≡ Some mask → pair_of (get_or cells i no_cell) ≡ cell_for t mask
 found_cell t masks cells i mask same at =
     let lt = slice_get_within masks i mask at in
     let long : length cells ≡ length masks = sym (length-map_lem pair_of cells) ∙ ap length same ∙ length-map_lem (cell_for t) masks in
@@ -36,7 +37,8 @@ found_cell t masks cells i mask same at =
     ∙ get_or-map (cell_for t) masks i 0 (0, 0) lt
     ∙ ap (cell_for t) (get_or_from_slice_get masks i mask 0 at)
 
-module _ (b : BenchOf) (cells : List Cell) (q : ℕ) (v : Cell) (within : q < length cells) (is : pair_of v ≡ cell_for b.setting (get_or (masks_of b.layer) q 0)) where
+module _ (b : BenchOf) (cells : List Cell) (q : ℕ) (v : Cell) (within : q < length cells)
+    (is : pair_of v ≡ cell_for b.setting (get_or (masks_of b.layer) q 0)) where
   pub placed_here : IsPlaced b (set cells q v) q
   placed_here = ap pair_of (get_or-set_same cells q v no_cell within) ∙ is
 
@@ -54,13 +56,15 @@ only_place l p q mask lt e at =
     ∙ place_get (masks_of l) q (distinct_masks l) (slice_get_within (masks_of l) q mask at)
 
 -- the masks whose block stands at a place
-pub block_done : (l : LayerOf) (k : ℕ) (b : BlockOf) (p : ℕ) → slice_get (blocks_of l) k ≡ Some b → p < length (masks_of l) → block_place l p ≡ k → has (block_masks b) (get_or (masks_of l) p 0) ≡ true
+pub block_done : (l : LayerOf) (k : ℕ) (b : BlockOf) (p : ℕ) → slice_get (blocks_of l) k ≡ Some b → p < length (masks_of l) →
+    block_place l p ≡ k → has (block_masks b) (get_or (masks_of l) p 0) ≡ true
 unfolding block_place block_masks
 block_done l k b p is lt e =
     let mask = get_or (masks_of l) p 0 in
     let m = has_at (masks_of l) p lt in
     has_filter (λ x. nat_eq (low_byte x) b.low) (masks_of (layer_of b)) mask
-    ∙ and_from _ _ (subst (λ (z : LayerOf). has (masks_of z) mask ≡ true) (sym (block_layer l k b is)) m) (eq-eqb (low_byte mask) b.low ((in_place l k b mask is m).1 e))
+    ∙ and_from _ _ (subst (λ (z : LayerOf). has (masks_of z) mask ≡ true) (sym (block_layer l k b is)) m)
+    (eq-eqb (low_byte mask) b.low ((in_place l k b mask is m).1 e))
 
 pub few_block : (t : Setting) (b : BlockOf) (n : ℕ) → t.problem.inputs ≤ 16 → b.inputs ≡ n → n ≤ 16 → widths_for t (block_masks b) ≤ 16 * 2 ^ 16
 unfolding widths_for block_masks
@@ -71,13 +75,17 @@ few_block t b n few is less =
     let m = few_masks_in (layer_of b) n is less in
     omega (arith, e, k, m)
 
-lists_same : (t : Setting) (cells : List Cell) (masks : List ℕ) → length cells ≡ length masks → ((p : ℕ) → p < length masks → pair_of (get_or cells p no_cell) ≡ cell_for t (get_or masks p 0)) → map pair_of cells ≡ map (cell_for t) masks
+lists_same : (t : Setting) (cells : List Cell) (masks : List ℕ) → length cells ≡ length masks →
+    ((p : ℕ) → p < length masks → pair_of (get_or cells p no_cell) ≡ cell_for t (get_or masks p 0)) →
+    map pair_of cells ≡ map (cell_for t) masks
 lists_same t [] [] e h = refl
 lists_same t [] (m ∷ ms) e h = absurd (omega arith)
 lists_same t (c ∷ cs) [] e h = absurd (omega arith)
-lists_same t (c ∷ cs) (m ∷ ms) e h = ap₂ (λ (x : ℕ × ℕ) (xs : List (ℕ × ℕ)). x ∷ xs) (h 0 (omega arith)) (lists_same t cs ms (omega arith) (λ p lt. h (suc p) (omega arith)))
+lists_same t (c ∷ cs) (m ∷ ms) e h =
+    ap₂ (λ (x : ℕ × ℕ) (xs : List (ℕ × ℕ)). x ∷ xs) (h 0 (omega arith)) (lists_same t cs ms (omega arith) (λ p lt. h (suc p) (omega arith)))
 
-pub all_placed : (b : BenchOf) (cells : List Cell) → length cells ≡ length (masks_of b.layer) → ((p : ℕ) → p < length (masks_of b.layer) → IsPlaced b cells p) → map pair_of cells ≡ map (cell_for b.setting) (masks_of b.layer)
+pub all_placed : (b : BenchOf) (cells : List Cell) → length cells ≡ length (masks_of b.layer) →
+    ((p : ℕ) → p < length (masks_of b.layer) → IsPlaced b cells p) → map pair_of cells ≡ map (cell_for b.setting) (masks_of b.layer)
 all_placed b cells e h = lists_same b.setting cells (masks_of b.layer) e h
 
 -- the cells of the first masks of a block are put, and those that were right stay right
@@ -86,11 +94,13 @@ pub record PlacesFirst (b : BenchOf) (blk : BlockOf) (start : List Cell) (i : �
   pub kept : (p : ℕ) → IsPlaced b start p → IsPlaced b cells p
   pub placed : (p j : ℕ) → j < i → p < length (masks_of b.layer) → slice_index (masks_of b.layer) p ≡ slice_index (block_masks blk) j → IsPlaced b cells p
 
-module _ (b : BenchOf) (blk : BlockOf) (start : List Cell) (i : ℕ) (cells : List Cell) (h : PlacesFirst b blk start i cells) (mask : ℕ) (at : slice_get (block_masks blk) i ≡ Some mask) where
+module _ (b : BenchOf) (blk : BlockOf) (start : List Cell) (i : ℕ) (cells : List Cell) (h : PlacesFirst b blk start i cells) (mask : ℕ)
+    (at : slice_get (block_masks blk) i ≡ Some mask) where
   abbrev M : List ℕ
   M = masks_of b.layer
 
-  pub places_more : (q : ℕ) (v : Cell) → length start ≡ length M → slice_get M q ≡ Some mask → pair_of v ≡ cell_for b.setting mask → PlacesFirst b blk start (i + 1) (set cells q v)
+  pub places_more : (q : ℕ) (v : Cell) → length start ≡ length M → slice_get M q ≡ Some mask → pair_of v ≡ cell_for b.setting mask →
+      PlacesFirst b blk start (i + 1) (set cells q v)
   places_more q v long there is = record {
     length_is = length-set cells q v ∙ h.length_is;
     kept = λ p k. put p (h.kept p k);
@@ -124,7 +134,8 @@ module _ (b : BenchOf) (blk : BlockOf) (start : List Cell) (i : ℕ) (cells : Li
   }
 
 -- all of a block's masks
-pub places_all : (b : BenchOf) (blk : BlockOf) (start : List Cell) (i : ℕ) (cells : List Cell) → PlacesFirst b blk start i cells → length (block_masks blk) ≤ i → (p : ℕ) → p < length (masks_of b.layer) →
+pub places_all : (b : BenchOf) (blk : BlockOf) (start : List Cell) (i : ℕ) (cells : List Cell) → PlacesFirst b blk start i cells →
+    length (block_masks blk) ≤ i → (p : ℕ) → p < length (masks_of b.layer) →
     has (block_masks blk) (slice_index (masks_of b.layer) p) ≡ true → IsPlaced b cells p
 places_all b blk start i cells h many p lt m =
     let k = index_of (block_masks blk) (slice_index (masks_of b.layer) p) m in
@@ -152,12 +163,15 @@ blocks_more b k blk old new is before stays now p lt low = elim (cases_eq (block
 ]
 
 -- the costs of a layer from its cells
-pub layer_is : (t : Setting) (size : ℕ) (l : LayerOf) (cells : List Cell) (r : CostsOf) → l ≡ layer_with t.problem.inputs size → r ≡ costs_with l cells → map pair_of cells ≡ map (cell_for t) (masks_of l) →
+pub layer_is : (t : Setting) (size : ℕ) (l : LayerOf) (cells : List Cell) (r : CostsOf) → l ≡ layer_with t.problem.inputs size →
+    r ≡ costs_with l cells → map pair_of cells ≡ map (cell_for t) (masks_of l) →
     ((F : List Function) (P : List Pair) (bound : ℕ) → AreTrueCells l.inputs F P bound r → AreTrueCosts l.inputs F P bound r) → IsLayerFor t size r
 layer_is t size l cells r layer is same exact = record {
   inputs = ap (λ (c : CostsOf). c.inputs) is ∙ inputs;
   size_is = ap (λ (c : CostsOf). c.size) is ∙ ap (λ (z : LayerOf). z.size) layer;
-  costs_are = subst (λ (k : ℕ). AreTrueCosts k F P t.bound r) inputs (exact F P t.bound (subst (λ (k : ℕ). AreTrueCells k F P t.bound r) (sym inputs) true_cells));
+  costs_are =
+      subst (λ (k : ℕ). AreTrueCosts k F P t.bound r) inputs
+      (exact F P t.bound (subst (λ (k : ℕ). AreTrueCells k F P t.bound r) (sym inputs) true_cells));
   cells_are = true_cells;
 }
   where

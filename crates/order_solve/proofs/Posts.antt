@@ -49,7 +49,8 @@ learned_stays : (s : SeatOf) (o : Option ℕ) → StaysClaimed s (stepped s (lea
 learned_stays s None = stays_from s (stepped s s.worker 1) refl refl (λ q e. e)
 learned_stays s (Some p) = stays_from s (stepped s (learns s.worker p) 1) refl refl (λ q e. mark_stays s.worker.known p q e)
 
-pub post_stays : (s s' : SeatOf) (mask : ℕ) (r : Result (Unit {0}) PostRefused) → IfOk r (λ _. s' ≡ learned s mask 1) → IfErr r (λ e. Refuses s mask s' e) → StaysClaimed s s'
+pub post_stays : (s s' : SeatOf) (mask : ℕ) (r : Result (Unit {0}) PostRefused) → IfOk r (λ _. s' ≡ learned s mask 1) →
+    IfErr r (λ e. Refuses s mask s' e) → StaysClaimed s s'
 post_stays s s' mask (Ok u) ok err = subst (λ (z : SeatOf). StaysClaimed s z) (sym ok) (learned_stays s (place_of (layout_of s.board.brief.layer) mask))
 post_stays s s' mask (Err Stranger) ok err = subst (λ (z : SeatOf). StaysClaimed s z) (sym err.1) (stays_same s)
 post_stays s s' mask (Err Double) ok err = subst (λ (z : SeatOf). StaysClaimed s z) (sym err.2) (stays_from s (stepped s s.worker 0) refl refl (λ q e. e))

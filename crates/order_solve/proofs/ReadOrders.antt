@@ -55,12 +55,14 @@ some_member n mask lt = (
 )
 
 -- a set without one of its members
-pub less_member : (n mask x : ℕ) → has (members n mask) x ≡ true → (x < n) × ((2 ^ x ≤ mask) × (length (members n (mask - 2 ^ x)) + 1 ≡ length (members n mask)))
+pub less_member : (n mask x : ℕ) → has (members n mask) x ≡ true →
+    (x < n) × ((2 ^ x ≤ mask) × (length (members n (mask - 2 ^ x)) + 1 ≡ length (members n mask)))
 less_member n mask x h =
     let b = member_bit n mask x h in
     let one = length_without x (members n mask) (distinct_members n mask) h in
     let same : length (members n (mask - 2 ^ x)) ≡ length (without x (members n mask)) =
-    length-from_same_keys nat_eq_equiv (members n (mask - 2 ^ x)) (without x (members n mask)) (distinct_members n (mask - 2 ^ x)) (distinct_without x (members n mask) (distinct_members n mask)) (members_without n mask x h) in
+    length-from_same_keys nat_eq_equiv (members n (mask - 2 ^ x)) (without x (members n mask)) (distinct_members n (mask - 2 ^ x))
+    (distinct_without x (members n mask) (distinct_members n mask)) (members_without n mask x h) in
     (b.0, (pow_le_bit mask x b.1, omega (arith, one, same)))
 
 -- ---- reading
@@ -85,7 +87,9 @@ module _ (t : Setting) where
   read_start = record {
     small = full_small n;
     left =
-        (let same = length-from_same_keys nat_eq_equiv (members n (2 ^ n - 1)) (variables n) (distinct_members n (2 ^ n - 1)) (distinct_variables n) (members_full n) in
+        (let same =
+        length-from_same_keys nat_eq_equiv (members n (2 ^ n - 1)) (variables n) (distinct_members n (2 ^ n - 1)) (distinct_variables n)
+        (members_full n) in
         let l = length-range_with_len 0 n in
         omega (arith, same, l));
     read = λ rest h. h;
@@ -108,7 +112,8 @@ module _ (t : Setting) where
         record {
           small = (let s = r.small in omega (arith, s));
           left = (let l = r.left in omega (arith, l, k.1.1));
-          read = λ rest h. subst (λ (ys : List ℕ). IsReadFrom n F P t.bound (2 ^ n - 1) ys) (sym (append_assoc xs (x ∷ []) rest)) (r.read (x ∷ rest) (m, is, h));
+          read = λ rest h. subst (λ (ys : List ℕ). IsReadFrom n F P t.bound (2 ^ n - 1) ys) (sym (append_assoc xs (x ∷ []) rest))
+              (r.read (x ∷ rest) (m, is, h));
         }
 
     pub read_whole : n ≤ steps → IsReadFrom n F P t.bound (2 ^ n - 1) xs
@@ -158,18 +163,21 @@ module _ (n : ℕ) (F : List Function) (P : List Pair) (bound : ℕ) where
   left_small [] mask (suc i) h = h
   left_small (x ∷ order) mask (suc i) h = left_small order (mask - 2 ^ x) i (omega arith)
 
-  left_member : (order : List ℕ) (mask i : ℕ) → IsReadFrom n F P bound mask order → i < length order → has (members n (left order mask i)) (get_or order i 0) ≡ true
+  left_member : (order : List ℕ) (mask i : ℕ) → IsReadFrom n F P bound mask order → i < length order →
+      has (members n (left order mask i)) (get_or order i 0) ≡ true
   unfolding left IsReadFrom
   left_member [] mask i h lt = absurd (omega arith)
   left_member (x ∷ order) mask zero h lt = h.0
   left_member (x ∷ order) mask (suc i) h lt = left_member order (mask - 2 ^ x) i h.2 (omega arith)
 
-  pub left_cost : (order : List ℕ) (mask i : ℕ) → IsReadFrom n F P bound mask order → AreUnclipped n F P bound mask order → i ≤ length order → cell_cost n F P bound (left order mask i) ≡ cost n F (drop i order)
+  pub left_cost : (order : List ℕ) (mask i : ℕ) → IsReadFrom n F P bound mask order → AreUnclipped n F P bound mask order →
+      i ≤ length order → cell_cost n F P bound (left order mask i) ≡ cost n F (drop i order)
   unfolding left IsReadFrom AreUnclipped cell_cost cost
   left_cost [] mask zero h u le = ap (λ b. cond b 0 (cell_of n F P bound mask).0) (eq-eqb mask 0 h)
   left_cost [] mask (suc i) h u le = absurd (omega arith)
   left_cost (x ∷ order) mask zero h u le =
-      ap (λ b. cond b 0 (cell_of n F P bound mask).0) (ne_eqb mask 0 (λ e. absurd (let k = less_member n mask x h.0 in let p = pow_some x in omega (arith, e, k.1.0, p)))) ∙ u.0
+      ap (λ b. cond b 0 (cell_of n F P bound mask).0)
+      (ne_eqb mask 0 (λ e. absurd (let k = less_member n mask x h.0 in let p = pow_some x in omega (arith, e, k.1.0, p)))) ∙ u.0
   left_cost (x ∷ order) mask (suc i) h u le = left_cost order (mask - 2 ^ x) i h.2 u.2 (omega arith)
 
 -- an order at a place
@@ -178,7 +186,8 @@ split_at [] i lt = absurd (omega arith)
 split_at (x ∷ xs) zero lt = (refl, refl)
 split_at (x ∷ xs) (suc i) lt = let k = split_at xs i (omega arith) in (ap (λ ys. x ∷ ys) k.0, ap suc k.1)
 
-level_is : (n : ℕ) (F : List Function) (order : List ℕ) (i : ℕ) → IsOrder n order → i < length order → level_count n F order i ≡ width n F (drop (suc i) order) (get_or order i 0)
+level_is : (n : ℕ) (F : List Function) (order : List ℕ) (i : ℕ) → IsOrder n order → i < length order →
+    level_count n F order i ≡ width n F (drop (suc i) order) (get_or order i 0)
 level_is n F order i o lt =
     let s = split_at order i lt in
     let above = take i order in
@@ -186,7 +195,8 @@ level_is n F order i o lt =
     let below = drop (suc i) order in
     ap₂ (level_count n F) (sym s.0) (sym s.1) ∙ level_lem n F above x below ∙ above_width n F above x below (subst (λ (ys : List ℕ). IsOrder n ys) (sym s.0) o)
 
-cost_at : (n : ℕ) (F : List Function) (order : List ℕ) (i : ℕ) → i < length order → cost n F (drop i order) ≡ width n F (drop (suc i) order) (get_or order i 0) + cost n F (drop (suc i) order)
+cost_at : (n : ℕ) (F : List Function) (order : List ℕ) (i : ℕ) → i < length order →
+    cost n F (drop i order) ≡ width n F (drop (suc i) order) (get_or order i 0) + cost n F (drop (suc i) order)
 unfolding cost
 cost_at n F order i lt = ap (cost n F) (drop-cons order i 0 lt)
 
@@ -196,11 +206,14 @@ pub record CountedTo (t : Setting) (order : List ℕ) (mask top : ℕ) (counts :
   pub top_is : top ≡ cell_cost t.problem.inputs (functions t.problem) t.pairs.pairs t.bound mask
   pub counts_are : counts ≡ map (level_count t.problem.inputs (functions t.problem) order) (range_with_len 0 i)
 
-pub counted_start : (t : Setting) (order : List ℕ) (mask top : ℕ) → mask ≡ 2 ^ t.problem.inputs - 1 → top ≡ cell_cost t.problem.inputs (functions t.problem) t.pairs.pairs t.bound mask → CountedTo t order mask top [] 0
+pub counted_start : (t : Setting) (order : List ℕ) (mask top : ℕ) → mask ≡ 2 ^ t.problem.inputs - 1 →
+    top ≡ cell_cost t.problem.inputs (functions t.problem) t.pairs.pairs t.bound mask → CountedTo t order mask top [] 0
 unfolding left
 counted_start t order mask top e is = record { mask_is = e; top_is = is; counts_are = refl }
 
-module _ (t : Setting) (b : IsBounded t) (order : List ℕ) (read : IsReadFrom t.problem.inputs (functions t.problem) t.pairs.pairs t.bound (2 ^ t.problem.inputs - 1) order) (mask top : ℕ) (counts : List ℕ) (i : ℕ) (c : CountedTo t order mask top counts i) where
+module _ (t : Setting) (b : IsBounded t) (order : List ℕ)
+    (read : IsReadFrom t.problem.inputs (functions t.problem) t.pairs.pairs t.bound (2 ^ t.problem.inputs - 1) order) (mask top : ℕ)
+    (counts : List ℕ) (i : ℕ) (c : CountedTo t order mask top counts i) where
   abbrev N : ℕ
   N = t.problem.inputs
 
@@ -224,20 +237,26 @@ module _ (t : Setting) (b : IsBounded t) (order : List ℕ) (read : IsReadFrom t
     pub counted_fall : (below : ℕ) → below ≡ cell_cost N G t.pairs.pairs t.bound (mask - 2 ^ x) → top ≡ level_count N G order i + below
     counted_fall below e =
         let u = order_unclipped t b order read in
-        let here = c.top_is ∙ ap (cell_cost N G t.pairs.pairs t.bound) c.mask_is ∙ left_cost N G t.pairs.pairs t.bound order full i read u (omega (arith, lt)) ∙ cost_at N G order i lt in
+        let here = c.top_is ∙ ap (cell_cost N G t.pairs.pairs t.bound) c.mask_is
+        ∙ left_cost N G t.pairs.pairs t.bound order full i read u (omega (arith, lt)) ∙ cost_at N G order i lt in
         let next = e ∙ ap (cell_cost N G t.pairs.pairs t.bound) next_mask ∙ left_cost N G t.pairs.pairs t.bound order full (suc i) read u (omega (arith, lt)) in
         let level = level_is N G order i (order_is t b order read) lt in
         omega (arith, here, next, level)
 
-    pub counted_next : (below : ℕ) → below ≡ cell_cost N G t.pairs.pairs t.bound (mask - 2 ^ x) → CountedTo t order (mask - 2 ^ x) below (counts ++ (top - below) ∷ []) (i + 1)
+    pub counted_next : (below : ℕ) → below ≡ cell_cost N G t.pairs.pairs t.bound (mask - 2 ^ x) →
+        CountedTo t order (mask - 2 ^ x) below (counts ++ (top - below) ∷ []) (i + 1)
     counted_next below e =
         let fall = counted_fall below e in
         record {
           mask_is = next_mask ∙ ap (left order full) (let s : suc i ≡ i + 1 = omega arith in s);
           top_is = e;
-          counts_are = ap₂ (λ (xs : List ℕ) (y : ℕ). xs ++ y ∷ []) c.counts_are (let s : top - below ≡ level_count N G order i = omega (arith, fall) in s) ∙ sym (map-range_with_len_more (level_count N G order) 0 i i (omega arith));
+          counts_are =
+              ap₂ (λ (xs : List ℕ) (y : ℕ). xs ++ y ∷ []) c.counts_are
+              (let s : top - below ≡ level_count N G order i = omega (arith, fall) in s)
+              ∙ sym (map-range_with_len_more (level_count N G order) 0 i i (omega arith));
         }
 
-pub counted_whole : (t : Setting) (order : List ℕ) (mask top : ℕ) (counts : List ℕ) (i : ℕ) → CountedTo t order mask top counts i → i ≡ length order → counts ≡ level_counts t.problem.inputs (functions t.problem) order
+pub counted_whole : (t : Setting) (order : List ℕ) (mask top : ℕ) (counts : List ℕ) (i : ℕ) → CountedTo t order mask top counts i →
+    i ≡ length order → counts ≡ level_counts t.problem.inputs (functions t.problem) order
 unfolding level_counts
 counted_whole t order mask top counts i c e = c.counts_are ∙ ap (λ k. map (level_count t.problem.inputs (functions t.problem) order) (range_with_len 0 k)) e

@@ -70,7 +70,8 @@ module _ (t : Setting) (s0 s s1 s2 : SeatOf) (count p : ℕ) (b : BlockOf) (w : 
       has_filter (λ k. nat_eq (low_byte k) b.low) (masks_of (layer_of b)) mask
       ∙ and_from _ _ (subst (λ (l : LayerOf). has (masks_of l) mask ≡ true) (sym (block_layer s.board.brief.layer p b h.block)) m) y
 
-  pub working_round : StaysClaimed s1 s2 → ((mask : ℕ) → has (block_masks b) mask ≡ true → IsPosted s2 mask) → Working t s0 s2 (count + widths_for t (block_masks b))
+  pub working_round : StaysClaimed s1 s2 → ((mask : ℕ) → has (block_masks b) mask ≡ true → IsPosted s2 mask) →
+      Working t s0 s2 (count + widths_for t (block_masks b))
   working_round stays all =
       let same = claimed_same s1 s2 stays in
       record {
@@ -84,7 +85,9 @@ module _ (t : Setting) (s0 s s1 s2 : SeatOf) (count p : ℕ) (b : BlockOf) (w : 
       posted : ((mask : ℕ) → has_claimed s2 mask ≡ has_claimed s1 mask) → (mask : ℕ) → gains s0 s2 mask ≡ true → knows_filled s2 mask ≡ true
       posted same mask e =
           let parts = and_parts (has_claimed s2 mask) (not (has_claimed s0 mask)) e in
-          let mine : has (masks_of s.board.brief.layer) mask ≡ true = subst (λ (z : BoardId). has (masks_of z.brief.layer) mask ≡ true) (stays.board ∙ same_board s s1 p b h) (claimed_has s2 mask parts.0) in
+          let mine : has (masks_of s.board.brief.layer) mask ≡ true =
+          subst (λ (z : BoardId). has (masks_of z.brief.layer) mask ≡ true) (stays.board ∙ same_board s s1 p b h)
+          (claimed_has s2 mask parts.0) in
           elim (cases_Bool (nat_eq (low_byte mask) b.low)) [
             | inl y ↦ all mask (in_the_block mask mine y) parts.0
             | inr n ↦
@@ -93,11 +96,21 @@ module _ (t : Setting) (s0 s s1 s2 : SeatOf) (count p : ℕ) (b : BlockOf) (w : 
           ]
 
 -- what a claim ensures
-pub claims_at : (B : BoardId) (s s1 : SeatOf) (p : ℕ) (b : BlockOf) → s.board ≡ B → slice_get (blocks_of B.brief.layer) p ≡ Some b → s1 ≡ stepped s (claims_block s.worker p) 1 → claimed s1.worker p ≡ true →
+pub claims_at : (B : BoardId) (s s1 : SeatOf) (p : ℕ) (b : BlockOf) → s.board ≡ B → slice_get (blocks_of B.brief.layer) p ≡ Some b →
+    s1 ≡ stepped s (claims_block s.worker p) 1 → claimed s1.worker p ≡ true →
     ((q : ℕ) → claimed s.worker q ≡ true → q < p) → ClaimsBlock s s1 p b
-claims_at B s s1 p b board block is there later = record { block = subst (λ (z : BoardId). slice_get (blocks_of z.brief.layer) p ≡ Some b) (sym board) block; is = is; there = there; later = later }
+claims_at B s s1 p b board block is there later =
+    record {
+      block =
+          subst (λ (z : BoardId). slice_get (blocks_of z.brief.layer) p ≡ Some b) (sym board) block;
+      is = is;
+      there = there;
+      later = later;
+    }
 
 -- a round leaves fewer blocks that are not claimed
-pub round_closes : (s s1 s2 : SeatOf) (p : ℕ) (b : BlockOf) → ClaimsBlock s s1 p b → StaysClaimed s1 s2 → open_marks s2.worker.claims < open_marks s.worker.claims
-round_closes s s1 s2 p b h stays = subst (λ (xs : List Bool). open_marks xs < open_marks s.worker.claims) (sym (stays.claims ∙ ap (λ (z : SeatOf). z.worker.claims) h.is))
+pub round_closes : (s s1 s2 : SeatOf) (p : ℕ) (b : BlockOf) → ClaimsBlock s s1 p b → StaysClaimed s1 s2 →
+    open_marks s2.worker.claims < open_marks s.worker.claims
+round_closes s s1 s2 p b h stays =
+    subst (λ (xs : List Bool). open_marks xs < open_marks s.worker.claims) (sym (stays.claims ∙ ap (λ (z : SeatOf). z.worker.claims) h.is))
     (fewer_open s.worker.claims p (ap (λ (z : SeatOf). claimed z.worker p) (sym h.is) ∙ h.there) (was_open s s1 p b h))

@@ -14,7 +14,8 @@ use Rattle.layer_core.specs.Settings.{Setting}
 use Rattle.order_solve.specs.Bounded.{IsBounded}
 use Rattle.order_solve.proofs.ReadOrders.{order_first, order_is, order_unclipped, left, left_cost}
 
-module _ (t : Setting) (b : IsBounded t) (order : List ℕ) (read : IsReadFrom t.problem.inputs (functions t.problem) t.pairs.pairs t.bound (2 ^ t.problem.inputs - 1) order) (total : ℕ)
+module _ (t : Setting) (b : IsBounded t) (order : List ℕ)
+    (read : IsReadFrom t.problem.inputs (functions t.problem) t.pairs.pairs t.bound (2 ^ t.problem.inputs - 1) order) (total : ℕ)
     (is : total ≡ cell_cost t.problem.inputs (functions t.problem) t.pairs.pairs t.bound (2 ^ t.problem.inputs - 1)) where
   abbrev n : ℕ
   n = t.problem.inputs

@@ -38,9 +38,11 @@ is_affordable c bound mask x = eqb (bit_at mask x) 1 && leb (cost_without c mask
 pub affordable_is : (c : CostsOf) (bound mask found : ℕ) → MaskOfFirst (is_affordable c bound mask) c.inputs found → found ≡ mask_of (affordable c bound mask)
 unfolding is_affordable affordable members
 affordable_is c bound mask found m =
-    mask_of_passing (is_affordable c bound mask) c.inputs found m ∙ ap mask_of (sym (filter_twice (λ x. eqb (bit_at mask x) 1) (λ x. leb (cost_without c mask x) bound) (variables c.inputs)))
+    mask_of_passing (is_affordable c bound mask) c.inputs found m
+    ∙ ap mask_of (sym (filter_twice (λ x. eqb (bit_at mask x) 1) (λ x. leb (cost_without c mask x) bound) (variables c.inputs)))
 
-pub affordable_yes : (c : CostsOf) (bound mask x cost : ℕ) → bit_at mask x ≡ 1 → cost_without c mask x ≡ cost → cost ≤ bound → is_affordable c bound mask x ≡ true
+pub affordable_yes : (c : CostsOf) (bound mask x cost : ℕ) → bit_at mask x ≡ 1 → cost_without c mask x ≡ cost → cost ≤ bound →
+    is_affordable c bound mask x ≡ true
 unfolding is_affordable
 affordable_yes c bound mask x cost b e le = and_from _ _ (eq-eqb (bit_at mask x) 1 b) (le-leb (cost_without c mask x) bound (omega arith))
 
@@ -63,7 +65,8 @@ pub affordable_absent : (c : CostsOf) (bound mask x : ℕ) → bit_at mask x ≢
 unfolding is_affordable
 affordable_absent c bound mask x b = and_left _ _ (ne_eqb (bit_at mask x) 1 b)
 
-module _ (c : CostsOf) (F : List Function) (P : List Pair) (bound mask : ℕ) (next : has (masks_of (layer_with c.inputs (c.size + 1))) mask ≡ true) (costs : AreTrueCosts c.inputs F P bound c) where
+module _ (c : CostsOf) (F : List Function) (P : List Pair) (bound mask : ℕ)
+    (next : has (masks_of (layer_with c.inputs (c.size + 1))) mask ≡ true) (costs : AreTrueCosts c.inputs F P bound c) where
   abbrev n : ℕ
   n = c.inputs
 
@@ -77,7 +80,8 @@ module _ (c : CostsOf) (F : List Function) (P : List Pair) (bound mask : ℕ) (n
   top_is : (x : ℕ) → has S x ≡ true → cell_cost n F P bound (mask - 2 ^ x) ≤ bound → is_lawful P (without x S) ≡ true
   top_is x m le = sym (lawful_same P (members n (mask - 2 ^ x)) (without x S) (members_without n mask x m)) ∙ (cost_known n F P bound (mask - 2 ^ x) le).0
 
-  both : (x : ℕ) → has S x ≡ true → is_lawful P S ≡ true → (is_lawful P (without x S) && (is_lawful P S && leb (cell_cost n F P bound (mask - 2 ^ x)) bound)) ≡ leb (cost_without c mask x) bound
+  both : (x : ℕ) → has S x ≡ true → is_lawful P S ≡ true →
+      (is_lawful P (without x S) && (is_lawful P S && leb (cell_cost n F P bound (mask - 2 ^ x)) bound)) ≡ leb (cost_without c mask x) bound
   both x m low = same_bool _ _ (λ e. ap (λ k. leb k bound) (cost_is x m) ∙ (and_parts _ _ (and_parts _ _ e).1).1)
       (λ e.
       let le = ap (λ k. leb k bound) (sym (cost_is x m)) ∙ e in
@@ -86,11 +90,14 @@ module _ (c : CostsOf) (F : List Function) (P : List Pair) (bound mask : ℕ) (n
   pub wanted_lawful : is_lawful P S ≡ true → wanted n F P bound mask ≡ affordable c bound mask
   unfolding wanted affordable
   wanted_lawful low = filter_twice (λ x. is_lawful P (without x S)) (λ x. is_lawful P S && leb (cell_cost n F P bound (mask - 2 ^ x)) bound) S
-      ∙ filter_same (λ x. is_lawful P (without x S) && (is_lawful P S && leb (cell_cost n F P bound (mask - 2 ^ x)) bound)) (λ x. leb (cost_without c mask x) bound) S (λ x m. both x m low)
+      ∙ filter_same (λ x. is_lawful P (without x S) && (is_lawful P S && leb (cell_cost n F P bound (mask - 2 ^ x)) bound))
+      (λ x. leb (cost_without c mask x) bound) S (λ x m. both x m low)
 
 pub wanted_unlawful : (n : ℕ) (F : List Function) (P : List Pair) (bound mask : ℕ) → is_lawful P (members n mask) ≡ false → wanted n F P bound mask ≡ []
 unfolding wanted
-wanted_unlawful n F P bound mask low = filter_none (λ x. is_lawful P (members n mask) && leb (cell_cost n F P bound (mask - 2 ^ x)) bound) (tops P (members n mask)) (λ x. and_left _ _ low)
+wanted_unlawful n F P bound mask low =
+    filter_none (λ x. is_lawful P (members n mask) && leb (cell_cost n F P bound (mask - 2 ^ x)) bound) (tops P (members n mask))
+    (λ x. and_left _ _ low)
 
 -- how many bits the mask of a list has
 ones_mask_of : (n : ℕ) (xs : List ℕ) → IsDistinct nat_eq xs → ((y : ℕ) → has xs y ≡ true → y < n) → count_ones (mask_of xs) ≡ length xs
@@ -100,11 +107,16 @@ ones_mask_of n xs d small = ones-members n (mask_of xs) (mask_of_small n xs d sm
 module _ (n : ℕ) (F : List Function) (P : List Pair) (bound mask : ℕ) where
   pub distinct_wanted : IsDistinct nat_eq (wanted n F P bound mask)
   unfolding wanted
-  distinct_wanted = distinct_filter _ (tops P (members n mask)) (distinct_filter (λ x. is_lawful P (without x (members n mask))) (members n mask) (distinct_members n mask))
+  distinct_wanted =
+      distinct_filter _ (tops P (members n mask))
+      (distinct_filter (λ x. is_lawful P (without x (members n mask))) (members n mask) (distinct_members n mask))
 
   pub wanted_member : (x : ℕ) → has (wanted n F P bound mask) x ≡ true → has (members n mask) x ≡ true
   unfolding wanted
-  wanted_member x h = (and_parts _ _ (sym (has_filter (λ y. is_lawful P (without y (members n mask))) (members n mask) x) ∙ (and_parts _ _ (sym (has_filter _ (tops P (members n mask)) x) ∙ h)).0)).0
+  wanted_member x h =
+      (and_parts _ _
+      (sym (has_filter (λ y. is_lawful P (without y (members n mask))) (members n mask) x)
+      ∙ (and_parts _ _ (sym (has_filter _ (tops P (members n mask)) x) ∙ h)).0)).0
 
   pub wanted_ones : count_ones (mask_of (wanted n F P bound mask)) ≡ length (wanted n F P bound mask)
   wanted_ones = ones_mask_of n (wanted n F P bound mask) distinct_wanted (λ y h. members_small n mask y (wanted_member y h))

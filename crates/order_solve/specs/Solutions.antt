@@ -27,7 +27,8 @@ IsReadOff t order = IsReadFrom t.problem.inputs (functions t.problem) t.pairs.pa
 -- the sets that a certificate of this total lists, with their least costs
 abbrev pub AreListedFor : Setting → ℕ → List ListedCell → Type 0
 AreListedFor t total cells =
-    map listed cells ≡ map (least_listed t.problem.inputs (functions t.problem) t.pairs.pairs) (listed_masks t.problem.inputs (functions t.problem) t.pairs.pairs total)
+    map listed cells ≡ map (least_listed t.problem.inputs (functions t.problem) t.pairs.pairs)
+    (listed_masks t.problem.inputs (functions t.problem) t.pairs.pairs total)
 
 -- how many widths the cells of all sets take
 abbrev pub widths_for_all : Setting → ℕ

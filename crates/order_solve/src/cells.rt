@@ -25,7 +25,9 @@ fn widths_of(
     requires needed { length needed.now ≡ length (block_masks block.now) }
     requires members { AreMembers bench.now.setting.problem (block_masks block.now) needed.now }
     requires room { tally.old + wanted_count needed.now ≤ 2 ^ 32 }
-    ensures rows { IfOk result (λ widths. AreRows bench.now.setting.problem (block_masks block.now) needed.now widths.rows) }
+    ensures rows { IfOk result
+        (λ widths. AreRows bench.now.setting.problem (block_masks block.now) needed.now
+        widths.rows) }
     ensures ok { OnOk result (tally.new ≡ tally.old + wanted_count needed.now) }
 {
     let widths = match bench.beginning {
@@ -45,7 +47,8 @@ pub fn cells_of_block(
     requires layer { layer_of block.now ≡ bench.now.layer }
     requires room { tally.old + widths_for bench.now.setting (block_masks block.now) ≤ 2 ^ 32 }
     ensures cells { IfOk result (λ v. AreCells bench.now.setting (block_masks block.now) v.items) }
-    ensures tally { OnOk result (tally.new ≡ tally.old + widths_for bench.now.setting (block_masks block.now)) }
+    ensures tally { OnOk result
+        (tally.new ≡ tally.old + widths_for bench.now.setting (block_masks block.now)) }
 {
     let _few = bench.problem.inputs();
     let needs = needs_of_block(alloc, block, bench)?;

@@ -58,7 +58,9 @@ fn do_jobs<R: Threads + Sync, G: Gate>(
         rt,
         jobs,
         &|job: Job| -> Result<WorkerEnd, AllocError>
-            requires { IsSync G.row × (job.seat.board ≡ board.now) × (board.now.brief.setting ≡ bench.now.setting) × (board.now.brief.layer ≡ bench.now.layer) }
+            requires { IsSync G.row × (job.seat.board ≡ board.now)
+                × (board.now.brief.setting ≡ bench.now.setting)
+                × (board.now.brief.layer ≡ bench.now.layer) }
             ensures { IfOk result (λ e. e.seat.board ≡ board.entry.now) }
         {
             let Job { worker, seat } = job;

@@ -13,7 +13,8 @@ use std::alloc::{AllocError, Global};
 /// How many of some variables are not in a set.
 fn count_outside(essential: Mask, mask: Mask) -> u32
     ensures few { result ≤ 16 }
-    ensures exact { (n : ℕ) (F : List Function) → essential ≡ essential_mask n F → result ≡ essentials_outside n F (members n mask) }
+    ensures exact { (n : ℕ) (F : List Function) → essential ≡ essential_mask n F →
+        result ≡ essentials_outside n F (members n mask) }
 {
     (essential & !mask).count_ones()
 }

@@ -34,7 +34,8 @@ fn affordable_members(mask: Mask, costs: &Costs, bound: u32) -> Mask
 pub fn needed_members(mask: Mask, costs: &Costs, pairs: &Pairs, bound: u32) -> Mask
     requires next { IsInNextLayer costs.now mask }
     requires inputs { pairs.now.inputs ≡ costs.now.inputs }
-    ensures { (F : List Function) → AreTrueCosts costs.now.inputs F pairs.now.pairs bound costs.now →
+    ensures { (F : List Function) →
+        AreTrueCosts costs.now.inputs F pairs.now.pairs bound costs.now →
         result ≡ mask_of (wanted costs.now.inputs F pairs.now.pairs bound mask) }
 {
     if pairs.lawful(mask) {

@@ -54,7 +54,9 @@ pub fn level_counts(
     order: &Order,
 ) -> Result<Vec<u32>, AllocError>
     requires { IsReadOff cells.now order.now }
-    ensures { IfOk result (λ v. v.items ≡ counts_under cells.now.problem.inputs (functions cells.now.problem) order.now) }
+    ensures { IfOk result
+        (λ v. v.items ≡ counts_under cells.now.problem.inputs (functions cells.now.problem)
+        order.now) }
 {
     let mut counts = Vec::with_capacity(alloc, order.len())?;
     let mut mask = all_variables(cells.inputs());

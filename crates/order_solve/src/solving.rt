@@ -48,7 +48,8 @@ pub(crate) fn solve_within<R: Threads + Sync, G: Gate>(
     requires pairs { pairs.now.inputs ≡ problem.now.inputs }
     requires bounded { IsBounded (setting_with problem.now pairs.now bound) }
     ensures solution { IfOk result (IsSolution problem.now pairs.now.pairs) }
-    ensures widths { IfOk result (λ s. s.widths ≡ widths_for_all (setting_with problem.now pairs.now bound)) }
+    ensures widths { IfOk result
+        (λ s. s.widths ≡ widths_for_all (setting_with problem.now pairs.now bound)) }
 {
     let cells = AllCells::of(rt, alloc, problem, pairs, bound, workers, gate)?;
     let solution = solution_of(alloc, &cells)?;
@@ -69,7 +70,9 @@ pub fn solve<R: Threads + Sync, G: Gate>(
 ) -> Result<Solution, AllocError>
     requires { sifted.problem ≡ problem.now }
     ensures solution { IfOk result (IsSolution problem.now sifted.pairs) }
-    ensures widths { IfOk result (λ s. s.widths ≡ widths_taken problem.now.inputs (functions problem.now) sifted.pairs sifted.size) }
+    ensures widths { IfOk result
+        (λ s. s.widths ≡ widths_taken problem.now.inputs (functions problem.now) sifted.pairs
+        sifted.size) }
 {
     let bound = sifted.size();
     let solution = solve_within(rt, alloc, problem, sifted.pairs(), bound, workers, gate)?;
@@ -80,7 +83,9 @@ pub fn solve<R: Threads + Sync, G: Gate>(
 pub fn solve_alone(alloc: Global, problem: &Problem, sifted: Sifted) -> Result<Solution, AllocError>
     requires { sifted.problem ≡ problem.now }
     ensures solution { IfOk result (IsSolution problem.now sifted.pairs) }
-    ensures widths { IfOk result (λ s. s.widths ≡ widths_taken problem.now.inputs (functions problem.now) sifted.pairs sifted.size) }
+    ensures widths { IfOk result
+        (λ s. s.widths ≡ widths_taken problem.now.inputs (functions problem.now) sifted.pairs
+        sifted.size) }
 {
     let bound = sifted.size();
     let cells = AllCells::alone(alloc, problem, sifted.pairs(), bound)?;

@@ -51,7 +51,8 @@ fn post_block<G: Gate>(
     requires setting { board.now.brief.setting ≡ bench.now.setting }
     requires cells { AreCells bench.now.setting (block_masks block.now) cells.now }
     ensures stays { StaysClaimed seat.old seat.new }
-    ensures posted { (mask : ℕ) → IsTrue (has (block_masks block.now) mask) → IsPosted seat.new mask }
+    ensures posted { (mask : ℕ) → IsTrue (has (block_masks block.now) mask) →
+        IsPosted seat.new mask }
 {
     for i in 0..block.len() {
         let mask = block.mask(i);
@@ -76,9 +77,12 @@ pub fn work_layer<G: Gate>(
     requires layer { board.now.brief.layer ≡ bench.now.layer }
     ensures board { IfOk result (λ e. e.seat.board ≡ board.now) }
     ensures told { IfOk result (λ e. IsTrue e.seat.worker.told) }
-    ensures kept { IfOk result (λ e. (mask : ℕ) → IsTrue (has_claimed seat mask) → IsTrue (has_claimed e.seat mask)) }
-    ensures known { IfOk result (λ e. (mask : ℕ) → IsTrue (knows_filled seat mask) → IsTrue (knows_filled e.seat mask)) }
-    ensures posted { IfOk result (λ e. (mask : ℕ) → IsTrue (gains seat e.seat mask) → IsTrue (knows_filled e.seat mask)) }
+    ensures kept { IfOk result
+        (λ e. (mask : ℕ) → IsTrue (has_claimed seat mask) → IsTrue (has_claimed e.seat mask)) }
+    ensures known { IfOk result
+        (λ e. (mask : ℕ) → IsTrue (knows_filled seat mask) → IsTrue (knows_filled e.seat mask)) }
+    ensures posted { IfOk result
+        (λ e. (mask : ℕ) → IsTrue (gains seat e.seat mask) → IsTrue (knows_filled e.seat mask)) }
     ensures tally { IfOk result (λ e. e.tally ≡ widths_for bench.now.setting (gained seat e.seat)) }
 {
     let _few = bench.problem.inputs();

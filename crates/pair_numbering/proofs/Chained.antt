@@ -14,7 +14,9 @@ module _ (value : ℕ → ℕ) (len : ℕ) where
       (c : ℕ) → c < length (set heads (value k) k) → IsNext value len c k (get_or (set heads (value k) k) c 0)
   heads_more heads k small lt h c l =
       elim (cases_eq c (value k)) [
-        | inl e ↦ subst (IsNext value len c k) (sym (ap (λ d. get_or (set heads (value k) k) d 0) e ∙ get_or-set_same heads (value k) k 0 lt)) (record { from = omega arith; within = omega arith; here = λ m. sym e; none = λ i m n. absurd (omega arith) })
+        | inl e ↦ subst (IsNext value len c k)
+            (sym (ap (λ d. get_or (set heads (value k) k) d 0) e ∙ get_or-set_same heads (value k) k 0 lt))
+            (record { from = omega arith; within = omega arith; here = λ m. sym e; none = λ i m n. absurd (omega arith) })
         | inr ne ↦
             let old = h c (let s = length-set heads (value k) k in omega arith) in
             subst (IsNext value len c k) (sym (get_or-set_other heads (value k) c k 0 ne)) (record {
@@ -25,14 +27,17 @@ module _ (value : ℕ → ℕ) (len : ℕ) where
             })
       ]
 
-  pub next_more : (heads next : List ℕ) (k : ℕ) → k < length next → value k < length heads → ((c : ℕ) → c < length heads → IsNext value len c (suc k) (get_or heads c 0)) →
+  pub next_more : (heads next : List ℕ) (k : ℕ) → k < length next → value k < length heads →
+      ((c : ℕ) → c < length heads → IsNext value len c (suc k) (get_or heads c 0)) →
       ((i : ℕ) → suc k ≤ i → i < len → IsNext value len (value i) (i + 1) (get_or next i 0)) →
       (i : ℕ) → k ≤ i → i < len → IsNext value len (value i) (i + 1) (get_or (set next k (get_or heads (value k) 0)) i 0)
   next_more heads next k small lt h n i l m =
       elim (cases_eq i k) [
         | inl e ↦
             let g = h (value k) lt in
-            let at : get_or (set next k (get_or heads (value k) 0)) i 0 ≡ get_or heads (value k) 0 = ap (λ d. get_or (set next k (get_or heads (value k) 0)) d 0) e ∙ get_or-set_same next k (get_or heads (value k) 0) 0 small in
+            let at : get_or (set next k (get_or heads (value k) 0)) i 0 ≡ get_or heads (value k) 0 =
+            ap (λ d. get_or (set next k (get_or heads (value k) 0)) d 0) e
+            ∙ get_or-set_same next k (get_or heads (value k) 0) 0 small in
             subst (IsNext value len (value i) (i + 1)) (sym at) (record {
               from = let f = g.from in omega arith;
               within = g.within;
@@ -51,14 +56,18 @@ module _ (cs : List ℕ) (step half c : ℕ) where
     pub here : j < half → lower_at cs step j ≡ c
     pub own : (i : ℕ) → i < j → lower_at cs step i ≡ c → IsFirst (pair_at cs step) i (get_or first i 0)
     pub stamped : (h : ℕ) → h < length stamps → get_or stamps h 0 ≤ c + 1
-    pub marked : (h : ℕ) → h < length stamps → get_or stamps h 0 ≡ c + 1 → (get_or marks h 0 < j) × (pair_at cs step (get_or marks h 0) ≡ (c, h)) × ((i : ℕ) → i < get_or marks h 0 → pair_at cs step i ≢ (c, h))
+    pub marked : (h : ℕ) → h < length stamps → get_or stamps h 0 ≡ c + 1 →
+        (get_or marks h 0 < j) × (pair_at cs step (get_or marks h 0) ≡ (c, h))
+        × ((i : ℕ) → i < get_or marks h 0 → pair_at cs step i ≢ (c, h))
     pub unmarked : (h : ℕ) → h < length stamps → get_or stamps h 0 ≢ c + 1 → (i : ℕ) → i < j → pair_at cs step i ≢ (c, h)
 
-  own_more : (first : List ℕ) (j k f : ℕ) → j < length first → IsNext (lower_at cs step) half c (j + 1) k → ((i : ℕ) → i < j → lower_at cs step i ≡ c → IsFirst (pair_at cs step) i (get_or first i 0)) → IsFirst (pair_at cs step) j f →
+  own_more : (first : List ℕ) (j k f : ℕ) → j < length first → IsNext (lower_at cs step) half c (j + 1) k →
+      ((i : ℕ) → i < j → lower_at cs step i ≡ c → IsFirst (pair_at cs step) i (get_or first i 0)) → IsFirst (pair_at cs step) j f →
       (i : ℕ) → i < k → lower_at cs step i ≡ c → IsFirst (pair_at cs step) i (get_or (set first j f) i 0)
   own_more first j k f fl n o now i l v =
       elim (cases_eq i j) [
-        | inl e ↦ subst (λ z. IsFirst (pair_at cs step) z (get_or (set first j f) z 0)) (sym e) (subst (IsFirst (pair_at cs step) j) (sym (get_or-set_same first j f 0 fl)) now)
+        | inl e ↦ subst (λ z. IsFirst (pair_at cs step) z (get_or (set first j f) z 0)) (sym e)
+            (subst (IsFirst (pair_at cs step) j) (sym (get_or-set_same first j f 0 fl)) now)
         | inr ne ↦ elim (cases_lt i j) [
           | inl a ↦ subst (IsFirst (pair_at cs step) i) (sym (get_or-set_other first j i f 0 ne)) (o i a v)
           | inr a ↦ absurd (n.none i (omega arith) l v)
@@ -66,12 +75,14 @@ module _ (cs : List ℕ) (step half c : ℕ) where
       ]
 
   -- where the upper class has its mark, the pair's first place is the marked one
-  pub walk_again : (stamps marks first : List ℕ) (j k : ℕ) → j < half → j < length first → upper_at cs step j < length stamps → Walk stamps marks first j → get_or stamps (upper_at cs step j) 0 ≡ c + 1 →
+  pub walk_again : (stamps marks first : List ℕ) (j k : ℕ) → j < half → j < length first → upper_at cs step j < length stamps →
+      Walk stamps marks first j → get_or stamps (upper_at cs step j) 0 ≡ c + 1 →
       IsNext (lower_at cs step) half c (j + 1) k → Walk stamps marks (set first j (get_or marks (upper_at cs step j) 0)) k
   walk_again stamps marks first j k small fl ul w e n =
       let m = w.marked (upper_at cs step j) ul e in
       let key : pair_at cs step j ≡ (c, upper_at cs step j) = λ i. (w.here small i, upper_at cs step j) in
-      let now : IsFirst (pair_at cs step) j (get_or marks (upper_at cs step j) 0) = record { before = let a = m.0 in omega arith; same = m.1 ∙ sym key; none = λ i l q. m.2 i l (q ∙ key) } in
+      let now : IsFirst (pair_at cs step) j (get_or marks (upper_at cs step j) 0) =
+      record { before = let a = m.0 in omega arith; same = m.1 ∙ sym key; none = λ i l q. m.2 i l (q ∙ key) } in
       record {
         within = n.within;
         here = n.here;
@@ -88,7 +99,8 @@ module _ (cs : List ℕ) (step half c : ℕ) where
       }
 
   -- else it is the first of its kind, and gets the mark
-  pub walk_new : (stamps marks first : List ℕ) (j k : ℕ) → j < half → j < length first → upper_at cs step j < length stamps → length marks ≡ length stamps → Walk stamps marks first j → get_or stamps (upper_at cs step j) 0 ≢ c + 1 →
+  pub walk_new : (stamps marks first : List ℕ) (j k : ℕ) → j < half → j < length first → upper_at cs step j < length stamps →
+      length marks ≡ length stamps → Walk stamps marks first j → get_or stamps (upper_at cs step j) 0 ≢ c + 1 →
       IsNext (lower_at cs step) half c (j + 1) k → Walk (set stamps (upper_at cs step j) (c + 1)) (set marks (upper_at cs step j) j) (set first j j) k
   walk_new stamps marks first j k small fl ul ml w e n =
       let u = upper_at cs step j in
@@ -107,7 +119,9 @@ module _ (cs : List ℕ) (step half c : ℕ) where
         ];
         marked = λ h l s. elim (cases_eq h u) [
           | inl d ↦
-              let P : ℕ → Type 0 = λ z. (get_or (set marks u j) z 0 < k) × (pair_at cs step (get_or (set marks u j) z 0) ≡ (c, z)) × ((i : ℕ) → i < get_or (set marks u j) z 0 → pair_at cs step i ≢ (c, z)) in
+              let P : ℕ → Type 0 =
+              λ z. (get_or (set marks u j) z 0 < k) × (pair_at cs step (get_or (set marks u j) z 0) ≡ (c, z))
+              × ((i : ℕ) → i < get_or (set marks u j) z 0 → pair_at cs step i ≢ (c, z)) in
               let Q : ℕ → Type 0 = λ z. (z < k) × (pair_at cs step z ≡ (c, u)) × ((i : ℕ) → i < z → pair_at cs step i ≢ (c, u)) in
               subst P (sym d) (subst Q (sym here_mark) ((let b = n.from in omega arith), key, λ i q. w.unmarked u ul e i q))
           | inr d ↦

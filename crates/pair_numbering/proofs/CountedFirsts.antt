@@ -19,11 +19,15 @@ module _ (ps : List (ℕ × ℕ)) (masks : List ℕ) (x : ℕ) where
     pub counted : count ≡ length (filter (λ m. eqb (bit_at m x) 1) out)
     pub few : count ≤ j
 
-  pub counting_first : (count more j mask : ℕ) → j < length ps → IsFirst (λ i. get_or ps i (0, 0)) j j → mask ≡ joined_mask masks x (get_or ps j (0, 0)) → more ≡ bit_at mask x → Counting count j → Counting (count + more) (j + 1)
+  pub counting_first : (count more j mask : ℕ) → j < length ps → IsFirst (λ i. get_or ps i (0, 0)) j j →
+      mask ≡ joined_mask masks x (get_or ps j (0, 0)) → more ≡ bit_at mask x → Counting count j → Counting (count + more) (j + 1)
   counting_first count more j mask l f m b h = record {
     out = h.out ++ mask ∷ [];
     joined = joined_first 0 ps (joined_mask masks x) h.out j mask l f m h.joined;
-    counted = (let c = h.counted in let e = ap length (filter-append (λ k. eqb (bit_at k x) 1) h.out (mask ∷ [])) ∙ length-append (filter (λ k. eqb (bit_at k x) 1) h.out) (filter (λ k. eqb (bit_at k x) 1) (mask ∷ [])) in let o = one (bit_at mask x) (bit_at-lt mask x) in omega arith);
+    counted = (let c = h.counted in
+        let e = ap length (filter-append (λ k. eqb (bit_at k x) 1) h.out (mask ∷ []))
+        ∙ length-append (filter (λ k. eqb (bit_at k x) 1) h.out) (filter (λ k. eqb (bit_at k x) 1) (mask ∷ [])) in
+        let o = one (bit_at mask x) (bit_at-lt mask x) in omega arith);
     few = (let w = h.few in let z = bit_at-lt mask x in omega arith);
   }
     where

@@ -35,12 +35,15 @@ module _ (masks : List ℕ) (x : ℕ) (ps : List (ℕ × ℕ)) (numbers joined :
 
   -- the names are numbered as the pairs are
   pub names_ranked : ranks nat_eq numbers ≡ ranks same_pair ps
-  names_ranked = ap (ranks nat_eq) t.numbers_are ∙ ranks_alike nat_eq nat_decides same_pair pair_decides t.name (λ p. p) ps names_apart ∙ ap (ranks same_pair) (map-id ps)
+  names_ranked = ap (ranks nat_eq) t.numbers_are ∙ ranks_alike nat_eq nat_decides same_pair pair_decides t.name (λ p. p) ps names_apart
+      ∙ ap (ranks same_pair) (map-id ps)
 
   pub names_masks : map (λ k. get_or joined k 0) numbers ≡ map (joined_mask masks x) ps
   names_masks =
       ap (map (λ k. get_or joined k 0)) t.numbers_are ∙ map-map (λ k. get_or joined k 0) t.name ps
-      ∙ map_same (λ p. get_or joined (t.name p) 0) (joined_mask masks x) ps (λ p a. let i = place_of (0, 0) ps p a in subst (λ q. get_or joined (t.name q) 0 ≡ joined_mask masks x q) i.1.1 (t.told i.0 i.1.0))
+      ∙ map_same (λ p. get_or joined (t.name p) 0) (joined_mask masks x) ps
+      (λ p a. let i = place_of (0, 0) ps p a in
+      subst (λ q. get_or joined (t.name q) 0 ≡ joined_mask masks x q) i.1.1 (t.told i.0 i.1.0))
 
   pub names_below : (i : ℕ) → i < length numbers → get_or numbers i 0 < length joined
   names_below i lt =
@@ -53,7 +56,9 @@ module _ (masks : List ℕ) (x : ℕ) (ps : List (ℕ × ℕ)) (numbers joined :
   length_names = ap length t.numbers_are ∙ length-map ps t.name
 
   -- the same names for other pairs that are all among these
-  pub names_among : (qs : List (ℕ × ℕ)) → ((j : ℕ) → j < length qs → (i : ℕ) × ((i < length ps) × (get_or ps i (0, 0) ≡ get_or qs j (0, 0)))) → TellsPairs masks x qs (map t.name qs) joined
+  pub names_among : (qs : List (ℕ × ℕ)) →
+      ((j : ℕ) → j < length qs → (i : ℕ) × ((i < length ps) × (get_or ps i (0, 0) ≡ get_or qs j (0, 0)))) →
+      TellsPairs masks x qs (map t.name qs) joined
   names_among qs at = record {
     name = t.name;
     numbers_are = refl;
@@ -67,7 +72,8 @@ module _ (masks : List ℕ) (x : ℕ) (ps : List (ℕ × ℕ)) (numbers joined :
   }
 
 -- numbers by first occurrence are names
-pub names_numbered : (masks : List ℕ) (x : ℕ) (ps : List (ℕ × ℕ)) (numbers joined : List ℕ) → length ps ≤ 2 ^ 20 → NumbersPairs masks x ps numbers joined → TellsPairs masks x ps numbers joined
+pub names_numbered : (masks : List ℕ) (x : ℕ) (ps : List (ℕ × ℕ)) (numbers joined : List ℕ) → length ps ≤ 2 ^ 20 →
+    NumbersPairs masks x ps numbers joined → TellsPairs masks x ps numbers joined
 unfolding ranks rank
 names_numbered masks x ps numbers joined small h = record {
   name = rank same_pair ps;
@@ -84,7 +90,9 @@ names_numbered masks x ps numbers joined small h = record {
 
 -- joined keys are names
 pub names_joined : (masks : List ℕ) (x : ℕ) (cs : List ℕ) (r : ℕ) → IsPairTable cs r (length masks) → length masks ≤ 256 → (numbers joined : List ℕ) →
-    numbers ≡ map (joined_key (length masks)) (pairs cs (2 ^ r)) → joined ≡ map (joined_key_mask masks x) (range_with_len 0 (length masks * length masks)) → TellsPairs masks x (pairs cs (2 ^ r)) numbers joined
+    numbers ≡ map (joined_key (length masks)) (pairs cs (2 ^ r)) →
+    joined ≡ map (joined_key_mask masks x) (range_with_len 0 (length masks * length masks)) →
+    TellsPairs masks x (pairs cs (2 ^ r)) numbers joined
 names_joined masks x cs r table narrow numbers joined e d = record {
   name = joined_key (length masks);
   numbers_are = e;
@@ -94,19 +102,23 @@ names_joined masks x cs r table narrow numbers joined e d = record {
       let pl = p.0 in
       let ul = u.0 in
       let some : 0 < length masks = omega arith in
-      let lower = sym (mod-eq_of_lt pl) ∙ sym (add-mul-mod_self_right (at i).0 (at i).1 (length masks)) ∙ ap (λ z. z % length masks) q ∙ add-mul-mod_self_right (at j).0 (at j).1 (length masks) ∙ mod-eq_of_lt ul in
+      let lower = sym (mod-eq_of_lt pl) ∙ sym (add-mul-mod_self_right (at i).0 (at i).1 (length masks)) ∙ ap (λ z. z % length masks) q
+      ∙ add-mul-mod_self_right (at j).0 (at j).1 (length masks) ∙ mod-eq_of_lt ul in
       let upper = sym (high (at i) pl some) ∙ ap (λ z. z / length masks) q ∙ high (at j) ul some in
       λ k. (lower k, upper k);
-  below = λ i a. let k = ap length d ∙ length-map-range_with_len (joined_key_mask masks x) 0 (length masks * length masks) in let s = key_small i a in omega arith;
+  below = λ i a. let k = ap length d ∙ length-map-range_with_len (joined_key_mask masks x) 0 (length masks * length masks) in
+      let s = key_small i a in omega arith;
   told = λ i a.
       let low = (parts i a).0 in
       let some : 0 < length masks = omega arith in
       let q = high (at i) low some in
       let s : ((at i).0 + (at i).1 * length masks) % length masks ≡ (at i).0 = add-mul-mod_self_right (at i).0 (at i).1 (length masks) ∙ mod-eq_of_lt low in
       ap (λ us. get_or us (joined_key (length masks) (at i)) 0) d
-      ∙ get_or-map-range_with_len (joined_key_mask masks x) 0 (length masks * length masks) (joined_key (length masks) (at i)) (joined_key (length masks) (at i)) 0 (key_small i a) (omega arith)
+      ∙ get_or-map-range_with_len (joined_key_mask masks x) 0 (length masks * length masks) (joined_key (length masks) (at i))
+      (joined_key (length masks) (at i)) 0 (key_small i a) (omega arith)
       ∙ (λ k. joined_mask masks x (s k, q k));
-  few = (let k = ap length d ∙ length-map-range_with_len (joined_key_mask masks x) 0 (length masks * length masks) in let a = mul-le-mul_left (length masks) narrow in let b = mul-le-mul_right 256 narrow in omega arith);
+  few = (let k = ap length d ∙ length-map-range_with_len (joined_key_mask masks x) 0 (length masks * length masks) in
+      let a = mul-le-mul_left (length masks) narrow in let b = mul-le-mul_right 256 narrow in omega arith);
 }
   where
     at : ℕ → ℕ × ℕ
@@ -115,7 +127,8 @@ names_joined masks x cs r table narrow numbers joined e d = record {
     parts : (i : ℕ) → i < length (pairs cs (2 ^ r)) → ((at i).0 < length masks) × ((at i).1 < length masks)
     parts i a =
         let l = length-pairs cs (2 ^ r) in
-        subst (λ (p : ℕ × ℕ). (p.0 < length masks) × (p.1 < length masks)) (sym (pair_listed cs (2 ^ r) i (omega arith))) (pair_classes cs r (length masks) i table.paired.whole table.below (omega arith))
+        subst (λ (p : ℕ × ℕ). (p.0 < length masks) × (p.1 < length masks)) (sym (pair_listed cs (2 ^ r) i (omega arith)))
+        (pair_classes cs r (length masks) i table.paired.whole table.below (omega arith))
 
     high : (u : ℕ × ℕ) → u.0 < length masks → 0 < length masks → (u.0 + u.1 * length masks) / length masks ≡ u.1
     high u l some = let d = add-mul-div_right u.0 u.1 some in let z = div-eq_of_lt l in omega arith
@@ -127,7 +140,9 @@ names_joined masks x cs r table narrow numbers joined e d = record {
         omega arith
       where
         product_below : (u k b : ℕ) → u < k → u * b + b ≤ k * b
-        product_below u k b l = (let q = mul-le-mul_right b (let s : suc u ≤ k = omega arith in s) in let z : suc u * b ≡ u * b + b = grind arith in omega arith)
+        product_below u k b l =
+            (let q = mul-le-mul_right b (let s : suc u ≤ k = omega arith in s) in let z : suc u * b ≡ u * b + b = grind arith in
+            omega arith)
 
 -- numbers by first occurrence occur, all of them
 pub ranks_used : (masks : List ℕ) (x : ℕ) (ps : List (ℕ × ℕ)) (numbers joined : List ℕ) → NumbersPairs masks x ps numbers joined → AreUsed numbers joined
@@ -135,4 +150,6 @@ unfolding ranks
 ranks_used masks x ps numbers joined h k l =
     let m = h.many in
     let t = rank_reached same_pair pair_decides ps k (omega arith) in
-    member_from_among nat_eq nat_decides numbers k (subst (Among k) (sym h.numbers_are) (subst (λ z. Among z (map (rank same_pair ps) ps)) t.2 (among_map (rank same_pair ps) t.0 ps t.1)))
+    member_from_among nat_eq nat_decides numbers k
+    (subst (Among k) (sym h.numbers_are)
+    (subst (λ z. Among z (map (rank same_pair ps) ps)) t.2 (among_map (rank same_pair ps) t.0 ps t.1)))

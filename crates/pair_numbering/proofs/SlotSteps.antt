@@ -11,7 +11,9 @@ module _ (ps : List (ℕ × ℕ)) (home : ℕ × ℕ → ℕ) where
   -- pair i is in a slot behind taken ones
   abbrev pub Found : List ℕ → List (ℕ × ℕ) → ℕ → ℕ → Type 0
   Found slots keys count i =
-      (t : ℕ) × (home (get_or ps i (0, 0)) ≤ t) × (t < length slots) × (get_or slots t 0 < count) × (get_or keys (get_or slots t 0) (0, 0) ≡ get_or ps i (0, 0)) × ((u : ℕ) → home (get_or ps i (0, 0)) ≤ u → u < t → get_or slots u 0 < count)
+      (t : ℕ) × (home (get_or ps i (0, 0)) ≤ t) × (t < length slots) × (get_or slots t 0 < count)
+      × (get_or keys (get_or slots t 0) (0, 0) ≡ get_or ps i (0, 0))
+      × ((u : ℕ) → home (get_or ps i (0, 0)) ≤ u → u < t → get_or slots u 0 < count)
 
   -- the numbering has come to pair j: a slot below `count` has a number, and each pair is found from its home on
   pub record Slotted (slots : List ℕ) (keys : List (ℕ × ℕ)) (out : List ℕ) (count j : ℕ) : Type 0 where
@@ -21,10 +23,12 @@ module _ (ps : List (ℕ × ℕ)) (home : ℕ × ℕ → ℕ) where
     pub made : Made (0, 0) ps (λ p. p) out (take count keys) j
     pub free : (t : ℕ) → t < length slots → (get_or slots t 0 < count) ⊎ (get_or slots t 0 ≡ length ps)
     pub each : (t : ℕ) → t < length slots → get_or slots t 0 < count →
-        (i : ℕ) × (i < j) × (get_or out i 0 ≡ get_or slots t 0) × (get_or ps i (0, 0) ≡ get_or keys (get_or slots t 0) (0, 0)) × ((k : ℕ) → k < i → get_or ps k (0, 0) ≢ get_or ps i (0, 0))
+        (i : ℕ) × (i < j) × (get_or out i 0 ≡ get_or slots t 0) × (get_or ps i (0, 0) ≡ get_or keys (get_or slots t 0) (0, 0))
+        × ((k : ℕ) → k < i → get_or ps k (0, 0) ≢ get_or ps i (0, 0))
     pub there : (i : ℕ) → i < j → Found slots keys count i
 
-  pub slotted_none : (slots : List ℕ) (keys : List (ℕ × ℕ)) (out : List ℕ) → length keys ≡ length ps → length out ≡ length ps → length slots ≡ 4 * length ps + 64 →
+  pub slotted_none : (slots : List ℕ) (keys : List (ℕ × ℕ)) (out : List ℕ) → length keys ≡ length ps → length out ≡ length ps →
+      length slots ≡ 4 * length ps + 64 →
       ((t : ℕ) → t < length slots → get_or slots t 0 ≡ length ps) → Slotted slots keys out 0 0
   slotted_none slots keys out k o r f = record {
     long_keys = k;
@@ -63,14 +67,18 @@ module _ (ps : List (ℕ × ℕ)) (home : ℕ × ℕ → ℕ) where
         s.none u l m (ap (λ c. get_or (set keys count (get_or ps j (0, 0))) c (0, 0)) (min-eq_left (omega arith)) ∙ key_kept (get_or slots u 0) a ∙ e)
 
     -- the pair has come before
-    pub slotted_old : slot_number slots count at ≢ count → Slotted (set slots at (slot_number slots count at)) (set keys count (get_or ps j (0, 0))) (set out j (slot_number slots count at)) count (j + 1)
+    pub slotted_old : slot_number slots count at ≢ count →
+        Slotted (set slots at (slot_number slots count at)) (set keys count (get_or ps j (0, 0))) (set out j (slot_number slots count at))
+        count (j + 1)
     unfolding key key_kept taken
     slotted_old ne =
         let lt : get_or slots at 0 < count = elim (cases_lt (get_or slots at 0) count) [ inl a ↦ a | inr b ↦ absurd (ne (min-eq_right b)) ] in
         let e : slot_number slots count at ≡ get_or slots at 0 = min-eq_left (omega arith) in
         let o = h.each at s.within lt in
-        let same : get_or keys (get_or slots at 0) (0, 0) ≡ get_or ps j (0, 0) = sym (key_kept (get_or slots at 0) lt) ∙ ap (λ c. get_or (set keys count (get_or ps j (0, 0))) c (0, 0)) (sym e) ∙ s.here in
-        let first : IsFirst (λ i. get_or ps i (0, 0)) j o.0 = record { before = (let l = o.1 in omega arith); same = o.3 ∙ same; none = λ k l q. o.4 k l (q ∙ sym (o.3 ∙ same)) } in
+        let same : get_or keys (get_or slots at 0) (0, 0) ≡ get_or ps j (0, 0) = sym (key_kept (get_or slots at 0) lt)
+        ∙ ap (λ c. get_or (set keys count (get_or ps j (0, 0))) c (0, 0)) (sym e) ∙ s.here in
+        let first : IsFirst (λ i. get_or ps i (0, 0)) j o.0 =
+        record { before = (let l = o.1 in omega arith); same = o.3 ∙ same; none = λ k l q. o.4 k l (q ∙ sym (o.3 ∙ same)) } in
         let n = slot_number slots count at in
         let w = h.few in
         subst (λ us. Slotted us (set keys count (get_or ps j (0, 0))) (set out j n) count (j + 1)) (sym (ap (set slots at) e ∙ set-get_or slots at 0)) (record {
@@ -78,10 +86,17 @@ module _ (ps : List (ℕ × ℕ)) (home : ℕ × ℕ → ℕ) where
           room = h.room;
           few = omega arith;
           made = subst (λ us. Made (0, 0) ps (λ p. p) (set out j n) us (j + 1)) (sym (take-set keys count (get_or ps j (0, 0))))
-              (subst (λ z. Made (0, 0) ps (λ p. p) (set out j z) (take count keys) (j + 1)) (o.2 ∙ sym e) (made_again (0, 0) ps (λ p. p) out (take count keys) j o.0 small first o.1 h.made));
+              (subst (λ z. Made (0, 0) ps (λ p. p) (set out j z) (take count keys) (j + 1)) (o.2 ∙ sym e)
+              (made_again (0, 0) ps (λ p. p) out (take count keys) j o.0 small first o.1 h.made));
           free = h.free;
-          each = λ t l a. let q = h.each t l a in let b = q.1 in
-              (q.0, omega arith, get_or-set_other out j q.0 n 0 (λ (d : q.0 ≡ j). let z : ⊥ = omega arith in z) ∙ q.2, q.3 ∙ sym (key_kept (get_or slots t 0) a), q.4);
+          each = λ t l a. let q = h.each t l a in let b = q.1 in (
+            q.0,
+            omega arith,
+            get_or-set_other out j q.0 n 0 (λ (d : q.0 ≡ j). let z : ⊥ = omega arith in z) ∙ q.2,
+            q.3
+                ∙ sym (key_kept (get_or slots t 0) a),
+            q.4,
+          );
           there = λ i l. elim (cases_lt i j) [
             | inl b ↦ let q = h.there i b in (q.0, q.1, q.2, q.3, key_kept (get_or slots q.0 0) q.3 ∙ q.4, q.5)
             | inr b ↦ subst (Found slots (set keys count (get_or ps j (0, 0))) count) (let d : j ≡ i = omega arith in d)
@@ -90,10 +105,17 @@ module _ (ps : List (ℕ × ℕ)) (home : ℕ × ℕ → ℕ) where
         })
 
     -- the pair is new
-    pub slotted_new : slot_number slots count at ≡ count → Slotted (set slots at (slot_number slots count at)) (set keys count (get_or ps j (0, 0))) (set out j (slot_number slots count at)) (count + 1) (j + 1)
+    pub slotted_new : slot_number slots count at ≡ count →
+        Slotted (set slots at (slot_number slots count at)) (set keys count (get_or ps j (0, 0))) (set out j (slot_number slots count at))
+        (count + 1) (j + 1)
     unfolding key key_kept taken other
     slotted_new e =
-        let le : count ≤ get_or slots at 0 = elim (cases_lt (get_or slots at 0) count) [ inl a ↦ (let f : slot_number slots count at ≡ get_or slots at 0 = min-eq_left (omega arith) in absurd (omega arith)) | inr b ↦ b ] in
+        let le : count ≤ get_or slots at 0 =
+        elim (cases_lt (get_or slots at 0) count) [
+          | inl a ↦ (let f : slot_number slots count at ≡ get_or slots at 0 = min-eq_left (omega arith) in absurd (omega arith))
+          | inr
+              b ↦ b
+        ] in
         let absent : (i : ℕ) → i < j → get_or ps i (0, 0) ≢ get_or ps j (0, 0) = λ i l q.
         let f = h.there i l in
         let g = ap home q in
@@ -123,7 +145,9 @@ module _ (ps : List (ℕ × ℕ)) (home : ℕ × ℕ → ℕ) where
           long_keys = length-set keys count (get_or ps j (0, 0)) ∙ h.long_keys;
           room = more ∙ h.room;
           few = omega arith;
-          made = subst (λ z. z) (λ t. Made (0, 0) ps (λ p. p) (set out j (known t)) (sym (take_more_set keys count (get_or ps j (0, 0)) (omega arith)) t) (j + 1))
+          made = subst (λ z. z)
+              (λ t. Made (0, 0) ps (λ p. p) (set out j (known t)) (sym (take_more_set keys count (get_or ps j (0, 0)) (omega arith)) t)
+              (j + 1))
               (made_first (0, 0) ps (λ p. p) out (take count keys) j (get_or ps j (0, 0)) small first refl h.made);
           free = λ t l. elim (cases_eq t at) [
             | inl d ↦ let v = ap (λ z. get_or (set slots at count) z 0) d ∙ here in inl (omega arith)
@@ -137,8 +161,14 @@ module _ (ps : List (ℕ × ℕ)) (home : ℕ × ℕ → ℕ) where
                 let v = get_or-set_other slots at t count 0 d in
                 let old : get_or slots t 0 < count = elim (h.free t (omega arith)) [ inl b ↦ b | inr b ↦ absurd (omega arith) ] in
                 let q = h.each t (omega arith) old in
-                let b = q.1 in
-                (q.0, omega arith, get_or-set_other out j q.0 count 0 (λ (c : q.0 ≡ j). let z : ⊥ = omega arith in z) ∙ q.2 ∙ sym v, q.3 ∙ sym (key_kept (get_or slots t 0) old) ∙ ap (λ c. get_or keys' c (0, 0)) (sym v), q.4)
+                let b = q.1 in (
+                  q.0,
+                  omega arith,
+                  get_or-set_other out j q.0 count 0 (λ (c : q.0 ≡ j). let z : ⊥ = omega arith in z) ∙ q.2 ∙ sym v,
+                  q.3
+                      ∙ sym (key_kept (get_or slots t 0) old) ∙ ap (λ c. get_or keys' c (0, 0)) (sym v),
+                  q.4,
+                )
           ];
           there = λ i l. elim (cases_lt i j) [
             | inl b ↦
@@ -146,8 +176,15 @@ module _ (ps : List (ℕ × ℕ)) (home : ℕ × ℕ → ℕ) where
                 let a = q.3 in
                 let r = q.2 in
                 let apart : q.0 ≢ at = λ d. (let v = ap (λ z. get_or slots z 0) d in let z : ⊥ = omega arith in z) in
-                let v = get_or-set_other slots at q.0 count 0 apart in
-                (q.0, q.1, omega arith, below q.0 q.3, ap (λ c. get_or keys' c (0, 0)) v ∙ key_kept (get_or slots q.0 0) q.3 ∙ q.4, λ u f g. below u (q.5 u f g))
+                let v = get_or-set_other slots at q.0 count 0 apart in (
+                  q.0,
+                  q.1,
+                  omega arith,
+                  below q.0 q.3,
+                  ap (λ c. get_or keys' c (0, 0)) v ∙ key_kept (get_or slots q.0 0) q.3
+                      ∙ q.4,
+                  λ u f g. below u (q.5 u f g),
+                )
             | inr b ↦ subst (Found (set slots at count) keys' (count + 1)) (let d : j ≡ i = omega arith in d)
                 (at, s.from, (let r = s.within in omega arith), omega arith, ap (λ c. get_or keys' c (0, 0)) here ∙ key_here, λ u f g. below u (taken u f g))
           ];

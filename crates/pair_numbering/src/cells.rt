@@ -23,7 +23,9 @@ pub fn number_pairs_by_cells(
     requires few { length masks.now ≤ 2 ^ 20 }
     requires cells { length cells.old ≡ length masks.now * length masks.now }
     requires empty { (k : ℕ) → k < length cells.old → slice_index cells.old k ≡ 0 }
-    ensures { IfOk result (λ v. NumbersPairs masks.now x (places.pairs numbers.now (2 ^ rank)) v.numbers.items v.masks.items) }
+    ensures { IfOk result
+        (λ v. NumbersPairs masks.now x (places.pairs numbers.now (2 ^ rank)) v.numbers.items
+        v.masks.items) }
 {
     let step = 1usize << rank;
     let half = numbers.len() / 2;

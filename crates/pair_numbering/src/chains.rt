@@ -13,7 +13,8 @@ pub fn chain(numbers: &[u32], rank: u32, heads: &mut [u32], next: &mut [u32])
     requires paired { IsPaired numbers.now rank }
     requires classes { AllBelow numbers.now (length heads.old) }
     requires half { length next.old ≡ length numbers.now / 2 }
-    requires empty { (c : ℕ) → c < length heads.old → slice_index heads.old c ≡ length numbers.now / 2 }
+    requires empty { (c : ℕ) → c < length heads.old →
+        slice_index heads.old c ≡ length numbers.now / 2 }
     ensures heads { AreHeads numbers.now rank heads.new }
     ensures next { AreLinks numbers.now rank next.new }
 {

@@ -37,7 +37,9 @@ pub fn number_distinct_pairs(
     requires table { IsPairTable numbers.now rank (length masks.now) }
     requires variable { x < 16 }
     requires distinct { AreApart numbers.now }
-    ensures { IfOk result (λ v. NumbersPairs masks.now x (places.pairs numbers.now (2 ^ rank)) v.numbers.items v.masks.items) }
+    ensures { IfOk result
+        (λ v. NumbersPairs masks.now x (places.pairs numbers.now (2 ^ rank)) v.numbers.items
+        v.masks.items) }
 {
     let half = numbers.len() / 2;
     let mut out = vec![in alloc; 0u32; half]?;

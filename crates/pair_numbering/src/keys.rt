@@ -45,7 +45,8 @@ fn join_keys(alloc: Global, keys: &[u32], rank: u32, base: u32) -> Result<Vec<u3
     requires paired { IsPaired keys.now rank }
     requires below { AllBelow keys.now base }
     requires base { base ≤ 256 }
-    ensures { IfOk result (λ v. v.items ≡ map (joined_key base) (places.pairs keys.now (2 ^ rank))) }
+    ensures { IfOk result
+        (λ v. v.items ≡ map (joined_key base) (places.pairs keys.now (2 ^ rank))) }
 {
     let mut joined = vec![in alloc; 0u32; keys.len() / 2]?;
     match rank {
@@ -61,7 +62,9 @@ fn join_keys(alloc: Global, keys: &[u32], rank: u32, base: u32) -> Result<Vec<u3
 fn join_key_masks(alloc: Global, masks: &[u16], x: u8) -> Result<Vec<u16>, AllocError>
     requires variable { x < 16 }
     requires few { length masks.now ≤ 256 }
-    ensures { IfOk result (λ v. v.items ≡ map (joined_key_mask masks.now x) (range_with_len 0 (length masks.now * length masks.now))) }
+    ensures { IfOk result
+        (λ v. v.items ≡ map (joined_key_mask masks.now x)
+        (range_with_len 0 (length masks.now * length masks.now))) }
 {
     let base = masks.len();
     let mut joined = Vec::with_capacity(alloc, base * base)?;
@@ -83,7 +86,9 @@ pub fn tell_pairs(
     requires table { IsPairTable numbers.now rank (length masks.now) }
     requires variable { x < 16 }
     requires few { length masks.now ≤ 2 ^ 20 }
-    ensures tells { IfOk result (λ v. TellsPairs masks.now x (places.pairs numbers.now (2 ^ rank)) v.numbers.items v.masks.items) }
+    ensures tells { IfOk result
+        (λ v. TellsPairs masks.now x (places.pairs numbers.now (2 ^ rank)) v.numbers.items
+        v.masks.items) }
     ensures used { IfOk result (λ v. IsTrue v.all_used → AreUsed v.numbers.items v.masks.items) }
 {
     let base = masks.len();

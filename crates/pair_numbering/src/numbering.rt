@@ -49,7 +49,9 @@ pub fn number_pairs_with_masks(
     requires table { IsPairTable numbers.now rank (length masks.now) }
     requires variable { x < 16 }
     requires few { length masks.now ≤ 2 ^ 20 }
-    ensures { IfOk result (λ v. NumbersPairs masks.now x (places.pairs numbers.now (2 ^ rank)) v.numbers.items v.masks.items) }
+    ensures { IfOk result
+        (λ v. NumbersPairs masks.now x (places.pairs numbers.now (2 ^ rank)) v.numbers.items
+        v.masks.items) }
 {
     let classes = masks.len();
     if classes == numbers.len() {
@@ -84,7 +86,9 @@ pub fn number_pairs_by_index(
     requires table { IsPairTable numbers.now rank (length masks.now) }
     requires variable { x < 16 }
     requires few { length masks.now ≤ 2 ^ 20 }
-    ensures { IfOk result (λ v. NumbersPairs masks.now x (places.pairs numbers.now (2 ^ rank)) v.numbers.items v.masks.items) }
+    ensures { IfOk result
+        (λ v. NumbersPairs masks.now x (places.pairs numbers.now (2 ^ rank)) v.numbers.items
+        v.masks.items) }
 {
     let indexed = index_pairs(alloc, numbers, rank)?;
     let pairs = distinct_pairs(alloc, numbers, rank, &indexed)?;

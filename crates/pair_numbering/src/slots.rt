@@ -55,7 +55,8 @@ pub fn number_pairs_by_slots(
 ) -> Result<Option<NumberedPairs>, AllocError>
     requires paired { IsPaired numbers.now rank }
     requires len { length numbers.now ≤ 2 ^ 20 }
-    ensures { IfOk result (λ o. IfSome o (λ v. ArePairsNumbered numbers.now rank v.numbers.items v.pairs.items)) }
+    ensures { IfOk result
+        (λ o. IfSome o (λ v. ArePairsNumbered numbers.now rank v.numbers.items v.pairs.items)) }
 {
     let half = numbers.len() / 2;
     let homes = 4 * half;

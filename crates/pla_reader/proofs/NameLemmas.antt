@@ -22,11 +22,14 @@ pub numbered_next : (front : List ℕ) (n : ℕ) → numbered_names front (n + 1
 unfolding numbered_names
 numbered_next front n =
     let zero-plus : 0 + n ≡ n = omega arith in
-    ap (map (λ i. front ++ decimal i)) (range_append 0 n 1) ∙ map-append (λ i. front ++ decimal i) (range_with_len 0 n) (range_with_len (0 + n) 1) ∙ rw zero-plus refl
+    ap (map (λ i. front ++ decimal i)) (range_append 0 n 1)
+    ∙ map-append (λ i. front ++ decimal i) (range_with_len 0 n) (range_with_len (0 + n) 1) ∙ rw zero-plus refl
 
 -- names that were given, or else numbered ones, are as many as their count says
-pub names_number : (given : Option (List (List ℕ))) (count : Option ℕ) (n : ℕ) (front : List ℕ) (names : List (List ℕ)) → count ≡ Some n → IfSome given (λ ns. count ≡ Some (length ns)) →
+pub names_number : (given : Option (List (List ℕ))) (count : Option ℕ) (n : ℕ) (front : List ℕ) (names : List (List ℕ)) → count ≡ Some n →
+    IfSome given (λ ns. count ≡ Some (length ns)) →
     names ≡ unwrap_or given (numbered_names front n) → length names ≡ n
 unfolding numbered_names
 names_number None count n front names e counted same = ap length same ∙ length-map-range_with_len (λ i. front ++ decimal i) 0 n
-names_number (Some ns) count n front names e counted same = let lengths = ap length same in let both : Some n ≡ Some (length ns) = sym e ∙ counted in let here : n ≡ length ns = cc in lengths ∙ sym here
+names_number (Some ns) count n front names e counted same = let lengths = ap length same in
+    let both : Some n ≡ Some (length ns) = sym e ∙ counted in let here : n ≡ length ns = cc in lengths ∙ sym here

@@ -70,14 +70,16 @@ judged_front : (before more : List Line) (k : ℕ) → k < length before → jud
 unfolding judged
 judged_front before more k below = rw (take-append-le k before more (omega arith)) (rw (get_or-append before more Empty k below) refl)
 
-judged_next : (before more : List Line) (line : Line) → judged (before ++ line ∷ more) (length before) ≡ option_map (λ (fault : LineFault). (length before + 1, fault)) (fault_of before line)
+judged_next : (before more : List Line) (line : Line) →
+    judged (before ++ line ∷ more) (length before) ≡ option_map (λ (fault : LineFault). (length before + 1, fault)) (fault_of before line)
 unfolding judged
 judged_next before more line = rw (take-append_seam before (line ∷ more)) (rw (get_or-append_seam before line more Empty) refl)
 
 all_more : (before : List Line) (line : Line) → list_all goes_on before ≡ true → goes_on line ≡ true → list_all goes_on (before ++ line ∷ []) ≡ true
 all_more [] line all here = rw here refl
 all_more (b ∷ before) line all here = by (goes_on b) refl (all_more before line) where
-  by : (t : Bool) → goes_on b ≡ t → (list_all goes_on before ≡ true → goes_on line ≡ true → list_all goes_on (before ++ line ∷ []) ≡ true) → list_all goes_on (b ∷ before ++ line ∷ []) ≡ true
+  by : (t : Bool) → goes_on b ≡ t → (list_all goes_on before ≡ true → goes_on line ≡ true → list_all goes_on (before ++ line ∷ []) ≡ true) →
+      list_all goes_on (b ∷ before ++ line ∷ []) ≡ true
   by true e more = rw e (more (rw e at all) here)
   by false e more = absurd (let wrong = rw e at all in cc)
 
@@ -103,7 +105,8 @@ description_open : (before rest : List Line) → list_all goes_on before ≡ tru
 unfolding description
 description_open [] rest all = refl
 description_open (b ∷ before) rest all = by (goes_on b) refl (description_open before rest) where
-  by : (t : Bool) → goes_on b ≡ t → (list_all goes_on before ≡ true → description (before ++ rest) ≡ before ++ description rest) → description (b ∷ before ++ rest) ≡ b ∷ before ++ description rest
+  by : (t : Bool) → goes_on b ≡ t → (list_all goes_on before ≡ true → description (before ++ rest) ≡ before ++ description rest) →
+      description (b ∷ before ++ rest) ≡ b ∷ before ++ description rest
   by true e more = rw e (rw (one_more (prefix_len goes_on (before ++ rest))) (ap (λ ls. b ∷ ls) (more (rw e at all))))
   by false e more = absurd (let wrong = rw e at all in cc)
 
@@ -121,7 +124,8 @@ none_in_range h a (suc n) none = rw (none a (omega arith) (omega arith)) (none_i
 
 -- the faults of lines whose first ones have none
 faults_behind : (before more : List Line) → ((k : ℕ) → k < length before → judged before k ≡ None) →
-    filter_map (judged (before ++ more)) (range_with_len 0 (length (before ++ more))) ≡ filter_map (judged (before ++ more)) (range_with_len (length before) (length more))
+    filter_map (judged (before ++ more)) (range_with_len 0 (length (before ++ more))) ≡ filter_map (judged (before ++ more))
+    (range_with_len (length before) (length more))
 faults_behind before more none =
     let zero-plus : 0 + length before ≡ length before = omega arith in
     ap (λ n. filter_map (judged (before ++ more)) (range_with_len 0 n)) (length-append before more)
@@ -138,17 +142,21 @@ unfolding faults
 first_is_found lines rest line number s fault here unended some =
     let before = here.before in
     let more = line ∷ description rest in
-    let told : description lines ≡ before ++ more = ap description here.whole ∙ description_open before (line ∷ rest) here.open_so_far ∙ ap (λ ls. before ++ ls) (description_cons line rest unended) in
-    let found : judged (before ++ more) (length before) ≡ Some (number + 1, fault) = judged_next before (description rest) line ∙ rw some (rw (here.numbered) refl) in
+    let told : description lines ≡ before ++ more = ap description here.whole ∙ description_open before (line ∷ rest) here.open_so_far
+    ∙ ap (λ ls. before ++ ls) (description_cons line rest unended) in
+    let found : judged (before ++ more) (length before) ≡ Some (number + 1, fault) = judged_next before (description rest) line
+    ∙ rw some (rw (here.numbered) refl) in
     record {
       others = filter_map (judged (before ++ more)) (range_with_len (length before + 1) (length (description rest))) ++ end_faults lines;
       first = rw told (rw (faults_behind before more here.faultless) (rw found refl));
     }
 
 -- the end, where the lines before it are all of the description
-end_is_found : (lines : List Line) (before : List Line) → description lines ≡ before → ((k : ℕ) → k < length before → judged before k ≡ None) → faults lines ≡ end_faults lines
+end_is_found : (lines : List Line) (before : List Line) → description lines ≡ before →
+    ((k : ℕ) → k < length before → judged before k ≡ None) → faults lines ≡ end_faults lines
 unfolding faults
-end_is_found lines before told none = rw told (ap (λ found. found ++ end_faults lines) (none_in_range (judged before) 0 (length before) (λ k low high. none k (omega arith))))
+end_is_found lines before told none =
+    rw told (ap (λ found. found ++ end_faults lines) (none_in_range (judged before) 0 (length before) (λ k low high. none k (omega arith))))
 
 -- the end of a description without a fault
 ending : (lines before : List Line) (number : ℕ) (s : State) → description lines ≡ before → min (length before + 1) (length lines) ≡ number →
@@ -156,7 +164,10 @@ ending : (lines before : List Line) (number : ℕ) (s : State) → description l
     faults lines ≡ cond (is_some s.inputs && is_some s.outputs) [] ((number, MissingHead) ∷ [])
 unfolding end_faults
 ending lines before number s told counted none agrees =
-    end_is_found lines before told none ∙ rw told (rw counted (rw (comes_known input_count before s.inputs agrees.inputs) (rw (comes_known output_count before s.outputs agrees.outputs) refl)))
+    end_is_found lines before told none
+    ∙ rw told (rw counted
+    (rw (comes_known input_count before s.inputs agrees.inputs)
+    (rw (comes_known output_count before s.outputs agrees.outputs) refl)))
 
 -- what came, or else another value
 first_known : {A : Type 0} (other : A) (known : Option A) (xs : List A) → xs ≡ option_to_list known → first_or other xs ≡ unwrap_or known other
@@ -179,7 +190,9 @@ cover_known before s cover agrees is =
     input_names = first_known (numbered_names (codes "x") cover.inputs) s.input_names (filter_map input_naming before) agrees.input_names ∙ sym is.input_names
 
     output_names : first_or (numbered_names (codes "y") cover.outputs) (filter_map output_naming before) ≡ cover.output_names
-    output_names = first_known (numbered_names (codes "y") cover.outputs) s.output_names (filter_map output_naming before) agrees.output_names ∙ sym is.output_names
+    output_names =
+        first_known (numbered_names (codes "y") cover.outputs) s.output_names (filter_map output_naming before) agrees.output_names
+        ∙ sym is.output_names
 
     products : map (term_of cover.inputs) (filter_map row_bytes before) ≡ cover.products
     products = (let held = agrees.rows in rw is.outputs at (rw is.inputs at held)) ∙ sym is.products
@@ -192,7 +205,8 @@ pub record Ends (lines : List Line) (number : ℕ) (s : State) : Type 0 where
   pub faultless : (k : ℕ) → k < length before → judged before k ≡ None
   pub agrees : Agrees before s
 
-pub ends_at_end : (lines rest : List Line) (number : ℕ) (s : State) (line : Line) → (here : Reached lines (line ∷ rest) number s) → line ≡ End → Ends lines (number + 1) s
+pub ends_at_end : (lines rest : List Line) (number : ℕ) (s : State) (line : Line) → (here : Reached lines (line ∷ rest) number s) →
+    line ≡ End → Ends lines (number + 1) s
 ends_at_end lines rest number s line here is =
     let before = here.before in
     let numbered = here.numbered in
@@ -230,7 +244,8 @@ gives_cover lines number s cover ends is = record {
   given = ap cover_of ends.told ∙ cover_known ends.before s cover ends.agrees is;
 }
 
-pub misses_head : (lines : List Line) (number : ℕ) (s : State) → Ends lines number s → (is_some s.inputs && is_some s.outputs) ≡ false → HasFirst lines number MissingHead
+pub misses_head : (lines : List Line) (number : ℕ) (s : State) → Ends lines number s → (is_some s.inputs && is_some s.outputs) ≡ false →
+    HasFirst lines number MissingHead
 misses_head lines number s ends none = record {
   others = [];
   first = ending lines ends.before number s ends.told ends.counted ends.faultless ends.agrees ∙ rw none refl;
@@ -260,7 +275,8 @@ end_line UnknownWord e = absurd cc
 end_line (Row bytes) e = absurd cc
 
 -- the answer at the end of a description
-pub answers_end : (bytes : List ℕ) (number : ℕ) (s : State) (r : Result Cover PlaError) → Ends (said bytes) number s → IfOk r (IsCoverOf s) → IfErr r (IsEndError s number) → Answers bytes r
+pub answers_end : (bytes : List ℕ) (number : ℕ) (s : State) (r : Result Cover PlaError) → Ends (said bytes) number s →
+    IfOk r (IsCoverOf s) → IfErr r (IsEndError s number) → Answers bytes r
 answers_end bytes number s (Ok cover) ends ok err = gives_cover (said bytes) number s cover ends ok
 answers_end bytes number s (Err (pla_errors.Line line fault)) ends ok err = rw (err.0) (rw (err.1) (misses_head (said bytes) number s ends (err.2)))
 answers_end bytes number s (Err pla_errors.TooLong) ends ok err = err
@@ -268,9 +284,11 @@ answers_end bytes number s (Err pla_errors.Device) ends ok err = err
 answers_end bytes number s (Err pla_errors.OutOfMemory) ends ok err = tt
 
 -- a line without a fault, and one with
-pub taken_ok : {U : Type 0} (before : List Line) (line : Line) (after : State) (r : Result U LineError) (u : U) → r ≡ Ok u → Taken before line after r → (fault_of before line ≡ None) × Agrees (before ++ line ∷ []) after
+pub taken_ok : {U : Type 0} (before : List Line) (line : Line) (after : State) (r : Result U LineError) (u : U) → r ≡ Ok u →
+    Taken before line after r → (fault_of before line ≡ None) × Agrees (before ++ line ∷ []) after
 taken_ok before line after r u e taken = rw e at taken
 
-pub taken_fault : {U : Type 0} (before : List Line) (line : Line) (after : State) (r : Result U LineError) (fault : LineFault) → r ≡ Err (line_errors.Fault fault) → Taken before line after r →
+pub taken_fault : {U : Type 0} (before : List Line) (line : Line) (after : State) (r : Result U LineError) (fault : LineFault) →
+    r ≡ Err (line_errors.Fault fault) → Taken before line after r →
     fault_of before line ≡ Some fault
 taken_fault before line after r fault e taken = rw e at taken

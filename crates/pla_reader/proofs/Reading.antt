@@ -7,7 +7,8 @@ use Rattle.pla_reader.specs.Reading.{faults, Gives, HasFirst}
 
 pub gives_or_has_first : (lines : List Line) → ((cover : NamedCover) × Gives lines cover) ⊎ ((line : ℕ) × (fault : LineFault) × HasFirst lines line fault)
 gives_or_has_first lines = by (faults lines) refl where
-  by : (found : List (ℕ × LineFault)) → faults lines ≡ found → ((cover : NamedCover) × Gives lines cover) ⊎ ((line : ℕ) × (fault : LineFault) × HasFirst lines line fault)
+  by : (found : List (ℕ × LineFault)) → faults lines ≡ found →
+      ((cover : NamedCover) × Gives lines cover) ⊎ ((line : ℕ) × (fault : LineFault) × HasFirst lines line fault)
   by [] none = inl (cover_of (description lines), record { faultless = none; given = refl })
   by ((line, fault) ∷ others) first = inr (line, fault, record { others = others; first = first })
 

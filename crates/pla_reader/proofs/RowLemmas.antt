@@ -32,7 +32,8 @@ length_of_none (b ∷ bs) (suc k) e = omega (arith, length_of_none bs k e)
 abbrev skips : ℕ → Bool
 skips b = is_blank b || b == bar
 
-pub positions_skip : (line : List ℕ) (i : ℕ) → i < length line → skips (slice_index_or line i 0) ≡ true → positions (drop i line) ≡ positions (drop (suc i) line)
+pub positions_skip : (line : List ℕ) (i : ℕ) → i < length line → skips (slice_index_or line i 0) ≡ true →
+    positions (drop i line) ≡ positions (drop (suc i) line)
 unfolding positions
 positions_skip line i inside e = rw (drop-cons line i 0 inside) (rw e refl)
 
@@ -56,7 +57,8 @@ pub record IsAt (taken : Bool) (n m : ℕ) (line : List ℕ) (i k : ℕ) (term :
   pub fault : rest_fault taken n m k (positions (drop i line)) ≡ term_fault taken n m (positions line)
   pub held : HoldsFirst n m k (positions line) term
 
-pub skip_one : (taken : Bool) (n m : ℕ) (line : List ℕ) (i k : ℕ) (term : Masks) → IsAt taken n m line i k term → i < length line → skips (slice_index_or line i 0) ≡ true →
+pub skip_one : (taken : Bool) (n m : ℕ) (line : List ℕ) (i k : ℕ) (term : Masks) → IsAt taken n m line i k term → i < length line →
+    skips (slice_index_or line i 0) ≡ true →
     IsAt taken n m line (suc i) k term
 skip_one taken n m line i k term here inside e = record {
   at_most = here.at_most;
@@ -67,14 +69,16 @@ skip_one taken n m line i k term here inside e = record {
 }
 
 -- the fault of what is left, with a position in front
-front_fault : (taken : Bool) (n m : ℕ) (line : List ℕ) (i k : ℕ) (term : Masks) → IsAt taken n m line i k term → i < length line → skips (slice_index_or line i 0) ≡ false →
+front_fault : (taken : Bool) (n m : ℕ) (line : List ℕ) (i k : ℕ) (term : Masks) → IsAt taken n m line i k term → i < length line →
+    skips (slice_index_or line i 0) ≡ false →
     rest_fault taken n m k (slice_index_or line i 0 ∷ positions (drop (suc i) line)) ≡ term_fault taken n m (positions line)
 front_fault taken n m line i k term here inside e = ap (rest_fault taken n m k) (sym (positions_next line i inside e)) ∙ here.fault
 
 input_front : (taken : Bool) (n m k c : ℕ) (cs : List ℕ) → k < n → rest_fault taken n m k (c ∷ cs) ≡ or_else (input_fault c) (rest_fault taken n m (k + 1) cs)
 input_front taken n m k c cs inside = let test : nat_lt k n ≡ true = grind (arith, nat_tests) in rw test refl
 
-output_front : (taken : Bool) (n m k c : ℕ) (cs : List ℕ) → n ≤ k → k < n + m → rest_fault taken n m k (c ∷ cs) ≡ or_else (output_fault taken c) (rest_fault taken n m (k + 1) cs)
+output_front : (taken : Bool) (n m k c : ℕ) (cs : List ℕ) → n ≤ k → k < n + m →
+    rest_fault taken n m k (c ∷ cs) ≡ or_else (output_fault taken c) (rest_fault taken n m (k + 1) cs)
 output_front taken n m k c cs behind inside =
     let first : nat_lt k n ≡ false = grind (arith, nat_tests) in let second : nat_lt k (n + m) ≡ true = grind (arith, nat_tests) in rw first (rw second refl)
 
@@ -82,7 +86,8 @@ long_front : (taken : Bool) (n m k c : ℕ) (cs : List ℕ) → n + m ≤ k → 
 long_front taken n m k c cs behind =
     let first : nat_lt k n ≡ false = grind (arith, nat_tests) in let second : nat_lt k (n + m) ≡ false = grind (arith, nat_tests) in rw first (rw second refl)
 
-pub input_step : (taken : Bool) (n m : ℕ) (line : List ℕ) (i k : ℕ) (old new : Masks) → IsAt taken n m line i k old → i < length line → skips (slice_index_or line i 0) ≡ false →
+pub input_step : (taken : Bool) (n m : ℕ) (line : List ℕ) (i k : ℕ) (old new : Masks) → IsAt taken n m line i k old → i < length line →
+    skips (slice_index_or line i 0) ≡ false →
     k < n → input_fault (slice_index_or line i 0) ≡ None → ReadsInput old k (slice_index_or line i 0) new → IsAt taken n m line (suc i) (k + 1) new
 input_step taken n m line i k old new here inside e small none reads =
     let c = slice_index_or line i 0 in
@@ -96,8 +101,10 @@ input_step taken n m line i k old new here inside e small none reads =
       held = holds_input n m k (positions line) old new c here.held small parts.0 reads;
     }
 
-pub output_step : (taken : Bool) (n m : ℕ) (line : List ℕ) (i k : ℕ) (old new : Masks) → IsAt taken n m line i k old → i < length line → skips (slice_index_or line i 0) ≡ false →
-    n ≤ k → k < n + m → output_fault taken (slice_index_or line i 0) ≡ None → ReadsOutput old (k - n) (slice_index_or line i 0) new → IsAt taken n m line (suc i) (k + 1) new
+pub output_step : (taken : Bool) (n m : ℕ) (line : List ℕ) (i k : ℕ) (old new : Masks) → IsAt taken n m line i k old → i < length line →
+    skips (slice_index_or line i 0) ≡ false →
+    n ≤ k → k < n + m → output_fault taken (slice_index_or line i 0) ≡ None → ReadsOutput old (k - n) (slice_index_or line i 0) new →
+    IsAt taken n m line (suc i) (k + 1) new
 output_step taken n m line i k old new here inside e behind small none reads =
     let c = slice_index_or line i 0 in
     let cs = positions (drop (suc i) line) in
@@ -110,19 +117,25 @@ output_step taken n m line i k old new here inside e behind small none reads =
       held = holds_output n m k (positions line) old new c here.held behind small parts.0 reads;
     }
 
-pub input_fails : (taken : Bool) (n m : ℕ) (line : List ℕ) (i k : ℕ) (old : Masks) (fault : LineFault) → IsAt taken n m line i k old → i < length line → skips (slice_index_or line i 0) ≡ false →
+pub input_fails : (taken : Bool) (n m : ℕ) (line : List ℕ) (i k : ℕ) (old : Masks) (fault : LineFault) → IsAt taken n m line i k old →
+    i < length line → skips (slice_index_or line i 0) ≡ false →
     k < n → input_fault (slice_index_or line i 0) ≡ Some fault → term_fault taken n m (positions line) ≡ Some fault
 input_fails taken n m line i k old fault here inside e small some =
-    sym (front_fault taken n m line i k old here inside e) ∙ input_front taken n m k (slice_index_or line i 0) (positions (drop (suc i) line)) small ∙ rw some refl
+    sym (front_fault taken n m line i k old here inside e)
+    ∙ input_front taken n m k (slice_index_or line i 0) (positions (drop (suc i) line)) small ∙ rw some refl
 
-pub output_fails : (taken : Bool) (n m : ℕ) (line : List ℕ) (i k : ℕ) (old : Masks) (fault : LineFault) → IsAt taken n m line i k old → i < length line → skips (slice_index_or line i 0) ≡ false →
+pub output_fails : (taken : Bool) (n m : ℕ) (line : List ℕ) (i k : ℕ) (old : Masks) (fault : LineFault) → IsAt taken n m line i k old →
+    i < length line → skips (slice_index_or line i 0) ≡ false →
     n ≤ k → k < n + m → output_fault taken (slice_index_or line i 0) ≡ Some fault → term_fault taken n m (positions line) ≡ Some fault
 output_fails taken n m line i k old fault here inside e behind small some =
-    sym (front_fault taken n m line i k old here inside e) ∙ output_front taken n m k (slice_index_or line i 0) (positions (drop (suc i) line)) behind small ∙ rw some refl
+    sym (front_fault taken n m line i k old here inside e)
+    ∙ output_front taken n m k (slice_index_or line i 0) (positions (drop (suc i) line)) behind small ∙ rw some refl
 
-pub long_fails : (taken : Bool) (n m : ℕ) (line : List ℕ) (i k : ℕ) (old : Masks) → IsAt taken n m line i k old → i < length line → skips (slice_index_or line i 0) ≡ false →
+pub long_fails : (taken : Bool) (n m : ℕ) (line : List ℕ) (i k : ℕ) (old : Masks) → IsAt taken n m line i k old → i < length line →
+    skips (slice_index_or line i 0) ≡ false →
     n + m ≤ k → term_fault taken n m (positions line) ≡ Some LongTerm
-long_fails taken n m line i k old here inside e behind = sym (front_fault taken n m line i k old here inside e) ∙ long_front taken n m k (slice_index_or line i 0) (positions (drop (suc i) line)) behind
+long_fails taken n m line i k old here inside e behind = sym (front_fault taken n m line i k old here inside e)
+    ∙ long_front taken n m k (slice_index_or line i 0) (positions (drop (suc i) line)) behind
 
 abbrev is_one : ℕ → Bool
 is_one = in_on_set
@@ -134,11 +147,13 @@ end_fault taken n m line i k term here over = sym (ap (rest_fault taken n m k) (
 
 pub short_fails : (taken : Bool) (n m : ℕ) (line : List ℕ) (i k : ℕ) (term : Masks) → IsAt taken n m line i k term → length line ≤ i → k < n + m →
     term_fault taken n m (positions line) ≡ Some ShortTerm
-short_fails taken n m line i k term here over small = let test : nat_lt k (n + m) ≡ true = grind (arith, nat_tests) in sym (end_fault taken n m line i k term here over) ∙ rw test refl
+short_fails taken n m line i k term here over small = let test : nat_lt k (n + m) ≡ true = grind (arith, nat_tests) in
+    sym (end_fault taken n m line i k term here over) ∙ rw test refl
 
 pub has_no_fault : (taken : Bool) (n m : ℕ) (line : List ℕ) (i k : ℕ) (term : Masks) → IsAt taken n m line i k term → length line ≤ i → n + m ≤ k →
     term_fault taken n m (positions line) ≡ None
-has_no_fault taken n m line i k term here over full = let test : nat_lt k (n + m) ≡ false = grind (arith, nat_tests) in sym (end_fault taken n m line i k term here over) ∙ rw test refl
+has_no_fault taken n m line i k term here over full = let test : nat_lt k (n + m) ≡ false = grind (arith, nat_tests) in
+    sym (end_fault taken n m line i k term here over) ∙ rw test refl
 
 -- a term that has the masks has what they hold
 same_literal : (term : Term) (masks : Masks) (i : ℕ) → term.care ≡ masks.care → term.value ≡ masks.value → literal_in term i ≡ literal_at masks i
@@ -147,10 +162,12 @@ same_literal term masks i care value = rw care (rw value refl)
 same_output : (term : Term) (masks : Masks) (j : ℕ) → term.outs ≡ masks.outs → output_in term j ≡ output_at masks j
 same_output term masks j outs = rw outs refl
 
-pub fits_term : (taken : Bool) (n m : ℕ) (line : List ℕ) (i k : ℕ) (masks : Masks) (term : Term) → term.care ≡ masks.care → term.outs ≡ masks.outs → IsAt taken n m line i k masks → Fits n m term
+pub fits_term : (taken : Bool) (n m : ℕ) (line : List ℕ) (i k : ℕ) (masks : Masks) (term : Term) → term.care ≡ masks.care →
+    term.outs ≡ masks.outs → IsAt taken n m line i k masks → Fits n m term
 fits_term taken n m line i k masks term care outs here = record { care = rw care here.held.small_care; outs = rw outs here.held.small_outs }
 
-pub is_the_term : (taken : Bool) (n m : ℕ) (line : List ℕ) (i k : ℕ) (masks : Masks) (term : Term) → term.care ≡ masks.care → term.value ≡ masks.value → term.outs ≡ masks.outs →
+pub is_the_term : (taken : Bool) (n m : ℕ) (line : List ℕ) (i k : ℕ) (masks : Masks) (term : Term) → term.care ≡ masks.care →
+    term.value ≡ masks.value → term.outs ≡ masks.outs →
     IsAt taken n m line i k masks → length line ≤ i → n + m ≤ k → product_of n m term ≡ term_of n (positions line)
 unfolding product_of term_of
 is_the_term taken n m line i k masks term care value outs here over full =
@@ -162,10 +179,14 @@ is_the_term taken n m line i k masks term care value outs here over full =
     let held = here.held in
     let front : length (map literal_of (take n bytes)) ≡ n = length-map (take n bytes) literal_of ∙ length-take-le n bytes (omega arith) in
     let back : length (map is_one (drop n bytes)) ≡ m = length-map (drop n bytes) is_one ∙ length-drop n bytes ∙ omega arith in
-    let literals : map literal_of (take n bytes) ≡ map (literal_in term) (range_with_len 0 n) = fill_by_all (literal_in term) (map literal_of (take n bytes)) n None front
-    (λ j inside. get_or-map literal_of (take n bytes) j 0 None (omega (arith, length-take-le n bytes (omega arith))) ∙ ap literal_of (get_or-take n bytes j 0 inside) ∙ sym (held.literals j (omega arith) inside) ∙ sym (same_literal term masks j care value)) in
+    let literals : map literal_of (take n bytes) ≡ map (literal_in term) (range_with_len 0 n) =
+    fill_by_all (literal_in term) (map literal_of (take n bytes)) n None front
+    (λ j inside. get_or-map literal_of (take n bytes) j 0 None (omega (arith, length-take-le n bytes (omega arith)))
+    ∙ ap literal_of (get_or-take n bytes j 0 inside) ∙ sym (held.literals j (omega arith) inside)
+    ∙ sym (same_literal term masks j care value)) in
     let outputs : map is_one (drop n bytes) ≡ map (output_in term) (range_with_len 0 m) = fill_by_all (output_in term) (map is_one (drop n bytes)) m false back
-    (λ j inside. get_or-map is_one (drop n bytes) j 0 false (omega (arith, length-drop n bytes)) ∙ ap is_one (get_or-drop n bytes j 0) ∙ sym (held.outputs j (omega arith)) ∙ sym (same_output term masks j outs)) in
+    (λ j inside. get_or-map is_one (drop n bytes) j 0 false (omega (arith, length-drop n bytes)) ∙ ap is_one (get_or-drop n bytes j 0)
+    ∙ sym (held.outputs j (omega arith)) ∙ sym (same_output term masks j outs)) in
     rw (← literals, ← outputs) refl
 
 -- what stands in front of the others is tried first
@@ -175,13 +196,15 @@ first_some_cons (Some fault) xs = refl
 
 short_length : (count wanted : ℕ) → count ≤ wanted → first_some (length_fault count wanted ∷ []) ≡ cond (nat_lt count wanted) (Some ShortTerm) None
 short_length count wanted below = let over : nat_lt wanted count ≡ false = grind (arith, nat_tests) in rw over (by (nat_lt count wanted) refl) where
-  by : (t : Bool) → nat_lt count wanted ≡ t → first_some (cond (nat_lt count wanted) (Some ShortTerm) None ∷ []) ≡ cond (nat_lt count wanted) (Some ShortTerm) None
+  by : (t : Bool) → nat_lt count wanted ≡ t →
+      first_some (cond (nat_lt count wanted) (Some ShortTerm) None ∷ []) ≡ cond (nat_lt count wanted) (Some ShortTerm) None
   by true e = rw e refl
   by false e = rw e refl
 
 long_length : (count wanted : ℕ) → wanted < count → first_some (length_fault count wanted ∷ []) ≡ Some LongTerm
 long_length count wanted above =
-    let under : nat_lt count wanted ≡ false = grind (arith, nat_tests) in let over : nat_lt wanted count ≡ true = grind (arith, nat_tests) in rw under (rw over refl)
+    let under : nat_lt count wanted ≡ false = grind (arith, nat_tests) in
+    let over : nat_lt wanted count ≡ true = grind (arith, nat_tests) in rw under (rw over refl)
 
 -- with only outputs left
 outputs_left : (taken : Bool) (n m left k : ℕ) (cs : List ℕ) → n ≤ k → k + left ≡ n + m →
@@ -192,12 +215,15 @@ outputs_left taken n m zero k (c ∷ cs) behind e = long_front taken n m k c cs 
 outputs_left taken n m (suc left) k (c ∷ cs) behind e =
     let same : (k + 1) + length cs ≡ k + suc (length cs) = omega arith in
     output_front taken n m k c cs behind (omega arith)
-    ∙ ap (or_else (output_fault taken c)) (outputs_left taken n m left (k + 1) cs (omega arith) (omega arith) ∙ ap (λ count. first_some (map (output_fault taken) (take left cs) ++ length_fault count (n + m) ∷ [])) same)
+    ∙ ap (or_else (output_fault taken c))
+    (outputs_left taken n m left (k + 1) cs (omega arith) (omega arith)
+    ∙ ap (λ count. first_some (map (output_fault taken) (take left cs) ++ length_fault count (n + m) ∷ [])) same)
     ∙ sym (first_some_cons (output_fault taken c) (map (output_fault taken) (take left cs) ++ length_fault (k + suc (length cs)) (n + m) ∷ []))
 
 -- the fault of n inputs, m outputs and a length, where some inputs are left
 abbrev fault_from : Bool → ℕ → ℕ → ℕ → ℕ → List ℕ → Option LineFault
-fault_from taken n m left count cs = first_some (map input_fault (take left cs) ++ map (output_fault taken) (take m (drop left cs)) ++ length_fault count (n + m) ∷ [])
+fault_from taken n m left count cs =
+    first_some (map input_fault (take left cs) ++ map (output_fault taken) (take m (drop left cs)) ++ length_fault count (n + m) ∷ [])
 
 inputs_left : (taken : Bool) (n m left k : ℕ) (cs : List ℕ) → k + left ≡ n → rest_fault taken n m k cs ≡ fault_from taken n m left (k + length cs) cs
 inputs_left taken n m zero k cs e = outputs_left taken n m m k cs (omega arith) (omega arith)
@@ -209,11 +235,14 @@ inputs_left taken n m (suc left) k (c ∷ cs) e =
     let same : (k + 1) + length cs ≡ k + suc (length cs) = omega arith in
     input_front taken n m k c cs (omega arith)
     ∙ ap (or_else (input_fault c)) (inputs_left taken n m left (k + 1) cs (omega arith) ∙ ap (λ count. fault_from taken n m left count cs) same)
-    ∙ sym (first_some_cons (input_fault c) (map input_fault (take left cs) ++ map (output_fault taken) (take m (drop left cs)) ++ length_fault (k + suc (length cs)) (n + m) ∷ []))
+    ∙ sym (first_some_cons (input_fault c)
+    (map input_fault (take left cs) ++ map (output_fault taken) (take m (drop left cs))
+    ++ length_fault (k + suc (length cs)) (n + m) ∷ []))
 
 rest_is_term : (taken : Bool) (n m : ℕ) (bytes : List ℕ) → rest_fault taken n m 0 bytes ≡ term_fault taken n m bytes
 unfolding term_fault
-rest_is_term taken n m bytes = let same : 0 + length bytes ≡ length bytes = omega arith in inputs_left taken n m n 0 bytes (omega arith) ∙ ap (λ count. fault_from taken n m n count bytes) same
+rest_is_term taken n m bytes = let same : 0 + length bytes ≡ length bytes = omega arith in
+    inputs_left taken n m n 0 bytes (omega arith) ∙ ap (λ count. fault_from taken n m n count bytes) same
 
 -- nothing is read before the first byte
 pub is_at_start : (taken : Bool) (n m : ℕ) (line : List ℕ) → IsAt taken n m line 0 0 (record { care = 0; value = 0; outs = 0 })

@@ -38,7 +38,9 @@ within_care value care i e = same_from_bits _ _ (λ k. let both = bits_of_both c
     bit_at_and value (with_bit care i) k ∙ rw both (omega arith))
 
 pub within_both : (value care i : ℕ) → bit_and value care ≡ value → bit_and (with_bit value i) (with_bit care i) ≡ with_bit value i
-within_both value care i e = same_from_bits _ _ (λ k. let first = bits_of_both care i k in let second = bits_of_both value i k in let lies = within_bits value care e k in
+within_both value care i e =
+    same_from_bits _ _
+    (λ k. let first = bits_of_both care i k in let second = bits_of_both value i k in let lies = within_bits value care e k in
     bit_at_and (with_bit value i) (with_bit care i) k ∙ rw first (rw second (omega arith)))
 
 pub reads_zero : (old : Masks) (i c : ℕ) → i < 16 → bit_at old.value i ≡ 0 → c ≡ 48 →
@@ -111,10 +113,15 @@ holds_none n m bytes = record {
 literal_same : (a b : Masks) (i : ℕ) → bit_at a.care i ≡ bit_at b.care i → bit_at a.value i ≡ bit_at b.value i → literal_at a i ≡ literal_at b i
 literal_same a b i care value = rw care (rw value refl)
 
-pub holds_input : (n m k : ℕ) (bytes : List ℕ) (old new : Masks) (c : ℕ) → HoldsFirst n m k bytes old → k < n → slice_index_or bytes k 0 ≡ c → ReadsInput old k c new →
+pub holds_input : (n m k : ℕ) (bytes : List ℕ) (old new : Masks) (c : ℕ) → HoldsFirst n m k bytes old → k < n →
+    slice_index_or bytes k 0 ≡ c → ReadsInput old k c new →
     HoldsFirst n m (k + 1) bytes new
 holds_input n m k bytes old new c held inside at reads = record {
-  literals = λ i below within. elim (cases_eq i k) [ inl e ↦ rw e (rw at reads.here) | inr apart ↦ literal_same new old i (reads.care i apart) (reads.value i apart) ∙ held.literals i (omega arith) within ];
+  literals = λ i below within. elim (cases_eq i k) [
+    | inl e ↦ rw e (rw at reads.here)
+    | inr apart ↦ literal_same new old i (reads.care i apart) (reads.value i apart)
+        ∙ held.literals i (omega arith) within
+  ];
   fresh_care = λ i above. reads.care i (omega arith) ∙ held.fresh_care i (omega arith);
   fresh_value = λ i above. reads.value i (omega arith) ∙ held.fresh_value i (omega arith);
   outputs = λ j below. absurd (omega arith);
@@ -124,7 +131,8 @@ holds_input n m k bytes old new c held inside at reads = record {
   small_outs = rw reads.outs held.small_outs;
 }
 
-pub holds_output : (n m k : ℕ) (bytes : List ℕ) (old new : Masks) (c : ℕ) → HoldsFirst n m k bytes old → n ≤ k → k < n + m → slice_index_or bytes k 0 ≡ c → ReadsOutput old (k - n) c new →
+pub holds_output : (n m k : ℕ) (bytes : List ℕ) (old new : Masks) (c : ℕ) → HoldsFirst n m k bytes old → n ≤ k → k < n + m →
+    slice_index_or bytes k 0 ≡ c → ReadsOutput old (k - n) c new →
     HoldsFirst n m (k + 1) bytes new
 holds_output n m k bytes old new c held behind inside at reads = record {
   literals = λ i below within. literal_same new old i (rw reads.care refl) (rw reads.value refl) ∙ held.literals i (omega arith) within;

@@ -13,19 +13,27 @@ pub one_more : (k : ℕ) → 1 + k ≡ suc k
 one_more k = omega arith
 
 -- the first line of a text that isn't empty
-pub first_line_cons : (b : ℕ) (bs : List ℕ) → lines_of (b ∷ bs) ≡ take (position_or_len is_feed (b ∷ bs)) (b ∷ bs) ∷ lines_of (drop 1 (drop (position_or_len is_feed (b ∷ bs)) (b ∷ bs)))
+pub first_line_cons : (b : ℕ) (bs : List ℕ) →
+    lines_of (b ∷ bs) ≡ take (position_or_len is_feed (b ∷ bs)) (b ∷ bs) ∷ lines_of
+    (drop 1 (drop (position_or_len is_feed (b ∷ bs)) (b ∷ bs)))
 unfolding lines_of
 first_line_cons b [] = by (b == 10) refl where
-  by : (t : Bool) → (b == 10) ≡ t → lines_of (b ∷ []) ≡ take (position_or_len is_feed (b ∷ [])) (b ∷ []) ∷ lines_of (drop 1 (drop (position_or_len is_feed (b ∷ [])) (b ∷ [])))
+  by : (t : Bool) → (b == 10) ≡ t →
+      lines_of (b ∷ []) ≡ take (position_or_len is_feed (b ∷ [])) (b ∷ []) ∷ lines_of
+      (drop 1 (drop (position_or_len is_feed (b ∷ [])) (b ∷ [])))
   by true e = rw e refl
   by false e = rw e refl
 first_line_cons b (c ∷ cs) = by (b == 10) refl (first_line_cons c cs) where
-  by : (t : Bool) → (b == 10) ≡ t → lines_of (c ∷ cs) ≡ take (position_or_len is_feed (c ∷ cs)) (c ∷ cs) ∷ lines_of (drop 1 (drop (position_or_len is_feed (c ∷ cs)) (c ∷ cs))) →
-      lines_of (b ∷ c ∷ cs) ≡ take (position_or_len is_feed (b ∷ c ∷ cs)) (b ∷ c ∷ cs) ∷ lines_of (drop 1 (drop (position_or_len is_feed (b ∷ c ∷ cs)) (b ∷ c ∷ cs)))
+  by : (t : Bool) → (b == 10) ≡ t →
+      lines_of (c ∷ cs) ≡ take (position_or_len is_feed (c ∷ cs)) (c ∷ cs) ∷ lines_of
+      (drop 1 (drop (position_or_len is_feed (c ∷ cs)) (c ∷ cs))) →
+      lines_of (b ∷ c ∷ cs) ≡ take (position_or_len is_feed (b ∷ c ∷ cs)) (b ∷ c ∷ cs) ∷ lines_of
+      (drop 1 (drop (position_or_len is_feed (b ∷ c ∷ cs)) (b ∷ c ∷ cs)))
   by true e ih = rw e refl
   by false e ih = rw e (rw (one_more (position_or_len is_feed (c ∷ cs))) (ap (onto_first b) ih))
 
-pub first_line_lem : (text : List ℕ) → 0 < length text → lines_of text ≡ take (position_or_len is_feed text) text ∷ lines_of (drop 1 (drop (position_or_len is_feed text) text))
+pub first_line_lem : (text : List ℕ) → 0 < length text →
+    lines_of text ≡ take (position_or_len is_feed text) text ∷ lines_of (drop 1 (drop (position_or_len is_feed text) text))
 first_line_lem [] h = absurd (omega (arith, h))
 first_line_lem (b ∷ bs) h = first_line_cons b bs
 
@@ -62,16 +70,21 @@ after_words (x ∷ xs) = by (is_blank x) refl (after_words xs) where
   by false e ih = rw e (rw (one_more (position_or_len is_blank xs)) ih)
 
 -- the first word of a line that begins with one
-pub words_word : (b : ℕ) (bs : List ℕ) → is_blank b ≡ false → words (b ∷ bs) ≡ take (position_or_len is_blank (b ∷ bs)) (b ∷ bs) ∷ words (drop (position_or_len is_blank (b ∷ bs)) (b ∷ bs))
+pub words_word : (b : ℕ) (bs : List ℕ) → is_blank b ≡ false →
+    words (b ∷ bs) ≡ take (position_or_len is_blank (b ∷ bs)) (b ∷ bs) ∷ words (drop (position_or_len is_blank (b ∷ bs)) (b ∷ bs))
 unfolding words
-words_word b bs e = rw e (rw (one_more (position_or_len is_blank bs)) (ap (λ parts. filter is_filled (onto_first b parts)) (split_front bs) ∙ ap (λ ws. (b ∷ take (position_or_len is_blank bs) bs) ∷ ws) (after_words bs)))
+words_word b bs e =
+    rw e (rw (one_more (position_or_len is_blank bs))
+    (ap (λ parts. filter is_filled (onto_first b parts)) (split_front bs)
+    ∙ ap (λ ws. (b ∷ take (position_or_len is_blank bs) bs) ∷ ws) (after_words bs)))
 
 -- a line without its blank in front
 pub words_rest : (xs : List ℕ) → 0 < length xs → is_blank (slice_index_or xs 0 0) ≡ true → words xs ≡ words (take (length xs - 1) (drop 1 xs))
 words_rest [] some e = absurd (omega (arith, some))
 words_rest (b ∷ bs) some e = words_blank b bs e ∙ ap words (sym (behind_first (b ∷ bs)))
 
-pub words_front : (xs : List ℕ) → 0 < length xs → is_blank (slice_index_or xs 0 0) ≡ false → words xs ≡ take (position_or_len is_blank xs) xs ∷ words (drop (position_or_len is_blank xs) xs)
+pub words_front : (xs : List ℕ) → 0 < length xs → is_blank (slice_index_or xs 0 0) ≡ false →
+    words xs ≡ take (position_or_len is_blank xs) xs ∷ words (drop (position_or_len is_blank xs) xs)
 words_front [] some e = absurd (omega (arith, some))
 words_front (b ∷ bs) some e = words_word b bs e
 

@@ -67,7 +67,8 @@ start_sound = record {
 }
 
 -- a count without a fault
-small_count : (repeated : Bool) (given : List (List ℕ)) (outside : LineFault) → head_fault repeated given outside ≡ None → (repeated ≡ false) × (d : ℕ) × (first_number given ≡ Some d) × IsSmall d
+small_count : (repeated : Bool) (given : List (List ℕ)) (outside : LineFault) → head_fault repeated given outside ≡ None →
+    (repeated ≡ false) × (d : ℕ) × (first_number given ≡ Some d) × IsSmall d
 small_count true given outside e = absurd cc
 small_count false [] outside e = absurd cc
 small_count false (w ∷ v ∷ vs) outside e = absurd cc
@@ -77,10 +78,12 @@ small_count false (w ∷ []) outside e = by (is_number w) refl where
   by true n = by_size (is_small w) refl where
     by_size : (t : Bool) → is_small w ≡ t → (false ≡ false) × (d : ℕ) × (first_number (w ∷ []) ≡ Some d) × IsSmall d
     by_size false m = absurd (let wrong = rw m at (rw n at e) in cc)
-    by_size true m = let parts = and_parts (nat_le 1 (number_of w)) (nat_le (number_of w) 16) m in (refl, number_of w, refl, (grind (arith, nat_tests), grind (arith, nat_tests)))
+    by_size true m = let parts = and_parts (nat_le 1 (number_of w)) (nat_le (number_of w) 16) m in
+        (refl, number_of w, refl, (grind (arith, nat_tests), grind (arith, nat_tests)))
 
 -- names without a fault
-counted_names : (counted repeated : Bool) (n : ℕ) (given : List (List ℕ)) → naming_fault counted repeated n given ≡ None → (counted ≡ true) × (repeated ≡ false) × (length given ≡ n)
+counted_names : (counted repeated : Bool) (n : ℕ) (given : List (List ℕ)) → naming_fault counted repeated n given ≡ None →
+    (counted ≡ true) × (repeated ≡ false) × (length given ≡ n)
 counted_names false repeated n given e = absurd cc
 counted_names true true n given e = absurd cc
 counted_names true false n given e = by (length given == n) refl where
@@ -101,7 +104,8 @@ whole_term taken n m bytes e =
     by (nat_lt (length bytes) (n + m)) refl (nat_lt (n + m) (length bytes)) refl
     (first_some_behind (map input_fault (take n bytes) ++ map (output_fault taken) (take m (drop n bytes))) (length_fault (length bytes) (n + m) ∷ []) e)
   where
-    by : (s : Bool) → nat_lt (length bytes) (n + m) ≡ s → (t : Bool) → nat_lt (n + m) (length bytes) ≡ t → first_some (length_fault (length bytes) (n + m) ∷ []) ≡ None → length bytes ≡ n + m
+    by : (s : Bool) → nat_lt (length bytes) (n + m) ≡ s → (t : Bool) → nat_lt (n + m) (length bytes) ≡ t →
+        first_some (length_fault (length bytes) (n + m) ∷ []) ≡ None → length bytes ≡ n + m
     by true short t long none = absurd (let wrong = rw short at none in cc)
     by false short true long none = absurd (let wrong = rw long at (rw short at none) in cc)
     by false short false long none = grind (arith, nat_tests)
@@ -129,7 +133,8 @@ row_fits true found e = (refl, e)
 row_fits false found e = absurd cc
 
 -- after a line that gives nothing
-keeps_sound : (before : List Line) (line : Line) → input_count line ≡ None → output_count line ≡ None → input_naming line ≡ None → output_naming line ≡ None → row_bytes line ≡ None → Sound before → Sound (before ++ line ∷ [])
+keeps_sound : (before : List Line) (line : Line) → input_count line ≡ None → output_count line ≡ None → input_naming line ≡ None →
+    output_naming line ≡ None → row_bytes line ≡ None → Sound before → Sound (before ++ line ∷ [])
 keeps_sound before line a b c d e sound = let known = sound.known in record {
   i = sound.i;
   o = sound.o;
@@ -174,7 +179,8 @@ sound_next before (Inputs given) sound e = let known = sound.known in
         small_outputs = known.small_outputs;
         input_names_number = names_wait sound.xs sound.i (Some count.1) none known.input_names_number;
         output_names_number = known.output_names_number;
-        rows = rw (none_behind row_bytes before (Inputs given) refl) (no_rows sound.i sound.o (Some count.1) sound.o (filter_map row_bytes before) missing known.rows);
+        rows = rw (none_behind row_bytes before (Inputs given) refl)
+            (no_rows sound.i sound.o (Some count.1) sound.o (filter_map row_bytes before) missing known.rows);
       };
     }
 sound_next before (Outputs given) sound e = let known = sound.known in
@@ -195,11 +201,15 @@ sound_next before (Outputs given) sound e = let known = sound.known in
         small_outputs = count.3;
         input_names_number = known.input_names_number;
         output_names_number = names_wait sound.ys sound.o (Some count.1) none known.output_names_number;
-        rows = rw (none_behind row_bytes before (Outputs given) refl) (no_rows sound.i sound.o sound.i (Some count.1) (filter_map row_bytes before) missing known.rows);
+        rows = rw (none_behind row_bytes before (Outputs given) refl)
+            (no_rows sound.i sound.o sound.i (Some count.1) (filter_map row_bytes before) missing known.rows);
       };
     }
 sound_next before (InputNames given) sound e = let known = sound.known in
-    let checks = counted_names (is_some sound.i) (is_some sound.xs) (inputs_of before) given (rw (comes_known input_naming before sound.xs known.input_names) at (rw (comes_known input_count before sound.i known.inputs) at e)) in
+    let checks =
+    counted_names (is_some sound.i) (is_some sound.xs) (inputs_of before) given
+    (rw (comes_known input_naming before sound.xs known.input_names) at
+    (rw (comes_known input_count before sound.i known.inputs) at e)) in
     record {
       i = sound.i;
       o = sound.o;
@@ -218,7 +228,10 @@ sound_next before (InputNames given) sound e = let known = sound.known in
       };
     }
 sound_next before (OutputNames given) sound e = let known = sound.known in
-    let checks = counted_names (is_some sound.o) (is_some sound.ys) (outputs_of before) given (rw (comes_known output_naming before sound.ys known.output_names) at (rw (comes_known output_count before sound.o known.outputs) at e)) in
+    let checks =
+    counted_names (is_some sound.o) (is_some sound.ys) (outputs_of before) given
+    (rw (comes_known output_naming before sound.ys known.output_names) at
+    (rw (comes_known output_count before sound.o known.outputs) at e)) in
     record {
       i = sound.i;
       o = sound.o;
@@ -237,10 +250,15 @@ sound_next before (OutputNames given) sound e = let known = sound.known in
       };
     }
 sound_next before (Row bytes) sound e = let known = sound.known in
-    let fits = row_fits (comes input_count before && comes output_count before) (term_fault (takes_dont_cares before) (inputs_of before) (outputs_of before) bytes) e in
-    let both : (is_some sound.i && is_some sound.o) ≡ true = rw (comes_known output_count before sound.o known.outputs) at (rw (comes_known input_count before sound.i known.inputs) at fits.0) in
+    let fits = row_fits (comes input_count before && comes output_count before)
+    (term_fault (takes_dont_cares before) (inputs_of before) (outputs_of before) bytes) e in
+    let both : (is_some sound.i && is_some sound.o) ≡ true =
+    rw (comes_known output_count before sound.o known.outputs) at
+    (rw (comes_known input_count before sound.i known.inputs) at fits.0) in
     let whole : length bytes ≡ unwrap_or sound.i 0 + unwrap_or sound.o 0 =
-    rw (outputs_known before sound.o known.outputs) at (rw (inputs_known before sound.i known.inputs) at (whole_term (takes_dont_cares before) (inputs_of before) (outputs_of before) bytes fits.1)) in
+    rw (outputs_known before sound.o known.outputs) at
+    (rw (inputs_known before sound.i known.inputs) at
+    (whole_term (takes_dont_cares before) (inputs_of before) (outputs_of before) bytes fits.1)) in
     record {
       i = sound.i;
       o = sound.o;
@@ -255,7 +273,8 @@ sound_next before (Row bytes) sound e = let known = sound.known in
         small_outputs = known.small_outputs;
         input_names_number = known.input_names_number;
         output_names_number = known.output_names_number;
-        rows = rw (one_behind row_bytes before (Row bytes) bytes refl) (All-append (FitsCounts sound.i sound.o) (filter_map row_bytes before) (bytes ∷ []) known.rows (search (rules, whole, both)));
+        rows = rw (one_behind row_bytes before (Row bytes) bytes refl)
+            (All-append (FitsCounts sound.i sound.o) (filter_map row_bytes before) (bytes ∷ []) known.rows (search (rules, whole, both)));
       };
     }
 
@@ -264,7 +283,9 @@ sound_front : (lines : List Line) (k : ℕ) → k ≤ length lines → ((j : ℕ
 unfolding judged
 sound_front lines zero within none = start_sound
 sound_front lines (suc k) within none =
-    rw (take-suc lines k Empty (omega arith)) (sound_next (take k lines) (get_or lines k Empty) (sound_front lines k (omega arith) none) (unmapped (fault_of (take k lines) (get_or lines k Empty)) (none k (omega arith))))
+    rw (take-suc lines k Empty (omega arith))
+    (sound_next (take k lines) (get_or lines k Empty) (sound_front lines k (omega arith) none)
+    (unmapped (fault_of (take k lines) (get_or lines k Empty)) (none k (omega arith))))
   where
     unmapped : (x : Option LineFault) → option_map {U = ℕ × LineFault} (λ fault. (k + 1, fault)) x ≡ None → x ≡ None
     unmapped None e = refl
@@ -284,7 +305,8 @@ append_none [] ys e = (refl, e)
 append_none (x ∷ xs) ys e = absurd cc
 
 -- as many names as the count says
-names_length : (n : ℕ) (front : List ℕ) (xs : Option (List (List ℕ))) (list : List (List (List ℕ))) → list ≡ option_to_list xs → IfSome xs (λ ns. Some n ≡ Some (length ns)) →
+names_length : (n : ℕ) (front : List ℕ) (xs : Option (List (List ℕ))) (list : List (List (List ℕ))) → list ≡ option_to_list xs →
+    IfSome xs (λ ns. Some n ≡ Some (length ns)) →
     length (first_or (numbered_names front n) list) ≡ n
 unfolding numbered_names
 names_length n front None list e counted = rw e (length-map-range_with_len (λ i. front ++ decimal i) 0 n)
@@ -302,7 +324,8 @@ all_products n m rows all = λ k d inside.
       outputs = length-map (drop n bytes) in_on_set ∙ length-drop n bytes ∙ omega arith;
     })
 
-formed : (lines : List Line) (i o : Option ℕ) (xs ys : Option (List (List ℕ))) → Known lines i o xs ys → (is_some i && is_some o) ≡ true → IsCover (cover_of lines)
+formed : (lines : List Line) (i o : Option ℕ) (xs ys : Option (List (List ℕ))) → Known lines i o xs ys → (is_some i && is_some o) ≡ true →
+    IsCover (cover_of lines)
 unfolding cover_of
 formed lines None o xs ys known e = absurd cc
 formed lines (Some n) None xs ys known e = absurd cc
@@ -323,7 +346,8 @@ formed lines (Some n) (Some m) xs ys known e =
 formed_behind : (lines : List Line) → Sound lines → (comes input_count lines && comes output_count lines) ≡ true → IsCover (cover_of lines)
 formed_behind lines sound both =
     let known = sound.known in
-    formed lines sound.i sound.o sound.xs sound.ys known (rw (comes_known output_count lines sound.o known.outputs) at (rw (comes_known input_count lines sound.i known.inputs) at both))
+    formed lines sound.i sound.o sound.xs sound.ys known
+    (rw (comes_known output_count lines sound.o known.outputs) at (rw (comes_known input_count lines sound.i known.inputs) at both))
 
 pub well_formed : (lines : List Line) (cover : NamedCover) → Gives lines cover → IsCover cover
 unfolding faults end_faults
@@ -331,7 +355,9 @@ well_formed lines cover gives =
     let given = gives.given in
     let parts = append_none (filter_map (judged (description lines)) (range_with_len 0 (length (description lines)))) (end_faults lines) gives.faultless in
     let sound : Sound (description lines) =
-    rw (take_all (length (description lines)) (description lines) (omega arith)) at (sound_front (description lines) (length (description lines)) (omega arith) (λ j inside. none_listed (judged (description lines)) 0 (length (description lines)) j parts.0 (omega arith) (omega arith))) in
+    rw (take_all (length (description lines)) (description lines) (omega arith)) at
+    (sound_front (description lines) (length (description lines)) (omega arith)
+    (λ j inside. none_listed (judged (description lines)) 0 (length (description lines)) j parts.0 (omega arith) (omega arith))) in
     let both = no_end_fault (comes input_count (description lines) && comes output_count (description lines)) (end_number lines, MissingHead) parts.1 in
     rw (← given) (formed_behind (description lines) sound both)
   where

@@ -51,7 +51,16 @@ bad_terms : map after_heads (
     (codes "000 1" ++ (128 ∷ [])) ∷
     (11 ∷ []) ∷
     codes "0001 #0" ∷ []
-    ) ≡ Some (3, ShortTerm) ∷ Some (3, LongTerm) ∷ Some (3, BadInputChar) ∷ Some (3, BadInputChar) ∷ Some (3, ShortTerm) ∷ Some (3, ShortTerm) ∷ Some (3, BadOutputChar) ∷ Some (3, BadOutputChar) ∷ Some (3, DontCare) ∷ Some (3, DontCare) ∷ Some (3, DontCare) ∷ None ∷ None ∷ None ∷ Some (3, BadOutputChar) ∷ Some (3, BadInputChar) ∷ Some (3, LongTerm) ∷ Some (3, BadInputChar) ∷ None ∷ []
+    ) ≡ Some (3, ShortTerm) ∷ Some (3, LongTerm) ∷ Some (3, BadInputChar) ∷ Some (3, BadInputChar) ∷ Some (3, ShortTerm) ∷ Some (
+      3,
+      ShortTerm,
+    ) ∷ Some (3, BadOutputChar) ∷ Some (3, BadOutputChar) ∷ Some (3, DontCare) ∷ Some (3, DontCare) ∷ Some (
+      3,
+      DontCare,
+    ) ∷ None ∷ None ∷ None ∷ Some (3, BadOutputChar) ∷ Some (3, BadInputChar) ∷ Some (3, LongTerm) ∷ Some (
+      3,
+      BadInputChar,
+    ) ∷ None ∷ []
 unfolding lines_of words positions directive meaning line_said said description inputs_of outputs_of term_fault fault_of judged end_faults faults
 bad_terms = refl
 
@@ -83,7 +92,19 @@ directives : map after_heads (
     codes ".phase 1" ∷
     (codes " " ++ (9 ∷ []) ++ codes ".e#x") ∷
     codes ".end x y" ∷ []
-    ) ≡ Some (3, RepeatedHead) ∷ Some (3, RepeatedHead) ∷ Some (3, RepeatedHead) ∷ Some (3, NameCount) ∷ Some (3, BadName) ∷ Some (3, NameCount) ∷ Some (3, BadName) ∷ Some (3, BadName) ∷ None ∷ Some (3, NameCount) ∷ Some (3, BadNumber) ∷ None ∷ Some (3, BadNumber) ∷ Some (3, BadNumber) ∷ None ∷ None ∷ Some (3, UnsupportedType) ∷ Some (3, UnsupportedType) ∷ Some (3, UnsupportedType) ∷ Some (3, UnsupportedType) ∷ Some (3, UnknownDirective) ∷ Some (3, UnknownDirective) ∷ Some (3, UnknownDirective) ∷ Some (3, UnknownDirective) ∷ None ∷ None ∷ []
+    ) ≡ Some (3, RepeatedHead) ∷ Some (3, RepeatedHead) ∷ Some (3, RepeatedHead) ∷ Some (3, NameCount) ∷ Some (3, BadName) ∷ Some (
+      3,
+      NameCount,
+    ) ∷ Some (3, BadName) ∷ Some (3, BadName) ∷ None ∷ Some (3, NameCount) ∷ Some (3, BadNumber) ∷ None ∷ Some (
+      3,
+      BadNumber,
+    ) ∷ Some (3, BadNumber) ∷ None ∷ None ∷ Some (3, UnsupportedType) ∷ Some (3, UnsupportedType) ∷ Some (
+      3,
+      UnsupportedType,
+    ) ∷ Some (3, UnsupportedType) ∷ Some (3, UnknownDirective) ∷ Some (3, UnknownDirective) ∷ Some (
+      3,
+      UnknownDirective,
+    ) ∷ Some (3, UnknownDirective) ∷ None ∷ None ∷ []
 unfolding lines_of words positions directive meaning line_said said description inputs_of outputs_of term_fault fault_of judged end_faults faults
 directives = refl
 
@@ -105,7 +126,16 @@ counts : map first_line_alone (
     codes "# .i 3" ∷
     codes ".e" ∷
     codes ".type x" ∷ []
-    ) ≡ Some (1, InputCount) ∷ Some (1, InputCount) ∷ Some (1, BadNumber) ∷ Some (1, BadNumber) ∷ Some (1, BadNumber) ∷ Some (1, OutputCount) ∷ Some (1, OutputCount) ∷ Some (1, BadNumber) ∷ Some (1, MissingHead) ∷ Some (1, MissingHead) ∷ Some (1, MissingHead) ∷ Some (1, MissingHead) ∷ Some (0, MissingHead) ∷ Some (1, MissingHead) ∷ Some (1, MissingHead) ∷ Some (1, UnsupportedType) ∷ []
+    ) ≡ Some (1, InputCount) ∷ Some (1, InputCount) ∷ Some (1, BadNumber) ∷ Some (1, BadNumber) ∷ Some (1, BadNumber) ∷ Some (
+      1,
+      OutputCount,
+    ) ∷ Some (1, OutputCount) ∷ Some (1, BadNumber) ∷ Some (1, MissingHead) ∷ Some (1, MissingHead) ∷ Some (
+      1,
+      MissingHead,
+    ) ∷ Some (1, MissingHead) ∷ Some (0, MissingHead) ∷ Some (1, MissingHead) ∷ Some (1, MissingHead) ∷ Some (
+      1,
+      UnsupportedType,
+    ) ∷ []
 unfolding lines_of words positions directive meaning line_said said description inputs_of outputs_of term_fault fault_of judged end_faults faults
 counts = refl
 
@@ -133,8 +163,18 @@ files : map first_of_lines (
     (codes ".i 1" ∷ [] ∷ codes "# only one head" ∷ []) ∷
     (codes "# no head" ∷ codes ".e" ∷ codes "junk" ∷ []) ∷
     (codes ".i 1" ∷ codes ".o 1" ∷ codes ".e" ∷ codes "junk" ∷ []) ∷
-    ((codes ".i 2" ++ (13 ∷ [])) ∷ (codes ".o 2" ++ (13 ∷ [])) ∷ (codes ".p 99" ++ (13 ∷ [])) ∷ (codes "11|10" ++ (13 ∷ [])) ∷ (codes "1-|01" ++ (13 ∷ [])) ∷ []) ∷ []
-    ) ≡ None ∷ Some (3, DontCare) ∷ Some (4, DontCare) ∷ Some (1, InputCount) ∷ None ∷ None ∷ Some (2, RepeatedHead) ∷ Some (3, UnsupportedType) ∷ Some (3, UnknownDirective) ∷ Some (3, NameCount) ∷ Some (4, UnsupportedType) ∷ Some (4, RepeatedHead) ∷ Some (4, RepeatedHead) ∷ Some (4, RepeatedHead) ∷ Some (2, MissingHead) ∷ None ∷ Some (2, MissingHead) ∷ None ∷ Some (2, MissingHead) ∷ Some (3, MissingHead) ∷ Some (2, MissingHead) ∷ None ∷ None ∷ []
+    ((codes ".i 2" ++ (13 ∷ [])) ∷ (codes ".o 2" ++ (13 ∷ [])) ∷ (codes ".p 99" ++ (13 ∷ [])) ∷ (codes "11|10" ++ (13 ∷ [])) ∷
+    (codes "1-|01" ++ (13 ∷ [])) ∷ []) ∷ []
+    ) ≡ None ∷ Some (3, DontCare) ∷ Some (4, DontCare) ∷ Some (1, InputCount) ∷ None ∷ None ∷ Some (2, RepeatedHead) ∷ Some (
+      3,
+      UnsupportedType,
+    ) ∷ Some (3, UnknownDirective) ∷ Some (3, NameCount) ∷ Some (4, UnsupportedType) ∷ Some (4, RepeatedHead) ∷ Some (
+      4,
+      RepeatedHead,
+    ) ∷ Some (4, RepeatedHead) ∷ Some (2, MissingHead) ∷ None ∷ Some (2, MissingHead) ∷ None ∷ Some (
+      2,
+      MissingHead,
+    ) ∷ Some (3, MissingHead) ∷ Some (2, MissingHead) ∷ None ∷ None ∷ []
 unfolding lines_of words positions directive meaning line_said said description inputs_of outputs_of term_fault fault_of judged end_faults faults
 files = refl
 
@@ -143,7 +183,13 @@ abbrev multiplexer : List ℕ
 multiplexer = file (codes ".i 3" ∷ codes ".o 1" ∷ codes ".ilb a b s" ∷ codes ".ob f" ∷ codes "1-0 1" ∷ codes "-11 1" ∷ codes ".e" ∷ [])
 
 -- each front of its file
-multiplexer_fronts : map (λ k. first_of (take k multiplexer)) (range_with_len 0 43) ≡ Some (0, MissingHead) ∷ Some (1, UnknownDirective) ∷ Some (1, BadNumber) ∷ Some (1, BadNumber) ∷ Some (1, MissingHead) ∷ Some (1, MissingHead) ∷ Some (2, UnknownDirective) ∷ Some (2, BadNumber) ∷ Some (2, BadNumber) ∷ None ∷ None ∷ Some (3, UnknownDirective) ∷ Some (3, RepeatedHead) ∷ Some (3, UnknownDirective) ∷ Some (3, NameCount) ∷ Some (3, NameCount) ∷ Some (3, NameCount) ∷ Some (3, NameCount) ∷ Some (3, NameCount) ∷ Some (3, NameCount) ∷ None ∷ None ∷ Some (4, UnknownDirective) ∷ Some (4, RepeatedHead) ∷ Some (4, NameCount) ∷ Some (4, NameCount) ∷ None ∷ None ∷ Some (5, ShortTerm) ∷ Some (5, ShortTerm) ∷ Some (5, ShortTerm) ∷ Some (5, ShortTerm) ∷ None ∷ None ∷ Some (6, ShortTerm) ∷ Some (6, ShortTerm) ∷ Some (6, ShortTerm) ∷ Some (6, ShortTerm) ∷ None ∷ None ∷ Some (7, UnknownDirective) ∷ None ∷ None ∷ []
+multiplexer_fronts : map (λ k. first_of (take k multiplexer)) (range_with_len 0 43) ≡ Some (0, MissingHead) ∷ Some (1, UnknownDirective) ∷
+    Some (1, BadNumber) ∷ Some (1, BadNumber) ∷ Some (1, MissingHead) ∷ Some (1, MissingHead) ∷ Some (2, UnknownDirective) ∷ Some
+    (2, BadNumber) ∷ Some (2, BadNumber) ∷ None ∷ None ∷ Some (3, UnknownDirective) ∷ Some (3, RepeatedHead) ∷ Some (3, UnknownDirective) ∷
+    Some (3, NameCount) ∷ Some (3, NameCount) ∷ Some (3, NameCount) ∷ Some (3, NameCount) ∷ Some (3, NameCount) ∷ Some (3, NameCount) ∷
+    None ∷ None ∷ Some (4, UnknownDirective) ∷ Some (4, RepeatedHead) ∷ Some (4, NameCount) ∷ Some (4, NameCount) ∷ None ∷ None ∷ Some
+    (5, ShortTerm) ∷ Some (5, ShortTerm) ∷ Some (5, ShortTerm) ∷ Some (5, ShortTerm) ∷ None ∷ None ∷ Some (6, ShortTerm) ∷ Some
+    (6, ShortTerm) ∷ Some (6, ShortTerm) ∷ Some (6, ShortTerm) ∷ None ∷ None ∷ Some (7, UnknownDirective) ∷ None ∷ None ∷ []
 unfolding lines_of words positions directive meaning line_said said description inputs_of outputs_of term_fault fault_of judged end_faults faults
 multiplexer_fronts = refl
 
@@ -152,13 +198,16 @@ multiplexer_cover : cover_of (description (said multiplexer)) ≡ record {
   outputs = 1;
   input_names = codes "a" ∷ codes "b" ∷ codes "s" ∷ [];
   output_names = codes "f" ∷ [];
-  products = record { literals = Some true ∷ None ∷ Some false ∷ []; outputs = true ∷ [] } ∷ record { literals = None ∷ Some true ∷ Some true ∷ []; outputs = true ∷ [] } ∷ [];
+  products = record { literals = Some true ∷ None ∷ Some false ∷ []; outputs = true ∷ [] } ∷ record
+      { literals = None ∷ Some true ∷ Some true ∷ []; outputs = true ∷ [] } ∷ [];
 }
 unfolding lines_of words positions directive meaning line_said said description inputs_of outputs_of numbered_names term_of cover_of digits
 multiplexer_cover = refl
 
-multiplexer_table : map (table 3) (product_functions 1 (cover_of (description (said multiplexer))).products) ≡ (false ∷ true ∷ false ∷ true ∷ false ∷ false ∷ true ∷ true ∷ []) ∷ []
-unfolding lines_of words positions directive meaning line_said said description inputs_of outputs_of numbered_names term_of cover_of digits matches product_function product_functions points table
+multiplexer_table : map (table 3) (product_functions 1 (cover_of (description (said multiplexer))).products) ≡
+    (false ∷ true ∷ false ∷ true ∷ false ∷ false ∷ true ∷ true ∷ []) ∷ []
+unfolding lines_of words positions directive meaning line_said said description inputs_of outputs_of numbered_names term_of cover_of digits
+    matches product_function product_functions points table
 multiplexer_table = refl
 
 -- type f with dashes, and names by default
@@ -167,7 +216,8 @@ dashes_cover : cover_of (description (said (file (codes ".i 2" ∷ codes ".o 2" 
   outputs = 2;
   input_names = codes "x0" ∷ codes "x1" ∷ [];
   output_names = codes "y0" ∷ codes "y1" ∷ [];
-  products = record { literals = Some true ∷ None ∷ []; outputs = true ∷ false ∷ [] } ∷ record { literals = None ∷ Some true ∷ []; outputs = false ∷ true ∷ [] } ∷ [];
+  products = record { literals = Some true ∷ None ∷ []; outputs = true ∷ false ∷ [] } ∷ record
+      { literals = None ∷ Some true ∷ []; outputs = false ∷ true ∷ [] } ∷ [];
 }
 unfolding lines_of words positions directive meaning line_said said description inputs_of outputs_of numbered_names term_of cover_of digits
 dashes_cover = refl

@@ -72,7 +72,9 @@ length_fault count wanted = cond (nat_lt count wanted) (Some ShortTerm) (cond (n
 
 -- the first fault of a term from the left: n inputs, m outputs, and nothing after them
 unfoldable pub term_fault : Bool → ℕ → ℕ → List ℕ → Option LineFault
-term_fault taken n m bytes = first_some (map input_fault (take n bytes) ++ map (output_fault taken) (take m (drop n bytes)) ++ length_fault (length bytes) (n + m) ∷ [])
+term_fault taken n m bytes =
+    first_some (map input_fault (take n bytes) ++ map (output_fault taken) (take m (drop n bytes))
+    ++ length_fault (length bytes) (n + m) ∷ [])
 
 -- the fault of a count, by whether one came before
 abbrev pub head_fault : Bool → List (List ℕ) → LineFault → Option LineFault

@@ -97,7 +97,8 @@ impl Cover {
 
     /// The product terms, in the order of their lines.
     pub fn terms(&self) -> &[Term]
-        ensures products { map (product_of self.now.inputs self.now.outputs) result.now ≡ self.now.products }
+        ensures products { map (product_of self.now.inputs self.now.outputs) result.now ≡
+            self.now.products }
         ensures fit { All (Fits self.now.inputs self.now.outputs) result.now }
     {
         &self.terms

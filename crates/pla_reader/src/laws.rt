@@ -11,7 +11,8 @@ pub fn inputs_have_one_reading()
         ((cover : NamedCover) × Reads bytes cover) ⊎ ((line : ℕ) × (fault : LineFault) × FirstFault bytes line fault) }
     ensures not_both { (bytes : List ℕ) (cover : NamedCover) (line : ℕ) (fault : LineFault) →
         Reads bytes cover → FirstFault bytes line fault → ⊥ }
-    ensures one_cover { (bytes : List ℕ) (a b : NamedCover) → Reads bytes a → Reads bytes b → a ≡ b }
+    ensures one_cover { (bytes : List ℕ) (a b : NamedCover) → Reads bytes a →
+        Reads bytes b → a ≡ b }
     ensures one_fault { (bytes : List ℕ) (i j : ℕ) (e f : LineFault) →
         FirstFault bytes i e → FirstFault bytes j f → (i ≡ j) × (e ≡ f) }
 {}

@@ -139,7 +139,8 @@ fn is_graphic(word: &[u8]) -> bool
 /// The value of a number.
 #[tactic(auto, using(crate::proofs::Digits::digit_is, crate::proofs::Digits::pow_small))]
 pub(crate) fn number(word: &[u8]) -> Option<u32>
-    ensures some { IfSome result (λ value. IsTrue (is_number word.now) × (value ≡ number_of word.now)) }
+    ensures some { IfSome result
+        (λ value. IsTrue (is_number word.now) × (value ≡ number_of word.now)) }
     ensures none { IfNone result (is_number word.now ≡ false) }
 {
     if word.is_empty() || word.len() > 9 {

@@ -38,7 +38,9 @@ ref_grows xs ys id g known = ⊎_elim
 -- a ref of an earlier copy is before
 pub ref_before : (numbers : List ℕ) (p id : ℕ) → IsEarlier numbers p id → IsBefore (get_or numbers p 0 - 1) (ref_of numbers id)
 ref_before numbers p id e = ⊎_elim
-    (λ (node : 2 ≤ id). let f = e node in let some = f.0 in let less = f.1 in subst (IsBefore (get_or numbers p 0 - 1)) (sym (ref_place numbers id node)) (minus (get_or numbers (id - 2) 0) (get_or numbers p 0) some less))
+    (λ (node : 2 ≤ id). let f = e node in let some = f.0 in let less = f.1 in
+    subst (IsBefore (get_or numbers p 0 - 1)) (sym (ref_place numbers id node))
+    (minus (get_or numbers (id - 2) 0) (get_or numbers p 0) some less))
     (λ (few : id < 2). subst (IsBefore (get_or numbers p 0 - 1)) (sym (ref_terminal numbers id few)) tt)
     (le_or_lt 2 id)
   where
@@ -55,11 +57,15 @@ one_or_zero zero (suc (suc b)) x y e = absurd (omega arith)
 one_or_zero (suc zero) (suc (suc b)) x y e = absurd (omega arith)
 
 -- ids of one ref are one id
-pub ref_one : (numbers : List ℕ) → ((p q : ℕ) → get_or numbers p 0 ≢ 0 → get_or numbers p 0 ≡ get_or numbers q 0 → p ≡ q) → (a b : ℕ) → IsKnown numbers a → IsKnown numbers b → ref_of numbers a ≡ ref_of numbers b → a ≡ b
+pub ref_one : (numbers : List ℕ) → ((p q : ℕ) → get_or numbers p 0 ≢ 0 → get_or numbers p 0 ≡ get_or numbers q 0 → p ≡ q) → (a b : ℕ) →
+    IsKnown numbers a → IsKnown numbers b → ref_of numbers a ≡ ref_of numbers b → a ≡ b
 ref_one numbers unequal a b ka kb e = ⊎_elim
     (λ (na : 2 ≤ a). ⊎_elim
-    (λ (nb : 2 ≤ b). let f : get_or numbers (a - 2) 0 - 1 ≡ get_or numbers (b - 2) 0 - 1 = one_place (get_or numbers (a - 2) 0 - 1) (get_or numbers (b - 2) 0 - 1) (sym (ref_place numbers a na) ∙ (e ∙ ref_place numbers b nb)) in
-    let x = ka na in let y = kb nb in let g : get_or numbers (a - 2) 0 ≡ get_or numbers (b - 2) 0 = omega arith in let h = unequal (a - 2) (b - 2) x g in omega arith)
+    (λ (nb : 2 ≤ b). let f : get_or numbers (a - 2) 0 - 1 ≡ get_or numbers (b - 2) 0 - 1 =
+    one_place (get_or numbers (a - 2) 0 - 1) (get_or numbers (b - 2) 0 - 1)
+    (sym (ref_place numbers a na) ∙ (e ∙ ref_place numbers b nb)) in
+    let x = ka na in let y = kb nb in let g : get_or numbers (a - 2) 0 ≡ get_or numbers (b - 2) 0 = omega arith in
+    let h = unequal (a - 2) (b - 2) x g in omega arith)
     (λ (tb : b < 2). absurd (apart (get_or numbers (a - 2) 0 - 1) (b == 1) (sym (ref_place numbers a na) ∙ (e ∙ ref_terminal numbers b tb))))
     (le_or_lt 2 b))
     (λ (ta : a < 2). ⊎_elim
@@ -92,7 +98,8 @@ leads_through nodes a b c l (below k node m at child) = below k node (leads_thro
 
 pub leads_extend : (nodes nodes' : List Node) (a b : Ref) → Extends nodes nodes' → Leads nodes a b → Leads nodes' a b
 leads_extend nodes nodes' a b x (here e) = here e
-leads_extend nodes nodes' a b x (below k node m at child) = below k node (leads_extend nodes nodes' a (Place k) x m) (x.same k (slice_get_within nodes k node at) ∙ at) child
+leads_extend nodes nodes' a b x (below k node m at child) =
+    below k node (leads_extend nodes nodes' a (Place k) x m) (x.same k (slice_get_within nodes k node at) ∙ at) child
 
 pub extends_refl : (nodes : List Node) → Extends nodes nodes
 extends_refl nodes = record { longer = omega arith; same = λ k few. refl }
@@ -108,7 +115,8 @@ last_node nodes node = ap (slice_get (nodes ++ node ∷ [])) (sym (add-zero (len
 
 -- ---- the next copy
 
-module _ (order ws numbers : List ℕ) (nodes : List Node) (c : AreCopied order ws numbers nodes) (p : ℕ) (blank_p : get_or numbers p 0 ≡ 0) (inside : p < length numbers) (full : get_or ws p 0 ≢ 0)
+module _ (order ws numbers : List ℕ) (nodes : List Node) (c : AreCopied order ws numbers nodes) (p : ℕ) (blank_p : get_or numbers p 0 ≡ 0)
+    (inside : p < length numbers) (full : get_or ws p 0 ≢ 0)
     (known_low : IsKnown numbers (low_of (get_or ws p 0))) (known_high : IsKnown numbers (high_of (get_or ws p 0))) where
   abbrev m : ℕ
   m = length nodes + 1
@@ -135,21 +143,31 @@ module _ (order ws numbers : List ℕ) (nodes : List Node) (c : AreCopied order 
   long = length-append nodes (node ∷ [])
 
   node_same : (w : ℕ) → IsKnown numbers (low_of w) → IsKnown numbers (high_of w) → node_of order numbers' w ≡ node_of order numbers w
-  node_same w kl ku i = record { variable = get_or order (level_of w) 0; low = ref_grows numbers numbers' (low_of w) numbers_grow kl i; high = ref_grows numbers numbers' (high_of w) numbers_grow ku i }
+  node_same w kl ku i =
+      record {
+        variable =
+            get_or order (level_of w) 0;
+        low =
+            ref_grows numbers numbers' (low_of w) numbers_grow kl i;
+        high = ref_grows numbers numbers' (high_of w) numbers_grow ku i;
+      }
 
   -- an id with a number is earlier than the new copy
   earlier_p : (id : ℕ) → IsKnown numbers id → IsEarlier numbers' p id
-  earlier_p id known two = let some = known two in let same = numbers_grow (id - 2) some in let s = c.small (id - 2) in let e = at_p in ((λ z. some (sym same ∙ z)), omega arith)
+  earlier_p id known two = let some = known two in let same = numbers_grow (id - 2) some in let s = c.small (id - 2) in let e = at_p in
+      ((λ z. some (sym same ∙ z)), omega arith)
 
   earlier_q : (q id : ℕ) → get_or numbers q 0 ≢ 0 → IsEarlier numbers q id → IsEarlier numbers' q id
-  earlier_q q id some e two = let f = e two in let less = f.1 in let same = numbers_grow (id - 2) f.0 in let same' = numbers_grow q some in ((λ z. f.0 (sym same ∙ z)), omega arith)
+  earlier_q q id some e two = let f = e two in let less = f.1 in let same = numbers_grow (id - 2) f.0 in let same' = numbers_grow q some in
+      ((λ z. f.0 (sym same ∙ z)), omega arith)
 
   copied_p : IsCopied order ws numbers' nodes' p
   copied_p = record {
     full = full;
     low = earlier_p (low_of (get_or ws p 0)) known_low;
     high = earlier_p (high_of (get_or ws p 0)) known_high;
-    node = let e : get_or numbers' p 0 - 1 ≡ length nodes = (let f = at_p in omega arith) in ap (slice_get nodes') e ∙ (last_node nodes node ∙ ap Some (sym (node_same (get_or ws p 0) known_low known_high)));
+    node = let e : get_or numbers' p 0 - 1 ≡ length nodes = (let f = at_p in omega arith) in
+        ap (slice_get nodes') e ∙ (last_node nodes node ∙ ap Some (sym (node_same (get_or ws p 0) known_low known_high)));
   }
 
   copied_q : (q : ℕ) → get_or numbers q 0 ≢ 0 → IsCopied order ws numbers' nodes' q
@@ -157,27 +175,35 @@ module _ (order ws numbers : List ℕ) (nodes : List Node) (c : AreCopied order 
     full = o.full;
     low = earlier_q q (low_of (get_or ws q 0)) some o.low;
     high = earlier_q q (high_of (get_or ws q 0)) some o.high;
-    node = ap (λ (z : ℕ). slice_get nodes' (z - 1)) same ∙ (get_left nodes (node ∷ []) (get_or numbers q 0 - 1) (slice_get_within nodes (get_or numbers q 0 - 1) (node_of order numbers (get_or ws q 0)) o.node)
+    node = ap (λ (z : ℕ). slice_get nodes' (z - 1)) same
+        ∙ (get_left nodes (node ∷ []) (get_or numbers q 0 - 1)
+        (slice_get_within nodes (get_or numbers q 0 - 1) (node_of order numbers (get_or ws q 0)) o.node)
         ∙ (o.node ∙ ap Some (sym (node_same (get_or ws q 0) (λ two. (o.low two).0) (λ two. (o.high two).0)))));
   }
 
   pub copied_more : AreCopied order ws numbers' nodes'
   copied_more = record {
     size = length-set numbers p m ∙ c.size;
-    copied = λ q some. dite (ℕ_discrete q p) (λ same. subst (IsCopied order ws numbers' nodes') (sym same) copied_p) (λ ne. copied_q q (λ e. some (at_other q ne ∙ e)));
+    copied = λ q some. dite (ℕ_discrete q p) (λ same. subst (IsCopied order ws numbers' nodes') (sym same) copied_p)
+        (λ ne. copied_q q (λ e. some (at_other q ne ∙ e)));
     placed = λ k few. ⊎_elim
-        (λ (less : k < length nodes). let old = c.placed k less in (old.0, at_other old.0 (λ e. no_number k (sym old.1 ∙ (ap (λ (z : ℕ). get_or numbers z 0) e ∙ blank_p))) ∙ old.1))
+        (λ (less : k < length nodes). let old = c.placed k less in
+        (old.0, at_other old.0 (λ e. no_number k (sym old.1 ∙ (ap (λ (z : ℕ). get_or numbers z 0) e ∙ blank_p))) ∙ old.1))
         (λ (last : length nodes ≤ k). (p, at_p ∙ (let l = long in omega arith)))
         (less_or_last k (length nodes));
-    small = λ q. dite (ℕ_discrete q p) (λ same. let l = long in let e : get_or numbers' q 0 ≡ m = ap (λ (z : ℕ). get_or numbers' z 0) same ∙ at_p in omega arith)
+    small = λ q. dite (ℕ_discrete q p)
+        (λ same. let l = long in let e : get_or numbers' q 0 ≡ m = ap (λ (z : ℕ). get_or numbers' z 0) same ∙ at_p in omega arith)
         (λ ne. let s = c.small q in let l = long in let e = at_other q ne in omega arith);
     unequal = λ q r some same. dite (ℕ_discrete q p)
         (λ eq. dite (ℕ_discrete r p) (λ er. eq ∙ sym er)
-        (λ nr. let s = c.small r in let e : get_or numbers' q 0 ≡ m = ap (λ (z : ℕ). get_or numbers' z 0) eq ∙ at_p in let f = at_other r nr in absurd (omega arith)))
+        (λ nr. let s = c.small r in let e : get_or numbers' q 0 ≡ m = ap (λ (z : ℕ). get_or numbers' z 0) eq ∙ at_p in
+        let f = at_other r nr in absurd (omega arith)))
         (λ nq. dite (ℕ_discrete r p)
-        (λ er. let s = c.small q in let e : get_or numbers' r 0 ≡ m = ap (λ (z : ℕ). get_or numbers' z 0) er ∙ at_p in let f = at_other q nq in absurd (omega arith))
+        (λ er. let s = c.small q in let e : get_or numbers' r 0 ≡ m = ap (λ (z : ℕ). get_or numbers' z 0) er ∙ at_p in
+        let f = at_other q nq in absurd (omega arith))
         (λ nr. c.unequal q r (λ e. some (at_other q nq ∙ e)) (sym (at_other q nq) ∙ (same ∙ at_other r nr))));
-    count = let e = c.count in let l = long in let b = blanks_set numbers p m inside blank_p (λ z. omega arith) in let s = length-set numbers p m in omega arith;
+    count = let e = c.count in let l = long in let b = blanks_set numbers p m inside blank_p (λ z. omega arith) in
+        let s = length-set numbers p m in omega arith;
   }
     where
       no_number : (k : ℕ) → k + 1 ≡ 0 → ⊥
@@ -189,7 +215,8 @@ module _ (order ws numbers : List ℕ) (nodes : List Node) (c : AreCopied order 
 -- ---- what copying does
 
 -- an id that has a copy
-pub copies_known : (order ws numbers : List ℕ) (nodes : List Node) (id : ℕ) → AreCopied order ws numbers nodes → IsKnown numbers id → Copies order ws numbers nodes numbers nodes id (ref_of numbers id)
+pub copies_known : (order ws numbers : List ℕ) (nodes : List Node) (id : ℕ) → AreCopied order ws numbers nodes → IsKnown numbers id →
+    Copies order ws numbers nodes numbers nodes id (ref_of numbers id)
 copies_known order ws numbers nodes id c known = record {
   copied = c;
   known = known;
@@ -201,7 +228,8 @@ copies_known order ws numbers nodes id c known = record {
 }
 
 -- a node, after its children
-module _ (order ws n0 n1 n2 : List ℕ) (d0 d1 d2 : List Node) (p : ℕ) (r1 r2 : Ref) (are : AreNodes (length order) ws) (blank_p : get_or n0 p 0 ≡ 0) (inside : p < length ws) (full : get_or ws p 0 ≢ 0)
+module _ (order ws n0 n1 n2 : List ℕ) (d0 d1 d2 : List Node) (p : ℕ) (r1 r2 : Ref) (are : AreNodes (length order) ws)
+    (blank_p : get_or n0 p 0 ≡ 0) (inside : p < length ws) (full : get_or ws p 0 ≢ 0)
     (c1 : Copies order ws n0 d0 n1 d1 (low_of (get_or ws p 0)) r1) (c2 : Copies order ws n1 d1 n2 d2 (high_of (get_or ws p 0)) r2) where
   abbrev w : ℕ
   w = get_or ws p 0
@@ -234,7 +262,8 @@ module _ (order ws n0 n1 n2 : List ℕ) (d0 d1 d2 : List Node) (p : ℕ) (r1 r2 
   size2 = let e = c2.copied.size in omega arith
 
   copied3 : AreCopied order ws n3 d3
-  copied3 = subst (λ (z : Node). AreCopied order ws n3 (d2 ++ z ∷ [])) same_made (copied_more order ws n2 d2 c2.copied p still_blank size2 full known_low c2.known)
+  copied3 = subst (λ (z : Node). AreCopied order ws n3 (d2 ++ z ∷ [])) same_made
+      (copied_more order ws n2 d2 c2.copied p still_blank size2 full known_low c2.known)
 
   grow3 : Grows n2 n3
   grow3 = numbers_grow order ws n2 d2 c2.copied p still_blank size2 full known_low c2.known
@@ -252,7 +281,8 @@ module _ (order ws n0 n1 n2 : List ℕ) (d0 d1 d2 : List Node) (p : ℕ) (r1 r2 
   copies_node = record {
     copied = copied3;
     known = λ two e. (let f = ap (λ (z : ℕ). get_or n3 z 0) (sym back) ∙ e in let g = number_p in omega arith);
-    ref = sym (ref_place n3 (p + 2) (omega arith) ∙ (λ i. Place (get_or n3 (back i) 0 - 1)) ∙ ap (λ (z : ℕ). Place (z - 1)) number_p ∙ ap Place (let x : length d2 + 1 - 1 ≡ length d2 = omega arith in x));
+    ref = sym (ref_place n3 (p + 2) (omega arith) ∙ (λ i. Place (get_or n3 (back i) 0 - 1)) ∙ ap (λ (z : ℕ). Place (z - 1)) number_p
+        ∙ ap Place (let x : length d2 + 1 - 1 ≡ length d2 = omega arith in x));
     grows = grows_trans n0 n1 n3 c1.grows (grows_trans n1 n2 n3 c2.grows grow3);
     extends = extends_trans d0 d1 d3 c1.extends (extends_trans d1 d2 d3 c2.extends (extends_push d2 made));
     untouched = λ q above.
@@ -261,7 +291,8 @@ module _ (order ws n0 n1 n2 : List ℕ) (d0 d1 d2 : List Node) (p : ℕ) (r1 r2 
         get_or-set_other n2 p q (length d2 + 1) 0 ne ∙ (c2.untouched q (omega arith) ∙ c1.untouched q (omega arith));
     leads = λ k past few. ⊎_elim
         (λ (old : k < length d2). ⊎_elim
-        (λ (second : length d1 ≤ k). leads_through d3 (Place (length d2)) r2 (Place k) (below (length d2) made (here refl) last (inr refl)) (leads_extend d2 d3 r2 (Place k) (extends_push d2 made) (c2.leads k second old)))
+        (λ (second : length d1 ≤ k). leads_through d3 (Place (length d2)) r2 (Place k) (below (length d2) made (here refl) last (inr refl))
+        (leads_extend d2 d3 r2 (Place k) (extends_push d2 made) (c2.leads k second old)))
         (λ (first : k < length d1). leads_through d3 (Place (length d2)) r1 (Place k) (below (length d2) made (here refl) last (inl refl))
         (leads_extend d1 d3 r1 (Place k) (extends_trans d1 d2 d3 c2.extends (extends_push d2 made)) (c1.leads k past first)))
         (le_or_lt (length d1) k))
@@ -279,10 +310,14 @@ inside_of : (ws : List ℕ) (p : ℕ) → get_or ws p 0 ≢ 0 → p < length ws
 inside_of ws p full = ⊎_elim (λ (past : length ws ≤ p). absurd (full (get_or_past ws p 0 past))) (λ (few : p < length ws). few) (le_or_lt (length ws) p)
 
 -- the same, as the code makes it
-pub copies_step : (order ws n0 n1 n2 n3 : List ℕ) (d0 d1 d2 d3 : List Node) (id word level low high number : ℕ) (r1 r2 r : Ref) → AreNodes (length order) ws → 2 ≤ id → number ≡ get_or n0 (id - 2) number → number ≡ 0 → IsKnown ws id
-    → length n0 ≡ length ws → word ≡ get_or ws (id - 2) 0 → level ≡ level_of word → low ≡ low_of word → high ≡ high_of word → Copies order ws n0 d0 n1 d1 low r1 → Copies order ws n1 d1 n2 d2 high r2
-    → n3 ≡ set n2 (id - 2) (length d2 + 1) → d3 ≡ d2 ++ (record { variable = get_or order level 0; low = r1; high = r2 }) ∷ [] → r ≡ Place (length d2) → Copies order ws n0 d0 n3 d3 id r
-copies_step order ws n0 n1 n2 n3 d0 d1 d2 d3 id word level low high number r1 r2 r are two number_is blank known size word_is level_is low_is high_is c1 c2 n3_is d3_is r_is =
+pub copies_step : (order ws n0 n1 n2 n3 : List ℕ) (d0 d1 d2 d3 : List Node) (id word level low high number : ℕ) (r1 r2 r : Ref) →
+    AreNodes (length order) ws → 2 ≤ id → number ≡ get_or n0 (id - 2) number → number ≡ 0 → IsKnown ws id
+    → length n0 ≡ length ws → word ≡ get_or ws (id - 2) 0 → level ≡ level_of word → low ≡ low_of word → high ≡ high_of word →
+    Copies order ws n0 d0 n1 d1 low r1 → Copies order ws n1 d1 n2 d2 high r2
+    → n3 ≡ set n2 (id - 2) (length d2 + 1) → d3 ≡ d2 ++ (record { variable = get_or order level 0; low = r1; high = r2 }) ∷ [] →
+    r ≡ Place (length d2) → Copies order ws n0 d0 n3 d3 id r
+copies_step order ws n0 n1 n2 n3 d0 d1 d2 d3 id word level low high number r1 r2 r are two number_is blank known size word_is level_is
+    low_is high_is c1 c2 n3_is d3_is r_is =
     let p : ℕ = id - 2 in let w : ℕ = get_or ws p 0 in let inside : p < length ws = inside_of ws p (known two) in
     let blank_p : get_or n0 p 0 ≡ 0 = sym (get_or_read n0 p number (omega arith) number_is 0) ∙ blank in
     let c1' : Copies order ws n0 d0 n1 d1 (low_of w) r1 = subst (λ (z : ℕ). Copies order ws n0 d0 n1 d1 z r1) (low_is ∙ ap low_of word_is) c1 in
@@ -290,7 +325,9 @@ copies_step order ws n0 n1 n2 n3 d0 d1 d2 d3 id word level low high number r1 r2
     let whole = copies_node order ws n0 n1 n2 d0 d1 d2 p r1 r2 are blank_p inside (known two) c1' c2' in
     let back : p + 2 ≡ id = omega arith in
     let level_is' : level_of w ≡ level = ap level_of (sym word_is) ∙ sym level_is in
-    let d3_is' : d2 ++ (record { variable = get_or order (level_of w) 0; low = r1; high = r2 }) ∷ [] ≡ d3 = (λ i. d2 ++ (record { variable = get_or order (level_is' i) 0; low = r1; high = r2 }) ∷ []) ∙ sym d3_is in
+    let d3_is' : d2 ++ (record { variable = get_or order (level_of w) 0; low = r1; high = r2 }) ∷ [] ≡ d3 =
+    (λ i. d2 ++ (record { variable = get_or order (level_is' i) 0; low = r1; high = r2 }) ∷ [])
+    ∙ sym d3_is in
     subst (λ (z : List ℕ × List Node × ℕ × Ref). Copies order ws n0 d0 z.0 z.1 z.2 z.3) (λ i. (sym n3_is i, d3_is' i, back i, sym r_is i)) whole
 
 no_number : (n p z : ℕ) → get_or (replicate n z) p z ≡ z

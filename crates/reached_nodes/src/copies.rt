@@ -30,7 +30,8 @@ fn add(
     requires place { place < vec_len numbers.old }
     requires room { vec_len nodes.old < 2 ^ 20 }
     ensures size { vec_len numbers.new ≡ vec_len numbers.old }
-    ensures numbers { OnOk result (numbers.new.items ≡ slice_set numbers.old.items place (length nodes.old.items + 1)) }
+    ensures numbers { OnOk result
+        (numbers.new.items ≡ slice_set numbers.old.items place (length nodes.old.items + 1)) }
     ensures nodes { OnOk result (nodes.new.items ≡ nodes.old.items ++ node ∷ []) }
     ensures made { IfOk result (λ r. r ≡ Ref.Place (length nodes.old.items)) }
 {
@@ -50,13 +51,17 @@ pub(crate) fn copy(
     id: u32,
 ) -> Result<Ref, AllocError>
     requires full { IsFull closed.now.words }
-    requires places { (places ≤ slots_len closed.now.words) × (vec_len numbers.old ≡ places) × (places < 2 ^ 20) }
+    requires places { (places ≤ slots_len closed.now.words) × (vec_len numbers.old ≡ places)
+        × (places < 2 ^ 20) }
     requires levels { length order.now ≤ 16 }
     requires nodes { AreNodes (length order.now) (words_in closed.now places) }
     requires known { IsKnown (words_in closed.now places) id }
-    requires copied { AreCopied order.now (words_in closed.now places) numbers.old.items nodes.old.items }
+    requires copied { AreCopied order.now (words_in closed.now places) numbers.old.items
+        nodes.old.items }
     ensures size { vec_len numbers.new ≡ places }
-    ensures copies { IfOk result (λ r. Copies order.now (words_in closed.now places) numbers.old.items nodes.old.items numbers.new.items nodes.new.items id r) }
+    ensures copies { IfOk result
+        (λ r. Copies order.now (words_in closed.now places) numbers.old.items nodes.old.items
+        numbers.new.items nodes.new.items id r) }
 {
     if id < 2 {
         return Ok(Ref::Terminal(id == 1));

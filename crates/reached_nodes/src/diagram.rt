@@ -34,7 +34,10 @@ pub fn reached_nodes(
     requires nodes { AreNodes (length order.now) (words_in closed.now places) }
     requires unequal { AreUnequal (words_in closed.now places) }
     requires known { All (IsKnown (words_in closed.now places)) ids.now }
-    ensures { IfOk result (λ r. IsReducedOf (length order.now) (map (function_of order.now (words_in closed.now places)) ids.now) order.now r.nodes.items r.roots.items) }
+    ensures { IfOk result
+        (λ r. IsReducedOf (length order.now)
+        (map (function_of order.now (words_in closed.now places)) ids.now) order.now
+        r.nodes.items r.roots.items) }
 {
     let mut numbers = vec![in alloc; 0u32; places]?;
     let mut nodes = Vec::new(alloc);

@@ -21,7 +21,8 @@ use Rattle.report.specs.Texts.{functions_of}
 use Rattle.report.proofs.Leveled.{tables_keep}
 use Rattle.report.proofs.SameAnswers.{first_same}
 
-pub parts_same : (n : ℕ) (F : List Function) (P : List Pair) (order : List ℕ) (inputs outputs : ℕ) (o levels : List ℕ) (total : ℕ) (pairs : List Pair) (cells : List ListedCell)
+pub parts_same : (n : ℕ) (F : List Function) (P : List Pair) (order : List ℕ) (inputs outputs : ℕ) (o levels : List ℕ) (total : ℕ)
+    (pairs : List Pair) (cells : List ListedCell)
     → inputs ≡ n → outputs ≡ length F → o ≡ order → levels ≡ level_counts n F order → total ≡ size_under n F order → pairs ≡ P → sorted_pairs n P ≡ P
     → map listed cells ≡ (certificate_of n F P order).cells → value_of 2 inputs outputs o levels total pairs cells ≡ certificate_of n F P order
 unfolding certificate_of
@@ -36,7 +37,8 @@ parts_same n F P order inputs outputs o levels total pairs cells a b c d e f g h
   cells = h i;
 }
 
-pub certified : (cover : NamedCover) (t : TruthTables) (P : List Pair) (order text : List ℕ) → AreTablesOf cover t → IsFirstKeeping t.inputs (functions t) P order
+pub certified : (cover : NamedCover) (t : TruthTables) (P : List Pair) (order text : List ℕ) → AreTablesOf cover t →
+    IsFirstKeeping t.inputs (functions t) P order
     → Spells text (certificate_of t.inputs (functions t) P order) → IsCertificate cover P text
 unfolding certificate_of
 certified cover t P order text h first spells =
@@ -47,11 +49,13 @@ certified cover t P order text h first spells =
       spells = subst (Spells text) same (subst (λ k. Spells text (certificate_of k (functions t) P order)) h.inputs spells);
     }
 
-pub some_certified : (cover : NamedCover) (P : List Pair) (asked : Bool) (given : Option (String Global)) (text : String Global) → asked ≡ true → given ≡ Some text → IsCertificate cover P (string_bytes text) → IsCertified cover P asked given
+pub some_certified : (cover : NamedCover) (P : List Pair) (asked : Bool) (given : Option (String Global)) (text : String Global) →
+    asked ≡ true → given ≡ Some text → IsCertificate cover P (string_bytes text) → IsCertified cover P asked given
 some_certified cover P false given text e is has = absurd (cc)
 some_certified cover P true None text e is has = absurd (cc)
 some_certified cover P true (Some other) text e is has = subst (λ k. IsCertified cover P true k) (sym is) has
 
-pub not_certified : (cover : NamedCover) (P : List Pair) (asked : Bool) (given : Option (String Global)) → asked ≡ false → given ≡ None → IsCertified cover P asked given
+pub not_certified : (cover : NamedCover) (P : List Pair) (asked : Bool) (given : Option (String Global)) → asked ≡ false → given ≡ None →
+    IsCertified cover P asked given
 not_certified cover P true given e is = absurd (cc)
 not_certified cover P false given e is = is

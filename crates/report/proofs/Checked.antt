@@ -15,15 +15,21 @@ use Rattle.report.specs.Texts.{functions_of}
 use Rattle.report.proofs.Leveled.{tables_keep}
 use Rattle.report.proofs.Optima.{true_certificate}
 
-pub good_for : (cover : NamedCover) (t : TruthTables) (cert : Certificate) → AreTablesOf cover t → IsGood t.inputs (functions t) cert → IsGood cover.inputs (functions_of cover) cert
-good_for cover t cert h good = good_same cover.inputs (functions t) (functions_of cover) (tables_keep cover t h) cert (subst (λ k. IsGood k (functions t) cert) h.inputs good)
+pub good_for : (cover : NamedCover) (t : TruthTables) (cert : Certificate) → AreTablesOf cover t → IsGood t.inputs (functions t) cert →
+    IsGood cover.inputs (functions_of cover) cert
+good_for cover t cert h good =
+    good_same cover.inputs (functions t) (functions_of cover) (tables_keep cover t h) cert
+    (subst (λ k. IsGood k (functions t) cert) h.inputs good)
 
-pub reason_for : (cover : NamedCover) (t : TruthTables) (cert : Certificate) (reason : Reason) → AreTablesOf cover t → IsFirstReason t.inputs (functions t) cert reason → IsFirstReason cover.inputs (functions_of cover) cert reason
+pub reason_for : (cover : NamedCover) (t : TruthTables) (cert : Certificate) (reason : Reason) → AreTablesOf cover t →
+    IsFirstReason t.inputs (functions t) cert reason → IsFirstReason cover.inputs (functions_of cover) cert reason
 reason_for cover t cert reason h first =
-    first_reason_same cover.inputs (functions t) (functions_of cover) (tables_keep cover t h) cert reason (subst (λ k. IsFirstReason k (functions t) cert reason) h.inputs first)
+    first_reason_same cover.inputs (functions t) (functions_of cover) (tables_keep cover t h) cert reason
+    (subst (λ k. IsFirstReason k (functions t) cert reason) h.inputs first)
 
 -- an accepted certificate is true
-pub accepted : (cover : NamedCover) (cert : Certificate) (file text : List ℕ) (outcome : Outcome) (line : List ℕ) → Reads file cover → Spells text cert → HasVerdict cover cert outcome line → AcceptsTruly file text outcome
+pub accepted : (cover : NamedCover) (cert : Certificate) (file text : List ℕ) (outcome : Outcome) (line : List ℕ) → Reads file cover →
+    Spells text cert → HasVerdict cover cert outcome line → AcceptsTruly file text outcome
 accepted cover cert file text Done line reads spells verdict = record {
   cover = cover;
   the_files_cover = reads;

@@ -16,7 +16,8 @@ use Rattle.report.specs.Answers.{HasCertificate, IsCertificateOf}
 use Rattle.report.specs.Runs.{Certifies, Gets, GetsText, ReadsAsGood, longest, whole}
 use Rattle.report.specs.Texts.{functions_of}
 
-pub with_read : (known : Option (List ℕ)) (cover : NamedCover) (P : List ℕ → Type 0) → IfSome known (λ bytes. (length bytes ≤ longest) × Reads bytes cover) → ((bytes : List ℕ) → Reads bytes cover → P bytes) → IfSome known P
+pub with_read : (known : Option (List ℕ)) (cover : NamedCover) (P : List ℕ → Type 0) →
+    IfSome known (λ bytes. (length bytes ≤ longest) × Reads bytes cover) → ((bytes : List ℕ) → Reads bytes cover → P bytes) → IfSome known P
 with_read None cover P answer all = record {}
 with_read (Some bytes) cover P answer all = all bytes answer.1
 
@@ -28,8 +29,11 @@ pub err_of : {A E : Type 0} (r : Result A E) (P : Type 0) → is_err r ≡ true 
 err_of (Ok a) P e holds = absurd (cc)
 err_of (Err x) P e holds = holds
 
-pub certified_part : {C : Type 0} (contents : C → Option (List ℕ)) (count : Bool) (above : Option (Bor (List ℕ))) (cover : NamedCover) (asked : Bool) (text : Option (String Global)) (part : List ℕ → List ℕ) (before : Option C) (after : Option (Option (List ℕ))) →
-    HasCertificate count above cover asked text → asked ≡ is_some before → GetsText (option_map (λ t. part (string_bytes t)) text) (option_map contents before) after → Certifies count above cover part (option_map contents before) after
+pub certified_part : {C : Type 0} (contents : C → Option (List ℕ)) (count : Bool) (above : Option (Bor (List ℕ))) (cover : NamedCover)
+    (asked : Bool) (text : Option (String Global)) (part : List ℕ → List ℕ) (before : Option C) (after : Option (Option (List ℕ))) →
+    HasCertificate count above cover asked text → asked ≡ is_some before →
+    GetsText (option_map (λ t. part (string_bytes t)) text) (option_map contents before) after →
+    Certifies count above cover part (option_map contents before) after
 certified_part contents true above cover asked None part before after has is got = got
 certified_part contents true above cover asked (Some t) part before after has is got = absurd (cc)
 certified_part contents false above cover false None part None after has is got = got
@@ -48,12 +52,14 @@ reads_as_good above cover text (kept, pairs, is) = (
   λ other spells. one_form other is.cert spells.has is.spells.has (sym spells.text_is ∙ is.spells.text_is),
 )
 
-gets_good : (above : Option (Bor (List ℕ))) (cover : NamedCover) (before after : Option (Option (List ℕ))) → Gets (IsCertificateOf above cover) whole before after → Gets (ReadsAsGood cover) whole before after
+gets_good : (above : Option (Bor (List ℕ))) (cover : NamedCover) (before after : Option (Option (List ℕ))) →
+    Gets (IsCertificateOf above cover) whole before after → Gets (ReadsAsGood cover) whole before after
 gets_good above cover None after got = got
 gets_good above cover (Some b) None got = got
 gets_good above cover (Some b) (Some a) got = (got.0, reads_as_good above cover got.0 got.1, got.2)
 
-pub good_written : (count : Bool) (above : Option (Bor (List ℕ))) (cover : NamedCover) (before after : Option (Option (List ℕ))) → count ≡ false → Certifies count above cover whole before after → Gets (ReadsAsGood cover) whole before after
+pub good_written : (count : Bool) (above : Option (Bor (List ℕ))) (cover : NamedCover) (before after : Option (Option (List ℕ))) →
+    count ≡ false → Certifies count above cover whole before after → Gets (ReadsAsGood cover) whole before after
 good_written true above cover before after e got = absurd (cc)
 good_written false above cover before after e got = gets_good above cover before after got
 

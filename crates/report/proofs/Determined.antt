@@ -25,7 +25,8 @@ parsed_unique : (P : Option (List Pair)) (n : ℕ) (kept other : KeptPairs) → 
 parsed_unique None n kept other p q = absurd p
 parsed_unique (Some P) n kept other p q = p.2 ∙ sym q.2
 
-pairs_unique : (above later : Option (Bor (List ℕ))) (n : ℕ) (kept other : KeptPairs) → bytes_of above ≡ bytes_of later → PairsAre above n (Ok kept) → PairsAre later n (Ok other) → kept ≡ other
+pairs_unique : (above later : Option (Bor (List ℕ))) (n : ℕ) (kept other : KeptPairs) → bytes_of above ≡ bytes_of later →
+    PairsAre above n (Ok kept) → PairsAre later n (Ok other) → kept ≡ other
 pairs_unique None None n kept other e p q = p ∙ sym q
 pairs_unique None (Some t) n kept other e p q = absurd (cc)
 pairs_unique (Some s) None n kept other e p q = absurd (cc)
@@ -43,7 +44,8 @@ answer_unique cover P a b f g =
     let start = first_order_unique n P f.start g.start f.starts g.starts in
     f.is ∙ (λ i. report_text cover (best i) (sifted n F P (start i))) ∙ sym g.is
 
-text_by : (count : Bool) (above later : Option (Bor (List ℕ))) (cover : NamedCover) (a b : List ℕ) → bytes_of above ≡ bytes_of later → IsText count above cover a → IsText count later cover b → a ≡ b
+text_by : (count : Bool) (above later : Option (Bor (List ℕ))) (cover : NamedCover) (a b : List ℕ) → bytes_of above ≡ bytes_of later →
+    IsText count above cover a → IsText count later cover b → a ≡ b
 text_by true above later cover a b e p q = p ∙ sym q
 text_by false above later cover a b e (kept, pairs, is) (other, also, has) =
     let same = pairs_unique above later cover.inputs kept other e pairs also in
@@ -53,20 +55,23 @@ pub text_unique : (plan other : RunPlan) (cover : NamedCover) (a b : List ℕ) �
 text_unique plan other cover a b same p q =
     text_by plan.count plan.above other.above cover a b same.above p (subst (λ (count : Bool). IsText count other.above cover b) (sym same.count) q)
 
-certificate_by : (above later : Option (Bor (List ℕ))) (cover : NamedCover) (a b : List ℕ) → bytes_of above ≡ bytes_of later → IsCertificateOf above cover a → IsCertificateOf later cover b → a ≡ b
+certificate_by : (above later : Option (Bor (List ℕ))) (cover : NamedCover) (a b : List ℕ) → bytes_of above ≡ bytes_of later →
+    IsCertificateOf above cover a → IsCertificateOf later cover b → a ≡ b
 certificate_by above later cover a b e (kept, pairs, is) (other, also, has) =
     let same = pairs_unique above later cover.inputs kept other e pairs also in
     let has' = subst (λ (k : KeptPairs). IsCertificate cover k.pairs b) (sym same) has in
     let certs = cert_unique cover.inputs (functions_of cover) kept.pairs is.cert has'.cert is.is has'.is in
     is.spells.text_is ∙ ap spelling certs ∙ sym has'.spells.text_is
 
-pub certificate_unique : (plan other : RunPlan) (cover : NamedCover) (a b : List ℕ) → AskTheSame plan other → IsCertificateOf plan.above cover a → IsCertificateOf other.above cover b → a ≡ b
+pub certificate_unique : (plan other : RunPlan) (cover : NamedCover) (a b : List ℕ) → AskTheSame plan other →
+    IsCertificateOf plan.above cover a → IsCertificateOf other.above cover b → a ≡ b
 certificate_unique plan other cover a b same p q = certificate_by plan.above other.above cover a b same.above p q
 
 -- ---- the runs
 
 pub printed_unique : (plan other : RunPlan) (file before after later : List ℕ) (c d e f : Option (Option (List ℕ))) → AskTheSame plan other →
-    Delivers plan (Reads file) (held (Some before) c) (held (Some after) d) Done → Delivers other (Reads file) (held (Some before) e) (held (Some later) f) Done → after ≡ later
+    Delivers plan (Reads file) (held (Some before) c) (held (Some after) d) Done →
+    Delivers other (Reads file) (held (Some before) e) (held (Some later) f) Done → after ≡ later
 printed_unique plan other file before after later c d e f same (cover, text, reads, is, got, more) (cover', text', reads', is', got', more') =
     let covers = one_cover (said file) cover cover' reads reads' in
     let texts = text_unique plan other cover text text' same is (subst (λ (k : NamedCover). IsTextOf other k text') (sym covers) is') in
@@ -75,10 +80,12 @@ printed_unique plan other file before after later c d e f same (cover, text, rea
 certifies_unique : (count : Bool) (above later : Option (Bor (List ℕ))) (cover : NamedCover) (c a b : List ℕ) → bytes_of above ≡ bytes_of later →
     Certifies count above cover whole (Some (Some c)) (Some (Some a)) → Certifies count later cover whole (Some (Some c)) (Some (Some b)) → a ≡ b
 certifies_unique true above later cover c a b e p q = cc
-certifies_unique false above later cover c a b e (text, is, got) (text', is', got') = got ∙ ap (λ t. c ++ t) (certificate_by above later cover text text' e is is') ∙ sym got'
+certifies_unique false above later cover c a b e (text, is, got) (text', is', got') = got
+    ∙ ap (λ t. c ++ t) (certificate_by above later cover text text' e is is') ∙ sym got'
 
 pub certified_unique : (plan other : RunPlan) (file before after later : List ℕ) (c d e f : Option (List ℕ)) → AskTheSame plan other →
-    Delivers plan (Reads file) (held c (Some (Some before))) (held d (Some (Some after))) Done → Delivers other (Reads file) (held e (Some (Some before))) (held f (Some (Some later))) Done → after ≡ later
+    Delivers plan (Reads file) (held c (Some (Some before))) (held d (Some (Some after))) Done →
+    Delivers other (Reads file) (held e (Some (Some before))) (held f (Some (Some later))) Done → after ≡ later
 certified_unique plan other file before after later c d e f same (cover, text, reads, is, got, more) (cover', text', reads', is', got', more') =
     let covers = one_cover (said file) cover cover' reads reads' in
     certifies_unique plan.count plan.above other.above cover before after later same.above more

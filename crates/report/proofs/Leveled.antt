@@ -20,7 +20,8 @@ pub counts_read : (n : ℕ) (F : List Function) (order items : List ℕ) (d : Gr
     → ((i : ℕ) → i < length order → slice_index items i ≡ nodes_at d (slice_index order i)) → HasLevelCounts n F order d → items ≡ level_counts n F order
 unfolding level_counts
 counts_read n F order items d long read counts =
-    ext_get_or 0 items (map (level_count n F order) (range_with_len 0 (length order))) (long ∙ sym (length-map-range_with_len (level_count n F order) 0 (length order)))
+    ext_get_or 0 items (map (level_count n F order) (range_with_len 0 (length order)))
+    (long ∙ sym (length-map-range_with_len (level_count n F order) 0 (length order)))
     (λ i low. let within : i < length order = omega (arith, long) in
     read i within ∙ counts i within ∙ sym (get_or-map-range_with_len (level_count n F order) 0 (length order) i i 0 within (omega arith)))
 
@@ -36,7 +37,9 @@ one_length n m order a b = elim (cases_lt n m) [
 
 -- the functions of a cover's truth tables are those of the cover
 pub tables_keep : (cover : NamedCover) (t : TruthTables) → AreTablesOf cover t → AllSame cover.inputs (functions t) (functions_of cover)
-tables_keep cover t h = subst (λ ts. AllSame cover.inputs (map from_table ts) (functions_of cover)) (sym h.tables) (tables_same cover.inputs (functions_of cover))
+tables_keep cover t h =
+    subst (λ ts. AllSame cover.inputs (map from_table ts) (functions_of cover)) (sym h.tables)
+    (tables_same cover.inputs (functions_of cover))
 
 -- a cover has as many functions as outputs
 pub functions_long : (cover : NamedCover) → length (functions_of cover) ≡ cover.outputs
@@ -44,5 +47,6 @@ unfolding product_functions
 functions_long cover = length-map-range_with_len _ 0 cover.outputs
 
 -- what a problem of a cover's truth tables is
-pub tables_value : (cover : NamedCover) (t : TruthTables) → AreTablesOf cover t → t ≡ record { inputs = cover.inputs; tables = map (table cover.inputs) (functions_of cover) }
+pub tables_value : (cover : NamedCover) (t : TruthTables) → AreTablesOf cover t →
+    t ≡ record { inputs = cover.inputs; tables = map (table cover.inputs) (functions_of cover) }
 tables_value cover t h = λ i. record { inputs = h.inputs i; tables = h.tables i }

@@ -45,7 +45,8 @@ fewest_from n F P order nodes o =
       );
     }
 
-pub printed : (file : List ℕ) (cover : NamedCover) (count : Bool) (above : Option (Bor (List ℕ))) (text : List ℕ) → count ≡ false → Reads file cover → IsText count above cover text → IsPrintedOptimum file above text
+pub printed : (file : List ℕ) (cover : NamedCover) (count : Bool) (above : Option (Bor (List ℕ))) (text : List ℕ) → count ≡ false →
+    Reads file cover → IsText count above cover text → IsPrintedOptimum file above text
 unfolding size_under
 printed file cover true above text e reads is = absurd (cc)
 printed file cover false above text e reads (kept, pairs, answer) = record {
@@ -58,14 +59,16 @@ printed file cover false above text e reads (kept, pairs, answer) = record {
   both_are_printed = record {
     levels = levels_under cover answer.best;
     their_sum = refl;
-    rest = sizes_lines (sifted cover.inputs (functions_of cover) kept.pairs answer.start) (nodes_under cover (sifted cover.inputs (functions_of cover) kept.pairs answer.start)) (nodes_under cover (variables cover.inputs));
+    rest = sizes_lines (sifted cover.inputs (functions_of cover) kept.pairs answer.start)
+        (nodes_under cover (sifted cover.inputs (functions_of cover) kept.pairs answer.start)) (nodes_under cover (variables cover.inputs));
     text_is = answer.is;
   };
   none_has_fewer = optimum_of cover.inputs (functions_of cover) kept.pairs answer.best answer.first.fewest;
   the_first = λ other o. answer.first.first other (fewest_from cover.inputs (functions_of cover) kept.pairs other (nodes_under cover answer.best) o);
 }
 
-pub true_certificate : (cover : NamedCover) (cert : Certificate) → IsGood cover.inputs (functions_of cover) cert → IsOptimum cover.inputs (functions_of cover) cert.pairs cert.order cert.total
+pub true_certificate : (cover : NamedCover) (cert : Certificate) → IsGood cover.inputs (functions_of cover) cert →
+    IsOptimum cover.inputs (functions_of cover) cert.pairs cert.order cert.total
 true_certificate cover cert good =
     let order = good_order cover.inputs (functions_of cover) cert good in
     let exact = exact_diagram cover.inputs (functions_of cover) cert.order order.0 in record {

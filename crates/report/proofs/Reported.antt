@@ -14,7 +14,8 @@ use Rattle.report.specs.Texts.{counts_lines, file_order_levels, functions_of, no
 use Rattle.report.proofs.Leveled.{tables_keep}
 use Rattle.report.proofs.SameAnswers.{first_same, sifted_same}
 
-pub reported : (cover : NamedCover) (t : TruthTables) (P : List Pair) (text : List ℕ) (names : List (List ℕ)) (best best' levels start other other' file : List ℕ) (size total : ℕ)
+pub reported : (cover : NamedCover) (t : TruthTables) (P : List Pair) (text : List ℕ) (names : List (List ℕ))
+    (best best' levels start other other' file : List ℕ) (size total : ℕ)
     → AreTablesOf cover t
     → IsFirstKeeping t.inputs (functions t) P best → IsFirstOrder cover.inputs P start
     → text ≡ order_lines names best' ++ counts_lines levels ++ sizes_lines other' size total
@@ -23,7 +24,8 @@ pub reported : (cover : NamedCover) (t : TruthTables) (P : List Pair) (text : Li
     → total ≡ sum file → file ≡ file_order_levels cover
     → IsAnswer cover P text
 unfolding size_under
-reported cover t P text names best best' levels start other other' file size total h first starts is named best_is levels_are other_is sifted_is size_is total_is file_is =
+reported cover t P text names best best' levels start other other' file size total h first starts is named best_is levels_are other_is
+    sifted_is size_is total_is file_is =
     let n = cover.inputs in
     let F = functions_of cover in
     let same = tables_keep cover t h in

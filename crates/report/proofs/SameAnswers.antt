@@ -11,7 +11,8 @@ use Rattle.order_model.specs.Diagrams.{Graph, IsOf, Represents, FewestKeeping, H
 use Rattle.order_model.specs.Sifting.{best, count_at, insert_by_count, placements, sifted, sifting_order, smallest_of, smallest_order}
 use Rattle.order_model.proofs.Functions.Same.{AllSame, turned, level_count_same, size_same}
 
-of_same : (n : ℕ) (d : Graph) (rs : List Ref) (F G : List Function) → AllSame n F G → AllZip (λ r f. SameFunction n (value d.nodes r) f) rs F → AllZip (λ r f. SameFunction n (value d.nodes r) f) rs G
+of_same : (n : ℕ) (d : Graph) (rs : List Ref) (F G : List Function) → AllSame n F G →
+    AllZip (λ r f. SameFunction n (value d.nodes r) f) rs F → AllZip (λ r f. SameFunction n (value d.nodes r) f) rs G
 unfolding SameFunction
 of_same n d [] [] [] s a = tt
 of_same n d [] [] (g ∷ gs) s a = absurd s

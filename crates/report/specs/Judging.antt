@@ -67,20 +67,26 @@ SpellsWithin text cert = (length text ≤ most_bytes) × Spells text cert
 abbrev pub Judge : List ℕ → List ℕ → Outcome → List ℕ → Type 0
 Judge file text (Refused (Line line fault)) written = (length file ≤ longest) × FirstFault file line fault × (written ≡ [])
 Judge file text (Refused TooLong) written = (longest < length file) × (written ≡ [])
-Judge file text (Refused (CertificateLine line fault)) written = ((cover : NamedCover) × ReadsWithin file cover) × (length text ≤ most_bytes) × CertificateFault text line fault × (written ≡ [])
+Judge file text (Refused (CertificateLine line fault)) written =
+    ((cover : NamedCover) × ReadsWithin file cover) × (length text ≤ most_bytes) × CertificateFault text line fault × (written ≡ [])
 Judge file text (Refused CertificateTooLong) written = ((cover : NamedCover) × ReadsWithin file cover) × (most_bytes < length text) × (written ≡ [])
 Judge file text (Refused fault) written = ⊥
-Judge file text outcome written = (cover : NamedCover) × (cert : Certificate) × ReadsWithin file cover × SpellsWithin text cert × HasVerdict cover cert outcome written
+Judge file text outcome written =
+    (cover : NamedCover) × (cert : Certificate) × ReadsWithin file cover × SpellsWithin text cert × HasVerdict cover cert outcome written
 
 -- what a check writes: what the bytes lead to; nothing if it is out of memory; a beginning of the line after a failed call
 abbrev pub ChecksAs : List ℕ → List ℕ → Option (List ℕ) → Option (List ℕ) → Outcome → Type 0
 ChecksAs file text before after (Refused OutOfMemory) = after ≡ before
-ChecksAs file text before after (Refused Device) = (after ≡ before) ⊎ ((outcome : Outcome) × (line : List ℕ) × (n : ℕ) × Judge file text outcome line × Appends before after (take n line))
+ChecksAs file text before after (Refused Device) =
+    (after ≡ before) ⊎ ((outcome : Outcome) × (line : List ℕ) × (n : ℕ) × Judge file text outcome line × Appends before after (take n line))
 ChecksAs file text before after outcome = (line : List ℕ) × Judge file text outcome line × Appends before after line
 
 -- whatever is known of the files: a line is that of a verdict on some certificate for some cover, whole or after a failed write a beginning of it
 abbrev pub Verdicts : Option (List ℕ) → Option (List ℕ) → Outcome → Type 0
-Verdicts before after (Refused Device) = (after ≡ before) ⊎ ((cover : NamedCover) × (cert : Certificate) × (outcome : Outcome) × (line : List ℕ) × (n : ℕ) × HasVerdict cover cert outcome line × Appends before after (take n line))
+Verdicts before after (Refused Device) =
+    (after ≡ before) ⊎
+    ((cover : NamedCover) × (cert : Certificate) × (outcome : Outcome) × (line : List ℕ) × (n : ℕ) × HasVerdict cover cert outcome line
+    × Appends before after (take n line))
 Verdicts before after (Refused StoreFull) = ⊥
 Verdicts before after (Refused (Pairs fault)) = ⊥
 Verdicts before after (Refused fault) = after ≡ before

@@ -72,7 +72,8 @@ Tells plan file (Refused fault) = (length file ≤ longest) × (cover : NamedCov
 abbrev pub LeavesPart : RunPlan → NamedCover → Held → Held → Type 0
 LeavesPart plan cover before after =
     ((after.out ≡ before.out) × (n : ℕ) × Certifies plan.count plan.above cover (take n) before.cert after.cert)
-    ⊎ (Certifies plan.count plan.above cover whole before.cert after.cert × (text : List ℕ) × (n : ℕ) × IsTextOf plan cover text × Appends before.out after.out (take n text))
+    ⊎ (Certifies plan.count plan.above cover whole before.cert after.cert × (text : List ℕ) × (n : ℕ) × IsTextOf plan cover text
+    × Appends before.out after.out (take n text))
 
 -- what the writers get, by what is known of the cover: all texts, or after a failed write a part of them, or else nothing
 abbrev pub Delivers : RunPlan → (NamedCover → Type 0) → Held → Held → Outcome → Type 0
@@ -86,7 +87,9 @@ Delivers plan IsRead before after (Refused fault) = after ≡ before
 
 -- a text that is read as a certificate, and as no other, and it is good
 abbrev pub ReadsAsGood : NamedCover → List ℕ → Type 0
-ReadsAsGood cover text = (cert : Certificate) × Spells text cert × IsGood cover.inputs (functions_of cover) cert × ((other : Certificate) → Spells text other → other ≡ cert)
+ReadsAsGood cover text =
+    (cert : Certificate) × Spells text cert × IsGood cover.inputs (functions_of cover) cert
+    × ((other : Certificate) → Spells text other → other ≡ cert)
 
 -- if a run without count is done, what the certificate's writer got reads as a good certificate of the file's functions
 abbrev pub WritesGood : RunPlan → List ℕ → Option (Option (List ℕ)) → Option (Option (List ℕ)) → Outcome → Type 0
@@ -102,12 +105,17 @@ pub record IsPlanOf (words : List (List ℕ)) (plan : RunPlan) : Type 0 where
 
 -- what a program writes to its output that ends with status 0: help, if clap answers the words with it, else the text of some cover
 abbrev pub EndsWell : List (List ℕ) → Option (List ℕ) → Option (List ℕ) → Type 0
-EndsWell words before after = AsksForHelp minorder words ⊎ ((plan : RunPlan) × IsPlanOf words plan × (cover : NamedCover) × (text : List ℕ) × IsCover cover × IsTextOf plan cover text × Appends before after text)
+EndsWell words before after =
+    AsksForHelp minorder words ⊎
+    ((plan : RunPlan) × IsPlanOf words plan × (cover : NamedCover) × (text : List ℕ) × IsCover cover × IsTextOf plan cover text
+    × Appends before after text)
 
 -- the same of the report alone
 abbrev pub DeliversReport : RunPlan → (NamedCover → Type 0) → Option (List ℕ) → Option (List ℕ) → Outcome → Type 0
 DeliversReport plan IsRead before after Done = (cover : NamedCover) × (text : List ℕ) × IsRead cover × IsTextOf plan cover text × Appends before after text
-DeliversReport plan IsRead before after (Refused Device) = (after ≡ before) ⊎ ((cover : NamedCover) × (text : List ℕ) × (n : ℕ) × IsRead cover × IsTextOf plan cover text × Appends before after (take n text))
+DeliversReport plan IsRead before after (Refused Device) =
+    (after ≡ before) ⊎
+    ((cover : NamedCover) × (text : List ℕ) × (n : ℕ) × IsRead cover × IsTextOf plan cover text × Appends before after (take n text))
 DeliversReport plan IsRead before after Invalid = ⊥
 DeliversReport plan IsRead before after (Refused (CertificateLine line fault)) = ⊥
 DeliversReport plan IsRead before after (Refused CertificateTooLong) = ⊥
@@ -115,7 +123,10 @@ DeliversReport plan IsRead before after (Refused fault) = after ≡ before
 
 -- what it leaves on its output if a device failed: nothing, or a beginning of the text of some cover
 abbrev pub EndsInPart : List (List ℕ) → Option (List ℕ) → Option (List ℕ) → Type 0
-EndsInPart words before after = (after ≡ before) ⊎ ((plan : RunPlan) × IsPlanOf words plan × (cover : NamedCover) × (text : List ℕ) × (n : ℕ) × IsCover cover × IsTextOf plan cover text × Appends before after (take n text))
+EndsInPart words before after =
+    (after ≡ before) ⊎
+    ((plan : RunPlan) × IsPlanOf words plan × (cover : NamedCover) × (text : List ℕ) × (n : ℕ) × IsCover cover
+    × IsTextOf plan cover text × Appends before after (take n text))
 
 -- a run that no store is large enough for, and one whose pairs are faulty, have read a cover that is hindered so
 abbrev pub IsHindered : RunPlan → (NamedCover → Type 0) → Outcome → Type 0
@@ -133,7 +144,9 @@ IsFullRunOf words = (plan : RunPlan) × IsPlanOf words plan × (plan.count ≡ f
 
 -- the words ask for a run without count, with a list of pairs that is faulty for some cover
 abbrev pub IsFaultyRunOf : List (List ℕ) → Type 0
-IsFaultyRunOf words = (plan : RunPlan) × IsPlanOf words plan × (plan.count ≡ false) × (cover : NamedCover) × IsCover cover × (fault : PairsFault) × PairsAre plan.above cover.inputs (Err fault)
+IsFaultyRunOf words =
+    (plan : RunPlan) × IsPlanOf words plan × (plan.count ≡ false) × (cover : NamedCover) × IsCover cover × (fault : PairsFault)
+    × PairsAre plan.above cover.inputs (Err fault)
 
 -- how many calls failed, before and after
 abbrev pub FailsOnlyByDevice : ℕ → ℕ → Outcome → Type 0

@@ -69,12 +69,14 @@ order_lines names order = labelled (codes "order: ") (numbers order) ++ labelled
 -- three lines: the sifted order, its size, and the size under the file order
 unfoldable pub sizes_lines : List ℕ → ℕ → ℕ → List ℕ
 sizes_lines order size file_size =
-    labelled (codes "sifted order: ") (numbers order) ++ labelled (codes "sifted nodes: ") (decimal size) ++ labelled (codes "file order nodes: ") (decimal file_size)
+    labelled (codes "sifted order: ") (numbers order) ++ labelled (codes "sifted nodes: ") (decimal size)
+    ++ labelled (codes "file order nodes: ") (decimal file_size)
 
 -- seven lines: the best order with its names, level counts and size, the sifted order with its size, and the size under the file order
 abbrev pub report_text : NamedCover → List ℕ → List ℕ → List ℕ
 report_text cover best other =
-    order_lines cover.input_names best ++ counts_lines (levels_under cover best) ++ sizes_lines other (nodes_under cover other) (nodes_under cover (variables cover.inputs))
+    order_lines cover.input_names best ++ counts_lines (levels_under cover best)
+    ++ sizes_lines other (nodes_under cover other) (nodes_under cover (variables cover.inputs))
 
 -- the same seven lines, by the truth tables of the cover and the sifted order's size
 abbrev pub report_parts : NamedCover → TruthTables → List ℕ → List ℕ → ℕ → List ℕ

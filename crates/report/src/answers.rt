@@ -44,7 +44,9 @@ fn levels_of(alloc: Global, diagram: &Diagram) -> Result<Vec<u32>, AllocError>
     requires { length diagram.now.order ≤ 16 }
     ensures long { IfOk result (λ v. length v.items ≡ length diagram.now.order) }
     ensures few { IfOk result (λ v. length v.items ≤ 16) }
-    ensures counts { IfOk result (λ v. (i : ℕ) → i < length diagram.now.order → slice_index v.items i ≡ nodes_at diagram.now.graph (slice_index diagram.now.order i)) }
+    ensures counts { IfOk result
+        (λ v. (i : ℕ) → i < length diagram.now.order →
+        slice_index v.items i ≡ nodes_at diagram.now.graph (slice_index diagram.now.order i)) }
 {
     let counts = diagram.level_counts();
     counts[..diagram.order().len()].to_vec(alloc)
@@ -78,7 +80,8 @@ fn file_order_levels_of<R: Threads + Sync>(
     workers: Workers,
 ) -> Result<Vec<u32>, Shortage>
     requires tables { AreTablesOf cover.now tables.now }
-    requires first { HasLevelCounts cover.now.inputs (functions_of cover.now) first.now.order first.now.graph }
+    requires first { HasLevelCounts cover.now.inputs (functions_of cover.now) first.now.order
+        first.now.graph }
     requires long { length first.now.order ≡ cover.now.inputs }
     ensures counts { IfOk result (λ v. v.items ≡ file_order_levels cover.now) }
     ensures few { IfOk result (λ v. length v.items ≤ 16) }
@@ -126,7 +129,8 @@ fn levels_under<R: Threads + Sync>(
     workers: Workers,
 ) -> Result<Vec<u32>, Shortage>
     requires { length order.now ≡ tables.now.inputs }
-    ensures counts { IfOk result (λ v. v.items ≡ level_counts tables.now.inputs (functions tables.now) order.now) }
+    ensures counts { IfOk result
+        (λ v. v.items ≡ level_counts tables.now.inputs (functions tables.now) order.now) }
     ensures few { IfOk result (λ v. length v.items ≤ 16) }
 {
     let diagram = build_tables(rt, alloc, tables, order, workers, &NoGate)?;
@@ -158,7 +162,8 @@ fn search<R: Threads + Sync>(
     ensures solution { IfOk result (λ f. IsSolution tables.now pairs.pairs f.solution) }
     ensures sifted { IfOk result (λ f. (start : _) × IsFirstOrder cover.now.inputs pairs.pairs start
         × (f.sifted ≡ sifted_order tables.now.inputs (functions tables.now) pairs.pairs start)) }
-    ensures size { IfOk result (λ f. f.sifted_size ≡ size_under tables.now.inputs (functions tables.now) f.sifted) }
+    ensures size { IfOk result
+        (λ f. f.sifted_size ≡ size_under tables.now.inputs (functions tables.now) f.sifted) }
 {
     let found = sift_from_first(alloc, cover, tables, first, pairs)?;
     let sifted = found.order().try_clone(alloc)?;
@@ -185,7 +190,9 @@ fn report_of<R: Threads + Sync>(
     requires levels { file_levels.now ≡ file_order_levels cover.now }
     requires few { length file_levels.now ≤ 16 }
     requires order { IsOrder tables.now.inputs found.now.solution.order }
-    ensures { IfOk result (λ text. string_bytes text ≡ report_parts cover.now tables.now found.now.solution.order found.now.sifted found.now.sifted_size) }
+    ensures { IfOk result
+        (λ text. string_bytes text ≡ report_parts cover.now tables.now found.now.solution.order
+        found.now.sifted found.now.sifted_size) }
 {
     let best = found.solution.order.variables();
     let levels = levels_under(rt, alloc, tables, &found.solution.order, workers)?;
@@ -219,7 +226,8 @@ pub(crate) fn answer_texts<R: Threads + Sync>(
 ) -> Result<RunTexts, Shortage>
     requires { pairs.inputs ≡ cover.now.inputs }
     ensures report { IfOk result (λ t. IsAnswer cover.now pairs.pairs (string_bytes t.report)) }
-    ensures certificate { IfOk result (λ t. IsCertified cover.now pairs.pairs certify t.certificate) }
+    ensures certificate { IfOk result
+        (λ t. IsCertified cover.now pairs.pairs certify t.certificate) }
 {
     let kept = pairs.copied();
     let tables = Tables::of_cover(rt, alloc, cover)?;

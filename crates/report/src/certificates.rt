@@ -21,7 +21,10 @@ pub(crate) fn certificate_text(
 ) -> Result<String, AllocError>
     requires inputs { pairs.now.inputs ≡ problem.now.inputs }
     requires solution { IsSolution problem.now pairs.now.pairs solution }
-    ensures { IfOk result (λ text. Spells (string_bytes text) (certificate_of problem.now.inputs (functions problem.now) pairs.now.pairs solution.order)) }
+    ensures { IfOk result
+        (λ text. Spells (string_bytes text)
+        (certificate_of problem.now.inputs (functions problem.now) pairs.now.pairs
+        solution.order)) }
 {
     let _few = pairs.count();
     let inputs = pairs.inputs();

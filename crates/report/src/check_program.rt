@@ -49,11 +49,13 @@ pub fn ordercheck<'a, R: Files + AllocGlobal + Threads + Sync, W: CountedWrite, 
     requires err { E.failures err.old < 2 ^ 32 }
     ensures status { IsTrue (has check_exits result) }
     ensures refused { result ≡ 2 → AreFaulty ordercheck_line LacksPaths (texts words.now) }
-    ensures valid { result ≡ 0 → ChecksWell (texts words.now) (W.contents out.old) (W.contents out.new) }
+    ensures valid { result ≡ 0 →
+        ChecksWell (texts words.now) (W.contents out.old) (W.contents out.new) }
     ensures invalid { result ≡ 1 → IsInvalid (W.contents out.old) (W.contents out.new) }
     ensures part { result ≡ 5 → ChecksInPart (W.contents out.old) (W.contents out.new) }
     ensures quiet { result ≡ 0 → E.contents err.new ≡ E.contents err.old }
-    ensures silent { result ≢ 0 → result ≢ 1 → result ≢ 5 → W.contents out.new ≡ W.contents out.old }
+    ensures silent { result ≢ 0 → result ≢ 1 → result ≢ 5 →
+        W.contents out.new ≡ W.contents out.old }
 {
     let line = match CheckLine::of_words(rt.alloc(), words) {
         Ok(line) => line,

@@ -33,7 +33,8 @@ fn fault_of_bytes(refused: Refused) -> Fault
 fn read_certificate<C: CountedRead>(alloc: Global, cert: &mut C) -> Result<Certificate, Fault>
     requires { C.failures cert.old < 2 ^ 32 }
     ensures cert { IfOk result (λ c. IfSome (C.remaining cert.old) (λ text. SpellsWithin text c)) }
-    ensures refused { IfErr result (λ fault. IfSome (C.remaining cert.old) (λ text. IsRefusedText text fault)) }
+    ensures refused { IfErr result
+        (λ fault. IfSome (C.remaining cert.old) (λ text. IsRefusedText text fault)) }
     ensures faults { IfErr result IsTextFault }
     ensures calls { C.failures cert.new ≡ C.failures cert.old + failed_reads result }
 {
@@ -78,11 +79,16 @@ pub fn run_check<R: Threads + Sync, F: CountedRead, C: CountedRead, W: CountedWr
     requires file { F.failures file.old < 2 ^ 32 }
     requires cert { C.failures cert.old < 2 ^ 32 }
     requires out { W.failures out.old < 2 ^ 32 }
-    ensures checks { IfSome (F.remaining file.old) (λ bytes. IfSome (C.remaining cert.old) (λ text. ChecksAs bytes text (W.contents out.old) (W.contents out.new) result)) }
+    ensures checks { IfSome (F.remaining file.old)
+        (λ bytes. IfSome (C.remaining cert.old)
+        (λ text. ChecksAs bytes text (W.contents out.old) (W.contents out.new) result)) }
     ensures verdicts { Verdicts (W.contents out.old) (W.contents out.new) result }
     // an accepted certificate states truly that its order has its total and none has fewer nodes
-    ensures truth { IfSome (F.remaining file.old) (λ bytes. IfSome (C.remaining cert.old) (λ text. AcceptsTruly bytes text result)) }
-    ensures devices { FailsOnlyByDevice (F.failures file.old + C.failures cert.old + W.failures out.old) (F.failures file.new + C.failures cert.new + W.failures out.new) result }
+    ensures truth { IfSome (F.remaining file.old)
+        (λ bytes. IfSome (C.remaining cert.old) (λ text. AcceptsTruly bytes text result)) }
+    ensures devices { FailsOnlyByDevice
+        (F.failures file.old + C.failures cert.old + W.failures out.old)
+        (F.failures file.new + C.failures cert.new + W.failures out.new) result }
 {
     let cover = match read_cover(alloc, file) {
         Ok(cover) => cover,

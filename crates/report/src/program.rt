@@ -24,7 +24,8 @@ fn run_on_files<'a, R: Files + AllocGlobal + Threads + Sync, W: CountedWrite>(
     out: &mut W,
 ) -> Outcome
     requires { W.failures out.old < 2 ^ 32 }
-    ensures report { DeliversReport line.now.plan IsCover (W.contents out.old) (W.contents out.new) result }
+    ensures report { DeliversReport line.now.plan IsCover (W.contents out.old) (W.contents out.new)
+        result }
     ensures hindered { IsHindered line.now.plan IsCover result }
 {
     let Ok(file) = fs::open(rt, line.file) else {
@@ -57,8 +58,10 @@ pub fn minorder<'a, R: Files + AllocGlobal + Threads + Sync, W: CountedWrite, E:
     requires err { E.failures err.old < 2 ^ 32 }
     ensures status { IsTrue (has exits result) }
     ensures refused { result ≡ 2 → AreFaulty minorder_line LacksArguments (texts words.now) }
-    ensures answered { result ≡ 0 → EndsWell (texts words.now) (W.contents out.old) (W.contents out.new) }
-    ensures part { result ≡ 5 → EndsInPart (texts words.now) (W.contents out.old) (W.contents out.new) }
+    ensures answered { result ≡ 0 →
+        EndsWell (texts words.now) (W.contents out.old) (W.contents out.new) }
+    ensures part { result ≡ 5 →
+        EndsInPart (texts words.now) (W.contents out.old) (W.contents out.new) }
     // 3 is a run's fault, 6 that of a run without count, 8 that of a list of pairs that is faulty for some cover
     ensures run { result ≡ 3 → IsRunOf (texts words.now) }
     ensures full { result ≡ 6 → IsFullRunOf (texts words.now) }

@@ -54,7 +54,8 @@ fn planned_texts<'a, R: Threads + Sync>(
     certify: bool,
 ) -> Result<RunTexts, Fault>
     ensures report { IfOk result (λ t. IsTextOf plan.now cover.now (string_bytes t.report)) }
-    ensures certificate { IfOk result (λ t. HasCertificate plan.now.count plan.now.above cover.now certify t.certificate) }
+    ensures certificate { IfOk result
+        (λ t. HasCertificate plan.now.count plan.now.above cover.now certify t.certificate) }
     ensures fault { IfErr result (Hinders plan.now cover.now) }
 {
     if plan.count {
@@ -81,10 +82,16 @@ fn write_certificate<C: CountedWrite>(
     text: &Option<String>,
 ) -> Result<(), Refused>
     requires { failures_in C.failures cert.old < 2 ^ 32 }
-    ensures ok { OnOk result (GetsText (option_map (λ t. string_bytes t) text.now) (option_map C.contents cert.old) (option_map C.contents cert.new)) }
-    ensures ok_calls { OnOk result (failures_in C.failures cert.new ≡ failures_in C.failures cert.old) }
-    ensures err { OnErr result ((n : ℕ) × GetsText (option_map (λ t. take n (string_bytes t)) text.now) (option_map C.contents cert.old) (option_map C.contents cert.new)) }
-    ensures err_calls { OnErr result (failures_in C.failures cert.new ≡ failures_in C.failures cert.old + 1) }
+    ensures ok { OnOk result
+        (GetsText (option_map (λ t. string_bytes t) text.now) (option_map C.contents cert.old)
+        (option_map C.contents cert.new)) }
+    ensures ok_calls { OnOk result
+        (failures_in C.failures cert.new ≡ failures_in C.failures cert.old) }
+    ensures err { OnErr result
+        ((n : ℕ) × GetsText (option_map (λ t. take n (string_bytes t)) text.now)
+        (option_map C.contents cert.old) (option_map C.contents cert.new)) }
+    ensures err_calls { OnErr result
+        (failures_in C.failures cert.new ≡ failures_in C.failures cert.old + 1) }
 {
     let Some(text) = text else {
         return Ok(());
@@ -114,12 +121,17 @@ pub fn run<'a, R: Threads + Sync, F: CountedRead, W: CountedWrite, C: CountedWri
     ensures tells { IfSome (F.remaining file.old) (λ bytes. Tells plan.now bytes result) }
     ensures writes { IfSome (F.remaining file.old) (λ bytes. Delivers plan.now (Reads bytes) (held (W.contents out.old) (option_map C.contents cert.old))
         (held (W.contents out.new) (option_map C.contents cert.new)) result) }
-    ensures answers { Delivers plan.now IsCover (held (W.contents out.old) (option_map C.contents cert.old)) (held (W.contents out.new) (option_map C.contents cert.new)) result }
+    ensures answers { Delivers plan.now IsCover
+        (held (W.contents out.old) (option_map C.contents cert.old))
+        (held (W.contents out.new) (option_map C.contents cert.new)) result }
     ensures hindered { IsHindered plan.now IsCover result }
     // what the certificate's writer got reads as a good certificate
-    ensures good { IfSome (F.remaining file.old) (λ bytes. WritesGood plan.now bytes (option_map C.contents cert.old) (option_map C.contents cert.new) result) }
+    ensures good { IfSome (F.remaining file.old)
+        (λ bytes. WritesGood plan.now bytes (option_map C.contents cert.old)
+        (option_map C.contents cert.new) result) }
     // the printed order is the first under which the file's functions have the fewest nodes
-    ensures optimum { IfSome (F.remaining file.old) (λ bytes. PrintsOptimum plan.now bytes (W.contents out.old) (W.contents out.new) result) }
+    ensures optimum { IfSome (F.remaining file.old)
+        (λ bytes. PrintsOptimum plan.now bytes (W.contents out.old) (W.contents out.new) result) }
     ensures devices { FailsOnlyByDevice (F.failures file.old + W.failures out.old + failures_in C.failures cert.old)
         (F.failures file.new + W.failures out.new + failures_in C.failures cert.new) result }
 {

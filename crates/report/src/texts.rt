@@ -21,7 +21,8 @@ pub(crate) fn total(counts: &[u32]) -> u64
 
 /// Appends numbers, each after a space.
 fn push_spaced(text: &mut String, numbers: &[u32]) -> Result<(), AllocError>
-    ensures { OnOk result (string_bytes text.new ≡ string_bytes text.old ++ each_spaced numbers.now) }
+    ensures { OnOk result
+        (string_bytes text.new ≡ string_bytes text.old ++ each_spaced numbers.now) }
 {
     for number in numbers {
         write!(text, " {number}")?;
@@ -43,7 +44,8 @@ fn push_numbers(text: &mut String, numbers: &[u32]) -> Result<(), AllocError>
 
 /// Appends variables, each after a space.
 fn push_spaced_variables(text: &mut String, variables: &[VarIx]) -> Result<(), AllocError>
-    ensures { OnOk result (string_bytes text.new ≡ string_bytes text.old ++ each_spaced variables.now) }
+    ensures { OnOk result
+        (string_bytes text.new ≡ string_bytes text.old ++ each_spaced variables.now) }
 {
     for variable in variables {
         write!(text, " {variable}")?;
@@ -66,7 +68,9 @@ fn push_variables(text: &mut String, variables: &[VarIx]) -> Result<(), AllocErr
 /// Appends the name of a variable.
 fn push_name(text: &mut String, names: &[String], variable: VarIx) -> Result<(), AllocError>
     requires { variable < length names.now }
-    ensures { OnOk result (string_bytes text.new ≡ string_bytes text.old ++ name_of (map string_bytes names.now) variable) }
+    ensures { OnOk result
+        (string_bytes text.new ≡ string_bytes text.old
+        ++ name_of (map string_bytes names.now) variable) }
 {
     text.push_str(names[variable as usize].as_str())?;
     Ok(())
@@ -79,7 +83,9 @@ fn push_spaced_names(
     variables: &[VarIx],
 ) -> Result<(), AllocError>
     requires { All (λ x. x < length names.now) variables.now }
-    ensures { OnOk result (string_bytes text.new ≡ string_bytes text.old ++ each_name_spaced (map string_bytes names.now) variables.now) }
+    ensures { OnOk result
+        (string_bytes text.new ≡ string_bytes text.old
+        ++ each_name_spaced (map string_bytes names.now) variables.now) }
 {
     for variable in variables {
         text.push(' ')?;
@@ -91,7 +97,9 @@ fn push_spaced_names(
 /// Appends the names of variables with one space between each two.
 fn push_names(text: &mut String, names: &[String], variables: &[VarIx]) -> Result<(), AllocError>
     requires { All (λ x. x < length names.now) variables.now }
-    ensures { OnOk result (string_bytes text.new ≡ string_bytes text.old ++ names_in (map string_bytes names.now) variables.now) }
+    ensures { OnOk result
+        (string_bytes text.new ≡ string_bytes text.old
+        ++ names_in (map string_bytes names.now) variables.now) }
 {
     let Some((first, rest)) = variables.split_first() else {
         return Ok(());
@@ -104,7 +112,9 @@ fn push_names(text: &mut String, names: &[String], variables: &[VarIx]) -> Resul
 /// Appends the two lines of an order and its names.
 fn push_order(text: &mut String, names: &[String], order: &[VarIx]) -> Result<(), AllocError>
     requires { All (λ x. x < length names.now) order.now }
-    ensures { OnOk result (string_bytes text.new ≡ string_bytes text.old ++ order_lines (map string_bytes names.now) order.now) }
+    ensures { OnOk result
+        (string_bytes text.new ≡ string_bytes text.old
+        ++ order_lines (map string_bytes names.now) order.now) }
 {
     text.push_str("order: ")?;
     push_variables(text, order)?;
@@ -117,7 +127,8 @@ fn push_order(text: &mut String, names: &[String], order: &[VarIx]) -> Result<()
 /// Appends the two lines of level counts, top first, and their sum.
 fn push_counts(text: &mut String, levels: &[u32]) -> Result<(), AllocError>
     requires { length levels.now ≤ 16 }
-    ensures { OnOk result (string_bytes text.new ≡ string_bytes text.old ++ counts_lines levels.now) }
+    ensures { OnOk result
+        (string_bytes text.new ≡ string_bytes text.old ++ counts_lines levels.now) }
 {
     let nodes = total(levels);
     text.push_str("levels: ")?;
@@ -139,7 +150,9 @@ pub(crate) struct Report<'a> {
 
 /// Appends the three lines of the sifted order, its size and the size under the file order.
 fn push_sizes(text: &mut String, report: &Report<'_>) -> Result<(), AllocError>
-    ensures { OnOk result (string_bytes text.new ≡ string_bytes text.old ++ sizes_lines report.now.sifted.now report.now.sifted_size report.now.file_size) }
+    ensures { OnOk result
+        (string_bytes text.new ≡ string_bytes text.old
+        ++ sizes_lines report.now.sifted.now report.now.sifted_size report.now.file_size) }
 {
     let Report {
         sifted,

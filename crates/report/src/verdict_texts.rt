@@ -14,7 +14,8 @@ const LONGEST_LINE: usize = 32;
 
 /// Appends the words of a reason.
 fn push_reason(text: &mut String, reason: Reason) -> Result<(), AllocError>
-    ensures { OnOk result (string_bytes text.new ≡ string_bytes text.old ++ reason_words (reason_of reason)) }
+    ensures { OnOk result
+        (string_bytes text.new ≡ string_bytes text.old ++ reason_words (reason_of reason)) }
 {
     match reason {
         Reason::Shape => text.push_str("Shape"),

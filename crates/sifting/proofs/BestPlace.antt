@@ -24,7 +24,8 @@ filter_append : (p : List ℕ → Bool) (xs ys : List (List ℕ)) → filter p (
 filter_append p [] ys = refl
 filter_append p (x ∷ xs) ys = by (p x) (filter_append p xs ys)
   where
-    by : (b : Bool) → filter p (xs ++ ys) ≡ filter p xs ++ filter p ys → cond b (x ∷ filter p (xs ++ ys)) (filter p (xs ++ ys)) ≡ cond b (x ∷ filter p xs) (filter p xs) ++ filter p ys
+    by : (b : Bool) → filter p (xs ++ ys) ≡ filter p xs ++ filter p ys →
+        cond b (x ∷ filter p (xs ++ ys)) (filter p (xs ++ ys)) ≡ cond b (x ∷ filter p xs) (filter p xs) ++ filter p ys
     by true e = ap (λ zs. x ∷ zs) e
     by false e = e
 
@@ -34,39 +35,49 @@ none_of p f (suc k) a h =
     ap (λ c. cond c (f a ∷ filter p (map f (range_with_len (a + 1) k))) (filter p (map f (range_with_len (a + 1) k)))) (h a (omega arith) (omega arith))
     ∙ none_of p f k (a + 1) (λ i l m. h i (omega arith) (omega arith))
 
-all_of : (p : List ℕ → Bool) (f : ℕ → List ℕ) (k a : ℕ) → ((i : ℕ) → a ≤ i → i < a + k → p (f i) ≡ true) → filter p (map f (range_with_len a k)) ≡ map f (range_with_len a k)
+all_of : (p : List ℕ → Bool) (f : ℕ → List ℕ) (k a : ℕ) → ((i : ℕ) → a ≤ i → i < a + k → p (f i) ≡ true) →
+    filter p (map f (range_with_len a k)) ≡ map f (range_with_len a k)
 all_of p f zero a h = refl
 all_of p f (suc k) a h =
     ap (λ c. cond c (f a ∷ filter p (map f (range_with_len (a + 1) k))) (filter p (map f (range_with_len (a + 1) k)))) (h a (omega arith) (omega arith))
     ∙ ap (λ zs. f a ∷ zs) (all_of p f k (a + 1) (λ i l m. h i (omega arith) (omega arith)))
 
 range_append : (f : ℕ → List ℕ) (m k a : ℕ) → map f (range_with_len a (m + k)) ≡ map f (range_with_len a m) ++ map f (range_with_len (a + m) k)
-range_append f zero k a = let e : 0 + k ≡ k = omega arith in let g : a ≡ a + 0 = omega arith in ap (λ j. map f (range_with_len a j)) e ∙ ap (λ b. map f (range_with_len b k)) g
+range_append f zero k a = let e : 0 + k ≡ k = omega arith in let g : a ≡ a + 0 = omega arith in
+    ap (λ j. map f (range_with_len a j)) e ∙ ap (λ b. map f (range_with_len b k)) g
 range_append f (suc m) k a =
     let e : suc m + k ≡ suc (m + k) = omega arith in
     let g : a + 1 + m ≡ a + suc m = omega arith in
-    ap (λ j. map f (range_with_len a j)) e ∙ ap (λ zs. f a ∷ zs) (range_append f m k (a + 1) ∙ ap (λ b. map f (range_with_len (a + 1) m) ++ map f (range_with_len b k)) g)
+    ap (λ j. map f (range_with_len a j)) e
+    ∙ ap (λ zs. f a ∷ zs) (range_append f m k (a + 1) ∙ ap (λ b. map f (range_with_len (a + 1) m) ++ map f (range_with_len b k)) g)
 
 -- between two places the test passes, and beyond them it doesn't
-between : (p : List ℕ → Bool) (f : ℕ → List ℕ) (n top bottom : ℕ) → top ≤ bottom → bottom < n → ((i : ℕ) → i < top → p (f i) ≡ false) → ((i : ℕ) → top ≤ i → i ≤ bottom → p (f i) ≡ true) →
+between : (p : List ℕ → Bool) (f : ℕ → List ℕ) (n top bottom : ℕ) → top ≤ bottom → bottom < n → ((i : ℕ) → i < top → p (f i) ≡ false) →
+    ((i : ℕ) → top ≤ i → i ≤ bottom → p (f i) ≡ true) →
     ((i : ℕ) → bottom < i → i < n → p (f i) ≡ false) → filter p (map f (range_with_len 0 n)) ≡ map f (range_with_len top (bottom + 1 - top))
 between p f n top bottom le lt high mid low =
     let e : n ≡ top + ((bottom + 1 - top) + (n - (bottom + 1))) = omega arith in
     let g : 0 + top ≡ top = omega arith in
     let k : top + (bottom + 1 - top) ≡ bottom + 1 = omega arith in
     ap (λ j. filter p (map f (range_with_len 0 j))) e
-    ∙ ap (filter p) (range_append f top ((bottom + 1 - top) + (n - (bottom + 1))) 0 ∙ ap (λ a. map f (range_with_len 0 top) ++ map f (range_with_len a ((bottom + 1 - top) + (n - (bottom + 1))))) g)
+    ∙ ap (filter p)
+    (range_append f top ((bottom + 1 - top) + (n - (bottom + 1))) 0
+    ∙ ap (λ a. map f (range_with_len 0 top) ++ map f (range_with_len a ((bottom + 1 - top) + (n - (bottom + 1))))) g)
     ∙ filter_append p (map f (range_with_len 0 top)) (map f (range_with_len top ((bottom + 1 - top) + (n - (bottom + 1)))))
     ∙ ap₂ (λ xs ys. xs ++ ys) (none_of p f top 0 (λ i l m. high i (omega arith)))
-    (ap (filter p) (range_append f (bottom + 1 - top) (n - (bottom + 1)) top ∙ ap (λ a. map f (range_with_len top (bottom + 1 - top)) ++ map f (range_with_len a (n - (bottom + 1)))) k)
+    (ap (filter p)
+    (range_append f (bottom + 1 - top) (n - (bottom + 1)) top
+    ∙ ap (λ a. map f (range_with_len top (bottom + 1 - top)) ++ map f (range_with_len a (n - (bottom + 1)))) k)
     ∙ filter_append p (map f (range_with_len top (bottom + 1 - top))) (map f (range_with_len (bottom + 1) (n - (bottom + 1))))
-    ∙ ap₂ (λ xs ys. xs ++ ys) (all_of p f (bottom + 1 - top) top (λ i l m. mid i l (omega arith))) (none_of p f (n - (bottom + 1)) (bottom + 1) (λ i l m. low i (omega arith) (omega arith)))
+    ∙ ap₂ (λ xs ys. xs ++ ys) (all_of p f (bottom + 1 - top) top (λ i l m. mid i l (omega arith)))
+    (none_of p f (n - (bottom + 1)) (bottom + 1) (λ i l m. low i (omega arith) (omega arith)))
     ∙ append-nil (map f (range_with_len top (bottom + 1 - top))))
 
 -- ---- beyond the places where the moves stop
 
 module _ (P : List Pair) (others : List ℕ) (x : ℕ) (apart : IsDistinct nat_eq others) (out : has others x ≡ false) where
-  pub none_higher : (order : List ℕ) (top : ℕ) → top ≤ length others → order ≡ insert others top x → StopsAbove P order top → (i : ℕ) → i < top → keeps P (insert others i x) ≡ false
+  pub none_higher : (order : List ℕ) (top : ℕ) → top ≤ length others → order ≡ insert others top x → StopsAbove P order top → (i : ℕ) →
+      i < top → keeps P (insert others i x) ≡ false
   none_higher order top le e stop i lt =
       elim stop [
         | inl z ↦ absurd (omega arith)
@@ -74,18 +85,21 @@ module _ (P : List Pair) (others : List ℕ) (x : ℕ) (apart : IsDistinct nat_e
             let j = top - 1 in
             let t : top ≡ suc j = omega arith in
             let x_is : get_or order top 0 ≡ x = ap (λ o. get_or o top 0) e ∙ here others x top le in
-            let y_is : get_or order j 0 ≡ get_or others j 0 = ap (λ o. get_or o j 0) (e ∙ ap (λ k. insert others k x) t) ∙ above_here others x j (omega arith) in
+            let y_is : get_or order j 0 ≡ get_or others j 0 = ap (λ o. get_or o j 0) (e ∙ ap (λ k. insert others k x) t)
+            ∙ above_here others x j (omega arith) in
             let pair : has_pair P (get_or others j 0) x ≡ true = sym (ap₂ (has_pair P) y_is x_is) ∙ h in
             breaks P (get_or others j 0) x (insert others i x) pair (not_above (get_or others j 0) x others i j (omega arith) (omega arith) refl apart out)
       ]
 
-  pub none_lower : (order : List ℕ) (bottom : ℕ) → bottom ≤ length others → order ≡ insert others bottom x → StopsBelow P order bottom → (i : ℕ) → bottom < i → i ≤ length others → keeps P (insert others i x) ≡ false
+  pub none_lower : (order : List ℕ) (bottom : ℕ) → bottom ≤ length others → order ≡ insert others bottom x → StopsBelow P order bottom →
+      (i : ℕ) → bottom < i → i ≤ length others → keeps P (insert others i x) ≡ false
   none_lower order bottom le e stop i lt within =
       elim stop [
         | inl z ↦ let long = ap length e ∙ length-placed others x bottom in absurd (omega arith)
         | inr h ↦
             let x_is : get_or order bottom 0 ≡ x = ap (λ o. get_or o bottom 0) e ∙ here others x bottom le in
-            let y_is : get_or order (bottom + 1) 0 ≡ get_or others bottom 0 = ap (λ o. get_or o (bottom + 1) 0) e ∙ ap (λ k. get_or (insert others bottom x) k 0) (add-one bottom) ∙ below_here others x bottom (omega arith) in
+            let y_is : get_or order (bottom + 1) 0 ≡ get_or others bottom 0 = ap (λ o. get_or o (bottom + 1) 0) e
+            ∙ ap (λ k. get_or (insert others bottom x) k 0) (add-one bottom) ∙ below_here others x bottom (omega arith) in
             let pair : has_pair P x (get_or others bottom 0) ≡ true = sym (ap₂ (has_pair P) x_is y_is) ∙ h in
             breaks P x (get_or others bottom 0) (insert others i x) pair (not_below x (get_or others bottom 0) others i bottom lt within refl apart out)
       ]
@@ -94,7 +108,8 @@ module _ (P : List Pair) (others : List ℕ) (x : ℕ) (apart : IsDistinct nat_e
 
 module _ (self raised lowered : Managed) (x top bottom at : ℕ) (ok : IsManagedOrder self) (small : x < length self.order)
     (up : IsMoved (place_in self.order x) top self raised) (upward : top ≤ place_in self.order x) (stops_above : StopsAbove raised.pairs raised.order top)
-    (down : IsMoved top bottom raised lowered) (within : bottom < length raised.order) (stops_below : StopsBelow lowered.pairs lowered.order bottom) (found : FindsBest raised top bottom at) where
+    (down : IsMoved top bottom raised lowered) (within : bottom < length raised.order)
+    (stops_below : StopsBelow lowered.pairs lowered.order bottom) (found : FindsBest raised top bottom at) where
   abbrev others : List ℕ
   others = without x self.order
 
@@ -129,7 +144,8 @@ module _ (self raised lowered : Managed) (x top bottom at : ℕ) (ok : IsManaged
       let kept = found.keeps others x top_in raised_is i (omega arith) (omega arith) in
       let same : has_pair lowered.pairs (slice_index zs i) y ≡ has_pair raised.pairs (slice_index others i) x =
       ap₂ (λ P v. has_pair P v y) down.pairs_stay (ap (λ us. get_or us i 0) tells.0) ∙ ap (has_pair raised.pairs (slice_index others i)) tells.1 in
-      same ∙ false_from_ne_true (has_pair raised.pairs (slice_index others i) x) (λ t. true≢false (sym kept ∙ breaks raised.pairs (slice_index others i) x (insert others i x) t
+      same ∙ false_from_ne_true (has_pair raised.pairs (slice_index others i) x)
+      (λ t. true≢false (sym kept ∙ breaks raised.pairs (slice_index others i) x (insert others i x) t
       (not_above (slice_index others i) x others i i (omega arith) within' refl apart out)))
 
   last_is : (last : Managed) → IsMoved bottom at lowered last → last.order ≡ insert (without x self.order) at x
@@ -154,6 +170,7 @@ module _ (self raised lowered : Managed) (x top bottom at : ℕ) (ok : IsManaged
       let le : top ≤ bottom = let a = found.above in let b = found.below in omega arith in
       let kept = between (keeps self.pairs) (λ i. insert zs i x) (length self.order) top bottom le (omega arith) high
       (λ i a b. subst (λ P. Keeps P (insert zs i x)) up.pairs_stay (found.keeps zs x top_in raised_is i a b)) (λ i a b. low i a (omega arith)) in
-      last_is last back ∙ found.smallest zs x top_in raised_is ∙ ap (λ t. smallest_of t.inputs (functions t) raised.order (placed_from zs x top bottom)) up.functions_stay
+      last_is last back ∙ found.smallest zs x top_in raised_is
+      ∙ ap (λ t. smallest_of t.inputs (functions t) raised.order (placed_from zs x top bottom)) up.functions_stay
       ∙ smallest_default self.problem.inputs (functions self.problem) raised.order self.order zs x top bottom le
       ∙ ap (smallest_of self.problem.inputs (functions self.problem) self.order) (sym kept)

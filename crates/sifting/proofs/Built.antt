@@ -48,7 +48,8 @@ places_more : (levels : List (List Children)) (T S : List Bool) (L : List Childr
 places_more [] T S L e = e
 places_more (M ∷ levels) T S L e = refl
 
-levels_more : (most : ℕ) (levels : List (List Children)) (T S : List Bool) (L : List Children) → AreLevels most T levels → IsLevel (length S) L → length L ≡ length T → length L ≤ most * 2 ^ length levels →
+levels_more : (most : ℕ) (levels : List (List Children)) (T S : List Bool) (L : List Children) → AreLevels most T levels →
+    IsLevel (length S) L → length L ≡ length T → length L ≤ most * 2 ^ length levels →
     AreLevels most S (levels ++ L ∷ [])
 levels_more most [] T S L ok level e few = (level, let t : most * 2 ^ 0 ≡ most = omega arith in omega arith, tt)
 levels_more most (M ∷ levels) T S L ok level e few = (
@@ -68,26 +69,32 @@ pub record Built (order : List ℕ) (d : Graph) (numbers : List ℕ) (done : ℕ
   pub many : length numbers ≡ length d.roots
   pub once : (j k : ℕ) → j < length cut → k < length cut → ref_at cut j ≡ ref_at cut k → j ≡ k
   pub stand : (k : ℕ) → k < length cut → Stands order d done (ref_at cut k)
-  pub values : (j : ℕ) → j < length d.roots → (p : Point) → value d.nodes (ref_at d.roots j) p ≡ value d.nodes (ref_at cut (place_below levels (take done order) (get_or numbers j 0) p)) p
+  pub values : (j : ℕ) → j < length d.roots → (p : Point) →
+      value d.nodes (ref_at d.roots j) p ≡ value d.nodes (ref_at cut (place_below levels (take done order) (get_or numbers j 0) p)) p
 
-module _ (order : List ℕ) (o : IsOrder (length order) order) (d : Graph) (ok : IsDiagram (length order) d) (ordered : IsOrdered order d) (reduced : IsReduced d) (numbers : List ℕ) where
+module _ (order : List ℕ) (o : IsOrder (length order) order) (d : Graph) (ok : IsDiagram (length order) d) (ordered : IsOrdered order d)
+    (reduced : IsReduced d) (numbers : List ℕ) where
   -- the variable of a level
-  pub variable_at : (done : ℕ) → done < length order → (place_in order (get_or order done 0) ≡ done) × ((y : ℕ) → place_in order y ≡ done → y ≡ get_or order done 0)
+  pub variable_at : (done : ℕ) → done < length order →
+      (place_in order (get_or order done 0) ≡ done) × ((y : ℕ) → place_in order y ≡ done → y ≡ get_or order done 0)
   variable_at done h = (place_get order done o.once h, λ y e. sym (place_at order y (omega arith)) ∙ ap (λ k. get_or order k 0) e)
 
   -- where a path of a root comes to
-  place_small : (done : ℕ) (levels : List (List Children)) (cut : List Ref) → done ≤ length order → Built order d numbers done levels cut → (j : ℕ) → j < length d.roots → (p : Point) →
+  place_small : (done : ℕ) (levels : List (List Children)) (cut : List Ref) → done ≤ length order → Built order d numbers done levels cut →
+      (j : ℕ) → j < length d.roots → (p : Point) →
       place_below levels (take done order) (get_or numbers j 0) p < length cut
   place_small done levels cut le b j h p =
       let t = length-take-le done order le in
       let l = b.long in
       let m = b.many in
-      let i = place_inside 16 (map is_true cut) levels (take done order) (get_or numbers j 0) p (omega arith) b.levels_are (b.roots_are.inside j (omega arith)) in
+      let i = place_inside 16 (map is_true cut) levels (take done order) (get_or numbers j 0) p (omega arith) b.levels_are
+      (b.roots_are.inside j (omega arith)) in
       let s = length-map cut is_true in
       omega arith
 
   -- above all levels
-  pub built_none : (cut : List Ref) → length d.roots ≤ 16 → Numbers d.roots numbers cut → ((j : ℕ) → j < length d.roots → IsBefore (length d.nodes) (ref_at d.roots j)) → Built order d numbers 0 [] cut
+  pub built_none : (cut : List Ref) → length d.roots ≤ 16 → Numbers d.roots numbers cut →
+      ((j : ℕ) → j < length d.roots → IsBefore (length d.nodes) (ref_at d.roots j)) → Built order d numbers 0 [] cut
   unfolding place_below
   built_none cut few n before = record {
     long = refl;
@@ -95,7 +102,8 @@ module _ (order : List ℕ) (o : IsOrder (length order) order) (d : Graph) (ok :
     levels_are = tt;
     roots_are = record {
       inside = λ j h. let i = n.first.inside j (let m = n.first.many in omega arith) in let s = length-map cut is_true in omega (arith, long);
-      reached = λ k h. let r = n.first.reached k (let s = length-map cut is_true in omega (arith, long)) in (r.0, let m = n.first.many in let l = r.1 in omega arith, r.2);
+      reached = λ k h. let r = n.first.reached k (let s = length-map cut is_true in omega (arith, long)) in
+          (r.0, let m = n.first.many in let l = r.1 in omega arith, r.2);
     };
     many = n.first.many;
     once = λ j k a b e. n.first.once j k (omega (arith, long)) (omega (arith, long)) (codes_same j k (omega (arith, long)) (omega (arith, long)) e);
@@ -120,13 +128,22 @@ module _ (order : List ℕ) (o : IsOrder (length order) order) (d : Graph) (ok :
       root_is j h = at_is (get_or numbers j 0) (n.first.inside j h) ∙ ap ref_of (n.first.numbered j h) ∙ ref_code (ref_at d.roots j)
 
   -- one level more
-  pub built_more : (done : ℕ) (levels : List (List Children)) (cut next : List Ref) (L : List Children) → done < length order → Built order d numbers done levels cut → Splits d.nodes (get_or order done 0) cut L next →
+  pub built_more : (done : ℕ) (levels : List (List Children)) (cut next : List Ref) (L : List Children) → done < length order →
+      Built order d numbers done levels cut → Splits d.nodes (get_or order done 0) cut L next →
       Built order d numbers (done + 1) (levels ++ L ∷ []) next
   built_more done levels cut next L lt b s = record {
     long = length_push levels L ∙ ap (λ m. m + 1) b.long;
-    few = let f = s.split.few in let g = b.few in let t = pow-suc 2 done in let e : 16 * 2 ^ (done + 1) ≡ 2 * (16 * 2 ^ done) = ap (λ k. 16 * 2 ^ k) (add-one done) ∙ omega arith in omega (arith, long);
-    levels_are = levels_more 16 levels (map is_true cut) (map is_true next) L b.levels_are level (let m = s.split.many in let l = length-map cut is_true in omega arith) (let m = s.split.many in let g = b.few in let l = b.long in subst (λ k. length L ≤ 16 * 2 ^ k) (sym l) (omega arith));
-    roots_are = subst (λ m. AreRoots m numbers) (sym (places_more levels (map is_true cut) (map is_true next) L (let m = s.split.many in let l = length-map cut is_true in omega arith))) b.roots_are;
+    few = let f = s.split.few in let g = b.few in let t = pow-suc 2 done in
+        let e : 16 * 2 ^ (done + 1) ≡ 2 * (16 * 2 ^ done) = ap (λ k. 16 * 2 ^ k) (add-one done) ∙ omega arith in omega (arith, long);
+    levels_are =
+        levels_more 16 levels (map is_true cut) (map is_true next) L b.levels_are level
+        (let m = s.split.many in let l = length-map cut is_true in omega arith)
+        (let m = s.split.many in let g = b.few in let l = b.long in subst (λ k. length L ≤ 16 * 2 ^ k) (sym l) (omega arith));
+    roots_are =
+        subst (λ m. AreRoots m numbers)
+        (sym (places_more levels (map is_true cut) (map is_true next) L
+        (let m = s.split.many in let l = length-map cut is_true in omega arith)))
+        b.roots_are;
     many = b.many;
     once = λ j k x y e. s.split.once j k (omega (arith, long)) (omega (arith, long)) (codes_same j k (omega (arith, long)) (omega (arith, long)) e);
     stand = stand;
@@ -146,21 +163,29 @@ module _ (order : List ℕ) (o : IsOrder (length order) order) (d : Graph) (ok :
       codes_same j k a c e = sym (code_ref (get_or s.codes j 0)) ∙ ap code_of (sym (at_is j a) ∙ e ∙ at_is k c) ∙ code_ref (get_or s.codes k 0)
 
       -- a child's ref
-      child_is : (k : ℕ) → k < length cut → (c : Bool) → (child c (at L k) < length s.codes) × (ref_at next (child c (at L k)) ≡ half c (split_ref d.nodes (get_or order done 0) (ref_at cut k)))
-      child_is k h true = let i = (s.split.inside k h).1 in (i, at_is (at L k).1 i ∙ ap ref_of (s.split.on k h) ∙ ref_code (split_ref d.nodes (get_or order done 0) (ref_at cut k)).1)
-      child_is k h false = let i = (s.split.inside k h).0 in (i, at_is (at L k).0 i ∙ ap ref_of (s.split.off k h) ∙ ref_code (split_ref d.nodes (get_or order done 0) (ref_at cut k)).0)
+      child_is : (k : ℕ) → k < length cut → (c : Bool) →
+          (child c (at L k) < length s.codes)
+          × (ref_at next (child c (at L k)) ≡ half c (split_ref d.nodes (get_or order done 0) (ref_at cut k)))
+      child_is k h true = let i = (s.split.inside k h).1 in
+          (i, at_is (at L k).1 i ∙ ap ref_of (s.split.on k h) ∙ ref_code (split_ref d.nodes (get_or order done 0) (ref_at cut k)).1)
+      child_is k h false = let i = (s.split.inside k h).0 in
+          (i, at_is (at L k).0 i ∙ ap ref_of (s.split.off k h) ∙ ref_code (split_ref d.nodes (get_or order done 0) (ref_at cut k)).0)
 
       level : IsLevel (length (map is_true next)) L
       level = record {
-        inside = λ k h. let m = s.split.many in let i = s.split.inside k (omega arith) in let l = length-map next is_true in (omega (arith, i.0, long), omega (arith, i.1, long));
+        inside = λ k h. let m = s.split.many in let i = s.split.inside k (omega arith) in let l = length-map next is_true in
+            (omega (arith, i.0, long), omega (arith, i.1, long));
         once = λ j k a c e.
             let m = s.split.many in
             let a' : j < length cut = omega arith in
             let c' : k < length cut = omega arith in
             let low = sym (child_is j a' false).1 ∙ ap (λ (v : Children). ref_at next v.0) e ∙ (child_is k c' false).1 in
             let high = sym (child_is j a' true).1 ∙ ap (λ (v : Children). ref_at next v.1) e ∙ (child_is k c' true).1 in
-            b.once j k a' c' (split_tells (length order) order d ok ordered reduced done (get_or order done 0) (ref_at cut j) (ref_at cut k) (b.stand j a').0 (b.stand k c').0 low high);
-        reached = λ j h. let l = length-map next is_true in let m = s.split.many in let r = s.split.reached j (omega (arith, long)) in (r.0, let q = r.1 in omega arith, r.2);
+            b.once j k a' c'
+            (split_tells (length order) order d ok ordered reduced done (get_or order done 0) (ref_at cut j) (ref_at cut k)
+            (b.stand j a').0 (b.stand k c').0 low high);
+        reached = λ j h. let l = length-map next is_true in let m = s.split.many in let r = s.split.reached j (omega (arith, long)) in
+            (r.0, let q = r.1 in omega arith, r.2);
       }
 
       stand : (k : ℕ) → k < length next → Stands order d (done + 1) (ref_at next k)
@@ -173,7 +198,9 @@ module _ (order : List ℕ) (o : IsOrder (length order) order) (d : Graph) (ok :
           (split_stands (length order) order d ok ordered done (get_or order done 0) v.1 v.0 c (ref_at cut r.0) (b.stand r.0 r.1))) in
           elim r.2 [ inl e ↦ by false e | inr e ↦ by true e ]
 
-      values : (j : ℕ) → j < length d.roots → (p : Point) → value d.nodes (ref_at d.roots j) p ≡ value d.nodes (ref_at next (place_below (levels ++ L ∷ []) (take (done + 1) order) (get_or numbers j 0) p)) p
+      values : (j : ℕ) → j < length d.roots → (p : Point) →
+          value d.nodes (ref_at d.roots j) p ≡ value d.nodes
+          (ref_at next (place_below (levels ++ L ∷ []) (take (done + 1) order) (get_or numbers j 0) p)) p
       values j h p =
           let k = place_below levels (take done order) (get_or numbers j 0) p in
           let small = place_small done levels cut (omega arith) b j h p in
@@ -181,7 +208,9 @@ module _ (order : List ℕ) (o : IsOrder (length order) order) (d : Graph) (ok :
           let l = b.long in
           b.values j h p ∙ split_value (length order) order d ok ordered (get_or order done 0) p (ref_at cut k)
           ∙ ap (λ r. value d.nodes r p) (sym (child_is k small (bit p (get_or order done 0))).1
-          ∙ ap (ref_at next) (sym (path_more levels (take done order) L (get_or order done 0) (get_or numbers j 0) p (omega arith)) ∙ ap (λ xs. place_below (levels ++ L ∷ []) xs (get_or numbers j 0) p) (sym (take_more order done 0 lt))))
+          ∙ ap (ref_at next)
+          (sym (path_more levels (take done order) L (get_or order done 0) (get_or numbers j 0) p (omega arith))
+          ∙ ap (λ xs. place_below (levels ++ L ∷ []) xs (get_or numbers j 0) p) (sym (take_more order done 0 lt))))
 
   -- a ref that stands below all levels is a terminal
   terminal : (r : Ref) → Stands order d (length order) r → (b : Bool) × (r ≡ Terminal b)
@@ -202,17 +231,20 @@ module _ (order : List ℕ) (o : IsOrder (length order) order) (d : Graph) (ok :
       own x there = (own_place x order o.once there).1
 
   -- all levels
-  pub built_all : (levels : List (List Children)) (cut : List Ref) → Built order d numbers (length order) levels cut → IsBuilt order d.nodes d.roots numbers levels (map is_true cut)
+  pub built_all : (levels : List (List Children)) (cut : List Ref) → Built order d numbers (length order) levels cut →
+      IsBuilt order d.nodes d.roots numbers levels (map is_true cut)
   unfolding SameFunction function_at
   built_all levels cut b = record {
     leveled = record { long = b.long; levels_are = b.levels_are; roots_are = b.roots_are; terminals_are = terminals_are };
     many = b.many;
     functions_are = λ j h p l.
         let small = place_small (length order) levels cut (omega arith) b j h p in
-        let e : place_below levels order (get_or numbers j 0) p ≡ place_below levels (take (length order) order) (get_or numbers j 0) p = ap (λ xs. place_below levels xs (get_or numbers j 0) p) (sym (take_all (length order) order (omega arith))) in
+        let e : place_below levels order (get_or numbers j 0) p ≡ place_below levels (take (length order) order) (get_or numbers j 0) p =
+        ap (λ xs. place_below levels xs (get_or numbers j 0) p) (sym (take_all (length order) order (omega arith))) in
         let k = place_below levels (take (length order) order) (get_or numbers j 0) p in
         let t = terminal (ref_at cut k) (b.stand k small) in
-        ap (λ m. get_or (map is_true cut) m false) e ∙ true_at cut k small ∙ ap is_true t.1 ∙ sym (value_terminal d.nodes p t.0) ∙ ap (λ r. value d.nodes r p) (sym t.1) ∙ sym (b.values j h p);
+        ap (λ m. get_or (map is_true cut) m false) e ∙ true_at cut k small ∙ ap is_true t.1 ∙ sym (value_terminal d.nodes p t.0)
+        ∙ ap (λ r. value d.nodes r p) (sym t.1) ∙ sym (b.values j h p);
   }
     where
       terminals_are : AreTerminals (map is_true cut)
@@ -227,13 +259,16 @@ module _ (order : List ℕ) (o : IsOrder (length order) order) (d : Graph) (ok :
 
 -- ---- the truth tables
 
-same_maps : {X : Type 0} (f : ℕ → X) (g : Ref → X) (ns : List ℕ) (rs : List Ref) → length ns ≡ length rs → ((j : ℕ) → j < length rs → f (get_or ns j 0) ≡ g (ref_at rs j)) → map f ns ≡ map g rs
+same_maps : {X : Type 0} (f : ℕ → X) (g : Ref → X) (ns : List ℕ) (rs : List Ref) → length ns ≡ length rs →
+    ((j : ℕ) → j < length rs → f (get_or ns j 0) ≡ g (ref_at rs j)) → map f ns ≡ map g rs
 same_maps f g [] [] e h = refl
 same_maps f g [] (r ∷ rs) e h = absurd (omega arith)
 same_maps f g (n ∷ ns) [] e h = absurd (omega arith)
 same_maps f g (n ∷ ns) (r ∷ rs) e h = ap₂ (λ x xs. x ∷ xs) (h 0 (omega arith)) (same_maps f g ns rs (omega arith) (λ j k. h (suc j) (omega arith)))
 
-pub built_problem : (order : List ℕ) (nodes : List Node) (roots : List Ref) (numbers : List ℕ) (levels : List (List Children)) (terminals : List Bool) → IsBuilt order nodes roots numbers levels terminals →
+pub built_problem : (order : List ℕ) (nodes : List Node) (roots : List Ref) (numbers : List ℕ) (levels : List (List Children))
+    (terminals : List Bool) →
+    IsBuilt order nodes roots numbers levels terminals →
     problem_at levels terminals order numbers ≡ truth_tables_of (record { order = order; graph = record { nodes = nodes; roots = roots } })
 unfolding problem_at truth_tables_of
 built_problem order nodes roots numbers levels terminals b =

@@ -27,7 +27,8 @@ use Rattle.sifting.proofs.Paths.{child_has, restricted, canonical, same_children
 use Rattle.order_model.proofs.Nodes.Reduced.{enumerated_from}
 
 -- what is left when one variable more is fixed last
-subfunctions_last : (x : ℕ) (xs : List ℕ) (f g : Function) → Among g (subfunctions (xs ++ x ∷ []) f) → (h : Function) × (b : Bool) × Among h (subfunctions xs f) × (g ≡ restrict x b h)
+subfunctions_last : (x : ℕ) (xs : List ℕ) (f g : Function) → Among g (subfunctions (xs ++ x ∷ []) f) →
+    (h : Function) × (b : Bool) × Among h (subfunctions xs f) × (g ≡ restrict x b h)
 unfolding subfunctions
 subfunctions_last x [] f g m =
     elim m [ inl e ↦ (f, false, inl refl, e) | inr r ↦ elim r [ inl e ↦ (f, true, inl refl, e) | inr n ↦ absurd n ] ]
@@ -37,7 +38,8 @@ subfunctions_last x (y ∷ xs) f g m =
       | inr a ↦ let r = subfunctions_last x xs (restrict y true f) g a in (r.0, r.1, among_right r.0 (subfunctions xs (restrict y false f)) _ r.2, r.3)
     ]
 
-reach_last : (F : List Function) (above : List ℕ) (x : ℕ) (g : Function) → Among g (reach F (above ++ x ∷ [])) → (h : Function) × (b : Bool) × Among h (reach F above) × (g ≡ restrict x b h)
+reach_last : (F : List Function) (above : List ℕ) (x : ℕ) (g : Function) → Among g (reach F (above ++ x ∷ [])) →
+    (h : Function) × (b : Bool) × Among h (reach F above) × (g ≡ restrict x b h)
 unfolding reach
 reach_last F above x g m =
     let from = among_from_flat_map (subfunctions (above ++ x ∷ [])) g F m in
@@ -49,18 +51,23 @@ pub record Covers (n : ℕ) (G : List Function) (levels : List (List Children)) 
   pub from : (g : Function) → Among g G → (k : ℕ) × (k < places levels T) × SameFunction n g (function_at levels T order k)
   pub to : (k : ℕ) → k < places levels T → (g : Function) × Among g G × SameFunction n g (function_at levels T order k)
 
-module _ (n : ℕ) (L : List Children) (levels : List (List Children)) (T : List Bool) (x : ℕ) (order : List ℕ) (lt : x < n) (out : has order x ≡ false) (level : IsLevel (places levels T) L) where
-  child_covered : (F : List Function) (above : List ℕ) (k : ℕ) → (g : Function) × Among g (reach F above) × SameFunction n g (function_at (L ∷ levels) T (x ∷ order) k) → (b : Bool) (j : ℕ) → child b (at L k) ≡ j →
+module _ (n : ℕ) (L : List Children) (levels : List (List Children)) (T : List Bool) (x : ℕ) (order : List ℕ) (lt : x < n)
+    (out : has order x ≡ false) (level : IsLevel (places levels T) L) where
+  child_covered : (F : List Function) (above : List ℕ) (k : ℕ) →
+      (g : Function) × Among g (reach F above) × SameFunction n g (function_at (L ∷ levels) T (x ∷ order) k) → (b : Bool) (j : ℕ) →
+      child b (at L k) ≡ j →
       (g : Function) × Among g (reach F (above ++ x ∷ [])) × SameFunction n g (function_at levels T order j)
   child_covered F above k up b j e = (
     restrict x b up.0,
     reach_more F above x b up.0 up.1,
     subst (λ v. SameFunction n (restrict x b up.0) (function_at levels T order v)) e
-        (same_trans n (restrict x b up.0) _ (function_at levels T order (child b (at L k))) (restrict_same n x b up.0 (function_at (L ∷ levels) T (x ∷ order) k) up.2) (restricted n L levels T x order k b lt out)),
+        (same_trans n (restrict x b up.0) _ (function_at levels T order (child b (at L k)))
+        (restrict_same n x b up.0 (function_at (L ∷ levels) T (x ∷ order) k) up.2) (restricted n L levels T x order k b lt out)),
   )
 
   -- one level down
-  pub covers_next : (F : List Function) (above : List ℕ) → Covers n (reach F above) (L ∷ levels) T (x ∷ order) → Covers n (reach F (above ++ x ∷ [])) levels T order
+  pub covers_next : (F : List Function) (above : List ℕ) → Covers n (reach F above) (L ∷ levels) T (x ∷ order) →
+      Covers n (reach F (above ++ x ∷ [])) levels T order
   covers_next F above c = record {
     from = λ g m.
         let last = reach_last F above x g m in
@@ -83,7 +90,8 @@ module _ (n : ℕ) (L : List Children) (levels : List (List Children)) (T : List
   }
 
   -- a place's function depends on the variable just where its children are two
-  pub node_depends : (most : ℕ) → AreTerminals T → length levels ≡ length order → Below n order → IsDistinct nat_eq order → AreLevels most T levels → (k : ℕ) → k < length L →
+  pub node_depends : (most : ℕ) → AreTerminals T → length levels ≡ length order → Below n order → IsDistinct nat_eq order →
+      AreLevels most T levels → (k : ℕ) → k < length L →
       depends n (function_at (L ∷ levels) T (x ∷ order) k) x ≡ not (nat_eq (at L k).0 (at L k).1)
   unfolding DependsOn
   node_depends most t e below d ok k h =
@@ -94,7 +102,8 @@ module _ (n : ℕ) (L : List Children) (levels : List (List Children)) (T : List
       elim (cases_eq (at L k).0 (at L k).1) [
         | inl s ↦
             let turned = subst (λ v. SameFunction n (restrict x false f) (function_at levels T order v)) s low in
-            depends_false n f x (same_trans n (restrict x false f) _ (restrict x true f) turned (same_sym n (restrict x true f) _ high)) ∙ ap not (sym (eq-eqb _ _ s))
+            depends_false n f x (same_trans n (restrict x false f) _ (restrict x true f) turned (same_sym n (restrict x true f) _ high))
+            ∙ ap not (sym (eq-eqb _ _ s))
         | inr ne ↦
             (depends_lem n f x).1 (λ same. ne (canonical n most T levels order t e below d ok (at L k).0 (at L k).1 i.0 i.1
             (same_trans n (function_at levels T order (at L k).0) _ (function_at levels T order (at L k).1) (same_sym n (restrict x false f) _ low)
@@ -105,7 +114,8 @@ module _ (n : ℕ) (L : List Children) (levels : List (List Children)) (T : List
 -- ---- counting
 
 module _ (test : Children → Bool) (h : ℕ → List Bool) where
-  all_apart : (t : List Bool) (es : List (ℕ × Children)) → ((e : ℕ × Children) → Among e es → t ≢ h e.0) → AllByRecursion (λ u. same_table t u ≡ false) (map (λ (e : ℕ × Children). h e.0) (filter (λ e. test e.1) es))
+  all_apart : (t : List Bool) (es : List (ℕ × Children)) → ((e : ℕ × Children) → Among e es → t ≢ h e.0) →
+      AllByRecursion (λ u. same_table t u ≡ false) (map (λ (e : ℕ × Children). h e.0) (filter (λ e. test e.1) es))
   all_apart t [] ne = tt
   all_apart t (e ∷ es) ne = by (test e.1) (all_apart t es (λ u k. ne u (inr k)))
     where
@@ -114,11 +124,13 @@ module _ (test : Children → Bool) (h : ℕ → List Bool) where
       by true r = (false_from_ne_true (same_table t (h e.0)) (λ k. ne e (inl refl) ((same_table_decides t (h e.0)).0 k)), r)
       by false r = r
 
-  distinct_tables : (xs : List Children) (s : ℕ) → ((e g : ℕ × Children) → Among e (enumerate_from s xs) → Among g (enumerate_from s xs) → h e.0 ≡ h g.0 → e.0 ≡ g.0) →
+  distinct_tables : (xs : List Children) (s : ℕ) →
+      ((e g : ℕ × Children) → Among e (enumerate_from s xs) → Among g (enumerate_from s xs) → h e.0 ≡ h g.0 → e.0 ≡ g.0) →
       IsDistinct same_table (map (λ (e : ℕ × Children). h e.0) (filter (λ e. test e.1) (enumerate_from s xs)))
   unfolding IsDistinct
   distinct_tables [] s inj = tt
-  distinct_tables (x ∷ xs) s inj = by (test x) (distinct_tables xs (s + 1) (λ e g a b. inj e g (inr a) (inr b))) (all_apart (h s) (enumerate_from (s + 1) xs) later)
+  distinct_tables (x ∷ xs) s inj =
+      by (test x) (distinct_tables xs (s + 1) (λ e g a b. inj e g (inr a) (inr b))) (all_apart (h s) (enumerate_from (s + 1) xs) later)
     where
       later : (e : ℕ × Children) → Among e (enumerate_from (s + 1) xs) → h s ≢ h e.0
       later e a k = let f = inj (s, x) e (inl refl) (inr a) k in let g = (enumerated_from xs (s + 1) e a).1 in omega arith
@@ -126,15 +138,19 @@ module _ (test : Children → Bool) (h : ℕ → List Bool) where
       tail : List (ℕ × Children)
       tail = filter (λ e. test e.1) (enumerate_from (s + 1) xs)
 
-      by : (b : Bool) → IsDistinct same_table (map (λ (e : ℕ × Children). h e.0) tail) → AllByRecursion (λ u. same_table (h s) u ≡ false) (map (λ (e : ℕ × Children). h e.0) tail) →
+      by : (b : Bool) → IsDistinct same_table (map (λ (e : ℕ × Children). h e.0) tail) →
+          AllByRecursion (λ u. same_table (h s) u ≡ false) (map (λ (e : ℕ × Children). h e.0) tail) →
           IsDistinct same_table (map (λ (e : ℕ × Children). h e.0) (cond b ((s, x) ∷ tail) tail))
       by true r a = (a, r)
       by false r a = r
 
-  distinct_in : (xs : List Children) → IsDistinct same_table (map (λ (e : ℕ × Children). h e.0) (filter (λ e. test e.1) (enumerate_from 0 xs))) → distinct_count same_table (map (λ (e : ℕ × Children). h e.0) (filter (λ e. test e.1) (enumerate_from 0 xs))) ≡ count_by test xs
+  distinct_in : (xs : List Children) →
+      IsDistinct same_table (map (λ (e : ℕ × Children). h e.0) (filter (λ e. test e.1) (enumerate_from 0 xs))) →
+      distinct_count same_table (map (λ (e : ℕ × Children). h e.0) (filter (λ e. test e.1) (enumerate_from 0 xs))) ≡ count_by test xs
   distinct_in xs d =
       distinct_count-from_IsDistinct (lists_equiv bool_eq_equiv) (map (λ (e : ℕ × Children). h e.0) (filter (λ e. test e.1) (enumerate_from 0 xs))) d
-      ∙ length-map (filter (λ (e : ℕ × Children). test e.1) (enumerate_from 0 xs)) (λ (e : ℕ × Children). h e.0) ∙ count_enumerated test xs 0 ∙ length-filter test xs
+      ∙ length-map (filter (λ (e : ℕ × Children). test e.1) (enumerate_from 0 xs)) (λ (e : ℕ × Children). h e.0)
+      ∙ count_enumerated test xs 0 ∙ length-filter test xs
 
 -- an element by its place, and its default
 slice_is_get : (xs : List Children) (k : ℕ) (c : Children) → slice_get xs k ≡ Some c → (at xs k ≡ c) × (k < length xs)
@@ -148,8 +164,11 @@ get_is_slice (x ∷ xs) zero h = refl
 get_is_slice (x ∷ xs) (suc k) h = get_is_slice xs k (omega arith)
 
 -- how many of the functions depend on the level's variable
-pub counted : (n most : ℕ) (L : List Children) (levels : List (List Children)) (T : List Bool) (x : ℕ) (order : List ℕ) (G : List Function) → x < n → has order x ≡ false → AreTerminals T → length levels ≡ length order →
-    Below n order → IsDistinct nat_eq order → IsLevel (places levels T) L → AreLevels most T levels → Covers n G (L ∷ levels) T (x ∷ order) → dependents n G x ≡ branching L
+pub counted : (n most : ℕ) (L : List Children) (levels : List (List Children)) (T : List Bool) (x : ℕ) (order : List ℕ)
+    (G : List Function) →
+    x < n → has order x ≡ false → AreTerminals T → length levels ≡ length order →
+    Below n order → IsDistinct nat_eq order → IsLevel (places levels T) L → AreLevels most T levels →
+    Covers n G (L ∷ levels) T (x ∷ order) → dependents n G x ≡ branching L
 unfolding dependents branching
 counted n most L levels T x order G lt out t e below d level ok c =
     count_same same_table same_table_decides found tables to from ∙ distinct_in test node_table L (distinct_tables test node_table L 0 inj)
@@ -182,7 +201,8 @@ counted n most L levels T x order G lt out t e below d level ok c =
         let high = restricted n L levels T x order k v lt out in
         let i = level.inside j a in
         let m = level.inside k b in
-        canonical n most T levels order t e below d ok (child v (at L j)) (child v (at L k)) (child_has (λ w. w < places levels T) v (at L j) i.0 i.1) (child_has (λ w. w < places levels T) v (at L k) m.0 m.1)
+        canonical n most T levels order t e below d ok (child v (at L j)) (child v (at L k))
+        (child_has (λ w. w < places levels T) v (at L j) i.0 i.1) (child_has (λ w. w < places levels T) v (at L k) m.0 m.1)
         (same_trans n (function_at levels T order (child v (at L j))) _ (function_at levels T order (child v (at L k)))
         (same_sym n _ (function_at levels T order (child v (at L j))) low)
         (same_trans n (restrict x v (f j)) _ (function_at levels T order (child v (at L k))) (restrict_same n x v (f j) (f k) same) high)) in
@@ -224,7 +244,8 @@ below_behind : (n : ℕ) (above order : List ℕ) → IsOrder n (above ++ order)
 below_behind n above order o = below_from_has n order (λ y h. (o.all y).0 (has_append above order y ∙ or_right (has above y) _ h))
 
 -- the counts of the levels are the level counts
-pub counts_below : (n most : ℕ) (T : List Bool) (F : List Function) (levels : List (List Children)) (above order : List ℕ) → IsOrder n (above ++ order) → AreTerminals T → length levels ≡ length order → AreLevels most T levels →
+pub counts_below : (n most : ℕ) (T : List Bool) (F : List Function) (levels : List (List Children)) (above order : List ℕ) →
+    IsOrder n (above ++ order) → AreTerminals T → length levels ≡ length order → AreLevels most T levels →
     Covers n (reach F above) levels T order → map (level_count n F (above ++ order)) (range_with_len (length above) (length order)) ≡ map branching levels
 unfolding IsDistinct
 counts_below n most T F [] above [] o t e ok c = refl
@@ -259,8 +280,10 @@ place_among (g ∷ F) zero d h = inl refl
 place_among (g ∷ F) (suc j) d h = inr (place_among F j d (omega arith))
 
 -- the functions of the roots
-pub roots_cover : (n : ℕ) (levels : List (List Children)) (T : List Bool) (order roots : List ℕ) (F : List Function) → AreRoots (places levels T) roots → length F ≡ length roots →
-    ((j : ℕ) (g : Function) → j < length roots → SameFunction n (get_or F j g) (function_at levels T order (get_or roots j 0))) → Covers n (reach F []) levels T order
+pub roots_cover : (n : ℕ) (levels : List (List Children)) (T : List Bool) (order roots : List ℕ) (F : List Function) →
+    AreRoots (places levels T) roots → length F ≡ length roots →
+    ((j : ℕ) (g : Function) → j < length roots → SameFunction n (get_or F j g) (function_at levels T order (get_or roots j 0))) →
+    Covers n (reach F []) levels T order
 unfolding reach subfunctions
 roots_cover n levels T order roots F ok e same = record {
   from = λ g m.
@@ -273,12 +296,16 @@ roots_cover n levels T order roots F ok e same = record {
       let r = ok.reached k h in
       let g = function_at levels T order k in
       let lt : r.0 < length F = omega (arith, r.1) in
-      let f = get_or F r.0 g in
-      (f, among_flat_map (subfunctions []) f F f (place_among F r.0 g lt) (inl refl), subst (λ m. SameFunction n f (function_at levels T order m)) r.2 (same r.0 g r.1));
+      let f = get_or F r.0 g in (
+        f,
+        among_flat_map (subfunctions []) f F f (place_among F r.0 g lt) (inl refl),
+        subst (λ m. SameFunction n f (function_at levels T order m)) r.2 (same r.0 g r.1),
+      );
 }
 
 -- the level counts, and the size
-pub all_counts : (n most : ℕ) (T : List Bool) (F : List Function) (levels : List (List Children)) (order : List ℕ) → IsOrder n order → AreTerminals T → length levels ≡ length order → AreLevels most T levels →
+pub all_counts : (n most : ℕ) (T : List Bool) (F : List Function) (levels : List (List Children)) (order : List ℕ) → IsOrder n order →
+    AreTerminals T → length levels ≡ length order → AreLevels most T levels →
     Covers n (reach F []) levels T order → level_counts n F order ≡ map branching levels
 unfolding level_counts
 all_counts n most T F levels order o t e ok c = counts_below n most T F levels [] order o t e ok c

@@ -57,11 +57,14 @@ module _ (n : ℕ) (order : List ℕ) (d : Graph) (ok : IsDiagram n d) (ordered 
             | inl s ↦
                 value_place n d ok p k node e ∙ ap (λ v. value d.nodes (cond (bit p v) node.high node.low) p) s
                 ∙ ap (λ c. value d.nodes (half (bit p x) (cond c (node.low, node.high) (Place k, Place k))) p) (sym (eq-eqb node.variable x s))
-            | inr ne ↦ same (bit p x) ∙ ap (λ c. value d.nodes (half (bit p x) (cond c (node.low, node.high) (Place k, Place k))) p) (sym (ne_eqb node.variable x ne))
+            | inr ne ↦ same (bit p x)
+                ∙ ap (λ c. value d.nodes (half (bit p x) (cond c (node.low, node.high) (Place k, Place k))) p)
+                (sym (ne_eqb node.variable x ne))
           ]
 
   -- both halves stand below the variable's level
-  pub split_stands : (i x : ℕ) → ((y : ℕ) → place_in order y ≡ i → y ≡ x) → place_in order x ≡ i → (b : Bool) (r : Ref) → Stands order d i r → Stands order d (suc i) (half b (split_ref d.nodes x r))
+  pub split_stands : (i x : ℕ) → ((y : ℕ) → place_in order y ≡ i → y ≡ x) → place_in order x ≡ i → (b : Bool) (r : Ref) →
+      Stands order d i r → Stands order d (suc i) (half b (split_ref d.nodes x r))
   unfolding split_ref StandsFrom
   split_stands i x only here b (Terminal t) s = by b
     where
@@ -73,8 +76,10 @@ module _ (n : ℕ) (order : List ℕ) (d : Graph) (ok : IsDiagram n d) (ordered 
         | inl found ↦
             subst (λ o. Stands order d (suc i) (half b (split_node x (Place k) o))) (sym found.2)
             (elim (cases_eq found.0.variable x) [
-              | inl e ↦ subst (λ c. Stands order d (suc i) (half b (cond c (found.0.low, found.0.high) (Place k, Place k)))) (sym (eq-eqb found.0.variable x e)) (child_half found.0 found.2 e b)
-              | inr ne ↦ subst (λ c. Stands order d (suc i) (half b (cond c (found.0.low, found.0.high) (Place k, Place k)))) (sym (ne_eqb found.0.variable x ne)) (own found.0 found.2 ne b)
+              | inl e ↦ subst (λ c. Stands order d (suc i) (half b (cond c (found.0.low, found.0.high) (Place k, Place k))))
+                  (sym (eq-eqb found.0.variable x e)) (child_half found.0 found.2 e b)
+              | inr ne ↦ subst (λ c. Stands order d (suc i) (half b (cond c (found.0.low, found.0.high) (Place k, Place k))))
+                  (sym (ne_eqb found.0.variable x ne)) (own found.0 found.2 ne b)
             ])
         | inr past ↦ absurd (omega (arith, past.0, s.0))
       ]
@@ -86,7 +91,8 @@ module _ (n : ℕ) (order : List ℕ) (d : Graph) (ok : IsDiagram n d) (ordered 
       child_half node is e c =
           let t = ap (place_in order) e in (
             before_more k (length d.nodes) (cond c node.high node.low) (omega (arith, s.0)) (child_before n d ok k node c is),
-            stands_less order d.nodes (suc i) (suc (place_in order node.variable)) (cond c node.high node.low) (omega arith) (child_stands n order d ok ordered k node c is),
+            stands_less order d.nodes (suc i) (suc (place_in order node.variable)) (cond c node.high node.low) (omega arith)
+                (child_stands n order d ok ordered k node c is),
           )
 
       stays : (node : Node) → slice_get d.nodes k ≡ Some node → (node.variable ≡ x → ⊥) → Stands order d (suc i) (Place k)
@@ -106,7 +112,9 @@ module _ (n : ℕ) (order : List ℕ) (d : Graph) (ok : IsDiagram n d) (ordered 
   module _ (reduced : IsReduced d) (i x : ℕ) where
     -- the halves of a node of the variable, or the ref twice
     abbrev pub Halves : Ref → Type 0
-    Halves r = ((k : ℕ) × (node : Node) × (r ≡ Place k) × (slice_get d.nodes k ≡ Some node) × (node.variable ≡ x) × (split_ref d.nodes x r ≡ (node.low, node.high))) ⊎ (split_ref d.nodes x r ≡ (r, r))
+    Halves r = ((k : ℕ) × (node : Node) × (r ≡ Place k) × (slice_get d.nodes k ≡ Some node) × (node.variable ≡ x)
+        × (split_ref d.nodes x r ≡ (node.low, node.high)))
+        ⊎ (split_ref d.nodes x r ≡ (r, r))
 
     halves_are : (r : Ref) → IsBefore (length d.nodes) r → Halves r
     unfolding split_ref
@@ -115,8 +123,18 @@ module _ (n : ℕ) (order : List ℕ) (d : Graph) (ok : IsDiagram n d) (ordered 
         elim (slice_get_cases d.nodes k).1 [
           | inl found ↦
               elim (cases_eq found.0.variable x) [
-                | inl e ↦ inl (k, found.0, refl, found.2, e, ap (split_node x (Place k)) found.2 ∙ ap (λ c. cond c (found.0.low, found.0.high) (Place k, Place k)) (eq-eqb found.0.variable x e))
-                | inr ne ↦ inr (ap (split_node x (Place k)) found.2 ∙ ap (λ c. cond c (found.0.low, found.0.high) (Place k, Place k)) (ne_eqb found.0.variable x ne))
+                | inl e ↦ inl (
+                  k,
+                  found.0,
+                  refl,
+                  found.2,
+                  e,
+                  ap (split_node x (Place k)) found.2
+                      ∙ ap (λ c. cond c (found.0.low, found.0.high) (Place k, Place k)) (eq-eqb found.0.variable x e),
+                )
+                | inr ne ↦ inr
+                    (ap (split_node x (Place k)) found.2
+                    ∙ ap (λ c. cond c (found.0.low, found.0.high) (Place k, Place k)) (ne_eqb found.0.variable x ne))
               ]
           | inr past ↦ absurd (omega (arith, past.0, h))
         ]
@@ -127,7 +145,8 @@ module _ (n : ℕ) (order : List ℕ) (d : Graph) (ok : IsDiagram n d) (ordered 
     high_of : Ref × Ref → Ref
     high_of h = h.1
 
-    pub split_tells : (r s : Ref) → IsBefore (length d.nodes) r → IsBefore (length d.nodes) s → (split_ref d.nodes x r).0 ≡ (split_ref d.nodes x s).0 → (split_ref d.nodes x r).1 ≡ (split_ref d.nodes x s).1 → r ≡ s
+    pub split_tells : (r s : Ref) → IsBefore (length d.nodes) r → IsBefore (length d.nodes) s →
+        (split_ref d.nodes x r).0 ≡ (split_ref d.nodes x s).0 → (split_ref d.nodes x r).1 ≡ (split_ref d.nodes x s).1 → r ≡ s
     unfolding low_of high_of
     split_tells r s a b e f =
         elim (halves_are r a) [
@@ -161,17 +180,21 @@ split_terminal nodes x r b e = let P : Ref → Type 0 = λ s. (s, s) ≡ split_r
 place_inside : (nodes : List Node) (r : Ref) (k : ℕ) → r ≡ Place k → IsBefore (length nodes) r → k < length nodes
 place_inside nodes r k e h = subst (IsBefore (length nodes)) e h
 
-pub split_then : (nodes : List Node) (x : ℕ) (r : Ref) (k : ℕ) (v : Node) → r ≡ Place k → IsBefore (length nodes) r → (get_or nodes k v).variable ≡ x → ((get_or nodes k v).low, (get_or nodes k v).high) ≡ split_ref nodes x r
+pub split_then : (nodes : List Node) (x : ℕ) (r : Ref) (k : ℕ) (v : Node) → r ≡ Place k → IsBefore (length nodes) r →
+    (get_or nodes k v).variable ≡ x → ((get_or nodes k v).low, (get_or nodes k v).high) ≡ split_ref nodes x r
 unfolding split_ref
 split_then nodes x r k v e h s =
     let w = get_or nodes k v in
-    sym (ap (split_ref nodes x) e ∙ ap (split_node x (Place k)) (node_at nodes k v (place_inside nodes r k e h)) ∙ ap (λ c. cond c (w.low, w.high) (Place k, Place k)) (eq-eqb w.variable x s))
+    sym (ap (split_ref nodes x) e ∙ ap (split_node x (Place k)) (node_at nodes k v (place_inside nodes r k e h))
+    ∙ ap (λ c. cond c (w.low, w.high) (Place k, Place k)) (eq-eqb w.variable x s))
 
-pub split_else : (nodes : List Node) (x : ℕ) (r : Ref) (k : ℕ) (v : Node) → r ≡ Place k → IsBefore (length nodes) r → (get_or nodes k v).variable ≢ x → (Place k, Place k) ≡ split_ref nodes x r
+pub split_else : (nodes : List Node) (x : ℕ) (r : Ref) (k : ℕ) (v : Node) → r ≡ Place k → IsBefore (length nodes) r →
+    (get_or nodes k v).variable ≢ x → (Place k, Place k) ≡ split_ref nodes x r
 unfolding split_ref
 split_else nodes x r k v e h ne =
     let w = get_or nodes k v in
-    sym (ap (split_ref nodes x) e ∙ ap (split_node x (Place k)) (node_at nodes k v (place_inside nodes r k e h)) ∙ ap (λ c. cond c (w.low, w.high) (Place k, Place k)) (ne_eqb w.variable x ne))
+    sym (ap (split_ref nodes x) e ∙ ap (split_node x (Place k)) (node_at nodes k v (place_inside nodes r k e h))
+    ∙ ap (λ c. cond c (w.low, w.high) (Place k, Place k)) (ne_eqb w.variable x ne))
 
 pub ref_small : (c : ℕ) → c < 2 → Terminal (nat_eq c 1) ≡ ref_of c
 unfolding ref_of
@@ -186,7 +209,8 @@ ref_large (suc zero) h = absurd (omega arith)
 ref_large (suc (suc k)) h = let e : suc (suc k) - 2 ≡ k = omega arith in ap Place e
 
 -- both halves are terminals or nodes
-pub split_before : (n : ℕ) (nodes : List Node) → AreNodes n nodes → (x : ℕ) (r : Ref) → IsBefore (length nodes) r → (b : Bool) → IsBefore (length nodes) (half b (split_ref nodes x r))
+pub split_before : (n : ℕ) (nodes : List Node) → AreNodes n nodes → (x : ℕ) (r : Ref) → IsBefore (length nodes) r → (b : Bool) →
+    IsBefore (length nodes) (half b (split_ref nodes x r))
 unfolding split_ref
 split_before n nodes ok x (Terminal t) h true = tt
 split_before n nodes ok x (Terminal t) h false = tt
@@ -196,7 +220,8 @@ split_before n nodes ok x (Place k) h b =
           let v = found.0 in
           subst (λ o. IsBefore (length nodes) (half b (split_node x (Place k) o))) (sym found.2)
           (elim (cases_eq v.variable x) [
-            | inl e ↦ subst (λ c. IsBefore (length nodes) (half b (cond c (v.low, v.high) (Place k, Place k)))) (sym (eq-eqb v.variable x e)) (child v found.2 b)
+            | inl e ↦ subst (λ c. IsBefore (length nodes) (half b (cond c (v.low, v.high) (Place k, Place k))))
+                (sym (eq-eqb v.variable x e)) (child v found.2 b)
             | inr ne ↦ subst (λ c. IsBefore (length nodes) (half b (cond c (v.low, v.high) (Place k, Place k)))) (sym (ne_eqb v.variable x ne)) (own b)
           ])
       | inr past ↦ absurd (omega (arith, past.0, h))

@@ -21,7 +21,8 @@ as_many n nodes [] (f ∷ F) z = absurd z
 as_many n nodes (r ∷ roots) [] z = absurd z
 as_many n nodes (r ∷ roots) (f ∷ F) z = ap suc (as_many n nodes roots F z.1)
 
-same_tables : (n : ℕ) (nodes : List Node) (roots : List Ref) (F : List Function) → AreOf n nodes roots F → map (λ r. table n (value nodes r)) roots ≡ map (table n) F
+same_tables : (n : ℕ) (nodes : List Node) (roots : List Ref) (F : List Function) → AreOf n nodes roots F →
+    map (λ r. table n (value nodes r)) roots ≡ map (table n) F
 same_tables n nodes [] [] z = refl
 same_tables n nodes [] (f ∷ F) z = absurd z
 same_tables n nodes (r ∷ roots) [] z = absurd z
@@ -42,10 +43,13 @@ tables_back : (n : ℕ) (ts : List (List Bool)) → ((j : ℕ) → j < length ts
 tables_back n [] whole = refl
 tables_back n (t ∷ ts) whole = ap₂ (λ u us. u ∷ us) (table-from_table n t (whole zero (omega arith))) (tables_back n ts (λ j h. whole (suc j) (omega arith)))
 
-pub problem_same : (t : TruthTables) → ((j : ℕ) → j < outputs_of t → length (table_at t j) ≡ 2 ^ t.inputs) → (order : List ℕ) (d : OrderedGraph) → length d.order ≡ t.inputs →
+pub problem_same : (t : TruthTables) → ((j : ℕ) → j < outputs_of t → length (table_at t j) ≡ 2 ^ t.inputs) →
+    (order : List ℕ) (d : OrderedGraph) → length d.order ≡ t.inputs →
     Represents t.inputs (functions t) order d.graph → truth_tables_of d ≡ t
 problem_same t whole order d e r =
-    tables_same t.inputs (functions t) order d e r ∙ ap (λ (ts : List (List Bool)). record { inputs = t.inputs; tables = ts }) (tables_back t.inputs t.tables whole)
+    tables_same t.inputs (functions t) order d e r
+    ∙ ap (λ (ts : List (List Bool)). record { inputs = t.inputs; tables = ts }) (tables_back t.inputs t.tables whole)
 
-pub problem_roots : (t : TruthTables) (order : List ℕ) (d : OrderedGraph) → Represents t.inputs (functions t) order d.graph → length d.graph.roots ≡ outputs_of t
+pub problem_roots : (t : TruthTables) (order : List ℕ) (d : OrderedGraph) → Represents t.inputs (functions t) order d.graph →
+    length d.graph.roots ≡ outputs_of t
 problem_roots t order d r = roots_many t.inputs (functions t) order d r ∙ length-map t.tables from_table

@@ -6,7 +6,8 @@ use Rattle.order_model.specs.Functions.{Point, bit}
 use Rattle.sifting.specs.Leveled.{Children, child, at, place_below, places, HasChildren, IsLevel, AreLevels, Exchanges}
 use Rattle.sifting.proofs.Paths.{child_has, same_children}
 
-module _ (upper lower upper' lower' : List Children) (below : ℕ) (ex : Exchanges upper lower upper' lower') (u : IsLevel (length lower) upper) (l : IsLevel below lower) where
+module _ (upper lower upper' lower' : List Children) (below : ℕ) (ex : Exchanges upper lower upper' lower')
+    (u : IsLevel (length lower) upper) (l : IsLevel below lower) where
   -- which of the upper level's nodes have equal children
   apart : (j k : ℕ) → j < length upper → k < length upper → at upper' j ≡ at upper' k → j ≡ k
   apart j k a b e =
@@ -14,8 +15,14 @@ module _ (upper lower upper' lower' : List Children) (below : ℕ) (ex : Exchang
       let on = sym (ex.on j a) ∙ ap (λ (c : Children). at lower' c.1) e ∙ ex.on k b in
       let i = u.inside j a in
       let m = u.inside k b in
-      let zero_side = l.once (at upper j).0 (at upper k).0 i.0 m.0 (same_children (at lower (at upper j).0) (at lower (at upper k).0) (ap (λ (c : Children). c.0) off) (ap (λ (c : Children). c.0) on)) in
-      let one_side = l.once (at upper j).1 (at upper k).1 i.1 m.1 (same_children (at lower (at upper j).1) (at lower (at upper k).1) (ap (λ (c : Children). c.1) off) (ap (λ (c : Children). c.1) on)) in
+      let zero_side =
+      l.once (at upper j).0 (at upper k).0 i.0 m.0
+      (same_children (at lower (at upper j).0) (at lower (at upper k).0) (ap (λ (c : Children). c.0) off)
+      (ap (λ (c : Children). c.0) on)) in
+      let one_side =
+      l.once (at upper j).1 (at upper k).1 i.1 m.1
+      (same_children (at lower (at upper j).1) (at lower (at upper k).1) (ap (λ (c : Children). c.1) off)
+      (ap (λ (c : Children). c.1) on)) in
       u.once j k a b (same_children (at upper j) (at upper k) zero_side one_side)
 
   long : (k : ℕ) → k < length upper' → k < length upper
@@ -47,7 +54,8 @@ module _ (upper lower upper' lower' : List Children) (below : ℕ) (ex : Exchang
             | inr e ↦ subst (λ (c : Children). (c.0 < below) × (c.1 < below)) (sym (ex.on k r.1) ∙ ap (at lower') e) (a.1, b.1)
           ]
 
-      by : (r : ℕ) → (m : ℕ) × (m < length lower) × (((at lower m).0 ≡ r) ⊎ ((at lower m).1 ≡ r)) → (k : ℕ) × (k < length lower') × (((at lower' k).0 ≡ r) ⊎ ((at lower' k).1 ≡ r))
+      by : (r : ℕ) → (m : ℕ) × (m < length lower) × (((at lower m).0 ≡ r) ⊎ ((at lower m).1 ≡ r)) →
+          (k : ℕ) × (k < length lower') × (((at lower' k).0 ≡ r) ⊎ ((at lower' k).1 ≡ r))
       by r f =
           let up = u.reached f.0 f.1 in
           let k = up.0 in
@@ -98,7 +106,8 @@ module _ (T : List Bool) (upper lower upper' lower' : List Children) (ex : Excha
   places_placed (L ∷ M ∷ levels) zero a = ex.many ∙ ap length (sym a.upper_is)
   places_placed (L ∷ M ∷ levels) (suc i) a = refl
 
-  pub levels_placed : (most : ℕ) (levels : List (List Children)) (i : ℕ) → At levels i upper lower → AreLevels most T levels → AreLevels most T (placed levels i upper' lower')
+  pub levels_placed : (most : ℕ) (levels : List (List Children)) (i : ℕ) → At levels i upper lower → AreLevels most T levels →
+      AreLevels most T (placed levels i upper' lower')
   levels_placed most [] i a ok = ok
   levels_placed most (L ∷ []) i a ok = absurd (let h = a.inside in omega arith)
   levels_placed most (L ∷ M ∷ levels) zero a ok =
@@ -107,13 +116,17 @@ module _ (T : List Bool) (upper lower upper' lower' : List Children) (ex : Excha
       let e = ex.many in
       let s = ap length a.upper_is in
       let f = ex.few in
-      let m = ok.1 in
-      (upper_level upper lower upper' lower' (places levels T) ex u l, omega arith, (lower_level upper lower upper' lower' (places levels T) ex u l, omega arith, ok.2.2))
+      let m = ok.1 in (
+        upper_level upper lower upper' lower' (places levels T) ex u l,
+        omega arith,
+        (lower_level upper lower upper' lower' (places levels T) ex u l, omega arith, ok.2.2),
+      )
   levels_placed most (L ∷ M ∷ levels) (suc i) a ok =
       let below : At (M ∷ levels) i upper lower = record { upper_is = a.upper_is; lower_is = a.lower_is; inside = let h = a.inside in omega arith } in
       (subst (λ m. IsLevel m L) (sym (places_placed (M ∷ levels) i below)) ok.0, ok.1, levels_placed (2 * most) (M ∷ levels) i below ok.2)
 
-  pub path_placed : (most : ℕ) (levels : List (List Children)) (i : ℕ) (order : List ℕ) (k : ℕ) (p : Point) → At levels i upper lower → AreLevels most T levels → length levels ≡ length order → k < places levels T →
+  pub path_placed : (most : ℕ) (levels : List (List Children)) (i : ℕ) (order : List ℕ) (k : ℕ) (p : Point) → At levels i upper lower →
+      AreLevels most T levels → length levels ≡ length order → k < places levels T →
       place_below (placed levels i upper' lower') (crossed order i) k p ≡ place_below levels order k p
   unfolding place_below
   path_placed most [] i order k p a ok e h = absurd (let h = a.inside in omega arith)
@@ -123,8 +136,10 @@ module _ (T : List Bool) (upper lower upper' lower' : List Children) (ex : Excha
   path_placed most (L ∷ M ∷ levels) zero (x ∷ y ∷ order) k p a ok e h =
       let s = ap length a.upper_is in
       ap (λ j. place_below levels order j p) (grandchild upper lower upper' lower' ex k (omega arith) (bit p x) (bit p y)
-      ∙ ap (λ N. child (bit p y) (at lower (child (bit p x) (at N k)))) (sym a.upper_is) ∙ ap (λ N. child (bit p y) (at N (child (bit p x) (at L k)))) (sym a.lower_is))
+      ∙ ap (λ N. child (bit p y) (at lower (child (bit p x) (at N k)))) (sym a.upper_is)
+      ∙ ap (λ N. child (bit p y) (at N (child (bit p x) (at L k)))) (sym a.lower_is))
   path_placed most (L ∷ M ∷ levels) (suc i) (x ∷ y ∷ order) k p a ok e h =
       let below : At (M ∷ levels) i upper lower = record { upper_is = a.upper_is; lower_is = a.lower_is; inside = let h = a.inside in omega arith } in
       let c = ok.0.inside k h in
-      path_placed (2 * most) (M ∷ levels) i (y ∷ order) (child (bit p x) (at L k)) p below ok.2 (omega arith) (child_has (λ j. j < length M) (bit p x) (at L k) c.0 c.1)
+      path_placed (2 * most) (M ∷ levels) i (y ∷ order) (child (bit p x) (at L k)) p below ok.2 (omega arith)
+      (child_has (λ j. j < length M) (bit p x) (at L k) c.0 c.1)

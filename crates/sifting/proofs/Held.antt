@@ -66,7 +66,8 @@ grown : (m k : ℕ) → m ≤ m * 2 ^ k
 grown m k = let h : 1 ≤ 2 ^ k = omega (arith, pow_pos k) in omega (arith, mul-le-mul_left m h)
 
 -- all nodes and some more are at most as many as a full tree's
-levels_small : (most : ℕ) (T : List Bool) (levels : List (List Children)) → AreLevels most T levels → sum (map branching levels) + most ≤ most * 2 ^ length levels
+levels_small : (most : ℕ) (T : List Bool) (levels : List (List Children)) → AreLevels most T levels →
+    sum (map branching levels) + most ≤ most * 2 ^ length levels
 levels_small most T [] ok = omega (arith, pow-suc 2 0)
 levels_small most T (L ∷ levels) ok =
     let rest = levels_small (2 * most) T levels ok.2 in
@@ -77,7 +78,8 @@ levels_small most T (L ∷ levels) ok =
     let f = twice most (length levels) in
     omega arith
 
-pub few_at : (most : ℕ) (T : List Bool) (levels : List (List Children)) (i : ℕ) → i < length levels → AreLevels most T levels → length (get_or levels i []) ≤ most * 2 ^ length levels
+pub few_at : (most : ℕ) (T : List Bool) (levels : List (List Children)) (i : ℕ) → i < length levels → AreLevels most T levels →
+    length (get_or levels i []) ≤ most * 2 ^ length levels
 few_at most T [] i h ok = absurd (omega arith)
 few_at most T (L ∷ levels) zero h ok = let few = ok.1 in let g = grown most (suc (length levels)) in omega arith
 few_at most T (L ∷ levels) (suc i) h ok =
@@ -90,7 +92,8 @@ pub small_bound : (n : ℕ) → n ≤ 16 → 16 * 2 ^ n ≤ 1048576
 small_bound n h = let e = pow-le-pow_right {n = 2} (omega arith) h in omega arith
 
 -- a level's children are places of the next one
-pub level_at : (most : ℕ) (T : List Bool) (levels : List (List Children)) (i : ℕ) → suc i < length levels → AreLevels most T levels → HasChildren (length (get_or levels (suc i) [])) (get_or levels i [])
+pub level_at : (most : ℕ) (T : List Bool) (levels : List (List Children)) (i : ℕ) → suc i < length levels → AreLevels most T levels →
+    HasChildren (length (get_or levels (suc i) [])) (get_or levels i [])
 level_at most T [] i h ok = absurd (omega arith)
 level_at most T (L ∷ []) i h ok = absurd (omega arith)
 level_at most T (L ∷ M ∷ levels) zero h ok = ok.0.inside
@@ -113,11 +116,17 @@ module _ (levels : List (List Children)) (T : List Bool) (order roots : List ℕ
   pub held_levels : level_counts (problem_at levels T order roots).inputs (functions (problem_at levels T order roots)) order ≡ map branching levels
   unfolding problem_at n f
   held_levels =
-      let cover = roots_cover (length order) levels T order roots (map (λ r. function_at levels T order r) roots) held.leveled.roots_are (length-map roots (λ r. function_at levels T order r))
-      (λ j g h. subst (λ k. SameFunction (length order) k (function_at levels T order (get_or roots j 0))) (sym (map_get (λ r. function_at levels T order r) roots j g h)) (same_refl (length order) (function_at levels T order (get_or roots j 0)))) in
+      let cover =
+      roots_cover (length order) levels T order roots (map (λ r. function_at levels T order r) roots) held.leveled.roots_are
+      (length-map roots (λ r. function_at levels T order r))
+      (λ j g h. subst (λ k. SameFunction (length order) k (function_at levels T order (get_or roots j 0)))
+      (sym (map_get (λ r. function_at levels T order r) roots j g h))
+      (same_refl (length order) (function_at levels T order (get_or roots j 0)))) in
       ap (λ ts. level_counts (length order) (map from_table ts) order) (sym (map-map (table (length order)) (λ r. function_at levels T order r) roots))
-      ∙ level_counts_same (length order) (map from_table (map (table (length order)) (map (λ r. function_at levels T order r) roots))) (map (λ r. function_at levels T order r) roots) (tables_same (length order) (map (λ r. function_at levels T order r) roots)) order
-      ∙ all_counts (length order) 16 T (map (λ r. function_at levels T order r) roots) levels order held.is_order held.leveled.terminals_are held.leveled.long held.leveled.levels_are cover
+      ∙ level_counts_same (length order) (map from_table (map (table (length order)) (map (λ r. function_at levels T order r) roots)))
+      (map (λ r. function_at levels T order r) roots) (tables_same (length order) (map (λ r. function_at levels T order r) roots)) order
+      ∙ all_counts (length order) 16 T (map (λ r. function_at levels T order r) roots) levels order held.is_order held.leveled.terminals_are
+      held.leveled.long held.leveled.levels_are cover
 
   pub held_order : IsManagedOrder (record { order = order; problem = problem_at levels T order roots; pairs = kept.pairs })
   unfolding problem_at
@@ -127,10 +136,14 @@ module _ (levels : List (List Children)) (T : List Bool) (order roots : List ℕ
   unfolding size_under
   held_size = ap sum held_levels
 
-  pub held_count : (i : ℕ) → i < length order → level_count (problem_at levels T order roots).inputs (functions (problem_at levels T order roots)) order i ≡ get_or (map branching levels) i 0
+  pub held_count : (i : ℕ) → i < length order →
+      level_count (problem_at levels T order roots).inputs (functions (problem_at levels T order roots)) order i ≡ get_or
+      (map branching levels) i 0
   unfolding level_counts
   held_count i h =
-      sym (get_or-map-range_with_len (level_count (problem_at levels T order roots).inputs (functions (problem_at levels T order roots)) order) 0 (length order) i i 0 h (omega arith))
+      sym (get_or-map-range_with_len
+      (level_count (problem_at levels T order roots).inputs (functions (problem_at levels T order roots)) order) 0 (length order) i i 0
+      h (omega arith))
       ∙ ap (λ ms. get_or ms i 0) held_levels
 
   pub held_small : sum (map branching levels) ≤ 1048576
@@ -140,20 +153,28 @@ module _ (levels : List (List Children)) (T : List Bool) (order roots : List ℕ
       omega arith
 
   -- the two levels with their variables exchanged
-  module _ (i : ℕ) (inside : i + 1 < length order) (lawful : has_pair kept.pairs (get_or order i 0) (get_or order (i + 1) 0) ≡ false) (upper' lower' : List Children)
+  module _ (i : ℕ) (inside : i + 1 < length order) (lawful : has_pair kept.pairs (get_or order i 0) (get_or order (i + 1) 0) ≡ false)
+      (upper' lower' : List Children)
       (ex : Exchanges (get_or levels i []) (get_or levels (suc i) []) upper' lower') where
     at_i : At levels i (get_or levels i []) (get_or levels (suc i) [])
     at_i = record { upper_is = refl; lower_is = refl; inside = let e = held.leveled.long in omega arith }
 
-    same_value : (r : ℕ) → r < places levels T → SameFunction (length order) (function_at (placed levels i upper' lower') T (crossed order i) r) (function_at levels T order r)
+    same_value : (r : ℕ) → r < places levels T →
+        SameFunction (length order) (function_at (placed levels i upper' lower') T (crossed order i) r) (function_at levels T order r)
     unfolding SameFunction function_at at_i
-    same_value r h p l = ap (λ k. get_or T k false) (path_placed T (get_or levels i []) (get_or levels (suc i) []) upper' lower' ex 16 levels i order r p at_i held.leveled.levels_are held.leveled.long h)
+    same_value r h p l =
+        ap (λ k. get_or T k false)
+        (path_placed T (get_or levels i []) (get_or levels (suc i) []) upper' lower' ex 16 levels i order r p at_i
+        held.leveled.levels_are held.leveled.long h)
 
     same_tables : (rs : List ℕ) → ((j : ℕ) → j < length rs → get_or rs j 0 < places levels T) →
-        map (λ r. table (length order) (function_at (placed levels i upper' lower') T (crossed order i) r)) rs ≡ map (λ r. table (length order) (function_at levels T order r)) rs
+        map (λ r. table (length order) (function_at (placed levels i upper' lower') T (crossed order i) r)) rs ≡ map
+        (λ r. table (length order) (function_at levels T order r)) rs
     same_tables [] h = refl
     same_tables (r ∷ rs) h =
-        ap₂ (λ t ts. t ∷ ts) (table_same (length order) (function_at (placed levels i upper' lower') T (crossed order i) r) (function_at levels T order r) (same_value r (h 0 (omega arith))))
+        ap₂ (λ t ts. t ∷ ts)
+        (table_same (length order) (function_at (placed levels i upper' lower') T (crossed order i) r) (function_at levels T order r)
+        (same_value r (h 0 (omega arith))))
         (same_tables rs (λ j k. h (suc j) (omega arith)))
 
     pub swapped_problem : problem_at (placed levels i upper' lower') T (crossed order i) roots ≡ problem_at levels T order roots
@@ -168,13 +189,17 @@ module _ (levels : List (List Children)) (T : List Bool) (order roots : List ℕ
       leveled = record {
         long = length-set (set levels i upper') (suc i) lower' ∙ length-set levels i upper' ∙ held.leveled.long ∙ sym (length_crossed order i);
         levels_are = levels_placed T (get_or levels i []) (get_or levels (suc i) []) upper' lower' ex 16 levels i at_i held.leveled.levels_are;
-        roots_are = subst (λ m. AreRoots m roots) (sym (places_placed T (get_or levels i []) (get_or levels (suc i) []) upper' lower' ex levels i at_i)) held.leveled.roots_are;
+        roots_are =
+            subst (λ m. AreRoots m roots)
+            (sym (places_placed T (get_or levels i []) (get_or levels (suc i) []) upper' lower' ex levels i at_i))
+            held.leveled.roots_are;
         terminals_are = held.leveled.terminals_are;
       };
       few = let e = length_crossed order i in let h = held.few in omega arith;
       is_order = subst (λ m. IsOrder m (crossed order i)) (sym (length_crossed order i)) (order_crossed (length order) order i held.is_order);
       inputs = held.inputs ∙ sym (length_crossed order i);
-      keeps = keeps_crossed kept.pairs order i (omega arith) (ap (λ m. has_pair kept.pairs (get_or order i 0) (get_or order m 0)) (sym (add-one i)) ∙ lawful) held.keeps;
+      keeps = keeps_crossed kept.pairs order i (omega arith)
+          (ap (λ m. has_pair kept.pairs (get_or order i 0) (get_or order m 0)) (sym (add-one i)) ∙ lawful) held.keeps;
     }
 
 -- ---- what the levels keep
@@ -183,23 +208,30 @@ kept_sum : (levels : List Level) → sum (map branching (nodes_of levels)) ≡ s
 unfolding nodes_of
 kept_sum [] = refl
 kept_sum (l ∷ levels) =
-    sum_by-cons (λ (z : ℕ). z) (branching l.nodes.items) (map branching (nodes_of levels)) ∙ ap₂ (λ a b. a + b) (sym l.counted) (kept_sum levels) ∙ sym (sum_by-cons (λ (m : Level). m.count) l levels)
+    sum_by-cons (λ (z : ℕ). z) (branching l.nodes.items) (map branching (nodes_of levels))
+    ∙ ap₂ (λ a b. a + b) (sym l.counted) (kept_sum levels) ∙ sym (sum_by-cons (λ (m : Level). m.count) l levels)
 
-module _ (levels : List Level) (T : List Bool) (order roots : List ℕ) (kept : KeptPairs) (held : HoldsDiagram (nodes_of levels) T order roots kept) (items : List Level) (same : items ≡ levels) where
+module _ (levels : List Level) (T : List Bool) (order roots : List ℕ) (kept : KeptPairs)
+    (held : HoldsDiagram (nodes_of levels) T order roots kept) (items : List Level) (same : items ≡ levels) where
   pub sum_small : sum_by (λ (l : Level). l.count) items ≤ 1048576
-  sum_small = let a = held_small (nodes_of levels) T order roots kept held in let b = kept_sum levels in let e = ap (sum_by (λ (l : Level). l.count)) same in omega arith
+  sum_small = let a = held_small (nodes_of levels) T order roots kept held in let b = kept_sum levels in
+      let e = ap (sum_by (λ (l : Level). l.count)) same in omega arith
 
-  pub sum_is_size : (m : Managed) → record { order = order; problem = problem_at (nodes_of levels) T order roots; pairs = kept.pairs } ≡ m → sum_by (λ (l : Level). l.count) items ≡ size_of m
+  pub sum_is_size : (m : Managed) → record { order = order; problem = problem_at (nodes_of levels) T order roots; pairs = kept.pairs } ≡ m →
+      sum_by (λ (l : Level). l.count) items ≡ size_of m
   sum_is_size m e =
       ap (sum_by (λ (l : Level). l.count)) same ∙ sym (kept_sum levels) ∙ sym (held_size (nodes_of levels) T order roots kept held) ∙ ap size_of e
 
-  pub count_is : (m : Managed) → record { order = order; problem = problem_at (nodes_of levels) T order roots; pairs = kept.pairs } ≡ m → (i : ℕ) → i < length m.order → get_or (map (λ (l : Level). l.count) items) i 0 ≡ count_of m i
+  pub count_is : (m : Managed) → record { order = order; problem = problem_at (nodes_of levels) T order roots; pairs = kept.pairs } ≡ m →
+      (i : ℕ) → i < length m.order → get_or (map (λ (l : Level). l.count) items) i 0 ≡ count_of m i
   count_is m e i h =
       let long : i < length order = subst (λ (v : Managed). i < length v.order) (sym e) h in
-      ap (λ ls. get_or (map (λ (l : Level). l.count) ls) i 0) same ∙ ap (λ ms. get_or ms i 0) (sym (kept_counts levels)) ∙ sym (held_count (nodes_of levels) T order roots kept held i long)
+      ap (λ ls. get_or (map (λ (l : Level). l.count) ls) i 0) same ∙ ap (λ ms. get_or ms i 0) (sym (kept_counts levels))
+      ∙ sym (held_count (nodes_of levels) T order roots kept held i long)
       ∙ ap (λ (v : Managed). count_of v i) e
 
-  pub items_long : (m : Managed) → record { order = order; problem = problem_at (nodes_of levels) T order roots; pairs = kept.pairs } ≡ m → (length items ≡ length m.order) × (length items ≤ 16)
+  pub items_long : (m : Managed) → record { order = order; problem = problem_at (nodes_of levels) T order roots; pairs = kept.pairs } ≡ m →
+      (length items ≡ length m.order) × (length items ≤ 16)
   items_long m e =
       let a = ap length same in
       let b = length-nodes levels in
@@ -215,7 +247,8 @@ counts_get (l ∷ items) (suc i) d h = counts_get items i d (omega arith)
 
 -- ---- two levels of a list exchanged
 
-module _ (levels : List Level) (T : List Bool) (order roots : List ℕ) (kept : KeptPairs) (held : HoldsDiagram (nodes_of levels) T order roots kept) (i : ℕ) (inside : i + 1 < length order) where
+module _ (levels : List Level) (T : List Bool) (order roots : List ℕ) (kept : KeptPairs)
+    (held : HoldsDiagram (nodes_of levels) T order roots kept) (i : ℕ) (inside : i + 1 < length order) where
   pub level_inside : (i < length levels) × (i + 1 < length levels)
   level_inside = let a = length-nodes levels in let b = held.leveled.long in (omega arith, omega arith)
 
@@ -236,17 +269,21 @@ module _ (levels : List Level) (T : List Bool) (order roots : List ℕ) (kept : 
       let s = ap length e in
       omega arith
 
-  pub upper_inside : (upper lower : List Children) → get_or (nodes_of levels) i [] ≡ upper → get_or (nodes_of levels) (suc i) [] ≡ lower → HasChildren (length lower) upper
+  pub upper_inside : (upper lower : List Children) → get_or (nodes_of levels) i [] ≡ upper → get_or (nodes_of levels) (suc i) [] ≡ lower →
+      HasChildren (length lower) upper
   upper_inside upper lower e f =
       let a = length-nodes levels in
       let b = held.leveled.long in
-      subst (λ m. HasChildren (length m) upper) f (subst (λ m. HasChildren (length (get_or (nodes_of levels) (suc i) [])) m) e (level_at 16 T (nodes_of levels) i (omega arith) held.leveled.levels_are))
+      subst (λ m. HasChildren (length m) upper) f
+      (subst (λ m. HasChildren (length (get_or (nodes_of levels) (suc i) [])) m) e
+      (level_at 16 T (nodes_of levels) i (omega arith) held.leveled.levels_are))
 
   module _ (upper lower : List Children) (e : get_or (nodes_of levels) i [] ≡ upper) (f : get_or (nodes_of levels) (suc i) [] ≡ lower)
       (lawful : has_pair kept.pairs (get_or order i 0) (get_or order (i + 1) 0) ≡ false) (upper' lower' : Level)
       (ex : Exchanges upper lower upper'.nodes.items lower'.nodes.items) (order' : List ℕ) (swapped : order' ≡ swap order i (i + 1)) where
     ex' : Exchanges (get_or (nodes_of levels) i []) (get_or (nodes_of levels) (suc i) []) upper'.nodes.items lower'.nodes.items
-    ex' = subst (λ m. Exchanges m (get_or (nodes_of levels) (suc i) []) upper'.nodes.items lower'.nodes.items) (sym e) (subst (λ m. Exchanges upper m upper'.nodes.items lower'.nodes.items) (sym f) ex)
+    ex' = subst (λ m. Exchanges m (get_or (nodes_of levels) (suc i) []) upper'.nodes.items lower'.nodes.items) (sym e)
+        (subst (λ m. Exchanges upper m upper'.nodes.items lower'.nodes.items) (sym f) ex)
 
     nodes_are : nodes_of (set (set levels i upper') (i + 1) lower') ≡ placed (nodes_of levels) i upper'.nodes.items lower'.nodes.items
     nodes_are =
@@ -259,8 +296,10 @@ module _ (levels : List Level) (T : List Bool) (order roots : List ℕ) (kept : 
     pub exchanged_held : HoldsDiagram (nodes_of (set (set levels i upper') (i + 1) lower')) T order' roots kept
     exchanged_held =
         subst (λ o. HoldsDiagram (nodes_of (set (set levels i upper') (i + 1) lower')) T o roots kept) (sym order_is)
-        (subst (λ ns. HoldsDiagram ns T (crossed order i) roots kept) (sym nodes_are) (swapped_held (nodes_of levels) T order roots kept held i inside lawful upper'.nodes.items lower'.nodes.items ex'))
+        (subst (λ ns. HoldsDiagram ns T (crossed order i) roots kept) (sym nodes_are)
+        (swapped_held (nodes_of levels) T order roots kept held i inside lawful upper'.nodes.items lower'.nodes.items ex'))
 
     pub exchanged_problem : problem_at (nodes_of (set (set levels i upper') (i + 1) lower')) T order' roots ≡ problem_at (nodes_of levels) T order roots
     exchanged_problem =
-        ap₂ (λ ns o. problem_at ns T o roots) nodes_are order_is ∙ swapped_problem (nodes_of levels) T order roots kept held i inside lawful upper'.nodes.items lower'.nodes.items ex'
+        ap₂ (λ ns o. problem_at ns T o roots) nodes_are order_is
+        ∙ swapped_problem (nodes_of levels) T order roots kept held i inside lawful upper'.nodes.items lower'.nodes.items ex'

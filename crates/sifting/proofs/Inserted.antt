@@ -14,14 +14,16 @@ pub record Inserted {K : Type 0} (d : K) (keys keys' : List K) (p : K) (i : ℕ)
   pub grows : length keys ≤ length keys'
   pub few : length keys' ≤ length keys + 1
   pub fresh : (j : ℕ) → j < length keys' → (j < length keys) ⊎ (j ≡ i)
-  pub once : ((j k : ℕ) → j < length keys → k < length keys → get_or keys j d ≡ get_or keys k d → j ≡ k) → (j k : ℕ) → j < length keys' → k < length keys' → get_or keys' j d ≡ get_or keys' k d → j ≡ k
+  pub once : ((j k : ℕ) → j < length keys → k < length keys → get_or keys j d ≡ get_or keys k d → j ≡ k) → (j k : ℕ) → j < length keys' →
+      k < length keys' → get_or keys' j d ≡ get_or keys' k d → j ≡ k
 
 module _ {K : Type 0} (eq : K → K → Bool) (decides : (x y : K) → (eq x y ≡ true → x ≡ y) × (x ≡ y → eq x y ≡ true)) (d : K) where
   some_place : (test : K → Bool) (keys : List K) → list_any test keys ≡ true → (k : ℕ) × (k < length keys) × (test (get_or keys k d) ≡ true)
   some_place test [] e = absurd (false≢true e)
   some_place test (x ∷ keys) e = by (test x) refl e (some_place test keys)
     where
-      by : (b : Bool) → test x ≡ b → (b || list_any test keys) ≡ true → (list_any test keys ≡ true → (k : ℕ) × (k < length keys) × (test (get_or keys k d) ≡ true)) →
+      by : (b : Bool) → test x ≡ b → (b || list_any test keys) ≡ true →
+          (list_any test keys ≡ true → (k : ℕ) × (k < length keys) × (test (get_or keys k d) ≡ true)) →
           (k : ℕ) × (k < length (x ∷ keys)) × (test (get_or (x ∷ keys) k d) ≡ true)
       by true t h r = (0, omega arith, t)
       by false t h r = let f = r h in (suc f.0, omega (arith, f.1), f.2)
@@ -56,8 +58,10 @@ module _ {K : Type 0} (eq : K → K → Bool) (decides : (x y : K) → (eq x y �
           }
       by false e =
           let long = length_push keys p in
-          let none : (k : ℕ) → k < length keys → eq p (get_or keys k d) ≡ false = λ k h. false_from_ne_true (eq p (get_or keys k d)) (λ t. true≢false (sym (list_any_at (eq p) keys k d h t) ∙ e)) in
-          let last : position_or_len (eq p) keys ≡ length keys = position_or_len_is (eq p) keys (length keys) d (omega arith) none (λ h. absurd (omega arith)) in
+          let none : (k : ℕ) → k < length keys → eq p (get_or keys k d) ≡ false =
+          λ k h. false_from_ne_true (eq p (get_or keys k d)) (λ t. true≢false (sym (list_any_at (eq p) keys k d h t) ∙ e)) in
+          let last : position_or_len (eq p) keys ≡ length keys =
+          position_or_len_is (eq p) keys (length keys) d (omega arith) none (λ h. absurd (omega arith)) in
           let new : get_or (keys ++ p ∷ []) (length keys) d ≡ p = get_or_at keys p [] d (length keys) refl in
           let old : (j : ℕ) → j < length keys → get_or (keys ++ p ∷ []) j d ≡ get_or keys j d = λ j h. get_or_append_left keys (p ∷ []) d j h in
           record {
@@ -68,7 +72,8 @@ module _ {K : Type 0} (eq : K → K → Bool) (decides : (x y : K) → (eq x y �
             few = omega arith;
             fresh = λ j h. elim (cases_eq j (length keys)) [ inl s ↦ inr (s ∙ sym last) | inr ne ↦ inl (omega arith) ];
             once = λ once j k a b s.
-                let new_old : (m : ℕ) → m < length keys → p ≡ get_or keys m d → ⊥ = λ m h same. true≢false (sym ((decides p (get_or keys m d)).1 same) ∙ none m h) in
+                let new_old : (m : ℕ) → m < length keys → p ≡ get_or keys m d → ⊥ =
+                λ m h same. true≢false (sym ((decides p (get_or keys m d)).1 same) ∙ none m h) in
                 elim (cases_eq j (length keys)) [
                   | inl x ↦
                       let jp : get_or (keys ++ p ∷ []) j d ≡ p = ap (λ m. get_or (keys ++ p ∷ []) m d) x ∙ new in
@@ -79,7 +84,8 @@ module _ {K : Type 0} (eq : K → K → Bool) (decides : (x y : K) → (eq x y �
                   | inr x ↦
                       let g : j < length keys = omega arith in
                       elim (cases_eq k (length keys)) [
-                        | inl y ↦ let kp : get_or (keys ++ p ∷ []) k d ≡ p = ap (λ m. get_or (keys ++ p ∷ []) m d) y ∙ new in absurd (new_old j g (sym kp ∙ sym s ∙ old j g))
+                        | inl y ↦ let kp : get_or (keys ++ p ∷ []) k d ≡ p = ap (λ m. get_or (keys ++ p ∷ []) m d) y ∙ new in
+                            absurd (new_old j g (sym kp ∙ sym s ∙ old j g))
                         | inr y ↦ let h : k < length keys = omega arith in once j k g h (sym (old j g) ∙ s ∙ old k h)
                       ]
                 ];

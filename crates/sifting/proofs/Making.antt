@@ -20,13 +20,16 @@ below_next done old new k h = elim (cases_eq k done) [ inl e ↦ new k e | inr n
 module _ {K : Type 0} (d : K) (off_key on_key : ℕ → K) where
   -- two insertions and one more node
   pub numbers_more : (done : ℕ) (kept : List Children) (keys keys1 keys2 : List K) (p q : K) (i j : ℕ) → NumbersFirst d off_key on_key done kept keys →
-      Inserted d keys keys1 p i → Inserted d keys1 keys2 q j → p ≡ off_key done → q ≡ on_key done → NumbersFirst d off_key on_key (done + 1) (kept ++ (i, j) ∷ []) keys2
+      Inserted d keys keys1 p i → Inserted d keys1 keys2 q j → p ≡ off_key done → q ≡ on_key done →
+      NumbersFirst d off_key on_key (done + 1) (kept ++ (i, j) ∷ []) keys2
   numbers_more done kept keys keys1 keys2 p q i j ex one two pe qe =
       record {
         many = length_push kept (i, j) ∙ ap (λ m. m + 1) ex.many;
         few = let a = ex.few in let b = one.few in let c = two.few in omega arith;
         inside = below_next {P = λ k. ((at (kept ++ (i, j) ∷ []) k).0 < length keys2) × ((at (kept ++ (i, j) ∷ []) k).1 < length keys2)} done
-            (λ k h. let f = ex.inside k h in subst (λ (c : Children). (c.0 < length keys2) × (c.1 < length keys2)) (sym (old k h)) (omega (arith, f.0), omega (arith, f.1)))
+            (λ k h. let f = ex.inside k h in
+            subst (λ (c : Children). (c.0 < length keys2) × (c.1 < length keys2)) (sym (old k h))
+            (omega (arith, f.0), omega (arith, f.1)))
             (λ k e. subst (λ (c : Children). (c.0 < length keys2) × (c.1 < length keys2)) (sym (new k e)) (omega (arith, one.there), two.there));
         off = below_next {P = λ k. get_or keys2 (at (kept ++ (i, j) ∷ []) k).0 d ≡ off_key k} done
             (λ k h. ap (λ (c : Children). get_or keys2 c.0 d) (old k h) ∙ stays (at kept k).0 (ex.inside k h).0 ∙ ex.off k h)
@@ -52,7 +55,8 @@ module _ {K : Type 0} (d : K) (off_key on_key : ℕ → K) where
 
       reached : ReachedFirst (done + 1) (length keys2) (kept ++ (i, j) ∷ [])
       reached m h =
-          let last : ((at (kept ++ (i, j) ∷ []) done).0 ≡ i) × ((at (kept ++ (i, j) ∷ []) done).1 ≡ j) = (ap (λ (c : Children). c.0) (new done refl), ap (λ (c : Children). c.1) (new done refl)) in
+          let last : ((at (kept ++ (i, j) ∷ []) done).0 ≡ i) × ((at (kept ++ (i, j) ∷ []) done).1 ≡ j) =
+          (ap (λ (c : Children). c.0) (new done refl), ap (λ (c : Children). c.1) (new done refl)) in
           elim (two.fresh m h) [
             | inl a ↦
                 elim (one.fresh m a) [
@@ -67,11 +71,14 @@ module _ {K : Type 0} (d : K) (off_key on_key : ℕ → K) where
 
   -- the same, by what an `IndexSet` returns
   module _ (eq : K → K → Bool) (decides : (x y : K) → (eq x y ≡ true → x ≡ y) × (x ≡ y → eq x y ≡ true)) where
-    pub numbers_step : (done : ℕ) (kept kept' : List Children) (keys keys1 keys2 : List K) (p q : K) (i j : ℕ) → NumbersFirst d off_key on_key done kept keys → p ≡ off_key done → q ≡ on_key done →
+    pub numbers_step : (done : ℕ) (kept kept' : List Children) (keys keys1 keys2 : List K) (p q : K) (i j : ℕ) →
+        NumbersFirst d off_key on_key done kept keys → p ≡ off_key done → q ≡ on_key done →
         keys1 ≡ (if list_any (eq p) keys then keys else keys ++ p ∷ []) → i ≡ position_or_len (eq p) keys →
         keys2 ≡ (if list_any (eq q) keys1 then keys1 else keys1 ++ q ∷ []) → j ≡ position_or_len (eq q) keys1 →
         kept' ≡ kept ++ (i, j) ∷ [] → NumbersFirst d off_key on_key (done + 1) kept' keys2
     numbers_step done kept kept' keys keys1 keys2 p q i j ex pe qe a b c e f =
-        let one = subst (λ m. Inserted d keys keys1 p m) (sym b) (subst (λ ks. Inserted d keys ks p (position_or_len (eq p) keys)) (sym a) (inserted eq decides d p keys)) in
-        let two = subst (λ m. Inserted d keys1 keys2 q m) (sym e) (subst (λ ks. Inserted d keys1 ks q (position_or_len (eq q) keys1)) (sym c) (inserted eq decides d q keys1)) in
+        let one = subst (λ m. Inserted d keys keys1 p m) (sym b)
+        (subst (λ ks. Inserted d keys ks p (position_or_len (eq p) keys)) (sym a) (inserted eq decides d p keys)) in
+        let two = subst (λ m. Inserted d keys1 keys2 q m) (sym e)
+        (subst (λ ks. Inserted d keys1 ks q (position_or_len (eq q) keys1)) (sym c) (inserted eq decides d q keys1)) in
         subst (λ ks. NumbersFirst d off_key on_key (done + 1) ks keys2) (sym f) (numbers_more done kept keys keys1 keys2 p q i j ex one two pe qe)

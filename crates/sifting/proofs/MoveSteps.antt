@@ -48,7 +48,8 @@ moved_down place other from m to inside within moved e f g = record {
       let long = length-placed others x place in
       let whole = ap length s in
       let l = moved.length_stays in
-      e ∙ crossed_is m.order other (omega arith) ∙ ap (λ o. crossed o other) (moved.moves others x h s) ∙ crossed_down others x other (omega arith) ∙ ap (λ k. insert others k x) (sym (add-one other));
+      e ∙ crossed_is m.order other (omega arith) ∙ ap (λ o. crossed o other) (moved.moves others x h s)
+      ∙ crossed_down others x other (omega arith) ∙ ap (λ k. insert others k x) (sym (add-one other));
   functions_stay = f ∙ moved.functions_stay;
   pairs_stay = g ∙ moved.pairs_stay;
   length_stays = let l = moved.length_stays in ap length e ∙ swap_long m.order other (omega arith) ∙ moved.length_stays;
@@ -58,19 +59,25 @@ moved_down place other from m to inside within moved e f g = record {
 
 -- a size that is the one with the variable at the best place
 abbrev pub LeastIs : Managed → ℕ → ℕ → ℕ → Type 0
-LeastIs m from best least = (others : List ℕ) (x : ℕ) → from ≤ length others → m.order ≡ insert others from x → least ≡ size_under m.problem.inputs (functions m.problem) (insert others best x)
+LeastIs m from best least =
+    (others : List ℕ) (x : ℕ) → from ≤ length others → m.order ≡ insert others from x →
+    least ≡ size_under m.problem.inputs (functions m.problem) (insert others best x)
 
 -- one order more after some
 smallest_push : (n : ℕ) (F : List Function) (d y : List ℕ) (first : List ℕ) (rest : List (List ℕ)) →
-    smallest_of n F d ((first ∷ rest) ++ y ∷ []) ≡ cond (ltb (size_under n F y) (size_under n F (smallest_of n F d (first ∷ rest)))) y (smallest_of n F d (first ∷ rest))
+    smallest_of n F d ((first ∷ rest) ++ y ∷ []) ≡ cond (ltb (size_under n F y) (size_under n F (smallest_of n F d (first ∷ rest)))) y
+    (smallest_of n F d (first ∷ rest))
 unfolding smallest_of smallest_order
 smallest_push n F d y first [] = refl
 smallest_push n F d y first (z ∷ rest) = smallest_push n F d y (cond (ltb (size_under n F z) (size_under n F first)) z first) rest
 
 placed_first : (others : List ℕ) (x from to : ℕ) → from ≤ to → (first : List ℕ) × (rest : List (List ℕ)) × (placed_from others x from to ≡ first ∷ rest)
 placed_first others x from to h =
-    let e : to + 1 - from ≡ suc (to - from) = omega arith in
-    (insert others from x, map (λ i. insert others i x) (range_with_len (from + 1) (to - from)), ap (λ k. map (λ i. insert others i x) (range_with_len from k)) e)
+    let e : to + 1 - from ≡ suc (to - from) = omega arith in (
+      insert others from x,
+      map (λ i. insert others i x) (range_with_len (from + 1) (to - from)),
+      ap (λ k. map (λ i. insert others i x) (range_with_len from k)) e,
+    )
 
 placed_more : (others : List ℕ) (x from to : ℕ) → from ≤ to → placed_from others x from (to + 1) ≡ placed_from others x from to ++ insert others (to + 1) x ∷ []
 placed_more others x from to h =
@@ -79,7 +86,8 @@ placed_more others x from to h =
     ∙ map-range_with_len_more (λ i. insert others i x) from (to + 1 - from) (to + 1) (omega arith)
 
 -- the default doesn't count where there is an order
-pub smallest_default : (n : ℕ) (F : List Function) (d e : List ℕ) (others : List ℕ) (x from to : ℕ) → from ≤ to → smallest_of n F d (placed_from others x from to) ≡ smallest_of n F e (placed_from others x from to)
+pub smallest_default : (n : ℕ) (F : List Function) (d e : List ℕ) (others : List ℕ) (x from to : ℕ) → from ≤ to →
+    smallest_of n F d (placed_from others x from to) ≡ smallest_of n F e (placed_from others x from to)
 unfolding smallest_of
 smallest_default n F d e others x from to h =
     let p = placed_first others x from to h in
@@ -92,25 +100,31 @@ finds_first m from ok = record {
   above = omega arith;
   below = omega arith;
   keeps = λ others x h e i a b. let s : i ≡ from = omega arith in subst (Keeps m.pairs) (e ∙ ap (λ k. insert others k x) (sym s)) ok.kept;
-  smallest = λ others x h e. let s : from + 1 - from ≡ 1 = omega arith in ap (λ k. smallest_of m.problem.inputs (functions m.problem) m.order (map (λ i. insert others i x) (range_with_len from k))) (sym s);
+  smallest = λ others x h e. let s : from + 1 - from ≡ 1 = omega arith in
+      ap (λ k. smallest_of m.problem.inputs (functions m.problem) m.order (map (λ i. insert others i x) (range_with_len from k))) (sym s);
 }
 
-module _ (m to : Managed) (from place best least size : ℕ) (up : from ≤ place) (found : FindsBest m from place best) (is : LeastIs m from best least) (moved : IsMoved from (place + 1) m to)
+module _ (m to : Managed) (from place best least size : ℕ) (up : from ≤ place) (found : FindsBest m from place best)
+    (is : LeastIs m from best least) (moved : IsMoved from (place + 1) m to)
     (ok : IsManagedOrder to) (size_is : size ≡ size_of to) where
-  keeps_more : (others : List ℕ) (x : ℕ) → from ≤ length others → m.order ≡ insert others from x → (i : ℕ) → from ≤ i → i ≤ place + 1 → Keeps m.pairs (insert others i x)
+  keeps_more : (others : List ℕ) (x : ℕ) → from ≤ length others → m.order ≡ insert others from x → (i : ℕ) → from ≤ i → i ≤ place + 1 →
+      Keeps m.pairs (insert others i x)
   unfolding Moves
   keeps_more others x h e i a b =
       elim (cases_order i (place + 1)) [
-        | inl s ↦ subst (Keeps m.pairs) (moved.moves others x h e ∙ ap (λ k. insert others k x) (sym s)) (subst (λ P. Keeps P to.order) moved.pairs_stay ok.kept)
+        | inl s ↦ subst (Keeps m.pairs) (moved.moves others x h e ∙ ap (λ k. insert others k x) (sym s))
+            (subst (λ P. Keeps P to.order) moved.pairs_stay ok.kept)
         | inr t ↦ elim t [ inl lt ↦ found.keeps others x h e i a (omega arith) | inr gt ↦ absurd (omega arith) ]
       ]
 
-  new_size : (others : List ℕ) (x : ℕ) → from ≤ length others → m.order ≡ insert others from x → size ≡ size_under m.problem.inputs (functions m.problem) (insert others (place + 1) x)
+  new_size : (others : List ℕ) (x : ℕ) → from ≤ length others → m.order ≡ insert others from x →
+      size ≡ size_under m.problem.inputs (functions m.problem) (insert others (place + 1) x)
   unfolding Moves
   new_size others x h e = size_is ∙ ap₂ (λ t o. size_under t.inputs (functions t) o) moved.functions_stay (moved.moves others x h e)
 
   smallest_more : (others : List ℕ) (x : ℕ) → from ≤ length others → m.order ≡ insert others from x →
-      smallest_of m.problem.inputs (functions m.problem) m.order (placed_from others x from (place + 1)) ≡ cond (ltb size least) (insert others (place + 1) x) (insert others best x)
+      smallest_of m.problem.inputs (functions m.problem) m.order (placed_from others x from (place + 1)) ≡ cond (ltb size least)
+      (insert others (place + 1) x) (insert others best x)
   smallest_more others x h e =
       let n = m.problem.inputs in
       let F = functions m.problem in
@@ -118,7 +132,8 @@ module _ (m to : Managed) (from place best least size : ℕ) (up : from ≤ plac
       let s = found.smallest others x h e in
       ap (smallest_of n F m.order) (placed_more others x from place up ∙ ap (λ os. os ++ insert others (place + 1) x ∷ []) p.2)
       ∙ smallest_push n F m.order (insert others (place + 1) x) p.0 p.1
-      ∙ ap (λ o. cond (ltb (size_under n F (insert others (place + 1) x)) (size_under n F o)) (insert others (place + 1) x) o) (sym (s ∙ ap (smallest_of n F m.order) p.2))
+      ∙ ap (λ o. cond (ltb (size_under n F (insert others (place + 1) x)) (size_under n F o)) (insert others (place + 1) x) o)
+      (sym (s ∙ ap (smallest_of n F m.order) p.2))
       ∙ ap₂ (λ a b. cond (ltb a b) (insert others (place + 1) x) (insert others best x)) (sym (new_size others x h e)) (sym (is others x h e))
 
   -- a smaller size
@@ -161,7 +176,8 @@ insert_tells (a ∷ others) (b ∷ zs) (suc i) x y h k e =
     let r = insert_tells others zs i x y (omega arith) (omega arith) tail in
     (ap₂ (λ c cs. c ∷ cs) head r.0, r.1)
 
-pub lift_lawful : (m cur : Managed) (from to place : ℕ) → from < length m.order → place ≤ from → to < place → IsMoved from place m cur → PassesBetween m to from →
+pub lift_lawful : (m cur : Managed) (from to place : ℕ) → from < length m.order → place ≤ from → to < place → IsMoved from place m cur →
+    PassesBetween m to from →
     IsFalse (has_pair cur.pairs (slice_index cur.order (place - 1)) (slice_index cur.order (place - 1 + 1)))
 unfolding Moves
 lift_lawful m cur from to place within le lt moved passes =
@@ -175,4 +191,5 @@ lift_lawful m cur from to place within le lt moved passes =
     let upper : slice_index cur.order i ≡ slice_index zs i = ap (λ o. get_or o i 0) (at ∙ ap (λ k. insert zs k x) s) ∙ above_here zs x i (omega arith) in
     let k : i + 1 ≡ place = omega arith in
     let lower : slice_index cur.order (i + 1) ≡ x = ap (λ j. get_or cur.order j 0) k ∙ ap (λ o. get_or o place 0) at ∙ here zs x place (omega arith) in
-    ap₂ (has_pair cur.pairs) upper lower ∙ ap (λ P. has_pair P (slice_index zs i) x) moved.pairs_stay ∙ passes zs x (omega arith) t.2 i (omega arith) (omega arith)
+    ap₂ (has_pair cur.pairs) upper lower ∙ ap (λ P. has_pair P (slice_index zs i) x) moved.pairs_stay
+    ∙ passes zs x (omega arith) t.2 i (omega arith) (omega arith)

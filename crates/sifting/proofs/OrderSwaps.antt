@@ -22,7 +22,8 @@ set_crossed (x ∷ y ∷ order) (suc i) h = ap (λ zs. x ∷ zs) (set_crossed (y
 
 pub crossed_is : (order : List ℕ) (i : ℕ) → i + 1 < length order → swap order i (i + 1) ≡ crossed order i
 crossed_is order i h =
-    sym (swap_is order i (i + 1) 0 (omega arith) h) ∙ ap (λ j. set (set order i (get_or order j 0)) j (get_or order i 0)) (add-one i) ∙ set_crossed order i (omega arith)
+    sym (swap_is order i (i + 1) 0 (omega arith) h) ∙ ap (λ j. set (set order i (get_or order j 0)) j (get_or order i 0)) (add-one i)
+    ∙ set_crossed order i (omega arith)
 
 pub has_crossed : (order : List ℕ) (i z : ℕ) → has (crossed order i) z ≡ has order z
 has_crossed [] i z = refl
@@ -66,7 +67,8 @@ length_crossed (x ∷ y ∷ order) (suc i) = ap suc (length_crossed (y ∷ order
 -- ---- pairs
 
 -- a pair that is kept, and isn't the two, is kept still
-above_crossed : (a b : ℕ) (order : List ℕ) (i : ℕ) → suc i < length order → ((a ≡ get_or order i 0) → (b ≡ get_or order (suc i) 0) → ⊥) → is_above a b order ≡ true → is_above a b (crossed order i) ≡ true
+above_crossed : (a b : ℕ) (order : List ℕ) (i : ℕ) → suc i < length order → ((a ≡ get_or order i 0) → (b ≡ get_or order (suc i) 0) → ⊥) →
+    is_above a b order ≡ true → is_above a b (crossed order i) ≡ true
 unfolding is_above
 above_crossed a b [] i h ne k = absurd (omega arith)
 above_crossed a b (x ∷ []) i h ne k = absurd (omega arith)
@@ -86,19 +88,24 @@ above_crossed a b (x ∷ y ∷ order) zero h ne k = by (nat_eq a x) refl (nat_eq
     by false e false f k' = k'
 above_crossed a b (x ∷ y ∷ order) (suc i) h ne k = by (nat_eq a x) k (above_crossed a b (y ∷ order) i (omega arith) ne)
   where
-    by : (c : Bool) → cond c (has (y ∷ order) b) (is_above a b (y ∷ order)) ≡ true → (is_above a b (y ∷ order) ≡ true → is_above a b (crossed (y ∷ order) i) ≡ true) →
+    by : (c : Bool) → cond c (has (y ∷ order) b) (is_above a b (y ∷ order)) ≡ true →
+        (is_above a b (y ∷ order) ≡ true → is_above a b (crossed (y ∷ order) i) ≡ true) →
         cond c (has (crossed (y ∷ order) i) b) (is_above a b (crossed (y ∷ order) i)) ≡ true
     by true k' r = has_crossed (y ∷ order) i b ∙ k'
     by false k' r = r k'
 
-pub keeps_crossed : (P : List Pair) (order : List ℕ) (i : ℕ) → suc i < length order → has_pair P (get_or order i 0) (get_or order (suc i) 0) ≡ false → Keeps P order → Keeps P (crossed order i)
+pub keeps_crossed : (P : List Pair) (order : List ℕ) (i : ℕ) → suc i < length order →
+    has_pair P (get_or order i 0) (get_or order (suc i) 0) ≡ false → Keeps P order → Keeps P (crossed order i)
 unfolding keeps
 keeps_crossed [] order i h none k = refl
 keeps_crossed (p ∷ P) order i h none k =
     let parts = and_parts (is_above p.0 p.1 order) (list_all (λ (q : Pair). is_above q.0 q.1 order) P) k in
     let out = or_parts (nat_eq (get_or order i 0) p.0 && nat_eq (get_or order (suc i) 0) p.1) (has_pair P (get_or order i 0) (get_or order (suc i) 0)) none in
     and_from _ _
-    (above_crossed p.0 p.1 order i h (λ e f. true≢false (sym (and_from _ _ (eq-eqb (get_or order i 0) p.0 (sym e)) (eq-eqb (get_or order (suc i) 0) p.1 (sym f))) ∙ out.0)) parts.0)
+    (above_crossed p.0 p.1 order i h
+    (λ e f. true≢false
+    (sym (and_from _ _ (eq-eqb (get_or order i 0) p.0 (sym e)) (eq-eqb (get_or order (suc i) 0) p.1 (sym f))) ∙ out.0))
+    parts.0)
     (keeps_crossed P order i h out.1 parts.1)
 
 -- ---- what a list of variables is asked for
@@ -106,7 +113,8 @@ keeps_crossed (p ∷ P) order i h none k =
 order_small : (n : ℕ) (order : List ℕ) → IsOrder n order → All (λ x. x < n) order
 order_small n order o k d h = subst (λ x. x < n) (sym (get_or_default_zero order k d h)) ((o.all (get_or order k 0)).0 (has_at order k h))
 
-module _ (order : List ℕ) (i : ℕ) (inside : i + 1 < length order) (few : length order ≤ 16) (o : IsOrder (length order) order) (vars : List ℕ) (same : vars ≡ swap order i (i + 1)) where
+module _ (order : List ℕ) (i : ℕ) (inside : i + 1 < length order) (few : length order ≤ 16) (o : IsOrder (length order) order)
+    (vars : List ℕ) (same : vars ≡ swap order i (i + 1)) where
   is_crossed : vars ≡ crossed order i
   is_crossed = same ∙ crossed_is order i inside
 

@@ -70,7 +70,8 @@ none_above a b (z ∷ zs) h = by (nat_eq a z) (or_parts (nat_eq b z) (has zs b) 
     by false k r = r
 
 -- y stands at place j among the others, at or after the place of x: then y isn't above x
-pub not_above : (y x : ℕ) (others : List ℕ) (i j : ℕ) → i ≤ j → j < length others → get_or others j 0 ≡ y → IsDistinct nat_eq others → has others x ≡ false → is_above y x (insert others i x) ≡ false
+pub not_above : (y x : ℕ) (others : List ℕ) (i j : ℕ) → i ≤ j → j < length others → get_or others j 0 ≡ y → IsDistinct nat_eq others →
+    has others x ≡ false → is_above y x (insert others i x) ≡ false
 unfolding is_above IsDistinct
 not_above y x [] i j le lt e d h = absurd (omega arith)
 not_above y x (z ∷ others) zero j le lt e d h =
@@ -84,10 +85,12 @@ not_above y x (z ∷ others) (suc i) zero le lt e d h = absurd (omega arith)
 not_above y x (z ∷ others) (suc i) (suc j) le lt e d h =
     let there = ap (has others) (sym e) ∙ has_at others j (omega arith) in
     let ne : y ≢ z = λ s. true≢false (sym there ∙ ap (has others) s ∙ absent_from_apart z others d.0) in
-    ap (λ c. cond c (has (insert others i x) x) (is_above y x (insert others i x))) (ne_eqb y z ne) ∙ not_above y x others i j (omega arith) (omega arith) e d.1 (or_parts (nat_eq x z) (has others x) h).1
+    ap (λ c. cond c (has (insert others i x) x) (is_above y x (insert others i x))) (ne_eqb y z ne)
+    ∙ not_above y x others i j (omega arith) (omega arith) e d.1 (or_parts (nat_eq x z) (has others x) h).1
 
 -- z stands at place j among the others, before the place of x: then x isn't above z
-pub not_below : (x y : ℕ) (others : List ℕ) (i j : ℕ) → j < i → i ≤ length others → get_or others j 0 ≡ y → IsDistinct nat_eq others → has others x ≡ false → is_above x y (insert others i x) ≡ false
+pub not_below : (x y : ℕ) (others : List ℕ) (i j : ℕ) → j < i → i ≤ length others → get_or others j 0 ≡ y → IsDistinct nat_eq others →
+    has others x ≡ false → is_above x y (insert others i x) ≡ false
 unfolding is_above IsDistinct
 not_below x y [] i j lt le e d h = absurd (omega arith)
 not_below x y (z ∷ others) zero j lt le e d h = absurd (omega arith)

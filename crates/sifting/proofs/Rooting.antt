@@ -8,7 +8,8 @@ use Rattle.sifting.proofs.Inserted.{Inserted, inserted}
 use Rattle.sifting.proofs.Making.{below_next}
 use Rattle.order_model.proofs.Lists.Sets.{nat_decides}
 
-roots_more : (done : ℕ) (roots : List Ref) (numbers keys keys1 : List ℕ) (p i : ℕ) → RootsFirst done roots numbers keys → Inserted 0 keys keys1 p i → p ≡ code_of (ref_at roots done) →
+roots_more : (done : ℕ) (roots : List Ref) (numbers keys keys1 : List ℕ) (p i : ℕ) → RootsFirst done roots numbers keys →
+    Inserted 0 keys keys1 p i → p ≡ code_of (ref_at roots done) →
     RootsFirst (done + 1) roots (numbers ++ i ∷ []) keys1
 roots_more done roots numbers keys keys1 p i r one pe = record {
   many = length_push numbers i ∙ ap (λ m. m + 1) r.many;
@@ -34,8 +35,11 @@ roots_more done roots numbers keys keys1 p i r one pe = record {
     new k e = ap (λ m. get_or (numbers ++ i ∷ []) m 0) (e ∙ sym r.many) ∙ get_or_at numbers i [] 0 (length numbers) refl
 
 -- the same, by what an `IndexSet` returns
-pub roots_step : (done : ℕ) (roots : List Ref) (numbers numbers' keys keys1 : List ℕ) (p i : ℕ) → RootsFirst done roots numbers keys → p ≡ code_of (ref_at roots done) →
-    keys1 ≡ (if list_any (nat_eq p) keys then keys else keys ++ p ∷ []) → i ≡ position_or_len (nat_eq p) keys → numbers' ≡ numbers ++ i ∷ [] → RootsFirst (done + 1) roots numbers' keys1
+pub roots_step : (done : ℕ) (roots : List Ref) (numbers numbers' keys keys1 : List ℕ) (p i : ℕ) → RootsFirst done roots numbers keys →
+    p ≡ code_of (ref_at roots done) →
+    keys1 ≡ (if list_any (nat_eq p) keys then keys else keys ++ p ∷ []) → i ≡ position_or_len (nat_eq p) keys →
+    numbers' ≡ numbers ++ i ∷ [] → RootsFirst (done + 1) roots numbers' keys1
 roots_step done roots numbers numbers' keys keys1 p i r pe a b c =
-    let one = subst (λ m. Inserted 0 keys keys1 p m) (sym b) (subst (λ ks. Inserted 0 keys ks p (position_or_len (nat_eq p) keys)) (sym a) (inserted nat_eq nat_decides 0 p keys)) in
+    let one = subst (λ m. Inserted 0 keys keys1 p m) (sym b)
+    (subst (λ ks. Inserted 0 keys ks p (position_or_len (nat_eq p) keys)) (sym a) (inserted nat_eq nat_decides 0 p keys)) in
     subst (λ ns. RootsFirst (done + 1) roots ns keys1) (sym c) (roots_more done roots numbers keys keys1 p i r one pe)

@@ -11,7 +11,8 @@ use Rattle.sifting.specs.Moves.{by_falling_count}
 use Rattle.sifting.proofs.Falling.{falling_is, falling_below}
 
 module _ (self : Managed) (ok : IsManagedOrder self) (n : ℕ) (e : n ≡ length self.order) (counts levels : List ℕ)
-    (a : (x : ℕ) → x < length self.order → slice_index counts x ≡ slice_index levels (place_in self.order x)) (b : (i : ℕ) → i < length self.order → slice_index levels i ≡ count_of self i) where
+    (a : (x : ℕ) → x < length self.order → slice_index counts x ≡ slice_index levels (place_in self.order x))
+    (b : (i : ℕ) → i < length self.order → slice_index levels i ≡ count_of self i) where
   same_inputs : n ≡ self.problem.inputs
   same_inputs = e ∙ sym ok.inputs
 
@@ -20,7 +21,8 @@ module _ (self : Managed) (ok : IsManagedOrder self) (n : ℕ) (e : n ≡ length
       ap (by_falling_count counts) same_inputs
       ∙ falling_is self.problem.inputs (functions self.problem) self.order counts levels
       (λ x h. a x (let i = ok.inputs in omega arith))
-      (λ x h. let i = ok.inputs in let small : x < length self.order = omega arith in b (place_in self.order x) (own_place x self.order ok.is_order.once ((ok.is_order.all x).1 small)).1)
+      (λ x h. let i = ok.inputs in let small : x < length self.order = omega arith in
+      b (place_in self.order x) (own_place x self.order ok.is_order.once ((ok.is_order.all x).1 small)).1)
 
   pub sifts : (last : List ℕ) → last ≡ fold (best self.problem.inputs (functions self.problem) self.pairs) self.order (by_falling_count counts n) →
       last ≡ sifted self.problem.inputs (functions self.problem) self.pairs self.order
@@ -34,10 +36,13 @@ module _ (self : Managed) (ok : IsManagedOrder self) (n : ℕ) (e : n ≡ length
       let g = ap (λ xs. get_or xs k 0) s in
       omega arith
 
-  pub no_larger : (last : Managed) → last.problem ≡ self.problem → last.order ≡ sifted self.problem.inputs (functions self.problem) self.pairs self.order → size_of last ≤ size_of self
+  pub no_larger : (last : Managed) → last.problem ≡ self.problem →
+      last.order ≡ sifted self.problem.inputs (functions self.problem) self.pairs self.order → size_of last ≤ size_of self
   no_larger last f g =
       let i = ok.inputs in
       let o = subst (λ m. IsOrder m self.order) (sym i) ok.is_order in
       let le = (sifted_lem self.problem.inputs (functions self.problem) self.pairs self.order o ok.kept).2 in
-      let s : size_of last ≡ size_under self.problem.inputs (functions self.problem) (sifted self.problem.inputs (functions self.problem) self.pairs self.order) = ap₂ (λ t x. size_under t.inputs (functions t) x) f g in
+      let s : size_of last ≡ size_under self.problem.inputs (functions self.problem)
+      (sifted self.problem.inputs (functions self.problem) self.pairs self.order) =
+      ap₂ (λ t x. size_under t.inputs (functions t) x) f g in
       omega arith

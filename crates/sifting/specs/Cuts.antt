@@ -71,7 +71,9 @@ is_true (Terminal b) = b
 is_true (Place k) = false
 
 -- levels whose functions are those of a diagram's roots
-pub record IsBuilt (order : List ℕ) (nodes : List Node) (roots : List Ref) (numbers : List ℕ) (levels : List (List Children)) (terminals : List Bool) : Type 0 where
+pub record IsBuilt (order : List ℕ) (nodes : List Node) (roots : List Ref) (numbers : List ℕ) (levels : List (List Children))
+    (terminals : List Bool) : Type 0 where
   pub leveled : IsLeveled levels terminals order numbers
   pub many : length numbers ≡ length roots
-  pub functions_are : (j : ℕ) → j < length roots → SameFunction (length order) (function_at levels terminals order (get_or numbers j 0)) (value nodes (ref_at roots j))
+  pub functions_are : (j : ℕ) → j < length roots →
+      SameFunction (length order) (function_at levels terminals order (get_or numbers j 0)) (value nodes (ref_at roots j))

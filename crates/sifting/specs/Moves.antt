@@ -50,6 +50,7 @@ by_falling_count counts n = fold (λ ys x. insert_by_count (slice_index counts) 
 pub record FindsBest (m : Managed) (from to best : ℕ) : Type 0 where
   pub above : from ≤ best
   pub below : best ≤ to
-  pub keeps : (others : List ℕ) (x : ℕ) → from ≤ length others → m.order ≡ insert others from x → (i : ℕ) → from ≤ i → i ≤ to → Keeps m.pairs (insert others i x)
+  pub keeps : (others : List ℕ) (x : ℕ) → from ≤ length others → m.order ≡ insert others from x → (i : ℕ) → from ≤ i → i ≤ to →
+      Keeps m.pairs (insert others i x)
   pub smallest : (others : List ℕ) (x : ℕ) → from ≤ length others → m.order ≡ insert others from x →
       insert others best x ≡ smallest_of m.problem.inputs (functions m.problem) m.order (placed_from others x from to)

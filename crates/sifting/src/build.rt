@@ -133,7 +133,8 @@ pub fn levels_of(
     requires few_roots { length roots.now ≤ 16 }
     requires ordered { IsOrdered order.now (record { nodes = nodes.now; roots = roots.now }) }
     requires reduced { IsReduced (record { nodes = nodes.now; roots = roots.now }) }
-    ensures { IfOk result (λ r. IsBuilt order.now nodes.now roots.now r.0.items (nodes_of r.1.items) r.2.items) }
+    ensures { IfOk result
+        (λ r. IsBuilt order.now nodes.now roots.now r.0.items (nodes_of r.1.items) r.2.items) }
 {
     let (numbers, mut cut) = first_cut(alloc, nodes.len(), roots)?;
     let mut levels = Vec::with_capacity(alloc, order.len())?;

@@ -11,15 +11,20 @@ use order_model::Problem;
 
 /// A diagram of some functions has a root for each, and their truth tables.
 pub fn diagrams_have_their_functions_tables()
-    ensures roots { (n : ℕ) (F : List Function) (order : List ℕ) (d : OrderedGraph) → Represents n F order d.graph → length d.graph.roots ≡ length F }
-    ensures tables { (n : ℕ) (F : List Function) (order : List ℕ) (d : OrderedGraph) → length d.order ≡ n → Represents n F order d.graph →
+    ensures roots { (n : ℕ) (F : List Function) (order : List ℕ) (d : OrderedGraph) →
+        Represents n F order d.graph → length d.graph.roots ≡ length F }
+    ensures tables { (n : ℕ) (F : List Function) (order : List ℕ) (d : OrderedGraph) →
+        length d.order ≡ n → Represents n F order d.graph →
         truth_tables_of d ≡ record { inputs = n; tables = map (table n) F } }
 {}
 
 /// A diagram of a problem's functions has at most 16 roots, and the problem's truth tables.
 pub fn diagrams_have_their_problems_tables(problem: &Problem)
-    ensures roots { (order : List ℕ) (d : OrderedGraph) → Represents problem.now.inputs (functions problem.now) order d.graph → length d.graph.roots ≤ 16 }
-    ensures tables { (order : List ℕ) (d : OrderedGraph) → length d.order ≡ problem.now.inputs → Represents problem.now.inputs (functions problem.now) order d.graph →
+    ensures roots { (order : List ℕ) (d : OrderedGraph) →
+        Represents problem.now.inputs (functions problem.now) order d.graph →
+        length d.graph.roots ≤ 16 }
+    ensures tables { (order : List ℕ) (d : OrderedGraph) → length d.order ≡ problem.now.inputs →
+        Represents problem.now.inputs (functions problem.now) order d.graph →
         truth_tables_of d ≡ problem.now }
 {
     let _few = problem.outputs();
@@ -28,7 +33,8 @@ pub fn diagrams_have_their_problems_tables(problem: &Problem)
 
 /// Each truth table of a problem has a value for each point.
 fn tables_have_all_points(problem: &Problem)
-    ensures { (j : ℕ) → j < outputs_of problem.now → length (table_at problem.now j) ≡ 2 ^ problem.now.inputs }
+    ensures { (j : ℕ) → j < outputs_of problem.now →
+        length (table_at problem.now j) ≡ 2 ^ problem.now.inputs }
 {
     for output in 0..problem.outputs() {
         let _words = problem.words(output);

@@ -89,7 +89,9 @@ impl Manager {
     /// Whether the variables of a level and the next one may be exchanged: no pair has the upper one above the lower.
     pub fn may_swap(&self, level: usize) -> bool
         requires { level + 1 < length self.now.order }
-        ensures { result ≡ not (has_pair self.now.pairs (slice_index self.now.order level) (slice_index self.now.order (level + 1))) }
+        ensures { result ≡ not
+            (has_pair self.now.pairs (slice_index self.now.order level)
+            (slice_index self.now.order (level + 1))) }
     {
         let variables = self.order.variables();
         (self.pairs.below(variables[level]) >> variables[level + 1]) & 1 == 0
@@ -99,7 +101,9 @@ impl Manager {
     /// stay, and the diagram is reduced again. The time is that of a step for each node of the two levels.
     pub fn swap(self, alloc: Global, level: usize) -> Result<Manager, AllocError>
         requires below { level + 1 < length self.order }
-        requires lawful { IsFalse (has_pair self.pairs (slice_index self.order level) (slice_index self.order (level + 1))) }
+        requires lawful { IsFalse
+            (has_pair self.pairs (slice_index self.order level)
+            (slice_index self.order (level + 1))) }
         ensures order { IfOk result (λ m. m.order ≡ swap self.order level (level + 1)) }
         ensures functions { IfOk result (λ m. m.problem ≡ self.problem) }
         ensures pairs { IfOk result (λ m. m.pairs ≡ self.pairs) }
@@ -138,7 +142,8 @@ impl Manager {
 
     /// How many nodes each level has, top first; levels that the order doesn't have are given 0.
     pub fn level_counts(&self) -> [u32; 16]
-        ensures counts { (i : ℕ) → i < length self.now.order → slice_index result i ≡ count_of self.now i }
+        ensures counts { (i : ℕ) → i < length self.now.order →
+            slice_index result i ≡ count_of self.now i }
         ensures others { (i : ℕ) → length self.now.order ≤ i → slice_index result i ≡ 0 }
     {
         let mut counts = [0u32; 16];

@@ -37,7 +37,9 @@ module _ (order : List ℕ) (nodes : List Node) (roots : List Ref) (checked : Ar
       let here : IsUsed nodes roots k = (at_place k (get_or nodes k no_node) (slice_get-get_or nodes k no_node l)).used in
       elim here [
         | inl root ↦ from_root root
-        | inr above ↦ from_parent above.0 above.1 (reached_from left above.0 (let later : k < above.0 = above.2 in omega arith) (slice_get_within nodes above.0 above.1 above.3)) above.3 above.4
+        | inr above ↦ from_parent above.0 above.1
+            (reached_from left above.0 (let later : k < above.0 = above.2 in omega arith) (slice_get_within nodes above.0 above.1 above.3))
+            above.3 above.4
       ]
 
   pub checked_reduced : IsReduced (record { nodes = nodes; roots = roots })
@@ -55,11 +57,14 @@ module _ (order : List ℕ) (nodes : List Node) (roots : List Ref) (checked : Ar
   }
 
 -- the same of nodes and roots under other names
-pub checked_here : (order : List ℕ) (nodes' nodes : List Node) (roots' roots : List Ref) → nodes' ≡ nodes → roots' ≡ roots → AreChecked order nodes' roots' → AreChecked order nodes roots
-checked_here order nodes' nodes roots' roots e f h = subst (λ (v : List Ref). AreChecked order nodes v) f (subst (λ (v : List Node). AreChecked order v roots') e h)
+pub checked_here : (order : List ℕ) (nodes' nodes : List Node) (roots' roots : List Ref) → nodes' ≡ nodes → roots' ≡ roots →
+    AreChecked order nodes' roots' → AreChecked order nodes roots
+checked_here order nodes' nodes roots' roots e f h =
+    subst (λ (v : List Ref). AreChecked order nodes v) f (subst (λ (v : List Node). AreChecked order v roots') e h)
 
 -- a diagram with the order, the nodes and the roots of checked ones
-pub same_ordered : (order : List ℕ) (d : OrderedGraph) (nodes : List Node) (roots : List Ref) → d.order ≡ order → d.graph.nodes ≡ nodes → d.graph.roots ≡ roots → AreChecked order nodes roots → IsOrdered d.order d.graph × IsReduced d.graph
+pub same_ordered : (order : List ℕ) (d : OrderedGraph) (nodes : List Node) (roots : List Ref) → d.order ≡ order → d.graph.nodes ≡ nodes →
+    d.graph.roots ≡ roots → AreChecked order nodes roots → IsOrdered d.order d.graph × IsReduced d.graph
 same_ordered order d nodes roots e f g h =
     let checked : AreChecked d.order d.graph.nodes d.graph.roots =
     subst (λ (v : List ℕ). AreChecked v d.graph.nodes d.graph.roots) (sym e) (checked_here order nodes d.graph.nodes roots d.graph.roots (sym f) (sym g) h) in

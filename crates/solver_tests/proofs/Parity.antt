@@ -13,15 +13,18 @@ use Rattle.solver_tests.specs.Examples.{parity}
 use Rattle.layer_core.specs.Settings.{cell_for}
 
 pub cell_3 : (4, 0) ≡ cell_for parity 3
-unfolding table_in tables_of from_table number points restrict table depends subfunctions reach dependents outside width cost without arrangements are_lawful is_lawful least_of least members essential essentials_outside is_within best_top cell_of
+unfolding table_in tables_of from_table number points restrict table depends subfunctions reach dependents outside width cost without
+    arrangements are_lawful is_lawful least_of least members essential essentials_outside is_within best_top cell_of
 cell_3 = refl
 
 pub cell_5 : (4, 0) ≡ cell_for parity 5
-unfolding table_in tables_of from_table number points restrict table depends subfunctions reach dependents outside width cost without arrangements are_lawful is_lawful least_of least members essential essentials_outside is_within best_top cell_of
+unfolding table_in tables_of from_table number points restrict table depends subfunctions reach dependents outside width cost without
+    arrangements are_lawful is_lawful least_of least members essential essentials_outside is_within best_top cell_of
 cell_5 = refl
 
 pub cell_7 : (6, 0) ≡ cell_for parity 7
-unfolding table_in tables_of from_table number points restrict table depends subfunctions reach dependents outside width cost without arrangements are_lawful is_lawful least_of least members essential essentials_outside is_within best_top cell_of
+unfolding table_in tables_of from_table number points restrict table depends subfunctions reach dependents outside width cost without
+    arrangements are_lawful is_lawful least_of least members essential essentials_outside is_within best_top cell_of
 cell_7 = refl
 
 -- the word of its truth table

@@ -36,7 +36,8 @@ fn parity_cell(problem: &Problem, mask: Mask, cost: u32, pairs: &Pairs) -> CellR
     requires problem { problem.now ≡ parity.problem }
     requires pairs { pairs.now.pairs ≡ [] }
     requires cell { (cost, 0) ≡ cell_for parity mask }
-    ensures setting { result.setting ≡ record { problem = problem.now; pairs = pairs.now; bound = 7 } }
+    ensures setting { result.setting ≡ record
+        { problem = problem.now; pairs = pairs.now; bound = 7 } }
     ensures mask { result.mask ≡ mask }
 {
     CellResult::new(problem, 7, mask, Cell { cost, variable: 0 }, pairs)

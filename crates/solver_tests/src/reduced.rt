@@ -30,7 +30,8 @@ fn is_behind(order: &Order, nodes: &[Node], place: usize, x: VarIx, r: Ref) -> b
 /// Whether no earlier node is equal.
 fn is_new(nodes: &[Node], place: usize) -> bool
     requires { place < length nodes.now }
-    ensures { IsTrue result → (j : ℕ) → j < place → slice_get nodes.now j ≢ slice_get nodes.now place }
+    ensures { IsTrue result → (j : ℕ) → j < place →
+        slice_get nodes.now j ≢ slice_get nodes.now place }
 {
     for other in 0..place {
         if nodes[other] == nodes[place] {
@@ -61,7 +62,8 @@ fn is_used(nodes: &[Node], roots: &[Ref], place: usize) -> bool
 /// Whether the node at a place may stand in a reduced diagram.
 fn is_checked_node(order: &Order, nodes: &[Node], roots: &[Ref], place: usize) -> bool
     requires { place < length nodes.now }
-    ensures { IsTrue result → (node : Node) → slice_get nodes.now place ≡ Some node → IsCheckedNode order.now nodes.now roots.now place node }
+    ensures { IsTrue result → (node : Node) → slice_get nodes.now place ≡ Some node →
+        IsCheckedNode order.now nodes.now roots.now place node }
 {
     let Node {
         variable,

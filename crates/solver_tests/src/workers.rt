@@ -31,7 +31,9 @@ fn cells_by_one(
     requires inputs { layer.now.inputs ≡ problem.now.inputs }
     requires setting { bench.now.setting ≡ setting_with problem.now pairs.now 7 }
     requires layer { bench.now.layer ≡ layer.now }
-    ensures { IfOk result (λ v. map pair_of v.items ≡ map (cell_for (setting_with problem.now pairs.now 7)) (masks_of layer.now)) }
+    ensures { IfOk result
+        (λ v. map pair_of v.items ≡ map (cell_for (setting_with problem.now pairs.now 7))
+        (masks_of layer.now)) }
 {
     let one = Workers::new(1).ok_or("one worker")?;
     let (board, mut seats) = Board::new(alloc, problem, 7, layer, one, pairs)?;
@@ -62,7 +64,8 @@ fn first_result(
     layer: &Layer,
     cells: &[Cell],
 ) -> Result<CellResult, Fail>
-    requires { map pair_of cells.now ≡ map (cell_for (setting_with problem.now pairs.now 7)) (masks_of layer.now) }
+    requires { map pair_of cells.now ≡ map (cell_for (setting_with problem.now pairs.now 7))
+        (masks_of layer.now) }
     ensures { IfOk result (λ r. r.setting ≡ setting_with problem.now pairs.now 7) }
 {
     if layer.len() == 0 || cells.is_empty() {
@@ -137,7 +140,8 @@ fn both_work<R: Threads + Sync>(
     let ((first, second), _) = thread::join(
         rt,
         move || -> (Result<(), PostRefused>, Result<(), PostRefused>)
-            requires { (owner.board ≡ board.now) × (one.setting ≡ board.now.brief.setting) × (two.setting ≡ board.now.brief.setting) }
+            requires { (owner.board ≡ board.now) × (one.setting ≡ board.now.brief.setting)
+                × (two.setting ≡ board.now.brief.setting) }
         { post_both(board, owner, one, two) },
         || (),
     );

@@ -44,14 +44,18 @@ module _ (order ws : List ℕ) (is : order ≡ 0 ∷ 1 ∷ []) where
   long : length order ≡ 2
   long = ap length is
 
-  pub second_denotes : (id : ℕ) → Denotes order ws id (branch (get_or order 1 0) (function_of order ws 0) (function_of order ws 1)) → Denotes order ws id second_bit
+  pub second_denotes : (id : ℕ) → Denotes order ws id (branch (get_or order 1 0) (function_of order ws 0) (function_of order ws 1)) →
+      Denotes order ws id second_bit
   unfolding SameFunction branch
   second_denotes id d = record {
     known = d.known;
-    function = λ p l. d.function p l ∙ ((λ i. cond (bit p (get_or (is i) 1 0)) (terminal order ws 1 p (omega arith) i) (terminal order ws 0 p (omega arith) i)) ∙ same_bit (bit p 1));
+    function = λ p l. d.function p l
+        ∙ ((λ i. cond (bit p (get_or (is i) 1 0)) (terminal order ws 1 p (omega arith) i) (terminal order ws 0 p (omega arith) i))
+        ∙ same_bit (bit p 1));
   }
 
-  pub conjunction_denotes : (second id : ℕ) → Denotes order ws second second_bit → Denotes order ws id (branch (get_or order 0 0) (function_of order ws 0) (function_of order ws second))
+  pub conjunction_denotes : (second id : ℕ) → Denotes order ws second second_bit →
+      Denotes order ws id (branch (get_or order 0 0) (function_of order ws 0) (function_of order ws second))
       → Denotes order ws id (from_table (false ∷ false ∷ false ∷ true ∷ []))
   unfolding SameFunction branch
   conjunction_denotes second id s d = record {
@@ -60,7 +64,8 @@ module _ (order ws : List ℕ) (is : order ≡ 0 ∷ 1 ∷ []) where
         ∙ each_point (λ q. cond (bit q 0) (bit q 1) false ≡ from_table (false ∷ false ∷ false ∷ true ∷ []) q) conjunction_table p (l ∙ long));
   }
 
-  pub disjunction_denotes : (second id : ℕ) → Denotes order ws second second_bit → Denotes order ws id (branch (get_or order 0 0) (function_of order ws second) (function_of order ws 1))
+  pub disjunction_denotes : (second id : ℕ) → Denotes order ws second second_bit →
+      Denotes order ws id (branch (get_or order 0 0) (function_of order ws second) (function_of order ws 1))
       → Denotes order ws id (from_table (false ∷ true ∷ true ∷ true ∷ []))
   unfolding SameFunction branch
   disjunction_denotes second id s d = record {
@@ -78,13 +83,15 @@ module _ (T : StoreId) (s : Knowledge) (here : s.store ≡ T) (order : order_of 
   second_means id m = second_denotes (order_of s.store.plan) s.seen order_is id
       (subst (λ (z : StoreId). Means s id (branch (variable_at z.plan 1) (function_in s 0) (function_in s 1))) (sym here) m)
 
-  pub conjunction_means : (second id : ℕ) → Means s second second_bit → Means s id (branch (variable_at T.plan 0) (function_in s 0) (function_in s second)) → Means s id (output_at T.plan.problem.value 0)
+  pub conjunction_means : (second id : ℕ) → Means s second second_bit →
+      Means s id (branch (variable_at T.plan 0) (function_in s 0) (function_in s second)) → Means s id (output_at T.plan.problem.value 0)
   unfolding output_at
   conjunction_means second id two m = subst (λ (z : List (List Bool)). Means s id (from_table (get_or z 0 []))) (sym tables)
       (conjunction_denotes (order_of s.store.plan) s.seen order_is second id two
       (subst (λ (z : StoreId). Means s id (branch (variable_at z.plan 0) (function_in s 0) (function_in s second))) (sym here) m))
 
-  pub disjunction_means : (second id : ℕ) → Means s second second_bit → Means s id (branch (variable_at T.plan 0) (function_in s second) (function_in s 1)) → Means s id (output_at T.plan.problem.value 1)
+  pub disjunction_means : (second id : ℕ) → Means s second second_bit →
+      Means s id (branch (variable_at T.plan 0) (function_in s second) (function_in s 1)) → Means s id (output_at T.plan.problem.value 1)
   unfolding output_at
   disjunction_means second id two m = subst (λ (z : List (List Bool)). Means s id (from_table (get_or z 1 []))) (sym tables)
       (disjunction_denotes (order_of s.store.plan) s.seen order_is second id two

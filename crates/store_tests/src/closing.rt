@@ -39,8 +39,10 @@ fn make_both(store: &Store, session: &mut Session) -> Result<(NodeId, NodeId), S
     requires order { order_of store.now.plan ≡ 0 ∷ 1 ∷ [] }
     requires tables { store.now.plan.problem.value.tables ≡ two_tables }
     ensures follows { OnOk result (Follows session.old session.new) }
-    ensures conjunction { IfOk result (λ r. Means session.new r.0 (output_at store.now.plan.problem.value 0)) }
-    ensures disjunction { IfOk result (λ r. Means session.new r.1 (output_at store.now.plan.problem.value 1)) }
+    ensures conjunction { IfOk result
+        (λ r. Means session.new r.0 (output_at store.now.plan.problem.value 0)) }
+    ensures disjunction { IfOk result
+        (λ r. Means session.new r.1 (output_at store.now.plan.problem.value 1)) }
 {
     let second = store.make(session, 1, 0, 1)?;
     let conjunction = store.make(session, 0, 0, second)?;

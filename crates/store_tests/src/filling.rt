@@ -133,7 +133,8 @@ fn fill_part(
 }
 
 fn behind(ids: &[NodeId], from: usize) -> &[NodeId]
-    ensures { (s : Knowledge) → All (IsKnownBelow s 11) ids.entry.now → All (IsKnownBelow s 11) result.now }
+    ensures { (s : Knowledge) → All (IsKnownBelow s 11) ids.entry.now →
+        All (IsKnownBelow s 11) result.now }
 {
     if from <= ids.len() { &ids[from..] } else { ids }
 }
@@ -222,11 +223,13 @@ fn two_threads_fill_a_store(rt: HostRuntime) -> Result<(), Fail> {
         &rt,
         || -> Result<Filled, AllocError>
             requires { (one.store ≡ store) × (levels_of store.plan ≡ 16) }
-            ensures { IfOk result (λ p. (p.session.store ≡ store) × All (IsKnownBelow p.session 11) p.below.items) }
+            ensures { IfOk result
+                (λ p. (p.session.store ≡ store) × All (IsKnownBelow p.session 11) p.below.items) }
         { fill_part(&store, one, alloc, 0) },
         || -> Result<Filled, AllocError>
             requires { (two.store ≡ store) × (levels_of store.plan ≡ 16) }
-            ensures { IfOk result (λ p. (p.session.store ≡ store) × All (IsKnownBelow p.session 11) p.below.items) }
+            ensures { IfOk result
+                (λ p. (p.session.store ≡ store) × All (IsKnownBelow p.session 11) p.below.items) }
         { fill_part(&store, two, alloc, 2) },
     );
     let (a, b) = (a?, b?);

@@ -26,13 +26,15 @@ module _ (S : ℕ → Type 0) (bound : ℕ) (costs widths : ℕ → ℕ) where
     sum_is = h.sum_is;
     least = λ y m w. elim (cases_lt y k) [
       | inl low ↦ h.least y (low, m.1) w
-      | inr high ↦ let e : k ≡ y = (let t = m.0 in omega arith) in let over : bound < costs y = subst (λ z. bound < costs z) e (away (subst S (sym e) m.1)) in absurd (omega arith)
+      | inr high ↦ let e : k ≡ y = (let t = m.0 in omega arith) in
+          let over : bound < costs y = subst (λ z. bound < costs z) e (away (subst S (sym e) m.1)) in absurd (omega arith)
     ];
     smallest = λ y lt m w. h.smallest y lt ((let t = h.member.0 in omega arith), m.1) w;
   }
 
   -- a member within the bound
-  pub best_taken : (k sum : ℕ) (o : Option Sum) (next r : Sum) → IsBestBelow k o → S k → costs k ≤ bound → sum ≡ costs k + widths k → next ≡ record { sum = sum; variable = k } →
+  pub best_taken : (k sum : ℕ) (o : Option Sum) (next r : Sum) → IsBestBelow k o → S k → costs k ≤ bound → sum ≡ costs k + widths k →
+      next ≡ record { sum = sum; variable = k } →
       (o ≡ None → r ≡ next) → IfSome o (λ b. (b.sum ≤ next.sum → r ≡ b) × (next.sum < b.sum → r ≡ next)) → IsBestBelow (k + 1) (Some r)
   best_taken k sum None next r h m w e n f g =
       subst (λ (s : Sum). IsBest (λ y. (y < k + 1) × S y) bound costs widths s.sum s.variable) (sym (f refl ∙ n)) (record {
@@ -74,7 +76,8 @@ module _ (S : ℕ → Type 0) (bound : ℕ) (costs widths : ℕ → ℕ) where
       ]
 
   -- all members
-  pub best_all : (k : ℕ) (s : Sum) → ((y : ℕ) → S y → y < k) → IsBest (λ y. (y < k) × S y) bound costs widths s.sum s.variable → IsBest S bound costs widths s.sum s.variable
+  pub best_all : (k : ℕ) (s : Sum) → ((y : ℕ) → S y → y < k) → IsBest (λ y. (y < k) × S y) bound costs widths s.sum s.variable →
+      IsBest S bound costs widths s.sum s.variable
   best_all k s low h = record {
     member = h.member.1;
     within = h.within;

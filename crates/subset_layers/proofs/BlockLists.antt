@@ -21,7 +21,9 @@ use Rattle.order_model.proofs.Bits.Masks.{power_small}
 pub has_masks : (n k mask : ℕ) → has (masks_of (layer_with n k)) mask ≡ true → (mask < 2 ^ n) × (length (members n mask) ≡ k)
 unfolding masks_of
 has_masks n k mask h =
-    let parts = and_parts (has (range_with_len 0 (2 ^ n)) mask) (nat_eq (length (members n mask)) k) (sym (has_filter (λ m. nat_eq (length (members n m)) k) (range_with_len 0 (2 ^ n)) mask) ∙ h) in
+    let parts =
+    and_parts (has (range_with_len 0 (2 ^ n)) mask) (nat_eq (length (members n mask)) k)
+    (sym (has_filter (λ m. nat_eq (length (members n m)) k) (range_with_len 0 (2 ^ n)) mask) ∙ h) in
     let r = (has_range (2 ^ n) 0 mask).0 parts.0 in
     (omega (arith, r.1), eqb-true _ _ parts.1)
 
@@ -46,7 +48,8 @@ low_any (m ∷ masks) mask low h e = elim (or_cases (nat_eq mask m) (has masks m
 ]
 
 -- a low byte is below 256, and that of a mask of the layer
-pub has_low_bytes : (n k low : ℕ) → has (low_bytes (layer_with n k)) low ≡ true → (low < 256) × ((mask : ℕ) × (has (masks_of (layer_with n k)) mask ≡ true) × (mask % 256 ≡ low))
+pub has_low_bytes : (n k low : ℕ) → has (low_bytes (layer_with n k)) low ≡ true →
+    (low < 256) × ((mask : ℕ) × (has (masks_of (layer_with n k)) mask ≡ true) × (mask % 256 ≡ low))
 unfolding low_bytes
 has_low_bytes n k low h =
     let parts = and_parts (has (range_with_len 0 256) low) (list_any (λ mask. nat_eq (mask % 256) low) (masks_of (layer_with n k)))
@@ -68,13 +71,17 @@ none_in p zero a h = refl
 none_in p (suc k) a h = ap₂ (λ b zs. cond b (a ∷ zs) zs) (h a (omega arith) (omega arith)) (none_in p k (a + 1) (λ i l g. h i (omega arith) (omega arith)))
 
 -- one number of a range passes
-one_in : (p : ℕ → Bool) (k a z : ℕ) → a ≤ z → z < a + k → p z ≡ true → ((i : ℕ) → a ≤ i → i < a + k → i ≢ z → p i ≡ false) → filter p (range_with_len a k) ≡ z ∷ []
+one_in : (p : ℕ → Bool) (k a z : ℕ) → a ≤ z → z < a + k → p z ≡ true → ((i : ℕ) → a ≤ i → i < a + k → i ≢ z → p i ≡ false) →
+    filter p (range_with_len a k) ≡ z ∷ []
 one_in p zero a z low high here others = absurd (omega arith)
 one_in p (suc k) a z low high here others = elim (cases_eq a z) [
   | inl e ↦
-      ap₂ (λ b zs. cond b (a ∷ zs) zs) (ap p e ∙ here) (none_in p k (a + 1) (λ i l g. others i (omega arith) (omega arith) (λ s. absurd (omega arith)))) ∙ ap (λ u. u ∷ []) e
+      ap₂ (λ b zs. cond b (a ∷ zs) zs) (ap p e ∙ here)
+      (none_in p k (a + 1) (λ i l g. others i (omega arith) (omega arith) (λ s. absurd (omega arith))))
+      ∙ ap (λ u. u ∷ []) e
   | inr ne ↦
-      ap₂ (λ b zs. cond b (a ∷ zs) zs) (others a (omega arith) (omega arith) ne) (one_in p k (a + 1) z (omega arith) (omega arith) here (λ i l g. others i (omega arith) (omega arith)))
+      ap₂ (λ b zs. cond b (a ∷ zs) zs) (others a (omega arith) (omega arith) ne)
+      (one_in p k (a + 1) z (omega arith) (omega arith) here (λ i l g. others i (omega arith) (omega arith)))
 ]
 
 range_split : (k l a : ℕ) → range_with_len a (k + l) ≡ range_with_len a k ++ range_with_len (a + k) l
@@ -87,13 +94,15 @@ with_low_byte : ℕ → ℕ → ℕ
 with_low_byte low high = high * 256 + low
 
 -- the numbers with a low byte, below a multiple of 256
-low_multiples : (low high : ℕ) → low < 256 → filter (λ m. nat_eq (m % 256) low) (range_with_len 0 (high * 256)) ≡ map (λ h. h * 256 + low) (range_with_len 0 high)
+low_multiples : (low high : ℕ) → low < 256 →
+    filter (λ m. nat_eq (m % 256) low) (range_with_len 0 (high * 256)) ≡ map (λ h. h * 256 + low) (range_with_len 0 high)
 low_multiples low zero h = refl
 low_multiples low (suc high) h =
     ap (λ k. filter p (range_with_len 0 k)) (let s : suc high * 256 ≡ high * 256 + 256 = omega arith in s)
     ∙ ap (filter p) (range_split (high * 256) 256 0) ∙ filter-append p (range_with_len 0 (high * 256)) (range_with_len (0 + high * 256) 256)
     ∙ ap₂ (λ xs ys. xs ++ ys) (low_multiples low high h) one
-    ∙ sym (map-range_with_len_more (λ k. k * 256 + low) 0 high high (omega arith)) ∙ ap (λ k. map (λ k. k * 256 + low) (range_with_len 0 k)) (let s : high + 1 ≡ suc high = omega arith in s)
+    ∙ sym (map-range_with_len_more (λ k. k * 256 + low) 0 high high (omega arith))
+    ∙ ap (λ k. map (λ k. k * 256 + low) (range_with_len 0 k)) (let s : high + 1 ≡ suc high = omega arith in s)
   where
     p : ℕ → Bool
     p m = nat_eq (m % 256) low
@@ -107,7 +116,8 @@ filter_swap : (p q : ℕ → Bool) (xs : List ℕ) → filter p (filter q xs) �
 filter_swap p q [] = refl
 filter_swap p q (x ∷ xs) = by (p x) (q x) refl refl (filter_swap p q xs)
   where
-    by : (b c : Bool) → p x ≡ b → q x ≡ c → filter p (filter q xs) ≡ filter q (filter p xs) → filter p (cond (q x) (x ∷ filter q xs) (filter q xs)) ≡ filter q (cond (p x) (x ∷ filter p xs) (filter p xs))
+    by : (b c : Bool) → p x ≡ b → q x ≡ c → filter p (filter q xs) ≡ filter q (filter p xs) →
+        filter p (cond (q x) (x ∷ filter q xs) (filter q xs)) ≡ filter q (cond (p x) (x ∷ filter p xs) (filter p xs))
     by true true e f r =
         ap (λ b. filter p (cond b (x ∷ filter q xs) (filter q xs))) f ∙ ap (λ b. cond b (x ∷ filter p (filter q xs)) (filter p (filter q xs))) e
         ∙ ap (λ zs. x ∷ zs) (r)
@@ -118,7 +128,8 @@ filter_swap p q (x ∷ xs) = by (p x) (q x) refl refl (filter_swap p q xs)
     by false true e f r =
         ap (λ b. filter p (cond b (x ∷ filter q xs) (filter q xs))) f ∙ ap (λ b. cond b (x ∷ filter p (filter q xs)) (filter p (filter q xs))) e
         ∙ r ∙ sym (ap (λ b. filter q (cond b (x ∷ filter p xs) (filter p xs))) e)
-    by false false e f r = ap (λ b. filter p (cond b (x ∷ filter q xs) (filter q xs))) f ∙ r ∙ sym (ap (λ b. filter q (cond b (x ∷ filter p xs) (filter p xs))) e)
+    by false false e f r = ap (λ b. filter p (cond b (x ∷ filter q xs) (filter q xs))) f ∙ r
+        ∙ sym (ap (λ b. filter q (cond b (x ∷ filter p xs) (filter p xs))) e)
 
 -- the numbers below 2 ^ n are all low bytes, or they are whole ranges of 256
 whole_or_low : (n : ℕ) → (2 ^ n ≤ 256) ⊎ (2 ^ n ≡ (2 ^ n + 255) / 256 * 256)
@@ -131,25 +142,30 @@ whole_or_low n = elim (cases_lt n 9) [
       )
 ]
 
-low_numbers : (n low : ℕ) → low < 256 → low < 2 ^ n → filter (λ m. nat_eq (m % 256) low) (range_with_len 0 (2 ^ n)) ≡ map (λ high. high * 256 + low) (range_with_len 0 ((2 ^ n + 255) / 256))
+low_numbers : (n low : ℕ) → low < 256 → low < 2 ^ n →
+    filter (λ m. nat_eq (m % 256) low) (range_with_len 0 (2 ^ n)) ≡ map (λ high. high * 256 + low) (range_with_len 0 ((2 ^ n + 255) / 256))
 low_numbers n low h lt = elim (whole_or_low n) [
   | inl few ↦
       let one : (2 ^ n + 255) / 256 ≡ suc zero = omega arith in
-      one_in (λ m. nat_eq (m % 256) low) (2 ^ n) 0 low (omega arith) (omega arith) (eq-eqb _ _ (omega arith)) (λ i l g ne. ne_eqb (i % 256) low (λ e. ne (omega arith)))
+      one_in (λ m. nat_eq (m % 256) low) (2 ^ n) 0 low (omega arith) (omega arith) (eq-eqb _ _ (omega arith))
+      (λ i l g ne. ne_eqb (i % 256) low (λ e. ne (omega arith)))
       ∙ ap (λ k. k ∷ []) (let s : low ≡ 0 * 256 + low = omega arith in s) ∙ ap (λ k. map (λ high. high * 256 + low) (range_with_len 0 k)) (sym one)
   | inr whole ↦ ap (λ k. filter (λ m. nat_eq (m % 256) low) (range_with_len 0 k)) whole ∙ low_multiples low ((2 ^ n + 255) / 256) h
 ]
 
 pub block_masks_are : (n k low : ℕ) → low < 256 → low < 2 ^ n →
-    block_masks (block_of n k low) ≡ filter (λ mask. nat_eq (length (members n mask)) k) (map (λ high. high * 256 + low) (range_with_len 0 ((2 ^ n + 255) / 256)))
+    block_masks (block_of n k low) ≡ filter (λ mask. nat_eq (length (members n mask)) k)
+    (map (λ high. high * 256 + low) (range_with_len 0 ((2 ^ n + 255) / 256)))
 unfolding block_masks masks_of
 block_masks_are n k low h lt =
-    filter_swap (λ m. nat_eq (m % 256) low) (λ m. nat_eq (length (members n m)) k) (range_with_len 0 (2 ^ n)) ∙ ap (filter (λ m. nat_eq (length (members n m)) k)) (low_numbers n low h lt)
+    filter_swap (λ m. nat_eq (m % 256) low) (λ m. nat_eq (length (members n m)) k) (range_with_len 0 (2 ^ n))
+    ∙ ap (filter (λ m. nat_eq (length (members n m)) k)) (low_numbers n low h lt)
 
 -- ---- places
 
 -- a table of places gives a member's
-pub table_place : (numbers places : List ℕ) (v : ℕ) → ArePlaced numbers places → has numbers v ≡ true → (v < length places) × (get_or places v 0 ≡ place_in numbers v) × (place_in numbers v < length numbers)
+pub table_place : (numbers places : List ℕ) (v : ℕ) → ArePlaced numbers places → has numbers v ≡ true →
+    (v < length places) × (get_or places v 0 ≡ place_in numbers v) × (place_in numbers v < length numbers)
 table_place numbers places v t h =
     let below = place_small numbers v h in
     let at = place_at numbers v below in
@@ -169,7 +185,8 @@ pub low_of_mask : (n k i : ℕ) → i < length (masks_of (layer_with n k)) → h
 low_of_mask n k i h = low_bytes_has n k (get_or (masks_of (layer_with n k)) i 0) (has_at (masks_of (layer_with n k)) i h)
 
 -- the low bytes of a layer fit
-pub low_fits : (n k i : ℕ) → i < length (low_bytes (layer_with n k)) → (get_or (low_bytes (layer_with n k)) i 0 < 256) × (get_or (low_bytes (layer_with n k)) i 0 < 2 ^ n)
+pub low_fits : (n k i : ℕ) → i < length (low_bytes (layer_with n k)) →
+    (get_or (low_bytes (layer_with n k)) i 0 < 256) × (get_or (low_bytes (layer_with n k)) i 0 < 2 ^ n)
 low_fits n k i h =
     let low = has_low_bytes n k (get_or (low_bytes (layer_with n k)) i 0) (has_at (low_bytes (layer_with n k)) i h) in
     let m = has_masks n k low.1.0 low.1.1 in
@@ -182,7 +199,9 @@ mask_small n low high a b h = elim (whole_or_low n) [ inl few ↦ omega arith | 
 
 pub high_mask : (n k low high count : ℕ) (masks : List ℕ) → length masks ≡ 256 → high < 256 → length (members n (high * 256 + low)) ≡ k →
     (count ≤ high) × (take count masks ≡ filter (λ mask. nat_eq (length (members n mask)) k) (map (λ h. h * 256 + low) (range_with_len 0 high))) →
-    (count + 1 ≤ high + 1) × (take (count + 1) (set masks count (high * 256 + low)) ≡ filter (λ mask. nat_eq (length (members n mask)) k) (map (λ h. h * 256 + low) (range_with_len 0 (high + 1))))
+    (count + 1 ≤ high + 1)
+    × (take (count + 1) (set masks count (high * 256 + low)) ≡ filter (λ mask. nat_eq (length (members n mask)) k)
+    (map (λ h. h * 256 + low) (range_with_len 0 (high + 1))))
 high_mask n k low high count masks l lt e h = (
   (let s = h.0 in omega arith),
   take_more_set masks count (high * 256 + low) (let s = h.0 in omega arith)
@@ -196,7 +215,9 @@ pub high_no_mask : (n k low high count : ℕ) (masks : List ℕ) → length (mem
 high_no_mask n k low high count masks ne h = (
   (let s = h.0 in omega arith),
   h.1 ∙ sym (append-nil _)
-      ∙ ap (λ b. filter (λ mask. nat_eq (length (members n mask)) k) (map (λ h. h * 256 + low) (range_with_len 0 high)) ++ cond b ((high * 256 + low) ∷ []) []) (sym (ne_eqb (length (members n (high * 256 + low))) k ne))
+      ∙ ap (λ b. filter (λ mask. nat_eq (length (members n mask)) k) (map (λ h. h * 256 + low) (range_with_len 0 high))
+      ++ cond b ((high * 256 + low) ∷ []) [])
+      (sym (ne_eqb (length (members n (high * 256 + low))) k ne))
       ∙ sym (filter_of_map_range_with_len_more (λ mask. nat_eq (length (members n mask)) k) (λ h. h * 256 + low) 0 high high (zero-add high)),
 )
 
@@ -207,7 +228,8 @@ has_slice_get [] i v h = absurd (cc)
 has_slice_get (x ∷ xs) zero v h = let e : v ≡ x = cc in or_left _ _ (eq-eqb v x e)
 has_slice_get (x ∷ xs) (suc i) v h = or_right (nat_eq v x) _ (has_slice_get xs i v h)
 
-pub position_none : (r : Option ℕ) (xs : List ℕ) (v : ℕ) → IfSome r (λ i. slice_get xs i ≡ Some v) → (IsNone r → (i : ℕ) → i < length xs → get_or xs i 0 ≢ v) → IsNone r ↔ IsFalse (has xs v)
+pub position_none : (r : Option ℕ) (xs : List ℕ) (v : ℕ) → IfSome r (λ i. slice_get xs i ≡ Some v) →
+    (IsNone r → (i : ℕ) → i < length xs → get_or xs i 0 ≢ v) → IsNone r ↔ IsFalse (has xs v)
 position_none None xs v some none = (λ h. false_from_ne_true (has xs v) (λ t. let z = index_of xs v t in none h z.0 z.1 z.2), λ h. search rules)
 position_none (Some i) xs v some none = (λ h. absurd (search rules), λ h. absurd (true≢false (sym (has_slice_get xs i v some) ∙ h)))
 
@@ -243,11 +265,14 @@ block_at l i v h = mapped (low_bytes l) i h
 
 -- ---- the tables of a layer
 
-pub masks_chosen : (n k : ℕ) (flags : List Bool) (numbers : List ℕ) → flags ≡ map (λ mask. nat_eq (length (members n mask)) k) (range_with_len 0 (2 ^ n)) → numbers ≡ chosen flags → numbers ≡ masks_of (layer_with n k)
+pub masks_chosen : (n k : ℕ) (flags : List Bool) (numbers : List ℕ) →
+    flags ≡ map (λ mask. nat_eq (length (members n mask)) k) (range_with_len 0 (2 ^ n)) → numbers ≡ chosen flags →
+    numbers ≡ masks_of (layer_with n k)
 unfolding masks_of
 masks_chosen n k flags numbers e f = f ∙ ap chosen e ∙ chosen-map (λ mask. nat_eq (length (members n mask)) k) (2 ^ n)
 
-pub lows_chosen : (n k : ℕ) (flags : List Bool) (masks numbers : List ℕ) → masks ≡ masks_of (layer_with n k) → flags ≡ map (λ low. list_any (λ mask. nat_eq (mask % 256) low) masks) (range_with_len 0 256) →
+pub lows_chosen : (n k : ℕ) (flags : List Bool) (masks numbers : List ℕ) → masks ≡ masks_of (layer_with n k) →
+    flags ≡ map (λ low. list_any (λ mask. nat_eq (mask % 256) low) masks) (range_with_len 0 256) →
     numbers ≡ chosen flags → numbers ≡ low_bytes (layer_with n k)
 unfolding low_bytes
 lows_chosen n k flags masks numbers m e f =
@@ -258,5 +283,7 @@ lows_chosen n k flags masks numbers m e f =
 pub in_block : (b : BlockOf) (mask : ℕ) → has (block_masks b) mask ≡ true → (mask < 2 ^ b.inputs) × (mask % 256 ≡ b.low)
 unfolding block_masks
 in_block b mask h =
-    let parts = and_parts (has (masks_of (layer_with b.inputs b.size)) mask) (nat_eq (mask % 256) b.low) (sym (has_filter (λ m. nat_eq (m % 256) b.low) (masks_of (layer_with b.inputs b.size)) mask) ∙ h) in
+    let parts =
+    and_parts (has (masks_of (layer_with b.inputs b.size)) mask) (nat_eq (mask % 256) b.low)
+    (sym (has_filter (λ m. nat_eq (m % 256) b.low) (masks_of (layer_with b.inputs b.size)) mask) ∙ h) in
     ((has_masks b.inputs b.size mask parts.0).0, eqb-true (mask % 256) b.low parts.1)

@@ -51,7 +51,8 @@ first_member n mask pos small lt =
 -- ---- the cell
 
 module _ (c : CostsOf) (mask bound : ℕ) (widths : List ℕ) (F : List Function) (P : List Pair) (order : List ℕ) (o : IsOrder c.inputs order) (k : Keeps P order)
-    (next : has (masks_of (layer_with c.inputs (c.size + 1))) mask ≡ true) (true_costs : AreTrueCosts c.inputs F P bound c) (true_widths : AreWidthsFor c.inputs F P bound mask c widths) where
+    (next : has (masks_of (layer_with c.inputs (c.size + 1))) mask ≡ true) (true_costs : AreTrueCosts c.inputs F P bound c)
+    (true_widths : AreWidthsFor c.inputs F P bound mask c widths) where
   n : ℕ
   n = c.inputs
 
@@ -62,7 +63,8 @@ module _ (c : CostsOf) (mask bound : ℕ) (widths : List ℕ) (F : List Function
   }
 
   pub cell_found : (left sum x : ℕ) → is_lawful P (members c.inputs mask) ≡ true → left ≡ essentials_outside c.inputs F (members c.inputs mask) →
-      IsBest (λ y. IsTrue (has (members c.inputs mask) y)) bound (cost_without c mask) (slice_index widths) sum x → sum + left ≤ bound → pair_of sum x ≡ cell_of c.inputs F P bound mask
+      IsBest (λ y. IsTrue (has (members c.inputs mask) y)) bound (cost_without c mask) (slice_index widths) sum x → sum + left ≤ bound →
+      pair_of sum x ≡ cell_of c.inputs F P bound mask
   cell_found left sum x l e b room =
       let s = b.sum_is in
       ap (λ v. pair_of v x) s
@@ -70,7 +72,8 @@ module _ (c : CostsOf) (mask bound : ℕ) (widths : List ℕ) (F : List Function
       (λ y m w. let t = b.least y m w in omega arith) (λ y lt m w z. b.smallest y lt m w (z ∙ sym s)) (omega arith))
 
   pub cell_clipped : (left z : ℕ) → has (members c.inputs mask) z ≡ true → left ≡ essentials_outside c.inputs F (members c.inputs mask) →
-      (is_lawful P (members c.inputs mask) ≡ true → (y : ℕ) → has (members c.inputs mask) y ≡ true → cost_without c mask y ≤ bound → bound < cost_without c mask y + slice_index widths y + left) →
+      (is_lawful P (members c.inputs mask) ≡ true → (y : ℕ) → has (members c.inputs mask) y ≡ true → cost_without c mask y ≤ bound →
+      bound < cost_without c mask y + slice_index widths y + left) →
       pair_of (bound + 1) (first_of (members c.inputs mask)) ≡ cell_of c.inputs F P bound mask
   cell_clipped left z m e none =
       sym (clipped c.inputs F P order o k bound mask (cost_without c mask) (slice_index widths) for_cell z m (λ l y h w. let t = none l y h w in omega arith))

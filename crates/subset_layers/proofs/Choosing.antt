@@ -21,14 +21,16 @@ pub filter_range_more : (p : ℕ → Bool) (i : ℕ) → filter p (range_with_le
 filter_range_more p i =
     let s : i + 1 ≡ suc i = omega arith in
     let z : 0 + i ≡ i = omega arith in
-    ap (λ k. filter p (range_with_len 0 k)) s ∙ ap (filter p) (range_last i 0) ∙ filter-append p (range_with_len 0 i) ((0 + i) ∷ []) ∙ ap (λ k. filter p (range_with_len 0 i) ++ filter p (k ∷ [])) z
+    ap (λ k. filter p (range_with_len 0 k)) s ∙ ap (filter p) (range_last i 0) ∙ filter-append p (range_with_len 0 i) ((0 + i) ∷ [])
+    ∙ ap (λ k. filter p (range_with_len 0 i) ++ filter p (k ∷ [])) z
 
 -- the numbers at which a test passes
 pub chosen-map : (p : ℕ → Bool) (n : ℕ) → chosen (map p (range_with_len 0 n)) ≡ filter p (range_with_len 0 n)
 unfolding chosen
 chosen-map p n =
     ap (λ k. filter (λ i. get_or (map p (range_with_len 0 n)) i false) (range_with_len 0 k)) (length-map-range_with_len p 0 n)
-    ∙ filter_range_same (λ i. get_or (map p (range_with_len 0 n)) i false) p n 0 (λ i low high. get_or-map-range_with_len p 0 n i i false (omega arith) (omega arith))
+    ∙ filter_range_same (λ i. get_or (map p (range_with_len 0 n)) i false) p n 0
+    (λ i low high. get_or-map-range_with_len p 0 n i i false (omega arith) (omega arith))
 
 -- the tables after the first i flags
 pub record IsChoosing (flags : List Bool) (i : ℕ) (numbers places : List ℕ) : Type 0 where
@@ -80,13 +82,17 @@ placed_yes numbers places i long h = record { within = within; placed = placed }
 
     placed : (j : ℕ) → j < length (numbers ++ i ∷ []) → get_or (places ++ length numbers ∷ []) (get_or (numbers ++ i ∷ []) j 0) 0 ≡ j
     placed j lt = elim (cases_lt j (length numbers)) [
-      | inl low ↦ ap (λ k. get_or (places ++ length numbers ∷ []) k 0) (old j low) ∙ get_or_append_left places (length numbers ∷ []) 0 (get_or numbers j 0) (h.within j low) ∙ h.placed j low
-      | inr high ↦ ap (λ k. get_or (places ++ length numbers ∷ []) k 0) (last j (is_last j lt high)) ∙ get_or_push places (length numbers) 0 i long ∙ is_last j lt high
+      | inl low ↦ ap (λ k. get_or (places ++ length numbers ∷ []) k 0) (old j low)
+          ∙ get_or_append_left places (length numbers ∷ []) 0 (get_or numbers j 0) (h.within j low) ∙ h.placed j low
+      | inr high ↦ ap (λ k. get_or (places ++ length numbers ∷ []) k 0) (last j (is_last j lt high))
+          ∙ get_or_push places (length numbers) 0 i long ∙ is_last j lt high
     ]
 
-pub choosing_no : (flags : List Bool) (i : ℕ) (numbers places : List ℕ) → get_or flags i false ≡ false → IsChoosing flags i numbers places → IsChoosing flags (i + 1) numbers (places ++ length numbers ∷ [])
+pub choosing_no : (flags : List Bool) (i : ℕ) (numbers places : List ℕ) → get_or flags i false ≡ false → IsChoosing flags i numbers places →
+    IsChoosing flags (i + 1) numbers (places ++ length numbers ∷ [])
 choosing_no flags i numbers places b h = record {
-  numbers_are = h.numbers_are ∙ sym (append-nil (filter (λ j. get_or flags j false) (range_with_len 0 i))) ∙ ap (λ c. filter (λ j. get_or flags j false) (range_with_len 0 i) ++ cond c (i ∷ []) []) (sym b)
+  numbers_are = h.numbers_are ∙ sym (append-nil (filter (λ j. get_or flags j false) (range_with_len 0 i)))
+      ∙ ap (λ c. filter (λ j. get_or flags j false) (range_with_len 0 i) ++ cond c (i ∷ []) []) (sym b)
       ∙ sym (filter_range_more (λ j. get_or flags j false) i);
   long = let e = length-append places (length numbers ∷ []) in let l = h.long in omega arith;
   short = let l = h.short in omega arith;
@@ -96,7 +102,9 @@ choosing_no flags i numbers places b h = record {
 pub choosing_yes : (flags : List Bool) (i : ℕ) (numbers places : List ℕ) → get_or flags i false ≡ true → IsChoosing flags i numbers places →
     IsChoosing flags (i + 1) (numbers ++ i ∷ []) (places ++ length numbers ∷ [])
 choosing_yes flags i numbers places b h = record {
-  numbers_are = ap (λ xs. xs ++ i ∷ []) h.numbers_are ∙ ap (λ c. filter (λ j. get_or flags j false) (range_with_len 0 i) ++ cond c (i ∷ []) []) (sym b) ∙ sym (filter_range_more (λ j. get_or flags j false) i);
+  numbers_are = ap (λ xs. xs ++ i ∷ []) h.numbers_are
+      ∙ ap (λ c. filter (λ j. get_or flags j false) (range_with_len 0 i) ++ cond c (i ∷ []) []) (sym b)
+      ∙ sym (filter_range_more (λ j. get_or flags j false) i);
   long = let e = length-append places (length numbers ∷ []) in let l = h.long in omega arith;
   short = let e = length-append numbers (i ∷ []) in let l = h.short in omega arith;
   placed = placed_yes numbers places i h.long h.placed;

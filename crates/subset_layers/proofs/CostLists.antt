@@ -30,7 +30,9 @@ use Rattle.order_model.proofs.Bits.Ones.{ones-members}
 
 pub distinct_masks : (l : LayerOf) → IsDistinct nat_eq (masks_of l)
 unfolding masks_of
-distinct_masks l = distinct_filter (λ mask. nat_eq (length (members l.inputs mask)) l.size) (range_with_len 0 (2 ^ l.inputs)) (distinct_variables (2 ^ l.inputs))
+distinct_masks l =
+    distinct_filter (λ mask. nat_eq (length (members l.inputs mask)) l.size) (range_with_len 0 (2 ^ l.inputs))
+    (distinct_variables (2 ^ l.inputs))
 
 -- the place of a mask that was found
 pub place_of_found : (l : LayerOf) (mask i : ℕ) → slice_get (masks_of l) i ≡ Some mask → place_in (masks_of l) mask ≡ i
@@ -62,12 +64,16 @@ module _ (c : CostsOf) (h : HaveCells c) where
   -- a set that is not in the layer has no cell
   pub cell_absent : (mask : ℕ) → has (masks_of (layer_of_costs c)) mask ≡ false → cell_at c mask ≡ None
   unfolding cell_at
-  cell_absent mask e = slice_get_past c.cells (place_in (masks_of (layer_of_costs c)) mask) (let p = no_place (masks_of (layer_of_costs c)) mask e in let f = few_cells in omega arith)
+  cell_absent mask e =
+      slice_get_past c.cells (place_in (masks_of (layer_of_costs c)) mask)
+      (let p = no_place (masks_of (layer_of_costs c)) mask e in let f = few_cells in omega arith)
 
   -- the empty set has none
   pub cell_of_start : (mask : ℕ) → c.size ≡ 0 → cell_at c mask ≡ None
   unfolding cell_at
-  cell_of_start mask e = slice_get_past c.cells (place_in (masks_of (layer_of_costs c)) mask) (let s = h.count ∙ ap (λ b. cond b 0 (length (masks_of (layer_of_costs c)))) (eq-eqb c.size 0 e) in omega arith)
+  cell_of_start mask e =
+      slice_get_past c.cells (place_in (masks_of (layer_of_costs c)) mask)
+      (let s = h.count ∙ ap (λ b. cond b 0 (length (masks_of (layer_of_costs c)))) (eq-eqb c.size 0 e) in omega arith)
 
   -- any other set of the layer has one
   pub cell_there : (mask : ℕ) → 0 < c.size → has (masks_of (layer_of_costs c)) mask ≡ true → place_in (masks_of (layer_of_costs c)) mask < length c.cells
@@ -79,7 +85,8 @@ unfolding cell_at
 cell_at_place c mask i h = ap (slice_get c.cells) (place_of_found (layer_of_costs c) mask i h)
 
 -- the cost at a place
-pub cost_at_place : (c : CostsOf) (mask i : ℕ) → slice_get (masks_of (layer_of_costs c)) i ≡ Some mask → cost_at c mask ≡ Some (option_map_or (λ (cell : Cell). cell.cost) (slice_get c.cells i) 0)
+pub cost_at_place : (c : CostsOf) (mask i : ℕ) → slice_get (masks_of (layer_of_costs c)) i ≡ Some mask →
+    cost_at c mask ≡ Some (option_map_or (λ (cell : Cell). cell.cost) (slice_get c.cells i) 0)
 unfolding cost_at
 cost_at_place c mask i h =
     ap (λ b. cond b (Some (option_map_or (λ (cell : Cell). cell.cost) (cell_at c mask) 0)) None) (has_slice_get (masks_of (layer_of_costs c)) i mask h)
@@ -90,9 +97,11 @@ unfolding cost_at
 cost_absent c mask e = ap (λ b. cond b (Some (option_map_or (λ (cell : Cell). cell.cost) (cell_at c mask) 0)) None) e
 
 -- a cell that was read is the definition's
-pub true_cell : (n : ℕ) (F : List Function) (P : List Pair) (bound : ℕ) (c : CostsOf) → AreTrueCells n F P bound c → (mask i : ℕ) (cell : Cell) → slice_get (masks_of (layer_of_costs c)) i ≡ Some mask → slice_get c.cells i ≡ Some cell →
+pub true_cell : (n : ℕ) (F : List Function) (P : List Pair) (bound : ℕ) (c : CostsOf) → AreTrueCells n F P bound c →
+    (mask i : ℕ) (cell : Cell) → slice_get (masks_of (layer_of_costs c)) i ≡ Some mask → slice_get c.cells i ≡ Some cell →
     as_pair cell ≡ cell_of n F P bound mask
-true_cell n F P bound c t mask i cell m e = t i (slice_get_within c.cells i cell e) cell e ∙ ap (cell_of n F P bound) (get_or_from_slice_get (masks_of (layer_of_costs c)) i mask 0 m)
+true_cell n F P bound c t mask i cell m e = t i (slice_get_within c.cells i cell e) cell e
+    ∙ ap (cell_of n F P bound) (get_or_from_slice_get (masks_of (layer_of_costs c)) i mask 0 m)
 
 -- the empty set's layer has its cost
 pub start_true : (n : ℕ) (F : List Function) (P : List Pair) (bound : ℕ) → AreTrueCosts n F P bound (start_costs n)
@@ -105,13 +114,15 @@ start_true n F P bound mask h =
     ∙ ap (λ b. Some (cond b 0 (cell_of n F P bound mask).0)) (sym (eq-eqb mask 0 none))
 
 -- the costs of the definition's cells
-pub costs_from_cells : (n : ℕ) (F : List Function) (P : List Pair) (bound : ℕ) (c : CostsOf) → HaveCells c → 0 < c.size → AreTrueCells n F P bound c → AreTrueCosts n F P bound c
+pub costs_from_cells : (n : ℕ) (F : List Function) (P : List Pair) (bound : ℕ) (c : CostsOf) → HaveCells c → 0 < c.size →
+    AreTrueCells n F P bound c → AreTrueCosts n F P bound c
 unfolding cell_cost
 costs_from_cells n F P bound c h lt t mask m =
     let i = place_in (masks_of (layer_of_costs c)) mask in
     let there = cell_there c h mask lt m in
     let found : slice_get (masks_of (layer_of_costs c)) i ≡ Some mask =
-    slice_get-get_or (masks_of (layer_of_costs c)) i 0 (place_small (masks_of (layer_of_costs c)) mask m) ∙ ap Some (place_at (masks_of (layer_of_costs c)) mask (place_small (masks_of (layer_of_costs c)) mask m)) in
+    slice_get-get_or (masks_of (layer_of_costs c)) i 0 (place_small (masks_of (layer_of_costs c)) mask m)
+    ∙ ap Some (place_at (masks_of (layer_of_costs c)) mask (place_small (masks_of (layer_of_costs c)) mask m)) in
     let read : slice_get c.cells i ≡ Some (get_or c.cells i no_cell) = slice_get-get_or c.cells i no_cell there in
     let is : as_pair (get_or c.cells i no_cell) ≡ cell_of n F P bound mask = true_cell n F P bound c t mask i (get_or c.cells i no_cell) found read in
     cost_at_place c mask i found ∙ ap (λ o. Some (option_map_or (λ (cell : Cell). cell.cost) o 0)) read ∙ ap Some (ap (λ (p : ℕ × ℕ). p.0) is)
@@ -127,16 +138,19 @@ costs_from_cells n F P bound c h lt t mask m =
         absurd (omega arith)
 
 -- a set of the next layer without one member is in the layer
-pub less_one : (n k mask x : ℕ) → has (masks_of (layer_with n (k + 1))) mask ≡ true → has (members n mask) x ≡ true → has (masks_of (layer_with n k)) (mask - 2 ^ x) ≡ true
+pub less_one : (n k mask x : ℕ) → has (masks_of (layer_with n (k + 1))) mask ≡ true → has (members n mask) x ≡ true →
+    has (masks_of (layer_with n k)) (mask - 2 ^ x) ≡ true
 less_one n k mask x m h =
     let is = has_masks n (k + 1) mask m in
     let one = length_without x (members n mask) (distinct_members n mask) h in
     let same : length (members n (mask - 2 ^ x)) ≡ length (without x (members n mask)) =
-    length-from_same_keys nat_eq_equiv (members n (mask - 2 ^ x)) (without x (members n mask)) (distinct_members n (mask - 2 ^ x)) (distinct_without x (members n mask) (distinct_members n mask)) (members_without n mask x h) in
+    length-from_same_keys nat_eq_equiv (members n (mask - 2 ^ x)) (without x (members n mask)) (distinct_members n (mask - 2 ^ x))
+    (distinct_without x (members n mask) (distinct_members n mask)) (members_without n mask x h) in
     masks_has n k (mask - 2 ^ x) (let s = is.0 in omega arith) (let s = is.1 in omega arith)
 
 pub have_cells : (l : LayerOf) (cells : List Cell) → l.inputs ≤ 16 → 0 < l.size → length cells ≡ length (masks_of l) → HaveCells (costs_with l cells)
-have_cells l cells few lt e = record { few_inputs = few; count = e ∙ sym (ap (λ b. cond b 0 (length (masks_of l))) (ne_eqb l.size 0 (λ z. absurd (omega arith)))) }
+have_cells l cells few lt e =
+    record { few_inputs = few; count = e ∙ sym (ap (λ b. cond b 0 (length (masks_of l))) (ne_eqb l.size 0 (λ z. absurd (omega arith)))) }
 
 -- there is a cell just for the sets of a layer that is not the empty set's
 pub cell_some : (c : CostsOf) → HaveCells c → (mask : ℕ) → IsSome (cell_at c mask) ↔ (IsTrue (has (masks_of (layer_of_costs c)) mask) × (0 < c.size))
@@ -156,7 +170,9 @@ cell_some c h mask = (there, back)
     ]
 
     back : IsTrue (has (masks_of (layer_of_costs c)) mask) × (0 < c.size) → IsSome (cell_at c mask)
-    back (m, lt) = ap is_some (slice_get-get_or c.cells (place_in (masks_of (layer_of_costs c)) mask) (record { cost = 0; variable = 0 }) (cell_there c h mask lt m))
+    back (m, lt) =
+        ap is_some (slice_get-get_or c.cells (place_in (masks_of (layer_of_costs c)) mask) (record { cost = 0; variable = 0 })
+        (cell_there c h mask lt m))
 
 pub cost_some : (c : CostsOf) (mask : ℕ) → IsSome (cost_at c mask) ↔ IsTrue (has (masks_of (layer_of_costs c)) mask)
 unfolding cost_at
@@ -169,7 +185,8 @@ cost_some c mask = by (has (masks_of (layer_of_costs c)) mask)
 pub IsSome_along : {X : Type 0} {A : Type 0} (o p : Option X) → o ≡ p → (IsSome p ↔ A) → IsSome o ↔ A
 IsSome_along {X} {A} o p e h = subst (λ (q : Option X). IsSome q ↔ A) (sym e) h
 
-pub true_read : (n : ℕ) (F : List Function) (P : List Pair) (bound : ℕ) (c : CostsOf) (mask i : ℕ) (o : Option Cell) → AreTrueCells n F P bound c → slice_get (masks_of (layer_of_costs c)) i ≡ Some mask → o ≡ slice_get c.cells i →
+pub true_read : (n : ℕ) (F : List Function) (P : List Pair) (bound : ℕ) (c : CostsOf) (mask i : ℕ) (o : Option Cell) →
+    AreTrueCells n F P bound c → slice_get (masks_of (layer_of_costs c)) i ≡ Some mask → o ≡ slice_get c.cells i →
     IfSome o (λ cell. as_pair cell ≡ cell_of n F P bound mask)
 true_read n F P bound c mask i None t m e = tt
 true_read n F P bound c mask i (Some cell) t m e = true_cell n F P bound c t mask i cell m (sym e)
@@ -180,7 +197,8 @@ pub member_from_bit : (n mask x : ℕ) → x < n → bit_and (mask / 2 ^ x) 1 �
 member_from_bit n mask x lt e = has_members n mask x ∙ and_from _ _ ((has_variables n x).1 lt) (eq-eqb (bit_at mask x) 1 (sym (shr_and_one mask x) ∙ e))
 
 pub bit_from_member : (n mask x : ℕ) → has (members n mask) x ≡ true → bit_and (mask / 2 ^ x) 1 ≡ 1
-bit_from_member n mask x h = shr_and_one mask x ∙ eqb-true (bit_at mask x) 1 (and_parts (has (variables n) x) (eqb (bit_at mask x) 1) (sym (has_members n mask x) ∙ h)).1
+bit_from_member n mask x h = shr_and_one mask x
+    ∙ eqb-true (bit_at mask x) 1 (and_parts (has (variables n) x) (eqb (bit_at mask x) 1) (sym (has_members n mask x) ∙ h)).1
 
 pub power_le_mask : (mask x : ℕ) → bit_and (mask / 2 ^ x) 1 ≡ 1 → 2 ^ x ≤ mask
 power_le_mask mask x e = elim (cases_lt mask (2 ^ x)) [

@@ -54,7 +54,9 @@ AreTrueCosts n F P bound c = (mask : ℕ) → IsTrue (has (masks_of (layer_of_co
 
 -- the cells are the definition's
 abbrev pub AreTrueCells : ℕ → List Function → List Pair → ℕ → CostsOf → Type 0
-AreTrueCells n F P bound c = (i : ℕ) → i < length c.cells → (cell : Cell) → slice_get c.cells i ≡ Some cell → as_pair cell ≡ cell_of n F P bound (slice_index (masks_of (layer_of_costs c)) i)
+AreTrueCells n F P bound c =
+    (i : ℕ) → i < length c.cells → (cell : Cell) → slice_get c.cells i ≡ Some cell →
+    as_pair cell ≡ cell_of n F P bound (slice_index (masks_of (layer_of_costs c)) i)
 
 -- the cost of a set without one member
 abbrev pub cost_without : CostsOf → ℕ → ℕ → ℕ
@@ -63,4 +65,5 @@ cost_without c mask x = unwrap_or (cost_at c (mask - 2 ^ x)) 0
 -- the widths that the cell of a lawful set needs are the definition's: if the cost without the variable is within the bound
 abbrev pub AreWidthsFor : ℕ → List Function → List Pair → ℕ → ℕ → CostsOf → List ℕ → Type 0
 AreWidthsFor n F P bound mask c widths =
-    IsTrue (is_lawful P (members n mask)) → (x : ℕ) → IsTrue (has (members n mask) x) → cost_without c mask x ≤ bound → slice_index widths x ≡ width n F (without x (members n mask)) x
+    IsTrue (is_lawful P (members n mask)) → (x : ℕ) → IsTrue (has (members n mask) x) → cost_without c mask x ≤ bound →
+    slice_index widths x ≡ width n F (without x (members n mask)) x

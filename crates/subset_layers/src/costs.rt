@@ -44,7 +44,9 @@ impl Costs {
     pub fn start(alloc: Global, inputs: u8) -> Result<Costs, AllocError>
         requires { inputs ≤ 16 }
         ensures value { IfOk result (λ c. c ≡ start_costs inputs) }
-        ensures exact { IfOk result (λ c. (F : List Function) (P : List Pair) (bound : ℕ) → AreTrueCosts inputs F P bound c) }
+        ensures exact { IfOk result
+            (λ c. (F : List Function) (P : List Pair) (bound : ℕ) →
+            AreTrueCosts inputs F P bound c) }
     {
         let layer = Layer::of(alloc, inputs, 0)?;
         Ok(Costs {
@@ -59,7 +61,9 @@ impl Costs {
         requires size { 0 < layer.size }
         requires cells { length cells.items ≡ length (layers.masks_of layer) }
         ensures value { result ≡ costs_with layer cells.items }
-        ensures exact { (F : List Function) (P : List Pair) (bound : ℕ) → AreTrueCells layer.inputs F P bound result → AreTrueCosts layer.inputs F P bound result }
+        ensures exact { (F : List Function) (P : List Pair) (bound : ℕ) →
+            AreTrueCells layer.inputs F P bound result →
+            AreTrueCosts layer.inputs F P bound result }
     {
         Costs { layer, cells }
     }
@@ -76,8 +80,10 @@ impl Costs {
     /// The cell of a set of the layer.
     pub fn cell_of(&self, mask: Mask) -> Option<Cell>
         ensures value { result ≡ cell_at self.now mask }
-        ensures some { IsSome result ↔ (IsTrue (has (layers.masks_of (layer_of_costs self.now)) mask) × (0 < self.now.size)) }
-        ensures exact { (F : List Function) (P : List Pair) (bound : ℕ) → AreTrueCells self.now.inputs F P bound self.now →
+        ensures some { IsSome result ↔
+            (IsTrue (has (layers.masks_of (layer_of_costs self.now)) mask) × (0 < self.now.size)) }
+        ensures exact { (F : List Function) (P : List Pair) (bound : ℕ) →
+            AreTrueCells self.now.inputs F P bound self.now →
             IfSome result (λ cell. as_pair cell ≡ cell_of self.now.inputs F P bound mask) }
     {
         let place = self.layer.position(mask)?;
@@ -91,7 +97,8 @@ impl Costs {
     /// The cost of a set of the layer.
     pub fn cost_of(&self, mask: Mask) -> Option<u32>
         ensures value { result ≡ cost_at self.now mask }
-        ensures some { IsSome result ↔ IsTrue (has (layers.masks_of (layer_of_costs self.now)) mask) }
+        ensures some { IsSome result ↔ IsTrue
+            (has (layers.masks_of (layer_of_costs self.now)) mask) }
     {
         let place = self.layer.position(mask)?;
         if place < self.cells.len() {

@@ -55,7 +55,9 @@ impl Model for Block {
 /// Whether each mask of some variables has the size.
 fn size_flags(alloc: Global, inputs: u8, size: u8) -> Result<Vec<bool>, AllocError>
     requires { inputs ≤ 16 }
-    ensures { IfOk result (λ flags. flags.items ≡ map (λ mask. nat_eq (length (members inputs mask)) size) (range_with_len 0 (2 ^ inputs))) }
+    ensures { IfOk result
+        (λ flags. flags.items ≡ map (λ mask. nat_eq (length (members inputs mask)) size)
+        (range_with_len 0 (2 ^ inputs))) }
 {
     let mut flags = Vec::new(alloc);
     for mask in 0..1u32 << inputs {
@@ -67,7 +69,9 @@ fn size_flags(alloc: Global, inputs: u8, size: u8) -> Result<Vec<bool>, AllocErr
 /// Which of the numbers below `limit` are low bytes of masks.
 fn low_flags(alloc: Global, masks: &[u16], limit: usize) -> Result<Vec<bool>, AllocError>
     requires { limit ≡ 256 }
-    ensures { IfOk result (λ flags. flags.items ≡ map (λ low. list_any (λ mask. nat_eq (mask % 256) low) masks.now) (range_with_len 0 256)) }
+    ensures { IfOk result
+        (λ flags. flags.items ≡ map (λ low. list_any (λ mask. nat_eq (mask % 256) low) masks.now)
+        (range_with_len 0 256)) }
 {
     let mut flags = vec![in alloc; false; limit]?;
     for mask in masks {

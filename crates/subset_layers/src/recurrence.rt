@@ -23,7 +23,8 @@ struct Sum {
 /// The one of two sums that is smaller, and the earlier one if they are equal.
 fn smaller(best: Option<Sum>, next: Sum) -> Sum
     ensures none { best ≡ None → result ≡ next }
-    ensures some { IfSome best (λ b. (b.sum ≤ next.sum → result ≡ b) × (next.sum < b.sum → result ≡ next)) }
+    ensures some { IfSome best
+        (λ b. (b.sum ≤ next.sum → result ≡ b) × (next.sum < b.sum → result ≡ next)) }
 {
     match best {
         Some(earlier) if earlier.sum <= next.sum => earlier,
@@ -34,8 +35,11 @@ fn smaller(best: Option<Sum>, next: Sum) -> Sum
 /// The least sum of cost and width over the members without which the cost is within the bound, by the smallest such member.
 fn best_sum(mask: Mask, costs: &Costs, widths: &[u32; 16], bound: u32) -> Option<Sum>
     requires { IsTrue (has (masks_of (layer_with costs.now.inputs (costs.now.size + 1))) mask) }
-    ensures best { IfSome result (λ s. IsBest (λ x. IsTrue (has (members costs.now.inputs mask) x)) bound (cost_without costs.now mask) (slice_index widths.now) s.sum s.variable) }
-    ensures none { IsNone result → (y : ℕ) → IsTrue (has (members costs.now.inputs mask) y) → bound < cost_without costs.now mask y }
+    ensures best { IfSome result
+        (λ s. IsBest (λ x. IsTrue (has (members costs.now.inputs mask) x)) bound
+        (cost_without costs.now mask) (slice_index widths.now) s.sum s.variable) }
+    ensures none { IsNone result → (y : ℕ) → IsTrue (has (members costs.now.inputs mask) y) →
+        bound < cost_without costs.now mask y }
 {
     let mut best: Option<Sum> = None;
     for x in 0..costs.inputs() {
@@ -65,16 +69,20 @@ fn clipped(mask: Mask, bound: u32) -> Cell
 /// How many variables of a set are not in another one.
 fn count_outside(essential: Mask, mask: Mask) -> u32
     ensures few { result ≤ 16 }
-    ensures exact { (n : ℕ) (F : List Function) → essential ≡ essential_mask n F → result ≡ essentials_outside n F (members n mask) }
+    ensures exact { (n : ℕ) (F : List Function) → essential ≡ essential_mask n F →
+        result ≡ essentials_outside n F (members n mask) }
 {
     (essential & !mask).count_ones()
 }
 
 /// The cell of a lawful set.
 fn lawful_cell(mask: Mask, costs: &Costs, widths: &[u32; 16], bound: u32, essential: Mask) -> Cell
-    requires next { IsTrue (has (masks_of (layer_with costs.now.inputs (costs.now.size + 1))) mask) }
+    requires next { IsTrue
+        (has (masks_of (layer_with costs.now.inputs (costs.now.size + 1))) mask) }
     requires room { bound + 1 < 2 ^ 32 }
-    ensures { (F : List Function) (P : List Pair) (order : List ℕ) → IsOrder costs.now.inputs order → Keeps P order → IsTrue (is_lawful P (members costs.now.inputs mask)) →
+    ensures { (F : List Function) (P : List Pair) (order : List ℕ) →
+        IsOrder costs.now.inputs order → Keeps P order →
+        IsTrue (is_lawful P (members costs.now.inputs mask)) →
         essential ≡ essential_mask costs.now.inputs F → AreTrueCosts costs.now.inputs F P bound costs.now → AreWidthsFor costs.now.inputs F P bound mask costs.now widths.now →
         as_pair result ≡ cell_of costs.now.inputs F P bound mask }
 {
@@ -104,10 +112,12 @@ pub fn least_cell(
     essential: Mask,
     pairs: &Pairs,
 ) -> Cell
-    requires next { IsTrue (has (masks_of (layer_with costs.now.inputs (costs.now.size + 1))) mask) }
+    requires next { IsTrue
+        (has (masks_of (layer_with costs.now.inputs (costs.now.size + 1))) mask) }
     requires inputs { pairs.now.inputs ≡ costs.now.inputs }
     requires room { bound + 1 < 2 ^ 32 }
-    ensures { (F : List Function) → essential ≡ essential_mask costs.now.inputs F → AreTrueCosts costs.now.inputs F pairs.now.pairs bound costs.now →
+    ensures { (F : List Function) → essential ≡ essential_mask costs.now.inputs F →
+        AreTrueCosts costs.now.inputs F pairs.now.pairs bound costs.now →
         AreWidthsFor costs.now.inputs F pairs.now.pairs bound mask costs.now widths.now → as_pair result ≡ cell_of costs.now.inputs F pairs.now.pairs bound mask }
 {
     prove!(pairs.inputs() <= 16);

@@ -35,7 +35,8 @@ impl Selection {
     /// The place of a number among those chosen.
     pub fn position(&self, number: u16) -> Option<usize>
         ensures found { IfSome result (λ i. slice_get self.now.numbers.items i ≡ Some number) }
-        ensures none { IsNone result → (i : ℕ) → i < length self.now.numbers.items → slice_index self.now.numbers.items i ≢ number }
+        ensures none { IsNone result → (i : ℕ) → i < length self.now.numbers.items →
+            slice_index self.now.numbers.items i ≢ number }
     {
         let place = *self.places.get(number as usize)? as usize;
         if place < self.numbers.len() && self.numbers[place] == number {

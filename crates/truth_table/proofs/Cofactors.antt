@@ -21,7 +21,8 @@ map_id (x ∷ xs) = ap (λ ys. x ∷ ys) (map_id xs)
 members_next : (x care : ℕ) → members (x + 1) care ≡ members x care ++ cond (eqb (bit_at care x) 1) (x ∷ []) []
 unfolding members
 members_next x care =
-    ap (filter (λ y. eqb (bit_at care y) 1)) (sym (map_id (range_with_len 0 (x + 1)))) ∙ filter_of_map_range_with_len_more (λ y. eqb (bit_at care y) 1) (λ y. y) 0 x x (zero-add x)
+    ap (filter (λ y. eqb (bit_at care y) 1)) (sym (map_id (range_with_len 0 (x + 1))))
+    ∙ filter_of_map_range_with_len_more (λ y. eqb (bit_at care y) 1) (λ y. y) 0 x x (zero-add x)
     ∙ ap (λ ys. filter (λ y. eqb (bit_at care y) 1) ys ++ cond (eqb (bit_at care x) 1) (x ∷ []) []) (map_id (range_with_len 0 x))
 
 pub members_more : (x care : ℕ) → eqb (bit_at care x) 1 ≡ true → members (x + 1) care ≡ members x care ++ x ∷ []
@@ -42,25 +43,38 @@ cofactor_none n care value t l = sym (table-from_table n t l)
 
 -- with one more variable fixed
 pub cofactor_more : (n x care value : ℕ) (t old new : List Bool) (b : Bool) → eqb (bit_at care x) 1 ≡ true → b ≡ eqb (bit_at value x) 1 →
-    old ≡ table n (fixed (members x care) value (from_table t)) → length old ≡ 2 ^ n → new ≡ table n (restrict x b (from_table old)) → new ≡ table n (fixed (members (x + 1) care) value (from_table t))
+    old ≡ table n (fixed (members x care) value (from_table t)) → length old ≡ 2 ^ n → new ≡ table n (restrict x b (from_table old)) →
+    new ≡ table n (fixed (members (x + 1) care) value (from_table t))
 unfolding SameFunction
 cofactor_more n x care value t old new b m v e l s =
     let g : Function = fixed (members x care) value (from_table t) in
     let same : SameFunction n (from_table old) g = same_from_table n (from_table old) g (table-from_table n old l ∙ e) in
     s ∙ table_same n (restrict x b (from_table old)) (restrict x b g) (restrict_same n x b (from_table old) g same)
-    ∙ ap (λ c. table n (restrict x c g)) v ∙ sym (ap (table n) (ap (λ xs. fixed xs value (from_table t)) (members_more x care m) ∙ fixed_last (members x care) x value (from_table t)))
+    ∙ ap (λ c. table n (restrict x c g)) v
+    ∙ sym (ap (table n)
+    (ap (λ xs. fixed xs value (from_table t)) (members_more x care m) ∙ fixed_last (members x care) x value (from_table t)))
 
 -- the words of the output
-pub cofactor_start : (t now : TruthTables) (n output care value : ℕ) (slice words : List ℕ) → t ≡ now → n ≡ t.inputs → length slice ≡ words_per_table t.inputs → table_in t.inputs slice ≡ table_at t output →
-    IsClean t.inputs slice → words ≡ slice → (table_in n words ≡ table n (fixed (members 0 care) value (from_table (table_at now output)))) × (length words ≡ words_per_table n) × IsClean n words
+pub cofactor_start : (t now : TruthTables) (n output care value : ℕ) (slice words : List ℕ) → t ≡ now → n ≡ t.inputs →
+    length slice ≡ words_per_table t.inputs → table_in t.inputs slice ≡ table_at t output →
+    IsClean t.inputs slice → words ≡ slice →
+    (table_in n words ≡ table n (fixed (members 0 care) value (from_table (table_at now output)))) × (length words ≡ words_per_table n)
+    × IsClean n words
 cofactor_start t now n output care value slice words v e l s c w =
     let here : table_in n words ≡ table_at now output = (λ i. table_in (e i) (w i)) ∙ s ∙ ap (λ u. table_at u output) v in
-    let long : length (table_at now output) ≡ 2 ^ n = sym (ap length here) ∙ length-table_in n words in
-    (here ∙ cofactor_none n care value (table_at now output) long, ap length w ∙ l ∙ sym (ap words_per_table e), subst (λ (z : ℕ). IsClean z words) (sym e) (subst (IsClean t.inputs) (sym w) c))
+    let long : length (table_at now output) ≡ 2 ^ n = sym (ap length here) ∙ length-table_in n words in (
+      here ∙ cofactor_none n care value (table_at now output) long,
+      ap length w ∙ l
+          ∙ sym (ap words_per_table e),
+      subst (λ (z : ℕ). IsClean z words) (sym e) (subst (IsClean t.inputs) (sym w) c),
+    )
 
 -- the words with one more variable fixed
 pub cofactor_step : (n x care value : ℕ) (t : List Bool) (old mid new after : List ℕ) (b : Bool) → eqb (bit_at care x) 1 ≡ true → b ≡ eqb (bit_at value x) 1 →
-    table_in n old ≡ table n (fixed (members x care) value (from_table t)) → mid ≡ old → table_in n new ≡ table n (restrict x b (from_table (table_in n mid))) → after ≡ new →
+    table_in n old ≡ table n (fixed (members x care) value (from_table t)) → mid ≡ old →
+    table_in n new ≡ table n (restrict x b (from_table (table_in n mid))) → after ≡ new →
     table_in n after ≡ table n (fixed (members (x + 1) care) value (from_table t))
 cofactor_step n x care value t old mid new after b m v e s r a =
-    ap (table_in n) a ∙ cofactor_more n x care value t (table_in n old) (table_in n new) b m v e (length-table_in n old) (r ∙ ap (λ ws. table n (restrict x b (from_table (table_in n ws)))) s)
+    ap (table_in n) a
+    ∙ cofactor_more n x care value t (table_in n old) (table_in n new) b m v e (length-table_in n old)
+    (r ∙ ap (λ ws. table n (restrict x b (from_table (table_in n ws)))) s)

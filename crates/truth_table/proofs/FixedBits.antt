@@ -92,7 +92,8 @@ fixed_twice x false k = elim (zero_or_one k x) [
 ]
 
 -- where the program computes it
-pub raised_step : (i r bit : ℕ) → r < 10 → i < 1024 → bit ≡ bit_at i r → (bit ≤ 1) × ((1 - bit) * 2 ^ r % 18446744073709551616 ≡ (1 - bit_at i r) * 2 ^ r) × ((1 - bit) * 2 ^ r ≤ 512)
+pub raised_step : (i r bit : ℕ) → r < 10 → i < 1024 → bit ≡ bit_at i r →
+    (bit ≤ 1) × ((1 - bit) * 2 ^ r % 18446744073709551616 ≡ (1 - bit_at i r) * 2 ^ r) × ((1 - bit) * 2 ^ r ≤ 512)
 raised_step i r bit h k e =
     let p = step_bound r h in
     let l = bit_at-lt i r in
@@ -141,7 +142,8 @@ row_done old now r b i v h read done rest j l = elim (cases_eq j i) [
       | inr ge ↦ rest (fixed_bit r b i) ge
     ]
 
-pub row_rest : (old now : List ℕ) (i v : ℕ) → ((j : ℕ) → i ≤ j → get_or now j 0 ≡ get_or old j 0) → (j : ℕ) → i + 1 ≤ j → get_or (set now i v) j 0 ≡ get_or old j 0
+pub row_rest : (old now : List ℕ) (i v : ℕ) → ((j : ℕ) → i ≤ j → get_or now j 0 ≡ get_or old j 0) → (j : ℕ) → i + 1 ≤ j →
+    get_or (set now i v) j 0 ≡ get_or old j 0
 row_rest old now i v rest j l =
     let ne : j ≢ i = omega arith in
     get_or-set_other now i j v 0 ne ∙ rest j (omega arith)
@@ -181,7 +183,8 @@ number-fixed p x b h = by (get_or p x false) refl b
             same ∙ sym (down_zero (number p) x (bit-number p x h ∙ ap weight e))
 
 -- a place of a table's words, with a bit of a variable from 6 on fixed
-pub fixed_rows_room : (n x : ℕ) (b : Bool) (words : List ℕ) → 6 ≤ x → x < n → length words ≡ words_per_table n → (i : ℕ) → i < length words → fixed_bit (x - 6) b i < length words
+pub fixed_rows_room : (n x : ℕ) (b : Bool) (words : List ℕ) → 6 ≤ x → x < n → length words ≡ words_per_table n → (i : ℕ) →
+    i < length words → fixed_bit (x - 6) b i < length words
 fixed_rows_room n x b words high small long i h = elim (whole_words n) [
   | inl w ↦
       let l = long ∙ w.2 in
@@ -197,13 +200,15 @@ raised_low : (h s k : ℕ) → k < 64 → k < s → bit_at (h * 2 ^ s % 2 ^ 64) 
 raised_low h s k lt low =
     let e : h * 2 ^ s ≡ (h * 2 ^ s / 2 ^ 64) * 2 ^ 64 + h * 2 ^ s % 2 ^ 64 = omega arith in
     let z : h * 2 ^ s ≡ h * 2 ^ s + 0 = omega arith in
-    sym (ap (λ w. bit_at w k) e ∙ bit_at_cat_low (h * 2 ^ s / 2 ^ 64) 64 (h * 2 ^ s % 2 ^ 64) k lt) ∙ ap (λ w. bit_at w k) z ∙ bit_at_cat_low h s 0 k low ∙ bit_at-zero k
+    sym (ap (λ w. bit_at w k) e ∙ bit_at_cat_low (h * 2 ^ s / 2 ^ 64) 64 (h * 2 ^ s % 2 ^ 64) k lt) ∙ ap (λ w. bit_at w k) z
+    ∙ bit_at_cat_low h s 0 k low ∙ bit_at-zero k
 
 raised_high : (h s k : ℕ) → k < 64 → s ≤ k → bit_at (h * 2 ^ s % 2 ^ 64) k ≡ bit_at h (k - s)
 raised_high h s k lt high =
     let e : h * 2 ^ s ≡ (h * 2 ^ s / 2 ^ 64) * 2 ^ 64 + h * 2 ^ s % 2 ^ 64 = omega arith in
     let z : h * 2 ^ s ≡ h * 2 ^ s + 0 = omega arith in
-    sym (ap (λ w. bit_at w k) e ∙ bit_at_cat_low (h * 2 ^ s / 2 ^ 64) 64 (h * 2 ^ s % 2 ^ 64) k lt) ∙ ap (λ w. bit_at w k) z ∙ bit_at_cat_high h s 0 k (pow_pos s) high
+    sym (ap (λ w. bit_at w k) e ∙ bit_at_cat_low (h * 2 ^ s / 2 ^ 64) 64 (h * 2 ^ s % 2 ^ 64) k lt) ∙ ap (λ w. bit_at w k) z
+    ∙ bit_at_cat_high h s 0 k (pow_pos s) high
 
 module _ (from lower x : ℕ) (small : x < 6) (low : (b : ℕ) → b < 64 → bit_at lower b ≡ 1 - bit_at b x) where
   half : ℕ
@@ -236,7 +241,8 @@ module _ (from lower x : ℕ) (small : x < 6) (low : (b : ℕ) → b < 64 → bi
       let l = bit_at-lt from k in
       bit_at_or half (half * 2 ^ (2 ^ x) % 2 ^ 64) k ∙ omega arith
 
-  pub doubled_one : (k : ℕ) → k < 64 → bit_at k x ≡ 1 → bit_at (bit_or (bit_and from lower) (bit_and from lower * 2 ^ (2 ^ x) % 2 ^ 64)) k ≡ bit_at from (k - 2 ^ x)
+  pub doubled_one : (k : ℕ) → k < 64 → bit_at k x ≡ 1 →
+      bit_at (bit_or (bit_and from lower) (bit_and from lower * 2 ^ (2 ^ x) % 2 ^ 64)) k ≡ bit_at from (k - 2 ^ x)
   unfolding half
   doubled_one k h e =
       let there = pow_le_bit k x e in
@@ -249,7 +255,9 @@ module _ (from lower x : ℕ) (small : x < 6) (low : (b : ℕ) → b < 64 → bi
       bit_at_or half (half * 2 ^ (2 ^ x) % 2 ^ 64) k ∙ omega arith
 
 module _ (word lower x : ℕ) (small : x < 6) (low : (b : ℕ) → b < 64 → bit_at lower b ≡ 1 - bit_at b x) where
-  pub upper_bit : (k : ℕ) → k < 64 → bit_at (bit_or (bit_and (word / 2 ^ (2 ^ x)) lower) (bit_and (word / 2 ^ (2 ^ x)) lower * 2 ^ (2 ^ x) % 2 ^ 64)) k ≡ bit_at word (fixed_bit x true k)
+  pub upper_bit : (k : ℕ) → k < 64 →
+      bit_at (bit_or (bit_and (word / 2 ^ (2 ^ x)) lower) (bit_and (word / 2 ^ (2 ^ x)) lower * 2 ^ (2 ^ x) % 2 ^ 64)) k ≡ bit_at word
+      (fixed_bit x true k)
   upper_bit k h = elim (zero_or_one k x) [
     | inl e ↦ doubled_zero (word / 2 ^ (2 ^ x)) lower x small low k h e ∙ shifted_bit word (2 ^ x) k ∙ sym (ap (bit_at word) (up_zero k x e))
     | inr e ↦
@@ -273,7 +281,8 @@ table_by n t g l h = sym (table-from_table n t l) ∙ table_same n (from_table t
 
 module _ (n x : ℕ) (b : Bool) (old new : List ℕ) (small : x < n) where
   -- where each point has the value of the point with the bit made b, the words hold the restriction
-  pub fixed_table : ((k : ℕ) → k < 2 ^ n → packed_bit new k ≡ packed_bit old (fixed_bit x b k)) → table_in n new ≡ table n (restrict x b (from_table (table_in n old)))
+  pub fixed_table : ((k : ℕ) → k < 2 ^ n → packed_bit new k ≡ packed_bit old (fixed_bit x b k)) →
+      table_in n new ≡ table n (restrict x b (from_table (table_in n old)))
   unfolding restrict from_table
   fixed_table h = table_by n (table_in n new) (restrict x b (from_table (table_in n old))) (length-table_in n new) (λ p l.
       let s : number p < 2 ^ n = subst (λ (z : ℕ). number p < 2 ^ z) l (number-small p) in
@@ -295,7 +304,8 @@ module _ (n x : ℕ) (b : Bool) (old new : List ℕ) (small : x < n) where
 
     value_low : (i c : ℕ) → i < length new → c < 64 → packed_bit new (64 * i + c) ≡ packed_bit old (fixed_bit x b (64 * i + c))
     value_low i c l h =
-        value_at_word new i c h ∙ ap (λ z. eqb z 1) (same i c l h) ∙ sym (ap (packed_bit old) (fixed_low i c h) ∙ value_at_word old i (fixed_bit x b c) (fixed_inside 6 x b c low h))
+        value_at_word new i c h ∙ ap (λ z. eqb z 1) (same i c l h)
+        ∙ sym (ap (packed_bit old) (fixed_low i c h) ∙ value_at_word old i (fixed_bit x b c) (fixed_inside 6 x b c low h))
 
     pub fixed_table_low : length new ≡ words_per_table n → table_in n new ≡ table n (restrict x b (from_table (table_in n old)))
     fixed_table_low long = fixed_table (λ k h.
@@ -330,7 +340,8 @@ module _ (n x : ℕ) (b : Bool) (old new : List ℕ) (small : x < n) where
 
     value_high : (i c : ℕ) → i < length new → c < 64 → packed_bit new (64 * i + c) ≡ packed_bit old (fixed_bit x b (64 * i + c))
     value_high i c l h =
-        value_at_word new i c h ∙ ap (λ z. eqb (bit_at z c) 1) (same i l) ∙ sym (ap (packed_bit old) (fixed_high i c h) ∙ value_at_word old (fixed_bit (x - 6) b i) c h)
+        value_at_word new i c h ∙ ap (λ z. eqb (bit_at z c) 1) (same i l)
+        ∙ sym (ap (packed_bit old) (fixed_high i c h) ∙ value_at_word old (fixed_bit (x - 6) b i) c h)
 
     pub fixed_table_high : length new ≡ words_per_table n → table_in n new ≡ table n (restrict x b (from_table (table_in n old)))
     fixed_table_high long = fixed_table (λ k h.

@@ -9,11 +9,13 @@ use Rattle.order_model.specs.Problems.{IsClean, IsPacked, tables_of, words_per_t
 use Rattle.order_model.proofs.Bits.Problems.{point_inside, block_inside, same_tables, table_of, length-tables_of, length-table_in, value_of}
 use Rattle.truth_table.proofs.TermWords.{masked_bits}
 
-module _ (n m : ℕ) (words items : List ℕ) (mask : ℕ) (masks : (b : ℕ) → b < 64 → eqb (bit_at mask b) 1 ≡ ltb b (2 ^ n)) (narrow : mask < 2 ^ 64) (long : length words ≡ m * words_per_table n)
+module _ (n m : ℕ) (words items : List ℕ) (mask : ℕ) (masks : (b : ℕ) → b < 64 → eqb (bit_at mask b) 1 ≡ ltb b (2 ^ n))
+    (narrow : mask < 2 ^ 64) (long : length words ≡ m * words_per_table n)
     (same : length items ≡ length words) (laid : (i : ℕ) → i < length words → get_or items i 0 ≡ bit_and (get_or words i 0) mask) where
   -- the bits of a word that is kept
   kept_bit : (i b : ℕ) → i < length words → b < 64 → eqb (bit_at (get_or items i 0) b) 1 ≡ (eqb (bit_at (get_or words i 0) b) 1 && ltb b (2 ^ n))
-  kept_bit i b h l = ap (λ v. eqb (bit_at v b) 1) (laid i h) ∙ masked_bits (get_or words i 0) mask b ∙ ap (λ c. eqb (bit_at (get_or words i 0) b) 1 && c) (masks b l)
+  kept_bit i b h l = ap (λ v. eqb (bit_at v b) 1) (laid i h) ∙ masked_bits (get_or words i 0) mask b
+      ∙ ap (λ c. eqb (bit_at (get_or words i 0) b) 1 && c) (masks b l)
 
   -- the truth tables are the same
   pub kept_tables : tables_of n m items ≡ tables_of n m words
@@ -35,7 +37,8 @@ module _ (n m : ℕ) (words items : List ℕ) (mask : ℕ) (masks : (b : ℕ) �
   clean i b h big = elim (cases_lt b 64) [
     | inr ge ↦ bit_at_above (get_or items i 0) 64 b (let e = laid i (omega arith) in let f = and_le_r (get_or words i 0) mask in omega arith) ge
     | inl lt ↦ not_one (bit_at (get_or items i 0) b) (bit_at-lt (get_or items i 0) b)
-        (kept_bit i b (omega arith) lt ∙ ap (λ c. eqb (bit_at (get_or words i 0) b) 1 && c) (le-ltb b (2 ^ n) big) ∙ and_no (eqb (bit_at (get_or words i 0) b) 1))
+        (kept_bit i b (omega arith) lt ∙ ap (λ c. eqb (bit_at (get_or words i 0) b) 1 && c) (le-ltb b (2 ^ n) big)
+        ∙ and_no (eqb (bit_at (get_or words i 0) b) 1))
   ]
     where
       and_no : (b : Bool) → (b && false) ≡ false

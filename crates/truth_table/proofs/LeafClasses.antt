@@ -107,15 +107,19 @@ subfunctions_fixed n (x ∷ xs) h f =
     lower = map_each (λ k. bit_at k x ≡ 0) (λ k. fixed xs k (restrict x false f)) (λ k. fixed xs k (restrict x (eqb (bit_at k x) 1) f))
         (λ k e. sym (ap (λ z. fixed xs k (restrict x (eqb z 1) f)) e)) (assignments xs) clear
 
-    upper : map (λ k. fixed xs k (restrict x true f)) (assignments xs) ≡ map (λ k. fixed xs k (restrict x (eqb (bit_at k x) 1) f)) (map (λ k. bit_or k (2 ^ x)) (assignments xs))
-    upper = map_each (λ k. bit_at k x ≡ 0) (λ k. fixed xs k (restrict x true f)) (λ k. fixed xs (bit_or k (2 ^ x)) (restrict x (eqb (bit_at (bit_or k (2 ^ x)) x) 1) f))
+    upper : map (λ k. fixed xs k (restrict x true f)) (assignments xs) ≡ map (λ k. fixed xs k (restrict x (eqb (bit_at k x) 1) f))
+        (map (λ k. bit_or k (2 ^ x)) (assignments xs))
+    upper = map_each (λ k. bit_at k x ≡ 0) (λ k. fixed xs k (restrict x true f))
+        (λ k. fixed xs (bit_or k (2 ^ x)) (restrict x (eqb (bit_at (bit_or k (2 ^ x)) x) 1) f))
         (λ k e.
         let own = bit_at-pow_same x in
         let one : bit_at (bit_or k (2 ^ x)) x ≡ 1 = bit_at_or k (2 ^ x) x ∙ omega arith in
         sym (fixed_apart x k xs h.1 (restrict x true f)) ∙ sym (ap (λ z. fixed xs (bit_or k (2 ^ x)) (restrict x (eqb z 1) f)) one)) (assignments xs) clear
         ∙ sym (twice (assignments xs))
       where
-        twice : (ks : List ℕ) → map (λ k. fixed xs k (restrict x (eqb (bit_at k x) 1) f)) (map (λ k. bit_or k (2 ^ x)) ks) ≡ map (λ k. fixed xs (bit_or k (2 ^ x)) (restrict x (eqb (bit_at (bit_or k (2 ^ x)) x) 1) f)) ks
+        twice : (ks : List ℕ) →
+            map (λ k. fixed xs k (restrict x (eqb (bit_at k x) 1) f)) (map (λ k. bit_or k (2 ^ x)) ks) ≡ map
+            (λ k. fixed xs (bit_or k (2 ^ x)) (restrict x (eqb (bit_at (bit_or k (2 ^ x)) x) 1) f)) ks
         twice [] = refl
         twice (k ∷ ks) = ap (λ us. fixed xs (bit_or k (2 ^ x)) (restrict x (eqb (bit_at (bit_or k (2 ^ x)) x) 1) f) ∷ us) (twice ks)
 
@@ -140,7 +144,8 @@ bit-laid [] k p y l h = absurd (false≢true h)
 bit-laid (x ∷ xs) k p y l h = elim (cases_eq y x) [
   | inl e ↦
       let long = length-laid xs k p in
-      ap (get_at (set (laid xs k p) x (eqb (bit_at k x) 1))) e ∙ get_or-set_same (laid xs k p) x (eqb (bit_at k x) 1) false (omega arith) ∙ sym (ap (λ z. eqb (bit_at k z) 1) e)
+      ap (get_at (set (laid xs k p) x (eqb (bit_at k x) 1))) e ∙ get_or-set_same (laid xs k p) x (eqb (bit_at k x) 1) false (omega arith)
+      ∙ sym (ap (λ z. eqb (bit_at k z) 1) e)
   | inr ne ↦ get_or-set_other (laid xs k p) x y (eqb (bit_at k x) 1) false ne ∙ bit-laid xs k p y l (sym (ap (λ b. b || has xs y) (ne_eqb y x ne)) ∙ h)
 ]
   where
@@ -155,7 +160,8 @@ number-laid n xs all k small p l =
     (λ y h. bit-number (laid xs k p) y (omega arith) ∙ ap weight (bit-laid xs k p y (omega arith) (all y h)) ∙ weight_bit (bit_at k y) (bit_at-lt k y))
 
 -- a function with all variables fixed is a constant
-fixed_constant : (n : ℕ) (xs : List ℕ) → ((y : ℕ) → y < n → has xs y ≡ true) → (k : ℕ) → k < 2 ^ n → (t : List Bool) → SameFunction n (fixed xs k (from_table t)) (λ p. get_or t k false)
+fixed_constant : (n : ℕ) (xs : List ℕ) → ((y : ℕ) → y < n → has xs y ≡ true) → (k : ℕ) → k < 2 ^ n → (t : List Bool) →
+    SameFunction n (fixed xs k (from_table t)) (λ p. get_or t k false)
 unfolding SameFunction from_table
 fixed_constant n xs all k small t p l = fixed_laid xs k (from_table t) p ∙ ap (λ z. get_or t z false) (number-laid n xs all k small p l)
 
@@ -176,15 +182,20 @@ zip_append R (f ∷ fs) gs [] ds h k = absurd h
 zip_append R (f ∷ fs) gs (c ∷ cs) ds h k = (h.0, zip_append R fs gs cs ds h.1 k)
 
 module _ (n : ℕ) (order : List ℕ) (distinct : AreDistinct n order) (all : (y : ℕ) → y < n → has order y ≡ true) where
-  table_leaves : (t : List Bool) (ks : List ℕ) → Each (λ k. k < 2 ^ n) ks → AllZip (IsLeaf n) (map (λ k. fixed order k (from_table t)) ks) (map (value_number t) ks)
+  table_leaves : (t : List Bool) (ks : List ℕ) → Each (λ k. k < 2 ^ n) ks →
+      AllZip (IsLeaf n) (map (λ k. fixed order k (from_table t)) ks) (map (value_number t) ks)
   table_leaves t [] h = tt
   table_leaves t (k ∷ ks) h = (value_leaf n (fixed order k (from_table t)) (get_or t k false) (fixed_constant n order all k h.0 t), table_leaves t ks h.1)
 
   leaves : (tables : List (List Bool)) → AllZip (IsLeaf n) (reach (map from_table tables) order) (values_at (assignments order) tables)
   unfolding reach values_at
   leaves [] = tt
-  leaves (t ∷ ts) = zip_append (IsLeaf n) (subfunctions order (from_table t)) (reach (map from_table ts) order) (map (value_number t) (assignments order)) (values_at (assignments order) ts)
-      (subst (λ (fs : List Function). AllZip (IsLeaf n) fs (map (value_number t) (assignments order))) (sym (subfunctions_fixed n order distinct (from_table t))) (table_leaves t (assignments order) (assignments_small n order distinct)))
+  leaves (t ∷ ts) =
+      zip_append (IsLeaf n) (subfunctions order (from_table t)) (reach (map from_table ts) order) (map (value_number t) (assignments order))
+      (values_at (assignments order) ts)
+      (subst (λ (fs : List Function). AllZip (IsLeaf n) fs (map (value_number t) (assignments order)))
+      (sym (subfunctions_fixed n order distinct (from_table t)))
+      (table_leaves t (assignments order) (assignments_small n order distinct)))
       (leaves ts)
 
 zip_long : (R : Function → ℕ → Type 0) (fs : List Function) (cs : List ℕ) → AllZip R fs cs → length cs ≡ length fs
@@ -214,8 +225,11 @@ leaves_apart n fs cs h = record {
       );
 }
 
-pub leaves_tell : (n : ℕ) (order : List ℕ) → IsOrder n order → (tables : List (List Bool)) → Tells n (reach (map from_table tables) order) (values_at (assignments order) tables)
-leaves_tell n order o tables = leaves_apart n (reach (map from_table tables) order) (values_at (assignments order) tables) (leaves n order (order_distinct n order o) (λ y h. (o.all y).1 h) tables)
+pub leaves_tell : (n : ℕ) (order : List ℕ) → IsOrder n order → (tables : List (List Bool)) →
+    Tells n (reach (map from_table tables) order) (values_at (assignments order) tables)
+leaves_tell n order o tables =
+    leaves_apart n (reach (map from_table tables) order) (values_at (assignments order) tables)
+    (leaves n order (order_distinct n order o) (λ y h. (o.all y).1 h) tables)
 
 -- ---- the program's lists
 
@@ -226,7 +240,9 @@ upper_more old now x i small h e =
     let step : 1 * 2 ^ x % 4294967296 ≡ 2 ^ x = one_shl x 32 (omega arith) in
     let read : get_or now i 0 ≡ get_or old i 0 = ap (λ ks. get_or ks i 0) e ∙ get_or_append_left old (map (λ k. bit_or k (2 ^ x)) (take i old)) 0 i h in
     (λ j. e j ++ bit_or (read j) (step j) ∷ []) ∙ append_assoc old (map (λ k. bit_or k (2 ^ x)) (take i old)) (bit_or (get_or old i 0) (2 ^ x) ∷ [])
-    ∙ ap (λ ks. old ++ ks) (sym (ap (map (λ k. bit_or k (2 ^ x))) (take_more old i 0 h) ∙ map-append (λ k. bit_or k (2 ^ x)) (take i old) (get_or old i 0 ∷ [])))
+    ∙ ap (λ ks. old ++ ks)
+    (sym (ap (map (λ k. bit_or k (2 ^ x))) (take_more old i 0 h)
+    ∙ map-append (λ k. bit_or k (2 ^ x)) (take i old) (get_or old i 0 ∷ [])))
 
 pub upper_inside : (old now : List ℕ) (x i : ℕ) → i < length old → now ≡ old ++ map (λ k. bit_or k (2 ^ x)) (take i old) → i < length now
 upper_inside old now x i h e =
@@ -245,14 +261,17 @@ assignments_more xs (suc i) h l =
     ∙ sym (ap (λ z. assignments (drop z xs)) e ∙ ap assignments c)
 
 -- one more table
-pub values_more : (ks : List ℕ) (tables : List (List Bool)) (j : ℕ) → j < length tables → values_at ks (take (j + 1) tables) ≡ values_at ks (take j tables) ++ map (value_number (get_or tables j [])) ks
+pub values_more : (ks : List ℕ) (tables : List (List Bool)) (j : ℕ) → j < length tables →
+    values_at ks (take (j + 1) tables) ≡ values_at ks (take j tables) ++ map (value_number (get_or tables j [])) ks
 unfolding values_at
 values_more ks tables j h =
-    ap (flat_map (λ t. map (value_number t) ks)) (take_more tables j [] h) ∙ flat_map-append (λ t. map (value_number t) ks) (take j tables) (get_or tables j [] ∷ [])
+    ap (flat_map (λ t. map (value_number t) ks)) (take_more tables j [] h)
+    ∙ flat_map-append (λ t. map (value_number t) ks) (take j tables) (get_or tables j [] ∷ [])
     ∙ ap (λ us. flat_map (λ t. map (value_number t) ks) (take j tables) ++ us) (append-nil (map (value_number (get_or tables j [])) ks))
 
 -- the values that the words of a table have at points
-pub values_packed : (n : ℕ) (words : List ℕ) (t : List Bool) (ks : List ℕ) → table_in n words ≡ t → All (λ k. k < 2 ^ n) ks → map (λ k. cond (packed_bit words k) 1 0) ks ≡ map (value_number t) ks
+pub values_packed : (n : ℕ) (words : List ℕ) (t : List Bool) (ks : List ℕ) → table_in n words ≡ t → All (λ k. k < 2 ^ n) ks →
+    map (λ k. cond (packed_bit words k) 1 0) ks ≡ map (value_number t) ks
 values_packed n words t [] e h = refl
 values_packed n words t (k ∷ ks) e h =
     let here : packed_bit words k ≡ get_or t k false = sym (table_value n words k (All-head (λ k. k < 2 ^ n) k ks h)) ∙ ap (λ u. get_or u k false) e in
@@ -271,7 +290,8 @@ assignments_below n order o = each_all (assignments order) (assignments_small n 
     each_all (k ∷ ks) h = All-cons (λ k. k < 2 ^ n) k ks h.0 (each_all ks h.1)
 
 -- the program's first classes
-pub start_tells : (n : ℕ) (order : List ℕ) (tables : List (List Bool)) (k : ℕ) (ks cs : List ℕ) → IsOrder n order → length order ≤ k → ks ≡ assignments order → cs ≡ values_at ks tables →
+pub start_tells : (n : ℕ) (order : List ℕ) (tables : List (List Bool)) (k : ℕ) (ks cs : List ℕ) → IsOrder n order → length order ≤ k →
+    ks ≡ assignments order → cs ≡ values_at ks tables →
     Tells n (reach (map from_table tables) (take k order)) cs
 start_tells n order tables k ks cs o l e v =
     subst (λ (xs : List ℕ). Tells n (reach (map from_table tables) xs) cs) (sym (take_all k order l))

@@ -128,21 +128,32 @@ module _ (n x : ℕ) (fs : List Function) (cs : List ℕ) (t : Tells n (restrict
   unfolding part place_of
   pair_parts j = refl
 
-  both_tell : (j k : ℕ) → j < length fs → k < length fs → (table n (function_at fs j) ≡ table n (function_at fs k) → pair_at cs j ≡ pair_at cs k) × (pair_at cs j ≡ pair_at cs k → table n (function_at fs j) ≡ table n (function_at fs k))
+  both_tell : (j k : ℕ) → j < length fs → k < length fs →
+      (table n (function_at fs j) ≡ table n (function_at fs k) → pair_at cs j ≡ pair_at cs k)
+      × (pair_at cs j ≡ pair_at cs k → table n (function_at fs j) ≡ table n (function_at fs k))
   unfolding part place_of SameFunction
   both_tell j k h i = (
     λ e.
         let same = same_from_table n (function_at fs j) (function_at fs k) e in
-        let low = (tells false false j k h i).1 (table_same n (restrict x false (function_at fs j)) (restrict x false (function_at fs k)) (restrict_same n x false (function_at fs j) (function_at fs k) same)) in
-        let high = (tells true true j k h i).1 (table_same n (restrict x true (function_at fs j)) (restrict x true (function_at fs k)) (restrict_same n x true (function_at fs j) (function_at fs k) same)) in
+        let low = (tells false false j k h i).1
+        (table_same n (restrict x false (function_at fs j)) (restrict x false (function_at fs k))
+        (restrict_same n x false (function_at fs j) (function_at fs k) same)) in
+        let high = (tells true true j k h i).1
+        (table_same n (restrict x true (function_at fs j)) (restrict x true (function_at fs k))
+        (restrict_same n x true (function_at fs j) (function_at fs k) same)) in
         λ d. (low d, high d),
     λ e.
-        let low = same_from_table n (restrict x false (function_at fs j)) (restrict x false (function_at fs k)) ((tells false false j k h i).0 (ap (λ u. u.0) e)) in
-        let high = same_from_table n (restrict x true (function_at fs j)) (restrict x true (function_at fs k)) ((tells true true j k h i).0 (ap (λ u. u.1) e)) in
-        table_same n (function_at fs j) (function_at fs k) (λ p l. sym (own_restriction x (function_at fs j) p) ∙ by p (bit p x) (low p l) (high p l) ∙ own_restriction x (function_at fs k) p),
+        let low = same_from_table n (restrict x false (function_at fs j)) (restrict x false (function_at fs k))
+        ((tells false false j k h i).0 (ap (λ u. u.0) e)) in
+        let high = same_from_table n (restrict x true (function_at fs j)) (restrict x true (function_at fs k))
+        ((tells true true j k h i).0 (ap (λ u. u.1) e)) in
+        table_same n (function_at fs j) (function_at fs k)
+        (λ p l. sym (own_restriction x (function_at fs j) p) ∙ by p (bit p x) (low p l) (high p l)
+        ∙ own_restriction x (function_at fs k) p),
   )
     where
-      by : (p : Point) (b : Bool) → restrict x false (function_at fs j) p ≡ restrict x false (function_at fs k) p → restrict x true (function_at fs j) p ≡ restrict x true (function_at fs k) p →
+      by : (p : Point) (b : Bool) → restrict x false (function_at fs j) p ≡ restrict x false (function_at fs k) p →
+          restrict x true (function_at fs j) p ≡ restrict x true (function_at fs k) p →
           restrict x b (function_at fs j) p ≡ restrict x b (function_at fs k) p
       by p true low high = high
       by p false low high = low
@@ -165,8 +176,11 @@ module _ (n x : ℕ) (fs : List Function) (cs : List ℕ) (t : Tells n (restrict
   depends_by_parts : (j : ℕ) → j < length fs → depends n (function_at fs j) x ≡ is_unequal (pair_at cs j)
   unfolding depends part place_of
   depends_by_parts j h = ap not (same_bool _ _
-      (λ e. eq-eqb _ _ ((tells false true j j h h).1 ((same_table_decides (table n (restrict x false (function_at fs j))) (table n (restrict x true (function_at fs j)))).0 e)))
-      (λ e. (same_table_decides (table n (restrict x false (function_at fs j))) (table n (restrict x true (function_at fs j)))).1 ((tells false true j j h h).0 (eqb-true _ _ e))))
+      (λ e. eq-eqb _ _
+      ((tells false true j j h h).1
+      ((same_table_decides (table n (restrict x false (function_at fs j))) (table n (restrict x true (function_at fs j)))).0 e)))
+      (λ e. (same_table_decides (table n (restrict x false (function_at fs j))) (table n (restrict x true (function_at fs j)))).1
+      ((tells false true j j h h).0 (eqb-true _ _ e))))
 
   places : List ℕ
   places = range_with_len 0 (length fs)
@@ -184,7 +198,8 @@ module _ (n x : ℕ) (fs : List Function) (cs : List ℕ) (t : Tells n (restrict
       let chosen : filter (λ f. depends n f x) fs ≡ map (function_at fs) (filter kept places) =
       ap (filter (λ f. depends n f x)) all ∙ filter_map_same kept (λ f. depends n f x) (function_at fs) places (λ j h. refl) in
       let pairs : filter is_unequal (map (pair_at cs) (range_with_len 0 (length cs / 2))) ≡ map (pair_at cs) (filter kept places) =
-      ap (λ z. filter is_unequal (map (pair_at cs) (range_with_len 0 z))) half_long ∙ filter_map_same kept is_unequal (pair_at cs) places (λ j h. depends_by_parts j (inside j h)) in
+      ap (λ z. filter is_unequal (map (pair_at cs) (range_with_len 0 z))) half_long
+      ∙ filter_map_same kept is_unequal (pair_at cs) places (λ j h. depends_by_parts j (inside j h)) in
       ap (λ gs. distinct_count same_table (map (table n) gs)) chosen ∙ ap (distinct_count same_table) (map-map (table n) (function_at fs) (filter kept places))
       ∙ count_alike same_table same_table_decides same_pair pair_decides (λ j. table n (function_at fs j)) (pair_at cs) (filter kept places)
       (λ j k a b. both_tell j k (inside j (among_from_filter kept j places a).0) (inside k (among_from_filter kept k places b).0))
@@ -215,7 +230,8 @@ counts_more count counts level top unequal h e done i l k = elim (cases_eq i lev
   | inr ne ↦ get_or-set_other counts level i unequal 0 ne ∙ done i (omega arith) k
 ]
 
-pub counts_whole : (n : ℕ) (F : List Function) (order counts : List ℕ) → length counts ≡ length order → ((i : ℕ) → i < length order → get_or counts i 0 ≡ level_count n F order i) → counts ≡ level_counts n F order
+pub counts_whole : (n : ℕ) (F : List Function) (order counts : List ℕ) → length counts ≡ length order →
+    ((i : ℕ) → i < length order → get_or counts i 0 ≡ level_count n F order i) → counts ≡ level_counts n F order
 unfolding level_counts
 counts_whole n F order counts l h = fill_by_all (level_count n F order) counts (length order) 0 l h
 
@@ -232,7 +248,8 @@ few_blocks k h = grows k (16 - k) (omega arith)
         omega arith
 
 -- the classes of a level are few
-pub few_classes : (n : ℕ) (F : List Function) (order : List ℕ) (level : ℕ) (cs : List ℕ) → length F ≤ 16 → length order ≤ 16 → level ≤ length order → Tells n (reach F (take level order)) cs → length cs < 4294967296
+pub few_classes : (n : ℕ) (F : List Function) (order : List ℕ) (level : ℕ) (cs : List ℕ) → length F ≤ 16 → length order ≤ 16 →
+    level ≤ length order → Tells n (reach F (take level order)) cs → length cs < 4294967296
 few_classes n F order level cs m o l t =
     let r = length-reach F (take level order) in
     let k = length-take-le level order l in
@@ -243,8 +260,10 @@ few_classes n F order level cs m o l t =
     omega arith
 
 -- the program's step from a level to the one above
-pub level_step : (n : ℕ) (F : List Function) (order : List ℕ) (level : ℕ) (cs classes ns counts : List ℕ) (unequal : ℕ) → 0 < level → level ≤ length order → Tells n (reach F (take level order)) cs → classes ≡ cs →
-    IsNumbering (pairs_of classes) ns → unequal ≡ unequal_count (pairs_of classes) → length counts ≡ length order → ((i : ℕ) → level ≤ i → i < length order → get_or counts i 0 ≡ level_count n F order i) →
+pub level_step : (n : ℕ) (F : List Function) (order : List ℕ) (level : ℕ) (cs classes ns counts : List ℕ) (unequal : ℕ) → 0 < level →
+    level ≤ length order → Tells n (reach F (take level order)) cs → classes ≡ cs →
+    IsNumbering (pairs_of classes) ns → unequal ≡ unequal_count (pairs_of classes) → length counts ≡ length order →
+    ((i : ℕ) → level ≤ i → i < length order → get_or counts i 0 ≡ level_count n F order i) →
     Tells n (reach F (take (level - 1) order)) ns × (length (set counts (level - 1) unequal) ≡ length order)
     × ((i : ℕ) → level - 1 ≤ i → i < length order → get_or (set counts (level - 1) unequal) i 0 ≡ level_count n F order i)
 level_step n F order level cs classes ns counts unequal some within t e m u l done =
@@ -253,6 +272,7 @@ level_step n F order level cs classes ns counts unequal some within t e m u l do
     let here : level - 1 < length order = omega arith in (
       level_up n F order (level - 1) here classes below ns m,
       length-set counts (level - 1) unequal ∙ l,
-      counts_more (level_count n F order) counts (level - 1) (length order) unequal (omega arith) (level_counted n F order (level - 1) here classes below unequal u)
+      counts_more (level_count n F order) counts (level - 1) (length order) unequal (omega arith)
+          (level_counted n F order (level - 1) here classes below unequal u)
           (λ i a b. done i (omega arith) b),
     )

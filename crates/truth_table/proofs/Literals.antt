@@ -26,7 +26,8 @@ use Rattle.std.proofs.Math.Bool.{and-true}
 
 -- ---- a test of each of some numbers
 
-pub all_same : (f g : ℕ → Bool) (len a : ℕ) → ((x : ℕ) → a ≤ x → x < a + len → f x ≡ g x) → list_all f (range_with_len a len) ≡ list_all g (range_with_len a len)
+pub all_same : (f g : ℕ → Bool) (len a : ℕ) → ((x : ℕ) → a ≤ x → x < a + len → f x ≡ g x) →
+    list_all f (range_with_len a len) ≡ list_all g (range_with_len a len)
 all_same f g zero a h = refl
 all_same f g (suc len) a h =
     let here = h a (omega arith) (omega arith) in
@@ -62,7 +63,9 @@ all_parts f zero k a =
 all_parts f (suc m) k a =
     let e : suc m + k ≡ suc (m + k) = omega arith in
     let s : a + 1 + m ≡ a + suc m = omega arith in
-    ap (λ z. list_all f (range_with_len a z)) e ∙ ap (λ b. f a && b) (all_parts f m k (a + 1) ∙ ap (λ z. list_all f (range_with_len (a + 1) m) && list_all f (range_with_len z k)) s)
+    ap (λ z. list_all f (range_with_len a z)) e
+    ∙ ap (λ b. f a && b)
+    (all_parts f m k (a + 1) ∙ ap (λ z. list_all f (range_with_len (a + 1) m) && list_all f (range_with_len z k)) s)
     ∙ sym (and_assoc (f a) (list_all f (range_with_len (a + 1) m)) (list_all f (range_with_len (a + suc m) k)))
 
 -- ---- literals by bits
@@ -87,15 +90,18 @@ high_bit_alone i x high =
     let e : 64 * i ≡ 64 * i + 0 = omega arith in
     ap (λ z. bit_at z x) e ∙ high_bit i 0 x (omega arith) high
 
-pub literals_apart : (term : Term) (place b : ℕ) → b < 64 → literals_at term (64 * place + b) 0 16 ≡ (literals_at term b 0 6 && literals_at term (64 * place) 6 10)
+pub literals_apart : (term : Term) (place b : ℕ) → b < 64 →
+    literals_at term (64 * place + b) 0 16 ≡ (literals_at term b 0 6 && literals_at term (64 * place) 6 10)
 unfolding literals_at
 literals_apart term place b h =
     all_parts (literal_at term (64 * place + b)) 6 10 0
     ∙ (λ i. all_same (literal_at term (64 * place + b)) (literal_at term b) 6 0 (λ x l u. literal_same term (64 * place + b) b x (low_bit place b x u)) i
-    && all_same (literal_at term (64 * place + b)) (literal_at term (64 * place)) 10 6 (λ x l u. literal_same term (64 * place + b) (64 * place) x (high_bit place b x h l ∙ sym (high_bit_alone place x l))) i)
+    && all_same (literal_at term (64 * place + b)) (literal_at term (64 * place)) 10 6
+    (λ x l u. literal_same term (64 * place + b) (64 * place) x (high_bit place b x h l ∙ sym (high_bit_alone place x l))) i)
 
 -- a literal holds where the masked bit is the value's
-literal_bits : (p c v : ℕ) → p < 2 → c < 2 → v < 2 → v ≡ min v c → ((not (eqb c 1) || eqb p v) ≡ true → min p c ≡ v) × (min p c ≡ v → (not (eqb c 1) || eqb p v) ≡ true)
+literal_bits : (p c v : ℕ) → p < 2 → c < 2 → v < 2 → v ≡ min v c →
+    ((not (eqb c 1) || eqb p v) ≡ true → min p c ≡ v) × (min p c ≡ v → (not (eqb c 1) || eqb p v) ≡ true)
 literal_bits zero zero zero a b d e = (λ _. refl, λ _. refl)
 literal_bits zero zero (suc zero) a b d e = absurd (omega arith)
 literal_bits zero (suc zero) zero a b d e = (λ _. refl, λ _. refl)
@@ -119,7 +125,8 @@ module _ (term : Term) (care_fits : term.care < 2 ^ 16) (within : bit_and term.v
       let v = shifted_bit term.value 6 y in
       let s : (y + 6) - 6 ≡ y = omega arith in
       let p : bit_at (64 * place) (y + 6) ≡ bit_at place y = high_bit_alone place (y + 6) (omega arith) ∙ ap (bit_at place) s in
-      let bits = literal_bits (bit_at place y) (bit_at term.care (y + 6)) (bit_at term.value (y + 6)) (bit_at-lt place y) (bit_at-lt term.care (y + 6)) (bit_at-lt term.value (y + 6)) (value_within (y + 6)) in
+      let bits = literal_bits (bit_at place y) (bit_at term.care (y + 6)) (bit_at term.value (y + 6)) (bit_at-lt place y)
+      (bit_at-lt term.care (y + 6)) (bit_at-lt term.value (y + 6)) (value_within (y + 6)) in
       let test : literal_at term (64 * place) (y + 6) ≡ (not (eqb (bit_at term.care (y + 6)) 1) || eqb (bit_at place y) (bit_at term.value (y + 6))) =
       ap (λ z. not (eqb (bit_at term.care (y + 6)) 1) || eqb z (bit_at term.value (y + 6))) p in
       (λ e. ap (min (bit_at place y)) c ∙ bits.0 (sym test ∙ e) ∙ sym v, λ e. test ∙ bits.1 (sym (ap (min (bit_at place y)) c) ∙ e ∙ v))
@@ -146,14 +153,18 @@ module _ (term : Term) (care_fits : term.care < 2 ^ 16) (within : bit_and term.v
             omega arith)
       ]))
 
-  in_group : (group place : ℕ) → place < 32 → bit_and (32 * group + place) (term.care / 2 ^ 6) ≡ term.value / 2 ^ 6 → bit_and group (term.care / 2 ^ 11) ≡ term.value / 2 ^ 11
+  in_group : (group place : ℕ) → place < 32 → bit_and (32 * group + place) (term.care / 2 ^ 6) ≡ term.value / 2 ^ 6 →
+      bit_and group (term.care / 2 ^ 11) ≡ term.value / 2 ^ 11
   in_group group place low e =
       let here : (32 * group + place) / 2 ^ 5 ≡ group = omega arith in
-      (λ i. bit_and (sym here i) (sym (shr-shr term.care 6 5) i)) ∙ sym (and_shr (32 * group + place) (term.care / 2 ^ 6) 5) ∙ ap (λ z. z / 2 ^ 5) e ∙ shr-shr term.value 6 5
+      (λ i. bit_and (sym here i) (sym (shr-shr term.care 6 5) i)) ∙ sym (and_shr (32 * group + place) (term.care / 2 ^ 6) 5)
+      ∙ ap (λ z. z / 2 ^ 5) e ∙ shr-shr term.value 6 5
 
   -- the literals from variable 6 on hold at no place of a group with which the masks of those from 11 on don't agree
-  pub group_without : (group place : ℕ) → place < 32 → eqb (bit_and group (term.care / 2 ^ 11)) (term.value / 2 ^ 11) ≡ false → literals_at term (64 * (32 * group + place)) 6 10 ≡ false
-  group_without group place low none = sym (literals_above (32 * group + place)) ∙ not_true _ (λ e. false≢true (sym none ∙ eq-eqb _ _ (in_group group place low (eqb-true _ _ e))))
+  pub group_without : (group place : ℕ) → place < 32 → eqb (bit_and group (term.care / 2 ^ 11)) (term.value / 2 ^ 11) ≡ false →
+      literals_at term (64 * (32 * group + place)) 6 10 ≡ false
+  group_without group place low none = sym (literals_above (32 * group + place))
+      ∙ not_true _ (λ e. false≢true (sym none ∙ eq-eqb _ _ (in_group group place low (eqb-true _ _ e))))
     where
       not_true : (b : Bool) → (b ≡ true → ⊥) → b ≡ false
       not_true false h = refl
@@ -187,14 +198,17 @@ matches_from term p (suc len) a h =
 no_literal : (term : Term) (k x : ℕ) → bit_at term.care x ≡ 0 → literal_at term k x ≡ true
 no_literal term k x e = ap (λ z. not (eqb z 1) || eqb (bit_at k x) (bit_at term.value x)) e
 
-matches_is : (n m : ℕ) (term : Term) (p : Point) → n ≤ 16 → term.care < 2 ^ n → length p ≡ n → matches (product_of n m term) p ≡ literals_at term (number p) 0 16
+matches_is : (n m : ℕ) (term : Term) (p : Point) → n ≤ 16 → term.care < 2 ^ n → length p ≡ n →
+    matches (product_of n m term) p ≡ literals_at term (number p) 0 16
 unfolding matches product_of literals_at
 matches_is n m term p few fits l =
     let e : n + (16 - n) ≡ 16 = omega arith in
     matches_from term p n 0 (omega arith)
     ∙ sym (
     sym (ap (λ z. list_all (literal_at term (number p)) (range_with_len 0 z)) e) ∙ all_parts (literal_at term (number p)) n (16 - n) 0
-    ∙ ap (λ b. list_all (literal_at term (number p)) (range_with_len 0 n) && b) (all_from (literal_at term (number p)) (16 - n) (0 + n) (λ x lo hi. no_literal term (number p) x (bit_at_above term.care n x fits (omega arith))))
+    ∙ ap (λ b. list_all (literal_at term (number p)) (range_with_len 0 n) && b)
+    (all_from (literal_at term (number p)) (16 - n) (0 + n)
+    (λ x lo hi. no_literal term (number p) x (bit_at_above term.care n x fits (omega arith))))
     ∙ and-true (list_all (literal_at term (number p)) (range_with_len 0 n)))
 
 output_is : (n m : ℕ) (term : Term) (j : ℕ) → j < m → has_output (product_of n m term) j ≡ eqb (bit_at term.outs j) 1
@@ -208,11 +222,13 @@ and_turned false true = refl
 and_turned false false = refl
 
 -- the function of the products of terms
-pub product_is : (n m : ℕ) (terms : List Term) (j : ℕ) (p : Point) → n ≤ 16 → j < m → length p ≡ n → All (Fits n m) terms → product_function (map (product_of n m) terms) j p ≡ covered terms j (number p)
+pub product_is : (n m : ℕ) (terms : List Term) (j : ℕ) (p : Point) → n ≤ 16 → j < m → length p ≡ n → All (Fits n m) terms →
+    product_function (map (product_of n m) terms) j p ≡ covered terms j (number p)
 unfolding product_function covered
 product_is n m [] j p few h l fit = refl
 product_is n m (term ∷ terms) j p few h l fit =
     let fits = All-head (Fits n m) term terms fit in
-    let here = and_turned (matches (product_of n m term) p) (has_output (product_of n m term) j) ∙ (λ i. output_is n m term j h i && matches_is n m term p few fits.care l i) in
+    let here = and_turned (matches (product_of n m term) p) (has_output (product_of n m term) j)
+    ∙ (λ i. output_is n m term j h i && matches_is n m term p few fits.care l i) in
     let rest = product_is n m terms j p few h l (All-tail (Fits n m) term terms fit) in
     λ i. here i || rest i

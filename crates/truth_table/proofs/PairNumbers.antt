@@ -66,7 +66,8 @@ unfolding place
 place_inside u [] h = absurd h
 place_inside u (k ∷ ks) h = by (same_pair u k) refl (place_inside u ks)
   where
-    by : (b : Bool) → same_pair u k ≡ b → (Among u ks → position_or_len (same_pair u) ks < length ks) → cond (not b) (1 + position_or_len (same_pair u) ks) 0 < suc (length ks)
+    by : (b : Bool) → same_pair u k ≡ b → (Among u ks → position_or_len (same_pair u) ks < length ks) →
+        cond (not b) (1 + position_or_len (same_pair u) ks) 0 < suc (length ks)
     by true e more = omega arith
     by false e more = elim h [
       | inl s ↦ absurd (true≢false (sym ((pair_decides u k).1 s) ∙ e))
@@ -78,7 +79,8 @@ unfolding place
 place_holds u [] h = absurd h
 place_holds u (k ∷ ks) h = by (same_pair u k) refl (place_holds u ks)
   where
-    by : (b : Bool) → same_pair u k ≡ b → (Among u ks → get_or ks (position_or_len (same_pair u) ks) (0, 0) ≡ u) → get_or (k ∷ ks) (cond (not b) (1 + position_or_len (same_pair u) ks) 0) (0, 0) ≡ u
+    by : (b : Bool) → same_pair u k ≡ b → (Among u ks → get_or ks (position_or_len (same_pair u) ks) (0, 0) ≡ u) →
+        get_or (k ∷ ks) (cond (not b) (1 + position_or_len (same_pair u) ks) 0) (0, 0) ≡ u
     by true e more = sym ((pair_decides u k).0 e)
     by false e more = elim h [
       | inl s ↦ absurd (true≢false (sym ((pair_decides u k).1 s) ∙ e))
@@ -124,7 +126,9 @@ filter_push [] k = refl
 filter_push (x ∷ xs) k = by (is_unequal x) (filter_push xs k)
   where
     by : (b : Bool) → filter is_unequal (xs ++ k ∷ []) ≡ filter is_unequal xs ++ cond (is_unequal k) (k ∷ []) [] →
-        cond b (x ∷ filter is_unequal (xs ++ k ∷ [])) (filter is_unequal (xs ++ k ∷ [])) ≡ cond b (x ∷ filter is_unequal xs) (filter is_unequal xs) ++ cond (is_unequal k) (k ∷ []) []
+        cond b (x ∷ filter is_unequal (xs ++ k ∷ [])) (filter is_unequal (xs ++ k ∷ [])) ≡ cond b (x ∷ filter is_unequal xs)
+        (filter is_unequal xs)
+        ++ cond (is_unequal k) (k ∷ []) []
     by true r = ap (λ ys. x ∷ ys) r
     by false r = r
 
@@ -146,15 +150,19 @@ unequal_old : (k : Pair) (done : List Pair) → Among k done → unequal_count (
 unfolding unequal_count
 unequal_old k done h = ap (distinct_count same_pair) (filter_push done k) ∙ by (is_unequal k) refl
   where
-    by : (b : Bool) → is_unequal k ≡ b → distinct_count same_pair (filter is_unequal done ++ cond b (k ∷ []) []) ≡ distinct_count same_pair (filter is_unequal done)
+    by : (b : Bool) → is_unequal k ≡ b →
+        distinct_count same_pair (filter is_unequal done ++ cond b (k ∷ []) []) ≡ distinct_count same_pair (filter is_unequal done)
     by true e = count_turned k (filter is_unequal done) ∙ count_old k (filter is_unequal done) (among_filter is_unequal k done h e)
     by false e = ap (distinct_count same_pair) (append_nil (filter is_unequal done))
 
-unequal_new : (k : Pair) (done : List Pair) → (Among k done → ⊥) → unequal_count (done ++ k ∷ []) ≡ cond (is_unequal k) (unequal_count done + 1) (unequal_count done)
+unequal_new : (k : Pair) (done : List Pair) → (Among k done → ⊥) →
+    unequal_count (done ++ k ∷ []) ≡ cond (is_unequal k) (unequal_count done + 1) (unequal_count done)
 unfolding unequal_count
 unequal_new k done h = ap (distinct_count same_pair) (filter_push done k) ∙ by (is_unequal k)
   where
-    by : (b : Bool) → distinct_count same_pair (filter is_unequal done ++ cond b (k ∷ []) []) ≡ cond b (distinct_count same_pair (filter is_unequal done) + 1) (distinct_count same_pair (filter is_unequal done))
+    by : (b : Bool) →
+        distinct_count same_pair (filter is_unequal done ++ cond b (k ∷ []) []) ≡ cond b
+        (distinct_count same_pair (filter is_unequal done) + 1) (distinct_count same_pair (filter is_unequal done))
     by true = count_turned k (filter is_unequal done) ∙ count_new k (filter is_unequal done) (λ a. h (among_from_filter is_unequal k done a).0) ∙ omega arith
     by false = ap (distinct_count same_pair) (append_nil (filter is_unequal done))
 
@@ -180,7 +188,8 @@ module _ (keys done : List (ℕ × ℕ)) (out : List ℕ) (unequal : ℕ) (m : M
       let f = m.few in
       let g = m.few_unequal in
       record {
-        known = λ u h. elim (among_cases u done (k ∷ []) h) [ inl b ↦ m.known u b | inr b ↦ elim b [ inl s ↦ subst (λ (v : ℕ × ℕ). Among v keys) (sym s) a | inr n ↦ absurd n ] ];
+        known = λ u h. elim (among_cases u done (k ∷ []) h)
+            [ inl b ↦ m.known u b | inr b ↦ elim b [ inl s ↦ subst (λ (v : ℕ × ℕ). Among v keys) (sym s) a | inr n ↦ absurd n ] ];
         listed = λ u h. among_left u done (k ∷ []) (m.listed u h);
         numbers = ap (λ us. us ++ position_or_len (same_pair k) keys ∷ []) m.numbers ∙ sym (map-append (λ u. position_or_len (same_pair u) keys) done (k ∷ []));
         count = m.count ∙ sym (unequal_old k done (m.listed k a));
@@ -188,7 +197,8 @@ module _ (keys done : List (ℕ × ℕ)) (out : List ℕ) (unequal : ℕ) (m : M
         few_unequal = omega arith;
       }
 
-  merging_new : (Among k keys → ⊥) → Merging (keys ++ k ∷ []) (done ++ k ∷ []) (out ++ position_or_len (same_pair k) keys ∷ []) (cond (is_unequal k) (unequal + 1) unequal)
+  merging_new : (Among k keys → ⊥) →
+      Merging (keys ++ k ∷ []) (done ++ k ∷ []) (out ++ position_or_len (same_pair k) keys ∷ []) (cond (is_unequal k) (unequal + 1) unequal)
   unfolding place
   merging_new a =
       let l = length-append done (k ∷ []) in
@@ -199,7 +209,10 @@ module _ (keys done : List (ℕ × ℕ)) (out : List ℕ) (unequal : ℕ) (m : M
         known = λ u h. elim (among_cases u done (k ∷ []) h) [ inl b ↦ among_left u keys (k ∷ []) (m.known u b) | inr b ↦ among_right u keys (k ∷ []) b ];
         listed = λ u h. elim (among_cases u keys (k ∷ []) h) [ inl b ↦ among_left u done (k ∷ []) (m.listed u b) | inr b ↦ among_right u done (k ∷ []) b ];
         numbers =
-            (λ i. (m.numbers ∙ map_same (λ u. position_or_len (same_pair u) keys) (λ u. position_or_len (same_pair u) (keys ++ k ∷ [])) done (λ u h. sym (place_kept u k keys (m.known u h)))) i ++ sym (place_new k keys a) i ∷ [])
+            (λ i. (m.numbers
+            ∙ map_same (λ u. position_or_len (same_pair u) keys) (λ u. position_or_len (same_pair u) (keys ++ k ∷ [])) done
+            (λ u h. sym (place_kept u k keys (m.known u h)))) i
+            ++ sym (place_new k keys a) i ∷ [])
             ∙ sym (map-append (λ u. position_or_len (same_pair u) (keys ++ k ∷ [])) done (k ∷ []));
         count = counted (is_unequal k) ∙ sym (unequal_new k done (λ b. a (m.known k b)));
         few = omega arith;
@@ -218,7 +231,9 @@ module _ (keys done : List (ℕ × ℕ)) (out : List ℕ) (unequal : ℕ) (m : M
       (cond (not (list_any (same_pair k) keys) && is_unequal k) (unequal + 1) unequal)
   merging_push = by (list_any (same_pair k) keys) refl
     where
-      by : (b : Bool) → list_any (same_pair k) keys ≡ b → Merging (cond b keys (keys ++ k ∷ [])) (done ++ k ∷ []) (out ++ position_or_len (same_pair k) keys ∷ []) (cond (not b && is_unequal k) (unequal + 1) unequal)
+      by : (b : Bool) → list_any (same_pair k) keys ≡ b →
+          Merging (cond b keys (keys ++ k ∷ [])) (done ++ k ∷ []) (out ++ position_or_len (same_pair k) keys ∷ [])
+          (cond (not b && is_unequal k) (unequal + 1) unequal)
       by true e = merging_old (any_among k keys e)
       by false e = merging_new (λ a. true≢false (sym (among_any k keys a) ∙ e))
 
@@ -246,7 +261,8 @@ merging_numbers keys done out unequal m = record {
         let u : ℕ × ℕ = get_or done j (0, 0) in
         let v : ℕ × ℕ = get_or done k (0, 0) in
         let places : position_or_len (same_pair u) keys ≡ position_or_len (same_pair v) keys = sym (at j a) ∙ e ∙ at k b in
-        sym (place_holds u keys (m.known u (among_at done j (0, 0) a))) ∙ ap (λ z. get_or keys z (0, 0)) places ∙ place_holds v keys (m.known v (among_at done k (0, 0) b)),
+        sym (place_holds u keys (m.known u (among_at done j (0, 0) a))) ∙ ap (λ z. get_or keys z (0, 0)) places
+        ∙ place_holds v keys (m.known v (among_at done k (0, 0) b)),
     λ e. at j a ∙ ap (λ u. position_or_len (same_pair u) keys) e ∙ sym (at k b),
   );
 }
@@ -255,18 +271,26 @@ merging_numbers keys done out unequal m = record {
     at j h = ap (λ us. get_or us j 0) m.numbers ∙ get_or_map (λ u. position_or_len (same_pair u) keys) done j (0, 0) h
 
 -- one more pair of classes
-pub merging_step : (cs : List ℕ) (j : ℕ) (keys keys' : List (ℕ × ℕ)) (out out' : List ℕ) (unequal unequal' : ℕ) → j < length cs / 2 → Merging keys (take j (pairs_of cs)) out unequal →
-    keys' ≡ (if list_any (same_pair (pair_at cs j)) keys then keys else keys ++ pair_at cs j ∷ []) → out' ≡ out ++ position_or_len (same_pair (pair_at cs j)) keys ∷ [] →
-    unequal' ≡ cond (not (list_any (same_pair (pair_at cs j)) keys) && is_unequal (pair_at cs j)) (unequal + 1) unequal → Merging keys' (take (j + 1) (pairs_of cs)) out' unequal'
+pub merging_step : (cs : List ℕ) (j : ℕ) (keys keys' : List (ℕ × ℕ)) (out out' : List ℕ) (unequal unequal' : ℕ) → j < length cs / 2 →
+    Merging keys (take j (pairs_of cs)) out unequal →
+    keys' ≡ (if list_any (same_pair (pair_at cs j)) keys then keys else keys ++ pair_at cs j ∷ []) →
+    out' ≡ out ++ position_or_len (same_pair (pair_at cs j)) keys ∷ [] →
+    unequal' ≡ cond (not (list_any (same_pair (pair_at cs j)) keys) && is_unequal (pair_at cs j)) (unequal + 1) unequal →
+    Merging keys' (take (j + 1) (pairs_of cs)) out' unequal'
 merging_step cs j keys keys' out out' unequal unequal' h m k o u =
     subst (λ (z : List (ℕ × ℕ)). Merging z (take (j + 1) (pairs_of cs)) out' unequal') (sym k)
-    (subst (λ (z : List (ℕ × ℕ)). Merging (if list_any (same_pair (pair_at cs j)) keys then keys else keys ++ pair_at cs j ∷ []) z out' unequal') (sym (pairs_more cs j h))
-    (subst (λ (z : List ℕ). Merging (if list_any (same_pair (pair_at cs j)) keys then keys else keys ++ pair_at cs j ∷ []) (take j (pairs_of cs) ++ pair_at cs j ∷ []) z unequal') (sym o)
-    (subst (λ (z : ℕ). Merging (if list_any (same_pair (pair_at cs j)) keys then keys else keys ++ pair_at cs j ∷ []) (take j (pairs_of cs) ++ pair_at cs j ∷ []) (out ++ position_or_len (same_pair (pair_at cs j)) keys ∷ []) z) (sym u)
+    (subst (λ (z : List (ℕ × ℕ)). Merging (if list_any (same_pair (pair_at cs j)) keys then keys else keys ++ pair_at cs j ∷ []) z out'
+    unequal')
+    (sym (pairs_more cs j h))
+    (subst (λ (z : List ℕ). Merging (if list_any (same_pair (pair_at cs j)) keys then keys else keys ++ pair_at cs j ∷ [])
+    (take j (pairs_of cs) ++ pair_at cs j ∷ []) z unequal') (sym o)
+    (subst (λ (z : ℕ). Merging (if list_any (same_pair (pair_at cs j)) keys then keys else keys ++ pair_at cs j ∷ [])
+    (take j (pairs_of cs) ++ pair_at cs j ∷ []) (out ++ position_or_len (same_pair (pair_at cs j)) keys ∷ []) z) (sym u)
     (merging_push keys (take j (pairs_of cs)) out unequal m (pair_at cs j)))))
 
 -- after all pairs
-pub merging_end : (cs : List ℕ) (j : ℕ) (keys : List (ℕ × ℕ)) (out : List ℕ) (unequal : ℕ) → length cs / 2 ≤ j → Merging keys (take j (pairs_of cs)) out unequal → IsNumbering (pairs_of cs) out × (unequal ≡ unequal_count (pairs_of cs))
+pub merging_end : (cs : List ℕ) (j : ℕ) (keys : List (ℕ × ℕ)) (out : List ℕ) (unequal : ℕ) → length cs / 2 ≤ j →
+    Merging keys (take j (pairs_of cs)) out unequal → IsNumbering (pairs_of cs) out × (unequal ≡ unequal_count (pairs_of cs))
 merging_end cs j keys out unequal h m =
     let l = length-pairs_of cs in
     let all = take_all j (pairs_of cs) (omega arith) in

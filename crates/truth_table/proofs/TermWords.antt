@@ -95,7 +95,8 @@ complement zero c h e = ap (λ z. eqb (1 - z) 1) e
 complement (suc zero) c h e = ap (λ z. eqb (1 - z) 1) e
 complement (suc (suc a)) c h e = absurd (omega arith)
 
-pub literal_points_one : (term : Term) (x b lower : ℕ) → bit_at term.care x ≡ 1 → bit_at term.value x ≡ 1 → lower < 2 ^ 64 → b < 64 → bit_at lower b ≡ 1 - bit_at b x →
+pub literal_points_one : (term : Term) (x b lower : ℕ) → bit_at term.care x ≡ 1 → bit_at term.value x ≡ 1 → lower < 2 ^ 64 → b < 64 →
+    bit_at lower b ≡ 1 - bit_at b x →
     eqb (bit_at (bit_not w64 lower) b) 1 ≡ literal_at term b x
 literal_points_one term x b lower care value fits h low =
     ap (λ z. eqb z 1) (bit_at_not w64 lower b fits h) ∙ complement (bit_at b x) (bit_at lower b) (bit_at-lt b x) low
@@ -106,7 +107,8 @@ zero_there zero c h e = ap (λ z. eqb z 1) e
 zero_there (suc zero) c h e = ap (λ z. eqb z 1) e
 zero_there (suc (suc a)) c h e = absurd (omega arith)
 
-pub literal_points_zero : (term : Term) (x b lower : ℕ) → bit_at term.care x ≡ 1 → bit_at term.value x ≡ 0 → b < 64 → bit_at lower b ≡ 1 - bit_at b x → eqb (bit_at lower b) 1 ≡ literal_at term b x
+pub literal_points_zero : (term : Term) (x b lower : ℕ) → bit_at term.care x ≡ 1 → bit_at term.value x ≡ 0 → b < 64 →
+    bit_at lower b ≡ 1 - bit_at b x → eqb (bit_at lower b) 1 ≡ literal_at term b x
 literal_points_zero term x b lower care value h low =
     zero_there (bit_at b x) (bit_at lower b) (bit_at-lt b x) low ∙ sym ((λ i. not (eqb (care i) 1) || eqb (bit_at b x) (value i)))
 
@@ -121,7 +123,9 @@ literals_more term k x =
 -- ---- terms
 
 -- a term's output, its literals within the word, and those above
-covers_apart : (term : Term) (output place b : ℕ) → b < 64 → covers term output (64 * place + b) ≡ (eqb (bit_at term.outs output) 1 && (literals_at term b 0 6 && literals_at term (64 * place) 6 10))
+covers_apart : (term : Term) (output place b : ℕ) → b < 64 →
+    covers term output (64 * place + b) ≡
+    (eqb (bit_at term.outs output) 1 && (literals_at term b 0 6 && literals_at term (64 * place) 6 10))
 covers_apart term output place b h = ap (λ z. eqb (bit_at term.outs output) 1 && z) (literals_apart term place b h)
 
 or_false : (b : Bool) → b ≡ (b || false)
@@ -129,13 +133,16 @@ or_false true = refl
 or_false false = refl
 
 -- the cover's value with one more term
-pub covered_more : (terms : List Term) (i : ℕ) → i < length terms → (term : Term) → term ≡ get_or terms i term → (output k : ℕ) → covered (take (i + 1) terms) output k ≡ (covered (take i terms) output k || covers term output k)
+pub covered_more : (terms : List Term) (i : ℕ) → i < length terms → (term : Term) → term ≡ get_or terms i term → (output k : ℕ) →
+    covered (take (i + 1) terms) output k ≡ (covered (take i terms) output k || covers term output k)
 unfolding covered
 covered_more terms i h term read output k =
-    list_any_more (λ t. covers t output k) terms i term h ∙ ap (λ z. list_any (λ t. covers t output k) (take i terms) || z) (ap (λ t. covers t output k) (sym read))
+    list_any_more (λ t. covers t output k) terms i term h
+    ∙ ap (λ z. list_any (λ t. covers t output k) (take i terms) || z) (ap (λ t. covers t output k) (sym read))
 
 -- what a word's bit is where the term counts, and where it doesn't
-word_with : (word pattern b : ℕ) (old above low : Bool) (out : Bool) → eqb (bit_at word b) 1 ≡ old → eqb (bit_at pattern b) 1 ≡ low → out ≡ true → above ≡ true →
+word_with : (word pattern b : ℕ) (old above low : Bool) (out : Bool) → eqb (bit_at word b) 1 ≡ old → eqb (bit_at pattern b) 1 ≡ low →
+    out ≡ true → above ≡ true →
     eqb (bit_at (bit_or word pattern) b) 1 ≡ (old || (out && (low && above)))
 word_with word pattern b old above low out w p o a =
     joined_bits word pattern b ∙ (λ i. w i || p i) ∙ sym ((λ i. old || (o i && (low && a i))) ∙ ap (λ z. old || z) (sym (turned low)))
@@ -144,15 +151,20 @@ word_with word pattern b old above low out w p o a =
     turned true = refl
     turned false = refl
 
-word_without_above : (word b : ℕ) (old above low out : Bool) → eqb (bit_at word b) 1 ≡ old → above ≡ false → eqb (bit_at word b) 1 ≡ (old || (out && (low && above)))
-word_without_above word b old above low out w a = w ∙ or_false old ∙ sym (ap (λ z. old || (out && (low && z))) a ∙ ap (λ z. old || (out && z)) (and-false low) ∙ ap (λ z. old || z) (and-false out))
+word_without_above : (word b : ℕ) (old above low out : Bool) → eqb (bit_at word b) 1 ≡ old → above ≡ false →
+    eqb (bit_at word b) 1 ≡ (old || (out && (low && above)))
+word_without_above word b old above low out w a = w ∙ or_false old
+    ∙ sym (ap (λ z. old || (out && (low && z))) a ∙ ap (λ z. old || (out && z)) (and-false low) ∙ ap (λ z. old || z) (and-false out))
 
 word_without_output : (word b : ℕ) (old rest out : Bool) → eqb (bit_at word b) 1 ≡ old → out ≡ false → eqb (bit_at word b) 1 ≡ (old || (out && rest))
 word_without_output word b old rest out w o = w ∙ or_false old ∙ sym (ap (λ z. old || (z && rest)) o)
 
 -- a term whose literals above hold, and one whose don't
-pub term_added : (term : Term) (place points : ℕ) (before after : List ℕ) → ((b : ℕ) → b < 64 → eqb (bit_at points b) 1 ≡ literals_at term b 0 6) → literals_at term (64 * place) 6 10 ≡ true
-    → ((o : ℕ) → o < 16 → slice_index after o ≡ cond (eqb (bit_at term.outs o) 1) (bit_or (slice_index before o) points) (slice_index before o)) → AddsTerm term place before after
+pub term_added : (term : Term) (place points : ℕ) (before after : List ℕ) →
+    ((b : ℕ) → b < 64 → eqb (bit_at points b) 1 ≡ literals_at term b 0 6) → literals_at term (64 * place) 6 10 ≡ true
+    → ((o : ℕ) → o < 16 →
+    slice_index after o ≡ cond (eqb (bit_at term.outs o) 1) (bit_or (slice_index before o) points) (slice_index before o)) →
+    AddsTerm term place before after
 term_added term place points before after p a added = λ o b s h.
     let word : ℕ = slice_index before o in
     let old : Bool = eqb (bit_at word b) 1 in
@@ -178,8 +190,10 @@ term_left_out term place words a = λ o b s h.
     word_without_above word b old above low out refl a ∙ ap (λ z. old || z) (sym (covers_apart term o place b h))
 
 -- one more place of a group, where the other places stay
-pub place_added : (term : Term) (group place : ℕ) (initial words new : List (List ℕ)) → ((p : ℕ) → p < place → AddsTerm term (32 * group + p) (get_or initial p []) (get_or words p []))
-    → ((p : ℕ) → place ≤ p → get_or words p [] ≡ get_or initial p []) → ((p : ℕ) → p ≢ place → get_or new p [] ≡ get_or words p []) → AddsTerm term (32 * group + place) (get_or words place []) (get_or new place [])
+pub place_added : (term : Term) (group place : ℕ) (initial words new : List (List ℕ)) →
+    ((p : ℕ) → p < place → AddsTerm term (32 * group + p) (get_or initial p []) (get_or words p []))
+    → ((p : ℕ) → place ≤ p → get_or words p [] ≡ get_or initial p []) → ((p : ℕ) → p ≢ place → get_or new p [] ≡ get_or words p []) →
+    AddsTerm term (32 * group + place) (get_or words place []) (get_or new place [])
     → (p : ℕ) → p < place + 1 → AddsTerm term (32 * group + p) (get_or initial p []) (get_or new p [])
 place_added term group place initial words new done left stays here p low = elim (cases_eq p place) [
   | inl same ↦ subst (λ (k : ℕ). AddsTerm term (32 * group + k) (get_or initial k []) (get_or new k [])) (sym same)
@@ -201,7 +215,8 @@ pub record AreTermWords (n m : ℕ) (terms : List Term) (words : List ℕ) : Typ
   pub bits : (i b : ℕ) → i < m * words_per_table n → b < 64 →
       eqb (bit_at (get_or words i 0) b) 1 ≡ (ltb b (2 ^ n) && covered terms (i / words_per_table n) (64 * (i % words_per_table n) + b))
 
-module _ (n m : ℕ) (terms : List Term) (words : List ℕ) (some : 1 ≤ n) (few : n ≤ 16) (some_outputs : 1 ≤ m) (few_outputs : m ≤ 16) (fit : All (Fits n m) terms) (w : AreTermWords n m terms words) where
+module _ (n m : ℕ) (terms : List Term) (words : List ℕ) (some : 1 ≤ n) (few : n ≤ 16) (some_outputs : 1 ≤ m) (few_outputs : m ≤ 16)
+    (fit : All (Fits n m) terms) (w : AreTermWords n m terms words) where
   products : List Product
   products = map (product_of n m) terms
 
@@ -219,7 +234,8 @@ module _ (n m : ℕ) (terms : List Term) (words : List ℕ) (some : 1 ≤ n) (fe
       get_or-map (table n) (map (product_function products) (range_with_len 0 m)) j (λ (p : Point). false) [] (omega arith)
       ∙ ap (table n) (get_or-map-range_with_len (product_function products) 0 m j j (λ p. false) h (zero-add j))
 
-  word_place : (j k : ℕ) → j < m → k < 2 ^ n → ((j * words_per_table n + k / 64) / words_per_table n ≡ j) × ((j * words_per_table n + k / 64) % words_per_table n ≡ k / 64)
+  word_place : (j k : ℕ) → j < m → k < 2 ^ n →
+      ((j * words_per_table n + k / 64) / words_per_table n ≡ j) × ((j * words_per_table n + k / 64) % words_per_table n ≡ k / 64)
   word_place j k h l =
       let W : ℕ = words_per_table n in
       let p : k / 64 < W = point_inside n k l in
@@ -254,7 +270,8 @@ module _ (n m : ℕ) (terms : List Term) (words : List ℕ) (some : 1 ≤ n) (fe
   clean i b h big = elim (cases_lt b 64) [
     | inr ge ↦ bit_at_above (get_or words i 0) 64 b (w.fits i h) ge
     | inl lt ↦ not_one (bit_at (get_or words i 0) b) (bit_at-lt (get_or words i 0) b)
-        (w.bits i b (subst (λ (z : ℕ). i < z) w.long h) lt ∙ ap (λ c. c && covered terms (i / words_per_table n) (64 * (i % words_per_table n) + b)) (le-ltb b (2 ^ n) big))
+        (w.bits i b (subst (λ (z : ℕ). i < z) w.long h) lt
+        ∙ ap (λ c. c && covered terms (i / words_per_table n) (64 * (i % words_per_table n) + b)) (le-ltb b (2 ^ n) big))
   ]
     where
       not_one : (c : ℕ) → c < 2 → eqb c 1 ≡ false → c ≡ 0
@@ -288,26 +305,33 @@ blank_at zero place o = refl
 blank_at (suc k) zero o = zeros_at 16 o
 blank_at (suc k) (suc place) o = blank_at k place o
 
-groups_at : (R : ℕ → List (List ℕ) → Type 0) (xs : List ℕ) (ys : List (List (List ℕ))) → AllZip R xs ys → (j : ℕ) → j < length xs → R (get_or xs j 0) (get_or ys j [])
+groups_at : (R : ℕ → List (List ℕ) → Type 0) (xs : List ℕ) (ys : List (List (List ℕ))) → AllZip R xs ys → (j : ℕ) → j < length xs →
+    R (get_or xs j 0) (get_or ys j [])
 groups_at R [] ys h j l = absurd (omega arith)
 groups_at R (x ∷ xs) [] h j l = absurd h
 groups_at R (x ∷ xs) (y ∷ ys) h zero l = h.0
 groups_at R (x ∷ xs) (y ∷ ys) h (suc j) l = groups_at R xs ys h.1 j (omega arith)
 
 -- what the words hold that are laid out from those of the groups
-pub packed_groups : (n m : ℕ) (terms : List Term) (size count mask : ℕ) (numbers : List ℕ) (groups : List (List (List ℕ))) (items : List ℕ) → 1 ≤ n → n ≤ 16 → 1 ≤ m → m ≤ 16 → All (Fits n m) terms → 1 ≤ size → size ≡ words_per_table n
-    → size ≤ 32 * count → mask < 2 ^ 64 → ((b : ℕ) → b < 64 → eqb (bit_at mask b) 1 ≡ ltb b (2 ^ n)) → numbers ≡ range_with_len 0 count → AllZip (AreGroupWords terms) numbers groups → length items ≡ m * size
+pub packed_groups : (n m : ℕ) (terms : List Term) (size count mask : ℕ) (numbers : List ℕ) (groups : List (List (List ℕ)))
+    (items : List ℕ) →
+    1 ≤ n → n ≤ 16 → 1 ≤ m → m ≤ 16 → All (Fits n m) terms → 1 ≤ size → size ≡ words_per_table n
+    → size ≤ 32 * count → mask < 2 ^ 64 → ((b : ℕ) → b < 64 → eqb (bit_at mask b) 1 ≡ ltb b (2 ^ n)) → numbers ≡ range_with_len 0 count →
+    AllZip (AreGroupWords terms) numbers groups → length items ≡ m * size
     → ((i : ℕ) → i < m * size → get_or items i 0 ≡ bit_and (slice_index (get_or (get_or groups (i % size / 32) []) (i % size % 32) []) (i / size)) mask)
     → IsPacked n m items × (tables_of n m items ≡ map (table n) (product_functions m (map (product_of n m) terms)))
-packed_groups n m terms size count mask numbers groups items a b c d fit some s wide narrow masks p z long laid = (terms_packed n m terms items a b c d fit w, terms_tables n m terms items a b c d fit w)
+packed_groups n m terms size count mask numbers groups items a b c d fit some s wide narrow masks p z long laid =
+    (terms_packed n m terms items a b c d fit w, terms_tables n m terms items a b c d fit w)
   where
     words_of : (i : ℕ) → i < m * size → AreGroupWords terms (i % size / 32) (get_or groups (i % size / 32) [])
     words_of i h =
         let r : i % size < size = mod-lt i some in
         let q : i % size / 32 < count = omega arith in
         let l : length numbers ≡ count = ap length p ∙ length-range_with_len 0 count in
-        let at : get_or numbers (i % size / 32) 0 ≡ i % size / 32 = ap (λ ps. get_or ps (i % size / 32) 0) p ∙ get_or-range_with_len 0 count (i % size / 32) 0 q ∙ zero-add (i % size / 32) in
-        subst (λ (j : ℕ). AreGroupWords terms j (get_or groups (i % size / 32) [])) at (groups_at (AreGroupWords terms) numbers groups z (i % size / 32) (omega arith))
+        let at : get_or numbers (i % size / 32) 0 ≡ i % size / 32 = ap (λ ps. get_or ps (i % size / 32) 0) p
+        ∙ get_or-range_with_len 0 count (i % size / 32) 0 q ∙ zero-add (i % size / 32) in
+        subst (λ (j : ℕ). AreGroupWords terms j (get_or groups (i % size / 32) [])) at
+        (groups_at (AreGroupWords terms) numbers groups z (i % size / 32) (omega arith))
 
     few : (i : ℕ) → i < m * size → i / size < 16
     few i h = let q : i / size < m = (div-lt_iff_lt-mul some).1 h in omega arith
@@ -334,5 +358,6 @@ packed_groups n m terms size count mask numbers groups items a b c d fit some s 
     }
 
 -- there are as many as numbers
-pub groups_long : (terms : List Term) (count : ℕ) (numbers : List ℕ) (groups : List (List (List ℕ))) → numbers ≡ range_with_len 0 count → AllZip (AreGroupWords terms) numbers groups → length groups ≡ count
+pub groups_long : (terms : List Term) (count : ℕ) (numbers : List ℕ) (groups : List (List (List ℕ))) → numbers ≡ range_with_len 0 count →
+    AllZip (AreGroupWords terms) numbers groups → length groups ≡ count
 groups_long terms count numbers groups p z = AllZip-long (AreGroupWords terms) numbers groups z ∙ ap length p ∙ length-range_with_len 0 count

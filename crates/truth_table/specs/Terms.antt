@@ -27,8 +27,12 @@ covered terms j k = list_any (λ term. covers term j k) terms
 
 -- a term is added to the words at a place of all tables, output by output: bit b is the value at the word's point b
 abbrev pub AddsTerm : Term → ℕ → List ℕ → List ℕ → Type 0
-AddsTerm term place before after = (o b : ℕ) → o < 16 → b < 64 → (bit_at (slice_index after o) b == 1) ≡ ((bit_at (slice_index before o) b == 1) || covers term o (64 * place + b))
+AddsTerm term place before after =
+    (o b : ℕ) → o < 16 → b < 64 →
+    (bit_at (slice_index after o) b == 1) ≡ ((bit_at (slice_index before o) b == 1) || covers term o (64 * place + b))
 
 -- the words of a group of 32 places of all tables, place by place
 abbrev pub AreGroupWords : List Term → ℕ → List (List ℕ) → Type 0
-AreGroupWords terms group words = (place o b : ℕ) → place < 32 → o < 16 → b < 64 → (bit_at (slice_index (get_or words place []) o) b == 1) ≡ covered terms o (64 * (32 * group + place) + b)
+AreGroupWords terms group words =
+    (place o b : ℕ) → place < 32 → o < 16 → b < 64 →
+    (bit_at (slice_index (get_or words place []) o) b == 1) ≡ covered terms o (64 * (32 * group + place) + b)

@@ -53,7 +53,9 @@ fn holds_above(term: &Term, place: usize) -> bool
 /// Adds points to the words of a term's outputs.
 #[inline(always)]
 fn add_points(words: &mut [u64; 16], outs: u16, points: u64)
-    ensures { (o : ℕ) → o < 16 → slice_index words.new o ≡ cond (bit_at outs o == 1) (bit_or (slice_index words.old o) points) (slice_index words.old o) }
+    ensures { (o : ℕ) → o < 16 →
+        slice_index words.new o ≡ cond (bit_at outs o == 1)
+        (bit_or (slice_index words.old o) points) (slice_index words.old o) }
 {
     for output in 0..16 {
         if (outs >> output) & 1 == 1 {
@@ -65,7 +67,8 @@ fn add_points(words: &mut [u64; 16], outs: u16, points: u64)
 /// Whether a term's literals of the variables from 11 on leave it a point in a group of 32 words.
 fn may_hold(term: &Term, group: usize) -> bool
     requires { group < 32 }
-    ensures { IsFalse result → (place : ℕ) → place < 32 → literals_at term.now (64 * (32 * group + place)) 6 10 ≡ false }
+    ensures { IsFalse result → (place : ℕ) → place < 32 →
+        literals_at term.now (64 * (32 * group + place)) 6 10 ≡ false }
 {
     group & (term.care >> 11) as usize == (term.value >> 11) as usize
 }
@@ -73,7 +76,9 @@ fn may_hold(term: &Term, group: usize) -> bool
 /// Adds a term's points to the words of a group.
 fn add_term(words: &mut [[u64; 16]; 32], term: &Term, group: usize)
     requires { group < 32 }
-    ensures { (place : ℕ) → place < 32 → AddsTerm term.now (32 * group + place) (get_or words.old place []) (get_or words.new place []) }
+    ensures { (place : ℕ) → place < 32 →
+        AddsTerm term.now (32 * group + place) (get_or words.old place [])
+        (get_or words.new place []) }
 {
     let points = pattern(*term);
     for place in 0..32 {
@@ -152,7 +157,9 @@ pub(crate) fn packed_words<R: Threads + Sync>(
     requires few_outputs { m ≤ 16 }
     requires fit { All (Fits n m) terms.now }
     ensures packed { IfOk result (λ v. IsPacked n m v.items) }
-    ensures tables { IfOk result (λ v. tables_of n m v.items ≡ map (table n) (product_functions m (map (product_of n m) terms.now))) }
+    ensures tables { IfOk result
+        (λ v. tables_of n m v.items ≡ map (table n)
+        (product_functions m (map (product_of n m) terms.now))) }
 {
     let size = words_per_table(n);
     let groups: Vec<[[u64; 16]; 32]> = (0..(size + 31) / 32)

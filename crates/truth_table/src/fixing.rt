@@ -22,7 +22,9 @@ fn fixed_word(word: u64, x: VarIx, upper: bool) -> u64
 /// Fixes variable x, below 6, in each word.
 fn fix_halves(words: &mut [u64], x: VarIx, upper: bool)
     requires { x < 6 }
-    ensures { (i k : ℕ) → i < length words.new → k < 64 → bit_at (slice_index words.new i) k ≡ bit_at (slice_index words.old i) (fixed_bit x upper k) }
+    ensures { (i k : ℕ) → i < length words.new → k < 64 →
+        bit_at (slice_index words.new i) k ≡ bit_at (slice_index words.old i)
+        (fixed_bit x upper k) }
 {
     for word in words.iter_mut() {
         *word = fixed_word(*word, x, upper);
@@ -48,7 +50,8 @@ fn fix_rows(words: &mut [u64], r: u8, upper: bool)
     requires few { length words.old ≤ 1024 }
     requires small { r < 10 }
     requires room { (i : ℕ) → i < length words.old → fixed_bit r upper i < length words.old }
-    ensures { (i : ℕ) → i < length words.old → slice_index words.new i ≡ slice_index words.old (fixed_bit r upper i) }
+    ensures { (i : ℕ) → i < length words.old →
+        slice_index words.new i ≡ slice_index words.old (fixed_bit r upper i) }
 {
     for i in 0..words.len() {
         words[i] = words[fixed_place(i, r, upper)];
@@ -61,7 +64,8 @@ pub(crate) fn fix_variable(n: u8, words: &mut [u64], x: VarIx, upper: bool)
     requires variable { x < n }
     requires long { length words.old ≡ words_per_table n }
     requires clean { IsClean n words.old }
-    ensures table { table_in n words.new ≡ table n (restrict x upper (from_table (table_in n words.old))) }
+    ensures table { table_in n words.new ≡ table n
+        (restrict x upper (from_table (table_in n words.old))) }
     ensures long { length words.new ≡ words_per_table n }
     ensures clean { IsClean n words.new }
 {

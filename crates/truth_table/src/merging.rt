@@ -43,7 +43,8 @@ pub(crate) fn merge(alloc: Global, classes: &[u32]) -> Result<Merged, AllocError
 /// Puts each point once more after the points, with the value 1 for a variable.
 fn push_upper(points: &mut Vec<u32>, x: VarIx) -> Result<(), AllocError>
     requires { x < 16 }
-    ensures { OnOk result (points.new.items ≡ points.old.items ++ map (λ k. bit_or k (2 ^ x)) points.old.items) }
+    ensures { OnOk result
+        (points.new.items ≡ points.old.items ++ map (λ k. bit_or k (2 ^ x)) points.old.items) }
 {
     for i in 0..points.len() {
         let upper = points[i] | 1 << x;
@@ -73,7 +74,9 @@ pub(crate) fn push_values(
     points: &[u32],
 ) -> Result<(), AllocError>
     requires { All (λ k. k / 64 < length words.now) points.now }
-    ensures { OnOk result (values.new.items ≡ values.old.items ++ map (λ k. cond (packed_bit words.now k) 1 0) points.now) }
+    ensures { OnOk result
+        (values.new.items ≡ values.old.items
+        ++ map (λ k. cond (packed_bit words.now k) 1 0) points.now) }
 {
     for point in points {
         values.push(bit_of(words, *point as usize) as u32)?;

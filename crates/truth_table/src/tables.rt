@@ -43,7 +43,9 @@ impl Tables {
         cover: &Cover,
     ) -> Result<Tables, AllocError>
         ensures inputs { IfOk result (λ t. t.inputs ≡ cover.now.inputs) }
-        ensures tables { IfOk result (λ t. t.tables ≡ map (table cover.now.inputs) (product_functions cover.now.outputs cover.now.products)) }
+        ensures tables { IfOk result
+            (λ t. t.tables ≡ map (table cover.now.inputs)
+            (product_functions cover.now.outputs cover.now.products)) }
     {
         let n = cover.inputs();
         let m = cover.outputs();
@@ -94,7 +96,10 @@ impl Tables {
     ) -> Result<Row, AllocError>
         requires { output < outputs_of self.now }
         ensures inputs { IfOk result (λ row. row.inputs ≡ self.now.inputs) }
-        ensures table { IfOk result (λ row. row.table ≡ table self.now.inputs (fixed (members self.now.inputs care) value (from_table (table_at self.now output)))) }
+        ensures table { IfOk result
+            (λ row. row.table ≡ table self.now.inputs
+            (fixed (members self.now.inputs care) value
+            (from_table (table_at self.now output)))) }
     {
         let n = self.problem.inputs();
         let mut words = self.problem.words(output).to_vec(alloc)?;
@@ -123,7 +128,8 @@ impl Tables {
     /// from the bottom level up, and those that depend on the level's variable are counted.
     pub fn widths_of(&self, alloc: Global, order: &Order) -> Result<Vec<u32>, AllocError>
         requires { length order.now ≡ self.now.inputs }
-        ensures { IfOk result (λ v. v.items ≡ level_counts self.now.inputs (functions self.now) order.now) }
+        ensures { IfOk result
+            (λ v. v.items ≡ level_counts self.now.inputs (functions self.now) order.now) }
     {
         let n = order.len();
         let points = assignment_points(alloc, order.variables())?;

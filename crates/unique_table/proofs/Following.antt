@@ -12,19 +12,23 @@ use Rattle.unique_table.specs.Sessions.{StoreId, Knowledge, Follows, Knows, IsKn
 use Rattle.unique_table.specs.Insides.{knowledge, IsSession}
 use Rattle.unique_table.specs.Views.{Gains}
 
-pub follows : (s s' : Knowledge) → AreNodes (levels_of s.store.plan) s.seen → s'.store ≡ s.store → Grows s.seen s'.seen → Grows s.pieces s'.pieces → Follows s s'
+pub follows : (s s' : Knowledge) → AreNodes (levels_of s.store.plan) s.seen → s'.store ≡ s.store → Grows s.seen s'.seen →
+    Grows s.pieces s'.pieces → Follows s s'
 follows s s' are same g gp = record {
   store = same;
   nodes = g;
   pieces = gp;
   knows = λ id known two. grows_full s.seen s'.seen (id - 2) g (known two);
-  functions = λ id p known. ap (λ (z : StoreId). function_of (order_of z.plan) s'.seen id p) same ∙ function_grows (order_of s.store.plan) s.seen are s'.seen g id known p;
-  means = λ id f m. subst (λ (z : StoreId). Denotes (order_of z.plan) s'.seen id f) (sym same) (denotes_grows (order_of s.store.plan) s.seen are s'.seen g id f m);
+  functions = λ id p known. ap (λ (z : StoreId). function_of (order_of z.plan) s'.seen id p) same
+      ∙ function_grows (order_of s.store.plan) s.seen are s'.seen g id known p;
+  means = λ id f m. subst (λ (z : StoreId). Denotes (order_of z.plan) s'.seen id f) (sym same)
+      (denotes_grows (order_of s.store.plan) s.seen are s'.seen g id f m);
   depths = λ id known. ap (λ (z : StoreId). depth (levels_of z.plan) s'.seen id) same ∙ depth_grows (levels_of s.store.plan) s.seen s'.seen g id known;
 }
 
 -- a session whose view gains
-pub follows_gains : (s s' : Inside) (k : Knowledge) → knowledge s ≡ k → IsSession s → s'.seat.table_id ≡ s.seat.table_id → Gains s.seat.me.0 s'.seat.me.0 → Follows k (knowledge s')
+pub follows_gains : (s s' : Inside) (k : Knowledge) → knowledge s ≡ k → IsSession s → s'.seat.table_id ≡ s.seat.table_id →
+    Gains s.seat.me.0 s'.seat.me.0 → Follows k (knowledge s')
 follows_gains s s' k is kept table g = subst (λ (z : Knowledge). Follows z (knowledge s')) is
     (follows (knowledge s) (knowledge s') kept.good.nodes (λ i. record { table = table i; plan = g.plan i }) g.nodes g.pieces)
 
@@ -55,8 +59,11 @@ IsFrom s level id = Knows s id × (level ≤ depth_in s id)
 pub all_from : (s s' : Knowledge) (level : ℕ) (ids : List ℕ) → Follows s s' → All (IsFrom s level) ids → All (IsFrom s' level) ids
 all_from s s' level ids f all k d low = let h = all k d low in (f.knows _ h.0, (let e = f.depths (get_or ids k d) h.0 in let less = h.1 in omega arith))
 
-pub all_more : (s s' : Knowledge) (level id : ℕ) (ids more : List ℕ) → Follows s s' → All (IsFrom s level) ids → Knows s' id → level ≤ depth_in s' id → more ≡ ids ++ id ∷ [] → All (IsFrom s' level) more
-all_more s s' level id ids more f all known deep is = subst (λ (z : List ℕ). All (IsFrom s' level) z) (sym is) (All-push (IsFrom s' level) ids id (all_from s s' level ids f all) (known, deep))
+pub all_more : (s s' : Knowledge) (level id : ℕ) (ids more : List ℕ) → Follows s s' → All (IsFrom s level) ids → Knows s' id →
+    level ≤ depth_in s' id → more ≡ ids ++ id ∷ [] → All (IsFrom s' level) more
+all_more s s' level id ids more f all known deep is =
+    subst (λ (z : List ℕ). All (IsFrom s' level) z) (sym is)
+    (All-push (IsFrom s' level) ids id (all_from s s' level ids f all) (known, deep))
 
 pub below_from : (s : Knowledge) (level : ℕ) (ids : List ℕ) → All (IsFrom s (level + 1)) ids → All (IsKnownBelow s level) ids
 below_from s level ids all k d low = let h = all k d low in (h.0, (let less = h.1 in omega arith))

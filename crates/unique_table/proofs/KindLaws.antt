@@ -38,54 +38,81 @@ module _ (b : Plan) (s : StoreState) (id : ℕ) (v : View) (is : IsSeat b s id v
   -- it doesn't read the slots
   becomes : (words : List ℕ) (homes : List (Option (Unit {0}))) (m' : M) (wrote : ℕ) → Keeps words homes m'.0 → After v m'.0 wrote → Becomes b s id v words m'.0
   becomes words homes m' wrote k a =
-      record { kept = record { order = k.order; size = k.size; stored = k.stored; entries = k.entries; pieces = k.pieces; seen = k.seen }; gains = gains_after v m'.0 wrote a }
+      record {
+        kept =
+            record { order = k.order; size = k.size; stored = k.stored; entries = k.entries; pieces = k.pieces; seen = k.seen };
+        gains =
+            gains_after v m'.0 wrote a;
+      }
 
   same_words : (p : ℕ) (homes : List (Option (Unit {0}))) (v' : View) → Keeps (set s.words p (get_or s.words p 0)) homes v' → Keeps s.words homes v'
   same_words p homes v' k = subst (λ (z : List ℕ). Keeps z homes v') (set-get_or s.words p 0) k
 
   pub kind_look : (p : ℕ) → p < b.places → (v' : View) × Becomes b s id v s.words v' × (get_or v'.seen p 0 ≡ get_or s.words p 0)
   kind_look p inside =
-      let a = may_look b (length s.homes) id me is.live p s is.kept refl is.seat (is.fits p) in let g = a.4 in let m' : M = (a.0, carried_after [] a.1) in
-      (a.0, becomes s.words (homes_after s.homes [] a.1) m' 0 (same_words p (homes_after s.homes [] a.1) a.0 a.3) (after_goes me m' 0 g.0 g.1 g.2 g.3), ap (λ (m : M). get_or m.0.seen p 0) g.2 ∙ g.4 (subst (λ (z : Plan). p < z.places) (sym plan) inside))
+      let a = may_look b (length s.homes) id me is.live p s is.kept refl is.seat (is.fits p) in let g = a.4 in let m' : M = (a.0, carried_after [] a.1) in (
+        a.0,
+        becomes s.words (homes_after s.homes [] a.1) m' 0 (same_words p (homes_after s.homes [] a.1) a.0 a.3)
+            (after_goes me m' 0 g.0 g.1 g.2 g.3),
+        ap (λ (m : M). get_or m.0.seen p 0) g.2
+            ∙ g.4 (subst (λ (z : Plan). p < z.places) (sym plan) inside),
+      )
 
   pub kind_collect : (q : ℕ) → (v' : View) × Becomes b s id v s.words v' × (get_or v'.pieces q 0 ≡ get_or s.words (b.places + b.entries + q) 0)
   kind_collect q =
       let p : ℕ = b.places + b.entries + q in
-      let at : p ≡ v.plan.places + v.plan.entries + q = ap (λ (z : Plan). z.places + z.entries + q) (sym plan) in let back : p - (v.plan.places + v.plan.entries) ≡ q = omega arith in
-      let a = may_collect b (length s.homes) id me is.live q p at s is.kept refl is.seat (is.fits p) in let g = a.4 in let m' : M = (a.0, carried_after [] a.1) in (
+      let at : p ≡ v.plan.places + v.plan.entries + q = ap (λ (z : Plan). z.places + z.entries + q) (sym plan) in
+      let back : p - (v.plan.places + v.plan.entries) ≡ q = omega arith in
+      let a = may_collect b (length s.homes) id me is.live q p at s is.kept refl is.seat (is.fits p) in let g = a.4 in
+      let m' : M = (a.0, carried_after [] a.1) in (
         a.0,
         becomes s.words (homes_after s.homes [] a.1) m' 0 (same_words p (homes_after s.homes [] a.1) a.0 a.3) (after_goes me m' 0 g.0 g.1 g.2 g.3),
         ap (λ (m : M). get_or m.0.pieces q 0) g.2 ∙ (ap (λ (z : ℕ). get_or g.1 z 0) (sym back) ∙ g.4),
       )
 
-  pub kind_recall : (c : ℕ) → c < b.entries → (v' : View) × Becomes b s id v s.words v' × (get_or s.words (b.places + c) 0 ≢ 0 → IsEntry (order_of b) v'.seen (get_or s.words (b.places + c) 0))
+  pub kind_recall : (c : ℕ) → c < b.entries →
+      (v' : View) × Becomes b s id v s.words v'
+      × (get_or s.words (b.places + c) 0 ≢ 0 → IsEntry (order_of b) v'.seen (get_or s.words (b.places + c) 0))
   kind_recall c inside =
       let p : ℕ = b.places + c in let at : p ≡ v.plan.places + c = ap (λ (z : Plan). z.places + c) (sym plan) in
-      let a = may_recall b (length s.homes) id me is.live c p at (subst (λ (z : Plan). c < z.entries) (sym plan) inside) s is.kept refl is.seat (is.fits p) in let g = a.4 in let m' : M = (a.0, carried_after [] a.1) in (
+      let a = may_recall b (length s.homes) id me is.live c p at (subst (λ (z : Plan). c < z.entries) (sym plan) inside) s is.kept refl
+      is.seat (is.fits p) in
+      let g = a.4 in let m' : M = (a.0, carried_after [] a.1) in (
         a.0,
         becomes s.words (homes_after s.homes [] a.1) m' 0 (same_words p (homes_after s.homes [] a.1) a.0 a.3) (after_goes me m' 0 g.0 g.1 g.2 g.3),
-        (λ full. subst (λ (m : M). IsEntry (order_of b) m.0.seen (get_or s.words p 0)) (sym g.2) (subst (λ (z : Plan). IsEntry (order_of z) g.0 (get_or s.words p 0)) plan (g.4 full))),
+        (λ full. subst (λ (m : M). IsEntry (order_of b) m.0.seen (get_or s.words p 0)) (sym g.2)
+            (subst (λ (z : Plan). IsEntry (order_of z) g.0 (get_or s.words p 0)) plan (g.4 full))),
       )
 
   pub kind_remember : (c w : ℕ) → c < b.entries → IsEntry (order_of b) v.seen w
-      → (v' : View) × Becomes b s id v (set s.words (b.places + c) w) v' × (nodes_of b (set s.words (b.places + c) w) ≡ nodes_of b s.words) × (pieces_of b (set s.words (b.places + c) w) ≡ pieces_of b s.words)
+      → (v' : View) × Becomes b s id v (set s.words (b.places + c) w) v' × (nodes_of b (set s.words (b.places + c) w) ≡ nodes_of b s.words)
+      × (pieces_of b (set s.words (b.places + c) w) ≡ pieces_of b s.words)
   kind_remember c w inside entry =
       let p : ℕ = b.places + c in let at : p ≡ v.plan.places + c = ap (λ (z : Plan). z.places + c) (sym plan) in
-      let a = may_remember b (length s.homes) id me is.live c p w at (subst (λ (z : Plan). c < z.entries) (sym plan) inside) (subst (λ (z : Plan). IsEntry (order_of z) v.seen w) (sym plan) entry) s is.kept refl is.seat (is.fits p) in
-      let g = a.4 in let m' : M = (a.0, carried_after [] a.1) in
-      (a.0, becomes (set s.words p w) (homes_after s.homes [] a.1) m' 1 a.3 (after_goes me m' 1 g.0 g.1 g.2 g.3), take-set-le b.places s.words p w (omega arith), drop-set-lt (b.places + b.entries) s.words p w (omega arith))
+      let a = may_remember b (length s.homes) id me is.live c p w at (subst (λ (z : Plan). c < z.entries) (sym plan) inside)
+      (subst (λ (z : Plan). IsEntry (order_of z) v.seen w) (sym plan) entry) s is.kept refl is.seat (is.fits p) in
+      let g = a.4 in let m' : M = (a.0, carried_after [] a.1) in (
+        a.0,
+        becomes (set s.words p w) (homes_after s.homes [] a.1) m' 1 a.3 (after_goes me m' 1 g.0 g.1 g.2 g.3),
+        take-set-le b.places s.words p w (omega arith),
+        drop-set-lt (b.places + b.entries) s.words p w (omega arith),
+      )
 
   put_is : (p w : ℕ) → set s.words p (either (eqb (get_or s.words p 0) 0) w (get_or s.words p 0)) ≡ put_words s.words p w
   put_is p w = dite (ℕ_discrete (get_or s.words p 0) 0)
-      (λ empty. ap (λ (t : Bool). set s.words p (either t w (get_or s.words p 0))) (eq-eqb (get_or s.words p 0) 0 empty) ∙ ap (λ (t : Bool). if t then set s.words p w else s.words) (sym (eq-eqb (get_or s.words p 0) 0 empty)))
-      (λ full. ap (λ (t : Bool). set s.words p (either t w (get_or s.words p 0))) (ne_eqb (get_or s.words p 0) 0 full) ∙ (set-get_or s.words p 0 ∙ ap (λ (t : Bool). if t then set s.words p w else s.words) (sym (ne_eqb (get_or s.words p 0) 0 full))))
+      (λ empty. ap (λ (t : Bool). set s.words p (either t w (get_or s.words p 0))) (eq-eqb (get_or s.words p 0) 0 empty)
+      ∙ ap (λ (t : Bool). if t then set s.words p w else s.words) (sym (eq-eqb (get_or s.words p 0) 0 empty)))
+      (λ full. ap (λ (t : Bool). set s.words p (either t w (get_or s.words p 0))) (ne_eqb (get_or s.words p 0) 0 full)
+      ∙ (set-get_or s.words p 0 ∙ ap (λ (t : Bool). if t then set s.words p w else s.words) (sym (ne_eqb (get_or s.words p 0) 0 full))))
 
   pub kind_put : (p w : ℕ) → p < b.places → w ≢ 0 → IsNext v.seen b.places w p → IsNode (levels_of b) v.seen w
       → (v' : View) × Becomes b s id v (put_words s.words p w) v' × (get_or v'.seen p 0 ≡ get_or (put_words s.words p w) p 0)
   kind_put p w inside full next node =
       let k = next in let here = k.here in let before = k.before in
-      let a = may_put b (length s.homes) id me is.live p w k.passed (subst (λ (z : Plan). p < z.places) (sym plan) inside) full (subst (λ (z : Plan). p ≡ probe z.places w k.passed) (sym plan) here)
-      (subst (λ (z : Plan). (j : ℕ) → j < k.passed → IsTaken v.seen w (probe z.places w j)) (sym plan) before) (subst (λ (z : Plan). IsNode (levels_of z) v.seen w) (sym plan) node) s is.kept refl is.seat (is.fits p) in
+      let a = may_put b (length s.homes) id me is.live p w k.passed (subst (λ (z : Plan). p < z.places) (sym plan) inside) full
+      (subst (λ (z : Plan). p ≡ probe z.places w k.passed) (sym plan) here)
+      (subst (λ (z : Plan). (j : ℕ) → j < k.passed → IsTaken v.seen w (probe z.places w j)) (sym plan) before)
+      (subst (λ (z : Plan). IsNode (levels_of z) v.seen w) (sym plan) node) s is.kept refl is.seat (is.fits p) in
       let g = a.4 in let m' : M = (a.0, carried_after [] a.1) in let homes : List (Option (Unit {0})) = homes_after s.homes [] a.1 in
       let kept : Keeps (put_words s.words p w) homes a.0 = subst (λ (z : List ℕ). Keeps z homes a.0) (put_is p w) a.3 in
       dite (ℕ_discrete (get_or s.words p 0) 0)
@@ -93,7 +120,8 @@ module _ (b : Plan) (s : StoreState) (id : ℕ) (v : View) (is : IsSeat b s id v
         a.0,
         becomes (put_words s.words p w) homes m' 1 kept (after_goes me m' 1 h.0 h.1 h.2 h.3),
         ap (λ (m : M). get_or m.0.seen p 0) h.2 ∙ (h.4
-            ∙ (sym (get_or-set_same s.words p w 0 (let e = is.kept.size in omega arith)) ∙ ap (λ (t : Bool). get_or (if t then set s.words p w else s.words) p 0) (sym (eq-eqb (get_or s.words p 0) 0 empty)))),
+            ∙ (sym (get_or-set_same s.words p w 0 (let e = is.kept.size in omega arith))
+            ∙ ap (λ (t : Bool). get_or (if t then set s.words p w else s.words) p 0) (sym (eq-eqb (get_or s.words p 0) 0 empty)))),
       ))
       (λ taken. let h = g.1 taken in (
         a.0,
@@ -103,16 +131,20 @@ module _ (b : Plan) (s : StoreState) (id : ℕ) (v : View) (is : IsSeat b s id v
       ))
 
   pub kind_publish : (q ref : ℕ) → q < b.pieces → Denotes (order_of b) v.seen ref (piece_function b q)
-      → (v' : View) × Becomes b s id v (set s.words (b.places + b.entries + q) (ref + 1)) v' × (get_or v'.pieces q 0 ≡ ref + 1) × Grows (pieces_of b s.words) (pieces_of b (set s.words (b.places + b.entries + q) (ref + 1)))
+      → (v' : View) × Becomes b s id v (set s.words (b.places + b.entries + q) (ref + 1)) v' × (get_or v'.pieces q 0 ≡ ref + 1)
+      × Grows (pieces_of b s.words) (pieces_of b (set s.words (b.places + b.entries + q) (ref + 1)))
   kind_publish q ref inside d =
       let p : ℕ = b.places + b.entries + q in let at : p ≡ v.plan.places + v.plan.entries + q = ap (λ (z : Plan). z.places + z.entries + q) (sym plan) in
       let back : p - (v.plan.places + v.plan.entries) ≡ q = omega arith in
-      let a = may_publish b (length s.homes) id me is.live q ref p at (subst (λ (z : Plan). q < z.pieces) (sym plan) inside) (subst (λ (z : Plan). Denotes (order_of z) v.seen ref (piece_function z q)) (sym plan) d) s is.kept refl is.seat (is.fits p) in
+      let a = may_publish b (length s.homes) id me is.live q ref p at (subst (λ (z : Plan). q < z.pieces) (sym plan) inside)
+      (subst (λ (z : Plan). Denotes (order_of z) v.seen ref (piece_function z q)) (sym plan) d) s is.kept refl is.seat (is.fits p) in
       let g = a.4 in let m' : M = (a.0, carried_after [] a.1) in (
         a.0,
         becomes (set s.words p (ref + 1)) (homes_after s.homes [] a.1) m' 1 a.3 (after_goes me m' 1 g.0 g.1 g.2 g.3),
         ap (λ (m : M). get_or m.0.pieces q 0) g.2 ∙ (ap (λ (z : ℕ). get_or g.1 z 0) (sym back) ∙ g.4),
-        pieces_grow b s is.kept q ref inside (denotes_grows (order_of b) v.seen good (nodes_of b s.words) (is.kept.seen id v is.seat is.live).grows ref (piece_function b q) d),
+        pieces_grow b s is.kept q ref inside
+            (denotes_grows (order_of b) v.seen good (nodes_of b s.words) (is.kept.seen id v is.seat is.live).grows ref
+            (piece_function b q) d),
       )
 
 module _ (b : Plan) (s : StoreState) (i j : ℕ) (v w : View) (a : IsSeat b s i v) (d : IsSeat b s j w) where
@@ -120,7 +152,9 @@ module _ (b : Plan) (s : StoreState) (i j : ℕ) (v w : View) (a : IsSeat b s i 
   in_words k u at x f m = let seen = at.kept.seen k u at.seat at.live in denotes_grows (order_of b) u.seen seen.nodes (nodes_of b s.words) seen.grows x f m
 
   pub same_function_ids : (x y : ℕ) (f : Function) → Denotes (order_of b) v.seen x f → Denotes (order_of b) w.seen y f → x ≡ y
-  same_function_ids x y f dx dy = one_id (order_of b) (nodes_of b s.words) a.kept.stored.nodes a.kept.stored.unequal x y f a.kept.order (in_words i v a x f dx) (in_words j w d y f dy)
+  same_function_ids x y f dx dy =
+      one_id (order_of b) (nodes_of b s.words) a.kept.stored.nodes a.kept.stored.unequal x y f a.kept.order (in_words i v a x f dx)
+      (in_words j w d y f dy)
 
   pub same_id_functions : (x : ℕ) (f g : Function) → Denotes (order_of b) v.seen x f → Denotes (order_of b) w.seen x g → SameFunction (levels_of b) f g
   unfolding SameFunction

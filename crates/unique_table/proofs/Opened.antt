@@ -25,7 +25,8 @@ seated seat = knowledge record { seat = seat }
 pub store_is : (t : store.Inside) (T : StoreId) (seat : Sitting) → store_id t ≡ T → IsSeatOf t.table.shared seat → (seated seat).store ≡ T
 store_is t T seat is fits = (λ i. record { table = fits.table i; plan = fits.plan i }) ∙ is
 
-module _ (t : store.Inside) (s : session.Inside) (T : StoreId) (K : Knowledge) (is_t : store_id t ≡ T) (is_s : knowledge s ≡ K) (kt : IsStore t) (ks : IsSession s) (fits : K.store ≡ T) where
+module _ (t : store.Inside) (s : session.Inside) (T : StoreId) (K : Knowledge) (is_t : store_id t ≡ T) (is_s : knowledge s ≡ K)
+    (kt : IsStore t) (ks : IsSession s) (fits : K.store ≡ T) where
   pub plan_is : s.seat.me.0.plan ≡ t.table.shared.key
   plan_is = ap (λ (z : Knowledge). z.store.plan) is_s ∙ (ap (λ (z : StoreId). z.plan) fits ∙ ap (λ (z : StoreId). z.plan) (sym is_t))
 
@@ -45,15 +46,18 @@ module _ (t : store.Inside) (s : session.Inside) (T : StoreId) (K : Knowledge) (
   pub few_levels : levels_of T.plan ≤ 16
   few_levels = subst (λ (z : StoreId). levels_of z.plan ≤ 16) is_t kt.plan.order.few
 
-  pub word_ready : (level low high word : ℕ) → level < levels_of T.plan → IsKnownBelow K level low → IsKnownBelow K level high → low ≢ high → word ≡ node_word level low high
+  pub word_ready : (level low high word : ℕ) → level < levels_of T.plan → IsKnownBelow K level low → IsKnownBelow K level high →
+      low ≢ high → word ≡ node_word level low high
       → IsNodeWord t.table.shared s.seat word
   word_ready level low high word small kl ku ne is =
       let few = few_levels in let a = small_id low kl.0 in let b = small_id high ku.0 in
       let node : IsNode (levels_of K.store.plan) K.seen word = subst (IsNode (levels_of K.store.plan) K.seen) (sym is)
-      (word_node (levels_of K.store.plan) level low high K.seen (subst (λ (z : StoreId). levels_of z.plan ≤ 16) (sym fits) few) (subst (λ (z : StoreId). level < levels_of z.plan) (sym fits) small) a b ne
+      (word_node (levels_of K.store.plan) level low high K.seen (subst (λ (z : StoreId). levels_of z.plan ≤ 16) (sym fits) few)
+      (subst (λ (z : StoreId). level < levels_of z.plan) (sym fits) small) a b ne
       (below_depth (levels_of K.store.plan) K.seen level low kl.0 kl.1) (below_depth (levels_of K.store.plan) K.seen level high ku.0 ku.1)) in record {
         some = λ e. omega arith;
-        node = subst (λ (z : Plan). IsNode (levels_of z) s.seat.me.0.seen word) plan_is (subst (λ (z : Knowledge). IsNode (levels_of z.store.plan) z.seen word) (sym is_s) node);
+        node = subst (λ (z : Plan). IsNode (levels_of z) s.seat.me.0.seen word) plan_is
+            (subst (λ (z : Knowledge). IsNode (levels_of z.store.plan) z.seen word) (sym is_s) node);
       }
 
   pub nodes_are : AreNodes (levels_of K.store.plan) K.seen
@@ -61,10 +65,16 @@ module _ (t : store.Inside) (s : session.Inside) (T : StoreId) (K : Knowledge) (
 
   module _ (seat : Sitting) (sits : IsSeatOf t.table.shared seat) where
     pub goes_on : Gains s.seat.me.0 seat.me.0 → Follows K (seated seat)
-    goes_on g = follows K (seated seat) nodes_are (store_is t T seat is_t sits ∙ sym fits) (subst (λ (z : Knowledge). Grows z.seen seat.me.0.seen) is_s g.nodes) (subst (λ (z : Knowledge). Grows z.pieces seat.me.0.pieces) is_s g.pieces)
+    goes_on g =
+        follows K (seated seat) nodes_are (store_is t T seat is_t sits ∙ sym fits)
+        (subst (λ (z : Knowledge). Grows z.seen seat.me.0.seen) is_s g.nodes)
+        (subst (λ (z : Knowledge). Grows z.pieces seat.me.0.pieces) is_s g.pieces)
 
     pub goes_grown : Grows s.seat.me.0.seen seat.me.0.seen → Grows s.seat.me.0.pieces seat.me.0.pieces → Follows K (seated seat)
-    goes_grown g gp = follows K (seated seat) nodes_are (store_is t T seat is_t sits ∙ sym fits) (subst (λ (z : Knowledge). Grows z.seen seat.me.0.seen) is_s g) (subst (λ (z : Knowledge). Grows z.pieces seat.me.0.pieces) is_s gp)
+    goes_grown g gp =
+        follows K (seated seat) nodes_are (store_is t T seat is_t sits ∙ sym fits)
+        (subst (λ (z : Knowledge). Grows z.seen seat.me.0.seen) is_s g)
+        (subst (λ (z : Knowledge). Grows z.pieces seat.me.0.pieces) is_s gp)
 
   -- a session after a step
   pub goes_step : (seat : Sitting) (wrote : ℕ) → IsSeatAfter t.table.shared s.seat seat wrote → MakesStep K (seated seat) wrote
@@ -75,37 +85,51 @@ module _ (t : store.Inside) (s : session.Inside) (T : StoreId) (K : Knowledge) (
   }
 
   -- the word that is stored for an operation
-  pub entry_ready : (o : Operation) (a b r word : ℕ) → Knows K a → Knows K b → Means K r (combine o (function_in K a) (function_in K b)) → word ≡ entry_word (code_of o) a b r → IsEntry (order_of t.table.shared.key) s.seat.me.0.seen word
+  pub entry_ready : (o : Operation) (a b r word : ℕ) → Knows K a → Knows K b → Means K r (combine o (function_in K a) (function_in K b)) →
+      word ≡ entry_word (code_of o) a b r → IsEntry (order_of t.table.shared.key) s.seat.me.0.seen word
   entry_ready o a b r word ka kb m is =
-      let entry : IsEntry (order_of K.store.plan) K.seen word = subst (IsEntry (order_of K.store.plan) K.seen) (sym is) (entry_made (order_of K.store.plan) K.seen o a b r (small_id a ka) (small_id b kb) (small_id r m.known) ka kb m) in
-      subst (λ (z : Plan). IsEntry (order_of z) s.seat.me.0.seen word) plan_is (subst (λ (z : Knowledge). IsEntry (order_of z.store.plan) z.seen word) (sym is_s) entry)
+      let entry : IsEntry (order_of K.store.plan) K.seen word =
+      subst (IsEntry (order_of K.store.plan) K.seen) (sym is)
+      (entry_made (order_of K.store.plan) K.seen o a b r (small_id a ka) (small_id b kb) (small_id r m.known) ka kb m) in
+      subst (λ (z : Plan). IsEntry (order_of z) s.seat.me.0.seen word) plan_is
+      (subst (λ (z : Knowledge). IsEntry (order_of z.store.plan) z.seen word) (sym is_s) entry)
 
 -- ids are unique
 pub unique_ids : (t : store.Inside) → IsStore t → (seat : Sitting) → IsSeatOf t.table.shared seat → HasUniqueIds (seated seat)
 unique_ids t kt seat sits id other f a b =
-    one_id (order_of seat.me.0.plan) seat.me.0.seen sits.good.nodes sits.good.unequal id other f (subst (λ (z : Plan). IsOrder (levels_of z) (order_of z)) (sym sits.plan) kt.plan.order.order) a b
+    one_id (order_of seat.me.0.plan) seat.me.0.seen sits.good.nodes sits.good.unequal id other f
+    (subst (λ (z : Plan). IsOrder (levels_of z) (order_of z)) (sym sits.plan) kt.plan.order.order) a b
 
 -- the result of an operation that a cache word has
-module _ (t : store.Inside) (kt : IsStore t) (seat : Sitting) (sits : IsSeatOf t.table.shared seat) (o : Operation) (a b w key : ℕ) (small_a : a < 2 ^ 20) (small_b : b < 2 ^ 20)
-    (known : w ≢ 0 → IsEntry (order_of t.table.shared.key) seat.me.0.seen w) (key_is : key ≡ code_of o * 2 ^ 40 + a * 2 ^ 20 + b) (same : w / 2 ^ 20 ≡ key) where
+module _ (t : store.Inside) (kt : IsStore t) (seat : Sitting) (sits : IsSeatOf t.table.shared seat) (o : Operation) (a b w key : ℕ)
+    (small_a : a < 2 ^ 20) (small_b : b < 2 ^ 20)
+    (known : w ≢ 0 → IsEntry (order_of t.table.shared.key) seat.me.0.seen w) (key_is : key ≡ code_of o * 2 ^ 40 + a * 2 ^ 20 + b)
+    (same : w / 2 ^ 20 ≡ key) where
   there : IsEntry (order_of t.table.shared.key) seat.me.0.seen w
   there = known (λ none. let c = code_some o in omega arith)
 
   pub entry_means : Means (seated seat) (result_of w) (combine o (function_in (seated seat) a) (function_in (seated seat) b))
   entry_means = let order : Plan → List ℕ = λ z. order_of z in
-      subst (λ (z : Plan). Denotes (order z) seat.me.0.seen (result_of w) (combine o (function_of (order z) seat.me.0.seen a) (function_of (order z) seat.me.0.seen b))) (sym sits.plan)
+      subst (λ (z : Plan). Denotes (order z) seat.me.0.seen (result_of w)
+      (combine o (function_of (order z) seat.me.0.seen a) (function_of (order z) seat.me.0.seen b)))
+      (sym sits.plan)
       (entry_found (order_of t.table.shared.key) seat.me.0.seen o a b w small_a small_b there (same ∙ key_is))
 
-  pub entry_depth : (k : ℕ) → Knows (seated seat) a → Knows (seated seat) b → k ≤ depth_in (seated seat) a → k ≤ depth_in (seated seat) b → k ≤ depth_in (seated seat) (result_of w)
+  pub entry_depth : (k : ℕ) → Knows (seated seat) a → Knows (seated seat) b → k ≤ depth_in (seated seat) a → k ≤ depth_in (seated seat) b →
+      k ≤ depth_in (seated seat) (result_of w)
   entry_depth k ka kb ha hb =
-      operation_no_higher (order_of seat.me.0.plan) seat.me.0.seen sits.good.nodes sits.good.unequal (subst (λ (z : Plan). IsOrder (levels_of z) (order_of z)) (sym sits.plan) kt.plan.order.order) o a b (result_of w) k ka kb entry_means ha hb
+      operation_no_higher (order_of seat.me.0.plan) seat.me.0.seen sits.good.nodes sits.good.unequal
+      (subst (λ (z : Plan). IsOrder (levels_of z) (order_of z)) (sym sits.plan) kt.plan.order.order) o a b (result_of w) k ka kb
+      entry_means ha hb
 
 -- what a made id denotes, and how deep it lies
-module _ (T : StoreId) (K K' : Knowledge) (fits : K.store ≡ T) (few : levels_of T.plan ≤ 16) (are : AreNodes (levels_of K'.store.plan) K'.seen) (on : Follows K K') (level low high id : ℕ) (small : level < levels_of T.plan)
+module _ (T : StoreId) (K K' : Knowledge) (fits : K.store ≡ T) (few : levels_of T.plan ≤ 16)
+    (are : AreNodes (levels_of K'.store.plan) K'.seen) (on : Follows K K') (level low high id : ℕ) (small : level < levels_of T.plan)
     (a : low < 2 ^ 20) (b : high < 2 ^ 20) (kl : IsKnownBelow K level low) (made : IsIdOf K'.seen level low high id) where
   pub made_means : Means K' id (branch (variable_at T.plan level) (function_in K' low) (function_in K' high))
   made_means = subst (λ (z : StoreId). Means K' id (branch (variable_at z.plan level) (function_in K' low) (function_in K' high))) (on.store ∙ fits)
       (denotes_made (order_of K'.store.plan) K'.seen are level low high id (omega arith) a b (on.knows low kl.0) made)
 
   pub made_depth : level ≤ depth_in K' id
-  made_depth = let e = on.depths low kl.0 in let less = kl.1 in depth_made (levels_of K'.store.plan) K'.seen level low high id (omega arith) a b (omega arith) made
+  made_depth = let e = on.depths low kl.0 in let less = kl.1 in
+      depth_made (levels_of K'.store.plan) K'.seen level low high id (omega arith) a b (omega arith) made

@@ -7,12 +7,14 @@ use Rattle.node_words.proofs.Functions.{function_child, depth_below}
 use Rattle.unique_table.specs.Plans.{order_of, levels_of}
 use Rattle.unique_table.specs.Sessions.{Knowledge, Knows, HasParts}
 
-pub has_parts : (s : Knowledge) → AreNodes (levels_of s.store.plan) s.seen → (id : ℕ) → 2 ≤ id → Knows s id → (w : ℕ) → get_or s.seen (id - 2) 0 ≡ w → (parts : NodeParts)
+pub has_parts : (s : Knowledge) → AreNodes (levels_of s.store.plan) s.seen → (id : ℕ) → 2 ≤ id → Knows s id → (w : ℕ) →
+    get_or s.seen (id - 2) 0 ≡ w → (parts : NodeParts)
     → parts.level ≡ level_of w → parts.low ≡ low_of w → parts.high ≡ high_of w → HasParts s id parts
 has_parts s are id two known w is parts level low high =
     let x : ℕ = get_or s.seen (id - 2) 0 in let n = are (id - 2) (known two) in
     let whole : NodeParts = record { level = level_of x; low = low_of x; high = high_of x } in
-    let same : whole ≡ parts = (λ i. record { level = (ap level_of is ∙ sym level) i; low = (ap low_of is ∙ sym low) i; high = (ap high_of is ∙ sym high) i }) in
+    let same : whole ≡ parts =
+    (λ i. record { level = (ap level_of is ∙ sym level) i; low = (ap low_of is ∙ sym low) i; high = (ap high_of is ∙ sym high) i }) in
     subst (HasParts s id) same record {
       word = n.word;
       level = depth_node (levels_of s.store.plan) s.seen id two;

@@ -23,13 +23,15 @@ use Rattle.unique_table.specs.Closing.{root_id, root_functions, AreAllFilled, Is
 use Rattle.std.proofs.lemmas.Bool.{cases_lt}
 
 -- one more id
-pub more_ids : (words : List ℕ) (first : ℕ) (ids ids' : List ℕ) (j k x word : ℕ) → ids ≡ map (root_id words first) (range_with_len 0 j) → word ≡ get_or words (first + k) 0 → k ≡ j → x ≡ word - 1 → ids' ≡ ids ++ x ∷ []
+pub more_ids : (words : List ℕ) (first : ℕ) (ids ids' : List ℕ) (j k x word : ℕ) → ids ≡ map (root_id words first) (range_with_len 0 j) →
+    word ≡ get_or words (first + k) 0 → k ≡ j → x ≡ word - 1 → ids' ≡ ids ++ x ∷ []
     → ids' ≡ map (root_id words first) (range_with_len 0 (j + 1))
 more_ids words first ids ids' j k x word old word_is at x_is new =
     let last : x ≡ root_id words first j = x_is ∙ (ap (λ (z : ℕ). z - 1) word_is ∙ ap (λ (z : ℕ). get_or words (first + z) 0 - 1) at) in
     new ∙ ((λ i. old i ++ last i ∷ []) ∙ sym (map-range_with_len_more (root_id words first) 0 j j (zero-add j)))
 
-pub more_filled : (words : List ℕ) (first j k word : ℕ) → AreAllFilled words first j → word ≡ get_or words (first + k) 0 → k ≡ j → word ≢ 0 → AreAllFilled words first (j + 1)
+pub more_filled : (words : List ℕ) (first j k word : ℕ) → AreAllFilled words first j → word ≡ get_or words (first + k) 0 → k ≡ j →
+    word ≢ 0 → AreAllFilled words first (j + 1)
 more_filled words first j k word all is at full i low = ⊎_elim
     (λ (old : i < j). all i old)
     (λ (last : j ≤ i). let e : k ≡ i = omega arith in λ empty. full (is ∙ (ap (λ (z : ℕ). get_or words (first + z) 0) e ∙ empty)))
@@ -43,12 +45,17 @@ root_function b j = past b.roots ∙ ap (output_at b.problem.value) (minus b.roo
     minus : (r : ℕ) → r + j - r ≡ j
     minus r = omega arith
 
-    past : (r : ℕ) → (if nat_lt (r + j) r then part_function b.kind (order_of b) b.problem.value (r + j) else output_at b.problem.value (r + j - r)) ≡ output_at b.problem.value (r + j - r)
-    past r = ap (λ (c : Bool). if c then part_function b.kind (order_of b) b.problem.value (r + j) else output_at b.problem.value (r + j - r)) (le-ltb (r + j) r (omega arith))
+    past : (r : ℕ) →
+        (if nat_lt (r + j) r then part_function b.kind (order_of b) b.problem.value (r + j) else output_at b.problem.value (r + j - r)) ≡
+        output_at b.problem.value (r + j - r)
+    past r = ap
+        (λ (c : Bool). if c then part_function b.kind (order_of b) b.problem.value (r + j) else output_at b.problem.value (r + j - r))
+        (le-ltb (r + j) r (omega arith))
 
 -- ---- the last words
 
-module _ (b : Plan) (plan : IsPlan b) (id : ℕ) (v : View) (words : List ℕ) (slots : List (Unit {0})) (live : v.live ≡ true) (end : Final (Seen (IsKept b) id v) words slots) where
+module _ (b : Plan) (plan : IsPlan b) (id : ℕ) (v : View) (words : List ℕ) (slots : List (Unit {0})) (live : v.live ≡ true)
+    (end : Final (Seen (IsKept b) id v) words slots) where
   kept : IsKept b end.0
   kept = end.1.0
 
@@ -100,9 +107,14 @@ module _ (b : Plan) (plan : IsPlan b) (id : ℕ) (v : View) (words : List ℕ) (
       none_or_some a = grind arith
 
   -- a root that is missing isn't known to be published
-  pub lacks : (t : StoreId) (steps writes : ℕ) → t.plan ≡ b → (fault : CloseFault) → LacksRoot words first (outputs_of b.problem.value) fault → Lacks record { store = t; seen = v.seen; pieces = v.pieces; steps = steps; writes = writes } fault
+  pub lacks : (t : StoreId) (steps writes : ℕ) → t.plan ≡ b → (fault : CloseFault) →
+      LacksRoot words first (outputs_of b.problem.value) fault →
+      Lacks record { store = t; seen = v.seen; pieces = v.pieces; steps = steps; writes = writes } fault
   lacks t steps writes is (MissingRoot j) l = subst (λ (z : Plan). (get_or v.pieces (z.roots + j) 0 ≡ 0)
-      × ((ws : List ℕ) × IsLast record { store = record { table = t.table; plan = z }; seen = v.seen; pieces = v.pieces; steps = steps; writes = writes } ws × IsLeastEmpty ws (z.places + z.entries + z.roots) (outputs_of z.problem.value) j))
+      × ((ws : List ℕ)
+      × IsLast record
+      { store = record { table = t.table; plan = z }; seen = v.seen; pieces = v.pieces; steps = steps; writes = writes } ws
+      × IsLeastEmpty ws (z.places + z.entries + z.roots) (outputs_of z.problem.value) j))
       (sym is) (
         not_known (get_or v.pieces (b.roots + j) 0) (λ full. full (sym (last_has (b.roots + j) full) ∙ (sym (root_word j) ∙ l.1))),
         (words, record { size = last_size; stored = last_stored; entries = last_entries; pieces = last_pieces; seen = last_seen; has = last_has }, l),
@@ -116,7 +128,8 @@ module _ (b : Plan) (plan : IsPlan b) (id : ℕ) (v : View) (words : List ℕ) (
 -- ---- the diagram
 
 -- the functions that the root words denote are the problem's
-zip_functions : (n : ℕ) (f : ℕ → Function) (k : ℕ) (tables : List (List Bool)) → ((j : ℕ) → j < length tables → SameFunction n (f (k + j)) (from_table (get_or tables j [])))
+zip_functions : (n : ℕ) (f : ℕ → Function) (k : ℕ) (tables : List (List Bool)) →
+    ((j : ℕ) → j < length tables → SameFunction n (f (k + j)) (from_table (get_or tables j [])))
     → AllZip (SameFunction n) (map f (range_with_len k (length tables))) (map from_table tables)
 zip_functions n f k [] each = tt
 zip_functions n f k (t ∷ ts) each = (
@@ -127,7 +140,8 @@ zip_functions n f k (t ∷ ts) each = (
     next : (k j : ℕ) → k + suc j ≡ k + 1 + j
     next k j = omega arith
 
-of_same : (n : ℕ) (d : Graph) (rs : List Ref) (F G : List Function) → AllZip (λ r f. SameFunction n (value d.nodes r) f) rs F → AllZip (SameFunction n) F G → AllZip (λ r f. SameFunction n (value d.nodes r) f) rs G
+of_same : (n : ℕ) (d : Graph) (rs : List Ref) (F G : List Function) → AllZip (λ r f. SameFunction n (value d.nodes r) f) rs F →
+    AllZip (SameFunction n) F G → AllZip (λ r f. SameFunction n (value d.nodes r) f) rs G
 unfolding SameFunction
 of_same n d [] [] [] a s = tt
 of_same n d [] [] (g ∷ gs) a s = elim s [ ]
@@ -140,11 +154,13 @@ pub represents_same : (n : ℕ) (F G : List Function) (order : List ℕ) (d : Gr
 unfolding IsOf
 represents_same n F G order d s r = record { diagram = r.diagram; ordered = r.ordered; functions = of_same n d d.roots F G r.functions s }
 
-pub same_functions : (order nodes words : List ℕ) (first : ℕ) (t : TruthTables) → ((j : ℕ) → j < outputs_of t → Denotes order nodes (root_id words first j) (output_at t j))
+pub same_functions : (order nodes words : List ℕ) (first : ℕ) (t : TruthTables) →
+    ((j : ℕ) → j < outputs_of t → Denotes order nodes (root_id words first j) (output_at t j))
     → AllZip (SameFunction (length order)) (root_functions order nodes words first (outputs_of t)) (functions t)
 unfolding output_at
 same_functions order nodes words first t each = zip_functions (length order) (λ j. function_of order nodes (root_id words first j)) 0 t.tables
-    (λ j low. subst (λ (z : ℕ). SameFunction (length order) (function_of order nodes (root_id words first z)) (from_table (table_at t j))) (sym (zero-add j)) (each j low).function)
+    (λ j low. subst (λ (z : ℕ). SameFunction (length order) (function_of order nodes (root_id words first z)) (from_table (table_at t j)))
+    (sym (zero-add j)) (each j low).function)
 
 -- ---- what the code finds
 
@@ -152,13 +168,18 @@ map_twice : (f : ℕ → Function) (g : ℕ → ℕ) (xs : List ℕ) → map f (
 map_twice f g [] = refl
 map_twice f g (x ∷ xs) = λ i. f (g x) ∷ map_twice f g xs i
 
-pub ids_known : (nodes words ids : List ℕ) (first m : ℕ) → ids ≡ map (root_id words first) (range_with_len 0 m) → ((j : ℕ) → j < m → IsKnown nodes (root_id words first j)) → All (IsKnown nodes) ids
-ids_known nodes words ids first m is each = subst (λ (z : List ℕ). All (IsKnown nodes) z) (sym is) (All-from_get_or (IsKnown nodes) (map (root_id words first) (range_with_len 0 m)) 0
+pub ids_known : (nodes words ids : List ℕ) (first m : ℕ) → ids ≡ map (root_id words first) (range_with_len 0 m) →
+    ((j : ℕ) → j < m → IsKnown nodes (root_id words first j)) → All (IsKnown nodes) ids
+ids_known nodes words ids first m is each =
+    subst (λ (z : List ℕ). All (IsKnown nodes) z) (sym is)
+    (All-from_get_or (IsKnown nodes) (map (root_id words first) (range_with_len 0 m)) 0
     (λ j low. let l = length-map-range_with_len (root_id words first) 0 m in let less : j < m = omega arith in
     subst (IsKnown nodes) (sym (get_or-map-range_with_len (root_id words first) 0 m j j 0 less (zero-add j))) (each j less)))
 
-pub ids_functions : (order nodes words ids : List ℕ) (first m : ℕ) → ids ≡ map (root_id words first) (range_with_len 0 m) → map (function_of order nodes) ids ≡ root_functions order nodes words first m
-ids_functions order nodes words ids first m is = ap (λ (z : List ℕ). map (function_of order nodes) z) is ∙ map_twice (function_of order nodes) (root_id words first) (range_with_len 0 m)
+pub ids_functions : (order nodes words ids : List ℕ) (first m : ℕ) → ids ≡ map (root_id words first) (range_with_len 0 m) →
+    map (function_of order nodes) ids ≡ root_functions order nodes words first m
+ids_functions order nodes words ids first m is = ap (λ (z : List ℕ). map (function_of order nodes) z) is
+    ∙ map_twice (function_of order nodes) (root_id words first) (range_with_len 0 m)
 
 pub ok_weaker : {A E : Type 0} (P Q : A → Type 0) (X : Type 0) (r : Result A E) → OnOk r X → IfOk r P → ((x : A) → X → P x → Q x) → IfOk r Q
 ok_weaker P Q X (Ok x) o h f = f x o h
@@ -168,7 +189,8 @@ pub err_weaker : {A E : Type 0} (P Q : E → Type 0) (r : Result A E) → IfErr 
 err_weaker P Q (Ok x) h f = tt
 err_weaker P Q (Err e) h f = f e h
 
-module _ (b : Plan) (plan : IsPlan b) (id : ℕ) (v : View) (words : List ℕ) (slots : List (Unit {0})) (live : v.live ≡ true) (end : Final (Seen (IsKept b) id v) words slots)
+module _ (b : Plan) (plan : IsPlan b) (id : ℕ) (v : View) (words : List ℕ) (slots : List (Unit {0})) (live : v.live ≡ true)
+    (end : Final (Seen (IsKept b) id v) words slots)
     (places entries roots pieces : ℕ) (p : places ≡ b.places) (e : entries ≡ b.entries) (r : roots ≡ b.roots) (q : pieces ≡ b.pieces) where
   same_first : places + entries + roots ≡ b.places + b.entries + b.roots
   same_first = omega arith
@@ -181,14 +203,20 @@ module _ (b : Plan) (plan : IsPlan b) (id : ℕ) (v : View) (words : List ℕ) (
       (root_denotes b plan id v words slots live end j (subst (λ (z : ℕ). get_or words (z + j) 0 ≢ 0) same_first full)).known
 
   pub found_represents : (order : List ℕ) → order ≡ order_of b → (d : Graph) → AreAllFilled words (places + entries + roots) (pieces - roots)
-      → Represents (length order) (root_functions order (take places words) words (places + entries + roots) (pieces - roots)) order d → Represents (levels_of b) (functions b.problem.value) (order_of b) d
+      → Represents (length order) (root_functions order (take places words) words (places + entries + roots) (pieces - roots)) order d →
+      Represents (levels_of b) (functions b.problem.value) (order_of b) d
   found_represents order same_order d full found =
       let m : ℕ = outputs_of b.problem.value in let f : ℕ = b.places + b.entries + b.roots in
       let full' : AreAllFilled words f m = subst (λ (z : ℕ × ℕ). AreAllFilled words z.0 z.1) (λ i. (same_first i, same_outputs i)) full in
       let found' : Represents (levels_of b) (root_functions (order_of b) (nodes_of b words) words f m) (order_of b) d =
-      subst (λ (z : List ℕ × ℕ × ℕ × ℕ). Represents (length z.0) (root_functions z.0 (take z.1 words) words z.2 z.3) z.0 d) (λ i. (same_order i, p i, same_first i, same_outputs i)) found in
+      subst (λ (z : List ℕ × ℕ × ℕ × ℕ). Represents (length z.0) (root_functions z.0 (take z.1 words) words z.2 z.3) z.0 d)
+      (λ i. (same_order i, p i, same_first i, same_outputs i)) found in
       represents_same (levels_of b) (root_functions (order_of b) (nodes_of b words) words f m) (functions b.problem.value) (order_of b) d
       (same_functions (order_of b) (nodes_of b words) words f b.problem.value (λ j low. root_denotes b plan id v words slots live end j (full' j low))) found'
 
-  pub found_lacks : (t : StoreId) (steps writes : ℕ) → t.plan ≡ b → (fault : CloseFault) → LacksRoot words (places + entries + roots) (pieces - roots) fault → Lacks record { store = t; seen = v.seen; pieces = v.pieces; steps = steps; writes = writes } fault
-  found_lacks t steps writes is fault l = lacks b plan id v words slots live end t steps writes is fault (subst (λ (z : ℕ × ℕ). LacksRoot words z.0 z.1 fault) (λ i. (same_first i, same_outputs i)) l)
+  pub found_lacks : (t : StoreId) (steps writes : ℕ) → t.plan ≡ b → (fault : CloseFault) →
+      LacksRoot words (places + entries + roots) (pieces - roots) fault →
+      Lacks record { store = t; seen = v.seen; pieces = v.pieces; steps = steps; writes = writes } fault
+  found_lacks t steps writes is fault l =
+      lacks b plan id v words slots live end t steps writes is fault
+      (subst (λ (z : ℕ × ℕ). LacksRoot words z.0 z.1 fault) (λ i. (same_first i, same_outputs i)) l)

@@ -23,14 +23,18 @@ use Rattle.unique_table.specs.Picture.{StoreState, IsKept, IsSeen, moved, Sees, 
 abbrev pub M : Type 0
 M = Me (Unit {0}) View
 
-each_set : {A : Type 0} (P : A → Type 0) (l : List A) (i : ℕ) (w : A) → ((j : ℕ) (u : A) → get_elem? l j ≡ some u → P u) → P w → (j : ℕ) (u : A) → get_elem? (set l i w) j ≡ some u → P u
-each_set {A} P l i w all it j u e = ⊎_elim (λ (t : (j ≡ i) × (w ≡ u)). subst (λ (z : A). P z) t.1 it) (λ (t : (j ≢ i) × (get_elem? l j ≡ some u)). all j u t.1) (at_set l i j w u e)
+each_set : {A : Type 0} (P : A → Type 0) (l : List A) (i : ℕ) (w : A) → ((j : ℕ) (u : A) → get_elem? l j ≡ some u → P u) → P w →
+    (j : ℕ) (u : A) → get_elem? (set l i w) j ≡ some u → P u
+each_set {A} P l i w all it j u e =
+    ⊎_elim (λ (t : (j ≡ i) × (w ≡ u)). subst (λ (z : A). P z) t.1 it) (λ (t : (j ≢ i) × (get_elem? l j ≡ some u)). all j u t.1)
+    (at_set l i j w u e)
 
 none_told : (xs : List ℕ) → Grows [] xs
 none_told xs p full = absurd (full refl)
 
 -- the seat that steps sees all words, and the others saw no more than they have
-placed : (b : Plan) (s : StoreState) (k : IsKept b s) (words : List ℕ) → length words ≡ b.places + b.entries + b.pieces → Grows (nodes_of b s.words) (nodes_of b words) → Grows (pieces_of b s.words) (pieces_of b words)
+placed : (b : Plan) (s : StoreState) (k : IsKept b s) (words : List ℕ) → length words ≡ b.places + b.entries + b.pieces →
+    Grows (nodes_of b s.words) (nodes_of b words) → Grows (pieces_of b s.words) (pieces_of b words)
     → AreStored (levels_of b) b.places (nodes_of b words) → AreEntries b (nodes_of b words) words → ArePieces b (nodes_of b words) (pieces_of b words)
     → (id : ℕ) (v : View) (wrote : ℕ) → get_elem? s.views id ≡ some v → v.live ≡ true
     → IsKept b (moved s words id (sees v (nodes_of b words) (pieces_of b words) wrote))
@@ -65,7 +69,8 @@ placed b s k words size g gp st ens pcs id v wrote at live = let ws : List ℕ =
       });
 }
 
-sees_all : (b : Plan) (s : StoreState) (k : IsKept b s) (ws ps : List ℕ) → Grows (nodes_of b s.words) ws → Grows (pieces_of b s.words) ps → AreStored (levels_of b) b.places ws → ArePieces b ws ps
+sees_all : (b : Plan) (s : StoreState) (k : IsKept b s) (ws ps : List ℕ) → Grows (nodes_of b s.words) ws → Grows (pieces_of b s.words) ps →
+    AreStored (levels_of b) b.places ws → ArePieces b ws ps
     → (id : ℕ) (v : View) → get_elem? s.views id ≡ some v → v.live ≡ true → Sees v ws ps
 sees_all b s k ws ps g gp st pcs id v at live = let i = k.seen id v at live in record {
   size = st.size ∙ ap (λ (z : Plan). z.places) (sym i.plan);
@@ -79,17 +84,23 @@ sees_all b s k ws ps g gp st pcs id v at live = let i = k.seen id v at live in r
 }
 
 -- a piece's word is the same where there was one, since ids that denote one function are one id
-pieces_same : (b : Plan) (s : StoreState) (k : IsKept b s) (q ref : ℕ) → q < length (pieces_of b s.words) → Denotes (order_of b) (nodes_of b s.words) ref (piece_function b q) → Grows (pieces_of b s.words) (set (pieces_of b s.words) q (ref + 1))
+pieces_same : (b : Plan) (s : StoreState) (k : IsKept b s) (q ref : ℕ) → q < length (pieces_of b s.words) →
+    Denotes (order_of b) (nodes_of b s.words) ref (piece_function b q) → Grows (pieces_of b s.words) (set (pieces_of b s.words) q (ref + 1))
 pieces_same b s k q ref wide mine r full =
-    let nodes : List ℕ = nodes_of b s.words in let pieces : List ℕ = pieces_of b s.words in let there : get_or (set pieces q (ref + 1)) q 0 ≡ ref + 1 = get_or-set_same pieces q (ref + 1) 0 wide in
+    let nodes : List ℕ = nodes_of b s.words in let pieces : List ℕ = pieces_of b s.words in
+    let there : get_or (set pieces q (ref + 1)) q 0 ≡ ref + 1 = get_or-set_same pieces q (ref + 1) 0 wide in
     dite (ℕ_discrete r q)
-    (λ same. let was : Denotes (order_of b) nodes (get_or pieces q 0 - 1) (piece_function b q) = subst (λ (z : ℕ). Denotes (order_of b) nodes (get_or pieces z 0 - 1) (piece_function b z)) same (k.pieces r full) in
-    let one : get_or pieces q 0 - 1 ≡ ref = one_id (order_of b) nodes k.stored.nodes k.stored.unequal (get_or pieces q 0 - 1) ref (piece_function b q) k.order was mine in
+    (λ same. let was : Denotes (order_of b) nodes (get_or pieces q 0 - 1) (piece_function b q) =
+    subst (λ (z : ℕ). Denotes (order_of b) nodes (get_or pieces z 0 - 1) (piece_function b z)) same (k.pieces r full) in
+    let one : get_or pieces q 0 - 1 ≡ ref =
+    one_id (order_of b) nodes k.stored.nodes k.stored.unequal (get_or pieces q 0 - 1) ref (piece_function b q) k.order was mine in
     let some_there : get_or pieces q 0 ≢ 0 = subst (λ (z : ℕ). get_or pieces z 0 ≢ 0) same full in let up : ref + 1 ≡ get_or pieces q 0 = omega arith in
     subst (λ (z : ℕ). get_or (set pieces q (ref + 1)) z 0 ≡ get_or pieces z 0) (sym same) (there ∙ up))
     (λ other. get_or-set_other pieces q r (ref + 1) 0 other)
 
-pub pieces_grow : (b : Plan) (s : StoreState) (k : IsKept b s) (q ref : ℕ) → q < b.pieces → Denotes (order_of b) (nodes_of b s.words) ref (piece_function b q) → Grows (pieces_of b s.words) (pieces_of b (set s.words (b.places + b.entries + q) (ref + 1)))
+pub pieces_grow : (b : Plan) (s : StoreState) (k : IsKept b s) (q ref : ℕ) → q < b.pieces →
+    Denotes (order_of b) (nodes_of b s.words) ref (piece_function b q) →
+    Grows (pieces_of b s.words) (pieces_of b (set s.words (b.places + b.entries + q) (ref + 1)))
 pieces_grow b s k q ref inside mine =
     subst (Grows (pieces_of b s.words)) (sym (drop-set-add (b.places + b.entries) s.words q (ref + 1)))
     (pieces_same b s k q ref (let e = length-drop (b.places + b.entries) s.words in let f = k.size in omega arith) mine)
@@ -99,7 +110,9 @@ module _ (b : Plan) (slots id : ℕ) (me : M) (live : me.0.live ≡ true) where
   v = me.0
 
   still : (s : StoreState) → IsKept b s → get_elem? s.views id ≡ some v → Sees v (nodes_of b s.words) (pieces_of b s.words)
-  still s k at = sees_all b s k (nodes_of b s.words) (pieces_of b s.words) (grows_refl (nodes_of b s.words)) (grows_refl (pieces_of b s.words)) k.stored k.pieces id v at live
+  still s k at =
+      sees_all b s k (nodes_of b s.words) (pieces_of b s.words) (grows_refl (nodes_of b s.words)) (grows_refl (pieces_of b s.words))
+      k.stored k.pieces id v at live
 
   -- the words are set to what they are
   unmoved : (s : StoreState) → IsKept b s → get_elem? s.views id ≡ some v → (p : ℕ)
@@ -112,7 +125,13 @@ module _ (b : Plan) (slots id : ℕ) (me : M) (live : me.0.live ≡ true) where
   node_read s k at p inside = get_or-take b.places s.words p 0 (subst (λ (z : Plan). p < z.places) (k.seen id v at live).plan inside)
 
   pub may_look : (p : ℕ) → Allows (IsKept b) slots id me p (λ n. n) (looks (step slots p 0 0 none) me)
-  may_look p s k _ at _ = (sees v (nodes_of b s.words) (pieces_of b s.words) 0, keeps, tt, unmoved s k at p, (nodes_of b s.words, pieces_of b s.words, refl, still s k at, λ inside. node_read s k at p inside))
+  may_look p s k _ at _ = (
+    sees v (nodes_of b s.words) (pieces_of b s.words) 0,
+    keeps,
+    tt,
+    unmoved s k at p,
+    (nodes_of b s.words, pieces_of b s.words, refl, still s k at, λ inside. node_read s k at p inside),
+  )
 
   pub may_collect : (q p : ℕ) → p ≡ v.plan.places + v.plan.entries + q → Allows (IsKept b) slots id me p (λ n. n) (collects (step slots p 0 0 none) me)
   may_collect q p is s k _ at _ = let plan = (k.seen id v at live).plan in
@@ -126,7 +145,9 @@ module _ (b : Plan) (slots id : ℕ) (me : M) (live : me.0.live ≡ true) where
           pieces_of b s.words,
           refl,
           still s k at,
-          ap (λ (z : ℕ). get_or (pieces_of b s.words) z 0) back ∙ (get_or-drop (b.places + b.entries) s.words q 0 ∙ ap (λ (z : ℕ). get_or s.words z 0) (ap (λ (z : Plan). z.places + z.entries + q) (sym plan) ∙ sym is)),
+          ap (λ (z : ℕ). get_or (pieces_of b s.words) z 0) back
+              ∙ (get_or-drop (b.places + b.entries) s.words q 0
+              ∙ ap (λ (z : ℕ). get_or s.words z 0) (ap (λ (z : Plan). z.places + z.entries + q) (sym plan) ∙ sym is)),
         ),
       )
 
@@ -152,22 +173,27 @@ module _ (b : Plan) (slots id : ℕ) (me : M) (live : me.0.live ≡ true) where
   pub may_remember : (c p w : ℕ) → p ≡ v.plan.places + c → c < v.plan.entries → IsEntry (order_of v.plan) v.seen w
       → Allows (IsKept b) slots id me p (λ _. w) (λ _. remembers (step slots p w 0 none) me w)
   may_remember c p w is inside entry s k _ at _ =
-      let i = k.seen id v at live in let plan = i.plan in let nodes : List ℕ = nodes_of b s.words in let pieces : List ℕ = pieces_of b s.words in let words : List ℕ = set s.words p w in
+      let i = k.seen id v at live in let plan = i.plan in let nodes : List ℕ = nodes_of b s.words in
+      let pieces : List ℕ = pieces_of b s.words in let words : List ℕ = set s.words p w in
       let is' : p ≡ b.places + c = is ∙ ap (λ (z : Plan). z.places + c) plan in
       let inside' : c < b.entries = subst (λ (z : Plan). c < z.entries) plan inside in
       let same_nodes : nodes_of b words ≡ nodes = take-set-le b.places s.words p w (omega arith) in
       let same_pieces : pieces_of b words ≡ pieces = drop-set-lt (b.places + b.entries) s.words p w (omega arith) in
-      let mine : IsEntry (order_of b) nodes w = entry_grows (order_of b) v.seen nodes w i.nodes i.grows (subst (λ (z : Plan). IsEntry (order_of z) v.seen w) plan entry) in
+      let mine : IsEntry (order_of b) nodes w =
+      entry_grows (order_of b) v.seen nodes w i.nodes i.grows (subst (λ (z : Plan). IsEntry (order_of z) v.seen w) plan entry) in
       let ens' : AreEntries b nodes words = (λ d low full. dite (ℕ_discrete d c)
-      (λ same. let there : get_or words (b.places + d) 0 ≡ w = ap (λ (z : ℕ). get_or words z 0) (omega arith) ∙ get_or-set_same s.words p w 0 (let e = k.size in omega arith) in
+      (λ same. let there : get_or words (b.places + d) 0 ≡ w = ap (λ (z : ℕ). get_or words z 0) (omega arith)
+      ∙ get_or-set_same s.words p w 0 (let e = k.size in omega arith) in
       subst (IsEntry (order_of b) nodes) (sym there) mine)
-      (λ ne. let other : get_or words (b.places + d) 0 ≡ get_or s.words (b.places + d) 0 = get_or-set_other s.words p (b.places + d) w 0 (λ e. ne (omega arith)) in
+      (λ ne. let other : get_or words (b.places + d) 0 ≡ get_or s.words (b.places + d) 0 =
+      get_or-set_other s.words p (b.places + d) w 0 (λ e. ne (omega arith)) in
       subst (IsEntry (order_of b) nodes) (sym other) (k.entries d low (λ e. full (other ∙ e))))) in
       let g : Grows nodes (nodes_of b words) = subst (Grows nodes) (sym same_nodes) (grows_refl nodes) in
       let gp : Grows pieces (pieces_of b words) = subst (Grows pieces) (sym same_pieces) (grows_refl pieces) in
       let st : AreStored (levels_of b) b.places (nodes_of b words) = subst (AreStored (levels_of b) b.places) (sym same_nodes) k.stored in
       let ens : AreEntries b (nodes_of b words) words = subst (λ (z : List ℕ). AreEntries b z words) (sym same_nodes) ens' in
-      let pcs : ArePieces b (nodes_of b words) (pieces_of b words) = subst (λ (z : List ℕ × List ℕ). ArePieces b z.0 z.1) (λ j. (sym same_nodes j, sym same_pieces j)) k.pieces in (
+      let pcs : ArePieces b (nodes_of b words) (pieces_of b words) =
+      subst (λ (z : List ℕ × List ℕ). ArePieces b z.0 z.1) (λ j. (sym same_nodes j, sym same_pieces j)) k.pieces in (
         sees v (nodes_of b words) (pieces_of b words) 1,
         keeps,
         tt,
@@ -179,29 +205,47 @@ module _ (b : Plan) (slots id : ℕ) (me : M) (live : me.0.live ≡ true) where
       → ((j : ℕ) → j < passed → IsTaken v.seen w (probe v.plan.places w j)) → IsNode (levels_of v.plan) v.seen w
       → Allows (IsKept b) slots id me p (λ n. either (eqb n 0) w n) (puts (step slots p 0 w none) me)
   may_put p w passed inside some_w here before node s k _ at _ =
-      let n : ℕ = get_or s.words p 0 in let i = k.seen id v at live in let plan = i.plan in let nodes : List ℕ = nodes_of b s.words in let pieces : List ℕ = pieces_of b s.words in
+      let n : ℕ = get_or s.words p 0 in let i = k.seen id v at live in let plan = i.plan in let nodes : List ℕ = nodes_of b s.words in
+      let pieces : List ℕ = pieces_of b s.words in
       dite (ℕ_discrete n 0)
       (λ empty. let words : List ℕ = set s.words p w in let inside' : p < b.places = subst (λ (z : Plan). p < z.places) plan inside in
-      let same_nodes : nodes_of b words ≡ set nodes p w = take-set-lt b.places s.words p w inside' in let same_pieces : pieces_of b words ≡ pieces = drop-set-lt (b.places + b.entries) s.words p w (omega arith) in
+      let same_nodes : nodes_of b words ≡ set nodes p w = take-set-lt b.places s.words p w inside' in
+      let same_pieces : pieces_of b words ≡ pieces = drop-set-lt (b.places + b.entries) s.words p w (omega arith) in
       let empty' : get_or nodes p 0 ≡ 0 = node_read s k at p inside ∙ empty in
-      let st' : AreStored (levels_of b) b.places (set nodes p w) = stored_put (levels_of b) b.places nodes k.stored p w passed inside' empty' some_w (subst (λ (z : Plan). p ≡ probe z.places w passed) plan here)
+      let st' : AreStored (levels_of b) b.places (set nodes p w) =
+      stored_put (levels_of b) b.places nodes k.stored p w passed inside' empty' some_w
+      (subst (λ (z : Plan). p ≡ probe z.places w passed) plan here)
       (subst (λ (z : Plan). (j : ℕ) → j < passed → IsTaken nodes w (probe z.places w j)) plan
       (λ j lt. let t = before j lt in let same = i.grows (probe v.plan.places w j) t.0 in ((λ e. t.0 (sym same ∙ e)), (λ e. t.1 (sym same ∙ e)))))
       (node_grows (levels_of b) v.seen nodes w i.grows (subst (λ (z : Plan). IsNode (levels_of z) v.seen w) plan node)) in
       let st : AreStored (levels_of b) b.places (nodes_of b words) = subst (AreStored (levels_of b) b.places) (sym same_nodes) st' in
       let g : Grows nodes (nodes_of b words) = subst (Grows nodes) (sym same_nodes) (set_grows nodes p w empty') in
       let gp : Grows pieces (pieces_of b words) = subst (Grows pieces) (sym same_pieces) (grows_refl pieces) in
-      let ens : AreEntries b (nodes_of b words) words = (λ c low full. let other : get_or words (b.places + c) 0 ≡ get_or s.words (b.places + c) 0 = get_or-set_other s.words p (b.places + c) w 0 (λ e. omega arith) in
-      subst (IsEntry (order_of b) (nodes_of b words)) (sym other) (entry_grows (order_of b) nodes (nodes_of b words) (entry_in b s.words c) k.stored.nodes g (k.entries c low (λ e. full (other ∙ e))))) in
+      let ens : AreEntries b (nodes_of b words) words =
+      (λ c low full. let other : get_or words (b.places + c) 0 ≡ get_or s.words (b.places + c) 0 =
+      get_or-set_other s.words p (b.places + c) w 0 (λ e. omega arith) in
+      subst (IsEntry (order_of b) (nodes_of b words)) (sym other)
+      (entry_grows (order_of b) nodes (nodes_of b words) (entry_in b s.words c) k.stored.nodes g
+      (k.entries c low (λ e. full (other ∙ e))))) in
       let pcs : ArePieces b (nodes_of b words) (pieces_of b words) = subst (λ (z : List ℕ). ArePieces b (nodes_of b words) z) (sym same_pieces)
       (λ q full. denotes_grows (order_of b) nodes k.stored.nodes (nodes_of b words) g (get_or pieces q 0 - 1) (piece_function b q) (k.pieces q full)) in
-      let there : get_or (nodes_of b words) p 0 ≡ w = ap (λ (l : List ℕ). get_or l p 0) same_nodes ∙ get_or-set_same nodes p w 0 (let e = k.stored.size in omega arith) in (
+      let there : get_or (nodes_of b words) p 0 ≡ w = ap (λ (l : List ℕ). get_or l p 0) same_nodes
+      ∙ get_or-set_same nodes p w 0 (let e = k.stored.size in omega arith) in (
         sees v (nodes_of b words) (pieces_of b words) 1,
         keeps,
         tt,
         subst (λ (z : Bool). IsKept b (moved s (set s.words p (either z w n)) id (sees v (nodes_of b words) (pieces_of b words) 1))) (sym (eq-eqb n 0 empty))
             (placed b s k words (length-set s.words p w ∙ k.size) g gp st ens pcs id v 1 at live),
-        ((λ _. (nodes_of b words, pieces_of b words, refl, sees_all b s k (nodes_of b words) (pieces_of b words) g gp st pcs id v at live, there)), (λ full. absurd (full empty))),
+        (
+          (λ _. (
+            nodes_of b words,
+            pieces_of b words,
+            refl,
+            sees_all b s k (nodes_of b words) (pieces_of b words) g gp st pcs id v at live,
+            there,
+          )),
+          (λ full. absurd (full empty)),
+        ),
       ))
       (λ full. (
         sees v nodes pieces 0,
@@ -215,40 +259,61 @@ module _ (b : Plan) (slots id : ℕ) (me : M) (live : me.0.live ≡ true) where
   pub may_publish : (q ref p : ℕ) → p ≡ v.plan.places + v.plan.entries + q → q < v.plan.pieces → Denotes (order_of v.plan) v.seen ref (piece_function v.plan q)
       → Allows (IsKept b) slots id me p (λ _. ref + 1) (λ _. publishes (step slots p (ref + 1) 0 none) me (ref + 1))
   may_publish q ref p is inside of_piece s k _ at _ =
-      let i = k.seen id v at live in let plan = i.plan in let nodes : List ℕ = nodes_of b s.words in let pieces : List ℕ = pieces_of b s.words in let words : List ℕ = set s.words p (ref + 1) in
+      let i = k.seen id v at live in let plan = i.plan in let nodes : List ℕ = nodes_of b s.words in
+      let pieces : List ℕ = pieces_of b s.words in let words : List ℕ = set s.words p (ref + 1) in
       let is' : p ≡ b.places + b.entries + q = is ∙ ap (λ (z : Plan). z.places + z.entries + q) plan in
       let same_nodes : nodes_of b words ≡ nodes = take-set-le b.places s.words p (ref + 1) (omega arith) in
-      let same_pieces : pieces_of b words ≡ set pieces q (ref + 1) = ap (λ (z : ℕ). drop (b.places + b.entries) (set s.words z (ref + 1))) is' ∙ drop-set-add (b.places + b.entries) s.words q (ref + 1) in
-      let mine : Denotes (order_of b) nodes ref (piece_function b q) = denotes_grows (order_of b) v.seen i.nodes nodes i.grows ref (piece_function b q) (subst (λ (z : Plan). Denotes (order_of z) v.seen ref (piece_function z q)) plan of_piece) in
-      let wide : q < length pieces = (let e = length-drop (b.places + b.entries) s.words in let f = k.size in let h = subst (λ (z : Plan). q < z.pieces) plan inside in omega arith) in
+      let same_pieces : pieces_of b words ≡ set pieces q (ref + 1) =
+      ap (λ (z : ℕ). drop (b.places + b.entries) (set s.words z (ref + 1))) is'
+      ∙ drop-set-add (b.places + b.entries) s.words q (ref + 1) in
+      let mine : Denotes (order_of b) nodes ref (piece_function b q) =
+      denotes_grows (order_of b) v.seen i.nodes nodes i.grows ref (piece_function b q)
+      (subst (λ (z : Plan). Denotes (order_of z) v.seen ref (piece_function z q)) plan of_piece) in
+      let wide : q < length pieces =
+      (let e = length-drop (b.places + b.entries) s.words in let f = k.size in let h = subst (λ (z : Plan). q < z.pieces) plan inside in
+      omega arith) in
       let there : get_or (set pieces q (ref + 1)) q 0 ≡ ref + 1 = get_or-set_same pieces q (ref + 1) 0 wide in
       let gp' : Grows pieces (set pieces q (ref + 1)) = pieces_same b s k q ref wide mine in
       let pcs' : ArePieces b nodes (set pieces q (ref + 1)) = (λ r full. dite (ℕ_discrete r q)
       (λ same. subst (λ (z : ℕ). Denotes (order_of b) nodes (get_or (set pieces q (ref + 1)) z 0 - 1) (piece_function b z)) (sym same)
-      (let back : get_or (set pieces q (ref + 1)) q 0 - 1 ≡ ref = ap (λ (z : ℕ). z - 1) there ∙ omega arith in subst (λ (z : ℕ). Denotes (order_of b) nodes z (piece_function b q)) (sym back) mine))
-      (λ other. let e = get_or-set_other pieces q r (ref + 1) 0 other in subst (λ (z : ℕ). Denotes (order_of b) nodes (z - 1) (piece_function b r)) (sym e) (k.pieces r (λ none_there. full (e ∙ none_there))))) in
+      (let back : get_or (set pieces q (ref + 1)) q 0 - 1 ≡ ref = ap (λ (z : ℕ). z - 1) there ∙ omega arith in
+      subst (λ (z : ℕ). Denotes (order_of b) nodes z (piece_function b q)) (sym back) mine))
+      (λ other. let e = get_or-set_other pieces q r (ref + 1) 0 other in
+      subst (λ (z : ℕ). Denotes (order_of b) nodes (z - 1) (piece_function b r)) (sym e)
+      (k.pieces r (λ none_there. full (e ∙ none_there))))) in
       let g : Grows nodes (nodes_of b words) = subst (Grows nodes) (sym same_nodes) (grows_refl nodes) in
       let gp : Grows pieces (pieces_of b words) = subst (Grows pieces) (sym same_pieces) gp' in
       let st : AreStored (levels_of b) b.places (nodes_of b words) = subst (AreStored (levels_of b) b.places) (sym same_nodes) k.stored in
       let ens : AreEntries b (nodes_of b words) words = subst (λ (z : List ℕ). AreEntries b z words) (sym same_nodes)
-      (λ c low full. let other : get_or words (b.places + c) 0 ≡ get_or s.words (b.places + c) 0 = get_or-set_other s.words p (b.places + c) (ref + 1) 0 (λ e. omega arith) in
+      (λ c low full. let other : get_or words (b.places + c) 0 ≡ get_or s.words (b.places + c) 0 =
+      get_or-set_other s.words p (b.places + c) (ref + 1) 0 (λ e. omega arith) in
       subst (IsEntry (order_of b) nodes) (sym other) (k.entries c low (λ e. full (other ∙ e)))) in
-      let pcs : ArePieces b (nodes_of b words) (pieces_of b words) = subst (λ (z : List ℕ × List ℕ). ArePieces b z.0 z.1) (λ j. (sym same_nodes j, sym same_pieces j)) pcs' in
+      let pcs : ArePieces b (nodes_of b words) (pieces_of b words) =
+      subst (λ (z : List ℕ × List ℕ). ArePieces b z.0 z.1) (λ j. (sym same_nodes j, sym same_pieces j)) pcs' in
       let place : p - (v.plan.places + v.plan.entries) ≡ q = omega arith in (
         sees v (nodes_of b words) (pieces_of b words) 1,
         keeps,
         tt,
         placed b s k words (length-set s.words p (ref + 1) ∙ k.size) g gp st ens pcs id v 1 at live,
-        (nodes_of b words, pieces_of b words, refl, sees_all b s k (nodes_of b words) (pieces_of b words) g gp st pcs id v at live, (λ j. get_or (same_pieces j) (place j) 0) ∙ there),
+        (
+          nodes_of b words,
+          pieces_of b words,
+          refl,
+          sees_all b s k (nodes_of b words) (pieces_of b words) g gp st pcs id v at live,
+          (λ j. get_or (same_pieces j) (place j) 0)
+              ∙ there,
+        ),
       )
 
 -- the put that follows a look
-pub may_put_after : (b : Plan) (slots id : ℕ) (me me' : M) (ws ps : List ℕ) (p w : ℕ) → me' ≡ (sees me.0 ws ps 0, me.1) → Sees me.0 ws ps → me.0.plan ≡ b → p < b.places → w ≢ 0 → IsNext me.0.seen b.places w p → IsNode (levels_of b) me.0.seen w
+pub may_put_after : (b : Plan) (slots id : ℕ) (me me' : M) (ws ps : List ℕ) (p w : ℕ) → me' ≡ (sees me.0 ws ps 0, me.1) → Sees me.0 ws ps →
+    me.0.plan ≡ b → p < b.places → w ≢ 0 → IsNext me.0.seen b.places w p → IsNode (levels_of b) me.0.seen w
     → Allows (IsKept b) slots id me' p (λ n. either (eqb n 0) w n) (puts (step slots p 0 w none) me')
 may_put_after b slots id me me' ws ps p w is s plan inside some_w next node =
     let new : M = (sees me.0 ws ps 0, me.1) in let k = next_grows me.0.seen ws b.places w p s.grows next in let here = k.here in let before = k.before in
     subst (λ (z : M). Allows (IsKept b) slots id z p (λ n. either (eqb n 0) w n) (puts (step slots p 0 w none) z)) (sym is)
-    (may_put b slots id new refl p w k.passed (subst (λ (z : Plan). p < z.places) (sym plan) inside) some_w (subst (λ (z : Plan). p ≡ probe z.places w k.passed) (sym plan) here)
+    (may_put b slots id new refl p w k.passed (subst (λ (z : Plan). p < z.places) (sym plan) inside) some_w
+    (subst (λ (z : Plan). p ≡ probe z.places w k.passed) (sym plan) here)
     (subst (λ (z : Plan). (j : ℕ) → j < k.passed → IsTaken ws w (probe z.places w j)) (sym plan) before)
     (subst (λ (z : Plan). IsNode (levels_of z) ws w) (sym plan) (node_grows (levels_of b) me.0.seen ws w s.grows node)))
 
@@ -259,15 +324,47 @@ may_split b id v live s k at = let i = k.seen id v at live in record {
   stored = k.stored;
   entries = k.entries;
   pieces = k.pieces;
-  seen = λ j u e alive. ⊎_elim (λ (t : get_elem? (set s.views id (stepped v)) j ≡ some u). each_set (λ (z : View). z.live ≡ true → IsSeen b (nodes_of b s.words) (pieces_of b s.words) z) s.views id (stepped v) k.seen (λ l. record { plan = i.plan; size = i.size; nodes = i.nodes; unequal = i.unequal; are_pieces = i.are_pieces; grows = i.grows; told = i.told; pieces = i.pieces; pieces_told = i.pieces_told }) j u t alive)
+  seen = λ j u e alive. ⊎_elim
+      (λ (t : get_elem? (set s.views id (stepped v)) j ≡ some u). each_set
+      (λ (z : View). z.live ≡ true → IsSeen b (nodes_of b s.words) (pieces_of b s.words) z) s.views id (stepped v) k.seen
+      (λ l. record {
+        plan = i.plan;
+        size = i.size;
+        nodes = i.nodes;
+        unequal = i.unequal;
+        are_pieces = i.are_pieces;
+        grows = i.grows;
+        told = i.told;
+        pieces = i.pieces;
+        pieces_told = i.pieces_told;
+      })
+      j u t alive)
       (λ (t : another v ≡ u). subst (IsSeen b (nodes_of b s.words) (pieces_of b s.words)) t
-      record { plan = i.plan; size = i.size; nodes = i.nodes; unequal = i.unequal; are_pieces = i.are_pieces; grows = i.grows; told = none_told (nodes_of b s.words); pieces = i.pieces; pieces_told = none_told (pieces_of b s.words) })
+      record {
+        plan =
+            i.plan;
+        size =
+            i.size;
+        nodes =
+            i.nodes;
+        unequal =
+            i.unequal;
+        are_pieces =
+            i.are_pieces;
+        grows =
+            i.grows;
+        told =
+            none_told (nodes_of b s.words);
+        pieces = i.pieces;
+        pieces_told = none_told (pieces_of b s.words);
+      })
       (at_snoc (set s.views id (stepped v)) (another v) u j e);
 }
 
 pub may_join : (b : Plan) (id other : ℕ) (v w : View) → v.live ≡ true → w.live ≡ true → Joins {S = Unit {0}} (IsKept b) id v other w (informed v w) spent
 may_join b id other v w live live' s k at ne at' =
-    let at_old : get_elem? s.views other ≡ some w = sym (set_else s.views id other (informed v w) ne) ∙ at' in let i = k.seen id v at live in let j = k.seen other w at_old live' in
+    let at_old : get_elem? s.views other ≡ some w = sym (set_else s.views id other (informed v w) ne) ∙ at' in
+    let i = k.seen id v at live in let j = k.seen other w at_old live' in
     let P : View → Type 0 = λ z. z.live ≡ true → IsSeen b (nodes_of b s.words) (pieces_of b s.words) z in record {
       order = k.order;
       size = k.size;
@@ -275,7 +372,18 @@ may_join b id other v w live live' s k at ne at' =
       entries = k.entries;
       pieces = k.pieces;
       seen = each_set P (set s.views id (informed v w)) other spent
-          (each_set P s.views id (informed v w) k.seen (λ l. record { plan = i.plan; size = i.size; nodes = i.nodes; unequal = i.unequal; are_pieces = i.are_pieces; grows = i.grows; told = j.grows; pieces = i.pieces; pieces_told = j.pieces }))
+          (each_set P s.views id (informed v w) k.seen
+          (λ l. record {
+            plan = i.plan;
+            size = i.size;
+            nodes = i.nodes;
+            unequal = i.unequal;
+            are_pieces = i.are_pieces;
+            grows = i.grows;
+            told = j.grows;
+            pieces = i.pieces;
+            pieces_told = j.pieces;
+          }))
           (λ dead. absurd (no dead));
     }
   where

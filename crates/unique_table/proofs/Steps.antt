@@ -19,7 +19,8 @@ after_goes m m' wrote ws ps is s = subst (λ (z : M). After m.0 z.0 wrote) (sym 
   writes = refl;
 }
 
-pub seat_after : (t : Board) (s s' : Sitting) (wrote : ℕ) (ws ps : List ℕ) → IsSeatOf t s → s'.table_id ≡ s.table_id → s'.me ≡ (sees s.me.0 ws ps wrote, s.me.1) → Sees s.me.0 ws ps → IsSeatAfter t s s' wrote
+pub seat_after : (t : Board) (s s' : Sitting) (wrote : ℕ) (ws ps : List ℕ) → IsSeatOf t s → s'.table_id ≡ s.table_id →
+    s'.me ≡ (sees s.me.0 ws ps wrote, s.me.1) → Sees s.me.0 ws ps → IsSeatAfter t s s' wrote
 seat_after t s s' wrote ws ps fits same is sees_all = let a = after_goes s.me s'.me wrote ws ps is sees_all in record {
   seat = record { table = same ∙ fits.table; plan = a.plan ∙ fits.plan; empty = ap (λ (m : M). m.1) is ∙ fits.empty; good = a.good };
   view = a;
@@ -29,4 +30,12 @@ pub gains_after : (v v' : View) (wrote : ℕ) → After v v' wrote → Gains v v
 gains_after v v' wrote a = record { good = a.good; plan = a.plan; nodes = a.nodes; pieces = a.pieces }
 
 pub gains_both : (v v' v'' : View) → Gains v v' → Gains v' v'' → Gains v v''
-gains_both v v' v'' a b = record { good = b.good; plan = b.plan ∙ a.plan; nodes = grows_trans v.seen v'.seen v''.seen a.nodes b.nodes; pieces = grows_trans v.pieces v'.pieces v''.pieces a.pieces b.pieces }
+gains_both v v' v'' a b =
+    record {
+      good = b.good;
+      plan = b.plan
+          ∙ a.plan;
+      nodes =
+          grows_trans v.seen v'.seen v''.seen a.nodes b.nodes;
+      pieces = grows_trans v.pieces v'.pieces v''.pieces a.pieces b.pieces;
+    }

@@ -46,5 +46,6 @@ pub record IsLast (s : Knowledge) (words : List ℕ) : Type 0 where
 -- a root that is missing is one that the session doesn't know to be published, and the least that is missing in the last words
 abbrev pub Lacks : Knowledge → CloseFault → Type 0
 Lacks s (MissingRoot j) = (slice_index s.pieces (s.store.plan.roots + j) ≡ 0)
-    × ((words : List ℕ) × IsLast s words × IsLeastEmpty words (s.store.plan.places + s.store.plan.entries + s.store.plan.roots) (outputs_of s.store.plan.problem.value) j)
+    × ((words : List ℕ) × IsLast s words
+    × IsLeastEmpty words (s.store.plan.places + s.store.plan.entries + s.store.plan.roots) (outputs_of s.store.plan.problem.value) j)
 Lacks s OutOfMemory = Unit {0}

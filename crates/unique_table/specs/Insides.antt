@@ -21,7 +21,15 @@ pub record IsStore (t : store.Inside) : Type 0 where
   pub no_slots : t.table.shared.table_id.slots ≡ 0
 
 abbrev pub knowledge : session.Inside → Knowledge
-knowledge s = let v = s.seat.me.0 in record { store = record { table = s.seat.table_id; plan = v.plan }; seen = v.seen; pieces = v.pieces; steps = v.steps; writes = v.writes }
+knowledge s = let v = s.seat.me.0 in
+    record {
+      store =
+          record { table = s.seat.table_id; plan = v.plan };
+      seen = v.seen;
+      pieces = v.pieces;
+      steps = v.steps;
+      writes = v.writes;
+    }
 
 -- the session's view is good, and it holds no slot
 pub record IsSession (s : session.Inside) : Type 0 where

@@ -68,11 +68,34 @@ newcomer b = record { live = true; plan = b; seen = []; told = []; pieces = []; 
 
 -- after a step in which all words were seen as ws and pieces, and which wrote `wrote` of them
 abbrev pub sees : View → List ℕ → List ℕ → ℕ → View
-sees v ws pieces wrote = record { live = true; plan = v.plan; seen = ws; told = []; pieces = pieces; pieces_told = []; steps = v.steps + 1; writes = v.writes + wrote }
+sees v ws pieces wrote =
+    record {
+      live =
+          true;
+      plan = v.plan;
+      seen = ws;
+      told = [];
+      pieces = pieces;
+      pieces_told = [];
+      steps = v.steps + 1;
+      writes = v.writes + wrote;
+    }
 
 -- the view with one step more
 abbrev pub stepped : View → View
-stepped v = record { live = v.live; plan = v.plan; seen = v.seen; told = v.told; pieces = v.pieces; pieces_told = v.pieces_told; steps = v.steps + 1; writes = v.writes }
+stepped v =
+    record {
+      live =
+          v.live;
+      plan =
+          v.plan;
+      seen = v.seen;
+      told = v.told;
+      pieces = v.pieces;
+      pieces_told = v.pieces_told;
+      steps = v.steps + 1;
+      writes = v.writes;
+    }
 
 -- what a session knows that has seen as much
 abbrev pub another : View → View
@@ -80,7 +103,21 @@ another v = record { live = true; plan = v.plan; seen = v.seen; told = []; piece
 
 -- v is told what w saw; the steps and writes of both are counted
 abbrev pub informed : View → View → View
-informed v w = record { live = v.live; plan = v.plan; seen = v.seen; told = w.seen; pieces = v.pieces; pieces_told = w.pieces; steps = v.steps + w.steps + 1; writes = v.writes + w.writes }
+informed v w =
+    record {
+      live =
+          v.live;
+      plan =
+          v.plan;
+      seen =
+          v.seen;
+      told =
+          w.seen;
+      pieces = v.pieces;
+      pieces_told = w.pieces;
+      steps = v.steps + w.steps + 1;
+      writes = v.writes + w.writes;
+    }
 
 abbrev no_plan : Plan
 no_plan = record {

@@ -43,21 +43,27 @@ put_words words p w = if slice_index words p == 0 then slice_set words p w else 
 
 -- a load of a node word
 abbrev pub Looks : Type 0
-Looks = (b : Plan) (s : StoreState) (id : ℕ) (v : View) (p : ℕ) → IsSeat b s id v → p < b.places → (v' : View) × Becomes b s id v s.words v' × (slice_index v'.seen p ≡ slice_index s.words p)
+Looks = (b : Plan) (s : StoreState) (id : ℕ) (v : View) (p : ℕ) → IsSeat b s id v → p < b.places →
+    (v' : View) × Becomes b s id v s.words v' × (slice_index v'.seen p ≡ slice_index s.words p)
 
 -- one try to put a node's word into the place that comes next in the search for it
 abbrev pub Puts : Type 0
-Puts = (b : Plan) (s : StoreState) (id : ℕ) (v : View) (p w : ℕ) → IsSeat b s id v → p < b.places → w ≢ 0 → IsNext v.seen b.places w p → IsNode (levels_of b) v.seen w →
+Puts = (b : Plan) (s : StoreState) (id : ℕ) (v : View) (p w : ℕ) → IsSeat b s id v → p < b.places → w ≢ 0 → IsNext v.seen b.places w p →
+    IsNode (levels_of b) v.seen w →
     (v' : View) × Becomes b s id v (put_words s.words p w) v' × (slice_index v'.seen p ≡ slice_index (put_words s.words p w) p)
 
 -- a store of a piece's id: if there was one, it is the same
 abbrev pub Publishes : Type 0
-Publishes = (b : Plan) (s : StoreState) (id : ℕ) (v : View) (q ref : ℕ) → IsSeat b s id v → q < b.pieces → Denotes (order_of b) v.seen ref (piece_function b q) →
-    (v' : View) × Becomes b s id v (slice_set s.words (b.places + b.entries + q) (ref + 1)) v' × (slice_index v'.pieces q ≡ ref + 1) × Grows (pieces_of b s.words) (pieces_of b (slice_set s.words (b.places + b.entries + q) (ref + 1)))
+Publishes =
+    (b : Plan) (s : StoreState) (id : ℕ) (v : View) (q ref : ℕ) → IsSeat b s id v → q < b.pieces →
+    Denotes (order_of b) v.seen ref (piece_function b q) →
+    (v' : View) × Becomes b s id v (slice_set s.words (b.places + b.entries + q) (ref + 1)) v' × (slice_index v'.pieces q ≡ ref + 1)
+    × Grows (pieces_of b s.words) (pieces_of b (slice_set s.words (b.places + b.entries + q) (ref + 1)))
 
 -- a load of a piece word
 abbrev pub Collects : Type 0
-Collects = (b : Plan) (s : StoreState) (id : ℕ) (v : View) (q : ℕ) → IsSeat b s id v → (v' : View) × Becomes b s id v s.words v' × (slice_index v'.pieces q ≡ slice_index s.words (b.places + b.entries + q))
+Collects = (b : Plan) (s : StoreState) (id : ℕ) (v : View) (q : ℕ) → IsSeat b s id v →
+    (v' : View) × Becomes b s id v s.words v' × (slice_index v'.pieces q ≡ slice_index s.words (b.places + b.entries + q))
 
 -- a load of a cache word
 abbrev pub Recalls : Type 0
@@ -67,4 +73,6 @@ Recalls = (b : Plan) (s : StoreState) (id : ℕ) (v : View) (c : ℕ) → IsSeat
 -- a store of an operation's result: nodes and pieces stay
 abbrev pub Remembers : Type 0
 Remembers = (b : Plan) (s : StoreState) (id : ℕ) (v : View) (c w : ℕ) → IsSeat b s id v → c < b.entries → IsEntry (order_of b) v.seen w →
-    (v' : View) × Becomes b s id v (slice_set s.words (b.places + c) w) v' × (nodes_of b (slice_set s.words (b.places + c) w) ≡ nodes_of b s.words) × (pieces_of b (slice_set s.words (b.places + c) w) ≡ pieces_of b s.words)
+    (v' : View) × Becomes b s id v (slice_set s.words (b.places + c) w) v'
+    × (nodes_of b (slice_set s.words (b.places + c) w) ≡ nodes_of b s.words)
+    × (pieces_of b (slice_set s.words (b.places + c) w) ≡ pieces_of b s.words)

@@ -38,9 +38,12 @@ fn root_ids(
 ) -> Result<Vec<u32>, CloseFault>
     requires full { IsFull closed.now.words }
     requires inside { first + outputs ≤ slots_len closed.now.words }
-    requires small { (j : ℕ) → j < outputs → slice_index (slots_items closed.now.words) (first + j) ≤ 2 ^ 32 }
+    requires small { (j : ℕ) → j < outputs →
+        slice_index (slots_items closed.now.words) (first + j) ≤ 2 ^ 32 }
     ensures filled { OnOk result (AreAllFilled (slots_items closed.now.words) first outputs) }
-    ensures ids { IfOk result (λ v. v.items ≡ map (root_id (slots_items closed.now.words) first) (range_with_len 0 outputs)) }
+    ensures ids { IfOk result
+        (λ v. v.items ≡ map (root_id (slots_items closed.now.words) first)
+        (range_with_len 0 outputs)) }
     ensures missing { IfErr result (LacksRoot (slots_items closed.now.words) first outputs) }
 {
     let Ok(mut ids) = Vec::with_capacity(alloc, usize::from(outputs)) else {
@@ -72,11 +75,17 @@ pub(crate) fn last_diagram(
     requires places { (places ≤ slots_len closed.now.words) × (places < 2 ^ 20) }
     requires nodes { AreNodes (length order) (words_in closed.now places) }
     requires unequal { AreUnequal (words_in closed.now places) }
-    requires known { (j : ℕ) → j < outputs → slice_index (slots_items closed.now.words) (first + j) ≢ 0 → IsKnown (words_in closed.now places) (root_id (slots_items closed.now.words) first j) }
+    requires known { (j : ℕ) → j < outputs →
+        slice_index (slots_items closed.now.words) (first + j) ≢ 0 →
+        IsKnown (words_in closed.now places) (root_id (slots_items closed.now.words) first j) }
     requires size { length (words_in closed.now places) ≡ places }
     ensures filled { OnOk result (AreAllFilled (slots_items closed.now.words) first outputs) }
     ensures order { IfOk result (λ d. d.order ≡ order) }
-    ensures diagram { IfOk result (λ d. IsReducedOf (length order) (root_functions order (words_in closed.now places) (slots_items closed.now.words) first outputs) order d.graph.nodes d.graph.roots) }
+    ensures diagram { IfOk result
+        (λ d. IsReducedOf (length order)
+        (root_functions order (words_in closed.now places) (slots_items closed.now.words) first
+        outputs)
+        order d.graph.nodes d.graph.roots) }
     ensures missing { IfErr result (LacksRoot (slots_items closed.now.words) first outputs) }
 {
     let ids = root_ids(alloc, closed, first, outputs)?;

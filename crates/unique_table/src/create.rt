@@ -47,7 +47,8 @@ fn ways(order: &Order) -> usize
 /// How many pieces there are besides the outputs.
 pub(crate) fn parts_count(kind: &PieceKind, order: &Order, outputs: u8) -> usize
     requires { outputs ≤ 16 }
-    ensures is { (t : TruthTables) → outputs ≡ outputs_of t → result ≡ parts_count kind.now order.now t }
+    ensures is { (t : TruthTables) → outputs ≡ outputs_of t →
+        result ≡ parts_count kind.now order.now t }
     ensures few { result ≤ 1024 }
 {
     let outputs = usize::from(outputs);

@@ -62,7 +62,8 @@ impl Store {
         requires inputs { problem.now.inputs ≡ length order }
         requires terms { AreGivenBy pieces problem.now }
         ensures plan { IfOk result (λ r. IsPlanFor r.0.plan order problem.now pieces.entry) }
-        ensures session { IfOk result (λ r. r.1 ≡ record { store = r.0; seen = []; pieces = []; steps = 0; writes = 0 }) }
+        ensures session { IfOk result
+            (λ r. r.1 ≡ record { store = r.0; seen = []; pieces = []; steps = 0; writes = 0 }) }
     {
         let kind = kind_of(alloc, pieces)?;
         let places = node_places();
@@ -140,10 +141,14 @@ impl Store {
         requires high { IsKnownBelow session.old level high }
         ensures follows { Follows session.old session.new }
         ensures id { IfOk result (λ id. IsIdOf session.new.seen level low high id) }
-        ensures function { IfOk result (λ id. Means session.new id (branch (variable_at self.now.plan level) (function_in session.new low) (function_in session.new high))) }
+        ensures function { IfOk result
+            (λ id. Means session.new id
+            (branch (variable_at self.now.plan level) (function_in session.new low)
+            (function_in session.new high))) }
         ensures level { IfOk result (λ id. level ≤ depth_in session.new id) }
         ensures unique { HasUniqueIds session.new }
-        ensures full { OnErr result (IsFullFor session.new.seen self.now.plan.places (node_word level low high)) }
+        ensures full { OnErr result
+            (IsFullFor session.new.seen self.now.plan.places (node_word level low high)) }
         ensures steps { session.new.steps ≤ session.old.steps + 2 * self.now.plan.places }
         ensures writes { OnErr result (session.new.writes ≡ session.old.writes) }
     {
@@ -191,7 +196,8 @@ impl Store {
         requires place { place < self.now.plan.entries }
         requires known { Knows session.old first × Knows session.old second }
         ensures step { MakesStep session.old session.new 0 }
-        ensures function { IfSome result (λ id. Means session.new id (combined_in session.new operation first second)) }
+        ensures function { IfSome result
+            (λ id. Means session.new id (combined_in session.new operation first second)) }
         ensures level { IfSome result (LiesNoHigher session.new first second) }
     {
         let at = self.places + place;
@@ -245,7 +251,8 @@ impl Store {
         requires piece { piece < self.now.plan.pieces }
         ensures step { MakesStep session.old session.new 0 }
         ensures stored { IfSome result (λ id. HasPiece session.new piece id) }
-        ensures function { IfSome result (λ id. Means session.new id (piece_function self.now.plan piece)) }
+        ensures function { IfSome result
+            (λ id. Means session.new id (piece_function self.now.plan piece)) }
         ensures none { IfNone result (slice_index session.new.pieces piece ≡ 0) }
     {
         let place = self.places + self.entries + piece;
@@ -288,7 +295,9 @@ impl Store {
     pub fn close(self, alloc: Global, session: Session) -> Result<Diagram, CloseFault>
         requires { session.store ≡ self }
         ensures order { IfOk result (λ d. d.order ≡ order_of self.plan) }
-        ensures diagram { IfOk result (λ d. Represents (levels_of self.plan) (functions self.plan.problem.value) (order_of self.plan) d.graph) }
+        ensures diagram { IfOk result
+            (λ d. Represents (levels_of self.plan) (functions self.plan.problem.value)
+            (order_of self.plan) d.graph) }
         ensures reduced { IfOk result (λ d. IsReduced d.graph) }
         ensures missing { IfErr result (Lacks session) }
     {

@@ -30,8 +30,10 @@ pub(crate) fn look(shared: &Board, seat: &mut Seat<(), View>, place: usize) -> u
 fn put(shared: &Board, seat: &mut Seat<(), View>, place: usize, word: u64) -> u64
     requires { MayPut shared.now seat.old word place }
     ensures seat { IsSeatOf shared.now seat.new }
-    ensures empty { result ≡ 0 → After seat.old.me.0 seat.new.me.0 1 × (slice_index seat.new.me.0.seen place ≡ word) }
-    ensures full { result ≢ 0 → After seat.old.me.0 seat.new.me.0 0 × (slice_index seat.new.me.0.seen place ≡ result) }
+    ensures empty { result ≡ 0 →
+        After seat.old.me.0 seat.new.me.0 1 × (slice_index seat.new.me.0.seen place ≡ word) }
+    ensures full { result ≢ 0 →
+        After seat.old.me.0 seat.new.me.0 0 × (slice_index seat.new.me.0.seen place ≡ result) }
 {
     shared.compare_exchange::<Puts>(seat, place, 0, word)
 }
@@ -41,7 +43,8 @@ pub(crate) fn take(shared: &Board, seat: &mut Seat<(), View>, place: usize, word
     requires { MayPut shared.now seat.old word place }
     ensures seat { IsSeatOf shared.now seat.new }
     ensures gains { Gains seat.old.me.0 seat.new.me.0 }
-    ensures found { MatchBool result (slice_index seat.new.me.0.seen place ≡ word) (IsTaken seat.new.me.0.seen word place) }
+    ensures found { MatchBool result (slice_index seat.new.me.0.seen place ≡ word)
+        (IsTaken seat.new.me.0.seen word place) }
     ensures steps { seat.new.me.0.steps ≤ seat.old.me.0.steps + 2 }
     ensures writes { MatchBool result (Unit {0}) (seat.new.me.0.writes ≡ seat.old.me.0.writes) }
 {
@@ -64,7 +67,8 @@ pub(crate) fn publish(
     requires seat { IsSeatOf shared.now seat.old }
     requires place { IsPiecePlace shared.now piece place }
     requires piece { piece < shared.now.key.pieces }
-    requires function { Denotes (order_of shared.now.key) seat.old.me.0.seen id (piece_function shared.now.key piece) }
+    requires function { Denotes (order_of shared.now.key) seat.old.me.0.seen id
+        (piece_function shared.now.key piece) }
     ensures step { IsSeatAfter shared.now seat.old seat.new 1 }
     ensures stored { slice_index seat.new.me.0.pieces piece ≡ id + 1 }
 {
@@ -123,7 +127,8 @@ pub(crate) fn find_or_put(
     requires word { IsNodeWord shared.now seat.old word }
     ensures seat { IsSeatOf shared.now seat.new }
     ensures gains { Gains seat.old.me.0 seat.new.me.0 }
-    ensures found { IfSome result (λ place. (place < places) × (slice_index seat.new.me.0.seen place ≡ word)) }
+    ensures found { IfSome result
+        (λ place. (place < places) × (slice_index seat.new.me.0.seen place ≡ word)) }
     ensures full { IfNone result (IsFullFor seat.new.me.0.seen places word) }
     ensures steps { seat.new.me.0.steps ≤ seat.old.me.0.steps + 2 * places }
     ensures writes { IfNone result (seat.new.me.0.writes ≡ seat.old.me.0.writes) }

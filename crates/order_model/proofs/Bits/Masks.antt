@@ -66,10 +66,12 @@ members_without n mask x h y =
         elim (cases_eq y x) [
           | inl e ↦
               ap (λ b. has (variables n) y && eqb b 1) (ap (bit_at (mask - 2 ^ x)) e ∙ bits.0) ∙ and-false (has (variables n) y)
-              ∙ sym (ap (λ b. (has (variables n) y && eqb (bit_at mask y) 1) && not b) (eq-eqb x y (sym e)) ∙ and-false (has (variables n) y && eqb (bit_at mask y) 1))
+              ∙ sym (ap (λ b. (has (variables n) y && eqb (bit_at mask y) 1) && not b) (eq-eqb x y (sym e))
+              ∙ and-false (has (variables n) y && eqb (bit_at mask y) 1))
           | inr ne ↦
               ap (λ b. has (variables n) y && eqb b 1) (bits.1 y ne)
-              ∙ sym (ap (λ b. (has (variables n) y && eqb (bit_at mask y) 1) && not b) (ne_eqb x y (λ e. ne (sym e))) ∙ and-true (has (variables n) y && eqb (bit_at mask y) 1))
+              ∙ sym (ap (λ b. (has (variables n) y && eqb (bit_at mask y) 1) && not b) (ne_eqb x y (λ e. ne (sym e)))
+              ∙ and-true (has (variables n) y && eqb (bit_at mask y) 1))
         ]
 
 -- the mask of all variables
@@ -89,7 +91,8 @@ bit-mask_of [] d y = bit_at-zero y
 bit-mask_of (x ∷ xs) d y =
     let free : bit_at (mask_of xs) x ≡ 0 = bit-mask_of xs d.1 x ∙ ap (λ b. cond b 1 0) (absent_from_apart x xs d.0) in
     let added : bit_at (mask_of xs + 2 ^ x) y ≡ max (bit_at (mask_of xs) y) (bit_at (2 ^ x) y) =
-    ap (λ m. bit_at m y) (sym (or_disjoint (mask_of xs) (2 ^ x) (and_pow (mask_of xs) x ∙ ap (λ b. b * 2 ^ x) free ∙ zero-mul (2 ^ x)))) ∙ bit_at_or (mask_of xs) (2 ^ x) y in
+    ap (λ m. bit_at m y) (sym (or_disjoint (mask_of xs) (2 ^ x) (and_pow (mask_of xs) x ∙ ap (λ b. b * 2 ^ x) free ∙ zero-mul (2 ^ x))))
+    ∙ bit_at_or (mask_of xs) (2 ^ x) y in
     elim (cases_eq y x) [
       | inl e ↦
           let one : bit_at (2 ^ x) y ≡ 1 = ap (bit_at (2 ^ x)) e ∙ bit_at-pow_same x in
@@ -137,16 +140,20 @@ mask_of_small n xs d small =
     let whole : m / 2 ^ n * 2 ^ n + m % 2 ^ n ≡ m = ap (λ q. q + m % 2 ^ n) (mul_comm (m / 2 ^ n) (2 ^ n)) ∙ div-add-mod m (2 ^ n) in
     let same : m ≡ m % 2 ^ n = same_from_bits m (m % 2 ^ n) (λ y. elim (cases_lt y n) [
       | inl lt ↦ ap (λ k. bit_at k y) (sym whole) ∙ bit_at_cat_low (m / 2 ^ n) n (m % 2 ^ n) y lt
-      | inr le ↦ bit-mask_of xs d y ∙ ap (λ b. cond b 1 0) (false_from_ne_true (has xs y) (λ h. let s = small y h in omega arith)) ∙ sym (bit_at_above (m % 2 ^ n) n y r le)
+      | inr le ↦ bit-mask_of xs d y ∙ ap (λ b. cond b 1 0) (false_from_ne_true (has xs y) (λ h. let s = small y h in omega arith))
+          ∙ sym (bit_at_above (m % 2 ^ n) n y r le)
     ]) in
     omega arith
 
 -- the mask of the members of a mask
 pub mask_of_members : (n mask : ℕ) → mask < 2 ^ n → mask_of (members n mask) ≡ mask
 mask_of_members n mask lt =
-    same_from_bits (mask_of (members n mask)) mask (λ y. bit-mask_of (members n mask) (distinct_members n mask) y ∙ ap (λ b. cond b 1 0) (has_members n mask y) ∙ elim (cases_lt y n) [
+    same_from_bits (mask_of (members n mask)) mask
+    (λ y. bit-mask_of (members n mask) (distinct_members n mask) y ∙ ap (λ b. cond b 1 0) (has_members n mask y) ∙ elim (cases_lt y n) [
       | inl low ↦ ap (λ b. cond (b && eqb (bit_at mask y) 1) 1 0) ((has_variables n y).1 low) ∙ one (bit_at mask y) (bit_at-lt mask y)
-      | inr high ↦ ap (λ b. cond (b && eqb (bit_at mask y) 1) 1 0) (false_from_ne_true (has (variables n) y) (λ h. let s = (has_variables n y).0 h in omega arith)) ∙ sym (bit_at_above mask n y lt high)
+      | inr high ↦ ap (λ b. cond (b && eqb (bit_at mask y) 1) 1 0)
+          (false_from_ne_true (has (variables n) y) (λ h. let s = (has_variables n y).0 h in omega arith))
+          ∙ sym (bit_at_above mask n y lt high)
     ])
   where
     one : (b : ℕ) → b < 2 → cond (eqb b 1) 1 0 ≡ b
@@ -159,11 +166,14 @@ pub members_small : (n mask y : ℕ) → has (members n mask) y ≡ true → y <
 members_small n mask y h = (has_variables n y).0 (and_parts (has (variables n) y) (eqb (bit_at mask y) 1) (sym (has_members n mask y) ∙ h)).0
 
 -- a mask with one more variable
-pub mask_with : (n mask x : ℕ) → mask < 2 ^ n → x < n → has (members n mask) x ≡ false → (mask + 2 ^ x < 2 ^ n) × ((y : ℕ) → has (members n (mask + 2 ^ x)) y ≡ has (x ∷ members n mask) y)
+pub mask_with : (n mask x : ℕ) → mask < 2 ^ n → x < n → has (members n mask) x ≡ false →
+    (mask + 2 ^ x < 2 ^ n) × ((y : ℕ) → has (members n (mask + 2 ^ x)) y ≡ has (x ∷ members n mask) y)
 unfolding mask_of IsDistinct
 mask_with n mask x lt small out =
     let d : IsDistinct nat_eq (x ∷ members n mask) = (apart_from_absent x (members n mask) out, distinct_members n mask) in
-    let low : (y : ℕ) → has (x ∷ members n mask) y ≡ true → y < n = λ y h. elim (or_cases (nat_eq y x) (has (members n mask) y) h) [ inl e ↦ let s = eqb-true y x e in omega arith | inr r ↦ members_small n mask y r ] in
+    let low : (y : ℕ) → has (x ∷ members n mask) y ≡ true → y < n =
+    λ y h. elim (or_cases (nat_eq y x) (has (members n mask) y) h)
+    [ inl e ↦ let s = eqb-true y x e in omega arith | inr r ↦ members_small n mask y r ] in
     let same : mask_of (members n mask) + 2 ^ x ≡ mask + 2 ^ x = ap (λ m. m + 2 ^ x) (mask_of_members n mask lt) in
     let a = mask_of_small n (x ∷ members n mask) d low in
     (omega arith, λ y. ap (λ m. has (members n m) y) (sym same) ∙ members_mask_of n (x ∷ members n mask) d low y)

@@ -13,7 +13,8 @@ bit_length (suc zero) k xs x h e = omega arith
 bit_length (suc (suc b)) k xs x h e = absurd (omega arith)
 
 next_power : (a m : ℕ) → m / 2 ^ (a + 1) ≡ m / 2 ^ a / 2
-next_power a m = ap (λ d. m / d) (let t = two-pow-succ a in let s : 2 ^ (a + 1) ≡ 2 ^ suc a = ap (λ k. 2 ^ k) (omega arith) in omega arith) ∙ sym (div-div-eq-div-mul m (2 ^ a) 2)
+next_power a m = ap (λ d. m / d) (let t = two-pow-succ a in let s : 2 ^ (a + 1) ≡ 2 ^ suc a = ap (λ k. 2 ^ k) (omega arith) in omega arith)
+    ∙ sym (div-div-eq-div-mul m (2 ^ a) 2)
 
 -- the set bits from bit a on
 ones_from : (k a m : ℕ) → m / 2 ^ a < 2 ^ k → length (filter (λ x. eqb (bit_at m x) 1) (range_with_len a k)) ≡ count_ones (m / 2 ^ a)

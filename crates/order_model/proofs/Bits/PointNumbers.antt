@@ -125,7 +125,8 @@ module _ (n k x : ℕ) (h : k < 2 ^ n) (small : x < n) (off : bit_at k x ≡ zer
       let u = at_upper in
       omega arith
 
-  same_there : (t : List Bool) → SameFunction n (restrict x false (from_table t)) (restrict x true (from_table t)) → get_or t k false ≡ get_or t (k + 2 ^ x) false
+  same_there : (t : List Bool) → SameFunction n (restrict x false (from_table t)) (restrict x true (from_table t)) →
+      get_or t k false ≡ get_or t (k + 2 ^ x) false
   unfolding SameFunction restrict from_table
   same_there t s =
       ap (λ z. get_or t z false) (sym (ap number at_lower ∙ at_number)) ∙ s at at_long ∙ ap (λ z. get_or t z false) at_upper
@@ -139,11 +140,14 @@ module _ (n k x : ℕ) (h : k < 2 ^ n) (small : x < n) (off : bit_at k x ≡ zer
       by false e = absurd (ne (same_there t (depends_no n (from_table t) x e)))
 
 -- where there is no dependence, points that differ in x alone have one value
-pub table_same_values : (n : ℕ) (t : List Bool) (x k : ℕ) → x < n → depends n (from_table t) x ≡ false → k < 2 ^ n → bit_at k x ≡ zero → get_or t k false ≡ get_or t (k + 2 ^ x) false
+pub table_same_values : (n : ℕ) (t : List Bool) (x k : ℕ) → x < n → depends n (from_table t) x ≡ false → k < 2 ^ n → bit_at k x ≡ zero →
+    get_or t k false ≡ get_or t (k + 2 ^ x) false
 table_same_values n t x k small e h off = same_there n k x h small off t (depends_no n (from_table t) x e)
 
 -- where no such two points differ, there is no dependence
-pub table_independent : (n : ℕ) (t : List Bool) (x : ℕ) → x < n → ((k : ℕ) → k < 2 ^ n → bit_at k x ≡ zero → k + 2 ^ x < 2 ^ n → get_or t k false ≡ get_or t (k + 2 ^ x) false) → depends n (from_table t) x ≡ false
+pub table_independent : (n : ℕ) (t : List Bool) (x : ℕ) → x < n →
+    ((k : ℕ) → k < 2 ^ n → bit_at k x ≡ zero → k + 2 ^ x < 2 ^ n → get_or t k false ≡ get_or t (k + 2 ^ x) false) →
+    depends n (from_table t) x ≡ false
 unfolding SameFunction restrict from_table
 table_independent n t x small h = depends_false n (from_table t) x (λ p l.
     let lower = number-small (set p x false) in
@@ -153,5 +157,6 @@ table_independent n t x small h = depends_false n (from_table t) x (λ p l.
     let lower' : number (set p x false) < 2 ^ n = subst (λ (z : ℕ). number (set p x false) < 2 ^ z) ll lower in
     let upper' : number (set p x true) < 2 ^ n = subst (λ (z : ℕ). number (set p x true) < 2 ^ z) lu upper in
     let raised = number-raised p x (omega arith) in
-    let off : bit_at (number (set p x false)) x ≡ zero = bit-number (set p x false) x (omega arith) ∙ ap weight (get_or-set_same p x false false (omega arith)) in
+    let off : bit_at (number (set p x false)) x ≡ zero = bit-number (set p x false) x (omega arith)
+    ∙ ap weight (get_or-set_same p x false false (omega arith)) in
     h (number (set p x false)) lower' off (omega arith) ∙ ap (λ z. get_or t z false) (sym raised))

@@ -48,15 +48,21 @@ pub value_of : (n m : ℕ) (words : List ℕ) (j k : ℕ) → j < m → k < 2 ^ 
     get_or (get_or (tables_of n m words) j []) k false ≡ eqb (bit_at (get_or words (j * words_per_table n + k / 64) 0) (k % 64)) 1
 value_of n m words j k h within =
     ap (λ t. get_or t k false) (table_of n m words j h) ∙ in_table
-    ∙ ap (λ z. eqb (bit_at z (k % 64)) 1) (get_or-take (words_per_table n) (drop (j * words_per_table n) words) (k / 64) 0 (point_inside n k within) ∙ get_or-drop (j * words_per_table n) words (k / 64) 0)
+    ∙ ap (λ z. eqb (bit_at z (k % 64)) 1)
+    (get_or-take (words_per_table n) (drop (j * words_per_table n) words) (k / 64) 0 (point_inside n k within)
+    ∙ get_or-drop (j * words_per_table n) words (k / 64) 0)
   where
     in_table : get_or (table_in n (words_of (words_per_table n) words j)) k false ≡ packed_bit (words_of (words_per_table n) words j) k
     in_table = table_value n (words_of (words_per_table n) words j) k within
 
 -- tables with the values of others
 pub same_tables : (n m : ℕ) (words : List ℕ) (ts : List (List Bool)) → length ts ≡ m → ((j : ℕ) → j < m → length (get_or ts j []) ≡ 2 ^ n) →
-    ((j k : ℕ) → j < m → k < 2 ^ n → eqb (bit_at (get_or words (j * words_per_table n + k / 64) 0) (k % 64)) 1 ≡ get_or (get_or ts j []) k false) → tables_of n m words ≡ ts
-same_tables n m words ts l ls h = ext_get_or [] (tables_of n m words) ts (length-tables_of n m words ∙ sym l) (λ j b. one j (subst (λ (z : ℕ). j < z) (length-tables_of n m words) b))
+    ((j k : ℕ) → j < m → k < 2 ^ n →
+    eqb (bit_at (get_or words (j * words_per_table n + k / 64) 0) (k % 64)) 1 ≡ get_or (get_or ts j []) k false) →
+    tables_of n m words ≡ ts
+same_tables n m words ts l ls h =
+    ext_get_or [] (tables_of n m words) ts (length-tables_of n m words ∙ sym l)
+    (λ j b. one j (subst (λ (z : ℕ). j < z) (length-tables_of n m words) b))
   where
     long : (j : ℕ) → j < m → length (get_or (tables_of n m words) j []) ≡ 2 ^ n
     long j b = ap length (table_of n m words j b) ∙ length-table_in n (words_of (words_per_table n) words j)
@@ -65,7 +71,9 @@ same_tables n m words ts l ls h = ext_get_or [] (tables_of n m words) ts (length
     one j b = ext_get_or false _ _ (long j b ∙ sym (ls j b)) (λ k c. let c' = subst (λ (z : ℕ). k < z) (long j b) c in value_of n m words j k b c' ∙ h j k b c')
 
 pub tables_of_zeros : (n m : ℕ) → tables_of n m (replicate (m * words_per_table n) 0) ≡ replicate m (replicate (2 ^ n) false)
-tables_of_zeros n m = same_tables n m _ _ (length-replicate m _) (λ j b. ap length (get_or-replicate m j (replicate (2 ^ n) false) [] b) ∙ length-replicate (2 ^ n) false)
+tables_of_zeros n m =
+    same_tables n m _ _ (length-replicate m _)
+    (λ j b. ap length (get_or-replicate m j (replicate (2 ^ n) false) [] b) ∙ length-replicate (2 ^ n) false)
     (λ j k b c.
     let p = point_inside n k c in
     let q = block_inside (words_per_table n) m j b in
@@ -104,7 +112,8 @@ module _ (n m : ℕ) (words : List ℕ) (output point : ℕ) (inside : output < 
 
   module _ (word : ℕ) (read : word ≡ get_or words (output * words_per_table n + point / 64) 0) where
     bit_changed : (j k : ℕ) → j < m → k < 2 ^ n → (j ≡ output → k ≢ point) →
-        eqb (bit_at (get_or (changed word) (j * words_per_table n + k / 64) 0) (k % 64)) 1 ≡ eqb (bit_at (get_or words (j * words_per_table n + k / 64) 0) (k % 64)) 1
+        eqb (bit_at (get_or (changed word) (j * words_per_table n + k / 64) 0) (k % 64)) 1 ≡ eqb
+        (bit_at (get_or words (j * words_per_table n + k / 64) 0) (k % 64)) 1
     bit_changed j k b c ne = elim (cases_eq (j * words_per_table n + k / 64) (output * words_per_table n + point / 64)) [
       | inr other ↦ ap (λ z. eqb (bit_at z (k % 64)) 1) (get_or-set_other words (output * words_per_table n + point / 64) _ _ 0 other)
       | inl e ↦
@@ -113,7 +122,8 @@ module _ (n m : ℕ) (words : List ℕ) (output point : ℕ) (inside : output < 
           let i : j ≡ output = apart (words_per_table n) j output (k / 64) (point / 64) p q e in
           let f : k / 64 ≡ point / 64 = omega (arith, ap (λ z. z * words_per_table n) i) in
           let d : k % 64 ≢ point % 64 = λ g. ne i (omega arith) in
-          ap (λ z. eqb (bit_at z (k % 64)) 1) (ap (λ z. get_or (changed word) z 0) e ∙ get_or-set_same words (output * words_per_table n + point / 64) _ 0 place_inside)
+          ap (λ z. eqb (bit_at z (k % 64)) 1)
+          (ap (λ z. get_or (changed word) z 0) e ∙ get_or-set_same words (output * words_per_table n + point / 64) _ 0 place_inside)
           ∙ ap (λ z. eqb z 1) (elsewhere word (k % 64) d ∙ ap (λ z. bit_at z (k % 64)) (read ∙ ap (λ z. get_or words z 0) (sym e)))
     ]
 
@@ -136,17 +146,20 @@ module _ (n m : ℕ) (words : List ℕ) (output point : ℕ) (inside : output < 
       where
         lengths : (j : ℕ) → j < m → length (get_or target j []) ≡ 2 ^ n
         lengths j b = elim (cases_eq j output) [
-          | inl e ↦ ap (λ z. length (get_or target z [])) e ∙ ap length row_same ∙ length-set (get_or (tables_of n m words) output []) point true ∙ row_long output inside
+          | inl e ↦ ap (λ z. length (get_or target z [])) e ∙ ap length row_same
+              ∙ length-set (get_or (tables_of n m words) output []) point true ∙ row_long output inside
           | inr ne ↦ ap length (row_other j ne) ∙ row_long j b
         ]
 
-        values : (j k : ℕ) → j < m → k < 2 ^ n → eqb (bit_at (get_or (changed word) (j * words_per_table n + k / 64) 0) (k % 64)) 1 ≡ get_or (get_or target j []) k false
+        values : (j k : ℕ) → j < m → k < 2 ^ n →
+            eqb (bit_at (get_or (changed word) (j * words_per_table n + k / 64) 0) (k % 64)) 1 ≡ get_or (get_or target j []) k false
         values j k b c = elim (cases_eq j output) [
           | inr ne ↦ bit_changed j k b c (λ e _. ne e) ∙ sym (value_of n m words j k b c) ∙ sym (ap (λ t. get_or t k false) (row_other j ne))
           | inl e ↦ elim (cases_eq k point) [
             | inr other ↦
                 bit_changed j k b c (λ _. other) ∙ sym (value_of n m words j k b c) ∙ ap (λ z. get_or (get_or (tables_of n m words) z []) k false) e
-                ∙ sym (get_or-set_other (get_or (tables_of n m words) output []) point k true false other) ∙ sym (ap (λ t. get_or t k false) (ap (λ z. get_or target z []) e ∙ row_same))
+                ∙ sym (get_or-set_other (get_or (tables_of n m words) output []) point k true false other)
+                ∙ sym (ap (λ t. get_or t k false) (ap (λ z. get_or target z []) e ∙ row_same))
             | inl f ↦
                 ap (λ z. eqb (bit_at (get_or (changed word) (z * words_per_table n + k / 64) 0) (k % 64)) 1) e
                 ∙ ap (λ z. eqb (bit_at (get_or (changed word) (output * words_per_table n + z / 64) 0) (z % 64)) 1) f
@@ -161,7 +174,8 @@ module _ (n m : ℕ) (words : List ℕ) (output point : ℕ) (inside : output < 
     pub clean_set : IsClean n words → IsClean n (changed word)
     clean_set clean i b h big = elim (cases_eq i (output * words_per_table n + point / 64)) [
       | inl e ↦
-          ap (λ z. bit_at (get_or (changed word) z 0) b) e ∙ ap (λ z. bit_at z b) (get_or-set_same words (output * words_per_table n + point / 64) _ 0 place_inside)
+          ap (λ z. bit_at (get_or (changed word) z 0) b) e
+          ∙ ap (λ z. bit_at z b) (get_or-set_same words (output * words_per_table n + point / 64) _ 0 place_inside)
           ∙ elsewhere word b (omega arith) ∙ ap (λ z. bit_at z b) read ∙ clean (output * words_per_table n + point / 64) b place_inside big
       | inr ne ↦
           let l = length-set words (output * words_per_table n + point / 64) (bit_or word (1 * 2 ^ (point % 64) % 18446744073709551616)) in
@@ -182,7 +196,10 @@ module _ (n m : ℕ) (words : List ℕ) (output point : ℕ) (inside : output < 
 module _ (n m : ℕ) (words : List ℕ) (packed : IsPacked n m words) where
   -- table j is the block of its words
   abbrev BlockFacts : ℕ → TruthTables → ℕ → Type 0
-  BlockFacts size t j = j < outputs_of t → (j * size + size ≤ length words) × (table_in t.inputs (words_of size words j) ≡ table_at t j) × (length (words_of size words j) ≡ words_per_table t.inputs)
+  BlockFacts size t j =
+      j < outputs_of t →
+      (j * size + size ≤ length words) × (table_in t.inputs (words_of size words j) ≡ table_at t j)
+      × (length (words_of size words j) ≡ words_per_table t.inputs)
       × IsClean t.inputs (words_of size words j)
 
   block_long : (j : ℕ) → j < m → length (words_of (words_per_table n) words j) ≡ words_per_table n
@@ -212,9 +229,12 @@ module _ (n m : ℕ) (words : List ℕ) (packed : IsPacked n m words) where
 
   -- one value made 1
   abbrev SetFacts : ℕ → TruthTables → ℕ → ℕ → Type 0
-  SetFacts size t output point = output < outputs_of t → point < 2 ^ t.inputs → (output * size + point / 64 < length words) × ((word : ℕ) → word ≡ get_or words (output * size + point / 64) 0 →
+  SetFacts size t output point =
+      output < outputs_of t → point < 2 ^ t.inputs →
+      (output * size + point / 64 < length words) × ((word : ℕ) → word ≡ get_or words (output * size + point / 64) 0 →
       IsPacked n m (set words (output * size + point / 64) (bit_or word (1 * 2 ^ (point % 64) % 18446744073709551616)))
-      × (tables_of n m (set words (output * size + point / 64) (bit_or word (1 * 2 ^ (point % 64) % 18446744073709551616))) ≡ set t.tables output (set (table_at t output) point true)))
+      × (tables_of n m (set words (output * size + point / 64) (bit_or word (1 * 2 ^ (point % 64) % 18446744073709551616))) ≡ set t.tables
+      output (set (table_at t output) point true)))
 
   set_here : (output point : ℕ) → SetFacts (words_per_table n) (packed_tables n m words) output point
   set_here output point h k =
@@ -226,22 +246,28 @@ module _ (n m : ℕ) (words : List ℕ) (packed : IsPacked n m words) where
       )
 
   pub set_facts : (size : ℕ) (t : TruthTables) (output point : ℕ) → size ≡ words_per_table n → packed_tables n m words ≡ t → SetFacts size t output point
-  set_facts size t output point e v = subst (λ (s : ℕ). SetFacts s t output point) (sym e) (subst (λ (u : TruthTables). SetFacts (words_per_table n) u output point) v (set_here output point))
+  set_facts size t output point e v =
+      subst (λ (s : ℕ). SetFacts s t output point) (sym e)
+      (subst (λ (u : TruthTables). SetFacts (words_per_table n) u output point) v (set_here output point))
 
 -- ---- whether some function depends on a variable
 
-pub some_depends : (t : TruthTables) (x j : ℕ) → j < outputs_of t → depends t.inputs (from_table (table_at t j)) x ≡ true → list_any (λ f. depends t.inputs f x) (functions t) ≡ true
+pub some_depends : (t : TruthTables) (x j : ℕ) → j < outputs_of t → depends t.inputs (from_table (table_at t j)) x ≡ true →
+    list_any (λ f. depends t.inputs f x) (functions t) ≡ true
 some_depends t x j h e = go t.tables j h e
   where
-    go : (ts : List (List Bool)) (i : ℕ) → i < length ts → depends t.inputs (from_table (get_or ts i [])) x ≡ true → list_any (λ f. depends t.inputs f x) (map from_table ts) ≡ true
+    go : (ts : List (List Bool)) (i : ℕ) → i < length ts → depends t.inputs (from_table (get_or ts i [])) x ≡ true →
+        list_any (λ f. depends t.inputs f x) (map from_table ts) ≡ true
     go [] i h e = absurd (omega arith)
     go (u ∷ ts) zero h e = ap (λ b. b || list_any (λ f. depends t.inputs f x) (map from_table ts)) e
     go (u ∷ ts) (suc i) h e = ap (λ b. depends t.inputs (from_table u) x || b) (go ts i (omega arith) e) ∙ or-true (depends t.inputs (from_table u) x)
 
-pub none_depends : (t : TruthTables) (x : ℕ) → ((j : ℕ) → j < outputs_of t → depends t.inputs (from_table (table_at t j)) x ≡ false) → list_any (λ f. depends t.inputs f x) (functions t) ≡ false
+pub none_depends : (t : TruthTables) (x : ℕ) → ((j : ℕ) → j < outputs_of t → depends t.inputs (from_table (table_at t j)) x ≡ false) →
+    list_any (λ f. depends t.inputs f x) (functions t) ≡ false
 none_depends t x h = go t.tables h
   where
-    go : (ts : List (List Bool)) → ((j : ℕ) → j < length ts → depends t.inputs (from_table (get_or ts j [])) x ≡ false) → list_any (λ f. depends t.inputs f x) (map from_table ts) ≡ false
+    go : (ts : List (List Bool)) → ((j : ℕ) → j < length ts → depends t.inputs (from_table (get_or ts j [])) x ≡ false) →
+        list_any (λ f. depends t.inputs f x) (map from_table ts) ≡ false
     go [] k = refl
     go (u ∷ ts) k = ap (λ b. b || list_any (λ f. depends t.inputs f x) (map from_table ts)) (k zero (omega arith)) ∙ go ts (λ j l. k (suc j) (omega arith))
 
@@ -259,7 +285,8 @@ module _ (test : ℕ → Bool) (i mask : ℕ) (small : i < 16) (m : MaskOfFirst 
   pub mask_with_next : test i ≡ true → MaskOfFirst test (i + 1) (bit_or mask (1 * 2 ^ i % 65536))
   mask_with_next e = record {
     below = λ y h. elim (cases_eq y i) [
-      | inl f ↦ ap (λ z. bit_at (bit_or mask (1 * 2 ^ i % 65536)) z) f ∙ bit_at_set_same w16 mask i small ∙ sym (ap (λ z. cond (test z) 1 0) f ∙ ap (λ b. cond b 1 0) e)
+      | inl f ↦ ap (λ z. bit_at (bit_or mask (1 * 2 ^ i % 65536)) z) f ∙ bit_at_set_same w16 mask i small
+          ∙ sym (ap (λ z. cond (test z) 1 0) f ∙ ap (λ b. cond b 1 0) e)
       | inr ne ↦ bit_at_set_other w16 mask i small y ne ∙ m.below y (omega arith)
     ];
     above = λ y h. bit_at_set_other w16 mask i small y (omega arith) ∙ m.above y (omega arith);

@@ -137,7 +137,8 @@ module _ (n x : ℕ) (words : List ℕ) (low : x < 6) (small : x < n) (long : le
       ap (packed_bit words) e ∙ value_at_word words i (b + 2 ^ x) h
 
   -- a bit of a clean word that is not after the last point
-  inside : IsClean n words → (i b : ℕ) → i < length words → b + 2 ^ x < 64 → (bit_at (get_or words i 0) b ≡ bit_at (get_or words i 0) (b + 2 ^ x) → ⊥) → 64 * i + b < 2 ^ n
+  inside : IsClean n words → (i b : ℕ) → i < length words → b + 2 ^ x < 64 →
+      (bit_at (get_or words i 0) b ≡ bit_at (get_or words i 0) (b + 2 ^ x) → ⊥) → 64 * i + b < 2 ^ n
   inside clean i b h room ne = elim (whole_words n) [
     | inl w ↦
         let l = long ∙ w.2 in
@@ -151,7 +152,8 @@ module _ (n x : ℕ) (words : List ℕ) (low : x < 6) (small : x < n) (long : le
     ]
   ]
 
-  pub halves_depend : IsClean n words → (i b : ℕ) → i < length words → b + 2 ^ x < 64 → bit_at b x ≡ 0 → (bit_at (get_or words i 0) b ≡ bit_at (get_or words i 0) (b + 2 ^ x) → ⊥) →
+  pub halves_depend : IsClean n words → (i b : ℕ) → i < length words → b + 2 ^ x < 64 → bit_at b x ≡ 0 →
+      (bit_at (get_or words i 0) b ≡ bit_at (get_or words i 0) (b + 2 ^ x) → ⊥) →
       depends n (from_table (table_in n words)) x ≡ true
   halves_depend clean i b h room off ne =
       let k = inside clean i b h room ne in
@@ -159,7 +161,8 @@ module _ (n x : ℕ) (words : List ℕ) (low : x < 6) (small : x < n) (long : le
       table_depends n (64 * i + b) x k small o (table_in n words) (λ e.
       let above = room_above n (64 * i + b) x k small o in
       ne (same_bit _ _ (bit_at-lt _ b) (bit_at-lt _ (b + 2 ^ x))
-      (sym (value_at_word words i b (omega arith)) ∙ sym (table_value n words (64 * i + b) k) ∙ e ∙ table_value n words (64 * i + b + 2 ^ x) above ∙ value_above i b room)))
+      (sym (value_at_word words i b (omega arith)) ∙ sym (table_value n words (64 * i + b) k) ∙ e
+      ∙ table_value n words (64 * i + b + 2 ^ x) above ∙ value_above i b room)))
 
   count_enough : 2 ^ n ≤ 64 * length words
   count_enough = elim (whole_words n) [

@@ -28,7 +28,9 @@ module _ (word x lower : ℕ) (small : x < 6) (low : (b : ℕ) → b < 64 → bi
   masked = bit_and (bit_xor (word / 2 ^ (2 ^ x)) word) lower
 
   masked_bit : (b : ℕ) → bit_at masked b ≡ min ((bit_at word (b + 2 ^ x) + bit_at word b) % 2) (bit_at lower b)
-  masked_bit b = bit_at_and _ lower b ∙ ap (λ z. min z (bit_at lower b)) (bit_at_xor (word / 2 ^ (2 ^ x)) word b ∙ ap (λ z. (z + bit_at word b) % 2) (shifted_bit word (2 ^ x) b))
+  masked_bit b = bit_at_and _ lower b
+      ∙ ap (λ z. min z (bit_at lower b))
+      (bit_at_xor (word / 2 ^ (2 ^ x)) word b ∙ ap (λ z. (z + bit_at word b) % 2) (shifted_bit word (2 ^ x) b))
 
   both_from_min : (a b : ℕ) → a < 2 → b < 2 → min a b ≡ suc zero → (a ≡ suc zero) × (b ≡ suc zero)
   both_from_min a b h k e = (omega arith, omega arith)

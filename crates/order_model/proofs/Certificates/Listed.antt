@@ -13,10 +13,14 @@ use Rattle.order_model.proofs.Widths.Cells.{within_from, cost_open, cost_known}
 
 module _ (n : ℕ) (F : List Function) (P : List Pair) (bound total : ℕ) (le : total ≤ bound) where
   -- a listed set's cost is its cell's
-  pub listed_cost : (mask : ℕ) → is_lawful P (members n mask) ≡ true → least n F P (members n mask) + essentials_outside n F (members n mask) ≤ bound → cell_cost n F P bound mask ≡ least n F P (members n mask)
+  pub listed_cost : (mask : ℕ) → is_lawful P (members n mask) ≡ true →
+      least n F P (members n mask) + essentials_outside n F (members n mask) ≤ bound →
+      cell_cost n F P bound mask ≡ least n F P (members n mask)
   listed_cost mask l h = cost_open n F P bound mask (within_from n F P bound (members n mask) l h)
 
-  pub listed_test : (mask : ℕ) → (is_lawful P (members n mask) && ltb (least n F P (members n mask) + essentials_outside n F (members n mask)) total) ≡ ltb (cell_cost n F P bound mask + essentials_outside n F (members n mask)) total
+  pub listed_test : (mask : ℕ) →
+      (is_lawful P (members n mask) && ltb (least n F P (members n mask) + essentials_outside n F (members n mask)) total) ≡ ltb
+      (cell_cost n F P bound mask + essentials_outside n F (members n mask)) total
   listed_test mask =
       same_bool _ _
       (λ h.
@@ -30,6 +34,7 @@ module _ (n : ℕ) (F : List Function) (P : List Pair) (bound total : ℕ) (le :
       let e = known.1 in
       and_from _ _ known.0 (lt-ltb (least n F P (members n mask) + essentials_outside n F (members n mask)) total (omega arith)))
 
-  pub listed_by_cells : listed_masks n F P total ≡ filter (λ mask. ltb (cell_cost n F P bound mask + essentials_outside n F (members n mask)) total) (range_with_len 0 (2 ^ n - 1))
+  pub listed_by_cells : listed_masks n F P total ≡ filter
+      (λ mask. ltb (cell_cost n F P bound mask + essentials_outside n F (members n mask)) total) (range_with_len 0 (2 ^ n - 1))
   unfolding listed_masks
   listed_by_cells = λ i. filter (λ mask. listed_test mask i) (range_with_len 0 (2 ^ n - 1))

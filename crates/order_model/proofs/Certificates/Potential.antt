@@ -31,14 +31,17 @@ pub all_among : {X : Type 0} (P : X → Type 0) (xs : List X) (x : X) → AllByR
 all_among P [] x a h = absurd h
 all_among P (y ∷ xs) x a h = elim h [ inl e ↦ subst P (sym e) a.0 | inr r ↦ all_among P xs x a.1 r ]
 
-find_cases : {X : Type 0} (p : X → Bool) (xs : List X) → ((find p xs ≡ None) × ((x : X) → Among x xs → p x ≡ false)) ⊎ ((x : X) × Among x xs × (p x ≡ true) × (find p xs ≡ Some x))
+find_cases : {X : Type 0} (p : X → Bool) (xs : List X) →
+    ((find p xs ≡ None) × ((x : X) → Among x xs → p x ≡ false)) ⊎ ((x : X) × Among x xs × (p x ≡ true) × (find p xs ≡ Some x))
 find_cases p [] = inl (refl, λ x m. absurd m)
 find_cases {X} p (x ∷ xs) = by (p x) refl (find_cases p xs)
   where
     Cases : Option X → Type 0
     Cases o = ((o ≡ None) × ((z : X) → (z ≡ x) ⊎ Among z xs → p z ≡ false)) ⊎ ((z : X) × ((z ≡ x) ⊎ Among z xs) × (p z ≡ true) × (o ≡ Some z))
 
-    by : (b : Bool) → p x ≡ b → ((find p xs ≡ None) × ((z : X) → Among z xs → p z ≡ false)) ⊎ ((z : X) × Among z xs × (p z ≡ true) × (find p xs ≡ Some z)) → Cases (cond b (Some x) (find p xs))
+    by : (b : Bool) → p x ≡ b →
+        ((find p xs ≡ None) × ((z : X) → Among z xs → p z ≡ false)) ⊎ ((z : X) × Among z xs × (p z ≡ true) × (find p xs ≡ Some z)) →
+        Cases (cond b (Some x) (find p xs))
     by true e r = inr (x, inl refl, e, refl)
     by false e r = elim r [ inl n ↦ inl (n.0, λ z m. elim m [ inl s ↦ ap p s ∙ e | inr k ↦ n.1 z k ]) | inr s ↦ inr (s.0, inr s.1, s.2, s.3) ]
 
@@ -56,13 +59,20 @@ value_cases n F cert m = by (nat_eq m (2 ^ cert.inputs - 1)) refl (find_cases (�
     found = find (λ (c : Cell). nat_eq c.mask m) cert.cells
 
     by : (b : Bool) → nat_eq m (2 ^ cert.inputs - 1) ≡ b →
-        ((found ≡ None) × ((c : Cell) → Among c cert.cells → nat_eq c.mask m ≡ false)) ⊎ ((c : Cell) × Among c cert.cells × (nat_eq c.mask m ≡ true) × (found ≡ Some c)) →
-        ((m ≡ 2 ^ cert.inputs - 1) × (cond b cert.total (cost_of found) ≡ cert.total)) ⊎ ((c : Cell) × Among c cert.cells × (c.mask ≡ m) × (cond b cert.total (cost_of found) ≡ c.cost))
+        ((found ≡ None) × ((c : Cell) → Among c cert.cells → nat_eq c.mask m ≡ false)) ⊎
+        ((c : Cell) × Among c cert.cells × (nat_eq c.mask m ≡ true) × (found ≡ Some c)) →
+        ((m ≡ 2 ^ cert.inputs - 1) × (cond b cert.total (cost_of found) ≡ cert.total)) ⊎
+        ((c : Cell) × Among c cert.cells × (c.mask ≡ m) × (cond b cert.total (cost_of found) ≡ c.cost))
         ⊎ (((c : Cell) → Among c cert.cells → c.mask ≢ m) × (m ≢ 2 ^ cert.inputs - 1) × (cond b cert.total (cost_of found) ≡ cert.total - reserve n F cert m))
     by true f r = inl (eqb-true m (2 ^ cert.inputs - 1) f, refl)
     by false f r =
         elim r [
-          | inl e ↦ inr (inr (λ c k s. true≢false (sym (eq-eqb c.mask m s) ∙ e.1 c k), λ s. true≢false (sym (eq-eqb m (2 ^ cert.inputs - 1) s) ∙ f), ap cost_of e.0))
+          | inl e ↦ inr
+              (inr (
+                λ c k s. true≢false (sym (eq-eqb c.mask m s) ∙ e.1 c k),
+                λ s. true≢false (sym (eq-eqb m (2 ^ cert.inputs - 1) s) ∙ f),
+                ap cost_of e.0,
+              ))
           | inr s ↦ inr (inl (s.0, s.1, eqb-true s.0.mask m s.2, ap cost_of s.3))
         ]
 
@@ -79,7 +89,8 @@ unfolding IsDistinct
 reserve_step n F cert x xs d small =
     by (nat_eq cert.format 1) (reserve_mask n F cert xs d.1 (λ y h. small y (or_right _ _ h))) (reserve_mask n F cert (x ∷ xs) d small)
   where
-    by : (b : Bool) → reserve n F cert (mask_of xs) ≡ cond b 0 (essentials_outside n F xs) → reserve n F cert (mask_of (x ∷ xs)) ≡ cond b 0 (essentials_outside n F (x ∷ xs)) →
+    by : (b : Bool) → reserve n F cert (mask_of xs) ≡ cond b 0 (essentials_outside n F xs) →
+        reserve n F cert (mask_of (x ∷ xs)) ≡ cond b 0 (essentials_outside n F (x ∷ xs)) →
         reserve n F cert (mask_of xs) ≤ reserve n F cert (mask_of (x ∷ xs)) + width n F xs x
     by true e f = omega arith
     by false e f = let s = essentials_step n F xs x (absent_from_apart x xs d.0) in omega arith
@@ -102,7 +113,9 @@ module _ (n : ℕ) (F : List Function) (cert : Certificate) (good : IsGood n F c
   unfolding Small
   value_le m =
       elim (value_cases n F cert m) [
-        | inl full ↦ let r : reserve n F cert m ≡ 0 = ap (reserve n F cert) (full.0 ∙ ap (λ k. 2 ^ k - 1) good.inputs) ∙ reserve_full n F cert in let e = full.1 in omega arith
+        | inl full ↦ let r : reserve n F cert m ≡ 0 = ap (reserve n F cert) (full.0 ∙ ap (λ k. 2 ^ k - 1) good.inputs)
+            ∙ reserve_full n F cert in
+            let e = full.1 in omega arith
         | inr r ↦ elim r [
           | inl s ↦
               let c = s.0 in
@@ -114,7 +127,8 @@ module _ (n : ℕ) (F : List Function) (cert : Certificate) (good : IsGood n F c
       ]
 
   -- one more variable costs at most its width, listed or not
-  edge : (below : List ℕ) (x : ℕ) → IsDistinct nat_eq (x ∷ below) → ((y : ℕ) → has (x ∷ below) y ≡ true → y < n) → is_lawful cert.pairs below ≡ true → is_lawful cert.pairs (x ∷ below) ≡ true →
+  edge : (below : List ℕ) (x : ℕ) → IsDistinct nat_eq (x ∷ below) → ((y : ℕ) → has (x ∷ below) y ≡ true → y < n) →
+      is_lawful cert.pairs below ≡ true → is_lawful cert.pairs (x ∷ below) ≡ true →
       set_value n F cert (mask_of (x ∷ below)) ≤ set_value n F cert (mask_of below) + width n F below x
   unfolding mask_of IsDistinct
   edge below x d small low high =
@@ -123,11 +137,13 @@ module _ (n : ℕ) (F : List Function) (cert : Certificate) (good : IsGood n F c
         | inr r ↦ elim r [
           | inl s ↦
               let c = s.0 in
-              let same : (y : ℕ) → has (members n c.mask) y ≡ has below y = λ y. ap (λ m. has (members n m) y) s.2 ∙ members_mask_of n below d.1 (λ z h. small z (or_right _ _ h)) y in
+              let same : (y : ℕ) → has (members n c.mask) y ≡ has below y = λ y. ap (λ m. has (members n m) y) s.2
+              ∙ members_mask_of n below d.1 (λ z h. small z (or_right _ _ h)) y in
               let w : width n F (members n c.mask) x ≡ width n F below x = width_same n F (members n c.mask) below x same in
               let lawful = lawful_same cert.pairs (members n c.mask) below same ∙ low in
               let lawful' = lawful_same cert.pairs (x ∷ members n c.mask) (x ∷ below) (λ y. ap (λ b. nat_eq y x || b) (same y)) ∙ high in
-              let step = all_among Edges cert.cells c (recursion_from_All Edges cert.cells good.edges) s.1 x (small x (or_left _ _ (eq-eqb x x refl))) (same x ∙ absent_from_apart x below d.0) (lawful, lawful') in
+              let step = all_among Edges cert.cells c (recursion_from_All Edges cert.cells good.edges) s.1 x
+              (small x (or_left _ _ (eq-eqb x x refl))) (same x ∙ absent_from_apart x below d.0) (lawful, lawful') in
               let there = ap (λ m. set_value n F cert (m + 2 ^ x)) s.2 in
               let here = ap (set_value n F cert) s.2 in
               omega arith
@@ -136,14 +152,16 @@ module _ (n : ℕ) (F : List Function) (cert : Certificate) (good : IsGood n F c
       ]
     where
       Edges : Cell → Type 0
-      Edges c = (x : ℕ) → x < n → IsFalse (has (members n c.mask) x) → AreBothLawful n cert.pairs c.mask x → set_value n F cert (c.mask + 2 ^ x) ≤ set_value n F cert c.mask + width n F (members n c.mask) x
+      Edges c = (x : ℕ) → x < n → IsFalse (has (members n c.mask) x) → AreBothLawful n cert.pairs c.mask x →
+          set_value n F cert (c.mask + 2 ^ x) ≤ set_value n F cert c.mask + width n F (members n c.mask) x
 
   empty_value : set_value n F cert (mask_of []) ≡ 0
   unfolding mask_of
   empty_value = good.start
 
   -- the value of a set is at most the cost of any lawful list of its variables
-  climb : (xs : List ℕ) → IsDistinct nat_eq xs → ((y : ℕ) → has xs y ≡ true → y < n) → are_lawful cert.pairs xs ≡ true → set_value n F cert (mask_of xs) ≤ cost n F xs
+  climb : (xs : List ℕ) → IsDistinct nat_eq xs → ((y : ℕ) → has xs y ≡ true → y < n) → are_lawful cert.pairs xs ≡ true →
+      set_value n F cert (mask_of xs) ≤ cost n F xs
   unfolding cost IsDistinct
   climb [] d small l = omega (arith, empty_value)
   climb (x ∷ xs) d small l =
@@ -153,18 +171,23 @@ module _ (n : ℕ) (F : List Function) (cert : Certificate) (good : IsGood n F c
       omega arith
 
 -- the total of a good certificate is at most the size of each order that keeps its pairs
-pub no_order_is_smaller : (n : ℕ) (F : List Function) (cert : Certificate) → IsGood n F cert → (order : List ℕ) → IsOrder n order → Keeps cert.pairs order → cert.total ≤ size_under n F order
+pub no_order_is_smaller : (n : ℕ) (F : List Function) (cert : Certificate) → IsGood n F cert → (order : List ℕ) → IsOrder n order →
+    Keeps cert.pairs order → cert.total ≤ size_under n F order
 unfolding set_value
 no_order_is_smaller n F cert good order o k =
     let all = climb n F cert good order o.once (λ y h. (o.all y).0 h) (lawful_from_order n cert.pairs order o k).lawful in
     let e = size_is_cost n F order o in
     let full = full_mask n order o in
     let total : set_value n F cert (mask_of order) ≡ cert.total =
-    ap (λ b. cond b cert.total (option_map_or (λ (c : Cell). c.cost) (find (λ (c : Cell). nat_eq c.mask (mask_of order)) cert.cells) (cert.total - reserve n F cert (mask_of order)))) (eq-eqb (mask_of order) (2 ^ cert.inputs - 1) (full ∙ ap (λ k. 2 ^ k - 1) (sym good.inputs))) in
+    ap (λ b. cond b cert.total
+    (option_map_or (λ (c : Cell). c.cost) (find (λ (c : Cell). nat_eq c.mask (mask_of order)) cert.cells)
+    (cert.total - reserve n F cert (mask_of order))))
+    (eq-eqb (mask_of order) (2 ^ cert.inputs - 1) (full ∙ ap (λ k. 2 ^ k - 1) (sym good.inputs))) in
     omega arith
 
 -- nor has any diagram of F fewer nodes, under any such order
-pub no_diagram_is_smaller : (n : ℕ) (F : List Function) (cert : Certificate) → IsGood n F cert → (order : List ℕ) (d : Graph) → IsOrder n order → Keeps cert.pairs order → Represents n F order d →
+pub no_diagram_is_smaller : (n : ℕ) (F : List Function) (cert : Certificate) → IsGood n F cert → (order : List ℕ) (d : Graph) →
+    IsOrder n order → Keeps cert.pairs order → Represents n F order d →
     cert.total ≤ length d.nodes
 no_diagram_is_smaller n F cert good order d o k rep =
     let a = no_order_is_smaller n F cert good order o k in
@@ -193,15 +216,18 @@ good_has_no_reason n F cert good Start a = a good.start
 good_has_no_reason n F cert good CellTooBig (c, at, lt) =
     let le = All-contains (λ (c : Cell). c.cost + reserve n F cert c.mask ≤ cert.total) cert.cells c good.cells at in omega arith
 good_has_no_reason n F cert good (Edge mask x) (c, at, e, small, out, lawful, lt) =
-    let le = All-contains Edges cert.cells c good.edges at x small (ap (λ m. has (members n m) x) e ∙ out) (ap (λ m. is_lawful cert.pairs (members n m)) e ∙ lawful.0, ap (λ m. is_lawful cert.pairs (x ∷ members n m)) e ∙ lawful.1) in
+    let le = All-contains Edges cert.cells c good.edges at x small (ap (λ m. has (members n m) x) e ∙ out)
+    (ap (λ m. is_lawful cert.pairs (members n m)) e ∙ lawful.0, ap (λ m. is_lawful cert.pairs (x ∷ members n m)) e ∙ lawful.1) in
     let here = ap (λ m. set_value n F cert m + width n F (members n m) x) e in
     let there = ap (λ m. set_value n F cert (m + 2 ^ x)) e in
     omega arith
   where
     Edges : Cell → Type 0
-    Edges c = (x : ℕ) → x < n → IsFalse (has (members n c.mask) x) → AreBothLawful n cert.pairs c.mask x → set_value n F cert (c.mask + 2 ^ x) ≤ set_value n F cert c.mask + width n F (members n c.mask) x
+    Edges c = (x : ℕ) → x < n → IsFalse (has (members n c.mask) x) → AreBothLawful n cert.pairs c.mask x →
+        set_value n F cert (c.mask + 2 ^ x) ≤ set_value n F cert c.mask + width n F (members n c.mask) x
 
 -- its order keeps its pairs, and has its total
-pub good_order : (n : ℕ) (F : List Function) (cert : Certificate) → IsGood n F cert → IsOrder n cert.order × Keeps cert.pairs cert.order × (size_under n F cert.order ≡ cert.total)
+pub good_order : (n : ℕ) (F : List Function) (cert : Certificate) → IsGood n F cert →
+    IsOrder n cert.order × Keeps cert.pairs cert.order × (size_under n F cert.order ≡ cert.total)
 unfolding size_under
 good_order n F cert good = (good.order, good.pairs, ap sum (sym good.levels) ∙ sym good.total)

@@ -46,14 +46,20 @@ module _ (n : ℕ) (F G : List Function) (s : AllSame n F G) where
 
   listed_same : (P : List Pair) (total : ℕ) → listed_masks n F P total ≡ listed_masks n G P total
   unfolding listed_masks
-  listed_same P total = λ i. filter (λ mask. is_lawful P (members n mask) && nat_lt (least_same P (members n mask) i + essentials_same (members n mask) i) total) (range_with_len 0 (2 ^ n - 1))
+  listed_same P total =
+      λ i. filter
+      (λ mask. is_lawful P (members n mask) && nat_lt (least_same P (members n mask) i + essentials_same (members n mask) i) total)
+      (range_with_len 0 (2 ^ n - 1))
 
   cell_same : (P : List Pair) (mask : ℕ) → least_listed n F P mask ≡ least_listed n G P mask
   unfolding least_listed
   cell_same P mask = λ i. record { mask = mask; cost = least_same P (members n mask) i }
 
-  cells_same : (P : List Pair) (order : List ℕ) → map (least_listed n F P) (listed_masks n F P (size_under n F order)) ≡ map (least_listed n G P) (listed_masks n G P (size_under n G order))
-  cells_same P order = (λ i. map (λ mask. cell_same P mask i) (listed_same P (size_under n F order) i)) ∙ ap (λ total. map (least_listed n G P) (listed_masks n G P total)) (size_same n F G s order)
+  cells_same : (P : List Pair) (order : List ℕ) →
+      map (least_listed n F P) (listed_masks n F P (size_under n F order)) ≡ map (least_listed n G P)
+      (listed_masks n G P (size_under n G order))
+  cells_same P order = (λ i. map (λ mask. cell_same P mask i) (listed_same P (size_under n F order) i))
+      ∙ ap (λ total. map (least_listed n G P) (listed_masks n G P total)) (size_same n F G s order)
 
   -- the certificate that the tool writes
   pub certificate_same : (P : List Pair) (order : List ℕ) → certificate_of n F P order ≡ certificate_of n G P order
@@ -76,7 +82,9 @@ module _ (n : ℕ) (F G : List Function) (s : AllSame n F G) where
   value_same : (cert : Certificate) (mask : ℕ) → set_value n F cert mask ≡ set_value n G cert mask
   unfolding set_value
   value_same cert mask = λ i.
-      cond (nat_eq mask (2 ^ cert.inputs - 1)) cert.total (option_map_or (λ (c : Cell). c.cost) (find (λ (c : Cell). nat_eq c.mask mask) cert.cells) (cert.total - reserve_same cert mask i))
+      cond (nat_eq mask (2 ^ cert.inputs - 1)) cert.total
+      (option_map_or (λ (c : Cell). c.cost) (find (λ (c : Cell). nat_eq c.mask mask) cert.cells)
+      (cert.total - reserve_same cert mask i))
 
   -- whether a certificate is good
   pub good_same : (cert : Certificate) → IsGood n F cert → IsGood n G cert
@@ -116,7 +124,8 @@ module _ (n : ℕ) (F G : List Function) (s : AllSame n F G) where
   )
 
 -- the first reason why a certificate is not good
-pub first_reason_same : (n : ℕ) (F G : List Function) (s : AllSame n F G) (cert : Certificate) (reason : Reason) → IsFirstReason n F cert reason → IsFirstReason n G cert reason
+pub first_reason_same : (n : ℕ) (F G : List Function) (s : AllSame n F G) (cert : Certificate) (reason : Reason) →
+    IsFirstReason n F cert reason → IsFirstReason n G cert reason
 first_reason_same n F G s cert reason h = record {
   applies = applies_same n F G s cert reason h.applies;
   first = λ other less a. h.first other less (applies_same n G F (turned n F G s) cert other a);

@@ -33,7 +33,8 @@ back x S T out h y = sym (has_without x T y ∙ ap (λ b. b && not (nat_eq x y))
     by =
         elim (cases_eq y x) [
           | inl e ↦ ap (λ b. (nat_eq y x || has S y) && not b) (eq-eqb x y (sym e)) ∙ last (nat_eq y x || has S y) ∙ sym (ap (has S) e ∙ out)
-          | inr ne ↦ ap (λ b. (b || has S y) && not (nat_eq x y)) (ne_eqb y x ne) ∙ ap (λ b. has S y && not b) (ne_eqb x y (λ e. ne (sym e))) ∙ and_true (has S y)
+          | inr ne ↦ ap (λ b. (b || has S y) && not (nat_eq x y)) (ne_eqb y x ne)
+              ∙ ap (λ b. has S y && not b) (ne_eqb x y (λ e. ne (sym e))) ∙ and_true (has S y)
         ]
       where
         last : (a : Bool) → (a && false) ≡ false
@@ -70,7 +71,8 @@ module _ (n : ℕ) (F : List Function) (P : List Pair) (order : List ℕ) (best 
   listed_parts m h =
       let test = λ (j : ℕ). is_lawful P (members n j) && ltb (least n F P (members n j) + essentials_outside n F (members n j)) (size_under n F order) in
       let parts = and_parts (has (range_with_len 0 (2 ^ n - 1)) m) (test m) (sym (has_filter test (range_with_len 0 (2 ^ n - 1)) m) ∙ h) in
-      let more = and_parts (is_lawful P (members n m)) (ltb (least n F P (members n m) + essentials_outside n F (members n m)) (size_under n F order)) parts.1 in
+      let more = and_parts (is_lawful P (members n m))
+      (ltb (least n F P (members n m) + essentials_outside n F (members n m)) (size_under n F order)) parts.1 in
       let r = (has_range (2 ^ n - 1) 0 m).0 parts.0 in
       (omega (arith, r.1), more.0, ltb-true (least n F P (members n m) + essentials_outside n F (members n m)) (size_under n F order) more.1)
 
@@ -79,7 +81,8 @@ module _ (n : ℕ) (F : List Function) (P : List Pair) (order : List ℕ) (best 
   listed_from m h =
       let test = λ (j : ℕ). is_lawful P (members n j) && ltb (least n F P (members n j) + essentials_outside n F (members n j)) (size_under n F order) in
       has_filter test (range_with_len 0 (2 ^ n - 1)) m
-      ∙ and_from _ _ ((has_range (2 ^ n - 1) 0 m).1 (omega arith, omega (arith, h.0))) (and_from _ _ h.1 (lt-ltb (least n F P (members n m) + essentials_outside n F (members n m)) (size_under n F order) h.2))
+      ∙ and_from _ _ ((has_range (2 ^ n - 1) 0 m).1 (omega arith, omega (arith, h.0)))
+      (and_from _ _ h.1 (lt-ltb (least n F P (members n m) + essentials_outside n F (members n m)) (size_under n F order) h.2))
 
   -- the size of the order is the least cost of all variables
   total_least : size_under n F order ≡ least n F P (members n (2 ^ n - 1))
@@ -88,7 +91,8 @@ module _ (n : ℕ) (F : List Function) (P : List Pair) (order : List ℕ) (best 
       let all = all_lawful n P order o k in
       let low = lawful_same P (members n (2 ^ n - 1)) (variables n) (members_full n) ∙ all.lawful in
       size_is_cost n F order o ∙ is.least_cost
-      ∙ sym (least_same n F P order (ground n P order o k) (members n (2 ^ n - 1)) (variables n) (lawful_members n F P order o k (2 ^ n - 1) low) all (members_full n))
+      ∙ sym (least_same n F P order (ground n P order o k) (members n (2 ^ n - 1)) (variables n)
+      (lawful_members n F P order o k (2 ^ n - 1) low) all (members_full n))
 
   cert : Certificate
   cert = certificate_of n F P order
@@ -103,7 +107,9 @@ module _ (n : ℕ) (F : List Function) (P : List Pair) (order : List ℕ) (best 
 
   cell_from_listed : (m : ℕ) → Listed m → Among (least_listed n F P m) cert.cells
   unfolding cert certificate_of
-  cell_from_listed m h = among_map (least_listed n F P) m (listed_masks n F P (size_under n F order)) (has_among (listed_masks n F P (size_under n F order)) m (listed_from m h))
+  cell_from_listed m h =
+      among_map (least_listed n F P) m (listed_masks n F P (size_under n F order))
+      (has_among (listed_masks n F P (size_under n F order)) m (listed_from m h))
 
   reserve_is : (m : ℕ) → reserve n F cert m ≡ essentials_outside n F (members n m)
   unfolding cert certificate_of reserve
@@ -182,7 +188,8 @@ module _ (n : ℕ) (F : List Function) (P : List Pair) (order : List ℕ) (best 
       let step = grown c.mask x lt small out h.1 high in
       omega arith
     where
-      grown : (mask x : ℕ) → mask < 2 ^ n → x < n → has (members n mask) x ≡ false → is_lawful P (members n mask) ≡ true → is_lawful P (members n (mask + 2 ^ x)) ≡ true →
+      grown : (mask x : ℕ) → mask < 2 ^ n → x < n → has (members n mask) x ≡ false → is_lawful P (members n mask) ≡ true →
+          is_lawful P (members n (mask + 2 ^ x)) ≡ true →
           least n F P (members n (mask + 2 ^ x)) ≤ least n F P (members n mask) + width n F (members n mask) x
       grown mask x lt small out low high =
           let with' = mask_with n mask x lt small out in
@@ -192,7 +199,8 @@ module _ (n : ℕ) (F : List Function) (P : List Pair) (order : List ℕ) (best 
           let l = lawful_same P (without x T) (members n mask) same ∙ low in
           let set = lawful_members n F P order o k (mask + 2 ^ x) high in
           let le = recurrence_le n F P order (ground n P order o k) T x set there l in
-          let a = least_same n F P order (ground n P order o k) (without x T) (members n mask) (without_top n F P order (ground n P order o k) T x set l) (lawful_members n F P order o k mask low) same in
+          let a = least_same n F P order (ground n P order o k) (without x T) (members n mask)
+          (without_top n F P order (ground n P order o k) T x set l) (lawful_members n F P order o k mask low) same in
           let b = width_same n F (without x T) (members n mask) x same in
           omega arith
 
@@ -207,12 +215,14 @@ module _ (n : ℕ) (F : List Function) (P : List Pair) (order : List ℕ) (best 
     levels = refl;
     total = refl;
     start = start_value;
-    cells = All-from_recursion (λ (c : Cell). c.cost + reserve n F cert c.mask ≤ cert.total) cert.cells (all_from_among (λ (c : Cell). c.cost + reserve n F cert c.mask ≤ cert.total) cert.cells small_cells);
+    cells = All-from_recursion (λ (c : Cell). c.cost + reserve n F cert c.mask ≤ cert.total) cert.cells
+        (all_from_among (λ (c : Cell). c.cost + reserve n F cert c.mask ≤ cert.total) cert.cells small_cells);
     edges = All-from_recursion Edges cert.cells (all_from_among Edges cert.cells edges_hold);
   }
     where
       Edges : Cell → Type 0
-      Edges c = (x : ℕ) → x < n → IsFalse (has (members n c.mask) x) → AreBothLawful n cert.pairs c.mask x → set_value n F cert (c.mask + 2 ^ x) ≤ set_value n F cert c.mask + width n F (members n c.mask) x
+      Edges c = (x : ℕ) → x < n → IsFalse (has (members n c.mask) x) → AreBothLawful n cert.pairs c.mask x →
+          set_value n F cert (c.mask + 2 ^ x) ≤ set_value n F cert c.mask + width n F (members n c.mask) x
 
 -- so is each certificate that is the tool's
 pub cert_of_is_good : (n : ℕ) (F : List Function) (P : List Pair) (cert : Certificate) → IsCertOf n F P cert → IsGood n F cert

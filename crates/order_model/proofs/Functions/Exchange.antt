@@ -60,7 +60,8 @@ abbrev pub Below : ℕ → List ℕ → Type 0
 Below n xs = AllByRecursion (λ x. x < n) xs
 
 -- each subfunction fixes the variables to the values of some point
-pub subfunctions_fix : (n : ℕ) (xs : List ℕ) → Below n xs → (f g : Function) → Among g (subfunctions xs f) → (a : Point) × (length a ≡ n) × SameFunction n g (fixed n xs a f)
+pub subfunctions_fix : (n : ℕ) (xs : List ℕ) → Below n xs → (f g : Function) → Among g (subfunctions xs f) →
+    (a : Point) × (length a ≡ n) × SameFunction n g (fixed n xs a f)
 unfolding subfunctions SameFunction restrict
 subfunctions_fix n [] lt f g h =
     elim h [ inl e ↦ (replicate n false, length-replicate n false, λ p l. ap (λ k. k p) e ∙ ap f (mix-nil n (replicate n false) p l)) | inr r ↦ absurd r ]
@@ -68,7 +69,8 @@ subfunctions_fix n (x ∷ xs) lt f g h =
     elim (among_cases g (subfunctions xs (restrict x false f)) (subfunctions xs (restrict x true f)) h)
     [ inl a ↦ by false (subfunctions_fix n xs lt.1 (restrict x false f) g a) | inr a ↦ by true (subfunctions_fix n xs lt.1 (restrict x true f) g a) ]
   where
-    by : (b : Bool) → (a : Point) × (length a ≡ n) × SameFunction n g (fixed n xs a (restrict x b f)) → (a : Point) × (length a ≡ n) × SameFunction n g (fixed n (x ∷ xs) a f)
+    by : (b : Bool) → (a : Point) × (length a ≡ n) × SameFunction n g (fixed n xs a (restrict x b f)) →
+        (a : Point) × (length a ≡ n) × SameFunction n g (fixed n (x ∷ xs) a f)
     by b r =
         let a = r.0 in
         let long = r.1 in
@@ -79,7 +81,8 @@ subfunctions_fix n (x ∷ xs) lt f g h =
         )
 
 -- and each such fixing is a subfunction
-pub fixing_reached : (n : ℕ) (xs : List ℕ) → Below n xs → (f : Function) (a : Point) → (g : Function) × Among g (subfunctions xs f) × SameFunction n g (fixed n xs a f)
+pub fixing_reached : (n : ℕ) (xs : List ℕ) → Below n xs → (f : Function) (a : Point) →
+    (g : Function) × Among g (subfunctions xs f) × SameFunction n g (fixed n xs a f)
 unfolding subfunctions SameFunction restrict
 fixing_reached n [] lt f a = (f, inl refl, λ p l. ap f (mix-nil n a p l))
 fixing_reached n (x ∷ xs) lt f a = by (bit a x) refl (fixing_reached n xs lt.1 (restrict x false f) a) (fixing_reached n xs lt.1 (restrict x true f) a)
@@ -140,7 +143,8 @@ below_from_has n [] h = tt
 below_from_has n (x ∷ xs) h = (h x (or_left (nat_eq x x) _ (eq-eqb x x refl)), below_from_has n xs (λ y k. h y (or_right _ _ k)))
 
 -- what the variables above a level reach, by the set below the level
-pub above_width : (n : ℕ) (F : List Function) (above : List ℕ) (x : ℕ) (below : List ℕ) → IsOrder n (above ++ x ∷ below) → dependents n (reach F above) x ≡ width n F below x
+pub above_width : (n : ℕ) (F : List Function) (above : List ℕ) (x : ℕ) (below : List ℕ) → IsOrder n (above ++ x ∷ below) →
+    dependents n (reach F above) x ≡ width n F below x
 unfolding width
 above_width n F above x below o =
     dependents_same n F above (outside n (x ∷ below)) x
@@ -149,7 +153,8 @@ above_width n F above x below o =
     (above_lem n above x below o)
 
 -- the count of the level after the variables above
-pub level_lem : (n : ℕ) (F : List Function) (above : List ℕ) (x : ℕ) (below : List ℕ) → level_count n F (above ++ x ∷ below) (length above) ≡ dependents n (reach F above) x
+pub level_lem : (n : ℕ) (F : List Function) (above : List ℕ) (x : ℕ) (below : List ℕ) →
+    level_count n F (above ++ x ∷ below) (length above) ≡ dependents n (reach F above) x
 unfolding level_count
 level_lem n F above x below =
     ap₂ (λ xs y. dependents n (reach F xs) y) (take_at above (x ∷ below) (length above) refl) (get_or_at above x below 0 (length above) refl)
@@ -170,7 +175,8 @@ levels_cost n F (x ∷ below) above o =
     let o' = subst (λ xs. IsOrder n xs) (sym same) o in
     let rest = levels_cost n F below (above ++ x ∷ []) o' in
     let long = length_push above x in
-    sum_by-cons (λ z. z) (level_count n F (above ++ x ∷ below) (length above)) (map (level_count n F (above ++ x ∷ below)) (range_with_len (length above + 1) (length below)))
+    sum_by-cons (λ z. z) (level_count n F (above ++ x ∷ below) (length above))
+    (map (level_count n F (above ++ x ∷ below)) (range_with_len (length above + 1) (length below)))
     ∙ ap (λ k. k + sum (map (level_count n F (above ++ x ∷ below)) (range_with_len (length above + 1) (length below)))) (exchange n F above x below o)
     ∙ ap (λ k. width n F below x + k) (ap₂ (λ xs m. sum (map (level_count n F xs) (range_with_len m (length below)))) (sym same) (sym long) ∙ rest)
 

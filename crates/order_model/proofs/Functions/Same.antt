@@ -50,7 +50,8 @@ counted_tables n x (f ∷ F) [] h = absurd h
 counted_tables n x (f ∷ F) (g ∷ G) h = by (depends n f x) (depends n g x) (depends_same n f g x h.0) (table_same n f g h.0) (counted_tables n x F G h.1)
   where
     by : (a b : Bool) → a ≡ b → table n f ≡ table n g → map (table n) (filter (λ f. depends n f x) F) ≡ map (table n) (filter (λ f. depends n f x) G) →
-        map (table n) (cond a (f ∷ filter (λ f. depends n f x) F) (filter (λ f. depends n f x) F)) ≡ map (table n) (cond b (g ∷ filter (λ f. depends n f x) G) (filter (λ f. depends n f x) G))
+        map (table n) (cond a (f ∷ filter (λ f. depends n f x) F) (filter (λ f. depends n f x) F)) ≡ map (table n)
+        (cond b (g ∷ filter (λ f. depends n f x) G) (filter (λ f. depends n f x) G))
     by true true e t r = λ i. t i ∷ r i
     by false false e t r = r
     by true false e t r = absurd (cc)

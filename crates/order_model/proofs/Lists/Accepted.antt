@@ -21,7 +21,8 @@ pub index_of : (xs : List ℕ) (y : ℕ) → has xs y ≡ true → (k : ℕ) × 
 index_of [] y h = absurd (false≢true h)
 index_of (x ∷ xs) y h = by (eqb y x) refl (index_of xs y) h
   where
-    by : (b : Bool) → eqb y x ≡ b → (has xs y ≡ true → (k : ℕ) × (k < length xs) × (get_or xs k 0 ≡ y)) → (b || has xs y) ≡ true → (k : ℕ) × (k < length (x ∷ xs)) × (get_or (x ∷ xs) k 0 ≡ y)
+    by : (b : Bool) → eqb y x ≡ b → (has xs y ≡ true → (k : ℕ) × (k < length xs) × (get_or xs k 0 ≡ y)) → (b || has xs y) ≡ true →
+        (k : ℕ) × (k < length (x ∷ xs)) × (get_or (x ∷ xs) k 0 ≡ y)
     by true e r k = (0, omega arith, sym (eqb-true y x e))
     by false e r k = let s = r k in (suc s.0, omega arith, s.2)
 
@@ -97,10 +98,16 @@ module _ (xs : List ℕ) (i mask : ℕ) (s : Seen xs i mask) where
   seen_repeated l e once = let f = s.found (get_or xs i 0) e in repeat_refutes xs f.0 i f.1 l f.2 once
 
   -- one more variable, whose bit is not there
-  pub seen_more : (later : ℕ) → (bit_at mask (get_or xs i 0) ≡ 1 → ⊥) → bit_at later (get_or xs i 0) ≡ 1 → ((y : ℕ) → y ≢ get_or xs i 0 → bit_at later y ≡ bit_at mask y) → Seen xs (i + 1) later
+  pub seen_more : (later : ℕ) → (bit_at mask (get_or xs i 0) ≡ 1 → ⊥) → bit_at later (get_or xs i 0) ≡ 1 →
+      ((y : ℕ) → y ≢ get_or xs i 0 → bit_at later y ≡ bit_at mask y) → Seen xs (i + 1) later
   seen_more later new here others = record {
-    apart = λ j k a b. elim (cases_eq k i) [ inl e ↦ (λ f. new (subst (λ (v : ℕ). bit_at mask v ≡ 1) (f ∙ ap (λ z. get_or xs z 0) e) (s.kept j (omega arith)))) | inr ne ↦ s.apart j k a (omega arith) ];
-    found = λ y e. elim (cases_eq y (get_or xs i 0)) [ inl f ↦ (i, omega arith, sym f) | inr ne ↦ let r = s.found y (sym (others y ne) ∙ e) in (r.0, omega arith, r.2) ];
+    apart = λ j k a b. elim (cases_eq k i) [
+      | inl e ↦ (λ f. new (subst (λ (v : ℕ). bit_at mask v ≡ 1) (f ∙ ap (λ z. get_or xs z 0) e) (s.kept j (omega arith))))
+      | inr ne ↦
+          s.apart j k a (omega arith)
+    ];
+    found = λ y e. elim (cases_eq y (get_or xs i 0))
+        [ inl f ↦ (i, omega arith, sym f) | inr ne ↦ let r = s.found y (sym (others y ne) ∙ e) in (r.0, omega arith, r.2) ];
     kept = λ k h. elim (cases_eq k i) [ inl e ↦ subst (λ (z : ℕ). bit_at later (get_or xs z 0) ≡ 1) (sym e) here | inr ne ↦ kept_before k (omega arith) ];
   }
     where
@@ -109,7 +116,9 @@ module _ (xs : List ℕ) (i mask : ℕ) (s : Seen xs i mask) where
 
 -- where all have been seen, the list is distinct
 pub seen_all : (xs : List ℕ) (mask : ℕ) → Seen xs (length xs) mask → IsDistinct eqb xs
-seen_all xs mask s = IsDistinct-from_apart eqb xs (λ i j d a b. ne_eqb _ _ (λ e. s.apart i j a b (get_or_default xs i 0 d (omega arith) ∙ e ∙ get_or_default xs j d 0 b)))
+seen_all xs mask s =
+    IsDistinct-from_apart eqb xs
+    (λ i j d a b. ne_eqb _ _ (λ e. s.apart i j a b (get_or_default xs i 0 d (omega arith) ∙ e ∙ get_or_default xs j d 0 b)))
 
 -- one variable more
 pub variables_more : (n : ℕ) → variables (n + 1) ≡ variables n ++ n ∷ []

@@ -21,7 +21,8 @@ use Rattle.order_model.proofs.Precedence.Lists.{nothing_to_keep}
 
 -- ---- one first list
 
-pub first_unique : (Q : List ℕ → Type 0) (xs ys : List ℕ) → Q xs → Q ys → ((zs : List ℕ) → Q zs → slice_cmp nat_cmp xs zs ≢ Greater) → ((zs : List ℕ) → Q zs → slice_cmp nat_cmp ys zs ≢ Greater) → xs ≡ ys
+pub first_unique : (Q : List ℕ → Type 0) (xs ys : List ℕ) → Q xs → Q ys → ((zs : List ℕ) → Q zs → slice_cmp nat_cmp xs zs ≢ Greater) →
+    ((zs : List ℕ) → Q zs → slice_cmp nat_cmp ys zs ≢ Greater) → xs ≡ ys
 first_unique Q xs ys p q f g = slice_cmp-IsAntisymmetric nat_cmp-IsAntisymmetric xs ys (by (slice_cmp nat_cmp xs ys) refl)
   where
     by : (r : Ordering) → slice_cmp nat_cmp xs ys ≡ r → slice_cmp nat_cmp xs ys ≡ Equal
@@ -31,9 +32,11 @@ first_unique Q xs ys p q f g = slice_cmp-IsAntisymmetric nat_cmp-IsAntisymmetric
 
 pub first_order_unique : (n : ℕ) (P : List Pair) (order other : List ℕ) → IsFirstOrder n P order → IsFirstOrder n P other → order ≡ other
 first_order_unique n P order other f g =
-    first_unique (λ xs. IsOrder n xs × Keeps P xs) order other (f.is_order, f.kept) (g.is_order, g.kept) (λ xs h. f.first xs h.0 h.1) (λ xs h. g.first xs h.0 h.1)
+    first_unique (λ xs. IsOrder n xs × Keeps P xs) order other (f.is_order, f.kept) (g.is_order, g.kept) (λ xs h. f.first xs h.0 h.1)
+    (λ xs h. g.first xs h.0 h.1)
 
-pub first_keeping_unique : (n : ℕ) (F : List Function) (P : List Pair) (order other : List ℕ) → IsFirstKeeping n F P order → IsFirstKeeping n F P other → order ≡ other
+pub first_keeping_unique : (n : ℕ) (F : List Function) (P : List Pair) (order other : List ℕ) → IsFirstKeeping n F P order →
+    IsFirstKeeping n F P other → order ≡ other
 first_keeping_unique n F P order other f g = first_unique (HasFewestKeeping n F P) order other f.fewest g.fewest f.first g.first
 
 pub cert_unique : (n : ℕ) (F : List Function) (P : List Pair) (cert other : Certificate) → IsCertOf n F P cert → IsCertOf n F P other → cert ≡ other
@@ -42,8 +45,10 @@ cert_unique n F P cert other f g = f.parts ∙ ap (certificate_of n F P) (first_
 -- ---- the file order
 
 -- one number more, a, in front: a list with all of them and no smaller one begins with a or with a larger one
-module _ (k a y : ℕ) (ys : List ℕ) (apart : has ys y ≡ false) (low : (z : ℕ) → has (y ∷ ys) z ≡ true → a ≤ z) (all : (z : ℕ) → a ≤ z → z < a + suc k → has (y ∷ ys) z ≡ true)
-    (rest : ((z : ℕ) → has ys z ≡ true → a + 1 ≤ z) → ((z : ℕ) → a + 1 ≤ z → z < a + 1 + k → has ys z ≡ true) → slice_cmp nat_cmp (range_with_len (a + 1) k) ys ≢ Greater) where
+module _ (k a y : ℕ) (ys : List ℕ) (apart : has ys y ≡ false) (low : (z : ℕ) → has (y ∷ ys) z ≡ true → a ≤ z)
+    (all : (z : ℕ) → a ≤ z → z < a + suc k → has (y ∷ ys) z ≡ true)
+    (rest : ((z : ℕ) → has ys z ≡ true → a + 1 ≤ z) → ((z : ℕ) → a + 1 ≤ z → z < a + 1 + k → has ys z ≡ true) →
+    slice_cmp nat_cmp (range_with_len (a + 1) k) ys ≢ Greater) where
   low_behind : a ≡ y → (z : ℕ) → has ys z ≡ true → a + 1 ≤ z
   low_behind s z h = elim (cases_eq z y) [
     | inl e ↦ absurd (false≢true (sym apart ∙ ap (has ys) (sym e) ∙ h))
@@ -73,11 +78,13 @@ module _ (k a y : ℕ) (ys : List ℕ) (apart : has ys y ≡ false) (low : (z : 
 
       same : a ≡ y → slice_cmp nat_cmp (a ∷ range_with_len (a + 1) k) (y ∷ ys) ≢ Greater
       same s f =
-          let is_equal : Equal ≡ nat_cmp a y = ap₂ (λ b d. cond b Less (cond d Equal Greater)) (sym (le-ltb a y (let t = s in omega arith))) (sym (eq-eqb a y s)) in
+          let is_equal : Equal ≡ nat_cmp a y =
+          ap₂ (λ b d. cond b Less (cond d Equal Greater)) (sym (le-ltb a y (let t = s in omega arith))) (sym (eq-eqb a y s)) in
           rest (low_behind s) (all_behind s) (ap (λ r. ordering_then r others) is_equal ∙ f)
 
 -- k numbers from a on, in a row, come after no list without repeats that has each of them and no smaller one
-none_before : (k a : ℕ) (ys : List ℕ) → IsDistinct nat_eq ys → ((z : ℕ) → has ys z ≡ true → a ≤ z) → ((z : ℕ) → a ≤ z → z < a + k → has ys z ≡ true) → slice_cmp nat_cmp (range_with_len a k) ys ≢ Greater
+none_before : (k a : ℕ) (ys : List ℕ) → IsDistinct nat_eq ys → ((z : ℕ) → has ys z ≡ true → a ≤ z) →
+    ((z : ℕ) → a ≤ z → z < a + k → has ys z ≡ true) → slice_cmp nat_cmp (range_with_len a k) ys ≢ Greater
 unfolding IsDistinct
 none_before zero a [] d low all = λ f. cc
 none_before zero a (y ∷ ys) d low all = λ f. cc
@@ -92,4 +99,5 @@ file_order_first n = record {
 }
 
 pub first_without_pairs : (n : ℕ) (order : List ℕ) → IsFirstOrder n [] order ↔ (order ≡ variables n)
-first_without_pairs n order = (λ f. first_order_unique n [] order (variables n) f (file_order_first n), λ e. subst (IsFirstOrder n []) (sym e) (file_order_first n))
+first_without_pairs n order =
+    (λ f. first_order_unique n [] order (variables n) f (file_order_first n), λ e. subst (IsFirstOrder n []) (sym e) (file_order_first n))

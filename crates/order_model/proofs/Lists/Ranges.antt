@@ -16,7 +16,9 @@ range_append a (suc m) k =
 
 pub range_last : (k a : ℕ) → range_with_len a (suc k) ≡ range_with_len a k ++ (a + k) ∷ []
 range_last zero a = ap (λ u. u ∷ []) (omega arith)
-range_last (suc k) a = ap (λ zs. a ∷ zs) (range_last k (a + 1) ∙ ap (λ u. range_with_len (a + 1) k ++ u ∷ []) (let s : a + 1 + k ≡ a + suc k = omega arith in s))
+range_last (suc k) a =
+    ap (λ zs. a ∷ zs)
+    (range_last k (a + 1) ∙ ap (λ u. range_with_len (a + 1) k ++ u ∷ []) (let s : a + 1 + k ≡ a + suc k = omega arith in s))
 
 pub range_at : (n i : ℕ) → i < n → get_or (range_with_len 0 n) i 0 ≡ i
 range_at n i lt = get_or-range_with_len 0 n i 0 lt ∙ zero-add i
@@ -37,6 +39,7 @@ pub filter_twice : {X : Type 0} (p q : X → Bool) (xs : List X) → filter q (f
 filter_twice p q [] = refl
 filter_twice p q (x ∷ xs) = by (p x) (filter_twice p q xs)
   where
-    by : (b : Bool) → filter q (filter p xs) ≡ filter (λ x. p x && q x) xs → filter q (cond b (x ∷ filter p xs) (filter p xs)) ≡ cond (b && q x) (x ∷ filter (λ x. p x && q x) xs) (filter (λ x. p x && q x) xs)
+    by : (b : Bool) → filter q (filter p xs) ≡ filter (λ x. p x && q x) xs →
+        filter q (cond b (x ∷ filter p xs) (filter p xs)) ≡ cond (b && q x) (x ∷ filter (λ x. p x && q x) xs) (filter (λ x. p x && q x) xs)
     by true e = ap (λ zs. cond (q x) (x ∷ zs) zs) e
     by false e = e

@@ -18,7 +18,8 @@ get_right [] ys j = ap (slice_get ys) (zero-add j)
 get_right (x ∷ xs) ys j = let e : suc (length xs) + j ≡ suc (length xs + j) = omega arith in ap (slice_get (x ∷ (xs ++ ys))) e ∙ get_right xs ys j
 
 -- an element of two joined lists is one of the first, or of the second at its own place
-pub get_cases : {X : Type 0} (xs ys : List X) (k : ℕ) (z : X) → slice_get (xs ++ ys) k ≡ Some z → (slice_get xs k ≡ Some z) ⊎ ((j : ℕ) × (k ≡ length xs + j) × (slice_get ys j ≡ Some z))
+pub get_cases : {X : Type 0} (xs ys : List X) (k : ℕ) (z : X) → slice_get (xs ++ ys) k ≡ Some z →
+    (slice_get xs k ≡ Some z) ⊎ ((j : ℕ) × (k ≡ length xs + j) × (slice_get ys j ≡ Some z))
 get_cases [] ys k z e = inr (k, sym (zero-add k), e)
 get_cases (x ∷ xs) ys zero z e = inl e
 get_cases (x ∷ xs) ys (suc k) z e = elim (get_cases xs ys k z e) [ inl a ↦ inl a | inr b ↦ let f = b.1 in inr (b.0, omega arith, b.2) ]
@@ -44,7 +45,8 @@ module _ (n : ℕ) (old more : List Node) (fit : AllFit n old) (all : AllFit n (
         | inr past ↦ absurd (omega (arith, past.0, h))
       ]
     where
-      at : (node : Node) → slice_get old j ≡ Some node → ((r : Ref) → IsBefore k r → value (old ++ more) r p ≡ value old r p) → value (old ++ more) (Place j) p ≡ value old (Place j) p
+      at : (node : Node) → slice_get old j ≡ Some node → ((r : Ref) → IsBefore k r → value (old ++ more) r p ≡ value old r p) →
+          value (old ++ more) (Place j) p ≡ value old (Place j) p
       at node e r =
           let lt : j < length old = omega (arith, h) in
           let c = child_at p node in

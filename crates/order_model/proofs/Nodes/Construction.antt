@@ -36,7 +36,8 @@ subfunctions_more x b (y ∷ xs) f g h =
       | inr a ↦ among_right _ (subfunctions (xs ++ x ∷ []) (restrict y false f)) _ (subfunctions_more x b xs (restrict y true f) g a)
     ]
 
-pub reach_more : (F : List Function) (above : List ℕ) (x : ℕ) (b : Bool) (g : Function) → Among g (reach F above) → Among (restrict x b g) (reach F (above ++ x ∷ []))
+pub reach_more : (F : List Function) (above : List ℕ) (x : ℕ) (b : Bool) (g : Function) → Among g (reach F above) →
+    Among (restrict x b g) (reach F (above ++ x ∷ []))
 unfolding reach
 reach_more F above x b g h =
     let from = among_from_flat_map (subfunctions above) g F h in
@@ -51,7 +52,8 @@ own_restriction x g p = ap g (set-get_or p x false)
 free_restriction : (n x : ℕ) (g : Function) → depends n g x ≡ false → SameFunction n (restrict x false g) g
 unfolding depends SameFunction
 free_restriction n x g e p l =
-    let same = same_from_table n (restrict x false g) (restrict x true g) ((same_table_decides (table n (restrict x false g)) (table n (restrict x true g))).0 (not-false _ e)) in
+    let same = same_from_table n (restrict x false g) (restrict x true g)
+    ((same_table_decides (table n (restrict x false g)) (table n (restrict x true g))).0 (not-false _ e)) in
     by (bit p x) (own_restriction x g p) (same p l)
   where
     by : (b : Bool) → restrict x b g p ≡ g p → restrict x false g p ≡ restrict x true g p → restrict x false g p ≡ g p
@@ -73,7 +75,8 @@ zip_length R [] (y ∷ ys) z = absurd z
 zip_length R (x ∷ xs) [] z = absurd z
 zip_length R (x ∷ xs) (y ∷ ys) z = ap suc (zip_length R xs ys z.1)
 
-zip_find : {A B : Type 0} (R : A → B → Type 0) (xs : List A) (ys : List B) (y : B) → AllZip R xs ys → Among y ys → (j : ℕ) × (x : A) × (slice_get xs j ≡ Some x) × R x y
+zip_find : {A B : Type 0} (R : A → B → Type 0) (xs : List A) (ys : List B) (y : B) → AllZip R xs ys → Among y ys →
+    (j : ℕ) × (x : A) × (slice_get xs j ≡ Some x) × R x y
 zip_find R [] [] y z h = absurd h
 zip_find R [] (w ∷ ys) y z h = absurd z
 zip_find R (x ∷ xs) [] y z h = absurd h
@@ -85,7 +88,8 @@ zip_find R (x ∷ xs) (w ∷ ys) y z h =
 
 count_none : {X : Type 0} (p : X → Bool) (xs : List X) → ((k : ℕ) (x : X) → slice_get xs k ≡ Some x → p x ≡ false) → count_by p xs ≡ 0
 count_none p [] h = refl
-count_none p (x ∷ xs) h = sum_by-cons (λ y. cond (p y) 1 0) x xs ∙ ap (λ b. cond b 1 0 + count_by p xs) (h 0 x refl) ∙ zero-add (count_by p xs) ∙ count_none p xs (λ k y e. h (suc k) y e)
+count_none p (x ∷ xs) h = sum_by-cons (λ y. cond (p y) 1 0) x xs ∙ ap (λ b. cond b 1 0 + count_by p xs) (h 0 x refl)
+    ∙ zero-add (count_by p xs) ∙ count_none p xs (λ k y e. h (suc k) y e)
 
 count_all : {X : Type 0} (p : X → Bool) (xs : List X) → ((k : ℕ) (x : X) → slice_get xs k ≡ Some x → p x ≡ true) → count_by p xs ≡ length xs
 count_all p [] h = refl
@@ -109,7 +113,8 @@ record Made (n : ℕ) (old : List Node) (x : ℕ) (g : Function) (node : Node) :
 abbrev Stands : ℕ → List Node → ℕ → Node → List Bool → Type 0
 Stands n old x node t = (g : Function) × (t ≡ table n g) × Made n old x g node
 
-make : (n : ℕ) (old : List Node) (x : ℕ) (ts : List (List Bool)) → ((t : List Bool) → Among t ts → (node : Node) × Stands n old x node t) → (more : List Node) × AllZip (Stands n old x) more ts
+make : (n : ℕ) (old : List Node) (x : ℕ) (ts : List (List Bool)) → ((t : List Bool) → Among t ts → (node : Node) × Stands n old x node t) →
+    (more : List Node) × AllZip (Stands n old x) more ts
 make n old x [] h = ([], tt)
 make n old x (t ∷ ts) h =
     let one = h t (inl refl) in
@@ -162,7 +167,8 @@ child_is_before : (k : ℕ) (r : Ref) (node : Node) → IsChild r node → IsBef
 child_is_before k r node c l u = elim c [ inl e ↦ subst (IsBefore k) e l | inr e ↦ subst (IsBefore k) e u ]
 
 -- one more level on top
-module _ (n : ℕ) (F : List Function) (order : List ℕ) (o : IsOrder n order) (above : List ℕ) (x : ℕ) (below : List ℕ) (same : above ++ x ∷ below ≡ order) (rest : Built n F order (above ++ x ∷ []) below) where
+module _ (n : ℕ) (F : List Function) (order : List ℕ) (o : IsOrder n order) (above : List ℕ) (x : ℕ) (below : List ℕ)
+    (same : above ++ x ∷ below ≡ order) (rest : Built n F order (above ++ x ∷ []) below) where
   own_order : IsOrder n (above ++ x ∷ below)
   own_order = subst (IsOrder n) (sym same) o
 
@@ -215,7 +221,8 @@ module _ (n : ℕ) (F : List Function) (order : List ℕ) (o : IsOrder n order) 
   unfolding more tables own dependents
   count_more = zip_length (Stands n rest.nodes x) more tables made_nodes.1
 
-  node_at_both : (k : ℕ) (node : Node) → slice_get both k ≡ Some node → (slice_get rest.nodes k ≡ Some node) ⊎ ((j : ℕ) × (k ≡ length rest.nodes + j) × (slice_get more j ≡ Some node))
+  node_at_both : (k : ℕ) (node : Node) → slice_get both k ≡ Some node →
+      (slice_get rest.nodes k ≡ Some node) ⊎ ((j : ℕ) × (k ≡ length rest.nodes + j) × (slice_get more j ≡ Some node))
   unfolding both
   node_at_both k node e = get_cases rest.nodes more k node e
 
@@ -227,7 +234,12 @@ module _ (n : ℕ) (F : List Function) (order : List ℕ) (o : IsOrder n order) 
             let s = (new_node b.0 node b.2).1.2 in
             let le : length rest.nodes ≤ k = let f = b.1 in omega arith in
             let v : node.variable < n = let f = s.variable in let g = small_x in omega arith in
-            record { variable = v; low = before_more (length rest.nodes) k node.low le s.low_before; high = before_more (length rest.nodes) k node.high le s.high_before }
+            record {
+              variable =
+                  v;
+              low = before_more (length rest.nodes) k node.low le s.low_before;
+              high = before_more (length rest.nodes) k node.high le s.high_before;
+            }
       ]
 
   new_place : (j : ℕ) (node : Node) → slice_get more j ≡ Some node → place_in order node.variable ≡ length above
@@ -266,11 +278,13 @@ module _ (n : ℕ) (F : List Function) (order : List ℕ) (o : IsOrder n order) 
       ]
 
   -- a new node denotes its function
-  new_value : (j : ℕ) (node : Node) → slice_get more j ≡ Some node → (g : Function) → Made n rest.nodes x g node → SameFunction n (value both (Place (length rest.nodes + j))) g
+  new_value : (j : ℕ) (node : Node) → slice_get more j ≡ Some node → (g : Function) → Made n rest.nodes x g node →
+      SameFunction n (value both (Place (length rest.nodes + j))) g
   unfolding SameFunction both
   new_value j node e g made p l =
       value_place n (graph_of both) (diagram_of n both both_fit) p (length rest.nodes + j) node (get_right rest.nodes more j ∙ e)
-      ∙ value_append n rest.nodes more rest.fits both_fit p (length rest.nodes) (child_at p node) (omega arith) (child_has (IsBefore (length rest.nodes)) (bit p node.variable) node made.low_before made.high_before)
+      ∙ value_append n rest.nodes more rest.fits both_fit p (length rest.nodes) (child_at p node) (omega arith)
+      (child_has (IsBefore (length rest.nodes)) (bit p node.variable) node made.low_before made.high_before)
       ∙ by (bit p node.variable) refl
     where
       by : (b : Bool) → bit p node.variable ≡ b → value rest.nodes (cond b node.high node.low) p ≡ g p
@@ -296,12 +310,17 @@ module _ (n : ℕ) (F : List Function) (order : List ℕ) (o : IsOrder n order) 
   both_denoted g h =
       elim (cases_Bool (depends n g x)) [
         | inl dep ↦
-            let listed = among_unique same_table same_table_decides (map (table n) own) (table n g) (among_map (table n) g own (among_filter (λ f. depends n f x) g (reach F above) h dep)) in
+            let listed =
+            among_unique same_table same_table_decides (map (table n) own) (table n g)
+            (among_map (table n) g own (among_filter (λ f. depends n f x) g (reach F above) h dep)) in
             let at = zip_find (Stands n rest.nodes x) more tables (table n g) made_nodes.1 listed in
             let j = at.0 in
             let other = at.3.0 in
-            let here = new_value j at.1 at.2 other at.3.2 in
-            (Place (length rest.nodes + j), new_before j at.1 at.2, same_trans n (value both (Place (length rest.nodes + j))) other g here (same_from_table n other g (sym at.3.1)))
+            let here = new_value j at.1 at.2 other at.3.2 in (
+              Place (length rest.nodes + j),
+              new_before j at.1 at.2,
+              same_trans n (value both (Place (length rest.nodes + j))) other g here (same_from_table n other g (sym at.3.1)),
+            )
         | inr free ↦
             let old = rest.denoted (restrict x false g) (reach_more F above x false g h) in
             let r = old.0 in (
@@ -313,7 +332,9 @@ module _ (n : ℕ) (F : List Function) (order : List ℕ) (o : IsOrder n order) 
       ]
 
   -- the counts of the levels
-  count_both : (y : ℕ) → count_by (λ (node : Node). nat_eq node.variable y) both ≡ count_by (λ (node : Node). nat_eq node.variable y) rest.nodes + count_by (λ (node : Node). nat_eq node.variable y) more
+  count_both : (y : ℕ) →
+      count_by (λ (node : Node). nat_eq node.variable y) both ≡ count_by (λ (node : Node). nat_eq node.variable y) rest.nodes + count_by
+      (λ (node : Node). nat_eq node.variable y) more
   unfolding both
   count_both y = sum_by-append (λ (node : Node). cond (nat_eq node.variable y) 1 0) rest.nodes more
 
@@ -324,12 +345,16 @@ module _ (n : ℕ) (F : List Function) (order : List ℕ) (o : IsOrder n order) 
   both_exact y h =
       elim (cases_eq y x) [
         | inl e ↦
-            let old = count_none (λ (node : Node). nat_eq node.variable y) rest.nodes (λ k node f. ne_eqb node.variable y (λ v. let a = old_place k node f in let b = ap (place_in order) (v ∙ e) ∙ place_x in omega arith)) in
-            let new = count_all (λ (node : Node). nat_eq node.variable y) more (λ k node f. eq-eqb node.variable y ((new_node k node f).1.2.variable ∙ sym e)) in
+            let old = count_none (λ (node : Node). nat_eq node.variable y) rest.nodes
+            (λ k node f. ne_eqb node.variable y
+            (λ v. let a = old_place k node f in let b = ap (place_in order) (v ∙ e) ∙ place_x in omega arith)) in
+            let new = count_all (λ (node : Node). nat_eq node.variable y) more
+            (λ k node f. eq-eqb node.variable y ((new_node k node f).1.2.variable ∙ sym e)) in
             let level = ap (level_count n F order) (ap (place_in order) e ∙ place_x) ∙ level_x in
             count_both y ∙ ap₂ (λ a b. a + b) old new ∙ zero-add (length more) ∙ count_more ∙ sym level
         | inr ne ↦
-            let new = count_none (λ (node : Node). nat_eq node.variable y) more (λ k node f. ne_eqb node.variable y (λ v. ne (sym v ∙ (new_node k node f).1.2.variable))) in
+            let new = count_none (λ (node : Node). nat_eq node.variable y) more
+            (λ k node f. ne_eqb node.variable y (λ v. ne (sym v ∙ (new_node k node f).1.2.variable))) in
             let there : has below y ≡ true = ap (λ b. b || has below y) (sym (ne_eqb y x ne)) ∙ h in
             count_both y ∙ ap₂ (λ a b. a + b) (rest.exact y there) new ∙ add-zero (level_count n F order (place_in order y))
       ]
@@ -352,7 +377,8 @@ build : (n : ℕ) (F : List Function) (order : List ℕ) → IsOrder n order →
 build n F order o [] above e = bottom n F order o above (sym (append-nil above) ∙ e)
 build n F order o (x ∷ below) above e = one_up n F order o above x below e (build n F order o below (above ++ x ∷ []) (append_assoc above (x ∷ []) below ∙ e))
 
-roots_of : (n : ℕ) (nodes : List Node) (F G : List Function) → ((g : Function) → Among g F → (r : Ref) × IsBefore (length nodes) r × SameFunction n (value nodes r) g) →
+roots_of : (n : ℕ) (nodes : List Node) (F G : List Function) →
+    ((g : Function) → Among g F → (r : Ref) × IsBefore (length nodes) r × SameFunction n (value nodes r) g) →
     (roots : List Ref) × AllByRecursion (IsBefore (length nodes)) roots × AllZip (λ r f. SameFunction n (value nodes r) f) roots F
 roots_of n nodes [] G h = ([], tt, tt)
 roots_of n nodes (f ∷ F) G h =

@@ -27,7 +27,8 @@ abbrev pub AtPlaces : ℕ → List ℕ → ℕ → List ℕ → Type 0
 AtPlaces n order i [] = Unit {0}
 AtPlaces n order i (x ∷ xs) = (place_in order x ≡ i) × (x < n) × ((v : ℕ) → place_in order v ≡ i → v ≡ x) × AtPlaces n order (suc i) xs
 
-pub at_places : (n : ℕ) (order : List ℕ) → IsOrder n order → (i : ℕ) (xs : List ℕ) → ((k : ℕ) → k < length xs → get_or order (i + k) 0 ≡ get_or xs k 0) → i + length xs ≤ length order →
+pub at_places : (n : ℕ) (order : List ℕ) → IsOrder n order → (i : ℕ) (xs : List ℕ) →
+    ((k : ℕ) → k < length xs → get_or order (i + k) 0 ≡ get_or xs k 0) → i + length xs ≤ length order →
     AtPlaces n order i xs
 at_places n order o i [] same le = tt
 at_places n order o i (x ∷ xs) same le =
@@ -36,7 +37,8 @@ at_places n order o i (x ∷ xs) same le =
       ap (place_in order) (sym here) ∙ place_get order i o.once lt,
       (o.all x).0 (ap (has order) (sym here) ∙ has_at order i lt),
       λ v e. let s : place_in order v < length order = omega arith in sym (place_at order v s) ∙ ap (λ k. get_or order k 0) e ∙ here,
-      at_places n order o (suc i) xs (λ k h. let e : suc i + k ≡ i + suc k = omega arith in ap (λ m. get_or order m 0) e ∙ same (suc k) (omega arith)) (omega arith),
+      at_places n order o (suc i) xs
+          (λ k h. let e : suc i + k ≡ i + suc k = omega arith in ap (λ m. get_or order m 0) e ∙ same (suc k) (omega arith)) (omega arith),
     )
 
 module _ (n : ℕ) (order : List ℕ) (d : Graph) (ok : IsDiagram n d) (ordered : IsOrdered order d) where
@@ -45,22 +47,28 @@ module _ (n : ℕ) (order : List ℕ) (d : Graph) (ok : IsDiagram n d) (ordered 
   Denotes i g = (r : Ref) × SameFunction n (value d.nodes r) g × IsBefore (length d.nodes) r × StandsFrom order d.nodes i r
 
   -- such a ref does not depend on the variables above
-  pub free : (i x : ℕ) → place_in order x < i → (b : Bool) (p : Point) (r : Ref) → IsBefore (length d.nodes) r → StandsFrom order d.nodes i r → value d.nodes r (set p x b) ≡ value d.nodes r p
+  pub free : (i x : ℕ) → place_in order x < i → (b : Bool) (p : Point) (r : Ref) → IsBefore (length d.nodes) r →
+      StandsFrom order d.nodes i r → value d.nodes r (set p x b) ≡ value d.nodes r p
   free i x lt b p r before stands = independent n order d ok ordered i x lt b p (length d.nodes) r (omega arith) before stands
 
-  stay : (i x : ℕ) → place_in order x ≡ i → (b : Bool) (f : Function) (r : Ref) → SameFunction n (value d.nodes r) f → IsBefore (length d.nodes) r → StandsFrom order d.nodes (suc i) r →
+  stay : (i x : ℕ) → place_in order x ≡ i → (b : Bool) (f : Function) (r : Ref) → SameFunction n (value d.nodes r) f →
+      IsBefore (length d.nodes) r → StandsFrom order d.nodes (suc i) r →
       Denotes (suc i) (restrict x b f)
   unfolding SameFunction restrict
-  stay i x e b f r same before stands = (r, λ p l. sym (free (suc i) x (omega arith) b p r before stands) ∙ same (set p x b) (length-set p x b ∙ l), before, stands)
+  stay i x e b f r same before stands =
+      (r, λ p l. sym (free (suc i) x (omega arith) b p r before stands) ∙ same (set p x b) (length-set p x b ∙ l), before, stands)
 
   -- a node of the variable: its child denotes the restriction
-  go_down : (i x : ℕ) → place_in order x ≡ i → x < n → (b : Bool) (f : Function) (k : ℕ) (node : Node) → slice_get d.nodes k ≡ Some node → node.variable ≡ x → k < length d.nodes →
+  go_down : (i x : ℕ) → place_in order x ≡ i → x < n → (b : Bool) (f : Function) (k : ℕ) (node : Node) → slice_get d.nodes k ≡ Some node →
+      node.variable ≡ x → k < length d.nodes →
       SameFunction n (value d.nodes (Place k)) f → Denotes (suc i) (restrict x b f)
   unfolding SameFunction restrict
   go_down i x e small b f k node is v lt same =
       let c = cond b node.high node.low in
       let before : IsBefore (length d.nodes) c = before_more k (length d.nodes) c (omega arith) (child_before n d ok k node b is) in
-      let stands = stands_less order d.nodes (suc i) (suc (place_in order node.variable)) c (let t = ap (place_in order) v in omega arith) (child_stands n order d ok ordered k node b is) in (
+      let stands =
+      stands_less order d.nodes (suc i) (suc (place_in order node.variable)) c (let t = ap (place_in order) v in omega arith)
+      (child_stands n order d ok ordered k node b is) in (
         c,
         λ p l.
             let inside : x < length p = omega arith in
@@ -82,7 +90,9 @@ module _ (n : ℕ) (order : List ℕ) (d : Graph) (ok : IsDiagram n d) (ordered 
         | inl found ↦
             elim (cases_eq (place_in order found.0.variable) i) [
               | inl e ↦ go_down i x at.0 at.1 b f k found.0 found.2 (at.2 found.0.variable e) before same
-              | inr ne ↦ stay i x at.0 b f (Place k) same before (λ node is. let g = stands found.0 found.2 in let s = ap variable_of (same_Some node found.0 (sym is ∙ found.2)) in omega arith)
+              | inr ne ↦ stay i x at.0 b f (Place k) same before
+                  (λ node is. let g = stands found.0 found.2 in let s = ap variable_of (same_Some node found.0 (sym is ∙ found.2)) in
+                  omega arith)
             ]
         | inr past ↦ absurd (omega (arith, past.0, before))
       ]
@@ -90,7 +100,8 @@ module _ (n : ℕ) (order : List ℕ) (d : Graph) (ok : IsDiagram n d) (ordered 
       variable_of : Node → ℕ
       variable_of node = place_in order node.variable
 
-  descend : (xs : List ℕ) (i : ℕ) → AtPlaces n order i xs → (f : Function) → Denotes i f → (g : Function) → Among g (subfunctions xs f) → Denotes (i + length xs) g
+  descend : (xs : List ℕ) (i : ℕ) → AtPlaces n order i xs → (f : Function) → Denotes i f → (g : Function) → Among g (subfunctions xs f) →
+      Denotes (i + length xs) g
   unfolding subfunctions
   descend [] i at f m g h = elim h [ inl e ↦ subst (λ k. Denotes (i + 0) k) (sym e) (subst (λ j. Denotes j f) (sym (add-zero i)) m) | inr a ↦ absurd a ]
   descend (x ∷ xs) i at f m g h =
@@ -102,17 +113,21 @@ module _ (n : ℕ) (order : List ℕ) (d : Graph) (ok : IsDiagram n d) (ordered 
       ]
 
   -- a function that depends on the variable at place i, of a ref from place i on, is the function of a node of that variable
-  node_of : (i x : ℕ) → AtPlaces n order i (x ∷ []) → (g : Function) → Denotes i g → depends n g x ≡ true → (k : ℕ) × (node : Node) × (slice_get d.nodes k ≡ Some node) × (node.variable ≡ x) × SameFunction n (value d.nodes (Place k)) g
+  node_of : (i x : ℕ) → AtPlaces n order i (x ∷ []) → (g : Function) → Denotes i g → depends n g x ≡ true →
+      (k : ℕ) × (node : Node) × (slice_get d.nodes k ≡ Some node) × (node.variable ≡ x) × SameFunction n (value d.nodes (Place k)) g
   unfolding StandsFrom SameFunction DependsOn restrict
   node_of i x at g (Terminal t, same, before, stands) dep =
-      absurd (depends_true n g x dep (λ p l. sym (same (set p x false) (length-set p x false ∙ l)) ∙ value_terminal d.nodes (set p x false) t ∙ sym (value_terminal d.nodes (set p x true) t) ∙ same (set p x true) (length-set p x true ∙ l)))
+      absurd (depends_true n g x dep
+      (λ p l. sym (same (set p x false) (length-set p x false ∙ l)) ∙ value_terminal d.nodes (set p x false) t
+      ∙ sym (value_terminal d.nodes (set p x true) t) ∙ same (set p x true) (length-set p x true ∙ l)))
   node_of i x at g (Place k, same, before, stands) dep =
       elim (slice_get_cases d.nodes k).1 [
         | inl found ↦
             elim (cases_eq (place_in order found.0.variable) i) [
               | inl e ↦ (k, found.0, found.2, at.2 found.0.variable e, same)
               | inr ne ↦
-                  let below : StandsFrom order d.nodes (suc i) (Place k) = λ node is. let g = stands found.0 found.2 in let s = ap variable_of (same_Some node found.0 (sym is ∙ found.2)) in omega arith in
+                  let below : StandsFrom order d.nodes (suc i) (Place k) = λ node is. let g = stands found.0 found.2 in
+                  let s = ap variable_of (same_Some node found.0 (sym is ∙ found.2)) in omega arith in
                   let lt : place_in order x < suc i = omega (arith, at.0) in
                   absurd (depends_true n g x dep (λ p l.
                   sym (same (set p x false) (length-set p x false ∙ l)) ∙ free (suc i) x lt false p (Place k) before below
@@ -127,7 +142,8 @@ module _ (n : ℕ) (order : List ℕ) (d : Graph) (ok : IsDiagram n d) (ordered 
 -- ---- counting
 
 -- a root of the function
-pub root_of : (R : Ref → Function → Type 0) (P : Ref → Type 0) (roots : List Ref) (F : List Function) → AllZip R roots F → AllByRecursion P roots → (f : Function) → Among f F → (r : Ref) × R r f × P r
+pub root_of : (R : Ref → Function → Type 0) (P : Ref → Type 0) (roots : List Ref) (F : List Function) → AllZip R roots F →
+    AllByRecursion P roots → (f : Function) → Among f F → (r : Ref) × R r f × P r
 root_of R P [] [] z a f h = absurd h
 root_of R P [] (g ∷ F) z a f h = absurd z
 root_of R P (r ∷ roots) [] z a f h = absurd h
@@ -136,14 +152,18 @@ root_of R P (r ∷ roots) (g ∷ F) z a f h = elim h [ inl e ↦ (r, subst (λ k
 pub enumerated : {X : Type 0} (xs : List X) (s k : ℕ) (x : X) → slice_get xs k ≡ Some x → Among (s + k, x) (enumerate_from s xs)
 enumerated [] s k x e = cc
 enumerated (y ∷ xs) s zero x e = inl (λ i. (add-zero s i, same_Some x y (sym e) i))
-enumerated (y ∷ xs) s (suc k) x e = inr (let t : s + 1 + k ≡ s + suc k = omega arith in subst (λ j. Among (j, x) (enumerate_from (s + 1) xs)) t (enumerated xs (s + 1) k x e))
+enumerated (y ∷ xs) s (suc k) x e =
+    inr (let t : s + 1 + k ≡ s + suc k = omega arith in
+    subst (λ j. Among (j, x) (enumerate_from (s + 1) xs)) t (enumerated xs (s + 1) k x e))
 
 pub count_enumerated : {X : Type 0} (p : X → Bool) (xs : List X) (s : ℕ) → length (filter (λ (e : ℕ × X). p e.1) (enumerate_from s xs)) ≡ length (filter p xs)
 count_enumerated p [] s = refl
 count_enumerated {X} p (x ∷ xs) s = by (p x) (count_enumerated p xs (s + 1))
   where
     by : (b : Bool) → length (filter (λ (e : ℕ × X). p e.1) (enumerate_from (s + 1) xs)) ≡ length (filter p xs) →
-        length (cond b ((s, x) ∷ filter (λ (e : ℕ × X). p e.1) (enumerate_from (s + 1) xs)) (filter (λ (e : ℕ × X). p e.1) (enumerate_from (s + 1) xs))) ≡ length (cond b (x ∷ filter p xs) (filter p xs))
+        length (cond b ((s, x) ∷ filter (λ (e : ℕ × X). p e.1) (enumerate_from (s + 1) xs))
+        (filter (λ (e : ℕ × X). p e.1) (enumerate_from (s + 1) xs))) ≡
+        length (cond b (x ∷ filter p xs) (filter p xs))
     by true e = ap suc e
     by false e = e
 
@@ -190,7 +210,9 @@ level_bound n F order d o rep i lt =
     long = length-take-le i order (omega arith)
 
     all_above : AtPlaces n order 0 above
-    all_above = at_places n order o 0 above (λ k h. ap (λ m. get_or order m 0) (zero-add k) ∙ sym (get_or-take i order k 0 (omega (arith, long)))) (omega (arith, long))
+    all_above =
+        at_places n order o 0 above (λ k h. ap (λ m. get_or order m 0) (zero-add k) ∙ sym (get_or-take i order k 0 (omega (arith, long))))
+        (omega (arith, long))
 
     within : Within found tables
     within t h =
@@ -198,7 +220,8 @@ level_bound n F order d o rep i lt =
         let g = from.0 in
         let kept = among_from_filter (λ f. depends n f x) g (flat_map (subfunctions above) F) from.1 in
         let of = among_from_flat_map (subfunctions above) g F kept.0 in
-        let root = root_of (λ r f. SameFunction n (value d.nodes r) f) (IsBefore (length d.nodes)) d.roots F rep.functions (recursion_from_All (IsBefore (length d.nodes)) d.roots rep.diagram.roots) of.0 of.1 in
+        let root = root_of (λ r f. SameFunction n (value d.nodes r) f) (IsBefore (length d.nodes)) d.roots F rep.functions
+        (recursion_from_All (IsBefore (length d.nodes)) d.roots rep.diagram.roots) of.0 of.1 in
         let m : Denotes n order d rep.diagram rep.ordered 0 of.0 = (root.0, root.1, root.2, stands_top order d.nodes root.0) in
         let e : 0 + length above ≡ i = omega (arith, long) in
         let den = subst (λ j. Denotes n order d rep.diagram rep.ordered j g) e (descend n order d rep.diagram rep.ordered above 0 all_above of.0 m g of.2) in
@@ -242,14 +265,16 @@ levels_apart d [] h = omega arith
 levels_apart d (x ∷ xs) h =
     let r = levels_apart d xs h.1 in
     let s = sum_by-cons (λ y. y) (nodes_at d x) (map (nodes_at d) xs) in
-    let c = count_or (λ (node : Node). nat_eq node.variable x) (λ (node : Node). has xs node.variable) (λ node e. ap (has xs) (eqb-true node.variable x e) ∙ absent_from_apart x xs h.0) d.nodes in
+    let c = count_or (λ (node : Node). nat_eq node.variable x) (λ (node : Node). has xs node.variable)
+    (λ node e. ap (has xs) (eqb-true node.variable x e) ∙ absent_from_apart x xs h.0) d.nodes in
     omega arith
 
 -- a diagram of F ordered under the order has at least the order's size of nodes
 pub size_bound : (n : ℕ) (F : List Function) (order : List ℕ) (d : Graph) → IsOrder n order → Represents n F order d → size_under n F order ≤ length d.nodes
 unfolding size_under level_counts
 size_bound n F order d o rep =
-    let a = sum_map_le (level_count n F order) (λ i. nodes_at d (slice_index order i)) (length order) 0 (λ i l. level_bound n F order d o rep i (omega arith)) in
+    let a = sum_map_le (level_count n F order) (λ i. nodes_at d (slice_index order i)) (length order) 0
+    (λ i l. level_bound n F order d o rep i (omega arith)) in
     let b = ap (λ xs. sum (map (nodes_at d) xs)) (fill_by_all (λ i. slice_index order i) order (length order) 0 refl (λ k l. refl)) in
     let c = map-map (nodes_at d) (λ i. slice_index order i) (range_with_len 0 (length order)) in
     let e = levels_apart d order o.once in

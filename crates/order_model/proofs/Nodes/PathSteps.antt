@@ -29,29 +29,44 @@ bit-point_of n k x h = get_or-map-range_with_len (λ y. eqb (bit_at k y) 1) 0 n 
 
 -- the child that the code takes
 pub child_high : (n k : ℕ) (node : Node) → node.variable < n → bit_and (k / 2 ^ node.variable) 1 ≡ 1 → node.high ≡ child_at (point_of n k) node
-child_high n k node h e = ap (λ b. cond b node.high node.low) (sym (bit-point_of n k node.variable h ∙ eq-eqb (bit_at k node.variable) 1 (sym (shr_and_one k node.variable) ∙ e)))
+child_high n k node h e =
+    ap (λ b. cond b node.high node.low)
+    (sym (bit-point_of n k node.variable h ∙ eq-eqb (bit_at k node.variable) 1 (sym (shr_and_one k node.variable) ∙ e)))
 
 pub child_low : (n k : ℕ) (node : Node) → node.variable < n → (bit_and (k / 2 ^ node.variable) 1 ≡ 1 → ⊥) → node.low ≡ child_at (point_of n k) node
-child_low n k node h ne = ap (λ b. cond b node.high node.low) (sym (bit-point_of n k node.variable h ∙ ne_eqb (bit_at k node.variable) 1 (λ e. ne (shr_and_one k node.variable ∙ e))))
+child_low n k node h ne =
+    ap (λ b. cond b node.high node.low)
+    (sym (bit-point_of n k node.variable h ∙ ne_eqb (bit_at k node.variable) 1 (λ e. ne (shr_and_one k node.variable ∙ e))))
 
 -- a step keeps the value
-pub value_step : (n : ℕ) (nodes : List Node) → AreNodes n nodes → (p : Point) (k : ℕ) (d : Node) → k < length nodes → value nodes (child_at p (get_or nodes k d)) p ≡ value nodes (Place k) p
+pub value_step : (n : ℕ) (nodes : List Node) → AreNodes n nodes → (p : Point) (k : ℕ) (d : Node) → k < length nodes →
+    value nodes (child_at p (get_or nodes k d)) p ≡ value nodes (Place k) p
 value_step n nodes fit p k d h = sym (value_place n (graph_of nodes) (diagram_of n nodes fit) p k (get_or nodes k d) (slice_get-get_or nodes k d h))
 
 -- the child is before its parent
-pub step_before : (n : ℕ) (nodes : List Node) → AreNodes n nodes → (p : Point) (k : ℕ) (d : Node) → k < length nodes → IsBefore k (child_at p (get_or nodes k d))
-step_before n nodes fit p k d h = child_before n (graph_of nodes) (diagram_of n nodes fit) k (get_or nodes k d) (bit p (get_or nodes k d).variable) (slice_get-get_or nodes k d h)
+pub step_before : (n : ℕ) (nodes : List Node) → AreNodes n nodes → (p : Point) (k : ℕ) (d : Node) → k < length nodes →
+    IsBefore k (child_at p (get_or nodes k d))
+step_before n nodes fit p k d h =
+    child_before n (graph_of nodes) (diagram_of n nodes fit) k (get_or nodes k d) (bit p (get_or nodes k d).variable)
+    (slice_get-get_or nodes k d h)
 
 -- a step of the walk: from a place to a child before it, of the same value
-pub walk_step : (n : ℕ) (nodes : List Node) → AreNodes n nodes → (p : Point) (k : ℕ) (d : Node) (here result : Ref) → here ≡ Place k → IsBefore (length nodes) here → result ≡ child_at p (get_or nodes k d) →
+pub walk_step : (n : ℕ) (nodes : List Node) → AreNodes n nodes → (p : Point) (k : ℕ) (d : Node) (here result : Ref) → here ≡ Place k →
+    IsBefore (length nodes) here → result ≡ child_at p (get_or nodes k d) →
     IsBefore (length nodes) result × (rank_of result < rank_of here) × (value nodes result p ≡ value nodes here p)
 walk_step n nodes fit p k d here result e before f =
     let lt : IsBefore (length nodes) (Place k) = subst (IsBefore (length nodes)) e before in
     let child = step_before n nodes fit p k d lt in
     let back = subst (IsBefore k) (sym f) child in
     let small = rank-before k result back in
-    let deep = ap rank_of e in
-    (before_more k (length nodes) result (omega (arith, lt)) back, omega arith, ap (λ r. value nodes r p) f ∙ value_step n nodes fit p k d lt ∙ ap (λ r. value nodes r p) (sym e))
+    let deep = ap rank_of e in (
+      before_more k (length nodes) result (omega (arith, lt)) back,
+      omega arith,
+      ap (λ r. value nodes r p) f
+          ∙ value_step n nodes fit p k d lt ∙ ap (λ r. value nodes r p) (sym e),
+    )
 
-pub node_small : (n : ℕ) (nodes : List Node) → AreNodes n nodes → (k : ℕ) (d : Node) (here : Ref) → here ≡ Place k → IsBefore (length nodes) here → (get_or nodes k d).variable < n
-node_small n nodes fit k d here e before = let lt : IsBefore (length nodes) (Place k) = subst (IsBefore (length nodes)) e before in (fit k (get_or nodes k d) (slice_get-get_or nodes k d lt)).variable
+pub node_small : (n : ℕ) (nodes : List Node) → AreNodes n nodes → (k : ℕ) (d : Node) (here : Ref) → here ≡ Place k →
+    IsBefore (length nodes) here → (get_or nodes k d).variable < n
+node_small n nodes fit k d here e before = let lt : IsBefore (length nodes) (Place k) = subst (IsBefore (length nodes)) e before in
+    (fit k (get_or nodes k d) (slice_get-get_or nodes k d lt)).variable

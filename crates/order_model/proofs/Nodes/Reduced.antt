@@ -24,7 +24,8 @@ use Rattle.order_model.proofs.Nodes.LevelBound.{free, AtPlaces, at_places, count
 use Rattle.order_model.proofs.Nodes.Construction.{reach_more}
 
 -- a function that is the same as one that does not depend on x does not either
-transfer : (n x : ℕ) (f g : Function) → SameFunction n f g → SameFunction n (restrict x false g) (restrict x true g) → SameFunction n (restrict x false f) (restrict x true f)
+transfer : (n x : ℕ) (f g : Function) → SameFunction n f g → SameFunction n (restrict x false g) (restrict x true g) →
+    SameFunction n (restrict x false f) (restrict x true f)
 transfer n x f g h k =
     same_trans n (restrict x false f) (restrict x false g) (restrict x true f) (restrict_same n x false f g h)
     (same_trans n (restrict x false g) (restrict x true g) (restrict x true f) k (restrict_same n x true g f (same_sym n f g h)))
@@ -40,7 +41,8 @@ zeros n = replicate n false
 
 module _ (n : ℕ) (order : List ℕ) (d : Graph) (ok : IsDiagram n d) (ordered : IsOrdered order d) where
   -- the restriction of a node's function by its own variable is the child's function
-  child_value : (k : ℕ) (node : Node) → slice_get d.nodes k ≡ Some node → (b : Bool) → SameFunction n (value d.nodes (cond b node.high node.low)) (restrict node.variable b (value d.nodes (Place k)))
+  child_value : (k : ℕ) (node : Node) → slice_get d.nodes k ≡ Some node → (b : Bool) →
+      SameFunction n (value d.nodes (cond b node.high node.low)) (restrict node.variable b (value d.nodes (Place k)))
   unfolding SameFunction restrict
   child_value k node e b p l =
       let x = node.variable in
@@ -54,7 +56,8 @@ module _ (n : ℕ) (order : List ℕ) (d : Graph) (ok : IsDiagram n d) (ordered 
       ∙ sym (value_place n d ok (set p x b) k node e)
 
   -- a ref that stands below a variable's place does not depend on it
-  not_dependent : (x : ℕ) (r : Ref) → IsBefore (length d.nodes) r → StandsFrom order d.nodes (suc (place_in order x)) r → SameFunction n (restrict x false (value d.nodes r)) (restrict x true (value d.nodes r))
+  not_dependent : (x : ℕ) (r : Ref) → IsBefore (length d.nodes) r → StandsFrom order d.nodes (suc (place_in order x)) r →
+      SameFunction n (restrict x false (value d.nodes r)) (restrict x true (value d.nodes r))
   unfolding SameFunction restrict
   not_dependent x r before stands p l =
       free n order d ok ordered (suc (place_in order x)) x (omega arith) false p r before stands
@@ -66,21 +69,26 @@ module _ (n : ℕ) (order : List ℕ) (d : Graph) (ok : IsDiagram n d) (ordered 
     Canonical k = (r s : Ref) → IsBefore k r → IsBefore k s → SameFunction n (value d.nodes r) (value d.nodes s) → r ≡ s
 
     -- then a node at k depends on its variable
-    node_depends : (k : ℕ) → Canonical k → (node : Node) → slice_get d.nodes k ≡ Some node → SameFunction n (restrict node.variable false (value d.nodes (Place k))) (restrict node.variable true (value d.nodes (Place k))) → ⊥
+    node_depends : (k : ℕ) → Canonical k → (node : Node) → slice_get d.nodes k ≡ Some node →
+        SameFunction n (restrict node.variable false (value d.nodes (Place k))) (restrict node.variable true (value d.nodes (Place k))) → ⊥
     node_depends k can node e same =
         let few = child_value k node e false in
         let deep = child_value k node e true in
-        let both = same_trans n (value d.nodes node.low) _ (value d.nodes node.high) few (same_trans n _ _ (value d.nodes node.high) same (same_sym n (value d.nodes node.high) _ deep)) in
+        let both = same_trans n (value d.nodes node.low) _ (value d.nodes node.high) few
+        (same_trans n _ _ (value d.nodes node.high) same (same_sym n (value d.nodes node.high) _ deep)) in
         reduced.not_redundant k node e (can node.low node.high (ok.nodes k node e).low (ok.nodes k node e).high both)
 
     fewer : (j k : ℕ) → j ≤ k → Canonical k → Canonical j
     fewer j k le can r s a b = can r s (before_more j k r le a) (before_more j k s le b)
 
     -- a node at k has another function than each ref before it
-    new_function : (k : ℕ) → Canonical k → (node : Node) → slice_get d.nodes k ≡ Some node → (s : Ref) → IsBefore k s → SameFunction n (value d.nodes (Place k)) (value d.nodes s) → ⊥
+    new_function : (k : ℕ) → Canonical k → (node : Node) → slice_get d.nodes k ≡ Some node → (s : Ref) → IsBefore k s →
+        SameFunction n (value d.nodes (Place k)) (value d.nodes s) → ⊥
     unfolding StandsFrom
     new_function k can node e (Terminal b) before same =
-        node_depends k can node e (transfer n node.variable (value d.nodes (Place k)) (value d.nodes (Terminal b)) same (not_dependent node.variable (Terminal b) tt tt))
+        node_depends k can node e
+        (transfer n node.variable (value d.nodes (Place k)) (value d.nodes (Terminal b)) same
+        (not_dependent node.variable (Terminal b) tt tt))
     new_function k can node e (Place j) before same =
         elim (slice_get_cases d.nodes j).1 [
           | inl found ↦ by found.0 found.2
@@ -108,8 +116,11 @@ module _ (n : ℕ) (order : List ℕ) (d : Graph) (ok : IsDiagram n d) (ordered 
                 let one = child_value k node e b in
                 let two = child_value j other f b in
                 let mid = restrict_same n node.variable b (value d.nodes (Place k)) (value d.nodes (Place j)) same in
-                let turned = subst (λ x. SameFunction n (restrict x b (value d.nodes (Place j))) (value d.nodes (cond b other.high other.low))) (sym v) (same_sym n (value d.nodes (cond b other.high other.low)) _ two) in
-                can (cond b node.high node.low) (cond b other.high other.low) (child_before n d ok k node b e) (before_more j k _ (omega (arith, before)) (child_before n d ok j other b f))
+                let turned =
+                subst (λ x. SameFunction n (restrict x b (value d.nodes (Place j))) (value d.nodes (cond b other.high other.low)))
+                (sym v) (same_sym n (value d.nodes (cond b other.high other.low)) _ two) in
+                can (cond b node.high node.low) (cond b other.high other.low) (child_before n d ok k node b e)
+                (before_more j k _ (omega (arith, before)) (child_before n d ok j other b f))
                 (same_trans n _ _ (value d.nodes (cond b other.high other.low)) one (same_trans n _ _ (value d.nodes (cond b other.high other.low)) mid turned))
 
             equal : node.variable ≡ other.variable → ⊥
@@ -125,13 +136,17 @@ module _ (n : ℕ) (order : List ℕ) (d : Graph) (ok : IsDiagram n d) (ordered 
 
             below : place_of other < place_of node → ⊥
             below lt =
-                node_depends j (fewer j k (omega (arith, before)) can) other f (transfer n other.variable (value d.nodes (Place j)) (value d.nodes (Place k)) (same_sym n (value d.nodes (Place k)) (value d.nodes (Place j)) same)
+                node_depends j (fewer j k (omega (arith, before)) can) other f
+                (transfer n other.variable (value d.nodes (Place j)) (value d.nodes (Place k))
+                (same_sym n (value d.nodes (Place k)) (value d.nodes (Place j)) same)
                 (not_dependent other.variable (Place k) lt_k (λ z is. let t = ap place_of (same_Some z node (sym is ∙ e)) in omega arith)))
 
     -- equal functions have equal refs
     pub canonical : (k : ℕ) → k ≤ length d.nodes → Canonical k
     unfolding SameFunction zeros
-    canonical zero le (Terminal a) (Terminal b) h g same = ap Terminal (sym (value_terminal d.nodes (zeros n) a) ∙ same (zeros n) (length-replicate n false) ∙ value_terminal d.nodes (zeros n) b)
+    canonical zero le (Terminal a) (Terminal b) h g same =
+        ap Terminal
+        (sym (value_terminal d.nodes (zeros n) a) ∙ same (zeros n) (length-replicate n false) ∙ value_terminal d.nodes (zeros n) b)
     canonical zero le (Terminal a) (Place j) h g same = absurd (omega (arith, g))
     canonical zero le (Place i) s h g same = absurd (omega (arith, h))
     canonical (suc k) le r s h g same =
@@ -142,7 +157,10 @@ module _ (n : ℕ) (order : List ℕ) (d : Graph) (ok : IsDiagram n d) (ordered 
       where
         by : (node : Node) → slice_get d.nodes k ≡ Some node → IsBefore k r ⊎ (r ≡ Place k) → IsBefore k s ⊎ (s ≡ Place k) → Canonical k → r ≡ s
         by node e (inl a) (inl b) can = can r s a b same
-        by node e (inl a) (inr b) can = absurd (new_function k can node e r a (same_sym n (value d.nodes r) (value d.nodes (Place k)) (subst (λ t. SameFunction n (value d.nodes r) (value d.nodes t)) b same)))
+        by node e (inl a) (inr b) can =
+            absurd (new_function k can node e r a
+            (same_sym n (value d.nodes r) (value d.nodes (Place k))
+            (subst (λ t. SameFunction n (value d.nodes r) (value d.nodes t)) b same)))
         by node e (inr a) (inl b) can = absurd (new_function k can node e s b (subst (λ t. SameFunction n (value d.nodes t) (value d.nodes s)) a same))
         by node e (inr a) (inr b) can = a ∙ sym b
 
@@ -163,7 +181,8 @@ reach_append F xs ys g h a b =
     let from = among_from_flat_map (subfunctions xs) g F a in
     among_flat_map (subfunctions (xs ++ ys)) from.0 F h from.1 (subfunctions_append xs ys from.0 g h from.2 b)
 
-zip_root : (R : Ref → Function → Type 0) (roots : List Ref) (F : List Function) → AllZip R roots F → (k : ℕ) (r : Ref) → k < length roots → (f : Function) × Among f F × R (get_or roots k r) f
+zip_root : (R : Ref → Function → Type 0) (roots : List Ref) (F : List Function) → AllZip R roots F → (k : ℕ) (r : Ref) → k < length roots →
+    (f : Function) × Among f F × R (get_or roots k r) f
 zip_root R [] F z k r h = absurd (omega arith)
 zip_root R (s ∷ roots) [] z k r h = absurd z
 zip_root R (s ∷ roots) (f ∷ F) z zero r h = (f, inl refl, z.0)
@@ -174,16 +193,20 @@ module _ (n : ℕ) (F : List Function) (order : List ℕ) (o : IsOrder n order) 
   ordered_ok = rep.diagram
 
   -- restricting variables above a ref leaves its function
-  free_all : (xs : List ℕ) (a i : ℕ) → AtPlaces n order a xs → a + length xs ≤ i → (r : Ref) → IsBefore (length d.nodes) r → StandsFrom order d.nodes i r → (f : Function) → SameFunction n (value d.nodes r) f →
+  free_all : (xs : List ℕ) (a i : ℕ) → AtPlaces n order a xs → a + length xs ≤ i → (r : Ref) → IsBefore (length d.nodes) r →
+      StandsFrom order d.nodes i r → (f : Function) → SameFunction n (value d.nodes r) f →
       (g : Function) × Among g (subfunctions xs f) × SameFunction n (value d.nodes r) g
   unfolding subfunctions SameFunction restrict
   free_all [] a i at le r before stands f same = (f, inl refl, same)
   free_all (x ∷ xs) a i at le r before stands f same =
       let lt : place_in order x < i = omega (arith, at.0) in
-      let rest = free_all xs (suc a) i at.3 (omega arith) r before stands (restrict x false f) (λ p l. sym (free n order d rep.diagram rep.ordered i x lt false p r before stands) ∙ same (set p x false) (length-set p x false ∙ l)) in
+      let rest = free_all xs (suc a) i at.3 (omega arith) r before stands (restrict x false f)
+      (λ p l. sym (free n order d rep.diagram rep.ordered i x lt false p r before stands)
+      ∙ same (set p x false) (length-set p x false ∙ l)) in
       (rest.0, among_left rest.0 _ _ rest.1, rest.2)
 
-  down : (a m : ℕ) → a + m ≤ length order → (r : Ref) → IsBefore (length d.nodes) r → StandsFrom order d.nodes (a + m) r → (g : Function) → Among g (reach F (take a order)) → SameFunction n (value d.nodes r) g →
+  down : (a m : ℕ) → a + m ≤ length order → (r : Ref) → IsBefore (length d.nodes) r → StandsFrom order d.nodes (a + m) r → (g : Function) →
+      Among g (reach F (take a order)) → SameFunction n (value d.nodes r) g →
       (h : Function) × Among h (reach F (take (a + m) order)) × SameFunction n (value d.nodes r) h
   down a m le r before stands g h same =
       let rest = free_all part a (a + m) at (omega (arith, long)) r before stands g same in
@@ -212,13 +235,15 @@ module _ (n : ℕ) (F : List Function) (order : List ℕ) (o : IsOrder n order) 
   Got k node = (g : Function) × Among g (reach F (take (place_in order node.variable) order)) × SameFunction n (value d.nodes (Place k)) g
 
   -- from the functions reached at a place above, down to the node's own level
-  land : (k : ℕ) (node : Node) → slice_get d.nodes k ≡ Some node → (a : ℕ) → a ≤ place_in order node.variable → (g : Function) → Among g (reach F (take a order)) → SameFunction n (value d.nodes (Place k)) g → Got k node
+  land : (k : ℕ) (node : Node) → slice_get d.nodes k ≡ Some node → (a : ℕ) → a ≤ place_in order node.variable → (g : Function) →
+      Among g (reach F (take a order)) → SameFunction n (value d.nodes (Place k)) g → Got k node
   unfolding Got
   land k node e a le g h same =
       let i = place_in order node.variable in
       let inside = place_inside k node e in
       let sum : a + (i - a) ≡ i = omega arith in
-      let rest = down a (i - a) (omega arith) (Place k) (slice_get_within d.nodes k node e) (subst (λ j. StandsFrom order d.nodes j (Place k)) (sym sum) (own_stand k node e)) g h same in
+      let rest = down a (i - a) (omega arith) (Place k) (slice_get_within d.nodes k node e)
+      (subst (λ j. StandsFrom order d.nodes j (Place k)) (sym sum) (own_stand k node e)) g h same in
       (rest.0, subst (λ j. Among rest.0 (reach F (take j order))) sum rest.1, rest.2)
 
   from_a_root : (r : Ref) → Contains d.roots r → (k : ℕ) (node : Node) → r ≡ Place k → slice_get d.nodes k ≡ Some node → Got k node
@@ -228,7 +253,8 @@ module _ (n : ℕ) (F : List Function) (order : List ℕ) (o : IsOrder n order) 
       let same = subst (λ s. SameFunction n (value d.nodes s) f.0) (c.2 ∙ e) f.2 in
       land k node is 0 (omega arith) f.0 (among_flat_map (subfunctions []) f.0 F f.0 f.1 (inl refl)) same
 
-  from_a_parent : (j : ℕ) (parent : Node) → slice_get d.nodes j ≡ Some parent → Got j parent → (k : ℕ) (node : Node) → slice_get d.nodes k ≡ Some node → IsChild (Place k) parent → Got k node
+  from_a_parent : (j : ℕ) (parent : Node) → slice_get d.nodes j ≡ Some parent → Got j parent → (k : ℕ) (node : Node) →
+      slice_get d.nodes k ≡ Some node → IsChild (Place k) parent → Got k node
   unfolding Got IsOrdered
   from_a_parent j parent f got k node is c = elim c [ inl e ↦ by false e | inr e ↦ by true e ]
     where
@@ -243,16 +269,21 @@ module _ (n : ℕ) (F : List Function) (order : List ℕ) (o : IsOrder n order) 
           let g = got.0 in
           let i = place_in order x in
           let inside = place_inside j parent f in
-          let same = subst (λ r. SameFunction n (value d.nodes r) (restrict x b (value d.nodes (Place j)))) e (child_value n order d rep.diagram rep.ordered j parent f b) in
-          let same' = same_trans n (value d.nodes (Place k)) (restrict x b (value d.nodes (Place j))) (restrict x b g) same (restrict_same n x b (value d.nodes (Place j)) g got.2) in
+          let same = subst (λ r. SameFunction n (value d.nodes r) (restrict x b (value d.nodes (Place j)))) e
+          (child_value n order d rep.diagram rep.ordered j parent f b) in
+          let same' =
+          same_trans n (value d.nodes (Place k)) (restrict x b (value d.nodes (Place j))) (restrict x b g) same
+          (restrict_same n x b (value d.nodes (Place j)) g got.2) in
           let front = take_more order i 0 inside ∙ ap (λ y. take i order ++ y ∷ []) (place_at order x inside) in
           let lt = above in
-          land k node is (i + 1) (omega arith) (restrict x b g) (subst (λ xs. Among (restrict x b g) (reach F xs)) (sym front) (reach_more F (take i order) x b g got.1)) same'
+          land k node is (i + 1) (omega arith) (restrict x b g)
+          (subst (λ xs. Among (restrict x b g) (reach F xs)) (sym front) (reach_more F (take i order) x b g got.1)) same'
 
   -- each reached node has a function that is got by restricting the variables above its own
   node_function : {r : Ref} → Reached d r → (k : ℕ) (node : Node) → r ≡ Place k → slice_get d.nodes k ≡ Some node → Got k node
   node_function (from_root {r = r} c) k node e is = from_a_root r c k node e is
-  node_function (from_parent {r = r} j parent h f c) k node e is = from_a_parent j parent f (node_function h j parent refl f) k node is (subst (λ s. IsChild s parent) e c)
+  node_function (from_parent {r = r} j parent h f c) k node e is =
+      from_a_parent j parent f (node_function h j parent refl f) k node is (subst (λ s. IsChild s parent) e c)
 
 -- ---- counting
 
@@ -265,18 +296,23 @@ enumerated_from (x ∷ xs) s e h =
     ]
 
 module _ (test : Node → Bool) (h : ℕ × Node → List Bool) where
-  all_apart : (t : List Bool) (es : List (ℕ × Node)) → ((e : ℕ × Node) → Among e es → t ≢ h e) → AllByRecursion (λ u. same_table t u ≡ false) (map h (filter (λ e. test e.1) es))
+  all_apart : (t : List Bool) (es : List (ℕ × Node)) → ((e : ℕ × Node) → Among e es → t ≢ h e) →
+      AllByRecursion (λ u. same_table t u ≡ false) (map h (filter (λ e. test e.1) es))
   all_apart t [] ne = tt
   all_apart t (e ∷ es) ne = by (test e.1) (all_apart t es (λ u k. ne u (inr k)))
     where
-      by : (b : Bool) → AllByRecursion (λ u. same_table t u ≡ false) (map h (filter (λ e. test e.1) es)) → AllByRecursion (λ u. same_table t u ≡ false) (map h (cond b (e ∷ filter (λ e. test e.1) es) (filter (λ e. test e.1) es)))
+      by : (b : Bool) → AllByRecursion (λ u. same_table t u ≡ false) (map h (filter (λ e. test e.1) es)) →
+          AllByRecursion (λ u. same_table t u ≡ false) (map h (cond b (e ∷ filter (λ e. test e.1) es) (filter (λ e. test e.1) es)))
       by true r = (false_from_ne_true (same_table t (h e)) (λ k. ne e (inl refl) ((same_table_decides t (h e)).0 k)), r)
       by false r = r
 
-  distinct_tables : (xs : List Node) (s : ℕ) → ((e g : ℕ × Node) → Among e (enumerate_from s xs) → Among g (enumerate_from s xs) → h e ≡ h g → e.0 ≡ g.0) → IsDistinct same_table (map h (filter (λ e. test e.1) (enumerate_from s xs)))
+  distinct_tables : (xs : List Node) (s : ℕ) →
+      ((e g : ℕ × Node) → Among e (enumerate_from s xs) → Among g (enumerate_from s xs) → h e ≡ h g → e.0 ≡ g.0) →
+      IsDistinct same_table (map h (filter (λ e. test e.1) (enumerate_from s xs)))
   unfolding IsDistinct
   distinct_tables [] s inj = tt
-  distinct_tables (x ∷ xs) s inj = by (test x) (distinct_tables xs (s + 1) (λ e g a b. inj e g (inr a) (inr b))) (all_apart (h (s, x)) (enumerate_from (s + 1) xs) later)
+  distinct_tables (x ∷ xs) s inj =
+      by (test x) (distinct_tables xs (s + 1) (λ e g a b. inj e g (inr a) (inr b))) (all_apart (h (s, x)) (enumerate_from (s + 1) xs) later)
     where
       later : (e : ℕ × Node) → Among e (enumerate_from (s + 1) xs) → h (s, x) ≢ h e
       later e a k = let f = inj (s, x) e (inl refl) (inr a) k in let g = (enumerated_from xs (s + 1) e a).1 in omega arith
@@ -284,12 +320,14 @@ module _ (test : Node → Bool) (h : ℕ × Node → List Bool) where
       tail : List (ℕ × Node)
       tail = filter (λ e. test e.1) (enumerate_from (s + 1) xs)
 
-      by : (b : Bool) → IsDistinct same_table (map h tail) → AllByRecursion (λ u. same_table (h (s, x)) u ≡ false) (map h tail) → IsDistinct same_table (map h (cond b ((s, x) ∷ tail) tail))
+      by : (b : Bool) → IsDistinct same_table (map h tail) → AllByRecursion (λ u. same_table (h (s, x)) u ≡ false) (map h tail) →
+          IsDistinct same_table (map h (cond b ((s, x) ∷ tail) tail))
       by true r a = (a, r)
       by false r a = r
 
 -- a reduced diagram has on each level just the level count
-pub reduced_levels : (n : ℕ) (F : List Function) (order : List ℕ) (d : Graph) → IsOrder n order → Represents n F order d → IsReduced d → (i : ℕ) → i < length order →
+pub reduced_levels : (n : ℕ) (F : List Function) (order : List ℕ) (d : Graph) → IsOrder n order → Represents n F order d → IsReduced d →
+    (i : ℕ) → i < length order →
     nodes_at d (slice_index order i) ≡ level_count n F order i
 unfolding level_count dependents nodes_at DependsOn Got
 reduced_levels n F order d o rep reduced i lt =
@@ -320,7 +358,8 @@ reduced_levels n F order d o rep reduced i lt =
     found = map (table n) (filter (λ f. depends n f x) (reach F (take i order)))
 
     inj : (x y : ℕ) → x < n → y < n → place_in order x ≡ place_in order y → x ≡ y
-    inj y z a b e = sym (place_at order y (place_small order y ((o.all y).1 a))) ∙ ap (λ k. get_or order k 0) e ∙ place_at order z (place_small order z ((o.all z).1 b))
+    inj y z a b e = sym (place_at order y (place_small order y ((o.all y).1 a))) ∙ ap (λ k. get_or order k 0) e
+        ∙ place_at order z (place_small order z ((o.all z).1 b))
 
     can : Canonical n order d rep.diagram rep.ordered reduced inj (length d.nodes)
     can = canonical n order d rep.diagram rep.ordered reduced inj (length d.nodes) (omega arith)
@@ -335,7 +374,10 @@ reduced_levels n F order d o rep reduced i lt =
     same_place j k e = cc
 
     distinct : IsDistinct same_table tables
-    distinct = distinct_tables test place_table d.nodes 0 (λ e g a b same. same_place e.0 g.0 (can (Place e.0) (Place g.0) (inside e a) (inside g b) (same_from_table n (value d.nodes (Place e.0)) (value d.nodes (Place g.0)) same)))
+    distinct = distinct_tables test place_table d.nodes 0
+        (λ e g a b same. same_place e.0 g.0
+        (can (Place e.0) (Place g.0) (inside e a) (inside g b)
+        (same_from_table n (value d.nodes (Place e.0)) (value d.nodes (Place g.0)) same)))
 
     level : (e : ℕ × Node) → Among e (enumerate_from 0 d.nodes) → e.1.variable ≡ x → Among (place_table e) found
     level e a v =
@@ -345,9 +387,12 @@ reduced_levels n F order d o rep reduced i lt =
         let place : place_in order e.1.variable ≡ i = ap (place_in order) v ∙ place_get order i o.once lt in
         let here = subst (λ j. Among g (reach F (take j order))) place got.1 in
         let small = inside e a in
-        let dep = (depends_lem n g x).1 (λ s. node_depends n order d rep.diagram rep.ordered reduced inj k (fewer n order d rep.diagram rep.ordered reduced inj k (length d.nodes) (omega (arith, small)) can) e.1 (node_at e a)
+        let dep = (depends_lem n g x).1
+        (λ s. node_depends n order d rep.diagram rep.ordered reduced inj k
+        (fewer n order d rep.diagram rep.ordered reduced inj k (length d.nodes) (omega (arith, small)) can) e.1 (node_at e a)
         (transfer n e.1.variable (value d.nodes (Place k)) g got.2 (subst (λ y. SameFunction n (restrict y false g) (restrict y true g)) (sym v) s))) in
-        subst (λ u. Among u found) (sym (table_same n (value d.nodes (Place k)) g got.2)) (among_map (table n) g _ (among_filter (λ f. depends n f x) g (reach F (take i order)) here dep))
+        subst (λ u. Among u found) (sym (table_same n (value d.nodes (Place k)) g got.2))
+        (among_map (table n) g _ (among_filter (λ f. depends n f x) g (reach F (take i order)) here dep))
 
     within : Within tables found
     within t h =

@@ -43,13 +43,15 @@ module _ (reached : List ℕ) (k : ℕ) (later : List ℕ) (row : IsJoined reach
   pub joined_bit : (a b : ℕ) → HasBit later a b ↔ (HasBit reached a b ⊎ (HasBit reached a k × HasBit reached k b))
   joined_bit a b = elim (cases_eq (bit_at (get_or reached a 0) k) 1) [
     | inl e ↦
-        let is : get_or later a 0 ≡ bit_or (get_or reached a 0) (get_or reached k 0) = row a ∙ ap (λ t. cond t (bit_or (get_or reached a 0) (get_or reached k 0)) (get_or reached a 0)) (eq-eqb _ _ e) in
+        let is : get_or later a 0 ≡ bit_or (get_or reached a 0) (get_or reached k 0) = row a
+        ∙ ap (λ t. cond t (bit_or (get_or reached a 0) (get_or reached k 0)) (get_or reached a 0)) (eq-eqb _ _ e) in
         let both = or_one (get_or reached a 0) (get_or reached k 0) b in (
           λ h. elim (both.0 (sym (ap (λ m. bit_at m b) is) ∙ h)) [ inl x ↦ inl x | inr y ↦ inr (e, y) ],
           λ h. ap (λ m. bit_at m b) is ∙ both.1 (elim h [ inl x ↦ inl x | inr y ↦ inr y.1 ]),
         )
     | inr ne ↦
-        let is : get_or later a 0 ≡ get_or reached a 0 = row a ∙ ap (λ t. cond t (bit_or (get_or reached a 0) (get_or reached k 0)) (get_or reached a 0)) (ne_eqb _ _ ne) in (
+        let is : get_or later a 0 ≡ get_or reached a 0 = row a
+        ∙ ap (λ t. cond t (bit_or (get_or reached a 0) (get_or reached k 0)) (get_or reached a 0)) (ne_eqb _ _ ne) in (
           λ h. inl (sym (ap (λ m. bit_at m b) is) ∙ h),
           λ h. ap (λ m. bit_at m b) is ∙ elim h [ inl x ↦ x | inr y ↦ absurd (ne y.0) ],
         )
@@ -60,29 +62,35 @@ pub one_more : (P : List Pair) (k : ℕ) (reached later : List ℕ) → IsJoined
 one_more P k reached later row r = record {
   pairs = λ a b h. (joined_bit reached k later row a b).1 (inl (r.pairs a b h));
   led = λ a b h. elim ((joined_bit reached k later row a b).0 h) [ inl x ↦ r.led a b x | inr y ↦ leads_on (r.led a k y.0) (r.led k b y.1) ];
-  closed = λ j a b h x y. (joined_bit reached k later row a b).1 (through j a b h ((joined_bit reached k later row a j).0 x) ((joined_bit reached k later row j b).0 y));
+  closed = λ j a b h x y. (joined_bit reached k later row a b).1
+      (through j a b h ((joined_bit reached k later row a j).0 x) ((joined_bit reached k later row j b).0 y));
 }
   where
-    before : (j a b : ℕ) → j < k → (HasBit reached a j ⊎ (HasBit reached a k × HasBit reached k j)) → (HasBit reached j b ⊎ (HasBit reached j k × HasBit reached k b)) → HasBit reached a b ⊎ (HasBit reached a k × HasBit reached k b)
+    before : (j a b : ℕ) → j < k → (HasBit reached a j ⊎ (HasBit reached a k × HasBit reached k j)) →
+        (HasBit reached j b ⊎ (HasBit reached j k × HasBit reached k b)) → HasBit reached a b ⊎ (HasBit reached a k × HasBit reached k b)
     before j a b h (inl x) (inl y) = inl (r.closed j a b h x y)
     before j a b h (inl x) (inr y) = inr (r.closed j a k h x y.0, y.1)
     before j a b h (inr x) (inl y) = inr (x.0, r.closed j k b h x.1 y)
     before j a b h (inr x) (inr y) = inr (x.0, y.1)
 
-    at : (a b : ℕ) → (HasBit reached a k ⊎ (HasBit reached a k × HasBit reached k k)) → (HasBit reached k b ⊎ (HasBit reached k k × HasBit reached k b)) → HasBit reached a b ⊎ (HasBit reached a k × HasBit reached k b)
+    at : (a b : ℕ) → (HasBit reached a k ⊎ (HasBit reached a k × HasBit reached k k)) →
+        (HasBit reached k b ⊎ (HasBit reached k k × HasBit reached k b)) → HasBit reached a b ⊎ (HasBit reached a k × HasBit reached k b)
     at a b (inl x) (inl y) = inr (x, y)
     at a b (inl x) (inr y) = inr (x, y.1)
     at a b (inr x) (inl y) = inr (x.0, y)
     at a b (inr x) (inr y) = inr (x.0, y.1)
 
-    through : (j a b : ℕ) → j < k + 1 → (HasBit reached a j ⊎ (HasBit reached a k × HasBit reached k j)) → (HasBit reached j b ⊎ (HasBit reached j k × HasBit reached k b)) → HasBit reached a b ⊎ (HasBit reached a k × HasBit reached k b)
+    through : (j a b : ℕ) → j < k + 1 → (HasBit reached a j ⊎ (HasBit reached a k × HasBit reached k j)) →
+        (HasBit reached j b ⊎ (HasBit reached j k × HasBit reached k b)) → HasBit reached a b ⊎ (HasBit reached a k × HasBit reached k b)
     through j a b h x y = elim (cases_eq j k) [
-      | inl e ↦ at a b (subst (λ (v : ℕ). HasBit reached a v ⊎ (HasBit reached a k × HasBit reached k v)) e x) (subst (λ (v : ℕ). HasBit reached v b ⊎ (HasBit reached v k × HasBit reached k b)) e y)
+      | inl e ↦ at a b (subst (λ (v : ℕ). HasBit reached a v ⊎ (HasBit reached a k × HasBit reached k v)) e x)
+          (subst (λ (v : ℕ). HasBit reached v b ⊎ (HasBit reached v k × HasBit reached k b)) e y)
       | inr ne ↦ before j a b (omega arith) x y
     ]
 
 -- closed under steps through all the variables of the pairs, the masks have all that pairs lead to
-pub all_reached : (P : List Pair) (k : ℕ) (reached : List ℕ) → ((a b : ℕ) → has_pair P a b ≡ true → (a < k) × (b < k)) → Reaches P k reached → {a b : ℕ} → Leads P a b → HasBit reached a b
+pub all_reached : (P : List Pair) (k : ℕ) (reached : List ℕ) → ((a b : ℕ) → has_pair P a b ≡ true → (a < k) × (b < k)) →
+    Reaches P k reached → {a b : ℕ} → Leads P a b → HasBit reached a b
 all_reached P k reached small r (by_one {a} {b} h) = r.pairs a b h
 all_reached P k reached small r (by_more {a} {b} {c} h l) = r.closed b a c (small a b h).1 (r.pairs a b h) (all_reached P k reached small r l)
 
@@ -97,12 +105,14 @@ pub record JoinedTo (below : List ℕ) (k i : ℕ) (later : List ℕ) : Type 0 w
 pub joined_none : (below : List ℕ) (k : ℕ) → JoinedTo below k 0 below
 joined_none below k = record { done = λ a h. absurd (omega arith); left = λ a h. refl; long = refl }
 
-pub joined_set : (below : List ℕ) (k i : ℕ) (later : List ℕ) → JoinedTo below k i later → i < length later → bit_at (get_or later i 0) k ≡ 1 → JoinedTo below k (i + 1) (set later i (bit_or (get_or later i 0) (get_or below k 0)))
+pub joined_set : (below : List ℕ) (k i : ℕ) (later : List ℕ) → JoinedTo below k i later → i < length later →
+    bit_at (get_or later i 0) k ≡ 1 → JoinedTo below k (i + 1) (set later i (bit_or (get_or later i 0) (get_or below k 0)))
 joined_set below k i later j h e = record {
   done = λ a l. elim (cases_eq a i) [
     | inl s ↦
         let is : get_or later i 0 ≡ get_or below i 0 = j.left i (omega arith) in
-        ap (λ v. get_or (set later i (bit_or (get_or later i 0) (get_or below k 0))) v 0) s ∙ get_or-set_same later i (bit_or (get_or later i 0) (get_or below k 0)) 0 h ∙ ap (λ m. bit_or m (get_or below k 0)) is
+        ap (λ v. get_or (set later i (bit_or (get_or later i 0) (get_or below k 0))) v 0) s
+        ∙ get_or-set_same later i (bit_or (get_or later i 0) (get_or below k 0)) 0 h ∙ ap (λ m. bit_or m (get_or below k 0)) is
         ∙ sym (ap (λ v. cond (eqb (bit_at (get_or below v 0) k) 1) (bit_or (get_or below v 0) (get_or below k 0)) (get_or below v 0)) s
         ∙ ap (λ t. cond t (bit_or (get_or below i 0) (get_or below k 0)) (get_or below i 0)) (eq-eqb _ _ (ap (λ m. bit_at m k) (sym is) ∙ e)))
     | inr ne ↦ get_or-set_other later i a (bit_or (get_or later i 0) (get_or below k 0)) 0 ne ∙ j.done a (omega arith)
@@ -111,7 +121,8 @@ joined_set below k i later j h e = record {
   long = length-set later i (bit_or (get_or later i 0) (get_or below k 0)) ∙ j.long;
 }
 
-pub joined_kept : (below : List ℕ) (k i : ℕ) (later : List ℕ) → JoinedTo below k i later → (bit_at (get_or later i 0) k ≡ 1 → ⊥) → JoinedTo below k (i + 1) later
+pub joined_kept : (below : List ℕ) (k i : ℕ) (later : List ℕ) → JoinedTo below k i later → (bit_at (get_or later i 0) k ≡ 1 → ⊥) →
+    JoinedTo below k (i + 1) later
 joined_kept below k i later j no_bit = record {
   done = λ a l. elim (cases_eq a i) [
     | inl s ↦
@@ -130,7 +141,9 @@ joined_all below k i later j h a = elim (cases_lt a i) [
   | inl l ↦ j.done a l
   | inr l ↦
       let none : get_or below a 0 ≡ 0 = get_or_past below a 0 (let s = j.long in omega arith) in
-      j.left a l ∙ none ∙ sym (ap (λ m. cond (eqb (bit_at m k) 1) (bit_or m (get_or below k 0)) m) none ∙ ap (λ t. cond t (bit_or 0 (get_or below k 0)) 0) (ne_eqb (bit_at 0 k) 1 (λ e. not_one_from_zero 0 k (bit_at-zero k) e)))
+      j.left a l ∙ none
+      ∙ sym (ap (λ m. cond (eqb (bit_at m k) 1) (bit_or m (get_or below k 0)) m) none
+      ∙ ap (λ t. cond t (bit_or 0 (get_or below k 0)) 0) (ne_eqb (bit_at 0 k) 1 (λ e. not_one_from_zero 0 k (bit_at-zero k) e)))
 ]
 
 -- where pairs lead from a, a is a variable of the pairs

@@ -82,7 +82,8 @@ some_member (x ∷ xs) h = (x, or_left _ _ (eq-eqb x x refl))
 -- ---- a top of each set
 
 -- a pair from a member of S down to v
-pair_above : (P : List Pair) (S : List ℕ) (v : ℕ) → ((p : Pair) × Among p P × (p.1 ≡ v) × (has S p.0 ≡ true)) ⊎ ((p : Pair) → Among p P → p.1 ≡ v → has S p.0 ≡ true → ⊥)
+pair_above : (P : List Pair) (S : List ℕ) (v : ℕ) →
+    ((p : Pair) × Among p P × (p.1 ≡ v) × (has S p.0 ≡ true)) ⊎ ((p : Pair) → Among p P → p.1 ≡ v → has S p.0 ≡ true → ⊥)
 pair_above [] S v = inr (λ p m. absurd m)
 pair_above (p ∷ P) S v =
     elim (pair_above P S v) [
@@ -119,8 +120,11 @@ module _ (P : List Pair) (acyclic : (v : ℕ) → Leads P v v → ⊥) where
         ]
   ]
 
-  walk : (k : ℕ) (S left : List ℕ) (v : ℕ) → IsDistinct nat_eq left → length left ≤ k → has S v ≡ true → ((u : ℕ) → has S u ≡ true → (u ≡ v) ⊎ Leads P v u ⊎ (has left u ≡ true)) → Top S
-  walk zero S left v d le h passed = step_up S left v h passed (λ a m step there. absurd (false≢true (ap (λ xs. has xs a) (sym (nil_from_length left (omega arith))) ∙ there)))
+  walk : (k : ℕ) (S left : List ℕ) (v : ℕ) → IsDistinct nat_eq left → length left ≤ k → has S v ≡ true →
+      ((u : ℕ) → has S u ≡ true → (u ≡ v) ⊎ Leads P v u ⊎ (has left u ≡ true)) → Top S
+  walk zero S left v d le h passed =
+      step_up S left v h passed
+      (λ a m step there. absurd (false≢true (ap (λ xs. has xs a) (sym (nil_from_length left (omega arith))) ∙ there)))
   walk (suc k) S left v d le h passed =
       step_up S left v h passed (λ a m step there.
       walk k S (without a left) a (distinct_without a left d) (let e = length_without a left d there in omega arith) m (λ u hu. elim (cases_eq u a) [
@@ -146,7 +150,8 @@ module _ (P : List Pair) (acyclic : (v : ℕ) → Leads P v v → ⊥) where
       (x, has_tops P S x ∙ and_from _ _ top.1 rest)
 
   -- the smallest tops, one after the other
-  greedy : (n k mask : ℕ) → mask < 2 ^ n → length (members n mask) ≡ k → is_lawful P (members n mask) ≡ true → (order : List ℕ) × IsGreedy n P mask order × IsLawfulList P (members n mask) order
+  greedy : (n k mask : ℕ) → mask < 2 ^ n → length (members n mask) ≡ k → is_lawful P (members n mask) ≡ true →
+      (order : List ℕ) × IsGreedy n P mask order × IsLawfulList P (members n mask) order
   unfolding IsGreedy IsDistinct
   greedy n zero mask lt e l =
       let none = nil_from_length (members n mask) e in
@@ -161,10 +166,17 @@ module _ (P : List Pair) (acyclic : (v : ℕ) → Leads P v v → ⊥) where
       let same = members_without n mask x parts.0 in
       let low = lawful_same P (members n (mask - 2 ^ x)) (without x (members n mask)) same ∙ parts.1 in
       let long = length_without x (members n mask) (distinct_members n mask) parts.0 in
-      let long' = length-from_same_keys nat_eq_equiv (members n (mask - 2 ^ x)) (without x (members n mask)) (distinct_members n (mask - 2 ^ x)) (distinct_without x (members n mask) (distinct_members n mask)) same in
+      let long' =
+      length-from_same_keys nat_eq_equiv (members n (mask - 2 ^ x)) (without x (members n mask)) (distinct_members n (mask - 2 ^ x))
+      (distinct_without x (members n mask) (distinct_members n mask)) same in
       let rest = greedy n k (mask - 2 ^ x) (omega arith) (omega arith) low in (
         x ∷ rest.0,
-        (there, λ y h. first_le (tops P (members n mask)) y (rising_filter (λ u. is_lawful P (without u (members n mask))) (members n mask) (rising_members n mask)) h, rest.1),
+        (
+          there,
+          λ y h. first_le (tops P (members n mask)) y
+              (rising_filter (λ u. is_lawful P (without u (members n mask))) (members n mask) (rising_members n mask)) h,
+          rest.1,
+        ),
         lawful_cons P x rest.0 (members n mask) l parts.0 (moved P (members n (mask - 2 ^ x)) (without x (members n mask)) rest.0 same rest.2),
       )
 
@@ -186,24 +198,34 @@ module _ (n : ℕ) (P : List Pair) (mask x : ℕ) (low : is_lawful P (members n 
     where
       below : y < x → ⊥
       below lt =
-          let le = smallest y (has_tops P (members n mask) y ∙ and_from _ _ (first_member y ys (members n mask) a.arrangement) (lawful_behind P y ys (members n mask) a)) in omega arith
+          let le = smallest y
+          (has_tops P (members n mask) y
+          ∙ and_from _ _ (first_member y ys (members n mask) a.arrangement) (lawful_behind P y ys (members n mask) a)) in
+          omega arith
 
       above : x < y → slice_cmp nat_cmp (x ∷ order) (y ∷ ys) ≢ Greater
-      above lt f = by (ap (λ r. ordering_then r (slice_cmp nat_cmp order ys)) (ap (λ b. cond b Less (cond (nat_eq x y) Equal Greater)) (sym (lt-ltb x y lt))) ∙ f)
+      above lt f =
+          by (ap (λ r. ordering_then r (slice_cmp nat_cmp order ys))
+          (ap (λ b. cond b Less (cond (nat_eq x y) Equal Greater)) (sym (lt-ltb x y lt))) ∙ f)
         where
           by : Less ≡ Greater → ⊥
           by g = cc
 
       same_top : x ≡ y → slice_cmp nat_cmp (x ∷ order) (y ∷ ys) ≢ Greater
       same_top s f =
-          let is_equal : Equal ≡ nat_cmp x y = ap₂ (λ b d. cond b Less (cond d Equal Greater)) (sym (le-ltb x y (let t = s in omega arith))) (sym (eq-eqb x y s)) in
+          let is_equal : Equal ≡ nat_cmp x y =
+          ap₂ (λ b d. cond b Less (cond d Equal Greater)) (sym (le-ltb x y (let t = s in omega arith))) (sym (eq-eqb x y s)) in
           let tail = lawful_tail P y ys (members n mask) a in
-          let there = moved P (without y (members n mask)) (members n (mask - 2 ^ x)) ys (λ z. ap (λ v. has (without v (members n mask)) z) (sym s) ∙ sym (members_without n mask x parts.0 z)) tail in
+          let there =
+          moved P (without y (members n mask)) (members n (mask - 2 ^ x)) ys
+          (λ z. ap (λ v. has (without v (members n mask)) z) (sym s) ∙ sym (members_without n mask x parts.0 z)) tail in
           rest.first ys there (ap (λ r. ordering_then r (slice_cmp nat_cmp order ys)) is_equal ∙ f)
 
   with_first : FirstList n P mask (x ∷ order)
   with_first = record {
-    is_lawful_list = lawful_cons P x order (members n mask) low parts.0 (moved P (members n (mask - 2 ^ x)) (without x (members n mask)) order (members_without n mask x parts.0) rest.is_lawful_list);
+    is_lawful_list =
+        lawful_cons P x order (members n mask) low parts.0
+        (moved P (members n (mask - 2 ^ x)) (without x (members n mask)) order (members_without n mask x parts.0) rest.is_lawful_list);
     first = none_before;
   }
 
@@ -213,7 +235,12 @@ module _ (n : ℕ) (P : List Pair) (mask x : ℕ) (low : is_lawful P (members n 
 greedy_first : (n : ℕ) (P : List Pair) (order : List ℕ) (mask : ℕ) → IsGreedy n P mask order → is_lawful P (members n mask) ≡ true → FirstList n P mask order
 unfolding IsGreedy IsDistinct
 greedy_first n P [] mask e l = record {
-  is_lawful_list = record { arrangement = record { members = λ y. ap (λ xs. has xs y) (sym (ap (members n) e ∙ members_zero n)); once = tt }; lawful = are_lawful_nil P };
+  is_lawful_list =
+      record {
+        arrangement =
+            record { members = λ y. ap (λ xs. has xs y) (sym (ap (members n) e ∙ members_zero n)); once = tt };
+        lawful = are_lawful_nil P;
+      };
   first = start;
 }
   where
@@ -226,10 +253,12 @@ greedy_first n P (x ∷ order) mask (top, smallest, rest) l = by (greedy_first n
     parts' = and_parts (has (members n mask) x) (is_lawful P (without x (members n mask))) (sym (has_tops P (members n mask) x) ∙ top)
 
     by : (is_lawful P (members n (mask - 2 ^ x)) ≡ true → FirstList n P (mask - 2 ^ x) order) → FirstList n P mask (x ∷ order)
-    by r = with_first n P mask x l top smallest order (r (lawful_same P (members n (mask - 2 ^ x)) (without x (members n mask)) (members_without n mask x parts'.0) ∙ parts'.1))
+    by r = with_first n P mask x l top smallest order
+        (r (lawful_same P (members n (mask - 2 ^ x)) (without x (members n mask)) (members_without n mask x parts'.0) ∙ parts'.1))
 
 -- a lawful list of all variables is an order that keeps the pairs, where these are below n and lead nowhere back
-lawful_order : (n : ℕ) (P : List Pair) → ((p : Pair) → Among p P → (p.0 < n) × (p.1 < n) × (p.0 ≢ p.1)) → (order : List ℕ) → IsLawfulList P (variables n) order → IsOrder n order × Keeps P order
+lawful_order : (n : ℕ) (P : List Pair) → ((p : Pair) → Among p P → (p.0 < n) × (p.1 < n) × (p.0 ≢ p.1)) → (order : List ℕ) →
+    IsLawfulList P (variables n) order → IsOrder n order × Keeps P order
 lawful_order n P each order a =
     let is = order_from_arrangement n order a.arrangement in
     (is, keeps_from P order (λ p m. let e = each p m in above_from_lawful P order a.lawful p m e.2 ((is.all p.0).1 e.0)))
@@ -249,11 +278,13 @@ greedy_is_first n P base order o k g =
     record {
       is_order = is.0;
       kept = is.1;
-      first = λ other p q. got.first other (moved P (variables n) (members n (2 ^ n - 1)) other (λ y. sym (members_full n y)) (lawful_from_order n P other p q));
+      first = λ other p q. got.first other
+          (moved P (variables n) (members n (2 ^ n - 1)) other (λ y. sym (members_full n y)) (lawful_from_order n P other p q));
     }
 
 -- pairs of variables below n that lead nowhere back are kept by a first order
-pub acyclic_kept : (n : ℕ) (P : List Pair) → AreBelow n P → ((v : ℕ) → Leads P v v → ⊥) → (order : List ℕ) × IsGreedy n P (2 ^ n - 1) order × IsFirstOrder n P order
+pub acyclic_kept : (n : ℕ) (P : List Pair) → AreBelow n P → ((v : ℕ) → Leads P v v → ⊥) →
+    (order : List ℕ) × IsGreedy n P (2 ^ n - 1) order × IsFirstOrder n P order
 acyclic_kept n P small acyclic =
     let each : (p : Pair) → Among p P → (p.0 < n) × (p.1 < n) × (p.0 ≢ p.1) = λ p m.
     let s = all_among (λ (q : Pair). (q.0 < n) × (q.1 < n)) P p (recursion_from_All (λ (q : Pair). (q.0 < n) × (q.1 < n)) P small) m in

@@ -37,17 +37,22 @@ pow_le_bit m x e = elim (cases_lt m (2 ^ x)) [
   | inr le ↦ le
 ]
 
-pub top_from : (n : ℕ) (P : List Pair) (mask x : ℕ) → x < n → bit_at mask x ≡ 1 → is_lawful P (members n (mask - 2 ^ x)) ≡ true → has (tops P (members n mask)) x ≡ true
+pub top_from : (n : ℕ) (P : List Pair) (mask x : ℕ) → x < n → bit_at mask x ≡ 1 → is_lawful P (members n (mask - 2 ^ x)) ≡ true →
+    has (tops P (members n mask)) x ≡ true
 top_from n P mask x h e l =
     let there = member_from n mask x h e in
-    has_tops P (members n mask) x ∙ and_from _ _ there (sym (lawful_same P (members n (mask - 2 ^ x)) (without x (members n mask)) (members_without n mask x there)) ∙ l)
+    has_tops P (members n mask) x
+    ∙ and_from _ _ there
+    (sym (lawful_same P (members n (mask - 2 ^ x)) (without x (members n mask)) (members_without n mask x there)) ∙ l)
 
-pub top_parts : (n : ℕ) (P : List Pair) (mask x : ℕ) → has (tops P (members n mask)) x ≡ true → (has (members n mask) x ≡ true) × (is_lawful P (members n (mask - 2 ^ x)) ≡ true)
+pub top_parts : (n : ℕ) (P : List Pair) (mask x : ℕ) → has (tops P (members n mask)) x ≡ true →
+    (has (members n mask) x ≡ true) × (is_lawful P (members n (mask - 2 ^ x)) ≡ true)
 top_parts n P mask x h =
     let s = and_parts (has (members n mask) x) (is_lawful P (without x (members n mask))) (sym (has_tops P (members n mask) x) ∙ h) in
     (s.0, lawful_same P (members n (mask - 2 ^ x)) (without x (members n mask)) (members_without n mask x s.0) ∙ s.1)
 
-pub some_top_below : (n : ℕ) (P : List Pair) (mask : ℕ) → CanBeKept n P → 0 < mask → mask < 2 ^ n → mask < 2 ^ 16 → is_lawful P (members n mask) ≡ true → (x : ℕ) × (x < n) × (has (tops P (members n mask)) x ≡ true)
+pub some_top_below : (n : ℕ) (P : List Pair) (mask : ℕ) → CanBeKept n P → 0 < mask → mask < 2 ^ n → mask < 2 ^ 16 →
+    is_lawful P (members n mask) ≡ true → (x : ℕ) × (x < n) × (has (tops P (members n mask)) x ≡ true)
 some_top_below n P mask kept some h k l =
     let z = some_bit mask k (λ e. absurd (omega arith)) in
     let low : z.0 < n = elim (cases_lt z.0 n) [ inl lt ↦ lt | inr le ↦ absurd (not_one_from_zero mask z.0 (bit_at_above mask n z.0 h le) z.2) ] in
@@ -71,7 +76,8 @@ filter_all (x ∷ xs) = ap (λ ys. x ∷ ys) (filter_all xs)
 all_members : (n : ℕ) → members n (2 ^ n - 1) ≡ variables n
 unfolding members
 all_members n =
-    filter_same (λ x. eqb (bit_at (2 ^ n - 1) x) 1) (λ x. true) (variables n) (λ x h. eq-eqb (bit_at (2 ^ n - 1) x) 1 (bit_at_ones n x ((has_variables n x).0 h)))
+    filter_same (λ x. eqb (bit_at (2 ^ n - 1) x) 1) (λ x. true) (variables n)
+    (λ x h. eq-eqb (bit_at (2 ^ n - 1) x) 1 (bit_at_ones n x ((has_variables n x).0 h)))
     ∙ filter_all (variables n)
 
 pub greedy_start : (n : ℕ) (P : List Pair) (xs : List ℕ) → CanBeKept n P → length xs ≡ 16 → GreedyTo n P xs 0 (2 ^ n - 1)
@@ -86,7 +92,8 @@ greedy_start n P xs kept long = record {
 -- one member fewer
 one_fewer : (n mask x : ℕ) → has (members n mask) x ≡ true → suc (length (members n (mask - 2 ^ x))) ≡ length (members n mask)
 one_fewer n mask x h =
-    let e = length-from_same_keys nat_eq_equiv (members n (mask - 2 ^ x)) (without x (members n mask)) (distinct_members n (mask - 2 ^ x)) (distinct_without x (members n mask) (distinct_members n mask)) (members_without n mask x h) in
+    let e = length-from_same_keys nat_eq_equiv (members n (mask - 2 ^ x)) (without x (members n mask)) (distinct_members n (mask - 2 ^ x))
+    (distinct_without x (members n mask) (distinct_members n mask)) (members_without n mask x h) in
     ap suc e ∙ length_without x (members n mask) (distinct_members n mask) h
 
 pub greedy_some : (n : ℕ) (P : List Pair) (xs : List ℕ) (k remaining : ℕ) → GreedyTo n P xs k remaining → k < n → 0 < remaining
@@ -95,7 +102,8 @@ greedy_some n P xs k remaining g h = elim (cases_lt 0 remaining) [
   | inr le ↦ absurd (let z : remaining ≡ 0 = omega arith in let none = ap length (ap (members n) z ∙ members_zero n) in let c = g.count in omega arith)
 ]
 
-pub greedy_step : (n : ℕ) (P : List Pair) (xs : List ℕ) (k remaining x : ℕ) → GreedyTo n P xs k remaining → k < 16 → has (tops P (members n remaining)) x ≡ true →
+pub greedy_step : (n : ℕ) (P : List Pair) (xs : List ℕ) (k remaining x : ℕ) → GreedyTo n P xs k remaining → k < 16 →
+    has (tops P (members n remaining)) x ≡ true →
     ((y : ℕ) → has (tops P (members n remaining)) y ≡ true → x ≤ y) → GreedyTo n P (set xs k x) (k + 1) (remaining - 2 ^ x)
 unfolding IsGreedy
 greedy_step n P xs k remaining x g h top smallest =
@@ -111,7 +119,8 @@ greedy_step n P xs k remaining x g h top smallest =
     regroup : (rest : List ℕ) → take k xs ++ x ∷ rest ≡ take (k + 1) (set xs k x) ++ rest
     regroup rest = sym (append_assoc (take k xs) (x ∷ []) rest) ∙ ap (λ ys. ys ++ rest) (sym (take_more_set xs k x (let l = g.long in omega arith)))
 
-pub greedy_end : (n : ℕ) (P : List Pair) (xs : List ℕ) (k remaining : ℕ) → CanBeKept n P → GreedyTo n P xs k remaining → n ≤ k → k ≤ n → IsFirstOrder n P (take n xs)
+pub greedy_end : (n : ℕ) (P : List Pair) (xs : List ℕ) (k remaining : ℕ) → CanBeKept n P → GreedyTo n P xs k remaining → n ≤ k → k ≤ n →
+    IsFirstOrder n P (take n xs)
 unfolding IsGreedy mask_of
 greedy_end n P xs k remaining kept g h j =
     let e : k ≡ n = omega arith in

@@ -74,7 +74,8 @@ above_differs a b (x ∷ xs) d h = by (nat_eq a x) refl h (above_differs a b xs 
     by false e k r = r k
 
 -- a list that has each a above its b has lawful bottom parts only
-pub lawful_below : (P : List Pair) (xs : List ℕ) → IsDistinct nat_eq xs → ((p : Pair) → Among p P → has xs p.0 ≡ true → is_above p.0 p.1 xs ≡ true) → are_lawful P xs ≡ true
+pub lawful_below : (P : List Pair) (xs : List ℕ) → IsDistinct nat_eq xs →
+    ((p : Pair) → Among p P → has xs p.0 ≡ true → is_above p.0 p.1 xs ≡ true) → are_lawful P xs ≡ true
 unfolding are_lawful IsDistinct is_above
 lawful_below P [] d h = refl
 lawful_below P (x ∷ xs) d h =
@@ -89,7 +90,8 @@ lawful_below P (x ∷ xs) d h =
         by false e k = k
 
 -- in a lawful list a stands above b, where the two differ
-pub above_from_lawful : (P : List Pair) (xs : List ℕ) → are_lawful P xs ≡ true → (p : Pair) → Among p P → p.0 ≢ p.1 → has xs p.0 ≡ true → is_above p.0 p.1 xs ≡ true
+pub above_from_lawful : (P : List Pair) (xs : List ℕ) → are_lawful P xs ≡ true → (p : Pair) → Among p P → p.0 ≢ p.1 → has xs p.0 ≡ true →
+    is_above p.0 p.1 xs ≡ true
 unfolding are_lawful is_above
 above_from_lawful P [] l p m ne h = absurd (false≢true h)
 above_from_lawful P (x ∷ xs) l p m ne h = by (nat_eq p.0 x) refl h (λ k. above_from_lawful P xs parts.1 p m ne k)
@@ -100,7 +102,8 @@ above_from_lawful P (x ∷ xs) l p m ne h = by (nat_eq p.0 x) refl h (λ k. abov
     there : has (x ∷ xs) p.1 ≡ true
     there = lawful_at P (x ∷ xs) parts.0 p m h
 
-    by : (c : Bool) → nat_eq p.0 x ≡ c → (c || has xs p.0) ≡ true → (has xs p.0 ≡ true → is_above p.0 p.1 xs ≡ true) → cond c (has xs p.1) (is_above p.0 p.1 xs) ≡ true
+    by : (c : Bool) → nat_eq p.0 x ≡ c → (c || has xs p.0) ≡ true → (has xs p.0 ≡ true → is_above p.0 p.1 xs ≡ true) →
+        cond c (has xs p.1) (is_above p.0 p.1 xs) ≡ true
     by true e k r =
         elim (or_cases (nat_eq p.1 x) (has xs p.1) there) [
           | inl f ↦ absurd (ne (eqb-true p.0 x e ∙ sym (eqb-true p.1 x f)))
@@ -159,7 +162,8 @@ above_places a b (x ∷ xs) d h k = by (nat_eq a x) (nat_eq b x) refl refl h k (
     Rest : Bool → ℕ → ℕ
     Rest c v = cond (not c) (1 + place_in xs v) 0
 
-    by : (c e : Bool) → nat_eq a x ≡ c → nat_eq b x ≡ e → (c || has xs a) ≡ true → (e || has xs b) ≡ true → (has xs a ≡ true → has xs b ≡ true → is_above a b xs ≡ ltb (place_in xs a) (place_in xs b)) →
+    by : (c e : Bool) → nat_eq a x ≡ c → nat_eq b x ≡ e → (c || has xs a) ≡ true → (e || has xs b) ≡ true →
+        (has xs a ≡ true → has xs b ≡ true → is_above a b xs ≡ ltb (place_in xs a) (place_in xs b)) →
         cond c (has xs b) (is_above a b xs) ≡ ltb (Rest c a) (Rest e b)
     by true true f g p q r = ap (has xs) (eqb-true b x g) ∙ absent_from_apart x xs d.0
     by true false f g p q r = q ∙ sym (lt-ltb 0 (1 + place_in xs b) (omega arith))

@@ -53,11 +53,14 @@ bit_beyond m set h k ne =
     let both = both_bits m (bit_not w16 set) s.0 s.2 in
     (s.0, both.0, λ e. not_one_from_zero (bit_not w16 set) s.0 (bit_at_not w16 set s.0 k s.1 ∙ ap (λ (v : ℕ). 1 - v) e) both.1)
 
-pub lawful_in : (n : ℕ) (below : List ℕ) (set : ℕ) → ((a b : ℕ) → bit_at set a ≡ 1 → HasBit below a b → bit_at set b ≡ 1) → is_lawful (pairs_in n below) (members n set) ≡ true
+pub lawful_in : (n : ℕ) (below : List ℕ) (set : ℕ) → ((a b : ℕ) → bit_at set a ≡ 1 → HasBit below a b → bit_at set b ≡ 1) →
+    is_lawful (pairs_in n below) (members n set) ≡ true
 lawful_in n below set f =
-    lawful_from (pairs_in n below) (members n set) (λ p m h. let r = among_in n below p m in member_from n set p.1 r.1 (f p.0 p.1 (member_bit n set p.0 h).1 r.2))
+    lawful_from (pairs_in n below) (members n set)
+    (λ p m h. let r = among_in n below p m in member_from n set p.1 r.1 (f p.0 p.1 (member_bit n set p.0 h).1 r.2))
 
-pub unlawful_in : (n : ℕ) (below : List ℕ) (set : ℕ) → AreWithin n below → (a b : ℕ) → bit_at set a ≡ 1 → HasBit below a b → (bit_at set b ≡ 1 → ⊥) → is_lawful (pairs_in n below) (members n set) ≡ false
+pub unlawful_in : (n : ℕ) (below : List ℕ) (set : ℕ) → AreWithin n below → (a b : ℕ) → bit_at set a ≡ 1 → HasBit below a b →
+    (bit_at set b ≡ 1 → ⊥) → is_lawful (pairs_in n below) (members n set) ≡ false
 unlawful_in n below set w a b here bit absent =
     false_from_ne_true _ (λ l.
     let in' = w a b bit in
@@ -74,9 +77,11 @@ KeptTo below order k = (i j : ℕ) → j < i → i < k → HasBit below (get_or 
 places_of : (order : List ℕ) → IsDistinct nat_eq order → (i j : ℕ) → i < length order → j < length order →
     is_above (get_or order i 0) (get_or order j 0) order ≡ ltb i j
 places_of order once i j h k =
-    above_places (get_or order i 0) (get_or order j 0) order once (has_at order i h) (has_at order j k) ∙ ap₂ ltb (place_get order i once h) (place_get order j once k)
+    above_places (get_or order i 0) (get_or order j 0) order once (has_at order i h) (has_at order j k)
+    ∙ ap₂ ltb (place_get order i once h) (place_get order j once k)
 
-pub keeps_in : (n : ℕ) (below order : List ℕ) → IsOrder n order → HasNoCycle (pairs_in n below) → KeptTo below order (length order) → keeps (pairs_in n below) order ≡ true
+pub keeps_in : (n : ℕ) (below order : List ℕ) → IsOrder n order → HasNoCycle (pairs_in n below) → KeptTo below order (length order) →
+    keeps (pairs_in n below) order ≡ true
 keeps_in n below order o acyclic kept = keeps_from (pairs_in n below) order (λ p m. one p m (among_in n below p m))
   where
     one : (p : Pair) → Among p (pairs_in n below) → (p.0 < n) × (p.1 < n) × HasBit below p.0 p.1 → is_above p.0 p.1 order ≡ true
@@ -84,23 +89,36 @@ keeps_in n below order o acyclic kept = keeps_from (pairs_in n below) order (λ 
         let a = index_of order p.0 ((o.all p.0).1 r.0) in
         let b = index_of order p.1 ((o.all p.1).1 r.1) in
         ap₂ (λ u v. is_above u v order) (sym a.2) (sym b.2) ∙ places_of order o.once a.0 b.0 a.1 b.1 ∙ elim (cases_order a.0 b.0) [
-          | inl e ↦ absurd (acyclic p.0 (by_one (ap (has_pair (pairs_in n below) p.0) (sym a.2 ∙ ap (λ k. get_or order k 0) e ∙ b.2) ∙ among_pair (pairs_in n below) p m)))
-          | inr d ↦ elim d [ inl lt ↦ lt-ltb a.0 b.0 lt | inr gt ↦ absurd (kept a.0 b.0 gt a.1 (subst (λ (u : ℕ). HasBit below u (get_or order b.0 0)) (sym a.2) (subst (λ (v : ℕ). HasBit below p.0 v) (sym b.2) r.2))) ]
+          | inl e ↦ absurd
+              (acyclic p.0
+              (by_one (ap (has_pair (pairs_in n below) p.0) (sym a.2 ∙ ap (λ k. get_or order k 0) e ∙ b.2)
+              ∙ among_pair (pairs_in n below) p m)))
+          | inr d ↦ elim d [
+            | inl lt ↦ lt-ltb a.0 b.0 lt
+            | inr gt ↦ absurd
+                (kept a.0 b.0 gt a.1
+                (subst (λ (u : ℕ). HasBit below u (get_or order b.0 0)) (sym a.2)
+                (subst (λ (v : ℕ). HasBit below p.0 v) (sym b.2) r.2)))
+          ]
         ]
 
-pub unkept_in : (n : ℕ) (below order : List ℕ) → IsOrder n order → AreWithin n below → (i j : ℕ) → j < i → i < length order → HasBit below (get_or order i 0) (get_or order j 0) →
+pub unkept_in : (n : ℕ) (below order : List ℕ) → IsOrder n order → AreWithin n below → (i j : ℕ) → j < i → i < length order →
+    HasBit below (get_or order i 0) (get_or order j 0) →
     keeps (pairs_in n below) order ≡ false
 unkept_in n below order o w i j h k bit =
     false_from_ne_true _ (λ kept.
     let in' = w (get_or order i 0) (get_or order j 0) bit in
-    let s = pair_among (pairs_in n below) (get_or order i 0) (get_or order j 0) ((has_in n below (get_or order i 0) (get_or order j 0)).1 (in'.0, in'.1, bit)) in
+    let s = pair_among (pairs_in n below) (get_or order i 0) (get_or order j 0)
+    ((has_in n below (get_or order i 0) (get_or order j 0)).1 (in'.0, in'.1, bit)) in
     let above = ap₂ (λ u v. is_above u v order) s.2 s.3 ∙ keeps_at (pairs_in n below) order kept s.0 s.1 in
     false≢true (sym (le-ltb i j (omega arith)) ∙ sym (places_of order o.once i j k (omega arith)) ∙ above))
 
 -- one variable more
-pub kept_more : (below order : List ℕ) (k seen : ℕ) → Seen order k seen → KeptTo below order k → bit_and (get_or below (get_or order k 0) 0) seen ≡ 0 → KeptTo below order (k + 1)
+pub kept_more : (below order : List ℕ) (k seen : ℕ) → Seen order k seen → KeptTo below order k →
+    bit_and (get_or below (get_or order k 0) 0) seen ≡ 0 → KeptTo below order (k + 1)
 kept_more below order k seen s kept e i j h l bit = elim (cases_order i k) [
-  | inl same ↦ and_bit (get_or below (get_or order k 0) 0) seen (get_or order j 0) (subst (λ (v : ℕ). HasBit below (get_or order v 0) (get_or order j 0)) same bit) (s.kept j (omega arith)) e
+  | inl same ↦ and_bit (get_or below (get_or order k 0) 0) seen (get_or order j 0)
+      (subst (λ (v : ℕ). HasBit below (get_or order v 0) (get_or order j 0)) same bit) (s.kept j (omega arith)) e
   | inr d ↦ kept i j h (omega arith) bit
 ]
 
@@ -133,12 +151,15 @@ pub rows_none : (n : ℕ) (below : List ℕ) → length (rows_to n below 0) ≡ 
 unfolding rows_to
 rows_none n below = refl
 
-pub rows_more : (n : ℕ) (below : List ℕ) (k : ℕ) → get_or below k 0 < 2 ^ n → length (rows_to n below (k + 1)) ≡ length (rows_to n below k) + count_ones (get_or below k 0)
+pub rows_more : (n : ℕ) (below : List ℕ) (k : ℕ) → get_or below k 0 < 2 ^ n →
+    length (rows_to n below (k + 1)) ≡ length (rows_to n below k) + count_ones (get_or below k 0)
 unfolding rows_to
 rows_more n below k h =
     let f : ℕ → List Pair = λ a. map (λ (b : ℕ). (a, b)) (members n (get_or below a 0)) in
-    let last : length (f k ++ []) ≡ count_ones (get_or below k 0) = ap length (append-nil (f k)) ∙ length-map (members n (get_or below k 0)) (λ (b : ℕ). (k, b)) ∙ sym (ones-members n (get_or below k 0) h) in
-    ap (λ xs. length (flat_map f xs)) (variables_more k) ∙ ap length (flat_map-append f (variables k) (k ∷ [])) ∙ length-append (flat_map f (variables k)) (f k ++ []) ∙ ap (λ m. length (flat_map f (variables k)) + m) last
+    let last : length (f k ++ []) ≡ count_ones (get_or below k 0) = ap length (append-nil (f k))
+    ∙ length-map (members n (get_or below k 0)) (λ (b : ℕ). (k, b)) ∙ sym (ones-members n (get_or below k 0) h) in
+    ap (λ xs. length (flat_map f xs)) (variables_more k) ∙ ap length (flat_map-append f (variables k) (k ∷ []))
+    ∙ length-append (flat_map f (variables k)) (f k ++ []) ∙ ap (λ m. length (flat_map f (variables k)) + m) last
 
 -- a variable isn't below itself, so a mask has at most 15 ones
 pub row_few : (n : ℕ) (below : List ℕ) (k : ℕ) → n ≤ 16 → k < n → HasNoCycle (pairs_in n below) → get_or below k 0 < 2 ^ n → count_ones (get_or below k 0) ≤ 15
@@ -146,7 +167,8 @@ unfolding IsDistinct
 row_few n below k few h acyclic small =
     let m = get_or below k 0 in
     let out : has (members n m) k ≡ false = false_from_ne_true _ (λ e. acyclic k (by_one ((has_in n below k k).1 (h, h, (member_bit n m k e).1)))) in
-    let l = length-le_from_distinct_below (k ∷ members n m) n (apart_from_absent k (members n m) out, distinct_members n m) (λ y e. elim (or_cases (nat_eq y k) (has (members n m) y) e) [
+    let l = length-le_from_distinct_below (k ∷ members n m) n (apart_from_absent k (members n m) out, distinct_members n m)
+    (λ y e. elim (or_cases (nat_eq y k) (has (members n m) y) e) [
       | inl s ↦ let q = eqb-true y k s in omega arith
       | inr r ↦ members_small n m y r
     ]) in
@@ -161,13 +183,17 @@ pub row_start : (n : ℕ) (below : List ℕ) (k : ℕ) → row_to n below k 0 �
 unfolding row_to
 row_start n below k = append-nil (rows_to n below k)
 
-row_split : (n : ℕ) (below : List ℕ) (k j : ℕ) → row_to n below k (j + 1) ≡ rows_to n below k ++ (map (λ b. (k, b)) (filter (λ b. eqb (bit_at (get_or below k 0) b) 1) (variables j)) ++ map (λ b. (k, b)) (filter (λ b. eqb (bit_at (get_or below k 0) b) 1) (j ∷ [])))
+row_split : (n : ℕ) (below : List ℕ) (k j : ℕ) →
+    row_to n below k (j + 1) ≡ rows_to n below k
+    ++ (map (λ b. (k, b)) (filter (λ b. eqb (bit_at (get_or below k 0) b) 1) (variables j))
+    ++ map (λ b. (k, b)) (filter (λ b. eqb (bit_at (get_or below k 0) b) 1) (j ∷ [])))
 unfolding row_to
 row_split n below k j =
     let p : ℕ → Bool = λ b. eqb (bit_at (get_or below k 0) b) 1 in
     let f : ℕ → Pair = λ b. (k, b) in
     ap (λ xs. rows_to n below k ++ xs)
-    (ap (λ xs. map f (filter p xs)) (variables_more j) ∙ ap (map f) (filter-append p (variables j) (j ∷ [])) ∙ map-append f (filter p (variables j)) (filter p (j ∷ [])))
+    (ap (λ xs. map f (filter p xs)) (variables_more j) ∙ ap (map f) (filter-append p (variables j) (j ∷ []))
+    ∙ map-append f (filter p (variables j)) (filter p (j ∷ [])))
 
 pub row_pair : (n : ℕ) (below : List ℕ) (k j : ℕ) → bit_at (get_or below k 0) j ≡ 1 → row_to n below k j ++ (k, j) ∷ [] ≡ row_to n below k (j + 1)
 unfolding row_to
@@ -175,14 +201,18 @@ row_pair n below k j e =
     let p : ℕ → Bool = λ b. eqb (bit_at (get_or below k 0) b) 1 in
     let f : ℕ → Pair = λ b. (k, b) in
     append_assoc (rows_to n below k) (map f (filter p (variables j))) ((k, j) ∷ [])
-    ∙ sym (row_split n below k j ∙ ap (λ t. rows_to n below k ++ (map f (filter p (variables j)) ++ map f (cond t (j ∷ []) []))) (eq-eqb (bit_at (get_or below k 0) j) 1 e))
+    ∙ sym (row_split n below k j
+    ∙ ap (λ t. rows_to n below k ++ (map f (filter p (variables j)) ++ map f (cond t (j ∷ []) [])))
+    (eq-eqb (bit_at (get_or below k 0) j) 1 e))
 
 pub row_skip : (n : ℕ) (below : List ℕ) (k j : ℕ) → (bit_at (get_or below k 0) j ≡ 1 → ⊥) → row_to n below k j ≡ row_to n below k (j + 1)
 unfolding row_to
 row_skip n below k j ne =
     let p : ℕ → Bool = λ b. eqb (bit_at (get_or below k 0) b) 1 in
     let f : ℕ → Pair = λ b. (k, b) in
-    sym (row_split n below k j ∙ ap (λ t. rows_to n below k ++ (map f (filter p (variables j)) ++ map f (cond t (j ∷ []) []))) (ne_eqb (bit_at (get_or below k 0) j) 1 ne)
+    sym (row_split n below k j
+    ∙ ap (λ t. rows_to n below k ++ (map f (filter p (variables j)) ++ map f (cond t (j ∷ []) [])))
+    (ne_eqb (bit_at (get_or below k 0) j) 1 ne)
     ∙ ap (λ xs. rows_to n below k ++ xs) (append-nil (map f (filter p (variables j)))))
 
 pub row_end : (n : ℕ) (below : List ℕ) (k : ℕ) → row_to n below k n ≡ rows_to n below (k + 1)

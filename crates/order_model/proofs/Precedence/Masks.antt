@@ -57,13 +57,16 @@ has_by n q a b = (
       (subst (λ (v : ℕ). v < n) (sym s.2) r.0, subst (λ (v : ℕ). v < n) (sym s.3) r.1, ap₂ q s.2 s.3 ∙ r.2),
   λ h.
       among_pair (pairs_by n q) (a, b)
-      (among_flat_map (λ (c : ℕ). map (λ (d : ℕ). (c, d)) (filter (q c) (variables n))) a (variables n) (a, b) (has_among (variables n) a ((has_variables n a).1 h.0))
-      (among_map (λ (d : ℕ). (a, d)) b (filter (q a) (variables n)) (among_filter (q a) b (variables n) (has_among (variables n) b ((has_variables n b).1 h.1)) h.2))),
+      (among_flat_map (λ (c : ℕ). map (λ (d : ℕ). (c, d)) (filter (q c) (variables n))) a (variables n) (a, b)
+      (has_among (variables n) a ((has_variables n a).1 h.0))
+      (among_map (λ (d : ℕ). (a, d)) b (filter (q a) (variables n))
+      (among_filter (q a) b (variables n) (has_among (variables n) b ((has_variables n b).1 h.1)) h.2))),
 )
 
 by_same : (n : ℕ) (q r : ℕ → ℕ → Bool) → ((a b : ℕ) → a < n → b < n → q a b ≡ r a b) → pairs_by n q ≡ pairs_by n r
 by_same n q r h =
-    flat_map_same (λ (a : ℕ). map (λ (b : ℕ). (a, b)) (filter (q a) (variables n))) (λ (a : ℕ). map (λ (b : ℕ). (a, b)) (filter (r a) (variables n))) (variables n)
+    flat_map_same (λ (a : ℕ). map (λ (b : ℕ). (a, b)) (filter (q a) (variables n)))
+    (λ (a : ℕ). map (λ (b : ℕ). (a, b)) (filter (r a) (variables n))) (variables n)
     (λ a m. ap (map (λ (b : ℕ). (a, b))) (filter_same (q a) (r a) (variables n) (λ b k. h a b ((has_variables n a).0 m) ((has_variables n b).0 k))))
 
 -- ---- the pairs of masks
@@ -121,14 +124,16 @@ pub sorted_same : (n : ℕ) (P : List Pair) (below : List ℕ) → Same P below 
 unfolding Same
 sorted_same n P below s =
     sorted_by n P ∙ by_same n (has_pair P) (bit_test below)
-    (λ a b h k. same_bool (has_pair P a b) (bit_test below a b) (λ e. eq-eqb (bit_at (get_or below a 0) b) 1 ((s a b).0 e)) (λ e. (s a b).1 (eqb-true (bit_at (get_or below a 0) b) 1 e)))
+    (λ a b h k. same_bool (has_pair P a b) (bit_test below a b) (λ e. eq-eqb (bit_at (get_or below a 0) b) 1 ((s a b).0 e))
+    (λ e. (s a b).1 (eqb-true (bit_at (get_or below a 0) b) 1 e)))
     ∙ sym (in_by n below)
 
 -- the list of the masks is sorted
 pub sorted_in : (n : ℕ) (below : List ℕ) → sorted_pairs n (pairs_in n below) ≡ pairs_in n below
 sorted_in n below =
     sorted_by n (pairs_in n below) ∙ by_same n (has_pair (pairs_in n below)) (bit_test below)
-    (λ a b h k. same_bool (has_pair (pairs_in n below) a b) (bit_test below a b) (λ e. eq-eqb (bit_at (get_or below a 0) b) 1 ((has_in n below a b).0 e).2) (λ e.
+    (λ a b h k. same_bool (has_pair (pairs_in n below) a b) (bit_test below a b)
+    (λ e. eq-eqb (bit_at (get_or below a 0) b) 1 ((has_in n below a b).0 e).2) (λ e.
     (has_in n below a b).1 (h, k, eqb-true (bit_at (get_or below a 0) b) 1 e)))
     ∙ sym (in_by n below)
 
@@ -234,6 +239,10 @@ nowhere a b l = by l
 -- 16 masks speak of 16 variables
 pub within_16 : (below : List ℕ) → length below ≡ 16 → ((a : ℕ) → get_or below a 0 < 2 ^ 16) → AreWithin 16 below
 within_16 below long small a b e = (
-  elim (cases_lt a 16) [ inl l ↦ l | inr l ↦ absurd (not_one_from_zero (get_or below a 0) b (ap (λ m. bit_at m b) (get_or_past below a 0 (omega arith)) ∙ bit_at-zero b) e) ],
+  elim (cases_lt a 16) [
+    | inl l ↦ l
+    | inr l ↦ absurd
+        (not_one_from_zero (get_or below a 0) b (ap (λ m. bit_at m b) (get_or_past below a 0 (omega arith)) ∙ bit_at-zero b) e)
+  ],
   elim (cases_lt b 16) [ inl l ↦ l | inr l ↦ absurd (not_one_from_zero (get_or below a 0) b (bit_at_above (get_or below a 0) 16 b (small a) l) e) ],
 )

@@ -17,7 +17,8 @@ free order = (nothing_to_keep order).0
 -- the fewest nodes, in so many words
 abbrev pub FewestPlain : ℕ → List Function → ℕ → Type 0
 FewestPlain n F size =
-    ((order : List ℕ) × (d : Graph) × IsOrder n order × Represents n F order d × (length d.nodes ≡ size)) × ((order : List ℕ) (d : Graph) → IsOrder n order → Represents n F order d → size ≤ length d.nodes)
+    ((order : List ℕ) × (d : Graph) × IsOrder n order × Represents n F order d × (length d.nodes ≡ size))
+    × ((order : List ℕ) (d : Graph) → IsOrder n order → Represents n F order d → size ≤ length d.nodes)
 
 pub fewest_plain : (n : ℕ) (F : List Function) (size : ℕ) → Fewest n F size ↔ FewestPlain n F size
 fewest_plain n F size = (
@@ -37,7 +38,9 @@ has_fewest_size n F order = (
 )
 
 pub first_plain : (n : ℕ) (F : List Function) (order : List ℕ) →
-    IsFirst n F order ↔ (IsOrder n order × Fewest n F (size_under n F order) × ((other : List ℕ) → IsOrder n other → Fewest n F (size_under n F other) → slice_cmp nat_cmp order other ≢ Greater))
+    IsFirst n F order ↔
+    (IsOrder n order × Fewest n F (size_under n F order)
+    × ((other : List ℕ) → IsOrder n other → Fewest n F (size_under n F other) → slice_cmp nat_cmp order other ≢ Greater))
 first_plain n F order = (
   λ f. let h = (has_fewest_size n F order).0 f.fewest in (h.0, h.1, λ other o g. f.first other ((has_fewest_size n F other).1 (o, g))),
   λ f. record { fewest = (has_fewest_size n F order).1 (f.0, f.1); first = λ other h. let g = (has_fewest_size n F other).0 h in f.2 other g.0 g.1 },

@@ -45,7 +45,8 @@ unfolding are_lawful
 are_lawful_same P Q h [] = refl
 are_lawful_same P Q h (x ∷ xs) = ap₂ (λ a b. a && b) (h (x ∷ xs)) (are_lawful_same P Q h xs)
 
-pub least_same_lawful : (n : ℕ) (F : List Function) (P Q : List Pair) → ((S : List ℕ) → is_lawful P S ≡ is_lawful Q S) → (S : List ℕ) → least n F P S ≡ least n F Q S
+pub least_same_lawful : (n : ℕ) (F : List Function) (P Q : List Pair) → ((S : List ℕ) → is_lawful P S ≡ is_lawful Q S) → (S : List ℕ) →
+    least n F P S ≡ least n F Q S
 unfolding least
 least_same_lawful n F P Q h S = λ i. least_of (map (cost n F) (filter (λ xs. are_lawful_same P Q h xs i) (arrangements (length S) S)))
 
@@ -74,14 +75,17 @@ sorted_from n P p m =
     let a = row.0 in
     let at = among_from_map (λ (b : ℕ). (a, b)) p (filter (has_pair P a) (variables n)) row.2 in
     let b = at.0 in
-    let there = (and_parts (has (variables n) b) (has_pair P a b) (sym (has_filter (has_pair P a) (variables n) b) ∙ among_has (filter (has_pair P a) (variables n)) b at.1)).1 in
+    let there =
+    (and_parts (has (variables n) b) (has_pair P a b)
+    (sym (has_filter (has_pair P a) (variables n) b) ∙ among_has (filter (has_pair P a) (variables n)) b at.1)).1 in
     ap (λ (q : Pair). has_pair P q.0 q.1) at.2 ∙ there
 
 pub sorted_to : (n : ℕ) (P : List Pair) (a b : ℕ) → a < n → b < n → has_pair P a b ≡ true → has_pair (sorted_pairs n P) a b ≡ true
 unfolding sorted_pairs
 sorted_to n P a b s t h =
     among_pair (flat_map (λ (c : ℕ). map (λ (d : ℕ). (c, d)) (filter (has_pair P c) (variables n))) (variables n)) (a, b)
-    (among_flat_map (λ (c : ℕ). map (λ (d : ℕ). (c, d)) (filter (has_pair P c) (variables n))) a (variables n) (a, b) (has_among (variables n) a ((has_variables n a).1 s))
+    (among_flat_map (λ (c : ℕ). map (λ (d : ℕ). (c, d)) (filter (has_pair P c) (variables n))) a (variables n) (a, b)
+    (has_among (variables n) a ((has_variables n a).1 s))
     (among_map (λ (d : ℕ). (a, d)) b (filter (has_pair P a) (variables n))
     (has_among (filter (has_pair P a) (variables n)) b (has_filter (has_pair P a) (variables n) b ∙ and_from _ _ ((has_variables n b).1 t) h))))
 

@@ -49,7 +49,8 @@ find_parts : (p : ℕ → Bool) (xs : List ℕ) (k : ℕ) → find p xs ≡ Some
 find_parts p [] k e = let never : ◌≡◌ {A = Option ℕ} None (Some k) = e in cc
 find_parts p (x ∷ xs) k e = by (p x) refl e (find_parts p xs k)
   where
-    by : (b : Bool) → p x ≡ b → cond b (Some x) (find p xs) ≡ Some k → (find p xs ≡ Some k → (has xs k ≡ true) × (p k ≡ true)) → (has (x ∷ xs) k ≡ true) × (p k ≡ true)
+    by : (b : Bool) → p x ≡ b → cond b (Some x) (find p xs) ≡ Some k → (find p xs ≡ Some k → (has xs k ≡ true) × (p k ≡ true)) →
+        (has (x ∷ xs) k ≡ true) × (p k ≡ true)
     by true t s r = let same : x ≡ k = cc in (or_left _ _ (eq-eqb k x (sym same)), ap p (sym same) ∙ t)
     by false t s r = let q = r s in (or_right _ _ q.0, q.1)
 
@@ -73,7 +74,9 @@ number_parts word k e =
 
 number_none : (word : List ℕ) → ((k : ℕ) → k < 16 → word ≡ decimal k → ⊥) → number_of word ≡ None
 unfolding number_of
-number_none word f = find_none (λ j. pointwise nat_eq word (decimal j)) (variables 16) (λ j t m. f j ((has_variables 16 j).0 m) (same_text word (decimal j) (sym t)))
+number_none word f =
+    find_none (λ j. pointwise nat_eq word (decimal j)) (variables 16)
+    (λ j t m. f j ((has_variables 16 j).0 m) (same_text word (decimal j) (sym t)))
 
 -- the decimals of 10 to 15
 decimal_teen : (k : ℕ) → 10 ≤ k → k < 16 → decimal k ≡ 49 ∷ (38 + k) ∷ []
@@ -92,17 +95,20 @@ number_digit (d ∷ []) e l h =
 number_digit (d ∷ x ∷ xs) e l h = absurd (omega arith)
 
 -- a word of the digit 1 and one from 0 to 5
-pub number_teen : (word : List ℕ) → length word ≡ 2 → get_or word 0 0 ≡ 49 → 48 ≤ get_or word 1 0 → get_or word 1 0 < 54 → number_of word ≡ Some (10 + (get_or word 1 0 - 48))
+pub number_teen : (word : List ℕ) → length word ≡ 2 → get_or word 0 0 ≡ 49 → 48 ≤ get_or word 1 0 → get_or word 1 0 < 54 →
+    number_of word ≡ Some (10 + (get_or word 1 0 - 48))
 number_teen [] e f l h = absurd (omega arith)
 number_teen (x ∷ []) e f l h = absurd (omega arith)
 number_teen (x ∷ d ∷ []) e f l h =
     let k : ℕ = 10 + (d - 48) in
     let v : 38 + (10 + (d - 48)) ≡ d = omega arith in
-    number_is (x ∷ d ∷ []) (10 + (d - 48)) (omega arith) (sym (decimal_teen (10 + (d - 48)) (omega arith) (omega arith) ∙ ap₂ (λ (y z : ℕ). y ∷ z ∷ []) (sym f) v))
+    number_is (x ∷ d ∷ []) (10 + (d - 48)) (omega arith)
+    (sym (decimal_teen (10 + (d - 48)) (omega arith) (omega arith) ∙ ap₂ (λ (y z : ℕ). y ∷ z ∷ []) (sym f) v))
 number_teen (x ∷ d ∷ y ∷ ys) e f l h = absurd (omega arith)
 
 -- any other word
-pub number_refused : (word : List ℕ) → (length word ≡ 1 → 48 ≤ get_or word 0 0 → get_or word 0 0 < 58 → ⊥) → (length word ≡ 2 → get_or word 0 0 ≡ 49 → 48 ≤ get_or word 1 0 → get_or word 1 0 < 54 → ⊥) →
+pub number_refused : (word : List ℕ) → (length word ≡ 1 → 48 ≤ get_or word 0 0 → get_or word 0 0 < 58 → ⊥) →
+    (length word ≡ 2 → get_or word 0 0 ≡ 49 → 48 ≤ get_or word 1 0 → get_or word 1 0 < 54 → ⊥) →
     number_of word ≡ None
 number_refused word one two = number_none word (λ k h e. elim (cases_lt k 10) [
   | inl l ↦
@@ -137,7 +143,8 @@ pair_without_comma part e = by (cases_lt (position_or_len (λ x. eqb x 44) part)
   where
     by : (position_or_len (λ x. eqb x 44) part < length part) ⊎ (length part ≤ position_or_len (λ x. eqb x 44) part) → pair_of part ≡ None
     by (inl lt) =
-        let found : ◌≡◌ {A = Option ℕ} None (Some (position_or_len (λ x. eqb x 44) part)) = e ∙ ap (λ b. cond b (Some (position_or_len (λ x. eqb x 44) part)) None) (lt-ltb _ _ lt) in
+        let found : ◌≡◌ {A = Option ℕ} None (Some (position_or_len (λ x. eqb x 44) part)) = e
+        ∙ ap (λ b. cond b (Some (position_or_len (λ x. eqb x 44) part)) None) (lt-ltb _ _ lt) in
         absurd (let no : ⊥ = cc in no)
     by (inr le) =
         let empty : after_first (λ x. eqb x 44) part ≡ [] = drop_all (position_or_len (λ x. eqb x 44) part + 1) part (omega arith) in
@@ -148,9 +155,11 @@ pair_without_comma part e = by (cases_lt (position_or_len (λ x. eqb x 44) part)
 pub pair_at : (part : List ℕ) (k : ℕ) → Some k ≡ position (λ x. eqb x 44) part → pair_of part ≡ both (number_of (take k part)) (number_of (drop (k + 1) part))
 pair_at part k e = by (cases_lt (position_or_len (λ x. eqb x 44) part) (length part))
   where
-    by : (position_or_len (λ x. eqb x 44) part < length part) ⊎ (length part ≤ position_or_len (λ x. eqb x 44) part) → pair_of part ≡ both (number_of (take k part)) (number_of (drop (k + 1) part))
+    by : (position_or_len (λ x. eqb x 44) part < length part) ⊎ (length part ≤ position_or_len (λ x. eqb x 44) part) →
+        pair_of part ≡ both (number_of (take k part)) (number_of (drop (k + 1) part))
     by (inl lt) =
-        let found : ◌≡◌ {A = Option ℕ} (Some k) (Some (position_or_len (λ x. eqb x 44) part)) = e ∙ ap (λ b. cond b (Some (position_or_len (λ x. eqb x 44) part)) None) (lt-ltb _ _ lt) in
+        let found : ◌≡◌ {A = Option ℕ} (Some k) (Some (position_or_len (λ x. eqb x 44) part)) = e
+        ∙ ap (λ b. cond b (Some (position_or_len (λ x. eqb x 44) part)) None) (lt-ltb _ _ lt) in
         let same : position_or_len (λ x. eqb x 44) part ≡ k = cc in
         ap (λ (j : ℕ). both (number_of (take j part)) (number_of (drop (j + 1) part))) same
     by (inr le) =
@@ -163,14 +172,17 @@ both_second_none o = both_none o
 -- ---- lists of pairs
 
 -- one part more
-pairs_of-more : (xs : List (List ℕ)) (x : List ℕ) (P : List Pair) (p : Pair) → pairs_of xs ≡ Some P → pair_of x ≡ Some p → pairs_of (xs ++ x ∷ []) ≡ Some (P ++ p ∷ [])
+pairs_of-more : (xs : List (List ℕ)) (x : List ℕ) (P : List Pair) (p : Pair) → pairs_of xs ≡ Some P → pair_of x ≡ Some p →
+    pairs_of (xs ++ x ∷ []) ≡ Some (P ++ p ∷ [])
 unfolding pairs_of
 pairs_of-more [] x P p e f =
     let none : P ≡ [] = cc in
     ap (λ o. with_pair o (Some [])) f ∙ ap (λ (Q : List Pair). Some (Q ++ p ∷ [])) (sym none)
 pairs_of-more (y ∷ xs) x P p e f = by (pair_of y) (pairs_of xs) P e (λ Q g. pairs_of-more xs x Q p g f)
   where
-    by : (o : Option Pair) (os : Option (List Pair)) (Q : List Pair) → with_pair o os ≡ Some Q → ((R : List Pair) → os ≡ Some R → pairs_of (xs ++ x ∷ []) ≡ Some (R ++ p ∷ [])) → with_pair o (pairs_of (xs ++ x ∷ [])) ≡ Some (Q ++ p ∷ [])
+    by : (o : Option Pair) (os : Option (List Pair)) (Q : List Pair) → with_pair o os ≡ Some Q →
+        ((R : List Pair) → os ≡ Some R → pairs_of (xs ++ x ∷ []) ≡ Some (R ++ p ∷ [])) →
+        with_pair o (pairs_of (xs ++ x ∷ [])) ≡ Some (Q ++ p ∷ [])
     by (Some q) (Some R) Q g r =
         let same : q ∷ R ≡ Q = cc in
         ap (with_pair (Some q)) (r R refl) ∙ ap (λ (S : List Pair). Some (S ++ p ∷ [])) same
@@ -195,7 +207,8 @@ has_pair-more [] p a b = last (nat_eq a p.0 && nat_eq b p.1)
     last : (t : Bool) → (t || false) ≡ t
     last true = refl
     last false = refl
-has_pair-more (q ∷ P) p a b = ap (λ t. (nat_eq a q.0 && nat_eq b q.1) || t) (has_pair-more P p a b) ∙ regroup (nat_eq a q.0 && nat_eq b q.1) (has_pair P a b) (nat_eq a p.0 && nat_eq b p.1)
+has_pair-more (q ∷ P) p a b = ap (λ t. (nat_eq a q.0 && nat_eq b q.1) || t) (has_pair-more P p a b)
+    ∙ regroup (nat_eq a q.0 && nat_eq b q.1) (has_pair P a b) (nat_eq a p.0 && nat_eq b p.1)
   where
     regroup : (x y z : Bool) → (x || (y || z)) ≡ ((x || y) || z)
     regroup true y z = refl
@@ -216,7 +229,8 @@ same_more P below a b h k s = same_from (P ++ (a, b) ∷ []) (with_bit below a b
 
     kept : (x y : ℕ) → ((x ≡ a) × (y ≡ b) → ⊥) → bit_at (get_or (with_bit below a b) x 0) y ≡ bit_at (get_or below x 0) y
     kept x y no_pair = elim (cases_eq x a) [
-      | inl e ↦ ap (λ v. bit_at (get_or (with_bit below a b) v 0) y) e ∙ bits y ∙ bit_at_set_other w16 (get_or below a 0) b k y (λ f. no_pair (e, f)) ∙ ap (λ v. bit_at (get_or below v 0) y) (sym e)
+      | inl e ↦ ap (λ v. bit_at (get_or (with_bit below a b) v 0) y) e ∙ bits y
+          ∙ bit_at_set_other w16 (get_or below a 0) b k y (λ f. no_pair (e, f)) ∙ ap (λ v. bit_at (get_or below v 0) y) (sym e)
       | inr ne ↦ ap (λ m. bit_at m y) (get_or-set_other below a x (bit_or (get_or below a 0) (1 * 2 ^ b % 2 ^ 16)) 0 ne)
     ]
 
@@ -251,9 +265,17 @@ pub record ReadTo (parts : List (List ℕ)) (k : ℕ) (below : List ℕ) : Type 
 
 pub read_none : (parts : List (List ℕ)) (below : List ℕ) → length below ≡ 16 → ((a b : ℕ) → HasBit below a b → ⊥) → ReadTo parts 0 below
 unfolding pairs_of
-read_none parts below long empty = record { pairs = []; read = refl; same = same_from [] below (λ a b. (λ h. absurd (false≢true h), λ e. absurd (empty a b e))); long = long }
+read_none parts below long empty =
+    record {
+      pairs =
+          [];
+      read = refl;
+      same = same_from [] below (λ a b. (λ h. absurd (false≢true h), λ e. absurd (empty a b e)));
+      long = long;
+    }
 
-pub read_more : (parts : List (List ℕ)) (k : ℕ) (below part : List ℕ) (a b : ℕ) → ReadTo parts k below → k < length parts → part ≡ get_or parts k part → pair_of part ≡ Some (a, b) → ReadTo parts (k + 1) (with_bit below a b)
+pub read_more : (parts : List (List ℕ)) (k : ℕ) (below part : List ℕ) (a b : ℕ) → ReadTo parts k below → k < length parts →
+    part ≡ get_or parts k part → pair_of part ≡ Some (a, b) → ReadTo parts (k + 1) (with_bit below a b)
 read_more parts k below part a b r h e f =
     let small = pair_small part a b f in
     record {
@@ -267,7 +289,8 @@ pub read_all : (parts : List (List ℕ)) (k : ℕ) (below : List ℕ) → ReadTo
 read_all parts k below r h =
     subst (λ (o : Option (List Pair)). AreMasksOf o (Some below)) (sym (ap pairs_of (sym (take_all k parts h)) ∙ r.read)) (same_at r.pairs below r.same)
 
-pub read_fails : (parts : List (List ℕ)) (k : ℕ) (part : List ℕ) → k < length parts → part ≡ get_or parts k part → pair_of part ≡ None → AreMasksOf (pairs_of parts) None
+pub read_fails : (parts : List (List ℕ)) (k : ℕ) (part : List ℕ) → k < length parts → part ≡ get_or parts k part → pair_of part ≡ None →
+    AreMasksOf (pairs_of parts) None
 read_fails parts k part h e f = subst (λ (o : Option (List Pair)). AreMasksOf o None) (sym (pairs_of-fails parts k part h (ap pair_of (sym e) ∙ f))) tt
 
 -- the masks of the first k of some pairs
@@ -278,12 +301,14 @@ pub record MasksTo (P : List Pair) (k : ℕ) (below : List ℕ) : Type 0 where
 pub masks_none : (P : List Pair) (below : List ℕ) → length below ≡ 16 → ((a b : ℕ) → HasBit below a b → ⊥) → MasksTo P 0 below
 masks_none P below long empty = record { same = same_from [] below (λ a b. (λ h. absurd (false≢true h), λ e. absurd (empty a b e))); long = long }
 
-pub masks_more : (P : List Pair) (k : ℕ) (below : List ℕ) (d : Pair) → MasksTo P k below → k < length P → (get_or P k d).0 < 16 → (get_or P k d).1 < 16 → MasksTo P (k + 1) (with_bit below (get_or P k d).0 (get_or P k d).1)
+pub masks_more : (P : List Pair) (k : ℕ) (below : List ℕ) (d : Pair) → MasksTo P k below → k < length P → (get_or P k d).0 < 16 →
+    (get_or P k d).1 < 16 → MasksTo P (k + 1) (with_bit below (get_or P k d).0 (get_or P k d).1)
 masks_more P k below d m h small few =
     let a = (get_or P k d).0 in
     let b = (get_or P k d).1 in
     record {
-      same = subst (λ (Q : List Pair). Same Q (with_bit below a b)) (sym (take_more P k d h)) (same_more (take k P) below a b (let l = m.long in omega arith) few m.same);
+      same = subst (λ (Q : List Pair). Same Q (with_bit below a b)) (sym (take_more P k d h))
+          (same_more (take k P) below a b (let l = m.long in omega arith) few m.same);
       long = length-set below a (bit_or (get_or below a 0) (1 * 2 ^ b % 2 ^ 16)) ∙ m.long;
     }
 
@@ -308,7 +333,8 @@ same_16 P below n h s w a b = (
   λ e. (s a b).1 ((has_in 16 below a b).0 e).2,
 )
 
-pub cycle : (o : Option (List Pair)) (below : List ℕ) (n v : ℕ) → n ≤ 16 → AreMasksOf o (Some below) → AreWithin n below → IsPairCycle (pairs_in 16 below) v → ParsesAs o n (Err (PairCycle v))
+pub cycle : (o : Option (List Pair)) (below : List ℕ) (n v : ℕ) → n ≤ 16 → AreMasksOf o (Some below) → AreWithin n below →
+    IsPairCycle (pairs_in 16 below) v → ParsesAs o n (Err (PairCycle v))
 cycle None below n v h m w c = absurd m
 cycle (Some P) below n v h m w c = (
   below_from n P (λ a b e. w a b ((m a b).0 e)),
@@ -327,6 +353,8 @@ accepted (Some P) below n h m w c = (
   ap (λ (Q : List Pair). record { inputs = n; pairs = Q }) (sym (sorted_same n P below (same_from P below m))),
 )
 
-pub holds : (o : Option (List Pair)) (below : List ℕ) (n : ℕ) → 1 ≤ n → n ≤ 16 → AreMasksOf o (Some below) → AreWithin n below → HasNoCycle (pairs_in 16 below) → HoldsKept n below
+pub holds : (o : Option (List Pair)) (below : List ℕ) (n : ℕ) → 1 ≤ n → n ≤ 16 → AreMasksOf o (Some below) → AreWithin n below →
+    HasNoCycle (pairs_in 16 below) → HoldsKept n below
 holds None below n some few m w c = absurd m
-holds (Some P) below n some few m w c = holds_masks n P below some few w (same_from P below m) (λ v l. c v (leads_same (λ a b. (same_16 P below n few m w a b).0) l))
+holds (Some P) below n some few m w c =
+    holds_masks n P below some few w (same_from P below m) (λ v l. c v (leads_same (λ a b. (same_16 P below n few m w a b).0) l))

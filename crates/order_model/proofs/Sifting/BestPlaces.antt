@@ -75,7 +75,8 @@ module _ (n : ℕ) (F : List Function) (p : List ℕ → Bool) (f : ℕ → List
   walk held (suc k) a = by (p (f a)) refl (walk (f a) k (a + 1)) (walk held k (a + 1))
     where
       taken : (c : Bool) → ltb (size (f a)) (size held) ≡ c → p (f a) ≡ true → Outcome (f a) (a + 1) k (smallest_order n F (f a) (passing (a + 1) k)) →
-          Outcome held (a + 1) k (smallest_order n F held (passing (a + 1) k)) → Outcome held a (suc k) (smallest_order n F (cond c (f a) held) (passing (a + 1) k))
+          Outcome held (a + 1) k (smallest_order n F held (passing (a + 1) k)) →
+          Outcome held a (suc k) (smallest_order n F (cond c (f a) held) (passing (a + 1) k))
       taken true e t here kept =
           let lt = ltb-true (size (f a)) (size held) e in
           elim here [
@@ -95,18 +96,22 @@ module _ (n : ℕ) (F : List Function) (p : List ℕ → Bool) (f : ℕ → List
           ]
       taken false e t here kept = let le = ltb-false (size (f a)) (size held) e in later held a k _ (λ u. le) kept
 
-      by : (b : Bool) → p (f a) ≡ b → Outcome (f a) (a + 1) k (smallest_order n F (f a) (passing (a + 1) k)) → Outcome held (a + 1) k (smallest_order n F held (passing (a + 1) k)) →
+      by : (b : Bool) → p (f a) ≡ b → Outcome (f a) (a + 1) k (smallest_order n F (f a) (passing (a + 1) k)) →
+          Outcome held (a + 1) k (smallest_order n F held (passing (a + 1) k)) →
           Outcome held a (suc k) (smallest_order n F held (cond b (f a ∷ passing (a + 1) k) (passing (a + 1) k)))
       by true e here kept = taken (ltb (size (f a)) (size held)) refl e here kept
       by false e here kept = later held a k _ (λ t. absurd (true≢false (sym t ∙ e))) kept
 
   -- where some place passes, the smallest order is at the first of the least size
-  first_least : (order : List ℕ) (k a own : ℕ) → a ≤ own → own < a + k → p (f own) ≡ true → (i : ℕ) × IsFirstLeast a k i × (smallest_of n F order (passing a k) ≡ f i)
+  first_least : (order : List ℕ) (k a own : ℕ) → a ≤ own → own < a + k → p (f own) ≡ true →
+      (i : ℕ) × IsFirstLeast a k i × (smallest_of n F order (passing a k) ≡ f i)
   unfolding smallest_of
   first_least order zero a own g h t = absurd (omega arith)
   first_least order (suc k) a own g h t = by (p (f a)) refl (λ q. first_least order k (a + 1) own q (omega arith) t)
     where
-      by : (b : Bool) → p (f a) ≡ b → (a + 1 ≤ own → (i : ℕ) × IsFirstLeast (a + 1) k i × (smallest_of n F order (passing (a + 1) k) ≡ f i)) → (i : ℕ) × IsFirstLeast a (suc k) i × (smallest_of n F order (cond b (f a ∷ passing (a + 1) k) (passing (a + 1) k)) ≡ f i)
+      by : (b : Bool) → p (f a) ≡ b →
+          (a + 1 ≤ own → (i : ℕ) × IsFirstLeast (a + 1) k i × (smallest_of n F order (passing (a + 1) k) ≡ f i)) →
+          (i : ℕ) × IsFirstLeast a (suc k) i × (smallest_of n F order (cond b (f a ∷ passing (a + 1) k) (passing (a + 1) k)) ≡ f i)
       by true e rest =
           elim (walk (f a) k (a + 1)) [
             | inl s ↦ (
@@ -134,7 +139,8 @@ pub best_at_best_place : (n : ℕ) (F : List Function) (P : List Pair) (order : 
 unfolding best placements
 best_at_best_place n F P order x o k lt =
     let own = own_place x order o.once ((o.all x).1 lt) in
-    let s = first_least n F (keeps P) (λ i. moved order x i) order (length order) 0 (place_in order x) (omega arith) (let l = own.1 in omega arith) (ap (keeps P) own.0 ∙ k) in (
+    let s = first_least n F (keeps P) (λ i. moved order x i) order (length order) 0 (place_in order x) (omega arith)
+    (let l = own.1 in omega arith) (ap (keeps P) own.0 ∙ k) in (
       s.0,
       record {
         within = (let l = s.1.to in omega arith);
@@ -146,7 +152,8 @@ best_at_best_place n F P order x o k lt =
     )
 
 -- and there is one such place only
-pub best_from_place : (n : ℕ) (F : List Function) (P : List Pair) (order : List ℕ) (x i : ℕ) → IsOrder n order → Keeps P order → x < n → IsBestPlace n F P order x i →
+pub best_from_place : (n : ℕ) (F : List Function) (P : List Pair) (order : List ℕ) (x i : ℕ) → IsOrder n order → Keeps P order → x < n →
+    IsBestPlace n F P order x i →
     best n F P order x ≡ moved order x i
 best_from_place n F P order x i o k lt w =
     let s = best_at_best_place n F P order x o k lt in

@@ -37,7 +37,8 @@ module _ (count : ℕ → ℕ) where
   insert_has x [] z h = elim h [ inl e ↦ or_left _ _ (eq-eqb z x e) | inr m ↦ absurd (false≢true m) ]
   insert_has x (y ∷ ys) z h = by (ltb (count y) (count x)) (insert_has x ys z)
     where
-      by : (b : Bool) → ((z ≡ x) ⊎ (has ys z ≡ true) → has (insert_by_count count x ys) z ≡ true) → has (cond b (x ∷ y ∷ ys) (y ∷ insert_by_count count x ys)) z ≡ true
+      by : (b : Bool) → ((z ≡ x) ⊎ (has ys z ≡ true) → has (insert_by_count count x ys) z ≡ true) →
+          has (cond b (x ∷ y ∷ ys) (y ∷ insert_by_count count x ys)) z ≡ true
       by true r = elim h [ inl e ↦ or_left _ _ (eq-eqb z x e) | inr m ↦ or_right (nat_eq z x) _ m ]
       by false r = elim h [
         | inl e ↦ or_right (nat_eq z y) _ (r (inl e))
@@ -71,7 +72,8 @@ module _ (count : ℕ → ℕ) where
       by true e r = (front (ltb-true (count y) (count x) e), s)
       by false e r = (behind (ltb-false (count y) (count x) e), r)
 
-  all_sorted : (k a : ℕ) (ys : List ℕ) → ((z : ℕ) → has ys z ≡ true → z < a) → IsSorted ys → IsSorted (fold (λ zs x. insert_by_count count x zs) ys (range_with_len a k))
+  all_sorted : (k a : ℕ) (ys : List ℕ) → ((z : ℕ) → has ys z ≡ true → z < a) → IsSorted ys →
+      IsSorted (fold (λ zs x. insert_by_count count x zs) ys (range_with_len a k))
   all_sorted zero a ys h s = s
   all_sorted (suc k) a ys h s =
       all_sorted k (a + 1) (insert_by_count count a ys)
@@ -106,7 +108,8 @@ module _ (count : ℕ → ℕ) where
       there true e other m = absurd (other e)
       there false e other m = m
 
-      by : (c : Bool) → nat_eq u y ≡ c → (c || has ys u) ≡ true → (has ys u ≡ true → has ys v ≡ true → is_above u v ys ≡ true) → cond c (has ys v) (is_above u v ys) ≡ true
+      by : (c : Bool) → nat_eq u y ≡ c → (c || has ys u) ≡ true → (has ys u ≡ true → has ys v ≡ true → is_above u v ys ≡ true) →
+          cond c (has ys v) (is_above u v ys) ≡ true
       by true e m r =
           there (nat_eq v y) refl (λ t. let b' : Before u u = subst (λ w. Before u w) (eqb-true v y t ∙ sym (eqb-true u y e)) b in before_differs u u b' b') k
       by false e m r =
@@ -133,4 +136,6 @@ sifting_order_lem n F order = record {
     here y l = all_has (count_at n F order) (variables n) [] y (inl ((has_variables n y).1 l))
 
     places : (a b : ℕ) → a < n → b < n → Before (count_at n F order) a b → place_in xs a < place_in xs b
-    places a b g h k = ltb-true (place_in xs a) (place_in xs b) (sym (above_places a b xs once (here a g) (here b h)) ∙ sorted_above (count_at n F order) a b xs sorted (here a g) (here b h) k)
+    places a b g h k =
+        ltb-true (place_in xs a) (place_in xs b)
+        (sym (above_places a b xs once (here a g) (here b h)) ∙ sorted_above (count_at n F order) a b xs sorted (here a g) (here b h) k)

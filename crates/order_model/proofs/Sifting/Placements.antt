@@ -20,7 +20,9 @@ use Rattle.order_model.proofs.Widths.Recurrence.{apart_from_absent, has_again, a
 smaller : ℕ → List Function → List ℕ → List ℕ → List ℕ
 smaller n F a b = cond (ltb (size_under n F b) (size_under n F a)) b a
 
-smaller_lem : (n : ℕ) (F : List Function) (a b : List ℕ) → ((smaller n F a b ≡ a) ⊎ (smaller n F a b ≡ b)) × (size_under n F (smaller n F a b) ≤ size_under n F a) × (size_under n F (smaller n F a b) ≤ size_under n F b)
+smaller_lem : (n : ℕ) (F : List Function) (a b : List ℕ) →
+    ((smaller n F a b ≡ a) ⊎ (smaller n F a b ≡ b)) × (size_under n F (smaller n F a b) ≤ size_under n F a)
+    × (size_under n F (smaller n F a b) ≤ size_under n F b)
 unfolding smaller
 smaller_lem n F a b = by (ltb (size_under n F b) (size_under n F a)) refl
   where
@@ -31,7 +33,8 @@ smaller_lem n F a b = by (ltb (size_under n F b) (size_under n F a)) refl
 
 -- the smallest of some orders is one of them, and none of them is smaller
 pub smallest_lem : (n : ℕ) (F : List Function) (first : List ℕ) (others : List (List ℕ)) →
-    Among (smallest_order n F first others) (first ∷ others) × ((b : List ℕ) → Among b (first ∷ others) → size_under n F (smallest_order n F first others) ≤ size_under n F b)
+    Among (smallest_order n F first others) (first ∷ others)
+    × ((b : List ℕ) → Among b (first ∷ others) → size_under n F (smallest_order n F first others) ≤ size_under n F b)
 unfolding smallest_order smaller
 smallest_lem n F first [] = (inl refl, λ b m. elim m [ inl e ↦ let s = ap (size_under n F) e in omega arith | inr r ↦ absurd r ])
 smallest_lem n F first (o ∷ others) =
@@ -73,7 +76,8 @@ own_place x (y ∷ xs) d h = by (nat_eq x y) refl h (own_place x xs d.1)
     Rest : Bool → ℕ
     Rest c = cond (not c) (1 + place_in xs x) 0
 
-    by : (c : Bool) → nat_eq x y ≡ c → (c || has xs x) ≡ true → (has xs x ≡ true → (insert (without x xs) (place_in xs x) x ≡ xs) × (place_in xs x < length xs)) →
+    by : (c : Bool) → nat_eq x y ≡ c → (c || has xs x) ≡ true →
+        (has xs x ≡ true → (insert (without x xs) (place_in xs x) x ≡ xs) × (place_in xs x < length xs)) →
         (insert (cond (not c) (y ∷ without x xs) (without x xs)) (Rest c) x ≡ y ∷ xs) × (Rest c < length (y ∷ xs))
     by true e k r =
         let s = eqb-true x y e in
@@ -94,7 +98,13 @@ distinct_insert x (a ∷ us) vs d h =
 
 -- each placement of a variable is an order
 placement_order : (n : ℕ) (order : List ℕ) (x i : ℕ) → IsOrder n order → has order x ≡ true → IsOrder n (insert (without x order) i x)
-placement_order n order x i o h = record { all = λ y. (λ k. (o.all y).0 (sym (same y) ∙ k), λ lt. same y ∙ (o.all y).1 lt); once = distinct_insert x (take i zs) (drop i zs) apart none }
+placement_order n order x i o h =
+    record {
+      all =
+          λ y. (λ k. (o.all y).0 (sym (same y) ∙ k), λ lt. same y ∙ (o.all y).1 lt);
+      once =
+          distinct_insert x (take i zs) (drop i zs) apart none;
+    }
   where
     zs : List ℕ
     zs = without x order
@@ -129,7 +139,10 @@ best_lem n F P order x o k lt =
     let all = map place (range_with_len 0 (length order)) in
     let own = own_place x order o.once there in
     let among : Among order all =
-    subst (λ xs. Among xs all) own.0 (among_map place (place_in order x) (range_with_len 0 (length order)) (has_among (range_with_len 0 (length order)) (place_in order x) ((has_range (length order) 0 (place_in order x)).1 (omega arith, omega (arith, own.1))))) in
+    subst (λ xs. Among xs all) own.0
+    (among_map place (place_in order x) (range_with_len 0 (length order))
+    (has_among (range_with_len 0 (length order)) (place_in order x)
+    ((has_range (length order) 0 (place_in order x)).1 (omega arith, omega (arith, own.1))))) in
     let got = smallest_of_lem n F order order (filter (keeps P) all) (among_filter (keeps P) order all among k) in
     let parts = among_from_filter (keeps P) (smallest_of n F order (filter (keeps P) all)) all got.0 in
     let from = among_from_map place (smallest_of n F order (filter (keeps P) all)) (range_with_len 0 (length order)) parts.0 in
@@ -141,7 +154,8 @@ unfolding insert_by_count
 inserted_has count x [] z h = elim (or_cases (nat_eq z x) false h) [ inl e ↦ inl (eqb-true z x e) | inr f ↦ absurd (false≢true f) ]
 inserted_has count x (y ∷ ys) z h = by (ltb (count y) (count x)) h (inserted_has count x ys z)
   where
-    by : (b : Bool) → has (cond b (x ∷ y ∷ ys) (y ∷ insert_by_count count x ys)) z ≡ true → (has (insert_by_count count x ys) z ≡ true → (z ≡ x) ⊎ (has ys z ≡ true)) → (z ≡ x) ⊎ (has (y ∷ ys) z ≡ true)
+    by : (b : Bool) → has (cond b (x ∷ y ∷ ys) (y ∷ insert_by_count count x ys)) z ≡ true →
+        (has (insert_by_count count x ys) z ≡ true → (z ≡ x) ⊎ (has ys z ≡ true)) → (z ≡ x) ⊎ (has (y ∷ ys) z ≡ true)
     by true k r = elim (or_cases (nat_eq z x) (has (y ∷ ys) z) k) [ inl e ↦ inl (eqb-true z x e) | inr m ↦ inr m ]
     by false k r = elim (or_cases (nat_eq z y) (has (insert_by_count count x ys) z) k) [
       | inl e ↦ inr (or_left _ _ e)

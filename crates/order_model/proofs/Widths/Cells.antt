@@ -71,18 +71,26 @@ module _ (n : ℕ) (F : List Function) (P : List Pair) (base : List ℕ) (o : Is
       let small = lawful_members (mask - 2 ^ x) there in (
         there,
         least_same n F P base (ground n P base o k) (members n (mask - 2 ^ x)) (without x (members n mask)) small
-            (record { once = distinct_without x (members n mask) (distinct_members n mask); within = λ y m. small.within y (members_without n mask x h y ∙ m); lawful = l })
+            (record {
+              once =
+                  distinct_without x (members n mask) (distinct_members n mask);
+              within =
+                  λ y m. small.within y (members_without n mask x h y ∙ m);
+              lawful = l;
+            })
             (members_without n mask x h),
       )
 
 -- the test whether a set is within the bound, in its parts
-pub within_parts : (n : ℕ) (F : List Function) (P : List Pair) (bound : ℕ) (S : List ℕ) → is_within n F P bound S ≡ true → (is_lawful P S ≡ true) × (least n F P S + essentials_outside n F S ≤ bound)
+pub within_parts : (n : ℕ) (F : List Function) (P : List Pair) (bound : ℕ) (S : List ℕ) → is_within n F P bound S ≡ true →
+    (is_lawful P S ≡ true) × (least n F P S + essentials_outside n F S ≤ bound)
 unfolding is_within
 within_parts n F P bound S h =
     let parts = and_parts (is_lawful P S) (leb (least n F P S + essentials_outside n F S) bound) h in
     (parts.0, leb-true (least n F P S + essentials_outside n F S) bound parts.1)
 
-pub within_from : (n : ℕ) (F : List Function) (P : List Pair) (bound : ℕ) (S : List ℕ) → is_lawful P S ≡ true → least n F P S + essentials_outside n F S ≤ bound → is_within n F P bound S ≡ true
+pub within_from : (n : ℕ) (F : List Function) (P : List Pair) (bound : ℕ) (S : List ℕ) → is_lawful P S ≡ true →
+    least n F P S + essentials_outside n F S ≤ bound → is_within n F P bound S ≡ true
 unfolding is_within
 within_from n F P bound S l h = and_from _ _ l (le-leb (least n F P S + essentials_outside n F S) bound h)
 
@@ -92,7 +100,8 @@ pub record IsOpenCell (n : ℕ) (F : List Function) (P : List Pair) (mask c x : 
   pub member : has (members n mask) x ≡ true
   pub top : is_lawful P (without x (members n mask)) ≡ true
   pub best : least_with_top n F P (members n mask) x ≡ least n F P (members n mask)
-  pub smallest : (y : ℕ) → has (members n mask) y ≡ true → is_lawful P (without y (members n mask)) ≡ true → least_with_top n F P (members n mask) y ≡ least n F P (members n mask) → x ≤ y
+  pub smallest : (y : ℕ) → has (members n mask) y ≡ true → is_lawful P (without y (members n mask)) ≡ true →
+      least_with_top n F P (members n mask) y ≡ least n F P (members n mask) → x ≤ y
 
 pub has_tops : (P : List Pair) (S : List ℕ) (y : ℕ) → has (tops P S) y ≡ (has S y && is_lawful P (without y S))
 has_tops P S y = has_filter (λ x. is_lawful P (without x S)) S y
@@ -104,13 +113,17 @@ bests n F P S = filter (λ x. nat_eq (least_with_top n F P S x) (least n F P S))
 pub bests_parts : (n : ℕ) (F : List Function) (P : List Pair) (S : List ℕ) (y : ℕ) → has (bests n F P S) y ≡ true →
     (has S y ≡ true) × (is_lawful P (without y S) ≡ true) × (least_with_top n F P S y ≡ least n F P S)
 bests_parts n F P S y h =
-    let parts = and_parts (has (tops P S) y) (nat_eq (least_with_top n F P S y) (least n F P S)) (sym (has_filter (λ x. nat_eq (least_with_top n F P S x) (least n F P S)) (tops P S) y) ∙ h) in
+    let parts =
+    and_parts (has (tops P S) y) (nat_eq (least_with_top n F P S y) (least n F P S))
+    (sym (has_filter (λ x. nat_eq (least_with_top n F P S x) (least n F P S)) (tops P S) y) ∙ h) in
     let more = and_parts (has S y) (is_lawful P (without y S)) (sym (has_tops P S y) ∙ parts.0) in
     (more.0, more.1, eqb-true (least_with_top n F P S y) (least n F P S) parts.1)
 
-pub bests_from : (n : ℕ) (F : List Function) (P : List Pair) (S : List ℕ) (y : ℕ) → has S y ≡ true → is_lawful P (without y S) ≡ true → least_with_top n F P S y ≡ least n F P S → has (bests n F P S) y ≡ true
+pub bests_from : (n : ℕ) (F : List Function) (P : List Pair) (S : List ℕ) (y : ℕ) → has S y ≡ true → is_lawful P (without y S) ≡ true →
+    least_with_top n F P S y ≡ least n F P S → has (bests n F P S) y ≡ true
 bests_from n F P S y h l e =
-    has_filter (λ x. nat_eq (least_with_top n F P S x) (least n F P S)) (tops P S) y ∙ and_from _ _ (has_tops P S y ∙ and_from _ _ h l) (eq-eqb (least_with_top n F P S y) (least n F P S) e)
+    has_filter (λ x. nat_eq (least_with_top n F P S x) (least n F P S)) (tops P S) y
+    ∙ and_from _ _ (has_tops P S y ∙ and_from _ _ h l) (eq-eqb (least_with_top n F P S y) (least n F P S) e)
 
 pub rising_bests : (n : ℕ) (F : List Function) (P : List Pair) (mask : ℕ) → IsRising (bests n F P (members n mask))
 rising_bests n F P mask =
@@ -123,11 +136,13 @@ unfolding cell_of
 open_is n F P bound mask h = ap (λ b. cond b (least n F P (members n mask), best_top n F P (members n mask)) (bound + 1, first_of (members n mask))) h
 
 -- a clipped cell
-pub closed_cell : (n : ℕ) (F : List Function) (P : List Pair) (bound mask : ℕ) → is_within n F P bound (members n mask) ≡ false → cell_of n F P bound mask ≡ (bound + 1, first_of (members n mask))
+pub closed_cell : (n : ℕ) (F : List Function) (P : List Pair) (bound mask : ℕ) → is_within n F P bound (members n mask) ≡ false →
+    cell_of n F P bound mask ≡ (bound + 1, first_of (members n mask))
 unfolding cell_of
 closed_cell n F P bound mask h = ap (λ b. cond b (least n F P (members n mask), best_top n F P (members n mask)) (bound + 1, first_of (members n mask))) h
 
-module _ (n : ℕ) (F : List Function) (P : List Pair) (base : List ℕ) (o : IsOrder n base) (k : Keeps P base) (bound mask z : ℕ) (some : has (members n mask) z ≡ true) where
+module _ (n : ℕ) (F : List Function) (P : List Pair) (base : List ℕ) (o : IsOrder n base) (k : Keeps P base) (bound mask z : ℕ)
+    (some : has (members n mask) z ≡ true) where
   pub open_cell : is_within n F P bound (members n mask) ≡ true → IsOpenCell n F P mask (cell_of n F P bound mask).0 (cell_of n F P bound mask).1
   unfolding best_top
   open_cell h =
@@ -135,7 +150,9 @@ module _ (n : ℕ) (F : List Function) (P : List Pair) (base : List ℕ) (o : Is
       let set = lawful_members n F P base o k mask parts.0 in
       let top = recurrence_some n F P base (ground n P base o k) (members n mask) z set some in
       let x = first_of (bests n F P (members n mask)) in
-      let there = bests_parts n F P (members n mask) x (first_has (bests n F P (members n mask)) top.0 (bests_from n F P (members n mask) top.0 top.1 top.2 (sym top.3))) in
+      let there =
+      bests_parts n F P (members n mask) x
+      (first_has (bests n F P (members n mask)) top.0 (bests_from n F P (members n mask) top.0 top.1 top.2 (sym top.3))) in
       let is : IsOpenCell n F P mask (least n F P (members n mask)) x = record {
         cost = refl;
         member = there.0;
@@ -154,23 +171,28 @@ module _ (n : ℕ) (F : List Function) (P : List Pair) (base : List ℕ) (o : Is
       ]
 
 -- the parts of a cell within the bound
-pub cell_cost_is : (n : ℕ) (F : List Function) (P : List Pair) (bound mask : ℕ) → is_within n F P bound (members n mask) ≡ true → (cell_of n F P bound mask).0 ≡ least n F P (members n mask)
+pub cell_cost_is : (n : ℕ) (F : List Function) (P : List Pair) (bound mask : ℕ) → is_within n F P bound (members n mask) ≡ true →
+    (cell_of n F P bound mask).0 ≡ least n F P (members n mask)
 cell_cost_is n F P bound mask h = ap (λ (c : ℕ × ℕ). c.0) (open_is n F P bound mask h)
 
-pub cell_top : (n : ℕ) (F : List Function) (P : List Pair) (base : List ℕ) (bound mask z : ℕ) → IsOrder n base → Keeps P base → has (members n mask) z ≡ true → is_within n F P bound (members n mask) ≡ true →
-    (has (tops P (members n mask)) (cell_of n F P bound mask).1 ≡ true) × (least_with_top n F P (members n mask) (cell_of n F P bound mask).1 ≡ least n F P (members n mask))
+pub cell_top : (n : ℕ) (F : List Function) (P : List Pair) (base : List ℕ) (bound mask z : ℕ) → IsOrder n base → Keeps P base →
+    has (members n mask) z ≡ true → is_within n F P bound (members n mask) ≡ true →
+    (has (tops P (members n mask)) (cell_of n F P bound mask).1 ≡ true)
+    × (least_with_top n F P (members n mask) (cell_of n F P bound mask).1 ≡ least n F P (members n mask))
 cell_top n F P base bound mask z o k m h =
     let cell = open_cell n F P base o k bound mask z m h in
     (has_tops P (members n mask) (cell_of n F P bound mask).1 ∙ and_from _ _ cell.member cell.top, cell.best)
 
-pub cell_smallest : (n : ℕ) (F : List Function) (P : List Pair) (base : List ℕ) (bound mask y : ℕ) → IsOrder n base → Keeps P base → is_within n F P bound (members n mask) ≡ true →
+pub cell_smallest : (n : ℕ) (F : List Function) (P : List Pair) (base : List ℕ) (bound mask y : ℕ) → IsOrder n base → Keeps P base →
+    is_within n F P bound (members n mask) ≡ true →
     has (tops P (members n mask)) y ≡ true → least_with_top n F P (members n mask) y ≡ least n F P (members n mask) → (cell_of n F P bound mask).1 ≤ y
 cell_smallest n F P base bound mask y o k h t e =
     let parts = and_parts (has (members n mask) y) (is_lawful P (without y (members n mask))) (sym (has_tops P (members n mask) y) ∙ t) in
     (open_cell n F P base o k bound mask y parts.0 h).smallest y parts.0 parts.1 e
 
 -- below a top of the least cost the set is within the bound, too
-pub next_within : (n : ℕ) (F : List Function) (P : List Pair) (base : List ℕ) → IsOrder n base → Keeps P base → (bound mask x : ℕ) → is_within n F P bound (members n mask) ≡ true →
+pub next_within : (n : ℕ) (F : List Function) (P : List Pair) (base : List ℕ) → IsOrder n base → Keeps P base → (bound mask x : ℕ) →
+    is_within n F P bound (members n mask) ≡ true →
     has (members n mask) x ≡ true → is_lawful P (without x (members n mask)) ≡ true → least_with_top n F P (members n mask) x ≡ least n F P (members n mask) →
     is_within n F P bound (members n (mask - 2 ^ x)) ≡ true
 next_within n F P base o k bound mask x h m l e =
@@ -192,7 +214,8 @@ unfolding members
 members_zero n = filter_none (λ x. eqb (bit_at 0 x) 1) (variables n) (λ y. ap (λ b. eqb b 1) (bit_at-zero y))
 
 -- within the bound a set's cost is its least cost
-pub cost_open : (n : ℕ) (F : List Function) (P : List Pair) (bound mask : ℕ) → is_within n F P bound (members n mask) ≡ true → cell_cost n F P bound mask ≡ least n F P (members n mask)
+pub cost_open : (n : ℕ) (F : List Function) (P : List Pair) (bound mask : ℕ) → is_within n F P bound (members n mask) ≡ true →
+    cell_cost n F P bound mask ≡ least n F P (members n mask)
 unfolding cell_cost
 cost_open n F P bound mask h = by (nat_eq mask 0) refl
   where
@@ -206,7 +229,8 @@ pub cost_known : (n : ℕ) (F : List Function) (P : List Pair) (bound mask : ℕ
 unfolding cell_cost
 cost_known n F P bound mask h = by (nat_eq mask 0) refl h
   where
-    by : (b : Bool) → nat_eq mask 0 ≡ b → cond b 0 (cell_of n F P bound mask).0 ≤ bound → (is_lawful P (members n mask) ≡ true) × (cond b 0 (cell_of n F P bound mask).0 ≡ least n F P (members n mask))
+    by : (b : Bool) → nat_eq mask 0 ≡ b → cond b 0 (cell_of n F P bound mask).0 ≤ bound →
+        (is_lawful P (members n mask) ≡ true) × (cond b 0 (cell_of n F P bound mask).0 ≡ least n F P (members n mask))
     by true e le =
         let none = ap (members n) (eqb-true mask 0 e) ∙ members_zero n in
         (ap (is_lawful P) none ∙ lawful_whole P [] (are_lawful_nil P), sym (ap (least n F P) none ∙ least-nil n F P))
@@ -219,7 +243,8 @@ cost_known n F P bound mask h = by (nat_eq mask 0) refl h
 -- ---- the cell from smaller sets
 
 -- two rising lists of the same members have the same first one
-first_same : (xs ys : List ℕ) (z : ℕ) → IsRising xs → IsRising ys → has xs z ≡ true → ((y : ℕ) → has xs y ≡ true → has ys y ≡ true) → ((y : ℕ) → has ys y ≡ true → has xs y ≡ true) → first_of xs ≡ first_of ys
+first_same : (xs ys : List ℕ) (z : ℕ) → IsRising xs → IsRising ys → has xs z ≡ true → ((y : ℕ) → has xs y ≡ true → has ys y ≡ true) →
+    ((y : ℕ) → has ys y ≡ true → has xs y ≡ true) → first_of xs ≡ first_of ys
 first_same xs ys z r s h f g =
     let a = first_has xs z h in
     let b = first_has ys z (f z h) in
@@ -227,10 +252,12 @@ first_same xs ys z r s h f g =
     let ge = first_le xs (first_of ys) r (g (first_of ys) b) in
     omega arith
 
-module _ (n : ℕ) (F : List Function) (P : List Pair) (base : List ℕ) (o : IsOrder n base) (k : Keeps P base) (bound mask : ℕ) (costs widths : ℕ → ℕ) (given : AreForCell n F P bound mask costs widths) where
+module _ (n : ℕ) (F : List Function) (P : List Pair) (base : List ℕ) (o : IsOrder n base) (k : Keeps P base) (bound mask : ℕ)
+    (costs widths : ℕ → ℕ) (given : AreForCell n F P bound mask costs widths) where
   -- the sum of a candidate is the least cost with it on top
   pub candidate_sum : is_lawful P (members n mask) ≡ true → (y : ℕ) → has (members n mask) y ≡ true → costs y ≤ bound →
-      (is_lawful P (without y (members n mask)) ≡ true) × (costs y + widths y ≡ least_with_top n F P (members n mask) y) × (least n F P (members n mask) ≤ costs y + widths y)
+      (is_lawful P (without y (members n mask)) ≡ true) × (costs y + widths y ≡ least_with_top n F P (members n mask) y)
+      × (least n F P (members n mask) ≤ costs y + widths y)
   candidate_sum l y m le =
       let c = given.are_costs y m in
       let known = cost_known n F P bound (mask - 2 ^ y) (omega arith) in
@@ -241,7 +268,8 @@ module _ (n : ℕ) (F : List Function) (P : List Pair) (base : List ℕ) (o : Is
       (low, omega (arith, known.1, rest.1), omega (arith, known.1, rest.1))
 
   -- within the bound, a top of the least cost is a candidate
-  pub best_candidate : is_within n F P bound (members n mask) ≡ true → (y : ℕ) → has (members n mask) y ≡ true → is_lawful P (without y (members n mask)) ≡ true →
+  pub best_candidate : is_within n F P bound (members n mask) ≡ true → (y : ℕ) → has (members n mask) y ≡ true →
+      is_lawful P (without y (members n mask)) ≡ true →
       least_with_top n F P (members n mask) y ≡ least n F P (members n mask) → costs y ≤ bound
   best_candidate h y m l e =
       let next = next_within n F P base o k bound mask y h m l e in
@@ -272,7 +300,8 @@ module _ (n : ℕ) (F : List Function) (P : List Pair) (base : List ℕ) (o : Is
 
   -- where no candidate leaves room within the bound, the cell is clipped
   pub clipped : (z : ℕ) → has (members n mask) z ≡ true →
-      (is_lawful P (members n mask) ≡ true → (y : ℕ) → has (members n mask) y ≡ true → costs y ≤ bound → bound < costs y + widths y + essentials_outside n F (members n mask)) →
+      (is_lawful P (members n mask) ≡ true → (y : ℕ) → has (members n mask) y ≡ true → costs y ≤ bound →
+      bound < costs y + widths y + essentials_outside n F (members n mask)) →
       cell_of n F P bound mask ≡ (bound + 1, first_of (members n mask))
   clipped z m none =
       elim (cases_Bool (is_within n F P bound (members n mask))) [
@@ -304,10 +333,12 @@ module _ (n : ℕ) (F : List Function) (P : List Pair) (base : List ℕ) (o : Is
 
   -- the least sum is some candidate's, and no candidate's is less
   sum_lem : (z : ℕ) → has (candidates n bound mask costs) z ≡ true →
-      ((y : ℕ) × (has (candidates n bound mask costs) y ≡ true) × (costs y + widths y ≡ least_sum n bound mask costs widths)) × ((y : ℕ) → has (candidates n bound mask costs) y ≡ true → least_sum n bound mask costs widths ≤ costs y + widths y)
+      ((y : ℕ) × (has (candidates n bound mask costs) y ≡ true) × (costs y + widths y ≡ least_sum n bound mask costs widths))
+      × ((y : ℕ) → has (candidates n bound mask costs) y ≡ true → least_sum n bound mask costs widths ≤ costs y + widths y)
   unfolding least_sum Sum
   sum_lem z h =
-      let all = least_of_lem (map Sum (candidates n bound mask costs)) (Sum z) (among_map Sum z (candidates n bound mask costs) (has_among (candidates n bound mask costs) z h)) in
+      let all = least_of_lem (map Sum (candidates n bound mask costs)) (Sum z)
+      (among_map Sum z (candidates n bound mask costs) (has_among (candidates n bound mask costs) z h)) in
       let from = among_from_map Sum (least_sum n bound mask costs widths) (candidates n bound mask costs) all.0 in (
         (from.0, among_has (candidates n bound mask costs) from.0 from.1, sym from.2),
         λ y m. all.1 (Sum y) (among_map Sum y (candidates n bound mask costs) (has_among (candidates n bound mask costs) y m)),
@@ -337,17 +368,21 @@ module _ (n : ℕ) (F : List Function) (P : List Pair) (base : List ℕ) (o : Is
   firsts_from : (y : ℕ) → has (candidates n bound mask costs) y ≡ true → costs y + widths y ≡ least_sum n bound mask costs widths → has firsts y ≡ true
   unfolding firsts
   firsts_from y h e =
-      has_filter (λ x. nat_eq (costs x + widths x) (least_sum n bound mask costs widths)) (candidates n bound mask costs) y ∙ and_from _ _ h (eq-eqb (costs y + widths y) (least_sum n bound mask costs widths) e)
+      has_filter (λ x. nat_eq (costs x + widths x) (least_sum n bound mask costs widths)) (candidates n bound mask costs) y
+      ∙ and_from _ _ h (eq-eqb (costs y + widths y) (least_sum n bound mask costs widths) e)
 
   rising_firsts : IsRising firsts
   unfolding firsts candidates
   rising_firsts =
-      rising_filter (λ x. nat_eq (costs x + widths x) (least_sum n bound mask costs widths)) (candidates n bound mask costs) (rising_filter (λ x. leb (costs x) bound) (members n mask) (rising_members n mask))
+      rising_filter (λ x. nat_eq (costs x + widths x) (least_sum n bound mask costs widths)) (candidates n bound mask costs)
+      (rising_filter (λ x. leb (costs x) bound) (members n mask) (rising_members n mask))
 
   with_room : has_room n P bound left mask costs widths ≡ true → cell_of n F P bound mask ≡ (least_sum n bound mask costs widths, first_of firsts)
   unfolding has_room left
   with_room h =
-      let parts = and_parts (is_lawful P (members n mask)) (not (nat_eq (length (candidates n bound mask costs)) 0) && leb (least_sum n bound mask costs widths + left) bound) h in
+      let parts =
+      and_parts (is_lawful P (members n mask))
+      (not (nat_eq (length (candidates n bound mask costs)) 0) && leb (least_sum n bound mask costs widths + left) bound) h in
       let more = and_parts (not (nat_eq (length (candidates n bound mask costs)) 0)) (leb (least_sum n bound mask costs widths + left) bound) parts.1 in
       let le = leb-true (least_sum n bound mask costs widths + left) bound more.1 in
       let one = nonempty (candidates n bound mask costs) more.0 in
@@ -362,21 +397,27 @@ module _ (n : ℕ) (F : List Function) (P : List Pair) (base : List ℕ) (o : Is
       (omega arith) in
       is ∙ (λ i. (e i, x))
 
-  no_room : (z : ℕ) → has (members n mask) z ≡ true → has_room n P bound left mask costs widths ≡ false → cell_of n F P bound mask ≡ (bound + 1, first_of (members n mask))
+  no_room : (z : ℕ) → has (members n mask) z ≡ true → has_room n P bound left mask costs widths ≡ false →
+      cell_of n F P bound mask ≡ (bound + 1, first_of (members n mask))
   unfolding has_room left
   no_room z m h = clipped z m (λ l y k c. elim (cases_lt bound (costs y + widths y + left)) [
     | inl lt ↦ lt
     | inr le ↦
         let there = candidate_from y k c in
         let s = (sum_lem y there).1 y there in
-        absurd (true≢false (sym (and_from _ _ l (and_from _ _ (never_empty (candidates n bound mask costs) y there) (le-leb (least_sum n bound mask costs widths + left) bound (omega arith)))) ∙ h))
+        absurd (true≢false
+        (sym (and_from _ _ l
+        (and_from _ _ (never_empty (candidates n bound mask costs) y there)
+        (le-leb (least_sum n bound mask costs widths + left) bound (omega arith)))) ∙ h))
   ])
 
   -- the cell follows from the costs and widths
-  pub cell_from_is : (z : ℕ) → has (members n mask) z ≡ true → cell_from n P bound (essentials_outside n F (members n mask)) mask costs widths ≡ cell_of n F P bound mask
+  pub cell_from_is : (z : ℕ) → has (members n mask) z ≡ true →
+      cell_from n P bound (essentials_outside n F (members n mask)) mask costs widths ≡ cell_of n F P bound mask
   unfolding cell_from left firsts
   cell_from_is z m = by (has_room n P bound left mask costs widths) refl
     where
-      by : (b : Bool) → has_room n P bound left mask costs widths ≡ b → cond b (least_sum n bound mask costs widths, first_of firsts) (bound + 1, first_of (members n mask)) ≡ cell_of n F P bound mask
+      by : (b : Bool) → has_room n P bound left mask costs widths ≡ b →
+          cond b (least_sum n bound mask costs widths, first_of firsts) (bound + 1, first_of (members n mask)) ≡ cell_of n F P bound mask
       by true e = sym (with_room e)
       by false e = sym (no_room z m e)

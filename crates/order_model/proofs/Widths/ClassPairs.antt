@@ -74,7 +74,8 @@ module _ {K : Type 0} (eq : K → K → Bool) (decides : (x y : K) → (eq x y �
         | inr e ↦
             elim (cases_Bool (eq u w)) [
               | inl f ↦ inr (comes_here w ts u t f e)
-              | inr f ↦ elim (first_of_two ts t u ne (among_rest w ts t e h) (among_rest w ts u f k)) [ inl c ↦ inl (comes_next w ts t u e f c) | inr c ↦ inr (comes_next w ts u t f e c) ]
+              | inr f ↦ elim (first_of_two ts t u ne (among_rest w ts t e h) (among_rest w ts u f k))
+                  [ inl c ↦ inl (comes_next w ts t u e f c) | inr c ↦ inr (comes_next w ts u t f e c) ]
             ]
       ]
 
@@ -84,11 +85,13 @@ module _ {K : Type 0} (eq : K → K → Bool) (decides : (x y : K) → (eq x y �
   fewer_before ts t u c =
       let le = count_mono eq decides (t ∷ before ts t) (before ts u) c in
       let new : is_member eq (before ts t) t ≡ false = false_from_ne_true _ (λ m. not_among_before ts t (among_from_member eq decides (before ts t) t m)) in
-      let more : distinct_count eq (t ∷ before ts t) ≡ suc (distinct_count eq (before ts t)) = ap (λ b. length (cond b (unique_keys eq (before ts t)) (t ∷ unique_keys eq (before ts t)))) new in
+      let more : distinct_count eq (t ∷ before ts t) ≡ suc (distinct_count eq (before ts t)) =
+      ap (λ b. length (cond b (unique_keys eq (before ts t)) (t ∷ unique_keys eq (before ts t)))) new in
       omega arith
 
   -- the number of distinct elements before the first equal one tells elements apart
-  pub rank_apart : (ts : List K) (t u : K) → Among t ts → Among u ts → distinct_count eq (take_while (λ v. not (eq t v)) ts) ≡ distinct_count eq (take_while (λ v. not (eq u v)) ts) → t ≡ u
+  pub rank_apart : (ts : List K) (t u : K) → Among t ts → Among u ts →
+      distinct_count eq (take_while (λ v. not (eq t v)) ts) ≡ distinct_count eq (take_while (λ v. not (eq u v)) ts) → t ≡ u
   unfolding before
   rank_apart ts t u h k e =
       elim (cases_Bool (eq t u)) [
@@ -101,8 +104,10 @@ module _ {K : Type 0} (eq : K → K → Bool) (decides : (x y : K) → (eq x y �
       by (inr c) = let l = fewer_before ts u t c in omega arith
 
 -- two ways to name elements that tell the same ones apart give as many names
-pub count_alike : {X A B : Type 0} (E : A → A → Bool) (dE : (x y : A) → (E x y ≡ true → x ≡ y) × (x ≡ y → E x y ≡ true)) (G : B → B → Bool) (dG : (x y : B) → (G x y ≡ true → x ≡ y) × (x ≡ y → G x y ≡ true)) →
-    (f : X → A) (g : X → B) (xs : List X) → ((x y : X) → Among x xs → Among y xs → (f x ≡ f y → g x ≡ g y) × (g x ≡ g y → f x ≡ f y)) → distinct_count E (map f xs) ≡ distinct_count G (map g xs)
+pub count_alike : {X A B : Type 0} (E : A → A → Bool) (dE : (x y : A) → (E x y ≡ true → x ≡ y) × (x ≡ y → E x y ≡ true)) (G : B → B → Bool)
+    (dG : (x y : B) → (G x y ≡ true → x ≡ y) × (x ≡ y → G x y ≡ true)) →
+    (f : X → A) (g : X → B) (xs : List X) → ((x y : X) → Among x xs → Among y xs → (f x ≡ f y → g x ≡ g y) × (g x ≡ g y → f x ≡ f y)) →
+    distinct_count E (map f xs) ≡ distinct_count G (map g xs)
 count_alike E dE G dG f g [] h = refl
 count_alike E dE G dG f g (x ∷ xs) h =
     by (is_member E (map f xs) (f x)) (is_member G (map g xs) (g x)) (same_bool _ _ to from) (count_alike E dE G dG f g xs (λ y z a b. h y z (inr a) (inr b)))
@@ -116,7 +121,8 @@ count_alike E dE G dG f g (x ∷ xs) h =
         member_from_among E dE (map f xs) (f x) (subst (λ b. Among b (map f xs)) (sym ((h x s.0 (inl refl) (inr s.1)).1 s.2)) (among_map f s.0 xs s.1))
 
     by : (b c : Bool) → b ≡ c → distinct_count E (map f xs) ≡ distinct_count G (map g xs) →
-        length (cond b (unique_keys E (map f xs)) (f x ∷ unique_keys E (map f xs))) ≡ length (cond c (unique_keys G (map g xs)) (g x ∷ unique_keys G (map g xs)))
+        length (cond b (unique_keys E (map f xs)) (f x ∷ unique_keys E (map f xs))) ≡ length
+        (cond c (unique_keys G (map g xs)) (g x ∷ unique_keys G (map g xs)))
     by true true e r = r
     by true false e r = absurd (true≢false e)
     by false true e r = absurd (false≢true e)
@@ -133,7 +139,8 @@ pair_decides p q = (
 pub has_reverse : (xs : List ℕ) (y : ℕ) → has (reverse xs) y ≡ has xs y
 has_reverse [] y = refl
 has_reverse (x ∷ xs) y =
-    ap (λ zs. has zs y) (reverse-append (x ∷ []) xs) ∙ has_append (reverse xs) (x ∷ []) y ∙ ap (λ b. b || (nat_eq y x || false)) (has_reverse xs y) ∙ turn (has xs y) (nat_eq y x)
+    ap (λ zs. has zs y) (reverse-append (x ∷ []) xs) ∙ has_append (reverse xs) (x ∷ []) y
+    ∙ ap (λ b. b || (nat_eq y x || false)) (has_reverse xs y) ∙ turn (has xs y) (nat_eq y x)
   where
     turn : (a b : Bool) → (a || (b || false)) ≡ (b || a)
     turn true true = refl
@@ -141,11 +148,13 @@ has_reverse (x ∷ xs) y =
     turn false true = refl
     turn false false = refl
 
-pub filter_map_same : {X Y : Type 0} (p : X → Bool) (q : Y → Bool) (f : X → Y) (xs : List X) → ((x : X) → Among x xs → p x ≡ q (f x)) → filter q (map f xs) ≡ map f (filter p xs)
+pub filter_map_same : {X Y : Type 0} (p : X → Bool) (q : Y → Bool) (f : X → Y) (xs : List X) → ((x : X) → Among x xs → p x ≡ q (f x)) →
+    filter q (map f xs) ≡ map f (filter p xs)
 filter_map_same p q f [] h = refl
 filter_map_same p q f (x ∷ xs) h = by (p x) (q (f x)) (h x (inl refl)) (filter_map_same p q f xs (λ y k. h y (inr k)))
   where
-    by : (b c : Bool) → b ≡ c → filter q (map f xs) ≡ map f (filter p xs) → cond c (f x ∷ filter q (map f xs)) (filter q (map f xs)) ≡ map f (cond b (x ∷ filter p xs) (filter p xs))
+    by : (b c : Bool) → b ≡ c → filter q (map f xs) ≡ map f (filter p xs) →
+        cond c (f x ∷ filter q (map f xs)) (filter q (map f xs)) ≡ map f (cond b (x ∷ filter p xs) (filter p xs))
     by true true e r = ap (λ ys. f x ∷ ys) r
     by true false e r = absurd (true≢false e)
     by false true e r = absurd (false≢true e)
@@ -157,7 +166,8 @@ module _ (n : ℕ) (F : List Function) (T : List ℕ) (x : ℕ) (small : x < n) 
 
   -- fixing x, too, fixes just the variables outside T
   same_variables : (y : ℕ) → has (outside n (x ∷ T) ++ x ∷ []) y ≡ has (reverse (outside n T)) y
-  same_variables y = has_append (outside n (x ∷ T)) (x ∷ []) y ∙ ap (λ b. b || (nat_eq y x || false)) (has_outside n (x ∷ T) y) ∙ middle ∙ sym (has_reverse (outside n T) y ∙ has_outside n T y)
+  same_variables y = has_append (outside n (x ∷ T)) (x ∷ []) y ∙ ap (λ b. b || (nat_eq y x || false)) (has_outside n (x ∷ T) y) ∙ middle
+      ∙ sym (has_reverse (outside n T) y ∙ has_outside n T y)
     where
       both : (a b c : Bool) → ((a && not (b || c)) || (b || false)) ≡ cond b true (a && not c)
       both true true c = refl
@@ -171,7 +181,8 @@ module _ (n : ℕ) (F : List Function) (T : List ℕ) (x : ℕ) (small : x < n) 
       middle = both (has (variables n) y) (nat_eq y x) (has T y) ∙ elim (cases_eq y x) [
         | inl e ↦
             ap (λ b. cond b true (has (variables n) y && not (has T y))) (eq-eqb y x e)
-            ∙ sym (and_from (has (variables n) y) (not (has T y)) (ap (has (variables n)) e ∙ (has_variables n x).1 small) (not_from_false (has T y) (ap (has T) e ∙ new)))
+            ∙ sym (and_from (has (variables n) y) (not (has T y)) (ap (has (variables n)) e ∙ (has_variables n x).1 small)
+            (not_from_false (has T y) (ap (has T) e ∙ new)))
         | inr ne ↦ ap (λ b. cond b true (has (variables n) y && not (has T y))) (ne_eqb y x ne)
       ]
 
@@ -183,13 +194,20 @@ module _ (n : ℕ) (F : List Function) (T : List ℕ) (x : ℕ) (small : x < n) 
   unfolding entries reached
   restriction_listed g h b =
       let more = reach_more F (outside n (x ∷ T)) x b g h in
-      let got = reach_same n F (outside n (x ∷ T) ++ x ∷ []) (reverse (outside n T)) (below_from_has n _ (λ y k. inside y (sym (same_variables y) ∙ k))) (below_from_has n _ inside) same_variables (restrict x b g) more in
-      subst (λ t. Among t (map (table n) (reach F (reverse (outside n T))))) (sym (table_same n (restrict x b g) got.0 got.2)) (among_map (table n) got.0 _ got.1)
+      let got = reach_same n F (outside n (x ∷ T) ++ x ∷ []) (reverse (outside n T))
+      (below_from_has n _ (λ y k. inside y (sym (same_variables y) ∙ k))) (below_from_has n _ inside) same_variables
+      (restrict x b g) more in
+      subst (λ t. Among t (map (table n) (reach F (reverse (outside n T))))) (sym (table_same n (restrict x b g) got.0 got.2))
+      (among_map (table n) got.0 _ got.1)
 
   -- equal classes are equal restrictions
-  pub class_tells : (g k : Function) (b c : Bool) → Among g reached → Among k reached → class_of (entries n F T) (table n (restrict x b g)) ≡ class_of (entries n F T) (table n (restrict x c k)) → table n (restrict x b g) ≡ table n (restrict x c k)
+  pub class_tells : (g k : Function) (b c : Bool) → Among g reached → Among k reached →
+      class_of (entries n F T) (table n (restrict x b g)) ≡ class_of (entries n F T) (table n (restrict x c k)) →
+      table n (restrict x b g) ≡ table n (restrict x c k)
   unfolding class_of
-  class_tells g k b c h i e = rank_apart same_table same_table_decides (entries n F T) (table n (restrict x b g)) (table n (restrict x c k)) (restriction_listed g h b) (restriction_listed k i c) e
+  class_tells g k b c h i e =
+      rank_apart same_table same_table_decides (entries n F T) (table n (restrict x b g)) (table n (restrict x c k))
+      (restriction_listed g h b) (restriction_listed k i c) e
 
   -- the function depends on x just where its classes are unequal
   pub depends_by_classes : (g : Function) → Among g reached → depends n g x ≡ not (nat_eq (class_pair n F T x g).0 (class_pair n F T x g).1)
@@ -199,7 +217,9 @@ module _ (n : ℕ) (F : List Function) (T : List ℕ) (x : ℕ) (small : x < n) 
       (λ e. (same_table_decides (table n (restrict x false g)) (table n (restrict x true g))).1 (class_tells g g false true h h (eqb-true _ _ e))))
 
   -- two functions have one table just where they have one pair of classes
-  pub same_by_classes : (g k : Function) → Among g reached → Among k reached → (table n g ≡ table n k → class_pair n F T x g ≡ class_pair n F T x k) × (class_pair n F T x g ≡ class_pair n F T x k → table n g ≡ table n k)
+  pub same_by_classes : (g k : Function) → Among g reached → Among k reached →
+      (table n g ≡ table n k → class_pair n F T x g ≡ class_pair n F T x k)
+      × (class_pair n F T x g ≡ class_pair n F T x k → table n g ≡ table n k)
   unfolding class_pair SameFunction
   same_by_classes g k h i = (
     λ e.
@@ -213,7 +233,8 @@ module _ (n : ℕ) (F : List Function) (T : List ℕ) (x : ℕ) (small : x < n) 
         table_same n g k (λ p l. sym (own_restriction x g p) ∙ by p (bit p x) (low p l) (high p l) ∙ own_restriction x k p),
   )
     where
-      by : (p : Point) (b : Bool) → restrict x false g p ≡ restrict x false k p → restrict x true g p ≡ restrict x true k p → restrict x b g p ≡ restrict x b k p
+      by : (p : Point) (b : Bool) → restrict x false g p ≡ restrict x false k p → restrict x true g p ≡ restrict x true k p →
+          restrict x b g p ≡ restrict x b k p
       by p true low high = high
       by p false low high = low
 
@@ -223,4 +244,5 @@ module _ (n : ℕ) (F : List Function) (T : List ℕ) (x : ℕ) (small : x < n) 
   width_is_pairs =
       count_alike same_table same_table_decides same_pair pair_decides (table n) (class_pair n F T x) (filter (λ g. depends n g x) reached)
       (λ g k a b. same_by_classes g k (among_from_filter (λ g. depends n g x) g reached a).0 (among_from_filter (λ g. depends n g x) k reached b).0)
-      ∙ ap (distinct_count same_pair) (sym (filter_map_same (λ g. depends n g x) (λ (p : ℕ × ℕ). not (nat_eq p.0 p.1)) (class_pair n F T x) reached depends_by_classes))
+      ∙ ap (distinct_count same_pair)
+      (sym (filter_map_same (λ g. depends n g x) (λ (p : ℕ × ℕ). not (nat_eq p.0 p.1)) (class_pair n F T x) reached depends_by_classes))

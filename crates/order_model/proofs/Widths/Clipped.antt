@@ -35,18 +35,22 @@ moved P S T xs h a = record { arrangement = record { members = λ y. a.arrangeme
 
 module _ (n : ℕ) (F : List Function) (P : List Pair) (base : List ℕ) (o : IsOrder n base) (k : Keeps P base) where
   -- another list of the least cost has a variable on top that gives it, too
-  other_top : (mask y : ℕ) (ys : List ℕ) → is_lawful P (members n mask) ≡ true → IsLawfulList P (members n mask) (y ∷ ys) → cost n F (y ∷ ys) ≡ least n F P (members n mask) →
+  other_top : (mask y : ℕ) (ys : List ℕ) → is_lawful P (members n mask) ≡ true → IsLawfulList P (members n mask) (y ∷ ys) →
+      cost n F (y ∷ ys) ≡ least n F P (members n mask) →
       (least_with_top n F P (members n mask) y ≡ least n F P (members n mask)) × (cost n F ys ≡ least n F P (without y (members n mask)))
   other_top mask y ys low a e =
       let set = lawful_members n F P base o k mask low in
       let tail = lawful_tail P y ys (members n mask) a in
       let l = lawful_behind P y ys (members n mask) a in
       let f = cost_cons n F (members n mask) y ys tail.arrangement in
-      let g = (least_is_least n F P base (ground n P base o k) (without y (members n mask)) (without_top n F P base (ground n P base o k) (members n mask) y set l)).no_less ys tail in
+      let g = (least_is_least n F P base (ground n P base o k) (without y (members n mask))
+      (without_top n F P base (ground n P base o k) (members n mask) y set l)).no_less
+      ys tail in
       let h = recurrence_le n F P base (ground n P base o k) (members n mask) y set (first_member y ys (members n mask) a.arrangement) l in
       (omega arith, omega arith)
 
-  module _ (mask c x : ℕ) (low : is_lawful P (members n mask) ≡ true) (cell : IsOpenCell n F P mask c x) (order : List ℕ) (rest : FirstRead n F P (mask - 2 ^ x) order) where
+  module _ (mask c x : ℕ) (low : is_lawful P (members n mask) ≡ true) (cell : IsOpenCell n F P mask c x) (order : List ℕ)
+      (rest : FirstRead n F P (mask - 2 ^ x) order) where
     tail_is : IsLawfulList P (without x (members n mask)) order
     tail_is = moved P (members n (mask - 2 ^ x)) (without x (members n mask)) order (members_without n mask x cell.member) rest.is_lawful_list
 
@@ -62,7 +66,8 @@ module _ (n : ℕ) (F : List Function) (P : List Pair) (base : List ℕ) (o : Is
         omega arith
 
     -- no such list comes before
-    whole_first : (other : List ℕ) → IsLawfulList P (members n mask) other → cost n F other ≡ least n F P (members n mask) → slice_cmp nat_cmp (x ∷ order) other ≢ Greater
+    whole_first : (other : List ℕ) → IsLawfulList P (members n mask) other → cost n F other ≡ least n F P (members n mask) →
+        slice_cmp nat_cmp (x ∷ order) other ≢ Greater
     whole_first [] a e = λ f. false≢true (a.arrangement.members x ∙ cell.member)
     whole_first (y ∷ ys) a e =
         elim (cases_order x y) [
@@ -77,17 +82,23 @@ module _ (n : ℕ) (F : List Function) (P : List Pair) (base : List ℕ) (o : Is
         below lt = let s = cell.smallest y (first_member y ys (members n mask) a.arrangement) (lawful_behind P y ys (members n mask) a) parts.0 in omega arith
 
         above : x < y → slice_cmp nat_cmp (x ∷ order) (y ∷ ys) ≢ Greater
-        above lt f = by (ap (λ r. ordering_then r (slice_cmp nat_cmp order ys)) (ap (λ b. cond b Less (cond (nat_eq x y) Equal Greater)) (sym (lt-ltb x y lt))) ∙ f)
+        above lt f =
+            by (ap (λ r. ordering_then r (slice_cmp nat_cmp order ys))
+            (ap (λ b. cond b Less (cond (nat_eq x y) Equal Greater)) (sym (lt-ltb x y lt))) ∙ f)
           where
             by : Less ≡ Greater → ⊥
             by g = cc
 
         same_top : x ≡ y → slice_cmp nat_cmp (x ∷ order) (y ∷ ys) ≢ Greater
         same_top s f =
-            let is_equal : Equal ≡ nat_cmp x y = ap₂ (λ b d. cond b Less (cond d Equal Greater)) (sym (le-ltb x y (let t = s in omega arith))) (sym (eq-eqb x y s)) in
+            let is_equal : Equal ≡ nat_cmp x y =
+            ap₂ (λ b d. cond b Less (cond d Equal Greater)) (sym (le-ltb x y (let t = s in omega arith))) (sym (eq-eqb x y s)) in
             let tail = lawful_tail P y ys (members n mask) a in
-            let there = moved P (without y (members n mask)) (members n (mask - 2 ^ x)) ys (λ z. ap (λ v. has (without v (members n mask)) z) (sym s) ∙ sym (members_without n mask x cell.member z)) tail in
-            let least_cost : cost n F ys ≡ least n F P (members n (mask - 2 ^ x)) = parts.1 ∙ ap (λ v. least n F P (without v (members n mask))) (sym s) ∙ sym next_least in
+            let there =
+            moved P (without y (members n mask)) (members n (mask - 2 ^ x)) ys
+            (λ z. ap (λ v. has (without v (members n mask)) z) (sym s) ∙ sym (members_without n mask x cell.member z)) tail in
+            let least_cost : cost n F ys ≡ least n F P (members n (mask - 2 ^ x)) = parts.1
+            ∙ ap (λ v. least n F P (without v (members n mask))) (sym s) ∙ sym next_least in
             rest.first ys there least_cost (ap (λ r. ordering_then r (slice_cmp nat_cmp order ys)) is_equal ∙ f)
 
     step : FirstRead n F P mask (x ∷ order)
@@ -95,10 +106,12 @@ module _ (n : ℕ) (F : List Function) (P : List Pair) (base : List ℕ) (o : Is
 
   module _ (bound : ℕ) where
     -- the cell of a set within the bound, at the variable that is read
-    read_cell : (mask x : ℕ) → has (members n mask) x ≡ true → x ≡ (cell_of n F P bound mask).1 → is_within n F P bound (members n mask) ≡ true → IsOpenCell n F P mask (cell_of n F P bound mask).0 x
+    read_cell : (mask x : ℕ) → has (members n mask) x ≡ true → x ≡ (cell_of n F P bound mask).1 →
+        is_within n F P bound (members n mask) ≡ true → IsOpenCell n F P mask (cell_of n F P bound mask).0 x
     read_cell mask x m e h = subst (IsOpenCell n F P mask (cell_of n F P bound mask).0) (sym e) (open_cell n F P base o k bound mask x m h)
 
-    pub first_read : (order : List ℕ) (mask : ℕ) → IsReadFrom n F P bound mask order → is_within n F P bound (members n mask) ≡ true → FirstRead n F P mask order
+    pub first_read : (order : List ℕ) (mask : ℕ) → IsReadFrom n F P bound mask order → is_within n F P bound (members n mask) ≡ true →
+        FirstRead n F P mask order
     unfolding IsReadFrom IsDistinct cost
     first_read [] mask none h = record {
       is_lawful_list = empty;
@@ -113,7 +126,10 @@ module _ (n : ℕ) (F : List Function) (P : List Pair) (base : List ℕ) (o : Is
         empty = record { arrangement = record { members = λ y. ap (λ xs. has xs y) (sym no_members); once = tt }; lawful = are_lawful_nil P }
 
         nothing : cost n F [] ≡ least n F P (members n mask)
-        nothing = let a = (least_is_least n F P base (ground n P base o k) (members n mask) (lawful_members n F P base o k mask (within_parts n F P bound (members n mask) h).0)).no_less [] empty in omega arith
+        nothing = let a = (least_is_least n F P base (ground n P base o k) (members n mask)
+            (lawful_members n F P base o k mask (within_parts n F P bound (members n mask) h).0)).no_less
+            [] empty in
+            omega arith
 
         start : (other : List ℕ) → IsLawfulList P (members n mask) other → cost n F other ≡ least n F P (members n mask) → slice_cmp nat_cmp [] other ≢ Greater
         start [] a e = λ f. cc
@@ -124,7 +140,8 @@ module _ (n : ℕ) (F : List Function) (P : List Pair) (base : List ℕ) (o : Is
         (first_read order (mask - 2 ^ x) rest (next_within n F P base o k bound mask x h cell.member cell.top cell.best))
 
     -- no clipped cell is met
-    pub unclipped : (order : List ℕ) (mask : ℕ) → IsReadFrom n F P bound mask order → is_within n F P bound (members n mask) ≡ true → AreUnclipped n F P bound mask order
+    pub unclipped : (order : List ℕ) (mask : ℕ) → IsReadFrom n F P bound mask order → is_within n F P bound (members n mask) ≡ true →
+        AreUnclipped n F P bound mask order
     unfolding IsReadFrom AreUnclipped
     unclipped [] mask none h = tt
     unclipped (x ∷ order) mask (m, e, rest) h =
@@ -142,20 +159,25 @@ module _ (n : ℕ) (F : List Function) (P : List Pair) (base : List ℕ) (o : Is
   full_within other p q =
       let all = all_lawful n P base o k in
       let low = lawful_same P (members n (2 ^ n - 1)) (variables n) (members_full n) ∙ all.lawful in
-      let same = least_same n F P base (ground n P base o k) (members n (2 ^ n - 1)) (variables n) (lawful_members n F P base o k (2 ^ n - 1) low) all (members_full n) in
+      let same = least_same n F P base (ground n P base o k) (members n (2 ^ n - 1)) (variables n)
+      (lawful_members n F P base o k (2 ^ n - 1) low) all (members_full n) in
       let a = (least_is_least n F P base (ground n P base o k) (variables n) all).no_less other (lawful_from_order n P other p q) in
       let b = size_is_cost n F other p in
       let none = essentials_all n F (members n (2 ^ n - 1)) (λ y lt. members_full n y ∙ (has_variables n y).1 lt) in
       within_from n F P (size_under n F other) (members n (2 ^ n - 1)) low (omega arith)
 
 -- with the size of an order that keeps the pairs as the bound, the order that the cells give is the first one of the fewest nodes
-pub clip : (n : ℕ) (F : List Function) (P : List Pair) (other order : List ℕ) → IsOrder n other → Keeps P other → IsReadFrom n F P (size_under n F other) (2 ^ n - 1) order → IsFirstKeeping n F P order
+pub clip : (n : ℕ) (F : List Function) (P : List Pair) (other order : List ℕ) → IsOrder n other → Keeps P other →
+    IsReadFrom n F P (size_under n F other) (2 ^ n - 1) order → IsFirstKeeping n F P order
 clip n F P other order o k read =
     record {
       fewest = (has_fewest_lem n F P order).1 (record { is_order = is.0; kept = is.1; least_cost = got.least_cost ∙ all });
       first = λ rival h.
           let r = (has_fewest_lem n F P rival).0 h in
-          got.first rival (moved P (variables n) (members n (2 ^ n - 1)) rival (λ y. sym (members_full n y)) (lawful_from_order n P rival r.is_order r.kept)) (r.least_cost ∙ sym all);
+          got.first rival
+          (moved P (variables n) (members n (2 ^ n - 1)) rival (λ y. sym (members_full n y))
+          (lawful_from_order n P rival r.is_order r.kept))
+          (r.least_cost ∙ sym all);
     }
   where
     within : is_within n F P (size_under n F other) (members n (2 ^ n - 1)) ≡ true
@@ -169,10 +191,12 @@ clip n F P other order o k read =
 
     all : least n F P (members n (2 ^ n - 1)) ≡ least n F P (variables n)
     all =
-        least_same n F P other (ground n P other o k) (members n (2 ^ n - 1)) (variables n) (lawful_members n F P other o k (2 ^ n - 1) (within_parts n F P (size_under n F other) (members n (2 ^ n - 1)) within).0)
+        least_same n F P other (ground n P other o k) (members n (2 ^ n - 1)) (variables n)
+        (lawful_members n F P other o k (2 ^ n - 1) (within_parts n F P (size_under n F other) (members n (2 ^ n - 1)) within).0)
         (all_lawful n P other o k) (members_full n)
 
 -- and no clipped cell is met
-pub clip_unclipped : (n : ℕ) (F : List Function) (P : List Pair) (other order : List ℕ) → IsOrder n other → Keeps P other → IsReadFrom n F P (size_under n F other) (2 ^ n - 1) order →
+pub clip_unclipped : (n : ℕ) (F : List Function) (P : List Pair) (other order : List ℕ) → IsOrder n other → Keeps P other →
+    IsReadFrom n F P (size_under n F other) (2 ^ n - 1) order →
     AreUnclipped n F P (size_under n F other) (2 ^ n - 1) order
 clip_unclipped n F P other order o k read = unclipped n F P other o k (size_under n F other) order (2 ^ n - 1) read (full_within n F P other o k other o k)

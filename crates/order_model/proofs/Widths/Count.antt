@@ -35,7 +35,8 @@ total_le f g (suc k) a b h =
     let first = h 0 (omega arith) in
     let e : f (a + 0) ≡ f a = ap f (omega arith) in
     let e' : g (b + 0) ≡ g b = ap g (omega arith) in
-    let rest = total_le f g k (a + 1) (b + 1) (λ i lt. subst (λ u. f u ≤ g (b + 1 + i)) (shift a i) (subst (λ u. f (a + (i + 1)) ≤ g u) (shift b i) (h (i + 1) (omega arith)))) in
+    let rest = total_le f g k (a + 1) (b + 1)
+    (λ i lt. subst (λ u. f u ≤ g (b + 1 + i)) (shift a i) (subst (λ u. f (a + (i + 1)) ≤ g u) (shift b i) (h (i + 1) (omega arith)))) in
     omega arith
   where
     shift : (c i : ℕ) → c + (i + 1) ≡ c + 1 + i
@@ -43,7 +44,9 @@ total_le f g (suc k) a b h =
 
 total_split : (f : ℕ → ℕ) (k l m a : ℕ) → m ≡ k + l → total f a m ≡ total f a k + total f (a + k) l
 unfolding total
-total_split f zero l m a e = let s : total f a m ≡ total f (a + 0) l = ap₂ (total f) (let u : a ≡ a + 0 = omega arith in u) (let t : m ≡ l = omega arith in t) in omega arith
+total_split f zero l m a e =
+    let s : total f a m ≡ total f (a + 0) l = ap₂ (total f) (let u : a ≡ a + 0 = omega arith in u) (let t : m ≡ l = omega arith in t) in
+    omega arith
 total_split f (suc k) l zero a e = absurd (omega arith)
 total_split f (suc k) l (suc m) a e =
     let rest = total_split f k l m (a + 1) (omega arith) in
@@ -61,7 +64,8 @@ filter_append : (p : ℕ → Bool) (xs ys : List ℕ) → filter p (xs ++ ys) �
 filter_append p [] ys = refl
 filter_append p (x ∷ xs) ys = by (p x) (filter_append p xs ys)
   where
-    by : (b : Bool) → filter p (xs ++ ys) ≡ filter p xs ++ filter p ys → cond b (x ∷ filter p (xs ++ ys)) (filter p (xs ++ ys)) ≡ cond b (x ∷ filter p xs) (filter p xs) ++ filter p ys
+    by : (b : Bool) → filter p (xs ++ ys) ≡ filter p xs ++ filter p ys →
+        cond b (x ∷ filter p (xs ++ ys)) (filter p (xs ++ ys)) ≡ cond b (x ∷ filter p xs) (filter p xs) ++ filter p ys
     by true e = ap (λ zs. x ∷ zs) e
     by false e = e
 
@@ -78,7 +82,8 @@ unfolding members
 members_more n mask =
     ap length (ap (filter (λ x. eqb (bit_at mask x) 1)) (range_last n 0) ∙ filter_append (λ x. eqb (bit_at mask x) 1) (variables n) ((0 + n) ∷ []))
     ∙ length_append (filter (λ x. eqb (bit_at mask x) 1) (variables n)) (filter (λ x. eqb (bit_at mask x) 1) ((0 + n) ∷ []))
-    ∙ ap (λ k. length (filter (λ x. eqb (bit_at mask x) 1) (variables n)) + k) (by (eqb (bit_at mask (0 + n)) 1) ∙ ap (λ u. cond (eqb (bit_at mask u) 1) 1 0) (let s : 0 + n ≡ n = omega arith in s))
+    ∙ ap (λ k. length (filter (λ x. eqb (bit_at mask x) 1) (variables n)) + k)
+    (by (eqb (bit_at mask (0 + n)) 1) ∙ ap (λ u. cond (eqb (bit_at mask u) 1) 1 0) (let s : 0 + n ≡ n = omega arith in s))
   where
     by : (b : Bool) → length (cond b ((0 + n) ∷ []) []) ≡ cond b 1 0
     by true = refl
@@ -97,7 +102,8 @@ high_half n m lt =
     let same : length (members n (2 ^ n + m)) ≡ length (members n m) =
     ap length (filter_same (λ x. eqb (bit_at (2 ^ n + m) x) 1) (λ x. eqb (bit_at m x) 1) (variables n)
     (λ y h. ap (λ b. eqb b 1) (ap (λ k. bit_at k y) shape ∙ bit_at_cat_low 1 n m y ((has_variables n y).0 h)))) in
-    let top : bit_at (2 ^ n + m) n ≡ 1 = ap (λ k. bit_at k n) shape ∙ bit_at_cat_high 1 n m n lt (omega arith) ∙ ap (bit_at 1) (let z : n - n ≡ 0 = omega arith in z) in
+    let top : bit_at (2 ^ n + m) n ≡ 1 = ap (λ k. bit_at k n) shape ∙ bit_at_cat_high 1 n m n lt (omega arith)
+    ∙ ap (bit_at 1) (let z : n - n ≡ 0 = omega arith in z) in
     let e : cond (eqb (bit_at (2 ^ n + m) n) 1) 1 0 ≡ suc zero = ap (λ b. cond (eqb b 1) 1 0) top in
     let f = members_more n (2 ^ n + m) in
     omega arith
@@ -110,10 +116,13 @@ all_members (suc n) =
     let rest = all_members n in
     let double : 2 ^ suc n ≡ 2 ^ n + 2 ^ n = two-pow-succ n in
     let halves = total_split (how_many (suc n)) (2 ^ n) (2 ^ n) (2 ^ suc n) 0 double in
-    let low = total_le (how_many (suc n)) (how_many n) (2 ^ n) 0 0 (λ i lt. let e = low_half n i lt in let s : 0 + i ≡ i = omega arith in subst (λ u. length (members (suc n) u) ≤ length (members n u)) (sym s) (omega arith)) in
+    let low = total_le (how_many (suc n)) (how_many n) (2 ^ n) 0 0
+    (λ i lt. let e = low_half n i lt in let s : 0 + i ≡ i = omega arith in
+    subst (λ u. length (members (suc n) u) ≤ length (members n u)) (sym s) (omega arith)) in
     let high = total_le (how_many (suc n)) (λ i. how_many n i + 1) (2 ^ n) (0 + 2 ^ n) 0
     (λ i lt. let e = high_half n i lt in let s : 0 + i ≡ i = omega arith in let t : 0 + 2 ^ n + i ≡ 2 ^ n + i = omega arith in
-    subst (λ u. length (members (suc n) u) ≤ length (members n (0 + i)) + 1) (sym t) (subst (λ u. length (members (suc n) (2 ^ n + i)) ≤ length (members n u) + 1) (sym s) (omega arith))) in
+    subst (λ u. length (members (suc n) u) ≤ length (members n (0 + i)) + 1) (sym t)
+    (subst (λ u. length (members (suc n) (2 ^ n + i)) ≤ length (members n u) + 1) (sym s) (omega arith))) in
     let plus = total_plus (how_many n) 1 (2 ^ n) 0 in
     let one : 2 ^ n * 1 ≡ 2 ^ n = mul-one (2 ^ n) in
     let right : suc n * 2 ^ suc n ≡ 2 * (n * 2 ^ n) + 2 * 2 ^ n = ap (λ k. suc n * k) double ∙ spread (2 ^ n) in

@@ -22,7 +22,8 @@ unfolding dependents
 dependents_some n fs x g m e =
     count_mono same_table same_table_decides (table n g ∷ []) (map (table n) (filter (λ f. depends n f x) fs))
     (λ t k. elim k [
-      | inl s ↦ subst (λ u. Among u (map (table n) (filter (λ f. depends n f x) fs))) (sym s) (among_map (table n) g _ (among_filter (λ f. depends n f x) g fs m e))
+      | inl s ↦ subst (λ u. Among u (map (table n) (filter (λ f. depends n f x) fs))) (sym s)
+          (among_map (table n) g _ (among_filter (λ f. depends n f x) g fs m e))
       | inr r ↦ absurd r
     ])
 
@@ -64,7 +65,9 @@ essential_width n F T x f m e =
 
     agree : width n F T x ≡ 0 → SameFunction n (restrict x false f) (restrict x true f)
     agree z p l =
-        let fix = fixing_reached n (outside n (x ∷ T)) (below_from_has n (outside n (x ∷ T)) (λ y h. (has_variables n y).0 (and_parts _ _ (sym (has_outside n (x ∷ T) y) ∙ h)).0)) f p in
+        let fix = fixing_reached n (outside n (x ∷ T))
+        (below_from_has n (outside n (x ∷ T))
+        (λ y h. (has_variables n y).0 (and_parts _ _ (sym (has_outside n (x ∷ T) y) ∙ h)).0)) f p in
         let g = fix.0 in
         let is = none z g (among_flat_map (subfunctions (outside n (x ∷ T))) f F g m fix.1) in
         ap f (sym (fixed_self n (outside n (x ∷ T)) p x false l out)) ∙ sym (fix.2 (set p x false) (length-set p x false ∙ l)) ∙ depends_no n g x is p l
@@ -82,7 +85,9 @@ some_depends n (f ∷ F) x h =
 pub width_some : (n : ℕ) (F : List Function) (T : List ℕ) (x : ℕ) → has (essential n F) x ≡ true → 1 ≤ width n F T x
 unfolding essential
 width_some n F T x h =
-    let parts = and_parts (has (variables n) x) (list_any (λ f. depends n f x) F) (sym (has_filter (λ y. list_any (λ f. depends n f y) F) (variables n) x) ∙ h) in
+    let parts =
+    and_parts (has (variables n) x) (list_any (λ f. depends n f x) F)
+    (sym (has_filter (λ y. list_any (λ f. depends n f y) F) (variables n) x) ∙ h) in
     let some = some_depends n F x parts.1 in
     essential_width n F T x some.0 some.1 some.2
 
@@ -112,7 +117,8 @@ left_out_step S x [] d h = omega arith
 left_out_step S x (z ∷ E) d h = by (left_out_step S x E d.1 h) (left_out_cons S z E) (left_out_cons (x ∷ S) z E)
   where
     by : left_out S E ≡ left_out (x ∷ S) E + one_if (has E x) → left_out S (z ∷ E) ≡ one_if (not (has S z)) + left_out S E →
-        left_out (x ∷ S) (z ∷ E) ≡ one_if (not (nat_eq z x || has S z)) + left_out (x ∷ S) E → left_out S (z ∷ E) ≡ left_out (x ∷ S) (z ∷ E) + one_if (nat_eq x z || has E x)
+        left_out (x ∷ S) (z ∷ E) ≡ one_if (not (nat_eq z x || has S z)) + left_out (x ∷ S) E →
+        left_out S (z ∷ E) ≡ left_out (x ∷ S) (z ∷ E) + one_if (nat_eq x z || has E x)
     by rest a b =
         elim (cases_eq z x) [
           | inl s ↦
@@ -133,11 +139,13 @@ unfolding essentials_outside
 essentials_same n F S T h = λ i. length (filter (λ y. not (h y i)) (essential n F))
 
 -- one more member costs at least what it takes from the essential variables outside
-pub essentials_step : (n : ℕ) (F : List Function) (T : List ℕ) (x : ℕ) → has T x ≡ false → essentials_outside n F T ≤ essentials_outside n F (x ∷ T) + width n F T x
+pub essentials_step : (n : ℕ) (F : List Function) (T : List ℕ) (x : ℕ) → has T x ≡ false →
+    essentials_outside n F T ≤ essentials_outside n F (x ∷ T) + width n F T x
 unfolding essentials_outside
 essentials_step n F T x h = by (has (essential n F) x) refl (left_out_step T x (essential n F) (distinct_essential n F) h)
   where
-    by : (c : Bool) → has (essential n F) x ≡ c → left_out T (essential n F) ≡ left_out (x ∷ T) (essential n F) + one_if c → left_out T (essential n F) ≤ left_out (x ∷ T) (essential n F) + width n F T x
+    by : (c : Bool) → has (essential n F) x ≡ c → left_out T (essential n F) ≡ left_out (x ∷ T) (essential n F) + one_if c →
+        left_out T (essential n F) ≤ left_out (x ∷ T) (essential n F) + width n F T x
     by true e k = let w = width_some n F T x e in omega arith
     by false e k = omega arith
 
@@ -147,7 +155,10 @@ unfolding essentials_outside essential
 essentials_all n F S h = none (essential n F) (λ y k. h y (within y k))
   where
     within : (y : ℕ) → has (essential n F) y ≡ true → y < n
-    within y k = (has_variables n y).0 (and_parts (has (variables n) y) (list_any (λ f. depends n f y) F) (sym (has_filter (λ z. list_any (λ f. depends n f z) F) (variables n) y) ∙ k)).0
+    within y k =
+        (has_variables n y).0
+        (and_parts (has (variables n) y) (list_any (λ f. depends n f y) F)
+        (sym (has_filter (λ z. list_any (λ f. depends n f z) F) (variables n) y) ∙ k)).0
 
     none : (E : List ℕ) → ((y : ℕ) → has E y ≡ true → has S y ≡ true) → left_out S E ≡ 0
     none [] k = refl
@@ -168,7 +179,8 @@ essentials_through n F (x ∷ above) below d =
     omega arith
 
 -- an order has at least the cost of its bottom part and a node for each essential variable above
-pub essentials_bound : (n : ℕ) (F : List Function) (above below : List ℕ) → IsOrder n (above ++ below) → cost n F below + essentials_outside n F below ≤ size_under n F (above ++ below)
+pub essentials_bound : (n : ℕ) (F : List Function) (above below : List ℕ) → IsOrder n (above ++ below) →
+    cost n F below + essentials_outside n F below ≤ size_under n F (above ++ below)
 essentials_bound n F above below o =
     let a = essentials_through n F above below o.once in
     let b = essentials_all n F (above ++ below) (λ y lt. (o.all y).1 lt) in

@@ -47,7 +47,8 @@ all_lawful n P order o k = record {
 }
 
 -- where some order keeps the pairs, a lawful list of all variables is an order that keeps them
-pub order_from_lawful : (n : ℕ) (P : List Pair) (base : List ℕ) → IsOrder n base → Keeps P base → (order : List ℕ) → IsLawfulList P (variables n) order → IsOrder n order × Keeps P order
+pub order_from_lawful : (n : ℕ) (P : List Pair) (base : List ℕ) → IsOrder n base → Keeps P base → (order : List ℕ) →
+    IsLawfulList P (variables n) order → IsOrder n order × Keeps P order
 order_from_lawful n P base o k order a = (is, keeps_from P order each)
   where
     is : IsOrder n order
@@ -70,7 +71,9 @@ fewest_from_orders n F P order o k h =
 
 module _ (n : ℕ) (F : List Function) (P : List Pair) (base : List ℕ) (o : IsOrder n base) (k : Keeps P base) where
   least_all : (order : List ℕ) → IsOrder n order → Keeps P order → least n F P (variables n) ≤ cost n F order
-  least_all order p q = (least_is_least n F P base (ground n P base o k) (variables n) (all_lawful n P base o k)).no_less order (lawful_from_order n P order p q)
+  least_all order p q =
+      (least_is_least n F P base (ground n P base o k) (variables n) (all_lawful n P base o k)).no_less order
+      (lawful_from_order n P order p q)
 
   -- the fewest nodes are the least cost of all variables
   pub fewest_is_least : FewestKeeping n F P (least n F P (variables n))
@@ -79,7 +82,9 @@ module _ (n : ℕ) (F : List Function) (P : List Pair) (base : List ℕ) (o : Is
       let order = all.some.0 in
       let is = order_from_lawful n P base o k order all.some.1 in
       let size = size_is_cost n F order is.0 ∙ all.some.2 in
-      subst (FewestKeeping n F P) size (fewest_from_orders n F P order is.0 is.1 (λ other p q. let a = least_all other p q in let b = size_is_cost n F other p in omega arith))
+      subst (FewestKeeping n F P) size
+      (fewest_from_orders n F P order is.0 is.1
+      (λ other p q. let a = least_all other p q in let b = size_is_cost n F other p in omega arith))
 
 -- the fewest are one number
 pub fewest_unique : (n : ℕ) (F : List Function) (P : List Pair) (a b : ℕ) → FewestKeeping n F P a → FewestKeeping n F P b → a ≡ b

@@ -20,4 +20,6 @@ subfunctions_parts (x ∷ xs) ys f =
 
 pub reach_parts : (F : List Function) (xs ys : List ℕ) → reach F (xs ++ ys) ≡ flat_map (subfunctions ys) (reach F xs)
 unfolding reach
-reach_parts F xs ys = flat_map_same (subfunctions (xs ++ ys)) (λ f. flat_map (subfunctions ys) (subfunctions xs f)) (subfunctions_parts xs ys) F ∙ sym (flat_map_parts (subfunctions ys) (subfunctions xs) F)
+reach_parts F xs ys =
+    flat_map_same (subfunctions (xs ++ ys)) (λ f. flat_map (subfunctions ys) (subfunctions xs f)) (subfunctions_parts xs ys) F
+    ∙ sym (flat_map_parts (subfunctions ys) (subfunctions xs) F)

@@ -58,7 +58,8 @@ distinct_filter p (x ∷ xs) d = by (p x) (distinct_filter p xs d.1) (kept (λ w
         keep true r = (a.0, r)
         keep false r = r
 
-    by : (b : Bool) → IsDistinct nat_eq (filter p xs) → AllByRecursion (λ w. nat_eq x w ≡ false) (filter p xs) → IsDistinct nat_eq (cond b (x ∷ filter p xs) (filter p xs))
+    by : (b : Bool) → IsDistinct nat_eq (filter p xs) → AllByRecursion (λ w. nat_eq x w ≡ false) (filter p xs) →
+        IsDistinct nat_eq (cond b (x ∷ filter p xs) (filter p xs))
     by true r a = (a, r)
     by false r a = r
 
@@ -66,7 +67,8 @@ pub apart_from_absent : (x : ℕ) (xs : List ℕ) → has xs x ≡ false → All
 apart_from_absent x [] h = tt
 apart_from_absent x (y ∷ xs) h = by (nat_eq x y) refl h (apart_from_absent x xs)
   where
-    by : (b : Bool) → nat_eq x y ≡ b → (b || has xs x) ≡ false → (has xs x ≡ false → AllByRecursion (λ w. nat_eq x w ≡ false) xs) → (nat_eq x y ≡ false) × AllByRecursion (λ w. nat_eq x w ≡ false) xs
+    by : (b : Bool) → nat_eq x y ≡ b → (b || has xs x) ≡ false → (has xs x ≡ false → AllByRecursion (λ w. nat_eq x w ≡ false) xs) →
+        (nat_eq x y ≡ false) × AllByRecursion (λ w. nat_eq x w ≡ false) xs
     by true e k r = absurd (true≢false k)
     by false e k r = (e, r k)
 
@@ -158,7 +160,8 @@ tail_arrangement x xs S a = record { members = others; once = a.once.1 }
         elim (cases_eq y x) [
           | inl e ↦ ap (has xs) e ∙ absent_from_apart x xs a.once.0 ∙ sym (ap (has (without x S)) e ∙ absent_without x S)
           | inr ne ↦
-              ap (λ b. b || has xs y) (sym (ne_eqb y x ne)) ∙ a.members y ∙ sym (and_true (has S y)) ∙ ap (λ b. has S y && not b) (sym (ne_eqb x y (λ e. ne (sym e))))
+              ap (λ b. b || has xs y) (sym (ne_eqb y x ne)) ∙ a.members y ∙ sym (and_true (has S y))
+              ∙ ap (λ b. has S y && not b) (sym (ne_eqb x y (λ e. ne (sym e))))
               ∙ sym (has_without x S y)
         ]
       where
@@ -220,7 +223,8 @@ lawful_behind P x xs S a =
     let tail = lawful_tail P x xs S a in
     sym (lawful_same P xs (without x S) tail.arrangement.members) ∙ lawful_whole P xs tail.lawful
 
-pub cost_cons : (n : ℕ) (F : List Function) (S : List ℕ) (x : ℕ) (xs : List ℕ) → IsArrangement (without x S) xs → cost n F (x ∷ xs) ≡ width n F (without x S) x + cost n F xs
+pub cost_cons : (n : ℕ) (F : List Function) (S : List ℕ) (x : ℕ) (xs : List ℕ) → IsArrangement (without x S) xs →
+    cost n F (x ∷ xs) ≡ width n F (without x S) x + cost n F xs
 unfolding cost
 cost_cons n F S x xs a = ap (λ w. w + cost n F xs) (width_same n F xs (without x S) x a.members)
 
@@ -233,7 +237,13 @@ from_tops P S x m = let from = among_from_filter (λ y. is_lawful P (without y S
 module _ (n : ℕ) (F : List Function) (P : List Pair) (whole : List ℕ) (ground : Ground P whole) where
   -- the members of a lawful set, in the ground's order, are a lawful list
   pub in_order : (S : List ℕ) → IsLawfulSet P whole S → IsLawfulList P S (filter (has S) whole)
-  in_order S set = record { arrangement = record { members = members; once = distinct_filter (has S) whole ground.once }; lawful = lawful_below P (filter (has S) whole) (distinct_filter (has S) whole ground.once) above }
+  in_order S set =
+      record {
+        arrangement =
+            record { members = members; once = distinct_filter (has S) whole ground.once };
+        lawful =
+            lawful_below P (filter (has S) whole) (distinct_filter (has S) whole ground.once) above;
+      }
     where
       members : (y : ℕ) → has (filter (has S) whole) y ≡ has S y
       members y = has_filter (has S) whole y ∙ same_bool _ _ (λ h. (and_parts (has whole y) (has S y) h).1) (λ h. and_from _ _ (set.within y h) h)
@@ -247,7 +257,8 @@ module _ (n : ℕ) (F : List Function) (P : List Pair) (whole : List ℕ) (groun
   unfolding least
   least_is_least S set =
       let own = in_order S set in
-      let all = least_of_lem (map (cost n F) lists) (cost n F (filter (has S) whole)) (among_map (cost n F) (filter (has S) whole) lists (listed (filter (has S) whole) own)) in
+      let all = least_of_lem (map (cost n F) lists) (cost n F (filter (has S) whole))
+      (among_map (cost n F) (filter (has S) whole) lists (listed (filter (has S) whole) own)) in
       let from = among_from_map (cost n F) (least n F P S) lists all.0 in
       let kept = among_from_filter (are_lawful P) from.0 (arrangements (length S) S) from.1 in
       record {
@@ -271,7 +282,8 @@ module _ (n : ℕ) (F : List Function) (P : List Pair) (whole : List ℕ) (groun
     lawful = l;
   }
 
-  pub recurrence_le : (S : List ℕ) (x : ℕ) → IsLawfulSet P whole S → has S x ≡ true → is_lawful P (without x S) ≡ true → least n F P S ≤ least_with_top n F P S x
+  pub recurrence_le : (S : List ℕ) (x : ℕ) → IsLawfulSet P whole S → has S x ≡ true → is_lawful P (without x S) ≡ true →
+      least n F P S ≤ least_with_top n F P S x
   recurrence_le S x set h l =
       let rest = least_is_least (without x S) (without_top S x set l) in
       let xs = rest.some.0 in
@@ -287,7 +299,8 @@ module _ (n : ℕ) (F : List Function) (P : List Pair) (whole : List ℕ) (groun
       all : IsLeastCost n F P S (least n F P S)
       all = least_is_least S set
 
-      by : (xs : List ℕ) → IsLawfulList P S xs → cost n F xs ≡ least n F P S → (x : ℕ) × (has S x ≡ true) × (is_lawful P (without x S) ≡ true) × (least n F P S ≡ least_with_top n F P S x)
+      by : (xs : List ℕ) → IsLawfulList P S xs → cost n F xs ≡ least n F P S →
+          (x : ℕ) × (has S x ≡ true) × (is_lawful P (without x S) ≡ true) × (least n F P S ≡ least_with_top n F P S x)
       by [] a e = absurd (false≢true (a.arrangement.members z ∙ h))
       by (x ∷ xs) a e =
           let there = first_member x xs S a.arrangement in
@@ -303,7 +316,8 @@ module _ (n : ℕ) (F : List Function) (P : List Pair) (whole : List ℕ) (groun
   recurrence S z set h =
       let some = recurrence_some S z set h in
       let x = some.0 in
-      let all = least_of_lem (map (least_with_top n F P S) (tops P S)) (least_with_top n F P S x) (among_map (least_with_top n F P S) x (tops P S) (among_tops P S x some.1 some.2)) in
+      let all = least_of_lem (map (least_with_top n F P S) (tops P S)) (least_with_top n F P S x)
+      (among_map (least_with_top n F P S) x (tops P S) (among_tops P S x some.1 some.2)) in
       let le = all.1 (least_with_top n F P S x) (among_map (least_with_top n F P S) x (tops P S) (among_tops P S x some.1 some.2)) in
       let from = among_from_map (least_with_top n F P S) (least_of (map (least_with_top n F P S) (tops P S))) (tops P S) all.0 in
       let top = from_tops P S from.0 from.1 in
@@ -317,8 +331,20 @@ module _ (n : ℕ) (F : List Function) (P : List Pair) (whole : List ℕ) (groun
   least_same S T s t h =
       let a = least_is_least S s in
       let b = least_is_least T t in
-      let x = a.no_less b.some.0 (record { arrangement = record { members = λ y. b.some.1.arrangement.members y ∙ sym (h y); once = b.some.1.arrangement.once }; lawful = b.some.1.lawful }) in
-      let y = b.no_less a.some.0 (record { arrangement = record { members = λ y. a.some.1.arrangement.members y ∙ h y; once = a.some.1.arrangement.once }; lawful = a.some.1.lawful }) in
+      let x = a.no_less b.some.0
+      (record {
+        arrangement =
+            record { members = λ y. b.some.1.arrangement.members y ∙ sym (h y); once = b.some.1.arrangement.once };
+        lawful =
+            b.some.1.lawful;
+      }) in
+      let y = b.no_less a.some.0
+      (record {
+        arrangement =
+            record { members = λ y. a.some.1.arrangement.members y ∙ h y; once = a.some.1.arrangement.once };
+        lawful =
+            a.some.1.lawful;
+      }) in
       let f = a.some.2 in
       let g = b.some.2 in
       omega arith
@@ -334,4 +360,5 @@ least_no_pairs n F S = ap (λ xss. least_of (map (cost n F) xss)) (all_kept (arr
   where
     all_kept : (xss : List (List ℕ)) → filter (are_lawful []) xss ≡ xss
     all_kept [] = refl
-    all_kept (xs ∷ xss) = ap (λ b. cond b (xs ∷ filter (are_lawful []) xss) (filter (are_lawful []) xss)) (nothing_to_keep xs).2 ∙ ap (λ yss. xs ∷ yss) (all_kept xss)
+    all_kept (xs ∷ xss) = ap (λ b. cond b (xs ∷ filter (are_lawful []) xss) (filter (are_lawful []) xss)) (nothing_to_keep xs).2
+        ∙ ap (λ yss. xs ∷ yss) (all_kept xss)

@@ -69,7 +69,8 @@ unfolding level_count dependents
 level_bound n F order i few =
     let x = slice_index order i in
     let fs = reach F (take i order) in
-    let a = count_le same_table same_table_decides (map (table n) (filter (λ f. depends n f x) fs)) (map (table n) (filter (λ f. depends n f x) fs)) (λ t m. m) in
+    let a = count_le same_table same_table_decides (map (table n) (filter (λ f. depends n f x) fs))
+    (map (table n) (filter (λ f. depends n f x) fs)) (λ t m. m) in
     let b = length-map (filter (λ f. depends n f x) fs) (table n) in
     let c = length_filter (λ f. depends n f x) fs in
     let d = length-reach F (take i order) in
@@ -86,7 +87,8 @@ abbrev of_one : ℕ → List Function
 of_one x = by_values x false false ∷ by_values x false true ∷ by_values x true false ∷ by_values x true true ∷ []
 
 -- where all variables but one are restricted, a function of that one is left
-module _ (n : ℕ) (xs : List ℕ) (x : ℕ) (below : Below n xs) (others : (y : ℕ) → y < n → y ≢ x → has xs y ≡ true) (f g : Function) (h : Among g (subfunctions xs f)) where
+module _ (n : ℕ) (xs : List ℕ) (x : ℕ) (below : Below n xs) (others : (y : ℕ) → y < n → y ≢ x → has xs y ≡ true) (f g : Function)
+    (h : Among g (subfunctions xs f)) where
   abbrev fixing : Point
   fixing = (subfunctions_fix n xs below f g h).0
 
@@ -155,7 +157,11 @@ last_bound n F order m o long =
         let kept = among_from_filter (λ f. depends n f x) g (flat_map (subfunctions above) F) from.1 in
         let origin = among_from_flat_map (subfunctions above) g F kept.0 in
         let one = one_left n above x below others origin.0 g origin.2 in
-        subst (λ u. Among u (map (table n) (of_one x))) (sym (from.2 ∙ table_same n g (by_values x (value_at n above x below others origin.0 g origin.2 false) (value_at n above x below others origin.0 g origin.2 true)) one))
+        subst (λ u. Among u (map (table n) (of_one x)))
+        (sym (from.2
+        ∙ table_same n g
+        (by_values x (value_at n above x below others origin.0 g origin.2 false)
+        (value_at n above x below others origin.0 g origin.2 true)) one))
         (among_of_one n x (value_at n above x below others origin.0 g origin.2 false) (value_at n above x below others origin.0 g origin.2 true))
 
 -- one level more
@@ -163,7 +169,8 @@ one_more : (f : ℕ → ℕ) (m : ℕ) → sum (map f (range_with_len 0 (suc m))
 one_more f m =
     let longer = ap (λ k. sum (map f (range_with_len 0 k))) (suc_add m) in
     let all = ap sum (map-range_with_len_more f 0 m m (zero-add m)) in
-    let parts : sum (map f (range_with_len 0 m) ++ f m ∷ []) ≡ sum (map f (range_with_len 0 m)) + sum (f m ∷ []) = sum_by-append (λ k. k) (map f (range_with_len 0 m)) (f m ∷ []) in
+    let parts : sum (map f (range_with_len 0 m) ++ f m ∷ []) ≡ sum (map f (range_with_len 0 m)) + sum (f m ∷ []) =
+    sum_by-append (λ k. k) (map f (range_with_len 0 m)) (f m ∷ []) in
     let last : sum (f m ∷ []) ≡ f m + sum [] = sum_by-cons (λ k. k) (f m) [] in
     let none : sum [] ≡ 0 = refl in
     longer ∙ all ∙ parts ∙ omega (arith, last, none)

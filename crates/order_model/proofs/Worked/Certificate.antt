@@ -59,11 +59,17 @@ certificate = record {
 }
 
 abbrev Edges : Cell → Type 0
-Edges c = (x : ℕ) → x < 3 → IsFalse (has (members 3 c.mask) x) → AreBothLawful 3 [] c.mask x → set_value 3 F certificate (c.mask + 2 ^ x) ≤ set_value 3 F certificate c.mask + width 3 F (members 3 c.mask) x
+Edges c = (x : ℕ) → x < 3 → IsFalse (has (members 3 c.mask) x) → AreBothLawful 3 [] c.mask x →
+    set_value 3 F certificate (c.mask + 2 ^ x) ≤ set_value 3 F certificate c.mask + width 3 F (members 3 c.mask) x
 
-edges_of : (c : Cell) → (IsFalse (has (members 3 c.mask) 0) → AreBothLawful 3 [] c.mask 0 → set_value 3 F certificate (c.mask + 2 ^ 0) ≤ set_value 3 F certificate c.mask + width 3 F (members 3 c.mask) 0) →
-    (IsFalse (has (members 3 c.mask) 1) → AreBothLawful 3 [] c.mask 1 → set_value 3 F certificate (c.mask + 2 ^ 1) ≤ set_value 3 F certificate c.mask + width 3 F (members 3 c.mask) 1) →
-    (IsFalse (has (members 3 c.mask) 2) → AreBothLawful 3 [] c.mask 2 → set_value 3 F certificate (c.mask + 2 ^ 2) ≤ set_value 3 F certificate c.mask + width 3 F (members 3 c.mask) 2) → Edges c
+edges_of : (c : Cell) →
+    (IsFalse (has (members 3 c.mask) 0) → AreBothLawful 3 [] c.mask 0 →
+    set_value 3 F certificate (c.mask + 2 ^ 0) ≤ set_value 3 F certificate c.mask + width 3 F (members 3 c.mask) 0) →
+    (IsFalse (has (members 3 c.mask) 1) → AreBothLawful 3 [] c.mask 1 →
+    set_value 3 F certificate (c.mask + 2 ^ 1) ≤ set_value 3 F certificate c.mask + width 3 F (members 3 c.mask) 1) →
+    (IsFalse (has (members 3 c.mask) 2) → AreBothLawful 3 [] c.mask 2 →
+    set_value 3 F certificate (c.mask + 2 ^ 2) ≤ set_value 3 F certificate c.mask + width 3 F (members 3 c.mask) 2)
+    → Edges c
 edges_of c e f g zero lt out = e out
 edges_of c e f g (suc zero) lt out = f out
 edges_of c e f g (suc (suc zero)) lt out = g out
@@ -79,7 +85,8 @@ good = record {
   levels = refl;
   total = refl;
   start = refl;
-  cells = All-from_recursion (λ (c : Cell). c.cost + reserve 3 F certificate c.mask ≤ 3) certificate.cells (lit≤ tt, (lit≤ tt, (lit≤ tt, (lit≤ tt, (lit≤ tt, tt)))));
+  cells = All-from_recursion (λ (c : Cell). c.cost + reserve 3 F certificate c.mask ≤ 3) certificate.cells
+      (lit≤ tt, (lit≤ tt, (lit≤ tt, (lit≤ tt, (lit≤ tt, tt)))));
   edges = All-from_recursion Edges certificate.cells (
     edges_of (cell 0 0) (λ h l. lit≤ tt) (λ h l. lit≤ tt) (λ h l. lit≤ tt),
     (
@@ -99,7 +106,8 @@ three_is_fewest : Fewest 3 F 3
 three_is_fewest = good_is_fewest 3 F certificate good
 
 read_off : IsReadFrom 3 F [] 3 7 best_order
-unfolding points restrict table depends subfunctions reach dependents outside width cost without arrangements are_lawful is_lawful least_of least members essential essentials_outside is_within best_top cell_of IsReadFrom
+unfolding points restrict table depends subfunctions reach dependents outside width cost without arrangements are_lawful is_lawful least_of
+    least members essential essentials_outside is_within best_top cell_of IsReadFrom
 read_off = (refl, refl, (refl, refl, (refl, refl, refl)))
 
 kept : Keeps [] best_order

@@ -37,13 +37,17 @@ each_node P a b c (suc (suc (suc k))) node e = cc
 
 three_is_diagram : IsDiagram 2 three_nodes
 three_is_diagram = record {
-  nodes = each_node (IsNodeAt 2) (record { variable = lit< tt; low = tt; high = tt }) (record { variable = lit< tt; low = tt; high = lit< tt }) (record { variable = lit< tt; low = lit< tt; high = tt });
+  nodes = each_node (IsNodeAt 2) (record { variable = lit< tt; low = tt; high = tt })
+      (record { variable = lit< tt; low = tt; high = lit< tt }) (record { variable = lit< tt; low = lit< tt; high = tt });
   roots = All-from_recursion (IsBefore 3) three_nodes.roots (lit< tt, (lit< tt, tt));
 }
 
 three_of : IsOf 2 (both ∷ either ∷ []) three_nodes
 unfolding IsOf SameFunction value after next child_of is_one points
-three_of = (at_point 2 (λ p. value three_nodes.nodes (Place 1) p ≡ both p) (refl, (refl, (refl, (refl, tt)))), (at_point 2 (λ p. value three_nodes.nodes (Place 2) p ≡ either p) (refl, (refl, (refl, (refl, tt)))), tt))
+three_of = (
+  at_point 2 (λ p. value three_nodes.nodes (Place 1) p ≡ both p) (refl, (refl, (refl, (refl, tt)))),
+  (at_point 2 (λ p. value three_nodes.nodes (Place 2) p ≡ either p) (refl, (refl, (refl, (refl, tt)))), tt),
+)
 
 three_ordered : IsOrdered (0 ∷ 1 ∷ []) three_nodes
 unfolding IsOrdered place_in
@@ -68,9 +72,12 @@ three_reduced = record {
   not_redundant = each_node (λ k node. node.low ≢ node.high) (λ e. cc) (λ e. cc) (λ e. cc);
   no_two_equal = λ j k node a b.
       each_node (λ i other. slice_get three_nodes.nodes k ≡ Some other → i ≡ k)
-      (λ e. each_node (λ i other. other ≡ second → 0 ≡ i) (λ e. refl) (λ e. absurd (different_variable and_node second e (omega arith))) (λ e. absurd (different_variable or_node second e (omega arith))) k second e refl)
-      (λ e. each_node (λ i other. other ≡ and_node → 1 ≡ i) (λ e. absurd (different_variable second and_node e (omega arith))) (λ e. refl) (λ e. absurd (different_low or_node and_node e (λ f. cc))) k and_node e refl)
-      (λ e. each_node (λ i other. other ≡ or_node → 2 ≡ i) (λ e. absurd (different_variable second or_node e (omega arith))) (λ e. absurd (different_low and_node or_node e (λ f. cc))) (λ e. refl) k or_node e refl)
+      (λ e. each_node (λ i other. other ≡ second → 0 ≡ i) (λ e. refl) (λ e. absurd (different_variable and_node second e (omega arith)))
+      (λ e. absurd (different_variable or_node second e (omega arith))) k second e refl)
+      (λ e. each_node (λ i other. other ≡ and_node → 1 ≡ i) (λ e. absurd (different_variable second and_node e (omega arith))) (λ e. refl)
+      (λ e. absurd (different_low or_node and_node e (λ f. cc))) k and_node e refl)
+      (λ e. each_node (λ i other. other ≡ or_node → 2 ≡ i) (λ e. absurd (different_variable second or_node e (omega arith)))
+      (λ e. absurd (different_low and_node or_node e (λ f. cc))) (λ e. refl) k or_node e refl)
       j node a b;
   all_reached = reached;
 }

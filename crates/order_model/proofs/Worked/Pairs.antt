@@ -21,18 +21,22 @@ use Rattle.order_model.proofs.Precedence.Cycles.{greedy_is_first}
 
 -- the multiplexer's cells for the bound 3
 mux_cells : map (cell_of 3 (mux ∷ []) [] 3) (1 ∷ 2 ∷ 4 ∷ 3 ∷ 5 ∷ 6 ∷ 7 ∷ []) ≡ (1, 0) ∷ (1, 1) ∷ (4, 2) ∷ (2, 0) ∷ (4, 0) ∷ (4, 1) ∷ (3, 2) ∷ []
-unfolding points restrict table depends subfunctions reach dependents outside width cost without arrangements are_lawful is_lawful least_of least members essential essentials_outside is_within best_top cell_of
+unfolding points restrict table depends subfunctions reach dependents outside width cost without arrangements are_lawful is_lawful least_of
+    least members essential essentials_outside is_within best_top cell_of
 mux_cells = refl
 
 -- how many widths they take, and how many those of the parity do
 mux_widths : widths_taken 3 (mux ∷ []) [] 3 ∷ widths_taken 3 (parity3 ∷ []) [] 5 ∷ [] ≡ 8 ∷ 12 ∷ []
-unfolding points restrict table depends subfunctions reach dependents outside width cost without arrangements are_lawful is_lawful least_of least members essential essentials_outside is_within best_top cell_of cell_cost wanted widths_taken
+unfolding points restrict table depends subfunctions reach dependents outside width cost without arrangements are_lawful is_lawful least_of
+    least members essential essentials_outside is_within best_top cell_of cell_cost wanted widths_taken
 mux_widths = refl
 
 -- the multiplexer's certificate lists nothing, and the parity's four sets
 mux_certificate : certificate_of 3 (mux ∷ []) [] (2 ∷ 0 ∷ 1 ∷ []) ≡
     record { format = 2; inputs = 3; outputs = 1; order = 2 ∷ 0 ∷ 1 ∷ []; levels = 1 ∷ 1 ∷ 1 ∷ []; total = 3; pairs = []; cells = [] }
-unfolding points restrict table depends subfunctions reach dependents level_count level_counts size_under outside width cost without arrangements are_lawful is_lawful least_of least members essential essentials_outside listed_masks least_listed sorted_pairs certificate_of
+unfolding points restrict table depends subfunctions reach dependents level_count level_counts size_under outside width cost without
+    arrangements are_lawful is_lawful least_of least members essential essentials_outside listed_masks least_listed sorted_pairs
+    certificate_of
 mux_certificate = refl
 
 abbrev pub cell : ℕ → ℕ → Cell
@@ -42,7 +46,9 @@ abbrev pub of_parity : List Cell → Certificate
 of_parity cells = record { format = 2; inputs = 3; outputs = 1; order = 0 ∷ 1 ∷ 2 ∷ []; levels = 1 ∷ 2 ∷ 2 ∷ []; total = 5; pairs = []; cells = cells }
 
 parity_certificate : certificate_of 3 (parity3 ∷ []) [] (0 ∷ 1 ∷ 2 ∷ []) ≡ of_parity (cell 0 0 ∷ cell 1 2 ∷ cell 2 2 ∷ cell 4 2 ∷ [])
-unfolding points restrict table depends subfunctions reach dependents level_count level_counts size_under outside width cost without arrangements are_lawful is_lawful least_of least members essential essentials_outside listed_masks least_listed sorted_pairs certificate_of
+unfolding points restrict table depends subfunctions reach dependents level_count level_counts size_under outside width cost without
+    arrangements are_lawful is_lawful least_of least members essential essentials_outside listed_masks least_listed sorted_pairs
+    certificate_of
 parity_certificate = refl
 
 -- without the set of variable 0 the edge to it fails
@@ -67,16 +73,20 @@ abbrev pub of_mux : List Pair → List Cell → Certificate
 of_mux pairs cells = record { format = 2; inputs = 3; outputs = 1; order = 0 ∷ 2 ∷ 1 ∷ []; levels = 1 ∷ 2 ∷ 1 ∷ []; total = 4; pairs = pairs; cells = cells }
 
 above_certificate : certificate_of 3 (mux ∷ []) first_above_last (0 ∷ 2 ∷ 1 ∷ []) ≡ of_mux first_above_last (cell 0 0 ∷ cell 2 1 ∷ [])
-unfolding points restrict table depends subfunctions reach dependents level_count level_counts size_under outside width cost without arrangements are_lawful is_lawful least_of least members essential essentials_outside listed_masks least_listed sorted_pairs certificate_of
+unfolding points restrict table depends subfunctions reach dependents level_count level_counts size_under outside width cost without
+    arrangements are_lawful is_lawful least_of least members essential essentials_outside listed_masks least_listed sorted_pairs
+    certificate_of
 above_certificate = refl
 
 -- the sifted orders, from the first orders that keep the pairs
 above_sifted : sifted 3 (mux ∷ []) first_above_last (0 ∷ 1 ∷ 2 ∷ []) ≡ 0 ∷ 2 ∷ 1 ∷ []
-unfolding points restrict table depends subfunctions reach dependents level_count level_counts size_under without placements smallest_order smallest_of keeps is_above best insert_by_count sifting_order sifted place_in
+unfolding points restrict table depends subfunctions reach dependents level_count level_counts size_under without placements smallest_order
+    smallest_of keeps is_above best insert_by_count sifting_order sifted place_in
 above_sifted = refl
 
 below_sifted : sifted 3 (mux ∷ []) last_above_first (1 ∷ 2 ∷ 0 ∷ []) ≡ 2 ∷ 1 ∷ 0 ∷ []
-unfolding points restrict table depends subfunctions reach dependents level_count level_counts size_under without placements smallest_order smallest_of keeps is_above best insert_by_count sifting_order sifted place_in
+unfolding points restrict table depends subfunctions reach dependents level_count level_counts size_under without placements smallest_order
+    smallest_of keeps is_above best insert_by_count sifting_order sifted place_in
 below_sifted = refl
 
 sifted_sizes : map (size_under 3 (mux ∷ [])) ((0 ∷ 2 ∷ 1 ∷ []) ∷ (2 ∷ 1 ∷ 0 ∷ []) ∷ (2 ∷ 0 ∷ 1 ∷ []) ∷ (0 ∷ 1 ∷ 2 ∷ []) ∷ []) ≡ 4 ∷ 3 ∷ 3 ∷ 5 ∷ []
@@ -117,7 +127,8 @@ later_cycle = record { back = by_more {b = 2} refl (by_one refl); least = none }
 
 -- ---- the first orders that keep the pairs, and that have the fewest nodes
 
-pub is_order : (a b c : ℕ) → IsDistinct nat_eq (a ∷ b ∷ c ∷ []) → ((x : ℕ) → x < 3 → has (a ∷ b ∷ c ∷ []) x ≡ true) → a < 3 → b < 3 → c < 3 → IsOrder 3 (a ∷ b ∷ c ∷ [])
+pub is_order : (a b c : ℕ) → IsDistinct nat_eq (a ∷ b ∷ c ∷ []) → ((x : ℕ) → x < 3 → has (a ∷ b ∷ c ∷ []) x ≡ true) → a < 3 → b < 3 →
+    c < 3 → IsOrder 3 (a ∷ b ∷ c ∷ [])
 is_order a b c d all p q r = record { all = λ x. (low x, all x); once = d }
   where
     low : (x : ℕ) → has (a ∷ b ∷ c ∷ []) x ≡ true → x < 3
@@ -138,14 +149,19 @@ below_three Q a b c (suc (suc (suc x))) lt = absurd (omega arith)
 
 pub order_021 : IsOrder 3 (0 ∷ 2 ∷ 1 ∷ [])
 unfolding IsDistinct
-order_021 = is_order 0 2 1 ((refl, (refl, tt)), ((refl, tt), (tt, tt))) (below_three (λ x. has (0 ∷ 2 ∷ 1 ∷ []) x ≡ true) refl refl refl) (lit< tt) (lit< tt) (lit< tt)
+order_021 =
+    is_order 0 2 1 ((refl, (refl, tt)), ((refl, tt), (tt, tt))) (below_three (λ x. has (0 ∷ 2 ∷ 1 ∷ []) x ≡ true) refl refl refl) (lit< tt)
+    (lit< tt) (lit< tt)
 
 order_210 : IsOrder 3 (2 ∷ 1 ∷ 0 ∷ [])
 unfolding IsDistinct
-order_210 = is_order 2 1 0 ((refl, (refl, tt)), ((refl, tt), (tt, tt))) (below_three (λ x. has (2 ∷ 1 ∷ 0 ∷ []) x ≡ true) refl refl refl) (lit< tt) (lit< tt) (lit< tt)
+order_210 =
+    is_order 2 1 0 ((refl, (refl, tt)), ((refl, tt), (tt, tt))) (below_three (λ x. has (2 ∷ 1 ∷ 0 ∷ []) x ≡ true) refl refl refl) (lit< tt)
+    (lit< tt) (lit< tt)
 
 above_read : IsReadFrom 3 (mux ∷ []) first_above_last 4 7 (0 ∷ 2 ∷ 1 ∷ [])
-unfolding points restrict table depends subfunctions reach dependents outside width cost without arrangements are_lawful is_lawful least_of least members essential essentials_outside is_within best_top cell_of IsReadFrom
+unfolding points restrict table depends subfunctions reach dependents outside width cost without arrangements are_lawful is_lawful least_of
+    least members essential essentials_outside is_within best_top cell_of IsReadFrom
 above_read = (refl, refl, (refl, refl, (refl, refl, refl)))
 
 kept_above : Keeps first_above_last (0 ∷ 2 ∷ 1 ∷ [])
@@ -157,7 +173,8 @@ unfolding points restrict table depends subfunctions reach dependents level_coun
 above_first = clip 3 (mux ∷ []) first_above_last (0 ∷ 2 ∷ 1 ∷ []) (0 ∷ 2 ∷ 1 ∷ []) order_021 kept_above above_read
 
 below_read : IsReadFrom 3 (mux ∷ []) last_above_first 3 7 (2 ∷ 0 ∷ 1 ∷ [])
-unfolding points restrict table depends subfunctions reach dependents outside width cost without arrangements are_lawful is_lawful least_of least members essential essentials_outside is_within best_top cell_of IsReadFrom
+unfolding points restrict table depends subfunctions reach dependents outside width cost without arrangements are_lawful is_lawful least_of
+    least members essential essentials_outside is_within best_top cell_of IsReadFrom
 below_read = (refl, refl, (refl, refl, (refl, refl, refl)))
 
 kept_below : Keeps last_above_first (2 ∷ 1 ∷ 0 ∷ [])
@@ -170,7 +187,9 @@ below_first = clip 3 (mux ∷ []) last_above_first (2 ∷ 1 ∷ 0 ∷ []) (2 ∷
 
 -- the certificate with its pair is the tool's, so it is good
 above_good : IsGood 3 (mux ∷ []) (of_mux first_above_last (cell 0 0 ∷ cell 2 1 ∷ []))
-above_good = cert_of_is_good 3 (mux ∷ []) first_above_last (of_mux first_above_last (cell 0 0 ∷ cell 2 1 ∷ [])) (record { first = above_first; parts = sym above_certificate })
+above_good =
+    cert_of_is_good 3 (mux ∷ []) first_above_last (of_mux first_above_last (cell 0 0 ∷ cell 2 1 ∷ []))
+    (record { first = above_first; parts = sym above_certificate })
 
 four_is_fewest : FewestKeeping 3 (mux ∷ []) first_above_last 4
 four_is_fewest = good_is_fewest 3 (mux ∷ []) (of_mux first_above_last (cell 0 0 ∷ cell 2 1 ∷ [])) above_good
@@ -203,4 +222,7 @@ below_greedy = (refl, λ y h. le_one y h, (refl, λ y h. le_two y h, (refl, λ y
 
 -- the orders with which sifting starts
 starts : IsFirstOrder 3 first_above_last (0 ∷ 1 ∷ 2 ∷ []) × IsFirstOrder 3 last_above_first (1 ∷ 2 ∷ 0 ∷ [])
-starts = (greedy_is_first 3 first_above_last (0 ∷ 2 ∷ 1 ∷ []) (0 ∷ 1 ∷ 2 ∷ []) order_021 kept_above above_greedy, greedy_is_first 3 last_above_first (2 ∷ 1 ∷ 0 ∷ []) (1 ∷ 2 ∷ 0 ∷ []) order_210 kept_below below_greedy)
+starts = (
+  greedy_is_first 3 first_above_last (0 ∷ 2 ∷ 1 ∷ []) (0 ∷ 1 ∷ 2 ∷ []) order_021 kept_above above_greedy,
+  greedy_is_first 3 last_above_first (2 ∷ 1 ∷ 0 ∷ []) (1 ∷ 2 ∷ 0 ∷ []) order_210 kept_below below_greedy,
+)

@@ -39,7 +39,8 @@ none_before_edge m x e = elim (cases_eq m 0) [
     greater : (k : ℕ) → k ≢ 0 → nat_cmp k 0 ≡ Greater
     greater k ne = ap (λ b. cond b Less (cond (nat_eq k 0) Equal Greater)) (le-ltb k 0 (omega arith)) ∙ ap (λ b. cond b Equal Greater) (ne_eqb k 0 ne)
 
-edge_first : (n : ℕ) (F : List Function) (cert : Certificate) → IsSound n F cert → (Applies n F cert Total → ⊥) → (Applies n F cert CellTooBig → ⊥) → Applies n F cert (Edge 0 0) → IsFirstReason n F cert (Edge 0 0)
+edge_first : (n : ℕ) (F : List Function) (cert : Certificate) → IsSound n F cert → (Applies n F cert Total → ⊥) →
+    (Applies n F cert CellTooBig → ⊥) → Applies n F cert (Edge 0 0) → IsFirstReason n F cert (Edge 0 0)
 unfolding rank_of
 edge_first n F cert sound total small applies = record { applies = applies; first = none }
   where
@@ -55,7 +56,9 @@ edge_first n F cert sound total small applies = record { applies = applies; firs
 
 order_012 : IsOrder 3 (0 ∷ 1 ∷ 2 ∷ [])
 unfolding IsDistinct
-order_012 = is_order 0 1 2 ((refl, (refl, tt)), ((refl, tt), (tt, tt))) (below_three (λ x. has (0 ∷ 1 ∷ 2 ∷ []) x ≡ true) refl refl refl) (lit< tt) (lit< tt) (lit< tt)
+order_012 =
+    is_order 0 1 2 ((refl, (refl, tt)), ((refl, tt), (tt, tt))) (below_three (λ x. has (0 ∷ 1 ∷ 2 ∷ []) x ≡ true) refl refl refl) (lit< tt)
+    (lit< tt) (lit< tt)
 
 abbrev edge_bad : Certificate
 edge_bad = of_parity (cell 0 0 ∷ cell 2 2 ∷ cell 4 2 ∷ [])

@@ -10,19 +10,23 @@ use Rattle.cert_check.proofs.class_table.numbered_with.Goals as goal
 
 pub number_pairs-requires-clause-rank : goal.number_pairs-requires-clause-rank
 number_pairs-requires-clause-rank c =
-    (is_ready (classes_of c.args.problem.now c.args.set) c.args.x c.requires.inside c.requires.new c.args.numbers.now c.args.masks.now c.rank_of-rank.result c.requires.classes c.rank_of-rank.ensures).rank
+    (is_ready (classes_of c.args.problem.now c.args.set) c.args.x c.requires.inside c.requires.new c.args.numbers.now c.args.masks.now
+    c.rank_of-rank.result c.requires.classes c.rank_of-rank.ensures).rank
 
 pub number_pairs-requires-clause-whole : goal.number_pairs-requires-clause-whole
 number_pairs-requires-clause-whole c =
-    (is_ready (classes_of c.args.problem.now c.args.set) c.args.x c.requires.inside c.requires.new c.args.numbers.now c.args.masks.now c.rank_of-rank.result c.requires.classes c.rank_of-rank.ensures).whole
+    (is_ready (classes_of c.args.problem.now c.args.set) c.args.x c.requires.inside c.requires.new c.args.numbers.now c.args.masks.now
+    c.rank_of-rank.result c.requires.classes c.rank_of-rank.ensures).whole
 
 pub number_pairs-requires-clause-classes : goal.number_pairs-requires-clause-classes
 number_pairs-requires-clause-classes c =
-    (is_ready (classes_of c.args.problem.now c.args.set) c.args.x c.requires.inside c.requires.new c.args.numbers.now c.args.masks.now c.rank_of-rank.result c.requires.classes c.rank_of-rank.ensures).classes
+    (is_ready (classes_of c.args.problem.now c.args.set) c.args.x c.requires.inside c.requires.new c.args.numbers.now c.args.masks.now
+    c.rank_of-rank.result c.requires.classes c.rank_of-rank.ensures).classes
 
 pub number_pairs-requires-clause-few : goal.number_pairs-requires-clause-few
 number_pairs-requires-clause-few c =
-    (is_ready (classes_of c.args.problem.now c.args.set) c.args.x c.requires.inside c.requires.new c.args.numbers.now c.args.masks.now c.rank_of-rank.result c.requires.classes c.rank_of-rank.ensures).few
+    (is_ready (classes_of c.args.problem.now c.args.set) c.args.x c.requires.inside c.requires.new c.args.numbers.now c.args.masks.now
+    c.rank_of-rank.result c.requires.classes c.rank_of-rank.ensures).few
 
 pub returns : goal.returns
 returns c =
@@ -32,4 +36,5 @@ returns c =
     let d = c.in_ok-numbered.ensures.numbers ∙ (λ i. ranks same_pair (places.pairs numbers (2 ^ e i))) in
     let many = c.in_ok-numbered.ensures.many ∙ (λ i. distinct_count same_pair (places.pairs numbers (2 ^ e i))) in
     let told = c.in_ok-numbered.ensures.told ∙ (λ i. map (joined_mask masks c.args.x) (places.pairs numbers (2 ^ e i))) in
-    holds_more (classes_of c.args.problem.now c.args.set) c.args.x c.requires.inside c.requires.new numbers masks c.in_ok-numbered.numbered.numbers.items c.in_ok-numbered.numbered.masks.items c.requires.classes d many told
+    holds_more (classes_of c.args.problem.now c.args.set) c.args.x c.requires.inside c.requires.new numbers masks
+    c.in_ok-numbered.numbered.numbers.items c.in_ok-numbered.numbered.masks.items c.requires.classes d many told

@@ -12,6 +12,10 @@ invariant_of-result c =
     let masks_len = sym (ap length c.deref.ensures.value) ∙ c.deref.ensures.len in
     let numbers_len = sym (ap length c.deref-then-are_whole.ensures.value) ∙ c.deref-then-are_whole.ensures.len in
     let same : length masks ≡ length numbers = masks_len ∙ sym c.len.ensures ∙ c.if-len.true ∙ c.len-2.ensures ∙ sym numbers_len in
-    let whole : (i : ℕ) → i < length masks → get_or masks i 0 ≡ c.args.set = subst (λ (us : List ℕ). (i : ℕ) → i < length us → get_or us i 0 ≡ c.args.set) c.deref.ensures.value (c.are_whole.ensures c.if-are_whole.true) in
-    let own : (i : ℕ) → i < length numbers → get_or numbers i 0 ≡ i = subst (λ (us : List ℕ). (i : ℕ) → i < length us → get_or us i 0 ≡ i) c.deref-then-are_whole.ensures.value (c.are_own.ensures c.if-are_own.true) in
+    let whole : (i : ℕ) → i < length masks → get_or masks i 0 ≡ c.args.set =
+    subst (λ (us : List ℕ). (i : ℕ) → i < length us → get_or us i 0 ≡ c.args.set) c.deref.ensures.value
+    (c.are_whole.ensures c.if-are_whole.true) in
+    let own : (i : ℕ) → i < length numbers → get_or numbers i 0 ≡ i =
+    subst (λ (us : List ℕ). (i : ℕ) → i < length us → get_or us i 0 ≡ i) c.deref-then-are_whole.ensures.value
+    (c.are_own.ensures c.if-are_own.true) in
     subst (IsFull t) (masks_len ∙ sym c.len-then-are_own.ensures) (full_of t numbers masks c.requires same own whole)

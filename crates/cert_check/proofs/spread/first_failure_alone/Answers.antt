@@ -16,4 +16,5 @@ returns c =
     IfOk-then c.first_above.result _ _ c.first_above.ensures (λ edge first.
     subst (λ (u : ClassesOf). IsFirstEdge (Fails c.args.problem.now.inputs (functions u.problem) v j) edge) c.in_ok-table.ensures
     (subst (λ k. IsFirstEdge (Fails k (functions t.problem) v j) edge) c.inputs-inputs.ensures.value
-    (first_same (FailsWithin n (functions t.problem) v j t.set 0) (Fails n (functions t.problem) v j) edge (λ S x f. f.0) (λ S x f. (f, (let all : (S + 2 ^ x) % 1 ≡ 0 = omega arith in all ∙ sym empty))) first)))
+    (first_same (FailsWithin n (functions t.problem) v j t.set 0) (Fails n (functions t.problem) v j) edge (λ S x f. f.0)
+    (λ S x f. (f, (let all : (S + 2 ^ x) % 1 ≡ 0 = omega arith in all ∙ sym empty))) first)))

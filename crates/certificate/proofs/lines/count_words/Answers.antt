@@ -12,4 +12,5 @@ loop-more-preserved c =
     record { counted = omega (arith, counted, one); taken = omega (arith, taken, long, length-append front (32 ∷ more)) }
 
 pub returns : goal.returns
-returns c = let one = ap length (whole_word c.loop-more.rest.now c.in_default.ensures.none) in let counted = c.loop-more.invariant.counted in omega (arith, counted, one)
+returns c = let one = ap length (whole_word c.loop-more.rest.now c.in_default.ensures.none) in
+    let counted = c.loop-more.invariant.counted in omega (arith, counted, one)

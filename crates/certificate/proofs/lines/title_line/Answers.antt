@@ -10,4 +10,6 @@ pub returns-then-eq-2 : goal.returns-then-eq-2
 returns-then-eq-2 c = second_title c.args.line.now (ap (same c.args.line.now) (sym c.as_slice-else-eq.ensures) ∙ sym c.eq-else-eq.ensures ∙ c.if-eq-2.true)
 
 pub returns-else-eq-2 : goal.returns-else-eq-2
-returns-else-eq-2 c = no_title c.args.line.now (ap (same c.args.line.now) (sym c.as_slice.ensures) ∙ sym c.eq.ensures ∙ c.if-eq.false) (ap (same c.args.line.now) (sym c.as_slice-else-eq.ensures) ∙ sym c.eq-else-eq.ensures ∙ c.if-eq-2.false)
+returns-else-eq-2 c =
+    no_title c.args.line.now (ap (same c.args.line.now) (sym c.as_slice.ensures) ∙ sym c.eq.ensures ∙ c.if-eq.false)
+    (ap (same c.args.line.now) (sym c.as_slice-else-eq.ensures) ∙ sym c.eq-else-eq.ensures ∙ c.if-eq-2.false)

@@ -7,7 +7,8 @@ returns-in_default-clause-none c a b e = let one = ap length (sym (whole_word c.
 
 pub returns-in-None-clause-some : goal.returns-in-None-clause-some
 returns-in-None-clause-some c =
-    cut_words c.args.line.now c.in-Some.first.now c.in-Some.rest.now c.in-Some.ensures.some ∙ ap (λ ws. c.in-Some.first.now ∷ ws) (whole_word c.in-Some.rest.now c.in-None.ensures.none)
+    cut_words c.args.line.now c.in-Some.first.now c.in-Some.rest.now c.in-Some.ensures.some
+    ∙ ap (λ ws. c.in-Some.first.now ∷ ws) (whole_word c.in-Some.rest.now c.in-None.ensures.none)
 
 pub returns-in-Some-cut-clause-none : goal.returns-in-Some-cut-clause-none
 returns-in-Some-cut-clause-none c a b e =

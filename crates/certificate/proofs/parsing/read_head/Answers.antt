@@ -10,69 +10,151 @@ use Rattle.certificate.proofs.parsing.read_head.Goals as goal
 pub returns-in_err-format-clause-head : goal.returns-in_err-format-clause-head
 returns-in_err-format-clause-head c =
     let t0 = taken_none c.args.lines.now.number c.args.lines.now.rest.now in
-    told_fails c.args.lines.now.number c.args.lines.now.rest.now _ _ (inputs_said (said c.args.lines.now.rest.now)) _ c.from_residual.result c.from_residual.ensures.1 refl
-    (head_fails c.args.lines.now.number c.args.lines.now.rest.now _ _ c.args.lines.now.number c.args.lines.now.rest.now title_fault ((field_fault (codes "inputs") 1 1 16) ∷ (field_fault (codes "outputs") 1 1 16) ∷ (field_fault (codes "order") (inputs_said (said c.args.lines.now.rest.now)) 0 15) ∷ (field_fault (codes "levels") (inputs_said (said c.args.lines.now.rest.now)) 0 most_nodes) ∷ (field_fault (codes "total") 1 0 most_nodes) ∷ []) _ t0 c.in_err-format.ensures.line)
+    told_fails c.args.lines.now.number c.args.lines.now.rest.now _ _ (inputs_said (said c.args.lines.now.rest.now)) _ c.from_residual.result
+    c.from_residual.ensures.1 refl
+    (head_fails c.args.lines.now.number c.args.lines.now.rest.now _ _ c.args.lines.now.number c.args.lines.now.rest.now title_fault
+    ((field_fault (codes "inputs") 1 1 16) ∷ (field_fault (codes "outputs") 1 1 16) ∷
+    (field_fault (codes "order") (inputs_said (said c.args.lines.now.rest.now)) 0 15) ∷
+    (field_fault (codes "levels") (inputs_said (said c.args.lines.now.rest.now)) 0 most_nodes) ∷
+    (field_fault (codes "total") 1 0 most_nodes) ∷ [])
+    _ t0 c.in_err-format.ensures.line)
 
 pub returns-in_err-inputs-clause-head : goal.returns-in_err-inputs-clause-head
 returns-in_err-inputs-clause-head c =
     let t0 = taken_none c.args.lines.now.number c.args.lines.now.rest.now in
-    let a0 = c.in_ok-format.ensures.line in let t1 = taken_more c.args.lines.now.number c.args.lines.now.rest.now _ _ c.args.lines.now.number c.args.lines.now.rest.now title_fault c.title.new.self.number c.title.new.self.rest.now t0 (a0.0, a0.1, a0.2, a0.3) in
-    told_fails c.args.lines.now.number c.args.lines.now.rest.now _ _ (inputs_said (said c.args.lines.now.rest.now)) _ c.from_residual-in_err-inputs.result c.from_residual-in_err-inputs.ensures.1 refl
-    (head_fails c.args.lines.now.number c.args.lines.now.rest.now _ _ c.title.new.self.number c.title.new.self.rest.now (field_fault (codes "inputs") 1 1 16) ((field_fault (codes "outputs") 1 1 16) ∷ (field_fault (codes "order") (inputs_said (said c.args.lines.now.rest.now)) 0 15) ∷ (field_fault (codes "levels") (inputs_said (said c.args.lines.now.rest.now)) 0 most_nodes) ∷ (field_fault (codes "total") 1 0 most_nodes) ∷ []) _ t1 c.in_err-inputs.ensures.line)
+    let a0 = c.in_ok-format.ensures.line in
+    let t1 = taken_more c.args.lines.now.number c.args.lines.now.rest.now _ _ c.args.lines.now.number c.args.lines.now.rest.now
+    title_fault c.title.new.self.number c.title.new.self.rest.now t0 (a0.0, a0.1, a0.2, a0.3) in
+    told_fails c.args.lines.now.number c.args.lines.now.rest.now _ _ (inputs_said (said c.args.lines.now.rest.now)) _
+    c.from_residual-in_err-inputs.result c.from_residual-in_err-inputs.ensures.1 refl
+    (head_fails c.args.lines.now.number c.args.lines.now.rest.now _ _ c.title.new.self.number c.title.new.self.rest.now
+    (field_fault (codes "inputs") 1 1 16)
+    ((field_fault (codes "outputs") 1 1 16) ∷ (field_fault (codes "order") (inputs_said (said c.args.lines.now.rest.now)) 0 15) ∷
+    (field_fault (codes "levels") (inputs_said (said c.args.lines.now.rest.now)) 0 most_nodes) ∷
+    (field_fault (codes "total") 1 0 most_nodes) ∷ [])
+    _ t1 c.in_err-inputs.ensures.line)
 
 pub returns-in_err-outputs-clause-head : goal.returns-in_err-outputs-clause-head
 returns-in_err-outputs-clause-head c =
     let t0 = taken_none c.args.lines.now.number c.args.lines.now.rest.now in
-    let a0 = c.in_ok-format.ensures.line in let t1 = taken_more c.args.lines.now.number c.args.lines.now.rest.now _ _ c.args.lines.now.number c.args.lines.now.rest.now title_fault c.title.new.self.number c.title.new.self.rest.now t0 (a0.0, a0.1, a0.2, a0.3) in
-    let a1 = c.in_ok-inputs.ensures.line in let t2 = taken_more c.args.lines.now.number c.args.lines.now.rest.now _ _ c.title.new.self.number c.title.new.self.rest.now (field_fault (codes "inputs") 1 1 16) c.number.new.self.number c.number.new.self.rest.now t1 (a1.0, a1.1, a1.2, a1.3) in
-    told_fails c.args.lines.now.number c.args.lines.now.rest.now _ _ c.in_ok-inputs.inputs _ c.from_residual-in_err-outputs.result c.from_residual-in_err-outputs.ensures.1 (ap (λ (xs : List (List (List ℕ))). number_of (get_or (get_or xs 1 []) 1 [])) t2.parts ∙ sym a1.4)
-    (head_fails c.args.lines.now.number c.args.lines.now.rest.now _ _ c.number.new.self.number c.number.new.self.rest.now (field_fault (codes "outputs") 1 1 16) ((field_fault (codes "order") c.in_ok-inputs.inputs 0 15) ∷ (field_fault (codes "levels") c.in_ok-inputs.inputs 0 most_nodes) ∷ (field_fault (codes "total") 1 0 most_nodes) ∷ []) _ t2 c.in_err-outputs.ensures.line)
+    let a0 = c.in_ok-format.ensures.line in
+    let t1 = taken_more c.args.lines.now.number c.args.lines.now.rest.now _ _ c.args.lines.now.number c.args.lines.now.rest.now
+    title_fault c.title.new.self.number c.title.new.self.rest.now t0 (a0.0, a0.1, a0.2, a0.3) in
+    let a1 = c.in_ok-inputs.ensures.line in
+    let t2 = taken_more c.args.lines.now.number c.args.lines.now.rest.now _ _ c.title.new.self.number c.title.new.self.rest.now
+    (field_fault (codes "inputs") 1 1 16) c.number.new.self.number c.number.new.self.rest.now t1 (a1.0, a1.1, a1.2, a1.3) in
+    told_fails c.args.lines.now.number c.args.lines.now.rest.now _ _ c.in_ok-inputs.inputs _ c.from_residual-in_err-outputs.result
+    c.from_residual-in_err-outputs.ensures.1
+    (ap (λ (xs : List (List (List ℕ))). number_of (get_or (get_or xs 1 []) 1 [])) t2.parts ∙ sym a1.4)
+    (head_fails c.args.lines.now.number c.args.lines.now.rest.now _ _ c.number.new.self.number c.number.new.self.rest.now
+    (field_fault (codes "outputs") 1 1 16)
+    ((field_fault (codes "order") c.in_ok-inputs.inputs 0 15) ∷ (field_fault (codes "levels") c.in_ok-inputs.inputs 0 most_nodes) ∷
+    (field_fault (codes "total") 1 0 most_nodes) ∷ [])
+    _ t2 c.in_err-outputs.ensures.line)
 
 pub returns-in_err-numbers-clause-head : goal.returns-in_err-numbers-clause-head
 returns-in_err-numbers-clause-head c =
     let t0 = taken_none c.args.lines.now.number c.args.lines.now.rest.now in
-    let a0 = c.in_ok-format.ensures.line in let t1 = taken_more c.args.lines.now.number c.args.lines.now.rest.now _ _ c.args.lines.now.number c.args.lines.now.rest.now title_fault c.title.new.self.number c.title.new.self.rest.now t0 (a0.0, a0.1, a0.2, a0.3) in
-    let a1 = c.in_ok-inputs.ensures.line in let t2 = taken_more c.args.lines.now.number c.args.lines.now.rest.now _ _ c.title.new.self.number c.title.new.self.rest.now (field_fault (codes "inputs") 1 1 16) c.number.new.self.number c.number.new.self.rest.now t1 (a1.0, a1.1, a1.2, a1.3) in
-    let a2 = c.in_ok-outputs.ensures.line in let t3 = taken_more c.args.lines.now.number c.args.lines.now.rest.now _ _ c.number.new.self.number c.number.new.self.rest.now (field_fault (codes "outputs") 1 1 16) c.number-2.new.self.number c.number-2.new.self.rest.now t2 (a2.0, a2.1, a2.2, a2.3) in
-    told_fails c.args.lines.now.number c.args.lines.now.rest.now _ _ c.in_ok-inputs.inputs _ c.from_residual-in_err-numbers.result c.from_residual-in_err-numbers.ensures.1 (ap (λ (xs : List (List (List ℕ))). number_of (get_or (get_or xs 1 []) 1 [])) t3.parts ∙ sym a1.4)
-    (head_fails c.args.lines.now.number c.args.lines.now.rest.now _ _ c.number-2.new.self.number c.number-2.new.self.rest.now (field_fault (codes "order") c.in_ok-inputs.inputs 0 15) ((field_fault (codes "levels") c.in_ok-inputs.inputs 0 most_nodes) ∷ (field_fault (codes "total") 1 0 most_nodes) ∷ []) _ t3 c.in_err-numbers.ensures.line)
+    let a0 = c.in_ok-format.ensures.line in
+    let t1 = taken_more c.args.lines.now.number c.args.lines.now.rest.now _ _ c.args.lines.now.number c.args.lines.now.rest.now
+    title_fault c.title.new.self.number c.title.new.self.rest.now t0 (a0.0, a0.1, a0.2, a0.3) in
+    let a1 = c.in_ok-inputs.ensures.line in
+    let t2 = taken_more c.args.lines.now.number c.args.lines.now.rest.now _ _ c.title.new.self.number c.title.new.self.rest.now
+    (field_fault (codes "inputs") 1 1 16) c.number.new.self.number c.number.new.self.rest.now t1 (a1.0, a1.1, a1.2, a1.3) in
+    let a2 = c.in_ok-outputs.ensures.line in
+    let t3 = taken_more c.args.lines.now.number c.args.lines.now.rest.now _ _ c.number.new.self.number c.number.new.self.rest.now
+    (field_fault (codes "outputs") 1 1 16) c.number-2.new.self.number c.number-2.new.self.rest.now t2 (a2.0, a2.1, a2.2, a2.3) in
+    told_fails c.args.lines.now.number c.args.lines.now.rest.now _ _ c.in_ok-inputs.inputs _ c.from_residual-in_err-numbers.result
+    c.from_residual-in_err-numbers.ensures.1
+    (ap (λ (xs : List (List (List ℕ))). number_of (get_or (get_or xs 1 []) 1 [])) t3.parts ∙ sym a1.4)
+    (head_fails c.args.lines.now.number c.args.lines.now.rest.now _ _ c.number-2.new.self.number c.number-2.new.self.rest.now
+    (field_fault (codes "order") c.in_ok-inputs.inputs 0 15)
+    ((field_fault (codes "levels") c.in_ok-inputs.inputs 0 most_nodes) ∷ (field_fault (codes "total") 1 0 most_nodes) ∷ []) _ t3
+    c.in_err-numbers.ensures.line)
 
 pub returns-in_err-order-clause-head : goal.returns-in_err-order-clause-head
-returns-in_err-order-clause-head c = head_memory _ _ _ _ _ c.from_residual-in_err-order.result c.from_residual-in_err-order.ensures.1 c.in_err-order.ensures.memory
+returns-in_err-order-clause-head c =
+    head_memory _ _ _ _ _ c.from_residual-in_err-order.result c.from_residual-in_err-order.ensures.1 c.in_err-order.ensures.memory
 
 pub returns-in_err-levels-clause-head : goal.returns-in_err-levels-clause-head
 returns-in_err-levels-clause-head c =
     let t0 = taken_none c.args.lines.now.number c.args.lines.now.rest.now in
-    let a0 = c.in_ok-format.ensures.line in let t1 = taken_more c.args.lines.now.number c.args.lines.now.rest.now _ _ c.args.lines.now.number c.args.lines.now.rest.now title_fault c.title.new.self.number c.title.new.self.rest.now t0 (a0.0, a0.1, a0.2, a0.3) in
-    let a1 = c.in_ok-inputs.ensures.line in let t2 = taken_more c.args.lines.now.number c.args.lines.now.rest.now _ _ c.title.new.self.number c.title.new.self.rest.now (field_fault (codes "inputs") 1 1 16) c.number.new.self.number c.number.new.self.rest.now t1 (a1.0, a1.1, a1.2, a1.3) in
-    let a2 = c.in_ok-outputs.ensures.line in let t3 = taken_more c.args.lines.now.number c.args.lines.now.rest.now _ _ c.number.new.self.number c.number.new.self.rest.now (field_fault (codes "outputs") 1 1 16) c.number-2.new.self.number c.number-2.new.self.rest.now t2 (a2.0, a2.1, a2.2, a2.3) in
-    let a3 = c.in_ok-numbers.ensures.line in let t4 = taken_more c.args.lines.now.number c.args.lines.now.rest.now _ _ c.number-2.new.self.number c.number-2.new.self.rest.now (field_fault (codes "order") c.in_ok-inputs.inputs 0 15) c.numbers.new.self.number c.numbers.new.self.rest.now t3 (a3.0, a3.1, a3.2, a3.3) in
-    told_fails c.args.lines.now.number c.args.lines.now.rest.now _ _ c.in_ok-inputs.inputs _ c.from_residual-in_err-levels.result c.from_residual-in_err-levels.ensures.1 (ap (λ (xs : List (List (List ℕ))). number_of (get_or (get_or xs 1 []) 1 [])) t4.parts ∙ sym a1.4)
-    (head_fails c.args.lines.now.number c.args.lines.now.rest.now _ _ c.numbers.new.self.number c.numbers.new.self.rest.now (field_fault (codes "levels") c.in_ok-inputs.inputs 0 most_nodes) ((field_fault (codes "total") 1 0 most_nodes) ∷ []) _ t4 c.in_err-levels.ensures.line)
+    let a0 = c.in_ok-format.ensures.line in
+    let t1 = taken_more c.args.lines.now.number c.args.lines.now.rest.now _ _ c.args.lines.now.number c.args.lines.now.rest.now
+    title_fault c.title.new.self.number c.title.new.self.rest.now t0 (a0.0, a0.1, a0.2, a0.3) in
+    let a1 = c.in_ok-inputs.ensures.line in
+    let t2 = taken_more c.args.lines.now.number c.args.lines.now.rest.now _ _ c.title.new.self.number c.title.new.self.rest.now
+    (field_fault (codes "inputs") 1 1 16) c.number.new.self.number c.number.new.self.rest.now t1 (a1.0, a1.1, a1.2, a1.3) in
+    let a2 = c.in_ok-outputs.ensures.line in
+    let t3 = taken_more c.args.lines.now.number c.args.lines.now.rest.now _ _ c.number.new.self.number c.number.new.self.rest.now
+    (field_fault (codes "outputs") 1 1 16) c.number-2.new.self.number c.number-2.new.self.rest.now t2 (a2.0, a2.1, a2.2, a2.3) in
+    let a3 = c.in_ok-numbers.ensures.line in
+    let t4 = taken_more c.args.lines.now.number c.args.lines.now.rest.now _ _ c.number-2.new.self.number c.number-2.new.self.rest.now
+    (field_fault (codes "order") c.in_ok-inputs.inputs 0 15) c.numbers.new.self.number c.numbers.new.self.rest.now t3
+    (a3.0, a3.1, a3.2, a3.3) in
+    told_fails c.args.lines.now.number c.args.lines.now.rest.now _ _ c.in_ok-inputs.inputs _ c.from_residual-in_err-levels.result
+    c.from_residual-in_err-levels.ensures.1
+    (ap (λ (xs : List (List (List ℕ))). number_of (get_or (get_or xs 1 []) 1 [])) t4.parts ∙ sym a1.4)
+    (head_fails c.args.lines.now.number c.args.lines.now.rest.now _ _ c.numbers.new.self.number c.numbers.new.self.rest.now
+    (field_fault (codes "levels") c.in_ok-inputs.inputs 0 most_nodes) ((field_fault (codes "total") 1 0 most_nodes) ∷ []) _ t4
+    c.in_err-levels.ensures.line)
 
 pub returns-in_err-total-clause-head : goal.returns-in_err-total-clause-head
 returns-in_err-total-clause-head c =
     let t0 = taken_none c.args.lines.now.number c.args.lines.now.rest.now in
-    let a0 = c.in_ok-format.ensures.line in let t1 = taken_more c.args.lines.now.number c.args.lines.now.rest.now _ _ c.args.lines.now.number c.args.lines.now.rest.now title_fault c.title.new.self.number c.title.new.self.rest.now t0 (a0.0, a0.1, a0.2, a0.3) in
-    let a1 = c.in_ok-inputs.ensures.line in let t2 = taken_more c.args.lines.now.number c.args.lines.now.rest.now _ _ c.title.new.self.number c.title.new.self.rest.now (field_fault (codes "inputs") 1 1 16) c.number.new.self.number c.number.new.self.rest.now t1 (a1.0, a1.1, a1.2, a1.3) in
-    let a2 = c.in_ok-outputs.ensures.line in let t3 = taken_more c.args.lines.now.number c.args.lines.now.rest.now _ _ c.number.new.self.number c.number.new.self.rest.now (field_fault (codes "outputs") 1 1 16) c.number-2.new.self.number c.number-2.new.self.rest.now t2 (a2.0, a2.1, a2.2, a2.3) in
-    let a3 = c.in_ok-numbers.ensures.line in let t4 = taken_more c.args.lines.now.number c.args.lines.now.rest.now _ _ c.number-2.new.self.number c.number-2.new.self.rest.now (field_fault (codes "order") c.in_ok-inputs.inputs 0 15) c.numbers.new.self.number c.numbers.new.self.rest.now t3 (a3.0, a3.1, a3.2, a3.3) in
-    let a4 = c.in_ok-levels.ensures.line in let t5 = taken_more c.args.lines.now.number c.args.lines.now.rest.now _ _ c.numbers.new.self.number c.numbers.new.self.rest.now (field_fault (codes "levels") c.in_ok-inputs.inputs 0 most_nodes) c.numbers-2.new.self.number c.numbers-2.new.self.rest.now t4 (a4.0, a4.1, a4.2, a4.3) in
-    told_fails c.args.lines.now.number c.args.lines.now.rest.now _ _ c.in_ok-inputs.inputs _ c.from_residual-in_err-total.result c.from_residual-in_err-total.ensures.1 (ap (λ (xs : List (List (List ℕ))). number_of (get_or (get_or xs 1 []) 1 [])) t5.parts ∙ sym a1.4)
-    (head_fails c.args.lines.now.number c.args.lines.now.rest.now _ _ c.numbers-2.new.self.number c.numbers-2.new.self.rest.now (field_fault (codes "total") 1 0 most_nodes) [] _ t5 c.in_err-total.ensures.line)
+    let a0 = c.in_ok-format.ensures.line in
+    let t1 = taken_more c.args.lines.now.number c.args.lines.now.rest.now _ _ c.args.lines.now.number c.args.lines.now.rest.now
+    title_fault c.title.new.self.number c.title.new.self.rest.now t0 (a0.0, a0.1, a0.2, a0.3) in
+    let a1 = c.in_ok-inputs.ensures.line in
+    let t2 = taken_more c.args.lines.now.number c.args.lines.now.rest.now _ _ c.title.new.self.number c.title.new.self.rest.now
+    (field_fault (codes "inputs") 1 1 16) c.number.new.self.number c.number.new.self.rest.now t1 (a1.0, a1.1, a1.2, a1.3) in
+    let a2 = c.in_ok-outputs.ensures.line in
+    let t3 = taken_more c.args.lines.now.number c.args.lines.now.rest.now _ _ c.number.new.self.number c.number.new.self.rest.now
+    (field_fault (codes "outputs") 1 1 16) c.number-2.new.self.number c.number-2.new.self.rest.now t2 (a2.0, a2.1, a2.2, a2.3) in
+    let a3 = c.in_ok-numbers.ensures.line in
+    let t4 = taken_more c.args.lines.now.number c.args.lines.now.rest.now _ _ c.number-2.new.self.number c.number-2.new.self.rest.now
+    (field_fault (codes "order") c.in_ok-inputs.inputs 0 15) c.numbers.new.self.number c.numbers.new.self.rest.now t3
+    (a3.0, a3.1, a3.2, a3.3) in
+    let a4 = c.in_ok-levels.ensures.line in
+    let t5 = taken_more c.args.lines.now.number c.args.lines.now.rest.now _ _ c.numbers.new.self.number c.numbers.new.self.rest.now
+    (field_fault (codes "levels") c.in_ok-inputs.inputs 0 most_nodes) c.numbers-2.new.self.number c.numbers-2.new.self.rest.now t4
+    (a4.0, a4.1, a4.2, a4.3) in
+    told_fails c.args.lines.now.number c.args.lines.now.rest.now _ _ c.in_ok-inputs.inputs _ c.from_residual-in_err-total.result
+    c.from_residual-in_err-total.ensures.1
+    (ap (λ (xs : List (List (List ℕ))). number_of (get_or (get_or xs 1 []) 1 [])) t5.parts ∙ sym a1.4)
+    (head_fails c.args.lines.now.number c.args.lines.now.rest.now _ _ c.numbers-2.new.self.number c.numbers-2.new.self.rest.now
+    (field_fault (codes "total") 1 0 most_nodes) [] _ t5 c.in_err-total.ensures.line)
 
 pub variables-requires : goal.variables-requires
-variables-requires c = rw c.deref.ensures.value (small_numbers (λ v. v.items) (codes "order") c.in_ok-inputs.inputs 15 c.number-2.new.self.number c.numbers.new.self.number c.number-2.new.self.rest.now c.numbers.new.self.rest.now c.in_ok-numbers.numbers c.in_ok-numbers.ensures.line)
+variables-requires c =
+    rw c.deref.ensures.value
+    (small_numbers (λ v. v.items) (codes "order") c.in_ok-inputs.inputs 15 c.number-2.new.self.number c.numbers.new.self.number
+    c.number-2.new.self.rest.now c.numbers.new.self.rest.now c.in_ok-numbers.numbers c.in_ok-numbers.ensures.line)
 
 pub returns-clause-head : goal.returns-clause-head
 returns-clause-head c =
     let t0 = taken_none c.args.lines.now.number c.args.lines.now.rest.now in
-    let a0 = c.in_ok-format.ensures.line in let t1 = taken_more c.args.lines.now.number c.args.lines.now.rest.now _ _ c.args.lines.now.number c.args.lines.now.rest.now title_fault c.title.new.self.number c.title.new.self.rest.now t0 (a0.0, a0.1, a0.2, a0.3) in
-    let a1 = c.in_ok-inputs.ensures.line in let t2 = taken_more c.args.lines.now.number c.args.lines.now.rest.now _ _ c.title.new.self.number c.title.new.self.rest.now (field_fault (codes "inputs") 1 1 16) c.number.new.self.number c.number.new.self.rest.now t1 (a1.0, a1.1, a1.2, a1.3) in
-    let a2 = c.in_ok-outputs.ensures.line in let t3 = taken_more c.args.lines.now.number c.args.lines.now.rest.now _ _ c.number.new.self.number c.number.new.self.rest.now (field_fault (codes "outputs") 1 1 16) c.number-2.new.self.number c.number-2.new.self.rest.now t2 (a2.0, a2.1, a2.2, a2.3) in
-    let a3 = c.in_ok-numbers.ensures.line in let t4 = taken_more c.args.lines.now.number c.args.lines.now.rest.now _ _ c.number-2.new.self.number c.number-2.new.self.rest.now (field_fault (codes "order") c.in_ok-inputs.inputs 0 15) c.numbers.new.self.number c.numbers.new.self.rest.now t3 (a3.0, a3.1, a3.2, a3.3) in
-    let a4 = c.in_ok-levels.ensures.line in let t5 = taken_more c.args.lines.now.number c.args.lines.now.rest.now _ _ c.numbers.new.self.number c.numbers.new.self.rest.now (field_fault (codes "levels") c.in_ok-inputs.inputs 0 most_nodes) c.numbers-2.new.self.number c.numbers-2.new.self.rest.now t4 (a4.0, a4.1, a4.2, a4.3) in
-    let a5 = c.in_ok-total.ensures.line in let t6 = taken_more c.args.lines.now.number c.args.lines.now.rest.now _ _ c.numbers-2.new.self.number c.numbers-2.new.self.rest.now (field_fault (codes "total") 1 0 most_nodes) c.number-3.new.self.number c.number-3.new.self.rest.now t5 (a5.0, a5.1, a5.2, a5.3) in (
+    let a0 = c.in_ok-format.ensures.line in
+    let t1 = taken_more c.args.lines.now.number c.args.lines.now.rest.now _ _ c.args.lines.now.number c.args.lines.now.rest.now
+    title_fault c.title.new.self.number c.title.new.self.rest.now t0 (a0.0, a0.1, a0.2, a0.3) in
+    let a1 = c.in_ok-inputs.ensures.line in
+    let t2 = taken_more c.args.lines.now.number c.args.lines.now.rest.now _ _ c.title.new.self.number c.title.new.self.rest.now
+    (field_fault (codes "inputs") 1 1 16) c.number.new.self.number c.number.new.self.rest.now t1 (a1.0, a1.1, a1.2, a1.3) in
+    let a2 = c.in_ok-outputs.ensures.line in
+    let t3 = taken_more c.args.lines.now.number c.args.lines.now.rest.now _ _ c.number.new.self.number c.number.new.self.rest.now
+    (field_fault (codes "outputs") 1 1 16) c.number-2.new.self.number c.number-2.new.self.rest.now t2 (a2.0, a2.1, a2.2, a2.3) in
+    let a3 = c.in_ok-numbers.ensures.line in
+    let t4 = taken_more c.args.lines.now.number c.args.lines.now.rest.now _ _ c.number-2.new.self.number c.number-2.new.self.rest.now
+    (field_fault (codes "order") c.in_ok-inputs.inputs 0 15) c.numbers.new.self.number c.numbers.new.self.rest.now t3
+    (a3.0, a3.1, a3.2, a3.3) in
+    let a4 = c.in_ok-levels.ensures.line in
+    let t5 = taken_more c.args.lines.now.number c.args.lines.now.rest.now _ _ c.numbers.new.self.number c.numbers.new.self.rest.now
+    (field_fault (codes "levels") c.in_ok-inputs.inputs 0 most_nodes) c.numbers-2.new.self.number c.numbers-2.new.self.rest.now t4
+    (a4.0, a4.1, a4.2, a4.3) in
+    let a5 = c.in_ok-total.ensures.line in
+    let t6 = taken_more c.args.lines.now.number c.args.lines.now.rest.now _ _ c.numbers-2.new.self.number c.numbers-2.new.self.rest.now
+    (field_fault (codes "total") 1 0 most_nodes) c.number-3.new.self.number c.number-3.new.self.rest.now t5
+    (a5.0, a5.1, a5.2, a5.3) in (
       record {
         format = a0.4 ∙ sym (ap (λ (xs : List (List (List ℕ))). number_of (get_or (get_or xs 0 []) 1 [])) t6.parts);
         inputs = a1.4 ∙ sym (ap (λ (xs : List (List (List ℕ))). number_of (get_or (get_or xs 1 []) 1 [])) t6.parts);
@@ -87,5 +169,7 @@ returns-clause-head c =
       a0.0 ∷ a1.0 ∷ a2.0 ∷ a3.0 ∷ a4.0 ∷ a5.0 ∷ [],
       t6.parts,
       refl,
-      λ js. ap (λ m. outcome c.args.lines.now.number (head_judges m ++ js) c.args.lines.now.rest.now) ((ap (λ (xs : List (List (List ℕ))). number_of (get_or (get_or xs 1 []) 1 [])) t6.parts) ∙ sym a1.4) ∙ t6.left js,
+      λ js. ap (λ m. outcome c.args.lines.now.number (head_judges m ++ js) c.args.lines.now.rest.now)
+          ((ap (λ (xs : List (List (List ℕ))). number_of (get_or (get_or xs 1 []) 1 [])) t6.parts) ∙ sym a1.4)
+          ∙ t6.left js,
     )

@@ -4,6 +4,7 @@ use Rattle.certificate.proofs.texts.push_head.Goals as goal
 
 pub returns : goal.returns
 returns c =
-    six_written _ _ _ _ _ _ _ _ _ _ _ _ _ (told _ _ _ _ _ c.in_ok-push_number.ensures (ap (λ k. k ∷ []) c.format.ensures)) (told _ _ _ _ _ c.in_ok-push_number-2.ensures (ap (λ k. k ∷ []) c.inputs.ensures))
+    six_written _ _ _ _ _ _ _ _ _ _ _ _ _ (told _ _ _ _ _ c.in_ok-push_number.ensures (ap (λ k. k ∷ []) c.format.ensures))
+    (told _ _ _ _ _ c.in_ok-push_number-2.ensures (ap (λ k. k ∷ []) c.inputs.ensures))
     (told _ _ _ _ _ c.in_ok-push_number-3.ensures (ap (λ k. k ∷ []) c.outputs.ensures)) (told _ _ _ _ _ c.in_ok-push_variables.ensures c.order.ensures)
     (told _ _ _ _ _ c.in_ok-push_numbers.ensures c.levels.ensures) (told _ _ _ _ _ c.in_ok-push_number-4.ensures (ap (λ k. k ∷ []) c.total.ensures))

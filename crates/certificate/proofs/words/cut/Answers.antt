@@ -9,7 +9,8 @@ rest_of text k = take_all (length text - (k + 1)) (drop (k + 1) text) (simp leng
 
 pub returns-in_err-place-clause-none : goal.returns-in_err-place-clause-none
 returns-in_err-place-clause-none c =
-    subst (λ found. IfNone found (Lacks c.args.byte c.args.text.now)) (sym c.from_residual.ensures) (cut_nowhere c.args.byte c.args.text.now None c.in_err-place.ensures.first refl)
+    subst (λ found. IfNone found (Lacks c.args.byte c.args.text.now)) (sym c.from_residual.ensures)
+    (cut_nowhere c.args.byte c.args.text.now None c.in_err-place.ensures.first refl)
 
 pub returns-clause-some : goal.returns-clause-some
 returns-clause-some c =

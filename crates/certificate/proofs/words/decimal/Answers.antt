@@ -18,7 +18,9 @@ returns-then-word-gt1-clause-none c n few e = let one = decimal_leads n c.args.w
 pub returns-then-not-is_ascii_digit-clause-none : goal.returns-then-not-is_ascii_digit-clause-none
 returns-then-not-is_ascii_digit-clause-none c n few e =
     let other : is_ascii_digit (get_or c.loop-rest.rest.now 0 0) ≡ false = search rules in
-    let wrong : true ≡ false = sym (decimal_all n c.args.word.now few e) ∙ c.loop-rest.invariant.digits ∙ no_digits c.loop-rest.rest.now (omega arith) other in absurd (cc (wrong))
+    let wrong : true ≡ false = sym (decimal_all n c.args.word.now few e) ∙ c.loop-rest.invariant.digits
+    ∙ no_digits c.loop-rest.rest.now (omega arith) other in
+    absurd (cc (wrong))
 
 pub loop-rest-preserved : goal.loop-rest-preserved
 loop-rest-preserved c =

@@ -18,7 +18,8 @@ number_names-requires-clause-table c =
     let few = mul-le-mul_left (length c.args.outer.now) some in
     let z = div-eq_of_lt some in
     let q : length c.args.numbers.now ≡ 0 + strips.count * 2 ^ c.args.bits = strips.whole ∙ omega arith in
-    let e : length c.args.numbers.now / 2 ^ c.args.bits ≡ strips.count = ap (λ k. k / 2 ^ c.args.bits) q ∙ add-mul-div_right 0 strips.count some ∙ omega arith in
+    let e : length c.args.numbers.now / 2 ^ c.args.bits ≡ strips.count = ap (λ k. k / 2 ^ c.args.bits) q
+    ∙ add-mul-div_right 0 strips.count some ∙ omega arith in
     record {
       paired = record { small_rank = omega arith; short = omega arith; whole = table.whole };
       few = omega arith;
@@ -29,7 +30,8 @@ pub pair_strips-requires-clause-named : goal.pair_strips-requires-clause-named
 pair_strips-requires-clause-named c =
     let table = c.requires.table in
     subst (λ us. AreNamed (names_of us) c.args.numbers.now (2 ^ c.args.bits)) (sym c.deref.ensures.value)
-    (paired_named c.args.outer.now c.args.numbers.now (2 ^ c.args.bits) c.args.rank table.strips table.whole c.in_ok-runs.runs.numbers.items c.in_ok-runs.runs.pairs.items c.in_ok-runs.ensures)
+    (paired_named c.args.outer.now c.args.numbers.now (2 ^ c.args.bits) c.args.rank table.strips table.whole c.in_ok-runs.runs.numbers.items
+    c.in_ok-runs.runs.pairs.items c.in_ok-runs.ensures)
 
 pub tell_pairs-requires-clause-table : goal.tell_pairs-requires-clause-table
 tell_pairs-requires-clause-table c =
@@ -39,9 +41,13 @@ tell_pairs-requires-clause-table c =
     let are = c.in_ok-paired.ensures ∙ ap (λ us. unrolled (names_of us) c.args.numbers.now len) c.deref.ensures.value in
     let same = c.deref-2.ensures.value in
     let v = ap length same in
-    let p = paired_few c.args.outer.now c.args.numbers.now len c.args.rank table.strips table.whole c.in_ok-runs.runs.numbers.items pairs c.in_ok-runs.ensures c.in_ok-paired.paired.items are in
-    let long = paired_long c.args.outer.now c.args.numbers.now len c.args.rank table.strips table.whole c.in_ok-runs.runs.numbers.items pairs c.in_ok-runs.ensures c.in_ok-paired.paired.items are in
-    let named = paired_named c.args.outer.now c.args.numbers.now len c.args.rank table.strips table.whole c.in_ok-runs.runs.numbers.items pairs c.in_ok-runs.ensures in
+    let p = paired_few c.args.outer.now c.args.numbers.now len c.args.rank table.strips table.whole c.in_ok-runs.runs.numbers.items pairs
+    c.in_ok-runs.ensures c.in_ok-paired.paired.items are in
+    let long = paired_long c.args.outer.now c.args.numbers.now len c.args.rank table.strips table.whole c.in_ok-runs.runs.numbers.items
+    pairs c.in_ok-runs.ensures c.in_ok-paired.paired.items are in
+    let named =
+    paired_named c.args.outer.now c.args.numbers.now len c.args.rank table.strips table.whole c.in_ok-runs.runs.numbers.items pairs
+    c.in_ok-runs.ensures in
     let f = table.len in
     let r = table.small_rank in
     record {
@@ -68,7 +74,9 @@ returns c =
     let long = paired_long outer numbers len c.args.rank table.strips table.whole runs pairs c.in_ok-runs.ensures paired are in
     let lower = paired_lower outer numbers len c.args.rank table.strips table.whole runs pairs c.in_ok-runs.ensures paired are in
     let upper = paired_upper outer numbers len c.args.rank table.strips table.whole runs pairs c.in_ok-runs.ensures paired are in
-    let names = subst (λ us. TellsPairs c.args.masks.now c.args.x (places.pairs us len) told.numbers.items told.masks.items) c.deref-2.ensures.value c.in_ok-told.ensures.tells in
+    let names =
+    subst (λ us. TellsPairs c.args.masks.now c.args.x (places.pairs us len) told.numbers.items told.masks.items) c.deref-2.ensures.value
+    c.in_ok-told.ensures.tells in
     record {
       strips = high_strips outer numbers len (2 ^ c.args.rank) table.strips (pow_pos c.args.bits) (pow_pos c.args.rank) table.whole runs paired
           c.in_ok-runs.ensures.numbered_are long lower upper c.args.masks.now c.args.x told.numbers.items told.masks.items names;

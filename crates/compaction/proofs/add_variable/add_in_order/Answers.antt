@@ -10,9 +10,17 @@ use Rattle.compaction.proofs.add_variable.add_in_order.Goals as goal
 pub tell_pairs-requires-clause-table : goal.tell_pairs-requires-clause-table
 tell_pairs-requires-clause-table c =
     let table = c.requires.table in
-    let w = ordered_whole c.args.outer.now c.args.numbers.now (2 ^ c.args.bits) (2 ^ c.args.rank) table.strips (pow_pos c.args.bits) c.requires.own table.whole in
+    let w = ordered_whole c.args.outer.now c.args.numbers.now (2 ^ c.args.bits) (2 ^ c.args.rank) table.strips (pow_pos c.args.bits)
+    c.requires.own table.whole in
     record {
-      paired = record { small_rank = table.small_rank; short = (let f = table.few in omega arith); whole = (w.0, w.1 ∙ ap (λ k. w.0 * (2 * k)) (sym (pow-add 2 c.args.bits c.args.rank))) };
+      paired = record {
+        small_rank =
+            table.small_rank;
+        short =
+            (let f = table.few in omega arith);
+        whole =
+            (w.0, w.1 ∙ ap (λ k. w.0 * (2 * k)) (sym (pow-add 2 c.args.bits c.args.rank)));
+      };
       few = table.few;
       below = table.below;
     }
@@ -25,11 +33,15 @@ returns c =
     let step = 2 ^ (c.args.bits + c.args.rank) in
     let told = c.in_ok-told.told in
     let tells = c.in_ok-told.ensures.tells in
-    let names = subst (λ k. TellsPairs c.args.masks.now c.args.x (places.pairs numbers k) told.numbers.items told.masks.items) (pow-add 2 c.args.bits c.args.rank) tells in
+    let names =
+    subst (λ k. TellsPairs c.args.masks.now c.args.x (places.pairs numbers k) told.numbers.items told.masks.items)
+    (pow-add 2 c.args.bits c.args.rank) tells in
     record {
-      strips = ordered_strips outer numbers (2 ^ c.args.bits) (2 ^ c.args.rank) table.strips (pow_pos c.args.bits) c.requires.own table.whole c.args.masks.now c.args.x told.numbers.items told.masks.items names
+      strips = ordered_strips outer numbers (2 ^ c.args.bits) (2 ^ c.args.rank) table.strips (pow_pos c.args.bits) c.requires.own
+          table.whole c.args.masks.now c.args.x told.numbers.items told.masks.items names
           c.in_ok-outer.outer.items c.in_ok-outer.ensures.long c.in_ok-outer.ensures.own;
-      tells = ordered_tells outer numbers (2 ^ c.args.bits) (2 ^ c.args.rank) table.strips (pow_pos c.args.bits) c.requires.own table.whole c.args.masks.now c.args.x told.numbers.items told.masks.items names
+      tells = ordered_tells outer numbers (2 ^ c.args.bits) (2 ^ c.args.rank) table.strips (pow_pos c.args.bits) c.requires.own table.whole
+          c.args.masks.now c.args.x told.numbers.items told.masks.items names
           c.in_ok-outer.outer.items c.in_ok-outer.ensures.long c.in_ok-outer.ensures.own;
       below = names_below c.args.masks.now c.args.x (places.pairs numbers step) told.numbers.items told.masks.items tells;
       few =

@@ -41,17 +41,26 @@ loop-pair-preserved c =
     let p = get_or pairs j (0, 0) in
     let n = length_names_of pairs in
     let small : j < length pairs = omega arith in
-    let low_inside = subst (λ z. z * len + len ≤ length numbers) (name_low pairs j small) (named_inside (names_of pairs) numbers len c.requires.named (j * 2) (omega arith)) in
-    let high_inside = subst (λ z. z * len + len ≤ length numbers) (name_high pairs j small) (named_inside (names_of pairs) numbers len c.requires.named (j * 2 + 1) (omega arith)) in
+    let low_inside =
+    subst (λ z. z * len + len ≤ length numbers) (name_low pairs j small)
+    (named_inside (names_of pairs) numbers len c.requires.named (j * 2) (omega arith)) in
+    let high_inside =
+    subst (λ z. z * len + len ≤ length numbers) (name_high pairs j small)
+    (named_inside (names_of pairs) numbers len c.requires.named (j * 2 + 1) (omega arith)) in
     let low_long = length_strip numbers len p.0 low_inside in
     let high_long = length_strip numbers len p.1 high_inside in
     let lower : c.strip_at.result.now ≡ strip numbers len p.0 =
     same_by_places c.strip_at.result.now (strip numbers len p.0) (c.strip_at.ensures.long ∙ s ∙ sym low_long)
-    (λ a h. let m = c.strip_at.ensures.long ∙ s in c.strip_at.ensures.entries a (omega arith) ∙ ap (λ z. get_or numbers (p.0 * z + a) 0) s ∙ sym (strip_at numbers len p.0 a (omega arith))) in
+    (λ a h. let m = c.strip_at.ensures.long ∙ s in
+    c.strip_at.ensures.entries a (omega arith) ∙ ap (λ z. get_or numbers (p.0 * z + a) 0) s
+    ∙ sym (strip_at numbers len p.0 a (omega arith))) in
     let upper : c.strip_at-in-loop-pair.result.now ≡ strip numbers len p.1 =
     same_by_places c.strip_at-in-loop-pair.result.now (strip numbers len p.1) (c.strip_at-in-loop-pair.ensures.long ∙ s ∙ sym high_long)
-    (λ a h. let m = c.strip_at-in-loop-pair.ensures.long ∙ s in c.strip_at-in-loop-pair.ensures.entries a (omega arith) ∙ ap (λ z. get_or numbers (p.1 * z + a) 0) s ∙ sym (strip_at numbers len p.1 a (omega arith))) in
-    c.in_ok-extend_from_slice-2.ensures.items ∙ (λ z. (c.in_ok-extend_from_slice.ensures.items z) ++ upper z) ∙ (λ z. (c.loop-pair.invariant z ++ lower z) ++ strip numbers len p.1)
+    (λ a h. let m = c.strip_at-in-loop-pair.ensures.long ∙ s in
+    c.strip_at-in-loop-pair.ensures.entries a (omega arith) ∙ ap (λ z. get_or numbers (p.1 * z + a) 0) s
+    ∙ sym (strip_at numbers len p.1 a (omega arith))) in
+    c.in_ok-extend_from_slice-2.ensures.items ∙ (λ z. (c.in_ok-extend_from_slice.ensures.items z) ++ upper z)
+    ∙ (λ z. (c.loop-pair.invariant z ++ lower z) ++ strip numbers len p.1)
     ∙ ap (λ us. us ++ strip numbers len p.1) (sym (unrolled_more (names_of (take j pairs)) numbers len p.0))
     ∙ sym (unrolled_more (names_of (take j pairs) ++ p.0 ∷ []) numbers len p.1)
     ∙ ap (λ us. unrolled us numbers len) (sym (names_more (take j pairs) p) ∙ ap names_of (sym (take_more pairs j (0, 0) small)))
@@ -59,4 +68,6 @@ loop-pair-preserved c =
 pub returns : goal.returns
 returns c =
     let t = c.loop-pair-test.false in
-    c.loop-pair.invariant ∙ ap (λ us. unrolled (names_of us) c.args.numbers.now (2 ^ c.args.bits)) (take_all c.loop-pair.pair-index c.args.pairs.now (omega arith))
+    c.loop-pair.invariant
+    ∙ ap (λ us. unrolled (names_of us) c.args.numbers.now (2 ^ c.args.bits))
+    (take_all c.loop-pair.pair-index c.args.pairs.now (omega arith))

@@ -14,7 +14,8 @@ pub returns-then-y-inputs-clause-rows : goal.returns-then-y-inputs-clause-rows
 returns-then-y-inputs-clause-rows t c =
     let masks = block_masks c.args.block.now in
     filled_own c.args.table.now.problem masks c.args.needed.now c.args.table.now.set c.args.y c.args.rows.now c.fill_row.new.rows
-    (λ i lt. let b = in_block c.args.block.now (slice_index masks i) (has_at masks i lt) in let e = c.if-y-inputs.true ∙ c.inputs.ensures in subst (λ k. slice_index masks i < 2 ^ k) (sym e) b.0)
+    (λ i lt. let b = in_block c.args.block.now (slice_index masks i) (has_at masks i lt) in let e = c.if-y-inputs.true ∙ c.inputs.ensures in
+    subst (λ k. slice_index masks i < 2 ^ k) (sym e) b.0)
     c.in_ok-fill_row.ensures
 
 pub returns-then-not-is_wanted-2-clause-rows : goal.returns-then-not-is_wanted-2-clause-rows
@@ -26,7 +27,8 @@ returns-then-not-is_wanted-2-clause-rows t c =
     let few = c.requires.few in
     let v = c.requires.variable in
     let s = one_shl c.args.y 16 (let z = c.if-y-inputs.false in let q = c.inputs.ensures in let w = c.requires.inputs in omega arith) in
-    filled_lower p masks c.args.needed.now set c.args.y c.args.rows.now c.walk.new.rows c.requires.set a (blank_kept p masks c.args.needed.now set (c.args.y + 1) c.args.rows.now c.walk.new.rows c.requires.blank a)
+    filled_lower p masks c.args.needed.now set c.args.y c.args.rows.now c.walk.new.rows c.requires.set a
+    (blank_kept p masks c.args.needed.now set (c.args.y + 1) c.args.rows.now c.walk.new.rows c.requires.blank a)
     (λ i lt e. c.if-not-is_wanted-2.ensures refl i lt (e ∙ sym (λ k. c.set-set.ensures k + s k))) c.requires.needed
 
 pub returns-then-not-is_wanted-2-clause-compactions : goal.returns-then-not-is_wanted-2-clause-compactions
@@ -93,7 +95,8 @@ returns-clause-rows t c =
     let set = c.args.table.now.set in
     filled_both p masks c.args.needed.now set c.args.y c.args.rows.now c.walk.new.rows c.walk-2.new.rows c.requires.set c.in_ok-before.ensures.rows
     (subst (λ k. AreFilled p masks c.args.needed.now k (c.args.y + 1) c.walk.new.rows c.walk-2.new.rows) (low_or set c.args.y c.requires.set)
-    (subst (λ (u : ClassesOf). AreFilled u.problem masks c.args.needed.now u.set (c.args.y + 1) c.walk.new.rows c.walk-2.new.rows) c.in_ok-next.ensures c.in_ok-after.ensures.rows))
+    (subst (λ (u : ClassesOf). AreFilled u.problem masks c.args.needed.now u.set (c.args.y + 1) c.walk.new.rows c.walk-2.new.rows)
+    c.in_ok-next.ensures c.in_ok-after.ensures.rows))
 
 pub returns-clause-compactions : goal.returns-clause-compactions
 returns-clause-compactions t c =

@@ -8,13 +8,15 @@ use Rattle.compaction.proofs.blocks.add_members.Goals as goal
 use Rattle.compaction.proofs.blocks.add_members.Goals.{then-low-y-eq1+in_ok-strips, else-low-y-eq1}
 
 pub add_low-requires-clause-new : goal.add_low-requires-clause-new
-add_low-requires-clause-new c = ap (λ (t : ClassesOf). has (set_of t) c.loop-y.y) c.loop-y.invariant ∙ low_new c.args.strips.problem.inputs c.args.low c.loop-y.y
+add_low-requires-clause-new c = ap (λ (t : ClassesOf). has (set_of t) c.loop-y.y) c.loop-y.invariant
+    ∙ low_new c.args.strips.problem.inputs c.args.low c.loop-y.y
 
 pub loop-y-preserved : goal.loop-y-preserved
 loop-y-preserved c =
     elim c.if-low-y-eq1.branch [
       | then-low-y-eq1+in_ok-strips w ↦
-          w.strips-is ∙ w.in_ok-strips.ensures ∙ ap (λ (t : ClassesOf). with_variable t c.loop-y.y) c.loop-y.invariant ∙ ap (classes_of c.args.strips.problem) (low_more c.args.low c.loop-y.y w.if-low-y-eq1.true)
+          w.strips-is ∙ w.in_ok-strips.ensures ∙ ap (λ (t : ClassesOf). with_variable t c.loop-y.y) c.loop-y.invariant
+          ∙ ap (classes_of c.args.strips.problem) (low_more c.args.low c.loop-y.y w.if-low-y-eq1.true)
       | else-low-y-eq1 w ↦ w.strips-is ∙ c.loop-y.invariant ∙ ap (classes_of c.args.strips.problem) (low_same c.args.low c.loop-y.y w.if-low-y-eq1.false)
     ]
 

@@ -9,5 +9,6 @@ loop-place-preserved c =
     let l = c.loop-place.invariant.long in
     record {
       long = (let a = ap length e ∙ length_push c.loop-place.rows.items _ in omega arith);
-      zeros = λ i x lt. ap (λ (rs : List (List ℕ)). slice_index (get_or rs i []) x) e ∙ blank_pushed c.loop-place.rows.items _ c.loop-place._place l (zeros_at 16) c.loop-place.invariant.zeros i x lt;
+      zeros = λ i x lt. ap (λ (rs : List (List ℕ)). slice_index (get_or rs i []) x) e
+          ∙ blank_pushed c.loop-place.rows.items _ c.loop-place._place l (zeros_at 16) c.loop-place.invariant.zeros i x lt;
     }

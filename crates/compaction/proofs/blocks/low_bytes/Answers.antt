@@ -12,6 +12,7 @@ pub loop-y-preserved : goal.loop-y-preserved
 loop-y-preserved c =
     elim c.if-low-y-eq1.branch [
       | then-low-y-eq1+in_ok-keys-2 w ↦
-          w.keys-is ∙ w.in_ok-keys-2.ensures ∙ ap (λ (t : ClassesOf). with_variable t c.loop-y.y) c.loop-y.invariant ∙ ap (classes_of c.args.beginning.now) (low_more c.args.low c.loop-y.y w.if-low-y-eq1.true)
+          w.keys-is ∙ w.in_ok-keys-2.ensures ∙ ap (λ (t : ClassesOf). with_variable t c.loop-y.y) c.loop-y.invariant
+          ∙ ap (classes_of c.args.beginning.now) (low_more c.args.low c.loop-y.y w.if-low-y-eq1.true)
       | else-low-y-eq1 w ↦ w.keys-is ∙ c.loop-y.invariant ∙ ap (classes_of c.args.beginning.now) (low_same c.args.low c.loop-y.y w.if-low-y-eq1.false)
     ]

@@ -26,7 +26,9 @@ returns-then-not-is_wanted-clause-rows c =
       are = λ i lt x few.
           let b = in_block c.args.block.now (slice_index masks i) (has_at masks i lt) in
           blank_row c.args.beginning.now (slice_index masks i) (slice_index c.args.needed.now i) x (get_or c.in_ok-rows.rows.items i [])
-          (c.if-not-is_wanted.ensures refl i (omega arith) (agree_low c.args.beginning.now.inputs c.from-low.result (slice_index masks i) c.low_variables.result (let m = c.low_variables.ensures in let q = ap (λ (t : TruthTables). t.inputs) c.problem-problem.ensures in omega arith)
+          (c.if-not-is_wanted.ensures refl i (omega arith)
+          (agree_low c.args.beginning.now.inputs c.from-low.result (slice_index masks i) c.low_variables.result
+          (let m = c.low_variables.ensures in let q = ap (λ (t : TruthTables). t.inputs) c.problem-problem.ensures in omega arith)
           (subst (λ m. slice_index masks i < 2 ^ m) c.requires.inputs b.0) (b.1 ∙ sym (c.from-low.ensures ∙ c.low.ensures.value))))
           (c.in_ok-rows.ensures.zeros i x (omega arith));
     }
@@ -40,12 +42,17 @@ returns-clause-rows c =
     let l = c.len.ensures.value in
     let k = c.in_ok-rows.ensures.long in
     let n : c.in_ok-rows.rows.len ≡ length c.in_ok-rows.rows.items = omega arith in
-    let filled = subst (λ (t : ClassesOf). AreFilled t.problem masks c.args.needed.now t.set c.low_variables-2.result c.deref_mut.result.now new) c.in_ok-table.ensures c.in_ok-walked.ensures.rows in
-    subst (λ (rs : List (List ℕ)). AreRows c.args.beginning.now masks c.args.needed.now rs) (sym (rows_back new c.in_ok-rows.rows.items c.in_ok-rows.rows.len (omega arith)))
+    let filled =
+    subst (λ (t : ClassesOf). AreFilled t.problem masks c.args.needed.now t.set c.low_variables-2.result c.deref_mut.result.now new)
+    c.in_ok-table.ensures c.in_ok-walked.ensures.rows in
+    subst (λ (rs : List (List ℕ)). AreRows c.args.beginning.now masks c.args.needed.now rs)
+    (sym (rows_back new c.in_ok-rows.rows.items c.in_ok-rows.rows.len (omega arith)))
     (record {
       each = omega arith;
       are = λ i lt.
           let b = in_block c.args.block.now (slice_index masks i) (has_at masks i lt) in
-          (filled i lt).0 (agree_low c.args.beginning.now.inputs c.from-low.result (slice_index masks i) c.low_variables-2.result (let m = c.low_variables-2.ensures in let q = ap (λ (t : TruthTables). t.inputs) c.problem-problem.ensures in omega arith)
+          (filled i lt).0
+          (agree_low c.args.beginning.now.inputs c.from-low.result (slice_index masks i) c.low_variables-2.result
+          (let m = c.low_variables-2.ensures in let q = ap (λ (t : TruthTables). t.inputs) c.problem-problem.ensures in omega arith)
           (subst (λ m. slice_index masks i < 2 ^ m) c.requires.inputs b.0) (b.1 ∙ sym (c.from-low.ensures ∙ c.low.ensures.value)));
     })

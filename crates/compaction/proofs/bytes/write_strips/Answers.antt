@@ -9,7 +9,8 @@ use Rattle.compaction.proofs.bytes.write_strips.Goals as goal
 pub loop-a-init : goal.loop-a-init
 loop-a-init c = record {
   long = c.loop-i.invariant.long;
-  done = subst (λ z. take z c.loop-i.out ≡ take z (unrolled c.args.names.now c.args.numbers.now c.args.strip)) (let e : c.loop-i.i * c.args.strip ≡ c.loop-i.i * c.args.strip + 0 = omega arith in e) c.loop-i.invariant.done;
+  done = subst (λ z. take z c.loop-i.out ≡ take z (unrolled c.args.names.now c.args.numbers.now c.args.strip))
+      (let e : c.loop-i.i * c.args.strip ≡ c.loop-i.i * c.args.strip + 0 = omega arith in e) c.loop-i.invariant.done;
 }
 
 pub loop-a-preserved : goal.loop-a-preserved
@@ -29,7 +30,8 @@ loop-a-preserved c =
     record {
       long = length-set out _ _ ∙ o;
       done = subst (λ z. take z (set out j (get_or numbers (get_or names c.loop-i.i 0 * len + c.loop-a.a) 0)) ≡ take z all) next
-          (take_more_set out j (get_or numbers (get_or names c.loop-i.i 0 * len + c.loop-a.a) 0) (omega arith) ∙ (λ t. c.loop-a.invariant.done t ++ own t ∷ []) ∙ sym (take_more all j 0 (omega arith)));
+          (take_more_set out j (get_or numbers (get_or names c.loop-i.i 0 * len + c.loop-a.a) 0) (omega arith)
+          ∙ (λ t. c.loop-a.invariant.done t ++ own t ∷ []) ∙ sym (take_more all j 0 (omega arith)));
     }
 
 pub loop-i-preserved : goal.loop-i-preserved
@@ -38,7 +40,8 @@ loop-i-preserved c =
     let all : c.loop-a.a ≡ c.args.strip = (let u = c.loop-a.auto.a-end in omega arith) in
     record {
       long = c.loop-a.invariant.long;
-      done = subst (λ z. take z c.loop-a.out ≡ take z (unrolled c.args.names.now c.args.numbers.now c.args.strip)) (ap (λ z. c.loop-i.i * c.args.strip + z) all ∙ block_next c.args.strip c.loop-i.i) c.loop-a.invariant.done;
+      done = subst (λ z. take z c.loop-a.out ≡ take z (unrolled c.args.names.now c.args.numbers.now c.args.strip))
+          (ap (λ z. c.loop-i.i * c.args.strip + z) all ∙ block_next c.args.strip c.loop-i.i) c.loop-a.invariant.done;
     }
 
 pub returns : goal.returns
@@ -50,4 +53,5 @@ returns c =
     let all : c.loop-i.i ≡ length names = (let u = c.loop-i.auto.i-end in omega arith) in
     let e = ap (λ z. z * c.args.strip) all in
     let l = length_named names numbers c.args.strip c.requires.named in
-    sym (take_all (c.loop-i.i * c.args.strip) c.loop-i.out (omega arith)) ∙ c.loop-i.invariant.done ∙ take_all (c.loop-i.i * c.args.strip) (unrolled names numbers c.args.strip) (omega arith)
+    sym (take_all (c.loop-i.i * c.args.strip) c.loop-i.out (omega arith)) ∙ c.loop-i.invariant.done
+    ∙ take_all (c.loop-i.i * c.args.strip) (unrolled names numbers c.args.strip) (omega arith)

@@ -20,9 +20,14 @@ loop-x-preserved c =
           let set_bit = sym (shr_and_one c.args.wanted x) ∙ w.if-wanted-x-eq1.true in
           subst (λ (r : List ℕ). IsRowBelow f r (x + 1)) (sym w.row-is)
           (row_written f c.loop-x.row x w.count_with.result (omega arith)
-          (w.count_with.ensures ∙ ap (λ b. cond b (length (filter (λ m. eqb (bit_at m x) 1) c.args.masks.now)) 0) (sym (eq-eqb (bit_at c.args.wanted x) 1 set_bit))) c.loop-x.invariant)
+          (w.count_with.ensures
+          ∙ ap (λ b. cond b (length (filter (λ m. eqb (bit_at m x) 1) c.args.masks.now)) 0)
+          (sym (eq-eqb (bit_at c.args.wanted x) 1 set_bit)))
+          c.loop-x.invariant)
       | else-wanted-x-eq1 w ↦
           subst (λ (r : List ℕ). IsRowBelow f r (x + 1)) (sym w.row-is)
           (row_kept f c.loop-x.row x
-          (ap (λ b. cond b (length (filter (λ m. eqb (bit_at m x) 1) c.args.masks.now)) 0) (sym (ne_eqb (bit_at c.args.wanted x) 1 (λ e. w.if-wanted-x-eq1.false (shr_and_one c.args.wanted x ∙ e))))) c.loop-x.invariant)
+          (ap (λ b. cond b (length (filter (λ m. eqb (bit_at m x) 1) c.args.masks.now)) 0)
+          (sym (ne_eqb (bit_at c.args.wanted x) 1 (λ e. w.if-wanted-x-eq1.false (shr_and_one c.args.wanted x ∙ e)))))
+          c.loop-x.invariant)
     ]

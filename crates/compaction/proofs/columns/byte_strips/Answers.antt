@@ -20,9 +20,12 @@ bytes_of-requires c =
     omega arith
 
 -- the numbers are those of the kept runs
-numbers_are : (c : goal.After-drop-kept-2) → unrolled c.in_ok-bytes.bytes.items c.in_ok-rows.rows.items 8 ≡ packed_numbers (value_at c.args.problem.now 0 0) c.in_ok-outer.field-0.kept.items (length c.in_ok-outer.field-0.kept.items * 64)
+numbers_are : (c : goal.After-drop-kept-2) →
+    unrolled c.in_ok-bytes.bytes.items c.in_ok-rows.rows.items 8 ≡ packed_numbers (value_at c.args.problem.now 0 0)
+    c.in_ok-outer.field-0.kept.items (length c.in_ok-outer.field-0.kept.items * 64)
 numbers_are c =
-    c.in_ok-bytes.ensures.numbers (value_at c.args.problem.now 0 0) c.in_ok-rows.rows.items (λ byte h. c.in_ok-rows.ensures.rows byte h ∙ ap (λ b. low_numbers b byte 8) c.value.ensures)
+    c.in_ok-bytes.ensures.numbers (value_at c.args.problem.now 0 0) c.in_ok-rows.rows.items
+    (λ byte h. c.in_ok-rows.ensures.rows byte h ∙ ap (λ b. low_numbers b byte 8) c.value.ensures)
     ∙ ap (λ us. packed_numbers (value_at c.args.problem.now 0 0) us (length us * 64)) c.deref.ensures.value
 
 pub returns-clause-named : goal.returns-clause-named
@@ -39,6 +42,8 @@ returns-clause-values c =
     let k = c.in_ok-outer.ensures.keeps in
     record {
       strips = kept_strips (values_of p) first runs.outer.items kept numbers (length runs.next.items) (numbers_are c) w k;
-      values = kept_values (values_of p) first runs.outer.items kept numbers (length runs.next.items) (numbers_are c) w k (c.in_ok-outer.ensures.long ∙ sym (length_values p));
-      few = (let l = ap length (numbers_are c) ∙ length_packed first kept (length kept * 64) in let f = c.in_ok-outer.ensures.few in let m = k.few in omega arith);
+      values = kept_values (values_of p) first runs.outer.items kept numbers (length runs.next.items) (numbers_are c) w k
+          (c.in_ok-outer.ensures.long ∙ sym (length_values p));
+      few = (let l = ap length (numbers_are c) ∙ length_packed first kept (length kept * 64) in let f = c.in_ok-outer.ensures.few in
+          let m = k.few in omega arith);
     }

@@ -15,7 +15,8 @@ pub loop-word-preserved : goal.loop-word-preserved
 loop-word-preserved c = record {
   small = c.in_ok-push_bytes.ensures.small;
   numbers = λ first rows h.
-      c.in_ok-push_bytes.ensures.numbers first rows h ∙ (λ i. c.loop-word.invariant.numbers first rows h i ++ low_numbers first (get_or c.args.words.now c.loop-word.word-index 0) 64)
+      c.in_ok-push_bytes.ensures.numbers first rows h
+      ∙ (λ i. c.loop-word.invariant.numbers first rows h i ++ low_numbers first (get_or c.args.words.now c.loop-word.word-index 0) 64)
       ∙ packed_more first c.args.words.now c.loop-word.word-index;
 }
 

@@ -62,7 +62,8 @@ loop-output-preserved c =
     let parts = words_parted n c.requires in
     let w = c.words.ensures.long ∙ parts.0 in
     let s = suc-mul output (2 ^ (n - 8)) in
-    let a : (output + 1) * 2 ^ (n - 8) ≡ output * 2 ^ (n - 8) + 2 ^ (n - 8) = ap (λ k. k * 2 ^ (n - 8)) (let e : output + 1 ≡ suc output = omega arith in e) ∙ s in
+    let a : (output + 1) * 2 ^ (n - 8) ≡ output * 2 ^ (n - 8) + 2 ^ (n - 8) =
+    ap (λ k. k * 2 ^ (n - 8)) (let e : output + 1 ≡ suc output = omega arith in e) ∙ s in
     let l = c.in_ok-push_runs.ensures.long in
     let r = c.in_ok-push_runs.ensures.room in
     let li = c.loop-output.invariant.long in
@@ -88,7 +89,8 @@ returns-clause-long c =
     let parts = words_parted n c.requires in
     let v = c.outputs-output-end.ensures.value in
     let last : c.loop-output.output ≡ outputs_of p = (let t = c.loop-output-test.false in let u = c.loop-output.auto.output-end in omega arith) in
-    ap (λ k. k * 256) (c.loop-output.invariant.long ∙ ap (λ k. k * 2 ^ (n - 8)) last) ∙ mul_assoc (outputs_of p) (2 ^ (n - 8)) 256 ∙ ap (λ m. outputs_of p * m) (sym parts.1)
+    ap (λ k. k * 256) (c.loop-output.invariant.long ∙ ap (λ k. k * 2 ^ (n - 8)) last) ∙ mul_assoc (outputs_of p) (2 ^ (n - 8)) 256
+    ∙ ap (λ m. outputs_of p * m) (sym parts.1)
 
 pub returns-clause-few : goal.returns-clause-few
 returns-clause-few c =

@@ -11,7 +11,9 @@ use Rattle.compaction.proofs.columns.push_bytes.Goals as goal
 pub loop-place-init : goal.loop-place-init
 loop-place-init c = record {
   small = c.requires;
-  numbers = λ first rows h. sym (ap (λ us. unrolled c.args.bytes.now.items rows 8 ++ us) (low_none first c.args.word) ∙ append-nil (unrolled c.args.bytes.now.items rows 8));
+  numbers = λ first rows h.
+      sym (ap (λ us. unrolled c.args.bytes.now.items rows 8 ++ us) (low_none first c.args.word)
+      ∙ append-nil (unrolled c.args.bytes.now.items rows 8));
 }
 
 pub loop-place-preserved : goal.loop-place-preserved
@@ -23,13 +25,16 @@ loop-place-preserved c =
       small = λ i h.
           let l = ap length items ∙ length_push c.loop-place.bytes.items byte in
           elim (cases_lt i (length c.loop-place.bytes.items)) [
-            | inl before ↦ let e = ap (λ us. get_or us i 0) items ∙ get_or_append_left c.loop-place.bytes.items (byte ∷ []) 0 i before in let o = c.loop-place.invariant.small i before in omega arith
+            | inl before ↦ let e = ap (λ us. get_or us i 0) items ∙ get_or_append_left c.loop-place.bytes.items (byte ∷ []) 0 i before in
+                let o = c.loop-place.invariant.small i before in omega arith
             | inr here ↦ let e = ap (λ us. get_or us i 0) items ∙ get_or_push c.loop-place.bytes.items byte 0 i (omega arith) in omega arith
           ];
       numbers = λ first rows h.
           let old = unrolled c.args.bytes.now.items rows 8 in
-          ap (λ us. unrolled us rows 8) items ∙ unrolled_more c.loop-place.bytes.items rows 8 byte ∙ (λ i. c.loop-place.invariant.numbers first rows h i ++ h byte small i)
-          ∙ append_assoc old (low_numbers first c.args.word (c.loop-place.place * 8)) (low_numbers first byte 8) ∙ ap (λ us. old ++ us) (low_more first c.args.word c.loop-place.place);
+          ap (λ us. unrolled us rows 8) items ∙ unrolled_more c.loop-place.bytes.items rows 8 byte
+          ∙ (λ i. c.loop-place.invariant.numbers first rows h i ++ h byte small i)
+          ∙ append_assoc old (low_numbers first c.args.word (c.loop-place.place * 8)) (low_numbers first byte 8)
+          ∙ ap (λ us. old ++ us) (low_more first c.args.word c.loop-place.place);
     }
 
 pub returns-clause-small : goal.returns-clause-small

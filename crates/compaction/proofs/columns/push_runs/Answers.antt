@@ -15,5 +15,7 @@ loop-run-preserved c =
       room = omega (arith, c.loop-run.invariant.room);
       keeps = λ values s told. c.in_ok-push_run.ensures.keeps values (c.loop-run.invariant.keeps values s told)
           (λ b h. run_bits words run _ b (omega arith) h ∙ told (run * 256 + b) (let t = c.loop-run-test.true in omega arith)
-          ∙ ap (λ k. get_or values k false) (let e : length c.args.columns.now.outer.items * 256 + (run * 256 + b) ≡ length c.loop-run.columns.outer.items * 256 + b = omega arith in e));
+          ∙ ap (λ k. get_or values k false)
+          (let e : length c.args.columns.now.outer.items * 256 + (run * 256 + b) ≡ length c.loop-run.columns.outer.items * 256 + b =
+          omega arith in e));
     }

@@ -14,18 +14,23 @@ runs_are c =
     let m = c.in_ok-numbers.ensures.outputs in
     let f : c.from.result ≡ outputs_of p = c.from.ensures ∙ c.outputs.ensures.value in
     let s = shl_exact {a = outputs_of p} 5 (p.inputs - c.args.low) 32 (omega arith) (omega arith) in
-    let e : (c.from.result * 2 ^ (c.inputs.result - c.args.low)) % 2 ^ 32 ≡ outputs_of p * 2 ^ (p.inputs - c.args.low) = (λ k. (f k * 2 ^ (c.inputs.ensures.value k - c.args.low)) % 2 ^ 32) ∙ s in
+    let e : (c.from.result * 2 ^ (c.inputs.result - c.args.low)) % 2 ^ 32 ≡ outputs_of p * 2 ^ (p.inputs - c.args.low) =
+    (λ k. (f k * 2 ^ (c.inputs.ensures.value k - c.args.low)) % 2 ^ 32) ∙ s in
     let t = c.loop-run-test.false in
     let u = c.loop-run.auto.run-end in
     c.loop-run.invariant.long ∙ omega arith
 
 whole : (c : goal.After-loop-run) → length c.in_ok-numbers.numbers.items ≡ length c.loop-run.outer.items * 2 ^ c.args.low
-whole c = ap length c.in_ok-numbers.ensures.numbers ∙ length_numbers c.args.problem.now (number_of (value_at c.args.problem.now 0 0)) c.args.low (length c.loop-run.outer.items) c.requires.inside (runs_are c)
+whole c = ap length c.in_ok-numbers.ensures.numbers
+    ∙ length_numbers c.args.problem.now (number_of (value_at c.args.problem.now 0 0)) c.args.low (length c.loop-run.outer.items)
+    c.requires.inside (runs_are c)
 
 pub returns : goal.returns
 returns c = record {
   strips = whole_are c.loop-run.outer.items c.in_ok-numbers.numbers.items (2 ^ c.args.low) (whole c) c.loop-run.invariant.places;
-  values = whole_values c.loop-run.outer.items c.in_ok-numbers.numbers.items (2 ^ c.args.low) (pow_pos c.args.low) (whole c) c.loop-run.invariant.places ∙ c.in_ok-numbers.ensures.numbers;
+  values = whole_values c.loop-run.outer.items c.in_ok-numbers.numbers.items (2 ^ c.args.low) (pow_pos c.args.low) (whole c)
+      c.loop-run.invariant.places
+      ∙ c.in_ok-numbers.ensures.numbers;
   few =
       let l = ap length c.in_ok-numbers.ensures.numbers in
       let f = few_numbers c.args.problem.now (number_of (value_at c.args.problem.now 0 0)) c.in_ok-numbers.ensures.inputs c.in_ok-numbers.ensures.outputs in

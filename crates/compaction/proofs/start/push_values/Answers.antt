@@ -30,4 +30,6 @@ unfolding row
 returns c =
     let s = one_shl c.args.inputs 64 (let f = c.requires.few in omega arith) in
     let last : c.loop-point.point ≡ 2 ^ c.args.inputs = omega arith in
-    c.loop-point.invariant ∙ ap (λ k. c.args.numbers.now.items ++ map (number_of c.args.first) (map (λ j. get_or (table_in c.args.inputs c.args.words.now) j false) (range_with_len 0 k))) last
+    c.loop-point.invariant
+    ∙ ap (λ k. c.args.numbers.now.items
+    ++ map (number_of c.args.first) (map (λ j. get_or (table_in c.args.inputs c.args.words.now) j false) (range_with_len 0 k))) last

@@ -5,4 +5,6 @@ use Rattle.class_laws.specs.Values.{number_of}
 use Rattle.compaction.proofs.start.push_values.Given as goal
 
 abbrev pub invariant-loop-point : goal.invariant-loop-point
-invariant-loop-point l = l.numbers.items ≡ l.initial.numbers.items ++ map (number_of l.first) (map (λ j. get_or (table_in l.inputs l.words) j false) (range_with_len 0 l.point))
+invariant-loop-point l =
+    l.numbers.items ≡ l.initial.numbers.items
+    ++ map (number_of l.first) (map (λ j. get_or (table_in l.inputs l.words) j false) (range_with_len 0 l.point))

@@ -18,8 +18,12 @@ loop-x-preserved c =
       | then-wanted-x-eq1 w ↦
           let set_bit = sym (shr_and_one c.args.wanted x) ∙ w.if-wanted-x-eq1.true in
           subst (λ (r : List ℕ). IsRowBelow f r (x + 1)) (sym w.row-is)
-          (row_written f c.loop-x.row x c.args.width (omega arith) (ap (λ b. cond b c.args.width 0) (sym (eq-eqb (bit_at c.args.wanted x) 1 set_bit))) c.loop-x.invariant)
+          (row_written f c.loop-x.row x c.args.width (omega arith)
+          (ap (λ b. cond b c.args.width 0) (sym (eq-eqb (bit_at c.args.wanted x) 1 set_bit))) c.loop-x.invariant)
       | else-wanted-x-eq1 w ↦
           subst (λ (r : List ℕ). IsRowBelow f r (x + 1)) (sym w.row-is)
-          (row_kept f c.loop-x.row x (ap (λ b. cond b c.args.width 0) (sym (ne_eqb (bit_at c.args.wanted x) 1 (λ e. w.if-wanted-x-eq1.false (shr_and_one c.args.wanted x ∙ e))))) c.loop-x.invariant)
+          (row_kept f c.loop-x.row x
+          (ap (λ b. cond b c.args.width 0)
+          (sym (ne_eqb (bit_at c.args.wanted x) 1 (λ e. w.if-wanted-x-eq1.false (shr_and_one c.args.wanted x ∙ e)))))
+          c.loop-x.invariant)
     ]

@@ -17,10 +17,17 @@ loop-k-preserved c =
     elim c.if-occurs.branch [
       | then-occurs+in_ok-push w ↦
           ap (λ (z : Vec ℕ Global). z.items) w.found-is ∙ w.in_ok-push.ensures.items ∙ ap (λ us. us ++ get_or masks k 0 ∷ []) c.loop-k.invariant
-          ∙ sym (n ∙ ap (λ b. map (λ j. get_or masks j 0) (filter (λ j. get_or used j false) (range_with_len 0 k)) ++ cond b (get_or masks k 0 ∷ []) []) w.if-occurs.true)
+          ∙ sym (n ∙ ap
+          (λ b. map (λ j. get_or masks j 0) (filter (λ j. get_or used j false) (range_with_len 0 k))
+          ++ cond b (get_or masks k 0 ∷ []) [])
+          w.if-occurs.true)
       | else-occurs w ↦
           ap (λ (z : Vec ℕ Global). z.items) w.found-is ∙ c.loop-k.invariant
-          ∙ sym (n ∙ ap (λ b. map (λ j. get_or masks j 0) (filter (λ j. get_or used j false) (range_with_len 0 k)) ++ cond b (get_or masks k 0 ∷ []) []) w.if-occurs.false ∙ append-nil _)
+          ∙ sym (n ∙ ap
+          (λ b. map (λ j. get_or masks j 0) (filter (λ j. get_or used j false) (range_with_len 0 k))
+          ++ cond b (get_or masks k 0 ∷ []) [])
+          w.if-occurs.false
+          ∙ append-nil _)
     ]
 
 pub returns : goal.returns

@@ -9,7 +9,9 @@ use Rattle.dd_builder.proofs.builders.cover_store.Goals as goal
 
 pub new-requires-clause-terms : goal.new-requires-clause-terms
 new-requires-clause-terms c =
-    subst (λ (t : TruthTables). (j : ℕ) → j < outputs_of t → SameFunction t.inputs (product_function (products_of t c.terms.result.now) j) (output_at t j)) (sym c.problem.ensures)
+    subst (λ (t : TruthTables). (j : ℕ) → j < outputs_of t →
+    SameFunction t.inputs (product_function (products_of t c.terms.result.now) j) (output_at t j))
+    (sym c.problem.ensures)
     (terms_give c.truth_tables_keep_functions.ensures.same c.args.cover.now c.args.tables.now c.terms.result.now c.requires.tables c.terms.ensures.products)
 
 pub returns-clause-cover : goal.returns-clause-cover

@@ -15,7 +15,9 @@ loop-number-init c = let small = c.requires.share in record {
   store = c.requires.session;
   follows = stays c.args.session.now;
   place = omega arith;
-  means = constant_means c.args.session.now false (product_function (share c.args.share (take c.args.share (products_of c.args.store.now.plan.problem.value c.args.terms.now))) c.args.output)
+  means = constant_means c.args.session.now false
+      (product_function (share c.args.share (take c.args.share (products_of c.args.store.now.plan.problem.value c.args.terms.now)))
+      c.args.output)
       (λ p l. share_start c.args.share c.args.output (products_of c.args.store.now.plan.problem.value c.args.terms.now) p small);
 }
 
@@ -25,11 +27,16 @@ loop-number-preserved c =
     let ps = products_of c.args.store.now.plan.problem.value c.args.terms.now in
     let t = c.args.store.now.plan.problem.value in
     let size = length-map c.args.terms.now (product_of t.inputs (outputs_of t)) in let low = c.loop-number-test.true in
-    let at = ap (product_of t.inputs (outputs_of t)) c.index-terms-number.is ∙ sym (get_or-map (product_of t.inputs (outputs_of t)) c.args.terms.now c.loop-number.number c.index-terms-number.result none low) in
+    let at = ap (product_of t.inputs (outputs_of t)) c.index-terms-number.is
+    ∙ sym (get_or-map (product_of t.inputs (outputs_of t)) c.args.terms.now c.loop-number.number c.index-terms-number.result
+    none low) in
     record {
       store = c.or_term.ensures.follows.store ∙ i.store;
       follows = follows_trans _ _ _ i.follows c.or_term.ensures.follows;
       place = omega arith;
-      means = means_same c.or_term.new.session c.in_ok-id.id _ (product_function (share c.args.share (take (c.loop-number.number + 64) ps)) c.args.output) c.in_ok-id.ensures.function
-          (λ p l. share_next c.args.share c.args.output c.loop-number.number ps (product_in c.args.store.now.plan c.index-terms-number.result) _ p place (omega arith) at (means_at c.or_term.new.session c.loop-number.id _ p (c.or_term.ensures.follows.means c.loop-number.id _ i.means) l));
+      means = means_same c.or_term.new.session c.in_ok-id.id _
+          (product_function (share c.args.share (take (c.loop-number.number + 64) ps)) c.args.output) c.in_ok-id.ensures.function
+          (λ p l. share_next c.args.share c.args.output c.loop-number.number ps
+          (product_in c.args.store.now.plan c.index-terms-number.result) _ p place (omega arith) at
+          (means_at c.or_term.new.session c.loop-number.id _ p (c.or_term.ensures.follows.means c.loop-number.id _ i.means) l));
     }

@@ -28,8 +28,12 @@ loop-level-preserved c =
       follows = follows_trans _ _ _ i.follows c.literal_and.ensures.made.follows;
       inside = omega arith;
       deep = c.in_ok-id.ensures.level;
-      means = literals_more c.loop-level.session c.literal_and.new.session (order_of c.args.store.now.plan) c.args.term (c.loop-level.level - 1) (variable_at c.args.store.now.plan (c.loop-level.level - 1)) c.loop-level.id c.in_ok-id.id (omega arith) refl i.means.known
-          (subst (λ k. Means c.loop-level.session c.loop-level.id (literals_from (order_of c.args.store.now.plan) c.args.term k)) up i.means) c.literal_and.ensures.made.follows c.in_ok-id.ensures.made.function;
+      means = literals_more c.loop-level.session c.literal_and.new.session (order_of c.args.store.now.plan) c.args.term
+          (c.loop-level.level - 1) (variable_at c.args.store.now.plan (c.loop-level.level - 1)) c.loop-level.id c.in_ok-id.id (omega arith)
+          refl i.means.known
+          (subst (λ k. Means c.loop-level.session c.loop-level.id (literals_from (order_of c.args.store.now.plan) c.args.term k)) up
+          i.means)
+          c.literal_and.ensures.made.follows c.in_ok-id.ensures.made.function;
     }
 
 pub returns : goal.returns
@@ -38,6 +42,7 @@ returns c =
     record {
       follows = c.loop-level.invariant.follows;
       full = tt;
-      function = term_means c.loop-level.session (order_of c.args.store.now.plan) c.args.term c.args.store.now.plan.problem.value.inputs (outputs_of c.args.store.now.plan.problem.value) c.loop-level.level c.loop-level.id
+      function = term_means c.loop-level.session (order_of c.args.store.now.plan) c.args.term c.args.store.now.plan.problem.value.inputs
+          (outputs_of c.args.store.now.plan.problem.value) c.loop-level.level c.loop-level.id
           (subst (λ n. IsOrder n (order_of c.args.store.now.plan)) (sym plan.inputs) plan.order.order) (omega arith) c.loop-level.invariant.means;
     }

@@ -8,7 +8,8 @@ use Rattle.dd_builder.proofs.operations.+apply_from.Goals as goal
 pub returns-in-Some-clause-combined : goal.returns-in-Some-clause-combined
 returns-in-Some-clause-combined t c =
     let same = ap (λ (z : StoreId). levels_of z.plan) c.requires.session in
-    settled_combined c.args.session.now c.args.from c.args.operation c.args.first c.args.second c.in-Some.id c.requires.first c.requires.second (omega arith) c.in-Some.ensures
+    settled_combined c.args.session.now c.args.from c.args.operation c.args.first c.args.second c.in-Some.id c.requires.first
+    c.requires.second (omega arith) c.in-Some.ensures
 
 pub apply_from-requires : goal.apply_from-requires
 apply_from-requires t c =
@@ -32,7 +33,8 @@ apply_from-requires t c =
     )
 
 pub returns-in_err-low-clause-follows : goal.returns-in_err-low-clause-follows
-returns-in_err-low-clause-follows t c = follows_trans _ _ _ c.recall.ensures.step.follows (follows_trans _ _ _ c.take_apart-cut.ensures.follows c.apply_from.ensures.follows)
+returns-in_err-low-clause-follows t c =
+    follows_trans _ _ _ c.recall.ensures.step.follows (follows_trans _ _ _ c.take_apart-cut.ensures.follows c.apply_from.ensures.follows)
 
 pub apply_from-requires-2 : goal.apply_from-requires-2
 apply_from-requires-2 t c =
@@ -57,7 +59,9 @@ apply_from-requires-2 t c =
 
 pub returns-in_err-high-clause-follows : goal.returns-in_err-high-clause-follows
 returns-in_err-high-clause-follows t c =
-    follows_trans _ _ _ c.recall.ensures.step.follows (follows_trans _ _ _ c.take_apart-cut.ensures.follows (follows_trans _ _ _ c.apply_from.ensures.follows c.apply_from-2.ensures.follows))
+    follows_trans _ _ _ c.recall.ensures.step.follows
+    (follows_trans _ _ _ c.take_apart-cut.ensures.follows
+    (follows_trans _ _ _ c.apply_from.ensures.follows c.apply_from-2.ensures.follows))
 
 pub make-requires-clause-low : goal.make-requires-clause-low
 make-requires-clause-low t c = known_below_follows _ _ _ _ c.apply_from-2.ensures.follows (combined_below _ _ _ _ _ _ c.in_ok-low.ensures.combined)
@@ -75,14 +79,18 @@ remember-requires-clause-known t c =
 
 pub remember-requires-clause-function : goal.remember-requires-clause-function
 remember-requires-clause-function t c =
-    (made_combined c.args.store.now c.take_apart-cut.new.session c.apply_from.new.session c.apply_from-2.new.session c.make.new.session 0 c.take_apart-cut.result.level c.args.operation c.args.first c.args.second _ _ _ _ _ _ c.in_ok-id.id
-    (c.take_apart-cut.ensures.follows.store ∙ (c.recall.ensures.step.follows.store ∙ c.requires.session)) c.take_apart-cut.ensures.first c.take_apart-cut.ensures.second
-    c.apply_from.ensures.follows c.in_ok-low.ensures.combined c.apply_from-2.ensures.follows c.in_ok-high.ensures.combined c.make.ensures.follows c.in_ok-id.ensures.function (omega arith) c.in_ok-id.ensures.level).means
+    (made_combined c.args.store.now c.take_apart-cut.new.session c.apply_from.new.session c.apply_from-2.new.session c.make.new.session 0
+    c.take_apart-cut.result.level c.args.operation c.args.first c.args.second _ _ _ _ _ _ c.in_ok-id.id
+    (c.take_apart-cut.ensures.follows.store ∙ (c.recall.ensures.step.follows.store ∙ c.requires.session)) c.take_apart-cut.ensures.first
+    c.take_apart-cut.ensures.second
+    c.apply_from.ensures.follows c.in_ok-low.ensures.combined c.apply_from-2.ensures.follows c.in_ok-high.ensures.combined
+    c.make.ensures.follows c.in_ok-id.ensures.function (omega arith) c.in_ok-id.ensures.level).means
 
 pub returns-clause-follows : goal.returns-clause-follows
 returns-clause-follows t c =
     follows_trans _ _ _ c.recall.ensures.step.follows (follows_trans _ _ _ c.take_apart-cut.ensures.follows
-    (follows_trans _ _ _ c.apply_from.ensures.follows (follows_trans _ _ _ c.apply_from-2.ensures.follows (follows_trans _ _ _ c.make.ensures.follows c.remember.ensures.step.follows))))
+    (follows_trans _ _ _ c.apply_from.ensures.follows
+    (follows_trans _ _ _ c.apply_from-2.ensures.follows (follows_trans _ _ _ c.make.ensures.follows c.remember.ensures.step.follows))))
 
 pub returns-clause-combined : goal.returns-clause-combined
 returns-clause-combined t c =
@@ -92,7 +100,11 @@ returns-clause-combined t c =
     let a = r.depths c.args.first c.requires.first.known in let b = r.depths c.args.second c.requires.second.known in
     let first = c.requires.first.level in let second = c.requires.second.level in
     let deep : c.args.from ≤ c.take_apart-cut.result.level = c.take_apart-cut.ensures.level c.args.from (omega arith) (omega arith) in
-    combined_follows c.make.new.session c.remember.new.session c.args.from c.args.operation c.args.first c.args.second c.in_ok-id.id (f.knows c.args.first c.requires.first.known) (f.knows c.args.second c.requires.second.known) c.remember.ensures.step.follows
-    (made_combined c.args.store.now c.take_apart-cut.new.session c.apply_from.new.session c.apply_from-2.new.session c.make.new.session c.args.from c.take_apart-cut.result.level c.args.operation c.args.first c.args.second _ _ _ _ _ _ c.in_ok-id.id
-    (c.take_apart-cut.ensures.follows.store ∙ (c.recall.ensures.step.follows.store ∙ c.requires.session)) c.take_apart-cut.ensures.first c.take_apart-cut.ensures.second
-    c.apply_from.ensures.follows c.in_ok-low.ensures.combined c.apply_from-2.ensures.follows c.in_ok-high.ensures.combined c.make.ensures.follows c.in_ok-id.ensures.function deep c.in_ok-id.ensures.level)
+    combined_follows c.make.new.session c.remember.new.session c.args.from c.args.operation c.args.first c.args.second c.in_ok-id.id
+    (f.knows c.args.first c.requires.first.known) (f.knows c.args.second c.requires.second.known) c.remember.ensures.step.follows
+    (made_combined c.args.store.now c.take_apart-cut.new.session c.apply_from.new.session c.apply_from-2.new.session c.make.new.session
+    c.args.from c.take_apart-cut.result.level c.args.operation c.args.first c.args.second _ _ _ _ _ _ c.in_ok-id.id
+    (c.take_apart-cut.ensures.follows.store ∙ (c.recall.ensures.step.follows.store ∙ c.requires.session)) c.take_apart-cut.ensures.first
+    c.take_apart-cut.ensures.second
+    c.apply_from.ensures.follows c.in_ok-low.ensures.combined c.apply_from-2.ensures.follows c.in_ok-high.ensures.combined
+    c.make.ensures.follows c.in_ok-id.ensures.function deep c.in_ok-id.ensures.level)

@@ -14,6 +14,7 @@ returns-in_default-clause-cut c =
 pub returns-in_default-2-clause-cut : goal.returns-in_default-2-clause-cut
 returns-in_default-2-clause-cut c =
     let f = c.node.ensures.follows in let low = c.in_default.ensures.terminal.0 refl in
-    let d = terminal_depth c.args.session.now c.args.id low in let d' = f.depths c.args.id c.requires.known in let same = ap (λ (z : StoreId). levels_of z.plan) c.requires.session in
+    let d = terminal_depth c.args.session.now c.args.id low in let d' = f.depths c.args.id c.requires.known in
+    let same = ap (λ (z : StoreId). levels_of z.plan) c.requires.session in
     let less : c.args.level < depth_in c.node.new.session c.args.id = omega arith in
     same_cut c.node.new.session c.args.level c.args.id (f.knows c.args.id c.requires.known) less

@@ -16,7 +16,8 @@ returns-then-level-tops-clause-made t c =
     record {
       follows = c.part_id.ensures.follows;
       function = subst (Means c.part_id.new.session c.part_id.result)
-          (sym (restriction_at c.args.store.now.plan c.args.level _ c.args.output c.args.path c.order.ensures.plan c.requires.kind c.requires.output top (omega arith) c.ranges.output.fits c.requires.path
+          (sym (restriction_at c.args.store.now.plan c.args.level _ c.args.output c.args.path c.order.ensures.plan c.requires.kind
+          c.requires.output top (omega arith) c.ranges.output.fits c.requires.path
           (λ i. c.from.ensures i * 2 ^ sym c.if-level-tops.true i % 18446744073709551616 + c.args.path))) c.part_id.ensures.function;
       full = tt;
     }
@@ -36,7 +37,8 @@ of_restrictions-requires-2 t c =
             c.requires.output,
             (
               omega arith,
-              subst (λ k. k < 2 ^ (c.args.level + 1)) (sym (path_up 64 c.args.level c.args.path _ (omega arith) refl)) (path_small c.args.level c.args.path c.requires.path),
+              subst (λ k. k < 2 ^ (c.args.level + 1)) (sym (path_up 64 c.args.level c.args.path _ (omega arith) refl))
+                  (path_small c.args.level c.args.path c.requires.path),
             ),
           ),
         ),
@@ -50,7 +52,12 @@ returns-clause-made t c =
     let few = c.tops-tops.ensures.few in let size = length-take 2 (order_of c.args.store.now.plan) in
     let inside : c.args.level < levels_of c.args.store.now.plan = omega arith in
     let on = follows_trans _ _ _ c.of_restrictions.ensures.made.follows c.of_restrictions-2.ensures.made.follows in
-    makes_node _ _ _ c.args.store.now c.make.result _ _ _ on c.make.ensures.follows (on.store ∙ c.requires.session.same) c.make.ensures.function c.make.ensures.full (λ id m.
-    restricted_node c.args.store.now c.of_restrictions.new.session c.of_restrictions-2.new.session c.make.new.session c.args.level c.args.path c.in_ok-low.low c.in_ok-high.high id (output_at c.args.store.now.plan.problem.value c.args.output)
-    (c.of_restrictions.ensures.made.follows.store ∙ c.requires.session.same) c.of_restrictions-2.ensures.made.follows c.make.ensures.follows c.order.ensures.plan.order.order inside c.requires.path c.in_ok-low.ensures.made.function
-    (subst (λ k. Means c.of_restrictions-2.new.session c.in_ok-high.high (fixed (take (c.args.level + 1) (order_of c.args.store.now.plan)) k (output_at c.args.store.now.plan.problem.value c.args.output))) (path_up 64 c.args.level c.args.path _ (omega arith) refl) c.in_ok-high.ensures.made.function) m)
+    makes_node _ _ _ c.args.store.now c.make.result _ _ _ on c.make.ensures.follows (on.store ∙ c.requires.session.same)
+    c.make.ensures.function c.make.ensures.full (λ id m.
+    restricted_node c.args.store.now c.of_restrictions.new.session c.of_restrictions-2.new.session c.make.new.session c.args.level
+    c.args.path c.in_ok-low.low c.in_ok-high.high id (output_at c.args.store.now.plan.problem.value c.args.output)
+    (c.of_restrictions.ensures.made.follows.store ∙ c.requires.session.same) c.of_restrictions-2.ensures.made.follows c.make.ensures.follows
+    c.order.ensures.plan.order.order inside c.requires.path c.in_ok-low.ensures.made.function
+    (subst (λ k. Means c.of_restrictions-2.new.session c.in_ok-high.high
+    (fixed (take (c.args.level + 1) (order_of c.args.store.now.plan)) k (output_at c.args.store.now.plan.problem.value c.args.output)))
+    (path_up 64 c.args.level c.args.path _ (omega arith) refl) c.in_ok-high.ensures.made.function) m)

@@ -13,7 +13,8 @@ returns-then-count-eq1 t c =
       follows = c.part_id.ensures.follows;
       full = tt;
       function = part_union c.part_id.new.session c.args.store.now.plan c.args.output c.args.first c.args.count c.part_id.result c.if-count-eq1.true
-          (subst (λ k. Means c.part_id.new.session c.part_id.result (piece_function c.args.store.now.plan (k * 64 + c.args.first))) c.from.ensures c.part_id.ensures.function);
+          (subst (λ k. Means c.part_id.new.session c.part_id.result (piece_function c.args.store.now.plan (k * 64 + c.args.first)))
+          c.from.ensures c.part_id.ensures.function);
     }
 
 pub of_shares-requires-2 : goal.of_shares-requires-2
@@ -30,5 +31,6 @@ pub returns : goal.returns
 returns t c =
     let all : c.args.count ≡ c.args.count / 2 + (c.args.count - c.args.count / 2) = omega arith in
     makes_same _ _ _ c.apply.result _ _ (follows_trans _ _ _ c.of_shares.ensures.follows c.of_shares-2.ensures.follows) c.apply.ensures (λ id m.
-    halves_union c.of_shares.new.session c.of_shares-2.new.session c.apply.new.session c.args.store.now.plan c.args.output c.args.first (c.args.count / 2) (c.args.count - c.args.count / 2) c.args.count c.in_ok-lower.lower c.in_ok-upper.upper id
+    halves_union c.of_shares.new.session c.of_shares-2.new.session c.apply.new.session c.args.store.now.plan c.args.output c.args.first
+    (c.args.count / 2) (c.args.count - c.args.count / 2) c.args.count c.in_ok-lower.lower c.in_ok-upper.upper id
     all c.in_ok-lower.ensures.function c.of_shares-2.ensures.follows c.in_ok-upper.ensures.function c.apply.ensures.follows m)

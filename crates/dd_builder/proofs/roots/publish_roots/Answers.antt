@@ -9,7 +9,8 @@ pub publish-requires-clause-function : goal.publish-requires-clause-function
 publish-requires-clause-function c =
     let r = c.roots-roots.ensures.value in let f = c.from.ensures in
     let at : c.roots-roots.result + c.from.result ≡ c.args.store.now.plan.roots + c.loop-output.output = omega arith in
-    subst (Means c.root.new.session c.in_ok-id.id) (sym (root_piece c.args.store.now.plan c.loop-output.output (c.roots-roots.result + c.from.result) at)) c.in_ok-id.ensures.function
+    subst (Means c.root.new.session c.in_ok-id.id)
+    (sym (root_piece c.args.store.now.plan c.loop-output.output (c.roots-roots.result + c.from.result) at)) c.in_ok-id.ensures.function
 
 pub loop-output-preserved : goal.loop-output-preserved
 loop-output-preserved c =
@@ -19,5 +20,7 @@ loop-output-preserved c =
     record {
       follows = follows_trans _ _ _ c.loop-output.invariant.follows f;
       parts = parts_follow _ _ _ f c.loop-output.invariant.parts;
-      published = root_more c.loop-output.session c.publish.new.session c.args.store.now.plan.roots c.loop-output.output _ c.in_ok-id.id f c.loop-output.invariant.published at c.publish.ensures.stored;
+      published =
+          root_more c.loop-output.session c.publish.new.session c.args.store.now.plan.roots c.loop-output.output _ c.in_ok-id.id f
+          c.loop-output.invariant.published at c.publish.ensures.stored;
     }

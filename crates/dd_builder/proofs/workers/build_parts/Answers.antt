@@ -17,8 +17,11 @@ loop-piece-preserved g c = elim c.if-piece-from.branch [
       record {
         store = ap (λ (s : Knowledge). s.store) w.session-is ∙ same;
         built = λ q low e. subst (λ (s : Knowledge). HasPart s q) (sym w.session-is)
-            (share_more c.loop-piece.session w.publish.new.session c.loop-piece.piece c.args.workers _ (follows_trans _ _ _ w.part.ensures.made.follows published) c.loop-piece.invariant.built
-            (part_made w.publish.new.session c.args.store.now c.loop-piece.piece w.in-Ok.id same w.publish.ensures.stored (published.knows w.in-Ok.id known) level) q low e);
+            (share_more c.loop-piece.session w.publish.new.session c.loop-piece.piece c.args.workers _
+            (follows_trans _ _ _ w.part.ensures.made.follows published) c.loop-piece.invariant.built
+            (part_made w.publish.new.session c.args.store.now c.loop-piece.piece w.in-Ok.id same w.publish.ensures.stored
+            (published.knows w.in-Ok.id known) level)
+            q low e);
       }
   | else-piece-from w ↦ record {
     store = ap (λ (s : Knowledge). s.store) w.session-is ∙ c.loop-piece.invariant.store;

@@ -9,4 +9,5 @@ pub returns : goal.returns
 returns c = λ n F P bound l workers events laid posts full.
     let s : World = run (opening l workers) events in
     let r = right_after (IsCellFor n F P bound) l workers events laid posts in
-    cells_are (λ mask. cell_of n F P bound mask) s.layout.masks s.cells r.size r.true_cells full ∙ ap (λ (k : Layout). all_cells n F P bound k.masks) (layout_stays (opening l workers) events)
+    cells_are (λ mask. cell_of n F P bound mask) s.layout.masks s.cells r.size r.true_cells full
+    ∙ ap (λ (k : Layout). all_cells n F P bound k.masks) (layout_stays (opening l workers) events)

@@ -16,4 +16,6 @@ returns-clause-long c = order_length c.args.tables.now.inputs c.in_ok-solution.s
 pub returns-clause-counts : goal.returns-clause-counts
 returns-clause-counts c =
     let best = returns-clause-optimum c in
-    ap length best.levels_are ∙ order_counts_long c.args.tables.now.inputs (functions c.args.tables.now) c.in_ok-solution.solution.order best.first.fewest.is_order
+    ap length best.levels_are
+    ∙ order_counts_long c.args.tables.now.inputs (functions c.args.tables.now) c.in_ok-solution.solution.order
+    best.first.fewest.is_order

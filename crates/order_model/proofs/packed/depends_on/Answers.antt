@@ -18,7 +18,8 @@ returns-then-x-ge6 c = elim (cases_Bool c.rows_differ.result) [
 pub returns-then-halves_differ : goal.returns-then-halves_differ
 returns-then-halves_differ c =
     let d = c.if-halves_differ.ensures.differ refl in
-    sym (halves_depend c.args.n c.args.x c.args.words.now (omega arith) c.requires.variable c.requires.long c.requires.clean c.loop-word.word-index d.0 c.loop-word-test.true d.1 d.2 d.3)
+    sym (halves_depend c.args.n c.args.x c.args.words.now (omega arith) c.requires.variable c.requires.long c.requires.clean
+    c.loop-word.word-index d.0 c.loop-word-test.true d.1 d.2 d.3)
 
 pub returns : goal.returns
 returns c =

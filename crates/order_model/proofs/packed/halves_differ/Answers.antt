@@ -10,7 +10,9 @@ overflow_shr-result c =
     omega arith
 
 pub returns-clause-differ : goal.returns-clause-differ
-returns-clause-differ c = found_difference c.args.word c.args.x c.lower_half.result c.requires c.lower_half.ensures (omega (arith, and_le_r (bit_xor (c.args.word / 2 ^ (1 * 2 ^ c.args.x % 4294967296)) c.args.word) c.lower_half.result))
+returns-clause-differ c =
+    found_difference c.args.word c.args.x c.lower_half.result c.requires c.lower_half.ensures
+    (omega (arith, and_le_r (bit_xor (c.args.word / 2 ^ (1 * 2 ^ c.args.x % 4294967296)) c.args.word) c.lower_half.result))
 
 pub returns-clause-alike : goal.returns-clause-alike
 returns-clause-alike c = found_none c.args.word c.args.x c.lower_half.result c.requires c.lower_half.ensures

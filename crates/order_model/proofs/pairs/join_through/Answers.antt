@@ -15,12 +15,17 @@ loop-mask-preserved c =
     let i = c.loop-mask.mask-index in
     let later = c.loop-mask.reached in
     elim c.if-mask-k-eq1.branch [
-      | then-mask-k-eq1 w ↦ subst (JoinedTo below k (i + 1)) (sym w.reached-is) (joined_set below k i later c.loop-mask.invariant (inside (c.loop-mask.invariant.long ∙ c.told-reached)) (sym (shr_and_one (get_or later i 0) k) ∙ w.if-mask-k-eq1.true))
-      | else-mask-k-eq1 w ↦ subst (JoinedTo below k (i + 1)) (sym (w.reached-is ∙ set-get_or later i 0)) (joined_kept below k i later c.loop-mask.invariant (λ e. w.if-mask-k-eq1.false (shr_and_one (get_or later i 0) k ∙ e)))
+      | then-mask-k-eq1 w ↦ subst (JoinedTo below k (i + 1)) (sym w.reached-is)
+          (joined_set below k i later c.loop-mask.invariant (inside (c.loop-mask.invariant.long ∙ c.told-reached))
+          (sym (shr_and_one (get_or later i 0) k) ∙ w.if-mask-k-eq1.true))
+      | else-mask-k-eq1 w ↦ subst (JoinedTo below k (i + 1)) (sym (w.reached-is ∙ set-get_or later i 0))
+          (joined_kept below k i later c.loop-mask.invariant (λ e. w.if-mask-k-eq1.false (shr_and_one (get_or later i 0) k ∙ e)))
     ]
   where
     inside : length c.loop-mask.reached ≡ 16 → c.loop-mask.mask-index < length c.loop-mask.reached
     inside e = omega arith
 
 pub returns : goal.returns
-returns c = joined_all c.args.reached.now c.args.k c.loop-mask.mask-index c.loop-mask.reached c.loop-mask.invariant (let long = c.loop-mask.invariant.long in let told = c.told-reached in omega arith)
+returns c =
+    joined_all c.args.reached.now c.args.k c.loop-mask.mask-index c.loop-mask.reached c.loop-mask.invariant
+    (let long = c.loop-mask.invariant.long in let told = c.told-reached in omega arith)

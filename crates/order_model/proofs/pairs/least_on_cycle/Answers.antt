@@ -42,4 +42,5 @@ returns-clause-none c =
     let P = pairs_in 16 c.args.below.now in
     let end : c.loop-k.k ≡ 16 = omega arith in
     let all = subst (λ (k : ℕ). Reaches P k c.loop-k.reached) end c.loop-k.invariant in
-    λ v l. let h = leads_from_below P 16 (small c.args.below.now) l in c.loop-v.invariant v (omega arith) (all_reached P 16 c.loop-k.reached (small c.args.below.now) all l)
+    λ v l. let h = leads_from_below P 16 (small c.args.below.now) l in
+    c.loop-v.invariant v (omega arith) (all_reached P 16 c.loop-k.reached (small c.args.below.now) all l)

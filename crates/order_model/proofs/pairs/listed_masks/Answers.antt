@@ -24,18 +24,25 @@ bounds-below-a-in-loop-part c = (pair_small c.in-Some.part.now c.in_ok-a.a c.in_
 pub loop-part-preserved : goal.loop-part-preserved
 loop-part-preserved c =
     let parts = slice_split (λ b. eqb b 58) c.args.text.now in
-    let t = YieldsList-turn (YieldsList-from_slice_split _ (λ b. eqb b 58) c.args.text.now (cc) (cc) (cc) (λ x r q k. search (rules, tests))) c.loop-part.yielded _ c.loop-part.yielded_by _ _ c.in-Some.part c.in-Some.is c.next.ensures.steps in
+    let t = YieldsList-turn
+    (YieldsList-from_slice_split _ (λ b. eqb b 58) c.args.text.now (cc) (cc) (cc) (λ x r q k. search (rules, tests)))
+    c.loop-part.yielded _ c.loop-part.yielded_by _ _ c.in-Some.part c.in-Some.is c.next.ensures.steps in
     subst (λ (k : ℕ). ReadTo parts k (with_bit c.loop-part.below c.in_ok-a.a c.in_ok-a.b)) (sym (length_push c.loop-part.yielded c.in-Some.part))
-    (read_more parts (length c.loop-part.yielded) c.loop-part.below c.in-Some.part.now c.in_ok-a.a c.in_ok-a.b c.loop-part.invariant t.0 t.1 (sym c.in_ok-a.ensures))
+    (read_more parts (length c.loop-part.yielded) c.loop-part.below c.in-Some.part.now c.in_ok-a.a c.in_ok-a.b c.loop-part.invariant t.0 t.1
+    (sym c.in_ok-a.ensures))
 
 pub returns-in_err-a : goal.returns-in_err-a
 returns-in_err-a c =
     let parts = slice_split (λ b. eqb b 58) c.args.text.now in
-    let t = YieldsList-turn (YieldsList-from_slice_split _ (λ b. eqb b 58) c.args.text.now (cc) (cc) (cc) (λ x r q k. search (rules, tests))) c.loop-part.yielded _ c.loop-part.yielded_by _ _ c.in-Some.part c.in-Some.is c.next.ensures.steps in
-    subst (AreMasksOf (listed c.args.text.now)) (sym c.from_residual.ensures) (read_fails parts (length c.loop-part.yielded) c.in-Some.part.now t.0 t.1 (sym c.in_err-a.ensures))
+    let t = YieldsList-turn
+    (YieldsList-from_slice_split _ (λ b. eqb b 58) c.args.text.now (cc) (cc) (cc) (λ x r q k. search (rules, tests)))
+    c.loop-part.yielded _ c.loop-part.yielded_by _ _ c.in-Some.part c.in-Some.is c.next.ensures.steps in
+    subst (AreMasksOf (listed c.args.text.now)) (sym c.from_residual.ensures)
+    (read_fails parts (length c.loop-part.yielded) c.in-Some.part.now t.0 t.1 (sym c.in_err-a.ensures))
 
 pub returns : goal.returns
 returns c =
     let parts = slice_split (λ b. eqb b 58) c.args.text.now in
-    let t = YieldsList-end (YieldsList-from_slice_split _ (λ b. eqb b 58) c.args.text.now (cc) (cc) (cc) (λ x r q k. search (rules, tests))) c.loop-part.yielded _ c.loop-part.yielded_by _ _ c.in-None.is c.next.ensures.steps in
+    let t = YieldsList-end (YieldsList-from_slice_split _ (λ b. eqb b 58) c.args.text.now (cc) (cc) (cc) (λ x r q k. search (rules, tests)))
+    c.loop-part.yielded _ c.loop-part.yielded_by _ _ c.in-None.is c.next.ensures.steps in
     read_all parts (length c.loop-part.yielded) c.loop-part.below c.loop-part.invariant (omega (arith, t.1))

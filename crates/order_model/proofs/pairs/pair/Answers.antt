@@ -14,13 +14,17 @@ pub returns-in_err-above : goal.returns-in_err-above
 returns-in_err-above c =
     let part = c.args.part.now in
     let k = c.in_ok-comma.comma in
-    c.from_residual-in_err-above.ensures ∙ sym (pair_at part k c.in_ok-comma.ensures.first ∙ ap (λ o. both o (number_of (drop (k + 1) part))) (sym c.in_err-above.ensures))
+    c.from_residual-in_err-above.ensures
+    ∙ sym (pair_at part k c.in_ok-comma.ensures.first ∙ ap (λ o. both o (number_of (drop (k + 1) part))) (sym c.in_err-above.ensures))
 
 pub returns-in_err-below : goal.returns-in_err-below
 returns-in_err-below c =
     let part = c.args.part.now in
     let k = c.in_ok-comma.comma in
-    c.from_residual-in_err-below.ensures ∙ sym (pair_at part k c.in_ok-comma.ensures.first ∙ ap (both (number_of (take k part))) (ap number_of (sym (rest_of part k)) ∙ sym c.in_err-below.ensures) ∙ both_second_none (number_of (take k part)))
+    c.from_residual-in_err-below.ensures
+    ∙ sym (pair_at part k c.in_ok-comma.ensures.first
+    ∙ ap (both (number_of (take k part))) (ap number_of (sym (rest_of part k)) ∙ sym c.in_err-below.ensures)
+    ∙ both_second_none (number_of (take k part)))
 
 pub returns : goal.returns
 returns c =

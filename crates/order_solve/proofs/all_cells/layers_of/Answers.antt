@@ -8,7 +8,9 @@ use Rattle.order_solve.proofs.all_cells.layers_of.Goals as goal
 pub next_layer-requires-clause-before : goal.next_layer-requires-clause-before
 next_layer-requires-clause-before g c κs within =
     let items = c.loop-size.layers.items in
-    let at : slice_get items c.from.result ≡ Some c.index-before.result.now = slice_get_read items (length items) c.from.result c.index-before.result.now refl (let m = c.loop-size.invariant.many in let f = c.from.ensures in omega (arith, m, f)) c.index-before.ensures in
+    let at : slice_get items c.from.result ≡ Some c.index-before.result.now =
+    slice_get_read items (length items) c.from.result c.index-before.result.now refl
+    (let m = c.loop-size.invariant.many in let f = c.from.ensures in omega (arith, m, f)) c.index-before.ensures in
     let is = c.loop-size.invariant.layers_are c.from.result c.index-before.result.now at in record {
       pairs = c.requires.pairs;
       inputs = is.inputs;
@@ -25,5 +27,8 @@ loop-size-preserved g c =
     let costs = c.in_ok-costs.costs in
     record {
       many = (let l = ap length is in let a = length-append items (costs ∷ []) in let m = c.loop-size.invariant.many in omega (arith, l, a, m));
-      layers_are = λ k d at. layers_push t items costs c.loop-size.invariant.layers_are (subst (λ (n : ℕ). IsLayerFor t n costs) (sym c.loop-size.invariant.many) c.in_ok-costs.ensures) k d (ap (λ (xs : List CostsOf). slice_get xs k) (sym is) ∙ at);
+      layers_are =
+          λ k d at. layers_push t items costs c.loop-size.invariant.layers_are
+          (subst (λ (n : ℕ). IsLayerFor t n costs) (sym c.loop-size.invariant.many) c.in_ok-costs.ensures) k d
+          (ap (λ (xs : List CostsOf). slice_get xs k) (sym is) ∙ at);
     }

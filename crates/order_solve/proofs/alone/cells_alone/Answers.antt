@@ -9,20 +9,25 @@ use Rattle.order_solve.proofs.Placing.{few_block, blocks_more, written_back, all
 use Rattle.order_solve.proofs.alone.cells_alone.Goals as goal
 
 pub cells_of_block-requires-clause-layer : goal.cells_of_block-requires-clause-layer
-cells_of_block-requires-clause-layer c = block_layer c.bench.inside.layer.now c.loop-place.place c.block-block.result c.block-block.ensures ∙ ap (λ (z : BenchOf). z.layer) c.bench.view_is
+cells_of_block-requires-clause-layer c = block_layer c.bench.inside.layer.now c.loop-place.place c.block-block.result c.block-block.ensures
+    ∙ ap (λ (z : BenchOf). z.layer) c.bench.view_is
 
 pub cells_of_block-requires-clause-room : goal.cells_of_block-requires-clause-room
 cells_of_block-requires-clause-room c =
     let t = c.args.bench.now.setting in
     let v = ap (λ (z : BenchOf). z.setting.problem.inputs) c.bench.view_is in
     let few = c.bench.invariant.0.few in
-    let inputs = ap (λ (l : LayerOf). l.inputs) (block_layer c.bench.inside.layer.now c.loop-place.place c.block-block.result c.block-block.ensures ∙ c.bench.invariant.0.bench.layer) ∙ v in
+    let inputs =
+    ap (λ (l : LayerOf). l.inputs)
+    (block_layer c.bench.inside.layer.now c.loop-place.place c.block-block.result c.block-block.ensures
+    ∙ c.bench.invariant.0.bench.layer) ∙ v in
     let k = few_block t c.block-block.result t.problem.inputs (omega (arith, few, v)) inputs (omega (arith, few, v)) in
     let n = c.new-tally.ensures in
     omega (arith, k, n)
 
 pub place_cells-requires-clause-layer : goal.place_cells-requires-clause-layer
-place_cells-requires-clause-layer c = block_layer c.bench.inside.layer.now c.loop-place.place c.block-block.result c.block-block.ensures ∙ ap (λ (z : BenchOf). z.layer) c.bench.view_is
+place_cells-requires-clause-layer c = block_layer c.bench.inside.layer.now c.loop-place.place c.block-block.result c.block-block.ensures
+    ∙ ap (λ (z : BenchOf). z.layer) c.bench.view_is
 
 pub loop-place-preserved : goal.loop-place-preserved
 loop-place-preserved c =
@@ -32,12 +37,14 @@ loop-place-preserved c =
     let v = c.deref_mut.ensures.value in
     let e = c.place_cells.ensures in
     let long : length new ≡ length old = e.length ∙ ap length v in
-    let is = written_back new old c.loop-place.cells.len (let k = c.loop-place.cells.ok in omega (arith, long, k)) (let k = c.loop-place.cells.ok in omega (arith, k)) in
+    let is = written_back new old c.loop-place.cells.len (let k = c.loop-place.cells.ok in omega (arith, long, k))
+    (let k = c.loop-place.cells.ok in omega (arith, k)) in
     let same = ap (λ (z : BenchOf). z.layer) c.bench.view_is in
     record {
       length_is = ap length is ∙ long ∙ c.loop-place.invariant.length_is;
       placed = λ p lt low. subst (λ (cells : List Cell). IsPlaced b cells p) (sym is)
-          (blocks_more b c.loop-place.place c.block-block.result old new (subst (λ (l : LayerOf). slice_get (blocks_of l) c.loop-place.place ≡ Some c.block-block.result) same c.block-block.ensures)
+          (blocks_more b c.loop-place.place c.block-block.result old new
+          (subst (λ (l : LayerOf). slice_get (blocks_of l) c.loop-place.place ≡ Some c.block-block.result) same c.block-block.ensures)
           c.loop-place.invariant.placed (λ q h. e.kept q (subst (λ (cells : List Cell). IsPlaced b cells q) (sym v) h)) e.placed p lt low);
     }
 
@@ -47,4 +54,5 @@ returns c =
     let same = ap (λ (z : BenchOf). z.layer) c.bench.view_is in
     let many : c.blocks-place-end.result ≡ length (blocks_of b.layer) = c.blocks-place-end.ensures ∙ ap (λ (l : LayerOf). length (blocks_of l)) same in
     let f = c.loop-place-test.false in
-    all_placed b c.loop-place.cells.items c.loop-place.invariant.length_is (λ p lt. c.loop-place.invariant.placed p lt (let k = block_below b.layer p lt in omega (arith, k, many, f)))
+    all_placed b c.loop-place.cells.items c.loop-place.invariant.length_is
+    (λ p lt. c.loop-place.invariant.placed p lt (let k = block_below b.layer p lt in omega (arith, k, many, f)))

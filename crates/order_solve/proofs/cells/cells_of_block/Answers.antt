@@ -14,7 +14,9 @@ use Rattle.order_solve.proofs.cells.cells_of_block.Goals as goal
 
 pub widths_of-requires-clause-inputs : goal.widths_of-requires-clause-inputs
 widths_of-requires-clause-inputs c =
-    ap (λ (l : LayerOf). l.inputs) (c.requires.layer ∙ ap (λ (b : BenchOf). b.layer) (sym c.bench.view_is) ∙ c.bench.invariant.0.bench.layer) ∙ ap (λ (b : BenchOf). b.setting.problem.inputs) c.bench.view_is
+    ap (λ (l : LayerOf). l.inputs)
+    (c.requires.layer ∙ ap (λ (b : BenchOf). b.layer) (sym c.bench.view_is) ∙ c.bench.invariant.0.bench.layer)
+    ∙ ap (λ (b : BenchOf). b.setting.problem.inputs) c.bench.view_is
 
 pub widths_of-requires-clause-members : goal.widths_of-requires-clause-members
 widths_of-requires-clause-members c =
@@ -22,7 +24,8 @@ widths_of-requires-clause-members c =
     let masks = block_masks c.args.block.now in
     let is = c.deref.ensures.value ∙ c.in_ok-needs.ensures in
     subst (λ (ns : List ℕ). AreMembers c.args.bench.now.setting.problem masks ns) (sym is)
-    (subst (λ (b : BenchOf). AreMembers b.setting.problem masks (map (needed b.setting) masks)) c.bench.view_is (are_members _ i.essential c.bench.invariant.0 c.args.block.now))
+    (subst (λ (b : BenchOf). AreMembers b.setting.problem masks (map (needed b.setting) masks)) c.bench.view_is
+    (are_members _ i.essential c.bench.invariant.0 c.args.block.now))
 
 pub widths_of-requires-clause-room : goal.widths_of-requires-clause-room
 widths_of-requires-clause-room c =
@@ -35,7 +38,8 @@ widths_of-requires-clause-room c =
 pub least_cell-requires-clause-next : goal.least_cell-requires-clause-next
 least_cell-requires-clause-next c =
     let i = c.bench.inside in
-    in_layer _ i.essential c.bench.invariant.0 c.args.block.now (c.requires.layer ∙ ap (λ (b : BenchOf). b.layer) (sym c.bench.view_is)) c.loop-i.i c.mask.result c.mask.ensures
+    in_layer _ i.essential c.bench.invariant.0 c.args.block.now (c.requires.layer ∙ ap (λ (b : BenchOf). b.layer) (sym c.bench.view_is))
+    c.loop-i.i c.mask.result c.mask.ensures
 
 pub loop-i-preserved : goal.loop-i-preserved
 loop-i-preserved c =
@@ -44,9 +48,13 @@ loop-i-preserved c =
     let t = c.args.bench.now.setting in
     let lt = slice_get_within masks c.loop-i.i c.mask.result c.mask.ensures in
     let at : slice_index masks c.loop-i.i ≡ c.mask.result = get_or_from_slice_get masks c.loop-i.i c.mask.result 0 c.mask.ensures in
-    let next = in_layer _ i.essential c.bench.invariant.0 c.args.block.now (c.requires.layer ∙ ap (λ (b : BenchOf). b.layer) (sym c.bench.view_is)) c.loop-i.i c.mask.result c.mask.ensures in
-    let need : slice_index c.deref.result.now c.loop-i.i ≡ needed t c.mask.result = ap (λ xs. slice_index xs c.loop-i.i) (c.deref.ensures.value ∙ c.in_ok-needs.ensures) ∙ get_or-map (needed t) masks c.loop-i.i 0 0 lt ∙ ap (needed t) at in
-    let row = row_there t.problem masks c.deref.result.now c.in_ok-widths.widths.rows c.loop-i.i c.mask.result (needed t c.mask.result) c.row-row.result c.in_ok-widths.ensures.rows c.mask.ensures need c.row-row.ensures in
+    let next = in_layer _ i.essential c.bench.invariant.0 c.args.block.now
+    (c.requires.layer ∙ ap (λ (b : BenchOf). b.layer) (sym c.bench.view_is)) c.loop-i.i c.mask.result c.mask.ensures in
+    let need : slice_index c.deref.result.now c.loop-i.i ≡ needed t c.mask.result =
+    ap (λ xs. slice_index xs c.loop-i.i) (c.deref.ensures.value ∙ c.in_ok-needs.ensures)
+    ∙ get_or-map (needed t) masks c.loop-i.i 0 0 lt ∙ ap (needed t) at in
+    let row = row_there t.problem masks c.deref.result.now c.in_ok-widths.widths.rows c.loop-i.i c.mask.result (needed t c.mask.result)
+    c.row-row.result c.in_ok-widths.ensures.rows c.mask.ensures need c.row-row.ensures in
     let is = cell_is _ i.essential c.bench.invariant.0 c.mask.result next c.row-row.result
     (subst (λ (b : BenchOf). IsRow b.setting.problem c.mask.result (needed b.setting c.mask.result) c.row-row.result) (sym c.bench.view_is) row)
     (pair_of c.least_cell.result) c.least_cell.ensures ∙ ap (λ (b : BenchOf). cell_for b.setting c.mask.result) c.bench.view_is in

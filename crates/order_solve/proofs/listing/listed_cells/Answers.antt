@@ -7,7 +7,9 @@ use Rattle.order_solve.proofs.listing.listed_cells.Goals as goal
 use Rattle.order_solve.proofs.listing.listed_cells.Goals.{then-from+in_ok-push, else-from}
 
 pub loop-number-init : goal.loop-number-init
-loop-number-init c = subst (λ (xs : List ListedCell). ListedTo c.args.cells.now c.args.total 0 xs) (sym c.new-found.ensures.items) (listed_start c.args.cells.now c.args.total)
+loop-number-init c =
+    subst (λ (xs : List ListedCell). ListedTo c.args.cells.now c.args.total 0 xs) (sym c.new-found.ensures.items)
+    (listed_start c.args.cells.now c.args.total)
 
 pub loop-number-preserved : goal.loop-number-preserved
 loop-number-preserved c =
@@ -18,11 +20,14 @@ loop-number-preserved c =
     let d = c.from-in-loop-number-2.ensures in
     elim c.if-from.branch [
       | then-from+in_ok-push w ↦
-          subst (λ (xs : List ListedCell). ListedTo t c.args.total (c.loop-number.number + 1) xs) (sym (ap (λ v. v.items) w.found-is ∙ w.in_ok-push.ensures.items))
-          (listed_yes t c.args.total c.loop-number.number c.loop-number.found.items c.loop-number.invariant c.cost-cost.result c.count_outside.result c.cost-cost.ensures out c.requires (let lt = w.if-from.true in omega (arith, a, b, d, lt)))
+          subst (λ (xs : List ListedCell). ListedTo t c.args.total (c.loop-number.number + 1) xs)
+          (sym (ap (λ v. v.items) w.found-is ∙ w.in_ok-push.ensures.items))
+          (listed_yes t c.args.total c.loop-number.number c.loop-number.found.items c.loop-number.invariant c.cost-cost.result
+          c.count_outside.result c.cost-cost.ensures out c.requires (let lt = w.if-from.true in omega (arith, a, b, d, lt)))
       | else-from w ↦
           subst (λ (xs : List ListedCell). ListedTo t c.args.total (c.loop-number.number + 1) xs) (sym (ap (λ v. v.items) w.found-is))
-          (listed_no t c.args.total c.loop-number.number c.loop-number.found.items c.loop-number.invariant c.cost-cost.result c.count_outside.result c.cost-cost.ensures out (let lt = w.if-from.false in omega (arith, a, b, d, lt)))
+          (listed_no t c.args.total c.loop-number.number c.loop-number.found.items c.loop-number.invariant c.cost-cost.result
+          c.count_outside.result c.cost-cost.ensures out (let lt = w.if-from.false in omega (arith, a, b, d, lt)))
     ]
 
 pub returns : goal.returns

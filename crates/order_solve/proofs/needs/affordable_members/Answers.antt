@@ -20,7 +20,9 @@ unwrap-cost-requires c =
     let e = shifted_bit c.args.mask c.loop-x.x (omega arith) c.if-mask-x-eq1.true in
     let n = c.args.costs.now.inputs in
     let member = member_from_bit n c.args.mask c.loop-x.x (omega arith) c.if-mask-x-eq1.true in
-    c.cost_of.ensures.some.1 (ap (λ k. has (masks_of (layer_with n c.args.costs.now.size)) (c.args.mask - k)) e ∙ less_one n c.args.costs.now.size c.args.mask c.loop-x.x c.requires member)
+    c.cost_of.ensures.some.1
+    (ap (λ k. has (masks_of (layer_with n c.args.costs.now.size)) (c.args.mask - k)) e
+    ∙ less_one n c.args.costs.now.size c.args.mask c.loop-x.x c.requires member)
 
 pub loop-x-init : goal.loop-x-init
 loop-x-init c = mask_none (is_affordable c.args.costs.now c.args.bound c.args.mask)
@@ -33,13 +35,18 @@ loop-x-preserved c =
     elim c.if-mask-x-eq1.branch [
       | then-mask-x-eq1+then-cost-bound w ↦
           let e = shifted_bit c.args.mask c.loop-x.x (omega arith) w.if-mask-x-eq1.true in
-          let is : cost_without costs c.args.mask c.loop-x.x ≡ w.unwrap-cost.result = ap (λ k. unwrap_or (cost_at costs (c.args.mask - k)) 0) (sym e) ∙ ap (λ o. unwrap_or o 0) (sym w.cost_of.ensures.value ∙ w.unwrap-cost.ensures) in
+          let is : cost_without costs c.args.mask c.loop-x.x ≡ w.unwrap-cost.result =
+          ap (λ k. unwrap_or (cost_at costs (c.args.mask - k)) 0) (sym e)
+          ∙ ap (λ o. unwrap_or o 0) (sym w.cost_of.ensures.value ∙ w.unwrap-cost.ensures) in
           subst (λ (m : ℕ). MaskOfFirst test (c.loop-x.x + 1) m) (sym w.found-is)
           (mask_with_next test c.loop-x.x c.loop-x.found small c.loop-x.invariant
-          (affordable_yes costs c.args.bound c.args.mask c.loop-x.x w.unwrap-cost.result (sym (shr_and_one c.args.mask c.loop-x.x) ∙ w.if-mask-x-eq1.true) is (let t = w.if-cost-bound.true in omega arith)))
+          (affordable_yes costs c.args.bound c.args.mask c.loop-x.x w.unwrap-cost.result
+          (sym (shr_and_one c.args.mask c.loop-x.x) ∙ w.if-mask-x-eq1.true) is (let t = w.if-cost-bound.true in omega arith)))
       | then-mask-x-eq1+else-cost-bound w ↦
           let e = shifted_bit c.args.mask c.loop-x.x (omega arith) w.if-mask-x-eq1.true in
-          let is : cost_without costs c.args.mask c.loop-x.x ≡ w.unwrap-cost.result = ap (λ k. unwrap_or (cost_at costs (c.args.mask - k)) 0) (sym e) ∙ ap (λ o. unwrap_or o 0) (sym w.cost_of.ensures.value ∙ w.unwrap-cost.ensures) in
+          let is : cost_without costs c.args.mask c.loop-x.x ≡ w.unwrap-cost.result =
+          ap (λ k. unwrap_or (cost_at costs (c.args.mask - k)) 0) (sym e)
+          ∙ ap (λ o. unwrap_or o 0) (sym w.cost_of.ensures.value ∙ w.unwrap-cost.ensures) in
           subst (λ (m : ℕ). MaskOfFirst test (c.loop-x.x + 1) m) (sym w.found-is)
           (mask_without_next test c.loop-x.x c.loop-x.found small c.loop-x.invariant
           (affordable_dear costs c.args.bound c.args.mask c.loop-x.x w.unwrap-cost.result is (let t = w.if-cost-bound.false in omega arith)))
@@ -53,4 +60,5 @@ pub returns : goal.returns
 returns c =
     let costs = c.args.costs.now in
     let e : c.loop-x.x ≡ costs.inputs = omega arith in
-    affordable_is costs c.args.bound c.args.mask c.loop-x.found (subst (λ (k : ℕ). MaskOfFirst (is_affordable costs c.args.bound c.args.mask) k c.loop-x.found) e c.loop-x.invariant)
+    affordable_is costs c.args.bound c.args.mask c.loop-x.found
+    (subst (λ (k : ℕ). MaskOfFirst (is_affordable costs c.args.bound c.args.mask) k c.loop-x.found) e c.loop-x.invariant)

@@ -12,11 +12,13 @@ pub loop-x-init : goal.loop-x-init
 loop-x-init c =
     let t = c.args.cells.now in
     subst (λ (xs : List ℕ). CountedTo t c.args.order.now c.all_variables-mask.result c.cost-cost.result xs 0) (sym c.in_ok-counts.ensures.items)
-    (counted_start t c.args.order.now c.all_variables-mask.result c.cost-cost.result (c.all_variables-mask.ensures ∙ ap (λ (k : ℕ). 2 ^ k - 1) c.inputs.ensures.value) c.cost-cost.ensures)
+    (counted_start t c.args.order.now c.all_variables-mask.result c.cost-cost.result
+    (c.all_variables-mask.ensures ∙ ap (λ (k : ℕ). 2 ^ k - 1) c.inputs.ensures.value) c.cost-cost.ensures)
 
 -- a step of the code
 module _ (t : Setting) (inputs : ℕ) (b : IsBounded t) (few : inputs ≤ 16) (v : inputs ≡ t.problem.inputs) (order xs : List ℕ) (same : xs ≡ order)
-    (read : IsReadFrom t.problem.inputs (functions t.problem) t.pairs.pairs t.bound (2 ^ t.problem.inputs - 1) order) (mask top : ℕ) (counts : List ℕ) (i : ℕ) (c : CountedTo t order mask top counts i) (lt : i < length xs) where
+    (read : IsReadFrom t.problem.inputs (functions t.problem) t.pairs.pairs t.bound (2 ^ t.problem.inputs - 1) order) (mask top : ℕ)
+    (counts : List ℕ) (i : ℕ) (c : CountedTo t order mask top counts i) (lt : i < length xs) where
   within : i < length order
   within = let k = ap length same in omega (arith, lt, k)
 
@@ -46,32 +48,45 @@ module _ (t : Setting) (inputs : ℕ) (b : IsBounded t) (few : inputs ≤ 16) (v
     falls = let k = counted_fall t b order read mask top counts i c x within is below e' in omega (arith, k)
 
     next : CountedTo t order (mask - 1 * 2 ^ x % 65536) below (counts ++ (top - below) ∷ []) (i + 1)
-    next = subst (λ (k : ℕ). CountedTo t order (mask - k) below (counts ++ (top - below) ∷ []) (i + 1)) (sym shift) (counted_next t b order read mask top counts i c x within is below e')
+    next = subst (λ (k : ℕ). CountedTo t order (mask - k) below (counts ++ (top - below) ∷ []) (i + 1)) (sym shift)
+        (counted_next t b order read mask top counts i c x within is below e')
 
 pub overflow_sub-mask : goal.overflow_sub-mask
 overflow_sub-mask c =
     let e = c.inputs.ensures in
-    fits c.args.cells.now c.inputs.result e.bounded e.few e.value c.args.order.now c.variables-x-items.result.now c.variables-x-items.ensures.value c.requires c.loop-x.mask c.loop-x.cost c.loop-x.counts.items c.loop-x.x-index c.loop-x.invariant c.loop-x-test.true
+    fits c.args.cells.now c.inputs.result e.bounded e.few e.value c.args.order.now c.variables-x-items.result.now
+    c.variables-x-items.ensures.value c.requires c.loop-x.mask c.loop-x.cost c.loop-x.counts.items c.loop-x.x-index c.loop-x.invariant
+    c.loop-x-test.true
 
 pub cost-below-requires : goal.cost-below-requires
 cost-below-requires c =
     let e = c.inputs.ensures in
-    smaller c.args.cells.now c.inputs.result e.bounded e.few e.value c.args.order.now c.variables-x-items.result.now c.variables-x-items.ensures.value c.requires c.loop-x.mask c.loop-x.cost c.loop-x.counts.items c.loop-x.x-index c.loop-x.invariant c.loop-x-test.true
+    smaller c.args.cells.now c.inputs.result e.bounded e.few e.value c.args.order.now c.variables-x-items.result.now
+    c.variables-x-items.ensures.value c.requires c.loop-x.mask c.loop-x.cost c.loop-x.counts.items c.loop-x.x-index c.loop-x.invariant
+    c.loop-x-test.true
 
 pub overflow_sub-cost : goal.overflow_sub-cost
 overflow_sub-cost c =
     let e = c.inputs.ensures in
-    falls c.args.cells.now c.inputs.result e.bounded e.few e.value c.args.order.now c.variables-x-items.result.now c.variables-x-items.ensures.value c.requires c.loop-x.mask c.loop-x.cost c.loop-x.counts.items c.loop-x.x-index c.loop-x.invariant c.loop-x-test.true c.cost-below.result c.cost-below.ensures
+    falls c.args.cells.now c.inputs.result e.bounded e.few e.value c.args.order.now c.variables-x-items.result.now
+    c.variables-x-items.ensures.value c.requires c.loop-x.mask c.loop-x.cost c.loop-x.counts.items c.loop-x.x-index c.loop-x.invariant
+    c.loop-x-test.true c.cost-below.result c.cost-below.ensures
 
 pub loop-x-preserved : goal.loop-x-preserved
 loop-x-preserved c =
     let e = c.inputs.ensures in
-    subst (λ (xs : List ℕ). CountedTo c.args.cells.now c.args.order.now (c.loop-x.mask - 1 * 2 ^ get_or c.variables-x-items.result.now c.loop-x.x-index 0 % 65536) c.cost-below.result xs (c.loop-x.x-index + 1)) (sym c.in_ok-push.ensures.items)
-    (next c.args.cells.now c.inputs.result e.bounded e.few e.value c.args.order.now c.variables-x-items.result.now c.variables-x-items.ensures.value c.requires c.loop-x.mask c.loop-x.cost c.loop-x.counts.items c.loop-x.x-index c.loop-x.invariant c.loop-x-test.true c.cost-below.result c.cost-below.ensures)
+    subst (λ (xs : List ℕ). CountedTo c.args.cells.now c.args.order.now
+    (c.loop-x.mask - 1 * 2 ^ get_or c.variables-x-items.result.now c.loop-x.x-index 0 % 65536) c.cost-below.result xs
+    (c.loop-x.x-index + 1))
+    (sym c.in_ok-push.ensures.items)
+    (next c.args.cells.now c.inputs.result e.bounded e.few e.value c.args.order.now c.variables-x-items.result.now
+    c.variables-x-items.ensures.value c.requires c.loop-x.mask c.loop-x.cost c.loop-x.counts.items c.loop-x.x-index c.loop-x.invariant
+    c.loop-x-test.true c.cost-below.result c.cost-below.ensures)
 
 pub returns : goal.returns
 returns c =
     let same = ap length c.variables-x-items.ensures.value in
     let f = c.loop-x-test.false in
     let m = c.loop-x.auto.x-index-end in
-    counted_whole c.args.cells.now c.args.order.now c.loop-x.mask c.loop-x.cost c.loop-x.counts.items c.loop-x.x-index c.loop-x.invariant (omega (arith, same, f, m))
+    counted_whole c.args.cells.now c.args.order.now c.loop-x.mask c.loop-x.cost c.loop-x.counts.items c.loop-x.x-index c.loop-x.invariant
+    (omega (arith, same, f, m))

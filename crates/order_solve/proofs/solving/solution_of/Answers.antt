@@ -7,7 +7,8 @@ use Rattle.order_solve.proofs.Solved.{total_size, total_small, total_fewest, cel
 use Rattle.order_solve.proofs.solving.solution_of.Goals as goal
 
 -- the total is the cost of the set of all variables
-total_is : (t : Setting) (inputs mask total : ℕ) → inputs ≡ t.problem.inputs → mask ≡ 2 ^ inputs - 1 → total ≡ cell_cost t.problem.inputs (functions t.problem) t.pairs.pairs t.bound mask →
+total_is : (t : Setting) (inputs mask total : ℕ) → inputs ≡ t.problem.inputs → mask ≡ 2 ^ inputs - 1 →
+    total ≡ cell_cost t.problem.inputs (functions t.problem) t.pairs.pairs t.bound mask →
     total ≡ cell_cost t.problem.inputs (functions t.problem) t.pairs.pairs t.bound (2 ^ t.problem.inputs - 1)
 total_is t inputs mask total v m e = e ∙ ap (cell_cost t.problem.inputs (functions t.problem) t.pairs.pairs t.bound) (m ∙ ap (λ (k : ℕ). 2 ^ k - 1) v)
 
@@ -15,7 +16,8 @@ pub listed_cells-requires : goal.listed_cells-requires
 listed_cells-requires c =
     let t = c.args.cells.now in
     let e = c.inputs.ensures in
-    total_small t e.bounded c.in_ok-order.order c.in_ok-order.ensures c.cost-total.result (total_is t c.inputs.result c.all_variables.result c.cost-total.result e.value c.all_variables.ensures c.cost-total.ensures)
+    total_small t e.bounded c.in_ok-order.order c.in_ok-order.ensures c.cost-total.result
+    (total_is t c.inputs.result c.all_variables.result c.cost-total.result e.value c.all_variables.ensures c.cost-total.ensures)
 
 pub returns-clause-solution : goal.returns-clause-solution
 returns-clause-solution c =

@@ -10,11 +10,14 @@ use Rattle.order_solve.proofs.Rounds.{Working, working_none, working_stays, work
 use Rattle.order_solve.proofs.working.work_layer.Goals as goal
 
 pub loop-claim-init : goal.loop-claim-init
-loop-claim-init g c = subst (λ (n : ℕ). Working c.args.bench.now.setting c.args.seat c.args.seat n) (sym c.new-tally.ensures) (working_none c.args.bench.now.setting c.args.seat)
+loop-claim-init g c =
+    subst (λ (n : ℕ). Working c.args.bench.now.setting c.args.seat c.args.seat n) (sym c.new-tally.ensures)
+    (working_none c.args.bench.now.setting c.args.seat)
 
 pub cells_of_block-requires-clause-layer : goal.cells_of_block-requires-clause-layer
 cells_of_block-requires-clause-layer g c =
-    ap layer_of c.block.ensures ∙ block_layer c.args.board.now.brief.layer c.in-Some.claim.place c.in-Some.claim.block c.in-Some.ensures.block ∙ c.requires.layer
+    ap layer_of c.block.ensures
+    ∙ block_layer c.args.board.now.brief.layer c.in-Some.claim.place c.in-Some.claim.block c.in-Some.ensures.block ∙ c.requires.layer
 
 pub cells_of_block-requires-clause-room : goal.cells_of_block-requires-clause-room
 cells_of_block-requires-clause-room g c =
@@ -26,10 +29,13 @@ cells_of_block-requires-clause-room g c =
     let w = c.loop-claim.invariant in
     let e = c.in-Some.ensures in
     let h = claims_at c.args.board.now s s1 p b (w.board ∙ c.requires.seat) e.block e.gained e.claimed e.later in
-    let gains : widths_for t _ ≡ c.loop-claim.tally + widths_for t (block_masks c.block.result.now) = round_gains t c.args.seat s s1 s1 c.loop-claim.tally p b w h ∙ ap (λ (z : BlockOf). c.loop-claim.tally + widths_for t (block_masks z)) (sym c.block.ensures) in
+    let gains : widths_for t _ ≡ c.loop-claim.tally + widths_for t (block_masks c.block.result.now) =
+    round_gains t c.args.seat s s1 s1 c.loop-claim.tally p b w h
+    ∙ ap (λ (z : BlockOf). c.loop-claim.tally + widths_for t (block_masks z)) (sym c.block.ensures) in
     let few = few_gained t c.args.seat s1 t.problem.inputs
     (let f = c.bench.invariant.0.few in let v = ap (λ (z : BenchOf). z.setting.problem.inputs) c.bench.view_is in omega (arith, f, v))
-    (ap (λ (z : BoardId). z.brief.layer.inputs) c.requires.seat ∙ ap (λ (l : LayerOf). l.inputs) c.requires.layer ∙ ap (λ (z : BenchOf). z.layer.inputs) (sym c.bench.view_is) ∙ ap (λ (l : LayerOf). l.inputs) c.bench.invariant.0.bench.layer
+    (ap (λ (z : BoardId). z.brief.layer.inputs) c.requires.seat ∙ ap (λ (l : LayerOf). l.inputs) c.requires.layer
+    ∙ ap (λ (z : BenchOf). z.layer.inputs) (sym c.bench.view_is) ∙ ap (λ (l : LayerOf). l.inputs) c.bench.invariant.0.bench.layer
     ∙ ap (λ (z : BenchOf). z.setting.problem.inputs) c.bench.view_is)
     (let f = c.bench.invariant.0.few in let v = ap (λ (z : BenchOf). z.setting.problem.inputs) c.bench.view_is in omega (arith, f, v)) in
     omega (arith, gains, few)
@@ -41,7 +47,9 @@ loop-claim-smaller g c =
     let w = c.loop-claim.invariant in
     let e = c.in-Some.ensures in
     round_closes s s1 c.post_block.new.seat c.in-Some.claim.place c.in-Some.claim.block
-    (claims_at c.args.board.now s s1 c.in-Some.claim.place c.in-Some.claim.block (w.board ∙ c.requires.seat) e.block e.gained e.claimed e.later) c.post_block.ensures.stays
+    (claims_at c.args.board.now s s1 c.in-Some.claim.place c.in-Some.claim.block (w.board ∙ c.requires.seat) e.block e.gained e.claimed
+    e.later)
+    c.post_block.ensures.stays
 
 pub loop-claim-preserved : goal.loop-claim-preserved
 loop-claim-preserved g c =
@@ -54,8 +62,10 @@ loop-claim-preserved g c =
     let w = c.loop-claim.invariant in
     let e = c.in-Some.ensures in
     let h = claims_at c.args.board.now s s1 p b (w.board ∙ c.requires.seat) e.block e.gained e.claimed e.later in
-    let all : (mask : ℕ) → has (block_masks b) mask ≡ _ → IsPosted s2 mask = λ mask m. c.post_block.ensures.posted mask (ap (λ (z : BlockOf). has (block_masks z) mask) c.block-in-Some.ensures ∙ m) in
-    subst (λ (n : ℕ). Working t c.args.seat s2 n) (sym (c.in_ok-cells.ensures.tally ∙ ap (λ (z : BlockOf). c.loop-claim.tally + widths_for t (block_masks z)) c.block.ensures))
+    let all : (mask : ℕ) → has (block_masks b) mask ≡ _ → IsPosted s2 mask =
+    λ mask m. c.post_block.ensures.posted mask (ap (λ (z : BlockOf). has (block_masks z) mask) c.block-in-Some.ensures ∙ m) in
+    subst (λ (n : ℕ). Working t c.args.seat s2 n)
+    (sym (c.in_ok-cells.ensures.tally ∙ ap (λ (z : BlockOf). c.loop-claim.tally + widths_for t (block_masks z)) c.block.ensures))
     (working_round t c.args.seat s s1 s2 c.loop-claim.tally p b w h c.post_block.ensures.stays all)
 
 pub returns-clause-tally : goal.returns-clause-tally

@@ -20,8 +20,11 @@ loop-block-init c =
     record {
       long = omega arith;
       few = omega arith;
-      celled = subst (Celled ps (joined_mask c.args.masks.now c.args.x) (length c.args.masks.now) c.args.cells.now c.in_ok-out.out.items (take 0 c.in_ok-joined.joined.items)) z
-          (celled_none ps (joined_mask c.args.masks.now c.args.x) (length c.args.masks.now) c.args.cells.now c.in_ok-out.out.items (omega arith) c.requires.cells c.requires.empty);
+      celled = subst
+          (Celled ps (joined_mask c.args.masks.now c.args.x) (length c.args.masks.now) c.args.cells.now c.in_ok-out.out.items
+          (take 0 c.in_ok-joined.joined.items)) z
+          (celled_none ps (joined_mask c.args.masks.now c.args.x) (length c.args.masks.now) c.args.cells.now c.in_ok-out.out.items
+          (omega arith) c.requires.cells c.requires.empty);
     }
 
 pub loop-block-preserved : goal.loop-block-preserved
@@ -38,7 +41,9 @@ loop-block-preserved c =
           record {
             long = ap (λ (v : Vec ℕ Global). length v.items) w.joined-is ∙ w.loop-i.invariant.long;
             few = omega arith;
-            celled = subst (λ y. y) (λ t. Celled (places.pairs c.args.numbers.now (2 ^ c.args.rank)) (joined_mask c.args.masks.now c.args.x) (length c.args.masks.now) (sym w.cells-is t) ((sym w.out-is t).items) (take (sym m t) (sym w.joined-is t).items) (e t))
+            celled = subst (λ y. y)
+                (λ t. Celled (places.pairs c.args.numbers.now (2 ^ c.args.rank)) (joined_mask c.args.masks.now c.args.x)
+                (length c.args.masks.now) (sym w.cells-is t) ((sym w.out-is t).items) (take (sym m t) (sym w.joined-is t).items) (e t))
                 w.loop-i.invariant.celled;
           }
       | else-count-block+else-loop-i-else-count-block-test w ↦
@@ -50,7 +55,9 @@ loop-block-preserved c =
           record {
             long = ap (λ (v : Vec ℕ Global). length v.items) w.joined-is ∙ w.loop-i-else-count-block.invariant.long;
             few = omega arith;
-            celled = subst (λ y. y) (λ t. Celled (places.pairs c.args.numbers.now (2 ^ c.args.rank)) (joined_mask c.args.masks.now c.args.x) (length c.args.masks.now) (sym w.cells-is t) ((sym w.out-is t).items) (take (sym m t) (sym w.joined-is t).items) (e t))
+            celled = subst (λ y. y)
+                (λ t. Celled (places.pairs c.args.numbers.now (2 ^ c.args.rank)) (joined_mask c.args.masks.now c.args.x)
+                (length c.args.masks.now) (sym w.cells-is t) ((sym w.out-is t).items) (take (sym m t) (sym w.joined-is t).items) (e t))
                 w.loop-i-else-count-block.invariant.celled;
           }
     ]
@@ -64,7 +71,8 @@ returns c =
     let j = c.loop-block.block * 2 ^ c.args.rank in
     let made = c.loop-block.invariant.celled.made in
     let l = length-pairs c.args.numbers.now (2 ^ c.args.rank) in
-    let a = block_all (length c.args.numbers.now) c.args.rank c.loop-block.block c.requires.table.paired.whole (let t = c.loop-block-test.false in omega arith) in
+    let a = block_all (length c.args.numbers.now) c.args.rank c.loop-block.block c.requires.table.paired.whole
+    (let t = c.loop-block-test.false in omega arith) in
     record {
       numbers_are = made_numbers 0 ps join out joined j (omega arith) made;
       many = ap length c.truncate.ensures.items ∙ made_many 0 ps join out joined j (omega arith) made;
@@ -75,38 +83,45 @@ pub loop-i-init : goal.loop-i-init
 loop-i-init c = record {
   long = c.loop-block.invariant.long;
   few = let f = c.loop-block.invariant.few in omega arith;
-  celled = subst (Celled (places.pairs c.args.numbers.now (2 ^ c.args.rank)) (joined_mask c.args.masks.now c.args.x) (length c.args.masks.now) c.loop-block.cells c.loop-block.out.items (take c.loop-block.count c.loop-block.joined.items))
+  celled = subst
+      (Celled (places.pairs c.args.numbers.now (2 ^ c.args.rank)) (joined_mask c.args.masks.now c.args.x) (length c.args.masks.now)
+      c.loop-block.cells c.loop-block.out.items (take c.loop-block.count c.loop-block.joined.items))
       (let e : c.loop-block.block * 2 ^ c.args.rank ≡ c.loop-block.block * 2 ^ c.args.rank + 0 = omega arith in e) c.loop-block.invariant.celled;
 }
 
 pub join_mask-requires-clause-lower : goal.join_mask-requires-clause-lower
 join_mask-requires-clause-lower c =
     let s = one_shl c.args.rank 64 (let h = c.requires.table.paired.small_rank in omega arith) in
-    let b = coded_classes c.args.numbers.now c.args.rank (length c.args.masks.now) (1 * 2 ^ c.args.rank % 2 ^ 64) c.loop-block.block c.loop-i.i s c.requires.table.paired.whole c.requires.table.below c.loop-block-test.true c.loop-i-test.true in
+    let b = coded_classes c.args.numbers.now c.args.rank (length c.args.masks.now) (1 * 2 ^ c.args.rank % 2 ^ 64) c.loop-block.block
+    c.loop-i.i s c.requires.table.paired.whole c.requires.table.below c.loop-block-test.true c.loop-i-test.true in
     b.0
 
 pub join_mask-requires-clause-upper : goal.join_mask-requires-clause-upper
 join_mask-requires-clause-upper c =
     let s = one_shl c.args.rank 64 (let h = c.requires.table.paired.small_rank in omega arith) in
-    let b = coded_classes c.args.numbers.now c.args.rank (length c.args.masks.now) (1 * 2 ^ c.args.rank % 2 ^ 64) c.loop-block.block c.loop-i.i s c.requires.table.paired.whole c.requires.table.below c.loop-block-test.true c.loop-i-test.true in
+    let b = coded_classes c.args.numbers.now c.args.rank (length c.args.masks.now) (1 * 2 ^ c.args.rank % 2 ^ 64) c.loop-block.block
+    c.loop-i.i s c.requires.table.paired.whole c.requires.table.below c.loop-block-test.true c.loop-i-test.true in
     b.1
 
 pub bounds-cells-cell : goal.bounds-cells-cell
 bounds-cells-cell c =
     let s = one_shl c.args.rank 64 (let h = c.requires.table.paired.small_rank in omega arith) in
-    let b = coded_classes c.args.numbers.now c.args.rank (length c.args.masks.now) (1 * 2 ^ c.args.rank % 2 ^ 64) c.loop-block.block c.loop-i.i s c.requires.table.paired.whole c.requires.table.below c.loop-block-test.true c.loop-i-test.true in
+    let b = coded_classes c.args.numbers.now c.args.rank (length c.args.masks.now) (1 * 2 ^ c.args.rank % 2 ^ 64) c.loop-block.block
+    c.loop-i.i s c.requires.table.paired.whole c.requires.table.below c.loop-block-test.true c.loop-i-test.true in
     cell_within (length c.args.masks.now) _ _ (length c.loop-i.cells) c.loop-i.invariant.celled.room b.0 b.1
 
 pub bounds-cells-cell-in-loop-i : goal.bounds-cells-cell-in-loop-i
 bounds-cells-cell-in-loop-i c =
     let s = one_shl c.args.rank 64 (let h = c.requires.table.paired.small_rank in omega arith) in
-    let b = coded_classes c.args.numbers.now c.args.rank (length c.args.masks.now) (1 * 2 ^ c.args.rank % 2 ^ 64) c.loop-block.block c.loop-i.i s c.requires.table.paired.whole c.requires.table.below c.loop-block-test.true c.loop-i-test.true in
+    let b = coded_classes c.args.numbers.now c.args.rank (length c.args.masks.now) (1 * 2 ^ c.args.rank % 2 ^ 64) c.loop-block.block
+    c.loop-i.i s c.requires.table.paired.whole c.requires.table.below c.loop-block-test.true c.loop-i-test.true in
     cell_within (length c.args.masks.now) _ _ (length c.loop-i.cells) c.loop-i.invariant.celled.room b.0 b.1
 
 pub index_mut-requires-in-loop-i : goal.index_mut-requires-in-loop-i
 index_mut-requires-in-loop-i c =
     let s = one_shl c.args.rank 64 (let h = c.requires.table.paired.small_rank in omega arith) in
-    let i = block_inside (length c.args.numbers.now) c.args.rank c.loop-block.block c.loop-i.i c.requires.table.paired.whole c.loop-block-test.true (let t = c.loop-i-test.true in omega arith) in
+    let i = block_inside (length c.args.numbers.now) c.args.rank c.loop-block.block c.loop-i.i c.requires.table.paired.whole
+    c.loop-block-test.true (let t = c.loop-i-test.true in omega arith) in
     let l = length-pairs c.args.numbers.now (2 ^ c.args.rank) in
     let o = c.loop-i.invariant.celled.made.long in
     let e : c.loop-block.block * (1 * 2 ^ c.args.rank % 2 ^ 64) ≡ c.loop-block.block * 2 ^ c.args.rank = ap (λ z. c.loop-block.block * z) s in
@@ -124,8 +139,10 @@ loop-i-preserved c =
     let all = c.loop-i.joined.items in
     let count = c.loop-i.count in
     let s = one_shl c.args.rank 64 (let h = c.requires.table.paired.small_rank in omega arith) in
-    let i = block_inside (length cs) c.args.rank c.loop-block.block c.loop-i.i c.requires.table.paired.whole c.loop-block-test.true (let t = c.loop-i-test.true in omega arith) in
-    let p = coded_pair cs c.args.rank (1 * 2 ^ c.args.rank % 2 ^ 64) c.loop-block.block c.loop-i.i s c.requires.table.paired.whole c.loop-block-test.true c.loop-i-test.true in
+    let i = block_inside (length cs) c.args.rank c.loop-block.block c.loop-i.i c.requires.table.paired.whole c.loop-block-test.true
+    (let t = c.loop-i-test.true in omega arith) in
+    let p = coded_pair cs c.args.rank (1 * 2 ^ c.args.rank % 2 ^ 64) c.loop-block.block c.loop-i.i s c.requires.table.paired.whole
+    c.loop-block-test.true c.loop-i-test.true in
     let l = length-pairs cs (2 ^ c.args.rank) in
     let o = c.loop-i.invariant.long in
     let f = c.loop-i.invariant.few in
@@ -145,7 +162,9 @@ loop-i-preserved c =
             record {
               long = set_long;
               few = omega arith;
-              celled = subst (λ y. y) (λ t. Celled ps join n (set cells (sym at t) (sym w.number-is t + 1)) (set out (sym place t) (sym w.number-is t)) (take (sym more t) (set all count mask)) (k t))
+              celled = subst (λ y. y)
+                  (λ t. Celled ps join n (set cells (sym at t) (sym w.number-is t + 1)) (set out (sym place t) (sym w.number-is t))
+                  (take (sym more t) (set all count mask)) (k t))
                   (fronted_new ps join n below cells out all j count mask small same_long f (c.join_mask.ensures ∙ ap join p) z c.loop-i.invariant.celled);
             }
         | else-next-eq0-2 v ↦ absurd (v.if-next-eq0-2.false w.if-next-eq0.true)
@@ -153,13 +172,16 @@ loop-i-preserved c =
       | else-next-eq0 w ↦ elim c.if-next-eq0-2.branch [
         | then-next-eq0-2 v ↦ absurd (w.if-next-eq0.false v.if-next-eq0-2.true)
         | else-next-eq0-2 v ↦
-            let ne = λ (q : get_or cells ((get_or ps j (0, 0)).0 * n + (get_or ps j (0, 0)).1) 0 ≡ 0). w.if-next-eq0.false (ap (λ y. get_or cells y 0) at ∙ q) in
+            let ne = λ (q : get_or cells ((get_or ps j (0, 0)).0 * n + (get_or ps j (0, 0)).1) 0 ≡ 0). w.if-next-eq0.false
+            (ap (λ y. get_or cells y 0) at ∙ q) in
             let m = w.number-is ∙ ap (λ y. get_or cells y 0 - 1) at in
             let same = v.count-is in
             record {
               long = set_long;
               few = omega arith;
-              celled = subst (λ y. y) (λ t. Celled ps join n (set cells (sym at t) (sym m t + 1)) (set out (sym place t) (sym m t)) (take (sym same t) (set all count mask)) (k t))
+              celled = subst (λ y. y)
+                  (λ t. Celled ps join n (set cells (sym at t) (sym m t + 1)) (set out (sym place t) (sym m t))
+                  (take (sym same t) (set all count mask)) (k t))
                   (fronted_old ps join n below cells out all j count mask small ne c.loop-i.invariant.celled);
             }
       ]
@@ -169,32 +191,41 @@ pub loop-i-else-count-block-init : goal.loop-i-else-count-block-init
 loop-i-else-count-block-init c = record {
   long = c.loop-block.invariant.long;
   few = let f = c.loop-block.invariant.few in omega arith;
-  celled = subst (Celled (places.pairs c.args.numbers.now (2 ^ c.args.rank)) (joined_mask c.args.masks.now c.args.x) (length c.args.masks.now) c.loop-block.cells c.loop-block.out.items (take c.loop-block.count c.loop-block.joined.items))
+  celled = subst
+      (Celled (places.pairs c.args.numbers.now (2 ^ c.args.rank)) (joined_mask c.args.masks.now c.args.x) (length c.args.masks.now)
+      c.loop-block.cells c.loop-block.out.items (take c.loop-block.count c.loop-block.joined.items))
       (let e : c.loop-block.block * 2 ^ c.args.rank ≡ c.loop-block.block * 2 ^ c.args.rank + 0 = omega arith in e) c.loop-block.invariant.celled;
 }
 
 pub join_mask-requires-then-next-eq0-3-clause-lower : goal.join_mask-requires-then-next-eq0-3-clause-lower
 join_mask-requires-then-next-eq0-3-clause-lower c =
     let s = one_shl c.args.rank 64 (let h = c.requires.table.paired.small_rank in omega arith) in
-    let b = coded_classes c.args.numbers.now c.args.rank (length c.args.masks.now) (1 * 2 ^ c.args.rank % 2 ^ 64) c.loop-block.block c.loop-i-else-count-block.i s c.requires.table.paired.whole c.requires.table.below c.loop-block-test.true c.loop-i-else-count-block-test.true in
+    let b = coded_classes c.args.numbers.now c.args.rank (length c.args.masks.now) (1 * 2 ^ c.args.rank % 2 ^ 64) c.loop-block.block
+    c.loop-i-else-count-block.i s c.requires.table.paired.whole c.requires.table.below c.loop-block-test.true
+    c.loop-i-else-count-block-test.true in
     b.0
 
 pub join_mask-requires-then-next-eq0-3-clause-upper : goal.join_mask-requires-then-next-eq0-3-clause-upper
 join_mask-requires-then-next-eq0-3-clause-upper c =
     let s = one_shl c.args.rank 64 (let h = c.requires.table.paired.small_rank in omega arith) in
-    let b = coded_classes c.args.numbers.now c.args.rank (length c.args.masks.now) (1 * 2 ^ c.args.rank % 2 ^ 64) c.loop-block.block c.loop-i-else-count-block.i s c.requires.table.paired.whole c.requires.table.below c.loop-block-test.true c.loop-i-else-count-block-test.true in
+    let b = coded_classes c.args.numbers.now c.args.rank (length c.args.masks.now) (1 * 2 ^ c.args.rank % 2 ^ 64) c.loop-block.block
+    c.loop-i-else-count-block.i s c.requires.table.paired.whole c.requires.table.below c.loop-block-test.true
+    c.loop-i-else-count-block-test.true in
     b.1
 
 pub bounds-cells-cell-in-loop-i-else-count-block : goal.bounds-cells-cell-in-loop-i-else-count-block
 bounds-cells-cell-in-loop-i-else-count-block c =
     let s = one_shl c.args.rank 64 (let h = c.requires.table.paired.small_rank in omega arith) in
-    let b = coded_classes c.args.numbers.now c.args.rank (length c.args.masks.now) (1 * 2 ^ c.args.rank % 2 ^ 64) c.loop-block.block c.loop-i-else-count-block.i s c.requires.table.paired.whole c.requires.table.below c.loop-block-test.true c.loop-i-else-count-block-test.true in
+    let b = coded_classes c.args.numbers.now c.args.rank (length c.args.masks.now) (1 * 2 ^ c.args.rank % 2 ^ 64) c.loop-block.block
+    c.loop-i-else-count-block.i s c.requires.table.paired.whole c.requires.table.below c.loop-block-test.true
+    c.loop-i-else-count-block-test.true in
     cell_within (length c.args.masks.now) _ _ (length c.loop-i-else-count-block.cells) c.loop-i-else-count-block.invariant.celled.room b.0 b.1
 
 pub index_mut-requires-in-loop-i-else-count-block : goal.index_mut-requires-in-loop-i-else-count-block
 index_mut-requires-in-loop-i-else-count-block c =
     let s = one_shl c.args.rank 64 (let h = c.requires.table.paired.small_rank in omega arith) in
-    let i = block_inside (length c.args.numbers.now) c.args.rank c.loop-block.block c.loop-i-else-count-block.i c.requires.table.paired.whole c.loop-block-test.true (let t = c.loop-i-else-count-block-test.true in omega arith) in
+    let i = block_inside (length c.args.numbers.now) c.args.rank c.loop-block.block c.loop-i-else-count-block.i
+    c.requires.table.paired.whole c.loop-block-test.true (let t = c.loop-i-else-count-block-test.true in omega arith) in
     let l = length-pairs c.args.numbers.now (2 ^ c.args.rank) in
     let o = c.loop-i-else-count-block.invariant.celled.made.long in
     let e : c.loop-block.block * (1 * 2 ^ c.args.rank % 2 ^ 64) ≡ c.loop-block.block * 2 ^ c.args.rank = ap (λ z. c.loop-block.block * z) s in
@@ -212,8 +243,10 @@ loop-i-else-count-block-preserved c =
     let all = c.loop-i-else-count-block.joined.items in
     let count = c.loop-i-else-count-block.count in
     let s = one_shl c.args.rank 64 (let h = c.requires.table.paired.small_rank in omega arith) in
-    let i = block_inside (length cs) c.args.rank c.loop-block.block c.loop-i-else-count-block.i c.requires.table.paired.whole c.loop-block-test.true (let t = c.loop-i-else-count-block-test.true in omega arith) in
-    let p = coded_pair cs c.args.rank (1 * 2 ^ c.args.rank % 2 ^ 64) c.loop-block.block c.loop-i-else-count-block.i s c.requires.table.paired.whole c.loop-block-test.true c.loop-i-else-count-block-test.true in
+    let i = block_inside (length cs) c.args.rank c.loop-block.block c.loop-i-else-count-block.i c.requires.table.paired.whole
+    c.loop-block-test.true (let t = c.loop-i-else-count-block-test.true in omega arith) in
+    let p = coded_pair cs c.args.rank (1 * 2 ^ c.args.rank % 2 ^ 64) c.loop-block.block c.loop-i-else-count-block.i s
+    c.requires.table.paired.whole c.loop-block-test.true c.loop-i-else-count-block-test.true in
     let l = length-pairs cs (2 ^ c.args.rank) in
     let o = c.loop-i-else-count-block.invariant.long in
     let f = c.loop-i-else-count-block.invariant.few in
@@ -237,10 +270,12 @@ loop-i-else-count-block-preserved c =
             long = ap length d ∙ length-set all count mask ∙ o;
             few = omega arith;
             celled = subst (λ y. y) (λ t. Celled ps join n (sym e t) (set out (sym place t) (sym number t)) (take (sym m t) (sym d t)) (k t))
-                (fronted_new ps join n below cells out all j count mask small same_long f (w.join_mask-then-next-eq0-3.ensures ∙ ap join p) z c.loop-i-else-count-block.invariant.celled);
+                (fronted_new ps join n below cells out all j count mask small same_long f (w.join_mask-then-next-eq0-3.ensures ∙ ap join p)
+                z c.loop-i-else-count-block.invariant.celled);
           }
       | else-next-eq0-3 w ↦
-          let ne = λ (q : get_or cells ((get_or ps j (0, 0)).0 * n + (get_or ps j (0, 0)).1) 0 ≡ 0). w.if-next-eq0-3.false (ap (λ y. get_or cells y 0) at ∙ q) in
+          let ne = λ (q : get_or cells ((get_or ps j (0, 0)).0 * n + (get_or ps j (0, 0)).1) 0 ≡ 0). w.if-next-eq0-3.false
+          (ap (λ y. get_or cells y 0) at ∙ q) in
           let number = ap (λ y. y - 1) (w.next-is ∙ ap (λ y. get_or cells y 0) at) in
           let same = w.count-is in
           let d = ap (λ (y : Vec ℕ Global). y.items) w.joined-is in

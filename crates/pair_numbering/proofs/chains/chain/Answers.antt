@@ -27,7 +27,8 @@ loop-j-preserved c =
     let nl = c.loop-j.auto.next in
     let nh = c.requires.half in
     let lt : value k < length heads = omega arith in
-    let hs : (d : ℕ) → d < length heads → IsNext value half d (suc k) (get_or heads d 0) = λ d l. subst (λ z. IsNext value half d z (get_or heads d 0)) up (c.loop-j.invariant.heads d l) in
+    let hs : (d : ℕ) → d < length heads → IsNext value half d (suc k) (get_or heads d 0) =
+    λ d l. subst (λ z. IsNext value half d z (get_or heads d 0)) up (c.loop-j.invariant.heads d l) in
     record {
       small = omega arith;
       heads = λ d l. let P : ℕ → Type 0 = λ z. d < length (set heads z k) → IsNext value half d k (get_or (set heads z k) d 0) in

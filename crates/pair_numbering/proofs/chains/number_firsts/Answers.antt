@@ -13,7 +13,8 @@ loop-j-init c =
     let l = length-pairs c.args.numbers.now (2 ^ c.args.rank) in
     let n = c.in_ok-out.ensures.len in
     let m = c.requires.first.long in
-    subst (λ us. Made (0, 0) ps (λ p. p) c.in_ok-out.out.items us 0) (sym c.new-pairs.ensures.items) (made_none (0, 0) ps (λ p. p) c.in_ok-out.out.items (omega arith))
+    subst (λ us. Made (0, 0) ps (λ p. p) c.in_ok-out.out.items us 0) (sym c.new-pairs.ensures.items)
+    (made_none (0, 0) ps (λ p. p) c.in_ok-out.out.items (omega arith))
 
 pub index_mut-requires-else-f-j : goal.index_mut-requires-else-f-j
 index_mut-requires-else-f-j c =
@@ -45,7 +46,8 @@ loop-j-preserved c =
           let o : c.if-f-j.out.items ≡ set out j (length masks) = ap (λ (v : Vec ℕ Global). v.items) w.out-is ∙ ap (set out j) m in
           let pair = w.pair_at.ensures ∙ sym (pair_listed cs step j small) in
           subst (λ z. z) (λ i. Made (0, 0) ps (λ p. p) (sym o i) (sym d i) (j + 1))
-          (made_first (0, 0) ps (λ p. p) out masks j w.pair_at.result listed (subst (IsFirst (λ i. get_or ps i (0, 0)) j) w.if-f-j.true first) pair c.loop-j.invariant)
+          (made_first (0, 0) ps (λ p. p) out masks j w.pair_at.result listed
+          (subst (IsFirst (λ i. get_or ps i (0, 0)) j) w.if-f-j.true first) pair c.loop-j.invariant)
       | else-f-j w ↦
           let f = first.before in
           let other = w.if-f-j.false in

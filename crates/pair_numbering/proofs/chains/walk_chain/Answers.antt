@@ -13,7 +13,8 @@ bounds-numbers-low_place c =
     let s = one_shl c.args.rank 64 (let h = c.requires.paired.small_rank in omega arith) in
     let n = c.requires.next.long in
     let t = c.loop-j-test.true in
-    let w = pair_within (2 ^ c.args.rank) c.requires.paired.whole.0 (length c.args.numbers.now) c.loop-j.j (pow_pos c.args.rank) c.requires.paired.whole.1 (omega arith) in
+    let w = pair_within (2 ^ c.args.rank) c.requires.paired.whole.0 (length c.args.numbers.now) c.loop-j.j (pow_pos c.args.rank)
+    c.requires.paired.whole.1 (omega arith) in
     let e = c.low_place.ensures in
     omega arith
 

@@ -14,7 +14,10 @@ pub returns-clause-tells : goal.returns-clause-tells
 returns-clause-tells c =
     let l = length-pairs c.args.numbers.now (2 ^ c.args.rank) in
     let f = c.requires.table.few in
-    names_numbered c.args.masks.now c.args.x (places.pairs c.args.numbers.now (2 ^ c.args.rank)) c.in_ok-numbered.numbered.numbers.items c.in_ok-numbered.numbered.masks.items (omega arith) c.in_ok-numbered.ensures
+    names_numbered c.args.masks.now c.args.x (places.pairs c.args.numbers.now (2 ^ c.args.rank)) c.in_ok-numbered.numbered.numbers.items
+    c.in_ok-numbered.numbered.masks.items (omega arith) c.in_ok-numbered.ensures
 
 pub returns-clause-used : goal.returns-clause-used
-returns-clause-used c = λ e. ranks_used c.args.masks.now c.args.x (places.pairs c.args.numbers.now (2 ^ c.args.rank)) c.in_ok-numbered.numbered.numbers.items c.in_ok-numbered.numbered.masks.items c.in_ok-numbered.ensures
+returns-clause-used c =
+    λ e. ranks_used c.args.masks.now c.args.x (places.pairs c.args.numbers.now (2 ^ c.args.rank)) c.in_ok-numbered.numbered.numbers.items
+    c.in_ok-numbered.numbered.masks.items c.in_ok-numbered.ensures

@@ -9,7 +9,8 @@ pub join_masks-requires-clause-classes : goal.join_masks-requires-clause-classes
 join_masks-requires-clause-classes c =
     let m = c.in_ok-pairs.ensures in
     subst (λ us. ArePairsBelow us (length c.args.masks.now)) (sym c.deref-2.ensures.value)
-    (met_classes c.args.numbers.now c.args.rank (length c.args.masks.now) c.requires.table.paired.whole c.requires.table.below c.deref.result.now c.in_ok-pairs.pairs.items m.numbered_are m.many m.told)
+    (met_classes c.args.numbers.now c.args.rank (length c.args.masks.now) c.requires.table.paired.whole c.requires.table.below
+    c.deref.result.now c.in_ok-pairs.pairs.items m.numbered_are m.many m.told)
 
 pub returns : goal.returns
 returns c =

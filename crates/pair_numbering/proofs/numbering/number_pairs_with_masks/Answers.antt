@@ -9,7 +9,8 @@ pub join_masks-requires-clause-classes : goal.join_masks-requires-clause-classes
 join_masks-requires-clause-classes c =
     let n = c.in_ok-numbered-3.ensures in
     subst (λ us. ArePairsBelow us (length c.args.masks.now)) (sym c.deref.ensures.value)
-    (met_classes c.args.numbers.now c.args.rank (length c.args.masks.now) c.requires.table.paired.whole c.requires.table.below c.in_ok-numbered-3.numbered.numbers.items c.in_ok-numbered-3.numbered.pairs.items n.numbered_are n.many n.told)
+    (met_classes c.args.numbers.now c.args.rank (length c.args.masks.now) c.requires.table.paired.whole c.requires.table.below
+    c.in_ok-numbered-3.numbered.numbers.items c.in_ok-numbered-3.numbered.pairs.items n.numbered_are n.many n.told)
 
 pub returns : goal.returns
 returns c =

@@ -24,7 +24,8 @@ loop-j-preserved c =
           let listed = pair_listed cs (2 ^ c.args.rank) j (omega arith) in
           let len = w.if-number-len.true in
           subst (λ us. Joined (0, 0) ps (λ p. p) us (j + 1)) (sym (ap (λ (v : Vec (ℕ × ℕ) Global). v.items) w.pairs-is ∙ w.in_ok-push.ensures.items))
-          (joined_new (0, 0) ps (λ p. p) out j (get_or c.args.numbered.now j 0) w.pair_at.result small c.loop-j.invariant number (omega arith) (w.pair_at.ensures ∙ sym listed))
+          (joined_new (0, 0) ps (λ p. p) out j (get_or c.args.numbered.now j 0) w.pair_at.result small c.loop-j.invariant number
+          (omega arith) (w.pair_at.ensures ∙ sym listed))
       | else-number-len w ↦
           let len = w.if-number-len.false in
           subst (λ (v : Vec (ℕ × ℕ) Global). Joined (0, 0) ps (λ p. p) v.items (j + 1)) (sym w.pairs-is)
@@ -40,5 +41,6 @@ returns c =
     record {
       numbered_are = c.requires.numbered;
       many = joined_many (0, 0) ps (λ p. p) pairs c.loop-j.j (omega arith) c.loop-j.invariant;
-      told = ap (map (λ k. get_or pairs k (0, 0))) c.requires.numbered ∙ joined_told (0, 0) ps (λ p. p) pairs c.loop-j.j (omega arith) c.loop-j.invariant ∙ map-id ps;
+      told = ap (map (λ k. get_or pairs k (0, 0))) c.requires.numbered
+          ∙ joined_told (0, 0) ps (λ p. p) pairs c.loop-j.j (omega arith) c.loop-j.invariant ∙ map-id ps;
     }

@@ -28,7 +28,9 @@ overflow_cast-number c =
     let s = one_shl c.args.rank 64 (let h = c.requires.small_rank in omega arith) in
     let e = c.low_place-low.ensures in
     let cs = c.args.numbers.now in
-    let here : (get_or cs c.low_place-low.result 0, get_or cs (c.low_place-low.result + 1 * 2 ^ c.args.rank % 2 ^ 64) 0) ≡ places.pair_at cs (2 ^ c.args.rank) c.loop-j.j = λ i. (get_or cs (e i) 0, get_or cs (e i + s i) 0) in
+    let here : (get_or cs c.low_place-low.result 0, get_or cs (c.low_place-low.result + 1 * 2 ^ c.args.rank % 2 ^ 64) 0) ≡ places.pair_at cs
+    (2 ^ c.args.rank) c.loop-j.j =
+    λ i. (get_or cs (e i) 0, get_or cs (e i + s i) 0) in
     let n = c.in_ok-number.ensures.index ∙ ap (λ k. position_or_len (same_pair k) c.loop-j.seen.keys) here in
     let l = number_small cs (2 ^ c.args.rank) c.loop-j.j c.loop-j-test.true c.loop-j.seen.keys c.loop-j.invariant.seen in
     let t = c.loop-j-test.true in
@@ -40,14 +42,18 @@ loop-j-preserved c =
     let s = one_shl c.args.rank 64 (let h = c.requires.small_rank in omega arith) in
     let e = c.low_place-low.ensures in
     let cs = c.args.numbers.now in
-    let here : (get_or cs c.low_place-low.result 0, get_or cs (c.low_place-low.result + 1 * 2 ^ c.args.rank % 2 ^ 64) 0) ≡ places.pair_at cs (2 ^ c.args.rank) c.loop-j.j = λ i. (get_or cs (e i) 0, get_or cs (e i + s i) 0) in
+    let here : (get_or cs c.low_place-low.result 0, get_or cs (c.low_place-low.result + 1 * 2 ^ c.args.rank % 2 ^ 64) 0) ≡ places.pair_at cs
+    (2 ^ c.args.rank) c.loop-j.j =
+    λ i. (get_or cs (e i) 0, get_or cs (e i + s i) 0) in
     let n = c.in_ok-number.ensures.index ∙ ap (λ k. position_or_len (same_pair k) c.loop-j.seen.keys) here in
-    let k = c.in_ok-number.ensures.keys ∙ ap (λ k. if list_any (same_pair k) c.loop-j.seen.keys then c.loop-j.seen.keys else c.loop-j.seen.keys ++ k ∷ []) here in
+    let k = c.in_ok-number.ensures.keys
+    ∙ ap (λ k. if list_any (same_pair k) c.loop-j.seen.keys then c.loop-j.seen.keys else c.loop-j.seen.keys ++ k ∷ []) here in
     record {
       seen = subst (λ ks. Numbers same_pair pair_decides ks (take (c.loop-j.j + 1) (places.pairs cs (2 ^ c.args.rank)))) (sym k)
           (seen_more cs (2 ^ c.args.rank) c.loop-j.j c.loop-j-test.true c.loop-j.seen.keys c.loop-j.invariant.seen);
       done = c.in_ok-push.ensures.items
-          ∙ done_more cs (2 ^ c.args.rank) c.loop-j.j c.loop-j-test.true (rank same_pair (places.pairs cs (2 ^ c.args.rank))) c.loop-j.out.items c.in_ok-number.number c.loop-j.invariant.done
+          ∙ done_more cs (2 ^ c.args.rank) c.loop-j.j c.loop-j-test.true (rank same_pair (places.pairs cs (2 ^ c.args.rank)))
+          c.loop-j.out.items c.in_ok-number.number c.loop-j.invariant.done
           (n ∙ number_is cs (2 ^ c.args.rank) c.loop-j.j c.loop-j-test.true c.loop-j.seen.keys c.loop-j.invariant.seen);
     }
 

@@ -16,7 +16,8 @@ loop-j-init c =
     let a = c.in_ok-slots.ensures.len in
     let k = c.in_ok-keys.ensures.len in
     let o = c.in_ok-out.ensures.len in
-    let empty : (t : ℕ) → t < length c.in_ok-slots.slots.items → get_or c.in_ok-slots.slots.items t 0 ≡ length c.args.numbers.now / 2 = grind (arith, common_steps) in
+    let empty : (t : ℕ) → t < length c.in_ok-slots.slots.items → get_or c.in_ok-slots.slots.items t 0 ≡ length c.args.numbers.now / 2 =
+    grind (arith, common_steps) in
     slotted_none ps (home_of (4 * (length c.args.numbers.now / 2))) c.in_ok-slots.slots.items c.in_ok-keys.keys.items c.in_ok-out.out.items
     (omega arith) (omega arith) (omega arith) (λ t h. empty t h ∙ sym l)
 
@@ -31,7 +32,8 @@ returns c =
     record {
       numbered_are = made_numbers (0, 0) ps (λ p. p) out keys c.loop-j.j (omega arith) made;
       many = ap length c.truncate.ensures.items ∙ made_many (0, 0) ps (λ p. p) out keys c.loop-j.j (omega arith) made;
-      told = ap (λ us. map (λ k. get_or us k (0, 0)) out) c.truncate.ensures.items ∙ made_told (0, 0) ps (λ p. p) out keys c.loop-j.j (omega arith) made ∙ map-id ps;
+      told = ap (λ us. map (λ k. get_or us k (0, 0)) out) c.truncate.ensures.items
+          ∙ made_told (0, 0) ps (λ p. p) out keys c.loop-j.j (omega arith) made ∙ map-id ps;
     }
 
 pub loop-j-preserved : goal.loop-j-preserved

@@ -9,7 +9,8 @@ loop-rest-preserved c = record {
 }
 
 pub returns-then-not-blank-clause-shorter : goal.returns-then-not-blank-clause-shorter
-returns-then-not-blank-clause-shorter c = let some = word_some c.loop-rest.rest.now (omega arith) (search rules) in rw c.split_at.ensures.back (omega (arith, length-drop c.word_len.result c.loop-rest.rest.now))
+returns-then-not-blank-clause-shorter c = let some = word_some c.loop-rest.rest.now (omega arith) (search rules) in
+    rw c.split_at.ensures.back (omega (arith, length-drop c.word_len.result c.loop-rest.rest.now))
 
 pub returns-clause-none : goal.returns-clause-none
 returns-clause-none c = c.loop-rest.invariant.same ∙ words_of_none c.loop-rest.rest.now (omega arith)

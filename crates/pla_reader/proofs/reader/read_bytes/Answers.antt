@@ -12,7 +12,8 @@ returns-then-is_end c =
     let here : Reached lines (line ∷ rest) c.loop-rest.number (state_of c.loop-rest.progress) =
     rw (said_first c.loop-rest.rest.now c.first_line.result.1.now c.first_line.result.0.now c.first_line.ensures.line) at c.loop-rest.invariant.reached in
     let ends : is_end line ≡ true = ap is_end (sym c.statement_of-statement.ensures) ∙ sym c.is_end.ensures ∙ c.if-is_end.true in
-    answers_end c.args.bytes.now (c.loop-rest.number + 1) _ c.finish.result (ends_at_end lines rest c.loop-rest.number _ line here (end_line line ends)) c.finish.ensures.ok c.finish.ensures.err
+    answers_end c.args.bytes.now (c.loop-rest.number + 1) _ c.finish.result
+    (ends_at_end lines rest c.loop-rest.number _ line here (end_line line ends)) c.finish.ensures.ok c.finish.ensures.err
 
 pub loop-rest-preserved : goal.loop-rest-preserved
 loop-rest-preserved c =
@@ -41,4 +42,5 @@ returns c =
     let lines = said c.args.bytes.now in
     let here : Reached lines [] c.loop-rest.number (state_of c.loop-rest.progress) =
     rw (said_none c.loop-rest.rest.now (search rules)) at c.loop-rest.invariant.reached in
-    answers_end c.args.bytes.now c.loop-rest.number _ c.finish-2.result (ends_with_input lines c.loop-rest.number _ here) c.finish-2.ensures.ok c.finish-2.ensures.err
+    answers_end c.args.bytes.now c.loop-rest.number _ c.finish-2.result (ends_with_input lines c.loop-rest.number _ here)
+    c.finish-2.ensures.ok c.finish-2.ensures.err

@@ -5,8 +5,11 @@ use Rattle.reached_nodes.proofs.copies.+copy.Goals as goal
 
 pub returns-clause-copies : goal.returns-clause-copies
 returns-clause-copies t c =
-    copies_step c.args.order.now (words_in c.args.closed.now c.args.places) c.args.numbers.now.items c.copy.new.numbers.items c.copy-2.new.numbers.items c.add.new.numbers.items
+    copies_step c.args.order.now (words_in c.args.closed.now c.args.places) c.args.numbers.now.items c.copy.new.numbers.items
+    c.copy-2.new.numbers.items c.add.new.numbers.items
     c.args.nodes.now.items c.copy.new.nodes.items c.copy-2.new.nodes.items c.add.new.nodes.items
-    c.args.id c.word_at.result c.from.result c.node_parts-parts.result.low c.node_parts-parts.result.high c.index-number.result.now c.in_ok-low.low c.in_ok-high.high c.in_ok-made.made
-    c.requires.nodes c.if-id-lt2.false c.index-number.ensures c.if-number-ne0.false c.requires.known c.requires.copied.size c.word_at.ensures (c.from.ensures ∙ c.node_parts-parts.ensures.level) c.node_parts-parts.ensures.low c.node_parts-parts.ensures.high
+    c.args.id c.word_at.result c.from.result c.node_parts-parts.result.low c.node_parts-parts.result.high c.index-number.result.now
+    c.in_ok-low.low c.in_ok-high.high c.in_ok-made.made
+    c.requires.nodes c.if-id-lt2.false c.index-number.ensures c.if-number-ne0.false c.requires.known c.requires.copied.size
+    c.word_at.ensures (c.from.ensures ∙ c.node_parts-parts.ensures.level) c.node_parts-parts.ensures.low c.node_parts-parts.ensures.high
     c.in_ok-low.ensures.copies c.in_ok-high.ensures.copies c.in_ok-made.ensures.numbers c.in_ok-made.ensures.nodes c.in_ok-made.ensures.made

@@ -5,4 +5,6 @@ use Rattle.reached_nodes.proofs.Words.{get_or_found}
 use Rattle.reached_nodes.proofs.copies.word_at.Goals as goal
 
 pub returns : goal.returns
-returns c = sym (get_or-take c.args.places (slots_items c.args.closed.now.words) c.args.place 0 c.requires.place ∙ get_or_found (slots_items c.args.closed.now.words) c.args.place c.word.result c.word.ensures)
+returns c =
+    sym (get_or-take c.args.places (slots_items c.args.closed.now.words) c.args.place 0 c.requires.place
+    ∙ get_or_found (slots_items c.args.closed.now.words) c.args.place c.word.result c.word.ensures)

@@ -11,7 +11,8 @@ levels_under-requires-after_bounds g c κs within =
 
 pub report_text-requires-clause-order : goal.report_text-requires-clause-order
 report_text-requires-clause-order g c = λ k d low.
-    let long = one_length (length c.args.found.now.solution.order) c.args.tables.now.inputs c.args.found.now.solution.order c.variables-best.ensures.order c.requires.order in
+    let long = one_length (length c.args.found.now.solution.order) c.args.tables.now.inputs c.args.found.now.solution.order
+    c.variables-best.ensures.order c.requires.order in
     let own = subst (λ (o : List ℕ). IsOrder (length o) o) (sym c.variables-best.ensures.value) c.variables-best.ensures.order in
     let same = ap length c.variables-best.ensures.value in
     let member = member_at (length c.variables-best.result.now) c.variables-best.result.now k d own low in

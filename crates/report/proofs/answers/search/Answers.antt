@@ -6,4 +6,5 @@ use Rattle.report.proofs.answers.search.Goals as goal
 pub returns-clause-size : goal.returns-clause-size
 returns-clause-size g c =
     c.size-sifted_size.ensures.value ∙ c.size-sifted_size.ensures.sifted.true_size.size_is
-    ∙ (λ i. size_under (c.in_ok-found.ensures.problem i).inputs (functions (c.in_ok-found.ensures.problem i)) (sym (c.in_ok-sifted.ensures ∙ c.order.ensures.value) i))
+    ∙ (λ i. size_under (c.in_ok-found.ensures.problem i).inputs (functions (c.in_ok-found.ensures.problem i))
+    (sym (c.in_ok-sifted.ensures ∙ c.order.ensures.value) i))

@@ -7,7 +7,8 @@ use Rattle.report.proofs.answers.sift_from_first.Goals as goal
 
 pub with_pairs-requires-clause-few : goal.with_pairs-requires-clause-few
 with_pairs-requires-clause-few c =
-    let long = c.diagrams_have_their_functions_tables.ensures.roots c.args.cover.now.inputs (functions_of c.args.cover.now) c.args.first.order c.args.first c.requires.first.diagram in
+    let long = c.diagrams_have_their_functions_tables.ensures.roots c.args.cover.now.inputs (functions_of c.args.cover.now)
+    c.args.first.order c.args.first c.requires.first.diagram in
     let outputs = functions_long c.args.cover.now in
     let few = c.outputs-few.ensures.few in
     let value = c.outputs-few.ensures.value in
@@ -18,7 +19,9 @@ with_pairs-requires-clause-inputs c = c.requires.pairs ∙ sym c.requires.first.
 
 pub returns-clause-problem : goal.returns-clause-problem
 returns-clause-problem c =
-    let tables = c.diagrams_have_their_functions_tables.ensures.tables c.args.cover.now.inputs (functions_of c.args.cover.now) c.args.first.order c.args.first c.requires.first.long c.requires.first.diagram in
+    let tables =
+    c.diagrams_have_their_functions_tables.ensures.tables c.args.cover.now.inputs (functions_of c.args.cover.now) c.args.first.order
+    c.args.first c.requires.first.long c.requires.first.diagram in
     c.in_ok-sifted.ensures.functions ∙ c.in_ok-manager.ensures.functions ∙ tables ∙ sym (tables_value c.args.cover.now c.args.tables.now c.requires.tables)
 
 pub returns-clause-order : goal.returns-clause-order
@@ -26,5 +29,7 @@ returns-clause-order c =
     let problem = sym c.in_ok-sifted.ensures.functions ∙ returns-clause-problem c in (
       c.args.first.order,
       c.requires.first.starts,
-      c.in_ok-sifted.ensures.order ∙ (λ i. sifted_order (problem i).inputs (functions (problem i)) (c.in_ok-manager.ensures.pairs i) (c.in_ok-manager.ensures.order i)),
+      c.in_ok-sifted.ensures.order
+          ∙ (λ i. sifted_order (problem i).inputs (functions (problem i)) (c.in_ok-manager.ensures.pairs i)
+          (c.in_ok-manager.ensures.order i)),
     )

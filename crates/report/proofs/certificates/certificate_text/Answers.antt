@@ -11,7 +11,8 @@ use Rattle.report.proofs.Certified.{parts_same}
 use Rattle.report.proofs.certificates.certificate_text.Goals as goal
 
 -- a text that spells a certificate
-told : (cert own : Certificate) (r : Result (String Global) AllocError) → own ≡ cert → HasSpelling own → IfOk r (λ text. string_bytes text ≡ spelling own) → IfOk r (λ text. Spells (string_bytes text) cert)
+told : (cert own : Certificate) (r : Result (String Global) AllocError) → own ≡ cert → HasSpelling own →
+    IfOk r (λ text. string_bytes text ≡ spelling own) → IfOk r (λ text. Spells (string_bytes text) cert)
 told cert own (Ok text) e has is = subst (Spells (string_bytes text)) e (record { has = has; text_is = is })
 told cert own (Err e) same has is = record {}
 
@@ -26,9 +27,15 @@ unreachable-requires c =
     let most = rw c.count-few.ensures.value at c.count-few.ensures.most in
     let some = rw outputs at c.outputs-outputs.ensures.some in
     let few = rw outputs at c.outputs-outputs.ensures.few in
-    let same = parts_same n F P c.args.solution.order c.inputs-inputs.result c.outputs-outputs.result c.in_ok-order.order.items c.args.solution.levels.items c.args.solution.total c.in_ok-kept.kept.items c.args.solution.cells.items
-    (c.inputs-inputs.ensures.value ∙ c.requires.inputs) outputs (c.in_ok-order.ensures.items_if_clones_equal (λ x y h. h) ∙ c.variables.ensures.value) c.requires.solution.levels c.requires.solution.size c.in_ok-kept.ensures sorted c.requires.solution.cells in
-    c.in-None.ensures.none (subst HasSpelling (sym same) (c.orders_have_certificates.ensures n F P c.args.solution.order kept.some kept.few some few c.requires.solution.first.fewest.is_order kept.below most sorted))
+    let same = parts_same n F P c.args.solution.order c.inputs-inputs.result c.outputs-outputs.result c.in_ok-order.order.items
+    c.args.solution.levels.items c.args.solution.total c.in_ok-kept.kept.items c.args.solution.cells.items
+    (c.inputs-inputs.ensures.value ∙ c.requires.inputs) outputs
+    (c.in_ok-order.ensures.items_if_clones_equal (λ x y h. h) ∙ c.variables.ensures.value) c.requires.solution.levels
+    c.requires.solution.size c.in_ok-kept.ensures sorted c.requires.solution.cells in
+    c.in-None.ensures.none
+    (subst HasSpelling (sym same)
+    (c.orders_have_certificates.ensures n F P c.args.solution.order kept.some kept.few some few
+    c.requires.solution.first.fewest.is_order kept.below most sorted))
 
 pub returns : goal.returns
 returns c =
@@ -37,7 +44,10 @@ returns c =
     let P = c.args.pairs.now.pairs in
     let sorted = rw c.requires.inputs at c.inputs-inputs.ensures.sorted in
     let outputs = c.outputs-outputs.ensures.value ∙ sym (length-map c.args.problem.now.tables from_table) in
-    let same = parts_same n F P c.args.solution.order c.inputs-inputs.result c.outputs-outputs.result c.in_ok-order.order.items c.args.solution.levels.items c.args.solution.total c.in_ok-kept.kept.items c.args.solution.cells.items
-    (c.inputs-inputs.ensures.value ∙ c.requires.inputs) outputs (c.in_ok-order.ensures.items_if_clones_equal (λ x y h. h) ∙ c.variables.ensures.value) c.requires.solution.levels c.requires.solution.size c.in_ok-kept.ensures sorted c.requires.solution.cells in
+    let same = parts_same n F P c.args.solution.order c.inputs-inputs.result c.outputs-outputs.result c.in_ok-order.order.items
+    c.args.solution.levels.items c.args.solution.total c.in_ok-kept.kept.items c.args.solution.cells.items
+    (c.inputs-inputs.ensures.value ∙ c.requires.inputs) outputs
+    (c.in_ok-order.ensures.items_if_clones_equal (λ x y h. h) ∙ c.variables.ensures.value) c.requires.solution.levels
+    c.requires.solution.size c.in_ok-kept.ensures sorted c.requires.solution.cells in
     let cert = c.in-Some.ensures.some ∙ same in
     told (certificate_of n F P c.args.solution.order) c.in-Some.cert c.text.result cert (subst HasSpelling c.cert.view_is c.cert.invariant) c.text.ensures

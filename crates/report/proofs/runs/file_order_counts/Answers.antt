@@ -12,6 +12,8 @@ pub returns-clause-few : goal.returns-clause-few
 unfolding level_counts
 returns-clause-few g c =
     let order_long = ap length c.in_ok-order.ensures ∙ length-range_with_len 0 c.inputs.result in
-    let l = ap length c.in_ok-counts.ensures ∙ length-map-range_with_len (level_count c.in_ok-tables.tables.inputs (functions c.in_ok-tables.tables) c.in_ok-order.order) 0 (length c.in_ok-order.order) in
+    let l = ap length c.in_ok-counts.ensures
+    ∙ length-map-range_with_len (level_count c.in_ok-tables.tables.inputs (functions c.in_ok-tables.tables) c.in_ok-order.order) 0
+    (length c.in_ok-order.order) in
     let few = c.inputs.ensures.few in
     omega arith

@@ -5,7 +5,8 @@ use Rattle.sifting.proofs.build.first_cut.Goals as goal
 
 pub loop-root-preserved : goal.loop-root-preserved
 loop-root-preserved c =
-    roots_step c.loop-root.root-index c.args.roots.now c.loop-root.numbers.items c.push.new.self.items c.loop-root.codes.keys c.insert_full.new.self.keys c.code.result c.in_ok-number.number
+    roots_step c.loop-root.root-index c.args.roots.now c.loop-root.numbers.items c.push.new.self.items c.loop-root.codes.keys
+    c.insert_full.new.self.keys c.code.result c.in_ok-number.number
     c.loop-root.invariant c.code.ensures c.in_ok-number.ensures.keys c.in_ok-number.ensures.index c.in_ok-push.ensures.items
 
 pub returns : goal.returns

@@ -19,8 +19,10 @@ overflow_add-count c =
 pub loop-low-preserved : goal.loop-low-preserved
 loop-low-preserved c =
     elim c.if-low-high.branch [
-      | then-low-high w ↦ w.count-is ∙ ap (λ m. m + 1) c.loop-low.invariant ∙ sym (branching_more_yes c.args.nodes.now c.loop-low.low-index c.loop-low-test.true w.if-low-high.true)
-      | else-low-high w ↦ w.count-is ∙ c.loop-low.invariant ∙ sym (branching_more_no c.args.nodes.now c.loop-low.low-index c.loop-low-test.true w.if-low-high.false)
+      | then-low-high w ↦ w.count-is ∙ ap (λ m. m + 1) c.loop-low.invariant
+          ∙ sym (branching_more_yes c.args.nodes.now c.loop-low.low-index c.loop-low-test.true w.if-low-high.true)
+      | else-low-high w ↦ w.count-is ∙ c.loop-low.invariant
+          ∙ sym (branching_more_no c.args.nodes.now c.loop-low.low-index c.loop-low-test.true w.if-low-high.false)
     ]
 
 pub returns : goal.returns

@@ -12,7 +12,8 @@ pub returns : goal.returns
 returns c used node e =
     let nodes : List Node = c.args.nodes.now in
     let within : c.args.place < length nodes = c.requires in
-    subst (λ (v : Node). IsCheckedNode c.args.order.now nodes c.args.roots.now c.args.place v) (get_or_from_slice_get nodes c.args.place node no_node e) record {
+    subst (λ (v : Node). IsCheckedNode c.args.order.now nodes c.args.roots.now c.args.place v)
+    (get_or_from_slice_get nodes c.args.place node no_node e) record {
       variable = omega arith;
       low = c.is_behind.ensures c.if-not-is_behind.false;
       high = c.is_behind-else-not-is_behind.ensures c.if-not-is_behind-2.false;

@@ -8,5 +8,6 @@ pub loop-high-preserved : goal.loop-high-preserved
 loop-high-preserved c = let i = c.loop-high.invariant in record {
   follows = follows_trans _ _ _ i.follows c.make.ensures.follows;
   below = all_below c.loop-high.session c.make.new.session c.args.level c.args.below.now c.make.ensures.follows i.below;
-  ids = all_more c.loop-high.session c.make.new.session c.args.level c.in-Ok.id c.loop-high.ids.items c.push.new.self.items c.make.ensures.follows i.ids c.in-Ok.ensures.function.known c.in-Ok.ensures.level c.in_ok-push.ensures.items;
+  ids = all_more c.loop-high.session c.make.new.session c.args.level c.in-Ok.id c.loop-high.ids.items c.push.new.self.items
+      c.make.ensures.follows i.ids c.in-Ok.ensures.function.known c.in-Ok.ensures.level c.in_ok-push.ensures.items;
 }

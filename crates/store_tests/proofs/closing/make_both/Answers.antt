@@ -11,13 +11,19 @@ returns-clause-follows c = let a = c.args.session.now in let b = c.make.new.sess
 
 second : (c : goal.In_ok-disjunction) → Means c.make-2.new.session c.in_ok-second.second second_bit
 second c = c.make-2.ensures.follows.means c.in_ok-second.second second_bit
-    (second_means c.args.store.now c.make.new.session (c.make.ensures.follows.store ∙ c.requires.session) c.requires.order c.requires.tables c.in_ok-second.second c.in_ok-second.ensures.function)
+    (second_means c.args.store.now c.make.new.session (c.make.ensures.follows.store ∙ c.requires.session) c.requires.order c.requires.tables
+    c.in_ok-second.second c.in_ok-second.ensures.function)
 
 pub returns-clause-conjunction : goal.returns-clause-conjunction
 returns-clause-conjunction c = c.make-3.ensures.follows.means c.in_ok-conjunction.conjunction (output_at c.args.store.now.plan.problem.value 0)
-    (conjunction_means c.args.store.now c.make-2.new.session (c.make-2.ensures.follows.store ∙ (c.make.ensures.follows.store ∙ c.requires.session)) c.requires.order c.requires.tables
+    (conjunction_means c.args.store.now c.make-2.new.session
+    (c.make-2.ensures.follows.store ∙ (c.make.ensures.follows.store ∙ c.requires.session)) c.requires.order c.requires.tables
     c.in_ok-second.second c.in_ok-conjunction.conjunction (second c) c.in_ok-conjunction.ensures.function)
 
 pub returns-clause-disjunction : goal.returns-clause-disjunction
-returns-clause-disjunction c = disjunction_means c.args.store.now c.make-3.new.session (c.make-3.ensures.follows.store ∙ (c.make-2.ensures.follows.store ∙ (c.make.ensures.follows.store ∙ c.requires.session))) c.requires.order c.requires.tables
-    c.in_ok-second.second c.in_ok-disjunction.disjunction (c.make-3.ensures.follows.means c.in_ok-second.second second_bit (second c)) c.in_ok-disjunction.ensures.function
+returns-clause-disjunction c =
+    disjunction_means c.args.store.now c.make-3.new.session
+    (c.make-3.ensures.follows.store ∙ (c.make-2.ensures.follows.store ∙ (c.make.ensures.follows.store ∙ c.requires.session)))
+    c.requires.order c.requires.tables
+    c.in_ok-second.second c.in_ok-disjunction.disjunction (c.make-3.ensures.follows.means c.in_ok-second.second second_bit (second c))
+    c.in_ok-disjunction.ensures.function

@@ -10,4 +10,5 @@ loop-high-preserved c = let i = c.loop-high.invariant in record {
 }
 
 pub returns-then-not-branch-clause-follows : goal.returns-then-not-branch-clause-follows
-returns-then-not-branch-clause-follows c = follows_trans c.args.session.now c.loop-high.session c.make_one.new.session c.loop-high.invariant.follows c.make_one.ensures.follows
+returns-then-not-branch-clause-follows c =
+    follows_trans c.args.session.now c.loop-high.session c.make_one.new.session c.loop-high.invariant.follows c.make_one.ensures.follows

@@ -5,4 +5,6 @@ pub returns-in_default-clause-ids : goal.returns-in_default-clause-ids
 returns-in_default-clause-ids c = all_from c.args.session.now c.make.new.session c.args.level c.args.ids.now.items c.make.ensures.follows c.requires.ids
 
 pub returns-clause-ids : goal.returns-clause-ids
-returns-clause-ids c = all_more c.args.session.now c.make.new.session c.args.level c.in-Ok.id c.args.ids.now.items c.push.new.self.items c.make.ensures.follows c.requires.ids c.in-Ok.ensures.function.known c.in-Ok.ensures.level c.in_ok-push.ensures.items
+returns-clause-ids c =
+    all_more c.args.session.now c.make.new.session c.args.level c.in-Ok.id c.args.ids.now.items c.push.new.self.items c.make.ensures.follows
+    c.requires.ids c.in-Ok.ensures.function.known c.in-Ok.ensures.level c.in_ok-push.ensures.items

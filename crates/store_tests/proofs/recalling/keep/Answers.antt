@@ -18,5 +18,6 @@ pub remember-requires-clause-function : goal.remember-requires-clause-function
 unfolding SameFunction combine
 remember-requires-clause-function c = let s = c.args.session.now in record {
   known = c.requires.known;
-  function = λ p l. and_true (function_of (order_of s.store.plan) s.seen c.args.id p) ∙ ap (λ (b : Bool). function_of (order_of s.store.plan) s.seen c.args.id p && b) (sym (one_is (order_of s.store.plan) s.seen p));
+  function = λ p l. and_true (function_of (order_of s.store.plan) s.seen c.args.id p)
+      ∙ ap (λ (b : Bool). function_of (order_of s.store.plan) s.seen c.args.id p && b) (sym (one_is (order_of s.store.plan) s.seen p));
 }

@@ -15,16 +15,21 @@ or_false true = refl
 or_false false = refl
 
 -- one mask more
-marked : (flags : List Bool) (masks : List ℕ) (i : ℕ) → i < length masks → length flags ≡ 256 → ((low : ℕ) → low < 256 → get_or flags low false ≡ list_any (λ mask. nat_eq (mask % 256) low) (take i masks)) →
+marked : (flags : List Bool) (masks : List ℕ) (i : ℕ) → i < length masks → length flags ≡ 256 →
+    ((low : ℕ) → low < 256 → get_or flags low false ≡ list_any (λ mask. nat_eq (mask % 256) low) (take i masks)) →
     (low : ℕ) → low < 256 → get_or (set flags (get_or masks i 0 % 256) true) low false ≡ list_any (λ mask. nat_eq (mask % 256) low) (take (i + 1) masks)
 marked flags masks i h l all low lt =
     elim (cases_eq low (get_or masks i 0 % 256)) [
       | inl e ↦
           ap (λ k. get_or (set flags k true) low false) (sym e) ∙ get_or-set_same flags low true false (omega arith)
-          ∙ or_true (list_any (λ mask. nat_eq (mask % 256) low) (take i masks)) ∙ ap (λ b. list_any (λ mask. nat_eq (mask % 256) low) (take i masks) || b) (sym (eq-eqb _ _ (sym e))) ∙ sym (list_any_more (λ mask. nat_eq (mask % 256) low) masks i 0 h)
+          ∙ or_true (list_any (λ mask. nat_eq (mask % 256) low) (take i masks))
+          ∙ ap (λ b. list_any (λ mask. nat_eq (mask % 256) low) (take i masks) || b) (sym (eq-eqb _ _ (sym e)))
+          ∙ sym (list_any_more (λ mask. nat_eq (mask % 256) low) masks i 0 h)
       | inr ne ↦
           get_or-set_other flags (get_or masks i 0 % 256) low true false ne ∙ all low lt
-          ∙ or_false (list_any (λ mask. nat_eq (mask % 256) low) (take i masks)) ∙ ap (λ b. list_any (λ mask. nat_eq (mask % 256) low) (take i masks) || b) (sym (ne_eqb _ _ (λ e. ne (sym e)))) ∙ sym (list_any_more (λ mask. nat_eq (mask % 256) low) masks i 0 h)
+          ∙ or_false (list_any (λ mask. nat_eq (mask % 256) low) (take i masks))
+          ∙ ap (λ b. list_any (λ mask. nat_eq (mask % 256) low) (take i masks) || b) (sym (ne_eqb _ _ (λ e. ne (sym e))))
+          ∙ sym (list_any_more (λ mask. nat_eq (mask % 256) low) masks i 0 h)
     ]
 
 pub loop-mask-preserved : goal.loop-mask-preserved

@@ -4,4 +4,5 @@ use Rattle.subset_layers.proofs.layers.low_flags.Given as goal
 
 abbrev pub invariant-loop-mask : goal.invariant-loop-mask
 invariant-loop-mask l =
-    (length l.flags.items ≡ 256) × ((low : ℕ) → low < 256 → get_or l.flags.items low false ≡ list_any (λ mask. nat_eq (mask % 256) low) (take l.mask-index l.masks))
+    (length l.flags.items ≡ 256)
+    × ((low : ℕ) → low < 256 → get_or l.flags.items low false ≡ list_any (λ mask. nat_eq (mask % 256) low) (take l.mask-index l.masks))

@@ -22,7 +22,9 @@ unwrap-cost-requires c =
     let e = shifted_bit c.args.mask c.loop-x.x (omega arith) c.if-mask-x-eq1.true in
     let n = c.args.costs.now.inputs in
     let member = member_from_bit n c.args.mask c.loop-x.x (omega arith) c.if-mask-x-eq1.true in
-    c.cost_of.ensures.some.1 (ap (λ k. has (masks_of (layer_with n c.args.costs.now.size)) (c.args.mask - k)) e ∙ less_one n c.args.costs.now.size c.args.mask c.loop-x.x c.requires member)
+    c.cost_of.ensures.some.1
+    (ap (λ k. has (masks_of (layer_with n c.args.costs.now.size)) (c.args.mask - k)) e
+    ∙ less_one n c.args.costs.now.size c.args.mask c.loop-x.x c.requires member)
 
 pub loop-x-preserved : goal.loop-x-preserved
 loop-x-preserved c =
@@ -33,20 +35,24 @@ loop-x-preserved c =
     elim c.if-mask-x-eq1.branch [
       | then-mask-x-eq1+then-cost-bound w ↦
           let e = shifted_bit c.args.mask c.loop-x.x (omega arith) w.if-mask-x-eq1.true in
-          let is : costs c.loop-x.x ≡ w.unwrap-cost.result = ap (λ k. unwrap_or (cost_at c.args.costs.now (c.args.mask - k)) 0) (sym e) ∙ ap (λ o. unwrap_or o 0) (sym w.cost_of.ensures.value ∙ w.unwrap-cost.ensures) in
+          let is : costs c.loop-x.x ≡ w.unwrap-cost.result = ap (λ k. unwrap_or (cost_at c.args.costs.now (c.args.mask - k)) 0) (sym e)
+          ∙ ap (λ o. unwrap_or o 0) (sym w.cost_of.ensures.value ∙ w.unwrap-cost.ensures) in
           let within : costs c.loop-x.x ≤ c.args.bound = (let t = w.if-cost-bound.true in omega arith) in
           subst (λ o. IsBestBelow S c.args.bound costs widths (c.loop-x.x + 1) o) (sym w.best-is)
-          (best_taken S c.args.bound costs widths c.loop-x.x (w.unwrap-cost.result + slice_index c.args.widths.now c.loop-x.x) c.loop-x.best _ w.smaller.result c.loop-x.invariant
+          (best_taken S c.args.bound costs widths c.loop-x.x (w.unwrap-cost.result + slice_index c.args.widths.now c.loop-x.x) c.loop-x.best
+          _ w.smaller.result c.loop-x.invariant
           (member_from_bit n c.args.mask c.loop-x.x (omega arith) w.if-mask-x-eq1.true) within (omega arith) refl w.smaller.ensures.none w.smaller.ensures.some)
       | then-mask-x-eq1+else-cost-bound w ↦
           let e = shifted_bit c.args.mask c.loop-x.x (omega arith) w.if-mask-x-eq1.true in
-          let is : costs c.loop-x.x ≡ w.unwrap-cost.result = ap (λ k. unwrap_or (cost_at c.args.costs.now (c.args.mask - k)) 0) (sym e) ∙ ap (λ o. unwrap_or o 0) (sym w.cost_of.ensures.value ∙ w.unwrap-cost.ensures) in
+          let is : costs c.loop-x.x ≡ w.unwrap-cost.result = ap (λ k. unwrap_or (cost_at c.args.costs.now (c.args.mask - k)) 0) (sym e)
+          ∙ ap (λ o. unwrap_or o 0) (sym w.cost_of.ensures.value ∙ w.unwrap-cost.ensures) in
           let over : c.args.bound < costs c.loop-x.x = (let t = w.if-cost-bound.false in omega arith) in
           subst (λ o. IsBestBelow S c.args.bound costs widths (c.loop-x.x + 1) o) (sym w.best-is)
           (best_skipped S c.args.bound costs widths c.loop-x.x c.loop-x.best c.loop-x.invariant (λ m. over))
       | else-mask-x-eq1 w ↦
           subst (λ o. IsBestBelow S c.args.bound costs widths (c.loop-x.x + 1) o) (sym w.best-is)
-          (best_skipped S c.args.bound costs widths c.loop-x.x c.loop-x.best c.loop-x.invariant (λ m. absurd (w.if-mask-x-eq1.false (bit_from_member n c.args.mask c.loop-x.x m))))
+          (best_skipped S c.args.bound costs widths c.loop-x.x c.loop-x.best c.loop-x.invariant
+          (λ m. absurd (w.if-mask-x-eq1.false (bit_from_member n c.args.mask c.loop-x.x m))))
     ]
 
 -- the sum over all members
@@ -57,10 +63,12 @@ whole S bound costs widths k (Some s) low h = (best_all S bound costs widths k s
 
 pub returns-clause-best : goal.returns-clause-best
 returns-clause-best c =
-    (whole (λ x. IsTrue (has (members c.args.costs.now.inputs c.args.mask) x)) c.args.bound (cost_without c.args.costs.now c.args.mask) (slice_index c.args.widths.now) c.loop-x.x c.loop-x.best
+    (whole (λ x. IsTrue (has (members c.args.costs.now.inputs c.args.mask) x)) c.args.bound (cost_without c.args.costs.now c.args.mask)
+    (slice_index c.args.widths.now) c.loop-x.x c.loop-x.best
     (λ y m. let s = members_small c.args.costs.now.inputs c.args.mask y m in omega arith) c.loop-x.invariant).0
 
 pub returns-clause-none : goal.returns-clause-none
 returns-clause-none c =
-    (whole (λ x. IsTrue (has (members c.args.costs.now.inputs c.args.mask) x)) c.args.bound (cost_without c.args.costs.now c.args.mask) (slice_index c.args.widths.now) c.loop-x.x c.loop-x.best
+    (whole (λ x. IsTrue (has (members c.args.costs.now.inputs c.args.mask) x)) c.args.bound (cost_without c.args.costs.now c.args.mask)
+    (slice_index c.args.widths.now) c.loop-x.x c.loop-x.best
     (λ y m. let s = members_small c.args.costs.now.inputs c.args.mask y m in omega arith) c.loop-x.invariant).1

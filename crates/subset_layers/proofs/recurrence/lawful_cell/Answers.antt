@@ -21,7 +21,8 @@ returns-in-None c = λ F P order o k l e t w.
 
 pub returns-then-best-outside : goal.returns-then-best-outside
 returns-then-best-outside c = λ F P order o k l e t w.
-    cell_found c.args.costs.now c.args.mask c.args.bound c.args.widths.now F P order o k c.requires.next t w c.count_outside-outside.result c.in-Some.best.sum c.in-Some.best.variable
+    cell_found c.args.costs.now c.args.mask c.args.bound c.args.widths.now F P order o k c.requires.next t w c.count_outside-outside.result
+    c.in-Some.best.sum c.in-Some.best.variable
     l (c.count_outside-outside.ensures.exact c.args.costs.now.inputs F e) c.in-Some.ensures.best (omega arith)
 
 pub returns-else-best-outside : goal.returns-else-best-outside

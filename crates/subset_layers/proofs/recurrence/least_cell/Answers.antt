@@ -22,7 +22,9 @@ pub returns-then-lawful : goal.returns-then-lawful
 returns-then-lawful c = λ F e t w.
     let P = c.args.pairs.now.pairs in
     let o = some_order c.args.pairs.now.inputs c.args.costs.now.inputs P c.requires.inputs c.inputs.ensures.kept in
-    let low : is_lawful P (members c.args.costs.now.inputs c.args.mask) ≡ true = ap (λ i. is_lawful P (members i c.args.mask)) (sym c.requires.inputs) ∙ sym c.if-lawful.ensures in
+    let low : is_lawful P (members c.args.costs.now.inputs c.args.mask) ≡ true =
+    ap (λ i. is_lawful P (members i c.args.mask)) (sym c.requires.inputs)
+    ∙ sym c.if-lawful.ensures in
     c.lawful_cell.ensures F P o.0 o.1 o.2 low e t w
 
 pub returns-else-lawful : goal.returns-else-lawful

@@ -14,13 +14,17 @@ loop-place-preserved c =
     let old : List ℕ = get_or c.loop-place.words place [] in
     let inside : place < length c.loop-place.words = (let long = i.long in let low = c.loop-place-test.true in omega arith) in
     let stays : (p : ℕ) → p ≢ place → get_or c.if-holds_above.words p [] ≡ get_or c.loop-place.words p [] = (λ p other. elim c.if-holds_above.branch [
-      | then-holds_above w ↦ ap (λ (ws : List (List ℕ)). get_or ws p []) w.words-is ∙ get_or-set_other c.loop-place.words place p w.add_points.new.words [] other
+      | then-holds_above w ↦ ap (λ (ws : List (List ℕ)). get_or ws p []) w.words-is
+          ∙ get_or-set_other c.loop-place.words place p w.add_points.new.words [] other
       | else-holds_above w ↦ ap (λ (ws : List (List ℕ)). get_or ws p []) w.words-is
     ]) in
     let here : AddsTerm t (32 * g + place) old (get_or c.if-holds_above.words place []) = elim c.if-holds_above.branch [
       | then-holds_above w ↦
-          subst (λ (ws : List ℕ). AddsTerm t (32 * g + place) old ws) (sym (ap (λ (ws : List (List ℕ)). get_or ws place []) w.words-is ∙ get_or-set_same c.loop-place.words place w.add_points.new.words [] inside))
-          (term_added t (32 * g + place) c.pattern-points.result old w.add_points.new.words c.pattern-points.ensures (sym c.holds_above.ensures ∙ w.if-holds_above.true) w.add_points.ensures)
+          subst (λ (ws : List ℕ). AddsTerm t (32 * g + place) old ws)
+          (sym (ap (λ (ws : List (List ℕ)). get_or ws place []) w.words-is
+          ∙ get_or-set_same c.loop-place.words place w.add_points.new.words [] inside))
+          (term_added t (32 * g + place) c.pattern-points.result old w.add_points.new.words c.pattern-points.ensures
+          (sym c.holds_above.ensures ∙ w.if-holds_above.true) w.add_points.ensures)
       | else-holds_above w ↦
           subst (λ (ws : List ℕ). AddsTerm t (32 * g + place) old ws) (sym (ap (λ (ws : List (List ℕ)). get_or ws place []) w.words-is))
           (term_left_out t (32 * g + place) old (sym c.holds_above.ensures ∙ w.if-holds_above.false))

@@ -4,5 +4,7 @@ use Rattle.truth_table.proofs.covering.lay_out.Given as goal
 abbrev pub invariant-loop-i : goal.invariant-loop-i
 invariant-loop-i l = record {
   long : length l.words.items ≡ l.i;
-  words : (k : ℕ) → k < l.i → slice_index l.words.items k ≡ bit_and (slice_index (get_or (get_or l.groups (k % l.size / 32) []) (k % l.size % 32) []) (k / l.size)) l.mask;
+  words : (k : ℕ) → k < l.i →
+      slice_index l.words.items k ≡ bit_and
+      (slice_index (get_or (get_or l.groups (k % l.size / 32) []) (k % l.size % 32) []) (k / l.size)) l.mask;
 }

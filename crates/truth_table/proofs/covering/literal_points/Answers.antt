@@ -13,7 +13,9 @@ returns-then-term-x-eq1 c = λ b h.
     let l = bit_at-lt c.args.term.care c.args.x in
     let n = c.if-term-x-eq0.false in
     let one : bit_at c.args.term.care c.args.x ≡ 1 = omega arith in
-    literal_points_one c.args.term c.args.x b c.lower_half-lower.result one (sym (shr_and_one c.args.term.value c.args.x) ∙ c.if-term-x-eq1.true) (let f = c.lower_half-lower.type_inv in omega arith) h (c.lower_half-lower.ensures b h)
+    literal_points_one c.args.term c.args.x b c.lower_half-lower.result one
+    (sym (shr_and_one c.args.term.value c.args.x) ∙ c.if-term-x-eq1.true) (let f = c.lower_half-lower.type_inv in omega arith) h
+    (c.lower_half-lower.ensures b h)
 
 pub returns-else-term-x-eq1 : goal.returns-else-term-x-eq1
 returns-else-term-x-eq1 c = λ b h.

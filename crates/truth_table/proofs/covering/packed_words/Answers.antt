@@ -37,7 +37,9 @@ returns g c =
     let chain = rw (c.map.ensures.base, c.map.ensures.f, c.with_min_len.ensures.base) at h.1 in
     let numbers = chain.1 ∙ (λ i. nat_range (ends.0 i) (ends.1 i)) ∙ ap (range_with_len 0) whole in
     let v = c.deref.ensures.value ∙ h.2 in
-    let both = packed_groups c.args.n c.args.m c.args.terms.now size count mask chain.0 h.0 c.in_ok-words.words.items c.requires.some_inputs c.requires.few_inputs c.requires.some_outputs c.requires.few_outputs c.requires.fit
-    c.words_per_table-size.ensures.some c.words_per_table-size.ensures.value (omega arith) (let t = c.points_mask.type_inv in omega arith) c.points_mask.ensures numbers chain.2 c.in_ok-words.ensures.long
+    let both = packed_groups c.args.n c.args.m c.args.terms.now size count mask chain.0 h.0 c.in_ok-words.words.items c.requires.some_inputs
+    c.requires.few_inputs c.requires.some_outputs c.requires.few_outputs c.requires.fit
+    c.words_per_table-size.ensures.some c.words_per_table-size.ensures.value (omega arith) (let t = c.points_mask.type_inv in omega arith)
+    c.points_mask.ensures numbers chain.2 c.in_ok-words.ensures.long
     (λ i lt. c.in_ok-words.ensures.words i lt ∙ (λ z. bit_and (slice_index (get_or (get_or (v z) (i % size / 32) []) (i % size % 32) []) (i / size)) mask)) in
     record { packed = both.0; tables = both.1 }

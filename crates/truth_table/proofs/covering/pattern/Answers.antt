@@ -9,4 +9,5 @@ loop-x-init c = λ b h. all_ones b h
 
 pub loop-x-preserved : goal.loop-x-preserved
 loop-x-preserved c = λ b h.
-    masked_bits c.loop-x.points c.literal_points-points.result b ∙ (λ i. c.loop-x.invariant b h i && c.literal_points-points.ensures b h i) ∙ sym (literals_more c.args.term b c.loop-x.x)
+    masked_bits c.loop-x.points c.literal_points-points.result b ∙ (λ i. c.loop-x.invariant b h i && c.literal_points-points.ensures b h i)
+    ∙ sym (literals_more c.args.term b c.loop-x.x)

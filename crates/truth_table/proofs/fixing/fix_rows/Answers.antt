@@ -8,6 +8,7 @@ loop-i-preserved c =
     let now = c.loop-i.words in
     let v = get_or now c.fixed_place.result 0 in
     record {
-      done = row_done old now c.args.r c.args.upper c.loop-i.i v (omega arith) (ap (λ z. get_or now z 0) c.fixed_place.ensures) c.loop-i.invariant.done c.loop-i.invariant.rest;
+      done = row_done old now c.args.r c.args.upper c.loop-i.i v (omega arith) (ap (λ z. get_or now z 0) c.fixed_place.ensures)
+          c.loop-i.invariant.done c.loop-i.invariant.rest;
       rest = row_rest old now c.loop-i.i v c.loop-i.invariant.rest;
     }

@@ -23,5 +23,6 @@ returns c = λ k h.
           ∙ upper_bit c.args.word low c.args.x c.requires c.lower_half.ensures k h ∙ ap (λ b. bit_at c.args.word (fixed_bit c.args.x b k)) (sym w.if-upper.true)
       | else-upper w ↦
           (λ i. bit_at (bit_or (bit_and (w.half-is i) low) (bit_and (w.half-is i) low * 2 ^ (step i) % 2 ^ 64)) k)
-          ∙ lower_bit c.args.word low c.args.x c.requires c.lower_half.ensures k h ∙ ap (λ b. bit_at c.args.word (fixed_bit c.args.x b k)) (sym w.if-upper.false)
+          ∙ lower_bit c.args.word low c.args.x c.requires c.lower_half.ensures k h
+          ∙ ap (λ b. bit_at c.args.word (fixed_bit c.args.x b k)) (sym w.if-upper.false)
     ]

@@ -20,17 +20,27 @@ loop-j-preserved c =
     let new : c.in_ok-number.is_new ≡ not seen = c.in_ok-number.ensures.added in
     let count : c.if-is_new.unequal ≡ cond (not seen && is_unequal (pair_at cs j)) (c.loop-j.unequal + 1) c.loop-j.unequal =
     elim c.if-is_new.branch [
-      | then-is_new+then-lower-upper w ↦ w.unequal-is ∙ sym ((λ i. cond ((sym new ∙ w.if-is_new.true) i && not (ne_eqb _ _ w.if-lower-upper.true i)) (c.loop-j.unequal + 1) c.loop-j.unequal))
+      | then-is_new+then-lower-upper w ↦ w.unequal-is
+          ∙ sym ((λ i. cond ((sym new ∙ w.if-is_new.true) i && not (ne_eqb _ _ w.if-lower-upper.true i)) (c.loop-j.unequal + 1)
+          c.loop-j.unequal))
       | else-is_new w ↦ elim w.else-is_new.branch [
-        | else-is_new-via-then-is_new+else-lower-upper v ↦ w.unequal-is ∙ sym ((λ i. cond ((sym new ∙ v.if-is_new.true) i && not (eq-eqb _ _ v.if-lower-upper.false i)) (c.loop-j.unequal + 1) c.loop-j.unequal))
-        | else-is_new-via-else-is_new v ↦ w.unequal-is ∙ sym ((λ i. cond ((sym new ∙ v.if-is_new.false) i && is_unequal (pair_at cs j)) (c.loop-j.unequal + 1) c.loop-j.unequal))
+        | else-is_new-via-then-is_new+else-lower-upper v ↦ w.unequal-is
+            ∙ sym ((λ i. cond ((sym new ∙ v.if-is_new.true) i && not (eq-eqb _ _ v.if-lower-upper.false i)) (c.loop-j.unequal + 1)
+            c.loop-j.unequal))
+        | else-is_new-via-else-is_new v ↦ w.unequal-is
+            ∙ sym ((λ i. cond ((sym new ∙ v.if-is_new.false) i && is_unequal (pair_at cs j)) (c.loop-j.unequal + 1) c.loop-j.unequal))
       ]
     ] in
-    merging_step cs j keys c.insert_full.new.self.keys c.loop-j.numbers.items c.push.new.self.items c.loop-j.unequal c.if-is_new.unequal c.loop-j-test.true c.loop-j.invariant
+    merging_step cs j keys c.insert_full.new.self.keys c.loop-j.numbers.items c.push.new.self.items c.loop-j.unequal c.if-is_new.unequal
+    c.loop-j-test.true c.loop-j.invariant
     c.in_ok-number.ensures.keys (c.in_ok-push.ensures.items ∙ ap (λ z. c.loop-j.numbers.items ++ z ∷ []) c.in_ok-number.ensures.index) count
 
 pub returns-clause-numbers : goal.returns-clause-numbers
-returns-clause-numbers c = (merging_end c.args.classes.now c.loop-j.j c.loop-j.seen.keys c.loop-j.numbers.items c.loop-j.unequal c.loop-j-test.false c.loop-j.invariant).0
+returns-clause-numbers c =
+    (merging_end c.args.classes.now c.loop-j.j c.loop-j.seen.keys c.loop-j.numbers.items c.loop-j.unequal c.loop-j-test.false
+    c.loop-j.invariant).0
 
 pub returns-clause-unequal : goal.returns-clause-unequal
-returns-clause-unequal c = (merging_end c.args.classes.now c.loop-j.j c.loop-j.seen.keys c.loop-j.numbers.items c.loop-j.unequal c.loop-j-test.false c.loop-j.invariant).1
+returns-clause-unequal c =
+    (merging_end c.args.classes.now c.loop-j.j c.loop-j.seen.keys c.loop-j.numbers.items c.loop-j.unequal c.loop-j-test.false
+    c.loop-j.invariant).1

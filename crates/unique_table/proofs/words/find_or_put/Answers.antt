@@ -20,8 +20,13 @@ pub loop-passed-preserved : goal.loop-passed-preserved
 loop-passed-preserved c = let i = c.loop-passed.invariant in record {
   seat = c.take.ensures.seat;
   gains = gains_both c.args.seat.now.me.0 c.loop-passed.seat.me.0 c.take.new.seat.me.0 i.gains c.take.ensures.gains;
-  word = record { some = i.word.some; node = node_grows (levels_of c.args.shared.now.key) c.loop-passed.seat.me.0.seen c.take.new.seat.me.0.seen c.args.word c.take.ensures.gains.nodes i.word.node };
-  before = one_more c.loop-passed.seat.me.0.seen c.take.new.seat.me.0.seen c.args.places c.args.word c.loop-passed.passed c.probe-place.result c.take.ensures.gains.nodes i.before
+  word = record {
+    some = i.word.some;
+    node = node_grows (levels_of c.args.shared.now.key) c.loop-passed.seat.me.0.seen c.take.new.seat.me.0.seen c.args.word
+        c.take.ensures.gains.nodes i.word.node;
+  };
+  before = one_more c.loop-passed.seat.me.0.seen c.take.new.seat.me.0.seen c.args.places c.args.word c.loop-passed.passed
+      c.probe-place.result c.take.ensures.gains.nodes i.before
       (c.probe-place.ensures.is c.args.word c.start-start.ensures.is) c.if-take.ensures.found;
   steps = let a = c.take.ensures.steps in let b = i.steps in omega arith;
   writes = c.if-take.ensures.writes ∙ i.writes;
@@ -30,4 +35,5 @@ loop-passed-preserved c = let i = c.loop-passed.invariant in record {
 pub returns-clause-full : goal.returns-clause-full
 returns-clause-full c =
     let within : home c.args.places c.args.word < c.args.places = subst (λ (z : ℕ). z < c.args.places) c.start-start.ensures.is c.start-start.ensures.within in
-    full_for c.loop-passed.seat.me.0.seen c.args.places c.args.word c.loop-passed.passed within (let past = c.loop-passed-test.false in omega arith) c.loop-passed.invariant.before
+    full_for c.loop-passed.seat.me.0.seen c.args.places c.args.word c.loop-passed.passed within
+    (let past = c.loop-passed-test.false in omega arith) c.loop-passed.invariant.before

@@ -10,5 +10,6 @@ load-requires c = (c.requires.seat.table, c.requires.place.inside, may_look c.ar
 pub returns : goal.returns
 returns c = let g = c.load.ensures.2 in record {
   step = seat_after c.args.shared.now c.args.seat.now c.load.new.seat 0 g.0 g.1 c.requires.seat c.load.ensures.0 g.2 g.3;
-  found = ap (λ (m : M). get_or m.0.seen c.args.place 0) g.2 ∙ g.4 (subst (λ (b : Plan). c.args.place < b.places) (sym c.requires.seat.plan) c.requires.place.node);
+  found = ap (λ (m : M). get_or m.0.seen c.args.place 0) g.2
+      ∙ g.4 (subst (λ (b : Plan). c.args.place < b.places) (sym c.requires.seat.plan) c.requires.place.node);
 }

@@ -14,7 +14,8 @@ compare_exchange-requires c =
     let plan = sym c.requires.seat.plan in let k = c.requires.next in let v : View = c.args.seat.now.me.0 in let here = k.here in let before = k.before in (
       c.requires.seat.table,
       c.requires.at.inside,
-      may_put c.args.shared.now.key _ _ c.args.seat.now.me c.requires.seat.good.live c.args.place c.args.word k.passed (subst (λ (b : Plan). c.args.place < b.places) plan c.requires.at.node) c.requires.node.some
+      may_put c.args.shared.now.key _ _ c.args.seat.now.me c.requires.seat.good.live c.args.place c.args.word k.passed
+          (subst (λ (b : Plan). c.args.place < b.places) plan c.requires.at.node) c.requires.node.some
           (subst (λ (b : Plan). c.args.place ≡ probe b.places c.args.word k.passed) plan here)
           (subst (λ (b : Plan). (j : ℕ) → j < k.passed → IsTaken v.seen c.args.word (probe b.places c.args.word j)) plan before)
           (subst (λ (b : Plan). IsNode (levels_of b) v.seen c.args.word) plan c.requires.node.node),
@@ -23,8 +24,18 @@ compare_exchange-requires c =
 pub returns : goal.returns
 returns c = record {
   seat = dite (ℕ_discrete c.compare_exchange.result 0)
-      (λ none. let g = c.compare_exchange.ensures.2.0 none in (seat_after c.args.shared.now c.args.seat.now c.compare_exchange.new.seat 1 g.0 g.1 c.requires.seat c.compare_exchange.ensures.0 g.2 g.3).seat)
-      (λ some. let g = c.compare_exchange.ensures.2.1 some in (seat_after c.args.shared.now c.args.seat.now c.compare_exchange.new.seat 0 g.0 g.1 c.requires.seat c.compare_exchange.ensures.0 g.2 g.3).seat);
-  empty = λ none. let g = c.compare_exchange.ensures.2.0 none in (after_goes c.args.seat.now.me c.compare_exchange.new.seat.me 1 g.0 g.1 g.2 g.3, ap (λ (m : M). get_or m.0.seen c.args.place 0) g.2 ∙ g.4);
-  full = λ some. let g = c.compare_exchange.ensures.2.1 some in (after_goes c.args.seat.now.me c.compare_exchange.new.seat.me 0 g.0 g.1 g.2 g.3, ap (λ (m : M). get_or m.0.seen c.args.place 0) g.2 ∙ g.4);
+      (λ none. let g = c.compare_exchange.ensures.2.0 none in
+      (seat_after c.args.shared.now c.args.seat.now c.compare_exchange.new.seat 1 g.0 g.1 c.requires.seat c.compare_exchange.ensures.0
+      g.2 g.3).seat)
+      (λ some. let g = c.compare_exchange.ensures.2.1 some in
+      (seat_after c.args.shared.now c.args.seat.now c.compare_exchange.new.seat 0 g.0 g.1 c.requires.seat c.compare_exchange.ensures.0
+      g.2 g.3).seat);
+  empty = λ none. let g = c.compare_exchange.ensures.2.0 none in (
+    after_goes c.args.seat.now.me c.compare_exchange.new.seat.me 1 g.0 g.1 g.2 g.3,
+    ap (λ (m : M). get_or m.0.seen c.args.place 0) g.2 ∙ g.4,
+  );
+  full = λ some. let g = c.compare_exchange.ensures.2.1 some in (
+    after_goes c.args.seat.now.me c.compare_exchange.new.seat.me 0 g.0 g.1 g.2 g.3,
+    ap (λ (m : M). get_or m.0.seen c.args.place 0) g.2 ∙ g.4,
+  );
 }

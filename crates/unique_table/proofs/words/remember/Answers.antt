@@ -12,7 +12,9 @@ store-requires c =
     let plan = sym c.requires.seat.plan in let v : View = c.args.seat.now.me.0 in (
       c.requires.seat.table,
       c.requires.place.inside,
-      may_remember c.args.shared.now.key _ _ c.args.seat.now.me c.requires.seat.good.live c.args.entry c.args.place c.args.word (subst (λ (b : Plan). c.args.place ≡ b.places + c.args.entry) plan c.requires.place.at) (subst (λ (b : Plan). c.args.entry < b.entries) plan c.requires.place.entries)
+      may_remember c.args.shared.now.key _ _ c.args.seat.now.me c.requires.seat.good.live c.args.entry c.args.place c.args.word
+          (subst (λ (b : Plan). c.args.place ≡ b.places + c.args.entry) plan c.requires.place.at)
+          (subst (λ (b : Plan). c.args.entry < b.entries) plan c.requires.place.entries)
           (subst (λ (b : Plan). IsEntry (order_of b) v.seen c.args.word) plan c.requires.word),
     )
 

@@ -7,4 +7,6 @@ returns-then-not-have_spelling-clause-none c has =
 
 pub invariant_of-result : goal.invariant_of-result
 invariant_of-result c =
-    rw (sym c.deref.ensures.value) (rw (sym c.deref-2.ensures.value) (rw (sym c.deref-3.ensures.value) (c.have_spelling.ensures.spelled c.if-not-have_spelling.false 1 (inl (refl, refl)))))
+    rw (sym c.deref.ensures.value)
+    (rw (sym c.deref-2.ensures.value)
+    (rw (sym c.deref-3.ensures.value) (c.have_spelling.ensures.spelled c.if-not-have_spelling.false 1 (inl (refl, refl)))))

@@ -9,15 +9,25 @@ use Rattle.certificate.proofs.reader.Lines.cells.Goals as goal
 
 pub returns-in_err-count-clause-section : goal.returns-in_err-count-clause-section
 returns-in_err-count-clause-section c =
-    section_fails (codes "cells") (2 ^ c.args.n - 1) (is_cell c.args.n) cell_key_of read_cell (λ v. map listed v.items) _ _ _ _ c.from_residual.result _ c.from_residual.ensures.1 (λ pre js. let asks = subst (λ most. Asks {V = ℕ} (field_fault (codes "cells") 1 0 most) c.args.self.now.number c.args.self.now.rest.now c.number.new.self.number c.number.new.self.rest.now (λ ws v. v ≡ number_of (get_or ws 1 [])) (Err c.in_err-count.field-0.0)) c.sets_below_all.ensures c.in_err-count.ensures.line in asks _)
+    section_fails (codes "cells") (2 ^ c.args.n - 1) (is_cell c.args.n) cell_key_of read_cell (λ v. map listed v.items) _ _ _ _
+    c.from_residual.result _ c.from_residual.ensures.1
+    (λ pre js. let asks =
+    subst (λ most. Asks {V = ℕ} (field_fault (codes "cells") 1 0 most) c.args.self.now.number c.args.self.now.rest.now
+    c.number.new.self.number c.number.new.self.rest.now (λ ws v. v ≡ number_of (get_or ws 1 [])) (Err c.in_err-count.field-0.0))
+    c.sets_below_all.ensures c.in_err-count.ensures.line in asks _)
 
 pub loop-last-init : goal.loop-last-init
 loop-last-init c =
     let small = c.requires.small in let bound = c.in_ok-count.ensures.bound in
     let none = c.new-cells.ensures.items in
-    let asks = subst (λ most. Asks (field_fault (codes "cells") 1 0 most) c.args.self.now.number c.args.self.now.rest.now c.number.new.self.number c.number.new.self.rest.now (λ ws v. v ≡ number_of (get_or ws 1 [])) (Ok c.in_ok-count.count)) c.sets_below_all.ensures c.in_ok-count.ensures.line in
+    let asks = subst
+    (λ most. Asks (field_fault (codes "cells") 1 0 most) c.args.self.now.number c.args.self.now.rest.now c.number.new.self.number
+    c.number.new.self.rest.now (λ ws v. v ≡ number_of (get_or ws 1 [])) (Ok c.in_ok-count.count))
+    c.sets_below_all.ensures c.in_ok-count.ensures.line in
     record {
-      reached = rw none (reached_first read_cell mask_key (codes "cells") (2 ^ c.args.n - 1) (is_cell c.args.n) cell_key_of (λ a b. refl) c.args.self.now.number c.args.self.now.rest.now c.number.new.self.number c.number.new.self.rest.now c.in_ok-count.count asks);
+      reached = rw none
+          (reached_first read_cell mask_key (codes "cells") (2 ^ c.args.n - 1) (is_cell c.args.n) cell_key_of (λ a b. refl)
+          c.args.self.now.number c.args.self.now.rest.now c.number.new.self.number c.number.new.self.rest.now c.in_ok-count.count asks);
       few = rw none (omega arith);
       small = omega (arith, small, bound);
       bound = bound;
@@ -25,21 +35,32 @@ loop-last-init c =
 
 pub returns-in_err-cell-clause-section : goal.returns-in_err-cell-clause-section
 returns-in_err-cell-clause-section c =
-    section_fails (codes "cells") (2 ^ c.args.n - 1) (is_cell c.args.n) cell_key_of read_cell (λ v. map listed v.items) _ _ _ _ c.from_residual-in_err-cell.result _ c.from_residual-in_err-cell.ensures.1
-    (reached_fails read_cell mask_key (codes "cells") (2 ^ c.args.n - 1) (is_cell c.args.n) cell_key_of (λ a b. refl) c.args.self.now.number c.args.self.now.rest.now c.in_ok-count.count (length c.loop-last.cells.items) c.loop-last.last (map listed c.loop-last.cells.items) c.loop-last.self.number c.loop-last.self.rest.now c.cell.new.self.number c.cell.new.self.rest.now (λ ws v. v ≡ read_cell ws) _
+    section_fails (codes "cells") (2 ^ c.args.n - 1) (is_cell c.args.n) cell_key_of read_cell (λ v. map listed v.items) _ _ _ _
+    c.from_residual-in_err-cell.result _ c.from_residual-in_err-cell.ensures.1
+    (reached_fails read_cell mask_key (codes "cells") (2 ^ c.args.n - 1) (is_cell c.args.n) cell_key_of (λ a b. refl) c.args.self.now.number
+    c.args.self.now.rest.now c.in_ok-count.count (length c.loop-last.cells.items) c.loop-last.last (map listed c.loop-last.cells.items)
+    c.loop-last.self.number c.loop-last.self.rest.now c.cell.new.self.number c.cell.new.self.rest.now (λ ws v. v ≡ read_cell ws) _
     c.loop-last.invariant.reached (omega (arith, c.len.ensures, c.loop-last-test.true)) c.in_err-cell.ensures.line)
 
 pub returns-in_err-add-clause-section : goal.returns-in_err-add-clause-section
-returns-in_err-add-clause-section c = memory_fails (codes "cells") (2 ^ c.args.n - 1) (is_cell c.args.n) cell_key_of read_cell (λ v. map listed v.items) _ _ _ _ c.from_residual-in_err-add.result _ c.from_residual-in_err-add.ensures.1 c.in_err-add.ensures.memory
+returns-in_err-add-clause-section c =
+    memory_fails (codes "cells") (2 ^ c.args.n - 1) (is_cell c.args.n) cell_key_of read_cell (λ v. map listed v.items) _ _ _ _
+    c.from_residual-in_err-add.result _ c.from_residual-in_err-add.ensures.1 c.in_err-add.ensures.memory
 
 pub loop-last-preserved : goal.loop-last-preserved
 loop-last-preserved c =
     let known = c.loop-last.invariant in let small = known.small in let bound = known.bound in let taken = c.in_ok-cell.ensures.bound in
     let more : length c.loop-last.cells.items < c.in_ok-count.count = omega (arith, c.len.ensures, c.loop-last-test.true) in
     let count = length-append c.loop-last.cells.items (c.in_ok-cell.cell ∷ []) in
-    let next = reached_more read_cell mask_key (codes "cells") (2 ^ c.args.n - 1) (is_cell c.args.n) cell_key_of (λ a b. refl) c.args.self.now.number c.args.self.now.rest.now c.in_ok-count.count (length c.loop-last.cells.items) c.loop-last.last (map listed c.loop-last.cells.items) c.loop-last.self.number c.loop-last.self.rest.now
+    let next = reached_more read_cell mask_key (codes "cells") (2 ^ c.args.n - 1) (is_cell c.args.n) cell_key_of (λ a b. refl)
+    c.args.self.now.number c.args.self.now.rest.now c.in_ok-count.count (length c.loop-last.cells.items) c.loop-last.last
+    (map listed c.loop-last.cells.items) c.loop-last.self.number c.loop-last.self.rest.now
     c.cell.new.self.number c.cell.new.self.rest.now (listed c.in_ok-cell.cell) c.from.result known.reached more c.in_ok-cell.ensures.line c.from.ensures in
-    let step = subst (λ i. Reached read_cell mask_key (codes "cells") (2 ^ c.args.n - 1) (is_cell c.args.n) cell_key_of (λ a b. refl) c.args.self.now.number c.args.self.now.rest.now c.in_ok-count.count i (Some c.from.result) (map listed c.loop-last.cells.items ++ listed c.in_ok-cell.cell ∷ []) c.cell.new.self.number c.cell.new.self.rest.now) (sym count) next in
+    let step = subst
+    (λ i. Reached read_cell mask_key (codes "cells") (2 ^ c.args.n - 1) (is_cell c.args.n) cell_key_of (λ a b. refl)
+    c.args.self.now.number c.args.self.now.rest.now c.in_ok-count.count i (Some c.from.result)
+    (map listed c.loop-last.cells.items ++ listed c.in_ok-cell.cell ∷ []) c.cell.new.self.number c.cell.new.self.rest.now)
+    (sym count) next in
     record {
       reached = rw c.in_ok-add.ensures.added (rw (map-append listed c.loop-last.cells.items (c.in_ok-cell.cell ∷ [])) step);
       few = rw c.in_ok-add.ensures.added (omega (arith, more, count));
@@ -50,5 +71,7 @@ loop-last-preserved c =
 pub returns-clause-section : goal.returns-clause-section
 returns-clause-section c =
     let few = c.loop-last.invariant.few in
-    reached_all read_cell mask_key (codes "cells") (2 ^ c.args.n - 1) (is_cell c.args.n) cell_key_of (λ a b. refl) (λ v. map listed v.items) c.loop-last.cells c.args.self.now.number c.args.self.now.rest.now c.in_ok-count.count (length c.loop-last.cells.items) c.loop-last.last c.loop-last.self.number c.loop-last.self.rest.now
+    reached_all read_cell mask_key (codes "cells") (2 ^ c.args.n - 1) (is_cell c.args.n) cell_key_of (λ a b. refl) (λ v. map listed v.items)
+    c.loop-last.cells c.args.self.now.number c.args.self.now.rest.now c.in_ok-count.count (length c.loop-last.cells.items)
+    c.loop-last.last c.loop-last.self.number c.loop-last.self.rest.now
     c.loop-last.invariant.reached (omega (arith, c.len.ensures, c.loop-last-test.false)) few

@@ -8,7 +8,8 @@ use Rattle.certificate.proofs.reader.Lines.cells.Given as goal
 
 abbrev pub invariant-loop-last : goal.invariant-loop-last
 invariant-loop-last l = record {
-  reached : Reached read_cell mask_key (codes "cells") (2 ^ l.fn.n - 1) (is_cell l.fn.n) cell_key_of (λ a b. refl) l.fn.self.number l.fn.self.rest.now l.count (length l.cells.items) l.last (map listed l.cells.items) l.self.number l.self.rest.now;
+  reached : Reached read_cell mask_key (codes "cells") (2 ^ l.fn.n - 1) (is_cell l.fn.n) cell_key_of (λ a b. refl) l.fn.self.number
+      l.fn.self.rest.now l.count (length l.cells.items) l.last (map listed l.cells.items) l.self.number l.self.rest.now;
   few : length l.cells.items ≤ l.count;
   small : FitsCount l.self;
   bound : StaysWithin l.fn.self l.self;

@@ -8,7 +8,8 @@ use Rattle.certificate.proofs.reader.Lines.pairs.Given as goal
 
 abbrev pub invariant-loop-last : goal.invariant-loop-last
 invariant-loop-last l = record {
-  reached : Reached read_pair pair_key (codes "pairs") most_pairs (is_pair l.fn.n) pair_key_of (λ a b. refl) l.fn.self.number l.fn.self.rest.now l.count (length l.pairs.items) l.last l.pairs.items l.self.number l.self.rest.now;
+  reached : Reached read_pair pair_key (codes "pairs") most_pairs (is_pair l.fn.n) pair_key_of (λ a b. refl) l.fn.self.number
+      l.fn.self.rest.now l.count (length l.pairs.items) l.last l.pairs.items l.self.number l.self.rest.now;
   few : length l.pairs.items ≤ l.count;
   small : FitsCount l.self;
   bound : StaysWithin l.fn.self l.self;

@@ -6,25 +6,33 @@ use Rattle.command_line.proofs.check_line.CheckLine.of_words.Goals as goal
 
 pub returns-in-Some-clause-file : goal.returns-in-Some-clause-file
 returns-in-Some-clause-file c =
-    value_matched (app_of c.in-Ok.command) ordercheck c.in-Ok.ensures ordercheck_is_simple (texts c.args.words.now) c.in-Ok-try_get_matches_from_mut.matches c.in-Ok-try_get_matches_from_mut.ensures.ok.2 (codes "FILE") ∙ c.in-Some.ensures.file
+    value_matched (app_of c.in-Ok.command) ordercheck c.in-Ok.ensures ordercheck_is_simple (texts c.args.words.now)
+    c.in-Ok-try_get_matches_from_mut.matches c.in-Ok-try_get_matches_from_mut.ensures.ok.2 (codes "FILE")
+    ∙ c.in-Some.ensures.file
 
 pub returns-in-Some-clause-cert : goal.returns-in-Some-clause-cert
 returns-in-Some-clause-cert c =
-    value_matched (app_of c.in-Ok.command) ordercheck c.in-Ok.ensures ordercheck_is_simple (texts c.args.words.now) c.in-Ok-try_get_matches_from_mut.matches c.in-Ok-try_get_matches_from_mut.ensures.ok.2 (codes "CERT") ∙ c.in-Some.ensures.cert
+    value_matched (app_of c.in-Ok.command) ordercheck c.in-Ok.ensures ordercheck_is_simple (texts c.args.words.now)
+    c.in-Ok-try_get_matches_from_mut.matches c.in-Ok-try_get_matches_from_mut.ensures.ok.2 (codes "CERT")
+    ∙ c.in-Some.ensures.cert
 
 pub returns-in-Err-try_get_matches_from_mut-clause-refused : goal.returns-in-Err-try_get_matches_from_mut-clause-refused
 returns-in-Err-try_get_matches_from_mut-clause-refused c =
-    error_explained ordercheck LacksPaths (texts c.args.words.now) (app_of c.in-Ok.command) c.in-Err-try_get_matches_from_mut.error c.usage_of.result c.in-Ok.ensures ordercheck_is_free c.in-Err-try_get_matches_from_mut.ensures.kinds c.usage_of.ensures
+    error_explained ordercheck LacksPaths (texts c.args.words.now) (app_of c.in-Ok.command) c.in-Err-try_get_matches_from_mut.error
+    c.usage_of.result c.in-Ok.ensures ordercheck_is_free c.in-Err-try_get_matches_from_mut.ensures.kinds c.usage_of.ensures
 
 pub returns-clause-refused : goal.returns-clause-refused
 returns-clause-refused c =
     let words = texts c.args.words.now in
-    let file = value_matched (app_of c.in-Ok.command) ordercheck c.in-Ok.ensures ordercheck_is_simple words c.in-Ok-try_get_matches_from_mut.matches c.in-Ok-try_get_matches_from_mut.ensures.ok.2 (codes "FILE") in
-    let cert = value_matched (app_of c.in-Ok.command) ordercheck c.in-Ok.ensures ordercheck_is_simple words c.in-Ok-try_get_matches_from_mut.matches c.in-Ok-try_get_matches_from_mut.ensures.ok.2 (codes "CERT") in
+    let file = value_matched (app_of c.in-Ok.command) ordercheck c.in-Ok.ensures ordercheck_is_simple words
+    c.in-Ok-try_get_matches_from_mut.matches c.in-Ok-try_get_matches_from_mut.ensures.ok.2 (codes "FILE") in
+    let cert = value_matched (app_of c.in-Ok.command) ordercheck c.in-Ok.ensures ordercheck_is_simple words
+    c.in-Ok-try_get_matches_from_mut.matches c.in-Ok-try_get_matches_from_mut.ensures.ok.2 (codes "CERT") in
     lacking_explained ordercheck LacksPaths words c.lacking.result c.lacking.ensures
     (subst (λ v. LacksFiles v (value_of ordercheck words (codes "CERT"))) (sym file)
     (subst (LacksFiles _) (sym cert) (c.in-None.ensures.lacks refl)))
 
 pub returns-in-Some-clause-taken : goal.returns-in-Some-clause-taken
 returns-in-Some-clause-taken c =
-    taken_faultless (app_of c.in-Ok.command) ordercheck (texts c.args.words.now) c.in-Ok.ensures ordercheck_is_free c.in-Ok-try_get_matches_from_mut.ensures.kinds
+    taken_faultless (app_of c.in-Ok.command) ordercheck (texts c.args.words.now) c.in-Ok.ensures ordercheck_is_free
+    c.in-Ok-try_get_matches_from_mut.ensures.kinds

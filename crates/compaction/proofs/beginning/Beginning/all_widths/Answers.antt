@@ -7,7 +7,8 @@ use Rattle.compaction.proofs.beginning.Beginning.all_widths.Goals as goal
 
 pub block_widths-requires-clause-members : goal.block_widths-requires-clause-members
 block_widths-requires-clause-members c =
-    subst (λ needed. AreMembers c.args.self.now (block_masks c.args.block.now) needed) (sym (c.deref.ensures.value ∙ c.in_ok-masks.ensures)) (own_members c.args.self.now c.args.block.now c.requires.inputs)
+    subst (λ needed. AreMembers c.args.self.now (block_masks c.args.block.now) needed) (sym (c.deref.ensures.value ∙ c.in_ok-masks.ensures))
+    (own_members c.args.self.now c.args.block.now c.requires.inputs)
 
 pub block_widths-requires-clause-room : goal.block_widths-requires-clause-room
 block_widths-requires-clause-room c =

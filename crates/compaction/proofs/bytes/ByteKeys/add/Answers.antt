@@ -10,24 +10,37 @@ use Rattle.compaction.proofs.bytes.ByteKeys.add.Goals as goal
 
 pub tell_pairs-requires-clause-table : goal.tell_pairs-requires-clause-table
 tell_pairs-requires-clause-table c =
-    let h = subst (λ (z : ClassesOf). HoldsBytes z 8 c.self.inside.outer.items c.self.inside.bytes.items c.self.inside.rows.items c.self.inside.masks.items) c.self.view_is c.self.invariant in
+    let h = subst
+    (λ (z : ClassesOf). HoldsBytes z 8 c.self.inside.outer.items c.self.inside.bytes.items c.self.inside.rows.items
+    c.self.inside.masks.items)
+    c.self.view_is c.self.invariant in
     let i = c.requires.inside in
     let n = c.requires.inner in
     let e = c.rank_of-rank.ensures ∙ ap (λ (z : ClassesOf). free_below z.set c.args.x) c.self.view_is in
     subst (λ z. z) (λ i. IsPairTable (sym c.deref.ensures.value i) (sym e i) (length (sym c.deref-2.ensures.value i)))
-    (bytes_table c.args.self c.args.x (omega arith) c.requires.new n c.self.inside.outer.items c.self.inside.bytes.items c.self.inside.rows.items c.self.inside.masks.items h)
+    (bytes_table c.args.self c.args.x (omega arith) c.requires.new n c.self.inside.outer.items c.self.inside.bytes.items
+    c.self.inside.rows.items c.self.inside.masks.items h)
 
 pub invariant_of-result : goal.invariant_of-result
 invariant_of-result c =
-    let h = subst (λ (z : ClassesOf). HoldsBytes z 8 c.self.inside.outer.items c.self.inside.bytes.items c.self.inside.rows.items c.self.inside.masks.items) c.self.view_is c.self.invariant in
+    let h = subst
+    (λ (z : ClassesOf). HoldsBytes z 8 c.self.inside.outer.items c.self.inside.bytes.items c.self.inside.rows.items
+    c.self.inside.masks.items)
+    c.self.view_is c.self.invariant in
     let i = c.requires.inside in
     let n = c.requires.inner in
     let e = c.rank_of-rank.ensures ∙ ap (λ (z : ClassesOf). free_below z.set c.args.x) c.self.view_is in
     let s = one_shl c.args.x 16 (omega arith) in
     let told = c.in_ok-told.told in
-    let k = bytes_more c.args.self c.args.x (omega arith) c.requires.new n c.self.inside.outer.items c.self.inside.bytes.items c.self.inside.rows.items c.self.inside.masks.items h told.numbers.items told.masks.items
-    (subst (λ us. TellsPairs us c.args.x (places.pairs c.self.inside.rows.items (2 ^ free_below c.args.self.set c.args.x)) told.numbers.items told.masks.items) c.deref-2.ensures.value
-    (subst (λ us. TellsPairs c.deref-2.result.now c.args.x (places.pairs us (2 ^ free_below c.args.self.set c.args.x)) told.numbers.items told.masks.items) c.deref.ensures.value
-    (subst (λ r. TellsPairs c.deref-2.result.now c.args.x (places.pairs c.deref.result.now (2 ^ r)) told.numbers.items told.masks.items) e c.in_ok-told.ensures.tells))) in
+    let k = bytes_more c.args.self c.args.x (omega arith) c.requires.new n c.self.inside.outer.items c.self.inside.bytes.items
+    c.self.inside.rows.items c.self.inside.masks.items h told.numbers.items told.masks.items
+    (subst (λ us. TellsPairs us c.args.x (places.pairs c.self.inside.rows.items (2 ^ free_below c.args.self.set c.args.x))
+    told.numbers.items told.masks.items)
+    c.deref-2.ensures.value
+    (subst (λ us. TellsPairs c.deref-2.result.now c.args.x (places.pairs us (2 ^ free_below c.args.self.set c.args.x)) told.numbers.items
+    told.masks.items)
+    c.deref.ensures.value
+    (subst (λ r. TellsPairs c.deref-2.result.now c.args.x (places.pairs c.deref.result.now (2 ^ r)) told.numbers.items told.masks.items) e
+    c.in_ok-told.ensures.tells))) in
     subst (λ (z : ClassesOf). HoldsBytes z 8 c.self.inside.outer.items c.self.inside.bytes.items told.numbers.items told.masks.items)
     (λ z. classes_of (sym c.self.view_is z).problem (bit_or (sym c.self.view_is z).set (sym s z))) k

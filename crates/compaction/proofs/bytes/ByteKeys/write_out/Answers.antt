@@ -21,7 +21,8 @@ unroll-requires-clause-long c =
     let r = row_long c.rank_of.result (free_below c.self.inside.set 3) e (omega arith) in
     let l = length_named c.self.inside.bytes.items c.self.inside.rows.items (2 ^ free_below c.self.inside.set 3) h.named in
     let few = h.strips.few_numbers in
-    subst (λ us. length us * (1 * 2 ^ c.rank_of.result % 2 ^ 64) ≤ 2 ^ 20) (sym c.deref.ensures.value) (subst (λ k. length c.self.inside.bytes.items * k ≤ 2 ^ 20) (sym r) (omega arith))
+    subst (λ us. length us * (1 * 2 ^ c.rank_of.result % 2 ^ 64) ≤ 2 ^ 20) (sym c.deref.ensures.value)
+    (subst (λ k. length c.self.inside.bytes.items * k ≤ 2 ^ 20) (sym r) (omega arith))
 
 pub unroll-requires-clause-named : goal.unroll-requires-clause-named
 unroll-requires-clause-named c =
@@ -30,7 +31,8 @@ unroll-requires-clause-named c =
     let e = c.rank_of.ensures in
     let r = row_long c.rank_of.result (free_below c.self.inside.set 3) e (omega arith) in
     subst (λ us. AreNamed us c.deref-2.result.now (1 * 2 ^ c.rank_of.result % 2 ^ 64)) (sym c.deref.ensures.value)
-    (subst (λ us. AreNamed c.self.inside.bytes.items us (1 * 2 ^ c.rank_of.result % 2 ^ 64)) (sym c.deref-2.ensures.value) (subst (AreNamed c.self.inside.bytes.items c.self.inside.rows.items) (sym r) h.named))
+    (subst (λ us. AreNamed c.self.inside.bytes.items us (1 * 2 ^ c.rank_of.result % 2 ^ 64)) (sym c.deref-2.ensures.value)
+    (subst (AreNamed c.self.inside.bytes.items c.self.inside.rows.items) (sym r) h.named))
 
 pub of_parts-requires-clause-holds : goal.of_parts-requires-clause-holds
 of_parts-requires-clause-holds c =
@@ -41,6 +43,12 @@ of_parts-requires-clause-holds c =
     let v = ap (λ (z : ClassesOf). z.problem.inputs) c.self.view_is in
     let q = c.requires in
     let low : 8 ≡ low_variables c.self.inside.problem.now = omega arith in
-    let n : c.in_ok-numbers.numbers.items ≡ unrolled c.self.inside.bytes.items c.self.inside.rows.items (2 ^ free_below c.self.inside.set 3) = c.in_ok-numbers.ensures ∙ (λ i. unrolled (c.deref.ensures.value i) (c.deref-2.ensures.value i) (r i)) in
-    subst (λ us. HoldsStrips (classes_of c.self.inside.problem.now c.self.inside.set) (low_variables c.self.inside.problem.now) c.self.inside.outer.items us c.self.inside.masks.items) (sym n)
-    (subst (λ k. HoldsStrips (classes_of c.self.inside.problem.now c.self.inside.set) k c.self.inside.outer.items (unrolled c.self.inside.bytes.items c.self.inside.rows.items (2 ^ free_below c.self.inside.set 3)) c.self.inside.masks.items) low h.strips)
+    let n : c.in_ok-numbers.numbers.items ≡ unrolled c.self.inside.bytes.items c.self.inside.rows.items
+    (2 ^ free_below c.self.inside.set 3) =
+    c.in_ok-numbers.ensures
+    ∙ (λ i. unrolled (c.deref.ensures.value i) (c.deref-2.ensures.value i) (r i)) in
+    subst (λ us. HoldsStrips (classes_of c.self.inside.problem.now c.self.inside.set) (low_variables c.self.inside.problem.now)
+    c.self.inside.outer.items us c.self.inside.masks.items) (sym n)
+    (subst (λ k. HoldsStrips (classes_of c.self.inside.problem.now c.self.inside.set) k c.self.inside.outer.items
+    (unrolled c.self.inside.bytes.items c.self.inside.rows.items (2 ^ free_below c.self.inside.set 3)) c.self.inside.masks.items)
+    low h.strips)

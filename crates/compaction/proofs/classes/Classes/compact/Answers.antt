@@ -10,7 +10,8 @@ pub number_pairs_with_masks-requires-clause-table : goal.number_pairs_with_masks
 number_pairs_with_masks-requires-clause-table c =
     let h = subst (λ (z : ClassesOf). HoldsClasses z c.self.inside.numbers.items c.self.inside.masks.items) c.self.view_is c.self.invariant in
     let e = c.rank_of-rank.ensures ∙ ap (λ (z : ClassesOf). free_below z.set c.args.x) c.self.view_is in
-    let r = is_ready c.args.self.now c.args.x c.requires.inside c.requires.new c.self.inside.numbers.items c.self.inside.masks.items c.rank_of-rank.result h e in
+    let r = is_ready c.args.self.now c.args.x c.requires.inside c.requires.new c.self.inside.numbers.items c.self.inside.masks.items
+    c.rank_of-rank.result h e in
     subst (λ z. z) (λ i. IsPairTable (sym c.deref.ensures.value i) c.rank_of-rank.result (length (sym c.deref-2.ensures.value i)))
     (ready_table c.self.inside.numbers.items c.self.inside.masks.items c.rank_of-rank.result r)
 
@@ -18,7 +19,8 @@ pub number_pairs_with_masks-requires-clause-few : goal.number_pairs_with_masks-r
 number_pairs_with_masks-requires-clause-few c =
     let h = subst (λ (z : ClassesOf). HoldsClasses z c.self.inside.numbers.items c.self.inside.masks.items) c.self.view_is c.self.invariant in
     let e = c.rank_of-rank.ensures ∙ ap (λ (z : ClassesOf). free_below z.set c.args.x) c.self.view_is in
-    let r = is_ready c.args.self.now c.args.x c.requires.inside c.requires.new c.self.inside.numbers.items c.self.inside.masks.items c.rank_of-rank.result h e in
+    let r = is_ready c.args.self.now c.args.x c.requires.inside c.requires.new c.self.inside.numbers.items c.self.inside.masks.items
+    c.rank_of-rank.result h e in
     let m = ap length c.deref-2.ensures.value in
     let k = r.few in
     omega arith
@@ -32,7 +34,11 @@ invariant_of-result c =
     let s = one_shl c.args.x 16 (omega arith) in
     let v = c.deref.ensures.value in
     let w = c.deref-2.ensures.value in
-    let q = subst (λ z. z) (λ i. NumbersPairs (w i) c.args.x (places.pairs (v i) (2 ^ e i)) c.in_ok-numbered.numbered.numbers.items c.in_ok-numbered.numbered.masks.items) c.in_ok-numbered.ensures in
-    let k = holds_more c.args.self.now c.args.x c.requires.inside c.requires.new c.self.inside.numbers.items c.self.inside.masks.items c.in_ok-numbered.numbered.numbers.items c.in_ok-numbered.numbered.masks.items h q.numbers_are q.many q.told in
+    let q = subst (λ z. z)
+    (λ i. NumbersPairs (w i) c.args.x (places.pairs (v i) (2 ^ e i)) c.in_ok-numbered.numbered.numbers.items
+    c.in_ok-numbered.numbered.masks.items)
+    c.in_ok-numbered.ensures in
+    let k = holds_more c.args.self.now c.args.x c.requires.inside c.requires.new c.self.inside.numbers.items c.self.inside.masks.items
+    c.in_ok-numbered.numbered.numbers.items c.in_ok-numbered.numbered.masks.items h q.numbers_are q.many q.told in
     subst (λ (z : ClassesOf). HoldsClasses z c.in_ok-numbered.numbered.numbers.items c.in_ok-numbered.numbered.masks.items)
     (λ i. classes_of (sym c.self.view_is i).problem (bit_or (sym c.self.view_is i).set (sym s i))) k

@@ -12,4 +12,6 @@ returns-then-x-inputs-clause-new c = λ t.
 pub returns-then-x-inputs-clause-all : goal.returns-then-x-inputs-clause-all
 returns-then-x-inputs-clause-all c = λ lt f.
     eq-eqb (bit_and (c.self.inside.set / 2 ^ c.args.x) 1) 0
-    (unset_bit c.self.inside.problem.now.inputs c.self.inside.set c.args.x (subst (λ (z : ClassesOf). c.args.x < z.problem.inputs) (sym c.self.view_is) lt) (ap (λ (z : ClassesOf). has (set_of z) c.args.x) c.self.view_is ∙ f))
+    (unset_bit c.self.inside.problem.now.inputs c.self.inside.set c.args.x
+    (subst (λ (z : ClassesOf). c.args.x < z.problem.inputs) (sym c.self.view_is) lt)
+    (ap (λ (z : ClassesOf). has (set_of z) c.args.x) c.self.view_is ∙ f))

@@ -12,7 +12,8 @@ pub loop-y-preserved : goal.loop-y-preserved
 loop-y-preserved c =
     elim c.if-mask-y-eq1.branch [
       | then-mask-y-eq1+in_ok-classes-2 w ↦
-          w.classes-is ∙ w.in_ok-classes-2.ensures ∙ ap (λ (t : ClassesOf). with_variable t c.loop-y.y) c.loop-y.invariant ∙ ap (classes_of c.args.problem.now) (low_more c.args.mask c.loop-y.y w.if-mask-y-eq1.true)
+          w.classes-is ∙ w.in_ok-classes-2.ensures ∙ ap (λ (t : ClassesOf). with_variable t c.loop-y.y) c.loop-y.invariant
+          ∙ ap (classes_of c.args.problem.now) (low_more c.args.mask c.loop-y.y w.if-mask-y-eq1.true)
       | else-mask-y-eq1 w ↦ w.classes-is ∙ c.loop-y.invariant ∙ ap (classes_of c.args.problem.now) (low_same c.args.mask c.loop-y.y w.if-mask-y-eq1.false)
     ]
 

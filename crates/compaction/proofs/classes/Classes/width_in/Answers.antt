@@ -12,7 +12,8 @@ use Rattle.class_laws.proofs.Extended.{is_ready, ready_table, few_masks, few_of_
 use Rattle.compaction.proofs.classes.Classes.width_in.Goals as goal
 
 -- so many pairs with x are the width of x
-width_counted : (t : ClassesOf) (x : ℕ) → x < t.problem.inputs → has (set_of t) x ≡ false → (numbers masks : List ℕ) (count : ℕ) → HoldsClasses t numbers masks →
+width_counted : (t : ClassesOf) (x : ℕ) → x < t.problem.inputs → has (set_of t) x ≡ false → (numbers masks : List ℕ) (count : ℕ) →
+    HoldsClasses t numbers masks →
     CountsMasks masks x (pairs numbers (2 ^ free_below t.set x)) count → count ≡ width t.problem.inputs (functions_of t) (set_of t) x
 width_counted t x inside new numbers masks count h q =
     let k = holds_more t x inside new numbers masks (ranks same_pair (pairs numbers (2 ^ free_below t.set x))) q.joined h refl q.many q.told in
@@ -23,7 +24,8 @@ pub count_joined-width-requires-clause-table : goal.count_joined-width-requires-
 count_joined-width-requires-clause-table c =
     let h = subst (λ (z : ClassesOf). HoldsClasses z c.self.inside.numbers.items c.self.inside.masks.items) c.self.view_is c.self.invariant in
     let e = c.rank_of-rank.ensures ∙ ap (λ (z : ClassesOf). free_below z.set c.args.x) c.self.view_is in
-    let r = is_ready c.args.self.now c.args.x c.requires.inside c.requires.new c.self.inside.numbers.items c.self.inside.masks.items c.rank_of-rank.result h e in
+    let r = is_ready c.args.self.now c.args.x c.requires.inside c.requires.new c.self.inside.numbers.items c.self.inside.masks.items
+    c.rank_of-rank.result h e in
     subst (λ z. z) (λ i. IsPairTable (sym c.deref.ensures.value i) c.rank_of-rank.result (length (sym c.deref-2.ensures.value i)))
     (ready_table c.self.inside.numbers.items c.self.inside.masks.items c.rank_of-rank.result r)
 
@@ -48,4 +50,7 @@ returns-clause-width c =
     let h = subst (λ (z : ClassesOf). HoldsClasses z c.self.inside.numbers.items c.self.inside.masks.items) c.self.view_is c.self.invariant in
     let e = c.rank_of-rank.ensures ∙ ap (λ (z : ClassesOf). free_below z.set c.args.x) c.self.view_is in
     width_counted c.args.self.now c.args.x c.requires.inside c.requires.new c.self.inside.numbers.items c.self.inside.masks.items c.count_joined-width.result h
-    (subst (λ z. z) (λ i. CountsMasks (c.deref-2.ensures.value i) c.args.x (places.pairs (c.deref.ensures.value i) (2 ^ e i)) c.count_joined-width.result) c.count_joined-width.ensures.count)
+    (subst (λ z. z)
+    (λ i. CountsMasks (c.deref-2.ensures.value i) c.args.x (places.pairs (c.deref.ensures.value i) (2 ^ e i))
+    c.count_joined-width.result)
+    c.count_joined-width.ensures.count)

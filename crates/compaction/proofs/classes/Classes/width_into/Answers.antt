@@ -27,4 +27,5 @@ returns c =
     let h = subst (λ (z : ClassesOf). HoldsClasses z c.self.inside.numbers.items c.self.inside.masks.items) c.self.view_is c.self.invariant in
     let s = members_small c.args.self.now.problem.inputs c.args.self.now.set c.args.x c.requires in
     c.count_with.ensures ∙ ap (λ ms. length (filter (λ m. eqb (bit_at m c.args.x) 1) ms)) c.deref.ensures.value
-    ∙ sym (width_is_dependent_classes c.args.self.now.problem.inputs (functions_of c.args.self.now) (set_of c.args.self.now) c.self.inside.masks.items c.args.x s c.requires h.masks_are)
+    ∙ sym (width_is_dependent_classes c.args.self.now.problem.inputs (functions_of c.args.self.now) (set_of c.args.self.now)
+    c.self.inside.masks.items c.args.x s c.requires h.masks_are)

@@ -11,24 +11,40 @@ overflow_sub-rank c =
     let b = c.rank_of-bits.ensures in
     let l = c.low_variables.ensures in
     let r = c.rank_of.ensures in
-    let s = free_split c.self.inside.set (low_variables c.self.inside.problem.now) c.args.x (let v = ap (λ (z : ClassesOf). low_variables z.problem) c.self.view_is in let h = c.requires.high in omega arith) in
+    let s = free_split c.self.inside.set (low_variables c.self.inside.problem.now) c.args.x
+    (let v = ap (λ (z : ClassesOf). low_variables z.problem) c.self.view_is in let h = c.requires.high in omega arith) in
     let e = ap (free_below c.self.inside.set) l in
     omega arith
 
 pub add_above-requires-clause-table : goal.add_above-requires-clause-table
 add_above-requires-clause-table c =
-    let h = table_strips c.args.self.now (low_variables c.args.self.now.problem) c.self.inside.distinct c.self.inside.all_used c.self.inside.outer.items c.self.inside.numbers.items c.self.inside.masks.items (subst (λ (z : ClassesOf). HoldsTable z (low_variables z.problem) c.self.inside.distinct c.self.inside.all_used c.self.inside.outer.items c.self.inside.numbers.items c.self.inside.masks.items) c.self.view_is c.self.invariant) c.in-None.is in
-    let b = c.rank_of-bits.ensures ∙ ap (free_below c.self.inside.set) c.low_variables.ensures ∙ ap (λ (z : ClassesOf). free_below z.set (low_variables z.problem)) c.self.view_is in
+    let h = table_strips c.args.self.now (low_variables c.args.self.now.problem) c.self.inside.distinct c.self.inside.all_used
+    c.self.inside.outer.items c.self.inside.numbers.items c.self.inside.masks.items
+    (subst (λ (z : ClassesOf). HoldsTable z (low_variables z.problem) c.self.inside.distinct c.self.inside.all_used
+    c.self.inside.outer.items c.self.inside.numbers.items c.self.inside.masks.items)
+    c.self.view_is c.self.invariant)
+    c.in-None.is in
+    let b = c.rank_of-bits.ensures ∙ ap (free_below c.self.inside.set) c.low_variables.ensures
+    ∙ ap (λ (z : ClassesOf). free_below z.set (low_variables z.problem)) c.self.view_is in
     let e = c.rank_of.ensures ∙ ap (λ (z : ClassesOf). free_below z.set c.args.x) c.self.view_is in
     let s = free_split c.args.self.now.set (low_variables c.args.self.now.problem) c.args.x c.requires.high in
     let rank = c.rank_of.result - c.rank_of-bits.result in
-    subst (λ z. z) (λ i. IsStripTable (sym c.deref.ensures.value i) rank (sym c.deref-in-None.ensures.value i) (sym b i) (sym c.deref-in-None-2.ensures.value i))
-    (table_high c.args.self.now c.args.x c.requires.inside c.requires.new (low_variables c.args.self.now.problem) c.self.inside.outer.items c.self.inside.numbers.items c.self.inside.masks.items h c.requires.high rank (omega arith))
+    subst (λ z. z)
+    (λ i. IsStripTable (sym c.deref.ensures.value i) rank (sym c.deref-in-None.ensures.value i) (sym b i)
+    (sym c.deref-in-None-2.ensures.value i))
+    (table_high c.args.self.now c.args.x c.requires.inside c.requires.new (low_variables c.args.self.now.problem) c.self.inside.outer.items
+    c.self.inside.numbers.items c.self.inside.masks.items h c.requires.high rank (omega arith))
 
 pub of_parts-strips-requires-clause-holds : goal.of_parts-strips-requires-clause-holds
 of_parts-strips-requires-clause-holds c =
-    let h = table_strips c.args.self.now (low_variables c.args.self.now.problem) c.self.inside.distinct c.self.inside.all_used c.self.inside.outer.items c.self.inside.numbers.items c.self.inside.masks.items (subst (λ (z : ClassesOf). HoldsTable z (low_variables z.problem) c.self.inside.distinct c.self.inside.all_used c.self.inside.outer.items c.self.inside.numbers.items c.self.inside.masks.items) c.self.view_is c.self.invariant) c.in-None.is in
-    let b = c.rank_of-bits.ensures ∙ ap (free_below c.self.inside.set) c.low_variables.ensures ∙ ap (λ (z : ClassesOf). free_below z.set (low_variables z.problem)) c.self.view_is in
+    let h = table_strips c.args.self.now (low_variables c.args.self.now.problem) c.self.inside.distinct c.self.inside.all_used
+    c.self.inside.outer.items c.self.inside.numbers.items c.self.inside.masks.items
+    (subst (λ (z : ClassesOf). HoldsTable z (low_variables z.problem) c.self.inside.distinct c.self.inside.all_used
+    c.self.inside.outer.items c.self.inside.numbers.items c.self.inside.masks.items)
+    c.self.view_is c.self.invariant)
+    c.in-None.is in
+    let b = c.rank_of-bits.ensures ∙ ap (free_below c.self.inside.set) c.low_variables.ensures
+    ∙ ap (λ (z : ClassesOf). free_below z.set (low_variables z.problem)) c.self.view_is in
     let e = c.rank_of.ensures ∙ ap (λ (z : ClassesOf). free_below z.set c.args.x) c.self.view_is in
     let s = free_split c.args.self.now.set (low_variables c.args.self.now.problem) c.args.x c.requires.high in
     let few = h.keys.few_inputs in
@@ -36,19 +52,30 @@ of_parts-strips-requires-clause-holds c =
     let o = one_shl c.args.x 16 (omega arith) in
     let rank = c.rank_of.result - c.rank_of-bits.result in
     let g = c.in_ok-grown-in-None.grown in
-    let grown = subst (λ z. z) (λ i. GrowsStrips (c.deref.ensures.value i) rank (c.deref-in-None.ensures.value i) (b i) (c.deref-in-None-2.ensures.value i) c.args.x g.outer.items g.numbers.items g.masks.items g.all_used) c.in_ok-grown-in-None.ensures in
-    let k = holds_high c.args.self.now c.args.x c.requires.inside c.requires.new (low_variables c.args.self.now.problem) c.self.inside.outer.items c.self.inside.numbers.items c.self.inside.masks.items h
+    let grown =
+    subst (λ z. z)
+    (λ i. GrowsStrips (c.deref.ensures.value i) rank (c.deref-in-None.ensures.value i) (b i) (c.deref-in-None-2.ensures.value i)
+    c.args.x g.outer.items g.numbers.items g.masks.items g.all_used)
+    c.in_ok-grown-in-None.ensures in
+    let k = holds_high c.args.self.now c.args.x c.requires.inside c.requires.new (low_variables c.args.self.now.problem)
+    c.self.inside.outer.items c.self.inside.numbers.items c.self.inside.masks.items h
     c.requires.high rank (omega arith) g.outer.items g.numbers.items g.masks.items g.all_used grown in
     subst (λ (z : ClassesOf). HoldsStrips z (low_variables z.problem) g.outer.items g.numbers.items g.masks.items)
     (λ i. classes_of (sym c.self.view_is i).problem (bit_or (sym c.self.view_is i).set (sym o i))) k
 
 pub of_count-requires : goal.of_count-requires
 of_count-requires c =
-    let d = (table_distinct c.args.self.now (low_variables c.args.self.now.problem) c.self.inside.distinct c.in-Some.count c.self.inside.all_used c.self.inside.outer.items c.self.inside.numbers.items c.self.inside.masks.items (subst (λ (z : ClassesOf). HoldsTable z (low_variables z.problem) c.self.inside.distinct c.self.inside.all_used c.self.inside.outer.items c.self.inside.numbers.items c.self.inside.masks.items) c.self.view_is c.self.invariant) c.in-Some.is) in
+    let d = (table_distinct c.args.self.now (low_variables c.args.self.now.problem) c.self.inside.distinct c.in-Some.count
+    c.self.inside.all_used c.self.inside.outer.items c.self.inside.numbers.items c.self.inside.masks.items
+    (subst (λ (z : ClassesOf). HoldsTable z (low_variables z.problem) c.self.inside.distinct c.self.inside.all_used
+    c.self.inside.outer.items c.self.inside.numbers.items c.self.inside.masks.items)
+    c.self.view_is c.self.invariant)
+    c.in-Some.is) in
     let few = d.keys.few_inputs in
     let i' = c.requires.inside in
     let s = one_shl c.args.x 16 (omega arith) in
-    subst (λ (z : ClassesOf). AreDistinct z (c.in-Some.count / 2)) (λ i. classes_of (sym c.self.view_is i).problem (bit_or (sym c.self.view_is i).set (sym s i)))
+    subst (λ (z : ClassesOf). AreDistinct z (c.in-Some.count / 2))
+    (λ i. classes_of (sym c.self.view_is i).problem (bit_or (sym c.self.view_is i).set (sym s i)))
     (distinct_more c.args.self.now c.in-Some.count d c.args.x c.requires.inside c.requires.new)
 
 pub returns-in-Some : goal.returns-in-Some

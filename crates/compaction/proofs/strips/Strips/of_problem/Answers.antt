@@ -15,6 +15,8 @@ of_parts-requires-clause-holds c =
     let l = c.low_variables.ensures in
     let outer = c.in_ok-outer.field-0.outer.items in
     let numbers = c.in_ok-outer.field-0.numbers.items in
-    subst (HoldsStrips (classes_of p 0) (low_variables p) outer numbers) (sym (c.in_ok-push-2.ensures.items ∙ ap (λ us. us ++ 0 ∷ []) (c.in_ok-push.ensures.items ∙ ap (λ us. us ++ 0 ∷ []) c.in_ok-masks.ensures.items)))
+    subst (HoldsStrips (classes_of p 0) (low_variables p) outer numbers)
+    (sym (c.in_ok-push-2.ensures.items
+    ∙ ap (λ us. us ++ 0 ∷ []) (c.in_ok-push.ensures.items ∙ ap (λ us. us ++ 0 ∷ []) c.in_ok-masks.ensures.items)))
     (holds_values p (omega arith) (omega arith) (omega arith) (low_variables p) outer numbers
     (subst (λ k. HoldsValues p outer numbers (2 ^ k)) l c.in_ok-outer.ensures))

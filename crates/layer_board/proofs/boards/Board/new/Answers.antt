@@ -8,7 +8,14 @@ use Rattle.layer_board.proofs.boards.Board.new.Goals as goal
 
 pub of_words-requires : goal.of_words-requires
 of_words-requires c =
-    let b : BriefOf = record { setting = record { problem = c.of-2.result.value; pairs = c.of-3.result.value; bound = c.args.bound }; layer = c.of-4.result.value; workers = c.args.workers } in
+    let b : BriefOf =
+    record {
+      setting =
+          record { problem = c.of-2.result.value; pairs = c.of-3.result.value; bound = c.args.bound };
+      layer =
+          c.of-4.result.value;
+      workers = c.args.workers;
+    } in
     let many : c.len.result ≡ length (masks_of b.layer) = c.len.ensures ∙ ap (λ (l : LayerOf). length (masks_of l)) (sym c.of-4.ensures) in
     may_open b c.as_slice.result.now (c.as_slice.ensures.value ∙ (c.in_ok-words.ensures ∙ ap (λ (n : ℕ). replicate (n + 1) 0) many))
     (omega (arith, c.count-count.ensures.some, c.count-count.ensures.value)) (omega (arith, c.count-count.ensures.most, c.count-count.ensures.value))

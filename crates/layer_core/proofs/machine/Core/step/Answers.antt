@@ -15,7 +15,9 @@ pub returns-in-Claim-clause-workers : goal.returns-in-Claim-clause-workers
 returns-in-Claim-clause-workers c = ap (λ (z : Reply × World). length z.1.workers) c.claim.ensures ∙ same_workers c.args.self.now (Claim (c.from.result - 1))
 
 pub returns-in-Post-clause-workers : goal.returns-in-Post-clause-workers
-returns-in-Post-clause-workers c = ap (λ (z : Reply × World). length z.1.workers) c.post.ensures ∙ same_workers c.args.self.now (Post (c.from-in-Post.result - 1) c.mask.result (pair_of c.cell.result))
+returns-in-Post-clause-workers c = ap (λ (z : Reply × World). length z.1.workers) c.post.ensures
+    ∙ same_workers c.args.self.now (Post (c.from-in-Post.result - 1) c.mask.result (pair_of c.cell.result))
 
 pub returns-in-Read-clause-workers : goal.returns-in-Read-clause-workers
-returns-in-Read-clause-workers c = ap (λ (z : Reply × World). length z.1.workers) c.read.ensures ∙ same_workers c.args.self.now (Read (c.from-in-Read.result - 1) c.in-Read.mask)
+returns-in-Read-clause-workers c = ap (λ (z : Reply × World). length z.1.workers) c.read.ensures
+    ∙ same_workers c.args.self.now (Read (c.from-in-Read.result - 1) c.in-Read.mask)

@@ -15,6 +15,8 @@ returns-clause-counts c = λ i h.
     let nodes_are : c.deref.result.now ≡ c.args.self.now.graph.nodes = c.deref.ensures.value ∙ ap (λ (d : OrderedGraph). d.graph.nodes) c.self.view_is in
     let same_length : length c.variables.result.now ≡ length c.args.self.now.order = ap length order_is in
     let h' : i < length c.variables.result.now = omega arith in
-    let small : get_or c.variables.result.now i 0 < 16 = subst (λ (xs : List ℕ). All (λ x. x < 16) xs) (sym c.variables.ensures.value) c.variables.ensures.small i 0 h' in
-    c.in_order.ensures.counts i h' ∙ c.counts_by_variable.ensures _ small ∙ ap (λ (ns : List Node). variable_count ns (get_or c.variables.result.now i 0)) nodes_are
+    let small : get_or c.variables.result.now i 0 < 16 =
+    subst (λ (xs : List ℕ). All (λ x. x < 16) xs) (sym c.variables.ensures.value) c.variables.ensures.small i 0 h' in
+    c.in_order.ensures.counts i h' ∙ c.counts_by_variable.ensures _ small
+    ∙ ap (λ (ns : List Node). variable_count ns (get_or c.variables.result.now i 0)) nodes_are
     ∙ ap (λ (xs : List ℕ). variable_count c.args.self.now.graph.nodes (get_or xs i 0)) order_is

@@ -18,7 +18,8 @@ pub loop-place-init : goal.loop-place-init
 loop-place-init c =
     let n = c.args.self.now.inputs in
     let kept = kept_of _ _ c.self.view_is c.self.invariant.kept in
-    subst (λ (m : ℕ). GreedyTo n c.args.self.now.pairs (replicate 16 0) 0 m) (sym (all_ones n kept.few) ∙ ap (λ (k : ℕ). 65535 / 2 ^ (16 - k)) (sym (same _ _ c.self.view_is)))
+    subst (λ (m : ℕ). GreedyTo n c.args.self.now.pairs (replicate 16 0) 0 m)
+    (sym (all_ones n kept.few) ∙ ap (λ (k : ℕ). 65535 / 2 ^ (16 - k)) (sym (same _ _ c.self.view_is)))
     (greedy_start n c.args.self.now.pairs (replicate 16 0) kept refl)
 
 pub smallest_top-x-requires-clause-some : goal.smallest_top-x-requires-clause-some
@@ -57,7 +58,8 @@ loop-place-preserved c =
     let e = same _ _ c.self.view_is in
     let low = one_shl x 16 (let l = bit.0 in omega arith) in
     subst (λ (m : ℕ). GreedyTo n P (set c.loop-place.variables c.loop-place.place x) (c.loop-place.place + 1) (c.loop-place.remaining - m)) (sym low)
-    (greedy_step n P c.loop-place.variables c.loop-place.place c.loop-place.remaining x c.loop-place.invariant (omega arith) c.smallest_top-x.ensures.top c.smallest_top-x.ensures.smallest)
+    (greedy_step n P c.loop-place.variables c.loop-place.place c.loop-place.remaining x c.loop-place.invariant (omega arith)
+    c.smallest_top-x.ensures.top c.smallest_top-x.ensures.smallest)
 
 -- after the last step
 module _ (fields value : KeptPairs) (is : fields ≡ value) (k : CanBeKept fields.inputs fields.pairs) (xs : List ℕ) (place remaining : ℕ)
@@ -65,25 +67,31 @@ module _ (fields value : KeptPairs) (is : fields ≡ value) (k : CanBeKept field
   first : IsFirstOrder value.inputs value.pairs (take fields.inputs xs)
   first =
       let e = same fields value is in
-      subst (λ (i : ℕ). IsFirstOrder value.inputs value.pairs (take i xs)) (sym e) (greedy_end value.inputs value.pairs xs place remaining (kept_of fields value is k) g (omega arith) (omega arith))
+      subst (λ (i : ℕ). IsFirstOrder value.inputs value.pairs (take i xs)) (sym e)
+      (greedy_end value.inputs value.pairs xs place remaining (kept_of fields value is k) g (omega arith) (omega arith))
 
   accepted : Accepts (take fields.inputs xs)
   accepted =
       let e = same fields value is in
       subst (λ (i : ℕ). Accepts (take i xs)) (sym e)
-      (first_accepted value.inputs value.pairs xs (kept_of fields value is k) g.long (greedy_end value.inputs value.pairs xs place remaining (kept_of fields value is k) g (omega arith) (omega arith)))
+      (first_accepted value.inputs value.pairs xs (kept_of fields value is k) g.long
+      (greedy_end value.inputs value.pairs xs place remaining (kept_of fields value is k) g (omega arith) (omega arith)))
 
 pub returns-in-Ok : goal.returns-in-Ok
 returns-in-Ok c =
     subst (λ (o : List ℕ). IsFirstOrder c.args.self.now.inputs c.args.self.now.pairs o) (sym c.in-Ok.ensures.value)
-    (first _ _ c.self.view_is c.self.invariant.kept c.loop-place.variables c.loop-place.place c.loop-place.remaining c.loop-place.invariant c.loop-place-test.false c.loop-place.auto.place-end)
+    (first _ _ c.self.view_is c.self.invariant.kept c.loop-place.variables c.loop-place.place c.loop-place.remaining c.loop-place.invariant
+    c.loop-place-test.false c.loop-place.auto.place-end)
 
 pub unreachable-requires : goal.unreachable-requires
 unreachable-requires c =
-    let a = accepted _ _ c.self.view_is c.self.invariant.kept c.loop-place.variables c.loop-place.place c.loop-place.remaining c.loop-place.invariant c.loop-place-test.false c.loop-place.auto.place-end in
+    let a = accepted _ _ c.self.view_is c.self.invariant.kept c.loop-place.variables c.loop-place.place c.loop-place.remaining
+    c.loop-place.invariant c.loop-place-test.false c.loop-place.auto.place-end in
     (subst (Refuses (take c.self.inside.inputs c.loop-place.variables)) c.in-Err-NotEach.field-0-is c.in-Err-NotEach.ensures.refused).1 a.order
 
 pub unreachable-requires-in-Err-OutOfRange : goal.unreachable-requires-in-Err-OutOfRange
 unreachable-requires-in-Err-OutOfRange c =
-    let a = accepted _ _ c.self.view_is c.self.invariant.kept c.loop-place.variables c.loop-place.place c.loop-place.remaining c.loop-place.invariant c.loop-place-test.false c.loop-place.auto.place-end in
-    subst (Refuses (take c.self.inside.inputs c.loop-place.variables)) c.in-Err-OutOfRange.field-0-is c.in-Err-OutOfRange.ensures.refused (in_range (take c.self.inside.inputs c.loop-place.variables) a)
+    let a = accepted _ _ c.self.view_is c.self.invariant.kept c.loop-place.variables c.loop-place.place c.loop-place.remaining
+    c.loop-place.invariant c.loop-place-test.false c.loop-place.auto.place-end in
+    subst (Refuses (take c.self.inside.inputs c.loop-place.variables)) c.in-Err-OutOfRange.field-0-is c.in-Err-OutOfRange.ensures.refused
+    (in_range (take c.self.inside.inputs c.loop-place.variables) a)

@@ -17,8 +17,10 @@ pub loop-a-preserved : goal.loop-a-preserved
 loop-a-preserved c a b h e bit =
     elim (cases_eq a c.loop-a.a) [
       | inl s ↦ elim c.else-set-a-eq1.branch [
-        | else-set-a-eq1-via-then-set-a-eq1+else-below-set-ne0 w ↦ bits_inside (get_or c.self.inside.below c.loop-a.a 0) c.args.set (omega arith) w.if-below-set-ne0.false b (small b bit) (subst (λ (v : ℕ). HasBit c.self.inside.below v b) s bit)
-        | else-set-a-eq1-via-else-set-a-eq1 w ↦ absurd (w.if-set-a-eq1.false (shr_and_one c.args.set c.loop-a.a ∙ subst (λ (v : ℕ). bit_at c.args.set v ≡ 1) s e))
+        | else-set-a-eq1-via-then-set-a-eq1+else-below-set-ne0 w ↦ bits_inside (get_or c.self.inside.below c.loop-a.a 0) c.args.set
+            (omega arith) w.if-below-set-ne0.false b (small b bit) (subst (λ (v : ℕ). HasBit c.self.inside.below v b) s bit)
+        | else-set-a-eq1-via-else-set-a-eq1 w ↦ absurd
+            (w.if-set-a-eq1.false (shr_and_one c.args.set c.loop-a.a ∙ subst (λ (v : ℕ). bit_at c.args.set v ≡ 1) s e))
       ]
       | inr ne ↦ c.loop-a.invariant a b (omega arith) e bit
     ]
@@ -28,7 +30,10 @@ loop-a-preserved c a b h e bit =
 
 pub returns : goal.returns
 returns c =
-    subst (λ (v : KeptPairs). true ≡ is_lawful v.pairs (members v.inputs c.args.set)) c.self.view_is (sym (lawful_in c.self.inside.inputs c.self.inside.below c.args.set (λ a b e bit. c.loop-a.invariant a b (let s = (c.self.invariant.within a b bit).0 in let f = c.self.invariant.kept.few in omega arith) e bit)))
+    subst (λ (v : KeptPairs). true ≡ is_lawful v.pairs (members v.inputs c.args.set)) c.self.view_is
+    (sym (lawful_in c.self.inside.inputs c.self.inside.below c.args.set
+    (λ a b e bit. c.loop-a.invariant a b
+    (let s = (c.self.invariant.within a b bit).0 in let f = c.self.invariant.kept.few in omega arith) e bit)))
 
 pub returns-then-below-set-ne0 : goal.returns-then-below-set-ne0
 returns-then-below-set-ne0 c =

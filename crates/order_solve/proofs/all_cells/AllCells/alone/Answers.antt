@@ -6,4 +6,5 @@ use Rattle.order_solve.proofs.all_cells.AllCells.alone.Goals as goal
 pub layers_alone-requires-clause-room : goal.layers_alone-requires-clause-room
 layers_alone-requires-clause-room c =
     let t = setting_with c.args.problem.now c.args.pairs.now c.args.bound in
-    bound_small t c.outputs-few.result c.requires.bounded (let v = c.inputs-inputs.ensures in omega (arith, v.value, v.few)) c.outputs-few.ensures.value c.outputs-few.ensures.few
+    bound_small t c.outputs-few.result c.requires.bounded (let v = c.inputs-inputs.ensures in omega (arith, v.value, v.few))
+    c.outputs-few.ensures.value c.outputs-few.ensures.few

@@ -12,4 +12,6 @@ unwrap-requires c = c.cell_of.ensures.some.1 (
 )
 
 pub returns : goal.returns
-returns c = cell_found c.args.self.now (count_ones c.args.mask) c.args.mask c.layer.result.now c.cell_of.result c.unwrap.result c.layer.ensures c.cell_of.ensures.exact c.unwrap.ensures
+returns c =
+    cell_found c.args.self.now (count_ones c.args.mask) c.args.mask c.layer.result.now c.cell_of.result c.unwrap.result c.layer.ensures
+    c.cell_of.ensures.exact c.unwrap.ensures

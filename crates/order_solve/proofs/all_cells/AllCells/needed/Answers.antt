@@ -12,10 +12,13 @@ pub layer-before-requires : goal.layer-before-requires
 layer-before-requires c = let l = ones_le c.args.self.now.problem.inputs c.args.mask c.requires.within in omega (arith, l)
 
 pub needed_members-requires-clause-next : goal.needed_members-requires-clause-next
-needed_members-requires-clause-next c = next_there c.args.self.now c.args.mask c.layer-before.result.now c.requires.within c.requires.some c.layer-before.ensures
+needed_members-requires-clause-next c =
+    next_there c.args.self.now c.args.mask c.layer-before.result.now c.requires.within c.requires.some c.layer-before.ensures
 
 pub returns : goal.returns
 returns c =
     needed_is _ (count_ones c.args.mask - 1) c.args.mask c.needed_members.result c.layer-before.result.now
-    (subst (λ (t : Setting). IsLayerFor t (count_ones c.args.mask - 1) c.layer-before.result.now) (sym c.self.view_is) c.layer-before.ensures) c.needed_members.ensures
+    (subst (λ (t : Setting). IsLayerFor t (count_ones c.args.mask - 1) c.layer-before.result.now) (sym c.self.view_is)
+    c.layer-before.ensures)
+    c.needed_members.ensures
     ∙ ap (λ (t : Setting). needed t c.args.mask) c.self.view_is

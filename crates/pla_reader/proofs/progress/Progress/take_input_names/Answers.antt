@@ -6,8 +6,10 @@ use Rattle.pla_reader.proofs.progress.Progress.take_input_names.Goals as goal
 pub returns-in_err-check_names : goal.returns-in_err-check_names
 returns-in_err-check_names c before agrees =
     refused before _ _ c.from_residual.result c.in_err-check_names.field-0.0 c.from_residual.ensures.1
-    (input_names_fault before (state_of c.args.self.now) _ _ (c.is_some.ensures ∙ some_kept _ c.args.self.now.input_names) agrees ∙ c.in_err-check_names.ensures)
+    (input_names_fault before (state_of c.args.self.now) _ _ (c.is_some.ensures ∙ some_kept _ c.args.self.now.input_names) agrees
+    ∙ c.in_err-check_names.ensures)
 
 pub returns : goal.returns
 returns c before agrees =
-    takes_input_names before (state_of c.args.self.now) _ _ _ (c.is_some.ensures ∙ some_kept _ c.args.self.now.input_names) c.in_ok-names.ensures c.in_ok-check_names.ensures.0 c.in_ok-check_names.ensures.1 agrees
+    takes_input_names before (state_of c.args.self.now) _ _ _ (c.is_some.ensures ∙ some_kept _ c.args.self.now.input_names)
+    c.in_ok-names.ensures c.in_ok-check_names.ensures.0 c.in_ok-check_names.ensures.1 agrees

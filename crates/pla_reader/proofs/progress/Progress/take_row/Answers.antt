@@ -6,7 +6,8 @@ use Rattle.pla_reader.proofs.progress.Progress.take_row.Goals as goal
 
 pub returns-in_default : goal.returns-in_default
 returns-in_default c before agrees =
-    let none : (is_some c.args.self.now.inputs && is_some c.args.self.now.outputs) ≡ false = rw c.in_default.is-1 (and-false (is_some c.args.self.now.inputs)) in
+    let none : (is_some c.args.self.now.inputs && is_some c.args.self.now.outputs) ≡ false =
+    rw c.in_default.is-1 (and-false (is_some c.args.self.now.inputs)) in
     headless_row before (state_of c.args.self.now) _ agrees none
 
 pub returns-in_default-2 : goal.returns-in_default-2
@@ -21,4 +22,5 @@ returns-in_err-term c before agrees =
 
 pub returns-in-Ok : goal.returns-in-Ok
 returns-in-Ok c before agrees =
-    takes_row before (state_of c.args.self.now) _ _ _ _ _ c.in-Ok.ensures.items c.in-Some-Some.is-0 c.in-Some-Some.is-1 (rw c.takes_dont_cares.ensures at c.in_ok-term.ensures) agrees
+    takes_row before (state_of c.args.self.now) _ _ _ _ _ c.in-Ok.ensures.items c.in-Some-Some.is-0 c.in-Some-Some.is-1
+    (rw c.takes_dont_cares.ensures at c.in_ok-term.ensures) agrees

@@ -9,7 +9,8 @@ pub bounds-counts-place : goal.bounds-counts-place
 bounds-counts-place c =
     let s = c.self.inside in
     let items = c.deref-level-items.result.now in
-    let long = (items_long s.levels.items s.terminals.items s.order s.roots.items s.pairs c.self.invariant items c.deref-level-items.ensures.value c.args.self.now c.self.view_is).1 in
+    let long = (items_long s.levels.items s.terminals.items s.order s.roots.items s.pairs c.self.invariant items
+    c.deref-level-items.ensures.value c.args.self.now c.self.view_is).1 in
     let t = c.loop-place-test.true in
     omega arith
 
@@ -17,7 +18,8 @@ pub loop-place-preserved : goal.loop-place-preserved
 loop-place-preserved c =
     let s = c.self.inside in
     let items = c.deref-level-items.result.now in
-    let long = (items_long s.levels.items s.terminals.items s.order s.roots.items s.pairs c.self.invariant items c.deref-level-items.ensures.value c.args.self.now c.self.view_is).1 in
+    let long = (items_long s.levels.items s.terminals.items s.order s.roots.items s.pairs c.self.invariant items
+    c.deref-level-items.ensures.value c.args.self.now c.self.view_is).1 in
     let t = c.loop-place-test.true in
     let inside : c.loop-place.place < length c.loop-place.counts = let e = c.loop-place.invariant.long in omega arith in
     record {
@@ -40,15 +42,18 @@ pub returns-clause-counts : goal.returns-clause-counts
 returns-clause-counts c i h =
     let s = c.self.inside in
     let items = c.deref-level-items.result.now in
-    let long = (items_long s.levels.items s.terminals.items s.order s.roots.items s.pairs c.self.invariant items c.deref-level-items.ensures.value c.args.self.now c.self.view_is).0 in
+    let long = (items_long s.levels.items s.terminals.items s.order s.roots.items s.pairs c.self.invariant items
+    c.deref-level-items.ensures.value c.args.self.now c.self.view_is).0 in
     let t = c.loop-place-test.false in
     c.loop-place.invariant.counted i (omega arith)
-    ∙ count_is s.levels.items s.terminals.items s.order s.roots.items s.pairs c.self.invariant items c.deref-level-items.ensures.value c.args.self.now c.self.view_is i h
+    ∙ count_is s.levels.items s.terminals.items s.order s.roots.items s.pairs c.self.invariant items c.deref-level-items.ensures.value
+    c.args.self.now c.self.view_is i h
 
 pub returns-clause-others : goal.returns-clause-others
 returns-clause-others c i h =
     let s = c.self.inside in
     let items = c.deref-level-items.result.now in
-    let long = (items_long s.levels.items s.terminals.items s.order s.roots.items s.pairs c.self.invariant items c.deref-level-items.ensures.value c.args.self.now c.self.view_is).0 in
+    let long = (items_long s.levels.items s.terminals.items s.order s.roots.items s.pairs c.self.invariant items
+    c.deref-level-items.ensures.value c.args.self.now c.self.view_is).0 in
     let e = c.loop-place.auto.place-end in
     c.loop-place.invariant.others i (omega arith)

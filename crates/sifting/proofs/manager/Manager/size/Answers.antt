@@ -31,7 +31,8 @@ returns-clause-value c =
     let s = c.self.inside in
     let items = c.deref-level-items.result.now in
     c.loop-level.invariant ∙ ap (sum_by (λ (v : Level). v.count)) (take_all c.loop-level.level-index items c.loop-level-test.false)
-    ∙ sum_is_size s.levels.items s.terminals.items s.order s.roots.items s.pairs c.self.invariant items c.deref-level-items.ensures.value c.args.self.now c.self.view_is
+    ∙ sum_is_size s.levels.items s.terminals.items s.order s.roots.items s.pairs c.self.invariant items c.deref-level-items.ensures.value
+    c.args.self.now c.self.view_is
 
 pub returns-clause-managed : goal.returns-clause-managed
 returns-clause-managed c =

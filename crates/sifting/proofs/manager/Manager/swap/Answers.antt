@@ -30,7 +30,8 @@ swap_levels-requires-clause-few c =
     let s = c.self.inside in
     let inside = subst (λ (m : Managed). c.args.level + 1 < length m.order) (sym c.self.view_is) c.requires.below in
     let d = c.index.result.now in
-    let upper = upper_is s.levels.items s.terminals.items s.order s.roots.items s.pairs c.self.invariant c.args.level inside d ∙ ap (λ (l : Level). l.nodes.items) (sym c.index.ensures) ∙ sym c.deref.ensures.value in
+    let upper = upper_is s.levels.items s.terminals.items s.order s.roots.items s.pairs c.self.invariant c.args.level inside d
+    ∙ ap (λ (l : Level). l.nodes.items) (sym c.index.ensures) ∙ sym c.deref.ensures.value in
     upper_few s.levels.items s.terminals.items s.order s.roots.items s.pairs c.self.invariant c.args.level inside c.deref.result.now upper
 
 pub swap_levels-requires-clause-inside : goal.swap_levels-requires-clause-inside
@@ -39,9 +40,12 @@ swap_levels-requires-clause-inside c =
     let inside = subst (λ (m : Managed). c.args.level + 1 < length m.order) (sym c.self.view_is) c.requires.below in
     let d = c.index.result.now in
     let d2 = c.index-2.result.now in
-    let upper = upper_is s.levels.items s.terminals.items s.order s.roots.items s.pairs c.self.invariant c.args.level inside d ∙ ap (λ (l : Level). l.nodes.items) (sym c.index.ensures) ∙ sym c.deref.ensures.value in
-    let lower = lower_is s.levels.items s.terminals.items s.order s.roots.items s.pairs c.self.invariant c.args.level inside d2 ∙ ap (λ (l : Level). l.nodes.items) (sym c.index-2.ensures) ∙ sym c.deref-2.ensures.value in
-    upper_inside s.levels.items s.terminals.items s.order s.roots.items s.pairs c.self.invariant c.args.level inside c.deref.result.now c.deref-2.result.now upper lower
+    let upper = upper_is s.levels.items s.terminals.items s.order s.roots.items s.pairs c.self.invariant c.args.level inside d
+    ∙ ap (λ (l : Level). l.nodes.items) (sym c.index.ensures) ∙ sym c.deref.ensures.value in
+    let lower = lower_is s.levels.items s.terminals.items s.order s.roots.items s.pairs c.self.invariant c.args.level inside d2
+    ∙ ap (λ (l : Level). l.nodes.items) (sym c.index-2.ensures) ∙ sym c.deref-2.ensures.value in
+    upper_inside s.levels.items s.terminals.items s.order s.roots.items s.pairs c.self.invariant c.args.level inside c.deref.result.now
+    c.deref-2.result.now upper lower
 
 pub index_mut-requires : goal.index_mut-requires
 index_mut-requires c =
@@ -67,23 +71,33 @@ pub invariant_of-result : goal.invariant_of-result
 invariant_of-result c =
     let s = c.self.inside in
     let inside = subst (λ (m : Managed). c.args.level + 1 < length m.order) (sym c.self.view_is) c.requires.below in
-    let lawful = subst (λ (m : Managed). has_pair m.pairs (get_or m.order c.args.level 0) (get_or m.order (c.args.level + 1) 0) ≡ false) (sym c.self.view_is) c.requires.lawful in
+    let lawful =
+    subst (λ (m : Managed). has_pair m.pairs (get_or m.order c.args.level 0) (get_or m.order (c.args.level + 1) 0) ≡ false)
+    (sym c.self.view_is) c.requires.lawful in
     let d = c.index.result.now in
     let d2 = c.index-2.result.now in
-    let upper = upper_is s.levels.items s.terminals.items s.order s.roots.items s.pairs c.self.invariant c.args.level inside d ∙ ap (λ (l : Level). l.nodes.items) (sym c.index.ensures) ∙ sym c.deref.ensures.value in
-    let lower = lower_is s.levels.items s.terminals.items s.order s.roots.items s.pairs c.self.invariant c.args.level inside d2 ∙ ap (λ (l : Level). l.nodes.items) (sym c.index-2.ensures) ∙ sym c.deref-2.ensures.value in
-    exchanged_held s.levels.items s.terminals.items s.order s.roots.items s.pairs c.self.invariant c.args.level inside c.deref.result.now c.deref-2.result.now upper lower lawful
+    let upper = upper_is s.levels.items s.terminals.items s.order s.roots.items s.pairs c.self.invariant c.args.level inside d
+    ∙ ap (λ (l : Level). l.nodes.items) (sym c.index.ensures) ∙ sym c.deref.ensures.value in
+    let lower = lower_is s.levels.items s.terminals.items s.order s.roots.items s.pairs c.self.invariant c.args.level inside d2
+    ∙ ap (λ (l : Level). l.nodes.items) (sym c.index-2.ensures) ∙ sym c.deref-2.ensures.value in
+    exchanged_held s.levels.items s.terminals.items s.order s.roots.items s.pairs c.self.invariant c.args.level inside c.deref.result.now
+    c.deref-2.result.now upper lower lawful
     c.in_ok-upper.upper c.in_ok-upper.lower c.in_ok-upper.ensures c.in_ok-order.order c.in_ok-order.ensures
 
 pub returns-clause-functions : goal.returns-clause-functions
 returns-clause-functions c =
     let s = c.self.inside in
     let inside = subst (λ (m : Managed). c.args.level + 1 < length m.order) (sym c.self.view_is) c.requires.below in
-    let lawful = subst (λ (m : Managed). has_pair m.pairs (get_or m.order c.args.level 0) (get_or m.order (c.args.level + 1) 0) ≡ false) (sym c.self.view_is) c.requires.lawful in
+    let lawful =
+    subst (λ (m : Managed). has_pair m.pairs (get_or m.order c.args.level 0) (get_or m.order (c.args.level + 1) 0) ≡ false)
+    (sym c.self.view_is) c.requires.lawful in
     let d = c.index.result.now in
     let d2 = c.index-2.result.now in
-    let upper = upper_is s.levels.items s.terminals.items s.order s.roots.items s.pairs c.self.invariant c.args.level inside d ∙ ap (λ (l : Level). l.nodes.items) (sym c.index.ensures) ∙ sym c.deref.ensures.value in
-    let lower = lower_is s.levels.items s.terminals.items s.order s.roots.items s.pairs c.self.invariant c.args.level inside d2 ∙ ap (λ (l : Level). l.nodes.items) (sym c.index-2.ensures) ∙ sym c.deref-2.ensures.value in
-    exchanged_problem s.levels.items s.terminals.items s.order s.roots.items s.pairs c.self.invariant c.args.level inside c.deref.result.now c.deref-2.result.now upper lower lawful
+    let upper = upper_is s.levels.items s.terminals.items s.order s.roots.items s.pairs c.self.invariant c.args.level inside d
+    ∙ ap (λ (l : Level). l.nodes.items) (sym c.index.ensures) ∙ sym c.deref.ensures.value in
+    let lower = lower_is s.levels.items s.terminals.items s.order s.roots.items s.pairs c.self.invariant c.args.level inside d2
+    ∙ ap (λ (l : Level). l.nodes.items) (sym c.index-2.ensures) ∙ sym c.deref-2.ensures.value in
+    exchanged_problem s.levels.items s.terminals.items s.order s.roots.items s.pairs c.self.invariant c.args.level inside c.deref.result.now
+    c.deref-2.result.now upper lower lawful
     c.in_ok-upper.upper c.in_ok-upper.lower c.in_ok-upper.ensures c.in_ok-order.order c.in_ok-order.ensures
     ∙ ap (λ (m : Managed). m.problem) c.self.view_is

@@ -4,4 +4,5 @@ use Rattle.subset_layers.proofs.costs.Costs.of.Goals as goal
 
 pub returns-clause-exact : goal.returns-clause-exact
 returns-clause-exact c = λ F P bound t.
-    costs_from_cells c.args.layer.inputs F P bound (costs_with c.args.layer c.args.cells.items) (have_cells c.args.layer c.args.cells.items c.requires.inputs c.requires.size c.requires.cells) c.requires.size t
+    costs_from_cells c.args.layer.inputs F P bound (costs_with c.args.layer c.args.cells.items)
+    (have_cells c.args.layer c.args.cells.items c.requires.inputs c.requires.size c.requires.cells) c.requires.size t

@@ -22,12 +22,14 @@ loop-high-preserved c =
     elim c.if-mask-size.branch [
       | then-mask-size w ↦
           rw (w.masks-is, w.count-is) (
-            high_mask c.args.inputs c.args.size c.args.low c.loop-high.high c.loop-high.count c.loop-high.masks c.loop-high.invariant.1 (omega arith) (sym ones ∙ w.if-mask-size.true) c.loop-high.invariant.0,
+            high_mask c.args.inputs c.args.size c.args.low c.loop-high.high c.loop-high.count c.loop-high.masks c.loop-high.invariant.1
+                (omega arith) (sym ones ∙ w.if-mask-size.true) c.loop-high.invariant.0,
             length-set c.loop-high.masks c.loop-high.count (c.loop-high.high * 256 + c.args.low) ∙ c.loop-high.invariant.1,
           )
       | else-mask-size w ↦
           rw (w.masks-is, w.count-is) (
-            high_no_mask c.args.inputs c.args.size c.args.low c.loop-high.high c.loop-high.count c.loop-high.masks (λ e. w.if-mask-size.false (ones ∙ e)) c.loop-high.invariant.0,
+            high_no_mask c.args.inputs c.args.size c.args.low c.loop-high.high c.loop-high.count c.loop-high.masks
+                (λ e. w.if-mask-size.false (ones ∙ e)) c.loop-high.invariant.0,
             c.loop-high.invariant.1,
           )
     ]
@@ -40,7 +42,8 @@ invariant_of-result c =
     let last : c.loop-high.high ≡ (2 ^ c.args.inputs + 255) / 256 = omega arith in (
       omega arith,
       c.loop-high.invariant.0.1
-          ∙ ap (λ h. filter (λ mask. nat_eq (length (members c.args.inputs mask)) c.args.size) (map (λ high. high * 256 + c.args.low) (range_with_len 0 h))) last
+          ∙ ap (λ h. filter (λ mask. nat_eq (length (members c.args.inputs mask)) c.args.size)
+          (map (λ high. high * 256 + c.args.low) (range_with_len 0 h))) last
           ∙ sym (block_masks_are c.args.inputs c.args.size c.args.low c.requires.low c.requires.below),
       c.requires.below,
     )

@@ -16,7 +16,9 @@ of-requires c =
 
 pub invariant_of-result : goal.invariant_of-result
 invariant_of-result c =
-    let masks = masks_chosen c.args.inputs c.args.size c.in_ok-flags.flags.items c.in_ok-masks.masks.numbers.items c.in_ok-flags.ensures (c.in_ok-masks.ensures ∙ ap chosen c.deref.ensures.value) in
+    let masks =
+    masks_chosen c.args.inputs c.args.size c.in_ok-flags.flags.items c.in_ok-masks.masks.numbers.items c.in_ok-flags.ensures
+    (c.in_ok-masks.ensures ∙ ap chosen c.deref.ensures.value) in
     record {
       few_inputs = c.requires;
       masks_are = masks;

@@ -7,11 +7,26 @@ pub loop-number-preserved : goal.loop-number-preserved
 loop-number-preserved c =
     elim c.if-is_chosen.branch [
       | then-is_chosen+in_ok-push-2 w ↦
-          rw (w.numbers-is, w.in_ok-push-2.ensures.items, c.in_ok-push.ensures.items, c.len.ensures, let e : vec_len c.loop-number.numbers ≡ length c.loop-number.numbers.items = omega arith in e)
-          (choosing_yes c.args.flags.now c.loop-number.number c.loop-number.numbers.items c.loop-number.places.items w.if-is_chosen.true c.loop-number.invariant)
+          rw (
+            w.numbers-is,
+            w.in_ok-push-2.ensures.items,
+            c.in_ok-push.ensures.items,
+            c.len.ensures,
+            let e : vec_len c.loop-number.numbers ≡ length c.loop-number.numbers.items =
+                omega arith in e,
+          )
+          (choosing_yes c.args.flags.now c.loop-number.number c.loop-number.numbers.items c.loop-number.places.items w.if-is_chosen.true
+          c.loop-number.invariant)
       | else-is_chosen w ↦
-          rw (w.numbers-is, c.in_ok-push.ensures.items, c.len.ensures, let e : vec_len c.loop-number.numbers ≡ length c.loop-number.numbers.items = omega arith in e)
-          (choosing_no c.args.flags.now c.loop-number.number c.loop-number.numbers.items c.loop-number.places.items w.if-is_chosen.false c.loop-number.invariant)
+          rw (
+            w.numbers-is,
+            c.in_ok-push.ensures.items,
+            c.len.ensures,
+            let e : vec_len c.loop-number.numbers ≡ length c.loop-number.numbers.items =
+                omega arith in e,
+          )
+          (choosing_no c.args.flags.now c.loop-number.number c.loop-number.numbers.items c.loop-number.places.items w.if-is_chosen.false
+          c.loop-number.invariant)
     ]
 
 pub returns : goal.returns

@@ -11,7 +11,9 @@ use Rattle.truth_table.proofs.tables.Tables.cofactor.Goals.{then-care-x-eq1, els
 pub loop-x-init : goal.loop-x-init
 loop-x-init c =
     let same : c.in_ok-words.words.items ≡ c.words.result.now = c.in_ok-words.ensures.items_if_clones_equal (λ x y e. e) in
-    let start = cofactor_start c.self.inside.problem c.args.self.now c.inputs-n.result c.args.output c.args.care c.args.value c.words.result.now c.in_ok-words.words.items c.self.view_is c.inputs-n.ensures.value
+    let start =
+    cofactor_start c.self.inside.problem c.args.self.now c.inputs-n.result c.args.output c.args.care c.args.value c.words.result.now
+    c.in_ok-words.words.items c.self.view_is c.inputs-n.ensures.value
     c.words.ensures.long c.words.ensures.table c.words.ensures.clean same in
     record { table = start.0; long = start.1; clean = start.2 }
 
@@ -23,18 +25,24 @@ loop-x-preserved c =
     let bit = shr_and_one c.args.care x in
     elim c.if-care-x-eq1.branch [
       | then-care-x-eq1 w ↦
-          let whole : length w.fix_variable.new.words ≡ c.loop-x.words.len = w.fix_variable.auto.words ∙ ap length w.deref_mut.ensures.value ∙ sym c.loop-x.words.ok.0 in
-          let after : c.if-care-x-eq1.words.items ≡ w.fix_variable.new.words = ap (λ v. v.items) w.words-is ∙ with_items_is c.loop-x.words w.fix_variable.new.words whole in
+          let whole : length w.fix_variable.new.words ≡ c.loop-x.words.len = w.fix_variable.auto.words ∙ ap length w.deref_mut.ensures.value
+          ∙ sym c.loop-x.words.ok.0 in
+          let after : c.if-care-x-eq1.words.items ≡ w.fix_variable.new.words = ap (λ v. v.items) w.words-is
+          ∙ with_items_is c.loop-x.words w.fix_variable.new.words whole in
           record {
-            table = cofactor_step n x c.args.care c.args.value t c.loop-x.words.items w.deref_mut.result.now w.fix_variable.new.words c.if-care-x-eq1.words.items (eqb (bit_and (c.args.value / 2 ^ x) 1) 1)
-                (eq-eqb _ _ (sym bit ∙ w.if-care-x-eq1.true)) (ap (λ z. eqb z 1) (shr_and_one c.args.value x)) c.loop-x.invariant.table w.deref_mut.ensures.value w.fix_variable.ensures.table after;
+            table = cofactor_step n x c.args.care c.args.value t c.loop-x.words.items w.deref_mut.result.now w.fix_variable.new.words
+                c.if-care-x-eq1.words.items (eqb (bit_and (c.args.value / 2 ^ x) 1) 1)
+                (eq-eqb _ _ (sym bit ∙ w.if-care-x-eq1.true)) (ap (λ z. eqb z 1) (shr_and_one c.args.value x)) c.loop-x.invariant.table
+                w.deref_mut.ensures.value w.fix_variable.ensures.table after;
             long = ap length after ∙ w.fix_variable.ensures.long;
             clean = subst (IsClean n) (sym after) w.fix_variable.ensures.clean;
           }
       | else-care-x-eq1 w ↦
           let after : c.if-care-x-eq1.words.items ≡ c.loop-x.words.items = ap (λ v. v.items) w.words-is in
           record {
-            table = ap (table_in n) after ∙ c.loop-x.invariant.table ∙ sym (ap (λ xs. table n (fixed xs c.args.value (from_table t))) (members_less x c.args.care (ne_eqb _ _ (λ e. w.if-care-x-eq1.false (bit ∙ e)))));
+            table = ap (table_in n) after ∙ c.loop-x.invariant.table
+                ∙ sym (ap (λ xs. table n (fixed xs c.args.value (from_table t)))
+                (members_less x c.args.care (ne_eqb _ _ (λ e. w.if-care-x-eq1.false (bit ∙ e)))));
             long = ap length after ∙ c.loop-x.invariant.long;
             clean = subst (IsClean n) (sym after) c.loop-x.invariant.clean;
           }

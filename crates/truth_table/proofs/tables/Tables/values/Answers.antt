@@ -15,4 +15,6 @@ loop-output-preserved c =
     let j = c.loop-output.output in
     let table = subst (λ (t : TruthTables). table_in t.inputs words ≡ table_at t j) c.self.view_is c.words.ensures.table in
     let inside : j < length now.tables = omega arith in
-    c.in_ok-push_values.ensures ∙ (λ i. c.loop-output.invariant i ++ values_packed now.inputs words (table_at now j) c.args.points.now table c.requires.points i) ∙ sym (values_more c.args.points.now now.tables j inside)
+    c.in_ok-push_values.ensures
+    ∙ (λ i. c.loop-output.invariant i ++ values_packed now.inputs words (table_at now j) c.args.points.now table c.requires.points i)
+    ∙ sym (values_more c.args.points.now now.tables j inside)

@@ -25,7 +25,8 @@ loop-level-init c =
     let o : IsOrder n order = subst (λ (m : ℕ). IsOrder m order) c.requires c.variables.ensures.order in
     let long = c.len-n.ensures.value in
     record {
-      tells = start_tells n order c.args.self.now.tables c.len-n.result c.deref.result.now c.in_ok-classes.classes.items o (omega arith) points c.in_ok-classes.ensures;
+      tells = start_tells n order c.args.self.now.tables c.len-n.result c.deref.result.now c.in_ok-classes.classes.items o (omega arith)
+          points c.in_ok-classes.ensures;
       long = ap length (c.in_ok-counts.ensures.items_if_clones_equal (λ y e. e)) ∙ length-replicate c.len-n.result 0 ∙ long;
       counted = λ i a b. absurd (omega arith);
     }
@@ -40,7 +41,8 @@ merge-requires c =
     let long = c.len-n.ensures.value in
     let short = c.len-n.ensures.few in
     let level = c.loop-level.auto.level in
-    let few = few_classes c.args.self.now.inputs F c.args.order.now c.loop-level.level c.loop-level.classes.items (omega arith) (omega arith) (omega arith) c.loop-level.invariant.tells in
+    let few = few_classes c.args.self.now.inputs F c.args.order.now c.loop-level.level c.loop-level.classes.items (omega arith)
+    (omega arith) (omega arith) c.loop-level.invariant.tells in
     let same = ap length c.deref-in-loop-level.ensures.value in
     record { few = omega arith }
 
@@ -48,12 +50,15 @@ pub loop-level-preserved : goal.loop-level-preserved
 loop-level-preserved c =
     let long = c.len-n.ensures.value in
     let level = c.loop-level.auto.level in
-    let step = level_step c.args.self.now.inputs (functions c.args.self.now) c.args.order.now c.loop-level.level c.loop-level.classes.items c.deref-in-loop-level.result.now c.in_ok-above.above.numbers.items
-    c.loop-level.counts.items c.in_ok-above.above.unequal c.loop-level-test.true (omega arith) c.loop-level.invariant.tells c.deref-in-loop-level.ensures.value c.in_ok-above.ensures.numbers c.in_ok-above.ensures.unequal
+    let step = level_step c.args.self.now.inputs (functions c.args.self.now) c.args.order.now c.loop-level.level c.loop-level.classes.items
+    c.deref-in-loop-level.result.now c.in_ok-above.above.numbers.items
+    c.loop-level.counts.items c.in_ok-above.above.unequal c.loop-level-test.true (omega arith) c.loop-level.invariant.tells
+    c.deref-in-loop-level.ensures.value c.in_ok-above.ensures.numbers c.in_ok-above.ensures.unequal
     c.loop-level.invariant.long c.loop-level.invariant.counted in
     record { tells = step.0; long = step.1; counted = step.2 }
 
 pub returns : goal.returns
 returns c =
     let done = c.loop-level-test.false in
-    counts_whole c.args.self.now.inputs (functions c.args.self.now) c.args.order.now c.loop-level.counts.items c.loop-level.invariant.long (λ k h. c.loop-level.invariant.counted k (omega arith) h)
+    counts_whole c.args.self.now.inputs (functions c.args.self.now) c.args.order.now c.loop-level.counts.items c.loop-level.invariant.long
+    (λ k h. c.loop-level.invariant.counted k (omega arith) h)

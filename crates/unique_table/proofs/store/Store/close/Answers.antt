@@ -14,24 +14,39 @@ use Rattle.unique_table.proofs.store.Store.close.Goals as goal
 
 pub last_diagram-diagram-requires-clause-known : goal.last_diagram-diagram-requires-clause-known
 last_diagram-diagram-requires-clause-known c = let k = c.self.invariant in λ j low full.
-    found_known c.self.inside.table.shared.key k.plan _ c.session.inside.seat.me.0 (slots_items c.close_with-closed.result.words) _ c.session.invariant.good.live c.close_with-closed.ensures.values.2
+    found_known c.self.inside.table.shared.key k.plan _ c.session.inside.seat.me.0 (slots_items c.close_with-closed.result.words) _
+    c.session.invariant.good.live c.close_with-closed.ensures.values.2
     c.self.inside.places c.self.inside.entries c.self.inside.roots c.self.inside.pieces k.places k.entries k.roots k.pieces j full
 
 pub returns-clause-diagram : goal.returns-clause-diagram
-returns-clause-diagram c = let k = c.self.invariant in let words : List ℕ = slots_items c.close_with-closed.result.words in let first : ℕ = c.self.inside.places + c.self.inside.entries + c.self.inside.roots in
-    let outputs : ℕ = c.self.inside.pieces - c.self.inside.roots in let order : List ℕ = c.self.inside.order in let nodes : List ℕ = words_in c.close_with-closed.result c.self.inside.places in
+returns-clause-diagram c = let k = c.self.invariant in let words : List ℕ = slots_items c.close_with-closed.result.words in
+    let first : ℕ = c.self.inside.places + c.self.inside.entries + c.self.inside.roots in
+    let outputs : ℕ = c.self.inside.pieces - c.self.inside.roots in let order : List ℕ = c.self.inside.order in
+    let nodes : List ℕ = words_in c.close_with-closed.result c.self.inside.places in
     let plan : c.self.inside.table.shared.key ≡ c.args.self.plan = ap (λ (z : StoreId). z.plan) c.self.view_is in
     ok_weaker (λ (d : OrderedGraph). IsReducedOf (length order) (root_functions order nodes words first outputs) order d.graph.nodes d.graph.roots)
     (λ (d : OrderedGraph). Represents (levels_of c.args.self.plan) (functions c.args.self.plan.problem.value) (order_of c.args.self.plan) d.graph)
     (AreAllFilled words first outputs) c.last_diagram-diagram.result c.last_diagram-diagram.ensures.filled c.last_diagram-diagram.ensures.diagram
     (λ d full found. subst (λ (z : Plan). Represents (levels_of z) (functions z.problem.value) (order_of z) d.graph) plan
-    (found_represents c.self.inside.table.shared.key k.plan _ c.session.inside.seat.me.0 words _ c.session.invariant.good.live c.close_with-closed.ensures.values.2
-    c.self.inside.places c.self.inside.entries c.self.inside.roots c.self.inside.pieces k.places k.entries k.roots k.pieces order k.order d.graph full found.represents))
+    (found_represents c.self.inside.table.shared.key k.plan _ c.session.inside.seat.me.0 words _ c.session.invariant.good.live
+    c.close_with-closed.ensures.values.2
+    c.self.inside.places c.self.inside.entries c.self.inside.roots c.self.inside.pieces k.places k.entries k.roots k.pieces order k.order
+    d.graph full found.represents))
 
 pub returns-clause-missing : goal.returns-clause-missing
-returns-clause-missing c = let k = c.self.invariant in let words : List ℕ = slots_items c.close_with-closed.result.words in let first : ℕ = c.self.inside.places + c.self.inside.entries + c.self.inside.roots in
+returns-clause-missing c = let k = c.self.invariant in let words : List ℕ = slots_items c.close_with-closed.result.words in
+    let first : ℕ = c.self.inside.places + c.self.inside.entries + c.self.inside.roots in
     let outputs : ℕ = c.self.inside.pieces - c.self.inside.roots in let v = c.session.inside.seat.me.0 in
-    let here : Knowledge = record { store = record { table = c.session.inside.seat.table_id; plan = v.plan }; seen = v.seen; pieces = v.pieces; steps = v.steps; writes = v.writes } in
+    let here : Knowledge =
+    record {
+      store =
+          record { table = c.session.inside.seat.table_id; plan = v.plan };
+      seen =
+          v.seen;
+      pieces = v.pieces;
+      steps = v.steps;
+      writes = v.writes;
+    } in
     err_weaker (LacksRoot words first outputs) (Lacks c.args.session) c.last_diagram-diagram.result c.last_diagram-diagram.ensures.missing
     (λ e l. subst (λ (z : Knowledge). Lacks z e) c.session.view_is
     (found_lacks c.self.inside.table.shared.key k.plan _ v words _ c.session.invariant.good.live c.close_with-closed.ensures.values.2

@@ -14,12 +14,16 @@ join_seat-requires c = (
 )
 
 pub returns-clause-one : goal.returns-clause-one
-returns-clause-one c = goes_grown c.self.inside c.one.inside c.args.self.now c.args.one c.self.view_is c.one.view_is c.self.invariant c.one.invariant c.requires.one c.look.new.seat c.look.ensures.step.seat
+returns-clause-one c =
+    goes_grown c.self.inside c.one.inside c.args.self.now c.args.one c.self.view_is c.one.view_is c.self.invariant c.one.invariant
+    c.requires.one c.look.new.seat c.look.ensures.step.seat
     (subst (λ (m : M). Grows m.0.seen c.look.new.seat.me.0.seen) c.join_seat.ensures.2 c.look.ensures.step.view.nodes)
     (subst (λ (m : M). Grows m.0.pieces c.look.new.seat.me.0.pieces) c.join_seat.ensures.2 c.look.ensures.step.view.pieces)
 
 pub returns-clause-two : goal.returns-clause-two
-returns-clause-two c = goes_grown c.self.inside c.two.inside c.args.self.now c.args.two c.self.view_is c.two.view_is c.self.invariant c.two.invariant c.requires.two c.look.new.seat c.look.ensures.step.seat
+returns-clause-two c =
+    goes_grown c.self.inside c.two.inside c.args.self.now c.args.two c.self.view_is c.two.view_is c.self.invariant c.two.invariant
+    c.requires.two c.look.new.seat c.look.ensures.step.seat
     (subst (λ (m : M). Grows m.0.told c.look.new.seat.me.0.seen) c.join_seat.ensures.2 c.look.ensures.step.view.told)
     (subst (λ (m : M). Grows m.0.pieces_told c.look.new.seat.me.0.pieces) c.join_seat.ensures.2 c.look.ensures.step.view.pieces_told)
 

@@ -7,38 +7,65 @@ use Rattle.unique_table.proofs.Opened.{seated, word_ready, small_id, seat_of, fe
 use Rattle.unique_table.proofs.store.Store.make.Goals as goal
 
 pub find_or_put-requires-clause-word : goal.find_or_put-requires-clause-word
-find_or_put-requires-clause-word c = word_ready c.self.inside c.session.inside c.args.self.now c.args.session.now c.self.view_is c.session.view_is c.self.invariant c.session.invariant c.requires.session
+find_or_put-requires-clause-word c =
+    word_ready c.self.inside c.session.inside c.args.self.now c.args.session.now c.self.view_is c.session.view_is c.self.invariant
+    c.session.invariant c.requires.session
     c.args.level c.args.low c.args.high c.node_word-word.result c.requires.level c.requires.low c.requires.high c.if-low-high.false c.node_word-word.ensures
 
 pub returns-in_default-clause-follows : goal.returns-in_default-clause-follows
-returns-in_default-clause-follows c = goes_on c.self.inside c.session.inside c.args.self.now c.args.session.now c.self.view_is c.session.view_is c.self.invariant c.session.invariant c.requires.session c.find_or_put.new.seat c.find_or_put.ensures.seat c.find_or_put.ensures.gains
+returns-in_default-clause-follows c =
+    goes_on c.self.inside c.session.inside c.args.self.now c.args.session.now c.self.view_is c.session.view_is c.self.invariant
+    c.session.invariant c.requires.session c.find_or_put.new.seat c.find_or_put.ensures.seat c.find_or_put.ensures.gains
 
 pub returns-clause-follows : goal.returns-clause-follows
-returns-clause-follows c = goes_on c.self.inside c.session.inside c.args.self.now c.args.session.now c.self.view_is c.session.view_is c.self.invariant c.session.invariant c.requires.session c.find_or_put.new.seat c.find_or_put.ensures.seat c.find_or_put.ensures.gains
+returns-clause-follows c =
+    goes_on c.self.inside c.session.inside c.args.self.now c.args.session.now c.self.view_is c.session.view_is c.self.invariant
+    c.session.invariant c.requires.session c.find_or_put.new.seat c.find_or_put.ensures.seat c.find_or_put.ensures.gains
 
 pub returns-clause-function : goal.returns-clause-function
 returns-clause-function c =
-    let a : c.args.low < 2 ^ 20 = small_id c.self.inside c.session.inside c.args.self.now c.args.session.now c.self.view_is c.session.view_is c.self.invariant c.session.invariant c.requires.session c.args.low c.requires.low.0 in
-    let b : c.args.high < 2 ^ 20 = small_id c.self.inside c.session.inside c.args.self.now c.args.session.now c.self.view_is c.session.view_is c.self.invariant c.session.invariant c.requires.session c.args.high c.requires.high.0 in
-    let on : Follows c.args.session.now (seated c.find_or_put.new.seat) = goes_on c.self.inside c.session.inside c.args.self.now c.args.session.now c.self.view_is c.session.view_is c.self.invariant c.session.invariant c.requires.session c.find_or_put.new.seat c.find_or_put.ensures.seat c.find_or_put.ensures.gains in
+    let a : c.args.low < 2 ^ 20 =
+    small_id c.self.inside c.session.inside c.args.self.now c.args.session.now c.self.view_is c.session.view_is c.self.invariant
+    c.session.invariant c.requires.session c.args.low c.requires.low.0 in
+    let b : c.args.high < 2 ^ 20 =
+    small_id c.self.inside c.session.inside c.args.self.now c.args.session.now c.self.view_is c.session.view_is c.self.invariant
+    c.session.invariant c.requires.session c.args.high c.requires.high.0 in
+    let on : Follows c.args.session.now (seated c.find_or_put.new.seat) =
+    goes_on c.self.inside c.session.inside c.args.self.now c.args.session.now c.self.view_is c.session.view_is c.self.invariant
+    c.session.invariant c.requires.session c.find_or_put.new.seat c.find_or_put.ensures.seat c.find_or_put.ensures.gains in
     made_means c.args.self.now c.args.session.now (seated c.find_or_put.new.seat) c.requires.session
-    (few_levels c.self.inside c.session.inside c.args.self.now c.args.session.now c.self.view_is c.session.view_is c.self.invariant c.session.invariant c.requires.session) c.find_or_put.ensures.gains.good.nodes on
+    (few_levels c.self.inside c.session.inside c.args.self.now c.args.session.now c.self.view_is c.session.view_is c.self.invariant
+    c.session.invariant c.requires.session)
+    c.find_or_put.ensures.gains.good.nodes on
     c.args.level c.args.low c.args.high (c.in-Some.place + 2) c.requires.level a b c.requires.low
-    (makes c.find_or_put.new.seat.me.0.seen c.args.level c.args.low c.args.high c.in-Some.place c.if-low-high.false (c.in-Some.ensures.found.1 ∙ c.node_word-word.ensures))
+    (makes c.find_or_put.new.seat.me.0.seen c.args.level c.args.low c.args.high c.in-Some.place c.if-low-high.false
+    (c.in-Some.ensures.found.1 ∙ c.node_word-word.ensures))
 
 pub returns-then-low-high-clause-function : goal.returns-then-low-high-clause-function
 returns-then-low-high-clause-function c =
-    let a : c.args.low < 2 ^ 20 = small_id c.self.inside c.session.inside c.args.self.now c.args.session.now c.self.view_is c.session.view_is c.self.invariant c.session.invariant c.requires.session c.args.low c.requires.low.0 in
-    let b : c.args.high < 2 ^ 20 = small_id c.self.inside c.session.inside c.args.self.now c.args.session.now c.self.view_is c.session.view_is c.self.invariant c.session.invariant c.requires.session c.args.high c.requires.high.0 in
+    let a : c.args.low < 2 ^ 20 =
+    small_id c.self.inside c.session.inside c.args.self.now c.args.session.now c.self.view_is c.session.view_is c.self.invariant
+    c.session.invariant c.requires.session c.args.low c.requires.low.0 in
+    let b : c.args.high < 2 ^ 20 =
+    small_id c.self.inside c.session.inside c.args.self.now c.args.session.now c.self.view_is c.session.view_is c.self.invariant
+    c.session.invariant c.requires.session c.args.high c.requires.high.0 in
     let here : Knowledge = seated c.session.inside.seat in
     made_means c.args.self.now here here (ap (λ (z : Knowledge). z.store) c.session.view_is ∙ c.requires.session)
-    (few_levels c.self.inside c.session.inside c.args.self.now c.args.session.now c.self.view_is c.session.view_is c.self.invariant c.session.invariant c.requires.session) c.session.invariant.good.nodes
+    (few_levels c.self.inside c.session.inside c.args.self.now c.args.session.now c.self.view_is c.session.view_is c.self.invariant
+    c.session.invariant c.requires.session)
+    c.session.invariant.good.nodes
     (follows_refl here c.session.invariant.good.nodes)
-    c.args.level c.args.low c.args.high c.args.low c.requires.level a b (subst (λ (z : Knowledge). IsKnownBelow z c.args.level c.args.low) (sym c.session.view_is) c.requires.low)
-    (subst (λ (t : Bool). MatchBool t (c.args.low ≡ c.args.low) ((2 ≤ c.args.low) × (get_or here.seen (c.args.low - 2) 0 ≡ node_word c.args.level c.args.low c.args.high))) (sym (eq-eqb c.args.low c.args.high c.if-low-high.true)) refl)
+    c.args.level c.args.low c.args.high c.args.low c.requires.level a b
+    (subst (λ (z : Knowledge). IsKnownBelow z c.args.level c.args.low) (sym c.session.view_is) c.requires.low)
+    (subst (λ (t : Bool). MatchBool t (c.args.low ≡ c.args.low)
+    ((2 ≤ c.args.low) × (get_or here.seen (c.args.low - 2) 0 ≡ node_word c.args.level c.args.low c.args.high)))
+    (sym (eq-eqb c.args.low c.args.high c.if-low-high.true)) refl)
 
 pub returns-then-low-high-clause-unique : goal.returns-then-low-high-clause-unique
-returns-then-low-high-clause-unique c = unique_ids c.self.inside c.self.invariant c.session.inside.seat (seat_of c.self.inside c.session.inside c.args.self.now c.args.session.now c.self.view_is c.session.view_is c.self.invariant c.session.invariant c.requires.session)
+returns-then-low-high-clause-unique c =
+    unique_ids c.self.inside c.self.invariant c.session.inside.seat
+    (seat_of c.self.inside c.session.inside c.args.self.now c.args.session.now c.self.view_is c.session.view_is c.self.invariant
+    c.session.invariant c.requires.session)
 
 pub returns-in_default-clause-unique : goal.returns-in_default-clause-unique
 returns-in_default-clause-unique c = unique_ids c.self.inside c.self.invariant c.find_or_put.new.seat c.find_or_put.ensures.seat

@@ -6,13 +6,20 @@ use Rattle.unique_table.proofs.Parts.{has_parts}
 use Rattle.unique_table.proofs.store.Store.node.Goals as goal
 
 pub returns-then-id-lt2-clause-constant : goal.returns-then-id-lt2-clause-constant
-returns-then-id-lt2-clause-constant c = λ p. function_terminal (order_of c.session.inside.seat.me.0.plan) c.session.inside.seat.me.0.seen c.session.invariant.good.nodes c.args.id c.if-id-lt2.true p
+returns-then-id-lt2-clause-constant c =
+    λ p. function_terminal (order_of c.session.inside.seat.me.0.plan) c.session.inside.seat.me.0.seen c.session.invariant.good.nodes
+    c.args.id c.if-id-lt2.true p
 
 pub returns-clause-follows : goal.returns-clause-follows
-returns-clause-follows c = (goes_step c.self.inside c.session.inside c.args.self.now c.args.session.now c.self.view_is c.session.view_is c.self.invariant c.session.invariant c.requires.session c.look-word.new.seat 0 c.look-word.ensures.step).follows
+returns-clause-follows c =
+    (goes_step c.self.inside c.session.inside c.args.self.now c.args.session.now c.self.view_is c.session.view_is c.self.invariant
+    c.session.invariant c.requires.session c.look-word.new.seat 0 c.look-word.ensures.step).follows
 
 pub returns-clause-parts : goal.returns-clause-parts
 returns-clause-parts c =
-    let on : Follows c.args.session.now (seated c.look-word.new.seat) = (goes_step c.self.inside c.session.inside c.args.self.now c.args.session.now c.self.view_is c.session.view_is c.self.invariant c.session.invariant c.requires.session c.look-word.new.seat 0 c.look-word.ensures.step).follows in
-    has_parts (seated c.look-word.new.seat) c.look-word.ensures.step.view.good.nodes c.args.id c.if-id-lt2.false (on.knows c.args.id c.requires.known) c.look-word.result c.look-word.ensures.found c.node_parts.result
+    let on : Follows c.args.session.now (seated c.look-word.new.seat) =
+    (goes_step c.self.inside c.session.inside c.args.self.now c.args.session.now c.self.view_is c.session.view_is c.self.invariant
+    c.session.invariant c.requires.session c.look-word.new.seat 0 c.look-word.ensures.step).follows in
+    has_parts (seated c.look-word.new.seat) c.look-word.ensures.step.view.good.nodes c.args.id c.if-id-lt2.false
+    (on.knows c.args.id c.requires.known) c.look-word.result c.look-word.ensures.found c.node_parts.result
     c.node_parts.ensures.level c.node_parts.ensures.low c.node_parts.ensures.high

@@ -5,7 +5,8 @@ use Rattle.unique_table.proofs.store.Store.split.Goals as goal
 
 pub split_seat-other-requires : goal.split_seat-other-requires
 split_seat-other-requires c = (
-  (seat_of c.self.inside c.session.inside c.args.self.now c.args.session c.self.view_is c.session.view_is c.self.invariant c.session.invariant c.requires).table,
+  (seat_of c.self.inside c.session.inside c.args.self.now c.args.session c.self.view_is c.session.view_is c.self.invariant
+      c.session.invariant c.requires).table,
   (let a = c.self.invariant.words in let b = c.self.invariant.places in let d = c.self.invariant.plan.places in omega arith),
   may_split _ _ _ c.session.invariant.good.live,
 )
