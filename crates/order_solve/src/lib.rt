@@ -1,17 +1,22 @@
 //! The variable orders of the fewest nodes, found layer by layer over the sets of variables by several workers.
 #![tactic(auto)]
 
-mod all_cells;
+// The solver: the layers one after another, by workers or by the calling thread.
 mod alone;
+mod layering;
+mod solving;
+
+// A worker's part of a layer: what it is lent, the widths that it needs, the cells of its blocks.
 mod bench;
 mod cells;
-mod layering;
-mod listing;
 mod needs;
+mod working;
+
+// What is read off the cells of all layers.
+mod all_cells;
+mod listing;
 mod reading;
 mod solution;
-mod solving;
-mod working;
 
 pub use bench::Bench;
 pub use solution::Solution;
