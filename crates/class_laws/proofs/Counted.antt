@@ -1,7 +1,7 @@
 -- One numbering of a set gives the widths into it: w(S without x, x) is the number of classes of S that depend on x.
 --     distinct_by_numbers      the distinct elements that pass a test are as many as the numbers whose element passes
 --     width_is_dependent_classes      a width is the number of classes whose mask has the variable
-use Rattle.std.proofs.Common.{◌≡◌, ℕ, ◌<◌, Bool, true, false, not, cond, eqb, ◌&&◌, ◌||◌, inl, inr, List, [], ◌∷◌, map, length, reverse, get_or, refl, sym, ap, ◌∙◌, subst, arith, nat_eq, eqb-true, eq-eqb, ne_eqb}
+use Rattle.std.proofs.Common.{◌≡◌, ℕ, ◌<◌, Bool, true, false, not, cond, eqb, ◌&&◌, ◌||◌, inl, inr, List, [], ◌∷◌, map, length, reverse, get_or, refl, sym, ap, ◌∙◌, subst, arith, nat_eq, eq-eqb, ne_eqb}
 use Rattle.std.specs.List.{filter}
 use Rattle.std.specs.Int.{bit_at}
 use Rattle.std.specs.Set.{distinct_count}

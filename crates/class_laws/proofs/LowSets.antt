@@ -3,7 +3,7 @@
 --     low_new, low_all      it lacks the variable; below all variables it is the mask
 --     bit_unset, member_from, unset_bit      a bit of a mask, and its member
 --     split_low, join_low, join_high      masks that agree with a set below a variable, and below the next
-use Rattle.std.proofs.Common.{◌≡◌, ◌≢◌, ℕ, ◌+◌, ◌*◌, ◌/◌, ◌%◌, ◌^◌, ◌<◌, Bool, true, false, ◌&&◌, inl, inr, set, refl, sym, ap, ap₂, ◌∙◌, arith, eqb, eq-eqb, ne_eqb, bit_and, bit_or, zero-mul}
+use Rattle.std.proofs.Common.{◌≡◌, ◌≢◌, ℕ, ◌+◌, ◌*◌, ◌/◌, ◌%◌, ◌^◌, ◌<◌, Bool, true, false, ◌&&◌, inl, inr, set, refl, sym, ap, ◌∙◌, arith, eqb, ne_eqb, bit_and, bit_or, zero-mul}
 use Rattle.std.specs.Int.{bit_at}
 use Rattle.std.proofs.Math.Nat.{mod-lt, mod-eq_of_lt}
 use Rattle.std.proofs.lemmas.Bool.{cases_eq, true≢false}
@@ -11,7 +11,6 @@ use Rattle.std.proofs.lemmas.Nat.{pow_pos, or_disjoint, mod-pow-add}
 use Rattle.std.proofs.lemmas.Nat.Bits.{shr_and_one, bit_at_above, and_pow, bit_at-lt}
 use Rattle.order_model.specs.Orders.{has, members, variables}
 use Rattle.order_model.proofs.Bits.Masks.{has_members}
-use Rattle.order_model.proofs.Lists.Orders.{has_variables}
 use Rattle.std.proofs.Common.{◌⊎◌, suc}
 use Rattle.std.proofs.Math.Nat.{two-pow-succ}
 use Rattle.order_model.proofs.Precedence.MaskLaws.{member_from}

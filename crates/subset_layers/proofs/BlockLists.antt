@@ -2,7 +2,7 @@
 --     has_masks, has_low_bytes      which masks a layer has, and which low bytes
 --     get_has, index_of      a member and its place
 --     block_masks_are      the masks of a block, by what stands above the low byte
-use Rattle.std.proofs.Common.{◌≡◌, ◌≢◌, ℕ, zero, suc, ◌+◌, ◌-◌, ◌*◌, ◌/◌, ◌%◌, ◌^◌, ◌<◌, ◌≤◌, Bool, true, false, not, cond, ◌||◌, ◌⊎◌, inl, inr, List, [], ◌∷◌, ◌++◌, map, length, get_or, refl, sym, ap, ap₂, ◌∙◌, arith, nat_eq, eqb-true, eq-eqb, ne_eqb, zero-add, pow_mono, take, set, slice_get, Option, Some, None, IfSome, IsNone, IsFalse, ◌↔◌, rules}
+use Rattle.std.proofs.Common.{◌≡◌, ◌≢◌, ℕ, zero, suc, ◌+◌, ◌-◌, ◌*◌, ◌/◌, ◌%◌, ◌^◌, ◌<◌, ◌≤◌, Bool, true, false, cond, ◌⊎◌, inl, inr, List, [], ◌∷◌, ◌++◌, map, length, get_or, refl, sym, ap, ap₂, ◌∙◌, arith, nat_eq, eqb-true, eq-eqb, ne_eqb, zero-add, pow_mono, take, set, slice_get, Option, Some, None, IfSome, IsNone, IsFalse, ◌↔◌, rules}
 use Rattle.std.specs.List.{filter, list_any, range_with_len}
 use Rattle.std.proofs.lemmas.Bool.{false≢true, true≢false, cases_lt, cases_eq, or_cases, or_left, or_right, and_parts, and_from, false_from_ne_true}
 use Rattle.std.proofs.lemmas.Nat.{pow-add}
@@ -15,7 +15,6 @@ use Rattle.subset_layers.specs.Layers.{LayerOf, masks_of, BlockOf, block_of, blo
 use Rattle.subset_layers.specs.Selections.{ArePlaced, chosen}
 use Rattle.subset_layers.proofs.Choosing.{chosen-map}
 use Rattle.order_model.proofs.Lists.Accepted.{index_of}
-use Rattle.order_model.proofs.Bits.Masks.{power_small}
 
 -- a layer has the masks below 2 ^ n with the layer's number of members
 pub has_masks : (n k mask : ℕ) → has (masks_of (layer_with n k)) mask ≡ true → (mask < 2 ^ n) × (length (members n mask) ≡ k)

@@ -2,31 +2,23 @@
 --     first_member      the smallest member of a mask
 --     outside_count      how many essential variables are not in a set
 --     cell_found, cell_clipped      the cell where the best sum leaves room, and where none does
-use Rattle.std.proofs.Common.{◌≡◌, ℕ, zero, suc, ◌+◌, ◌-◌, ◌^◌, ◌<◌, ◌≤◌, min, Bool, true, false, not, cond, ◌&&◌, ◌||◌, inl, inr, IsTrue, List, [], ◌∷◌, length, slice_index, unwrap_or, refl, sym, ap, ◌∙◌, arith, eqb, eqb-true, eq-eqb, bit_and, count_ones, w16}
+use Rattle.std.proofs.Common.{◌≡◌, ℕ, ◌+◌, ◌-◌, ◌^◌, ◌<◌, ◌≤◌, true, ◌||◌, inl, inr, IsTrue, List, [], ◌∷◌, length, slice_index, unwrap_or, refl, sym, ap, ◌∙◌, arith, eqb, eqb-true, eq-eqb, w16}
 use Rattle.std.specs.Int.{bit_at, trailing_zeros}
-use Rattle.std.specs.List.{filter, list_any}
 use Rattle.std.proofs.lemmas.Bool.{cases_lt, and_parts}
-use Rattle.std.proofs.lemmas.Nat.Bits.{bit_at-trailing_zeros, bit_at_above, bit_at_and, bit_at_not, bit_at-lt}
-use Rattle.std.proofs.lemmas.Nat.{and_le_l}
-use Rattle.order_model.specs.Functions.{Function, depends}
+use Rattle.std.proofs.lemmas.Nat.Bits.{bit_at-trailing_zeros, bit_at_above}
+use Rattle.order_model.specs.Functions.{Function}
 use Rattle.order_model.specs.Orders.{has, IsOrder, members, variables}
 use Rattle.order_model.specs.Pairs.{Pair, Keeps, is_lawful}
-use Rattle.order_model.specs.Widths.{essential, essential_mask, essentials_outside}
+use Rattle.order_model.specs.Widths.{essentials_outside}
 use Rattle.order_model.specs.Cells.{first_of, cell_of, AreForCell}
-use Rattle.order_model.proofs.Lists.Orders.{has_variables, has_filter}
-use Rattle.order_model.proofs.Widths.Essential.{distinct_essential}
-use Rattle.order_model.proofs.Bits.Masks.{has_members, mask_of_small}
+use Rattle.order_model.proofs.Bits.Masks.{has_members}
 use Rattle.order_model.proofs.Widths.Cells.{rising_members, first_has, first_le, found, clipped, members_zero}
-use Rattle.order_model.proofs.Widths.Count.{essential_members}
 use Rattle.subset_layers.specs.Layers.{masks_of, layer_with}
 use Rattle.subset_layers.specs.Costs.{CostsOf, cost_without, AreTrueCosts, AreWidthsFor}
 use Rattle.subset_layers.specs.Sums.{IsBest}
-use Rattle.order_model.proofs.Bits.Ones.{ones-members}
-use Rattle.subset_layers.proofs.Choosing.{filter_range_same}
 use Rattle.subset_layers.proofs.BlockLists.{has_masks}
 use Rattle.subset_layers.proofs.CostLists.{less_one}
-use Rattle.order_model.proofs.Widths.Outside.{bit_has, essential_small, outside_count}
-use Rattle.order_model.proofs.Lists.Ranges.{filter_twice}
+use Rattle.order_model.proofs.Widths.Outside.{bit_has}
 
 abbrev pub pair_of : ℕ → ℕ → ℕ × ℕ
 pair_of a b = (a, b)

@@ -3,16 +3,15 @@
 --     keeps_in, unkept_in      whether an order keeps the pairs, by the bits of the masks
 --     rows_more, row_few      the number of pairs, one mask more; a mask has at most 15 of them
 --     row_pair, row_skip, row_end      the list of pairs, one variable and one mask more
-use Rattle.std.proofs.Common.{◌≡◌, ◌≢◌, ℕ, zero, suc, ◌+◌, ◌-◌, ◌*◌, ◌/◌, ◌%◌, ◌^◌, ◌<◌, ◌≤◌, Bool, true, false, cond, inl, inr, List, [], ◌∷◌, ◌++◌, map, length, get_or, refl, sym, ap, ap₂, ◌∙◌, subst, arith, nat_eq, eqb, eqb-true, eq-eqb, ne_eqb, bit_and, w16, pow_pos, lt-ltb, le-ltb, ltb, count_ones, length-append, lit<, add-one, append-nil, append_assoc}
+use Rattle.std.proofs.Common.{◌≡◌, ◌≢◌, ℕ, ◌+◌, ◌-◌, ◌^◌, ◌<◌, ◌≤◌, Bool, true, false, cond, inl, inr, List, [], ◌∷◌, ◌++◌, map, length, get_or, refl, sym, ap, ap₂, ◌∙◌, subst, arith, nat_eq, eqb, eqb-true, eq-eqb, ne_eqb, bit_and, w16, lt-ltb, le-ltb, ltb, count_ones, length-append, lit<, append-nil, append_assoc}
 use Rattle.std.proofs.lemmas.List.{length-map, map-append}
 use Rattle.std.proofs.lemmas.List.Elements.{filter-append}
 use Rattle.std.proofs.lemmas.Grind.{flat_map-append}
 use Rattle.std.specs.Int.{bit_at, bit_not}
 use Rattle.std.specs.List.{flat_map, filter, IsDistinct}
 use Rattle.std.proofs.lemmas.Bool.{cases_order, and_parts, and_from, or_cases, false≢true, false_from_ne_true}
-use Rattle.std.proofs.lemmas.Nat.Bits.{bit_at_not, bit_at_cat_low}
-use Rattle.std.proofs.Math.Nat.{div-add-mod, mod-lt, mul_comm, div-lt_iff_lt-mul, pow-succ'}
-use Rattle.std.proofs.lemmas.Nat.{ones_cat, ones-le, zero_from_ones, and_le_l, and_le_r}
+use Rattle.std.proofs.lemmas.Nat.Bits.{bit_at_not}
+use Rattle.std.proofs.lemmas.Nat.{ones-le, zero_from_ones, and_le_l, and_le_r}
 use Rattle.std.proofs.lemmas.Map.Steps.{length-le_from_distinct_below}
 use Rattle.order_model.specs.Orders.{has, variables, members, IsOrder}
 use Rattle.order_model.specs.Pairs.{Pair, has_pair, is_above, keeps, is_lawful}
@@ -26,7 +25,6 @@ use Rattle.order_model.proofs.Precedence.Lists.{lawful_at, lawful_from, keeps_at
 use Rattle.order_model.proofs.Precedence.Sets.{pair_among, among_pair}
 use Rattle.order_model.proofs.Lists.Accepted.{index_of, variables_more, Seen}
 use Rattle.order_model.proofs.Precedence.Masks.{among_in, has_in, some_bit, both_bits, and_bit, zero_or_one, not_one_from_zero}
-use Rattle.order_model.proofs.Lists.Ranges.{filter_same}
 use Rattle.order_model.proofs.Bits.Ones.{ones-members}
 
 -- ---- lawful sets
