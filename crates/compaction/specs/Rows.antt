@@ -3,6 +3,8 @@
 --     IsRow p mask wanted row, AreRows p masks needed rows      a set's widths; those of all sets of a block
 --     wanted_count needed      how many widths are wanted
 --     WidthsOf      the rows of a block, and how many compactions they took
+--     AreUnwanted masks needed set y      nothing is wanted of the sets whose variables below y are those of `set`
+--     IsFilled p masks needed set old new      the row of one set is filled
 use Rattle.std.specs.Prelude.{◌≡◌, ◌≢◌, ℕ, ◌%◌, ◌^◌, ◌<◌, ◌==◌, IsTrue, List, [], cond, sum_by, length, slice_index, get_or, count_ones}
 use Rattle.std.specs.Int.{bit_at}
 use Rattle.order_model.specs.Orders.{has, members, without}
