@@ -20,7 +20,8 @@ use Rattle.subset_layers.specs.Costs.{CostsOf, costs_with, AreTrueCells, AreTrue
 use Rattle.subset_layers.specs.Layers.{LayerOf, layer_with, BlockOf, masks_of, block_masks, blocks_of, block_place, low_byte, layer_of}
 use Rattle.layer_core.specs.Settings.{Setting, cell_for}
 use Rattle.layer_core.specs.Pairing.{pair_of}
-use Rattle.layer_core.proofs.Layouts.{length-map_lem, distinct_masks, few_masks_in}
+use Rattle.layer_core.proofs.Layouts.{length-map_lem, few_masks_in}
+use Rattle.subset_layers.proofs.CostLists.{distinct_masks}
 use Rattle.order_solve.specs.Benches.{BenchOf, IsLayerFor}
 use Rattle.order_solve.specs.Gains.{width_count, widths_for}
 use Rattle.order_solve.specs.Placed.{IsPlaced, no_cell}
