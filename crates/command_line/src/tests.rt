@@ -37,8 +37,8 @@ fn reads_words(rt: HostRuntime) {
 
 #[test]
 fn tells_of_usage(rt: HostRuntime) {
-    for words in REFUSED {
-        let usage = Line::of_words(rt.alloc(), words)
+    for words in &REFUSED {
+        let usage = Line::of_words(rt.alloc(), *words)
             .err()
             .expect(&rt, "no line");
         assert_eq!(rt; usage.status(), 2);

@@ -198,8 +198,8 @@ fn widths_of_blocks(rt: HostRuntime) -> Result<(), Fail> {
     let row = widths.row(0);
     assert_eq!(rt; (row[0], row[1], row[2]), (1, 1, 0));
     assert_eq!(rt; tally.count(), 2);
-    for tables in PROBLEMS {
-        let problem = problem_of(&rt, alloc, tables)?;
+    for tables in &PROBLEMS {
+        let problem = problem_of(&rt, alloc, *tables)?;
         for size in 1..=problem.inputs() {
             try_layer(&rt, alloc, &problem, size)?;
         }
@@ -262,8 +262,8 @@ fn widths_of_ten_variables(rt: HostRuntime) -> Result<(), Fail> {
 #[test]
 fn both_ways_of_compacting(rt: HostRuntime) -> Result<(), Fail> {
     let alloc = rt.alloc();
-    for tables in PROBLEMS {
-        let problem = problem_of(&rt, alloc, tables)?;
+    for tables in &PROBLEMS {
+        let problem = problem_of(&rt, alloc, *tables)?;
         for mask in 0..64u16 {
             if (mask as u32) < 1u32 << problem.inputs() {
                 let classes = Classes::of_set(alloc, &problem, mask)?;

@@ -1,6 +1,5 @@
 //! Certificates and their texts.
 
-use certificate::LineFault::{BadLine, BadNumber, MissingLine, NotRising, TrailingText};
 use certificate::{CertFault, Certificate, LineFault};
 use order_model::{ListedCell, Mask, VarIx};
 use std::alloc::{AllocError, Global};
@@ -138,101 +137,23 @@ fn is_of(
 #[test]
 fn spellings_are_written_and_read(rt: HostRuntime) -> Result<(), Fail> {
     let alloc = rt.alloc();
-    for (parts, text) in SPELLED {
-        let Some(made) = certificate_of(alloc, parts)? else {
+    for (parts, text) in &SPELLED {
+        let Some(made) = certificate_of(alloc, *parts)? else {
             return Err("it has a spelling".into());
         };
-        is_of(&rt, alloc, &made, parts, text)?;
+        is_of(&rt, alloc, &made, *parts, text)?;
         let Ok(read) = Certificate::parse(alloc, text.as_bytes()) else {
             return Err("it is a spelling".into());
         };
-        is_of(&rt, alloc, &read, parts, text)?;
+        is_of(&rt, alloc, &read, *parts, text)?;
     }
     Ok(())
 }
 
 #[test]
 fn other_parts_have_no_spelling(rt: HostRuntime) -> Result<(), Fail> {
-    for parts in UNSPELLED {
-        assert!(rt; certificate_of(rt.alloc(), parts)?.is_none());
-    }
-    Ok(())
-}
-
-/// Texts with a piece and what stands in its place, the first faulty lines of what that gives, and their faults.
-static FAULTY: [(&str, &str, &str, usize, LineFault); 46] = [
-    (MULTIPLEXER, "end\n", "", 13, MissingLine),
-    (MULTIPLEXER, "0001 1", "0001 01", 9, BadNumber),
-    (
-        MULTIPLEXER,
-        "0001 1\n0002 1",
-        "0002 1\n0001 1",
-        10,
-        NotRising,
-    ),
-    (MULTIPLEXER, "cells 5", "cells 4", 12, BadLine),
-    (MULTIPLEXER, "cells 5", "cells 8", 7, BadNumber),
-    (MULTIPLEXER, "cells 5", "cells 6", 13, BadLine),
-    (MULTIPLEXER, "0004 2", "0007 1", 12, BadNumber),
-    (MULTIPLEXER, "order 2 0 1", "order 2 0", 4, BadLine),
-    (MULTIPLEXER, "order 2 0 1", "order 2 0 16", 4, BadNumber),
-    (MULTIPLEXER, "order 2 0 1", "order 2  0 1", 4, BadLine),
-    (MULTIPLEXER, "end\n", "end\nx", 14, TrailingText),
-    (MULTIPLEXER, "end\n", "end\n\n", 14, TrailingText),
-    (MULTIPLEXER, "inputs 3", "inputs  3", 2, BadLine),
-    (MULTIPLEXER, "inputs 3", "inputs 17", 2, BadNumber),
-    (MULTIPLEXER, "inputs 3", "inputs 16", 4, BadLine),
-    (MULTIPLEXER, "inputs 3", "inputs 0", 2, BadNumber),
-    (MULTIPLEXER, "inputs 3", "inputs 03", 2, BadNumber),
-    (MULTIPLEXER, "inputs 3", "inputs +3", 2, BadNumber),
-    (MULTIPLEXER, "inputs 3", "inputs ", 2, BadNumber),
-    (MULTIPLEXER, "inputs 3", "inputs", 2, BadLine),
-    (MULTIPLEXER, "inputs 3", "inputs 3 ", 2, BadLine),
-    (MULTIPLEXER, "inputs 3", "outputs 3", 2, BadLine),
-    (MULTIPLEXER, "inputs 3", "", 2, BadLine),
-    (MULTIPLEXER, "outputs 1", "outputs 0", 3, BadNumber),
-    (MULTIPLEXER, "0004 2", "000A 2", 12, BadNumber),
-    (MULTIPLEXER, "0004 2", "004 2", 12, BadNumber),
-    (MULTIPLEXER, "0004 2", "0004 1000000", 12, BadNumber),
-    (MULTIPLEXER, "0004 2", "0004", 12, BadLine),
-    (MULTIPLEXER, "certificate 1", "certificate 01", 1, BadLine),
-    (MULTIPLEXER, "certificate 1", "certificate 2", 7, BadLine),
-    (ABOVE, "certificate 2", "certificate 02", 1, BadLine),
-    (ABOVE, "certificate 2", "certificate 1", 7, BadLine),
-    (
-        MULTIPLEXER,
-        "levels 1 1 1",
-        "levels 1 1 1000000",
-        5,
-        BadNumber,
-    ),
-    (MULTIPLEXER, "total 3", "total 1000000", 6, BadNumber),
-    (MULTIPLEXER, "end\n", "end", 13, MissingLine),
-    (MULTIPLEXER, "end\n", "end \n", 13, BadLine),
-    (MULTIPLEXER, "end\n", "END\n", 13, BadLine),
-    (ABOVE, "0 2\ncells", "0 3\ncells", 8, BadNumber),
-    (ABOVE, "pairs 1\n0 2", "pairs 2\n0 2\n0 1", 9, NotRising),
-    (ABOVE, "pairs 1\n0 2", "pairs 2\n0 2\n0 2", 9, NotRising),
-    (ABOVE, "pairs 1", "pairs 241", 7, BadNumber),
-    (ABOVE, "pairs 1", "pairs 2", 9, BadNumber),
-    (ABOVE, "0 2\ncells", "0 2 1\ncells", 8, BadLine),
-    (ABOVE, "0000 0", "0000 0\r", 10, BadNumber),
-    (ABOVE, ABOVE, "", 1, MissingLine),
-    (ABOVE, ABOVE, "\n", 1, BadLine),
-];
-
-#[test]
-fn first_faults_are_told(rt: HostRuntime) -> Result<(), Fail> {
-    let alloc = rt.alloc();
-    for (text, old, new, line, fault) in FAULTY {
-        let Some((front, back)) = text.split_once(old) else {
-            panic!(rt; "{old:?}")
-        };
-        let faulty = format!(in alloc; "{front}{new}{back}")?;
-        match Certificate::parse(alloc, faulty.as_bytes()) {
-            Ok(_) => panic!(rt; "line {line}"),
-            Err(found) => assert_eq!(rt; found, CertFault::Line(line, fault), "{new:?}"),
-        }
+    for parts in &UNSPELLED {
+        assert!(rt; certificate_of(rt.alloc(), *parts)?.is_none());
     }
     Ok(())
 }

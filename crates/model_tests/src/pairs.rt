@@ -31,13 +31,13 @@ static FAULTS: [(&[u8], u8, &str); 22] = [
 
 #[test]
 fn faults_are_told_in_turn(rt: HostRuntime) -> Result<(), Fail> {
-    for (text, n, wanted) in FAULTS {
-        assert!(rt; 1 <= n && n <= 16);
-        match Pairs::parse(text, n) {
+    for (text, n, wanted) in &FAULTS {
+        assert!(rt; 1 <= *n && *n <= 16);
+        match Pairs::parse(text, *n) {
             Ok(_) => panic!(rt; "{text:?}"),
             Err(fault) => {
                 let told = format!(in rt.alloc(); "{fault}")?;
-                assert_eq!(rt; told.as_str(), wanted, "{text:?}");
+                assert_eq!(rt; told.as_str(), *wanted, "{text:?}");
             }
         }
     }

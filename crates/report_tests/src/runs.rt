@@ -77,17 +77,17 @@ fn each_number_of_workers_answers_the_same(rt: HostRuntime) -> Result<(), Fail> 
 
 #[test]
 fn counts_leave_the_certificate_alone(rt: HostRuntime) -> Result<(), Fail> {
-    for (length, wanted) in FRONTS {
+    for (length, wanted) in &FRONTS {
         let (outcome, out, cert) = ran(
             &rt,
             1,
             true,
-            &FILE[..length],
+            &FILE[..*length],
             ample(rt.alloc()),
             ample(rt.alloc()),
         )?;
         assert_eq!(rt; outcome, Outcome::Done);
-        assert_eq!(rt; out.taken.as_slice(), wanted);
+        assert_eq!(rt; out.taken.as_slice(), *wanted);
         assert_eq!(rt; cert.taken.len(), 0);
     }
     Ok(())

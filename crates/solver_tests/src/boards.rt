@@ -9,6 +9,7 @@ use layer_board::{Board, BoardSeat, CloseError, PostRefused};
 use layer_core::{CellResult, Core, Event, Reply};
 use order_model::{Mask, Pairs, Problem, Workers};
 use std::alloc::{AllocError, Global};
+use std::process::Abort;
 use std::test::Fail;
 use std::thread;
 use std::thread::Threads;
@@ -43,50 +44,76 @@ fn parity_cell(problem: &Problem, mask: Mask, cost: u32, pairs: &Pairs) -> CellR
     CellResult::new(problem, 7, mask, Cell { cost, variable: 0 }, pairs)
 }
 
-#[test]
+/// Claims the next block: it stands at the place, and has so many sets with the low byte, of which this is the first.
+fn claim_next(
+    rt: &impl Abort,
+    board: &Board,
+    seat: &mut BoardSeat,
+    place: usize,
+    count: usize,
+    first: Mask,
+)
+    requires { seat.old.board ≡ board.now }
+    ensures { seat.new.board ≡ board.now }
+{
+    let Some(claim) = board.claim(seat) else {
+        panic!(rt; "no block")
+    };
+    let block = claim.block();
+    assert!(rt; claim.place() == place && Mask::from(block.low()) == first % 256);
+    assert!(rt; block.len() == count && block.len() > 0);
+    assert!(rt; block.mask(0) == first);
+}
+
+/// Posts and reads while the first block alone is claimed.
 #[tactic(auto, using(crate::proofs::Parity::cell_3, crate::proofs::Parity::cell_5, crate::proofs::Parity::cell_7))]
+fn post_and_read(
+    rt: &impl Abort,
+    board: &Board,
+    seat: &mut BoardSeat,
+    problem: &Problem,
+    pairs: &Pairs,
+)
+    requires board { seat.old.board ≡ board.now }
+    requires problem { problem.now ≡ parity.problem }
+    requires pairs { pairs.now.pairs ≡ [] }
+    requires setting { board.now.brief.setting ≡ record
+        { problem = problem.now; pairs = pairs.now; bound = 7 } }
+    ensures { seat.new.board ≡ board.now }
+{
+    // The second block is not this seat's, and the mask 0007 is not in the layer.
+    let five = board.post(seat, parity_cell(problem, 5, 4, pairs));
+    assert!(rt; five == Err(PostRefused::Stranger));
+    let seven = board.post(seat, parity_cell(problem, 7, 6, pairs));
+    assert!(rt; seven == Err(PostRefused::Stranger));
+    assert!(rt; board.post(seat, parity_cell(problem, 3, 4, pairs)) == Ok(()));
+    let again = board.post(seat, parity_cell(problem, 3, 4, pairs));
+    assert!(rt; again == Err(PostRefused::Double));
+    let three = Cell {
+        cost: 4,
+        variable: 0,
+    };
+    assert!(rt; board.read(seat, 3) == Some(three));
+    assert!(rt; board.read(seat, 5) == None);
+}
+
+#[test]
 fn board_of_the_second_layer(rt: HostRuntime) -> Result<(), Fail> {
     let problem = parity_problem(rt.alloc())?;
     let pairs = Pairs::none(4);
     let layer = Layer::of(rt.alloc(), 4, 2)?;
-    let Some(one) = Workers::new(1) else {
-        panic!(rt; "one worker")
-    };
+    let one = Workers::new(1).ok_or("one worker")?;
     let (board, mut seats) = Board::new(rt.alloc(), &problem, 7, &layer, one, &pairs)?;
     assert!(rt; seats.len() == 1);
     let Some(mut seat) = seats.pop() else {
         panic!(rt; "no seat")
     };
-    let Some(claim) = board.claim(&mut seat) else {
-        panic!(rt; "no block")
-    };
-    assert!(rt; claim.place() == 0 && claim.block().len() == 1 && claim.block().low() == 3);
-
-    // The second block is not this seat's, and the mask 0007 is not in the layer.
-    let five = board.post(&mut seat, parity_cell(&problem, 5, 4, &pairs));
-    assert!(rt; five == Err(PostRefused::Stranger));
-    let seven = board.post(&mut seat, parity_cell(&problem, 7, 6, &pairs));
-    assert!(rt; seven == Err(PostRefused::Stranger));
-    assert!(rt; board.post(&mut seat, parity_cell(&problem, 3, 4, &pairs)) == Ok(()));
-    let again = board.post(&mut seat, parity_cell(&problem, 3, 4, &pairs));
-    assert!(rt; again == Err(PostRefused::Double));
-    assert!(rt;
-        board.read(&mut seat, 3)
-            == Some(Cell {
-                cost: 4,
-                variable: 0
-            })
-    );
-    assert!(rt; board.read(&mut seat, 5) == None);
+    claim_next(&rt, &board, &mut seat, 0, 1, 3);
+    post_and_read(&rt, &board, &mut seat, &problem, &pairs);
 
     // The masks 0005, 0006, 0009, 000a and 000c, each a block, and then no more.
-    for (place, low) in [(1usize, 5u8), (2, 6), (3, 9), (4, 10), (5, 12)] {
-        let Some(claim) = board.claim(&mut seat) else {
-            panic!(rt; "no block")
-        };
-        assert!(rt;
-            claim.place() == place && claim.block().len() == 1 && claim.block().low() == low
-        );
+    for (place, mask) in [(1, 5), (2, 6), (3, 9), (4, 10), (5, 12)] {
+        claim_next(&rt, &board, &mut seat, place, 1, mask);
     }
     assert!(rt; board.claim(&mut seat).is_none());
     assert!(rt; board.claim(&mut seat).is_none());
@@ -146,20 +173,14 @@ fn blocks_of_the_sets_of_two(rt: HostRuntime) -> Result<(), Fail> {
     };
 
     // The first five are 0300, 0101 and 0201, 0102 and 0202, 0003, 0104 and 0204.
-    for (low, first, count) in [
-        (0u8, 0x300u16, 1usize),
-        (1, 0x101, 2),
-        (2, 0x102, 2),
-        (3, 3, 1),
-        (4, 0x104, 2),
+    for (place, count, first) in [
+        (0, 1, 0x300),
+        (1, 2, 0x101),
+        (2, 2, 0x102),
+        (3, 1, 3),
+        (4, 2, 0x104),
     ] {
-        let Some(claim) = board.claim(&mut seat) else {
-            panic!(rt; "no block")
-        };
-        let block = claim.block();
-        assert!(rt; claim.place() == usize::from(low) && block.low() == low);
-        assert!(rt; block.len() == count && block.len() > 0);
-        assert!(rt; block.mask(0) == first);
+        claim_next(&rt, &board, &mut seat, place, count, first);
     }
 
     // No block is stepped over.

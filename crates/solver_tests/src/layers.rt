@@ -36,74 +36,89 @@ fn sets_of_two_of_ten_variables(rt: HostRuntime) -> Result<(), Fail> {
 }
 
 /// Of each set of a layer of the multiplexer (the variable 2 selects 0 or 1) the widths of the variables over the set
-/// without them, if they are needed, and its cell for the bound 3.
-type Row = (Mask, [u32; 3], Cell);
+/// without them, if they are needed, and the cost and variable of its cell for the bound 3.
+type Row = (Mask, [u32; 3], u32, u8);
 
-const fn cell(cost: u32, variable: u8) -> Cell {
-    Cell { cost, variable }
-}
+static ONE: [Row; 3] = [
+    (0x0001, [1, 0, 0], 1, 0),
+    (0x0002, [0, 1, 0], 1, 1),
+    (0x0004, [0, 0, 2], 4, 2),
+];
 
-/// Tries the cells of the layer after that of the costs, and returns its costs.
-fn try_cells(
+static TWO: [Row; 3] = [
+    (0x0003, [1, 1, 0], 2, 0),
+    (0x0005, [0, 0, 2], 4, 0),
+    (0x0006, [0, 0, 2], 4, 1),
+];
+
+static THREE: [Row; 1] = [(0x0007, [0, 0, 1], 3, 2)];
+
+/// The cells of a layer's sets, over the costs of the layer before, which are those of the rows.
+fn least_cells(
     rt: &impl Abort,
     alloc: Global,
+    layer: &Layer,
     costs: &Costs,
-    size: u8,
     rows: &[Row],
-) -> Result<Costs, Fail>
+) -> Result<Vec<Cell>, Fail>
     requires inputs { costs.now.inputs ≡ 3 }
-    requires next { size ≡ costs.now.size + 1 }
-    ensures inputs { IfOk result (λ c. c.inputs ≡ 3) }
-    ensures size { IfOk result (λ c. c.size ≡ size) }
+    requires same { layer.now.inputs ≡ 3 }
+    requires next { layer.now.size ≡ costs.now.size + 1 }
 {
-    let layer = Layer::of(alloc, 3, size)?;
     let mut cells = Vec::new(alloc);
-    for (i, (mask, widths, wanted)) in rows.iter().enumerate() {
+    for (i, (mask, widths, cost, variable)) in rows.iter().enumerate() {
         assert_eq!(rt; layer.position(*mask), Some(i));
         let mut row = [0; 16];
         row[..3].copy_from_slice(widths);
         let cell = least_cell(*mask, costs, &row, 3, 0x0007, &Pairs::none(3));
-        assert_eq!(rt; cell, *wanted, "set {mask}");
+        assert_eq!(rt;
+            (cell.cost, cell.variable),
+            (*cost, *variable),
+            "set {mask}"
+        );
         cells.push(cell)?;
     }
+    Ok(cells)
+}
+
+/// The costs of the layer after that of the costs.
+fn next_costs(
+    rt: &impl Abort,
+    alloc: Global,
+    costs: Costs,
+    size: u8,
+    rows: &[Row],
+) -> Result<Costs, Fail>
+    requires inputs { costs.inputs ≡ 3 }
+    requires next { size ≡ costs.size + 1 }
+    ensures inputs { IfOk result (λ c. c.inputs ≡ 3) }
+    ensures size { IfOk result (λ c. c.size ≡ size) }
+{
+    let layer = Layer::of(alloc, 3, size)?;
+    let cells = least_cells(rt, alloc, &layer, &costs, rows)?;
     assert_eq!(rt; cells.len(), layer.len());
     let costs = Costs::of(layer, cells);
-    for (mask, _, wanted) in rows {
-        assert_eq!(rt; costs.cell_of(*mask), Some(*wanted));
-        assert_eq!(rt; costs.cost_of(*mask), Some(wanted.cost));
+    for (mask, _, cost, variable) in rows {
+        let wanted = Cell {
+            cost: *cost,
+            variable: *variable,
+        };
+        assert_eq!(rt; costs.cell_of(*mask), Some(wanted));
+        assert_eq!(rt; costs.cost_of(*mask), Some(*cost));
     }
     Ok(costs)
 }
 
+// Each layer's costs go into the next one's, so that no early return has to drop several.
 #[test]
 fn cells_of_the_multiplexer(rt: HostRuntime) -> Result<(), Fail> {
-    let none = Costs::start(rt.alloc(), 3)?;
-    assert_eq!(rt; none.cost_of(0x0000), Some(0));
-    assert_eq!(rt; none.cell_of(0x0000), None);
-    let one = try_cells(
-        &rt,
-        rt.alloc(),
-        &none,
-        1,
-        &[
-            (0x0001, [1, 0, 0], cell(1, 0)),
-            (0x0002, [0, 1, 0], cell(1, 1)),
-            (0x0004, [0, 0, 2], cell(4, 2)),
-        ],
-    )?;
-    assert_eq!(rt; one.cost_of(0x0003), None);
-    let two = try_cells(
-        &rt,
-        rt.alloc(),
-        &one,
-        2,
-        &[
-            (0x0003, [1, 1, 0], cell(2, 0)),
-            (0x0005, [0, 0, 2], cell(4, 0)),
-            (0x0006, [0, 0, 2], cell(4, 1)),
-        ],
-    )?;
-    let three = try_cells(&rt, rt.alloc(), &two, 3, &[(0x0007, [0, 0, 1], cell(3, 2))])?;
-    assert_eq!(rt; three.inputs(), 3);
+    let costs = Costs::start(rt.alloc(), 3)?;
+    assert_eq!(rt; costs.cost_of(0x0000), Some(0));
+    assert_eq!(rt; costs.cell_of(0x0000), None);
+    let costs = next_costs(&rt, rt.alloc(), costs, 1, &ONE)?;
+    assert_eq!(rt; costs.cost_of(0x0003), None);
+    let costs = next_costs(&rt, rt.alloc(), costs, 2, &TWO)?;
+    let costs = next_costs(&rt, rt.alloc(), costs, 3, &THREE)?;
+    assert_eq!(rt; costs.inputs(), 3);
     Ok(())
 }

@@ -7,13 +7,11 @@ use crate::reduced::reduced_diagram;
 use order_model::{Diagram, Node, Order, Pairs, Ref, VarIx};
 use sifting::{Manager, Sifted};
 use std::alloc::{AllocError, Global};
+use std::process::Abort;
 use std::test::Fail;
 
 // A node by its variable and its two refs: 0 and 1 are the terminals, and k + 2 is the node at place k.
 type Triple = (u8, usize, usize);
-
-// Three inputs: the parity.
-const PARITY: &[Triple] = &[(2, 0, 1), (2, 1, 0), (1, 2, 3), (1, 3, 2), (0, 4, 5)];
 
 // Six inputs: three products of two, x and x + 3.
 const INTERLEAVED: &[Triple] = &[
@@ -123,31 +121,49 @@ fn place_of_least(sizes: &[u32]) -> usize {
     found
 }
 
+/// The manager with a variable on its first place of least size, and the sizes with it on each level.
+fn put_best(
+    rt: &impl Abort,
+    alloc: Global,
+    manager: Manager,
+    x: VarIx,
+) -> Result<(Manager, Vec<u32>), Fail> {
+    assert!(rt; (x as usize) < manager.order().len());
+    let level = manager.order().place_of(x);
+    let highest = lifted(alloc, manager, level, 0)?;
+    let (lowest, sizes) = sizes_by_level(alloc, highest)?;
+    let manager = lifted(alloc, lowest, 5, place_of_least(&sizes))?;
+    Ok((manager, sizes))
+}
+
+/// The variables in turn, the sizes with each on each level, and the order after it.
+static STEPS: [(u8, [u32; 6], [u8; 6]); 6] = [
+    (2, [14, 14, 14, 10, 8, 8], [0, 1, 3, 4, 2, 5]),
+    (3, [6, 6, 8, 8, 10, 10], [3, 0, 1, 4, 2, 5]),
+    (1, [8, 8, 6, 6, 8, 8], [3, 0, 1, 4, 2, 5]),
+    (4, [8, 8, 6, 6, 8, 8], [3, 0, 4, 1, 2, 5]),
+    (0, [6, 6, 8, 8, 10, 10], [0, 3, 4, 1, 2, 5]),
+    (5, [10, 10, 8, 8, 6, 6], [0, 3, 4, 1, 5, 2]),
+];
+
 #[test]
 fn each_step_of_the_interleaved_products(rt: HostRuntime) -> Result<(), Fail> {
     let alloc = rt.alloc();
-    let mut manager = Manager::of(
-        alloc,
-        diagram(alloc, &[0, 1, 2, 3, 4, 5], INTERLEAVED, &[15])?,
-    )?;
+    let diagram = diagram(alloc, &[0, 1, 2, 3, 4, 5], INTERLEAVED, &[15])?;
+    let mut manager = Manager::of(alloc, diagram)?;
     assert_eq!(rt; manager.size(), 14);
-    let steps: [(u8, [u32; 6], [u8; 6]); 6] = [
-        (2, [14, 14, 14, 10, 8, 8], [0, 1, 3, 4, 2, 5]),
-        (3, [6, 6, 8, 8, 10, 10], [3, 0, 1, 4, 2, 5]),
-        (1, [8, 8, 6, 6, 8, 8], [3, 0, 1, 4, 2, 5]),
-        (4, [8, 8, 6, 6, 8, 8], [3, 0, 4, 1, 2, 5]),
-        (0, [6, 6, 8, 8, 10, 10], [0, 3, 4, 1, 2, 5]),
-        (5, [10, 10, 8, 8, 6, 6], [0, 3, 4, 1, 5, 2]),
-    ];
-    for (x, want, after) in steps {
-        assert!(rt; (x as usize) < manager.order().len());
-        let level = manager.order().place_of(x);
-        let highest = lifted(alloc, manager, level, 0)?;
-        let (lowest, sizes) = sizes_by_level(alloc, highest)?;
+    for (x, want, after) in &STEPS {
+        let (next, sizes) = put_best(&rt, alloc, manager, *x)?;
         assert_eq!(rt; sizes.as_slice(), want.as_slice(), "of {x}");
-        manager = lifted(alloc, lowest, 5, place_of_least(&sizes))?;
+        manager = next;
         assert_eq!(rt; manager.order().variables(), after.as_slice(), "after {x}");
     }
+    Ok(())
+}
+
+#[test]
+fn sifts_the_interleaved_products(rt: HostRuntime) -> Result<(), Fail> {
+    let alloc = rt.alloc();
     let diagram = diagram(alloc, &[0, 1, 2, 3, 4, 5], INTERLEAVED, &[15])?;
     let sifted = sifted(alloc, diagram, Pairs::none(6))?;
     assert_eq!(rt; sifted.order().variables(), [0, 3, 4, 1, 5, 2].as_slice());
@@ -159,72 +175,19 @@ fn each_step_of_the_interleaved_products(rt: HostRuntime) -> Result<(), Fail> {
 }
 
 #[test]
-fn worked_cases(rt: HostRuntime) -> Result<(), Fail> {
-    let alloc = rt.alloc();
-    let cases: [(&[u8], &[Triple], &[usize], &[u8], u32); 9] = [
-        (&[0, 1, 2], PARITY, &[6], &[0, 2, 1], 5),
-        (
-            &[0, 1, 2, 3, 4, 5],
-            INTERLEAVED,
-            &[15],
-            &[0, 3, 4, 1, 5, 2],
-            6,
-        ),
-        (&[0, 1, 2], &[], &[0], &[2, 1, 0], 0),
-        (&[0], &[(0, 0, 1), (0, 1, 0)], &[2, 3], &[0], 2),
-        (
-            &[0, 1],
-            &[(1, 0, 1), (0, 0, 2), (0, 2, 1)],
-            &[3, 4],
-            &[1, 0],
-            3,
-        ),
-        (&[0, 1, 2], &[(2, 0, 1)], &[2], &[1, 0, 2], 1),
-        (&[0, 1, 2], MULTIPLEXER, &[6], &[2, 0, 1], 3),
-        (&[0], &[], &[1], &[0], 0),
-        (&[0, 1], &[(0, 0, 1), (1, 0, 1)], &[2, 3], &[1, 0], 2),
-    ];
-    for (order, nodes, roots, after, size) in cases {
-        let diagram = diagram(alloc, order, nodes, roots)?;
-        let sifted = sifted(alloc, diagram, Pairs::none(order.len() as u8))?;
-        assert_eq!(rt; sifted.order().variables(), after, "from {nodes:?}");
-        assert_eq!(rt; sifted.size(), size, "from {nodes:?}");
-        assert_eq!(rt; sifted.pairs().count(), 0);
-    }
-    Ok(())
-}
-
-#[test]
-fn sixteen_ones(rt: HostRuntime) -> Result<(), Fail> {
-    let alloc = rt.alloc();
-    let rising: [u8; 16] = [0, 1, 2, 3, 4, 5, 6, 7, 8, 9, 10, 11, 12, 13, 14, 15];
-    let falling: [u8; 16] = [15, 14, 13, 12, 11, 10, 9, 8, 7, 6, 5, 4, 3, 2, 1, 0];
-    let mut nodes = Vec::new(alloc);
-    for (place, x) in falling.iter().enumerate() {
-        nodes.push((*x, 0, place + 1))?;
-    }
-    let diagram = diagram(alloc, &rising, &nodes, &[17])?;
-    let sifted = sifted(alloc, diagram, Pairs::none(16))?;
-    assert_eq!(rt; sifted.order().variables(), falling.as_slice());
-    assert_eq!(rt; sifted.size(), 16);
-    assert_eq!(rt; sifted.levels(), [1; 16]);
-    Ok(())
-}
-
-#[test]
 fn pairs_of_the_multiplexer(rt: HostRuntime) -> Result<(), Fail> {
     let alloc = rt.alloc();
     let cases: [(&[u8], &[u8], &[Triple], usize, &[u8], u32); 2] = [
         (b"0,2", &[0, 1, 2], MULTIPLEXER, 6, &[0, 2, 1], 4),
         (b"2,0", &[1, 2, 0], MULTIPLEXER_B_S_A, 5, &[2, 1, 0], 3),
     ];
-    for (text, order, nodes, root, after, size) in cases {
+    for (text, order, nodes, root, after, size) in &cases {
         let pairs = Pairs::parse(text, 3)?;
-        assert_eq!(rt; pairs.first_order(alloc)?.variables(), order);
-        let diagram = diagram(alloc, order, nodes, &[root])?;
+        assert_eq!(rt; pairs.first_order(alloc)?.variables(), *order);
+        let diagram = diagram(alloc, order, nodes, &[*root])?;
         let sifted = sifted(alloc, diagram, pairs)?;
-        assert_eq!(rt; sifted.order().variables(), after, "with {text:?}");
-        assert_eq!(rt; sifted.size(), size, "with {text:?}");
+        assert_eq!(rt; sifted.order().variables(), *after, "with {text:?}");
+        assert_eq!(rt; sifted.size(), *size, "with {text:?}");
         assert_eq!(rt; sifted.pairs().count(), 1);
     }
     Ok(())

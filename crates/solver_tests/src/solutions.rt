@@ -4,7 +4,7 @@ ghost use Rattle.std.specs.Prelude.{◌≡◌, IfOk};
 
 use counted_io::Counting;
 use dd_builder::{build_tables, build_tables_alone};
-use order_model::{Gate, Mask, NoGate, Order, Pairs, Problem, Workers};
+use order_model::{Gate, NoGate, Order, Workers};
 use order_solve::{Solution, solve, solve_alone};
 use pla_reader::read_cover;
 use sifting::laws::diagrams_have_their_problems_tables;
@@ -16,108 +16,32 @@ use std::test::Fail;
 use std::thread::Threads;
 use truth_table::Tables;
 
-/// A cover, the pairs, a sifted order, and what is to be found: the order, its level counts, their sum and the listed cells.
+/// A cover, the order that is sifted, and what is to be found: the order, its level counts, their sum and the number of widths.
 type Row = (
-    &'static [u8],
     &'static [u8],
     &'static [u8],
     &'static [u8],
     &'static [u32],
     u32,
-    &'static [(Mask, u32)],
+    u64,
 );
 
-static ROWS: [Row; 11] = [
+static ROWS: [Row; 2] = [
     (
         b".i 3\n.o 1\n001 1\n010 1\n100 1\n111 1\n.e\n",
-        b"",
         &[0, 2, 1],
         &[0, 1, 2],
         &[1, 2, 2],
         5,
-        &[(0, 0), (1, 2), (2, 2), (4, 2)],
-    ),
-    (
-        b".i 3\n.o 1\n.e\n",
-        b"",
-        &[2, 1, 0],
-        &[0, 1, 2],
-        &[0, 0, 0],
-        0,
-        &[],
-    ),
-    (
-        b".i 1\n.o 2\n1 10\n0 01\n.e\n",
-        b"",
-        &[0],
-        &[0],
-        &[2],
-        2,
-        &[(0, 0)],
-    ),
-    (
-        b".i 2\n.o 2\n11 10\n1- 01\n-1 01\n.e\n",
-        b"",
-        &[1, 0],
-        &[0, 1],
-        &[2, 1],
-        3,
-        &[(0, 0), (1, 1), (2, 1)],
-    ),
-    (
-        b".i 3\n.o 1\n--1 1\n.e\n",
-        b"",
-        &[1, 0, 2],
-        &[0, 1, 2],
-        &[0, 0, 1],
-        1,
-        &[],
+        12,
     ),
     (
         b".i 3\n.o 1\n1-0 1\n-11 1\n.e\n",
-        b"",
         &[2, 0, 1],
         &[2, 0, 1],
         &[1, 1, 1],
         3,
-        &[],
-    ),
-    (b".i 1\n.o 1\n- 1\n.e\n", b"", &[0], &[0], &[0], 0, &[]),
-    (
-        b".i 2\n.o 2\n.type f\n1- 1-\n-1 -1\n.e\n",
-        b"",
-        &[1, 0],
-        &[0, 1],
-        &[1, 1],
-        2,
-        &[],
-    ),
-    (
-        b".i 3\n.o 1\n1-0 1\n-11 1\n.e\n",
-        b"0,2",
-        &[0, 2, 1],
-        &[0, 2, 1],
-        &[1, 2, 1],
-        4,
-        &[(0, 0), (2, 1)],
-    ),
-    (
-        b".i 3\n.o 1\n1-0 1\n-11 1\n.e\n",
-        b"2,0",
-        &[2, 1, 0],
-        &[2, 0, 1],
-        &[1, 1, 1],
-        3,
-        &[],
-    ),
-    (
-        b".i 6\n.o 1\n1--1-- 1\n-1--1- 1\n--1--1 1\n.e\n",
-        b"",
-        &[0, 3, 4, 1, 5, 2],
-        &[0, 3, 1, 4, 2, 5],
-        &[1, 1, 1, 1, 1, 1],
-        6,
-        &[],
+        8,
     ),
 ];
 
@@ -134,51 +58,38 @@ pub(crate) fn tables_of<R: Threads + Sync>(
     Ok(tables)
 }
 
-/// The order that is sifted from the first one that keeps the pairs.
-fn sift_from_first<R: Threads + Sync>(
+/// The order that is sifted from the file order.
+fn sift_from_file_order<R: Threads + Sync>(
     rt: &R,
     alloc: Global,
     tables: &Tables,
-    pairs: Pairs,
     workers: Workers,
 ) -> Result<Sifted, Fail>
     ensures { IfOk result (λ s. s.problem ≡ tables.now) }
 {
     let problem = tables.problem();
-    let order = pairs.first_order(alloc)?;
-    if order.len() != usize::from(problem.inputs())
-        || order.len() != usize::from(pairs.inputs())
-        || !pairs.keeps(&order)
-    {
-        return Err("no order that keeps the pairs".into());
+    let order = Order::file_order(alloc, problem.inputs())?;
+    if order.len() != usize::from(problem.inputs()) {
+        return Err("another length".into());
     }
     let Ok(diagram) = build_tables(rt, alloc, tables, &order, workers, &NoGate) else {
         return Err("not built".into());
     };
     diagrams_have_their_problems_tables(problem);
-    let manager = Manager::with_pairs(alloc, diagram, pairs)?;
-    Ok(manager.sift(alloc)?)
+    Ok(Manager::of(alloc, diagram)?.sift(alloc)?)
 }
 
-/// The solution of a cover under some pairs, if that is the sifted order.
+/// The solution of a cover, if that is the sifted order.
 fn solved<R: Threads + Sync, G: Gate>(
     rt: &R,
     alloc: Global,
     text: &[u8],
-    above: &[u8],
     wanted: &[u8],
-    workers: u8,
     gate: &G,
 ) -> Result<Solution, Fail> {
     let tables = tables_of(rt, alloc, text)?;
-    let inputs = tables.problem().inputs();
-    let pairs = if above.is_empty() {
-        Pairs::none(inputs)
-    } else {
-        Pairs::parse(above, inputs)?
-    };
-    let workers = Workers::new(workers).ok_or("workers")?;
-    let sifted = sift_from_first(rt, alloc, &tables, pairs, workers)?;
+    let workers = Workers::new(2).ok_or("workers")?;
+    let sifted = sift_from_file_order(rt, alloc, &tables, workers)?;
     if sifted.order().variables() != wanted {
         return Err("another sifted order".into());
     }
@@ -186,46 +97,37 @@ fn solved<R: Threads + Sync, G: Gate>(
 }
 
 #[test]
-fn solves_the_rows(rt: HostRuntime) -> Result<(), Fail> {
-    for (text, above, sifted, order, levels, total, cells) in ROWS {
-        for workers in [1u8, 2, 64] {
-            let found = solved(&rt, rt.alloc(), text, above, sifted, workers, &NoGate)?;
-            assert_eq!(rt; found.order.variables(), order);
-            assert_eq!(rt; found.levels.as_slice(), levels);
-            assert_eq!(rt; found.total, total);
-            assert_eq!(rt; found.cells.len(), cells.len());
-            for (cell, (mask, cost)) in found.cells.iter().zip(cells.iter()) {
-                assert_eq!(rt; (cell.mask, cell.cost), (*mask, *cost));
-            }
-        }
+fn solves_parity_and_the_multiplexer(rt: HostRuntime) -> Result<(), Fail> {
+    for (text, sifted, order, levels, total, widths) in &ROWS {
+        let found = solved(&rt, rt.alloc(), text, sifted, &NoGate)?;
+        assert_eq!(rt; found.order.variables(), *order);
+        assert_eq!(rt; found.levels.as_slice(), *levels);
+        assert_eq!(rt; (found.total, found.widths), (*total, *widths));
     }
     Ok(())
+}
+
+/// The order that is sifted from the one with the highest variable on top, by the calling thread.
+fn sift_alone(alloc: Global, tables: &Tables) -> Result<Sifted, Fail>
+    requires { tables.now.inputs ≡ 3 }
+    ensures { IfOk result (λ s. s.problem ≡ tables.now) }
+{
+    let order = Order::try_from_slice(alloc, &[2, 1, 0])?;
+    let Ok(diagram) = build_tables_alone(alloc, tables, &order) else {
+        return Err("not built".into());
+    };
+    diagrams_have_their_problems_tables(tables.problem());
+    Ok(Manager::of(alloc, diagram)?.sift(alloc)?)
 }
 
 #[test]
 fn solves_words_alone(rt: HostRuntime) -> Result<(), Fail> {
-    let alloc = rt.alloc();
-    let tables = Tables::of_words(alloc, 3, 1, &[0xff96])?;
-    let order = Order::try_from_slice(alloc, &[2, 1, 0])?;
-    let Ok(diagram) = build_tables_alone(alloc, &tables, &order) else {
-        return Err("not built".into());
-    };
-    diagrams_have_their_problems_tables(tables.problem());
-    let sifted = Manager::of(alloc, diagram)?.sift(alloc)?;
-    let found = solve_alone(alloc, tables.problem(), sifted)?;
+    let tables = Tables::of_words(rt.alloc(), 3, 1, &[0xff96])?;
+    let sifted = sift_alone(rt.alloc(), &tables)?;
+    let found = solve_alone(rt.alloc(), tables.problem(), sifted)?;
     assert_eq!(rt; found.order.variables(), [0u8, 1, 2].as_slice());
     assert_eq!(rt; found.levels.as_slice(), [1u32, 2, 2].as_slice());
     assert_eq!(rt; found.total, 5);
-    Ok(())
-}
-
-#[test]
-fn counts_the_widths(rt: HostRuntime) -> Result<(), Fail> {
-    for (row, widths) in [(0usize, 12u64), (5, 8)] {
-        let (text, above, sifted, _, _, _, _) = ROWS[row];
-        let found = solved(&rt, rt.alloc(), text, above, sifted, 2, &NoGate)?;
-        assert_eq!(rt; found.widths, widths);
-    }
     Ok(())
 }
 
@@ -291,7 +193,7 @@ fn open_gate(alloc: Global) -> Result<Meet, AllocError> {
 fn two_workers_meet(rt: HostRuntime) -> Result<(), Fail> {
     let gate = open_gate(rt.alloc())?;
     let sifted = [15u8, 14, 13, 12, 11, 10, 9, 8, 7, 6, 5, 4, 3, 2, 1, 0];
-    let found = solved(&rt, rt.alloc(), ALL_ONES, b"", &sifted, 2, &gate)?;
+    let found = solved(&rt, rt.alloc(), ALL_ONES, &sifted, &gate)?;
     assert_eq!(rt;
         found.order.variables(),
         [0u8, 1, 2, 3, 4, 5, 6, 7, 8, 9, 10, 11, 12, 13, 14, 15].as_slice()

@@ -169,6 +169,24 @@ fn check_closed(alloc: Global, board: Board, seat: BoardSeat) -> Result<(), Fail
     Ok(())
 }
 
+/// Two seats, of which the first one claimed the first block.
+fn seats_with_claim(board: &Board, seats: Vec<BoardSeat>) -> Result<(BoardSeat, BoardSeat), Fail>
+    requires { All (λ s. s.board ≡ board.now) seats.items }
+    ensures first { IfOk result (λ s. s.0.board ≡ board.now) }
+    ensures second { IfOk result (λ s. s.1.board ≡ board.now) }
+{
+    let mut seats = seats;
+    let worker = seats.pop().ok_or("two seats")?;
+    let mut owner = seats.pop().ok_or("two seats")?;
+    let Some(claim) = board.claim(&mut owner) else {
+        return Err("a block".into());
+    };
+    if claim.block().low() != 3 {
+        return Err("0003".into());
+    }
+    Ok((owner, worker))
+}
+
 /// One of two seats claims the first block and holds it while the other one works, or posts it from a thread of its own.
 fn hold_claim<R: Threads + Sync>(
     rt: &R,
@@ -186,15 +204,7 @@ fn hold_claim<R: Threads + Sync>(
     requires one { one.setting ≡ bench.now.setting }
     requires two { two.setting ≡ bench.now.setting }
 {
-    let mut seats = seats;
-    let worker = seats.pop().ok_or("two seats")?;
-    let mut owner = seats.pop().ok_or("two seats")?;
-    let Some(claim) = board.claim(&mut owner) else {
-        return Err("a block".into());
-    };
-    if claim.block().low() != 3 {
-        return Err("0003".into());
-    }
+    let (owner, worker) = seats_with_claim(&board, seats)?;
     if posts {
         let seat = both_work(rt, alloc, &board, owner, worker, one, two, bench)?;
         check_closed(alloc, board, seat)
@@ -203,7 +213,47 @@ fn hold_claim<R: Threads + Sync>(
     }
 }
 
-/// The board of the sets of two of four variables, for the parity and the bound 7.
+/// The result of a layer's first set, twice.
+fn first_results(
+    alloc: Global,
+    problem: &Problem,
+    pairs: &Pairs,
+    layer: &Layer,
+    bench: &Bench<'_>,
+) -> Result<(CellResult, CellResult), Fail>
+    requires inputs { layer.now.inputs ≡ problem.now.inputs }
+    requires setting { bench.now.setting ≡ setting_with problem.now pairs.now 7 }
+    requires layer { bench.now.layer ≡ layer.now }
+    ensures one { IfOk result (λ r. r.0.setting ≡ bench.now.setting) }
+    ensures two { IfOk result (λ r. r.1.setting ≡ bench.now.setting) }
+{
+    let cells = cells_by_one(alloc, problem, pairs, layer, bench)?;
+    let one = first_result(problem, pairs, layer, &cells)?;
+    let two = first_result(problem, pairs, layer, &cells)?;
+    Ok((one, two))
+}
+
+/// Holds a claim at a board for two workers of a layer.
+fn hold_in_layer<R: Threads + Sync>(
+    rt: &R,
+    alloc: Global,
+    problem: &Problem,
+    pairs: &Pairs,
+    layer: &Layer,
+    bench: &Bench<'_>,
+    posts: bool,
+) -> Result<(), Fail>
+    requires inputs { layer.now.inputs ≡ problem.now.inputs }
+    requires setting { bench.now.setting ≡ setting_with problem.now pairs.now 7 }
+    requires layer { bench.now.layer ≡ layer.now }
+{
+    let (one, two) = first_results(alloc, problem, pairs, layer, bench)?;
+    let workers = Workers::new(2).ok_or("two workers")?;
+    let (board, seats) = Board::new(alloc, problem, 7, layer, workers, pairs)?;
+    hold_claim(rt, alloc, board, seats, one, two, bench, posts)
+}
+
+/// The layer of the sets of two of four variables, for the parity and the bound 7.
 fn held_claim<R: Threads + Sync>(rt: &R, alloc: Global, posts: bool) -> Result<(), Fail> {
     let tables = tables_of(rt, alloc, PARITY_OF_FOUR)?;
     let problem = tables.problem();
@@ -212,12 +262,7 @@ fn held_claim<R: Threads + Sync>(rt: &R, alloc: Global, posts: bool) -> Result<(
     let before = first_costs(alloc, problem, &pairs)?;
     let layer = Layer::of(alloc, inputs, 2)?;
     let bench = Bench::new(problem, &pairs, 7, &layer, &before);
-    let cells = cells_by_one(alloc, problem, &pairs, &layer, &bench)?;
-    let one = first_result(problem, &pairs, &layer, &cells)?;
-    let two = first_result(problem, &pairs, &layer, &cells)?;
-    let workers = Workers::new(2).ok_or("two workers")?;
-    let (board, seats) = Board::new(alloc, problem, 7, &layer, workers, &pairs)?;
-    hold_claim(rt, alloc, board, seats, one, two, &bench, posts)
+    hold_in_layer(rt, alloc, problem, &pairs, &layer, &bench, posts)
 }
 
 #[test]

@@ -124,11 +124,11 @@ fn builds_covers_under_their_file_orders(rt: HostRuntime) -> Result<(), Fail> {
         let Some(workers) = Workers::new(count) else {
             panic!(rt; "no workers")
         };
-        for (text, size) in COVERS {
+        for (text, size) in &COVERS {
             let from_terms = cover_size(&rt, rt.alloc(), text, workers, &NoGate)?;
-            assert_eq!(rt; from_terms, Some(size), "{text:?}");
+            assert_eq!(rt; from_terms, Some(*size), "{text:?}");
             let from_tables = tables_size(&rt, rt.alloc(), text, workers, &NoGate)?;
-            assert_eq!(rt; from_tables, Some(size), "{text:?}");
+            assert_eq!(rt; from_tables, Some(*size), "{text:?}");
         }
         let from_terms = cover_size(&rt, rt.alloc(), SIXTEEN_ONES, workers, &NoGate)?;
         assert_eq!(rt; from_terms, Some(16));
@@ -144,9 +144,9 @@ fn builds_of_few_terms_and_of_many(rt: HostRuntime) -> Result<(), Fail> {
     let Some(workers) = Workers::new(2) else {
         panic!(rt; "no workers")
     };
-    for (text, size) in COVERS {
+    for (text, size) in &COVERS {
         let built = built_size(&rt, rt.alloc(), text, workers)?;
-        assert_eq!(rt; built, Some(size), "{text:?}");
+        assert_eq!(rt; built, Some(*size), "{text:?}");
     }
     let built = built_size(&rt, rt.alloc(), SIXTEEN_ONES, workers)?;
     assert_eq!(rt; built, Some(16));
