@@ -12,7 +12,8 @@ use Rattle.cert_check.specs.Verdicts.{Judges, edge_verdict, reason_of}
 -- the first edge that fails decides the verdict
 pub record IsOpen (n : ℕ) (F : List Function) (cert : certs.Certificate) (values judged : List ℕ) : Type 0 where
   pub edges : AreEdgeTables n values judged
-  pub decides : (first : Option (ℕ × ℕ)) → IsFirstEdge (Fails n F values judged) first → Judges n F cert (edge_verdict first)
+  pub decides : (first : Option (ℕ × ℕ)) → IsFirstEdge (Fails n F values judged) first →
+      Judges n F cert (edge_verdict first)
 
 -- the first reason but for those of edges, or what is left
 abbrev pub LeavesEdges : ℕ → List Function → certs.Certificate → Result Open Reason → Type 0

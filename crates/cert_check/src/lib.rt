@@ -1,4 +1,5 @@
-//! The checker of certificates: whether a certificate shows that no order that keeps its pairs has fewer nodes, else the first reason why not.
+//! The checker of certificates: whether a certificate shows that no order that keeps its pairs has
+//! fewer nodes, else the first reason why not.
 //!
 //! It shares no code with the solver: both stand on the same definitions and laws alone.
 #![tactic(auto)]

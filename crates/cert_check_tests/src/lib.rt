@@ -1,4 +1,5 @@
-//! Tests of the checker of certificates: worked cases, the solver's certificates, and a checker written apart.
+//! Tests of the checker of certificates: worked cases, the solver's certificates, and a checker
+//! written apart.
 #![tactic(auto)]
 
 #[cfg(test)]

@@ -1,4 +1,5 @@
-//! A checker written apart, for at most six variables: plain loops over truth tables, each packed in a word of 64 points.
+//! A checker written apart, for at most six variables: plain loops over truth tables, each packed
+//! in a word of 64 points.
 
 ghost use Rattle.std.specs.Prelude.{◌<◌};
 
@@ -34,7 +35,8 @@ fn depends(function: u64, x: VarIx) -> bool
     false
 }
 
-/// How many functions are left if the variables outside a set and one more are fixed in all ways, of those that depend on that one.
+/// How many functions are left if the variables outside a set and one more are fixed in all ways,
+/// of those that depend on that one.
 fn width(alloc: Global, functions: &[u64], set: Mask, x: VarIx) -> Result<u64, AllocError>
     requires { x < 6 }
 {
@@ -50,8 +52,8 @@ fn width(alloc: Global, functions: &[u64], set: Mask, x: VarIx) -> Result<u64, A
     Ok(left.len() as u64)
 }
 
-/// What the checker asks of the functions: the mask of all variables, that of those on which some function depends, and each
-/// edge, by its set and then by its variable, with its width.
+/// What the checker asks of the functions: the mask of all variables, that of those on which some
+/// function depends, and each edge, by its set and then by its variable, with its width.
 #[derive(Drop)]
 pub(crate) struct Plain {
     all: Mask,

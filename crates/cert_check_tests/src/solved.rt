@@ -53,7 +53,8 @@ fn random_tables<R: Threads + Sync>(
     Ok(Tables::of_cover(rt, alloc, &cover)?)
 }
 
-/// What the solver finds of some functions, from the order sifted from the first one that keeps the pairs.
+/// What the solver finds of some functions, from the order sifted from the first one that keeps the
+/// pairs.
 fn solution_of<R: Threads + Sync>(
     rt: &R,
     alloc: Global,

@@ -258,7 +258,8 @@ fn tells_the_first_reason(rt: HostRuntime) -> Result<(), Fail> {
     judge_cases(&rt, rt.alloc(), &LATER)
 }
 
-/// The costs of the proper subsets of sixteen variables: one for each member, and `more` but for the empty set, which has `start`.
+/// The costs of the proper subsets of sixteen variables: one for each member, and `more` but for
+/// the empty set, which has `start`.
 fn subsets(alloc: Global, start: u32, each: u32, more: u32) -> Result<Vec<ListedCell>, AllocError> {
     let mut cells = Vec::with_capacity(alloc, 65_535)?;
     for mask in 0..Mask::MAX {

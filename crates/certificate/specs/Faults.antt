@@ -39,7 +39,8 @@ mask_of word = digits_value 16 word
 
 -- whether a word is a decimal, as it is written, from least to most
 abbrev pub is_decimal : ℕ → ℕ → List ℕ → Bool
-is_decimal least most word = same word (decimal (number_of word)) && (nat_le least (number_of word) && nat_le (number_of word) most)
+is_decimal least most word = same word (decimal (number_of word))
+    && (nat_le least (number_of word) && nat_le (number_of word) most)
 
 -- whether a word is a mask, as it is written, of some variables of n but not of all
 abbrev pub is_mask : ℕ → List ℕ → Bool
@@ -112,9 +113,11 @@ abbrev pub rises : (List ℕ → List ℕ → ℕ) → List (List (List ℕ)) �
 rises key ws first k a b = k == first || nat_lt (key (word_at ws (k - 1) 0) (word_at ws (k - 1) 1)) (key a b)
 
 -- a line with a count of at most most, and as many lines of entries; the first line is line at, counted from 0
-abbrev pub section_judges : List ℕ → ℕ → (List ℕ → List ℕ → Bool) → (List ℕ → List ℕ → ℕ) → List (List (List ℕ)) → ℕ → List Judge
+abbrev pub section_judges : List ℕ → ℕ → (List ℕ → List ℕ → Bool) → (List ℕ → List ℕ → ℕ) → List (List (List ℕ)) → ℕ →
+    List Judge
 section_judges name most is_entry key ws at =
-    field_fault name 1 0 most ∷ map (λ k. entry_fault is_entry (rises key ws (at + 1) k)) (range_with_len (at + 1) (number_said ws at))
+    field_fault name 1 0 most ∷ map (λ k. entry_fault is_entry (rises key ws (at + 1) k))
+        (range_with_len (at + 1) (number_said ws at))
 
 -- the number of inputs that the lines say
 abbrev pub inputs_said : List (List (List ℕ)) → ℕ
@@ -122,11 +125,13 @@ inputs_said ws = number_said ws 1
 
 -- what is asked of the lines of pairs, which format 2 alone has
 abbrev pub pairs_judges : List (List (List ℕ)) → List Judge
-pairs_judges ws = cond (nat_eq (number_said ws 0) 1) [] (section_judges (codes "pairs") most_pairs (is_pair (inputs_said ws)) pair_key_of ws 6)
+pairs_judges ws = cond (nat_eq (number_said ws 0) 1) []
+    (section_judges (codes "pairs") most_pairs (is_pair (inputs_said ws)) pair_key_of ws 6)
 
 -- what is asked of the lines of listed sets, the first of which is line at
 abbrev pub cells_judges : List (List (List ℕ)) → ℕ → List Judge
-cells_judges ws at = section_judges (codes "cells") (2 ^ inputs_said ws - 1) (is_cell (inputs_said ws)) cell_key_of ws at
+cells_judges ws at = section_judges (codes "cells") (2 ^ inputs_said ws - 1)
+    (is_cell (inputs_said ws)) cell_key_of ws at
 
 -- what is asked of the first six lines, for a number of inputs
 abbrev pub head_judges : ℕ → List Judge
@@ -139,7 +144,8 @@ head_judges n = title_fault
 
 -- what is asked of the words of each line, from the first on, by what the lines before it say
 unfoldable pub judges : List (List (List ℕ)) → List Judge
-judges ws = head_judges (inputs_said ws) ++ (pairs_judges ws ++ (cells_judges ws (6 + length (pairs_judges ws)) ++ fixed_fault (codes "end" ∷ []) ∷ []))
+judges ws = head_judges (inputs_said ws)
+    ++ (pairs_judges ws ++ (cells_judges ws (6 + length (pairs_judges ws)) ++ fixed_fault (codes "end" ∷ []) ∷ []))
 
 -- a fault with the number of its line, if there is one
 abbrev pub numbered : ℕ → Option LineFault → List (ℕ × LineFault)
@@ -158,7 +164,8 @@ with_feeds lines = flat_map (λ line. line ++ 10 ∷ []) lines
 
 -- what follows so many lines of a text
 unfoldable pub trailing : ℕ → List ℕ → List (ℕ × LineFault)
-trailing count text = cond (nat_lt (length (with_feeds (take count (whole_lines text)))) (length text)) ((count + 1, TrailingText) ∷ []) []
+trailing count text = cond (nat_lt (length (with_feeds (take count (whole_lines text)))) (length text))
+    ((count + 1, TrailingText) ∷ []) []
 
 -- all faulty lines, and then what follows the last one
 unfoldable pub faults : List ℕ → List (ℕ × LineFault)

@@ -35,7 +35,8 @@ abbrev pub TakesHead : ℕ → List ℕ → ℕ → List ℕ → Result Head Cer
 TakesHead number text after rest (Ok head) = IsHead (said text) head
     × (lines : List (List (List ℕ))) × (said text ≡ lines ++ said rest) × (length lines ≡ 6)
     × ((js : List Judge) → outcome number (head_judges (inputs_said (said text)) ++ js) text ≡ outcome after js rest)
-TakesHead number text after rest (Err fault) = (js : List Judge) → Fails (outcome number (head_judges (inputs_said (said text)) ++ js) text) fault
+TakesHead number text after rest (Err fault) = (js : List Judge) →
+    Fails (outcome number (head_judges (inputs_said (said text)) ++ js) text) fault
 
 -- what is asked of the lines after the first six
 abbrev pub body_judges : List (List (List ℕ)) → List Judge
@@ -43,11 +44,15 @@ body_judges ws = pairs_judges ws ++ (cells_judges ws (cells_place ws) ++ fixed_f
 
 -- the lines of listed sets and the last one are taken, after some lines that say a number of inputs, or the first fault is told
 abbrev pub TakesSets : ℕ → ℕ → List ℕ → Result (Vec ListedCell Global) CertFault → Type 0
-TakesSets n number text (Ok cells) = (pre : List (List (List ℕ))) → length pre ≡ cells_place (pre ++ said text) → inputs_said (pre ++ said text) ≡ n →
-    (outcome number (cells_judges (pre ++ said text) (cells_place (pre ++ said text)) ++ fixed_fault (codes "end" ∷ []) ∷ []) text ≡ [])
+TakesSets n number text (Ok cells) = (pre : List (List (List ℕ))) → length pre ≡ cells_place (pre ++ said text) →
+    inputs_said (pre ++ said text) ≡ n →
+    (outcome number (cells_judges (pre ++ said text) (cells_place (pre ++ said text))
+        ++ fixed_fault (codes "end" ∷ []) ∷ []) text ≡ [])
     × (map listed cells.items ≡ (cert_of (pre ++ said text)).cells)
-TakesSets n number text (Err fault) = (pre : List (List (List ℕ))) → length pre ≡ cells_place (pre ++ said text) → inputs_said (pre ++ said text) ≡ n →
-    Fails (outcome number (cells_judges (pre ++ said text) (cells_place (pre ++ said text)) ++ fixed_fault (codes "end" ∷ []) ∷ []) text) fault
+TakesSets n number text (Err fault) = (pre : List (List (List ℕ))) → length pre ≡ cells_place (pre ++ said text) →
+    inputs_said (pre ++ said text) ≡ n →
+    Fails (outcome number (cells_judges (pre ++ said text) (cells_place (pre ++ said text))
+        ++ fixed_fault (codes "end" ∷ []) ∷ []) text) fault
 
 -- the pairs that may be there, and the format: format 1 has none
 abbrev pub pairs_in : Option (Vec Pair Global) → List Pair
@@ -57,16 +62,20 @@ pairs_in (Some pairs) = pairs.items
 -- what stands after six lines that say a format and a number of inputs is taken to its end, or the first fault is told
 abbrev pub TakesBody : ℕ → ℕ → ℕ → List ℕ → Result (Option (Vec Pair Global) × Vec ListedCell Global) CertFault → Type 0
 TakesBody format n number text (Ok parts) =
-    (pre : List (List (List ℕ))) → length pre ≡ 6 → number_said (pre ++ said text) 0 ≡ format → inputs_said (pre ++ said text) ≡ n →
+    (pre : List (List (List ℕ))) → length pre ≡ 6 → number_said (pre ++ said text) 0 ≡ format →
+    inputs_said (pre ++ said text) ≡ n →
     (outcome number (body_judges (pre ++ said text)) text ≡ []) × (format_of parts.0 ≡ format)
-    × (pairs_in parts.0 ≡ (cert_of (pre ++ said text)).pairs) × (map listed parts.1.items ≡ (cert_of (pre ++ said text)).cells)
+    × (pairs_in parts.0 ≡ (cert_of (pre ++ said text)).pairs)
+    × (map listed parts.1.items ≡ (cert_of (pre ++ said text)).cells)
 TakesBody format n number text (Err fault) =
-    (pre : List (List (List ℕ))) → length pre ≡ 6 → number_said (pre ++ said text) 0 ≡ format → inputs_said (pre ++ said text) ≡ n →
+    (pre : List (List (List ℕ))) → length pre ≡ 6 → number_said (pre ++ said text) 0 ≡ format →
+    inputs_said (pre ++ said text) ≡ n →
     Fails (outcome number (body_judges (pre ++ said text)) text) fault
 
 -- the parts of a certificate, as they are read
 abbrev pub parts_of : Head → Option (Vec Pair Global) → List ListedCell → Certificate
-parts_of head pairs cells = value_of (format_of pairs) head.inputs head.outputs head.order.items head.levels.items head.total (pairs_in pairs) cells
+parts_of head pairs cells = value_of
+    (format_of pairs) head.inputs head.outputs head.order.items head.levels.items head.total (pairs_in pairs) cells
 
 -- the longest text
 abbrev pub most_bytes : ℕ

@@ -27,7 +27,8 @@ Says judge line P (Err fault) = judge (words line) ≡ Some fault
 
 -- what follows so many lines of a text, the first of which has a number
 abbrev pub trailing_from : ℕ → ℕ → List ℕ → List (ℕ × LineFault)
-trailing_from number count text = cond (nat_lt (length (with_feeds (take count (whole_lines text)))) (length text)) ((number + count, TrailingText) ∷ []) []
+trailing_from number count text = cond (nat_lt (length (with_feeds (take count (whole_lines text)))) (length text))
+    ((number + count, TrailingText) ∷ []) []
 
 -- the faults of a text, the first line of which has a number, by what its lines are asked
 unfoldable pub outcome : ℕ → List Judge → List ℕ → List (ℕ × LineFault)
@@ -40,19 +41,23 @@ Fails faults found.TooLong = ⊥
 Fails faults found.OutOfMemory = Unit {0}
 
 -- the first line of a text is taken: it passes, and P holds of its words and the value; or the text's first fault is told
-abbrev pub Asks : {V : Type 0} → Judge → ℕ → List ℕ → ℕ → List ℕ → (List (List ℕ) → V → Type 0) → Result V CertFault → Type 0
+abbrev pub Asks : {V : Type 0} → Judge → ℕ → List ℕ → ℕ → List ℕ → (List (List ℕ) → V → Type 0) → Result V CertFault →
+    Type 0
 Asks judge number text after rest P (Ok value) =
     (ws : List (List ℕ)) × (said text ≡ ws ∷ said rest) × (judge ws ≡ None)
     × ((js : List Judge) → outcome number (judge ∷ js) text ≡ outcome after js rest) × P ws value
 Asks judge number text after rest P (Err fault) = (js : List Judge) → Fails (outcome number (judge ∷ js) text) fault
 
 -- a section of a text is taken, which stands after some lines: its lines pass, and its entries are told; or the text's first fault is
-abbrev pub TakesSection : {V E : Type 0} → List ℕ → ℕ → (List ℕ → List ℕ → Bool) → (List ℕ → List ℕ → ℕ) → (List (List ℕ) → E) →
+abbrev pub TakesSection : {V E : Type 0} → List ℕ → ℕ → (List ℕ → List ℕ → Bool) → (List ℕ → List ℕ → ℕ) →
+    (List (List ℕ) → E) →
     (V → List E) → ℕ → List ℕ → ℕ → List ℕ → Result V CertFault → Type 0
 TakesSection name most is_entry key read items number text after rest (Ok value) = (pre : List (List (List ℕ))) →
-    ((js : List Judge) → outcome number (section_judges name most is_entry key (pre ++ said text) (length pre) ++ js) text ≡ outcome after js rest)
+    ((js : List Judge) → outcome number
+        (section_judges name most is_entry key (pre ++ said text) (length pre) ++ js) text ≡ outcome after js rest)
     × (lines : List (List (List ℕ))) × (said text ≡ lines ++ said rest)
     × (length lines ≡ length (section_judges name most is_entry key (pre ++ said text) (length pre)))
     × (items value ≡ section_said read (pre ++ said text) (length pre))
-TakesSection name most is_entry key read items number text after rest (Err fault) = (pre : List (List (List ℕ))) (js : List Judge) →
+TakesSection name most is_entry key read items number text after rest (Err fault) = (pre : List (List (List ℕ)))
+    (js : List Judge) →
     Fails (outcome number (section_judges name most is_entry key (pre ++ said text) (length pre) ++ js) text) fault

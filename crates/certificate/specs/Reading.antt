@@ -25,7 +25,8 @@ abbrev pub TakesLine : {V : Type 0} → Judge → Lines → Lines → (List (Lis
 TakesLine judge old new P result = Asks judge old.number old.rest.now new.number new.rest.now P result
 
 -- the lines of a section are taken: they pass, and its entries are told; or the text's first fault is
-abbrev pub TakesEntries : {V E : Type 0} → List ℕ → ℕ → (List ℕ → List ℕ → Bool) → (List ℕ → List ℕ → ℕ) → (List (List ℕ) → E) →
+abbrev pub TakesEntries : {V E : Type 0} → List ℕ → ℕ → (List ℕ → List ℕ → Bool) → (List ℕ → List ℕ → ℕ) →
+    (List (List ℕ) → E) →
     (V → List E) → Lines → Lines → Result V CertFault → Type 0
 TakesEntries name most is_entry key read items old new result =
     TakesSection name most is_entry key read items old.number old.rest.now new.number new.rest.now result

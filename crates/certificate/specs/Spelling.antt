@@ -51,7 +51,9 @@ head_lines cert = field (codes "bddorder-certificate") (cert.format ∷ [])
 
 -- the words of each line
 unfoldable pub word_lines : Certificate → List (List (List ℕ))
-word_lines cert = head_lines cert ++ (pair_lines cert.format cert.pairs ++ (section (codes "cells") (map cell_words cert.cells) ++ (codes "end" ∷ []) ∷ []))
+word_lines cert = head_lines cert
+    ++ (pair_lines cert.format cert.pairs
+    ++ (section (codes "cells") (map cell_words cert.cells) ++ (codes "end" ∷ []) ∷ []))
 
 -- words with one space between each two, and a line feed
 unfoldable pub text_line : List (List ℕ) → List ℕ

@@ -13,7 +13,8 @@ pub(crate) const MOST_NODES: u32 = 999_999;
 /// The largest number of pairs: each two of 16 variables.
 pub(crate) const MOST_PAIRS: usize = 240;
 
-/// How many sets of n variables there are but that of all of them; their masks are below this number.
+/// How many sets of n variables there are but that of all of them; their masks are below this
+/// number.
 pub(crate) fn sets_below_all(n: u8) -> u32
     requires { n ≤ 16 }
     ensures { result ≡ 2 ^ n - 1 }
@@ -55,7 +56,8 @@ fn pairs_rise(n: u8, pairs: &[(VarIx, VarIx)]) -> bool
     true
 }
 
-/// Whether listed sets are of some variables of n but not of all, their costs in bounds, and their masks rise.
+/// Whether listed sets are of some variables of n but not of all, their costs in bounds, and their
+/// masks rise.
 fn cells_rise(n: u8, cells: &[ListedCell]) -> bool
     requires { n ≤ 16 }
     ensures { result ≡ fit (is_cell_of n) mask_in None cells.now }

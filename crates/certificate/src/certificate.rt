@@ -9,8 +9,9 @@ use crate::bounds::have_spelling;
 use order_model::{ListedCell, VarIx};
 use std::marker::Model;
 
-/// A certificate: an order with its level counts and their total, and the least costs of sets of variables by which a checker
-/// sees that no order that keeps the pairs has fewer nodes. It has a spelling.
+/// A certificate: an order with its level counts and their total, and the least costs of sets of
+/// variables by which a checker sees that no order that keeps the pairs has fewer nodes. It has a
+/// spelling.
 #[derive(Debug, Drop)]
 pub struct Certificate {
     inputs: u8,
@@ -32,9 +33,12 @@ impl Model for Certificate {
 
     ghost Value = { Contents };
 
-    ghost view = { λ c. value_of (format_of c.pairs) c.inputs c.outputs c.order.items c.levels.items c.total (unwrap_or (option_map (λ v. v.items) c.pairs) []) c.cells.items };
+    ghost view = { λ c. value_of (format_of c.pairs) c.inputs c.outputs c.order.items c.levels.items
+        c.total (unwrap_or (option_map (λ v. v.items) c.pairs) []) c.cells.items };
 
-    ghost invariant = { λ c. HasSpelling (value_of (format_of c.pairs) c.inputs c.outputs c.order.items c.levels.items c.total (unwrap_or (option_map (λ v. v.items) c.pairs) []) c.cells.items) };
+    ghost invariant = { λ c. HasSpelling
+        (value_of (format_of c.pairs) c.inputs c.outputs c.order.items c.levels.items c.total
+        (unwrap_or (option_map (λ v. v.items) c.pairs) []) c.cells.items) };
 }
 
 impl Certificate {
@@ -67,8 +71,8 @@ impl Certificate {
         })
     }
 
-    /// A certificate in format 2, with the pairs that an order has to keep, by rising first and then second variable. `None` if
-    /// the format has no spelling for it.
+    /// A certificate in format 2, with the pairs that an order has to keep, by rising first and
+    /// then second variable. `None` if the format has no spelling for it.
     pub fn new2(
         inputs: u8,
         outputs: u8,
@@ -145,7 +149,8 @@ impl Certificate {
         self.total
     }
 
-    /// The pairs (a, b) of variables, of which a has to stand above b, rising; none in format 1. The certificate has a spelling, which bounds all its numbers.
+    /// The pairs (a, b) of variables, of which a has to stand above b, rising; none in format 1.
+    /// The certificate has a spelling, which bounds all its numbers.
     pub fn pairs(&self) -> &[(VarIx, VarIx)]
         ensures pairs { result.now ≡ self.now.pairs }
         ensures spelled { HasSpelling self.now }
@@ -156,7 +161,8 @@ impl Certificate {
         }
     }
 
-    /// The listed sets with their costs, by rising mask. The certificate has a spelling, which bounds all its numbers.
+    /// The listed sets with their costs, by rising mask. The certificate has a spelling, which
+    /// bounds all its numbers.
     pub fn cells(&self) -> &[ListedCell]
         ensures cells { map listed result.now ≡ self.now.cells }
         ensures spelled { HasSpelling self.now }

@@ -31,9 +31,11 @@ pub fn texts_have_one_reading()
         FirstFault text j f → (i ≡ j) × (e ≡ f) }
 {}
 
-/// The certificate of an order has a spelling: that of 1 to 16 functions of 1 to 16 variables, with sorted pairs of which there are at most 240.
+/// The certificate of an order has a spelling: that of 1 to 16 functions of 1 to 16 variables, with
+/// sorted pairs of which there are at most 240.
 pub fn orders_have_certificates()
     ensures { (n : ℕ) (F : List Function) (P : List Pair) (order : List ℕ) → 1 ≤ n → n ≤ 16 →
         1 ≤ length F → length F ≤ 16 → IsOrder n order →
-        AreBelow n P → length P ≤ 240 → sorted_pairs n P ≡ P → HasSpelling (certificate_of n F P order) }
+        AreBelow n P → length P ≤ 240 → sorted_pairs n P ≡ P →
+        HasSpelling (certificate_of n F P order) }
 {}

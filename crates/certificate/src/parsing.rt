@@ -122,8 +122,8 @@ fn certificate_of(
 }
 
 impl Certificate {
-    /// The certificate whose spelling a text of at most 1,048,576 bytes is, in either format, or why there is none. Time and memory are
-    /// linear in the text.
+    /// The certificate whose spelling a text of at most 1,048,576 bytes is, in either format, or
+    /// why there is none. Time and memory are linear in the text.
     pub fn parse(alloc: Global, text: &[u8]) -> Result<Certificate, CertFault>
         ensures spelled { IfOk result (λ cert. text.now ≡ spelling cert) }
         ensures short { IfOk result (λ _. length text.now ≤ most_bytes) }

@@ -10,7 +10,8 @@ use order_model::{ListedCell, VarIx};
 use std::alloc::{AllocError, Global};
 use std::fmt::Write;
 
-/// The longest text but for pairs and listed sets: at most 37 numbers of at most 6 digits and the fixed words.
+/// The longest text but for pairs and listed sets: at most 37 numbers of at most 6 digits and the
+/// fixed words.
 const LONGEST_HEAD: usize = 512;
 
 /// The longest line of a pair, and of a listed set.
@@ -131,8 +132,8 @@ fn push_cell_lines(text: &mut String, cert: &Certificate) -> Result<(), AllocErr
 }
 
 impl Certificate {
-    /// The certificate's text, whose storage is reserved before its first byte is made: at most 12 bytes a listed set and 6 a pair
-    /// beside 512.
+    /// The certificate's text, whose storage is reserved before its first byte is made: at most 12
+    /// bytes a listed set and 6 a pair beside 512.
     pub fn text(&self, alloc: Global) -> Result<String, AllocError>
         ensures { IfOk result (λ text. string_bytes text ≡ spelling self.now) }
     {

@@ -83,7 +83,8 @@ fn hex_digit(b: u8) -> Option<Mask>
     }
 }
 
-/// The mask of a word of four hexadecimal digits, if it is one of some variables of n but not of all.
+/// The mask of a word of four hexadecimal digits, if it is one of some variables of n but not of
+/// all.
 pub(crate) fn mask(word: &[u8], n: u8) -> Option<Mask>
     requires { n ≤ 16 }
     ensures some { IfSome result (λ mask. (is_mask n word.now ≡ true) × (mask_of word.now ≡ mask)) }

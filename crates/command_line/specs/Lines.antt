@@ -17,7 +17,8 @@ abbrev pub option : Text → Rule
 option name = record (new_rule name) { long = Some name; value_names = 1 }
 
 abbrev pub workers_rule : Rule
-workers_rule = record (option (codes "workers")) { parser = Some (parser.Signed (pos 1) (pos 64)); defaults = codes "4" ∷ [] }
+workers_rule = record (option (codes "workers"))
+    { parser = Some (parser.Signed (pos 1) (pos 64)); defaults = codes "4" ∷ [] }
 
 abbrev pub count_rule : Rule
 count_rule = record (new_rule (codes "count")) { long = Some (codes "count"); action = Some SetTrue }
@@ -31,7 +32,8 @@ abbrev pub named : Text → App
 named name = record (new_app name) { top = record (new_app name).top { no_binary_name = true } }
 
 abbrev pub with_options : App → App
-with_options app = with_rule (with_rule (with_rule (with_rule app workers_rule) (option (codes "cert"))) count_rule) (option (codes "above"))
+with_options app = with_rule (with_rule (with_rule (with_rule app workers_rule) (option (codes "cert"))) count_rule)
+    (option (codes "above"))
 
 -- the command line of minorder
 abbrev pub minorder : App
@@ -55,11 +57,13 @@ read_of app words id = one_of id (matches_of app words)
 
 -- a flag is set if its value is `true`
 abbrev pub IsFlag : Option Text → Bool → Type 0
-IsFlag value flag = (value ≡ None → flag ≡ false) × (value ≡ Some (codes "true") → flag ≡ true) × (value ≡ Some (codes "false") → flag ≡ false)
+IsFlag value flag = (value ≡ None → flag ≡ false) × (value ≡ Some (codes "true") → flag ≡ true)
+    × (value ≡ Some (codes "false") → flag ≡ false)
 
 -- the decimal number that a value spells; a plus may stand first
 abbrev pub IsNumber : Option Text → ℕ → Type 0
-IsNumber value n = (text : Text) × (value ≡ Some text) × IsNumeral 10 (without_leading_plus text) × (digits_value 10 (without_leading_plus text) ≡ n)
+IsNumber value n = (text : Text) × (value ≡ Some text) × IsNumeral 10 (without_leading_plus text)
+    × (digits_value 10 (without_leading_plus text) ≡ n)
 
 -- no file is given, or no number from 1 to 64
 abbrev pub LacksValues : Option Text → Option Text → Type 0

@@ -18,7 +18,8 @@ pub struct RunPlan<'a> {
     pub workers: Workers,
     /// Whether only the level counts under the file order are wanted.
     pub count: bool,
-    /// The pairs `A,B:C,D` that the order has to keep, as they were written: variable A above variable B. A count makes no use of them.
+    /// The pairs `A,B:C,D` that the order has to keep, as they were written: variable A above
+    /// variable B. A count makes no use of them.
     pub above: Option<&'a str>,
 }
 
@@ -143,7 +144,8 @@ fn line_of<'a>(matches: &ArgMatches<'a>) -> Option<Line<'a>>
 impl<'a> Line<'a> {
     /// What the words after the program's name ask for, by clap's rules.
     ///
-    /// Options stand before or after the file, each at most once. An option's value may stand in the same word, as in `--workers=2`.
+    /// Options stand before or after the file, each at most once. An option's value may stand in
+    /// the same word, as in `--workers=2`.
     pub fn of_words(alloc: Global, words: &'a [&'a str]) -> Result<Line<'a>, Usage>
         ensures file { IfOk result
             (λ line. value_of minorder (texts words.now) (codes "FILE") ≡ Some line.file.now) }

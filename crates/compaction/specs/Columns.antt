@@ -22,7 +22,8 @@ pub record KeepsRuns (values : List Bool) (outer kept : List ℕ) (count : ℕ) 
   pub within : (i : ℕ) → i < length outer → get_or outer i 0 < count
   pub used : (k : ℕ) → k < count → (i : ℕ) × ((i < length outer) × (get_or outer i 0 ≡ k))
   pub few : count ≤ length outer
-  pub told : (i b : ℕ) → i < length outer → b < 256 → packed_bit kept (get_or outer i 0 * 256 + b) ≡ get_or values (i * 256 + b) false
+  pub told : (i b : ℕ) → i < length outer → b < 256 →
+      packed_bit kept (get_or outer i 0 * 256 + b) ≡ get_or values (i * 256 + b) false
 
 -- the numbers of the values in a word's lowest bits
 unfoldable pub low_numbers : Bool → ℕ → ℕ → List ℕ

@@ -13,7 +13,8 @@ use Rattle.order_model.specs.Widths.{width}
 
 -- the width of x over the set without it, if it is wanted
 unfoldable pub width_wanted : TruthTables → ℕ → ℕ → ℕ → ℕ
-width_wanted p mask wanted x = cond (bit_at wanted x == 1) (width p.inputs (functions p) (without x (members p.inputs mask)) x) 0
+width_wanted p mask wanted x = cond (bit_at wanted x == 1)
+    (width p.inputs (functions p) (without x (members p.inputs mask)) x) 0
 
 -- the widths of a set
 abbrev pub IsRow : TruthTables → ℕ → ℕ → List ℕ → Type 0
@@ -35,11 +36,13 @@ pub record WidthsOf : Type 0 where
 
 -- the variables that are wanted of each set are its members
 abbrev pub AreMembers : TruthTables → List ℕ → List ℕ → Type 0
-AreMembers p masks needed = (i : ℕ) → i < length masks → (x : ℕ) → bit_at (slice_index needed i) x ≡ 1 → IsTrue (has (members p.inputs (slice_index masks i)) x)
+AreMembers p masks needed = (i : ℕ) → i < length masks → (x : ℕ) → bit_at (slice_index needed i) x ≡ 1 →
+    IsTrue (has (members p.inputs (slice_index masks i)) x)
 
 -- the rows of the sets of which nothing is wanted hold zeros
 abbrev pub AreBlank : TruthTables → List ℕ → List ℕ → List (List ℕ) → Type 0
-AreBlank p masks needed rows = (i : ℕ) → i < length masks → slice_index needed i ≡ 0 → IsRow p (slice_index masks i) (slice_index needed i) (get_or rows i [])
+AreBlank p masks needed rows = (i : ℕ) → i < length masks → slice_index needed i ≡ 0 →
+    IsRow p (slice_index masks i) (slice_index needed i) (get_or rows i [])
 
 -- the rows of the sets whose variables below y are those of `set` hold their widths, and the others are as they were
 abbrev pub AreFilled : TruthTables → List ℕ → List ℕ → ℕ → ℕ → List (List ℕ) → List (List ℕ) → Type 0
@@ -49,9 +52,11 @@ AreFilled p masks needed set y old new = (i : ℕ) → i < length masks →
 
 -- nothing is wanted of the sets whose variables below y are those of `set`
 abbrev pub AreUnwanted : List ℕ → List ℕ → ℕ → ℕ → Type 0
-AreUnwanted masks needed set y = (i : ℕ) → i < length needed → slice_index masks i % 2 ^ y ≡ set → slice_index needed i ≡ 0
+AreUnwanted masks needed set y = (i : ℕ) → i < length needed → slice_index masks i % 2 ^ y ≡ set →
+    slice_index needed i ≡ 0
 
 -- the row of one set holds its widths, and the others are as they were
 abbrev pub IsFilled : TruthTables → List ℕ → List ℕ → ℕ → List (List ℕ) → List (List ℕ) → Type 0
 IsFilled p masks needed set old new = (i : ℕ) → i < length masks →
-    ((slice_index masks i ≡ set) → IsRow p set (slice_index needed i) (get_or new i [])) × ((slice_index masks i ≢ set) → get_or new i [] ≡ get_or old i [])
+    ((slice_index masks i ≡ set) → IsRow p set (slice_index needed i) (get_or new i []))
+    × ((slice_index masks i ≢ set) → get_or new i [] ≡ get_or old i [])

@@ -72,10 +72,12 @@ pub record IsStripTable (outer : List ℕ) (rank : ℕ) (numbers : List ℕ) (bi
   pub below : AllBelow numbers (length masks)
 
 -- strips with that variable x too: all their entries tell the pairs of the entries apart, and the masks are those of the pairs
-pub record GrowsStrips (outer : List ℕ) (rank : ℕ) (numbers : List ℕ) (bits : ℕ) (masks : List ℕ) (x : ℕ) (grown told joined : List ℕ)
+pub record GrowsStrips (outer : List ℕ) (rank : ℕ) (numbers : List ℕ) (bits : ℕ) (masks : List ℕ) (x : ℕ)
+    (grown told joined : List ℕ)
     (all_used : Bool) : Type 0 where
   pub strips : AreStrips grown told (2 ^ bits)
-  pub tells : TellsPairs masks x (pairs (unrolled outer numbers (2 ^ bits)) (2 ^ bits * 2 ^ rank)) (unrolled grown told (2 ^ bits)) joined
+  pub tells : TellsPairs masks x (pairs (unrolled outer numbers (2 ^ bits)) (2 ^ bits * 2 ^ rank))
+      (unrolled grown told (2 ^ bits)) joined
   pub below : AllBelow told (length joined)
   pub few : length told ≤ 2 ^ 20
   pub used : IsTrue all_used → AreUsed told joined
@@ -91,7 +93,8 @@ pub record HoldsKeys (t : ClassesOf) (keys masks : List ℕ) : Type 0 where
   pub few_masks : length masks ≤ 2 ^ 20
   pub below : AllBelow keys (length masks)
   pub classes : class_numbers t.problem.inputs (functions_of t) (set_of t) ≡ ranks nat_eq keys
-  pub told : map (λ k. get_or masks k 0) keys ≡ map (dependence t.problem.inputs) (reach (functions_of t) (reverse (outside t.problem.inputs (set_of t))))
+  pub told : map (λ k. get_or masks k 0) keys
+      ≡ map (dependence t.problem.inputs) (reach (functions_of t) (reverse (outside t.problem.inputs (set_of t))))
 
 -- a strip has an entry for each assignment of the variables below `low` outside the set
 pub record HoldsStrips (t : ClassesOf) (low : ℕ) (outer numbers masks : List ℕ) : Type 0 where
@@ -109,7 +112,8 @@ pub record AreDistinct (t : ClassesOf) (count : ℕ) : Type 0 where
 
 -- if all are distinct nothing else is kept; else it may be known that all masks are used
 unfoldable pub HoldsTable : ClassesOf → ℕ → Option ℕ → Bool → List ℕ → List ℕ → List ℕ → Type 0
-HoldsTable t low None all_used outer numbers masks = HoldsStrips t low outer numbers masks × (IsTrue all_used → AreUsed numbers masks)
+HoldsTable t low None all_used outer numbers masks = HoldsStrips t low outer numbers masks
+    × (IsTrue all_used → AreUsed numbers masks)
 HoldsTable t low (Some count) all_used outer numbers masks = AreDistinct t count
 
 -- the strips' entries stand in rows, which `bytes` name

@@ -8,8 +8,8 @@ use crate::names::{NamePairs, number_names};
 use pair_numbering::tell_pairs;
 use std::alloc::{AllocError, Global};
 
-/// Strips, the names of the runs, and the mask of each number. If `all_used` is true each mask is that of a number that
-/// occurs.
+/// Strips, the names of the runs, and the mask of each number. If `all_used` is true each mask is
+/// that of a number that occurs.
 #[derive(Drop)]
 pub struct Grown {
     pub outer: Vec<u32>,
@@ -79,8 +79,8 @@ fn first_numbers(alloc: Global, count: usize) -> Result<Vec<u32>, AllocError>
     Ok(numbers)
 }
 
-/// Strips with one more variable, which stands above those inside a strip, if the strips are named in order: their entries
-/// are all entries.
+/// Strips with one more variable, which stands above those inside a strip, if the strips are named
+/// in order: their entries are all entries.
 fn add_in_order(
     alloc: Global,
     outer: &[u32],
@@ -94,7 +94,8 @@ fn add_in_order(
     requires variable { x < 16 }
     requires own { AreOwn outer.now }
     ensures { IfOk result (λ g.
-        GrowsStrips outer.now rank numbers.now bits masks.now x g.outer.items g.numbers.items g.masks.items g.all_used) }
+        GrowsStrips outer.now rank numbers.now bits masks.now x g.outer.items g.numbers.items
+        g.masks.items g.all_used) }
 {
     let told = tell_pairs(alloc, numbers, bits + rank, x, masks)?;
     let outer = first_numbers(alloc, outer.len() / 2)?;
@@ -106,8 +107,8 @@ fn add_in_order(
     })
 }
 
-/// Strips with one more variable, which stands above those inside a strip: pairs of strips become strips. What is known of the
-/// pairs of names isn't numbered again.
+/// Strips with one more variable, which stands above those inside a strip: pairs of strips become
+/// strips. What is known of the pairs of names isn't numbered again.
 fn add_by_pairs(
     alloc: Global,
     outer: &[u32],
@@ -121,7 +122,8 @@ fn add_by_pairs(
     requires table { IsStripTable outer.now rank numbers.now bits masks.now }
     requires variable { x < 16 }
     ensures { IfOk result (λ g.
-        GrowsStrips outer.now rank numbers.now bits masks.now x g.outer.items g.numbers.items g.masks.items g.all_used) }
+        GrowsStrips outer.now rank numbers.now bits masks.now x g.outer.items g.numbers.items
+        g.masks.items g.all_used) }
 {
     let runs = number_names(alloc, outer, rank, numbers.len() >> bits, known)?;
     let paired = pair_strips(alloc, &runs.pairs, numbers, bits)?;
@@ -148,7 +150,8 @@ pub fn add_above(
     requires table { IsStripTable outer.now rank numbers.now bits masks.now }
     requires variable { x < 16 }
     ensures { IfOk result (λ g.
-        GrowsStrips outer.now rank numbers.now bits masks.now x g.outer.items g.numbers.items g.masks.items g.all_used) }
+        GrowsStrips outer.now rank numbers.now bits masks.now x g.outer.items g.numbers.items
+        g.masks.items g.all_used) }
 {
     let grown = if count_up(outer) {
         add_in_order(alloc, outer, rank, numbers, bits, x, masks)?

@@ -9,8 +9,8 @@ use order_model::Problem;
 use std::alloc::{AllocError, Global};
 use std::marker::Model;
 
-/// What the walks over a problem's sets begin with: the keys of the empty set, and the pairs of names for the sets of high
-/// variables. It is made once for all blocks.
+/// What the walks over a problem's sets begin with: the keys of the empty set, and the pairs of
+/// names for the sets of high variables. It is made once for all blocks.
 #[derive(Drop)]
 pub struct Beginning<'a> {
     problem: &'a Problem,

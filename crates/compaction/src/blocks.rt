@@ -31,7 +31,8 @@ impl Model for BlockWidths {
 }
 
 impl BlockWidths {
-    /// The widths of the set at a place of the block: at each variable that was wanted its width over the set without it, else 0.
+    /// The widths of the set at a place of the block: at each variable that was wanted its width
+    /// over the set without it, else 0.
     pub fn row(&self, i: usize) -> [u32; 16]
         requires { i < length self.now.rows }
         ensures { slice_get self.now.rows i ≡ Some result }
@@ -110,8 +111,8 @@ fn fill_row(
     Ok(())
 }
 
-/// Fills the rows of the sets that agree with the table's in the variables below `y`, and adds those from `y` on. The
-/// answer is how many tables were compacted.
+/// Fills the rows of the sets that agree with the table's in the variables below `y`, and adds
+/// those from `y` on. The answer is how many tables were compacted.
 fn walk(
     alloc: Global,
     table: &Strips<'_>,
@@ -211,8 +212,8 @@ fn low_strips<'a>(
     add_members(alloc, strips, low, 3)
 }
 
-/// The rows of a block's sets. The table of the low byte is made once, and the others by a walk over the high variables that
-/// shares common beginnings. If nothing is wanted no table is made.
+/// The rows of a block's sets. The table of the low byte is made once, and the others by a walk
+/// over the high variables that shares common beginnings. If nothing is wanted no table is made.
 fn wanted_rows(
     alloc: Global,
     beginning: &Beginning<'_>,
@@ -252,8 +253,8 @@ fn wanted_rows(
     })
 }
 
-/// The widths that the cells of a block's sets need: of each set those of the variables in `needed`, all of which are its
-/// members. The tally rises by their number.
+/// The widths that the cells of a block's sets need: of each set those of the variables in
+/// `needed`, all of which are its members. The tally rises by their number.
 pub fn block_widths(
     alloc: Global,
     problem: &Problem,

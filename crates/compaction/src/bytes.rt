@@ -1,5 +1,5 @@
-//! Keys of sets of the lowest three variables: the values of a byte stand in a row, and only the rows of the 256 bytes are worked
-//! on before the strips are written out.
+//! Keys of sets of the lowest three variables: the values of a byte stand in a row, and only the
+//! rows of the 256 bytes are worked on before the strips are written out.
 
 ghost use Rattle.std.specs.Prelude.{◌≡◌, ◌*◌, ◌^◌, ◌<◌, ◌≤◌, length, IfOk, IsFalse};
 ghost use Rattle.order_model.specs.Orders.{has};
@@ -14,8 +14,8 @@ use pair_numbering::tell_pairs;
 use std::alloc::{AllocError, Global};
 use std::marker::Model;
 
-/// The keys of a set of the lowest three variables. A byte names a row, which has an entry for each assignment of those of the
-/// three outside the set.
+/// The keys of a set of the lowest three variables. A byte names a row, which has an entry for each
+/// assignment of those of the three outside the set.
 #[derive(Drop)]
 pub struct ByteKeys<'a> {
     problem: &'a Problem,
@@ -34,7 +34,8 @@ impl<'a> Model for ByteKeys<'a> {
 
     ghost view = { λ c. classes_of c.problem.now c.set };
 
-    ghost invariant = { λ c. HoldsBytes (classes_of c.problem.now c.set) 8 c.outer.items c.bytes.items c.rows.items c.masks.items };
+    ghost invariant = { λ c. HoldsBytes
+        (classes_of c.problem.now c.set) 8 c.outer.items c.bytes.items c.rows.items c.masks.items };
 }
 
 /// Writes the strips that are named, one after the other.

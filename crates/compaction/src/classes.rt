@@ -15,8 +15,9 @@ use pair_numbering::{Scratch, number_pairs_by_index, number_pairs_with_masks};
 use std::alloc::{AllocError, Global};
 use std::marker::Model;
 
-/// The classes of a set of variables: which subfunctions over it are equal. Each assignment of the other variables has an
-/// entry in each function's part of the table, assignments rising, and equal subfunctions have one number, by first occurrence.
+/// The classes of a set of variables: which subfunctions over it are equal. Each assignment of the
+/// other variables has an entry in each function's part of the table, assignments rising, and equal
+/// subfunctions have one number, by first occurrence.
 #[derive(Drop)]
 pub struct Classes<'a> {
     pub(crate) problem: &'a Problem,
@@ -32,7 +33,8 @@ impl<'a> Model for Classes<'a> {
 
     ghost view = { λ c. classes_of c.problem.now c.set };
 
-    ghost invariant = { λ c. HoldsClasses (classes_of c.problem.now c.set) c.numbers.items c.masks.items };
+    ghost invariant = { λ c. HoldsClasses
+        (classes_of c.problem.now c.set) c.numbers.items c.masks.items };
 }
 
 /// How many variables below `x` are not in the set.
@@ -125,8 +127,8 @@ impl<'a> Classes<'a> {
         x < self.problem.inputs() && (self.set >> x) & 1 == 0
     }
 
-    /// The class of each entry, by first occurrence: function by function, assignments of the variables outside the set
-    /// rising, the lowest variable in the lowest bit.
+    /// The class of each entry, by first occurrence: function by function, assignments of the
+    /// variables outside the set rising, the lowest variable in the lowest bit.
     pub fn numbers(&self) -> &[u32]
         ensures { result.now ≡ class_numbers self.now.problem.inputs (functions_of self.now)
             (set_of self.now) }

@@ -1,4 +1,5 @@
-//! The numbers of a problem's values, in strips: runs of 256 points are four words of a function, and equal ones are kept once.
+//! The numbers of a problem's values, in strips: runs of 256 points are four words of a function,
+//! and equal ones are kept once.
 
 ghost use Rattle.std.specs.Prelude.{◌≡◌, ◌==◌, ℕ, ◌+◌, ◌*◌, ◌/◌, ◌^◌, ◌<◌, ◌≤◌, ◌++◌, Bool, List, false, length, get_or, slice_index, IfOk, IfSome, OnOk};
 ghost use Rattle.std.specs.Int.{bit_at};
@@ -15,16 +16,18 @@ use std::alloc::{AllocError, Global};
 /// How many chains there are.
 const SLOTS: usize = 4096;
 
-/// The numbers of a problem's values in strips. Equal runs of points may share a strip: `outer` names the strip of each run,
-/// function by function, and `numbers` has the strips that are kept, one after the other.
+/// The numbers of a problem's values in strips. Equal runs of points may share a strip: `outer`
+/// names the strip of each run, function by function, and `numbers` has the strips that are kept,
+/// one after the other.
 #[derive(Drop)]
 pub struct ValueStrips {
     pub outer: Vec<u32>,
     pub numbers: Vec<u32>,
 }
 
-/// Runs of 256 points. `outer` names the kept run that each is equal to, and `kept` has the words of these, four each. The kept
-/// runs of a slot are chained from its head on: there stands one more than a run's number, or 0.
+/// Runs of 256 points. `outer` names the kept run that each is equal to, and `kept` has the words
+/// of these, four each. The kept runs of a slot are chained from its head on: there stands one more
+/// than a run's number, or 0.
 #[derive(Drop)]
 struct Columns {
     outer: Vec<u32>,
@@ -91,8 +94,10 @@ fn push_run(columns: &mut Columns, run: &[u64]) -> Result<(), AllocError>
         ((values : List Bool) →
         KeepsRuns values columns.old.outer.items columns.old.kept.items
         (length columns.old.next.items) →
-        ((b : ℕ) → b < 256 → packed_bit run.now b ≡ get_or values (length columns.old.outer.items * 256 + b) false) →
-        KeepsRuns values columns.new.outer.items columns.new.kept.items (length columns.new.next.items)) }
+        ((b : ℕ) → b < 256 → packed_bit run.now b
+        ≡ get_or values (length columns.old.outer.items * 256 + b) false) →
+        KeepsRuns values columns.new.outer.items columns.new.kept.items
+        (length columns.new.next.items)) }
 {
     let slot = slot_of(run);
     let head = columns.heads[slot];
@@ -128,8 +133,10 @@ fn push_runs(columns: &mut Columns, words: &[u64]) -> Result<(), AllocError>
         ((values : List Bool) →
         KeepsRuns values columns.old.outer.items columns.old.kept.items
         (length columns.old.next.items) →
-        ((k : ℕ) → k < length words.now * 64 → packed_bit words.now k ≡ get_or values (length columns.old.outer.items * 256 + k) false) →
-        KeepsRuns values columns.new.outer.items columns.new.kept.items (length columns.new.next.items)) }
+        ((k : ℕ) → k < length words.now * 64 →
+        packed_bit words.now k ≡ get_or values (length columns.old.outer.items * 256 + k) false) →
+        KeepsRuns values columns.new.outer.items columns.new.kept.items
+        (length columns.new.next.items)) }
 {
     for run in 0..words.len() / 4 {
         push_run(columns, &words[run * 4..run * 4 + 4])?;
@@ -190,7 +197,8 @@ fn push_bytes(bytes: &mut Vec<u8>, word: u64) -> Result<(), AllocError>
     requires { AllBelow bytes.old.items 256 }
     ensures small { OnOk result (AllBelow bytes.new.items 256) }
     ensures numbers { OnOk result ((first : Bool) (rows : List ℕ) → AreByteRows first rows →
-        unrolled bytes.new.items rows 8 ≡ unrolled bytes.old.items rows 8 ++ low_numbers first word 64) }
+        unrolled bytes.new.items rows 8 ≡ unrolled bytes.old.items rows 8
+        ++ low_numbers first word 64) }
 {
     for place in 0..8u32 {
         bytes.push(((word >> (place * 8)) % 256) as u8)?;
@@ -226,8 +234,8 @@ pub fn whole_strips(alloc: Global, problem: &Problem, low: u8) -> Result<ValueSt
     Ok(ValueStrips { outer, numbers })
 }
 
-/// The strips of 256 points, whose numbers stand in rows of eight that bytes name: 0 for the first value met, and 1 for the
-/// other one.
+/// The strips of 256 points, whose numbers stand in rows of eight that bytes name: 0 for the first
+/// value met, and 1 for the other one.
 #[derive(Drop)]
 pub struct ByteStrips {
     pub outer: Vec<u32>,

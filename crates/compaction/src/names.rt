@@ -1,4 +1,5 @@
-//! Pairs of the names of strips, numbered beforehand: they depend on the high variables alone, and so serve all blocks.
+//! Pairs of the names of strips, numbered beforehand: they depend on the high variables alone, and
+//! so serve all blocks.
 
 ghost use Rattle.std.specs.Prelude.{◌≡◌, ℕ, ◌*◌, ◌^◌, ◌<◌, ◌≤◌, IfOk, IsTrue};
 ghost use Rattle.class_laws.specs.PairTables.{AllBelow, IsPairTable};
@@ -111,8 +112,8 @@ pub fn number_names(
     number_pairs(alloc, names, rank, count)
 }
 
-/// The pairs of names for each set of high variables, by the mask of the set: the names of the set without its largest member,
-/// paired by that.
+/// The pairs of names for each set of high variables, by the mask of the set: the names of the set
+/// without its largest member, paired by that.
 #[derive(Drop)]
 pub struct AllNamePairs {
     steps: Vec<Option<NamePairs>>,

@@ -1,5 +1,5 @@
-//! Strips: tables of keys in which entries that differ in the low variables only stand together, and equal runs of them are
-//! kept once.
+//! Strips: tables of keys in which entries that differ in the low variables only stand together,
+//! and equal runs of them are kept once.
 
 ghost use Rattle.std.specs.Prelude.{◌≡◌, ℕ, ◌<◌, ◌≤◌, length, slice_index, get_or, cond, ◌==◌, false, IfOk, IsFalse, IsTrue};
 ghost use Rattle.std.specs.Int.{bit_at};
@@ -17,10 +17,11 @@ use pair_numbering::tell_pairs;
 use std::alloc::{AllocError, Global};
 use std::marker::Model;
 
-/// The keys of a set in strips: equal subfunctions have one key, and each key that occurs has the mask of what its function
-/// depends on. A strip has an entry for each assignment of the low variables outside the set; `outer` names the strip of each
-/// assignment of the high ones, function by function. If `all_used` is true each mask is that of a key that occurs. If all
-/// subfunctions are distinct and depend on the whole set their count is kept alone.
+/// The keys of a set in strips: equal subfunctions have one key, and each key that occurs has the
+/// mask of what its function depends on. A strip has an entry for each assignment of the low
+/// variables outside the set; `outer` names the strip of each assignment of the high ones, function
+/// by function. If `all_used` is true each mask is that of a key that occurs. If all subfunctions
+/// are distinct and depend on the whole set their count is kept alone.
 #[derive(Drop)]
 pub struct Strips<'a> {
     problem: &'a Problem,
@@ -40,7 +41,9 @@ impl<'a> Model for Strips<'a> {
 
     ghost view = { λ c. classes_of c.problem.now c.set };
 
-    ghost invariant = { λ c. HoldsTable (classes_of c.problem.now c.set) (low_variables c.problem.now) c.distinct c.all_used c.outer.items c.numbers.items c.masks.items };
+    ghost invariant = { λ c. HoldsTable
+        (classes_of c.problem.now c.set) (low_variables c.problem.now) c.distinct c.all_used
+        c.outer.items c.numbers.items c.masks.items };
 }
 
 /// How many variables are low.
@@ -119,7 +122,8 @@ impl<'a> Strips<'a> {
     ghost use Rattle.compaction.specs.Strips.{AreDistinct, HoldsStrips, low_variables};
     ghost use Rattle.class_laws.specs.Table.{set_of, with_variable, classes_of};
 
-    /// A table of strips, or the count alone if all subfunctions are distinct and depend on the whole set.
+    /// A table of strips, or the count alone if all subfunctions are distinct and depend on the
+    /// whole set.
     pub fn of_parts(
         alloc: Global,
         problem: &'a Problem,
@@ -217,7 +221,8 @@ impl<'a> Strips<'a> {
         }
     }
 
-    /// The keys with one more high variable in the set. What is known of the pairs of names isn't numbered again.
+    /// The keys with one more high variable in the set. What is known of the pairs of names isn't
+    /// numbered again.
     pub fn add_high(
         &self,
         alloc: Global,

@@ -13,7 +13,8 @@ type Tables = (u8, &'static [u64]);
 
 const MULTIPLEXER: Tables = (3, &[0xca]);
 
-/// Parity, three products, no term, a variable and its complement, and-or, one variable of three, and the multiplexer.
+/// Parity, three products, no term, a variable and its complement, and-or, one variable of three,
+/// and the multiplexer.
 static PROBLEMS: [Tables; 7] = [
     (3, &[0x96]),
     (6, &[0xfefcfaf0eeccaa00]),
@@ -222,7 +223,8 @@ fn set_odd(
     Ok(())
 }
 
-/// Two numbers of five bits: the carry of their sum, a bit of their product, and whether a bit of one differs from one of the other.
+/// Two numbers of five bits: the carry of their sum, a bit of their product, and whether a bit of
+/// one differs from one of the other.
 fn five_bit_numbers(rt: &impl Abort, alloc: Global) -> Result<Problem, Fail> {
     let mut problem = Problem::new(alloc, 10, 3)?;
     for point in 0..1024u32 {
@@ -244,8 +246,8 @@ fn cubes(rt: &impl Abort, alloc: Global) -> Result<Problem, Fail> {
     Ok(problem)
 }
 
-/// Two runs of 256 points are equal to others, and of half the sets of the cubes all subfunctions are distinct. The sums
-/// were counted by another program, by the definition.
+/// Two runs of 256 points are equal to others, and of half the sets of the cubes all subfunctions
+/// are distinct. The sums were counted by another program, by the definition.
 #[test]
 fn widths_of_ten_variables(rt: HostRuntime) -> Result<(), Fail> {
     let alloc = rt.alloc();

@@ -21,10 +21,12 @@ pub trait CountedRead {
         requires { failures self.old < 2 ^ 32 }
         ensures bound { ReadsAtMost result buf.new }
         ensures bytes { ReadConsumes (remaining self.old) (remaining self.new) result buf.new }
-        ensures counted { failures self.new ≡ (if is_ok result then failures self.old else failures self.old + 1) };
+        ensures counted { failures self.new
+            ≡ (if is_ok result then failures self.old else failures self.old + 1) };
 }
 
-/// A writer with a count of its failed calls. One that takes no byte of a non-empty piece has failed.
+/// A writer with a count of its failed calls. One that takes no byte of a non-empty piece has
+/// failed.
 pub trait CountedWrite {
     // The bytes that the writer holds, if they are known.
     ghost contents: { Self → Option (List ℕ) } = { λ _. None };
@@ -36,7 +38,8 @@ pub trait CountedWrite {
         requires { failures self.old < 2 ^ 32 }
         ensures bound { WritesAtMost result buf.now }
         ensures bytes { WriteAppends (contents self.old) (contents self.new) result buf.now }
-        ensures counted { failures self.new ≡ (if has_failed result buf.now then failures self.old + 1 else failures self.old) };
+        ensures counted { failures self.new
+            ≡ (if has_failed result buf.now then failures self.old + 1 else failures self.old) };
 }
 
 /// Counts the failed calls of a reader or a writer.

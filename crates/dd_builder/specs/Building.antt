@@ -51,7 +51,8 @@ pub record IsForTables (b : Plan) (t : TruthTables) : Type 0 where
 
 -- the same as of a store, of some store of the order that was made for the truth tables
 abbrev pub RefusesUnder : List ℕ → TruthTables → BuildError → Type 0
-RefusesUnder order t (StoreFull s) = IsPlan s.store.plan × IsForTables s.store.plan t × (order_of s.store.plan ≡ order) × KnowsFull s
+RefusesUnder order t (StoreFull s) = IsPlan s.store.plan × IsForTables s.store.plan t × (order_of s.store.plan ≡ order)
+    × KnowsFull s
 RefusesUnder order t OutOfMemory = Unit {0}
 
 -- the parts are made of terms that stand for the cover's products

@@ -43,7 +43,8 @@ pub record IsCut (s : Knowledge) (level id low high : ℕ) : Type 0 where
   pub known : Knows s id
   pub low_below : IsKnownBelow s level low
   pub high_below : IsKnownBelow s level high
-  pub function : (p : Point) → function_in s id p ≡ branch (variable_at s.store.plan level) (function_in s low) (function_in s high) p
+  pub function : (p : Point) →
+      function_in s id p ≡ branch (variable_at s.store.plan level) (function_in s low) (function_in s high) p
 
 -- the id of an operation on two ids, which lies at a level or below it
 pub record IsCombined (s : Knowledge) (from : ℕ) (operation : Operation) (a b id : ℕ) : Type 0 where

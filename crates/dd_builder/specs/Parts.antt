@@ -66,7 +66,8 @@ HasRoots s = (j : ℕ) → j < outputs_of s.store.plan.problem.value → slice_i
 
 -- 1 if one of an output's parts by terms is, of `count` parts from a share on
 unfoldable pub shares_union : Plan → ℕ → ℕ → ℕ → Function
-shares_union b output first count p = list_any (λ share. piece_function b (output * 64 + share) p) (range_with_len first count)
+shares_union b output first count p = list_any (λ share. piece_function b (output * 64 + share) p)
+    (range_with_len first count)
 
 -- a job for each worker, in their order, each with a session of the store
 pub record AreJobsOf (store : StoreId) (workers : ℕ) (jobs : List Job) : Type 0 where
@@ -85,7 +86,8 @@ IsEndOf store workers k (Err s) = (s.store ≡ store) × KnowsFull s
 
 -- each worker's end, in their order
 abbrev pub AreEndsOf : StoreId → ℕ → List (Result Knowledge Knowledge) → Type 0
-AreEndsOf store workers ends = (k : ℕ) (end : Result Knowledge Knowledge) → slice_get ends k ≡ Some end → IsEndOf store workers k end
+AreEndsOf store workers ends = (k : ℕ) (end : Result Knowledge Knowledge) → slice_get ends k ≡ Some end →
+    IsEndOf store workers k end
 
 -- how all workers together end: with all parts, or one of them knowing that the store is full
 abbrev pub IsJoined : StoreId → Result Knowledge Knowledge → Type 0

@@ -44,7 +44,8 @@ fn finish(
     }
 }
 
-/// Builds all parts, by workers of their own threads: a session that knows them, or that of a worker that met a full store.
+/// Builds all parts, by workers of their own threads: a session that knows them, or that of a
+/// worker that met a full store.
 fn parts_by_workers<R: Threads + Sync, G: Gate>(
     rt: &R,
     alloc: Global,
@@ -102,9 +103,10 @@ fn build_in<R: Threads + Sync, G: Gate>(
     finish(alloc, store, session, source)
 }
 
-/// The reduced diagram of the store's functions, from their truth tables. Worker i builds the pieces that aren't outputs and whose number leaves
-/// i-1 when divided by the number of workers, and calls the gate before it publishes each; the outputs are then made by the calling thread. The
-/// store is spent. The time is that of a search in the store for each output and point.
+/// The reduced diagram of the store's functions, from their truth tables. Worker i builds the
+/// pieces that aren't outputs and whose number leaves i-1 when divided by the number of workers,
+/// and calls the gate before it publishes each; the outputs are then made by the calling thread.
+/// The store is spent. The time is that of a search in the store for each output and point.
 pub fn from_tables<R: Threads + Sync, G: Gate>(
     rt: &R,
     alloc: Global,
@@ -130,9 +132,11 @@ pub fn from_tables<R: Threads + Sync, G: Gate>(
     )
 }
 
-/// The reduced diagram of the store's functions, from the terms of a cover. Worker i builds the pieces that aren't outputs and whose number leaves
-/// i-1 when divided by the number of workers, and calls the gate before it publishes each; the outputs are then made by the calling thread. The
-/// store is spent. Each term is made once for each of its outputs and joined to the others by `apply`.
+/// The reduced diagram of the store's functions, from the terms of a cover. Worker i builds the
+/// pieces that aren't outputs and whose number leaves i-1 when divided by the number of workers,
+/// and calls the gate before it publishes each; the outputs are then made by the calling thread.
+/// The store is spent. Each term is made once for each of its outputs and joined to the others by
+/// `apply`.
 pub fn from_cover<R: Threads + Sync, G: Gate>(
     rt: &R,
     alloc: Global,
@@ -158,7 +162,8 @@ pub fn from_cover<R: Threads + Sync, G: Gate>(
     )
 }
 
-/// A store of an order for the functions of truth tables, with restrictions as its pieces, and its first session.
+/// A store of an order for the functions of truth tables, with restrictions as its pieces, and its
+/// first session.
 pub fn tables_store(
     alloc: Global,
     tables: &Tables,
@@ -177,7 +182,8 @@ pub fn tables_store(
     )
 }
 
-/// A store of an order for the functions of a cover, with pieces of its terms, and its first session.
+/// A store of an order for the functions of a cover, with pieces of its terms, and its first
+/// session.
 pub fn cover_store(
     alloc: Global,
     cover: &Cover,
@@ -195,7 +201,8 @@ pub fn cover_store(
     Store::new(alloc, order.try_clone(alloc)?, tables.problem(), pieces)
 }
 
-/// The reduced diagram of the functions of some truth tables under an order, built from the tables in a store of its own.
+/// The reduced diagram of the functions of some truth tables under an order, built from the tables
+/// in a store of its own.
 pub fn build_tables<R: Threads + Sync, G: Gate>(
     rt: &R,
     alloc: Global,
@@ -247,8 +254,8 @@ pub fn build_tables_alone(
     finish(alloc, store, session, source)
 }
 
-/// The reduced diagram of a cover's functions under an order, built from its terms in the store handed in or, if that is full, from its truth
-/// tables in a store of its own.
+/// The reduced diagram of a cover's functions under an order, built from its terms in the store
+/// handed in or, if that is full, from its truth tables in a store of its own.
 pub fn build_from<R: Threads + Sync, G: Gate>(
     rt: &R,
     alloc: Global,
@@ -278,14 +285,15 @@ pub fn build_from<R: Threads + Sync, G: Gate>(
     }
 }
 
-/// Whether a cover has so many terms that its truth tables are the shorter way to its diagram: more than one for 64 points. Each term takes nodes of
-/// the store that the diagram has no use for, and covers with somewhat more terms fill it.
+/// Whether a cover has so many terms that its truth tables are the shorter way to its diagram: more
+/// than one for 64 points. Each term takes nodes of the store that the diagram has no use for, and
+/// covers with somewhat more terms fill it.
 fn has_many_terms(cover: &Cover) -> bool {
     cover.terms().len() > (1usize << cover.inputs()) / 64
 }
 
-/// The reduced diagram of a cover's functions under an order: built from its truth tables if it has many terms, else from its terms and, if they
-/// fill a store, from its truth tables.
+/// The reduced diagram of a cover's functions under an order: built from its truth tables if it has
+/// many terms, else from its terms and, if they fill a store, from its truth tables.
 pub fn build<R: Threads + Sync, G: Gate>(
     rt: &R,
     alloc: Global,

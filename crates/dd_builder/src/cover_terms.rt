@@ -13,7 +13,8 @@ use crate::operations::apply;
 use order_model::Term;
 use unique_table::{NodeId, Operation, Session, Store, StoreFull};
 
-/// The id of a term's literal of a level's variable, if it has one, and of the function of an id below.
+/// The id of a term's literal of a level's variable, if it has one, and of the function of an id
+/// below.
 fn literal_and(
     store: &Store,
     session: &mut Session,
@@ -100,7 +101,8 @@ fn output_share(
     Ok(id)
 }
 
-/// The id of a piece of terms: an output by those terms whose number leaves the piece's remainder when divided by 64.
+/// The id of a piece of terms: an output by those terms whose number leaves the piece's remainder
+/// when divided by 64.
 pub(crate) fn terms_share(
     store: &Store,
     session: &mut Session,

@@ -111,7 +111,8 @@ fn children(store: &Store, session: &mut Session, id: NodeId, level: u8) -> (Nod
     }
 }
 
-/// Two ids as nodes of the higher one of their levels: that level, and the low and the high child of each.
+/// Two ids as nodes of the higher one of their levels: that level, and the low and the high child
+/// of each.
 #[derive(Clone, Copy)]
 struct Cut {
     level: u8,
@@ -173,8 +174,8 @@ fn apply_from(
     Ok(id)
 }
 
-/// The id of an operation on the functions of two ids (Bryant 1986, apply). It takes no memory. Each pair of nodes is worked on once for as long
-/// as the cache keeps its result.
+/// The id of an operation on the functions of two ids (Bryant 1986, apply). It takes no memory.
+/// Each pair of nodes is worked on once for as long as the cache keeps its result.
 pub fn apply(
     store: &Store,
     session: &mut Session,

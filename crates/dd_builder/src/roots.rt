@@ -29,7 +29,8 @@ fn part_id(store: &Store, session: &mut Session, piece: usize) -> NodeId
     }
 }
 
-/// The id of an output with the variables above a level fixed to the bits of a path, made of the parts, in which those on top are fixed.
+/// The id of an output with the variables above a level fixed to the bits of a path, made of the
+/// parts, in which those on top are fixed.
 fn of_restrictions(
     store: &Store,
     session: &mut Session,
@@ -55,7 +56,8 @@ fn of_restrictions(
     store.make(session, level, low, high)
 }
 
-/// The id of the union of some of an output's parts, from a share on, made of the unions of two halves.
+/// The id of the union of some of an output's parts, from a share on, made of the unions of two
+/// halves.
 fn of_shares(
     store: &Store,
     session: &mut Session,

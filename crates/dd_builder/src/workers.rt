@@ -15,8 +15,8 @@ pub(crate) struct Job {
     pub(crate) session: Session,
 }
 
-/// Builds and publishes the parts whose number leaves the worker's number less 1 when divided by the number of workers. An error has the
-/// session that met a full store.
+/// Builds and publishes the parts whose number leaves the worker's number less 1 when divided by
+/// the number of workers. An error has the session that met a full store.
 pub(crate) fn build_parts<G: Gate>(
     store: &Store,
     mut session: Session,

@@ -19,5 +19,6 @@ Lacks s OutOfMemory = Unit {0}
 
 -- of the words of a layer's cells: the mask of the first that is 0, or out of memory
 abbrev pub IsFirstGap : List ℕ → List ℕ → CloseError → Type 0
-IsFirstGap masks words (Missing mask) = (p : ℕ) × (slice_get masks p ≡ Some mask) × (slice_index words p ≡ 0) × ((q : ℕ) → q < p → slice_index words q ≢ 0)
+IsFirstGap masks words (Missing mask) = (p : ℕ) × (slice_get masks p ≡ Some mask) × (slice_index words p ≡ 0)
+    × ((q : ℕ) → q < p → slice_index words q ≢ 0)
 IsFirstGap masks words OutOfMemory = Unit {0}

@@ -119,7 +119,8 @@ impl Board {
         Ok(seats)
     }
 
-    /// The next block. A seat that was told that there is none is told so ever after, and takes no step.
+    /// The next block. A seat that was told that there is none is told so ever after, and takes no
+    /// step.
     pub fn claim(&self, seat: &mut BoardSeat) -> Option<Claim>
         requires { seat.old.board ≡ self.now }
         ensures board { seat.new.board ≡ self.now }

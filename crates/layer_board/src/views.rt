@@ -20,7 +20,11 @@ impl Model for Brief {
 
     ghost Value = { BriefOf };
 
-    ghost view = { λ b. record { setting = record { problem = b.problem.value; pairs = b.pairs.value; bound = b.bound }; layer = b.layer.value; workers = b.workers } };
+    ghost view = { λ b. record {
+      setting = record { problem = b.problem.value; pairs = b.pairs.value; bound = b.bound };
+      layer = b.layer.value;
+      workers = b.workers;
+    } };
 }
 
 /// What a seat knows. Only contracts see it, and no value of it is made.

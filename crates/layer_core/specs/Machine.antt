@@ -48,7 +48,8 @@ abbrev pub blank : Layout → Worker
 blank l = unmarked l.blocks (length l.masks)
 
 abbrev pub opening : Layout → ℕ → World
-opening l workers = record { layout = l; counter = 0; cells = replicate (length l.masks) None; workers = replicate workers (blank l) }
+opening l workers = record { layout = l; counter = 0; cells = replicate (length l.masks) None;
+    workers = replicate workers (blank l) }
 
 -- the place of a mask in the layer
 abbrev pub place_of : Layout → ℕ → Option ℕ
@@ -74,14 +75,16 @@ learns w p = record w { known = slice_set w.known p true }
 
 -- the state after a step of the worker i, which becomes w
 abbrev pub moved : World → ℕ → List (Option (ℕ × ℕ)) → ℕ → Worker → World
-moved s counter cells i w = record { layout = s.layout; counter = counter; cells = cells; workers = slice_set s.workers i w }
+moved s counter cells i w = record { layout = s.layout; counter = counter; cells = cells;
+    workers = slice_set s.workers i w }
 
 -- a claim: the next block, or no more
 abbrev pub claim : World → ℕ → found.Option Worker → Reply × World
 claim s i found.none = (NoMore, s)
 claim s i (found.some w) =
     if w.told then (NoMore, s)
-    else (if nat_lt s.counter s.layout.blocks then (Claimed s.counter, moved s (s.counter + 1) s.cells i (claims_block w s.counter)) else
+    else (if nat_lt s.counter s.layout.blocks
+        then (Claimed s.counter, moved s (s.counter + 1) s.cells i (claims_block w s.counter)) else
     (NoMore, moved s (s.counter + 1) s.cells i (ends w)))
 
 -- a post at the place p, whose cell is that of the last argument
@@ -92,7 +95,8 @@ fill s i p cell w (Some old) = (Double, s)
 abbrev pub post : World → ℕ → ℕ × ℕ → Option ℕ → found.Option Worker → Reply × World
 post s i cell place found.none = (Stranger, s)
 post s i cell None (found.some w) = (Stranger, s)
-post s i cell (Some p) (found.some w) = if claimed w (slice_index s.layout.block_of p) then fill s i p cell w (cell_at s p) else (Stranger, s)
+post s i cell (Some p) (found.some w) = if claimed w (slice_index s.layout.block_of p)
+    then fill s i p cell w (cell_at s p) else (Stranger, s)
 
 abbrev pub look : World → ℕ → ℕ → Worker → Option (ℕ × ℕ) → Reply × World
 look s i p w None = (Empty, s)

@@ -35,7 +35,8 @@ pub record Right (IsCell : ℕ → ℕ × ℕ → Type 0) (s : World) : Type 0 w
   pub laid : IsLayout s.layout
   -- each mask has a place for its cell, and each worker a mark a block and a mark a mask
   pub size : length s.cells ≡ length s.layout.masks
-  pub marks : (i : ℕ) (w : Worker) → get_elem? s.workers i ≡ some w → (length w.claims ≡ s.layout.blocks) × (length w.known ≡ length s.layout.masks)
+  pub marks : (i : ℕ) (w : Worker) → get_elem? s.workers i ≡ some w →
+      (length w.claims ≡ s.layout.blocks) × (length w.known ≡ length s.layout.masks)
   -- each filled cell is its mask's
   pub true_cells : (p : ℕ) → IfSome (cell_at s p) (IsCell (slice_index s.layout.masks p))
   -- each block below the counter is claimed by exactly one worker, and each other block by none

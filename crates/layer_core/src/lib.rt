@@ -1,4 +1,5 @@
-//! The machine of a layer: workers claim its blocks in turn, and post and read the cells of its masks.
+//! The machine of a layer: workers claim its blocks in turn, and post and read the cells of its
+//! masks.
 #![tactic(auto)]
 
 mod events;

@@ -22,8 +22,9 @@ pub struct Marks {
     pub(crate) told: bool,
 }
 
-/// The machine of a layer: workers claim its blocks in turn, and post and read the cells of its masks. It is for callers who run a
-/// layer on one thread, or hold a board against its definition; `minorder` runs boards.
+/// The machine of a layer: workers claim its blocks in turn, and post and read the cells of its
+/// masks. It is for callers who run a layer on one thread, or hold a board against its definition;
+/// `minorder` runs boards.
 #[derive(Drop)]
 pub struct Core {
     layer: Layer,

@@ -1,7 +1,8 @@
-//! Takes all widths of the sets of a problem by blocks, layer by layer, on one thread, and finds the fewest nodes from them.
+//! Takes all widths of the sets of a problem by blocks, layer by layer, on one thread, and finds
+//! the fewest nodes from them.
 //!
-//! Standard input has the numbers of variables and of functions, a byte each, and the truth tables after them, eight
-//! points a byte, the first point in the lowest bit.
+//! Standard input has the numbers of variables and of functions, a byte each, and the truth tables
+//! after them, eight points a byte, the first point in the lowest bit.
 #![tactic(auto)]
 
 use anyhow::Error;

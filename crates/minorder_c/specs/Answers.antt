@@ -48,7 +48,8 @@ abbrev pub AllStay : List ℕ → List ℕ → List ℕ → List ℕ → ℕ →
 AllStay order order' levels levels' total total' = (order' ≡ order) × (levels' ≡ levels) × (total' ≡ total)
 
 -- the order that one pass of sifting makes of another, with its level counts and its size
-pub record IsSiftedFrom (n : ℕ) (F : List Function) (P : List Pair) (start order levels : List ℕ) (total : ℕ) : Type 0 where
+pub record IsSiftedFrom (n : ℕ) (F : List Function) (P : List Pair) (start order levels : List ℕ)
+    (total : ℕ) : Type 0 where
   pub order_is : order ≡ sifted n F P start
   pub levels_are : levels ≡ level_counts n F order
   pub size : total ≡ size_under n F order

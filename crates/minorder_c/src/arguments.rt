@@ -61,7 +61,8 @@ pub(crate) struct Arguments {
     pub(crate) order: Order,
 }
 
-/// The truth tables that words hold and an order of their variables, if a level count is asked for each.
+/// The truth tables that words hold and an order of their variables, if a level count is asked for
+/// each.
 pub(crate) fn given(
     alloc: Global,
     words: &[u64],

@@ -16,7 +16,8 @@ use order_solve::{Solution, solve_alone};
 use std::alloc::Global;
 use truth_table::Tables;
 
-/// The first order of the fewest nodes among those that keep the pairs, searched below the size of one sifted from the first that keeps them.
+/// The first order of the fewest nodes among those that keep the pairs, searched below the size of
+/// one sifted from the first that keeps them.
 fn optimum(alloc: Global, tables: &Tables, pairs: Pairs) -> Result<Solution, Refusal>
     requires { pairs.inputs ≡ tables.now.inputs }
     ensures optimum { IfOk result
@@ -58,7 +59,8 @@ fn exact(
     Ok(solution)
 }
 
-/// The first order of the fewest nodes among those that keep some pairs, for so many places and level counts.
+/// The first order of the fewest nodes among those that keep some pairs, for so many places and
+/// level counts.
 fn exact_above(
     alloc: Global,
     words: &[u64],
@@ -88,7 +90,8 @@ fn exact_above(
     Ok(solution)
 }
 
-/// The first order of the fewest nodes of some functions, its level counts and its size. A call that is refused writes nothing.
+/// The first order of the fewest nodes of some functions, its level counts and its size. A call
+/// that is refused writes nothing.
 #[unsafe(no_mangle)]
 pub extern "C" fn minorder_exact_with_lengths(
     alloc: Global,
@@ -119,7 +122,8 @@ pub extern "C" fn minorder_exact_with_lengths(
     }
 }
 
-/// The same among the orders that keep some pairs. Pairs that no order keeps, or of other variables, are refused.
+/// The same among the orders that keep some pairs. Pairs that no order keeps, or of other
+/// variables, are refused.
 #[unsafe(no_mangle)]
 pub extern "C" fn minorder_exact_above_with_lengths(
     alloc: Global,

@@ -33,7 +33,8 @@ fn level_counts_of(
     Ok(levels)
 }
 
-/// The level counts of some functions under an order, top first. A call that is refused writes nothing.
+/// The level counts of some functions under an order, top first. A call that is refused writes
+/// nothing.
 #[unsafe(no_mangle)]
 pub extern "C" fn minorder_levels_with_lengths(
     alloc: Global,

@@ -1,4 +1,5 @@
-//! The order of the fewest nodes, level counts, sifting and the checker of certificates, for callers in C. include/minorder.h declares them.
+//! The order of the fewest nodes, level counts, sifting and the checker of certificates, for
+//! callers in C. include/minorder.h declares them.
 #![tactic(auto)]
 
 mod above;

@@ -64,7 +64,8 @@ fn sifted_order(
     })
 }
 
-/// Puts in the place of an order what one pass of sifting makes of it, and writes its level counts and its size. A call that is refused writes nothing.
+/// Puts in the place of an order what one pass of sifting makes of it, and writes its level counts
+/// and its size. A call that is refused writes nothing.
 #[unsafe(no_mangle)]
 pub extern "C" fn minorder_sift_with_lengths(
     alloc: Global,

@@ -29,7 +29,8 @@ fn listed(alloc: Global, cells: &[(Mask, u32)]) -> Result<Vec<ListedCell>, Alloc
     Ok(listed)
 }
 
-/// The parts of a certificate: its numbers of inputs and outputs, order, level counts, total, pairs and listed sets.
+/// The parts of a certificate: its numbers of inputs and outputs, order, level counts, total, pairs
+/// and listed sets.
 type Parts = (
     (u8, u8),
     &'static [VarIx],

@@ -45,4 +45,5 @@ pub record IsEntry (order ws : List ℕ) (w : ℕ) : Type 0 where
   pub word : w ≡ entry_word (code_of operation) (first_of w) (second_of w) (result_of w)
   pub first : IsKnown ws (first_of w)
   pub second : IsKnown ws (second_of w)
-  pub denotes : Denotes order ws (result_of w) (combine operation (function_of order ws (first_of w)) (function_of order ws (second_of w)))
+  pub denotes : Denotes order ws (result_of w)
+      (combine operation (function_of order ws (first_of w)) (function_of order ws (second_of w)))

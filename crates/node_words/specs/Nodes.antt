@@ -90,4 +90,5 @@ pub record IsNext (ws : List ℕ) (places w p : ℕ) : Type 0 where
 
 -- the id is that of the node with this level and these children, or the child if they are equal
 abbrev pub IsIdOf : List ℕ → ℕ → ℕ → ℕ → ℕ → Type 0
-IsIdOf ws level low high id = MatchBool (low == high) (id ≡ low) ((2 ≤ id) × (slice_index ws (id - 2) ≡ node_word level low high))
+IsIdOf ws level low high id = MatchBool (low == high) (id ≡ low)
+    ((2 ≤ id) × (slice_index ws (id - 2) ≡ node_word level low high))

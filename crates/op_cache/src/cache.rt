@@ -42,7 +42,8 @@ pub fn recall(
     store.entry(session, place, operation, first, second)
 }
 
-/// Has the cache know the result of an operation on two ids, in place of what it knew there. It takes one step.
+/// Has the cache know the result of an operation on two ids, in place of what it knew there. It
+/// takes one step.
 pub fn remember(
     store: &Store,
     session: &mut Session,

@@ -1,4 +1,5 @@
-//! A cache of operations on the ids of a store. It lies in the store's own words, and loses entries.
+//! A cache of operations on the ids of a store. It lies in the store's own words, and loses
+//! entries.
 #![tactic(auto)]
 
 mod cache;

@@ -44,5 +44,6 @@ pub record HoldsKept (n : ℕ) (below : List ℕ) : Type 0 where
 -- the masks of later have, beside their own bits, those of mask k if they have bit k
 abbrev pub IsJoined : List ℕ → ℕ → List ℕ → Type 0
 IsJoined below k later =
-    (a : ℕ) → slice_index later a ≡ if bit_at (slice_index below a) k == 1 then bit_or (slice_index below a) (slice_index below k) else
+    (a : ℕ) → slice_index later a ≡ if bit_at (slice_index below a) k == 1
+    then bit_or (slice_index below a) (slice_index below k) else
     slice_index below a

@@ -84,7 +84,8 @@ fn in_order(order: &[VarIx], counts: [u32; 16]) -> [u32; 16]
     levels
 }
 
-/// A diagram with one root per function, and the order of its variables. Its size is the number of its nodes, used or not.
+/// A diagram with one root per function, and the order of its variables. Its size is the number of
+/// its nodes, used or not.
 #[derive(Debug, Drop)]
 pub struct Diagram {
     order: Order,
@@ -97,9 +98,15 @@ impl Model for Diagram {
 
     ghost Value = { OrderedGraph };
 
-    ghost view = { λ d. record { order = d.order; graph = record { nodes = d.nodes.items; roots = d.roots.items } } };
+    ghost view = { λ d. record {
+      order = d.order;
+      graph = record { nodes = d.nodes.items; roots = d.roots.items };
+    } };
 
-    ghost invariant = { λ d. HoldsGraph (record { order = d.order; graph = record { nodes = d.nodes.items; roots = d.roots.items } }) };
+    ghost invariant = { λ d. HoldsGraph (record {
+      order = d.order;
+      graph = record { nodes = d.nodes.items; roots = d.roots.items };
+    }) };
 }
 
 impl Diagram {

@@ -35,7 +35,8 @@ pub fn bit_of(words: &[u64], point: usize) -> bool
     (words[point / 64] >> (point % 64)) & 1 == 1
 }
 
-/// The word whose bit b is 1 if bit x of b is 0, x being below 6: of the 64 points of a word, those at which variable x is 0.
+/// The word whose bit b is 1 if bit x of b is 0, x being below 6: of the 64 points of a word, those
+/// at which variable x is 0.
 pub fn lower_half(x: VarIx) -> u64
     requires { x < 6 }
     ensures { (b : ℕ) → b < 64 → bit_at result b ≡ 1 - bit_at b x }

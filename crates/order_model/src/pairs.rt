@@ -13,7 +13,8 @@ use std::alloc::{AllocError, Global};
 use std::marker::Model;
 use thiserror::Error;
 
-/// Why a text lists no pairs that an order can keep. Each is decided over the whole text, the first of them first.
+/// Why a text lists no pairs that an order can keep. Each is decided over the whole text, the first
+/// of them first.
 #[derive(Clone, Copy, Debug, PartialEq, Eq, Error)]
 pub enum PairsFault {
     /// A part between colons isn't two decimals from 0 to 15 with a comma between them.
@@ -27,7 +28,8 @@ pub enum PairsFault {
     PairCycle(VarIx),
 }
 
-/// Pairs (a, b) of variables, of each of which an order must have a above b. They lead from no variable back to itself.
+/// Pairs (a, b) of variables, of each of which an order must have a above b. They lead from no
+/// variable back to itself.
 #[derive(Debug, Drop)]
 pub struct Pairs {
     inputs: u8,
@@ -175,7 +177,8 @@ impl Pairs {
         }
     }
 
-    /// The pairs of n variables that a text lists, as `2,0:1,0`, in decimals from 0 to 15 without leading zeros. A pair that is listed again counts once.
+    /// The pairs of n variables that a text lists, as `2,0:1,0`, in decimals from 0 to 15 without
+    /// leading zeros. A pair that is listed again counts once.
     pub fn parse(text: &[u8], n: u8) -> Result<Pairs, PairsFault>
         requires some { 1 ≤ n }
         requires few { n ≤ 16 }
@@ -187,7 +190,8 @@ impl Pairs {
         of_masks(below, n)
     }
 
-    /// The pairs (a, b) of n variables, in any order. A pair that is listed again counts once. None is a `BadPair`.
+    /// The pairs (a, b) of n variables, in any order. A pair that is listed again counts once. None
+    /// is a `BadPair`.
     pub fn of(pairs: &[(VarIx, VarIx)], n: u8) -> Result<Pairs, PairsFault>
         requires some { 1 ≤ n }
         requires few { n ≤ 16 }

@@ -11,7 +11,8 @@ use crate::variables::Mask;
 use std::alloc::{AllocError, Global};
 use std::marker::Model;
 
-/// The truth tables of 1 to 16 functions of 1 to 16 variables. Bit i of a point's number is the value of variable i.
+/// The truth tables of 1 to 16 functions of 1 to 16 variables. Bit i of a point's number is the
+/// value of variable i.
 #[derive(Debug, Drop)]
 pub struct Problem {
     inputs: u8,

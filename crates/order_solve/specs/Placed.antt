@@ -24,4 +24,5 @@ StayPlaced b old new = (p : ℕ) → IsPlaced b old p → IsPlaced b new p
 
 -- the cells of a block's sets are placed
 abbrev pub ArePlaced : BenchOf → BlockOf → List Cell → Type 0
-ArePlaced b block cells = (p : ℕ) → p < length (masks_of b.layer) → IsTrue (has (block_masks block) (slice_index (masks_of b.layer) p)) → IsPlaced b cells p
+ArePlaced b block cells = (p : ℕ) → p < length (masks_of b.layer) →
+    IsTrue (has (block_masks block) (slice_index (masks_of b.layer) p)) → IsPlaced b cells p

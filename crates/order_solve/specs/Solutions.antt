@@ -22,7 +22,8 @@ cost_for t mask = cell_cost t.problem.inputs (functions t.problem) t.pairs.pairs
 
 -- the order that the cells give from the set of all variables downward
 abbrev pub IsReadOff : Setting → List ℕ → Type 0
-IsReadOff t order = IsReadFrom t.problem.inputs (functions t.problem) t.pairs.pairs t.bound (2 ^ t.problem.inputs - 1) order
+IsReadOff t order = IsReadFrom t.problem.inputs (functions t.problem) t.pairs.pairs t.bound
+    (2 ^ t.problem.inputs - 1) order
 
 -- the sets that a certificate of this total lists, with their least costs
 abbrev pub AreListedFor : Setting → ℕ → List ListedCell → Type 0

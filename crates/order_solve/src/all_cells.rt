@@ -20,7 +20,8 @@ use std::marker::Model;
 use std::thread::Threads;
 use subset_layers::{Cell, Costs};
 
-/// The cells of all sets of a problem's variables. The bound is the size of some order that keeps the pairs.
+/// The cells of all sets of a problem's variables. The bound is the size of some order that keeps
+/// the pairs.
 #[derive(Drop)]
 pub struct AllCells<'a> {
     problem: &'a Problem,
@@ -38,7 +39,8 @@ impl<'a> Model for AllCells<'a> {
 
     ghost view = { λ a. setting_with a.problem.now a.pairs.now a.bound };
 
-    ghost invariant = { λ a. HoldsCells (setting_with a.problem.now a.pairs.now a.bound) a.layers.items };
+    ghost invariant = { λ a. HoldsCells
+        (setting_with a.problem.now a.pairs.now a.bound) a.layers.items };
 }
 
 /// The layers of all sets, each by workers.

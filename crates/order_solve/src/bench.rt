@@ -7,8 +7,8 @@ use order_model::{Mask, Pairs, Problem};
 use std::marker::Model;
 use subset_layers::{Costs, Layer};
 
-/// What the workers of a layer are lent: what its cells are for, the costs of the layer before, and, if several layers are
-/// done, what the walks of all blocks begin with.
+/// What the workers of a layer are lent: what its cells are for, the costs of the layer before,
+/// and, if several layers are done, what the walks of all blocks begin with.
 #[derive(Drop)]
 pub struct Bench<'a> {
     pub(crate) problem: &'a Problem,
@@ -28,13 +28,16 @@ impl<'a> Model for Bench<'a> {
 
     ghost view = { λ b. bench_with b.problem.now b.pairs.now b.bound b.layer.now b.before.now };
 
-    ghost invariant = { λ b. HoldsBench (bench_with b.problem.now b.pairs.now b.bound b.layer.now b.before.now) b.essential × IfSome b.beginning (λ g. g.now ≡ b.problem.now) };
+    ghost invariant = { λ b. HoldsBench
+        (bench_with b.problem.now b.pairs.now b.bound b.layer.now b.before.now) b.essential
+        × IfSome b.beginning (λ g. g.now ≡ b.problem.now) };
 }
 
 impl<'a> Bench<'a> {
     ghost use Rattle.order_solve.specs.Benches.{bench_with, IsBench};
 
-    /// The bench of a layer: the costs are those of the layer before, for the problem, the pairs and the bound.
+    /// The bench of a layer: the costs are those of the layer before, for the problem, the pairs
+    /// and the bound.
     pub fn new(
         problem: &'a Problem,
         pairs: &'a Pairs,

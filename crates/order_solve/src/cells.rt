@@ -37,7 +37,8 @@ fn widths_of(
     Ok(widths)
 }
 
-/// The cells of a block's sets, in their order. The tally rises by the number of widths that they take.
+/// The cells of a block's sets, in their order. The tally rises by the number of widths that they
+/// take.
 pub fn cells_of_block(
     alloc: Global,
     block: &Block,

@@ -101,8 +101,8 @@ fn busy_workers(problem: &Problem, layer: &Layer, workers: Workers) -> Workers
     }
 }
 
-/// The cells of a layer in its order, by workers. If some cell is missing although none of them ran out of memory, the
-/// calling thread does the layer over alone.
+/// The cells of a layer in its order, by workers. If some cell is missing although none of them ran
+/// out of memory, the calling thread does the layer over alone.
 fn cells_of_layer<R: Threads + Sync, G: Gate>(
     rt: &R,
     alloc: Global,

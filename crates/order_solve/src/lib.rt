@@ -1,4 +1,5 @@
-//! The variable orders of the fewest nodes, found layer by layer over the sets of variables by several workers.
+//! The variable orders of the fewest nodes, found layer by layer over the sets of variables by
+//! several workers.
 #![tactic(auto)]
 
 // The solver: the layers one after another, by workers or by the calling thread.

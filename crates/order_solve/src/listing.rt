@@ -19,7 +19,8 @@ fn count_outside(essential: Mask, mask: Mask) -> u32
     (essential & !mask).count_ones()
 }
 
-/// The sets, without that of all variables, whose cost with one node for each essential variable outside is below the total.
+/// The sets, without that of all variables, whose cost with one node for each essential variable
+/// outside is below the total.
 pub fn listed_cells(
     alloc: Global,
     cells: &AllCells<'_>,

@@ -18,7 +18,8 @@ pub fn all_variables(inputs: u8) -> Mask
     Mask::MAX >> (16 - inputs)
 }
 
-/// The variables that the cells give from the set of all variables downward: each cell's variable is the next one from the top.
+/// The variables that the cells give from the set of all variables downward: each cell's variable
+/// is the next one from the top.
 fn read_variables(alloc: Global, cells: &AllCells<'_>) -> Result<Vec<VarIx>, AllocError>
     ensures { IfOk result (λ v. IsReadOff cells.now v.items) }
 {
@@ -47,7 +48,8 @@ pub fn read_order(alloc: Global, cells: &AllCells<'_>) -> Result<Order, AllocErr
     }
 }
 
-/// The level counts of the order that the cells give: by how much the cost falls when a variable is taken off the top.
+/// The level counts of the order that the cells give: by how much the cost falls when a variable is
+/// taken off the top.
 pub fn level_counts(
     alloc: Global,
     cells: &AllCells<'_>,

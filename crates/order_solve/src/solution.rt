@@ -11,7 +11,8 @@ pub struct Solution {
     pub total: u32,
     /// The level counts, top first.
     pub levels: Vec<u32>,
-    /// The lawful sets, without that of all variables, whose least cost with one node for each essential variable outside is below the total, by rising mask.
+    /// The lawful sets, without that of all variables, whose least cost with one node for each
+    /// essential variable outside is below the total, by rising mask.
     pub cells: Vec<ListedCell>,
     /// How many widths the cells of all sets take.
     pub widths: u64,

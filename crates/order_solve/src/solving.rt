@@ -16,7 +16,8 @@ use sifting::Sifted;
 use std::alloc::{AllocError, Global};
 use std::thread::Threads;
 
-/// What the cells of all sets give: the first order of the fewest nodes among those that keep the pairs.
+/// What the cells of all sets give: the first order of the fewest nodes among those that keep the
+/// pairs.
 fn solution_of(alloc: Global, cells: &AllCells<'_>) -> Result<Solution, AllocError>
     ensures solution { IfOk result (IsSolution cells.now.problem cells.now.pairs.pairs) }
     ensures widths { IfOk result (λ s. s.widths ≡ widths_for_all cells.now) }
@@ -35,7 +36,8 @@ fn solution_of(alloc: Global, cells: &AllCells<'_>) -> Result<Solution, AllocErr
     })
 }
 
-/// The first order of the fewest nodes among those that keep the pairs, for a bound that is the size of one of them.
+/// The first order of the fewest nodes among those that keep the pairs, for a bound that is the
+/// size of one of them.
 pub(crate) fn solve_within<R: Threads + Sync, G: Gate>(
     rt: &R,
     alloc: Global,
@@ -56,8 +58,9 @@ pub(crate) fn solve_within<R: Threads + Sync, G: Gate>(
     Ok(solution)
 }
 
-/// The first order of the fewest nodes among those that keep the pairs of a sifted order of the same functions. The size of
-/// that order bounds the search. The gate is called by the workers for each set but the empty one.
+/// The first order of the fewest nodes among those that keep the pairs of a sifted order of the
+/// same functions. The size of that order bounds the search. The gate is called by the workers for
+/// each set but the empty one.
 ///
 /// Memory alone is refused: if any worker met it, no layer is done over.
 pub fn solve<R: Threads + Sync, G: Gate>(

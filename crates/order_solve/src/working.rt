@@ -61,7 +61,8 @@ fn post_block<G: Gate>(
     }
 }
 
-/// Claims blocks until there is no more, and posts the cell of each of their sets. The gate is called for each set between the claim of its block and its post. Workers are numbered from 1.
+/// Claims blocks until there is no more, and posts the cell of each of their sets. The gate is
+/// called for each set between the claim of its block and its post. Workers are numbered from 1.
 ///
 /// If memory is refused the seat is lost, and what was posted stays.
 pub fn work_layer<G: Gate>(

@@ -1,4 +1,5 @@
-//! ordercheck: whether a certificate proves that no variable order of a PLA file's functions has fewer nodes.
+//! ordercheck: whether a certificate proves that no variable order of a PLA file's functions has
+//! fewer nodes.
 #![tactic(auto)]
 
 use counted_io::Counting;

@@ -18,9 +18,11 @@ joined_key_mask masks x k = joined_mask masks x (k % length masks, k / length ma
 pub record TellsPairs (masks : List ℕ) (x : ℕ) (ps : List (ℕ × ℕ)) (numbers joined : List ℕ) : Type 0 where
   pub name : ℕ × ℕ → ℕ
   pub numbers_are : numbers ≡ map name ps
-  pub apart : (i j : ℕ) → i < length ps → j < length ps → name (get_or ps i (0, 0)) ≡ name (get_or ps j (0, 0)) → get_or ps i (0, 0) ≡ get_or ps j (0, 0)
+  pub apart : (i j : ℕ) → i < length ps → j < length ps → name (get_or ps i (0, 0)) ≡ name (get_or ps j (0, 0)) →
+      get_or ps i (0, 0) ≡ get_or ps j (0, 0)
   pub below : (i : ℕ) → i < length ps → name (get_or ps i (0, 0)) < length joined
-  pub told : (i : ℕ) → i < length ps → get_or joined (name (get_or ps i (0, 0))) 0 ≡ joined_mask masks x (get_or ps i (0, 0))
+  pub told : (i : ℕ) → i < length ps →
+      get_or joined (name (get_or ps i (0, 0))) 0 ≡ joined_mask masks x (get_or ps i (0, 0))
   pub few : length joined ≤ 2 ^ 20
 
 -- each mask is that of a number that occurs

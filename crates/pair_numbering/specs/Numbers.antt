@@ -9,7 +9,8 @@ use Rattle.class_laws.specs.Places as places
 
 -- both classes of each pair
 abbrev pub ArePairsBelow : List (ℕ × ℕ) → ℕ → Type 0
-ArePairsBelow pairs classes = (k : ℕ) → k < length pairs → ((get_or pairs k (0, 0)).0 < classes) × ((get_or pairs k (0, 0)).1 < classes)
+ArePairsBelow pairs classes = (k : ℕ) → k < length pairs →
+    ((get_or pairs k (0, 0)).0 < classes) × ((get_or pairs k (0, 0)).1 < classes)
 
 -- the number of each pair by first occurrence, and in `pairs` the pair of each number
 pub record ArePairsNumbered (numbers : List ℕ) (rank : ℕ) (numbered : List ℕ) (pairs : List (ℕ × ℕ)) : Type 0 where

@@ -8,8 +8,8 @@ use crate::masks::join_mask;
 use crate::numbering::Numbered;
 use std::alloc::{AllocError, Global};
 
-/// The numbers of the pairs and their masks. A cell is 0, or one more than the number of its pair. If many pairs were new so
-/// far a block is numbered without a branch on whether a pair is new.
+/// The numbers of the pairs and their masks. A cell is 0, or one more than the number of its pair.
+/// If many pairs were new so far a block is numbered without a branch on whether a pair is new.
 pub fn number_pairs_by_cells(
     alloc: Global,
     numbers: &[u32],

@@ -8,7 +8,8 @@ ghost use Rattle.pair_numbering.specs.Numbers.{ArePairsNumbered};
 use crate::pairs::{NumberedPairs, low_place, pair_at};
 use std::alloc::{AllocError, Global};
 
-/// Chains the pairs by their lower class: a head is the first pair of its class, and `next` the one after each.
+/// Chains the pairs by their lower class: a head is the first pair of its class, and `next` the one
+/// after each.
 pub fn chain(numbers: &[u32], rank: u32, heads: &mut [u32], next: &mut [u32])
     requires paired { IsPaired numbers.now rank }
     requires classes { AllBelow numbers.now (length heads.old) }
@@ -56,7 +57,8 @@ pub fn number_firsts(
     })
 }
 
-/// Finds the first equal pair of each pair whose lower class is `lower`. The stamps tell which marks are of this class.
+/// Finds the first equal pair of each pair whose lower class is `lower`. The stamps tell which
+/// marks are of this class.
 #[inline(always)]
 fn walk_chain(
     numbers: &[u32],

@@ -1,5 +1,5 @@
-//! Numbers that tell pairs apart, in any order. Joined keys cost less than numbers by first occurrence, and are taken as long
-//! as there are few.
+//! Numbers that tell pairs apart, in any order. Joined keys cost less than numbers by first
+//! occurrence, and are taken as long as there are few.
 
 ghost use Rattle.std.specs.Prelude.{◌≡◌, ℕ, ◌+◌, ◌*◌, ◌/◌, ◌^◌, ◌<◌, ◌≤◌, map, length, IfOk, IsTrue};
 ghost use Rattle.std.specs.List.{range_with_len};
@@ -14,7 +14,8 @@ use std::alloc::{AllocError, Global};
 /// Pairs of more keys than these are numbered by first occurrence.
 const MOST_JOINED: usize = 16;
 
-/// Numbers that tell pairs apart, and the mask of each. If `all_used` is true each mask is that of a number that occurs.
+/// Numbers that tell pairs apart, and the mask of each. If `all_used` is true each mask is that of
+/// a number that occurs.
 #[derive(Drop)]
 pub struct Told {
     pub numbers: Vec<u32>,
@@ -40,7 +41,8 @@ fn join_blocks(keys: &[u32], rank: u32, base: u32, joined: &mut [u32])
     }
 }
 
-/// The keys of pairs of keys below `base`. The small ranks, which are frequent, are loops of their own.
+/// The keys of pairs of keys below `base`. The small ranks, which are frequent, are loops of their
+/// own.
 fn join_keys(alloc: Global, keys: &[u32], rank: u32, base: u32) -> Result<Vec<u32>, AllocError>
     requires paired { IsPaired keys.now rank }
     requires below { AllBelow keys.now base }

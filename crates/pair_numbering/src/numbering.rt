@@ -20,7 +20,8 @@ pub struct Numbered {
     pub masks: Vec<u16>,
 }
 
-/// The numbers of the pairs: by slots, or by chains if slots are crowded. All classes are below `classes`.
+/// The numbers of the pairs: by slots, or by chains if slots are crowded. All classes are below
+/// `classes`.
 pub fn number_pairs(
     alloc: Global,
     numbers: &[u32],
@@ -37,8 +38,9 @@ pub fn number_pairs(
     }
 }
 
-/// The numbers of the pairs, and the masks of the numbers, from those of the classes: in order if all classes are distinct,
-/// by a cell for each pair of classes if these are few, else by slots or chains.
+/// The numbers of the pairs, and the masks of the numbers, from those of the classes: in order if
+/// all classes are distinct, by a cell for each pair of classes if these are few, else by slots or
+/// chains.
 pub fn number_pairs_with_masks(
     alloc: Global,
     numbers: &[u32],

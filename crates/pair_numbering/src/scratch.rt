@@ -31,7 +31,8 @@ impl Model for Scratch {
 
     ghost view = { λ s. length s.heads.items };
 
-    ghost invariant = { λ s. AreLong (length s.heads.items) s.next.items s.stamps.items s.marks.items s.first.items };
+    ghost invariant = { λ s. AreLong
+        (length s.heads.items) s.next.items s.stamps.items s.marks.items s.first.items };
 }
 
 impl Scratch {

@@ -46,8 +46,8 @@ fn find_slot(
     None
 }
 
-/// The numbers of the pairs. A pair's slot is the first free one from its home on; an empty slot has a number too large for a
-/// pair. Nothing if too many pairs have homes close together.
+/// The numbers of the pairs. A pair's slot is the first free one from its home on; an empty slot
+/// has a number too large for a pair. Nothing if too many pairs have homes close together.
 pub fn number_pairs_by_slots(
     alloc: Global,
     numbers: &[u32],

@@ -68,7 +68,8 @@ output_fault taken c = cond (c == 48 || (c == 49 || c == 126)) None
 
 -- the fault of a number of positions
 abbrev pub length_fault : ℕ → ℕ → Option LineFault
-length_fault count wanted = cond (nat_lt count wanted) (Some ShortTerm) (cond (nat_lt wanted count) (Some LongTerm) None)
+length_fault count wanted = cond (nat_lt count wanted) (Some ShortTerm)
+    (cond (nat_lt wanted count) (Some LongTerm) None)
 
 -- the first fault of a term from the left: n inputs, m outputs, and nothing after them
 unfoldable pub term_fault : Bool → ℕ → ℕ → List ℕ → Option LineFault
@@ -102,8 +103,10 @@ unfoldable pub fault_of : List Line → Line → Option LineFault
 fault_of before Empty = None
 fault_of before (Inputs given) = head_fault (comes input_count before) given InputCount
 fault_of before (Outputs given) = head_fault (comes output_count before) given OutputCount
-fault_of before (InputNames given) = naming_fault (comes input_count before) (comes input_naming before) (inputs_of before) given
-fault_of before (OutputNames given) = naming_fault (comes output_count before) (comes output_naming before) (outputs_of before) given
+fault_of before (InputNames given) = naming_fault (comes input_count before) (comes input_naming before)
+    (inputs_of before) given
+fault_of before (OutputNames given) = naming_fault (comes output_count before) (comes output_naming before)
+    (outputs_of before) given
 fault_of before (Products given) = first_fault ((not (is_one_number given), BadNumber) ∷ [])
 fault_of before (LogicalType given) = type_fault (comes type_words before) (comes row_bytes before) given
 fault_of before End = None

@@ -43,7 +43,8 @@ state_of p = record {
 
 -- before the first line
 abbrev pub start : State
-start = record { inputs = None; outputs = None; input_names = None; output_names = None; logical_type = None; terms = [] }
+start = record { inputs = None; outputs = None; input_names = None; output_names = None; logical_type = None;
+    terms = [] }
 
 -- whether the type is f
 abbrev pub is_f : Option LogicalType → Bool
@@ -71,7 +72,8 @@ pub record Agrees (before : List Line) (s : State) : Type 0 where
   pub input_names : filter_map input_naming before ≡ option_to_list s.input_names
   pub output_names : filter_map output_naming before ≡ option_to_list s.output_names
   pub types : filter_map type_words before ≡ option_to_list (option_map words_of s.logical_type)
-  pub rows : map (term_of (unwrap_or s.inputs 0)) (filter_map row_bytes before) ≡ map (product_of (unwrap_or s.inputs 0) (unwrap_or s.outputs 0)) s.terms
+  pub rows : map (term_of (unwrap_or s.inputs 0)) (filter_map row_bytes before)
+      ≡ map (product_of (unwrap_or s.inputs 0) (unwrap_or s.outputs 0)) s.terms
   pub sound : IsSound s
 
 -- the answer for a line after others: it has no fault and is held, or its fault
@@ -82,7 +84,8 @@ Taken before line after (Err (line_errors.Fault fault)) = fault_of before line �
 
 -- the answer for a line is right, whatever lines came before
 abbrev pub Takes : {U : Type 0} → Progress → Line → Progress → Result U LineError → Type 0
-Takes old line new result = (before : List Line) → Agrees before (state_of old) → Taken before line (state_of new) result
+Takes old line new result = (before : List Line) → Agrees before (state_of old) →
+    Taken before line (state_of new) result
 
 -- the cover is what the program holds, with numbered names if none came
 pub record IsCoverOf (s : State) (cover : NamedCover) : Type 0 where
@@ -94,7 +97,8 @@ pub record IsCoverOf (s : State) (cover : NamedCover) : Type 0 where
 
 -- why there is no cover at the end of the description, at a line
 abbrev pub IsEndError : State → ℕ → PlaError → Type 0
-IsEndError s number (pla_errors.Line line fault) = (line ≡ number) × (fault ≡ MissingHead) × ((is_some s.inputs && is_some s.outputs) ≡ false)
+IsEndError s number (pla_errors.Line line fault) = (line ≡ number) × (fault ≡ MissingHead)
+    × ((is_some s.inputs && is_some s.outputs) ≡ false)
 IsEndError s number pla_errors.OutOfMemory = Unit {0}
 IsEndError s number pla_errors.TooLong = ⊥
 IsEndError s number pla_errors.Device = ⊥

@@ -21,11 +21,13 @@ end_number lines = min (length (description lines) + 1) (length lines)
 
 -- the end of the description wants both counts
 unfoldable pub end_faults : List Line → List (ℕ × LineFault)
-end_faults lines = cond (comes input_count (description lines) && comes output_count (description lines)) [] ((end_number lines, MissingHead) ∷ [])
+end_faults lines = cond (comes input_count (description lines) && comes output_count (description lines)) []
+    ((end_number lines, MissingHead) ∷ [])
 
 -- all faults of an input's lines, each judged by the lines before it, and then that of the end
 unfoldable pub faults : List Line → List (ℕ × LineFault)
-faults lines = filter_map (judged (description lines)) (range_with_len 0 (length (description lines))) ++ end_faults lines
+faults lines = filter_map (judged (description lines)) (range_with_len 0 (length (description lines)))
+    ++ end_faults lines
 
 -- the lines have no fault, and give the cover
 pub record Gives (lines : List Line) (cover : NamedCover) : Type 0 where

@@ -53,7 +53,8 @@ pub enum LineFault {
 /// Why an input is not read as a cover.
 #[derive(Clone, Copy, Debug, PartialEq, Eq, Error)]
 pub enum PlaError {
-    /// The first faulty line, counted from 1, and its fault. An input with no line is faulty at line 0.
+    /// The first faulty line, counted from 1, and its fault. An input with no line is faulty at
+    /// line 0.
     #[error("line {0}: {1}")]
     Line(usize, LineFault),
     /// More than 16,777,216 bytes.

@@ -8,7 +8,8 @@ ghost use Rattle.pla_reader.specs.Reading.{Reads, FirstFault};
 /// Each input is read as a cover or has a first fault, not both, and for one value.
 pub fn inputs_have_one_reading()
     ensures some { (bytes : List ℕ) →
-        ((cover : NamedCover) × Reads bytes cover) ⊎ ((line : ℕ) × (fault : LineFault) × FirstFault bytes line fault) }
+        ((cover : NamedCover) × Reads bytes cover)
+        ⊎ ((line : ℕ) × (fault : LineFault) × FirstFault bytes line fault) }
     ensures not_both { (bytes : List ℕ) (cover : NamedCover) (line : ℕ) (fault : LineFault) →
         Reads bytes cover → FirstFault bytes line fault → ⊥ }
     ensures one_cover { (bytes : List ℕ) (a b : NamedCover) → Reads bytes a →

@@ -89,7 +89,8 @@ fn check_names(count: Option<u8>, repeated: bool, text: &[u8]) -> Result<(), Lin
     ensures { MatchResult result
         (λ done. (naming_fault (is_some count) repeated (unwrap_or count 0) (words text.now) ≡ None)
         × (count ≡ Some (length (words text.now))) × (list_all is_name (words text.now) ≡ true))
-        (λ fault. naming_fault (is_some count) repeated (unwrap_or count 0) (words text.now) ≡ Some fault) }
+        (λ fault. naming_fault (is_some count) repeated (unwrap_or count 0) (words text.now)
+        ≡ Some fault) }
 {
     let Some(count) = count else {
         return Err(LineFault::MissingHead);
@@ -108,7 +109,8 @@ fn check_names(count: Option<u8>, repeated: bool, text: &[u8]) -> Result<(), Lin
 /// The logical type that a directive gives, by whether one came before, and a term.
 fn logical_type(repeated: bool, late: bool, text: &[u8]) -> Result<LogicalType, LineFault>
     ensures { MatchResult result
-        (λ kind. (type_fault repeated late (words text.now) ≡ None) × (words_of kind ≡ words text.now))
+        (λ kind. (type_fault repeated late (words text.now) ≡ None)
+        × (words_of kind ≡ words text.now))
         (λ fault. type_fault repeated late (words text.now) ≡ Some fault) }
 {
     if repeated {
@@ -129,7 +131,8 @@ fn given_or_numbered(
     count: u8,
 ) -> Result<Vec<String>, AllocError>
     ensures { IfOk result (λ all. map string_bytes all.items
-        ≡ unwrap_or (option_map (λ names. map string_bytes names.items) given) (numbered_names front.now count)) }
+        ≡ unwrap_or (option_map (λ names. map string_bytes names.items) given)
+        (numbered_names front.now count)) }
 {
     match given {
         Some(names) => Ok(names),
@@ -252,7 +255,8 @@ impl Progress {
         }
     }
 
-    /// The cover of the lines read, if both counts came; the line that ends the description has the number.
+    /// The cover of the lines read, if both counts came; the line that ends the description has the
+    /// number.
     pub(crate) fn finish(self, alloc: Global, number: usize) -> Result<Cover, PlaError>
         requires { IsSound (state_of self) }
         ensures ok { IfOk result (IsCoverOf (state_of self)) }

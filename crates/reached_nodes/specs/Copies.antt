@@ -25,11 +25,13 @@ ref_of numbers id = if nat_lt id 2 then Terminal (id == 1) else Place (slice_ind
 
 -- the copy of a node's word
 abbrev pub node_of : List ℕ → List ℕ → ℕ → Node
-node_of order numbers w = record { variable = slice_index order (level_of w); low = ref_of numbers (low_of w); high = ref_of numbers (high_of w) }
+node_of order numbers w = record { variable = slice_index order (level_of w); low = ref_of numbers (low_of w);
+    high = ref_of numbers (high_of w) }
 
 -- the id is a terminal, or has a copy before that of place p
 abbrev pub IsEarlier : List ℕ → ℕ → ℕ → Type 0
-IsEarlier numbers p id = 2 ≤ id → (slice_index numbers (id - 2) ≢ 0) × (slice_index numbers (id - 2) < slice_index numbers p)
+IsEarlier numbers p id = 2 ≤ id →
+    (slice_index numbers (id - 2) ≢ 0) × (slice_index numbers (id - 2) < slice_index numbers p)
 
 -- the copy of place p
 pub record IsCopied (order ws numbers : List ℕ) (nodes : List Node) (p : ℕ) : Type 0 where
@@ -59,7 +61,8 @@ pub record AreCopied (order ws numbers : List ℕ) (nodes : List Node) : Type 0 
 -- a ref that paths from another come to
 pub data Leads (nodes : List Node) (r : Ref) : Ref → Type 0 where
   here : {q : Ref} → r ≡ q → Leads nodes r q
-  below : {q : Ref} → (k : ℕ) (node : Node) → Leads nodes r (Place k) → slice_get nodes k ≡ Some node → IsChild q node → Leads nodes r q
+  below : {q : Ref} → (k : ℕ) (node : Node) → Leads nodes r (Place k) → slice_get nodes k ≡ Some node → IsChild q node →
+      Leads nodes r q
 
 -- nodes that were there stay
 pub record Extends (nodes nodes' : List Node) : Type 0 where
@@ -67,26 +70,30 @@ pub record Extends (nodes nodes' : List Node) : Type 0 where
   pub same : (k : ℕ) → k < length nodes → slice_get nodes' k ≡ slice_get nodes k
 
 -- copying what an id reaches: it has a copy then, which leads to all new nodes, and no place above it got one
-pub record Copies (order ws numbers : List ℕ) (nodes : List Node) (numbers' : List ℕ) (nodes' : List Node) (id : ℕ) (r : Ref) : Type 0 where
+pub record Copies (order ws numbers : List ℕ) (nodes : List Node) (numbers' : List ℕ) (nodes' : List Node) (id : ℕ)
+    (r : Ref) : Type 0 where
   pub copied : AreCopied order ws numbers' nodes'
   pub known : IsKnown numbers' id
   pub ref : r ≡ ref_of numbers' id
   pub grows : Grows numbers numbers'
   pub extends : Extends nodes nodes'
-  pub untouched : (q : ℕ) → level_of (slice_index ws q) < depth (length order) ws id → slice_index numbers' q ≡ slice_index numbers q
+  pub untouched : (q : ℕ) → level_of (slice_index ws q) < depth (length order) ws id →
+      slice_index numbers' q ≡ slice_index numbers q
   pub leads : (k : ℕ) → length nodes ≤ k → k < length nodes' → Leads nodes' r (Place k)
 
 -- the first i refs are those of the first i ids, which have copies
 pub record AreRefs (numbers : List ℕ) (refs : List Ref) (ids : List ℕ) (i : ℕ) : Type 0 where
   pub count : length refs ≡ i
-  pub each : (j : ℕ) → j < i → (slice_get refs j ≡ Some (ref_of numbers (slice_index ids j))) × IsKnown numbers (slice_index ids j)
+  pub each : (j : ℕ) → j < i →
+      (slice_get refs j ≡ Some (ref_of numbers (slice_index ids j))) × IsKnown numbers (slice_index ids j)
 
 -- paths from the roots come to each node
 abbrev pub AreReached : List Node → List Ref → Type 0
 AreReached nodes roots = (k : ℕ) → k < length nodes → Reached record { nodes = nodes; roots = roots } (Place k)
 
 -- a reduced diagram of the functions, ordered under the order
-pub record IsReducedOf (n : ℕ) (F : List Function) (order : List ℕ) (nodes : List Node) (roots : List Ref) : Type 0 where
+pub record IsReducedOf (n : ℕ) (F : List Function) (order : List ℕ) (nodes : List Node)
+    (roots : List Ref) : Type 0 where
   pub represents : Represents n F order record { nodes = nodes; roots = roots }
   pub reduced : IsReduced record { nodes = nodes; roots = roots }
   pub few : length nodes < 2 ^ 32

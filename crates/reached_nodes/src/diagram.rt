@@ -20,7 +20,8 @@ pub struct Reached {
     pub roots: Vec<Ref>,
 }
 
-/// The reduced diagram of the functions that some ids denote, of the node words in the first places of a closed table.
+/// The reduced diagram of the functions that some ids denote, of the node words in the first places
+/// of a closed table.
 pub fn reached_nodes(
     alloc: Global,
     closed: &Closed<(), Global>,

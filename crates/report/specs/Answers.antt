@@ -49,7 +49,8 @@ IsCertified cover P true (Some text) = IsCertificate cover P (string_bytes text)
 
 abbrev pub IsText : Bool → Option (Bor (List ℕ)) → NamedCover → List ℕ → Type 0
 IsText true above cover text = text ≡ count_text cover
-IsText false above cover text = (kept : KeptPairs) × PairsAre above cover.inputs (Ok kept) × IsAnswer cover kept.pairs text
+IsText false above cover text = (kept : KeptPairs) × PairsAre above cover.inputs (Ok kept)
+    × IsAnswer cover kept.pairs text
 
 -- what a run writes of a cover: with `count` the two lines for the file order, else the answer
 abbrev pub IsTextOf : RunPlan → NamedCover → List ℕ → Type 0
@@ -66,7 +67,8 @@ pub record AskTheSame (plan other : RunPlan) : Type 0 where
 
 -- the certificate for the pairs of a list
 abbrev pub IsCertificateOf : Option (Bor (List ℕ)) → NamedCover → List ℕ → Type 0
-IsCertificateOf above cover text = (kept : KeptPairs) × PairsAre above cover.inputs (Ok kept) × IsCertificate cover kept.pairs text
+IsCertificateOf above cover text = (kept : KeptPairs) × PairsAre above cover.inputs (Ok kept)
+    × IsCertificate cover kept.pairs text
 
 -- what is made of a cover for a certificate's writer: nothing by a count or if there is no writer
 abbrev pub HasCertificate : Bool → Option (Bor (List ℕ)) → NamedCover → Bool → Option (String Global) → Type 0

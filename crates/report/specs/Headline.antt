@@ -33,7 +33,8 @@ pub record IsOptimum (n : ℕ) (F : List Function) (P : List Pair) (order : List
   pub an_order : IsOrder n order
   pub keeps_the_pairs : Keeps P order
   pub has_a_diagram_of_that_size : (d : Graph) × Represents n F order d × (length d.nodes ≡ nodes)
-  pub no_diagram_has_fewer : (other : List ℕ) (d : Graph) → IsOrder n other → Keeps P other → Represents n F other d → nodes ≤ length d.nodes
+  pub no_diagram_has_fewer : (other : List ℕ) (d : Graph) → IsOrder n other → Keeps P other → Represents n F other d →
+      nodes ≤ length d.nodes
 
 -- an order with its names, and level counts with their sum, stand in the text
 pub record IsPrinted (names : List (List ℕ)) (order : List ℕ) (nodes : ℕ) (text : List ℕ) : Type 0 where
@@ -52,7 +53,8 @@ pub record IsPrintedOptimum (file : List ℕ) (above : Option (Bor (List ℕ))) 
   pub nodes : ℕ
   pub both_are_printed : IsPrinted cover.input_names order nodes text
   pub none_has_fewer : IsOptimum cover.inputs (functions_of cover) kept.pairs order nodes
-  pub the_first : (other : List ℕ) → IsOptimum cover.inputs (functions_of cover) kept.pairs other nodes → slice_cmp nat_cmp order other ≢ Greater
+  pub the_first : (other : List ℕ) → IsOptimum cover.inputs (functions_of cover) kept.pairs other nodes →
+      slice_cmp nat_cmp order other ≢ Greater
 
 -- what an accepted certificate says of the bytes of the file
 pub record IsTrueCertificate (file certificate : List ℕ) : Type 0 where
@@ -64,7 +66,8 @@ pub record IsTrueCertificate (file certificate : List ℕ) : Type 0 where
 
 -- what a run without count writes that ends with status 0
 abbrev pub PrintsOptimum : RunPlan → List ℕ → Option (List ℕ) → Option (List ℕ) → Outcome → Type 0
-PrintsOptimum plan file before after Done = plan.count ≡ false → (text : List ℕ) × Appends before after text × IsPrintedOptimum file plan.above text
+PrintsOptimum plan file before after Done = plan.count ≡ false →
+    (text : List ℕ) × Appends before after text × IsPrintedOptimum file plan.above text
 PrintsOptimum plan file before after _ = Unit {0}
 
 -- what a check that ends with status 0 says

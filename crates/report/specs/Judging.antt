@@ -52,7 +52,8 @@ failed_reads (Err _) = 0
 -- the line of a certificate for a cover: it is good, or this is the first reason why not
 abbrev pub HasVerdict : NamedCover → Certificate → Outcome → List ℕ → Type 0
 HasVerdict cover cert Done line = IsGood cover.inputs (functions_of cover) cert × (line ≡ valid_line cert)
-HasVerdict cover cert Invalid line = (reason : Reason) × IsFirstReason cover.inputs (functions_of cover) cert reason × (line ≡ invalid_line reason)
+HasVerdict cover cert Invalid line = (reason : Reason) × IsFirstReason cover.inputs (functions_of cover) cert reason
+    × (line ≡ invalid_line reason)
 HasVerdict cover cert (Refused fault) line = ⊥
 
 -- bytes within the limit that are read as a cover
@@ -65,32 +66,39 @@ SpellsWithin text cert = (length text ≤ most_bytes) × Spells text cert
 
 -- what the bytes of the file and of the certificate lead to: the file's fault, else the certificate's, else the line of the verdict
 abbrev pub Judge : List ℕ → List ℕ → Outcome → List ℕ → Type 0
-Judge file text (Refused (Line line fault)) written = (length file ≤ longest) × FirstFault file line fault × (written ≡ [])
+Judge file text (Refused (Line line fault)) written = (length file ≤ longest) × FirstFault file line fault
+    × (written ≡ [])
 Judge file text (Refused TooLong) written = (longest < length file) × (written ≡ [])
 Judge file text (Refused (CertificateLine line fault)) written =
-    ((cover : NamedCover) × ReadsWithin file cover) × (length text ≤ most_bytes) × CertificateFault text line fault × (written ≡ [])
-Judge file text (Refused CertificateTooLong) written = ((cover : NamedCover) × ReadsWithin file cover) × (most_bytes < length text) × (written ≡ [])
+    ((cover : NamedCover) × ReadsWithin file cover) × (length text ≤ most_bytes) × CertificateFault text line fault
+    × (written ≡ [])
+Judge file text (Refused CertificateTooLong) written = ((cover : NamedCover) × ReadsWithin file cover)
+    × (most_bytes < length text) × (written ≡ [])
 Judge file text (Refused fault) written = ⊥
 Judge file text outcome written =
-    (cover : NamedCover) × (cert : Certificate) × ReadsWithin file cover × SpellsWithin text cert × HasVerdict cover cert outcome written
+    (cover : NamedCover) × (cert : Certificate) × ReadsWithin file cover × SpellsWithin text cert
+    × HasVerdict cover cert outcome written
 
 -- what a check writes: what the bytes lead to; nothing if it is out of memory; a beginning of the line after a failed call
 abbrev pub ChecksAs : List ℕ → List ℕ → Option (List ℕ) → Option (List ℕ) → Outcome → Type 0
 ChecksAs file text before after (Refused OutOfMemory) = after ≡ before
 ChecksAs file text before after (Refused Device) =
-    (after ≡ before) ⊎ ((outcome : Outcome) × (line : List ℕ) × (n : ℕ) × Judge file text outcome line × Appends before after (take n line))
+    (after ≡ before) ⊎ ((outcome : Outcome) × (line : List ℕ) × (n : ℕ) × Judge file text outcome line
+        × Appends before after (take n line))
 ChecksAs file text before after outcome = (line : List ℕ) × Judge file text outcome line × Appends before after line
 
 -- whatever is known of the files: a line is that of a verdict on some certificate for some cover, whole or after a failed write a beginning of it
 abbrev pub Verdicts : Option (List ℕ) → Option (List ℕ) → Outcome → Type 0
 Verdicts before after (Refused Device) =
     (after ≡ before) ⊎
-    ((cover : NamedCover) × (cert : Certificate) × (outcome : Outcome) × (line : List ℕ) × (n : ℕ) × HasVerdict cover cert outcome line
+    ((cover : NamedCover) × (cert : Certificate) × (outcome : Outcome) × (line : List ℕ) × (n : ℕ)
+        × HasVerdict cover cert outcome line
     × Appends before after (take n line))
 Verdicts before after (Refused StoreFull) = ⊥
 Verdicts before after (Refused (Pairs fault)) = ⊥
 Verdicts before after (Refused fault) = after ≡ before
-Verdicts before after outcome = (cover : NamedCover) × (cert : Certificate) × (line : List ℕ) × HasVerdict cover cert outcome line × Appends before after line
+Verdicts before after outcome = (cover : NamedCover) × (cert : Certificate) × (line : List ℕ)
+    × HasVerdict cover cert outcome line × Appends before after line
 
 -- what the program writes that ends with status 0: help, if clap answers the words with it, else the line of a good certificate of some cover
 abbrev pub ChecksWell : List (List ℕ) → Option (List ℕ) → Option (List ℕ) → Type 0

@@ -49,7 +49,8 @@ GetsText (Some text) (Some before) None = ⊥
 GetsText (Some text) (Some before) (Some after) = Appends before after text
 
 -- a count leaves the certificate's writer alone; else it gets the certificate
-abbrev pub Certifies : Bool → Option (Bor (List ℕ)) → NamedCover → (List ℕ → List ℕ) → Option (Option (List ℕ)) → Option (Option (List ℕ)) → Type 0
+abbrev pub Certifies : Bool → Option (Bor (List ℕ)) → NamedCover → (List ℕ → List ℕ) → Option (Option (List ℕ)) →
+    Option (Option (List ℕ)) → Type 0
 Certifies true above cover part before after = after ≡ before
 Certifies false above cover part before after = Gets (IsCertificateOf above cover) part before after
 
@@ -66,20 +67,24 @@ Tells plan file (Refused OutOfMemory) = Unit {0}
 Tells plan file (Refused Device) = Unit {0}
 Tells plan file (Refused (CertificateLine line fault)) = ⊥
 Tells plan file (Refused CertificateTooLong) = ⊥
-Tells plan file (Refused fault) = (length file ≤ longest) × (cover : NamedCover) × Reads file cover × Hinders plan cover fault
+Tells plan file (Refused fault) = (length file ≤ longest) × (cover : NamedCover) × Reads file cover
+    × Hinders plan cover fault
 
 -- what a failed write leaves: a beginning of the certificate and no byte of the report, or the whole certificate and a beginning of the report
 abbrev pub LeavesPart : RunPlan → NamedCover → Held → Held → Type 0
 LeavesPart plan cover before after =
     ((after.out ≡ before.out) × (n : ℕ) × Certifies plan.count plan.above cover (take n) before.cert after.cert)
-    ⊎ (Certifies plan.count plan.above cover whole before.cert after.cert × (text : List ℕ) × (n : ℕ) × IsTextOf plan cover text
+    ⊎ (Certifies plan.count plan.above cover whole before.cert after.cert × (text : List ℕ) × (n : ℕ)
+        × IsTextOf plan cover text
     × Appends before.out after.out (take n text))
 
 -- what the writers get, by what is known of the cover: all texts, or after a failed write a part of them, or else nothing
 abbrev pub Delivers : RunPlan → (NamedCover → Type 0) → Held → Held → Outcome → Type 0
-Delivers plan IsRead before after Done = (cover : NamedCover) × (text : List ℕ) × IsRead cover × IsTextOf plan cover text × Appends before.out after.out text
+Delivers plan IsRead before after Done = (cover : NamedCover) × (text : List ℕ) × IsRead cover
+    × IsTextOf plan cover text × Appends before.out after.out text
     × Certifies plan.count plan.above cover whole before.cert after.cert
-Delivers plan IsRead before after (Refused Device) = (after ≡ before) ⊎ ((cover : NamedCover) × IsRead cover × LeavesPart plan cover before after)
+Delivers plan IsRead before after (Refused Device) = (after ≡ before)
+    ⊎ ((cover : NamedCover) × IsRead cover × LeavesPart plan cover before after)
 Delivers plan IsRead before after Invalid = ⊥
 Delivers plan IsRead before after (Refused (CertificateLine line fault)) = ⊥
 Delivers plan IsRead before after (Refused CertificateTooLong) = ⊥
@@ -93,7 +98,8 @@ ReadsAsGood cover text =
 
 -- if a run without count is done, what the certificate's writer got reads as a good certificate of the file's functions
 abbrev pub WritesGood : RunPlan → List ℕ → Option (Option (List ℕ)) → Option (Option (List ℕ)) → Outcome → Type 0
-WritesGood plan file before after Done = plan.count ≡ false → (cover : NamedCover) × Reads file cover × Gets (ReadsAsGood cover) whole before after
+WritesGood plan file before after Done = plan.count ≡ false →
+    (cover : NamedCover) × Reads file cover × Gets (ReadsAsGood cover) whole before after
 WritesGood plan file before after (Refused fault) = Unit {0}
 WritesGood plan file before after Invalid = Unit {0}
 
@@ -107,15 +113,18 @@ pub record IsPlanOf (words : List (List ℕ)) (plan : RunPlan) : Type 0 where
 abbrev pub EndsWell : List (List ℕ) → Option (List ℕ) → Option (List ℕ) → Type 0
 EndsWell words before after =
     AsksForHelp minorder words ⊎
-    ((plan : RunPlan) × IsPlanOf words plan × (cover : NamedCover) × (text : List ℕ) × IsCover cover × IsTextOf plan cover text
+    ((plan : RunPlan) × IsPlanOf words plan × (cover : NamedCover) × (text : List ℕ) × IsCover cover
+        × IsTextOf plan cover text
     × Appends before after text)
 
 -- the same of the report alone
 abbrev pub DeliversReport : RunPlan → (NamedCover → Type 0) → Option (List ℕ) → Option (List ℕ) → Outcome → Type 0
-DeliversReport plan IsRead before after Done = (cover : NamedCover) × (text : List ℕ) × IsRead cover × IsTextOf plan cover text × Appends before after text
+DeliversReport plan IsRead before after Done = (cover : NamedCover) × (text : List ℕ) × IsRead cover
+    × IsTextOf plan cover text × Appends before after text
 DeliversReport plan IsRead before after (Refused Device) =
     (after ≡ before) ⊎
-    ((cover : NamedCover) × (text : List ℕ) × (n : ℕ) × IsRead cover × IsTextOf plan cover text × Appends before after (take n text))
+    ((cover : NamedCover) × (text : List ℕ) × (n : ℕ) × IsRead cover × IsTextOf plan cover text
+        × Appends before after (take n text))
 DeliversReport plan IsRead before after Invalid = ⊥
 DeliversReport plan IsRead before after (Refused (CertificateLine line fault)) = ⊥
 DeliversReport plan IsRead before after (Refused CertificateTooLong) = ⊥
@@ -145,7 +154,8 @@ IsFullRunOf words = (plan : RunPlan) × IsPlanOf words plan × (plan.count ≡ f
 -- the words ask for a run without count, with a list of pairs that is faulty for some cover
 abbrev pub IsFaultyRunOf : List (List ℕ) → Type 0
 IsFaultyRunOf words =
-    (plan : RunPlan) × IsPlanOf words plan × (plan.count ≡ false) × (cover : NamedCover) × IsCover cover × (fault : PairsFault)
+    (plan : RunPlan) × IsPlanOf words plan × (plan.count ≡ false) × (cover : NamedCover) × IsCover cover
+    × (fault : PairsFault)
     × PairsAre plan.above cover.inputs (Err fault)
 
 -- how many calls failed, before and after

@@ -64,7 +64,8 @@ count_text cover = counts_lines (file_order_levels cover)
 
 -- two lines: an order and its names
 unfoldable pub order_lines : List (List ℕ) → List ℕ → List ℕ
-order_lines names order = labelled (codes "order: ") (numbers order) ++ labelled (codes "names: ") (names_in names order)
+order_lines names order = labelled (codes "order: ") (numbers order)
+    ++ labelled (codes "names: ") (names_in names order)
 
 -- three lines: the sifted order, its size, and the size under the file order
 unfoldable pub sizes_lines : List ℕ → ℕ → ℕ → List ℕ
@@ -81,7 +82,8 @@ report_text cover best other =
 -- the same seven lines, by the truth tables of the cover and the sifted order's size
 abbrev pub report_parts : NamedCover → TruthTables → List ℕ → List ℕ → ℕ → List ℕ
 report_parts cover t best other size =
-    order_lines cover.input_names best ++ counts_lines (level_counts t.inputs (functions t) best) ++ sizes_lines other size (sum (file_order_levels cover))
+    order_lines cover.input_names best ++ counts_lines (level_counts t.inputs (functions t) best)
+        ++ sizes_lines other size (sum (file_order_levels cover))
 
 -- how many pairs a certificate has, if it has any
 abbrev pub pairs_words : ℕ → List ℕ

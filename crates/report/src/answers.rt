@@ -70,7 +70,8 @@ fn first_diagram<R: Threads + Sync>(
     Ok(diagram)
 }
 
-/// The level counts under the file order, off the diagram under the first order if that is the file order, else off one that is built under it.
+/// The level counts under the file order, off the diagram under the first order if that is the file
+/// order, else off one that is built under it.
 fn file_order_levels_of<R: Threads + Sync>(
     rt: &R,
     alloc: Global,
@@ -146,7 +147,8 @@ struct Found {
     sifted_size: u32,
 }
 
-/// The first order of the fewest nodes, and the one sifted from the diagram under the first order that keeps the pairs.
+/// The first order of the fewest nodes, and the one sifted from the diagram under the first order
+/// that keeps the pairs.
 fn search<R: Threads + Sync>(
     rt: &R,
     alloc: Global,

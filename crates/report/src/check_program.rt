@@ -36,7 +36,8 @@ fn check_files<'a, R: Files + AllocGlobal + Threads + Sync, W: CountedWrite>(
     run_check(rt, rt.alloc(), &mut file, &mut cert, out)
 }
 
-/// The program: the words are those after its name, the verdict goes to `out`, messages to `err`. Returns the exit status.
+/// The program: the words are those after its name, the verdict goes to `out`, messages to `err`.
+/// Returns the exit status.
 ///
 /// The words are `FILE CERT`. Both files are opened before FILE is read and decided; then CERT is.
 pub fn ordercheck<'a, R: Files + AllocGlobal + Threads + Sync, W: CountedWrite, E: CountedWrite>(

@@ -64,11 +64,11 @@ fn judged<R: Threads + Sync>(
     }
 }
 
-/// Reads a PLA file and a certificate, and writes the verdict: `valid N`, `valid N pairs q` if it has pairs, or `invalid` and the
-/// first reason that applies.
+/// Reads a PLA file and a certificate, and writes the verdict: `valid N`, `valid N pairs q` if it
+/// has pairs, or `invalid` and the first reason that applies.
 ///
-/// The file is read and decided first, then the certificate. The line is made whole before its first byte is written. Many threads
-/// share the work.
+/// The file is read and decided first, then the certificate. The line is made whole before its
+/// first byte is written. Many threads share the work.
 pub fn run_check<R: Threads + Sync, F: CountedRead, C: CountedRead, W: CountedWrite>(
     rt: &R,
     alloc: Global,

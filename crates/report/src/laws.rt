@@ -10,8 +10,9 @@ ghost use Rattle.report.specs.Answers.{AskTheSame, IsCertificateOf, IsTextOf};
 ghost use Rattle.report.specs.Judging.{Judge};
 ghost use Rattle.report.specs.Runs.{Delivers, held};
 
-/// What is written of a file follows from its bytes and from what is asked alone: the text of a cover and that of its certificate are the
-/// only ones, and runs that are done leave the same, whatever the number of workers, the schedule, and what else is written.
+/// What is written of a file follows from its bytes and from what is asked alone: the text of a
+/// cover and that of its certificate are the only ones, and runs that are done leave the same,
+/// whatever the number of workers, the schedule, and what else is written.
 pub fn texts_are_determined()
     ensures reports { (plan other : RunPlan) (cover : NamedCover) (a b : List ℕ) →
         AskTheSame plan other → IsTextOf plan cover a → IsTextOf other cover b → a ≡ b }
@@ -21,14 +22,19 @@ pub fn texts_are_determined()
     ensures printed { (plan other : RunPlan) (file before after later : List ℕ)
         (c d e f : Option (Option (List ℕ))) →
         AskTheSame plan other →
-        Delivers plan (Reads file) (held (Some before) c) (held (Some after) d) Done → Delivers other (Reads file) (held (Some before) e) (held (Some later) f) Done → after ≡ later }
-    ensures certified { (plan other : RunPlan) (file before after later : List ℕ) (c d e f : Option (List ℕ)) →
+        Delivers plan (Reads file) (held (Some before) c) (held (Some after) d) Done →
+        Delivers other (Reads file) (held (Some before) e) (held (Some later) f) Done →
+        after ≡ later }
+    ensures certified { (plan other : RunPlan) (file before after later : List ℕ)
+        (c d e f : Option (List ℕ)) →
         AskTheSame plan other →
         Delivers plan (Reads file) (held c (Some (Some before))) (held d (Some (Some after))) Done →
-        Delivers other (Reads file) (held e (Some (Some before))) (held f (Some (Some later))) Done → after ≡ later }
+        Delivers other (Reads file) (held e (Some (Some before)))
+        (held f (Some (Some later))) Done → after ≡ later }
 {}
 
-/// What a check decides, but for being out of memory and failed calls, follows from the bytes of the file and of the certificate alone.
+/// What a check decides, but for being out of memory and failed calls, follows from the bytes of
+/// the file and of the certificate alone.
 pub fn verdicts_are_determined()
     ensures { (file text : List ℕ) (outcome other : Outcome) (a b : List ℕ) →
         Judge file text outcome a → Judge file text other b → (outcome ≡ other) × (a ≡ b) }

@@ -23,7 +23,8 @@ const MEMORY_STATUS: u8 = 4;
 /// The longest line of a fault has a name, two numbers and two words.
 const LONGEST_FAULT: usize = 128;
 
-/// The words after a program's name, or its exit status if they can't be had: 2 if one is no text, 4 out of memory.
+/// The words after a program's name, or its exit status if they can't be had: 2 if one is no text,
+/// 4 out of memory.
 pub fn words_of_program<R: Env + AllocGlobal>(rt: &R) -> Result<Vec<String>, u8> {
     match env::args(rt) {
         Ok(words) => match words.skip(1).collect::<Vec<String>>(rt.alloc()) {
@@ -44,7 +45,8 @@ pub(crate) fn write_fault<E: CountedWrite>(err: &mut E, program: &str, fault: Fa
     let _ = write_whole(err, line.as_str().as_bytes());
 }
 
-/// Writes help to `out`, or why words are refused to `err`. A failure of the writers has no effect. Returns the exit status.
+/// Writes help to `out`, or why words are refused to `err`. A failure of the writers has no effect.
+/// Returns the exit status.
 pub(crate) fn write_usage<W: CountedWrite, E: CountedWrite>(
     alloc: Global,
     program: &str,

@@ -50,8 +50,8 @@ pub enum Outcome {
 }
 
 impl Outcome {
-    /// The exit status: 0 done, 1 the certificate is not valid, 3 input refused, 4 out of memory, 5 a device failed, 6 a store was
-    /// full, 8 pairs refused.
+    /// The exit status: 0 done, 1 the certificate is not valid, 3 input refused, 4 out of memory, 5
+    /// a device failed, 6 a store was full, 8 pairs refused.
     pub fn status(self) -> u8
         ensures { result ≡ status_of self }
     {

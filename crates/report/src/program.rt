@@ -17,7 +17,8 @@ use std::fs;
 use std::rt::Files;
 use std::thread::Threads;
 
-/// Opens the file, makes the certificate's, and does what the plan asks. A count makes no certificate.
+/// Opens the file, makes the certificate's, and does what the plan asks. A count makes no
+/// certificate.
 fn run_on_files<'a, R: Files + AllocGlobal + Threads + Sync, W: CountedWrite>(
     rt: &R,
     line: &Line<'a>,
@@ -44,10 +45,11 @@ fn run_on_files<'a, R: Files + AllocGlobal + Threads + Sync, W: CountedWrite>(
     run(rt, rt.alloc(), &line.plan, &mut file, out, &mut cert)
 }
 
-/// The program: the words are those after its name, the report goes to `out`, messages to `err`. Returns the exit status.
+/// The program: the words are those after its name, the report goes to `out`, messages to `err`.
+/// Returns the exit status.
 ///
-/// The words are `[--workers W] [--cert OUT] [--count] [--above LIST] FILE`. FILE is opened, then OUT is made, empty, and then FILE is
-/// read; if a run is refused OUT stays as it was made.
+/// The words are `[--workers W] [--cert OUT] [--count] [--above LIST] FILE`. FILE is opened, then
+/// OUT is made, empty, and then FILE is read; if a run is refused OUT stays as it was made.
 pub fn minorder<'a, R: Files + AllocGlobal + Threads + Sync, W: CountedWrite, E: CountedWrite>(
     rt: &R,
     words: &'a [&'a str],
@@ -62,7 +64,8 @@ pub fn minorder<'a, R: Files + AllocGlobal + Threads + Sync, W: CountedWrite, E:
         EndsWell (texts words.now) (W.contents out.old) (W.contents out.new) }
     ensures part { result ≡ 5 →
         EndsInPart (texts words.now) (W.contents out.old) (W.contents out.new) }
-    // 3 is a run's fault, 6 that of a run without count, 8 that of a list of pairs that is faulty for some cover
+    // 3 is a run's fault, 6 that of a run without count, 8 that of a list of pairs that is faulty
+    // for some cover
     ensures run { result ≡ 3 → IsRunOf (texts words.now) }
     ensures full { result ≡ 6 → IsFullRunOf (texts words.now) }
     ensures pairs { result ≡ 8 → IsFaultyRunOf (texts words.now) }

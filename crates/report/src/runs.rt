@@ -102,11 +102,13 @@ fn write_certificate<C: CountedWrite>(
     }
 }
 
-/// Reads a PLA file and writes what is asked of it: with `count`, the level counts and the size under the file order, else the
-/// first order of the fewest nodes that keeps the pairs, beside the sifted one, and its certificate if this has a writer.
+/// Reads a PLA file and writes what is asked of it: with `count`, the level counts and the size
+/// under the file order, else the first order of the fewest nodes that keeps the pairs, beside the
+/// sifted one, and its certificate if this has a writer.
 ///
-/// The file is read to its end before anything is decided, and both texts are made whole before the first byte is written. The
-/// certificate goes out first. A count leaves the certificate's writer alone.
+/// The file is read to its end before anything is decided, and both texts are made whole before the
+/// first byte is written. The certificate goes out first. A count leaves the certificate's writer
+/// alone.
 pub fn run<'a, R: Threads + Sync, F: CountedRead, W: CountedWrite, C: CountedWrite>(
     rt: &R,
     alloc: Global,
@@ -119,7 +121,9 @@ pub fn run<'a, R: Threads + Sync, F: CountedRead, W: CountedWrite, C: CountedWri
     requires out { W.failures out.old < 2 ^ 32 }
     requires cert { failures_in C.failures cert.old < 2 ^ 32 }
     ensures tells { IfSome (F.remaining file.old) (λ bytes. Tells plan.now bytes result) }
-    ensures writes { IfSome (F.remaining file.old) (λ bytes. Delivers plan.now (Reads bytes) (held (W.contents out.old) (option_map C.contents cert.old))
+    ensures writes { IfSome (F.remaining file.old)
+        (λ bytes. Delivers plan.now (Reads bytes)
+        (held (W.contents out.old) (option_map C.contents cert.old))
         (held (W.contents out.new) (option_map C.contents cert.new)) result) }
     ensures answers { Delivers plan.now IsCover
         (held (W.contents out.old) (option_map C.contents cert.old))
@@ -132,7 +136,8 @@ pub fn run<'a, R: Threads + Sync, F: CountedRead, W: CountedWrite, C: CountedWri
     // the printed order is the first under which the file's functions have the fewest nodes
     ensures optimum { IfSome (F.remaining file.old)
         (λ bytes. PrintsOptimum plan.now bytes (W.contents out.old) (W.contents out.new) result) }
-    ensures devices { FailsOnlyByDevice (F.failures file.old + W.failures out.old + failures_in C.failures cert.old)
+    ensures devices { FailsOnlyByDevice
+        (F.failures file.old + W.failures out.old + failures_in C.failures cert.old)
         (F.failures file.new + W.failures out.new + failures_in C.failures cert.new) result }
 {
     let cover = match read_cover(alloc, file) {

@@ -193,7 +193,9 @@ pub(crate) fn report_text(alloc: Global, report: &Report<'_>) -> Result<String, 
     requires order { All (λ x. x < length report.now.names.now) report.now.order.now }
     requires levels { length report.now.levels.now ≤ 16 }
     ensures { IfOk result (λ text. string_bytes text
-        ≡ order_lines (map string_bytes report.now.names.now) report.now.order.now ++ counts_lines report.now.levels.now ++ sizes_lines report.now.sifted.now report.now.sifted_size report.now.file_size) }
+        ≡ order_lines (map string_bytes report.now.names.now) report.now.order.now
+        ++ counts_lines report.now.levels.now
+        ++ sizes_lines report.now.sifted.now report.now.sifted_size report.now.file_size) }
 {
     let room = names_room(report.names).saturating_add(LONGEST);
     let mut text = String::with_capacity(alloc, room)?;

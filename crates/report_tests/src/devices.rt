@@ -23,7 +23,8 @@ impl Read for FailingReader<'_> {
     }
 }
 
-/// A writer that keeps what it takes, at most so many bytes a call, and fails once it has taken as many as it may.
+/// A writer that keeps what it takes, at most so many bytes a call, and fails once it has taken as
+/// many as it may.
 #[derive(Drop)]
 pub struct FailingWriter {
     pub taken: Vec<u8>,

@@ -42,7 +42,8 @@ ref_at cut k = get_or cut k (Terminal false)
 -- the first refs of a cut, split by a variable: a node of the level for each, and the codes of the next cut
 abbrev pub SplitsFirst : ℕ → List Node → ℕ → List Ref → List Children → List ℕ → Type 0
 SplitsFirst done nodes x cut level codes =
-    NumbersFirst 0 (λ k. code_of (split_ref nodes x (ref_at cut k)).0) (λ k. code_of (split_ref nodes x (ref_at cut k)).1) done level codes
+    NumbersFirst 0 (λ k. code_of (split_ref nodes x (ref_at cut k)).0)
+        (λ k. code_of (split_ref nodes x (ref_at cut k)).1) done level codes
 
 -- a cut, split by a variable
 pub record Splits (nodes : List Node) (x : ℕ) (cut : List Ref) (level : List Children) (next : List Ref) : Type 0 where
@@ -71,9 +72,11 @@ is_true (Terminal b) = b
 is_true (Place k) = false
 
 -- levels whose functions are those of a diagram's roots
-pub record IsBuilt (order : List ℕ) (nodes : List Node) (roots : List Ref) (numbers : List ℕ) (levels : List (List Children))
+pub record IsBuilt (order : List ℕ) (nodes : List Node) (roots : List Ref) (numbers : List ℕ)
+    (levels : List (List Children))
     (terminals : List Bool) : Type 0 where
   pub leveled : IsLeveled levels terminals order numbers
   pub many : length numbers ≡ length roots
   pub functions_are : (j : ℕ) → j < length roots →
-      SameFunction (length order) (function_at levels terminals order (get_or numbers j 0)) (value nodes (ref_at roots j))
+      SameFunction (length order) (function_at levels terminals order (get_or numbers j 0))
+          (value nodes (ref_at roots j))

@@ -18,7 +18,8 @@ nodes_of levels = map (λ (l : Level). l.nodes.items) levels
 -- the truth tables of the roots
 unfoldable pub problem_at : List (List Children) → List Bool → List ℕ → List ℕ → TruthTables
 problem_at levels terminals order roots =
-    record { inputs = length order; tables = map (λ r. table (length order) (function_at levels terminals order r)) roots }
+    record { inputs = length order;
+        tables = map (λ r. table (length order) (function_at levels terminals order r)) roots }
 
 -- a diagram by levels: at most 16 roots, and no node or terminal twice
 pub record IsLeveled (levels : List (List Children)) (terminals : List Bool) (order roots : List ℕ) : Type 0 where
@@ -28,7 +29,8 @@ pub record IsLeveled (levels : List (List Children)) (terminals : List Bool) (or
   pub terminals_are : AreTerminals terminals
 
 -- a diagram by levels under an order that keeps some pairs
-pub record HoldsDiagram (levels : List (List Children)) (terminals : List Bool) (order roots : List ℕ) (kept : KeptPairs) : Type 0 where
+pub record HoldsDiagram (levels : List (List Children)) (terminals : List Bool) (order roots : List ℕ)
+    (kept : KeptPairs) : Type 0 where
   pub leveled : IsLeveled levels terminals order roots
   pub few : length order ≤ 16
   pub is_order : IsOrder (length order) order

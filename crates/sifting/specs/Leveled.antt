@@ -65,10 +65,12 @@ pub record IsLevel (below : ℕ) (L : List Children) : Type 0 where
 -- levels, the first of which has at most `most` nodes, and each further one at most twice as many
 abbrev pub AreLevels : ℕ → List Bool → List (List Children) → Type 0
 AreLevels most terminals [] = Unit {0}
-AreLevels most terminals (L ∷ levels) = IsLevel (places levels terminals) L × (length L ≤ most) × AreLevels (2 * most) terminals levels
+AreLevels most terminals (L ∷ levels) = IsLevel (places levels terminals) L × (length L ≤ most)
+    × AreLevels (2 * most) terminals levels
 
 -- the first nodes of a level over the numbers of keys: each key is there once, and is that of a child
-pub record NumbersFirst {K : Type 0} (d : K) (off_key on_key : ℕ → K) (done : ℕ) (nodes : List Children) (keys : List K) : Type 0 where
+pub record NumbersFirst {K : Type 0} (d : K) (off_key on_key : ℕ → K) (done : ℕ) (nodes : List Children)
+    (keys : List K) : Type 0 where
   pub many : length nodes ≡ done
   pub few : length keys ≤ 2 * done
   pub inside : HasChildrenFirst done (length keys) nodes
@@ -83,7 +85,8 @@ grandchildren upper lower b k = (child b (at lower (at upper k).0), child b (at 
 
 -- the first nodes of two levels with their variables exchanged: the nodes of the upper one stay, and below them each pair of grandchildren is there once
 abbrev pub ExchangesFirst : ℕ → List Children → List Children → List Children → List Children → Type 0
-ExchangesFirst done upper lower upper' lower' = NumbersFirst (0, 0) (grandchildren upper lower false) (grandchildren upper lower true) done upper' lower'
+ExchangesFirst done upper lower upper' lower' = NumbersFirst (0, 0) (grandchildren upper lower false)
+    (grandchildren upper lower true) done upper' lower'
 
 -- two levels with their variables exchanged
 abbrev pub Exchanges : List Children → List Children → List Children → List Children → Type 0
@@ -96,4 +99,5 @@ pub record AreRoots (below : ℕ) (roots : List ℕ) : Type 0 where
 
 -- no terminal is there twice
 abbrev pub AreTerminals : List Bool → Type 0
-AreTerminals terminals = (j k : ℕ) → j < length terminals → k < length terminals → get_or terminals j false ≡ get_or terminals k false → j ≡ k
+AreTerminals terminals = (j k : ℕ) → j < length terminals → k < length terminals →
+    get_or terminals j false ≡ get_or terminals k false → j ≡ k

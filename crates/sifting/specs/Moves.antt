@@ -12,7 +12,8 @@ use Rattle.sifting.specs.Managed.{Managed}
 
 -- the variable at one place stands at another, and the others keep their order
 unfoldable pub Moves : ℕ → ℕ → List ℕ → List ℕ → Type 0
-Moves place other from to = (others : List ℕ) (x : ℕ) → place ≤ length others → from ≡ insert others place x → to ≡ insert others other x
+Moves place other from to = (others : List ℕ) (x : ℕ) → place ≤ length others → from ≡ insert others place x →
+    to ≡ insert others other x
 
 -- two managers of the same functions and pairs, with the variable at one place moved to another
 pub record IsMoved (place other : ℕ) (from to : Managed) : Type 0 where
@@ -27,7 +28,8 @@ StopsAbove P order place = (place ≡ 0) ⊎ IsTrue (has_pair P (slice_index ord
 
 -- the place is the lowest, or the variable below must stay below
 abbrev pub StopsBelow : List Pair → List ℕ → ℕ → Type 0
-StopsBelow P order place = (length order ≤ place + 1) ⊎ IsTrue (has_pair P (slice_index order place) (slice_index order (place + 1)))
+StopsBelow P order place = (length order ≤ place + 1)
+    ⊎ IsTrue (has_pair P (slice_index order place) (slice_index order (place + 1)))
 
 -- the orders with x at the places from one to another
 abbrev pub placed_from : List ℕ → ℕ → ℕ → ℕ → List (List ℕ)
@@ -35,7 +37,8 @@ placed_from others x from to = map (λ i. insert others i x) (range_with_len fro
 
 -- of the variables between two places, none must stay above the one at the lower place
 abbrev pub PassesBetween : Managed → ℕ → ℕ → Type 0
-PassesBetween m upper lower = (others : List ℕ) (x : ℕ) → lower ≤ length others → m.order ≡ insert others lower x → (i : ℕ) → upper ≤ i → i < lower →
+PassesBetween m upper lower = (others : List ℕ) (x : ℕ) → lower ≤ length others → m.order ≡ insert others lower x →
+    (i : ℕ) → upper ≤ i → i < lower →
     IsFalse (has_pair m.pairs (slice_index others i) x)
 
 -- whether a variable has a smaller count
@@ -50,7 +53,8 @@ by_falling_count counts n = fold (λ ys x. insert_by_count (slice_index counts) 
 pub record FindsBest (m : Managed) (from to best : ℕ) : Type 0 where
   pub above : from ≤ best
   pub below : best ≤ to
-  pub keeps : (others : List ℕ) (x : ℕ) → from ≤ length others → m.order ≡ insert others from x → (i : ℕ) → from ≤ i → i ≤ to →
+  pub keeps : (others : List ℕ) (x : ℕ) → from ≤ length others → m.order ≡ insert others from x → (i : ℕ) → from ≤ i →
+      i ≤ to →
       Keeps m.pairs (insert others i x)
   pub smallest : (others : List ℕ) (x : ℕ) → from ≤ length others → m.order ≡ insert others from x →
       insert others best x ≡ smallest_of m.problem.inputs (functions m.problem) m.order (placed_from others x from to)

@@ -65,7 +65,8 @@ fn halves(nodes: &[Node], variable: VarIx, r: Ref) -> (Ref, Ref)
     }
 }
 
-/// The nodes of a variable's level, from the refs that paths come to above it, and the refs below it.
+/// The nodes of a variable's level, from the refs that paths come to above it, and the refs below
+/// it.
 fn split(
     alloc: Global,
     n: u8,

@@ -1,8 +1,9 @@
 //! The levels of a diagram, and the exchange of two neighbours.
 //!
-//! A level has a node for each function that is left over when all variables above are fixed in some way: also for one that
-//! doesn't depend on the level's variable, and whose two children are then equal. So each edge goes to the next level, and an
-//! exchange changes nothing outside its two levels.
+//! A level has a node for each function that is left over when all variables above are fixed in
+//! some way: also for one that doesn't depend on the level's variable, and whose two children are
+//! then equal. So each edge goes to the next level, and an exchange changes nothing outside its two
+//! levels.
 
 ghost use Rattle.std.specs.Prelude.{◌≡◌, ◌+◌, ◌*◌, ◌<◌, ◌^◌, length, IfOk};
 ghost use Rattle.sifting.specs.Leveled.{branching, HasChildren, Exchanges};

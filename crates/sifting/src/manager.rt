@@ -11,8 +11,8 @@ use order_model::{BadOrder, Diagram, Order, Pairs};
 use std::alloc::{AllocError, Global};
 use std::marker::Model;
 
-/// A reduced diagram whose neighbouring levels can be exchanged, under an order that keeps some pairs. A call that takes it and
-/// is refused memory spends it.
+/// A reduced diagram whose neighbouring levels can be exchanged, under an order that keeps some
+/// pairs. A call that takes it and is refused memory spends it.
 #[derive(Debug, Drop)]
 pub struct Manager {
     order: Order,
@@ -28,9 +28,14 @@ impl Model for Manager {
 
     ghost Value = { Managed };
 
-    ghost view = { λ m. record { order = m.order; problem = problem_at (nodes_of m.levels.items) m.terminals.items m.order m.roots.items; pairs = m.pairs.pairs } };
+    ghost view = { λ m. record {
+      order = m.order;
+      problem = problem_at (nodes_of m.levels.items) m.terminals.items m.order m.roots.items;
+      pairs = m.pairs.pairs;
+    } };
 
-    ghost invariant = { λ m. HoldsDiagram (nodes_of m.levels.items) m.terminals.items m.order m.roots.items m.pairs };
+    ghost invariant = { λ m. HoldsDiagram
+        (nodes_of m.levels.items) m.terminals.items m.order m.roots.items m.pairs };
 }
 
 /// The order with the variables of a level and the next one exchanged.
@@ -50,7 +55,8 @@ fn exchanged(alloc: Global, order: &Order, level: usize) -> Result<Order, AllocE
 }
 
 impl Manager {
-    /// The manager of a reduced diagram, without pairs. The time is that of a step for each node and each level that an edge passes over.
+    /// The manager of a reduced diagram, without pairs. The time is that of a step for each node
+    /// and each level that an edge passes over.
     pub fn of(alloc: Global, diagram: Diagram) -> Result<Manager, AllocError>
         requires few { length diagram.graph.roots ≤ 16 }
         requires ordered { IsOrdered diagram.order diagram.graph }
@@ -86,7 +92,8 @@ impl Manager {
         })
     }
 
-    /// Whether the variables of a level and the next one may be exchanged: no pair has the upper one above the lower.
+    /// Whether the variables of a level and the next one may be exchanged: no pair has the upper
+    /// one above the lower.
     pub fn may_swap(&self, level: usize) -> bool
         requires { level + 1 < length self.now.order }
         ensures { result ≡ not
@@ -97,8 +104,9 @@ impl Manager {
         (self.pairs.below(variables[level]) >> variables[level + 1]) & 1 == 0
     }
 
-    /// The manager with the variables of a level and the next one exchanged (Rudell 1993). The functions and all other places
-    /// stay, and the diagram is reduced again. The time is that of a step for each node of the two levels.
+    /// The manager with the variables of a level and the next one exchanged (Rudell 1993). The
+    /// functions and all other places stay, and the diagram is reduced again. The time is that of a
+    /// step for each node of the two levels.
     pub fn swap(self, alloc: Global, level: usize) -> Result<Manager, AllocError>
         requires below { level + 1 < length self.order }
         requires lawful { IsFalse
@@ -128,7 +136,8 @@ impl Manager {
         })
     }
 
-    /// How many nodes the reduced diagram has. Each level knows its own number, so none is counted again.
+    /// How many nodes the reduced diagram has. Each level knows its own number, so none is counted
+    /// again.
     pub fn size(&self) -> u32
         ensures value { result ≡ size_of self.now }
         ensures managed { IsManagedOrder self.now }

@@ -14,11 +14,13 @@ use Rattle.order_model.specs.Diagrams.{IsBefore, IsChild}
 -- a ref goes to a terminal, or to a node before place k whose variable stands after x
 pub record IsBehind (order : List ℕ) (nodes : List Node) (k x : ℕ) (r : Ref) : Type 0 where
   pub before : IsBefore k r
-  pub after : (j : ℕ) (child : Node) → r ≡ Place j → slice_get nodes j ≡ Some child → place_in order x < place_in order child.variable
+  pub after : (j : ℕ) (child : Node) → r ≡ Place j → slice_get nodes j ≡ Some child →
+      place_in order x < place_in order child.variable
 
 -- place k is a root, or a child of a later node
 abbrev pub IsUsed : List Node → List Ref → ℕ → Type 0
-IsUsed nodes roots k = Contains roots (Place k) ⊎ ((j : ℕ) × (parent : Node) × (k < j) × (slice_get nodes j ≡ Some parent) × IsChild (Place k) parent)
+IsUsed nodes roots k = Contains roots (Place k)
+    ⊎ ((j : ℕ) × (parent : Node) × (k < j) × (slice_get nodes j ≡ Some parent) × IsChild (Place k) parent)
 
 -- the node at place k may stand in a reduced diagram
 pub record IsCheckedNode (order : List ℕ) (nodes : List Node) (roots : List Ref) (k : ℕ) (node : Node) : Type 0 where
@@ -31,7 +33,8 @@ pub record IsCheckedNode (order : List ℕ) (nodes : List Node) (roots : List Re
 
 -- the first nodes may
 abbrev pub AreCheckedFirst : ℕ → List ℕ → List Node → List Ref → Type 0
-AreCheckedFirst done order nodes roots = (k : ℕ) (node : Node) → k < done → slice_get nodes k ≡ Some node → IsCheckedNode order nodes roots k node
+AreCheckedFirst done order nodes roots = (k : ℕ) (node : Node) → k < done → slice_get nodes k ≡ Some node →
+    IsCheckedNode order nodes roots k node
 
 -- nodes and roots make a reduced diagram
 pub record AreChecked (order : List ℕ) (nodes : List Node) (roots : List Ref) : Type 0 where

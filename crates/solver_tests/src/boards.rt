@@ -44,7 +44,8 @@ fn parity_cell(problem: &Problem, mask: Mask, cost: u32, pairs: &Pairs) -> CellR
     CellResult::new(problem, 7, mask, Cell { cost, variable: 0 }, pairs)
 }
 
-/// Claims the next block: it stands at the place, and has so many sets with the low byte, of which this is the first.
+/// Claims the next block: it stands at the place, and has so many sets with the low byte, of which
+/// this is the first.
 fn claim_next(
     rt: &impl Abort,
     board: &Board,

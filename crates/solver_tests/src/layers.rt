@@ -35,8 +35,9 @@ fn sets_of_two_of_ten_variables(rt: HostRuntime) -> Result<(), Fail> {
     Ok(())
 }
 
-/// Of each set of a layer of the multiplexer (the variable 2 selects 0 or 1) the widths of the variables over the set
-/// without them, if they are needed, and the cost and variable of its cell for the bound 3.
+/// Of each set of a layer of the multiplexer (the variable 2 selects 0 or 1) the widths of the
+/// variables over the set without them, if they are needed, and the cost and variable of its cell
+/// for the bound 3.
 type Row = (Mask, [u32; 3], u32, u8);
 
 static ONE: [Row; 3] = [

@@ -10,7 +10,8 @@ use std::alloc::{AllocError, Global};
 use std::process::Abort;
 use std::test::Fail;
 
-// A node by its variable and its two refs: 0 and 1 are the terminals, and k + 2 is the node at place k.
+// A node by its variable and its two refs: 0 and 1 are the terminals, and k + 2 is the node at
+// place k.
 type Triple = (u8, usize, usize);
 
 // Six inputs: three products of two, x and x + 3.
@@ -94,7 +95,8 @@ fn lifted(alloc: Global, manager: Manager, from: usize, to: usize) -> Result<Man
     Ok(manager)
 }
 
-// The manager with the variable on top on the lowest level, and the sizes with it on each level, top first.
+// The manager with the variable on top on the lowest level, and the sizes with it on each level,
+// top first.
 fn sizes_by_level(alloc: Global, manager: Manager) -> Result<(Manager, Vec<u32>), AllocError> {
     let mut manager = manager;
     let mut sizes = Vec::new(alloc);
@@ -121,7 +123,8 @@ fn place_of_least(sizes: &[u32]) -> usize {
     found
 }
 
-/// The manager with a variable on its first place of least size, and the sizes with it on each level.
+/// The manager with a variable on its first place of least size, and the sizes with it on each
+/// level.
 fn put_best(
     rt: &impl Abort,
     alloc: Global,

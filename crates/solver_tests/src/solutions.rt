@@ -16,7 +16,8 @@ use std::test::Fail;
 use std::thread::Threads;
 use truth_table::Tables;
 
-/// A cover, the order that is sifted, and what is to be found: the order, its level counts, their sum and the number of widths.
+/// A cover, the order that is sifted, and what is to be found: the order, its level counts, their
+/// sum and the number of widths.
 type Row = (
     &'static [u8],
     &'static [u8],
@@ -131,7 +132,8 @@ fn solves_words_alone(rt: HostRuntime) -> Result<(), Fail> {
     Ok(())
 }
 
-/// Holds each of two workers at its first call until the other has made one, for some turns at most, and marks each of the items 1 to 65,535.
+/// Holds each of two workers at its first call until the other has made one, for some turns at
+/// most, and marks each of the items 1 to 65,535.
 #[derive(Drop)]
 struct Meet {
     came: [AtomicU64; 2],

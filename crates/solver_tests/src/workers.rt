@@ -187,7 +187,8 @@ fn seats_with_claim(board: &Board, seats: Vec<BoardSeat>) -> Result<(BoardSeat, 
     Ok((owner, worker))
 }
 
-/// One of two seats claims the first block and holds it while the other one works, or posts it from a thread of its own.
+/// One of two seats claims the first block and holds it while the other one works, or posts it from
+/// a thread of its own.
 fn hold_claim<R: Threads + Sync>(
     rt: &R,
     alloc: Global,

@@ -138,7 +138,8 @@ fn builds_covers_under_their_file_orders(rt: HostRuntime) -> Result<(), Fail> {
     Ok(())
 }
 
-// A cover of three inputs has many terms as soon as it has one, a cover of sixteen has few up to 1,024.
+// A cover of three inputs has many terms as soon as it has one, a cover of sixteen has few up to
+// 1,024.
 #[test]
 fn builds_of_few_terms_and_of_many(rt: HostRuntime) -> Result<(), Fail> {
     let Some(workers) = Workers::new(2) else {
@@ -206,7 +207,8 @@ fn applies_operations(rt: HostRuntime) -> Result<(), Fail> {
     Ok(())
 }
 
-// Holds each of two workers at its first call until the other one has made one, for some turns at most, and notes the items, which are below 64.
+// Holds each of two workers at its first call until the other one has made one, for some turns at
+// most, and notes the items, which are below 64.
 #[derive(Drop)]
 struct Meeting {
     came: [AtomicU64; 2],

@@ -70,7 +70,8 @@ struct Ending {
     closed: Result<Diagram, CloseFault>,
 }
 
-// Closes a store for which so many of the two functions were published; with a node that no root reaches, if that is wanted.
+// Closes a store for which so many of the two functions were published; with a node that no root
+// reaches, if that is wanted.
 fn close_both(alloc: Global, published: u8, further: bool) -> Result<Ending, Fail> {
     let (store, mut session) = store_of_both(alloc)?;
     let (conjunction, disjunction) = make_both(&store, &mut session)?;

@@ -12,7 +12,8 @@ use std::test::Fail;
 use std::thread::join;
 use unique_table::{NodeId, Pieces, Session, Store, StoreFull};
 
-// Makes a node of the level, unless the children are equal, and adds its id. Says whether the store wasn't full.
+// Makes a node of the level, unless the children are equal, and adds its id. Says whether the store
+// wasn't full.
 fn make_one(
     store: &Store,
     session: &mut Session,
@@ -39,7 +40,8 @@ fn make_one(
     Ok(true)
 }
 
-// Makes a node of the level for each pair of unequal ids, until there are so many, and adds their ids. Says whether the store wasn't full.
+// Makes a node of the level for each pair of unequal ids, until there are so many, and adds their
+// ids. Says whether the store wasn't full.
 fn make_all(
     store: &Store,
     session: &mut Session,
@@ -100,7 +102,8 @@ struct Filled {
     ids: Vec<NodeId>,
 }
 
-// The lowest four levels, and nodes of level 11 by one thread: those whose low child stands at place `from` or after it.
+// The lowest four levels, and nodes of level 11 by one thread: those whose low child stands at
+// place `from` or after it.
 fn fill_part(
     store: &Store,
     session: Session,

@@ -46,11 +46,13 @@ cell_at c mask = slice_get c.cells (place_in (masks_of (layer_of_costs c)) mask)
 
 -- the cost of a set of the layer: its cell's, and that of the empty set is 0
 unfoldable pub cost_at : CostsOf → ℕ → Option ℕ
-cost_at c mask = cond (has (masks_of (layer_of_costs c)) mask) (Some (option_map_or (λ (cell : Cell). cell.cost) (cell_at c mask) 0)) None
+cost_at c mask = cond (has (masks_of (layer_of_costs c)) mask)
+    (Some (option_map_or (λ (cell : Cell). cell.cost) (cell_at c mask) 0)) None
 
 -- the costs are those of the definition's cells
 abbrev pub AreTrueCosts : ℕ → List Function → List Pair → ℕ → CostsOf → Type 0
-AreTrueCosts n F P bound c = (mask : ℕ) → IsTrue (has (masks_of (layer_of_costs c)) mask) → cost_at c mask ≡ Some (cell_cost n F P bound mask)
+AreTrueCosts n F P bound c = (mask : ℕ) → IsTrue (has (masks_of (layer_of_costs c)) mask) →
+    cost_at c mask ≡ Some (cell_cost n F P bound mask)
 
 -- the cells are the definition's
 abbrev pub AreTrueCells : ℕ → List Function → List Pair → ℕ → CostsOf → Type 0

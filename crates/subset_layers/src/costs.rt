@@ -12,8 +12,8 @@ use order_model::{Mask, VarIx};
 use std::alloc::{AllocError, Global};
 use std::marker::Model;
 
-/// What is kept of a set that is not empty: its least cost, and the variable on top that gives it. A clipped cell has one
-/// more than the bound and the smallest member.
+/// What is kept of a set that is not empty: its least cost, and the variable on top that gives it.
+/// A clipped cell has one more than the bound and the smallest member.
 #[derive(Clone, Copy, Debug, PartialEq, Eq)]
 pub struct Cell {
     pub cost: u32,

@@ -12,7 +12,8 @@ use std::marker::Model;
 /// How many low bytes there are: the values of the variables 0 to 7.
 const LOW_BYTES: usize = 256;
 
-/// The sets of one size of some variables, as masks in rising order, and in blocks by their low bytes.
+/// The sets of one size of some variables, as masks in rising order, and in blocks by their low
+/// bytes.
 #[derive(Drop)]
 pub struct Layer {
     inputs: u8,
@@ -28,7 +29,8 @@ impl Model for Layer {
 
     ghost view = { λ l. layer_with l.inputs l.size };
 
-    ghost invariant = { λ l. AreLayer (layer_with l.inputs l.size) l.masks.numbers.items l.lows.numbers.items };
+    ghost invariant = { λ l. AreLayer
+        (layer_with l.inputs l.size) l.masks.numbers.items l.lows.numbers.items };
 }
 
 /// The sets of a layer that agree in the variables 0 to 7, as masks in rising order.
@@ -49,7 +51,9 @@ impl Model for Block {
 
     ghost view = { λ b. block_of b.inputs b.size b.low };
 
-    ghost invariant = { λ b. (b.count ≤ 256) × (take b.count b.masks ≡ block_masks (block_of b.inputs b.size b.low)) × (b.low < 2 ^ b.inputs) };
+    ghost invariant = { λ b. (b.count ≤ 256)
+        × (take b.count b.masks ≡ block_masks (block_of b.inputs b.size b.low))
+        × (b.low < 2 ^ b.inputs) };
 }
 
 /// Whether each mask of some variables has the size.

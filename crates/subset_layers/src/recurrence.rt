@@ -32,7 +32,8 @@ fn smaller(best: Option<Sum>, next: Sum) -> Sum
     }
 }
 
-/// The least sum of cost and width over the members without which the cost is within the bound, by the smallest such member.
+/// The least sum of cost and width over the members without which the cost is within the bound, by
+/// the smallest such member.
 fn best_sum(mask: Mask, costs: &Costs, widths: &[u32; 16], bound: u32) -> Option<Sum>
     requires { IsTrue (has (masks_of (layer_with costs.now.inputs (costs.now.size + 1))) mask) }
     ensures best { IfSome result
@@ -83,7 +84,9 @@ fn lawful_cell(mask: Mask, costs: &Costs, widths: &[u32; 16], bound: u32, essent
     ensures { (F : List Function) (P : List Pair) (order : List ℕ) →
         IsOrder costs.now.inputs order → Keeps P order →
         IsTrue (is_lawful P (members costs.now.inputs mask)) →
-        essential ≡ essential_mask costs.now.inputs F → AreTrueCosts costs.now.inputs F P bound costs.now → AreWidthsFor costs.now.inputs F P bound mask costs.now widths.now →
+        essential ≡ essential_mask costs.now.inputs F →
+        AreTrueCosts costs.now.inputs F P bound costs.now →
+        AreWidthsFor costs.now.inputs F P bound mask costs.now widths.now →
         as_pair result ≡ cell_of costs.now.inputs F P bound mask }
 {
     let outside = count_outside(essential, mask);
@@ -102,8 +105,8 @@ fn lawful_cell(mask: Mask, costs: &Costs, widths: &[u32; 16], bound: u32, essent
     }
 }
 
-/// The cell of a set of the layer after the costs' one. Widths are needed of the members without which the cost is within
-/// the bound; the others may be anything.
+/// The cell of a set of the layer after the costs' one. Widths are needed of the members without
+/// which the cost is within the bound; the others may be anything.
 pub fn least_cell(
     mask: Mask,
     costs: &Costs,
@@ -118,7 +121,8 @@ pub fn least_cell(
     requires room { bound + 1 < 2 ^ 32 }
     ensures { (F : List Function) → essential ≡ essential_mask costs.now.inputs F →
         AreTrueCosts costs.now.inputs F pairs.now.pairs bound costs.now →
-        AreWidthsFor costs.now.inputs F pairs.now.pairs bound mask costs.now widths.now → as_pair result ≡ cell_of costs.now.inputs F pairs.now.pairs bound mask }
+        AreWidthsFor costs.now.inputs F pairs.now.pairs bound mask costs.now widths.now →
+        as_pair result ≡ cell_of costs.now.inputs F pairs.now.pairs bound mask }
 {
     prove!(pairs.inputs() <= 16);
     if pairs.lawful(mask) {

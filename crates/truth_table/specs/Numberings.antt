@@ -26,4 +26,5 @@ unequal_count ps = distinct_count same_pair (filter is_unequal ps)
 -- two places have one number exactly if they have one pair
 pub record IsNumbering (ps : List (ℕ × ℕ)) (ns : List ℕ) : Type 0 where
   pub long : length ns ≡ length ps
-  pub apart : (j k : ℕ) → j < length ps → k < length ps → (get_or ns j 0 ≡ get_or ns k 0) ↔ (get_or ps j (0, 0) ≡ get_or ps k (0, 0))
+  pub apart : (j k : ℕ) → j < length ps → k < length ps →
+      (get_or ns j 0 ≡ get_or ns k 0) ↔ (get_or ps j (0, 0) ≡ get_or ps k (0, 0))

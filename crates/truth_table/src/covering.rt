@@ -88,7 +88,8 @@ fn add_term(words: &mut [[u64; 16]; 32], term: &Term, group: usize)
     }
 }
 
-/// The values of all outputs at the points of a group of 32 words: only terms that may hold there are asked word by word.
+/// The values of all outputs at the points of a group of 32 words: only terms that may hold there
+/// are asked word by word.
 fn group_words(terms: &[Term], group: usize) -> [[u64; 16]; 32]
     requires { group < 32 }
     ensures { AreGroupWords terms.now group result }
@@ -128,7 +129,8 @@ fn lay_out(
     requires outputs { m ≤ 16 }
     ensures long { IfOk result (λ v. length v.items ≡ m * size) }
     ensures words { IfOk result (λ v. (i : ℕ) → i < m * size
-        → slice_index v.items i ≡ bit_and (slice_index (get_or (get_or groups.now (i % size / 32) []) (i % size % 32) []) (i / size)) mask) }
+        → slice_index v.items i ≡ bit_and (slice_index
+        (get_or (get_or groups.now (i % size / 32) []) (i % size % 32) []) (i / size)) mask) }
 {
     let mut words = Vec::with_capacity(alloc, m as usize * size)?;
     for i in 0..m as usize * size {

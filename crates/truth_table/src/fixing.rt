@@ -9,7 +9,8 @@ ghost use Rattle.truth_table.specs.Fixing.{fixed_bit};
 use order_model::VarIx;
 use order_model::packed::lower_half;
 
-/// The word that has at each point the value that a word has with variable x, below 6, made `upper`.
+/// The word that has at each point the value that a word has with variable x, below 6, made
+/// `upper`.
 fn fixed_word(word: u64, x: VarIx, upper: bool) -> u64
     requires { x < 6 }
     ensures { (k : ℕ) → k < 64 → bit_at result k ≡ bit_at word (fixed_bit x upper k) }

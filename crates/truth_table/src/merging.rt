@@ -53,7 +53,8 @@ fn push_upper(points: &mut Vec<u32>, x: VarIx) -> Result<(), AllocError>
     Ok(())
 }
 
-/// The numbers of the points of all assignments of some variables, the first variable as the highest bit of the place.
+/// The numbers of the points of all assignments of some variables, the first variable as the
+/// highest bit of the place.
 pub(crate) fn assignment_points(alloc: Global, variables: &[VarIx]) -> Result<Vec<u32>, AllocError>
     requires small { All (λ x. x < 16) variables.now }
     requires few { length variables.now ≤ 16 }

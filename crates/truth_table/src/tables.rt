@@ -36,7 +36,9 @@ impl Model for Tables {
 }
 
 impl Tables {
-    /// The truth tables of a cover's outputs. Threads share groups of 32 words of 64 points; the time is that of a step for each group and term, of one for each word of a group if the term may hold, and of one for each output of a word if it holds.
+    /// The truth tables of a cover's outputs. Threads share groups of 32 words of 64 points; the
+    /// time is that of a step for each group and term, of one for each word of a group if the term
+    /// may hold, and of one for each output of a word if it holds.
     pub fn of_cover<R: Threads + Sync>(
         rt: &R,
         alloc: Global,
@@ -55,7 +57,8 @@ impl Tables {
         })
     }
 
-    /// The truth tables that words of 64 points hold, one table after the other. What stands behind a table's last point is left out.
+    /// The truth tables that words of 64 points hold, one table after the other. What stands behind
+    /// a table's last point is left out.
     pub fn of_words(alloc: Global, n: u8, m: u8, words: &[u64]) -> Result<Tables, AllocError>
         requires some_inputs { 1 ≤ n }
         requires few_inputs { n ≤ 16 }
@@ -86,7 +89,8 @@ impl Tables {
         self.problem.value(output, point)
     }
 
-    /// An output with the variables of `care` fixed to the bits of `value`. The time is that of a step for each variable and word.
+    /// An output with the variables of `care` fixed to the bits of `value`. The time is that of a
+    /// step for each variable and word.
     pub fn cofactor(
         &self,
         alloc: Global,
@@ -124,8 +128,9 @@ impl Tables {
         Ok(values)
     }
 
-    /// The level counts under an order, top first, by plain cofactors: the subfunctions below each level are told apart,
-    /// from the bottom level up, and those that depend on the level's variable are counted.
+    /// The level counts under an order, top first, by plain cofactors: the subfunctions below each
+    /// level are told apart, from the bottom level up, and those that depend on the level's
+    /// variable are counted.
     pub fn widths_of(&self, alloc: Global, order: &Order) -> Result<Vec<u32>, AllocError>
         requires { length order.now ≡ self.now.inputs }
         ensures { IfOk result

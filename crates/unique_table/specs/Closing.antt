@@ -20,7 +20,8 @@ root_id words first j = slice_index words (first + j) - 1
 
 -- the functions that the ids in the root words denote
 abbrev pub root_functions : List ℕ → List ℕ → List ℕ → ℕ → ℕ → List Function
-root_functions order nodes words first m = map (λ j. function_of order nodes (root_id words first j)) (range_with_len 0 m)
+root_functions order nodes words first m = map (λ j. function_of order nodes (root_id words first j))
+    (range_with_len 0 m)
 
 -- each root word is filled
 abbrev pub AreAllFilled : List ℕ → ℕ → ℕ → Type 0
@@ -47,5 +48,6 @@ pub record IsLast (s : Knowledge) (words : List ℕ) : Type 0 where
 abbrev pub Lacks : Knowledge → CloseFault → Type 0
 Lacks s (MissingRoot j) = (slice_index s.pieces (s.store.plan.roots + j) ≡ 0)
     × ((words : List ℕ) × IsLast s words
-    × IsLeastEmpty words (s.store.plan.places + s.store.plan.entries + s.store.plan.roots) (outputs_of s.store.plan.problem.value) j)
+    × IsLeastEmpty words (s.store.plan.places + s.store.plan.entries + s.store.plan.roots)
+        (outputs_of s.store.plan.problem.value) j)
 Lacks s OutOfMemory = Unit {0}

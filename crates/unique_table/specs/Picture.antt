@@ -39,7 +39,8 @@ AreEntries b nodes ws = (c : ℕ) → c < b.entries → entry_in b ws c ≢ 0 �
 
 -- each filled piece word is 1 more than an id of the piece's function
 abbrev pub ArePieces : Plan → List ℕ → List ℕ → Type 0
-ArePieces b nodes pieces = (q : ℕ) → slice_index pieces q ≢ 0 → Denotes (order_of b) nodes (slice_index pieces q - 1) (piece_function b q)
+ArePieces b nodes pieces = (q : ℕ) → slice_index pieces q ≢ 0 →
+    Denotes (order_of b) nodes (slice_index pieces q - 1) (piece_function b q)
 
 -- what a session saw of the words is so in them, and is a list of nodes by itself
 pub record IsSeen (b : Plan) (ws ps : List ℕ) (v : View) : Type 0 where
@@ -60,11 +61,13 @@ pub record IsKept (b : Plan) (s : StoreState) : Type 0 where
   pub stored : AreStored (levels_of b) b.places (nodes_of b s.words)
   pub entries : AreEntries b (nodes_of b s.words) s.words
   pub pieces : ArePieces b (nodes_of b s.words) (pieces_of b s.words)
-  pub seen : (i : ℕ) (v : View) → get_elem? s.views i ≡ some v → v.live ≡ true → IsSeen b (nodes_of b s.words) (pieces_of b s.words) v
+  pub seen : (i : ℕ) (v : View) → get_elem? s.views i ≡ some v → v.live ≡ true →
+      IsSeen b (nodes_of b s.words) (pieces_of b s.words) v
 
 -- what the first session knows
 abbrev pub newcomer : Plan → View
-newcomer b = record { live = true; plan = b; seen = []; told = []; pieces = []; pieces_told = []; steps = 0; writes = 0 }
+newcomer b = record { live = true; plan = b; seen = []; told = []; pieces = []; pieces_told = []; steps = 0;
+    writes = 0 }
 
 -- after a step in which all words were seen as ws and pieces, and which wrote `wrote` of them
 abbrev pub sees : View → List ℕ → List ℕ → ℕ → View
@@ -99,7 +102,8 @@ stepped v =
 
 -- what a session knows that has seen as much
 abbrev pub another : View → View
-another v = record { live = true; plan = v.plan; seen = v.seen; told = []; pieces = v.pieces; pieces_told = []; steps = 0; writes = 0 }
+another v = record { live = true; plan = v.plan; seen = v.seen; told = []; pieces = v.pieces; pieces_told = [];
+    steps = 0; writes = 0 }
 
 -- v is told what w saw; the steps and writes of both are counted
 abbrev pub informed : View → View → View
@@ -132,7 +136,8 @@ no_plan = record {
 
 -- what a join leaves of the second view
 abbrev pub spent : View
-spent = record { live = false; plan = no_plan; seen = []; told = []; pieces = []; pieces_told = []; steps = 0; writes = 0 }
+spent = record { live = false; plan = no_plan; seen = []; told = []; pieces = []; pieces_told = []; steps = 0;
+    writes = 0 }
 
 abbrev Seated : Type 0
 Seated = Me (Unit {0}) View
@@ -150,7 +155,8 @@ pub record Sees (v : View) (ws ps : List ℕ) : Type 0 where
 
 -- a step after which the words are ws and pieces, and which wrote `wrote` of them
 abbrev pub Goes : Seated → Seated → ℕ → (List ℕ → List ℕ → Type 0) → Type 0
-Goes m m' wrote then = (ws : List ℕ) × (pieces : List ℕ) × (m' ≡ (sees m.0 ws pieces wrote, m.1)) × Sees m.0 ws pieces × then ws pieces
+Goes m m' wrote then = (ws : List ℕ) × (pieces : List ℕ) × (m' ≡ (sees m.0 ws pieces wrote, m.1)) × Sees m.0 ws pieces
+    × then ws pieces
 
 -- a load of a node word: the session sees it
 abbrev pub looks : Step (Unit {0}) → Seated → ℕ → Seated → Type 0
@@ -158,7 +164,8 @@ looks st m n m' = Goes m m' 0 (λ ws pieces. st.word < m.0.plan.places → slice
 
 -- one try to fill an empty node place: the session sees what stands there afterwards
 abbrev pub puts : Step (Unit {0}) → Seated → ℕ → Seated → Type 0
-puts st m n m' = (n ≡ 0 → Goes m m' 1 (λ ws pieces. slice_index ws st.word ≡ st.second)) × (n ≢ 0 → Goes m m' 0 (λ ws pieces. slice_index ws st.word ≡ n))
+puts st m n m' = (n ≡ 0 → Goes m m' 1 (λ ws pieces. slice_index ws st.word ≡ st.second))
+    × (n ≢ 0 → Goes m m' 0 (λ ws pieces. slice_index ws st.word ≡ n))
 
 -- a store to a piece word, and a load of one: the session sees the piece
 abbrev pub publishes : Step (Unit {0}) → Seated → ℕ → Seated → Type 0

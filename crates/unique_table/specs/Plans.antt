@@ -65,12 +65,14 @@ part_function (Products terms) order t q = product_function (share (q % 64) (pro
 
 -- the function of a piece: a part of an output, or from `roots` on an output
 unfoldable pub piece_function : Plan → ℕ → Function
-piece_function b q = if nat_lt q b.roots then part_function b.kind (order_of b) b.problem.value q else output_at b.problem.value (q - b.roots)
+piece_function b q = if nat_lt q b.roots then part_function b.kind (order_of b) b.problem.value q
+    else output_at b.problem.value (q - b.roots)
 
 -- the terms, if there are any, give the problem's functions
 abbrev pub AreTermsOf : PieceKind → TruthTables → Type 0
 AreTermsOf Restrictions t = Unit {0}
-AreTermsOf (Products terms) t = (j : ℕ) → j < outputs_of t → SameFunction t.inputs (product_function (products_of t terms.value) j) (output_at t j)
+AreTermsOf (Products terms) t = (j : ℕ) → j < outputs_of t →
+    SameFunction t.inputs (product_function (products_of t terms.value) j) (output_at t j)
 
 -- the numbers of a plan fit one another
 pub record IsPlan (b : Plan) : Type 0 where
@@ -94,7 +96,8 @@ IsKind (Products own) (Terms terms) = own.value ≡ terms.now
 -- the terms that are handed in, if any, give the problem's functions
 abbrev pub AreGivenBy : Pieces → TruthTables → Type 0
 AreGivenBy Tables t = Unit {0}
-AreGivenBy (Terms terms) t = (j : ℕ) → j < outputs_of t → SameFunction t.inputs (product_function (products_of t terms.now) j) (output_at t j)
+AreGivenBy (Terms terms) t = (j : ℕ) → j < outputs_of t →
+    SameFunction t.inputs (product_function (products_of t terms.now) j) (output_at t j)
 
 -- the plan of a new store
 pub record IsPlanFor (b : Plan) (given : List ℕ) (t : TruthTables) (pieces : Pieces) : Type 0 where

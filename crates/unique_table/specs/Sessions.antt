@@ -93,4 +93,6 @@ pub record HasParts (s : Knowledge) (id : ℕ) (parts : NodeParts) : Type 0 wher
   pub unequal : parts.low ≢ parts.high
   pub low : IsKnownBelow s parts.level parts.low
   pub high : IsKnownBelow s parts.level parts.high
-  pub function : (p : Point) → function_in s id p ≡ branch (variable_at s.store.plan parts.level) (function_in s parts.low) (function_in s parts.high) p
+  pub function : (p : Point) →
+      function_in s id p ≡ branch (variable_at s.store.plan parts.level) (function_in s parts.low)
+      (function_in s parts.high) p

@@ -35,7 +35,8 @@ EqualFunctionsHaveEqualIds = (b : Plan) (s : StoreState) (i j : ℕ) (v w : View
 -- and one id denotes one function to both
 abbrev pub EqualIdsHaveEqualFunctions : Type 0
 EqualIdsHaveEqualFunctions = (b : Plan) (s : StoreState) (i j : ℕ) (v w : View) → IsSeat b s i v → IsSeat b s j w →
-    (x : ℕ) (f g : Function) → Denotes (order_of b) v.seen x f → Denotes (order_of b) w.seen x g → SameFunction (levels_of b) f g
+    (x : ℕ) (f g : Function) → Denotes (order_of b) v.seen x f → Denotes (order_of b) w.seen x g →
+    SameFunction (levels_of b) f g
 
 -- the words after one try to fill a node place
 abbrev pub put_words : List ℕ → ℕ → ℕ → List ℕ
@@ -48,31 +49,37 @@ Looks = (b : Plan) (s : StoreState) (id : ℕ) (v : View) (p : ℕ) → IsSeat b
 
 -- one try to put a node's word into the place that comes next in the search for it
 abbrev pub Puts : Type 0
-Puts = (b : Plan) (s : StoreState) (id : ℕ) (v : View) (p w : ℕ) → IsSeat b s id v → p < b.places → w ≢ 0 → IsNext v.seen b.places w p →
+Puts = (b : Plan) (s : StoreState) (id : ℕ) (v : View) (p w : ℕ) → IsSeat b s id v → p < b.places → w ≢ 0 →
+    IsNext v.seen b.places w p →
     IsNode (levels_of b) v.seen w →
-    (v' : View) × Becomes b s id v (put_words s.words p w) v' × (slice_index v'.seen p ≡ slice_index (put_words s.words p w) p)
+    (v' : View) × Becomes b s id v (put_words s.words p w) v'
+    × (slice_index v'.seen p ≡ slice_index (put_words s.words p w) p)
 
 -- a store of a piece's id: if there was one, it is the same
 abbrev pub Publishes : Type 0
 Publishes =
     (b : Plan) (s : StoreState) (id : ℕ) (v : View) (q ref : ℕ) → IsSeat b s id v → q < b.pieces →
     Denotes (order_of b) v.seen ref (piece_function b q) →
-    (v' : View) × Becomes b s id v (slice_set s.words (b.places + b.entries + q) (ref + 1)) v' × (slice_index v'.pieces q ≡ ref + 1)
+    (v' : View) × Becomes b s id v (slice_set s.words (b.places + b.entries + q) (ref + 1)) v'
+    × (slice_index v'.pieces q ≡ ref + 1)
     × Grows (pieces_of b s.words) (pieces_of b (slice_set s.words (b.places + b.entries + q) (ref + 1)))
 
 -- a load of a piece word
 abbrev pub Collects : Type 0
 Collects = (b : Plan) (s : StoreState) (id : ℕ) (v : View) (q : ℕ) → IsSeat b s id v →
-    (v' : View) × Becomes b s id v s.words v' × (slice_index v'.pieces q ≡ slice_index s.words (b.places + b.entries + q))
+    (v' : View) × Becomes b s id v s.words v'
+    × (slice_index v'.pieces q ≡ slice_index s.words (b.places + b.entries + q))
 
 -- a load of a cache word
 abbrev pub Recalls : Type 0
 Recalls = (b : Plan) (s : StoreState) (id : ℕ) (v : View) (c : ℕ) → IsSeat b s id v → c < b.entries →
-    (v' : View) × Becomes b s id v s.words v' × (slice_index s.words (b.places + c) ≢ 0 → IsEntry (order_of b) v'.seen (slice_index s.words (b.places + c)))
+    (v' : View) × Becomes b s id v s.words v'
+    × (slice_index s.words (b.places + c) ≢ 0 → IsEntry (order_of b) v'.seen (slice_index s.words (b.places + c)))
 
 -- a store of an operation's result: nodes and pieces stay
 abbrev pub Remembers : Type 0
-Remembers = (b : Plan) (s : StoreState) (id : ℕ) (v : View) (c w : ℕ) → IsSeat b s id v → c < b.entries → IsEntry (order_of b) v.seen w →
+Remembers = (b : Plan) (s : StoreState) (id : ℕ) (v : View) (c w : ℕ) → IsSeat b s id v → c < b.entries →
+    IsEntry (order_of b) v.seen w →
     (v' : View) × Becomes b s id v (slice_set s.words (b.places + c) w) v'
     × (nodes_of b (slice_set s.words (b.places + c) w) ≡ nodes_of b s.words)
     × (pieces_of b (slice_set s.words (b.places + c) w) ≡ pieces_of b s.words)

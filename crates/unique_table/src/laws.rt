@@ -2,13 +2,15 @@
 
 ghost use Rattle.unique_table.specs.Steps.{EqualFunctionsHaveEqualIds, EqualIdsHaveEqualFunctions, Looks, Puts, Publishes, Collects, Recalls, Remembers};
 
-/// Ids that two seats know are equal exactly when they denote equal functions, whichever threads made them.
+/// Ids that two seats know are equal exactly when they denote equal functions, whichever threads
+/// made them.
 pub fn equal_functions_have_equal_ids()
     ensures ids { EqualFunctionsHaveEqualIds }
     ensures functions { EqualIdsHaveEqualFunctions }
 {}
 
-/// Each step on a word keeps the rule, changes the words as its kind says, and its session's view gains what its kind says.
+/// Each step on a word keeps the rule, changes the words as its kind says, and its session's view
+/// gains what its kind says.
 pub fn steps_are_of_their_kinds()
     ensures look { Looks }
     ensures put { Puts }

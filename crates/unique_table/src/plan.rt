@@ -4,8 +4,8 @@ use order_model::{Order, Problem, Term};
 use std::marker::Model;
 use std::snapshot::Snapshot;
 
-/// What a store is for: its order, its functions and its pieces, and how many places it has for nodes, operations and pieces.
-/// The pieces from `roots` on are the outputs.
+/// What a store is for: its order, its functions and its pieces, and how many places it has for
+/// nodes, operations and pieces. The pieces from `roots` on are the outputs.
 #[derive(Drop)]
 pub struct Plan {
     pub places: usize,
@@ -17,8 +17,9 @@ pub struct Plan {
     pub kind: PieceKind,
 }
 
-/// The pieces of a store: restrictions of the outputs by the top two variables (or the only one), or functions of the terms whose number leaves
-/// the same remainder when divided by 64. The outputs themselves are pieces too, after these.
+/// The pieces of a store: restrictions of the outputs by the top two variables (or the only one),
+/// or functions of the terms whose number leaves the same remainder when divided by 64. The outputs
+/// themselves are pieces too, after these.
 #[derive(Clone, Copy)]
 pub enum Pieces<'a> {
     Tables,

@@ -25,8 +25,9 @@ impl Model for Session {
     ghost invariant = { IsSession };
 }
 
-/// The words of nodes and of pieces as they were seen, those that another session saw that was joined into this one, and how many steps and
-/// writes were made. It isn't live if the session was joined into another. No value of it is made.
+/// The words of nodes and of pieces as they were seen, those that another session saw that was
+/// joined into this one, and how many steps and writes were made. It isn't live if the session was
+/// joined into another. No value of it is made.
 pub struct View {
     pub live: bool,
     pub plan: Plan,

@@ -23,7 +23,8 @@ use std::alloc::{AllocError, Global};
 use std::marker::Model;
 use std::snapshot::Snapshot;
 
-/// A store of nodes: equal functions have equal ids. Threads share it by reference, each with a session of its own.
+/// A store of nodes: equal functions have equal ids. Threads share it by reference, each with a
+/// session of its own.
 #[derive(Drop)]
 pub struct Store {
     pub(crate) table: Table<(), View, Plan, Words, Global>,
@@ -51,8 +52,8 @@ impl Model for Store {
 pub struct StoreFull;
 
 impl Store {
-    /// A store for the functions of a problem under an order, and a session that knows the terminals. The condition on terms: they give the
-    /// problem's functions.
+    /// A store for the functions of a problem under an order, and a session that knows the
+    /// terminals. The condition on terms: they give the problem's functions.
     pub fn new(
         alloc: Global,
         order: Order,
@@ -127,7 +128,8 @@ impl Store {
         self.entries
     }
 
-    /// The id of the node with this level and these children, or the child if they are equal. It takes at most two steps per place.
+    /// The id of the node with this level and these children, or the child if they are equal. It
+    /// takes at most two steps per place.
     pub fn make(
         &self,
         session: &mut Session,
@@ -164,7 +166,8 @@ impl Store {
         Ok(place as u32 + 2)
     }
 
-    /// The level and the children of a node, which the session knows then; None for a terminal. It takes at most one step.
+    /// The level and the children of a node, which the session knows then; None for a terminal. It
+    /// takes at most one step.
     pub fn node(&self, session: &mut Session, id: NodeId) -> Option<NodeParts>
         requires session { session.old.store ≡ self.now }
         requires known { Knows session.old id }
@@ -183,7 +186,8 @@ impl Store {
         Some(node_parts(word))
     }
 
-    /// The id that a cache place has for an operation on two ids, if it is for these. It takes one step.
+    /// The id that a cache place has for an operation on two ids, if it is for these. It takes one
+    /// step.
     pub fn entry(
         &self,
         session: &mut Session,
@@ -291,7 +295,8 @@ impl Store {
         Session { seat }
     }
 
-    /// The reduced diagram of the store's functions: the published roots, with the nodes that they reach. The store is spent in every case.
+    /// The reduced diagram of the store's functions: the published roots, with the nodes that they
+    /// reach. The store is spent in every case.
     pub fn close(self, alloc: Global, session: Session) -> Result<Diagram, CloseFault>
         requires { session.store ≡ self }
         ensures order { IfOk result (λ d. d.order ≡ order_of self.plan) }

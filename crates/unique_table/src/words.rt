@@ -26,7 +26,8 @@ pub(crate) fn look(shared: &Board, seat: &mut Seat<(), View>, place: usize) -> u
     shared.load::<Looks>(seat, place)
 }
 
-/// Puts a node's word into the place that comes next in the search for it, if the place is empty, and returns what was found.
+/// Puts a node's word into the place that comes next in the search for it, if the place is empty,
+/// and returns what was found.
 fn put(shared: &Board, seat: &mut Seat<(), View>, place: usize, word: u64) -> u64
     requires { MayPut shared.now seat.old word place }
     ensures seat { IsSeatOf shared.now seat.new }
@@ -38,7 +39,8 @@ fn put(shared: &Board, seat: &mut Seat<(), View>, place: usize, word: u64) -> u6
     shared.compare_exchange::<Puts>(seat, place, 0, word)
 }
 
-/// Looks at the place that comes next in the search for a node's word, and puts the word there if it is seen empty. Says whether the word stands there.
+/// Looks at the place that comes next in the search for a node's word, and puts the word there if
+/// it is seen empty. Says whether the word stands there.
 pub(crate) fn take(shared: &Board, seat: &mut Seat<(), View>, place: usize, word: u64) -> bool
     requires { MayPut shared.now seat.old word place }
     ensures seat { IsSeatOf shared.now seat.new }
@@ -114,7 +116,8 @@ pub(crate) fn remember(
     shared.store::<Remembers>(seat, place, word);
 }
 
-/// Searches for a node's word, and puts it into the first empty place that it comes to. None if each place is taken by another word.
+/// Searches for a node's word, and puts it into the first empty place that it comes to. None if
+/// each place is taken by another word.
 pub(crate) fn find_or_put(
     shared: &Board,
     seat: &mut Seat<(), View>,

@@ -110,7 +110,8 @@ fn difference<R: Files + AllocGlobal>(
     })
 }
 
-/// Makes each call of the case, and prints a line for each that does something else than the case says.
+/// Makes each call of the case, and prints a line for each that does something else than the case
+/// says.
 pub fn carry_out<R: Files + AllocGlobal + Threads + Sync + Print>(
     rt: &R,
     case: &Case<'_>,

@@ -34,7 +34,8 @@ pub struct Case<'a> {
     /// Each call's program and words.
     pub calls: Vec<&'a str>,
     pub texts: Vec<Text<'a>>,
-    /// Each call is made for each length from the first to the last, with the case's files cut to it.
+    /// Each call is made for each length from the first to the last, with the case's files cut to
+    /// it.
     pub lengths: (usize, usize),
     pub status: u8,
     /// The stream that gets a text of clap's.

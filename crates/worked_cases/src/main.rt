@@ -1,6 +1,8 @@
-//! Carries out worked cases of both programs, and tells of each call that does something else than its case says.
+//! Carries out worked cases of both programs, and tells of each call that does something else than
+//! its case says.
 //!
-//! The words are a folder, which is gone into, and the names of files of cases there. README.md in data/ has their format.
+//! The words are a folder, which is gone into, and the names of files of cases there. README.md in
+//! data/ has their format.
 #![tactic(auto)]
 
 mod calls;
