@@ -117,7 +117,7 @@ abbrev pub section_judges : List ℕ → ℕ → (List ℕ → List ℕ → Bool
     List Judge
 section_judges name most is_entry key ws at =
     field_fault name 1 0 most ∷ map (λ k. entry_fault is_entry (rises key ws (at + 1) k))
-        (range_with_len (at + 1) (number_said ws at))
+    (range_with_len (at + 1) (number_said ws at))
 
 -- the number of inputs that the lines say
 abbrev pub inputs_said : List (List (List ℕ)) → ℕ

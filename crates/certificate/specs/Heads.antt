@@ -47,12 +47,12 @@ abbrev pub TakesSets : ℕ → ℕ → List ℕ → Result (Vec ListedCell Globa
 TakesSets n number text (Ok cells) = (pre : List (List (List ℕ))) → length pre ≡ cells_place (pre ++ said text) →
     inputs_said (pre ++ said text) ≡ n →
     (outcome number (cells_judges (pre ++ said text) (cells_place (pre ++ said text))
-        ++ fixed_fault (codes "end" ∷ []) ∷ []) text ≡ [])
+    ++ fixed_fault (codes "end" ∷ []) ∷ []) text ≡ [])
     × (map listed cells.items ≡ (cert_of (pre ++ said text)).cells)
 TakesSets n number text (Err fault) = (pre : List (List (List ℕ))) → length pre ≡ cells_place (pre ++ said text) →
     inputs_said (pre ++ said text) ≡ n →
     Fails (outcome number (cells_judges (pre ++ said text) (cells_place (pre ++ said text))
-        ++ fixed_fault (codes "end" ∷ []) ∷ []) text) fault
+    ++ fixed_fault (codes "end" ∷ []) ∷ []) text) fault
 
 -- the pairs that may be there, and the format: format 1 has none
 abbrev pub pairs_in : Option (Vec Pair Global) → List Pair

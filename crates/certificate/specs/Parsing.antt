@@ -54,7 +54,7 @@ abbrev pub TakesSection : {V E : Type 0} → List ℕ → ℕ → (List ℕ → 
     (V → List E) → ℕ → List ℕ → ℕ → List ℕ → Result V CertFault → Type 0
 TakesSection name most is_entry key read items number text after rest (Ok value) = (pre : List (List (List ℕ))) →
     ((js : List Judge) → outcome number
-        (section_judges name most is_entry key (pre ++ said text) (length pre) ++ js) text ≡ outcome after js rest)
+    (section_judges name most is_entry key (pre ++ said text) (length pre) ++ js) text ≡ outcome after js rest)
     × (lines : List (List (List ℕ))) × (said text ≡ lines ++ said rest)
     × (length lines ≡ length (section_judges name most is_entry key (pre ++ said text) (length pre)))
     × (items value ≡ section_said read (pre ++ said text) (length pre))

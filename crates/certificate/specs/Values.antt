@@ -14,8 +14,16 @@ use Rattle.certificate.specs.Spelling.{most_nodes}
 -- the certificate of its parts
 abbrev pub value_of : ℕ → ℕ → ℕ → List ℕ → List ℕ → ℕ → List Pair → List ListedCell → Certificate
 value_of format inputs outputs order levels total pairs cells =
-    record { format = format; inputs = inputs; outputs = outputs; order = order; levels = levels; total = total;
-        pairs = pairs; cells = map listed cells }
+    record {
+      format = format;
+      inputs = inputs;
+      outputs = outputs;
+      order = order;
+      levels = levels;
+      total = total;
+      pairs = pairs;
+      cells = map listed cells;
+    }
 
 -- the format of a certificate whose pairs are there or not
 abbrev pub format_of : {A : Type 0} → Option A → ℕ

@@ -37,8 +37,12 @@ abbrev pub worker_of : SeatView → Worker
 worker_of v = v.worker
 
 abbrev pub picture : LayerOf → List ℕ → List SeatView → World
-picture l words views = record { layout = layout_of l; counter = counter_of words;
-    cells = map cell_in (cell_words words); workers = map worker_of views }
+picture l words views = record {
+  layout = layout_of l;
+  counter = counter_of words;
+  cells = map cell_in (cell_words words);
+  workers = map worker_of views;
+}
 
 abbrev pub IsCellAt : Setting → ℕ → ℕ × ℕ → Type 0
 IsCellAt t mask cell = cell ≡ cell_for t mask
@@ -65,7 +69,7 @@ Sat = Me (Unit {0}) SeatView
 abbrev pub claims : Step (Unit {0}) → Sat → ℕ → Sat → Type 0
 claims st m n m' =
     (n < length (blocks_of m.0.brief.layer) →
-        (m' ≡ (after m.0 (claims_block m.0.worker n) 1, m.1)) × ((q : ℕ) → claimed m.0.worker q ≡ true → q < n))
+    (m' ≡ (after m.0 (claims_block m.0.worker n) 1, m.1)) × ((q : ℕ) → claimed m.0.worker q ≡ true → q < n))
     × (length (blocks_of m.0.brief.layer) ≤ n → m' ≡ (after m.0 (ends m.0.worker) 1, m.1))
 
 -- of a post at the place p, that found n there

@@ -23,13 +23,23 @@ pub record SeatView : Type 0 where
 
 -- a seat that stands for n workers, none of which made a step
 abbrev pub fresh : BriefOf → ℕ → SeatView
-fresh b n = record { brief = b; worker = unmarked (length (blocks_of b.layer)) (length (masks_of b.layer)); seats = n;
-    steps = 0; writes = 0 }
+fresh b n = record {
+  brief = b;
+  worker = unmarked (length (blocks_of b.layer)) (length (masks_of b.layer));
+  seats = n;
+  steps = 0;
+  writes = 0;
+}
 
 -- a seat after a step, which was also a write if `wrote` is 1
 abbrev pub after : SeatView → Worker → ℕ → SeatView
-after v w wrote = record { brief = v.brief; worker = w; seats = v.seats; steps = v.steps + 1;
-    writes = v.writes + wrote }
+after v w wrote = record {
+  brief = v.brief;
+  worker = w;
+  seats = v.seats;
+  steps = v.steps + 1;
+  writes = v.writes + wrote;
+}
 
 pub record BoardId : Type 0 where
   pub table : TableId
@@ -44,8 +54,12 @@ pub record SeatOf : Type 0 where
 
 -- the seat of a worker that made no step
 abbrev pub first_seat : BoardId → SeatOf
-first_seat b = record { board = b;
-    worker = unmarked (length (blocks_of b.brief.layer)) (length (masks_of b.brief.layer)); steps = 0; writes = 0 }
+first_seat b = record {
+  board = b;
+  worker = unmarked (length (blocks_of b.brief.layer)) (length (masks_of b.brief.layer));
+  steps = 0;
+  writes = 0;
+}
 
 -- a seat after a step, which was also a write if `wrote` is 1
 abbrev pub stepped : SeatOf → Worker → ℕ → SeatOf

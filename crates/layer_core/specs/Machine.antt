@@ -48,8 +48,12 @@ abbrev pub blank : Layout → Worker
 blank l = unmarked l.blocks (length l.masks)
 
 abbrev pub opening : Layout → ℕ → World
-opening l workers = record { layout = l; counter = 0; cells = replicate (length l.masks) None;
-    workers = replicate workers (blank l) }
+opening l workers = record {
+  layout = l;
+  counter = 0;
+  cells = replicate (length l.masks) None;
+  workers = replicate workers (blank l);
+}
 
 -- the place of a mask in the layer
 abbrev pub place_of : Layout → ℕ → Option ℕ
@@ -75,8 +79,12 @@ learns w p = record w { known = slice_set w.known p true }
 
 -- the state after a step of the worker i, which becomes w
 abbrev pub moved : World → ℕ → List (Option (ℕ × ℕ)) → ℕ → Worker → World
-moved s counter cells i w = record { layout = s.layout; counter = counter; cells = cells;
-    workers = slice_set s.workers i w }
+moved s counter cells i w = record {
+  layout = s.layout;
+  counter = counter;
+  cells = cells;
+  workers = slice_set s.workers i w;
+}
 
 -- a claim: the next block, or no more
 abbrev pub claim : World → ℕ → found.Option Worker → Reply × World
@@ -84,7 +92,7 @@ claim s i found.none = (NoMore, s)
 claim s i (found.some w) =
     if w.told then (NoMore, s)
     else (if nat_lt s.counter s.layout.blocks
-        then (Claimed s.counter, moved s (s.counter + 1) s.cells i (claims_block w s.counter)) else
+    then (Claimed s.counter, moved s (s.counter + 1) s.cells i (claims_block w s.counter)) else
     (NoMore, moved s (s.counter + 1) s.cells i (ends w)))
 
 -- a post at the place p, whose cell is that of the last argument

@@ -5,8 +5,11 @@ use Rattle.layer_core.specs.Settings.{ResultOf, cell_for}
 use Rattle.layer_core.specs.Pairing.{pair_of}
 
 abbrev pub result_shown : Inside → ResultOf
-result_shown r = record { setting = record { problem = r.problem.value; pairs = r.pairs.value; bound = r.bound.value };
-    mask = r.mask; cell = pair_of r.cell }
+result_shown r = record {
+  setting = record { problem = r.problem.value; pairs = r.pairs.value; bound = r.bound.value };
+  mask = r.mask;
+  cell = pair_of r.cell;
+}
 
 -- the cell is the definition's, and fits a word
 pub record IsResult (r : Inside) : Type 0 where

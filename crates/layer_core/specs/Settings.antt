@@ -22,8 +22,11 @@ cell_for t mask = cell_of t.problem.inputs (functions t.problem) t.pairs.pairs t
 
 -- the masks of a layer, and their blocks
 abbrev pub layout_of : LayerOf → Layout
-layout_of l = record { masks = masks_of l; block_of = map (block_place l) (range_with_len 0 (length (masks_of l)));
-    blocks = length (blocks_of l) }
+layout_of l = record {
+  masks = masks_of l;
+  block_of = map (block_place l) (range_with_len 0 (length (masks_of l)));
+  blocks = length (blocks_of l);
+}
 
 -- a mask with its cell, and what the cell is for
 pub record ResultOf : Type 0 where

@@ -13,8 +13,12 @@ abbrev pub cell_of : Option Cell → Option (ℕ × ℕ)
 cell_of c = option_map pair_of c
 
 abbrev pub shown : Inside → World
-shown c = record { layout = layout_of c.layer; counter = c.counter; cells = map cell_of c.cells.items;
-    workers = map marks_of c.workers.items }
+shown c = record {
+  layout = layout_of c.layer;
+  counter = c.counter;
+  cells = map cell_of c.cells.items;
+  workers = map marks_of c.workers.items;
+}
 
 -- right, whatever the cells are
 abbrev pub IsSound : Inside → Type 0

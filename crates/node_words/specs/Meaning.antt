@@ -13,7 +13,7 @@ value zero ws id t = id == 1
 value (suc k) ws id t =
     if nat_lt id 2 then id == 1
     else (if t (level_of (slice_index ws (id - 2))) then value k ws (high_of (slice_index ws (id - 2))) t
-        else value k ws (low_of (slice_index ws (id - 2))) t)
+    else value k ws (low_of (slice_index ws (id - 2))) t)
 
 -- two ids have the same value, whatever children are taken
 abbrev pub IsSame : ℕ → List ℕ → ℕ → ℕ → Type 0

@@ -46,5 +46,7 @@ output_in term j = bit_at term.outs j == 1
 
 -- the product of n inputs and m outputs that a term's masks stand for
 unfoldable pub product_of : ℕ → ℕ → Term → Product
-product_of n m term = record { literals = map (literal_in term) (range_with_len 0 n);
-    outputs = map (output_in term) (range_with_len 0 m) }
+product_of n m term = record {
+  literals = map (literal_in term) (range_with_len 0 n);
+  outputs = map (output_in term) (range_with_len 0 m);
+}

@@ -25,8 +25,11 @@ abbrev pub setting_with : TruthTables → KeptPairs → ℕ → Setting
 setting_with problem pairs bound = record { problem = problem; pairs = pairs; bound = bound }
 
 abbrev pub bench_with : TruthTables → KeptPairs → ℕ → LayerOf → CostsOf → BenchOf
-bench_with problem pairs bound layer before = record { setting = setting_with problem pairs bound;
-    layer = layer; before = before }
+bench_with problem pairs bound layer before = record {
+  setting = setting_with problem pairs bound;
+  layer = layer;
+  before = before;
+}
 
 -- the cells of some sets, in their order
 abbrev pub AreCells : Setting → List ℕ → List Cell → Type 0

@@ -43,8 +43,14 @@ state_of p = record {
 
 -- before the first line
 abbrev pub start : State
-start = record { inputs = None; outputs = None; input_names = None; output_names = None; logical_type = None;
-    terms = [] }
+start = record {
+  inputs = None;
+  outputs = None;
+  input_names = None;
+  output_names = None;
+  logical_type = None;
+  terms = [];
+}
 
 -- whether the type is f
 abbrev pub is_f : Option LogicalType → Bool

@@ -25,8 +25,11 @@ ref_of numbers id = if nat_lt id 2 then Terminal (id == 1) else Place (slice_ind
 
 -- the copy of a node's word
 abbrev pub node_of : List ℕ → List ℕ → ℕ → Node
-node_of order numbers w = record { variable = slice_index order (level_of w); low = ref_of numbers (low_of w);
-    high = ref_of numbers (high_of w) }
+node_of order numbers w = record {
+  variable = slice_index order (level_of w);
+  low = ref_of numbers (low_of w);
+  high = ref_of numbers (high_of w);
+}
 
 -- the id is a terminal, or has a copy before that of place p
 abbrev pub IsEarlier : List ℕ → ℕ → ℕ → Type 0

@@ -84,7 +84,7 @@ abbrev pub ChecksAs : List ℕ → List ℕ → Option (List ℕ) → Option (Li
 ChecksAs file text before after (Refused OutOfMemory) = after ≡ before
 ChecksAs file text before after (Refused Device) =
     (after ≡ before) ⊎ ((outcome : Outcome) × (line : List ℕ) × (n : ℕ) × Judge file text outcome line
-        × Appends before after (take n line))
+    × Appends before after (take n line))
 ChecksAs file text before after outcome = (line : List ℕ) × Judge file text outcome line × Appends before after line
 
 -- whatever is known of the files: a line is that of a verdict on some certificate for some cover, whole or after a failed write a beginning of it
@@ -92,7 +92,7 @@ abbrev pub Verdicts : Option (List ℕ) → Option (List ℕ) → Outcome → Ty
 Verdicts before after (Refused Device) =
     (after ≡ before) ⊎
     ((cover : NamedCover) × (cert : Certificate) × (outcome : Outcome) × (line : List ℕ) × (n : ℕ)
-        × HasVerdict cover cert outcome line
+    × HasVerdict cover cert outcome line
     × Appends before after (take n line))
 Verdicts before after (Refused StoreFull) = ⊥
 Verdicts before after (Refused (Pairs fault)) = ⊥

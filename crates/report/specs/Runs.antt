@@ -75,7 +75,7 @@ abbrev pub LeavesPart : RunPlan → NamedCover → Held → Held → Type 0
 LeavesPart plan cover before after =
     ((after.out ≡ before.out) × (n : ℕ) × Certifies plan.count plan.above cover (take n) before.cert after.cert)
     ⊎ (Certifies plan.count plan.above cover whole before.cert after.cert × (text : List ℕ) × (n : ℕ)
-        × IsTextOf plan cover text
+    × IsTextOf plan cover text
     × Appends before.out after.out (take n text))
 
 -- what the writers get, by what is known of the cover: all texts, or after a failed write a part of them, or else nothing
@@ -114,7 +114,7 @@ abbrev pub EndsWell : List (List ℕ) → Option (List ℕ) → Option (List ℕ
 EndsWell words before after =
     AsksForHelp minorder words ⊎
     ((plan : RunPlan) × IsPlanOf words plan × (cover : NamedCover) × (text : List ℕ) × IsCover cover
-        × IsTextOf plan cover text
+    × IsTextOf plan cover text
     × Appends before after text)
 
 -- the same of the report alone
@@ -124,7 +124,7 @@ DeliversReport plan IsRead before after Done = (cover : NamedCover) × (text : L
 DeliversReport plan IsRead before after (Refused Device) =
     (after ≡ before) ⊎
     ((cover : NamedCover) × (text : List ℕ) × (n : ℕ) × IsRead cover × IsTextOf plan cover text
-        × Appends before after (take n text))
+    × Appends before after (take n text))
 DeliversReport plan IsRead before after Invalid = ⊥
 DeliversReport plan IsRead before after (Refused (CertificateLine line fault)) = ⊥
 DeliversReport plan IsRead before after (Refused CertificateTooLong) = ⊥

@@ -83,7 +83,7 @@ report_text cover best other =
 abbrev pub report_parts : NamedCover → TruthTables → List ℕ → List ℕ → ℕ → List ℕ
 report_parts cover t best other size =
     order_lines cover.input_names best ++ counts_lines (level_counts t.inputs (functions t) best)
-        ++ sizes_lines other size (sum (file_order_levels cover))
+    ++ sizes_lines other size (sum (file_order_levels cover))
 
 -- how many pairs a certificate has, if it has any
 abbrev pub pairs_words : ℕ → List ℕ

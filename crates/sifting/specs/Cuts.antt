@@ -43,7 +43,7 @@ ref_at cut k = get_or cut k (Terminal false)
 abbrev pub SplitsFirst : ℕ → List Node → ℕ → List Ref → List Children → List ℕ → Type 0
 SplitsFirst done nodes x cut level codes =
     NumbersFirst 0 (λ k. code_of (split_ref nodes x (ref_at cut k)).0)
-        (λ k. code_of (split_ref nodes x (ref_at cut k)).1) done level codes
+    (λ k. code_of (split_ref nodes x (ref_at cut k)).1) done level codes
 
 -- a cut, split by a variable
 pub record Splits (nodes : List Node) (x : ℕ) (cut : List Ref) (level : List Children) (next : List Ref) : Type 0 where
@@ -79,4 +79,4 @@ pub record IsBuilt (order : List ℕ) (nodes : List Node) (roots : List Ref) (nu
   pub many : length numbers ≡ length roots
   pub functions_are : (j : ℕ) → j < length roots →
       SameFunction (length order) (function_at levels terminals order (get_or numbers j 0))
-          (value nodes (ref_at roots j))
+      (value nodes (ref_at roots j))

@@ -18,8 +18,10 @@ nodes_of levels = map (λ (l : Level). l.nodes.items) levels
 -- the truth tables of the roots
 unfoldable pub problem_at : List (List Children) → List Bool → List ℕ → List ℕ → TruthTables
 problem_at levels terminals order roots =
-    record { inputs = length order;
-        tables = map (λ r. table (length order) (function_at levels terminals order r)) roots }
+    record {
+      inputs = length order;
+      tables = map (λ r. table (length order) (function_at levels terminals order r)) roots;
+    }
 
 -- a diagram by levels: at most 16 roots, and no node or terminal twice
 pub record IsLeveled (levels : List (List Children)) (terminals : List Bool) (order roots : List ℕ) : Type 0 where

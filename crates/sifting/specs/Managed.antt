@@ -20,8 +20,10 @@ pub record Managed : Type 0 where
 
 -- the truth tables of a diagram's roots
 unfoldable pub truth_tables_of : OrderedGraph → TruthTables
-truth_tables_of d = record { inputs = length d.order;
-    tables = map (λ r. table (length d.order) (value d.graph.nodes r)) d.graph.roots }
+truth_tables_of d = record {
+  inputs = length d.order;
+  tables = map (λ r. table (length d.order) (value d.graph.nodes r)) d.graph.roots;
+}
 
 -- the size of the functions under the order
 abbrev pub size_of : Managed → ℕ

@@ -49,5 +49,5 @@ abbrev pub Lacks : Knowledge → CloseFault → Type 0
 Lacks s (MissingRoot j) = (slice_index s.pieces (s.store.plan.roots + j) ≡ 0)
     × ((words : List ℕ) × IsLast s words
     × IsLeastEmpty words (s.store.plan.places + s.store.plan.entries + s.store.plan.roots)
-        (outputs_of s.store.plan.problem.value) j)
+    (outputs_of s.store.plan.problem.value) j)
 Lacks s OutOfMemory = Unit {0}

@@ -66,8 +66,16 @@ pub record IsKept (b : Plan) (s : StoreState) : Type 0 where
 
 -- what the first session knows
 abbrev pub newcomer : Plan → View
-newcomer b = record { live = true; plan = b; seen = []; told = []; pieces = []; pieces_told = []; steps = 0;
-    writes = 0 }
+newcomer b = record {
+  live = true;
+  plan = b;
+  seen = [];
+  told = [];
+  pieces = [];
+  pieces_told = [];
+  steps = 0;
+  writes = 0;
+}
 
 -- after a step in which all words were seen as ws and pieces, and which wrote `wrote` of them
 abbrev pub sees : View → List ℕ → List ℕ → ℕ → View
@@ -102,8 +110,16 @@ stepped v =
 
 -- what a session knows that has seen as much
 abbrev pub another : View → View
-another v = record { live = true; plan = v.plan; seen = v.seen; told = []; pieces = v.pieces; pieces_told = [];
-    steps = 0; writes = 0 }
+another v = record {
+  live = true;
+  plan = v.plan;
+  seen = v.seen;
+  told = [];
+  pieces = v.pieces;
+  pieces_told = [];
+  steps = 0;
+  writes = 0;
+}
 
 -- v is told what w saw; the steps and writes of both are counted
 abbrev pub informed : View → View → View
@@ -136,8 +152,16 @@ no_plan = record {
 
 -- what a join leaves of the second view
 abbrev pub spent : View
-spent = record { live = false; plan = no_plan; seen = []; told = []; pieces = []; pieces_told = []; steps = 0;
-    writes = 0 }
+spent = record {
+  live = false;
+  plan = no_plan;
+  seen = [];
+  told = [];
+  pieces = [];
+  pieces_told = [];
+  steps = 0;
+  writes = 0;
+}
 
 abbrev Seated : Type 0
 Seated = Me (Unit {0}) View
