@@ -18,4 +18,5 @@ pub mod Taking
 pub mod Heading
 pub mod Bodies
 pub mod Parsed
+pub mod Lengths
 pub mod ToolCertificates

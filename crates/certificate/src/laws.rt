@@ -1,6 +1,6 @@
 //! What holds of all texts of certificates.
 
-ghost use Rattle.std.specs.Prelude.{◌≡◌, ◌⊎◌, ◌≤◌, ℕ, List, [], length};
+ghost use Rattle.std.specs.Prelude.{◌≡◌, ◌+◌, ◌*◌, ◌⊎◌, ◌≤◌, ℕ, List, [], length};
 ghost use Rattle.order_model.specs.Certificates.{Certificate, certificate_of};
 ghost use Rattle.order_model.specs.Functions.{Function};
 ghost use Rattle.order_model.specs.Orders.{IsOrder};
@@ -8,6 +8,7 @@ ghost use Rattle.order_model.specs.Pairs.{AreBelow, Pair, sorted_pairs};
 ghost use Rattle.certificate.specs.declared.faults.LineFault.{LineFault};
 ghost use Rattle.certificate.specs.Spelling.{HasSpelling, spelling};
 ghost use Rattle.certificate.specs.Faults.{Spells, FirstFault, faults};
+ghost use Rattle.certificate.specs.Heads.{most_bytes};
 
 /// A text is the spelling of at most one certificate.
 pub fn texts_have_one_certificate()
@@ -29,6 +30,15 @@ pub fn texts_have_one_reading()
         Spells text cert → FirstFault text line fault → ⊥ }
     ensures one_fault { (text : List ℕ) (i j : ℕ) (e f : LineFault) → FirstFault text i e →
         FirstFault text j f → (i ≡ j) × (e ≡ f) }
+{}
+
+/// A spelling has at most 256 bytes, 6 for each pair and 12 for each listed set; so it isn't too long
+/// to be read.
+pub fn spellings_are_short()
+    ensures bytes { (cert : Certificate) → HasSpelling cert →
+        length (spelling cert) ≤ 256 + 6 * length cert.pairs + 12 * length cert.cells }
+    ensures readable { (text : List ℕ) (cert : Certificate) → Spells text cert →
+        length text ≤ most_bytes }
 {}
 
 /// The certificate of an order has a spelling: that of 1 to 16 functions of 1 to 16 variables, with

@@ -1,9 +1,10 @@
 //! The texts of certificates.
 
-ghost use Rattle.std.specs.Prelude.{◌≡◌, ◌++◌, [], ◌∷◌, map, codes, string_bytes, IfOk, OnOk};
+ghost use Rattle.std.specs.Prelude.{◌≡◌, ◌≤◌, ◌++◌, [], ◌∷◌, length, map, codes, string_bytes, IfOk, OnOk};
 ghost use Rattle.std.specs.List.{flat_map};
 ghost use Rattle.order_model.specs.Listed.{listed};
 ghost use Rattle.certificate.specs.Spelling.{field, section, head_lines, pair_lines, text_line, pair_words, cell_words, spelling};
+ghost use Rattle.certificate.specs.Heads.{most_bytes};
 
 use crate::certificate::Certificate;
 use order_model::{ListedCell, VarIx};
@@ -133,9 +134,10 @@ fn push_cell_lines(text: &mut String, cert: &Certificate) -> Result<(), AllocErr
 
 impl Certificate {
     /// The certificate's text, whose storage is reserved before its first byte is made: at most 12
-    /// bytes a listed set and 6 a pair beside 512.
+    /// bytes a listed set and 6 a pair beside 512. It isn't too long to be read.
     pub fn text(&self, alloc: Global) -> Result<String, AllocError>
-        ensures { IfOk result (λ text. string_bytes text ≡ spelling self.now) }
+        ensures spelling { IfOk result (λ text. string_bytes text ≡ spelling self.now) }
+        ensures readable { IfOk result (λ text. length (string_bytes text) ≤ most_bytes) }
     {
         let pairs = LONGEST_PAIR.saturating_mul(self.pairs().len());
         let cells = LONGEST_CELL.saturating_mul(self.cells().len());
