@@ -1,8 +1,8 @@
 -- What a refused close tells.
-use Rattle.std.specs.Prelude.{◌≡◌, ◌≢◌, ℕ, ◌<◌, false, length, slice_index, None}
+use Rattle.std.specs.Prelude.{◌≡◌, ◌≢◌, ℕ, ◌<◌, ◌≤◌, true, false, length, slice_index, None}
 use mathlib.Core.Option.{some}
 use lib.ListN.{get_elem?}
-use Rattle.layer_core.specs.Machine.{World, Worker, cell_at}
+use Rattle.layer_core.specs.Machine.{World, Worker, cell_at, knows}
 use Rattle.layer_core.specs.Rights.{Right}
 use Rattle.layer_core.specs.Settings.{layout_of}
 use Rattle.layer_board.specs.Views.{BriefOf, SeatOf, knows_filled}
@@ -20,6 +20,7 @@ pub record IsLeastEmpty (s : World) (mask : ℕ) : Type 0 where
 pub record IsLastState (b : BriefOf) (w : Worker) (s : World) : Type 0 where
   pub right : Right (IsCellAt b.setting) s
   pub layout : s.layout ≡ layout_of b.layer
+  pub few : length s.workers ≤ b.workers
   pub seat : ℕ
   pub has : get_elem? s.workers seat ≡ some w
 
@@ -29,3 +30,15 @@ pub record IsMissing (seat : SeatOf) (mask : ℕ) : Type 0 where
   pub last : World
   pub is_last : IsLastState seat.board.brief seat.worker last
   pub least : IsLeastEmpty last mask
+
+-- the mask is the least whose cell the seat does not know to be filled
+pub record IsLeastUnknown (seat : SeatOf) (mask : ℕ) : Type 0 where
+  pub place : ℕ
+  pub within : place < length (layout_of seat.board.brief.layer).masks
+  pub is : slice_index (layout_of seat.board.brief.layer).masks place ≡ mask
+  pub unknown : knows seat.worker place ≡ false
+  pub least : (q : ℕ) → q < place → knows seat.worker q ≡ true
+
+-- on a board of one worker the seat knows each filled cell, so a refused close names the least that it doesn't know to be filled
+abbrev pub OneMissesTheLeast : Type 0
+OneMissesTheLeast = (seat : SeatOf) (mask : ℕ) → seat.board.brief.workers ≤ 1 → IsMissing seat mask → IsLeastUnknown seat mask

@@ -10,6 +10,7 @@ ghost use Rattle.layer_core.specs.Machine.{Claim, Post, Read, step, place_of, cl
 ghost use Rattle.layer_core.specs.Rights.{Right};
 ghost use Rattle.layer_core.specs.Settings.{layout_of};
 ghost use Rattle.layer_board.specs.Views.{BriefOf, SeatView};
+ghost use Rattle.layer_board.specs.Closing.{OneMissesTheLeast};
 ghost use Rattle.layer_board.specs.Picture.{Kept, IsCellAt, Sat, cell_in, shows, claims, posts, reads, claim_reply, post_reply, read_reply};
 
 /// Between any two steps on the table, the words and the seats show a right state of the machine.
@@ -56,4 +57,10 @@ pub fn reads_are_events()
           shows b (stepped s (p + 1) (slice_index s.words (p + 1)) id [] m.0 keeps),
         ) ≡
         step (shows b s) (Read id mask) }
+{}
+
+/// A refused close of a board of one worker names the least mask whose cell its seat doesn't know
+/// to be filled.
+pub fn one_worker_misses_the_least()
+    ensures { OneMissesTheLeast }
 {}
