@@ -5,12 +5,13 @@
 --     IsSettled operation a b settled      such an id, if there is one
 --     IsCut s level id low high      an id as a node of a level, with two children below
 --     IsCombined s from operation a b id      the id of an operation, which lies at a level or below it
+--     AreCombined s s' operation a b id      the same for each level at which or below which both ids lay
 use Rattle.std.specs.Prelude.{◌≡◌, ℕ, ◌<◌, ◌≤◌, ◌⊎◌, Bool, true, false, Option, Some, None}
 use Rattle.order_model.specs.Functions.{Point}
 use Rattle.node_words.specs.declared.operation.Operation.{Operation}
 use Rattle.node_words.specs.Entries.{combine_values}
 use Rattle.node_words.specs.Meaning.{branch}
-use Rattle.unique_table.specs.Plans.{variable_at}
+use Rattle.unique_table.specs.Plans.{levels_of, variable_at}
 use Rattle.unique_table.specs.Sessions.{Knowledge, Knows, Means, IsKnownBelow, combined_in, function_in, depth_in}
 
 -- a known id that lies at a level or below it
@@ -50,3 +51,8 @@ pub record IsCut (s : Knowledge) (level id low high : ℕ) : Type 0 where
 pub record IsCombined (s : Knowledge) (from : ℕ) (operation : Operation) (a b id : ℕ) : Type 0 where
   pub means : Means s id (combined_in s operation a b)
   pub level : from ≤ depth_in s id
+
+-- the same in a session that went on, for each level at which or below which both ids lay
+abbrev pub AreCombined : Knowledge → Knowledge → Operation → ℕ → ℕ → ℕ → Type 0
+AreCombined s s' operation a b id = (from : ℕ) → from ≤ levels_of s.store.plan → IsFrom s from a → IsFrom s from b →
+    IsCombined s' from operation a b id

@@ -2,10 +2,10 @@
 
 ghost use Rattle.std.specs.Prelude.{◌≡◌, ℕ, ◌+◌, ◌-◌, ◌<◌, ◌≤◌, IfOk, IfSome, IfNone, OnErr, min};
 ghost use Rattle.unique_table.specs.Plans.{levels_of};
-ghost use Rattle.unique_table.specs.Sessions.{Knows, Follows, combined_in, depth_in};
+ghost use Rattle.unique_table.specs.Sessions.{Knows, Follows, HasUniqueIds, LiesNoHigher, combined_in, depth_in};
 ghost use Rattle.dd_builder.specs.Building.{KnowsFull};
 ghost use Rattle.dd_builder.specs.Making.{Makes};
-ghost use Rattle.dd_builder.specs.Operating.{AreOperands, IsFrom, IsSettled, IsCut, IsCombined};
+ghost use Rattle.dd_builder.specs.Operating.{AreOperands, IsFrom, IsSettled, IsCut, AreCombined};
 
 use op_cache::{recall, remember};
 use unique_table::{NodeId, Operation, Session, Store, StoreFull};
@@ -156,7 +156,8 @@ fn apply_from(
     requires second { IsFrom session.old from second }
     requires from { from ≤ levels_of store.now.plan }
     ensures follows { Follows session.old session.new }
-    ensures combined { IfOk result (IsCombined session.new from operation first second) }
+    ensures combined { IfOk result
+        (AreCombined session.old session.new operation first second) }
     ensures full { OnErr result (KnowsFull session.new) }
 {
     if let Some(id) = settled(operation, first, second) {
@@ -175,7 +176,8 @@ fn apply_from(
 }
 
 /// The id of an operation on the functions of two ids (Bryant 1986, apply). It takes no memory.
-/// Each pair of nodes is worked on once for as long as the cache keeps its result.
+/// Each pair of nodes is worked on once for as long as the cache keeps its result. The id lies no
+/// higher than the higher operand, so it may be a child wherever both of them may.
 pub fn apply(
     store: &Store,
     session: &mut Session,
@@ -185,8 +187,12 @@ pub fn apply(
 ) -> Result<NodeId, StoreFull>
     requires session { session.old.store ≡ store.now }
     requires known { Knows session.old first × Knows session.old second }
-    ensures { Makes session.old session.new result
+    ensures made { Makes session.old session.new result
         (combined_in session.new operation first second) }
+    ensures level { IfOk result (LiesNoHigher session.new first second) }
+    ensures unique { HasUniqueIds session.new }
 {
-    apply_from(store, session, operation, first, second, 0)
+    let made = apply_from(store, session, operation, first, second, 0);
+    store.canonical_ids(session);
+    made
 }

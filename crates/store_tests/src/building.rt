@@ -4,7 +4,7 @@ ghost use Rattle.std.specs.List.{All};
 ghost use Rattle.unique_table.specs.Plans.{levels_of};
 ghost use Rattle.unique_table.specs.Sessions.{IsKnownBelow, Follows};
 ghost use Rattle.store_tests.specs.Cases.{AreFrom};
-ghost use Rattle.dd_builder.specs.Building.{AreTablesOf};
+ghost use Rattle.truth_table.specs.OfCovers.{AreTablesOf};
 
 use counted_io::Counting;
 use dd_builder::{

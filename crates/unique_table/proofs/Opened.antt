@@ -1,8 +1,10 @@
 -- A store and a session, opened.
-use Rattle.std.proofs.Common.{◌≡◌, ◌≢◌, ℕ, ◌+◌, ◌*◌, ◌/◌, ◌^◌, ◌<◌, ◌≤◌, List, sym, ap, ◌∙◌, subst, arith}
+use Rattle.std.proofs.Common.{◌≡◌, ◌≢◌, ℕ, ◌+◌, ◌-◌, ◌*◌, ◌/◌, ◌^◌, ◌<◌, ◌≤◌, List, sym, ap, ◌∙◌, subst, ⊎_elim, arith}
 use Rattle.node_words.specs.Nodes.{AreNodes, Grows, IsNode, IsIdOf, node_word}
 use Rattle.node_words.specs.Meaning.{function_of, Denotes, branch}
 use Rattle.node_words.proofs.Making.{word_node}
+use Rattle.node_words.proofs.Meaning.{depth_node, depth_terminal}
+use Rattle.std.proofs.lemmas.Bool.{cases_lt}
 use Rattle.order_model.specs.Orders.{IsOrder}
 use Rattle.node_words.specs.declared.operation.Operation.{Operation}
 use Rattle.node_words.specs.Entries.{code_of, combine, entry_word, result_of, IsEntry}
@@ -12,7 +14,7 @@ use Rattle.unique_table.specs.declared.plan.Plan.{Plan}
 use Rattle.unique_table.specs.declared.store.Store.TheInside as store
 use Rattle.unique_table.specs.declared.session.Session.TheInside as session
 use Rattle.unique_table.specs.Plans.{order_of, levels_of, variable_at}
-use Rattle.unique_table.specs.Sessions.{StoreId, Knowledge, Follows, MakesStep, Knows, IsKnownBelow, Means, HasUniqueIds, function_in, depth_in}
+use Rattle.unique_table.specs.Sessions.{StoreId, Knowledge, Follows, MakesStep, Knows, IsKnownBelow, Means, HasUniqueIds, HasLevels, function_in, depth_in}
 use Rattle.unique_table.specs.Insides.{store_id, IsStore, knowledge, IsSession}
 use Rattle.unique_table.specs.Views.{Gains}
 use Rattle.unique_table.specs.Seats.{Sitting, IsSeatOf, IsSeatAfter, IsNodeWord}
@@ -99,6 +101,14 @@ pub unique_ids : (t : store.Inside) → IsStore t → (seat : Sitting) → IsSea
 unique_ids t kt seat sits id other f a b =
     one_id (order_of seat.me.0.plan) seat.me.0.seen sits.good.nodes sits.good.unequal id other f
     (subst (λ (z : Plan). IsOrder (levels_of z) (order_of z)) (sym sits.plan) kt.plan.order.order) a b
+
+-- ids lie at levels, or are terminals
+pub has_levels : (seat : Sitting) → AreNodes (levels_of seat.me.0.plan) seat.me.0.seen → HasLevels (seated seat)
+has_levels seat are id known = ⊎_elim
+    (λ (small : id < 2). let e = depth_terminal (levels_of seat.me.0.plan) seat.me.0.seen id small in omega (arith, e))
+    (λ (node : 2 ≤ id).
+    let e = depth_node (levels_of seat.me.0.plan) seat.me.0.seen id node in let n = (are (id - 2) (known node)).level in omega (arith, e, n))
+    (cases_lt id 2)
 
 -- the result of an operation that a cache word has
 module _ (t : store.Inside) (kt : IsStore t) (seat : Sitting) (sits : IsSeatOf t.table.shared seat) (o : Operation) (a b w key : ℕ)

@@ -5,6 +5,7 @@
 --     combined_in s operation a b      an operation on the functions of two ids
 --     LiesNoHigher s a b id      an id lies no higher than the higher one of two others
 --     HasUniqueIds s      ids that a session knows are equal if they denote the same function
+--     HasLevels s      no id that a session knows lies below the terminals
 --     HasPiece s q id      the session knows that the piece has the id
 --     Follows s s'      a session goes on: what it knew it still knows
 --     MakesStep s s' wrote      a session goes on by one step
@@ -64,6 +65,10 @@ IsKnownBelow s level id = Knows s id × (level < depth_in s id)
 -- two ids that the session knows are one, if they denote the same function
 abbrev pub HasUniqueIds : Knowledge → Type 0
 HasUniqueIds s = (id other : ℕ) (f : Function) → Means s id f → Means s other f → id ≡ other
+
+-- each id that the session knows lies at a level or is a terminal
+abbrev pub HasLevels : Knowledge → Type 0
+HasLevels s = (id : ℕ) → Knows s id → depth_in s id ≤ levels_of s.store.plan
 
 -- the session knows the piece's id
 abbrev pub HasPiece : Knowledge → ℕ → ℕ → Type 0

@@ -6,7 +6,7 @@ ghost use Rattle.order_model.specs.Problems.{functions};
 ghost use Rattle.order_model.specs.Functions.{Point};
 ghost use Rattle.node_words.specs.Nodes.{node_word, IsFullFor, IsIdOf};
 ghost use Rattle.node_words.specs.Meaning.{branch};
-ghost use Rattle.unique_table.specs.Sessions.{Knows, IsKnownBelow, Means, Follows, MakesStep, HasParts, HasUniqueIds, LiesNoHigher, combined_in, function_in, depth_in, HasPiece};
+ghost use Rattle.unique_table.specs.Sessions.{Knows, IsKnownBelow, Means, Follows, MakesStep, HasParts, HasUniqueIds, HasLevels, LiesNoHigher, combined_in, function_in, depth_in, HasPiece};
 ghost use Rattle.order_model.specs.Diagrams.{Represents, IsReduced};
 ghost use Rattle.unique_table.specs.Closing.{Lacks};
 
@@ -128,6 +128,17 @@ impl Store {
         self.entries
     }
 
+    /// What holds of each session of the store: ids are equal if they denote the same function, and
+    /// no id lies below the terminals.
+    pub fn canonical_ids(&self, session: &Session)
+        requires { session.now.store ≡ self.now }
+        ensures unique { HasUniqueIds session.now }
+        ensures levels { HasLevels session.now }
+    {
+        let _table = &self.table;
+        let _seat = &session.seat;
+    }
+
     /// The id of the node with this level and these children, or the child if they are equal. It
     /// takes at most two steps per place.
     pub fn make(
@@ -175,14 +186,16 @@ impl Store {
         ensures terminal { IsNone result ↔ (id < 2) }
         ensures constant { IfNone result ((p : Point) → function_in session.new id p ≡ (id == 1)) }
         ensures parts { IfSome result (λ parts. HasParts session.new id parts) }
+        ensures unique { HasUniqueIds session.new }
         ensures steps { session.new.steps ≤ session.old.steps + 1 }
         ensures writes { session.new.writes ≡ session.old.writes }
     {
+        let shared = &self.table.shared;
         let seat = &mut session.seat;
         if id < 2 {
             return None;
         }
-        let word = words::look(&self.table.shared, seat, id as usize - 2);
+        let word = words::look(shared, seat, id as usize - 2);
         Some(node_parts(word))
     }
 
@@ -203,6 +216,7 @@ impl Store {
         ensures function { IfSome result
             (λ id. Means session.new id (combined_in session.new operation first second)) }
         ensures level { IfSome result (LiesNoHigher session.new first second) }
+        ensures unique { HasUniqueIds session.new }
     {
         let at = self.places + place;
         let seat = &mut session.seat;
@@ -258,6 +272,7 @@ impl Store {
         ensures function { IfSome result
             (λ id. Means session.new id (piece_function self.now.plan piece)) }
         ensures none { IfNone result (slice_index session.new.pieces piece ≡ 0) }
+        ensures unique { HasUniqueIds session.new }
     {
         let place = self.places + self.entries + piece;
         let word = words::collect(&self.table.shared, &mut session.seat, place, piece);

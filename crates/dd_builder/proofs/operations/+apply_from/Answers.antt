@@ -1,15 +1,18 @@
-use Rattle.std.proofs.Common.{◌+◌, ◌-◌, ◌<◌, ◌≤◌, ap, ◌∙◌, arith}
-use Rattle.unique_table.specs.Plans.{levels_of}
-use Rattle.unique_table.specs.Sessions.{StoreId}
+use Rattle.std.proofs.Common.{◌+◌, ◌-◌, ◌<◌, ◌≤◌, ◌∙◌, arith}
 use Rattle.unique_table.proofs.Following.{follows_trans, known_below_follows}
-use Rattle.dd_builder.proofs.Combining.{settled_combined, from_follows, below_from, combined_follows, combined_below, made_combined}
+use Rattle.dd_builder.proofs.Combining.{settled_combined, from_follows, below_from, combined_follows, combined_below, low_combined, high_combined, made_combined}
 use Rattle.dd_builder.proofs.operations.+apply_from.Goals as goal
 
 pub returns-in-Some-clause-combined : goal.returns-in-Some-clause-combined
-returns-in-Some-clause-combined t c =
-    let same = ap (λ (z : StoreId). levels_of z.plan) c.requires.session in
-    settled_combined c.args.session.now c.args.from c.args.operation c.args.first c.args.second c.in-Some.id c.requires.first
-    c.requires.second (omega arith) c.in-Some.ensures
+returns-in-Some-clause-combined t c = λ from few first second.
+    settled_combined c.args.session.now from c.args.operation c.args.first c.args.second c.in-Some.id first second few c.in-Some.ensures
+
+pub returns-in-Some-recall-clause-combined : goal.returns-in-Some-recall-clause-combined
+returns-in-Some-recall-clause-combined t c = λ from few first second.
+    let r = c.recall.ensures.step.follows in
+    let a = r.depths c.args.first first.known in let b = r.depths c.args.second second.known in
+    let x = first.level in let y = second.level in
+    record { means = c.in-Some-recall.ensures.function; level = c.in-Some-recall.ensures.level from (omega arith) (omega arith) }
 
 pub apply_from-requires : goal.apply_from-requires
 apply_from-requires t c =
@@ -64,7 +67,17 @@ returns-in_err-high-clause-follows t c =
     (follows_trans _ _ _ c.apply_from.ensures.follows c.apply_from-2.ensures.follows))
 
 pub make-requires-clause-low : goal.make-requires-clause-low
-make-requires-clause-low t c = known_below_follows _ _ _ _ c.apply_from-2.ensures.follows (combined_below _ _ _ _ _ _ c.in_ok-low.ensures.combined)
+make-requires-clause-low t c = known_below_follows _ _ _ _ c.apply_from-2.ensures.follows (combined_below _ _ _ _ _ _
+    (low_combined c.args.store.now c.take_apart-cut.new.session c.apply_from.new.session c.take_apart-cut.result.level c.args.operation c.args.first c.args.second _ _ _ _
+    (c.take_apart-cut.ensures.follows.store ∙ (c.recall.ensures.step.follows.store ∙ c.requires.session)) c.take_apart-cut.ensures.inside
+    c.take_apart-cut.ensures.first c.take_apart-cut.ensures.second c.in_ok-low.low c.in_ok-low.ensures.combined))
+
+pub make-requires-clause-high : goal.make-requires-clause-high
+make-requires-clause-high t c = combined_below _ _ _ _ _ _
+    (high_combined c.args.store.now c.take_apart-cut.new.session c.apply_from.new.session c.take_apart-cut.result.level c.args.operation c.args.first c.args.second _ _ _ _
+    (c.take_apart-cut.ensures.follows.store ∙ (c.recall.ensures.step.follows.store ∙ c.requires.session)) c.take_apart-cut.ensures.inside
+    c.take_apart-cut.ensures.first c.take_apart-cut.ensures.second c.apply_from-2.new.session c.in_ok-high.high
+    c.apply_from.ensures.follows c.in_ok-high.ensures.combined)
 
 pub returns-in_err-id-clause-follows : goal.returns-in_err-id-clause-follows
 returns-in_err-id-clause-follows t c =
@@ -83,7 +96,12 @@ remember-requires-clause-function t c =
     c.take_apart-cut.result.level c.args.operation c.args.first c.args.second _ _ _ _ _ _ c.in_ok-id.id
     (c.take_apart-cut.ensures.follows.store ∙ (c.recall.ensures.step.follows.store ∙ c.requires.session)) c.take_apart-cut.ensures.first
     c.take_apart-cut.ensures.second
-    c.apply_from.ensures.follows c.in_ok-low.ensures.combined c.apply_from-2.ensures.follows c.in_ok-high.ensures.combined
+    c.apply_from.ensures.follows (low_combined c.args.store.now c.take_apart-cut.new.session c.apply_from.new.session c.take_apart-cut.result.level c.args.operation c.args.first c.args.second _ _ _ _
+    (c.take_apart-cut.ensures.follows.store ∙ (c.recall.ensures.step.follows.store ∙ c.requires.session)) c.take_apart-cut.ensures.inside
+    c.take_apart-cut.ensures.first c.take_apart-cut.ensures.second c.in_ok-low.low c.in_ok-low.ensures.combined) c.apply_from-2.ensures.follows (high_combined c.args.store.now c.take_apart-cut.new.session c.apply_from.new.session c.take_apart-cut.result.level c.args.operation c.args.first c.args.second _ _ _ _
+    (c.take_apart-cut.ensures.follows.store ∙ (c.recall.ensures.step.follows.store ∙ c.requires.session)) c.take_apart-cut.ensures.inside
+    c.take_apart-cut.ensures.first c.take_apart-cut.ensures.second c.apply_from-2.new.session c.in_ok-high.high
+    c.apply_from.ensures.follows c.in_ok-high.ensures.combined)
     c.make.ensures.follows c.in_ok-id.ensures.function (omega arith) c.in_ok-id.ensures.level).means
 
 pub returns-clause-follows : goal.returns-clause-follows
@@ -93,18 +111,23 @@ returns-clause-follows t c =
     (follows_trans _ _ _ c.apply_from-2.ensures.follows (follows_trans _ _ _ c.make.ensures.follows c.remember.ensures.step.follows))))
 
 pub returns-clause-combined : goal.returns-clause-combined
-returns-clause-combined t c =
+returns-clause-combined t c = λ from few one two.
     let f = follows_trans _ _ _ c.recall.ensures.step.follows (follows_trans _ _ _ c.take_apart-cut.ensures.follows
     (follows_trans _ _ _ c.apply_from.ensures.follows (follows_trans _ _ _ c.apply_from-2.ensures.follows c.make.ensures.follows))) in
     let r = c.recall.ensures.step.follows in
-    let a = r.depths c.args.first c.requires.first.known in let b = r.depths c.args.second c.requires.second.known in
-    let first = c.requires.first.level in let second = c.requires.second.level in
-    let deep : c.args.from ≤ c.take_apart-cut.result.level = c.take_apart-cut.ensures.level c.args.from (omega arith) (omega arith) in
-    combined_follows c.make.new.session c.remember.new.session c.args.from c.args.operation c.args.first c.args.second c.in_ok-id.id
+    let a = r.depths c.args.first one.known in let b = r.depths c.args.second two.known in
+    let first = one.level in let second = two.level in
+    let deep : from ≤ c.take_apart-cut.result.level = c.take_apart-cut.ensures.level from (omega arith) (omega arith) in
+    combined_follows c.make.new.session c.remember.new.session from c.args.operation c.args.first c.args.second c.in_ok-id.id
     (f.knows c.args.first c.requires.first.known) (f.knows c.args.second c.requires.second.known) c.remember.ensures.step.follows
     (made_combined c.args.store.now c.take_apart-cut.new.session c.apply_from.new.session c.apply_from-2.new.session c.make.new.session
-    c.args.from c.take_apart-cut.result.level c.args.operation c.args.first c.args.second _ _ _ _ _ _ c.in_ok-id.id
+    from c.take_apart-cut.result.level c.args.operation c.args.first c.args.second _ _ _ _ _ _ c.in_ok-id.id
     (c.take_apart-cut.ensures.follows.store ∙ (c.recall.ensures.step.follows.store ∙ c.requires.session)) c.take_apart-cut.ensures.first
     c.take_apart-cut.ensures.second
-    c.apply_from.ensures.follows c.in_ok-low.ensures.combined c.apply_from-2.ensures.follows c.in_ok-high.ensures.combined
+    c.apply_from.ensures.follows (low_combined c.args.store.now c.take_apart-cut.new.session c.apply_from.new.session c.take_apart-cut.result.level c.args.operation c.args.first c.args.second _ _ _ _
+    (c.take_apart-cut.ensures.follows.store ∙ (c.recall.ensures.step.follows.store ∙ c.requires.session)) c.take_apart-cut.ensures.inside
+    c.take_apart-cut.ensures.first c.take_apart-cut.ensures.second c.in_ok-low.low c.in_ok-low.ensures.combined) c.apply_from-2.ensures.follows (high_combined c.args.store.now c.take_apart-cut.new.session c.apply_from.new.session c.take_apart-cut.result.level c.args.operation c.args.first c.args.second _ _ _ _
+    (c.take_apart-cut.ensures.follows.store ∙ (c.recall.ensures.step.follows.store ∙ c.requires.session)) c.take_apart-cut.ensures.inside
+    c.take_apart-cut.ensures.first c.take_apart-cut.ensures.second c.apply_from-2.new.session c.in_ok-high.high
+    c.apply_from.ensures.follows c.in_ok-high.ensures.combined)
     c.make.ensures.follows c.in_ok-id.ensures.function deep c.in_ok-id.ensures.level)

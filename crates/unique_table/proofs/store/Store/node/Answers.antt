@@ -1,7 +1,7 @@
 use Rattle.node_words.proofs.Functions.{function_terminal}
 use Rattle.unique_table.specs.Plans.{order_of}
 use Rattle.unique_table.specs.Sessions.{Follows}
-use Rattle.unique_table.proofs.Opened.{seated, goes_step}
+use Rattle.unique_table.proofs.Opened.{seated, seat_of, goes_step, unique_ids}
 use Rattle.unique_table.proofs.Parts.{has_parts}
 use Rattle.unique_table.proofs.store.Store.node.Goals as goal
 
@@ -23,3 +23,12 @@ returns-clause-parts c =
     has_parts (seated c.look-word.new.seat) c.look-word.ensures.step.view.good.nodes c.args.id c.if-id-lt2.false
     (on.knows c.args.id c.requires.known) c.look-word.result c.look-word.ensures.found c.node_parts.result
     c.node_parts.ensures.level c.node_parts.ensures.low c.node_parts.ensures.high
+
+pub returns-then-id-lt2-clause-unique : goal.returns-then-id-lt2-clause-unique
+returns-then-id-lt2-clause-unique c =
+    unique_ids c.self.inside c.self.invariant c.session.inside.seat
+    (seat_of c.self.inside c.session.inside c.args.self.now c.args.session.now c.self.view_is c.session.view_is c.self.invariant
+    c.session.invariant c.requires.session)
+
+pub returns-clause-unique : goal.returns-clause-unique
+returns-clause-unique c = unique_ids c.self.inside c.self.invariant c.look-word.new.seat c.look-word.ensures.step.seat
