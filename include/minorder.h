@@ -9,8 +9,10 @@
    output, no complement edges, terminals not counted.
 
    Each call runs on the calling thread and keeps nothing: threads may call at the same time, each with its own data. Pointers
-   are never null, also where a length is 0, and what a call writes overlaps nothing else that it is given. Memory comes from
-   malloc and goes back to free before the call returns. Don't call from a signal handler. */
+   are never null, also where a length is 0 (but for `pairs` of minorder_exact_above), and what a call writes overlaps nothing
+   else that it is given. Memory comes from malloc and realloc and goes back to free before the call returns: the three are those
+   of one allocator, and its blocks are aligned to 16 bytes. Don't call from a signal handler, nor in a child that a process with
+   several threads has forked. */
 #ifndef MINORDER_H
 #define MINORDER_H
 
@@ -31,14 +33,12 @@ enum {
     MINORDER_OUT_OF_MEMORY = 4,
     /* the order hasn't each variable once */
     MINORDER_BAD_ORDER = 5,
-    /* a store of 262,144 nodes for building a diagram was full */
-    MINORDER_STORE_FULL = 6,
     /* a pair has another variable, or the pairs lead from a variable back to itself */
     MINORDER_BAD_PAIRS = 8
 };
 
-/* How many words the truth table of a function takes. */
-static inline size_t minorder_words(uint32_t inputs) { return inputs < 6 ? 1 : (size_t)1 << (inputs - 6); }
+/* How many words the truth table of a function takes; 0 above 16 inputs, of which there are no such functions. */
+static inline size_t minorder_words(uint32_t inputs) { return inputs < 6 ? 1 : inputs <= 16 ? (size_t)1 << (inputs - 6) : 0; }
 
 /* Pairs of variables: `above` has to stand above `below`. */
 typedef struct {
@@ -66,11 +66,14 @@ static inline uint32_t minorder_exact(const uint64_t *tables, size_t words, uint
     return minorder_exact_with_lengths(tables, words, inputs, outputs, order, places, levels, places, total);
 }
 
-/* The same among the orders that keep `count` pairs. A pair may be given twice. */
+/* The same among the orders that keep `count` pairs. A pair may be given twice; without pairs `pairs` may be null. */
 static inline uint32_t minorder_exact_above(const uint64_t *tables, size_t words, uint32_t inputs, uint32_t outputs,
                                             const minorder_pair *pairs, size_t count,
                                             uint8_t *order, uint32_t *levels, uint32_t *total) {
     size_t places = minorder_places(inputs);
+    const minorder_pair none = {0, 0};
+    if (count == 0)
+        pairs = &none;
     return minorder_exact_above_with_lengths(tables, words, inputs, outputs, pairs, count, order, places, levels, places, total);
 }
 

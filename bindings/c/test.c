@@ -137,10 +137,24 @@ static void certificates(void) {
     EXPECT(verdict.reason == MINORDER_START);
 }
 
+/* ---- no pairs, by a null pointer */
+
+static void no_pairs(void) {
+    uint64_t table = 0;
+    for (unsigned p = 0; p < 64; p++)
+        if (p & (p >> 3) & 7)
+            table |= (uint64_t)1 << p;
+    uint8_t plain[6], order[6];
+    uint32_t plain_levels[6], levels[6], fewest, total;
+    EXPECT(minorder_exact(&table, 1, 6, 1, plain, plain_levels, &fewest) == MINORDER_DONE);
+    EXPECT(minorder_exact_above(&table, 1, 6, 1, NULL, 0, order, levels, &total) == MINORDER_DONE);
+    EXPECT(total == fewest && memcmp(order, plain, sizeof order) == 0 && memcmp(levels, plain_levels, sizeof levels) == 0);
+}
+
 /* ---- bad arguments, which write nothing */
 
 static void bad_arguments(void) {
-    uint64_t table[1025] = {0};
+    uint64_t table[2048] = {0};
     uint8_t order[17], twice[6] = {0, 1, 2, 2, 4, 5}, outside[6] = {0, 1, 2, 3, 4, 6};
     uint32_t levels[17], total = 77;
     minorder_verdict verdict = {99, 99, 99};
@@ -167,6 +181,9 @@ static void bad_arguments(void) {
     EXPECT(minorder_exact_above_with_lengths(table, 1, 6, 1, out, 1, order, 6, levels, 6, &total) == MINORDER_BAD_PAIRS);
     EXPECT(minorder_exact_above_with_lengths(table, 1, 6, 1, circle, 3, order, 6, levels, 6, &total) == MINORDER_BAD_PAIRS);
     EXPECT(minorder_exact_above_with_lengths(table, 1, 6, 1, itself, 1, order, 6, levels, 6, &total) == MINORDER_BAD_PAIRS);
+    EXPECT(minorder_words(0) == 1 && minorder_words(6) == 1 && minorder_words(16) == 1024);
+    EXPECT(minorder_words(17) == 0 && minorder_words(70) == 0 && minorder_words(UINT32_MAX) == 0);
+    EXPECT(minorder_exact_above(table, minorder_words(70), 70, 1, NULL, 0, order, levels, &total) == MINORDER_BAD_SHAPE);
     EXPECT(total == 77 && verdict.reason == 99 && twice[3] == 2 && outside[5] == 6);
     for (int i = 0; i < 17; i++)
         EXPECT(order[i] == 66 && levels[i] == 0x37373737);
@@ -295,6 +312,7 @@ int main(int count, char **words) {
         return report((unsigned)atoi(words[1]), (unsigned)atoi(words[2]));
     worked_cases();
     certificates();
+    no_pairs();
     bad_arguments();
     refusals();
     threads();

@@ -1,5 +1,6 @@
-/* The times of minorder_exact, minorder_levels and minorder_sift for one random function of INPUTS variables.
-   usage: times INPUTS */
+/* The times of minorder_exact, minorder_levels and minorder_sift for OUTPUTS random functions (one if left out) of INPUTS
+   variables, and how many calls of the first and the last a second takes.
+   usage: times INPUTS [OUTPUTS] */
 #include <stdio.h>
 #include <stdlib.h>
 #include <time.h>
@@ -12,30 +13,42 @@ static double milliseconds(void) {
     return now.tv_sec * 1e3 + now.tv_nsec / 1e6;
 }
 
+/* Puts into `mean` how many milliseconds a call takes: the mean of as many as end within half a second, one at least. */
+#define TIME(mean, call)                                             \
+    do {                                                             \
+        double start = milliseconds(), now;                          \
+        int calls = 0;                                               \
+        do {                                                         \
+            if (call)                                                \
+                return 1;                                            \
+            calls++;                                                 \
+            now = milliseconds();                                    \
+        } while (now - start < 500);                                 \
+        (mean) = (now - start) / calls;                              \
+    } while (0)
+
+static void file_order(uint8_t *order, uint32_t inputs) {
+    for (uint32_t i = 0; i < inputs; i++)
+        order[i] = (uint8_t)i;
+}
+
 int main(int count, char **arguments) {
-    uint32_t inputs = count == 2 ? (uint32_t)atoi(arguments[1]) : 0, levels[16], best = 0, sifted = 0;
-    if (inputs < 1 || inputs > 16)
+    uint32_t inputs = count >= 2 ? (uint32_t)atoi(arguments[1]) : 0, outputs = count == 3 ? (uint32_t)atoi(arguments[2]) : 1;
+    uint32_t levels[16], best = 0, sifted = 0;
+    if (inputs < 1 || inputs > 16 || outputs < 1 || outputs > 16)
         return 2;
-    size_t words = minorder_words(inputs);
+    size_t words = outputs * minorder_words(inputs);
     uint64_t *table = malloc(words * sizeof *table), seed = 7;
     for (size_t i = 0; i < words; i++) {
         seed = seed * 6364136223846793005u + 1442695040888963407u;
         table[i] = seed ^ seed >> 29;
     }
     uint8_t order[16];
-    double start = milliseconds();
-    if (minorder_exact(table, words, inputs, 1, order, levels, &best))
-        return 1;
-    double exact = milliseconds();
-    if (minorder_levels(table, words, inputs, 1, order, levels))
-        return 1;
-    double counted = milliseconds();
-    for (uint32_t i = 0; i < inputs; i++)
-        order[i] = (uint8_t)i;
-    if (minorder_sift(table, words, inputs, 1, order, levels, &sifted))
-        return 1;
-    double end = milliseconds();
-    printf("| %u | %.0f | %.1f | %.0f | %u | %u |\n", inputs, exact - start, counted - exact, end - counted, best, sifted);
+    double exact, counted, sifting;
+    TIME(exact, minorder_exact(table, words, inputs, outputs, order, levels, &best));
+    TIME(counted, minorder_levels(table, words, inputs, outputs, order, levels));
+    TIME(sifting, (file_order(order, inputs), minorder_sift(table, words, inputs, outputs, order, levels, &sifted)));
+    printf("| %u | %u | %.2f | %.0f | %.2f | %.2f | %.0f | %u | %u |\n", inputs, outputs, exact, 1e3 / exact, counted, sifting, 1e3 / sifting, best, sifted);
     free(table);
     return 0;
 }

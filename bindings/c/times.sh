@@ -6,8 +6,10 @@ here=$(cd "$(dirname "${BASH_SOURCE[0]}")" && pwd)
 made=$(mktemp -d)
 trap 'rm -rf "$made"' EXIT
 "${CC:-clang}" -O2 -I "$here/../../include" "$here/times.c" "$here/../../lib/libminorder.a" -o "$made/times"
-echo "| Inputs | Exact, ms | Level counts, ms | Sifting, ms | Fewest nodes | Sifted |"
-echo "|---|---|---|---|---|---|"
-for inputs in 8 10 12 14 16; do
-    "$made/times" "$inputs"
+echo "| Inputs | Outputs | Exact, ms | Calls a second | Level counts, ms | Sifting, ms | Calls a second | Fewest nodes | Sifted |"
+echo "|---|---|---|---|---|---|---|---|---|"
+for outputs in 1 16; do
+    for inputs in 8 10 12 14 16; do
+        "$made/times" "$inputs" "$outputs"
+    done
 done

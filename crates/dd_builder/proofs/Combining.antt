@@ -6,9 +6,9 @@ use Rattle.node_words.specs.declared.words.NodeParts.{NodeParts}
 use Rattle.node_words.specs.Entries.{combine, combine_values}
 use Rattle.node_words.specs.Meaning.{branch}
 use Rattle.unique_table.specs.Plans.{levels_of, variable_at}
-use Rattle.unique_table.specs.Sessions.{StoreId, Knowledge, Follows, Knows, Means, HasParts, IsKnownBelow, function_in, depth_in}
+use Rattle.unique_table.specs.Sessions.{StoreId, Knowledge, Follows, Knows, Means, HasParts, HasLevels, LiesNoHigher, IsKnownBelow, function_in, depth_in}
 use Rattle.unique_table.proofs.Following.{follows_trans, known_below_follows}
-use Rattle.dd_builder.specs.Operating.{IsFrom, Settles, IsCut, IsCombined}
+use Rattle.dd_builder.specs.Operating.{IsFrom, Settles, IsCut, IsCombined, AreCombined}
 use Rattle.dd_builder.proofs.Going.{means_same, function_zero, function_one, terminal_known, terminal_depth}
 
 -- ---- operands that settle an operation
@@ -133,6 +133,26 @@ below_from s level id h = record { known = h.0; level = (let l = h.1 in omega ar
 
 pub combined_below : (s : Knowledge) (level : ℕ) (operation : Operation) (a b id : ℕ) → IsCombined s (level + 1) operation a b id → IsKnownBelow s level id
 combined_below s level operation a b id h = (h.means.known, (let l = h.level in omega arith))
+
+-- an operation on the children of two ids
+module _ (store : StoreId) (s2 s3 : Knowledge) (level : ℕ) (operation : Operation) (a b al au bl bu : ℕ) (same : s2.store ≡ store)
+    (inside : level < levels_of store.plan) (ca : IsCut s2 level a al au) (cb : IsCut s2 level b bl bu) where
+  pub low_combined : (low : ℕ) → AreCombined s2 s3 operation al bl low → IsCombined s3 (level + 1) operation al bl low
+  low_combined low all = let e = ap (λ (z : StoreId). levels_of z.plan) same in
+      all (level + 1) (omega (arith, e, inside)) (below_from s2 level al ca.low_below) (below_from s2 level bl cb.low_below)
+
+  pub high_combined : (s4 : Knowledge) (high : ℕ) → Follows s2 s3 → AreCombined s3 s4 operation au bu high → IsCombined s4 (level + 1) operation au bu high
+  high_combined s4 high f all = let e = ap (λ (z : StoreId). levels_of z.plan) (f.store ∙ same) in
+      all (level + 1) (omega (arith, e, inside)) (from_follows s2 s3 (level + 1) au f (below_from s2 level au ca.high_below))
+      (from_follows s2 s3 (level + 1) bu f (below_from s2 level bu cb.high_below))
+
+-- the result lies no higher than the higher operand
+pub combined_no_higher : (s s' : Knowledge) (operation : Operation) (a b id : ℕ) → Knows s a → Knows s b → Follows s s' → HasLevels s' →
+    AreCombined s s' operation a b id → LiesNoHigher s' a b id
+combined_no_higher s s' operation a b id ka kb f levels all k x y =
+    let e = ap (λ (z : StoreId). levels_of z.plan) f.store in
+    let da = f.depths a ka in let db = f.depths b kb in let most = levels a (f.knows a ka) in
+    (all k (omega (arith, e, x, most)) record { known = ka; level = omega (arith, x, da) } record { known = kb; level = omega (arith, y, db) }).level
 
 -- the node made of an operation on both children
 pub made_combined : (store : StoreId) (s2 s3 s4 s5 : Knowledge) (from level : ℕ) (operation : Operation) (a b al au bl bu low high id : ℕ) →

@@ -10,14 +10,15 @@ use Rattle.order_model.specs.OrderedGraphs.{OrderedGraph}
 use Rattle.order_model.specs.Orders.{IsOrder}
 use Rattle.order_model.specs.Problems.{TruthTables, functions, outputs_of, table_at}
 use Rattle.order_model.specs.Products.{product_of, product_function, product_functions}
-use Rattle.pla_reader.specs.Covers.{NamedCover}
+use Rattle.pla_reader.specs.Covers.{NamedCover, functions_of}
 use Rattle.unique_table.specs.declared.plan.Plan.{Plan}
 use Rattle.unique_table.specs.declared.plan.PieceKind.{PieceKind}
 use Rattle.unique_table.specs.declared.plan.PieceKind.TheVariants.{Restrictions, Products}
 use Rattle.unique_table.specs.declared.plan.Pieces.TheVariants.{Terms}
 use Rattle.unique_table.specs.Plans.{order_of, output_at, products_of, AreTermsOf, IsKind, IsPlan}
 use Rattle.unique_table.proofs.Roots.{represents_same}
-use Rattle.dd_builder.specs.Building.{AreTablesOf, AreProductsOf, IsForCover, HasLevelCounts, IsDiagramOf, IsDiagramFor, functions_of}
+use Rattle.dd_builder.specs.Building.{AreProductsOf, IsForCover, HasLevelCounts, IsDiagramOf, IsDiagramFor}
+use Rattle.truth_table.specs.OfCovers.{AreTablesOf}
 use Rattle.order_model.proofs.Functions.Tables.{same_sym}
 
 -- a reduced diagram has the level counts, and the functions of tables are those that the tables were made of

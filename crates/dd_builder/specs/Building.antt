@@ -1,18 +1,15 @@
 -- Building the reduced diagram of some functions.
 --     KnowsFull s      a session knows all places of its store to be filled
 --     Refuses store e, RefusesUnder order t e      why a build gives no diagram: in a store, or in some store of an order for truth tables
---     functions_of cover, AreTablesOf cover t      the functions of a cover, and their truth tables
 --     IsForTables b t, IsForCover b cover      what a store was made for
---     HasLevelCounts n F order d      a diagram has the level counts of the functions
---     IsDiagramOf n F order d, IsDiagramFor b d      the reduced diagram of some functions under an order, and that of a store's functions
-use Rattle.std.specs.Prelude.{◌≡◌, ◌≢◌, ℕ, ◌<◌, List, map, length, slice_index}
+--     IsDiagramFor b d      the reduced diagram of a store's functions
+use Rattle.std.specs.Prelude.{◌≡◌, ◌≢◌, ℕ, ◌<◌, List, map, slice_index}
 use Rattle.order_model.specs.Functions.{Function, table}
-use Rattle.order_model.specs.Levels.{level_count}
-use Rattle.order_model.specs.Diagrams.{Graph, Represents, IsReduced, nodes_at}
 use Rattle.order_model.specs.OrderedGraphs.{OrderedGraph}
 use Rattle.order_model.specs.Problems.{TruthTables, functions, outputs_of}
 use Rattle.order_model.specs.Products.{product_of, product_functions}
 use Rattle.pla_reader.specs.Covers.{NamedCover}
+pub use Rattle.truth_table.specs.Reduced.{HasLevelCounts, IsDiagramOf}
 use Rattle.unique_table.specs.declared.plan.Plan.{Plan}
 use Rattle.unique_table.specs.declared.plan.PieceKind.{PieceKind}
 use Rattle.unique_table.specs.declared.plan.PieceKind.TheVariants.{Restrictions, Products}
@@ -29,15 +26,6 @@ KnowsFull s = (p : ℕ) → p < s.store.plan.places → slice_index s.seen p ≢
 abbrev pub Refuses : StoreId → BuildError → Type 0
 Refuses store (StoreFull s) = (s.store ≡ store) × KnowsFull s
 Refuses store OutOfMemory = Unit {0}
-
--- the functions of a cover (espresso(5), logical type f)
-abbrev pub functions_of : NamedCover → List Function
-functions_of cover = product_functions cover.outputs cover.products
-
--- the truth tables of a cover's functions
-pub record AreTablesOf (cover : NamedCover) (t : TruthTables) : Type 0 where
-  pub inputs : t.inputs ≡ cover.inputs
-  pub tables : t.tables ≡ map (table cover.inputs) (functions_of cover)
 
 -- the parts are restrictions of the outputs
 abbrev pub AreRestrictions : PieceKind → Type 0
@@ -66,17 +54,6 @@ pub record IsForCover (b : Plan) (cover : NamedCover) : Type 0 where
   pub inputs : b.problem.value.inputs ≡ cover.inputs
   pub outputs : outputs_of b.problem.value ≡ cover.outputs
 
--- on each level the diagram has as many nodes as the functions' level count
-abbrev pub HasLevelCounts : ℕ → List Function → List ℕ → Graph → Type 0
-HasLevelCounts n F order d = (i : ℕ) → i < length order → nodes_at d (slice_index order i) ≡ level_count n F order i
-
--- the reduced diagram of the functions under the given order, with their level counts
-pub record IsDiagramOf (n : ℕ) (F : List Function) (given : List ℕ) (d : OrderedGraph) : Type 0 where
-  pub order : d.order ≡ given
-  pub diagram : Represents n F given d.graph
-  pub reduced : IsReduced d.graph
-  pub levels : HasLevelCounts n F given d.graph
-
--- the same of a store's functions under its order
+-- the reduced diagram of a store's functions under its order
 abbrev pub IsDiagramFor : Plan → OrderedGraph → Type 0
 IsDiagramFor b d = IsDiagramOf (levels_of b) (functions b.problem.value) (order_of b) d

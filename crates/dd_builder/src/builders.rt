@@ -4,7 +4,9 @@ ghost use Rattle.std.specs.Prelude.{◌≡◌, ◌-◌, ◌≤◌, length, IfOk,
 ghost use Rattle.std.specs.Thread.{IsSync};
 ghost use Rattle.order_model.specs.Problems.{functions};
 ghost use Rattle.unique_table.specs.Plans.{order_of};
-ghost use Rattle.dd_builder.specs.Building.{Refuses, RefusesUnder, AreTablesOf, IsDiagramOf, IsDiagramFor, IsForTables, IsForCover, functions_of};
+ghost use Rattle.dd_builder.specs.Building.{Refuses, RefusesUnder, IsDiagramOf, IsDiagramFor, IsForTables, IsForCover};
+ghost use Rattle.truth_table.specs.OfCovers.{AreTablesOf};
+ghost use Rattle.pla_reader.specs.Covers.{functions_of};
 ghost use Rattle.dd_builder.specs.Parts.{IsSourceFor, KnowsParts, IsEndOf};
 
 use crate::errors::BuildError;
@@ -12,7 +14,7 @@ use crate::parts::Source;
 use crate::roots::publish_roots;
 use crate::workers::{Job, build_parts, jobs, joined};
 use order_model::laws::{some_diagram_has_the_level_counts, truth_tables_keep_functions};
-use order_model::{Diagram, Gate, NoGate, Order, Workers};
+use order_model::{Diagram, Gate, Order, Workers};
 use pla_reader::Cover;
 use std::alloc::{AllocError, Global};
 use std::thread;
@@ -220,38 +222,6 @@ pub fn build_tables<R: Threads + Sync, G: Gate>(
     };
     let _plan = store.order();
     from_tables(rt, alloc, store, session, tables, workers, gate)
-}
-
-/// All parts, built by the calling thread: its session, which knows them, or has met a full store.
-fn parts_alone(store: &Store, session: Session, source: Source<'_>) -> Result<Session, BuildError>
-    requires session { session.store ≡ store.now }
-    requires source { IsSourceFor store.now.plan source }
-    ensures parts { IfOk result (KnowsParts store.now) }
-    ensures refused { IfErr result (Refuses store.now) }
-{
-    match build_parts(store, session, 1, 1, source, &NoGate) {
-        Ok(knowing) => Ok(knowing),
-        Err(full) => Err(BuildError::StoreFull(full)),
-    }
-}
-
-/// The same as `build_tables`, by the calling thread alone.
-pub fn build_tables_alone(
-    alloc: Global,
-    tables: &Tables,
-    order: &Order,
-) -> Result<Diagram, BuildError>
-    requires order { length order.now ≡ tables.now.inputs }
-    ensures diagram { IfOk result (IsDiagramOf tables.now.inputs (functions tables.now) order.now) }
-    ensures refused { IfErr result (RefusesUnder order.now tables.now) }
-{
-    let Ok((store, session)) = tables_store(alloc, tables, order) else {
-        return Err(BuildError::OutOfMemory);
-    };
-    let _plan = store.order();
-    let source = Source::Tables(tables);
-    let session = parts_alone(&store, session, source)?;
-    finish(alloc, store, session, source)
 }
 
 /// The reduced diagram of a cover's functions under an order, built from its terms in the store

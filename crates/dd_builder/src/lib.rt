@@ -11,8 +11,7 @@ mod tables;
 mod workers;
 
 pub use builders::{
-    build, build_from, build_tables, build_tables_alone, cover_store, from_cover, from_tables,
-    tables_store,
+    build, build_from, build_tables, cover_store, from_cover, from_tables, tables_store,
 };
 pub use errors::BuildError;
 pub use operations::apply;

@@ -2,7 +2,7 @@
 --     tables_refused      those of the tables alone
 use Rattle.std.proofs.Common.{ℕ, List}
 use Rattle.minorder_c.specs.declared.status.Refusal.{Refusal}
-use Rattle.minorder_c.specs.declared.status.Refusal.TheVariants.{Shape, Certificate, OutOfMemory, Order, StoreFull, Pairs}
+use Rattle.minorder_c.specs.declared.status.Refusal.TheVariants.{Shape, Certificate, OutOfMemory, Order, Pairs}
 use Rattle.minorder_c.specs.Statuses.{Refuses}
 use Rattle.minorder_c.specs.Judged.{RefusesText}
 
@@ -11,5 +11,4 @@ tables_refused shape text Shape h = h
 tables_refused shape text Certificate h = absurd h
 tables_refused shape text OutOfMemory h = h
 tables_refused shape text Order h = absurd h
-tables_refused shape text StoreFull h = h
 tables_refused shape text Pairs h = absurd h

@@ -38,12 +38,11 @@ told_verdict (Invalid (why.Edge mask x)) = record { reason = 8; mask = mask; var
 abbrev pub IsNoCertificate : List ℕ → Type 0
 IsNoCertificate text = ((line : ℕ) × (fault : LineFault) × FirstFault text line fault) ⊎ (most_bytes < length text)
 
--- tables without their shape, or a text that is no certificate, are refused for it; others only if something is wanting
+-- tables without their shape, or a text that is no certificate, are refused for it; others only if memory is wanting
 abbrev pub RefusesText : Type 0 → List ℕ → Refusal → Type 0
 RefusesText shape text refused.Shape = shape → ⊥
 RefusesText shape text refused.Certificate = shape × IsNoCertificate text
 RefusesText shape text refused.OutOfMemory = shape
-RefusesText shape text refused.StoreFull = shape
 RefusesText shape text _ = ⊥
 
 -- the text spells a certificate, and this is the verdict on it

@@ -1,13 +1,13 @@
 -- How calls end.
 --     status_of r      the number of a refusal
---     IsShortage r, Refuses shape r      memory or a store was wanting; the same of arguments that have their shape, or they haven't
+--     Refuses shape r      memory was wanting, of arguments that have their shape, or they haven't
 --     RefusesOrder shape order r      the same, or what is given is no order
 --     RefusesPairs shape keepable r      the same, or no order keeps the pairs
 --     IsPlainStatus s, IsOrderStatus s      the numbers of calls without an order and with one
 --     TellsShape shape s      the number says whether the arguments have their shape
 use Rattle.std.specs.Prelude.{ℕ, ◌≡◌, ◌⊎◌, ◌↔◌}
 use Rattle.minorder_c.specs.declared.status.Refusal.{Refusal}
-use Rattle.minorder_c.specs.declared.status.Refusal.TheVariants.{Shape, Certificate, OutOfMemory, Order, StoreFull, Pairs}
+use Rattle.minorder_c.specs.declared.status.Refusal.TheVariants.{Shape, Certificate, OutOfMemory, Order, Pairs}
 
 -- the number of a refusal; 0 is a call's that isn't refused
 abbrev pub status_of : Refusal → ℕ
@@ -15,40 +15,30 @@ status_of Shape = 2
 status_of Certificate = 3
 status_of OutOfMemory = 4
 status_of Order = 5
-status_of StoreFull = 6
 status_of Pairs = 8
 
--- memory, or a place in a store, was wanting
-abbrev pub IsShortage : Refusal → Type 0
-IsShortage OutOfMemory = Unit {0}
-IsShortage StoreFull = Unit {0}
-IsShortage _ = ⊥
-
--- arguments without their shape are refused for it; others only if something is wanting
+-- arguments without their shape are refused for it; others only if memory is wanting
 abbrev pub Refuses : Type 0 → Refusal → Type 0
 Refuses shape Shape = shape → ⊥
 Refuses shape OutOfMemory = shape
-Refuses shape StoreFull = shape
 Refuses shape _ = ⊥
 
 -- the numbers of the calls that take no order and no pairs
 abbrev pub IsPlainStatus : ℕ → Type 0
-IsPlainStatus s = (s ≡ 0) ⊎ ((s ≡ 2) ⊎ ((s ≡ 4) ⊎ (s ≡ 6)))
+IsPlainStatus s = (s ≡ 0) ⊎ ((s ≡ 2) ⊎ (s ≡ 4))
 
--- arguments without their shape, or with their shape and no order, are refused for it; others only if something is wanting
+-- arguments without their shape, or with their shape and no order, are refused for it; others only if memory is wanting
 abbrev pub RefusesOrder : Type 0 → Type 0 → Refusal → Type 0
 RefusesOrder shape order Shape = shape → ⊥
 RefusesOrder shape order Order = shape × (order → ⊥)
 RefusesOrder shape order OutOfMemory = shape
-RefusesOrder shape order StoreFull = shape
 RefusesOrder shape order _ = ⊥
 
--- arguments without their shape, or with their shape and pairs that no order keeps, are refused for it; others only if something is wanting
+-- arguments without their shape, or with their shape and pairs that no order keeps, are refused for it; others only if memory is wanting
 abbrev pub RefusesPairs : Type 0 → Type 0 → Refusal → Type 0
 RefusesPairs shape keepable Shape = shape → ⊥
 RefusesPairs shape keepable Pairs = shape × (keepable → ⊥)
 RefusesPairs shape keepable OutOfMemory = shape
-RefusesPairs shape keepable StoreFull = shape
 RefusesPairs shape keepable _ = ⊥
 
 -- 2 is the number of the calls whose arguments haven't their shape

@@ -5,7 +5,7 @@ ghost use Rattle.order_model.specs.Problems.{functions};
 ghost use Rattle.order_model.specs.KeptPairs.{CanBeKept};
 ghost use Rattle.order_model.specs.Pairs.{sorted_pairs};
 ghost use Rattle.minorder_c.specs.Answers.{AllStay, HasShape, IsOptimum, functions_in, pairs_given};
-ghost use Rattle.minorder_c.specs.Statuses.{IsPlainStatus, IsShortage, Refuses, RefusesPairs, TellsShape};
+ghost use Rattle.minorder_c.specs.Statuses.{IsPlainStatus, Refuses, RefusesPairs, TellsShape};
 
 use crate::above::{AbovePair, kept_pairs};
 use crate::arguments::tables_of;
@@ -13,19 +13,18 @@ use crate::sifting_from::sifted_from;
 use crate::status::Refusal;
 use order_model::Pairs;
 use order_solve::{Solution, solve_alone};
-use std::alloc::Global;
+use std::alloc::{AllocError, Global};
 use truth_table::Tables;
 
 /// The first order of the fewest nodes among those that keep the pairs, searched below the size of
 /// one sifted from the first that keeps them.
-fn optimum(alloc: Global, tables: &Tables, pairs: Pairs) -> Result<Solution, Refusal>
+fn optimum(alloc: Global, tables: &Tables, pairs: Pairs) -> Result<Solution, AllocError>
     requires { pairs.inputs ≡ tables.now.inputs }
     ensures optimum { IfOk result
         (λ s. IsOptimum tables.now.inputs (functions tables.now) pairs.pairs s.order s.levels.items
         s.total) }
     ensures long { IfOk result (λ s. length s.order ≡ tables.now.inputs) }
     ensures counts { IfOk result (λ s. length s.levels.items ≡ tables.now.inputs) }
-    ensures short { IfErr result IsShortage }
 {
     let start = pairs.first_order(alloc)?;
     let sifted = sifted_from(alloc, tables, &start, pairs)?;

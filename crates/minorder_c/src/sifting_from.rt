@@ -1,17 +1,15 @@
 //! Sifting from any order, by the calling thread.
 
-ghost use Rattle.std.specs.Prelude.{◌≡◌, length, IfOk, IfErr};
+ghost use Rattle.std.specs.Prelude.{◌≡◌, length, IfOk};
 ghost use Rattle.order_model.specs.Pairs.{Keeps};
 ghost use Rattle.order_model.specs.Problems.{functions};
 ghost use Rattle.order_model.specs.Sifting.{sifted as sifted_order};
-ghost use Rattle.minorder_c.specs.Statuses.{IsShortage};
 
-use crate::status::Refusal;
-use dd_builder::build_tables_alone;
 use order_model::{Order, Pairs};
 use sifting::laws::diagrams_have_their_problems_tables;
 use sifting::{Manager, Sifted};
-use std::alloc::Global;
+use std::alloc::{AllocError, Global};
+use table_diagrams::reduced_diagram;
 use truth_table::Tables;
 
 /// The order sifted from one that keeps the pairs.
@@ -20,7 +18,7 @@ pub(crate) fn sifted_from(
     tables: &Tables,
     start: &Order,
     pairs: Pairs,
-) -> Result<Sifted, Refusal>
+) -> Result<Sifted, AllocError>
     requires long { length start.now ≡ tables.now.inputs }
     requires inputs { pairs.inputs ≡ tables.now.inputs }
     requires kept { Keeps pairs.pairs start.now }
@@ -29,10 +27,9 @@ pub(crate) fn sifted_from(
         start.now) }
     ensures problem { IfOk result (λ s. s.problem ≡ tables.now) }
     ensures pairs { IfOk result (λ s. s.pairs ≡ pairs.pairs) }
-    ensures short { IfErr result IsShortage }
 {
     diagrams_have_their_problems_tables(tables.problem());
-    let diagram = build_tables_alone(alloc, tables, start)?;
+    let diagram = reduced_diagram(alloc, tables, start)?;
     let manager = Manager::with_pairs(alloc, diagram, pairs)?;
     let sifted = manager.sift(alloc)?;
     Ok(sifted)

@@ -1,9 +1,9 @@
 //! How calls end.
 
 ghost use Rattle.std.specs.Prelude.{◌≡◌};
-ghost use Rattle.minorder_c.specs.Statuses.{status_of, IsShortage};
+ghost use Rattle.minorder_c.specs.Statuses.{status_of};
+ghost use Rattle.minorder_c.specs.declared.status.Refusal.TheVariants.{OutOfMemory};
 
-use dd_builder::BuildError;
 use std::alloc::AllocError;
 
 /// Why a call is refused.
@@ -17,8 +17,6 @@ pub enum Refusal {
     OutOfMemory,
     /// A list is no order.
     Order,
-    /// A store for building from truth tables was full.
-    StoreFull,
     /// Pairs that no order can keep.
     Pairs,
 }
@@ -33,27 +31,15 @@ impl Refusal {
             Refusal::Certificate => 3,
             Refusal::OutOfMemory => 4,
             Refusal::Order => 5,
-            Refusal::StoreFull => 6,
             Refusal::Pairs => 8,
         }
     }
 }
 
 impl From<AllocError> for Refusal {
-    ghost from_gives = { λ _ refusal. IsShortage refusal };
+    ghost from_gives = { λ _ refusal. refusal ≡ OutOfMemory };
 
     fn from(_: AllocError) -> Refusal {
         Refusal::OutOfMemory
-    }
-}
-
-impl From<BuildError> for Refusal {
-    ghost from_gives = { λ _ refusal. IsShortage refusal };
-
-    fn from(error: BuildError) -> Refusal {
-        match error {
-            BuildError::StoreFull(_) => Refusal::StoreFull,
-            BuildError::OutOfMemory => Refusal::OutOfMemory,
-        }
     }
 }

@@ -77,7 +77,8 @@ fn join_key_masks(alloc: Global, masks: &[u16], x: u8) -> Result<Vec<u16>, Alloc
     Ok(joined)
 }
 
-/// Tells the pairs apart: by joined keys if there are few, else by numbers.
+/// Tells the pairs apart: by joined keys if these are few, and not more than the entries, else by
+/// numbers.
 pub fn tell_pairs(
     alloc: Global,
     numbers: &[u32],
@@ -94,7 +95,7 @@ pub fn tell_pairs(
     ensures used { IfOk result (λ v. IsTrue v.all_used → AreUsed v.numbers.items v.masks.items) }
 {
     let base = masks.len();
-    if base <= MOST_JOINED {
+    if base <= MOST_JOINED && base * base <= numbers.len() {
         let keys = join_keys(alloc, numbers, rank, base as u32)?;
         let joined = join_key_masks(alloc, masks, x)?;
         return Ok(Told {

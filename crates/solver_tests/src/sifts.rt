@@ -110,22 +110,9 @@ fn sizes_by_level(alloc: Global, manager: Manager) -> Result<(Manager, Vec<u32>)
     Ok((manager, sizes))
 }
 
-// The first place of the least number.
-fn place_of_least(sizes: &[u32]) -> usize {
-    let mut least = u32::MAX;
-    let mut found = 0;
-    for (place, size) in sizes.iter().enumerate() {
-        if *size < least {
-            least = *size;
-            found = place;
-        }
-    }
-    found
-}
-
-/// The manager with a variable on its first place of least size, and the sizes with it on each
-/// level.
-fn put_best(
+/// The sizes with a variable on each level, and the manager with it where `put_best` puts it from
+/// the lowest one.
+fn stepped(
     rt: &impl Abort,
     alloc: Global,
     manager: Manager,
@@ -135,7 +122,8 @@ fn put_best(
     let level = manager.order().place_of(x);
     let highest = lifted(alloc, manager, level, 0)?;
     let (lowest, sizes) = sizes_by_level(alloc, highest)?;
-    let manager = lifted(alloc, lowest, 5, place_of_least(&sizes))?;
+    assert!(rt; (x as usize) < lowest.order().len());
+    let manager = lowest.put_best(alloc, x)?;
     Ok((manager, sizes))
 }
 
@@ -156,7 +144,7 @@ fn each_step_of_the_interleaved_products(rt: HostRuntime) -> Result<(), Fail> {
     let mut manager = Manager::of(alloc, diagram)?;
     assert_eq!(rt; manager.size(), 14);
     for (x, want, after) in &STEPS {
-        let (next, sizes) = put_best(&rt, alloc, manager, *x)?;
+        let (next, sizes) = stepped(&rt, alloc, manager, *x)?;
         assert_eq!(rt; sizes.as_slice(), want.as_slice(), "of {x}");
         manager = next;
         assert_eq!(rt; manager.order().variables(), after.as_slice(), "after {x}");

@@ -3,7 +3,7 @@
 ghost use Rattle.std.specs.Prelude.{◌≡◌, IfOk};
 
 use counted_io::Counting;
-use dd_builder::{build_tables, build_tables_alone};
+use dd_builder::build_tables;
 use order_model::{Gate, NoGate, Order, Workers};
 use order_solve::{Solution, solve, solve_alone};
 use pla_reader::read_cover;
@@ -14,6 +14,7 @@ use std::hint;
 use std::sync::atomic::{AtomicU64, Ordering};
 use std::test::Fail;
 use std::thread::Threads;
+use table_diagrams::reduced_diagram;
 use truth_table::Tables;
 
 /// A cover, the order that is sifted, and what is to be found: the order, its level counts, their
@@ -114,9 +115,7 @@ fn sift_alone(alloc: Global, tables: &Tables) -> Result<Sifted, Fail>
     ensures { IfOk result (λ s. s.problem ≡ tables.now) }
 {
     let order = Order::try_from_slice(alloc, &[2, 1, 0])?;
-    let Ok(diagram) = build_tables_alone(alloc, tables, &order) else {
-        return Err("not built".into());
-    };
+    let diagram = reduced_diagram(alloc, tables, &order)?;
     diagrams_have_their_problems_tables(tables.problem());
     Ok(Manager::of(alloc, diagram)?.sift(alloc)?)
 }

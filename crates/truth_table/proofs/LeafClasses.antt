@@ -1,6 +1,7 @@
 -- Class numbers of the leaves: the values at the points of all assignments of an order.
 --     subfunctions_fixed      the subfunctions by an order's variables fix them to the points' bits
 --     assignments_small      the points' numbers are below 2 ^ n
+--     leaves_are      each value is that of its function with all variables fixed
 --     leaves_tell      the values tell the functions with all variables fixed apart
 use Rattle.std.proofs.Common.{◌≡◌, ◌≢◌, ℕ, zero, suc, ◌+◌, ◌-◌, ◌*◌, ◌/◌, ◌%◌, ◌^◌, ◌<◌, ◌≤◌, Bool, true, false, cond, ◌||◌, nat_eq, List, [], ◌∷◌, ◌++◌, length, map, take, drop, drop-cons, get_or, set, replicate, refl, sym, ap, ap₂, ◌∙◌, arith, subst, inl, inr, eqb, eq-eqb, ne_eqb, bit_or}
 use Rattle.std.specs.Int.{bit_at}
@@ -168,7 +169,7 @@ fixed_constant n xs all k small t p l = fixed_laid xs k (from_table t) p ∙ ap 
 -- ---- the leaves
 
 -- the class of a constant function is its value
-abbrev IsLeaf : ℕ → Function → ℕ → Type 0
+abbrev pub IsLeaf : ℕ → Function → ℕ → Type 0
 IsLeaf n g c = SameFunction n g (λ p. eqb c 1) × (c < 2)
 
 value_leaf : (n : ℕ) (g : Function) (b : Bool) → SameFunction n g (λ p. b) → IsLeaf n g (cond b 1 0)
@@ -225,11 +226,16 @@ leaves_apart n fs cs h = record {
       );
 }
 
+-- each value is that of its function with all variables fixed
+pub leaves_are : (n : ℕ) (order : List ℕ) → IsOrder n order → (tables : List (List Bool)) →
+    AllZip (IsLeaf n) (reach (map from_table tables) order) (values_at (assignments order) tables)
+leaves_are n order o tables = leaves n order (order_distinct n order o) (λ y h. (o.all y).1 h) tables
+
 pub leaves_tell : (n : ℕ) (order : List ℕ) → IsOrder n order → (tables : List (List Bool)) →
     Tells n (reach (map from_table tables) order) (values_at (assignments order) tables)
 leaves_tell n order o tables =
     leaves_apart n (reach (map from_table tables) order) (values_at (assignments order) tables)
-    (leaves n order (order_distinct n order o) (λ y h. (o.all y).1 h) tables)
+    (leaves_are n order o tables)
 
 -- ---- the program's lists
 

@@ -2,14 +2,13 @@
 --     reach_last      the subfunctions below a level, from those above it
 --     Tells n fs cs      two functions have one number just where they are the same
 --     tells_above, dependents_are_pairs      the numbers of the pairs, and the count of unequal ones
-use Rattle.std.proofs.Common.{◌≡◌, ◌↔◌, ℕ, zero, suc, ◌+◌, ◌-◌, ◌*◌, ◌/◌, ◌^◌, ◌<◌, ◌≤◌, Bool, true, false, cond, not, List, [], ◌∷◌, ◌++◌, length, map, take, get_or, set, refl, sym, ap, ap₂, ◌∙◌, arith, subst, inl, inr, eqb-true, eq-eqb, pow-suc}
+use Rattle.std.proofs.Common.{◌≡◌, ◌↔◌, ℕ, zero, suc, ◌+◌, ◌-◌, ◌*◌, ◌/◌, ◌^◌, ◌<◌, ◌≤◌, Bool, true, false, not, List, [], ◌∷◌, ◌++◌, length, map, take, get_or, set, refl, sym, ap, ◌∙◌, arith, subst, inl, inr, eqb-true, eq-eqb}
 use Rattle.std.specs.List.{flat_map, filter, range_with_len}
 use Rattle.std.specs.Set.{distinct_count}
 use Rattle.std.proofs.lemmas.List.{get_or-set_other, get_or-set_same, length-append, length-set, length-take-le, take_more}
 use Rattle.std.proofs.lemmas.Nat.{pow-add, pow_pos}
 use Rattle.std.proofs.Math.Nat.{mul-le-mul_right}
 use Rattle.std.proofs.lemmas.Bool.{cases_eq}
-use Rattle.std.proofs.lemmas.List.Concat.{flat_map-append}
 use Rattle.std.proofs.lemmas.List.FromFn.{fill_by_all}
 use Rattle.order_model.specs.Functions.{Point, Function, bit, restrict, SameFunction, table, same_table, depends}
 use Rattle.order_model.specs.Levels.{subfunctions, reach, dependents, level_count, level_counts}
@@ -56,18 +55,18 @@ none p = false
 abbrev pub function_at : List Function → ℕ → Function
 function_at fs j = get_or fs j none
 
-length-restricted : (x : ℕ) (fs : List Function) → length (restricted x fs) ≡ 2 * length fs
+pub length-restricted : (x : ℕ) (fs : List Function) → length (restricted x fs) ≡ 2 * length fs
 length-restricted x [] = omega arith
 length-restricted x (f ∷ fs) = let r = length-restricted x fs in omega arith
 
-lower_at : (x : ℕ) (fs : List Function) (j : ℕ) → j < length fs → function_at (restricted x fs) (2 * j) ≡ restrict x false (function_at fs j)
+pub lower_at : (x : ℕ) (fs : List Function) (j : ℕ) → j < length fs → function_at (restricted x fs) (2 * j) ≡ restrict x false (function_at fs j)
 lower_at x [] j h = absurd (omega arith)
 lower_at x (f ∷ fs) zero h = refl
 lower_at x (f ∷ fs) (suc j) h =
     let e : 2 * suc j ≡ suc (suc (2 * j)) = omega arith in
     ap (λ z. get_or (restrict x false f ∷ restrict x true f ∷ restricted x fs) z none) e ∙ lower_at x fs j (omega arith)
 
-upper_at : (x : ℕ) (fs : List Function) (j : ℕ) → j < length fs → function_at (restricted x fs) (2 * j + 1) ≡ restrict x true (function_at fs j)
+pub upper_at : (x : ℕ) (fs : List Function) (j : ℕ) → j < length fs → function_at (restricted x fs) (2 * j + 1) ≡ restrict x true (function_at fs j)
 upper_at x [] j h = absurd (omega arith)
 upper_at x (f ∷ fs) zero h = refl
 upper_at x (f ∷ fs) (suc j) h =
@@ -235,7 +234,7 @@ pub counts_whole : (n : ℕ) (F : List Function) (order counts : List ℕ) → l
 unfolding level_counts
 counts_whole n F order counts l h = fill_by_all (level_count n F order) counts (length order) 0 l h
 
-few_blocks : (k : ℕ) → k ≤ 16 → 2 ^ k ≤ 65536
+pub few_blocks : (k : ℕ) → k ≤ 16 → 2 ^ k ≤ 65536
 few_blocks k h = grows k (16 - k) (omega arith)
   where
     grows : (a b : ℕ) → a + b ≡ 16 → 2 ^ a ≤ 65536

@@ -6,3 +6,4 @@ pub mod LeafClasses
 pub mod TermWords
 pub mod Cofactors
 pub mod KeptPoints
+pub mod OfCovers

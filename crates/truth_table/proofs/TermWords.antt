@@ -20,7 +20,7 @@ use Rattle.order_model.specs.declared.terms.Term.{Term}
 use Rattle.order_model.specs.Functions.{Point, Function, number, points, from_table, table, SameFunction}
 use Rattle.order_model.specs.Problems.{IsClean, IsPacked, tables_of, words_per_table}
 use Rattle.order_model.specs.Products.{Product, product_function, product_functions, product_of}
-use Rattle.order_model.proofs.Bits.Points.{numbers_rise, table-from_table, point_count}
+use Rattle.order_model.proofs.Bits.Points.{table-from_table}
 use Rattle.order_model.proofs.Bits.Problems.{point_inside, block_inside, same_tables}
 use Rattle.order_model.proofs.Bits.Tables.{whole_words}
 use Rattle.order_model.proofs.Bits.Words.{step_is}

@@ -1,6 +1,8 @@
+pub mod OfCovers
 pub mod Restrictions
 pub mod Rows
 pub mod Terms
 pub mod Fixing
 pub mod Numberings
 pub mod Assignments
+pub mod Reduced

@@ -6,7 +6,7 @@ ghost use Rattle.order_model.specs.Levels.{level_counts};
 ghost use Rattle.order_model.specs.Orders.{members};
 ghost use Rattle.order_model.specs.Problems.{functions, outputs_of, packed_tables, table_at, value_at, words_per_table};
 ghost use Rattle.order_model.specs.Products.{product_functions};
-ghost use Rattle.truth_table.specs.Assignments.{values_at};
+ghost use Rattle.truth_table.specs.Assignments.{assignments, values_at};
 ghost use Rattle.truth_table.specs.Restrictions.{fixed};
 ghost use Rattle.std.specs.List.{All};
 
@@ -126,6 +126,18 @@ impl Tables {
             push_values(&mut values, self.problem.words(output), points)?;
         }
         Ok(values)
+    }
+
+    /// The values of all outputs, as 0 and 1, at the points of all assignments of an order's
+    /// variables, the top variable as the highest bit of a value's place.
+    pub fn values_under(&self, alloc: Global, order: &Order) -> Result<Vec<u32>, AllocError>
+        requires { length order.now ≡ self.now.inputs }
+        ensures { IfOk result
+            (λ v. v.items ≡ values_at (assignments order.now) self.now.tables) }
+    {
+        let _few = order.len();
+        let points = assignment_points(alloc, order.variables())?;
+        self.values(alloc, self.problem.outputs(), &points)
     }
 
     /// The level counts under an order, top first, by plain cofactors: the subfunctions below each

@@ -1,7 +1,8 @@
 use Rattle.std.proofs.Common.{subst}
 use Rattle.order_model.specs.Orders.{IsOrder}
 use Rattle.order_model.specs.Problems.{functions}
-use Rattle.dd_builder.specs.Building.{IsDiagramOf, functions_of}
+use Rattle.dd_builder.specs.Building.{IsDiagramOf}
+use Rattle.pla_reader.specs.Covers.{functions_of}
 use Rattle.dd_builder.proofs.Going.{ok_same}
 use Rattle.dd_builder.proofs.Covers.{tables_diagram}
 use Rattle.dd_builder.proofs.builders.build.Goals as goal

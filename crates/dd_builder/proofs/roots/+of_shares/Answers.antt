@@ -30,7 +30,7 @@ of_shares-requires-2 t c =
 pub returns : goal.returns
 returns t c =
     let all : c.args.count ≡ c.args.count / 2 + (c.args.count - c.args.count / 2) = omega arith in
-    makes_same _ _ _ c.apply.result _ _ (follows_trans _ _ _ c.of_shares.ensures.follows c.of_shares-2.ensures.follows) c.apply.ensures (λ id m.
+    makes_same _ _ _ c.apply.result _ _ (follows_trans _ _ _ c.of_shares.ensures.follows c.of_shares-2.ensures.follows) c.apply.ensures.made (λ id m.
     halves_union c.of_shares.new.session c.of_shares-2.new.session c.apply.new.session c.args.store.now.plan c.args.output c.args.first
     (c.args.count / 2) (c.args.count - c.args.count / 2) c.args.count c.in_ok-lower.lower c.in_ok-upper.upper id
-    all c.in_ok-lower.ensures.function c.of_shares-2.ensures.follows c.in_ok-upper.ensures.function c.apply.ensures.follows m)
+    all c.in_ok-lower.ensures.function c.of_shares-2.ensures.follows c.in_ok-upper.ensures.function c.apply.ensures.made.follows m)

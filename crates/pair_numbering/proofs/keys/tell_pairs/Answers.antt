@@ -4,8 +4,8 @@ use Rattle.class_laws.proofs.Index.{length-pairs}
 use Rattle.pair_numbering.proofs.Names.{names_joined, names_numbered, ranks_used}
 use Rattle.pair_numbering.proofs.keys.tell_pairs.Goals as goal
 
-pub returns-then-base-le-MOST_JOINED-clause-tells : goal.returns-then-base-le-MOST_JOINED-clause-tells
-returns-then-base-le-MOST_JOINED-clause-tells c =
+pub returns-then-base-numbers-clause-tells : goal.returns-then-base-numbers-clause-tells
+returns-then-base-numbers-clause-tells c =
     let l = c.if-base-le-MOST_JOINED.true in
     names_joined c.args.masks.now c.args.x c.args.numbers.now c.args.rank c.requires.table (omega arith) c.in_ok-keys.keys.items c.in_ok-joined.joined.items
     c.in_ok-keys.ensures c.in_ok-joined.ensures

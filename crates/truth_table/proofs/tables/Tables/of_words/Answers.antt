@@ -1,5 +1,4 @@
 use Rattle.std.proofs.Common.{ap, ◌∙◌, arith}
-use Rattle.order_model.specs.Problems.{TruthTables}
 use Rattle.truth_table.proofs.KeptPoints.{kept_packed, kept_tables}
 use Rattle.truth_table.proofs.tables.Tables.of_words.Goals as goal
 

@@ -1,0 +1,54 @@
+use Rattle.std.proofs.Common.{◌-◌, ℕ, List, length, take, get_or, map, sym, ap, ◌∙◌, subst, arith}
+use Rattle.order_model.specs.declared.diagrams.Node.{Node}
+use Rattle.order_model.specs.Levels.{reach}
+use Rattle.order_model.specs.Orders.{IsOrder}
+use Rattle.order_model.specs.Problems.{functions, outputs_of}
+use Rattle.table_diagrams.specs.Levels.{IsLevelAbove, ref_named}
+use Rattle.table_diagrams.proofs.Leveled.{Leveled, few_leaves, leveled_leaves, leveled_step, leveled_top}
+use Rattle.table_diagrams.proofs.building.reduced_diagram.Goals as goal
+
+pub loop-level-init : goal.loop-level-init
+loop-level-init c =
+    let t = c.args.tables.now in
+    let order = c.args.order.now in
+    let o : IsOrder t.inputs order = subst (λ (m : ℕ). IsOrder m order) c.requires c.variables-levels.ensures.order in
+    let n = c.len-n.ensures.value in
+    let most = c.len-n.ensures.few in
+    let same = ap outputs_of c.problem.ensures in
+    let outputs = c.outputs-outputs.ensures.value in
+    let few = c.outputs-outputs.ensures.few in
+    let bound = few_leaves t.inputs order t.tables c.in_ok-numbers.numbers.items o (omega arith) (omega arith) c.in_ok-numbers.ensures in
+    let none = ap length c.new-nodes.ensures.items in
+    record {
+      leveled = subst (λ (ns : List Node). Leveled t.inputs (reach (functions t) (take c.len-n.result order)) order c.len-n.result ns
+          c.in_ok-numbers.numbers.items) (sym c.new-nodes.ensures.items)
+          (leveled_leaves t.inputs order t.tables c.len-n.result c.in_ok-numbers.numbers.items o (omega arith) c.in_ok-numbers.ensures);
+      few = omega arith;
+    }
+
+pub loop-level-preserved : goal.loop-level-preserved
+loop-level-preserved c =
+    let t = c.args.tables.now in
+    let order = c.args.order.now in
+    let o : IsOrder t.inputs order = subst (λ (m : ℕ). IsOrder m order) c.requires c.variables-levels.ensures.order in
+    let n = c.len-n.ensures.value in
+    let level = c.loop-level.auto.level in
+    let here = ap (λ xs. get_or xs (c.loop-level.level - 1) 0) c.variables-levels.ensures.value in
+    let above = subst (λ (bs : List ℕ). IsLevelAbove (get_or c.variables-levels.result.now (c.loop-level.level - 1) 0) c.loop-level.nodes.items bs
+    c.level_above.new.nodes.items c.in_ok-numbers-2.numbers.items) c.deref.ensures.value c.in_ok-numbers-2.ensures in
+    let step = leveled_step t.inputs (functions t) order c.loop-level.level (get_or c.variables-levels.result.now (c.loop-level.level - 1) 0)
+    c.loop-level.nodes.items c.level_above.new.nodes.items c.loop-level.numbers.items c.in_ok-numbers-2.numbers.items c.loop-level-test.true (omega arith) o
+    here c.loop-level.invariant.leveled above in
+    let few = c.loop-level.invariant.few in
+    let down = step.1 in
+    record { leveled = step.0; few = omega arith }
+
+pub returns : goal.returns
+returns c =
+    let t = c.args.tables.now in
+    let order = c.args.order.now in
+    let o : IsOrder t.inputs order = subst (λ (m : ℕ). IsOrder m order) c.requires c.variables-levels.ensures.order in
+    let done = c.loop-level-test.false in
+    leveled_top t.inputs (functions t) order c.loop-level.level c.loop-level.nodes.items c.loop-level.numbers.items o (omega arith)
+    c.loop-level.invariant.leveled c.new.result (c.new.ensures.order ∙ c.in_ok-try_clone.ensures) c.new.ensures.nodes
+    (c.new.ensures.roots ∙ c.in_ok-roots.ensures ∙ ap (map ref_named) c.deref-2.ensures.value)

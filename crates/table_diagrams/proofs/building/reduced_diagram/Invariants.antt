@@ -1,0 +1,11 @@
+use Rattle.std.proofs.Common.{◌≤◌, ◌+◌, length, take}
+use Rattle.order_model.specs.Levels.{reach}
+use Rattle.order_model.specs.Problems.{functions}
+use Rattle.table_diagrams.proofs.Leveled.{Leveled}
+use Rattle.table_diagrams.proofs.building.reduced_diagram.Given as goal
+
+abbrev pub invariant-loop-level : goal.invariant-loop-level
+invariant-loop-level l = record {
+  leveled : Leveled l.tables.inputs (reach (functions l.tables) (take l.level l.order)) l.order l.level l.nodes.items l.numbers.items;
+  few : length l.nodes.items + length l.numbers.items ≤ 1048576;
+}

@@ -1,0 +1,51 @@
+-- Levels of a diagram, by the numbers of their refs.
+--     ref_named c      the ref with a number
+--     node_over x u      the node of variable x with the two refs of a pair
+--     IsNumberOf base keys u c      the number of the ref that has the refs of a pair as its children
+--     Seeks base x u keys keys' nodes nodes' c      such a ref is found, or put behind the others
+--     IsNumbered x old pairs keys nodes numbers, IsLevelAbove x old below nodes above      the refs of a level
+use Rattle.std.specs.Prelude.{◌≡◌, ◌≢◌, ℕ, zero, suc, ◌+◌, ◌<◌, ◌≤◌, ◌⊎◌, false, true, List, [], ◌∷◌, ◌++◌, length, map, get_or, slice_get}
+use Rattle.std.specs.List.{IsDistinct}
+use Rattle.std.specs.declared.option.Option.TheVariants.{Some}
+use Rattle.order_model.specs.Widths.{same_pair}
+use Rattle.order_model.specs.declared.diagrams.Ref.{Ref}
+use Rattle.order_model.specs.declared.diagrams.Ref.TheVariants.{Terminal, Place}
+use Rattle.order_model.specs.declared.diagrams.Node.{Node}
+use Rattle.truth_table.specs.Numberings.{pairs_of}
+
+-- 0 and 1 are the terminals, k + 2 is the node at place k
+unfoldable pub ref_named : ℕ → Ref
+ref_named zero = Terminal false
+ref_named (suc zero) = Terminal true
+ref_named (suc (suc k)) = Place k
+
+-- the node of variable x with the two refs of a pair
+abbrev pub node_over : ℕ → ℕ × ℕ → Node
+node_over x u = record { variable = x; low = ref_named u.0; high = ref_named u.1 }
+
+-- one of the two, if they are equal; else the node that was made for the pair: those of the level stand from place `base` on
+abbrev pub IsNumberOf : ℕ → List (ℕ × ℕ) → ℕ × ℕ → ℕ → Type 0
+IsNumberOf base keys u c = ((u.0 ≡ u.1) × (c ≡ u.0))
+    ⊎ ((u.0 ≢ u.1) × ((i : ℕ) × (slice_get keys i ≡ Some u) × (c ≡ base + i + 2)))
+
+-- unequal refs get a node, unless they have one
+pub record Seeks (base x : ℕ) (u : ℕ × ℕ) (keys keys' : List (ℕ × ℕ)) (nodes nodes' : List Node) (c : ℕ) : Type 0 where
+  pub number : IsNumberOf base keys' u c
+  pub once : IsDistinct same_pair keys → IsDistinct same_pair keys'
+  pub more : ((keys' ≡ keys) × (nodes' ≡ nodes))
+      ⊎ ((u.0 ≢ u.1) × (keys' ≡ keys ++ u ∷ []) × (nodes' ≡ nodes ++ node_over x u ∷ []) × (c ≡ base + length keys + 2))
+
+-- the refs of some pairs have these numbers, and the level's nodes are those of the keys
+pub record IsNumbered (x : ℕ) (old : List Node) (pairs keys : List (ℕ × ℕ)) (nodes : List Node) (numbers : List ℕ) : Type 0 where
+  pub nodes_are : nodes ≡ old ++ map (node_over x) keys
+  pub once : IsDistinct same_pair keys
+  pub few : length keys ≤ length pairs
+  pub long : length numbers ≡ length pairs
+  pub named : (k : ℕ) → k < length pairs → IsNumberOf (length old) keys (get_or pairs k (0, 0)) (get_or numbers k 0)
+  pub used : (i : ℕ) (u : ℕ × ℕ) → slice_get keys i ≡ Some u →
+      (u.0 ≢ u.1) × ((k : ℕ) × (k < length pairs) × (get_or pairs k (0, 0) ≡ u) × (get_or numbers k 0 ≡ length old + i + 2))
+
+-- the refs of a level over those of the level below
+pub record IsLevelAbove (x : ℕ) (old : List Node) (below : List ℕ) (nodes : List Node) (above : List ℕ) : Type 0 where
+  pub keys : List (ℕ × ℕ)
+  pub numbered : IsNumbered x old (pairs_of below) keys nodes above

@@ -1,0 +1,41 @@
+//! Reduced diagrams of truth tables.
+
+ghost use Rattle.std.specs.Prelude.{◌≡◌, length, map, IfOk};
+ghost use Rattle.order_model.specs.Problems.{functions};
+ghost use Rattle.truth_table.specs.Reduced.{IsDiagramOf};
+ghost use Rattle.table_diagrams.specs.Levels.{ref_named};
+
+use crate::levels::{level_above, ref_of};
+use order_model::{Diagram, Order, Ref};
+use std::alloc::{AllocError, Global};
+use truth_table::Tables;
+
+/// The refs with some numbers.
+fn refs_of(alloc: Global, numbers: &[u32]) -> Result<Vec<Ref>, AllocError>
+    ensures { IfOk result (λ v. v.items ≡ map ref_named numbers.now) }
+{
+    let mut refs = Vec::with_capacity(alloc, numbers.len())?;
+    for number in numbers {
+        refs.push(ref_of(*number))?;
+    }
+    Ok(refs)
+}
+
+/// The reduced diagram of the functions of some truth tables under an order. The nodes of a level
+/// are the distinct pairs of unequal refs of the level below; the time is that of a step for each
+/// output and point.
+pub fn reduced_diagram(alloc: Global, tables: &Tables, order: &Order) -> Result<Diagram, AllocError>
+    requires { length order.now ≡ tables.now.inputs }
+    ensures { IfOk result (IsDiagramOf tables.now.inputs (functions tables.now) order.now) }
+{
+    let _outputs = tables.problem().outputs();
+    let n = order.len();
+    let levels = order.variables();
+    let mut nodes = Vec::new(alloc);
+    let mut numbers = tables.values_under(alloc, order)?;
+    for level in (0..n).rev() {
+        numbers = level_above(alloc, &mut nodes, levels[level], &numbers)?;
+    }
+    let roots = refs_of(alloc, &numbers)?;
+    Ok(Diagram::new(order.try_clone(alloc)?, nodes, roots))
+}

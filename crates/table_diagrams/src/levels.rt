@@ -1,0 +1,72 @@
+//! One level of a reduced diagram, from the one below.
+
+ghost use Rattle.std.specs.Prelude.{◌≡◌, ◌≢◌, ◌+◌, ◌<◌, ◌≤◌, ◌^◌, length, IfOk, map};
+ghost use Rattle.truth_table.specs.Numberings.{pairs_of};
+ghost use Rattle.table_diagrams.specs.Levels.{IsLevelAbove, IsNumbered, node_over, ref_named, Seeks};
+
+use indexmap::IndexSet;
+use order_model::{Node, Ref, VarIx};
+use std::alloc::{AllocError, Global};
+
+/// The ref with a number: 0 and 1 are the terminals, k + 2 is the node at place k.
+pub(crate) fn ref_of(number: u32) -> Ref
+    ensures { result ≡ ref_named number }
+{
+    match number {
+        0 => Ref::Terminal(false),
+        1 => Ref::Terminal(true),
+        _ => Ref::Place(number as usize - 2),
+    }
+}
+
+/// The number of the ref that has the children `low` and `high`: the child itself if they are
+/// equal, else a node of variable x, which is put behind the others unless it is there. The level's
+/// first node is that at place `base`.
+fn number_over(
+    nodes: &mut Vec<Node>,
+    pairs: &mut IndexSet<(u32, u32)>,
+    base: u32,
+    x: VarIx,
+    low: u32,
+    high: u32,
+) -> Result<u32, AllocError>
+    requires few { base + length pairs.old.keys < 2 ^ 31 }
+    ensures { IfOk result (λ number. Seeks base x (low, high) pairs.old.keys pairs.new.keys
+        nodes.old.items nodes.new.items number) }
+{
+    if low == high {
+        return Ok(low);
+    }
+    let (place, is_new) = pairs.insert_full((low, high))?;
+    if is_new {
+        nodes.push(Node {
+            variable: x,
+            low: ref_of(low),
+            high: ref_of(high),
+        })?;
+    }
+    Ok(base + place as u32 + 2)
+}
+
+/// The numbers of the refs of a level, from those of the level below, two for each: one after the
+/// other, with `low` before `high`. The nodes of the level's variable x are put behind the others.
+pub(crate) fn level_above(
+    alloc: Global,
+    nodes: &mut Vec<Node>,
+    x: VarIx,
+    below: &[u32],
+) -> Result<Vec<u32>, AllocError>
+    requires few { length nodes.old.items + length below.now < 2 ^ 31 }
+    ensures { IfOk result (λ above.
+        IsLevelAbove x nodes.old.items below.now nodes.new.items above.items) }
+{
+    let half = below.len() / 2;
+    let base = nodes.len() as u32;
+    let mut pairs = IndexSet::new(alloc);
+    let mut above = Vec::with_capacity(alloc, half)?;
+    for j in 0..half {
+        let number = number_over(nodes, &mut pairs, base, x, below[2 * j], below[2 * j + 1])?;
+        above.push(number)?;
+    }
+    Ok(above)
+}
