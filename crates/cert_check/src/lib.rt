@@ -1,7 +1,8 @@
 //! The checker of certificates: whether a certificate shows that no order that keeps its pairs has
 //! fewer nodes, else the first reason why not.
 //!
-//! It shares no code with the solver: both stand on the same definitions and laws alone.
+//! It shares no step with the search: both stand on the same definitions and laws, and on the types
+//! of problems, orders and pairs.
 #![tactic(auto)]
 
 mod checking;

@@ -3,8 +3,9 @@
 --     usage_kind error      help that was asked for, out of memory, or refused words
 --     AsksForHelp app words      clap answers the words with help
 --     AreFaulty app Lacks words      clap finds a fault in the words, or they lack what is needed
+--     TurnsAway app words status      how a program ends at words that ask for nothing that it does
 --     Explains app Lacks words usage      why words give no plan
-use Rattle.std.specs.Prelude.{◌≢◌, ◌⊎◌, ℕ, List, []}
+use Rattle.std.specs.Prelude.{◌≡◌, ◌≢◌, ◌⊎◌, ℕ, List, []}
 use Rattle.clap.specs.Words.{App, IsAmong, Text, kind_of}
 use Rattle.clap.specs.declared.error.Error.{Error}
 use Rattle.clap.specs.declared.error.kind.ErrorKind.{ErrorKind}
@@ -40,6 +41,10 @@ AsksForHelp app words = IsAmong kinds.DisplayHelp (faults_of app words)
 -- clap finds a fault in the words, or they lack what is needed
 abbrev pub AreFaulty : App → (List Text → Type 0) → List Text → Type 0
 AreFaulty app Lacks words = (faults_of app words ≢ []) ⊎ Lacks words
+
+-- how a program ends at words that ask for nothing that it does: they are refused, it is out of memory, or clap answers them with help
+abbrev pub TurnsAway : App → List Text → ℕ → Type 0
+TurnsAway app words status = (status ≡ 2) ⊎ (status ≡ 4) ⊎ ((status ≡ 0) × AsksForHelp app words)
 
 -- why words give no plan
 abbrev pub Explains : App → (List Text → Type 0) → List Text → Usage → Type 0

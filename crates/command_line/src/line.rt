@@ -65,7 +65,9 @@ fn count_option<'a>(alloc: Global) -> Arg<'a>
     Arg::new(alloc, "count")
         .long("count")
         .action(ArgAction::SetTrue)
-        .help("Print only the level counts and the size under the file order")
+        .help(
+            "Print only the level counts and the size under the file order; --cert and --above are ignored",
+        )
 }
 
 /// The options after others.
@@ -76,7 +78,7 @@ fn with_options<'a>(alloc: Global, command: Command<'a>) -> Result<Command<'a>, 
         alloc,
         "cert",
         "OUT",
-        "Write a certificate of the answer to this file",
+        "Write a certificate of the answer to this file, which is emptied before FILE is read",
     );
     let above = option(
         alloc,

@@ -1,6 +1,6 @@
 ghost use Rattle.std.specs.Prelude.{◌≡◌};
 
-use compaction::{Beginning, Classes, Scratch, Tally, all_widths};
+use compaction::{Beginning, Classes, Scratch, Tally, all_widths, block_widths};
 use order_model::Problem;
 use pair_numbering::number_pairs;
 use std::alloc::Global;
@@ -182,6 +182,26 @@ fn try_layer(rt: &impl Abort, alloc: Global, problem: &Problem, size: u8) -> Res
         sum += own;
     }
     Ok(sum)
+}
+
+/// The row of the multiplexer's first block of two variables, which has one set.
+#[test]
+fn row_of_one_set(rt: HostRuntime) -> Result<(), Fail> {
+    let alloc = rt.alloc();
+    let problem = problem_of(&rt, alloc, MULTIPLEXER)?;
+    let layer = Layer::of(alloc, 3, 2)?;
+    assert_eq!(rt; layer.blocks(), 3);
+    let block = layer.block(0);
+    assert!(rt; problem.inputs() == block.inputs());
+    assert!(rt; block.len() == 1);
+    let needed = block.mask(0);
+    assert!(rt; needed == 0x0003);
+    let mut tally = Tally::new();
+    let widths = block_widths(alloc, &problem, &block, &[needed], &mut tally)?;
+    let row = widths.row(0);
+    assert_eq!(rt; row, [1, 1, 0, 0, 0, 0, 0, 0, 0, 0, 0, 0, 0, 0, 0, 0]);
+    assert_eq!(rt; tally.count(), 2);
+    Ok(())
 }
 
 #[test]

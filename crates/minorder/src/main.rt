@@ -2,7 +2,8 @@
 #![tactic(auto)]
 
 use counted_io::Counting;
-use report::{minorder, words_of_program};
+use outcomes::words_of_program;
+use report::minorder;
 use std::process::ExitCode;
 
 fn main(rt: HostRuntime) -> ExitCode {

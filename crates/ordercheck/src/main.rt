@@ -2,8 +2,9 @@
 //! fewer nodes.
 #![tactic(auto)]
 
+use checks::ordercheck;
 use counted_io::Counting;
-use report::{ordercheck, words_of_program};
+use outcomes::words_of_program;
 use std::process::ExitCode;
 
 fn main(rt: HostRuntime) -> ExitCode {

@@ -4,9 +4,11 @@
 --     inputs_of lines, outputs_of lines      the numbers that the lines give
 --     cover_of lines      the cover of the lines
 --     IsCover cover      it is well formed
+--     functions_of cover      its functions (espresso(5), logical type f)
 use Rattle.std.specs.Prelude.{◌≡◌, ℕ, ◌≤◌, Bool, true, false, cond, ◌==◌, List, [], ◌∷◌, ◌++◌, map, take, drop, Option, Some, None, decimal, filter_map, codes, length}
 use Rattle.std.specs.List.{All, range_with_len}
-use Rattle.order_model.specs.Products.{Product}
+use Rattle.order_model.specs.Functions.{Function}
+use Rattle.order_model.specs.Products.{Product, product_functions}
 use Rattle.pla_reader.specs.Text.{number_of}
 use Rattle.pla_reader.specs.Lines.{Line}
 use Rattle.pla_reader.specs.Lines.Line.{Inputs, Outputs, InputNames, OutputNames, LogicalType, Row}
@@ -18,6 +20,10 @@ pub record NamedCover : Type 0 where
   pub input_names : List (List ℕ)
   pub output_names : List (List ℕ)
   pub products : List Product
+
+-- the functions of a cover (espresso(5), logical type f)
+abbrev pub functions_of : NamedCover → List Function
+functions_of cover = product_functions cover.outputs cover.products
 
 -- the number in the words of a line
 abbrev pub first_number : List (List ℕ) → Option ℕ

@@ -14,11 +14,10 @@ use Rattle.order_model.specs.Problems.{TruthTables, functions}
 use Rattle.order_model.proofs.Certificates.Same.{certificate_same}
 use Rattle.certificate.specs.Faults.{Spells}
 use Rattle.certificate.specs.Values.{value_of}
-use Rattle.pla_reader.specs.Covers.{NamedCover}
-use Rattle.dd_builder.specs.Building.{AreTablesOf}
+use Rattle.pla_reader.specs.Covers.{NamedCover, functions_of}
+use Rattle.truth_table.specs.OfCovers.{AreTablesOf}
 use Rattle.report.specs.Answers.{IsCertificate, IsCertified}
-use Rattle.report.specs.Texts.{functions_of}
-use Rattle.report.proofs.Leveled.{tables_keep}
+use Rattle.truth_table.proofs.OfCovers.{tables_keep}
 use Rattle.report.proofs.SameAnswers.{first_same}
 
 pub parts_same : (n : ℕ) (F : List Function) (P : List Pair) (order : List ℕ) (inputs outputs : ℕ) (o levels : List ℕ) (total : ℕ)

@@ -1,25 +1,16 @@
 -- What the writers of a run hold after it, path by path.
---     with_read      what holds for the bytes of a file that was read holds where they are known
 --     ok_of, err_of      what a result says
 --     certified_part      what the certificate's writer got
 --     good_written      what it got reads as a good certificate
-use Rattle.std.proofs.Common.{◌≡◌, ℕ, ◌≤◌, Bool, true, false, List, length, Option, Some, None, Result, Ok, Err, String, IfSome, OnErr, OnOk, is_some, is_err, option_map, string_bytes, refl, sym, ◌∙◌}
+use Rattle.std.proofs.Common.{◌≡◌, ℕ, Bool, true, false, List, Option, Some, None, Result, Ok, Err, String, OnErr, OnOk, is_some, is_err, option_map, string_bytes, sym, ◌∙◌}
 use Rattle.std.specs.Borrow.{Bor}
 use Rattle.std.specs.Global.{Global}
-use Rattle.order_model.specs.Certificates.{Certificate}
 use Rattle.order_model.proofs.Certificates.Written.{cert_of_is_good}
-use Rattle.certificate.specs.Faults.{Spells}
+use Rattle.certificate.proofs.Lengths.{text_readable}
 use Rattle.certificate.proofs.Spelled.{one_form}
-use Rattle.pla_reader.specs.Covers.{NamedCover}
-use Rattle.pla_reader.specs.Reading.{Reads}
+use Rattle.pla_reader.specs.Covers.{NamedCover, functions_of}
 use Rattle.report.specs.Answers.{HasCertificate, IsCertificateOf}
-use Rattle.report.specs.Runs.{Certifies, Gets, GetsText, ReadsAsGood, longest, whole}
-use Rattle.report.specs.Texts.{functions_of}
-
-pub with_read : (known : Option (List ℕ)) (cover : NamedCover) (P : List ℕ → Type 0) →
-    IfSome known (λ bytes. (length bytes ≤ longest) × Reads bytes cover) → ((bytes : List ℕ) → Reads bytes cover → P bytes) → IfSome known P
-with_read None cover P answer all = record {}
-with_read (Some bytes) cover P answer all = all bytes answer.1
+use Rattle.report.specs.Runs.{Certifies, Gets, GetsText, ReadsAsGood, whole}
 
 pub ok_of : {A E : Type 0} (r : Result A E) (P : Type 0) → is_err r ≡ false → OnOk r P → P
 ok_of (Ok a) P e holds = holds
@@ -47,7 +38,7 @@ certified_part contents false above cover true (Some t) part (Some w) (Some held
 reads_as_good : (above : Option (Bor (List ℕ))) (cover : NamedCover) (text : List ℕ) → IsCertificateOf above cover text → ReadsAsGood cover text
 reads_as_good above cover text (kept, pairs, is) = (
   is.cert,
-  is.spells,
+  (text_readable text is.cert is.spells, is.spells),
   cert_of_is_good cover.inputs (functions_of cover) kept.pairs is.cert is.is,
   λ other spells. one_form other is.cert spells.has is.spells.has (sym spells.text_is ∙ is.spells.text_is),
 )
@@ -62,7 +53,3 @@ pub good_written : (count : Bool) (above : Option (Bor (List ℕ))) (cover : Nam
     count ≡ false → Certifies count above cover whole before after → Gets (ReadsAsGood cover) whole before after
 good_written true above cover before after e got = absurd (cc)
 good_written false above cover before after e got = gets_good above cover before after got
-
-pub with_known : {A : Type 0} (known : Option A) (Q P : A → Type 0) → IfSome known Q → ((a : A) → Q a → P a) → IfSome known P
-with_known None Q P has all = record {}
-with_known (Some a) Q P has all = all a has

@@ -1,7 +1,8 @@
 -- What is written of a file follows from its bytes and from what is asked.
+--     pairs_unique      one list of pairs is kept
 --     text_unique, certificate_unique      one report of a cover, and one certificate
 --     printed_unique, certified_unique      so runs that are done leave the same
-use Rattle.std.proofs.Common.{◌≡◌, ℕ, Bool, true, false, List, ◌++◌, Option, Some, None, Result, Ok, Err, option_map, refl, sym, ap, ◌∙◌, subst}
+use Rattle.std.proofs.Common.{◌≡◌, ℕ, Bool, true, false, List, ◌++◌, Option, Some, None, Ok, sym, ap, ◌∙◌, subst}
 use Rattle.std.specs.Borrow.{Bor}
 use Rattle.order_model.specs.Pairs.{Pair}
 use Rattle.order_model.specs.KeptPairs.{KeptPairs}
@@ -9,15 +10,16 @@ use Rattle.order_model.specs.PairTexts.{ParsesAs, listed}
 use Rattle.order_model.specs.Sifting.{sifted}
 use Rattle.order_model.proofs.Lists.Firsts.{first_order_unique, first_keeping_unique, cert_unique}
 use Rattle.certificate.specs.Spelling.{spelling}
-use Rattle.pla_reader.specs.Covers.{NamedCover}
+use Rattle.pla_reader.specs.Covers.{NamedCover, functions_of}
 use Rattle.pla_reader.specs.Lines.{said}
 use Rattle.pla_reader.specs.Reading.{Reads}
 use Rattle.pla_reader.proofs.Reading.{one_cover}
 use Rattle.command_line.specs.declared.line.RunPlan.{RunPlan}
-use Rattle.report.specs.declared.outcome.Outcome.TheVariants.{Done}
-use Rattle.report.specs.Answers.{AskTheSame, IsAnswer, IsCertificate, IsCertificateOf, IsText, IsTextOf, PairsAre, bytes_of}
+use Rattle.outcomes.specs.declared.outcome.Outcome.TheVariants.{Done}
+use Rattle.report.specs.Answers.{AskTheSame, IsAnswer, IsCertificate, IsCertificateOf, IsText, IsTextOf, bytes_of}
+use Rattle.outcomes.specs.Plans.{PairsAre}
 use Rattle.report.specs.Runs.{Certifies, Delivers, held, whole}
-use Rattle.report.specs.Texts.{functions_of, report_text}
+use Rattle.report.specs.Texts.{report_text}
 
 -- ---- the pairs
 
@@ -25,7 +27,7 @@ parsed_unique : (P : Option (List Pair)) (n : ℕ) (kept other : KeptPairs) → 
 parsed_unique None n kept other p q = absurd p
 parsed_unique (Some P) n kept other p q = p.2 ∙ sym q.2
 
-pairs_unique : (above later : Option (Bor (List ℕ))) (n : ℕ) (kept other : KeptPairs) → bytes_of above ≡ bytes_of later →
+pub pairs_unique : (above later : Option (Bor (List ℕ))) (n : ℕ) (kept other : KeptPairs) → bytes_of above ≡ bytes_of later →
     PairsAre above n (Ok kept) → PairsAre later n (Ok other) → kept ≡ other
 pairs_unique None None n kept other e p q = p ∙ sym q
 pairs_unique None (Some t) n kept other e p q = absurd (cc)

@@ -1,19 +1,16 @@
--- Level counts that are read off a diagram, and the functions of a cover's truth tables.
-use Rattle.std.proofs.Common.{◌≡◌, ◌↔◌, ℕ, ◌+◌, ◌<◌, ◌≤◌, List, IsTrue, length, map, get_or, slice_index, sym, ap, ◌∙◌, arith, subst, inl, inr}
+-- Level counts that are read off a diagram, and how many functions a cover has.
+use Rattle.std.proofs.Common.{◌≡◌, ℕ, ◌<◌, List, length, map, slice_index, sym, ◌∙◌, arith, inl, inr}
 use Rattle.std.specs.List.{range_with_len}
 use Rattle.std.proofs.lemmas.Bool.{cases_lt}
-use Rattle.std.proofs.lemmas.List.{ext_get_or, length-map}
+use Rattle.std.proofs.lemmas.List.{ext_get_or}
 use Rattle.std.proofs.lemmas.List.FromFn.{get_or-map-range_with_len, length-map-range_with_len}
-use Rattle.order_model.specs.Functions.{Function, from_table, table}
-use Rattle.order_model.specs.Orders.{IsOrder, has}
-use Rattle.order_model.specs.Levels.{level_count, level_counts, size_under}
+use Rattle.order_model.specs.Functions.{Function}
+use Rattle.order_model.specs.Orders.{IsOrder}
+use Rattle.order_model.specs.Levels.{level_count, level_counts}
 use Rattle.order_model.specs.Diagrams.{Graph, nodes_at}
-use Rattle.order_model.specs.Problems.{TruthTables, functions}
 use Rattle.order_model.specs.Products.{product_functions}
-use Rattle.order_model.proofs.Functions.Same.{AllSame, tables_same}
-use Rattle.pla_reader.specs.Covers.{NamedCover}
-use Rattle.dd_builder.specs.Building.{AreTablesOf, HasLevelCounts}
-use Rattle.report.specs.Texts.{functions_of}
+use Rattle.pla_reader.specs.Covers.{NamedCover, functions_of}
+use Rattle.dd_builder.specs.Building.{HasLevelCounts}
 
 -- numbers of nodes on the levels of a diagram that has the level counts
 pub counts_read : (n : ℕ) (F : List Function) (order items : List ℕ) (d : Graph) → length items ≡ length order
@@ -35,18 +32,7 @@ one_length n m order a b = elim (cases_lt n m) [
   ]
 ]
 
--- the functions of a cover's truth tables are those of the cover
-pub tables_keep : (cover : NamedCover) (t : TruthTables) → AreTablesOf cover t → AllSame cover.inputs (functions t) (functions_of cover)
-tables_keep cover t h =
-    subst (λ ts. AllSame cover.inputs (map from_table ts) (functions_of cover)) (sym h.tables)
-    (tables_same cover.inputs (functions_of cover))
-
 -- a cover has as many functions as outputs
 pub functions_long : (cover : NamedCover) → length (functions_of cover) ≡ cover.outputs
 unfolding product_functions
 functions_long cover = length-map-range_with_len _ 0 cover.outputs
-
--- what a problem of a cover's truth tables is
-pub tables_value : (cover : NamedCover) (t : TruthTables) → AreTablesOf cover t →
-    t ≡ record { inputs = cover.inputs; tables = map (table cover.inputs) (functions_of cover) }
-tables_value cover t h = λ i. record { inputs = h.inputs i; tables = h.tables i }

@@ -1,4 +1,5 @@
 pub mod Spaced
+pub mod Worded
 pub mod SameAnswers
 pub mod Leveled
 pub mod Reported
@@ -6,5 +7,3 @@ pub mod Certified
 pub mod Optima
 pub mod Delivered
 pub mod Determined
-pub mod Checked
-pub mod OneVerdict

@@ -1,8 +1,7 @@
--- What a printed order and an accepted certificate say of all diagrams.
+-- What a printed order says of all diagrams.
 --     optimum_of      an order of the fewest nodes is an optimum
 --     printed      what the text of an answer says
---     true_certificate      what a good certificate says
-use Rattle.std.proofs.Common.{◌≡◌, ℕ, ◌≤◌, Bool, true, false, List, length, Option, refl, sym, subst, ◌∙◌, arith}
+use Rattle.std.proofs.Common.{◌≡◌, ℕ, Bool, true, false, List, Option, refl, arith}
 use Rattle.std.specs.Borrow.{Bor}
 use Rattle.order_model.specs.Functions.{Function}
 use Rattle.order_model.specs.Pairs.{Pair}
@@ -10,15 +9,13 @@ use Rattle.order_model.specs.Levels.{size_under}
 use Rattle.order_model.specs.Diagrams.{HasFewestKeeping}
 use Rattle.order_model.specs.Orders.{variables}
 use Rattle.order_model.specs.Sifting.{sifted}
-use Rattle.order_model.specs.Certificates.{Certificate, IsGood}
 use Rattle.order_model.proofs.Nodes.Construction.{exact_diagram}
 use Rattle.order_model.proofs.Nodes.LevelBound.{size_bound}
-use Rattle.order_model.proofs.Certificates.Potential.{good_order, no_diagram_is_smaller}
-use Rattle.pla_reader.specs.Covers.{NamedCover}
+use Rattle.pla_reader.specs.Covers.{NamedCover, functions_of}
 use Rattle.pla_reader.specs.Reading.{Reads}
-use Rattle.report.specs.Answers.{IsAnswer, IsText}
-use Rattle.report.specs.Headline.{IsOptimum, IsPrintedOptimum}
-use Rattle.report.specs.Texts.{functions_of, levels_under, nodes_under, sizes_lines}
+use Rattle.report.specs.Answers.{IsText}
+use Rattle.outcomes.specs.Headline.{IsOptimum, IsPrintedOptimum}
+use Rattle.report.specs.Texts.{levels_under, nodes_under, sizes_lines}
 
 pub optimum_of : (n : ℕ) (F : List Function) (P : List Pair) (order : List ℕ) → HasFewestKeeping n F P order → IsOptimum n F P order (size_under n F order)
 optimum_of n F P order h =
@@ -66,14 +63,3 @@ printed file cover false above text e reads (kept, pairs, answer) = record {
   none_has_fewer = optimum_of cover.inputs (functions_of cover) kept.pairs answer.best answer.first.fewest;
   the_first = λ other o. answer.first.first other (fewest_from cover.inputs (functions_of cover) kept.pairs other (nodes_under cover answer.best) o);
 }
-
-pub true_certificate : (cover : NamedCover) (cert : Certificate) → IsGood cover.inputs (functions_of cover) cert →
-    IsOptimum cover.inputs (functions_of cover) cert.pairs cert.order cert.total
-true_certificate cover cert good =
-    let order = good_order cover.inputs (functions_of cover) cert good in
-    let exact = exact_diagram cover.inputs (functions_of cover) cert.order order.0 in record {
-      an_order = order.0;
-      keeps_the_pairs = order.1;
-      has_a_diagram_of_that_size = (exact.0, exact.1.represents, exact.1.size ∙ order.2);
-      no_diagram_has_fewer = λ other d is keeps of. no_diagram_is_smaller cover.inputs (functions_of cover) cert good other d is keeps of;
-    }

@@ -1,5 +1,5 @@
 -- The parts of a report make the answer's text.
-use Rattle.std.proofs.Common.{◌≡◌, ℕ, List, ◌++◌, sum, sym, ap, ◌∙◌, subst}
+use Rattle.std.proofs.Common.{◌≡◌, ℕ, List, ◌++◌, sum, ap, ◌∙◌, subst}
 use Rattle.order_model.specs.Levels.{level_counts, size_under}
 use Rattle.order_model.specs.Orders.{variables}
 use Rattle.order_model.specs.Pairs.{Pair, IsFirstOrder}
@@ -7,11 +7,12 @@ use Rattle.order_model.specs.Diagrams.{IsFirstKeeping}
 use Rattle.order_model.specs.Problems.{TruthTables, functions}
 use Rattle.order_model.specs.Sifting.{sifted}
 use Rattle.order_model.proofs.Functions.Same.{level_counts_same, size_same}
-use Rattle.pla_reader.specs.Covers.{NamedCover}
-use Rattle.dd_builder.specs.Building.{AreTablesOf}
+use Rattle.pla_reader.specs.Covers.{NamedCover, functions_of}
+use Rattle.truth_table.specs.OfCovers.{AreTablesOf}
 use Rattle.report.specs.Answers.{IsAnswer}
-use Rattle.report.specs.Texts.{counts_lines, file_order_levels, functions_of, nodes_under, order_lines, report_text, sizes_lines}
-use Rattle.report.proofs.Leveled.{tables_keep}
+use Rattle.report.specs.Texts.{file_order_levels, nodes_under, sizes_lines}
+use Rattle.outcomes.specs.Texts.{counts_lines, order_lines}
+use Rattle.truth_table.proofs.OfCovers.{tables_keep}
 use Rattle.report.proofs.SameAnswers.{first_same, sifted_same}
 
 pub reported : (cover : NamedCover) (t : TruthTables) (P : List Pair) (text : List ℕ) (names : List (List ℕ))

@@ -1,14 +1,13 @@
 -- What is said of functions is said of others that are the same, function by function.
 --     first_same, sifted_same      the first order of the fewest nodes; the sifted order
-use Rattle.std.proofs.Common.{◌≡◌, ℕ, List, [], ◌∷◌, ◌∙◌, map, length, nat_lt, cond, refl, sym, ap}
+use Rattle.std.proofs.Common.{◌≡◌, ℕ, List, [], ◌∷◌, ◌∙◌, length, nat_lt, cond, refl}
 use Rattle.std.specs.List.{AllZip, filter, fold}
 use Rattle.order_model.specs.declared.diagrams.Ref.{Ref}
 use Rattle.order_model.specs.Functions.{Function, SameFunction}
 use Rattle.order_model.specs.Orders.{variables, place_in}
 use Rattle.order_model.specs.Pairs.{Pair, keeps}
-use Rattle.order_model.specs.Levels.{level_count, size_under}
 use Rattle.order_model.specs.Diagrams.{Graph, IsOf, Represents, FewestKeeping, HasFewestKeeping, IsFirstKeeping, value}
-use Rattle.order_model.specs.Sifting.{best, count_at, insert_by_count, placements, sifted, sifting_order, smallest_of, smallest_order}
+use Rattle.order_model.specs.Sifting.{best, insert_by_count, placements, sifted, sifting_order, smallest_of, smallest_order}
 use Rattle.order_model.proofs.Functions.Same.{AllSame, turned, level_count_same, size_same}
 
 of_same : (n : ℕ) (d : Graph) (rs : List Ref) (F G : List Function) → AllSame n F G →

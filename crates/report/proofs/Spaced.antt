@@ -2,7 +2,8 @@
 use Rattle.std.proofs.Common.{◌≡◌, ℕ, ◌+◌, ◌<◌, List, [], ◌∷◌, ◌++◌, length, map, take, get_or, refl, sym, ap, ◌∙◌, decimal, codes, append_assoc, append-nil}
 use Rattle.std.proofs.lemmas.List.{take_more}
 use Rattle.std.specs.List.{flat_map, join_with_byte, sum}
-use Rattle.report.specs.Texts.{each_spaced, each_name_spaced, name_of, names_in, numbers, counts_lines, order_lines, sizes_lines}
+use Rattle.report.specs.Texts.{each_spaced, each_name_spaced, sizes_lines}
+use Rattle.outcomes.specs.Texts.{name_of, names_in, numbers, counts_lines, order_lines}
 
 -- pieces of text, one a number
 module _ (f : ℕ → List ℕ) where

@@ -1,31 +1,23 @@
 -- The answer of a run, by the cover and the pairs that the order has to keep.
---     PairsAre above n r      what the list of pairs says: none if there is no list
 --     IsAnswer cover P text, IsCertificate cover P text      the text of the answer, and that of its certificate
 --     IsTextOf plan cover text, IsCertificateOf above cover text      what a run writes of a cover: its report, and its certificate
 --     AskTheSame plan other      they differ in the number of workers alone
 --     Hinders plan cover fault      why it writes nothing of it
-use Rattle.std.specs.Prelude.{◌≡◌, ℕ, Bool, true, false, List, [], Option, Some, None, Result, Ok, Err, String, option_map, string_bytes}
+use Rattle.std.specs.Prelude.{◌≡◌, ℕ, Bool, true, false, List, Option, Some, None, Ok, Err, String, option_map, string_bytes}
 use Rattle.std.specs.Borrow.{Bor}
 use Rattle.std.specs.Global.{Global}
 use Rattle.order_model.specs.Pairs.{Pair, IsFirstOrder}
 use Rattle.order_model.specs.KeptPairs.{KeptPairs}
-use Rattle.order_model.specs.PairTexts.{ParsesAs, listed}
-use Rattle.order_model.specs.declared.pairs.PairsFault.{PairsFault}
 use Rattle.order_model.specs.Diagrams.{IsFirstKeeping}
 use Rattle.order_model.specs.Sifting.{sifted}
 use Rattle.order_model.specs.Certificates.{Certificate, IsCertOf}
 use Rattle.certificate.specs.Faults.{Spells}
-use Rattle.pla_reader.specs.Covers.{NamedCover}
+use Rattle.pla_reader.specs.Covers.{NamedCover, functions_of}
 use Rattle.command_line.specs.declared.line.RunPlan.{RunPlan}
-use Rattle.report.specs.declared.outcome.Fault.{Fault}
-use Rattle.report.specs.declared.outcome.Fault.TheVariants as fault
-use Rattle.report.specs.Texts.{count_text, functions_of, report_text}
-
--- the pairs of a list for n variables, or its fault; none if there is no list
-abbrev pub PairsAre : Option (Bor (List ℕ)) → ℕ → Result KeptPairs PairsFault → Type 0
-PairsAre None n (Ok kept) = kept ≡ record { inputs = n; pairs = [] }
-PairsAre None n (Err fault) = ⊥
-PairsAre (Some list) n r = ParsesAs (listed list.now) n r
+use Rattle.outcomes.specs.Plans.{PairsAre}
+use Rattle.outcomes.specs.declared.outcome.Fault.{Fault}
+use Rattle.outcomes.specs.declared.outcome.Fault.TheVariants as fault
+use Rattle.report.specs.Texts.{count_text, report_text}
 
 -- the report of the first order that keeps the pairs and has a diagram of the fewest nodes, beside the order sifted from the first one that keeps them
 pub record IsAnswer (cover : NamedCover) (P : List Pair) (text : List ℕ) : Type 0 where

@@ -4,9 +4,8 @@ use Rattle.std.specs.Prelude.{◌≡◌, List, length}
 use Rattle.order_model.specs.Diagrams.{Represents, IsReduced}
 use Rattle.order_model.specs.OrderedGraphs.{OrderedGraph}
 use Rattle.order_model.specs.Pairs.{Pair, IsFirstOrder}
-use Rattle.pla_reader.specs.Covers.{NamedCover}
+use Rattle.pla_reader.specs.Covers.{NamedCover, functions_of}
 use Rattle.dd_builder.specs.Building.{HasLevelCounts}
-use Rattle.report.specs.Texts.{functions_of}
 
 -- the reduced diagram of a cover's functions under the first order that keeps the pairs, with their level counts
 pub record IsFirstDiagram (cover : NamedCover) (P : List Pair) (d : OrderedGraph) : Type 0 where

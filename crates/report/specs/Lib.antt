@@ -1,7 +1,5 @@
 pub mod Texts
 pub mod Answers
-pub mod Statuses
+pub mod Shortages
 pub mod FirstDiagrams
 pub mod Runs
-pub mod Judging
-pub mod Headline

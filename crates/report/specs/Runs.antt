@@ -5,27 +5,24 @@
 --     IsPlanOf words plan, EndsWell words before after      the plan of words; what a program writes that ends with status 0
 --     IsHindered plan IsRead outcome      which faults need a cover that was read
 --     IsRunOf words, IsFullRunOf words, IsFaultyRunOf words      what words ask for that end with the statuses 3, 6 and 8
---     FailsOnlyByDevice ..      when calls of its devices failed
-use Rattle.std.specs.Prelude.{◌≡◌, ◌⊎◌, ℕ, ◌+◌, ◌<◌, ◌≤◌, Bool, true, false, List, length, take, Option, Some, None, Err, codes, option_map}
+use Rattle.std.specs.Prelude.{◌≡◌, ◌⊎◌, ℕ, ◌<◌, ◌≤◌, Bool, true, false, List, [], length, take, Option, Some, None, Err, codes, option_map}
 use Rattle.std.specs.Borrow.{Bor}
 use Rattle.std.specs.Io.KnownBytes.{Appends}
 use Rattle.order_model.specs.Certificates.{Certificate, IsGood}
 use Rattle.order_model.specs.declared.pairs.PairsFault.{PairsFault}
 use Rattle.certificate.specs.Faults.{Spells}
-use Rattle.pla_reader.specs.Covers.{NamedCover, IsCover}
+use Rattle.pla_reader.specs.Covers.{NamedCover, IsCover, functions_of}
+use Rattle.pla_reader.specs.Answering.{longest}
 use Rattle.pla_reader.specs.Reading.{Reads, FirstFault}
 use Rattle.command_line.specs.declared.line.RunPlan.{RunPlan}
-use Rattle.command_line.specs.Lines.{IsFlag, IsNumber, minorder, read_of, value_of}
+use Rattle.command_line.specs.Lines.{IsFlag, IsNumber, faults_of, minorder, read_of, value_of}
 use Rattle.command_line.specs.Usages.{AsksForHelp}
-use Rattle.report.specs.declared.outcome.Outcome.{Outcome}
-use Rattle.report.specs.declared.outcome.Outcome.TheVariants.{Done, Invalid, Refused}
-use Rattle.report.specs.declared.outcome.Fault.TheVariants.{Line, TooLong, OutOfMemory, Device, StoreFull, Pairs, CertificateLine, CertificateTooLong}
-use Rattle.report.specs.Answers.{IsTextOf, IsCertificateOf, Hinders, PairsAre}
-use Rattle.report.specs.Texts.{functions_of}
-
--- the longest input
-abbrev pub longest : ℕ
-longest = 16777216
+use Rattle.outcomes.specs.declared.outcome.Outcome.{Outcome}
+use Rattle.outcomes.specs.declared.outcome.Outcome.TheVariants.{Done, Invalid, Refused}
+use Rattle.outcomes.specs.declared.outcome.Fault.TheVariants.{Line, TooLong, OutOfMemory, Device, StoreFull, Pairs, CertificateLine, CertificateTooLong}
+use Rattle.report.specs.Answers.{IsTextOf, IsCertificateOf, Hinders}
+use Rattle.outcomes.specs.Limits.{SpellsWithin}
+use Rattle.outcomes.specs.Plans.{PairsAre}
 
 -- what the writers hold, if it is known: that of the report, and that of the certificate, if there is one
 pub record Held : Type 0 where
@@ -90,10 +87,10 @@ Delivers plan IsRead before after (Refused (CertificateLine line fault)) = ⊥
 Delivers plan IsRead before after (Refused CertificateTooLong) = ⊥
 Delivers plan IsRead before after (Refused fault) = after ≡ before
 
--- a text that is read as a certificate, and as no other, and it is good
+-- a text that is not too long to be read, and is read as a certificate and as no other, and it is good
 abbrev pub ReadsAsGood : NamedCover → List ℕ → Type 0
 ReadsAsGood cover text =
-    (cert : Certificate) × Spells text cert × IsGood cover.inputs (functions_of cover) cert
+    (cert : Certificate) × SpellsWithin text cert × IsGood cover.inputs (functions_of cover) cert
     × ((other : Certificate) → Spells text other → other ≡ cert)
 
 -- if a run without count is done, what the certificate's writer got reads as a good certificate of the file's functions
@@ -103,11 +100,15 @@ WritesGood plan file before after Done = plan.count ≡ false →
 WritesGood plan file before after (Refused fault) = Unit {0}
 WritesGood plan file before after Invalid = Unit {0}
 
--- the plan has the values of the words
+-- clap takes the words, they name a file, and the plan has their values
 pub record IsPlanOf (words : List (List ℕ)) (plan : RunPlan) : Type 0 where
+  pub taken : faults_of minorder words ≡ []
+  pub file : (path : List ℕ) × (value_of minorder words (codes "FILE") ≡ Some path)
   pub above : value_of minorder words (codes "above") ≡ option_map (λ s. s.now) plan.above
   pub count : IsFlag (read_of minorder words (codes "count")) plan.count
   pub workers : IsNumber (read_of minorder words (codes "workers")) plan.workers
+  pub some_workers : 1 ≤ plan.workers
+  pub most_workers : plan.workers ≤ 64
 
 -- what a program writes to its output that ends with status 0: help, if clap answers the words with it, else the text of some cover
 abbrev pub EndsWell : List (List ℕ) → Option (List ℕ) → Option (List ℕ) → Type 0
@@ -130,12 +131,11 @@ DeliversReport plan IsRead before after (Refused (CertificateLine line fault)) =
 DeliversReport plan IsRead before after (Refused CertificateTooLong) = ⊥
 DeliversReport plan IsRead before after (Refused fault) = after ≡ before
 
--- what it leaves on its output if a device failed: nothing, or a beginning of the text of some cover
+-- what it leaves on its output if a device failed, which the words ask for: nothing, or a beginning of the text of some cover
 abbrev pub EndsInPart : List (List ℕ) → Option (List ℕ) → Option (List ℕ) → Type 0
-EndsInPart words before after =
-    (after ≡ before) ⊎
-    ((plan : RunPlan) × IsPlanOf words plan × (cover : NamedCover) × (text : List ℕ) × (n : ℕ) × IsCover cover
-    × IsTextOf plan cover text × Appends before after (take n text))
+EndsInPart words before after = (plan : RunPlan) × IsPlanOf words plan
+    × ((after ≡ before) ⊎ ((cover : NamedCover) × (text : List ℕ) × (n : ℕ) × IsCover cover
+    × IsTextOf plan cover text × Appends before after (take n text)))
 
 -- a run that no store is large enough for, and one whose pairs are faulty, have read a cover that is hindered so
 abbrev pub IsHindered : RunPlan → (NamedCover → Type 0) → Outcome → Type 0
@@ -157,11 +157,6 @@ IsFaultyRunOf words =
     (plan : RunPlan) × IsPlanOf words plan × (plan.count ≡ false) × (cover : NamedCover) × IsCover cover
     × (fault : PairsFault)
     × PairsAre plan.above cover.inputs (Err fault)
-
--- how many calls failed, before and after
-abbrev pub FailsOnlyByDevice : ℕ → ℕ → Outcome → Type 0
-FailsOnlyByDevice before after (Refused Device) = after ≡ before + 1
-FailsOnlyByDevice before after _ = after ≡ before
 
 -- the failed calls of a writer that may be missing
 abbrev pub failures_in : {C : Type 0} → (C → ℕ) → Option C → ℕ

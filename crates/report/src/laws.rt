@@ -4,10 +4,9 @@ ghost use Rattle.std.specs.Prelude.{◌≡◌, ℕ, List, Option, Some};
 ghost use Rattle.pla_reader.specs.Covers.{NamedCover};
 ghost use Rattle.pla_reader.specs.Reading.{Reads};
 ghost use Rattle.command_line.specs.declared.line.RunPlan.{RunPlan};
-ghost use Rattle.report.specs.declared.outcome.Outcome.{Outcome};
-ghost use Rattle.report.specs.declared.outcome.Outcome.TheVariants.{Done};
+ghost use Rattle.outcomes.specs.declared.outcome.Outcome.{Outcome};
+ghost use Rattle.outcomes.specs.declared.outcome.Outcome.TheVariants.{Done};
 ghost use Rattle.report.specs.Answers.{AskTheSame, IsCertificateOf, IsTextOf};
-ghost use Rattle.report.specs.Judging.{Judge};
 ghost use Rattle.report.specs.Runs.{Delivers, held};
 
 /// What is written of a file follows from its bytes and from what is asked alone: the text of a
@@ -31,11 +30,4 @@ pub fn texts_are_determined()
         Delivers plan (Reads file) (held c (Some (Some before))) (held d (Some (Some after))) Done →
         Delivers other (Reads file) (held e (Some (Some before)))
         (held f (Some (Some later))) Done → after ≡ later }
-{}
-
-/// What a check decides, but for being out of memory and failed calls, follows from the bytes of
-/// the file and of the certificate alone.
-pub fn verdicts_are_determined()
-    ensures { (file text : List ℕ) (outcome other : Outcome) (a b : List ℕ) →
-        Judge file text outcome a → Judge file text other b → (outcome ≡ other) × (a ≡ b) }
 {}

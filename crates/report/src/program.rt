@@ -3,16 +3,15 @@
 ghost use Rattle.std.specs.Prelude.{◌≡◌, ◌≢◌, ◌<◌, ◌^◌, IsTrue, None};
 ghost use Rattle.order_model.specs.Orders.{has};
 ghost use Rattle.command_line.specs.Lines.{LacksArguments, minorder as minorder_line, texts};
-ghost use Rattle.command_line.specs.Usages.{AreFaulty};
+ghost use Rattle.command_line.specs.Usages.{AreFaulty, TurnsAway};
 ghost use Rattle.pla_reader.specs.Covers.{IsCover};
 ghost use Rattle.report.specs.Runs.{DeliversReport, EndsInPart, EndsWell, IsFaultyRunOf, IsFullRunOf, IsHindered, IsRunOf};
-ghost use Rattle.report.specs.Statuses.{exits};
+ghost use Rattle.outcomes.specs.Statuses.{exits};
 
-use crate::messages::{write_fault, write_usage};
-use crate::outcome::{Fault, Outcome};
 use crate::runs::run;
 use command_line::Line;
 use counted_io::{CountedWrite, Counting};
+use outcomes::{Fault, Outcome, write_fault, write_usage};
 use std::fs;
 use std::rt::Files;
 use std::thread::Threads;
@@ -60,6 +59,8 @@ pub fn minorder<'a, R: Files + AllocGlobal + Threads + Sync, W: CountedWrite, E:
     requires err { E.failures err.old < 2 ^ 32 }
     ensures status { IsTrue (has exits result) }
     ensures refused { result ≡ 2 → AreFaulty minorder_line LacksArguments (texts words.now) }
+    ensures faulty { AreFaulty minorder_line LacksArguments (texts words.now) →
+        TurnsAway minorder_line (texts words.now) result }
     ensures answered { result ≡ 0 →
         EndsWell (texts words.now) (W.contents out.old) (W.contents out.new) }
     ensures part { result ≡ 5 →

@@ -4,17 +4,18 @@ ghost use Rattle.std.specs.Prelude.{◌≡◌, ◌+◌, ◌<◌, ◌≤◌, ◌^
 ghost use Rattle.pla_reader.specs.Covers.{IsCover};
 ghost use Rattle.pla_reader.specs.Reading.{Reads};
 ghost use Rattle.report.specs.Answers.{HasCertificate, Hinders, IsTextOf};
-ghost use Rattle.report.specs.Headline.{PrintsOptimum};
+ghost use Rattle.outcomes.specs.Headline.{PrintsOptimum};
 ghost use Rattle.report.specs.Texts.{count_text as text_of, file_order_levels};
-ghost use Rattle.report.specs.Runs.{Delivers, FailsOnlyByDevice, GetsText, IsHindered, Tells, WritesGood, failures_in, held};
+ghost use Rattle.report.specs.Runs.{Delivers, GetsText, IsHindered, Tells, WritesGood, failures_in, held};
+ghost use Rattle.outcomes.specs.Statuses.{FailsOnlyByDevice};
 
 use crate::answers::{RunTexts, answer_texts, pairs_of};
-use crate::outcome::{Fault, Outcome, fault_of};
 use crate::texts::count_text;
 use command_line::RunPlan;
 use counted_io::{CountedRead, CountedWrite, Refused, write_whole};
 use order_model::Order;
 use order_model::laws::truth_tables_keep_functions;
+use outcomes::{Fault, Outcome};
 use pla_reader::{Cover, read_cover};
 use std::alloc::{AllocError, Global};
 use std::thread::Threads;
@@ -142,7 +143,7 @@ pub fn run<'a, R: Threads + Sync, F: CountedRead, W: CountedWrite, C: CountedWri
 {
     let cover = match read_cover(alloc, file) {
         Ok(cover) => cover,
-        Err(error) => return Outcome::Refused(fault_of(error)),
+        Err(error) => return Outcome::Refused(Fault::from(error)),
     };
     let texts = match planned_texts(rt, alloc, plan, &cover, cert.is_some()) {
         Ok(texts) => texts,

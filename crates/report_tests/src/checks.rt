@@ -1,8 +1,9 @@
 //! Checks over memory and over devices that fail.
 
 use crate::devices::{FailingReader, FailingWriter};
+use checks::run_check;
 use counted_io::Counting;
-use report::{Fault, Outcome, run_check};
+use outcomes::{Fault, Outcome};
 use std::io::{ErrorKind, Read};
 use std::test::Fail;
 use std::thread::Threads;

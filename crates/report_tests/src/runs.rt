@@ -3,7 +3,8 @@
 use crate::devices::{FailingReader, FailingWriter};
 use counted_io::Counting;
 use order_model::Workers;
-use report::{Fault, Outcome, RunPlan, run};
+use outcomes::{Fault, Outcome};
+use report::{RunPlan, run};
 use std::alloc::Global;
 use std::io::{ErrorKind, Read};
 use std::test::Fail;

@@ -2,8 +2,9 @@
 
 use crate::cases::{Case, Place};
 use anyhow::{Context, Result, bail};
+use checks::ordercheck;
 use counted_io::Counting;
-use report::{minorder, ordercheck};
+use report::minorder;
 use std::fs::{self, File};
 use std::io::Write;
 use std::rt::Files;

@@ -1,7 +1,7 @@
 use Rattle.std.proofs.Common.{refl, sum}
 use Rattle.order_model.specs.Levels.{level_counts}
 use Rattle.order_model.specs.Problems.{functions}
-use Rattle.dd_builder.specs.Building.{AreTablesOf}
+use Rattle.truth_table.specs.OfCovers.{AreTablesOf}
 use Rattle.report.specs.Texts.{file_order_levels}
 use Rattle.report.proofs.Certified.{certified, not_certified, some_certified}
 use Rattle.report.proofs.Reported.{reported}

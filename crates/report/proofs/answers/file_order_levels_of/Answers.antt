@@ -1,10 +1,10 @@
-use Rattle.std.proofs.Common.{◌≡◌, ap, sym, ◌∙◌, length, slice_index}
+use Rattle.std.proofs.Common.{◌≡◌, ap, sym, ◌∙◌, length}
 use Rattle.std.proofs.lemmas.List.FromFn.{length-range_with_len}
 use Rattle.std.proofs.lemmas.Bool.Decides.{Decides-eqb}
 use Rattle.std.proofs.lemmas.Slice.Eq.{slice_eq-Decides}
 use Rattle.order_model.specs.Levels.{level_counts}
 use Rattle.order_model.specs.Orders.{variables}
-use Rattle.report.specs.Texts.{functions_of}
+use Rattle.pla_reader.specs.Covers.{functions_of}
 use Rattle.report.proofs.Leveled.{counts_read}
 use Rattle.report.proofs.answers.file_order_levels_of.Goals as goal
 

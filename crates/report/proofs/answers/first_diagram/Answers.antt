@@ -1,9 +1,9 @@
-use Rattle.std.proofs.Common.{◌≡◌, List, ℕ, length, sym, subst, ap, ◌∙◌}
-use Rattle.order_model.specs.Diagrams.{Represents, Graph}
+use Rattle.std.proofs.Common.{List, ℕ, length, sym, subst, ap, ◌∙◌}
+use Rattle.order_model.specs.Diagrams.{Represents}
 use Rattle.order_model.specs.Orders.{IsOrder}
 use Rattle.order_model.specs.Pairs.{IsFirstOrder}
 use Rattle.dd_builder.specs.Building.{HasLevelCounts}
-use Rattle.report.specs.Texts.{functions_of}
+use Rattle.pla_reader.specs.Covers.{functions_of}
 use Rattle.report.proofs.Leveled.{one_length}
 use Rattle.report.proofs.answers.first_diagram.Goals as goal
 

@@ -1,4 +1,3 @@
-use Rattle.std.proofs.Common.{◌≡◌, length, slice_index}
 use Rattle.order_model.specs.Problems.{functions}
 use Rattle.report.proofs.Leveled.{counts_read}
 use Rattle.report.proofs.answers.levels_under.Goals as goal

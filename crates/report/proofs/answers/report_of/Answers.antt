@@ -1,4 +1,4 @@
-use Rattle.std.proofs.Common.{◌≡◌, ◌<◌, ℕ, List, length, sym, subst, ap, ◌∙◌, arith}
+use Rattle.std.proofs.Common.{ℕ, List, length, sym, subst, ap, arith}
 use Rattle.order_model.specs.Orders.{IsOrder}
 use Rattle.order_model.proofs.Lists.Accepted.{member_at}
 use Rattle.report.proofs.Leveled.{one_length}

@@ -1,4 +1,4 @@
-use Rattle.std.proofs.Common.{◌≡◌, sym, ◌∙◌}
+use Rattle.std.proofs.Common.{sym, ◌∙◌}
 use Rattle.order_model.specs.Levels.{size_under}
 use Rattle.order_model.specs.Problems.{functions}
 use Rattle.report.proofs.answers.search.Goals as goal

@@ -1,8 +1,9 @@
-use Rattle.std.proofs.Common.{◌≡◌, ◌≤◌, ℕ, List, length, sym, ap, ◌∙◌, arith}
+use Rattle.std.proofs.Common.{sym, ◌∙◌, arith}
 use Rattle.order_model.specs.Problems.{functions}
 use Rattle.order_model.specs.Sifting.{sifted as sifted_order}
-use Rattle.report.specs.Texts.{functions_of}
-use Rattle.report.proofs.Leveled.{functions_long, tables_value}
+use Rattle.pla_reader.specs.Covers.{functions_of}
+use Rattle.report.proofs.Leveled.{functions_long}
+use Rattle.truth_table.proofs.OfCovers.{tables_value}
 use Rattle.report.proofs.answers.sift_from_first.Goals as goal
 
 pub with_pairs-requires-clause-few : goal.with_pairs-requires-clause-few

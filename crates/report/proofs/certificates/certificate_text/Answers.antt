@@ -50,4 +50,4 @@ returns c =
     (c.in_ok-order.ensures.items_if_clones_equal (λ x y h. h) ∙ c.variables.ensures.value) c.requires.solution.levels
     c.requires.solution.size c.in_ok-kept.ensures sorted c.requires.solution.cells in
     let cert = c.in-Some.ensures.some ∙ same in
-    told (certificate_of n F P c.args.solution.order) c.in-Some.cert c.text.result cert (subst HasSpelling c.cert.view_is c.cert.invariant) c.text.ensures
+    told (certificate_of n F P c.args.solution.order) c.in-Some.cert c.text.result cert (subst HasSpelling c.cert.view_is c.cert.invariant) c.text.ensures.spelling

@@ -1,6 +1,7 @@
 use Rattle.std.proofs.Common.{inl, inr, take, string_bytes, refl}
 use Rattle.report.specs.Runs.{whole}
-use Rattle.report.proofs.Delivered.{certified_part, err_of, good_written, ok_of, with_read}
+use Rattle.report.proofs.Delivered.{certified_part, err_of, good_written, ok_of}
+use Rattle.outcomes.proofs.Known.{with_read}
 use Rattle.report.proofs.Optima.{printed}
 use Rattle.report.proofs.runs.run.Goals as goal
 

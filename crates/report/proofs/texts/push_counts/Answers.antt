@@ -1,4 +1,4 @@
-use Rattle.std.proofs.Common.{◌≡◌, ◌++◌, ap, ◌∙◌, codes, decimal, string_bytes}
+use Rattle.std.proofs.Common.{◌++◌, ap, ◌∙◌, codes, decimal, string_bytes}
 use Rattle.report.proofs.Spaced.{counts_pushed}
 use Rattle.report.proofs.texts.push_counts.Goals as goal
 

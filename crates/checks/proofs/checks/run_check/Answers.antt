@@ -1,0 +1,10 @@
+use Rattle.checks.proofs.Checked.{accepted}
+use Rattle.outcomes.proofs.Known.{with_known, with_read}
+use Rattle.checks.proofs.checks.run_check.Goals as goal
+
+pub returns-in-Ok-write_whole-clause-truth : goal.returns-in-Ok-write_whole-clause-truth
+returns-in-Ok-write_whole-clause-truth g c =
+    with_read _ c.in-Ok.cover _ c.in-Ok.ensures.answer
+    (λ bytes reads. with_known _ _ _ c.in-Ok-read_certificate.ensures.cert
+    (λ text spells. accepted c.in-Ok.cover c.in-Ok-read_certificate.cert bytes text c.in-Ok-judged.outcome _ reads spells.1
+    c.in-Ok-judged.ensures))

@@ -1,0 +1,2 @@
+pub mod VerdictTexts
+pub mod Judging

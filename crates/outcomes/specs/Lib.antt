@@ -1,0 +1,5 @@
+pub mod Statuses
+pub mod Plans
+pub mod Limits
+pub mod Texts
+pub mod Headline

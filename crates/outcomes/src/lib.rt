@@ -1,0 +1,9 @@
+//! What both programs share: how they end, their faults, statuses and messages, and what their
+//! words are.
+#![tactic(auto)]
+
+mod messages;
+mod outcome;
+
+pub use messages::{words_of_program, write_fault, write_usage};
+pub use outcome::{Fault, Outcome};

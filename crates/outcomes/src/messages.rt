@@ -1,0 +1,78 @@
+//! What programs do with their words and their messages.
+
+ghost use Rattle.std.specs.Prelude.{◌≡◌, ◌≢◌, ◌<◌, ◌^◌, IsTrue};
+ghost use Rattle.order_model.specs.Orders.{has};
+ghost use Rattle.outcomes.specs.Statuses.{IsHelp, IsRefusal, usage_exits};
+
+use crate::outcome::Fault;
+use arrayvec::ArrayString;
+use command_line::Usage;
+use counted_io::{CountedWrite, write_whole};
+use std::alloc::Global;
+use std::env;
+use std::env::Env;
+use std::fmt::Write;
+use std::io::ErrorKind;
+
+/// The status of words that are no text.
+const WORDS_STATUS: u8 = 2;
+
+/// The status of a program that is out of memory.
+const MEMORY_STATUS: u8 = 4;
+
+/// The longest line of a fault has a name, two numbers and two words.
+const LONGEST_FAULT: usize = 128;
+
+/// The words after a program's name, or its exit status if they can't be had: 2 if one is no text,
+/// 4 out of memory.
+pub fn words_of_program<R: Env + AllocGlobal>(rt: &R) -> Result<Vec<String>, u8> {
+    match env::args(rt) {
+        Ok(words) => match words.skip(1).collect::<Vec<String>>(rt.alloc()) {
+            Ok(words) => Ok(words),
+            Err(_) => Err(MEMORY_STATUS),
+        },
+        Err(error) if error.kind() == ErrorKind::OutOfMemory => Err(MEMORY_STATUS),
+        Err(_) => Err(WORDS_STATUS),
+    }
+}
+
+/// Writes why a program was refused, which takes no memory. A failure of the writer has no effect.
+pub fn write_fault<E: CountedWrite>(err: &mut E, program: &str, fault: Fault)
+    requires { E.failures err.old < 2 ^ 32 }
+{
+    let mut line: ArrayString<LONGEST_FAULT> = ArrayString::new();
+    let _ = write!(line, "{program}: {fault}\n");
+    let _ = write_whole(err, line.as_str().as_bytes());
+}
+
+/// Writes help to `out`, or why words are refused to `err`. A failure of the writers has no effect.
+/// Returns the exit status.
+pub fn write_usage<W: CountedWrite, E: CountedWrite>(
+    alloc: Global,
+    program: &str,
+    usage: &Usage,
+    out: &mut W,
+    err: &mut E,
+) -> u8
+    requires out { W.failures out.old < 2 ^ 32 }
+    requires err { E.failures err.old < 2 ^ 32 }
+    ensures status { IsTrue (has usage_exits result) }
+    ensures help { result ≡ 0 → IsHelp usage.now }
+    ensures refused { result ≡ 2 → IsRefusal usage.now }
+    ensures quiet { result ≡ 0 → E.contents err.new ≡ E.contents err.old }
+    ensures silent { result ≢ 0 → W.contents out.new ≡ W.contents out.old }
+{
+    let text = match usage {
+        Usage::Help(error) | Usage::Refused(error) => format!(in alloc; "{error}").ok(),
+        Usage::OutOfMemory => None,
+    };
+    let Some(text) = text else {
+        write_fault(err, program, Fault::OutOfMemory);
+        return MEMORY_STATUS;
+    };
+    let _ = match usage {
+        Usage::Help(_) => write_whole(out, text.as_bytes()),
+        Usage::Refused(_) | Usage::OutOfMemory => write_whole(err, text.as_bytes()),
+    };
+    usage.status()
+}

@@ -1,0 +1,105 @@
+//! How a run ends.
+
+ghost use Rattle.std.specs.Prelude.{◌≡◌, ◌⊎◌, IfSome, IfNone};
+ghost use Rattle.outcomes.specs.Statuses.{certificate_refusal, refusal_of, status_of};
+
+use certificate::{CertFault, LineFault as CertificateFault};
+use order_model::PairsFault;
+use pla_reader::{LineFault, PlaError};
+use thiserror::Error;
+
+/// Why a run was refused. Its text is what the programs write after their name.
+#[derive(Clone, Copy, Debug, PartialEq, Eq, Error)]
+pub enum Fault {
+    /// The first faulty line of the file, counted from 1, and its fault.
+    #[error("line {0}: {1}")]
+    Line(usize, LineFault),
+    /// The file has more than 16,777,216 bytes.
+    #[error("TooLong")]
+    TooLong,
+    /// An allocation was refused.
+    #[error("OutOfMemory")]
+    OutOfMemory,
+    /// A file was not opened or made, or a read or a write failed.
+    #[error("Device")]
+    Device,
+    /// A store for building from truth tables was full.
+    #[error("StoreFull")]
+    StoreFull,
+    /// The pairs that the order has to keep are refused.
+    #[error("{0}")]
+    Pairs(PairsFault),
+    /// The first faulty line of the certificate, counted from 1, and its fault.
+    #[error("certificate line {0}: {1}")]
+    CertificateLine(usize, CertificateFault),
+    /// The certificate has more than 1,048,576 bytes.
+    #[error("certificate: TooLong")]
+    CertificateTooLong,
+}
+
+/// How a run ends.
+#[derive(Clone, Copy, Debug, PartialEq, Eq)]
+pub enum Outcome {
+    /// All that was asked is written; of a check, that the certificate is valid.
+    Done,
+    /// The certificate is not valid, and the reason is written.
+    Invalid,
+    Refused(Fault),
+}
+
+impl Outcome {
+    /// The exit status: 0 done, 1 the certificate is not valid, 3 input refused, 4 out of memory, 5
+    /// a device failed, 6 a store was full, 8 pairs refused.
+    pub fn status(self) -> u8
+        ensures { result ≡ status_of self }
+    {
+        match self {
+            Outcome::Done => 0,
+            Outcome::Invalid => 1,
+            Outcome::Refused(Fault::Line(_, _) | Fault::TooLong) => 3,
+            Outcome::Refused(Fault::CertificateLine(_, _) | Fault::CertificateTooLong) => 3,
+            Outcome::Refused(Fault::OutOfMemory) => 4,
+            Outcome::Refused(Fault::Device) => 5,
+            Outcome::Refused(Fault::StoreFull) => 6,
+            Outcome::Refused(Fault::Pairs(_)) => 8,
+        }
+    }
+
+    /// Why the run was refused.
+    pub fn fault(self) -> Option<Fault>
+        ensures refused { IfSome result (λ fault. self ≡ Outcome.Refused fault) }
+        ensures done { IfNone result ((self ≡ Outcome.Done) ⊎ (self ≡ Outcome.Invalid)) }
+    {
+        match self {
+            Outcome::Done | Outcome::Invalid => None,
+            Outcome::Refused(fault) => Some(fault),
+        }
+    }
+}
+
+impl From<PlaError> for Fault {
+    ghost from_gives = { λ error fault. fault ≡ refusal_of error };
+
+    /// Why a file that gives no cover is refused.
+    fn from(error: PlaError) -> Fault {
+        match error {
+            PlaError::Line(line, fault) => Fault::Line(line, fault),
+            PlaError::TooLong => Fault::TooLong,
+            PlaError::Device => Fault::Device,
+            PlaError::OutOfMemory => Fault::OutOfMemory,
+        }
+    }
+}
+
+impl From<CertFault> for Fault {
+    ghost from_gives = { λ error fault. fault ≡ certificate_refusal error };
+
+    /// Why a text that is no certificate is refused.
+    fn from(error: CertFault) -> Fault {
+        match error {
+            CertFault::Line(line, fault) => Fault::CertificateLine(line, fault),
+            CertFault::TooLong => Fault::CertificateTooLong,
+            CertFault::OutOfMemory => Fault::OutOfMemory,
+        }
+    }
+}
