@@ -1,32 +1,30 @@
-#!/usr/bin/env bash
-# program.sh NAME WORD..      runs a program of this repository with the words.
-# Where its sources changed since the last build, it is proved and built first, by prove.py beside this file.
-set -euo pipefail
-top=$(cd "$(dirname "${BASH_SOURCE[0]}")/.." && pwd)
-name=$1
-shift
-out=$top/crates/$name/out
+# Sourced by the scripts at the top of the repository, which set `here` to their own place.
+top=${here%/*}
 
-# The files of the crates that the program was built from, with their sizes and times of change.
-look() {
-    (cd "$top" && find crates.txt HANDLES "$@" -name out -prune -o -type f -printf '%p %s %C@\n')
-}
-
+# is_built NAME FILE      whether FILE of the crate's out/ was made from the sources as they are: none of the files and folders that were
+# there changed after the stamp (a new, moved or removed file changes its folder). What `find` says of a missing one counts, too.
 is_built() {
-    local folders
-    [ -x "$out/$name" ] && [ -r "$out/files" ] || return 1
-    read -r folders < "$out/folders" || return 1
-    # shellcheck disable=SC2086
-    [ "$(look $folders 2>&1)" = "$(<"$out/files")" ]
+    local out=crates/$1/out
+    cd "$top" && [ -r "$out/$2" ] && [ -r "$out/stamp" ] && [ -r "$out/files" ] \
+        && [ -z "$(find -files0-from "$out/files" -maxdepth 0 -cnewer "$out/stamp" -print -quit 2>&1)" ]
 }
 
-if ! is_built; then
-    # what is found before the build, so that an edit during the build is built by the next call
-    folders=$("$top/build/prove.py" --folders "$name")
+# build NAME      proves and builds a program or a library, by prove.py beside this file. The files are listed and the stamp is made
+# before, so that an edit during the build is built by the next call.
+build() {
+    local out=crates/$1/out folders
+    cd "$top" && folders=$(build/prove.py --folders "$1") && mkdir -p "$out" && touch "$out/stamp.$$" || return
     # shellcheck disable=SC2086
-    files=$(look $folders)
-    "$top/build/prove.py" "$name" >&2 < /dev/null
-    printf '%s\n' "$folders" > "$out/folders"
-    printf '%s\n' "$files" > "$out/files"
-fi
-exec "$out/$name" "$@"
+    find crates.txt HANDLES $folders \( -name out -o -name must-fail \) -prune -o -print0 > "$out/files.$$" \
+        && build/prove.py "$1" >&2 < /dev/null && mv "$out/files.$$" "$out/files" && mv "$out/stamp.$$" "$out/stamp" && return
+    rm -f "$out/files.$$" "$out/stamp.$$"
+    return 1
+}
+
+# run_program NAME WORD..      runs a program with the words, in the caller's folder.
+run_program() {
+    local name=$1
+    shift
+    (is_built "$name" "$name") || (build "$name") || exit
+    exec "$top/crates/$name/out/$name" "$@"
+}

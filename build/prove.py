@@ -1,34 +1,48 @@
 #!/usr/bin/env python3
-"""prove.py NAME              proves the crates that a program or a static library needs, side by side where they don't build on one another, and builds it
-prove.py --folders NAME     writes their folders"""
+"""prove.py NAME              proves the crates that a program or a static library needs, several at a time, and builds it
+prove.py --folders NAME     writes their folders
+prove.py --built NAME..     takes programs as they lie there, which `rt ci` has just proved and built"""
 import fcntl
 import hashlib
 import os
+import re
 import shutil
+import signal
 import subprocess
 import sys
+import tempfile
 import time
+from concurrent.futures import FIRST_COMPLETED, ThreadPoolExecutor, wait
 
 TOP = os.path.dirname(os.path.dirname(os.path.abspath(__file__)))
 GIGABYTES_A_JOB = 3
-BEFOREHAND = "from nothing it takes some 25 minutes of processor time (12 to 16 minutes on four cores), 3 GB of memory for each crate that is proved at a time, and 4 GB of disk, most of it until it is done"
+GIGABYTES_A_FURTHER_JOB = 1
+# a proof of one crate gains little from more
+MOST_JOBS = 4
 
 
-def needed(name):
-    """The crates of the repository that a crate builds on, lowest first; itself last."""
-    named = {}
+def listed():
+    """The lines of crates.txt, by the crates that they name."""
     with open(f"{TOP}/crates.txt") as lines:
-        for line in lines:
-            crate, colon, deps = line.partition("#")[0].partition(":")
-            if colon:
-                named[crate.split()[0]] = deps.split()
-    if name not in named:
+        rows = [line.partition("#")[0].strip() for line in lines]
+    return {row.split(":")[0].split()[0]: row for row in rows if row}
+
+
+def named():
+    """The crates of crates.txt with the libraries of the repository that each uses."""
+    rows = listed()
+    return {crate: [it for it in row.partition(":")[2].split() if it in rows] for crate, row in rows.items()}
+
+
+def needed(name, uses):
+    """The crates of the repository that a crate builds on, lowest first; itself last."""
+    if name not in uses:
         sys.exit(f"{name}: no crate of crates.txt")
     found = []
 
     def visit(crate):
-        for dep in named[crate]:
-            if dep in named and dep not in found:
+        for dep in uses[crate]:
+            if dep not in found:
                 visit(dep)
         found.append(crate)
 
@@ -49,54 +63,181 @@ def sum_of_sources(crates):
     return total.hexdigest()
 
 
-def places():
-    """How many crates may be proved at a time, by the processors and the memory there are."""
-    cores = len(os.sched_getaffinity(0))
+def seconds_of(crates):
+    """The processor seconds that each crate's proof is expected to take: those of docs/GATE.md, else by its lines."""
+    known = {}
+    try:
+        with open(f"{TOP}/docs/GATE.md") as lines:
+            for line in lines:
+                row = re.match(r"\| (\w+) \| (\d+) \|", line)
+                if row:
+                    known[row[1]] = int(row[2])
+    except OSError:
+        pass
+
+    def by_lines(crate):
+        lines = 0
+        for at, _, files in os.walk(f"{TOP}/crates/{crate}/src"):
+            for file in files:
+                with open(f"{at}/{file}", "rb") as it:
+                    lines += it.read().count(b"\n")
+        return 20 + lines // 5
+
+    return {crate: known.get(crate) or by_lines(crate) for crate in crates}
+
+
+def processors():
+    return len(os.sched_getaffinity(0))
+
+
+def free_gigabytes():
     with open("/proc/meminfo") as lines:
-        free = next(int(line.split()[1]) for line in lines if line.startswith("MemAvailable"))
-    return max(1, min(cores, free // (GIGABYTES_A_JOB << 20)))
+        return next(int(line.split()[1]) for line in lines if line.startswith("MemAvailable")) >> 20
 
 
-class Build:
-    def __init__(self, name):
-        self.name = name
-        self.crates = needed(name)
-        self.start = time.monotonic()
-        # what this build leaves in a folder that was there before is someone's work
-        self.own = [crate for crate in self.crates if not os.path.isdir(f"{TOP}/crates/{crate}/out")]
+def spoken(seconds):
+    minutes, seconds = divmod(int(seconds), 60)
+    return f"{minutes} min {seconds:02} s"
+
+
+class Report:
+    """Says on standard error how far a build is: one line that is written over on a terminal, else a line for each crate."""
+
+    def __init__(self, name, seconds):
+        self.name, self.seconds = name, seconds
+        self.start, self.done, self.running, self.taken = time.monotonic(), [], {}, 0
+        self.is_terminal = sys.stderr.isatty()
 
     def say(self, text):
-        print(f"{self.name}: {text}", file=sys.stderr, flush=True)
+        clear = "\r\x1b[K" if self.is_terminal else ""
+        print(f"{clear}{self.name}: {text}", file=sys.stderr, flush=True)
 
-    def time(self):
-        minutes, seconds = divmod(int(time.monotonic() - self.start), 60)
-        return f"{minutes} min {seconds:02} s"
+    def passed(self):
+        return time.monotonic() - self.start
 
-    def call(self, crate, *words):
-        """Calls rt in a crate's folder, tells of each crate that it has done, and ends where it fails."""
-        done, said = 0, []
-        how = {"cwd": f"{TOP}/crates/{crate}", "stdin": subprocess.DEVNULL, "stdout": subprocess.PIPE, "stderr": subprocess.STDOUT}
+    def share(self):
+        """The share that is done, by expected processor time; a crate that is being proved counts by the time that it has had."""
+        whole = sum(self.seconds.values())
+        done = sum(self.seconds[it] for it in self.done)
+        for crate, (since, jobs) in self.running.items():
+            done += min(0.9 * self.seconds[crate], (time.monotonic() - since) * (1 + jobs) / 2)
+        return int(100 * done / whole)
+
+    def show(self):
+        text = f"{self.share()} % after {spoken(self.passed())}"
+        if self.is_terminal:
+            width = shutil.get_terminal_size().columns - 1
+            line = f"{self.name}: {text}, proving {', '.join(self.running)}"
+            print(f"\r\x1b[K{line[:width]}", end="", file=sys.stderr, flush=True)
+        return text
+
+    def end_crate(self, crate, taken):
+        self.done.append(crate)
+        self.running.pop(crate)
+        self.taken += taken
+        if self.is_terminal:
+            self.show()
+        else:
+            self.say(f"{self.show()}: {crate} is proved, in {taken:.0f} s of processor time")
+
+
+def called(folder, *words):
+    """Calls rt in a folder. Returns its status, what it said, and the processor seconds that it took."""
+    how = {"cwd": folder, "stdin": subprocess.DEVNULL, "stdout": subprocess.PIPE, "stderr": subprocess.STDOUT}
+    with subprocess.Popen(["rt", *words], errors="replace", **how) as ran:
+        said = ran.stdout.read()
+        _, status, usage = os.wait4(ran.pid, 0)
+        ran.returncode = os.waitstatus_to_exitcode(status)
+    return ran.returncode, said, usage.ru_utime + usage.ru_stime
+
+
+def linked(start, end):
+    """Lays out a folder's files a second time, without copying their contents where the file system can."""
+    for at, _, files in os.walk(start):
+        to = f"{end}{at[len(start):]}"
+        os.makedirs(to, exist_ok=True)
+        for file in files:
+            try:
+                os.link(f"{at}/{file}", f"{to}/{file}")
+            except OSError:
+                shutil.copy2(f"{at}/{file}", f"{to}/{file}")
+
+
+def kept_alone(crates):
+    """Waits until no rt works in the folders of these crates, and keeps others out until what it returns is closed."""
+    held = []
+    for crate in sorted(crates):
+        held.append(os.open(f"{TOP}/crates/{crate}", os.O_RDONLY))
+        fcntl.flock(held[-1], fcntl.LOCK_EX)
+    return held
+
+
+class Lane:
+    """A crate with the libraries below it in folders of their own, since rt works alone in the folders of a crate and of all below it."""
+
+    def __init__(self, lanes, crate, below):
+        self.crate, self.folder = crate, f"{lanes}/{crate}"
+        self.home, self.own = f"{TOP}/crates/{crate}/out", f"{self.folder}/crates/{crate}/out"
+        for it in [*below, crate]:
+            for part in ("src", "specs", "proofs", *["out/rlib"] * (it != crate)):
+                linked(f"{TOP}/crates/{it}/{part}", f"{self.folder}/crates/{it}/{part}")
+        rows = listed()
+        with open(f"{self.folder}/crates.txt", "w") as kept:
+            kept.writelines(f"{rows[it]}\n" for it in [*below, crate])
+        shutil.copy(f"{TOP}/HANDLES", f"{self.folder}/HANDLES")
+
+    def prove(self, jobs):
+        """Builds the library. What was kept of earlier proofs is used, and what this one leaves is kept, also if it fails."""
+        if os.path.isdir(self.home):
+            os.rename(self.home, self.own)
         try:
-            with subprocess.Popen(["rt", *words], errors="replace", **how) as ran:
-                for line in ran.stdout:
-                    said.append(line)
-                    if line.startswith("== ") and line[3:].strip() in self.crates:
-                        done += 1
-                        self.say(f"crate {done} of {len(self.crates)}, {line[3:].strip()}, after {self.time()}")
-        except OSError as error:
-            sys.exit(f"rt: {error}")
-        if ran.returncode:
-            sys.exit("".join(said))
+            return called(f"{self.folder}/crates/{self.crate}", "lib", "--jobs", str(jobs))
+        finally:
+            if os.path.isdir(self.own):
+                os.rename(self.own, self.home)
+            shutil.rmtree(self.folder, ignore_errors=True)
 
-    def forget(self):
-        """Drops what only the proof of the next edit would use, of folders that this build made."""
-        for crate in self.own:
-            shutil.rmtree(f"{TOP}/crates/{crate}/out/incremental", ignore_errors=True)
+
+def chains(libraries, uses, seconds):
+    """How much follows each library at least before the last one is proved, itself counted."""
+    behind = dict(seconds)
+    for crate in reversed(libraries):
+        above = [behind[it] for it in libraries if crate in uses[it]]
+        behind[crate] = seconds[crate] + max(above, default=0)
+    return behind
+
+
+def prove_all(libraries, uses, seconds, report, lanes):
+    """Proves libraries, those with the longest chain behind them first, each with the processors that no other one waits for."""
+    behind = chains(libraries, uses, seconds)
+    below = {crate: needed(crate, uses)[:-1] for crate in libraries}
+    left, running = sorted(libraries, key=lambda it: -behind[it]), {}
+    with ThreadPoolExecutor(processors()) as pool:
+        while left or running:
+            ready = [it for it in left if all(dep in report.done for dep in uses[it])]
+            for at, crate in enumerate(ready):
+                idle = processors() - sum(jobs for _, jobs in running.values())
+                room = free_gigabytes()
+                if idle < 1 or (running and room < GIGABYTES_A_JOB):
+                    break
+                spare = min(MOST_JOBS, idle // (len(ready) - at), 1 + max(0, room - GIGABYTES_A_JOB) // GIGABYTES_A_FURTHER_JOB)
+                jobs = max(1, spare)
+                left.remove(crate)
+                lane = Lane(lanes, crate, below[crate])
+                report.running[crate] = time.monotonic(), jobs
+                running[pool.submit(lane.prove, jobs)] = crate, jobs
+            for ended in wait(running, timeout=1, return_when=FIRST_COMPLETED).done:
+                crate, _ = running.pop(ended)
+                status, said, taken = ended.result()
+                if status:
+                    report.say(f"{crate} is not proved")
+                    sys.exit(said)
+                report.end_crate(crate, taken)
+            report.show()
 
 
 def is_library(name):
-    with open(f"{TOP}/crates.txt") as lines:
-        return any(line.partition(":")[0].split() == [name, "staticlib"] for line in lines)
+    return listed()[name].partition(":")[0].split() == [name, "staticlib"]
 
 
 def add_allocator(made):
@@ -106,40 +247,86 @@ def add_allocator(made):
     subprocess.run(["ar", "-M"], check=True, input=script, text=True)
 
 
-def main(name):
-    build = Build(name)
+def build(name, made):
+    uses = named()
+    crates = needed(name, uses)
+    seconds = seconds_of(crates)
+    report = Report(name, seconds)
+    # what this build leaves in a folder that was there before is someone's work
+    own = [it for it in crates if not os.path.isdir(f"{TOP}/crates/{it}/out/incremental")]
+    minutes = sum(seconds.values()) // 60
+    report.say(f"proving and building {len(crates)} crates; from nothing it takes some {minutes} minutes of processor time, {GIGABYTES_A_JOB} GB of memory for each crate that is proved at a time, and 4 GB of disk, most of it until it is done")
+    place = f"{TOP}/.git" if os.path.isdir(f"{TOP}/.git") else None
+    lanes = tempfile.mkdtemp(prefix="lanes-", dir=place)
+    held = kept_alone(crates)
+    try:
+        prove_all(crates[:-1], uses, seconds, report, lanes)
+    finally:
+        shutil.rmtree(lanes, ignore_errors=True)
+        for it in held:
+            os.close(it)
+    report.running[name] = time.monotonic(), MOST_JOBS
+    report.show()
+    words = ["lib"] if is_library(name) else ["run", "--", "--help"]
+    status, said, taken = called(f"{TOP}/crates/{name}", *words)
+    if status:
+        sys.exit(said)
+    if is_library(name):
+        add_allocator(made)
+    report.end_crate(name, taken)
+    for crate in own:
+        # what only the proof of the next edit would use
+        shutil.rmtree(f"{TOP}/crates/{crate}/out/incremental", ignore_errors=True)
+    report.say(f"built in {spoken(report.passed())}, of {spoken(report.taken)} of processor time")
+
+
+def made_of(name):
+    """The folder that a program or a static library is built in, and its file."""
     folder = f"{TOP}/crates/{name}/out"
-    library = is_library(name)
-    made = f"{folder}/lib{name}.a" if library else f"{folder}/{name}"
-    os.makedirs(folder, exist_ok=True)
-    with open(f"{folder}/lock", "w") as lock:
+    return folder, f"{folder}/lib{name}.a" if is_library(name) else f"{folder}/{name}"
+
+
+def is_up_to_date(name):
+    folder, made = made_of(name)
+    try:
+        with open(f"{folder}/sources") as it:
+            return it.read() == sum_of_sources(needed(name, named())) and os.access(made, os.R_OK if is_library(name) else os.X_OK)
+    except OSError:
+        return False
+
+
+def main(name):
+    folder, made = made_of(name)
+    # one build at a time: two of them have crates in common
+    with open(f"{TOP}/crates.txt") as lock:
         fcntl.flock(lock, fcntl.LOCK_EX)
-        sources = sum_of_sources(build.crates)
+        if is_up_to_date(name):
+            return
         try:
-            with open(f"{folder}/sources") as it:
-                if it.read() == sources and os.access(made, os.R_OK if library else os.X_OK):
-                    return
-        except OSError:
-            pass
-        jobs = places()
-        build.say(f"proving and building {len(build.crates)} crates, {jobs} at a time; {BEFOREHAND}")
-        # all others wait for the lowest, which may use all processors
-        build.call(build.crates[0], "lib")
-        build.call(name, "all", "check", "--jobs", str(jobs))
-        if library:
-            build.call(name, "lib")
-            add_allocator(made)
-        else:
-            build.call(name, "run", "--", "--help")
-        build.forget()
-        with open(f"{folder}/sources", "w") as it:
-            it.write(sources)
-        build.say(f"built in {build.time()}")
+            os.makedirs(folder, exist_ok=True)
+            sources = sum_of_sources(needed(name, named()))
+            build(name, made)
+            with open(f"{folder}/sources", "w") as it:
+                it.write(sources)
+        except PermissionError as error:
+            sys.exit(f"{name}: it isn't built, and you may not build it here: {error}")
+
+
+def take(names):
+    for name in names:
+        if not os.access(made_of(name)[1], os.X_OK):
+            sys.exit(f"{name}: it isn't built")
+        with open(f"{made_of(name)[0]}/sources", "w") as it:
+            it.write(sum_of_sources(needed(name, named())))
 
 
 if __name__ == "__main__":
+    # an interrupt ends the proofs too, and what they kept goes back to its place
+    signal.signal(signal.SIGTERM, lambda *_: sys.exit(143))
     if sys.argv[1:2] == ["--folders"] and len(sys.argv) == 3:
-        print(*(f"crates/{crate}" for crate in needed(sys.argv[2])))
+        print(*(f"crates/{crate}" for crate in needed(sys.argv[2], named())))
+    elif sys.argv[1:2] == ["--built"] and len(sys.argv) > 2:
+        take(sys.argv[2:])
     elif len(sys.argv) == 2:
         main(sys.argv[1])
     else:
