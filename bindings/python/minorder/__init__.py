@@ -1,0 +1,27 @@
+"""Exact minimum variable orders of shared reduced ordered binary decision diagrams.
+
+    >>> import minorder
+    >>> minorder.exact(lambda a, b, s: b if s else a, inputs=3)
+    Result(order=(2, 0, 1), levels=(1, 1, 1), total=3)
+
+The functions of a diagram are given as ``tables``: one truth table or a sequence of them. A table of ``inputs`` variables is
+
+* an integer: bit p is the value at the point p, and bit i of p is the value of variable i;
+* bytes: bit p % 8 of byte p // 8 is the value at the point p, as in ``integer.to_bytes(length, "little")``;
+* a function of ``inputs`` booleans, variable 0 first, which is called once for each point.
+
+There are 1 to 16 variables and 1 to 16 tables. An order lists each variable once, top first. Level counts are numbers of decision
+nodes, top level first: one root a table, no complement edges, terminals not counted.
+
+The calls are made by the shared library libminorder, without the interpreter's lock, so that threads run side by side. It is the
+file that the environment variable MINORDER_LIBRARY names, else one beside this module, else what the loader finds.
+"""
+from ._calls import Result, Verdict, check, exact, levels, sift
+from ._errors import BadCertificate, BadOrder, BadPairs, BadShape, MinorderError, NoLibrary
+from ._tables import Table, Tables
+
+__version__ = "1.0.0"
+__all__ = [
+    "BadCertificate", "BadOrder", "BadPairs", "BadShape", "MinorderError", "NoLibrary", "Result", "Table", "Tables", "Verdict",
+    "check", "exact", "levels", "sift",
+]

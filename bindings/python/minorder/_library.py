@@ -1,0 +1,77 @@
+"""The shared library and the types of its calls."""
+import os
+from ctypes import CDLL, POINTER, Structure, c_size_t, c_uint8, c_uint32, c_uint64
+from ctypes.util import find_library
+from threading import Lock
+from typing import Iterator, Optional
+
+from ._errors import NoLibrary
+
+NAME = "libminorder.so.1"
+
+
+class Pair(Structure):
+    """minorder_pair."""
+    _fields_ = [("above", c_uint8), ("below", c_uint8)]
+
+
+class Judged(Structure):
+    """minorder_verdict."""
+    _fields_ = [("reason", c_uint32), ("mask", c_uint32), ("variable", c_uint32)]
+
+
+TABLES = [POINTER(c_uint64), c_size_t, c_uint32, c_uint32]
+ORDER = [POINTER(c_uint8), c_size_t]
+LEVELS = [POINTER(c_uint32), c_size_t]
+TOTAL = [POINTER(c_uint32)]
+CALLS = {
+    "minorder_exact_with_lengths": [*TABLES, *ORDER, *LEVELS, *TOTAL],
+    "minorder_exact_above_with_lengths": [*TABLES, POINTER(Pair), c_size_t, *ORDER, *LEVELS, *TOTAL],
+    "minorder_levels_with_lengths": [*TABLES, *ORDER, *LEVELS],
+    "minorder_sift_with_lengths": [*TABLES, *ORDER, *LEVELS, *TOTAL],
+    "minorder_check": [*TABLES, POINTER(c_uint8), c_size_t, POINTER(Judged)],
+}
+
+_lock = Lock()
+_loaded: Optional[CDLL] = None
+
+
+def _candidates() -> Iterator[str]:
+    named = os.environ.get("MINORDER_LIBRARY")
+    if named:
+        yield named
+        return
+    for name in (NAME, "libminorder.so"):
+        beside = os.path.join(os.path.dirname(os.path.abspath(__file__)), name)
+        if os.path.exists(beside):
+            yield beside
+            return
+    yield NAME
+    found = find_library("minorder")
+    if found:
+        yield found
+
+
+def _load() -> CDLL:
+    why = ""
+    for path in _candidates():
+        try:
+            loaded = CDLL(path)
+            for name, arguments in CALLS.items():
+                call = getattr(loaded, name)
+                call.argtypes, call.restype = arguments, c_uint32
+            return loaded
+        except OSError as error:
+            why = why or str(error)
+        except AttributeError as error:
+            raise NoLibrary(f"{path} is no {NAME} that this package can call: {error}") from error
+    raise NoLibrary(f"{why}; install minorder, or set MINORDER_LIBRARY to the file {NAME}")
+
+
+def library() -> CDLL:
+    """The library, loaded by the first call."""
+    global _loaded
+    with _lock:
+        if _loaded is None:
+            _loaded = _load()
+        return _loaded

@@ -1,0 +1,256 @@
+"""Worked cases, each refusal, random functions beside the program's reports, several threads.
+
+    python3 -m unittest discover -s bindings/python/tests
+
+MINORDER_PROGRAM is the program that the reports come from, ./minorder at the top of the repository if it isn't set.
+"""
+import os
+import random
+import subprocess
+import sys
+import tempfile
+import threading
+import unittest
+
+HERE = os.path.dirname(os.path.abspath(__file__))
+TOP = os.path.dirname(os.path.dirname(os.path.dirname(HERE)))
+sys.path.insert(0, os.path.dirname(HERE))
+
+import minorder  # noqa: E402
+from minorder import _calls  # noqa: E402
+
+PROGRAM = os.environ.get("MINORDER_PROGRAM", f"{TOP}/minorder")
+COUNT = int(os.environ.get("MINORDER_COUNT", "200"))
+
+
+def multiplexer(a, b, s):
+    return b if s else a
+
+
+def products(*x):
+    return x[0] and x[3] or x[1] and x[4] or x[2] and x[5]
+
+
+def widths(tables, order):
+    """Level counts by the definition: of the functions got by fixing the variables above a level, those that depend on the level's."""
+    inputs = len(order)
+
+    def below(table, level):
+        """The table over the variables from a level on, top first, for each assignment of those above."""
+        rows = {}
+        for point in range(1 << inputs):
+            above = tuple(point >> x & 1 for x in order[:level])
+            place = sum((point >> x & 1) << (inputs - 1 - i) for i, x in enumerate(order))
+            rows.setdefault(above, {})[place & (1 << (inputs - level)) - 1] = table >> point & 1
+        return [tuple(row[place] for place in sorted(row)) for row in rows.values()]
+
+    counts = []
+    for level in range(inputs):
+        reached = {row for table in tables for row in below(table, level)}
+        counts.append(sum(row[:len(row) // 2] != row[len(row) // 2:] for row in reached))
+    return tuple(counts)
+
+
+def random_tables(source, inputs, outputs):
+    return [source.getrandbits(1 << inputs) & source.getrandbits(1 << inputs) for _ in range(outputs)]
+
+
+def pla(inputs, tables):
+    """The functions as a PLA file: a line for each point where one of them is 1."""
+    lines = [f".i {inputs}", f".o {len(tables)}"]
+    for point in range(1 << inputs):
+        values = [table >> point & 1 for table in tables]
+        if any(values):
+            lines.append("".join(str(point >> i & 1) for i in range(inputs)) + " " + "".join(map(str, values)))
+    return "\n".join([*lines, ".e", ""])
+
+
+class Folder(unittest.TestCase):
+    def setUp(self):
+        folder = tempfile.TemporaryDirectory()
+        self.addCleanup(folder.cleanup)
+        self.path = f"{folder.name}/it"
+
+    def report(self, inputs, tables, *words):
+        """What the program reports of functions, by the names of the lines."""
+        with open(f"{self.path}.pla", "w") as file:
+            file.write(pla(inputs, tables))
+        found = subprocess.run([PROGRAM, *words, f"{self.path}.pla"], stdout=subprocess.PIPE, text=True, check=True).stdout
+        return dict(line.split(": ") for line in found.splitlines())
+
+
+class WorkedCases(Folder):
+    def test_multiplexer(self):
+        found = minorder.exact(multiplexer, 3)
+        self.assertEqual(found, ((2, 0, 1), (1, 1, 1), 3))
+        self.assertEqual((found.order, found.levels, found.total), tuple(found))
+
+    def test_a_table_in_each_form(self):
+        number = 0b11001010
+        for table in (number, number.to_bytes(1, "little"), bytearray([number]), memoryview(bytes([number])), multiplexer, [number], (multiplexer,)):
+            self.assertEqual(minorder.exact(table, 3).total, 3)
+
+    def test_products(self):
+        self.assertEqual(minorder.exact(products, inputs=6), ((0, 3, 1, 4, 2, 5), (1,) * 6, 6))
+        self.assertEqual(minorder.levels(products, range(6)), (1, 2, 4, 4, 2, 1))
+        self.assertEqual(minorder.levels([products], [0, 3, 1, 4, 2, 5]), (1,) * 6)
+        self.assertEqual(minorder.sift(products, [0, 3, 1, 4, 2, 5]).total, 6)
+
+    def test_pairs(self):
+        self.assertEqual(minorder.exact(products, 6, above=[(3, 0)]).order, (1, 4, 2, 5, 3, 0))
+        halves = [(a, b) for a in range(3) for b in range(3, 6)]
+        self.assertEqual(minorder.exact(products, 6, halves), ((0, 1, 2, 3, 4, 5), (1, 2, 4, 4, 2, 1), 14))
+        self.assertEqual(minorder.exact(products, 6, iter([(0, 3), (0, 3)])).total, 6)
+
+    def test_several_outputs_and_constants(self):
+        self.assertEqual(minorder.exact([0b1000, 0b0110], 2), ((0, 1), (2, 2), 4))
+        self.assertEqual(minorder.exact([0, 0xF], 2), ((0, 1), (0, 0), 0))
+
+    def test_certificates(self):
+        self.report(3, [0b11001010], "--cert", f"{self.path}.cert")
+        with open(f"{self.path}.cert") as file:
+            text = file.read()
+        good = minorder.check(multiplexer, text)
+        self.assertTrue(good)
+        self.assertEqual(good, ("Valid", 0, 0))
+        self.assertEqual(minorder.check(multiplexer, text.encode(), inputs=3), good)
+        bad = minorder.check(multiplexer, text.replace("total 3", "total 2"))
+        self.assertFalse(bad)
+        self.assertEqual(bad.reason, "Total")
+        self.assertEqual(minorder.check([multiplexer, multiplexer], text).reason, "Shape")
+        self.assertEqual(minorder.check(0b10, text, inputs=1).reason, "Shape")
+        self.assertEqual(minorder.check(0b11001100, text).reason, "Levels")
+
+
+class Refusals(unittest.TestCase):
+    def refused(self, error, call, *arguments, **named):
+        with self.assertRaises(error) as caught:
+            call(*arguments, **named)
+        self.assertIsInstance(caught.exception, minorder.MinorderError)
+        self.assertTrue(str(caught.exception))
+
+    def test_shapes(self):
+        for tables, inputs in ((0, 0), (0, 17), (0, -1), ([], 3), ([0] * 17, 3), (256, 3), (-1, 3), (b"", 3), (bytes(2), 3), (b"\x10", 2), ([1, 1 << 8], 3)):
+            self.refused(minorder.BadShape, minorder.exact, tables, inputs)
+        self.refused(minorder.BadShape, minorder.levels, 0, [])
+        self.refused(minorder.BadShape, minorder.sift, 0, range(17))
+        self.refused(minorder.BadShape, minorder.check, 0, "", inputs=17)
+
+    def test_orders(self):
+        for order in ([0, 1, 1], [0, 1, 3], [-1, 0, 1], [0, 1, 256]):
+            self.refused(minorder.BadOrder, minorder.levels, 1, order)
+            self.refused(minorder.BadOrder, minorder.sift, 1, order)
+
+    def test_pairs(self):
+        for pairs in ([(0, 0)], [(0, 1), (1, 0)], [(0, 3)], [(-1, 0)], [(256, 0)]):
+            self.refused(minorder.BadPairs, minorder.exact, 1, 3, above=pairs)
+
+    def test_certificates(self):
+        for text in ("", "certificate", b"\xff", "bddorder-certificate 1\ninputs 3\n"):
+            self.refused(minorder.BadCertificate, minorder.check, 1, text)
+            self.refused(minorder.BadCertificate, minorder.check, 1, text, inputs=3)
+
+    def test_what_the_library_refuses(self):
+        for status, error in ((2, minorder.BadShape), (3, minorder.BadCertificate), (5, minorder.BadOrder), (6, minorder.MinorderError), (8, minorder.BadPairs), (99, minorder.MinorderError)):
+            self.refused(error, _calls._done, status)
+        with self.assertRaises(MemoryError):
+            _calls._done(4)
+
+    def test_types(self):
+        for call in (lambda: minorder.exact("1", 3), lambda: minorder.exact(1.5, 3), lambda: minorder.exact(1, "3"), lambda: minorder.levels(1, ["0"]), lambda: minorder.exact(1, 3, [0, 1])):
+            self.assertRaises(TypeError, call)
+
+    def test_a_function_that_fails(self):
+        self.assertRaises(ZeroDivisionError, minorder.exact, lambda a: 1 // 0, 1)
+
+    def elsewhere(self, script, **environment):
+        """What another interpreter prints."""
+        words = [sys.executable, "-c", f"import sys; sys.path.insert(0, {os.path.dirname(HERE)!r})\nimport minorder\n" + script]
+        return subprocess.run(words, env={**os.environ, **environment}, stdout=subprocess.PIPE, text=True, check=True).stdout
+
+    def test_other_libraries(self):
+        script = "try:\n    minorder.exact(1, 3)\nexcept minorder.NoLibrary as error:\n    print(error)\n"
+        self.assertIn("MINORDER_LIBRARY", self.elsewhere(script, MINORDER_LIBRARY="/there/is/none.so"))
+        self.assertIn("is no libminorder", self.elsewhere(script, MINORDER_LIBRARY="libc.so.6"))
+
+    def test_memory(self):
+        script = (
+            "import resource, random\n"
+            "tables = [random.getrandbits(1 << 16) for _ in range(16)]\n"
+            "minorder.exact(1, 3)\n"
+            "held = int(open('/proc/self/statm').read().split()[0]) * resource.getpagesize()\n"
+            "resource.setrlimit(resource.RLIMIT_AS, (held + (1 << 20),) * 2)\n"
+            "try:\n    minorder.exact(tables, 16)\nexcept MemoryError as error:\n    print(error)\n")
+        self.assertEqual(self.elsewhere(script), "the library was refused memory\n")
+
+
+class BesideTheProgram(Folder):
+    def test_random_functions(self):
+        source = random.Random(2)
+        for number in range(COUNT):
+            inputs, outputs = source.randint(1, 8), source.randint(1, 4)
+            tables = random_tables(source, inputs, outputs)
+            pairs = [tuple(sorted(source.sample(range(inputs), 2), reverse=True)) for _ in range(source.randint(0, 3) if inputs > 1 else 0)]
+            words = ["--above", ":".join(f"{a},{b}" for a, b in pairs)] if pairs else []
+            report = self.report(inputs, tables, "--cert", f"{self.path}.cert", *words)
+            with self.subTest(number=number, inputs=inputs, tables=tables, pairs=pairs):
+                found = minorder.exact(tables, inputs, pairs)
+                self.assertEqual(report["order"], " ".join(map(str, found.order)))
+                self.assertEqual(report["levels"], " ".join(map(str, found.levels)))
+                self.assertEqual(report["nodes"], str(found.total))
+                self.assertEqual(found.levels, widths(tables, found.order))
+                self.assertEqual(report["file order nodes"], str(sum(minorder.levels(tables, range(inputs)))))
+                if not pairs:
+                    sifted = minorder.sift(tables, range(inputs))
+                    self.assertEqual(report["sifted order"], " ".join(map(str, sifted.order)))
+                    self.assertEqual(report["sifted nodes"], str(sifted.total))
+                    self.assertEqual(sifted.levels, widths(tables, sifted.order))
+                with open(f"{self.path}.cert") as file:
+                    self.assertTrue(minorder.check(tables, file.read()))
+
+
+class Threads(unittest.TestCase):
+    def test_four_at_a_time(self):
+        source = random.Random(3)
+        cases = [random_tables(source, 10, 2) for _ in range(16)]
+        alone = [minorder.exact(tables, 10) for tables in cases]
+        found = [None] * len(cases)
+
+        def work(first):
+            for number in range(first, len(cases), 4):
+                found[number] = minorder.exact(cases[number], 10)
+
+        threads = [threading.Thread(target=work, args=(first,)) for first in range(4)]
+        for thread in threads:
+            thread.start()
+        for thread in threads:
+            thread.join()
+        self.assertEqual(found, alone)
+
+    def test_the_interpreter_goes_on_during_a_call(self):
+        tables = random_tables(random.Random(4), 14, 4)
+        began, done = threading.Event(), threading.Event()
+
+        def work():
+            began.set()
+            minorder.exact(tables, 14)
+            done.set()
+
+        thread = threading.Thread(target=work)
+        thread.start()
+        began.wait()
+        steps = 0
+        while not done.is_set():
+            steps += 1
+        thread.join()
+        self.assertGreater(steps, 1000)
+
+
+class Package(unittest.TestCase):
+    def test_version(self):
+        with open(f"{TOP}/VERSION") as file:
+            self.assertEqual(file.read().strip(), minorder.__version__)
+
+
+if __name__ == "__main__":
+    unittest.main()

@@ -1,0 +1,21 @@
+#!/usr/bin/env bash
+# check.sh PROGRAM     compares the level counts of PROGRAM's reports of all examples with those of the diagrams that draw.py makes
+set -euo pipefail
+[ $# = 1 ] || { echo "usage: draw/check.sh PROGRAM" >&2; exit 1; }
+here=$(cd "$(dirname "${BASH_SOURCE[0]}")" && pwd)
+made=$(mktemp -d)
+trap 'rm -rf "$made"' EXIT
+for file in "$here"/../examples/*.pla; do
+    "$1" "$file" > "$made/report"
+    "$here/draw.py" "$file" < "$made/report" > "$made/dot"
+    # a wrong count is seen
+    ! sed 's/^levels: ./levels: 9/; s/^nodes: .*/nodes: 9/' "$made/report" | "$here/draw.py" "$file" > "$made/wrong" 2>&1 ||
+        { echo "draw.py takes a wrong report of $file" >&2; exit 1; }
+done
+echo "draw.py: the level counts of all examples are those of the reports"
+if command -v dot > /dev/null; then
+    "$1" "$here/../examples/products3.pla" | "$here/draw.py" --both --svg "$made/it.svg" "$here/../examples/products3.pla"
+    grep -q '</svg>' "$made/it.svg"
+else
+    echo "left out: no dot here"
+fi

@@ -1,0 +1,195 @@
+#!/usr/bin/env bash
+# install.sh [PREFIX]               installs the programs, the library, their pages and documents, /usr/local if PREFIX is left out
+# install.sh --uninstall [PREFIX]   takes away what it installed
+# What isn't built is built first. Everything is put under $DESTDIR$PREFIX if DESTDIR is set. CC is the C compiler, cc if it isn't set.
+set -euo pipefail
+umask 022
+top=$(cd "$(dirname "${BASH_SOURCE[0]}")" && pwd)
+list=share/minorder/files
+
+fail() {
+    echo "install.sh: $*" >&2
+    exit 1
+}
+
+usage() { sed -n '2,4s/^# //p' "${BASH_SOURCE[0]}"; }
+
+# ---- the tree, as it is put under the prefix
+
+programs() {
+    command -v "${compiler[0]}" > /dev/null || fail "no C compiler: ${compiler[0]} isn't there; install one or set CC"
+    local program
+    for program in minorder ordercheck; do
+        "$top/$program" --help > /dev/null || fail "$program can't be built"
+    done
+    "$top/libminorder" > /dev/null || fail "lib/libminorder.a can't be built"
+}
+
+shared_library() {
+    echo '{ global: minorder_*; local: *; };' > "$made/exports"
+    "${compiler[@]}" -shared -Wl,-soname,libminorder.so.1 -Wl,--version-script="$made/exports" -Wl,-z,defs -Wl,--gc-sections \
+        -Wl,--whole-archive "$top/lib/libminorder.a" -Wl,--no-whole-archive -s -o "$made/tree/lib/libminorder.so.1" ||
+        fail "${compiler[*]} can't make the shared library"
+    ln -s libminorder.so.1 "$made/tree/lib/libminorder.so"
+}
+
+# The folder of the .pc file leads to the prefix, so that the tree can be moved.
+package_file() {
+    cat << END > "$made/tree/lib/pkgconfig/minorder.pc"
+prefix=\${pcfiledir}/../..
+libdir=\${prefix}/lib
+includedir=\${prefix}/include
+
+Name: minorder
+Description: Exact minimum variable orders of binary decision diagrams
+Version: $(< "$top/VERSION")
+Cflags: -I\${includedir}
+Libs: -L\${libdir} -lminorder
+END
+}
+
+# put MODE FOLDER FILE..
+put() {
+    install -d "$made/tree/$2"
+    install -m "$1" "${@:3}" "$made/tree/$2"
+}
+
+tree() {
+    put 755 bin "$top/crates/minorder/out/minorder" "$top/crates/ordercheck/out/ordercheck"
+    put 644 lib "$top/lib/libminorder.a"
+    shared_library
+    put 644 include "$top/include/minorder.h"
+    install -d "$made/tree/lib/pkgconfig"
+    package_file
+    put 644 share/man/man1 "$top"/man/*.1
+    put 644 share/man/man3 "$top"/man/*.3
+    put 644 share/doc/minorder "$top"/docs/{USING,PROVED,OPTIMA}.md "$top"/docs/optima_*.svg "$top/optima/optima.csv" "$top/CHANGES.md"
+    put 644 share/doc/minorder/examples "$top"/examples/*.{pla,report,cert}
+    put 755 share/minorder "$top/draw/draw.py"
+    put 644 share/minorder/python "$top/bindings/python/pyproject.toml"
+    put 644 share/minorder/python/backend "$top"/bindings/python/backend/*.py
+    put 644 share/minorder/python/minorder "$top"/bindings/python/minorder/{*.py,py.typed}
+}
+
+# ---- putting it there: each file beside its place first, then all by a rename
+
+copies=() folders=()
+
+undo() {
+    local i
+    ((${#copies[@]} == 0)) || rm -f -- "${copies[@]}"
+    for ((i = ${#folders[@]} - 1; i >= 0; i--)); do
+        rmdir --ignore-fail-on-non-empty -- "${folders[i]}" || true
+    done
+}
+
+finish() {
+    local status=$?
+    ((status == 0)) || undo
+    rm -rf "$made"
+    exit "$status"
+}
+
+# make_folder PATH: the folder and those above it that aren't there, each noted
+make_folder() {
+    [ -d "$1" ] && return
+    make_folder "$(dirname "$1")"
+    mkdir -- "$1" || fail "the folder $1 can't be made"
+    folders+=("$1")
+}
+
+copy_all() {
+    local name place
+    while read -r name; do
+        place=$root/$name
+        [ ! -d "$place" ] || [ -L "$place" ] || fail "$place is a folder"
+        make_folder "$(dirname "$place")"
+        copies+=("$(dirname "$place")/.${place##*/}.$$")
+        cp -P -- "$made/tree/$name" "${copies[-1]}" || fail "$place can't be written"
+    done < "$made/names"
+}
+
+rename_all() {
+    local name place i=0
+    while read -r name; do
+        place=$root/$name
+        mv -fT -- "${copies[i++]}" "$place" || fail "$place can't be written"
+    done < "$made/names"
+}
+
+# What a list names, without what would lead out of the prefix.
+listed() { grep -Ev '^/|(^|/)\.\.(/|$)' "$root/$list" || true; }
+
+install_tree() {
+    read -ra compiler <<< "${CC:-cc}"
+    made=$(mktemp -d)
+    trap finish EXIT
+    local above=$root folder
+    until [ -e "$above" ]; do above=$(dirname "$above"); done
+    [ -d "$above" ] || fail "$above is no folder"
+    [[ -w $above && -x $above ]] || fail "$above can't be written: choose another PREFIX, or install as a user who may write there"
+    programs
+    install -d "$made/tree/lib"
+    tree
+    (cd "$made/tree" && find . ! -type d -printf '%P\n' | sort) > "$made/names"
+    echo "$list" >> "$made/names"
+    touch "$made/tree/$list"
+    copy_all
+    # the list is the files, and the folders that this call or one before it made
+    local old=() name
+    [ ! -e "$root/$list" ] || mapfile -t old < <(listed)
+    {
+        cat "$made/names"
+        for folder in "${folders[@]}"; do
+            [[ $folder/ != "$root/"* ]] || echo ".${folder#"$root"}/"
+        done
+        printf '%s\n' "${old[@]}" | grep '/$' || true
+    } > "${copies[-1]}"
+    rename_all
+    copies=() folders=()
+    # files of an earlier version that this one hasn't
+    for name in "${old[@]}"; do
+        [[ $name == */ ]] || grep -qxF -- "$name" "$made/names" || rm -f -- "$root/$name"
+    done
+    # lets the loader see the library in its own folders
+    [ -n "${DESTDIR:-}" ] || [ "$(id -u)" != 0 ] || ldconfig 2> /dev/null || true
+    echo "installed in $root"
+}
+
+uninstall() {
+    [ -r "$root/$list" ] || fail "nothing that this script installed is in $root"
+    local names name
+    mapfile -t names < <(listed)
+    for name in "${names[@]}"; do
+        [ ! -e "$root/$name" ] || [ -w "$(dirname "$root/$name")" ] || fail "$root/$name can't be taken away"
+    done
+    # what Python keeps of the package's modules
+    rm -rf -- "$root/share/minorder/python/minorder/__pycache__" "$root/share/minorder/python/backend/__pycache__"
+    for name in "${names[@]}"; do
+        [[ $name == */ ]] || rm -f -- "$root/$name"
+    done
+    printf '%s\n' "${names[@]}" | grep '/$' | sort -r | while read -r name; do
+        name=$root/${name#./}
+        [ ! -d "$name" ] || rmdir --ignore-fail-on-non-empty -- "${name%/}" || true
+    done
+    echo "taken away from $root"
+}
+
+# ---- the words
+
+act=install_tree
+case ${1:-} in
+    --uninstall) act=uninstall && shift ;;
+    -h | --help) usage && exit ;;
+esac
+(($# <= 1)) || fail "too many words: $(usage)"
+prefix=${1-/usr/local}
+case $prefix in
+    '') fail "PREFIX is empty" ;;
+    -*) fail "$prefix: no such option"$'\n'"$(usage)" ;;
+    /*) ;;
+    *) prefix=$PWD/$prefix ;;
+esac
+[ "$prefix" = / ] || prefix=${prefix%/}
+root=${DESTDIR:-}${prefix}
+"$act"

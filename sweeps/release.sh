@@ -1,0 +1,69 @@
+#!/usr/bin/env bash
+# release.sh     tries the release that build/release.sh made, from an empty folder: its sums, the programs alone on the path, the
+#                library for C by pkg-config, the shared library from Python; the .deb's tree likewise
+set -euo pipefail
+top=$(cd "$(dirname "${BASH_SOURCE[0]}")/.." && pwd)
+version=$(< "$top/VERSION")
+made=$(mktemp -d)
+trap 'rm -rf "$made"' EXIT
+fail() { echo "sweeps/release.sh: $*" >&2; exit 1; }
+has() { command -v "$1" > /dev/null || { echo "left out: no $1 here"; return 1; }; }
+
+# run NAME WORD..: a program with nothing else on the path
+run() { (PATH=$tree/bin; "$@"); }
+
+programs() {
+    local file count=0
+    for file in "$tree"/share/doc/minorder/examples/*.pla; do
+        run minorder "$file" | cmp - "${file%.pla}.report" || fail "$file: another report"
+        run minorder --cert "$made/cert" "$file" > "$made/report"
+        [ "$(run ordercheck "$file" "$made/cert")" = "valid $(sed -n 's/^nodes: //p' "$made/report")" ] || fail "$file: the certificate isn't valid"
+        count=$((count + 1))
+    done
+    for file in "$tree"/share/doc/minorder/examples/*.cert; do
+        run ordercheck "${file%.cert}.pla" "$file" > /dev/null || fail "$file isn't valid"
+    done
+    ((count > 0)) || fail "no examples"
+    echo "$count examples: reports and certificates as they are to be"
+}
+
+# The C program that USING.md shows, with the shared library and with the archive.
+c_example() {
+    if ! has pkg-config || ! has "${CC:-cc}"; then return; fi
+    sed -n '/^```c$/,/^```$/{/^```/d;p}' "$tree/share/doc/minorder/USING.md" > "$made/example.c"
+    local flags
+    read -ra flags < <(PKG_CONFIG_PATH=$tree/lib/pkgconfig pkg-config --cflags --libs minorder)
+    "${CC:-cc}" "$made/example.c" "${flags[@]}" -o "$made/example"
+    [ "$(LD_LIBRARY_PATH=$tree/lib "$made/example")" = "0 3 1 4 2 5 6" ] || fail "the C example prints something else"
+    "${CC:-cc}" "$made/example.c" -I "$tree/include" "$tree/lib/libminorder.a" -o "$made/example"
+    [ "$("$made/example")" = "0 3 1 4 2 5 6" ] || fail "the C example prints something else with the archive"
+    echo "the C example by pkg-config and with the archive: as USING.md says"
+}
+
+python() {
+    has python3 || return 0
+    local script='import minorder; print(minorder.exact(lambda a, b, s: b if s else a, 3))'
+    [ "$(PYTHONDONTWRITEBYTECODE=1 PYTHONPATH=$tree/share/minorder/python MINORDER_LIBRARY=$tree/lib/libminorder.so.1 python3 -c "$script")" = \
+        "Result(order=(2, 0, 1), levels=(1, 1, 1), total=3)" ] || fail "Python prints something else"
+    echo "the shared library from Python: as it is to be"
+}
+
+try_tree() {
+    programs
+    c_example
+    python
+}
+
+cd "$made"
+(cd "$top/out" && sha256sum --quiet -c SHA256SUMS)
+tar -xzf "$top/out/minorder-$version-linux-x86_64.tar.gz"
+tree=$made/minorder-$version-linux-x86_64
+(cd "$tree" && sha256sum --quiet -c SHA256SUMS)
+cat "$tree/share/doc/minorder/PROVED_WITH"
+try_tree
+if [ -e "$top/out/minorder_${version}_amd64.deb" ] && has dpkg-deb; then
+    dpkg-deb -f "$top/out/minorder_${version}_amd64.deb" Package Version Depends
+    dpkg-deb -x "$top/out/minorder_${version}_amd64.deb" deb
+    tree=$made/deb/usr
+    try_tree
+fi
