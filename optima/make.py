@@ -26,7 +26,7 @@ ABOUT = """# True optima
 
 The fewest decision nodes that any variable order gives, of functions that the field measures orders on. A node is a decision node of the shared reduced ordered diagram of all outputs, with one root per output and without complement edges; terminals aren't counted. Packages with complement edges (CUDD) have other numbers.
 
-Each optimum is proved: `minorder` found it, and `ordercheck`, which shares no code with the search, accepted its certificate. `optima/functions.py NAME` writes a function's PLA file, and
+Each optimum is proved: `minorder` found it, and `ordercheck`, which takes no step of the search, accepted its certificate. `optima/functions.py NAME` writes a function's PLA file, and
 
 ```
 python3 optima/make.py
