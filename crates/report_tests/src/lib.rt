@@ -2,8 +2,8 @@
 #![tactic(auto)]
 
 #[cfg(test)]
-mod checks;
-#[cfg(test)]
 mod devices;
 #[cfg(test)]
 mod runs;
+#[cfg(test)]
+mod verdicts;
