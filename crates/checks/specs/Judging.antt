@@ -2,6 +2,7 @@
 --     Judge file text outcome line      the file's fault, else the certificate's, else the line of the verdict
 --     ChecksAs file text before after outcome      what a check writes
 --     Verdicts before after outcome      what it writes, whatever is known of its files
+--     MayEndCheck fault      the faults that standard error may name
 use Rattle.std.specs.Prelude.{◌≡◌, ◌⊎◌, ℕ, ◌<◌, ◌≤◌, List, [], length, take, Option, Result, Ok, Err, Some, codes}
 use Rattle.std.specs.Io.KnownBytes.{Appends}
 use Rattle.order_model.specs.Certificates.{Certificate, Reason, IsGood, IsFirstReason}
@@ -113,3 +114,9 @@ IsInvalid words before after = Checks words before after Invalid
 -- what it leaves if a device failed: nothing, or a beginning of the line of a verdict
 abbrev pub ChecksInPart : List (List ℕ) → Option (List ℕ) → Option (List ℕ) → Type 0
 ChecksInPart words before after = Checks words before after (Refused Device)
+
+-- the faults that may end a check: none of a store and none of pairs
+abbrev pub MayEndCheck : Fault → Type 0
+MayEndCheck StoreFull = ⊥
+MayEndCheck (Pairs fault) = ⊥
+MayEndCheck fault = Unit {0}

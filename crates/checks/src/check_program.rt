@@ -1,16 +1,17 @@
 //! The program ordercheck: words, files and messages.
 
-ghost use Rattle.std.specs.Prelude.{◌≡◌, ◌≢◌, ◌<◌, ◌^◌, IsTrue};
+ghost use Rattle.std.specs.Prelude.{◌≡◌, ◌≢◌, ◌<◌, ◌≤◌, ◌^◌, IsTrue};
 ghost use Rattle.order_model.specs.Orders.{has};
 ghost use Rattle.command_line.specs.Lines.{LacksPaths, ordercheck as ordercheck_line, texts};
 ghost use Rattle.command_line.specs.Usages.{AreFaulty, TurnsAway};
-ghost use Rattle.checks.specs.Judging.{ChecksInPart, ChecksWell, IsCheckOf, IsInvalid, Verdicts};
+ghost use Rattle.checks.specs.Judging.{ChecksInPart, ChecksWell, IsCheckOf, IsInvalid, MayEndCheck, Verdicts};
+ghost use Rattle.outcomes.specs.Messages.{IsTold, writer};
 ghost use Rattle.outcomes.specs.Statuses.{check_exits};
 
 use crate::checks::run_check;
 use command_line::CheckLine;
 use counted_io::{CountedWrite, Counting};
-use outcomes::{Fault, Outcome, write_fault, write_usage};
+use outcomes::{Fault, Outcome, Program, write_fault, write_usage};
 use std::fs;
 use std::rt::Files;
 use std::thread::Threads;
@@ -58,17 +59,22 @@ pub fn ordercheck<'a, R: Files + AllocGlobal + Threads + Sync, W: CountedWrite, 
     ensures part { result ≡ 5 →
         ChecksInPart (texts words.now) (W.contents out.old) (W.contents out.new) }
     ensures check { result ≡ 3 → IsCheckOf (texts words.now) }
-    ensures quiet { result ≡ 0 → E.contents err.new ≡ E.contents err.old }
+    ensures quiet { result ≤ 1 → E.contents err.new ≡ E.contents err.old }
     ensures silent { result ≢ 0 → result ≢ 1 → result ≢ 5 →
         W.contents out.new ≡ W.contents out.old }
+    // the line of a fault with that status
+    ensures told { result ≢ 0 → result ≢ 1 → result ≢ 2 →
+        IsTold Program.Ordercheck MayEndCheck result
+        (writer (E.contents err.old) (E.failures err.old))
+        (writer (E.contents err.new) (E.failures err.new)) }
 {
     let line = match CheckLine::of_words(rt.alloc(), words) {
         Ok(line) => line,
-        Err(usage) => return write_usage(rt.alloc(), "ordercheck", &usage, out, err),
+        Err(usage) => return write_usage(rt.alloc(), Program::Ordercheck, &usage, out, err),
     };
     let outcome = check_files(rt, &line, out);
     if let Some(fault) = outcome.fault() {
-        write_fault(err, "ordercheck", fault);
+        write_fault(err, Program::Ordercheck, fault);
     }
     outcome.status()
 }

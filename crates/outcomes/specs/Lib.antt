@@ -2,4 +2,5 @@ pub mod Statuses
 pub mod Plans
 pub mod Limits
 pub mod Texts
+pub mod Messages
 pub mod Headline

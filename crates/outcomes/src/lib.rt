@@ -2,8 +2,10 @@
 //! words are.
 #![tactic(auto)]
 
+mod fault_lines;
 mod messages;
 mod outcome;
 
+pub use fault_lines::Program;
 pub use messages::{words_of_program, write_fault, write_usage};
 pub use outcome::{Fault, Outcome};

@@ -2,16 +2,16 @@
 
 ghost use Rattle.std.specs.Prelude.{◌≡◌, ◌≢◌, ◌<◌, ◌^◌, IsTrue};
 ghost use Rattle.order_model.specs.Orders.{has};
+ghost use Rattle.outcomes.specs.Messages.{Receives, fault_line as line_of, writer};
 ghost use Rattle.outcomes.specs.Statuses.{IsHelp, IsRefusal, usage_exits};
 
+use crate::fault_lines::{Program, fault_line};
 use crate::outcome::Fault;
-use arrayvec::ArrayString;
 use command_line::Usage;
 use counted_io::{CountedWrite, write_whole};
 use std::alloc::Global;
 use std::env;
 use std::env::Env;
-use std::fmt::Write;
 use std::io::ErrorKind;
 
 /// The status of words that are no text.
@@ -19,9 +19,6 @@ const WORDS_STATUS: u8 = 2;
 
 /// The status of a program that is out of memory.
 const MEMORY_STATUS: u8 = 4;
-
-/// The longest line of a fault has a name, two numbers and two words.
-const LONGEST_FAULT: usize = 128;
 
 /// The words after a program's name, or its exit status if they can't be had: 2 if one is no text,
 /// 4 out of memory.
@@ -37,11 +34,12 @@ pub fn words_of_program<R: Env + AllocGlobal>(rt: &R) -> Result<Vec<String>, u8>
 }
 
 /// Writes why a program was refused, which takes no memory. A failure of the writer has no effect.
-pub fn write_fault<E: CountedWrite>(err: &mut E, program: &str, fault: Fault)
+pub fn write_fault<E: CountedWrite>(err: &mut E, program: Program, fault: Fault)
     requires { E.failures err.old < 2 ^ 32 }
+    ensures { Receives (line_of program fault) (writer (E.contents err.old) (E.failures err.old))
+        (writer (E.contents err.new) (E.failures err.new)) }
 {
-    let mut line: ArrayString<LONGEST_FAULT> = ArrayString::new();
-    let _ = write!(line, "{program}: {fault}\n");
+    let line = fault_line(program, fault);
     let _ = write_whole(err, line.as_str().as_bytes());
 }
 
@@ -49,7 +47,7 @@ pub fn write_fault<E: CountedWrite>(err: &mut E, program: &str, fault: Fault)
 /// Returns the exit status.
 pub fn write_usage<W: CountedWrite, E: CountedWrite>(
     alloc: Global,
-    program: &str,
+    program: Program,
     usage: &Usage,
     out: &mut W,
     err: &mut E,
@@ -61,6 +59,10 @@ pub fn write_usage<W: CountedWrite, E: CountedWrite>(
     ensures refused { result ≡ 2 → IsRefusal usage.now }
     ensures quiet { result ≡ 0 → E.contents err.new ≡ E.contents err.old }
     ensures silent { result ≢ 0 → W.contents out.new ≡ W.contents out.old }
+    ensures told { result ≡ 4 →
+        Receives (line_of program Fault.OutOfMemory)
+        (writer (E.contents err.old) (E.failures err.old))
+        (writer (E.contents err.new) (E.failures err.new)) }
 {
     let text = match usage {
         Usage::Help(error) | Usage::Refused(error) => format!(in alloc; "{error}").ok(),

@@ -6,34 +6,25 @@ ghost use Rattle.outcomes.specs.Statuses.{certificate_refusal, refusal_of, statu
 use certificate::{CertFault, LineFault as CertificateFault};
 use order_model::PairsFault;
 use pla_reader::{LineFault, PlaError};
-use thiserror::Error;
 
-/// Why a run was refused. Its text is what the programs write after their name.
-#[derive(Clone, Copy, Debug, PartialEq, Eq, Error)]
+/// Why a run was refused.
+#[derive(Clone, Copy, Debug, PartialEq, Eq)]
 pub enum Fault {
     /// The first faulty line of the file, counted from 1, and its fault.
-    #[error("line {0}: {1}")]
     Line(usize, LineFault),
     /// The file has more than 16,777,216 bytes.
-    #[error("TooLong")]
     TooLong,
     /// An allocation was refused.
-    #[error("OutOfMemory")]
     OutOfMemory,
     /// A file was not opened or made, or a read or a write failed.
-    #[error("Device")]
     Device,
     /// A store for building from truth tables was full.
-    #[error("StoreFull")]
     StoreFull,
     /// The pairs that the order has to keep are refused.
-    #[error("{0}")]
     Pairs(PairsFault),
     /// The first faulty line of the certificate, counted from 1, and its fault.
-    #[error("certificate line {0}: {1}")]
     CertificateLine(usize, CertificateFault),
     /// The certificate has more than 1,048,576 bytes.
-    #[error("certificate: TooLong")]
     CertificateTooLong,
 }
 

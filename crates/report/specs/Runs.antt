@@ -5,6 +5,7 @@
 --     IsPlanOf words plan, EndsWell words before after      the plan of words; what a program writes that ends with status 0
 --     IsHindered plan IsRead outcome      which faults need a cover that was read
 --     IsRunOf words, IsFullRunOf words, IsFaultyRunOf words      what words ask for that end with the statuses 3, 6 and 8
+--     MayEndRun words fault      the faults that standard error may name
 use Rattle.std.specs.Prelude.{◌≡◌, ◌⊎◌, ℕ, ◌<◌, ◌≤◌, Bool, true, false, List, [], length, take, Option, Some, None, Err, codes, option_map}
 use Rattle.std.specs.Borrow.{Bor}
 use Rattle.std.specs.Io.KnownBytes.{Appends}
@@ -17,6 +18,7 @@ use Rattle.pla_reader.specs.Reading.{Reads, FirstFault}
 use Rattle.command_line.specs.declared.line.RunPlan.{RunPlan}
 use Rattle.command_line.specs.Lines.{IsFlag, IsNumber, faults_of, minorder, read_of, value_of}
 use Rattle.command_line.specs.Usages.{AsksForHelp}
+use Rattle.outcomes.specs.declared.outcome.Fault.{Fault}
 use Rattle.outcomes.specs.declared.outcome.Outcome.{Outcome}
 use Rattle.outcomes.specs.declared.outcome.Outcome.TheVariants.{Done, Invalid, Refused}
 use Rattle.outcomes.specs.declared.outcome.Fault.TheVariants.{Line, TooLong, OutOfMemory, Device, StoreFull, Pairs, CertificateLine, CertificateTooLong}
@@ -157,6 +159,15 @@ IsFaultyRunOf words =
     (plan : RunPlan) × IsPlanOf words plan × (plan.count ≡ false) × (cover : NamedCover) × IsCover cover
     × (fault : PairsFault)
     × PairsAre plan.above cover.inputs (Err fault)
+
+-- the faults that may end a run of the words: of pairs those of their list for some cover, and none of a certificate
+abbrev pub MayEndRun : List (List ℕ) → Fault → Type 0
+MayEndRun words (Pairs fault) =
+    (plan : RunPlan) × IsPlanOf words plan × (cover : NamedCover) × IsCover cover
+    × PairsAre plan.above cover.inputs (Err fault)
+MayEndRun words (CertificateLine line fault) = ⊥
+MayEndRun words CertificateTooLong = ⊥
+MayEndRun words fault = Unit {0}
 
 -- the failed calls of a writer that may be missing
 abbrev pub failures_in : {C : Type 0} → (C → ℕ) → Option C → ℕ

@@ -5,13 +5,14 @@ ghost use Rattle.order_model.specs.Orders.{has};
 ghost use Rattle.command_line.specs.Lines.{LacksArguments, minorder as minorder_line, texts};
 ghost use Rattle.command_line.specs.Usages.{AreFaulty, TurnsAway};
 ghost use Rattle.pla_reader.specs.Covers.{IsCover};
-ghost use Rattle.report.specs.Runs.{DeliversReport, EndsInPart, EndsWell, IsFaultyRunOf, IsFullRunOf, IsHindered, IsRunOf};
+ghost use Rattle.report.specs.Runs.{DeliversReport, EndsInPart, EndsWell, IsFaultyRunOf, IsFullRunOf, IsHindered, IsRunOf, MayEndRun};
+ghost use Rattle.outcomes.specs.Messages.{IsTold, writer};
 ghost use Rattle.outcomes.specs.Statuses.{exits};
 
 use crate::runs::run;
 use command_line::Line;
 use counted_io::{CountedWrite, Counting};
-use outcomes::{Fault, Outcome, write_fault, write_usage};
+use outcomes::{Fault, Outcome, Program, write_fault, write_usage};
 use std::fs;
 use std::rt::Files;
 use std::thread::Threads;
@@ -72,14 +73,19 @@ pub fn minorder<'a, R: Files + AllocGlobal + Threads + Sync, W: CountedWrite, E:
     ensures pairs { result ≡ 8 → IsFaultyRunOf (texts words.now) }
     ensures quiet { result ≡ 0 → E.contents err.new ≡ E.contents err.old }
     ensures silent { result ≢ 0 → result ≢ 5 → W.contents out.new ≡ W.contents out.old }
+    // the line of a fault with that status
+    ensures told { result ≢ 0 → result ≢ 2 →
+        IsTold Program.Minorder (MayEndRun (texts words.now)) result
+        (writer (E.contents err.old) (E.failures err.old))
+        (writer (E.contents err.new) (E.failures err.new)) }
 {
     let line = match Line::of_words(rt.alloc(), words) {
         Ok(line) => line,
-        Err(usage) => return write_usage(rt.alloc(), "minorder", &usage, out, err),
+        Err(usage) => return write_usage(rt.alloc(), Program::Minorder, &usage, out, err),
     };
     let outcome = run_on_files(rt, &line, out);
     if let Some(fault) = outcome.fault() {
-        write_fault(err, "minorder", fault);
+        write_fault(err, Program::Minorder, fault);
     }
     outcome.status()
 }
