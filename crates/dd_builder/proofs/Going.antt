@@ -18,6 +18,7 @@ use Rattle.dd_builder.specs.Making.{Makes}
 pub stays : (s : Knowledge) → Follows s s
 stays s = record {
   store = refl;
+  stake = omega arith;
   nodes = λ p full. refl;
   pieces = λ p full. refl;
   knows = λ id known. known;

@@ -11,11 +11,14 @@ use Rattle.unique_table.specs.Plans.{order_of, levels_of}
 use Rattle.unique_table.specs.Sessions.{StoreId, Knowledge, Follows, Knows, IsKnownBelow, depth_in}
 use Rattle.unique_table.specs.Insides.{knowledge, IsSession}
 use Rattle.unique_table.specs.Views.{Gains}
+use Rattle.unique_table.specs.Stakes.{IsNoLess}
+use Rattle.unique_table.proofs.Stakes.{no_less_same, no_less_trans}
 
-pub follows : (s s' : Knowledge) → AreNodes (levels_of s.store.plan) s.seen → s'.store ≡ s.store → Grows s.seen s'.seen →
-    Grows s.pieces s'.pieces → Follows s s'
-follows s s' are same g gp = record {
+pub follows : (s s' : Knowledge) → AreNodes (levels_of s.store.plan) s.seen → s'.store ≡ s.store → IsNoLess s.stake s'.stake →
+    Grows s.seen s'.seen → Grows s.pieces s'.pieces → Follows s s'
+follows s s' are same no_less g gp = record {
   store = same;
+  stake = no_less;
   nodes = g;
   pieces = gp;
   knows = λ id known two. grows_full s.seen s'.seen (id - 2) g (known two);
@@ -30,14 +33,16 @@ follows s s' are same g gp = record {
 pub follows_gains : (s s' : Inside) (k : Knowledge) → knowledge s ≡ k → IsSession s → s'.seat.table_id ≡ s.seat.table_id →
     Gains s.seat.me.0 s'.seat.me.0 → Follows k (knowledge s')
 follows_gains s s' k is kept table g = subst (λ (z : Knowledge). Follows z (knowledge s')) is
-    (follows (knowledge s) (knowledge s') kept.good.nodes (λ i. record { table = table i; plan = g.plan i }) g.nodes g.pieces)
+    (follows (knowledge s) (knowledge s') kept.good.nodes (λ i. record { table = table i; plan = g.plan i })
+    (no_less_same s.seat.me.0.stake s'.seat.me.0.stake g.stake) g.nodes g.pieces)
 
 pub follows_refl : (s : Knowledge) → AreNodes (levels_of s.store.plan) s.seen → Follows s s
-follows_refl s are = follows s s are refl (grows_refl s.seen) (grows_refl s.pieces)
+follows_refl s are = follows s s are refl (no_less_same s.stake s.stake refl) (grows_refl s.seen) (grows_refl s.pieces)
 
 pub follows_trans : (a b c : Knowledge) → Follows a b → Follows b c → Follows a c
 follows_trans a b c f g = record {
   store = g.store ∙ f.store;
+  stake = no_less_trans a.stake b.stake c.stake f.stake g.stake;
   nodes = grows_trans a.seen b.seen c.seen f.nodes g.nodes;
   pieces = grows_trans a.pieces b.pieces c.pieces f.pieces g.pieces;
   knows = λ id known. g.knows id (f.knows id known);

@@ -15,11 +15,13 @@ use Rattle.node_words.proofs.Functions.{denotes_grows, one_id}
 use Rattle.unique_table.specs.declared.plan.Plan.{Plan}
 use Rattle.unique_table.specs.declared.session.View.{View}
 use Rattle.unique_table.specs.Plans.{order_of, levels_of, piece_function}
-use Rattle.unique_table.specs.Picture.{StoreState, IsKept, nodes_of, pieces_of}
+use Rattle.unique_table.specs.Picture.{StoreState, IsKept, nodes_of, pieces_of, spent}
+use Rattle.unique_table.specs.Stakes.{IsWhole}
 use Rattle.unique_table.specs.Views.{After}
 use Rattle.unique_table.specs.Steps.{IsSeat, Becomes, put_words}
 use Rattle.unique_table.proofs.Rule.{M, pieces_grow, may_look, may_put, may_publish, may_collect, may_recall, may_remember}
 use Rattle.unique_table.proofs.Steps.{after_goes, gains_after}
+use Rattle.unique_table.proofs.Stakes.{no_other}
 
 module _ (b : Plan) (s : StoreState) (id : ℕ) (v : View) (is : IsSeat b s id v) where
   abbrev me : M
@@ -40,7 +42,7 @@ module _ (b : Plan) (s : StoreState) (id : ℕ) (v : View) (is : IsSeat b s id v
   becomes words homes m' wrote k a =
       record {
         kept =
-            record { order = k.order; size = k.size; stored = k.stored; entries = k.entries; pieces = k.pieces; seen = k.seen };
+            record { order = k.order; size = k.size; stored = k.stored; entries = k.entries; pieces = k.pieces; seen = k.seen; stakes = k.stakes };
         gains =
             gains_after v m'.0 wrote a;
       }
@@ -159,3 +161,9 @@ module _ (b : Plan) (s : StoreState) (i j : ℕ) (v w : View) (a : IsSeat b s i 
   pub same_id_functions : (x : ℕ) (f g : Function) → Denotes (order_of b) v.seen x f → Denotes (order_of b) w.seen x g → SameFunction (levels_of b) f g
   unfolding SameFunction
   same_id_functions x f g dx dy p l = sym ((in_words i v a x f dx).function p l) ∙ (in_words j w d x g dy).function p l
+
+-- beside a seat with the whole there is no other
+pub only_seat : (b : Plan) (s : StoreState) (i j : ℕ) (v w : View) → IsSeat b s i v → IsSeat b s j w → IsWhole v.stake → i ≡ j
+only_seat b s i j v w a d all = dite (ℕ_discrete i j)
+    (λ same. same)
+    (λ ne. absurd (no_other s.views j w d.seat d.kept.stakes i v spent refl ne a.seat (d.kept.seen j w d.seat d.live).stake all))

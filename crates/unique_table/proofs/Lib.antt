@@ -1,4 +1,6 @@
+pub mod Stakes
 pub mod Rule
+pub mod Starts
 pub mod Steps
 pub mod Following
 pub mod Opened

@@ -18,6 +18,8 @@ use Rattle.unique_table.specs.Sessions.{StoreId, Knowledge, Follows, MakesStep, 
 use Rattle.unique_table.specs.Insides.{store_id, IsStore, knowledge, IsSession}
 use Rattle.unique_table.specs.Views.{Gains}
 use Rattle.unique_table.specs.Seats.{Sitting, IsSeatOf, IsSeatAfter, IsNodeWord}
+use Rattle.unique_table.specs.Stakes.{IsNoLess}
+use Rattle.unique_table.proofs.Stakes.{no_less_same}
 use Rattle.unique_table.proofs.Following.{follows}
 
 abbrev pub seated : Sitting → Knowledge
@@ -69,19 +71,30 @@ module _ (t : store.Inside) (s : session.Inside) (T : StoreId) (K : Knowledge) (
     pub goes_on : Gains s.seat.me.0 seat.me.0 → Follows K (seated seat)
     goes_on g =
         follows K (seated seat) nodes_are (store_is t T seat is_t sits ∙ sym fits)
+        (subst (λ (z : Knowledge). IsNoLess z.stake seat.me.0.stake) is_s (no_less_same s.seat.me.0.stake seat.me.0.stake g.stake))
         (subst (λ (z : Knowledge). Grows z.seen seat.me.0.seen) is_s g.nodes)
         (subst (λ (z : Knowledge). Grows z.pieces seat.me.0.pieces) is_s g.pieces)
 
-    pub goes_grown : Grows s.seat.me.0.seen seat.me.0.seen → Grows s.seat.me.0.pieces seat.me.0.pieces → Follows K (seated seat)
-    goes_grown g gp =
+    pub goes_grown : IsNoLess s.seat.me.0.stake seat.me.0.stake → Grows s.seat.me.0.seen seat.me.0.seen →
+        Grows s.seat.me.0.pieces seat.me.0.pieces → Follows K (seated seat)
+    goes_grown no_less g gp =
         follows K (seated seat) nodes_are (store_is t T seat is_t sits ∙ sym fits)
+        (subst (λ (z : Knowledge). IsNoLess z.stake seat.me.0.stake) is_s no_less)
         (subst (λ (z : Knowledge). Grows z.seen seat.me.0.seen) is_s g)
         (subst (λ (z : Knowledge). Grows z.pieces seat.me.0.pieces) is_s gp)
 
   -- a session after a step
   pub goes_step : (seat : Sitting) (wrote : ℕ) → IsSeatAfter t.table.shared s.seat seat wrote → MakesStep K (seated seat) wrote
   goes_step seat wrote a = record {
-    follows = goes_on seat a.seat record { good = a.view.good; plan = a.view.plan; nodes = a.view.nodes; pieces = a.view.pieces };
+    follows = goes_on seat a.seat record {
+      good = a.view.good;
+      current = λ _. a.view.current;
+      plan = a.view.plan;
+      stake = a.view.stake;
+      nodes = a.view.nodes;
+      pieces = a.view.pieces;
+    };
+    stake = a.view.stake ∙ ap (λ (z : Knowledge). z.stake) is_s;
     steps = a.view.steps ∙ ap (λ (z : Knowledge). z.steps + 1) is_s;
     writes = a.view.writes ∙ ap (λ (z : Knowledge). z.writes + wrote) is_s;
   }

@@ -18,8 +18,9 @@ use Rattle.unique_table.specs.declared.plan.Plan.{Plan}
 use Rattle.unique_table.specs.declared.session.View.{View}
 use Rattle.unique_table.specs.Plans.{order_of, levels_of, output_at, piece_function, part_function, IsPlan}
 use Rattle.unique_table.specs.Picture.{IsKept, nodes_of, pieces_of, AreEntries, ArePieces}
-use Rattle.unique_table.specs.Sessions.{StoreId}
-use Rattle.unique_table.specs.Closing.{root_id, root_functions, AreAllFilled, IsLeastEmpty, LacksRoot, IsLast, Lacks}
+use Rattle.unique_table.specs.Sessions.{StoreId, Knowledge}
+use Rattle.unique_table.specs.Closing.{root_id, root_functions, AreAllFilled, LacksRoot, IsMissing, Lacks}
+use Rattle.unique_table.specs.Stakes.{IsWhole}
 use Rattle.std.proofs.lemmas.Bool.{cases_lt}
 
 -- one more id
@@ -55,7 +56,7 @@ root_function b j = past b.roots ∙ ap (output_at b.problem.value) (minus b.roo
 -- ---- the last words
 
 module _ (b : Plan) (plan : IsPlan b) (id : ℕ) (v : View) (words : List ℕ) (slots : List (Unit {0})) (live : v.live ≡ true)
-    (end : Final (Seen (IsKept b) id v) words slots) where
+    (current : v.current ≡ true) (end : Final (Seen (IsKept b) id v) words slots) where
   kept : IsKept b end.0
   kept = end.1.0
 
@@ -79,6 +80,9 @@ module _ (b : Plan) (plan : IsPlan b) (id : ℕ) (v : View) (words : List ℕ) (
 
   pub last_has : Grows v.pieces (pieces_of b words)
   last_has = subst (λ (z : List ℕ). Grows v.pieces (pieces_of b z)) same (kept.seen id v end.1.1 live).pieces
+
+  pub last_all : IsWhole v.stake → Grows (pieces_of b words) v.pieces
+  last_all w = subst (λ (z : List ℕ). Grows (pieces_of b z) v.pieces) same ((kept.seen id v end.1.1 live).all current w)
 
   abbrev first : ℕ
   first = b.places + b.entries + b.roots
@@ -106,20 +110,38 @@ module _ (b : Plan) (plan : IsPlan b) (id : ℕ) (v : View) (words : List ℕ) (
       none_or_some : (a : ℕ) → (a ≡ 0) ⊎ (1 ≤ a)
       none_or_some a = grind arith
 
-  -- a root that is missing isn't known to be published
+  -- a root that is missing isn't known to be published, and each one before it is known if no other session is left
   pub lacks : (t : StoreId) (steps writes : ℕ) → t.plan ≡ b → (fault : CloseFault) →
       LacksRoot words first (outputs_of b.problem.value) fault →
-      Lacks record { store = t; seen = v.seen; pieces = v.pieces; steps = steps; writes = writes } fault
-  lacks t steps writes is (MissingRoot j) l = subst (λ (z : Plan). (get_or v.pieces (z.roots + j) 0 ≡ 0)
-      × ((ws : List ℕ)
-      × IsLast record
-      { store = record { table = t.table; plan = z }; seen = v.seen; pieces = v.pieces; steps = steps; writes = writes } ws
-      × IsLeastEmpty ws (z.places + z.entries + z.roots) (outputs_of z.problem.value) j))
-      (sym is) (
-        not_known (get_or v.pieces (b.roots + j) 0) (λ full. full (sym (last_has (b.roots + j) full) ∙ (sym (root_word j) ∙ l.1))),
-        (words, record { size = last_size; stored = last_stored; entries = last_entries; pieces = last_pieces; seen = last_seen; has = last_has }, l),
-      )
+      Lacks record { store = t; stake = v.stake; seen = v.seen; pieces = v.pieces; steps = steps; writes = writes } fault
+  lacks t steps writes is (MissingRoot j) l = subst (λ (z : Plan). IsMissing (of_plan z) j) (sym is) record {
+    unknown = not_known (get_or v.pieces (b.roots + j) 0) (λ full. full (sym (last_has (b.roots + j) full) ∙ (sym (root_word j) ∙ l.1)));
+    least = λ alone i low none.
+        let full : get_or (pieces_of b words) (b.roots + i) 0 ≢ 0 = (λ e. l.2 i low (root_word i ∙ e)) in
+        full (sym (last_all alone (b.roots + i) full) ∙ none);
+    last = words;
+    is_last = record {
+      size = last_size;
+      stored = last_stored;
+      entries = last_entries;
+      pieces = last_pieces;
+      seen = last_seen;
+      has = last_has;
+      all = last_all;
+    };
+    empty = l;
+  }
     where
+      of_plan : Plan → Knowledge
+      of_plan z = record {
+        store = record { table = t.table; plan = z };
+        stake = v.stake;
+        seen = v.seen;
+        pieces = v.pieces;
+        steps = steps;
+        writes = writes;
+      }
+
       not_known : (a : ℕ) → (a ≢ 0 → ⊥) → a ≡ 0
       not_known zero h = refl
       not_known (suc a) h = absurd (h (λ e. omega arith))
@@ -190,7 +212,7 @@ err_weaker P Q (Ok x) h f = tt
 err_weaker P Q (Err e) h f = f e h
 
 module _ (b : Plan) (plan : IsPlan b) (id : ℕ) (v : View) (words : List ℕ) (slots : List (Unit {0})) (live : v.live ≡ true)
-    (end : Final (Seen (IsKept b) id v) words slots)
+    (current : v.current ≡ true) (end : Final (Seen (IsKept b) id v) words slots)
     (places entries roots pieces : ℕ) (p : places ≡ b.places) (e : entries ≡ b.entries) (r : roots ≡ b.roots) (q : pieces ≡ b.pieces) where
   same_first : places + entries + roots ≡ b.places + b.entries + b.roots
   same_first = omega arith
@@ -200,7 +222,7 @@ module _ (b : Plan) (plan : IsPlan b) (id : ℕ) (v : View) (words : List ℕ) (
 
   pub found_known : (j : ℕ) → get_or words (places + entries + roots + j) 0 ≢ 0 → IsKnown (take places words) (root_id words (places + entries + roots) j)
   found_known j full = subst (λ (z : ℕ × ℕ). IsKnown (take z.0 words) (root_id words z.1 j)) (λ i. (sym p i, sym same_first i))
-      (root_denotes b plan id v words slots live end j (subst (λ (z : ℕ). get_or words (z + j) 0 ≢ 0) same_first full)).known
+      (root_denotes b plan id v words slots live current end j (subst (λ (z : ℕ). get_or words (z + j) 0 ≢ 0) same_first full)).known
 
   pub found_represents : (order : List ℕ) → order ≡ order_of b → (d : Graph) → AreAllFilled words (places + entries + roots) (pieces - roots)
       → Represents (length order) (root_functions order (take places words) words (places + entries + roots) (pieces - roots)) order d →
@@ -212,11 +234,11 @@ module _ (b : Plan) (plan : IsPlan b) (id : ℕ) (v : View) (words : List ℕ) (
       subst (λ (z : List ℕ × ℕ × ℕ × ℕ). Represents (length z.0) (root_functions z.0 (take z.1 words) words z.2 z.3) z.0 d)
       (λ i. (same_order i, p i, same_first i, same_outputs i)) found in
       represents_same (levels_of b) (root_functions (order_of b) (nodes_of b words) words f m) (functions b.problem.value) (order_of b) d
-      (same_functions (order_of b) (nodes_of b words) words f b.problem.value (λ j low. root_denotes b plan id v words slots live end j (full' j low))) found'
+      (same_functions (order_of b) (nodes_of b words) words f b.problem.value (λ j low. root_denotes b plan id v words slots live current end j (full' j low))) found'
 
   pub found_lacks : (t : StoreId) (steps writes : ℕ) → t.plan ≡ b → (fault : CloseFault) →
       LacksRoot words (places + entries + roots) (pieces - roots) fault →
-      Lacks record { store = t; seen = v.seen; pieces = v.pieces; steps = steps; writes = writes } fault
+      Lacks record { store = t; stake = v.stake; seen = v.seen; pieces = v.pieces; steps = steps; writes = writes } fault
   found_lacks t steps writes is fault l =
-      lacks b plan id v words slots live end t steps writes is fault
+      lacks b plan id v words slots live current end t steps writes is fault
       (subst (λ (z : ℕ × ℕ). LacksRoot words z.0 z.1 fault) (λ i. (same_first i, same_outputs i)) l)

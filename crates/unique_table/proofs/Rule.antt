@@ -19,14 +19,15 @@ use Rattle.unique_table.specs.declared.plan.Plan.{Plan}
 use Rattle.unique_table.specs.declared.session.View.{View}
 use Rattle.unique_table.specs.Plans.{order_of, levels_of, piece_function}
 use Rattle.unique_table.specs.Picture.{StoreState, IsKept, IsSeen, moved, Sees, AreEntries, ArePieces, sees, nodes_of, entry_in, pieces_of, stepped, another, informed, spent, looks, puts, publishes, collects, recalls, remembers}
+use Rattle.unique_table.proofs.Stakes.{joined_some, half_whole, within_same, within_split, within_join, no_other}
 
 abbrev pub M : Type 0
 M = Me (Unit {0}) View
 
-each_set : {A : Type 0} (P : A → Type 0) (l : List A) (i : ℕ) (w : A) → ((j : ℕ) (u : A) → get_elem? l j ≡ some u → P u) → P w →
+each_set : {A : Type 0} (P : A → Type 0) (l : List A) (i : ℕ) (w : A) → ((j : ℕ) (u : A) → j ≢ i → get_elem? l j ≡ some u → P u) → P w →
     (j : ℕ) (u : A) → get_elem? (set l i w) j ≡ some u → P u
 each_set {A} P l i w all it j u e =
-    ⊎_elim (λ (t : (j ≡ i) × (w ≡ u)). subst (λ (z : A). P z) t.1 it) (λ (t : (j ≢ i) × (get_elem? l j ≡ some u)). all j u t.1)
+    ⊎_elim (λ (t : (j ≡ i) × (w ≡ u)). subst (λ (z : A). P z) t.1 it) (λ (t : (j ≢ i) × (get_elem? l j ≡ some u)). all j u t.0 t.1)
     (at_set l i j w u e)
 
 none_told : (xs : List ℕ) → Grows [] xs
@@ -45,7 +46,7 @@ placed b s k words size g gp st ens pcs id v wrote at live = let ws : List ℕ =
   entries = ens;
   pieces = pcs;
   seen = each_set (λ (u : View). u.live ≡ true → IsSeen b ws ps u) s.views id (sees v ws ps wrote)
-      (λ j u e alive. let i = k.seen j u e alive in record {
+      (λ j u ne e alive. let i = k.seen j u e alive in record {
         plan = i.plan;
         size = i.size;
         nodes = i.nodes;
@@ -55,6 +56,8 @@ placed b s k words size g gp st ens pcs id v wrote at live = let ws : List ℕ =
         told = grows_trans u.told (nodes_of b s.words) ws i.told g;
         pieces = grows_trans u.pieces (pieces_of b s.words) ps i.pieces gp;
         pieces_told = grows_trans u.pieces_told (pieces_of b s.words) ps i.pieces_told gp;
+        stake = i.stake;
+        all = λ _ w. absurd (no_other s.views id v at k.stakes j u spent refl ne e (k.seen id v at live).stake w);
       })
       (λ alive. record {
         plan = (k.seen id v at live).plan;
@@ -66,7 +69,10 @@ placed b s k words size g gp st ens pcs id v wrote at live = let ws : List ℕ =
         told = none_told ws;
         pieces = grows_refl ps;
         pieces_told = none_told ps;
+        stake = (k.seen id v at live).stake;
+        all = λ _ _. grows_refl ps;
       });
+  stakes = within_same s.views id v at k.stakes (sees v ws ps wrote) refl;
 }
 
 sees_all : (b : Plan) (s : StoreState) (k : IsKept b s) (ws ps : List ℕ) → Grows (nodes_of b s.words) ws → Grows (pieces_of b s.words) ps →
@@ -326,7 +332,7 @@ may_split b id v live s k at = let i = k.seen id v at live in record {
   pieces = k.pieces;
   seen = λ j u e alive. ⊎_elim
       (λ (t : get_elem? (set s.views id (stepped v)) j ≡ some u). each_set
-      (λ (z : View). z.live ≡ true → IsSeen b (nodes_of b s.words) (pieces_of b s.words) z) s.views id (stepped v) k.seen
+      (λ (z : View). z.live ≡ true → IsSeen b (nodes_of b s.words) (pieces_of b s.words) z) s.views id (stepped v) (λ z u _. k.seen z u)
       (λ l. record {
         plan = i.plan;
         size = i.size;
@@ -337,6 +343,8 @@ may_split b id v live s k at = let i = k.seen id v at live in record {
         told = i.told;
         pieces = i.pieces;
         pieces_told = i.pieces_told;
+        stake = i.stake;
+        all = λ c w. i.all c (half_whole v.stake w);
       })
       j u t alive)
       (λ (t : another v ≡ u). subst (IsSeen b (nodes_of b s.words) (pieces_of b s.words)) t
@@ -357,8 +365,11 @@ may_split b id v live s k at = let i = k.seen id v at live in record {
             none_told (nodes_of b s.words);
         pieces = i.pieces;
         pieces_told = none_told (pieces_of b s.words);
+        stake = i.stake;
+        all = λ c w. i.all c (half_whole v.stake w);
       })
       (at_snoc (set s.views id (stepped v)) (another v) u j e);
+  stakes = within_split s.views id v at k.stakes (stepped v) (another v) refl refl;
 }
 
 pub may_join : (b : Plan) (id other : ℕ) (v w : View) → v.live ≡ true → w.live ≡ true → Joins {S = Unit {0}} (IsKept b) id v other w (informed v w) spent
@@ -372,7 +383,7 @@ may_join b id other v w live live' s k at ne at' =
       entries = k.entries;
       pieces = k.pieces;
       seen = each_set P (set s.views id (informed v w)) other spent
-          (each_set P s.views id (informed v w) k.seen
+          (λ z u _. each_set P s.views id (informed v w) (λ y x _. k.seen y x)
           (λ l. record {
             plan = i.plan;
             size = i.size;
@@ -383,8 +394,11 @@ may_join b id other v w live live' s k at ne at' =
             told = j.grows;
             pieces = i.pieces;
             pieces_told = j.pieces;
-          }))
+            stake = joined_some v.stake w.stake i.stake;
+            all = λ c _. absurd (no c);
+          }) z u)
           (λ dead. absurd (no dead));
+      stakes = within_join s.views id v at k.stakes other w (informed v w) spent ne at_old refl refl;
     }
   where
     no : false ≡ true → ⊥

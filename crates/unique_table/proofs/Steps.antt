@@ -10,7 +10,9 @@ use Rattle.unique_table.proofs.Rule.{M}
 pub after_goes : (m m' : M) (wrote : ℕ) (ws ps : List ℕ) → m' ≡ (sees m.0 ws ps wrote, m.1) → Sees m.0 ws ps → After m.0 m'.0 wrote
 after_goes m m' wrote ws ps is s = subst (λ (z : M). After m.0 z.0 wrote) (sym is) record {
   good = record { live = refl; size = (let e = s.size in omega arith); nodes = s.nodes; unequal = s.unequal; are_pieces = s.are_pieces };
+  current = refl;
   plan = refl;
+  stake = refl;
   nodes = s.grows;
   pieces = s.pieces_grow;
   told = s.told;
@@ -27,14 +29,17 @@ seat_after t s s' wrote ws ps fits same is sees_all = let a = after_goes s.me s'
 }
 
 pub gains_after : (v v' : View) (wrote : ℕ) → After v v' wrote → Gains v v'
-gains_after v v' wrote a = record { good = a.good; plan = a.plan; nodes = a.nodes; pieces = a.pieces }
+gains_after v v' wrote a = record { good = a.good; current = λ _. a.current; plan = a.plan; stake = a.stake; nodes = a.nodes; pieces = a.pieces }
 
 pub gains_both : (v v' v'' : View) → Gains v v' → Gains v' v'' → Gains v v''
 gains_both v v' v'' a b =
     record {
       good = b.good;
+      current = λ c. b.current (a.current c);
       plan = b.plan
           ∙ a.plan;
+      stake = b.stake
+          ∙ a.stake;
       nodes =
           grows_trans v.seen v'.seen v''.seen a.nodes b.nodes;
       pieces = grows_trans v.pieces v'.pieces v''.pieces a.pieces b.pieces;

@@ -1,7 +1,7 @@
 -- What closing a store finds.
 --     root_id words first j, root_functions      the ids in the root words, and the functions that they denote
 --     LacksRoot words first m fault      the least root word that is empty
---     Lacks s fault      why a store gives no diagram, as a session knows it
+--     IsMissing s j, Lacks s fault      a root that is missing, and why a store gives no diagram, as a session knows it
 use Rattle.std.specs.Prelude.{◌≡◌, ◌≢◌, ℕ, ◌+◌, ◌-◌, ◌<◌, List, length, slice_index, map}
 use Rattle.std.specs.List.{range_with_len}
 use Rattle.order_model.specs.Functions.{Function}
@@ -12,7 +12,7 @@ use Rattle.unique_table.specs.declared.close.CloseFault.{CloseFault}
 use Rattle.unique_table.specs.declared.close.CloseFault.TheVariants.{MissingRoot, OutOfMemory}
 use Rattle.unique_table.specs.Plans.{levels_of}
 use Rattle.unique_table.specs.Picture.{nodes_of, pieces_of, AreEntries, ArePieces}
-use Rattle.unique_table.specs.Sessions.{Knowledge}
+use Rattle.unique_table.specs.Sessions.{Knowledge, IsAlone}
 
 -- the id in root word j
 abbrev pub root_id : List ℕ → ℕ → ℕ → ℕ
@@ -43,11 +43,22 @@ pub record IsLast (s : Knowledge) (words : List ℕ) : Type 0 where
   pub pieces : ArePieces s.store.plan (nodes_of s.store.plan words) (pieces_of s.store.plan words)
   pub seen : Grows s.seen (nodes_of s.store.plan words)
   pub has : Grows s.pieces (pieces_of s.store.plan words)
+  pub all : IsAlone s → Grows (pieces_of s.store.plan words) s.pieces
 
--- a root that is missing is one that the session doesn't know to be published, and the least that is missing in the last words
+-- the root's word as the session knows it: 0 if it doesn't know the root to be published
+abbrev pub known_root : Knowledge → ℕ → ℕ
+known_root s j = slice_index s.pieces (s.store.plan.roots + j)
+
+-- the root is missing: it is the least that is empty in the last words, and the session doesn't know it to be published; if no
+-- other session is left, the session knows each root before it
+pub record IsMissing (s : Knowledge) (j : ℕ) : Type 0 where
+  pub unknown : known_root s j ≡ 0
+  pub least : IsAlone s → (i : ℕ) → i < j → known_root s i ≢ 0
+  pub last : List ℕ
+  pub is_last : IsLast s last
+  pub empty : IsLeastEmpty last (s.store.plan.places + s.store.plan.entries + s.store.plan.roots)
+      (outputs_of s.store.plan.problem.value) j
+
 abbrev pub Lacks : Knowledge → CloseFault → Type 0
-Lacks s (MissingRoot j) = (slice_index s.pieces (s.store.plan.roots + j) ≡ 0)
-    × ((words : List ℕ) × IsLast s words
-    × IsLeastEmpty words (s.store.plan.places + s.store.plan.entries + s.store.plan.roots)
-    (outputs_of s.store.plan.problem.value) j)
+Lacks s (MissingRoot j) = IsMissing s j
 Lacks s OutOfMemory = Unit {0}

@@ -1,5 +1,5 @@
 -- The fields of a store and of a session.
-use Rattle.std.specs.Prelude.{◌≡◌, ◌+◌, []}
+use Rattle.std.specs.Prelude.{◌≡◌, ◌+◌, true, []}
 use Rattle.unique_table.specs.Plans.{order_of, IsPlan}
 use Rattle.unique_table.specs.Views.{IsGood}
 use Rattle.unique_table.specs.Sessions.{StoreId, Knowledge}
@@ -25,13 +25,15 @@ knowledge s = let v = s.seat.me.0 in
     record {
       store =
           record { table = s.seat.table_id; plan = v.plan };
+      stake = v.stake;
       seen = v.seen;
       pieces = v.pieces;
       steps = v.steps;
       writes = v.writes;
     }
 
--- the session's view is good, and it holds no slot
+-- the session's view is good and current, and it holds no slot
 pub record IsSession (s : session.Inside) : Type 0 where
   pub good : IsGood s.seat.me.0
+  pub current : s.seat.me.0.current ≡ true
   pub empty : s.seat.me.1 ≡ []

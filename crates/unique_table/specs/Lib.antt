@@ -1,4 +1,5 @@
 pub mod Plans
+pub mod Stakes
 pub mod Picture
 pub mod Views
 pub mod Sessions

@@ -1,6 +1,6 @@
 -- The picture of a store: what is so between any two steps, and what the steps tell.
 --     StoreState, moved s words id v      the words and the views of all seats, and what a step makes of them
---     IsKept b s      the rule: nodes, meaning, and what sessions know
+--     IsKept b s      the rule: nodes, meaning, what sessions know, and their stakes
 --     looks, puts, publishes, collects, recalls, remembers      the kinds of steps
 use Rattle.std.specs.Prelude.{◌≡◌, ◌≢◌, ℕ, ◌+◌, ◌-◌, ◌<◌, ◌≤◌, true, false, List, [], length, slice_index, slice_set, take, drop}
 use mathlib.Core.Option.{some}
@@ -14,6 +14,7 @@ use Rattle.unique_table.specs.declared.plan.Plan.{Plan}
 use Rattle.unique_table.specs.declared.session.View.{View}
 use Rattle.unique_table.specs.declared.plan.PieceKind.TheVariants.{Restrictions}
 use Rattle.unique_table.specs.Plans.{order_of, levels_of, piece_function}
+use Rattle.unique_table.specs.Stakes.{whole, half, joined, IsWhole, AreWithinWhole}
 
 -- the words of a table, and the view of each seat
 abbrev pub StoreState : Type 0
@@ -42,7 +43,8 @@ abbrev pub ArePieces : Plan → List ℕ → List ℕ → Type 0
 ArePieces b nodes pieces = (q : ℕ) → slice_index pieces q ≢ 0 →
     Denotes (order_of b) nodes (slice_index pieces q - 1) (piece_function b q)
 
--- what a session saw of the words is so in them, and is a list of nodes by itself
+-- what a session saw of the words is so in them, and is a list of nodes by itself; it has some stake, and with the whole it
+-- knows all pieces
 pub record IsSeen (b : Plan) (ws ps : List ℕ) (v : View) : Type 0 where
   pub plan : v.plan ≡ b
   pub size : length v.seen ≤ b.places
@@ -53,6 +55,8 @@ pub record IsSeen (b : Plan) (ws ps : List ℕ) (v : View) : Type 0 where
   pub told : Grows v.told ws
   pub pieces : Grows v.pieces ps
   pub pieces_told : Grows v.pieces_told ps
+  pub stake : 0 < v.stake.units
+  pub all : v.current ≡ true → IsWhole v.stake → Grows ps v.pieces
 
 -- the rule of a store's table; the view that a join leaves behind is excepted
 pub record IsKept (b : Plan) (s : StoreState) : Type 0 where
@@ -63,11 +67,14 @@ pub record IsKept (b : Plan) (s : StoreState) : Type 0 where
   pub pieces : ArePieces b (nodes_of b s.words) (pieces_of b s.words)
   pub seen : (i : ℕ) (v : View) → get_elem? s.views i ≡ some v → v.live ≡ true →
       IsSeen b (nodes_of b s.words) (pieces_of b s.words) v
+  pub stakes : AreWithinWhole s.views
 
 -- what the first session knows
 abbrev pub newcomer : Plan → View
 newcomer b = record {
   live = true;
+  current = true;
+  stake = whole;
   plan = b;
   seen = [];
   told = [];
@@ -83,6 +90,8 @@ sees v ws pieces wrote =
     record {
       live =
           true;
+      current = true;
+      stake = v.stake;
       plan = v.plan;
       seen = ws;
       told = [];
@@ -92,12 +101,14 @@ sees v ws pieces wrote =
       writes = v.writes + wrote;
     }
 
--- the view with one step more
+-- the first half of a view, with one step more
 abbrev pub stepped : View → View
 stepped v =
     record {
       live =
           v.live;
+      current = v.current;
+      stake = half v.stake;
       plan =
           v.plan;
       seen = v.seen;
@@ -108,10 +119,12 @@ stepped v =
       writes = v.writes;
     }
 
--- what a session knows that has seen as much
+-- the second half: what a session knows that has seen as much
 abbrev pub another : View → View
 another v = record {
   live = true;
+  current = v.current;
+  stake = half v.stake;
   plan = v.plan;
   seen = v.seen;
   told = [];
@@ -121,12 +134,14 @@ another v = record {
   writes = 0;
 }
 
--- v is told what w saw; the steps and writes of both are counted
+-- v is told what w saw; the stakes, steps and writes of both are added
 abbrev pub informed : View → View → View
 informed v w =
     record {
       live =
           v.live;
+      current = false;
+      stake = joined v.stake w.stake;
       plan =
           v.plan;
       seen =
@@ -154,6 +169,8 @@ no_plan = record {
 abbrev pub spent : View
 spent = record {
   live = false;
+  current = false;
+  stake = record { units = 0; halvings = 0 };
   plan = no_plan;
   seen = [];
   told = [];

@@ -1,12 +1,13 @@
 -- What contracts see of a store and of a session.
 --     StoreId      a store: its table and its plan
---     Knowledge      a session: its store, the node words and piece words that it knows, and its counts of steps and writes
+--     Knowledge      a session: its store and its stake in it, the words that it knows, and its counts of steps and writes
 --     Knows s id, function_in s id, depth_in s id, Means s id f      the ids that a session knows
 --     combined_in s operation a b      an operation on the functions of two ids
 --     LiesNoHigher s a b id      an id lies no higher than the higher one of two others
 --     HasUniqueIds s      ids that a session knows are equal if they denote the same function
 --     HasLevels s      no id that a session knows lies below the terminals
 --     HasPiece s q id      the session knows that the piece has the id
+--     IsAlone s, AloneStaysAlone      no other session of the store is left, and it stays so
 --     Follows s s'      a session goes on: what it knew it still knows
 --     MakesStep s s' wrote      a session goes on by one step
 --     HasParts s id parts      the level and the children of a node
@@ -19,16 +20,20 @@ use Rattle.node_words.specs.Entries.{combine}
 use Rattle.node_words.specs.Nodes.{IsKnown, Grows, node_word}
 use Rattle.node_words.specs.Meaning.{function_of, Denotes, depth, branch}
 use Rattle.unique_table.specs.declared.plan.Plan.{Plan}
+use Rattle.unique_table.specs.declared.session.Stake.{Stake}
 use Rattle.unique_table.specs.Plans.{order_of, levels_of, variable_at}
+use Rattle.unique_table.specs.Stakes.{IsWhole, IsNoLess}
 
 -- a store: which table it is, and what it is for
 pub record StoreId : Type 0 where
   pub table : TableId
   pub plan : Plan
 
--- a session: its store, the node words and piece words that it knows, and how many steps and writes it made
+-- a session: its store and its stake in it, the node words and piece words that it knows, and how many steps and writes it
+-- made
 pub record Knowledge : Type 0 where
   pub store : StoreId
+  pub stake : Stake
   pub seen : List ℕ
   pub pieces : List ℕ
   pub steps : ℕ
@@ -74,9 +79,14 @@ HasLevels s = (id : ℕ) → Knows s id → depth_in s id ≤ levels_of s.store.
 abbrev pub HasPiece : Knowledge → ℕ → ℕ → Type 0
 HasPiece s q id = slice_index s.pieces q ≡ id + 1
 
--- a session goes on: it knows all that it knew, and ids keep their functions and levels
+-- no other session of the store is left: the store was never split, or all others were joined into this one
+abbrev pub IsAlone : Knowledge → Type 0
+IsAlone s = IsWhole s.stake
+
+-- a session goes on: it knows all that it knew and has no smaller stake, and ids keep their functions and levels
 pub record Follows (s s' : Knowledge) : Type 0 where
   pub store : s'.store ≡ s.store
+  pub stake : IsNoLess s.stake s'.stake
   pub nodes : Grows s.seen s'.seen
   pub pieces : Grows s.pieces s'.pieces
   pub knows : (id : ℕ) → Knows s id → Knows s' id
@@ -84,9 +94,14 @@ pub record Follows (s s' : Knowledge) : Type 0 where
   pub means : (id : ℕ) (f : Function) → Means s id f → Means s' id f
   pub depths : (id : ℕ) → Knows s id → depth_in s' id ≡ depth_in s id
 
+-- a session that is alone stays alone
+abbrev pub AloneStaysAlone : Type 0
+AloneStaysAlone = (s s' : Knowledge) → Follows s s' → IsAlone s → IsAlone s'
+
 -- a session goes on by one step, which wrote `wrote` words
 pub record MakesStep (s s' : Knowledge) (wrote : ℕ) : Type 0 where
   pub follows : Follows s s'
+  pub stake : s'.stake ≡ s.stake
   pub steps : s'.steps ≡ s.steps + 1
   pub writes : s'.writes ≡ s.writes + wrote
 

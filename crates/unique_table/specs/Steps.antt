@@ -1,6 +1,7 @@
 -- The kinds of steps, over states under the rule.
 --     Becomes b s id words' told      after a step of seat id the words are words', the rule holds, and the seat's view gained what it was told
 --     IsSeat b s id v      seat id has the view v, which is live
+--     WholesAreAlone      a seat with the whole is the only one
 --     EqualFunctionsHaveEqualIds, EqualIdsHaveEqualFunctions      what any two seats know of one function, and of one id
 use Rattle.std.specs.Prelude.{◌≡◌, ◌≢◌, ℕ, ◌+◌, ◌^◌, ◌<◌, ◌==◌, true, if◌then◌else◌, List, slice_index, slice_set}
 use mathlib.Core.Option.{some}
@@ -13,6 +14,7 @@ use Rattle.unique_table.specs.declared.plan.Plan.{Plan}
 use Rattle.unique_table.specs.declared.session.View.{View}
 use Rattle.unique_table.specs.Plans.{order_of, levels_of, piece_function}
 use Rattle.unique_table.specs.Picture.{StoreState, IsKept, moved, nodes_of, pieces_of}
+use Rattle.unique_table.specs.Stakes.{IsWhole}
 use Rattle.unique_table.specs.Views.{Gains}
 
 -- a seat of a state under the rule, with its view; words have 64 bits
@@ -26,6 +28,11 @@ pub record IsSeat (b : Plan) (s : StoreState) (id : ℕ) (v : View) : Type 0 whe
 pub record Becomes (b : Plan) (s : StoreState) (id : ℕ) (v : View) (words : List ℕ) (v' : View) : Type 0 where
   pub kept : IsKept b (moved s words id v')
   pub gains : Gains v v'
+
+-- a seat that has the whole is the only one
+abbrev pub WholesAreAlone : Type 0
+WholesAreAlone = (b : Plan) (s : StoreState) (i j : ℕ) (v w : View) → IsSeat b s i v → IsSeat b s j w →
+    IsWhole v.stake → i ≡ j
 
 -- ids that two seats know are one id if they denote one function, whichever threads made them
 abbrev pub EqualFunctionsHaveEqualIds : Type 0

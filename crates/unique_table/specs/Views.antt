@@ -18,7 +18,9 @@ pub record IsGood (v : View) : Type 0 where
 -- a view after a step that wrote `wrote` words
 pub record After (v v' : View) (wrote : ℕ) : Type 0 where
   pub good : IsGood v'
+  pub current : v'.current ≡ true
   pub plan : v'.plan ≡ v.plan
+  pub stake : v'.stake ≡ v.stake
   pub nodes : Grows v.seen v'.seen
   pub pieces : Grows v.pieces v'.pieces
   pub told : Grows v.told v'.seen
@@ -29,6 +31,8 @@ pub record After (v v' : View) (wrote : ℕ) : Type 0 where
 -- a view that goes on: what was seen stays
 pub record Gains (v v' : View) : Type 0 where
   pub good : IsGood v'
+  pub current : v.current ≡ true → v'.current ≡ true
   pub plan : v'.plan ≡ v.plan
+  pub stake : v'.stake ≡ v.stake
   pub nodes : Grows v.seen v'.seen
   pub pieces : Grows v.pieces v'.pieces

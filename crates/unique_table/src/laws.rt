@@ -1,6 +1,8 @@
 //! Laws of a store's states.
 
-ghost use Rattle.unique_table.specs.Steps.{EqualFunctionsHaveEqualIds, EqualIdsHaveEqualFunctions, Looks, Puts, Publishes, Collects, Recalls, Remembers};
+ghost use Rattle.unique_table.specs.Stakes.{HalvesJoin};
+ghost use Rattle.unique_table.specs.Sessions.{AloneStaysAlone};
+ghost use Rattle.unique_table.specs.Steps.{WholesAreAlone, EqualFunctionsHaveEqualIds, EqualIdsHaveEqualFunctions, Looks, Puts, Publishes, Collects, Recalls, Remembers};
 
 /// Ids that two seats know are equal exactly when they denote equal functions, whichever threads
 /// made them.
@@ -18,4 +20,12 @@ pub fn steps_are_of_their_kinds()
     ensures collect { Collects }
     ensures recall { Recalls }
     ensures remember { Remembers }
+{}
+
+/// A seat that has the whole store is the only one, and its session stays so; what goes on from
+/// the two halves of a stake joins to no less than the stake.
+pub fn whole_stakes_are_alone()
+    ensures only { WholesAreAlone }
+    ensures stays { AloneStaysAlone }
+    ensures joined { HalvesJoin }
 {}

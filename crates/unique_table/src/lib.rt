@@ -17,5 +17,5 @@ pub use close::CloseFault;
 pub use node_words::{NodeParts, Operation};
 pub use plan::{PieceKind, Pieces, Plan, TermList};
 pub use plays::Words;
-pub use session::{NodeId, Session, View};
+pub use session::{NodeId, Session, Stake, View};
 pub use store::{Store, StoreFull};

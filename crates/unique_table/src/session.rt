@@ -25,11 +25,21 @@ impl Model for Session {
     ghost invariant = { IsSession };
 }
 
+/// How much of a store a session has: so many of 2 ^ halvings equal units. A session with all of
+/// them is the store's only one. No value of it is made.
+pub struct Stake {
+    pub units: u64,
+    pub halvings: u64,
+}
+
 /// The words of nodes and of pieces as they were seen, those that another session saw that was
-/// joined into this one, and how many steps and writes were made. It isn't live if the session was
-/// joined into another. No value of it is made.
+/// joined into this one, the stake in the store, and how many steps and writes were made. It isn't
+/// live if the session was joined into another, and it isn't current if another was joined into it
+/// and no step followed. No value of it is made.
 pub struct View {
     pub live: bool,
+    pub current: bool,
+    pub stake: Stake,
     pub plan: Plan,
     pub seen: [u64; 0],
     pub told: [u64; 0],

@@ -8,6 +8,7 @@ ghost use Rattle.node_words.specs.Nodes.{node_word, IsFullFor, IsIdOf};
 ghost use Rattle.node_words.specs.Meaning.{branch};
 ghost use Rattle.unique_table.specs.Sessions.{Knows, IsKnownBelow, Means, Follows, MakesStep, HasParts, HasUniqueIds, HasLevels, LiesNoHigher, combined_in, function_in, depth_in, HasPiece};
 ghost use Rattle.order_model.specs.Diagrams.{Represents, IsReduced};
+ghost use Rattle.unique_table.specs.Stakes.{whole, half, joined};
 ghost use Rattle.unique_table.specs.Closing.{Lacks};
 
 use crate::close::{CloseFault, last_diagram};
@@ -64,7 +65,8 @@ impl Store {
         requires terms { AreGivenBy pieces problem.now }
         ensures plan { IfOk result (λ r. IsPlanFor r.0.plan order problem.now pieces.entry) }
         ensures session { IfOk result
-            (λ r. r.1 ≡ record { store = r.0; seen = []; pieces = []; steps = 0; writes = 0 }) }
+            (λ r. r.1 ≡
+            record { store = r.0; stake = whole; seen = []; pieces = []; steps = 0; writes = 0 }) }
     {
         let kind = kind_of(alloc, pieces)?;
         let places = node_places();
@@ -160,6 +162,7 @@ impl Store {
             (function_in session.new high))) }
         ensures level { IfOk result (λ id. level ≤ depth_in session.new id) }
         ensures unique { HasUniqueIds session.new }
+        ensures stake { session.new.stake ≡ session.old.stake }
         ensures full { OnErr result
             (IsFullFor session.new.seen self.now.plan.places (node_word level low high)) }
         ensures steps { session.new.steps ≤ session.old.steps + 2 * self.now.plan.places }
@@ -187,6 +190,7 @@ impl Store {
         ensures constant { IfNone result ((p : Point) → function_in session.new id p ≡ (id == 1)) }
         ensures parts { IfSome result (λ parts. HasParts session.new id parts) }
         ensures unique { HasUniqueIds session.new }
+        ensures stake { session.new.stake ≡ session.old.stake }
         ensures steps { session.new.steps ≤ session.old.steps + 1 }
         ensures writes { session.new.writes ≡ session.old.writes }
     {
@@ -282,23 +286,28 @@ impl Store {
         Some((word - 1) as u32)
     }
 
-    /// Two sessions that know what the one knew. The second one's counts begin at 0.
+    /// Two sessions that know what the one knew, each with half of its stake. The second one's
+    /// counts begin at 0.
     pub fn split(&self, session: Session) -> (Session, Session)
         requires { session.store ≡ self.now }
-        ensures first { result.0 ≡ record session { steps = session.steps + 1 } }
-        ensures second { result.1 ≡ record session { steps = 0; writes = 0 } }
+        ensures first { result.0 ≡
+            record session { stake = half session.stake; steps = session.steps + 1 } }
+        ensures second { result.1 ≡
+            record session { stake = half session.stake; steps = 0; writes = 0 } }
     {
         let Session { mut seat } = session;
         let other = self.table.shared.split_seat::<Both>(&mut seat);
         (Session { seat }, Session { seat: other })
     }
 
-    /// A session that knows what both knew, with the counts of both. It takes two steps.
+    /// A session that knows what both knew, with the stakes and the counts of both. It takes two
+    /// steps.
     pub fn join(&self, one: Session, two: Session) -> Session
         requires one { one.store ≡ self.now }
         requires two { two.store ≡ self.now }
         ensures one { Follows one result }
         ensures two { Follows two result }
+        ensures stake { result.stake ≡ joined one.stake two.stake }
         ensures unique { HasUniqueIds result }
         ensures steps { result.steps ≡ one.steps + two.steps + 2 }
         ensures writes { result.writes ≡ one.writes + two.writes }
@@ -311,7 +320,8 @@ impl Store {
     }
 
     /// The reduced diagram of the store's functions: the published roots, with the nodes that they
-    /// reach. The store is spent in every case.
+    /// reach. The store is spent in every case. Other sessions may have published roots that this
+    /// one doesn't know of.
     pub fn close(self, alloc: Global, session: Session) -> Result<Diagram, CloseFault>
         requires { session.store ≡ self }
         ensures order { IfOk result (λ d. d.order ≡ order_of self.plan) }

@@ -1,4 +1,4 @@
-use Rattle.std.proofs.Common.{◌+◌, false, take, ap, ◌∙◌, sym, arith}
+use Rattle.std.proofs.Common.{◌+◌, false, take, ap, ◌∙◌, sym, arith, rules}
 use Rattle.std.proofs.lemmas.List.{length-map, get_or-map}
 use Rattle.order_model.specs.Problems.{outputs_of}
 use Rattle.order_model.specs.Products.{product_of, product_function}
@@ -40,3 +40,10 @@ loop-number-preserved c =
           (product_in c.args.store.now.plan c.index-terms-number.result) _ p place (omega arith) at
           (means_at c.or_term.new.session c.loop-number.id _ p (c.or_term.ensures.follows.means c.loop-number.id _ i.means) l));
     }
+
+pub returns-in_err-id : goal.returns-in_err-id
+returns-in_err-id c = record {
+  follows = follows_trans _ _ _ c.loop-number.invariant.follows c.or_term.ensures.follows;
+  function = search rules;
+  full = search rules;
+}

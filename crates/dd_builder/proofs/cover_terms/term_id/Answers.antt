@@ -1,4 +1,4 @@
-use Rattle.std.proofs.Common.{◌≡◌, ◌+◌, ◌-◌, length, ap, ◌∙◌, sym, refl, subst, arith}
+use Rattle.std.proofs.Common.{◌≡◌, ◌+◌, ◌-◌, length, ap, ◌∙◌, sym, refl, subst, arith, rules}
 use Rattle.order_model.specs.Orders.{IsOrder}
 use Rattle.order_model.specs.Problems.{outputs_of}
 use Rattle.unique_table.specs.Plans.{order_of, levels_of, variable_at}
@@ -46,3 +46,10 @@ returns c =
           (outputs_of c.args.store.now.plan.problem.value) c.loop-level.level c.loop-level.id
           (subst (λ n. IsOrder n (order_of c.args.store.now.plan)) (sym plan.inputs) plan.order.order) (omega arith) c.loop-level.invariant.means;
     }
+
+pub returns-in_err-id : goal.returns-in_err-id
+returns-in_err-id c = record {
+  follows = follows_trans _ _ _ c.loop-level.invariant.follows c.literal_and.ensures.made.follows;
+  function = search rules;
+  full = search rules;
+}

@@ -1,4 +1,5 @@
-use Rattle.unique_table.specs.Sessions.{LiesNoHigher}
+use Rattle.std.proofs.Common.{arith}
+use Rattle.unique_table.specs.Sessions.{Means, LiesNoHigher, combined_in}
 use Rattle.dd_builder.specs.Operating.{AreCombined}
 use Rattle.dd_builder.proofs.Going.{ok_same}
 use Rattle.dd_builder.proofs.Combining.{combined_no_higher}
@@ -10,3 +11,15 @@ returns-clause-level c =
     (LiesNoHigher c.apply_from-made.new.session c.args.first c.args.second) c.apply_from-made.result c.apply_from-made.ensures.combined
     (λ id all. combined_no_higher c.args.session.now c.apply_from-made.new.session c.args.operation c.args.first c.args.second id
     c.requires.known.0 c.requires.known.1 c.apply_from-made.ensures.follows c.canonical_ids.ensures.levels all)
+
+pub returns-clause-made : goal.returns-clause-made
+returns-clause-made c = record {
+  follows = c.apply_from-made.ensures.follows;
+  function = ok_same (AreCombined c.args.session.now c.apply_from-made.new.session c.args.operation c.args.first c.args.second)
+      (λ id. Means c.apply_from-made.new.session id
+      (combined_in c.apply_from-made.new.session c.args.operation c.args.first c.args.second))
+      c.apply_from-made.result c.apply_from-made.ensures.combined
+      (λ id all. (all 0 (omega arith) record { known = c.requires.known.0; level = omega arith }
+      record { known = c.requires.known.1; level = omega arith }).means);
+  full = c.apply_from-made.ensures.full;
+}

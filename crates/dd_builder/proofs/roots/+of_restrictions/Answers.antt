@@ -1,4 +1,4 @@
-use Rattle.std.proofs.Common.{◌+◌, ◌-◌, ◌*◌, ◌%◌, ◌^◌, ◌<◌, length, take, ap, sym, ◌∙◌, refl, subst, arith}
+use Rattle.std.proofs.Common.{◌+◌, ◌-◌, ◌*◌, ◌%◌, ◌^◌, ◌<◌, length, take, ap, sym, ◌∙◌, refl, subst, arith, rules}
 use Rattle.std.proofs.lemmas.List.{length-take}
 use Rattle.unique_table.specs.Plans.{order_of, levels_of, output_at, fixed, tops}
 use Rattle.unique_table.specs.Sessions.{Means}
@@ -61,3 +61,10 @@ returns-clause-made t c =
     (subst (λ k. Means c.of_restrictions-2.new.session c.in_ok-high.high
     (fixed (take (c.args.level + 1) (order_of c.args.store.now.plan)) k (output_at c.args.store.now.plan.problem.value c.args.output)))
     (path_up 64 c.args.level c.args.path _ (omega arith) refl) c.in_ok-high.ensures.made.function) m)
+
+pub returns-in_err-high-clause-made : goal.returns-in_err-high-clause-made
+returns-in_err-high-clause-made t c = record {
+  follows = follows_trans _ _ _ c.of_restrictions.ensures.made.follows c.of_restrictions-2.ensures.made.follows;
+  function = search rules;
+  full = search rules;
+}

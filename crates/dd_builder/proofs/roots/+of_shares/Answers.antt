@@ -1,4 +1,4 @@
-use Rattle.std.proofs.Common.{◌≡◌, ◌+◌, ◌-◌, ◌*◌, ◌/◌, subst, arith}
+use Rattle.std.proofs.Common.{◌≡◌, ◌+◌, ◌-◌, ◌*◌, ◌/◌, subst, arith, rules}
 use Rattle.unique_table.specs.Plans.{piece_function}
 use Rattle.unique_table.specs.Sessions.{Means}
 use Rattle.unique_table.proofs.Following.{follows_trans}
@@ -34,3 +34,10 @@ returns t c =
     halves_union c.of_shares.new.session c.of_shares-2.new.session c.apply.new.session c.args.store.now.plan c.args.output c.args.first
     (c.args.count / 2) (c.args.count - c.args.count / 2) c.args.count c.in_ok-lower.lower c.in_ok-upper.upper id
     all c.in_ok-lower.ensures.function c.of_shares-2.ensures.follows c.in_ok-upper.ensures.function c.apply.ensures.made.follows m)
+
+pub returns-in_err-upper : goal.returns-in_err-upper
+returns-in_err-upper t c = record {
+  follows = follows_trans _ _ _ c.of_shares.ensures.follows c.of_shares-2.ensures.follows;
+  function = search rules;
+  full = search rules;
+}

@@ -24,3 +24,6 @@ loop-output-preserved c =
           root_more c.loop-output.session c.publish.new.session c.args.store.now.plan.roots c.loop-output.output _ c.in_ok-id.id f
           c.loop-output.invariant.published at c.publish.ensures.stored;
     }
+
+pub returns-in_err-id-clause-follows : goal.returns-in_err-id-clause-follows
+returns-in_err-id-clause-follows c = follows_trans _ _ _ c.loop-output.invariant.follows c.root.ensures.follows

@@ -1,4 +1,4 @@
-use Rattle.std.proofs.Common.{◌+◌, ◌≤◌, ◌<◌, length, take, refl, ap, ◌∙◌, subst, arith}
+use Rattle.std.proofs.Common.{◌+◌, ◌≤◌, ◌<◌, length, take, refl, ap, ◌∙◌, subst, arith, rules}
 use Rattle.order_model.specs.Orders.{IsOrder}
 use Rattle.order_model.specs.Problems.{TruthTables}
 use Rattle.unique_table.specs.Plans.{order_of, levels_of, output_at, fixed}
@@ -48,3 +48,10 @@ returns-clause-made t c =
     (subst (λ k. Means c.output_below-2.new.session c.in_ok-high.high
     (fixed (take (c.args.level + 1) (order_of c.args.store.now.plan)) k (output_at c.args.store.now.plan.problem.value c.args.output)))
     (path_up 32 c.args.level c.args.path _ (omega arith) refl) c.in_ok-high.ensures.made.function) m)
+
+pub returns-in_err-high-clause-made : goal.returns-in_err-high-clause-made
+returns-in_err-high-clause-made t c = record {
+  follows = follows_trans _ _ _ c.output_below.ensures.made.follows c.output_below-2.ensures.made.follows;
+  function = search rules;
+  full = search rules;
+}

@@ -15,7 +15,7 @@ use Rattle.unique_table.proofs.store.Store.close.Goals as goal
 pub last_diagram-diagram-requires-clause-known : goal.last_diagram-diagram-requires-clause-known
 last_diagram-diagram-requires-clause-known c = let k = c.self.invariant in λ j low full.
     found_known c.self.inside.table.shared.key k.plan _ c.session.inside.seat.me.0 (slots_items c.close_with-closed.result.words) _
-    c.session.invariant.good.live c.close_with-closed.ensures.values.2
+    c.session.invariant.good.live c.session.invariant.current c.close_with-closed.ensures.values.2
     c.self.inside.places c.self.inside.entries c.self.inside.roots c.self.inside.pieces k.places k.entries k.roots k.pieces j full
 
 pub returns-clause-diagram : goal.returns-clause-diagram
@@ -28,7 +28,7 @@ returns-clause-diagram c = let k = c.self.invariant in let words : List ℕ = sl
     (λ (d : OrderedGraph). Represents (levels_of c.args.self.plan) (functions c.args.self.plan.problem.value) (order_of c.args.self.plan) d.graph)
     (AreAllFilled words first outputs) c.last_diagram-diagram.result c.last_diagram-diagram.ensures.filled c.last_diagram-diagram.ensures.diagram
     (λ d full found. subst (λ (z : Plan). Represents (levels_of z) (functions z.problem.value) (order_of z) d.graph) plan
-    (found_represents c.self.inside.table.shared.key k.plan _ c.session.inside.seat.me.0 words _ c.session.invariant.good.live
+    (found_represents c.self.inside.table.shared.key k.plan _ c.session.inside.seat.me.0 words _ c.session.invariant.good.live c.session.invariant.current
     c.close_with-closed.ensures.values.2
     c.self.inside.places c.self.inside.entries c.self.inside.roots c.self.inside.pieces k.places k.entries k.roots k.pieces order k.order
     d.graph full found.represents))
@@ -41,6 +41,8 @@ returns-clause-missing c = let k = c.self.invariant in let words : List ℕ = sl
     record {
       store =
           record { table = c.session.inside.seat.table_id; plan = v.plan };
+      stake =
+          v.stake;
       seen =
           v.seen;
       pieces = v.pieces;
@@ -49,6 +51,6 @@ returns-clause-missing c = let k = c.self.invariant in let words : List ℕ = sl
     } in
     err_weaker (LacksRoot words first outputs) (Lacks c.args.session) c.last_diagram-diagram.result c.last_diagram-diagram.ensures.missing
     (λ e l. subst (λ (z : Knowledge). Lacks z e) c.session.view_is
-    (found_lacks c.self.inside.table.shared.key k.plan _ v words _ c.session.invariant.good.live c.close_with-closed.ensures.values.2
+    (found_lacks c.self.inside.table.shared.key k.plan _ v words _ c.session.invariant.good.live c.session.invariant.current c.close_with-closed.ensures.values.2
     c.self.inside.places c.self.inside.entries c.self.inside.roots c.self.inside.pieces k.places k.entries k.roots k.pieces here.store v.steps v.writes
     (plan_is c.self.inside c.session.inside c.args.self c.args.session c.self.view_is c.session.view_is k c.session.invariant c.requires) e l))

@@ -1,0 +1,21 @@
+use Rattle.std.proofs.Common.{ℕ, ◌+◌, List, [], rules, sym, refl, ◌∙◌, subst}
+use Rattle.atomic_table.specs.Table.{opening}
+use Rattle.unique_table.specs.declared.plan.Plan.{Plan}
+use Rattle.unique_table.specs.Picture.{IsKept, newcomer}
+use Rattle.unique_table.proofs.Starts.{starts}
+use Rattle.unique_table.proofs.store.Store.new.Goals as goal
+
+pub of_words-requires : goal.of_words-requires
+of_words-requires c =
+    let b : Plan = record {
+      places = c.node_places-places.result;
+      entries = c.cache_places-entries.result;
+      roots = c.parts_count-roots.result;
+      pieces = c.parts_count-roots.result + c.from.result;
+      order = c.of.result;
+      problem = c.of-2.result;
+      kind = c.in_ok-kind.kind;
+    } in
+    subst (λ (ws : List ℕ). IsKept b (opening ws [] (newcomer b)))
+    (sym (c.as_slice.ensures.value ∙ c.in_ok-words.ensures.items_if_clones_equal (λ y e. e)))
+    (starts b _ (search rules) refl)
