@@ -220,8 +220,9 @@ def prove_all(libraries, uses, seconds, report, lanes):
                 room = free_gigabytes()
                 if idle < 1 or (running and room < GIGABYTES_A_JOB):
                     break
-                spare = min(MOST_JOBS, idle // (len(ready) - at), 1 + max(0, room - GIGABYTES_A_JOB) // GIGABYTES_A_FURTHER_JOB)
-                jobs = max(1, spare)
+                # the longest chain is what a build waits for: it gets what the others leave, and half of the idle ones at least
+                spare = idle - min(len(ready) - at - 1, idle // 2)
+                jobs = min(MOST_JOBS, spare, 1 + max(0, room - GIGABYTES_A_JOB) // GIGABYTES_A_FURTHER_JOB)
                 left.remove(crate)
                 lane = Lane(lanes, crate, below[crate])
                 report.running[crate] = time.monotonic(), jobs

@@ -11,4 +11,5 @@ pub mod Expanded
 pub mod KeptRuns
 pub mod AllDistinct
 pub mod HeldBytes
+pub mod FirstSets
 pub mod Ordered

@@ -11,6 +11,7 @@
 --     HoldsStrips t low outer numbers masks      the unrolled table holds the keys of t; `low` parts the variables
 --     AreDistinct t count      all subfunctions are distinct and depend on the whole set
 --     HoldsTable      either of them
+--     AreOfFirstSets p tables      the tables of the first sets, in the order of their masks
 --     HoldsBytes t low outer bytes rows masks      strips whose entries stand in rows, which bytes name: a row has an entry for each assignment of the variables below 3 outside the set
 use Rattle.std.specs.Prelude.{◌≡◌, ℕ, ◌+◌, ◌*◌, ◌^◌, ◌<◌, ◌≤◌, Bool, IsTrue, min, List, [], ◌∷◌, Option, None, Some, map, take, drop, length, reverse, get_or, nat_eq}
 use Rattle.std.specs.List.{filter, flat_map, range_with_len}
@@ -23,7 +24,7 @@ use Rattle.class_laws.specs.PairTables.{AllBelow}
 use Rattle.class_laws.specs.Places.{pairs}
 use Rattle.class_laws.specs.Values.{values_of, number_of}
 use Rattle.class_laws.specs.Dependence.{dependence}
-use Rattle.class_laws.specs.Table.{ClassesOf, functions_of, set_of, free_below}
+use Rattle.class_laws.specs.Table.{ClassesOf, classes_of, functions_of, set_of, free_below}
 use Rattle.pair_numbering.specs.Keys.{AreUsed, TellsPairs}
 
 -- how many variables run inside a strip of the empty set
@@ -122,3 +123,7 @@ pub record HoldsBytes (t : ClassesOf) (low : ℕ) (outer bytes rows masks : List
   pub strips : HoldsStrips t low outer (unrolled bytes rows (2 ^ free_below t.set 3)) masks
   pub below : AllBelow rows (length masks)
   pub few_rows : length rows ≤ 2 ^ 11
+
+-- the tables of the first sets, in the order of their masks
+abbrev pub AreOfFirstSets : TruthTables → List ClassesOf → Type 0
+AreOfFirstSets p tables = tables ≡ map (classes_of p) (range_with_len 0 (length tables))

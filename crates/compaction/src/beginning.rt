@@ -1,33 +1,54 @@
 //! What the walks over a problem's sets begin with.
 
-ghost use Rattle.std.specs.Prelude.{◌≡◌, ◌<◌, ◌≤◌, IfOk};
+ghost use Rattle.std.specs.Prelude.{◌≡◌, ◌<◌, ◌≤◌, length, IfOk, IfSome};
 ghost use Rattle.class_laws.specs.Table.{classes_of};
+ghost use Rattle.compaction.specs.Strips.{AreOfFirstSets};
 
 use crate::bytes::ByteKeys;
 use crate::names::AllNamePairs;
-use order_model::Problem;
+use order_model::{Mask, Problem};
 use std::alloc::{AllocError, Global};
 use std::marker::Model;
 
-/// What the walks over a problem's sets begin with: the keys of the empty set, and the pairs of
-/// names for the sets of high variables. It is made once for all blocks.
+/// What the walks over a problem's sets begin with: the keys of the sets of the lowest three
+/// variables, and the pairs of names for the sets of high variables. It is made once for all
+/// blocks.
 #[derive(Drop)]
 pub struct Beginning<'a> {
     problem: &'a Problem,
-    keys: Option<ByteKeys<'a>>,
+    keys: Vec<ByteKeys<'a>>,
     names: AllNamePairs,
 }
 
 impl<'a> Model for Beginning<'a> {
-    ghost use Rattle.std.specs.Prelude.{◌≡◌, IfSome};
     ghost use Rattle.order_model.specs.Problems.{TruthTables};
-    ghost use Rattle.class_laws.specs.Table.{classes_of};
+    ghost use Rattle.compaction.specs.Strips.{AreOfFirstSets};
 
     ghost Value = { TruthTables };
 
     ghost view = { λ b. b.problem.now };
 
-    ghost invariant = { λ b. IfSome b.keys (λ k. k ≡ classes_of b.problem.now 0) };
+    ghost invariant = { λ b. AreOfFirstSets b.problem.now b.keys.items };
+}
+
+/// The keys of the sets of the lowest three variables, in the order of their masks.
+fn keys_of_low_sets<'a>(
+    alloc: Global,
+    problem: &'a Problem,
+) -> Result<Vec<ByteKeys<'a>>, AllocError>
+    requires { 8 ≤ problem.now.inputs }
+    ensures sets { IfOk result (λ v. AreOfFirstSets problem.now v.items) }
+    ensures all { IfOk result (λ v. length v.items ≡ 8) }
+{
+    let mut keys = Vec::with_capacity(alloc, 8)?;
+    keys.push(ByteKeys::of_problem(alloc, problem)?)?;
+    for largest in 0..3u8 {
+        for without in 0..1usize << largest {
+            let more = keys[without].add(alloc, largest)?;
+            keys.push(more)?;
+        }
+    }
+    Ok(keys)
 }
 
 impl<'a> Beginning<'a> {
@@ -38,11 +59,11 @@ impl<'a> Beginning<'a> {
         if problem.inputs() < 8 {
             return Ok(Beginning::bare(alloc, problem));
         }
-        let keys = ByteKeys::of_problem(alloc, problem)?;
-        let names = AllNamePairs::of(alloc, keys.names(), problem.inputs() - 8)?;
+        let keys = keys_of_low_sets(alloc, problem)?;
+        let names = AllNamePairs::of(alloc, keys[0].names(), problem.inputs() - 8)?;
         Ok(Beginning {
             problem,
-            keys: Some(keys),
+            keys,
             names,
         })
     }
@@ -53,7 +74,7 @@ impl<'a> Beginning<'a> {
     {
         Beginning {
             problem,
-            keys: None,
+            keys: Vec::new(alloc),
             names: AllNamePairs::none(alloc),
         }
     }
@@ -70,15 +91,10 @@ impl<'a> Beginning<'a> {
         &self.names
     }
 
-    /// The keys of the empty set.
-    pub(crate) fn keys(&self, alloc: Global) -> Result<ByteKeys<'a>, AllocError>
-        requires { 8 ≤ self.now.inputs }
-        ensures { IfOk result (λ k. k ≡ classes_of self.now 0) }
+    /// The keys of a set of the lowest three variables, if they were made beforehand.
+    pub(crate) fn keys(&self, set: Mask) -> Option<&ByteKeys<'a>>
+        ensures { IfSome result (λ k. k.now ≡ classes_of self.now set) }
     {
-        let keys = match &self.keys {
-            Some(keys) => keys.copied(alloc)?,
-            None => ByteKeys::of_problem(alloc, self.problem)?,
-        };
-        Ok(keys)
+        self.keys.get(usize::from(set))
     }
 }

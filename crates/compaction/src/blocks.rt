@@ -7,6 +7,7 @@ ghost use Rattle.class_laws.specs.Table.{classes_of};
 ghost use Rattle.compaction.specs.Rows.{AreRows, AreMembers, AreBlank, AreFilled, AreUnwanted, IsFilled, wanted_count};
 
 use crate::beginning::Beginning;
+use crate::bytes::ByteKeys;
 use crate::names::AllNamePairs;
 use crate::strips::{Strips, low_variables};
 use crate::tally::Tally;
@@ -40,7 +41,7 @@ impl BlockWidths {
         self.rows[i]
     }
 
-    /// How many class tables were compacted.
+    /// How many class tables were compacted, those that were made beforehand included.
     pub fn compactions(&self) -> u32
         ensures { result ≡ self.now.compactions }
     {
@@ -163,14 +164,16 @@ fn low_bytes<'a>(
     requires { 8 ≤ beginning.now.inputs }
     ensures { IfOk result (λ c. c ≡ classes_of beginning.now (low % 8)) }
 {
-    let mut keys = beginning.keys(alloc)?;
+    if let Some(keys) = beginning.keys(low % 8) {
+        return keys.write_out(alloc);
+    }
+    let mut keys = ByteKeys::of_problem(alloc, beginning.problem())?;
     for y in 0..3 {
         if (low >> y) & 1 == 1 {
             keys = keys.add(alloc, y)?;
         }
     }
-    let strips = keys.write_out(alloc)?;
-    Ok(strips)
+    keys.write_out(alloc)
 }
 
 /// The keys of a set of low variables, from those of its members below `from`.

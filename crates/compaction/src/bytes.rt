@@ -107,48 +107,32 @@ impl<'a> ByteKeys<'a> {
         self.outer.as_slice()
     }
 
-    /// The same keys once more.
-    pub fn copied(&self, alloc: Global) -> Result<ByteKeys<'a>, AllocError>
-        ensures { IfOk result (λ c. c ≡ self.now) }
-    {
-        let mut bytes = Vec::with_capacity(alloc, self.bytes.len())?;
-        bytes.extend_from_slice(&self.bytes)?;
-        let mut masks = Vec::with_capacity(alloc, self.masks.len())?;
-        masks.extend_from_slice(&self.masks)?;
-        Ok(ByteKeys {
-            problem: self.problem,
-            set: self.set,
-            outer: copied(alloc, &self.outer)?,
-            bytes,
-            rows: copied(alloc, &self.rows)?,
-            masks,
-        })
-    }
-
     /// The keys with one more variable in the set.
-    pub fn add(self, alloc: Global, x: VarIx) -> Result<ByteKeys<'a>, AllocError>
+    pub fn add(&self, alloc: Global, x: VarIx) -> Result<ByteKeys<'a>, AllocError>
         requires inner { x < 3 }
-        requires inside { 8 ≤ self.problem.inputs }
-        requires new { IsFalse (has (set_of self) x) }
-        ensures { IfOk result (λ c. c ≡ with_variable self.entry x) }
+        requires inside { 8 ≤ self.now.problem.inputs }
+        requires new { IsFalse (has (set_of self.now) x) }
+        ensures { IfOk result (λ c. c ≡ with_variable self.now x) }
     {
         prove!(self.problem.inputs() <= 16);
         let rank = rank_of(self.set, x);
         let told = tell_pairs(alloc, &self.rows, rank, x, &self.masks)?;
+        let mut bytes = Vec::with_capacity(alloc, self.bytes.len())?;
+        bytes.extend_from_slice(&self.bytes)?;
         Ok(ByteKeys {
             problem: self.problem,
             set: self.set | (1 << x),
-            outer: self.outer,
-            bytes: self.bytes,
+            outer: copied(alloc, &self.outer)?,
+            bytes,
             rows: told.numbers,
             masks: told.masks,
         })
     }
 
     /// The strips, written out.
-    pub fn write_out(self, alloc: Global) -> Result<Strips<'a>, AllocError>
-        requires { 8 ≤ self.problem.inputs }
-        ensures { IfOk result (λ c. c ≡ self.entry) }
+    pub fn write_out(&self, alloc: Global) -> Result<Strips<'a>, AllocError>
+        requires { 8 ≤ self.now.problem.inputs }
+        ensures { IfOk result (λ c. c ≡ self.now) }
     {
         let numbers = unroll(
             alloc,
@@ -156,13 +140,16 @@ impl<'a> ByteKeys<'a> {
             &self.rows,
             1usize << rank_of(self.set, 3),
         )?;
+        let mut masks = Vec::with_capacity(alloc, self.masks.len())?;
+        masks.extend_from_slice(&self.masks)?;
+        let outer = copied(alloc, &self.outer)?;
         Ok(Strips::of_parts(
             alloc,
             self.problem,
             self.set,
-            self.outer,
+            outer,
             numbers,
-            self.masks,
+            masks,
             false,
         ))
     }

@@ -70,9 +70,10 @@ fn join_key_masks(alloc: Global, masks: &[u16], x: u8) -> Result<Vec<u16>, Alloc
 {
     let base = masks.len();
     let mut joined = Vec::with_capacity(alloc, base * base)?;
-    for key in 0..base * base {
-        let pair = ((key % base) as u32, (key / base) as u32);
-        joined.push(join_mask(masks, x, pair))?;
+    for upper in 0..base {
+        for lower in 0..base {
+            joined.push(join_mask(masks, x, (lower as u32, upper as u32)))?;
+        }
     }
     Ok(joined)
 }

@@ -1,4 +1,4 @@
-use Rattle.std.proofs.Common.{◌≡◌, ℕ, ◌<◌, ◌≤◌, ◌*◌, ◌%◌, ◌^◌, length, sym, ap, ◌∙◌, subst, arith}
+use Rattle.std.proofs.Common.{◌≡◌, ℕ, ◌<◌, ◌≤◌, ◌*◌, ◌%◌, ◌^◌, ◌++◌, length, sym, ap, ◌∙◌, subst, arith}
 use Rattle.std.proofs.lemmas.Nat.{one_shl}
 use Rattle.compaction.specs.Strips.{AreNamed, HoldsStrips, low_variables, unrolled}
 use Rattle.class_laws.specs.Table.{ClassesOf, classes_of, free_below}
@@ -47,8 +47,16 @@ of_parts-requires-clause-holds c =
     (2 ^ free_below c.self.inside.set 3) =
     c.in_ok-numbers.ensures
     ∙ (λ i. unrolled (c.deref.ensures.value i) (c.deref-2.ensures.value i) (r i)) in
+    let outer = c.in_ok-outer.ensures ∙ c.deref-4.ensures.value in
+    let masks = c.in_ok-extend_from_slice.ensures.items ∙ (λ i. c.in_ok-masks.ensures.items i ++ c.deref-3.ensures.value i) in
     subst (λ us. HoldsStrips (classes_of c.self.inside.problem.now c.self.inside.set) (low_variables c.self.inside.problem.now)
-    c.self.inside.outer.items us c.self.inside.masks.items) (sym n)
-    (subst (λ k. HoldsStrips (classes_of c.self.inside.problem.now c.self.inside.set) k c.self.inside.outer.items
-    (unrolled c.self.inside.bytes.items c.self.inside.rows.items (2 ^ free_below c.self.inside.set 3)) c.self.inside.masks.items)
-    low h.strips)
+    c.in_ok-outer.outer.items us c.extend_from_slice.new.self.items) (sym n)
+    (subst (λ k. HoldsStrips (classes_of c.self.inside.problem.now c.self.inside.set) k c.in_ok-outer.outer.items
+    (unrolled c.self.inside.bytes.items c.self.inside.rows.items (2 ^ free_below c.self.inside.set 3)) c.extend_from_slice.new.self.items)
+    low
+    (subst (λ us. HoldsStrips (classes_of c.self.inside.problem.now c.self.inside.set) 8 us
+    (unrolled c.self.inside.bytes.items c.self.inside.rows.items (2 ^ free_below c.self.inside.set 3)) c.extend_from_slice.new.self.items)
+    (sym outer)
+    (subst (HoldsStrips (classes_of c.self.inside.problem.now c.self.inside.set) 8 c.self.inside.outer.items
+    (unrolled c.self.inside.bytes.items c.self.inside.rows.items (2 ^ free_below c.self.inside.set 3)))
+    (sym masks) h.strips)))

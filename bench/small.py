@@ -1,0 +1,63 @@
+#!/usr/bin/env python3
+"""small.py INPUTS COUNT [PEERS]: what COUNT random functions of INPUTS inputs take: by the library, by the program in a loop and by
+several at a time, and, where bench/peers.sh built it in PEERS, by CUDD's exact reordering in one process. Each is run three times, in
+turns, and the fastest counts."""
+import os
+import random
+import subprocess
+import sys
+import tempfile
+import time
+
+TOP = os.path.dirname(os.path.dirname(os.path.abspath(__file__)))
+
+
+def write_files(room, inputs, count):
+    chosen = random.Random(inputs)
+    for number in range(count):
+        rows = [f"{point:0{inputs}b} 1" for point in range(1 << inputs) if chosen.random() < 0.5]
+        with open(f"{room}/{number}.pla", "w") as file:
+            print(f".i {inputs}", ".o 1", *rows, ".e", sep="\n", file=file)
+    return [f"{room}/{number}.pla" for number in range(count)]
+
+
+def told(command):
+    """The milliseconds a file that a harness prints."""
+    return float(subprocess.run(command, check=True, capture_output=True, text=True).stdout.split()[0])
+
+
+def measured(script, files):
+    """The milliseconds a file that a shell's script takes for the files, which it is given as a list of lines."""
+    start = time.monotonic()
+    subprocess.run(["sh", "-c", script], check=True, input="\n".join(files), text=True, stdout=subprocess.DEVNULL)
+    return (time.monotonic() - start) * 1000 / len(files)
+
+
+def main():
+    inputs, count = int(sys.argv[1]), int(sys.argv[2])
+    peers = sys.argv[3] if len(sys.argv) > 3 else None
+    for name in ("minorder", "libminorder"):
+        subprocess.run([f"{TOP}/{name}", "--help"] if name == "minorder" else f"{TOP}/{name}", check=True, stdout=subprocess.DEVNULL)
+    program = f"{TOP}/crates/minorder/out/minorder"
+    with tempfile.TemporaryDirectory() as room:
+        files = write_files(room, inputs, count)
+        include = ["-I", f"{TOP}/include", f"{TOP}/bench/small.c", f"{TOP}/lib/libminorder.a"]
+        subprocess.run([os.environ.get("CC", "cc"), "-O2", *include, "-o", f"{room}/small"], check=True)
+        ways = {
+            "libminorder, one process": lambda: told([f"{room}/small", *files]),
+            "minorder --workers 1, in a loop": lambda: measured(f"while read -r it; do {program} --workers 1 $it; done", files),
+            "minorder --workers 1, xargs -P 4": lambda: measured(f"xargs -n 1 -P 4 {program} --workers 1", files),
+        }
+        if peers:
+            ways["CUDD's exact reordering, one process"] = lambda: told([f"{peers}/cudd", "exact", *files])
+        taken = {name: [] for name in ways}
+        for _ in range(3):
+            for name, way in ways.items():
+                taken[name].append(way())
+        print("| Way | Milliseconds a function | Functions a second |", "|---|---|---|", sep="\n")
+        for name, times in taken.items():
+            print(f"| {name} | {min(times):.3g} | {1000 / min(times):.0f} |")
+
+
+if __name__ == "__main__":
+    main()
