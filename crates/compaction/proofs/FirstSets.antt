@@ -38,7 +38,7 @@ looked_up p tables i None h e lt = tt
 looked_up p tables i (Some t) h e lt = e ∙ first_set p tables i t.now h lt
 
 -- the table of a set without its largest member
-pub earlier_set : (p : TruthTables) (tables : List ClassesOf) (largest without : ℕ) (t : ClassesOf) → largest < 3 →
+pub earlier_set : (p : TruthTables) (tables : List ClassesOf) (largest without : ℕ) (t : ClassesOf) → largest < 16 →
     without < 1 * 2 ^ largest % 2 ^ 64 → length tables ≡ 2 ^ largest + without → AreOfFirstSets p tables → t ≡ get_or tables without t →
     (without < 2 ^ largest) × (t ≡ classes_of p without)
 earlier_set p tables largest without t q lt l h e =

@@ -1,21 +1,26 @@
 //! What the walks over a problem's sets begin with.
 
-ghost use Rattle.std.specs.Prelude.{◌≡◌, ◌<◌, ◌≤◌, length, IfOk, IfSome};
+ghost use Rattle.std.specs.Prelude.{◌≡◌, ◌<◌, ◌≤◌, IfOk, IfSome};
 ghost use Rattle.class_laws.specs.Table.{classes_of};
 ghost use Rattle.compaction.specs.Strips.{AreOfFirstSets};
 
 use crate::bytes::ByteKeys;
 use crate::names::AllNamePairs;
+use crate::strips::{Strips, low_variables};
 use order_model::{Mask, Problem};
 use std::alloc::{AllocError, Global};
 use std::marker::Model;
 
-/// What the walks over a problem's sets begin with: the keys of the sets of the lowest three
-/// variables, and the pairs of names for the sets of high variables. It is made once for all
-/// blocks.
+/// Truth tables of no more entries than these have the tables of all low sets made beforehand.
+const FEW_ENTRIES: usize = 1 << 16;
+
+/// What the walks over a problem's sets begin with: the tables of all sets of low variables if they
+/// are small, else the keys of the sets of the lowest three variables; and the pairs of names for
+/// the sets of high variables. It is made once for all blocks.
 #[derive(Drop)]
 pub struct Beginning<'a> {
     problem: &'a Problem,
+    tables: Vec<Strips<'a>>,
     keys: Vec<ByteKeys<'a>>,
     names: AllNamePairs,
 }
@@ -28,20 +33,45 @@ impl<'a> Model for Beginning<'a> {
 
     ghost view = { λ b. b.problem.now };
 
-    ghost invariant = { λ b. AreOfFirstSets b.problem.now b.keys.items };
+    ghost invariant = { λ b. AreOfFirstSets b.problem.now b.tables.items
+        × AreOfFirstSets b.problem.now b.keys.items };
 }
 
-/// The keys of the sets of the lowest three variables, in the order of their masks.
+/// The tables of all sets of low variables, in the order of their masks, from that of the empty
+/// set.
+fn tables_of_low_sets<'a>(
+    alloc: Global,
+    problem: &'a Problem,
+    empty: Strips<'a>,
+) -> Result<Vec<Strips<'a>>, AllocError>
+    requires { empty ≡ classes_of problem.now 0 }
+    ensures { IfOk result (λ v. AreOfFirstSets problem.now v.items) }
+{
+    let low = low_variables(problem);
+    let mut tables = Vec::with_capacity(alloc, 1usize << low)?;
+    tables.push(empty)?;
+    for largest in 0..low {
+        for without in 0..1usize << largest {
+            let more = tables[without].add_low(alloc, largest)?;
+            tables.push(more)?;
+        }
+    }
+    Ok(tables)
+}
+
+/// The keys of the sets of the lowest three variables, in the order of their masks, from those of
+/// the empty set.
 fn keys_of_low_sets<'a>(
     alloc: Global,
     problem: &'a Problem,
+    empty: ByteKeys<'a>,
 ) -> Result<Vec<ByteKeys<'a>>, AllocError>
-    requires { 8 ≤ problem.now.inputs }
-    ensures sets { IfOk result (λ v. AreOfFirstSets problem.now v.items) }
-    ensures all { IfOk result (λ v. length v.items ≡ 8) }
+    requires inputs { 8 ≤ problem.now.inputs }
+    requires empty { empty ≡ classes_of problem.now 0 }
+    ensures { IfOk result (λ v. AreOfFirstSets problem.now v.items) }
 {
     let mut keys = Vec::with_capacity(alloc, 8)?;
-    keys.push(ByteKeys::of_problem(alloc, problem)?)?;
+    keys.push(empty)?;
     for largest in 0..3u8 {
         for without in 0..1usize << largest {
             let more = keys[without].add(alloc, largest)?;
@@ -57,13 +87,29 @@ impl<'a> Beginning<'a> {
         ensures { IfOk result (λ b. b ≡ problem.now) }
     {
         if problem.inputs() < 8 {
-            return Ok(Beginning::bare(alloc, problem));
+            let empty = Strips::of_problem(alloc, problem)?;
+            return Ok(Beginning {
+                problem,
+                tables: tables_of_low_sets(alloc, problem, empty)?,
+                keys: Vec::new(alloc),
+                names: AllNamePairs::none(alloc),
+            });
         }
-        let keys = keys_of_low_sets(alloc, problem)?;
-        let names = AllNamePairs::of(alloc, keys[0].names(), problem.inputs() - 8)?;
+        let keys = ByteKeys::of_problem(alloc, problem)?;
+        let names = AllNamePairs::of(alloc, keys.names(), problem.inputs() - 8)?;
+        if usize::from(problem.outputs()) << problem.inputs() <= FEW_ENTRIES {
+            let empty = keys.write_out(alloc)?;
+            return Ok(Beginning {
+                problem,
+                tables: tables_of_low_sets(alloc, problem, empty)?,
+                keys: Vec::new(alloc),
+                names,
+            });
+        }
         Ok(Beginning {
             problem,
-            keys,
+            tables: Vec::new(alloc),
+            keys: keys_of_low_sets(alloc, problem, keys)?,
             names,
         })
     }
@@ -74,6 +120,7 @@ impl<'a> Beginning<'a> {
     {
         Beginning {
             problem,
+            tables: Vec::new(alloc),
             keys: Vec::new(alloc),
             names: AllNamePairs::none(alloc),
         }
@@ -96,5 +143,12 @@ impl<'a> Beginning<'a> {
         ensures { IfSome result (λ k. k.now ≡ classes_of self.now set) }
     {
         self.keys.get(usize::from(set))
+    }
+
+    /// The table of a set of low variables, if it was made beforehand.
+    pub(crate) fn table(&self, set: Mask) -> Option<&Strips<'a>>
+        ensures { IfSome result (λ t. t.now ≡ classes_of self.now set) }
+    {
+        self.tables.get(usize::from(set))
     }
 }

@@ -215,6 +215,35 @@ fn low_strips<'a>(
     add_members(alloc, strips, low, 3)
 }
 
+/// Fills the rows of a block's sets from the table of its low byte, by a walk over the high
+/// variables. Returns how many tables were compacted.
+fn walk_from(
+    alloc: Global,
+    beginning: &Beginning<'_>,
+    table: &Strips<'_>,
+    block: &Block,
+    needed: &[Mask],
+    rows: &mut [[u32; 16]],
+) -> Result<u32, AllocError>
+    requires inputs { block.now.inputs ≡ beginning.now.inputs }
+    requires low { block.now.low < 2 ^ low_of beginning.now }
+    requires table { table.now ≡ classes_of beginning.now block.now.low }
+    requires needed { length needed.now ≡ length (block_masks block.now) }
+    requires rows { length rows.old ≡ length (block_masks block.now) }
+    requires members { AreMembers beginning.now (block_masks block.now) needed.now }
+    requires blank { AreBlank beginning.now (block_masks block.now) needed.now rows.old }
+    ensures rows { OnOk result
+        (AreRows beginning.now (block_masks block.now) needed.now rows.new) }
+    ensures compactions { IfOk result
+        (λ count. count + 1 ≤ 2 ^ (beginning.now.inputs - low_of beginning.now)) }
+{
+    let problem = beginning.problem();
+    prove!(problem.inputs() <= 16);
+    let low = low_variables(problem);
+    let count = walk(alloc, table, beginning.names(), low, block, needed, rows)?;
+    Ok(count)
+}
+
 /// The rows of a block's sets. The table of the low byte is made once, and the others by a walk
 /// over the high variables that shares common beginnings. If nothing is wanted no table is made.
 fn wanted_rows(
@@ -240,16 +269,13 @@ fn wanted_rows(
             compactions: 0,
         });
     }
-    let table = low_strips(alloc, beginning, low)?;
-    let walked = walk(
-        alloc,
-        &table,
-        beginning.names(),
-        low_variables(problem),
-        block,
-        needed,
-        &mut rows,
-    )?;
+    let walked = match beginning.table(low) {
+        Some(table) => walk_from(alloc, beginning, table, block, needed, &mut rows)?,
+        None => {
+            let table = low_strips(alloc, beginning, low)?;
+            walk_from(alloc, beginning, &table, block, needed, &mut rows)?
+        }
+    };
     Ok(BlockWidths {
         rows,
         compactions: low.count_ones() + walked,

@@ -143,14 +143,6 @@ impl<'a> ByteKeys<'a> {
         let mut masks = Vec::with_capacity(alloc, self.masks.len())?;
         masks.extend_from_slice(&self.masks)?;
         let outer = copied(alloc, &self.outer)?;
-        Ok(Strips::of_parts(
-            alloc,
-            self.problem,
-            self.set,
-            outer,
-            numbers,
-            masks,
-            false,
-        ))
+        Ok(Strips::of_parts(alloc, self.problem, self.set, outer, numbers, masks, false))
     }
 }

@@ -11,7 +11,7 @@ ghost use Rattle.compaction.specs.Strips.{masks_in_use, low_variables as low_of}
 use crate::add_variable::{add_above, count_up};
 use crate::classes::{rank_of, row_of};
 use crate::columns::{ValueStrips, whole_strips};
-use crate::names::NamePairs;
+use crate::names::{NamePairs, copied};
 use order_model::{Mask, Problem, VarIx};
 use pair_numbering::tell_pairs;
 use std::alloc::{AllocError, Global};
@@ -196,10 +196,10 @@ impl<'a> Strips<'a> {
     }
 
     /// The keys with one more low variable in the set.
-    pub fn add_low(self, alloc: Global, x: VarIx) -> Result<Strips<'a>, AllocError>
-        requires low { x < low_variables self.problem }
-        requires new { IsFalse (has (set_of self) x) }
-        ensures { IfOk result (λ c. c ≡ with_variable self.entry x) }
+    pub fn add_low(&self, alloc: Global, x: VarIx) -> Result<Strips<'a>, AllocError>
+        requires low { x < low_variables self.now.problem }
+        requires new { IsFalse (has (set_of self.now) x) }
+        ensures { IfOk result (λ c. c ≡ with_variable self.now x) }
     {
         let set = self.set | (1 << x);
         match self.distinct {
@@ -207,11 +207,12 @@ impl<'a> Strips<'a> {
             None => {
                 let rank = rank_of(self.set, x);
                 let told = tell_pairs(alloc, &self.numbers, rank, x, &self.masks)?;
+                let outer = copied(alloc, &self.outer)?;
                 let strips = Strips::of_parts(
                     alloc,
                     self.problem,
                     set,
-                    self.outer,
+                    outer,
                     told.numbers,
                     told.masks,
                     told.all_used,

@@ -21,7 +21,7 @@ use crate::shortage::Shortage;
 use crate::texts::{Report, report_text, total};
 use command_line::RunPlan;
 use dd_builder::{build, build_tables};
-use order_model::{Diagram, NoGate, Order, Pairs, PairsFault, Workers};
+use order_model::{Diagram, NoGate, Order, Pairs, PairsFault, Problem, Workers};
 use order_solve::{Solution, solve};
 use pla_reader::Cover;
 use sifting::laws::diagrams_have_their_functions_tables;
@@ -220,6 +220,18 @@ pub(crate) struct RunTexts {
     pub(crate) certificate: Option<String>,
 }
 
+/// Truth tables of fewer entries than these are worth no thread that builds diagrams of them.
+const ENTRIES_WORTH_THREADS: usize = 1 << 14;
+
+/// The workers that build diagrams: one for small truth tables.
+fn building_workers(problem: &Problem, workers: Workers) -> Workers {
+    let entries = usize::from(problem.outputs()) << problem.inputs();
+    match Workers::new(1) {
+        Some(one) if entries < ENTRIES_WORTH_THREADS => one,
+        _ => workers,
+    }
+}
+
 /// The texts of the answer.
 pub(crate) fn answer_texts<R: Threads + Sync>(
     rt: &R,
@@ -236,10 +248,11 @@ pub(crate) fn answer_texts<R: Threads + Sync>(
 {
     let kept = pairs.copied();
     let tables = Tables::of_cover(rt, alloc, cover)?;
-    let first = first_diagram(rt, alloc, cover, &tables, &pairs, workers)?;
-    let file_levels = file_order_levels_of(rt, alloc, cover, &tables, &first, workers)?;
+    let builders = building_workers(tables.problem(), workers);
+    let first = first_diagram(rt, alloc, cover, &tables, &pairs, builders)?;
+    let file_levels = file_order_levels_of(rt, alloc, cover, &tables, &first, builders)?;
     let found = search(rt, alloc, cover, &tables, first, pairs, workers)?;
-    let report = report_of(rt, alloc, cover, &tables, &found, &file_levels, workers)?;
+    let report = report_of(rt, alloc, cover, &tables, &found, &file_levels, builders)?;
     let certificate = if certify {
         Some(certificate_text(alloc, tables.problem(), &kept, found.solution)?)
     } else {

@@ -8,13 +8,13 @@ use Rattle.compaction.proofs.beginning.keys_of_low_sets.Goals as goal
 pub add-requires-clause-inside : goal.add-requires-clause-inside
 add-requires-clause-inside c =
     let h = earlier_set c.args.problem.now c.loop-without.keys.items c.loop-largest.largest c.loop-without.without c.index.result.now
-    c.loop-largest-test.true c.loop-without-test.true c.loop-without.invariant.0 c.loop-without.invariant.1 c.index.ensures in
-    subst (λ (t : ClassesOf). 8 ≤ t.problem.inputs) (sym h.1) c.requires
+    (let q = c.loop-largest-test.true in omega arith) c.loop-without-test.true c.loop-without.invariant.0 c.loop-without.invariant.1 c.index.ensures in
+    subst (λ (t : ClassesOf). 8 ≤ t.problem.inputs) (sym h.1) c.requires.inputs
 
 pub add-requires-clause-new : goal.add-requires-clause-new
 add-requires-clause-new c =
     let h = earlier_set c.args.problem.now c.loop-without.keys.items c.loop-largest.largest c.loop-without.without c.index.result.now
-    c.loop-largest-test.true c.loop-without-test.true c.loop-without.invariant.0 c.loop-without.invariant.1 c.index.ensures in
+    (let q = c.loop-largest-test.true in omega arith) c.loop-without-test.true c.loop-without.invariant.0 c.loop-without.invariant.1 c.index.ensures in
     ap (λ (t : ClassesOf). has (set_of t) c.loop-largest.largest) h.1
     ∙ lacks_larger c.args.problem.now.inputs c.loop-without.without c.loop-largest.largest h.0
 
@@ -23,11 +23,13 @@ loop-without-preserved c =
     let q = c.loop-largest-test.true in
     let e = c.in_ok-push-2.ensures.items in
     let h = earlier_set c.args.problem.now c.loop-without.keys.items c.loop-largest.largest c.loop-without.without c.index.result.now
-    c.loop-largest-test.true c.loop-without-test.true c.loop-without.invariant.0 c.loop-without.invariant.1 c.index.ensures in
+    (let q = c.loop-largest-test.true in omega arith) c.loop-without-test.true c.loop-without.invariant.0 c.loop-without.invariant.1 c.index.ensures in
     let larger = larger_set c.loop-without.without c.loop-largest.largest h.0 in
     let l = c.loop-without.invariant.0 in
     let own = c.in_ok-more.ensures ∙ ap (λ (t : ClassesOf). with_variable t c.loop-largest.largest) h.1
     ∙ ap (classes_of c.args.problem.now) (larger ∙ sym l) in
-    let n = c.in_ok-push-2.ensures.len in
-    (omega arith, subst (AreOfFirstSets c.args.problem.now) (sym e)
-      (one_set_more c.args.problem.now c.loop-without.keys.items c.in_ok-more.more c.loop-without.invariant.1 own))
+    let n = c.in_ok-push-2.ensures.len in (
+      omega arith,
+      subst (AreOfFirstSets c.args.problem.now) (sym e)
+          (one_set_more c.args.problem.now c.loop-without.keys.items c.in_ok-more.more c.loop-without.invariant.1 own),
+    )

@@ -12,9 +12,10 @@ loop-lower-preserved c =
     let count = length masks in
     let key = c.loop-upper.upper * count + c.loop-lower.lower in
     let own : joined_mask masks c.args.x (c.loop-lower.lower, c.loop-upper.upper) ≡ joined_key_mask masks c.args.x key =
-    (λ i. joined_mask masks c.args.x
-    (sym (mod-mul-add c.loop-upper.upper count c.loop-lower.lower c.loop-lower-test.true) i,
-      sym (div-mul-add c.loop-upper.upper count c.loop-lower.lower c.loop-lower-test.true) i)) in
+    (λ i. joined_mask masks c.args.x (
+      sym (mod-mul-add c.loop-upper.upper count c.loop-lower.lower c.loop-lower-test.true) i,
+      sym (div-mul-add c.loop-upper.upper count c.loop-lower.lower c.loop-lower-test.true) i,
+    )) in
     let next : key + 1 ≡ c.loop-upper.upper * count + (c.loop-lower.lower + 1) = omega arith in
     c.in_ok-push.ensures.items ∙ (λ i. c.loop-lower.invariant i ++ ((c.join_mask.ensures ∙ own) i ∷ []))
     ∙ sym (map-range_with_len_more (joined_key_mask masks c.args.x) 0 key key (omega arith))

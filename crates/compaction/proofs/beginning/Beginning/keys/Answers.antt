@@ -6,7 +6,7 @@ use Rattle.compaction.proofs.beginning.Beginning.keys.Goals as goal
 
 pub returns : goal.returns
 returns c =
-    let h = subst (AreOfFirstSets c.self.inside.problem.now) (sym c.deref.ensures.value) c.self.invariant in
+    let h = subst (AreOfFirstSets c.self.inside.problem.now) (sym c.deref.ensures.value) c.self.invariant.1 in
     let l = c.get.ensures.lookup in
     subst (λ p. IfSome c.get.result (λ k. k.now ≡ classes_of p c.args.set)) c.self.view_is
     (subst (λ i. IfSome c.get.result (λ k. k.now ≡ classes_of c.self.inside.problem.now i)) c.from.ensures

@@ -1,4 +1,4 @@
-use Rattle.std.proofs.Common.{◌/◌, ◌^◌, length, bit_or, sym, ap, ◌∙◌, subst, arith}
+use Rattle.std.proofs.Common.{◌*◌, ◌/◌, ◌%◌, ◌^◌, length, bit_or, sym, ap, ◌∙◌, subst, arith}
 use Rattle.std.proofs.lemmas.Nat.{one_shl}
 use Rattle.compaction.specs.Strips.{AreDistinct, HoldsStrips, HoldsTable, low_variables}
 use Rattle.pair_numbering.specs.Keys.{TellsPairs}
@@ -12,7 +12,7 @@ use Rattle.compaction.proofs.strips.Strips.add_low.Goals as goal
 pub tell_pairs-requires-clause-table : goal.tell_pairs-requires-clause-table
 tell_pairs-requires-clause-table c =
     let l = c.requires.low in
-    let h = table_strips c.args.self (low_variables c.args.self.problem) c.self.inside.distinct c.self.inside.all_used
+    let h = table_strips c.args.self.now (low_variables c.args.self.now.problem) c.self.inside.distinct c.self.inside.all_used
     c.self.inside.outer.items c.self.inside.numbers.items c.self.inside.masks.items
     (subst (λ (z : ClassesOf). HoldsTable z (low_variables z.problem) c.self.inside.distinct c.self.inside.all_used
     c.self.inside.outer.items c.self.inside.numbers.items c.self.inside.masks.items)
@@ -20,13 +20,13 @@ tell_pairs-requires-clause-table c =
     c.in-None.is in
     let e = c.rank_of-rank.ensures ∙ ap (λ (z : ClassesOf). free_below z.set c.args.x) c.self.view_is in
     subst (λ z. z) (λ i. IsPairTable (sym c.deref.ensures.value i) (sym e i) (length (sym c.deref-in-None.ensures.value i)))
-    (table_low c.args.self c.args.x (omega arith) c.requires.new (low_variables c.args.self.problem) c.self.inside.outer.items
+    (table_low c.args.self.now c.args.x (omega arith) c.requires.new (low_variables c.args.self.now.problem) c.self.inside.outer.items
     c.self.inside.numbers.items c.self.inside.masks.items h l)
 
 pub of_parts-strips-requires-clause-holds : goal.of_parts-strips-requires-clause-holds
 of_parts-strips-requires-clause-holds c =
     let l = c.requires.low in
-    let h = table_strips c.args.self (low_variables c.args.self.problem) c.self.inside.distinct c.self.inside.all_used
+    let h = table_strips c.args.self.now (low_variables c.args.self.now.problem) c.self.inside.distinct c.self.inside.all_used
     c.self.inside.outer.items c.self.inside.numbers.items c.self.inside.masks.items
     (subst (λ (z : ClassesOf). HoldsTable z (low_variables z.problem) c.self.inside.distinct c.self.inside.all_used
     c.self.inside.outer.items c.self.inside.numbers.items c.self.inside.masks.items)
@@ -37,24 +37,27 @@ of_parts-strips-requires-clause-holds c =
     let s = one_shl c.args.x 16 (omega arith) in
     let v = c.deref.ensures.value in
     let m = c.deref-in-None.ensures.value in
-    let k = holds_low c.args.self c.args.x (omega arith) c.requires.new (low_variables c.args.self.problem) c.self.inside.outer.items
+    let k = holds_low c.args.self.now c.args.x (omega arith) c.requires.new (low_variables c.args.self.now.problem) c.self.inside.outer.items
     c.self.inside.numbers.items c.self.inside.masks.items h l
     c.in_ok-told-in-None.told.numbers.items c.in_ok-told-in-None.told.masks.items
-    (subst (λ us. TellsPairs us c.args.x (places.pairs c.self.inside.numbers.items (2 ^ free_below c.args.self.set c.args.x))
+    (subst (λ us. TellsPairs us c.args.x (places.pairs c.self.inside.numbers.items (2 ^ free_below c.args.self.now.set c.args.x))
     c.in_ok-told-in-None.told.numbers.items c.in_ok-told-in-None.told.masks.items) m
-    (subst (λ us. TellsPairs c.deref-in-None.result.now c.args.x (places.pairs us (2 ^ free_below c.args.self.set c.args.x))
+    (subst (λ us. TellsPairs c.deref-in-None.result.now c.args.x (places.pairs us (2 ^ free_below c.args.self.now.set c.args.x))
     c.in_ok-told-in-None.told.numbers.items c.in_ok-told-in-None.told.masks.items) v
     (subst (λ r. TellsPairs c.deref-in-None.result.now c.args.x (places.pairs c.deref.result.now (2 ^ r))
     c.in_ok-told-in-None.told.numbers.items c.in_ok-told-in-None.told.masks.items)
     e c.in_ok-told-in-None.ensures.tells))) in
-    subst (λ (z : ClassesOf). HoldsStrips z (low_variables z.problem) c.self.inside.outer.items c.in_ok-told-in-None.told.numbers.items
+    let outer = c.in_ok-outer-in-None.ensures ∙ c.deref-in-None-2.ensures.value in
+    subst (λ us. HoldsStrips (classes_of c.self.inside.problem.now (bit_or c.self.inside.set (1 * 2 ^ c.args.x % 2 ^ 16)))
+    (low_variables c.self.inside.problem.now) us c.in_ok-told-in-None.told.numbers.items c.in_ok-told-in-None.told.masks.items) (sym outer)
+    (subst (λ (z : ClassesOf). HoldsStrips z (low_variables z.problem) c.self.inside.outer.items c.in_ok-told-in-None.told.numbers.items
     c.in_ok-told-in-None.told.masks.items)
-    (λ i. classes_of (sym c.self.view_is i).problem (bit_or (sym c.self.view_is i).set (sym s i))) k
+    (λ i. classes_of (sym c.self.view_is i).problem (bit_or (sym c.self.view_is i).set (sym s i))) k)
 
 pub of_count-requires : goal.of_count-requires
 of_count-requires c =
     let l = c.requires.low in
-    let d = (table_distinct c.args.self (low_variables c.args.self.problem) c.self.inside.distinct c.in-Some.count c.self.inside.all_used
+    let d = (table_distinct c.args.self.now (low_variables c.args.self.now.problem) c.self.inside.distinct c.in-Some.count c.self.inside.all_used
     c.self.inside.outer.items c.self.inside.numbers.items c.self.inside.masks.items
     (subst (λ (z : ClassesOf). HoldsTable z (low_variables z.problem) c.self.inside.distinct c.self.inside.all_used
     c.self.inside.outer.items c.self.inside.numbers.items c.self.inside.masks.items)
@@ -64,11 +67,11 @@ of_count-requires c =
     let s = one_shl c.args.x 16 (omega arith) in
     subst (λ (z : ClassesOf). AreDistinct z (c.in-Some.count / 2))
     (λ i. classes_of (sym c.self.view_is i).problem (bit_or (sym c.self.view_is i).set (sym s i)))
-    (distinct_more c.args.self c.in-Some.count d c.args.x (omega arith) c.requires.new)
+    (distinct_more c.args.self.now c.in-Some.count d c.args.x (omega arith) c.requires.new)
 
 pub tell_pairs-requires-clause-few : goal.tell_pairs-requires-clause-few
 tell_pairs-requires-clause-few c =
-    let h = table_strips c.args.self (low_variables c.args.self.problem) c.self.inside.distinct c.self.inside.all_used
+    let h = table_strips c.args.self.now (low_variables c.args.self.now.problem) c.self.inside.distinct c.self.inside.all_used
     c.self.inside.outer.items c.self.inside.numbers.items c.self.inside.masks.items
     (subst (λ (z : ClassesOf). HoldsTable z (low_variables z.problem) c.self.inside.distinct c.self.inside.all_used
     c.self.inside.outer.items c.self.inside.numbers.items c.self.inside.masks.items)
