@@ -1,132 +1,29 @@
 #!/usr/bin/env python3
-"""Boolean functions that the field measures orders on, as PLA files.
+"""Boolean functions that the field measures orders on and that people use, as PLA files.
 
     functions.py            lists the names, with inputs, outputs and what each is
     functions.py NAME       writes the PLA file of one to standard output
     functions.py --all DIR  writes all of them into a folder
 
 A function is given by a formula on its inputs; its file is an irredundant cover of each output, or the list of its points where that is
-shorter. Numbers have their lowest bit first in the formulas, and the file's inputs stand in the order that the entry says.
+shorter. Numbers have their lowest bit first in the formulas, and the file's inputs stand in the order that the entry says. Each module below
+has some families.
 """
-import hashlib
 import os
 import sys
 
-import covers
-
-
-class Entry:
-    """A function: its family and name, the names of its inputs in the file's order, its outputs, a formula in words, and the formula itself."""
-
-    def __init__(self, family, name, inputs, outputs, words, values):
-        self.family, self.name, self.inputs, self.outputs, self.words, self.values = family, name, inputs, outputs, words, values
-
-    def tables(self):
-        """A truth table for each output, as a whole number: bit p is the value at the point whose bit i is input i."""
-        n = len(self.inputs)
-        values = [self.values([point >> i & 1 for i in range(n)]) for point in range(1 << n)]
-        return [int("".join("1" if value[output] else "0" for value in reversed(values)), 2) for output in range(self.outputs)]
-
-    def pla(self):
-        lines = covers.lines(len(self.inputs), self.tables())
-        head = [f"# {self.words}", f".i {len(self.inputs)}", f".o {self.outputs}", ".ilb " + " ".join(self.inputs), f".p {len(lines)}"]
-        return "\n".join([*head, *lines, ".e", ""])
-
-
-def number(bits):
-    return sum(bit << i for i, bit in enumerate(bits))
-
-
-def bits_of(value, count):
-    return [value >> i & 1 for i in range(count)]
-
-
-def named(letter, count):
-    return [f"{letter}{i}" for i in range(count)]
-
-
-def two_words(k):
-    """Inputs a0 .. b0 .., and what takes a formula on the two numbers to one on the bits."""
-    return named("a", k) + named("b", k), lambda f: lambda x: f(number(x[:k]), number(x[k:]))
-
-
-def interleaved(k):
-    """The same with the inputs in the order a0 b0 a1 b1 .."""
-    return [name for i in range(k) for name in (f"a{i}", f"b{i}")], lambda f: lambda x: f(number(x[0::2]), number(x[1::2]))
-
-
-def isqrt(value):
-    root = 0
-    while (root + 1) ** 2 <= value:
-        root += 1
-    return root
-
-
-def random_values(n, m):
-    """m random functions of n inputs: bit p of the SHA-256 stream of the blocks `bakchuon n m j k` is the value of function j at point p."""
-    tables = []
-    for j in range(m):
-        stream = b"".join(hashlib.sha256(f"bakchuon {n} {m} {j} {k}".encode()).digest() for k in range(max(1, (1 << n) // 256)))
-        tables.append(stream)
-    return lambda x: [tables[j][number(x) // 8] >> number(x) % 8 & 1 for j in range(m)]
-
-
-def storage(k, w):
-    """Indirect storage access: k bits choose a word of w bits of a memory of 2^w bits, and the word chooses a bit of the memory."""
-    def value(x):
-        memory, start = x[k:], number(x[:k]) * w
-        return [memory[number([memory[(start + i) % (1 << w)] for i in range(w)])]]
-    return value
+import automata
+import chips
+import circuits
+import codings
+import digits
+import sboxes
+import textbook
 
 
 def entries():
-    for n in range(4, 17):
-        yield Entry("hidden weighted bit", f"hwb{n}", named("x", n), 1, "x[w], w being the number of ones among x1 .. xn; 0 where w is 0 (Bryant 1991)", lambda x: [x[sum(x) - 1] if sum(x) else 0])
-    for s in (1, 2, 3):
-        yield Entry("multiplexer", f"mux{1 << s}", named("d", 1 << s) + named("s", s), 1, "data bit d[s], data before the selector", lambda x, s=s: [x[number(x[1 << s:])]])
-    for k in range(2, 9):
-        inputs, of = two_words(k)
-        yield Entry("adder", f"add{k}", inputs, k + 1, "a + b, all bits, a before b", of(lambda a, b, k=k: bits_of(a + b, k + 1)))
-        inputs, of = interleaved(k)
-        yield Entry("adder", f"add{k}i", inputs, k + 1, "a + b, all bits, inputs interleaved", of(lambda a, b, k=k: bits_of(a + b, k + 1)))
-        inputs, of = two_words(k)
-        yield Entry("comparator", f"less{k}", inputs, 1, "a < b, a before b", of(lambda a, b: [a < b]))
-        yield Entry("multiplier", f"mul{k}", inputs, 2 * k, "a * b, all bits, a before b", of(lambda a, b, k=k: bits_of(a * b, 2 * k)))
-        yield Entry("multiplier, middle bit", f"mulmid{k}", inputs, 1, "bit k - 1 of a * b for two k-bit numbers (Bryant 1991)", of(lambda a, b, k=k: [a * b >> (k - 1) & 1]))
-    for k in (4, 5, 6, 7, 8):
-        yield Entry("squarer", f"square{k}", named("x", k), 2 * k, "x * x, all bits", lambda x, k=k: bits_of(number(x) ** 2, 2 * k))
-    for k in (3, 4, 5, 6, 7, 8):
-        inputs, of = two_words(k)
-        yield Entry("divider", f"div{k}", inputs, 2 * k, "quotient and remainder of a by b; both 0 where b is 0", of(lambda a, b, k=k: bits_of(a // b, k) + bits_of(a % b, k) if b else [0] * (2 * k)))
-    for n in (8, 10, 12, 14, 16):
-        yield Entry("square root", f"root{n}", named("x", n), n // 2, "the whole part of the square root of x", lambda x, n=n: bits_of(isqrt_table(n)[number(x)], n // 2))
-    for n in (8, 16):
-        yield Entry("codes", f"gray{n}", named("x", n), n, "binary to Gray: x xor x / 2", lambda x, n=n: bits_of(number(x) ^ number(x) >> 1, n))
-    segments = [0x3F, 0x06, 0x5B, 0x4F, 0x66, 0x6D, 0x7D, 0x07, 0x7F, 0x6F]
-    yield Entry("codes", "bcd7seg", named("x", 4), 7, "a decimal digit to the segments a .. g of a display; dark above 9", lambda x: bits_of(segments[number(x)], 7) if number(x) < 10 else [0] * 7)
-    for n in (5, 7, 9, 11, 13, 15):
-        yield Entry("symmetric", f"majority{n}", named("x", n), 1, "more ones than zeros", lambda x: [2 * sum(x) > len(x)])
-    for name, n, m in (("rd53", 5, 3), ("rd73", 7, 3), ("rd84", 8, 4)):
-        yield Entry("symmetric", name, named("x", n), m, "the number of ones, in binary (MCNC)", lambda x, m=m: bits_of(sum(x), m))
-    yield Entry("symmetric", "9sym", named("x", 9), 1, "three to six ones among nine (MCNC)", lambda x: [3 <= sum(x) <= 6])
-    for n in (8, 12, 16):
-        yield Entry("symmetric", f"parity{n}", named("x", n), 1, "an odd number of ones", lambda x: [sum(x) % 2])
-    for k, w in ((1, 2), (2, 2), (2, 3), (3, 3)):
-        yield Entry("indirect storage access", f"isa{k}_{w}", named("s", k) + named("m", 1 << w), 1, f"{k} bits choose a word of {w} bits of a memory of {1 << w} bits (words wrap), which chooses a bit of it", storage(k, w))
-    for k in range(2, 9):
-        yield Entry("products of pairs", f"achilles{k}", named("x", k) + named("y", k), 1, "x0 y0 + x1 y1 + .., all x before all y (Achilles' heel)", lambda x, k=k: [any(x[i] and x[k + i] for i in range(k))])
-    for n in (8, 10, 12, 14, 16):
-        for m in (1, 4, 16):
-            yield Entry("random", f"random{n}_{m}", named("x", n), m, f"{m} random functions of {n} inputs, by the SHA-256 stream that functions.py states", random_values(n, m))
-
-
-ROOTS = {}
-
-
-def isqrt_table(n):
-    if n not in ROOTS:
-        ROOTS[n] = [isqrt(value) for value in range(1 << n)]
-    return ROOTS[n]
+    for module in (textbook, sboxes, chips, codings, digits, circuits, automata):
+        yield from module.entries()
 
 
 def main(words):

@@ -1,0 +1,47 @@
+"""A function of the table, and what its formulas are written with."""
+import covers
+
+
+class Entry:
+    """A function: its family and name, the names of its inputs in the file's order, its outputs, a formula in words, and the formula itself."""
+
+    def __init__(self, family, name, inputs, outputs, words, values):
+        self.family, self.name, self.inputs, self.outputs, self.words, self.values = family, name, inputs, outputs, words, values
+
+    def tables(self):
+        """A truth table for each output, as a whole number: bit p is the value at the point whose bit i is input i."""
+        n = len(self.inputs)
+        values = [self.values([point >> i & 1 for i in range(n)]) for point in range(1 << n)]
+        return [int("".join("1" if value[output] else "0" for value in reversed(values)), 2) for output in range(self.outputs)]
+
+    def pla(self):
+        lines = covers.lines(len(self.inputs), self.tables())
+        head = [f"# {self.words}", f".i {len(self.inputs)}", f".o {self.outputs}", ".ilb " + " ".join(self.inputs), f".p {len(lines)}"]
+        return "\n".join([*head, *lines, ".e", ""])
+
+
+def number(bits):
+    return sum(bit << i for i, bit in enumerate(bits))
+
+
+def bits_of(value, count):
+    return [value >> i & 1 for i in range(count)]
+
+
+def named(letter, count):
+    return [f"{letter}{i}" for i in range(count)]
+
+
+def two_words(k):
+    """Inputs a0 .. b0 .., and what takes a formula on the two numbers to one on the bits."""
+    return named("a", k) + named("b", k), lambda f: lambda x: f(number(x[:k]), number(x[k:]))
+
+
+def interleaved(k):
+    """The same with the inputs in the order a0 b0 a1 b1 .."""
+    return [name for i in range(k) for name in (f"a{i}", f"b{i}")], lambda f: lambda x: f(number(x[0::2]), number(x[1::2]))
+
+
+def of_table(family, name, inputs, outputs, words, table):
+    """The function that takes a number to its value in a table; the lowest bit is the first input."""
+    return Entry(family, name, named("x", inputs), outputs, words, lambda x: bits_of(table[number(x)], outputs))

@@ -1,0 +1,120 @@
+"""The table of optima: each function's file, optimum and certificate, the latter judged by ordercheck."""
+import csv
+import hashlib
+import json
+import os
+import resource
+import shutil
+import subprocess
+import sys
+
+import functions
+
+HERE = os.path.dirname(os.path.abspath(__file__))
+KEPT_BELOW = 20_000
+# families whose small certificates the gate judges, and the most inputs that it takes of the families that came later
+KEPT_LATER = {"S-boxes", "74 series", "error-correcting codes", "lines and characters", "decimal digits", "processor parts"}
+LATER_INPUTS = 12
+CASES = "crates/worked_cases/data"
+COLUMNS = ["family", "name", "what", "inputs", "outputs", "file order nodes", "sifted nodes", "optimum", "first optimal order", "sifted order", "level counts", "listed sets", "sha256 of the PLA file", "sha256 of the certificate"]
+
+
+def run(*words):
+    ran = subprocess.run(words, stdout=subprocess.PIPE, stderr=subprocess.PIPE, text=True)
+    if ran.returncode:
+        sys.exit(f"{' '.join(words)}: status {ran.returncode}: {ran.stderr}{ran.stdout}")
+    return ran.stdout
+
+
+def parts(report):
+    return dict(line.split(": ", 1) for line in report.splitlines())
+
+
+def sum_of(path):
+    with open(path, "rb") as file:
+        return hashlib.sha256(file.read()).hexdigest()
+
+
+def write(path, content):
+    os.makedirs(os.path.dirname(path), exist_ok=True)
+    with open(f"{path}.part", "w") as file:
+        file.write(content)
+    os.replace(f"{path}.part", path)
+
+
+def by_family():
+    entries = list(functions.entries())
+    families = list(dict.fromkeys(entry.family for entry in entries))
+    return sorted(entries, key=lambda entry: families.index(entry.family))
+
+
+def used():
+    return sum(resource.getrusage(resource.RUSAGE_CHILDREN)[:2])
+
+
+def measure(entry, programs, room):
+    """An entry's line of the table, with its files in the room; a line that lies there already stays if it is of the same file."""
+    pla, cert, kept = (f"{room}/{entry.name}.{ending}" for ending in ("pla", "cert", "json"))
+    write(pla, entry.pla())
+    if os.path.exists(kept):
+        with open(kept) as file:
+            row = json.load(file)
+        if row["sha256 of the PLA file"] == sum_of(pla):
+            return row
+    start = used()
+    told = parts(run(programs.minorder, "--workers", str(programs.workers), "--cert", cert, pla))
+    between = used()
+    verdict = run(programs.ordercheck, pla, cert).strip()
+    if verdict != f"valid {told['nodes']}":
+        sys.exit(f"{entry.name}: {verdict}, and {told['nodes']} nodes")
+    with open(cert) as file:
+        listed = next(line.split()[1] for line in file if line.startswith("cells "))
+    values = [entry.family, entry.name, entry.words, len(entry.inputs), entry.outputs, told["file order nodes"], told["sifted nodes"], told["nodes"], told["order"], told["sifted order"], told["levels"], listed, sum_of(pla), sum_of(cert)]
+    row = dict(zip(COLUMNS, map(str, values)), seconds=[between - start, used() - between])
+    write(kept, json.dumps(row))
+    return row
+
+
+def is_kept(row, room):
+    later = row["family"] in KEPT_LATER and int(row["inputs"]) <= LATER_INPUTS
+    return (later or row["family"] in textbook_families()) and os.path.getsize(f"{room}/{row['name']}.cert") < KEPT_BELOW
+
+
+def textbook_families():
+    return {entry.family for entry in functions.textbook.entries()}
+
+
+def keep(rows, room, into):
+    """Keeps the small certificates with their files, and the cases of the gate."""
+    shutil.rmtree(f"{into}/{CASES}/optima", ignore_errors=True)
+    os.makedirs(f"{into}/{CASES}/optima")
+    cases = ["# The certificates that the table of optima keeps, judged by ordercheck. optima/make.py makes this file and the folder."]
+    for row in rows:
+        name = row["name"]
+        if is_kept(row, room):
+            for ending in ("pla", "cert"):
+                shutil.copyfile(f"{room}/{name}.{ending}", f"{into}/{CASES}/optima/{name}.{ending}")
+            cases.append(f"\ncase {name}\ncall ordercheck optima/{name}.pla optima/{name}.cert\nstatus 0\noutput\n|valid {row['optimum']}")
+    write(f"{into}/{CASES}/optima.cases", "\n".join(cases) + "\n")
+
+
+def make(programs):
+    """Measures all functions, those first that are done soonest, and writes the table and what the gate judges."""
+    room = f"{programs.room}/table"
+    os.makedirs(room, exist_ok=True)
+    entries, rows = by_family(), {}
+    for i, entry in enumerate(sorted(entries, key=lambda it: (len(it.inputs), it.outputs)), 1):
+        print(f"{entry.name}: {i} of {len(entries)}", file=sys.stderr)
+        rows[entry.name] = measure(entry, programs, room)
+    ordered = [rows[entry.name] for entry in entries]
+    os.makedirs(f"{programs.into}/optima", exist_ok=True)
+    with open(f"{programs.into}/optima/optima.csv", "w", newline="") as file:
+        table = csv.DictWriter(file, COLUMNS, lineterminator="\n", extrasaction="ignore")
+        table.writeheader()
+        table.writerows(ordered)
+    keep(ordered, room, programs.into)
+
+
+def read(into):
+    with open(f"{into}/optima/optima.csv", newline="") as file:
+        return list(csv.DictReader(file))
