@@ -31,6 +31,6 @@ returns-clause-certificate g c =
       | then-certify+in_ok-certificate_text w ↦
           some_certified cover c.args.pairs.pairs c.args.certify c.if-certify.certificate _ w.if-certify.true w.certificate-is
           (certified cover t c.args.pairs.pairs order _ tables c.in_ok-found.ensures.solution.first
-          (rw c.copied-kept.ensures at (rw w.problem.ensures at w.in_ok-certificate_text.ensures)))
+          (rw c.copied-kept.ensures at (rw w.problem-then-certify.ensures at w.in_ok-certificate_text.ensures)))
       | else-certify w ↦ not_certified cover c.args.pairs.pairs c.args.certify c.if-certify.certificate w.if-certify.false w.certificate-is
     ]
