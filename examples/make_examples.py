@@ -1,9 +1,18 @@
 #!/usr/bin/env python3
 """Writes the PLA files of this folder that are made by rule, and gives the worked cases copies of all files,
-reports and certificates here. Run it in this folder; it needs no argument."""
+reports and certificates here.
+usage: make_examples.py [--reports | --check]
+With --reports it writes the reports and certificates that lie here anew, too, by the program at the top. With --check it
+writes nothing: the program and the copies are to give what lies here."""
+import filecmp
 import os
 import shutil
+import subprocess
+import sys
+import tempfile
 from itertools import product
+
+COPIES = "../crates/worked_cases/data/examples"
 
 
 def write(name, about, inputs, outputs, terms):
@@ -87,13 +96,40 @@ def parity(count):
           [f"x{i}" for i in range(count)], ["odd"], list(minterms(count, lambda bits: [sum(bits) % 2])))
 
 
+def write_reports(folder):
+    """Writes to a folder the reports and certificates that lie here."""
+    for name in sorted(it.removesuffix(".pla") for it in os.listdir() if it.endswith(".pla")):
+        certificate = ["--cert", f"{folder}/{name}.cert"] if os.path.exists(f"{name}.cert") else []
+        with open(f"{folder}/{name}.report", "w") as report:
+            subprocess.run(["../minorder", *certificate, f"{name}.pla"], check=True, stdout=report)
+
+
+def copied():
+    return [it for it in sorted(os.listdir()) if it.endswith((".pla", ".report", ".cert"))]
+
+
 def copy_to_worked_cases():
-    for name in os.listdir():
-        if name.endswith((".pla", ".report", ".cert")):
-            shutil.copy(name, "../crates/worked_cases/data/examples")
+    for name in copied():
+        shutil.copy(name, COPIES)
+
+
+def check():
+    """The first file that differs from what the program writes, or from its copy."""
+    with tempfile.TemporaryDirectory() as made:
+        write_reports(made)
+        for folder in (made, COPIES):
+            others = copied() if folder == COPIES else sorted(os.listdir(made))
+            wrong = [it for it in others if not os.path.exists(it) or not os.path.exists(f"{folder}/{it}") or not filecmp.cmp(it, f"{folder}/{it}", False)]
+            if wrong:
+                sys.exit(f"{wrong[0]} is another in {folder}")
 
 
 if __name__ == "__main__":
+    os.chdir(os.path.dirname(os.path.abspath(__file__)))
+    if sys.argv[1:] not in ([], ["--reports"], ["--check"]):
+        sys.exit(__doc__)
+    if sys.argv[1:] == ["--check"]:
+        sys.exit(check())
     adder(4)
     comparator(4)
     majority(7)
@@ -103,4 +139,6 @@ if __name__ == "__main__":
     products(3)
     products(8)
     parity(6)
+    if sys.argv[1:]:
+        write_reports(".")
     copy_to_worked_cases()
