@@ -1,10 +1,12 @@
 #!/usr/bin/env python3
-"""make.py [PART ..] [--minorder PROGRAM] [--ordercheck PROGRAM] [--workers W] [--into FOLDER] [--room FOLDER]
+"""make.py [PART ..] [--minorder PROGRAM] [--ordercheck PROGRAM] [--workers W] [--peers FOLDER] [--into FOLDER] [--room FOLDER]
 
 Makes the page of optima anew, by parts:
 
     table   optima/optima.csv, and among the worked cases that the gate carries out the small certificates with their PLA files
     all5    optima/few.csv and optima/few_classes.csv: the functions of up to five inputs
+    league  optima/league.csv: what the methods of CUDD, BuDDy and ABC make of each function; wants --peers, the folder that bench/peers.sh and
+            optima/league.sh have built them in, and is left out without it
     page    docs/OPTIMA.md and its pictures, from the tables
 
 Without a PART it makes all of them. A part that is stopped goes on where it was: what is done lies in the room, optima/out if none is named. With
@@ -17,7 +19,7 @@ import subprocess
 
 HERE = os.path.dirname(os.path.abspath(__file__))
 TOP = os.path.dirname(HERE)
-PARTS = ("table", "all5", "page")
+PARTS = ("table", "all5", "league", "page")
 
 
 def main():
@@ -27,6 +29,7 @@ def main():
     given.add_argument("--ordercheck", default=f"{TOP}/ordercheck")
     given.add_argument("--workers", type=int, default=4)
     given.add_argument("--into", default=TOP)
+    given.add_argument("--peers")
     given.add_argument("--room", default=f"{HERE}/out")
     programs = given.parse_args()
     for part in programs.parts:
@@ -43,6 +46,10 @@ def main():
         elif part == "all5":
             import few
             few.make(programs)
+        elif part == "league":
+            if programs.peers:
+                import league
+                league.make(programs)
         else:
             import page
             page.make(programs)

@@ -124,6 +124,16 @@ def profile_levels(programs, rows):
     return {name: minorder.levels(tables, list(map(int, order.split()))) for name, order in orders.items()}
 
 
+def league_part(programs, rows):
+    """The league's section with its picture, where it was run."""
+    if not os.path.exists(f"{programs.into}/optima/league.csv"):
+        return []
+    import league_page
+    it = league_page.League(programs.into, rows)
+    pictures.performance(it.panels(), f"{programs.into}/docs/optima_league.svg")
+    return [league_page.part(it)]
+
+
 def make(programs):
     rows = table.read(programs.into)
     docs = f"{programs.into}/docs"
@@ -133,7 +143,9 @@ def make(programs):
     pictures.misses([(family, list(map(ratio, mine)), geometric_mean(list(map(ratio, mine)))) for family, mine in families.items()], f"{docs}/optima_sifting.svg")
     kept = sum(table.is_kept(row, f"{programs.room}/table") for row in rows)
     missed = sorted((row for row in rows if ratio(row) > 1), key=ratio)
-    front = text_of("front.md").format(all=len(rows), kept=kept, met=len(rows) - len(missed), worst=missed[-1]["name"], worst_ratio=f"{ratio(missed[-1]):.2f}")
+    league = league_part(programs, rows)
+    link = "- [The league of heuristics](#the-league): how far the methods of CUDD, BuDDy and ABC end from the optimum.\n" if league else ""
+    front = text_of("front.md").format(all=len(rows), kept=kept, met=len(rows) - len(missed), worst=missed[-1]["name"], worst_ratio=f"{ratio(missed[-1]):.2f}", league=link)
     overview = text_of("families.md").format(families=family_table(rows))
-    parts = [front, overview, few_part(programs), text_of("by_hand.md")] + [family_part(family, mine) for family, mine in families.items()]
+    parts = [front, *league, overview, few_part(programs), text_of("by_hand.md")] + [family_part(family, mine) for family, mine in families.items()]
     table.write(f"{docs}/OPTIMA.md", "\n".join(parts))

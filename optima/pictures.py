@@ -65,7 +65,7 @@ def few(counts, path):
         axes.grid(axis="y", color="#dddddd")
         axes.set_axisbelow(True)
     both[0].set_ylabel("functions, %")
-    both[0].legend(frameon=False, loc="upper left")
+    both[1].legend(frameon=False, loc="upper left")
     figure.tight_layout()
     save(figure, path)
 
@@ -77,3 +77,18 @@ def shares(pairs):
         found[value] += weight
         total += weight
     return {value: found[value] / total for value in sorted(found)}
+
+
+def performance(panels, path):
+    """The share of functions within a ratio of the optimum, a curve for each method."""
+    figure, both = pyplot.subplots(1, 2, figsize=(9.6, 4.2), sharey=True)
+    colours = pyplot.get_cmap("tab10").colors
+    for axes, (said, curves) in zip(both, panels.items()):
+        for colour, (name, (ratios, whole)) in zip(colours, curves.items()):
+            axes.step([*ratios, 10], [100 * (i + 1) / whole for i in range(len(ratios))] + [100 * len(ratios) / whole], where="post", color=colour, linewidth=1.6, label=name)
+        axes.set(title=said, xlabel="nodes / fewest nodes, at most", xlim=(1, 2), ylim=(30, 101))
+        axes.grid(color="#dddddd")
+    both[0].set_ylabel("share of the functions, %")
+    both[1].legend(frameon=False, loc="lower right")
+    figure.tight_layout()
+    save(figure, path)

@@ -1,0 +1,173 @@
+"""The league's part of docs/OPTIMA.md, from optima/league.csv."""
+import csv
+import os
+from math import exp, log
+
+import league
+
+SHOWN = [("CUDD", "SIFT"), ("CUDD", "SIFT_CONVERGE"), ("CUDD", "GROUP_SIFT"), ("CUDD", "WINDOW4_CONV"), ("CUDD", "ANNEALING"), ("CUDD", "GENETIC"), ("ABC", "reo"), ("BuDDy", "WIN3ITE"), ("BuDDy", "SIFT"), ("BuDDy", "SIFTITE"), ("minorder", "sifting")]
+CURVES = [("CUDD", "GENETIC"), ("CUDD", "ANNEALING"), ("BuDDy", "SIFTITE"), ("CUDD", "GROUP_SIFT"), ("minorder", "sifting"), ("CUDD", "SIFT_CONVERGE"), ("CUDD", "SIFT"), ("CUDD", "WINDOW4_CONV"), ("BuDDy", "WIN3ITE")]
+FAMILIES = ["family", "package", "method", "functions", "with an order", "mean ratio", "worst ratio", "worst function", "optimum met", "seconds"]
+
+
+def mean(values):
+    return exp(sum(map(log, values)) / len(values)) if values else None
+
+
+class Standing:
+    """What a method makes of some functions from the file's order: ratios of the median run, the worst run, where the optimum was met."""
+
+    def __init__(self, lines, optima):
+        self.lines, self.optima = lines, optima
+        self.ended = [line for line in lines if line["median nodes"]]
+        self.ratios = [self.ratio(line, "median nodes") for line in self.ended]
+        self.mean = mean(self.ratios)
+        self.worst = max(self.ended, key=lambda line: self.ratio(line, "most nodes"), default=None)
+        self.met = sum(ratio == 1 for ratio in self.ratios)
+        self.seconds = sum(float(line["seconds"]) for line in self.ended)
+        self.late = sum(int(line["late"]) > 0 for line in lines)
+
+    def ratio(self, line, column):
+        return int(line[column]) / self.optima[line["name"]]
+
+    def worst_ratio(self):
+        return self.ratio(self.worst, "most nodes")
+
+
+def standings(lines, optima, start):
+    """By package and method."""
+    return {method: Standing([line for line in lines if (line["package"], line["method"]) == method and line["start"] == start], optima) for method in league.METHODS}
+
+
+def of_random_starts(standing):
+    """Of the runs from random orders: the mean of the functions' median ratios, the worst ratio, the share of runs that met the optimum."""
+    ended = sum(int(line["runs"]) - int(line["late"]) - int(line["without an order"]) for line in standing.lines)
+    met = sum(int(line["optimum met"]) for line in standing.lines)
+    return [f"{standing.mean:.3f}", f"{standing.worst_ratio():.2f}", f"{100 * met / ended:.0f} %"]
+
+
+def table(file, random):
+    """A line for each method, those with the least mean ratio from random orders first; LINEAR, which leaves few orders, last."""
+    heads = ["Method", "Mean ratio, file's order", "Worst ratio", "Optimum met", "Late", "Seconds", "Mean ratio, random orders", "Worst ratio", "Runs that met it"]
+    out = ["| " + " | ".join(heads) + " |", "|" + "---|" * len(heads)]
+    ranked = sorted(file, key=lambda method: (method == ("CUDD", "LINEAR"), random[method].mean))
+    for method in ranked:
+        mine = file[method]
+        name = " ".join(method) + (" (random)" if method in league.RANDOM else "")
+        worst = f"{mine.worst_ratio():.2f} ({mine.worst['name']})"
+        met = f"{mine.met} of {len(mine.ended)}"
+        cells = [name, f"{mine.mean:.3f}", worst, met, mine.late or "", f"{mine.seconds:.1f}", *of_random_starts(random[method])]
+        out.append("| " + " | ".join(map(str, cells)) + " |")
+    return "\n".join(out)
+
+
+def family_lines(rows, lines, optima):
+    """The lines of optima/league_families.csv."""
+    for family in dict.fromkeys(row["family"] for row in rows):
+        names = {row["name"] for row in rows if row["family"] == family}
+        for method, mine in standings([line for line in lines if line["name"] in names], optima, "file").items():
+            if mine.ended:
+                values = [family, *method, len(mine.lines), len(mine.ended), f"{mine.mean:.4f}", f"{mine.worst_ratio():.4f}", mine.worst["name"], mine.met, f"{mine.seconds:.2f}"]
+            else:
+                values = [family, *method, len(mine.lines), 0, "", "", "", 0, ""]
+            yield dict(zip(FAMILIES, values))
+
+
+def family_matrix(lines):
+    """Mean ratios by family, of the methods that are shown."""
+    found = {(line["family"], line["package"], line["method"]): line for line in lines}
+    out = ["| Family | " + " | ".join(" ".join(method) for method in SHOWN) + " |", "|---|" + "---|" * len(SHOWN)]
+    for family in dict.fromkeys(line["family"] for line in lines):
+        cells = []
+        for method in SHOWN:
+            line = found[(family, *method)]
+            partly = "" if line["with an order"] == line["functions"] else "*"
+            cells.append(f"{float(line['mean ratio']):.3f}{partly}" if line["mean ratio"] else "late")
+        out.append(f"| {family[0].upper()}{family[1:]} | " + " | ".join(cells) + " |")
+    return "\n".join(out)
+
+
+def curves(standing, whole):
+    """The ratios of the median runs in rising order, and how many functions there are."""
+    return {" ".join(method): (sorted(standing[method].ratios), whole) for method in CURVES}
+
+
+class League:
+    """All that the page says of the league."""
+
+    def __init__(self, into, rows):
+        self.optima = {row["name"]: int(row["optimum"]) for row in rows}
+        self.lines = league.read(into)
+        self.file = standings(self.lines, self.optima, "file")
+        self.random = standings(self.lines, self.optima, "random")
+        self.families = list(family_lines(rows, self.lines, self.optima))
+        with open(f"{into}/optima/league_families.csv", "w", newline="") as file:
+            out = csv.DictWriter(file, FAMILIES, lineterminator="\n")
+            out.writeheader()
+            out.writerows(self.families)
+
+    def table(self):
+        return table(self.file, self.random)
+
+    def matrix(self):
+        return family_matrix(self.families)
+
+    def panels(self):
+        small = len({line["name"] for line in self.lines if line["start"] == "random"})
+        return {f"from the file's order, {len(self.optima)} functions": curves(self.file, len(self.optima)), f"from random orders, {small} functions of up to {league.SMALL} inputs": curves(self.random, small)}
+
+    def small(self):
+        return len({line["name"] for line in self.lines if line["start"] == "random"})
+
+
+def percent(part, whole):
+    return f"{100 * part / whole:.0f} %"
+
+
+def name_of(method):
+    return f"{method[0]}'s {method[1]}" if method[0] != "minorder" else "our own pass of sifting"
+
+
+def never_met(league_lines, optima, start):
+    """The functions whose optimum no run of any package from such a start met; what is late counts as not met."""
+    met = {line["name"] for line in league_lines if line["start"] == start and line["package"] != "minorder" and int(line["optimum met"])}
+    return [name for name in {line["name"]: None for line in league_lines if line["start"] == start} if name not in met]
+
+
+def times_of(one, other):
+    """The processor time of a run of one method over that of the other, on the functions where both ended."""
+    both = {line["name"] for line in one.ended} & {line["name"] for line in other.ended}
+    seconds = [sum(float(line["seconds"]) for line in standing.ended if line["name"] in both) for standing in (one, other)]
+    return seconds[0] / seconds[1]
+
+
+def findings(it):
+    """What the league shows, each line from its numbers."""
+    quick = [method for method in it.file if method not in league.RANDOM and method not in (("CUDD", "EXACT"), ("CUDD", "LINEAR"))]
+    by_mean = sorted(quick, key=lambda method: it.random[method].mean)
+    first, last = by_mean[0], by_mean[-1]
+    cudd, exact, genetic, annealing = (it.file[("CUDD", method)] for method in ("SIFT", "EXACT", "GENETIC", "ANNEALING"))
+    whole = len(it.optima)
+    close = {method: sum(ratio <= 1.05 for ratio in it.random[method].ratios) for method in it.random}
+    missed_by_all = never_met(it.lines, it.optima, "file")
+    worst_family = max((line for line in it.families if line["package"] == "CUDD" and line["method"] == "SIFT"), key=lambda line: float(line["mean ratio"]))
+    return "\n".join(f"- {said}" for said in [
+        f"Of the quick methods (without random choices and EXACT) {name_of(first)} has the least mean from random orders, {it.random[first].mean:.3f}; the greatest has {name_of(last)}, {it.random[last].mean:.3f}.",
+        f"CUDD's SIFT ends at {cudd.mean:.3f} times the optimum in the mean from the file's order and meets it in {cudd.met} of {len(cudd.ended)} functions; its worst is {cudd.worst_ratio():.2f} times (`{cudd.worst['name']}`).",
+        f"To converge helps: SIFT_CONVERGE {it.file[('CUDD', 'SIFT_CONVERGE')].mean:.3f}, SYMM_SIFT_CONV {it.file[('CUDD', 'SYMM_SIFT_CONV')].mean:.3f}, GROUP_SIFT_CONV {it.file[('CUDD', 'GROUP_SIFT_CONV')].mean:.3f}, against {cudd.mean:.3f}, {it.file[('CUDD', 'SYMM_SIFT')].mean:.3f} and {it.file[('CUDD', 'GROUP_SIFT')].mean:.3f} of one pass.",
+        f"Windows: WINDOW2 {it.file[('CUDD', 'WINDOW2')].mean:.3f} from the file's order with a worst of {it.file[('CUDD', 'WINDOW2')].worst_ratio():.2f} (`{it.file[('CUDD', 'WINDOW2')].worst['name']}`), WINDOW4_CONV {it.file[('CUDD', 'WINDOW4_CONV')].mean:.3f} with {it.file[('CUDD', 'WINDOW4_CONV')].worst_ratio():.2f}.",
+        f"GENETIC's and ANNEALING's median runs meet the optimum in {genetic.met} of {len(genetic.ended)} and in {annealing.met} of {len(annealing.ended)} functions that ended in time, for {times_of(genetic, cudd):.0f} and {times_of(annealing, cudd):.0f} times SIFT's processor time where both ended.",
+        f"CUDD's EXACT ends in time on {len(exact.ended)} of {whole}. Its orders have the fewest nodes without complement edges in {exact.met} of these, {exact.mean:.3f} in the mean; the worst is {exact.worst_ratio():.2f} (`{exact.worst['name']}`).",
+        f"BuDDy, which has no complement edges, has {it.file[('BuDDy', 'SIFT')].mean:.3f} with SIFT and {it.file[('BuDDy', 'SIFTITE')].mean:.3f} with SIFTITE; its worst there is {it.file[('BuDDy', 'SIFTITE')].worst_ratio():.2f} (`{it.file[('BuDDy', 'SIFTITE')].worst['name']}`).",
+        f"Our own pass of sifting has {it.file[('minorder', 'sifting')].mean:.3f} from the file's order and {it.random[('minorder', 'sifting')].mean:.3f} from random ones.",
+        f"From random orders the median run is within a twentieth of the optimum in {percent(close[('CUDD', 'SIFT')], it.small())} of the functions with CUDD's SIFT, {percent(close[('CUDD', 'GROUP_SIFT_CONV')], it.small())} with GROUP_SIFT_CONV, {percent(close[('CUDD', 'GENETIC')], it.small())} with GENETIC.",
+        f"The family on which CUDD's SIFT is worst is {worst_family['family']}, {float(worst_family['mean ratio']):.3f} in the mean. In {len(missed_by_all)} of {whole} functions no run of any package from the file's order met the optimum in time.",
+    ])
+
+
+def part(it):
+    """The league's section of the page."""
+    with open(f"{os.path.dirname(os.path.abspath(__file__))}/league.md") as file:
+        text = file.read()
+    linear = it.file[("CUDD", "LINEAR")]
+    return text.format(small=it.small(), limit_inputs=league.SMALL, seconds=league.LIMIT, linear=len(linear.ended), all=len(it.optima), table=it.table(), findings=findings(it), matrix=it.matrix())
