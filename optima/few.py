@@ -109,7 +109,8 @@ def make(programs):
             table.writerows(rows)
     check(counts, classes)
     with open(f"{room}/classes5.seconds") as file:
-        write(f"{room}/seconds", f"{seconds:.0f} {float(file.read()):.0f}\n")
+        times = f"calls of the library,{seconds:.0f}\nclasses of five inputs,{float(file.read()):.0f}\n"
+    write(f"{programs.into}/optima/few_times.csv", f"part,seconds of processor time\n{times}")
 
 
 def check(counts, classes):

@@ -3,9 +3,9 @@ import os
 from math import exp, log
 
 import few
+import functions
 import pictures
 import table
-from levels import tables_of
 
 HERE = os.path.dirname(os.path.abspath(__file__))
 
@@ -108,8 +108,7 @@ def few_part(programs):
     for n in range(1, 6):
         by_nodes = {int(row["optimum"]): int(row["functions"]) for row in classes if row["inputs"] == str(n)}
         optima.append(f"| {n} | " + " | ".join(f"{by_nodes[nodes]:,}" if nodes in by_nodes else "" for nodes in range(max(found[5][0]) + 1)) + " |")
-    with open(f"{programs.room}/few/seconds") as file:
-        calls, of_classes = file.read().split()
+    calls, of_classes = (row["seconds of processor time"] for row in few.read(programs.into, "few_times"))
     return text_of("few.md").format(rows="\n".join(lines), optima="\n".join(optima), calls=calls, classes=of_classes, random=f"{few.RANDOM:,}")
 
 
@@ -117,8 +116,8 @@ def profile_levels(programs, rows):
     """The level counts of the largest hidden weighted bit under three orders, by the library."""
     os.makedirs(f"{programs.room}/few", exist_ok=True)
     minorder = few.library(f"{programs.room}/few")
-    with open(f"{programs.room}/table/hwb16.pla") as file:
-        inputs, tables = tables_of(file)
+    entry = next(entry for entry in functions.entries() if entry.name == "hwb16")
+    inputs, tables = len(entry.inputs), entry.tables()
     row = next(row for row in rows if row["name"] == "hwb16")
     orders = {"file's order": " ".join(map(str, range(inputs))), "sifted order": row["sifted order"], "best order": row["first optimal order"]}
     return {name: minorder.levels(tables, list(map(int, order.split()))) for name, order in orders.items()}
@@ -141,7 +140,7 @@ def make(programs):
     pictures.growth(rows, f"{docs}/optima_growth.svg")
     families = families_of(rows)
     pictures.misses([(family, list(map(ratio, mine)), geometric_mean(list(map(ratio, mine)))) for family, mine in families.items()], f"{docs}/optima_sifting.svg")
-    kept = sum(table.is_kept(row, f"{programs.room}/table") for row in rows)
+    kept = sum(name.endswith(".cert") for name in os.listdir(f"{programs.into}/{table.CASES}/optima"))
     missed = sorted((row for row in rows if ratio(row) > 1), key=ratio)
     league = league_part(programs, rows)
     link = "- [The league of heuristics](#the-league): how far the methods of CUDD, BuDDy and ABC end from the optimum.\n" if league else ""
