@@ -22,7 +22,7 @@ DRIVERS = {"CUDD": "league_cudd", "ABC": "league_cudd", "BuDDy": "league_buddy"}
 SEEDS = range(1, 11)
 STARTS = range(1, 11)
 SMALL = 12
-LIMIT = 4
+LIMIT = 10
 COLUMNS = ["name", "package", "method", "start", "runs", "late", "without an order", "least nodes", "median nodes", "most nodes", "optimum met", "seconds"]
 
 
