@@ -1,6 +1,6 @@
 //! How large a store is, and which pieces it has.
 
-ghost use Rattle.std.specs.Prelude.{◌≡◌, ◌*◌, ◌<◌, ◌≤◌, length, IfOk};
+ghost use Rattle.std.specs.Prelude.{◌≡◌, ◌*◌, ◌<◌, ◌≤◌, length, replicate, IfOk};
 ghost use Rattle.unique_table.specs.Plans.{IsKind, parts_count, ways};
 ghost use Rattle.order_model.specs.Problems.{outputs_of, TruthTables};
 
@@ -9,16 +9,35 @@ use order_model::Order;
 use std::alloc::{AllocError, Global};
 use std::snapshot::Snapshot;
 
+/// How many places for nodes there are, and how many for results of operations.
+const NODE_PLACES: usize = 262_144;
+
+const CACHE_PLACES: usize = 65_536;
+
+/// As many words as the largest store has: with those of 1,024 parts and of 16 outputs.
+const MOST_WORDS: usize = NODE_PLACES + CACHE_PLACES + 1_024 + 16;
+
+/// The words of an empty store. No page of them is made, as long as they are only read.
+static BLANK: [u64; MOST_WORDS] = [0; MOST_WORDS];
+
 pub(crate) fn node_places() -> usize
     ensures { result ≡ 262144 }
 {
-    262_144
+    NODE_PLACES
 }
 
 pub(crate) fn cache_places() -> usize
     ensures { result ≡ 65536 }
 {
-    65_536
+    CACHE_PLACES
+}
+
+/// So many words of an empty store.
+pub(crate) fn blank_words(count: usize) -> &'static [u64]
+    requires { count ≤ 328720 }
+    ensures { result.now ≡ replicate count 0 }
+{
+    &BLANK[..count]
 }
 
 /// What the plan keeps of the pieces.

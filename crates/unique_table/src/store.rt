@@ -12,7 +12,7 @@ ghost use Rattle.unique_table.specs.Stakes.{whole, half, joined};
 ghost use Rattle.unique_table.specs.Closing.{Lacks};
 
 use crate::close::{CloseFault, last_diagram};
-use crate::create::{cache_places, kind_of, node_places, parts_count};
+use crate::create::{blank_words, cache_places, kind_of, node_places, parts_count};
 use crate::plan::{Pieces, Plan};
 use crate::plays::{Both, Words};
 use crate::session::{NodeId, Session, View};
@@ -85,8 +85,8 @@ impl Store {
             problem: Snapshot::of(problem),
             kind,
         };
-        let words = vec![in alloc; 0u64; places + entries + pieces]?;
-        let (table, seat) = Table::of_words(alloc, words.as_slice(), &plan)?;
+        let words = blank_words(places + entries + pieces);
+        let (table, seat) = Table::of_words(alloc, words, &plan)?;
         let store = Store {
             table,
             places,

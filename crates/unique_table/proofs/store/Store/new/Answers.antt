@@ -1,4 +1,4 @@
-use Rattle.std.proofs.Common.{ℕ, ◌+◌, List, [], rules, sym, refl, ◌∙◌, subst}
+use Rattle.std.proofs.Common.{ℕ, ◌+◌, List, [], rules, sym, refl, subst}
 use Rattle.atomic_table.specs.Table.{opening}
 use Rattle.unique_table.specs.declared.plan.Plan.{Plan}
 use Rattle.unique_table.specs.Picture.{IsKept, newcomer}
@@ -17,5 +17,5 @@ of_words-requires c =
       kind = c.in_ok-kind.kind;
     } in
     subst (λ (ws : List ℕ). IsKept b (opening ws [] (newcomer b)))
-    (sym (c.as_slice.ensures.value ∙ c.in_ok-words.ensures.items_if_clones_equal (λ y e. e)))
+    (sym c.blank_words-words.ensures)
     (starts b _ (search rules) refl)
