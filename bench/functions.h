@@ -1,4 +1,6 @@
 /* What the harnesses in C read: a PLA file of products (ON-set, at most 16 inputs and outputs), as a row of outputs for each point. */
+#ifndef FUNCTIONS_H
+#define FUNCTIONS_H
 #include <stdint.h>
 #include <stdio.h>
 #include <stdlib.h>
@@ -37,6 +39,10 @@ static void read_file(const char *path)
     free(rows);
     rows = NULL;
     while (fgets(line, sizeof line, file)) {
+        /* a line that is longer, as a comment may be, is read to its end */
+        size_t length = strlen(line);
+        if (length && line[length - 1] != '\n')
+            for (int c = 0; c != '\n' && c != EOF;) c = fgetc(file);
         if (sscanf(line, ".i %d", &inputs) == 1) continue;
         if (sscanf(line, ".o %d", &outputs) == 1) {
             if (inputs < 1 || inputs > 16 || outputs < 1 || outputs > 16) fail("1 to 16 inputs and outputs");
@@ -48,9 +54,10 @@ static void read_file(const char *path)
     if (!rows) fail("no functions");
 }
 
-static double milliseconds(void)
+static inline double milliseconds(void)
 {
     struct timespec now;
     clock_gettime(CLOCK_MONOTONIC, &now);
     return now.tv_sec * 1e3 + now.tv_nsec / 1e6;
 }
+#endif

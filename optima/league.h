@@ -5,59 +5,10 @@
 #ifndef LEAGUE_H
 #define LEAGUE_H
 #include <signal.h>
-#include <stdint.h>
-#include <stdio.h>
-#include <stdlib.h>
-#include <string.h>
 #include <sys/resource.h>
 #include <sys/wait.h>
-#include <time.h>
 #include <unistd.h>
-
-static int inputs, outputs;
-static uint16_t *rows; /* bit j of rows[point] is the value of output j */
-
-static void fail(const char *why)
-{
-    fprintf(stderr, "league: %s\n", why);
-    exit(3);
-}
-
-static void read_term(const char *product, const char *row)
-{
-    unsigned ones = 0, open = 0, on = 0, part;
-    for (int i = 0; i < inputs; i++) {
-        if (product[i] == '1') ones |= 1u << i;
-        if (product[i] == '-') open |= 1u << i;
-    }
-    for (int j = 0; j < outputs; j++)
-        if (row[j] == '1') on |= 1u << j;
-    for (part = open;; part = (part - 1) & open) {
-        rows[ones | part] |= (uint16_t)on;
-        if (!part) break;
-    }
-}
-
-static void read_file(const char *path)
-{
-    static char line[256], product[64], row[64];
-    FILE *file = fopen(path, "r");
-    if (!file) fail("can't open the file");
-    while (fgets(line, sizeof line, file)) {
-        /* a line that is longer, as a comment may be, is read to its end */
-        size_t length = strlen(line);
-        if (length && line[length - 1] != '\n')
-            for (int c = 0; c != '\n' && c != EOF;) c = fgetc(file);
-        if (sscanf(line, ".i %d", &inputs) == 1) continue;
-        if (sscanf(line, ".o %d", &outputs) == 1) {
-            if (inputs < 1 || inputs > 16 || outputs < 1 || outputs > 16) fail("1 to 16 inputs and outputs");
-            rows = calloc((size_t)1 << inputs, sizeof *rows);
-        } else if (line[0] != '.' && line[0] != '#' && sscanf(line, "%63s %63s", product, row) == 2)
-            read_term(product, row);
-    }
-    fclose(file);
-    if (!rows) fail("no functions");
-}
+#include "../bench/functions.h"
 
 static double processor(void) { return (double)clock() / CLOCKS_PER_SEC; }
 
