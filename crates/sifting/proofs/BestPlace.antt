@@ -2,21 +2,20 @@
 --     own_place      an order is a placement of each of its variables
 --     none_higher, none_lower      beyond the places where the moves stop no order keeps the pairs
 --     best_is      the best of the placements that keep the pairs
-use Rattle.std.proofs.Common.{◌≡◌, ℕ, zero, suc, ◌+◌, ◌-◌, ◌<◌, ◌≤◌, Bool, true, false, not, cond, ◌||◌, inl, inr, List, [], ◌∷◌, ◌++◌, map, length, get_or, slice_index, refl, sym, ap, ap₂, ◌∙◌, subst, arith, nat_eq, eqb-true, add-one, one-add}
+use Rattle.std.proofs.Common.{◌≡◌, ℕ, zero, suc, ◌+◌, ◌-◌, ◌<◌, ◌≤◌, Bool, true, false, cond, inl, inr, List, [], ◌∷◌, ◌++◌, map, length, get_or, slice_index, refl, sym, ap, ap₂, ◌∙◌, subst, arith, nat_eq, add-one}
 use Rattle.std.specs.List.{insert, filter, range_with_len, IsDistinct}
-use Rattle.std.proofs.lemmas.Bool.{false≢true, true≢false, or_parts, false_from_ne_true}
+use Rattle.std.proofs.lemmas.Bool.{true≢false, false_from_ne_true}
 use Rattle.std.proofs.lemmas.List.{append-nil}
 use Rattle.order_model.specs.Orders.{has, without, place_in}
 use Rattle.order_model.specs.Pairs.{Pair, Keeps, keeps, has_pair}
 use Rattle.order_model.specs.Problems.{functions}
 use Rattle.order_model.specs.Sifting.{smallest_of, placements, best}
-use Rattle.order_model.proofs.Lists.Orders.{absent_from_apart}
 use Rattle.order_model.proofs.Widths.Recurrence.{absent_without, distinct_without}
 use Rattle.sifting.specs.Managed.{Managed, IsManagedOrder}
 use Rattle.sifting.specs.Moves.{Moves, IsMoved, StopsAbove, StopsBelow, FindsBest, PassesBetween, placed_from}
 use Rattle.sifting.proofs.Placements.{length-placed, here, above_here, below_here, not_above, not_below, breaks}
 use Rattle.sifting.proofs.MoveSteps.{smallest_default, insert_tells}
-use Rattle.order_model.proofs.Sifting.Placements.{without_absent, own_place}
+use Rattle.order_model.proofs.Sifting.Placements.{own_place}
 
 -- ---- filters of placements
 

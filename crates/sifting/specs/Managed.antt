@@ -3,6 +3,7 @@
 --     truth_tables_of d      the truth tables of a diagram's roots
 --     size_of m, count_of m i      the size and the level counts of the functions under the order
 --     SiftedOrder, IsSiftedOrder      an order with its size and level counts, and that they are true
+--     IsNoLarger from to      another order of the same functions and pairs, of no more nodes
 use Rattle.std.specs.Prelude.{◌≡◌, ℕ, ◌<◌, ◌≤◌, List, length, map, slice_index}
 use Rattle.order_model.specs.Functions.{table}
 use Rattle.order_model.specs.Levels.{level_count, size_under}
@@ -62,3 +63,9 @@ pub record IsSifted (m : Managed) (size : ℕ) (levels : List ℕ) : Type 0 wher
 -- the same, of what a contract sees of a sifted order
 abbrev pub IsSiftedOrder : SiftedOrder → Type 0
 IsSiftedOrder s = IsSifted (record { order = s.order; problem = s.problem; pairs = s.pairs }) s.size s.levels
+
+-- another order of the same functions, which keeps the same pairs and has no more nodes
+pub record IsNoLarger (from to : SiftedOrder) : Type 0 where
+  pub functions : to.problem ≡ from.problem
+  pub pairs : to.pairs ≡ from.pairs
+  pub size : to.size ≤ from.size

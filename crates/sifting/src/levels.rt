@@ -45,6 +45,16 @@ impl Level {
         let count = count_of(&nodes);
         Level { nodes, count }
     }
+
+    /// The level once more.
+    pub fn try_clone(&self, alloc: Global) -> Result<Level, AllocError>
+        ensures { IfOk result (λ l. l.nodes.items ≡ self.now.nodes.items) }
+    {
+        Ok(Level {
+            nodes: self.nodes.to_vec(alloc)?,
+            count: self.count,
+        })
+    }
 }
 
 /// The two levels with their variables exchanged, from the nodes of both.

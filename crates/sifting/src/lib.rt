@@ -6,6 +6,7 @@ pub mod laws;
 mod levels;
 mod manager;
 mod sift;
+mod tight;
 
 pub use manager::Manager;
 pub use sift::Sifted;

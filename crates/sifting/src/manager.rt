@@ -171,6 +171,23 @@ impl Manager {
         &self.order
     }
 
+    /// The manager once more.
+    pub(crate) fn try_clone(&self, alloc: Global) -> Result<Manager, AllocError>
+        ensures { IfOk result (λ m. m ≡ self.now) }
+    {
+        let mut levels = Vec::with_capacity(alloc, self.levels.len())?;
+        for level in &self.levels {
+            levels.push(level.try_clone(alloc)?)?;
+        }
+        Ok(Manager {
+            order: self.order.try_clone(alloc)?,
+            roots: self.roots.to_vec(alloc)?,
+            levels,
+            terminals: self.terminals.to_vec(alloc)?,
+            pairs: self.pairs.copied(),
+        })
+    }
+
     /// The pairs that the order keeps.
     pub fn pairs(&self) -> &Pairs
         ensures inputs { result.now.inputs ≡ length self.now.order }

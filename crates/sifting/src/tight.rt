@@ -1,0 +1,90 @@
+//! A tight bound for a search: sifting until nothing is gained, from the sifted order and from the
+//! other end.
+
+ghost use Rattle.std.specs.Prelude.{◌≡◌, IfOk};
+
+use crate::manager::Manager;
+use crate::sift::{Sifted, raise};
+use std::alloc::{AllocError, Global};
+
+/// Passes of sifting that are made at most. Two to five gain all that there is to be gained.
+const MOST_PASSES: u32 = 16;
+
+/// With fewer inputs a search takes no longer than sifting again.
+const LEAST_INPUTS: usize = 13;
+
+/// Sizes that differ by no more than this part of one of them are near: those of random functions
+/// are under all orders.
+const NEAR_PART: u32 = 64;
+
+/// Whether a size is near another one.
+fn is_near(size: u32, other: u32) -> bool {
+    size.abs_diff(other) <= other / NEAR_PART
+}
+
+impl Manager {
+    /// The manager with its order turned over, as far as the pairs let it: from the top, each
+    /// variable is taken above all that stood above it.
+    fn turned_over(self, alloc: Global) -> Result<Manager, AllocError>
+        ensures functions { IfOk result (λ m. m.problem ≡ self.problem) }
+        ensures pairs { IfOk result (λ m. m.pairs ≡ self.pairs) }
+    {
+        let start = self.order().try_clone(alloc)?;
+        let mut manager = self;
+        for x in start.variables() {
+            let place = manager.order().place_of(*x);
+            let (raised, _) = raise(alloc, manager, place)?;
+            manager = raised;
+        }
+        Ok(manager)
+    }
+}
+
+impl Sifted {
+    ghost use Rattle.sifting.specs.Managed.{IsNoLarger};
+
+    /// Sifted again, until a pass gains nothing.
+    fn settled(self, alloc: Global) -> Result<Sifted, AllocError>
+        ensures { IfOk result (IsNoLarger self) }
+    {
+        let mut sifted = self;
+        for _ in 0..MOST_PASSES {
+            let size = sifted.size();
+            sifted = sifted.into_manager().sift(alloc)?;
+            if sifted.size() == size {
+                break;
+            }
+        }
+        Ok(sifted)
+    }
+
+    /// The better one of two orders that are sifted until a pass gains nothing: the first begins
+    /// with this order, the other one with this order turned over. If turning it over changes its
+    /// size by no more than a sixty-fourth, it stays.
+    pub fn tightened(self, alloc: Global) -> Result<Sifted, AllocError>
+        ensures { IfOk result (IsNoLarger self) }
+    {
+        let other = self.manager().try_clone(alloc)?.turned_over(alloc)?;
+        if is_near(other.size(), self.size()) {
+            return Ok(self);
+        }
+        let here = self.settled(alloc)?;
+        let there = other.sift(alloc)?.settled(alloc)?;
+        if there.size() < here.size() {
+            Ok(there)
+        } else {
+            Ok(here)
+        }
+    }
+
+    /// The order whose size bounds the search: the tightened one, where a search takes longer than
+    /// that.
+    pub fn search_bound(self, alloc: Global) -> Result<Sifted, AllocError>
+        ensures { IfOk result (IsNoLarger self) }
+    {
+        if self.order().len() < LEAST_INPUTS {
+            return Ok(self);
+        }
+        self.tightened(alloc)
+    }
+}
