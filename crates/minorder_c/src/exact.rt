@@ -27,8 +27,8 @@ fn optimum(alloc: Global, tables: &Tables, pairs: Pairs) -> Result<Solution, All
     ensures counts { IfOk result (λ s. length s.levels.items ≡ tables.now.inputs) }
 {
     let start = pairs.first_order(alloc)?;
-    let sifted = sifted_from(alloc, tables, &start, pairs)?;
-    let solution = solve_alone(alloc, tables.problem(), sifted)?;
+    let bound = sifted_from(alloc, tables, &start, pairs)?.search_bound(alloc)?;
+    let solution = solve_alone(alloc, tables.problem(), bound)?;
     let _order = solution.order.variables();
     Ok(solution)
 }

@@ -173,7 +173,8 @@ fn search<R: Threads + Sync>(
     let found = sift_from_first(alloc, cover, tables, first, pairs)?;
     let sifted = found.order().try_clone(alloc)?;
     let sifted_size = found.size();
-    let solution = solve(rt, alloc, tables.problem(), found, workers, &NoGate)?;
+    let bound = found.search_bound(alloc)?;
+    let solution = solve(rt, alloc, tables.problem(), bound, workers, &NoGate)?;
     Ok(Found {
         solution,
         sifted,

@@ -37,6 +37,23 @@ const MULTIPLEXER: &[Triple] = &[(2, 0, 1), (1, 0, 2), (2, 1, 0), (1, 4, 1), (0,
 
 const MULTIPLEXER_B_S_A: &[Triple] = &[(0, 0, 1), (2, 2, 0), (2, 2, 1), (1, 3, 4)];
 
+// The sum of two numbers of two bits, with the inputs a0, b0, a1, b1.
+const SUM: &[Triple] = &[
+    (1, 0, 1),
+    (1, 1, 0),
+    (0, 2, 3),
+    (3, 0, 1),
+    (3, 1, 0),
+    (2, 5, 6),
+    (2, 6, 5),
+    (1, 7, 8),
+    (0, 7, 9),
+    (2, 0, 5),
+    (2, 5, 1),
+    (1, 11, 12),
+    (0, 11, 13),
+];
+
 fn reference(code: usize) -> Ref {
     if code < 2 {
         Ref::Terminal(code == 1)
@@ -162,6 +179,17 @@ fn sifts_the_interleaved_products(rt: HostRuntime) -> Result<(), Fail> {
         sifted.levels(),
         [1, 1, 1, 1, 1, 1, 0, 0, 0, 0, 0, 0, 0, 0, 0, 0]
     );
+    Ok(())
+}
+
+#[test]
+fn tightens_the_sum(rt: HostRuntime) -> Result<(), Fail> {
+    let alloc = rt.alloc();
+    let diagram = diagram(alloc, &[0, 1, 2, 3], SUM, &[4, 10, 14])?;
+    let sifted = sifted(alloc, diagram, Pairs::none(4))?;
+    assert_eq!(rt; sifted.size(), 13);
+    let tight = sifted.tightened(alloc)?;
+    assert_eq!(rt; tight.size(), 11);
     Ok(())
 }
 
