@@ -1,6 +1,6 @@
 -- The sets of a block of a bench's layer: their needs, widths and cells.
 --     in_layer      a set of the block is in the layer after the costs'
---     need_is, are_members, needs_fit      the widths that are needed
+--     are_members      the widths that are needed
 --     cell_is      the cell of a set
 use Rattle.std.proofs.Common.{◌≡◌, ℕ, ◌+◌, ◌≤◌, true, cond, List, [], map, get_or, slice_get, slice_index, Some, sym, ap, ◌∙◌, subst, arith, eqb, eq-eqb, leb}
 use Rattle.std.specs.Int.{bit_at}
@@ -8,7 +8,7 @@ use Rattle.std.proofs.lemmas.Bool.{and_parts, and_from, le-leb}
 use Rattle.std.proofs.lemmas.List.{get_or-map}
 use Rattle.std.proofs.lemmas.Option.{slice_get_within, get_or_from_slice_get}
 use Rattle.order_model.specs.Functions.{Function}
-use Rattle.order_model.specs.Orders.{has, members, without, mask_of}
+use Rattle.order_model.specs.Orders.{has, members, without}
 use Rattle.order_model.specs.Pairs.{is_lawful}
 use Rattle.order_model.specs.Problems.{TruthTables, functions}
 use Rattle.order_model.specs.Widths.{width, essential_mask}
@@ -19,11 +19,11 @@ use Rattle.subset_layers.specs.Layers.{LayerOf, BlockOf, layer_of, layer_with, m
 use Rattle.subset_layers.specs.Costs.{CostsOf, cost_without, AreTrueCosts, AreWidthsFor}
 use Rattle.subset_layers.proofs.BlockLists.{has_slice_get}
 use Rattle.layer_core.specs.Settings.{Setting, cell_for}
-use Rattle.compaction.specs.Rows.{width_wanted, IsRow, AreMembers, AreRows, wanted_count}
-use Rattle.order_solve.specs.Benches.{BenchOf, HoldsBench}
+use Rattle.compaction.specs.Rows.{width_wanted, IsRow, AreMembers, AreRows}
+use Rattle.order_solve.specs.Benches.{BenchOf, IsBench}
+use Rattle.order_solve.specs.Settings.{HoldsSetting}
 use Rattle.order_solve.specs.Needs.{affordable, needed}
-use Rattle.order_solve.specs.Gains.{widths_for}
-use Rattle.order_solve.proofs.Wanted.{wanted_lawful, wanted_member, wanted_bit, bit_wanted, needed_sum}
+use Rattle.order_solve.proofs.Wanted.{wanted_lawful, wanted_member, wanted_bit, bit_wanted}
 
 pub block_has : (blk : BlockOf) (i mask : ℕ) → slice_get (block_masks blk) i ≡ Some mask → has (masks_of (layer_of blk)) mask ≡ true
 unfolding block_masks
@@ -41,7 +41,15 @@ row_there p masks needs rows i mask need row are at is there =
     (subst (λ (m : ℕ). IsRow p m (slice_index needs i) (get_or rows i [])) (get_or_from_slice_get masks i mask 0 at)
     (are.are i (slice_get_within masks i mask at))))
 
-module _ (b : BenchOf) (essential : ℕ) (h : HoldsBench b essential) where
+-- the masks that are needed are of members
+pub are_members : (t : Setting) (blk : BlockOf) → AreMembers t.problem (block_masks blk) (map (needed t) (block_masks blk))
+unfolding needed
+are_members t blk i lt x e =
+    wanted_member t.problem.inputs (functions t.problem) t.pairs.pairs t.bound (get_or (block_masks blk) i 0) x
+    (bit_wanted t.problem.inputs (functions t.problem) t.pairs.pairs t.bound (get_or (block_masks blk) i 0) x
+    (ap (λ m. bit_at m x) (sym (get_or-map (needed t) (block_masks blk) i 0 0 lt)) ∙ e))
+
+module _ (b : BenchOf) (h : IsBench b) where
   abbrev t : Setting
   t = b.setting
 
@@ -52,36 +60,17 @@ module _ (b : BenchOf) (essential : ℕ) (h : HoldsBench b essential) where
   F = functions t.problem
 
   own_layer : b.layer ≡ layer_with c.inputs (c.size + 1)
-  own_layer = h.bench.layer ∙ ap (λ k. layer_with k (c.size + 1)) (sym h.bench.inputs)
+  own_layer = h.layer ∙ ap (λ k. layer_with k (c.size + 1)) (sym h.inputs)
 
   own_costs : AreTrueCosts c.inputs F t.pairs.pairs t.bound c
-  own_costs = subst (λ (k : ℕ). AreTrueCosts k F t.pairs.pairs t.bound c) (sym h.bench.inputs) h.bench.costs
-
-  pub in_next : (mask : ℕ) → has (masks_of b.layer) mask ≡ true → has (masks_of (layer_with c.inputs (c.size + 1))) mask ≡ true
-  in_next mask m = subst (λ (l : LayerOf). has (masks_of l) mask ≡ true) own_layer m
+  own_costs = subst (λ (k : ℕ). AreTrueCosts k F t.pairs.pairs t.bound c) (sym h.inputs) h.costs
 
   pub in_layer : (blk : BlockOf) → layer_of blk ≡ b.layer → (i mask : ℕ) → slice_get (block_masks blk) i ≡ Some mask →
       has (masks_of (layer_with c.inputs (c.size + 1))) mask ≡ true
-  in_layer blk e i mask is = in_next mask (subst (λ (l : LayerOf). has (masks_of l) mask ≡ true) e (block_has blk i mask is))
-
-  pub need_is : (mask r : ℕ) →
-      ((G : List Function) → AreTrueCosts c.inputs G t.pairs.pairs t.bound c → r ≡ mask_of (wanted c.inputs G t.pairs.pairs t.bound mask)) →
-      r ≡ needed t mask
-  unfolding needed
-  need_is mask r f = f F own_costs ∙ ap (λ k. mask_of (wanted k F t.pairs.pairs t.bound mask)) h.bench.inputs
-
-  pub are_members : (blk : BlockOf) → AreMembers t.problem (block_masks blk) (map (needed t) (block_masks blk))
-  unfolding needed
-  are_members blk i lt x e =
-      wanted_member t.problem.inputs F t.pairs.pairs t.bound (get_or (block_masks blk) i 0) x
-      (bit_wanted t.problem.inputs F t.pairs.pairs t.bound (get_or (block_masks blk) i 0) x
-      (ap (λ m. bit_at m x) (sym (get_or-map (needed t) (block_masks blk) i 0 0 lt)) ∙ e))
-
-  pub needs_count : (blk : BlockOf) → wanted_count (map (needed t) (block_masks blk)) ≡ widths_for t (block_masks blk)
-  needs_count blk = needed_sum t (block_masks blk)
+  in_layer blk e i mask is = subst (λ (l : LayerOf). has (masks_of l) mask ≡ true) (e ∙ own_layer) (block_has blk i mask is)
 
   -- the widths of a set, as its cell needs them
-  module _ (mask : ℕ) (next : has (masks_of (layer_with c.inputs (c.size + 1))) mask ≡ true) (row : List ℕ)
+  module _ (essential : ℕ) (s : HoldsSetting t essential) (mask : ℕ) (next : has (masks_of (layer_with c.inputs (c.size + 1))) mask ≡ true) (row : List ℕ)
       (is_row : IsRow t.problem mask (needed t mask) row) where
     affordable_has : (x : ℕ) → has (members c.inputs mask) x ≡ true → cost_without c mask x ≤ t.bound → has (affordable c t.bound mask) x ≡ true
     unfolding affordable
@@ -91,7 +80,7 @@ module _ (b : BenchOf) (essential : ℕ) (h : HoldsBench b essential) where
     wanted_has : (x : ℕ) → is_lawful t.pairs.pairs (members c.inputs mask) ≡ true → has (members c.inputs mask) x ≡ true →
         cost_without c mask x ≤ t.bound → has (wanted t.problem.inputs F t.pairs.pairs t.bound mask) x ≡ true
     wanted_has x low m le =
-        ap (λ k. has (wanted k F t.pairs.pairs t.bound mask) x) (sym h.bench.inputs)
+        ap (λ k. has (wanted k F t.pairs.pairs t.bound mask) x) (sym h.inputs)
         ∙ ap (λ xs. has xs x) (wanted_lawful c F t.pairs.pairs t.bound mask next own_costs low)
         ∙ affordable_has x m le
 
@@ -107,12 +96,12 @@ module _ (b : BenchOf) (essential : ℕ) (h : HoldsBench b essential) where
     widths_are : AreWidthsFor c.inputs F t.pairs.pairs t.bound mask c row
     widths_are low x m le =
         let small = members_small c.inputs mask x m in
-        is_row x (omega (arith, small, h.few, h.bench.inputs)) ∙ width_there x (bit_there x (wanted_has x low m le))
-        ∙ ap (λ k. width k F (without x (members k mask)) x) (sym h.bench.inputs)
+        is_row x (omega (arith, small, s.few, h.inputs)) ∙ width_there x (bit_there x (wanted_has x low m le))
+        ∙ ap (λ k. width k F (without x (members k mask)) x) (sym h.inputs)
 
     pub cell_is : (cell : ℕ × ℕ) →
         ((G : List Function) → essential ≡ essential_mask c.inputs G → AreTrueCosts c.inputs G t.pairs.pairs t.bound c →
         AreWidthsFor c.inputs G t.pairs.pairs t.bound mask c row → cell ≡ cell_of c.inputs G t.pairs.pairs t.bound mask) →
         cell ≡ cell_for t mask
-    cell_is cell f = f F (h.essential_is ∙ ap (λ k. essential_mask k F) (sym h.bench.inputs)) own_costs widths_are
-        ∙ ap (λ k. cell_of k F t.pairs.pairs t.bound mask) h.bench.inputs
+    cell_is cell f = f F (s.essential_is ∙ ap (λ k. essential_mask k F) (sym h.inputs)) own_costs widths_are
+        ∙ ap (λ k. cell_of k F t.pairs.pairs t.bound mask) h.inputs

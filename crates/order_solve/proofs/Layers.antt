@@ -9,11 +9,10 @@ use Rattle.std.proofs.lemmas.Option.{slice_get_within, slice_get-get_or, get_or_
 use Rattle.order_model.specs.Functions.{Function, from_table}
 use Rattle.std.specs.Int.{bit_at}
 use Rattle.std.proofs.lemmas.Nat.{zero_from_ones}
-use Rattle.order_model.specs.Orders.{has, members, variables, mask_of}
-use Rattle.order_model.specs.Cells.{cell_of, wanted}
+use Rattle.order_model.specs.Orders.{has, members, variables}
+use Rattle.order_model.specs.Cells.{cell_of}
 use Rattle.order_model.proofs.Widths.SizeBounds.{size_bound}
 use Rattle.subset_layers.specs.declared.costs.Cell.{Cell}
-use Rattle.order_solve.specs.Needs.{needed}
 use Rattle.layer_core.specs.Pairing.{pair_of}
 use Rattle.order_model.specs.Pairs.{Pair}
 use Rattle.order_model.specs.Problems.{functions}
@@ -93,13 +92,6 @@ cell_found t k mask c o cell h exact e =
     (exact (functions t.problem) t.pairs.pairs t.bound
     (subst (λ (n : ℕ). AreTrueCells n (functions t.problem) t.pairs.pairs t.bound c) (sym h.inputs) h.cells_are)) e
     ∙ ap (λ n. cell_of n (functions t.problem) t.pairs.pairs t.bound mask) h.inputs
-
-pub needed_is : (t : Setting) (k mask r : ℕ) (c : CostsOf) → IsLayerFor t k c →
-    ((G : List Function) → AreTrueCosts c.inputs G t.pairs.pairs t.bound c → r ≡ mask_of (wanted c.inputs G t.pairs.pairs t.bound mask)) → r ≡ needed t mask
-unfolding needed
-needed_is t k mask r c h f =
-    f (functions t.problem) (subst (λ (n : ℕ). AreTrueCosts n (functions t.problem) t.pairs.pairs t.bound c) (sym h.inputs) h.costs_are)
-    ∙ ap (λ n. mask_of (wanted n (functions t.problem) t.pairs.pairs t.bound mask)) h.inputs
 
 -- the layer before that of a set
 pub next_there : (t : Setting) (mask : ℕ) (c : CostsOf) → mask < 2 ^ t.problem.inputs → 0 < mask → IsLayerFor t (count_ones mask - 1) c →

@@ -1,8 +1,8 @@
 -- The members of a set whose widths its cell takes.
 --     affordable_is      the mask that the code collects
---     wanted_lawful, wanted_unlawful      the members whose widths are taken, of a lawful set and of another one
+--     wanted_lawful, wanted_unlawful, needed_lawful, needed_unlawful      the members whose widths are taken, and their mask, of a lawful set and of another one
 --     needed_bit, needed_ones      the bits of their mask, and how many it has
-use Rattle.std.proofs.Common.{◌≡◌, ◌≢◌, ℕ, ◌+◌, ◌-◌, ◌^◌, ◌<◌, ◌≤◌, Bool, true, false, cond, ◌&&◌, List, [], map, length, unwrap_or, refl, sym, ap, ◌∙◌, arith, eqb, eq-eqb, ne_eqb, leb, count_ones}
+use Rattle.std.proofs.Common.{◌≡◌, ◌≢◌, ℕ, ◌+◌, ◌-◌, ◌^◌, ◌<◌, ◌≤◌, Bool, true, false, cond, ◌&&◌, List, [], map, length, unwrap_or, refl, sym, ap, ◌∙◌, subst, arith, eqb, eq-eqb, ne_eqb, leb, count_ones}
 use Rattle.std.specs.Int.{bit_at}
 use Rattle.std.specs.List.{filter, sum_by, IsDistinct}
 use Rattle.std.proofs.lemmas.Bool.{and_parts, and_from, and_left, leb-true, le-leb}
@@ -26,6 +26,7 @@ use Rattle.subset_layers.specs.Costs.{CostsOf, cost_without, AreTrueCosts}
 use Rattle.subset_layers.proofs.CostLists.{less_one}
 use Rattle.order_model.proofs.Bits.Ones.{ones-members}
 use Rattle.layer_core.specs.Settings.{Setting}
+use Rattle.order_solve.specs.Benches.{AreCostsFor}
 use Rattle.order_solve.specs.Needs.{affordable, needed}
 use Rattle.order_solve.specs.Gains.{width_count, widths_for}
 use Rattle.order_solve.proofs.Filters.{filter_none, sum_map}
@@ -98,6 +99,23 @@ unfolding wanted
 wanted_unlawful n F P bound mask low =
     filter_none (λ x. is_lawful P (members n mask) && leb (cell_cost n F P bound (mask - 2 ^ x)) bound) (tops P (members n mask))
     (λ x. and_left _ _ low)
+
+pub needed_lawful : (t : Setting) (c : CostsOf) (mask : ℕ) → c.inputs ≡ t.problem.inputs → AreCostsFor t c →
+    has (masks_of (layer_with c.inputs (c.size + 1))) mask ≡ true → is_lawful t.pairs.pairs (members t.problem.inputs mask) ≡ true →
+    mask_of (affordable c t.bound mask) ≡ needed t mask
+unfolding needed
+needed_lawful t c mask inputs costs next low =
+    let F = functions t.problem in
+    let P = t.pairs.pairs in
+    ap mask_of
+    (sym
+    (wanted_lawful c F P t.bound mask next (subst (λ (n : ℕ). AreTrueCosts n F P t.bound c) (sym inputs) costs)
+    (ap (λ n. is_lawful P (members n mask)) inputs ∙ low))
+    ∙ ap (λ n. wanted n F P t.bound mask) inputs)
+
+pub needed_unlawful : (t : Setting) (mask : ℕ) → is_lawful t.pairs.pairs (members t.problem.inputs mask) ≡ false → 0 ≡ needed t mask
+unfolding needed mask_of
+needed_unlawful t mask low = sym (ap mask_of (wanted_unlawful t.problem.inputs (functions t.problem) t.pairs.pairs t.bound mask low))
 
 -- how many bits the mask of a list has
 ones_mask_of : (n : ℕ) (xs : List ℕ) → IsDistinct nat_eq xs → ((y : ℕ) → has xs y ≡ true → y < n) → count_ones (mask_of xs) ≡ length xs

@@ -1,6 +1,7 @@
 -- The cells of all sets, layer by layer, for a bound that is the size of an order.
 --     IsBounded t      some order that keeps the pairs has the bound as its size
 --     AreLayersFor t layers, AreAllLayers t layers      the layers from that of the empty set on; those of all sets
+--     AreDone t layers      the layers of fewer variables than there are, at least that of the empty set
 --     HoldsCells t layers      what the cells of all sets are kept with
 use Rattle.std.specs.Prelude.{◌≡◌, ℕ, ◌+◌, ◌≤◌, List, length, slice_get, Some}
 use Rattle.order_model.specs.Orders.{IsOrder}
@@ -27,9 +28,13 @@ pub record AreAllLayers (t : Setting) (layers : List CostsOf) : Type 0 where
   pub many : length layers ≡ t.problem.inputs + 1
   pub layers_are : AreLayersFor t layers
 
+-- the layers of fewer variables than there are, at least that of the empty set
+pub record AreDone (t : Setting) (layers : List CostsOf) : Type 0 where
+  pub some : 1 ≤ length layers
+  pub few : length layers ≤ t.problem.inputs
+  pub layers_are : AreLayersFor t layers
+
 -- the layers of all sets, for a bound that is the size of an order that keeps the pairs
 pub record HoldsCells (t : Setting) (layers : List CostsOf) : Type 0 where
-  pub pairs : t.pairs.inputs ≡ t.problem.inputs
-  pub few : t.problem.inputs ≤ 16
   pub bounded : IsBounded t
   pub all : AreAllLayers t layers

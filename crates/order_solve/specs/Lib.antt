@@ -1,3 +1,4 @@
+pub mod Settings
 pub mod Benches
 pub mod Needs
 pub mod Gains

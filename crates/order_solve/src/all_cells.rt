@@ -7,14 +7,16 @@ ghost use Rattle.layer_core.specs.Settings.{cell_for};
 ghost use Rattle.layer_core.specs.Pairing.{pair_of};
 ghost use Rattle.order_solve.specs.Needs.{needed};
 ghost use Rattle.order_solve.specs.Solutions.{cost_for};
-ghost use Rattle.order_solve.specs.Benches.{setting_with, IsLayerFor};
+ghost use Rattle.order_solve.specs.Benches.{IsLayerFor};
 ghost use Rattle.order_solve.specs.Bounded.{AreAllLayers};
 
 use crate::alone::layers_alone;
+use crate::crew::Crew;
 use crate::layering::next_layer;
 use crate::needs::needed_members;
+use crate::setting::Setting;
 use compaction::Beginning;
-use order_model::{Gate, Mask, Pairs, Problem, Workers};
+use order_model::{Gate, Mask};
 use std::alloc::{AllocError, Global};
 use std::marker::Model;
 use std::thread::Threads;
@@ -24,56 +26,34 @@ use subset_layers::{Cell, Costs};
 /// the pairs.
 #[derive(Drop)]
 pub struct AllCells<'a> {
-    problem: &'a Problem,
-    pairs: &'a Pairs,
-    bound: u32,
+    setting: &'a Setting<'a>,
     layers: Vec<Costs>,
 }
 
 impl<'a> Model for AllCells<'a> {
     ghost use Rattle.layer_core.specs.Settings.{Setting};
-    ghost use Rattle.order_solve.specs.Benches.{setting_with};
     ghost use Rattle.order_solve.specs.Bounded.{HoldsCells};
 
     ghost Value = { Setting };
 
-    ghost view = { λ a. setting_with a.problem.now a.pairs.now a.bound };
+    ghost view = { λ a. a.setting.now };
 
-    ghost invariant = { λ a. HoldsCells
-        (setting_with a.problem.now a.pairs.now a.bound) a.layers.items };
+    ghost invariant = { λ a. HoldsCells a.setting.now a.layers.items };
 }
 
 /// The layers of all sets, each by workers.
 pub(crate) fn layers_of<R: Threads + Sync, G: Gate>(
-    rt: &R,
+    crew: &Crew<'_, R, G>,
     alloc: Global,
-    problem: &Problem,
-    pairs: &Pairs,
-    bound: u32,
-    workers: Workers,
-    gate: &G,
+    setting: &Setting<'_>,
 ) -> Result<Vec<Costs>, AllocError>
-    requires pairs { pairs.now.inputs ≡ problem.now.inputs }
-    requires room { bound + 1 < 2 ^ 32 }
-    ensures { IfOk result (λ v. AreAllLayers (setting_with problem.now pairs.now bound) v.items) }
+    ensures { IfOk result (λ v. AreAllLayers setting.now v.items) }
 {
-    let beginning = Beginning::of(alloc, problem)?;
+    let beginning = Beginning::of(alloc, setting.problem)?;
     let mut layers = Vec::new(alloc);
-    layers.push(Costs::start(alloc, problem.inputs())?)?;
-    for size in 0..problem.inputs() {
-        let before = &layers[usize::from(size)];
-        let costs = next_layer(
-            rt,
-            alloc,
-            problem,
-            pairs,
-            bound,
-            before,
-            size + 1,
-            &beginning,
-            workers,
-            gate,
-        )?;
+    layers.push(Costs::start(alloc, setting.inputs())?)?;
+    for _size in 0..setting.inputs() {
+        let costs = next_layer(crew, alloc, setting, &beginning, &layers)?;
         layers.push(costs)?;
     }
     Ok(layers)
@@ -84,49 +64,24 @@ impl<'a> AllCells<'a> {
 
     /// The cells of all layers, each by workers.
     pub fn of<R: Threads + Sync, G: Gate>(
-        rt: &R,
+        crew: &Crew<'_, R, G>,
         alloc: Global,
-        problem: &'a Problem,
-        pairs: &'a Pairs,
-        bound: u32,
-        workers: Workers,
-        gate: &G,
+        setting: &'a Setting<'a>,
     ) -> Result<AllCells<'a>, AllocError>
-        requires pairs { pairs.now.inputs ≡ problem.now.inputs }
-        requires bounded { IsBounded (setting_with problem.now pairs.now bound) }
-        ensures { IfOk result (λ a. a ≡ setting_with problem.now pairs.now bound) }
+        requires { IsBounded setting.now }
+        ensures { IfOk result (λ a. a ≡ setting.now) }
     {
-        let _few = problem.outputs();
-        let _inputs = problem.inputs();
-        let layers = layers_of(rt, alloc, problem, pairs, bound, workers, gate)?;
-        Ok(AllCells {
-            problem,
-            pairs,
-            bound,
-            layers,
-        })
+        let layers = layers_of(crew, alloc, setting)?;
+        Ok(AllCells { setting, layers })
     }
 
     /// The cells of all layers, by the calling thread.
-    pub fn alone(
-        alloc: Global,
-        problem: &'a Problem,
-        pairs: &'a Pairs,
-        bound: u32,
-    ) -> Result<AllCells<'a>, AllocError>
-        requires pairs { pairs.now.inputs ≡ problem.now.inputs }
-        requires bounded { IsBounded (setting_with problem.now pairs.now bound) }
-        ensures { IfOk result (λ a. a ≡ setting_with problem.now pairs.now bound) }
+    pub fn alone(alloc: Global, setting: &'a Setting<'a>) -> Result<AllCells<'a>, AllocError>
+        requires { IsBounded setting.now }
+        ensures { IfOk result (λ a. a ≡ setting.now) }
     {
-        let _few = problem.outputs();
-        let _inputs = problem.inputs();
-        let layers = layers_alone(alloc, problem, pairs, bound)?;
-        Ok(AllCells {
-            problem,
-            pairs,
-            bound,
-            layers,
-        })
+        let layers = layers_alone(alloc, setting)?;
+        Ok(AllCells { setting, layers })
     }
 
     /// The number of variables.
@@ -136,15 +91,14 @@ impl<'a> AllCells<'a> {
         ensures few { result ≤ 16 }
         ensures bounded { IsBounded self.now }
     {
-        let _layers = &self.layers;
-        self.problem.inputs()
+        self.setting.inputs()
     }
 
     /// The set of the variables on which some function depends.
     pub fn essential(&self) -> Mask
         ensures { result ≡ essential_mask self.now.problem.inputs (functions self.now.problem) }
     {
-        self.problem.essential()
+        self.setting.essential()
     }
 
     /// The costs of the layer of a size.
@@ -179,6 +133,6 @@ impl<'a> AllCells<'a> {
         ensures { result ≡ needed self.now mask }
     {
         let before = self.layer(mask.count_ones() - 1);
-        needed_members(mask, before, self.pairs, self.bound)
+        needed_members(self.setting, before, mask)
     }
 }

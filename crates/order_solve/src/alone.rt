@@ -1,15 +1,15 @@
 //! The layers by one thread.
 
-ghost use Rattle.std.specs.Prelude.{◌≡◌, ◌+◌, ◌^◌, ◌<◌, length, IfOk};
+ghost use Rattle.std.specs.Prelude.{◌≡◌, length, IfOk};
 ghost use Rattle.subset_layers.specs.Layers.{layer_of, masks_of, block_masks};
-ghost use Rattle.order_solve.specs.Benches.{AreCells, CanFollow, setting_with, IsLayerFor};
-ghost use Rattle.order_solve.specs.Bounded.{AreAllLayers};
+ghost use Rattle.order_solve.specs.Benches.{AreCells, IsLayerFor};
+ghost use Rattle.order_solve.specs.Bounded.{AreAllLayers, AreDone};
 ghost use Rattle.order_solve.specs.Placed.{ArePlaced, StayPlaced};
 
 use crate::bench::Bench;
 use crate::cells::cells_of_block;
+use crate::setting::Setting;
 use compaction::{Beginning, Tally};
-use order_model::{Pairs, Problem};
 use std::alloc::{AllocError, Global};
 use subset_layers::{Block, Cell, Costs, Layer};
 
@@ -33,6 +33,7 @@ fn place_cells(bench: &Bench<'_>, block: &Block, found: &[Cell], cells: &mut [Ce
 pub fn cells_alone(alloc: Global, bench: &Bench<'_>) -> Result<Vec<Cell>, AllocError>
     ensures { IfOk result (λ v. AreCells bench.now.setting (masks_of bench.now.layer) v.items) }
 {
+    let _few = bench.setting.inputs();
     let layer = bench.layer;
     let none = Cell {
         cost: 0,
@@ -48,43 +49,33 @@ pub fn cells_alone(alloc: Global, bench: &Bench<'_>) -> Result<Vec<Cell>, AllocE
     Ok(cells)
 }
 
-/// The layer after one of some costs.
+/// The layer after those that are done.
 fn next_layer_alone(
     alloc: Global,
-    problem: &Problem,
-    pairs: &Pairs,
-    bound: u32,
-    before: &Costs,
-    size: u8,
+    setting: &Setting<'_>,
     beginning: &Beginning<'_>,
+    done: &[Costs],
 ) -> Result<Costs, AllocError>
-    requires beginning { beginning.now ≡ problem.now }
-    requires before { CanFollow (setting_with problem.now pairs.now bound) size before.now }
-    ensures { IfOk result (IsLayerFor (setting_with problem.now pairs.now bound) size) }
+    requires beginning { beginning.now ≡ setting.now.problem }
+    requires done { AreDone setting.now done.now }
+    ensures { IfOk result (IsLayerFor setting.now (length done.now)) }
 {
-    let layer = Layer::of(alloc, problem.inputs(), size)?;
-    let bench = Bench::new(problem, pairs, bound, &layer, before).with_beginning(beginning);
+    let layer = Layer::of(alloc, setting.inputs(), done.len() as u8)?;
+    let before = &done[done.len() - 1];
+    let bench = Bench::new(setting, &layer, before).with_beginning(beginning);
     let cells = cells_alone(alloc, &bench)?;
     Ok(Costs::of(layer, cells))
 }
 
 /// The layers of all sets.
-pub fn layers_alone(
-    alloc: Global,
-    problem: &Problem,
-    pairs: &Pairs,
-    bound: u32,
-) -> Result<Vec<Costs>, AllocError>
-    requires pairs { pairs.now.inputs ≡ problem.now.inputs }
-    requires room { bound + 1 < 2 ^ 32 }
-    ensures { IfOk result (λ v. AreAllLayers (setting_with problem.now pairs.now bound) v.items) }
+pub fn layers_alone(alloc: Global, setting: &Setting<'_>) -> Result<Vec<Costs>, AllocError>
+    ensures { IfOk result (λ v. AreAllLayers setting.now v.items) }
 {
-    let beginning = Beginning::of(alloc, problem)?;
+    let beginning = Beginning::of(alloc, setting.problem)?;
     let mut layers = Vec::new(alloc);
-    layers.push(Costs::start(alloc, problem.inputs())?)?;
-    for size in 0..problem.inputs() {
-        let before = &layers[usize::from(size)];
-        let costs = next_layer_alone(alloc, problem, pairs, bound, before, size + 1, &beginning)?;
+    layers.push(Costs::start(alloc, setting.inputs())?)?;
+    for _size in 0..setting.inputs() {
+        let costs = next_layer_alone(alloc, setting, &beginning, &layers)?;
         layers.push(costs)?;
     }
     Ok(layers)

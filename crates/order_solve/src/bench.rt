@@ -2,8 +2,8 @@
 
 ghost use Rattle.std.specs.Prelude.{◌≡◌};
 
+use crate::setting::Setting;
 use compaction::Beginning;
-use order_model::{Mask, Pairs, Problem};
 use std::marker::Model;
 use subset_layers::{Costs, Layer};
 
@@ -11,10 +11,7 @@ use subset_layers::{Costs, Layer};
 /// and, if several layers are done, what the walks of all blocks begin with.
 #[derive(Drop)]
 pub struct Bench<'a> {
-    pub(crate) problem: &'a Problem,
-    pub(crate) pairs: &'a Pairs,
-    pub(crate) bound: u32,
-    pub(crate) essential: Mask,
+    pub(crate) setting: &'a Setting<'a>,
     pub(crate) layer: &'a Layer,
     pub(crate) before: &'a Costs,
     pub(crate) beginning: Option<&'a Beginning<'a>>,
@@ -22,38 +19,26 @@ pub struct Bench<'a> {
 
 impl<'a> Model for Bench<'a> {
     ghost use Rattle.std.specs.Prelude.{◌≡◌, IfSome};
-    ghost use Rattle.order_solve.specs.Benches.{BenchOf, bench_with, HoldsBench};
+    ghost use Rattle.order_solve.specs.Benches.{BenchOf, bench_with, IsBench};
 
     ghost Value = { BenchOf };
 
-    ghost view = { λ b. bench_with b.problem.now b.pairs.now b.bound b.layer.now b.before.now };
+    ghost view = { λ b. bench_with b.setting.now b.layer.now b.before.now };
 
-    ghost invariant = { λ b. HoldsBench
-        (bench_with b.problem.now b.pairs.now b.bound b.layer.now b.before.now) b.essential
-        × IfSome b.beginning (λ g. g.now ≡ b.problem.now) };
+    ghost invariant = { λ b. IsBench (bench_with b.setting.now b.layer.now b.before.now)
+        × IfSome b.beginning (λ g. g.now ≡ b.setting.now.problem) };
 }
 
 impl<'a> Bench<'a> {
     ghost use Rattle.order_solve.specs.Benches.{bench_with, IsBench};
 
-    /// The bench of a layer: the costs are those of the layer before, for the problem, the pairs
-    /// and the bound.
-    pub fn new(
-        problem: &'a Problem,
-        pairs: &'a Pairs,
-        bound: u32,
-        layer: &'a Layer,
-        before: &'a Costs,
-    ) -> Bench<'a>
-        requires { IsBench (bench_with problem.now pairs.now bound layer.now before.now) }
-        ensures { result ≡ bench_with problem.now pairs.now bound layer.now before.now }
+    /// The bench of a layer: the costs are those of the layer before, for the setting.
+    pub fn new(setting: &'a Setting<'a>, layer: &'a Layer, before: &'a Costs) -> Bench<'a>
+        requires { IsBench (bench_with setting.now layer.now before.now) }
+        ensures { result ≡ bench_with setting.now layer.now before.now }
     {
-        let _few = problem.inputs();
         Bench {
-            problem,
-            pairs,
-            bound,
-            essential: problem.essential(),
+            setting,
             layer,
             before,
             beginning: None,

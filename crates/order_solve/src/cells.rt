@@ -32,7 +32,7 @@ fn widths_of(
 {
     let widths = match bench.beginning {
         Some(beginning) => beginning.block_widths(alloc, block, needed, tally)?,
-        None => block_widths(alloc, bench.problem, block, needed, tally)?,
+        None => block_widths(alloc, bench.setting.problem(), block, needed, tally)?,
     };
     Ok(widths)
 }
@@ -51,7 +51,7 @@ pub fn cells_of_block(
     ensures tally { OnOk result
         (tally.new ≡ tally.old + widths_for bench.now.setting (block_masks block.now)) }
 {
-    let _few = bench.problem.inputs();
+    let setting = bench.setting;
     let needs = needs_of_block(alloc, block, bench)?;
     let widths = widths_of(alloc, block, bench, &needs, tally)?;
     let mut cells = Vec::with_capacity(alloc, block.len())?;
@@ -61,9 +61,9 @@ pub fn cells_of_block(
             block.mask(i),
             bench.before,
             &row,
-            bench.bound,
-            bench.essential,
-            bench.pairs,
+            setting.bound,
+            setting.essential,
+            setting.pairs,
         ))?;
     }
     Ok(cells)

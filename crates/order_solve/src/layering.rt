@@ -1,16 +1,19 @@
 //! The cells of a layer by workers.
 
-ghost use Rattle.std.specs.Prelude.{◌≡◌, ◌≤◌, All, IfOk, vec_len};
+ghost use Rattle.std.specs.Prelude.{◌≡◌, ◌≤◌, All, IfOk, length, vec_len};
 ghost use Rattle.std.specs.Thread.{IsSync};
 ghost use Rattle.subset_layers.specs.Layers.{masks_of};
-ghost use Rattle.order_solve.specs.Benches.{AreCells, CanFollow, setting_with, IsLayerFor};
+ghost use Rattle.order_solve.specs.Benches.{AreCells, IsLayerFor};
+ghost use Rattle.order_solve.specs.Bounded.{AreDone};
 
 use crate::alone::cells_alone;
 use crate::bench::Bench;
+use crate::crew::Crew;
+use crate::setting::Setting;
 use crate::working::{WorkerEnd, work_layer};
 use compaction::Beginning;
 use layer_board::{Board, BoardSeat, CloseError};
-use order_model::{Gate, Pairs, Problem, Workers};
+use order_model::{Gate, Problem, Workers};
 use std::alloc::{AllocError, Global};
 use std::thread;
 use std::thread::Threads;
@@ -41,12 +44,11 @@ fn numbered(alloc: Global, board: &Board, seats: Vec<BoardSeat>) -> Result<Vec<J
 
 /// Does the jobs by threads of their own.
 fn do_jobs<R: Threads + Sync, G: Gate>(
-    rt: &R,
+    crew: &Crew<'_, R, G>,
     alloc: Global,
     board: &Board,
     jobs: Vec<Job>,
     bench: &Bench<'_>,
-    gate: &G,
 ) -> Result<Vec<Result<WorkerEnd, AllocError>>, AllocError>
     requires seats { All (λ j. j.seat.board ≡ board.now) jobs.items }
     requires setting { board.now.brief.setting ≡ bench.now.setting }
@@ -54,8 +56,9 @@ fn do_jobs<R: Threads + Sync, G: Gate>(
     ensures count { IfOk result (λ v. vec_len v ≡ vec_len jobs) }
     ensures seats { IfOk result (λ v. All (λ r. IfOk r (λ e. e.seat.board ≡ board.now)) v.items) }
 {
+    let gate = crew.gate;
     thread::map_vec(
-        rt,
+        crew.rt,
         jobs,
         &|job: Job| -> Result<WorkerEnd, AllocError>
             requires { IsSync G.row × (job.seat.board ≡ board.now)
@@ -104,24 +107,23 @@ fn busy_workers(problem: &Problem, layer: &Layer, workers: Workers) -> Workers
 /// The cells of a layer in its order, by workers. If some cell is missing although none of them ran
 /// out of memory, the calling thread does the layer over alone.
 fn cells_of_layer<R: Threads + Sync, G: Gate>(
-    rt: &R,
+    crew: &Crew<'_, R, G>,
     alloc: Global,
     bench: &Bench<'_>,
-    workers: Workers,
-    gate: &G,
 ) -> Result<Vec<Cell>, AllocError>
     ensures { IfOk result (λ v. AreCells bench.now.setting (masks_of bench.now.layer) v.items) }
 {
+    let setting = bench.setting;
     let (board, seats) = Board::new(
         alloc,
-        bench.problem,
-        bench.bound,
+        setting.problem,
+        setting.bound,
         bench.layer,
-        busy_workers(bench.problem, bench.layer, workers),
-        bench.pairs,
+        busy_workers(setting.problem, bench.layer, crew.workers),
+        setting.pairs,
     )?;
     let jobs = numbered(alloc, &board, seats)?;
-    let ended = do_jobs(rt, alloc, &board, jobs, bench, gate)?;
+    let ended = do_jobs(crew, alloc, &board, jobs, bench)?;
     let seat = some_seat(&board, ended)?;
     match board.close(alloc, seat) {
         Ok(cells) => Ok(cells),
@@ -130,25 +132,21 @@ fn cells_of_layer<R: Threads + Sync, G: Gate>(
     }
 }
 
-/// The layer after one of some costs.
+/// The layer after those that are done.
 pub fn next_layer<R: Threads + Sync, G: Gate>(
-    rt: &R,
+    crew: &Crew<'_, R, G>,
     alloc: Global,
-    problem: &Problem,
-    pairs: &Pairs,
-    bound: u32,
-    before: &Costs,
-    size: u8,
+    setting: &Setting<'_>,
     beginning: &Beginning<'_>,
-    workers: Workers,
-    gate: &G,
+    done: &[Costs],
 ) -> Result<Costs, AllocError>
-    requires beginning { beginning.now ≡ problem.now }
-    requires before { CanFollow (setting_with problem.now pairs.now bound) size before.now }
-    ensures { IfOk result (IsLayerFor (setting_with problem.now pairs.now bound) size) }
+    requires beginning { beginning.now ≡ setting.now.problem }
+    requires done { AreDone setting.now done.now }
+    ensures { IfOk result (IsLayerFor setting.now (length done.now)) }
 {
-    let layer = Layer::of(alloc, problem.inputs(), size)?;
-    let bench = Bench::new(problem, pairs, bound, &layer, before).with_beginning(beginning);
-    let cells = cells_of_layer(rt, alloc, &bench, workers, gate)?;
+    let layer = Layer::of(alloc, setting.inputs(), done.len() as u8)?;
+    let before = &done[done.len() - 1];
+    let bench = Bench::new(setting, &layer, before).with_beginning(beginning);
+    let cells = cells_of_layer(crew, alloc, &bench)?;
     Ok(Costs::of(layer, cells))
 }

@@ -2,6 +2,10 @@
 //! several workers.
 #![tactic(auto)]
 
+// What a search is for, and who does it.
+mod crew;
+mod setting;
+
 // The solver: the layers one after another, by workers or by the calling thread.
 mod alone;
 mod layering;
@@ -20,6 +24,7 @@ mod reading;
 mod solution;
 
 pub use bench::Bench;
+pub use setting::Setting;
 pub use solution::Solution;
 pub use solving::{solve, solve_alone};
 pub use working::{WorkerEnd, work_layer};

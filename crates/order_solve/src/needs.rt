@@ -1,15 +1,14 @@
 //! The variables whose widths the cell of a set takes.
 
-ghost use Rattle.std.specs.Prelude.{◌≡◌, ◌<◌, List, map, IfOk};
-ghost use Rattle.order_model.specs.Functions.{Function};
+ghost use Rattle.std.specs.Prelude.{◌≡◌, ◌<◌, map, IfOk};
 ghost use Rattle.order_model.specs.Orders.{mask_of};
-ghost use Rattle.order_model.specs.Cells.{wanted};
 ghost use Rattle.subset_layers.specs.Layers.{layer_of, block_masks};
-ghost use Rattle.subset_layers.specs.Costs.{AreTrueCosts};
+ghost use Rattle.order_solve.specs.Benches.{AreCostsFor};
 ghost use Rattle.order_solve.specs.Needs.{IsInNextLayer, affordable, needed};
 
 use crate::bench::Bench;
-use order_model::{Mask, Pairs};
+use crate::setting::Setting;
+use order_model::Mask;
 use std::alloc::{AllocError, Global};
 use subset_layers::{Block, Costs};
 
@@ -31,15 +30,14 @@ fn affordable_members(mask: Mask, costs: &Costs, bound: u32) -> Mask
 }
 
 /// The members of a set whose widths its cell takes.
-pub fn needed_members(mask: Mask, costs: &Costs, pairs: &Pairs, bound: u32) -> Mask
-    requires next { IsInNextLayer costs.now mask }
-    requires inputs { pairs.now.inputs ≡ costs.now.inputs }
-    ensures { (F : List Function) →
-        AreTrueCosts costs.now.inputs F pairs.now.pairs bound costs.now →
-        result ≡ mask_of (wanted costs.now.inputs F pairs.now.pairs bound mask) }
+pub fn needed_members(setting: &Setting<'_>, before: &Costs, mask: Mask) -> Mask
+    requires next { IsInNextLayer before.now mask }
+    requires inputs { before.now.inputs ≡ setting.now.problem.inputs }
+    requires costs { AreCostsFor setting.now before.now }
+    ensures { result ≡ needed setting.now mask }
 {
-    if pairs.lawful(mask) {
-        affordable_members(mask, costs, bound)
+    if setting.pairs.lawful(mask) {
+        affordable_members(mask, before, setting.bound)
     } else {
         0
     }
@@ -56,7 +54,7 @@ pub fn needs_of_block(
 {
     let mut needs = Vec::with_capacity(alloc, block.len())?;
     for i in 0..block.len() {
-        needs.push(needed_members(block.mask(i), bench.before, bench.pairs, bench.bound))?;
+        needs.push(needed_members(bench.setting, bench.before, block.mask(i)))?;
     }
     Ok(needs)
 }

@@ -3,15 +3,16 @@
 ghost use Rattle.std.specs.Prelude.{◌≡◌, IfOk};
 ghost use Rattle.order_model.specs.Problems.{functions};
 ghost use Rattle.order_model.specs.Cells.{widths_taken};
-ghost use Rattle.order_solve.specs.Benches.{setting_with};
 ghost use Rattle.order_solve.specs.Bounded.{IsBounded};
 ghost use Rattle.order_solve.specs.Solutions.{IsSolution, widths_for_all};
 
 use crate::all_cells::AllCells;
+use crate::crew::Crew;
 use crate::listing::{count_widths, listed_cells};
 use crate::reading::{all_variables, level_counts, read_order};
+use crate::setting::Setting;
 use crate::solution::Solution;
-use order_model::{Gate, Pairs, Problem, Workers};
+use order_model::{Gate, Problem, Workers};
 use sifting::Sifted;
 use std::alloc::{AllocError, Global};
 use std::thread::Threads;
@@ -36,26 +37,17 @@ fn solution_of(alloc: Global, cells: &AllCells<'_>) -> Result<Solution, AllocErr
     })
 }
 
-/// The first order of the fewest nodes among those that keep the pairs, for a bound that is the
-/// size of one of them.
-pub(crate) fn solve_within<R: Threads + Sync, G: Gate>(
-    rt: &R,
-    alloc: Global,
-    problem: &Problem,
-    pairs: &Pairs,
-    bound: u32,
-    workers: Workers,
-    gate: &G,
-) -> Result<Solution, AllocError>
-    requires pairs { pairs.now.inputs ≡ problem.now.inputs }
-    requires bounded { IsBounded (setting_with problem.now pairs.now bound) }
-    ensures solution { IfOk result (IsSolution problem.now pairs.now.pairs) }
-    ensures widths { IfOk result
-        (λ s. s.widths ≡ widths_for_all (setting_with problem.now pairs.now bound)) }
+/// What the search is for that a sifted order bounds: its pairs are kept, and its size is the bound.
+fn setting_of<'a>(problem: &'a Problem, sifted: &'a Sifted) -> Setting<'a>
+    requires { sifted.now.problem ≡ problem.now }
+    ensures problem { result.problem ≡ problem.now }
+    ensures pairs { result.pairs.pairs ≡ sifted.now.pairs }
+    ensures bound { result.bound ≡ sifted.now.size }
+    ensures bounded { IsBounded result }
 {
-    let cells = AllCells::of(rt, alloc, problem, pairs, bound, workers, gate)?;
-    let solution = solution_of(alloc, &cells)?;
-    Ok(solution)
+    let _few = problem.outputs();
+    let _inputs = problem.inputs();
+    Setting::new(problem, sifted.pairs(), sifted.size())
 }
 
 /// The first order of the fewest nodes among those that keep the pairs of a sifted order of the
@@ -77,8 +69,10 @@ pub fn solve<R: Threads + Sync, G: Gate>(
         (λ s. s.widths ≡ widths_taken problem.now.inputs (functions problem.now) sifted.pairs
         sifted.size) }
 {
-    let bound = sifted.size();
-    let solution = solve_within(rt, alloc, problem, sifted.pairs(), bound, workers, gate)?;
+    let setting = setting_of(problem, &sifted);
+    let crew = Crew::new(rt, workers, gate);
+    let cells = AllCells::of(&crew, alloc, &setting)?;
+    let solution = solution_of(alloc, &cells)?;
     Ok(solution)
 }
 
@@ -90,8 +84,8 @@ pub fn solve_alone(alloc: Global, problem: &Problem, sifted: Sifted) -> Result<S
         (λ s. s.widths ≡ widths_taken problem.now.inputs (functions problem.now) sifted.pairs
         sifted.size) }
 {
-    let bound = sifted.size();
-    let cells = AllCells::alone(alloc, problem, sifted.pairs(), bound)?;
+    let setting = setting_of(problem, &sifted);
+    let cells = AllCells::alone(alloc, &setting)?;
     let solution = solution_of(alloc, &cells)?;
     Ok(solution)
 }

@@ -13,7 +13,6 @@ use crate::bench::Bench;
 use crate::cells::cells_of_block;
 use compaction::Tally;
 use layer_board::{Board, BoardSeat};
-use layer_core::CellResult;
 use order_model::{Gate, Mask};
 use std::alloc::{AllocError, Global};
 use subset_layers::{Block, Cell};
@@ -25,39 +24,53 @@ pub struct WorkerEnd {
     pub tally: Tally,
 }
 
-/// Posts the cell of a set.
-fn post_cell(board: &Board, seat: &mut BoardSeat, bench: &Bench<'_>, mask: Mask, cell: Cell)
-    requires seat { seat.old.board ≡ board.now }
-    requires setting { board.now.brief.setting ≡ bench.now.setting }
-    requires cell { pair_of cell ≡ cell_for bench.now.setting mask }
+/// A worker's place: its board, what it is lent, its number, and its gate.
+#[derive(Drop)]
+struct Place<'a, G> {
+    board: &'a Board,
+    bench: &'a Bench<'a>,
+    worker: u8,
+    gate: &'a G,
+}
+
+impl<'a, G: Gate> Place<'a, G> {
+    fn new(board: &'a Board, bench: &'a Bench<'a>, worker: u8, gate: &'a G) -> Place<'a, G>
+        ensures board { result.board.now ≡ board.now }
+        ensures bench { result.bench.now ≡ bench.now }
+    {
+        Place {
+            board,
+            bench,
+            worker,
+            gate,
+        }
+    }
+}
+
+/// Posts the cell of a set. The gate is called before.
+fn post_cell<G: Gate>(place: &Place<'_, G>, seat: &mut BoardSeat, mask: Mask, cell: Cell)
+    requires seat { seat.old.board ≡ place.now.board.now }
+    requires setting { place.now.board.now.brief.setting ≡ place.now.bench.now.setting }
+    requires cell { pair_of cell ≡ cell_for place.now.bench.now.setting mask }
     ensures stays { StaysClaimed seat.old seat.new }
     ensures posted { IsPosted seat.new mask }
 {
-    let result = CellResult::new(bench.problem, bench.bound, mask, cell, bench.pairs);
-    let _ = board.post(seat, result);
+    let bench = place.bench;
+    place.gate.between(place.worker, u32::from(mask));
+    let _ = place.board.post(seat, bench.setting.result(mask, cell));
 }
 
-/// Posts the cells of a block's sets. The gate is called before each.
-fn post_block<G: Gate>(
-    board: &Board,
-    seat: &mut BoardSeat,
-    worker: u8,
-    bench: &Bench<'_>,
-    block: &Block,
-    cells: &[Cell],
-    gate: &G,
-)
-    requires seat { seat.old.board ≡ board.now }
-    requires setting { board.now.brief.setting ≡ bench.now.setting }
-    requires cells { AreCells bench.now.setting (block_masks block.now) cells.now }
+/// Posts the cells of a block's sets.
+fn post_block<G: Gate>(place: &Place<'_, G>, seat: &mut BoardSeat, block: &Block, cells: &[Cell])
+    requires seat { seat.old.board ≡ place.now.board.now }
+    requires setting { place.now.board.now.brief.setting ≡ place.now.bench.now.setting }
+    requires cells { AreCells place.now.bench.now.setting (block_masks block.now) cells.now }
     ensures stays { StaysClaimed seat.old seat.new }
     ensures posted { (mask : ℕ) → IsTrue (has (block_masks block.now) mask) →
         IsPosted seat.new mask }
 {
     for i in 0..block.len() {
-        let mask = block.mask(i);
-        gate.between(worker, u32::from(mask));
-        post_cell(board, seat, bench, mask, cells[i]);
+        post_cell(place, seat, block.mask(i), cells[i]);
     }
 }
 
@@ -86,11 +99,12 @@ pub fn work_layer<G: Gate>(
         (λ e. (mask : ℕ) → IsTrue (gains seat e.seat mask) → IsTrue (knows_filled e.seat mask)) }
     ensures tally { IfOk result (λ e. e.tally ≡ widths_for bench.now.setting (gained seat e.seat)) }
 {
-    let _few = bench.problem.inputs();
+    let _few = bench.setting.inputs();
+    let place = Place::new(board, bench, worker, gate);
     let mut tally = Tally::new();
     while let Some(claim) = board.claim(&mut seat) {
         let cells = cells_of_block(alloc, claim.block(), bench, &mut tally)?;
-        post_block(board, &mut seat, worker, bench, claim.block(), &cells, gate);
+        post_block(&place, &mut seat, claim.block(), &cells);
     }
     Ok(WorkerEnd { seat, tally })
 }

@@ -4,13 +4,13 @@ ghost use Rattle.std.specs.Prelude.{◌≡◌, ◌+◌, ◌^◌, ◌<◌, All, I
 ghost use Rattle.subset_layers.specs.Layers.{masks_of};
 ghost use Rattle.layer_core.specs.Pairing.{pair_of};
 ghost use Rattle.layer_core.specs.Settings.{cell_for};
-ghost use Rattle.order_solve.specs.Benches.{AreCostsFor, IsBench, IsLayerFor, bench_with, setting_with};
+ghost use Rattle.order_solve.specs.Benches.{AreCostsFor, IsBench, IsLayerFor, bench_with};
 
 use crate::solutions::tables_of;
 use layer_board::{Board, BoardSeat, CloseError, PostRefused};
 use layer_core::CellResult;
-use order_model::{Mask, NoGate, Pairs, Problem, Workers};
-use order_solve::{Bench, WorkerEnd, work_layer};
+use order_model::{Mask, NoGate, Pairs, Workers};
+use order_solve::{Bench, Setting, WorkerEnd, work_layer};
 use std::alloc::Global;
 use std::test::Fail;
 use std::thread;
@@ -23,20 +23,20 @@ static PARITY_OF_FOUR: &[u8] =
 /// The cells of a layer, by a lone worker at a board of its own.
 fn cells_by_one(
     alloc: Global,
-    problem: &Problem,
-    pairs: &Pairs,
+    setting: &Setting<'_>,
     layer: &Layer,
     bench: &Bench<'_>,
 ) -> Result<Vec<Cell>, Fail>
-    requires inputs { layer.now.inputs ≡ problem.now.inputs }
-    requires setting { bench.now.setting ≡ setting_with problem.now pairs.now 7 }
+    requires inputs { layer.now.inputs ≡ setting.now.problem.inputs }
+    requires setting { bench.now.setting ≡ setting.now }
     requires layer { bench.now.layer ≡ layer.now }
     ensures { IfOk result
-        (λ v. map pair_of v.items ≡ map (cell_for (setting_with problem.now pairs.now 7))
-        (masks_of layer.now)) }
+        (λ v. map pair_of v.items ≡ map (cell_for setting.now) (masks_of layer.now)) }
 {
     let one = Workers::new(1).ok_or("one worker")?;
-    let (board, mut seats) = Board::new(alloc, problem, 7, layer, one, pairs)?;
+    let bound = setting.bound();
+    let (board, mut seats) =
+        Board::new(alloc, setting.problem(), bound, layer, one, setting.pairs())?;
     let seat = seats.pop().ok_or("one seat")?;
     let WorkerEnd { seat, tally: _ } = work_layer(alloc, &board, seat, 1, bench, &NoGate)?;
     let Ok(cells) = board.close(alloc, seat) else {
@@ -46,33 +46,26 @@ fn cells_by_one(
 }
 
 /// The costs of the sets of one variable.
-fn first_costs(alloc: Global, problem: &Problem, pairs: &Pairs) -> Result<Costs, Fail>
-    requires { pairs.now.inputs ≡ problem.now.inputs }
-    ensures { IfOk result (IsLayerFor (setting_with problem.now pairs.now 7) 1) }
+fn first_costs(alloc: Global, setting: &Setting<'_>) -> Result<Costs, Fail>
+    ensures { IfOk result (IsLayerFor setting.now 1) }
 {
-    let start = Costs::start(alloc, problem.inputs())?;
-    let layer = Layer::of(alloc, problem.inputs(), 1)?;
-    let bench = Bench::new(problem, pairs, 7, &layer, &start);
-    let cells = cells_by_one(alloc, problem, pairs, &layer, &bench)?;
+    let start = Costs::start(alloc, setting.inputs())?;
+    let layer = Layer::of(alloc, setting.inputs(), 1)?;
+    let bench = Bench::new(setting, &layer, &start);
+    let cells = cells_by_one(alloc, setting, &layer, &bench)?;
     Ok(Costs::of(layer, cells))
 }
 
 /// The result of a layer's first set.
-fn first_result(
-    problem: &Problem,
-    pairs: &Pairs,
-    layer: &Layer,
-    cells: &[Cell],
-) -> Result<CellResult, Fail>
-    requires { map pair_of cells.now ≡ map (cell_for (setting_with problem.now pairs.now 7))
-        (masks_of layer.now) }
-    ensures { IfOk result (λ r. r.setting ≡ setting_with problem.now pairs.now 7) }
+fn first_result(setting: &Setting<'_>, layer: &Layer, cells: &[Cell]) -> Result<CellResult, Fail>
+    requires { map pair_of cells.now ≡ map (cell_for setting.now) (masks_of layer.now) }
+    ensures { IfOk result (λ r. r.setting ≡ setting.now) }
 {
     if layer.len() == 0 || cells.is_empty() {
         return Err("an empty layer".into());
     }
     let mask = layer.mask_at(0);
-    Ok(CellResult::new(problem, 7, mask, cells[0], pairs))
+    Ok(setting.result(mask, cells[0]))
 }
 
 /// Posts two results, one after the other.
@@ -217,20 +210,19 @@ fn hold_claim<R: Threads + Sync>(
 /// The result of a layer's first set, twice.
 fn first_results(
     alloc: Global,
-    problem: &Problem,
-    pairs: &Pairs,
+    setting: &Setting<'_>,
     layer: &Layer,
     bench: &Bench<'_>,
 ) -> Result<(CellResult, CellResult), Fail>
-    requires inputs { layer.now.inputs ≡ problem.now.inputs }
-    requires setting { bench.now.setting ≡ setting_with problem.now pairs.now 7 }
+    requires inputs { layer.now.inputs ≡ setting.now.problem.inputs }
+    requires setting { bench.now.setting ≡ setting.now }
     requires layer { bench.now.layer ≡ layer.now }
-    ensures one { IfOk result (λ r. r.0.setting ≡ bench.now.setting) }
-    ensures two { IfOk result (λ r. r.1.setting ≡ bench.now.setting) }
+    ensures one { IfOk result (λ r. r.0.setting ≡ setting.now) }
+    ensures two { IfOk result (λ r. r.1.setting ≡ setting.now) }
 {
-    let cells = cells_by_one(alloc, problem, pairs, layer, bench)?;
-    let one = first_result(problem, pairs, layer, &cells)?;
-    let two = first_result(problem, pairs, layer, &cells)?;
+    let cells = cells_by_one(alloc, setting, layer, bench)?;
+    let one = first_result(setting, layer, &cells)?;
+    let two = first_result(setting, layer, &cells)?;
     Ok((one, two))
 }
 
@@ -238,19 +230,20 @@ fn first_results(
 fn hold_in_layer<R: Threads + Sync>(
     rt: &R,
     alloc: Global,
-    problem: &Problem,
-    pairs: &Pairs,
+    setting: &Setting<'_>,
     layer: &Layer,
     bench: &Bench<'_>,
     posts: bool,
 ) -> Result<(), Fail>
-    requires inputs { layer.now.inputs ≡ problem.now.inputs }
-    requires setting { bench.now.setting ≡ setting_with problem.now pairs.now 7 }
+    requires inputs { layer.now.inputs ≡ setting.now.problem.inputs }
+    requires setting { bench.now.setting ≡ setting.now }
     requires layer { bench.now.layer ≡ layer.now }
 {
-    let (one, two) = first_results(alloc, problem, pairs, layer, bench)?;
+    let (one, two) = first_results(alloc, setting, layer, bench)?;
     let workers = Workers::new(2).ok_or("two workers")?;
-    let (board, seats) = Board::new(alloc, problem, 7, layer, workers, pairs)?;
+    let bound = setting.bound();
+    let (board, seats) =
+        Board::new(alloc, setting.problem(), bound, layer, workers, setting.pairs())?;
     hold_claim(rt, alloc, board, seats, one, two, bench, posts)
 }
 
@@ -258,12 +251,12 @@ fn hold_in_layer<R: Threads + Sync>(
 fn held_claim<R: Threads + Sync>(rt: &R, alloc: Global, posts: bool) -> Result<(), Fail> {
     let tables = tables_of(rt, alloc, PARITY_OF_FOUR)?;
     let problem = tables.problem();
-    let inputs = problem.inputs();
-    let pairs = Pairs::none(inputs);
-    let before = first_costs(alloc, problem, &pairs)?;
-    let layer = Layer::of(alloc, inputs, 2)?;
-    let bench = Bench::new(problem, &pairs, 7, &layer, &before);
-    hold_in_layer(rt, alloc, problem, &pairs, &layer, &bench, posts)
+    let pairs = Pairs::none(problem.inputs());
+    let setting = Setting::new(problem, &pairs, 7);
+    let before = first_costs(alloc, &setting)?;
+    let layer = Layer::of(alloc, setting.inputs(), 2)?;
+    let bench = Bench::new(&setting, &layer, &before);
+    hold_in_layer(rt, alloc, &setting, &layer, &bench, posts)
 }
 
 #[test]

@@ -1,27 +1,23 @@
-use Rattle.std.proofs.Common.{◌≡◌, ℕ, List, [], ◌∷◌, length, length-append, slice_get, Some, refl, sym, ap, ◌∙◌, subst, arith}
-use Rattle.std.proofs.lemmas.Option.{slice_get_read}
+use Rattle.std.proofs.Common.{ℕ, List, [], ◌∷◌, length, length-append, slice_get, sym, ap, ◌∙◌, subst, arith}
 use Rattle.subset_layers.specs.Costs.{CostsOf}
-use Rattle.order_solve.specs.Benches.{setting_with, IsLayerFor}
+use Rattle.order_solve.specs.Benches.{IsLayerFor}
+use Rattle.order_solve.specs.Bounded.{AreLayersFor}
 use Rattle.order_solve.proofs.Layers.{layers_push}
 use Rattle.order_solve.proofs.all_cells.layers_of.Goals as goal
 
-pub next_layer-requires-clause-before : goal.next_layer-requires-clause-before
-next_layer-requires-clause-before g c κs within =
-    let items = c.loop-size.layers.items in
-    let at : slice_get items c.from.result ≡ Some c.index-before.result.now =
-    slice_get_read items (length items) c.from.result c.index-before.result.now refl
-    (let m = c.loop-size.invariant.many in let f = c.from.ensures in omega (arith, m, f)) c.index-before.ensures in
-    let is = c.loop-size.invariant.layers_are c.from.result c.index-before.result.now at in record {
-      pairs = c.requires.pairs;
-      inputs = is.inputs;
-      size_is = (let s = is.size_is in let f = c.from.ensures in omega (arith, s, f));
-      room = c.requires.room;
-      costs_are = is.costs_are;
+pub next_layer-requires-clause-done : goal.next_layer-requires-clause-done
+next_layer-requires-clause-done g c κs within =
+    let is = c.deref.ensures.value in
+    let n = ap length is in
+    let m = c.loop-size.invariant.many in record {
+      some = omega (arith, n, m);
+      few = (let lt = c.loop-size-test.true in let v = c.inputs-size-end.ensures.value in omega (arith, n, m, lt, v));
+      layers_are = subst (λ (xs : List CostsOf). AreLayersFor c.args.setting.now xs) (sym is) c.loop-size.invariant.layers_are;
     }
 
 pub loop-size-preserved : goal.loop-size-preserved
 loop-size-preserved g c =
-    let t = setting_with c.args.problem.now c.args.pairs.now c.args.bound in
+    let t = c.args.setting.now in
     let items = c.loop-size.layers.items in
     let is = c.in_ok-push-2.ensures.items in
     let costs = c.in_ok-costs.costs in
@@ -29,6 +25,6 @@ loop-size-preserved g c =
       many = (let l = ap length is in let a = length-append items (costs ∷ []) in let m = c.loop-size.invariant.many in omega (arith, l, a, m));
       layers_are =
           λ k d at. layers_push t items costs c.loop-size.invariant.layers_are
-          (subst (λ (n : ℕ). IsLayerFor t n costs) (sym c.loop-size.invariant.many) c.in_ok-costs.ensures) k d
+          (subst (λ (n : ℕ). IsLayerFor t n costs) (ap length c.deref.ensures.value) c.in_ok-costs.ensures) k d
           (ap (λ (xs : List CostsOf). slice_get xs k) (sym is) ∙ at);
     }

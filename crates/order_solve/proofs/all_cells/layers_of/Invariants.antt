@@ -1,10 +1,9 @@
 use Rattle.std.proofs.Common.{◌≡◌, ◌+◌, length}
-use Rattle.order_solve.specs.Benches.{setting_with}
 use Rattle.order_solve.specs.Bounded.{AreLayersFor}
 use Rattle.order_solve.proofs.all_cells.layers_of.Given as goal
 
 abbrev pub invariant-loop-size : goal.invariant-loop-size
 invariant-loop-size g l = record {
-  many : length l.layers.items ≡ l.size + 1;
-  layers_are : AreLayersFor (setting_with l.problem l.pairs l.bound) l.layers.items;
+  many : length l.layers.items ≡ l._size + 1;
+  layers_are : AreLayersFor l.setting l.layers.items;
 }

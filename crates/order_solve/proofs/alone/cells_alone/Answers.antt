@@ -16,12 +16,13 @@ pub cells_of_block-requires-clause-room : goal.cells_of_block-requires-clause-ro
 cells_of_block-requires-clause-room c =
     let t = c.args.bench.now.setting in
     let v = ap (λ (z : BenchOf). z.setting.problem.inputs) c.bench.view_is in
-    let few = c.bench.invariant.0.few in
+    let e = c.inputs-few.ensures.value in
+    let few = c.inputs-few.ensures.few in
     let inputs =
     ap (λ (l : LayerOf). l.inputs)
     (block_layer c.bench.inside.layer.now c.loop-place.place c.block-block.result c.block-block.ensures
-    ∙ c.bench.invariant.0.bench.layer) ∙ v in
-    let k = few_block t c.block-block.result t.problem.inputs (omega (arith, few, v)) inputs (omega (arith, few, v)) in
+    ∙ c.bench.invariant.0.layer) ∙ v in
+    let k = few_block t c.block-block.result t.problem.inputs (omega (arith, few, v, e)) inputs (omega (arith, few, v, e)) in
     let n = c.new-tally.ensures in
     omega (arith, k, n)
 

@@ -3,9 +3,9 @@ use Rattle.std.proofs.lemmas.List.{map_more, map-append, get_or-map}
 use Rattle.std.proofs.lemmas.Option.{slice_get_within, get_or_from_slice_get}
 use Rattle.subset_layers.specs.Layers.{LayerOf, block_masks}
 use Rattle.compaction.specs.Rows.{AreMembers, IsRow, wanted_count}
-use Rattle.layer_core.specs.Settings.{cell_for}
+use Rattle.layer_core.specs.Settings.{Setting, cell_for}
 use Rattle.layer_core.specs.Pairing.{pair_of}
-use Rattle.order_solve.specs.Benches.{BenchOf}
+use Rattle.order_solve.specs.Benches.{BenchOf, bench_with, IsBench}
 use Rattle.order_solve.specs.Needs.{needed}
 use Rattle.order_solve.specs.Gains.{widths_for}
 use Rattle.order_solve.proofs.Wanted.{needed_sum}
@@ -15,17 +15,14 @@ use Rattle.order_solve.proofs.cells.cells_of_block.Goals as goal
 pub widths_of-requires-clause-inputs : goal.widths_of-requires-clause-inputs
 widths_of-requires-clause-inputs c =
     ap (λ (l : LayerOf). l.inputs)
-    (c.requires.layer ∙ ap (λ (b : BenchOf). b.layer) (sym c.bench.view_is) ∙ c.bench.invariant.0.bench.layer)
+    (c.requires.layer ∙ ap (λ (b : BenchOf). b.layer) (sym c.bench.view_is) ∙ c.bench.invariant.0.layer)
     ∙ ap (λ (b : BenchOf). b.setting.problem.inputs) c.bench.view_is
 
 pub widths_of-requires-clause-members : goal.widths_of-requires-clause-members
 widths_of-requires-clause-members c =
-    let i = c.bench.inside in
-    let masks = block_masks c.args.block.now in
-    let is = c.deref.ensures.value ∙ c.in_ok-needs.ensures in
-    subst (λ (ns : List ℕ). AreMembers c.args.bench.now.setting.problem masks ns) (sym is)
-    (subst (λ (b : BenchOf). AreMembers b.setting.problem masks (map (needed b.setting) masks)) c.bench.view_is
-    (are_members _ i.essential c.bench.invariant.0 c.args.block.now))
+    let t = c.args.bench.now.setting in
+    subst (λ (ns : List ℕ). AreMembers t.problem (block_masks c.args.block.now) ns) (sym (c.deref.ensures.value ∙ c.in_ok-needs.ensures))
+    (are_members t c.args.block.now)
 
 pub widths_of-requires-clause-room : goal.widths_of-requires-clause-room
 widths_of-requires-clause-room c =
@@ -35,29 +32,34 @@ widths_of-requires-clause-room c =
     let r = c.requires.room in
     omega (arith, e, r)
 
+pub least_cell-requires-clause-inputs : goal.least_cell-requires-clause-inputs
+least_cell-requires-clause-inputs c =
+    c.setting.invariant.pairs ∙ ap (λ (t : Setting). t.problem.inputs) c.setting.view_is ∙ sym c.bench.invariant.0.inputs
+
 pub least_cell-requires-clause-next : goal.least_cell-requires-clause-next
 least_cell-requires-clause-next c =
-    let i = c.bench.inside in
-    in_layer _ i.essential c.bench.invariant.0 c.args.block.now (c.requires.layer ∙ ap (λ (b : BenchOf). b.layer) (sym c.bench.view_is))
-    c.loop-i.i c.mask.result c.mask.ensures
+    in_layer _ c.bench.invariant.0 c.args.block.now (c.requires.layer ∙ ap (λ (b : BenchOf). b.layer) (sym c.bench.view_is)) c.loop-i.i
+    c.mask.result c.mask.ensures
 
 pub loop-i-preserved : goal.loop-i-preserved
 loop-i-preserved c =
-    let i = c.bench.inside in
     let masks = block_masks c.args.block.now in
     let t = c.args.bench.now.setting in
+    let same = c.setting.view_is ∙ ap (λ (b : BenchOf). b.setting) c.bench.view_is in
     let lt = slice_get_within masks c.loop-i.i c.mask.result c.mask.ensures in
     let at : slice_index masks c.loop-i.i ≡ c.mask.result = get_or_from_slice_get masks c.loop-i.i c.mask.result 0 c.mask.ensures in
-    let next = in_layer _ i.essential c.bench.invariant.0 c.args.block.now
+    let next = in_layer _ c.bench.invariant.0 c.args.block.now
     (c.requires.layer ∙ ap (λ (b : BenchOf). b.layer) (sym c.bench.view_is)) c.loop-i.i c.mask.result c.mask.ensures in
     let need : slice_index c.deref.result.now c.loop-i.i ≡ needed t c.mask.result =
     ap (λ xs. slice_index xs c.loop-i.i) (c.deref.ensures.value ∙ c.in_ok-needs.ensures)
     ∙ get_or-map (needed t) masks c.loop-i.i 0 0 lt ∙ ap (needed t) at in
     let row = row_there t.problem masks c.deref.result.now c.in_ok-widths.widths.rows c.loop-i.i c.mask.result (needed t c.mask.result)
     c.row-row.result c.in_ok-widths.ensures.rows c.mask.ensures need c.row-row.ensures in
-    let is = cell_is _ i.essential c.bench.invariant.0 c.mask.result next c.row-row.result
-    (subst (λ (b : BenchOf). IsRow b.setting.problem c.mask.result (needed b.setting c.mask.result) c.row-row.result) (sym c.bench.view_is) row)
-    (pair_of c.least_cell.result) c.least_cell.ensures ∙ ap (λ (b : BenchOf). cell_for b.setting c.mask.result) c.bench.view_is in
+    let bench = subst (λ (z : Setting). IsBench (bench_with z c.bench.inside.layer.now c.bench.inside.before.now)) (sym c.setting.view_is)
+    c.bench.invariant.0 in
+    let is = cell_is _ bench c.setting.inside.essential c.setting.invariant c.mask.result next c.row-row.result
+    (subst (λ (z : Setting). IsRow z.problem c.mask.result (needed z c.mask.result) c.row-row.result) (sym same) row)
+    (pair_of c.least_cell.result) c.least_cell.ensures ∙ ap (λ (z : Setting). cell_for z c.mask.result) same in
     ap (map pair_of) c.in_ok-push.ensures.items
     ∙ map-append pair_of c.loop-i.cells.items (c.least_cell.result ∷ [])
     ∙ ap₂ (λ (xs : List (ℕ × ℕ)) (y : ℕ × ℕ). xs ++ y ∷ []) c.loop-i.invariant (is ∙ ap (cell_for t) (sym at))

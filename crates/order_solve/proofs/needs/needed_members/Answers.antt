@@ -1,20 +1,23 @@
-use Rattle.std.proofs.Common.{sym, ap, ◌∙◌}
-use Rattle.order_model.specs.Orders.{members, mask_of}
+use Rattle.std.proofs.Common.{sym, ap, ◌∙◌, subst}
+use Rattle.order_model.specs.Orders.{members}
 use Rattle.order_model.specs.Pairs.{is_lawful}
-use Rattle.order_solve.proofs.Wanted.{wanted_lawful, wanted_unlawful}
+use Rattle.layer_core.specs.Settings.{Setting}
+use Rattle.order_solve.specs.Benches.{AreCostsFor}
+use Rattle.order_solve.specs.Needs.{needed}
+use Rattle.order_solve.proofs.Wanted.{needed_lawful, needed_unlawful}
 use Rattle.order_solve.proofs.needs.needed_members.Goals as goal
 
 pub returns-then-lawful : goal.returns-then-lawful
-returns-then-lawful c = λ F costs.
-    let n = c.args.costs.now.inputs in
-    let P = c.args.pairs.now.pairs in
-    let lawful = ap (λ i. is_lawful P (members i c.args.mask)) (sym c.requires.inputs) ∙ sym c.lawful.ensures ∙ c.if-lawful.true in
-    c.affordable_members.ensures ∙ ap mask_of (sym (wanted_lawful c.args.costs.now F P c.args.bound c.args.mask c.requires.next costs lawful))
+returns-then-lawful c =
+    let s = c.setting.inside in
+    let low = ap (λ n. is_lawful s.pairs.now.pairs (members n c.args.mask)) (sym c.setting.invariant.pairs) ∙ sym c.lawful.ensures ∙ c.if-lawful.true in
+    c.affordable_members.ensures
+    ∙ needed_lawful _ c.args.before.now c.args.mask (c.requires.inputs ∙ ap (λ (t : Setting). t.problem.inputs) (sym c.setting.view_is))
+    (subst (λ (t : Setting). AreCostsFor t c.args.before.now) (sym c.setting.view_is) c.requires.costs) c.requires.next low
+    ∙ ap (λ (t : Setting). needed t c.args.mask) c.setting.view_is
 
 pub returns-else-lawful : goal.returns-else-lawful
-unfolding mask_of
-returns-else-lawful c = λ F costs.
-    let n = c.args.costs.now.inputs in
-    let P = c.args.pairs.now.pairs in
-    let unlawful = ap (λ i. is_lawful P (members i c.args.mask)) (sym c.requires.inputs) ∙ sym c.lawful.ensures ∙ c.if-lawful.false in
-    sym (ap mask_of (wanted_unlawful n F P c.args.bound c.args.mask unlawful))
+returns-else-lawful c =
+    let s = c.setting.inside in
+    let low = ap (λ n. is_lawful s.pairs.now.pairs (members n c.args.mask)) (sym c.setting.invariant.pairs) ∙ sym c.lawful.ensures ∙ c.if-lawful.false in
+    needed_unlawful _ c.args.mask low ∙ ap (λ (t : Setting). needed t c.args.mask) c.setting.view_is

@@ -13,22 +13,22 @@ use Rattle.order_model.proofs.Lists.Accepted.{index_of}
 use Rattle.order_solve.proofs.working.post_block.Goals as goal
 
 pub post_cell-requires-clause-cell : goal.post_cell-requires-clause-cell
-post_cell-requires-clause-cell g c =
+post_cell-requires-clause-cell g c κs within =
     let masks = block_masks c.args.block.now in
-    let t = c.args.bench.now.setting in
+    let t = c.args.place.now.bench.now.setting in
     let cells : List Cell = c.args.cells.now in
     let none : Cell = record { cost = 0; variable = 0 } in
-    let lt = slice_get_within masks c.loop-i.i c.mask-mask.result c.mask-mask.ensures in
+    let lt = slice_get_within masks c.loop-i.i c.mask.result c.mask.ensures in
     let long : length cells ≡ length masks = sym (length-map_lem pair_of cells) ∙ ap length c.requires.cells ∙ length-map_lem (cell_for t) masks in
     sym (get_or-map pair_of cells c.loop-i.i none (0, 0) (omega (arith, long, lt)))
     ∙ ap (λ (xs : List (ℕ × ℕ)). get_or xs c.loop-i.i (0, 0)) c.requires.cells
     ∙ get_or-map (cell_for t) masks c.loop-i.i 0 (0, 0) lt
-    ∙ ap (cell_for t) (get_or_from_slice_get masks c.loop-i.i c.mask-mask.result 0 c.mask-mask.ensures)
+    ∙ ap (cell_for t) (get_or_from_slice_get masks c.loop-i.i c.mask.result 0 c.mask.ensures)
 
 pub loop-i-preserved : goal.loop-i-preserved
 loop-i-preserved g c =
     let masks = block_masks c.args.block.now in
-    let at : slice_index masks c.loop-i.i ≡ c.mask-mask.result = get_or_from_slice_get masks c.loop-i.i c.mask-mask.result 0 c.mask-mask.ensures in
+    let at : slice_index masks c.loop-i.i ≡ c.mask.result = get_or_from_slice_get masks c.loop-i.i c.mask.result 0 c.mask.ensures in
     record {
       stays = stays_trans c.args.seat.now c.loop-i.seat c.post_cell.new.seat c.loop-i.invariant.stays c.post_cell.ensures.stays;
       posted = λ j lt. elim (cases_eq j c.loop-i.i) [

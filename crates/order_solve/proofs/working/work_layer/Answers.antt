@@ -1,4 +1,4 @@
-use Rattle.std.proofs.Common.{◌≡◌, ℕ, ◌+◌, refl, sym, ap, ◌∙◌, subst, arith}
+use Rattle.std.proofs.Common.{◌≡◌, ℕ, ◌+◌, ◌≤◌, refl, sym, ap, ◌∙◌, subst, arith}
 use Rattle.subset_layers.specs.Layers.{LayerOf, BlockOf, layer_of, block_masks}
 use Rattle.order_model.specs.Orders.{has}
 use Rattle.layer_board.specs.Views.{BoardId, SeatOf}
@@ -32,12 +32,12 @@ cells_of_block-requires-clause-room g c =
     let gains : widths_for t _ ≡ c.loop-claim.tally + widths_for t (block_masks c.block.result.now) =
     round_gains t c.args.seat s s1 s1 c.loop-claim.tally p b w h
     ∙ ap (λ (z : BlockOf). c.loop-claim.tally + widths_for t (block_masks z)) (sym c.block.ensures) in
-    let few = few_gained t c.args.seat s1 t.problem.inputs
-    (let f = c.bench.invariant.0.few in let v = ap (λ (z : BenchOf). z.setting.problem.inputs) c.bench.view_is in omega (arith, f, v))
+    let small : t.problem.inputs ≤ 16 = (let f = c.inputs-few.ensures.few in let v = c.inputs-few.ensures.value ∙ ap (λ (z : BenchOf). z.setting.problem.inputs) c.bench.view_is in omega (arith, f, v)) in
+    let few = few_gained t c.args.seat s1 t.problem.inputs small
     (ap (λ (z : BoardId). z.brief.layer.inputs) c.requires.seat ∙ ap (λ (l : LayerOf). l.inputs) c.requires.layer
-    ∙ ap (λ (z : BenchOf). z.layer.inputs) (sym c.bench.view_is) ∙ ap (λ (l : LayerOf). l.inputs) c.bench.invariant.0.bench.layer
+    ∙ ap (λ (z : BenchOf). z.layer.inputs) (sym c.bench.view_is) ∙ ap (λ (l : LayerOf). l.inputs) c.bench.invariant.0.layer
     ∙ ap (λ (z : BenchOf). z.setting.problem.inputs) c.bench.view_is)
-    (let f = c.bench.invariant.0.few in let v = ap (λ (z : BenchOf). z.setting.problem.inputs) c.bench.view_is in omega (arith, f, v)) in
+    small in
     omega (arith, gains, few)
 
 pub loop-claim-smaller : goal.loop-claim-smaller

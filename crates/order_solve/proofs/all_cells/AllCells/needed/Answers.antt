@@ -1,8 +1,7 @@
-use Rattle.std.proofs.Common.{◌-◌, count_ones, sym, ap, ◌∙◌, subst, arith}
+use Rattle.std.proofs.Common.{ap, ◌∙◌, arith}
 use Rattle.layer_core.specs.Settings.{Setting}
-use Rattle.order_solve.specs.Benches.{IsLayerFor}
 use Rattle.order_solve.specs.Needs.{needed}
-use Rattle.order_solve.proofs.Layers.{ones_le, ones_some, next_there, needed_is}
+use Rattle.order_solve.proofs.Layers.{ones_le, ones_some, next_there}
 use Rattle.order_solve.proofs.all_cells.AllCells.needed.Goals as goal
 
 pub overflow_sub-mask : goal.overflow_sub-mask
@@ -16,9 +15,4 @@ needed_members-requires-clause-next c =
     next_there c.args.self.now c.args.mask c.layer-before.result.now c.requires.within c.requires.some c.layer-before.ensures
 
 pub returns : goal.returns
-returns c =
-    needed_is _ (count_ones c.args.mask - 1) c.args.mask c.needed_members.result c.layer-before.result.now
-    (subst (λ (t : Setting). IsLayerFor t (count_ones c.args.mask - 1) c.layer-before.result.now) (sym c.self.view_is)
-    c.layer-before.ensures)
-    c.needed_members.ensures
-    ∙ ap (λ (t : Setting). needed t c.args.mask) c.self.view_is
+returns c = c.needed_members.ensures ∙ ap (λ (t : Setting). needed t c.args.mask) c.self.view_is

@@ -1,0 +1,24 @@
+use Rattle.std.proofs.Common.{ℕ, sym, ap, ◌∙◌, subst, arith}
+use Rattle.order_model.specs.Orders.{IsOrder}
+use Rattle.order_model.specs.Pairs.{Keeps}
+use Rattle.order_model.specs.Problems.{TruthTables, functions}
+use Rattle.order_model.specs.Levels.{size_under}
+use Rattle.order_solve.specs.Settings.{setting_with}
+use Rattle.order_solve.specs.Bounded.{IsBounded}
+use Rattle.order_solve.proofs.Layers.{bound_small}
+use Rattle.order_solve.proofs.solving.setting_of.Goals as goal
+
+pub new-requires-clause-room : goal.new-requires-clause-room
+new-requires-clause-room c =
+    let s = c.args.sifted.now in
+    let m = c.size.ensures.sifted.managed in
+    let same = c.requires in
+    let t = setting_with c.args.problem.now c.pairs.result.now c.size.result in
+    let bounded : IsBounded t = record {
+      order = s.order;
+      is_order = subst (λ (n : ℕ). IsOrder n s.order) (sym m.inputs ∙ ap (λ (p : TruthTables). p.inputs) same) m.is_order;
+      keeps = subst (λ P. Keeps P s.order) (sym c.pairs.ensures.value) m.kept;
+      size = c.size.ensures.value ∙ c.size.ensures.sifted.true_size.size_is ∙ ap (λ (p : TruthTables). size_under p.inputs (functions p) s.order) same;
+    } in
+    let v = c.inputs-inputs.ensures in
+    bound_small t c.outputs-few.result bounded (omega (arith, v.value, v.few)) c.outputs-few.ensures.value c.outputs-few.ensures.few

@@ -1,0 +1,20 @@
+//! The workers of a search.
+
+ghost use Rattle.std.specs.Prelude.{◌≡◌};
+
+use order_model::Workers;
+
+/// The workers of a search: who starts their threads, how many they are, and what each of them
+/// calls between a claim and its post.
+#[derive(Drop)]
+pub struct Crew<'a, R, G> {
+    pub(crate) rt: &'a R,
+    pub(crate) workers: Workers,
+    pub(crate) gate: &'a G,
+}
+
+impl<'a, R, G> Crew<'a, R, G> {
+    pub fn new(rt: &'a R, workers: Workers, gate: &'a G) -> Crew<'a, R, G> {
+        Crew { rt, workers, gate }
+    }
+}
