@@ -14,7 +14,11 @@ pub struct Crew<'a, R, G> {
 }
 
 impl<'a, R, G> Crew<'a, R, G> {
-    pub fn new(rt: &'a R, workers: Workers, gate: &'a G) -> Crew<'a, R, G> {
+    pub fn new(rt: &'a R, workers: Workers, gate: &'a G) -> Crew<'a, R, G>
+        ensures starts { result.rt.now ≡ rt.now }
+        ensures workers { result.workers ≡ workers }
+        ensures gate { result.gate.now ≡ gate.now }
+    {
         Crew { rt, workers, gate }
     }
 }

@@ -24,53 +24,56 @@ pub struct WorkerEnd {
     pub tally: Tally,
 }
 
-/// A worker's place: its board, what it is lent, its number, and its gate.
+/// A worker at a board: what it is lent, its number, and what it calls between a claim and its
+/// post.
 #[derive(Drop)]
-struct Place<'a, G> {
+struct Worker<'a, G> {
     board: &'a Board,
     bench: &'a Bench<'a>,
-    worker: u8,
+    number: u8,
     gate: &'a G,
 }
 
-impl<'a, G: Gate> Place<'a, G> {
-    fn new(board: &'a Board, bench: &'a Bench<'a>, worker: u8, gate: &'a G) -> Place<'a, G>
+impl<'a, G: Gate> Worker<'a, G> {
+    fn new(board: &'a Board, bench: &'a Bench<'a>, number: u8, gate: &'a G) -> Worker<'a, G>
         ensures board { result.board.now ≡ board.now }
         ensures bench { result.bench.now ≡ bench.now }
+        ensures number { result.number ≡ number }
+        ensures gate { result.gate.now ≡ gate.now }
     {
-        Place {
+        Worker {
             board,
             bench,
-            worker,
+            number,
             gate,
         }
     }
 }
 
 /// Posts the cell of a set. The gate is called before.
-fn post_cell<G: Gate>(place: &Place<'_, G>, seat: &mut BoardSeat, mask: Mask, cell: Cell)
-    requires seat { seat.old.board ≡ place.now.board.now }
-    requires setting { place.now.board.now.brief.setting ≡ place.now.bench.now.setting }
-    requires cell { pair_of cell ≡ cell_for place.now.bench.now.setting mask }
+fn post_cell<G: Gate>(worker: &Worker<'_, G>, seat: &mut BoardSeat, mask: Mask, cell: Cell)
+    requires seat { seat.old.board ≡ worker.now.board.now }
+    requires setting { worker.now.board.now.brief.setting ≡ worker.now.bench.now.setting }
+    requires cell { pair_of cell ≡ cell_for worker.now.bench.now.setting mask }
     ensures stays { StaysClaimed seat.old seat.new }
     ensures posted { IsPosted seat.new mask }
 {
-    let bench = place.bench;
-    place.gate.between(place.worker, u32::from(mask));
-    let _ = place.board.post(seat, bench.setting.result(mask, cell));
+    let bench = worker.bench;
+    worker.gate.between(worker.number, u32::from(mask));
+    let _ = worker.board.post(seat, bench.setting.result(mask, cell));
 }
 
 /// Posts the cells of a block's sets.
-fn post_block<G: Gate>(place: &Place<'_, G>, seat: &mut BoardSeat, block: &Block, cells: &[Cell])
-    requires seat { seat.old.board ≡ place.now.board.now }
-    requires setting { place.now.board.now.brief.setting ≡ place.now.bench.now.setting }
-    requires cells { AreCells place.now.bench.now.setting (block_masks block.now) cells.now }
+fn post_block<G: Gate>(worker: &Worker<'_, G>, seat: &mut BoardSeat, block: &Block, cells: &[Cell])
+    requires seat { seat.old.board ≡ worker.now.board.now }
+    requires setting { worker.now.board.now.brief.setting ≡ worker.now.bench.now.setting }
+    requires cells { AreCells worker.now.bench.now.setting (block_masks block.now) cells.now }
     ensures stays { StaysClaimed seat.old seat.new }
     ensures posted { (mask : ℕ) → IsTrue (has (block_masks block.now) mask) →
         IsPosted seat.new mask }
 {
     for i in 0..block.len() {
-        post_cell(place, seat, block.mask(i), cells[i]);
+        post_cell(worker, seat, block.mask(i), cells[i]);
     }
 }
 
@@ -100,11 +103,11 @@ pub fn work_layer<G: Gate>(
     ensures tally { IfOk result (λ e. e.tally ≡ widths_for bench.now.setting (gained seat e.seat)) }
 {
     let _few = bench.setting.inputs();
-    let place = Place::new(board, bench, worker, gate);
+    let worker = Worker::new(board, bench, worker, gate);
     let mut tally = Tally::new();
     while let Some(claim) = board.claim(&mut seat) {
         let cells = cells_of_block(alloc, claim.block(), bench, &mut tally)?;
-        post_block(&place, &mut seat, claim.block(), &cells);
+        post_block(&worker, &mut seat, claim.block(), &cells);
     }
     Ok(WorkerEnd { seat, tally })
 }

@@ -15,7 +15,7 @@ use Rattle.order_solve.proofs.working.post_block.Goals as goal
 pub post_cell-requires-clause-cell : goal.post_cell-requires-clause-cell
 post_cell-requires-clause-cell g c κs within =
     let masks = block_masks c.args.block.now in
-    let t = c.args.place.now.bench.now.setting in
+    let t = c.args.worker.now.bench.now.setting in
     let cells : List Cell = c.args.cells.now in
     let none : Cell = record { cost = 0; variable = 0 } in
     let lt = slice_get_within masks c.loop-i.i c.mask.result c.mask.ensures in
