@@ -34,9 +34,14 @@ fn cells_by_one(
         (λ v. map pair_of v.items ≡ map (cell_for setting.now) (masks_of layer.now)) }
 {
     let one = Workers::new(1).ok_or("one worker")?;
-    let bound = setting.bound();
-    let (board, mut seats) =
-        Board::new(alloc, setting.problem(), bound, layer, one, setting.pairs())?;
+    let (board, mut seats) = Board::new(
+        alloc,
+        setting.problem(),
+        setting.bound(),
+        layer,
+        one,
+        setting.pairs(),
+    )?;
     let seat = seats.pop().ok_or("one seat")?;
     let WorkerEnd { seat, tally: _ } = work_layer(alloc, &board, seat, 1, bench, &NoGate)?;
     let Ok(cells) = board.close(alloc, seat) else {
@@ -241,9 +246,14 @@ fn hold_in_layer<R: Threads + Sync>(
 {
     let (one, two) = first_results(alloc, setting, layer, bench)?;
     let workers = Workers::new(2).ok_or("two workers")?;
-    let bound = setting.bound();
-    let (board, seats) =
-        Board::new(alloc, setting.problem(), bound, layer, workers, setting.pairs())?;
+    let (board, seats) = Board::new(
+        alloc,
+        setting.problem(),
+        setting.bound(),
+        layer,
+        workers,
+        setting.pairs(),
+    )?;
     hold_claim(rt, alloc, board, seats, one, two, bench, posts)
 }
 
