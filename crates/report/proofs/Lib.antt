@@ -1,9 +1,1 @@
-pub mod Spaced
-pub mod Worded
-pub mod SameAnswers
 pub mod Leveled
-pub mod Reported
-pub mod Certified
-pub mod Optima
-pub mod Delivered
-pub mod Determined

@@ -1,6 +1,6 @@
 //! The answer of a run: the best order of a cover, beside the sifted and the file order.
 
-ghost use Rattle.std.specs.Prelude.{◌≡◌, ◌<◌, ◌≤◌, ℕ, Ok, IfOk, length, slice_index, string_bytes};
+ghost use Rattle.std.specs.Prelude.{◌≡◌, ◌<◌, ◌≤◌, ℕ, Ok, IfOk, length, slice_index, string_bytes, sum};
 ghost use Rattle.order_model.specs.Diagrams.{nodes_at};
 ghost use Rattle.order_model.specs.Levels.{level_counts, size_under};
 ghost use Rattle.order_model.specs.Orders.{IsOrder};
@@ -10,20 +10,19 @@ ghost use Rattle.order_model.specs.Sifting.{sifted as sifted_order};
 ghost use Rattle.dd_builder.specs.Building.{HasLevelCounts};
 ghost use Rattle.truth_table.specs.OfCovers.{AreTablesOf};
 ghost use Rattle.order_solve.specs.Solutions.{IsSolution};
-ghost use Rattle.report.specs.Answers.{IsAnswer, IsCertified};
+ghost use Rattle.run_texts.specs.Answers.{IsAnswer, IsCertified, IsCertifiedBy};
 ghost use Rattle.outcomes.specs.Plans.{PairsAre};
 ghost use Rattle.report.specs.FirstDiagrams.{IsFirstDiagram};
-ghost use Rattle.report.specs.Texts.{file_order_levels, report_parts};
+ghost use Rattle.run_texts.specs.Texts.{file_order_levels, report_parts};
 ghost use Rattle.pla_reader.specs.Covers.{functions_of};
 
-use crate::certificates::certificate_text;
 use crate::shortage::Shortage;
-use crate::texts::{Report, report_text, total};
 use command_line::RunPlan;
 use dd_builder::{build, build_tables};
 use order_model::{Diagram, NoGate, Order, Pairs, PairsFault, Problem, Workers};
 use order_solve::{Solution, solve};
 use pla_reader::Cover;
+use run_texts::{Report, RunTexts, certificate_text, report_text, total};
 use sifting::laws::diagrams_have_their_functions_tables;
 use sifting::{Manager, Sifted};
 use std::alloc::{AllocError, Global};
@@ -189,12 +188,11 @@ fn report_of<R: Threads + Sync>(
     cover: &Cover,
     tables: &Tables,
     found: &Found,
-    file_levels: &[u32],
+    file_nodes: u64,
     workers: Workers,
 ) -> Result<String, Shortage>
     requires tables { AreTablesOf cover.now tables.now }
-    requires levels { file_levels.now ≡ file_order_levels cover.now }
-    requires few { length file_levels.now ≤ 16 }
+    requires nodes { file_nodes ≡ sum (file_order_levels cover.now) }
     requires order { IsOrder tables.now.inputs found.now.solution.order }
     ensures { IfOk result
         (λ text. string_bytes text ≡ report_parts cover.now tables.now found.now.solution.order
@@ -208,17 +206,10 @@ fn report_of<R: Threads + Sync>(
         levels: &levels,
         sifted: found.sifted.variables(),
         sifted_size: found.sifted_size,
-        file_size: total(file_levels),
+        file_size: file_nodes,
     };
     let text = report_text(alloc, &report)?;
     Ok(text)
-}
-
-/// The texts that a run writes of a cover: its report, and its certificate if one is asked for.
-#[derive(Drop)]
-pub(crate) struct RunTexts {
-    pub(crate) report: String,
-    pub(crate) certificate: Option<String>,
 }
 
 /// Truth tables of fewer entries than these are worth no thread that builds diagrams of them.
@@ -231,6 +222,33 @@ fn building_workers(problem: &Problem, workers: Workers) -> Workers {
         Some(one) if entries < ENTRIES_WORTH_THREADS => one,
         _ => workers,
     }
+}
+
+/// The text of the solution's certificate, if it is asked for.
+fn certificate_of(
+    alloc: Global,
+    problem: &Problem,
+    pairs: &Pairs,
+    solution: Solution,
+    certify: bool,
+) -> Result<Option<String>, AllocError>
+    requires inputs { pairs.now.inputs ≡ problem.now.inputs }
+    requires solution { IsSolution problem.now pairs.now.pairs solution }
+    ensures { IfOk result
+        (IsCertifiedBy problem.now pairs.now.pairs solution.order certify) }
+{
+    if !certify {
+        return Ok(None);
+    }
+    let Solution {
+        order,
+        total,
+        levels,
+        cells,
+        widths: _,
+    } = solution;
+    let text = certificate_text(alloc, problem, pairs, &order, levels, total, cells)?;
+    Ok(Some(text))
 }
 
 /// The texts of the answer.
@@ -251,14 +269,12 @@ pub(crate) fn answer_texts<R: Threads + Sync>(
     let tables = Tables::of_cover(rt, alloc, cover)?;
     let builders = building_workers(tables.problem(), workers);
     let first = first_diagram(rt, alloc, cover, &tables, &pairs, builders)?;
-    let file_levels = file_order_levels_of(rt, alloc, cover, &tables, &first, builders)?;
+    let file_nodes = total(&file_order_levels_of(
+        rt, alloc, cover, &tables, &first, builders,
+    )?);
     let found = search(rt, alloc, cover, &tables, first, pairs, workers)?;
-    let report = report_of(rt, alloc, cover, &tables, &found, &file_levels, builders)?;
-    let certificate = if certify {
-        Some(certificate_text(alloc, tables.problem(), &kept, found.solution)?)
-    } else {
-        None
-    };
+    let report = report_of(rt, alloc, cover, &tables, &found, file_nodes, builders)?;
+    let certificate = certificate_of(alloc, tables.problem(), &kept, found.solution, certify)?;
     Ok(RunTexts {
         report,
         certificate,

@@ -5,7 +5,7 @@ ghost use Rattle.order_model.specs.Orders.{has};
 ghost use Rattle.command_line.specs.Lines.{LacksArguments, minorder as minorder_line, texts};
 ghost use Rattle.command_line.specs.Usages.{AreFaulty, TurnsAway};
 ghost use Rattle.pla_reader.specs.Covers.{IsCover};
-ghost use Rattle.report.specs.Runs.{DeliversReport, EndsInPart, EndsWell, IsFaultyRunOf, IsFullRunOf, IsHindered, IsRunOf, MayEndRun};
+ghost use Rattle.run_texts.specs.Runs.{DeliversReport, EndsInPart, EndsWell, IsFaultyRunOf, IsFullRunOf, IsHindered, IsRunOf, MayEndRun};
 ghost use Rattle.outcomes.specs.Messages.{IsTold, writer};
 ghost use Rattle.outcomes.specs.Statuses.{exits};
 

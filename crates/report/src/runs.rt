@@ -1,50 +1,21 @@
 //! Runs of minorder, over any reader and writers.
 
-ghost use Rattle.std.specs.Prelude.{◌≡◌, ◌+◌, ◌<◌, ◌≤◌, ◌^◌, ℕ, IfOk, IfErr, IfSome, OnErr, OnOk, length, option_map, string_bytes, take};
+ghost use Rattle.std.specs.Prelude.{◌+◌, ◌<◌, ◌^◌, IfOk, IfErr, IfSome, option_map, string_bytes};
 ghost use Rattle.pla_reader.specs.Covers.{IsCover};
 ghost use Rattle.pla_reader.specs.Reading.{Reads};
-ghost use Rattle.report.specs.Answers.{HasCertificate, Hinders, IsTextOf};
+ghost use Rattle.run_texts.specs.Answers.{HasCertificate, Hinders, IsTextOf};
 ghost use Rattle.outcomes.specs.Headline.{PrintsOptimum};
-ghost use Rattle.report.specs.Texts.{count_text as text_of, file_order_levels};
-ghost use Rattle.report.specs.Runs.{Delivers, GetsText, IsHindered, Tells, WritesGood, failures_in, held};
+ghost use Rattle.run_texts.specs.Runs.{Delivers, IsHindered, Tells, WritesGood, failures_in, held};
 ghost use Rattle.outcomes.specs.Statuses.{FailsOnlyByDevice};
 
-use crate::answers::{RunTexts, answer_texts, pairs_of};
-use crate::texts::count_text;
+use crate::answers::{answer_texts, pairs_of};
 use command_line::RunPlan;
-use counted_io::{CountedRead, CountedWrite, Refused, write_whole};
-use order_model::Order;
-use order_model::laws::truth_tables_keep_functions;
+use counted_io::{CountedRead, CountedWrite};
 use outcomes::{Fault, Outcome};
 use pla_reader::{Cover, read_cover};
-use std::alloc::{AllocError, Global};
+use run_texts::{RunTexts, counts_of, write_texts};
+use std::alloc::Global;
 use std::thread::Threads;
-use truth_table::Tables;
-
-/// The level counts of a cover under the file order, top first, by plain cofactors.
-fn file_order_counts<R: Threads + Sync>(
-    rt: &R,
-    alloc: Global,
-    cover: &Cover,
-) -> Result<Vec<u32>, AllocError>
-    ensures counts { IfOk result (λ v. v.items ≡ file_order_levels cover.now) }
-    ensures few { IfOk result (λ v. length v.items ≤ 16) }
-{
-    let tables = Tables::of_cover(rt, alloc, cover)?;
-    let order = Order::file_order(alloc, cover.inputs())?;
-    truth_tables_keep_functions();
-    let counts = tables.widths_of(alloc, &order)?;
-    Ok(counts)
-}
-
-/// The text of a count.
-fn counts_of<R: Threads + Sync>(rt: &R, alloc: Global, cover: &Cover) -> Result<String, AllocError>
-    ensures { IfOk result (λ text. string_bytes text ≡ text_of cover.now) }
-{
-    let counts = file_order_counts(rt, alloc, cover)?;
-    let text = count_text(alloc, &counts)?;
-    Ok(text)
-}
 
 /// What the plan asks to be written of a cover; a certificate only if it has a writer.
 fn planned_texts<'a, R: Threads + Sync>(
@@ -74,32 +45,6 @@ fn planned_texts<'a, R: Threads + Sync>(
             Err(shortage) => Err(Fault::from(shortage)),
         },
         Err(fault) => Err(Fault::Pairs(fault)),
-    }
-}
-
-/// Writes the certificate, if there are a text and a writer.
-fn write_certificate<C: CountedWrite>(
-    cert: &mut Option<C>,
-    text: &Option<String>,
-) -> Result<(), Refused>
-    requires { failures_in C.failures cert.old < 2 ^ 32 }
-    ensures ok { OnOk result
-        (GetsText (option_map (λ t. string_bytes t) text.now) (option_map C.contents cert.old)
-        (option_map C.contents cert.new)) }
-    ensures ok_calls { OnOk result
-        (failures_in C.failures cert.new ≡ failures_in C.failures cert.old) }
-    ensures err { OnErr result
-        ((n : ℕ) × GetsText (option_map (λ t. take n (string_bytes t)) text.now)
-        (option_map C.contents cert.old) (option_map C.contents cert.new)) }
-    ensures err_calls { OnErr result
-        (failures_in C.failures cert.new ≡ failures_in C.failures cert.old + 1) }
-{
-    let Some(text) = text else {
-        return Ok(());
-    };
-    match cert {
-        Some(writer) => write_whole(writer, text.as_bytes()),
-        None => Ok(()),
     }
 }
 
@@ -149,11 +94,5 @@ pub fn run<'a, R: Threads + Sync, F: CountedRead, W: CountedWrite, C: CountedWri
         Ok(texts) => texts,
         Err(fault) => return Outcome::Refused(fault),
     };
-    if write_certificate(cert, &texts.certificate).is_err() {
-        return Outcome::Refused(Fault::Device);
-    }
-    match write_whole(out, texts.report.as_bytes()) {
-        Ok(()) => Outcome::Done,
-        Err(_) => Outcome::Refused(Fault::Device),
-    }
+    write_texts(&texts, out, cert)
 }

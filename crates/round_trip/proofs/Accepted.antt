@@ -22,10 +22,10 @@ use Rattle.outcomes.specs.declared.outcome.Outcome.{Outcome}
 use Rattle.outcomes.specs.declared.outcome.Outcome.TheVariants.{Done, Invalid, Refused}
 use Rattle.outcomes.specs.declared.outcome.Fault.TheVariants.{Line, TooLong, OutOfMemory, Device, StoreFull, Pairs, CertificateLine, CertificateTooLong}
 use Rattle.outcomes.specs.Headline.{IsPrinted}
-use Rattle.report.specs.Answers.{IsAnswer, IsCertificate, IsText}
-use Rattle.report.specs.Runs.{Certifies, whole}
-use Rattle.report.specs.Texts.{levels_under, nodes_under, sizes_lines}
-use Rattle.report.proofs.Determined.{pairs_unique}
+use Rattle.run_texts.specs.Answers.{IsAnswer, IsCertificate, IsText}
+use Rattle.run_texts.specs.Runs.{Certifies, whole}
+use Rattle.run_texts.specs.Texts.{levels_under, nodes_under, sizes_lines}
+use Rattle.run_texts.proofs.Determined.{pairs_unique}
 use Rattle.checks.specs.Judging.{ChecksAs, Judge}
 use Rattle.checks.specs.VerdictTexts.{valid_line}
 use Rattle.checks.proofs.OneVerdict.{judge_unique}

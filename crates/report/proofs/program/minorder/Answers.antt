@@ -1,8 +1,8 @@
 use Rattle.std.proofs.Common.{◌≡◌, rules}
 use Rattle.command_line.specs.Lines.{texts}
 use Rattle.outcomes.specs.declared.outcome.Outcome.TheVariants.{Refused}
-use Rattle.report.specs.Runs.{IsPlanOf}
-use Rattle.report.proofs.Worded.{ends, ends_done, not_faulty}
+use Rattle.run_texts.specs.Runs.{IsPlanOf}
+use Rattle.run_texts.proofs.Worded.{ends, ends_done, not_faulty}
 use Rattle.report.proofs.program.minorder.Goals as goal
 use Rattle.report.proofs.program.minorder.Goals.{in-Some, in_default}
 

@@ -1,98 +1,62 @@
-use Rattle.std.proofs.Common.{inl, inr, take, string_bytes, refl}
-use Rattle.report.specs.Runs.{whole}
-use Rattle.report.proofs.Delivered.{certified_part, err_of, good_written, ok_of}
-use Rattle.outcomes.proofs.Known.{with_read}
-use Rattle.report.proofs.Optima.{printed}
+use Rattle.std.proofs.Common.{option_map, string_bytes}
+use Rattle.pla_reader.specs.Covers.{IsCover}
+use Rattle.pla_reader.specs.Reading.{Reads}
+use Rattle.outcomes.proofs.Known.{with_known, with_read}
+use Rattle.run_texts.specs.Runs.{held}
+use Rattle.run_texts.proofs.Sent.{delivers, good, hindered, optimum, tells}
 use Rattle.report.proofs.runs.run.Goals as goal
 
-pub returns-then-is_err-clause-writes : goal.returns-then-is_err-clause-writes
-returns-then-is_err-clause-writes g c =
-    let failed = err_of c.write_certificate.result _ (rw c.is_err.ensures.value at c.if-is_err.true) c.write_certificate.ensures.err in
-    let part = certified_part g.C.CountedWrite.contents c.args.plan.now.count c.args.plan.now.above c.in-Ok.cover c.is_some.result
-    c.in-Ok-planned_texts.texts.certificate (take failed.0) c.args.cert.now _
-    c.in-Ok-planned_texts.ensures.certificate c.is_some.ensures failed.1 in
-    with_read _ c.in-Ok.cover _ c.in-Ok.ensures.answer (λ bytes reads. inr (c.in-Ok.cover, reads, inl (refl, failed.0, part)))
+pub returns-clause-tells : goal.returns-clause-tells
+returns-clause-tells g c =
+    let texts = c.in-Ok-planned_texts.texts in
+    let before = held (g.W.CountedWrite.contents c.args.out.now) (option_map g.C.CountedWrite.contents c.args.cert.now) in
+    let after = held (g.W.CountedWrite.contents c.write_texts.new.out) (option_map g.C.CountedWrite.contents c.write_texts.new.cert) in
+    with_known _ _ _ c.in-Ok.ensures.answer
+    (λ bytes answer. tells c.args.plan.now bytes (string_bytes texts.report) texts.certificate before after c.write_texts.result answer.0
+    c.write_texts.ensures.sends)
 
-pub returns-then-is_err-clause-answers : goal.returns-then-is_err-clause-answers
-returns-then-is_err-clause-answers g c =
-    let failed = err_of c.write_certificate.result _ (rw c.is_err.ensures.value at c.if-is_err.true) c.write_certificate.ensures.err in
-    let part = certified_part g.C.CountedWrite.contents c.args.plan.now.count c.args.plan.now.above c.in-Ok.cover c.is_some.result
-    c.in-Ok-planned_texts.texts.certificate (take failed.0) c.args.cert.now _
-    c.in-Ok-planned_texts.ensures.certificate c.is_some.ensures failed.1 in
-    inr (c.in-Ok.cover, c.in-Ok.ensures.formed, inl (refl, failed.0, part))
-
-pub returns-in-Ok-write_whole-clause-writes : goal.returns-in-Ok-write_whole-clause-writes
-returns-in-Ok-write_whole-clause-writes g c =
-    let written = ok_of c.write_certificate.result _ (rw c.is_err.ensures.value at c.if-is_err.false) c.write_certificate.ensures.ok in
-    let part = certified_part g.C.CountedWrite.contents c.args.plan.now.count c.args.plan.now.above c.in-Ok.cover c.is_some.result
-    c.in-Ok-planned_texts.texts.certificate whole c.args.cert.now _
-    c.in-Ok-planned_texts.ensures.certificate c.is_some.ensures written in
-    with_read _ c.in-Ok.cover _ c.in-Ok.ensures.answer
-    (λ bytes reads. (
-      c.in-Ok.cover,
-      string_bytes c.in-Ok-planned_texts.texts.report,
-      reads,
-      c.in-Ok-planned_texts.ensures.report,
-      rw c.as_bytes.ensures.value at c.in-Ok-write_whole.ensures.ok,
-      part,
-    ))
-
-pub returns-in-Ok-write_whole-clause-answers : goal.returns-in-Ok-write_whole-clause-answers
-returns-in-Ok-write_whole-clause-answers g c =
-    let written = ok_of c.write_certificate.result _ (rw c.is_err.ensures.value at c.if-is_err.false) c.write_certificate.ensures.ok in
-    let part = certified_part g.C.CountedWrite.contents c.args.plan.now.count c.args.plan.now.above c.in-Ok.cover c.is_some.result
-    c.in-Ok-planned_texts.texts.certificate whole c.args.cert.now _
-    c.in-Ok-planned_texts.ensures.certificate c.is_some.ensures written in (
-      c.in-Ok.cover,
-      string_bytes c.in-Ok-planned_texts.texts.report,
-      c.in-Ok.ensures.formed,
-      c.in-Ok-planned_texts.ensures.report,
-      rw c.as_bytes.ensures.value at c.in-Ok-write_whole.ensures.ok,
-      part,
-    )
-
-pub returns-in-Ok-write_whole-clause-good : goal.returns-in-Ok-write_whole-clause-good
-returns-in-Ok-write_whole-clause-good g c =
-    let written = ok_of c.write_certificate.result _ (rw c.is_err.ensures.value at c.if-is_err.false) c.write_certificate.ensures.ok in
-    let part = certified_part g.C.CountedWrite.contents c.args.plan.now.count c.args.plan.now.above c.in-Ok.cover c.is_some.result
-    c.in-Ok-planned_texts.texts.certificate whole c.args.cert.now _
-    c.in-Ok-planned_texts.ensures.certificate c.is_some.ensures written in
-    with_read _ c.in-Ok.cover _ c.in-Ok.ensures.answer
-    (λ bytes reads e. (c.in-Ok.cover, reads, good_written c.args.plan.now.count c.args.plan.now.above c.in-Ok.cover _ _ e part))
-
-pub returns-in-Ok-write_whole-clause-optimum : goal.returns-in-Ok-write_whole-clause-optimum
-returns-in-Ok-write_whole-clause-optimum g c =
-    with_read _ c.in-Ok.cover _ c.in-Ok.ensures.answer
-    (λ bytes reads e. (
-      string_bytes c.in-Ok-planned_texts.texts.report,
-      rw c.as_bytes.ensures.value at c.in-Ok-write_whole.ensures.ok,
-      printed bytes c.in-Ok.cover c.args.plan.now.count c.args.plan.now.above (string_bytes c.in-Ok-planned_texts.texts.report) e reads
-          c.in-Ok-planned_texts.ensures.report,
-    ))
+pub returns-clause-hindered : goal.returns-clause-hindered
+returns-clause-hindered g c =
+    let texts = c.in-Ok-planned_texts.texts in
+    let before = held (g.W.CountedWrite.contents c.args.out.now) (option_map g.C.CountedWrite.contents c.args.cert.now) in
+    let after = held (g.W.CountedWrite.contents c.write_texts.new.out) (option_map g.C.CountedWrite.contents c.write_texts.new.cert) in
+    hindered c.args.plan.now IsCover (string_bytes texts.report) texts.certificate before after c.write_texts.result c.write_texts.ensures.sends
 
 pub returns-clause-writes : goal.returns-clause-writes
 returns-clause-writes g c =
-    let written = ok_of c.write_certificate.result _ (rw c.is_err.ensures.value at c.if-is_err.false) c.write_certificate.ensures.ok in
-    let part = certified_part g.C.CountedWrite.contents c.args.plan.now.count c.args.plan.now.above c.in-Ok.cover c.is_some.result
-    c.in-Ok-planned_texts.texts.certificate whole c.args.cert.now _
-    c.in-Ok-planned_texts.ensures.certificate c.is_some.ensures written in
-    let failed = rw c.as_bytes.ensures.value at c.in-Err-write_whole.ensures.err in
+    let after = held (g.W.CountedWrite.contents c.write_texts.new.out) (option_map g.C.CountedWrite.contents c.write_texts.new.cert) in
     with_read _ c.in-Ok.cover _ c.in-Ok.ensures.answer
-    (λ bytes reads. inr (
-      c.in-Ok.cover,
-      reads,
-      inr (part, string_bytes c.in-Ok-planned_texts.texts.report, failed.0, c.in-Ok-planned_texts.ensures.report, failed.1),
-    ))
+    (λ bytes reads. delivers g.C.CountedWrite.contents c.args.plan.now (Reads bytes) c.in-Ok.cover
+    (string_bytes c.in-Ok-planned_texts.texts.report) c.is_some.result c.in-Ok-planned_texts.texts.certificate
+    (g.W.CountedWrite.contents c.args.out.now) c.args.cert.now after c.write_texts.result reads
+    c.in-Ok-planned_texts.ensures.report c.in-Ok-planned_texts.ensures.certificate c.is_some.ensures c.write_texts.ensures.sends)
 
 pub returns-clause-answers : goal.returns-clause-answers
 returns-clause-answers g c =
-    let written = ok_of c.write_certificate.result _ (rw c.is_err.ensures.value at c.if-is_err.false) c.write_certificate.ensures.ok in
-    let part = certified_part g.C.CountedWrite.contents c.args.plan.now.count c.args.plan.now.above c.in-Ok.cover c.is_some.result
-    c.in-Ok-planned_texts.texts.certificate whole c.args.cert.now _
-    c.in-Ok-planned_texts.ensures.certificate c.is_some.ensures written in
-    let failed = rw c.as_bytes.ensures.value at c.in-Err-write_whole.ensures.err in
-    inr (
-      c.in-Ok.cover,
-      c.in-Ok.ensures.formed,
-      inr (part, string_bytes c.in-Ok-planned_texts.texts.report, failed.0, c.in-Ok-planned_texts.ensures.report, failed.1),
-    )
+    let after = held (g.W.CountedWrite.contents c.write_texts.new.out) (option_map g.C.CountedWrite.contents c.write_texts.new.cert) in
+    delivers g.C.CountedWrite.contents c.args.plan.now IsCover c.in-Ok.cover
+    (string_bytes c.in-Ok-planned_texts.texts.report) c.is_some.result c.in-Ok-planned_texts.texts.certificate
+    (g.W.CountedWrite.contents c.args.out.now) c.args.cert.now after c.write_texts.result c.in-Ok.ensures.formed
+    c.in-Ok-planned_texts.ensures.report c.in-Ok-planned_texts.ensures.certificate c.is_some.ensures c.write_texts.ensures.sends
+
+pub returns-clause-good : goal.returns-clause-good
+returns-clause-good g c =
+    let before = held (g.W.CountedWrite.contents c.args.out.now) (option_map g.C.CountedWrite.contents c.args.cert.now) in
+    let after = held (g.W.CountedWrite.contents c.write_texts.new.out) (option_map g.C.CountedWrite.contents c.write_texts.new.cert) in
+    with_read _ c.in-Ok.cover _ c.in-Ok.ensures.answer
+    (λ bytes reads. good c.args.plan.now bytes before after c.write_texts.result
+    (delivers g.C.CountedWrite.contents c.args.plan.now (Reads bytes) c.in-Ok.cover
+    (string_bytes c.in-Ok-planned_texts.texts.report) c.is_some.result c.in-Ok-planned_texts.texts.certificate
+    (g.W.CountedWrite.contents c.args.out.now) c.args.cert.now after c.write_texts.result reads
+    c.in-Ok-planned_texts.ensures.report c.in-Ok-planned_texts.ensures.certificate c.is_some.ensures c.write_texts.ensures.sends))
+
+pub returns-clause-optimum : goal.returns-clause-optimum
+returns-clause-optimum g c =
+    let before = held (g.W.CountedWrite.contents c.args.out.now) (option_map g.C.CountedWrite.contents c.args.cert.now) in
+    let after = held (g.W.CountedWrite.contents c.write_texts.new.out) (option_map g.C.CountedWrite.contents c.write_texts.new.cert) in
+    with_read _ c.in-Ok.cover _ c.in-Ok.ensures.answer
+    (λ bytes reads. optimum c.args.plan.now bytes before after c.write_texts.result
+    (delivers g.C.CountedWrite.contents c.args.plan.now (Reads bytes) c.in-Ok.cover
+    (string_bytes c.in-Ok-planned_texts.texts.report) c.is_some.result c.in-Ok-planned_texts.texts.certificate
+    (g.W.CountedWrite.contents c.args.out.now) c.args.cert.now after c.write_texts.result reads
+    c.in-Ok-planned_texts.ensures.report c.in-Ok-planned_texts.ensures.certificate c.is_some.ensures c.write_texts.ensures.sends))

@@ -1,0 +1,9 @@
+pub mod Spaced
+pub mod Worded
+pub mod SameAnswers
+pub mod Reported
+pub mod Certified
+pub mod Optima
+pub mod Delivered
+pub mod Determined
+pub mod Sent

@@ -1,0 +1,53 @@
+use Rattle.std.proofs.Common.{◌≡◌, ◌∙◌, IfOk, Ok, Err, Result, String, string_bytes, sym, subst}
+use Rattle.std.specs.Global.{Global}
+use Rattle.std.specs.declared.alloc.AllocError.{AllocError}
+use Rattle.std.proofs.lemmas.List.{length-map}
+use Rattle.certificate.specs.Faults.{Spells}
+use Rattle.certificate.specs.Spelling.{HasSpelling, spelling}
+use Rattle.order_model.specs.Certificates.{Certificate, certificate_of}
+use Rattle.order_model.specs.Functions.{from_table}
+use Rattle.order_model.specs.Problems.{functions}
+use Rattle.run_texts.proofs.Certified.{parts_same}
+use Rattle.run_texts.proofs.certificates.certificate_text.Goals as goal
+
+-- a text that spells a certificate
+told : (cert own : Certificate) (r : Result (String Global) AllocError) → own ≡ cert → HasSpelling own →
+    IfOk r (λ text. string_bytes text ≡ spelling own) → IfOk r (λ text. Spells (string_bytes text) cert)
+told cert own (Ok text) e has is = subst (Spells (string_bytes text)) e (record { has = has; text_is = is })
+told cert own (Err e) same has is = record {}
+
+pub unreachable-requires : goal.unreachable-requires
+unreachable-requires c =
+    let n = c.args.problem.now.inputs in
+    let F = functions c.args.problem.now in
+    let P = c.args.pairs.now.pairs in
+    let kept = rw c.requires.inputs at c.inputs-inputs.ensures.kept in
+    let sorted = rw c.requires.inputs at c.inputs-inputs.ensures.sorted in
+    let outputs = c.outputs-outputs.ensures.value ∙ sym (length-map c.args.problem.now.tables from_table) in
+    let most = rw c.count-few.ensures.value at c.count-few.ensures.most in
+    let some = rw outputs at c.outputs-outputs.ensures.some in
+    let few = rw outputs at c.outputs-outputs.ensures.few in
+    let same = parts_same n F P c.args.order.now c.inputs-inputs.result c.outputs-outputs.result c.in_ok-order.order.items
+    c.args.levels.items c.args.total c.in_ok-kept.kept.items c.args.cells.items
+    (c.inputs-inputs.ensures.value ∙ c.requires.inputs) outputs
+    (c.in_ok-order.ensures.items_if_clones_equal (λ x y h. h) ∙ c.variables.ensures.value) c.requires.levels
+    c.requires.total c.in_ok-kept.ensures sorted c.requires.cells in
+    c.in-None.ensures.none
+    (subst HasSpelling (sym same)
+    (c.orders_have_certificates.ensures n F P c.args.order.now kept.some kept.few some few
+    c.requires.order kept.below most sorted))
+
+pub returns : goal.returns
+returns c =
+    let n = c.args.problem.now.inputs in
+    let F = functions c.args.problem.now in
+    let P = c.args.pairs.now.pairs in
+    let sorted = rw c.requires.inputs at c.inputs-inputs.ensures.sorted in
+    let outputs = c.outputs-outputs.ensures.value ∙ sym (length-map c.args.problem.now.tables from_table) in
+    let same = parts_same n F P c.args.order.now c.inputs-inputs.result c.outputs-outputs.result c.in_ok-order.order.items
+    c.args.levels.items c.args.total c.in_ok-kept.kept.items c.args.cells.items
+    (c.inputs-inputs.ensures.value ∙ c.requires.inputs) outputs
+    (c.in_ok-order.ensures.items_if_clones_equal (λ x y h. h) ∙ c.variables.ensures.value) c.requires.levels
+    c.requires.total c.in_ok-kept.ensures sorted c.requires.cells in
+    let cert = c.in-Some.ensures.some ∙ same in
+    told (certificate_of n F P c.args.order.now) c.in-Some.cert c.text.result cert (subst HasSpelling c.cert.view_is c.cert.invariant) c.text.ensures.spelling
