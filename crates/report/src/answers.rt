@@ -224,6 +224,41 @@ fn building_workers(problem: &Problem, workers: Workers) -> Workers {
     }
 }
 
+/// What the search finds of a cover, and the size under the file order.
+#[derive(Drop)]
+struct Searched {
+    found: Found,
+    file_nodes: u64,
+}
+
+/// Searches a cover, from the diagram under the first order that keeps the pairs.
+fn search_cover<R: Threads + Sync>(
+    rt: &R,
+    alloc: Global,
+    cover: &Cover,
+    tables: &Tables,
+    pairs: Pairs,
+    workers: Workers,
+) -> Result<Searched, Shortage>
+    requires tables { AreTablesOf cover.now tables.now }
+    requires pairs { pairs.inputs ≡ cover.now.inputs }
+    ensures solution { IfOk result (λ s. IsSolution tables.now pairs.pairs s.found.solution) }
+    ensures sifted { IfOk result
+        (λ s. (start : _) × IsFirstOrder cover.now.inputs pairs.pairs start
+        × (s.found.sifted
+        ≡ sifted_order tables.now.inputs (functions tables.now) pairs.pairs start)) }
+    ensures size { IfOk result (λ s. s.found.sifted_size
+        ≡ size_under tables.now.inputs (functions tables.now) s.found.sifted) }
+    ensures nodes { IfOk result (λ s. s.file_nodes ≡ sum (file_order_levels cover.now)) }
+{
+    let builders = building_workers(tables.problem(), workers);
+    let first = first_diagram(rt, alloc, cover, tables, &pairs, builders)?;
+    let levels = file_order_levels_of(rt, alloc, cover, tables, &first, builders)?;
+    let file_nodes = total(&levels);
+    let found = search(rt, alloc, cover, tables, first, pairs, workers)?;
+    Ok(Searched { found, file_nodes })
+}
+
 /// The text of the solution's certificate, if it is asked for.
 fn certificate_of(
     alloc: Global,
@@ -267,12 +302,9 @@ pub(crate) fn answer_texts<R: Threads + Sync>(
 {
     let kept = pairs.copied();
     let tables = Tables::of_cover(rt, alloc, cover)?;
+    let Searched { found, file_nodes } =
+        search_cover(rt, alloc, cover, &tables, pairs, workers)?;
     let builders = building_workers(tables.problem(), workers);
-    let first = first_diagram(rt, alloc, cover, &tables, &pairs, builders)?;
-    let file_nodes = total(&file_order_levels_of(
-        rt, alloc, cover, &tables, &first, builders,
-    )?);
-    let found = search(rt, alloc, cover, &tables, first, pairs, workers)?;
     let report = report_of(rt, alloc, cover, &tables, &found, file_nodes, builders)?;
     let certificate = certificate_of(alloc, tables.problem(), &kept, found.solution, certify)?;
     Ok(RunTexts {
