@@ -302,8 +302,7 @@ pub(crate) fn answer_texts<R: Threads + Sync>(
 {
     let kept = pairs.copied();
     let tables = Tables::of_cover(rt, alloc, cover)?;
-    let Searched { found, file_nodes } =
-        search_cover(rt, alloc, cover, &tables, pairs, workers)?;
+    let Searched { found, file_nodes } = search_cover(rt, alloc, cover, &tables, pairs, workers)?;
     let builders = building_workers(tables.problem(), workers);
     let report = report_of(rt, alloc, cover, &tables, &found, file_nodes, builders)?;
     let certificate = certificate_of(alloc, tables.problem(), &kept, found.solution, certify)?;

@@ -2,13 +2,12 @@
 --     delivers      they get the texts of the cover
 --     tells, hindered      what the outcome says
 --     good, optimum      what they hold after a run without count
-use Rattle.std.proofs.Common.{◌≡◌, ◌⊎◌, inl, inr, ℕ, ◌≤◌, Bool, true, false, List, length, take, Option, String, is_some, option_map, string_bytes, refl}
+use Rattle.std.proofs.Common.{◌≡◌, inl, inr, ℕ, ◌≤◌, Bool, List, length, take, Option, String, is_some, option_map}
 use Rattle.std.specs.Global.{Global}
 use Rattle.pla_reader.specs.Answering.{longest}
 use Rattle.pla_reader.specs.Covers.{NamedCover}
 use Rattle.pla_reader.specs.Reading.{Reads}
 use Rattle.command_line.specs.declared.line.RunPlan.{RunPlan}
-use Rattle.outcomes.specs.declared.outcome.Fault.{Fault}
 use Rattle.outcomes.specs.declared.outcome.Fault.TheVariants.{Line, TooLong, OutOfMemory, Device, StoreFull, Pairs, CertificateLine, CertificateTooLong}
 use Rattle.outcomes.specs.declared.outcome.Outcome.{Outcome}
 use Rattle.outcomes.specs.declared.outcome.Outcome.TheVariants.{Done, Invalid, Refused}

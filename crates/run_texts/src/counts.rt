@@ -28,7 +28,11 @@ fn file_order_counts<R: Threads + Sync>(
 }
 
 /// The level counts and the size of a cover under the file order, as text.
-pub fn counts_of<R: Threads + Sync>(rt: &R, alloc: Global, cover: &Cover) -> Result<String, AllocError>
+pub fn counts_of<R: Threads + Sync>(
+    rt: &R,
+    alloc: Global,
+    cover: &Cover,
+) -> Result<String, AllocError>
     ensures { IfOk result (λ text. string_bytes text ≡ text_of cover.now) }
 {
     let counts = file_order_counts(rt, alloc, cover)?;
