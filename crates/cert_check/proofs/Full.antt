@@ -2,7 +2,7 @@
 --     full_of      how numbers and masks show it
 --     full_more      with one more variable there are half as many
 --     full_width      each width into the set is their count
-use Rattle.std.proofs.Common.{◌≡◌, ◌≢◌, ℕ, zero, suc, ◌+◌, ◌*◌, ◌/◌, ◌^◌, ◌<◌, ◌≤◌, Bool, true, false, cond, eqb, ne_eqb, List, ◌∷◌, length, get_or, set, replicate, bit_or, refl, sym, ap, ◌∙◌, subst, arith}
+use Rattle.std.proofs.Common.{◌≡◌, ◌≢◌, ℕ, zero, suc, ◌+◌, ◌*◌, ◌/◌, ◌%◌, ◌^◌, ◌<◌, ◌≤◌, Bool, true, cond, eqb, ne_eqb, List, ◌∷◌, length, get_or, set, replicate, bit_or, refl, sym, ap, ◌∙◌, subst, arith}
 use Rattle.std.specs.Int.{bit_at}
 use Rattle.std.specs.Int.Bits.{or_self}
 use Rattle.std.specs.List.{filter, range_with_len}
@@ -16,19 +16,19 @@ use Rattle.order_model.proofs.Bits.Masks.{has_members, members_small}
 use Rattle.order_model.proofs.Lists.Ranges.{range_at}
 use Rattle.class_laws.specs.Dependence.{joined_mask}
 use Rattle.class_laws.specs.Places.{low_place, pairs}
-use Rattle.class_laws.specs.Table.{ClassesOf, HoldsClasses, with_variable, functions_of, set_of, free_below}
+use Rattle.class_laws.specs.Table.{functions_of, set_of}
 use Rattle.class_laws.proofs.Apart.{distinct_first}
 use Rattle.class_laws.proofs.Counted.{width_is_dependent_classes}
-use Rattle.class_laws.proofs.Extended.{is_ready, holds_more}
 use Rattle.class_laws.proofs.Firsts.{Made, made_none, made_first, made_numbers, made_many, made_told}
 use Rattle.class_laws.proofs.Index.{length-pairs, pair_listed, pair_within}
-use Rattle.cert_check.specs.Tables.{IsFull}
+use Rattle.cert_check.specs.Tables.{HoldsRows, IsFull, TableOf, classes_at, rows_with}
+use Rattle.cert_check.proofs.Shortened.{rows, rows_more}
 
-pub full_of : (t : ClassesOf) (numbers masks : List ℕ) → HoldsClasses t numbers masks → length masks ≡ length numbers →
+pub full_of : (t : TableOf) (numbers masks : List ℕ) → HoldsRows t numbers masks → length masks ≡ length numbers →
     ((i : ℕ) → i < length numbers → get_or numbers i 0 ≡ i) →
     ((i : ℕ) → i < length masks → get_or masks i 0 ≡ t.set) → IsFull t (length masks)
 full_of t numbers masks h e own full =
-    subst (λ us. HoldsClasses t us (replicate (length masks) t.set)) same_numbers (subst (HoldsClasses t numbers) same_masks h)
+    subst (λ us. HoldsRows t us (replicate (length masks) t.set)) same_numbers (subst (HoldsRows t numbers) same_masks h)
   where
     same_numbers : numbers ≡ range_with_len 0 (length masks)
     same_numbers =
@@ -40,12 +40,12 @@ full_of t numbers masks h e own full =
         ext_get_or 0 masks (replicate (length masks) t.set) (sym (length-replicate (length masks) t.set))
         (λ i l. full i l ∙ sym (get_or-replicate (length masks) i t.set 0 l))
 
-module _ (t : ClassesOf) (count : ℕ) (h : IsFull t count) (x : ℕ) (inside : x < t.problem.inputs) (new : has (set_of t) x ≡ false) where
+module _ (t : TableOf) (count : ℕ) (h : IsFull t count) (x : ℕ) (inside : x < t.problem.inputs) (below : x < t.level) (free : t.set % 2 ^ (x + 1) ≡ 0) where
   abbrev cs : List ℕ
   cs = range_with_len 0 count
 
   abbrev step : ℕ
-  step = 2 ^ free_below t.set x
+  step = 2 ^ x
 
   abbrev ps : List (ℕ × ℕ)
   ps = pairs cs step
@@ -57,7 +57,7 @@ module _ (t : ClassesOf) (count : ℕ) (h : IsFull t count) (x : ℕ) (inside : 
   join = joined_mask (replicate count t.set) x
 
   whole : (blocks : ℕ) × (length cs ≡ blocks * (2 * step))
-  whole = (is_ready t x inside new cs (replicate count t.set) (free_below t.set x) h refl).whole
+  whole = rows t x inside below free cs (replicate count t.set) h
 
   half : length ps ≡ count / 2
   half = length-pairs cs step ∙ ap (λ k. k / 2) (length-range_with_len 0 count)
@@ -72,7 +72,7 @@ module _ (t : ClassesOf) (count : ℕ) (h : IsFull t count) (x : ℕ) (inside : 
   within : (j : ℕ) → j < count / 2 → low_place step j + step < count
   within j l =
       let n = length-range_with_len 0 count in
-      let w = pair_within step whole.0 (length cs) j (pow_pos (free_below t.set x)) whole.1 (omega arith) in
+      let w = pair_within step whole.0 (length cs) j (pow_pos x) whole.1 (omega arith) in
       omega arith
 
   pair_is : (j : ℕ) → j < count / 2 → get_or ps j (0, 0) ≡ (low_place step j, low_place step j + step)
@@ -86,7 +86,7 @@ module _ (t : ClassesOf) (count : ℕ) (h : IsFull t count) (x : ℕ) (inside : 
   join_is : (j : ℕ) → j < count / 2 → union ≡ join (get_or ps j (0, 0))
   join_is j l =
       let w = within j l in
-      let some = pow_pos (free_below t.set x) in
+      let some = pow_pos x in
       let a = get_or-replicate count (low_place step j) t.set 0 (omega arith) in
       let b = get_or-replicate count (low_place step j + step) t.set 0 w in
       sym (ap join (pair_is j l)
@@ -108,16 +108,16 @@ module _ (t : ClassesOf) (count : ℕ) (h : IsFull t count) (x : ℕ) (inside : 
       let d = length-range_with_len 0 count in
       let e : j + 1 ≡ suc j = omega arith in
       let m = made_first 0 ps join out (replicate j union) j union (omega arith)
-      (distinct_first cs (free_below t.set x) whole apart j (omega arith)) (join_is j (omega arith)) (made j (omega arith)) in
+      (distinct_first cs x whole apart j (omega arith)) (join_is j (omega arith)) (made j (omega arith)) in
       subst (λ k. Made 0 ps join out (replicate k union) k) e
       (subst (λ us. Made 0 ps join us (replicate (j + 1) union) (j + 1)) (same_out j (omega arith))
       (subst (λ us. Made 0 ps join (set out j (length (replicate j union))) us (j + 1)) (replicate-append-replicate j 1 union) m))
 
-  pub full_more : IsFull (with_variable t x) (count / 2)
+  pub full_more : IsFull (rows_with t x) (count / 2)
   full_more =
       let n = half in
       let m = made (count / 2) (omega arith) in
-      holds_more t x inside new cs (replicate count t.set) out (replicate (count / 2) union) h
+      rows_more t x inside below free cs (replicate count t.set) h out (replicate (count / 2) union)
       (made_numbers 0 ps join out (replicate (count / 2) union) (count / 2) (omega arith) m)
       (made_many 0 ps join out (replicate (count / 2) union) (count / 2) (omega arith) m)
       (made_told 0 ps join out (replicate (count / 2) union) (count / 2) (omega arith) m)
@@ -126,11 +126,11 @@ all_kept : (p : ℕ → Bool) (v n : ℕ) → p v ≡ true → length (filter p 
 all_kept p v zero e = refl
 all_kept p v (suc n) e = ap (λ b. length (cond b (v ∷ filter p (replicate n v)) (filter p (replicate n v)))) e ∙ ap suc (all_kept p v n e)
 
-pub full_width : (t : ClassesOf) (count x : ℕ) → IsFull t count → has (set_of t) x ≡ true →
-    width t.problem.inputs (functions_of t) (without x (set_of t)) x ≡ count
+pub full_width : (t : TableOf) (count x : ℕ) → IsFull t count → has (set_of (classes_at t)) x ≡ true →
+    width t.problem.inputs (functions_of (classes_at t)) (without x (set_of (classes_at t))) x ≡ count
 full_width t count x h inside =
-    width_is_dependent_classes t.problem.inputs (functions_of t) (set_of t) (replicate count t.set) x
-    (members_small t.problem.inputs t.set x inside) inside h.masks_are
+    width_is_dependent_classes t.problem.inputs (functions_of (classes_at t)) (set_of (classes_at t)) (replicate count t.set) x
+    (members_small t.problem.inputs t.set x inside) inside h.holds.masks_are
     ∙ all_kept (λ m. eqb (bit_at m x) 1) t.set count bit
   where
     bit : eqb (bit_at t.set x) 1 ≡ true

@@ -11,6 +11,7 @@ mod edges;
 mod head;
 mod numbering;
 mod pair_numbers;
+mod repeats;
 mod spread;
 mod values;
 mod verdict;

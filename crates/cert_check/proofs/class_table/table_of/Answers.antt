@@ -1,12 +1,22 @@
-use Rattle.std.proofs.Common.{◌≡◌, ℕ, ◌<◌, List, length, get_or, sym, ap, subst, ◌∙◌}
-use Rattle.class_laws.specs.Table.{classes_of}
-use Rattle.cert_check.specs.Tables.{IsFull}
+use Rattle.std.proofs.Common.{◌≡◌, ℕ, ◌<◌, List, length, get_or, sym, ap, subst, ◌∙◌, arith}
+use Rattle.cert_check.specs.Tables.{IsFull, classes_at, table_at}
+use Rattle.class_laws.proofs.Extended.{few_masks}
 use Rattle.cert_check.proofs.Full.{full_of}
 use Rattle.cert_check.proofs.class_table.table_of.Goals as goal
 
+pub overflow_cast-result : goal.overflow_cast-result
+overflow_cast-result c =
+    let t = table_at c.args.problem.now c.args.set c.args.level in
+    let r = c.requires in
+    let f = few_masks (classes_at t) r.whole c.args.numbered.masks.items r.holds in
+    let n = r.holds.few in
+    let l = sym (ap length c.deref.ensures.value) ∙ c.deref.ensures.len in
+    let e = c.len-then-are_own.ensures in
+    omega arith
+
 pub invariant_of-result : goal.invariant_of-result
 invariant_of-result c =
-    let t = classes_of c.args.problem.now c.args.set in
+    let t = table_at c.args.problem.now c.args.set c.args.level in
     let numbers = c.args.numbered.numbers.items in
     let masks = c.args.numbered.masks.items in
     let masks_len = sym (ap length c.deref.ensures.value) ∙ c.deref.ensures.len in

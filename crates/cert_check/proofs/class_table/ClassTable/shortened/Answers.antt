@@ -1,0 +1,59 @@
+use Rattle.std.proofs.Common.{◌≡◌, ◌+◌, ◌-◌, ◌*◌, ◌≤◌, ◌%◌, ◌^◌, ◌++◌, length, sym, ap, subst, ◌∙◌, arith}
+use Rattle.class_laws.specs.Table.{HoldsClasses}
+use Rattle.cert_check.specs.Rows.{IsShort}
+use Rattle.cert_check.specs.Tables.{HoldsTable, TableOf, classes_at, table_at}
+use Rattle.cert_check.proofs.HighSets.{double}
+use Rattle.cert_check.proofs.Rows.{short_finer, short_then}
+use Rattle.cert_check.proofs.Shortened.{ready, rows}
+use Rattle.cert_check.proofs.class_table.ClassTable.shortened.Goals as goal
+
+pub without_repeats-requires-clause-few : goal.without_repeats-requires-clause-few
+without_repeats-requires-clause-few c =
+    let t = table_at c.self.inside.problem.now c.self.inside.set c.self.inside.level in
+    let h = subst (λ f. HoldsTable t f c.self.inside.numbers.items c.self.inside.masks.items) c.in-None.is c.self.invariant in
+    let y = c.args.y in
+    let some = c.requires.some in
+    let lower = c.if-self-y.false in
+    let next : y ≡ y - 1 + 1 = omega arith in
+    let inside = subst (λ (z : TableOf). y ≤ z.problem.inputs) (sym c.self.view_is) c.requires.inside in
+    let free = subst (λ (z : TableOf). z.set % 2 ^ y ≡ 0) (sym c.self.view_is) c.requires.free in
+    let r = ready t (y - 1) (omega arith) (omega arith) (ap (λ k. c.self.inside.set % 2 ^ k) (sym next) ∙ free) c.self.inside.numbers.items
+    c.self.inside.masks.items h in
+    let l = ap length c.deref.ensures.value in
+    let f = r.few_entries in
+    omega arith
+
+pub without_repeats-requires-clause-rows : goal.without_repeats-requires-clause-rows
+without_repeats-requires-clause-rows c =
+    let t = table_at c.self.inside.problem.now c.self.inside.set c.self.inside.level in
+    let h = subst (λ f. HoldsTable t f c.self.inside.numbers.items c.self.inside.masks.items) c.in-None.is c.self.invariant in
+    let y = c.args.y in
+    let some = c.requires.some in
+    let lower = c.if-self-y.false in
+    let next : y ≡ y - 1 + 1 = omega arith in
+    let inside = subst (λ (z : TableOf). y ≤ z.problem.inputs) (sym c.self.view_is) c.requires.inside in
+    let free = subst (λ (z : TableOf). z.set % 2 ^ y ≡ 0) (sym c.self.view_is) c.requires.free in
+    let r = rows t (y - 1) (omega arith) (omega arith) (ap (λ k. c.self.inside.set % 2 ^ k) (sym next) ∙ free) c.self.inside.numbers.items
+    c.self.inside.masks.items h in
+    let d : 2 * 2 ^ (y - 1) ≡ 2 ^ y = (let e = double (y - 1) y next in omega arith) in
+    (r.0, ap length c.deref.ensures.value ∙ r.1 ∙ ap (λ k. r.0 * k) d)
+
+pub invariant_of-result : goal.invariant_of-result
+invariant_of-result c =
+    let t = table_at c.self.inside.problem.now c.self.inside.set c.self.inside.level in
+    let h = subst (λ f. HoldsTable t f c.self.inside.numbers.items c.self.inside.masks.items) c.in-None.is c.self.invariant in
+    let y = c.args.y in
+    let lower = c.if-self-y.false in
+    let e = c.in_ok-numbers-in-None.ensures in
+    let from = subst (λ us. IsShort (2 ^ y) e.0 us c.in_ok-numbers-in-None.numbers.items) c.deref.ensures.value e.1 in
+    let both = short_then (2 ^ y) h.steps e.0 h.whole c.self.inside.numbers.items c.in_ok-numbers-in-None.numbers.items
+    (short_finer c.self.inside.level y h.steps h.whole c.self.inside.numbers.items (omega arith) h.short) from in
+    let copied : c.in_ok-masks-in-None.masks.items ++ c.deref-in-None.result.now ≡ c.self.inside.masks.items =
+    (λ i. c.in_ok-masks-in-None.ensures.items i ++ c.deref-in-None.ensures.value i) in
+    let same = c.in_ok-extend_from_slice-in-None.ensures.items ∙ copied in
+    record {
+      whole = h.whole;
+      steps = both.0;
+      holds = subst (HoldsClasses (classes_at t) h.whole) (sym same) h.holds;
+      short = both.1;
+    }

@@ -1,0 +1,59 @@
+use Rattle.std.proofs.Common.{◌≡◌, ◌-◌, ◌*◌, ◌/◌, ◌%◌, ◌<◌, ◌≤◌, ◌^◌, IfOk, zero-mul, sym, ap, ◌∙◌, subst, arith, ℕ}
+use Rattle.std.proofs.Math.Nat.{div-lt_iff_lt-mul, mod-eq_of_lt}
+use Rattle.std.proofs.Math.Pow.{pow_mono}
+use Rattle.std.proofs.lemmas.Nat.{pow_pos}
+use Rattle.order_model.specs.Problems.{functions}
+use Rattle.cert_check.specs.Edges.{FailsWithin, IsFirstEdge}
+use Rattle.cert_check.proofs.HighSets.{multiple}
+use Rattle.cert_check.proofs.IntoSet.{place_below}
+use Rattle.cert_check.proofs.spread.fn.first_failure.map.Goals as goal
+
+-- a part, as a mask
+part_small : (n end p : ℕ) → end ≤ n → p < 2 ^ end → p * 2 ^ (n - end) < 2 ^ n
+part_small n end p le small =
+    let s : n - (n - end) ≡ end = omega arith in
+    let b = place_below n (n - end) p 0 (omega arith) (subst (λ k. p < 2 ^ k) (sym s) small) (pow_pos (n - end)) in
+    omega arith
+
+part_mask : (n end p : ℕ) → n ≤ 16 → end ≤ n → p < 2 ^ end → p * 2 ^ (n - end) % 65536 ≡ p * 2 ^ (n - end)
+part_mask n end p few le small =
+    let l = part_small n end p le small in
+    let m = pow_mono {i = n} {j = 16} few in
+    mod-eq_of_lt (omega arith)
+
+pub overflow_shl-part : goal.overflow_shl-part
+overflow_shl-part c = c.requires.1.shift
+
+pub first_in_part-requires : goal.first_in_part-requires
+first_in_part-requires c =
+    let n = c.captures.inputs in
+    let end = c.captures.end in
+    let p = c.part_of.result in
+    let start = c.requires.1 in
+    let level = start.level in
+    let within = start.within in
+    let mask = part_mask n end p start.walk.few within c.part_of.ensures.within in
+    let small = part_small n end p within c.part_of.ensures.within in
+    let none : p * 2 ^ (n - end) / 2 ^ n < 1 = (div-lt_iff_lt-mul (pow_pos n)).1 (omega arith) in
+    record {
+      walk = start.walk;
+      variable = omega arith;
+      level = omega arith;
+      end = omega arith;
+      aligned = ap (λ k. k % 2 ^ (n - end)) mask ∙ multiple p (2 ^ (n - end)) (pow_pos (n - end));
+      part = (let m = mask in omega arith);
+      set = start.empty
+          ∙ sym (ap (λ k. k / 2 ^ n * 2 ^ n) mask ∙ ap (λ k. k * 2 ^ n) (let z : p * 2 ^ (n - end) / 2 ^ n ≡ 0 = omega arith in z) ∙ zero-mul (2 ^ n));
+    }
+
+pub returns : goal.returns
+returns c =
+    let n = c.captures.inputs in
+    let end = c.captures.end in
+    let start = c.requires.1 in
+    let mask = part_mask n end c.part_of.result start.walk.few start.within c.part_of.ensures.within in
+    subst
+    (λ k. IfOk c.first_in_part.result
+    (IsFirstEdge (FailsWithin n (functions c.captures.table.now.problem) c.captures.edges.values.now c.captures.edges.judged.now k (n - end))))
+    (mask ∙ ap (λ k. k * 2 ^ (n - end)) c.part_of.ensures.part)
+    c.first_in_part.ensures

@@ -1,0 +1,64 @@
+//! Rows of entries, of which those that have come before are left out.
+
+ghost use Rattle.std.specs.Prelude.{◌≡◌, ℕ, ◌*◌, ◌^◌, ◌<◌, ◌≤◌, ◌++◌, List, length, IfOk, IsTrue};
+ghost use Rattle.cert_check.specs.Rows.{AreRows, IsShort};
+
+use order_model::VarIx;
+use std::alloc::{AllocError, Global};
+
+/// An odd number whose multiples spread over the words of 64 bits.
+const SPREAD: u64 = 0x9E37_79B9_7F4A_7C15;
+
+/// The bucket of a row, of so many.
+fn bucket_of(row: &[u32], buckets: usize) -> usize
+    requires some { 0 < buckets }
+    ensures within { result < buckets }
+{
+    let mut key = 0u64;
+    for i in 0..row.len() / 2 {
+        let both = u64::from(row[2 * i]) | u64::from(row[2 * i + 1]) << 32;
+        key = (key ^ both).wrapping_mul(SPREAD);
+    }
+    (key >> 40) as usize & (buckets - 1)
+}
+
+/// Whether a row is the kept one before a place. Place 0 has none before it.
+fn is_kept(kept: &[u32], place: usize, row: &[u32]) -> bool
+    requires some { 0 < length row.now }
+    ensures { IsTrue result → (front : List ℕ) × (between : List ℕ) × (rows : ℕ)
+        × (kept.now ≡ front ++ (row.now ++ between)) × (length front ≡ rows * length row.now) }
+{
+    let width = row.len();
+    if place == 0 || kept.len() / width < place {
+        return false;
+    }
+    let start = (place - 1) * width;
+    let before = &kept[start..start + width];
+    before == row
+}
+
+/// The rows of 2 ^ y entries, mostly each once, in the order in which they first come.
+pub(crate) fn without_repeats(
+    alloc: Global,
+    numbers: &[u32],
+    y: VarIx,
+) -> Result<Vec<u32>, AllocError>
+    requires variable { y ≤ 16 }
+    requires few { length numbers.now ≤ 2 ^ 20 }
+    requires rows { AreRows (2 ^ y) numbers.now }
+    ensures { IfOk result (λ v. (steps : ℕ) × IsShort (2 ^ y) steps numbers.now v.items) }
+{
+    let width = 1usize << y;
+    let rows = numbers.len() / width;
+    let mut places = vec![in alloc; 0u32; (2 * rows).next_power_of_two()]?;
+    let mut kept = Vec::with_capacity(alloc, numbers.len())?;
+    for number in 0..rows {
+        let row = &numbers[number * width..(number + 1) * width];
+        let home = bucket_of(row, places.len());
+        if !is_kept(&kept, places[home] as usize, row) {
+            kept.extend_from_slice(row)?;
+            places[home] = (kept.len() / width) as u32;
+        }
+    }
+    Ok(kept)
+}
