@@ -17,7 +17,7 @@ use std::alloc::{AllocError, Global};
 use truth_table::Tables;
 
 /// The first order of the fewest nodes among those that keep the pairs, searched below the size of
-/// one sifted from the first that keeps them.
+/// one that sifting from the first of them ends with.
 fn optimum(alloc: Global, tables: &Tables, pairs: Pairs) -> Result<Solution, AllocError>
     requires { pairs.inputs ≡ tables.now.inputs }
     ensures optimum { IfOk result
