@@ -2,7 +2,8 @@
 --     step_down      a set with no variable below the next bound
 --     high_new, high_or, high_more, high_room      its next variable down is new; with it; the sets that differ below the bound
 --     free_all      all variables below the bound are free
---     part_same, part_more, part_high      the part of a mask from a bound on, and from the next one down
+--     part_same, part_more, part_high, part_all      the part of a mask from a bound on, and from the next one down
+--     multiple, double      a multiple has no rest; twice a power of two
 use Rattle.std.proofs.Common.{◌≡◌, ℕ, zero, suc, ◌+◌, ◌-◌, ◌*◌, ◌/◌, ◌%◌, ◌^◌, ◌<◌, ◌≤◌, false, inl, inr, sym, ap, ◌∙◌, arith, bit_and, bit_or, zero-mul}
 use Rattle.std.proofs.Math.Nat.{div-lt_iff_lt-mul}
 use Rattle.std.proofs.lemmas.Bool.{cases_eq}

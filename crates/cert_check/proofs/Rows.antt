@@ -1,5 +1,6 @@
 -- Lists in rows, of which some that have come before are left out.
---     rows_left      whole rows are left
+--     rows_append, rows_minus, rows_pairs      whole rows, one part after the other, less a part, and in pairs
+--     rows_left, short_fewer      whole rows are left, and no more than there were
 --     short_pairs, short_map      the pairs of entries, and what is made of each entry
 --     short_rank, short_count, short_among, among_short      numbers by first occurrence, the number of distinct entries, and the entries stay
 --     short_finer, short_then      shorter rows; one after the other
