@@ -1,16 +1,16 @@
 -- Rows of a block, filled one after another.
-use Rattle.std.proofs.Common.{◌≡◌, ◌≢◌, ℕ, zero, suc, ◌+◌, ◌-◌, ◌%◌, ◌^◌, ◌<◌, ◌≤◌, cond, inl, inr, List, [], ◌∷◌, length, slice_index, get_or, set, refl, sym, ap, ◌∙◌, subst, arith, eqb}
+use Rattle.std.proofs.Common.{◌≡◌, ◌≢◌, ℕ, zero, suc, ◌+◌, ◌-◌, ◌%◌, ◌^◌, ◌<◌, ◌≤◌, cond, inl, inr, List, [], ◌∷◌, length, slice_index, get_or, set, refl, sym, ap, ◌∙◌, subst, arith, eqb, bit_and, bit_or}
 use Rattle.std.specs.Int.{bit_at}
 use Rattle.std.proofs.lemmas.Bool.{cases_lt, cases_eq}
 use Rattle.std.proofs.lemmas.List.{take_at, get_or_append_left, get_or_push}
 use Rattle.std.proofs.Common.{◌++◌, min, take, drop, replicate, pow_mono}
 use Rattle.std.proofs.Math.Nat.{mod-eq_of_lt, two-pow-succ}
-use Rattle.std.proofs.lemmas.Nat.{pow_pos}
+use Rattle.std.proofs.lemmas.Nat.{and_mask}
 use Rattle.std.proofs.lemmas.Nat.Bits.{bit_at-zero}
 use Rattle.order_model.specs.Orders.{members, without}
 use Rattle.order_model.specs.Widths.{width}
 use Rattle.order_model.specs.Problems.{TruthTables, functions}
-use Rattle.class_laws.proofs.LowSets.{split_low, join_low, join_high}
+use Rattle.compaction.proofs.Decided.{split_decided, join_without, join_with, not_both}
 use Rattle.compaction.specs.Rows.{width_wanted, IsRow, IsFilled, AreFilled, AreBlank, AreUnwanted}
 
 -- the rows of one set among the first k masks
@@ -22,63 +22,65 @@ pub record IsFilling (p : TruthTables) (masks needed : List ℕ) (own k : ℕ) (
 
 -- ---- the two halves of a walk
 
-power_double : (n y : ℕ) → y < n → 2 ^ (n - y) ≡ 2 ^ (n - (y + 1)) + 2 ^ (n - (y + 1))
-power_double n y lt = ap (λ k. 2 ^ k) (let s : n - y ≡ suc (n - (y + 1)) = omega arith in s) ∙ two-pow-succ (n - (y + 1))
+pub few_compactions : (undecided before after : ℕ) → before + 1 ≤ 2 ^ undecided → after + 1 ≤ 2 ^ undecided → before + after + 1 + 1 ≤ 2 ^ suc undecided
+few_compactions undecided before after a b = let d = two-pow-succ undecided in omega arith
 
-pub few_compactions : (n y before after : ℕ) → y < n → before + 1 ≤ 2 ^ (n - (y + 1)) → after + 1 ≤ 2 ^ (n - (y + 1)) → before + after + 1 + 1 ≤ 2 ^ (n - y)
-few_compactions n y before after lt a b = let d = power_double n y lt in omega arith
-
-pub fewer_compactions : (n y before : ℕ) → y < n → before + 1 ≤ 2 ^ (n - (y + 1)) → before + 1 ≤ 2 ^ (n - y)
-fewer_compactions n y before lt a = let d = power_double n y lt in omega arith
+pub fewer_compactions : (undecided before : ℕ) → before + 1 ≤ 2 ^ undecided → before + 1 ≤ 2 ^ suc undecided
+fewer_compactions undecided before a = let d = two-pow-succ undecided in omega arith
 
 module _ (p : TruthTables) (masks needed : List ℕ) where
   -- nothing is wanted
-  pub filled_unwanted : (set y : ℕ) (old : List (List ℕ)) → AreBlank p masks needed old → AreUnwanted masks needed set y → length needed ≡ length masks →
-      AreFilled p masks needed set y old old
-  filled_unwanted set y old blank none l = λ i lt. (λ e. blank i lt (none i (omega arith) e), λ ne. refl)
+  pub filled_unwanted : (set decided : ℕ) (old : List (List ℕ)) → AreBlank p masks needed old → AreUnwanted masks needed set decided →
+      length needed ≡ length masks → AreFilled p masks needed set decided old old
+  filled_unwanted set decided old blank none l = λ i lt. (λ e. blank i lt (none i (omega arith) e), λ ne. refl)
 
-  -- all variables are there
-  pub filled_own : (set y : ℕ) (old new : List (List ℕ)) → ((i : ℕ) → i < length masks → slice_index masks i < 2 ^ y) →
-      IsFilled p masks needed set old new → AreFilled p masks needed set y old new
-  filled_own set y old new small own = λ i lt.
-      let whole = mod-eq_of_lt (small i lt) in (
+  -- all variables are decided
+  pub filled_own : (set decided : ℕ) (old new : List (List ℕ)) →
+      ((i : ℕ) → i < length masks → bit_and (slice_index masks i) decided ≡ slice_index masks i) →
+      IsFilled p masks needed set old new → AreFilled p masks needed set decided old new
+  filled_own set decided old new all own = λ i lt.
+      let whole = all i lt in (
         λ e. let s : slice_index masks i ≡ set = sym whole ∙ e in
             subst (λ m. IsRow p m (slice_index needed i) (get_or new i [])) (sym s) ((own i lt).0 s),
         λ ne. (own i lt).1 (λ s. ne (whole ∙ s)),
       )
 
   -- what is blank stays so
-  pub blank_kept : (set y : ℕ) (old new : List (List ℕ)) → AreBlank p masks needed old → AreFilled p masks needed set y old new → AreBlank p masks needed new
-  blank_kept set y old new blank filled = λ i lt z. elim (cases_eq (slice_index masks i % 2 ^ y) set) [
+  pub blank_kept : (set decided : ℕ) (old new : List (List ℕ)) → AreBlank p masks needed old → AreFilled p masks needed set decided old new →
+      AreBlank p masks needed new
+  blank_kept set decided old new blank filled = λ i lt z. elim (cases_eq (bit_and (slice_index masks i) decided) set) [
     | inl e ↦ (filled i lt).0 e
     | inr ne ↦ subst (IsRow p (slice_index masks i) (slice_index needed i)) (sym ((filled i lt).1 ne)) (blank i lt z)
   ]
 
-  -- both halves
-  pub filled_both : (set y : ℕ) (old mid new : List (List ℕ)) → set < 2 ^ y → AreFilled p masks needed set (y + 1) old mid →
-      AreFilled p masks needed (set + 2 ^ y) (y + 1) mid new → AreFilled p masks needed set y old new
-  filled_both set y old mid new h a b = λ i lt. (
-    λ e. elim (split_low (slice_index masks i) set y h e) [
+  -- the sets without a variable, and those with it
+  pub filled_both : (set decided y : ℕ) (old mid new : List (List ℕ)) → bit_at decided y ≡ 0 → bit_and set decided ≡ set →
+      AreFilled p masks needed set (bit_or decided (2 ^ y)) old mid →
+      AreFilled p masks needed (bit_or set (2 ^ y)) (bit_or decided (2 ^ y)) mid new → AreFilled p masks needed set decided old new
+  filled_both set decided y old mid new undecided within a b = λ i lt. (
+    λ e. elim (split_decided (slice_index masks i) set decided y e) [
       | inl low ↦
-          let q = pow_pos y in
-          let kept = (b i lt).1 (λ s. let t = sym low ∙ s in absurd (omega arith)) in
+          let kept = (b i lt).1 (λ s. not_both set decided y undecided within (sym low ∙ s)) in
           subst (IsRow p (slice_index masks i) (slice_index needed i)) (sym kept) ((a i lt).0 low)
       | inr high ↦ (b i lt).0 high
     ],
-    λ ne. (b i lt).1 (λ s. ne (join_high (slice_index masks i) set y h s)) ∙ (a i lt).1 (λ s. ne (join_low (slice_index masks i) set y h s)),
+    λ ne. (b i lt).1 (λ s. ne (join_with (slice_index masks i) set decided y undecided within s))
+    ∙ (a i lt).1 (λ s. ne (join_without (slice_index masks i) set decided y within s)),
   )
 
-  -- nothing is wanted of the upper half
-  pub filled_lower : (set y : ℕ) (old mid : List (List ℕ)) → set < 2 ^ y → AreFilled p masks needed set (y + 1) old mid → AreBlank p masks needed mid →
-      ((i : ℕ) → i < length needed → slice_index masks i % 2 ^ (y + 1) ≡ set + 2 ^ y → slice_index needed i ≡ 0) →
-      length needed ≡ length masks → AreFilled p masks needed set y old mid
-  filled_lower set y old mid h a blank none l = filled_both set y old mid mid h a (filled_unwanted (set + 2 ^ y) (y + 1) mid blank none l)
+  -- nothing is wanted of those with it
+  pub filled_lower : (set decided y : ℕ) (old mid : List (List ℕ)) → bit_at decided y ≡ 0 → bit_and set decided ≡ set →
+      AreFilled p masks needed set (bit_or decided (2 ^ y)) old mid → AreBlank p masks needed mid →
+      AreUnwanted masks needed (bit_or set (2 ^ y)) (bit_or decided (2 ^ y)) → length needed ≡ length masks →
+      AreFilled p masks needed set decided old mid
+  filled_lower set decided y old mid undecided within a blank none l =
+      filled_both set decided y old mid mid undecided within a (filled_unwanted (bit_or set (2 ^ y)) (bit_or decided (2 ^ y)) mid blank none l)
 
 -- ---- the whole block
 
 -- the low byte is what a mask has below the first high variable
-pub agree_low : (n low mask k : ℕ) → k ≡ min n 8 → mask < 2 ^ n → mask % 256 ≡ low → mask % 2 ^ k ≡ low
-agree_low n low mask k e small h = elim (cases_lt n 8) [
+pub agree_low : (n low mask k : ℕ) → k ≡ min n 8 → mask < 2 ^ n → mask % 256 ≡ low → bit_and mask (2 ^ k - 1) ≡ low
+agree_low n low mask k e small h = and_mask mask k ∙ elim (cases_lt n 8) [
   | inl few ↦
       let s : k ≡ n = omega arith in
       let p : 2 ^ n ≤ 2 ^ 7 = pow_mono {j = 7} (omega arith) in

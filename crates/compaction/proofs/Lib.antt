@@ -1,6 +1,7 @@
 pub mod RowSteps
 pub mod Filled
 pub mod Wanted
+pub mod Decided
 pub mod Keyed
 pub mod Unrolled
 pub mod Paired

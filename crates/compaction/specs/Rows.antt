@@ -3,9 +3,9 @@
 --     IsRow p mask wanted row, AreRows p masks needed rows      a set's widths; those of all sets of a block
 --     wanted_count needed      how many widths are wanted
 --     WidthsOf      the rows of a block, and how many compactions they took
---     AreUnwanted masks needed set y      nothing is wanted of the sets whose variables below y are those of `set`
+--     AreUnwanted masks needed set decided      nothing is wanted of the sets that agree with `set` in the decided variables
 --     IsFilled p masks needed set old new      the row of one set is filled
-use Rattle.std.specs.Prelude.{◌≡◌, ◌≢◌, ℕ, ◌%◌, ◌^◌, ◌<◌, ◌==◌, IsTrue, List, [], cond, sum_by, length, slice_index, get_or, count_ones}
+use Rattle.std.specs.Prelude.{◌≡◌, ◌≢◌, ℕ, ◌<◌, ◌==◌, IsTrue, List, [], cond, sum_by, length, slice_index, get_or, count_ones, bit_and}
 use Rattle.std.specs.Int.{bit_at}
 use Rattle.order_model.specs.Orders.{has, members, without}
 use Rattle.order_model.specs.Problems.{TruthTables, functions}
@@ -44,15 +44,15 @@ abbrev pub AreBlank : TruthTables → List ℕ → List ℕ → List (List ℕ) 
 AreBlank p masks needed rows = (i : ℕ) → i < length masks → slice_index needed i ≡ 0 →
     IsRow p (slice_index masks i) (slice_index needed i) (get_or rows i [])
 
--- the rows of the sets whose variables below y are those of `set` hold their widths, and the others are as they were
+-- the rows of the sets that agree with `set` in the decided variables hold their widths, and the others are as they were
 abbrev pub AreFilled : TruthTables → List ℕ → List ℕ → ℕ → ℕ → List (List ℕ) → List (List ℕ) → Type 0
-AreFilled p masks needed set y old new = (i : ℕ) → i < length masks →
-    ((slice_index masks i % 2 ^ y ≡ set) → IsRow p (slice_index masks i) (slice_index needed i) (get_or new i []))
-    × ((slice_index masks i % 2 ^ y ≢ set) → get_or new i [] ≡ get_or old i [])
+AreFilled p masks needed set decided old new = (i : ℕ) → i < length masks →
+    ((bit_and (slice_index masks i) decided ≡ set) → IsRow p (slice_index masks i) (slice_index needed i) (get_or new i []))
+    × ((bit_and (slice_index masks i) decided ≢ set) → get_or new i [] ≡ get_or old i [])
 
--- nothing is wanted of the sets whose variables below y are those of `set`
+-- nothing is wanted of the sets that agree with `set` in the decided variables
 abbrev pub AreUnwanted : List ℕ → List ℕ → ℕ → ℕ → Type 0
-AreUnwanted masks needed set y = (i : ℕ) → i < length needed → slice_index masks i % 2 ^ y ≡ set →
+AreUnwanted masks needed set decided = (i : ℕ) → i < length needed → bit_and (slice_index masks i) decided ≡ set →
     slice_index needed i ≡ 0
 
 -- the row of one set holds its widths, and the others are as they were

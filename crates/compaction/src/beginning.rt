@@ -11,8 +11,9 @@ use order_model::{Mask, Problem};
 use std::alloc::{AllocError, Global};
 use std::marker::Model;
 
-/// Truth tables of no more entries than these have the tables of all low sets made beforehand.
-const FEW_ENTRIES: usize = 1 << 16;
+/// Truth tables of no more distinct strips than these have the tables of all low sets made
+/// beforehand, which take 6,561 numbers a strip.
+const MOST_STRIPS: usize = 1 << 10;
 
 /// What the walks over a problem's sets begin with: the tables of all sets of low variables if they
 /// are small, else the keys of the sets of the lowest three variables; and the pairs of names for
@@ -97,7 +98,7 @@ impl<'a> Beginning<'a> {
         }
         let keys = ByteKeys::of_problem(alloc, problem)?;
         let names = AllNamePairs::of(alloc, keys.names(), problem.inputs() - 8)?;
-        if usize::from(problem.outputs()) << problem.inputs() <= FEW_ENTRIES {
+        if keys.strips() <= MOST_STRIPS {
             let empty = keys.write_out(alloc)?;
             return Ok(Beginning {
                 problem,

@@ -1,9 +1,10 @@
 //! The widths of the sets of a block.
 
-ghost use Rattle.std.specs.Prelude.{◌≡◌, ℕ, ◌+◌, ◌-◌, ◌%◌, ◌^◌, ◌<◌, ◌≤◌, IsFalse, length, slice_index, slice_get, get_or, [], ◌≢◌, IfOk, OnOk, OnErr, Some};
+ghost use Rattle.std.specs.Prelude.{◌≡◌, ℕ, ◌+◌, ◌-◌, ◌%◌, ◌^◌, ◌<◌, ◌≤◌, IsFalse, length, slice_index, slice_get, get_or, [], ◌≢◌, IfOk, IfSome, IsNone, OnOk, OnErr, Some, bit_and, bit_or};
+ghost use Rattle.std.specs.Int.{bit_at};
 ghost use Rattle.subset_layers.specs.Layers.{block_masks};
 ghost use Rattle.compaction.specs.Strips.{low_variables as low_of};
-ghost use Rattle.class_laws.specs.Table.{classes_of};
+ghost use Rattle.class_laws.specs.Table.{classes_of, free_below};
 ghost use Rattle.compaction.specs.Rows.{AreRows, AreMembers, AreBlank, AreFilled, AreUnwanted, IsFilled, wanted_count};
 
 use crate::beginning::Beginning;
@@ -11,7 +12,7 @@ use crate::bytes::ByteKeys;
 use crate::names::AllNamePairs;
 use crate::strips::{Strips, low_variables};
 use crate::tally::Tally;
-use order_model::{Mask, Problem};
+use order_model::{Mask, Problem, VarIx};
 use std::alloc::{AllocError, Global};
 use std::marker::Model;
 use subset_layers::Block;
@@ -74,18 +75,61 @@ fn count_wanted(needed: &[Mask]) -> u64
     count
 }
 
-/// Whether something is wanted of a set whose variables below `y` are those of `set`.
-fn is_wanted(block: &Block, needed: &[Mask], set: Mask, y: u8) -> bool
-    requires few { y ≤ 16 }
+/// Whether something is wanted of a set that agrees with `set` in the decided variables.
+fn is_wanted(block: &Block, needed: &[Mask], set: Mask, decided: Mask) -> bool
     requires needed { length needed.now ≡ length (block_masks block.now) }
-    ensures { IsFalse result → AreUnwanted (block_masks block.now) needed.now set y }
+    ensures { IsFalse result → AreUnwanted (block_masks block.now) needed.now set decided }
 {
     for (i, wanted) in needed.iter().enumerate() {
-        if *wanted != 0 && u32::from(block.mask(i)) % (1u32 << y) == u32::from(set) {
+        if *wanted != 0 && block.mask(i) & decided == set {
             return true;
         }
     }
     false
+}
+
+/// A set with one more member.
+fn with_member(set: Mask, y: VarIx) -> Mask
+    requires { y < 16 }
+    ensures { result ≡ bit_or set (2 ^ y) }
+{
+    set | (1 << y)
+}
+
+/// Of how many sets that agree with `set` in the decided variables something is wanted.
+fn count_sets(block: &Block, needed: &[Mask], set: Mask, decided: Mask) -> usize
+    requires needed { length needed.now ≡ length (block_masks block.now) }
+{
+    let mut count = 0;
+    for (i, wanted) in needed.iter().enumerate() {
+        if *wanted != 0 && block.mask(i) & decided == set {
+            count += 1;
+        }
+    }
+    count
+}
+
+/// The undecided variable that most of the wanted sets have; nothing if all are decided. Tables
+/// halve with each variable, so what most sets share is made first.
+fn next_variable(block: &Block, needed: &[Mask], set: Mask, decided: Mask) -> Option<VarIx>
+    requires inputs { block.now.inputs ≤ 16 }
+    requires needed { length needed.now ≡ length (block_masks block.now) }
+    ensures undecided { IfSome result
+        (λ y. (y < block.now.inputs) × (bit_at decided y ≡ 0)) }
+    ensures all { IsNone result → (y : ℕ) → y < block.now.inputs → bit_at decided y ≡ 1 }
+{
+    let mut next = None;
+    let mut most = 0;
+    for y in 0..block.inputs() {
+        if (decided >> y) & 1 == 0 {
+            let count = count_sets(block, needed, with_member(set, y), with_member(decided, y));
+            if next.is_none() || count > most {
+                next = Some(y);
+                most = count;
+            }
+        }
+    }
+    next
 }
 
 /// Fills the row of the table's own set.
@@ -112,46 +156,46 @@ fn fill_row(
     Ok(())
 }
 
-/// Fills the rows of the sets that agree with the table's in the variables below `y`, and adds
-/// those from `y` on. The answer is how many tables were compacted.
+/// Fills the rows of the sets that agree with the table's in the decided variables, by a walk over
+/// the others. The answer is how many tables were compacted.
 fn walk(
     alloc: Global,
     table: &Strips<'_>,
     names: &AllNamePairs,
-    y: u8,
+    decided: Mask,
     block: &Block,
     needed: &[Mask],
     rows: &mut [[u32; 16]],
 ) -> Result<u32, AllocError>
     requires few { table.now.problem.inputs ≤ 16 }
     requires inputs { block.now.inputs ≡ table.now.problem.inputs }
-    requires variable { y ≤ table.now.problem.inputs }
-    requires high { low_of table.now.problem ≤ y }
-    requires set { table.now.set < 2 ^ y }
+    requires low { (y : ℕ) → y < low_of table.now.problem → bit_at decided y ≡ 1 }
+    requires set { bit_and table.now.set decided ≡ table.now.set }
     requires needed { length needed.now ≡ length (block_masks block.now) }
     requires rows { length rows.old ≡ length (block_masks block.now) }
     requires members { AreMembers table.now.problem (block_masks block.now) needed.now }
     requires blank { AreBlank table.now.problem (block_masks block.now) needed.now rows.old }
     ensures rows { OnOk result
-        (AreFilled table.now.problem (block_masks block.now) needed.now table.now.set y rows.old
-        rows.new) }
-    ensures compactions { IfOk result (λ count. count + 1 ≤ 2 ^ (table.now.problem.inputs - y)) }
+        (AreFilled table.now.problem (block_masks block.now) needed.now table.now.set decided
+        rows.old rows.new) }
+    ensures compactions { IfOk result
+        (λ count. count + 1 ≤ 2 ^ free_below decided table.now.problem.inputs) }
 {
     let set = table.set();
-    if !is_wanted(block, needed, set, y) {
+    if !is_wanted(block, needed, set, decided) {
         return Ok(0);
     }
-    if y == block.inputs() {
+    let Some(y) = next_variable(block, needed, set, decided) else {
         fill_row(alloc, table, block, needed, rows)?;
         return Ok(0);
-    }
-    let before = walk(alloc, table, names, y + 1, block, needed, rows)?;
-    if !is_wanted(block, needed, set + (1 << y), y + 1) {
+    };
+    let more = with_member(decided, y);
+    let before = walk(alloc, table, names, more, block, needed, rows)?;
+    if !is_wanted(block, needed, with_member(set, y), more) {
         return Ok(before);
     }
-    let known = names.at((set + (1 << y)) / 256);
-    let next = table.add_high(alloc, y, known)?;
-    let after = walk(alloc, &next, names, y + 1, block, needed, rows)?;
+    let next = table.add_high(alloc, y, names.at(set, y))?;
+    let after = walk(alloc, &next, names, more, block, needed, rows)?;
     Ok(before + after + 1)
 }
 
@@ -215,6 +259,13 @@ fn low_strips<'a>(
     add_members(alloc, strips, low, 3)
 }
 
+/// All low variables, as a mask.
+fn low_mask(problem: &Problem) -> Mask
+    ensures { result ≡ 2 ^ low_of problem.now - 1 }
+{
+    (1 << low_variables(problem)) - 1
+}
+
 /// Fills the rows of a block's sets from the table of its low byte, by a walk over the high
 /// variables. Returns how many tables were compacted.
 fn walk_from(
@@ -239,8 +290,8 @@ fn walk_from(
 {
     let problem = beginning.problem();
     prove!(problem.inputs() <= 16);
-    let low = low_variables(problem);
-    let count = walk(alloc, table, beginning.names(), low, block, needed, rows)?;
+    let decided = low_mask(problem);
+    let count = walk(alloc, table, beginning.names(), decided, block, needed, rows)?;
     Ok(count)
 }
 
@@ -263,7 +314,7 @@ fn wanted_rows(
     prove!(problem.inputs() <= 16);
     let low = Mask::from(block.low());
     let mut rows = blank_rows(alloc, block.len())?;
-    if !is_wanted(block, needed, low, low_variables(problem)) {
+    if !is_wanted(block, needed, low, low_mask(problem)) {
         return Ok(BlockWidths {
             rows,
             compactions: 0,

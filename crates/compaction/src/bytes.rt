@@ -107,6 +107,11 @@ impl<'a> ByteKeys<'a> {
         self.outer.as_slice()
     }
 
+    /// How many strips are kept.
+    pub fn strips(&self) -> usize {
+        self.bytes.len() / 32
+    }
+
     /// The keys with one more variable in the set.
     pub fn add(&self, alloc: Global, x: VarIx) -> Result<ByteKeys<'a>, AllocError>
         requires inner { x < 3 }

@@ -6,6 +6,7 @@ ghost use Rattle.class_laws.specs.PairTables.{AllBelow, IsPairTable};
 ghost use Rattle.pair_numbering.specs.Numbers.{ArePairsNumbered};
 
 use crate::add_variable::count_up;
+use order_model::{Mask, VarIx};
 use pair_numbering::{NumberedPairs, number_pairs};
 use std::alloc::{AllocError, Global};
 
@@ -112,11 +113,35 @@ pub fn number_names(
     number_pairs(alloc, names, rank, count)
 }
 
-/// The pairs of names for each set of high variables, by the mask of the set: the names of the set
-/// without its largest member, paired by that.
+/// The pairs of names of each set of high variables, by each variable outside it. Those of a set
+/// and the variable `8 + y` stand at eight times the set's high byte and `y`.
 #[derive(Drop)]
 pub struct AllNamePairs {
     steps: Vec<Option<NamePairs>>,
+}
+
+/// The pairs of a set's names by a variable, both counted from the first high variable: its names
+/// are the numbers of the pairs of the set without its lowest member.
+fn step_of(
+    alloc: Global,
+    names: &[u32],
+    steps: &[Option<NamePairs>],
+    set: usize,
+    y: u8,
+) -> Result<Option<NamePairs>, AllocError>
+    requires { y < 8 }
+{
+    let below = (set % (1usize << y)).count_ones().min(u32::from(y));
+    let rank = u32::from(y) - below;
+    if set == 0 {
+        return NamePairs::of(alloc, names, rank);
+    }
+    let lowest = set.trailing_zeros() as usize;
+    let without = set & (set - 1);
+    match steps.get(without.wrapping_mul(8).wrapping_add(lowest)) {
+        Some(Some(earlier)) => NamePairs::of(alloc, &earlier.numbers, rank),
+        _ => Ok(None),
+    }
 }
 
 impl AllNamePairs {
@@ -124,15 +149,13 @@ impl AllNamePairs {
     pub fn of(alloc: Global, names: &[u32], high: u8) -> Result<AllNamePairs, AllocError>
         requires { high ≤ 8 }
     {
-        let mut steps: Vec<Option<NamePairs>> = Vec::with_capacity(alloc, 1usize << high)?;
-        steps.push(None)?;
-        for largest in 0..high {
-            for without in 0..1usize << largest {
-                let rank = u32::from(largest) - without.count_ones().min(u32::from(largest));
-                let step = match steps.get(without) {
-                    Some(Some(earlier)) => NamePairs::of(alloc, &earlier.numbers, rank)?,
-                    _ if without == 0 => NamePairs::of(alloc, names, rank)?,
-                    _ => None,
+        let mut steps: Vec<Option<NamePairs>> = Vec::with_capacity(alloc, 8usize << high)?;
+        for set in 0..1usize << high {
+            for y in 0..8u8 {
+                let step = if y < high && (set >> y) & 1 == 0 {
+                    step_of(alloc, names, &steps, set, y)?
+                } else {
+                    None
                 };
                 steps.push(step)?;
             }
@@ -147,9 +170,9 @@ impl AllNamePairs {
         }
     }
 
-    /// What is known of the pairs of a set.
-    pub fn at(&self, high: u16) -> Option<&NamePairs> {
-        match self.steps.get(usize::from(high)) {
+    /// What is known of the pairs of a set by a high variable.
+    pub fn at(&self, set: Mask, y: VarIx) -> Option<&NamePairs> {
+        match self.steps.get(usize::from(set / 256) * 8 + usize::from(y % 8)) {
             Some(Some(step)) => Some(step),
             _ => None,
         }

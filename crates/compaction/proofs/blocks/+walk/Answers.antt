@@ -1,46 +1,82 @@
-use Rattle.std.proofs.Common.{◌<◌, ◌≤◌, ◌+◌, ◌-◌, ◌^◌, slice_index, refl, sym, ap, ◌∙◌, subst, arith}
-use Rattle.std.proofs.lemmas.Nat.{one_shl}
+use Rattle.std.proofs.Common.{◌≡◌, ◌<◌, ◌≤◌, ◌+◌, ◌-◌, ◌^◌, suc, bit_or, bit_and, slice_index, refl, sym, ap, ap₂, ◌∙◌, subst, arith}
+use Rattle.std.specs.Int.{bit_at}
 use Rattle.order_model.proofs.Lists.Orders.{has_at}
 use Rattle.subset_layers.specs.Layers.{block_masks}
 use Rattle.subset_layers.proofs.BlockLists.{in_block}
 use Rattle.compaction.specs.Strips.{low_variables}
-use Rattle.class_laws.specs.Table.{ClassesOf}
+use Rattle.class_laws.specs.Table.{ClassesOf, free_below}
 use Rattle.compaction.specs.Rows.{AreFilled, AreBlank, AreMembers}
 use Rattle.compaction.proofs.Filled.{filled_own, filled_lower, filled_both, blank_kept, few_compactions, fewer_compactions}
-use Rattle.class_laws.proofs.LowSets.{set_new, low_or, next_small}
+use Rattle.compaction.proofs.Decided.{all_decided, lacks_new, within_same, within_more, decided_more, undecided_high, free_with, few_free}
 use Rattle.compaction.proofs.blocks.+walk.Goals as goal
 
-pub returns-then-y-inputs-clause-rows : goal.returns-then-y-inputs-clause-rows
-returns-then-y-inputs-clause-rows t c =
+pub returns-in_default-clause-rows : goal.returns-in_default-clause-rows
+returns-in_default-clause-rows t c =
     let masks = block_masks c.args.block.now in
-    filled_own c.args.table.now.problem masks c.args.needed.now c.args.table.now.set c.args.y c.args.rows.now c.fill_row.new.rows
-    (λ i lt. let b = in_block c.args.block.now (slice_index masks i) (has_at masks i lt) in let e = c.if-y-inputs.true ∙ c.inputs.ensures in
-    subst (λ k. slice_index masks i < 2 ^ k) (sym e) b.0)
+    filled_own c.args.table.now.problem masks c.args.needed.now c.args.table.now.set c.args.decided c.args.rows.now c.fill_row.new.rows
+    (λ i lt. all_decided c.args.block.now.inputs (slice_index masks i) c.args.decided
+    (in_block c.args.block.now (slice_index masks i) (has_at masks i lt)).0 (c.in_default.ensures.all refl))
     c.in_ok-fill_row.ensures
+
+pub walk-requires : goal.walk-requires
+walk-requires t c =
+    let p = c.args.table.now.problem in
+    let y = c.in-Some.y in
+    let m = c.with_member-more.ensures in
+    let u = c.in-Some.ensures.undecided in
+    let w = c.requires.inputs in
+    let f = free_with p.inputs c.args.decided y (omega arith) u.1 in
+    let e = ap (λ k. free_below k p.inputs) m in
+    let d = c.decreases in (
+      omega arith,
+      (
+        c.requires.few,
+        (
+          w,
+          (
+            λ z lt. ap (λ k. bit_at k z) m ∙ decided_more c.args.decided y z (c.requires.low z lt),
+            (
+              ap (bit_and c.args.table.now.set) m ∙ within_same c.args.table.now.set c.args.decided y c.requires.set,
+              (c.requires.needed, (c.requires.rows, (c.requires.members, c.requires.blank))),
+            ),
+          ),
+        ),
+      ),
+    )
 
 pub returns-then-not-is_wanted-2-clause-rows : goal.returns-then-not-is_wanted-2-clause-rows
 returns-then-not-is_wanted-2-clause-rows t c =
     let p = c.args.table.now.problem in
     let masks = block_masks c.args.block.now in
+    let needed = c.args.needed.now in
     let set = c.args.table.now.set in
+    let y = c.in-Some.y in
+    let m = c.with_member-more.ensures in
     let a = c.in_ok-before.ensures.rows in
-    let few = c.requires.few in
-    let v = c.requires.variable in
-    let s = one_shl c.args.y 16 (let z = c.if-y-inputs.false in let q = c.inputs.ensures in let w = c.requires.inputs in omega arith) in
-    filled_lower p masks c.args.needed.now set c.args.y c.args.rows.now c.walk.new.rows c.requires.set a
-    (blank_kept p masks c.args.needed.now set (c.args.y + 1) c.args.rows.now c.walk.new.rows c.requires.blank a)
-    (λ i lt e. c.if-not-is_wanted-2.ensures refl i lt (e ∙ sym (λ k. c.set-set.ensures k + s k))) c.requires.needed
+    filled_lower p masks needed set c.args.decided y c.args.rows.now c.walk.new.rows c.in-Some.ensures.undecided.1 c.requires.set
+    (subst (λ k. AreFilled p masks needed set k c.args.rows.now c.walk.new.rows) m a)
+    (blank_kept p masks needed set c.with_member-more.result c.args.rows.now c.walk.new.rows c.requires.blank a)
+    (λ i lt e. c.if-not-is_wanted-2.ensures refl i lt
+    (ap (bit_and (slice_index masks i)) m ∙ e ∙ sym (c.with_member.ensures ∙ ap (λ s. bit_or s (2 ^ y)) c.set-set.ensures)))
+    c.requires.needed
 
 pub returns-then-not-is_wanted-2-clause-compactions : goal.returns-then-not-is_wanted-2-clause-compactions
 returns-then-not-is_wanted-2-clause-compactions t c =
-    let z = c.if-y-inputs.false in
-    let q = c.inputs.ensures in
+    let n = c.args.table.now.problem.inputs in
+    let y = c.in-Some.y in
+    let u = c.in-Some.ensures.undecided in
     let w = c.requires.inputs in
-    let v = c.requires.variable in
-    fewer_compactions c.args.table.now.problem.inputs c.args.y c.in_ok-before.before (omega arith) c.in_ok-before.ensures.compactions
+    let f = free_with n c.args.decided y (omega arith) u.1 in
+    let before = subst (λ k. c.in_ok-before.before + 1 ≤ 2 ^ free_below k n) c.with_member-more.ensures c.in_ok-before.ensures.compactions in
+    subst (λ k. c.in_ok-before.before + 1 ≤ 2 ^ k) (sym f)
+    (fewer_compactions (free_below (bit_or c.args.decided (2 ^ y)) n) c.in_ok-before.before before)
+
+pub add_high-requires-clause-high : goal.add_high-requires-clause-high
+add_high-requires-clause-high t c = undecided_high (low_variables c.args.table.now.problem) c.args.decided c.in-Some.y c.in-Some.ensures.undecided.1 c.requires.low
 
 pub add_high-requires-clause-new : goal.add_high-requires-clause-new
-add_high-requires-clause-new t c = set_new c.args.table.now.problem.inputs c.args.table.now.set c.args.y c.requires.set
+add_high-requires-clause-new t c =
+    lacks_new c.args.table.now.problem.inputs c.args.table.now.set c.args.decided c.in-Some.y c.in-Some.ensures.undecided.1 c.requires.set
 
 pub walk-requires-2 : goal.walk-requires-2
 walk-requires-2 t c =
@@ -48,13 +84,14 @@ walk-requires-2 t c =
     let masks = block_masks c.args.block.now in
     let needed = c.args.needed.now in
     let set = c.args.table.now.set in
-    let e = ap (λ (u : ClassesOf). u.problem.inputs) c.in_ok-next.ensures in
-    let s = ap (λ (u : ClassesOf). u.set) c.in_ok-next.ensures ∙ low_or set c.args.y c.requires.set in
-    let n = next_small set c.args.y c.requires.set in
-    let z = c.if-y-inputs.false in
-    let q = c.inputs.ensures in
+    let y = c.in-Some.y in
+    let m = c.with_member-more.ensures in
+    let u = c.in-Some.ensures.undecided in
     let w = c.requires.inputs in
-    let v = c.requires.variable in
+    let f = free_with p.inputs c.args.decided y (omega arith) u.1 in
+    let n = ap (λ (z : ClassesOf). z.problem.inputs) c.in_ok-next.ensures in
+    let e = ap₂ free_below m n in
+    let s = ap (λ (z : ClassesOf). z.set) c.in_ok-next.ensures in
     let few = c.requires.few in
     let long = c.walk.auto.rows in
     let l = c.requires.rows in
@@ -63,22 +100,20 @@ walk-requires-2 t c =
       (
         omega arith,
         (
-          w ∙ sym e,
+          w ∙ sym n,
           (
-            omega arith,
+            subst (λ (z : ClassesOf). (x : _) → x < low_variables z.problem → bit_at c.with_member-more.result x ≡ 1) (sym c.in_ok-next.ensures)
+            (λ x lt. ap (λ k. bit_at k x) m ∙ decided_more c.args.decided y x (c.requires.low x lt)),
             (
-              (let g = c.requires.high in let e' = ap (λ (u : ClassesOf). low_variables u.problem) c.in_ok-next.ensures in omega arith),
+              ap₂ bit_and s m ∙ within_more set c.args.decided y c.requires.set ∙ sym s,
               (
-                omega arith,
+                c.requires.needed,
                 (
-                  c.requires.needed,
+                  omega arith,
                   (
-                    omega arith,
-                    (
-                      subst (λ (u : ClassesOf). AreMembers u.problem masks needed) (sym c.in_ok-next.ensures) c.requires.members,
-                      subst (λ (u : ClassesOf). AreBlank u.problem masks needed c.walk.new.rows) (sym c.in_ok-next.ensures)
-                          (blank_kept p masks needed set (c.args.y + 1) c.args.rows.now c.walk.new.rows c.requires.blank c.in_ok-before.ensures.rows),
-                    ),
+                    subst (λ (z : ClassesOf). AreMembers z.problem masks needed) (sym c.in_ok-next.ensures) c.requires.members,
+                    subst (λ (z : ClassesOf). AreBlank z.problem masks needed c.walk.new.rows) (sym c.in_ok-next.ensures)
+                        (blank_kept p masks needed set c.with_member-more.result c.args.rows.now c.walk.new.rows c.requires.blank c.in_ok-before.ensures.rows),
                   ),
                 ),
               ),
@@ -88,22 +123,53 @@ walk-requires-2 t c =
       ),
     )
 
+pub overflow_add-result : goal.overflow_add-result
+overflow_add-result t c =
+    let a = c.in_ok-before.ensures.compactions in
+    let b = c.in_ok-after.ensures.compactions in
+    let few = c.requires.few in
+    let n = ap (λ (z : ClassesOf). z.problem.inputs) c.in_ok-next.ensures in
+    let x = few_free c.args.table.now.problem.inputs c.with_member-more.result few in
+    let z = few_free c.in_ok-next.next.problem.inputs c.with_member-more.result (omega arith) in
+    omega arith
+
+pub overflow_add-result-2 : goal.overflow_add-result-2
+overflow_add-result-2 t c =
+    let a = c.in_ok-before.ensures.compactions in
+    let b = c.in_ok-after.ensures.compactions in
+    let few = c.requires.few in
+    let n = ap (λ (z : ClassesOf). z.problem.inputs) c.in_ok-next.ensures in
+    let x = few_free c.args.table.now.problem.inputs c.with_member-more.result few in
+    let z = few_free c.in_ok-next.next.problem.inputs c.with_member-more.result (omega arith) in
+    omega arith
+
 pub returns-clause-rows : goal.returns-clause-rows
 returns-clause-rows t c =
     let p = c.args.table.now.problem in
     let masks = block_masks c.args.block.now in
+    let needed = c.args.needed.now in
     let set = c.args.table.now.set in
-    filled_both p masks c.args.needed.now set c.args.y c.args.rows.now c.walk.new.rows c.walk-2.new.rows c.requires.set c.in_ok-before.ensures.rows
-    (subst (λ k. AreFilled p masks c.args.needed.now k (c.args.y + 1) c.walk.new.rows c.walk-2.new.rows) (low_or set c.args.y c.requires.set)
-    (subst (λ (u : ClassesOf). AreFilled u.problem masks c.args.needed.now u.set (c.args.y + 1) c.walk.new.rows c.walk-2.new.rows)
+    let y = c.in-Some.y in
+    let m = c.with_member-more.ensures in
+    filled_both p masks needed set c.args.decided y c.args.rows.now c.walk.new.rows c.walk-2.new.rows c.in-Some.ensures.undecided.1 c.requires.set
+    (subst (λ k. AreFilled p masks needed set k c.args.rows.now c.walk.new.rows) m c.in_ok-before.ensures.rows)
+    (subst (λ k. AreFilled p masks needed (bit_or set (2 ^ y)) k c.walk.new.rows c.walk-2.new.rows) m
+    (subst (λ (z : ClassesOf). AreFilled z.problem masks needed z.set c.with_member-more.result c.walk.new.rows c.walk-2.new.rows)
     c.in_ok-next.ensures c.in_ok-after.ensures.rows))
 
 pub returns-clause-compactions : goal.returns-clause-compactions
 returns-clause-compactions t c =
-    let z = c.if-y-inputs.false in
-    let q = c.inputs.ensures in
+    let n = c.args.table.now.problem.inputs in
+    let y = c.in-Some.y in
+    let m = c.with_member-more.ensures in
+    let u = c.in-Some.ensures.undecided in
     let w = c.requires.inputs in
-    let v = c.requires.variable in
-    let e = ap (λ (u : ClassesOf). u.problem.inputs) c.in_ok-next.ensures in
-    few_compactions c.args.table.now.problem.inputs c.args.y c.in_ok-before.before c.in_ok-after.after (omega arith) c.in_ok-before.ensures.compactions
-    (subst (λ (u : ClassesOf). c.in_ok-after.after + 1 ≤ 2 ^ (u.problem.inputs - (c.args.y + 1))) c.in_ok-next.ensures c.in_ok-after.ensures.compactions)
+    let f = free_with n c.args.decided y (omega arith) u.1 in
+    let undecided = free_below (bit_or c.args.decided (2 ^ y)) n in
+    let before = subst (λ k. c.in_ok-before.before + 1 ≤ 2 ^ free_below k n) m c.in_ok-before.ensures.compactions in
+    let after =
+    subst (λ k. c.in_ok-after.after + 1 ≤ 2 ^ free_below k n) m
+    (subst (λ (z : ClassesOf). c.in_ok-after.after + 1 ≤ 2 ^ free_below c.with_member-more.result z.problem.inputs)
+    c.in_ok-next.ensures c.in_ok-after.ensures.compactions) in
+    subst (λ k. c.in_ok-before.before + c.in_ok-after.after + 1 + 1 ≤ 2 ^ k) (sym f)
+    (few_compactions undecided c.in_ok-before.before c.in_ok-after.after before after)

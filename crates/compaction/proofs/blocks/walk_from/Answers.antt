@@ -1,25 +1,39 @@
-use Rattle.std.proofs.Common.{◌<◌, ◌^◌, slice_index, sym, ap, ◌∙◌, subst, arith}
+use Rattle.std.proofs.Common.{◌<◌, ◌≤◌, ◌+◌, ◌^◌, ◌-◌, ◌≡◌, slice_index, bit_and, refl, sym, ap, ap₂, ◌∙◌, subst, arith}
+use Rattle.std.specs.Int.{bit_at}
+use Rattle.std.proofs.lemmas.Nat.Bits.{bit_at_ones}
+use Rattle.order_model.specs.Problems.{TruthTables}
 use Rattle.order_model.proofs.Lists.Orders.{has_at}
 use Rattle.subset_layers.specs.Layers.{block_masks}
 use Rattle.subset_layers.proofs.BlockLists.{in_block}
-use Rattle.class_laws.specs.Table.{ClassesOf}
+use Rattle.class_laws.specs.Table.{ClassesOf, free_below}
 use Rattle.compaction.specs.Rows.{AreFilled}
 use Rattle.compaction.specs.Strips.{low_variables as low_of}
 use Rattle.compaction.proofs.Filled.{agree_low}
+use Rattle.compaction.proofs.Decided.{within_ones, free_ones}
 use Rattle.compaction.proofs.blocks.walk_from.Goals as goal
+
+pub walk-requires-clause-low : goal.walk-requires-clause-low
+walk-requires-clause-low c =
+    let d = c.low_mask-decided.ensures ∙ ap (λ (p : TruthTables). 2 ^ low_of p - 1) c.problem-problem.ensures in
+    λ y lt. ap (λ k. bit_at k y) d
+    ∙ bit_at_ones (low_of c.args.beginning.now) y (subst (λ (t : ClassesOf). y < low_of t.problem) c.requires.table lt)
 
 pub walk-requires-clause-set : goal.walk-requires-clause-set
 walk-requires-clause-set c =
-    let e = ap (λ (t : ClassesOf). t.set) c.requires.table in
-    let l = c.low_variables-low.ensures ∙ ap low_of c.problem-problem.ensures in
-    subst (λ k. c.args.table.now.set < 2 ^ k) (sym l) (subst (λ s. s < 2 ^ low_of c.args.beginning.now) (sym e) c.requires.low)
+    let d = c.low_mask-decided.ensures ∙ ap (λ (p : TruthTables). 2 ^ low_of p - 1) c.problem-problem.ensures in
+    let s = ap (λ (t : ClassesOf). t.set) c.requires.table in
+    ap₂ bit_and s d ∙ within_ones c.args.block.now.low (low_of c.args.beginning.now) c.requires.low ∙ sym s
 
 pub returns-clause-rows : goal.returns-clause-rows
 returns-clause-rows c =
     let masks = block_masks c.args.block.now in
+    let needed = c.args.needed.now in
+    let p = c.args.beginning.now in
+    let d = c.low_mask-decided.ensures ∙ ap (λ (q : TruthTables). 2 ^ low_of q - 1) c.problem-problem.ensures in
     let filled =
-    subst (λ (t : ClassesOf). AreFilled t.problem masks c.args.needed.now t.set c.low_variables-low.result c.args.rows.now c.walk.new.rows)
-    c.requires.table c.in_ok-count.ensures.rows in
+    subst (λ k. AreFilled p masks needed c.args.block.now.low k c.args.rows.now c.walk.new.rows) d
+    (subst (λ (t : ClassesOf). AreFilled t.problem masks needed t.set c.low_mask-decided.result c.args.rows.now c.walk.new.rows)
+    c.requires.table c.in_ok-count.ensures.rows) in
     let a = c.walk.auto.rows in
     let l = c.requires.rows in
     record {
@@ -27,7 +41,15 @@ returns-clause-rows c =
       are = λ i lt.
           let b = in_block c.args.block.now (slice_index masks i) (has_at masks i lt) in
           (filled i lt).0
-          (agree_low c.args.beginning.now.inputs c.args.block.now.low (slice_index masks i) c.low_variables-low.result
-          (c.low_variables-low.ensures ∙ ap low_of c.problem-problem.ensures)
+          (agree_low p.inputs c.args.block.now.low (slice_index masks i) (low_of p) refl
           (subst (λ m. slice_index masks i < 2 ^ m) c.requires.inputs b.0) b.1);
     }
+
+pub returns-clause-compactions : goal.returns-clause-compactions
+returns-clause-compactions c =
+    let p = c.args.beginning.now in
+    let d = c.low_mask-decided.ensures ∙ ap (λ (q : TruthTables). 2 ^ low_of q - 1) c.problem-problem.ensures in
+    subst (λ k. c.in_ok-count.count + 1 ≤ 2 ^ k) (free_ones (low_of p) p.inputs)
+    (subst (λ k. c.in_ok-count.count + 1 ≤ 2 ^ free_below k p.inputs) d
+    (subst (λ (t : ClassesOf). c.in_ok-count.count + 1 ≤ 2 ^ free_below c.low_mask-decided.result t.problem.inputs)
+    c.requires.table c.in_ok-count.ensures.compactions))

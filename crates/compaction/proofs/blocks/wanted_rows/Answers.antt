@@ -1,9 +1,10 @@
-use Rattle.std.proofs.Common.{Vec, Global, ◌≡◌, ◌<◌, ◌^◌, [], ℕ, List, length, slice_index, get_or, refl, sym, ap, ◌∙◌, subst, arith}
+use Rattle.std.proofs.Common.{Vec, Global, ◌≡◌, ◌<◌, ◌^◌, ◌-◌, bit_and, [], ℕ, List, length, slice_index, get_or, refl, sym, ap, ◌∙◌, subst, arith}
 use Rattle.order_model.specs.Problems.{TruthTables}
 use Rattle.order_model.proofs.Lists.Orders.{has_at}
 use Rattle.subset_layers.specs.Layers.{block_masks}
 use Rattle.subset_layers.proofs.BlockLists.{in_block}
 use Rattle.compaction.specs.Rows.{AreRows}
+use Rattle.compaction.specs.Strips.{low_variables as low_of}
 use Rattle.compaction.proofs.Filled.{agree_low, rows_back, blank_row}
 use Rattle.compaction.proofs.blocks.wanted_rows.Goals as goal
 use Rattle.compaction.proofs.blocks.wanted_rows.Goals.{in-Some+in_ok-walked-in-Some, in-None+in_ok-table-in-None+in_ok-walked-in-None}
@@ -34,8 +35,8 @@ returns-then-not-is_wanted-clause-rows c =
           let b = in_block c.args.block.now (slice_index masks i) (has_at masks i lt) in
           blank_row c.args.beginning.now (slice_index masks i) (slice_index c.args.needed.now i) x (get_or c.in_ok-rows.rows.items i [])
           (c.if-not-is_wanted.ensures refl i (omega arith)
-          (agree_low c.args.beginning.now.inputs c.from-low.result (slice_index masks i) c.low_variables.result
-          (let m = c.low_variables.ensures in let q = ap (λ (t : TruthTables). t.inputs) c.problem-problem.ensures in omega arith)
+          (ap (bit_and (slice_index masks i)) (c.low_mask.ensures ∙ ap (λ (t : TruthTables). 2 ^ low_of t - 1) c.problem-problem.ensures)
+          ∙ agree_low c.args.beginning.now.inputs c.from-low.result (slice_index masks i) (low_of c.args.beginning.now) refl
           (subst (λ m. slice_index masks i < 2 ^ m) c.requires.inputs b.0) (b.1 ∙ sym (c.from-low.ensures ∙ c.low.ensures.value))))
           (c.in_ok-rows.ensures.zeros i x (omega arith));
     }
