@@ -17,8 +17,8 @@ from concurrent.futures import FIRST_COMPLETED, ThreadPoolExecutor, wait
 TOP = os.path.dirname(os.path.dirname(os.path.abspath(__file__)))
 GIGABYTES_A_JOB = 3
 GIGABYTES_A_FURTHER_JOB = 1
-# a proof of one crate gains little from more
-MOST_JOBS = 4
+# each job reads all libraries below anew: with four of them a proof takes longer than with two
+MOST_JOBS = 2
 
 
 def listed():

@@ -2,8 +2,7 @@
 --     low_more, low_same      the part of a mask below one variable more
 --     low_new, low_all      it lacks the variable; below all variables it is the mask
 --     bit_unset, member_from, unset_bit      a bit of a mask, and its member
---     split_low, join_low, join_high      masks that agree with a set below a variable, and below the next
-use Rattle.std.proofs.Common.{◌≡◌, ◌≢◌, ℕ, ◌+◌, ◌*◌, ◌/◌, ◌%◌, ◌^◌, ◌<◌, Bool, true, false, ◌&&◌, inl, inr, set, refl, sym, ap, ◌∙◌, arith, eqb, ne_eqb, bit_and, bit_or, zero-mul}
+use Rattle.std.proofs.Common.{◌≡◌, ◌≢◌, ℕ, ◌+◌, ◌*◌, ◌/◌, ◌%◌, ◌^◌, ◌<◌, Bool, true, false, ◌&&◌, inl, inr, refl, sym, ap, ◌∙◌, arith, eqb, ne_eqb, bit_and, bit_or, zero-mul}
 use Rattle.std.specs.Int.{bit_at}
 use Rattle.std.proofs.Math.Nat.{mod-lt, mod-eq_of_lt}
 use Rattle.std.proofs.lemmas.Bool.{cases_eq, true≢false}
@@ -11,8 +10,6 @@ use Rattle.std.proofs.lemmas.Nat.{pow_pos, or_disjoint, mod-pow-add}
 use Rattle.std.proofs.lemmas.Nat.Bits.{shr_and_one, bit_at_above, and_pow, bit_at-lt}
 use Rattle.order_model.specs.Orders.{has, members, variables}
 use Rattle.order_model.proofs.Bits.Masks.{has_members}
-use Rattle.std.proofs.Common.{◌⊎◌, suc}
-use Rattle.std.proofs.Math.Nat.{two-pow-succ}
 use Rattle.order_model.proofs.Precedence.MaskLaws.{member_from}
 
 low_bits : (mask y : ℕ) → mask % 2 ^ (y + 1) ≡ (mask / 2 ^ y % 2) * 2 ^ y + mask % 2 ^ y
@@ -63,32 +60,3 @@ unset_bit n mask y lt e =
 
 pub low_all : (n mask : ℕ) → mask < 2 ^ n → mask % 2 ^ n ≡ mask
 low_all n mask h = mod-eq_of_lt h
-
-pub low_or : (set y : ℕ) → set < 2 ^ y → bit_or set (2 ^ y) ≡ set + 2 ^ y
-low_or set y h = or_disjoint set (2 ^ y) (and_pow set y ∙ ap (λ b. b * 2 ^ y) (bit_at_above set y y h (omega arith)) ∙ zero-mul (2 ^ y))
-
-pub next_small : (set y : ℕ) → set < 2 ^ y → set + 2 ^ y < 2 ^ (y + 1)
-next_small set y h = let t = two-pow-succ y in let s : 2 ^ (y + 1) ≡ 2 ^ suc y = ap (λ k. 2 ^ k) (omega arith) in omega arith
-
-pub set_new : (n set y : ℕ) → set < 2 ^ y → has (members n set) y ≡ false
-set_new n set y h = ap (λ m. has (members n m) y) (sym (mod-eq_of_lt h)) ∙ low_new n set y
-
--- a mask that agrees below y agrees below y + 1 with the set, or with the set with y
-pub split_low : (mask set y : ℕ) → set < 2 ^ y → mask % 2 ^ y ≡ set → (mask % 2 ^ (y + 1) ≡ set) ⊎ (mask % 2 ^ (y + 1) ≡ set + 2 ^ y)
-split_low mask set y h e = elim (cases_eq (bit_and (mask / 2 ^ y) 1) 1) [
-  | inl one ↦ inr (sym (low_more mask y one) ∙ ap (λ m. bit_or m (2 ^ y)) e ∙ low_or set y h)
-  | inr none ↦ inl (sym (low_same mask y none) ∙ e)
-]
-
--- agreeing below y + 1 is agreeing below y
-pub join_low : (mask set y : ℕ) → set < 2 ^ y → mask % 2 ^ (y + 1) ≡ set → mask % 2 ^ y ≡ set
-join_low mask set y h e = elim (cases_eq (bit_and (mask / 2 ^ y) 1) 1) [
-  | inl one ↦ let s = sym (low_or (mask % 2 ^ y) y (mod-lt mask (pow_pos y))) ∙ low_more mask y one ∙ e in absurd (omega arith)
-  | inr none ↦ low_same mask y none ∙ e
-]
-
-pub join_high : (mask set y : ℕ) → set < 2 ^ y → mask % 2 ^ (y + 1) ≡ set + 2 ^ y → mask % 2 ^ y ≡ set
-join_high mask set y h e = elim (cases_eq (bit_and (mask / 2 ^ y) 1) 1) [
-  | inl one ↦ let s = sym (low_or (mask % 2 ^ y) y (mod-lt mask (pow_pos y))) ∙ low_more mask y one ∙ e in omega arith
-  | inr none ↦ let s = low_same mask y none ∙ e in let l = mod-lt mask (pow_pos y) in absurd (omega arith)
-]

@@ -8,7 +8,7 @@
 --     undecided_high      an undecided variable is high
 --     within_ones      a set of low variables lies within them
 --     free_ones, few_free      how many variables are undecided at first, and at most
-use Rattle.std.proofs.Common.{◌≡◌, ℕ, zero, suc, ◌+◌, ◌-◌, ◌*◌, ◌/◌, ◌^◌, ◌<◌, ◌≤◌, min, max, cond, not, eqb, ne_eqb, false, inl, inr, ◌⊎◌, refl, sym, ap, ◌∙◌, arith, bit_and, bit_or, zero-mul, pow_mono}
+use Rattle.std.proofs.Common.{◌≡◌, ℕ, zero, suc, ◌+◌, ◌-◌, ◌*◌, ◌^◌, ◌<◌, ◌≤◌, min, max, false, inl, inr, ◌⊎◌, sym, ap, ◌∙◌, arith, bit_and, bit_or, zero-mul, pow_mono}
 use Rattle.std.specs.Int.{bit_at}
 use Rattle.std.proofs.Math.Nat.{mod-eq_of_lt}
 use Rattle.std.proofs.lemmas.Bool.{cases_eq, cases_lt}

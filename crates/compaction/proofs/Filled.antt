@@ -65,7 +65,7 @@ module _ (p : TruthTables) (masks needed : List ℕ) where
       | inr high ↦ (b i lt).0 high
     ],
     λ ne. (b i lt).1 (λ s. ne (join_with (slice_index masks i) set decided y undecided within s))
-    ∙ (a i lt).1 (λ s. ne (join_without (slice_index masks i) set decided y within s)),
+        ∙ (a i lt).1 (λ s. ne (join_without (slice_index masks i) set decided y within s)),
   )
 
   -- nothing is wanted of those with it

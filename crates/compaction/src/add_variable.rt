@@ -11,7 +11,7 @@ use std::alloc::{AllocError, Global};
 /// Strips, the names of the runs, and the mask of each number. If `all_used` is true each mask is
 /// that of a number that occurs.
 #[derive(Drop)]
-pub struct Grown {
+pub struct StripParts {
     pub outer: Vec<u32>,
     pub numbers: Vec<u32>,
     pub masks: Vec<u16>,
@@ -19,7 +19,7 @@ pub struct Grown {
 }
 
 /// Whether the numbers count up from 0, as they do if each is new.
-pub fn count_up(numbers: &[u32]) -> bool
+pub fn are_in_order(numbers: &[u32]) -> bool
     ensures up { IsTrue result → AreOwn numbers.now }
     ensures all { AreOwn numbers.now → IsTrue result }
 {
@@ -89,7 +89,7 @@ fn add_in_order(
     bits: u32,
     x: u8,
     masks: &[u16],
-) -> Result<Grown, AllocError>
+) -> Result<StripParts, AllocError>
     requires table { IsStripTable outer.now rank numbers.now bits masks.now }
     requires variable { x < 16 }
     requires own { AreOwn outer.now }
@@ -99,7 +99,7 @@ fn add_in_order(
 {
     let told = tell_pairs(alloc, numbers, bits + rank, x, masks)?;
     let outer = first_numbers(alloc, outer.len() / 2)?;
-    Ok(Grown {
+    Ok(StripParts {
         outer,
         numbers: told.numbers,
         masks: told.masks,
@@ -118,7 +118,7 @@ fn add_by_pairs(
     x: u8,
     masks: &[u16],
     known: Option<&NamePairs>,
-) -> Result<Grown, AllocError>
+) -> Result<StripParts, AllocError>
     requires table { IsStripTable outer.now rank numbers.now bits masks.now }
     requires variable { x < 16 }
     ensures { IfOk result (λ g.
@@ -128,7 +128,7 @@ fn add_by_pairs(
     let runs = number_names(alloc, outer, rank, numbers.len() >> bits, known)?;
     let paired = pair_strips(alloc, &runs.pairs, numbers, bits)?;
     let told = tell_pairs(alloc, &paired, bits, x, masks)?;
-    Ok(Grown {
+    Ok(StripParts {
         outer: runs.numbers,
         numbers: told.numbers,
         masks: told.masks,
@@ -146,14 +146,14 @@ pub fn add_above(
     x: u8,
     masks: &[u16],
     known: Option<&NamePairs>,
-) -> Result<Grown, AllocError>
+) -> Result<StripParts, AllocError>
     requires table { IsStripTable outer.now rank numbers.now bits masks.now }
     requires variable { x < 16 }
     ensures { IfOk result (λ g.
         GrowsStrips outer.now rank numbers.now bits masks.now x g.outer.items g.numbers.items
         g.masks.items g.all_used) }
 {
-    let grown = if count_up(outer) {
+    let grown = if are_in_order(outer) {
         add_in_order(alloc, outer, rank, numbers, bits, x, masks)?
     } else {
         add_by_pairs(alloc, outer, rank, numbers, bits, x, masks, known)?

@@ -96,21 +96,25 @@ fn with_member(set: Mask, y: VarIx) -> Mask
     set | (1 << y)
 }
 
-/// Of how many sets that agree with `set` in the decided variables something is wanted.
-fn count_sets(block: &Block, needed: &[Mask], set: Mask, decided: Mask) -> usize
+/// How many of the wanted sets that agree with `set` in the decided variables have each variable.
+fn count_members(block: &Block, needed: &[Mask], set: Mask, decided: Mask) -> [u16; 16]
     requires needed { length needed.now ≡ length (block_masks block.now) }
 {
-    let mut count = 0;
+    let mut counts = [0u16; 16];
     for (i, wanted) in needed.iter().enumerate() {
-        if *wanted != 0 && block.mask(i) & decided == set {
-            count += 1;
+        let mask = block.mask(i);
+        if *wanted != 0 && mask & decided == set {
+            for y in 0..16usize {
+                counts[y] = counts[y].wrapping_add((mask >> y) & 1);
+            }
         }
     }
-    count
+    counts
 }
 
 /// The undecided variable that most of the wanted sets have; nothing if all are decided. Tables
-/// halve with each variable, so what most sets share is made first.
+/// halve with each variable, so what most sets share is made first. The last two variables aren't
+/// worth the count.
 fn next_variable(block: &Block, needed: &[Mask], set: Mask, decided: Mask) -> Option<VarIx>
     requires inputs { block.now.inputs ≤ 16 }
     requires needed { length needed.now ≡ length (block_masks block.now) }
@@ -118,15 +122,18 @@ fn next_variable(block: &Block, needed: &[Mask], set: Mask, decided: Mask) -> Op
         (λ y. (y < block.now.inputs) × (bit_at decided y ≡ 0)) }
     ensures all { IsNone result → (y : ℕ) → y < block.now.inputs → bit_at decided y ≡ 1 }
 {
+    let counts = if decided.count_ones() + 2 < u32::from(block.inputs()) {
+        count_members(block, needed, set, decided)
+    } else {
+        [0; 16]
+    };
     let mut next = None;
     let mut most = 0;
     for y in 0..block.inputs() {
-        if (decided >> y) & 1 == 0 {
-            let count = count_sets(block, needed, with_member(set, y), with_member(decided, y));
-            if next.is_none() || count > most {
-                next = Some(y);
-                most = count;
-            }
+        let count = counts[usize::from(y)];
+        if (decided >> y) & 1 == 0 && (next.is_none() || count > most) {
+            next = Some(y);
+            most = count;
         }
     }
     next
@@ -291,7 +298,15 @@ fn walk_from(
     let problem = beginning.problem();
     prove!(problem.inputs() <= 16);
     let decided = low_mask(problem);
-    let count = walk(alloc, table, beginning.names(), decided, block, needed, rows)?;
+    let count = walk(
+        alloc,
+        table,
+        beginning.names(),
+        decided,
+        block,
+        needed,
+        rows,
+    )?;
     Ok(count)
 }
 

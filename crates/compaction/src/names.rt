@@ -5,7 +5,7 @@ ghost use Rattle.std.specs.Prelude.{◌≡◌, ℕ, ◌*◌, ◌^◌, ◌<◌, �
 ghost use Rattle.class_laws.specs.PairTables.{AllBelow, IsPairTable};
 ghost use Rattle.pair_numbering.specs.Numbers.{ArePairsNumbered};
 
-use crate::add_variable::count_up;
+use crate::add_variable::are_in_order;
 use order_model::{Mask, VarIx};
 use pair_numbering::{NumberedPairs, number_pairs};
 use std::alloc::{AllocError, Global};
@@ -64,7 +64,7 @@ impl NamePairs {
     fn of(alloc: Global, names: &[u32], rank: u32) -> Result<Option<NamePairs>, AllocError>
         requires rank { rank < 16 }
     {
-        if names.len() > 1 << 12 || !are_whole(names.len(), rank) || count_up(names) {
+        if names.len() > 1 << 12 || !are_whole(names.len(), rank) || are_in_order(names) {
             return Ok(None);
         }
         if !are_below(names, names.len()) {
@@ -172,7 +172,10 @@ impl AllNamePairs {
 
     /// What is known of the pairs of a set by a high variable.
     pub fn at(&self, set: Mask, y: VarIx) -> Option<&NamePairs> {
-        match self.steps.get(usize::from(set / 256) * 8 + usize::from(y % 8)) {
+        match self
+            .steps
+            .get(usize::from(set / 256) * 8 + usize::from(y % 8))
+        {
             Some(Some(step)) => Some(step),
             _ => None,
         }

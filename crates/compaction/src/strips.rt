@@ -8,7 +8,7 @@ ghost use Rattle.class_laws.specs.PairTables.{AllBelow, AreOwn};
 ghost use Rattle.pair_numbering.specs.Keys.{AreUsed};
 ghost use Rattle.compaction.specs.Strips.{masks_in_use, low_variables as low_of};
 
-use crate::add_variable::{add_above, count_up};
+use crate::add_variable::{add_above, are_in_order};
 use crate::classes::{rank_of, row_of};
 use crate::columns::{ValueStrips, whole_strips};
 use crate::names::{NamePairs, copied};
@@ -101,7 +101,10 @@ fn all_distinct(outer: &[u32], numbers: &[u32], masks: &[u16], set: Mask) -> boo
     ensures numbers { IsTrue result → AreOwn numbers.now }
     ensures full { IsTrue result → (i : ℕ) → i < length masks.now → slice_index masks.now i ≡ set }
 {
-    masks.len() == numbers.len() && count_up(outer) && count_up(numbers) && are_all(masks, set)
+    masks.len() == numbers.len()
+        && are_in_order(outer)
+        && are_in_order(numbers)
+        && are_all(masks, set)
 }
 
 /// The same width at each wanted variable, else 0.

@@ -99,9 +99,6 @@ module _ (t : Setting) where
         few = (let f = h.few in omega (arith, f, is, k));
       }
 
-  pub widths_few : (number : ℕ) → n ≤ 16 → count_ones (needed t number) ≤ 16
-  widths_few number few = let k = few_each t number few in let e = needed_ones t number in omega (arith, k, e)
-
   pub widths_whole : (number count : ℕ) → WidthsTo number count → number ≡ 2 ^ n → count ≡ widths_taken n F P t.bound
   unfolding widths_taken
   widths_whole number count h e = h.are ∙ ap (λ k. sum (map (width_count t) (range_with_len 0 k))) e

@@ -62,10 +62,6 @@ claimed_same s s' h mask = ap (λ (b : BoardId). claims_place b.brief.layer s'.w
 pub posted_stays : (s s' : SeatOf) → StaysClaimed s s' → (mask : ℕ) → IsPosted s mask → IsPosted s' mask
 posted_stays s s' h mask p e = h.known mask (p (sym (claimed_same s s' h mask) ∙ e))
 
--- a mask that was posted
-pub posted_now : (s s' : SeatOf) → StaysClaimed s s' → (mask : ℕ) → (has_claimed s mask ≡ true → knows_filled s' mask ≡ true) → IsPosted s' mask
-posted_now s s' h mask p e = p (sym (claimed_same s s' h mask) ∙ e)
-
 -- a seat that is told that there is no more
 pub no_more_stays : (s : SeatOf) → StaysClaimed s (no_more s)
 no_more_stays s = by s.worker.told
@@ -73,10 +69,3 @@ no_more_stays s = by s.worker.told
     by : (b : Bool) → StaysClaimed s (if b then s else stepped s (ends s.worker) 1)
     by true = stays_same s
     by false = stays_from s (stepped s (ends s.worker) 1) refl refl (λ q e. e)
-
-pub no_more_told : (s : SeatOf) → (no_more s).worker.told ≡ true
-no_more_told s = by s.worker.told refl
-  where
-    by : (b : Bool) → s.worker.told ≡ b → (if b then s else stepped s (ends s.worker) 1).worker.told ≡ true
-    by true e = e
-    by false e = refl

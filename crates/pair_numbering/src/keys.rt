@@ -17,7 +17,7 @@ const MOST_JOINED: usize = 16;
 /// Numbers that tell pairs apart, and the mask of each. If `all_used` is true each mask is that of
 /// a number that occurs.
 #[derive(Drop)]
-pub struct Told {
+pub struct PairKeys {
     pub numbers: Vec<u32>,
     pub masks: Vec<u16>,
     pub all_used: bool,
@@ -86,7 +86,7 @@ pub fn tell_pairs(
     rank: u32,
     x: u8,
     masks: &[u16],
-) -> Result<Told, AllocError>
+) -> Result<PairKeys, AllocError>
     requires table { IsPairTable numbers.now rank (length masks.now) }
     requires variable { x < 16 }
     requires few { length masks.now ≤ 2 ^ 20 }
@@ -99,14 +99,14 @@ pub fn tell_pairs(
     if base <= MOST_JOINED && base * base <= numbers.len() {
         let keys = join_keys(alloc, numbers, rank, base as u32)?;
         let joined = join_key_masks(alloc, masks, x)?;
-        return Ok(Told {
+        return Ok(PairKeys {
             numbers: keys,
             masks: joined,
             all_used: false,
         });
     }
     let numbered = number_pairs_with_masks(alloc, numbers, rank, x, masks)?;
-    Ok(Told {
+    Ok(PairKeys {
         numbers: numbered.numbers,
         masks: numbered.masks,
         all_used: true,

@@ -13,7 +13,7 @@ mod pairs;
 mod scratch;
 mod slots;
 
-pub use keys::{Told, tell_pairs};
+pub use keys::{PairKeys, tell_pairs};
 pub use numbering::{Numbered, number_pairs, number_pairs_by_index, number_pairs_with_masks};
 pub use pairs::NumberedPairs;
 pub use scratch::Scratch;

@@ -1,4 +1,4 @@
-use Rattle.std.proofs.Common.{◌≡◌, ◌<◌, ◌≤◌, ◌+◌, ◌-◌, ◌^◌, suc, bit_or, bit_and, slice_index, refl, sym, ap, ap₂, ◌∙◌, subst, arith}
+use Rattle.std.proofs.Common.{◌≡◌, ◌<◌, ◌≤◌, ◌+◌, ◌^◌, bit_or, bit_and, slice_index, refl, sym, ap, ap₂, ◌∙◌, subst, arith}
 use Rattle.std.specs.Int.{bit_at}
 use Rattle.order_model.proofs.Lists.Orders.{has_at}
 use Rattle.subset_layers.specs.Layers.{block_masks}
@@ -103,7 +103,7 @@ walk-requires-2 t c =
           w ∙ sym n,
           (
             subst (λ (z : ClassesOf). (x : _) → x < low_variables z.problem → bit_at c.with_member-more.result x ≡ 1) (sym c.in_ok-next.ensures)
-            (λ x lt. ap (λ k. bit_at k x) m ∙ decided_more c.args.decided y x (c.requires.low x lt)),
+                (λ x lt. ap (λ k. bit_at k x) m ∙ decided_more c.args.decided y x (c.requires.low x lt)),
             (
               ap₂ bit_and s m ∙ within_more set c.args.decided y c.requires.set ∙ sym s,
               (
