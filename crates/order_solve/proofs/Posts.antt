@@ -7,7 +7,7 @@ use Rattle.layer_board.specs.declared.boards.PostRefused.{PostRefused}
 use Rattle.layer_board.specs.declared.boards.PostRefused.TheVariants.{Stranger, Double}
 use Rattle.subset_layers.specs.Layers.{LayerOf}
 use Rattle.layer_core.specs.Settings.{layout_of}
-use Rattle.layer_board.specs.Views.{BoardId, SeatOf, stepped, no_more, learned, learns_place, claims_place, knows_place, has_claimed, knows_filled}
+use Rattle.layer_board.specs.Views.{BoardId, SeatOf, stepped, no_more, learned, learns_place, claims_place, knows_place, has_claimed}
 use Rattle.layer_board.specs.Refusals.{Refuses}
 use Rattle.order_solve.specs.Gains.{StaysClaimed, IsPosted}
 
