@@ -17,8 +17,10 @@ from concurrent.futures import FIRST_COMPLETED, ThreadPoolExecutor, wait
 TOP = os.path.dirname(os.path.dirname(os.path.abspath(__file__)))
 GIGABYTES_A_JOB = 3
 GIGABYTES_A_FURTHER_JOB = 1
-# each job reads all libraries below anew: with four of them a proof takes longer than with two
-MOST_JOBS = 2
+# each job of a proof reads all libraries below anew: with more libraries than these four jobs take longer than two
+FEW_LIBRARIES = 8
+MOST_JOBS = 4
+JOBS_OVER_MANY_LIBRARIES = 2
 
 
 def listed():
@@ -141,10 +143,11 @@ class Report:
             self.say(f"{self.show()}: {crate} is proved, in {taken:.0f} s of processor time")
 
 
-def called(folder, *words):
+def called(folder, *words, gives_way=False):
     """Calls rt in a folder. Returns its status, what it said, and the processor seconds that it took."""
     how = {"cwd": folder, "stdin": subprocess.DEVNULL, "stdout": subprocess.PIPE, "stderr": subprocess.STDOUT}
-    with subprocess.Popen(["rt", *words], errors="replace", **how) as ran:
+    lower = ["nice", "-n", "10"] if gives_way else []
+    with subprocess.Popen([*lower, "rt", *words], errors="replace", **how) as ran:
         said = ran.stdout.read()
         _, status, usage = os.wait4(ran.pid, 0)
         ran.returncode = os.waitstatus_to_exitcode(status)
@@ -186,12 +189,12 @@ class Lane:
             kept.writelines(f"{rows[it]}\n" for it in [*below, crate])
         shutil.copy(f"{TOP}/HANDLES", f"{self.folder}/HANDLES")
 
-    def prove(self, jobs):
+    def prove(self, jobs, gives_way):
         """Builds the library. What was kept of earlier proofs is used, and what this one leaves is kept, also if it fails."""
         if os.path.isdir(self.home):
             os.rename(self.home, self.own)
         try:
-            return called(f"{self.folder}/crates/{self.crate}", "lib", "--jobs", str(jobs))
+            return called(f"{self.folder}/crates/{self.crate}", "lib", "--jobs", str(jobs), gives_way=gives_way)
         finally:
             if os.path.isdir(self.own):
                 os.rename(self.own, self.home)
@@ -208,27 +211,25 @@ def chains(libraries, uses, seconds):
 
 
 def prove_all(libraries, uses, seconds, report, lanes):
-    """Proves libraries, those with the longest chain behind them first, each with the processors that no other one waits for."""
+    """Proves libraries. The build waits for the longest chain, so its crate begins as soon as it can, with several jobs; the others give way to it."""
     behind = chains(libraries, uses, seconds)
     below = {crate: needed(crate, uses)[:-1] for crate in libraries}
     left, running = sorted(libraries, key=lambda it: -behind[it]), {}
-    with ThreadPoolExecutor(processors()) as pool:
+    with ThreadPoolExecutor(2 * processors()) as pool:
         while left or running:
-            ready = [it for it in left if all(dep in report.done for dep in uses[it])]
-            for at, crate in enumerate(ready):
-                idle = processors() - sum(jobs for _, jobs in running.values())
-                room = free_gigabytes()
-                if idle < 1 or (running and room < GIGABYTES_A_JOB):
+            longest = max(behind[it] for it in [*left, *report.running])
+            for crate in [it for it in left if all(dep in report.done for dep in uses[it])]:
+                is_first, room = behind[crate] == longest, free_gigabytes()
+                if running and (room < GIGABYTES_A_JOB or (not is_first and len(running) >= processors())):
                     break
-                # the longest chain is what a build waits for: it gets what the others leave, and half of the idle ones at least
-                spare = idle - min(len(ready) - at - 1, idle // 2)
-                jobs = min(MOST_JOBS, spare, 1 + max(0, room - GIGABYTES_A_JOB) // GIGABYTES_A_FURTHER_JOB)
+                most = (MOST_JOBS if len(below[crate]) <= FEW_LIBRARIES else JOBS_OVER_MANY_LIBRARIES) if is_first else 1
+                jobs = max(1, min(most, processors(), 1 + (room - GIGABYTES_A_JOB) // GIGABYTES_A_FURTHER_JOB))
                 left.remove(crate)
                 lane = Lane(lanes, crate, below[crate])
                 report.running[crate] = time.monotonic(), jobs
-                running[pool.submit(lane.prove, jobs)] = crate, jobs
+                running[pool.submit(lane.prove, jobs, not is_first)] = crate
             for ended in wait(running, timeout=1, return_when=FIRST_COMPLETED).done:
-                crate, _ = running.pop(ended)
+                crate = running.pop(ended)
                 status, said, taken = ended.result()
                 if status:
                     report.say(f"{crate} is not proved")
@@ -266,7 +267,7 @@ def build(name, made):
         shutil.rmtree(lanes, ignore_errors=True)
         for it in held:
             os.close(it)
-    report.running[name] = time.monotonic(), MOST_JOBS
+    report.running[name] = time.monotonic(), 1
     report.show()
     words = ["lib"] if is_library(name) else ["run", "--", "--help"]
     status, said, taken = called(f"{TOP}/crates/{name}", *words)

@@ -113,8 +113,8 @@ fn count_members(block: &Block, needed: &[Mask], set: Mask, decided: Mask) -> [u
 }
 
 /// The undecided variable that most of the wanted sets have; nothing if all are decided. Tables
-/// halve with each variable, so what most sets share is made first. The last two variables aren't
-/// worth the count.
+/// halve with each variable, so what most sets share is made first. If all sets of the block are
+/// wanted any order serves, and the last two variables aren't worth the count.
 fn next_variable(block: &Block, needed: &[Mask], set: Mask, decided: Mask) -> Option<VarIx>
     requires inputs { block.now.inputs ≤ 16 }
     requires needed { length needed.now ≡ length (block_masks block.now) }
@@ -122,7 +122,7 @@ fn next_variable(block: &Block, needed: &[Mask], set: Mask, decided: Mask) -> Op
         (λ y. (y < block.now.inputs) × (bit_at decided y ≡ 0)) }
     ensures all { IsNone result → (y : ℕ) → y < block.now.inputs → bit_at decided y ≡ 1 }
 {
-    let counts = if decided.count_ones() + 2 < u32::from(block.inputs()) {
+    let counts = if needed.contains(&0) && decided.count_ones() + 2 < u32::from(block.inputs()) {
         count_members(block, needed, set, decided)
     } else {
         [0; 16]
