@@ -2,7 +2,7 @@
 --     step_down      a set with no variable below the next bound
 --     high_new, high_or, high_more, high_room      its next variable down is new; with it; the sets that differ below the bound
 --     free_all      all variables below the bound are free
---     part_same, part_more, part_high, part_all      the part of a mask from a bound on, and from the next one down
+--     part_same, part_more, part_high      the part of a mask from a bound on, and from the next one down
 --     multiple, double      a multiple has no rest; twice a power of two
 use Rattle.std.proofs.Common.{◌≡◌, ℕ, zero, suc, ◌+◌, ◌-◌, ◌*◌, ◌/◌, ◌%◌, ◌^◌, ◌<◌, ◌≤◌, false, inl, inr, sym, ap, ◌∙◌, arith, bit_and, bit_or, zero-mul}
 use Rattle.std.proofs.Math.Nat.{div-lt_iff_lt-mul}
@@ -82,9 +82,6 @@ part_more mask x e =
     let a = div-add-mod' mask (2 ^ x) in
     let b = div-add-mod' mask (2 ^ (x + 1)) in
     high_or (mask / 2 ^ (x + 1) * 2 ^ (x + 1)) x (part_high mask (x + 1)) ∙ omega arith
-
-pub part_all : (mask y : ℕ) → mask % 2 ^ y ≡ 0 → mask / 2 ^ y * 2 ^ y ≡ mask
-part_all mask y e = let d = div-add-mod' mask (2 ^ y) in omega arith
 
 pub double : (x y : ℕ) → y ≡ x + 1 → 2 ^ y ≡ 2 ^ x + 2 ^ x
 double x y e = ap (λ k. 2 ^ k) e ∙ pow-add 2 x 1 ∙ omega arith

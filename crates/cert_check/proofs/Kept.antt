@@ -1,8 +1,8 @@
 -- Rows that are kept one after another.
 --     IsKept w numbers kept number      what is kept of so many rows
---     kept_none, kept_row, kept_again, kept_all      of none; of one more, which is kept, or has come before; of all
+--     kept_row, kept_again, kept_all      of one more, which is kept, or has come before; of all
 --     rows_are, slice_is      how many rows there are, and one of them, as the code has them
-use Rattle.std.proofs.Common.{◌≡◌, ℕ, suc, ◌+◌, ◌-◌, ◌*◌, ◌/◌, ◌<◌, ◌≤◌, List, [], ◌++◌, length, take, drop, sym, ap, ◌∙◌, subst, arith, zero-mul}
+use Rattle.std.proofs.Common.{◌≡◌, ℕ, suc, ◌+◌, ◌-◌, ◌*◌, ◌/◌, ◌<◌, ◌≤◌, List, ◌++◌, length, take, drop, sym, ap, ◌∙◌, subst, arith}
 use Rattle.std.proofs.lemmas.Nat.{div-mul-add}
 use Rattle.std.proofs.lemmas.List.{append_assoc, append-nil, length-append, length-take, length-drop, take-append-drop, drop_all, drop-drop}
 use Rattle.cert_check.specs.Rows.{AreRows, IsShort}
@@ -15,9 +15,6 @@ pub record IsKept (w : ℕ) (numbers kept : List ℕ) (number : ℕ) : Type 0 wh
   pub few : length kept ≤ number * w
 
 module _ (w : ℕ) (numbers : List ℕ) where
-  pub kept_none : IsKept w numbers [] 0
-  kept_none = record { steps = 0; short = ap (λ k. drop k numbers) (sym (zero-mul w)); rows = (0, sym (zero-mul w)); few = (let z = zero-mul w in omega arith) }
-
   module _ (kept row : List ℕ) (number : ℕ) (is : row ≡ take w (drop (number * w) numbers)) (inside : (number + 1) * w ≤ length numbers)
       (h : IsKept w numbers kept number) where
     long : length row ≡ w
