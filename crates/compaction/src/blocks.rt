@@ -122,7 +122,7 @@ fn next_variable(block: &Block, needed: &[Mask], set: Mask, decided: Mask) -> Op
         (λ y. (y < block.now.inputs) × (bit_at decided y ≡ 0)) }
     ensures all { IsNone result → (y : ℕ) → y < block.now.inputs → bit_at decided y ≡ 1 }
 {
-    let counts = if needed.contains(&0) && decided.count_ones() + 2 < u32::from(block.inputs()) {
+    let counts = if decided.count_ones() + 2 < u32::from(block.inputs()) && needed.contains(&0) {
         count_members(block, needed, set, decided)
     } else {
         [0; 16]
