@@ -17,7 +17,7 @@ from concurrent.futures import FIRST_COMPLETED, ThreadPoolExecutor, wait
 TOP = os.path.dirname(os.path.dirname(os.path.abspath(__file__)))
 GIGABYTES_A_JOB = 3
 GIGABYTES_A_FURTHER_JOB = 1
-# each job of a proof reads all libraries below anew: with more libraries than these four jobs take longer than two
+# each job of a proof reads all libraries below anew: over more libraries than these four jobs take longer than two
 FEW_LIBRARIES = 8
 MOST_JOBS = 4
 JOBS_OVER_MANY_LIBRARIES = 2
@@ -143,11 +143,10 @@ class Report:
             self.say(f"{self.show()}: {crate} is proved, in {taken:.0f} s of processor time")
 
 
-def called(folder, *words, gives_way=False):
+def called(folder, *words):
     """Calls rt in a folder. Returns its status, what it said, and the processor seconds that it took."""
     how = {"cwd": folder, "stdin": subprocess.DEVNULL, "stdout": subprocess.PIPE, "stderr": subprocess.STDOUT}
-    lower = ["nice", "-n", "10"] if gives_way else []
-    with subprocess.Popen([*lower, "rt", *words], errors="replace", **how) as ran:
+    with subprocess.Popen(["rt", *words], errors="replace", **how) as ran:
         said = ran.stdout.read()
         _, status, usage = os.wait4(ran.pid, 0)
         ran.returncode = os.waitstatus_to_exitcode(status)
@@ -189,12 +188,12 @@ class Lane:
             kept.writelines(f"{rows[it]}\n" for it in [*below, crate])
         shutil.copy(f"{TOP}/HANDLES", f"{self.folder}/HANDLES")
 
-    def prove(self, jobs, gives_way):
+    def prove(self, jobs):
         """Builds the library. What was kept of earlier proofs is used, and what this one leaves is kept, also if it fails."""
         if os.path.isdir(self.home):
             os.rename(self.home, self.own)
         try:
-            return called(f"{self.folder}/crates/{self.crate}", "lib", "--jobs", str(jobs), gives_way=gives_way)
+            return called(f"{self.folder}/crates/{self.crate}", "lib", "--jobs", str(jobs))
         finally:
             if os.path.isdir(self.own):
                 os.rename(self.own, self.home)
@@ -211,25 +210,28 @@ def chains(libraries, uses, seconds):
 
 
 def prove_all(libraries, uses, seconds, report, lanes):
-    """Proves libraries. The build waits for the longest chain, so its crate begins as soon as it can, with several jobs; the others give way to it."""
+    """Proves libraries, those with the longest chain behind them first, each with the processors that no other one waits for."""
     behind = chains(libraries, uses, seconds)
     below = {crate: needed(crate, uses)[:-1] for crate in libraries}
     left, running = sorted(libraries, key=lambda it: -behind[it]), {}
-    with ThreadPoolExecutor(2 * processors()) as pool:
+    with ThreadPoolExecutor(processors()) as pool:
         while left or running:
-            longest = max(behind[it] for it in [*left, *report.running])
-            for crate in [it for it in left if all(dep in report.done for dep in uses[it])]:
-                is_first, room = behind[crate] == longest, free_gigabytes()
-                if running and (room < GIGABYTES_A_JOB or (not is_first and len(running) >= processors())):
+            ready = [it for it in left if all(dep in report.done for dep in uses[it])]
+            for at, crate in enumerate(ready):
+                idle = processors() - sum(jobs for _, jobs in running.values())
+                room = free_gigabytes()
+                if idle < 1 or (running and room < GIGABYTES_A_JOB):
                     break
-                most = (MOST_JOBS if len(below[crate]) <= FEW_LIBRARIES else JOBS_OVER_MANY_LIBRARIES) if is_first else 1
-                jobs = max(1, min(most, processors(), 1 + (room - GIGABYTES_A_JOB) // GIGABYTES_A_FURTHER_JOB))
+                # the longest chain is what a build waits for: it gets what the others leave, and half of the idle ones at least
+                spare = idle - min(len(ready) - at - 1, idle // 2)
+                most = MOST_JOBS if len(below[crate]) <= FEW_LIBRARIES else JOBS_OVER_MANY_LIBRARIES
+                jobs = min(most, spare, 1 + max(0, room - GIGABYTES_A_JOB) // GIGABYTES_A_FURTHER_JOB)
                 left.remove(crate)
                 lane = Lane(lanes, crate, below[crate])
                 report.running[crate] = time.monotonic(), jobs
-                running[pool.submit(lane.prove, jobs, not is_first)] = crate
+                running[pool.submit(lane.prove, jobs)] = crate, jobs
             for ended in wait(running, timeout=1, return_when=FIRST_COMPLETED).done:
-                crate = running.pop(ended)
+                crate, _ = running.pop(ended)
                 status, said, taken = ended.result()
                 if status:
                     report.say(f"{crate} is not proved")
@@ -267,7 +269,7 @@ def build(name, made):
         shutil.rmtree(lanes, ignore_errors=True)
         for it in held:
             os.close(it)
-    report.running[name] = time.monotonic(), 1
+    report.running[name] = time.monotonic(), MOST_JOBS
     report.show()
     words = ["lib"] if is_library(name) else ["run", "--", "--help"]
     status, said, taken = called(f"{TOP}/crates/{name}", *words)
