@@ -17,10 +17,13 @@ from concurrent.futures import FIRST_COMPLETED, ThreadPoolExecutor, wait
 TOP = os.path.dirname(os.path.dirname(os.path.abspath(__file__)))
 GIGABYTES_A_JOB = 3
 GIGABYTES_A_FURTHER_JOB = 1
-# each job of a proof reads all libraries below anew: over more libraries than these four jobs take longer than two
+# each job of a proof reads all libraries below anew: two jobs take two thirds of the time of one, a third job wins little
+CHAIN_JOBS = 2
+CHAIN_SPEED = 1.5
+MOST_JOBS = 3
+# over more libraries than these three jobs take no less than two
 FEW_LIBRARIES = 8
-MOST_JOBS = 4
-JOBS_OVER_MANY_LIBRARIES = 2
+
 
 
 def listed():
@@ -200,38 +203,74 @@ class Lane:
             shutil.rmtree(self.folder, ignore_errors=True)
 
 
+def longest_chain(libraries, uses, seconds):
+    """The libraries, one above the other, that take longest to prove one after the other."""
+    behind = chains(libraries, uses, seconds)
+    chain, above = [], libraries
+    while above:
+        chain.append(max(above, key=behind.get))
+        above = [it for it in libraries if chain[-1] in uses[it]]
+    return chain
+
+
 def chains(libraries, uses, seconds):
-    """How much follows each library at least before the last one is proved, itself counted."""
-    behind = dict(seconds)
+    """How many seconds follow each library at least before the last one is proved, its own counted."""
+    behind = {}
     for crate in reversed(libraries):
-        above = [behind[it] for it in libraries if crate in uses[it]]
-        behind[crate] = seconds[crate] + max(above, default=0)
+        behind[crate] = seconds[crate] + max((behind[it] for it in behind if crate in uses[it]), default=0)
     return behind
 
 
+class Plan:
+    """Which library is proved next, and with how many jobs.
+
+    A build waits for its longest chain: each library of it starts with several jobs as soon as those below it are proved.
+    The others, those with the longest chain behind them first, have one job each, and more only if no other library could
+    use a processor. One job more than there are processors keeps them busy while one of the chain has work for one job."""
+
+    def __init__(self, libraries, uses, seconds):
+        self.chain = longest_chain(libraries, uses, seconds)
+        passed = {it: seconds[it] / (CHAIN_SPEED if it in self.chain else 1) for it in libraries}
+        behind = chains(libraries, uses, passed)
+        self.uses, self.below = uses, {it: needed(it, uses)[:-1] for it in libraries}
+        self.left = sorted(libraries, key=lambda it: (it not in self.chain, -behind[it]))
+        self.running = {}
+
+    def next(self, done):
+        """A library to start, with its jobs; None if none is to start before another one has ended."""
+        ready = [it for it in self.left if all(dep in done for dep in self.uses[it])]
+        memory = free_gigabytes()
+        if not ready or (self.running and memory < GIGABYTES_A_JOB):
+            return None
+        crate = ready[0]
+        idle = processors() - sum(self.running.values())
+        spare = idle - len(ready) + 1
+        if crate in self.chain:
+            jobs = max(CHAIN_JOBS, spare)
+        else:
+            jobs = max(spare, min(1, idle + any(it in self.chain for it in self.running)))
+        most = MOST_JOBS if len(self.below[crate]) <= FEW_LIBRARIES else CHAIN_JOBS
+        jobs = min(jobs, most, 1 + max(0, memory - GIGABYTES_A_JOB) // GIGABYTES_A_FURTHER_JOB)
+        return (crate, jobs) if jobs > 0 else None
+
+    def start(self, crate, jobs):
+        self.left.remove(crate)
+        self.running[crate] = jobs
+
+
 def prove_all(libraries, uses, seconds, report, lanes):
-    """Proves libraries, those with the longest chain behind them first, each with the processors that no other one waits for."""
-    behind = chains(libraries, uses, seconds)
-    below = {crate: needed(crate, uses)[:-1] for crate in libraries}
-    left, running = sorted(libraries, key=lambda it: -behind[it]), {}
-    with ThreadPoolExecutor(processors()) as pool:
-        while left or running:
-            ready = [it for it in left if all(dep in report.done for dep in uses[it])]
-            for at, crate in enumerate(ready):
-                idle = processors() - sum(jobs for _, jobs in running.values())
-                room = free_gigabytes()
-                if idle < 1 or (running and room < GIGABYTES_A_JOB):
-                    break
-                # the longest chain is what a build waits for: it gets what the others leave, and half of the idle ones at least
-                spare = idle - min(len(ready) - at - 1, idle // 2)
-                most = MOST_JOBS if len(below[crate]) <= FEW_LIBRARIES else JOBS_OVER_MANY_LIBRARIES
-                jobs = min(most, spare, 1 + max(0, room - GIGABYTES_A_JOB) // GIGABYTES_A_FURTHER_JOB)
-                left.remove(crate)
-                lane = Lane(lanes, crate, below[crate])
+    """Proves libraries, several at a time."""
+    plan, proofs = Plan(libraries, uses, seconds), {}
+    with ThreadPoolExecutor(len(libraries)) as pool:
+        while plan.left or proofs:
+            while started := plan.next(report.done):
+                crate, jobs = started
+                plan.start(crate, jobs)
                 report.running[crate] = time.monotonic(), jobs
-                running[pool.submit(lane.prove, jobs)] = crate, jobs
-            for ended in wait(running, timeout=1, return_when=FIRST_COMPLETED).done:
-                crate, _ = running.pop(ended)
+                proofs[pool.submit(Lane(lanes, crate, plan.below[crate]).prove, jobs)] = crate
+            for ended in wait(proofs, timeout=1, return_when=FIRST_COMPLETED).done:
+                crate = proofs.pop(ended)
+                plan.running.pop(crate)
                 status, said, taken = ended.result()
                 if status:
                     report.say(f"{crate} is not proved")
@@ -269,7 +308,7 @@ def build(name, made):
         shutil.rmtree(lanes, ignore_errors=True)
         for it in held:
             os.close(it)
-    report.running[name] = time.monotonic(), MOST_JOBS
+    report.running[name] = time.monotonic(), 1
     report.show()
     words = ["lib"] if is_library(name) else ["run", "--", "--help"]
     status, said, taken = called(f"{TOP}/crates/{name}", *words)
