@@ -1,6 +1,7 @@
 -- Rows of a block, filled one after another.
-use Rattle.std.proofs.Common.{◌≡◌, ◌≢◌, ℕ, zero, suc, ◌+◌, ◌-◌, ◌%◌, ◌^◌, ◌<◌, ◌≤◌, cond, inl, inr, List, [], ◌∷◌, length, slice_index, get_or, set, refl, sym, ap, ◌∙◌, subst, arith, eqb, bit_and, bit_or}
+use Rattle.std.proofs.Common.{◌≡◌, ◌≢◌, ℕ, zero, suc, ◌+◌, ◌-◌, ◌%◌, ◌^◌, ◌<◌, ◌≤◌, cond, inl, inr, List, [], ◌∷◌, length, slice_index, get_or, set, refl, sym, ap, ◌∙◌, subst, arith, eqb, bit_and, bit_or, count_ones}
 use Rattle.std.specs.Int.{bit_at}
+use lib.Count.{ones-le}
 use Rattle.std.proofs.lemmas.Bool.{cases_lt, cases_eq}
 use Rattle.std.proofs.lemmas.List.{take_at, get_or_append_left, get_or_push}
 use Rattle.std.proofs.Common.{◌++◌, min, take, drop, replicate, pow_mono}
@@ -11,7 +12,7 @@ use Rattle.order_model.specs.Orders.{members, without}
 use Rattle.order_model.specs.Widths.{width}
 use Rattle.order_model.specs.Problems.{TruthTables, functions}
 use Rattle.compaction.proofs.Decided.{split_decided, join_without, join_with, not_both}
-use Rattle.compaction.specs.Rows.{width_wanted, IsRow, IsFilled, AreFilled, AreBlank, AreUnwanted}
+use Rattle.compaction.specs.Rows.{width_wanted, IsRow, IsFilled, AreFilled, AreBlank, AreUnwanted, most_compactions}
 
 -- the rows of one set among the first k masks
 pub record IsFilling (p : TruthTables) (masks needed : List ℕ) (own k : ℕ) (old new : List (List ℕ)) : Type 0 where
@@ -27,6 +28,14 @@ few_compactions undecided before after a b = let d = two-pow-succ undecided in o
 
 pub fewer_compactions : (undecided before : ℕ) → before + 1 ≤ 2 ^ undecided → before + 1 ≤ 2 ^ suc undecided
 fewer_compactions undecided before a = let d = two-pow-succ undecided in omega arith
+
+-- a low byte's table and those of a walk over at most eight high variables
+pub few_tables : (n low walked : ℕ) → n ≤ 16 → low < 65536 → walked + 1 ≤ 2 ^ (n - min n 8) → count_ones low + walked ≤ most_compactions
+few_tables n low walked few small h =
+    let ones : count_ones low ≤ 16 = ones-le 16 low small in
+    let tables : 2 ^ (n - min n 8) ≤ 2 ^ 8 = pow_mono {j = 8} (omega arith) in
+    let sum : count_ones low + walked ≤ 2367 = omega (arith, ones, tables, h) in
+    sum
 
 module _ (p : TruthTables) (masks needed : List ℕ) where
   -- nothing is wanted

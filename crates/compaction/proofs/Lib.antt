@@ -1,6 +1,6 @@
 pub mod RowSteps
 pub mod Filled
-pub mod Wanted
+pub mod OwnMembers
 pub mod Decided
 pub mod Keyed
 pub mod Unrolled

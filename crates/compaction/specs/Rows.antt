@@ -2,6 +2,7 @@
 --     width_wanted p mask wanted x      the width of x over the set without it, if x is wanted, else 0
 --     IsRow p mask wanted row, AreRows p masks needed rows      a set's widths; those of all sets of a block
 --     wanted_count needed      how many widths are wanted
+--     most_compactions      how many tables a block's widths take at most
 --     WidthsOf      the rows of a block, and how many compactions they took
 --     AreUnwanted masks needed set decided      nothing is wanted of the sets that agree with `set` in the decided variables
 --     IsFilled p masks needed set old new      the row of one set is filled
@@ -28,6 +29,10 @@ pub record AreRows (p : TruthTables) (masks needed : List ℕ) (rows : List (Lis
 -- how many widths are wanted
 abbrev pub wanted_count : List ℕ → ℕ
 wanted_count needed = sum_by count_ones needed
+
+-- how many tables a block's widths take at most
+abbrev pub most_compactions : ℕ
+most_compactions = 2367
 
 -- a row for each set of a block, and how many compactions were made
 pub record WidthsOf : Type 0 where

@@ -5,13 +5,14 @@ ghost use Rattle.std.specs.Int.{bit_at};
 ghost use Rattle.subset_layers.specs.Layers.{block_masks};
 ghost use Rattle.compaction.specs.Strips.{low_variables as low_of};
 ghost use Rattle.class_laws.specs.Table.{classes_of, free_below};
-ghost use Rattle.compaction.specs.Rows.{AreRows, AreMembers, AreBlank, AreFilled, AreUnwanted, IsFilled, wanted_count};
+ghost use Rattle.compaction.specs.Rows.{AreRows, AreMembers, AreBlank, AreFilled, IsFilled, wanted_count, most_compactions};
 
 use crate::beginning::Beginning;
 use crate::bytes::ByteKeys;
 use crate::names::AllNamePairs;
 use crate::strips::{Strips, low_variables};
 use crate::tally::Tally;
+use crate::wanted::Wanted;
 use order_model::{Mask, Problem, VarIx};
 use std::alloc::{AllocError, Global};
 use std::marker::Model;
@@ -75,19 +76,6 @@ fn count_wanted(needed: &[Mask]) -> u64
     count
 }
 
-/// Whether something is wanted of a set that agrees with `set` in the decided variables.
-fn is_wanted(block: &Block, needed: &[Mask], set: Mask, decided: Mask) -> bool
-    requires needed { length needed.now ≡ length (block_masks block.now) }
-    ensures { IsFalse result → AreUnwanted (block_masks block.now) needed.now set decided }
-{
-    for (i, wanted) in needed.iter().enumerate() {
-        if *wanted != 0 && block.mask(i) & decided == set {
-            return true;
-        }
-    }
-    false
-}
-
 /// A set with one more member.
 fn with_member(set: Mask, y: VarIx) -> Mask
     requires { y < 16 }
@@ -96,68 +84,26 @@ fn with_member(set: Mask, y: VarIx) -> Mask
     set | (1 << y)
 }
 
-/// How many of the wanted sets that agree with `set` in the decided variables have each variable.
-fn count_members(block: &Block, needed: &[Mask], set: Mask, decided: Mask) -> [u16; 16]
-    requires needed { length needed.now ≡ length (block_masks block.now) }
-{
-    let mut counts = [0u16; 16];
-    for (i, wanted) in needed.iter().enumerate() {
-        let mask = block.mask(i);
-        if *wanted != 0 && mask & decided == set {
-            for y in 0..16usize {
-                counts[y] = counts[y].wrapping_add((mask >> y) & 1);
-            }
-        }
-    }
-    counts
-}
-
-/// The undecided variable that most of the wanted sets have; nothing if all are decided. Tables
-/// halve with each variable, so what most sets share is made first. If all sets of the block are
-/// wanted any order serves, and the last two variables aren't worth the count.
-fn next_variable(block: &Block, needed: &[Mask], set: Mask, decided: Mask) -> Option<VarIx>
-    requires inputs { block.now.inputs ≤ 16 }
-    requires needed { length needed.now ≡ length (block_masks block.now) }
-    ensures undecided { IfSome result
-        (λ y. (y < block.now.inputs) × (bit_at decided y ≡ 0)) }
-    ensures all { IsNone result → (y : ℕ) → y < block.now.inputs → bit_at decided y ≡ 1 }
-{
-    let counts = if decided.count_ones() + 2 < u32::from(block.inputs()) && needed.contains(&0) {
-        count_members(block, needed, set, decided)
-    } else {
-        [0; 16]
-    };
-    let mut next = None;
-    let mut most = 0;
-    for y in 0..block.inputs() {
-        let count = counts[usize::from(y)];
-        if (decided >> y) & 1 == 0 && (next.is_none() || count > most) {
-            next = Some(y);
-            most = count;
-        }
-    }
-    next
-}
-
 /// Fills the row of the table's own set.
 fn fill_row(
     alloc: Global,
     table: &Strips<'_>,
-    block: &Block,
-    needed: &[Mask],
+    wanted: &Wanted<'_>,
     rows: &mut [[u32; 16]],
 ) -> Result<(), AllocError>
-    requires needed { length needed.now ≡ length (block_masks block.now) }
-    requires rows { length rows.old ≡ length (block_masks block.now) }
-    requires members { AreMembers table.now.problem (block_masks block.now) needed.now }
+    requires needed { length wanted.now.needed.now ≡ length (block_masks wanted.now.block.now) }
+    requires rows { length rows.old ≡ length (block_masks wanted.now.block.now) }
+    requires members { AreMembers table.now.problem (block_masks wanted.now.block.now)
+        wanted.now.needed.now }
     ensures { OnOk result
-        (IsFilled table.now.problem (block_masks block.now) needed.now table.now.set rows.old
-        rows.new) }
+        (IsFilled table.now.problem (block_masks wanted.now.block.now) wanted.now.needed.now
+        table.now.set rows.old rows.new) }
 {
     let set = table.set();
-    for (i, wanted) in needed.iter().enumerate() {
-        if block.mask(i) == set {
-            rows[i] = table.width_row(alloc, *wanted)?;
+    let masks = wanted.block.masks();
+    for (i, needed) in wanted.needed.iter().enumerate() {
+        if masks[i] == set {
+            rows[i] = table.width_row(alloc, *needed)?;
         }
     }
     Ok(())
@@ -170,39 +116,40 @@ fn walk(
     table: &Strips<'_>,
     names: &AllNamePairs,
     decided: Mask,
-    block: &Block,
-    needed: &[Mask],
+    wanted: &Wanted<'_>,
     rows: &mut [[u32; 16]],
 ) -> Result<u32, AllocError>
     requires few { table.now.problem.inputs ≤ 16 }
-    requires inputs { block.now.inputs ≡ table.now.problem.inputs }
+    requires inputs { wanted.now.block.now.inputs ≡ table.now.problem.inputs }
     requires low { (y : ℕ) → y < low_of table.now.problem → bit_at decided y ≡ 1 }
     requires set { bit_and table.now.set decided ≡ table.now.set }
-    requires needed { length needed.now ≡ length (block_masks block.now) }
-    requires rows { length rows.old ≡ length (block_masks block.now) }
-    requires members { AreMembers table.now.problem (block_masks block.now) needed.now }
-    requires blank { AreBlank table.now.problem (block_masks block.now) needed.now rows.old }
+    requires needed { length wanted.now.needed.now ≡ length (block_masks wanted.now.block.now) }
+    requires rows { length rows.old ≡ length (block_masks wanted.now.block.now) }
+    requires members { AreMembers table.now.problem (block_masks wanted.now.block.now)
+        wanted.now.needed.now }
+    requires blank { AreBlank table.now.problem (block_masks wanted.now.block.now)
+        wanted.now.needed.now rows.old }
     ensures rows { OnOk result
-        (AreFilled table.now.problem (block_masks block.now) needed.now table.now.set decided
-        rows.old rows.new) }
+        (AreFilled table.now.problem (block_masks wanted.now.block.now) wanted.now.needed.now
+        table.now.set decided rows.old rows.new) }
     ensures compactions { IfOk result
         (λ count. count + 1 ≤ 2 ^ free_below decided table.now.problem.inputs) }
 {
     let set = table.set();
-    if !is_wanted(block, needed, set, decided) {
+    if !wanted.has_any(set, decided) {
         return Ok(0);
     }
-    let Some(y) = next_variable(block, needed, set, decided) else {
-        fill_row(alloc, table, block, needed, rows)?;
+    let Some(y) = wanted.next_variable(set, decided) else {
+        fill_row(alloc, table, wanted, rows)?;
         return Ok(0);
     };
     let more = with_member(decided, y);
-    let before = walk(alloc, table, names, more, block, needed, rows)?;
-    if !is_wanted(block, needed, with_member(set, y), more) {
+    let before = walk(alloc, table, names, more, wanted, rows)?;
+    if !wanted.has_any(with_member(set, y), more) {
         return Ok(before);
     }
     let next = table.add_high(alloc, y, names.at(set, y))?;
-    let after = walk(alloc, &next, names, more, block, needed, rows)?;
+    let after = walk(alloc, &next, names, more, wanted, rows)?;
     Ok(before + after + 1)
 }
 
@@ -279,34 +226,27 @@ fn walk_from(
     alloc: Global,
     beginning: &Beginning<'_>,
     table: &Strips<'_>,
-    block: &Block,
-    needed: &[Mask],
+    wanted: &Wanted<'_>,
     rows: &mut [[u32; 16]],
 ) -> Result<u32, AllocError>
-    requires inputs { block.now.inputs ≡ beginning.now.inputs }
-    requires low { block.now.low < 2 ^ low_of beginning.now }
-    requires table { table.now ≡ classes_of beginning.now block.now.low }
-    requires needed { length needed.now ≡ length (block_masks block.now) }
-    requires rows { length rows.old ≡ length (block_masks block.now) }
-    requires members { AreMembers beginning.now (block_masks block.now) needed.now }
-    requires blank { AreBlank beginning.now (block_masks block.now) needed.now rows.old }
+    requires inputs { wanted.now.block.now.inputs ≡ beginning.now.inputs }
+    requires low { wanted.now.block.now.low < 2 ^ low_of beginning.now }
+    requires table { table.now ≡ classes_of beginning.now wanted.now.block.now.low }
+    requires needed { length wanted.now.needed.now ≡ length (block_masks wanted.now.block.now) }
+    requires rows { length rows.old ≡ length (block_masks wanted.now.block.now) }
+    requires members { AreMembers beginning.now (block_masks wanted.now.block.now)
+        wanted.now.needed.now }
+    requires blank { AreBlank beginning.now (block_masks wanted.now.block.now)
+        wanted.now.needed.now rows.old }
     ensures rows { OnOk result
-        (AreRows beginning.now (block_masks block.now) needed.now rows.new) }
+        (AreRows beginning.now (block_masks wanted.now.block.now) wanted.now.needed.now rows.new) }
     ensures compactions { IfOk result
         (λ count. count + 1 ≤ 2 ^ (beginning.now.inputs - low_of beginning.now)) }
 {
     let problem = beginning.problem();
     prove!(problem.inputs() <= 16);
     let decided = low_mask(problem);
-    let count = walk(
-        alloc,
-        table,
-        beginning.names(),
-        decided,
-        block,
-        needed,
-        rows,
-    )?;
+    let count = walk(alloc, table, beginning.names(), decided, wanted, rows)?;
     Ok(count)
 }
 
@@ -323,23 +263,24 @@ fn wanted_rows(
     requires members { AreMembers beginning.now (block_masks block.now) needed.now }
     ensures rows { IfOk result
         (λ widths. AreRows beginning.now (block_masks block.now) needed.now widths.rows) }
-    ensures compactions { IfOk result (λ widths. widths.compactions ≤ 2367) }
+    ensures compactions { IfOk result (λ widths. widths.compactions ≤ most_compactions) }
 {
     let problem = beginning.problem();
     prove!(problem.inputs() <= 16);
     let low = Mask::from(block.low());
     let mut rows = blank_rows(alloc, block.len())?;
-    if !is_wanted(block, needed, low, low_mask(problem)) {
+    let wanted = Wanted::new(block, needed);
+    if !wanted.has_any(low, low_mask(problem)) {
         return Ok(BlockWidths {
             rows,
             compactions: 0,
         });
     }
     let walked = match beginning.table(low) {
-        Some(table) => walk_from(alloc, beginning, table, block, needed, &mut rows)?,
+        Some(table) => walk_from(alloc, beginning, table, &wanted, &mut rows)?,
         None => {
             let table = low_strips(alloc, beginning, low)?;
-            walk_from(alloc, beginning, &table, block, needed, &mut rows)?
+            walk_from(alloc, beginning, &table, &wanted, &mut rows)?
         }
     };
     Ok(BlockWidths {
@@ -363,7 +304,7 @@ pub fn block_widths(
     requires room { tally.old + wanted_count needed.now ≤ 2 ^ 32 }
     ensures rows { IfOk result
         (λ widths. AreRows problem.now (block_masks block.now) needed.now widths.rows) }
-    ensures compactions { IfOk result (λ widths. widths.compactions ≤ 2367) }
+    ensures compactions { IfOk result (λ widths. widths.compactions ≤ most_compactions) }
     ensures ok { OnOk result (tally.new ≡ tally.old + wanted_count needed.now) }
     ensures err { OnErr result (tally.new ≡ tally.old) }
 {
@@ -387,7 +328,7 @@ impl<'a> Beginning<'a> {
         requires room { tally.old + wanted_count needed.now ≤ 2 ^ 32 }
         ensures rows { IfOk result
             (λ widths. AreRows self.now (block_masks block.now) needed.now widths.rows) }
-        ensures compactions { IfOk result (λ widths. widths.compactions ≤ 2367) }
+        ensures compactions { IfOk result (λ widths. widths.compactions ≤ most_compactions) }
         ensures ok { OnOk result (tally.new ≡ tally.old + wanted_count needed.now) }
         ensures err { OnErr result (tally.new ≡ tally.old) }
     {
@@ -409,26 +350,14 @@ impl<'a> Beginning<'a> {
         ensures rows { IfOk result
             (λ widths. AreRows self.now (block_masks block.now) (block_masks block.now)
             widths.rows) }
-        ensures compactions { IfOk result (λ widths. widths.compactions ≤ 2367) }
+        ensures compactions { IfOk result (λ widths. widths.compactions ≤ most_compactions) }
         ensures ok { OnOk result (tally.new ≡ tally.old + wanted_count (block_masks block.now)) }
         ensures err { OnErr result (tally.new ≡ tally.old) }
     {
         prove!(self.problem().inputs() <= 16);
         prove!(block.len() <= 256);
-        let masks = masks_of(alloc, block)?;
-        self.block_widths(alloc, block, &masks, tally)
+        self.block_widths(alloc, block, block.masks(), tally)
     }
-}
-
-/// The masks of a block.
-fn masks_of(alloc: Global, block: &Block) -> Result<Vec<Mask>, AllocError>
-    ensures { IfOk result (λ masks. masks.items ≡ block_masks block.now) }
-{
-    let mut masks = Vec::with_capacity(alloc, block.len())?;
-    for i in 0..block.len() {
-        masks.push(block.mask(i))?;
-    }
-    Ok(masks)
 }
 
 /// The widths of all members of a block's sets, for measurements and tests.
@@ -443,7 +372,7 @@ pub fn all_widths(
     ensures rows { IfOk result
         (λ widths. AreRows problem.now (block_masks block.now) (block_masks block.now)
         widths.rows) }
-    ensures compactions { IfOk result (λ widths. widths.compactions ≤ 2367) }
+    ensures compactions { IfOk result (λ widths. widths.compactions ≤ most_compactions) }
     ensures ok { OnOk result (tally.new ≡ tally.old + wanted_count (block_masks block.now)) }
     ensures err { OnErr result (tally.new ≡ tally.old) }
 {

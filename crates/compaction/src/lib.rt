@@ -11,6 +11,7 @@ mod names;
 mod start;
 mod strips;
 mod tally;
+mod wanted;
 
 pub use beginning::Beginning;
 pub use blocks::{BlockWidths, all_widths, block_widths};

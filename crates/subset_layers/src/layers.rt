@@ -224,12 +224,18 @@ impl Block {
         self.count
     }
 
+    /// The masks, rising.
+    pub fn masks(&self) -> &[Mask]
+        ensures { result.now ≡ block_masks self.now }
+    {
+        &self.masks[..self.count]
+    }
+
     /// The mask at a place.
     pub fn mask(&self, i: usize) -> Mask
         requires { i < length (block_masks self.now) }
         ensures { slice_get (block_masks self.now) i ≡ Some result }
     {
-        let masks = &self.masks[..self.count];
-        masks[i]
+        self.masks()[i]
     }
 }

@@ -12,10 +12,10 @@ use Rattle.compaction.proofs.blocks.+walk.Goals as goal
 
 pub returns-in_default-clause-rows : goal.returns-in_default-clause-rows
 returns-in_default-clause-rows t c =
-    let masks = block_masks c.args.block.now in
-    filled_own c.args.table.now.problem masks c.args.needed.now c.args.table.now.set c.args.decided c.args.rows.now c.fill_row.new.rows
-    (λ i lt. all_decided c.args.block.now.inputs (slice_index masks i) c.args.decided
-    (in_block c.args.block.now (slice_index masks i) (has_at masks i lt)).0 (c.in_default.ensures.all refl))
+    let masks = block_masks c.args.wanted.now.block.now in
+    filled_own c.args.table.now.problem masks c.args.wanted.now.needed.now c.args.table.now.set c.args.decided c.args.rows.now c.fill_row.new.rows
+    (λ i lt. all_decided c.args.wanted.now.block.now.inputs (slice_index masks i) c.args.decided
+    (in_block c.args.wanted.now.block.now (slice_index masks i) (has_at masks i lt)).0 (c.in_default.ensures.all refl))
     c.in_ok-fill_row.ensures
 
 pub walk-requires : goal.walk-requires
@@ -44,11 +44,11 @@ walk-requires t c =
       ),
     )
 
-pub returns-then-not-is_wanted-2-clause-rows : goal.returns-then-not-is_wanted-2-clause-rows
-returns-then-not-is_wanted-2-clause-rows t c =
+pub returns-then-not-has_any-2-clause-rows : goal.returns-then-not-has_any-2-clause-rows
+returns-then-not-has_any-2-clause-rows t c =
     let p = c.args.table.now.problem in
-    let masks = block_masks c.args.block.now in
-    let needed = c.args.needed.now in
+    let masks = block_masks c.args.wanted.now.block.now in
+    let needed = c.args.wanted.now.needed.now in
     let set = c.args.table.now.set in
     let y = c.in-Some.y in
     let m = c.with_member-more.ensures in
@@ -56,12 +56,12 @@ returns-then-not-is_wanted-2-clause-rows t c =
     filled_lower p masks needed set c.args.decided y c.args.rows.now c.walk.new.rows c.in-Some.ensures.undecided.1 c.requires.set
     (subst (λ k. AreFilled p masks needed set k c.args.rows.now c.walk.new.rows) m a)
     (blank_kept p masks needed set c.with_member-more.result c.args.rows.now c.walk.new.rows c.requires.blank a)
-    (λ i lt e. c.if-not-is_wanted-2.ensures refl i lt
+    (λ i lt e. c.if-not-has_any-2.ensures refl i lt
     (ap (bit_and (slice_index masks i)) m ∙ e ∙ sym (c.with_member.ensures ∙ ap (λ s. bit_or s (2 ^ y)) c.set-set.ensures)))
     c.requires.needed
 
-pub returns-then-not-is_wanted-2-clause-compactions : goal.returns-then-not-is_wanted-2-clause-compactions
-returns-then-not-is_wanted-2-clause-compactions t c =
+pub returns-then-not-has_any-2-clause-compactions : goal.returns-then-not-has_any-2-clause-compactions
+returns-then-not-has_any-2-clause-compactions t c =
     let n = c.args.table.now.problem.inputs in
     let y = c.in-Some.y in
     let u = c.in-Some.ensures.undecided in
@@ -81,8 +81,8 @@ add_high-requires-clause-new t c =
 pub walk-requires-2 : goal.walk-requires-2
 walk-requires-2 t c =
     let p = c.args.table.now.problem in
-    let masks = block_masks c.args.block.now in
-    let needed = c.args.needed.now in
+    let masks = block_masks c.args.wanted.now.block.now in
+    let needed = c.args.wanted.now.needed.now in
     let set = c.args.table.now.set in
     let y = c.in-Some.y in
     let m = c.with_member-more.ensures in
@@ -146,8 +146,8 @@ overflow_add-result-2 t c =
 pub returns-clause-rows : goal.returns-clause-rows
 returns-clause-rows t c =
     let p = c.args.table.now.problem in
-    let masks = block_masks c.args.block.now in
-    let needed = c.args.needed.now in
+    let masks = block_masks c.args.wanted.now.block.now in
+    let needed = c.args.wanted.now.needed.now in
     let set = c.args.table.now.set in
     let y = c.in-Some.y in
     let m = c.with_member-more.ensures in

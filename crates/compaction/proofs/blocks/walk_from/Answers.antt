@@ -22,16 +22,16 @@ pub walk-requires-clause-set : goal.walk-requires-clause-set
 walk-requires-clause-set c =
     let d = c.low_mask-decided.ensures ∙ ap (λ (p : TruthTables). 2 ^ low_of p - 1) c.problem-problem.ensures in
     let s = ap (λ (t : ClassesOf). t.set) c.requires.table in
-    ap₂ bit_and s d ∙ within_ones c.args.block.now.low (low_of c.args.beginning.now) c.requires.low ∙ sym s
+    ap₂ bit_and s d ∙ within_ones c.args.wanted.now.block.now.low (low_of c.args.beginning.now) c.requires.low ∙ sym s
 
 pub returns-clause-rows : goal.returns-clause-rows
 returns-clause-rows c =
-    let masks = block_masks c.args.block.now in
-    let needed = c.args.needed.now in
+    let masks = block_masks c.args.wanted.now.block.now in
+    let needed = c.args.wanted.now.needed.now in
     let p = c.args.beginning.now in
     let d = c.low_mask-decided.ensures ∙ ap (λ (q : TruthTables). 2 ^ low_of q - 1) c.problem-problem.ensures in
     let filled =
-    subst (λ k. AreFilled p masks needed c.args.block.now.low k c.args.rows.now c.walk.new.rows) d
+    subst (λ k. AreFilled p masks needed c.args.wanted.now.block.now.low k c.args.rows.now c.walk.new.rows) d
     (subst (λ (t : ClassesOf). AreFilled t.problem masks needed t.set c.low_mask-decided.result c.args.rows.now c.walk.new.rows)
     c.requires.table c.in_ok-count.ensures.rows) in
     let a = c.walk.auto.rows in
@@ -39,9 +39,9 @@ returns-clause-rows c =
     record {
       each = omega arith;
       are = λ i lt.
-          let b = in_block c.args.block.now (slice_index masks i) (has_at masks i lt) in
+          let b = in_block c.args.wanted.now.block.now (slice_index masks i) (has_at masks i lt) in
           (filled i lt).0
-          (agree_low p.inputs c.args.block.now.low (slice_index masks i) (low_of p) refl
+          (agree_low p.inputs c.args.wanted.now.block.now.low (slice_index masks i) (low_of p) refl
           (subst (λ m. slice_index masks i < 2 ^ m) c.requires.inputs b.0) b.1);
     }
 

@@ -2,7 +2,7 @@ use Rattle.std.proofs.Common.{◌≡◌, ℕ, [], ◌∷◌, sym, subst, arith, 
 use Rattle.std.proofs.lemmas.Option.{get_or_from_slice_get}
 use Rattle.std.specs.Int.{bit_at}
 use Rattle.subset_layers.specs.Layers.{block_masks}
-use Rattle.compaction.proofs.Wanted.{own_members}
+use Rattle.compaction.proofs.OwnMembers.{own_members}
 use Rattle.compaction_tests.proofs.tests.row_of_one_set.Goals as goal
 
 pub block_widths-requires-clause-members : goal.block_widths-requires-clause-members

@@ -1,0 +1,107 @@
+//! What is wanted of the sets of a block.
+
+ghost use Rattle.std.specs.Prelude.{◌≡◌, ℕ, ◌+◌, ◌^◌, ◌<◌, ◌≤◌, IsFalse, length, IfSome, IsNone};
+ghost use Rattle.std.specs.Int.{bit_at};
+ghost use Rattle.subset_layers.specs.Layers.{block_masks};
+ghost use Rattle.compaction.specs.Rows.{AreUnwanted};
+
+use order_model::{Mask, VarIx};
+use subset_layers::Block;
+
+/// The sets of a block, and of each the members whose widths its cell needs.
+#[derive(Drop)]
+pub struct Wanted<'a> {
+    pub(crate) block: &'a Block,
+    pub(crate) needed: &'a [Mask],
+    /// Something is wanted of each set.
+    is_whole: bool,
+}
+
+impl<'a> Wanted<'a> {
+    /// The masks in `needed` belong to the sets at the same places of the block.
+    pub fn new(block: &'a Block, needed: &'a [Mask]) -> Wanted<'a>
+        ensures block { result.block.now ≡ block.now }
+        ensures needed { result.needed.now ≡ needed.now }
+    {
+        Wanted {
+            block,
+            needed,
+            is_whole: !needed.contains(&0),
+        }
+    }
+
+    /// Whether something is wanted of a set that agrees with `set` in the decided variables.
+    pub fn has_any(&self, set: Mask, decided: Mask) -> bool
+        requires { length self.now.needed.now ≡ length (block_masks self.now.block.now) }
+        ensures { IsFalse result →
+            AreUnwanted (block_masks self.now.block.now) self.now.needed.now set decided }
+    {
+        let masks = self.block.masks();
+        for (i, needed) in self.needed.iter().enumerate() {
+            if *needed != 0 && masks[i] & decided == set {
+                return true;
+            }
+        }
+        false
+    }
+
+    /// How many of the wanted sets that agree with `set` in the decided variables have each
+    /// variable.
+    fn count_members(&self, set: Mask, decided: Mask) -> [u16; 16]
+        requires { length self.now.needed.now ≡ length (block_masks self.now.block.now) }
+    {
+        let masks = self.block.masks();
+        let mut counts = [0u16; 16];
+        for (i, needed) in self.needed.iter().enumerate() {
+            let mask = masks[i];
+            if *needed != 0 && mask & decided == set {
+                for y in 0..16usize {
+                    counts[y] = counts[y].wrapping_add((mask >> y) & 1);
+                }
+            }
+        }
+        counts
+    }
+
+    /// The undecided variable that most of the wanted sets have; nothing if all are decided.
+    /// Tables halve with each variable, so what most sets share is made first. If all sets of the
+    /// block are wanted any order serves, and the last two variables aren't worth the count.
+    pub fn next_variable(&self, set: Mask, decided: Mask) -> Option<VarIx>
+        requires inputs { self.now.block.now.inputs ≤ 16 }
+        requires needed { length self.now.needed.now ≡ length (block_masks self.now.block.now) }
+        ensures undecided { IfSome result
+            (λ y. (y < self.now.block.now.inputs) × (bit_at decided y ≡ 0)) }
+        ensures all { IsNone result →
+            (y : ℕ) → y < self.now.block.now.inputs → bit_at decided y ≡ 1 }
+    {
+        let inputs = self.block.inputs();
+        if self.is_whole || decided.count_ones() + 2 >= u32::from(inputs) {
+            return first_undecided(inputs, decided);
+        }
+        let counts = self.count_members(set, decided);
+        let mut next = None;
+        let mut most = 0;
+        for y in 0..inputs {
+            let count = counts[usize::from(y)];
+            if (decided >> y) & 1 == 0 && (next.is_none() || count > most) {
+                next = Some(y);
+                most = count;
+            }
+        }
+        next
+    }
+}
+
+/// The first undecided variable; nothing if all are decided.
+fn first_undecided(inputs: u8, decided: Mask) -> Option<VarIx>
+    requires { inputs ≤ 16 }
+    ensures undecided { IfSome result (λ y. (y < inputs) × (bit_at decided y ≡ 0)) }
+    ensures all { IsNone result → (y : ℕ) → y < inputs → bit_at decided y ≡ 1 }
+{
+    for y in 0..inputs {
+        if (decided >> y) & 1 == 0 {
+            return Some(y);
+        }
+    }
+    None
+}
