@@ -22,8 +22,8 @@ fn place_cells(bench: &Bench<'_>, block: &Block, found: &[Cell], cells: &mut [Ce
     ensures kept { StayPlaced bench.now cells.old cells.new }
     ensures placed { ArePlaced bench.now block.now cells.new }
 {
-    for i in 0..block.len() {
-        if let Some(place) = bench.layer.position(block.mask(i)) {
+    for (i, mask) in block.masks().iter().enumerate() {
+        if let Some(place) = bench.layer.position(*mask) {
             cells[place] = found[i];
         }
     }
@@ -33,7 +33,7 @@ fn place_cells(bench: &Bench<'_>, block: &Block, found: &[Cell], cells: &mut [Ce
 pub fn cells_alone(alloc: Global, bench: &Bench<'_>) -> Result<Vec<Cell>, AllocError>
     ensures { IfOk result (λ v. AreCells bench.now.setting (masks_of bench.now.layer) v.items) }
 {
-    let _few = bench.setting.inputs();
+    prove!(bench.setting.inputs() <= 16);
     let layer = bench.layer;
     let none = Cell {
         cost: 0,

@@ -55,10 +55,10 @@ pub fn cells_of_block(
     let needs = needs_of_block(alloc, block, bench)?;
     let widths = widths_of(alloc, block, bench, &needs, tally)?;
     let mut cells = Vec::with_capacity(alloc, block.len())?;
-    for i in 0..block.len() {
+    for (i, mask) in block.masks().iter().enumerate() {
         let row = widths.row(i);
         cells.push(least_cell(
-            block.mask(i),
+            *mask,
             bench.before,
             &row,
             setting.bound,

@@ -84,7 +84,7 @@ fn some_seat(
     let mut ended = ended;
     let last = ended.pop().unwrap()?;
     while let Some(end) = ended.pop() {
-        let _end = end?;
+        end?;
     }
     Ok(last.seat)
 }

@@ -53,8 +53,8 @@ pub fn needs_of_block(
     ensures { IfOk result (λ v. v.items ≡ map (needed bench.now.setting) (block_masks block.now)) }
 {
     let mut needs = Vec::with_capacity(alloc, block.len())?;
-    for i in 0..block.len() {
-        needs.push(needed_members(bench.setting, bench.before, block.mask(i)))?;
+    for mask in block.masks() {
+        needs.push(needed_members(bench.setting, bench.before, *mask))?;
     }
     Ok(needs)
 }

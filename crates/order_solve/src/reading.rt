@@ -38,7 +38,7 @@ fn read_variables(alloc: Global, cells: &AllCells<'_>) -> Result<Vec<VarIx>, All
 pub fn read_order(alloc: Global, cells: &AllCells<'_>) -> Result<Order, AllocError>
     ensures { IfOk result (λ o. IsReadOff cells.now o) }
 {
-    let _few = cells.inputs();
+    prove!(cells.inputs() <= 16);
     let variables = read_variables(alloc, cells)?;
     match Order::try_from_slice(alloc, &variables) {
         Ok(order) => Ok(order),

@@ -42,7 +42,7 @@ impl<'a> Setting<'a> {
         requires room { bound + 1 < 2 ^ 32 }
         ensures { result ≡ setting_with problem.now pairs.now bound }
     {
-        let _few = problem.inputs();
+        prove!(problem.inputs() <= 16);
         Setting {
             problem,
             pairs,

@@ -45,8 +45,8 @@ fn setting_of<'a>(problem: &'a Problem, sifted: &'a Sifted) -> Setting<'a>
     ensures bound { result.bound ≡ sifted.now.size }
     ensures bounded { IsBounded result }
 {
-    let _few = problem.outputs();
-    let _inputs = problem.inputs();
+    prove!(problem.outputs() <= 16);
+    prove!(problem.inputs() <= 16);
     Setting::new(problem, sifted.pairs(), sifted.size())
 }
 

@@ -72,8 +72,8 @@ fn post_block<G: Gate>(worker: &Worker<'_, G>, seat: &mut BoardSeat, block: &Blo
     ensures posted { (mask : ℕ) → IsTrue (has (block_masks block.now) mask) →
         IsPosted seat.new mask }
 {
-    for i in 0..block.len() {
-        post_cell(worker, seat, block.mask(i), cells[i]);
+    for (i, mask) in block.masks().iter().enumerate() {
+        post_cell(worker, seat, *mask, cells[i]);
     }
 }
 
@@ -102,7 +102,7 @@ pub fn work_layer<G: Gate>(
         (λ e. (mask : ℕ) → IsTrue (gains seat e.seat mask) → IsTrue (knows_filled e.seat mask)) }
     ensures tally { IfOk result (λ e. e.tally ≡ widths_for bench.now.setting (gained seat e.seat)) }
 {
-    let _few = bench.setting.inputs();
+    prove!(bench.setting.inputs() <= 16);
     let worker = Worker::new(board, bench, worker, gate);
     let mut tally = Tally::new();
     while let Some(claim) = board.claim(&mut seat) {

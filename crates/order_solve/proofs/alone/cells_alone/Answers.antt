@@ -16,8 +16,8 @@ pub cells_of_block-requires-clause-room : goal.cells_of_block-requires-clause-ro
 cells_of_block-requires-clause-room c =
     let t = c.args.bench.now.setting in
     let v = ap (λ (z : BenchOf). z.setting.problem.inputs) c.bench.view_is in
-    let e = c.inputs-few.ensures.value in
-    let few = c.inputs-few.ensures.few in
+    let e = c.inputs.ensures.value in
+    let few = c.inputs.ensures.few in
     let inputs =
     ap (λ (l : LayerOf). l.inputs)
     (block_layer c.bench.inside.layer.now c.loop-place.place c.block-block.result c.block-block.ensures

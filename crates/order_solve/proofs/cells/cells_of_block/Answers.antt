@@ -1,6 +1,6 @@
-use Rattle.std.proofs.Common.{◌≡◌, ℕ, ◌+◌, ◌++◌, List, [], ◌∷◌, map, slice_index, sym, ap, ap₂, ◌∙◌, subst, arith}
+use Rattle.std.proofs.Common.{◌≡◌, ℕ, ◌+◌, ◌++◌, List, [], ◌∷◌, map, get_or, slice_get, slice_index, Some, sym, ap, ap₂, ◌∙◌, subst, arith}
 use Rattle.std.proofs.lemmas.List.{map_more, map-append, get_or-map}
-use Rattle.std.proofs.lemmas.Option.{slice_get_within, get_or_from_slice_get}
+use Rattle.std.proofs.lemmas.Option.{slice_get-get_or, slice_get_within, get_or_from_slice_get}
 use Rattle.subset_layers.specs.Layers.{LayerOf, block_masks}
 use Rattle.compaction.specs.Rows.{AreMembers, IsRow, wanted_count}
 use Rattle.layer_core.specs.Settings.{Setting, cell_for}
@@ -38,28 +38,35 @@ least_cell-requires-clause-inputs c =
 
 pub least_cell-requires-clause-next : goal.least_cell-requires-clause-next
 least_cell-requires-clause-next c =
-    in_layer _ c.bench.invariant.0 c.args.block.now (c.requires.layer ∙ ap (λ (b : BenchOf). b.layer) (sym c.bench.view_is)) c.loop-i.i
-    c.mask.result c.mask.ensures
+    let items = c.masks-mask-items.result.now in
+    let i = c.loop-i.i in
+    let mask = get_or items i 0 in
+    in_layer _ c.bench.invariant.0 c.args.block.now (c.requires.layer ∙ ap (λ (b : BenchOf). b.layer) (sym c.bench.view_is)) i mask
+    (subst (λ (xs : List ℕ). slice_get xs i ≡ Some mask) c.masks-mask-items.ensures (slice_get-get_or items i 0 (omega arith)))
 
 pub loop-i-preserved : goal.loop-i-preserved
 loop-i-preserved c =
     let masks = block_masks c.args.block.now in
+    let items = c.masks-mask-items.result.now in
+    let mask = get_or items c.loop-i.i 0 in
+    let there = subst (λ (xs : List ℕ). slice_get xs c.loop-i.i ≡ Some mask) c.masks-mask-items.ensures
+    (slice_get-get_or items c.loop-i.i 0 (omega arith)) in
     let t = c.args.bench.now.setting in
     let same = c.setting.view_is ∙ ap (λ (b : BenchOf). b.setting) c.bench.view_is in
-    let lt = slice_get_within masks c.loop-i.i c.mask.result c.mask.ensures in
-    let at : slice_index masks c.loop-i.i ≡ c.mask.result = get_or_from_slice_get masks c.loop-i.i c.mask.result 0 c.mask.ensures in
+    let lt = slice_get_within masks c.loop-i.i mask there in
+    let at : slice_index masks c.loop-i.i ≡ mask = get_or_from_slice_get masks c.loop-i.i mask 0 there in
     let next = in_layer _ c.bench.invariant.0 c.args.block.now
-    (c.requires.layer ∙ ap (λ (b : BenchOf). b.layer) (sym c.bench.view_is)) c.loop-i.i c.mask.result c.mask.ensures in
-    let need : slice_index c.deref.result.now c.loop-i.i ≡ needed t c.mask.result =
+    (c.requires.layer ∙ ap (λ (b : BenchOf). b.layer) (sym c.bench.view_is)) c.loop-i.i mask there in
+    let need : slice_index c.deref.result.now c.loop-i.i ≡ needed t mask =
     ap (λ xs. slice_index xs c.loop-i.i) (c.deref.ensures.value ∙ c.in_ok-needs.ensures)
     ∙ get_or-map (needed t) masks c.loop-i.i 0 0 lt ∙ ap (needed t) at in
-    let row = row_there t.problem masks c.deref.result.now c.in_ok-widths.widths.rows c.loop-i.i c.mask.result (needed t c.mask.result)
-    c.row-row.result c.in_ok-widths.ensures.rows c.mask.ensures need c.row-row.ensures in
+    let row = row_there t.problem masks c.deref.result.now c.in_ok-widths.widths.rows c.loop-i.i mask (needed t mask)
+    c.row-row.result c.in_ok-widths.ensures.rows there need c.row-row.ensures in
     let bench = subst (λ (z : Setting). IsBench (bench_with z c.bench.inside.layer.now c.bench.inside.before.now)) (sym c.setting.view_is)
     c.bench.invariant.0 in
-    let is = cell_is _ bench c.setting.inside.essential c.setting.invariant c.mask.result next c.row-row.result
-    (subst (λ (z : Setting). IsRow z.problem c.mask.result (needed z c.mask.result) c.row-row.result) (sym same) row)
-    (pair_of c.least_cell.result) c.least_cell.ensures ∙ ap (λ (z : Setting). cell_for z c.mask.result) same in
+    let is = cell_is _ bench c.setting.inside.essential c.setting.invariant mask next c.row-row.result
+    (subst (λ (z : Setting). IsRow z.problem mask (needed z mask) c.row-row.result) (sym same) row)
+    (pair_of c.least_cell.result) c.least_cell.ensures ∙ ap (λ (z : Setting). cell_for z mask) same in
     ap (map pair_of) c.in_ok-push.ensures.items
     ∙ map-append pair_of c.loop-i.cells.items (c.least_cell.result ∷ [])
     ∙ ap₂ (λ (xs : List (ℕ × ℕ)) (y : ℕ × ℕ). xs ++ y ∷ []) c.loop-i.invariant (is ∙ ap (cell_for t) (sym at))

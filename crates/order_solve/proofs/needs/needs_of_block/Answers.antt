@@ -1,6 +1,6 @@
-use Rattle.std.proofs.Common.{ℕ, List, [], ◌∷◌, ◌++◌, sym, ap, ap₂, ◌∙◌}
+use Rattle.std.proofs.Common.{◌≡◌, ℕ, List, [], ◌∷◌, ◌++◌, length, slice_get, get_or, Some, sym, ap, ap₂, ◌∙◌, subst, arith}
 use Rattle.std.proofs.lemmas.List.{map_more}
-use Rattle.std.proofs.lemmas.Option.{slice_get_within, get_or_from_slice_get}
+use Rattle.std.proofs.lemmas.Option.{slice_get-get_or}
 use Rattle.subset_layers.specs.Layers.{block_masks}
 use Rattle.order_solve.specs.Benches.{BenchOf}
 use Rattle.order_solve.specs.Needs.{needed}
@@ -9,15 +9,19 @@ use Rattle.order_solve.proofs.needs.needs_of_block.Goals as goal
 
 pub needed_members-requires-clause-next : goal.needed_members-requires-clause-next
 needed_members-requires-clause-next c =
-    in_layer _ c.bench.invariant.0 c.args.block.now (c.requires ∙ ap (λ (b : BenchOf). b.layer) (sym c.bench.view_is)) c.loop-i.i c.mask.result
-    c.mask.ensures
+    let items = c.masks-mask-items.result.now in
+    let i = c.loop-mask.mask-index in
+    in_layer _ c.bench.invariant.0 c.args.block.now (c.requires ∙ ap (λ (b : BenchOf). b.layer) (sym c.bench.view_is)) i (get_or items i 0)
+    (subst (λ (xs : List ℕ). slice_get xs i ≡ Some (get_or items i 0)) c.masks-mask-items.ensures (slice_get-get_or items i 0 (omega arith)))
 
-pub loop-i-preserved : goal.loop-i-preserved
-loop-i-preserved c =
+pub loop-mask-preserved : goal.loop-mask-preserved
+loop-mask-preserved c =
     let masks = block_masks c.args.block.now in
-    let lt = slice_get_within masks c.loop-i.i c.mask.result c.mask.ensures in
-    let is = c.needed_members.ensures ∙ ap (λ (b : BenchOf). needed b.setting c.mask.result) c.bench.view_is in
+    let items = c.masks-mask-items.result.now in
+    let i = c.loop-mask.mask-index in
+    let long = ap length c.masks-mask-items.ensures in
+    let is = c.needed_members.ensures ∙ ap (λ (b : BenchOf). needed b.setting (get_or items i 0)) c.bench.view_is in
     c.in_ok-push.ensures.items
-    ∙ ap₂ (λ (xs : List ℕ) (y : ℕ). xs ++ y ∷ []) c.loop-i.invariant
-    (is ∙ ap (needed c.args.bench.now.setting) (sym (get_or_from_slice_get masks c.loop-i.i c.mask.result 0 c.mask.ensures)))
-    ∙ sym (map_more (needed c.args.bench.now.setting) masks c.loop-i.i 0 lt)
+    ∙ ap₂ (λ (xs : List ℕ) (y : ℕ). xs ++ y ∷ []) c.loop-mask.invariant
+    (is ∙ ap (λ (xs : List ℕ). needed c.args.bench.now.setting (get_or xs i 0)) c.masks-mask-items.ensures)
+    ∙ sym (map_more (needed c.args.bench.now.setting) masks i 0 (omega (arith, long)))

@@ -16,14 +16,14 @@ accepted t inputs b v some few xs ys read e =
 
 pub unreachable-requires : goal.unreachable-requires
 unreachable-requires c =
-    let e = c.inputs-few.ensures in
-    let a = accepted c.args.cells.now c.inputs-few.result e.bounded e.value e.some e.few c.in_ok-variables.variables.items
+    let e = c.inputs.ensures in
+    let a = accepted c.args.cells.now c.inputs.result e.bounded e.value e.some e.few c.in_ok-variables.variables.items
     c.deref.result.now c.in_ok-variables.ensures c.deref.ensures.value in
     (subst (Refuses c.deref.result.now) c.in-Err-NotEach.field-0-is c.in-Err-NotEach.ensures.refused).1 a.order
 
 pub unreachable-requires-in-Err-OutOfRange : goal.unreachable-requires-in-Err-OutOfRange
 unreachable-requires-in-Err-OutOfRange c =
-    let e = c.inputs-few.ensures in
-    let a = accepted c.args.cells.now c.inputs-few.result e.bounded e.value e.some e.few c.in_ok-variables.variables.items
+    let e = c.inputs.ensures in
+    let a = accepted c.args.cells.now c.inputs.result e.bounded e.value e.some e.few c.in_ok-variables.variables.items
     c.deref.result.now c.in_ok-variables.ensures c.deref.ensures.value in
     subst (Refuses c.deref.result.now) c.in-Err-OutOfRange.field-0-is c.in-Err-OutOfRange.ensures.refused (in_range c.deref.result.now a)

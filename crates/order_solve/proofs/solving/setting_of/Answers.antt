@@ -20,5 +20,5 @@ new-requires-clause-room c =
       keeps = subst (λ P. Keeps P s.order) (sym c.pairs.ensures.value) m.kept;
       size = c.size.ensures.value ∙ c.size.ensures.sifted.true_size.size_is ∙ ap (λ (p : TruthTables). size_under p.inputs (functions p) s.order) same;
     } in
-    let v = c.inputs-inputs.ensures in
-    bound_small t c.outputs-few.result bounded (omega (arith, v.value, v.few)) c.outputs-few.ensures.value c.outputs-few.ensures.few
+    let v = c.inputs.ensures in
+    bound_small t c.outputs.result bounded (omega (arith, v.value, v.few)) c.outputs.ensures.value c.outputs.ensures.few

@@ -1,7 +1,6 @@
-use Rattle.std.proofs.Common.{◌≡◌, ℕ, List, length, get_or, slice_index, inl, inr, sym, ap, ◌∙◌, subst, arith}
+use Rattle.std.proofs.Common.{◌≡◌, ◌<◌, ℕ, List, length, get_or, slice_index, inl, inr, sym, ap, ◌∙◌, subst, arith}
 use Rattle.std.proofs.lemmas.Bool.{cases_eq}
 use Rattle.std.proofs.lemmas.List.{get_or-map}
-use Rattle.std.proofs.lemmas.Option.{slice_get_within, get_or_from_slice_get}
 use Rattle.layer_core.proofs.Layouts.{length-map_lem}
 use Rattle.subset_layers.specs.Layers.{block_masks}
 use Rattle.subset_layers.specs.declared.costs.Cell.{Cell}
@@ -15,20 +14,22 @@ use Rattle.order_solve.proofs.working.post_block.Goals as goal
 pub post_cell-requires-clause-cell : goal.post_cell-requires-clause-cell
 post_cell-requires-clause-cell g c κs within =
     let masks = block_masks c.args.block.now in
+    let items = c.masks-mask-items.result.now in
+    let is = c.masks-mask-items.ensures in
     let t = c.args.worker.now.bench.now.setting in
     let cells : List Cell = c.args.cells.now in
     let none : Cell = record { cost = 0; variable = 0 } in
-    let lt = slice_get_within masks c.loop-i.i c.mask.result c.mask.ensures in
+    let lt : c.loop-i.i < length masks = (let l = ap length is in omega (arith, l)) in
     let long : length cells ≡ length masks = sym (length-map_lem pair_of cells) ∙ ap length c.requires.cells ∙ length-map_lem (cell_for t) masks in
     sym (get_or-map pair_of cells c.loop-i.i none (0, 0) (omega (arith, long, lt)))
     ∙ ap (λ (xs : List (ℕ × ℕ)). get_or xs c.loop-i.i (0, 0)) c.requires.cells
     ∙ get_or-map (cell_for t) masks c.loop-i.i 0 (0, 0) lt
-    ∙ ap (cell_for t) (get_or_from_slice_get masks c.loop-i.i c.mask.result 0 c.mask.ensures)
+    ∙ ap (λ (xs : List ℕ). cell_for t (get_or xs c.loop-i.i 0)) (sym is)
 
 pub loop-i-preserved : goal.loop-i-preserved
 loop-i-preserved g c =
     let masks = block_masks c.args.block.now in
-    let at : slice_index masks c.loop-i.i ≡ c.mask.result = get_or_from_slice_get masks c.loop-i.i c.mask.result 0 c.mask.ensures in
+    let at = ap (λ (xs : List ℕ). slice_index xs c.loop-i.i) (sym c.masks-mask-items.ensures) in
     record {
       stays = stays_trans c.args.seat.now c.loop-i.seat c.post_cell.new.seat c.loop-i.invariant.stays c.post_cell.ensures.stays;
       posted = λ j lt. elim (cases_eq j c.loop-i.i) [
@@ -42,5 +43,5 @@ returns-clause-posted g c = λ mask m.
     let masks = block_masks c.args.block.now in
     let k = index_of masks mask m in
     let f = c.loop-i-test.false in
-    let l = c.len-i-end.ensures.value in
+    let l = ap length c.masks-mask-items.ensures in
     subst (λ (n : ℕ). IsPosted c.loop-i.seat n) k.2 (c.loop-i.invariant.posted k.0 (omega (arith, k.1, f, l)))
