@@ -1,7 +1,10 @@
 //! A native baseline: exact variable ordering by the dynamic program over subsets (Friedman and Supowit 1990), depth first and
 //! on threads. It claims nothing but speed, and trusts its input: products of 0, 1 and -, and outputs of 0 and 1.
 //!
-//! usage: baseline [WORKERS] FILE      (rustc -O baseline.rs)
+//! With `--bound` it leaves out each set whose fewest nodes, with one for each variable outside that some output depends on, are
+//! above the bound, and makes tables only on the way to the others; the bound must be the size of some order.
+//!
+//! usage: baseline [--bound NODES] [WORKERS] FILE      (rustc -O baseline.rs)
 
 use std::sync::atomic::{AtomicU32, AtomicUsize, Ordering::Relaxed};
 
@@ -180,6 +183,94 @@ impl Search<'_> {
     }
 }
 
+/// The cost of a set that is left out.
+const LEFT_OUT: u32 = u32::MAX;
+
+/// The search below a bound.
+struct Bounded<'a> {
+    search: Search<'a>,
+    costs: &'a [AtomicU32],
+    bound: u32,
+    /// The variables that some output depends on.
+    essential: u16,
+    cut: usize,
+}
+
+/// A set on the way to the one that is looked at, the variable that it was made with, and its table if that was needed.
+struct Step {
+    set: u16,
+    variable: usize,
+    table: Option<Table>,
+}
+
+impl Bounded<'_> {
+    fn cost(&self, set: u16) -> u32 {
+        self.costs[usize::from(set)].load(Relaxed)
+    }
+
+    /// The sets that have the path's last set and any of the variables from `cut` to `above`, those with smaller numbers first.
+    fn walk(&self, scratch: &mut Scratch, path: &mut Vec<Step>, above: usize) {
+        let set = path[path.len() - 1].set;
+        if above == self.cut {
+            return self.look(scratch, path, set);
+        }
+        let variable = above - 1;
+        self.walk(scratch, path, variable);
+        path.push(Step { set: set | 1 << variable, variable, table: None });
+        self.walk(scratch, path, variable);
+        path.pop();
+    }
+
+    /// Keeps the widths into a set and its cost, if that can be within the bound.
+    fn look(&self, scratch: &mut Scratch, path: &mut [Step], set: u16) {
+        let affordable = (0..self.search.problem.inputs).filter(|&x| set >> x & 1 == 1 && self.cost(set ^ 1 << x) != LEFT_OUT).map(|x| 1u16 << x).sum::<u16>();
+        if affordable == 0 {
+            return;
+        }
+        self.search.keep(self.table(scratch, path), set);
+        let through = |x: usize| self.cost(set ^ 1 << x) + self.search.widths[usize::from(set) * 16 + x].load(Relaxed);
+        let cost = (0..16).filter(|&x| affordable >> x & 1 == 1).map(through).min().unwrap();
+        if cost + (self.essential & !set).count_ones() <= self.bound {
+            self.costs[usize::from(set)].store(cost, Relaxed);
+        }
+    }
+
+    /// The table of the path's last set.
+    fn table<'p>(&self, scratch: &mut Scratch, path: &'p mut [Step]) -> &'p Table {
+        let made = path.iter().rposition(|step| step.table.is_some()).unwrap();
+        for at in made + 1..path.len() {
+            let (before, variable) = (&path[at - 1], path[at].variable);
+            path[at].table = Some(scratch.with(self.search.problem, before.table.as_ref().unwrap(), before.set, variable));
+        }
+        path[path.len() - 1].table.as_ref().unwrap()
+    }
+
+    /// The sets whose variables below `cut` are those of the part; parts with fewer of them are done.
+    fn part(&self, scratch: &mut Scratch, first: &Table, part: u16) {
+        let mut path = vec![Step { set: 0, variable: 0, table: Some(first.clone()) }];
+        for variable in (0..self.cut).filter(|&variable| part >> variable & 1 == 1) {
+            let set = path[path.len() - 1].set | 1 << variable;
+            path.push(Step { set, variable, table: None });
+        }
+        self.walk(scratch, &mut path, self.search.problem.inputs);
+    }
+}
+
+/// Does some numbered parts on so many threads.
+fn on_threads(workers: usize, parts: &[u16], work: impl Fn(&mut Scratch, u16) + Sync) {
+    let next = AtomicUsize::new(0);
+    std::thread::scope(|scope| {
+        for _ in 0..workers {
+            scope.spawn(|| {
+                let mut scratch = Scratch::default();
+                while let Some(&part) = parts.get(next.fetch_add(1, Relaxed)) {
+                    work(&mut scratch, part);
+                }
+            });
+        }
+    });
+}
+
 /// The table of the empty set: a value for each point of each output's support.
 fn first_table(problem: &Problem) -> Table {
     let first = problem.values[0];
@@ -193,40 +284,41 @@ fn first_table(problem: &Problem) -> Table {
 }
 
 fn main() {
-    let words: Vec<String> = std::env::args().skip(1).collect();
+    let mut words: Vec<String> = std::env::args().skip(1).collect();
+    let bound: Option<u32> = (words.first().map(String::as_str) == Some("--bound")).then(|| words.drain(..2).last().unwrap().parse().unwrap());
     let (workers, file) = match words.as_slice() {
         [file] => (4, file),
         [workers, file] => (workers.parse().unwrap(), file),
-        _ => panic!("usage: baseline [WORKERS] FILE"),
+        _ => panic!("usage: baseline [--bound NODES] [WORKERS] FILE"),
     };
     let problem = read(&std::fs::read_to_string(file).unwrap());
     let (inputs, table) = (problem.inputs, first_table(&problem));
     assert!(problem.outputs > 0 && inputs <= 16);
     let widths: Vec<AtomicU32> = (0..16usize << inputs).map(|_| AtomicU32::new(0)).collect();
-    let (search, next, cut) = (Search { problem: &problem, widths: &widths }, AtomicUsize::new(0), inputs.min(6));
-    std::thread::scope(|scope| {
-        for _ in 0..workers {
-            scope.spawn(|| {
-                let mut scratch = Scratch::default();
-                loop {
-                    let part = next.fetch_add(1, Relaxed);
-                    if part >> cut != 0 {
-                        break;
-                    }
-                    search.part(&mut scratch, &table, part as u16, cut);
-                }
-            });
-        }
-    });
+    let (search, cut) = (Search { problem: &problem, widths: &widths }, inputs.min(6));
+    let parts: Vec<u16> = (0..1 << cut).collect();
     let width = |set: usize, variable: usize| widths[set * 16 + variable].load(Relaxed);
     let inside = |set: usize| (0..inputs).filter(move |variable| set >> variable & 1 == 1);
     let mut costs = vec![0u32; 1 << inputs];
-    for set in 1..1usize << inputs {
-        costs[set] = inside(set).map(|x| costs[set ^ 1 << x] + width(set, x)).min().unwrap();
+    if let Some(bound) = bound {
+        let found: Vec<AtomicU32> = (0..1usize << inputs).map(|set| AtomicU32::new(if set == 0 { 0 } else { LEFT_OUT })).collect();
+        let essential = problem.supports.iter().fold(0, |all, support| all | support);
+        let bounded = Bounded { search, costs: &found, bound, essential, cut };
+        for size in 0..=cut as u32 {
+            let parts: Vec<u16> = parts.iter().copied().filter(|part| part.count_ones() == size).collect();
+            on_threads(workers, &parts, |scratch, part| bounded.part(scratch, &table, part));
+        }
+        costs = found.iter().map(|cost| cost.load(Relaxed)).collect();
+    } else {
+        on_threads(workers, &parts, |scratch, part| search.part(scratch, &table, part, cut));
+        for set in 1..1usize << inputs {
+            costs[set] = inside(set).map(|x| costs[set ^ 1 << x] + width(set, x)).min().unwrap();
+        }
     }
     let (mut set, mut order, mut levels) = ((1usize << inputs) - 1, Vec::new(), Vec::new());
+    assert!(costs[set] != LEFT_OUT, "no order has a size within the bound");
     while set != 0 {
-        let top = inside(set).find(|&x| costs[set ^ 1 << x] + width(set, x) == costs[set]).unwrap();
+        let top = inside(set).find(|&x| costs[set ^ 1 << x] != LEFT_OUT && costs[set ^ 1 << x] + width(set, x) == costs[set]).unwrap();
         order.push(top.to_string());
         levels.push(width(set, top).to_string());
         set ^= 1 << top;

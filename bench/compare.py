@@ -3,6 +3,7 @@
 
 Runs minorder (alone, and with a certificate), ordercheck on that certificate, the native baseline and CUDD's exact reordering in turns on the
 same files, and prints a table: the least wall time of K runs, processor time and peak memory of each, ratios, and the sizes that were found.
+The baseline runs twice, over all sets and with the optimum as its bound, which is the tightest one.
 FOLDER is what peers.sh made; without it both programs run alone. The names are those of files.py, all where none is given.
 """
 import argparse
@@ -76,19 +77,22 @@ def compare(name, given, room):
         commands["native"] = [f"{given.peers}/baseline", str(given.workers), pla]
         if os.path.exists(f"{given.peers}/cudd"):
             commands["CUDD"] = [f"{given.peers}/cudd", "exact", pla]
-    ran = {tool: Ran() for tool in ("minorder", "certificate", "check", "native", "CUDD")}
+    ran = {tool: Ran() for tool in ("minorder", "certificate", "check", "native", "bounded", "CUDD")}
     late = set()
     for _ in range(given.runs):
         for tool, words in commands.items():
             if tool not in late and not ran[tool].again(words, given.limit):
                 late.add(tool)
+        if given.peers and "minorder" not in late:
+            ran["bounded"].again([f"{given.peers}/baseline", "--bound", ran["minorder"].line("nodes"), str(given.workers), pla], given.limit)
     found, best = ran["minorder"], ran["minorder"].line("nodes")
-    if ran["native"].text and (ran["native"].line("nodes"), ran["native"].line("order")) != (best, found.line("order")):
-        sys.exit(f"{name}: the baseline found another answer")
+    for native in ("native", "bounded"):
+        if ran[native].text and (ran[native].line("nodes"), ran[native].line("order")) != (best, found.line("order")):
+            sys.exit(f"{name}: the baseline found another answer")
     if ran["check"].text and ran["check"].text != f"valid {best}\n":
         sys.exit(f"{name}: ordercheck says {ran['check'].text}")
     exact = f"over {given.limit}" if "CUDD" in late else number(ran["CUDD"].wall, ".3f")
-    cells = [name, number(found.wall, ".3f"), number(found.processor, ".2f"), f"{found.peak:.0f}", number(ran["certificate"].wall, ".3f"), f"{ran['certificate'].peak:.0f}", number(ran["check"].wall, ".3f"), f"{ran['check'].peak:.0f}", ratio(ran["check"], found), number(ran["native"].wall, ".3f"), ratio(found, ran["native"]), exact, best, ran["CUDD"].line("nodes with complement edges")]
+    cells = [name, number(found.wall, ".3f"), number(found.processor, ".2f"), f"{found.peak:.0f}", number(ran["certificate"].wall, ".3f"), f"{ran['certificate'].peak:.0f}", number(ran["check"].wall, ".3f"), f"{ran['check'].peak:.0f}", ratio(ran["check"], found), number(ran["native"].wall, ".3f"), number(ran["native"].processor, ".2f"), number(ran["bounded"].wall, ".3f"), number(ran["bounded"].processor, ".2f"), exact, best, ran["CUDD"].line("nodes with complement edges")]
     print("| " + " | ".join(cells) + " |", flush=True)
 
 
@@ -102,7 +106,7 @@ def main():
     given.add_argument("--workers", type=int, default=4)
     given.add_argument("names", nargs="*")
     given = given.parse_args()
-    heads = ["File", "minorder, s", "processor, s", "MB", "with --cert, s", "MB", "ordercheck, s", "MB", "ordercheck / minorder", "native, s", "minorder / native", "CUDD exact, s", "nodes", "CUDD's, with complement edges"]
+    heads = ["File", "minorder, s", "processor, s", "MB", "with --cert, s", "MB", "ordercheck, s", "MB", "ordercheck / minorder", "native, s", "processor, s", "native with the bound, s", "processor, s", "CUDD exact, s", "nodes", "CUDD's, with complement edges"]
     print("| " + " | ".join(heads) + " |\n|" + "---|" * len(heads))
     with tempfile.TemporaryDirectory() as room:
         for name in given.names or files.FILES:
