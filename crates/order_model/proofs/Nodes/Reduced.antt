@@ -189,9 +189,6 @@ zip_root R (s ∷ roots) (f ∷ F) z zero r h = (f, inl refl, z.0)
 zip_root R (s ∷ roots) (f ∷ F) z (suc k) r h = let rest = zip_root R roots F z.1 k r (omega arith) in (rest.0, inr rest.1, rest.2)
 
 module _ (n : ℕ) (F : List Function) (order : List ℕ) (o : IsOrder n order) (d : Graph) (rep : Represents n F order d) where
-  ordered_ok : IsDiagram n d
-  ordered_ok = rep.diagram
-
   -- restricting variables above a ref leaves its function
   free_all : (xs : List ℕ) (a i : ℕ) → AtPlaces n order a xs → a + length xs ≤ i → (r : Ref) → IsBefore (length d.nodes) r →
       StandsFrom order d.nodes i r → (f : Function) → SameFunction n (value d.nodes r) f →

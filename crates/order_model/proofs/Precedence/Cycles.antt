@@ -229,9 +229,6 @@ module _ (n : ℕ) (P : List Pair) (mask x : ℕ) (low : is_lawful P (members n 
     first = none_before;
   }
 
-  rest_lawful : is_lawful P (members n (mask - 2 ^ x)) ≡ true
-  rest_lawful = lawful_same P (members n (mask - 2 ^ x)) (without x (members n mask)) (members_without n mask x parts.0) ∙ parts.1
-
 greedy_first : (n : ℕ) (P : List Pair) (order : List ℕ) (mask : ℕ) → IsGreedy n P mask order → is_lawful P (members n mask) ≡ true → FirstList n P mask order
 unfolding IsGreedy IsDistinct
 greedy_first n P [] mask e l = record {

@@ -3,7 +3,7 @@
 --     keeps_in, unkept_in      whether an order keeps the pairs, by the bits of the masks
 --     rows_more, row_few      the number of pairs, one mask more; a mask has at most 15 of them
 --     row_pair, row_skip, row_end      the list of pairs, one variable and one mask more
-use Rattle.std.proofs.Common.{◌≡◌, ◌≢◌, ℕ, ◌+◌, ◌-◌, ◌^◌, ◌<◌, ◌≤◌, Bool, true, false, cond, inl, inr, List, [], ◌∷◌, ◌++◌, map, length, get_or, refl, sym, ap, ap₂, ◌∙◌, subst, arith, nat_eq, eqb, eqb-true, eq-eqb, ne_eqb, bit_and, w16, lt-ltb, le-ltb, ltb, count_ones, length-append, lit<, append-nil, append_assoc}
+use Rattle.std.proofs.Common.{◌≡◌, ◌≢◌, ℕ, ◌+◌, ◌-◌, ◌^◌, ◌<◌, ◌≤◌, Bool, true, false, cond, inl, inr, List, [], ◌∷◌, ◌++◌, map, length, get_or, refl, sym, ap, ap₂, ◌∙◌, subst, arith, nat_eq, eqb, eqb-true, eq-eqb, ne_eqb, bit_and, w16, lt-ltb, le-ltb, ltb, count_ones, length-append, append-nil, append_assoc}
 use Rattle.std.proofs.lemmas.List.{length-map, map-append}
 use Rattle.std.proofs.lemmas.List.Elements.{filter-append}
 use Rattle.std.proofs.lemmas.Grind.{flat_map-append}
@@ -11,7 +11,7 @@ use Rattle.std.specs.Int.{bit_at, bit_not}
 use Rattle.std.specs.List.{flat_map, filter, IsDistinct}
 use Rattle.std.proofs.lemmas.Bool.{cases_order, and_parts, and_from, or_cases, false≢true, false_from_ne_true}
 use Rattle.std.proofs.lemmas.Nat.Bits.{bit_at_not}
-use Rattle.std.proofs.lemmas.Nat.{ones-le, zero_from_ones, and_le_l, and_le_r}
+use Rattle.std.proofs.lemmas.Nat.{and_le_l, and_le_r}
 use Rattle.std.proofs.lemmas.Map.Steps.{length-le_from_distinct_below}
 use Rattle.order_model.specs.Orders.{has, variables, members, IsOrder}
 use Rattle.order_model.specs.Pairs.{Pair, has_pair, is_above, keeps, is_lawful}
@@ -130,12 +130,6 @@ broken_at n below order k seen o w s h l ne =
     unkept_in n below order o w k at.0 at.1 h (subst (λ (v : ℕ). HasBit below (get_or order k 0) v) (sym at.2) both.0)
 
 -- ---- numbers of pairs
-
-ones_zero : count_ones 0 ≡ 0
-ones_zero = let l = ones-le 0 0 (lit< tt) in omega arith
-
-ones_one : count_ones 1 ≡ 1
-ones_one = let l = ones-le 1 1 (lit< tt) in let z : count_ones 1 ≢ 0 = (λ e. let r = zero_from_ones 1 e in absurd (omega arith)) in omega arith
 
 -- the pairs of the first k masks
 pub rows_to : ℕ → List ℕ → ℕ → List Pair

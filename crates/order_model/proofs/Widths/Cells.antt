@@ -242,16 +242,6 @@ cost_known n F P bound mask h = by (nat_eq mask 0) refl h
 
 -- ---- the cell from smaller sets
 
--- two rising lists of the same members have the same first one
-first_same : (xs ys : List ℕ) (z : ℕ) → IsRising xs → IsRising ys → has xs z ≡ true → ((y : ℕ) → has xs y ≡ true → has ys y ≡ true) →
-    ((y : ℕ) → has ys y ≡ true → has xs y ≡ true) → first_of xs ≡ first_of ys
-first_same xs ys z r s h f g =
-    let a = first_has xs z h in
-    let b = first_has ys z (f z h) in
-    let le = first_le ys (first_of xs) s (f (first_of xs) a) in
-    let ge = first_le xs (first_of ys) r (g (first_of ys) b) in
-    omega arith
-
 module _ (n : ℕ) (F : List Function) (P : List Pair) (base : List ℕ) (o : IsOrder n base) (k : Keeps P base) (bound mask : ℕ)
     (costs widths : ℕ → ℕ) (given : AreForCell n F P bound mask costs widths) where
   -- the sum of a candidate is the least cost with it on top
