@@ -1,9 +1,9 @@
 -- The multiplexer's certificate is good, and its cells give its best order: the premises of the laws can be met.
-use Rattle.std.proofs.Common.{◌≡◌, ℕ, zero, suc, ◌+◌, ◌<◌, ◌≤◌, ◌↔◌, ◌^◌, true, false, cond, List, [], ◌∷◌, refl, arith, lit<, lit≤, IsTrue, IsFalse, nat_eq, eqb-true, inl, inr}
+use Rattle.std.proofs.Common.{◌≡◌, ℕ, zero, suc, ◌+◌, ◌<◌, ◌≤◌, ◌↔◌, ◌^◌, true, false, List, [], ◌∷◌, refl, arith, lit<, lit≤, IsTrue, IsFalse, nat_eq, eqb-true, inl, inr}
 use Rattle.std.specs.List.{IsDistinct}
 use Rattle.std.proofs.lemmas.Bool.{false≢true, or_cases}
 use Rattle.std.proofs.lemmas.List.Elements.{All-from_recursion}
-use Rattle.order_model.specs.Functions.{Function, bit, points, restrict, table, depends}
+use Rattle.order_model.specs.Functions.{Function, points, restrict, table, depends}
 use Rattle.order_model.specs.Orders.{IsOrder, has, members, without}
 use Rattle.order_model.specs.Levels.{subfunctions, reach, dependents, level_count, level_counts, size_under}
 use Rattle.order_model.specs.Widths.{outside, width, cost, arrangements, least_of, least, essential, essentials_outside}
@@ -13,9 +13,8 @@ use Rattle.order_model.specs.Certificates.{Certificate, Cell, IsGood, reserve, s
 use Rattle.order_model.specs.Diagrams.{Fewest, IsFirst}
 use Rattle.order_model.proofs.Certificates.Potential.{good_is_fewest}
 use Rattle.order_model.proofs.Widths.Clipped.{clip}
-
-abbrev mux : Function
-mux p = cond (bit p 2) (bit p 1) (bit p 0)
+use Rattle.order_model.proofs.Worked.Counts.{mux}
+use Rattle.order_model.proofs.Worked.Pairs.{cell}
 
 abbrev F : List Function
 F = mux ∷ []
@@ -42,9 +41,6 @@ is_order = record { all = each; once = ((refl, (refl, tt)), ((refl, tt), (tt, tt
     each (suc zero) = (λ h. lit< tt, λ h. refl)
     each (suc (suc zero)) = (λ h. lit< tt, λ h. refl)
     each (suc (suc (suc x))) = (below (suc (suc (suc x))), λ h. absurd (omega arith))
-
-abbrev cell : ℕ → ℕ → Cell
-cell m c = record { mask = m; cost = c }
 
 abbrev certificate : Certificate
 certificate = record {
