@@ -11,10 +11,10 @@ use Rattle.order_model.specs.declared.diagrams.Node.{Node}
 use Rattle.order_model.specs.Functions.{Point, Function, bit, restrict, SameFunction, from_table}
 use Rattle.order_model.specs.Orders.{has, IsOrder, place_in}
 use Rattle.order_model.specs.Levels.{subfunctions, reach}
-use Rattle.order_model.specs.Diagrams.{Graph, IsBefore, IsOrdered, IsOf, IsChild, IsReduced, Reached, Represents, value}
+use Rattle.order_model.specs.Diagrams.{Graph, IsBefore, IsOrdered, IsOf, IsReduced, Reached, Represents, value}
 use Rattle.order_model.specs.Diagrams.Reached.{from_root, from_parent}
 use Rattle.order_model.proofs.Lists.Orders.{has_at, place_get}
-use Rattle.order_model.proofs.Nodes.Paths.{before_more, child_has, value_place, value_terminal}
+use Rattle.order_model.proofs.Nodes.Paths.{before_more, child_has, child_is_before, value_place, value_terminal}
 use Rattle.order_model.proofs.Nodes.Construction.{own_restriction, zip_length}
 use Rattle.order_model.proofs.Nodes.Appended.{get_left, get_right, get_cases, graph_of, AllFit, diagram_of, value_append}
 use Rattle.truth_table.specs.Assignments.{assignments, values_at}
@@ -101,9 +101,6 @@ leveled_at_leaves n fs order level cs z = record {
 }
 
 -- ---- one level up
-
-child_is_before : (k : ℕ) (r : Ref) (node : Node) → IsChild r node → IsBefore k node.low → IsBefore k node.high → IsBefore k r
-child_is_before k r node c l u = elim c [ inl e ↦ subst (IsBefore k) e l | inr e ↦ subst (IsBefore k) e u ]
 
 module _ (n : ℕ) (fs : List Function) (order : List ℕ) (level x : ℕ) (o : IsOrder n order) (inside : level < length order)
     (at_level : x ≡ get_or order level 0) (old : List Node) (below : List ℕ) (rest : Leveled n (restricted x fs) order (level + 1) old below)

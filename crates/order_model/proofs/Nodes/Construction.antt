@@ -16,11 +16,11 @@ use Rattle.order_model.specs.Functions.{Point, Function, bit, restrict, SameFunc
 use Rattle.order_model.specs.Orders.{has, IsOrder, place_in}
 use Rattle.order_model.specs.Levels.{subfunctions, reach, dependents, level_count, size_under}
 use Rattle.order_model.specs.Widths.{cost}
-use Rattle.order_model.specs.Diagrams.{Graph, IsBefore, IsOrdered, IsOf, IsChild, Represents, child_at, value, nodes_at}
+use Rattle.order_model.specs.Diagrams.{Graph, IsBefore, IsOrdered, IsOf, Represents, child_at, value, nodes_at}
 use Rattle.order_model.proofs.Lists.Sets.{Among, among_left, among_right, among_cases, among_filter, among_from_filter, among_map, among_from_map, among_flat_map, among_from_flat_map, among_unique, unique_among}
 use Rattle.order_model.proofs.Functions.Tables.{same_trans, same_from_table, same_table_decides}
 use Rattle.order_model.proofs.Lists.Orders.{has_at, place_get}
-use Rattle.order_model.proofs.Nodes.Paths.{before_more, child_has, value_place, value_terminal}
+use Rattle.order_model.proofs.Nodes.Paths.{before_more, child_has, child_is_before, value_place, value_terminal}
 use Rattle.order_model.proofs.Functions.Exchange.{mix_is, Below, subfunctions_fix, below_from_has, above_width, level_lem, size_is_cost}
 use Rattle.order_model.proofs.Nodes.Appended.{get_left, get_right, get_cases, graph_of, AllFit, diagram_of, value_append}
 
@@ -162,9 +162,6 @@ module _ (n : ℕ) (F : List Function) (order : List ℕ) (o : IsOrder n order) 
             λ p l.
                 value_terminal [] p (f a) ∙ ap f (mix_is n above a p a fix.1 (λ y lt. ap (λ b. cond b (bit a y) (bit p y)) (sym (all y lt)))) ∙ sym (fix.2 p l),
           )
-
-child_is_before : (k : ℕ) (r : Ref) (node : Node) → IsChild r node → IsBefore k node.low → IsBefore k node.high → IsBefore k r
-child_is_before k r node c l u = elim c [ inl e ↦ subst (IsBefore k) e l | inr e ↦ subst (IsBefore k) e u ]
 
 -- one more level on top
 module _ (n : ℕ) (F : List Function) (order : List ℕ) (o : IsOrder n order) (above : List ℕ) (x : ℕ) (below : List ℕ)
