@@ -1,10 +1,10 @@
 -- The refs of a level, one after the other.
 --     ref_found      the ref over a pair is found, or put behind the others
---     numbered_none, numbered_step      at the start, and with one more ref
+--     numbered_step      with one more ref
 use Rattle.std.proofs.Common.{◌≡◌, ◌≢◌, ℕ, zero, suc, ◌+◌, ◌<◌, ◌⊎◌, inl, inr, List, [], ◌∷◌, ◌++◌, map, length, get_or, slice_get, refl, sym, ap, ◌∙◌, arith, subst, Some, length-append, Bool, true, false, cond, not, add-zero}
 use Rattle.std.specs.List.{IsDistinct, list_any}
 use Rattle.std.proofs.lemmas.Bool.{cases_eq}
-use Rattle.std.proofs.lemmas.List.{map-append, append_assoc, append-nil, get_or_append_left, get_or_at}
+use Rattle.std.proofs.lemmas.List.{map-append, append_assoc, get_or_append_left, get_or_at}
 use Rattle.std.proofs.lemmas.Option.{slice_get_within, same_Some}
 use Rattle.order_model.specs.Widths.{same_pair}
 use Rattle.order_model.specs.declared.diagrams.Node.{Node}
@@ -37,17 +37,6 @@ ref_found base x u keys keys' nodes nodes' place is_new ne a k v at same once ns
         let kk = k ∙ ap (λ b. cond b keys (keys ++ u ∷ [])) e in
         let p = same_key keys' once place (length keys) u stored (ap (λ ks. slice_get ks (length keys)) kk ∙ last) in
         inr (ne, kk, ns ∙ ap (λ b. cond b (nodes ++ node_over x u ∷ []) nodes) (a ∙ ap not e), ap (λ z. base + z + 2) p)
-
-pub numbered_none : (x : ℕ) (old : List Node) → IsNumbered x old [] [] old []
-unfolding IsDistinct
-numbered_none x old = record {
-  nodes_are = sym (append-nil old);
-  once = tt;
-  few = omega arith;
-  long = refl;
-  named = λ k h. absurd (omega arith);
-  used = λ i u e. cc;
-}
 
 module _ (x : ℕ) (old : List Node) (pairs keys : List (ℕ × ℕ)) (nodes : List Node) (numbers : List ℕ) (m : IsNumbered x old pairs keys nodes numbers)
     (u : ℕ × ℕ) (keys' : List (ℕ × ℕ)) (nodes' : List Node) (c : ℕ) (s : Seeks (length old) x u keys keys' nodes nodes' c) where
