@@ -21,17 +21,17 @@ fn len_until(text: &[u8], byte: u8) -> usize
 }
 
 /// Whether a byte is a blank.
-pub(crate) fn blank(b: u8) -> bool
+pub(crate) fn is_blank_byte(b: u8) -> bool
     ensures { result ≡ is_blank b }
 {
     b == b' ' || (b == b'\t' || b == b'\r')
 }
 
 /// Whether a byte of a term is no position.
-pub(crate) fn skipped(b: u8) -> bool
+pub(crate) fn is_separator(b: u8) -> bool
     ensures { result ≡ (is_blank b || b == bar) }
 {
-    blank(b) || b == b'|'
+    is_blank_byte(b) || b == b'|'
 }
 
 /// The place of the first blank.
@@ -39,7 +39,7 @@ fn blank_place(text: &[u8]) -> Option<usize>
     ensures first { result ≡ position is_blank text.now }
     ensures bound { IfSome result (λ place. place < length text.now) }
 {
-    text.iter().position(|b| blank(*b))
+    text.iter().position(|b| is_blank_byte(*b))
 }
 
 /// How many bytes stand before a blank, or all of them.
@@ -81,7 +81,7 @@ pub(crate) fn next_word(text: &[u8]) -> Option<(&[u8], &[u8])>
 {
     let mut rest = text;
     while let [b, more @ ..] = rest {
-        if !blank(*b) {
+        if !is_blank_byte(*b) {
             let (word, after) = rest.split_at(word_len(rest));
             return Some((word, after));
         }

@@ -9,7 +9,7 @@ ghost use Rattle.order_model.specs.Products.{product_of};
 ghost use Rattle.pla_reader.specs.Masks.{Fits, ReadsInput, ReadsOutput};
 
 use crate::errors::LineFault;
-use crate::lines::skipped;
+use crate::lines::is_separator;
 use order_model::Term;
 
 /// The masks of a term while it is read.
@@ -80,7 +80,7 @@ pub(crate) fn row(n: u8, m: u8, takes_dont_cares: bool, line: &[u8]) -> Result<T
     };
     let mut at = 0u8;
     for b in line {
-        if skipped(*b) {
+        if is_separator(*b) {
             continue;
         }
         if at < n {

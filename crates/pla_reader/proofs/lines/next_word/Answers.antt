@@ -8,8 +8,8 @@ loop-rest-preserved c = record {
   shorter = search rules;
 }
 
-pub returns-then-not-blank-clause-shorter : goal.returns-then-not-blank-clause-shorter
-returns-then-not-blank-clause-shorter c = let some = word_some c.loop-rest.rest.now (omega arith) (search rules) in
+pub returns-then-not-is_blank_byte-clause-shorter : goal.returns-then-not-is_blank_byte-clause-shorter
+returns-then-not-is_blank_byte-clause-shorter c = let some = word_some c.loop-rest.rest.now (omega arith) (search rules) in
     rw c.split_at.ensures.back (omega (arith, length-drop c.word_len.result c.loop-rest.rest.now))
 
 pub returns-clause-none : goal.returns-clause-none

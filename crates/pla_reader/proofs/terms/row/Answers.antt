@@ -6,8 +6,8 @@ use Rattle.pla_reader.proofs.terms.row.Goals.{then-at-n+in_ok-masks, else-at-n+t
 pub loop-b-init : goal.loop-b-init
 loop-b-init c = is_at_start c.args.takes_dont_cares c.args.n c.args.m c.args.line.now
 
-pub loop-b-preserved-then-skipped : goal.loop-b-preserved-then-skipped
-loop-b-preserved-then-skipped c =
+pub loop-b-preserved-then-is_separator : goal.loop-b-preserved-then-is_separator
+loop-b-preserved-then-is_separator c =
     rw (add-one c.loop-b.b-index)
     (skip_one _ _ _ c.args.line.now c.loop-b.b-index c.loop-b.at c.loop-b.masks c.loop-b.invariant (omega arith) (search rules))
 
