@@ -1,9 +1,8 @@
 -- What the program holds after a further line.
-use Rattle.std.proofs.Common.{◌≡◌, ℕ, ◌≤◌, refl, sym, ◌∙◌, ap, Bool, true, false, not, ◌&&◌, ◌==◌, List, [], ◌∷◌, ◌++◌, length, map, Option, Some, None, unwrap_or, is_some, filter_map, IfSome, ◌⊎◌, inl, inr, arith, rules, Result, Ok, Err, IsErrAnd}
+use Rattle.std.proofs.Common.{◌≡◌, ℕ, ◌≤◌, refl, sym, ◌∙◌, ap, Bool, true, false, ◌&&◌, List, [], ◌∷◌, ◌++◌, length, map, Option, Some, None, unwrap_or, is_some, filter_map, IfSome, ◌⊎◌, inl, inr, rules, Result, Ok, Err, IsErrAnd}
 use Rattle.std.specs.Option.{option_to_list, option_map}
 use Rattle.std.specs.List.{All}
 use Rattle.std.proofs.lemmas.List.Elements.{filter_map-append, All-nil, All-append}
-use Rattle.std.proofs.lemmas.Bool.Decides.{nat_tests}
 use mathlib.Core.List.{append-nil, map-append}
 use Rattle.pla_reader.specs.declared.errors.LineFault.{LineFault}
 use Rattle.pla_reader.specs.declared.errors.LineFault.TheVariants.{MissingHead, InputCount, OutputCount, BadNumber, UnknownDirective}
@@ -77,10 +76,6 @@ none_filled (x ∷ xs) e = absurd cc
 
 rows_none : {A B C : Type 0} (f : A → C) (g : B → C) (xs : List A) (ys : List B) → map f xs ≡ map g ys → ys ≡ [] → xs ≡ []
 rows_none f g xs ys e none = none_filled xs (filled_alike f g xs ys e ∙ rw none refl)
-
-pub filled_from_length : (terms : List Term) → not (length terms == 0) ≡ is_filled terms
-filled_from_length [] = refl
-filled_from_length (t ∷ ts) = grind (arith, nat_tests)
 
 -- a count or a type that has no fault has none before it
 pub unrepeated_count : (known : Option ℕ) (given : List (List ℕ)) (outside : LineFault) → head_fault (is_some known) given outside ≡ None → known ≡ None

@@ -4,7 +4,7 @@ use Rattle.std.specs.Option.{option_map, option_to_list}
 use Rattle.std.specs.List.{range_with_len, list_all, prefix_len}
 use Rattle.std.proofs.lemmas.Bool.{cases_lt}
 use Rattle.std.proofs.lemmas.List.{length-append, take-append-le, append-nil}
-use Rattle.std.proofs.lemmas.List.Elements.{filter_map-append, All-nil}
+use Rattle.std.proofs.lemmas.List.Elements.{filter_map-append}
 use Rattle.std.proofs.Math.ListN.{get_or-append}
 use Rattle.std.proofs.Math.Seq.{take-append_seam, get_or-append_seam}
 use mathlib.Core.List.{append_assoc}
@@ -20,9 +20,8 @@ use Rattle.pla_reader.specs.Lines.{Line, is_end, description, said, line_said}
 use Rattle.pla_reader.specs.Lines.Line.{Empty, Inputs, Outputs, InputNames, OutputNames, Products, LogicalType, End, UnknownWord, Row}
 use Rattle.pla_reader.specs.Covers.{NamedCover, input_count, output_count, input_naming, output_naming, row_bytes, cover_of, term_of, inputs_of, outputs_of, first_or, numbered_names}
 use Rattle.pla_reader.specs.Faults.{fault_of}
-use Rattle.pla_reader.specs.Masks.{Fits}
 use Rattle.pla_reader.specs.Reading.{judged, end_faults, faults, Gives, HasFirst}
-use Rattle.pla_reader.specs.Progress.{State, start, Agrees, Taken, IsCoverOf, IsEndError}
+use Rattle.pla_reader.specs.Progress.{State, Agrees, IsCoverOf, IsEndError}
 use Rattle.pla_reader.specs.Answering.{Answers}
 use Rattle.pla_reader.proofs.TextLemmas.{one_more}
 use Rattle.pla_reader.proofs.LineLemmas.{comes_known, inputs_known, outputs_known}
@@ -39,31 +38,6 @@ pub record Reached (lines rest : List Line) (number : ℕ) (s : State) : Type 0 
   pub open_so_far : list_all goes_on before ≡ true
   pub faultless : (k : ℕ) → k < length before → judged before k ≡ None
   pub agrees : Agrees before s
-
-pub reached_start : (lines : List Line) → Reached lines lines 0 start
-reached_start lines = record {
-  before = [];
-  whole = refl;
-  numbered = refl;
-  open_so_far = refl;
-  faultless = λ k below. absurd (omega (arith, below));
-  agrees = record {
-    inputs = refl;
-    outputs = refl;
-    input_names = refl;
-    output_names = refl;
-    types = refl;
-    rows = refl;
-    sound = record {
-      inputs = tt;
-      outputs = tt;
-      input_names = tt;
-      output_names = tt;
-      terms = All-nil (Fits 0 0);
-      no_terms = λ e. refl;
-    };
-  };
-}
 
 -- a line is judged by those before it alone
 judged_front : (before more : List Line) (k : ℕ) → k < length before → judged (before ++ more) k ≡ judged before k
@@ -282,13 +256,3 @@ answers_end bytes number s (Err (pla_errors.Line line fault)) ends ok err = rw (
 answers_end bytes number s (Err pla_errors.TooLong) ends ok err = err
 answers_end bytes number s (Err pla_errors.Device) ends ok err = err
 answers_end bytes number s (Err pla_errors.OutOfMemory) ends ok err = tt
-
--- a line without a fault, and one with
-pub taken_ok : {U : Type 0} (before : List Line) (line : Line) (after : State) (r : Result U LineError) (u : U) → r ≡ Ok u →
-    Taken before line after r → (fault_of before line ≡ None) × Agrees (before ++ line ∷ []) after
-taken_ok before line after r u e taken = rw e at taken
-
-pub taken_fault : {U : Type 0} (before : List Line) (line : Line) (after : State) (r : Result U LineError) (fault : LineFault) →
-    r ≡ Err (line_errors.Fault fault) → Taken before line after r →
-    fault_of before line ≡ Some fault
-taken_fault before line after r fault e taken = rw e at taken

@@ -1,5 +1,5 @@
 -- How lines and words begin.
-use Rattle.std.proofs.Common.{◌≡◌, ℕ, ◌+◌, ◌<◌, suc, refl, sym, ◌∙◌, ap, Bool, true, false, ◌==◌, List, [], ◌∷◌, length, take, drop, ◌-◌, not, cond, nat_lt, Option, Some, None, position, unwrap_or, arith, take_all, length-drop}
+use Rattle.std.proofs.Common.{◌≡◌, ℕ, ◌+◌, ◌<◌, suc, refl, sym, ◌∙◌, ap, Bool, true, false, ◌==◌, List, [], ◌∷◌, length, take, drop, ◌-◌, not, cond, nat_lt, Option, Some, None, position, unwrap_or, arith}
 use Rattle.std.specs.List.{slice_index_or, position_or_len, onto_first, slice_split, filter}
 use Rattle.std.proofs.lemmas.Bool.{ltb-false}
 use Rattle.std.proofs.lemmas.List.Sums.{prefix_len-le-length}
@@ -82,11 +82,6 @@ words_word b bs e =
 pub words_rest : (xs : List ℕ) → 0 < length xs → is_blank (slice_index_or xs 0 0) ≡ true → words xs ≡ words (take (length xs - 1) (drop 1 xs))
 words_rest [] some e = absurd (omega (arith, some))
 words_rest (b ∷ bs) some e = words_blank b bs e ∙ ap words (sym (behind_first (b ∷ bs)))
-
-pub words_front : (xs : List ℕ) → 0 < length xs → is_blank (slice_index_or xs 0 0) ≡ false →
-    words xs ≡ take (position_or_len is_blank xs) xs ∷ words (drop (position_or_len is_blank xs) xs)
-words_front [] some e = absurd (omega (arith, some))
-words_front (b ∷ bs) some e = words_word b bs e
 
 pub words_of_none : (xs : List ℕ) → length xs ≡ 0 → words xs ≡ []
 words_of_none [] e = words_none
