@@ -218,10 +218,6 @@ module _ (from lower x : ℕ) (small : x < 6) (low : (b : ℕ) → b < 64 → bi
   unfolding half
   half_bit k h = bit_at_and from lower k ∙ ap (min (bit_at from k)) (low k h)
 
-  -- both halves of a word are the masked half
-  doubled : ℕ → ℕ
-  doubled step = bit_or half (half * 2 ^ step % 2 ^ 64)
-
   below_half : (k : ℕ) → k < 64 → bit_at k x ≡ 0 → bit_at (half * 2 ^ (2 ^ x) % 2 ^ 64) k ≡ 0
   below_half k h e = elim (cases_lt k (2 ^ x)) [
     | inl lt ↦ raised_low half (2 ^ x) k h lt
@@ -233,6 +229,7 @@ module _ (from lower x : ℕ) (small : x < 6) (low : (b : ℕ) → b < 64 → bi
         raised_high half (2 ^ x) k h ge ∙ omega arith
   ]
 
+  -- both halves of a word are the masked half
   pub doubled_zero : (k : ℕ) → k < 64 → bit_at k x ≡ 0 → bit_at (bit_or (bit_and from lower) (bit_and from lower * 2 ^ (2 ^ x) % 2 ^ 64)) k ≡ bit_at from k
   unfolding half
   doubled_zero k h e =

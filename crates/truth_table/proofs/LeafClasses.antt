@@ -3,21 +3,20 @@
 --     assignments_small      the points' numbers are below 2 ^ n
 --     leaves_are      each value is that of its function with all variables fixed
 --     leaves_tell      the values tell the functions with all variables fixed apart
-use Rattle.std.proofs.Common.{◌≡◌, ◌≢◌, ℕ, zero, suc, ◌+◌, ◌-◌, ◌*◌, ◌/◌, ◌%◌, ◌^◌, ◌<◌, ◌≤◌, Bool, true, false, cond, ◌||◌, nat_eq, List, [], ◌∷◌, ◌++◌, length, map, take, drop, drop-cons, get_or, set, replicate, refl, sym, ap, ap₂, ◌∙◌, arith, subst, inl, inr, eqb, eq-eqb, ne_eqb, bit_or}
+use Rattle.std.proofs.Common.{◌≡◌, ◌≢◌, ℕ, zero, suc, ◌+◌, ◌-◌, ◌^◌, ◌<◌, ◌≤◌, Bool, true, false, cond, ◌||◌, nat_eq, List, [], ◌∷◌, ◌++◌, length, map, take, drop, drop-cons, get_or, set, replicate, refl, sym, ap, ap₂, ◌∙◌, arith, subst, inl, inr, eqb, eq-eqb, ne_eqb, bit_or}
 use Rattle.std.specs.Int.{bit_at}
 use Rattle.std.specs.List.{All, flat_map, AllZip, AllByRecursion, IsDistinct}
 use Rattle.std.proofs.lemmas.Bool.{cases_eq, false≢true, true≢false}
-use Rattle.std.proofs.lemmas.List.{append_assoc, get_or_append_left, length-append, map-append, take_all, take_more, length-set, length-replicate, get_or-set_same, get_or-set_other, append-nil}
+use Rattle.std.proofs.lemmas.List.{length-append, map-append, take_all, take_more, length-set, length-replicate, get_or-set_same, get_or-set_other, append-nil}
 use Rattle.std.proofs.lemmas.List.Concat.{flat_map-append}
 use Rattle.std.proofs.lemmas.List.Elements.{All-cons, All-head, All-nil, All-tail}
-use Rattle.std.proofs.lemmas.Nat.{one_shl, or_lt, pow_below, pow_pos}
+use Rattle.std.proofs.lemmas.Nat.{or_lt, pow_below, pow_pos}
 use Rattle.std.proofs.lemmas.Nat.Bits.{bit_at-lt, bit_at-zero, bit_at_or, bit_at-pow_same, bit_at-pow_other, same_from_bits_below}
 use Rattle.order_model.specs.Functions.{Point, Function, bit, number, from_table, restrict, SameFunction}
 use Rattle.order_model.specs.Levels.{subfunctions, reach}
 use Rattle.order_model.specs.Orders.{has, IsOrder}
-use Rattle.order_model.specs.Problems.{packed_bit, table_in, words_per_table}
+use Rattle.order_model.specs.Problems.{packed_bit, table_in}
 use Rattle.order_model.proofs.Functions.Exchange.{below_from_has}
-use Rattle.order_model.proofs.Bits.Problems.{point_inside}
 use Rattle.order_model.proofs.Bits.Tables.{table_value, same_bit}
 use Rattle.order_model.proofs.Bits.PointNumbers.{weight, number-small, bit-number, weight_bit}
 use Rattle.order_model.proofs.Functions.Tables.{table_same, same_from_table}
@@ -239,17 +238,6 @@ leaves_tell n order o tables =
 
 -- ---- the program's lists
 
--- one more point with the value 1
-pub upper_more : (old now : List ℕ) (x i : ℕ) → x < 16 → i < length old → now ≡ old ++ map (λ k. bit_or k (2 ^ x)) (take i old) →
-    now ++ bit_or (get_or now i 0) (1 * 2 ^ x % 4294967296) ∷ [] ≡ old ++ map (λ k. bit_or k (2 ^ x)) (take (i + 1) old)
-upper_more old now x i small h e =
-    let step : 1 * 2 ^ x % 4294967296 ≡ 2 ^ x = one_shl x 32 (omega arith) in
-    let read : get_or now i 0 ≡ get_or old i 0 = ap (λ ks. get_or ks i 0) e ∙ get_or_append_left old (map (λ k. bit_or k (2 ^ x)) (take i old)) 0 i h in
-    (λ j. e j ++ bit_or (read j) (step j) ∷ []) ∙ append_assoc old (map (λ k. bit_or k (2 ^ x)) (take i old)) (bit_or (get_or old i 0) (2 ^ x) ∷ [])
-    ∙ ap (λ ks. old ++ ks)
-    (sym (ap (map (λ k. bit_or k (2 ^ x))) (take_more old i 0 h)
-    ∙ map-append (λ k. bit_or k (2 ^ x)) (take i old) (get_or old i 0 ∷ [])))
-
 pub upper_inside : (old now : List ℕ) (x i : ℕ) → i < length old → now ≡ old ++ map (λ k. bit_or k (2 ^ x)) (take i old) → i < length now
 upper_inside old now x i h e =
     let l = ap length e ∙ length-append old (map (λ k. bit_or k (2 ^ x)) (take i old)) in
@@ -283,10 +271,6 @@ values_packed n words t (k ∷ ks) e h =
     let here : packed_bit words k ≡ get_or t k false = sym (table_value n words k (All-head (λ k. k < 2 ^ n) k ks h)) ∙ ap (λ u. get_or u k false) e in
     let rest = values_packed n words t ks e (All-tail (λ k. k < 2 ^ n) k ks h) in
     λ i. cond (here i) 1 0 ∷ rest i
-
--- the points lie in the tables
-pub points_inside : (n : ℕ) (words : List ℕ) (ks : List ℕ) → length words ≡ words_per_table n → All (λ k. k < 2 ^ n) ks → All (λ k. k / 64 < length words) ks
-points_inside n words ks l h = λ k d b. (let p = point_inside n (get_or ks k d) (h k d b) in omega arith)
 
 pub assignments_below : (n : ℕ) (order : List ℕ) → IsOrder n order → All (λ k. k < 2 ^ n) (assignments order)
 assignments_below n order o = each_all (assignments order) (assignments_small n order (order_distinct n order o))

@@ -123,10 +123,6 @@ module _ (n x : ℕ) (fs : List Function) (cs : List ℕ) (t : Tells n (restrict
       let f = ap (table n) (at_place c k i) in
       (λ s. sym e ∙ a.0 s ∙ f, λ s. a.1 (e ∙ s ∙ sym f))
 
-  pair_parts : (j : ℕ) → pair_at cs j ≡ (part false j, part true j)
-  unfolding part place_of
-  pair_parts j = refl
-
   both_tell : (j k : ℕ) → j < length fs → k < length fs →
       (table n (function_at fs j) ≡ table n (function_at fs k) → pair_at cs j ≡ pair_at cs k)
       × (pair_at cs j ≡ pair_at cs k → table n (function_at fs j) ≡ table n (function_at fs k))

@@ -237,15 +237,6 @@ module _ (keys done : List (ℕ × ℕ)) (out : List ℕ) (unequal : ℕ) (m : M
       by true e = merging_old (any_among k keys e)
       by false e = merging_new (λ a. true≢false (sym (among_any k keys a) ∙ e))
 
-  -- the next number is below the number of pairs
-  pub number_small : position_or_len (same_pair k) keys ≤ length done
-  unfolding place
-  number_small = by (list_any (same_pair k) keys) refl
-    where
-      by : (b : Bool) → list_any (same_pair k) keys ≡ b → position_or_len (same_pair k) keys ≤ length done
-      by true e = let i = place_inside k keys (any_among k keys e) in let f = m.few in omega arith
-      by false e = let i = place_none k keys (λ a. true≢false (sym (among_any k keys a) ∙ e)) in let f = m.few in omega arith
-
 get_or_map : {X : Type 0} (f : X → ℕ) (xs : List X) (j : ℕ) (d : X) → j < length xs → get_or (map f xs) j 0 ≡ f (get_or xs j d)
 get_or_map f [] j d h = absurd (omega arith)
 get_or_map f (x ∷ xs) zero d h = refl
