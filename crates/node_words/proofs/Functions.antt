@@ -144,19 +144,6 @@ depth_below levels ws level id small below = ⊎_elim
     two_or_less : (a : ℕ) → (2 ≤ a) ⊎ (a < 2)
     two_or_less a = grind arith
 
--- a made id lies no higher than its level
-pub depth_made : (levels : ℕ) (ws : List ℕ) (level low high id : ℕ) → level < 16 → low < 2 ^ 20 → high < 2 ^ 20 →
-    level < depth levels ws low → IsIdOf ws level low high id → level ≤ depth levels ws id
-depth_made levels ws level low high id a b c less made = dite (ℕ_discrete low high)
-    (λ same. let is : id ≡ low =
-    subst (λ (t : Bool). MatchBool t (id ≡ low) ((2 ≤ id) × (get_or ws (id - 2) 0 ≡ node_word level low high)))
-    (eq-eqb low high same) made in
-    subst (λ (k : ℕ). level ≤ depth levels ws k) (sym is) (omega arith))
-    (λ ne. let m : (2 ≤ id) × (get_or ws (id - 2) 0 ≡ node_word level low high) =
-    subst (λ (t : Bool). MatchBool t (id ≡ low) ((2 ≤ id) × (get_or ws (id - 2) 0 ≡ node_word level low high)))
-    (ne_eqb low high ne) made in
-    let e = depth_node levels ws id m.0 in let l : level_of (get_or ws (id - 2) 0) ≡ level = ap level_of m.1 ∙ word_level level low high a b c in omega arith)
-
 -- a known id fits 20 bits
 pub known_small : (ws : List ℕ) (places id : ℕ) → length ws ≤ places → IsKnown ws id → id < places + 2
 known_small ws places id size known = ⊎_elim

@@ -2,7 +2,7 @@
 use Rattle.std.proofs.Common.{◌≡◌, ◌≢◌, ℕ, ◌-◌, ◌<◌, ◌⊎◌, List, set, get_or, length-set, get_or-set_same, get_or-set_other, sym, refl, ap, ◌∙◌, subst, ⊎_elim, arith}
 use mathlib.Core.Logic.{dite}
 use native.Mathlib.Decide.{ℕ_discrete}
-use Rattle.node_words.specs.Nodes.{IsBelow, IsNode, IsReached, IsNext, Grows, AreStored, level_of, low_of, high_of, probe}
+use Rattle.node_words.specs.Nodes.{IsBelow, IsNode, IsReached, Grows, AreStored, level_of, low_of, high_of, probe}
 
 pub grows_refl : (xs : List ℕ) → Grows xs xs
 grows_refl xs p full = refl
@@ -83,10 +83,3 @@ module _ (levels places : ℕ) (ws : List ℕ) (st : AreStored levels places ws)
         (λ ne. subst (λ (z : ℕ). IsReached places (set ws p w) z q) (sym (other q ne))
         (reached_grows places ws (set ws p w) (get_or ws q 0) q grown (st.reached q (λ e. full (other q ne ∙ e)))));
   }
-
-pub next_grows : (xs ys : List ℕ) (places w p : ℕ) → Grows xs ys → IsNext xs places w p → IsNext ys places w p
-next_grows xs ys places w p g i = record {
-  passed = i.passed;
-  here = i.here;
-  before = λ j lt. let t = i.before j lt in let same = g (probe places w j) t.0 in ((λ e. t.0 (sym same ∙ e)), (λ e. t.1 (sym same ∙ e)));
-}

@@ -11,7 +11,7 @@ use Rattle.order_model.specs.Diagrams.{IsBefore}
 use Rattle.order_model.proofs.Nodes.Appended.{get_left, get_right}
 use Rattle.node_words.specs.Nodes.{IsKnown, Grows, AreNodes, level_of, low_of, high_of}
 use Rattle.node_words.specs.Meaning.{depth}
-use Rattle.node_words.proofs.Growing.{grows_refl, grows_trans, grows_full}
+use Rattle.node_words.proofs.Growing.{grows_trans, grows_full}
 use Rattle.node_words.proofs.Meaning.{depth_node, le_or_lt}
 use Rattle.node_words.proofs.Functions.{depth_below}
 use Rattle.reached_nodes.specs.Copies.{ref_of, node_of, IsEarlier, IsCopied, blank, blanks, AreCopied, Leads, here, below, Extends, Copies}
@@ -100,9 +100,6 @@ pub leads_extend : (nodes nodes' : List Node) (a b : Ref) → Extends nodes node
 leads_extend nodes nodes' a b x (here e) = here e
 leads_extend nodes nodes' a b x (below k node m at child) =
     below k node (leads_extend nodes nodes' a (Place k) x m) (x.same k (slice_get_within nodes k node at) ∙ at) child
-
-pub extends_refl : (nodes : List Node) → Extends nodes nodes
-extends_refl nodes = record { longer = omega arith; same = λ k few. refl }
 
 pub extends_trans : (xs ys zs : List Node) → Extends xs ys → Extends ys zs → Extends xs zs
 extends_trans xs ys zs a b = let l = a.longer in let m = b.longer in record { longer = omega arith; same = λ k few. b.same k (omega arith) ∙ a.same k few }
@@ -213,19 +210,6 @@ module _ (order ws numbers : List ℕ) (nodes : List Node) (c : AreCopied order 
       less_or_last a b = grind arith
 
 -- ---- what copying does
-
--- an id that has a copy
-pub copies_known : (order ws numbers : List ℕ) (nodes : List Node) (id : ℕ) → AreCopied order ws numbers nodes → IsKnown numbers id →
-    Copies order ws numbers nodes numbers nodes id (ref_of numbers id)
-copies_known order ws numbers nodes id c known = record {
-  copied = c;
-  known = known;
-  ref = refl;
-  grows = grows_refl numbers;
-  extends = extends_refl nodes;
-  untouched = λ q above. refl;
-  leads = λ k past few. absurd (omega arith);
-}
 
 -- a node, after its children
 module _ (order ws n0 n1 n2 : List ℕ) (d0 d1 d2 : List Node) (p : ℕ) (r1 r2 : Ref) (are : AreNodes (length order) ws)

@@ -134,9 +134,6 @@ module _ (order ws numbers : List ℕ) (nodes : List Node) (is : IsOrder (length
       number_is : (a b j : ℕ) → a ≡ j + 1 → b - 1 ≡ j → b ≢ 0 → a ≡ b
       number_is a b j x y z = omega arith
 
-  low_level : (p id : ℕ) (level : ℕ) → IsBelow ws level id → 2 ≤ id → level < level_of (get_or ws (id - 2) 0)
-  low_level p id level b two = (b two).1
-
   below_child : (roots : List Ref) (j k : ℕ) (child parent : Node) (f : From j child) (g : From k parent) (id : ℕ) → IsKnown numbers id →
       IsBelow ws (level_of (get_or ws g.place 0)) id → ref_of numbers id ≡ Place j
       → level_of (get_or ws g.place 0) < level_of (get_or ws f.place 0)

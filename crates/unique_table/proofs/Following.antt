@@ -6,11 +6,8 @@ use Rattle.node_words.specs.Nodes.{AreNodes, Grows}
 use Rattle.node_words.specs.Meaning.{function_of, Denotes, depth}
 use Rattle.node_words.proofs.Growing.{grows_full, grows_refl, grows_trans}
 use Rattle.node_words.proofs.Functions.{function_grows, denotes_grows, depth_grows}
-use Rattle.unique_table.specs.declared.session.Session.TheInside.{Inside}
 use Rattle.unique_table.specs.Plans.{order_of, levels_of}
 use Rattle.unique_table.specs.Sessions.{StoreId, Knowledge, Follows, Knows, IsKnownBelow, depth_in}
-use Rattle.unique_table.specs.Insides.{knowledge, IsSession}
-use Rattle.unique_table.specs.Views.{Gains}
 use Rattle.unique_table.specs.Stakes.{IsNoLess}
 use Rattle.unique_table.proofs.Stakes.{no_less_same, no_less_trans}
 
@@ -28,13 +25,6 @@ follows s s' are same no_less g gp = record {
       (denotes_grows (order_of s.store.plan) s.seen are s'.seen g id f m);
   depths = λ id known. ap (λ (z : StoreId). depth (levels_of z.plan) s'.seen id) same ∙ depth_grows (levels_of s.store.plan) s.seen s'.seen g id known;
 }
-
--- a session whose view gains
-pub follows_gains : (s s' : Inside) (k : Knowledge) → knowledge s ≡ k → IsSession s → s'.seat.table_id ≡ s.seat.table_id →
-    Gains s.seat.me.0 s'.seat.me.0 → Follows k (knowledge s')
-follows_gains s s' k is kept table g = subst (λ (z : Knowledge). Follows z (knowledge s')) is
-    (follows (knowledge s) (knowledge s') kept.good.nodes (λ i. record { table = table i; plan = g.plan i })
-    (no_less_same s.seat.me.0.stake s'.seat.me.0.stake g.stake) g.nodes g.pieces)
 
 pub follows_refl : (s : Knowledge) → AreNodes (levels_of s.store.plan) s.seen → Follows s s
 follows_refl s are = follows s s are refl (no_less_same s.stake s.stake refl) (grows_refl s.seen) (grows_refl s.pieces)
@@ -69,6 +59,3 @@ pub all_more : (s s' : Knowledge) (level id : ℕ) (ids more : List ℕ) → Fol
 all_more s s' level id ids more f all known deep is =
     subst (λ (z : List ℕ). All (IsFrom s' level) z) (sym is)
     (All-push (IsFrom s' level) ids id (all_from s s' level ids f all) (known, deep))
-
-pub below_from : (s : Knowledge) (level : ℕ) (ids : List ℕ) → All (IsFrom s (level + 1)) ids → All (IsKnownBelow s level) ids
-below_from s level ids all k d low = let h = all k d low in (h.0, (let less = h.1 in omega arith))

@@ -9,7 +9,7 @@ use Rattle.order_model.specs.Orders.{IsOrder}
 use Rattle.node_words.specs.declared.operation.Operation.{Operation}
 use Rattle.node_words.specs.Entries.{code_of, combine, entry_word, result_of, IsEntry}
 use Rattle.node_words.proofs.Entries.{code_some, entry_made, entry_found}
-use Rattle.node_words.proofs.Functions.{known_small, below_depth, denotes_made, depth_made, operation_no_higher, one_id}
+use Rattle.node_words.proofs.Functions.{known_small, below_depth, denotes_made, operation_no_higher, one_id}
 use Rattle.unique_table.specs.declared.plan.Plan.{Plan}
 use Rattle.unique_table.specs.declared.store.Store.TheInside as store
 use Rattle.unique_table.specs.declared.session.Session.TheInside as session
@@ -152,7 +152,3 @@ module _ (T : StoreId) (K K' : Knowledge) (fits : K.store ≡ T) (few : levels_o
   pub made_means : Means K' id (branch (variable_at T.plan level) (function_in K' low) (function_in K' high))
   made_means = subst (λ (z : StoreId). Means K' id (branch (variable_at z.plan level) (function_in K' low) (function_in K' high))) (on.store ∙ fits)
       (denotes_made (order_of K'.store.plan) K'.seen are level low high id (omega arith) a b (on.knows low kl.0) made)
-
-  pub made_depth : level ≤ depth_in K' id
-  made_depth = let e = on.depths low kl.0 in let less = kl.1 in
-      depth_made (levels_of K'.store.plan) K'.seen level low high id (omega arith) a b (omega arith) made

@@ -1,5 +1,5 @@
 -- The roots of a closed store.
-use Rattle.std.proofs.Common.{◌≡◌, ◌≢◌, ℕ, zero, suc, ◌+◌, ◌-◌, ◌^◌, ◌<◌, ◌≤◌, ◌⊎◌, ◌++◌, Bool, true, List, [], ◌∷◌, map, get_or, take, length, sym, refl, ap, ◌∙◌, subst, ⊎_elim, arith, nat_lt, if◌then◌else◌, le-ltb, zero-add, add-zero, Result, Ok, Err, IfOk, IfErr, OnOk}
+use Rattle.std.proofs.Common.{◌≡◌, ◌≢◌, ℕ, zero, suc, ◌+◌, ◌-◌, ◌<◌, ◌≤◌, ◌⊎◌, ◌++◌, Bool, true, List, [], ◌∷◌, map, get_or, take, length, sym, refl, ap, ◌∙◌, subst, ⊎_elim, arith, nat_lt, if◌then◌else◌, le-ltb, zero-add, add-zero, Result, Ok, Err, IfOk, IfErr, OnOk}
 use Rattle.std.specs.List.{range_with_len, AllZip, All}
 use Rattle.std.proofs.lemmas.List.FromFn.{map-range_with_len_more, get_or-map-range_with_len, length-map-range_with_len}
 use Rattle.std.proofs.lemmas.List.Elements.{All-from_get_or}
@@ -11,7 +11,6 @@ use Rattle.order_model.specs.Diagrams.{Graph, Represents, IsOf, value}
 use Rattle.order_model.specs.declared.diagrams.Ref.{Ref}
 use Rattle.node_words.specs.Nodes.{AreStored, IsKnown, Grows}
 use Rattle.node_words.specs.Meaning.{function_of, Denotes}
-use Rattle.node_words.proofs.Functions.{known_small}
 use Rattle.unique_table.specs.declared.close.CloseFault.{CloseFault}
 use Rattle.unique_table.specs.declared.close.CloseFault.TheVariants.{MissingRoot, OutOfMemory}
 use Rattle.unique_table.specs.declared.plan.Plan.{Plan}
@@ -99,16 +98,6 @@ module _ (b : Plan) (plan : IsPlan b) (id : ℕ) (v : View) (words : List ℕ) (
   root_denotes j full = let e = root_word j in
       let d = last_pieces (b.roots + j) (λ none. full (e ∙ none)) in
       subst (λ (z : ℕ × Function). Denotes (order_of b) (nodes_of b words) z.0 z.1) (λ i. (sym e i - 1, root_function b j i)) d
-
-  pub root_small : (j : ℕ) → get_or words (first + j) 0 ≤ 2 ^ 32
-  root_small j = ⊎_elim
-      (λ (none : get_or words (first + j) 0 ≡ 0). omega arith)
-      (λ (full : 1 ≤ get_or words (first + j) 0). let d = root_denotes j (λ e. omega arith) in let s = last_stored.size in let p = plan.places in
-      let small = known_small (nodes_of b words) b.places (root_id words first j) (omega arith) d.known in omega arith)
-      (none_or_some (get_or words (first + j) 0))
-    where
-      none_or_some : (a : ℕ) → (a ≡ 0) ⊎ (1 ≤ a)
-      none_or_some a = grind arith
 
   -- a root that is missing isn't known to be published, and each one before it is known if no other session is left
   pub lacks : (t : StoreId) (steps writes : ℕ) → t.plan ≡ b → (fault : CloseFault) →

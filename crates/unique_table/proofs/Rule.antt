@@ -9,10 +9,10 @@ use lib.ListN.{get_elem?}
 use prog.Atomic.{either}
 use Rattle.atomic_table.specs.Table.{Me, step, keeps, Allows, Splits, Joins}
 use Rattle.atomic_table.proofs.Lists.{at_set, at_snoc, set_else}
-use Rattle.node_words.specs.Nodes.{IsNode, AreNodes, AreStored, Grows, probe, IsNext, IsTaken}
+use Rattle.node_words.specs.Nodes.{IsNode, AreNodes, AreStored, Grows, probe, IsTaken}
 use Rattle.node_words.specs.Meaning.{Denotes}
 use Rattle.node_words.specs.Entries.{IsEntry}
-use Rattle.node_words.proofs.Growing.{grows_refl, grows_trans, node_grows, set_grows, stored_put, next_grows}
+use Rattle.node_words.proofs.Growing.{grows_refl, grows_trans, node_grows, set_grows, stored_put}
 use Rattle.node_words.proofs.Functions.{denotes_grows, one_id}
 use Rattle.node_words.proofs.Entries.{entry_grows}
 use Rattle.unique_table.specs.declared.plan.Plan.{Plan}
@@ -310,18 +310,6 @@ module _ (b : Plan) (slots id : ℕ) (me : M) (live : me.0.live ≡ true) where
               ∙ there,
         ),
       )
-
--- the put that follows a look
-pub may_put_after : (b : Plan) (slots id : ℕ) (me me' : M) (ws ps : List ℕ) (p w : ℕ) → me' ≡ (sees me.0 ws ps 0, me.1) → Sees me.0 ws ps →
-    me.0.plan ≡ b → p < b.places → w ≢ 0 → IsNext me.0.seen b.places w p → IsNode (levels_of b) me.0.seen w
-    → Allows (IsKept b) slots id me' p (λ n. either (eqb n 0) w n) (puts (step slots p 0 w none) me')
-may_put_after b slots id me me' ws ps p w is s plan inside some_w next node =
-    let new : M = (sees me.0 ws ps 0, me.1) in let k = next_grows me.0.seen ws b.places w p s.grows next in let here = k.here in let before = k.before in
-    subst (λ (z : M). Allows (IsKept b) slots id z p (λ n. either (eqb n 0) w n) (puts (step slots p 0 w none) z)) (sym is)
-    (may_put b slots id new refl p w k.passed (subst (λ (z : Plan). p < z.places) (sym plan) inside) some_w
-    (subst (λ (z : Plan). p ≡ probe z.places w k.passed) (sym plan) here)
-    (subst (λ (z : Plan). (j : ℕ) → j < k.passed → IsTaken ws w (probe z.places w j)) (sym plan) before)
-    (subst (λ (z : Plan). IsNode (levels_of z) ws w) (sym plan) (node_grows (levels_of b) me.0.seen ws w s.grows node)))
 
 pub may_split : (b : Plan) (id : ℕ) (v : View) → v.live ≡ true → Splits {S = Unit {0}} (IsKept b) id v (stepped v) (another v)
 may_split b id v live s k at = let i = k.seen id v at live in record {
