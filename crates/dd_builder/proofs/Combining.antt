@@ -2,11 +2,10 @@
 use Rattle.std.proofs.Common.{◌≡◌, ℕ, ◌+◌, ◌<◌, ◌≤◌, ⊎_elim, Bool, true, false, cond, sym, refl, ap, ◌∙◌, subst, arith}
 use Rattle.order_model.specs.Functions.{Point, Function, bit, SameFunction}
 use Rattle.node_words.specs.declared.operation.Operation.{Operation}
-use Rattle.node_words.specs.declared.words.NodeParts.{NodeParts}
 use Rattle.node_words.specs.Entries.{combine, combine_values}
 use Rattle.node_words.specs.Meaning.{branch}
 use Rattle.unique_table.specs.Plans.{levels_of, variable_at}
-use Rattle.unique_table.specs.Sessions.{StoreId, Knowledge, Follows, Knows, Means, HasParts, HasLevels, LiesNoHigher, IsKnownBelow, function_in, depth_in}
+use Rattle.unique_table.specs.Sessions.{StoreId, Knowledge, Follows, Knows, Means, HasLevels, LiesNoHigher, IsKnownBelow, function_in, depth_in}
 use Rattle.unique_table.proofs.Following.{follows_trans, known_below_follows}
 use Rattle.dd_builder.specs.Operating.{IsFrom, Settles, IsCut, IsCombined, AreCombined}
 use Rattle.dd_builder.proofs.Going.{means_same, function_zero, function_one, terminal_known, terminal_depth}
@@ -68,15 +67,6 @@ combined_follows s s' from operation a b id ka kb f c = record {
 }
 
 -- ---- an id as a node of a level
-
-pub parts_cut : (s : Knowledge) (level id : ℕ) (parts : NodeParts) → Knows s id → HasParts s id parts → parts.level ≡ level →
-    IsCut s level id parts.low parts.high
-parts_cut s level id parts known h e = record {
-  known = known;
-  low_below = (h.low.0, (let l = h.low.1 in omega arith));
-  high_below = (h.high.0, (let l = h.high.1 in omega arith));
-  function = λ p. h.function p ∙ ap (λ (k : ℕ). branch (variable_at s.store.plan k) (function_in s parts.low) (function_in s parts.high) p) e;
-}
 
 both_same : (x : ℕ) (f : Function) (p : Point) → f p ≡ branch x f f p
 unfolding branch

@@ -3,7 +3,7 @@
 --     means_same      an id denotes each function of the same values
 --     makes_same, makes_made      a call makes the id of each function of the same values; a node that is made
 --     function_zero, function_one      the functions of the terminals
-use Rattle.std.proofs.Common.{◌≡◌, ℕ, ◌<◌, true, false, Result, Ok, Err, IfOk, OnErr, length, sym, refl, ◌∙◌, subst, arith}
+use Rattle.std.proofs.Common.{◌≡◌, ℕ, ◌<◌, true, false, Result, Ok, Err, IfOk, OnErr, length, refl, ◌∙◌, subst, arith}
 use Rattle.order_model.specs.Functions.{Point, Function, SameFunction}
 use Rattle.node_words.specs.Nodes.{IsFullFor}
 use Rattle.node_words.specs.Meaning.{function_of}
@@ -12,7 +12,6 @@ use Rattle.unique_table.specs.Plans.{levels_of}
 use Rattle.unique_table.specs.Sessions.{StoreId, Knowledge, Follows, Knows, Means, function_in, depth_in}
 use Rattle.unique_table.specs.declared.store.StoreFull.{StoreFull}
 use Rattle.unique_table.proofs.Following.{follows_trans}
-use Rattle.dd_builder.specs.Building.{KnowsFull}
 use Rattle.dd_builder.specs.Making.{Makes}
 
 pub stays : (s : Knowledge) → Follows s s
@@ -55,11 +54,6 @@ terminal_known s id low two = absurd (omega arith)
 
 pub terminal_depth : (s : Knowledge) (id : ℕ) → id < 2 → depth_in s id ≡ levels_of s.store.plan
 terminal_depth s id low = depth_terminal (levels_of s.store.plan) s.seen id low
-
--- all places stay filled
-pub full_follows : (s s' : Knowledge) → Follows s s' → KnowsFull s → KnowsFull s'
-full_follows s s' f full p low empty =
-    let here = full p (subst (λ z. p < z.plan.places) f.store low) in here (sym (f.nodes p here) ∙ empty)
 
 -- what an answer has, if it is Ok
 pub ok_same : {A E : Type 0} (P Q : A → Type 0) (r : Result A E) → IfOk r P → ((x : A) → P x → Q x) → IfOk r Q

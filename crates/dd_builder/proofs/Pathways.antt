@@ -5,25 +5,12 @@ use Rattle.std.proofs.lemmas.Nat.{or_lt, pow_below, pow_pos, one_shl}
 use Rattle.std.proofs.lemmas.Nat.Bits.{bit_at-lt, bit_at-zero, bit_at_or, bit_at-pow_same, bit_at-pow_other, shr_and_one}
 use Rattle.order_model.specs.Orders.{IsOrder, place_in}
 use Rattle.order_model.proofs.Lists.Orders.{has_at, place_get}
-use Rattle.dd_builder.specs.Paths.{IsPointOf}
 
 -- a point's number has the bits of a path for the levels above one, and no others of the order
 pub record IsPointAbove (order : List ℕ) (level path point : ℕ) : Type 0 where
   pub small : point < 2 ^ length order
   pub bits : (i : ℕ) → i < level → i < length order → bit_at point (get_or order i 0) ≡ bit_at path i
   pub clear : (i : ℕ) → level ≤ i → i < length order → bit_at point (get_or order i 0) ≡ 0
-
-pub point_start : (order : List ℕ) (path : ℕ) → IsPointAbove order 0 path 0
-point_start order path =
-    record {
-      small =
-          pow_pos (length order);
-      bits = λ i l inside. absurd (omega arith);
-      clear = λ i l inside. bit_at-zero (get_or order i 0);
-    }
-
-pub point_end : (order : List ℕ) (level path point : ℕ) → length order ≤ level → IsPointAbove order level path point → IsPointOf order path point
-point_end order level path point past h = record { small = h.small; bits = λ i l. h.bits i (omega arith) l }
 
 max_zero : (k : ℕ) → max 0 k ≡ k
 max_zero k = omega arith
