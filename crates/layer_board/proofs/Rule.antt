@@ -10,10 +10,11 @@ use mathlib.Core.List.{map-append}
 use prog.Atomic.{either}
 use Rattle.atomic_table.specs.Table.{State, step, keeps, Allows, Splits, opening}
 use Rattle.atomic_table.proofs.Lists.{at_map, set_again}
+use Rattle.order_model.specs.Functions.{weight}
 use Rattle.subset_layers.specs.Layers.{LayerOf, masks_of, blocks_of}
 use Rattle.layer_core.specs.Machine as machine
 use Rattle.layer_core.specs.Machine.{World, Worker, cell_at, claims_block, ends, learns, moved, claimed, knows, blank}
-use Rattle.layer_core.specs.Rights.{Right, weight, total, told_number}
+use Rattle.layer_core.specs.Rights.{Right, total, told_number}
 use Rattle.layer_core.proofs.Lists.{each_set, each_snoc, length-same}
 use Rattle.layer_core.proofs.Sums.{sum_at}
 use Rattle.layer_core.proofs.Starts.{right_opening, right_joined, total_snoc}

@@ -3,10 +3,11 @@ use Rattle.std.proofs.Common.{◌≡◌, ℕ, zero, suc, ◌+◌, ◌<◌, ◌�
 use mathlib.Core.Option.{some, some-injective}
 use lib.ListN.{get_elem?}
 use lib.Seq.{map-set}
+use Rattle.order_model.specs.Functions.{weight}
 use Rattle.subset_layers.specs.declared.costs.Cell.{Cell}
 use Rattle.subset_layers.specs.Layers.{masks_of, blocks_of}
 use Rattle.layer_core.specs.Machine.{World, Worker, Event, Claim, Post, Read, Reply, Claimed, NoMore, Posted, Stranger, Double, Seen, Empty, place_of, cell_at, claimed, claims_block, ends, learns, moved, step, blank, opening}
-use Rattle.layer_core.specs.Rights.{Right, Posts, weight, told_number}
+use Rattle.layer_core.specs.Rights.{Right, Posts, told_number}
 use Rattle.layer_core.proofs.Runs.{right_step}
 use Rattle.layer_core.proofs.Lists.{length-same, at_map, at_index}
 use Rattle.layer_core.proofs.Cases.{claim_told, claim_next, claim_past, read_missing, read_empty, read_sees, post_missing, post_stranger, post_double, post_fills}

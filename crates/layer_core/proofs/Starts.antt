@@ -2,8 +2,9 @@
 use Rattle.std.proofs.Common.{◌≡◌, ◌≢◌, ℕ, zero, suc, ◌+◌, ◌≤◌, true, false, List, [], ◌∷◌, ◌++◌, replicate, get_or, length, None, IfSome, sym, refl, ap, ◌∙◌, subst, arith}
 use mathlib.Core.Option.{some}
 use lib.ListN.{get_elem?}
+use Rattle.order_model.specs.Functions.{weight}
 use Rattle.layer_core.specs.Machine.{Worker, Layout, blank, opening, cell_at, claimed, knows}
-use Rattle.layer_core.specs.Rights.{Right, IsLayout, weight, total, claimants}
+use Rattle.layer_core.specs.Rights.{Right, IsLayout, total, claimants}
 use Rattle.layer_core.proofs.Lists.{each_snoc, at_longer, length-same, all_same, found_same}
 use Rattle.layer_core.proofs.Steps.{Cell}
 

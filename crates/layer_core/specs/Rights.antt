@@ -2,17 +2,13 @@
 --     Right IsCell s           the state is right, where IsCell says which cell each mask has
 --     RightFor n F P bound s   the same, where each mask has its cell for the functions, the pairs and the bound
 --     ArePosted n F P bound events     each posted cell is the one of its mask
-use Rattle.std.specs.Prelude.{◌≡◌, ◌≢◌, ℕ, ◌+◌, ◌<◌, ◌≤◌, Bool, true, false, List, [], ◌∷◌, length, map, slice_index, Option, Some, None, IfSome}
+use Rattle.std.specs.Prelude.{◌≡◌, ◌≢◌, ℕ, ◌+◌, ◌<◌, ◌≤◌, true, List, [], ◌∷◌, length, map, slice_index, Option, Some, None, IfSome}
 use mathlib.Core.Option.{some}
 use lib.ListN.{get_elem?}
-use Rattle.order_model.specs.Functions.{Function}
+use Rattle.order_model.specs.Functions.{Function, weight}
 use Rattle.order_model.specs.Pairs.{Pair}
 use Rattle.order_model.specs.Cells.{cell_of}
 use Rattle.layer_core.specs.Machine.{Layout, Worker, World, Event, Claim, Post, Read, cell_at, claimed, knows}
-
-abbrev pub weight : Bool → ℕ
-weight true = 1
-weight false = 0
 
 -- the sum of f over the elements
 abbrev pub total : {A : Type 0} → (A → ℕ) → List A → ℕ

@@ -3,17 +3,12 @@
 --     some_point      each number below 2 ^ n is that of a point
 --     room_above      where bit x is 0, 2 ^ x may be added
 --     table_depends, table_independent      when the function of a truth table depends on x, and when not
-use Rattle.std.proofs.Common.{◌≡◌, ℕ, zero, suc, ◌+◌, ◌*◌, ◌/◌, ◌%◌, ◌^◌, ◌<◌, Bool, true, false, cond, List, [], ◌∷◌, length, get_or, set, refl, sym, ap, ◌∙◌, arith, subst, pow-suc, eqb}
+use Rattle.std.proofs.Common.{◌≡◌, ℕ, zero, suc, ◌+◌, ◌*◌, ◌/◌, ◌%◌, ◌^◌, ◌<◌, Bool, true, false, List, [], ◌∷◌, length, get_or, set, refl, sym, ap, ◌∙◌, arith, subst, pow-suc, eqb}
 use Rattle.std.specs.Int.{bit_at}
 use Rattle.std.proofs.lemmas.List.{set-get_or, length-set, get_or-set_same}
 use Rattle.std.proofs.lemmas.Nat.Bits.{bit_at-suc, bit_at_lowest}
-use Rattle.order_model.specs.Functions.{Point, number, from_table, restrict, SameFunction, depends}
+use Rattle.order_model.specs.Functions.{Point, weight, number, from_table, restrict, SameFunction, depends}
 use Rattle.order_model.proofs.Functions.Tables.{depends_false, depends_no}
-
--- a bit as a number
-abbrev pub weight : Bool → ℕ
-weight true = 1
-weight false = 0
 
 pub weight_bit : (b : ℕ) → b < 2 → weight (eqb b 1) ≡ b
 weight_bit zero h = refl
@@ -23,10 +18,6 @@ weight_bit (suc (suc b)) h = absurd (omega arith)
 weight_small : (b : Bool) → weight b < 2
 weight_small true = omega arith
 weight_small false = omega arith
-
-weight_cond : (b : Bool) → cond b 1 0 ≡ weight b
-weight_cond true = refl
-weight_cond false = refl
 
 pub number_more : (b : Bool) (p : Point) → number (b ∷ p) ≡ weight b + 2 * number p
 unfolding number
