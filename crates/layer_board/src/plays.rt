@@ -15,18 +15,24 @@ impl TableRule<(), Knowledge, Brief> for BoardRule {
     ghost first = { first_view };
 }
 
+/// The step of a claim, at the counter: the seat gains the block whose place is the count that it
+/// found, or learns that no block is left.
 pub struct Claims;
 
 impl Play<(), Knowledge> for Claims {
     ghost then = { claims };
 }
 
+/// The step of a post, at the word of a cell: an empty word takes the cell, and the seat learns
+/// that it is filled. A word that is found filled stays, and the seat knew that it was.
 pub struct Posts;
 
 impl Play<(), Knowledge> for Posts {
     ghost then = { posts };
 }
 
+/// The step of a read, at the word of a cell: a filled word holds the right cell, and the seat
+/// learns that it is filled. A word that is found empty is none that it knew to be filled.
 pub struct Reads;
 
 impl Play<(), Knowledge> for Reads {
