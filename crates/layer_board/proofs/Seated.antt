@@ -59,10 +59,6 @@ module _ (b : board.Inside) (s : seat.Inside) (B : BoardId) (S : SeatOf) (kept :
       s'.seat.me ≡ (after (view_of s) w wrote, s.seat.me.1) → (seat_shown s').board ≡ B
   still_there s' w wrote table me = ap (λ (z : SeatOf). z.board) (shown_after s s' w wrote table me) ∙ (same_board ∙ bv)
 
-  -- the layer of the board that callers see
-  pub seen_layer : b.layer ≡ B.brief.layer
-  seen_layer = kept.layer ∙ ap (λ (z : BoardId). z.brief.layer) bv
-
   -- what the board's cells are for
   pub seen_setting : (view_of s).brief.setting ≡ B.brief.setting
   seen_setting = ap (λ (z : BriefOf). z.setting) same_brief ∙ ap (λ (z : BoardId). z.brief.setting) bv

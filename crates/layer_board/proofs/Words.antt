@@ -3,7 +3,7 @@ use Rattle.std.proofs.Common.{◌≡◌, ◌≢◌, ℕ, zero, suc, ◌+◌, ◌
 use mathlib.Core.Option.{some, some-injective, some-ne-none}
 use lib.ListN.{get_elem?}
 use lib.Seq.{map-set}
-use Rattle.layer_board.specs.Picture.{counter_of, cell_words, cell_in, word_of, IsCellWord}
+use Rattle.layer_board.specs.Picture.{counter_of, cell_words, cell_in, word_of}
 
 pub counter_set : (ws : List ℕ) (n : ℕ) → 0 < length ws → counter_of (set ws 0 n) ≡ n
 counter_set [] n h = absurd (omega arith)
@@ -48,9 +48,6 @@ full_word n some_n = ap (λ (b : Bool). cond b None (Some (n / 32 - 1, n % 32)))
 pub empty_word : (n : ℕ) → n ≡ 0 → cell_in n ≡ None
 empty_word n none = ap (λ (b : Bool). cond b None (Some (n / 32 - 1, n % 32))) (eq-eqb n 0 none)
 
-pub word_not_zero : (n : ℕ) → IsCellWord n → n ≢ 0
-word_not_zero n w e = let l = w.0 in omega arith
-
 -- the word of a cell stands for that cell
 pub word_back : (c : ℕ × ℕ) → c.1 < 32 → cell_in (word_of c) ≡ Some c
 word_back c small =
@@ -70,10 +67,7 @@ pub no_words : (n : ℕ) → map cell_in (replicate n 0) ≡ replicate n None
 no_words zero = refl
 no_words (suc n) = ap (λ l. None ∷ l) (no_words n)
 
--- a cell that is there is that of a word that isn't 0, and an empty one that of 0
-pub shown_full : (n : ℕ) → cell_in n ≢ None → n ≢ 0
-shown_full n full e = full (empty_word n e)
-
+-- a word that isn't 0 shows a cell
 pub shown_empty : (n : ℕ) → n ≢ 0 → cell_in n ≢ None
 shown_empty n some_n e = no_some (n / 32 - 1, n % 32) (sym (full_word n some_n) ∙ e)
   where
