@@ -1,5 +1,5 @@
 -- The lines after the first six, to the end of a text.
-use Rattle.std.proofs.Common.{◌≡◌, ℕ, ◌+◌, ◌-◌, ◌^◌, refl, sym, ◌∙◌, ap, subst, inl, inr, ◌⊎◌, List, [], ◌∷◌, ◌++◌, length, map, codes, Option, Some, None, Result, Ok, Err, append_assoc, Vec, Global}
+use Rattle.std.proofs.Common.{◌≡◌, ℕ, ◌+◌, ◌-◌, ◌^◌, refl, sym, ◌∙◌, ap, subst, inl, inr, ◌⊎◌, List, [], ◌∷◌, ◌++◌, length, map, codes, Option, Some, Result, Ok, Err, append_assoc, Vec, Global}
 use Rattle.std.specs.Result.{IsErrAnd}
 use Rattle.std.proofs.lemmas.List.{length-append}
 use Rattle.order_model.specs.Pairs.{Pair}
@@ -84,17 +84,6 @@ first_fails format n number text fault (Err e) is one takes =
     (λ js. Fails (outcome number (js ++ (cells_judges (pre ++ said text) (cells_place (pre ++ said text)) ++ last)) text) fault)
     (sym (no_pairs format n number text pre six says known one))
     (takes pre (place_first format n number text pre six says known one) known))
-
-pub first_told : (format n number : ℕ) (text : List ℕ) (cells : Vec ListedCell Global) → format ≡ 1 → TakesSets n number text (Ok cells) →
-    TakesBody format n number text (Ok (None, cells))
-first_told format n number text cells one takes pre six says known =
-    let t = takes pre (place_first format n number text pre six says known one) known in (
-      ap (λ js. outcome number (js ++ (cells_judges (pre ++ said text) (cells_place (pre ++ said text)) ++ last)) text)
-          (no_pairs format n number text pre six says known one) ∙ t.0,
-      sym one,
-      rw (says ∙ one) refl,
-      t.1,
-    )
 
 -- format 2: pairs, and what stands after them
 pub pairs_fail : (format n number : ℕ) (text : List ℕ) (after : ℕ) (rest : List ℕ) (fault : CertFault)

@@ -1,5 +1,5 @@
 -- The first lines of a text, taken one after another.
-use Rattle.std.proofs.Common.{◌≡◌, ℕ, ◌≤◌, refl, sym, ◌∙◌, ap, subst, List, [], ◌∷◌, ◌++◌, get_or, None, Result, Ok, Err, append_assoc}
+use Rattle.std.proofs.Common.{◌≡◌, ℕ, ◌≤◌, refl, sym, ◌∙◌, ap, subst, List, [], ◌∷◌, ◌++◌, None, Result, Ok, Err, append_assoc}
 use Rattle.std.specs.List.{All, AllByRecursion}
 use Rattle.std.specs.Result.{IsErrAnd}
 use Rattle.std.proofs.lemmas.List.Elements.{All-from_recursion}
@@ -55,11 +55,6 @@ pub head_memory : (number₀ : ℕ) (text : List ℕ) (after : ℕ) (rest : List
     IsErrAnd result (λ e. e ≡ fault) → fault ≡ found.OutOfMemory → TakesHead number₀ text after rest result
 head_memory number₀ text after rest fault (Ok head) is memory = elim is [ ]
 head_memory number₀ text after rest fault (Err e) is memory = rw (is ∙ memory) (λ ks. tt)
-
--- line k of some lines that are taken
-pub line_at : (text : List ℕ) (lines others : List (List (List ℕ))) (k : ℕ) → said text ≡ lines ++ others →
-    get_or (said text) k [] ≡ get_or (lines ++ others) k []
-line_at text lines others k e = ap (λ xs. get_or xs k []) e
 
 -- numbers of a line that passes are in bounds
 pub small_numbers : {V : Type 0} (items : V → List ℕ) (name : List ℕ) (count most number after : ℕ) (text rest : List ℕ) (v : V) →

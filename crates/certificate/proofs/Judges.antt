@@ -42,10 +42,6 @@ same_self (b ∷ w) = let here : nat_eq b b ≡ true = grind (arith, nat_tests) 
 pub same_is : (v w : List ℕ) → same v w ≡ true → v ≡ w
 same_is v w e = same_text v w (sym e)
 
-pub all_same_self : (ws : List (List ℕ)) → pointwise same ws ws ≡ true
-all_same_self [] = refl
-all_same_self (w ∷ ws) = rw (same_self w) (all_same_self ws)
-
 pub both_are : (s t : Bool) → (s && t) ≡ true → (s ≡ true) × (t ≡ true)
 both_are true t e = (refl, e)
 both_are false t e = absurd (cc (e))

@@ -14,10 +14,6 @@ use Rattle.certificate.specs.Heads.{TakesHead, TakesBody, Refuses, body_judges, 
 use Rattle.certificate.proofs.Spelled.{by_parts}
 use Rattle.certificate.proofs.Faultless.{Faultless, faultless}
 
-judges_are : (ws : List (List (List ℕ))) → head_judges (inputs_said ws) ++ body_judges ws ≡ judges ws
-unfolding judges
-judges_are ws = refl
-
 faults_are : (text : List ℕ) → outcome 1 (head_judges (inputs_said (said text)) ++ body_judges (said text)) text ≡ faults text
 unfolding outcome faults trailing judges
 faults_are text = let next : 1 + length (judges (said text)) ≡ length (judges (said text)) + 1 = omega arith in rw next refl

@@ -133,12 +133,6 @@ six_written s₀ s₁ s₂ s₃ s₄ s₅ s₆ a b c d e f ea eb ec ed ee ef =
     let two = after s₁ s₂ s₆ (text_line b) _ eb three in
     after s₀ s₁ s₆ (text_line a) _ ea two
 
--- a section
-pub section_written : (s₀ s₁ s₂ name : List ℕ) (n : ℕ) (entries : List (List (List ℕ))) → n ≡ length entries →
-    s₁ ≡ s₀ ++ text_line (field name (n ∷ [])) → s₂ ≡ s₁ ++ flat_map text_line entries →
-    s₂ ≡ s₀ ++ flat_map text_line (section name entries)
-section_written s₀ s₁ s₂ name n entries e a b = after s₀ s₁ s₂ (text_line (field name (length entries ∷ []))) (flat_map text_line entries) (rw (sym e) a) b
-
 -- the whole text
 pub spelling_written : (s₀ s₁ s₂ s₃ s₄ : List ℕ) (cert : Certificate) → s₀ ≡ [] → s₁ ≡ s₀ ++ flat_map text_line (head_lines cert) →
     s₂ ≡ s₁ ++ flat_map text_line (pair_lines cert.format cert.pairs) →
