@@ -1,15 +1,11 @@
 -- Words that are masks as a certificate has them.
 use Rattle.std.proofs.Common.{◌≡◌, ℕ, ◌+◌, ◌-◌, ◌*◌, ◌/◌, ◌%◌, ◌^◌, ◌<◌, zero, suc, refl, sym, ◌∙◌, ap, true, false, nat_lt, List, [], ◌∷◌, length, get_or, arith}
-use Rattle.std.specs.Fmt.{digit_glyph}
 use Rattle.std.proofs.lemmas.Bool.Decides.{nat_tests}
 use Rattle.certificate.specs.Spelling.{hex4}
 use Rattle.certificate.specs.Faults.{is_mask, mask_of}
-use Rattle.certificate.proofs.WordLines.{glyph_value}
+use Rattle.certificate.proofs.WordLines.{glyph, glyph_value}
 use Rattle.certificate.proofs.Judges.{same_self, mask_is}
 use Rattle.std.proofs.lemmas.Bool.{false_from_ne_true}
-
-abbrev glyph : ℕ → ℕ
-glyph d = digit_glyph false d
 
 -- four digits, highest first
 abbrev pub of_digits : ℕ → ℕ → ℕ → ℕ → ℕ

@@ -126,13 +126,17 @@ decimal_plain n small = digits_plain (decimal n) (decimal_is_IsNumeral n small).
 pub decimal_back : (n : ℕ) → n < 2 ^ 64 → number_of (decimal n) ≡ n
 decimal_back n small = (decimal_is_IsNumeral n small).1
 
--- the digits of masks
-pub glyph_value : (d : ℕ) → d < 16 → digit_value (digit_glyph false d) ≡ d
+-- a hexadecimal digit
+abbrev pub glyph : ℕ → ℕ
+glyph d = digit_glyph false d
+
+pub glyph_value : (d : ℕ) → d < 16 → digit_value (glyph d) ≡ d
 glyph_value d small = digit_value-digit_char d (omega arith)
 
-glyph_low : (d : ℕ) → 48 ≤ digit_glyph false d
+glyph_low : (d : ℕ) → 48 ≤ glyph d
 glyph_low d = grind (arith, nat_tests)
 
+-- the digits of masks
 pub hex_plain : (mask : ℕ) → IsPlain (hex4 mask)
 unfolding hex4
 hex_plain mask =

@@ -1,7 +1,7 @@
 -- Lines of a text that is written piece by piece.
 use Rattle.std.proofs.Common.{◌≡◌, ℕ, ◌+◌, ◌/◌, ◌%◌, ◌<◌, ◌≤◌, refl, sym, ◌∙◌, ap, true, false, ◌==◌, inl, inr, ◌⊎◌, List, [], ◌∷◌, ◌++◌, length, map, take, get_or, codes, decimal, arith, append_assoc, append-nil}
 use Rattle.std.specs.List.{flat_map, join_with_byte}
-use Rattle.std.specs.Fmt.{char_count, digit_glyph, digits, format_spec, padded_integral}
+use Rattle.std.specs.Fmt.{char_count, digits, format_spec, padded_integral}
 use Rattle.std.proofs.lemmas.Bool.{cases_lt}
 use Rattle.std.proofs.lemmas.Bool.Decides.{nat_tests}
 use Rattle.std.proofs.lemmas.List.{take_more, map-append}
@@ -10,6 +10,7 @@ use Rattle.order_model.specs.Pairs.{Pair}
 use Rattle.order_model.specs.Certificates.{Certificate, Cell}
 use Rattle.certificate.specs.Spelling.{hex4, field, section, head_lines, pair_lines, word_lines, text_line, spelling, pair_words, cell_words}
 use Rattle.certificate.specs.Values.{each_spaced}
+use Rattle.certificate.proofs.WordLines.{glyph}
 
 -- words after the first one
 behind : (w : List ℕ) (ns : List ℕ) → join_with_byte 32 (w ∷ map decimal ns) ≡ w ++ each_spaced ns
@@ -50,9 +51,6 @@ entries_more write s₀ s₁ s₂ es i d within a b =
     ∙ append_assoc s₀ (flat_map text_line (map write (take i es))) (text_line (write (get_or es i d))) ∙ ap (λ r. s₀ ++ r) (sym more)
 
 -- a mask in four hexadecimal digits
-abbrev glyph : ℕ → ℕ
-glyph d = digit_glyph false d
-
 four : (a b c d : ℕ) (mask : ℕ) → a ≡ mask / 4096 % 16 → b ≡ mask / 256 % 16 → c ≡ mask / 16 % 16 → d ≡ mask / 1 % 16 →
     glyph a ∷ glyph b ∷ glyph c ∷ glyph d ∷ [] ≡ hex4 mask
 unfolding hex4
