@@ -7,7 +7,8 @@ use mathlib.Core.List.{append_assoc}
 use Rattle.order_model.specs.Pairs.{Pair}
 use Rattle.order_model.specs.Certificates.{Cell}
 use Rattle.certificate.specs.Spelling.{most_nodes, hex4, field, section, pair_words, cell_words, pair_key, IsPair, IsCell}
-use Rattle.certificate.specs.Faults.{number_of, number_said, is_pair, is_cell, pair_key_of, cell_key_of, section_judges}
+use Rattle.order_model.specs.Texts.{number_of}
+use Rattle.certificate.specs.Faults.{number_said, is_pair, is_cell, pair_key_of, cell_key_of, section_judges}
 use Rattle.certificate.specs.Decoded.{read_pair, read_cell, mask_key, section_said}
 use Rattle.certificate.proofs.WordLines.{decimal_back, hex_back}
 use Rattle.certificate.proofs.Judges.{Pass, both_are, decimal_passes, decimal_is, mask_passes, mask_is, field_passes, field_is, one_number}

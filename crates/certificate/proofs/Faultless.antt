@@ -12,7 +12,8 @@ use Rattle.order_model.specs.Pairs.{Pair}
 use Rattle.order_model.specs.Certificates.{Certificate, Cell}
 use Rattle.certificate.specs.declared.faults.LineFault.{LineFault}
 use Rattle.certificate.specs.Spelling.{most_nodes, most_pairs, field, section, pair_words, pair_lines, cell_words, pair_key, IsPair, IsCell, word_lines, text_line, spelling, HasSpelling}
-use Rattle.certificate.specs.Faults.{whole_lines, onto_line, words, said, same, number_of, number_said, inputs_said, is_pair, is_cell, pair_key_of, cell_key_of, title_fault, fixed_fault, section_judges, pairs_judges, cells_judges, judges, Judge, numbered, line_faults, with_feeds, trailing, faults, Spells, FirstFault}
+use Rattle.order_model.specs.Texts.{same, number_of}
+use Rattle.certificate.specs.Faults.{whole_lines, onto_line, words, said, number_said, inputs_said, is_pair, is_cell, pair_key_of, cell_key_of, title_fault, fixed_fault, section_judges, pairs_judges, cells_judges, judges, Judge, numbered, line_faults, with_feeds, trailing, faults, Spells, FirstFault}
 use Rattle.certificate.proofs.WordLines.{decimal_back}
 use Rattle.certificate.proofs.Judges.{Pass, pass_length, all_same_is, IsFrom, field_is, one_number}
 use Rattle.certificate.proofs.Spelled.{no_fault}

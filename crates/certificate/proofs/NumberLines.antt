@@ -6,7 +6,8 @@ use Rattle.std.proofs.lemmas.Bool.Decides.{nat_tests}
 use Rattle.certificate.specs.declared.faults.LineFault.TheVariants.{BadLine, BadNumber}
 use Rattle.certificate.specs.declared.faults.CertFault.{CertFault}
 use Rattle.certificate.specs.declared.faults.CertFault.TheVariants as found
-use Rattle.certificate.specs.Faults.{words, same, number_of, is_decimal, field_fault}
+use Rattle.order_model.specs.Texts.{same, number_of}
+use Rattle.certificate.specs.Faults.{words, is_decimal, field_fault}
 use Rattle.certificate.specs.Parsing.{Lacks, Cuts, Asks}
 use Rattle.certificate.specs.Decoded.{numbers_of}
 use Rattle.certificate.proofs.Judges.{same_self}

@@ -10,7 +10,8 @@ use Rattle.std.proofs.lemmas.Fmt.{decimal_nonempty, first_decimal, length-decima
 use Rattle.std.proofs.lemmas.Str.{digit_value_digit}
 use Rattle.std.proofs.lemmas.Str.Parse.{tells_all_ascii_digits, numerals_by_value}
 use Rattle.certificate.specs.Spelling.{most_nodes}
-use Rattle.certificate.specs.Faults.{number_of, is_decimal}
+use Rattle.order_model.specs.Texts.{number_of}
+use Rattle.certificate.specs.Faults.{is_decimal}
 use Rattle.certificate.proofs.Judges.{same_self, decimal_is}
 use Rattle.order_model.proofs.Lists.Digits.{behind_first}
 

@@ -8,7 +8,8 @@ use Rattle.std.proofs.lemmas.List.FromFn.{length-range_with_len}
 use Rattle.std.proofs.Math.Seq.{get_or-append_seam, drop-append-add, take-append_seam}
 use Rattle.certificate.specs.declared.faults.CertFault.{CertFault}
 use Rattle.certificate.specs.declared.faults.CertFault.TheVariants as found
-use Rattle.certificate.specs.Faults.{Judge, said, line_faults, number_of, number_said, field_fault, entry_fault, rises, section_judges}
+use Rattle.order_model.specs.Texts.{number_of}
+use Rattle.certificate.specs.Faults.{Judge, said, line_faults, number_said, field_fault, entry_fault, rises, section_judges}
 use Rattle.certificate.specs.Decoded.{section_said}
 use Rattle.certificate.specs.Parsing.{Fails, Asks, outcome, TakesSection}
 use Rattle.certificate.specs.Values.{is_above}

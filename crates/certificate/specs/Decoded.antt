@@ -4,7 +4,8 @@
 use Rattle.std.specs.Prelude.{ℕ, ◌+◌, cond, nat_eq, List, [], ◌∷◌, length, map, take, drop, get_or}
 use Rattle.order_model.specs.Pairs.{Pair}
 use Rattle.order_model.specs.Certificates.{Certificate, Cell}
-use Rattle.certificate.specs.Faults.{number_of, mask_of, number_said, pairs_judges}
+use Rattle.order_model.specs.Texts.{number_of}
+use Rattle.certificate.specs.Faults.{mask_of, number_said, pairs_judges}
 
 -- the numbers of a line after its first word
 abbrev pub numbers_of : List (List ℕ) → List ℕ

@@ -7,6 +7,7 @@ use Rattle.std.specs.Prelude.{◌≡◌, ℕ, ◌+◌, ◌-◌, ◌^◌, Bool, n
 use Rattle.std.specs.List.{slice_split, slice_index_or, range_with_len, list_all, flat_map}
 use Rattle.std.specs.Cmp.Lexicographic.{pointwise}
 use Rattle.std.specs.Str.Parse.{digits_value}
+use Rattle.order_model.specs.Texts.{same, number_of, first_fault}
 use Rattle.order_model.specs.Certificates.{Certificate}
 use Rattle.certificate.specs.declared.faults.LineFault.{LineFault}
 use Rattle.certificate.specs.declared.faults.LineFault.TheVariants.{MissingLine, BadLine, BadNumber, NotRising, TrailingText}
@@ -26,14 +27,7 @@ whole_lines (b ∷ text) = cond (b == 10) ([] ∷ whole_lines text) (onto_line b
 unfoldable pub words : List ℕ → List (List ℕ)
 words line = slice_split (λ b. b == 32) line
 
--- whether two words are equal
-abbrev pub same : List ℕ → List ℕ → Bool
-same = pointwise nat_eq
-
--- the numbers that digits and hexadecimal digits write
-abbrev pub number_of : List ℕ → ℕ
-number_of word = digits_value 10 word
-
+-- the number that hexadecimal digits write
 abbrev pub mask_of : List ℕ → ℕ
 mask_of word = digits_value 16 word
 
@@ -61,11 +55,6 @@ number_said ws k = number_of (word_at ws k 1)
 -- what is asked of the words of a line
 abbrev pub Judge : Type 0
 Judge = List (List ℕ) → Option LineFault
-
--- the first fault whose test holds
-abbrev pub first_fault : List (Bool × LineFault) → Option LineFault
-first_fault [] = None
-first_fault ((holds, fault) ∷ others) = cond holds (Some fault) (first_fault others)
 
 -- a line of fixed words
 abbrev pub fixed_fault : List (List ℕ) → Judge

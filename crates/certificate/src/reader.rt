@@ -6,7 +6,8 @@ ghost use Rattle.certificate.specs.declared.faults.CertFault.TheVariants.{Line, 
 ghost use Rattle.certificate.specs.declared.faults.LineFault.TheVariants.{BadNumber, MissingLine};
 ghost use Rattle.order_model.specs.Listed.{listed};
 ghost use Rattle.certificate.specs.Decoded.{numbers_of, read_pair, read_cell};
-ghost use Rattle.certificate.specs.Faults.{cell_key_of, entry_fault, field_fault, fixed_fault, is_cell, is_decimal, is_pair, number_of, pair_key_of, title_fault, words};
+ghost use Rattle.order_model.specs.Texts.{number_of};
+ghost use Rattle.certificate.specs.Faults.{cell_key_of, entry_fault, field_fault, fixed_fault, is_cell, is_decimal, is_pair, pair_key_of, title_fault, words};
 ghost use Rattle.certificate.specs.Parsing.{Cuts, Fails, Lacks, outcome};
 ghost use Rattle.certificate.specs.Reading.{FitsCount, StaysWithin, TakesEntries, TakesLine};
 ghost use Rattle.certificate.specs.Spelling.{most_nodes, most_pairs};

@@ -9,7 +9,7 @@ use Rattle.std.specs.Prelude.{◌≡◌, ℕ, ◌≤◌, Bool, true, false, cond
 use Rattle.std.specs.List.{All, range_with_len}
 use Rattle.order_model.specs.Functions.{Function}
 use Rattle.order_model.specs.Products.{Product, product_functions}
-use Rattle.pla_reader.specs.Text.{number_of}
+use Rattle.order_model.specs.Texts.{number_of}
 use Rattle.pla_reader.specs.Lines.{Line}
 use Rattle.pla_reader.specs.Lines.Line.{Inputs, Outputs, InputNames, OutputNames, LogicalType, Row}
 

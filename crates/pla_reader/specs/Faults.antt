@@ -1,24 +1,19 @@
 -- What is wrong with a line, judged by the lines before it.
---     first_fault tests      the first fault whose test holds
 --     fault_of before line      the fault of a line
 use Rattle.std.specs.Prelude.{ℕ, Bool, false, not, cond, ◌+◌, ◌&&◌, ◌||◌, ◌==◌, List, [], ◌∷◌, ◌++◌, length, map, take, drop, Option, Some, None, codes, filter_map, nat_lt, nat_le}
 use Rattle.std.specs.Option.{option_map_or}
 use Rattle.std.specs.List.{list_all}
+use Rattle.order_model.specs.Texts.{same, number_of, first_fault}
 use Rattle.pla_reader.specs.declared.errors.LineFault.{LineFault}
 use Rattle.pla_reader.specs.declared.errors.LineFault.TheVariants.{MissingHead, RepeatedHead, InputCount, OutputCount, BadNumber, NameCount, BadName, UnknownDirective, UnsupportedType, DontCare, BadInputChar, BadOutputChar, ShortTerm, LongTerm}
-use Rattle.pla_reader.specs.Text.{is_filled, only_word, is_number, number_of, is_name}
-use Rattle.pla_reader.specs.Lines.{Line, same}
+use Rattle.pla_reader.specs.Text.{is_filled, only_word, is_number, is_name}
+use Rattle.pla_reader.specs.Lines.{Line}
 use Rattle.pla_reader.specs.Lines.Line.{Empty, Inputs, Outputs, InputNames, OutputNames, Products, LogicalType, End, UnknownWord, Row}
 use Rattle.pla_reader.specs.Covers.{input_count, output_count, input_naming, output_naming, type_words, row_bytes, inputs_of, outputs_of}
 
 -- whether an earlier line gives a thing
 abbrev pub comes : {A : Type 0} → (Line → Option A) → List Line → Bool
 comes thing before = is_filled (filter_map thing before)
-
--- the first fault whose test holds
-abbrev pub first_fault : List (Bool × LineFault) → Option LineFault
-first_fault [] = None
-first_fault ((holds, fault) ∷ others) = cond holds (Some fault) (first_fault others)
 
 -- the first one of what may be there
 abbrev pub first_some : List (Option LineFault) → Option LineFault

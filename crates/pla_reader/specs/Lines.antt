@@ -2,8 +2,8 @@
 --     Line, line_said line      a line's meaning
 --     said bytes      the lines of an input
 --     description lines      those before the one that ends the description
-use Rattle.std.specs.Prelude.{ℕ, Bool, true, false, not, cond, ◌==◌, List, [], ◌∷◌, map, codes, slice_index, take_while, nat_eq}
-use Rattle.std.specs.Cmp.Lexicographic.{pointwise}
+use Rattle.std.specs.Prelude.{ℕ, Bool, true, false, not, cond, ◌==◌, List, [], ◌∷◌, map, codes, slice_index, take_while}
+use Rattle.order_model.specs.Texts.{same}
 use Rattle.pla_reader.specs.Text.{lines_of, content, words, positions}
 
 -- a directive with the words after it, or a term with its positions
@@ -12,10 +12,6 @@ pub data Line : Type 0 where
   Inputs Outputs InputNames OutputNames Products LogicalType : (given : List (List ℕ)) → Line
   End UnknownWord : Line
   Row : (bytes : List ℕ) → Line
-
--- whether two texts are equal
-abbrev pub same : List ℕ → List ℕ → Bool
-same = pointwise nat_eq
 
 -- the meaning of a directive, by espresso(5)'s words for it
 unfoldable pub directive : List ℕ → List (List ℕ) → Line

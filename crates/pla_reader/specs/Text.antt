@@ -1,12 +1,11 @@
--- The text of a PLA description: its lines, the words of a line, and numbers.
+-- The text of a PLA description: its lines, the words of a line, and what words may be.
 --     lines_of bytes      the lines, without their line feeds
 --     content line, words content, positions content      a line up to its comment; its words; the bytes of a term
---     only_word words, is_number word, number_of word, is_name word      what directives are given
+--     only_word words, is_number word, is_name word      what directives are given
 use Rattle.std.specs.Prelude.{ℕ, Bool, true, false, not, cond, ◌&&◌, ◌||◌, ◌==◌, List, [], ◌∷◌, length, filter, take_while, nat_le, Option, Some, None}
 use Rattle.std.specs.List.{slice_split, onto_first, list_all}
 use Rattle.std.specs.Char.{is_ascii_graphic}
 use Rattle.std.specs.Str.{all_ascii_digits}
-use Rattle.std.specs.Str.Parse.{digits_value}
 
 -- the bytes that have a meaning of their own
 abbrev pub line_feed : ℕ
@@ -52,10 +51,6 @@ only_word _ = None
 -- a number: one to nine decimal digits
 abbrev pub is_number : List ℕ → Bool
 is_number word = all_ascii_digits word && (nat_le 1 (length word) && nat_le (length word) 9)
-
--- its value
-abbrev pub number_of : List ℕ → ℕ
-number_of word = digits_value 10 word
 
 -- a name has visible ASCII bytes only, 33 to 126
 abbrev pub is_name : List ℕ → Bool

@@ -2,7 +2,8 @@
 
 ghost use Rattle.std.specs.Prelude.{◌≡◌, ◌<◌, ◌≤◌, ◌==◌, ◌||◌, ◌∷◌, [], false, IsTrue, length, position, IfSome, IfNone, Some, None};
 ghost use Rattle.std.specs.List.{position_or_len, list_all};
-ghost use Rattle.pla_reader.specs.Text.{lines_of, is_blank, bar, words, content as content_of, only_word as one_word, is_number, number_of, is_name};
+ghost use Rattle.order_model.specs.Texts.{number_of};
+ghost use Rattle.pla_reader.specs.Text.{lines_of, is_blank, bar, words, content as content_of, only_word as one_word, is_number, is_name};
 
 /// The place of the first of a byte.
 fn place_of(text: &[u8], byte: u8) -> Option<usize>

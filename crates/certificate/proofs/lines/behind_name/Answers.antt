@@ -1,6 +1,7 @@
 use Rattle.std.proofs.Common.{◌≡◌, ◌==◌, false, true, length, ◌∙◌, ap, ◌∷◌, arith, rules}
 use Rattle.std.proofs.lemmas.Bool.Decides.{nat_tests}
-use Rattle.certificate.specs.Faults.{same, words}
+use Rattle.order_model.specs.Texts.{same}
+use Rattle.certificate.specs.Faults.{words}
 use Rattle.certificate.proofs.Judges.{same_is}
 use Rattle.certificate.proofs.LineWords.{cut_words}
 use Rattle.certificate.proofs.NumberLines.{no_name, other_name, other_count}

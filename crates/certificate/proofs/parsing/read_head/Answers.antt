@@ -1,6 +1,7 @@
 use Rattle.std.proofs.Common.{ℕ, List, refl, sym, ◌∙◌, ap, [], ◌∷◌, ◌++◌, get_or, codes}
 use Rattle.certificate.specs.Spelling.{most_nodes}
-use Rattle.certificate.specs.Faults.{said, number_of, inputs_said, title_fault, field_fault, head_judges}
+use Rattle.order_model.specs.Texts.{number_of}
+use Rattle.certificate.specs.Faults.{said, inputs_said, title_fault, field_fault, head_judges}
 use Rattle.certificate.specs.Decoded.{numbers_of}
 use Rattle.certificate.specs.Parsing.{outcome}
 use Rattle.certificate.proofs.Faultless.{format_of}

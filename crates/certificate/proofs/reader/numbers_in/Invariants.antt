@@ -1,6 +1,7 @@
 use Rattle.std.proofs.Common.{◌≡◌, ◌++◌, map, length}
 use Rattle.std.specs.List.{list_all}
-use Rattle.certificate.specs.Faults.{words, number_of, is_decimal}
+use Rattle.order_model.specs.Texts.{number_of}
+use Rattle.certificate.specs.Faults.{words, is_decimal}
 use Rattle.certificate.proofs.reader.numbers_in.Given as goal
 
 abbrev pub invariant-loop-word : goal.invariant-loop-word

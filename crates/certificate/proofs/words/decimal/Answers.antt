@@ -1,7 +1,7 @@
 use Rattle.std.proofs.Common.{◌≡◌, true, false, rules, sym, ◌∙◌, get_or, arith}
 use Rattle.std.specs.Char.{is_ascii_digit}
 use Rattle.std.specs.Str.{all_ascii_digits}
-use Rattle.certificate.specs.Faults.{number_of}
+use Rattle.order_model.specs.Texts.{number_of}
 use Rattle.certificate.proofs.Numbers.{spelled_digits, decimal_some, decimal_short, decimal_leads, decimal_all, digits_rest, value_rest, digit_range, no_digits}
 use Rattle.order_model.proofs.Lists.Digits.{pow_more, no_more_digits, no_more_value}
 use Rattle.certificate.proofs.words.decimal.Goals as goal

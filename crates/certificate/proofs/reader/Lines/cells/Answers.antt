@@ -1,7 +1,8 @@
 use Rattle.std.proofs.Common.{◌≡◌, ◌-◌, ◌^◌, ◌<◌, ℕ, refl, sym, subst, [], ◌∷◌, ◌++◌, map, length, codes, get_or, Some, Ok, Err, arith}
 use Rattle.std.proofs.lemmas.List.{length-append, map-append}
 use Rattle.order_model.specs.Listed.{listed}
-use Rattle.certificate.specs.Faults.{number_of, field_fault, is_cell, cell_key_of}
+use Rattle.order_model.specs.Texts.{number_of}
+use Rattle.certificate.specs.Faults.{field_fault, is_cell, cell_key_of}
 use Rattle.certificate.specs.Parsing.{Asks}
 use Rattle.certificate.specs.Decoded.{read_cell, mask_key}
 use Rattle.certificate.proofs.Taking.{Reached, reached_first, reached_more, reached_fails, reached_all, section_fails, memory_fails}
