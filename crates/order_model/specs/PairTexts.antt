@@ -1,19 +1,19 @@
 -- Texts of pairs, as 2,0:1,0, and what is decided of them.
---     number_of word, pair_of part, listed text      the number of a word, the pair of a part between colons, the pairs of a text
+--     variable_of word, pair_of part, listed text      the variable of a word, the pair of a part between colons, the pairs of a text
 --     AreMasksOf P below      the masks of the listed pairs
 --     ParsesAs P n result      what is returned for the listed pairs, with n variables
-use Rattle.std.specs.Prelude.{◌≡◌, ◌↔◌, IsTrue, ℕ, ◌==◌, nat_eq, List, [], ◌∷◌, Option, Some, None, Result, Ok, Err, decimal}
+use Rattle.std.specs.Prelude.{◌≡◌, ◌↔◌, IsTrue, ℕ, ◌==◌, List, [], ◌∷◌, Option, Some, None, Result, Ok, Err, decimal}
 use Rattle.std.specs.List.{find, slice_split, before_first, after_first}
-use Rattle.std.specs.Cmp.Lexicographic.{pointwise}
 use Rattle.order_model.specs.declared.pairs.PairsFault.{PairsFault}
 use Rattle.order_model.specs.declared.pairs.PairsFault.TheVariants.{BadPair, PairOutOfRange, PairCycle}
 use Rattle.order_model.specs.Orders.{variables}
+use Rattle.order_model.specs.Texts.{same}
 use Rattle.order_model.specs.Pairs.{Pair, has_pair, AreBelow, IsPairCycle, sorted_pairs}
 use Rattle.order_model.specs.KeptPairs.{KeptPairs, HasBit, HasNoCycle}
 
--- the number of a word: the one from 0 to 15 whose decimal it is
-unfoldable pub number_of : List ℕ → Option ℕ
-number_of word = find (λ k. pointwise nat_eq word (decimal k)) (variables 16)
+-- the variable of a word: the one from 0 to 15 whose decimal it is
+unfoldable pub variable_of : List ℕ → Option ℕ
+variable_of word = find (λ k. same word (decimal k)) (variables 16)
 
 -- the pair of two numbers
 abbrev pub both : Option ℕ → Option ℕ → Option Pair
@@ -22,7 +22,7 @@ both _ _ = None
 
 -- the pair of a part: the numbers before and after its first comma
 abbrev pub pair_of : List ℕ → Option Pair
-pair_of part = both (number_of (before_first (λ b. b == 44) part)) (number_of (after_first (λ b. b == 44) part))
+pair_of part = both (variable_of (before_first (λ b. b == 44) part)) (variable_of (after_first (λ b. b == 44) part))
 
 -- one pair more
 abbrev pub with_pair : Option Pair → Option (List Pair) → Option (List Pair)

@@ -5,7 +5,7 @@ ghost use Rattle.std.specs.Int.{bit_at};
 ghost use Rattle.order_model.specs.Orders.{has, members};
 ghost use Rattle.order_model.specs.Pairs.{AreBelow, Pair, has_pair, keeps, is_lawful, tops, sorted_pairs, IsFirstOrder, IsPairCycle};
 ghost use Rattle.order_model.specs.KeptPairs.{pairs_in, AreWithin, IsJoined, CanBeKept, HasNoCycle};
-ghost use Rattle.order_model.specs.PairTexts.{number_of, pair_of, listed, AreMasksOf, ParsesAs};
+ghost use Rattle.order_model.specs.PairTexts.{variable_of, pair_of, listed, AreMasksOf, ParsesAs};
 
 use crate::orders::{BadOrder, Order};
 use crate::variables::{Mask, VarIx};
@@ -47,9 +47,9 @@ impl Model for Pairs {
     ghost invariant = { λ p. HoldsKept p.inputs p.below };
 }
 
-/// The number of a word.
+/// The variable of a word.
 fn number(word: &[u8]) -> Option<VarIx>
-    ensures { result ≡ number_of word.now }
+    ensures { result ≡ variable_of word.now }
 {
     match word {
         [digit @ b'0'..=b'9'] => Some(*digit - b'0'),

@@ -1,5 +1,5 @@
 -- Numbers, pairs and lists of pairs in a text.
---     number_is, number_refused, number_parts      the number of a word
+--     number_is, number_refused, number_parts      the variable of a word
 --     pair_without_comma, pair_at      the pair of a part
 --     ReadTo parts k below      the masks of the pairs of the first k parts
 --     read_none, read_more, read_all, read_fails      before the first part, one part more, after the last, a part without a pair
@@ -20,7 +20,7 @@ use Rattle.order_model.specs.declared.pairs.PairsFault.TheVariants.{BadPair, Pai
 use Rattle.order_model.specs.Orders.{has, variables}
 use Rattle.order_model.specs.Pairs.{Pair, has_pair, IsPairCycle}
 use Rattle.order_model.specs.KeptPairs.{pairs_in, HasBit, AreWithin, HasNoCycle, HoldsKept}
-use Rattle.order_model.specs.PairTexts.{number_of, both, pair_of, with_pair, pairs_of, AreMasksOf, ParsesAs}
+use Rattle.order_model.specs.PairTexts.{variable_of, both, pair_of, with_pair, pairs_of, AreMasksOf, ParsesAs}
 use Rattle.order_model.proofs.Lists.Orders.{has_variables}
 use Rattle.order_model.proofs.Precedence.Masks.{Same, same_at, same_from, has_in, below_from, below_at, sorted_same, holds_masks, leads_same}
 
@@ -57,8 +57,8 @@ find_parts p (x ∷ xs) k e = by (p x) refl e (find_parts p xs k)
 same_word : (xs ys : List ℕ) → xs ≡ ys → pointwise nat_eq xs ys ≡ true
 same_word xs ys e = ap (pointwise nat_eq xs) (sym e) ∙ nat_list_eq_equiv.refl xs
 
-pub number_is : (word : List ℕ) (k : ℕ) → k < 16 → word ≡ decimal k → number_of word ≡ Some k
-unfolding number_of
+pub number_is : (word : List ℕ) (k : ℕ) → k < 16 → word ≡ decimal k → variable_of word ≡ Some k
+unfolding variable_of
 number_is word k h e =
     find_only (λ j. pointwise nat_eq word (decimal j)) (variables 16) k ((has_variables 16 k).1 h) (same_word word (decimal k) e)
     (λ j t m. let l : j < 16 = (has_variables 16 j).0 m in decimal_injective j k (below_64 j l) (below_64 k h) (sym (same_text word (decimal j) (sym t)) ∙ e))
@@ -66,14 +66,14 @@ number_is word k h e =
     below_64 : (j : ℕ) → j < 16 → j < 2 ^ 64
     below_64 j l = omega arith
 
-pub number_parts : (word : List ℕ) (k : ℕ) → number_of word ≡ Some k → (k < 16) × (word ≡ decimal k)
-unfolding number_of
+pub number_parts : (word : List ℕ) (k : ℕ) → variable_of word ≡ Some k → (k < 16) × (word ≡ decimal k)
+unfolding variable_of
 number_parts word k e =
     let s = find_parts (λ j. pointwise nat_eq word (decimal j)) (variables 16) k e in
     ((has_variables 16 k).0 s.0, same_text word (decimal k) (sym s.1))
 
-number_none : (word : List ℕ) → ((k : ℕ) → k < 16 → word ≡ decimal k → ⊥) → number_of word ≡ None
-unfolding number_of
+number_none : (word : List ℕ) → ((k : ℕ) → k < 16 → word ≡ decimal k → ⊥) → variable_of word ≡ None
+unfolding variable_of
 number_none word f =
     find_none (λ j. pointwise nat_eq word (decimal j)) (variables 16)
     (λ j t m. f j ((has_variables 16 j).0 m) (same_text word (decimal j) (sym t)))
@@ -86,7 +86,7 @@ decimal_teen k h l =
     decimal_step k h (omega arith) ∙ ap₂ (λ (xs : List ℕ) (d : ℕ). xs ++ d ∷ []) (ap decimal q ∙ decimal_digit 1 (lit< tt)) r
 
 -- a word of one digit
-pub number_digit : (word : List ℕ) → length word ≡ 1 → 48 ≤ get_or word 0 0 → get_or word 0 0 < 58 → number_of word ≡ Some (get_or word 0 0 - 48)
+pub number_digit : (word : List ℕ) → length word ≡ 1 → 48 ≤ get_or word 0 0 → get_or word 0 0 < 58 → variable_of word ≡ Some (get_or word 0 0 - 48)
 number_digit [] e l h = absurd (omega arith)
 number_digit (d ∷ []) e l h =
     let v : 48 + (d - 48) ≡ d = omega arith in
@@ -96,7 +96,7 @@ number_digit (d ∷ x ∷ xs) e l h = absurd (omega arith)
 
 -- a word of the digit 1 and one from 0 to 5
 pub number_teen : (word : List ℕ) → length word ≡ 2 → get_or word 0 0 ≡ 49 → 48 ≤ get_or word 1 0 → get_or word 1 0 < 54 →
-    number_of word ≡ Some (10 + (get_or word 1 0 - 48))
+    variable_of word ≡ Some (10 + (get_or word 1 0 - 48))
 number_teen [] e f l h = absurd (omega arith)
 number_teen (x ∷ []) e f l h = absurd (omega arith)
 number_teen (x ∷ d ∷ []) e f l h =
@@ -109,7 +109,7 @@ number_teen (x ∷ d ∷ y ∷ ys) e f l h = absurd (omega arith)
 -- any other word
 pub number_refused : (word : List ℕ) → (length word ≡ 1 → 48 ≤ get_or word 0 0 → get_or word 0 0 < 58 → ⊥) →
     (length word ≡ 2 → get_or word 0 0 ≡ 49 → 48 ≤ get_or word 1 0 → get_or word 1 0 < 54 → ⊥) →
-    number_of word ≡ None
+    variable_of word ≡ None
 number_refused word one two = number_none word (λ k h e. elim (cases_lt k 10) [
   | inl l ↦
       let is : word ≡ (48 + k) ∷ [] = e ∙ decimal_digit k l in
@@ -134,7 +134,7 @@ both_parts None q a b e = let never : ◌≡◌ {A = Option Pair} None (Some (a,
 
 pub pair_small : (part : List ℕ) (a b : ℕ) → pair_of part ≡ Some (a, b) → (a < 16) × (b < 16)
 pair_small part a b e =
-    let s = both_parts (number_of (before_first (λ x. eqb x 44) part)) (number_of (after_first (λ x. eqb x 44) part)) a b e in
+    let s = both_parts (variable_of (before_first (λ x. eqb x 44) part)) (variable_of (after_first (λ x. eqb x 44) part)) a b e in
     ((number_parts (before_first (λ x. eqb x 44) part) a s.0).0, (number_parts (after_first (λ x. eqb x 44) part) b s.1).0)
 
 -- a part without a comma has no pair
@@ -148,20 +148,20 @@ pair_without_comma part e = by (cases_lt (position_or_len (λ x. eqb x 44) part)
         absurd (let no : ⊥ = cc in no)
     by (inr le) =
         let empty : after_first (λ x. eqb x 44) part ≡ [] = drop_all (position_or_len (λ x. eqb x 44) part + 1) part (omega arith) in
-        let nothing : number_of [] ≡ None = number_refused [] (λ a b d. absurd (omega arith)) (λ a b d f. absurd (omega arith)) in
-        ap (both (number_of (before_first (λ x. eqb x 44) part))) (ap number_of empty ∙ nothing) ∙ both_none (number_of (before_first (λ x. eqb x 44) part))
+        let nothing : variable_of [] ≡ None = number_refused [] (λ a b d. absurd (omega arith)) (λ a b d f. absurd (omega arith)) in
+        ap (both (variable_of (before_first (λ x. eqb x 44) part))) (ap variable_of empty ∙ nothing) ∙ both_none (variable_of (before_first (λ x. eqb x 44) part))
 
 -- a part with a comma at place k has the numbers around it
-pub pair_at : (part : List ℕ) (k : ℕ) → Some k ≡ position (λ x. eqb x 44) part → pair_of part ≡ both (number_of (take k part)) (number_of (drop (k + 1) part))
+pub pair_at : (part : List ℕ) (k : ℕ) → Some k ≡ position (λ x. eqb x 44) part → pair_of part ≡ both (variable_of (take k part)) (variable_of (drop (k + 1) part))
 pair_at part k e = by (cases_lt (position_or_len (λ x. eqb x 44) part) (length part))
   where
     by : (position_or_len (λ x. eqb x 44) part < length part) ⊎ (length part ≤ position_or_len (λ x. eqb x 44) part) →
-        pair_of part ≡ both (number_of (take k part)) (number_of (drop (k + 1) part))
+        pair_of part ≡ both (variable_of (take k part)) (variable_of (drop (k + 1) part))
     by (inl lt) =
         let found : ◌≡◌ {A = Option ℕ} (Some k) (Some (position_or_len (λ x. eqb x 44) part)) = e
         ∙ ap (λ b. cond b (Some (position_or_len (λ x. eqb x 44) part)) None) (lt-ltb _ _ lt) in
         let same : position_or_len (λ x. eqb x 44) part ≡ k = cc in
-        ap (λ (j : ℕ). both (number_of (take j part)) (number_of (drop (j + 1) part))) same
+        ap (λ (j : ℕ). both (variable_of (take j part)) (variable_of (drop (j + 1) part))) same
     by (inr le) =
         let found : ◌≡◌ {A = Option ℕ} (Some k) None = e ∙ ap (λ b. cond b (Some (position_or_len (λ x. eqb x 44) part)) None) (le-ltb _ _ le) in
         absurd (let no : ⊥ = cc in no)

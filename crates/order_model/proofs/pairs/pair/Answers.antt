@@ -1,5 +1,5 @@
 use Rattle.std.proofs.Common.{◌≡◌, ◌+◌, ◌-◌, ℕ, List, length, take, drop, take_all, length-drop, sym, ap, ap₂, ◌∙◌, arith}
-use Rattle.order_model.specs.PairTexts.{number_of, both}
+use Rattle.order_model.specs.PairTexts.{variable_of, both}
 use Rattle.order_model.proofs.Precedence.Texts.{pair_without_comma, pair_at, both_second_none}
 use Rattle.order_model.proofs.pairs.pair.Goals as goal
 
@@ -15,7 +15,7 @@ returns-in_err-above c =
     let part = c.args.part.now in
     let k = c.in_ok-comma.comma in
     c.from_residual-in_err-above.ensures
-    ∙ sym (pair_at part k c.in_ok-comma.ensures.first ∙ ap (λ o. both o (number_of (drop (k + 1) part))) (sym c.in_err-above.ensures))
+    ∙ sym (pair_at part k c.in_ok-comma.ensures.first ∙ ap (λ o. both o (variable_of (drop (k + 1) part))) (sym c.in_err-above.ensures))
 
 pub returns-in_err-below : goal.returns-in_err-below
 returns-in_err-below c =
@@ -23,11 +23,11 @@ returns-in_err-below c =
     let k = c.in_ok-comma.comma in
     c.from_residual-in_err-below.ensures
     ∙ sym (pair_at part k c.in_ok-comma.ensures.first
-    ∙ ap (both (number_of (take k part))) (ap number_of (sym (rest_of part k)) ∙ sym c.in_err-below.ensures)
-    ∙ both_second_none (number_of (take k part)))
+    ∙ ap (both (variable_of (take k part))) (ap variable_of (sym (rest_of part k)) ∙ sym c.in_err-below.ensures)
+    ∙ both_second_none (variable_of (take k part)))
 
 pub returns : goal.returns
 returns c =
     let part = c.args.part.now in
     let k = c.in_ok-comma.comma in
-    ap₂ both c.in_ok-above.ensures (c.in_ok-below.ensures ∙ ap number_of (rest_of part k)) ∙ sym (pair_at part k c.in_ok-comma.ensures.first)
+    ap₂ both c.in_ok-above.ensures (c.in_ok-below.ensures ∙ ap variable_of (rest_of part k)) ∙ sym (pair_at part k c.in_ok-comma.ensures.first)
