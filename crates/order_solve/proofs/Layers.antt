@@ -1,11 +1,11 @@
 -- The layers of all sets.
---     start_layer, layers_start, layers_push      the layer of the empty set, and a layer more
+--     start_layer, layers_push      the layer of the empty set, and a layer more
 --     set_layer      the layer in which a set is
-use Rattle.std.proofs.Common.{◌≡◌, ℕ, zero, suc, ◌+◌, ◌-◌, ◌^◌, ◌<◌, ◌≤◌, inl, inr, true, List, [], ◌∷◌, ◌++◌, length, length-append, Some, IfSome, Option, sym, ap, ◌∙◌, subst, arith, count_ones, eqb}
+use Rattle.std.proofs.Common.{◌≡◌, ℕ, ◌+◌, ◌-◌, ◌^◌, ◌<◌, ◌≤◌, inl, inr, true, List, [], ◌∷◌, ◌++◌, length, length-append, Some, IfSome, Option, sym, ap, ◌∙◌, subst, arith, count_ones, eqb}
 use Rattle.std.proofs.lemmas.Bool.{cases_eq, cases_lt}
 use Rattle.std.proofs.lemmas.List.FromFn.{length-range_with_len}
 use Rattle.std.proofs.lemmas.List.{get_or_append_left, get_or_push}
-use Rattle.std.proofs.lemmas.Option.{slice_get_within, slice_get-get_or, get_or_from_slice_get, same_Some}
+use Rattle.std.proofs.lemmas.Option.{slice_get_within, slice_get-get_or, get_or_from_slice_get}
 use Rattle.order_model.specs.Functions.{Function, from_table}
 use Rattle.std.specs.Int.{bit_at}
 use Rattle.std.proofs.lemmas.Nat.{zero_from_ones}
@@ -17,7 +17,7 @@ use Rattle.layer_core.specs.Pairing.{pair_of}
 use Rattle.order_model.specs.Pairs.{Pair}
 use Rattle.order_model.specs.Problems.{functions}
 use Rattle.subset_layers.specs.Layers.{layer_with, masks_of}
-use Rattle.subset_layers.specs.Costs.{CostsOf, start_costs, layer_of_costs, as_pair, AreTrueCosts, AreTrueCells}
+use Rattle.subset_layers.specs.Costs.{CostsOf, layer_of_costs, as_pair, AreTrueCells}
 use Rattle.subset_layers.proofs.BlockLists.{masks_has}
 use Rattle.order_model.proofs.Bits.Ones.{ones-members}
 use Rattle.layer_core.specs.Settings.{Setting, cell_for}
@@ -27,16 +27,6 @@ use Rattle.order_solve.specs.Bounded.{IsBounded, AreLayersFor}
 use Rattle.order_model.proofs.Lists.Ranges.{filter_at_most}
 
 -- ---- layers
-
-pub layers_start : (t : Setting) (c : CostsOf) → c ≡ start_costs t.problem.inputs →
-    ((F : List Function) (P : List Pair) (bound : ℕ) → AreTrueCosts t.problem.inputs F P bound c) → AreLayersFor t (c ∷ [])
-layers_start t c is exact zero d e = subst (λ (z : CostsOf). IsLayerFor t 0 z) (same_Some c d e) (record {
-  inputs = ap (λ (z : CostsOf). z.inputs) is;
-  size_is = ap (λ (z : CostsOf). z.size) is;
-  costs_are = exact (functions t.problem) t.pairs.pairs t.bound;
-  cells_are = λ i lt. absurd (let k = ap (λ (z : CostsOf). length z.cells) is in omega (arith, k, lt));
-})
-layers_start t c is exact (suc k) d e = absurd (let w = slice_get_within (c ∷ []) (suc k) d e in omega (arith, w))
 
 pub layers_push : (t : Setting) (layers : List CostsOf) (c : CostsOf) → AreLayersFor t layers → IsLayerFor t (length layers) c →
     AreLayersFor t (layers ++ c ∷ [])
