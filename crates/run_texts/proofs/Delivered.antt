@@ -1,8 +1,7 @@
 -- What the writers of a run hold after it, path by path.
---     ok_of, err_of      what a result says
 --     certified_part      what the certificate's writer got
 --     good_written      what it got reads as a good certificate
-use Rattle.std.proofs.Common.{◌≡◌, ℕ, Bool, true, false, List, Option, Some, None, Result, Ok, Err, String, OnErr, OnOk, is_some, is_err, option_map, string_bytes, sym, ◌∙◌}
+use Rattle.std.proofs.Common.{◌≡◌, ℕ, Bool, true, false, List, Option, Some, None, String, is_some, option_map, string_bytes, sym, ◌∙◌}
 use Rattle.std.specs.Borrow.{Bor}
 use Rattle.std.specs.Global.{Global}
 use Rattle.order_model.proofs.Certificates.Written.{cert_of_is_good}
@@ -11,14 +10,6 @@ use Rattle.certificate.proofs.Spelled.{one_form}
 use Rattle.pla_reader.specs.Covers.{NamedCover, functions_of}
 use Rattle.run_texts.specs.Answers.{HasCertificate, IsCertificateOf}
 use Rattle.run_texts.specs.Runs.{Certifies, Gets, GetsText, ReadsAsGood, whole}
-
-pub ok_of : {A E : Type 0} (r : Result A E) (P : Type 0) → is_err r ≡ false → OnOk r P → P
-ok_of (Ok a) P e holds = holds
-ok_of (Err x) P e holds = absurd (cc)
-
-pub err_of : {A E : Type 0} (r : Result A E) (P : Type 0) → is_err r ≡ true → OnErr r P → P
-err_of (Ok a) P e holds = absurd (cc)
-err_of (Err x) P e holds = holds
 
 pub certified_part : {C : Type 0} (contents : C → Option (List ℕ)) (count : Bool) (above : Option (Bor (List ℕ))) (cover : NamedCover)
     (asked : Bool) (text : Option (String Global)) (part : List ℕ → List ℕ) (before : Option C) (after : Option (Option (List ℕ))) →

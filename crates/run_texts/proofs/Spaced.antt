@@ -1,6 +1,5 @@
 -- Texts with one space between each two pieces.
-use Rattle.std.proofs.Common.{◌≡◌, ℕ, ◌+◌, ◌<◌, List, [], ◌∷◌, ◌++◌, length, map, take, get_or, refl, sym, ap, ◌∙◌, decimal, codes, append_assoc, append-nil}
-use Rattle.std.proofs.lemmas.List.{take_more}
+use Rattle.std.proofs.Common.{◌≡◌, ℕ, ◌+◌, List, [], ◌∷◌, ◌++◌, map, sym, ap, ◌∙◌, decimal, codes, append_assoc, append-nil}
 use Rattle.std.specs.List.{flat_map, join_with_byte, sum}
 use Rattle.run_texts.specs.Texts.{each_spaced, each_name_spaced, sizes_lines}
 use Rattle.outcomes.specs.Texts.{name_of, names_in, numbers, counts_lines, order_lines}
@@ -16,15 +15,6 @@ module _ (f : ℕ → List ℕ) where
   parts n [] = sym (append-nil (f n))
   parts n (m ∷ ns) = ap (λ r. f n ++ (32 ∷ r)) (parts m ns)
 
-  behind_append : (ns ms : List ℕ) → behind (ns ++ ms) ≡ behind ns ++ behind ms
-  behind_append [] ms = refl
-  behind_append (n ∷ ns) ms = ap (λ r. (32 ∷ f n) ++ r) (behind_append ns ms) ∙ sym (append_assoc (32 ∷ f n) (behind ns) (behind ms))
-
-  -- one piece more
-  pub behind_more : (ns : List ℕ) (i : ℕ) → i < length ns → behind (take (i + 1) ns) ≡ behind (take i ns) ++ (32 ∷ f (get_or ns i 0))
-  behind_more ns i h = ap behind (take_more ns i 0 h) ∙ behind_append (take i ns) (get_or ns i 0 ∷ [])
-      ∙ ap (λ r. behind (take i ns) ++ r) (append-nil (32 ∷ f (get_or ns i 0)))
-
   -- a list after a text: the first piece, then the others after spaces
   pub joined : (old first_in all_in : List ℕ) (n : ℕ) (rest ns : List ℕ) → ns ≡ n ∷ rest → first_in ≡ old ++ f n →
       all_in ≡ first_in ++ behind rest → all_in ≡ old ++ join_with_byte 32 (map f ns)
@@ -32,23 +22,10 @@ module _ (f : ℕ → List ℕ) where
       b ∙ ap (λ s. s ++ behind rest) a ∙ append_assoc old (f n) (behind rest) ∙ ap (λ s. old ++ s) (sym (parts n rest))
       ∙ ap (λ l. old ++ join_with_byte 32 (map f l)) (sym e)
 
--- the first number, and the others after spaces
-pub numbers_parts : (n : ℕ) (ns : List ℕ) → numbers (n ∷ ns) ≡ decimal n ++ each_spaced ns
-numbers_parts = parts decimal
-
--- one number more
-pub spaced_more : (ns : List ℕ) (i : ℕ) → i < length ns → each_spaced (take (i + 1) ns) ≡ each_spaced (take i ns) ++ (32 ∷ decimal (get_or ns i 0))
-spaced_more = behind_more decimal
-
 -- a list of numbers after a text: the first one, then the others after spaces
 pub pushed : (old first_in all_in : List ℕ) (f : ℕ) (rest ns : List ℕ) → ns ≡ f ∷ rest → first_in ≡ old ++ decimal f →
     all_in ≡ first_in ++ each_spaced rest → all_in ≡ old ++ numbers ns
 pushed = joined decimal
-
--- one name more
-pub names_more : (names : List (List ℕ)) (xs : List ℕ) (i : ℕ) → i < length xs →
-    each_name_spaced names (take (i + 1) xs) ≡ each_name_spaced names (take i xs) ++ (32 ∷ name_of names (get_or xs i 0))
-names_more names = behind_more (name_of names)
 
 -- names after a text: the first one, then the others after spaces
 pub names_pushed : (names : List (List ℕ)) (old first_in all_in : List ℕ) (x : ℕ) (rest xs : List ℕ) → xs ≡ x ∷ rest →
