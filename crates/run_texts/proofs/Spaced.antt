@@ -1,7 +1,9 @@
 -- Texts with one space between each two pieces.
 use Rattle.std.proofs.Common.{◌≡◌, ℕ, ◌+◌, List, [], ◌∷◌, ◌++◌, map, sym, ap, ◌∙◌, decimal, codes, append_assoc, append-nil}
 use Rattle.std.specs.List.{flat_map, join_with_byte, sum}
-use Rattle.run_texts.specs.Texts.{each_spaced, each_name_spaced, sizes_lines}
+use Rattle.certificate.specs.Values.{each_spaced}
+use Rattle.certificate.proofs.Written.{after}
+use Rattle.run_texts.specs.Texts.{each_name_spaced, sizes_lines}
 use Rattle.outcomes.specs.Texts.{name_of, names_in, numbers, counts_lines, order_lines}
 
 -- pieces of text, one a number
@@ -31,10 +33,6 @@ pushed = joined decimal
 pub names_pushed : (names : List (List ℕ)) (old first_in all_in : List ℕ) (x : ℕ) (rest xs : List ℕ) → xs ≡ x ∷ rest →
     first_in ≡ old ++ name_of names x → all_in ≡ first_in ++ each_name_spaced names rest → all_in ≡ old ++ names_in names xs
 names_pushed names = joined (name_of names)
-
--- a text after two others
-after : (s₀ s₁ s₂ a b : List ℕ) → s₁ ≡ s₀ ++ a → s₂ ≡ s₁ ++ b → s₂ ≡ s₀ ++ (a ++ b)
-after s₀ s₁ s₂ a b e g = g ∙ ap (λ s. s ++ b) e ∙ append_assoc s₀ a b
 
 -- the two lines of level counts, piece by piece
 pub counts_pushed : (s₀ s₁ s₂ s₃ : List ℕ) (levels : List ℕ) → s₁ ≡ s₀ ++ codes "levels: " → s₂ ≡ s₁ ++ numbers levels →

@@ -9,10 +9,6 @@ use Rattle.order_model.specs.Problems.{TruthTables, functions}
 use Rattle.pla_reader.specs.Covers.{NamedCover, functions_of}
 use Rattle.outcomes.specs.Texts.{counts_lines, labelled, name_of, numbers, order_lines}
 
--- numbers, each after a space
-abbrev pub each_spaced : List ℕ → List ℕ
-each_spaced ns = flat_map (λ n. 32 ∷ decimal n) ns
-
 -- the names of variables, each after a space
 abbrev pub each_name_spaced : List (List ℕ) → List ℕ → List ℕ
 each_name_spaced names xs = flat_map (λ x. 32 ∷ name_of names x) xs

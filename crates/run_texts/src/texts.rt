@@ -2,7 +2,8 @@
 
 ghost use Rattle.std.specs.Prelude.{◌≡◌, ◌<◌, ◌≤◌, ◌++◌, length, map, string_bytes, sum, IfOk, OnOk};
 ghost use Rattle.std.specs.List.{All};
-ghost use Rattle.run_texts.specs.Texts.{each_name_spaced, each_spaced, sizes_lines};
+ghost use Rattle.certificate.specs.Values.{each_spaced};
+ghost use Rattle.run_texts.specs.Texts.{each_name_spaced, sizes_lines};
 ghost use Rattle.outcomes.specs.Texts.{name_of, names_in, numbers as spaced, counts_lines, order_lines};
 
 use order_model::VarIx;

@@ -1,5 +1,5 @@
 use Rattle.std.proofs.Common.{◌≡◌, ◌++◌, take, string_bytes}
-use Rattle.run_texts.specs.Texts.{each_spaced}
+use Rattle.certificate.specs.Values.{each_spaced}
 use Rattle.run_texts.proofs.texts.push_spaced.Given as goal
 
 abbrev pub invariant-loop-number : goal.invariant-loop-number
