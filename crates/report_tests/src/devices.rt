@@ -33,6 +33,7 @@ pub struct FailingWriter {
 }
 
 impl FailingWriter {
+    /// A writer that takes so many bytes in all, at most so many a call.
     pub fn new(alloc: Global, bytes_left: usize, most_a_call: usize) -> FailingWriter {
         FailingWriter {
             taken: Vec::new(alloc),
