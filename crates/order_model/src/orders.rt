@@ -1,6 +1,6 @@
 //! Orders of the variables.
 
-ghost use Rattle.std.specs.Prelude.{◌≡◌, ◌↔◌, ◌<◌, ◌≤◌, ℕ, length, IfOk, IfErr, OnOk, IsTrue, IsFalse, List, nat_eq};
+ghost use Rattle.std.specs.Prelude.{◌≡◌, ◌↔◌, ◌+◌, ◌<◌, ◌≤◌, ℕ, length, swap, IfOk, IfErr, OnOk, IsTrue, IsFalse, List, nat_eq};
 ghost use Rattle.std.specs.Bool.{OnTrue};
 ghost use Rattle.std.specs.List.{All, IsDistinct};
 ghost use Rattle.order_model.specs.Orders.{IsOrder, has, place_in, variables as all_variables};
@@ -135,6 +135,14 @@ impl Order {
         ensures within { result < length self.now }
     {
         place_in_list(&self.variables, x)
+    }
+
+    /// Exchanges the variables of a level and the next one.
+    pub fn swap(&mut self, level: usize)
+        requires { level + 1 < length self.old }
+        ensures { self.new ≡ swap self.old level (level + 1) }
+    {
+        self.variables.swap(level, level + 1);
     }
 
     /// The same order once more.
