@@ -135,7 +135,7 @@ impl Tables {
         ensures { IfOk result
             (λ v. v.items ≡ values_at (assignments order.now) self.now.tables) }
     {
-        let _few = order.len();
+        prove!(order.len() <= 16);
         let points = assignment_points(alloc, order.variables())?;
         self.values(alloc, self.problem.outputs(), &points)
     }
