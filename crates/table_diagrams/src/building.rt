@@ -28,7 +28,7 @@ pub fn reduced_diagram(alloc: Global, tables: &Tables, order: &Order) -> Result<
     requires { length order.now ≡ tables.now.inputs }
     ensures { IfOk result (IsDiagramOf tables.now.inputs (functions tables.now) order.now) }
 {
-    let _outputs = tables.problem().outputs();
+    prove!(tables.problem().outputs() <= 16);
     let n = order.len();
     let levels = order.variables();
     let mut nodes = Vec::new(alloc);

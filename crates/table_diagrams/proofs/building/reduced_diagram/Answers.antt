@@ -15,8 +15,8 @@ loop-level-init c =
     let n = c.len-n.ensures.value in
     let most = c.len-n.ensures.few in
     let same = ap outputs_of c.problem.ensures in
-    let outputs = c.outputs-outputs.ensures.value in
-    let few = c.outputs-outputs.ensures.few in
+    let outputs = c.outputs.ensures.value in
+    let few = c.outputs.ensures.few in
     let bound = few_leaves t.inputs order t.tables c.in_ok-numbers.numbers.items o (omega arith) (omega arith) c.in_ok-numbers.ensures in
     let none = ap length c.new-nodes.ensures.items in
     record {
