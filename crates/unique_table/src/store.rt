@@ -74,8 +74,7 @@ impl Store {
         let outputs = problem.outputs();
         let roots = parts_count(&kind, &order, outputs);
         let pieces = roots + usize::from(outputs);
-        let _levels = order.len();
-        let _variables = order.variables();
+        prove!(order.len() <= 16);
         let plan = Plan {
             places,
             entries,

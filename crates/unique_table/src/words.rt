@@ -84,7 +84,6 @@ pub(crate) fn collect(shared: &Board, seat: &mut Seat<(), View>, place: usize, p
     ensures step { IsSeatAfter shared.now seat.old seat.new 0 }
     ensures found { slice_index seat.new.me.0.pieces piece ≡ result }
 {
-    let _ = piece;
     shared.load::<Collects>(seat, place)
 }
 
@@ -95,7 +94,6 @@ pub(crate) fn recall(shared: &Board, seat: &mut Seat<(), View>, place: usize, en
     ensures step { IsSeatAfter shared.now seat.old seat.new 0 }
     ensures found { result ≢ 0 → IsEntry (order_of shared.now.key) seat.new.me.0.seen result }
 {
-    let _ = entry;
     shared.load::<Recalls>(seat, place)
 }
 
@@ -112,7 +110,6 @@ pub(crate) fn remember(
     requires word { IsEntry (order_of shared.now.key) seat.old.me.0.seen word }
     ensures step { IsSeatAfter shared.now seat.old seat.new 1 }
 {
-    let _ = entry;
     shared.store::<Remembers>(seat, place, word);
 }
 
