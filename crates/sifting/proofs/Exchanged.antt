@@ -3,6 +3,7 @@
 --     same_path      a path comes to the same place below them
 use Rattle.std.proofs.Common.{◌≡◌, ℕ, zero, suc, ◌*◌, ◌<◌, Bool, true, false, ◌⊎◌, inl, inr, List, [], ◌∷◌, length, set, get_or, refl, sym, ap, ◌∙◌, subst, arith}
 use Rattle.order_model.specs.Functions.{Point, bit}
+use Rattle.order_model.proofs.Lists.Swaps.{crossed}
 use Rattle.sifting.specs.Leveled.{Children, child, at, place_below, places, HasChildren, IsLevel, AreLevels, Exchanges}
 use Rattle.sifting.proofs.Paths.{child_has, same_children}
 
@@ -88,13 +89,6 @@ pub record At (levels : List (List Children)) (i : ℕ) (upper lower : List Chil
   pub upper_is : get_or levels i [] ≡ upper
   pub lower_is : get_or levels (suc i) [] ≡ lower
   pub inside : suc i < length levels
-
--- the variables at i and the next place, exchanged
-abbrev pub crossed : List ℕ → ℕ → List ℕ
-crossed [] i = []
-crossed (x ∷ []) i = x ∷ []
-crossed (x ∷ y ∷ order) zero = y ∷ x ∷ order
-crossed (x ∷ y ∷ order) (suc i) = x ∷ crossed (y ∷ order) i
 
 abbrev pub placed : List (List Children) → ℕ → List Children → List Children → List (List Children)
 placed levels i upper' lower' = set (set levels i upper') (suc i) lower'

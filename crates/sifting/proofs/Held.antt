@@ -18,14 +18,15 @@ use Rattle.order_model.specs.Problems.{functions}
 use Rattle.order_model.specs.Levels.{level_count, level_counts, size_under}
 use Rattle.order_model.proofs.Functions.Tables.{table_same, same_refl}
 use Rattle.order_model.proofs.Functions.Same.{tables_same, level_counts_same}
+use Rattle.order_model.proofs.Lists.Swaps.{crossed, crossed_is, order_crossed, length_crossed}
 use Rattle.sifting.specs.declared.levels.Level.{Level}
 use Rattle.sifting.specs.Leveled.{Children, function_at, places, branching, HasChildren, AreLevels, AreRoots, Exchanges}
 use Rattle.sifting.specs.LevelLists.{nodes_of, problem_at, HoldsDiagram}
 use Rattle.sifting.specs.Managed.{Managed, size_of, count_of, IsManagedOrder}
 use Rattle.sifting.proofs.Branching.{branching_few}
 use Rattle.sifting.proofs.Counts.{roots_cover, all_counts}
-use Rattle.sifting.proofs.Exchanged.{At, placed, crossed, places_placed, levels_placed, path_placed}
-use Rattle.sifting.proofs.OrderSwaps.{crossed_is, order_crossed, length_crossed, keeps_crossed}
+use Rattle.sifting.proofs.Exchanged.{At, placed, places_placed, levels_placed, path_placed}
+use Rattle.sifting.proofs.OrderSwaps.{keeps_crossed}
 use mathlib.Core.List.{map-map}
 
 -- ---- the nodes of a list of levels

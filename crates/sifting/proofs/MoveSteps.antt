@@ -8,10 +8,9 @@ use Rattle.order_model.specs.Pairs.{Keeps, has_pair}
 use Rattle.order_model.specs.Problems.{functions}
 use Rattle.order_model.specs.Levels.{size_under}
 use Rattle.order_model.specs.Sifting.{smallest_of, smallest_order}
+use Rattle.order_model.proofs.Lists.Swaps.{crossed, crossed_is, length_crossed}
 use Rattle.sifting.specs.Managed.{Managed, size_of, IsManagedOrder}
 use Rattle.sifting.specs.Moves.{Moves, IsMoved, FindsBest, PassesBetween, placed_from}
-use Rattle.sifting.proofs.Exchanged.{crossed}
-use Rattle.sifting.proofs.OrderSwaps.{crossed_is, length_crossed}
 use Rattle.sifting.proofs.Placements.{crossed_up, crossed_down, length-placed, here, above_here}
 
 pub moved_none : (place : ℕ) (m : Managed) → IsMoved place place m m

@@ -9,7 +9,7 @@ use Rattle.std.proofs.lemmas.Bool.{false≢true, true≢false, or_cases, or_part
 use Rattle.order_model.specs.Orders.{has}
 use Rattle.order_model.specs.Pairs.{Pair, has_pair, is_above, keeps}
 use Rattle.order_model.proofs.Lists.Orders.{absent_from_apart, has_at}
-use Rattle.sifting.proofs.Exchanged.{crossed}
+use Rattle.order_model.proofs.Lists.Swaps.{crossed}
 
 crossed_cons : (x : ℕ) (zs : List ℕ) (i : ℕ) → crossed (x ∷ zs) (suc i) ≡ x ∷ crossed zs i
 crossed_cons x [] i = refl

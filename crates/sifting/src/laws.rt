@@ -27,7 +27,7 @@ pub fn diagrams_have_their_problems_tables(problem: &Problem)
         Represents problem.now.inputs (functions problem.now) order d.graph →
         truth_tables_of d ≡ problem.now }
 {
-    let _few = problem.outputs();
+    prove!(problem.outputs() <= 16);
     tables_have_all_points(problem);
 }
 

@@ -7,7 +7,7 @@ ghost use Rattle.sifting.specs.Managed.{truth_tables_of, size_of, count_of, IsMa
 
 use crate::build::levels_of;
 use crate::levels::{Level, swap_levels};
-use order_model::{BadOrder, Diagram, Order, Pairs};
+use order_model::{Diagram, Order, Pairs};
 use std::alloc::{AllocError, Global};
 use std::marker::Model;
 
@@ -36,22 +36,6 @@ impl Model for Manager {
 
     ghost invariant = { λ m. HoldsDiagram
         (nodes_of m.levels.items) m.terminals.items m.order m.roots.items m.pairs };
-}
-
-/// The order with the variables of a level and the next one exchanged.
-fn exchanged(alloc: Global, order: &Order, level: usize) -> Result<Order, AllocError>
-    requires below { level + 1 < length order.now }
-    requires few { length order.now ≤ 16 }
-    ensures { IfOk result (λ other. other ≡ swap order.now level (level + 1)) }
-{
-    let mut variables = order.variables().to_vec(alloc)?;
-    variables.swap(level, level + 1);
-    match Order::try_from_slice(alloc, &variables) {
-        Ok(order) => Ok(order),
-        Err(BadOrder::OutOfMemory) => Err(AllocError),
-        Err(BadOrder::NotEach) => unreachable!(),
-        Err(BadOrder::OutOfRange) => unreachable!(),
-    }
 }
 
 impl Manager {
@@ -117,7 +101,7 @@ impl Manager {
         ensures pairs { IfOk result (λ m. m.pairs ≡ self.pairs) }
     {
         let Manager {
-            order,
+            mut order,
             roots,
             mut levels,
             terminals,
@@ -126,7 +110,7 @@ impl Manager {
         let (upper, lower) = swap_levels(alloc, &levels[level].nodes, &levels[level + 1].nodes)?;
         levels[level] = upper;
         levels[level + 1] = lower;
-        let order = exchanged(alloc, &order, level)?;
+        order.swap(level);
         Ok(Manager {
             order,
             roots,

@@ -67,6 +67,9 @@ index_mut-requires-2 c =
     let r = c.requires.below in
     omega arith
 
+pub swap-requires : goal.swap-requires
+swap-requires c = subst (λ (m : Managed). c.args.level + 1 < length m.order) (sym c.self.view_is) c.requires.below
+
 pub invariant_of-result : goal.invariant_of-result
 invariant_of-result c =
     let s = c.self.inside in
@@ -82,7 +85,7 @@ invariant_of-result c =
     ∙ ap (λ (l : Level). l.nodes.items) (sym c.index-2.ensures) ∙ sym c.deref-2.ensures.value in
     exchanged_held s.levels.items s.terminals.items s.order s.roots.items s.pairs c.self.invariant c.args.level inside c.deref.result.now
     c.deref-2.result.now upper lower lawful
-    c.in_ok-upper.upper c.in_ok-upper.lower c.in_ok-upper.ensures c.in_ok-order.order c.in_ok-order.ensures
+    c.in_ok-upper.upper c.in_ok-upper.lower c.in_ok-upper.ensures c.swap.new.self c.swap.ensures
 
 pub returns-clause-functions : goal.returns-clause-functions
 returns-clause-functions c =
@@ -99,5 +102,5 @@ returns-clause-functions c =
     ∙ ap (λ (l : Level). l.nodes.items) (sym c.index-2.ensures) ∙ sym c.deref-2.ensures.value in
     exchanged_problem s.levels.items s.terminals.items s.order s.roots.items s.pairs c.self.invariant c.args.level inside c.deref.result.now
     c.deref-2.result.now upper lower lawful
-    c.in_ok-upper.upper c.in_ok-upper.lower c.in_ok-upper.ensures c.in_ok-order.order c.in_ok-order.ensures
+    c.in_ok-upper.upper c.in_ok-upper.lower c.in_ok-upper.ensures c.swap.new.self c.swap.ensures
     ∙ ap (λ (m : Managed). m.problem) c.self.view_is
