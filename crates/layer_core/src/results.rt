@@ -46,7 +46,7 @@ impl CellResult {
           cell = pair_of cell;
         } }
     {
-        let _few = problem.inputs();
+        prove!(problem.inputs() <= 16);
         CellResult {
             mask,
             cell,

@@ -11,5 +11,5 @@ invariant_of-result c =
     let cost = ap (λ (z : ℕ × ℕ). z.0) c.requires.cell in let variable = ap (λ (z : ℕ × ℕ). z.1) c.requires.cell in record {
       right = c.requires.cell ∙ λ i. cell_for record { problem = sym c.of.ensures i; pairs = sym c.of-2.ensures i; bound = sym c.of-3.ensures i } c.args.mask;
       cost = omega (arith, small.0, cost, c.requires.bound);
-      variable = omega (arith, small.1, variable, c.inputs-few.ensures.few, c.inputs-few.ensures.value);
+      variable = omega (arith, small.1, variable, c.inputs.ensures.few, c.inputs.ensures.value);
     }
