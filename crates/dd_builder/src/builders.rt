@@ -10,6 +10,7 @@ ghost use Rattle.pla_reader.specs.Covers.{functions_of};
 ghost use Rattle.dd_builder.specs.Parts.{IsSourceFor, KnowsParts, IsEndOf};
 
 use crate::errors::BuildError;
+use crate::laws::{orders_have_each_variable_once, stores_have_plans};
 use crate::parts::Source;
 use crate::roots::publish_roots;
 use crate::workers::{Job, build_parts, jobs, joined};
@@ -34,7 +35,7 @@ fn finish(
     ensures diagram { IfOk result (IsDiagramFor store.plan) }
     ensures refused { IfErr result (Refuses store) }
 {
-    let _plan = store.order();
+    stores_have_plans(&store);
     some_diagram_has_the_level_counts();
     let Ok(()) = publish_roots(&store, &mut session, source) else {
         return Err(BuildError::StoreFull(session));
@@ -220,7 +221,7 @@ pub fn build_tables<R: Threads + Sync, G: Gate>(
     let Ok((store, session)) = tables_store(alloc, tables, order) else {
         return Err(BuildError::OutOfMemory);
     };
-    let _plan = store.order();
+    stores_have_plans(&store);
     from_tables(rt, alloc, store, session, tables, workers, gate)
 }
 
@@ -245,7 +246,7 @@ pub fn build_from<R: Threads + Sync, G: Gate>(
         (IsDiagramOf cover.now.inputs (functions_of cover.now) order.now) }
     ensures refused { IfErr result (RefusesUnder order.now tables.now) }
 {
-    let _plan = store.order();
+    stores_have_plans(&store);
     some_diagram_has_the_level_counts();
     truth_tables_keep_functions();
     match from_cover(rt, alloc, store, session, cover, workers, gate) {
@@ -280,7 +281,7 @@ pub fn build<R: Threads + Sync, G: Gate>(
     ensures refused { IfErr result (RefusesUnder order.now tables.now) }
 {
     if has_many_terms(cover) {
-        let _order = order.variables();
+        orders_have_each_variable_once(order);
         some_diagram_has_the_level_counts();
         truth_tables_keep_functions();
         return build_tables(rt, alloc, tables, order, workers, gate);

@@ -9,6 +9,7 @@ ghost use Rattle.dd_builder.specs.Making.{Makes};
 ghost use Rattle.dd_builder.specs.Parts.{IsForTerms};
 ghost use Rattle.dd_builder.specs.Literals.{with_literal, with_product, product_in};
 
+use crate::laws::stores_have_plans;
 use crate::operations::apply;
 use order_model::Term;
 use unique_table::{NodeId, Operation, Session, Store, StoreFull};
@@ -114,6 +115,6 @@ pub(crate) fn terms_share(
     requires piece { piece < store.now.plan.roots }
     ensures { Makes session.old session.new result (piece_function store.now.plan piece) }
 {
-    let _plan = store.order();
+    stores_have_plans(store);
     output_share(store, session, terms, (piece / 64) as u8, piece % 64)
 }

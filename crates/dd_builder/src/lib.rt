@@ -4,6 +4,7 @@
 mod builders;
 mod cover_terms;
 mod errors;
+mod laws;
 mod operations;
 mod parts;
 mod roots;

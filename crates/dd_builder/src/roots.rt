@@ -9,6 +9,7 @@ ghost use Rattle.dd_builder.specs.Making.{Makes};
 ghost use Rattle.dd_builder.specs.Paths.{output_along};
 ghost use Rattle.dd_builder.specs.Parts.{IsSourceFor, AreOfTerms, KnowsParts, HasRoots, part_level, shares_union};
 
+use crate::laws::stores_have_plans;
 use crate::operations::apply;
 use crate::parts::Source;
 use crate::tables::tops;
@@ -22,7 +23,7 @@ fn part_id(store: &Store, session: &mut Session, piece: usize) -> NodeId
     ensures function { Means session.new result (piece_function store.now.plan piece) }
     ensures level { part_level store.now.plan ≤ depth_in session.new result }
 {
-    let _plan = store.order();
+    stores_have_plans(store);
     match store.collect(session, piece) {
         Some(id) => id,
         None => unreachable!(),
@@ -73,7 +74,7 @@ fn of_shares(
     ensures { Makes session.old session.new result
         (shares_union store.now.plan output first count) }
 {
-    let _plan = store.order();
+    stores_have_plans(store);
     if count == 1 {
         return Ok(part_id(store, session, usize::from(output) * 64 + first));
     }
@@ -90,7 +91,7 @@ fn of_all_shares(store: &Store, session: &mut Session, output: u8) -> Result<Nod
     requires output { output < outputs_of store.now.plan.problem.value }
     ensures { Makes session.old session.new result (output_at store.now.plan.problem.value output) }
 {
-    let _plan = store.order();
+    stores_have_plans(store);
     of_shares(store, session, output, 0, 64)
 }
 
