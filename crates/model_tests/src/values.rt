@@ -37,11 +37,12 @@ fn orders(rt: HostRuntime) -> Result<(), Fail> {
             "at {list:?}"
         );
     }
-    let order = Order::try_from_slice(alloc, &[2, 0, 1])?;
+    let mut order = Order::try_from_slice(alloc, &[2, 0, 1])?;
     assert_eq!(rt; order.len(), 3);
     assert_eq!(rt; order.variables(), [2, 0, 1].as_slice());
-    assert_eq!(rt; order.place_of(0), 1);
-    assert_eq!(rt; order.try_clone(alloc)?.variables(), [2, 0, 1].as_slice());
+    order.swap(1);
+    assert_eq!(rt; order.place_of(0), 2);
+    assert_eq!(rt; order.try_clone(alloc)?.variables(), [2, 1, 0].as_slice());
     assert_eq!(rt;
         Order::file_order(alloc, 4)?.variables(),
         [0, 1, 2, 3].as_slice()
