@@ -36,7 +36,7 @@ pub fn certificate_text(
         (λ text. Spells (string_bytes text)
         (certificate_of problem.now.inputs (functions problem.now) pairs.now.pairs order.now)) }
 {
-    let _few = pairs.count();
+    prove!(pairs.count() <= 240);
     let inputs = pairs.inputs();
     let outputs = problem.outputs();
     orders_have_certificates();
