@@ -1,7 +1,7 @@
 -- The certificate that the lines of a text say.
 --     read_pair ws, read_cell ws, numbers_of ws      the pair, the listed set, the numbers of a line
 --     cert_of ws      the certificate that lines say
-use Rattle.std.specs.Prelude.{ℕ, ◌+◌, cond, nat_eq, List, [], ◌∷◌, length, map, take, drop, get_or}
+use Rattle.std.specs.Prelude.{ℕ, ◌+◌, if◌then◌else◌, nat_eq, List, [], ◌∷◌, length, map, take, drop, get_or}
 use Rattle.order_model.specs.Pairs.{Pair}
 use Rattle.order_model.specs.Certificates.{Certificate, Cell}
 use Rattle.order_model.specs.Texts.{number_of}
@@ -39,6 +39,6 @@ cert_of ws = record {
   order = numbers_of (get_or ws 3 []);
   levels = numbers_of (get_or ws 4 []);
   total = number_said ws 5;
-  pairs = cond (nat_eq (number_said ws 0) 1) [] (section_said read_pair ws 6);
+  pairs = (if nat_eq (number_said ws 0) 1 then [] else section_said read_pair ws 6);
   cells = section_said read_cell ws (cells_place ws);
 }

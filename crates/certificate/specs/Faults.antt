@@ -3,7 +3,7 @@
 --     judges ws      what each line of the text is asked, from the first on
 --     faults text      the faulty lines with their numbers, counted from 1, and then what follows the end
 --     Spells text cert, FirstFault text line fault      the text is the certificate's spelling; its first fault
-use Rattle.std.specs.Prelude.{◌≡◌, ℕ, ◌+◌, ◌-◌, ◌^◌, Bool, not, cond, ◌&&◌, ◌||◌, ◌==◌, List, [], ◌∷◌, ◌++◌, length, map, take, codes, decimal, Option, Some, None, nat_lt, nat_le, nat_eq}
+use Rattle.std.specs.Prelude.{◌≡◌, ℕ, ◌+◌, ◌-◌, ◌^◌, Bool, not, if◌then◌else◌, ◌&&◌, ◌||◌, ◌==◌, List, [], ◌∷◌, ◌++◌, length, map, take, codes, decimal, Option, Some, None, nat_lt, nat_le, nat_eq}
 use Rattle.std.specs.List.{slice_split, slice_index_or, range_with_len, list_all, flat_map}
 use Rattle.std.specs.Cmp.Lexicographic.{pointwise}
 use Rattle.std.specs.Str.Parse.{digits_value}
@@ -21,7 +21,7 @@ onto_line b (line ∷ lines) = (b ∷ line) ∷ lines
 -- the lines that end with a line feed, without it
 unfoldable pub whole_lines : List ℕ → List (List ℕ)
 whole_lines [] = []
-whole_lines (b ∷ text) = cond (b == 10) ([] ∷ whole_lines text) (onto_line b (whole_lines text))
+whole_lines (b ∷ text) = if b == 10 then [] ∷ whole_lines text else onto_line b (whole_lines text)
 
 -- the words of a line: one space stands between each two
 unfoldable pub words : List ℕ → List (List ℕ)
@@ -114,8 +114,9 @@ inputs_said ws = number_said ws 1
 
 -- what is asked of the lines of pairs, which format 2 alone has
 abbrev pub pairs_judges : List (List (List ℕ)) → List Judge
-pairs_judges ws = cond (nat_eq (number_said ws 0) 1) []
-    (section_judges (codes "pairs") most_pairs (is_pair (inputs_said ws)) pair_key_of ws 6)
+pairs_judges ws =
+    if nat_eq (number_said ws 0) 1 then []
+    else section_judges (codes "pairs") most_pairs (is_pair (inputs_said ws)) pair_key_of ws 6
 
 -- what is asked of the lines of listed sets, the first of which is line at
 abbrev pub cells_judges : List (List (List ℕ)) → ℕ → List Judge
@@ -153,8 +154,9 @@ with_feeds lines = flat_map (λ line. line ++ 10 ∷ []) lines
 
 -- what follows so many lines of a text
 unfoldable pub trailing : ℕ → List ℕ → List (ℕ × LineFault)
-trailing count text = cond (nat_lt (length (with_feeds (take count (whole_lines text)))) (length text))
-    ((count + 1, TrailingText) ∷ []) []
+trailing count text =
+    if nat_lt (length (with_feeds (take count (whole_lines text)))) (length text) then (count + 1, TrailingText) ∷ []
+    else []
 
 -- all faulty lines, and then what follows the last one
 unfoldable pub faults : List ℕ → List (ℕ × LineFault)

@@ -3,7 +3,7 @@
 --     Says judge line result P      the line passes what it is asked and P holds of its value, or it has the fault
 --     outcome number js text, Fails faults fault      the faults of a text, the first line of which has a number, by what its lines are asked; the first of them
 --     Asks judge number text after rest P result, TakesSection ..      the first line of a text, and a section, is taken
-use Rattle.std.specs.Prelude.{◌≡◌, ℕ, ◌+◌, Bool, false, cond, ◌==◌, nat_lt, List, [], ◌∷◌, ◌++◌, length, take, Some, None, Result, Ok, Err}
+use Rattle.std.specs.Prelude.{◌≡◌, ℕ, ◌+◌, Bool, false, if◌then◌else◌, ◌==◌, nat_lt, List, [], ◌∷◌, ◌++◌, length, take, Some, None, Result, Ok, Err}
 use Rattle.std.specs.List.{All}
 use Rattle.certificate.specs.declared.faults.LineFault.{LineFault}
 use Rattle.certificate.specs.declared.faults.LineFault.TheVariants.{TrailingText}
@@ -27,8 +27,9 @@ Says judge line P (Err fault) = judge (words line) ≡ Some fault
 
 -- what follows so many lines of a text, the first of which has a number
 abbrev pub trailing_from : ℕ → ℕ → List ℕ → List (ℕ × LineFault)
-trailing_from number count text = cond (nat_lt (length (with_feeds (take count (whole_lines text)))) (length text))
-    ((number + count, TrailingText) ∷ []) []
+trailing_from number count text =
+    if nat_lt (length (with_feeds (take count (whole_lines text)))) (length text) then (number + count, TrailingText) ∷ []
+    else []
 
 -- the faults of a text, the first line of which has a number, by what its lines are asked
 unfoldable pub outcome : ℕ → List Judge → List ℕ → List (ℕ × LineFault)

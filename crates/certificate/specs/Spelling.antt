@@ -2,7 +2,7 @@
 --     hex4 mask      how a mask is written; a number is written in decimals
 --     word_lines cert, spelling cert      the words of each line; the text
 --     HasSpelling cert      which certificates have one
-use Rattle.std.specs.Prelude.{◌≡◌, ℕ, ◌+◌, ◌-◌, ◌*◌, ◌/◌, ◌%◌, ◌^◌, ◌≤◌, ◌<◌, ◌⊎◌, false, cond, nat_eq, List, [], ◌∷◌, ◌++◌, length, map, codes, decimal, AllPairs}
+use Rattle.std.specs.Prelude.{◌≡◌, ℕ, ◌+◌, ◌-◌, ◌*◌, ◌/◌, ◌%◌, ◌^◌, ◌≤◌, ◌<◌, ◌⊎◌, false, if◌then◌else◌, nat_eq, List, [], ◌∷◌, ◌++◌, length, map, codes, decimal, AllPairs}
 use Rattle.std.specs.List.{All, flat_map, join_with_byte}
 use Rattle.std.specs.Fmt.{digit_glyph}
 use Rattle.order_model.specs.Pairs.{Pair}
@@ -38,7 +38,7 @@ cell_words cell = hex4 cell.mask ∷ decimal cell.cost ∷ []
 
 -- the lines of pairs, which format 2 alone has
 abbrev pub pair_lines : ℕ → List Pair → List (List (List ℕ))
-pair_lines format pairs = cond (nat_eq format 1) [] (section (codes "pairs") (map pair_words pairs))
+pair_lines format pairs = if nat_eq format 1 then [] else section (codes "pairs") (map pair_words pairs)
 
 -- the words of the first six lines
 abbrev pub head_lines : Certificate → List (List (List ℕ))

@@ -13,3 +13,4 @@ mod words;
 
 pub use certificate::Certificate;
 pub use faults::{CertFault, LineFault};
+pub use parsing::MOST_BYTES;

@@ -14,8 +14,8 @@ use crate::reader::{Lines, add};
 use order_model::{ListedCell, VarIx};
 use std::alloc::Global;
 
-/// The longest text.
-const MOST_BYTES: usize = 1_048_576;
+/// The longest text of a certificate, in bytes.
+pub const MOST_BYTES: usize = 1_048_576;
 
 /// Numbers as variables.
 fn variables(alloc: Global, numbers: &[u32]) -> Result<Vec<VarIx>, CertFault>

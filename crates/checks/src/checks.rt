@@ -8,16 +8,13 @@ ghost use Rattle.outcomes.specs.Statuses.{FailsOnlyByDevice};
 
 use crate::verdict_texts::{invalid_text, valid_text};
 use cert_check::{Verdict, check};
-use certificate::Certificate;
+use certificate::{Certificate, MOST_BYTES};
 use counted_io::{CountedRead, CountedWrite, Refused, read_all, write_whole};
 use outcomes::{Fault, Outcome};
 use pla_reader::{Cover, read_cover};
 use std::alloc::{AllocError, Global};
 use std::thread::Threads;
 use truth_table::Tables;
-
-/// The longest certificate.
-const MOST_BYTES: usize = 1_048_576;
 
 /// Why the bytes of a certificate aren't there.
 fn fault_of_bytes(refused: Refused) -> Fault

@@ -2,7 +2,7 @@
 --     support n f, dependence n f      as a list, rising, and as a mask
 --     joined_mask masks x p      the mask of a pair of classes
 --     AreMasks n F T masks      what the classes of a set depend on
-use Rattle.std.specs.Prelude.{◌≡◌, ℕ, ◌^◌, List, map, length, reverse, cond, nat_eq, get_or, bit_or}
+use Rattle.std.specs.Prelude.{◌≡◌, ℕ, ◌^◌, List, map, length, reverse, if◌then◌else◌, nat_eq, slice_index, bit_or}
 use Rattle.std.specs.Set.{distinct_count}
 use Rattle.std.specs.List.{filter}
 use Rattle.order_model.specs.Functions.{Function, depends, same_table}
@@ -20,9 +20,9 @@ dependence n f = mask_of (support n f)
 
 -- the mask of a pair of classes: what its halves depend on, and x if they differ
 abbrev pub joined_mask : List ℕ → ℕ → ℕ × ℕ → ℕ
-joined_mask masks x p = bit_or (bit_or (get_or masks p.0 0) (get_or masks p.1 0)) (cond (nat_eq p.0 p.1) 0 (2 ^ x))
+joined_mask masks x p = bit_or (bit_or (slice_index masks p.0) (slice_index masks p.1)) (if nat_eq p.0 p.1 then 0 else 2 ^ x)
 
 -- one mask a class over T: what the functions of the class depend on
 pub record AreMasks (n : ℕ) (F : List Function) (T : List ℕ) (masks : List ℕ) : Type 0 where
   pub many : length masks ≡ distinct_count same_table (entries n F T)
-  pub told : map (λ c. get_or masks c 0) (class_numbers n F T) ≡ map (dependence n) (reach F (reverse (outside n T)))
+  pub told : map (λ c. slice_index masks c) (class_numbers n F T) ≡ map (dependence n) (reach F (reverse (outside n T)))

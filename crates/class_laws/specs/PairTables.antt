@@ -3,7 +3,7 @@
 --     IsPaired numbers rank      the entries come in pairs, in blocks of 2 ^ rank of them
 --     IsPairTable numbers rank classes      a class table that is paired, with its classes below `classes`
 --     NumbersPairs masks x ps numbers joined      the numbers of pairs by first occurrence, and the mask of each number
-use Rattle.std.specs.Prelude.{◌≡◌, ◌≢◌, ℕ, ◌*◌, ◌^◌, ◌<◌, ◌≤◌, List, map, length, get_or, slice_index}
+use Rattle.std.specs.Prelude.{◌≡◌, ◌≢◌, ℕ, ◌*◌, ◌^◌, ◌<◌, ◌≤◌, List, map, length, slice_index}
 use Rattle.std.specs.Set.{distinct_count}
 use Rattle.order_model.specs.Widths.{same_pair}
 use Rattle.class_laws.specs.Dependence.{joined_mask}
@@ -37,4 +37,4 @@ pub record IsPairTable (numbers : List ℕ) (rank classes : ℕ) : Type 0 where
 pub record NumbersPairs (masks : List ℕ) (x : ℕ) (ps : List (ℕ × ℕ)) (numbers joined : List ℕ) : Type 0 where
   pub numbers_are : numbers ≡ ranks same_pair ps
   pub many : length joined ≡ distinct_count same_pair ps
-  pub told : map (λ c. get_or joined c 0) numbers ≡ map (joined_mask masks x) ps
+  pub told : map (λ c. slice_index joined c) numbers ≡ map (joined_mask masks x) ps

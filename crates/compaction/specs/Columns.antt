@@ -3,7 +3,7 @@
 --     KeepsRuns values outer kept count      `outer` names a kept run for each run of the values
 --     AreByteRows first rows      the numbers of each byte's values stand in its row
 --     low_numbers first word count, packed_numbers first words count      the numbers of the values in a word's lowest bits; those in words
-use Rattle.std.specs.Prelude.{◌≡◌, ℕ, ◌+◌, ◌*◌, ◌<◌, ◌≤◌, ◌==◌, Bool, false, List, length, map, get_or}
+use Rattle.std.specs.Prelude.{◌≡◌, ℕ, ◌+◌, ◌*◌, ◌<◌, ◌≤◌, ◌==◌, Bool, false, List, length, map, slice_index, get_or}
 use Rattle.std.specs.Int.{bit_at}
 use Rattle.std.specs.List.{range_with_len}
 use Rattle.order_model.specs.Problems.{packed_bit}
@@ -14,16 +14,16 @@ use Rattle.compaction.specs.Strips.{strip}
 pub record AreChained (kept next heads : List ℕ) : Type 0 where
   pub whole : length kept ≡ length next * 4
   pub slots : length heads ≡ 4096
-  pub starts : (s : ℕ) → s < length heads → get_or heads s 0 ≤ length next
-  pub earlier : (k : ℕ) → k < length next → get_or next k 0 ≤ k
+  pub starts : (s : ℕ) → s < length heads → slice_index heads s ≤ length next
+  pub earlier : (k : ℕ) → k < length next → slice_index next k ≤ k
 
 -- each run is equal to the kept one that is named for it, and each kept one is named
 pub record KeepsRuns (values : List Bool) (outer kept : List ℕ) (count : ℕ) : Type 0 where
-  pub within : (i : ℕ) → i < length outer → get_or outer i 0 < count
-  pub used : (k : ℕ) → k < count → (i : ℕ) × ((i < length outer) × (get_or outer i 0 ≡ k))
+  pub within : (i : ℕ) → i < length outer → slice_index outer i < count
+  pub used : (k : ℕ) → k < count → (i : ℕ) × ((i < length outer) × (slice_index outer i ≡ k))
   pub few : count ≤ length outer
   pub told : (i b : ℕ) → i < length outer → b < 256 →
-      packed_bit kept (get_or outer i 0 * 256 + b) ≡ get_or values (i * 256 + b) false
+      packed_bit kept (slice_index outer i * 256 + b) ≡ get_or values (i * 256 + b) false
 
 -- the numbers of the values in a word's lowest bits
 unfoldable pub low_numbers : Bool → ℕ → ℕ → List ℕ

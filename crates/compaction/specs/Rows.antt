@@ -6,7 +6,7 @@
 --     WidthsOf      the rows of a block, and how many compactions they took
 --     AreUnwanted masks needed set decided      nothing is wanted of the sets that agree with `set` in the decided variables
 --     IsFilled p masks needed set old new      the row of one set is filled
-use Rattle.std.specs.Prelude.{◌≡◌, ◌≢◌, ℕ, ◌<◌, ◌==◌, IsTrue, List, [], cond, sum_by, length, slice_index, get_or, count_ones, bit_and}
+use Rattle.std.specs.Prelude.{◌≡◌, ◌≢◌, ℕ, ◌<◌, ◌==◌, IsTrue, List, [], if◌then◌else◌, sum_by, length, slice_index, get_or, count_ones, bit_and}
 use Rattle.std.specs.Int.{bit_at}
 use Rattle.order_model.specs.Orders.{has, members, without}
 use Rattle.order_model.specs.Problems.{TruthTables, functions}
@@ -14,8 +14,9 @@ use Rattle.order_model.specs.Widths.{width}
 
 -- the width of x over the set without it, if it is wanted
 unfoldable pub width_wanted : TruthTables → ℕ → ℕ → ℕ → ℕ
-width_wanted p mask wanted x = cond (bit_at wanted x == 1)
-    (width p.inputs (functions p) (without x (members p.inputs mask)) x) 0
+width_wanted p mask wanted x =
+    if bit_at wanted x == 1 then width p.inputs (functions p) (without x (members p.inputs mask)) x
+    else 0
 
 -- the widths of a set
 abbrev pub IsRow : TruthTables → ℕ → ℕ → List ℕ → Type 0

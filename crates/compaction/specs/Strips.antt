@@ -13,7 +13,7 @@
 --     HoldsTable      either of them
 --     AreOfFirstSets p tables      the tables of the first sets, in the order of their masks
 --     HoldsBytes t low outer bytes rows masks      strips whose entries stand in rows, which bytes name: a row has an entry for each assignment of the variables below 3 outside the set
-use Rattle.std.specs.Prelude.{◌≡◌, ℕ, ◌+◌, ◌*◌, ◌^◌, ◌<◌, ◌≤◌, Bool, IsTrue, min, List, [], ◌∷◌, Option, None, Some, map, take, drop, length, reverse, get_or, nat_eq}
+use Rattle.std.specs.Prelude.{◌≡◌, ℕ, ◌+◌, ◌*◌, ◌^◌, ◌<◌, ◌≤◌, Bool, IsTrue, min, List, [], ◌∷◌, Option, None, Some, map, take, drop, length, reverse, nat_eq}
 use Rattle.std.specs.List.{filter, flat_map, range_with_len}
 use Rattle.order_model.specs.Orders.{has, variables}
 use Rattle.order_model.specs.Problems.{TruthTables, value_at}
@@ -47,14 +47,14 @@ names_of pairs = flat_map (λ p. p.0 ∷ p.1 ∷ []) pairs
 pub record AreNamed (outer numbers : List ℕ) (len : ℕ) : Type 0 where
   pub count : ℕ
   pub whole : length numbers ≡ count * len
-  pub within : (i : ℕ) → i < length outer → get_or outer i 0 < count
+  pub within : (i : ℕ) → i < length outer → slice_index outer i < count
 
 -- strips of `len` entries, each of which is named in `outer`
 pub record AreStrips (outer numbers : List ℕ) (len : ℕ) : Type 0 where
   pub count : ℕ
   pub whole : length numbers ≡ count * len
-  pub within : (i : ℕ) → i < length outer → get_or outer i 0 < count
-  pub used : (k : ℕ) → k < count → (i : ℕ) × ((i < length outer) × (get_or outer i 0 ≡ k))
+  pub within : (i : ℕ) → i < length outer → slice_index outer i < count
+  pub used : (k : ℕ) → k < count → (i : ℕ) × ((i < length outer) × (slice_index outer i ≡ k))
 
 -- strips whose entries are the numbers of a problem's values
 pub record HoldsValues (p : TruthTables) (outer numbers : List ℕ) (len : ℕ) : Type 0 where
@@ -85,7 +85,7 @@ pub record GrowsStrips (outer : List ℕ) (rank : ℕ) (numbers : List ℕ) (bit
 
 -- the masks of the numbers that occur
 unfoldable pub masks_in_use : List ℕ → List ℕ → List ℕ
-masks_in_use numbers masks = map (λ k. get_or masks k 0) (filter (has numbers) (variables (length masks)))
+masks_in_use numbers masks = map (λ k. slice_index masks k) (filter (has numbers) (variables (length masks)))
 
 -- numbers by which the subfunctions of the set are told apart, and what the function with each number depends on
 pub record HoldsKeys (t : ClassesOf) (keys masks : List ℕ) : Type 0 where
@@ -94,7 +94,7 @@ pub record HoldsKeys (t : ClassesOf) (keys masks : List ℕ) : Type 0 where
   pub few_masks : length masks ≤ 2 ^ 20
   pub below : AllBelow keys (length masks)
   pub classes : class_numbers t.problem.inputs (functions_of t) (set_of t) ≡ ranks nat_eq keys
-  pub told : map (λ k. get_or masks k 0) keys
+  pub told : map (λ k. slice_index masks k) keys
       ≡ map (dependence t.problem.inputs) (reach (functions_of t) (reverse (outside t.problem.inputs (set_of t))))
 
 -- a strip has an entry for each assignment of the variables below `low` outside the set
@@ -109,7 +109,7 @@ pub record AreDistinct (t : ClassesOf) (count : ℕ) : Type 0 where
   pub masks : List ℕ
   pub exact : length masks ≡ count
   pub keys : HoldsKeys t (range_with_len 0 count) masks
-  pub full : (i : ℕ) → i < count → get_or masks i 0 ≡ t.set
+  pub full : (i : ℕ) → i < count → slice_index masks i ≡ t.set
 
 -- if all are distinct nothing else is kept; else it may be known that all masks are used
 unfoldable pub HoldsTable : ClassesOf → ℕ → Option ℕ → Bool → List ℕ → List ℕ → List ℕ → Type 0

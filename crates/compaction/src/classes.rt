@@ -1,6 +1,6 @@
 //! Class tables.
 
-ghost use Rattle.std.specs.Prelude.{◌≡◌, ◌==◌, ℕ, ◌+◌, ◌*◌, ◌^◌, ◌<◌, ◌≤◌, cond, length, slice_index, IfOk, OnOk, OnErr, IsFalse, IsTrue};
+ghost use Rattle.std.specs.Prelude.{◌≡◌, ◌==◌, ℕ, ◌+◌, ◌*◌, ◌^◌, ◌<◌, ◌≤◌, if◌then◌else◌, length, slice_index, IfOk, OnOk, OnErr, IsFalse, IsTrue};
 ghost use Rattle.std.specs.Int.{bit_at};
 ghost use Rattle.std.specs.List.{filter};
 ghost use Rattle.order_model.specs.Orders.{has, without};
@@ -70,8 +70,8 @@ fn count_with(masks: &[u16], x: VarIx) -> u32
 pub(crate) fn row_of(masks: &[u16], wanted: Mask) -> [u32; 16]
     requires few { length masks.now ≤ 2 ^ 20 }
     ensures { (x : ℕ) → x < 16 →
-        slice_index result x ≡ cond (bit_at wanted x == 1)
-        (length (filter (λ m. bit_at m x == 1) masks.now)) 0 }
+        slice_index result x ≡ (if bit_at wanted x == 1
+        then length (filter (λ m. bit_at m x == 1) masks.now) else 0) }
 {
     let mut row = [0; 16];
     for x in 0..16 {

@@ -1,6 +1,6 @@
 //! The class table of the empty set: each subfunction is the value at a point.
 
-ghost use Rattle.std.specs.Prelude.{◌≡◌, ℕ, ◌+◌, ◌*◌, ◌<◌, ◌≤◌, ◌++◌, map, length, get_or, IfOk, OnOk, nat_eq};
+ghost use Rattle.std.specs.Prelude.{◌≡◌, ℕ, ◌+◌, ◌*◌, ◌<◌, ◌≤◌, ◌++◌, map, length, slice_index, IfOk, OnOk, nat_eq};
 ghost use Rattle.std.specs.List.{list_any};
 ghost use Rattle.order_model.specs.Problems.{value_at, outputs_of, table_in, words_per_table};
 ghost use Rattle.class_laws.specs.Values.{row, values_of, number_of as number, class_count};
@@ -63,7 +63,7 @@ fn has_both(numbers: &[u32]) -> bool
 /// The masks of the classes of values, which depend on nothing.
 pub fn no_dependence(alloc: Global, numbers: &[u32]) -> Result<Vec<u16>, AllocError>
     ensures long { IfOk result (λ v. length v.items ≡ class_count numbers.now) }
-    ensures zeros { IfOk result (λ v. (c : ℕ) → get_or v.items c 0 ≡ 0) }
+    ensures zeros { IfOk result (λ v. (c : ℕ) → slice_index v.items c ≡ 0) }
 {
     let mut masks = Vec::with_capacity(alloc, 2)?;
     masks.push(0)?;

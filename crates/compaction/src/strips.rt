@@ -1,7 +1,7 @@
 //! Strips: tables of keys in which entries that differ in the low variables only stand together,
 //! and equal runs of them are kept once.
 
-ghost use Rattle.std.specs.Prelude.{◌≡◌, ℕ, ◌<◌, ◌≤◌, length, slice_index, get_or, cond, ◌==◌, false, IfOk, IsFalse, IsTrue};
+ghost use Rattle.std.specs.Prelude.{◌≡◌, ℕ, ◌<◌, ◌≤◌, length, slice_index, get_or, if◌then◌else◌, ◌==◌, false, IfOk, IsFalse, IsTrue};
 ghost use Rattle.std.specs.Int.{bit_at};
 ghost use Rattle.order_model.specs.Orders.{has};
 ghost use Rattle.class_laws.specs.PairTables.{AllBelow, AreOwn};
@@ -109,7 +109,8 @@ fn all_distinct(outer: &[u32], numbers: &[u32], masks: &[u16], set: Mask) -> boo
 
 /// The same width at each wanted variable, else 0.
 fn same_row(width: u32, wanted: Mask) -> [u32; 16]
-    ensures { (x : ℕ) → x < 16 → slice_index result x ≡ cond (bit_at wanted x == 1) width 0 }
+    ensures { (x : ℕ) → x < 16 →
+        slice_index result x ≡ (if bit_at wanted x == 1 then width else 0) }
 {
     let mut row = [0; 16];
     for x in 0..16u8 {

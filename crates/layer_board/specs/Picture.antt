@@ -4,7 +4,7 @@
 --     Kept b s      the rule
 --     claims, posts, reads      what a step tells its seat
 --     shows b s, claim_reply, post_reply, read_reply      the state that a table shows, and the machine's replies
-use Rattle.std.specs.Prelude.{◌≡◌, ◌≢◌, ℕ, ◌+◌, ◌-◌, ◌*◌, ◌/◌, ◌%◌, ◌^◌, ◌<◌, ◌≤◌, true, false, cond, nat_eq, nat_lt, List, [], ◌∷◌, map, length, slice_index, Option, Some, None}
+use Rattle.std.specs.Prelude.{◌≡◌, ◌≢◌, ℕ, ◌+◌, ◌-◌, ◌*◌, ◌/◌, ◌%◌, ◌^◌, ◌<◌, ◌≤◌, true, false, if◌then◌else◌, nat_eq, nat_lt, List, [], ◌∷◌, map, length, slice_index, Option, Some, None}
 use mathlib.Core.Option.{some}
 use lib.ListN.{get_elem?}
 use Rattle.atomic_table.specs.Table.{State, Me, Step}
@@ -16,7 +16,7 @@ use Rattle.layer_board.specs.Views.{BriefOf, SeatView, fresh, after}
 
 -- the cell that a word stands for: none for 0
 abbrev pub cell_in : ℕ → Option (ℕ × ℕ)
-cell_in n = cond (nat_eq n 0) None (Some (n / 32 - 1, n % 32))
+cell_in n = if nat_eq n 0 then None else Some (n / 32 - 1, n % 32)
 
 abbrev pub word_of : ℕ × ℕ → ℕ
 word_of c = (c.0 + 1) * 32 + c.1
@@ -98,10 +98,10 @@ shows b s = picture b.layer s.words s.views
 
 -- the machine's reply to a claim that found the counter n, to a post that found the word n, and to a read that found it
 abbrev pub claim_reply : ℕ → ℕ → Reply
-claim_reply blocks n = cond (nat_lt n blocks) (Claimed n) NoMore
+claim_reply blocks n = if nat_lt n blocks then Claimed n else NoMore
 
 abbrev pub post_reply : ℕ → Reply
-post_reply n = cond (nat_eq n 0) Posted Double
+post_reply n = if nat_eq n 0 then Posted else Double
 
 abbrev pub read_reply : ℕ → Reply
-read_reply n = cond (nat_eq n 0) Empty (Seen (n / 32 - 1, n % 32))
+read_reply n = if nat_eq n 0 then Empty else Seen (n / 32 - 1, n % 32)

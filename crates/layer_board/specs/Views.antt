@@ -1,7 +1,7 @@
 -- What a board is for, what a seat at it knows, and what contracts see of a board, a seat and a claim.
 --     BriefOf, SeatView      what a board is for; what the seat of a worker knows
 --     BoardId, SeatOf, ClaimOf      a board, a seat, a claim
-use Rattle.std.specs.Prelude.{ℕ, ◌+◌, Bool, false, [], length, get_or, Option, Some, None, if◌then◌else◌}
+use Rattle.std.specs.Prelude.{ℕ, ◌+◌, Bool, false, [], length, slice_index, Option, Some, None, if◌then◌else◌}
 use Rattle.atomic_table.specs.Seated.{TableId}
 use Rattle.subset_layers.specs.Layers.{LayerOf, BlockOf, masks_of, blocks_of}
 use Rattle.layer_core.specs.Machine.{Worker, unmarked, claimed, knows, place_of, ends, learns}
@@ -72,7 +72,7 @@ pub record ClaimOf : Type 0 where
 
 abbrev pub claims_place : LayerOf → Worker → Option ℕ → Bool
 claims_place l w None = false
-claims_place l w (Some p) = claimed w (get_or (layout_of l).block_of p 0)
+claims_place l w (Some p) = claimed w (slice_index (layout_of l).block_of p)
 
 -- whether the seat claimed the block of a mask
 abbrev pub has_claimed : SeatOf → ℕ → Bool

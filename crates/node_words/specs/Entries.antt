@@ -2,7 +2,7 @@
 --     code_of, combine      an operation's number, and what it does
 --     entry_word, first_of, second_of, result_of      a cache word and its parts
 --     IsEntry order ws w      the result denotes the operation on the operands
-use Rattle.std.specs.Prelude.{◌≡◌, ℕ, ◌+◌, ◌*◌, ◌/◌, ◌%◌, ◌^◌, Bool, not, ◌&&◌, ◌||◌, cond, List}
+use Rattle.std.specs.Prelude.{◌≡◌, ℕ, ◌+◌, ◌*◌, ◌/◌, ◌%◌, ◌^◌, Bool, not, ◌&&◌, ◌||◌, if◌then◌else◌, List}
 use Rattle.order_model.specs.Functions.{Function}
 use Rattle.node_words.specs.declared.operation.Operation.{Operation}
 use Rattle.node_words.specs.declared.operation.Operation.TheVariants.{And, Or, Xor}
@@ -19,7 +19,7 @@ code_of Xor = 3
 abbrev pub combine_values : Operation → Bool → Bool → Bool
 combine_values And x y = x && y
 combine_values Or x y = x || y
-combine_values Xor x y = cond x (not y) y
+combine_values Xor x y = if x then not y else y
 
 -- an operation on two functions
 unfoldable pub combine : Operation → Function → Function → Function

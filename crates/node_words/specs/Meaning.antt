@@ -3,7 +3,7 @@
 --     depth levels ws id      the level of an id; a terminal lies below all levels
 --     function_of order ws id      the function that an id denotes under an order
 --     Denotes order ws id f      the id is known, and denotes f
-use Rattle.std.specs.Prelude.{◌≡◌, ℕ, zero, suc, ◌-◌, ◌==◌, Bool, nat_lt, if◌then◌else◌, cond, List, length, slice_index}
+use Rattle.std.specs.Prelude.{◌≡◌, ℕ, zero, suc, ◌-◌, ◌==◌, Bool, nat_lt, if◌then◌else◌, List, length, slice_index}
 use Rattle.order_model.specs.Functions.{Point, Function, bit, SameFunction}
 use Rattle.node_words.specs.Nodes.{IsKnown, level_of, low_of, high_of}
 
@@ -38,4 +38,4 @@ pub record Denotes (order ws : List ℕ) (id : ℕ) (f : Function) : Type 0 wher
 
 -- g if the variable is 1, else f
 unfoldable pub branch : ℕ → Function → Function → Function
-branch x f g p = cond (bit p x) (g p) (f p)
+branch x f g p = if bit p x then g p else f p

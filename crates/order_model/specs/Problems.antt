@@ -2,7 +2,7 @@
 --     TruthTables, functions t, outputs_of t, table_at t j, value_at t j k      a problem's value; its functions; how many there are; function j's table and values
 --     words_per_table n, packed_bit words k, table_in n words, tables_of n m words      truth tables packed in words of 64 points
 --     IsClean n words, IsPacked n m words      nothing stands after the last point; words of m truth tables of n variables
-use Rattle.std.specs.Prelude.{◌≡◌, ℕ, ◌+◌, ◌*◌, ◌/◌, ◌%◌, ◌^◌, ◌<◌, ◌≤◌, ◌==◌, Bool, false, List, [], length, map, get_or, take, drop}
+use Rattle.std.specs.Prelude.{◌≡◌, ℕ, ◌+◌, ◌*◌, ◌/◌, ◌%◌, ◌^◌, ◌<◌, ◌≤◌, ◌==◌, Bool, false, List, [], length, map, slice_index, get_or, take, drop}
 use Rattle.std.specs.Int.{bit_at}
 use Rattle.std.specs.List.{range_with_len}
 use Rattle.order_model.specs.Functions.{Function, from_table}
@@ -34,7 +34,7 @@ words_per_table n = (2 ^ n + 63) / 64
 
 -- bit k of packed words: the lowest 64 are in word 0
 abbrev pub packed_bit : List ℕ → ℕ → Bool
-packed_bit words k = bit_at (get_or words (k / 64) 0) (k % 64) == 1
+packed_bit words k = bit_at (slice_index words (k / 64)) (k % 64) == 1
 
 -- the truth table of n variables that words hold: the value at the point with number k is bit k
 unfoldable pub table_in : ℕ → List ℕ → List Bool
@@ -50,7 +50,7 @@ tables_of n m words = map (λ j. table_in n (words_of (words_per_table n) words 
 
 -- each word has no bit from that of the last point on
 abbrev pub IsClean : ℕ → List ℕ → Type 0
-IsClean n words = (i b : ℕ) → i < length words → 2 ^ n ≤ b → bit_at (get_or words i 0) b ≡ 0
+IsClean n words = (i b : ℕ) → i < length words → 2 ^ n ≤ b → bit_at (slice_index words i) b ≡ 0
 
 -- words of m truth tables of n variables, 1 to 16 of each
 pub record IsPacked (n m : ℕ) (words : List ℕ) : Type 0 where

@@ -3,7 +3,7 @@
 --     matches product p      whether a point has all the values that a product asks for
 --     product_function products j, product_functions m products      output j: 1 if some product of its ON-set matches; the outputs' functions
 --     product_of n m term      the product that the program's masks stand for
-use Rattle.std.specs.Prelude.{ℕ, Bool, true, cond, ◌&&◌, ◌==◌, List, map, Option, Some, None}
+use Rattle.std.specs.Prelude.{ℕ, Bool, true, if◌then◌else◌, ◌&&◌, ◌==◌, List, map, Option, Some, None}
 use Rattle.std.specs.Int.{bit_at}
 use Rattle.std.specs.List.{list_any, list_all, range_with_len, enumerate_from}
 use Rattle.std.specs.Bool.{beq}
@@ -38,7 +38,7 @@ product_functions m products = map (product_function products) (range_with_len 0
 
 -- the literal of input i: a term asks for a value if its mask `care` has the bit
 abbrev pub literal_in : Term → ℕ → Option Bool
-literal_in term i = cond (bit_at term.care i == 1) (Some (bit_at term.value i == 1)) None
+literal_in term i = if bit_at term.care i == 1 then Some (bit_at term.value i == 1) else None
 
 -- whether a term belongs to output j's ON-set
 abbrev pub output_in : Term → ℕ → Bool

@@ -2,7 +2,7 @@
 --     same word other      whether two texts are equal
 --     number_of word      the number that decimal digits write
 --     first_fault tests      the first fault whose test holds
-use Rattle.std.specs.Prelude.{ℕ, Bool, cond, List, [], ◌∷◌, Option, Some, None, nat_eq}
+use Rattle.std.specs.Prelude.{ℕ, Bool, if◌then◌else◌, List, [], ◌∷◌, Option, Some, None, nat_eq}
 use Rattle.std.specs.Cmp.Lexicographic.{pointwise}
 use Rattle.std.specs.Str.Parse.{digits_value}
 
@@ -17,4 +17,4 @@ number_of word = digits_value 10 word
 -- the first fault whose test holds
 abbrev pub first_fault : {Fault : Type 0} → List (Bool × Fault) → Option Fault
 first_fault [] = None
-first_fault ((holds, fault) ∷ others) = cond holds (Some fault) (first_fault others)
+first_fault ((holds, fault) ∷ others) = if holds then Some fault else first_fault others

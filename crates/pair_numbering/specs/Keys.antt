@@ -2,7 +2,7 @@
 --     joined_key base p, joined_key_mask masks x k      the number of a pair of numbers below base, and its mask
 --     TellsPairs masks x ps numbers joined      numbers by which pairs are told apart, and the mask of each
 --     AreUsed numbers masks      each mask is that of a number that occurs
-use Rattle.std.specs.Prelude.{◌≡◌, ℕ, ◌+◌, ◌*◌, ◌/◌, ◌%◌, ◌^◌, ◌<◌, ◌≤◌, IsTrue, List, map, length, get_or}
+use Rattle.std.specs.Prelude.{◌≡◌, ℕ, ◌+◌, ◌*◌, ◌/◌, ◌%◌, ◌^◌, ◌<◌, ◌≤◌, IsTrue, List, map, length, slice_index, get_or}
 use Rattle.order_model.specs.Orders.{has}
 use Rattle.class_laws.specs.Dependence.{joined_mask}
 
@@ -22,7 +22,7 @@ pub record TellsPairs (masks : List ℕ) (x : ℕ) (ps : List (ℕ × ℕ)) (num
       get_or ps i (0, 0) ≡ get_or ps j (0, 0)
   pub below : (i : ℕ) → i < length ps → name (get_or ps i (0, 0)) < length joined
   pub told : (i : ℕ) → i < length ps →
-      get_or joined (name (get_or ps i (0, 0))) 0 ≡ joined_mask masks x (get_or ps i (0, 0))
+      slice_index joined (name (get_or ps i (0, 0))) ≡ joined_mask masks x (get_or ps i (0, 0))
   pub few : length joined ≤ 2 ^ 20
 
 -- each mask is that of a number that occurs

@@ -1,7 +1,7 @@
 -- Counting in rows that are lent.
 --     most_entries p, AreLong      the entries of the largest class table; rows of one length
 --     CountsMasks masks x ps count      how many distinct pairs have a variable in their masks
-use Rattle.std.specs.Prelude.{◌≡◌, ◌==◌, ℕ, ◌*◌, ◌^◌, List, map, length, get_or}
+use Rattle.std.specs.Prelude.{◌≡◌, ◌==◌, ℕ, ◌*◌, ◌^◌, List, map, length, slice_index}
 use Rattle.std.specs.Set.{distinct_count}
 use Rattle.std.specs.List.{filter}
 use Rattle.std.specs.Int.{bit_at}
@@ -25,5 +25,5 @@ pub record AreLong (len : ℕ) (next stamps marks first : List ℕ) : Type 0 whe
 pub record CountsMasks (masks : List ℕ) (x : ℕ) (ps : List (ℕ × ℕ)) (count : ℕ) : Type 0 where
   pub joined : List ℕ
   pub many : length joined ≡ distinct_count same_pair ps
-  pub told : map (λ c. get_or joined c 0) (ranks same_pair ps) ≡ map (joined_mask masks x) ps
+  pub told : map (λ c. slice_index joined c) (ranks same_pair ps) ≡ map (joined_mask masks x) ps
   pub counted : count ≡ length (filter (λ m. bit_at m x == 1) joined)

@@ -5,7 +5,7 @@
 --     cover_of lines      the cover of the lines
 --     IsCover cover      it is well formed
 --     functions_of cover      its functions (espresso(5), logical type f)
-use Rattle.std.specs.Prelude.{◌≡◌, ℕ, ◌≤◌, Bool, true, false, cond, ◌==◌, List, [], ◌∷◌, ◌++◌, map, take, drop, Option, Some, None, decimal, filter_map, codes, length}
+use Rattle.std.specs.Prelude.{◌≡◌, ℕ, ◌≤◌, Bool, true, false, if◌then◌else◌, ◌==◌, List, [], ◌∷◌, ◌++◌, map, take, drop, Option, Some, None, decimal, filter_map, codes, length}
 use Rattle.std.specs.List.{All, range_with_len}
 use Rattle.order_model.specs.Functions.{Function}
 use Rattle.order_model.specs.Products.{Product, product_functions}
@@ -73,7 +73,7 @@ numbered_names front n = map (λ i. front ++ decimal i) (range_with_len 0 n)
 
 -- the literal of an input character: 0 has the variable complemented in the product, 1 uncomplemented, else the variable doesn't appear
 abbrev pub literal_of : ℕ → Option Bool
-literal_of c = cond (c == 48) (Some false) (cond (c == 49) (Some true) None)
+literal_of c = if c == 48 then Some false else if c == 49 then Some true else None
 
 -- an output character 1 has the product belong to the output's ON-set; any other has no meaning for the output's value
 abbrev pub in_on_set : ℕ → Bool

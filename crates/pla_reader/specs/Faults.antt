@@ -1,6 +1,6 @@
 -- What is wrong with a line, judged by the lines before it.
 --     fault_of before line      the fault of a line
-use Rattle.std.specs.Prelude.{ℕ, Bool, false, not, cond, ◌+◌, ◌&&◌, ◌||◌, ◌==◌, List, [], ◌∷◌, ◌++◌, length, map, take, drop, Option, Some, None, codes, filter_map, nat_lt, nat_le}
+use Rattle.std.specs.Prelude.{ℕ, Bool, false, not, if◌then◌else◌, ◌+◌, ◌&&◌, ◌||◌, ◌==◌, List, [], ◌∷◌, ◌++◌, length, map, take, drop, Option, Some, None, codes, filter_map, nat_lt, nat_le}
 use Rattle.std.specs.Option.{option_map_or}
 use Rattle.std.specs.List.{list_all}
 use Rattle.order_model.specs.Texts.{same, number_of, first_fault}
@@ -54,17 +54,21 @@ takes_dont_cares before = list_all is_plain_type (filter_map type_words before) 
 
 -- the fault of an input character: 0, 1 and - are known, and 2 is a synonym for -
 abbrev pub input_fault : ℕ → Option LineFault
-input_fault c = cond (c == 48 || (c == 49 || (c == 45 || c == 50))) None (Some BadInputChar)
+input_fault c = if c == 48 || (c == 49 || (c == 45 || c == 50)) then None else Some BadInputChar
 
 -- the fault of an output character, by whether - and its synonym 2 are taken: ~ has no meaning for the value of the function, whatever the type
 abbrev pub output_fault : Bool → ℕ → Option LineFault
-output_fault taken c = cond (c == 48 || (c == 49 || c == 126)) None
-    (cond (c == 45 || c == 50) (cond taken None (Some DontCare)) (Some BadOutputChar))
+output_fault taken c =
+    if c == 48 || (c == 49 || c == 126) then None
+    else if c == 45 || c == 50 then (if taken then None else Some DontCare)
+    else Some BadOutputChar
 
 -- the fault of a number of positions
 abbrev pub length_fault : ℕ → ℕ → Option LineFault
-length_fault count wanted = cond (nat_lt count wanted) (Some ShortTerm)
-    (cond (nat_lt wanted count) (Some LongTerm) None)
+length_fault count wanted =
+    if nat_lt count wanted then Some ShortTerm
+    else if nat_lt wanted count then Some LongTerm
+    else None
 
 -- the first fault of a term from the left: n inputs, m outputs, and nothing after them
 unfoldable pub term_fault : Bool → ℕ → ℕ → List ℕ → Option LineFault
@@ -106,6 +110,6 @@ fault_of before (Products given) = first_fault ((not (is_one_number given), BadN
 fault_of before (LogicalType given) = type_fault (comes type_words before) (comes row_bytes before) given
 fault_of before End = None
 fault_of before UnknownWord = Some UnknownDirective
-fault_of before (Row bytes) = cond (comes input_count before && comes output_count before)
-    (term_fault (takes_dont_cares before) (inputs_of before) (outputs_of before) bytes)
-    (Some MissingHead)
+fault_of before (Row bytes) =
+    if comes input_count before && comes output_count before then term_fault (takes_dont_cares before) (inputs_of before) (outputs_of before) bytes
+    else Some MissingHead

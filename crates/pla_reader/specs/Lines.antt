@@ -2,7 +2,7 @@
 --     Line, line_said line      a line's meaning
 --     said bytes      the lines of an input
 --     description lines      those before the one that ends the description
-use Rattle.std.specs.Prelude.{ℕ, Bool, true, false, not, cond, ◌==◌, List, [], ◌∷◌, map, codes, slice_index, take_while}
+use Rattle.std.specs.Prelude.{ℕ, Bool, true, false, not, if◌then◌else◌, cond, ◌==◌, List, [], ◌∷◌, map, codes, slice_index, take_while}
 use Rattle.order_model.specs.Texts.{same}
 use Rattle.pla_reader.specs.Text.{lines_of, content, words, positions}
 
@@ -17,23 +17,24 @@ pub data Line : Type 0 where
 unfoldable pub directive : List ℕ → List (List ℕ) → Line
 directive word given =
     -- `.i d` specifies the number of input variables, `.o d` the number of output functions
-    cond (same word (codes ".i")) (Inputs given)
-    (cond (same word (codes ".o")) (Outputs given)
+    if same word (codes ".i") then Inputs given
+    else if same word (codes ".o") then Outputs given
     -- `.ilb s1 s2 .. sn` gives the names of the input variables, `.ob s1 s2 .. sn` those of the output functions
-    (cond (same word (codes ".ilb")) (InputNames given)
-    (cond (same word (codes ".ob")) (OutputNames given)
+    else if same word (codes ".ilb") then InputNames given
+    else if same word (codes ".ob") then OutputNames given
     -- `.p d` specifies the number of product terms; the number is not used
-    (cond (same word (codes ".p")) (Products given)
+    else if same word (codes ".p") then Products given
     -- `.type s` sets the logical interpretation of the output characters
-    (cond (same word (codes ".type")) (LogicalType given)
+    else if same word (codes ".type") then LogicalType given
     -- `.e` or `.end` optionally marks the end of the description
-    (cond (same word (codes ".e")) End
-    (cond (same word (codes ".end")) End UnknownWord)))))))
+    else if same word (codes ".e") then End
+    else if same word (codes ".end") then End
+    else UnknownWord
 
 -- the meaning of a line of these words: a directive if the first one begins with a point
 unfoldable pub meaning : List (List ℕ) → Line → Line
 meaning [] row = Empty
-meaning (word ∷ given) row = cond (slice_index word 0 == 46) (directive word given) row
+meaning (word ∷ given) row = if slice_index word 0 == 46 then directive word given else row
 
 -- the meaning of a line
 unfoldable pub line_said : List ℕ → Line

@@ -2,7 +2,7 @@
 --     Fits n m term      a term of n inputs and m outputs has no other bits
 --     literal_at masks i, output_at masks j      what the masks hold of an input and an output
 --     ReadsInput old i c new, ReadsOutput old j c new      new is old with what a character says at input i, or at output j
-use Rattle.std.specs.Prelude.{◌≡◌, ◌≢◌, ℕ, ◌<◌, ◌^◌, ◌==◌, Bool, cond, Option, Some, None, bit_and}
+use Rattle.std.specs.Prelude.{◌≡◌, ◌≢◌, ℕ, ◌<◌, ◌^◌, ◌==◌, Bool, if◌then◌else◌, Option, Some, None, bit_and}
 use Rattle.std.specs.Int.{bit_at}
 use Rattle.order_model.specs.declared.Term.{Term}
 use Rattle.pla_reader.specs.declared.terms.Masks.{Masks}
@@ -15,7 +15,7 @@ pub record Fits (n m : ℕ) (term : Term) : Type 0 where
 
 -- the literal of input i, and whether output j has the term in its ON-set
 abbrev pub literal_at : Masks → ℕ → Option Bool
-literal_at masks i = cond (bit_at masks.care i == 1) (Some (bit_at masks.value i == 1)) None
+literal_at masks i = if bit_at masks.care i == 1 then Some (bit_at masks.value i == 1) else None
 
 abbrev pub output_at : Masks → ℕ → Bool
 output_at masks j = bit_at masks.outs j == 1

@@ -1,7 +1,7 @@
 -- What an input is read as.
 --     faults lines      the faulty lines with their numbers, counted from 1, each judged by those before it; then the end
 --     Reads bytes cover, FirstFault bytes line fault      the input is read as the cover; its first fault
-use Rattle.std.specs.Prelude.{◌≡◌, ℕ, ◌+◌, cond, ◌&&◌, List, [], ◌∷◌, ◌++◌, length, take, Option, min, filter_map}
+use Rattle.std.specs.Prelude.{◌≡◌, ℕ, ◌+◌, if◌then◌else◌, ◌&&◌, List, [], ◌∷◌, ◌++◌, length, take, Option, min, filter_map}
 use Rattle.std.specs.Option.{option_map}
 use Rattle.std.specs.List.{slice_index_or, range_with_len}
 use Rattle.pla_reader.specs.declared.errors.LineFault.{LineFault}
@@ -21,8 +21,9 @@ end_number lines = min (length (description lines) + 1) (length lines)
 
 -- the end of the description wants both counts
 unfoldable pub end_faults : List Line → List (ℕ × LineFault)
-end_faults lines = cond (comes input_count (description lines) && comes output_count (description lines)) []
-    ((end_number lines, MissingHead) ∷ [])
+end_faults lines =
+    if comes input_count (description lines) && comes output_count (description lines) then []
+    else (end_number lines, MissingHead) ∷ []
 
 -- all faults of an input's lines, each judged by the lines before it, and then that of the end
 unfoldable pub faults : List Line → List (ℕ × LineFault)

@@ -2,7 +2,7 @@
 --     lines_of bytes      the lines, without their line feeds
 --     content line, words content, positions content      a line up to its comment; its words; the bytes of a term
 --     only_word words, is_number word, is_name word      what directives are given
-use Rattle.std.specs.Prelude.{ℕ, Bool, true, false, not, cond, ◌&&◌, ◌||◌, ◌==◌, List, [], ◌∷◌, length, filter, take_while, nat_le, Option, Some, None}
+use Rattle.std.specs.Prelude.{ℕ, Bool, true, false, not, if◌then◌else◌, ◌&&◌, ◌||◌, ◌==◌, List, [], ◌∷◌, length, filter, take_while, nat_le, Option, Some, None}
 use Rattle.std.specs.List.{slice_split, onto_first, list_all}
 use Rattle.std.specs.Char.{is_ascii_graphic}
 use Rattle.std.specs.Str.{all_ascii_digits}
@@ -24,7 +24,7 @@ is_blank b = b == 32 || (b == 9 || b == 13)
 -- the lines: each one ends at a line feed or at the end of the input, and nothing after the last line feed is no line
 unfoldable pub lines_of : List ℕ → List (List ℕ)
 lines_of [] = []
-lines_of (b ∷ bytes) = cond (b == line_feed) ([] ∷ lines_of bytes) (onto_first b (lines_of bytes))
+lines_of (b ∷ bytes) = if b == line_feed then [] ∷ lines_of bytes else onto_first b (lines_of bytes)
 
 -- what stands before the first number sign: espresso(5) has comments after a pound sign
 abbrev pub content : List ℕ → List ℕ

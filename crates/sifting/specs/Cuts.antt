@@ -3,7 +3,7 @@
 --     split_ref nodes x r      the two refs below a variable: the children of a node that tests it, else the ref itself
 --     NumbersFirst      nodes whose children are numbered by first occurrence of their keys
 --     IsBuilt      levels whose functions are those of a diagram's roots
-use Rattle.std.specs.Prelude.{◌≡◌, ℕ, zero, suc, ◌+◌, ◌<◌, ◌≤◌, Bool, true, false, cond, List, length, map, get_or, slice_get, nat_eq}
+use Rattle.std.specs.Prelude.{◌≡◌, ℕ, zero, suc, ◌+◌, ◌<◌, ◌≤◌, Bool, true, false, if◌then◌else◌, List, length, map, slice_index, get_or, slice_get, nat_eq}
 use Rattle.std.specs.declared.option.Option.{Option}
 use Rattle.std.specs.declared.option.Option.TheVariants.{Some, None}
 use Rattle.order_model.specs.declared.diagrams.Ref.{Ref}
@@ -16,7 +16,7 @@ use Rattle.sifting.specs.LevelLists.{IsLeveled}
 
 -- a ref as a number: the terminals are 0 and 1, and the nodes follow
 unfoldable pub code_of : Ref → ℕ
-code_of (Terminal b) = cond b 1 0
+code_of (Terminal b) = if b then 1 else 0
 code_of (Place k) = k + 2
 
 -- the ref with a number
@@ -28,7 +28,7 @@ ref_of (suc (suc k)) = Place k
 -- the two refs below a variable, from a ref and the node that stands there
 abbrev pub split_node : ℕ → Ref → Option Node → Ref × Ref
 split_node x r None = (r, r)
-split_node x r (Some node) = cond (nat_eq node.variable x) (node.low, node.high) (r, r)
+split_node x r (Some node) = if nat_eq node.variable x then (node.low, node.high) else (r, r)
 
 -- the two refs below a variable: the children of a node that tests it, else the ref itself
 unfoldable pub split_ref : List Node → ℕ → Ref → Ref × Ref
@@ -55,10 +55,10 @@ pub record Splits (nodes : List Node) (x : ℕ) (cut : List Ref) (level : List C
 pub record RootsFirst (done : ℕ) (roots : List Ref) (numbers : List ℕ) (codes : List ℕ) : Type 0 where
   pub many : length numbers ≡ done
   pub few : length codes ≤ done
-  pub inside : (k : ℕ) → k < done → get_or numbers k 0 < length codes
-  pub numbered : (k : ℕ) → k < done → get_or codes (get_or numbers k 0) 0 ≡ code_of (ref_at roots k)
-  pub once : (j k : ℕ) → j < length codes → k < length codes → get_or codes j 0 ≡ get_or codes k 0 → j ≡ k
-  pub reached : (j : ℕ) → j < length codes → (k : ℕ) × (k < done) × (get_or numbers k 0 ≡ j)
+  pub inside : (k : ℕ) → k < done → slice_index numbers k < length codes
+  pub numbered : (k : ℕ) → k < done → slice_index codes (slice_index numbers k) ≡ code_of (ref_at roots k)
+  pub once : (j k : ℕ) → j < length codes → k < length codes → slice_index codes j ≡ slice_index codes k → j ≡ k
+  pub reached : (j : ℕ) → j < length codes → (k : ℕ) × (k < done) × (slice_index numbers k ≡ j)
 
 -- the roots with their numbers, and the cut above all levels
 pub record Numbers (roots : List Ref) (numbers : List ℕ) (cut : List Ref) : Type 0 where
@@ -78,5 +78,5 @@ pub record IsBuilt (order : List ℕ) (nodes : List Node) (roots : List Ref) (nu
   pub leveled : IsLeveled levels terminals order numbers
   pub many : length numbers ≡ length roots
   pub functions_are : (j : ℕ) → j < length roots →
-      SameFunction (length order) (function_at levels terminals order (get_or numbers j 0))
+      SameFunction (length order) (function_at levels terminals order (slice_index numbers j))
       (value nodes (ref_at roots j))

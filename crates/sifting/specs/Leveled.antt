@@ -5,7 +5,7 @@
 --     HasChildren below L, IsLevel below L, AreLevels      each node once, with its children on the next level, and each place there is a child
 --     NumbersFirst      nodes over the numbers of keys
 --     Exchanges      two neighbouring levels, and the same with their variables exchanged
-use Rattle.std.specs.Prelude.{◌≡◌, ℕ, ◌*◌, ◌<◌, ◌≤◌, Bool, true, false, not, cond, ◌⊎◌, List, [], ◌∷◌, length, get_or, nat_eq}
+use Rattle.std.specs.Prelude.{◌≡◌, ℕ, ◌*◌, ◌<◌, ◌≤◌, Bool, true, false, not, if◌then◌else◌, ◌⊎◌, List, [], ◌∷◌, length, slice_index, get_or, nat_eq}
 use Rattle.std.specs.List.{count_by}
 use Rattle.order_model.specs.Functions.{Point, Function, bit}
 
@@ -15,7 +15,7 @@ Children = ℕ × ℕ
 
 -- the child that a value of the variable takes
 abbrev pub child : Bool → Children → ℕ
-child b c = cond b c.1 c.0
+child b c = if b then c.1 else c.0
 
 -- the children of node k
 abbrev pub at : List Children → ℕ → Children
@@ -94,8 +94,8 @@ Exchanges upper lower upper' lower' = ExchangesFirst (length upper) upper lower 
 
 -- the numbers of the roots: each is a place, and each place is a root's
 pub record AreRoots (below : ℕ) (roots : List ℕ) : Type 0 where
-  pub inside : (j : ℕ) → j < length roots → get_or roots j 0 < below
-  pub reached : (k : ℕ) → k < below → (j : ℕ) × (j < length roots) × (get_or roots j 0 ≡ k)
+  pub inside : (j : ℕ) → j < length roots → slice_index roots j < below
+  pub reached : (k : ℕ) → k < below → (j : ℕ) × (j < length roots) × (slice_index roots j ≡ k)
 
 -- no terminal is there twice
 abbrev pub AreTerminals : List Bool → Type 0

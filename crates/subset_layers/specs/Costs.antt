@@ -3,7 +3,7 @@
 --     cell_at c mask, cost_at c mask      the cell and the cost of a set, if it is in the layer; the empty set has the cost 0
 --     AreTrueCosts n F P bound c      the costs are those of the definition's cells
 --     AreWidthsFor n F P bound mask costs widths      the widths that the cell of a set needs are the definition's
-use Rattle.std.specs.Prelude.{◌≡◌, ℕ, ◌-◌, ◌^◌, ◌≤◌, Option, Some, None, List, [], cond, ◌<◌, IsTrue, nat_eq, length, slice_get, slice_index, unwrap_or}
+use Rattle.std.specs.Prelude.{◌≡◌, ℕ, ◌-◌, ◌^◌, ◌≤◌, Option, Some, None, List, [], if◌then◌else◌, ◌<◌, IsTrue, nat_eq, length, slice_get, slice_index, unwrap_or}
 use Rattle.std.specs.Option.{option_map_or}
 use Rattle.order_model.specs.Functions.{Function}
 use Rattle.order_model.specs.Orders.{has, members, without, place_in}
@@ -38,7 +38,7 @@ costs_with l cells = record { inputs = l.inputs; size = l.size; cells = cells }
 -- each set has a cell, but for the empty one
 pub record HaveCells (c : CostsOf) : Type 0 where
   pub few_inputs : c.inputs ≤ 16
-  pub count : length c.cells ≡ cond (nat_eq c.size 0) 0 (length (masks_of (layer_of_costs c)))
+  pub count : length c.cells ≡ (if nat_eq c.size 0 then 0 else length (masks_of (layer_of_costs c)))
 
 -- the cell of a set
 unfoldable pub cell_at : CostsOf → ℕ → Option Cell
@@ -46,8 +46,9 @@ cell_at c mask = slice_get c.cells (place_in (masks_of (layer_of_costs c)) mask)
 
 -- the cost of a set of the layer: its cell's, and that of the empty set is 0
 unfoldable pub cost_at : CostsOf → ℕ → Option ℕ
-cost_at c mask = cond (has (masks_of (layer_of_costs c)) mask)
-    (Some (option_map_or (λ (cell : Cell). cell.cost) (cell_at c mask) 0)) None
+cost_at c mask =
+    if has (masks_of (layer_of_costs c)) mask then Some (option_map_or (λ (cell : Cell). cell.cost) (cell_at c mask) 0)
+    else None
 
 -- the costs are those of the definition's cells
 abbrev pub AreTrueCosts : ℕ → List Function → List Pair → ℕ → CostsOf → Type 0

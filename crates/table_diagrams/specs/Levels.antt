@@ -4,7 +4,7 @@
 --     IsNumberOf base keys u c      the number of the ref that has the refs of a pair as its children
 --     Seeks base x u keys keys' nodes nodes' c      such a ref is found, or put behind the others
 --     IsNumbered x old pairs keys nodes numbers, IsLevelAbove x old below nodes above      the refs of a level
-use Rattle.std.specs.Prelude.{◌≡◌, ◌≢◌, ℕ, zero, suc, ◌+◌, ◌<◌, ◌≤◌, ◌⊎◌, false, true, List, [], ◌∷◌, ◌++◌, length, map, get_or, slice_get}
+use Rattle.std.specs.Prelude.{◌≡◌, ◌≢◌, ℕ, zero, suc, ◌+◌, ◌<◌, ◌≤◌, ◌⊎◌, false, true, List, [], ◌∷◌, ◌++◌, length, map, slice_index, get_or, slice_get}
 use Rattle.std.specs.List.{IsDistinct}
 use Rattle.std.specs.declared.option.Option.TheVariants.{Some}
 use Rattle.order_model.specs.Widths.{same_pair}
@@ -41,9 +41,9 @@ pub record IsNumbered (x : ℕ) (old : List Node) (pairs keys : List (ℕ × ℕ
   pub once : IsDistinct same_pair keys
   pub few : length keys ≤ length pairs
   pub long : length numbers ≡ length pairs
-  pub named : (k : ℕ) → k < length pairs → IsNumberOf (length old) keys (get_or pairs k (0, 0)) (get_or numbers k 0)
+  pub named : (k : ℕ) → k < length pairs → IsNumberOf (length old) keys (get_or pairs k (0, 0)) (slice_index numbers k)
   pub used : (i : ℕ) (u : ℕ × ℕ) → slice_get keys i ≡ Some u →
-      (u.0 ≢ u.1) × ((k : ℕ) × (k < length pairs) × (get_or pairs k (0, 0) ≡ u) × (get_or numbers k 0 ≡ length old + i + 2))
+      (u.0 ≢ u.1) × ((k : ℕ) × (k < length pairs) × (get_or pairs k (0, 0) ≡ u) × (slice_index numbers k ≡ length old + i + 2))
 
 -- the refs of a level over those of the level below
 pub record IsLevelAbove (x : ℕ) (old : List Node) (below : List ℕ) (nodes : List Node) (above : List ℕ) : Type 0 where

@@ -1,7 +1,7 @@
 -- The points of all assignments of an order's variables.
 --     assignments xs      their numbers, the first variable as the highest bit of the place
 --     values_at ks tables      the values of functions there, as 0 and 1
-use Rattle.std.specs.Prelude.{ℕ, ◌^◌, Bool, false, List, [], ◌∷◌, ◌++◌, map, cond, get_or, bit_or}
+use Rattle.std.specs.Prelude.{ℕ, ◌^◌, Bool, false, List, [], ◌∷◌, ◌++◌, map, if◌then◌else◌, get_or, bit_or}
 use Rattle.std.specs.List.{flat_map}
 
 -- the numbers of the points, in the order in which a restriction by the variables lists them: the other variables have the value 0
@@ -11,7 +11,7 @@ assignments (x ∷ xs) = assignments xs ++ map (λ k. bit_or k (2 ^ x)) (assignm
 
 -- a value of a truth table, as 0 or 1
 abbrev pub value_number : List Bool → ℕ → ℕ
-value_number table k = cond (get_or table k false) 1 0
+value_number table k = if get_or table k false then 1 else 0
 
 -- the values of each truth table at the points
 unfoldable pub values_at : List ℕ → List (List Bool) → List ℕ

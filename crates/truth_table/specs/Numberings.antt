@@ -2,14 +2,14 @@
 --     pair_at cs j, pairs_of cs      entries 2j and 2j+1; all pairs
 --     is_unequal p      whether the parts of a pair differ
 --     IsNumbering ps ns      two places have one number exactly if they have one pair
-use Rattle.std.specs.Prelude.{◌≡◌, ◌↔◌, ℕ, ◌+◌, ◌*◌, ◌/◌, ◌<◌, Bool, not, List, map, length, get_or, nat_eq}
+use Rattle.std.specs.Prelude.{◌≡◌, ◌↔◌, ℕ, ◌+◌, ◌*◌, ◌/◌, ◌<◌, Bool, not, List, map, length, slice_index, get_or, nat_eq}
 use Rattle.std.specs.List.{range_with_len, filter}
 use Rattle.std.specs.Set.{distinct_count}
 use Rattle.order_model.specs.Widths.{same_pair}
 
 -- the entries 2j and 2j + 1
 abbrev pub pair_at : List ℕ → ℕ → ℕ × ℕ
-pair_at cs j = (get_or cs (2 * j) 0, get_or cs (2 * j + 1) 0)
+pair_at cs j = (slice_index cs (2 * j), slice_index cs (2 * j + 1))
 
 -- all pairs of entries that stand side by side
 unfoldable pub pairs_of : List ℕ → List (ℕ × ℕ)
@@ -27,4 +27,4 @@ unequal_count ps = distinct_count same_pair (filter is_unequal ps)
 pub record IsNumbering (ps : List (ℕ × ℕ)) (ns : List ℕ) : Type 0 where
   pub long : length ns ≡ length ps
   pub apart : (j k : ℕ) → j < length ps → k < length ps →
-      (get_or ns j 0 ≡ get_or ns k 0) ↔ (get_or ps j (0, 0) ≡ get_or ps k (0, 0))
+      (slice_index ns j ≡ slice_index ns k) ↔ (get_or ps j (0, 0) ≡ get_or ps k (0, 0))

@@ -1,6 +1,6 @@
 //! Words of 64 points from product terms.
 
-ghost use Rattle.std.specs.Prelude.{◌≡◌, ◌+◌, ◌*◌, ◌^◌, ◌<◌, ◌≤◌, ◌==◌, ℕ, false, length, map, nat_lt, IfOk, IsFalse, cond, bit_and, bit_or, get_or, slice_index, ◌/◌, ◌%◌, []};
+ghost use Rattle.std.specs.Prelude.{◌≡◌, ◌+◌, ◌*◌, ◌^◌, ◌<◌, ◌≤◌, ◌==◌, ℕ, false, length, map, nat_lt, IfOk, IsFalse, if◌then◌else◌, bit_and, bit_or, get_or, slice_index, ◌/◌, ◌%◌, []};
 ghost use Rattle.std.specs.Int.{bit_at};
 ghost use Rattle.std.specs.List.{All};
 ghost use Rattle.order_model.specs.Functions.{table};
@@ -54,8 +54,8 @@ fn holds_above(term: &Term, place: usize) -> bool
 #[inline(always)]
 fn add_points(words: &mut [u64; 16], outs: u16, points: u64)
     ensures { (o : ℕ) → o < 16 →
-        slice_index words.new o ≡ cond (bit_at outs o == 1)
-        (bit_or (slice_index words.old o) points) (slice_index words.old o) }
+        slice_index words.new o ≡ (if bit_at outs o == 1
+        then bit_or (slice_index words.old o) points else slice_index words.old o) }
 {
     for output in 0..16 {
         if (outs >> output) & 1 == 1 {

@@ -1,6 +1,6 @@
 //! Class numbers of subfunctions, level by level.
 
-ghost use Rattle.std.specs.Prelude.{◌≡◌, ◌++◌, ◌/◌, ◌<◌, ◌≤◌, ◌^◌, bit_or, cond, length, map, IfOk, OnOk};
+ghost use Rattle.std.specs.Prelude.{◌≡◌, ◌++◌, ◌/◌, ◌<◌, ◌≤◌, ◌^◌, bit_or, if◌then◌else◌, length, map, IfOk, OnOk};
 ghost use Rattle.std.specs.List.{All};
 ghost use Rattle.order_model.specs.Problems.{packed_bit};
 ghost use Rattle.truth_table.specs.Assignments.{assignments};
@@ -77,7 +77,7 @@ pub(crate) fn push_values(
     requires { All (λ k. k / 64 < length words.now) points.now }
     ensures { OnOk result
         (values.new.items ≡ values.old.items
-        ++ map (λ k. cond (packed_bit words.now k) 1 0) points.now) }
+        ++ map (λ k. if packed_bit words.now k then 1 else 0) points.now) }
 {
     for point in points {
         values.push(bit_of(words, *point as usize) as u32)?;
