@@ -115,8 +115,7 @@ fn sift_from_first(
     ensures problem { IfOk result (λ s. s.problem ≡ tables.now) }
     ensures pairs { IfOk result (λ s. s.pairs ≡ pairs.pairs) }
 {
-    let _ = tables;
-    let _few = cover.outputs();
+    prove!(cover.outputs() <= 16);
     diagrams_have_their_functions_tables();
     let manager = Manager::with_pairs(alloc, first, pairs)?;
     let sifted = manager.sift(alloc)?;

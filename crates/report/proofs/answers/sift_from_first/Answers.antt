@@ -11,8 +11,8 @@ with_pairs-requires-clause-few c =
     let long = c.diagrams_have_their_functions_tables.ensures.roots c.args.cover.now.inputs (functions_of c.args.cover.now)
     c.args.first.order c.args.first c.requires.first.diagram in
     let outputs = functions_long c.args.cover.now in
-    let few = c.outputs-few.ensures.few in
-    let value = c.outputs-few.ensures.value in
+    let few = c.outputs.ensures.few in
+    let value = c.outputs.ensures.value in
     omega arith
 
 pub with_pairs-requires-clause-inputs : goal.with_pairs-requires-clause-inputs
