@@ -29,7 +29,6 @@ fn optimum(alloc: Global, tables: &Tables, pairs: Pairs) -> Result<Solution, All
     let start = pairs.first_order(alloc)?;
     let bound = sifted_from(alloc, tables, &start, pairs)?.search_bound(alloc)?;
     let solution = solve_alone(alloc, tables.problem(), bound)?;
-    let _order = solution.order.variables();
     Ok(solution)
 }
 
