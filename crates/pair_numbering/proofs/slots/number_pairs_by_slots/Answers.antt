@@ -1,11 +1,11 @@
-use Rattle.std.proofs.Common.{◌≡◌, ℕ, ◌+◌, ◌*◌, ◌/◌, ◌^◌, ◌<◌, get_or, set, take, map, length, sym, ap, subst, ◌∙◌, arith, min}
+use Rattle.std.proofs.Common.{◌≡◌, ℕ, ◌*◌, ◌/◌, ◌^◌, ◌<◌, get_or, set, take, map, length, sym, ap, subst, ◌∙◌, arith, min}
 use Rattle.std.proofs.lemmas.Grind.{common_steps}
 use Rattle.std.proofs.lemmas.List.{get_or_default, map-id}
 use Rattle.pair_numbering.specs.Slots.{IsSlot, home_of, slot_number}
 use Rattle.class_laws.specs.Places as places
 use Rattle.class_laws.proofs.Index.{length-pairs, pair_listed}
 use Rattle.class_laws.proofs.Firsts.{made_numbers, made_many, made_told}
-use Rattle.pair_numbering.proofs.SlotSteps.{Slotted, slotted_new, slotted_old, slotted_none}
+use Rattle.pair_numbering.proofs.SlotSteps.{slotted_new, slotted_old, slotted_none}
 use Rattle.pair_numbering.proofs.slots.number_pairs_by_slots.Goals as goal
 use Rattle.pair_numbering.proofs.slots.number_pairs_by_slots.Goals.{then-number-count, else-number-count}
 
@@ -40,16 +40,16 @@ pub loop-j-preserved : goal.loop-j-preserved
 loop-j-preserved c =
     let cs = c.args.numbers.now in
     let ps = places.pairs cs (2 ^ c.args.rank) in
-    let place = home_of (4 * (length c.args.numbers.now / 2)) in
+    let place = home_of (4 * (length cs / 2)) in
     let j = c.loop-j.j in
     let slots = c.loop-j.slots.items in
     let keys = c.loop-j.keys.items in
-    let out = c.loop-j.out.items in
     let count = c.loop-j.count in
     let at = c.in-Some.at in
-    let p = c.pair_at-pair.ensures ∙ sym (pair_listed cs (2 ^ c.args.rank) j c.loop-j-test.true) in
-    let l = length-pairs cs (2 ^ c.args.rank) in
     let t' = c.loop-j-test.true in
+    let l = length-pairs cs (2 ^ c.args.rank) in
+    let small : j < length ps = omega arith in
+    let p = c.pair_at-pair.ensures ∙ sym (pair_listed cs (2 ^ c.args.rank) j t') in
     let all_keys = c.deref-in-loop-j.ensures.value ∙ ap (set keys count) p in
     let begin = c.home.ensures.place ∙ ap place p in
     let found : IsSlot slots (set keys count (get_or ps j (0, 0))) count (get_or ps j (0, 0)) (place (get_or ps j (0, 0))) at =
@@ -57,10 +57,6 @@ loop-j-preserved c =
     let value : c.index.result.now ≡ get_or slots at 0 = c.index.ensures ∙ get_or_default slots at c.index.result.now 0 found.within in
     let number : c.min-number.result ≡ slot_number slots count at = c.min-number.ensures ∙ ap (λ z. min z count) value in
     elim c.if-number-count.branch [
-      | then-number-count w ↦
-          subst (λ z. z) (λ t. Slotted ps place (set slots at (sym number t)) (set keys count (sym p t)) (set out j (sym number t)) (sym w.count-is t) (j + 1))
-          (slotted_new ps place slots keys out count j at (omega arith) c.loop-j.invariant found (sym number ∙ w.if-number-count.true))
-      | else-number-count w ↦
-          subst (λ z. z) (λ t. Slotted ps place (set slots at (sym number t)) (set keys count (sym p t)) (set out j (sym number t)) (sym w.count-is t) (j + 1))
-          (slotted_old ps place slots keys out count j at (omega arith) c.loop-j.invariant found (λ e. w.if-number-count.false (number ∙ e)))
+      | then-number-count w ↦ rw (number, p, w.count-is) (slotted_new c.loop-j.invariant at small found (sym number ∙ w.if-number-count.true))
+      | else-number-count w ↦ rw (number, p, w.count-is) (slotted_old c.loop-j.invariant at small found (λ e. w.if-number-count.false (number ∙ e)))
     ]
