@@ -89,7 +89,6 @@ pub(crate) fn last_diagram(
     ensures missing { IfErr result (LacksRoot (slots_items closed.now.words) first outputs) }
 {
     let ids = root_ids(alloc, closed, first, outputs)?;
-    prove!(order.len() <= 16);
     let made = reached_nodes(alloc, closed, places, order.variables(), ids.as_slice());
     let Ok(reached) = made else {
         return Err(CloseFault::OutOfMemory);

@@ -74,7 +74,6 @@ impl Store {
         let outputs = problem.outputs();
         let roots = parts_count(&kind, &order, outputs);
         let pieces = roots + usize::from(outputs);
-        prove!(order.len() <= 16);
         let plan = Plan {
             places,
             entries,
