@@ -52,7 +52,6 @@ fn read_input<R: Threads + Sync>(rt: &R, alloc: Global, text: &[u8]) -> Result<I
     let cover = read_cover(alloc, &mut Counting::new(text))?;
     let tables = Tables::of_cover(rt, alloc, &cover)?;
     let order = Order::file_order(alloc, cover.inputs())?;
-    prove!(order.len() <= 16);
     Ok(Input {
         cover,
         tables,
