@@ -1,7 +1,7 @@
 -- How long the text of a certificate is.
 --     line_length name ns      the bytes of a line of a fixed word and numbers
 --     spelling_length      at most 6 bytes a pair and 12 a listed set, beside 256
---     readable      so no text is longer than what is read
+--     text_readable      so no text is longer than what is read
 use Rattle.std.proofs.Common.{◌≡◌, ℕ, ◌+◌, ◌*◌, ◌^◌, ◌≤◌, inl, inr, true, false, cond, List, [], ◌∷◌, ◌++◌, length, map, refl, ap, arith, codes, decimal, length-append, append-nil, nat_eq, Bool, ◌⊎◌}
 use Rattle.std.proofs.Math.Nat.{pow-le-pow_right}
 use Rattle.std.specs.List.{AllByRecursion, flat_map}

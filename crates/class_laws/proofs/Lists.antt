@@ -1,5 +1,5 @@
 -- Lists made by functions.
---     map-map, map_flat_map      one function after another
+--     map_flat_map      one function after another
 --     map_ranges      two functions that agree on two ranges of numbers
 --     place_of      where an element stands
 use Rattle.std.proofs.Common.{◌≡◌, ℕ, zero, suc, ◌+◌, ◌<◌, inl, inr, List, [], ◌∷◌, ◌++◌, map, length, get_or, refl, sym, ap, ◌∙◌, arith}

@@ -1,7 +1,7 @@
 -- Sessions that go on, and what ids denote.
 --     stays      a session that does nothing goes on
 --     means_same      an id denotes each function of the same values
---     makes_same, makes_made      a call makes the id of each function of the same values; a node that is made
+--     makes_same, makes_node      a call makes the id of each function of the same values; a node that is made
 --     function_zero, function_one      the functions of the terminals
 use Rattle.std.proofs.Common.{◌≡◌, ℕ, ◌<◌, true, false, Result, Ok, Err, IfOk, OnErr, length, refl, ◌∙◌, subst, arith}
 use Rattle.order_model.specs.Functions.{Point, Function, SameFunction}

@@ -1,6 +1,7 @@
 -- Which lists of variables are orders, and what is wrong with the others.
 --     Accepts xs      xs has 1 to 16 variables, and is an order of as many
---     IsOutOfRange xs, Refuses xs fault      why xs is no order
+--     IsInRange xs      xs has 1 to 16 variables, each below its length
+--     Refuses xs fault      why xs is no order
 use Rattle.std.specs.Prelude.{ℕ, ◌<◌, ◌≤◌, List, length}
 use Rattle.std.specs.List.{All}
 use Rattle.order_model.specs.declared.orders.BadOrder.{BadOrder}

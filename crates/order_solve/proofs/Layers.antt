@@ -1,6 +1,6 @@
 -- The layers of all sets.
---     start_layer, layers_push      the layer of the empty set, and a layer more
---     set_layer      the layer in which a set is
+--     layers_push      a layer more
+--     set_there      the layer in which a set is
 use Rattle.std.proofs.Common.{◌≡◌, ℕ, ◌+◌, ◌-◌, ◌^◌, ◌<◌, ◌≤◌, inl, inr, true, List, [], ◌∷◌, ◌++◌, length, length-append, Some, IfSome, Option, sym, ap, ◌∙◌, subst, arith, count_ones, eqb}
 use Rattle.std.proofs.lemmas.Bool.{cases_eq, cases_lt}
 use Rattle.std.proofs.lemmas.List.FromFn.{length-range_with_len}

@@ -1,7 +1,7 @@
 -- The members of a set whose widths its cell takes.
 --     affordable_is      the mask that the code collects
 --     wanted_lawful, wanted_unlawful, needed_lawful, needed_unlawful      the members whose widths are taken, and their mask, of a lawful set and of another one
---     needed_bit, needed_ones      the bits of their mask, and how many it has
+--     wanted_bit, needed_ones      the bits of their mask, and how many it has
 use Rattle.std.proofs.Common.{◌≡◌, ◌≢◌, ℕ, ◌+◌, ◌-◌, ◌^◌, ◌<◌, ◌≤◌, Bool, true, false, cond, ◌&&◌, List, [], map, length, unwrap_or, refl, sym, ap, ◌∙◌, subst, arith, eqb, eq-eqb, ne_eqb, leb, count_ones}
 use Rattle.std.specs.Int.{bit_at}
 use Rattle.std.specs.List.{filter, sum_by, IsDistinct}

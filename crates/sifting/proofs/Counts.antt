@@ -2,7 +2,7 @@
 --     Covers n G levels T order      the functions of the top level's places are those of G
 --     covers_next      one level down
 --     counted      how many of the functions depend on the level's variable
---     counts_are_level_counts, size_is_size_under      all levels, and their sum
+--     counts_below, all_counts      the levels below some variables, and all levels
 use Rattle.std.proofs.Common.{◌≡◌, ◌≢◌, ℕ, zero, suc, ◌+◌, ◌*◌, ◌<◌, Bool, true, false, not, cond, inl, inr, List, [], ◌∷◌, ◌++◌, map, length, get_or, slice_get, Some, refl, sym, ap, ◌∙◌, ap₂, subst, arith, nat_eq, eq-eqb, ne_eqb, zero-add}
 use Rattle.std.specs.List.{filter, enumerate_from, IsDistinct, AllByRecursion, range_with_len, count_by}
 use Rattle.std.specs.Set.{distinct_count}

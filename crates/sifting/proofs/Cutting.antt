@@ -1,6 +1,6 @@
 -- Cuts of a diagram, and how they are split by a variable.
 --     ref_code      the ref of a ref's code
---     Cut order nodes i cut      refs that stand from level i on, each once
+--     Stands order d i r      a ref that stands from level i on
 --     split_value, split_stands, split_tells      the halves of a ref: its value, where they stand, and that they tell the ref
 use Rattle.std.proofs.Common.{◌≡◌, ◌≢◌, ℕ, zero, suc, ◌+◌, ◌-◌, ◌<◌, ◌≤◌, take, Bool, true, false, cond, ◌⊎◌, inl, inr, List, [], ◌∷◌, ◌++◌, map, length, get_or, slice_get, Option, Some, None, refl, sym, ap, ◌∙◌, subst, arith, nat_eq, eq-eqb, ne_eqb}
 use Rattle.std.proofs.lemmas.Bool.{cases_eq}

@@ -1,6 +1,6 @@
 -- Two neighbouring levels with their variables exchanged.
 --     upper_level, lower_level      both are levels again
---     same_path      a path comes to the same place below them
+--     path_placed      a path comes to the same place below them
 use Rattle.std.proofs.Common.{◌≡◌, ℕ, zero, suc, ◌*◌, ◌<◌, Bool, true, false, ◌⊎◌, inl, inr, List, [], ◌∷◌, length, set, get_or, refl, sym, ap, ◌∙◌, subst, arith}
 use Rattle.order_model.specs.Functions.{Point, bit}
 use Rattle.order_model.proofs.Lists.Swaps.{crossed}

@@ -1,8 +1,8 @@
 -- What the fields of a manager hold.
 --     nodes_get, nodes_set, length-nodes      the nodes of a list of levels
---     few_at, level_at, size_small      bounds on the nodes of a level and of all; a level over the next one
---     held_order, held_counts, held_size      the order, the level counts and the size
---     held_swap      the same with two neighbouring levels exchanged
+--     few_at, level_at      a bound on the nodes of a level; a level over the next one
+--     held_order, held_levels, held_size, held_small      the order, the level counts, the size and its bound
+--     exchanged_held      the same with two neighbouring levels exchanged
 use Rattle.std.proofs.Common.{◌≡◌, ℕ, zero, suc, ◌+◌, ◌*◌, ◌^◌, ◌<◌, ◌≤◌, Bool, false, List, [], ◌∷◌, map, length, set, get_or, swap, refl, sym, ap, ◌∙◌, subst, arith, add-one, pow-suc, ap₂}
 use Rattle.std.specs.List.{sum, sum_by}
 use Rattle.std.proofs.Math.Nat.{pow-le-pow_right, mul-le-mul_left}

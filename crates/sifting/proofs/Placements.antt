@@ -2,7 +2,6 @@
 --     crossed_up, crossed_down      a swap moves it by one place
 --     here, above_here, below_here      what stands at its place and next to it
 --     not_above, not_below      a variable that must stay above or below isn't passed
---     own_place      an order is one of the placements of each of its variables
 use Rattle.std.proofs.Common.{◌≡◌, ◌≢◌, ℕ, zero, suc, ◌<◌, ◌≤◌, Bool, true, false, cond, ◌||◌, ◌&&◌, inl, inr, List, [], ◌∷◌, length, get_or, refl, sym, ap, ap₂, ◌∙◌, arith, nat_eq, eqb-true, eq-eqb, ne_eqb}
 use Rattle.std.specs.List.{insert, IsDistinct, list_all}
 use Rattle.std.proofs.lemmas.Bool.{false≢true, true≢false, or_cases, or_parts, and_parts}

@@ -2,7 +2,7 @@
 --     flip      a bit where its power is added
 --     fixed_inside      a number below 2 ^ n stays below it
 --     number-fixed      the number of a point with a variable set
---     word_bit      the word that the masked halves make
+--     upper_bit, lower_bit      the word that the masked halves make
 --     table_by      a truth table from its values
 --     fixed_table_low, fixed_table_high      the truth table in words that are fixed within, or whole
 --     fixed_clean_low, fixed_clean_high      nothing stands behind the last point

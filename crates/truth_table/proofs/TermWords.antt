@@ -1,6 +1,6 @@
 -- Words of 64 points of terms, and the packed truth tables that they make.
 --     masked_bits, joined_bits      the bits of words that are combined
---     free_bits      the mask of the points of n variables
+--     free_bits_few, free_bits_all      the mask of the points of n variables
 --     literal_points_none, literal_points_one, literal_points_zero      the points at which a literal holds
 --     covered_more, term_added, term_left_out, place_added      what a term adds
 --     blank_at      the words before the first term

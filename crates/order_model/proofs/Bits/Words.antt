@@ -1,5 +1,5 @@
 -- Truth tables packed in words: bits of words, and the dependence that they show.
---     lower_bits      a word's bits, from a test of all 64
+--     tested_below      what a test of the first n numbers shows of each
 --     shifted_bit      a shifted word's bits
 --     some_difference, no_difference      what a word that is masked and compared with itself shifted shows
 use Rattle.std.proofs.Common.{◌≡◌, ℕ, zero, suc, ◌+◌, ◌-◌, ◌*◌, ◌/◌, ◌%◌, ◌^◌, ◌<◌, true, false, not, refl, sym, ap, ◌∙◌, arith, subst, eqb, eqb-true, min, zero-add, bit_and, bit_xor}

@@ -1,5 +1,5 @@
 -- How many nodes each variable has.
---     CountsFirst nodes i counts, counts_none, counts_more      the first i nodes are counted; none; one more
+--     CountsFirst nodes i counts, counts_more      the first i nodes are counted; one more
 use Rattle.std.proofs.Common.{◌≡◌, ℕ, ◌+◌, ◌<◌, inl, inr, List, length, get_or, set, take, sym, ap, ◌∙◌, arith, nat_eq, eq-eqb, ne_eqb}
 use Rattle.std.proofs.lemmas.Bool.{cases_eq}
 use Rattle.std.proofs.lemmas.List.{get_or-set_same, get_or-set_other}

@@ -1,7 +1,7 @@
 -- Pairs that lead nowhere back are kept by some order, and no order keeps others.
 --     kept_acyclic      where an order keeps the pairs, they lead from no variable back to itself
---     find_top      each set that is not empty has a member below none of its members
---     greedy_order      so the smallest tops, from all variables downward, make an order that keeps the pairs
+--     some_top      each set that is not empty has a member without which it is lawful, still
+--     acyclic_kept      so the smallest tops, from all variables downward, make an order that keeps the pairs
 --     greedy_is_first      and it is the first such order
 use Rattle.std.proofs.Common.{◌≡◌, ◌≢◌, ℕ, zero, suc, ◌-◌, ◌^◌, ◌<◌, ◌≤◌, true, not, cond, ◌⊎◌, inl, inr, List, [], ◌∷◌, length, refl, sym, ap, ap₂, ◌∙◌, subst, arith, nat_eq, eq-eqb, ne_eqb, lt-ltb, le-ltb, nat_cmp, Less, Equal, Greater, pow_pos}
 use Rattle.std.specs.Ordering.{ordering_then}

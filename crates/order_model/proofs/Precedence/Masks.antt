@@ -3,7 +3,7 @@
 --     sorted_in      the sorted list of pairs that the masks have
 --     leads_same      what leads where depends on which pairs there are alone
 --     holds_masks      masks that a struct may hold
---     some_bit, both_bits, bit_outside      bits of a mask, of what two masks share, and of what one mask has outside another
+--     some_bit, both_bits, and_bit      bits of a mask, and of what two masks share
 use Rattle.std.proofs.Common.{◌≡◌, ◌≢◌, ◌↔◌, ℕ, zero, suc, ◌+◌, ◌*◌, ◌/◌, ◌%◌, ◌^◌, ◌<◌, ◌≤◌, pow_pos, pow_mono, replicate, Bool, true, ◌⊎◌, inl, inr, List, [], ◌∷◌, map, length, get_or, refl, sym, ap, ap₂, ◌∙◌, subst, arith, nat_eq, eqb, eqb-true, eq-eqb, ◌++◌, bit_and, w16}
 use Rattle.std.specs.Int.{bit_at}
 use Rattle.std.specs.List.{flat_map, filter, list_all}

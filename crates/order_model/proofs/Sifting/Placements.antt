@@ -1,6 +1,6 @@
 -- Sifting keeps an order of all variables, keeps the pairs, and never makes the size larger.
 --     smallest_lem      the smallest of some orders is one of them, and none of them is smaller
---     placement_order, own_placement      a placement is an order, and the order is one of its own placements
+--     placement_order, own_place      a placement is an order, and the order is one of its own placements
 --     best_lem, sifted_lem      one variable, and all of them
 use Rattle.std.proofs.Common.{◌≡◌, ℕ, ◌+◌, ◌<◌, ◌≤◌, Bool, true, false, not, cond, ◌||◌, ◌⊎◌, inl, inr, List, [], ◌∷◌, ◌++◌, map, length, take, drop, refl, sym, ap, ◌∙◌, subst, arith, nat_eq, eqb-true, eq-eqb, ne_eqb, ltb, one-add}
 use Rattle.std.specs.List.{filter, fold, insert, range_with_len, IsDistinct}

@@ -1,7 +1,7 @@
 -- What a cell says, within the bound and beyond it, and how it follows from the cells of smaller sets.
 --     open_cell, closed_cell      a cell within the bound, and a clipped one
 --     next_within      below the best top the set is within the bound, too
---     cell_from_smaller      the cell from the costs without one member and the widths
+--     cell_from_is      the cell from the costs without one member and the widths
 use Rattle.std.proofs.Common.{◌≡◌, ◌≢◌, ℕ, zero, suc, ◌+◌, ◌-◌, ◌^◌, ◌<◌, ◌≤◌, Bool, true, false, not, cond, ◌&&◌, inl, inr, List, [], ◌∷◌, map, length, refl, sym, ap, ◌∙◌, subst, arith, nat_eq, eqb, eqb-true, eq-eqb, ne_eqb, leb, leb-true, le-leb}
 use Rattle.std.specs.Int.{bit_at}
 use Rattle.std.specs.List.{filter, range_with_len}
