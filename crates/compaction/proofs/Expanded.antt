@@ -2,7 +2,7 @@
 --     whole_are, whole_values      strips that are all kept, in order
 --     length_numbers, few_numbers      how many numbers there are
 --     place_parts      a place parts into a strip and a place in it
---     low_none, low_more, low_eight      the numbers of a word's lowest bits: none, a byte more, a byte
+--     low_none, low_more      the numbers of a word's lowest bits: none, a byte more
 --     row_number, row_strip      the numbers of all bytes' values in one table, and those of one byte
 --     packed_none, packed_more, packed_at, length_packed      the numbers of words: none, a word more, one of them, how many
 use Rattle.std.proofs.Common.{◌≡◌, ◌==◌, ◌++◌, ◌∷◌, [], ℕ, zero, suc, refl, ◌+◌, ◌*◌, ◌-◌, ◌/◌, ◌%◌, ◌^◌, ◌<◌, ◌≤◌, Bool, true, false, cond, List, length, map, get_or, sym, ap, ◌∙◌, arith, pow_mono, pow-add, mul_assoc}

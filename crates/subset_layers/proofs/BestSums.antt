@@ -11,9 +11,6 @@ module _ (S : ℕ → Type 0) (bound : ℕ) (costs widths : ℕ → ℕ) where
   IsBestBelow k None = (y : ℕ) → y < k → S y → bound < costs y
   IsBestBelow k (Some s) = IsBest (λ y. (y < k) × S y) bound costs widths s.sum s.variable
 
-  pub best_start : IsBestBelow 0 None
-  best_start = λ y lt h. absurd (omega arith)
-
   -- a variable that is no member, or whose cost is beyond the bound
   pub best_skipped : (k : ℕ) (o : Option Sum) → IsBestBelow k o → (S k → bound < costs k) → IsBestBelow (k + 1) o
   best_skipped k None h far = λ y lt m. elim (cases_lt y k) [

@@ -1,6 +1,6 @@
 -- The masks of a layer and of a block.
 --     has_masks, has_low_bytes      which masks a layer has, and which low bytes
---     get_has, index_of      a member and its place
+--     has_slice_get, slice_get_at, position_none      a member and its place
 --     block_masks_are      the masks of a block, by what stands above the low byte
 use Rattle.std.proofs.Common.{◌≡◌, ◌≢◌, ℕ, zero, suc, ◌+◌, ◌-◌, ◌*◌, ◌/◌, ◌%◌, ◌^◌, ◌<◌, ◌≤◌, Bool, true, false, cond, ◌⊎◌, inl, inr, List, [], ◌∷◌, ◌++◌, map, length, get_or, refl, sym, ap, ap₂, ◌∙◌, arith, nat_eq, eqb-true, eq-eqb, ne_eqb, zero-add, pow_mono, take, set, slice_get, Option, Some, None, IfSome, IsNone, IsFalse, ◌↔◌, rules}
 use Rattle.std.specs.List.{filter, list_any, range_with_len}
@@ -88,9 +88,6 @@ range_split zero l a = ap₂ range_with_len (let s : a ≡ a + 0 = omega arith i
 range_split (suc k) l a =
     ap (range_with_len a) (let s : suc k + l ≡ suc (k + l) = omega arith in s)
     ∙ ap (λ zs. a ∷ zs) (range_split k l (a + 1) ∙ ap (λ u. range_with_len (a + 1) k ++ range_with_len u l) (let s : a + 1 + k ≡ a + suc k = omega arith in s))
-
-with_low_byte : ℕ → ℕ → ℕ
-with_low_byte low high = high * 256 + low
 
 -- the numbers with a low byte, below a multiple of 256
 low_multiples : (low high : ℕ) → low < 256 →

@@ -1,6 +1,6 @@
 -- The cell of a set, from the best sum of cost and width.
 --     first_member      the smallest member of a mask
---     outside_count      how many essential variables are not in a set
+--     some_member      a set of some layer but the first has a member
 --     cell_found, cell_clipped      the cell where the best sum leaves room, and where none does
 use Rattle.std.proofs.Common.{◌≡◌, ℕ, ◌+◌, ◌-◌, ◌^◌, ◌<◌, ◌≤◌, true, ◌||◌, inl, inr, IsTrue, List, [], ◌∷◌, length, slice_index, unwrap_or, refl, sym, ap, ◌∙◌, arith, eqb, eqb-true, eq-eqb, w16}
 use Rattle.std.specs.Int.{bit_at, trailing_zeros}

@@ -1,6 +1,7 @@
 -- Numbers chosen by flags, with the table of their places.
 --     filter_range_same, filter_range_more      a filter of a range: where two tests agree, and one number more
---     IsChoosing flags i numbers places      the tables after the first i flags; choosing_none, choosing_more
+--     IsChoosing flags i numbers places      the tables after the first i flags
+--     choosing_all      after all of them; choosing_no, choosing_yes      one flag more
 use Rattle.std.proofs.Common.{◌≡◌, ℕ, zero, suc, ◌+◌, ◌<◌, ◌≤◌, Bool, true, false, cond, inl, inr, List, [], ◌∷◌, ◌++◌, map, length, get_or, refl, sym, ap, ap₂, ◌∙◌, arith, length-append}
 use Rattle.std.specs.List.{filter, range_with_len}
 use Rattle.std.proofs.lemmas.Bool.{cases_lt}
@@ -38,14 +39,6 @@ pub record IsChoosing (flags : List Bool) (i : ℕ) (numbers places : List ℕ) 
   pub long : length places ≡ i
   pub short : length numbers ≤ i
   pub placed : ArePlaced numbers places
-
-pub choosing_none : (flags : List Bool) → IsChoosing flags 0 [] []
-choosing_none flags = record {
-  numbers_are = refl;
-  long = refl;
-  short = omega arith;
-  placed = record { within = λ i h. absurd (omega arith); placed = λ i h. absurd (omega arith) };
-}
 
 pub choosing_all : (flags : List Bool) (numbers places : List ℕ) → IsChoosing flags (length flags) numbers places → numbers ≡ chosen flags
 unfolding chosen

@@ -3,7 +3,7 @@
 --     cell_there, cell_absent, cell_of_start      where there is a cell
 --     costs_from_cells      the costs of the definition's cells are the definition's
 --     less_one      a set of the next layer without one member is in the layer
-use Rattle.std.proofs.Common.{◌≡◌, ◌≢◌, ℕ, suc, ◌+◌, ◌-◌, ◌/◌, ◌%◌, ◌*◌, ◌^◌, ◌<◌, ◌≤◌, Bool, true, false, not, cond, ◌||◌, inl, inr, Option, Some, None, List, [], ◌∷◌, length, get_or, slice_get, IsSome, IfSome, IsTrue, is_some, ◌↔◌, refl, sym, ap, ◌∙◌, subst, arith, nat_eq, eqb-true, eq-eqb, ne_eqb, one-add, eqb, bit_and}
+use Rattle.std.proofs.Common.{◌≡◌, ◌≢◌, ℕ, suc, ◌+◌, ◌-◌, ◌/◌, ◌%◌, ◌*◌, ◌^◌, ◌<◌, ◌≤◌, Bool, true, false, not, cond, ◌||◌, inl, inr, Option, Some, None, List, [], ◌∷◌, length, get_or, slice_get, IsSome, IsTrue, is_some, ◌↔◌, refl, sym, ap, ◌∙◌, subst, arith, nat_eq, eqb-true, eq-eqb, ne_eqb, one-add, eqb, bit_and}
 use Rattle.std.specs.Option.{option_map_or}
 use Rattle.std.specs.List.{IsDistinct, range_with_len}
 use Rattle.std.proofs.lemmas.Bool.{false≢true, true≢false, cases_Bool, cases_eq, and_parts, and_from, cases_lt}
@@ -174,22 +174,8 @@ cell_some c h mask = (there, back)
         ap is_some (slice_get-get_or c.cells (place_in (masks_of (layer_of_costs c)) mask) (record { cost = 0; variable = 0 })
         (cell_there c h mask lt m))
 
-pub cost_some : (c : CostsOf) (mask : ℕ) → IsSome (cost_at c mask) ↔ IsTrue (has (masks_of (layer_of_costs c)) mask)
-unfolding cost_at
-cost_some c mask = by (has (masks_of (layer_of_costs c)) mask)
-  where
-    by : (b : Bool) → IsSome (cond b (Some (option_map_or (λ (cell : Cell). cell.cost) (cell_at c mask) 0)) None) ↔ (b ≡ true)
-    by true = (λ h. refl, λ h. refl)
-    by false = (λ h. h, λ h. h)
-
 pub IsSome_along : {X : Type 0} {A : Type 0} (o p : Option X) → o ≡ p → (IsSome p ↔ A) → IsSome o ↔ A
 IsSome_along {X} {A} o p e h = subst (λ (q : Option X). IsSome q ↔ A) (sym e) h
-
-pub true_read : (n : ℕ) (F : List Function) (P : List Pair) (bound : ℕ) (c : CostsOf) (mask i : ℕ) (o : Option Cell) →
-    AreTrueCells n F P bound c → slice_get (masks_of (layer_of_costs c)) i ≡ Some mask → o ≡ slice_get c.cells i →
-    IfSome o (λ cell. as_pair cell ≡ cell_of n F P bound mask)
-true_read n F P bound c mask i None t m e = tt
-true_read n F P bound c mask i (Some cell) t m e = true_cell n F P bound c t mask i cell m (sym e)
 
 -- ---- bits of a mask in the code
 
