@@ -6,7 +6,7 @@ ghost use Rattle.std.specs.List.{All, IsDistinct};
 ghost use Rattle.order_model.specs.Orders.{IsOrder, has, place_in, variables as all_variables};
 ghost use Rattle.order_model.specs.OrderFaults.{Accepts, IsInRange, Refuses};
 
-use crate::variables::{Mask, VarIx};
+use crate::variables::{Mask, VarIx, contains};
 use std::alloc::{AllocError, Global};
 use std::marker::Model;
 use thiserror::Error;
@@ -55,7 +55,7 @@ fn has_repeat(variables: &[VarIx]) -> bool
 {
     let mut seen: Mask = 0;
     for x in variables {
-        if (seen >> *x) & 1 == 1 {
+        if contains(seen, *x) {
             return true;
         }
         seen |= 1 << *x;
@@ -95,6 +95,14 @@ impl Order {
             Ok(variables) => Ok(Order { variables }),
             Err(_) => Err(BadOrder::OutOfMemory),
         }
+    }
+
+    /// The order of a list that has each variable once, top first.
+    pub fn from_variables(variables: Vec<VarIx>) -> Order
+        requires { Accepts variables.items }
+        ensures { result ≡ variables.items }
+    {
+        Order { variables }
     }
 
     /// The file order of n variables: 0, 1, .., n-1.

@@ -7,8 +7,8 @@ ghost use Rattle.order_model.specs.Pairs.{AreBelow, Pair, has_pair, keeps, is_la
 ghost use Rattle.order_model.specs.KeptPairs.{pairs_in, AreWithin, IsJoined, CanBeKept, HasNoCycle};
 ghost use Rattle.order_model.specs.PairTexts.{variable_of, pair_of, listed, AreMasksOf, ParsesAs};
 
-use crate::orders::{BadOrder, Order};
-use crate::variables::{Mask, VarIx};
+use crate::orders::Order;
+use crate::variables::{Mask, VarIx, contains};
 use std::alloc::{AllocError, Global};
 use std::marker::Model;
 use thiserror::Error;
@@ -109,7 +109,7 @@ fn join_through(reached: &mut [Mask; 16], k: VarIx)
 {
     let through = reached[k as usize];
     for mask in reached.iter_mut() {
-        if (*mask >> k) & 1 == 1 {
+        if contains(*mask, k) {
             *mask |= through;
         }
     }
@@ -125,7 +125,7 @@ fn least_on_cycle(below: &[Mask; 16]) -> Option<VarIx>
         join_through(&mut reached, k);
     }
     for v in 0..16 {
-        if (reached[v as usize] >> v) & 1 == 1 {
+        if contains(reached[v as usize], v) {
             return Some(v);
         }
     }
@@ -241,7 +241,7 @@ impl Pairs {
         for a in 0..self.inputs {
             let mask = self.below[a as usize];
             for b in 0..self.inputs {
-                if (mask >> b) & 1 == 1 {
+                if contains(mask, b) {
                     pairs.push((a, b))?;
                 }
             }
@@ -269,7 +269,7 @@ impl Pairs {
         ensures { result ≡ is_lawful self.now.pairs (members self.now.inputs set) }
     {
         for (a, below) in self.below.iter().enumerate() {
-            if (set >> a) & 1 == 1 && *below & !set != 0 {
+            if contains(set, a as VarIx) && *below & !set != 0 {
                 return false;
             }
         }
@@ -286,7 +286,7 @@ impl Pairs {
             IsTrue (has (tops self.now.pairs (members self.now.inputs set)) y) → result ≤ y }
     {
         for x in 0..self.inputs {
-            if (set >> x) & 1 == 1 && self.lawful(set - (1 << x)) {
+            if contains(set, x) && self.lawful(set - (1 << x)) {
                 return x;
             }
         }
@@ -305,12 +305,8 @@ impl Pairs {
             variables[place as usize] = x;
             remaining -= 1 << x;
         }
-        match Order::try_from_slice(alloc, &variables[..n as usize]) {
-            Ok(order) => Ok(order),
-            Err(BadOrder::OutOfMemory) => Err(AllocError),
-            Err(BadOrder::NotEach) => unreachable!(),
-            Err(BadOrder::OutOfRange) => unreachable!(),
-        }
+        let variables = variables[..n as usize].to_vec(alloc)?;
+        Ok(Order::from_variables(variables))
     }
 
     /// The same pairs once more.

@@ -1,6 +1,7 @@
 //! Variables, sets of variables, and the number of workers.
 
-ghost use Rattle.std.specs.Prelude.{◌≡◌, ◌<◌, ◌≤◌, ℕ, ◌↔◌, IsSome, IfSome};
+ghost use Rattle.std.specs.Prelude.{◌≡◌, ◌<◌, ◌≤◌, ℕ, ◌↔◌, IsTrue, IsSome, IfSome};
+ghost use Rattle.std.specs.Int.{bit_at};
 
 use std::marker::Model;
 
@@ -9,6 +10,15 @@ pub type VarIx = u8;
 
 /// A set of variables: bit x stands for variable x.
 pub type Mask = u16;
+
+/// Whether a set has a variable.
+#[inline(always)]
+pub fn contains(set: Mask, x: VarIx) -> bool
+    requires { x < 16 }
+    ensures { IsTrue result ↔ (bit_at set x ≡ 1) }
+{
+    (set >> x) & 1 == 1
+}
 
 /// A number of workers: 1 to 64.
 #[derive(Clone, Copy, Debug, PartialEq, Eq)]

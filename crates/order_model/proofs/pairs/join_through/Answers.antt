@@ -1,9 +1,9 @@
-use Rattle.std.proofs.Common.{◌≡◌, ◌<◌, ◌+◌, length, sym, ◌∙◌, subst, arith, get_or}
+use Rattle.std.proofs.Common.{◌≡◌, ◌<◌, ◌+◌, length, sym, ◌∙◌, subst, arith}
 use Rattle.std.proofs.lemmas.List.{set-get_or}
-use Rattle.std.proofs.lemmas.Nat.Bits.{shr_and_one}
+use Rattle.std.proofs.lemmas.Bool.{iff_false}
 use Rattle.order_model.proofs.Precedence.Closure.{JoinedTo, joined_none, joined_set, joined_kept, joined_all}
 use Rattle.order_model.proofs.pairs.join_through.Goals as goal
-use Rattle.order_model.proofs.pairs.join_through.Goals.{then-mask-k-eq1, else-mask-k-eq1}
+use Rattle.order_model.proofs.pairs.join_through.Goals.{then-contains, else-contains}
 
 pub loop-mask-init : goal.loop-mask-init
 loop-mask-init c = joined_none c.args.reached.now c.args.k
@@ -14,12 +14,12 @@ loop-mask-preserved c =
     let k = c.args.k in
     let i = c.loop-mask.mask-index in
     let later = c.loop-mask.reached in
-    elim c.if-mask-k-eq1.branch [
-      | then-mask-k-eq1 w ↦ subst (JoinedTo below k (i + 1)) (sym w.reached-is)
+    elim c.if-contains.branch [
+      | then-contains w ↦ subst (JoinedTo below k (i + 1)) (sym w.reached-is)
           (joined_set below k i later c.loop-mask.invariant (inside (c.loop-mask.invariant.long ∙ c.told-reached))
-          (sym (shr_and_one (get_or later i 0) k) ∙ w.if-mask-k-eq1.true))
-      | else-mask-k-eq1 w ↦ subst (JoinedTo below k (i + 1)) (sym (w.reached-is ∙ set-get_or later i 0))
-          (joined_kept below k i later c.loop-mask.invariant (λ e. w.if-mask-k-eq1.false (shr_and_one (get_or later i 0) k ∙ e)))
+          (c.contains.ensures.0 w.if-contains.true))
+      | else-contains w ↦ subst (JoinedTo below k (i + 1)) (sym (w.reached-is ∙ set-get_or later i 0))
+          (joined_kept below k i later c.loop-mask.invariant (iff_false c.contains.ensures w.if-contains.false))
     ]
   where
     inside : length c.loop-mask.reached ≡ 16 → c.loop-mask.mask-index < length c.loop-mask.reached

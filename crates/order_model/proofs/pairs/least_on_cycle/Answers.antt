@@ -1,6 +1,5 @@
-use Rattle.std.proofs.Common.{◌≡◌, ◌<◌, ℕ, List, true, inl, inr, sym, ◌∙◌, subst, arith, get_or}
-use Rattle.std.proofs.lemmas.Bool.{cases_eq}
-use Rattle.std.proofs.lemmas.Nat.Bits.{shr_and_one}
+use Rattle.std.proofs.Common.{◌≡◌, ◌<◌, ℕ, List, true, inl, inr, subst, arith}
+use Rattle.std.proofs.lemmas.Bool.{cases_eq, iff_false}
 use Rattle.order_model.specs.Pairs.{has_pair}
 use Rattle.order_model.specs.KeptPairs.{pairs_in, HasBit}
 use Rattle.order_model.proofs.Precedence.Masks.{within_16, same_in, same_at, has_in}
@@ -23,17 +22,17 @@ loop-v-init c u h = absurd (omega arith)
 
 pub loop-v-preserved : goal.loop-v-preserved
 loop-v-preserved c u h bit = elim (cases_eq u c.loop-v.v) [
-  | inl e ↦ c.if-reached-v-eq1.false (shr_and_one (get_or c.loop-k.reached c.loop-v.v 0) c.loop-v.v ∙ subst (λ (v : ℕ). HasBit c.loop-k.reached v v) e bit)
+  | inl e ↦ iff_false c.contains.ensures c.if-contains.false (subst (λ (v : ℕ). HasBit c.loop-k.reached v v) e bit)
   | inr ne ↦ c.loop-v.invariant u (omega arith) bit
 ]
 
-pub returns-then-reached-v-eq1-clause-found : goal.returns-then-reached-v-eq1-clause-found
-returns-then-reached-v-eq1-clause-found c =
+pub returns-then-contains-clause-found : goal.returns-then-contains-clause-found
+returns-then-contains-clause-found c =
     let P = pairs_in 16 c.args.below.now in
     let end : c.loop-k.k ≡ 16 = omega arith in
     let all = subst (λ (k : ℕ). Reaches P k c.loop-k.reached) end c.loop-k.invariant in
     record {
-      back = all.led c.loop-v.v c.loop-v.v (sym (shr_and_one (get_or c.loop-k.reached c.loop-v.v 0) c.loop-v.v) ∙ c.if-reached-v-eq1.true);
+      back = all.led c.loop-v.v c.loop-v.v (c.contains.ensures.0 c.if-contains.true);
       least = λ u h l. c.loop-v.invariant u h (all_reached P 16 c.loop-k.reached (small c.args.below.now) all l);
     }
 

@@ -1,10 +1,10 @@
 use Rattle.std.proofs.Common.{◌≡◌, ◌+◌, ◌-◌, ◌/◌, ◌^◌, ◌≤◌, ℕ, List, take, set, replicate, refl, sym, ap, ◌∙◌, subst, arith}
 use Rattle.std.proofs.lemmas.Nat.{one_shl}
-use Rattle.order_model.specs.OrderFaults.{Accepts, Refuses}
+use Rattle.order_model.specs.OrderFaults.{Accepts}
 use Rattle.order_model.specs.Pairs.{IsFirstOrder}
 use Rattle.order_model.specs.KeptPairs.{KeptPairs, CanBeKept}
 use Rattle.order_model.proofs.Precedence.MaskLaws.{member_bit}
-use Rattle.order_model.proofs.Precedence.Greedy.{GreedyTo, pow_le_bit, top_parts, greedy_start, greedy_some, greedy_step, greedy_end, first_accepted, in_range}
+use Rattle.order_model.proofs.Precedence.Greedy.{GreedyTo, pow_le_bit, top_parts, greedy_start, greedy_some, greedy_step, greedy_end, first_accepted}
 use Rattle.order_model.proofs.Bits.Masks.{all_ones}
 use Rattle.order_model.proofs.pairs.Pairs.first_order.Goals as goal
 
@@ -77,21 +77,15 @@ module _ (fields value : KeptPairs) (is : fields ≡ value) (k : CanBeKept field
       (first_accepted value.inputs value.pairs xs (kept_of fields value is k) g.long
       (greedy_end value.inputs value.pairs xs place remaining (kept_of fields value is k) g (omega arith) (omega arith)))
 
-pub returns-in-Ok : goal.returns-in-Ok
-returns-in-Ok c =
-    subst (λ (o : List ℕ). IsFirstOrder c.args.self.now.inputs c.args.self.now.pairs o) (sym c.in-Ok.ensures.value)
-    (first _ _ c.self.view_is c.self.invariant.kept c.loop-place.variables c.loop-place.place c.loop-place.remaining c.loop-place.invariant
+pub from_variables-requires : goal.from_variables-requires
+from_variables-requires c =
+    subst Accepts (sym (c.in_ok-variables.ensures.items_if_clones_equal (λ x y e. e)))
+    (accepted _ _ c.self.view_is c.self.invariant.kept c.loop-place.variables c.loop-place.place c.loop-place.remaining c.loop-place.invariant
     c.loop-place-test.false c.loop-place.auto.place-end)
 
-pub unreachable-requires : goal.unreachable-requires
-unreachable-requires c =
-    let a = accepted _ _ c.self.view_is c.self.invariant.kept c.loop-place.variables c.loop-place.place c.loop-place.remaining
-    c.loop-place.invariant c.loop-place-test.false c.loop-place.auto.place-end in
-    (subst (Refuses (take c.self.inside.inputs c.loop-place.variables)) c.in-Err-NotEach.field-0-is c.in-Err-NotEach.ensures.refused).1 a.order
-
-pub unreachable-requires-in-Err-OutOfRange : goal.unreachable-requires-in-Err-OutOfRange
-unreachable-requires-in-Err-OutOfRange c =
-    let a = accepted _ _ c.self.view_is c.self.invariant.kept c.loop-place.variables c.loop-place.place c.loop-place.remaining
-    c.loop-place.invariant c.loop-place-test.false c.loop-place.auto.place-end in
-    subst (Refuses (take c.self.inside.inputs c.loop-place.variables)) c.in-Err-OutOfRange.field-0-is c.in-Err-OutOfRange.ensures.refused
-    (in_range (take c.self.inside.inputs c.loop-place.variables) a)
+pub returns : goal.returns
+returns c =
+    subst (IsFirstOrder c.args.self.now.inputs c.args.self.now.pairs)
+    (sym (c.from_variables.ensures ∙ c.in_ok-variables.ensures.items_if_clones_equal (λ x y e. e)))
+    (first _ _ c.self.view_is c.self.invariant.kept c.loop-place.variables c.loop-place.place c.loop-place.remaining c.loop-place.invariant
+    c.loop-place-test.false c.loop-place.auto.place-end)

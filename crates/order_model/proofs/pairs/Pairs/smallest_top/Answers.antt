@@ -1,14 +1,13 @@
 use Rattle.std.proofs.Common.{◌≡◌, ◌-◌, ◌*◌, ◌%◌, ◌^◌, ◌<◌, ◌≤◌, ℕ, inl, inr, sym, ap, ◌∙◌, subst, arith, IsTrue}
-use Rattle.std.proofs.lemmas.Bool.{cases_eq, cases_lt, true≢false}
+use Rattle.std.proofs.lemmas.Bool.{cases_eq, cases_lt, iff_false, true≢false}
 use Rattle.std.proofs.lemmas.Nat.{one_shl}
-use Rattle.std.proofs.lemmas.Nat.Bits.{shr_and_one}
 use Rattle.order_model.specs.Orders.{has, members}
 use Rattle.order_model.specs.Pairs.{is_lawful, tops}
 use Rattle.order_model.specs.KeptPairs.{KeptPairs, CanBeKept}
 use Rattle.order_model.proofs.Precedence.MaskLaws.{member_bit}
 use Rattle.order_model.proofs.Precedence.Greedy.{pow_le_bit, top_from, top_parts, some_top_below}
 use Rattle.order_model.proofs.pairs.Pairs.smallest_top.Goals as goal
-use Rattle.order_model.proofs.pairs.Pairs.smallest_top.Goals.{else-set-x-eq1-via-then-set-x-eq1+else-lawful, else-set-x-eq1-via-else-set-x-eq1}
+use Rattle.order_model.proofs.pairs.Pairs.smallest_top.Goals.{else-contains-via-then-contains+else-lawful, else-contains-via-else-contains}
 
 shifted : (x n : ℕ) → x < n → n ≤ 16 → (1 * 2 ^ x) % 2 ^ 16 ≡ 2 ^ x
 shifted x n h k = one_shl x 16 (omega arith)
@@ -16,7 +15,7 @@ shifted x n h k = one_shl x 16 (omega arith)
 pub overflow_sub-set : goal.overflow_sub-set
 overflow_sub-set c =
     let low = shifted c.loop-x.x c.self.inside.inputs c.loop-x-test.true c.self.invariant.kept.few in
-    let le = pow_le_bit c.args.set c.loop-x.x (sym (shr_and_one c.args.set c.loop-x.x) ∙ c.if-set-x-eq1.true) in
+    let le = pow_le_bit c.args.set c.loop-x.x (c.contains.ensures.0 c.if-contains.true) in
     omega (arith, low)
 
 pub loop-x-init : goal.loop-x-init
@@ -29,11 +28,11 @@ loop-x-preserved c y h top = elim (cases_eq y c.loop-x.x) [
       let P = c.args.self.now.pairs in
       let parts = top_parts n P c.args.set c.loop-x.x (subst (λ (v : ℕ). IsTrue (has (tops P (members n c.args.set)) v)) e top) in
       let bit = member_bit n c.args.set c.loop-x.x parts.0 in
-      elim c.else-set-x-eq1.branch [
-        | else-set-x-eq1-via-then-set-x-eq1+else-lawful w ↦
+      elim c.else-contains.branch [
+        | else-contains-via-then-contains+else-lawful w ↦
             let low = shifted c.loop-x.x c.self.inside.inputs c.loop-x-test.true c.self.invariant.kept.few in
             true≢false (sym parts.1 ∙ ap (λ (v : ℕ). is_lawful P (members n (c.args.set - v))) (sym low) ∙ sym w.lawful.ensures ∙ w.if-lawful.false)
-        | else-set-x-eq1-via-else-set-x-eq1 w ↦ w.if-set-x-eq1.false (shr_and_one c.args.set c.loop-x.x ∙ bit.1)
+        | else-contains-via-else-contains w ↦ iff_false c.contains.ensures w.if-contains.false bit.1
       ]
   | inr ne ↦ c.loop-x.invariant y (omega arith) top
 ]
@@ -44,7 +43,7 @@ returns-then-lawful-clause-top c =
     let P = c.args.self.now.pairs in
     let low = shifted c.loop-x.x c.self.inside.inputs c.loop-x-test.true c.self.invariant.kept.few in
     let below = subst (λ (v : KeptPairs). c.loop-x.x < v.inputs) c.self.view_is c.loop-x-test.true in
-    top_from n P c.args.set c.loop-x.x below (sym (shr_and_one c.args.set c.loop-x.x) ∙ c.if-set-x-eq1.true)
+    top_from n P c.args.set c.loop-x.x below (c.contains.ensures.0 c.if-contains.true)
     (ap (λ (v : ℕ). is_lawful P (members n (c.args.set - v))) (sym low) ∙ sym c.lawful.ensures ∙ c.if-lawful.true)
 
 pub returns-then-lawful-clause-smallest : goal.returns-then-lawful-clause-smallest

@@ -1,9 +1,9 @@
-use Rattle.std.proofs.Common.{◌≡◌, get_or, sym, ap, ◌∙◌, subst, arith}
-use Rattle.std.proofs.lemmas.Nat.Bits.{shr_and_one}
+use Rattle.std.proofs.Common.{◌≡◌, sym, ap, ◌∙◌, subst, arith}
+use Rattle.std.proofs.lemmas.Bool.{iff_false}
 use Rattle.order_model.specs.KeptPairs.{KeptPairs}
 use Rattle.order_model.proofs.Precedence.MaskLaws.{rows_to, row_to, rows_start, rows_all, row_start, row_pair, row_skip, row_end}
 use Rattle.order_model.proofs.pairs.Pairs.to_vec.Goals as goal
-use Rattle.order_model.proofs.pairs.Pairs.to_vec.Goals.{then-mask-b-eq1+in_ok-push, else-mask-b-eq1}
+use Rattle.order_model.proofs.pairs.Pairs.to_vec.Goals.{then-contains+in_ok-push, else-contains}
 
 pub loop-a-init : goal.loop-a-init
 loop-a-init c = c.new-pairs.ensures.items ∙ sym (rows_start c.self.inside.inputs c.self.inside.below)
@@ -15,14 +15,13 @@ pub loop-b-preserved : goal.loop-b-preserved
 loop-b-preserved c =
     let n = c.self.inside.inputs in
     let below = c.self.inside.below in
-    let mask = get_or below c.loop-a.a 0 in
-    elim c.if-mask-b-eq1.branch [
-      | then-mask-b-eq1+in_ok-push w ↦
+    elim c.if-contains.branch [
+      | then-contains+in_ok-push w ↦
           let pushed = w.in_ok-push.ensures.items in
-          let step = row_pair n below c.loop-a.a c.loop-b.b (sym (shr_and_one mask c.loop-b.b) ∙ w.if-mask-b-eq1.true) in
+          let step = row_pair n below c.loop-a.a c.loop-b.b (c.contains.ensures.0 w.if-contains.true) in
           cc
-      | else-mask-b-eq1 w ↦
-          let step = row_skip n below c.loop-a.a c.loop-b.b (λ e. w.if-mask-b-eq1.false (shr_and_one mask c.loop-b.b ∙ e)) in
+      | else-contains w ↦
+          let step = row_skip n below c.loop-a.a c.loop-b.b (iff_false c.contains.ensures w.if-contains.false) in
           cc
     ]
 
