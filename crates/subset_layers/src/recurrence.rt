@@ -11,7 +11,7 @@ ghost use Rattle.subset_layers.specs.Costs.{cost_without, as_pair, AreTrueCosts,
 ghost use Rattle.subset_layers.specs.Sums.{IsBest};
 
 use crate::costs::{Cell, Costs};
-use order_model::{Mask, Pairs, VarIx};
+use order_model::{Mask, Pairs, VarIx, contains};
 
 /// A sum of cost and width, and the variable that gives it.
 #[derive(Clone, Copy)]
@@ -44,7 +44,7 @@ fn best_sum(mask: Mask, costs: &Costs, widths: &[u32; 16], bound: u32) -> Option
 {
     let mut best: Option<Sum> = None;
     for x in 0..costs.inputs() {
-        if (mask >> x) & 1 == 1 {
+        if contains(mask, x) {
             let cost = costs.cost_of(mask - (1 << x)).unwrap();
             if cost <= bound {
                 let sum = cost as u64 + widths[x as usize] as u64;

@@ -1,5 +1,6 @@
 use Rattle.std.proofs.Common.{◌≡◌, ℕ, ◌+◌, ◌-◌, ◌<◌, ◌≤◌, Option, Some, None, IfSome, IsNone, IsTrue, unwrap_or, slice_index, refl, sym, ap, ◌∙◌, subst, arith}
-use Rattle.std.proofs.lemmas.Bool.{true≢false}
+use Rattle.std.proofs.lemmas.Bool.{iff_false, true≢false}
+use Rattle.std.proofs.lemmas.Nat.Bits.{shr_and_one}
 use Rattle.order_model.proofs.Bits.Masks.{members_small}
 use Rattle.subset_layers.specs.declared.recurrence.Sum.{Sum}
 use Rattle.order_model.specs.Orders.{has, members}
@@ -9,19 +10,19 @@ use Rattle.subset_layers.specs.Sums.{IsBest}
 use Rattle.subset_layers.proofs.CostLists.{member_from_bit, bit_from_member, power_le_mask, shifted_bit, less_one}
 use Rattle.subset_layers.proofs.BestSums.{IsBestBelow, best_skipped, best_taken, best_all}
 use Rattle.subset_layers.proofs.recurrence.best_sum.Goals as goal
-use Rattle.subset_layers.proofs.recurrence.best_sum.Goals.{then-mask-x-eq1+then-cost-bound, then-mask-x-eq1+else-cost-bound, else-mask-x-eq1}
+use Rattle.subset_layers.proofs.recurrence.best_sum.Goals.{then-contains+then-cost-bound, then-contains+else-cost-bound, else-contains}
 
 pub overflow_sub-mask : goal.overflow_sub-mask
 overflow_sub-mask c =
-    let e = shifted_bit c.args.mask c.loop-x.x (omega arith) c.if-mask-x-eq1.true in
-    let p = power_le_mask c.args.mask c.loop-x.x c.if-mask-x-eq1.true in
+    let e = shifted_bit c.args.mask c.loop-x.x (omega arith) (shr_and_one c.args.mask c.loop-x.x ∙ c.contains.ensures.0 c.if-contains.true) in
+    let p = power_le_mask c.args.mask c.loop-x.x (shr_and_one c.args.mask c.loop-x.x ∙ c.contains.ensures.0 c.if-contains.true) in
     omega arith
 
 pub unwrap-cost-requires : goal.unwrap-cost-requires
 unwrap-cost-requires c =
-    let e = shifted_bit c.args.mask c.loop-x.x (omega arith) c.if-mask-x-eq1.true in
+    let e = shifted_bit c.args.mask c.loop-x.x (omega arith) (shr_and_one c.args.mask c.loop-x.x ∙ c.contains.ensures.0 c.if-contains.true) in
     let n = c.args.costs.now.inputs in
-    let member = member_from_bit n c.args.mask c.loop-x.x (omega arith) c.if-mask-x-eq1.true in
+    let member = member_from_bit n c.args.mask c.loop-x.x (omega arith) (shr_and_one c.args.mask c.loop-x.x ∙ c.contains.ensures.0 c.if-contains.true) in
     c.cost_of.ensures.some.1
     (ap (λ k. has (masks_of (layer_with n c.args.costs.now.size)) (c.args.mask - k)) e
     ∙ less_one n c.args.costs.now.size c.args.mask c.loop-x.x c.requires member)
@@ -32,27 +33,27 @@ loop-x-preserved c =
     let S : ℕ → Type 0 = λ x. IsTrue (has (members n c.args.mask) x) in
     let costs : ℕ → ℕ = cost_without c.args.costs.now c.args.mask in
     let widths : ℕ → ℕ = slice_index c.args.widths.now in
-    elim c.if-mask-x-eq1.branch [
-      | then-mask-x-eq1+then-cost-bound w ↦
-          let e = shifted_bit c.args.mask c.loop-x.x (omega arith) w.if-mask-x-eq1.true in
+    elim c.if-contains.branch [
+      | then-contains+then-cost-bound w ↦
+          let e = shifted_bit c.args.mask c.loop-x.x (omega arith) (shr_and_one c.args.mask c.loop-x.x ∙ c.contains.ensures.0 w.if-contains.true) in
           let is : costs c.loop-x.x ≡ w.unwrap-cost.result = ap (λ k. unwrap_or (cost_at c.args.costs.now (c.args.mask - k)) 0) (sym e)
           ∙ ap (λ o. unwrap_or o 0) (sym w.cost_of.ensures.value ∙ w.unwrap-cost.ensures) in
           let within : costs c.loop-x.x ≤ c.args.bound = (let t = w.if-cost-bound.true in omega arith) in
           subst (λ o. IsBestBelow S c.args.bound costs widths (c.loop-x.x + 1) o) (sym w.best-is)
           (best_taken S c.args.bound costs widths c.loop-x.x (w.unwrap-cost.result + slice_index c.args.widths.now c.loop-x.x) c.loop-x.best
           _ w.smaller.result c.loop-x.invariant
-          (member_from_bit n c.args.mask c.loop-x.x (omega arith) w.if-mask-x-eq1.true) within (omega arith) refl w.smaller.ensures.none w.smaller.ensures.some)
-      | then-mask-x-eq1+else-cost-bound w ↦
-          let e = shifted_bit c.args.mask c.loop-x.x (omega arith) w.if-mask-x-eq1.true in
+          (member_from_bit n c.args.mask c.loop-x.x (omega arith) (shr_and_one c.args.mask c.loop-x.x ∙ c.contains.ensures.0 w.if-contains.true)) within (omega arith) refl w.smaller.ensures.none w.smaller.ensures.some)
+      | then-contains+else-cost-bound w ↦
+          let e = shifted_bit c.args.mask c.loop-x.x (omega arith) (shr_and_one c.args.mask c.loop-x.x ∙ c.contains.ensures.0 w.if-contains.true) in
           let is : costs c.loop-x.x ≡ w.unwrap-cost.result = ap (λ k. unwrap_or (cost_at c.args.costs.now (c.args.mask - k)) 0) (sym e)
           ∙ ap (λ o. unwrap_or o 0) (sym w.cost_of.ensures.value ∙ w.unwrap-cost.ensures) in
           let over : c.args.bound < costs c.loop-x.x = (let t = w.if-cost-bound.false in omega arith) in
           subst (λ o. IsBestBelow S c.args.bound costs widths (c.loop-x.x + 1) o) (sym w.best-is)
           (best_skipped S c.args.bound costs widths c.loop-x.x c.loop-x.best c.loop-x.invariant (λ m. over))
-      | else-mask-x-eq1 w ↦
+      | else-contains w ↦
           subst (λ o. IsBestBelow S c.args.bound costs widths (c.loop-x.x + 1) o) (sym w.best-is)
           (best_skipped S c.args.bound costs widths c.loop-x.x c.loop-x.best c.loop-x.invariant
-          (λ m. absurd (w.if-mask-x-eq1.false (bit_from_member n c.args.mask c.loop-x.x m))))
+          (λ m. absurd (iff_false c.contains.ensures w.if-contains.false (sym (shr_and_one c.args.mask c.loop-x.x) ∙ bit_from_member n c.args.mask c.loop-x.x m))))
     ]
 
 -- the sum over all members
