@@ -1,5 +1,6 @@
 pub mod RowSteps
 pub mod Filled
+pub mod Joined
 pub mod OwnMembers
 pub mod Decided
 pub mod Keyed

@@ -4,9 +4,10 @@
 --     wanted_count needed      how many widths are wanted
 --     most_compactions      how many tables a block's widths take at most
 --     WidthsOf      the rows of a block, and how many compactions they took
+--     AreOfByte inputs low masks      sets with one low byte
 --     AreUnwanted masks needed set decided      nothing is wanted of the sets that agree with `set` in the decided variables
 --     IsFilled p masks needed set old new      the row of one set is filled
-use Rattle.std.specs.Prelude.{◌≡◌, ◌≢◌, ℕ, ◌<◌, ◌==◌, IsTrue, List, [], if◌then◌else◌, sum_by, length, slice_index, get_or, count_ones, bit_and}
+use Rattle.std.specs.Prelude.{◌≡◌, ◌≢◌, ℕ, ◌%◌, ◌^◌, ◌<◌, ◌==◌, IsTrue, List, [], if◌then◌else◌, sum_by, length, slice_index, get_or, count_ones, bit_and}
 use Rattle.std.specs.Int.{bit_at}
 use Rattle.order_model.specs.Orders.{has, members, without}
 use Rattle.order_model.specs.Problems.{TruthTables, functions}
@@ -39,6 +40,10 @@ most_compactions = 2367
 pub record WidthsOf : Type 0 where
   pub rows : List (List ℕ)
   pub compactions : ℕ
+
+-- sets of n variables with one low byte
+abbrev pub AreOfByte : ℕ → ℕ → List ℕ → Type 0
+AreOfByte inputs low masks = (i : ℕ) → i < length masks → (slice_index masks i < 2 ^ inputs) × (slice_index masks i % 256 ≡ low)
 
 -- the variables that are wanted of each set are its members
 abbrev pub AreMembers : TruthTables → List ℕ → List ℕ → Type 0

@@ -5,7 +5,7 @@ ghost use Rattle.std.specs.Int.{bit_at};
 ghost use Rattle.subset_layers.specs.Layers.{block_masks};
 ghost use Rattle.compaction.specs.Strips.{low_variables as low_of};
 ghost use Rattle.class_laws.specs.Table.{classes_of, free_below};
-ghost use Rattle.compaction.specs.Rows.{AreRows, AreMembers, AreBlank, AreFilled, IsFilled, wanted_count, most_compactions};
+ghost use Rattle.compaction.specs.Rows.{AreRows, AreOfByte, AreMembers, AreBlank, AreFilled, IsFilled, wanted_count, most_compactions};
 
 use crate::beginning::Beginning;
 use crate::bytes::ByteKeys;
@@ -43,6 +43,13 @@ impl BlockWidths {
         self.rows[i]
     }
 
+    /// The rows alone.
+    pub(crate) fn into_rows(self) -> Vec<[u32; 16]>
+        ensures { result.items ≡ self.rows }
+    {
+        self.rows
+    }
+
     /// How many class tables were compacted, those that were made beforehand included.
     pub fn compactions(&self) -> u32
         ensures { result ≡ self.now.compactions }
@@ -64,18 +71,6 @@ fn blank_rows(alloc: Global, count: usize) -> Result<Vec<[u32; 16]>, AllocError>
     Ok(rows)
 }
 
-/// How many widths are wanted.
-fn count_wanted(needed: &[Mask]) -> u64
-    requires { length needed.now ≤ 2 ^ 20 }
-    ensures { result ≡ wanted_count needed.now }
-{
-    let mut count = 0;
-    for wanted in needed {
-        count += u64::from(wanted.count_ones());
-    }
-    count
-}
-
 /// A set with one more member.
 fn with_member(set: Mask, y: VarIx) -> Mask
     requires { y < 16 }
@@ -91,18 +86,17 @@ fn fill_row(
     wanted: &Wanted<'_>,
     rows: &mut [[u32; 16]],
 ) -> Result<(), AllocError>
-    requires needed { length wanted.now.needed.now ≡ length (block_masks wanted.now.block.now) }
-    requires rows { length rows.old ≡ length (block_masks wanted.now.block.now) }
-    requires members { AreMembers table.now.problem (block_masks wanted.now.block.now)
+    requires needed { length wanted.now.needed.now ≡ length wanted.now.masks.now }
+    requires rows { length rows.old ≡ length wanted.now.masks.now }
+    requires members { AreMembers table.now.problem wanted.now.masks.now
         wanted.now.needed.now }
     ensures { OnOk result
-        (IsFilled table.now.problem (block_masks wanted.now.block.now) wanted.now.needed.now
+        (IsFilled table.now.problem wanted.now.masks.now wanted.now.needed.now
         table.now.set rows.old rows.new) }
 {
     let set = table.set();
-    let masks = wanted.block.masks();
     for (i, needed) in wanted.needed.iter().enumerate() {
-        if masks[i] == set {
+        if wanted.masks[i] == set {
             rows[i] = table.width_row(alloc, *needed)?;
         }
     }
@@ -120,17 +114,18 @@ fn walk(
     rows: &mut [[u32; 16]],
 ) -> Result<u32, AllocError>
     requires few { table.now.problem.inputs ≤ 16 }
-    requires inputs { wanted.now.block.now.inputs ≡ table.now.problem.inputs }
+    requires inputs { wanted.now.inputs ≡ table.now.problem.inputs }
+    requires byte { AreOfByte wanted.now.inputs wanted.now.low wanted.now.masks.now }
     requires low { (y : ℕ) → y < low_of table.now.problem → bit_at decided y ≡ 1 }
     requires set { bit_and table.now.set decided ≡ table.now.set }
-    requires needed { length wanted.now.needed.now ≡ length (block_masks wanted.now.block.now) }
-    requires rows { length rows.old ≡ length (block_masks wanted.now.block.now) }
-    requires members { AreMembers table.now.problem (block_masks wanted.now.block.now)
+    requires needed { length wanted.now.needed.now ≡ length wanted.now.masks.now }
+    requires rows { length rows.old ≡ length wanted.now.masks.now }
+    requires members { AreMembers table.now.problem wanted.now.masks.now
         wanted.now.needed.now }
-    requires blank { AreBlank table.now.problem (block_masks wanted.now.block.now)
+    requires blank { AreBlank table.now.problem wanted.now.masks.now
         wanted.now.needed.now rows.old }
     ensures rows { OnOk result
-        (AreFilled table.now.problem (block_masks wanted.now.block.now) wanted.now.needed.now
+        (AreFilled table.now.problem wanted.now.masks.now wanted.now.needed.now
         table.now.set decided rows.old rows.new) }
     ensures compactions { IfOk result
         (λ count. count + 1 ≤ 2 ^ free_below decided table.now.problem.inputs) }
@@ -229,17 +224,18 @@ fn walk_from(
     wanted: &Wanted<'_>,
     rows: &mut [[u32; 16]],
 ) -> Result<u32, AllocError>
-    requires inputs { wanted.now.block.now.inputs ≡ beginning.now.inputs }
-    requires low { wanted.now.block.now.low < 2 ^ low_of beginning.now }
-    requires table { table.now ≡ classes_of beginning.now wanted.now.block.now.low }
-    requires needed { length wanted.now.needed.now ≡ length (block_masks wanted.now.block.now) }
-    requires rows { length rows.old ≡ length (block_masks wanted.now.block.now) }
-    requires members { AreMembers beginning.now (block_masks wanted.now.block.now)
+    requires inputs { wanted.now.inputs ≡ beginning.now.inputs }
+    requires byte { AreOfByte wanted.now.inputs wanted.now.low wanted.now.masks.now }
+    requires low { wanted.now.low < 2 ^ low_of beginning.now }
+    requires table { table.now ≡ classes_of beginning.now wanted.now.low }
+    requires needed { length wanted.now.needed.now ≡ length wanted.now.masks.now }
+    requires rows { length rows.old ≡ length wanted.now.masks.now }
+    requires members { AreMembers beginning.now wanted.now.masks.now
         wanted.now.needed.now }
-    requires blank { AreBlank beginning.now (block_masks wanted.now.block.now)
+    requires blank { AreBlank beginning.now wanted.now.masks.now
         wanted.now.needed.now rows.old }
     ensures rows { OnOk result
-        (AreRows beginning.now (block_masks wanted.now.block.now) wanted.now.needed.now rows.new) }
+        (AreRows beginning.now wanted.now.masks.now wanted.now.needed.now rows.new) }
     ensures compactions { IfOk result
         (λ count. count + 1 ≤ 2 ^ (beginning.now.inputs - low_of beginning.now)) }
 {
@@ -250,26 +246,26 @@ fn walk_from(
     Ok(count)
 }
 
-/// The rows of a block's sets. The table of the low byte is made once, and the others by a walk
+/// The rows of sets with one low byte. The table of that is made once, and the others by a walk
 /// over the high variables that shares common beginnings. If nothing is wanted no table is made.
-fn wanted_rows(
+pub(crate) fn wanted_rows(
     alloc: Global,
     beginning: &Beginning<'_>,
-    block: &Block,
-    needed: &[Mask],
+    wanted: &Wanted<'_>,
 ) -> Result<BlockWidths, AllocError>
-    requires inputs { block.now.inputs ≡ beginning.now.inputs }
-    requires needed { length needed.now ≡ length (block_masks block.now) }
-    requires members { AreMembers beginning.now (block_masks block.now) needed.now }
+    requires inputs { wanted.now.inputs ≡ beginning.now.inputs }
+    requires byte { AreOfByte wanted.now.inputs wanted.now.low wanted.now.masks.now }
+    requires low { wanted.now.low < 2 ^ low_of beginning.now }
+    requires needed { length wanted.now.needed.now ≡ length wanted.now.masks.now }
+    requires members { AreMembers beginning.now wanted.now.masks.now wanted.now.needed.now }
     ensures rows { IfOk result
-        (λ widths. AreRows beginning.now (block_masks block.now) needed.now widths.rows) }
+        (λ widths. AreRows beginning.now wanted.now.masks.now wanted.now.needed.now widths.rows) }
     ensures compactions { IfOk result (λ widths. widths.compactions ≤ most_compactions) }
 {
     let problem = beginning.problem();
     prove!(problem.inputs() <= 16);
-    let low = Mask::from(block.low());
-    let mut rows = blank_rows(alloc, block.len())?;
-    let wanted = Wanted::new(block, needed);
+    let low = Mask::from(wanted.low);
+    let mut rows = blank_rows(alloc, wanted.masks.len())?;
     if !wanted.has_any(low, low_mask(problem)) {
         return Ok(BlockWidths {
             rows,
@@ -277,10 +273,10 @@ fn wanted_rows(
         });
     }
     let walked = match beginning.table(low) {
-        Some(table) => walk_from(alloc, beginning, table, &wanted, &mut rows)?,
+        Some(table) => walk_from(alloc, beginning, table, wanted, &mut rows)?,
         None => {
             let table = low_strips(alloc, beginning, low)?;
-            walk_from(alloc, beginning, &table, &wanted, &mut rows)?
+            walk_from(alloc, beginning, &table, wanted, &mut rows)?
         }
     };
     Ok(BlockWidths {
@@ -333,8 +329,9 @@ impl<'a> Beginning<'a> {
         ensures err { OnErr result (tally.new ≡ tally.old) }
     {
         prove!(block.len() <= 256);
-        let widths = wanted_rows(alloc, self, block, needed)?;
-        tally.add(count_wanted(needed));
+        let wanted = Wanted::new(block.inputs(), block.low(), block.masks(), needed);
+        let widths = wanted_rows(alloc, self, &wanted)?;
+        tally.add_wanted(needed);
         Ok(widths)
     }
 

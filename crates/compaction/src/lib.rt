@@ -2,6 +2,7 @@
 #![tactic(auto)]
 
 mod add_variable;
+mod ahead;
 mod beginning;
 mod blocks;
 mod bytes;
@@ -13,6 +14,7 @@ mod strips;
 mod tally;
 mod wanted;
 
+pub use ahead::{Ahead, Walks};
 pub use beginning::Beginning;
 pub use blocks::{BlockWidths, all_widths, block_widths};
 pub use classes::Classes;

@@ -1,7 +1,9 @@
 //! How many widths were taken.
 
-ghost use Rattle.std.specs.Prelude.{◌≡◌, ◌+◌, ◌^◌, ◌<◌};
+ghost use Rattle.std.specs.Prelude.{◌≡◌, ◌+◌, ◌^◌, ◌<◌, ◌≤◌, length};
+ghost use Rattle.compaction.specs.Rows.{wanted_count};
 
+use order_model::Mask;
 use std::marker::Model;
 
 /// A count of widths taken.
@@ -18,6 +20,18 @@ impl Model for Tally {
     ghost view = { λ t. t.count };
 }
 
+/// How many widths are wanted.
+fn count_wanted(needed: &[Mask]) -> u64
+    requires { length needed.now ≤ 2 ^ 20 }
+    ensures { result ≡ wanted_count needed.now }
+{
+    let mut count = 0;
+    for wanted in needed {
+        count += u64::from(wanted.count_ones());
+    }
+    count
+}
+
 impl Tally {
     /// None yet.
     pub fn new() -> Tally
@@ -31,6 +45,15 @@ impl Tally {
         ensures { result ≡ self.now }
     {
         self.count
+    }
+
+    /// With those of a block's sets, of which the members in `needed` are wanted.
+    pub fn add_wanted(&mut self, needed: &[Mask])
+        requires few { length needed.now ≤ 2 ^ 20 }
+        requires room { self.old + wanted_count needed.now < 2 ^ 64 }
+        ensures { self.new ≡ self.old + wanted_count needed.now }
+    {
+        self.add(count_wanted(needed));
     }
 
     /// More of them.

@@ -1,30 +1,34 @@
-//! What is wanted of the sets of a block.
+//! What is wanted of sets with one low byte.
 
 ghost use Rattle.std.specs.Prelude.{◌≡◌, ℕ, ◌+◌, ◌^◌, ◌<◌, ◌≤◌, IsFalse, length, IfSome, IsNone};
 ghost use Rattle.std.specs.Int.{bit_at};
-ghost use Rattle.subset_layers.specs.Layers.{block_masks};
 ghost use Rattle.compaction.specs.Rows.{AreUnwanted};
 
 use order_model::{Mask, VarIx};
-use subset_layers::Block;
 
-/// The sets of a block, and of each the members whose widths its cell needs.
+/// Sets of so many variables with one low byte, and of each the members whose widths are wanted.
 #[derive(Drop)]
 pub struct Wanted<'a> {
-    pub(crate) block: &'a Block,
+    pub(crate) inputs: u8,
+    pub(crate) low: u8,
+    pub(crate) masks: &'a [Mask],
     pub(crate) needed: &'a [Mask],
     /// Something is wanted of each set.
     is_whole: bool,
 }
 
 impl<'a> Wanted<'a> {
-    /// The masks in `needed` belong to the sets at the same places of the block.
-    pub fn new(block: &'a Block, needed: &'a [Mask]) -> Wanted<'a>
-        ensures block { result.block.now ≡ block.now }
+    /// The masks in `needed` belong to the sets at the same places of `masks`.
+    pub fn new(inputs: u8, low: u8, masks: &'a [Mask], needed: &'a [Mask]) -> Wanted<'a>
+        ensures inputs { result.inputs ≡ inputs }
+        ensures low { result.low ≡ low }
+        ensures masks { result.masks.now ≡ masks.now }
         ensures needed { result.needed.now ≡ needed.now }
     {
         Wanted {
-            block,
+            inputs,
+            low,
+            masks,
             needed,
             is_whole: !needed.contains(&0),
         }
@@ -32,13 +36,12 @@ impl<'a> Wanted<'a> {
 
     /// Whether something is wanted of a set that agrees with `set` in the decided variables.
     pub fn has_any(&self, set: Mask, decided: Mask) -> bool
-        requires { length self.now.needed.now ≡ length (block_masks self.now.block.now) }
+        requires { length self.now.needed.now ≡ length self.now.masks.now }
         ensures { IsFalse result →
-            AreUnwanted (block_masks self.now.block.now) self.now.needed.now set decided }
+            AreUnwanted self.now.masks.now self.now.needed.now set decided }
     {
-        let masks = self.block.masks();
         for (i, needed) in self.needed.iter().enumerate() {
-            if *needed != 0 && masks[i] & decided == set {
+            if *needed != 0 && self.masks[i] & decided == set {
                 return true;
             }
         }
@@ -48,12 +51,11 @@ impl<'a> Wanted<'a> {
     /// How many of the wanted sets that agree with `set` in the decided variables have each
     /// variable.
     fn count_members(&self, set: Mask, decided: Mask) -> [u16; 16]
-        requires { length self.now.needed.now ≡ length (block_masks self.now.block.now) }
+        requires { length self.now.needed.now ≡ length self.now.masks.now }
     {
-        let masks = self.block.masks();
         let mut counts = [0u16; 16];
         for (i, needed) in self.needed.iter().enumerate() {
-            let mask = masks[i];
+            let mask = self.masks[i];
             if *needed != 0 && mask & decided == set {
                 for y in 0..16usize {
                     counts[y] = counts[y].wrapping_add((mask >> y) & 1);
@@ -64,17 +66,17 @@ impl<'a> Wanted<'a> {
     }
 
     /// The undecided variable that most of the wanted sets have; nothing if all are decided.
-    /// Tables halve with each variable, so what most sets share is made first. If all sets of the
-    /// block are wanted any order serves, and the last two variables aren't worth the count.
+    /// Tables halve with each variable, so what most sets share is made first. If all sets are
+    /// wanted any order serves, and the last two variables aren't worth the count.
     pub fn next_variable(&self, set: Mask, decided: Mask) -> Option<VarIx>
-        requires inputs { self.now.block.now.inputs ≤ 16 }
-        requires needed { length self.now.needed.now ≡ length (block_masks self.now.block.now) }
+        requires inputs { self.now.inputs ≤ 16 }
+        requires needed { length self.now.needed.now ≡ length self.now.masks.now }
         ensures undecided { IfSome result
-            (λ y. (y < self.now.block.now.inputs) × (bit_at decided y ≡ 0)) }
+            (λ y. (y < self.now.inputs) × (bit_at decided y ≡ 0)) }
         ensures all { IsNone result →
-            (y : ℕ) → y < self.now.block.now.inputs → bit_at decided y ≡ 1 }
+            (y : ℕ) → y < self.now.inputs → bit_at decided y ≡ 1 }
     {
-        let inputs = self.block.inputs();
+        let inputs = self.inputs;
         if self.is_whole || decided.count_ones() + 2 >= u32::from(inputs) {
             return first_undecided(inputs, decided);
         }

@@ -13,9 +13,10 @@ ghost use Rattle.order_solve.specs.Bounded.{AreAllLayers};
 use crate::alone::layers_alone;
 use crate::crew::Crew;
 use crate::layering::next_layer;
+use crate::looking::look_ahead;
 use crate::needs::needed_members;
 use crate::setting::Setting;
-use compaction::Beginning;
+use compaction::{Ahead, Beginning, Walks};
 use order_model::{Gate, Mask};
 use std::alloc::{AllocError, Global};
 use std::marker::Model;
@@ -50,10 +51,15 @@ pub(crate) fn layers_of<R: Threads + Sync, G: Gate>(
     ensures { IfOk result (λ v. AreAllLayers setting.now v.items) }
 {
     let beginning = Beginning::of(alloc, setting.problem)?;
+    let mut ahead = Ahead::up_to(alloc, 0);
     let mut layers = Vec::new(alloc);
     layers.push(Costs::start(alloc, setting.inputs())?)?;
     for _size in 0..setting.inputs() {
-        let costs = next_layer(crew, alloc, setting, &beginning, &layers)?;
+        ahead = look_ahead(alloc, setting, ahead, &layers);
+        let mut found = Ahead::up_to(alloc, 0);
+        let walks = Walks::new(&beginning, &ahead);
+        let costs = next_layer(crew, alloc, setting, walks, &layers, &mut found)?;
+        ahead.append(found)?;
         layers.push(costs)?;
     }
     Ok(layers)

@@ -1,6 +1,7 @@
 //! The layers by one thread.
 
-ghost use Rattle.std.specs.Prelude.{◌≡◌, length, IfOk};
+ghost use Rattle.std.specs.Prelude.{◌≡◌, length, IfOk, OnOk};
+ghost use Rattle.compaction.specs.Ahead.{AreAhead};
 ghost use Rattle.subset_layers.specs.Layers.{layer_of, masks_of, block_masks};
 ghost use Rattle.order_solve.specs.Benches.{AreCells, IsLayerFor};
 ghost use Rattle.order_solve.specs.Bounded.{AreAllLayers, AreDone};
@@ -8,8 +9,9 @@ ghost use Rattle.order_solve.specs.Placed.{ArePlaced, StayPlaced};
 
 use crate::bench::Bench;
 use crate::cells::cells_of_block;
+use crate::looking::look_ahead;
 use crate::setting::Setting;
-use compaction::{Beginning, Tally};
+use compaction::{Ahead, Beginning, Tally, Walks};
 use std::alloc::{AllocError, Global};
 use subset_layers::{Block, Cell, Costs, Layer};
 
@@ -29,9 +31,15 @@ fn place_cells(bench: &Bench<'_>, block: &Block, found: &[Cell], cells: &mut [Ce
     }
 }
 
-/// The cells of a layer in its order.
-pub fn cells_alone(alloc: Global, bench: &Bench<'_>) -> Result<Vec<Cell>, AllocError>
-    ensures { IfOk result (λ v. AreCells bench.now.setting (masks_of bench.now.layer) v.items) }
+/// The cells of a layer in its order. What the walks find ahead goes to `found`.
+pub fn cells_alone(
+    alloc: Global,
+    bench: &Bench<'_>,
+    found: &mut Ahead,
+) -> Result<Vec<Cell>, AllocError>
+    requires { AreAhead bench.now.setting.problem found.old }
+    ensures cells { IfOk result (λ v. AreCells bench.now.setting (masks_of bench.now.layer) v.items) }
+    ensures found { OnOk result (AreAhead bench.now.setting.problem found.new) }
 {
     prove!(bench.setting.inputs() <= 16);
     let layer = bench.layer;
@@ -43,27 +51,30 @@ pub fn cells_alone(alloc: Global, bench: &Bench<'_>) -> Result<Vec<Cell>, AllocE
     for place in 0..layer.blocks() {
         let block = layer.block(place);
         let mut tally = Tally::new();
-        let found = cells_of_block(alloc, &block, bench, &mut tally)?;
-        place_cells(bench, &block, &found, &mut cells);
+        let own = cells_of_block(alloc, &block, bench, found, &mut tally)?;
+        place_cells(bench, &block, &own, &mut cells);
     }
     Ok(cells)
 }
 
-/// The layer after those that are done.
+/// The layer after those that are done. What its walks find ahead goes to `found`.
 fn next_layer_alone(
     alloc: Global,
     setting: &Setting<'_>,
-    beginning: &Beginning<'_>,
+    walks: Walks<'_>,
     done: &[Costs],
+    found: &mut Ahead,
 ) -> Result<Costs, AllocError>
-    requires beginning { beginning.now ≡ setting.now.problem }
+    requires walks { walks ≡ setting.now.problem }
     requires done { AreDone setting.now done.now }
-    ensures { IfOk result (IsLayerFor setting.now (length done.now)) }
+    requires found { AreAhead setting.now.problem found.old }
+    ensures layer { IfOk result (IsLayerFor setting.now (length done.now)) }
+    ensures found { OnOk result (AreAhead setting.now.problem found.new) }
 {
     let layer = Layer::of(alloc, setting.inputs(), done.len() as u8)?;
     let before = &done[done.len() - 1];
-    let bench = Bench::new(setting, &layer, before).with_beginning(beginning);
-    let cells = cells_alone(alloc, &bench)?;
+    let bench = Bench::new(setting, &layer, before).with_walks(walks);
+    let cells = cells_alone(alloc, &bench, found)?;
     Ok(Costs::of(layer, cells))
 }
 
@@ -72,10 +83,15 @@ pub fn layers_alone(alloc: Global, setting: &Setting<'_>) -> Result<Vec<Costs>, 
     ensures { IfOk result (λ v. AreAllLayers setting.now v.items) }
 {
     let beginning = Beginning::of(alloc, setting.problem)?;
+    let mut ahead = Ahead::up_to(alloc, 0);
     let mut layers = Vec::new(alloc);
     layers.push(Costs::start(alloc, setting.inputs())?)?;
     for _size in 0..setting.inputs() {
-        let costs = next_layer_alone(alloc, setting, &beginning, &layers)?;
+        ahead = look_ahead(alloc, setting, ahead, &layers);
+        let mut found = Ahead::up_to(alloc, 0);
+        let walks = Walks::new(&beginning, &ahead);
+        let costs = next_layer_alone(alloc, setting, walks, &layers, &mut found)?;
+        ahead.append(found)?;
         layers.push(costs)?;
     }
     Ok(layers)

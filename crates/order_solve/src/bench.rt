@@ -3,18 +3,18 @@
 ghost use Rattle.std.specs.Prelude.{◌≡◌};
 
 use crate::setting::Setting;
-use compaction::Beginning;
+use compaction::Walks;
 use std::marker::Model;
 use subset_layers::{Costs, Layer};
 
 /// What the workers of a layer are lent: what its cells are for, the costs of the layer before,
-/// and, if several layers are done, what the walks of all blocks begin with.
+/// and, if several layers are done, what serves the walks of all blocks.
 #[derive(Drop)]
 pub struct Bench<'a> {
     pub(crate) setting: &'a Setting<'a>,
     pub(crate) layer: &'a Layer,
     pub(crate) before: &'a Costs,
-    pub(crate) beginning: Option<&'a Beginning<'a>>,
+    pub(crate) walks: Option<Walks<'a>>,
 }
 
 impl<'a> Model for Bench<'a> {
@@ -26,7 +26,7 @@ impl<'a> Model for Bench<'a> {
     ghost view = { λ b. bench_with b.setting.now b.layer.now b.before.now };
 
     ghost invariant = { λ b. IsBench (bench_with b.setting.now b.layer.now b.before.now)
-        × IfSome b.beginning (λ g. g.now ≡ b.setting.now.problem) };
+        × IfSome b.walks (λ w. w ≡ b.setting.now.problem) };
 }
 
 impl<'a> Bench<'a> {
@@ -41,17 +41,17 @@ impl<'a> Bench<'a> {
             setting,
             layer,
             before,
-            beginning: None,
+            walks: None,
         }
     }
 
-    /// The same bench, with what the walks begin with.
-    pub(crate) fn with_beginning(self, beginning: &'a Beginning<'a>) -> Bench<'a>
-        requires { beginning.now ≡ self.setting.problem }
+    /// The same bench, with what serves the walks of several layers.
+    pub(crate) fn with_walks(self, walks: Walks<'a>) -> Bench<'a>
+        requires { walks ≡ self.setting.problem }
         ensures { result ≡ self.entry }
     {
         Bench {
-            beginning: Some(beginning),
+            walks: Some(walks),
             ..self
         }
     }

@@ -3,6 +3,7 @@
 ghost use Rattle.std.specs.Prelude.{◌≡◌, ◌≤◌, All, IfOk, length, vec_len};
 ghost use Rattle.std.specs.Thread.{IsSync};
 ghost use Rattle.subset_layers.specs.Layers.{masks_of};
+ghost use Rattle.compaction.specs.Ahead.{AreAhead};
 ghost use Rattle.order_solve.specs.Benches.{AreCells, IsLayerFor};
 ghost use Rattle.order_solve.specs.Bounded.{AreDone};
 
@@ -11,7 +12,7 @@ use crate::bench::Bench;
 use crate::crew::Crew;
 use crate::setting::Setting;
 use crate::working::{WorkerEnd, work_layer};
-use compaction::Beginning;
+use compaction::{Ahead, Walks};
 use layer_board::{Board, BoardSeat, CloseError};
 use order_model::{Gate, Problem, Workers};
 use std::alloc::{AllocError, Global};
@@ -55,6 +56,8 @@ fn do_jobs<R: Threads + Sync, G: Gate>(
     requires layer { board.now.brief.layer ≡ bench.now.layer }
     ensures count { IfOk result (λ v. vec_len v ≡ vec_len jobs) }
     ensures seats { IfOk result (λ v. All (λ r. IfOk r (λ e. e.seat.board ≡ board.now)) v.items) }
+    ensures found { IfOk result
+        (λ v. All (λ r. IfOk r (λ e. AreAhead bench.now.setting.problem e.found)) v.items) }
 {
     let gate = crew.gate;
     thread::map_vec(
@@ -64,7 +67,8 @@ fn do_jobs<R: Threads + Sync, G: Gate>(
             requires { IsSync G.row × (job.seat.board ≡ board.now)
                 × (board.now.brief.setting ≡ bench.now.setting)
                 × (board.now.brief.layer ≡ bench.now.layer) }
-            ensures { IfOk result (λ e. e.seat.board ≡ board.entry.now) }
+            ensures { IfOk result (λ e. (e.seat.board ≡ board.entry.now)
+                × AreAhead bench.entry.now.setting.problem e.found) }
         {
             let Job { worker, seat } = job;
             work_layer(alloc, board, seat, worker, bench, gate)
@@ -72,21 +76,31 @@ fn do_jobs<R: Threads + Sync, G: Gate>(
     )
 }
 
-/// A seat of the workers, if none of them ran out of memory.
-fn some_seat(
+/// A seat of the workers, if none of them ran out of memory. What they found ahead goes to `found`.
+fn gather(
     board: &Board,
+    problem: &Problem,
     ended: Vec<Result<WorkerEnd, AllocError>>,
+    found: &mut Ahead,
 ) -> Result<BoardSeat, AllocError>
     requires some { 1 ≤ vec_len ended }
     requires seats { All (λ r. IfOk r (λ e. e.seat.board ≡ board.now)) ended.items }
-    ensures { IfOk result (λ s. s.board ≡ board.now) }
+    requires ended { All (λ r. IfOk r (λ e. AreAhead problem.now e.found)) ended.items }
+    requires found { AreAhead problem.now found.old }
+    ensures seat { IfOk result (λ s. s.board ≡ board.now) }
+    ensures found { OnOk result (AreAhead problem.now found.new) }
 {
     let mut ended = ended;
-    let last = ended.pop().unwrap()?;
+    let WorkerEnd {
+        seat,
+        tally: _,
+        found: first,
+    } = ended.pop().unwrap()?;
+    found.append(first)?;
     while let Some(end) = ended.pop() {
-        end?;
+        found.append(end?.found)?;
     }
-    Ok(last.seat)
+    Ok(seat)
 }
 
 /// How many entries of truth tables are worth a thread.
@@ -104,14 +118,17 @@ fn busy_workers(problem: &Problem, layer: &Layer, workers: Workers) -> Workers
     }
 }
 
-/// The cells of a layer in its order, by workers. If some cell is missing although none of them ran
+/// The cells of a layer in its order, by workers. What they find ahead goes to `found`. If some cell is missing although none of them ran
 /// out of memory, the calling thread does the layer over alone.
 fn cells_of_layer<R: Threads + Sync, G: Gate>(
     crew: &Crew<'_, R, G>,
     alloc: Global,
     bench: &Bench<'_>,
+    found: &mut Ahead,
 ) -> Result<Vec<Cell>, AllocError>
-    ensures { IfOk result (λ v. AreCells bench.now.setting (masks_of bench.now.layer) v.items) }
+    requires { AreAhead bench.now.setting.problem found.old }
+    ensures cells { IfOk result (λ v. AreCells bench.now.setting (masks_of bench.now.layer) v.items) }
+    ensures found { OnOk result (AreAhead bench.now.setting.problem found.new) }
 {
     let setting = bench.setting;
     let (board, seats) = Board::new(
@@ -124,7 +141,7 @@ fn cells_of_layer<R: Threads + Sync, G: Gate>(
     )?;
     let jobs = numbered(alloc, &board, seats)?;
     let ended = do_jobs(crew, alloc, &board, jobs, bench)?;
-    let seat = some_seat(&board, ended)?;
+    let seat = gather(&board, setting.problem, ended, found)?;
     match board.close(alloc, seat) {
         Ok(cells) => Ok(cells),
         Err(CloseError::Missing(_)) => cells_alone(alloc, bench),
@@ -132,21 +149,24 @@ fn cells_of_layer<R: Threads + Sync, G: Gate>(
     }
 }
 
-/// The layer after those that are done.
+/// The layer after those that are done. What its walks find ahead goes to `found`.
 pub fn next_layer<R: Threads + Sync, G: Gate>(
     crew: &Crew<'_, R, G>,
     alloc: Global,
     setting: &Setting<'_>,
-    beginning: &Beginning<'_>,
+    walks: Walks<'_>,
     done: &[Costs],
+    found: &mut Ahead,
 ) -> Result<Costs, AllocError>
-    requires beginning { beginning.now ≡ setting.now.problem }
+    requires walks { walks ≡ setting.now.problem }
     requires done { AreDone setting.now done.now }
-    ensures { IfOk result (IsLayerFor setting.now (length done.now)) }
+    requires found { AreAhead setting.now.problem found.old }
+    ensures layer { IfOk result (IsLayerFor setting.now (length done.now)) }
+    ensures found { OnOk result (AreAhead setting.now.problem found.new) }
 {
     let layer = Layer::of(alloc, setting.inputs(), done.len() as u8)?;
     let before = &done[done.len() - 1];
-    let bench = Bench::new(setting, &layer, before).with_beginning(beginning);
-    let cells = cells_of_layer(crew, alloc, &bench)?;
+    let bench = Bench::new(setting, &layer, before).with_walks(walks);
+    let cells = cells_of_layer(crew, alloc, &bench, found)?;
     Ok(Costs::of(layer, cells))
 }

@@ -9,6 +9,7 @@ mod setting;
 // The solver: the layers one after another, by workers or by the calling thread.
 mod alone;
 mod layering;
+mod looking;
 mod solving;
 
 // A worker's part of a layer: what it is lent, the widths that it needs, the cells of its blocks.

@@ -3,6 +3,7 @@
 ghost use Rattle.std.specs.Prelude.{◌≡◌, ℕ, Some, IfOk, IsTrue};
 ghost use Rattle.order_model.specs.Orders.{has};
 ghost use Rattle.subset_layers.specs.Layers.{block_masks};
+ghost use Rattle.compaction.specs.Ahead.{AreAhead};
 ghost use Rattle.layer_core.specs.Settings.{cell_for};
 ghost use Rattle.layer_board.specs.Views.{has_claimed, knows_filled};
 ghost use Rattle.layer_core.specs.Pairing.{pair_of};
@@ -11,17 +12,18 @@ ghost use Rattle.order_solve.specs.Gains.{gains, gained, widths_for, IsPosted, S
 
 use crate::bench::Bench;
 use crate::cells::cells_of_block;
-use compaction::Tally;
+use compaction::{Ahead, Tally};
 use layer_board::{Board, BoardSeat};
 use order_model::{Gate, Mask};
 use std::alloc::{AllocError, Global};
 use subset_layers::{Block, Cell};
 
-/// What a worker hands back: its seat, and how many widths it took.
+/// What a worker hands back: its seat, how many widths it took, and what it found ahead.
 #[derive(Drop)]
 pub struct WorkerEnd {
     pub seat: BoardSeat,
     pub tally: Tally,
+    pub found: Ahead,
 }
 
 /// A worker at a board: what it is lent, its number, and what it calls between a claim and its
@@ -101,13 +103,15 @@ pub fn work_layer<G: Gate>(
     ensures posted { IfOk result
         (λ e. (mask : ℕ) → IsTrue (gains seat e.seat mask) → IsTrue (knows_filled e.seat mask)) }
     ensures tally { IfOk result (λ e. e.tally ≡ widths_for bench.now.setting (gained seat e.seat)) }
+    ensures found { IfOk result (λ e. AreAhead bench.now.setting.problem e.found) }
 {
     prove!(bench.setting.inputs() <= 16);
     let worker = Worker::new(board, bench, worker, gate);
     let mut tally = Tally::new();
+    let mut found = Ahead::up_to(alloc, 0);
     while let Some(claim) = board.claim(&mut seat) {
-        let cells = cells_of_block(alloc, claim.block(), bench, &mut tally)?;
+        let cells = cells_of_block(alloc, claim.block(), bench, &mut found, &mut tally)?;
         post_block(&worker, &mut seat, claim.block(), &cells);
     }
-    Ok(WorkerEnd { seat, tally })
+    Ok(WorkerEnd { seat, tally, found })
 }

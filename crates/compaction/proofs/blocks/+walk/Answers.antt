@@ -1,8 +1,5 @@
 use Rattle.std.proofs.Common.{◌≡◌, ◌<◌, ◌≤◌, ◌+◌, ◌^◌, bit_or, bit_and, slice_index, refl, sym, ap, ap₂, ◌∙◌, subst, arith}
 use Rattle.std.specs.Int.{bit_at}
-use Rattle.order_model.proofs.Lists.Orders.{has_at}
-use Rattle.subset_layers.specs.Layers.{block_masks}
-use Rattle.subset_layers.proofs.BlockLists.{in_block}
 use Rattle.compaction.specs.Strips.{low_variables}
 use Rattle.class_laws.specs.Table.{ClassesOf, free_below}
 use Rattle.compaction.specs.Rows.{AreFilled, AreBlank, AreMembers}
@@ -12,10 +9,10 @@ use Rattle.compaction.proofs.blocks.+walk.Goals as goal
 
 pub returns-in_default-clause-rows : goal.returns-in_default-clause-rows
 returns-in_default-clause-rows t c =
-    let masks = block_masks c.args.wanted.now.block.now in
+    let masks = c.args.wanted.now.masks.now in
     filled_own c.args.table.now.problem masks c.args.wanted.now.needed.now c.args.table.now.set c.args.decided c.args.rows.now c.fill_row.new.rows
-    (λ i lt. all_decided c.args.wanted.now.block.now.inputs (slice_index masks i) c.args.decided
-    (in_block c.args.wanted.now.block.now (slice_index masks i) (has_at masks i lt)).0 (c.in_default.ensures.all refl))
+    (λ i lt. all_decided c.args.wanted.now.inputs (slice_index masks i) c.args.decided
+    (c.requires.byte i lt).0 (c.in_default.ensures.all refl))
     c.in_ok-fill_row.ensures
 
 pub walk-requires : goal.walk-requires
@@ -34,10 +31,13 @@ walk-requires t c =
         (
           w,
           (
+            c.requires.byte,
+            (
             λ z lt. ap (λ k. bit_at k z) m ∙ decided_more c.args.decided y z (c.requires.low z lt),
             (
               ap (bit_and c.args.table.now.set) m ∙ within_same c.args.table.now.set c.args.decided y c.requires.set,
               (c.requires.needed, (c.requires.rows, (c.requires.members, c.requires.blank))),
+            ),
             ),
           ),
         ),
@@ -47,7 +47,7 @@ walk-requires t c =
 pub returns-then-not-has_any-2-clause-rows : goal.returns-then-not-has_any-2-clause-rows
 returns-then-not-has_any-2-clause-rows t c =
     let p = c.args.table.now.problem in
-    let masks = block_masks c.args.wanted.now.block.now in
+    let masks = c.args.wanted.now.masks.now in
     let needed = c.args.wanted.now.needed.now in
     let set = c.args.table.now.set in
     let y = c.in-Some.y in
@@ -81,7 +81,7 @@ add_high-requires-clause-new t c =
 pub walk-requires-2 : goal.walk-requires-2
 walk-requires-2 t c =
     let p = c.args.table.now.problem in
-    let masks = block_masks c.args.wanted.now.block.now in
+    let masks = c.args.wanted.now.masks.now in
     let needed = c.args.wanted.now.needed.now in
     let set = c.args.table.now.set in
     let y = c.in-Some.y in
@@ -102,6 +102,8 @@ walk-requires-2 t c =
         (
           w ∙ sym n,
           (
+            c.requires.byte,
+            (
             subst (λ (z : ClassesOf). (x : _) → x < low_variables z.problem → bit_at c.with_member-more.result x ≡ 1) (sym c.in_ok-next.ensures)
                 (λ x lt. ap (λ k. bit_at k x) m ∙ decided_more c.args.decided y x (c.requires.low x lt)),
             (
@@ -117,6 +119,7 @@ walk-requires-2 t c =
                   ),
                 ),
               ),
+            ),
             ),
           ),
         ),
@@ -146,7 +149,7 @@ overflow_add-result-2 t c =
 pub returns-clause-rows : goal.returns-clause-rows
 returns-clause-rows t c =
     let p = c.args.table.now.problem in
-    let masks = block_masks c.args.wanted.now.block.now in
+    let masks = c.args.wanted.now.masks.now in
     let needed = c.args.wanted.now.needed.now in
     let set = c.args.table.now.set in
     let y = c.in-Some.y in

@@ -1,6 +1,5 @@
-use Rattle.subset_layers.specs.Layers.{block_masks}
 use Rattle.compaction.proofs.Filled.{IsFilling}
 use Rattle.compaction.proofs.blocks.fill_row.Given as goal
 
 abbrev pub invariant-loop-i : goal.invariant-loop-i
-invariant-loop-i l = IsFilling l.table.problem (block_masks l.wanted.block.now) l.wanted.needed.now l.table.set l.i l.initial.rows l.rows
+invariant-loop-i l = IsFilling l.table.problem l.wanted.masks.now l.wanted.needed.now l.table.set l.i l.initial.rows l.rows

@@ -2,9 +2,6 @@ use Rattle.std.proofs.Common.{◌<◌, ◌≤◌, ◌+◌, ◌^◌, ◌-◌, sli
 use Rattle.std.specs.Int.{bit_at}
 use Rattle.std.proofs.lemmas.Nat.Bits.{bit_at_ones}
 use Rattle.order_model.specs.Problems.{TruthTables}
-use Rattle.order_model.proofs.Lists.Orders.{has_at}
-use Rattle.subset_layers.specs.Layers.{block_masks}
-use Rattle.subset_layers.proofs.BlockLists.{in_block}
 use Rattle.class_laws.specs.Table.{ClassesOf, free_below}
 use Rattle.compaction.specs.Rows.{AreFilled}
 use Rattle.compaction.specs.Strips.{low_variables as low_of}
@@ -22,16 +19,16 @@ pub walk-requires-clause-set : goal.walk-requires-clause-set
 walk-requires-clause-set c =
     let d = c.low_mask-decided.ensures ∙ ap (λ (p : TruthTables). 2 ^ low_of p - 1) c.problem-problem.ensures in
     let s = ap (λ (t : ClassesOf). t.set) c.requires.table in
-    ap₂ bit_and s d ∙ within_ones c.args.wanted.now.block.now.low (low_of c.args.beginning.now) c.requires.low ∙ sym s
+    ap₂ bit_and s d ∙ within_ones c.args.wanted.now.low (low_of c.args.beginning.now) c.requires.low ∙ sym s
 
 pub returns-clause-rows : goal.returns-clause-rows
 returns-clause-rows c =
-    let masks = block_masks c.args.wanted.now.block.now in
+    let masks = c.args.wanted.now.masks.now in
     let needed = c.args.wanted.now.needed.now in
     let p = c.args.beginning.now in
     let d = c.low_mask-decided.ensures ∙ ap (λ (q : TruthTables). 2 ^ low_of q - 1) c.problem-problem.ensures in
     let filled =
-    subst (λ k. AreFilled p masks needed c.args.wanted.now.block.now.low k c.args.rows.now c.walk.new.rows) d
+    subst (λ k. AreFilled p masks needed c.args.wanted.now.low k c.args.rows.now c.walk.new.rows) d
     (subst (λ (t : ClassesOf). AreFilled t.problem masks needed t.set c.low_mask-decided.result c.args.rows.now c.walk.new.rows)
     c.requires.table c.in_ok-count.ensures.rows) in
     let a = c.walk.auto.rows in
@@ -39,9 +36,9 @@ returns-clause-rows c =
     record {
       each = omega arith;
       are = λ i lt.
-          let b = in_block c.args.wanted.now.block.now (slice_index masks i) (has_at masks i lt) in
+          let b = c.requires.byte i lt in
           (filled i lt).0
-          (agree_low p.inputs c.args.wanted.now.block.now.low (slice_index masks i) (low_of p) refl
+          (agree_low p.inputs c.args.wanted.now.low (slice_index masks i) (low_of p) refl
           (subst (λ m. slice_index masks i < 2 ^ m) c.requires.inputs b.0) b.1);
     }
 

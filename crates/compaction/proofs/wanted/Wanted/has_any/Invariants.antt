@@ -1,7 +1,6 @@
 use Rattle.std.proofs.Common.{◌≡◌, ◌<◌, ℕ, slice_index, bit_and}
-use Rattle.subset_layers.specs.Layers.{block_masks}
 use Rattle.compaction.proofs.wanted.Wanted.has_any.Given as goal
 
 abbrev pub invariant-loop-i : goal.invariant-loop-i
 invariant-loop-i l =
-    (k : ℕ) → k < l.i → bit_and (slice_index (block_masks l.self.block.now) k) l.decided ≡ l.set → slice_index l.self.needed.now k ≡ 0
+    (k : ℕ) → k < l.i → bit_and (slice_index l.self.masks.now k) l.decided ≡ l.set → slice_index l.self.needed.now k ≡ 0

@@ -1,7 +1,7 @@
 use Rattle.std.proofs.Common.{count_ones, get_or, arith}
 use Rattle.std.proofs.lemmas.List.Sums.{sum_by_more}
 use lib.Count.{ones-le}
-use Rattle.compaction.proofs.blocks.count_wanted.Goals as goal
+use Rattle.compaction.proofs.tally.count_wanted.Goals as goal
 
 pub loop-wanted-preserved : goal.loop-wanted-preserved
 loop-wanted-preserved c =

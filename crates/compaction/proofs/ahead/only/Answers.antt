@@ -1,0 +1,29 @@
+use Rattle.std.proofs.Common.{ℕ, ◌+◌, eqb, cond, List, slice_index, sym, ap, ◌∙◌, subst, arith, eq-eqb, ne_eqb}
+use Rattle.std.specs.Int.{bit_at}
+use Rattle.std.proofs.lemmas.Nat.Bits.{shr_and_one}
+use Rattle.compaction.proofs.RowSteps.{IsRowBelow, row_written, row_kept}
+use Rattle.compaction.proofs.ahead.only.Goals as goal
+use Rattle.compaction.proofs.ahead.only.Goals.{then-members-x-eq1, else-members-x-eq1}
+
+-- the row's entry at x
+entry : ℕ → List ℕ → ℕ → ℕ
+entry members row x = cond (eqb (bit_at members x) 1) (slice_index row x) 0
+
+pub loop-x-preserved : goal.loop-x-preserved
+unfolding entry
+loop-x-preserved c =
+    let f = entry c.args.members c.args.row in
+    let x = c.loop-x.x in
+    elim c.if-members-x-eq1.branch [
+      | then-members-x-eq1 w ↦
+          let bit = sym (shr_and_one c.args.members x) ∙ w.if-members-x-eq1.true in
+          subst (λ (r : List ℕ). IsRowBelow f r (x + 1)) (sym w.found-is)
+          (row_written f c.loop-x.found x (slice_index c.args.row x) (omega arith)
+          (ap (λ b. cond b (slice_index c.args.row x) 0) (sym (eq-eqb (bit_at c.args.members x) 1 bit))) c.loop-x.invariant)
+      | else-members-x-eq1 w ↦
+          subst (λ (r : List ℕ). IsRowBelow f r (x + 1)) (sym w.found-is)
+          (row_kept f c.loop-x.found x
+          (ap (λ b. cond b (slice_index c.args.row x) 0)
+          (sym (ne_eqb (bit_at c.args.members x) 1 (λ e. w.if-members-x-eq1.false (shr_and_one c.args.members x ∙ e)))))
+          c.loop-x.invariant)
+    ]

@@ -1,0 +1,31 @@
+use Rattle.std.proofs.Common.{◌≡◌, ℕ, ◌++◌, List, length, sym, ap, ap₂, ◌∙◌, subst, arith}
+use Rattle.order_model.specs.Problems.{TruthTables}
+use Rattle.subset_layers.specs.Layers.{block_masks}
+use Rattle.compaction.specs.Rows.{AreOfByte, AreMembers}
+use Rattle.compaction.proofs.Joined.{of_byte_joined, block_of_byte, members_own, members_joined}
+use Rattle.compaction.proofs.beginning.Beginning.byte_rows.Goals as goal
+
+pub wanted_rows-requires-clause-byte : goal.wanted_rows-requires-clause-byte
+wanted_rows-requires-clause-byte c =
+    let b = c.args.block.now in
+    let e = c.new-wanted.ensures in
+    let masks = e.masks ∙ c.deref.ensures.value ∙ c.in_ok-masks.ensures ∙ ap (λ (ms : List ℕ). ms ++ c.args.later.now) c.masks.ensures in
+    subst (λ (ms : List ℕ). AreOfByte c.new-wanted.result.inputs c.new-wanted.result.low ms) (sym masks)
+    (subst (λ n. AreOfByte n c.new-wanted.result.low (block_masks b ++ c.args.later.now)) (sym (e.inputs ∙ c.inputs-2.ensures))
+    (subst (λ l. AreOfByte b.inputs l (block_masks b ++ c.args.later.now)) (sym (e.low ∙ c.low-low.ensures.value))
+    (of_byte_joined b.inputs b.low (block_masks b) c.args.later.now (block_of_byte b)
+    (subst (λ n. AreOfByte n b.low c.args.later.now) (sym c.requires.inputs) c.requires.later))))
+
+pub wanted_rows-requires-clause-members : goal.wanted_rows-requires-clause-members
+wanted_rows-requires-clause-members c =
+    let p = c.args.self.now in
+    let b = c.args.block.now in
+    let e = c.new-wanted.ensures in
+    let masks = e.masks ∙ c.deref.ensures.value ∙ c.in_ok-masks.ensures ∙ ap (λ (ms : List ℕ). ms ++ c.args.later.now) c.masks.ensures in
+    let v = c.inputs.ensures.value ∙ ap (λ (t : TruthTables). t.inputs) c.problem.ensures in
+    let few = c.inputs.ensures.few in
+    let needed = e.needed ∙ c.deref-2.ensures.value ∙ c.in_ok-needed.ensures in
+    subst (λ (ms : List ℕ). AreMembers p ms c.new-wanted.result.needed.now) (sym masks)
+    (subst (λ (ns : List ℕ). AreMembers p (block_masks b ++ c.args.later.now) ns) (sym needed)
+    (members_joined p (block_masks b) c.args.needed.now c.args.later.now c.args.later.now c.requires.needed c.requires.members
+    (members_own p b.low c.args.later.now (omega (arith, few, v)) c.requires.later)))
