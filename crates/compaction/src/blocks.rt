@@ -44,7 +44,7 @@ impl BlockWidths {
     }
 
     /// The rows alone.
-    pub(crate) fn into_rows(self) -> Vec<[u32; 16]>
+    pub fn into_rows(self) -> Vec<[u32; 16]>
         ensures { result.items ≡ self.rows }
     {
         self.rows

@@ -9,3 +9,4 @@ pub mod Layers
 pub mod ReadOrders
 pub mod ListedSets
 pub mod Solved
+pub mod FoundAhead

@@ -16,7 +16,7 @@ use crate::layering::next_layer;
 use crate::looking::look_ahead;
 use crate::needs::needed_members;
 use crate::setting::Setting;
-use compaction::{Ahead, Beginning, Walks};
+use compaction::{Ahead, Beginning};
 use order_model::{Gate, Mask};
 use std::alloc::{AllocError, Global};
 use std::marker::Model;
@@ -56,11 +56,9 @@ pub(crate) fn layers_of<R: Threads + Sync, G: Gate>(
     layers.push(Costs::start(alloc, setting.inputs())?)?;
     for _size in 0..setting.inputs() {
         ahead = look_ahead(alloc, setting, ahead, &layers);
-        let mut found = Ahead::up_to(alloc, 0);
-        let walks = Walks::new(&beginning, &ahead);
-        let costs = next_layer(crew, alloc, setting, walks, &layers, &mut found)?;
-        ahead.append(found)?;
-        layers.push(costs)?;
+        let next = next_layer(crew, alloc, setting, &beginning, &ahead, &layers)?;
+        ahead.append(next.found)?;
+        layers.push(next.costs)?;
     }
     Ok(layers)
 }

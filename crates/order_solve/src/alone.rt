@@ -9,6 +9,7 @@ ghost use Rattle.order_solve.specs.Placed.{ArePlaced, StayPlaced};
 
 use crate::bench::Bench;
 use crate::cells::cells_of_block;
+use crate::layering::NextLayer;
 use crate::looking::look_ahead;
 use crate::setting::Setting;
 use compaction::{Ahead, Beginning, Tally, Walks};
@@ -57,25 +58,27 @@ pub fn cells_alone(
     Ok(cells)
 }
 
-/// The layer after those that are done. What its walks find ahead goes to `found`.
+/// The layer after those that are done.
 fn next_layer_alone(
     alloc: Global,
     setting: &Setting<'_>,
-    walks: Walks<'_>,
+    beginning: &Beginning<'_>,
+    ahead: &Ahead,
     done: &[Costs],
-    found: &mut Ahead,
-) -> Result<Costs, AllocError>
-    requires walks { walks ≡ setting.now.problem }
+) -> Result<NextLayer, AllocError>
+    requires beginning { beginning.now ≡ setting.now.problem }
+    requires ahead { AreAhead setting.now.problem ahead.now }
     requires done { AreDone setting.now done.now }
-    requires found { AreAhead setting.now.problem found.old }
-    ensures layer { IfOk result (IsLayerFor setting.now (length done.now)) }
-    ensures found { OnOk result (AreAhead setting.now.problem found.new) }
+    ensures layer { IfOk result (λ n. IsLayerFor setting.now (length done.now) n.costs) }
+    ensures found { IfOk result (λ n. AreAhead setting.now.problem n.found) }
 {
     let layer = Layer::of(alloc, setting.inputs(), done.len() as u8)?;
     let before = &done[done.len() - 1];
-    let bench = Bench::new(setting, &layer, before).with_walks(walks);
-    let cells = cells_alone(alloc, &bench, found)?;
-    Ok(Costs::of(layer, cells))
+    let bench = Bench::new(setting, &layer, before).with_walks(Walks::new(beginning, ahead));
+    let mut found = Ahead::up_to(alloc, 0);
+    let cells = cells_alone(alloc, &bench, &mut found)?;
+    let costs = Costs::of(layer, cells);
+    Ok(NextLayer { costs, found })
 }
 
 /// The layers of all sets.
@@ -88,11 +91,9 @@ pub fn layers_alone(alloc: Global, setting: &Setting<'_>) -> Result<Vec<Costs>, 
     layers.push(Costs::start(alloc, setting.inputs())?)?;
     for _size in 0..setting.inputs() {
         ahead = look_ahead(alloc, setting, ahead, &layers);
-        let mut found = Ahead::up_to(alloc, 0);
-        let walks = Walks::new(&beginning, &ahead);
-        let costs = next_layer_alone(alloc, setting, walks, &layers, &mut found)?;
-        ahead.append(found)?;
-        layers.push(costs)?;
+        let next = next_layer_alone(alloc, setting, &beginning, &ahead, &layers)?;
+        ahead.append(next.found)?;
+        layers.push(next.costs)?;
     }
     Ok(layers)
 }

@@ -40,6 +40,7 @@ fn widths_of(
         return Ok(widths.into_rows());
     };
     let rows = walks.block_rows(alloc, block, needed, setting.pairs, found)?;
+    prove!(block.len() <= 256);
     tally.add_wanted(needed);
     Ok(rows)
 }
@@ -63,13 +64,15 @@ pub fn cells_of_block(
 {
     let setting = bench.setting;
     let needs = needs_of_block(alloc, block, bench)?;
-    let rows = widths_of(alloc, block, bench, &needs, found, tally)?;
+    let widths = widths_of(alloc, block, bench, &needs, found, tally)?;
+    let rows = widths.as_slice();
     let mut cells = Vec::with_capacity(alloc, block.len())?;
     for (i, mask) in block.masks().iter().enumerate() {
+        let row = rows[i];
         cells.push(least_cell(
             *mask,
             bench.before,
-            &rows[i],
+            &row,
             setting.bound,
             setting.essential,
             setting.pairs,

@@ -1,6 +1,6 @@
 //! The cells of a layer by workers.
 
-ghost use Rattle.std.specs.Prelude.{◌≡◌, ◌≤◌, All, IfOk, length, vec_len};
+ghost use Rattle.std.specs.Prelude.{◌≡◌, ◌≤◌, All, IfOk, OnOk, length, vec_len};
 ghost use Rattle.std.specs.Thread.{IsSync};
 ghost use Rattle.subset_layers.specs.Layers.{masks_of};
 ghost use Rattle.compaction.specs.Ahead.{AreAhead};
@@ -12,7 +12,7 @@ use crate::bench::Bench;
 use crate::crew::Crew;
 use crate::setting::Setting;
 use crate::working::{WorkerEnd, work_layer};
-use compaction::{Ahead, Walks};
+use compaction::{Ahead, Beginning, Walks};
 use layer_board::{Board, BoardSeat, CloseError};
 use order_model::{Gate, Problem, Workers};
 use std::alloc::{AllocError, Global};
@@ -144,29 +144,38 @@ fn cells_of_layer<R: Threads + Sync, G: Gate>(
     let seat = gather(&board, setting.problem, ended, found)?;
     match board.close(alloc, seat) {
         Ok(cells) => Ok(cells),
-        Err(CloseError::Missing(_)) => cells_alone(alloc, bench),
+        Err(CloseError::Missing(_)) => cells_alone(alloc, bench, found),
         Err(CloseError::OutOfMemory) => Err(AllocError),
     }
 }
 
-/// The layer after those that are done. What its walks find ahead goes to `found`.
+/// A layer, and what its walks found ahead.
+#[derive(Drop)]
+pub struct NextLayer {
+    pub costs: Costs,
+    pub found: Ahead,
+}
+
+/// The layer after those that are done.
 pub fn next_layer<R: Threads + Sync, G: Gate>(
     crew: &Crew<'_, R, G>,
     alloc: Global,
     setting: &Setting<'_>,
-    walks: Walks<'_>,
+    beginning: &Beginning<'_>,
+    ahead: &Ahead,
     done: &[Costs],
-    found: &mut Ahead,
-) -> Result<Costs, AllocError>
-    requires walks { walks ≡ setting.now.problem }
+) -> Result<NextLayer, AllocError>
+    requires beginning { beginning.now ≡ setting.now.problem }
+    requires ahead { AreAhead setting.now.problem ahead.now }
     requires done { AreDone setting.now done.now }
-    requires found { AreAhead setting.now.problem found.old }
-    ensures layer { IfOk result (IsLayerFor setting.now (length done.now)) }
-    ensures found { OnOk result (AreAhead setting.now.problem found.new) }
+    ensures layer { IfOk result (λ n. IsLayerFor setting.now (length done.now) n.costs) }
+    ensures found { IfOk result (λ n. AreAhead setting.now.problem n.found) }
 {
     let layer = Layer::of(alloc, setting.inputs(), done.len() as u8)?;
     let before = &done[done.len() - 1];
-    let bench = Bench::new(setting, &layer, before).with_walks(walks);
-    let cells = cells_of_layer(crew, alloc, &bench, found)?;
-    Ok(Costs::of(layer, cells))
+    let bench = Bench::new(setting, &layer, before).with_walks(Walks::new(beginning, ahead));
+    let mut found = Ahead::up_to(alloc, 0);
+    let cells = cells_of_layer(crew, alloc, &bench, &mut found)?;
+    let costs = Costs::of(layer, cells);
+    Ok(NextLayer { costs, found })
 }

@@ -47,10 +47,11 @@ loop-place-preserved c =
           (blocks_more b c.loop-place.place c.block-block.result old new
           (subst (λ (l : LayerOf). slice_get (blocks_of l) c.loop-place.place ≡ Some c.block-block.result) same c.block-block.ensures)
           c.loop-place.invariant.placed (λ q h. e.kept q (subst (λ (cells : List Cell). IsPlaced b cells q) (sym v) h)) e.placed p lt low);
+      found = c.in_ok-own.ensures.found;
     }
 
-pub returns : goal.returns
-returns c =
+pub returns-clause-cells : goal.returns-clause-cells
+returns-clause-cells c =
     let b = c.args.bench.now in
     let same = ap (λ (z : BenchOf). z.layer) c.bench.view_is in
     let many : c.blocks-place-end.result ≡ length (blocks_of b.layer) = c.blocks-place-end.ensures ∙ ap (λ (l : LayerOf). length (blocks_of l)) same in

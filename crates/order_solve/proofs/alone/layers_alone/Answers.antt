@@ -3,11 +3,22 @@ use Rattle.subset_layers.specs.Costs.{CostsOf}
 use Rattle.order_solve.specs.Benches.{IsLayerFor}
 use Rattle.order_solve.specs.Bounded.{AreLayersFor}
 use Rattle.order_solve.proofs.Layers.{layers_push}
+use Rattle.order_solve.proofs.FoundAhead.{ahead_joined}
 use Rattle.order_solve.proofs.alone.layers_alone.Goals as goal
+
+pub look_ahead-ahead-requires-clause-done : goal.look_ahead-ahead-requires-clause-done
+look_ahead-ahead-requires-clause-done c =
+    let is = c.deref.ensures.value in
+    let n = ap length is in
+    let m = c.loop-size.invariant.many in record {
+      some = omega (arith, n, m);
+      few = (let lt = c.loop-size-test.true in let v = c.inputs-size-end.ensures.value in omega (arith, n, m, lt, v));
+      layers_are = subst (λ (xs : List CostsOf). AreLayersFor c.args.setting.now xs) (sym is) c.loop-size.invariant.layers_are;
+    }
 
 pub next_layer_alone-requires-clause-done : goal.next_layer_alone-requires-clause-done
 next_layer_alone-requires-clause-done c =
-    let is = c.deref.ensures.value in
+    let is = c.deref-in-loop-size.ensures.value in
     let n = ap length is in
     let m = c.loop-size.invariant.many in record {
       some = omega (arith, n, m);
@@ -20,11 +31,12 @@ loop-size-preserved c =
     let t = c.args.setting.now in
     let items = c.loop-size.layers.items in
     let is = c.in_ok-push-2.ensures.items in
-    let costs = c.in_ok-costs.costs in
+    let costs = c.in_ok-next.next.costs in
     record {
       many = (let l = ap length is in let a = length-append items (costs ∷ []) in let m = c.loop-size.invariant.many in omega (arith, l, a, m));
       layers_are =
           λ k d at. layers_push t items costs c.loop-size.invariant.layers_are
-          (subst (λ (n : ℕ). IsLayerFor t n costs) (ap length c.deref.ensures.value) c.in_ok-costs.ensures) k d
+          (subst (λ (n : ℕ). IsLayerFor t n costs) (ap length c.deref-in-loop-size.ensures.value) c.in_ok-next.ensures.layer) k d
           (ap (λ (xs : List CostsOf). slice_get xs k) (sym is) ∙ at);
+      ahead = ahead_joined t.problem c.look_ahead-ahead.result c.in_ok-next.next.found c.append.new.self c.in_ok-append.ensures c.look_ahead-ahead.ensures c.in_ok-next.ensures.found;
     }

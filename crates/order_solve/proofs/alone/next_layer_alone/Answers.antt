@@ -22,20 +22,20 @@ new-requires c =
       costs = is.costs_are;
     }
 
-pub of-requires-2-clause-cells : goal.of-requires-2-clause-cells
-of-requires-2-clause-cells c =
+pub of-costs-requires-clause-cells : goal.of-costs-requires-clause-cells
+of-costs-requires-clause-cells c =
     sym (length-map_lem pair_of c.in_ok-cells.cells.items)
     ∙ ap length
-    (c.in_ok-cells.ensures
-    ∙ ap (λ (b : BenchOf). map (cell_for b.setting) (masks_of b.layer)) (c.with_beginning-bench.ensures ∙ c.new.ensures))
+    (c.in_ok-cells.ensures.cells
+    ∙ ap (λ (b : BenchOf). map (cell_for b.setting) (masks_of b.layer)) (c.with_walks-bench.ensures ∙ c.new.ensures))
     ∙ length-map_lem (cell_for c.args.setting.now) (masks_of c.in_ok-layer.layer)
 
-pub returns : goal.returns
-returns c =
+pub returns-clause-layer : goal.returns-clause-layer
+returns-clause-layer c =
     let t = c.args.setting.now in
     let size = length c.args.done.now in
-    layer_is t size c.in_ok-layer.layer c.in_ok-cells.cells.items c.of-2.result
-    (c.in_ok-layer.ensures ∙ ap (λ n. layer_with n size) c.inputs.ensures.value) c.of-2.ensures.value
-    (c.in_ok-cells.ensures
-    ∙ ap (λ (b : BenchOf). map (cell_for b.setting) (masks_of b.layer)) (c.with_beginning-bench.ensures ∙ c.new.ensures))
-    c.of-2.ensures.exact
+    layer_is t size c.in_ok-layer.layer c.in_ok-cells.cells.items c.of-costs.result
+    (c.in_ok-layer.ensures ∙ ap (λ n. layer_with n size) c.inputs.ensures.value) c.of-costs.ensures.value
+    (c.in_ok-cells.ensures.cells
+    ∙ ap (λ (b : BenchOf). map (cell_for b.setting) (masks_of b.layer)) (c.with_walks-bench.ensures ∙ c.new.ensures))
+    c.of-costs.ensures.exact

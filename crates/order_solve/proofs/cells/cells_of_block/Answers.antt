@@ -1,4 +1,4 @@
-use Rattle.std.proofs.Common.{◌≡◌, ℕ, ◌+◌, ◌++◌, List, [], ◌∷◌, map, get_or, slice_get, slice_index, Some, sym, ap, ap₂, ◌∙◌, subst, arith}
+use Rattle.std.proofs.Common.{◌≡◌, ℕ, ◌+◌, ◌++◌, List, [], ◌∷◌, length, map, get_or, slice_get, slice_index, Some, sym, ap, ap₂, ◌∙◌, subst, arith}
 use Rattle.std.proofs.lemmas.List.{map_more, map-append, get_or-map}
 use Rattle.std.proofs.lemmas.Option.{slice_get-get_or, slice_get_within, get_or_from_slice_get}
 use Rattle.subset_layers.specs.Layers.{LayerOf, block_masks}
@@ -60,12 +60,18 @@ loop-i-preserved c =
     let need : slice_index c.deref.result.now c.loop-i.i ≡ needed t mask =
     ap (λ xs. slice_index xs c.loop-i.i) (c.deref.ensures.value ∙ c.in_ok-needs.ensures)
     ∙ get_or-map (needed t) masks c.loop-i.i 0 0 lt ∙ ap (needed t) at in
-    let row = row_there t.problem masks c.deref.result.now c.in_ok-widths.widths.rows c.loop-i.i mask (needed t mask)
-    c.row-row.result c.in_ok-widths.ensures.rows there need c.row-row.ensures in
+    let rows = c.as_slice-rows.result.now in
+    let each = c.in_ok-widths.ensures.rows.each in
+    let found : rows ≡ c.in_ok-widths.widths.items = c.as_slice-rows.ensures.value in
+    let long = ap length found in
+    let own = get_or rows c.loop-i.i [] in
+    let row = row_there t.problem masks c.deref.result.now c.in_ok-widths.widths.items c.loop-i.i mask (needed t mask)
+    own c.in_ok-widths.ensures.rows there need
+    (subst (λ (rs : List (List ℕ)). slice_get rs c.loop-i.i ≡ Some own) found (slice_get-get_or rows c.loop-i.i [] (omega arith))) in
     let bench = subst (λ (z : Setting). IsBench (bench_with z c.bench.inside.layer.now c.bench.inside.before.now)) (sym c.setting.view_is)
     c.bench.invariant.0 in
-    let is = cell_is _ bench c.setting.inside.essential c.setting.invariant mask next c.row-row.result
-    (subst (λ (z : Setting). IsRow z.problem mask (needed z mask) c.row-row.result) (sym same) row)
+    let is = cell_is _ bench c.setting.inside.essential c.setting.invariant mask next own
+    (subst (λ (z : Setting). IsRow z.problem mask (needed z mask) own) (sym same) row)
     (pair_of c.least_cell.result) c.least_cell.ensures ∙ ap (λ (z : Setting). cell_for z mask) same in
     ap (map pair_of) c.in_ok-push.ensures.items
     ∙ map-append pair_of c.loop-i.cells.items (c.least_cell.result ∷ [])
@@ -76,4 +82,4 @@ pub returns-clause-tally : goal.returns-clause-tally
 returns-clause-tally c =
     let t = c.args.bench.now.setting in
     let masks = block_masks c.args.block.now in
-    c.in_ok-widths.ensures.ok ∙ ap (λ k. c.args.tally.now + k) (ap wanted_count (c.deref.ensures.value ∙ c.in_ok-needs.ensures) ∙ needed_sum t masks)
+    c.in_ok-widths.ensures.tally ∙ ap (λ k. c.args.tally.now + k) (ap wanted_count (c.deref.ensures.value ∙ c.in_ok-needs.ensures) ∙ needed_sum t masks)

@@ -6,13 +6,16 @@ use Rattle.order_solve.specs.Benches.{BenchOf}
 use Rattle.order_solve.specs.Gains.{widths_for, StaysClaimed, IsPosted}
 use Rattle.order_solve.proofs.Posts.{no_more_stays}
 use Rattle.order_solve.proofs.Claimed.{block_layer, few_gained}
+use Rattle.order_solve.proofs.FoundAhead.{ahead_none}
 use Rattle.order_solve.proofs.Rounds.{Working, working_none, working_stays, working_round, round_gains, claims_at, round_closes}
 use Rattle.order_solve.proofs.working.work_layer.Goals as goal
 
 pub loop-claim-init : goal.loop-claim-init
-loop-claim-init g c =
-    subst (λ (n : ℕ). Working c.args.bench.now.setting c.args.seat c.args.seat n) (sym c.new-tally.ensures)
-    (working_none c.args.bench.now.setting c.args.seat)
+loop-claim-init g c = (
+  subst (λ (n : ℕ). Working c.args.bench.now.setting c.args.seat c.args.seat n) (sym c.new-tally.ensures)
+  (working_none c.args.bench.now.setting c.args.seat),
+  ahead_none c.args.bench.now.setting.problem c.up_to-found.result c.up_to-found.ensures,
+)
 
 pub cells_of_block-requires-clause-layer : goal.cells_of_block-requires-clause-layer
 cells_of_block-requires-clause-layer g c =
@@ -26,7 +29,7 @@ cells_of_block-requires-clause-room g c =
     let s1 = c.claim.new.seat in
     let p = c.in-Some.claim.place in
     let b = c.in-Some.claim.block in
-    let w = c.loop-claim.invariant in
+    let w = c.loop-claim.invariant.0 in
     let e = c.in-Some.ensures in
     let h = claims_at c.args.board.now s s1 p b (w.board ∙ c.requires.seat) e.block e.gained e.claimed e.later in
     let gains : widths_for t _ ≡ c.loop-claim.tally + widths_for t (block_masks c.block.result.now) =
@@ -44,7 +47,7 @@ pub loop-claim-smaller : goal.loop-claim-smaller
 loop-claim-smaller g c =
     let s = c.loop-claim.seat in
     let s1 = c.claim.new.seat in
-    let w = c.loop-claim.invariant in
+    let w = c.loop-claim.invariant.0 in
     let e = c.in-Some.ensures in
     round_closes s s1 c.post_block.new.seat c.in-Some.claim.place c.in-Some.claim.block
     (claims_at c.args.board.now s s1 c.in-Some.claim.place c.in-Some.claim.block (w.board ∙ c.requires.seat) e.block e.gained e.claimed
@@ -59,14 +62,17 @@ loop-claim-preserved g c =
     let s2 = c.post_block.new.seat in
     let p = c.in-Some.claim.place in
     let b = c.in-Some.claim.block in
-    let w = c.loop-claim.invariant in
+    let w = c.loop-claim.invariant.0 in
     let e = c.in-Some.ensures in
     let h = claims_at c.args.board.now s s1 p b (w.board ∙ c.requires.seat) e.block e.gained e.claimed e.later in
     let all : (mask : ℕ) → has (block_masks b) mask ≡ _ → IsPosted s2 mask =
     λ mask m. c.post_block.ensures.posted mask (ap (λ (z : BlockOf). has (block_masks z) mask) c.block-in-Some.ensures ∙ m) in
-    subst (λ (n : ℕ). Working t c.args.seat s2 n)
-    (sym (c.in_ok-cells.ensures.tally ∙ ap (λ (z : BlockOf). c.loop-claim.tally + widths_for t (block_masks z)) c.block.ensures))
-    (working_round t c.args.seat s s1 s2 c.loop-claim.tally p b w h c.post_block.ensures.stays all)
+    (
+      subst (λ (n : ℕ). Working t c.args.seat s2 n)
+      (sym (c.in_ok-cells.ensures.tally ∙ ap (λ (z : BlockOf). c.loop-claim.tally + widths_for t (block_masks z)) c.block.ensures))
+      (working_round t c.args.seat s s1 s2 c.loop-claim.tally p b w h c.post_block.ensures.stays all),
+      c.in_ok-cells.ensures.found,
+    )
 
 pub returns-clause-tally : goal.returns-clause-tally
 returns-clause-tally g c =
@@ -74,4 +80,4 @@ returns-clause-tally g c =
     let s = c.loop-claim.seat in
     let s1 = c.claim.new.seat in
     let is = c.in_default.ensures.none refl in
-    (working_stays t c.args.seat s s1 c.loop-claim.tally (subst (λ (z : SeatOf). StaysClaimed s z) (sym is) (no_more_stays s)) c.loop-claim.invariant).tally
+    (working_stays t c.args.seat s s1 c.loop-claim.tally (subst (λ (z : SeatOf). StaysClaimed s z) (sym is) (no_more_stays s)) c.loop-claim.invariant.0).tally
