@@ -1,7 +1,7 @@
 ghost use Rattle.std.specs.Prelude.{◌≡◌};
 
-use compaction::{Beginning, Classes, Scratch, Tally, all_widths, block_widths};
-use order_model::Problem;
+use compaction::{Ahead, Beginning, Classes, Scratch, Tally, Walks, all_widths, block_widths};
+use order_model::{Pairs, Problem};
 use pair_numbering::number_pairs;
 use std::alloc::Global;
 use std::process::Abort;
@@ -201,6 +201,9 @@ fn row_of_one_set(rt: HostRuntime) -> Result<(), Fail> {
     let row = widths.row(0);
     assert_eq!(rt; row, [1, 1, 0, 0, 0, 0, 0, 0, 0, 0, 0, 0, 0, 0, 0, 0]);
     assert_eq!(rt; tally.count(), 2);
+    let beginning = Beginning::of(alloc, &problem)?;
+    let walks = (&beginning, &Ahead::up_to(alloc, 3));
+    assert_eq!(rt; rows_by_walks(alloc, walks, &block, &[needed])?.as_slice(), [row].as_slice());
     Ok(())
 }
 
