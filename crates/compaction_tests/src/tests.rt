@@ -1,9 +1,11 @@
-ghost use Rattle.std.specs.Prelude.{◌≡◌};
+ghost use Rattle.std.specs.Prelude.{◌≡◌, length};
+ghost use Rattle.subset_layers.specs.Layers.{block_masks};
+ghost use Rattle.compaction.specs.Rows.{AreMembers};
 
 use compaction::{Ahead, Beginning, Classes, Scratch, Tally, Walks, all_widths, block_widths};
-use order_model::{Pairs, Problem};
+use order_model::{Mask, Pairs, Problem};
 use pair_numbering::number_pairs;
-use std::alloc::Global;
+use std::alloc::{AllocError, Global};
 use std::process::Abort;
 use std::test::Fail;
 use subset_layers::{Block, Layer};
@@ -184,6 +186,24 @@ fn try_layer(rt: &impl Abort, alloc: Global, problem: &Problem, size: u8) -> Res
     Ok(sum)
 }
 
+/// The rows of a block by walks that look ahead to sets of three variables.
+fn rows_by_walks(
+    alloc: Global,
+    beginning: &Beginning<'_>,
+    block: &Block,
+    needed: &[Mask],
+) -> Result<Vec<[u32; 16]>, AllocError>
+    requires inputs { block.now.inputs ≡ beginning.now.inputs }
+    requires needed { length needed.now ≡ length (block_masks block.now) }
+    requires members { AreMembers beginning.now (block_masks block.now) needed.now }
+{
+    let ahead = Ahead::up_to(alloc, 3);
+    let mut found = Ahead::up_to(alloc, 0);
+    let pairs = Pairs::none(3);
+    let walks = Walks::new(beginning, &ahead);
+    walks.block_rows(alloc, block, needed, &pairs, &mut found)
+}
+
 /// The row of the multiplexer's first block of two variables, which has one set.
 #[test]
 fn row_of_one_set(rt: HostRuntime) -> Result<(), Fail> {
@@ -202,8 +222,8 @@ fn row_of_one_set(rt: HostRuntime) -> Result<(), Fail> {
     assert_eq!(rt; row, [1, 1, 0, 0, 0, 0, 0, 0, 0, 0, 0, 0, 0, 0, 0, 0]);
     assert_eq!(rt; tally.count(), 2);
     let beginning = Beginning::of(alloc, &problem)?;
-    let walks = (&beginning, &Ahead::up_to(alloc, 3));
-    assert_eq!(rt; rows_by_walks(alloc, walks, &block, &[needed])?.as_slice(), [row].as_slice());
+    let rows = rows_by_walks(alloc, &beginning, &block, &[needed])?;
+    assert_eq!(rt; rows.as_slice(), [row].as_slice());
     Ok(())
 }
 
