@@ -30,9 +30,9 @@ impl Model for ByteRows {
     ghost Value = { RowsOf };
 
     ghost view = { λ b. record {
-        masks = b.masks.items;
-        needed = b.needed.items;
-        rows = b.rows.items;
+      masks = b.masks.items;
+      needed = b.needed.items;
+      rows = b.rows.items;
     } };
 }
 
@@ -68,13 +68,7 @@ fn only(row: [u32; 16], members: Mask) -> [u32; 16]
 }
 
 /// The first place from `from` on at which a set stands with all that is needed of it.
-fn place_of(
-    masks: &[Mask],
-    wanted: &[Mask],
-    mask: Mask,
-    needed: Mask,
-    from: usize,
-) -> Option<usize>
+fn place_of(masks: &[Mask], wanted: &[Mask], mask: Mask, needed: Mask, from: usize) -> Option<usize>
     ensures inside { IfSome result (λ i. i < length masks.now) }
     ensures same { IfSome result (λ i. slice_index masks.now i ≡ mask) }
     ensures needed { IfSome result (λ i. (x : ℕ) → x < 16 → bit_at needed x ≡ 1 →
@@ -123,12 +117,7 @@ impl Ahead {
 
 /// The sets of later layers that have a block's low byte and are in orders with the pairs, by rising
 /// size, up to a size.
-fn later_sets(
-    alloc: Global,
-    block: &Block,
-    pairs: &Pairs,
-    end: u8,
-) -> Result<Vec<Mask>, AllocError>
+fn later_sets(alloc: Global, block: &Block, pairs: &Pairs, end: u8) -> Result<Vec<Mask>, AllocError>
     requires { block.now.inputs ≤ 16 }
     ensures { IfOk result (λ v. AreOfByte block.now.inputs block.now.low v.items) }
 {
@@ -150,11 +139,7 @@ fn later_sets(
 }
 
 /// The first rows, so many.
-fn first_rows(
-    alloc: Global,
-    rows: &[[u32; 16]],
-    count: usize,
-) -> Result<Vec<[u32; 16]>, AllocError>
+fn first_rows(alloc: Global, rows: &[[u32; 16]], count: usize) -> Result<Vec<[u32; 16]>, AllocError>
     requires { count ≤ length rows.now }
     ensures { IfOk result (λ v. v.items ≡ take count rows.now) }
 {

@@ -4,7 +4,9 @@ ghost use Rattle.std.specs.Prelude.{◌≤◌};
 
 use counted_io::{Counting, Refused, read_all, write_whole};
 use order_model::packed::{bit_of, block, depends_on, lower_half, words_per_table};
-use order_model::{BadOrder, Diagram, Gate, NoGate, Node, Order, Problem, Ref, Workers, eval};
+use order_model::{
+    BadOrder, Diagram, Gate, NoGate, Node, Order, Problem, Ref, Workers, contains, eval,
+};
 use std::alloc::{AllocError, Global};
 use std::io::{self, Read, Write};
 use std::test::Fail;
@@ -15,6 +17,19 @@ fn workers(rt: HostRuntime) {
         assert_eq!(rt; Workers::new(count).map(|w| w.count()), want, "at {count}");
     }
     NoGate.between(1, 7);
+}
+
+#[test]
+fn members_of_sets(rt: HostRuntime) {
+    for (set, x, is_member) in [
+        (5u16, 2u8, true),
+        (5, 1, false),
+        (0x8000, 15, true),
+        (0, 0, false),
+    ] {
+        assert!(rt; x < 16);
+        assert_eq!(rt; contains(set, x), is_member, "{x} of {set}");
+    }
 }
 
 #[test]

@@ -28,7 +28,11 @@ fn mean_cost(costs: &Costs, size: usize) -> u64 {
             sets = sets.wrapping_add(1);
         }
     }
-    if sets == 0 { u64::from(u32::MAX) } else { sum / sets }
+    if sets == 0 {
+        u64::from(u32::MAX)
+    } else {
+        sum / sets
+    }
 }
 
 /// The size of the largest sets that are likely to be wanted: costs rise from layer to layer by as

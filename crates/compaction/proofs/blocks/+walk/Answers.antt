@@ -33,11 +33,11 @@ walk-requires t c =
           (
             c.requires.byte,
             (
-            λ z lt. ap (λ k. bit_at k z) m ∙ decided_more c.args.decided y z (c.requires.low z lt),
-            (
-              ap (bit_and c.args.table.now.set) m ∙ within_same c.args.table.now.set c.args.decided y c.requires.set,
-              (c.requires.needed, (c.requires.rows, (c.requires.members, c.requires.blank))),
-            ),
+              λ z lt. ap (λ k. bit_at k z) m ∙ decided_more c.args.decided y z (c.requires.low z lt),
+              (
+                ap (bit_and c.args.table.now.set) m ∙ within_same c.args.table.now.set c.args.decided y c.requires.set,
+                (c.requires.needed, (c.requires.rows, (c.requires.members, c.requires.blank))),
+              ),
             ),
           ),
         ),
@@ -104,22 +104,22 @@ walk-requires-2 t c =
           (
             c.requires.byte,
             (
-            subst (λ (z : ClassesOf). (x : _) → x < low_variables z.problem → bit_at c.with_member-more.result x ≡ 1) (sym c.in_ok-next.ensures)
-                (λ x lt. ap (λ k. bit_at k x) m ∙ decided_more c.args.decided y x (c.requires.low x lt)),
-            (
-              ap₂ bit_and s m ∙ within_more set c.args.decided y c.requires.set ∙ sym s,
+              subst (λ (z : ClassesOf). (x : _) → x < low_variables z.problem → bit_at c.with_member-more.result x ≡ 1) (sym c.in_ok-next.ensures)
+                  (λ x lt. ap (λ k. bit_at k x) m ∙ decided_more c.args.decided y x (c.requires.low x lt)),
               (
-                c.requires.needed,
+                ap₂ bit_and s m ∙ within_more set c.args.decided y c.requires.set ∙ sym s,
                 (
-                  omega arith,
+                  c.requires.needed,
                   (
-                    subst (λ (z : ClassesOf). AreMembers z.problem masks needed) (sym c.in_ok-next.ensures) c.requires.members,
-                    subst (λ (z : ClassesOf). AreBlank z.problem masks needed c.walk.new.rows) (sym c.in_ok-next.ensures)
-                        (blank_kept p masks needed set c.with_member-more.result c.args.rows.now c.walk.new.rows c.requires.blank c.in_ok-before.ensures.rows),
+                    omega arith,
+                    (
+                      subst (λ (z : ClassesOf). AreMembers z.problem masks needed) (sym c.in_ok-next.ensures) c.requires.members,
+                      subst (λ (z : ClassesOf). AreBlank z.problem masks needed c.walk.new.rows) (sym c.in_ok-next.ensures)
+                          (blank_kept p masks needed set c.with_member-more.result c.args.rows.now c.walk.new.rows c.requires.blank c.in_ok-before.ensures.rows),
+                    ),
                   ),
                 ),
               ),
-            ),
             ),
           ),
         ),

@@ -13,7 +13,7 @@ use Rattle.order_solve.proofs.working.work_layer.Goals as goal
 pub loop-claim-init : goal.loop-claim-init
 loop-claim-init g c = (
   subst (λ (n : ℕ). Working c.args.bench.now.setting c.args.seat c.args.seat n) (sym c.new-tally.ensures)
-  (working_none c.args.bench.now.setting c.args.seat),
+      (working_none c.args.bench.now.setting c.args.seat),
   ahead_none c.args.bench.now.setting.problem c.up_to-found.result c.up_to-found.ensures,
 )
 
@@ -66,11 +66,10 @@ loop-claim-preserved g c =
     let e = c.in-Some.ensures in
     let h = claims_at c.args.board.now s s1 p b (w.board ∙ c.requires.seat) e.block e.gained e.claimed e.later in
     let all : (mask : ℕ) → has (block_masks b) mask ≡ _ → IsPosted s2 mask =
-    λ mask m. c.post_block.ensures.posted mask (ap (λ (z : BlockOf). has (block_masks z) mask) c.block-in-Some.ensures ∙ m) in
-    (
+    λ mask m. c.post_block.ensures.posted mask (ap (λ (z : BlockOf). has (block_masks z) mask) c.block-in-Some.ensures ∙ m) in (
       subst (λ (n : ℕ). Working t c.args.seat s2 n)
-      (sym (c.in_ok-cells.ensures.tally ∙ ap (λ (z : BlockOf). c.loop-claim.tally + widths_for t (block_masks z)) c.block.ensures))
-      (working_round t c.args.seat s s1 s2 c.loop-claim.tally p b w h c.post_block.ensures.stays all),
+          (sym (c.in_ok-cells.ensures.tally ∙ ap (λ (z : BlockOf). c.loop-claim.tally + widths_for t (block_masks z)) c.block.ensures))
+          (working_round t c.args.seat s s1 s2 c.loop-claim.tally p b w h c.post_block.ensures.stays all),
       c.in_ok-cells.ensures.found,
     )
 
