@@ -43,7 +43,11 @@ fn cells_by_one(
         setting.pairs(),
     )?;
     let seat = seats.pop().ok_or("one seat")?;
-    let WorkerEnd { seat, tally: _ } = work_layer(alloc, &board, seat, 1, bench, &NoGate)?;
+    let WorkerEnd {
+        seat,
+        tally: _,
+        found: _,
+    } = work_layer(alloc, &board, seat, 1, bench, &NoGate)?;
     let Ok(cells) = board.close(alloc, seat) else {
         return Err("closed".into());
     };
@@ -102,7 +106,11 @@ fn check_missing(
     requires layer { board.brief.layer ≡ bench.now.layer }
     requires one { one.setting ≡ bench.now.setting }
 {
-    let WorkerEnd { mut seat, tally } = work_layer(alloc, &board, worker, 2, bench, &NoGate)?;
+    let WorkerEnd {
+        mut seat,
+        tally,
+        found: _,
+    } = work_layer(alloc, &board, worker, 2, bench, &NoGate)?;
     if tally.count() != 10 {
         return Err("two widths for each of five sets".into());
     }
@@ -134,7 +142,11 @@ fn both_work<R: Threads + Sync>(
     requires two { two.setting ≡ bench.now.setting }
     ensures { IfOk result (λ s. s.board ≡ board.now) }
 {
-    let WorkerEnd { seat, tally: _ } = work_layer(alloc, board, worker, 2, bench, &NoGate)?;
+    let WorkerEnd {
+        seat,
+        tally: _,
+        found: _,
+    } = work_layer(alloc, board, worker, 2, bench, &NoGate)?;
     let ((first, second), _) = thread::join(
         rt,
         move || -> (Result<(), PostRefused>, Result<(), PostRefused>)
