@@ -4,7 +4,8 @@
 --     free_all      all variables below the bound are free
 --     part_same, part_more, part_high      the part of a mask from a bound on, and from the next one down
 --     multiple, double      a multiple has no rest; twice a power of two
-use Rattle.std.proofs.Common.{◌≡◌, ℕ, zero, suc, ◌+◌, ◌-◌, ◌*◌, ◌/◌, ◌%◌, ◌^◌, ◌<◌, ◌≤◌, false, inl, inr, sym, ap, ◌∙◌, arith, bit_and, bit_or, zero-mul}
+use Rattle.std.proofs.Common.{◌≡◌, ℕ, zero, suc, ◌+◌, ◌-◌, ◌*◌, ◌/◌, ◌%◌, ◌^◌, ◌<◌, ◌≤◌, false, inl, inr, sym, ap, ◌∙◌, arith, bit_or, zero-mul}
+use Rattle.std.specs.Int.{bit_at}
 use Rattle.std.proofs.Math.Nat.{div-lt_iff_lt-mul}
 use Rattle.std.proofs.lemmas.Bool.{cases_eq}
 use Rattle.std.proofs.lemmas.Nat.{pow_pos, or_disjoint, mod-pow-add, mod-mul-add, div-add-mod', pow-add}
@@ -63,10 +64,9 @@ free_all set (suc x) e =
     let d = step_down set x (ap (λ k. set % 2 ^ k) (sym s) ∙ e) in
     ap (free_below set) s ∙ free_more set x (shr_and_one set x ∙ d.1) ∙ (let r = free_all set x d.0 in omega arith)
 
-pub part_same : (mask x : ℕ) → bit_and (mask / 2 ^ x) 1 ≡ 0 → mask / 2 ^ (x + 1) * 2 ^ (x + 1) ≡ mask / 2 ^ x * 2 ^ x
+pub part_same : (mask x : ℕ) → bit_at mask x ≡ 0 → mask / 2 ^ (x + 1) * 2 ^ (x + 1) ≡ mask / 2 ^ x * 2 ^ x
 part_same mask x e =
-    let none : mask / 2 ^ x % 2 ≡ 0 = sym (shr_and_one mask x) ∙ e in
-    let f = low_bits mask x ∙ ap (λ c. c * 2 ^ x + mask % 2 ^ x) none in
+    let f = low_bits mask x ∙ ap (λ c. c * 2 ^ x + mask % 2 ^ x) e in
     let z = zero-mul (2 ^ x) in
     let a = div-add-mod' mask (2 ^ x) in
     let b = div-add-mod' mask (2 ^ (x + 1)) in
@@ -75,10 +75,9 @@ part_same mask x e =
 pub part_high : (mask y : ℕ) → mask / 2 ^ y * 2 ^ y % 2 ^ y ≡ 0
 part_high mask y = multiple (mask / 2 ^ y) (2 ^ y) (pow_pos y)
 
-pub part_more : (mask x : ℕ) → bit_and (mask / 2 ^ x) 1 ≡ 1 → bit_or (mask / 2 ^ (x + 1) * 2 ^ (x + 1)) (2 ^ x) ≡ mask / 2 ^ x * 2 ^ x
+pub part_more : (mask x : ℕ) → bit_at mask x ≡ 1 → bit_or (mask / 2 ^ (x + 1) * 2 ^ (x + 1)) (2 ^ x) ≡ mask / 2 ^ x * 2 ^ x
 part_more mask x e =
-    let one : mask / 2 ^ x % 2 ≡ 1 = sym (shr_and_one mask x) ∙ e in
-    let f = low_bits mask x ∙ ap (λ c. c * 2 ^ x + mask % 2 ^ x) one in
+    let f = low_bits mask x ∙ ap (λ c. c * 2 ^ x + mask % 2 ^ x) e in
     let a = div-add-mod' mask (2 ^ x) in
     let b = div-add-mod' mask (2 ^ (x + 1)) in
     high_or (mask / 2 ^ (x + 1) * 2 ^ (x + 1)) x (part_high mask (x + 1)) ∙ omega arith
