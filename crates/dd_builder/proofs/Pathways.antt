@@ -1,16 +1,11 @@
 -- The point of a path, level by level.
 use Rattle.std.proofs.Common.{◌≡◌, ◌≢◌, ℕ, zero, suc, ◌+◌, ◌*◌, ◌/◌, ◌%◌, ◌^◌, ◌<◌, ◌≤◌, ◌⊎◌, max, List, length, get_or, sym, ap, ap₂, ◌∙◌, arith, subst, inl, inr, bit_and, bit_or}
 use Rattle.std.specs.Int.{bit_at}
-use Rattle.std.proofs.lemmas.Nat.{or_lt, pow_below, pow_pos, one_shl}
-use Rattle.std.proofs.lemmas.Nat.Bits.{bit_at-lt, bit_at-zero, bit_at_or, bit_at-pow_same, bit_at-pow_other, shr_and_one}
+use Rattle.std.proofs.lemmas.Nat.{or_disjoint, or_lt, pow_below, pow_pos, one_shl}
+use Rattle.std.proofs.lemmas.Nat.Bits.{and_pow, bit_at_above, bit_at-lt, bit_at-zero, bit_at_or, bit_at-pow_same, bit_at-pow_other, shr_and_one}
 use Rattle.order_model.specs.Orders.{IsOrder, place_in}
 use Rattle.order_model.proofs.Lists.Orders.{has_at, place_get}
-
--- a point's number has the bits of a path for the levels above one, and no others of the order
-pub record IsPointAbove (order : List ℕ) (level path point : ℕ) : Type 0 where
-  pub small : point < 2 ^ length order
-  pub bits : (i : ℕ) → i < level → i < length order → bit_at point (get_or order i 0) ≡ bit_at path i
-  pub clear : (i : ℕ) → level ≤ i → i < length order → bit_at point (get_or order i 0) ≡ 0
+use Rattle.dd_builder.specs.Paths.{IsPointAbove, IsPointOf}
 
 max_zero : (k : ℕ) → max 0 k ≡ k
 max_zero k = omega arith
@@ -88,3 +83,51 @@ module _ (order : List ℕ) (is : IsOrder (length order) order) where
             ap (λ k. bit_at k (get_or order i 0)) added
             ∙ (bit_at_or point (bit_at path level * 2 ^ x) (get_or order i 0) ∙ (ap₂ max c z ∙ zero_max (bit_at path i)))
       ]
+
+  -- on to the low child the point stays
+  pub point_low : (level path point : ℕ) → path < 2 ^ level → IsPointAbove order level path point → IsPointAbove order (level + 1) path point
+  point_low level path point small h = record {
+    small = h.small;
+    bits = λ i l in_order. by_level i l in_order (same i level);
+    clear = λ i l in_order. h.clear i (omega arith) in_order;
+  }
+    where
+      same : (i j : ℕ) → (i ≡ j) ⊎ (i ≢ j)
+      same i j = grind arith
+
+      by_level : (i : ℕ) → i < level + 1 → i < length order → (i ≡ level) ⊎ (i ≢ level) → bit_at point (get_or order i 0) ≡ bit_at path i
+      by_level i l in_order t = elim t [
+        | inl s ↦ h.clear i (omega arith) in_order ∙ sym (bit_at_above path level i small (omega arith))
+        | inr ne ↦ h.bits i (omega arith) in_order
+      ]
+
+  -- on to the high child it gets the variable of the level
+  pub point_high : (level path point x now : ℕ) → length order ≤ 16 → level < length order → path < 2 ^ level → x ≡ get_or order level 0 →
+      IsPointAbove order level path point → now ≡ bit_or point (1 * 2 ^ x % 4294967296) → IsPointAbove order (level + 1) (path + 2 ^ level) now
+  point_high level path point x now few inside small at h e =
+      point_more level (path + 2 ^ level) point x now few inside at
+      record { small = h.small; bits = λ i l in_order. h.bits i l in_order ∙ sym (lower i l); clear = h.clear }
+      (e ∙ ap (λ k. bit_or point (k * 2 ^ x % 4294967296)) (sym (shr_and_one (path + 2 ^ level) level ∙ there)))
+    where
+      joined : path + 2 ^ level ≡ bit_or path (2 ^ level)
+      joined = sym (or_disjoint path (2 ^ level)
+      (and_pow path level ∙ (ap (λ b. b * 2 ^ level) (bit_at_above path level level small (omega arith)) ∙ zero_times (2 ^ level))))
+
+      there : bit_at (path + 2 ^ level) level ≡ 1
+      there = ap (λ k. bit_at k level) joined ∙ (bit_at_or path (2 ^ level) level
+      ∙ ap₂ max (bit_at_above path level level small (omega arith)) (bit_at-pow_same level))
+
+      lower : (i : ℕ) → i < level → bit_at (path + 2 ^ level) i ≡ bit_at path i
+      lower i l = ap (λ k. bit_at k i) joined ∙ (bit_at_or path (2 ^ level) i
+      ∙ (ap (max (bit_at path i)) (bit_at-pow_other level i (omega arith)) ∙ zero_max (bit_at path i)))
+
+-- at the end of an order a point has all values of its path, and the other way about
+pub point_whole : (order : List ℕ) (level path point : ℕ) → length order ≤ level → IsPointAbove order level path point → IsPointOf order path point
+point_whole order level path point past h = record { small = h.small; bits = λ i l. h.bits i (omega arith) l }
+
+pub point_above : (order : List ℕ) (level path point : ℕ) → path < 2 ^ level → IsPointOf order path point → IsPointAbove order level path point
+point_above order level path point small h = record {
+  small = h.small;
+  bits = λ i l in_order. h.bits i in_order;
+  clear = λ i l in_order. h.bits i in_order ∙ bit_at_above path level i small l;
+}

@@ -1,7 +1,8 @@
 -- Paths: the values of the variables of an order, bit i for that of level i.
 --     IsPointOf order path point      the number of the point that a path leads to
+--     IsPointAbove order level path point      the number of the point that has a path's values for the variables above a level, and 0 for the others
 --     output_along b level path output      an output with the variables above a level fixed to the bits of a path
-use Rattle.std.specs.Prelude.{◌≡◌, ℕ, ◌^◌, ◌<◌, List, length, slice_index, take}
+use Rattle.std.specs.Prelude.{◌≡◌, ℕ, ◌^◌, ◌<◌, ◌≤◌, List, length, slice_index, take}
 use Rattle.std.specs.Int.{bit_at}
 use Rattle.order_model.specs.Functions.{Function}
 use Rattle.unique_table.specs.declared.plan.Plan.{Plan}
@@ -11,6 +12,12 @@ use Rattle.unique_table.specs.Plans.{order_of, output_at, fixed}
 pub record IsPointOf (order : List ℕ) (path point : ℕ) : Type 0 where
   pub small : point < 2 ^ length order
   pub bits : (i : ℕ) → i < length order → bit_at point (slice_index order i) ≡ bit_at path i
+
+-- a point's number has the bits of a path for the levels above one, and no others of the order
+pub record IsPointAbove (order : List ℕ) (level path point : ℕ) : Type 0 where
+  pub small : point < 2 ^ length order
+  pub bits : (i : ℕ) → i < level → i < length order → bit_at point (slice_index order i) ≡ bit_at path i
+  pub clear : (i : ℕ) → level ≤ i → i < length order → bit_at point (slice_index order i) ≡ 0
 
 -- an output of a store with the variables above a level fixed to the bits of a path
 abbrev pub output_along : Plan → ℕ → ℕ → ℕ → Function

@@ -7,7 +7,7 @@ ghost use Rattle.unique_table.specs.Plans.{order_of, levels_of, output_at, fixed
 ghost use Rattle.unique_table.specs.Sessions.{Means, Follows, depth_in};
 ghost use Rattle.dd_builder.specs.Building.{IsForTables};
 ghost use Rattle.dd_builder.specs.Making.{Makes};
-ghost use Rattle.dd_builder.specs.Paths.{IsPointOf, output_along};
+ghost use Rattle.dd_builder.specs.Paths.{IsPointAbove, IsPointOf, output_along};
 
 use order_model::VarIx;
 use truth_table::Tables;
@@ -26,37 +26,51 @@ fn point_of(order: &[VarIx], path: u32) -> u32
     point
 }
 
+/// The values of the variables above a level: bit i is that of the variable of level i. The point
+/// has them, and 0 for the variables below.
+#[derive(Clone, Copy, Debug)]
+struct Path {
+    level: u8,
+    bits: u32,
+    point: u32,
+}
+
 /// The id of an output with the variables above a level fixed to the bits of a path.
 fn output_below(
     store: &Store,
     session: &mut Session,
     tables: &Tables,
     output: u8,
-    level: u8,
-    path: u32,
+    path: Path,
 ) -> Result<NodeId, StoreFull>
     requires session { session.old.store ≡ store.now }
     requires tables { tables.now ≡ store.now.plan.problem.value }
     requires output { output < outputs_of tables.now }
-    requires level { level ≤ levels_of store.now.plan }
-    requires path { path < 2 ^ level }
+    requires level { path.level ≤ levels_of store.now.plan }
+    requires bits { path.bits < 2 ^ path.level }
+    requires point { IsPointAbove (order_of store.now.plan) path.level path.bits path.point }
     ensures made { Makes session.old session.new result
-        (output_along store.now.plan level path output) }
-    ensures level { IfOk result (λ id. level ≤ depth_in session.new id) }
+        (output_along store.now.plan path.level path.bits output) }
+    ensures level { IfOk result (λ id. path.level ≤ depth_in session.new id) }
 {
     let order = store.order().variables();
+    let Path { level, bits, point } = path;
     if usize::from(level) == order.len() {
-        return Ok(u32::from(tables.value(output, point_of(order, path))));
+        return Ok(u32::from(tables.value(output, point)));
     }
-    let low = output_below(store, session, tables, output, level + 1, path)?;
-    let high = output_below(
-        store,
-        session,
-        tables,
-        output,
-        level + 1,
-        path + (1 << level),
-    )?;
+    let below = level + 1;
+    let without = Path {
+        level: below,
+        bits,
+        point,
+    };
+    let low = output_below(store, session, tables, output, without)?;
+    let with = Path {
+        level: below,
+        bits: bits + (1 << level),
+        point: point | 1 << order[usize::from(level)],
+    };
+    let high = output_below(store, session, tables, output, with)?;
     store.make(session, level, low, high)
 }
 
@@ -83,9 +97,17 @@ pub(crate) fn restriction(
     ensures level { IfOk result
         (λ id. length (tops (order_of store.now.plan)) ≤ depth_in session.new id) }
 {
-    let tops = tops(store.order().variables());
-    let ways = 1usize << tops;
+    let order = store.order().variables();
+    let level = tops(order);
+    let ways = 1usize << level;
     let output = (piece / ways) as u8;
-    let path = (piece % ways) as u32;
-    output_below(store, session, tables, output, tops, path)
+    let bits = (piece % ways) as u32;
+    let point = point_of(order, bits);
+    output_below(
+        store,
+        session,
+        tables,
+        output,
+        Path { level, bits, point },
+    )
 }

@@ -1,6 +1,6 @@
 //! Ordered decision diagrams with several roots.
 
-ghost use Rattle.std.specs.Prelude.{◌≡◌, ◌<◌, ◌≤◌, ◌^◌, ℕ, length, slice_index};
+ghost use Rattle.std.specs.Prelude.{◌≡◌, ◌<◌, ◌≤◌, ◌^◌, ℕ, length, slice_index, sum};
 ghost use Rattle.order_model.specs.Functions.{point_of};
 ghost use Rattle.order_model.specs.Diagrams.{AreNodes, IsBefore, child_at, value, nodes_at, variable_count};
 ghost use Rattle.order_model.specs.declared.diagrams.Node.{Node};
@@ -184,4 +184,12 @@ impl Diagram {
     {
         (self.order, self.nodes, self.roots)
     }
+}
+
+/// The sum of at most 16 level counts.
+pub fn total(counts: &[u32]) -> u64
+    requires { length counts.now ≤ 16 }
+    ensures { result ≡ sum counts.now }
+{
+    counts.iter().map(|&count| u64::from(count)).sum()
 }

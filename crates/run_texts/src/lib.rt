@@ -12,5 +12,5 @@ mod writing;
 
 pub use certificates::certificate_text;
 pub use counts::counts_of;
-pub use texts::{Report, report_text, total};
+pub use texts::{Report, report_text};
 pub use writing::{RunTexts, write_texts};

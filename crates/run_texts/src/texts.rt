@@ -1,25 +1,17 @@
 //! The texts that the programs write, each made whole before its first byte goes out.
 
-ghost use Rattle.std.specs.Prelude.{◌≡◌, ◌<◌, ◌≤◌, ◌++◌, length, map, string_bytes, sum, IfOk, OnOk};
+ghost use Rattle.std.specs.Prelude.{◌≡◌, ◌<◌, ◌≤◌, ◌++◌, length, map, string_bytes, IfOk, OnOk};
 ghost use Rattle.std.specs.List.{All};
 ghost use Rattle.certificate.specs.Values.{each_spaced};
 ghost use Rattle.run_texts.specs.Texts.{each_name_spaced, sizes_lines};
 ghost use Rattle.outcomes.specs.Texts.{name_of, names_in, numbers as spaced, counts_lines, order_lines};
 
-use order_model::VarIx;
+use order_model::{VarIx, total};
 use std::alloc::{AllocError, Global};
 use std::fmt::Write;
 
 /// The longest text but for names: 48 numbers of at most 10 digits and the labels.
 const LONGEST: usize = 1024;
-
-/// The sum of at most 16 counts.
-pub fn total(counts: &[u32]) -> u64
-    requires { length counts.now ≤ 16 }
-    ensures { result ≡ sum counts.now }
-{
-    counts.iter().map(|&count| u64::from(count)).sum()
-}
 
 /// Appends numbers, each after a space.
 fn push_spaced(text: &mut String, numbers: &[u32]) -> Result<(), AllocError>

@@ -1,4 +1,4 @@
-use Rattle.dd_builder.proofs.Pathways.{IsPointAbove}
+use Rattle.dd_builder.specs.Paths.{IsPointAbove}
 use Rattle.dd_builder.proofs.tables.point_of.Given as goal
 
 abbrev pub invariant-loop-level : goal.invariant-loop-level

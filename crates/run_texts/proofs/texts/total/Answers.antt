@@ -1,6 +1,0 @@
-use Rattle.std.proofs.Common.{rules}
-use Rattle.std.proofs.iter.runs.Sources.{sums}
-use Rattle.run_texts.proofs.texts.total.Goals as goal
-
-pub sum-requires-clause-fits : goal.sum-requires-clause-fits
-sum-requires-clause-fits c = search (rules, sums)
