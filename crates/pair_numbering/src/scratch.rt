@@ -9,7 +9,7 @@ ghost use Rattle.pair_numbering.specs.Chains.{AreFirsts};
 use crate::chains::{chain, find_firsts};
 use crate::masks::join_mask;
 use crate::pairs::pair_at;
-use order_model::Problem;
+use order_model::{Problem, contains};
 use std::alloc::{AllocError, Global};
 use std::marker::Model;
 
@@ -120,7 +120,7 @@ fn count_firsts(numbers: &[u32], rank: u32, x: u8, masks: &[u16], first: &[u32])
     for (j, f) in first.iter().enumerate() {
         if *f as usize == j {
             let mask = join_mask(masks, x, pair_at(numbers, rank, j));
-            count += u32::from((mask >> x) & 1);
+            count += u32::from(contains(mask, x));
         }
     }
     count

@@ -1,6 +1,6 @@
 use Rattle.std.proofs.Common.{◌≡◌, ◌+◌, ◌/◌, ◌<◌, ◌^◌, get_or, length, sym, ap, ◌∙◌, subst, arith}
 use Rattle.std.specs.Int.{bit_at}
-use Rattle.std.proofs.lemmas.Nat.Bits.{shr_and_one}
+use Rattle.std.proofs.lemmas.Nat.Bits.{bit_at-lt}
 use Rattle.class_laws.specs.Numbering.{IsFirst}
 use Rattle.class_laws.specs.Dependence.{joined_mask}
 use Rattle.class_laws.specs.Places as places
@@ -24,8 +24,8 @@ loop-j-preserved c =
     elim c.if-f-j.branch [
       | then-f-j w ↦
           let m = w.join_mask-mask.ensures ∙ ap (joined_mask c.args.masks.now c.args.x) (w.pair_at.ensures ∙ sym (pair_listed cs step j small)) in
-          let b : w.from-count.result ≡ bit_at w.join_mask-mask.result c.args.x =
-          (let s = shr_and_one w.join_mask-mask.result c.args.x in let e = w.from-count.ensures in omega arith) in
+          let l = bit_at-lt w.join_mask-mask.result c.args.x in
+          let b : w.from-count.result ≡ bit_at w.join_mask-mask.result c.args.x = grind arith in
           subst (λ k. Counting ps c.args.masks.now c.args.x k (j + 1)) (sym w.count-is)
           (counting_first ps c.args.masks.now c.args.x c.loop-j.count w.from-count.result j w.join_mask-mask.result listed
           (subst (IsFirst (λ i. get_or ps i (0, 0)) j) w.if-f-j.true first) m b c.loop-j.invariant)
