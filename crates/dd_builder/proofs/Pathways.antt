@@ -111,15 +111,15 @@ module _ (order : List ℕ) (is : IsOrder (length order) order) where
     where
       joined : path + 2 ^ level ≡ bit_or path (2 ^ level)
       joined = sym (or_disjoint path (2 ^ level)
-      (and_pow path level ∙ (ap (λ b. b * 2 ^ level) (bit_at_above path level level small (omega arith)) ∙ zero_times (2 ^ level))))
+          (and_pow path level ∙ (ap (λ b. b * 2 ^ level) (bit_at_above path level level small (omega arith)) ∙ zero_times (2 ^ level))))
 
       there : bit_at (path + 2 ^ level) level ≡ 1
       there = ap (λ k. bit_at k level) joined ∙ (bit_at_or path (2 ^ level) level
-      ∙ ap₂ max (bit_at_above path level level small (omega arith)) (bit_at-pow_same level))
+          ∙ ap₂ max (bit_at_above path level level small (omega arith)) (bit_at-pow_same level))
 
       lower : (i : ℕ) → i < level → bit_at (path + 2 ^ level) i ≡ bit_at path i
       lower i l = ap (λ k. bit_at k i) joined ∙ (bit_at_or path (2 ^ level) i
-      ∙ (ap (max (bit_at path i)) (bit_at-pow_other level i (omega arith)) ∙ zero_max (bit_at path i)))
+          ∙ (ap (max (bit_at path i)) (bit_at-pow_other level i (omega arith)) ∙ zero_max (bit_at path i)))
 
 -- at the end of an order a point has all values of its path, and the other way about
 pub point_whole : (order : List ℕ) (level path point : ℕ) → length order ≤ level → IsPointAbove order level path point → IsPointOf order path point

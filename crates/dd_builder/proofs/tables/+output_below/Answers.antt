@@ -1,12 +1,13 @@
-use Rattle.std.proofs.Common.{◌+◌, ◌≤◌, ◌<◌, length, take, refl, ap, ◌∙◌, subst, arith, rules}
+use Rattle.std.proofs.Common.{◌+◌, ◌*◌, ◌%◌, ◌^◌, ◌≤◌, ◌<◌, get_or, length, take, refl, sym, ap, ap₂, ◌∙◌, subst, arith, rules, bit_or}
 use Rattle.order_model.specs.Orders.{IsOrder}
 use Rattle.order_model.specs.Problems.{TruthTables}
 use Rattle.unique_table.specs.Plans.{order_of, levels_of, output_at, fixed}
 use Rattle.unique_table.specs.Sessions.{StoreId, Means}
 use Rattle.unique_table.proofs.Following.{follows_trans}
-use Rattle.dd_builder.specs.Paths.{IsPointOf}
+use Rattle.dd_builder.specs.Paths.{IsPointAbove}
+use Rattle.dd_builder.proofs.Pathways.{point_whole, point_low, point_high}
 use Rattle.dd_builder.proofs.Going.{stays, makes_node}
-use Rattle.dd_builder.proofs.Restricted.{output_leaf, restricted_node, path_up}
+use Rattle.dd_builder.proofs.Restricted.{output_leaf, restricted_node, path_up, path_small}
 use Rattle.dd_builder.proofs.tables.+output_below.Goals as goal
 
 pub returns-then-from-order-clause-made : goal.returns-then-from-order-clause-made
@@ -14,18 +15,17 @@ returns-then-from-order-clause-made t c =
     let order = c.order.ensures.value in let same = c.variables-order.ensures.value ∙ order in
     let is : IsOrder (length (order_of c.args.store.now.plan)) (order_of c.args.store.now.plan) =
     subst (λ xs. IsOrder (length xs) xs) order c.variables-order.ensures.order in
-    let at : IsPointOf (order_of c.args.store.now.plan) c.args.path c.point_of.result =
-    subst (λ xs. IsPointOf xs c.args.path c.point_of.result) same c.point_of.ensures in
     let size = ap length same in
-    let past : length (order_of c.args.store.now.plan) ≤ c.args.level = omega arith in
+    let past : length (order_of c.args.store.now.plan) ≤ c.args.path.level = omega arith in
+    let at = point_whole (order_of c.args.store.now.plan) c.args.path.level c.args.path.bits c.args.path.point past c.requires.point in
     record {
       follows = stays c.args.session.now;
       full = tt;
       function = subst
           (λ (z : TruthTables). Means c.args.session.now c.from-then-from-order.result
-          (fixed (take c.args.level (order_of c.args.store.now.plan)) c.args.path (output_at z c.args.output)))
+          (fixed (take c.args.path.level (order_of c.args.store.now.plan)) c.args.path.bits (output_at z c.args.output)))
           c.requires.tables
-          (output_leaf c.args.session.now (order_of c.args.store.now.plan) c.args.level c.args.path c.point_of.result
+          (output_leaf c.args.session.now (order_of c.args.store.now.plan) c.args.path.level c.args.path.bits c.args.path.point
           c.from-then-from-order.result c.args.output c.args.tables.now c.value.result
           (ap (λ (z : StoreId). order_of z.plan) c.requires.session) is past
           at c.value.ensures c.from-then-from-order.ensures);
@@ -37,17 +37,17 @@ returns-clause-made t c =
     let is : IsOrder (levels_of c.args.store.now.plan) (order_of c.args.store.now.plan) =
     subst (λ xs. IsOrder (length xs) xs) order c.variables-order.ensures.order in
     let few = c.order.ensures.plan.order.few in let size = ap length (c.variables-order.ensures.value ∙ order) in
-    let inside : c.args.level < levels_of c.args.store.now.plan = omega arith in
+    let inside : c.args.path.level < levels_of c.args.store.now.plan = omega arith in
     let on = follows_trans _ _ _ c.output_below.ensures.made.follows c.output_below-2.ensures.made.follows in
     makes_node _ _ _ c.args.store.now c.make.result _ _ _ on c.make.ensures.follows (on.store ∙ c.requires.session) c.make.ensures.function
     c.make.ensures.full (λ id m.
-    restricted_node c.args.store.now c.output_below.new.session c.output_below-2.new.session c.make.new.session c.args.level c.args.path
+    restricted_node c.args.store.now c.output_below.new.session c.output_below-2.new.session c.make.new.session c.args.path.level c.args.path.bits
     c.in_ok-low.low c.in_ok-high.high id (output_at c.args.store.now.plan.problem.value c.args.output)
     (c.output_below.ensures.made.follows.store ∙ c.requires.session) c.output_below-2.ensures.made.follows c.make.ensures.follows is inside
-    c.requires.path c.in_ok-low.ensures.made.function
+    c.requires.bits c.in_ok-low.ensures.made.function
     (subst (λ k. Means c.output_below-2.new.session c.in_ok-high.high
-    (fixed (take (c.args.level + 1) (order_of c.args.store.now.plan)) k (output_at c.args.store.now.plan.problem.value c.args.output)))
-    (path_up 32 c.args.level c.args.path _ (omega arith) refl) c.in_ok-high.ensures.made.function) m)
+    (fixed (take (c.args.path.level + 1) (order_of c.args.store.now.plan)) k (output_at c.args.store.now.plan.problem.value c.args.output)))
+    (path_up 32 c.args.path.level c.args.path.bits _ (omega arith) refl) c.in_ok-high.ensures.made.function) m)
 
 pub returns-in_err-high-clause-made : goal.returns-in_err-high-clause-made
 returns-in_err-high-clause-made t c = record {
@@ -55,3 +55,41 @@ returns-in_err-high-clause-made t c = record {
   function = search rules;
   full = search rules;
 }
+
+pub output_below-requires : goal.output_below-requires
+output_below-requires t c =
+    let d = c.decreases in
+    let b = c.args.store.now.plan in
+    let same = c.variables-order.ensures.value ∙ c.order.ensures.value in
+    let size = ap length same in
+    let l = c.requires.level in
+    let o = c.from.ensures in
+    let inside : c.args.path.level < length (order_of b) = omega arith in
+    let is : IsOrder (length (order_of b)) (order_of b) =
+    subst (λ xs. IsOrder (length xs) xs) c.order.ensures.value c.variables-order.ensures.order in
+    let small = path_small c.args.path.level c.args.path.bits c.requires.bits in
+    (omega arith, (c.requires.session, (c.requires.tables, (c.requires.output, (omega arith,
+    (omega arith, point_low (order_of b) is c.args.path.level c.args.path.bits c.args.path.point c.requires.bits c.requires.point))))))
+
+pub output_below-requires-2 : goal.output_below-requires-2
+output_below-requires-2 t c =
+    let d = c.decreases in
+    let b = c.args.store.now.plan in
+    let same = c.variables-order.ensures.value ∙ c.order.ensures.value in
+    let size = ap length same in
+    let l = c.requires.level in
+    let o = c.from.ensures in
+    let few = c.order.ensures.plan.order.few in
+    let inside : c.args.path.level < length (order_of b) = omega arith in
+    let is : IsOrder (length (order_of b)) (order_of b) =
+    subst (λ xs. IsOrder (length xs) xs) c.order.ensures.value c.variables-order.ensures.order in
+    let x = get_or c.variables-order.result.now c.from-2.result 0 in
+    let now = bit_or c.args.path.point (1 * 2 ^ x % 4294967296) in
+    let up = path_up 32 c.args.path.level c.args.path.bits _ (omega arith) refl in
+    let small = path_small c.args.path.level c.args.path.bits c.requires.bits in
+    (omega arith, (c.output_below.ensures.made.follows.store ∙ c.requires.session, (c.requires.tables, (c.requires.output, (omega arith,
+    (subst (λ k. k < 2 ^ (c.args.path.level + 1)) (sym up) small,
+    subst (λ k. IsPointAbove (order_of b) (c.args.path.level + 1) k now) (sym up)
+    (point_high (order_of b) is c.args.path.level c.args.path.bits c.args.path.point x now
+    (omega arith) inside c.requires.bits
+    (ap₂ (λ xs k. get_or xs k 0) same c.from-2.ensures) c.requires.point refl)))))))
