@@ -10,7 +10,7 @@ ghost use Rattle.compaction.specs.Rows.{AreRows, AreOfByte, AreMembers};
 use crate::beginning::Beginning;
 use crate::blocks::wanted_rows;
 use crate::wanted::Wanted;
-use order_model::{Mask, Pairs};
+use order_model::{Mask, Pairs, contains};
 use std::alloc::{AllocError, Global};
 use std::marker::Model;
 use subset_layers::Block;
@@ -60,7 +60,7 @@ fn only(row: [u32; 16], members: Mask) -> [u32; 16]
 {
     let mut found = [0; 16];
     for x in 0..16u8 {
-        if (members >> x) & 1 == 1 {
+        if contains(members, x) {
             found[x as usize] = row[x as usize];
         }
     }

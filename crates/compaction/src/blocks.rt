@@ -13,7 +13,7 @@ use crate::names::AllNamePairs;
 use crate::strips::{Strips, low_variables};
 use crate::tally::Tally;
 use crate::wanted::Wanted;
-use order_model::{Mask, Problem, VarIx};
+use order_model::{Mask, Problem, VarIx, contains};
 use std::alloc::{AllocError, Global};
 use std::marker::Model;
 use subset_layers::Block;
@@ -162,7 +162,7 @@ fn low_bytes<'a>(
     }
     let mut keys = ByteKeys::of_problem(alloc, beginning.problem())?;
     for y in 0..3 {
-        if (low >> y) & 1 == 1 {
+        if contains(low, y) {
             keys = keys.add(alloc, y)?;
         }
     }
@@ -183,7 +183,7 @@ fn add_members<'a>(
 {
     let mut strips = strips;
     for y in from..strips.low_variables() {
-        if (low >> y) & 1 == 1 {
+        if contains(low, y) {
             strips = strips.add_low(alloc, y)?;
         }
     }

@@ -10,7 +10,7 @@ ghost use Rattle.pair_numbering.specs.Scratch.{most_entries};
 
 use crate::start::{no_dependence, value_numbers};
 use crate::tally::Tally;
-use order_model::{Mask, Problem, VarIx};
+use order_model::{Mask, Problem, VarIx, contains};
 use pair_numbering::{Scratch, number_pairs_by_index, number_pairs_with_masks};
 use std::alloc::{AllocError, Global};
 use std::marker::Model;
@@ -44,7 +44,7 @@ pub(crate) fn rank_of(set: Mask, x: VarIx) -> u32
 {
     let mut rank = 0;
     for y in 0..x {
-        if (set >> y) & 1 == 0 {
+        if !contains(set, y) {
             rank += 1;
         }
     }
@@ -59,7 +59,7 @@ fn count_with(masks: &[u16], x: VarIx) -> u32
 {
     let mut count = 0;
     for mask in masks {
-        if (*mask >> x) & 1 == 1 {
+        if contains(*mask, x) {
             count += 1;
         }
     }
@@ -75,7 +75,7 @@ pub(crate) fn row_of(masks: &[u16], wanted: Mask) -> [u32; 16]
 {
     let mut row = [0; 16];
     for x in 0..16 {
-        if (wanted >> x) & 1 == 1 {
+        if contains(wanted, x) {
             row[x as usize] = count_with(masks, x);
         }
     }
@@ -110,7 +110,7 @@ impl<'a> Classes<'a> {
     {
         let mut classes = Classes::of_problem(alloc, problem)?;
         for y in 0..problem.inputs() {
-            if (mask >> y) & 1 == 1 {
+            if contains(mask, y) {
                 classes = classes.compact(alloc, y)?;
             }
         }
@@ -124,7 +124,7 @@ impl<'a> Classes<'a> {
         ensures all { x < self.now.problem.inputs → IsFalse (has (set_of self.now) x) →
             IsTrue result }
     {
-        x < self.problem.inputs() && (self.set >> x) & 1 == 0
+        x < self.problem.inputs() && !contains(self.set, x)
     }
 
     /// The class of each entry, by first occurrence: function by function, assignments of the

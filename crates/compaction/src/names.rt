@@ -6,7 +6,7 @@ ghost use Rattle.class_laws.specs.PairTables.{AllBelow, IsPairTable};
 ghost use Rattle.pair_numbering.specs.Numbers.{ArePairsNumbered};
 
 use crate::add_variable::are_in_order;
-use order_model::{Mask, VarIx};
+use order_model::{Mask, VarIx, contains};
 use pair_numbering::{NumberedPairs, number_pairs};
 use std::alloc::{AllocError, Global};
 
@@ -152,7 +152,7 @@ impl AllNamePairs {
         let mut steps: Vec<Option<NamePairs>> = Vec::with_capacity(alloc, 8usize << high)?;
         for set in 0..1usize << high {
             for y in 0..8u8 {
-                let step = if y < high && (set >> y) & 1 == 0 {
+                let step = if y < high && !contains(set as Mask, y) {
                     step_of(alloc, names, &steps, set, y)?
                 } else {
                     None

@@ -12,7 +12,7 @@ use crate::add_variable::{add_above, are_in_order};
 use crate::classes::{rank_of, row_of};
 use crate::columns::{ValueStrips, whole_strips};
 use crate::names::{NamePairs, copied};
-use order_model::{Mask, Problem, VarIx};
+use order_model::{Mask, Problem, VarIx, contains};
 use pair_numbering::tell_pairs;
 use std::alloc::{AllocError, Global};
 use std::marker::Model;
@@ -114,7 +114,7 @@ fn same_row(width: u32, wanted: Mask) -> [u32; 16]
 {
     let mut row = [0; 16];
     for x in 0..16u8 {
-        if (wanted >> x) & 1 == 1 {
+        if contains(wanted, x) {
             row[x as usize] = width;
         }
     }

@@ -4,7 +4,7 @@ ghost use Rattle.std.specs.Prelude.{◌≡◌, ℕ, ◌+◌, ◌^◌, ◌<◌, �
 ghost use Rattle.std.specs.Int.{bit_at};
 ghost use Rattle.compaction.specs.Rows.{AreUnwanted};
 
-use order_model::{Mask, VarIx};
+use order_model::{Mask, VarIx, contains};
 
 /// Sets of so many variables with one low byte, and of each the members whose widths are wanted.
 #[derive(Drop)]
@@ -57,8 +57,9 @@ impl<'a> Wanted<'a> {
         for (i, needed) in self.needed.iter().enumerate() {
             let mask = self.masks[i];
             if *needed != 0 && mask & decided == set {
-                for y in 0..16usize {
-                    counts[y] = counts[y].wrapping_add((mask >> y) & 1);
+                for y in 0..16 {
+                    let count = &mut counts[usize::from(y)];
+                    *count = count.wrapping_add(u16::from(contains(mask, y)));
                 }
             }
         }
@@ -85,7 +86,7 @@ impl<'a> Wanted<'a> {
         let mut most = 0;
         for y in 0..inputs {
             let count = counts[usize::from(y)];
-            if (decided >> y) & 1 == 0 && (next.is_none() || count > most) {
+            if !contains(decided, y) && (next.is_none() || count > most) {
                 next = Some(y);
                 most = count;
             }
@@ -101,7 +102,7 @@ fn first_undecided(inputs: u8, decided: Mask) -> Option<VarIx>
     ensures all { IsNone result → (y : ℕ) → y < inputs → bit_at decided y ≡ 1 }
 {
     for y in 0..inputs {
-        if (decided >> y) & 1 == 0 {
+        if !contains(decided, y) {
             return Some(y);
         }
     }

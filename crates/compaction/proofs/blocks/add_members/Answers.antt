@@ -1,11 +1,13 @@
-use Rattle.std.proofs.Common.{◌≡◌, ◌%◌, ◌^◌, ap, ◌∙◌, arith}
+use Rattle.std.proofs.Common.{◌≡◌, ◌%◌, ◌^◌, sym, ap, ◌∙◌, arith}
+use Rattle.std.proofs.lemmas.Bool.{iff_false}
+use Rattle.std.proofs.lemmas.Nat.Bits.{shr_and_one}
 use Rattle.std.proofs.Math.Nat.{mod-eq_of_lt}
 use Rattle.order_model.specs.Orders.{has}
 use Rattle.compaction.specs.Strips.{low_variables}
 use Rattle.class_laws.specs.Table.{ClassesOf, classes_of, set_of, with_variable}
 use Rattle.class_laws.proofs.LowSets.{low_more, low_same, low_new}
 use Rattle.compaction.proofs.blocks.add_members.Goals as goal
-use Rattle.compaction.proofs.blocks.add_members.Goals.{then-low-y-eq1+in_ok-strips, else-low-y-eq1}
+use Rattle.compaction.proofs.blocks.add_members.Goals.{then-contains+in_ok-strips, else-contains}
 
 pub add_low-requires-clause-new : goal.add_low-requires-clause-new
 add_low-requires-clause-new c = ap (λ (t : ClassesOf). has (set_of t) c.loop-y.y) c.loop-y.invariant
@@ -13,11 +15,14 @@ add_low-requires-clause-new c = ap (λ (t : ClassesOf). has (set_of t) c.loop-y.
 
 pub loop-y-preserved : goal.loop-y-preserved
 loop-y-preserved c =
-    elim c.if-low-y-eq1.branch [
-      | then-low-y-eq1+in_ok-strips w ↦
+    let s = shr_and_one c.args.low c.loop-y.y in
+    elim c.if-contains.branch [
+      | then-contains+in_ok-strips w ↦
           w.strips-is ∙ w.in_ok-strips.ensures ∙ ap (λ (t : ClassesOf). with_variable t c.loop-y.y) c.loop-y.invariant
-          ∙ ap (classes_of c.args.strips.problem) (low_more c.args.low c.loop-y.y w.if-low-y-eq1.true)
-      | else-low-y-eq1 w ↦ w.strips-is ∙ c.loop-y.invariant ∙ ap (classes_of c.args.strips.problem) (low_same c.args.low c.loop-y.y w.if-low-y-eq1.false)
+          ∙ ap (classes_of c.args.strips.problem) (low_more c.args.low c.loop-y.y (s ∙ c.contains.ensures.0 w.if-contains.true))
+      | else-contains w ↦
+          w.strips-is ∙ c.loop-y.invariant
+          ∙ ap (classes_of c.args.strips.problem) (low_same c.args.low c.loop-y.y (λ e. iff_false c.contains.ensures w.if-contains.false (sym s ∙ e)))
     ]
 
 pub returns : goal.returns

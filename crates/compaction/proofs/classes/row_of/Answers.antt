@@ -1,10 +1,10 @@
 use Rattle.std.proofs.Common.{ℕ, ◌+◌, eqb, cond, List, length, sym, ap, ◌∙◌, subst, arith, eq-eqb, ne_eqb}
 use Rattle.std.specs.Int.{bit_at}
 use Rattle.std.specs.List.{filter}
-use Rattle.std.proofs.lemmas.Nat.Bits.{shr_and_one}
+use Rattle.std.proofs.lemmas.Bool.{iff_false}
 use Rattle.compaction.proofs.RowSteps.{IsRowBelow, row_written, row_kept}
 use Rattle.compaction.proofs.classes.row_of.Goals as goal
-use Rattle.compaction.proofs.classes.row_of.Goals.{then-wanted-x-eq1, else-wanted-x-eq1}
+use Rattle.compaction.proofs.classes.row_of.Goals.{then-contains, else-contains}
 
 -- the row's entry at x
 entry : ℕ → List ℕ → ℕ → ℕ
@@ -15,19 +15,18 @@ unfolding entry
 loop-x-preserved c =
     let f = entry c.args.wanted c.args.masks.now in
     let x = c.loop-x.x in
-    elim c.if-wanted-x-eq1.branch [
-      | then-wanted-x-eq1 w ↦
-          let set_bit = sym (shr_and_one c.args.wanted x) ∙ w.if-wanted-x-eq1.true in
+    elim c.if-contains.branch [
+      | then-contains w ↦
           subst (λ (r : List ℕ). IsRowBelow f r (x + 1)) (sym w.row-is)
           (row_written f c.loop-x.row x w.count_with.result (omega arith)
           (w.count_with.ensures
           ∙ ap (λ b. cond b (length (filter (λ m. eqb (bit_at m x) 1) c.args.masks.now)) 0)
-          (sym (eq-eqb (bit_at c.args.wanted x) 1 set_bit)))
+          (sym (eq-eqb (bit_at c.args.wanted x) 1 (c.contains.ensures.0 w.if-contains.true))))
           c.loop-x.invariant)
-      | else-wanted-x-eq1 w ↦
+      | else-contains w ↦
           subst (λ (r : List ℕ). IsRowBelow f r (x + 1)) (sym w.row-is)
           (row_kept f c.loop-x.row x
           (ap (λ b. cond b (length (filter (λ m. eqb (bit_at m x) 1) c.args.masks.now)) 0)
-          (sym (ne_eqb (bit_at c.args.wanted x) 1 (λ e. w.if-wanted-x-eq1.false (shr_and_one c.args.wanted x ∙ e)))))
+          (sym (ne_eqb (bit_at c.args.wanted x) 1 (iff_false c.contains.ensures w.if-contains.false))))
           c.loop-x.invariant)
     ]
