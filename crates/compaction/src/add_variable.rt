@@ -31,21 +31,29 @@ pub fn are_in_order(numbers: &[u32]) -> bool
     true
 }
 
-/// A strip.
+/// Writes the two strips of each pair of strips, one after the other.
 #[inline(always)]
-fn strip_at(numbers: &[u32], strip: usize, k: u32) -> &[u32]
+fn write_pairs(pairs: &[(u32, u32)], numbers: &[u32], strip: usize, out: &mut [u32])
     requires few { length numbers.now ≤ 2 ^ 20 }
-    requires inside { k * strip + strip ≤ length numbers.now }
-    ensures long { length result.now ≡ strip }
-    ensures entries { (a : ℕ) → a < strip →
-        slice_index result.now a ≡ slice_index numbers.now (k * strip + a) }
+    requires named { AreNamed (names_of pairs.now) numbers.now strip }
+    requires long { length out.old ≡ length pairs.now * 2 * strip }
+    requires small { length pairs.now * 2 * strip ≤ 2 ^ 20 }
+    ensures { out.new ≡ unrolled (names_of pairs.now) numbers.now strip }
 {
-    let start = k as usize * strip;
-    let end = start + strip;
-    &numbers[start..end]
+    for j in 0..pairs.len() {
+        let (low, high) = pairs[j];
+        let start = j * 2 * strip;
+        for a in 0..strip {
+            out[start + a] = numbers[low as usize * strip + a];
+        }
+        for a in 0..strip {
+            out[start + strip + a] = numbers[high as usize * strip + a];
+        }
+    }
 }
 
-/// The two strips of each pair of strips, one after the other.
+/// The two strips of each pair of strips, one after the other. Short strips have loops of their
+/// own.
 fn pair_strips(
     alloc: Global,
     pairs: &[(u32, u32)],
@@ -55,13 +63,17 @@ fn pair_strips(
     requires bits { bits < 16 }
     requires few { length numbers.now ≤ 2 ^ 20 }
     requires named { AreNamed (names_of pairs.now) numbers.now (2 ^ bits) }
+    requires small { length pairs.now * 2 * 2 ^ bits ≤ 2 ^ 20 }
     ensures { IfOk result (λ v. v.items ≡ unrolled (names_of pairs.now) numbers.now (2 ^ bits)) }
 {
     let strip = 1usize << bits;
-    let mut paired = Vec::with_capacity(alloc, numbers.len())?;
-    for pair in pairs {
-        paired.extend_from_slice(strip_at(numbers, strip, pair.0))?;
-        paired.extend_from_slice(strip_at(numbers, strip, pair.1))?;
+    let mut paired = vec![in alloc; 0u32; pairs.len() * 2 * strip]?;
+    match bits {
+        0 => write_pairs(pairs, numbers, 1, &mut paired),
+        1 => write_pairs(pairs, numbers, 2, &mut paired),
+        2 => write_pairs(pairs, numbers, 4, &mut paired),
+        3 => write_pairs(pairs, numbers, 8, &mut paired),
+        _ => write_pairs(pairs, numbers, strip, &mut paired),
     }
     Ok(paired)
 }

@@ -59,19 +59,54 @@ impl Scratch {
         ensures count { CountsMasks masks.now x (places.pairs numbers.now (2 ^ rank)) result }
         ensures same { self.new ≡ self.old }
     {
-        let classes = masks.len();
-        let half = numbers.len() / 2;
-        let heads = &mut self.heads[..classes];
-        let next = &mut self.next[..half];
-        let stamps = &mut self.stamps[..classes];
-        let marks = &mut self.marks[..classes];
-        let first = &mut self.first[..half];
-        heads.fill(half as u32);
-        stamps.fill(0);
-        chain(numbers, rank, heads, next);
-        find_firsts(numbers, rank, heads, next, stamps, marks, first);
-        count_firsts(numbers, rank, x, masks, first)
+        count_in(
+            numbers,
+            rank,
+            x,
+            masks,
+            &mut self.heads,
+            &mut self.next,
+            &mut self.stamps,
+            &mut self.marks,
+            &mut self.first,
+        )
     }
+}
+
+/// How many distinct pairs have a mask with `x`, in rows that are long enough.
+fn count_in(
+    numbers: &[u32],
+    rank: u32,
+    x: u8,
+    masks: &[u16],
+    heads: &mut [u32],
+    next: &mut [u32],
+    stamps: &mut [u32],
+    marks: &mut [u32],
+    first: &mut [u32],
+) -> u32
+    requires table { IsPairTable numbers.now rank (length masks.now) }
+    requires variable { x < 16 }
+    requires few { length masks.now ≤ length numbers.now }
+    requires heads { length numbers.now ≤ length heads.old }
+    requires next { length numbers.now ≤ length next.old }
+    requires stamps { length numbers.now ≤ length stamps.old }
+    requires marks { length numbers.now ≤ length marks.old }
+    requires first { length numbers.now ≤ length first.old }
+    ensures { CountsMasks masks.now x (places.pairs numbers.now (2 ^ rank)) result }
+{
+    let classes = masks.len();
+    let half = numbers.len() / 2;
+    let heads = &mut heads[..classes];
+    let next = &mut next[..half];
+    let stamps = &mut stamps[..classes];
+    let marks = &mut marks[..classes];
+    let first = &mut first[..half];
+    heads.fill(half as u32);
+    stamps.fill(0);
+    chain(numbers, rank, heads, next);
+    find_firsts(numbers, rank, heads, next, stamps, marks, first);
+    count_firsts(numbers, rank, x, masks, first)
 }
 
 /// How many pairs that are the first of their kind have a mask with `x`.

@@ -1,4 +1,4 @@
-use Rattle.std.proofs.Common.{◌≡◌, ◌+◌, ◌*◌, ◌/◌, ◌^◌, length, get_or, sym, ap, ◌∙◌, subst, arith}
+use Rattle.std.proofs.Common.{◌≡◌, ℕ, List, refl, ◌+◌, ◌*◌, ◌/◌, ◌^◌, length, get_or, sym, ap, ◌∙◌, subst, arith}
 use Rattle.std.proofs.Math.Nat.{add-mul-div_right, div-eq_of_lt, mul-le-mul_left}
 use Rattle.std.proofs.lemmas.Nat.{pow_pos}
 use Rattle.compaction.specs.Strips.{AreNamed, names_of, unrolled}
@@ -6,7 +6,8 @@ use Rattle.pair_numbering.specs.Keys.{TellsPairs}
 use Rattle.class_laws.specs.Places as places
 use Rattle.class_laws.proofs.Index.{length-pairs}
 use Rattle.pair_numbering.proofs.Names.{names_below, length_names}
-use Rattle.compaction.proofs.Paired.{paired_few, paired_long, paired_lower, paired_named, paired_upper}
+use Rattle.compaction.proofs.Unrolled.{length_named}
+use Rattle.compaction.proofs.Paired.{length_names_of, paired_few, paired_long, paired_lower, paired_named, paired_upper}
 use Rattle.compaction.proofs.Stripped.{high_strips, high_tells, unrolled_below}
 use Rattle.compaction.proofs.add_variable.add_by_pairs.Goals as goal
 
@@ -32,6 +33,21 @@ pair_strips-requires-clause-named c =
     subst (λ us. AreNamed (names_of us) c.args.numbers.now (2 ^ c.args.bits)) (sym c.deref.ensures.value)
     (paired_named c.args.outer.now c.args.numbers.now (2 ^ c.args.bits) c.args.rank table.strips table.whole c.in_ok-runs.runs.numbers.items
     c.in_ok-runs.runs.pairs.items c.in_ok-runs.ensures)
+
+pub pair_strips-requires-clause-small : goal.pair_strips-requires-clause-small
+pair_strips-requires-clause-small c =
+    let table = c.requires.table in
+    let len = 2 ^ c.args.bits in
+    let pairs = c.in_ok-runs.runs.pairs.items in
+    let named =
+    paired_named c.args.outer.now c.args.numbers.now len c.args.rank table.strips table.whole c.in_ok-runs.runs.numbers.items pairs
+    c.in_ok-runs.ensures in
+    let few = paired_few c.args.outer.now c.args.numbers.now len c.args.rank table.strips table.whole c.in_ok-runs.runs.numbers.items pairs
+    c.in_ok-runs.ensures (unrolled (names_of pairs) c.args.numbers.now len) refl in
+    let long = length_named (names_of pairs) c.args.numbers.now len named ∙ ap (λ k. k * len) (length_names_of pairs) in
+    let same = ap (λ (us : List (ℕ × ℕ)). length us * 2 * len) c.deref.ensures.value in
+    let most = table.len in
+    omega arith
 
 pub tell_pairs-requires-clause-table : goal.tell_pairs-requires-clause-table
 tell_pairs-requires-clause-table c =
