@@ -3,21 +3,23 @@
 --     within, looked_up      the table at a place, if there is one
 --     earlier_set      the table of a set without its largest member
 --     one_set_more      one more of them
+--     can_take, with_larger      a larger member can come into all of them; with those that have it they are the first sets
 --     larger_set, lacks_larger      the mask of a set with a larger member, which it lacked
-use Rattle.std.proofs.Common.{◌≡◌, ℕ, ◌+◌, ◌*◌, ◌%◌, ◌^◌, ◌<◌, ltb, List, Option, None, Some, IfSome, is_some, [], ◌∷◌, ◌++◌, map, length, get_or, false, sym, ap, ◌∙◌, arith, bit_or, zero-mul}
-use Rattle.std.specs.List.{range_with_len}
+use Rattle.std.proofs.Common.{◌≡◌, ℕ, zero, suc, subst, ◌+◌, ◌*◌, ◌%◌, ◌^◌, ◌<◌, ltb, List, Option, None, Some, IfSome, is_some, [], ◌∷◌, ◌++◌, map, length, get_or, false, sym, ap, ◌∙◌, arith, bit_or, zero-mul}
+use Rattle.std.specs.List.{All, range_with_len}
 use Rattle.std.specs.Borrow.{Bor}
 use Rattle.std.proofs.Math.Nat.{mod-eq_of_lt}
 use Rattle.std.proofs.lemmas.Bool.{ltb-true}
 use Rattle.std.proofs.lemmas.Nat.{one_shl, or_disjoint}
 use Rattle.std.proofs.lemmas.Nat.Bits.{and_pow, bit_at_above}
-use Rattle.std.proofs.lemmas.List.{length-append}
-use Rattle.std.proofs.lemmas.List.FromFn.{map-range_with_len_more, get_or-map-range_with_len}
+use Rattle.std.proofs.lemmas.List.{length-append, length-map, append-nil, append_assoc, ext_get_or, get_or-map}
+use Rattle.std.proofs.lemmas.List.Elements.{All-from_get_or}
+use Rattle.std.proofs.lemmas.List.FromFn.{map-range_with_len_more, get_or-map-range_with_len, length-map-range_with_len}
 use Rattle.order_model.specs.Orders.{has, members}
 use Rattle.order_model.specs.Problems.{TruthTables}
-use Rattle.class_laws.specs.Table.{ClassesOf, classes_of}
+use Rattle.class_laws.specs.Table.{ClassesOf, classes_of, set_of, with_variable}
 use Rattle.class_laws.proofs.LowSets.{low_new}
-use Rattle.compaction.specs.Strips.{AreOfFirstSets}
+use Rattle.compaction.specs.Strips.{AreOfFirstSets, CanTakeLow, low_variables}
 
 -- the table at a place
 pub first_set : (p : TruthTables) (tables : List ClassesOf) (i : ℕ) (d : ClassesOf) → AreOfFirstSets p tables → i < length tables →
@@ -63,3 +65,50 @@ larger_set set x lt =
 -- a set of smaller variables lacks the larger one
 pub lacks_larger : (n set x : ℕ) → set < 2 ^ x → has (members n set) x ≡ false
 lacks_larger n set x lt = ap (λ m. has (members n m) x) (sym (mod-eq_of_lt lt)) ∙ low_new n set x
+
+-- n tables from a place on, one after the other
+ranges : (p : TruthTables) (a n : ℕ) (m : ℕ) →
+    map (classes_of p) (range_with_len a n) ++ map (classes_of p) (range_with_len (a + n) m) ≡ map (classes_of p) (range_with_len a (n + m))
+ranges p a n zero = append-nil (map (classes_of p) (range_with_len a n)) ∙ ap (λ k. map (classes_of p) (range_with_len a k)) (let e : n ≡ n + 0 = omega arith in e)
+ranges p a n (suc m) =
+    ap (λ ts. map (classes_of p) (range_with_len a n) ++ ts) (more (a + n) m)
+    ∙ (sym (append_assoc (map (classes_of p) (range_with_len a n)) (map (classes_of p) (range_with_len (a + n) m)) (classes_of p (a + n + m) ∷ []))
+    ∙ (ap (λ ts. ts ++ classes_of p (a + n + m) ∷ []) (ranges p a n m)
+    ∙ (sym (map-range_with_len_more (classes_of p) a (n + m) (a + n + m) (omega arith))
+    ∙ ap (λ k. map (classes_of p) (range_with_len a k)) (let e : n + m + 1 ≡ n + suc m = omega arith in e))))
+  where
+    more : (b k : ℕ) → map (classes_of p) (range_with_len b (suc k)) ≡ map (classes_of p) (range_with_len b k) ++ classes_of p (b + k) ∷ []
+    more b k = ap (λ z. map (classes_of p) (range_with_len b z)) (let e : suc k ≡ k + 1 = omega arith in e)
+        ∙ map-range_with_len_more (classes_of p) b k (b + k) (omega arith)
+
+module _ (p : TruthTables) (tables : List ClassesOf) (x : ℕ) (first : AreOfFirstSets p tables) (long : length tables ≡ 2 ^ x) where
+  -- a larger member can come into all of them
+  pub can_take : x < low_variables p → All (CanTakeLow x) tables
+  can_take low = All-from_get_or (CanTakeLow x) tables (classes_of p 0) (λ i lt.
+      let e = first_set p tables i (classes_of p 0) first lt in
+      (subst (λ (t : ClassesOf). x < low_variables t.problem) (sym e) low,
+      ap (λ (t : ClassesOf). has (set_of t) x) e ∙ lacks_larger p.inputs i x (omega arith)))
+
+  -- with those that have it they are the first sets
+  pub with_larger : AreOfFirstSets p (tables ++ map (λ t. with_variable t x) tables)
+  with_larger =
+      (λ z. first z ++ larger z) ∙ (ranges p 0 (length tables) (length tables)
+      ∙ ap (λ k. map (classes_of p) (range_with_len 0 k)) counted)
+    where
+      counted : length tables + length tables ≡ length (tables ++ map (λ t. with_variable t x) tables)
+      counted = sym (length-append tables (map (λ t. with_variable t x) tables)
+          ∙ ap (λ k. length tables + k) (length-map tables (λ t. with_variable t x)))
+
+      same : (i : ℕ) → i < length tables → with_variable (get_or tables i (classes_of p 0)) x ≡ classes_of p (length tables + i)
+      same i lt = ap (λ (t : ClassesOf). with_variable t x) (first_set p tables i (classes_of p 0) first lt)
+          ∙ ap (classes_of p) (larger_set i x (omega arith) ∙ ap (λ k. k + i) (sym long))
+
+      larger : map (λ t. with_variable t x) tables ≡ map (classes_of p) (range_with_len (0 + length tables) (length tables))
+      larger = ext_get_or (with_variable (classes_of p 0) x) (map (λ t. with_variable t x) tables)
+          (map (classes_of p) (range_with_len (0 + length tables) (length tables)))
+          (length-map tables (λ t. with_variable t x) ∙ sym (length-map-range_with_len (classes_of p) (0 + length tables) (length tables)))
+          (λ i lt. let l = length-map tables (λ t. with_variable t x) in
+          get_or-map (λ t. with_variable t x) tables i (classes_of p 0) (with_variable (classes_of p 0) x) (omega arith)
+          ∙ (same i (omega arith)
+          ∙ sym (get_or-map-range_with_len (classes_of p) (0 + length tables) (length tables) i (length tables + i)
+          (with_variable (classes_of p 0) x) (omega arith) (omega arith))))

@@ -12,8 +12,9 @@
 --     AreDistinct t count      all subfunctions are distinct and depend on the whole set
 --     HoldsTable      either of them
 --     AreOfFirstSets p tables      the tables of the first sets, in the order of their masks
+--     CanTakeLow x t      the variable is a low one outside the table's set
 --     HoldsBytes t low outer bytes rows masks      strips whose entries stand in rows, which bytes name: a row has an entry for each assignment of the variables below 3 outside the set
-use Rattle.std.specs.Prelude.{◌≡◌, ℕ, ◌+◌, ◌*◌, ◌^◌, ◌<◌, ◌≤◌, Bool, IsTrue, min, List, [], ◌∷◌, Option, None, Some, map, take, drop, length, reverse, slice_index, nat_eq}
+use Rattle.std.specs.Prelude.{◌≡◌, ℕ, ◌+◌, ◌*◌, ◌^◌, ◌<◌, ◌≤◌, Bool, IsFalse, IsTrue, min, List, [], ◌∷◌, Option, None, Some, map, take, drop, length, reverse, slice_index, nat_eq}
 use Rattle.std.specs.List.{filter, flat_map, range_with_len}
 use Rattle.order_model.specs.Orders.{has, variables}
 use Rattle.order_model.specs.Problems.{TruthTables, value_at}
@@ -127,3 +128,7 @@ pub record HoldsBytes (t : ClassesOf) (low : ℕ) (outer bytes rows masks : List
 -- the tables of the first sets, in the order of their masks
 abbrev pub AreOfFirstSets : TruthTables → List ClassesOf → Type 0
 AreOfFirstSets p tables = tables ≡ map (classes_of p) (range_with_len 0 (length tables))
+
+-- the variable is a low one outside the table's set
+abbrev pub CanTakeLow : ℕ → ClassesOf → Type 0
+CanTakeLow x t = (x < low_variables t.problem) × IsFalse (has (set_of t) x)

@@ -1,19 +1,26 @@
 //! What the walks over a problem's sets begin with.
 
-ghost use Rattle.std.specs.Prelude.{◌≡◌, ◌<◌, ◌≤◌, IfOk, IfSome};
-ghost use Rattle.class_laws.specs.Table.{classes_of};
-ghost use Rattle.compaction.specs.Strips.{AreOfFirstSets};
+ghost use Rattle.std.specs.Prelude.{◌≡◌, ◌<◌, ◌≤◌, map, IfOk, IfSome};
+ghost use Rattle.std.specs.List.{All};
+ghost use Rattle.class_laws.specs.Table.{classes_of, with_variable};
+ghost use Rattle.compaction.specs.Strips.{AreOfFirstSets, CanTakeLow};
 
 use crate::bytes::ByteKeys;
 use crate::names::AllNamePairs;
 use crate::strips::{Strips, low_variables};
-use order_model::{Mask, Problem};
+use order_model::{Mask, Problem, VarIx};
 use std::alloc::{AllocError, Global};
 use std::marker::Model;
+use std::thread;
+use std::thread::Threads;
 
 /// Truth tables of no more distinct strips than these have the tables of all low sets made
 /// beforehand, which take 6,561 numbers a strip.
 const MOST_STRIPS: usize = 1 << 10;
+
+/// So many threads at most share the tables with one more variable: more than processors, since
+/// the tables of larger sets are smaller.
+const MOST_THREADS: usize = 16;
 
 /// What the walks over a problem's sets begin with: the tables of all sets of low variables if they
 /// are small, else the keys of the sets of the lowest three variables; and the pairs of names for
@@ -38,23 +45,88 @@ impl<'a> Model for Beginning<'a> {
         × AreOfFirstSets b.problem.now b.keys.items };
 }
 
-/// The tables of all sets of low variables, in the order of their masks, from that of the empty
-/// set.
+/// Tables with one more low variable in each set.
+fn with_low<'a>(
+    alloc: Global,
+    tables: &[Strips<'a>],
+    x: VarIx,
+) -> Result<Vec<Strips<'a>>, AllocError>
+    requires { All (CanTakeLow x) tables.now }
+    ensures { IfOk result (λ v. v.items ≡ map (λ t. with_variable t x) tables.now) }
+{
+    let mut larger = Vec::with_capacity(alloc, tables.len())?;
+    for table in tables {
+        larger.push(table.add_low(alloc, x)?)?;
+    }
+    Ok(larger)
+}
+
+/// The same, by several threads.
+fn with_low_by_threads<'a, R: Threads + Sync>(
+    rt: &R,
+    alloc: Global,
+    tables: &[Strips<'a>],
+    x: VarIx,
+) -> Result<Vec<Strips<'a>>, AllocError>
+    requires { All (CanTakeLow x) tables.now }
+    ensures { IfOk result (λ v. v.items ≡ map (λ t. with_variable t x) tables.now) }
+{
+    let size = tables.len().div_ceil(MOST_THREADS).max(1);
+    let parts = thread::map_chunks(
+        rt,
+        alloc,
+        tables,
+        size,
+        &|_start: usize, part: &[Strips<'_>]| -> Result<Vec<Strips<'_>>, AllocError>
+            requires { All (CanTakeLow x) part.now }
+            ensures { IfOk result (λ v. v.items ≡ map (λ t. with_variable t x) part.entry.now) }
+        { with_low(alloc, part, x) },
+    )?;
+    let mut larger = Vec::with_capacity(alloc, tables.len())?;
+    for part in parts {
+        let mut part = part?;
+        larger.append(&mut part)?;
+    }
+    Ok(larger)
+}
+
+/// The tables of all sets of low variables, in the order of their masks, from that of the empty set
+/// if there is one.
 fn tables_of_low_sets<'a>(
     alloc: Global,
     problem: &'a Problem,
-    empty: Strips<'a>,
+    empty: Option<Strips<'a>>,
 ) -> Result<Vec<Strips<'a>>, AllocError>
-    requires { empty ≡ classes_of problem.now 0 }
+    requires { IfSome empty (λ t. t ≡ classes_of problem.now 0) }
     ensures { IfOk result (λ v. AreOfFirstSets problem.now v.items) }
 {
-    let low = low_variables(problem);
-    let mut tables = Vec::with_capacity(alloc, 1usize << low)?;
-    tables.push(empty)?;
-    for largest in 0..low {
-        for without in 0..1usize << largest {
-            let more = tables[without].add_low(alloc, largest)?;
-            tables.push(more)?;
+    let mut tables = Vec::new(alloc);
+    if let Some(empty) = empty {
+        tables.push(empty)?;
+        for largest in 0..low_variables(problem) {
+            let mut larger = with_low(alloc, &tables, largest)?;
+            tables.append(&mut larger)?;
+        }
+    }
+    Ok(tables)
+}
+
+/// The same, by several threads.
+fn tables_by_threads<'a, R: Threads + Sync>(
+    rt: &R,
+    alloc: Global,
+    problem: &'a Problem,
+    empty: Option<Strips<'a>>,
+) -> Result<Vec<Strips<'a>>, AllocError>
+    requires { IfSome empty (λ t. t ≡ classes_of problem.now 0) }
+    ensures { IfOk result (λ v. AreOfFirstSets problem.now v.items) }
+{
+    let mut tables = Vec::new(alloc);
+    if let Some(empty) = empty {
+        tables.push(empty)?;
+        for largest in 0..low_variables(problem) {
+            let mut larger = with_low_by_threads(rt, alloc, &tables, largest)?;
+            tables.append(&mut larger)?;
         }
     }
     Ok(tables)
@@ -82,35 +154,70 @@ fn keys_of_low_sets<'a>(
     Ok(keys)
 }
 
+/// What a beginning has before its tables are made: with the keys and the pairs of names, and the
+/// table of the empty set if those of all low sets are to be made of it.
+#[derive(Drop)]
+struct Basis<'a> {
+    empty: Option<Strips<'a>>,
+    keys: Vec<ByteKeys<'a>>,
+    names: AllNamePairs,
+}
+
+/// A beginning without its tables.
+fn basis_of<'a>(alloc: Global, problem: &'a Problem) -> Result<Basis<'a>, AllocError>
+    ensures empty { IfOk result (λ b. IfSome b.empty (λ t. t ≡ classes_of problem.now 0)) }
+    ensures keys { IfOk result (λ b. AreOfFirstSets problem.now b.keys.items) }
+{
+    if problem.inputs() < 8 {
+        return Ok(Basis {
+            empty: Some(Strips::of_problem(alloc, problem)?),
+            keys: Vec::new(alloc),
+            names: AllNamePairs::none(alloc),
+        });
+    }
+    let keys = ByteKeys::of_problem(alloc, problem)?;
+    let names = AllNamePairs::of(alloc, keys.names(), problem.inputs() - 8)?;
+    if keys.strips() <= MOST_STRIPS {
+        return Ok(Basis {
+            empty: Some(keys.write_out(alloc)?),
+            keys: Vec::new(alloc),
+            names,
+        });
+    }
+    Ok(Basis {
+        empty: None,
+        keys: keys_of_low_sets(alloc, problem, keys)?,
+        names,
+    })
+}
+
 impl<'a> Beginning<'a> {
-    /// With all that serves several blocks.
+    /// With all that serves several blocks, made by the calling thread.
     pub fn of(alloc: Global, problem: &'a Problem) -> Result<Beginning<'a>, AllocError>
         ensures { IfOk result (λ b. b ≡ problem.now) }
     {
-        if problem.inputs() < 8 {
-            let empty = Strips::of_problem(alloc, problem)?;
-            return Ok(Beginning {
-                problem,
-                tables: tables_of_low_sets(alloc, problem, empty)?,
-                keys: Vec::new(alloc),
-                names: AllNamePairs::none(alloc),
-            });
-        }
-        let keys = ByteKeys::of_problem(alloc, problem)?;
-        let names = AllNamePairs::of(alloc, keys.names(), problem.inputs() - 8)?;
-        if keys.strips() <= MOST_STRIPS {
-            let empty = keys.write_out(alloc)?;
-            return Ok(Beginning {
-                problem,
-                tables: tables_of_low_sets(alloc, problem, empty)?,
-                keys: Vec::new(alloc),
-                names,
-            });
-        }
+        let Basis { empty, keys, names } = basis_of(alloc, problem)?;
         Ok(Beginning {
             problem,
-            tables: Vec::new(alloc),
-            keys: keys_of_low_sets(alloc, problem, keys)?,
+            tables: tables_of_low_sets(alloc, problem, empty)?,
+            keys,
+            names,
+        })
+    }
+
+    /// The same, made by several threads.
+    pub fn by_threads<R: Threads + Sync>(
+        rt: &R,
+        alloc: Global,
+        problem: &'a Problem,
+    ) -> Result<Beginning<'a>, AllocError>
+        ensures { IfOk result (λ b. b ≡ problem.now) }
+    {
+        let Basis { empty, keys, names } = basis_of(alloc, problem)?;
+        Ok(Beginning {
+            problem,
+            tables: tables_by_threads(rt, alloc, problem, empty)?,
+            keys,
             names,
         })
     }
