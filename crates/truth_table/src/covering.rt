@@ -9,8 +9,8 @@ ghost use Rattle.order_model.specs.Products.{product_functions, product_of};
 ghost use Rattle.pla_reader.specs.Masks.{Fits};
 ghost use Rattle.truth_table.specs.Terms.{AddsTerm, AreGroupWords, literal_at, literals_at};
 
-use order_model::Term;
 use order_model::packed::{lower_half, words_per_table};
+use order_model::{Term, contains};
 use rayon::prelude::*;
 use std::alloc::{AllocError, Global};
 use std::thread::Threads;
@@ -20,11 +20,11 @@ fn literal_points(term: Term, x: u8) -> u64
     requires { x < 6 }
     ensures { (b : ℕ) → b < 64 → (bit_at result b == 1) ≡ literal_at term b x }
 {
-    if (term.care >> x) & 1 == 0 {
+    if !contains(term.care, x) {
         return u64::MAX;
     }
     let lower = lower_half(x);
-    if (term.value >> x) & 1 == 1 {
+    if contains(term.value, x) {
         !lower
     } else {
         lower

@@ -15,7 +15,7 @@ use crate::fixing::fix_variable;
 use crate::kept_points::kept_points;
 use crate::merging::{assignment_points, merge, push_values};
 use crate::row::Row;
-use order_model::{Mask, Order, Problem};
+use order_model::{Mask, Order, Problem, contains};
 use pla_reader::Cover;
 use std::alloc::{AllocError, Global};
 use std::marker::Model;
@@ -108,8 +108,8 @@ impl Tables {
         let n = self.problem.inputs();
         let mut words = self.problem.words(output).to_vec(alloc)?;
         for x in 0..n {
-            if (care >> x) & 1 == 1 {
-                fix_variable(n, &mut words, x, (value >> x) & 1 == 1);
+            if contains(care, x) {
+                fix_variable(n, &mut words, x, contains(value, x));
             }
         }
         Ok(Row::new(n, words))
