@@ -7,7 +7,7 @@ ghost use Rattle.sifting.specs.Managed.{truth_tables_of, size_of, count_of, IsMa
 
 use crate::build::levels_of;
 use crate::levels::{Level, swap_levels};
-use order_model::{Diagram, Order, Pairs};
+use order_model::{Diagram, Order, Pairs, contains};
 use std::alloc::{AllocError, Global};
 use std::marker::Model;
 
@@ -85,7 +85,7 @@ impl Manager {
             (slice_index self.now.order (level + 1))) }
     {
         let variables = self.order.variables();
-        (self.pairs.below(variables[level]) >> variables[level + 1]) & 1 == 0
+        !contains(self.pairs.below(variables[level]), variables[level + 1])
     }
 
     /// The manager with the variables of a level and the next one exchanged (Rudell 1993). The
