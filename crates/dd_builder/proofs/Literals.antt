@@ -34,14 +34,14 @@ some_literal term x p e = ap (λ b. literal_holds p (x, cond (eqb b 1) (Some (eq
 one_bit : (n x : ℕ) → bit_and (n / 2 ^ x) 1 ≢ 0 → bit_at n x ≡ 1
 one_bit n x ne = let e = shr_and_one n x in let l = bit_at-lt n x in let ne' : bit_at n x ≢ 0 = (λ z. ne (e ∙ z)) in omega arith
 
-zero_bit : (n x : ℕ) → bit_and (n / 2 ^ x) 1 ≢ 1 → bit_at n x ≡ 0
-zero_bit n x ne = let e = shr_and_one n x in let l = bit_at-lt n x in let ne' : bit_at n x ≢ 1 = (λ z. ne (e ∙ z)) in omega arith
+zero_bit : (n x : ℕ) → bit_at n x ≢ 1 → bit_at n x ≡ 0
+zero_bit n x ne = let l = bit_at-lt n x in omega (arith, l, ne)
 
-pub literal_absent : (s : Knowledge) (term : Term) (x id : ℕ) → Knows s id → bit_and (term.care / 2 ^ x) 1 ≡ 0 →
+pub literal_absent : (s : Knowledge) (term : Term) (x y id : ℕ) → x ≡ y → Knows s id → bit_at term.care y ≢ 1 →
     Means s id (with_literal term x (function_in s id))
 unfolding with_literal
-literal_absent s term x id known e = means_same s id (function_in s id) (with_literal term x (function_in s id)) (means_own s id known)
-    (λ p l. ap (λ b. b && function_in s id p) (sym (no_literal term x p (sym (shr_and_one term.care x) ∙ e))))
+literal_absent s term x y id at known absent = means_same s id (function_in s id) (with_literal term x (function_in s id)) (means_own s id known)
+    (λ p l. ap (λ b. b && function_in s id p) (sym (no_literal term x p (ap (bit_at term.care) at ∙ zero_bit term.care y absent))))
 
 upper_only : (b v z : Bool) → z ≡ false → cond b v z ≡ (beq b true && v)
 upper_only true v z e = refl
@@ -51,22 +51,22 @@ lower_only : (b v z : Bool) → z ≡ false → cond b z v ≡ (beq b false && v
 lower_only true v z e = e
 lower_only false v z e = refl
 
-pub literal_upper : (s : Knowledge) (term : Term) (x y id made : ℕ) → x ≡ y → bit_and (term.care / 2 ^ y) 1 ≢ 0 →
-    bit_and (term.value / 2 ^ y) 1 ≡ 1 → Means s made (branch x (function_in s 0) (function_in s id)) →
+pub literal_upper : (s : Knowledge) (term : Term) (x y id made : ℕ) → x ≡ y → bit_at term.care y ≡ 1 → bit_at term.value y ≡ 1 →
+    Means s made (branch x (function_in s 0) (function_in s id)) →
     Means s made (with_literal term x (function_in s id))
 unfolding with_literal branch
 literal_upper s term x y id made at care value m = means_same s made (branch x (function_in s 0) (function_in s id)) (with_literal term x (function_in s id)) m
     (λ p l. upper_only (bit p x) (function_in s id p) (function_in s 0 p) (function_zero s p)
-    ∙ ap (λ b. b && function_in s id p) (sym (some_literal term x p (ap (bit_at term.care) at ∙ one_bit term.care y care)
-    ∙ ap (λ k. beq (bit p x) (eqb k 1)) (ap (bit_at term.value) at ∙ (sym (shr_and_one term.value y) ∙ value)))))
+    ∙ ap (λ b. b && function_in s id p) (sym (some_literal term x p (ap (bit_at term.care) at ∙ care)
+    ∙ ap (λ k. beq (bit p x) (eqb k 1)) (ap (bit_at term.value) at ∙ value))))
 
-pub literal_lower : (s : Knowledge) (term : Term) (x y id made : ℕ) → x ≡ y → bit_and (term.care / 2 ^ y) 1 ≢ 0 →
-    bit_and (term.value / 2 ^ y) 1 ≢ 1 → Means s made (branch x (function_in s id) (function_in s 0)) →
+pub literal_lower : (s : Knowledge) (term : Term) (x y id made : ℕ) → x ≡ y → bit_at term.care y ≡ 1 → bit_at term.value y ≢ 1 →
+    Means s made (branch x (function_in s id) (function_in s 0)) →
     Means s made (with_literal term x (function_in s id))
 unfolding with_literal branch
 literal_lower s term x y id made at care value m = means_same s made (branch x (function_in s id) (function_in s 0)) (with_literal term x (function_in s id)) m
     (λ p l. lower_only (bit p x) (function_in s id p) (function_in s 0 p) (function_zero s p)
-    ∙ ap (λ b. b && function_in s id p) (sym (some_literal term x p (ap (bit_at term.care) at ∙ one_bit term.care y care)
+    ∙ ap (λ b. b && function_in s id p) (sym (some_literal term x p (ap (bit_at term.care) at ∙ care)
     ∙ ap (λ k. beq (bit p x) (eqb k 1)) (ap (bit_at term.value) at ∙ zero_bit term.value y value))))
 
 -- ---- all literals

@@ -11,7 +11,7 @@ ghost use Rattle.dd_builder.specs.Literals.{with_literal, with_product, product_
 
 use crate::laws::stores_have_plans;
 use crate::operations::apply;
-use order_model::Term;
+use order_model::{Term, contains};
 use unique_table::{NodeId, Operation, Session, Store, StoreFull};
 
 /// The id of a term's literal of a level's variable, if it has one, and of the function of an id
@@ -31,10 +31,10 @@ fn literal_and(
     ensures level { IfOk result (λ made. level ≤ depth_in session.new made) }
 {
     let x = store.order().variables()[usize::from(level)];
-    if (term.care >> x) & 1 == 0 {
+    if !contains(term.care, x) {
         return Ok(id);
     }
-    if (term.value >> x) & 1 == 1 {
+    if contains(term.value, x) {
         store.make(session, level, 0, id)
     } else {
         store.make(session, level, id, 0)
