@@ -8,7 +8,7 @@ ghost use Rattle.order_solve.specs.Needs.{IsInNextLayer, affordable, needed};
 
 use crate::bench::Bench;
 use crate::setting::Setting;
-use order_model::Mask;
+use order_model::{Mask, contains};
 use std::alloc::{AllocError, Global};
 use subset_layers::{Block, Costs};
 
@@ -19,7 +19,7 @@ fn affordable_members(mask: Mask, costs: &Costs, bound: u32) -> Mask
 {
     let mut found: Mask = 0;
     for x in 0..costs.inputs() {
-        if (mask >> x) & 1 == 1 {
+        if contains(mask, x) {
             let cost = costs.cost_of(mask - (1 << x)).unwrap();
             if cost <= bound {
                 found |= 1 << x;

@@ -1,25 +1,28 @@
 use Rattle.std.proofs.Common.{◌≡◌, ℕ, ◌+◌, ◌-◌, ◌<◌, unwrap_or, sym, ap, ◌∙◌, subst, arith}
-use Rattle.std.proofs.lemmas.Nat.Bits.{shr_and_one}
+use Rattle.std.proofs.lemmas.Bool.{iff_false}
+use Rattle.std.proofs.lemmas.Nat.{one_shl}
 use Rattle.order_model.specs.Orders.{has}
 use Rattle.order_model.proofs.Bits.Problems.{MaskOfFirst, mask_none, mask_with_next, mask_without_next}
+use Rattle.order_model.proofs.Precedence.Greedy.{pow_le_bit}
+use Rattle.order_model.proofs.Precedence.MaskLaws.{member_from}
 use Rattle.subset_layers.specs.Layers.{masks_of, layer_with}
 use Rattle.subset_layers.specs.Costs.{cost_at, cost_without}
-use Rattle.subset_layers.proofs.CostLists.{member_from_bit, power_le_mask, shifted_bit, less_one}
+use Rattle.subset_layers.proofs.CostLists.{less_one}
 use Rattle.order_solve.proofs.Wanted.{is_affordable, affordable_is, affordable_yes, affordable_dear, affordable_absent}
 use Rattle.order_solve.proofs.needs.affordable_members.Goals as goal
-use Rattle.order_solve.proofs.needs.affordable_members.Goals.{then-mask-x-eq1+then-cost-bound, then-mask-x-eq1+else-cost-bound, else-mask-x-eq1}
+use Rattle.order_solve.proofs.needs.affordable_members.Goals.{then-contains+then-cost-bound, then-contains+else-cost-bound, else-contains}
 
 pub overflow_sub-mask : goal.overflow_sub-mask
 overflow_sub-mask c =
-    let e = shifted_bit c.args.mask c.loop-x.x (omega arith) c.if-mask-x-eq1.true in
-    let p = power_le_mask c.args.mask c.loop-x.x c.if-mask-x-eq1.true in
+    let e = one_shl c.loop-x.x 16 (omega arith) in
+    let p = pow_le_bit c.args.mask c.loop-x.x (c.contains.ensures.0 c.if-contains.true) in
     omega arith
 
 pub unwrap-cost-requires : goal.unwrap-cost-requires
 unwrap-cost-requires c =
-    let e = shifted_bit c.args.mask c.loop-x.x (omega arith) c.if-mask-x-eq1.true in
+    let e = one_shl c.loop-x.x 16 (omega arith) in
     let n = c.args.costs.now.inputs in
-    let member = member_from_bit n c.args.mask c.loop-x.x (omega arith) c.if-mask-x-eq1.true in
+    let member = member_from n c.args.mask c.loop-x.x (omega arith) (c.contains.ensures.0 c.if-contains.true) in
     c.cost_of.ensures.some.1
     (ap (λ k. has (masks_of (layer_with n c.args.costs.now.size)) (c.args.mask - k)) e
     ∙ less_one n c.args.costs.now.size c.args.mask c.loop-x.x c.requires member)
@@ -32,28 +35,28 @@ loop-x-preserved c =
     let costs = c.args.costs.now in
     let test = is_affordable costs c.args.bound c.args.mask in
     let small : c.loop-x.x < 16 = omega arith in
-    elim c.if-mask-x-eq1.branch [
-      | then-mask-x-eq1+then-cost-bound w ↦
-          let e = shifted_bit c.args.mask c.loop-x.x (omega arith) w.if-mask-x-eq1.true in
+    elim c.if-contains.branch [
+      | then-contains+then-cost-bound w ↦
+          let e = one_shl c.loop-x.x 16 (omega arith) in
           let is : cost_without costs c.args.mask c.loop-x.x ≡ w.unwrap-cost.result =
           ap (λ k. unwrap_or (cost_at costs (c.args.mask - k)) 0) (sym e)
           ∙ ap (λ o. unwrap_or o 0) (sym w.cost_of.ensures.value ∙ w.unwrap-cost.ensures) in
           subst (λ (m : ℕ). MaskOfFirst test (c.loop-x.x + 1) m) (sym w.found-is)
           (mask_with_next test c.loop-x.x c.loop-x.found small c.loop-x.invariant
           (affordable_yes costs c.args.bound c.args.mask c.loop-x.x w.unwrap-cost.result
-          (sym (shr_and_one c.args.mask c.loop-x.x) ∙ w.if-mask-x-eq1.true) is (let t = w.if-cost-bound.true in omega arith)))
-      | then-mask-x-eq1+else-cost-bound w ↦
-          let e = shifted_bit c.args.mask c.loop-x.x (omega arith) w.if-mask-x-eq1.true in
+          (c.contains.ensures.0 w.if-contains.true) is (let t = w.if-cost-bound.true in omega arith)))
+      | then-contains+else-cost-bound w ↦
+          let e = one_shl c.loop-x.x 16 (omega arith) in
           let is : cost_without costs c.args.mask c.loop-x.x ≡ w.unwrap-cost.result =
           ap (λ k. unwrap_or (cost_at costs (c.args.mask - k)) 0) (sym e)
           ∙ ap (λ o. unwrap_or o 0) (sym w.cost_of.ensures.value ∙ w.unwrap-cost.ensures) in
           subst (λ (m : ℕ). MaskOfFirst test (c.loop-x.x + 1) m) (sym w.found-is)
           (mask_without_next test c.loop-x.x c.loop-x.found small c.loop-x.invariant
           (affordable_dear costs c.args.bound c.args.mask c.loop-x.x w.unwrap-cost.result is (let t = w.if-cost-bound.false in omega arith)))
-      | else-mask-x-eq1 w ↦
+      | else-contains w ↦
           subst (λ (m : ℕ). MaskOfFirst test (c.loop-x.x + 1) m) (sym w.found-is)
           (mask_without_next test c.loop-x.x c.loop-x.found small c.loop-x.invariant
-          (affordable_absent costs c.args.bound c.args.mask c.loop-x.x (λ e. w.if-mask-x-eq1.false (shr_and_one c.args.mask c.loop-x.x ∙ e))))
+          (affordable_absent costs c.args.bound c.args.mask c.loop-x.x (iff_false c.contains.ensures w.if-contains.false)))
     ]
 
 pub returns : goal.returns
