@@ -6,7 +6,7 @@ ghost use Rattle.order_model.specs.Levels.{level_counts as counts_under};
 ghost use Rattle.order_solve.specs.Solutions.{IsReadOff};
 
 use crate::all_cells::AllCells;
-use order_model::{BadOrder, Mask, Order, VarIx};
+use order_model::{Mask, Order, VarIx};
 use std::alloc::{AllocError, Global};
 
 /// The set of all variables.
@@ -40,12 +40,7 @@ pub fn read_order(alloc: Global, cells: &AllCells<'_>) -> Result<Order, AllocErr
 {
     prove!(cells.inputs() <= 16);
     let variables = read_variables(alloc, cells)?;
-    match Order::try_from_slice(alloc, &variables) {
-        Ok(order) => Ok(order),
-        Err(BadOrder::OutOfMemory) => Err(AllocError),
-        Err(BadOrder::NotEach) => unreachable!(),
-        Err(BadOrder::OutOfRange) => unreachable!(),
-    }
+    Ok(Order::from_variables(variables))
 }
 
 /// The level counts of the order that the cells give: by how much the cost falls when a variable is
