@@ -1,6 +1,6 @@
 -- What was found ahead, with more behind it.
 --     ahead_none, ahead_joined      nothing, and what several found
-use Rattle.std.proofs.Common.{◌≡◌, ◌++◌, ℕ, List, [], sym, ap, ◌∙◌, subst, arith}
+use Rattle.std.proofs.Common.{◌≡◌, ◌++◌, List, [], sym, subst, arith}
 use Rattle.std.proofs.lemmas.List.Elements.{All-append}
 use Rattle.order_model.specs.Problems.{TruthTables}
 use Rattle.compaction.specs.Ahead.{RowsOf, AreAhead}

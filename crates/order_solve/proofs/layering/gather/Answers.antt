@@ -1,8 +1,8 @@
-use Rattle.std.proofs.Common.{◌≡◌, Result, Option, IfOk, IfSome, sym, ◌∙◌, subst}
+use Rattle.std.proofs.Common.{Result, Option, IfOk, IfSome, subst}
 use Rattle.std.proofs.lemmas.List.Elements.{All-pop}
 use Rattle.std.specs.declared.alloc.AllocError.{AllocError}
 use Rattle.order_model.specs.Problems.{TruthTables}
-use Rattle.compaction.specs.Ahead.{RowsOf, AreAhead}
+use Rattle.compaction.specs.Ahead.{AreAhead}
 use Rattle.order_solve.specs.declared.working.WorkerEnd.{WorkerEnd}
 use Rattle.order_solve.proofs.FoundAhead.{ahead_joined}
 use Rattle.order_solve.proofs.layering.gather.Goals as goal
