@@ -8,7 +8,6 @@ ghost use Rattle.order_model.specs.Pairs.{IsFirstOrder};
 ghost use Rattle.order_model.specs.Problems.{functions};
 ghost use Rattle.order_model.specs.Sifting.{sifted as sifted_order};
 ghost use Rattle.dd_builder.specs.Building.{HasLevelCounts};
-ghost use Rattle.truth_table.specs.OfCovers.{AreTablesOf};
 ghost use Rattle.order_solve.specs.Solutions.{IsSolution};
 ghost use Rattle.run_texts.specs.Answers.{IsAnswer, IsCertified, IsCertifiedBy};
 ghost use Rattle.outcomes.specs.Plans.{PairsAre};
@@ -17,6 +16,7 @@ ghost use Rattle.run_texts.specs.Texts.{file_order_levels, report_parts};
 ghost use Rattle.pla_reader.specs.Covers.{functions_of};
 
 use crate::shortage::Shortage;
+use crate::tabled_cover::TabledCover;
 use command_line::RunPlan;
 use dd_builder::{build, build_tables};
 use order_model::{Diagram, NoGate, Order, Pairs, PairsFault, Problem, Workers, total};
@@ -58,17 +58,23 @@ fn levels_of(alloc: Global, diagram: &Diagram) -> Result<Vec<u32>, AllocError>
 fn first_diagram<R: Threads + Sync>(
     rt: &R,
     alloc: Global,
-    cover: &Cover,
-    tables: &Tables,
+    tabled: &TabledCover<'_>,
     pairs: &Pairs,
     workers: Workers,
 ) -> Result<Diagram, Shortage>
-    requires tables { AreTablesOf cover.now tables.now }
-    requires pairs { pairs.now.inputs ≡ cover.now.inputs }
-    ensures { IfOk result (IsFirstDiagram cover.now pairs.now.pairs) }
+    requires { pairs.now.inputs ≡ tabled.now.cover.now.inputs }
+    ensures { IfOk result (IsFirstDiagram tabled.now.cover.now pairs.now.pairs) }
 {
     let order = pairs.first_order(alloc)?;
-    let diagram = build(rt, alloc, cover, tables, &order, workers, &NoGate)?;
+    let diagram = build(
+        rt,
+        alloc,
+        tabled.cover,
+        tabled.tables,
+        &order,
+        workers,
+        &NoGate,
+    )?;
     Ok(diagram)
 }
 
@@ -77,24 +83,30 @@ fn first_diagram<R: Threads + Sync>(
 fn file_order_levels_of<R: Threads + Sync>(
     rt: &R,
     alloc: Global,
-    cover: &Cover,
-    tables: &Tables,
+    tabled: &TabledCover<'_>,
     first: &Diagram,
     workers: Workers,
 ) -> Result<Vec<u32>, Shortage>
-    requires tables { AreTablesOf cover.now tables.now }
-    requires first { HasLevelCounts cover.now.inputs (functions_of cover.now) first.now.order
-        first.now.graph }
-    requires long { length first.now.order ≡ cover.now.inputs }
-    ensures counts { IfOk result (λ v. v.items ≡ file_order_levels cover.now) }
+    requires first { HasLevelCounts tabled.now.cover.now.inputs
+        (functions_of tabled.now.cover.now) first.now.order first.now.graph }
+    requires long { length first.now.order ≡ tabled.now.cover.now.inputs }
+    ensures counts { IfOk result (λ v. v.items ≡ file_order_levels tabled.now.cover.now) }
     ensures few { IfOk result (λ v. length v.items ≤ 16) }
 {
-    let order = Order::file_order(alloc, cover.inputs())?;
+    let order = Order::file_order(alloc, tabled.cover.inputs())?;
     if first.order().variables() == order.variables() {
         let levels = levels_of(alloc, first)?;
         return Ok(levels);
     }
-    let diagram = build(rt, alloc, cover, tables, &order, workers, &NoGate)?;
+    let diagram = build(
+        rt,
+        alloc,
+        tabled.cover,
+        tabled.tables,
+        &order,
+        workers,
+        &NoGate,
+    )?;
     let levels = levels_of(alloc, &diagram)?;
     Ok(levels)
 }
@@ -102,20 +114,20 @@ fn file_order_levels_of<R: Threads + Sync>(
 /// The order sifted from the first one that keeps the pairs, off the diagram under that.
 fn sift_from_first(
     alloc: Global,
-    cover: &Cover,
-    tables: &Tables,
+    tabled: &TabledCover<'_>,
     first: Diagram,
     pairs: Pairs,
 ) -> Result<Sifted, Shortage>
-    requires tables { AreTablesOf cover.now tables.now }
-    requires first { IsFirstDiagram cover.now pairs.pairs first }
-    requires pairs { pairs.inputs ≡ cover.now.inputs }
-    ensures order { IfOk result (λ s. (start : _) × IsFirstOrder cover.now.inputs pairs.pairs start
-        × (s.order ≡ sifted_order tables.now.inputs (functions tables.now) pairs.pairs start)) }
-    ensures problem { IfOk result (λ s. s.problem ≡ tables.now) }
+    requires first { IsFirstDiagram tabled.now.cover.now pairs.pairs first }
+    requires pairs { pairs.inputs ≡ tabled.now.cover.now.inputs }
+    ensures order { IfOk result
+        (λ s. (start : _) × IsFirstOrder tabled.now.cover.now.inputs pairs.pairs start
+        × (s.order ≡ sifted_order tabled.now.tables.now.inputs (functions tabled.now.tables.now)
+        pairs.pairs start)) }
+    ensures problem { IfOk result (λ s. s.problem ≡ tabled.now.tables.now) }
     ensures pairs { IfOk result (λ s. s.pairs ≡ pairs.pairs) }
 {
-    prove!(cover.outputs() <= 16);
+    prove!(tabled.cover.outputs() <= 16);
     diagrams_have_their_functions_tables();
     let manager = Manager::with_pairs(alloc, first, pairs)?;
     let sifted = manager.sift(alloc)?;
@@ -153,26 +165,26 @@ struct Found {
 fn search<R: Threads + Sync>(
     rt: &R,
     alloc: Global,
-    cover: &Cover,
-    tables: &Tables,
+    tabled: &TabledCover<'_>,
     first: Diagram,
     pairs: Pairs,
     workers: Workers,
 ) -> Result<Found, Shortage>
-    requires tables { AreTablesOf cover.now tables.now }
-    requires first { IsFirstDiagram cover.now pairs.pairs first }
-    requires pairs { pairs.inputs ≡ cover.now.inputs }
-    ensures solution { IfOk result (λ f. IsSolution tables.now pairs.pairs f.solution) }
-    ensures sifted { IfOk result (λ f. (start : _) × IsFirstOrder cover.now.inputs pairs.pairs start
-        × (f.sifted ≡ sifted_order tables.now.inputs (functions tables.now) pairs.pairs start)) }
-    ensures size { IfOk result
-        (λ f. f.sifted_size ≡ size_under tables.now.inputs (functions tables.now) f.sifted) }
+    requires first { IsFirstDiagram tabled.now.cover.now pairs.pairs first }
+    requires pairs { pairs.inputs ≡ tabled.now.cover.now.inputs }
+    ensures solution { IfOk result (λ f. IsSolution tabled.now.tables.now pairs.pairs f.solution) }
+    ensures sifted { IfOk result
+        (λ f. (start : _) × IsFirstOrder tabled.now.cover.now.inputs pairs.pairs start
+        × (f.sifted ≡ sifted_order tabled.now.tables.now.inputs (functions tabled.now.tables.now)
+        pairs.pairs start)) }
+    ensures size { IfOk result (λ f. f.sifted_size
+        ≡ size_under tabled.now.tables.now.inputs (functions tabled.now.tables.now) f.sifted) }
 {
-    let found = sift_from_first(alloc, cover, tables, first, pairs)?;
+    let found = sift_from_first(alloc, tabled, first, pairs)?;
     let sifted = found.order().try_clone(alloc)?;
     let sifted_size = found.size();
     let bound = found.search_bound(alloc)?;
-    let solution = solve(rt, alloc, tables.problem(), bound, workers, &NoGate)?;
+    let solution = solve(rt, alloc, tabled.tables.problem(), bound, workers, &NoGate)?;
     Ok(Found {
         solution,
         sifted,
@@ -184,23 +196,21 @@ fn search<R: Threads + Sync>(
 fn report_of<R: Threads + Sync>(
     rt: &R,
     alloc: Global,
-    cover: &Cover,
-    tables: &Tables,
+    tabled: &TabledCover<'_>,
     found: &Found,
     file_nodes: u64,
     workers: Workers,
 ) -> Result<String, Shortage>
-    requires tables { AreTablesOf cover.now tables.now }
-    requires nodes { file_nodes ≡ sum (file_order_levels cover.now) }
-    requires order { IsOrder tables.now.inputs found.now.solution.order }
+    requires nodes { file_nodes ≡ sum (file_order_levels tabled.now.cover.now) }
+    requires order { IsOrder tabled.now.tables.now.inputs found.now.solution.order }
     ensures { IfOk result
-        (λ text. string_bytes text ≡ report_parts cover.now tables.now found.now.solution.order
-        found.now.sifted found.now.sifted_size) }
+        (λ text. string_bytes text ≡ report_parts tabled.now.cover.now tabled.now.tables.now
+        found.now.solution.order found.now.sifted found.now.sifted_size) }
 {
     let best = found.solution.order.variables();
-    let levels = levels_under(rt, alloc, tables, &found.solution.order, workers)?;
+    let levels = levels_under(rt, alloc, tabled.tables, &found.solution.order, workers)?;
     let report = Report {
-        names: cover.input_names(),
+        names: tabled.cover.input_names(),
         order: best,
         levels: &levels,
         sifted: found.sifted.variables(),
@@ -234,27 +244,26 @@ struct Searched {
 fn search_cover<R: Threads + Sync>(
     rt: &R,
     alloc: Global,
-    cover: &Cover,
-    tables: &Tables,
+    tabled: &TabledCover<'_>,
     pairs: Pairs,
     workers: Workers,
 ) -> Result<Searched, Shortage>
-    requires tables { AreTablesOf cover.now tables.now }
-    requires pairs { pairs.inputs ≡ cover.now.inputs }
-    ensures solution { IfOk result (λ s. IsSolution tables.now pairs.pairs s.found.solution) }
+    requires pairs { pairs.inputs ≡ tabled.now.cover.now.inputs }
+    ensures solution { IfOk result
+        (λ s. IsSolution tabled.now.tables.now pairs.pairs s.found.solution) }
     ensures sifted { IfOk result
-        (λ s. (start : _) × IsFirstOrder cover.now.inputs pairs.pairs start
-        × (s.found.sifted
-        ≡ sifted_order tables.now.inputs (functions tables.now) pairs.pairs start)) }
+        (λ s. (start : _) × IsFirstOrder tabled.now.cover.now.inputs pairs.pairs start
+        × (s.found.sifted ≡ sifted_order tabled.now.tables.now.inputs
+        (functions tabled.now.tables.now) pairs.pairs start)) }
     ensures size { IfOk result (λ s. s.found.sifted_size
-        ≡ size_under tables.now.inputs (functions tables.now) s.found.sifted) }
-    ensures nodes { IfOk result (λ s. s.file_nodes ≡ sum (file_order_levels cover.now)) }
+        ≡ size_under tabled.now.tables.now.inputs (functions tabled.now.tables.now) s.found.sifted) }
+    ensures nodes { IfOk result (λ s. s.file_nodes ≡ sum (file_order_levels tabled.now.cover.now)) }
 {
-    let builders = building_workers(tables.problem(), workers);
-    let first = first_diagram(rt, alloc, cover, tables, &pairs, builders)?;
-    let levels = file_order_levels_of(rt, alloc, cover, tables, &first, builders)?;
+    let builders = building_workers(tabled.tables.problem(), workers);
+    let first = first_diagram(rt, alloc, tabled, &pairs, builders)?;
+    let levels = file_order_levels_of(rt, alloc, tabled, &first, builders)?;
     let file_nodes = total(&levels);
-    let found = search(rt, alloc, cover, tables, first, pairs, workers)?;
+    let found = search(rt, alloc, tabled, first, pairs, workers)?;
     Ok(Searched { found, file_nodes })
 }
 
@@ -301,9 +310,13 @@ pub(crate) fn answer_texts<R: Threads + Sync>(
 {
     let kept = pairs.copied();
     let tables = Tables::of_cover(rt, alloc, cover)?;
-    let Searched { found, file_nodes } = search_cover(rt, alloc, cover, &tables, pairs, workers)?;
+    let tabled = TabledCover {
+        cover,
+        tables: &tables,
+    };
+    let Searched { found, file_nodes } = search_cover(rt, alloc, &tabled, pairs, workers)?;
     let builders = building_workers(tables.problem(), workers);
-    let report = report_of(rt, alloc, cover, &tables, &found, file_nodes, builders)?;
+    let report = report_of(rt, alloc, &tabled, &found, file_nodes, builders)?;
     let certificate = certificate_of(alloc, tables.problem(), &kept, found.solution, certify)?;
     Ok(RunTexts {
         report,

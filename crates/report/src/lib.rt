@@ -10,6 +10,7 @@ mod runs;
 // Answers.
 mod answers;
 mod shortage;
+mod tabled_cover;
 
 pub use command_line::RunPlan;
 pub use program::minorder;

@@ -13,19 +13,21 @@ build-requires-clause-order g c κs within = ap length c.in_ok-order.ensures ∙
 
 pub returns-then-eq-clause-counts : goal.returns-then-eq-clause-counts
 returns-then-eq-clause-counts g c =
+    let cover = c.args.tabled.now.cover.now in
     let same : c.variables.result.now ≡ c.variables-2.result.now =
     (slice_eq-Decides Decides-eqb c.variables.result.now c.variables-2.result.now c.eq.result c.eq.ensures).0 c.if-eq.true in
     let order = sym (c.variables.ensures.value ∙ c.order.ensures.value) ∙ same ∙ c.variables-2.ensures.value in
-    let read = counts_read c.args.cover.now.inputs (functions_of c.args.cover.now) c.args.first.now.order c.in_ok-levels.levels.items c.args.first.now.graph
+    let read = counts_read cover.inputs (functions_of cover) c.args.first.now.order c.in_ok-levels.levels.items c.args.first.now.graph
     c.in_ok-levels.ensures.long c.in_ok-levels.ensures.counts c.requires.first in
-    read ∙ ap (level_counts c.args.cover.now.inputs (functions_of c.args.cover.now))
+    read ∙ ap (level_counts cover.inputs (functions_of cover))
     (order ∙ c.in_ok-order.ensures ∙ ap (λ k. variables k) c.inputs.ensures.value)
 
 pub returns-clause-counts : goal.returns-clause-counts
 returns-clause-counts g c =
-    let read = counts_read c.args.cover.now.inputs (functions_of c.args.cover.now) c.in_ok-order.order c.in_ok-levels-2.levels.items
+    let cover = c.args.tabled.now.cover.now in
+    let read = counts_read cover.inputs (functions_of cover) c.in_ok-order.order c.in_ok-levels-2.levels.items
     c.in_ok-diagram.diagram.graph
     (rw (← c.in_ok-diagram.ensures.diagram.order) c.in_ok-levels-2.ensures.long)
     (rw (← c.in_ok-diagram.ensures.diagram.order) c.in_ok-levels-2.ensures.counts)
     c.in_ok-diagram.ensures.diagram.levels in
-    read ∙ ap (level_counts c.args.cover.now.inputs (functions_of c.args.cover.now)) (c.in_ok-order.ensures ∙ ap (λ k. variables k) c.inputs.ensures.value)
+    read ∙ ap (level_counts cover.inputs (functions_of cover)) (c.in_ok-order.ensures ∙ ap (λ k. variables k) c.inputs.ensures.value)

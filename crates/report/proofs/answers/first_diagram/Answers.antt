@@ -10,20 +10,21 @@ use Rattle.report.proofs.answers.first_diagram.Goals as goal
 pub build-requires-clause-order : goal.build-requires-clause-order
 build-requires-clause-order g c κs within =
     let own = subst (λ (o : List ℕ). IsOrder (length o) o) c.order.view_is c.order.invariant.order in
-    one_length (length c.in_ok-order.order) c.args.cover.now.inputs c.in_ok-order.order own (rw c.requires.pairs at c.in_ok-order.ensures.is_order)
+    one_length (length c.in_ok-order.order) c.args.tabled.now.cover.now.inputs c.in_ok-order.order own (rw c.requires at c.in_ok-order.ensures.is_order)
 
 pub returns : goal.returns
 returns g c =
+    let cover = c.args.tabled.now.cover.now in
     let own = subst (λ (o : List ℕ). IsOrder (length o) o) c.order.view_is c.order.invariant.order in
-    let long = one_length (length c.in_ok-order.order) c.args.cover.now.inputs c.in_ok-order.order own
-    (rw c.requires.pairs at c.in_ok-order.ensures.is_order) in
+    let long = one_length (length c.in_ok-order.order) cover.inputs c.in_ok-order.order own
+    (rw c.requires at c.in_ok-order.ensures.is_order) in
     let same = c.in_ok-diagram.ensures.diagram.order in
     record {
-      starts = subst (IsFirstOrder c.args.cover.now.inputs c.args.pairs.now.pairs) (sym same) (rw c.requires.pairs at c.in_ok-order.ensures);
+      starts = subst (IsFirstOrder cover.inputs c.args.pairs.now.pairs) (sym same) (rw c.requires at c.in_ok-order.ensures);
       long = ap length same ∙ long;
-      diagram = subst (λ o. Represents c.args.cover.now.inputs (functions_of c.args.cover.now) o c.in_ok-diagram.diagram.graph) (sym same)
+      diagram = subst (λ o. Represents cover.inputs (functions_of cover) o c.in_ok-diagram.diagram.graph) (sym same)
           c.in_ok-diagram.ensures.diagram.diagram;
       reduced = c.in_ok-diagram.ensures.diagram.reduced;
-      levels = subst (λ o. HasLevelCounts c.args.cover.now.inputs (functions_of c.args.cover.now) o c.in_ok-diagram.diagram.graph)
+      levels = subst (λ o. HasLevelCounts cover.inputs (functions_of cover) o c.in_ok-diagram.diagram.graph)
           (sym same) c.in_ok-diagram.ensures.diagram.levels;
     }

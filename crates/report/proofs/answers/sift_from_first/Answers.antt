@@ -8,9 +8,10 @@ use Rattle.report.proofs.answers.sift_from_first.Goals as goal
 
 pub with_pairs-requires-clause-few : goal.with_pairs-requires-clause-few
 with_pairs-requires-clause-few c =
-    let long = c.diagrams_have_their_functions_tables.ensures.roots c.args.cover.now.inputs (functions_of c.args.cover.now)
+    let cover = c.args.tabled.now.cover.now in
+    let long = c.diagrams_have_their_functions_tables.ensures.roots cover.inputs (functions_of cover)
     c.args.first.order c.args.first c.requires.first.diagram in
-    let outputs = functions_long c.args.cover.now in
+    let outputs = functions_long cover in
     let few = c.outputs.ensures.few in
     let value = c.outputs.ensures.value in
     omega arith
@@ -20,10 +21,11 @@ with_pairs-requires-clause-inputs c = c.requires.pairs ∙ sym c.requires.first.
 
 pub returns-clause-problem : goal.returns-clause-problem
 returns-clause-problem c =
+    let cover = c.args.tabled.now.cover.now in
     let tables =
-    c.diagrams_have_their_functions_tables.ensures.tables c.args.cover.now.inputs (functions_of c.args.cover.now) c.args.first.order
+    c.diagrams_have_their_functions_tables.ensures.tables cover.inputs (functions_of cover) c.args.first.order
     c.args.first c.requires.first.long c.requires.first.diagram in
-    c.in_ok-sifted.ensures.functions ∙ c.in_ok-manager.ensures.functions ∙ tables ∙ sym (tables_value c.args.cover.now c.args.tables.now c.requires.tables)
+    c.in_ok-sifted.ensures.functions ∙ c.in_ok-manager.ensures.functions ∙ tables ∙ sym (tables_value cover c.args.tabled.now.tables.now c.args.tabled.now.are_its_tables)
 
 pub returns-clause-order : goal.returns-clause-order
 returns-clause-order c =
