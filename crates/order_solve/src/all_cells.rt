@@ -11,13 +11,12 @@ ghost use Rattle.order_solve.specs.Benches.{IsLayerFor};
 ghost use Rattle.order_solve.specs.Bounded.{AreAllLayers};
 
 use crate::alone::layers_alone;
-use crate::crew::Crew;
 use crate::layering::next_layer;
 use crate::looking::look_ahead;
 use crate::needs::needed_members;
 use crate::setting::Setting;
 use compaction::{Ahead, Beginning};
-use order_model::{Gate, Mask};
+use order_model::{Crew, Gate, Mask};
 use std::alloc::{AllocError, Global};
 use std::marker::Model;
 use std::thread::Threads;

@@ -9,12 +9,11 @@ ghost use Rattle.order_solve.specs.Bounded.{AreDone};
 
 use crate::alone::cells_alone;
 use crate::bench::Bench;
-use crate::crew::Crew;
 use crate::setting::Setting;
 use crate::working::{WorkerEnd, work_layer};
 use compaction::{Ahead, Beginning, Walks};
 use layer_board::{Board, BoardSeat, CloseError};
-use order_model::{Gate, Problem, Workers};
+use order_model::{Crew, Gate, Problem, Workers};
 use std::alloc::{AllocError, Global};
 use std::thread;
 use std::thread::Threads;

@@ -3,7 +3,6 @@
 #![tactic(auto)]
 
 // What a search is for, and who does it.
-mod crew;
 mod setting;
 
 // The solver: the layers one after another, by workers or by the calling thread.

@@ -7,12 +7,11 @@ ghost use Rattle.order_solve.specs.Bounded.{IsBounded};
 ghost use Rattle.order_solve.specs.Solutions.{IsSolution, widths_for_all};
 
 use crate::all_cells::AllCells;
-use crate::crew::Crew;
 use crate::listing::{count_widths, listed_cells};
 use crate::reading::{all_variables, level_counts, read_order};
 use crate::setting::Setting;
 use crate::solution::Solution;
-use order_model::{Gate, Problem, Workers};
+use order_model::{Crew, Gate, Problem, Workers};
 use sifting::Sifted;
 use std::alloc::{AllocError, Global};
 use std::thread::Threads;
