@@ -15,7 +15,7 @@ use crate::parts::Source;
 use crate::roots::publish_roots;
 use crate::workers::{Job, build_parts, jobs, joined};
 use order_model::laws::{some_diagram_has_the_level_counts, truth_tables_keep_functions};
-use order_model::{Diagram, Gate, Order, Workers};
+use order_model::{Crew, Diagram, Gate, Order, Workers};
 use pla_reader::Cover;
 use std::alloc::{AllocError, Global};
 use std::thread;
@@ -50,25 +50,24 @@ fn finish(
 /// Builds all parts, by workers of their own threads: a session that knows them, or that of a
 /// worker that met a full store.
 fn parts_by_workers<R: Threads + Sync, G: Gate>(
-    rt: &R,
+    crew: &Crew<'_, R, G>,
     alloc: Global,
     store: &Store,
     session: Session,
     source: Source<'_>,
-    workers: Workers,
-    gate: &G,
 ) -> Result<Session, BuildError>
     requires session { session.store ≡ store.now }
     requires source { IsSourceFor store.now.plan source }
     ensures parts { IfOk result (KnowsParts store.now) }
     ensures refused { IfErr result (Refuses store.now) }
 {
-    let count = workers.count();
+    let count = crew.workers.count();
     let Ok(jobs) = jobs(alloc, store, session, count) else {
         return Err(BuildError::OutOfMemory);
     };
+    let gate = crew.gate;
     let Ok(ended) = thread::map_vec(
-        rt,
+        crew.rt,
         jobs,
         &|job: Job| -> Result<Session, Session>
             requires { IsSync G.row × (job.session.store ≡ store.now)
@@ -89,20 +88,18 @@ fn parts_by_workers<R: Threads + Sync, G: Gate>(
 
 /// The reduced diagram of the store's functions, whose parts are built by workers.
 fn build_in<R: Threads + Sync, G: Gate>(
-    rt: &R,
+    crew: &Crew<'_, R, G>,
     alloc: Global,
     store: Store,
     session: Session,
     source: Source<'_>,
-    workers: Workers,
-    gate: &G,
 ) -> Result<Diagram, BuildError>
     requires session { session.store ≡ store }
     requires source { IsSourceFor store.plan source }
     ensures diagram { IfOk result (IsDiagramFor store.plan) }
     ensures refused { IfErr result (Refuses store) }
 {
-    let session = parts_by_workers(rt, alloc, &store, session, source, workers, gate)?;
+    let session = parts_by_workers(crew, alloc, &store, session, source)?;
     finish(alloc, store, session, source)
 }
 
@@ -124,15 +121,8 @@ pub fn from_tables<R: Threads + Sync, G: Gate>(
     ensures diagram { IfOk result (IsDiagramFor store.plan) }
     ensures refused { IfErr result (Refuses store) }
 {
-    build_in(
-        rt,
-        alloc,
-        store,
-        session,
-        Source::Tables(tables),
-        workers,
-        gate,
-    )
+    let crew = Crew::new(rt, workers, gate);
+    build_in(&crew, alloc, store, session, Source::Tables(tables))
 }
 
 /// The reduced diagram of the store's functions, from the terms of a cover. Worker i builds the
@@ -154,15 +144,8 @@ pub fn from_cover<R: Threads + Sync, G: Gate>(
     ensures diagram { IfOk result (IsDiagramFor store.plan) }
     ensures refused { IfErr result (Refuses store) }
 {
-    build_in(
-        rt,
-        alloc,
-        store,
-        session,
-        Source::Terms(cover.terms()),
-        workers,
-        gate,
-    )
+    let crew = Crew::new(rt, workers, gate);
+    build_in(&crew, alloc, store, session, Source::Terms(cover.terms()))
 }
 
 /// A store of an order for the functions of truth tables, with restrictions as its pieces, and its
@@ -226,31 +209,31 @@ pub fn build_tables<R: Threads + Sync, G: Gate>(
 }
 
 /// The reduced diagram of a cover's functions under an order, built from its terms in the store
-/// handed in or, if that is full, from its truth tables in a store of its own.
+/// handed in with its session or, if that is full, from its truth tables in a store of its own.
 pub fn build_from<R: Threads + Sync, G: Gate>(
-    rt: &R,
+    crew: &Crew<'_, R, G>,
     alloc: Global,
-    store: Store,
-    session: Session,
+    begun: (Store, Session),
     cover: &Cover,
     tables: &Tables,
     order: &Order,
-    workers: Workers,
-    gate: &G,
 ) -> Result<Diagram, BuildError>
-    requires session { session.store ≡ store }
-    requires order { order_of store.plan ≡ order.now }
-    requires cover { IsForCover store.plan cover.now }
+    requires session { begun.1.store ≡ begun.0 }
+    requires order { order_of begun.0.plan ≡ order.now }
+    requires cover { IsForCover begun.0.plan cover.now }
     requires tables { AreTablesOf cover.now tables.now }
     ensures diagram { IfOk result
         (IsDiagramOf cover.now.inputs (functions_of cover.now) order.now) }
     ensures refused { IfErr result (RefusesUnder order.now tables.now) }
 {
+    let (store, session) = begun;
     stores_have_plans(&store);
     some_diagram_has_the_level_counts();
     truth_tables_keep_functions();
-    match from_cover(rt, alloc, store, session, cover, workers, gate) {
-        Err(BuildError::StoreFull(_)) => build_tables(rt, alloc, tables, order, workers, gate),
+    match build_in(crew, alloc, store, session, Source::Terms(cover.terms())) {
+        Err(BuildError::StoreFull(_)) => {
+            build_tables(crew.rt, alloc, tables, order, crew.workers, crew.gate)
+        }
         Err(BuildError::OutOfMemory) => Err(BuildError::OutOfMemory),
         Ok(diagram) => Ok(diagram),
     }
@@ -286,10 +269,9 @@ pub fn build<R: Threads + Sync, G: Gate>(
         truth_tables_keep_functions();
         return build_tables(rt, alloc, tables, order, workers, gate);
     }
-    let Ok((store, session)) = cover_store(alloc, cover, tables, order) else {
+    let Ok(begun) = cover_store(alloc, cover, tables, order) else {
         return Err(BuildError::OutOfMemory);
     };
-    build_from(
-        rt, alloc, store, session, cover, tables, order, workers, gate,
-    )
+    let crew = Crew::new(rt, workers, gate);
+    build_from(&crew, alloc, begun, cover, tables, order)
 }

@@ -11,7 +11,7 @@ use dd_builder::{
     BuildError, apply, build, build_from, build_tables, cover_store, from_cover, from_tables,
     tables_store,
 };
-use order_model::{Diagram, Gate, NoGate, Order, Workers};
+use order_model::{Crew, Diagram, Gate, NoGate, Order, Workers};
 use pla_reader::{Cover, read_cover};
 use std::alloc::{AllocError, Global};
 use std::hint;
@@ -330,9 +330,8 @@ fn meets_a_full_store(rt: HostRuntime) -> Result<(), Fail> {
     let (store, mut session) = cover_store(alloc, &cover, &tables, &order)?;
     assert_eq!(rt; store.order().len(), 16);
     fill(&store, &mut session, alloc)?;
-    let built = build_from(
-        &rt, alloc, store, session, &cover, &tables, &order, workers, &NoGate,
-    );
+    let crew = Crew::new(&rt, workers, &NoGate);
+    let built = build_from(&crew, alloc, (store, session), &cover, &tables, &order);
     assert_eq!(rt; size_of(built), Some(16));
     Ok(())
 }

@@ -6,9 +6,9 @@ pub returns-in-Err-StoreFull-clause-diagram : goal.returns-in-Err-StoreFull-clau
 returns-in-Err-StoreFull-clause-diagram g c = ok_same _ _ c.build_tables.result c.build_tables.ensures.diagram (λ d h.
     tables_diagram c.some_diagram_has_the_level_counts.ensures.reduced c.truth_tables_keep_functions.ensures.same c.args.cover.now
     c.args.tables.now c.args.order.now d c.requires.tables
-    (store_order c.args.store.plan c.args.cover.now c.args.order.now c.stores_have_plans.ensures c.requires.cover c.requires.order) h)
+    (store_order c.args.begun.0.plan c.args.cover.now c.args.order.now c.stores_have_plans.ensures c.requires.cover c.requires.order) h)
 
 pub returns-clause-diagram : goal.returns-clause-diagram
 returns-clause-diagram g c =
-    store_diagram c.some_diagram_has_the_level_counts.ensures.reduced c.args.store.plan c.args.cover.now c.args.order.now c.in-Ok.diagram
+    store_diagram c.some_diagram_has_the_level_counts.ensures.reduced c.args.begun.0.plan c.args.cover.now c.args.order.now c.in-Ok.diagram
     c.stores_have_plans.ensures c.requires.cover c.requires.order c.in-Ok.ensures.diagram
