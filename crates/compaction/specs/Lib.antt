@@ -1,4 +1,5 @@
 pub mod Ahead
 pub mod Columns
+pub mod Joining
 pub mod Rows
 pub mod Strips

@@ -4,6 +4,7 @@ ghost use Rattle.std.specs.Prelude.{◌≡◌, ◌<◌, ◌≤◌, map, IfOk, If
 ghost use Rattle.std.specs.List.{All};
 ghost use Rattle.class_laws.specs.Table.{classes_of, with_variable};
 ghost use Rattle.compaction.specs.Strips.{AreOfFirstSets, CanTakeLow};
+ghost use Rattle.compaction.specs.Joining.{AreJoined};
 
 use crate::bytes::ByteKeys;
 use crate::names::AllNamePairs;
@@ -61,6 +62,22 @@ fn with_low<'a>(
     Ok(larger)
 }
 
+/// The tables of all parts, one part after the other.
+fn joined<'a>(
+    alloc: Global,
+    parts: Vec<Result<Vec<Strips<'a>>, AllocError>>,
+) -> Result<Vec<Strips<'a>>, AllocError>
+    ensures { IfOk result (λ v. AreJoined parts.entry.items v.items) }
+{
+    let mut parts = parts;
+    let mut all = Vec::new(alloc);
+    while !parts.is_empty() {
+        let mut part = parts.remove(0)?;
+        all.append(&mut part)?;
+    }
+    Ok(all)
+}
+
 /// The same, by several threads.
 fn with_low_by_threads<'a, R: Threads + Sync>(
     rt: &R,
@@ -82,12 +99,7 @@ fn with_low_by_threads<'a, R: Threads + Sync>(
             ensures { IfOk result (λ v. v.items ≡ map (λ t. with_variable t x) part.entry.now) }
         { with_low(alloc, part, x) },
     )?;
-    let mut larger = Vec::with_capacity(alloc, tables.len())?;
-    for part in parts {
-        let mut part = part?;
-        larger.append(&mut part)?;
-    }
-    Ok(larger)
+    joined(alloc, parts)
 }
 
 /// The tables of all sets of low variables, in the order of their masks, from that of the empty set
