@@ -7,7 +7,7 @@
 
 use anyhow::Error;
 use compaction::{Beginning, Tally};
-use order_model::{Mask, Problem};
+use order_model::{Mask, Problem, contains};
 use std::alloc::{AllocError, Global};
 use std::io::Read;
 use subset_layers::Layer;
@@ -16,7 +16,7 @@ use subset_layers::Layer;
 fn least(costs: &[u32], mask: Mask, row: &[u32; 16]) -> u32 {
     let mut least = u32::MAX;
     for x in 0..16u8 {
-        if (mask >> x) & 1 == 1 {
+        if contains(mask, x) {
             let without = costs
                 .get((mask & !(1 << x)) as usize)
                 .copied()

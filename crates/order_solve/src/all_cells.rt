@@ -16,7 +16,7 @@ use crate::looking::look_ahead;
 use crate::needs::needed_members;
 use crate::setting::Setting;
 use compaction::{Ahead, Beginning};
-use order_model::{Crew, Gate, Mask};
+use order_model::{Crew, Gate, Mask, Problem};
 use std::alloc::{AllocError, Global};
 use std::marker::Model;
 use std::thread::Threads;
@@ -41,6 +41,25 @@ impl<'a> Model for AllCells<'a> {
     ghost invariant = { λ a. HoldsCells a.setting.now a.layers.items };
 }
 
+/// Truth tables of fewer entries than these are worth no threads that make what a search begins
+/// with.
+const ENTRIES_WORTH_THREADS: usize = 1 << 16;
+
+/// What the search begins with, by several threads if there are several workers and it pays.
+fn beginning_of<'a, R: Threads + Sync, G: Gate>(
+    crew: &Crew<'_, R, G>,
+    alloc: Global,
+    problem: &'a Problem,
+) -> Result<Beginning<'a>, AllocError>
+    ensures { IfOk result (λ b. b ≡ problem.now) }
+{
+    let entries = usize::from(problem.outputs()) << problem.inputs();
+    if crew.workers.count() == 1 || entries < ENTRIES_WORTH_THREADS {
+        return Beginning::of(alloc, problem);
+    }
+    Beginning::by_threads(crew.rt, alloc, problem)
+}
+
 /// The layers of all sets, each by workers.
 pub(crate) fn layers_of<R: Threads + Sync, G: Gate>(
     crew: &Crew<'_, R, G>,
@@ -49,7 +68,7 @@ pub(crate) fn layers_of<R: Threads + Sync, G: Gate>(
 ) -> Result<Vec<Costs>, AllocError>
     ensures { IfOk result (λ v. AreAllLayers setting.now v.items) }
 {
-    let beginning = Beginning::of(alloc, setting.problem)?;
+    let beginning = beginning_of(crew, alloc, setting.problem)?;
     let mut ahead = Ahead::up_to(alloc, 0);
     let mut layers = Vec::new(alloc);
     layers.push(Costs::start(alloc, setting.inputs())?)?;
