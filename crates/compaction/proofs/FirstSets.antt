@@ -85,9 +85,10 @@ module _ (p : TruthTables) (tables : List ClassesOf) (x : ℕ) (first : AreOfFir
   -- a larger member can come into all of them
   pub can_take : x < low_variables p → All (CanTakeLow x) tables
   can_take low = All-from_get_or (CanTakeLow x) tables (classes_of p 0) (λ i lt.
-      let e = first_set p tables i (classes_of p 0) first lt in
-      (subst (λ (t : ClassesOf). x < low_variables t.problem) (sym e) low,
-      ap (λ (t : ClassesOf). has (set_of t) x) e ∙ lacks_larger p.inputs i x (omega arith)))
+      let e = first_set p tables i (classes_of p 0) first lt in (
+        subst (λ (t : ClassesOf). x < low_variables t.problem) (sym e) low,
+        ap (λ (t : ClassesOf). has (set_of t) x) e ∙ lacks_larger p.inputs i x (omega arith),
+      ))
 
   -- with those that have it they are the first sets
   pub with_larger : AreOfFirstSets p (tables ++ map (λ t. with_variable t x) tables)

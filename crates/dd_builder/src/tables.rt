@@ -103,11 +103,5 @@ pub(crate) fn restriction(
     let output = (piece / ways) as u8;
     let bits = (piece % ways) as u32;
     let point = point_of(order, bits);
-    output_below(
-        store,
-        session,
-        tables,
-        output,
-        Path { level, bits, point },
-    )
+    output_below(store, session, tables, output, Path { level, bits, point })
 }

@@ -5,8 +5,7 @@ ghost use Rattle.std.specs.Prelude.{◌≤◌};
 use counted_io::{Counting, Refused, read_all, write_whole};
 use order_model::packed::{bit_of, block, depends_on, lower_half, words_per_table};
 use order_model::{
-    BadOrder, Diagram, Gate, NoGate, Node, Order, Problem, Ref, Workers, contains, eval,
-    total,
+    BadOrder, Diagram, Gate, NoGate, Node, Order, Problem, Ref, Workers, contains, eval, total,
 };
 use std::alloc::{AllocError, Global};
 use std::io::{self, Read, Write};
@@ -60,7 +59,10 @@ fn orders(rt: HostRuntime) -> Result<(), Fail> {
     }
     let mut order = Order::try_from_slice(alloc, &[2, 0, 1])?;
     let listed = order.variables().to_vec(alloc)?;
-    assert_eq!(rt; Order::from_variables(listed).variables(), order.variables());
+    assert_eq!(rt;
+        Order::from_variables(listed).variables(),
+        order.variables()
+    );
     assert_eq!(rt; order.len(), 3);
     assert_eq!(rt; order.variables(), [2, 0, 1].as_slice());
     order.swap(1);

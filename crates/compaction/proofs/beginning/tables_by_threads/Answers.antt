@@ -9,9 +9,11 @@ use Rattle.compaction.proofs.beginning.tables_by_threads.Goals as goal
 pub with_low_by_threads-requires : goal.with_low_by_threads-requires
 with_low_by_threads-requires g c =
     let x = c.loop-largest.largest in
-    let low : x < low_variables c.args.problem.now = (let t = c.loop-largest-test.true in let l = c.low_variables-largest-end.ensures in omega arith) in
-    (c.type_bounds.sync-R, subst (All (CanTakeLow x)) (sym c.deref.ensures.value)
-    (can_take c.args.problem.now c.loop-largest.tables.items x c.loop-largest.invariant.1 c.loop-largest.invariant.0 low))
+    let low : x < low_variables c.args.problem.now = (let t = c.loop-largest-test.true in let l = c.low_variables-largest-end.ensures in omega arith) in (
+      c.type_bounds.sync-R,
+      subst (All (CanTakeLow x)) (sym c.deref.ensures.value)
+          (can_take c.args.problem.now c.loop-largest.tables.items x c.loop-largest.invariant.1 c.loop-largest.invariant.0 low),
+    )
 
 pub loop-largest-preserved : goal.loop-largest-preserved
 loop-largest-preserved g c =

@@ -67,9 +67,22 @@ output_below-requires t c =
     let inside : c.args.path.level < length (order_of b) = omega arith in
     let is : IsOrder (length (order_of b)) (order_of b) =
     subst (λ xs. IsOrder (length xs) xs) c.order.ensures.value c.variables-order.ensures.order in
-    let small = path_small c.args.path.level c.args.path.bits c.requires.bits in
-    (omega arith, (c.requires.session, (c.requires.tables, (c.requires.output, (omega arith,
-    (omega arith, point_low (order_of b) is c.args.path.level c.args.path.bits c.args.path.point c.requires.bits c.requires.point))))))
+    let small = path_small c.args.path.level c.args.path.bits c.requires.bits in (
+      omega arith,
+      (
+        c.requires.session,
+        (
+          c.requires.tables,
+          (
+            c.requires.output,
+            (
+              omega arith,
+              (omega arith, point_low (order_of b) is c.args.path.level c.args.path.bits c.args.path.point c.requires.bits c.requires.point),
+            ),
+          ),
+        ),
+      ),
+    )
 
 pub output_below-requires-2 : goal.output_below-requires-2
 output_below-requires-2 t c =
@@ -86,10 +99,25 @@ output_below-requires-2 t c =
     let x = get_or c.variables-order.result.now c.from-2.result 0 in
     let now = bit_or c.args.path.point (1 * 2 ^ x % 4294967296) in
     let up = path_up 32 c.args.path.level c.args.path.bits _ (omega arith) refl in
-    let small = path_small c.args.path.level c.args.path.bits c.requires.bits in
-    (omega arith, (c.output_below.ensures.made.follows.store ∙ c.requires.session, (c.requires.tables, (c.requires.output, (omega arith,
-    (subst (λ k. k < 2 ^ (c.args.path.level + 1)) (sym up) small,
-    subst (λ k. IsPointAbove (order_of b) (c.args.path.level + 1) k now) (sym up)
-    (point_high (order_of b) is c.args.path.level c.args.path.bits c.args.path.point x now
-    (omega arith) inside c.requires.bits
-    (ap₂ (λ xs k. get_or xs k 0) same c.from-2.ensures) c.requires.point refl)))))))
+    let small = path_small c.args.path.level c.args.path.bits c.requires.bits in (
+      omega arith,
+      (
+        c.output_below.ensures.made.follows.store ∙ c.requires.session,
+        (
+          c.requires.tables,
+          (
+            c.requires.output,
+            (
+              omega arith,
+              (
+                subst (λ k. k < 2 ^ (c.args.path.level + 1)) (sym up) small,
+                subst (λ k. IsPointAbove (order_of b) (c.args.path.level + 1) k now) (sym up)
+                    (point_high (order_of b) is c.args.path.level c.args.path.bits c.args.path.point x now
+                    (omega arith) inside c.requires.bits
+                    (ap₂ (λ xs k. get_or xs k 0) same c.from-2.ensures) c.requires.point refl),
+              ),
+            ),
+          ),
+        ),
+      ),
+    )
