@@ -20,7 +20,8 @@ use Rattle.class_laws.specs.Dependence.{joined_mask}
 use Rattle.class_laws.specs.Places.{low_place, pairs}
 use Rattle.compaction.specs.Rows.{width_wanted}
 use Rattle.pair_numbering.specs.Keys.{AreUsed, TellsPairs}
-use Rattle.compaction.specs.Strips.{AreDistinct, AreStrips, HoldsStrips, HoldsTable, masks_in_use, unrolled, HoldsKeys}
+use Rattle.pair_numbering.specs.Strips.{unrolled}
+use Rattle.compaction.specs.Strips.{AreDistinct, AreStrips, HoldsStrips, HoldsTable, masks_in_use, HoldsKeys}
 use Rattle.class_laws.specs.Table.{ClassesOf, with_variable, functions_of, set_of, free_below}
 use Rattle.class_laws.proofs.Counted.{length_filter_map}
 use Rattle.class_laws.proofs.Index.{length-pairs, pair_listed, pair_within}

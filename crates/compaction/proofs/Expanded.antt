@@ -16,11 +16,13 @@ use Rattle.std.proofs.lemmas.List.FromFn.{length-map-range_with_len, get_or-map-
 use Rattle.std.proofs.lemmas.Nat.{div-mul-add, mod-mul-add}
 use Rattle.order_model.specs.Problems.{TruthTables, packed_bit}
 use Rattle.compaction.specs.Columns.{low_numbers, packed_numbers}
-use Rattle.compaction.specs.Strips.{AreStrips, strip, unrolled}
+use Rattle.pair_numbering.specs.Strips.{strip, unrolled}
+use Rattle.compaction.specs.Strips.{AreStrips}
 use Rattle.class_laws.specs.Values.{values_of, number_of}
 use Rattle.class_laws.proofs.StartClasses.{length_values}
 use Rattle.class_laws.proofs.Lists.{map_ranges}
-use Rattle.compaction.proofs.Unrolled.{length_strip, strip_at, length_unrolled, unrolled_at, same_by_places}
+use Rattle.pair_numbering.proofs.Unrolled.{length_strip, strip_at}
+use Rattle.compaction.proofs.Unrolled.{length_unrolled, unrolled_at, same_by_places}
 
 -- a place parts into a strip and a place in it
 pub place_parts : (len k : ℕ) → 0 < len → (k / len * len + k % len ≡ k) × (k % len < len)

@@ -7,7 +7,8 @@ use Rattle.order_model.specs.Orders.{has}
 use Rattle.order_model.specs.Problems.{TruthTables}
 use Rattle.class_laws.specs.PairTables.{AllBelow, IsPairTable}
 use Rattle.class_laws.specs.Places.{pairs}
-use Rattle.compaction.specs.Strips.{AreNamed, HoldsBytes, HoldsStrips, HoldsValues, unrolled}
+use Rattle.pair_numbering.specs.Strips.{AreNamed, unrolled}
+use Rattle.compaction.specs.Strips.{HoldsBytes, HoldsStrips, HoldsValues}
 use Rattle.pair_numbering.specs.Keys.{TellsPairs}
 use Rattle.class_laws.specs.Table.{ClassesOf, classes_of, with_variable, set_of, free_below}
 use Rattle.compaction.proofs.HeldStrips.{rest, parts, less, rank_few, holds_low, holds_values}

@@ -13,7 +13,8 @@ use Rattle.order_model.proofs.Bits.Masks.{has_members}
 use Rattle.order_model.proofs.Lists.Orders.{has_variables}
 use Rattle.class_laws.specs.PairTables.{IsPairTable}
 use Rattle.class_laws.specs.Places.{pairs}
-use Rattle.compaction.specs.Strips.{AreStrips, GrowsStrips, HoldsStrips, HoldsValues, IsStripTable, unrolled, HoldsKeys}
+use Rattle.pair_numbering.specs.Strips.{unrolled}
+use Rattle.compaction.specs.Strips.{AreStrips, GrowsStrips, HoldsStrips, HoldsValues, IsStripTable, HoldsKeys}
 use Rattle.pair_numbering.specs.Keys.{TellsPairs}
 use Rattle.class_laws.specs.Table.{ClassesOf, classes_of, with_variable, set_of, free_below}
 use Rattle.class_laws.proofs.Extended.{free_none, free_step, rank_small}

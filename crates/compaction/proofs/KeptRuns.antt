@@ -13,7 +13,8 @@ use Rattle.std.specs.Int.{bit_at}
 use Rattle.std.specs.List.{flat_map}
 use Rattle.order_model.specs.Problems.{TruthTables, packed_bit, table_in, words_per_table}
 use Rattle.compaction.specs.Columns.{KeepsRuns, packed_numbers}
-use Rattle.compaction.specs.Strips.{AreStrips, unrolled}
+use Rattle.pair_numbering.specs.Strips.{unrolled}
+use Rattle.compaction.specs.Strips.{AreStrips}
 use Rattle.class_laws.specs.Values.{row, values_of, number_of}
 use Rattle.class_laws.proofs.StartClasses.{length_row}
 use Rattle.compaction.proofs.Expanded.{bit_in_word, length_packed, packed_at, place_parts}

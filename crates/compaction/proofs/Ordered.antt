@@ -3,7 +3,8 @@
 --     ordered_strips, ordered_tells      one more variable above the strips
 use Rattle.std.proofs.Common.{◌≡◌, ℕ, ◌*◌, ◌/◌, ◌<◌, List, length, get_or, sym, ap, ◌∙◌, subst, arith}
 use Rattle.class_laws.specs.Places.{pairs}
-use Rattle.compaction.specs.Strips.{AreStrips, unrolled}
+use Rattle.pair_numbering.specs.Strips.{unrolled}
+use Rattle.compaction.specs.Strips.{AreStrips}
 use Rattle.pair_numbering.specs.Keys.{TellsPairs}
 use Rattle.compaction.proofs.AllDistinct.{own_count}
 use Rattle.compaction.proofs.Expanded.{whole_are, whole_values}

@@ -1,5 +1,5 @@
 -- Pairs of strips: the two strips of each distinct pair, one behind the other.
---     length_names_of, name_low, name_high      the names in pairs
+--     names_of_below      the names in pairs of names are names
 --     names_more      one pair more
 --     paired_named, paired_long, paired_few, paired_lower, paired_upper      the strips of the pairs of names
 use Rattle.std.proofs.Common.{◌≡◌, ℕ, zero, suc, ◌+◌, ◌*◌, ◌/◌, ◌^◌, ◌<◌, ◌≤◌, List, [], ◌∷◌, ◌++◌, length, get_or, refl, ap, ◌∙◌, arith}
@@ -11,33 +11,11 @@ use Rattle.order_model.specs.Widths.{same_pair}
 use Rattle.pair_numbering.specs.Chains.{lower_at, upper_at}
 use Rattle.pair_numbering.specs.Numbers.{ArePairsNumbered}
 use Rattle.class_laws.specs.Places as places
-use Rattle.compaction.specs.Strips.{AreNamed, AreStrips, names_of, unrolled}
+use Rattle.pair_numbering.specs.Strips.{AreNamed, names_of, unrolled}
+use Rattle.compaction.specs.Strips.{AreStrips}
 use Rattle.class_laws.proofs.DistinctPairs.{met_classes, number_below, pair_numbered}
 use Rattle.class_laws.proofs.Index.{length-pairs, pair_listed}
-use Rattle.compaction.proofs.Unrolled.{length_named, named_at}
-
-pub length_names_of : (pairs : List (ℕ × ℕ)) → length (names_of pairs) ≡ length pairs * 2
-unfolding names_of
-length_names_of [] = refl
-length_names_of (p ∷ ps) = let r = length_names_of ps in omega arith
-
-pub name_low : (pairs : List (ℕ × ℕ)) (k : ℕ) → k < length pairs → get_or (names_of pairs) (k * 2) 0 ≡ (get_or pairs k (0, 0)).0
-unfolding names_of
-name_low [] k l = absurd (omega arith)
-name_low (p ∷ ps) zero l = refl
-name_low (p ∷ ps) (suc k) l =
-    ap (λ z. get_or (p.0 ∷ p.1 ∷ flat_map (λ (q : ℕ × ℕ). q.0 ∷ q.1 ∷ []) ps) z 0)
-    (let e : suc k * 2 ≡ suc (suc (k * 2)) = omega arith in e)
-    ∙ name_low ps k (omega arith)
-
-pub name_high : (pairs : List (ℕ × ℕ)) (k : ℕ) → k < length pairs → get_or (names_of pairs) (k * 2 + 1) 0 ≡ (get_or pairs k (0, 0)).1
-unfolding names_of
-name_high [] k l = absurd (omega arith)
-name_high (p ∷ ps) zero l = refl
-name_high (p ∷ ps) (suc k) l =
-    ap (λ z. get_or (p.0 ∷ p.1 ∷ flat_map (λ (q : ℕ × ℕ). q.0 ∷ q.1 ∷ []) ps) z 0)
-    (let e : suc k * 2 + 1 ≡ suc (suc (k * 2 + 1)) = omega arith in e)
-    ∙ name_high ps k (omega arith)
+use Rattle.pair_numbering.proofs.Unrolled.{length_named, length_names_of, name_high, name_low, named_at}
 
 pub names_of_below : (count : ℕ) (pairs : List (ℕ × ℕ)) →
     ((k : ℕ) → k < length pairs → ((get_or pairs k (0, 0)).0 < count) × ((get_or pairs k (0, 0)).1 < count)) → (i : ℕ) →

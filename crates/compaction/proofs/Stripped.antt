@@ -1,7 +1,6 @@
 -- One more variable in a table kept in strips.
 --     low_place_parts      the place of a pair, from its parts
 --     high_strips, high_tells      a variable above the strips: pairs of strips are told apart entry by entry
---     unrolled_below      what holds of all entries of a table holds of those of its strips
 --     low_strips, low_tells      a variable inside the strips
 use Rattle.std.proofs.Common.{◌≡◌, ℕ, suc, ◌+◌, ◌*◌, ◌/◌, ◌%◌, ◌<◌, ◌≤◌, List, map, length, get_or, refl, sym, ap, ◌∙◌, subst, arith}
 use Rattle.std.specs.Set.{distinct_count}
@@ -12,7 +11,8 @@ use Rattle.order_model.proofs.Widths.ClassPairs.{pair_decides}
 use Rattle.pair_numbering.specs.Chains.{lower_at, upper_at}
 use Rattle.class_laws.specs.Numbering.{rank, ranks}
 use Rattle.class_laws.specs.Places.{low_place, pair_at, pairs}
-use Rattle.compaction.specs.Strips.{AreNamed, AreStrips, unrolled}
+use Rattle.pair_numbering.specs.Strips.{AreNamed, unrolled}
+use Rattle.compaction.specs.Strips.{AreStrips}
 use Rattle.pair_numbering.specs.Keys.{TellsPairs}
 use Rattle.class_laws.proofs.Index.{length-pairs, pair_listed, pair_within}
 use Rattle.class_laws.proofs.Joined.{number_at, length-ranks}
@@ -20,7 +20,8 @@ use Rattle.pair_numbering.proofs.Names.{names_among, length_names}
 use Rattle.class_laws.proofs.Lists.{place_of}
 use Rattle.order_model.proofs.Precedence.Masks.{among_at}
 use Rattle.class_laws.proofs.Ranks.{rank_below, rank_reached}
-use Rattle.compaction.proofs.Unrolled.{named_of, named_inside, length_named, named_at, same_by_places, length_unrolled, unrolled_at}
+use Rattle.pair_numbering.proofs.Unrolled.{length_named, named_at}
+use Rattle.compaction.proofs.Unrolled.{named_of, same_by_places, length_unrolled, unrolled_at}
 
 -- ---- places
 
@@ -192,22 +193,6 @@ module _ (outer numbers : List ℕ) (len s : ℕ) (strips : AreStrips outer numb
           ∙ ap (λ us. get_or us (get_or numbered (j / len) 0 * len + j % len) 0) names.numbers_are
           ∙ get_or-map names.name (pairs paired len) (get_or numbered (j / len) 0 * len + j % len) (0, 0) 0 (omega arith)
           ∙ ap names.name (place_pair j (omega arith)) ∙ sym (get_or-map names.name (pairs (unrolled outer numbers len) (len * s)) j (0, 0) 0 (omega arith)))
-
--- ---- what named strips hold
-
--- entries of strips that are named are entries of the table
-pub unrolled_below : (names numbers : List ℕ) (len m : ℕ) → 0 < len → AreNamed names numbers len →
-    ((i : ℕ) → i < length numbers → get_or numbers i 0 < m) → (i : ℕ) → i < length (unrolled names numbers len) →
-    get_or (unrolled names numbers len) i 0 < m
-unrolled_below names numbers len m some s below i h =
-    let l = length_named names numbers len s in
-    let q : i / len < length names = (div-lt_iff_lt-mul some).1 (omega arith) in
-    let a = mod-lt i some in
-    let e = parts_of i len some in
-    let v = ap (λ z. get_or (unrolled names numbers len) z 0) e ∙ named_at names numbers len s (i / len) (i % len) q a in
-    let w = named_inside names numbers len s (i / len) q in
-    let b = below (get_or names (i / len) 0 * len + i % len) (omega arith) in
-    omega arith
 
 -- ---- a variable inside the strips
 

@@ -27,7 +27,8 @@ use Rattle.order_model.proofs.Functions.Tables.{same_table_decides}
 use Rattle.class_laws.specs.Dependence.{AreMasks, dependence}
 use Rattle.class_laws.specs.Numbering.{rank, ranks}
 use Rattle.compaction.specs.Rows.{width_wanted}
-use Rattle.compaction.specs.Strips.{AreStrips, HoldsStrips, masks_in_use, unrolled}
+use Rattle.pair_numbering.specs.Strips.{unrolled}
+use Rattle.compaction.specs.Strips.{AreStrips, HoldsStrips, masks_in_use}
 use Rattle.pair_numbering.specs.Keys.{AreUsed}
 use Rattle.class_laws.specs.Table.{ClassesOf, functions_of, set_of, free_below}
 use Rattle.class_laws.proofs.Compacted.{filter_range_same}

@@ -8,7 +8,7 @@ use Rattle.std.specs.Int.{bit_at}
 use Rattle.std.specs.List.{range_with_len}
 use Rattle.order_model.specs.Problems.{packed_bit}
 use Rattle.class_laws.specs.Values.{number_of}
-use Rattle.compaction.specs.Strips.{strip}
+use Rattle.pair_numbering.specs.Strips.{strip}
 
 -- chains go from later runs to earlier ones
 pub record AreChained (kept next heads : List ℕ) : Type 0 where

@@ -1,8 +1,6 @@
 -- Tables kept in strips: entries that differ in the low free variables only stand in one strip, and equal strips are kept once.
---     strip numbers len k, unrolled outer numbers len      the k-th strip; all entries, where `outer` names the strip of each run of them
---     names_of pairs      the names in pairs of strips, one behind the other
 --     low_variables p      how many variables run inside a strip of the empty set
---     AreNamed, AreStrips      each strip is whole; each is used, too
+--     AreStrips      each strip is whole, and used
 --     HoldsValues p outer numbers len      strips that hold a problem's values
 --     IsStripTable outer rank numbers bits masks      strips whose names are paired by a variable
 --     GrowsStrips outer rank numbers bits masks x grown told joined all_used      the strips with that variable too
@@ -27,28 +25,11 @@ use Rattle.class_laws.specs.Values.{values_of, number_of}
 use Rattle.class_laws.specs.Dependence.{dependence}
 use Rattle.class_laws.specs.Table.{ClassesOf, classes_of, functions_of, set_of, free_below}
 use Rattle.pair_numbering.specs.Keys.{AreUsed, TellsPairs}
+use Rattle.pair_numbering.specs.Strips.{AreNamed, unrolled}
 
 -- how many variables run inside a strip of the empty set
 abbrev pub low_variables : TruthTables → ℕ
 low_variables p = min p.inputs 8
-
--- the k-th strip of `len` entries
-unfoldable pub strip : List ℕ → ℕ → ℕ → List ℕ
-strip numbers len k = take len (drop (k * len) numbers)
-
--- all entries
-unfoldable pub unrolled : List ℕ → List ℕ → ℕ → List ℕ
-unrolled outer numbers len = flat_map (strip numbers len) outer
-
--- the names in pairs, one behind the other
-unfoldable pub names_of : List (ℕ × ℕ) → List ℕ
-names_of pairs = flat_map (λ p. p.0 ∷ p.1 ∷ []) pairs
-
--- strips of `len` entries that `outer` names
-pub record AreNamed (outer numbers : List ℕ) (len : ℕ) : Type 0 where
-  pub count : ℕ
-  pub whole : length numbers ≡ count * len
-  pub within : (i : ℕ) → i < length outer → slice_index outer i < count
 
 -- strips of `len` entries, each of which is named in `outer`
 pub record AreStrips (outer numbers : List ℕ) (len : ℕ) : Type 0 where

@@ -2,10 +2,11 @@
 
 ghost use Rattle.std.specs.Prelude.{◌≡◌, ℕ, ◌+◌, ◌*◌, ◌^◌, ◌<◌, ◌≤◌, length, slice_index, IfOk, IsTrue};
 ghost use Rattle.class_laws.specs.PairTables.{AreOwn};
-ghost use Rattle.compaction.specs.Strips.{AreNamed, GrowsStrips, IsStripTable, names_of, unrolled};
+ghost use Rattle.pair_numbering.specs.Strips.{AreNamed, names_of, unrolled};
+ghost use Rattle.compaction.specs.Strips.{GrowsStrips, IsStripTable};
 
 use crate::names::{NamePairs, number_names};
-use pair_numbering::tell_pairs;
+use pair_numbering::{tell_pairs, tell_strip_pairs};
 use std::alloc::{AllocError, Global};
 
 /// Strips, the names of the runs, and the mask of each number. If `all_used` is true each mask is
@@ -29,53 +30,6 @@ pub fn are_in_order(numbers: &[u32]) -> bool
         }
     }
     true
-}
-
-/// Writes the two strips of each pair of strips, one after the other.
-#[inline(always)]
-fn write_pairs(pairs: &[(u32, u32)], numbers: &[u32], strip: usize, out: &mut [u32])
-    requires few { length numbers.now ≤ 2 ^ 20 }
-    requires named { AreNamed (names_of pairs.now) numbers.now strip }
-    requires long { length out.old ≡ length pairs.now * 2 * strip }
-    requires small { length pairs.now * 2 * strip ≤ 2 ^ 20 }
-    ensures { out.new ≡ unrolled (names_of pairs.now) numbers.now strip }
-{
-    for j in 0..pairs.len() {
-        let (low, high) = pairs[j];
-        let start = j * 2 * strip;
-        for a in 0..strip {
-            out[start + a] = numbers[low as usize * strip + a];
-        }
-        for a in 0..strip {
-            out[start + strip + a] = numbers[high as usize * strip + a];
-        }
-    }
-}
-
-/// The two strips of each pair of strips, one after the other. Short strips have loops of their
-/// own.
-fn pair_strips(
-    alloc: Global,
-    pairs: &[(u32, u32)],
-    numbers: &[u32],
-    bits: u32,
-) -> Result<Vec<u32>, AllocError>
-    requires bits { bits < 16 }
-    requires few { length numbers.now ≤ 2 ^ 20 }
-    requires named { AreNamed (names_of pairs.now) numbers.now (2 ^ bits) }
-    requires small { length pairs.now * 2 * 2 ^ bits ≤ 2 ^ 20 }
-    ensures { IfOk result (λ v. v.items ≡ unrolled (names_of pairs.now) numbers.now (2 ^ bits)) }
-{
-    let strip = 1usize << bits;
-    let mut paired = vec![in alloc; 0u32; pairs.len() * 2 * strip]?;
-    match bits {
-        0 => write_pairs(pairs, numbers, 1, &mut paired),
-        1 => write_pairs(pairs, numbers, 2, &mut paired),
-        2 => write_pairs(pairs, numbers, 4, &mut paired),
-        3 => write_pairs(pairs, numbers, 8, &mut paired),
-        _ => write_pairs(pairs, numbers, strip, &mut paired),
-    }
-    Ok(paired)
 }
 
 /// The numbers 0, 1, 2 and so on.
@@ -138,8 +92,7 @@ fn add_by_pairs(
         g.masks.items g.all_used) }
 {
     let runs = number_names(alloc, outer, rank, numbers.len() >> bits, known)?;
-    let paired = pair_strips(alloc, &runs.pairs, numbers, bits)?;
-    let told = tell_pairs(alloc, &paired, bits, x, masks)?;
+    let told = tell_strip_pairs(alloc, &runs.pairs, numbers, bits, x, masks)?;
     Ok(StripParts {
         outer: runs.numbers,
         numbers: told.numbers,

@@ -3,7 +3,7 @@
 
 ghost use Rattle.std.specs.Prelude.{◌≡◌, ◌*◌, ◌^◌, ◌<◌, ◌≤◌, length, IfOk, IsFalse};
 ghost use Rattle.order_model.specs.Orders.{has};
-ghost use Rattle.compaction.specs.Strips.{AreNamed, unrolled};
+ghost use Rattle.pair_numbering.specs.Strips.{AreNamed, unrolled};
 
 use crate::classes::rank_of;
 use crate::columns::{ByteStrips, byte_strips};

@@ -5,7 +5,8 @@ ghost use Rattle.std.specs.Prelude.{◌≡◌, ◌==◌, ℕ, ◌+◌, ◌*◌, 
 ghost use Rattle.std.specs.Int.{bit_at};
 ghost use Rattle.order_model.specs.Problems.{outputs_of, packed_bit};
 ghost use Rattle.compaction.specs.Columns.{AreByteRows, AreChained, KeepsRuns, low_numbers, packed_numbers};
-ghost use Rattle.compaction.specs.Strips.{AreNamed, HoldsValues, unrolled};
+ghost use Rattle.pair_numbering.specs.Strips.{AreNamed, unrolled};
+ghost use Rattle.compaction.specs.Strips.{HoldsValues};
 ghost use Rattle.class_laws.specs.PairTables.{AllBelow};
 ghost use Rattle.class_laws.specs.Values.{values_of, number_of as number};
 

@@ -1,5 +1,8 @@
 pub mod CellSteps
 pub mod Chained
 pub mod CountedFirsts
+pub mod InBlocks
+pub mod Laid
 pub mod Names
 pub mod SlotSteps
+pub mod Unrolled

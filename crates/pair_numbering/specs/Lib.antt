@@ -3,3 +3,4 @@ pub mod Keys
 pub mod Numbers
 pub mod Scratch
 pub mod Slots
+pub mod Strips

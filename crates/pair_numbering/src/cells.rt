@@ -4,6 +4,7 @@ ghost use Rattle.std.specs.Prelude.{◌≡◌, ℕ, ◌+◌, ◌*◌, ◌^◌, �
 ghost use Rattle.class_laws.specs.Places as places;
 ghost use Rattle.class_laws.specs.PairTables.{IsPairTable, NumbersPairs};
 
+use crate::entries::{Block, EntryPairs};
 use crate::masks::join_mask;
 use crate::numbering::Numbered;
 use std::alloc::{AllocError, Global};
@@ -12,32 +13,32 @@ use std::alloc::{AllocError, Global};
 /// If many pairs were new so far a block is numbered without a branch on whether a pair is new.
 pub fn number_pairs_by_cells(
     alloc: Global,
-    numbers: &[u32],
-    rank: u32,
+    entries: &EntryPairs<'_>,
     x: u8,
     masks: &[u16],
     cells: &mut [u32],
 ) -> Result<Numbered, AllocError>
-    requires table { IsPairTable numbers.now rank (length masks.now) }
+    requires table { IsPairTable entries.now.numbers entries.now.rank (length masks.now) }
     requires variable { x < 16 }
     requires few { length masks.now ≤ 2 ^ 20 }
     requires cells { length cells.old ≡ length masks.now * length masks.now }
     requires empty { (k : ℕ) → k < length cells.old → slice_index cells.old k ≡ 0 }
     ensures { IfOk result
-        (λ v. NumbersPairs masks.now x (places.pairs numbers.now (2 ^ rank)) v.numbers.items
-        v.masks.items) }
+        (λ v. NumbersPairs masks.now x (places.pairs entries.now.numbers (2 ^ entries.now.rank))
+        v.numbers.items v.masks.items) }
 {
+    let rank = entries.rank();
     let step = 1usize << rank;
-    let half = numbers.len() / 2;
+    let half = entries.len();
     let classes = masks.len();
     let mut joined = vec![in alloc; 0u16; half]?;
     let mut out = vec![in alloc; 0u32; half]?;
     let mut count = 0u32;
     for block in 0..half >> rank {
+        let Block { low, high } = entries.block(block);
         if 4 * count as usize > block * step {
             for i in 0..step {
-                let low = block * (2 * step) + i;
-                let pair = (numbers[low], numbers[low + step]);
+                let pair = (low[i], high[i]);
                 let cell = pair.0 as usize * classes + pair.1 as usize;
                 let next = cells[cell];
                 let number = if next == 0 { count } else { next - 1 };
@@ -50,8 +51,7 @@ pub fn number_pairs_by_cells(
             }
         } else {
             for i in 0..step {
-                let low = block * (2 * step) + i;
-                let pair = (numbers[low], numbers[low + step]);
+                let pair = (low[i], high[i]);
                 let cell = pair.0 as usize * classes + pair.1 as usize;
                 let mut next = cells[cell];
                 if next == 0 {

@@ -1,27 +1,32 @@
 //! Numbers of pairs if all classes are distinct.
 
-ghost use Rattle.std.specs.Prelude.{◌≡◌, ◌≢◌, ℕ, ◌*◌, ◌/◌, ◌^◌, ◌<◌, ◌≤◌, length, IfOk, IsTrue};
+ghost use Rattle.std.specs.Prelude.{◌≡◌, ◌≢◌, ℕ, ◌*◌, ◌/◌, ◌^◌, ◌<◌, ◌≤◌, length, IfOk, IsTrue, ◌↔◌};
 ghost use Rattle.class_laws.specs.Places as places;
-ghost use Rattle.class_laws.specs.PairTables.{AllBelow, AreApart, IsPairTable, NumbersPairs};
+ghost use Rattle.class_laws.specs.PairTables.{AllBelow, IsPairTable, NumbersPairs};
+ghost use Rattle.pair_numbering.specs.Numbers.{AreLowersApart};
 
+use crate::entries::EntryPairs;
 use crate::masks::join_mask;
 use crate::numbering::Numbered;
-use crate::pairs::pair_at;
 use std::alloc::{AllocError, Global};
 
-/// Whether no number occurs twice. All are below `bound`.
-pub fn are_distinct(alloc: Global, numbers: &[u32], bound: usize) -> Result<bool, AllocError>
-    requires { AllBelow numbers.now bound }
-    ensures distinct { IfOk result (λ distinct. IsTrue distinct → AreApart numbers.now) }
-    ensures all { AreApart numbers.now → IfOk result (λ distinct. IsTrue distinct) }
+/// Whether no lower class occurs twice. All are below `bound`.
+pub fn are_distinct(
+    alloc: Global,
+    entries: &EntryPairs<'_>,
+    bound: usize,
+) -> Result<bool, AllocError>
+    requires { AllBelow entries.now.numbers bound }
+    ensures { IfOk result
+        (λ distinct. IsTrue distinct ↔ AreLowersApart entries.now.numbers entries.now.rank) }
 {
     let mut marks = vec![in alloc; 0u8; bound]?;
-    for i in 0..numbers.len() {
-        let number = numbers[i] as usize;
-        if marks[number] == 1 {
+    for j in 0..entries.len() {
+        let lower = entries.pair(j).0 as usize;
+        if marks[lower] == 1 {
             return Ok(false);
         }
-        marks[number] = 1;
+        marks[lower] = 1;
     }
     Ok(true)
 }
@@ -29,24 +34,23 @@ pub fn are_distinct(alloc: Global, numbers: &[u32], bound: usize) -> Result<bool
 /// The numbers of the pairs, which are distinct too, and their masks.
 pub fn number_distinct_pairs(
     alloc: Global,
-    numbers: &[u32],
-    rank: u32,
+    entries: &EntryPairs<'_>,
     x: u8,
     masks: &[u16],
 ) -> Result<Numbered, AllocError>
-    requires table { IsPairTable numbers.now rank (length masks.now) }
+    requires table { IsPairTable entries.now.numbers entries.now.rank (length masks.now) }
     requires variable { x < 16 }
-    requires distinct { AreApart numbers.now }
+    requires distinct { AreLowersApart entries.now.numbers entries.now.rank }
     ensures { IfOk result
-        (λ v. NumbersPairs masks.now x (places.pairs numbers.now (2 ^ rank)) v.numbers.items
-        v.masks.items) }
+        (λ v. NumbersPairs masks.now x (places.pairs entries.now.numbers (2 ^ entries.now.rank))
+        v.numbers.items v.masks.items) }
 {
-    let half = numbers.len() / 2;
+    let half = entries.len();
     let mut out = vec![in alloc; 0u32; half]?;
     let mut joined = vec![in alloc; 0u16; half]?;
     for j in 0..half {
         out[j] = j as u32;
-        joined[j] = join_mask(masks, x, pair_at(numbers, rank, j));
+        joined[j] = join_mask(masks, x, entries.pair(j));
     }
     Ok(Numbered {
         numbers: out,

@@ -6,9 +6,11 @@ ghost use Rattle.std.specs.List.{range_with_len};
 ghost use Rattle.class_laws.specs.Places as places;
 ghost use Rattle.pair_numbering.specs.Keys.{AreUsed, TellsPairs, joined_key, joined_key_mask};
 ghost use Rattle.class_laws.specs.PairTables.{AllBelow, IsPaired, IsPairTable};
+ghost use Rattle.pair_numbering.specs.Strips.{AreNamed, names_of, unrolled};
 
+use crate::entries::{Block, EntryPairs};
 use crate::masks::join_mask;
-use crate::numbering::number_pairs_with_masks;
+use crate::numbering::number_with_masks;
 use std::alloc::{AllocError, Global};
 
 /// Pairs of more keys than these are numbered by first occurrence.
@@ -25,37 +27,42 @@ pub struct PairKeys {
 
 /// Writes the keys of pairs of keys below `base`, block by block.
 #[inline(always)]
-fn join_blocks(keys: &[u32], rank: u32, base: u32, joined: &mut [u32])
-    requires paired { IsPaired keys.now rank }
-    requires below { AllBelow keys.now base }
+fn join_blocks(entries: &EntryPairs<'_>, rank: u32, base: u32, joined: &mut [u32])
+    requires rank { rank ≡ entries.now.rank }
+    requires paired { IsPaired entries.now.numbers rank }
+    requires below { AllBelow entries.now.numbers base }
     requires base { base ≤ 256 }
-    requires long { length joined.old ≡ length keys.now / 2 }
-    ensures { joined.new ≡ map (joined_key base) (places.pairs keys.now (2 ^ rank)) }
+    requires long { length joined.old ≡ length entries.now.numbers / 2 }
+    ensures { joined.new ≡ map (joined_key base) (places.pairs entries.now.numbers (2 ^ rank)) }
 {
     let step = 1usize << rank;
     for block in 0..joined.len() >> rank {
+        let Block { low, high } = entries.block(block);
         for i in 0..step {
-            let low = block * (2 * step) + i;
-            joined[block * step + i] = keys[low] + keys[low + step] * base;
+            joined[block * step + i] = low[i] + high[i] * base;
         }
     }
 }
 
 /// The keys of pairs of keys below `base`. The small ranks, which are frequent, are loops of their
 /// own.
-fn join_keys(alloc: Global, keys: &[u32], rank: u32, base: u32) -> Result<Vec<u32>, AllocError>
-    requires paired { IsPaired keys.now rank }
-    requires below { AllBelow keys.now base }
+fn join_keys(
+    alloc: Global,
+    entries: &EntryPairs<'_>,
+    base: u32,
+) -> Result<Vec<u32>, AllocError>
+    requires below { AllBelow entries.now.numbers base }
     requires base { base ≤ 256 }
-    ensures { IfOk result
-        (λ v. v.items ≡ map (joined_key base) (places.pairs keys.now (2 ^ rank))) }
+    ensures { IfOk result (λ v. v.items ≡
+        map (joined_key base) (places.pairs entries.now.numbers (2 ^ entries.now.rank))) }
 {
-    let mut joined = vec![in alloc; 0u32; keys.len() / 2]?;
-    match rank {
-        0 => join_blocks(keys, 0, base, &mut joined),
-        1 => join_blocks(keys, 1, base, &mut joined),
-        2 => join_blocks(keys, 2, base, &mut joined),
-        _ => join_blocks(keys, rank, base, &mut joined),
+    let mut joined = vec![in alloc; 0u32; entries.len()]?;
+    match entries.rank() {
+        0 => join_blocks(entries, 0, base, &mut joined),
+        1 => join_blocks(entries, 1, base, &mut joined),
+        2 => join_blocks(entries, 2, base, &mut joined),
+        3 => join_blocks(entries, 3, base, &mut joined),
+        rank => join_blocks(entries, rank, base, &mut joined),
     }
     Ok(joined)
 }
@@ -80,6 +87,40 @@ fn join_key_masks(alloc: Global, masks: &[u16], x: u8) -> Result<Vec<u16>, Alloc
 
 /// Tells the pairs apart: by joined keys if these are few, and not more than the entries, else by
 /// numbers.
+fn tell_entries(
+    alloc: Global,
+    entries: &EntryPairs<'_>,
+    x: u8,
+    masks: &[u16],
+) -> Result<PairKeys, AllocError>
+    requires table { IsPairTable entries.now.numbers entries.now.rank (length masks.now) }
+    requires variable { x < 16 }
+    requires few { length masks.now ≤ 2 ^ 20 }
+    ensures tells { IfOk result
+        (λ v. TellsPairs masks.now x (places.pairs entries.now.numbers (2 ^ entries.now.rank))
+        v.numbers.items v.masks.items) }
+    ensures used { IfOk result (λ v. IsTrue v.all_used → AreUsed v.numbers.items v.masks.items) }
+{
+    let base = masks.len();
+    if base <= MOST_JOINED && base * base <= 2 * entries.len() {
+        let keys = join_keys(alloc, entries, base as u32)?;
+        let joined = join_key_masks(alloc, masks, x)?;
+        return Ok(PairKeys {
+            numbers: keys,
+            masks: joined,
+            all_used: false,
+        });
+    }
+    let numbered = number_with_masks(alloc, entries, x, masks)?;
+    Ok(PairKeys {
+        numbers: numbered.numbers,
+        masks: numbered.masks,
+        all_used: true,
+    })
+}
+
+/// Tells the pairs of a table's entries apart: by joined keys if these are few, and not more than
+/// the entries, else by numbers.
 pub fn tell_pairs(
     alloc: Global,
     numbers: &[u32],
@@ -95,20 +136,34 @@ pub fn tell_pairs(
         v.masks.items) }
     ensures used { IfOk result (λ v. IsTrue v.all_used → AreUsed v.numbers.items v.masks.items) }
 {
-    let base = masks.len();
-    if base <= MOST_JOINED && base * base <= numbers.len() {
-        let keys = join_keys(alloc, numbers, rank, base as u32)?;
-        let joined = join_key_masks(alloc, masks, x)?;
-        return Ok(PairKeys {
-            numbers: keys,
-            masks: joined,
-            all_used: false,
-        });
-    }
-    let numbered = number_pairs_with_masks(alloc, numbers, rank, x, masks)?;
-    Ok(PairKeys {
-        numbers: numbered.numbers,
-        masks: numbered.masks,
-        all_used: true,
-    })
+    let entries = EntryPairs::of_table(numbers, rank);
+    let told = tell_entries(alloc, &entries, x, masks)?;
+    Ok(told)
+}
+
+/// The same of the entries of pairs of strips of 2 ^ bits entries, which are read where they stand.
+pub fn tell_strip_pairs(
+    alloc: Global,
+    names: &[(u32, u32)],
+    numbers: &[u32],
+    bits: u32,
+    x: u8,
+    masks: &[u16],
+) -> Result<PairKeys, AllocError>
+    requires named { AreNamed (names_of names.now) numbers.now (2 ^ bits) }
+    requires bits { bits < 16 }
+    requires small { length names.now * 2 * 2 ^ bits ≤ 2 ^ 20 }
+    requires below { AllBelow numbers.now (length masks.now) }
+    requires few_numbers { length numbers.now ≤ 2 ^ 20 }
+    requires variable { x < 16 }
+    requires few { length masks.now ≤ 2 ^ 20 }
+    ensures tells { IfOk result
+        (λ v. TellsPairs masks.now x
+        (places.pairs (unrolled (names_of names.now) numbers.now (2 ^ bits)) (2 ^ bits))
+        v.numbers.items v.masks.items) }
+    ensures used { IfOk result (λ v. IsTrue v.all_used → AreUsed v.numbers.items v.masks.items) }
+{
+    let entries = EntryPairs::of_strips(names, numbers, bits);
+    let told = tell_entries(alloc, &entries, x, masks)?;
+    Ok(told)
 }

@@ -6,6 +6,7 @@
 mod cells;
 mod chains;
 mod distinct;
+mod entries;
 mod keys;
 mod masks;
 mod numbering;
@@ -13,7 +14,7 @@ mod pairs;
 mod scratch;
 mod slots;
 
-pub use keys::{PairKeys, tell_pairs};
+pub use keys::{PairKeys, tell_pairs, tell_strip_pairs};
 pub use numbering::{Numbered, number_pairs, number_pairs_by_index, number_pairs_with_masks};
 pub use pairs::NumberedPairs;
 pub use scratch::Scratch;

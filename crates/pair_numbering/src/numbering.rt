@@ -8,6 +8,7 @@ ghost use Rattle.pair_numbering.specs.Numbers.{ArePairsNumbered};
 use crate::cells::number_pairs_by_cells;
 use crate::chains::number_pairs_by_chains;
 use crate::distinct::{are_distinct, number_distinct_pairs};
+use crate::entries::EntryPairs;
 use crate::masks::join_masks;
 use crate::pairs::{NumberedPairs, distinct_pairs, index_pairs};
 use crate::slots::number_pairs_by_slots;
@@ -22,6 +23,63 @@ pub struct Numbered {
 
 /// The numbers of the pairs: by slots, or by chains if slots are crowded. All classes are below
 /// `classes`.
+fn number_entries(
+    alloc: Global,
+    entries: &EntryPairs<'_>,
+    classes: usize,
+) -> Result<NumberedPairs, AllocError>
+    requires table { IsPairTable entries.now.numbers entries.now.rank classes }
+    requires few { classes ≤ 2 ^ 20 }
+    ensures { IfOk result
+        (λ v. ArePairsNumbered entries.now.numbers entries.now.rank v.numbers.items
+        v.pairs.items) }
+{
+    match number_pairs_by_slots(alloc, entries)? {
+        Some(numbered) => Ok(numbered),
+        None => number_pairs_by_chains(alloc, entries, classes),
+    }
+}
+
+/// The numbers of the pairs, and the masks of the numbers, from those of the classes: in order if
+/// all classes are distinct, by a cell for each pair of classes if these are few, else by slots or
+/// chains.
+pub(crate) fn number_with_masks(
+    alloc: Global,
+    entries: &EntryPairs<'_>,
+    x: u8,
+    masks: &[u16],
+) -> Result<Numbered, AllocError>
+    requires table { IsPairTable entries.now.numbers entries.now.rank (length masks.now) }
+    requires variable { x < 16 }
+    requires few { length masks.now ≤ 2 ^ 20 }
+    ensures { IfOk result
+        (λ v. NumbersPairs masks.now x (places.pairs entries.now.numbers (2 ^ entries.now.rank))
+        v.numbers.items v.masks.items) }
+{
+    let classes = masks.len();
+    let half = entries.len();
+    if classes == 2 * half {
+        let distinct = are_distinct(alloc, entries, classes)?;
+        if distinct {
+            let numbered = number_distinct_pairs(alloc, entries, x, masks)?;
+            return Ok(numbered);
+        }
+    }
+    let pairs = classes * classes;
+    if pairs <= 16 * half {
+        let mut cells = vec![in alloc; 0u32; pairs]?;
+        let numbered = number_pairs_by_cells(alloc, entries, x, masks, &mut cells)?;
+        return Ok(numbered);
+    }
+    let numbered = number_entries(alloc, entries, classes)?;
+    let joined = join_masks(alloc, &numbered.pairs, x, masks)?;
+    Ok(Numbered {
+        numbers: numbered.numbers,
+        masks: joined,
+    })
+}
+
+/// The numbers of the pairs of a table's entries. All classes are below `classes`.
 pub fn number_pairs(
     alloc: Global,
     numbers: &[u32],
@@ -32,15 +90,12 @@ pub fn number_pairs(
     requires few { classes ≤ 2 ^ 20 }
     ensures { IfOk result (λ v. ArePairsNumbered numbers.now rank v.numbers.items v.pairs.items) }
 {
-    match number_pairs_by_slots(alloc, numbers, rank)? {
-        Some(numbered) => Ok(numbered),
-        None => number_pairs_by_chains(alloc, numbers, rank, classes),
-    }
+    let entries = EntryPairs::of_table(numbers, rank);
+    let numbered = number_entries(alloc, &entries, classes)?;
+    Ok(numbered)
 }
 
-/// The numbers of the pairs, and the masks of the numbers, from those of the classes: in order if
-/// all classes are distinct, by a cell for each pair of classes if these are few, else by slots or
-/// chains.
+/// The numbers of the pairs of a table's entries, and their masks.
 pub fn number_pairs_with_masks(
     alloc: Global,
     numbers: &[u32],
@@ -55,26 +110,9 @@ pub fn number_pairs_with_masks(
         (λ v. NumbersPairs masks.now x (places.pairs numbers.now (2 ^ rank)) v.numbers.items
         v.masks.items) }
 {
-    let classes = masks.len();
-    if classes == numbers.len() {
-        let distinct = are_distinct(alloc, numbers, classes)?;
-        if distinct {
-            let numbered = number_distinct_pairs(alloc, numbers, rank, x, masks)?;
-            return Ok(numbered);
-        }
-    }
-    let pairs = classes * classes;
-    if pairs <= 8 * numbers.len() {
-        let mut cells = vec![in alloc; 0u32; pairs]?;
-        let numbered = number_pairs_by_cells(alloc, numbers, rank, x, masks, &mut cells)?;
-        return Ok(numbered);
-    }
-    let numbered = number_pairs(alloc, numbers, rank, classes)?;
-    let joined = join_masks(alloc, &numbered.pairs, x, masks)?;
-    Ok(Numbered {
-        numbers: numbered.numbers,
-        masks: joined,
-    })
+    let entries = EntryPairs::of_table(numbers, rank);
+    let numbered = number_with_masks(alloc, &entries, x, masks)?;
+    Ok(numbered)
 }
 
 /// The same, in an `IndexSet`. Slower, and only there to be compared.
@@ -92,8 +130,9 @@ pub fn number_pairs_by_index(
         (λ v. NumbersPairs masks.now x (places.pairs numbers.now (2 ^ rank)) v.numbers.items
         v.masks.items) }
 {
-    let indexed = index_pairs(alloc, numbers, rank)?;
-    let pairs = distinct_pairs(alloc, numbers, rank, &indexed)?;
+    let entries = EntryPairs::of_table(numbers, rank);
+    let indexed = index_pairs(alloc, &entries)?;
+    let pairs = distinct_pairs(alloc, &entries, &indexed)?;
     let joined = join_masks(alloc, &pairs, x, masks)?;
     Ok(Numbered {
         numbers: indexed,

@@ -7,8 +7,8 @@ ghost use Rattle.class_laws.specs.PairTables.{IsPairTable};
 ghost use Rattle.pair_numbering.specs.Chains.{AreFirsts};
 
 use crate::chains::{chain, find_firsts};
+use crate::entries::EntryPairs;
 use crate::masks::join_mask;
-use crate::pairs::pair_at;
 use order_model::{Problem, contains};
 use std::alloc::{AllocError, Global};
 use std::marker::Model;
@@ -59,9 +59,9 @@ impl Scratch {
         ensures count { CountsMasks masks.now x (places.pairs numbers.now (2 ^ rank)) result }
         ensures same { self.new ≡ self.old }
     {
+        let entries = EntryPairs::of_table(numbers, rank);
         count_in(
-            numbers,
-            rank,
+            &entries,
             x,
             masks,
             &mut self.heads,
@@ -75,8 +75,7 @@ impl Scratch {
 
 /// How many distinct pairs have a mask with `x`, in rows that are long enough.
 fn count_in(
-    numbers: &[u32],
-    rank: u32,
+    entries: &EntryPairs<'_>,
     x: u8,
     masks: &[u16],
     heads: &mut [u32],
@@ -85,18 +84,18 @@ fn count_in(
     marks: &mut [u32],
     first: &mut [u32],
 ) -> u32
-    requires table { IsPairTable numbers.now rank (length masks.now) }
+    requires table { IsPairTable entries.now.numbers entries.now.rank (length masks.now) }
     requires variable { x < 16 }
-    requires few { length masks.now ≤ length numbers.now }
-    requires heads { length numbers.now ≤ length heads.old }
-    requires next { length numbers.now ≤ length next.old }
-    requires stamps { length numbers.now ≤ length stamps.old }
-    requires marks { length numbers.now ≤ length marks.old }
-    requires first { length numbers.now ≤ length first.old }
-    ensures { CountsMasks masks.now x (places.pairs numbers.now (2 ^ rank)) result }
+    requires few { length masks.now ≤ length entries.now.numbers }
+    requires heads { length entries.now.numbers ≤ length heads.old }
+    requires next { length entries.now.numbers ≤ length next.old }
+    requires stamps { length entries.now.numbers ≤ length stamps.old }
+    requires marks { length entries.now.numbers ≤ length marks.old }
+    requires first { length entries.now.numbers ≤ length first.old }
+    ensures { CountsMasks masks.now x (places.pairs entries.now.numbers (2 ^ entries.now.rank)) result }
 {
     let classes = masks.len();
-    let half = numbers.len() / 2;
+    let half = entries.len();
     let heads = &mut heads[..classes];
     let next = &mut next[..half];
     let stamps = &mut stamps[..classes];
@@ -104,22 +103,22 @@ fn count_in(
     let first = &mut first[..half];
     heads.fill(half as u32);
     stamps.fill(0);
-    chain(numbers, rank, heads, next);
-    find_firsts(numbers, rank, heads, next, stamps, marks, first);
-    count_firsts(numbers, rank, x, masks, first)
+    chain(entries, heads, next);
+    find_firsts(entries, heads, next, stamps, marks, first);
+    count_firsts(entries, x, masks, first)
 }
 
 /// How many pairs that are the first of their kind have a mask with `x`.
-fn count_firsts(numbers: &[u32], rank: u32, x: u8, masks: &[u16], first: &[u32]) -> u32
-    requires table { IsPairTable numbers.now rank (length masks.now) }
+fn count_firsts(entries: &EntryPairs<'_>, x: u8, masks: &[u16], first: &[u32]) -> u32
+    requires table { IsPairTable entries.now.numbers entries.now.rank (length masks.now) }
     requires variable { x < 16 }
-    requires first { AreFirsts numbers.now rank first.now }
-    ensures { CountsMasks masks.now x (places.pairs numbers.now (2 ^ rank)) result }
+    requires first { AreFirsts entries.now.numbers entries.now.rank first.now }
+    ensures { CountsMasks masks.now x (places.pairs entries.now.numbers (2 ^ entries.now.rank)) result }
 {
     let mut count = 0;
     for (j, f) in first.iter().enumerate() {
         if *f as usize == j {
-            let mask = join_mask(masks, x, pair_at(numbers, rank, j));
+            let mask = join_mask(masks, x, entries.pair(j));
             count += u32::from(contains(mask, x));
         }
     }

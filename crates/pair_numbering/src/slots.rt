@@ -2,10 +2,10 @@
 
 ghost use Rattle.std.specs.Prelude.{◌≡◌, ℕ, ◌+◌, ◌*◌, ◌^◌, ◌<◌, ◌≤◌, length, IfOk, IfSome};
 ghost use Rattle.pair_numbering.specs.Slots.{IsSlot, home_of};
-ghost use Rattle.class_laws.specs.PairTables.{IsPaired};
 ghost use Rattle.pair_numbering.specs.Numbers.{ArePairsNumbered};
 
-use crate::pairs::{NumberedPairs, pair_at};
+use crate::entries::{Block, EntryPairs};
+use crate::pairs::NumberedPairs;
 use std::alloc::{AllocError, Global};
 
 /// How many slots are tried for a pair.
@@ -50,32 +50,36 @@ fn find_slot(
 /// has a number too large for a pair. Nothing if too many pairs have homes close together.
 pub fn number_pairs_by_slots(
     alloc: Global,
-    numbers: &[u32],
-    rank: u32,
+    entries: &EntryPairs<'_>,
 ) -> Result<Option<NumberedPairs>, AllocError>
-    requires paired { IsPaired numbers.now rank }
-    requires len { length numbers.now ≤ 2 ^ 20 }
+    requires { length entries.now.numbers ≤ 2 ^ 20 }
     ensures { IfOk result
-        (λ o. IfSome o (λ v. ArePairsNumbered numbers.now rank v.numbers.items v.pairs.items)) }
+        (λ o. IfSome o (λ v. ArePairsNumbered entries.now.numbers entries.now.rank v.numbers.items
+        v.pairs.items)) }
 {
-    let half = numbers.len() / 2;
+    let rank = entries.rank();
+    let step = 1usize << rank;
+    let half = entries.len();
     let homes = 4 * half;
     let mut slots = vec![in alloc; half as u32; homes + TRIES]?;
     let mut keys = vec![in alloc; (0u32, 0u32); half]?;
     let mut out = vec![in alloc; 0u32; half]?;
     let mut count = 0u32;
-    for j in 0..half {
-        let pair = pair_at(numbers, rank, j);
-        keys[count as usize] = pair;
-        let found = find_slot(&slots, &keys, count, pair, home(homes, pair));
-        let Some(at) = found else {
-            return Ok(None);
-        };
-        let number = slots[at].min(count);
-        slots[at] = number;
-        out[j] = number;
-        if number == count {
-            count += 1;
+    for block in 0..half >> rank {
+        let Block { low, high } = entries.block(block);
+        for i in 0..step {
+            let pair = (low[i], high[i]);
+            keys[count as usize] = pair;
+            let found = find_slot(&slots, &keys, count, pair, home(homes, pair));
+            let Some(at) = found else {
+                return Ok(None);
+            };
+            let number = slots[at].min(count);
+            slots[at] = number;
+            out[block * step + i] = number;
+            if number == count {
+                count += 1;
+            }
         }
     }
     keys.truncate(count as usize);

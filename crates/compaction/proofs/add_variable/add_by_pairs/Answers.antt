@@ -1,14 +1,14 @@
 use Rattle.std.proofs.Common.{◌≡◌, ℕ, List, refl, ◌+◌, ◌*◌, ◌/◌, ◌^◌, length, get_or, sym, ap, ◌∙◌, subst, arith}
 use Rattle.std.proofs.Math.Nat.{add-mul-div_right, div-eq_of_lt, mul-le-mul_left}
 use Rattle.std.proofs.lemmas.Nat.{pow_pos}
-use Rattle.compaction.specs.Strips.{AreNamed, names_of, unrolled}
+use Rattle.pair_numbering.specs.Strips.{AreNamed, names_of, unrolled}
 use Rattle.pair_numbering.specs.Keys.{TellsPairs}
 use Rattle.class_laws.specs.Places as places
 use Rattle.class_laws.proofs.Index.{length-pairs}
 use Rattle.pair_numbering.proofs.Names.{names_below, length_names}
-use Rattle.compaction.proofs.Unrolled.{length_named}
-use Rattle.compaction.proofs.Paired.{length_names_of, paired_few, paired_long, paired_lower, paired_named, paired_upper}
-use Rattle.compaction.proofs.Stripped.{high_strips, high_tells, unrolled_below}
+use Rattle.pair_numbering.proofs.Unrolled.{length_named, length_names_of}
+use Rattle.compaction.proofs.Paired.{paired_few, paired_long, paired_lower, paired_named, paired_upper}
+use Rattle.compaction.proofs.Stripped.{high_strips, high_tells}
 use Rattle.compaction.proofs.add_variable.add_by_pairs.Goals as goal
 
 pub number_names-requires-clause-table : goal.number_names-requires-clause-table
@@ -27,15 +27,15 @@ number_names-requires-clause-table c =
       below = λ i h. let w = strips.within i h in omega arith;
     }
 
-pub pair_strips-requires-clause-named : goal.pair_strips-requires-clause-named
-pair_strips-requires-clause-named c =
+pub tell_strip_pairs-requires-clause-named : goal.tell_strip_pairs-requires-clause-named
+tell_strip_pairs-requires-clause-named c =
     let table = c.requires.table in
     subst (λ us. AreNamed (names_of us) c.args.numbers.now (2 ^ c.args.bits)) (sym c.deref.ensures.value)
     (paired_named c.args.outer.now c.args.numbers.now (2 ^ c.args.bits) c.args.rank table.strips table.whole c.in_ok-runs.runs.numbers.items
     c.in_ok-runs.runs.pairs.items c.in_ok-runs.ensures)
 
-pub pair_strips-requires-clause-small : goal.pair_strips-requires-clause-small
-pair_strips-requires-clause-small c =
+pub tell_strip_pairs-requires-clause-small : goal.tell_strip_pairs-requires-clause-small
+tell_strip_pairs-requires-clause-small c =
     let table = c.requires.table in
     let len = 2 ^ c.args.bits in
     let pairs = c.in_ok-runs.runs.pairs.items in
@@ -49,33 +49,6 @@ pair_strips-requires-clause-small c =
     let most = table.len in
     omega arith
 
-pub tell_pairs-requires-clause-table : goal.tell_pairs-requires-clause-table
-tell_pairs-requires-clause-table c =
-    let table = c.requires.table in
-    let len = 2 ^ c.args.bits in
-    let pairs = c.in_ok-runs.runs.pairs.items in
-    let are = c.in_ok-paired.ensures ∙ ap (λ us. unrolled (names_of us) c.args.numbers.now len) c.deref.ensures.value in
-    let same = c.deref-2.ensures.value in
-    let v = ap length same in
-    let p = paired_few c.args.outer.now c.args.numbers.now len c.args.rank table.strips table.whole c.in_ok-runs.runs.numbers.items pairs
-    c.in_ok-runs.ensures c.in_ok-paired.paired.items are in
-    let long = paired_long c.args.outer.now c.args.numbers.now len c.args.rank table.strips table.whole c.in_ok-runs.runs.numbers.items
-    pairs c.in_ok-runs.ensures c.in_ok-paired.paired.items are in
-    let named =
-    paired_named c.args.outer.now c.args.numbers.now len c.args.rank table.strips table.whole c.in_ok-runs.runs.numbers.items pairs
-    c.in_ok-runs.ensures in
-    let f = table.len in
-    let r = table.small_rank in
-    record {
-      paired = record { small_rank = omega arith; short = omega arith; whole = (_, v ∙ long) };
-      few = omega arith;
-      below = λ i h.
-          let entries = ap length are in
-          let e = ap (λ us. get_or us i 0) (same ∙ are) in
-          let b = unrolled_below (names_of pairs) c.args.numbers.now len (length c.args.masks.now) (pow_pos c.args.bits) named table.below i (omega arith) in
-          omega arith;
-    }
-
 pub returns : goal.returns
 returns c =
     let table = c.requires.table in
@@ -84,14 +57,14 @@ returns c =
     let len = 2 ^ c.args.bits in
     let runs = c.in_ok-runs.runs.numbers.items in
     let pairs = c.in_ok-runs.runs.pairs.items in
-    let paired = c.in_ok-paired.paired.items in
+    let paired = unrolled (names_of pairs) numbers len in
     let told = c.in_ok-told.told in
-    let are = c.in_ok-paired.ensures ∙ ap (λ us. unrolled (names_of us) numbers len) c.deref.ensures.value in
-    let long = paired_long outer numbers len c.args.rank table.strips table.whole runs pairs c.in_ok-runs.ensures paired are in
-    let lower = paired_lower outer numbers len c.args.rank table.strips table.whole runs pairs c.in_ok-runs.ensures paired are in
-    let upper = paired_upper outer numbers len c.args.rank table.strips table.whole runs pairs c.in_ok-runs.ensures paired are in
+    let long = paired_long outer numbers len c.args.rank table.strips table.whole runs pairs c.in_ok-runs.ensures paired refl in
+    let lower = paired_lower outer numbers len c.args.rank table.strips table.whole runs pairs c.in_ok-runs.ensures paired refl in
+    let upper = paired_upper outer numbers len c.args.rank table.strips table.whole runs pairs c.in_ok-runs.ensures paired refl in
     let names =
-    subst (λ us. TellsPairs c.args.masks.now c.args.x (places.pairs us len) told.numbers.items told.masks.items) c.deref-2.ensures.value
+    subst (λ us. TellsPairs c.args.masks.now c.args.x (places.pairs (unrolled (names_of us) numbers len) len) told.numbers.items told.masks.items)
+    c.deref.ensures.value
     c.in_ok-told.ensures.tells in
     record {
       strips = high_strips outer numbers len (2 ^ c.args.rank) table.strips (pow_pos c.args.bits) (pow_pos c.args.rank) table.whole runs paired
@@ -101,7 +74,7 @@ returns c =
       below = names_below c.args.masks.now c.args.x (places.pairs paired len) told.numbers.items told.masks.items names;
       few =
           let f = table.len in
-          let p = paired_few outer numbers len c.args.rank table.strips table.whole runs pairs c.in_ok-runs.ensures paired are in
+          let p = paired_few outer numbers len c.args.rank table.strips table.whole runs pairs c.in_ok-runs.ensures paired refl in
           let n = length_names c.args.masks.now c.args.x (places.pairs paired len) told.numbers.items told.masks.items names in
           let m = length-pairs paired len in
           omega arith;

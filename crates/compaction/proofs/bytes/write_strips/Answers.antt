@@ -1,9 +1,9 @@
 use Rattle.std.proofs.Common.{◌≡◌, ◌+◌, ◌*◌, ◌++◌, ◌∷◌, [], get_or, set, take, length, sym, ap, subst, ◌∙◌, arith}
 use Rattle.std.proofs.lemmas.List.{take_more, take_more_set, take_all, length-set}
-use Rattle.compaction.specs.Strips.{unrolled}
+use Rattle.pair_numbering.specs.Strips.{unrolled}
 use Rattle.class_laws.proofs.BlockPlaces.{block_next}
 use Rattle.compaction.proofs.Stripped.{below_product}
-use Rattle.compaction.proofs.Unrolled.{length_named, named_at}
+use Rattle.pair_numbering.proofs.Unrolled.{length_named, named_at}
 use Rattle.compaction.proofs.bytes.write_strips.Goals as goal
 
 pub loop-a-init : goal.loop-a-init

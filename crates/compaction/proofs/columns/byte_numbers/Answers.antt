@@ -1,7 +1,7 @@
 use Rattle.std.proofs.Common.{◌≡◌, ◌++◌, ◌∷◌, [], ap, sym, ◌∙◌, map, get_or, length, arith}
 use Rattle.std.specs.List.{range_with_len}
 use Rattle.std.proofs.lemmas.List.FromFn.{map-range_with_len_more, length-map-range_with_len}
-use Rattle.compaction.specs.Strips.{strip}
+use Rattle.pair_numbering.specs.Strips.{strip}
 use Rattle.compaction.proofs.Expanded.{row_number, row_strip, rows_below}
 use Rattle.compaction.proofs.columns.byte_numbers.Goals as goal
 

@@ -1,7 +1,7 @@
 use Rattle.std.proofs.Common.{◌≡◌, ◌*◌, length, sym, ap, ◌∙◌, arith}
 use Rattle.order_model.specs.Problems.{value_at}
 use Rattle.compaction.specs.Columns.{low_numbers, packed_numbers}
-use Rattle.compaction.specs.Strips.{unrolled}
+use Rattle.pair_numbering.specs.Strips.{unrolled}
 use Rattle.class_laws.specs.Values.{values_of}
 use Rattle.compaction.proofs.Expanded.{length_packed}
 use Rattle.class_laws.proofs.StartClasses.{length_values}

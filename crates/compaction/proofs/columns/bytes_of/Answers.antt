@@ -1,8 +1,8 @@
 use Rattle.std.proofs.Common.{◌≡◌, ◌*◌, sym, ap, ◌++◌, ◌∙◌, get_or, length, arith}
 use Rattle.compaction.specs.Columns.{packed_numbers, low_numbers}
-use Rattle.compaction.specs.Strips.{unrolled}
+use Rattle.pair_numbering.specs.Strips.{unrolled}
 use Rattle.compaction.proofs.Expanded.{packed_none, packed_more}
-use Rattle.compaction.proofs.Unrolled.{unrolled_none}
+use Rattle.pair_numbering.proofs.Unrolled.{unrolled_none}
 use Rattle.compaction.proofs.columns.bytes_of.Goals as goal
 
 pub loop-word-init : goal.loop-word-init

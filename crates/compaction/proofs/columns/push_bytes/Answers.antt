@@ -3,9 +3,9 @@ use Rattle.std.proofs.Math.Nat.{mod-lt}
 use Rattle.std.proofs.lemmas.Bool.{cases_lt}
 use Rattle.std.proofs.lemmas.List.{append-nil, append_assoc, get_or_append_left, get_or_push, length_push}
 use Rattle.compaction.specs.Columns.{low_numbers}
-use Rattle.compaction.specs.Strips.{unrolled}
+use Rattle.pair_numbering.specs.Strips.{unrolled}
 use Rattle.compaction.proofs.Expanded.{low_none, low_more}
-use Rattle.compaction.proofs.Unrolled.{unrolled_more}
+use Rattle.pair_numbering.proofs.Unrolled.{unrolled_more}
 use Rattle.compaction.proofs.columns.push_bytes.Goals as goal
 
 pub loop-place-init : goal.loop-place-init

@@ -1,7 +1,7 @@
 use Rattle.std.proofs.Common.{◌≡◌, ◌*◌, ◌++◌, ℕ, List, Bool}
 use Rattle.class_laws.specs.PairTables.{AllBelow}
 use Rattle.compaction.specs.Columns.{AreByteRows, low_numbers}
-use Rattle.compaction.specs.Strips.{unrolled}
+use Rattle.pair_numbering.specs.Strips.{unrolled}
 use Rattle.compaction.proofs.columns.push_bytes.Given as goal
 
 abbrev pub invariant-loop-place : goal.invariant-loop-place

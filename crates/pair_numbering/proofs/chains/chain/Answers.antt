@@ -1,5 +1,6 @@
 use Rattle.std.proofs.Common.{◌≡◌, ℕ, suc, ◌+◌, ◌-◌, ◌/◌, ◌^◌, ◌<◌, ◌≤◌, get_or, set, length, sym, ap, ◌∙◌, subst, arith}
 use Rattle.std.proofs.lemmas.Nat.{pow_pos}
+use Rattle.class_laws.specs.Places.{low_place}
 use Rattle.pair_numbering.specs.Chains.{IsNext, lower_at}
 use Rattle.class_laws.proofs.Index.{pair_within}
 use Rattle.pair_numbering.proofs.Chained.{heads_more, next_more}
@@ -7,8 +8,8 @@ use Rattle.pair_numbering.proofs.chains.chain.Goals as goal
 
 pub loop-j-preserved : goal.loop-j-preserved
 loop-j-preserved c =
-    let cs = c.args.numbers.now in
-    let step = 2 ^ c.args.rank in
+    let cs = c.args.entries.now.numbers in
+    let step = 2 ^ c.args.entries.now.rank in
     let half = length cs / 2 in
     let value = lower_at cs step in
     let heads = c.loop-j.heads in
@@ -18,11 +19,9 @@ loop-j-preserved c =
     let s : c.loop-j.j ≤ half = c.loop-j.invariant.small in
     let kl : k < half = omega arith in
     let up : c.loop-j.j ≡ suc k = omega arith in
-    let v : get_or cs c.low_place.result 0 ≡ value k = ap (λ z. get_or cs z 0) c.low_place.ensures in
-    let w = pair_within step c.requires.paired.whole.0 (length cs) k (pow_pos c.args.rank) c.requires.paired.whole.1 kl in
-    let p = c.low_place.ensures in
-    let lo : c.low_place.result < length cs = omega arith in
-    let b = c.requires.classes c.low_place.result lo in
+    let v : c.pair-lower.result.0 ≡ value k = ap (λ (p : ℕ × ℕ). p.0) c.pair-lower.ensures in
+    let w = pair_within step c.requires.paired.whole.0 (length cs) k (pow_pos c.args.entries.now.rank) c.requires.paired.whole.1 kl in
+    let b = c.requires.classes (low_place step k) (omega arith) in
     let hl = c.loop-j.auto.heads in
     let nl = c.loop-j.auto.next in
     let nh = c.requires.half in

@@ -9,8 +9,8 @@ use Rattle.pair_numbering.proofs.chains.number_firsts.Goals.{then-f-j+in_ok-push
 
 pub loop-j-init : goal.loop-j-init
 loop-j-init c =
-    let ps = places.pairs c.args.numbers.now (2 ^ c.args.rank) in
-    let l = length-pairs c.args.numbers.now (2 ^ c.args.rank) in
+    let ps = places.pairs c.args.entries.now.numbers (2 ^ c.args.entries.now.rank) in
+    let l = length-pairs c.args.entries.now.numbers (2 ^ c.args.entries.now.rank) in
     let n = c.in_ok-out.ensures.len in
     let m = c.requires.first.long in
     subst (λ us. Made (0, 0) ps (λ p. p) c.in_ok-out.out.items us 0) (sym c.new-pairs.ensures.items)
@@ -21,13 +21,13 @@ index_mut-requires-else-f-j c =
     let long = c.requires.first.long in
     let o = c.loop-j.invariant.long in
     let t = c.loop-j-test.true in
-    let l = length-pairs c.args.numbers.now (2 ^ c.args.rank) in
+    let l = length-pairs c.args.entries.now.numbers (2 ^ c.args.entries.now.rank) in
     omega arith
 
 pub loop-j-preserved : goal.loop-j-preserved
 loop-j-preserved c =
-    let cs = c.args.numbers.now in
-    let step = 2 ^ c.args.rank in
+    let cs = c.args.entries.now.numbers in
+    let step = 2 ^ c.args.entries.now.rank in
     let ps = places.pairs cs step in
     let j = c.loop-j.j in
     let out = c.loop-j.out.items in
@@ -44,9 +44,9 @@ loop-j-preserved c =
           let n = w.len.ensures in
           let m : w.len.result ≡ length masks = omega arith in
           let o : c.if-f-j.out.items ≡ set out j (length masks) = ap (λ (v : Vec ℕ Global). v.items) w.out-is ∙ ap (set out j) m in
-          let pair = w.pair_at.ensures ∙ sym (pair_listed cs step j small) in
+          let pair = w.pair.ensures ∙ sym (pair_listed cs step j small) in
           subst (λ z. z) (λ i. Made (0, 0) ps (λ p. p) (sym o i) (sym d i) (j + 1))
-          (made_first (0, 0) ps (λ p. p) out masks j w.pair_at.result listed
+          (made_first (0, 0) ps (λ p. p) out masks j w.pair.result listed
           (subst (IsFirst (λ i. get_or ps i (0, 0)) j) w.if-f-j.true first) pair c.loop-j.invariant)
       | else-f-j w ↦
           let f = first.before in
@@ -60,10 +60,10 @@ loop-j-preserved c =
 
 pub returns : goal.returns
 returns c =
-    let ps = places.pairs c.args.numbers.now (2 ^ c.args.rank) in
+    let ps = places.pairs c.args.entries.now.numbers (2 ^ c.args.entries.now.rank) in
     let out = c.loop-j.out.items in
     let pairs = c.loop-j.pairs.items in
-    let l = length-pairs c.args.numbers.now (2 ^ c.args.rank) in
+    let l = length-pairs c.args.entries.now.numbers (2 ^ c.args.entries.now.rank) in
     let t = c.loop-j-test.false in
     let long = c.requires.first.long in
     record {

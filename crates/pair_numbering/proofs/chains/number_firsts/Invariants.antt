@@ -4,4 +4,4 @@ use Rattle.class_laws.proofs.Firsts.{Made}
 use Rattle.pair_numbering.proofs.chains.number_firsts.Given as goal
 
 abbrev pub invariant-loop-j : goal.invariant-loop-j
-invariant-loop-j l = Made (0, 0) (places.pairs l.numbers (2 ^ l.rank)) (λ p. p) l.out.items l.pairs.items l.j
+invariant-loop-j l = Made (0, 0) (places.pairs l.entries.numbers (2 ^ l.entries.rank)) (λ p. p) l.out.items l.pairs.items l.j

@@ -1,6 +1,6 @@
-use Rattle.std.proofs.Common.{◌≡◌, ◌≢◌, ◌+◌, ◌*◌, ◌/◌, ◌%◌, ◌^◌, ◌<◌, get_or, set, length, sym, ap, subst, ◌∙◌, arith}
+use Rattle.std.proofs.Common.{◌≡◌, ◌≢◌, ℕ, ◌+◌, ◌*◌, ◌/◌, ◌%◌, ◌^◌, ◌<◌, get_or, set, length, sym, ap, subst, ◌∙◌, arith}
 use Rattle.std.proofs.lemmas.List.{get_or-set_other}
-use Rattle.std.proofs.lemmas.Nat.{pow_pos, one_shl}
+use Rattle.std.proofs.lemmas.Nat.{pow_pos}
 use Rattle.class_laws.specs.Places as places
 use Rattle.pair_numbering.specs.Chains.{IsNext, lower_at, upper_at}
 use Rattle.class_laws.proofs.Index.{pair_within}
@@ -8,20 +8,10 @@ use Rattle.pair_numbering.proofs.Chained.{Walk, walk_again, walk_new}
 use Rattle.pair_numbering.proofs.chains.walk_chain.Goals as goal
 use Rattle.pair_numbering.proofs.chains.walk_chain.Goals.{then-stamps-upper, else-stamps-upper}
 
-pub bounds-numbers-low_place : goal.bounds-numbers-low_place
-bounds-numbers-low_place c =
-    let s = one_shl c.args.rank 64 (let h = c.requires.paired.small_rank in omega arith) in
-    let n = c.requires.next.long in
-    let t = c.loop-j-test.true in
-    let w = pair_within (2 ^ c.args.rank) c.requires.paired.whole.0 (length c.args.numbers.now) c.loop-j.j (pow_pos c.args.rank)
-    c.requires.paired.whole.1 (omega arith) in
-    let e = c.low_place.ensures in
-    omega arith
-
 pub loop-j-preserved : goal.loop-j-preserved
 loop-j-preserved c =
-    let cs = c.args.numbers.now in
-    let step = 2 ^ c.args.rank in
+    let cs = c.args.entries.now.numbers in
+    let step = 2 ^ c.args.entries.now.rank in
     let half = length cs / 2 in
     let lower = c.args.lower in
     let j = c.loop-j.j in
@@ -29,14 +19,11 @@ loop-j-preserved c =
     let marks = c.loop-j.marks in
     let first = c.loop-j.first in
     let k = get_or c.args.next.now j 0 in
-    let s = one_shl c.args.rank 64 (let h = c.requires.paired.small_rank in omega arith) in
     let n = c.requires.next.long in
     let t = c.loop-j-test.true in
     let small : j < half = omega arith in
-    let w = pair_within step c.requires.paired.whole.0 (length cs) j (pow_pos c.args.rank) c.requires.paired.whole.1 small in
-    let e = c.low_place.ensures in
-    let at : c.low_place.result + 1 * 2 ^ c.args.rank % 2 ^ 64 ≡ places.low_place step j + step = omega arith in
-    let v : get_or cs (c.low_place.result + 1 * 2 ^ c.args.rank % 2 ^ 64) 0 ≡ upper_at cs step j = ap (λ z. get_or cs z 0) at in
+    let w = pair_within step c.requires.paired.whole.0 (length cs) j (pow_pos c.args.entries.now.rank) c.requires.paired.whole.1 small in
+    let v : c.pair-upper.result.1 ≡ upper_at cs step j = ap (λ (p : ℕ × ℕ). p.1) c.pair-upper.ensures in
     let b = c.requires.classes (places.low_place step j + step) w in
     let sa = c.loop-j.auto.stamps in
     let ma = c.loop-j.auto.marks in

@@ -1,17 +1,18 @@
-use Rattle.std.proofs.Common.{◌≡◌, ◌+◌, ◌^◌, get_or, set, take, map, length, sym, ap, subst, ◌∙◌, arith}
+use Rattle.std.proofs.Common.{◌≡◌, ℕ, ◌+◌, ◌/◌, ◌^◌, ◌<◌, get_or, refl, set, take, map, length, sym, ap, subst, ◌∙◌, arith}
 use Rattle.std.proofs.lemmas.List.{take_more_set, take_all, length-set, length-take}
 use Rattle.class_laws.specs.Dependence.{joined_mask}
 use Rattle.class_laws.specs.Places as places
-use Rattle.class_laws.proofs.Apart.{distinct_first}
+use Rattle.class_laws.specs.Numbering.{IsFirst}
 use Rattle.class_laws.proofs.Index.{length-pairs, pair_listed}
 use Rattle.class_laws.proofs.Firsts.{Made, made_none, made_first, made_numbers, made_many, made_told}
 use Rattle.pair_numbering.proofs.distinct.number_distinct_pairs.Goals as goal
 
 pub loop-j-init : goal.loop-j-init
 loop-j-init c =
-    let ps = places.pairs c.args.numbers.now (2 ^ c.args.rank) in
-    let l = length-pairs c.args.numbers.now (2 ^ c.args.rank) in
+    let ps = places.pairs c.args.entries.now.numbers (2 ^ c.args.entries.now.rank) in
+    let l = length-pairs c.args.entries.now.numbers (2 ^ c.args.entries.now.rank) in
     let n = c.in_ok-out.ensures.len in
+    let h = c.len-half.ensures.count in
     let m = c.in_ok-joined.ensures.len in
     record {
       long = omega arith;
@@ -20,19 +21,28 @@ loop-j-init c =
 
 pub loop-j-preserved : goal.loop-j-preserved
 loop-j-preserved c =
-    let cs = c.args.numbers.now in
-    let ps = places.pairs cs (2 ^ c.args.rank) in
+    let cs = c.args.entries.now.numbers in
+    let ps = places.pairs cs (2 ^ c.args.entries.now.rank) in
     let join = joined_mask c.args.masks.now c.args.x in
     let j = c.loop-j.j in
     let out = c.loop-j.out.items in
     let masks = c.loop-j.joined.items in
     let mask = c.join_mask.result in
-    let small = c.loop-j-test.true in
-    let p = c.pair_at.ensures ∙ sym (pair_listed cs (2 ^ c.args.rank) j small) in
-    let l = length-pairs cs (2 ^ c.args.rank) in
+    let h = c.len-half.ensures.count in
+    let t = c.loop-j-test.true in
+    let small : j < length cs / 2 = omega arith in
+    let p = c.pair.ensures ∙ sym (pair_listed cs (2 ^ c.args.entries.now.rank) j small) in
+    let l = length-pairs cs (2 ^ c.args.entries.now.rank) in
     let o = c.loop-j.invariant.long in
     let few : length (take j masks) ≡ j = (let t = length-take j masks in omega arith) in
-    let first = distinct_first cs c.args.rank c.requires.table.paired.whole c.requires.distinct j small in
+    let first : IsFirst (λ i. get_or ps i (0, 0)) j j =
+    record {
+      before = omega arith;
+      same = refl;
+      none = λ i k e. c.requires.distinct i j k small
+          (ap (λ (q : ℕ × ℕ). q.0) (sym (pair_listed cs (2 ^ c.args.entries.now.rank) i (omega arith)) ∙ e
+          ∙ pair_listed cs (2 ^ c.args.entries.now.rank) j small));
+    } in
     record {
       long = length-set masks _ _ ∙ o;
       made = subst (λ z. z) (λ t. Made 0 ps join (set out j (few t)) (sym (take_more_set masks j mask (omega arith)) t) (j + 1))
@@ -41,13 +51,14 @@ loop-j-preserved c =
 
 pub returns : goal.returns
 returns c =
-    let ps = places.pairs c.args.numbers.now (2 ^ c.args.rank) in
+    let ps = places.pairs c.args.entries.now.numbers (2 ^ c.args.entries.now.rank) in
     let join = joined_mask c.args.masks.now c.args.x in
     let out = c.loop-j.out.items in
     let joined = take c.loop-j.j c.loop-j.joined.items in
-    let l = length-pairs c.args.numbers.now (2 ^ c.args.rank) in
+    let l = length-pairs c.args.entries.now.numbers (2 ^ c.args.entries.now.rank) in
     let o = c.loop-j.invariant.long in
     let t = c.loop-j-test.false in
+    let h = c.len-half.ensures.count in
     let all = sym (take_all c.loop-j.j c.loop-j.joined.items (omega arith)) in
     record {
       numbers_are = made_numbers 0 ps join out joined c.loop-j.j (omega arith) c.loop-j.invariant.made;

@@ -5,12 +5,12 @@ use Rattle.pair_numbering.proofs.keys.join_blocks.Given as goal
 
 abbrev pub invariant-loop-block : goal.invariant-loop-block
 invariant-loop-block l = record {
-  long : length l.joined ≡ length l.keys / 2;
-  done : take (l.block * 2 ^ l.rank) l.joined ≡ map (joined_key l.base) (take (l.block * 2 ^ l.rank) (places.pairs l.keys (2 ^ l.rank)));
+  long : length l.joined ≡ length l.entries.numbers / 2;
+  done : take (l.block * 2 ^ l.rank) l.joined ≡ map (joined_key l.base) (take (l.block * 2 ^ l.rank) (places.pairs l.entries.numbers (2 ^ l.rank)));
 }
 
 abbrev pub invariant-loop-i : goal.invariant-loop-i
 invariant-loop-i l = record {
-  long : length l.joined ≡ length l.keys / 2;
-  done : take (l.block * 2 ^ l.rank + l.i) l.joined ≡ map (joined_key l.base) (take (l.block * 2 ^ l.rank + l.i) (places.pairs l.keys (2 ^ l.rank)));
+  long : length l.joined ≡ length l.entries.numbers / 2;
+  done : take (l.block * 2 ^ l.rank + l.i) l.joined ≡ map (joined_key l.base) (take (l.block * 2 ^ l.rank + l.i) (places.pairs l.entries.numbers (2 ^ l.rank)));
 }

@@ -4,4 +4,4 @@ use Rattle.class_laws.proofs.Joined.{Joined}
 use Rattle.pair_numbering.proofs.pairs.distinct_pairs.Given as goal
 
 abbrev pub invariant-loop-j : goal.invariant-loop-j
-invariant-loop-j l = Joined (0, 0) (places.pairs l.numbers (2 ^ l.rank)) (λ p. p) l.pairs.items l.j
+invariant-loop-j l = Joined (0, 0) (places.pairs l.entries.numbers (2 ^ l.entries.rank)) (λ p. p) l.pairs.items l.j

@@ -1,9 +1,10 @@
 use Rattle.std.proofs.Common.{◌≡◌, ℕ, ◌<◌, ◌≤◌, ◌*◌, ◌%◌, ◌^◌, ◌++◌, length, sym, ap, ◌∙◌, subst, arith}
 use Rattle.std.proofs.lemmas.Nat.{one_shl}
-use Rattle.compaction.specs.Strips.{AreNamed, HoldsStrips, low_variables, unrolled}
+use Rattle.pair_numbering.specs.Strips.{AreNamed, unrolled}
+use Rattle.compaction.specs.Strips.{HoldsStrips, low_variables}
 use Rattle.class_laws.specs.Table.{ClassesOf, classes_of, free_below}
 use Rattle.class_laws.proofs.Extended.{free_le}
-use Rattle.compaction.proofs.Unrolled.{length_named}
+use Rattle.pair_numbering.proofs.Unrolled.{length_named}
 use Rattle.compaction.proofs.bytes.ByteKeys.write_out.Goals as goal
 
 pub overflow_shl-rank_of : goal.overflow_shl-rank_of

@@ -3,18 +3,18 @@ use Rattle.class_laws.specs.Dependence.{joined_mask}
 use Rattle.class_laws.specs.Places as places
 use Rattle.pair_numbering.specs.Numbers.{ArePairsBelow}
 use Rattle.class_laws.proofs.DistinctPairs.{met_classes, masks_many, masks_told}
-use Rattle.pair_numbering.proofs.numbering.number_pairs_with_masks.Goals as goal
+use Rattle.pair_numbering.proofs.numbering.number_with_masks.Goals as goal
 
 pub join_masks-requires-clause-classes : goal.join_masks-requires-clause-classes
 join_masks-requires-clause-classes c =
     let n = c.in_ok-numbered-3.ensures in
     subst (λ us. ArePairsBelow us (length c.args.masks.now)) (sym c.deref.ensures.value)
-    (met_classes c.args.numbers.now c.args.rank (length c.args.masks.now) c.requires.table.paired.whole c.requires.table.below
+    (met_classes c.args.entries.now.numbers c.args.entries.now.rank (length c.args.masks.now) c.requires.table.paired.whole c.requires.table.below
     c.in_ok-numbered-3.numbered.numbers.items c.in_ok-numbered-3.numbered.pairs.items n.numbered_are n.many n.told)
 
 pub returns : goal.returns
 returns c =
-    let ps = places.pairs c.args.numbers.now (2 ^ c.args.rank) in
+    let ps = places.pairs c.args.entries.now.numbers (2 ^ c.args.entries.now.rank) in
     let join = joined_mask c.args.masks.now c.args.x in
     let numbers = c.in_ok-numbered-3.numbered.numbers.items in
     let pairs = c.in_ok-numbered-3.numbered.pairs.items in

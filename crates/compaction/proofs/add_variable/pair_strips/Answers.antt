@@ -1,1 +1,0 @@
-use Rattle.compaction.proofs.add_variable.pair_strips.Goals as goal

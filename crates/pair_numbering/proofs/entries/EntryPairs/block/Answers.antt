@@ -1,0 +1,57 @@
+use Rattle.std.proofs.Common.{◌≡◌, ◌<◌, ◌≤◌, ◌+◌, ◌*◌, ◌/◌, ◌^◌, ℕ, length, get_or, sym, ap, ◌∙◌, subst}
+use Rattle.class_laws.specs.PairTables.{IsPaired}
+use Rattle.class_laws.proofs.BlockPlaces.{block_pair}
+use Rattle.pair_numbering.proofs.Laid.{laid_blocks, laid_few, laid_high, laid_inside, laid_low, laid_named, laid_paired, laid_rank}
+use Rattle.pair_numbering.proofs.entries.EntryPairs.block.Goals as goal
+
+pub strips_of-low-requires-clause-named : goal.strips_of-low-requires-clause-named
+strips_of-low-requires-clause-named c =
+    laid_named (λ r. r.now) c.self.inside.names c.self.inside.numbers.now c.self.inside.rank c.args.block c.self.invariant
+    (subst (λ t. c.args.block < length t.numbers / 2 / 2 ^ t.rank) (sym c.self.view_is) c.requires)
+
+pub strips_of-low-requires-clause-few : goal.strips_of-low-requires-clause-few
+strips_of-low-requires-clause-few c =
+    laid_blocks (λ r. r.now) c.self.inside.names c.self.inside.numbers.now c.self.inside.rank c.args.block c.self.invariant
+    (subst (λ t. c.args.block < length t.numbers / 2 / 2 ^ t.rank) (sym c.self.view_is) c.requires)
+
+pub strip_at-requires-clause-rank : goal.strip_at-requires-clause-rank
+strip_at-requires-clause-rank c = laid_rank (λ r. r.now) c.self.inside.names c.self.inside.numbers.now c.self.inside.rank c.self.invariant
+
+pub strip_at-requires-clause-few : goal.strip_at-requires-clause-few
+strip_at-requires-clause-few c = laid_few (λ r. r.now) c.self.inside.names c.self.inside.numbers.now c.self.inside.rank c.self.invariant
+
+pub strip_at-requires-clause-inside : goal.strip_at-requires-clause-inside
+strip_at-requires-clause-inside c =
+    subst (λ (p : ℕ × ℕ). p.0 * 2 ^ c.self.inside.rank + 2 ^ c.self.inside.rank ≤ length c.self.inside.numbers.now) (sym c.strips_of-low.ensures)
+    (laid_inside (λ r. r.now) c.self.inside.names c.self.inside.numbers.now c.self.inside.rank c.args.block c.self.invariant
+    (subst (λ t. c.args.block < length t.numbers / 2 / 2 ^ t.rank) (sym c.self.view_is) c.requires)).0
+
+pub strip_at-requires-2-clause-rank : goal.strip_at-requires-2-clause-rank
+strip_at-requires-2-clause-rank c = laid_rank (λ r. r.now) c.self.inside.names c.self.inside.numbers.now c.self.inside.rank c.self.invariant
+
+pub strip_at-requires-2-clause-few : goal.strip_at-requires-2-clause-few
+strip_at-requires-2-clause-few c = laid_few (λ r. r.now) c.self.inside.names c.self.inside.numbers.now c.self.inside.rank c.self.invariant
+
+pub strip_at-requires-2-clause-inside : goal.strip_at-requires-2-clause-inside
+strip_at-requires-2-clause-inside c =
+    subst (λ (p : ℕ × ℕ). p.1 * 2 ^ c.self.inside.rank + 2 ^ c.self.inside.rank ≤ length c.self.inside.numbers.now) (sym c.strips_of-low.ensures)
+    (laid_inside (λ r. r.now) c.self.inside.names c.self.inside.numbers.now c.self.inside.rank c.args.block c.self.invariant
+    (subst (λ t. c.args.block < length t.numbers / 2 / 2 ^ t.rank) (sym c.self.view_is) c.requires)).1
+
+pub returns-clause-pairs : goal.returns-clause-pairs
+returns-clause-pairs c i h =
+    let numbers = c.args.self.now.numbers in
+    let rank = c.args.self.now.rank in
+    let inside = subst (λ t. c.args.block < length t.numbers / 2 / 2 ^ t.rank) (sym c.self.view_is) c.requires in
+    let m : i < 2 ^ c.self.inside.rank = subst (λ t. i < 2 ^ t.rank) (sym c.self.view_is) h in
+    let p = subst (λ t. IsPaired t.numbers t.rank) c.self.view_is
+    (laid_paired (λ r. r.now) c.self.inside.names c.self.inside.numbers.now c.self.inside.rank c.self.invariant) in
+    let low = c.strip_at.ensures.entries i m
+    ∙ ap (λ (q : ℕ × ℕ). get_or c.self.inside.numbers.now (q.0 * 2 ^ c.self.inside.rank + i) 0) c.strips_of-low.ensures
+    ∙ laid_low (λ r. r.now) c.self.inside.names c.self.inside.numbers.now c.self.inside.rank c.args.block i c.self.invariant inside m
+    ∙ ap (λ t. get_or t.numbers (c.args.block * (2 * 2 ^ t.rank) + i) 0) c.self.view_is in
+    let high = c.strip_at-2.ensures.entries i m
+    ∙ ap (λ (q : ℕ × ℕ). get_or c.self.inside.numbers.now (q.1 * 2 ^ c.self.inside.rank + i) 0) c.strips_of-low.ensures
+    ∙ laid_high (λ r. r.now) c.self.inside.names c.self.inside.numbers.now c.self.inside.rank c.args.block i c.self.invariant inside m
+    ∙ ap (λ t. get_or t.numbers (c.args.block * (2 * 2 ^ t.rank) + i + 2 ^ t.rank) 0) c.self.view_is in
+    (λ k. (low k, high k)) ∙ sym (block_pair numbers rank c.args.block i p.whole c.requires h)

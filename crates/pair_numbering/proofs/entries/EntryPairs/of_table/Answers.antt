@@ -1,0 +1,6 @@
+use Rattle.pair_numbering.specs.Strips.{IsLaid}
+use Rattle.pair_numbering.proofs.entries.EntryPairs.of_table.Goals as goal
+
+pub invariant_of-result : goal.invariant_of-result
+unfolding IsLaid
+invariant_of-result c = c.requires
