@@ -4,7 +4,7 @@
 --     rows_front      the rows of the first part
 --     row_narrowed      a row of fewer members
 --     RowsTo, rows_pushed, rows_all      rows found one after another
-use Rattle.std.proofs.Common.{◌≡◌, ℕ, zero, suc, refl, true, ◌+◌, ◌-◌, ◌%◌, ◌^◌, ◌<◌, ◌≤◌, cond, eqb, inl, inr, List, [], ◌∷◌, ◌++◌, length, length-append, slice_index, get_or, take, length-take-le, sym, ap, ◌∙◌, subst, arith, eqb-true, eq-eqb, ne_eqb}
+use Rattle.std.proofs.Common.{◌≡◌, ℕ, zero, suc, refl, true, ◌+◌, ◌-◌, ◌%◌, ◌^◌, ◌<◌, ◌≤◌, cond, eqb, inl, inr, List, [], ◌∷◌, ◌++◌, length, length-append, slice_index, get_or, take, length-take-le, sym, ap, ◌∙◌, subst, arith, eq-eqb, ne_eqb}
 use Rattle.std.specs.Int.{bit_at}
 use Rattle.std.proofs.lemmas.Bool.{cases_lt, cases_eq}
 use Rattle.std.proofs.lemmas.Nat.Bits.{bit_at_above}

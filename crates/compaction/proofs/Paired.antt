@@ -3,7 +3,6 @@
 --     names_more      one pair more
 --     paired_named, paired_long, paired_few, paired_lower, paired_upper      the strips of the pairs of names
 use Rattle.std.proofs.Common.{◌≡◌, ℕ, zero, suc, ◌+◌, ◌*◌, ◌/◌, ◌^◌, ◌<◌, ◌≤◌, List, [], ◌∷◌, ◌++◌, length, get_or, refl, ap, ◌∙◌, arith}
-use Rattle.std.specs.List.{flat_map}
 use Rattle.std.specs.Set.{distinct_count}
 use Rattle.std.proofs.Math.Nat.{mul-le-mul_right}
 use Rattle.std.proofs.lemmas.Map.Made.{distinct_count-le}

@@ -12,8 +12,8 @@
 --     AreOfFirstSets p tables      the tables of the first sets, in the order of their masks
 --     CanTakeLow x t      the variable is a low one outside the table's set
 --     HoldsBytes t low outer bytes rows masks      strips whose entries stand in rows, which bytes name: a row has an entry for each assignment of the variables below 3 outside the set
-use Rattle.std.specs.Prelude.{◌≡◌, ℕ, ◌+◌, ◌*◌, ◌^◌, ◌<◌, ◌≤◌, Bool, IsFalse, IsTrue, min, List, [], ◌∷◌, Option, None, Some, map, take, drop, length, reverse, slice_index, nat_eq}
-use Rattle.std.specs.List.{filter, flat_map, range_with_len}
+use Rattle.std.specs.Prelude.{◌≡◌, ℕ, ◌+◌, ◌*◌, ◌^◌, ◌<◌, ◌≤◌, Bool, IsFalse, IsTrue, min, List, Option, None, Some, map, length, reverse, slice_index, nat_eq}
+use Rattle.std.specs.List.{filter, range_with_len}
 use Rattle.order_model.specs.Orders.{has, variables}
 use Rattle.order_model.specs.Problems.{TruthTables, value_at}
 use Rattle.order_model.specs.Levels.{reach}

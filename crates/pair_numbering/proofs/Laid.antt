@@ -95,9 +95,10 @@ module _ {R : Type 0} (now : R → List (ℕ × ℕ)) where
   laid_inside (Some ns) numbers rank b h l =
       let m = laid_name ns numbers rank b h l in
       let n = length_names_of (now ns) in
-      let inside = named_inside (names_of (now ns)) numbers (2 ^ rank) h.0 in
-      (subst (λ z. z * 2 ^ rank + 2 ^ rank ≤ length numbers) (name_low (now ns) b m) (inside (b * 2) (omega arith)),
-        subst (λ z. z * 2 ^ rank + 2 ^ rank ≤ length numbers) (name_high (now ns) b m) (inside (b * 2 + 1) (omega arith)))
+      let inside = named_inside (names_of (now ns)) numbers (2 ^ rank) h.0 in (
+        subst (λ z. z * 2 ^ rank + 2 ^ rank ≤ length numbers) (name_low (now ns) b m) (inside (b * 2) (omega arith)),
+        subst (λ z. z * 2 ^ rank + 2 ^ rank ≤ length numbers) (name_high (now ns) b m) (inside (b * 2 + 1) (omega arith)),
+      )
 
   pub laid_low : (names : Option R) (numbers : List ℕ) (rank b i : ℕ) → IsLaid now names numbers rank →
       b < length (laid_out now names numbers (2 ^ rank)) / 2 / 2 ^ rank → i < 2 ^ rank →

@@ -114,14 +114,7 @@ pub fn number_pairs_by_chains(
     let mut next = vec![in alloc; 0u32; half]?;
     let mut first = vec![in alloc; 0u32; half]?;
     chain(entries, &mut heads, &mut next);
-    find_firsts(
-        entries,
-        &heads,
-        &next,
-        &mut stamps,
-        &mut marks,
-        &mut first,
-    );
+    find_firsts(entries, &heads, &next, &mut stamps, &mut marks, &mut first);
     number_firsts(alloc, entries, &first)
 }
 
@@ -146,14 +139,6 @@ pub fn find_firsts(
     ensures { AreFirsts entries.now.numbers entries.now.rank first.new }
 {
     for (lower, head) in heads.iter().enumerate() {
-        walk_chain(
-            entries,
-            lower as u32,
-            *head,
-            next,
-            stamps,
-            marks,
-            first,
-        );
+        walk_chain(entries, lower as u32, *head, next, stamps, marks, first);
     }
 }

@@ -84,7 +84,11 @@ impl<'a> EntryPairs<'a> {
 
     /// The pairs of strips of 2 ^ bits entries, entry by entry.
     #[inline(always)]
-    pub(crate) fn of_strips(names: &'a [(u32, u32)], numbers: &'a [u32], bits: u32) -> EntryPairs<'a>
+    pub(crate) fn of_strips(
+        names: &'a [(u32, u32)],
+        numbers: &'a [u32],
+        bits: u32,
+    ) -> EntryPairs<'a>
         requires named { AreNamed (names_of names.now) numbers.now (2 ^ bits) }
         requires bits { bits < 16 }
         requires few { length numbers.now ≤ 2 ^ 20 }

@@ -1,4 +1,4 @@
-use Rattle.std.proofs.Common.{◌≡◌, ℕ, List, refl, ◌+◌, ◌*◌, ◌/◌, ◌^◌, length, get_or, sym, ap, ◌∙◌, subst, arith}
+use Rattle.std.proofs.Common.{◌≡◌, ℕ, List, refl, ◌+◌, ◌*◌, ◌/◌, ◌^◌, length, sym, ap, ◌∙◌, subst, arith}
 use Rattle.std.proofs.Math.Nat.{add-mul-div_right, div-eq_of_lt, mul-le-mul_left}
 use Rattle.std.proofs.lemmas.Nat.{pow_pos}
 use Rattle.pair_numbering.specs.Strips.{AreNamed, names_of, unrolled}

@@ -1,9 +1,5 @@
-use Rattle.std.proofs.Common.{◌≡◌, ℕ, ◌<◌, List, length, get_or, map, Result, Vec, IfOk, subst, arith}
-use Rattle.std.specs.Global.{Global}
-use Rattle.std.specs.Fork.{slice_chunk}
-use Rattle.std.specs.declared.alloc.AllocError.{AllocError}
+use Rattle.std.proofs.Common.{◌≡◌, ◌<◌, get_or, map, IfOk, subst, arith}
 use Rattle.class_laws.specs.Table.{ClassesOf, with_variable}
-use Rattle.compaction.specs.Joining.{AreJoined}
 use Rattle.compaction.proofs.JoinedTables.{if_joined}
 use Rattle.compaction.proofs.beginning.with_low_by_threads.Goals as goal
 

@@ -1,9 +1,7 @@
-use Rattle.std.proofs.Common.{◌≡◌, ◌≢◌, ℕ, ◌+◌, ◌*◌, ◌/◌, ◌^◌, ◌<◌, inl, inr, get_or, set, length, refl, sym, ap, ◌∙◌, subst, arith}
+use Rattle.std.proofs.Common.{◌≡◌, ◌≢◌, ℕ, ◌^◌, ◌<◌, inl, inr, get_or, set, length, sym, ap, ◌∙◌, arith}
 use Rattle.std.proofs.lemmas.Bool.{cases_eq, cases_lt}
 use Rattle.std.proofs.lemmas.List.{get_or_default, get_or-set_same, get_or-set_other, length-set}
-use Rattle.std.proofs.lemmas.Nat.{pow_pos}
-use Rattle.class_laws.specs.Places.{low_place, pair_at}
-use Rattle.class_laws.proofs.Index.{pair_within}
+use Rattle.class_laws.specs.Places.{pair_at}
 use Rattle.pair_numbering.proofs.distinct.are_distinct.Goals as goal
 
 pub loop-j-preserved : goal.loop-j-preserved

@@ -1,4 +1,4 @@
-use Rattle.std.proofs.Common.{◌≡◌, ◌+◌, ◌*◌, ◌^◌, ◌<◌, length, take, get_or, ◌/◌, ◌%◌, [], ◌∷◌, ◌++◌, sym, ap, subst, ◌∙◌, arith, if◌then◌else◌}
+use Rattle.std.proofs.Common.{◌+◌, ◌^◌, ◌<◌, length, take, ◌/◌, [], ◌∷◌, ◌++◌, sym, ap, subst, ◌∙◌, arith, if◌then◌else◌}
 use Rattle.std.specs.List.{list_any, position_or_len}
 use Rattle.order_model.specs.Widths.{same_pair}
 use Rattle.order_model.proofs.Widths.ClassPairs.{pair_decides}

@@ -1,4 +1,4 @@
-use Rattle.std.proofs.Common.{◌≡◌, ℕ, ◌++◌, List, length, sym, ap, ap₂, ◌∙◌, subst, arith}
+use Rattle.std.proofs.Common.{ℕ, ◌++◌, List, sym, ap, ◌∙◌, subst, arith}
 use Rattle.order_model.specs.Problems.{TruthTables}
 use Rattle.subset_layers.specs.Layers.{block_masks}
 use Rattle.compaction.specs.Rows.{AreOfByte, AreMembers}

@@ -1,4 +1,4 @@
-use Rattle.std.proofs.Common.{replicate, ◌≡◌, ◌+◌, ◌∷◌, ◌++◌, ◌<◌, ℕ, length, List, [], cond, eqb, slice_index, get_or, sym, ap, ◌∙◌, subst, arith}
+use Rattle.std.proofs.Common.{replicate, ◌≡◌, ◌+◌, ◌<◌, ℕ, length, List, [], cond, eqb, slice_index, get_or, sym, ap, ◌∙◌, subst}
 use Rattle.std.specs.Int.{bit_at}
 use Rattle.subset_layers.specs.Layers.{block_masks}
 use Rattle.compaction.specs.Ahead.{RowsOf}

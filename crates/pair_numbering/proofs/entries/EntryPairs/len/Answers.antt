@@ -1,4 +1,4 @@
-use Rattle.std.proofs.Common.{◌≡◌, ℕ, ◌<◌, ◌*◌, ◌/◌, ◌%◌, ◌^◌, Bor, List, Some, length, sym, ap, ◌∙◌, subst, arith}
+use Rattle.std.proofs.Common.{◌≡◌, ◌<◌, ◌*◌, ◌/◌, ◌%◌, ◌^◌, Some, length, sym, ap, ◌∙◌, subst, arith}
 use Rattle.pair_numbering.specs.Strips.{IsLaid, laid_out}
 use Rattle.pair_numbering.proofs.Laid.{laid_half, laid_paired, laid_rank}
 use Rattle.pair_numbering.proofs.entries.EntryPairs.len.Goals as goal
