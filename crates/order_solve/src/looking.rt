@@ -10,7 +10,7 @@ use std::alloc::Global;
 use subset_layers::Costs;
 
 /// So many layers are searched together at first: hardly a bound clips one of their sets.
-const FIRST_LAYERS: usize = 5;
+const FIRST_LAYERS: usize = 6;
 
 /// One in so many sets is asked for its cost.
 const STEP: u32 = 7;
