@@ -4,7 +4,7 @@ ghost use Rattle.compaction.specs.Rows.{AreMembers};
 
 use compaction::{Ahead, Beginning, Classes, Scratch, Tally, Walks, all_widths, block_widths};
 use order_model::{Mask, Pairs, Problem};
-use pair_numbering::number_pairs;
+use pair_numbering::{number_pairs, tell_strip_pairs};
 use std::alloc::{AllocError, Global};
 use std::process::Abort;
 use std::test::Fail;
@@ -101,6 +101,18 @@ fn pairs_by_first_occurrence(rt: HostRuntime) -> Result<(), Fail> {
         numbered.pairs.as_slice(),
         [(2, 1), (0, 2), (0, 1)].as_slice()
     );
+    Ok(())
+}
+
+#[test]
+fn pairs_of_strips(rt: HostRuntime) -> Result<(), Fail> {
+    let names = [(0, 1), (1, 1)];
+    let numbered = tell_strip_pairs(rt.alloc(), &names, &[0, 1, 2, 0], 1, 3, &[1, 2, 4])?;
+    assert_eq!(rt; numbered.numbers.as_slice(), [0, 1, 2, 3].as_slice());
+    assert_eq!(rt; numbered.masks.as_slice(), [13, 11, 4, 1].as_slice());
+    let keys = tell_strip_pairs(rt.alloc(), &names, &[0, 1, 1, 0], 1, 3, &[1, 2])?;
+    assert_eq!(rt; keys.numbers.as_slice(), [2, 1, 3, 0].as_slice());
+    assert_eq!(rt; keys.masks.as_slice(), [1, 11, 11, 2].as_slice());
     Ok(())
 }
 
