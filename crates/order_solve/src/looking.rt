@@ -9,7 +9,7 @@ use compaction::Ahead;
 use std::alloc::Global;
 use subset_layers::Costs;
 
-/// So many layers are searched together at first: hardly a bound clips one of their sets.
+/// So many layers are searched together at first: most of their sets are wanted.
 const FIRST_LAYERS: usize = 6;
 
 /// One in so many sets is asked for its cost.
