@@ -1,5 +1,5 @@
 #!/usr/bin/env python3
-"""turns.py RUNS PROGRAM.. -- FILE..   runs programs on files in turns, and prints of each the least wall time and processor time in seconds"""
+"""turns.py RUNS PROGRAM.. -- FILE..   runs programs on files in turns, and prints of each the least wall time and processor time in seconds. A PROGRAM may have options, as "minorder --workers 1"."""
 import os
 import subprocess
 import sys
@@ -8,7 +8,7 @@ import time
 
 def run(program, file):
     begin = time.perf_counter()
-    ran = subprocess.Popen([program, file], stdout=subprocess.DEVNULL)
+    ran = subprocess.Popen([*program.split(), file], stdout=subprocess.DEVNULL)
     _, status, used = os.wait4(ran.pid, 0)
     if status:
         sys.exit(f"{program} {file}: status {status}")
