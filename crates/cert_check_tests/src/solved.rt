@@ -87,14 +87,15 @@ fn certificate_with(
     format: u8,
 ) -> Result<Certificate, Fail> {
     let problem = tables.problem();
-    let order = solution.order.variables().to_vec(alloc)?;
-    let levels = solution.levels.to_vec(alloc)?;
+    let best = &solution.optimum;
+    let order = best.order.variables().to_vec(alloc)?;
+    let levels = best.levels.to_vec(alloc)?;
     let (inputs, outputs) = (problem.inputs(), problem.outputs());
     let cert = if format == 1 {
-        Certificate::new(inputs, outputs, order, levels, solution.total, cells)
+        Certificate::new(inputs, outputs, order, levels, best.total, cells)
     } else {
         let pairs = pairs.to_vec(alloc)?;
-        Certificate::new2(inputs, outputs, order, levels, solution.total, pairs, cells)
+        Certificate::new2(inputs, outputs, order, levels, best.total, pairs, cells)
     };
     Ok(cert.ok_or("no spelling")?)
 }

@@ -3,6 +3,7 @@
 --     BoardId, SeatOf, ClaimOf      a board, a seat, a claim
 use Rattle.std.specs.Prelude.{ℕ, ◌+◌, Bool, false, [], length, slice_index, Option, Some, None, if◌then◌else◌}
 use Rattle.atomic_table.specs.Seated.{TableId}
+use Rattle.order_model.specs.declared.reserve.Reserve.TheVariants.{Variables}
 use Rattle.subset_layers.specs.Layers.{LayerOf, BlockOf, masks_of, blocks_of}
 use Rattle.layer_core.specs.Machine.{Worker, unmarked, claimed, knows, place_of, ends, learns}
 use Rattle.layer_core.specs.Settings.{Setting, layout_of}
@@ -110,10 +111,8 @@ found_empty s mask = found_empty_at s (place_of (layout_of s.board.brief.layer) 
 abbrev pub nothing_known : SeatView
 nothing_known = record {
   brief = record {
-    setting =
-        record { problem = record { inputs = 0; tables = [] }; pairs = record { inputs = 0; pairs = [] }; bound = 0 };
-    layer =
-        record { inputs = 0; size = 0 };
+    setting = record { problem = record { inputs = 0; tables = [] }; pairs = record { inputs = 0; pairs = [] }; reserve = Variables; bound = 0 };
+    layer = record { inputs = 0; size = 0 };
     workers = 0;
   };
   worker = record { claims = []; known = []; told = false };

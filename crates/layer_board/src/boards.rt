@@ -3,7 +3,7 @@
 ghost use Rattle.std.specs.Prelude.{◌≡◌, ◌≢◌, ℕ, ◌+◌, ◌-◌, ◌^◌, ◌<◌, ◌≤◌, true, false, [], Some, All, IfOk, IfErr, IfSome, IsNone, IsTrue, slice_get, slice_index, length, vec_len, map, take, replicate};
 ghost use Rattle.subset_layers.specs.Layers.{masks_of, blocks_of};
 ghost use Rattle.layer_core.specs.Machine.{claimed, claims_block};
-ghost use Rattle.layer_core.specs.Settings.{cell_for};
+ghost use Rattle.layer_core.specs.Settings.{cell_for, setting_of};
 ghost use Rattle.layer_board.specs.Views.{fresh, first_seat, stepped, no_more, found_empty, has_claimed, knows_filled, learned};
 ghost use Rattle.layer_core.specs.Pairing.{pair_of};
 ghost use Rattle.layer_board.specs.Picture.{IsCellWord, cell_in, cell_words};
@@ -16,7 +16,7 @@ use crate::seats::{BoardSeat, Claim};
 use crate::views::{Brief, Knowledge};
 use atomic_table::{Closed, Seat, Table};
 use layer_core::CellResult;
-use order_model::{Mask, Pairs, Problem, Workers};
+use order_model::{Limit, Mask, Pairs, Problem, Workers};
 use std::alloc::{AllocError, Global};
 use std::marker::Model;
 use std::snapshot::Snapshot;
@@ -63,7 +63,7 @@ impl Board {
     pub fn new(
         alloc: Global,
         problem: &Problem,
-        bound: u32,
+        limit: Limit,
         layer: &Layer,
         workers: Workers,
         pairs: &Pairs,
@@ -71,10 +71,8 @@ impl Board {
         requires { layer.now.inputs ≡ problem.now.inputs }
         ensures board { IfOk result
             (λ r. r.0.brief ≡ record {
-              setting =
-                  record { problem = problem.now; pairs = pairs.now; bound = bound };
-              layer =
-                  layer.now;
+              setting = setting_of problem.now pairs.now limit;
+              layer = layer.now;
               workers = workers;
             }) }
         ensures count { IfOk result (λ r. vec_len r.1 ≡ workers) }
@@ -85,7 +83,7 @@ impl Board {
         let brief = Brief {
             problem: Snapshot::of(problem),
             pairs: Snapshot::of(pairs),
-            bound,
+            limit,
             layer: Snapshot::of(&layer),
             workers,
         };

@@ -1,6 +1,6 @@
 //! What a board is for, and what its seats know.
 
-use order_model::{Pairs, Problem, Workers};
+use order_model::{Limit, Pairs, Problem, Workers};
 use std::marker::Model;
 use std::snapshot::Snapshot;
 use subset_layers::Layer;
@@ -10,18 +10,19 @@ use subset_layers::Layer;
 pub struct Brief {
     pub(crate) problem: Snapshot<Problem>,
     pub(crate) pairs: Snapshot<Pairs>,
-    pub(crate) bound: u32,
+    pub(crate) limit: Limit,
     pub(crate) layer: Snapshot<Layer>,
     pub(crate) workers: Workers,
 }
 
 impl Model for Brief {
+    ghost use Rattle.layer_core.specs.Settings.{setting_of};
     ghost use Rattle.layer_board.specs.Views.{BriefOf};
 
     ghost Value = { BriefOf };
 
     ghost view = { λ b. record {
-      setting = record { problem = b.problem.value; pairs = b.pairs.value; bound = b.bound };
+      setting = setting_of b.problem.value b.pairs.value b.limit;
       layer = b.layer.value;
       workers = b.workers;
     } };

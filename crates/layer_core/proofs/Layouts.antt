@@ -1,12 +1,12 @@
 -- The blocks of a layer's masks, and the places of its masks.
-use Rattle.std.proofs.Common.{◌≡◌, ◌↔◌, IsNone, IsFalse, ℕ, zero, suc, ◌^◌, ◌<◌, ◌≤◌, ◌&&◌, ◌||◌, Bool, true, false, cond, nat_eq, List, [], ◌∷◌, map, get_or, length, Option, Some, None, slice_get, sym, refl, ap, ◌∙◌, subst, pow_mono, arith}
+use Rattle.std.proofs.Common.{◌≡◌, ◌↔◌, IsNone, IsFalse, ℕ, zero, suc, ◌^◌, ◌<◌, ◌≤◌, ◌&&◌, ◌||◌, Bool, true, false, nat_eq, List, [], ◌∷◌, map, get_or, length, Option, Some, None, slice_get, sym, refl, ap, ◌∙◌, subst, pow_mono, arith}
 use Rattle.std.specs.List.{filter, list_any, range_with_len}
 use Rattle.std.proofs.lemmas.List.FromFn.{length-range_with_len, get_or-range_with_len}
 use Rattle.std.proofs.lemmas.Option.{get_or_from_slice_get, slice_get_within}
 use Rattle.std.proofs.lemmas.Bool.Decides.{nat_tests}
-use Rattle.order_model.specs.Orders.{has, place_in, members, variables}
+use Rattle.order_model.specs.Orders.{has, place_in, members}
 use Rattle.order_model.proofs.Lists.Orders.{has_filter, has_range, place_small}
-use Rattle.subset_layers.specs.Layers.{LayerOf, masks_of, low_byte, low_bytes, blocks_of, block_of, block_place}
+use Rattle.subset_layers.specs.Layers.{LayerOf, masks_of, low_byte, low_bytes, blocks_of, block_place}
 use Rattle.subset_layers.proofs.BlockLists.{blocks_length}
 use Rattle.subset_layers.proofs.CostLists.{distinct_masks}
 use Rattle.layer_core.specs.Machine.{place_of}

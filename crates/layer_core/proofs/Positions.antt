@@ -1,9 +1,9 @@
 -- The place of a number in a list.
-use Rattle.std.proofs.Common.{◌≡◌, ℕ, ◌+◌, ◌<◌, ◌||◌, Bool, true, false, not, cond, nat_lt, nat_eq, List, [], ◌∷◌, get_or, length, ◌⊎◌, Option, Some, None, position, sym, refl, ap, ◌∙◌, subst, inl, inr, arith, lt-ltb}
+use Rattle.std.proofs.Common.{◌≡◌, ℕ, ◌<◌, Bool, true, false, cond, nat_lt, nat_eq, List, get_or, length, Option, Some, None, position, sym, refl, ap, ◌∙◌, subst, inl, inr, arith, lt-ltb}
 use Rattle.std.specs.List.{IsDistinct}
 use Rattle.std.proofs.lemmas.Bool.Decides.{nat_tests}
 use Rattle.order_model.specs.Orders.{has, place_in}
-use Rattle.order_model.proofs.Lists.Orders.{has_at, place_at, place_get, place_small}
+use Rattle.order_model.proofs.Lists.Orders.{has_at, place_at, place_get}
 use Rattle.std.proofs.lemmas.Bool.{cases_Bool}
 
 abbrev pub found : List ℕ → ℕ → Option ℕ

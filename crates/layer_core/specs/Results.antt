@@ -1,12 +1,12 @@
 -- What a result shows and keeps.
 use Rattle.std.specs.Prelude.{◌≡◌, ◌<◌, ◌^◌}
 use Rattle.layer_core.specs.declared.results.CellResult.TheInside.{Inside}
-use Rattle.layer_core.specs.Settings.{ResultOf, cell_for}
+use Rattle.layer_core.specs.Settings.{ResultOf, setting_of, cell_for}
 use Rattle.layer_core.specs.Pairing.{pair_of}
 
 abbrev pub result_shown : Inside → ResultOf
 result_shown r = record {
-  setting = record { problem = r.problem.value; pairs = r.pairs.value; bound = r.bound.value };
+  setting = setting_of r.problem.value r.pairs.value r.limit.value;
   mask = r.mask;
   cell = pair_of r.cell;
 }

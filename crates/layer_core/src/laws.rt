@@ -3,30 +3,34 @@
 ghost use Rattle.std.specs.Prelude.{◌≡◌, ℕ, ◌<◌, List, length, slice_index};
 ghost use Rattle.order_model.specs.Functions.{Function};
 ghost use Rattle.order_model.specs.Pairs.{Pair};
+ghost use Rattle.order_model.specs.declared.reserve.Reserve.{Reserve};
 ghost use Rattle.layer_core.specs.Machine.{Layout, Event, opening, run};
 ghost use Rattle.layer_core.specs.Rights.{IsLayout, RightFor, ArePosted, IsFilled, claimants, all_cells};
 
 /// After any events from the opening the state is right, if each posted cell is that of its mask.
 pub fn events_keep_it_right()
-    ensures { (n : ℕ) (F : List Function) (P : List Pair) (bound : ℕ) (l : Layout) (workers : ℕ)
+    ensures { (n : ℕ) (F : List Function) (P : List Pair) (r : Reserve) (bound : ℕ)
+        (l : Layout) (workers : ℕ)
         (events : List Event) →
-        IsLayout l → ArePosted n F P bound events →
-        RightFor n F P bound (run (opening l workers) events) }
+        IsLayout l → ArePosted n F P r bound events →
+        RightFor n F P r bound (run (opening l workers) events) }
 {}
 
 /// After any events each mask whose block is below the counter is claimed by exactly one worker.
 pub fn each_claim_is_one_workers()
-    ensures { (n : ℕ) (F : List Function) (P : List Pair) (bound : ℕ) (l : Layout) (workers : ℕ)
+    ensures { (n : ℕ) (F : List Function) (P : List Pair) (r : Reserve) (bound : ℕ)
+        (l : Layout) (workers : ℕ)
         (events : List Event) →
-        IsLayout l → ArePosted n F P bound events → (p : ℕ) → p < length l.masks →
+        IsLayout l → ArePosted n F P r bound events → (p : ℕ) → p < length l.masks →
         slice_index l.block_of p < (run (opening l workers) events).counter →
         claimants (slice_index l.block_of p) (run (opening l workers) events).workers ≡ 1 }
 {}
 
 /// Once every mask is filled, the cells are the definition's.
 pub fn filled_cells_are_the_definitions()
-    ensures { (n : ℕ) (F : List Function) (P : List Pair) (bound : ℕ) (l : Layout) (workers : ℕ)
+    ensures { (n : ℕ) (F : List Function) (P : List Pair) (r : Reserve) (bound : ℕ)
+        (l : Layout) (workers : ℕ)
         (events : List Event) →
-        IsLayout l → ArePosted n F P bound events → IsFilled (run (opening l workers) events) →
-        (run (opening l workers) events).cells ≡ all_cells n F P bound l.masks }
+        IsLayout l → ArePosted n F P r bound events → IsFilled (run (opening l workers) events) →
+        (run (opening l workers) events).cells ≡ all_cells n F P r bound l.masks }
 {}

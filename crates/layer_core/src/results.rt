@@ -2,19 +2,19 @@
 
 ghost use Rattle.std.specs.Prelude.{◌≡◌, ◌<◌, ◌^◌, ◌-◌};
 
-use order_model::{Mask, Pairs, Problem};
+use order_model::{Limit, Mask, Pairs, Problem};
 use std::marker::Model;
 use std::snapshot::Snapshot;
 use subset_layers::Cell;
 
-/// A mask and its cell, for a problem, pairs and a bound that only contracts see.
+/// A mask and its cell, for a problem, pairs and a limit that only contracts see.
 #[derive(Drop)]
 pub struct CellResult {
     mask: Mask,
     cell: Cell,
     problem: Snapshot<Problem>,
     pairs: Snapshot<Pairs>,
-    bound: Snapshot<u32>,
+    limit: Snapshot<Limit>,
 }
 
 impl Model for CellResult {
@@ -30,19 +30,16 @@ impl Model for CellResult {
 }
 
 impl CellResult {
-    ghost use Rattle.layer_core.specs.Settings.{cell_for};
+    ghost use Rattle.layer_core.specs.Settings.{cell_for, setting_of};
     ghost use Rattle.layer_core.specs.Pairing.{pair_of};
 
     /// The cell of a mask.
-    pub fn new(problem: &Problem, bound: u32, mask: Mask, cell: Cell, pairs: &Pairs) -> CellResult
-        requires bound { bound < 2 ^ 32 - 1 }
-        requires cell { pair_of cell ≡ cell_for record
-            { problem = problem.now; pairs = pairs.now; bound = bound } mask }
+    pub fn new(problem: &Problem, limit: Limit, mask: Mask, cell: Cell, pairs: &Pairs) -> CellResult
+        requires bound { limit.bound < 2 ^ 32 - 1 }
+        requires cell { pair_of cell ≡ cell_for (setting_of problem.now pairs.now limit) mask }
         ensures { result ≡ record {
-          setting =
-              record { problem = problem.now; pairs = pairs.now; bound = bound };
-          mask =
-              mask;
+          setting = setting_of problem.now pairs.now limit;
+          mask = mask;
           cell = pair_of cell;
         } }
     {
@@ -52,7 +49,7 @@ impl CellResult {
             cell,
             problem: Snapshot::of(problem),
             pairs: Snapshot::of(pairs),
-            bound: Snapshot::of(&bound),
+            limit: Snapshot::of(&limit),
         }
     }
 

@@ -12,13 +12,13 @@ use crate::arguments::tables_of;
 use crate::sifting_from::sifted_from;
 use crate::status::Refusal;
 use order_model::Pairs;
-use order_solve::{Solution, solve_alone};
+use order_solve::{Optimum, find_optimum_alone};
 use std::alloc::{AllocError, Global};
 use truth_table::Tables;
 
 /// The first order of the fewest nodes among those that keep the pairs, searched below the size of
 /// one that sifting from the first of them ends with.
-fn optimum(alloc: Global, tables: &Tables, pairs: Pairs) -> Result<Solution, AllocError>
+fn optimum(alloc: Global, tables: &Tables, pairs: Pairs) -> Result<Optimum, AllocError>
     requires { pairs.inputs ≡ tables.now.inputs }
     ensures optimum { IfOk result
         (λ s. IsOptimum tables.now.inputs (functions tables.now) pairs.pairs s.order s.levels.items
@@ -28,8 +28,8 @@ fn optimum(alloc: Global, tables: &Tables, pairs: Pairs) -> Result<Solution, All
 {
     let start = pairs.first_order(alloc)?;
     let bound = sifted_from(alloc, tables, &start, pairs)?.search_bound(alloc)?;
-    let solution = solve_alone(alloc, tables.problem(), bound)?;
-    Ok(solution)
+    let optimum = find_optimum_alone(alloc, tables.problem(), bound)?;
+    Ok(optimum)
 }
 
 /// The first order of the fewest nodes, for so many places and level counts.
@@ -40,7 +40,7 @@ fn exact(
     outputs: u32,
     places: usize,
     counts: usize,
-) -> Result<Solution, Refusal>
+) -> Result<Optimum, Refusal>
     ensures shape { OnOk result (HasShape inputs outputs words.now places counts) }
     ensures optimum { IfOk result
         (λ s. IsOptimum inputs (functions_in inputs outputs words.now) [] s.order s.levels.items
@@ -53,8 +53,8 @@ fn exact(
         return Err(Refusal::Shape);
     }
     let tables = tables_of(alloc, words, inputs, outputs)?;
-    let solution = optimum(alloc, &tables, Pairs::none(inputs as u8))?;
-    Ok(solution)
+    let best = optimum(alloc, &tables, Pairs::none(inputs as u8))?;
+    Ok(best)
 }
 
 /// The first order of the fewest nodes among those that keep some pairs, for so many places and
@@ -67,7 +67,7 @@ fn exact_above(
     above: &[AbovePair],
     places: usize,
     counts: usize,
-) -> Result<Solution, Refusal>
+) -> Result<Optimum, Refusal>
     ensures shape { OnOk result (HasShape inputs outputs words.now places counts) }
     ensures kept { OnOk result (CanBeKept inputs (pairs_given above.now)) }
     ensures optimum { IfOk result
@@ -84,8 +84,8 @@ fn exact_above(
     }
     let tables = tables_of(alloc, words, inputs, outputs)?;
     let pairs = kept_pairs(alloc, above, inputs as u8)?;
-    let solution = optimum(alloc, &tables, pairs)?;
-    Ok(solution)
+    let best = optimum(alloc, &tables, pairs)?;
+    Ok(best)
 }
 
 /// The first order of the fewest nodes of some functions, its level counts and its size. A call

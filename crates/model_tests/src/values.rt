@@ -5,7 +5,8 @@ ghost use Rattle.std.specs.Prelude.{◌≤◌};
 use counted_io::{Counting, Refused, read_all, write_whole};
 use order_model::packed::{bit_of, block, depends_on, lower_half, words_per_table};
 use order_model::{
-    BadOrder, Diagram, Gate, NoGate, Node, Order, Problem, Ref, Workers, contains, eval, total,
+    BadOrder, Diagram, Gate, NoGate, Node, Order, Problem, Ref, Reserve, Reserves, Workers,
+    contains, eval, total,
 };
 use std::alloc::{AllocError, Global};
 use std::io::{self, Read, Write};
@@ -141,6 +142,28 @@ fn multiplexer(rt: HostRuntime) -> Result<(), Fail> {
     assert_eq!(rt; value_in(&same, 0, 5), Some(false));
     let one_of_seven = problem_of(alloc, 7, 1, &[(0, 64), (0, 127)])?;
     assert_eq!(rt; one_of_seven.essential(), 0b0111_1111);
+    Ok(())
+}
+
+// The nodes that are counted on above the variable 0 of three, if its width is 2.
+fn above_the_first(problem: &Problem, reserve: Reserve) -> Option<u64> {
+    if problem.inputs() != 3 {
+        return None;
+    }
+    let mut widths = [0; 16];
+    widths[0] = 2;
+    Some(Reserves::new(problem, reserve).above(1, &widths))
+}
+
+// The conjunction of 1 and 2, and the parity of 0, 1 and 2, of which two subfunctions depend on 0.
+#[test]
+fn nodes_above_a_set(rt: HostRuntime) -> Result<(), Fail> {
+    let ones = [(0, 6), (0, 7), (1, 1), (1, 2), (1, 4), (1, 7)];
+    let problem = problem_of(rt.alloc(), 3, 2, &ones)?;
+    assert_eq!(rt; above_the_first(&problem, Reserve::Variables), Some(2));
+    assert_eq!(rt; above_the_first(&problem, Reserve::Widths), Some(3));
+    let reserves = Reserves::new(&problem, Reserve::Widths);
+    assert!(rt; reserves.essential() == 0b111 && reserves.reserve() == Reserve::Widths);
     Ok(())
 }
 

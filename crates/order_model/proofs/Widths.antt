@@ -9,3 +9,5 @@ pub mod Count
 pub mod Cells
 pub mod Clipped
 pub mod Outside
+pub mod Splits
+pub mod Reserves

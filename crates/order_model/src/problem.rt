@@ -2,8 +2,9 @@
 
 ghost use Rattle.std.specs.Prelude.{◌≡◌, ◌+◌, ◌<◌, ◌≤◌, ◌^◌, false, true, length, set, replicate, IfOk};
 ghost use Rattle.order_model.specs.Problems.{TruthTables, IsClean, IsPacked, functions, outputs_of, packed_tables, table_at, table_in, value_at, words_per_table as size_of};
-ghost use Rattle.std.specs.List.{list_any};
-ghost use Rattle.order_model.specs.Functions.{depends};
+ghost use Rattle.std.specs.List.{list_any, filter};
+ghost use Rattle.order_model.specs.Functions.{depends, from_table};
+ghost use Rattle.order_model.specs.Orders.{mask_of, variables};
 ghost use Rattle.order_model.specs.Widths.{essential_mask};
 
 use crate::packed::{bit_of, block, depends_on, words_per_table};
@@ -132,5 +133,22 @@ impl Problem {
             }
         }
         false
+    }
+
+    /// The set of the variables on which a function depends.
+    pub(crate) fn support(&self, output: u8) -> Mask
+        requires { output < outputs_of self.now }
+        ensures { result ≡ mask_of (filter
+            (depends self.now.inputs (from_table (table_at self.now output)))
+            (variables self.now.inputs)) }
+    {
+        let words = self.words(output);
+        let mut found: Mask = 0;
+        for x in 0..self.inputs() {
+            if depends_on(self.inputs(), words, x) {
+                found |= 1 << x;
+            }
+        }
+        found
     }
 }

@@ -2,27 +2,28 @@
 --     in_layer      a set of the block is in the layer after the costs'
 --     are_members      the widths that are needed
 --     cell_is      the cell of a set
-use Rattle.std.proofs.Common.{◌≡◌, ℕ, ◌+◌, ◌≤◌, true, cond, List, [], map, get_or, slice_get, slice_index, Some, sym, ap, ◌∙◌, subst, arith, eqb, eq-eqb, leb}
+use Rattle.std.proofs.Common.{◌≡◌, ℕ, ◌+◌, true, cond, List, [], map, get_or, slice_get, slice_index, Some, sym, ap, ◌∙◌, subst, arith, eqb, eq-eqb}
 use Rattle.std.specs.Int.{bit_at}
-use Rattle.std.proofs.lemmas.Bool.{and_parts, and_from, le-leb}
+use Rattle.std.proofs.lemmas.Bool.{and_parts}
 use Rattle.std.proofs.lemmas.List.{get_or-map}
 use Rattle.std.proofs.lemmas.Option.{slice_get_within, get_or_from_slice_get}
 use Rattle.order_model.specs.Functions.{Function}
 use Rattle.order_model.specs.Orders.{has, members, without}
 use Rattle.order_model.specs.Pairs.{is_lawful}
 use Rattle.order_model.specs.Problems.{TruthTables, functions}
-use Rattle.order_model.specs.Widths.{width, essential_mask}
-use Rattle.order_model.specs.Cells.{wanted, cell_of}
+use Rattle.order_model.specs.Widths.{width}
+use Rattle.order_model.specs.Reserves.{ReservesOf}
+use Rattle.order_model.specs.Cells.{asked, wanted, cell_of}
 use Rattle.order_model.proofs.Lists.Orders.{has_filter}
 use Rattle.order_model.proofs.Bits.Masks.{members_small}
 use Rattle.subset_layers.specs.Layers.{LayerOf, BlockOf, layer_of, layer_with, masks_of, block_masks, low_byte}
-use Rattle.subset_layers.specs.Costs.{CostsOf, cost_without, AreTrueCosts, AreWidthsFor}
+use Rattle.subset_layers.specs.Costs.{CostsOf, cost_without, AreTrueCosts, AreWidthsFor, IsCellOnce}
 use Rattle.subset_layers.proofs.BlockLists.{has_slice_get}
 use Rattle.layer_core.specs.Settings.{Setting, cell_for}
 use Rattle.compaction.specs.Rows.{width_wanted, IsRow, AreMembers, AreRows}
 use Rattle.order_solve.specs.Benches.{BenchOf, IsBench}
 use Rattle.order_solve.specs.Settings.{HoldsSetting}
-use Rattle.order_solve.specs.Needs.{affordable, needed}
+use Rattle.order_solve.specs.Needs.{needed}
 use Rattle.order_solve.proofs.Wanted.{wanted_lawful, wanted_member, wanted_bit, bit_wanted}
 
 pub block_has : (blk : BlockOf) (i mask : ℕ) → slice_get (block_masks blk) i ≡ Some mask → has (masks_of (layer_of blk)) mask ≡ true
@@ -45,8 +46,8 @@ row_there p masks needs rows i mask need row are at is there =
 pub are_members : (t : Setting) (blk : BlockOf) → AreMembers t.problem (block_masks blk) (map (needed t) (block_masks blk))
 unfolding needed
 are_members t blk i lt x e =
-    wanted_member t.problem.inputs (functions t.problem) t.pairs.pairs t.bound (get_or (block_masks blk) i 0) x
-    (bit_wanted t.problem.inputs (functions t.problem) t.pairs.pairs t.bound (get_or (block_masks blk) i 0) x
+    wanted_member t.problem.inputs (functions t.problem) t.pairs.pairs t.reserve t.bound (get_or (block_masks blk) i 0) x
+    (bit_wanted t.problem.inputs (functions t.problem) t.pairs.pairs t.reserve t.bound (get_or (block_masks blk) i 0) x
     (ap (λ m. bit_at m x) (sym (get_or-map (needed t) (block_masks blk) i 0 0 lt)) ∙ e))
 
 module _ (b : BenchOf) (h : IsBench b) where
@@ -62,46 +63,39 @@ module _ (b : BenchOf) (h : IsBench b) where
   own_layer : b.layer ≡ layer_with c.inputs (c.size + 1)
   own_layer = h.layer ∙ ap (λ k. layer_with k (c.size + 1)) (sym h.inputs)
 
-  own_costs : AreTrueCosts c.inputs F t.pairs.pairs t.bound c
-  own_costs = subst (λ (k : ℕ). AreTrueCosts k F t.pairs.pairs t.bound c) (sym h.inputs) h.costs
+  own_costs : AreTrueCosts c.inputs F t.pairs.pairs t.reserve t.bound c
+  own_costs = subst (λ (k : ℕ). AreTrueCosts k F t.pairs.pairs t.reserve t.bound c) (sym h.inputs) h.costs
 
   pub in_layer : (blk : BlockOf) → layer_of blk ≡ b.layer → (i mask : ℕ) → slice_get (block_masks blk) i ≡ Some mask →
       has (masks_of (layer_with c.inputs (c.size + 1))) mask ≡ true
   in_layer blk e i mask is = subst (λ (l : LayerOf). has (masks_of l) mask ≡ true) (e ∙ own_layer) (block_has blk i mask is)
 
-  -- the widths of a set, as its cell needs them
-  module _ (essential : ℕ) (s : HoldsSetting t essential) (mask : ℕ) (next : has (masks_of (layer_with c.inputs (c.size + 1))) mask ≡ true) (row : List ℕ)
+  -- the widths of a set, as its cell takes them
+  module _ (v : ReservesOf) (s : HoldsSetting t v) (mask : ℕ) (next : has (masks_of (layer_with c.inputs (c.size + 1))) mask ≡ true) (row : List ℕ)
       (is_row : IsRow t.problem mask (needed t mask) row) where
-    affordable_has : (x : ℕ) → has (members c.inputs mask) x ≡ true → cost_without c mask x ≤ t.bound → has (affordable c t.bound mask) x ≡ true
-    unfolding affordable
-    affordable_has x m le = has_filter (λ y. leb (cost_without c mask y) t.bound) (members c.inputs mask) x
-        ∙ and_from _ _ m (le-leb (cost_without c mask x) t.bound le)
+    wanted_has : (x : ℕ) → is_lawful t.pairs.pairs (members c.inputs mask) ≡ true →
+        has (asked c.inputs t.reserve t.bound mask (cost_without c mask)) x ≡ true → has (wanted t.problem.inputs F t.pairs.pairs t.reserve t.bound mask) x ≡ true
+    wanted_has x low m =
+        ap (λ k. has (wanted k F t.pairs.pairs t.reserve t.bound mask) x) (sym h.inputs)
+        ∙ ap (λ xs. has xs x) (wanted_lawful c F t.pairs.pairs t.reserve t.bound mask next own_costs low) ∙ m
 
-    wanted_has : (x : ℕ) → is_lawful t.pairs.pairs (members c.inputs mask) ≡ true → has (members c.inputs mask) x ≡ true →
-        cost_without c mask x ≤ t.bound → has (wanted t.problem.inputs F t.pairs.pairs t.bound mask) x ≡ true
-    wanted_has x low m le =
-        ap (λ k. has (wanted k F t.pairs.pairs t.bound mask) x) (sym h.inputs)
-        ∙ ap (λ xs. has xs x) (wanted_lawful c F t.pairs.pairs t.bound mask next own_costs low)
-        ∙ affordable_has x m le
-
-    bit_there : (x : ℕ) → has (wanted t.problem.inputs F t.pairs.pairs t.bound mask) x ≡ true → bit_at (needed t mask) x ≡ 1
+    bit_there : (x : ℕ) → has (wanted t.problem.inputs F t.pairs.pairs t.reserve t.bound mask) x ≡ true → bit_at (needed t mask) x ≡ 1
     unfolding needed
-    bit_there x w = wanted_bit t.problem.inputs F t.pairs.pairs t.bound mask x ∙ ap (λ b. cond b 1 0) w
+    bit_there x w = wanted_bit t.problem.inputs F t.pairs.pairs t.reserve t.bound mask x ∙ ap (λ b. cond b 1 0) w
 
     width_there : (x : ℕ) → bit_at (needed t mask) x ≡ 1 →
         width_wanted t.problem mask (needed t mask) x ≡ width t.problem.inputs F (without x (members t.problem.inputs mask)) x
     unfolding width_wanted
     width_there x e = ap (λ k. cond k (width t.problem.inputs F (without x (members t.problem.inputs mask)) x) 0) (eq-eqb (bit_at (needed t mask) x) 1 e)
 
-    widths_are : AreWidthsFor c.inputs F t.pairs.pairs t.bound mask c row
-    widths_are low x m le =
-        let small = members_small c.inputs mask x m in
-        is_row x (omega (arith, small, s.few, h.inputs)) ∙ width_there x (bit_there x (wanted_has x low m le))
+    widths_are : AreWidthsFor c.inputs F t.pairs.pairs t.reserve t.bound mask c row
+    widths_are low x m =
+        let w = wanted_has x low m in
+        let small = members_small t.problem.inputs mask x (wanted_member t.problem.inputs F t.pairs.pairs t.reserve t.bound mask x w) in
+        is_row x (omega (arith, small, s.few)) ∙ width_there x (bit_there x w)
         ∙ ap (λ k. width k F (without x (members k mask)) x) (sym h.inputs)
 
-    pub cell_is : (cell : ℕ × ℕ) →
-        ((G : List Function) → essential ≡ essential_mask c.inputs G → AreTrueCosts c.inputs G t.pairs.pairs t.bound c →
-        AreWidthsFor c.inputs G t.pairs.pairs t.bound mask c row → cell ≡ cell_of c.inputs G t.pairs.pairs t.bound mask) →
-        cell ≡ cell_for t mask
-    cell_is cell f = f F (s.essential_is ∙ ap (λ k. essential_mask k F) (sym h.inputs)) own_costs widths_are
-        ∙ ap (λ k. cell_of k F t.pairs.pairs t.bound mask) h.inputs
+    pub cell_is : (cell : ℕ × ℕ) → IsCellOnce v t.pairs.pairs t.bound mask c row cell → cell ≡ cell_for t mask
+    cell_is cell f =
+        subst (λ (u : ReservesOf). IsCellOnce u t.pairs.pairs t.bound mask c row cell) s.reserves_are f own_costs widths_are
+        ∙ ap (λ k. cell_of k F t.pairs.pairs t.reserve t.bound mask) h.inputs

@@ -3,17 +3,15 @@
 --     ClaimsBlock s s' p b      the seat claimed the block at a place
 --     claim_gains      the widths of the sets that it gained
 --     open_marks, fewer_open      how many blocks are not claimed
-use Rattle.std.proofs.Common.{◌≡◌, ◌≢◌, ℕ, zero, suc, ◌+◌, ◌*◌, ◌^◌, ◌<◌, ◌≤◌, inl, inr, Bool, true, false, not, cond, ◌&&◌, List, [], ◌∷◌, set, get_or, length, slice_get, Some, refl, sym, ap, ap₂, ◌∙◌, subst, arith, nat_eq, eqb-true, eq-eqb, eqb, leb, ◌-◌, get_or-set_other}
+use Rattle.std.proofs.Common.{◌≡◌, ◌≢◌, ℕ, zero, suc, ◌+◌, ◌*◌, ◌^◌, ◌<◌, ◌≤◌, inl, inr, Bool, true, false, not, cond, ◌&&◌, List, [], ◌∷◌, set, get_or, length, slice_get, Some, refl, sym, ap, ap₂, ◌∙◌, subst, arith, nat_eq, eqb-true, eq-eqb, eqb, get_or-set_other}
 use Rattle.std.specs.List.{filter, list_any, sum_by, IsDistinct, range_with_len}
 use Rattle.std.proofs.lemmas.Bool.{false≢true, true≢false, cases_Bool, and_from, and_left, or_right, false_from_ne_true}
 use Rattle.std.proofs.lemmas.List.Sums.{sum_by-cons, sum-map}
 use Rattle.std.proofs.lemmas.Option.{slice_get_within, slice_get-get_or, same_Some}
-use Rattle.order_model.specs.Orders.{has, members, variables, without, place_in}
-use Rattle.order_model.specs.Pairs.{is_lawful, tops}
+use Rattle.order_model.specs.Orders.{has, members, variables, place_in}
 use Rattle.std.specs.Int.{bit_at}
 use Rattle.std.proofs.lemmas.List.FromFn.{length-range_with_len}
 use Rattle.order_model.specs.Problems.{functions}
-use Rattle.order_model.specs.Cells.{wanted, cell_cost}
 use Rattle.order_model.proofs.Lists.Orders.{place_get, place_at, has_at, place_small}
 use Rattle.order_model.proofs.Widths.Recurrence.{distinct_filter, distinct_variables}
 use Rattle.subset_layers.specs.Layers.{LayerOf, BlockOf, layer_of, block_of, masks_of, block_masks, blocks_of, low_bytes, low_byte, block_place}
@@ -24,6 +22,7 @@ use Rattle.layer_board.specs.Views.{BoardId, SeatOf, stepped, claims_place, has_
 use Rattle.layer_core.proofs.Layouts.{place_found, place_missing, block_at, few_masks_in}
 use Rattle.order_solve.specs.Gains.{gains, gained, width_count, widths_for}
 use Rattle.order_model.proofs.Lists.Ranges.{filter_at_most}
+use Rattle.order_model.proofs.Widths.Count.{wanted_few}
 
 -- ---- a mask and its block
 
@@ -186,17 +185,13 @@ module _ (s s' : SeatOf) (p : ℕ) (b : BlockOf) (h : ClaimsBlock s s' p b) wher
 -- ---- few sets take few widths
 
 pub few_each : (t : Setting) (mask : ℕ) → t.problem.inputs ≤ 16 → width_count t mask ≤ 16
-unfolding wanted members
+unfolding members
 few_each t mask few =
     let n = t.problem.inputs in
-    let a = filter_at_most
-    (λ x. is_lawful t.pairs.pairs (members n mask)
-    && leb (cell_cost n (functions t.problem) t.pairs.pairs t.bound (mask - 2 ^ x)) t.bound)
-    (tops t.pairs.pairs (members n mask)) in
-    let b = filter_at_most (λ x. is_lawful t.pairs.pairs (without x (members n mask))) (members n mask) in
+    let a = wanted_few n (functions t.problem) t.pairs.pairs t.reserve t.bound mask in
     let c = filter_at_most (λ x. eqb (bit_at mask x) 1) (variables n) in
     let d = length-range_with_len 0 n in
-    omega (arith, a, b, c, d, few)
+    omega (arith, a, c, d, few)
 
 pub sum_few : (f : ℕ → ℕ) (p : ℕ → Bool) (xs : List ℕ) → ((x : ℕ) → f x ≤ 16) → sum_by f (filter p xs) ≤ 16 * length xs
 sum_few f p [] h = omega arith

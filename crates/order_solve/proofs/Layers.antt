@@ -12,6 +12,7 @@ use Rattle.std.proofs.lemmas.Nat.{zero_from_ones}
 use Rattle.order_model.specs.Orders.{has, members, variables}
 use Rattle.order_model.specs.Cells.{cell_of}
 use Rattle.order_model.proofs.Widths.SizeBounds.{size_bound}
+use Rattle.order_model.specs.declared.reserve.Reserve.{Reserve}
 use Rattle.subset_layers.specs.declared.costs.Cell.{Cell}
 use Rattle.layer_core.specs.Pairing.{pair_of}
 use Rattle.order_model.specs.Pairs.{Pair}
@@ -74,14 +75,14 @@ from_some : {X : Type 0} (P : X → Type 0) (o : Option X) (x : X) → IfSome o 
 from_some P o x h e = subst (λ z. IfSome z P) e h
 
 pub cell_found : (t : Setting) (k mask : ℕ) (c : CostsOf) (o : Option Cell) (cell : Cell) → IsLayerFor t k c →
-    ((F : List Function) (P : List Pair) (bound : ℕ) → AreTrueCells c.inputs F P bound c →
-    IfSome o (λ x. as_pair x ≡ cell_of c.inputs F P bound mask)) →
+    ((F : List Function) (P : List Pair) (r : Reserve) (bound : ℕ) → AreTrueCells c.inputs F P r bound c →
+    IfSome o (λ x. as_pair x ≡ cell_of c.inputs F P r bound mask)) →
     o ≡ Some cell → pair_of cell ≡ cell_for t mask
 cell_found t k mask c o cell h exact e =
-    from_some (λ x. as_pair x ≡ cell_of c.inputs (functions t.problem) t.pairs.pairs t.bound mask) o cell
-    (exact (functions t.problem) t.pairs.pairs t.bound
-    (subst (λ (n : ℕ). AreTrueCells n (functions t.problem) t.pairs.pairs t.bound c) (sym h.inputs) h.cells_are)) e
-    ∙ ap (λ n. cell_of n (functions t.problem) t.pairs.pairs t.bound mask) h.inputs
+    from_some (λ x. as_pair x ≡ cell_of c.inputs (functions t.problem) t.pairs.pairs t.reserve t.bound mask) o cell
+    (exact (functions t.problem) t.pairs.pairs t.reserve t.bound
+    (subst (λ (n : ℕ). AreTrueCells n (functions t.problem) t.pairs.pairs t.reserve t.bound c) (sym h.inputs) h.cells_are)) e
+    ∙ ap (λ n. cell_of n (functions t.problem) t.pairs.pairs t.reserve t.bound mask) h.inputs
 
 -- the layer before that of a set
 pub next_there : (t : Setting) (mask : ℕ) (c : CostsOf) → mask < 2 ^ t.problem.inputs → 0 < mask → IsLayerFor t (count_ones mask - 1) c →

@@ -11,6 +11,8 @@ use Rattle.order_model.specs.Orders.{members}
 use Rattle.order_model.specs.Pairs.{Pair}
 use Rattle.order_model.specs.Problems.{functions}
 use Rattle.order_model.specs.Widths.{essentials_outside}
+use Rattle.order_model.specs.declared.reserve.Reserve.{Reserve}
+use Rattle.order_model.specs.declared.reserve.Reserve.TheVariants.{Variables}
 use Rattle.order_model.specs.Cells.{cell_cost, widths_taken}
 use Rattle.order_model.specs.Certificates.{Cell, least_listed, listed_masks}
 use Rattle.order_model.proofs.Widths.Cells.{cost_known}
@@ -36,7 +38,7 @@ module _ (t : Setting) where
 
   -- whether a set is listed, by its cell
   abbrev is_listed : ℕ → ℕ → Bool
-  is_listed total mask = ltb (cell_cost n F P t.bound mask + essentials_outside n F (members n mask)) total
+  is_listed total mask = ltb (cell_cost n F P t.reserve t.bound mask + essentials_outside n F (members n mask)) total
 
   -- the listed ones of the first sets
   pub ListedTo : ℕ → ℕ → List ListedCell → Type 0
@@ -47,15 +49,15 @@ module _ (t : Setting) where
   listed_start total = refl
 
   module _ (total number : ℕ) (found : List ListedCell) (h : ListedTo total number found) (cost outside : ℕ)
-      (is : cost ≡ cell_cost n F P t.bound number) (out : outside ≡ essentials_outside n F (members n number)) where
+      (is : cost ≡ cell_cost n F P t.reserve t.bound number) (out : outside ≡ essentials_outside n F (members n number)) where
     pub listed_yes : total ≤ t.bound → cost + outside < total → ListedTo total (number + 1) (found ++ record { mask = number; cost = cost } ∷ [])
     unfolding ListedTo least_listed
     listed_yes le lt =
-        let known = cost_known n F P t.bound number (omega (arith, is, lt, le)) in
+        let known = cost_known n F P t.reserve t.bound number (omega (arith, is, lt, le)) in
         let cell : listed (record { mask = number; cost = cost }) ≡ least_listed n F P number =
         ap (λ (k : ℕ). record { mask = number; cost = k }) (is ∙ known.1) in
         let yes : is_listed total number ≡ true =
-        lt-ltb (cell_cost n F P t.bound number + essentials_outside n F (members n number)) total (omega (arith, is, out, lt)) in
+        lt-ltb (cell_cost n F P t.reserve t.bound number + essentials_outside n F (members n number)) total (omega (arith, is, out, lt)) in
         map-append listed found (record { mask = number; cost = cost } ∷ [])
         ∙ ap₂ (λ (xs : List Cell) (c : Cell). xs ++ c ∷ []) h cell
         ∙ sym (map-append (least_listed n F P) (filter (is_listed total) (range_with_len 0 number)) (number ∷ []))
@@ -66,15 +68,17 @@ module _ (t : Setting) where
     unfolding ListedTo
     listed_no le =
         let no : is_listed total number ≡ false =
-        le-ltb (cell_cost n F P t.bound number + essentials_outside n F (members n number)) total (omega (arith, is, out, le)) in
+        le-ltb (cell_cost n F P t.reserve t.bound number + essentials_outside n F (members n number)) total (omega (arith, is, out, le)) in
         h ∙ ap (map (least_listed n F P)) (sym (append-nil (filter (is_listed total) (range_with_len 0 number)))
         ∙ ap (λ b. filter (is_listed total) (range_with_len 0 number) ++ cond b (number ∷ []) []) (sym no)
         ∙ sym (filter_range_more (is_listed total) number))
 
   pub listed_whole : (total number : ℕ) (found : List ListedCell) → ListedTo total number found → number ≡ 2 ^ n - 1 → total ≤ t.bound →
-      map listed found ≡ map (least_listed n F P) (listed_masks n F P total)
+      t.reserve ≡ Variables → map listed found ≡ map (least_listed n F P) (listed_masks n F P total)
   unfolding ListedTo
-  listed_whole total number found h e le = h ∙ ap (λ k. map (least_listed n F P) (filter (is_listed total) (range_with_len 0 k))) e
+  listed_whole total number found h e le one = h ∙ ap (λ k. map (least_listed n F P) (filter (is_listed total) (range_with_len 0 k))) e
+      ∙ ap (λ (r : Reserve). map (least_listed n F P)
+      (filter (λ mask. ltb (cell_cost n F P r t.bound mask + essentials_outside n F (members n mask)) total) (range_with_len 0 (2 ^ n - 1)))) one
       ∙ ap (map (least_listed n F P)) (sym (listed_by_cells n F P t.bound total le))
 
   -- ---- widths
@@ -86,7 +90,7 @@ module _ (t : Setting) where
   pub widths_start : WidthsTo 1 0
   widths_start = record {
     are = (let e = sum_by-map-range_with_len_more (λ x. x) (width_count t) 0 0 0 (omega arith) in
-        let z : width_count t 0 ≡ 0 = ap length (wanted_none n F P t.bound) in omega (arith, e, z));
+        let z : width_count t 0 ≡ 0 = ap length (wanted_none n F P t.reserve t.bound) in omega (arith, e, z));
     few = omega arith;
   }
 
@@ -99,6 +103,6 @@ module _ (t : Setting) where
         few = (let f = h.few in omega (arith, f, is, k));
       }
 
-  pub widths_whole : (number count : ℕ) → WidthsTo number count → number ≡ 2 ^ n → count ≡ widths_taken n F P t.bound
+  pub widths_whole : (number count : ℕ) → WidthsTo number count → number ≡ 2 ^ n → count ≡ widths_taken n F P t.reserve t.bound
   unfolding widths_taken
   widths_whole number count h e = h.are ∙ ap (λ k. sum (map (width_count t) (range_with_len 0 k))) e

@@ -12,6 +12,7 @@ use Rattle.std.proofs.lemmas.List.Sums.{sum-map}
 use Rattle.std.proofs.lemmas.Option.{slice_get_within, get_or_from_slice_get}
 use Rattle.order_model.specs.Orders.{has, place_in}
 use Rattle.order_model.proofs.Lists.Orders.{has_at, has_filter, place_get}
+use Rattle.order_model.specs.declared.reserve.Reserve.{Reserve}
 use Rattle.subset_layers.specs.declared.costs.Cell.{Cell}
 use Rattle.order_model.specs.Functions.{Function}
 use Rattle.order_model.specs.Pairs.{Pair}
@@ -166,13 +167,13 @@ blocks_more b k blk old new is before stays now p lt low = elim (cases_eq (block
 -- the costs of a layer from its cells
 pub layer_is : (t : Setting) (size : ℕ) (l : LayerOf) (cells : List Cell) (r : CostsOf) → l ≡ layer_with t.problem.inputs size →
     r ≡ costs_with l cells → map pair_of cells ≡ map (cell_for t) (masks_of l) →
-    ((F : List Function) (P : List Pair) (bound : ℕ) → AreTrueCells l.inputs F P bound r → AreTrueCosts l.inputs F P bound r) → IsLayerFor t size r
+    ((F : List Function) (P : List Pair) (v : Reserve) (bound : ℕ) → AreTrueCells l.inputs F P v bound r → AreTrueCosts l.inputs F P v bound r) → IsLayerFor t size r
 layer_is t size l cells r layer is same exact = record {
   inputs = ap (λ (c : CostsOf). c.inputs) is ∙ inputs;
   size_is = ap (λ (c : CostsOf). c.size) is ∙ ap (λ (z : LayerOf). z.size) layer;
   costs_are =
-      subst (λ (k : ℕ). AreTrueCosts k F P t.bound r) inputs
-      (exact F P t.bound (subst (λ (k : ℕ). AreTrueCells k F P t.bound r) (sym inputs) true_cells));
+      subst (λ (k : ℕ). AreTrueCosts k F P t.reserve t.bound r) inputs
+      (exact F P t.reserve t.bound (subst (λ (k : ℕ). AreTrueCells k F P t.reserve t.bound r) (sym inputs) true_cells));
   cells_are = true_cells;
 }
   where
@@ -193,5 +194,5 @@ layer_is t size l cells r layer is same exact = record {
         ∙ ap (λ (xs : List (ℕ × ℕ)). get_or xs i (0, 0)) same
         ∙ get_or-map (cell_for t) (masks_of l) i 0 (0, 0) (omega (arith, long, lt))
 
-    true_cells : AreTrueCells t.problem.inputs F P t.bound r
-    true_cells = subst (λ (c : CostsOf). AreTrueCells t.problem.inputs F P t.bound c) (sym is) (λ i lt cell at. there i cell lt at)
+    true_cells : AreTrueCells t.problem.inputs F P t.reserve t.bound r
+    true_cells = subst (λ (c : CostsOf). AreTrueCells t.problem.inputs F P t.reserve t.bound c) (sym is) (λ i lt cell at. there i cell lt at)

@@ -26,14 +26,14 @@ AreCells t masks cells = map pair_of cells ≡ map (cell_for t) masks
 
 -- the costs are the definition's for the setting
 abbrev pub AreCostsFor : Setting → CostsOf → Type 0
-AreCostsFor t costs = AreTrueCosts t.problem.inputs (functions t.problem) t.pairs.pairs t.bound costs
+AreCostsFor t costs = AreTrueCosts t.problem.inputs (functions t.problem) t.pairs.pairs t.reserve t.bound costs
 
 -- the costs of the layer of a size, and its cells, are the definition's
 pub record IsLayerFor (t : Setting) (size : ℕ) (costs : CostsOf) : Type 0 where
   pub inputs : costs.inputs ≡ t.problem.inputs
   pub size_is : costs.size ≡ size
   pub costs_are : AreCostsFor t costs
-  pub cells_are : AreTrueCells t.problem.inputs (functions t.problem) t.pairs.pairs t.bound costs
+  pub cells_are : AreTrueCells t.problem.inputs (functions t.problem) t.pairs.pairs t.reserve t.bound costs
 
 -- the layer is the one after the costs', which are the definition's
 pub record IsBench (b : BenchOf) : Type 0 where

@@ -20,7 +20,7 @@ gained s s' = filter (gains s s') (masks_of s.board.brief.layer)
 
 -- how many widths the cell of a set takes
 abbrev pub width_count : Setting → ℕ → ℕ
-width_count t mask = length (wanted t.problem.inputs (functions t.problem) t.pairs.pairs t.bound mask)
+width_count t mask = length (wanted t.problem.inputs (functions t.problem) t.pairs.pairs t.reserve t.bound mask)
 
 -- how many widths the cells of some sets take
 unfoldable pub widths_for : Setting → List ℕ → ℕ

@@ -2,11 +2,10 @@
 --     IsInNextLayer costs mask      a set of the layer after the one of some costs
 --     affordable costs bound mask      the members of a set without which the cost is within the bound
 --     needed t mask      the mask of the members whose widths the cell of a set takes
-use Rattle.std.specs.Prelude.{ℕ, ◌+◌, List, IsTrue, nat_le}
-use Rattle.std.specs.List.{filter}
-use Rattle.order_model.specs.Orders.{has, members, mask_of}
+use Rattle.std.specs.Prelude.{ℕ, ◌+◌, List, IsTrue}
+use Rattle.order_model.specs.Orders.{has, mask_of}
 use Rattle.order_model.specs.Problems.{functions}
-use Rattle.order_model.specs.Cells.{wanted}
+use Rattle.order_model.specs.Cells.{candidates, wanted}
 use Rattle.subset_layers.specs.Layers.{layer_with, masks_of}
 use Rattle.subset_layers.specs.Costs.{CostsOf, cost_without}
 use Rattle.layer_core.specs.Settings.{Setting}
@@ -16,9 +15,9 @@ abbrev pub IsInNextLayer : CostsOf → ℕ → Type 0
 IsInNextLayer costs mask = IsTrue (has (masks_of (layer_with costs.inputs (costs.size + 1))) mask)
 
 -- the members of a set without which the cost is within the bound
-unfoldable pub affordable : CostsOf → ℕ → ℕ → List ℕ
-affordable costs bound mask = filter (λ x. nat_le (cost_without costs mask x) bound) (members costs.inputs mask)
+abbrev pub affordable : CostsOf → ℕ → ℕ → List ℕ
+affordable costs bound mask = candidates costs.inputs bound mask (cost_without costs mask)
 
 -- the mask of the members whose widths the cell of a set takes
 unfoldable pub needed : Setting → ℕ → ℕ
-needed t mask = mask_of (wanted t.problem.inputs (functions t.problem) t.pairs.pairs t.bound mask)
+needed t mask = mask_of (wanted t.problem.inputs (functions t.problem) t.pairs.pairs t.reserve t.bound mask)

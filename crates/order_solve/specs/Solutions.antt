@@ -3,7 +3,7 @@
 --     IsReadOff t order      the order that the cells give
 --     AreListedFor t total cells      the sets that a certificate lists, with their costs
 --     widths_for_all t      how many widths the cells of all sets take
---     IsSolution problem P s      the first order of the fewest nodes among those that keep the pairs, with its size, its level counts and its certificate's cells
+--     IsOptimum problem P o, IsSolution problem P s      the first order of the fewest nodes among those that keep the pairs, with its size and its level counts; this, with its certificate's cells
 use Rattle.std.specs.Prelude.{◌≡◌, ℕ, ◌-◌, ◌^◌, List, map}
 use Rattle.order_model.specs.Pairs.{Pair}
 use Rattle.order_model.specs.Problems.{TruthTables, functions}
@@ -14,15 +14,16 @@ use Rattle.order_model.specs.Certificates.{certificate_of, least_listed, listed_
 use Rattle.order_model.specs.Listed.{listed}
 use Rattle.order_model.specs.declared.listed_cells.ListedCell.{ListedCell}
 use Rattle.layer_core.specs.Settings.{Setting}
+use Rattle.order_solve.specs.declared.solution.Optimum.{Optimum}
 use Rattle.order_solve.specs.declared.solution.Solution.{Solution}
 
 -- the cost of a set
 abbrev pub cost_for : Setting → ℕ → ℕ
-cost_for t mask = cell_cost t.problem.inputs (functions t.problem) t.pairs.pairs t.bound mask
+cost_for t mask = cell_cost t.problem.inputs (functions t.problem) t.pairs.pairs t.reserve t.bound mask
 
 -- the order that the cells give from the set of all variables downward
 abbrev pub IsReadOff : Setting → List ℕ → Type 0
-IsReadOff t order = IsReadFrom t.problem.inputs (functions t.problem) t.pairs.pairs t.bound
+IsReadOff t order = IsReadFrom t.problem.inputs (functions t.problem) t.pairs.pairs t.reserve t.bound
     (2 ^ t.problem.inputs - 1) order
 
 -- the sets that a certificate of this total lists, with their least costs
@@ -33,12 +34,16 @@ AreListedFor t total cells =
 
 -- how many widths the cells of all sets take
 abbrev pub widths_for_all : Setting → ℕ
-widths_for_all t = widths_taken t.problem.inputs (functions t.problem) t.pairs.pairs t.bound
+widths_for_all t = widths_taken t.problem.inputs (functions t.problem) t.pairs.pairs t.reserve t.bound
 
--- the first order of the fewest nodes among those that keep the pairs, its size, its level counts, and the cells of its certificate
+-- the first order of the fewest nodes among those that keep the pairs, its size, and its level counts
+pub record IsOptimum (problem : TruthTables) (P : List Pair) (o : Optimum) : Type 0 where
+  pub first : IsFirstKeeping problem.inputs (functions problem) P o.order
+  pub fewest : FewestKeeping problem.inputs (functions problem) P o.total
+  pub size : o.total ≡ size_under problem.inputs (functions problem) o.order
+  pub levels : o.levels.items ≡ level_counts problem.inputs (functions problem) o.order
+
+-- this, and the cells of its certificate
 pub record IsSolution (problem : TruthTables) (P : List Pair) (s : Solution) : Type 0 where
-  pub first : IsFirstKeeping problem.inputs (functions problem) P s.order
-  pub fewest : FewestKeeping problem.inputs (functions problem) P s.total
-  pub size : s.total ≡ size_under problem.inputs (functions problem) s.order
-  pub levels : s.levels.items ≡ level_counts problem.inputs (functions problem) s.order
-  pub cells : map listed s.cells.items ≡ (certificate_of problem.inputs (functions problem) P s.order).cells
+  pub optimum : IsOptimum problem P s.optimum
+  pub cells : map listed s.cells.items ≡ (certificate_of problem.inputs (functions problem) P s.optimum.order).cells

@@ -73,8 +73,8 @@ pub fn cells_of_block(
             *mask,
             bench.before,
             &row,
-            setting.bound,
-            setting.essential,
+            setting.limit.bound,
+            &setting.reserves,
             setting.pairs,
         ))?;
     }

@@ -133,7 +133,7 @@ fn cells_of_layer<R: Threads + Sync, G: Gate>(
     let (board, seats) = Board::new(
         alloc,
         setting.problem,
-        setting.bound,
+        setting.limit,
         bench.layer,
         busy_workers(setting.problem, bench.layer, crew.workers),
         setting.pairs,

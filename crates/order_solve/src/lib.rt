@@ -25,6 +25,6 @@ mod solution;
 
 pub use bench::Bench;
 pub use setting::Setting;
-pub use solution::Solution;
-pub use solving::{solve, solve_alone};
+pub use solution::{Optimum, Solution};
+pub use solving::{find_optimum, find_optimum_alone, solve, solve_alone};
 pub use working::{WorkerEnd, work_layer};

@@ -4,6 +4,7 @@ ghost use Rattle.std.specs.Prelude.{◌≡◌, ◌<◌, ◌≤◌, ℕ, count_on
 ghost use Rattle.order_model.specs.Functions.{Function};
 ghost use Rattle.order_model.specs.Orders.{members};
 ghost use Rattle.order_model.specs.Widths.{essential_mask, essentials_outside};
+ghost use Rattle.order_model.specs.declared.reserve.Reserve.TheVariants.{Variables};
 ghost use Rattle.order_solve.specs.Solutions.{AreListedFor, widths_for_all};
 
 use crate::all_cells::AllCells;
@@ -26,7 +27,8 @@ pub fn listed_cells(
     cells: &AllCells<'_>,
     total: u32,
 ) -> Result<Vec<ListedCell>, AllocError>
-    requires { total ≤ cells.now.bound }
+    requires within { total ≤ cells.now.bound }
+    requires reserve { cells.now.reserve ≡ Variables }
     ensures { IfOk result (λ v. AreListedFor cells.now total v.items) }
 {
     let essential = cells.essential();

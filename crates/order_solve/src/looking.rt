@@ -6,11 +6,25 @@ ghost use Rattle.order_solve.specs.Bounded.{AreDone};
 
 use crate::setting::Setting;
 use compaction::Ahead;
+use order_model::Reserve;
 use std::alloc::Global;
 use subset_layers::Costs;
 
-/// So many layers are searched together at first: most of their sets are wanted.
-const FIRST_LAYERS: usize = 6;
+/// One in so many entries of the truth tables is a node of a diagram that is as large as most.
+const ENTRIES_A_NODE: u64 = 16;
+
+/// How many layers are searched together at first: all if the bound is that of a diagram as large
+/// as most, since then hardly a set is clipped, else those most of whose sets are wanted.
+fn first_layers(setting: &Setting<'_>) -> usize {
+    let entries = u64::from(setting.problem.outputs()) << setting.inputs();
+    if u64::from(setting.limit.bound) >= entries / ENTRIES_A_NODE {
+        return usize::from(setting.inputs());
+    }
+    match setting.limit.reserve {
+        Reserve::Variables => 6,
+        Reserve::Widths => 5,
+    }
+}
 
 /// One in so many sets is asked for its cost.
 const STEP: u32 = 7;
@@ -35,24 +49,36 @@ fn mean_cost(costs: &Costs, size: usize) -> u64 {
     }
 }
 
+/// The nodes that are likely to be counted on above a set of such a width, with so many variables
+/// outside.
+fn likely_above(setting: &Setting<'_>, outside: usize, width: u64) -> u64 {
+    let asked = match setting.limit.reserve {
+        Reserve::Variables => 0,
+        Reserve::Widths => width.saturating_sub(u64::from(setting.problem.outputs())),
+    };
+    asked.max(outside as u64)
+}
+
 /// The size of the largest sets that are likely to be wanted: costs rise from layer to layer by as
 /// much as they did last, and by no more than a layer's tables have entries.
 fn likely_end(setting: &Setting<'_>, done: &[Costs]) -> usize
     requires { 2 ≤ length done.now }
 {
     let inputs = usize::from(setting.inputs());
+    let outputs = u64::from(setting.problem.outputs());
     let next = done.len();
     let mut cost = mean_cost(&done[next - 1], next - 1);
     let rise = cost.saturating_sub(mean_cost(&done[next - 2], next - 2));
     let mut end = next;
     for size in next..inputs + 1 {
-        let outside = inputs - size + 1;
-        if cost.saturating_add(outside as u64) > u64::from(setting.bound) {
+        let outside = inputs - size;
+        let width = rise.min(outputs << (outside + 1));
+        let above = likely_above(setting, outside + 1, width);
+        if cost.saturating_add(above) > u64::from(setting.limit.bound) {
             break;
         }
         end = size;
-        let entries = u64::from(setting.problem.outputs()) << (inputs - size);
-        cost = cost.saturating_add(rise.min(entries));
+        cost = cost.saturating_add(rise.min(outputs << outside));
     }
     end
 }
@@ -69,7 +95,7 @@ pub fn look_ahead(alloc: Global, setting: &Setting<'_>, ahead: Ahead, done: &[Co
         return ahead;
     }
     let end = if next == 1 {
-        FIRST_LAYERS
+        first_layers(setting)
     } else {
         likely_end(setting, done)
     };

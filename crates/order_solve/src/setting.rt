@@ -3,51 +3,50 @@
 ghost use Rattle.std.specs.Prelude.{◌≡◌, ◌+◌, ◌^◌, ◌<◌, ◌≤◌};
 
 use layer_core::CellResult;
-use order_model::{Mask, Pairs, Problem};
+use order_model::{Limit, Mask, Pairs, Problem, Reserves};
 use std::marker::Model;
 use subset_layers::Cell;
 
-/// What a search is for: the functions, the pairs that an order must keep, and the bound, above
-/// which costs are clipped.
+/// What a search is for: the functions, the pairs that an order must keep, and what clips its cells:
+/// the bound, and what is counted on above a set.
 #[derive(Drop)]
 pub struct Setting<'a> {
     pub(crate) problem: &'a Problem,
     pub(crate) pairs: &'a Pairs,
-    pub(crate) bound: u32,
-    pub(crate) essential: Mask,
+    pub(crate) limit: Limit,
+    pub(crate) reserves: Reserves<'a>,
 }
 
 impl<'a> Model for Setting<'a> {
-    ghost use Rattle.layer_core.specs.Settings.{Setting};
-    ghost use Rattle.order_solve.specs.Settings.{setting_with, HoldsSetting};
+    ghost use Rattle.layer_core.specs.Settings.{Setting, setting_of};
+    ghost use Rattle.order_solve.specs.Settings.{HoldsSetting};
 
     ghost Value = { Setting };
 
-    ghost view = { λ s. setting_with s.problem.now s.pairs.now s.bound };
+    ghost view = { λ s. setting_of s.problem.now s.pairs.now s.limit };
 
     ghost invariant = { λ s. HoldsSetting
-        (setting_with s.problem.now s.pairs.now s.bound) s.essential };
+        (setting_of s.problem.now s.pairs.now s.limit) s.reserves };
 }
 
 impl<'a> Setting<'a> {
     ghost use Rattle.order_model.specs.Problems.{functions};
     ghost use Rattle.order_model.specs.Widths.{essential_mask};
     ghost use Rattle.layer_core.specs.Pairing.{pair_of};
-    ghost use Rattle.layer_core.specs.Settings.{cell_for};
-    ghost use Rattle.order_solve.specs.Settings.{setting_with};
+    ghost use Rattle.layer_core.specs.Settings.{cell_for, setting_of};
 
     /// The pairs are of the functions' variables.
-    pub fn new(problem: &'a Problem, pairs: &'a Pairs, bound: u32) -> Setting<'a>
+    pub fn new(problem: &'a Problem, pairs: &'a Pairs, limit: Limit) -> Setting<'a>
         requires pairs { pairs.now.inputs ≡ problem.now.inputs }
-        requires room { bound + 1 < 2 ^ 32 }
-        ensures { result ≡ setting_with problem.now pairs.now bound }
+        requires room { limit.bound + 1 < 2 ^ 32 }
+        ensures { result ≡ setting_of problem.now pairs.now limit }
     {
         prove!(problem.inputs() <= 16);
         Setting {
             problem,
             pairs,
-            bound,
-            essential: problem.essential(),
+            limit,
+            reserves: Reserves::new(problem, limit.reserve),
         }
     }
 
@@ -74,18 +73,18 @@ impl<'a> Setting<'a> {
         self.pairs
     }
 
-    /// The bound.
-    pub fn bound(&self) -> u32
-        ensures { result ≡ self.now.bound }
+    /// The bound, and what is counted on above a set.
+    pub fn limit(&self) -> Limit
+        ensures { result ≡ record { bound = self.now.bound; reserve = self.now.reserve } }
     {
-        self.bound
+        self.limit
     }
 
     /// The set of the variables on which some function depends.
     pub fn essential(&self) -> Mask
         ensures { result ≡ essential_mask self.now.problem.inputs (functions self.now.problem) }
     {
-        self.essential
+        self.reserves.essential()
     }
 
     /// The result of a set whose cell is found.
@@ -93,6 +92,6 @@ impl<'a> Setting<'a> {
         requires { pair_of cell ≡ cell_for self.now mask }
         ensures { result ≡ record { setting = self.now; mask = mask; cell = pair_of cell } }
     {
-        CellResult::new(self.problem, self.bound, mask, cell, self.pairs)
+        CellResult::new(self.problem, self.limit, mask, cell, self.pairs)
     }
 }

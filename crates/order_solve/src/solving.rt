@@ -1,59 +1,112 @@
 //! The solver.
 
-ghost use Rattle.std.specs.Prelude.{◌≡◌, IfOk};
+ghost use Rattle.std.specs.Prelude.{◌≡◌, ◌≤◌, IfOk};
 ghost use Rattle.order_model.specs.Problems.{functions};
+ghost use Rattle.order_model.specs.declared.reserve.Reserve.TheVariants.{Variables};
 ghost use Rattle.order_model.specs.Cells.{widths_taken};
 ghost use Rattle.order_solve.specs.Bounded.{IsBounded};
-ghost use Rattle.order_solve.specs.Solutions.{IsSolution, widths_for_all};
+ghost use Rattle.order_solve.specs.Solutions.{IsOptimum, IsSolution, widths_for_all};
 
 use crate::all_cells::AllCells;
 use crate::listing::{count_widths, listed_cells};
 use crate::reading::{all_variables, level_counts, read_order};
 use crate::setting::Setting;
-use crate::solution::Solution;
-use order_model::{Crew, Gate, Problem, Workers};
+use crate::solution::{Optimum, Solution};
+use order_model::{Crew, Gate, Limit, Problem, Reserve, Workers};
 use sifting::Sifted;
 use std::alloc::{AllocError, Global};
 use std::thread::Threads;
 
-/// What the cells of all sets give: the first order of the fewest nodes among those that keep the
-/// pairs.
-fn solution_of(alloc: Global, cells: &AllCells<'_>) -> Result<Solution, AllocError>
-    ensures solution { IfOk result (IsSolution cells.now.problem cells.now.pairs.pairs) }
-    ensures widths { IfOk result (λ s. s.widths ≡ widths_for_all cells.now) }
+/// The order that the cells of all sets give: the first one of the fewest nodes among those that
+/// keep the pairs.
+fn optimum_of(alloc: Global, cells: &AllCells<'_>) -> Result<Optimum, AllocError>
+    ensures optimum { IfOk result (IsOptimum cells.now.problem cells.now.pairs.pairs) }
+    ensures bounded { IfOk result (λ o. o.total ≤ cells.now.bound) }
 {
     let total = cells.cost(all_variables(cells.inputs()));
     let order = read_order(alloc, cells)?;
     let levels = level_counts(alloc, cells, &order)?;
-    let listed = listed_cells(alloc, cells, total)?;
-    let widths = count_widths(cells);
-    Ok(Solution {
+    Ok(Optimum {
         order,
         total,
         levels,
+    })
+}
+
+/// The same, with what its certificate lists.
+fn solution_of(alloc: Global, cells: &AllCells<'_>) -> Result<Solution, AllocError>
+    requires { cells.now.reserve ≡ Variables }
+    ensures solution { IfOk result (IsSolution cells.now.problem cells.now.pairs.pairs) }
+    ensures widths { IfOk result (λ s. s.widths ≡ widths_for_all cells.now) }
+{
+    let optimum = optimum_of(alloc, cells)?;
+    let listed = listed_cells(alloc, cells, optimum.total)?;
+    let widths = count_widths(cells);
+    Ok(Solution {
+        optimum,
         cells: listed,
         widths,
     })
 }
 
 /// What the search is for that a sifted order bounds: its pairs are kept, and its size is the bound.
-fn setting_of<'a>(problem: &'a Problem, sifted: &'a Sifted) -> Setting<'a>
+fn setting_of<'a>(problem: &'a Problem, sifted: &'a Sifted, reserve: Reserve) -> Setting<'a>
     requires { sifted.now.problem ≡ problem.now }
     ensures problem { result.problem ≡ problem.now }
     ensures pairs { result.pairs.pairs ≡ sifted.now.pairs }
+    ensures reserve { result.reserve ≡ reserve }
     ensures bound { result.bound ≡ sifted.now.size }
     ensures bounded { IsBounded result }
 {
     prove!(problem.outputs() <= 16);
     prove!(problem.inputs() <= 16);
-    Setting::new(problem, sifted.pairs(), sifted.size())
+    let limit = Limit {
+        bound: sifted.size(),
+        reserve,
+    };
+    Setting::new(problem, sifted.pairs(), limit)
 }
 
 /// The first order of the fewest nodes among those that keep the pairs of a sifted order of the
-/// same functions. The size of that order bounds the search. The gate is called by the workers for
-/// each set but the empty one.
+/// same functions. The size of that order bounds the search, which counts on the nodes above a set
+/// that the set's widths ask for. The gate is called by the workers for each set but the empty one.
 ///
 /// Memory alone is refused: if any worker met it, no layer is done over.
+pub fn find_optimum<R: Threads + Sync, G: Gate>(
+    rt: &R,
+    alloc: Global,
+    problem: &Problem,
+    sifted: Sifted,
+    workers: Workers,
+    gate: &G,
+) -> Result<Optimum, AllocError>
+    requires { sifted.problem ≡ problem.now }
+    ensures { IfOk result (IsOptimum problem.now sifted.pairs) }
+{
+    let setting = setting_of(problem, &sifted, Reserve::Widths);
+    let crew = Crew::new(rt, workers, gate);
+    let searched = AllCells::of(&crew, alloc, &setting)?;
+    let optimum = optimum_of(alloc, &searched)?;
+    Ok(optimum)
+}
+
+/// The same as `find_optimum`, by the calling thread alone.
+pub fn find_optimum_alone(
+    alloc: Global,
+    problem: &Problem,
+    sifted: Sifted,
+) -> Result<Optimum, AllocError>
+    requires { sifted.problem ≡ problem.now }
+    ensures { IfOk result (IsOptimum problem.now sifted.pairs) }
+{
+    let setting = setting_of(problem, &sifted, Reserve::Widths);
+    let searched = AllCells::alone(alloc, &setting)?;
+    let optimum = optimum_of(alloc, &searched)?;
+    Ok(optimum)
+}
+
+/// The same as `find_optimum`, with what the order's certificate lists. For that the search counts
+/// on one node above a set for each essential variable outside, and no more.
 pub fn solve<R: Threads + Sync, G: Gate>(
     rt: &R,
     alloc: Global,
@@ -66,9 +119,9 @@ pub fn solve<R: Threads + Sync, G: Gate>(
     ensures solution { IfOk result (IsSolution problem.now sifted.pairs) }
     ensures widths { IfOk result
         (λ s. s.widths ≡ widths_taken problem.now.inputs (functions problem.now) sifted.pairs
-        sifted.size) }
+        Variables sifted.size) }
 {
-    let setting = setting_of(problem, &sifted);
+    let setting = setting_of(problem, &sifted, Reserve::Variables);
     let crew = Crew::new(rt, workers, gate);
     let cells = AllCells::of(&crew, alloc, &setting)?;
     let solution = solution_of(alloc, &cells)?;
@@ -81,9 +134,9 @@ pub fn solve_alone(alloc: Global, problem: &Problem, sifted: Sifted) -> Result<S
     ensures solution { IfOk result (IsSolution problem.now sifted.pairs) }
     ensures widths { IfOk result
         (λ s. s.widths ≡ widths_taken problem.now.inputs (functions problem.now) sifted.pairs
-        sifted.size) }
+        Variables sifted.size) }
 {
-    let setting = setting_of(problem, &sifted);
+    let setting = setting_of(problem, &sifted, Reserve::Variables);
     let cells = AllCells::alone(alloc, &setting)?;
     let solution = solution_of(alloc, &cells)?;
     Ok(solution)

@@ -1,2 +1,3 @@
 pub mod Shortages
 pub mod FirstDiagrams
+pub mod Bests

@@ -1,6 +1,6 @@
 //! The answer of a run: the best order of a cover, beside the sifted and the file order.
 
-ghost use Rattle.std.specs.Prelude.{◌≡◌, ◌<◌, ◌≤◌, ℕ, Ok, IfOk, length, slice_index, string_bytes, sum};
+ghost use Rattle.std.specs.Prelude.{◌≡◌, ◌<◌, ◌≤◌, ℕ, Ok, IfOk, is_some, length, slice_index, string_bytes, sum};
 ghost use Rattle.order_model.specs.Diagrams.{nodes_at};
 ghost use Rattle.order_model.specs.Levels.{level_counts, size_under};
 ghost use Rattle.order_model.specs.Orders.{IsOrder};
@@ -8,19 +8,20 @@ ghost use Rattle.order_model.specs.Pairs.{IsFirstOrder};
 ghost use Rattle.order_model.specs.Problems.{functions};
 ghost use Rattle.order_model.specs.Sifting.{sifted as sifted_order};
 ghost use Rattle.dd_builder.specs.Building.{HasLevelCounts};
-ghost use Rattle.order_solve.specs.Solutions.{IsSolution};
+ghost use Rattle.report.specs.Bests.{IsBest};
 ghost use Rattle.run_texts.specs.Answers.{IsAnswer, IsCertified, IsCertifiedBy};
 ghost use Rattle.outcomes.specs.Plans.{PairsAre};
 ghost use Rattle.report.specs.FirstDiagrams.{IsFirstDiagram};
 ghost use Rattle.run_texts.specs.Texts.{file_order_levels, report_parts};
 ghost use Rattle.pla_reader.specs.Covers.{functions_of};
 
+use crate::best::{Best, best_order};
 use crate::shortage::Shortage;
 use crate::tabled_cover::TabledCover;
 use command_line::RunPlan;
 use dd_builder::{build, build_tables};
 use order_model::{Diagram, NoGate, Order, Pairs, PairsFault, Problem, Workers, total};
-use order_solve::{Solution, solve};
+use order_solve::Optimum;
 use pla_reader::Cover;
 use run_texts::{Report, RunTexts, certificate_text, report_text};
 use sifting::laws::diagrams_have_their_functions_tables;
@@ -152,16 +153,16 @@ fn levels_under<R: Threads + Sync>(
     Ok(levels)
 }
 
-/// What the search finds: the solution, and the sifted order with its size.
+/// What the search finds: the best order, and the sifted one with its size.
 #[derive(Drop)]
 struct Found {
-    solution: Solution,
+    best: Best,
     sifted: Order,
     sifted_size: u32,
 }
 
-/// The first order of the fewest nodes, and the one sifted from the diagram under the first order
-/// that keeps the pairs.
+/// The first order of the fewest nodes, with what its certificate lists if that is asked for, and the
+/// order sifted from the diagram under the first one that keeps the pairs.
 fn search<R: Threads + Sync>(
     rt: &R,
     alloc: Global,
@@ -169,10 +170,11 @@ fn search<R: Threads + Sync>(
     first: Diagram,
     pairs: Pairs,
     workers: Workers,
+    certify: bool,
 ) -> Result<Found, Shortage>
     requires first { IsFirstDiagram tabled.now.cover.now pairs.pairs first }
     requires pairs { pairs.inputs ≡ tabled.now.cover.now.inputs }
-    ensures solution { IfOk result (λ f. IsSolution tabled.now.tables.now pairs.pairs f.solution) }
+    ensures best { IfOk result (λ f. IsBest tabled.now.tables.now pairs.pairs certify f.best) }
     ensures sifted { IfOk result
         (λ f. (start : _) × IsFirstOrder tabled.now.cover.now.inputs pairs.pairs start
         × (f.sifted ≡ sifted_order tabled.now.tables.now.inputs (functions tabled.now.tables.now)
@@ -184,9 +186,9 @@ fn search<R: Threads + Sync>(
     let sifted = found.order().try_clone(alloc)?;
     let sifted_size = found.size();
     let bound = found.search_bound(alloc)?;
-    let solution = solve(rt, alloc, tabled.tables.problem(), bound, workers, &NoGate)?;
+    let best = best_order(rt, alloc, tabled.tables.problem(), bound, workers, certify)?;
     Ok(Found {
-        solution,
+        best,
         sifted,
         sifted_size,
     })
@@ -202,13 +204,13 @@ fn report_of<R: Threads + Sync>(
     workers: Workers,
 ) -> Result<String, Shortage>
     requires nodes { file_nodes ≡ sum (file_order_levels tabled.now.cover.now) }
-    requires order { IsOrder tabled.now.tables.now.inputs found.now.solution.order }
+    requires order { IsOrder tabled.now.tables.now.inputs found.now.best.optimum.order }
     ensures { IfOk result
         (λ text. string_bytes text ≡ report_parts tabled.now.cover.now tabled.now.tables.now
-        found.now.solution.order found.now.sifted found.now.sifted_size) }
+        found.now.best.optimum.order found.now.sifted found.now.sifted_size) }
 {
-    let best = found.solution.order.variables();
-    let levels = levels_under(rt, alloc, tabled.tables, &found.solution.order, workers)?;
+    let best = found.best.optimum.order.variables();
+    let levels = levels_under(rt, alloc, tabled.tables, &found.best.optimum.order, workers)?;
     let report = Report {
         names: tabled.cover.input_names(),
         order: best,
@@ -247,10 +249,11 @@ fn search_cover<R: Threads + Sync>(
     tabled: &TabledCover<'_>,
     pairs: Pairs,
     workers: Workers,
+    certify: bool,
 ) -> Result<Searched, Shortage>
     requires pairs { pairs.inputs ≡ tabled.now.cover.now.inputs }
-    ensures solution { IfOk result
-        (λ s. IsSolution tabled.now.tables.now pairs.pairs s.found.solution) }
+    ensures best { IfOk result
+        (λ s. IsBest tabled.now.tables.now pairs.pairs certify s.found.best) }
     ensures sifted { IfOk result
         (λ s. (start : _) × IsFirstOrder tabled.now.cover.now.inputs pairs.pairs start
         × (s.found.sifted ≡ sifted_order tabled.now.tables.now.inputs
@@ -263,33 +266,31 @@ fn search_cover<R: Threads + Sync>(
     let first = first_diagram(rt, alloc, tabled, &pairs, builders)?;
     let levels = file_order_levels_of(rt, alloc, tabled, &first, builders)?;
     let file_nodes = total(&levels);
-    let found = search(rt, alloc, tabled, first, pairs, workers)?;
+    let found = search(rt, alloc, tabled, first, pairs, workers, certify)?;
     Ok(Searched { found, file_nodes })
 }
 
-/// The text of the solution's certificate, if it is asked for.
+/// The text of the best order's certificate, if its cells were listed.
 fn certificate_of(
     alloc: Global,
     problem: &Problem,
     pairs: &Pairs,
-    solution: Solution,
-    certify: bool,
+    best: Best,
 ) -> Result<Option<String>, AllocError>
     requires inputs { pairs.now.inputs ≡ problem.now.inputs }
-    requires solution { IsSolution problem.now pairs.now.pairs solution }
+    requires best { IsBest problem.now pairs.now.pairs (is_some best.cells) best }
     ensures { IfOk result
-        (IsCertifiedBy problem.now pairs.now.pairs solution.order certify) }
+        (IsCertifiedBy problem.now pairs.now.pairs best.optimum.order (is_some best.cells)) }
 {
-    if !certify {
+    let Best { optimum, cells } = best;
+    let Some(cells) = cells else {
         return Ok(None);
-    }
-    let Solution {
+    };
+    let Optimum {
         order,
         total,
         levels,
-        cells,
-        widths: _,
-    } = solution;
+    } = optimum;
     let text = certificate_text(alloc, problem, pairs, &order, levels, total, cells)?;
     Ok(Some(text))
 }
@@ -314,10 +315,10 @@ pub(crate) fn answer_texts<R: Threads + Sync>(
         cover,
         tables: &tables,
     };
-    let Searched { found, file_nodes } = search_cover(rt, alloc, &tabled, pairs, workers)?;
+    let Searched { found, file_nodes } = search_cover(rt, alloc, &tabled, pairs, workers, certify)?;
     let builders = building_workers(tables.problem(), workers);
     let report = report_of(rt, alloc, &tabled, &found, file_nodes, builders)?;
-    let certificate = certificate_of(alloc, tables.problem(), &kept, found.solution, certify)?;
+    let certificate = certificate_of(alloc, tables.problem(), &kept, found.best)?;
     Ok(RunTexts {
         report,
         certificate,

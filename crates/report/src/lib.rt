@@ -9,6 +9,7 @@ mod runs;
 
 // Answers.
 mod answers;
+mod best;
 mod shortage;
 mod tabled_cover;
 

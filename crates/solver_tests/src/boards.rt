@@ -2,12 +2,13 @@
 
 ghost use Rattle.std.specs.Prelude.{◌≡◌, ◌<◌, All, IfOk, vec_len, [], ◌∷◌};
 ghost use Rattle.layer_core.specs.Settings.{cell_for};
+ghost use Rattle.order_model.specs.declared.reserve.Reserve.TheVariants.{Variables};
 ghost use Rattle.layer_board.specs.Views.{first_seat};
 ghost use Rattle.solver_tests.specs.Examples.{parity};
 
 use layer_board::{Board, BoardSeat, CloseError, PostRefused};
 use layer_core::{CellResult, Core, Event, Reply};
-use order_model::{Mask, Pairs, Problem, Workers};
+use order_model::{Limit, Mask, Pairs, Problem, Reserve, Workers};
 use std::alloc::{AllocError, Global};
 use std::process::Abort;
 use std::test::Fail;
@@ -32,16 +33,26 @@ fn words(alloc: Global, word: u64) -> Result<Vec<u64>, AllocError>
     Ok(words)
 }
 
+/// A bound, with one node counted on for each essential variable outside a set.
+fn limit(bound: u32) -> Limit
+    ensures { result ≡ record { bound = bound; reserve = Variables } }
+{
+    Limit {
+        bound,
+        reserve: Reserve::Variables,
+    }
+}
+
 /// A cell of it with the bound 7, on top of which stands the variable 0.
 fn parity_cell(problem: &Problem, mask: Mask, cost: u32, pairs: &Pairs) -> CellResult
     requires problem { problem.now ≡ parity.problem }
     requires pairs { pairs.now.pairs ≡ [] }
     requires cell { (cost, 0) ≡ cell_for parity mask }
     ensures setting { result.setting ≡ record
-        { problem = problem.now; pairs = pairs.now; bound = 7 } }
+        { problem = problem.now; pairs = pairs.now; reserve = Variables; bound = 7 } }
     ensures mask { result.mask ≡ mask }
 {
-    CellResult::new(problem, 7, mask, Cell { cost, variable: 0 }, pairs)
+    CellResult::new(problem, limit(7), mask, Cell { cost, variable: 0 }, pairs)
 }
 
 /// Claims the next block: it stands at the place, and has so many sets with the low byte, of which
@@ -79,7 +90,7 @@ fn post_and_read(
     requires problem { problem.now ≡ parity.problem }
     requires pairs { pairs.now.pairs ≡ [] }
     requires setting { board.now.brief.setting ≡ record
-        { problem = problem.now; pairs = pairs.now; bound = 7 } }
+        { problem = problem.now; pairs = pairs.now; reserve = Variables; bound = 7 } }
     ensures { seat.new.board ≡ board.now }
 {
     // The second block is not this seat's, and the mask 0007 is not in the layer.
@@ -104,7 +115,7 @@ fn board_of_the_second_layer(rt: HostRuntime) -> Result<(), Fail> {
     let pairs = Pairs::none(4);
     let layer = Layer::of(rt.alloc(), 4, 2)?;
     let one = Workers::new(1).ok_or("one worker")?;
-    let (board, mut seats) = Board::new(rt.alloc(), &problem, 7, &layer, one, &pairs)?;
+    let (board, mut seats) = Board::new(rt.alloc(), &problem, limit(7), &layer, one, &pairs)?;
     assert!(rt; seats.len() == 1);
     let Some(mut seat) = seats.pop() else {
         panic!(rt; "no seat")
@@ -168,7 +179,7 @@ fn blocks_of_the_sets_of_two(rt: HostRuntime) -> Result<(), Fail> {
     let Some(one) = Workers::new(1) else {
         panic!(rt; "one worker")
     };
-    let (board, mut seats) = Board::new(rt.alloc(), &problem, 9, &layer, one, &pairs)?;
+    let (board, mut seats) = Board::new(rt.alloc(), &problem, limit(9), &layer, one, &pairs)?;
     let Some(mut seat) = seats.pop() else {
         panic!(rt; "no seat")
     };
@@ -241,7 +252,7 @@ fn two_threads_share_the_blocks(rt: HostRuntime) -> Result<(), Fail> {
     let Some(two) = Workers::new(2) else {
         panic!(rt; "two workers")
     };
-    let (board, seats) = Board::new(rt.alloc(), &problem, 7, &layer, two, &pairs)?;
+    let (board, seats) = Board::new(rt.alloc(), &problem, limit(7), &layer, two, &pairs)?;
     let drawn = draw_all(&rt, &board, seats)?;
     assert!(rt; drawn.len() == 2);
     assert!(rt; drawn[0] | drawn[1] == 63 && drawn[0] & drawn[1] == 0);

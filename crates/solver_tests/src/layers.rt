@@ -2,7 +2,8 @@
 
 ghost use Rattle.std.specs.Prelude.{◌≡◌, ◌+◌, IfOk};
 
-use order_model::{Mask, Pairs};
+use crate::solutions::tables_of;
+use order_model::{Mask, Pairs, Reserve, Reserves};
 use std::alloc::Global;
 use std::process::Abort;
 use std::test::Fail;
@@ -60,9 +61,11 @@ fn least_cells(
     alloc: Global,
     layer: &Layer,
     costs: &Costs,
+    reserves: &Reserves<'_>,
     rows: &[Row],
 ) -> Result<Vec<Cell>, Fail>
     requires inputs { costs.now.inputs ≡ 3 }
+    requires functions { reserves.now.problem.inputs ≡ 3 }
     requires same { layer.now.inputs ≡ 3 }
     requires next { layer.now.size ≡ costs.now.size + 1 }
 {
@@ -71,7 +74,7 @@ fn least_cells(
         assert_eq!(rt; layer.position(*mask), Some(i));
         let mut row = [0; 16];
         row[..3].copy_from_slice(widths);
-        let cell = least_cell(*mask, costs, &row, 3, 0x0007, &Pairs::none(3));
+        let cell = least_cell(*mask, costs, &row, 3, reserves, &Pairs::none(3));
         assert_eq!(rt;
             (cell.cost, cell.variable),
             (*cost, *variable),
@@ -87,16 +90,18 @@ fn next_costs(
     rt: &impl Abort,
     alloc: Global,
     costs: Costs,
+    reserves: &Reserves<'_>,
     size: u8,
     rows: &[Row],
 ) -> Result<Costs, Fail>
     requires inputs { costs.inputs ≡ 3 }
+    requires functions { reserves.now.problem.inputs ≡ 3 }
     requires next { size ≡ costs.size + 1 }
     ensures inputs { IfOk result (λ c. c.inputs ≡ 3) }
     ensures size { IfOk result (λ c. c.size ≡ size) }
 {
     let layer = Layer::of(alloc, 3, size)?;
-    let cells = least_cells(rt, alloc, &layer, &costs, rows)?;
+    let cells = least_cells(rt, alloc, &layer, &costs, reserves, rows)?;
     assert_eq!(rt; cells.len(), layer.len());
     let costs = Costs::of(layer, cells);
     for (mask, _, cost, variable) in rows {
@@ -110,16 +115,23 @@ fn next_costs(
     Ok(costs)
 }
 
+static MULTIPLEXER: &[u8] = b".i 3\n.o 1\n1-0 1\n-11 1\n.e\n";
+
 // Each layer's costs go into the next one's, so that no early return has to drop several.
 #[test]
 fn cells_of_the_multiplexer(rt: HostRuntime) -> Result<(), Fail> {
+    let tables = tables_of(&rt, rt.alloc(), MULTIPLEXER)?;
+    let reserves = Reserves::new(tables.problem(), Reserve::Variables);
+    if tables.problem().inputs() != 3 {
+        return Err("another number of variables".into());
+    }
     let costs = Costs::start(rt.alloc(), 3)?;
     assert_eq!(rt; costs.cost_of(0x0000), Some(0));
     assert_eq!(rt; costs.cell_of(0x0000), None);
-    let costs = next_costs(&rt, rt.alloc(), costs, 1, &ONE)?;
+    let costs = next_costs(&rt, rt.alloc(), costs, &reserves, 1, &ONE)?;
     assert_eq!(rt; costs.cost_of(0x0003), None);
-    let costs = next_costs(&rt, rt.alloc(), costs, 2, &TWO)?;
-    let costs = next_costs(&rt, rt.alloc(), costs, 3, &THREE)?;
+    let costs = next_costs(&rt, rt.alloc(), costs, &reserves, 2, &TWO)?;
+    let costs = next_costs(&rt, rt.alloc(), costs, &reserves, 3, &THREE)?;
     assert_eq!(rt; costs.inputs(), 3);
     Ok(())
 }

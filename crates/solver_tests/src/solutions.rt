@@ -5,7 +5,7 @@ ghost use Rattle.std.specs.Prelude.{◌≡◌, IfOk};
 use counted_io::Counting;
 use dd_builder::build_tables;
 use order_model::{Gate, NoGate, Order, Workers};
-use order_solve::{Solution, solve, solve_alone};
+use order_solve::{Optimum, Solution, find_optimum, find_optimum_alone, solve, solve_alone};
 use pla_reader::read_cover;
 use sifting::laws::diagrams_have_their_problems_tables;
 use sifting::{Manager, Sifted};
@@ -98,13 +98,28 @@ fn solved<R: Threads + Sync, G: Gate>(
     Ok(solve(rt, alloc, tables.problem(), sifted, workers, gate)?)
 }
 
+/// The optimum of a cover, without its certificate.
+fn optimum_of<R: Threads + Sync>(rt: &R, alloc: Global, text: &[u8]) -> Result<Optimum, Fail> {
+    let tables = tables_of(rt, alloc, text)?;
+    let workers = Workers::new(2).ok_or("workers")?;
+    let sifted = sift_from_file_order(rt, alloc, &tables, workers)?;
+    Ok(find_optimum(rt, alloc, tables.problem(), sifted, workers, &NoGate)?)
+}
+
 #[test]
 fn solves_parity_and_the_multiplexer(rt: HostRuntime) -> Result<(), Fail> {
     for (text, sifted, order, levels, total, widths) in &ROWS {
-        let found = solved(&rt, rt.alloc(), text, sifted, &NoGate)?;
-        assert_eq!(rt; found.order.variables(), *order);
-        assert_eq!(rt; found.levels.as_slice(), *levels);
-        assert_eq!(rt; (found.total, found.widths), (*total, *widths));
+        let Solution {
+            optimum,
+            cells: _,
+            widths: taken,
+        } = solved(&rt, rt.alloc(), text, sifted, &NoGate)?;
+        assert_eq!(rt; taken, *widths);
+        for found in [optimum, optimum_of(&rt, rt.alloc(), text)?] {
+            assert_eq!(rt; found.order.variables(), *order);
+            assert_eq!(rt; found.levels.as_slice(), *levels);
+            assert_eq!(rt; found.total, *total);
+        }
     }
     Ok(())
 }
@@ -124,10 +139,14 @@ fn sift_alone(alloc: Global, tables: &Tables) -> Result<Sifted, Fail>
 fn solves_words_alone(rt: HostRuntime) -> Result<(), Fail> {
     let tables = Tables::of_words(rt.alloc(), 3, 1, &[0xff96])?;
     let sifted = sift_alone(rt.alloc(), &tables)?;
-    let found = solve_alone(rt.alloc(), tables.problem(), sifted)?;
-    assert_eq!(rt; found.order.variables(), [0u8, 1, 2].as_slice());
-    assert_eq!(rt; found.levels.as_slice(), [1u32, 2, 2].as_slice());
-    assert_eq!(rt; found.total, 5);
+    let solved = solve_alone(rt.alloc(), tables.problem(), sifted)?;
+    let again = sift_alone(rt.alloc(), &tables)?;
+    let narrow = find_optimum_alone(rt.alloc(), tables.problem(), again)?;
+    for found in [solved.optimum, narrow] {
+        assert_eq!(rt; found.order.variables(), [0u8, 1, 2].as_slice());
+        assert_eq!(rt; found.levels.as_slice(), [1u32, 2, 2].as_slice());
+        assert_eq!(rt; found.total, 5);
+    }
     Ok(())
 }
 
@@ -195,12 +214,13 @@ fn two_workers_meet(rt: HostRuntime) -> Result<(), Fail> {
     let gate = open_gate(rt.alloc())?;
     let sifted = [15u8, 14, 13, 12, 11, 10, 9, 8, 7, 6, 5, 4, 3, 2, 1, 0];
     let found = solved(&rt, rt.alloc(), ALL_ONES, &sifted, &gate)?;
+    let best = &found.optimum;
     assert_eq!(rt;
-        found.order.variables(),
+        best.order.variables(),
         [0u8, 1, 2, 3, 4, 5, 6, 7, 8, 9, 10, 11, 12, 13, 14, 15].as_slice()
     );
-    assert_eq!(rt; found.levels.as_slice(), [1u32; 16].as_slice());
-    assert!(rt; found.total == 16 && found.cells.is_empty());
+    assert_eq!(rt; best.levels.as_slice(), [1u32; 16].as_slice());
+    assert!(rt; best.total == 16 && found.cells.is_empty());
     assert_eq!(rt; gate.calls.load(Ordering::SeqCst), 65_535);
     assert_eq!(rt; gate.again.load(Ordering::SeqCst), 0);
     assert_eq!(rt; gate.missed.load(Ordering::SeqCst), 0);

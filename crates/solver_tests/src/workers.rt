@@ -9,7 +9,7 @@ ghost use Rattle.order_solve.specs.Benches.{AreCostsFor, IsBench, IsLayerFor, be
 use crate::solutions::tables_of;
 use layer_board::{Board, BoardSeat, CloseError, PostRefused};
 use layer_core::CellResult;
-use order_model::{Mask, NoGate, Pairs, Workers};
+use order_model::{Limit, Mask, NoGate, Pairs, Reserve, Workers};
 use order_solve::{Bench, Setting, WorkerEnd, work_layer};
 use std::alloc::Global;
 use std::test::Fail;
@@ -37,7 +37,7 @@ fn cells_by_one(
     let (board, mut seats) = Board::new(
         alloc,
         setting.problem(),
-        setting.bound(),
+        setting.limit(),
         layer,
         one,
         setting.pairs(),
@@ -261,7 +261,7 @@ fn hold_in_layer<R: Threads + Sync>(
     let (board, seats) = Board::new(
         alloc,
         setting.problem(),
-        setting.bound(),
+        setting.limit(),
         layer,
         workers,
         setting.pairs(),
@@ -274,7 +274,11 @@ fn held_claim<R: Threads + Sync>(rt: &R, alloc: Global, posts: bool) -> Result<(
     let tables = tables_of(rt, alloc, PARITY_OF_FOUR)?;
     let problem = tables.problem();
     let pairs = Pairs::none(problem.inputs());
-    let setting = Setting::new(problem, &pairs, 7);
+    let limit = Limit {
+        bound: 7,
+        reserve: Reserve::Variables,
+    };
+    let setting = Setting::new(problem, &pairs, limit);
     let before = first_costs(alloc, &setting)?;
     let layer = Layer::of(alloc, setting.inputs(), 2)?;
     let bench = Bench::new(&setting, &layer, &before);

@@ -1,18 +1,22 @@
 -- The cell of a set, from the best sum of cost and width.
 --     first_member      the smallest member of a mask
 --     some_member      a set of some layer but the first has a member
+--     members_widths      the widths of all members, if widths are counted on
 --     cell_found, cell_clipped      the cell where the best sum leaves room, and where none does
 use Rattle.std.proofs.Common.{◌≡◌, ℕ, ◌+◌, ◌-◌, ◌^◌, ◌<◌, ◌≤◌, true, ◌||◌, inl, inr, IsTrue, List, [], ◌∷◌, length, slice_index, unwrap_or, refl, sym, ap, ◌∙◌, arith, eqb, eqb-true, eq-eqb, w16}
 use Rattle.std.specs.Int.{bit_at, trailing_zeros}
 use Rattle.std.proofs.lemmas.Bool.{cases_lt, and_parts}
 use Rattle.std.proofs.lemmas.Nat.Bits.{bit_at-trailing_zeros, bit_at_above}
 use Rattle.order_model.specs.Functions.{Function}
-use Rattle.order_model.specs.Orders.{has, IsOrder, members, variables}
+use Rattle.order_model.specs.Orders.{has, IsOrder, members, variables, without}
+use Rattle.order_model.specs.Widths.{width}
 use Rattle.order_model.specs.Pairs.{Pair, Keeps, is_lawful}
-use Rattle.order_model.specs.Widths.{essentials_outside}
+use Rattle.order_model.specs.Reserves.{reserved}
+use Rattle.order_model.specs.declared.reserve.Reserve.{Reserve}
+use Rattle.order_model.specs.declared.reserve.Reserve.TheVariants.{Widths}
 use Rattle.order_model.specs.Cells.{first_of, cell_of, AreForCell}
 use Rattle.order_model.proofs.Bits.Masks.{has_members}
-use Rattle.order_model.proofs.Widths.Cells.{rising_members, first_has, first_le, found, clipped, members_zero}
+use Rattle.order_model.proofs.Widths.Cells.{rising_members, first_has, first_le, all_asked, found, clipped, members_zero}
 use Rattle.subset_layers.specs.Layers.{masks_of, layer_with}
 use Rattle.subset_layers.specs.Costs.{CostsOf, cost_without, AreTrueCosts, AreWidthsFor}
 use Rattle.subset_layers.specs.Sums.{IsBest}
@@ -42,33 +46,39 @@ first_member n mask pos small lt =
 
 -- ---- the cell
 
-module _ (c : CostsOf) (mask bound : ℕ) (widths : List ℕ) (F : List Function) (P : List Pair) (order : List ℕ) (o : IsOrder c.inputs order) (k : Keeps P order)
-    (next : has (masks_of (layer_with c.inputs (c.size + 1))) mask ≡ true) (true_costs : AreTrueCosts c.inputs F P bound c)
-    (true_widths : AreWidthsFor c.inputs F P bound mask c widths) where
+module _ (c : CostsOf) (r : Reserve) (mask bound : ℕ) (widths : List ℕ) (F : List Function) (P : List Pair) (order : List ℕ) (o : IsOrder c.inputs order) (k : Keeps P order)
+    (next : has (masks_of (layer_with c.inputs (c.size + 1))) mask ≡ true) (true_costs : AreTrueCosts c.inputs F P r bound c)
+    (true_widths : AreWidthsFor c.inputs F P r bound mask c widths) where
   n : ℕ
   n = c.inputs
 
-  for_cell : AreForCell c.inputs F P bound mask (cost_without c mask) (slice_index widths)
+  for_cell : AreForCell c.inputs F P r bound mask (cost_without c mask) (slice_index widths)
   for_cell = record {
     are_costs = λ x m. ap (λ o. unwrap_or o 0) (true_costs (mask - 2 ^ x) (less_one c.inputs c.size mask x next m));
     are_widths = true_widths;
   }
 
-  pub cell_found : (left sum x : ℕ) → is_lawful P (members c.inputs mask) ≡ true → left ≡ essentials_outside c.inputs F (members c.inputs mask) →
+  -- if widths are counted on and some member is a candidate, the widths of all members are taken
+  pub members_widths : (y : ℕ) → is_lawful P (members c.inputs mask) ≡ true → has (members c.inputs mask) y ≡ true → cost_without c mask y ≤ bound →
+      r ≡ Widths → (x : ℕ) → has (members c.inputs mask) x ≡ true →
+      slice_index widths x ≡ width c.inputs F (without x (members c.inputs mask)) x
+  members_widths y l m le is x h = true_widths l x (all_asked c.inputs bound mask (cost_without c mask) r y is m le x h)
+
+  pub cell_found : (left sum x : ℕ) → is_lawful P (members c.inputs mask) ≡ true → left ≡ reserved c.inputs F r (members c.inputs mask) →
       IsBest (λ y. IsTrue (has (members c.inputs mask) y)) bound (cost_without c mask) (slice_index widths) sum x → sum + left ≤ bound →
-      pair_of sum x ≡ cell_of c.inputs F P bound mask
+      pair_of sum x ≡ cell_of c.inputs F P r bound mask
   cell_found left sum x l e b room =
       let s = b.sum_is in
       ap (λ v. pair_of v x) s
-      ∙ sym (found c.inputs F P order o k bound mask (cost_without c mask) (slice_index widths) for_cell x l b.member b.within
+      ∙ sym (found c.inputs F P order o k r bound mask (cost_without c mask) (slice_index widths) for_cell x l b.member b.within
       (λ y m w. let t = b.least y m w in omega arith) (λ y lt m w z. b.smallest y lt m w (z ∙ sym s)) (omega arith))
 
-  pub cell_clipped : (left z : ℕ) → has (members c.inputs mask) z ≡ true → left ≡ essentials_outside c.inputs F (members c.inputs mask) →
+  pub cell_clipped : (left z : ℕ) → has (members c.inputs mask) z ≡ true → left ≡ reserved c.inputs F r (members c.inputs mask) →
       (is_lawful P (members c.inputs mask) ≡ true → (y : ℕ) → has (members c.inputs mask) y ≡ true → cost_without c mask y ≤ bound →
       bound < cost_without c mask y + slice_index widths y + left) →
-      pair_of (bound + 1) (first_of (members c.inputs mask)) ≡ cell_of c.inputs F P bound mask
+      pair_of (bound + 1) (first_of (members c.inputs mask)) ≡ cell_of c.inputs F P r bound mask
   cell_clipped left z m e none =
-      sym (clipped c.inputs F P order o k bound mask (cost_without c mask) (slice_index widths) for_cell z m (λ l y h w. let t = none l y h w in omega arith))
+      sym (clipped c.inputs F P order o k r bound mask (cost_without c mask) (slice_index widths) for_cell z m (λ l y h w. let t = none l y h w in omega arith))
 
 -- a set of a layer after the empty one has a member
 pub some_member : (n k mask : ℕ) → has (masks_of (layer_with n (k + 1))) mask ≡ true → (0 < mask) × (has (members n mask) (first_of (members n mask)) ≡ true)

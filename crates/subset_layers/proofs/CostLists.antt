@@ -14,6 +14,7 @@ use Rattle.std.proofs.lemmas.Option.{slice_get_within, slice_get_past, slice_get
 use Rattle.order_model.specs.Functions.{Function}
 use Rattle.order_model.specs.Orders.{has, members, without, variables, place_in}
 use Rattle.order_model.specs.Pairs.{Pair}
+use Rattle.order_model.specs.declared.reserve.Reserve.{Reserve}
 use Rattle.order_model.specs.Cells.{cell_of, cell_cost}
 use Rattle.order_model.proofs.Lists.Orders.{has_variables, place_get, place_at, place_small}
 use Rattle.order_model.proofs.Widths.Recurrence.{distinct_filter, distinct_variables, distinct_without, length_without}
@@ -97,36 +98,36 @@ unfolding cost_at
 cost_absent c mask e = ap (λ b. cond b (Some (option_map_or (λ (cell : Cell). cell.cost) (cell_at c mask) 0)) None) e
 
 -- a cell that was read is the definition's
-pub true_cell : (n : ℕ) (F : List Function) (P : List Pair) (bound : ℕ) (c : CostsOf) → AreTrueCells n F P bound c →
+pub true_cell : (n : ℕ) (F : List Function) (P : List Pair) (r : Reserve) (bound : ℕ) (c : CostsOf) → AreTrueCells n F P r bound c →
     (mask i : ℕ) (cell : Cell) → slice_get (masks_of (layer_of_costs c)) i ≡ Some mask → slice_get c.cells i ≡ Some cell →
-    as_pair cell ≡ cell_of n F P bound mask
-true_cell n F P bound c t mask i cell m e = t i (slice_get_within c.cells i cell e) cell e
-    ∙ ap (cell_of n F P bound) (get_or_from_slice_get (masks_of (layer_of_costs c)) i mask 0 m)
+    as_pair cell ≡ cell_of n F P r bound mask
+true_cell n F P r bound c t mask i cell m e = t i (slice_get_within c.cells i cell e) cell e
+    ∙ ap (cell_of n F P r bound) (get_or_from_slice_get (masks_of (layer_of_costs c)) i mask 0 m)
 
 -- the empty set's layer has its cost
-pub start_true : (n : ℕ) (F : List Function) (P : List Pair) (bound : ℕ) → AreTrueCosts n F P bound (start_costs n)
+pub start_true : (n : ℕ) (F : List Function) (P : List Pair) (r : Reserve) (bound : ℕ) → AreTrueCosts n F P r bound (start_costs n)
 unfolding cost_at cell_at cell_cost
-start_true n F P bound mask h =
+start_true n F P r bound mask h =
     let m = has_masks n 0 mask h in
     let none : mask ≡ 0 = zero_from_ones mask (ones-members n mask m.0 ∙ m.1) in
     ap (λ b. cond b (Some (option_map_or (λ (cell : Cell). cell.cost) (cell_at (start_costs n) mask) 0)) None) h
     ∙ ap (λ o. Some (option_map_or (λ (cell : Cell). cell.cost) o 0)) (slice_get_past [] (place_in (masks_of (layer_with n 0)) mask) (omega arith))
-    ∙ ap (λ b. Some (cond b 0 (cell_of n F P bound mask).0)) (sym (eq-eqb mask 0 none))
+    ∙ ap (λ b. Some (cond b 0 (cell_of n F P r bound mask).0)) (sym (eq-eqb mask 0 none))
 
 -- the costs of the definition's cells
-pub costs_from_cells : (n : ℕ) (F : List Function) (P : List Pair) (bound : ℕ) (c : CostsOf) → HaveCells c → 0 < c.size →
-    AreTrueCells n F P bound c → AreTrueCosts n F P bound c
+pub costs_from_cells : (n : ℕ) (F : List Function) (P : List Pair) (r : Reserve) (bound : ℕ) (c : CostsOf) → HaveCells c → 0 < c.size →
+    AreTrueCells n F P r bound c → AreTrueCosts n F P r bound c
 unfolding cell_cost
-costs_from_cells n F P bound c h lt t mask m =
+costs_from_cells n F P r bound c h lt t mask m =
     let i = place_in (masks_of (layer_of_costs c)) mask in
     let there = cell_there c h mask lt m in
     let found : slice_get (masks_of (layer_of_costs c)) i ≡ Some mask =
     slice_get-get_or (masks_of (layer_of_costs c)) i 0 (place_small (masks_of (layer_of_costs c)) mask m)
     ∙ ap Some (place_at (masks_of (layer_of_costs c)) mask (place_small (masks_of (layer_of_costs c)) mask m)) in
     let read : slice_get c.cells i ≡ Some (get_or c.cells i no_cell) = slice_get-get_or c.cells i no_cell there in
-    let is : as_pair (get_or c.cells i no_cell) ≡ cell_of n F P bound mask = true_cell n F P bound c t mask i (get_or c.cells i no_cell) found read in
+    let is : as_pair (get_or c.cells i no_cell) ≡ cell_of n F P r bound mask = true_cell n F P r bound c t mask i (get_or c.cells i no_cell) found read in
     cost_at_place c mask i found ∙ ap (λ o. Some (option_map_or (λ (cell : Cell). cell.cost) o 0)) read ∙ ap Some (ap (λ (p : ℕ × ℕ). p.0) is)
-    ∙ ap (λ b. Some (cond b 0 (cell_of n F P bound mask).0)) (sym (ne_eqb mask 0 not_empty))
+    ∙ ap (λ b. Some (cond b 0 (cell_of n F P r bound mask).0)) (sym (ne_eqb mask 0 not_empty))
   where
     no_cell : Cell
     no_cell = record { cost = 0; variable = 0 }

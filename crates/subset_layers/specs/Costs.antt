@@ -1,15 +1,19 @@
 -- The costs of the sets of a layer.
 --     CostsOf, layer_of_costs c      a layer with a cell for each of its sets; of the empty set's layer there is none
 --     cell_at c mask, cost_at c mask      the cell and the cost of a set, if it is in the layer; the empty set has the cost 0
---     AreTrueCosts n F P bound c      the costs are those of the definition's cells
---     AreWidthsFor n F P bound mask costs widths      the widths that the cell of a set needs are the definition's
+--     AreTrueCosts n F P r bound c      the costs are those of the definition's cells
+--     AreWidthsFor n F P r bound mask costs widths      the widths that the cell of a set takes are the definition's
+--     IsCellOnce v P bound mask costs widths cell      the cell of a set, once these are
 use Rattle.std.specs.Prelude.{◌≡◌, ℕ, ◌-◌, ◌^◌, ◌≤◌, Option, Some, None, List, [], if◌then◌else◌, ◌<◌, IsTrue, nat_eq, length, slice_get, slice_index, unwrap_or}
 use Rattle.std.specs.Option.{option_map_or}
 use Rattle.order_model.specs.Functions.{Function}
 use Rattle.order_model.specs.Orders.{has, members, without, place_in}
 use Rattle.order_model.specs.Pairs.{Pair, is_lawful}
 use Rattle.order_model.specs.Widths.{width}
-use Rattle.order_model.specs.Cells.{cell_of, cell_cost}
+use Rattle.order_model.specs.Problems.{functions}
+use Rattle.order_model.specs.Reserves.{ReservesOf}
+use Rattle.order_model.specs.declared.reserve.Reserve.{Reserve}
+use Rattle.order_model.specs.Cells.{cell_of, cell_cost, asked}
 use Rattle.subset_layers.specs.declared.costs.Cell.{Cell}
 use Rattle.subset_layers.specs.Layers.{LayerOf, layer_with, masks_of}
 
@@ -51,22 +55,29 @@ cost_at c mask =
     else None
 
 -- the costs are those of the definition's cells
-abbrev pub AreTrueCosts : ℕ → List Function → List Pair → ℕ → CostsOf → Type 0
-AreTrueCosts n F P bound c = (mask : ℕ) → IsTrue (has (masks_of (layer_of_costs c)) mask) →
-    cost_at c mask ≡ Some (cell_cost n F P bound mask)
+abbrev pub AreTrueCosts : ℕ → List Function → List Pair → Reserve → ℕ → CostsOf → Type 0
+AreTrueCosts n F P r bound c = (mask : ℕ) → IsTrue (has (masks_of (layer_of_costs c)) mask) →
+    cost_at c mask ≡ Some (cell_cost n F P r bound mask)
 
 -- the cells are the definition's
-abbrev pub AreTrueCells : ℕ → List Function → List Pair → ℕ → CostsOf → Type 0
-AreTrueCells n F P bound c =
+abbrev pub AreTrueCells : ℕ → List Function → List Pair → Reserve → ℕ → CostsOf → Type 0
+AreTrueCells n F P r bound c =
     (i : ℕ) → i < length c.cells → (cell : Cell) → slice_get c.cells i ≡ Some cell →
-    as_pair cell ≡ cell_of n F P bound (slice_index (masks_of (layer_of_costs c)) i)
+    as_pair cell ≡ cell_of n F P r bound (slice_index (masks_of (layer_of_costs c)) i)
 
 -- the cost of a set without one member
 abbrev pub cost_without : CostsOf → ℕ → ℕ → ℕ
 cost_without c mask x = unwrap_or (cost_at c (mask - 2 ^ x)) 0
 
--- the widths that the cell of a lawful set needs are the definition's: if the cost without the variable is within the bound
-abbrev pub AreWidthsFor : ℕ → List Function → List Pair → ℕ → ℕ → CostsOf → List ℕ → Type 0
-AreWidthsFor n F P bound mask c widths =
-    IsTrue (is_lawful P (members n mask)) → (x : ℕ) → IsTrue (has (members n mask) x) → cost_without c mask x ≤ bound →
+-- the widths that the cell of a lawful set takes are the definition's
+abbrev pub AreWidthsFor : ℕ → List Function → List Pair → Reserve → ℕ → ℕ → CostsOf → List ℕ → Type 0
+AreWidthsFor n F P r bound mask c widths =
+    IsTrue (is_lawful P (members n mask)) → (x : ℕ) → IsTrue (has (asked n r bound mask (cost_without c mask)) x) →
     slice_index widths x ≡ width n F (without x (members n mask)) x
+
+-- the cell of a set, once the costs and the widths that it takes are the definition's
+abbrev pub IsCellOnce : ReservesOf → List Pair → ℕ → ℕ → CostsOf → List ℕ → ℕ × ℕ → Type 0
+IsCellOnce v P bound mask c widths cell =
+    AreTrueCosts c.inputs (functions v.problem) P v.reserve bound c →
+    AreWidthsFor c.inputs (functions v.problem) P v.reserve bound mask c widths →
+    cell ≡ cell_of c.inputs (functions v.problem) P v.reserve bound mask

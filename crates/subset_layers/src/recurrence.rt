@@ -1,17 +1,15 @@
 //! The cell of a set, from the costs of the sets with one variable less.
 
 ghost use Rattle.std.specs.Prelude.{Option, ◌≡◌, ℕ, ◌+◌, ◌-◌, ◌^◌, ◌<◌, ◌≤◌, List, slice_index, IfSome, IsNone, IsTrue};
-ghost use Rattle.order_model.specs.Functions.{Function};
 ghost use Rattle.order_model.specs.Orders.{has, members, IsOrder};
 ghost use Rattle.order_model.specs.Pairs.{Pair, Keeps, is_lawful};
-ghost use Rattle.order_model.specs.Widths.{essential_mask, essentials_outside};
-ghost use Rattle.order_model.specs.Cells.{cell_of, first_of};
+ghost use Rattle.order_model.specs.Cells.{first_of};
 ghost use Rattle.subset_layers.specs.Layers.{masks_of, layer_with};
-ghost use Rattle.subset_layers.specs.Costs.{cost_without, as_pair, AreTrueCosts, AreWidthsFor};
+ghost use Rattle.subset_layers.specs.Costs.{cost_without, as_pair, IsCellOnce};
 ghost use Rattle.subset_layers.specs.Sums.{IsBest};
 
 use crate::costs::{Cell, Costs};
-use order_model::{Mask, Pairs, VarIx, contains};
+use order_model::{Mask, Pairs, Reserves, VarIx, contains};
 
 /// A sum of cost and width, and the variable that gives it.
 #[derive(Clone, Copy)]
@@ -67,33 +65,27 @@ fn clipped(mask: Mask, bound: u32) -> Cell
     }
 }
 
-/// How many variables of a set are not in another one.
-fn count_outside(essential: Mask, mask: Mask) -> u32
-    ensures few { result ≤ 16 }
-    ensures exact { (n : ℕ) (F : List Function) → essential ≡ essential_mask n F →
-        result ≡ essentials_outside n F (members n mask) }
-{
-    (essential & !mask).count_ones()
-}
-
 /// The cell of a lawful set.
-fn lawful_cell(mask: Mask, costs: &Costs, widths: &[u32; 16], bound: u32, essential: Mask) -> Cell
+fn lawful_cell(
+    mask: Mask,
+    costs: &Costs,
+    widths: &[u32; 16],
+    bound: u32,
+    reserves: &Reserves<'_>,
+) -> Cell
     requires next { IsTrue
         (has (masks_of (layer_with costs.now.inputs (costs.now.size + 1))) mask) }
+    requires inputs { reserves.now.problem.inputs ≡ costs.now.inputs }
     requires room { bound + 1 < 2 ^ 32 }
-    ensures { (F : List Function) (P : List Pair) (order : List ℕ) →
+    ensures { (P : List Pair) (order : List ℕ) →
         IsOrder costs.now.inputs order → Keeps P order →
         IsTrue (is_lawful P (members costs.now.inputs mask)) →
-        essential ≡ essential_mask costs.now.inputs F →
-        AreTrueCosts costs.now.inputs F P bound costs.now →
-        AreWidthsFor costs.now.inputs F P bound mask costs.now widths.now →
-        as_pair result ≡ cell_of costs.now.inputs F P bound mask }
+        IsCellOnce reserves.now P bound mask costs.now widths.now (as_pair result) }
 {
-    let outside = count_outside(essential, mask);
     match best_sum(mask, costs, widths, bound) {
         None => clipped(mask, bound),
         Some(best) => {
-            if best.sum + outside as u64 <= bound as u64 {
+            if best.sum + reserves.above(mask, widths) <= u64::from(bound) {
                 Cell {
                     cost: best.sum as u32,
                     variable: best.variable,
@@ -106,27 +98,27 @@ fn lawful_cell(mask: Mask, costs: &Costs, widths: &[u32; 16], bound: u32, essent
 }
 
 /// The cell of a set of the layer after the costs' one. Widths are needed of the members without
-/// which the cost is within the bound; the others may be anything.
+/// which the cost is within the bound, or of all members if widths are counted on above a set; the
+/// others may be anything.
 pub fn least_cell(
     mask: Mask,
     costs: &Costs,
     widths: &[u32; 16],
     bound: u32,
-    essential: Mask,
+    reserves: &Reserves<'_>,
     pairs: &Pairs,
 ) -> Cell
     requires next { IsTrue
         (has (masks_of (layer_with costs.now.inputs (costs.now.size + 1))) mask) }
     requires inputs { pairs.now.inputs ≡ costs.now.inputs }
+    requires functions { reserves.now.problem.inputs ≡ costs.now.inputs }
     requires room { bound + 1 < 2 ^ 32 }
-    ensures { (F : List Function) → essential ≡ essential_mask costs.now.inputs F →
-        AreTrueCosts costs.now.inputs F pairs.now.pairs bound costs.now →
-        AreWidthsFor costs.now.inputs F pairs.now.pairs bound mask costs.now widths.now →
-        as_pair result ≡ cell_of costs.now.inputs F pairs.now.pairs bound mask }
+    ensures { IsCellOnce reserves.now pairs.now.pairs bound mask costs.now widths.now
+        (as_pair result) }
 {
     prove!(pairs.inputs() <= 16);
     if pairs.lawful(mask) {
-        lawful_cell(mask, costs, widths, bound, essential)
+        lawful_cell(mask, costs, widths, bound, reserves)
     } else {
         clipped(mask, bound)
     }

@@ -6,6 +6,8 @@ use Rattle.order_model.specs.Functions.{Function}
 use Rattle.order_model.specs.Orders.{members}
 use Rattle.order_model.specs.Pairs.{Pair, is_lawful}
 use Rattle.order_model.specs.Widths.{least, essentials_outside}
+use Rattle.order_model.specs.Reserves.{reserved}
+use Rattle.order_model.specs.declared.reserve.Reserve.TheVariants.{Variables}
 use Rattle.order_model.specs.Cells.{cell_cost}
 use Rattle.order_model.specs.Certificates.{listed_masks}
 use Rattle.order_model.proofs.Lists.Orders.{same_bool}
@@ -15,26 +17,27 @@ module _ (n : ℕ) (F : List Function) (P : List Pair) (bound total : ℕ) (le :
   -- a listed set's cost is its cell's
   pub listed_cost : (mask : ℕ) → is_lawful P (members n mask) ≡ true →
       least n F P (members n mask) + essentials_outside n F (members n mask) ≤ bound →
-      cell_cost n F P bound mask ≡ least n F P (members n mask)
-  listed_cost mask l h = cost_open n F P bound mask (within_from n F P bound (members n mask) l h)
+      cell_cost n F P Variables bound mask ≡ least n F P (members n mask)
+  unfolding reserved
+  listed_cost mask l h = cost_open n F P Variables bound mask (within_from n F P Variables bound (members n mask) l h)
 
   pub listed_test : (mask : ℕ) →
       (is_lawful P (members n mask) && ltb (least n F P (members n mask) + essentials_outside n F (members n mask)) total) ≡ ltb
-      (cell_cost n F P bound mask + essentials_outside n F (members n mask)) total
+      (cell_cost n F P Variables bound mask + essentials_outside n F (members n mask)) total
   listed_test mask =
       same_bool _ _
       (λ h.
       let parts = and_parts (is_lawful P (members n mask)) (ltb (least n F P (members n mask) + essentials_outside n F (members n mask)) total) h in
       let lt = ltb-true (least n F P (members n mask) + essentials_outside n F (members n mask)) total parts.1 in
       let e = listed_cost mask parts.0 (omega arith) in
-      lt-ltb (cell_cost n F P bound mask + essentials_outside n F (members n mask)) total (omega arith))
+      lt-ltb (cell_cost n F P Variables bound mask + essentials_outside n F (members n mask)) total (omega arith))
       (λ h.
-      let lt = ltb-true (cell_cost n F P bound mask + essentials_outside n F (members n mask)) total h in
-      let known = cost_known n F P bound mask (omega arith) in
+      let lt = ltb-true (cell_cost n F P Variables bound mask + essentials_outside n F (members n mask)) total h in
+      let known = cost_known n F P Variables bound mask (omega arith) in
       let e = known.1 in
       and_from _ _ known.0 (lt-ltb (least n F P (members n mask) + essentials_outside n F (members n mask)) total (omega arith)))
 
   pub listed_by_cells : listed_masks n F P total ≡ filter
-      (λ mask. ltb (cell_cost n F P bound mask + essentials_outside n F (members n mask)) total) (range_with_len 0 (2 ^ n - 1))
+      (λ mask. ltb (cell_cost n F P Variables bound mask + essentials_outside n F (members n mask)) total) (range_with_len 0 (2 ^ n - 1))
   unfolding listed_masks
   listed_by_cells = λ i. filter (λ mask. listed_test mask i) (range_with_len 0 (2 ^ n - 1))

@@ -10,14 +10,17 @@ use Rattle.std.proofs.lemmas.Bool.{false≢true, true≢false, cases_Bool, cases
 use Rattle.order_model.specs.Functions.{Function}
 use Rattle.order_model.specs.Orders.{has, IsOrder, variables, members, without}
 use Rattle.order_model.specs.Pairs.{Pair, Keeps, is_lawful, tops}
-use Rattle.order_model.specs.Widths.{least, least_with_top, essentials_outside}
-use Rattle.order_model.specs.Cells.{first_of, is_within, best_top, cell_of, cell_cost, AreForCell, candidates, least_sum, has_room, cell_from}
+use Rattle.order_model.specs.Widths.{least, least_with_top}
+use Rattle.order_model.specs.Reserves.{reserved}
+use Rattle.order_model.specs.declared.reserve.Reserve.{Reserve}
+use Rattle.order_model.specs.declared.reserve.Reserve.TheVariants.{Variables, Widths}
+use Rattle.order_model.specs.Cells.{first_of, is_within, best_top, cell_of, cell_cost, AreForCell, candidates, asked, least_sum, has_room, cell_from}
 use Rattle.order_model.proofs.Lists.Sets.{among_map, among_from_map}
 use Rattle.order_model.proofs.Lists.Orders.{has_filter, has_range, has_variables}
 use Rattle.order_model.proofs.Precedence.Lists.{lawful_same, lawful_whole, are_lawful_nil}
 use Rattle.order_model.proofs.Widths.Recurrence.{IsLawfulSet, has_again, absent_without, distinct_without, least_of_lem, recurrence_le, recurrence_some, least_same, least-nil, has_among, among_has}
 use Rattle.order_model.proofs.Bits.Masks.{has_members, distinct_members, members_without}
-use Rattle.order_model.proofs.Widths.Essential.{essentials_same, essentials_step}
+use Rattle.order_model.proofs.Widths.Reserves.{reserved_same, reserved_step}
 use Rattle.order_model.proofs.Widths.Fewest.{ground}
 
 -- ---- rising lists
@@ -52,6 +55,10 @@ pub first_le : (xs : List ℕ) (y : ℕ) → IsRising xs → has xs y ≡ true �
 first_le [] y r h = absurd (false≢true h)
 first_le (x ∷ xs) y r h = elim (or_cases (nat_eq y x) (has xs y) h) [ inl e ↦ let s = eqb-true y x e in omega arith | inr k ↦ let s = r.0 y k in omega arith ]
 
+-- a member of a mask is a variable
+pub member_below : (n mask x : ℕ) → has (members n mask) x ≡ true → x < n
+member_below n mask x h = (has_variables n x).0 (and_parts (has (variables n) x) (eqb (bit_at mask x) 1) (sym (has_members n mask x) ∙ h)).0
+
 -- ---- cells
 
 module _ (n : ℕ) (F : List Function) (P : List Pair) (base : List ℕ) (o : IsOrder n base) (k : Keeps P base) where
@@ -59,7 +66,7 @@ module _ (n : ℕ) (F : List Function) (P : List Pair) (base : List ℕ) (o : Is
   pub lawful_members : (mask : ℕ) → is_lawful P (members n mask) ≡ true → IsLawfulSet P base (members n mask)
   lawful_members mask l = record {
     once = distinct_members n mask;
-    within = λ y h. (o.all y).1 ((has_variables n y).0 (and_parts (has (variables n) y) (eqb (bit_at mask y) 1) (sym (has_members n mask y) ∙ h)).0);
+    within = λ y h. (o.all y).1 (member_below n mask y h);
     lawful = l;
   }
 
@@ -82,17 +89,17 @@ module _ (n : ℕ) (F : List Function) (P : List Pair) (base : List ℕ) (o : Is
       )
 
 -- the test whether a set is within the bound, in its parts
-pub within_parts : (n : ℕ) (F : List Function) (P : List Pair) (bound : ℕ) (S : List ℕ) → is_within n F P bound S ≡ true →
-    (is_lawful P S ≡ true) × (least n F P S + essentials_outside n F S ≤ bound)
+pub within_parts : (n : ℕ) (F : List Function) (P : List Pair) (r : Reserve) (bound : ℕ) (S : List ℕ) → is_within n F P r bound S ≡ true →
+    (is_lawful P S ≡ true) × (least n F P S + reserved n F r S ≤ bound)
 unfolding is_within
-within_parts n F P bound S h =
-    let parts = and_parts (is_lawful P S) (leb (least n F P S + essentials_outside n F S) bound) h in
-    (parts.0, leb-true (least n F P S + essentials_outside n F S) bound parts.1)
+within_parts n F P r bound S h =
+    let parts = and_parts (is_lawful P S) (leb (least n F P S + reserved n F r S) bound) h in
+    (parts.0, leb-true (least n F P S + reserved n F r S) bound parts.1)
 
-pub within_from : (n : ℕ) (F : List Function) (P : List Pair) (bound : ℕ) (S : List ℕ) → is_lawful P S ≡ true →
-    least n F P S + essentials_outside n F S ≤ bound → is_within n F P bound S ≡ true
+pub within_from : (n : ℕ) (F : List Function) (P : List Pair) (r : Reserve) (bound : ℕ) (S : List ℕ) → is_lawful P S ≡ true →
+    least n F P S + reserved n F r S ≤ bound → is_within n F P r bound S ≡ true
 unfolding is_within
-within_from n F P bound S l h = and_from _ _ l (le-leb (least n F P S + essentials_outside n F S) bound h)
+within_from n F P r bound S l h = and_from _ _ l (le-leb (least n F P S + reserved n F r S) bound h)
 
 -- a cell within the bound
 pub record IsOpenCell (n : ℕ) (F : List Function) (P : List Pair) (mask c x : ℕ) : Type 0 where
@@ -130,23 +137,23 @@ rising_bests n F P mask =
     rising_filter (λ x. nat_eq (least_with_top n F P (members n mask) x) (least n F P (members n mask))) (tops P (members n mask))
     (rising_filter (λ x. is_lawful P (without x (members n mask))) (members n mask) (rising_members n mask))
 
-pub open_is : (n : ℕ) (F : List Function) (P : List Pair) (bound mask : ℕ) → is_within n F P bound (members n mask) ≡ true →
-    cell_of n F P bound mask ≡ (least n F P (members n mask), best_top n F P (members n mask))
+pub open_is : (n : ℕ) (F : List Function) (P : List Pair) (r : Reserve) (bound mask : ℕ) → is_within n F P r bound (members n mask) ≡ true →
+    cell_of n F P r bound mask ≡ (least n F P (members n mask), best_top n F P (members n mask))
 unfolding cell_of
-open_is n F P bound mask h = ap (λ b. cond b (least n F P (members n mask), best_top n F P (members n mask)) (bound + 1, first_of (members n mask))) h
+open_is n F P r bound mask h = ap (λ b. cond b (least n F P (members n mask), best_top n F P (members n mask)) (bound + 1, first_of (members n mask))) h
 
 -- a clipped cell
-pub closed_cell : (n : ℕ) (F : List Function) (P : List Pair) (bound mask : ℕ) → is_within n F P bound (members n mask) ≡ false →
-    cell_of n F P bound mask ≡ (bound + 1, first_of (members n mask))
+pub closed_cell : (n : ℕ) (F : List Function) (P : List Pair) (r : Reserve) (bound mask : ℕ) → is_within n F P r bound (members n mask) ≡ false →
+    cell_of n F P r bound mask ≡ (bound + 1, first_of (members n mask))
 unfolding cell_of
-closed_cell n F P bound mask h = ap (λ b. cond b (least n F P (members n mask), best_top n F P (members n mask)) (bound + 1, first_of (members n mask))) h
+closed_cell n F P r bound mask h = ap (λ b. cond b (least n F P (members n mask), best_top n F P (members n mask)) (bound + 1, first_of (members n mask))) h
 
-module _ (n : ℕ) (F : List Function) (P : List Pair) (base : List ℕ) (o : IsOrder n base) (k : Keeps P base) (bound mask z : ℕ)
+module _ (n : ℕ) (F : List Function) (P : List Pair) (base : List ℕ) (o : IsOrder n base) (k : Keeps P base) (r : Reserve) (bound mask z : ℕ)
     (some : has (members n mask) z ≡ true) where
-  pub open_cell : is_within n F P bound (members n mask) ≡ true → IsOpenCell n F P mask (cell_of n F P bound mask).0 (cell_of n F P bound mask).1
+  pub open_cell : is_within n F P r bound (members n mask) ≡ true → IsOpenCell n F P mask (cell_of n F P r bound mask).0 (cell_of n F P r bound mask).1
   unfolding best_top
   open_cell h =
-      let parts = within_parts n F P bound (members n mask) h in
+      let parts = within_parts n F P r bound (members n mask) h in
       let set = lawful_members n F P base o k mask parts.0 in
       let top = recurrence_some n F P base (ground n P base o k) (members n mask) z set some in
       let x = first_of (bests n F P (members n mask)) in
@@ -160,48 +167,48 @@ module _ (n : ℕ) (F : List Function) (P : List Pair) (base : List ℕ) (o : Is
         best = there.2;
         smallest = λ y m l e. first_le (bests n F P (members n mask)) y (rising_bests n F P mask) (bests_from n F P (members n mask) y m l e);
       } in
-      subst (λ (c : ℕ × ℕ). IsOpenCell n F P mask c.0 c.1) (sym (open_is n F P bound mask h)) is
+      subst (λ (c : ℕ × ℕ). IsOpenCell n F P mask c.0 c.1) (sym (open_is n F P r bound mask h)) is
 
   -- the variable of a cell is a member
-  pub cell_member : has (members n mask) (cell_of n F P bound mask).1 ≡ true
+  pub cell_member : has (members n mask) (cell_of n F P r bound mask).1 ≡ true
   cell_member =
-      elim (cases_Bool (is_within n F P bound (members n mask))) [
+      elim (cases_Bool (is_within n F P r bound (members n mask))) [
         | inl t ↦ (open_cell t).member
-        | inr e ↦ ap (λ (c : ℕ × ℕ). has (members n mask) c.1) (closed_cell n F P bound mask e) ∙ first_has (members n mask) z some
+        | inr e ↦ ap (λ (c : ℕ × ℕ). has (members n mask) c.1) (closed_cell n F P r bound mask e) ∙ first_has (members n mask) z some
       ]
 
 -- the parts of a cell within the bound
-pub cell_cost_is : (n : ℕ) (F : List Function) (P : List Pair) (bound mask : ℕ) → is_within n F P bound (members n mask) ≡ true →
-    (cell_of n F P bound mask).0 ≡ least n F P (members n mask)
-cell_cost_is n F P bound mask h = ap (λ (c : ℕ × ℕ). c.0) (open_is n F P bound mask h)
+pub cell_cost_is : (n : ℕ) (F : List Function) (P : List Pair) (r : Reserve) (bound mask : ℕ) → is_within n F P r bound (members n mask) ≡ true →
+    (cell_of n F P r bound mask).0 ≡ least n F P (members n mask)
+cell_cost_is n F P r bound mask h = ap (λ (c : ℕ × ℕ). c.0) (open_is n F P r bound mask h)
 
-pub cell_top : (n : ℕ) (F : List Function) (P : List Pair) (base : List ℕ) (bound mask z : ℕ) → IsOrder n base → Keeps P base →
-    has (members n mask) z ≡ true → is_within n F P bound (members n mask) ≡ true →
-    (has (tops P (members n mask)) (cell_of n F P bound mask).1 ≡ true)
-    × (least_with_top n F P (members n mask) (cell_of n F P bound mask).1 ≡ least n F P (members n mask))
-cell_top n F P base bound mask z o k m h =
-    let cell = open_cell n F P base o k bound mask z m h in
-    (has_tops P (members n mask) (cell_of n F P bound mask).1 ∙ and_from _ _ cell.member cell.top, cell.best)
+pub cell_top : (n : ℕ) (F : List Function) (P : List Pair) (base : List ℕ) (r : Reserve) (bound mask z : ℕ) → IsOrder n base → Keeps P base →
+    has (members n mask) z ≡ true → is_within n F P r bound (members n mask) ≡ true →
+    (has (tops P (members n mask)) (cell_of n F P r bound mask).1 ≡ true)
+    × (least_with_top n F P (members n mask) (cell_of n F P r bound mask).1 ≡ least n F P (members n mask))
+cell_top n F P base r bound mask z o k m h =
+    let cell = open_cell n F P base o k r bound mask z m h in
+    (has_tops P (members n mask) (cell_of n F P r bound mask).1 ∙ and_from _ _ cell.member cell.top, cell.best)
 
-pub cell_smallest : (n : ℕ) (F : List Function) (P : List Pair) (base : List ℕ) (bound mask y : ℕ) → IsOrder n base → Keeps P base →
-    is_within n F P bound (members n mask) ≡ true →
-    has (tops P (members n mask)) y ≡ true → least_with_top n F P (members n mask) y ≡ least n F P (members n mask) → (cell_of n F P bound mask).1 ≤ y
-cell_smallest n F P base bound mask y o k h t e =
+pub cell_smallest : (n : ℕ) (F : List Function) (P : List Pair) (base : List ℕ) (r : Reserve) (bound mask y : ℕ) → IsOrder n base → Keeps P base →
+    is_within n F P r bound (members n mask) ≡ true →
+    has (tops P (members n mask)) y ≡ true → least_with_top n F P (members n mask) y ≡ least n F P (members n mask) → (cell_of n F P r bound mask).1 ≤ y
+cell_smallest n F P base r bound mask y o k h t e =
     let parts = and_parts (has (members n mask) y) (is_lawful P (without y (members n mask))) (sym (has_tops P (members n mask) y) ∙ t) in
-    (open_cell n F P base o k bound mask y parts.0 h).smallest y parts.0 parts.1 e
+    (open_cell n F P base o k r bound mask y parts.0 h).smallest y parts.0 parts.1 e
 
 -- below a top of the least cost the set is within the bound, too
-pub next_within : (n : ℕ) (F : List Function) (P : List Pair) (base : List ℕ) → IsOrder n base → Keeps P base → (bound mask x : ℕ) →
-    is_within n F P bound (members n mask) ≡ true →
+pub next_within : (n : ℕ) (F : List Function) (P : List Pair) (base : List ℕ) → IsOrder n base → Keeps P base → (r : Reserve) (bound mask x : ℕ) →
+    is_within n F P r bound (members n mask) ≡ true →
     has (members n mask) x ≡ true → is_lawful P (without x (members n mask)) ≡ true → least_with_top n F P (members n mask) x ≡ least n F P (members n mask) →
-    is_within n F P bound (members n (mask - 2 ^ x)) ≡ true
-next_within n F P base o k bound mask x h m l e =
-    let parts = within_parts n F P bound (members n mask) h in
+    is_within n F P r bound (members n (mask - 2 ^ x)) ≡ true
+next_within n F P base o k r bound mask x h m l e =
+    let parts = within_parts n F P r bound (members n mask) h in
     let rest = less_one n F P base o k mask x m l in
-    let step = essentials_step n F (without x (members n mask)) x (absent_without x (members n mask)) in
-    let a = essentials_same n F (x ∷ without x (members n mask)) (members n mask) (has_again x (members n mask) m) in
-    let b = essentials_same n F (members n (mask - 2 ^ x)) (without x (members n mask)) (members_without n mask x m) in
-    within_from n F P bound (members n (mask - 2 ^ x)) rest.0 (omega (arith, parts.1, rest.1))
+    let step = reserved_step n F r (without x (members n mask)) x (absent_without x (members n mask)) (member_below n mask x m) in
+    let a = reserved_same n F r (x ∷ without x (members n mask)) (members n mask) (has_again x (members n mask) m) in
+    let b = reserved_same n F r (members n (mask - 2 ^ x)) (without x (members n mask)) (members_without n mask x m) in
+    within_from n F P r bound (members n (mask - 2 ^ x)) rest.0 (omega (arith, parts.1, rest.1))
 
 -- ---- costs
 
@@ -214,57 +221,95 @@ unfolding members
 members_zero n = filter_none (λ x. eqb (bit_at 0 x) 1) (variables n) (λ y. ap (λ b. eqb b 1) (bit_at-zero y))
 
 -- within the bound a set's cost is its least cost
-pub cost_open : (n : ℕ) (F : List Function) (P : List Pair) (bound mask : ℕ) → is_within n F P bound (members n mask) ≡ true →
-    cell_cost n F P bound mask ≡ least n F P (members n mask)
+pub cost_open : (n : ℕ) (F : List Function) (P : List Pair) (r : Reserve) (bound mask : ℕ) → is_within n F P r bound (members n mask) ≡ true →
+    cell_cost n F P r bound mask ≡ least n F P (members n mask)
 unfolding cell_cost
-cost_open n F P bound mask h = by (nat_eq mask 0) refl
+cost_open n F P r bound mask h = by (nat_eq mask 0) refl
   where
-    by : (b : Bool) → nat_eq mask 0 ≡ b → cond b 0 (cell_of n F P bound mask).0 ≡ least n F P (members n mask)
+    by : (b : Bool) → nat_eq mask 0 ≡ b → cond b 0 (cell_of n F P r bound mask).0 ≡ least n F P (members n mask)
     by true e = sym (ap (λ m. least n F P (members n m)) (eqb-true mask 0 e) ∙ ap (least n F P) (members_zero n) ∙ least-nil n F P)
-    by false e = ap (λ (c : ℕ × ℕ). c.0) (open_is n F P bound mask h)
+    by false e = ap (λ (c : ℕ × ℕ). c.0) (open_is n F P r bound mask h)
 
 -- a cost that is not above the bound is the least cost of a lawful set
-pub cost_known : (n : ℕ) (F : List Function) (P : List Pair) (bound mask : ℕ) → cell_cost n F P bound mask ≤ bound →
-    (is_lawful P (members n mask) ≡ true) × (cell_cost n F P bound mask ≡ least n F P (members n mask))
+pub cost_known : (n : ℕ) (F : List Function) (P : List Pair) (r : Reserve) (bound mask : ℕ) → cell_cost n F P r bound mask ≤ bound →
+    (is_lawful P (members n mask) ≡ true) × (cell_cost n F P r bound mask ≡ least n F P (members n mask))
 unfolding cell_cost
-cost_known n F P bound mask h = by (nat_eq mask 0) refl h
+cost_known n F P r bound mask h = by (nat_eq mask 0) refl h
   where
-    by : (b : Bool) → nat_eq mask 0 ≡ b → cond b 0 (cell_of n F P bound mask).0 ≤ bound →
-        (is_lawful P (members n mask) ≡ true) × (cond b 0 (cell_of n F P bound mask).0 ≡ least n F P (members n mask))
+    by : (b : Bool) → nat_eq mask 0 ≡ b → cond b 0 (cell_of n F P r bound mask).0 ≤ bound →
+        (is_lawful P (members n mask) ≡ true) × (cond b 0 (cell_of n F P r bound mask).0 ≡ least n F P (members n mask))
     by true e le =
         let none = ap (members n) (eqb-true mask 0 e) ∙ members_zero n in
         (ap (is_lawful P) none ∙ lawful_whole P [] (are_lawful_nil P), sym (ap (least n F P) none ∙ least-nil n F P))
     by false e le =
-        elim (cases_Bool (is_within n F P bound (members n mask))) [
-          | inl t ↦ ((within_parts n F P bound (members n mask) t).0, ap (λ (c : ℕ × ℕ). c.0) (open_is n F P bound mask t))
-          | inr f ↦ let s = ap (λ (c : ℕ × ℕ). c.0) (closed_cell n F P bound mask f) in absurd (omega arith)
+        elim (cases_Bool (is_within n F P r bound (members n mask))) [
+          | inl t ↦ ((within_parts n F P r bound (members n mask) t).0, ap (λ (c : ℕ × ℕ). c.0) (open_is n F P r bound mask t))
+          | inr f ↦ let s = ap (λ (c : ℕ × ℕ). c.0) (closed_cell n F P r bound mask f) in absurd (omega arith)
         ]
 
 -- ---- the cell from smaller sets
 
-module _ (n : ℕ) (F : List Function) (P : List Pair) (base : List ℕ) (o : IsOrder n base) (k : Keeps P base) (bound mask : ℕ)
-    (costs widths : ℕ → ℕ) (given : AreForCell n F P bound mask costs widths) where
+pub nonempty : (xs : List ℕ) → not (nat_eq (length xs) 0) ≡ true → (z : ℕ) × (has xs z ≡ true)
+nonempty [] h = absurd (false≢true h)
+nonempty (x ∷ xs) h = (x, or_left _ _ (eq-eqb x x refl))
+
+-- a list that has something is not empty
+pub some_length : (xs : List ℕ) (z : ℕ) → has xs z ≡ true → nat_eq (length xs) 0 ≡ false
+some_length [] z h = absurd (false≢true h)
+some_length (x ∷ xs) z h = ne_eqb (length (x ∷ xs)) 0 (λ e. omega (arith, e))
+
+never_empty : (xs : List ℕ) (z : ℕ) → has xs z ≡ true → not (nat_eq (length xs) 0) ≡ true
+never_empty xs z h = not_from_false _ (some_length xs z h)
+
+-- the candidates, and that their widths are taken
+module _ (n bound mask : ℕ) (costs : ℕ → ℕ) where
+  pub candidate_parts : (y : ℕ) → has (candidates n bound mask costs) y ≡ true → (has (members n mask) y ≡ true) × (costs y ≤ bound)
+  unfolding candidates
+  candidate_parts y h =
+      let parts = and_parts (has (members n mask) y) (leb (costs y) bound) (sym (has_filter (λ x. leb (costs x) bound) (members n mask) y) ∙ h) in
+      (parts.0, leb-true (costs y) bound parts.1)
+
+  pub candidate_from : (y : ℕ) → has (members n mask) y ≡ true → costs y ≤ bound → has (candidates n bound mask costs) y ≡ true
+  unfolding candidates
+  candidate_from y h le = has_filter (λ x. leb (costs x) bound) (members n mask) y ∙ and_from _ _ h (le-leb (costs y) bound le)
+
+  pub candidate_asked : (r : Reserve) (y : ℕ) → has (members n mask) y ≡ true → costs y ≤ bound → has (asked n r bound mask costs) y ≡ true
+  unfolding asked
+  candidate_asked Variables y h le = candidate_from y h le
+  candidate_asked Widths y h le =
+      ap (λ b. has (cond b [] (members n mask)) y) (some_length (candidates n bound mask costs) y (candidate_from y h le)) ∙ h
+
+  -- if widths are counted on and there is a candidate, those of all members are taken
+  pub all_asked : (r : Reserve) (y : ℕ) → r ≡ Widths → has (members n mask) y ≡ true → costs y ≤ bound → (x : ℕ) → has (members n mask) x ≡ true →
+      has (asked n r bound mask costs) x ≡ true
+  unfolding asked
+  all_asked Variables y is h le x m = absurd cc
+  all_asked Widths y is h le x m =
+      ap (λ b. has (cond b [] (members n mask)) x) (some_length (candidates n bound mask costs) y (candidate_from y h le)) ∙ m
+
+module _ (n : ℕ) (F : List Function) (P : List Pair) (base : List ℕ) (o : IsOrder n base) (k : Keeps P base) (r : Reserve) (bound mask : ℕ)
+    (costs widths : ℕ → ℕ) (given : AreForCell n F P r bound mask costs widths) where
   -- the sum of a candidate is the least cost with it on top
   pub candidate_sum : is_lawful P (members n mask) ≡ true → (y : ℕ) → has (members n mask) y ≡ true → costs y ≤ bound →
       (is_lawful P (without y (members n mask)) ≡ true) × (costs y + widths y ≡ least_with_top n F P (members n mask) y)
       × (least n F P (members n mask) ≤ costs y + widths y)
   candidate_sum l y m le =
       let c = given.are_costs y m in
-      let known = cost_known n F P bound (mask - 2 ^ y) (omega arith) in
+      let known = cost_known n F P r bound (mask - 2 ^ y) (omega arith) in
       let low = sym (lawful_same P (members n (mask - 2 ^ y)) (without y (members n mask)) (members_without n mask y m)) ∙ known.0 in
       let rest = less_one n F P base o k mask y m low in
-      let w = given.are_widths l y m le in
+      let w = given.are_widths l y (candidate_asked n bound mask costs r y m le) in
       let ge = recurrence_le n F P base (ground n P base o k) (members n mask) y (lawful_members n F P base o k mask l) m low in
       (low, omega (arith, known.1, rest.1), omega (arith, known.1, rest.1))
 
   -- within the bound, a top of the least cost is a candidate
-  pub best_candidate : is_within n F P bound (members n mask) ≡ true → (y : ℕ) → has (members n mask) y ≡ true →
+  pub best_candidate : is_within n F P r bound (members n mask) ≡ true → (y : ℕ) → has (members n mask) y ≡ true →
       is_lawful P (without y (members n mask)) ≡ true →
       least_with_top n F P (members n mask) y ≡ least n F P (members n mask) → costs y ≤ bound
   best_candidate h y m l e =
-      let next = next_within n F P base o k bound mask y h m l e in
-      let c = cost_open n F P bound (mask - 2 ^ y) next in
-      let parts = within_parts n F P bound (members n (mask - 2 ^ y)) next in
+      let next = next_within n F P base o k r bound mask y h m l e in
+      let c = cost_open n F P r bound (mask - 2 ^ y) next in
+      let parts = within_parts n F P r bound (members n (mask - 2 ^ y)) next in
       let d = given.are_costs y m in
       omega (arith, parts.1)
 
@@ -272,12 +317,12 @@ module _ (n : ℕ) (F : List Function) (P : List Pair) (base : List ℕ) (o : Is
   pub found : (x : ℕ) → is_lawful P (members n mask) ≡ true → has (members n mask) x ≡ true → costs x ≤ bound →
       ((y : ℕ) → has (members n mask) y ≡ true → costs y ≤ bound → costs x + widths x ≤ costs y + widths y) →
       ((y : ℕ) → y < x → has (members n mask) y ≡ true → costs y ≤ bound → costs y + widths y ≢ costs x + widths x) →
-      costs x + widths x + essentials_outside n F (members n mask) ≤ bound → cell_of n F P bound mask ≡ (costs x + widths x, x)
+      costs x + widths x + reserved n F r (members n mask) ≤ bound → cell_of n F P r bound mask ≡ (costs x + widths x, x)
   found x l m le least_one first room =
       let own = candidate_sum l x m le in
-      let within = within_from n F P bound (members n mask) l (omega (arith, own.2)) in
-      let cell = open_cell n F P base o k bound mask x m within in
-      let y = (cell_of n F P bound mask).1 in
+      let within = within_from n F P r bound (members n mask) l (omega (arith, own.2)) in
+      let cell = open_cell n F P base o k r bound mask x m within in
+      let y = (cell_of n F P r bound mask).1 in
       let c = best_candidate within y cell.member cell.top cell.best in
       let other = candidate_sum l y cell.member c in
       let a = least_one y cell.member c in
@@ -285,41 +330,31 @@ module _ (n : ℕ) (F : List Function) (P : List Pair) (base : List ℕ) (o : Is
       let up = cell.smallest x m own.0 (sym own.1 ∙ e) in
       let down : x ≤ y = elim (cases_lt y x) [ inl lt ↦ absurd (first y lt cell.member c (omega (arith, other.1, cell.best))) | inr ge ↦ ge ] in
       let cost = cell.cost in
-      let both : ((cell_of n F P bound mask).0 ≡ costs x + widths x) × ((cell_of n F P bound mask).1 ≡ x) = (omega arith, omega arith) in
+      let both : ((cell_of n F P r bound mask).0 ≡ costs x + widths x) × ((cell_of n F P r bound mask).1 ≡ x) = (omega arith, omega arith) in
       λ i. (both.0 i, both.1 i)
 
   -- where no candidate leaves room within the bound, the cell is clipped
   pub clipped : (z : ℕ) → has (members n mask) z ≡ true →
       (is_lawful P (members n mask) ≡ true → (y : ℕ) → has (members n mask) y ≡ true → costs y ≤ bound →
-      bound < costs y + widths y + essentials_outside n F (members n mask)) →
-      cell_of n F P bound mask ≡ (bound + 1, first_of (members n mask))
+      bound < costs y + widths y + reserved n F r (members n mask)) →
+      cell_of n F P r bound mask ≡ (bound + 1, first_of (members n mask))
   clipped z m none =
-      elim (cases_Bool (is_within n F P bound (members n mask))) [
+      elim (cases_Bool (is_within n F P r bound (members n mask))) [
         | inl t ↦
-            let parts = within_parts n F P bound (members n mask) t in
-            let cell = open_cell n F P base o k bound mask z m t in
-            let y = (cell_of n F P bound mask).1 in
+            let parts = within_parts n F P r bound (members n mask) t in
+            let cell = open_cell n F P base o k r bound mask z m t in
+            let y = (cell_of n F P r bound mask).1 in
             let c = best_candidate t y cell.member cell.top cell.best in
             let s = candidate_sum parts.0 y cell.member c in
             let lt = none parts.0 y cell.member c in
             absurd (omega (arith, parts.1, s.1, cell.best))
-        | inr f ↦ closed_cell n F P bound mask f
+        | inr f ↦ closed_cell n F P r bound mask f
       ]
 
   -- ---- the cell as a function of the costs and widths
 
   Sum : ℕ → ℕ
   Sum y = costs y + widths y
-
-  candidate_parts : (y : ℕ) → has (candidates n bound mask costs) y ≡ true → (has (members n mask) y ≡ true) × (costs y ≤ bound)
-  unfolding candidates
-  candidate_parts y h =
-      let parts = and_parts (has (members n mask) y) (leb (costs y) bound) (sym (has_filter (λ x. leb (costs x) bound) (members n mask) y) ∙ h) in
-      (parts.0, leb-true (costs y) bound parts.1)
-
-  candidate_from : (y : ℕ) → has (members n mask) y ≡ true → costs y ≤ bound → has (candidates n bound mask costs) y ≡ true
-  unfolding candidates
-  candidate_from y h le = has_filter (λ x. leb (costs x) bound) (members n mask) y ∙ and_from _ _ h (le-leb (costs y) bound le)
 
   -- the least sum is some candidate's, and no candidate's is less
   sum_lem : (z : ℕ) → has (candidates n bound mask costs) z ≡ true →
@@ -334,16 +369,8 @@ module _ (n : ℕ) (F : List Function) (P : List Pair) (base : List ℕ) (o : Is
         λ y m. all.1 (Sum y) (among_map Sum y (candidates n bound mask costs) (has_among (candidates n bound mask costs) y m)),
       )
 
-  nonempty : (xs : List ℕ) → not (nat_eq (length xs) 0) ≡ true → (z : ℕ) × (has xs z ≡ true)
-  nonempty [] h = absurd (false≢true h)
-  nonempty (x ∷ xs) h = (x, or_left _ _ (eq-eqb x x refl))
-
-  never_empty : (xs : List ℕ) (z : ℕ) → has xs z ≡ true → not (nat_eq (length xs) 0) ≡ true
-  never_empty [] z h = absurd (false≢true h)
-  never_empty (x ∷ xs) z h = not_from_false _ (ne_eqb (length (x ∷ xs)) 0 (λ e. omega (arith, e)))
-
   left : ℕ
-  left = essentials_outside n F (members n mask)
+  left = reserved n F r (members n mask)
 
   firsts : List ℕ
   firsts = filter (λ x. nat_eq (costs x + widths x) (least_sum n bound mask costs widths)) (candidates n bound mask costs)
@@ -367,7 +394,7 @@ module _ (n : ℕ) (F : List Function) (P : List Pair) (base : List ℕ) (o : Is
       rising_filter (λ x. nat_eq (costs x + widths x) (least_sum n bound mask costs widths)) (candidates n bound mask costs)
       (rising_filter (λ x. leb (costs x) bound) (members n mask) (rising_members n mask))
 
-  with_room : has_room n P bound left mask costs widths ≡ true → cell_of n F P bound mask ≡ (least_sum n bound mask costs widths, first_of firsts)
+  with_room : has_room n P bound left mask costs widths ≡ true → cell_of n F P r bound mask ≡ (least_sum n bound mask costs widths, first_of firsts)
   unfolding has_room left
   with_room h =
       let parts =
@@ -379,21 +406,21 @@ module _ (n : ℕ) (F : List Function) (P : List Pair) (base : List ℕ) (o : Is
       let sums = sum_lem one.0 one.1 in
       let x = first_of firsts in
       let own = firsts_parts x (first_has firsts sums.0.0 (firsts_from sums.0.0 sums.0.1 sums.0.2)) in
-      let there = candidate_parts x own.0 in
+      let there = candidate_parts n bound mask costs x own.0 in
       let e = own.1 in
       let is = found x parts.0 there.0 there.1
-      (λ y m c. let s = sums.1 y (candidate_from y m c) in omega arith)
-      (λ y lt m c f. let s = first_le firsts y rising_firsts (firsts_from y (candidate_from y m c) (f ∙ e)) in omega (arith, s, lt))
+      (λ y m c. let s = sums.1 y (candidate_from n bound mask costs y m c) in omega arith)
+      (λ y lt m c f. let s = first_le firsts y rising_firsts (firsts_from y (candidate_from n bound mask costs y m c) (f ∙ e)) in omega (arith, s, lt))
       (omega arith) in
       is ∙ (λ i. (e i, x))
 
   no_room : (z : ℕ) → has (members n mask) z ≡ true → has_room n P bound left mask costs widths ≡ false →
-      cell_of n F P bound mask ≡ (bound + 1, first_of (members n mask))
+      cell_of n F P r bound mask ≡ (bound + 1, first_of (members n mask))
   unfolding has_room left
   no_room z m h = clipped z m (λ l y k c. elim (cases_lt bound (costs y + widths y + left)) [
     | inl lt ↦ lt
     | inr le ↦
-        let there = candidate_from y k c in
+        let there = candidate_from n bound mask costs y k c in
         let s = (sum_lem y there).1 y there in
         absurd (true≢false
         (sym (and_from _ _ l
@@ -403,11 +430,11 @@ module _ (n : ℕ) (F : List Function) (P : List Pair) (base : List ℕ) (o : Is
 
   -- the cell follows from the costs and widths
   pub cell_from_is : (z : ℕ) → has (members n mask) z ≡ true →
-      cell_from n P bound (essentials_outside n F (members n mask)) mask costs widths ≡ cell_of n F P bound mask
+      cell_from n P bound (reserved n F r (members n mask)) mask costs widths ≡ cell_of n F P r bound mask
   unfolding cell_from left firsts
   cell_from_is z m = by (has_room n P bound left mask costs widths) refl
     where
       by : (b : Bool) → has_room n P bound left mask costs widths ≡ b →
-          cond b (least_sum n bound mask costs widths, first_of firsts) (bound + 1, first_of (members n mask)) ≡ cell_of n F P bound mask
+          cond b (least_sum n bound mask costs widths, first_of firsts) (bound + 1, first_of (members n mask)) ≡ cell_of n F P r bound mask
       by true e = sym (with_room e)
       by false e = sym (no_room z m e)

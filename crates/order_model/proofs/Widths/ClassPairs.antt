@@ -165,7 +165,7 @@ module _ (n : ℕ) (F : List Function) (T : List ℕ) (x : ℕ) (small : x < n) 
   reached = reach F (outside n (x ∷ T))
 
   -- fixing x, too, fixes just the variables outside T
-  same_variables : (y : ℕ) → has (outside n (x ∷ T) ++ x ∷ []) y ≡ has (reverse (outside n T)) y
+  pub same_variables : (y : ℕ) → has (outside n (x ∷ T) ++ x ∷ []) y ≡ has (reverse (outside n T)) y
   same_variables y = has_append (outside n (x ∷ T)) (x ∷ []) y ∙ ap (λ b. b || (nat_eq y x || false)) (has_outside n (x ∷ T) y) ∙ middle
       ∙ sym (has_reverse (outside n T) y ∙ has_outside n T y)
     where

@@ -12,13 +12,14 @@ use Rattle.order_model.specs.Orders.{has, IsOrder, variables, members, without}
 use Rattle.order_model.specs.Pairs.{Pair, Keeps, is_lawful}
 use Rattle.order_model.specs.Levels.{size_under}
 use Rattle.order_model.specs.Widths.{cost, least, least_with_top}
+use Rattle.order_model.specs.declared.reserve.Reserve.{Reserve}
 use Rattle.order_model.specs.Cells.{is_within, cell_of, IsReadFrom, AreUnclipped}
 use Rattle.order_model.specs.Diagrams.{IsFirstKeeping}
 use Rattle.order_model.proofs.Lists.Orders.{has_variables}
 use Rattle.order_model.proofs.Precedence.Lists.{lawful_same, are_lawful_nil}
 use Rattle.order_model.proofs.Functions.Exchange.{size_is_cost}
 use Rattle.order_model.proofs.Bits.Masks.{members_without, members_full}
-use Rattle.order_model.proofs.Widths.Essential.{essentials_all}
+use Rattle.order_model.proofs.Widths.Reserves.{reserved_all}
 use Rattle.order_model.proofs.Widths.Recurrence.{IsLawfulList, least_is_least, recurrence_le, least_same, cost_cons, lawful_cons, lawful_tail, lawful_behind, first_member, without_top}
 use Rattle.order_model.proofs.Widths.Fewest.{ground, all_lawful, lawful_from_order, order_from_lawful, has_fewest_lem}
 use Rattle.order_model.proofs.Widths.Cells.{IsOpenCell, open_cell, next_within, within_parts, within_from, lawful_members, less_one, members_zero}
@@ -104,13 +105,13 @@ module _ (n : ℕ) (F : List Function) (P : List Pair) (base : List ℕ) (o : Is
     step : FirstRead n F P mask (x ∷ order)
     step = record { is_lawful_list = lawful_cons P x order (members n mask) low cell.member tail_is; least_cost = whole_cost; first = whole_first }
 
-  module _ (bound : ℕ) where
+  module _ (r : Reserve) (bound : ℕ) where
     -- the cell of a set within the bound, at the variable that is read
-    read_cell : (mask x : ℕ) → has (members n mask) x ≡ true → x ≡ (cell_of n F P bound mask).1 →
-        is_within n F P bound (members n mask) ≡ true → IsOpenCell n F P mask (cell_of n F P bound mask).0 x
-    read_cell mask x m e h = subst (IsOpenCell n F P mask (cell_of n F P bound mask).0) (sym e) (open_cell n F P base o k bound mask x m h)
+    read_cell : (mask x : ℕ) → has (members n mask) x ≡ true → x ≡ (cell_of n F P r bound mask).1 →
+        is_within n F P r bound (members n mask) ≡ true → IsOpenCell n F P mask (cell_of n F P r bound mask).0 x
+    read_cell mask x m e h = subst (IsOpenCell n F P mask (cell_of n F P r bound mask).0) (sym e) (open_cell n F P base o k r bound mask x m h)
 
-    pub first_read : (order : List ℕ) (mask : ℕ) → IsReadFrom n F P bound mask order → is_within n F P bound (members n mask) ≡ true →
+    pub first_read : (order : List ℕ) (mask : ℕ) → IsReadFrom n F P r bound mask order → is_within n F P r bound (members n mask) ≡ true →
         FirstRead n F P mask order
     unfolding IsReadFrom IsDistinct cost
     first_read [] mask none h = record {
@@ -127,7 +128,7 @@ module _ (n : ℕ) (F : List Function) (P : List Pair) (base : List ℕ) (o : Is
 
         nothing : cost n F [] ≡ least n F P (members n mask)
         nothing = let a = (least_is_least n F P base (ground n P base o k) (members n mask)
-            (lawful_members n F P base o k mask (within_parts n F P bound (members n mask) h).0)).no_less
+            (lawful_members n F P base o k mask (within_parts n F P r bound (members n mask) h).0)).no_less
             [] empty in
             omega arith
 
@@ -136,55 +137,55 @@ module _ (n : ℕ) (F : List Function) (P : List Pair) (base : List ℕ) (o : Is
         start (x ∷ xs) a e = λ f. cc
     first_read (x ∷ order) mask (m, e, rest) h =
         let cell = read_cell mask x m e h in
-        step mask (cell_of n F P bound mask).0 x (within_parts n F P bound (members n mask) h).0 cell order
-        (first_read order (mask - 2 ^ x) rest (next_within n F P base o k bound mask x h cell.member cell.top cell.best))
+        step mask (cell_of n F P r bound mask).0 x (within_parts n F P r bound (members n mask) h).0 cell order
+        (first_read order (mask - 2 ^ x) rest (next_within n F P base o k r bound mask x h cell.member cell.top cell.best))
 
     -- no clipped cell is met
-    pub unclipped : (order : List ℕ) (mask : ℕ) → IsReadFrom n F P bound mask order → is_within n F P bound (members n mask) ≡ true →
-        AreUnclipped n F P bound mask order
+    pub unclipped : (order : List ℕ) (mask : ℕ) → IsReadFrom n F P r bound mask order → is_within n F P r bound (members n mask) ≡ true →
+        AreUnclipped n F P r bound mask order
     unfolding IsReadFrom AreUnclipped
     unclipped [] mask none h = tt
     unclipped (x ∷ order) mask (m, e, rest) h =
         let cell = read_cell mask x m e h in
-        let parts = within_parts n F P bound (members n mask) h in
+        let parts = within_parts n F P r bound (members n mask) h in
         let all = (first_read (x ∷ order) mask (m, e, rest) h).least_cost in
         let c = cell.cost in (
           omega arith,
           omega (arith, parts.1),
-          unclipped order (mask - 2 ^ x) rest (next_within n F P base o k bound mask x h cell.member cell.top cell.best),
+          unclipped order (mask - 2 ^ x) rest (next_within n F P base o k r bound mask x h cell.member cell.top cell.best),
         )
 
   -- all variables are within the size of an order that keeps the pairs
-  pub full_within : (other : List ℕ) → IsOrder n other → Keeps P other → is_within n F P (size_under n F other) (members n (2 ^ n - 1)) ≡ true
-  full_within other p q =
+  pub full_within : (r : Reserve) (other : List ℕ) → IsOrder n other → Keeps P other → is_within n F P r (size_under n F other) (members n (2 ^ n - 1)) ≡ true
+  full_within r other p q =
       let all = all_lawful n P base o k in
       let low = lawful_same P (members n (2 ^ n - 1)) (variables n) (members_full n) ∙ all.lawful in
       let same = least_same n F P base (ground n P base o k) (members n (2 ^ n - 1)) (variables n)
       (lawful_members n F P base o k (2 ^ n - 1) low) all (members_full n) in
       let a = (least_is_least n F P base (ground n P base o k) (variables n) all).no_less other (lawful_from_order n P other p q) in
       let b = size_is_cost n F other p in
-      let none = essentials_all n F (members n (2 ^ n - 1)) (λ y lt. members_full n y ∙ (has_variables n y).1 lt) in
-      within_from n F P (size_under n F other) (members n (2 ^ n - 1)) low (omega arith)
+      let none = reserved_all n F r (members n (2 ^ n - 1)) (λ y lt. members_full n y ∙ (has_variables n y).1 lt) in
+      within_from n F P r (size_under n F other) (members n (2 ^ n - 1)) low (omega arith)
 
 -- with the size of an order that keeps the pairs as the bound, the order that the cells give is the first one of the fewest nodes
-pub clip : (n : ℕ) (F : List Function) (P : List Pair) (other order : List ℕ) → IsOrder n other → Keeps P other →
-    IsReadFrom n F P (size_under n F other) (2 ^ n - 1) order → IsFirstKeeping n F P order
-clip n F P other order o k read =
+pub clip : (n : ℕ) (F : List Function) (P : List Pair) (r : Reserve) (other order : List ℕ) → IsOrder n other → Keeps P other →
+    IsReadFrom n F P r (size_under n F other) (2 ^ n - 1) order → IsFirstKeeping n F P order
+clip n F P r other order o k read =
     record {
       fewest = (has_fewest_lem n F P order).1 (record { is_order = is.0; kept = is.1; least_cost = got.least_cost ∙ all });
       first = λ rival h.
-          let r = (has_fewest_lem n F P rival).0 h in
+          let it = (has_fewest_lem n F P rival).0 h in
           got.first rival
           (moved P (variables n) (members n (2 ^ n - 1)) rival (λ y. sym (members_full n y))
-          (lawful_from_order n P rival r.is_order r.kept))
-          (r.least_cost ∙ sym all);
+          (lawful_from_order n P rival it.is_order it.kept))
+          (it.least_cost ∙ sym all);
     }
   where
-    within : is_within n F P (size_under n F other) (members n (2 ^ n - 1)) ≡ true
-    within = full_within n F P other o k other o k
+    within : is_within n F P r (size_under n F other) (members n (2 ^ n - 1)) ≡ true
+    within = full_within n F P other o k r other o k
 
     got : FirstRead n F P (2 ^ n - 1) order
-    got = first_read n F P other o k (size_under n F other) order (2 ^ n - 1) read within
+    got = first_read n F P other o k r (size_under n F other) order (2 ^ n - 1) read within
 
     is : IsOrder n order × Keeps P order
     is = order_from_lawful n P other o k order (moved P (members n (2 ^ n - 1)) (variables n) order (members_full n) got.is_lawful_list)
@@ -192,11 +193,12 @@ clip n F P other order o k read =
     all : least n F P (members n (2 ^ n - 1)) ≡ least n F P (variables n)
     all =
         least_same n F P other (ground n P other o k) (members n (2 ^ n - 1)) (variables n)
-        (lawful_members n F P other o k (2 ^ n - 1) (within_parts n F P (size_under n F other) (members n (2 ^ n - 1)) within).0)
+        (lawful_members n F P other o k (2 ^ n - 1) (within_parts n F P r (size_under n F other) (members n (2 ^ n - 1)) within).0)
         (all_lawful n P other o k) (members_full n)
 
 -- and no clipped cell is met
-pub clip_unclipped : (n : ℕ) (F : List Function) (P : List Pair) (other order : List ℕ) → IsOrder n other → Keeps P other →
-    IsReadFrom n F P (size_under n F other) (2 ^ n - 1) order →
-    AreUnclipped n F P (size_under n F other) (2 ^ n - 1) order
-clip_unclipped n F P other order o k read = unclipped n F P other o k (size_under n F other) order (2 ^ n - 1) read (full_within n F P other o k other o k)
+pub clip_unclipped : (n : ℕ) (F : List Function) (P : List Pair) (r : Reserve) (other order : List ℕ) → IsOrder n other → Keeps P other →
+    IsReadFrom n F P r (size_under n F other) (2 ^ n - 1) order →
+    AreUnclipped n F P r (size_under n F other) (2 ^ n - 1) order
+clip_unclipped n F P r other order o k read =
+    unclipped n F P other o k r (size_under n F other) order (2 ^ n - 1) read (full_within n F P other o k r other o k)

@@ -1,7 +1,7 @@
 -- All sets together take at most n * 2 ^ (n - 1) widths; and the mask of the essential variables.
 --     widths_bound      twice the number of widths is at most n * 2 ^ n
 --     essential_members      the members of the mask of the essential variables are these
-use Rattle.std.proofs.Common.{◌≡◌, ℕ, zero, suc, ◌+◌, ◌-◌, ◌*◌, ◌^◌, ◌<◌, ◌≤◌, Bool, true, false, cond, ◌&&◌, List, [], ◌∷◌, ◌++◌, map, length, refl, sym, ap, ap₂, ◌∙◌, subst, arith, eqb, leb, lit≤}
+use Rattle.std.proofs.Common.{◌≡◌, ℕ, zero, suc, ◌+◌, ◌-◌, ◌*◌, ◌^◌, ◌<◌, ◌≤◌, Bool, true, false, cond, ◌&&◌, List, [], ◌∷◌, ◌++◌, map, length, refl, sym, ap, ap₂, ◌∙◌, subst, arith, nat_eq, eqb, leb, lit≤}
 use Rattle.std.specs.Int.{bit_at}
 use Rattle.std.specs.List.{filter, list_any, sum, range_with_len}
 use Rattle.std.proofs.Math.Nat.{suc-mul, two-pow-succ, mul-add, mul-one}
@@ -11,7 +11,9 @@ use Rattle.order_model.specs.Functions.{Function, depends}
 use Rattle.order_model.specs.Orders.{has, variables, members, mask_of, without}
 use Rattle.order_model.specs.Pairs.{Pair, is_lawful, tops}
 use Rattle.order_model.specs.Widths.{essential, essential_mask}
-use Rattle.order_model.specs.Cells.{cell_cost, wanted, widths_taken}
+use Rattle.order_model.specs.declared.reserve.Reserve.{Reserve}
+use Rattle.order_model.specs.declared.reserve.Reserve.TheVariants.{Variables, Widths}
+use Rattle.order_model.specs.Cells.{cell_cost, open_tops, wanted, widths_taken}
 use Rattle.order_model.proofs.Lists.Orders.{has_variables, has_filter}
 use Rattle.order_model.proofs.Bits.Masks.{bit-mask_of}
 use Rattle.order_model.proofs.Widths.Essential.{distinct_essential}
@@ -131,20 +133,30 @@ all_members (suc n) =
     spread : (m : ℕ) → suc n * (m + m) ≡ 2 * (n * m) + 2 * m
     spread m = let a = suc-mul n (m + m) in let b : n * (m + m) ≡ n * m + n * m = mul-add n m m in omega arith
 
+-- a cell takes no more widths than its set has members
+pub wanted_few : (n : ℕ) (F : List Function) (P : List Pair) (r : Reserve) (bound mask : ℕ) → length (wanted n F P r bound mask) ≤ length (members n mask)
+unfolding wanted open_tops
+wanted_few n F P Variables bound mask =
+    let a = filter_at_most (λ x. is_lawful P (members n mask) && leb (cell_cost n F P Variables bound (mask - 2 ^ x)) bound) (tops P (members n mask)) in
+    let b = filter_at_most (λ x. is_lawful P (without x (members n mask))) (members n mask) in
+    omega arith
+wanted_few n F P Widths bound mask = by (nat_eq (length (open_tops n F P Widths bound mask)) 0)
+  where
+    by : (b : Bool) → length (cond b [] (members n mask)) ≤ length (members n mask)
+    by true = omega arith
+    by false = omega arith
+
 -- a solve takes at most n * 2 ^ (n - 1) widths
-pub widths_bound : (n : ℕ) (F : List Function) (P : List Pair) (bound : ℕ) → 2 * widths_taken n F P bound ≤ n * 2 ^ n
-unfolding widths_taken wanted how_many
-widths_bound n F P bound =
-    let e = sum_total (λ mask. length (wanted n F P bound mask)) (2 ^ n) 0 in
-    let le = total_le (λ mask. length (wanted n F P bound mask)) (how_many n) (2 ^ n) 0 0 (λ i lt. few (0 + i)) in
+pub widths_bound : (n : ℕ) (F : List Function) (P : List Pair) (r : Reserve) (bound : ℕ) → 2 * widths_taken n F P r bound ≤ n * 2 ^ n
+unfolding widths_taken how_many
+widths_bound n F P r bound =
+    let e = sum_total (λ mask. length (wanted n F P r bound mask)) (2 ^ n) 0 in
+    let le = total_le (λ mask. length (wanted n F P r bound mask)) (how_many n) (2 ^ n) 0 0 (λ i lt. few (0 + i)) in
     let all = all_members n in
     omega arith
   where
-    few : (mask : ℕ) → length (wanted n F P bound mask) ≤ length (members n mask)
-    few mask =
-        let a = filter_at_most (λ x. is_lawful P (members n mask) && leb (cell_cost n F P bound (mask - 2 ^ x)) bound) (tops P (members n mask)) in
-        let b = filter_at_most (λ x. is_lawful P (without x (members n mask))) (members n mask) in
-        omega arith
+    few : (mask : ℕ) → length (wanted n F P r bound mask) ≤ length (members n mask)
+    few mask = wanted_few n F P r bound mask
 
 -- the members of the mask of the essential variables
 pub essential_members : (n : ℕ) (F : List Function) → members n (essential_mask n F) ≡ essential n F

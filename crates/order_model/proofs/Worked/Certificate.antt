@@ -8,6 +8,8 @@ use Rattle.order_model.specs.Orders.{IsOrder, has, members, without}
 use Rattle.order_model.specs.Levels.{subfunctions, reach, dependents, level_count, level_counts, size_under}
 use Rattle.order_model.specs.Widths.{outside, width, cost, arrangements, least_of, least, essential, essentials_outside}
 use Rattle.order_model.specs.Pairs.{keeps, Keeps, is_lawful, are_lawful}
+use Rattle.order_model.specs.Reserves.{reserved}
+use Rattle.order_model.specs.declared.reserve.Reserve.TheVariants.{Variables}
 use Rattle.order_model.specs.Cells.{is_within, best_top, cell_of, IsReadFrom}
 use Rattle.order_model.specs.Certificates.{Certificate, Cell, IsGood, reserve, set_value, AreBothLawful}
 use Rattle.order_model.specs.Diagrams.{Fewest, IsFirst}
@@ -101,9 +103,9 @@ good = record {
 three_is_fewest : Fewest 3 F 3
 three_is_fewest = good_is_fewest 3 F certificate good
 
-read_off : IsReadFrom 3 F [] 3 7 best_order
+read_off : IsReadFrom 3 F [] Variables 3 7 best_order
 unfolding points restrict table depends subfunctions reach dependents outside width cost without arrangements are_lawful is_lawful least_of
-    least members essential essentials_outside is_within best_top cell_of IsReadFrom
+    least members essential essentials_outside reserved is_within best_top cell_of IsReadFrom
 read_off = (refl, refl, (refl, refl, (refl, refl, refl)))
 
 kept : Keeps [] best_order
@@ -112,4 +114,4 @@ kept = refl
 
 best_is_first : IsFirst 3 F best_order
 unfolding points restrict table depends subfunctions reach dependents level_count level_counts size_under
-best_is_first = clip 3 F [] best_order best_order is_order kept read_off
+best_is_first = clip 3 F [] Variables best_order best_order is_order kept read_off

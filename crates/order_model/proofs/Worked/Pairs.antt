@@ -8,7 +8,9 @@ use Rattle.order_model.specs.Pairs.{Pair, is_above, keeps, Keeps, is_lawful, are
 use Rattle.order_model.specs.Pairs.Leads.{by_one, by_more}
 use Rattle.order_model.specs.Levels.{subfunctions, reach, dependents, level_count, level_counts, size_under}
 use Rattle.order_model.specs.Widths.{outside, width, cost, arrangements, least_of, least, essential, essentials_outside}
-use Rattle.order_model.specs.Cells.{is_within, best_top, cell_of, cell_cost, wanted, widths_taken, IsReadFrom}
+use Rattle.order_model.specs.Reserves.{functions_with, functions_without, asked_by, reserved}
+use Rattle.order_model.specs.declared.reserve.Reserve.TheVariants.{Variables, Widths}
+use Rattle.order_model.specs.Cells.{open_tops, is_within, best_top, cell_of, cell_cost, wanted, widths_taken, IsReadFrom}
 use Rattle.order_model.specs.Diagrams.{FewestKeeping, IsFirstKeeping}
 use Rattle.order_model.specs.Certificates.{Certificate, Cell, IsGood, reserve, set_value, Applies, listed_masks, least_listed, certificate_of}
 use Rattle.order_model.specs.Certificates.Reason.{Edge, CellTooBig, Pairs}
@@ -20,15 +22,21 @@ use Rattle.order_model.proofs.Certificates.Potential.{good_is_fewest}
 use Rattle.order_model.proofs.Precedence.Cycles.{greedy_is_first}
 
 -- the multiplexer's cells for the bound 3
-mux_cells : map (cell_of 3 (mux ∷ []) [] 3) (1 ∷ 2 ∷ 4 ∷ 3 ∷ 5 ∷ 6 ∷ 7 ∷ []) ≡ (1, 0) ∷ (1, 1) ∷ (4, 2) ∷ (2, 0) ∷ (4, 0) ∷ (4, 1) ∷ (3, 2) ∷ []
+mux_cells : map (cell_of 3 (mux ∷ []) [] Variables 3) (1 ∷ 2 ∷ 4 ∷ 3 ∷ 5 ∷ 6 ∷ 7 ∷ []) ≡ (1, 0) ∷ (1, 1) ∷ (4, 2) ∷ (2, 0) ∷ (4, 0) ∷ (4, 1) ∷ (3, 2) ∷ []
 unfolding points restrict table depends subfunctions reach dependents outside width cost without arrangements are_lawful is_lawful least_of
-    least members essential essentials_outside is_within best_top cell_of
+    least members essential essentials_outside reserved is_within best_top cell_of
 mux_cells = refl
 
--- how many widths they take, and how many those of the parity do
-mux_widths : widths_taken 3 (mux ∷ []) [] 3 ∷ widths_taken 3 (parity3 ∷ []) [] 5 ∷ [] ≡ 8 ∷ 12 ∷ []
+-- the same, with the nodes that widths ask for counted on
+mux_narrow : map (cell_of 3 (mux ∷ []) [] Widths 3) (1 ∷ 2 ∷ 4 ∷ 3 ∷ 5 ∷ 6 ∷ 7 ∷ []) ≡ (1, 0) ∷ (1, 1) ∷ (4, 2) ∷ (2, 0) ∷ (4, 0) ∷ (4, 1) ∷ (3, 2) ∷ []
 unfolding points restrict table depends subfunctions reach dependents outside width cost without arrangements are_lawful is_lawful least_of
-    least members essential essentials_outside is_within best_top cell_of cell_cost wanted widths_taken
+    least members essential essentials_outside functions_with functions_without asked_by reserved is_within best_top cell_of
+mux_narrow = refl
+
+-- how many widths they take, and how many those of the parity do
+mux_widths : widths_taken 3 (mux ∷ []) [] Variables 3 ∷ widths_taken 3 (parity3 ∷ []) [] Variables 5 ∷ [] ≡ 8 ∷ 12 ∷ []
+unfolding points restrict table depends subfunctions reach dependents outside width cost without arrangements are_lawful is_lawful least_of
+    least members essential essentials_outside reserved is_within best_top cell_of cell_cost open_tops wanted widths_taken
 mux_widths = refl
 
 -- the multiplexer's certificate lists nothing, and the parity's four sets
@@ -159,9 +167,9 @@ order_210 =
     is_order 2 1 0 ((refl, (refl, tt)), ((refl, tt), (tt, tt))) (below_three (λ x. has (2 ∷ 1 ∷ 0 ∷ []) x ≡ true) refl refl refl) (lit< tt)
     (lit< tt) (lit< tt)
 
-above_read : IsReadFrom 3 (mux ∷ []) first_above_last 4 7 (0 ∷ 2 ∷ 1 ∷ [])
+above_read : IsReadFrom 3 (mux ∷ []) first_above_last Variables 4 7 (0 ∷ 2 ∷ 1 ∷ [])
 unfolding points restrict table depends subfunctions reach dependents outside width cost without arrangements are_lawful is_lawful least_of
-    least members essential essentials_outside is_within best_top cell_of IsReadFrom
+    least members essential essentials_outside reserved is_within best_top cell_of IsReadFrom
 above_read = (refl, refl, (refl, refl, (refl, refl, refl)))
 
 kept_above : Keeps first_above_last (0 ∷ 2 ∷ 1 ∷ [])
@@ -170,11 +178,11 @@ kept_above = refl
 
 above_first : IsFirstKeeping 3 (mux ∷ []) first_above_last (0 ∷ 2 ∷ 1 ∷ [])
 unfolding points restrict table depends subfunctions reach dependents level_count level_counts size_under
-above_first = clip 3 (mux ∷ []) first_above_last (0 ∷ 2 ∷ 1 ∷ []) (0 ∷ 2 ∷ 1 ∷ []) order_021 kept_above above_read
+above_first = clip 3 (mux ∷ []) first_above_last Variables (0 ∷ 2 ∷ 1 ∷ []) (0 ∷ 2 ∷ 1 ∷ []) order_021 kept_above above_read
 
-below_read : IsReadFrom 3 (mux ∷ []) last_above_first 3 7 (2 ∷ 0 ∷ 1 ∷ [])
+below_read : IsReadFrom 3 (mux ∷ []) last_above_first Variables 3 7 (2 ∷ 0 ∷ 1 ∷ [])
 unfolding points restrict table depends subfunctions reach dependents outside width cost without arrangements are_lawful is_lawful least_of
-    least members essential essentials_outside is_within best_top cell_of IsReadFrom
+    least members essential essentials_outside reserved is_within best_top cell_of IsReadFrom
 below_read = (refl, refl, (refl, refl, (refl, refl, refl)))
 
 kept_below : Keeps last_above_first (2 ∷ 1 ∷ 0 ∷ [])
@@ -183,7 +191,7 @@ kept_below = refl
 
 below_first : IsFirstKeeping 3 (mux ∷ []) last_above_first (2 ∷ 0 ∷ 1 ∷ [])
 unfolding points restrict table depends subfunctions reach dependents level_count level_counts size_under
-below_first = clip 3 (mux ∷ []) last_above_first (2 ∷ 1 ∷ 0 ∷ []) (2 ∷ 0 ∷ 1 ∷ []) order_210 kept_below below_read
+below_first = clip 3 (mux ∷ []) last_above_first Variables (2 ∷ 1 ∷ 0 ∷ []) (2 ∷ 0 ∷ 1 ∷ []) order_210 kept_below below_read
 
 -- the certificate with its pair is the tool's, so it is good
 above_good : IsGood 3 (mux ∷ []) (of_mux first_above_last (cell 0 0 ∷ cell 2 1 ∷ []))

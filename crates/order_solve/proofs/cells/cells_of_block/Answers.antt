@@ -70,7 +70,7 @@ loop-i-preserved c =
     (subst (λ (rs : List (List ℕ)). slice_get rs c.loop-i.i ≡ Some own) found (slice_get-get_or rows c.loop-i.i [] (omega arith))) in
     let bench = subst (λ (z : Setting). IsBench (bench_with z c.bench.inside.layer.now c.bench.inside.before.now)) (sym c.setting.view_is)
     c.bench.invariant.0 in
-    let is = cell_is _ bench c.setting.inside.essential c.setting.invariant mask next own
+    let is = cell_is _ bench c.setting.inside.reserves c.setting.invariant mask next own
     (subst (λ (z : Setting). IsRow z.problem mask (needed z mask) own) (sym same) row)
     (pair_of c.least_cell.result) c.least_cell.ensures ∙ ap (λ (z : Setting). cell_for z mask) same in
     ap (map pair_of) c.in_ok-push.ensures.items

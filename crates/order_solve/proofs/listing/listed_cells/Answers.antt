@@ -23,7 +23,7 @@ loop-number-preserved c =
           subst (λ (xs : List ListedCell). ListedTo t c.args.total (c.loop-number.number + 1) xs)
           (sym (ap (λ v. v.items) w.found-is ∙ w.in_ok-push.ensures.items))
           (listed_yes t c.args.total c.loop-number.number c.loop-number.found.items c.loop-number.invariant c.cost-cost.result
-          c.count_outside.result c.cost-cost.ensures out c.requires (let lt = w.if-from.true in omega (arith, a, b, d, lt)))
+          c.count_outside.result c.cost-cost.ensures out c.requires.within (let lt = w.if-from.true in omega (arith, a, b, d, lt)))
       | else-from w ↦
           subst (λ (xs : List ListedCell). ListedTo t c.args.total (c.loop-number.number + 1) xs) (sym (ap (λ v. v.items) w.found-is))
           (listed_no t c.args.total c.loop-number.number c.loop-number.found.items c.loop-number.invariant c.cost-cost.result
@@ -38,4 +38,4 @@ returns c =
     let p = ap (λ (k : ℕ). 2 ^ k) e.value in
     let f = c.loop-number-test.false in
     let m = c.loop-number.auto.number-end in
-    listed_whole t c.args.total c.loop-number.number c.loop-number.found.items c.loop-number.invariant (omega (arith, s, p, f, m)) c.requires
+    listed_whole t c.args.total c.loop-number.number c.loop-number.found.items c.loop-number.invariant (omega (arith, s, p, f, m)) c.requires.within c.requires.reserve

@@ -17,7 +17,7 @@ loop-x-init c =
 
 -- a step of the code
 module _ (t : Setting) (inputs : ℕ) (b : IsBounded t) (few : inputs ≤ 16) (v : inputs ≡ t.problem.inputs) (order xs : List ℕ) (same : xs ≡ order)
-    (read : IsReadFrom t.problem.inputs (functions t.problem) t.pairs.pairs t.bound (2 ^ t.problem.inputs - 1) order) (mask top : ℕ)
+    (read : IsReadFrom t.problem.inputs (functions t.problem) t.pairs.pairs t.reserve t.bound (2 ^ t.problem.inputs - 1) order) (mask top : ℕ)
     (counts : List ℕ) (i : ℕ) (c : CountedTo t order mask top counts i) (lt : i < length xs) where
   within : i < length order
   within = let k = ap length same in omega (arith, lt, k)
@@ -40,9 +40,9 @@ module _ (t : Setting) (inputs : ℕ) (b : IsBounded t) (few : inputs ≤ 16) (v
   smaller : mask - 1 * 2 ^ x % 65536 < 2 ^ t.problem.inputs
   smaller = let k = counted_small t b order read mask top counts i c in omega (arith, k)
 
-  module _ (below : ℕ) (e : below ≡ cell_cost t.problem.inputs (functions t.problem) t.pairs.pairs t.bound (mask - 1 * 2 ^ x % 65536)) where
-    e' : below ≡ cell_cost t.problem.inputs (functions t.problem) t.pairs.pairs t.bound (mask - 2 ^ x)
-    e' = e ∙ ap (λ k. cell_cost t.problem.inputs (functions t.problem) t.pairs.pairs t.bound (mask - k)) shift
+  module _ (below : ℕ) (e : below ≡ cell_cost t.problem.inputs (functions t.problem) t.pairs.pairs t.reserve t.bound (mask - 1 * 2 ^ x % 65536)) where
+    e' : below ≡ cell_cost t.problem.inputs (functions t.problem) t.pairs.pairs t.reserve t.bound (mask - 2 ^ x)
+    e' = e ∙ ap (λ k. cell_cost t.problem.inputs (functions t.problem) t.pairs.pairs t.reserve t.bound (mask - k)) shift
 
     falls : below ≤ top
     falls = let k = counted_fall t b order read mask top counts i c x within is below e' in omega (arith, k)

@@ -3,7 +3,7 @@ use Rattle.order_model.specs.Orders.{IsOrder}
 use Rattle.order_model.specs.Pairs.{Keeps}
 use Rattle.order_model.specs.Problems.{TruthTables, functions}
 use Rattle.order_model.specs.Levels.{size_under}
-use Rattle.order_solve.specs.Settings.{setting_with}
+use Rattle.layer_core.specs.Settings.{setting_of}
 use Rattle.order_solve.specs.Bounded.{IsBounded}
 use Rattle.order_solve.proofs.Layers.{bound_small}
 use Rattle.order_solve.proofs.solving.setting_of.Goals as goal
@@ -13,7 +13,7 @@ new-requires-clause-room c =
     let s = c.args.sifted.now in
     let m = c.size.ensures.sifted.managed in
     let same = c.requires in
-    let t = setting_with c.args.problem.now c.pairs.result.now c.size.result in
+    let t = setting_of c.args.problem.now c.pairs.result.now record { bound = c.size.result; reserve = c.args.reserve } in
     let bounded : IsBounded t = record {
       order = s.order;
       is_order = subst (λ (n : ℕ). IsOrder n s.order) (sym m.inputs ∙ ap (λ (p : TruthTables). p.inputs) same) m.is_order;

@@ -1,36 +1,10 @@
-use Rattle.std.proofs.Common.{◌≡◌, ℕ, ◌-◌, ◌^◌, ap, ◌∙◌}
-use Rattle.order_model.specs.Problems.{functions}
-use Rattle.order_model.specs.Cells.{cell_cost}
-use Rattle.layer_core.specs.Settings.{Setting}
-use Rattle.order_solve.proofs.ReadOrders.{order_first}
-use Rattle.order_solve.proofs.Solved.{total_size, total_small, total_fewest, cells_listed}
+use Rattle.std.proofs.Common.{◌∙◌}
+use Rattle.order_solve.proofs.Solved.{cells_listed}
 use Rattle.order_solve.proofs.solving.solution_of.Goals as goal
-
--- the total is the cost of the set of all variables
-total_is : (t : Setting) (inputs mask total : ℕ) → inputs ≡ t.problem.inputs → mask ≡ 2 ^ inputs - 1 →
-    total ≡ cell_cost t.problem.inputs (functions t.problem) t.pairs.pairs t.bound mask →
-    total ≡ cell_cost t.problem.inputs (functions t.problem) t.pairs.pairs t.bound (2 ^ t.problem.inputs - 1)
-total_is t inputs mask total v m e = e ∙ ap (cell_cost t.problem.inputs (functions t.problem) t.pairs.pairs t.bound) (m ∙ ap (λ (k : ℕ). 2 ^ k - 1) v)
-
-pub listed_cells-requires : goal.listed_cells-requires
-listed_cells-requires c =
-    let t = c.args.cells.now in
-    let e = c.inputs.ensures in
-    total_small t e.bounded c.in_ok-order.order c.in_ok-order.ensures c.cost-total.result
-    (total_is t c.inputs.result c.all_variables.result c.cost-total.result e.value c.all_variables.ensures c.cost-total.ensures)
 
 pub returns-clause-solution : goal.returns-clause-solution
 returns-clause-solution c =
     let t = c.args.cells.now in
-    let b = c.inputs.ensures.bounded in
-    let o = c.in_ok-order.order in
-    let read = c.in_ok-order.ensures in
-    let total = c.cost-total.result in
-    let is = total_is t c.inputs.result c.all_variables.result total c.inputs.ensures.value c.all_variables.ensures c.cost-total.ensures in
-    record {
-      first = order_first t b o read;
-      fewest = total_fewest t b o read total is;
-      size = total_size t b o read total is;
-      levels = c.in_ok-levels.ensures;
-      cells = c.in_ok-listed.ensures ∙ cells_listed t b o read total is;
-    }
+    let o = c.in_ok-optimum.optimum in
+    let is = c.in_ok-optimum.ensures.optimum in
+    record { optimum = is; cells = c.in_ok-listed.ensures ∙ cells_listed t o.order o.total is.size }

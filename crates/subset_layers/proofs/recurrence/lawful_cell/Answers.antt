@@ -1,34 +1,67 @@
-use Rattle.std.proofs.Common.{◌+◌, ◌∙◌, refl, arith}
-use Rattle.order_model.specs.Orders.{members}
+use Rattle.std.proofs.Common.{◌≡◌, ℕ, true, ◌+◌, ◌^◌, ◌<◌, List, slice_index, refl, sym, ap, ◌∙◌, subst, arith}
+use Rattle.order_model.specs.Orders.{has, members, without}
+use Rattle.order_model.specs.Problems.{functions}
+use Rattle.order_model.specs.Widths.{width}
+use Rattle.order_model.specs.Reserves.{ReservesOf, reserved, AreMembersWidths}
 use Rattle.order_model.specs.Cells.{first_of}
+use Rattle.order_model.specs.declared.reserve.Reserve.TheVariants.{Widths}
 use Rattle.subset_layers.proofs.BlockLists.{has_masks}
-use Rattle.subset_layers.proofs.CellSteps.{cell_found, cell_clipped, some_member}
+use Rattle.subset_layers.proofs.CellSteps.{members_widths, cell_found, cell_clipped, some_member}
 use Rattle.subset_layers.proofs.recurrence.lawful_cell.Goals as goal
 
 pub clipped-requires-clause-some : goal.clipped-requires-clause-some
 clipped-requires-clause-some c = (some_member c.args.costs.now.inputs c.args.costs.now.size c.args.mask c.requires.next).0
 
-pub clipped-requires-else-best-outside-clause-some : goal.clipped-requires-else-best-outside-clause-some
-clipped-requires-else-best-outside-clause-some c = (some_member c.args.costs.now.inputs c.args.costs.now.size c.args.mask c.requires.next).0
+pub above-requires : goal.above-requires
+above-requires c =
+    subst (λ (n : ℕ). c.args.mask < 2 ^ n) (sym c.requires.inputs)
+    (has_masks c.args.costs.now.inputs (c.args.costs.now.size + 1) c.args.mask c.requires.next).0
+
+pub clipped-requires-else-best-above-clause-some : goal.clipped-requires-else-best-above-clause-some
+clipped-requires-else-best-above-clause-some c = (some_member c.args.costs.now.inputs c.args.costs.now.size c.args.mask c.requires.next).0
+
+-- what is counted on above the set, in the costs' number of variables
+counted : (v : ReservesOf) (n mask above : ℕ) (widths : List ℕ) → v.problem.inputs ≡ n →
+    ((v.reserve ≡ Widths → AreMembersWidths v.problem mask widths) → above ≡ reserved v.problem.inputs (functions v.problem) v.reserve (members v.problem.inputs mask)) →
+    (v.reserve ≡ Widths → (x : ℕ) → has (members n mask) x ≡ true → slice_index widths x ≡ width n (functions v.problem) (without x (members n mask)) x) →
+    above ≡ reserved n (functions v.problem) v.reserve (members n mask)
+counted v n mask above widths e nodes are =
+    nodes (λ is. subst
+    (λ (k : ℕ). (x : ℕ) → has (members k mask) x ≡ true → slice_index widths x ≡ width k (functions v.problem) (without x (members k mask)) x) (sym e) (are is))
+    ∙ ap (λ k. reserved k (functions v.problem) v.reserve (members k mask)) e
 
 pub returns-in-None : goal.returns-in-None
-returns-in-None c = λ F P order o k l e t w.
+returns-in-None c = λ P order o k l t w.
     let n = c.args.costs.now.inputs in
+    let v = c.args.reserves.now in
     c.clipped.ensures n (has_masks n (c.args.costs.now.size + 1) c.args.mask c.requires.next).0
-    ∙ cell_clipped c.args.costs.now c.args.mask c.args.bound c.args.widths.now F P order o k c.requires.next t w c.count_outside-outside.result
-    (first_of (members n c.args.mask)) (some_member n c.args.costs.now.size c.args.mask c.requires.next).1 (c.count_outside-outside.ensures.exact n F e)
+    ∙ cell_clipped c.args.costs.now v.reserve c.args.mask c.args.bound c.args.widths.now (functions v.problem) P order o k c.requires.next t w _
+    (first_of (members n c.args.mask)) (some_member n c.args.costs.now.size c.args.mask c.requires.next).1 refl
     (λ low y m le. let far = c.in-None.ensures.none refl y m in absurd (omega arith))
 
-pub returns-then-best-outside : goal.returns-then-best-outside
-returns-then-best-outside c = λ F P order o k l e t w.
-    cell_found c.args.costs.now c.args.mask c.args.bound c.args.widths.now F P order o k c.requires.next t w c.count_outside-outside.result
-    c.in-Some.best.sum c.in-Some.best.variable
-    l (c.count_outside-outside.ensures.exact c.args.costs.now.inputs F e) c.in-Some.ensures.best (omega arith)
+pub returns-then-best-above : goal.returns-then-best-above
+returns-then-best-above c = λ P order o k l t w.
+    let v = c.args.reserves.now in
+    let b = c.in-Some.ensures.best in
+    let is = counted v c.args.costs.now.inputs c.args.mask c.above.result c.args.widths.now c.requires.inputs c.above.ensures.nodes
+    (members_widths c.args.costs.now v.reserve c.args.mask c.args.bound c.args.widths.now (functions v.problem) P order o k c.requires.next t w
+    c.in-Some.best.variable l b.member b.within) in
+    let le = c.if-best-above.true in
+    let f = c.from.ensures in
+    cell_found c.args.costs.now v.reserve c.args.mask c.args.bound c.args.widths.now (functions v.problem) P order o k c.requires.next t w c.above.result
+    c.in-Some.best.sum c.in-Some.best.variable l is b (omega (arith, le, f))
 
-pub returns-else-best-outside : goal.returns-else-best-outside
-returns-else-best-outside c = λ F P order o k l e t w.
+pub returns-else-best-above : goal.returns-else-best-above
+returns-else-best-above c = λ P order o k l t w.
     let n = c.args.costs.now.inputs in
-    c.clipped-else-best-outside.ensures n (has_masks n (c.args.costs.now.size + 1) c.args.mask c.requires.next).0
-    ∙ cell_clipped c.args.costs.now c.args.mask c.args.bound c.args.widths.now F P order o k c.requires.next t w c.count_outside-outside.result
-    (first_of (members n c.args.mask)) (some_member n c.args.costs.now.size c.args.mask c.requires.next).1 (c.count_outside-outside.ensures.exact n F e)
-    (λ low y m le. let best = c.in-Some.ensures.best.least y m le in omega arith)
+    let v = c.args.reserves.now in
+    let b = c.in-Some.ensures.best in
+    let is = counted v n c.args.mask c.above.result c.args.widths.now c.requires.inputs c.above.ensures.nodes
+    (members_widths c.args.costs.now v.reserve c.args.mask c.args.bound c.args.widths.now (functions v.problem) P order o k c.requires.next t w
+    c.in-Some.best.variable l b.member b.within) in
+    let no = c.if-best-above.false in
+    let f = c.from.ensures in
+    c.clipped-else-best-above.ensures n (has_masks n (c.args.costs.now.size + 1) c.args.mask c.requires.next).0
+    ∙ cell_clipped c.args.costs.now v.reserve c.args.mask c.args.bound c.args.widths.now (functions v.problem) P order o k c.requires.next t w c.above.result
+    (first_of (members n c.args.mask)) (some_member n c.args.costs.now.size c.args.mask c.requires.next).1 is
+    (λ low y m le. let best = b.least y m le in omega (arith, best, no, f))

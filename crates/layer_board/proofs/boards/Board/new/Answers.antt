@@ -1,6 +1,7 @@
 use Rattle.std.proofs.Common.{◌≡◌, ◌+◌, ℕ, replicate, length, sym, ap, ◌∙◌, arith}
 use Rattle.subset_layers.specs.Layers.{LayerOf, masks_of}
 use Rattle.layer_core.proofs.Lists.{length-same}
+use Rattle.layer_core.specs.Settings.{setting_of}
 use Rattle.layer_board.specs.Views.{BriefOf}
 use Rattle.layer_board.proofs.Rule.{may_open}
 use Rattle.layer_core.proofs.Layouts.{few_masks_in}
@@ -10,10 +11,8 @@ pub of_words-requires : goal.of_words-requires
 of_words-requires c =
     let b : BriefOf =
     record {
-      setting =
-          record { problem = c.of-2.result.value; pairs = c.of-3.result.value; bound = c.args.bound };
-      layer =
-          c.of-4.result.value;
+      setting = setting_of c.of-2.result.value c.of-3.result.value c.args.limit;
+      layer = c.of-4.result.value;
       workers = c.args.workers;
     } in
     let many : c.len.result ≡ length (masks_of b.layer) = c.len.ensures ∙ ap (λ (l : LayerOf). length (masks_of l)) (sym c.of-4.ensures) in

@@ -23,10 +23,10 @@ returns-then-place-len-clause-value c =
     ∙ ap (λ v. cell_at v c.args.mask) c.self.view_is
 
 pub returns-then-place-len-clause-exact : goal.returns-then-place-len-clause-exact
-returns-then-place-len-clause-exact c = λ F P bound t.
+returns-then-place-len-clause-exact c = λ F P r bound t.
     let e : vec_len c.self.inside.cells ≡ length c.self.inside.cells.items = omega arith in
     let read = slice_get_read c.self.inside.cells.items (vec_len c.self.inside.cells) c.in_ok-place.place c.index.result.now e (omega arith) c.index.ensures in
-    true_cell c.args.self.now.inputs F P bound c.args.self.now t c.args.mask c.in_ok-place.place c.index.result.now
+    true_cell c.args.self.now.inputs F P r bound c.args.self.now t c.args.mask c.in_ok-place.place c.index.result.now
     (ap (λ v. slice_get (layers.masks_of (layer_of_costs v)) c.in_ok-place.place) (sym c.self.view_is) ∙ c.in_ok-place.ensures.found)
     (ap (λ v. slice_get (cells_of v) c.in_ok-place.place) (sym c.self.view_is) ∙ read)
 
