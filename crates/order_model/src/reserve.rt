@@ -19,7 +19,7 @@ use std::marker::Model;
 pub enum Reserve {
     /// One for each variable outside on which a function depends.
     Variables,
-    /// These, or as many more as the width of some member asks for.
+    /// These, or as many as the width of some member asks for if that is more.
     Widths,
 }
 
