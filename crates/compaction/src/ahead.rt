@@ -127,8 +127,9 @@ fn later_sets(alloc: Global, block: &Block, pairs: &Pairs, end: u8) -> Result<Ve
     };
     let low = Mask::from(block.low());
     let limit = 1u32 << block.inputs();
+    let highs = (limit / 256).clamp(1, 256) as Mask;
     for size in first.count_ones() + 1..u32::from(end) + 1 {
-        for high in 0..256 {
+        for high in 0..highs {
             let set = high * 256 + low;
             if set.count_ones() == size && u32::from(set) < limit && pairs.lawful(set) {
                 sets.push(set)?;
