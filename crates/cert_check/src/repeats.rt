@@ -14,11 +14,15 @@ fn bucket_of(row: &[u32], buckets: usize) -> usize
     requires some { 0 < buckets }
     ensures within { result < buckets }
 {
-    let mut key = 0u64;
-    for i in 0..row.len() / 2 {
-        let both = u64::from(row[2 * i]) | u64::from(row[2 * i + 1]) << 32;
-        key = (key ^ both).wrapping_mul(SPREAD);
+    let mut even = 0u64;
+    let mut odd = 0u64;
+    for i in 0..row.len() / 4 {
+        let first = u64::from(row[4 * i]) | u64::from(row[4 * i + 1]) << 32;
+        let second = u64::from(row[4 * i + 2]) | u64::from(row[4 * i + 3]) << 32;
+        even = (even ^ first).wrapping_mul(SPREAD);
+        odd = (odd ^ second).wrapping_mul(SPREAD);
     }
+    let key = (even ^ (odd >> 32)).wrapping_mul(SPREAD);
     (key >> 40) as usize & (buckets - 1)
 }
 
