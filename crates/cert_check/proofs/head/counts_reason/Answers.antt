@@ -4,7 +4,6 @@ use Rattle.std.proofs.lemmas.Bool.Decides.{Decides-eqb}
 use Rattle.std.proofs.lemmas.Slice.Eq.{slice_eq-Decides}
 use Rattle.order_model.specs.Levels.{level_counts}
 use Rattle.order_model.specs.Problems.{functions}
-use Rattle.order_model.proofs.Precedence.MaskLaws.{order_of}
 use Rattle.cert_check.proofs.Reasons.{levels_first, total_first}
 use Rattle.cert_check.proofs.head.counts_reason.Goals as goal
 

@@ -1,0 +1,46 @@
+use Rattle.std.proofs.Common.{◌≡◌, ◌^◌, length, sym, ap, subst, arith}
+use Rattle.rayon.proofs.ListFacts.{IfOk-then}
+use Rattle.class_laws.specs.PairTables.{IsPairTable}
+use Rattle.class_laws.specs.Places as places
+use Rattle.cert_check.specs.LowerClasses.{pairs_with}
+use Rattle.cert_check.specs.Tables.{HoldsTable, TableOf}
+use Rattle.cert_check.proofs.LowerPairs.{pairs_with_width}
+use Rattle.cert_check.proofs.Shortened.{ready}
+use Rattle.cert_check.proofs.class_table.ClassTable.tells_wide.Goals as goal
+
+pub are_wide-requires : goal.are_wide-requires
+are_wide-requires c =
+    let t = c.args.self.now in
+    let table =
+    subst (λ (z : TableOf). HoldsTable z c.self.inside.full c.self.inside.numbers.items c.self.inside.masks.items) c.self.view_is
+    c.self.invariant in
+    let h = subst (λ f. HoldsTable t f c.self.inside.numbers.items c.self.inside.masks.items) c.in-None.is table in
+    let r = ready t c.args.x c.requires.inside c.requires.below c.requires.free c.self.inside.numbers.items c.self.inside.masks.items h in
+    let most = r.few_entries in
+    let e = ap length c.deref-in-None.ensures.value in
+    let classes = r.few in
+    record {
+      table = subst (λ us. IsPairTable us c.args.x (length c.deref-in-None.result.now)) (sym c.deref.ensures.value)
+          (subst (λ us. IsPairTable c.self.inside.numbers.items c.args.x (length us)) (sym c.deref-in-None.ensures.value) (record {
+            paired = record { small_rank = r.rank; short = omega arith; whole = r.whole };
+            few = most;
+            below = r.classes;
+          }));
+      few = omega arith;
+      variables = c.requires.variables;
+    }
+
+pub returns-in-None : goal.returns-in-None
+unfolding pairs_with
+returns-in-None c = IfOk-then c.are_wide.result _ _ c.are_wide.ensures (λ wide h told y member.
+    let t = c.args.self.now in
+    let table =
+    subst (λ (z : TableOf). HoldsTable z c.self.inside.full c.self.inside.numbers.items c.self.inside.masks.items) c.self.view_is
+    c.self.invariant in
+    let rows = subst (λ f. HoldsTable t f c.self.inside.numbers.items c.self.inside.masks.items) c.in-None.is table in
+    let w = pairs_with_width t c.args.x y c.requires.inside c.requires.below c.requires.free c.self.inside.numbers.items c.self.inside.masks.items rows member in
+    let n = h told y in
+    let e : pairs_with c.deref-in-None.result.now c.args.x y (places.pairs c.deref.result.now (2 ^ c.args.x))
+    ≡ pairs_with c.self.inside.masks.items c.args.x y (places.pairs c.self.inside.numbers.items (2 ^ c.args.x)) =
+    (λ i. pairs_with (c.deref-in-None.ensures.value i) c.args.x y (places.pairs (c.deref.ensures.value i) (2 ^ c.args.x))) in
+    omega arith)
