@@ -1,6 +1,6 @@
 //! Rows of entries, of which those that have come before are left out.
 
-ghost use Rattle.std.specs.Prelude.{◌≡◌, ℕ, ◌*◌, ◌^◌, ◌<◌, ◌≤◌, ◌++◌, List, length, IfOk, IsTrue};
+ghost use Rattle.std.specs.Prelude.{◌≡◌, ℕ, ◌*◌, ◌^◌, ◌<◌, ◌≤◌, ◌++◌, List, length, IfOk, IfSome, IsTrue};
 ghost use Rattle.cert_check.specs.Rows.{AreRows, IsShort};
 
 use order_model::VarIx;
@@ -41,17 +41,43 @@ fn is_kept(kept: &[u32], place: usize, row: &[u32]) -> bool
     before == row
 }
 
-/// The rows of 2 ^ y entries, mostly each once, in the order in which they first come.
+/// Whether one of the first half of the rows of 2 ^ y entries is seen to come again among these.
+fn has_repeat(alloc: Global, numbers: &[u32], y: VarIx) -> Result<bool, AllocError>
+    requires variable { y ≤ 16 }
+    requires few { length numbers.now ≤ 2 ^ 20 }
+    requires rows { AreRows (2 ^ y) numbers.now }
+{
+    let width = 1usize << y;
+    let rows = numbers.len() / width / 2;
+    let mut places = vec![in alloc; 0u32; (2 * rows).next_power_of_two()]?;
+    for number in 0..rows {
+        let row = &numbers[number * width..(number + 1) * width];
+        let home = bucket_of(row, places.len());
+        if is_kept(numbers, places[home] as usize, row) {
+            return Ok(true);
+        }
+        places[home] = number as u32 + 1;
+    }
+    Ok(false)
+}
+
+/// The rows of 2 ^ y entries, mostly each once, in the order in which they first come, if one of
+/// the first half of them is seen to come again.
 pub(crate) fn without_repeats(
     alloc: Global,
     numbers: &[u32],
     y: VarIx,
-) -> Result<Vec<u32>, AllocError>
+) -> Result<Option<Vec<u32>>, AllocError>
     requires variable { y ≤ 16 }
     requires few { length numbers.now ≤ 2 ^ 20 }
     requires rows { AreRows (2 ^ y) numbers.now }
-    ensures { IfOk result (λ v. (steps : ℕ) × IsShort (2 ^ y) steps numbers.now v.items) }
+    ensures { IfOk result
+        (λ o. IfSome o (λ v. (steps : ℕ) × IsShort (2 ^ y) steps numbers.now v.items)) }
 {
+    let repeats = has_repeat(alloc, numbers, y)?;
+    if !repeats {
+        return Ok(None);
+    }
     let width = 1usize << y;
     let rows = numbers.len() / width;
     let mut places = vec![in alloc; 0u32; (2 * rows).next_power_of_two()]?;
@@ -64,5 +90,5 @@ pub(crate) fn without_repeats(
             places[home] = (kept.len() / width) as u32;
         }
     }
-    Ok(kept)
+    Ok(Some(kept))
 }

@@ -11,12 +11,7 @@ use order_model::{Mask, VarIx, contains};
 use std::alloc::{AllocError, Global};
 
 /// By how much the value rises along each edge that is judged into a set: the width that it needs.
-fn needed_widths(
-    alloc: Global,
-    edges: Edges,
-    inputs: u8,
-    set: Mask,
-) -> Result<Vec<u32>, AllocError>
+fn needed_widths(alloc: Global, edges: Edges, inputs: u8, set: Mask) -> Result<Vec<u32>, AllocError>
     requires few { inputs ≤ 16 }
     requires edges { AreEdgeTables inputs edges.values.now edges.judged.now }
     requires set { set < 2 ^ inputs }

@@ -38,14 +38,14 @@ returns c = IfOk-then c.tells_wide.result _ _ c.tells_wide.ensures (λ wide h to
     none_into n F values judged (c.args.table.now.set + 2 ^ x) x needed c.requires.walk.edges.members
     (λ U above below. c.if-has_later.ensures refl U (let s = here in omega arith) (let s = here in omega arith))
     (λ y b. subst (λ T. slice_index values T ≤ slice_index values (T - 2 ^ y) + slice_index needed y) here
-        (c.in_ok-needed.ensures.enough y (ap (λ T. bit_at (slice_index judged T) y) here ∙ b)))
+    (c.in_ok-needed.ensures.enough y (ap (λ T. bit_at (slice_index judged T) y) here ∙ b)))
     (λ y there.
-        let union = high_or c.args.table.now.set x c.requires.free in
-        let whole : members c.args.table.now.problem.inputs (bit_or c.args.table.now.set (2 ^ x)) ≡ members n (c.args.table.now.set + 2 ^ x) =
-        λ k. members (sym c.requires.walk.inputs k) (union k) in
-        let w = h told y (ap (λ S. has S y) whole ∙ there) in
-        let e = ap (λ us. slice_index us y) c.deref.ensures.value in
-        let v : width c.args.table.now.problem.inputs F (without y (members c.args.table.now.problem.inputs (bit_or c.args.table.now.set (2 ^ x)))) y
-        ≡ width n F (without y (members n (c.args.table.now.set + 2 ^ x))) y =
-        λ k. width (sym c.requires.walk.inputs k) F (without y (whole k)) y in
-        omega arith))
+    let union = high_or c.args.table.now.set x c.requires.free in
+    let whole : members c.args.table.now.problem.inputs (bit_or c.args.table.now.set (2 ^ x)) ≡ members n (c.args.table.now.set + 2 ^ x) =
+    λ k. members (sym c.requires.walk.inputs k) (union k) in
+    let w = h told y (ap (λ S. has S y) whole ∙ there) in
+    let e = ap (λ us. slice_index us y) c.deref.ensures.value in
+    let v : width c.args.table.now.problem.inputs F (without y (members c.args.table.now.problem.inputs (bit_or c.args.table.now.set (2 ^ x)))) y
+    ≡ width n F (without y (members n (c.args.table.now.set + 2 ^ x))) y =
+    λ k. width (sym c.requires.walk.inputs k) F (without y (whole k)) y in
+    omega arith))

@@ -1,4 +1,5 @@
-use Rattle.std.proofs.Common.{◌≡◌, ◌+◌, ◌-◌, ◌*◌, ◌≤◌, ◌%◌, ◌^◌, ◌++◌, length, sym, ap, subst, ◌∙◌, arith}
+use Rattle.std.proofs.Common.{◌≡◌, ℕ, ◌+◌, ◌-◌, ◌*◌, ◌≤◌, ◌%◌, ◌^◌, ◌++◌, length, sym, ap, subst, ◌∙◌, arith}
+use Rattle.std.specs.Option.{IfSome}
 use Rattle.class_laws.specs.Table.{HoldsClasses}
 use Rattle.cert_check.specs.Rows.{IsShort}
 use Rattle.cert_check.specs.Tables.{HoldsTable, TableOf, classes_at, table_at}
@@ -44,9 +45,10 @@ invariant_of-result c =
     let h = subst (λ f. HoldsTable t f c.self.inside.numbers.items c.self.inside.masks.items) c.in-None.is c.self.invariant in
     let y = c.args.y in
     let lower = c.if-self-y.false in
-    let e = c.in_ok-numbers-in-None.ensures in
-    let from = subst (λ us. IsShort (2 ^ y) e.0 us c.in_ok-numbers-in-None.numbers.items) c.deref.ensures.value e.1 in
-    let both = short_then (2 ^ y) h.steps e.0 h.whole c.self.inside.numbers.items c.in_ok-numbers-in-None.numbers.items
+    let numbers = c.in-Some-shorter.numbers.items in
+    let e = subst (λ o. IfSome o (λ v. (steps : ℕ) × IsShort (2 ^ y) steps c.deref.result.now v.items)) c.in-Some-shorter.is c.in_ok-shorter-in-None.ensures in
+    let from = subst (λ us. IsShort (2 ^ y) e.0 us numbers) c.deref.ensures.value e.1 in
+    let both = short_then (2 ^ y) h.steps e.0 h.whole c.self.inside.numbers.items numbers
     (short_finer c.self.inside.level y h.steps h.whole c.self.inside.numbers.items (omega arith) h.short) from in
     let copied : c.in_ok-masks-in-None.masks.items ++ c.deref-in-None.result.now ≡ c.self.inside.masks.items =
     (λ i. c.in_ok-masks-in-None.ensures.items i ++ c.deref-in-None.ensures.value i) in

@@ -1,0 +1,28 @@
+use Rattle.std.proofs.Common.{ℕ, ◌<◌, ◌^◌, bit_or, length, set, refl, sym, ap, subst, ◌∙◌, arith}
+use Rattle.std.proofs.lemmas.List.{length-set, get_or_default}
+use Rattle.class_laws.specs.Places as places
+use Rattle.class_laws.proofs.Index.{length-pairs, pair_listed}
+use Rattle.class_laws.proofs.Joined.{pair_classes}
+use Rattle.cert_check.specs.LowerClasses.{AreTold}
+use Rattle.cert_check.proofs.LowerMarks.{one_told}
+use Rattle.cert_check.proofs.lowers.lower_masks.Goals as goal
+
+pub loop-j-preserved : goal.loop-j-preserved
+loop-j-preserved c =
+    let ps = places.pairs c.args.numbers.now (2 ^ c.args.rank) in
+    let j = c.loop-j.j in
+    let small = c.loop-j-test.true in
+    let told = c.loop-j.told.items in
+    let lower = c.pair_at-pair.result.0 in
+    let l = length-pairs c.args.numbers.now (2 ^ c.args.rank) in
+    let is = pair_listed c.args.numbers.now (2 ^ c.args.rank) j small ∙ sym c.pair_at-pair.ensures in
+    let classes = (pair_classes c.args.numbers.now c.args.rank (length c.args.masks.now) j c.requires.table.paired.whole c.requires.table.below small).0 in
+    let same = ap (λ (p : ℕ × ℕ). p.0) c.pair_at-pair.ensures in
+    let long = c.loop-j.invariant.long in
+    let within : lower < length told = omega arith in
+    record {
+      long = length-set told _ _ ∙ c.loop-j.invariant.long;
+      told = subst (λ k. AreTold c.args.masks.now c.args.x ps (set told lower (bit_or c.index_mut.result.now k))) (sym c.join_mask.ensures)
+          (one_told c.args.masks.now c.args.x ps told j lower c.index_mut.result.now c.pair_at-pair.result (omega arith) within is refl
+          (c.index_mut.ensures.value ∙ sym (get_or_default told lower 0 c.index_mut.result.now within)) c.loop-j.invariant.told);
+    }
