@@ -1,5 +1,5 @@
 #!/usr/bin/env python3
-"""turns.py RUNS PROGRAM.. -- FILE..   runs programs on files in turns, and prints of each the least wall time and processor time in seconds. A PROGRAM may have options, as "minorder --workers 1"."""
+"""turns.py RUNS PROGRAM.. -- FILE..   runs programs on files in turns, and prints of each the least wall time and processor time in seconds. A PROGRAM may have options, as "minorder --workers 1", and a FILE further words, as "mul8x8.pla mul8x8.cert"."""
 import os
 import subprocess
 import sys
@@ -8,7 +8,7 @@ import time
 
 def run(program, file):
     begin = time.perf_counter()
-    ran = subprocess.Popen([*program.split(), file], stdout=subprocess.DEVNULL)
+    ran = subprocess.Popen([*program.split(), *file.split()], stdout=subprocess.DEVNULL)
     _, status, used = os.wait4(ran.pid, 0)
     if status:
         sys.exit(f"{program} {file}: status {status}")
@@ -27,7 +27,7 @@ def main():
                 found[program].append(run(program, file))
         for program in programs:
             wall, processor = zip(*found[program])
-            print(f"{os.path.basename(file)} {program}: wall {min(wall):.4f}, processor {min(processor):.3f}", flush=True)
+            print(f"{os.path.basename(file.split()[0])} {program}: wall {min(wall):.4f}, processor {min(processor):.3f}", flush=True)
 
 
 main()
