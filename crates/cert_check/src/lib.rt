@@ -8,10 +8,14 @@
 mod checking;
 mod class_table;
 mod edges;
+mod fewer;
 mod head;
+mod images;
 mod lowers;
 mod numbering;
 mod pair_numbers;
+mod partners;
+mod points;
 mod repeats;
 mod spread;
 mod told;

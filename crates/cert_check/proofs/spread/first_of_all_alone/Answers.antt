@@ -5,7 +5,7 @@ use Rattle.cert_check.specs.Edges.{Fails, FailsWithin, IsFirstEdge}
 use Rattle.cert_check.specs.Tables.{TableOf}
 use Rattle.cert_check.proofs.EdgeMarks.{first_same}
 use Rattle.cert_check.proofs.FirstEdges.{judged_within}
-use Rattle.cert_check.proofs.spread.first_failure_alone.Goals as goal
+use Rattle.cert_check.proofs.spread.first_of_all_alone.Goals as goal
 
 pub returns : goal.returns
 returns c =

@@ -6,7 +6,7 @@ use Rattle.order_model.specs.Problems.{functions}
 use Rattle.cert_check.specs.Edges.{FailsWithin, IsFirstEdge}
 use Rattle.cert_check.proofs.HighSets.{multiple}
 use Rattle.cert_check.proofs.IntoSet.{place_below}
-use Rattle.cert_check.proofs.spread.fn.first_failure.map.Goals as goal
+use Rattle.cert_check.proofs.spread.fn.first_of_all.map.Goals as goal
 
 -- a part, as a mask
 part_small : (n end p : ℕ) → end ≤ n → p < 2 ^ end → p * 2 ^ (n - end) < 2 ^ n

@@ -1,0 +1,153 @@
+-- Sets that need not be judged, since an exchange of variables leads to greater ones.
+--     leads_on      a set whose image is greater leads on
+--     none_lost      if no edge fails among fewer ones, none fails at all
+--     fewer_tables      fewer edges are tables of edges too
+--     fewer_start, fewer_step      no set is left out; one more set is left out that leads on
+use Rattle.std.proofs.Common.{◌≡◌, ℕ, zero, suc, ◌+◌, ◌-◌, ◌^◌, ◌<◌, ◌≤◌, true, not, ◌&&◌, inl, inr, List, length, set, slice_index, nat_eq, eqb, eqb-true, eq-eqb, refl, sym, ap, ap₂, ◌∙◌, subst, arith}
+use Rattle.std.specs.Int.{bit_at}
+use Rattle.std.proofs.lemmas.Bool.{cases_eq}
+use Rattle.std.proofs.lemmas.List.{get_or-set_same, get_or-set_other, length-set}
+use Rattle.std.proofs.lemmas.Nat.Bits.{bit_at-zero, bit_at-lt, same_from_bits_below}
+use Rattle.order_model.specs.Functions.{Function}
+use Rattle.order_model.specs.Orders.{has, members, without}
+use Rattle.order_model.specs.Widths.{width}
+use Rattle.order_model.proofs.Lists.Orders.{same_bool, has_variables}
+use Rattle.order_model.proofs.Bits.Masks.{has_members, members_without}
+use Rattle.order_model.proofs.Widths.Recurrence.{has_without, absent_without}
+use Rattle.cert_check.specs.Edges.{Fails, AreEdgeTables}
+use Rattle.cert_check.specs.Exchanges.{IsExchange, IsImage, AreImages}
+use Rattle.cert_check.specs.FewerEdges.{AreKept, LeadsOn, AreFewer}
+use Rattle.cert_check.proofs.FirstEdges.{judged_within}
+use Rattle.cert_check.proofs.IntoSet.{bit_needs}
+
+-- a variable of n is a member of a set just if its bit is in the mask
+member_bit : (n S y : ℕ) → y < n → has (members n S) y ≡ eqb (bit_at S y) 1
+member_bit n S y l = has_members n S y ∙ ap (λ b. b && eqb (bit_at S y) 1) ((has_variables n y).1 l)
+
+-- variables that are both members, or both not, have equal bits
+same_bit : (n S T y z : ℕ) → y < n → z < n → has (members n S) y ≡ has (members n T) z → bit_at S y ≡ bit_at T z
+same_bit n S T y z l m e = one (bit_at S y) (bit_at T z) (bit_at-lt S y) (bit_at-lt T z) (sym (member_bit n S y l) ∙ e ∙ member_bit n T z m)
+  where
+    one : (a b : ℕ) → a < 2 → b < 2 → eqb a 1 ≡ eqb b 1 → a ≡ b
+    one a b s t h = elim (cases_eq b 1) [
+      | inl f ↦ eqb-true a 1 (h ∙ eq-eqb b 1 f) ∙ sym f
+      | inr ne ↦ elim (cases_eq a 1) [
+        | inl f ↦ absurd (ne (eqb-true b 1 (sym h ∙ eq-eqb a 1 f)))
+        | inr other ↦ (let z : a ≡ b = omega arith in z)
+      ]
+    ]
+
+module _ (n : ℕ) (partners : List ℕ) (exchange : IsExchange n partners) where
+  -- two variables are one just if their partners are
+  same_partner : (x y : ℕ) → x < n → y < n → nat_eq (slice_index partners x) (slice_index partners y) ≡ nat_eq x y
+  same_partner x y l m = same_bool _ _
+      (λ e. eq-eqb x y
+      (sym (exchange.back x l) ∙ ap (slice_index partners) (eqb-true (slice_index partners x) (slice_index partners y) e) ∙ exchange.back y m))
+      (λ e. eq-eqb (slice_index partners x) (slice_index partners y) (ap (slice_index partners) (eqb-true x y e)))
+
+  -- the members of the image of a set are the partners of its members
+  partner_member : (S T y : ℕ) → IsImage n partners S T → y < n → has (members n T) (slice_index partners y) ≡ has (members n S) y
+  partner_member S T y image l =
+      member_bit n T (slice_index partners y) (exchange.inside y l)
+      ∙ ap (λ b. eqb b 1) (image.bits (slice_index partners y) (exchange.inside y l) ∙ ap (bit_at S) (exchange.back y l))
+      ∙ sym (member_bit n S y l)
+
+  -- so it is for the two sets without a variable and its partner
+  partner_without : (S T x y : ℕ) → IsImage n partners S T → x < n → has (members n S) x ≡ true → y < n →
+      has (members n (T - 2 ^ slice_index partners x)) (slice_index partners y) ≡ has (members n (S - 2 ^ x)) y
+  partner_without S T x y image small there l =
+      let own = partner_member S T x image small ∙ there in
+      members_without n T (slice_index partners x) own (slice_index partners y)
+      ∙ has_without (slice_index partners x) (members n T) (slice_index partners y)
+      ∙ ap₂ (λ a b. a && not b) (partner_member S T y image l) (same_partner x y small l)
+      ∙ sym (members_without n S x there y ∙ has_without x (members n S) y)
+
+  -- a set with the partners of another's members is its image
+  image_unique : (S T U : ℕ) → IsImage n partners S T → U < 2 ^ n →
+      ((y : ℕ) → y < n → has (members n U) (slice_index partners y) ≡ has (members n S) y) → T ≡ U
+  image_unique S T U image small same = same_from_bits_below n T U image.small small (λ y l.
+      let m = exchange.inside y l in
+      let back = ap (has (members n U)) (sym (exchange.back y l)) in
+      image.bits y l ∙ sym (same_bit n U S y (slice_index partners y) l m (back ∙ same (slice_index partners y) m)))
+
+-- a set whose image is greater leads on
+pub leads_on : (n : ℕ) (F : List Function) (values judged partners images : List ℕ) → IsExchange n partners → AreImages n partners images →
+    AreEdgeTables n values judged → AreKept n values judged images →
+    (wide : (S T : List ℕ) (x : ℕ) → x < n → ((y : ℕ) → y < n → has T (slice_index partners y) ≡ has S y) →
+    width n F T (slice_index partners x) ≤ width n F S x) →
+    (T : ℕ) → T < 2 ^ n → T < slice_index images T → LeadsOn n F values judged T
+leads_on n F values judged partners images exchange are tables kept wide T less greater S x f e =
+    let x' = slice_index partners x in
+    let T' = slice_index images T in
+    let image = are.each T less in
+    let own = image.small in
+    let small = exchange.inside x f.small in
+    let o : bit_at (slice_index judged T) x ≡ 1 = ap (λ k. bit_at (slice_index judged k) x) (sym e) ∙ f.is_judged in
+    let there : has (members n T) x ≡ true = tables.members T x o in
+    let back : T - 2 ^ x ≡ S = omega arith in
+    let there' : has (members n T') x' ≡ true = partner_member n partners exchange T T' x image f.small ∙ there in
+    let enough : 2 ^ x' ≤ T' = bit_needs n T' x' there' in
+    let again : (T' - 2 ^ x') + 2 ^ x' ≡ T' = omega arith in
+    let same : (y : ℕ) → y < n → has (members n (T' - 2 ^ x')) (slice_index partners y) ≡ has (members n S) y =
+    λ y l. partner_without n partners exchange T T' x y image f.small there l ∙ ap (λ k. has (members n k) y) back in
+    let moved : slice_index images S ≡ T' - 2 ^ x' =
+    image_unique n partners exchange S (slice_index images S) (T' - 2 ^ x') (are.each S (omega arith)) (omega arith) same in
+    let low : slice_index values (T' - 2 ^ x') ≡ slice_index values S = ap (slice_index values) (sym moved) ∙ kept.alike S (omega arith) in
+    let high : slice_index values (T' - 2 ^ x' + 2 ^ x') ≡ slice_index values (S + 2 ^ x) =
+    ap (slice_index values) again ∙ kept.alike T less ∙ ap (slice_index values) (sym e) in
+    let narrow = wide (members n S) (members n (T' - 2 ^ x')) x f.small same in
+    let rises = f.fails in
+    let bits = (are.each (slice_index judged T) (kept.inside T less)).bits x' small in
+    let edge : Fails n F values judged (T' - 2 ^ x') x' = record {
+      small = small;
+      new = members_without n T' x' there' x' ∙ absent_without x' (members n T');
+      is_judged =
+          ap (λ k. bit_at (slice_index judged k) x') again ∙ ap (λ k. bit_at k x') (kept.partners T less) ∙ bits
+          ∙ ap (bit_at (slice_index judged T)) (exchange.back x f.small) ∙ o;
+      fails = omega arith;
+    } in
+    ((T' - 2 ^ x', x'), edge, omega arith)
+
+module _ (n : ℕ) (F : List Function) (values judged fewer : List ℕ) where
+  -- if no edge fails among fewer ones, none fails at all
+  pub none_lost : AreEdgeTables n values judged → AreFewer n F values judged fewer → ((S x : ℕ) → Fails n F values fewer S x → ⊥) → (S x : ℕ) →
+      Fails n F values judged S x → ⊥
+  none_lost tables are none S x f = below (2 ^ n) S x (omega arith) f
+    where
+      -- an edge that fails and is left out leads to one into a greater set
+      below : (k S x : ℕ) → 2 ^ n ≤ S + 2 ^ x + k → Fails n F values judged S x → ⊥
+      below zero S x le f = let w = judged_within n F values judged tables.judged_all S x f in omega arith
+      below (suc k) S x le f = elim (are.each (S + 2 ^ x)) [
+        | inl same ↦ none S x (record { small = f.small; new = f.new; is_judged = ap (λ m. bit_at m x) same ∙ f.is_judged; fails = f.fails })
+        | inr led ↦ let next = led.1 S x f refl in below k next.0.0 next.0.1 (let l = next.2 in omega arith) next.1
+      ]
+
+  -- fewer edges are tables of edges too
+  pub fewer_tables : AreEdgeTables n values judged → AreFewer n F values judged fewer → AreEdgeTables n values fewer
+  fewer_tables tables are = record {
+    values_all = tables.values_all;
+    judged_all = are.long;
+    members = λ T x o. elim (are.each T) [
+      | inl same ↦ tables.members T x (ap (λ m. bit_at m x) (sym same) ∙ o)
+      | inr led ↦ absurd (let z = ap (λ m. bit_at m x) led.0 ∙ bit_at-zero x in omega arith)
+    ];
+  }
+
+  -- one more set is left out that leads on
+  pub fewer_step : (T : ℕ) → T < 2 ^ n → AreFewer n F values judged fewer → LeadsOn n F values judged T → AreFewer n F values judged (set fewer T 0)
+  fewer_step T less are leads = record {
+    long = length-set fewer T 0 ∙ are.long;
+    each = λ U. elim (cases_eq U T) [
+      | inl e ↦ inr (
+        ap (slice_index (set fewer T 0)) e ∙ get_or-set_same fewer T 0 0 (let l = are.long in omega arith),
+        subst (LeadsOn n F values judged) (sym e) leads,
+      )
+      | inr ne ↦
+          let other : slice_index (set fewer T 0) U ≡ slice_index fewer U = get_or-set_other fewer T U 0 0 ne in
+          elim (are.each U) [ inl same ↦ inl (other ∙ same) | inr led ↦ inr (other ∙ led.0, led.1) ]
+    ];
+  }
+
+-- no set is left out
+pub fewer_start : (n : ℕ) (F : List Function) (values judged : List ℕ) → length judged ≡ 2 ^ n → AreFewer n F values judged judged
+fewer_start n F values judged long = record { long = long; each = λ T. inl refl }

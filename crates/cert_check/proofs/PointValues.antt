@@ -1,0 +1,130 @@
+-- The values of functions at points, as numbers, and exchanges that these numbers do not notice.
+--     TellTo t j values      points with equal numbers have equal values of the first j functions
+--     room      one bit more fits 16 bits
+--     tell_none, tell_more, tell_all      of no function, with one function more, and of all
+--     symmetric_by_values      where points and their images have equal numbers, the functions are symmetric
+--     guided      an exchange that keeps the functions' values and the edges shows which sets lead on
+use Rattle.std.proofs.Common.{◌≡◌, ℕ, ◌+◌, ◌*◌, ◌^◌, ◌<◌, ◌≤◌, Bool, true, false, inl, inr, List, [], map, length, get_or, slice_index, refl, sym, ap, ◌∙◌, subst, arith, pow_mono, pow_pos}
+use mir.Val.{bool_byte}
+use Rattle.std.specs.Int.{bit_at}
+use Rattle.std.proofs.lemmas.Bool.{cases_eq, cases_lt}
+use Rattle.std.proofs.lemmas.Grind.{pow_more}
+use Rattle.std.proofs.lemmas.List.{get_or-map, length-map}
+use Rattle.std.proofs.lemmas.Nat.Bits.{same_from_bits_below}
+use Rattle.order_model.specs.Functions.{Point, Function, weight, number, from_table, SameFunction}
+use Rattle.order_model.specs.Problems.{TruthTables, functions, outputs_of, packed_bit, table_at, table_in, value_at}
+use Rattle.order_model.proofs.Bits.PointNumbers.{number-small, bit-number}
+use Rattle.class_laws.proofs.ValueRows.{bit_in}
+use Rattle.cert_check.specs.Exchanges.{AreImages, AreSymmetric, IsExchange, TellValues, exchanged}
+use Rattle.cert_check.specs.Edges.{AreEdgeTables}
+use Rattle.cert_check.specs.FewerEdges.{AreGuides, AreKept}
+use Rattle.cert_check.proofs.FirstEdges.{past_end}
+use Rattle.cert_check.proofs.LedOn.{leads_on}
+use Rattle.cert_check.proofs.SymmetricWidths.{bit_exchanged, length_exchanged, width_exchanged}
+
+-- points with equal numbers have equal values of the first j functions
+pub record TellTo (t : TruthTables) (j : ℕ) (values : List ℕ) : Type 0 where
+  pub long : length values ≡ 2 ^ t.inputs
+  pub below : (p : ℕ) → slice_index values p < 2 ^ j
+  pub told : (p q : ℕ) → p < 2 ^ t.inputs → q < 2 ^ t.inputs → slice_index values p ≡ slice_index values q → (i : ℕ) → i < j → value_at t i p ≡ value_at t i q
+
+-- of no function
+pub tell_none : (t : TruthTables) (values : List ℕ) → length values ≡ 2 ^ t.inputs → ((p : ℕ) → slice_index values p ≡ 0) → TellTo t 0 values
+tell_none t values long zeros = record {
+  long = long;
+  below = λ p. (let z = zeros p in omega arith);
+  told = λ p q l m e i less. absurd (omega arith);
+}
+
+-- the last bits and what stands before them are told by the sum
+parts_same : (a b : ℕ) (v w : Bool) → 2 * a + weight v ≡ 2 * b + weight w → (a ≡ b) × (v ≡ w)
+parts_same a b true true e = (omega arith, refl)
+parts_same a b true false e = absurd (omega arith)
+parts_same a b false true e = absurd (omega arith)
+parts_same a b false false e = (omega arith, refl)
+
+weight_small : (v : Bool) → weight v ≤ 1
+weight_small true = omega arith
+weight_small false = omega arith
+
+-- one bit more fits 16 bits
+pub room : (value before : ℕ) (bit : Bool) → before < 16 → value < 2 ^ before → 2 * value + bool_byte bit < 65536
+room value before bit few below =
+    let p : 2 ^ before ≤ 2 ^ 15 = pow_mono {i = before} {j = 15} (omega arith) in
+    let s = byte_small bit in
+    omega arith
+  where
+    byte_small : (b : Bool) → bool_byte b ≤ 1
+    byte_small true = omega arith
+    byte_small false = omega arith
+
+-- with one function more
+pub tell_more : (t : TruthTables) (j : ℕ) (old new words : List ℕ) → TellTo t j old → length new ≡ length old → table_in t.inputs words ≡ table_at t j →
+    ((p : ℕ) → p < length old → slice_index new p ≡ 2 * slice_index old p + weight (packed_bit words p)) → TellTo t (j + 1) new
+tell_more t j old new words tell long table each = record {
+  long = long ∙ tell.long;
+  below = λ p. elim (cases_lt p (length old)) [
+    | inl l ↦ (let e = each p l in let b = tell.below p in let w = weight_small (packed_bit words p) in let s = pow_more 2 j in omega arith)
+    | inr ge ↦ (let z = past_end new p (omega arith) in let s = pow_pos (j + 1) in omega arith)
+  ];
+  told = λ p q l m e i less.
+      let parts = parts_same (slice_index old p) (slice_index old q) (packed_bit words p) (packed_bit words q)
+      (sym (each p (let s = tell.long in omega arith)) ∙ e ∙ each q (let s = tell.long in omega arith)) in
+      elim (cases_eq i j) [
+        | inl s ↦ ap (λ k. value_at t k p) s ∙ sym (value p l) ∙ parts.1 ∙ value q m ∙ ap (λ k. value_at t k q) (sym s)
+        | inr ne ↦ tell.told p q l m parts.0 i (omega arith)
+      ];
+}
+  where
+    value : (p : ℕ) → p < 2 ^ t.inputs → packed_bit words p ≡ value_at t j p
+    value p l = bit_in t.inputs words p l ∙ ap (λ u. get_or u p false) table
+
+-- of all functions
+pub tell_all : (t : TruthTables) (j : ℕ) (values : List ℕ) → j ≡ outputs_of t → TellTo t j values → TellValues t values
+tell_all t j values e tell = λ p q l m same i less. tell.told p q l m same i (omega arith)
+
+-- the number of a point with exchanged variables is the image of its number
+number_exchanged : (n : ℕ) (partners images : List ℕ) → IsExchange n partners → AreImages n partners images → (p : Point) → length p ≡ n →
+    number (exchanged n partners p) ≡ slice_index images (number p)
+number_exchanged n partners images e are p l =
+    let small : number p < 2 ^ n = subst (λ k. number p < 2 ^ k) l (number-small p) in
+    let image = are.each (number p) small in
+    let long = length_exchanged n partners p in
+    let other : number (exchanged n partners p) < 2 ^ n = subst (λ k. number (exchanged n partners p) < 2 ^ k) long (number-small (exchanged n partners p)) in
+    same_from_bits_below n (number (exchanged n partners p)) (slice_index images (number p)) other image.small (λ y less.
+    let inside = e.inside y less in
+    bit-number (exchanged n partners p) y (omega arith) ∙ ap weight (bit_exchanged n partners p y less)
+    ∙ sym (image.bits y less ∙ bit-number p (slice_index partners y) (omega arith)))
+
+-- where points and their images have equal numbers, the functions are symmetric
+pub symmetric_by_values : (t : TruthTables) (partners images values : List ℕ) → IsExchange t.inputs partners → AreImages t.inputs partners images →
+    TellValues t values → length values ≡ 2 ^ t.inputs →
+    ((p : ℕ) → p < length values → slice_index values (slice_index images p) ≡ slice_index values p) → AreSymmetric t.inputs (functions t) partners
+unfolding SameFunction from_table
+symmetric_by_values t partners images values e are tell long alike k d less =
+    let fewer : k < length t.tables = (let l = length-map t.tables from_table in omega arith) in
+    subst (λ f. SameFunction t.inputs f (λ p. f (exchanged t.inputs partners p))) (sym (get_or-map from_table t.tables k [] d fewer)) (at fewer)
+  where
+    at : k < length t.tables → SameFunction t.inputs (from_table (table_at t k)) (λ p. from_table (table_at t k) (exchanged t.inputs partners p))
+    at fewer p l =
+        let small : number p < 2 ^ t.inputs = subst (λ m. number p < 2 ^ m) l (number-small p) in
+        let image = (are.each (number p) small).small in
+        sym (tell (slice_index images (number p)) (number p) image small (alike (number p) (omega arith)) k fewer)
+        ∙ ap (value_at t k) (sym (number_exchanged t.inputs partners images e are p l))
+
+-- an exchange that keeps the functions' values and the edges shows which sets lead on
+pub guided : (t : TruthTables) (n : ℕ) → n ≡ t.inputs → (partners images points values judged : List ℕ) → IsExchange n partners →
+    AreImages n partners images → TellValues t points → length points ≡ 2 ^ t.inputs →
+    ((p : ℕ) → p < length points → slice_index points (slice_index images p) ≡ slice_index points p) →
+    AreEdgeTables t.inputs values judged → AreKept t.inputs values judged images → AreGuides t.inputs (functions t) values judged images
+guided t n same partners images points values judged exchange are tell long alike tables kept = record {
+  long = here.long;
+  leads = leads_on t.inputs (functions t) values judged partners images own here tables kept
+      (width_exchanged t.inputs (functions t) partners own (symmetric_by_values t partners images points own here tell long alike));
+}
+  where
+    own : IsExchange t.inputs partners
+    own = subst (λ k. IsExchange k partners) same exchange
+
+    here : AreImages t.inputs partners images
+    here = subst (λ k. AreImages k partners images) same are

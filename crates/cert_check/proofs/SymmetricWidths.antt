@@ -1,0 +1,161 @@
+-- Widths of symmetric functions: an exchange of variables that no function notices takes subfunctions to subfunctions.
+--     length_exchanged, bit_exchanged      a point with exchanged variables, by its bits
+--     width_exchanged      the width of a variable's partner over the partners of a set is at most the width of the variable over the set
+use Rattle.std.proofs.Common.{◌≡◌, ℕ, ◌<◌, ◌≤◌, Bool, true, false, not, cond, ◌&&◌, ◌||◌, inl, inr, List, ◌∷◌, map, length, set, slice_index, sym, ap, ◌∙◌, subst, arith, nat_eq, eqb-true, eq-eqb, zero-add}
+use Rattle.std.specs.List.{filter}
+use Rattle.std.specs.Set.{unique_keys}
+use Rattle.std.proofs.lemmas.Bool.{cases_Bool, cases_eq, true≢false, and_parts}
+use Rattle.std.proofs.lemmas.List.{length-map, length-set, get_or-set_same, get_or-set_other}
+use Rattle.std.proofs.lemmas.List.Elements.{recursion_from_All}
+use Rattle.std.proofs.lemmas.List.FromFn.{length-map-range_with_len, get_or-map-range_with_len, fill_by_all}
+use Rattle.order_model.specs.Functions.{Point, Function, bit, from_table, restrict, SameFunction, table, same_table, depends}
+use Rattle.order_model.specs.Orders.{has, variables}
+use Rattle.order_model.specs.Levels.{subfunctions, reach, dependents}
+use Rattle.order_model.specs.Widths.{outside, width}
+use Rattle.order_model.proofs.Bits.Points.{table-from_table}
+use Rattle.order_model.proofs.Certificates.Potential.{all_among}
+use Rattle.order_model.proofs.Functions.Exchange.{Below, below_from_has, bit-mix, fixing_reached, length-mix, mix, mix_is, subfunctions_fix}
+use Rattle.order_model.proofs.Functions.Same.{table_long}
+use Rattle.order_model.proofs.Functions.Tables.{depends_false, depends_no, depends_same, same_from_table, same_table_decides, table_same}
+use Rattle.order_model.proofs.Lists.Orders.{has_outside, has_variables, same_bool}
+use Rattle.order_model.proofs.Lists.Sets.{Among, Within, among_filter, among_flat_map, among_from_filter, among_from_flat_map, among_from_map, among_map, among_unique, count_le}
+use Rattle.cert_check.specs.Exchanges.{IsExchange, exchanged, AreSymmetric}
+
+-- a point with exchanged variables has as many
+pub length_exchanged : (n : ℕ) (partners : List ℕ) (p : Point) → length (exchanged n partners p) ≡ n
+length_exchanged n partners p = length-map-range_with_len (λ y. bit p (slice_index partners y)) 0 n
+
+-- each variable has its partner's value
+pub bit_exchanged : (n : ℕ) (partners : List ℕ) (p : Point) (y : ℕ) → y < n → bit (exchanged n partners p) y ≡ bit p (slice_index partners y)
+bit_exchanged n partners p y lt = get_or-map-range_with_len (λ z. bit p (slice_index partners z)) 0 n y y false lt (zero-add y)
+
+-- the variables outside a set are variables
+below_outside : (n : ℕ) (T : List ℕ) → Below n (outside n T)
+below_outside n T = below_from_has n (outside n T) (λ y h. (has_variables n y).0 (and_parts _ _ (sym (has_outside n T y) ∙ h)).0)
+
+module _ (n : ℕ) (partners : List ℕ) (e : IsExchange n partners) where
+  -- different variables have different partners
+  exchange_one_to_one : (x y : ℕ) → x < n → y < n → slice_index partners y ≡ slice_index partners x → y ≡ x
+  exchange_one_to_one x y inside lt h = sym (e.back y lt) ∙ ap (slice_index partners) h ∙ e.back x inside
+
+  -- a partner's value set before the exchange is the variable's set after it
+  set_exchanged : (p : Point) (x : ℕ) (b : Bool) → length p ≡ n → x < n →
+      exchanged n partners (set p (slice_index partners x) b) ≡ set (exchanged n partners p) x b
+  set_exchanged p x b l inside =
+      sym (fill_by_all (λ y. bit (set p (slice_index partners x) b) (slice_index partners y)) (set (exchanged n partners p) x b) n false
+      (length-set (exchanged n partners p) x b ∙ length_exchanged n partners p) at)
+    where
+      at : (y : ℕ) → y < n → bit (set (exchanged n partners p) x b) y ≡ bit (set p (slice_index partners x) b) (slice_index partners y)
+      at y lt =
+          elim (cases_eq y x) [
+            | inl s ↦
+                let long = length_exchanged n partners p in
+                let there = e.inside x inside in
+                ap (bit (set (exchanged n partners p) x b)) s ∙ get_or-set_same (exchanged n partners p) x b false (omega arith)
+                ∙ sym (ap (λ z. bit (set p (slice_index partners x) b) (slice_index partners z)) s
+                ∙ get_or-set_same p (slice_index partners x) b false (omega arith))
+            | inr ne ↦
+                get_or-set_other (exchanged n partners p) x y b false ne ∙ bit_exchanged n partners p y lt
+                ∙ sym (get_or-set_other p (slice_index partners x) (slice_index partners y) b false (λ s. ne (exchange_one_to_one x y inside lt s)))
+          ]
+
+  -- a dependence on a partner, at exchanged points, is one on the variable
+  depends_exchanged : (g k : Function) (x : ℕ) → x < n → SameFunction n g (λ p. k (exchanged n partners p)) → depends n g (slice_index partners x) ≡ true →
+      depends n k x ≡ true
+  unfolding SameFunction restrict
+  depends_exchanged g k x inside same h =
+      elim (cases_Bool (depends n k x)) [
+        | inl t ↦ t
+        | inr f ↦
+            absurd (true≢false (sym h ∙ depends_same n g (λ p. k (exchanged n partners p)) (slice_index partners x) same
+            ∙ depends_false n (λ p. k (exchanged n partners p)) (slice_index partners x)
+            (λ p l. ap k (set_exchanged p x false l inside) ∙ depends_no n k x f (exchanged n partners p) (length_exchanged n partners p)
+            ∙ sym (ap k (set_exchanged p x true l inside)))))
+      ]
+
+  -- the truth table of a function at exchanged points, by the function's own
+  table_exchanged : (g k : Function) → SameFunction n g (λ p. k (exchanged n partners p)) →
+      table n g ≡ table n (λ p. from_table (table n k) (exchanged n partners p))
+  unfolding SameFunction
+  table_exchanged g k same =
+      table_same n g (λ p. from_table (table n k) (exchanged n partners p))
+      (λ p l. same p l
+      ∙ sym (same_from_table n (from_table (table n k)) k (table-from_table n (table n k) (table_long n k)) (exchanged n partners p)
+      (length_exchanged n partners p)))
+
+  -- the variables outside the partners of a set are the partners of those outside the set
+  outside_exchanged : (S T : List ℕ) → ((y : ℕ) → y < n → has T (slice_index partners y) ≡ has S y) → (x : ℕ) → x < n →
+      (y : ℕ) → y < n → has (outside n (slice_index partners x ∷ T)) (slice_index partners y) ≡ has (outside n (x ∷ S)) y
+  outside_exchanged S T image x inside y lt =
+      has_outside n (slice_index partners x ∷ T) (slice_index partners y) ∙ (λ i. known i && not (same i || image y lt i)) ∙ sym (has_outside n (x ∷ S) y)
+    where
+      known : has (variables n) (slice_index partners y) ≡ has (variables n) y
+      known = (has_variables n (slice_index partners y)).1 (e.inside y lt) ∙ sym ((has_variables n y).1 lt)
+
+      same : nat_eq (slice_index partners y) (slice_index partners x) ≡ nat_eq y x
+      same =
+          same_bool _ _
+          (λ h. eq-eqb y x (exchange_one_to_one x y inside lt (eqb-true (slice_index partners y) (slice_index partners x) h)))
+          (λ h. eq-eqb (slice_index partners y) (slice_index partners x) (ap (slice_index partners) (eqb-true y x h)))
+
+  -- a subfunction that fixes the partners of some variables is one that fixes those, at exchanged points
+  exchanged_reached : (F : List Function) → AreSymmetric n F partners → (xs ys : List ℕ) → Below n xs → Below n ys →
+      ((y : ℕ) → y < n → has ys (slice_index partners y) ≡ has xs y) →
+      (g : Function) → Among g (reach F ys) → (k : Function) × Among k (reach F xs) × SameFunction n g (λ p. k (exchanged n partners p))
+  unfolding reach SameFunction
+  exchanged_reached F symmetric xs ys b c h g r =
+      let from = among_from_flat_map (subfunctions ys) g F r in
+      let f = from.0 in
+      let fix = subfunctions_fix n ys c f g from.2 in
+      let a = fix.0 in
+      let to = fixing_reached n xs b f (exchanged n partners a) in
+      let kept = all_among (λ u. SameFunction n u (λ p. u (exchanged n partners p))) F f (recursion_from_All _ F symmetric) from.1 in (
+        to.0,
+        among_flat_map (subfunctions xs) f F to.0 from.1 to.1,
+        λ p l. fix.2 p l ∙ kept (mix n ys a p) (length-mix n ys a p) ∙ ap f (mixed a p) ∙ sym (to.2 (exchanged n partners p) (length_exchanged n partners p)),
+      )
+    where
+      mixed : (a p : Point) → exchanged n partners (mix n ys a p) ≡ mix n xs (exchanged n partners a) (exchanged n partners p)
+      mixed a p =
+          mix_is n xs (exchanged n partners a) (exchanged n partners p) (exchanged n partners (mix n ys a p)) (length_exchanged n partners (mix n ys a p))
+          (λ y lt. bit_exchanged n partners (mix n ys a p) y lt ∙ bit-mix n ys a p (slice_index partners y) (e.inside y lt)
+          ∙ (λ i. cond (h y lt i) (sym (bit_exchanged n partners a y lt) i) (sym (bit_exchanged n partners p y lt) i)))
+
+  -- if each function of gs is one of fs at exchanged points, at most as many of gs depend on a partner as of fs depend on the variable
+  dependents_exchanged : (fs gs : List Function) (x : ℕ) → x < n →
+      ((g : Function) → Among g gs → (k : Function) × Among k fs × SameFunction n g (λ p. k (exchanged n partners p))) →
+      dependents n gs (slice_index partners x) ≤ dependents n fs x
+  unfolding dependents
+  dependents_exchanged fs gs x inside h =
+      let l = length-map (unique_keys same_table counted) moved in
+      let c = count_le same_table same_table_decides (map (table n) (filter (λ f. depends n f (slice_index partners x)) gs))
+      (map moved (unique_keys same_table counted)) within in
+      omega arith
+    where
+      counted : List (List Bool)
+      counted = map (table n) (filter (λ f. depends n f x) fs)
+
+      moved : List Bool → List Bool
+      moved t = table n (λ p. from_table t (exchanged n partners p))
+
+      within : Within (map (table n) (filter (λ f. depends n f (slice_index partners x)) gs)) (map moved (unique_keys same_table counted))
+      within t m =
+          let from = among_from_map (table n) t (filter (λ f. depends n f (slice_index partners x)) gs) m in
+          let g = from.0 in
+          let kept = among_from_filter (λ f. depends n f (slice_index partners x)) g gs from.1 in
+          let to = h g kept.0 in
+          let k = to.0 in
+          let there = among_filter (λ f. depends n f x) k fs to.1 (depends_exchanged g k x inside to.2 kept.1) in
+          let once = among_unique same_table same_table_decides counted (table n k) (among_map (table n) k _ there) in
+          subst (λ u. Among u (map moved (unique_keys same_table counted))) (sym (from.2 ∙ table_exchanged g k to.2)) (among_map moved (table n k) _ once)
+
+-- the width of a variable's partner over the partners of a set is at most the width of the variable over the set
+pub width_exchanged : (n : ℕ) (F : List Function) (partners : List ℕ) → IsExchange n partners → AreSymmetric n F partners → (S T : List ℕ) (x : ℕ) → x < n →
+    ((y : ℕ) → y < n → has T (slice_index partners y) ≡ has S y) → width n F T (slice_index partners x) ≤ width n F S x
+unfolding width
+width_exchanged n F partners e symmetric S T x inside image =
+    let xs = outside n (x ∷ S) in
+    let ys = outside n (slice_index partners x ∷ T) in
+    dependents_exchanged n partners e (reach F xs) (reach F ys) x inside
+    (exchanged_reached n partners e F symmetric xs ys (below_outside n (x ∷ S)) (below_outside n (slice_index partners x ∷ T))
+    (outside_exchanged n partners e S T image x inside))

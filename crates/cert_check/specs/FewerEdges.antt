@@ -1,0 +1,29 @@
+-- Sets that need not be judged, since an exchange of variables leads to greater ones.
+--     AreKept n values judged images      sets and their images have equal values, and edges are judged by partners
+--     LeadsOn n F values judged T      with each edge into T that fails, one into a greater set fails
+--     AreGuides n F values judged images      sets with greater images lead on
+--     AreFewer n F values judged fewer      the edges that are judged, but for those into sets that lead on
+use Rattle.std.specs.Prelude.{◌≡◌, ℕ, ◌+◌, ◌^◌, ◌<◌, ◌⊎◌, List, length, slice_index}
+use Rattle.order_model.specs.Functions.{Function}
+use Rattle.cert_check.specs.Edges.{Fails}
+
+-- sets and their images have equal values, and the edges into them are judged by partners
+pub record AreKept (n : ℕ) (values judged images : List ℕ) : Type 0 where
+  pub alike : (S : ℕ) → S < 2 ^ n → slice_index values (slice_index images S) ≡ slice_index values S
+  pub inside : (S : ℕ) → S < 2 ^ n → slice_index judged S < 2 ^ n
+  pub partners : (S : ℕ) → S < 2 ^ n → slice_index judged (slice_index images S) ≡ slice_index images (slice_index judged S)
+
+-- if an edge into T fails, one into a greater set does
+abbrev pub LeadsOn : ℕ → List Function → List ℕ → List ℕ → ℕ → Type 0
+LeadsOn n F values judged T = (S x : ℕ) → Fails n F values judged S x → S + 2 ^ x ≡ T →
+    (a : ℕ × ℕ) × Fails n F values judged a.0 a.1 × (T < a.0 + 2 ^ a.1)
+
+-- into each set the same edges are judged, or none if it leads on
+pub record AreFewer (n : ℕ) (F : List Function) (values judged fewer : List ℕ) : Type 0 where
+  pub long : length fewer ≡ 2 ^ n
+  pub each : (T : ℕ) → (slice_index fewer T ≡ slice_index judged T) ⊎ ((slice_index fewer T ≡ 0) × LeadsOn n F values judged T)
+
+-- sets with greater images lead on
+pub record AreGuides (n : ℕ) (F : List Function) (values judged images : List ℕ) : Type 0 where
+  pub long : length images ≡ 2 ^ n
+  pub leads : (T : ℕ) → T < 2 ^ n → T < slice_index images T → LeadsOn n F values judged T

@@ -1,0 +1,138 @@
+//! Fewer edges, of which one fails if one of all does. Where variables may be exchanged without a
+//! change of any function, value or judged edge, a set and its image have edges of equal widths, and
+//! one of both need be judged.
+
+ghost use Rattle.std.specs.Prelude.{◌≡◌, ◌≤◌, ◌<◌, ◌^◌, None, ℕ, IfOk, IfSome, OnOk, IsTrue, length, slice_index};
+ghost use Rattle.order_model.specs.Problems.{functions};
+ghost use Rattle.cert_check.specs.Edges.{AreEdgeTables, Fails, IsFirstEdge};
+ghost use Rattle.cert_check.specs.Exchanges.{TellValues};
+ghost use Rattle.cert_check.specs.FewerEdges.{AreFewer, AreGuides, AreKept};
+
+use crate::images::{are_alike, images_of, is_exchange};
+use crate::partners::{Pick, marks_of, partners_of};
+use crate::points::values_by_point;
+use crate::walk::Edges;
+use order_model::{Mask, Problem, VarIx};
+use std::alloc::{AllocError, Global};
+
+/// Whether sets and their images have equal values, and the edges into them are judged by partners.
+fn keeps_edges(edges: Edges, images: &[Mask]) -> bool
+    requires values { length edges.values.now ≡ length images.now }
+    requires judged { length edges.judged.now ≡ length images.now }
+    requires inside { (S : ℕ) → S < length images.now →
+        slice_index images.now S < length images.now }
+    ensures { (n : ℕ) → length images.now ≡ 2 ^ n → IsTrue result →
+        AreKept n edges.entry.values.now edges.entry.judged.now images.now }
+{
+    for set in 0..images.len() {
+        let image = images[set] as usize;
+        let judged = edges.judged[set] as usize;
+        if edges.values[image] != edges.values[set] || judged >= images.len() {
+            return false;
+        }
+        if edges.judged[image] != images[judged] {
+            return false;
+        }
+    }
+    true
+}
+
+/// The images of all sets, if an exchange changes no function, no value and no judged edge.
+fn images_if_kept(
+    alloc: Global,
+    problem: &Problem,
+    points: &[u16],
+    edges: Edges,
+    partners: &[VarIx],
+) -> Result<Option<Vec<Mask>>, AllocError>
+    requires points { length points.now ≡ 2 ^ problem.now.inputs }
+    requires told { TellValues problem.now points.now }
+    requires edges { AreEdgeTables problem.now.inputs edges.values.now edges.judged.now }
+    ensures { IfOk result
+        (λ o. IfSome o (λ v. AreGuides problem.now.inputs (functions problem.now)
+        edges.entry.values.now edges.entry.judged.now v.items)) }
+{
+    let inputs = problem.inputs();
+    if !is_exchange(inputs, partners) {
+        return Ok(None);
+    }
+    let images = images_of(alloc, inputs, partners)?;
+    if are_alike(points, &images) && keeps_edges(edges, &images) {
+        return Ok(Some(images));
+    }
+    Ok(None)
+}
+
+/// Leaves out the edges into sets whose images are greater.
+fn leave_out(problem: &Problem, edges: Edges, images: &[Mask], fewer: &mut Vec<u16>)
+    requires guides { AreGuides problem.now.inputs (functions problem.now) edges.values.now
+        edges.judged.now images.now }
+    requires fewer { AreFewer problem.now.inputs (functions problem.now) edges.values.now
+        edges.judged.now fewer.old.items }
+    ensures { AreFewer problem.now.inputs (functions problem.now) edges.entry.values.now
+        edges.entry.judged.now fewer.new.items }
+{
+    for set in 0..images.len() {
+        if images[set] as usize > set {
+            fewer[set] = 0;
+        }
+    }
+}
+
+/// Leaves out edges by an exchange. Returns whether it changes nothing.
+fn leave_out_by(
+    alloc: Global,
+    problem: &Problem,
+    points: &[u16],
+    edges: Edges,
+    partners: &[VarIx],
+    fewer: &mut Vec<u16>,
+) -> Result<bool, AllocError>
+    requires points { length points.now ≡ 2 ^ problem.now.inputs }
+    requires told { TellValues problem.now points.now }
+    requires edges { AreEdgeTables problem.now.inputs edges.values.now edges.judged.now }
+    requires fewer { AreFewer problem.now.inputs (functions problem.now) edges.values.now
+        edges.judged.now fewer.old.items }
+    ensures { OnOk result (AreFewer problem.now.inputs (functions problem.now)
+        edges.entry.values.now edges.entry.judged.now fewer.new.items) }
+{
+    let Some(images) = images_if_kept(alloc, problem, points, edges, partners)? else {
+        return Ok(false);
+    };
+    leave_out(problem, edges, &images, fewer);
+    Ok(true)
+}
+
+/// Fewer edges, if variables may be exchanged: if none of these fails, none fails.
+pub(crate) fn fewer_edges(
+    alloc: Global,
+    problem: &Problem,
+    edges: Edges,
+) -> Result<Option<Vec<u16>>, AllocError>
+    requires { AreEdgeTables problem.now.inputs edges.values.now edges.judged.now }
+    ensures tables { IfOk result
+        (λ o. IfSome o (λ v. AreEdgeTables problem.now.inputs edges.entry.values.now v.items)) }
+    ensures enough { IfOk result
+        (λ o. IfSome o (λ v.
+        IsFirstEdge (Fails problem.now.inputs (functions problem.now) edges.entry.values.now v.items) None →
+        IsFirstEdge (Fails problem.now.inputs (functions problem.now) edges.entry.values.now edges.entry.judged.now) None)) }
+{
+    let inputs = problem.inputs();
+    let points = values_by_point(alloc, problem)?;
+    let marks = marks_of(alloc, inputs, &points)?;
+    let mut fewer = Vec::with_capacity(alloc, edges.judged.len())?;
+    fewer.extend_from_slice(edges.judged)?;
+    let mut some = false;
+    for number in 0..2 * inputs {
+        let pick = if number < inputs {
+            Pick::One(number)
+        } else {
+            Pick::Rank(number - inputs)
+        };
+        if let Some(partners) = partners_of(alloc, &marks, pick)? {
+            let kept = leave_out_by(alloc, problem, &points, edges, &partners, &mut fewer)?;
+            some = some || kept;
+        }
+    }
+    if some { Ok(Some(fewer)) } else { Ok(None) }
+}
