@@ -17,18 +17,30 @@ use std::test::Fail;
 use std::thread::Threads;
 use truth_table::Tables;
 
-/// The text of a cover of random functions.
+/// A set, or a point, with the lower half of the variables exchanged with the upper one.
+fn exchanged(set: u32, inputs: u8) -> u32
+    requires { inputs ≤ 16 }
+{
+    let half = inputs / 2;
+    let low = set & ((1 << half) - 1);
+    let high = (set >> half) & ((1 << half) - 1);
+    set >> (2 * half) << (2 * half) | low << half | high
+}
+
+/// The text of a cover of random functions, each of which has equal values at a point and at the
+/// exchanged one if the seed is 2 or more.
 fn random_cover(alloc: Global, inputs: u8, outputs: u8, seed: u64) -> Result<String, AllocError>
     requires { inputs ≤ 16 }
 {
     let mut text = format!(in alloc; ".i {inputs}\n.o {outputs}\n")?;
-    let mut state = seed;
     for point in 0..1u32 << inputs {
         for x in 0..inputs {
             text.push(if (point >> x) & 1 == 1 { '1' } else { '0' })?;
         }
+        let least = if seed < 2 { point } else { point.min(exchanged(point, inputs)) };
+        let mut state = seed.wrapping_add(u64::from(least) << 8);
         for _output in 0..outputs {
-            state = state
+            state = (state ^ (state >> 29))
                 .wrapping_mul(6_364_136_223_846_793_005)
                 .wrapping_add(1_442_695_040_888_963_407);
             text.push(if state >> 63 == 1 { '1' } else { '0' })?;
@@ -129,7 +141,19 @@ fn solutions_are_valid(rt: HostRuntime) -> Result<(), Fail> {
     Ok(())
 }
 
-/// Judges the solver's certificate with the cost at a place changed.
+/// The place of the set with exchanged variables among the listed ones, or that of the set itself.
+fn place_of_exchanged(cells: &[ListedCell], inputs: u8, place: usize) -> usize
+    requires few { inputs ≤ 16 }
+    requires inside { place < length cells.now }
+{
+    let image = exchanged(u32::from(cells[place].mask), inputs);
+    cells
+        .iter()
+        .position(|cell: &ListedCell| u32::from(cell.mask) == image)
+        .unwrap_or(place)
+}
+
+/// Judges the solver's certificate with the cost at two places changed, or at one.
 fn judge_changed<R: Threads + Sync>(
     rt: &R,
     alloc: Global,
@@ -137,7 +161,7 @@ fn judge_changed<R: Threads + Sync>(
     plain: &Plain,
     pairs: &[(u8, u8)],
     solution: &Solution,
-    place: usize,
+    places: [usize; 2],
     cost: u32,
 ) -> Result<(), Fail> {
     for format in [1u8, 2] {
@@ -145,8 +169,10 @@ fn judge_changed<R: Threads + Sync>(
             continue;
         }
         let mut cells = solution.cells.to_vec(alloc)?;
-        if let Some(cell) = cells.get_mut(place) {
-            cell.cost = cost;
+        for place in places {
+            if let Some(cell) = cells.get_mut(place) {
+                cell.cost = cost;
+            }
         }
         let cert = certificate_with(alloc, tables, pairs, solution, cells, format)?;
         let verdict = check_alone(alloc, tables, &cert)?;
@@ -168,12 +194,15 @@ fn changed_costs_have_the_plain_verdict(rt: HostRuntime) -> Result<(), Fail> {
             let kept = pairs.to_vec(alloc)?;
             let solution = solution_of(&rt, alloc, &tables, pairs)?;
             for (place, cell) in solution.cells.iter().enumerate() {
+                let other = place_of_exchanged(&solution.cells, inputs, place);
                 for cost in [
                     cell.cost.saturating_sub(1),
                     cell.cost,
                     cell.cost.saturating_add(1),
                 ] {
-                    judge_changed(&rt, alloc, &tables, &plain, &kept, &solution, place, cost)?;
+                    for places in [[place, place], [place, other]] {
+                        judge_changed(&rt, alloc, &tables, &plain, &kept, &solution, places, cost)?;
+                    }
                 }
             }
         }
