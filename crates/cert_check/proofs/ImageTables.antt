@@ -1,7 +1,7 @@
 -- The images of sets when variables are exchanged, with one variable after the other.
 --     AreImagesTo n partners x images      the images of the sets of variables below x
 --     images_none, images_more, images_all      of the empty set, with one variable more, and of all sets
-use Rattle.std.proofs.Common.{◌≡◌, ℕ, ◌+◌, ◌-◌, ◌*◌, ◌^◌, ◌<◌, ◌≤◌, max, inl, inr, List, [], ◌∷◌, ◌++◌, map, length, slice_index, bit_or, refl, sym, ap, ◌∙◌, subst, arith, pow_pos, zero-mul}
+use Rattle.std.proofs.Common.{◌≡◌, ℕ, ◌+◌, ◌-◌, ◌*◌, ◌^◌, ◌<◌, max, inl, inr, List, [], ◌∷◌, ◌++◌, map, length, slice_index, bit_or, refl, sym, ap, ◌∙◌, subst, arith, pow_pos, zero-mul}
 use Rattle.std.specs.Int.{bit_at}
 use Rattle.std.proofs.lemmas.Bool.{cases_eq, cases_lt}
 use Rattle.std.proofs.lemmas.List.{get_or-map, get_or_append_left, get_or-append_right, length-append, length-map}

@@ -9,7 +9,7 @@ use Rattle.std.proofs.lemmas.Bool.{cases_eq}
 use Rattle.std.proofs.lemmas.List.{get_or-set_same, get_or-set_other, length-set}
 use Rattle.std.proofs.lemmas.Nat.Bits.{bit_at-zero, bit_at-lt, same_from_bits_below}
 use Rattle.order_model.specs.Functions.{Function}
-use Rattle.order_model.specs.Orders.{has, members, without}
+use Rattle.order_model.specs.Orders.{has, members}
 use Rattle.order_model.specs.Widths.{width}
 use Rattle.order_model.proofs.Lists.Orders.{same_bool, has_variables}
 use Rattle.order_model.proofs.Bits.Masks.{has_members, members_without}

@@ -4,14 +4,13 @@
 --     tell_none, tell_more, tell_all      of no function, with one function more, and of all
 --     symmetric_by_values      where points and their images have equal numbers, the functions are symmetric
 --     guided      an exchange that keeps the functions' values and the edges shows which sets lead on
-use Rattle.std.proofs.Common.{◌≡◌, ℕ, ◌+◌, ◌*◌, ◌^◌, ◌<◌, ◌≤◌, Bool, true, false, inl, inr, List, [], map, length, get_or, slice_index, refl, sym, ap, ◌∙◌, subst, arith, pow_mono, pow_pos}
+use Rattle.std.proofs.Common.{◌≡◌, ℕ, ◌+◌, ◌*◌, ◌^◌, ◌<◌, ◌≤◌, Bool, true, false, inl, inr, List, [], length, get_or, slice_index, refl, sym, ap, ◌∙◌, subst, arith, pow_mono, pow_pos}
 use mir.Val.{bool_byte}
-use Rattle.std.specs.Int.{bit_at}
 use Rattle.std.proofs.lemmas.Bool.{cases_eq, cases_lt}
 use Rattle.std.proofs.lemmas.Grind.{pow_more}
 use Rattle.std.proofs.lemmas.List.{get_or-map, length-map}
 use Rattle.std.proofs.lemmas.Nat.Bits.{same_from_bits_below}
-use Rattle.order_model.specs.Functions.{Point, Function, weight, number, from_table, SameFunction}
+use Rattle.order_model.specs.Functions.{Point, weight, number, from_table, SameFunction}
 use Rattle.order_model.specs.Problems.{TruthTables, functions, outputs_of, packed_bit, table_at, table_in, value_at}
 use Rattle.order_model.proofs.Bits.PointNumbers.{number-small, bit-number}
 use Rattle.class_laws.proofs.ValueRows.{bit_in}

@@ -19,6 +19,7 @@ mod points;
 mod repeats;
 mod spread;
 mod told;
+mod tops;
 mod values;
 mod verdict;
 mod walk;

@@ -1,5 +1,5 @@
-use Rattle.std.proofs.Common.{◌≡◌, ◌-◌, ◌*◌, ◌/◌, ◌%◌, ◌<◌, ◌≤◌, ◌^◌, IfOk, zero-mul, sym, ap, ◌∙◌, subst, arith, ℕ}
-use Rattle.std.proofs.Math.Nat.{div-lt_iff_lt-mul, mod-eq_of_lt}
+use Rattle.std.proofs.Common.{◌≡◌, ◌-◌, ◌*◌, ◌%◌, ◌<◌, ◌≤◌, ◌^◌, IfOk, sym, ap, ◌∙◌, subst, arith, ℕ}
+use Rattle.std.proofs.Math.Nat.{mod-eq_of_lt}
 use Rattle.std.proofs.Math.Pow.{pow_mono}
 use Rattle.std.proofs.lemmas.Nat.{pow_pos}
 use Rattle.order_model.specs.Problems.{functions}
@@ -24,26 +24,26 @@ part_mask n end p few le small =
 pub overflow_shl-part : goal.overflow_shl-part
 overflow_shl-part c = c.requires.1.shift
 
-pub first_in_part-requires : goal.first_in_part-requires
-first_in_part-requires c =
+pub first_from_tops-requires : goal.first_from_tops-requires
+first_from_tops-requires c =
     let n = c.captures.inputs in
     let end = c.captures.end in
     let p = c.part_of.result in
     let start = c.requires.1 in
     let level = start.level in
     let within = start.within in
+    let above = start.above in
     let mask = part_mask n end p start.walk.few within c.part_of.ensures.within in
     let small = part_small n end p within c.part_of.ensures.within in
-    let none : p * 2 ^ (n - end) / 2 ^ n < 1 = (div-lt_iff_lt-mul (pow_pos n)).1 (omega arith) in
     record {
       walk = start.walk;
-      variable = omega arith;
+      empty = start.empty;
       level = omega arith;
+      tops = start.each;
+      variable = start.variable;
       end = omega arith;
       aligned = ap (λ k. k % 2 ^ (n - end)) mask ∙ multiple p (2 ^ (n - end)) (pow_pos (n - end));
       part = (let m = mask in omega arith);
-      set = start.empty
-          ∙ sym (ap (λ k. k / 2 ^ n * 2 ^ n) mask ∙ ap (λ k. k * 2 ^ n) (let z : p * 2 ^ (n - end) / 2 ^ n ≡ 0 = omega arith in z) ∙ zero-mul (2 ^ n));
     }
 
 pub returns : goal.returns
@@ -53,7 +53,7 @@ returns c =
     let start = c.requires.1 in
     let mask = part_mask n end c.part_of.result start.walk.few start.within c.part_of.ensures.within in
     subst
-    (λ k. IfOk c.first_in_part.result
+    (λ k. IfOk c.first_from_tops.result
     (IsFirstEdge (FailsWithin n (functions c.captures.table.now.problem) c.captures.edges.values.now c.captures.edges.judged.now k (n - end))))
     (mask ∙ ap (λ k. k * 2 ^ (n - end)) c.part_of.ensures.part)
-    c.first_in_part.ensures
+    c.first_from_tops.ensures
