@@ -39,7 +39,7 @@ def put(path, content):
 
 class Files:
     def __init__(self, draw):
-        self.draw = draw
+        self.draw, self.partners = draw, []
 
     def chance(self, share):
         return self.draw.random() < share
@@ -67,9 +67,23 @@ class Files:
         return found
 
     def term(self, inputs, outputs, free, kind):
+        """The characters of a term's inputs and outputs."""
         outs = [b"1", b"1", b"0", b"0", b"~"] + ([b"-", b"2"] if kind == b"f" else [])
         left = [self.draw.choice([b"0", b"1"]) if self.chance(1 - free) else self.draw.choice([b"-", b"-", b"2"]) for _ in range(inputs)]
-        right = [self.draw.choice(outs) for _ in range(outputs)]
+        return left, [self.draw.choice(outs) for _ in range(outputs)]
+
+    def exchange(self, inputs):
+        """Variables exchanged in pairs, by their partners: two of them, or the first half with the second."""
+        partners = list(range(inputs))
+        if self.chance(0.5):
+            a, b = self.draw.randrange(inputs), self.draw.randrange(inputs)
+            partners[a], partners[b] = b, a
+        else:
+            half = inputs // 2
+            partners[:2 * half] = [*range(half, 2 * half), *range(half)]
+        return partners
+
+    def row(self, left, right):
         between = self.draw.choice([b" ", b" ", b"|", b" | ", b"", b"\t"])
         row = b"".join(left) + between + b"".join(right)
         if self.chance(0.03):
@@ -102,6 +116,10 @@ class Files:
         free = self.draw.choice([0, 0.2, 0.4, 0.6, 0.8])
         most = self.draw.choice([2, 4, 8, 1 << max(1, inputs - 1), 2 << inputs])
         terms = [self.term(inputs, outputs, free, kind) for _ in range(self.draw.randint(0, min(most, 80)))]
+        self.partners = self.exchange(inputs)
+        if self.chance(0.3):
+            terms += [([left[y] for y in self.partners], right) for left, right in terms]
+        terms = [self.row(left, right) for left, right in terms]
         if late and self.chance(0.1) and not late[-1].startswith(b".type"):
             terms.insert(self.draw.randint(0, len(terms)), late.pop())
         lines = heads + late + terms
@@ -185,6 +203,10 @@ class Files:
         if self.chance(0.2):
             m = self.draw.randrange(every)
             cells = sorted(dict([*cells, (m, self.draw.randint(0, bound))]).items())
+        if cells and self.chance(0.3):
+            m, more = self.draw.choice(cells)[0], self.draw.choice([-1, 1, 1])
+            both = (m, sum(1 << y for x, y in enumerate(self.partners) if m >> x & 1))
+            cells = [(m, max(0, cost + more) if m in both else cost) for m, cost in cells]
         return plain.Certificate(cover.inputs, cover.outputs, order, levels, sum(levels), pairs, cells).text().encode()
 
     def edited(self, text):

@@ -122,5 +122,9 @@ pub(crate) fn partners_of(
         Pick::One(_) => 1,
         Pick::Rank(_) => 2,
     };
-    if pairs < enough { Ok(None) } else { Ok(Some(partners)) }
+    if pairs < enough {
+        Ok(None)
+    } else {
+        Ok(Some(partners))
+    }
 }

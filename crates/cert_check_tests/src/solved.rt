@@ -1,6 +1,6 @@
 //! The solver's certificates of random functions, as they are and with a cost changed.
 
-ghost use Rattle.std.specs.Prelude.{◌≡◌, ◌≤◌, length, IfOk};
+ghost use Rattle.std.specs.Prelude.{◌≡◌, ◌<◌, ◌≤◌, length, IfOk};
 
 use crate::plain::Plain;
 use cert_check::{Verdict, check, check_alone};
