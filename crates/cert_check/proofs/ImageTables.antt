@@ -9,7 +9,8 @@ use Rattle.std.proofs.lemmas.Grind.{pow_more}
 use Rattle.std.proofs.Math.Pow.{pow-lt}
 use Rattle.std.proofs.lemmas.Nat.{or_disjoint, or_lt}
 use Rattle.std.proofs.lemmas.Nat.Bits.{and_pow, bit_at-pow_same, bit_at-pow_other, bit_at-zero, bit_at_above, bit_at_or}
-use Rattle.cert_check.specs.Exchanges.{AreImages, IsExchange, IsImage}
+use Rattle.symmetries.specs.Exchanges.{IsExchange}
+use Rattle.cert_check.specs.Images.{AreImages, IsImage}
 
 -- the images of the sets of variables below x
 pub record AreImagesTo (n : ℕ) (partners : List ℕ) (x : ℕ) (images : List ℕ) : Type 0 where

@@ -15,7 +15,8 @@ use Rattle.order_model.proofs.Lists.Orders.{same_bool, has_variables}
 use Rattle.order_model.proofs.Bits.Masks.{has_members, members_without}
 use Rattle.order_model.proofs.Widths.Recurrence.{has_without, absent_without}
 use Rattle.cert_check.specs.Edges.{Fails, AreEdgeTables}
-use Rattle.cert_check.specs.Exchanges.{IsExchange, IsImage, AreImages}
+use Rattle.symmetries.specs.Exchanges.{IsExchange}
+use Rattle.cert_check.specs.Images.{IsImage, AreImages}
 use Rattle.cert_check.specs.FewerEdges.{AreKept, LeadsOn, AreFewer}
 use Rattle.cert_check.proofs.FirstEdges.{judged_within}
 use Rattle.cert_check.proofs.IntoSet.{bit_needs}

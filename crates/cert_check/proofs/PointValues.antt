@@ -14,12 +14,13 @@ use Rattle.order_model.specs.Functions.{Point, weight, number, from_table, SameF
 use Rattle.order_model.specs.Problems.{TruthTables, functions, outputs_of, packed_bit, table_at, table_in, value_at}
 use Rattle.order_model.proofs.Bits.PointNumbers.{number-small, bit-number}
 use Rattle.class_laws.proofs.ValueRows.{bit_in}
-use Rattle.cert_check.specs.Exchanges.{AreImages, AreSymmetric, IsExchange, TellValues, exchanged}
+use Rattle.symmetries.specs.Exchanges.{AreSymmetric, IsExchange, exchanged}
+use Rattle.cert_check.specs.Images.{AreImages, TellValues}
 use Rattle.cert_check.specs.Edges.{AreEdgeTables}
 use Rattle.cert_check.specs.FewerEdges.{AreGuides, AreKept}
 use Rattle.cert_check.proofs.FirstEdges.{past_end}
 use Rattle.cert_check.proofs.LedOn.{leads_on}
-use Rattle.cert_check.proofs.SymmetricWidths.{bit_exchanged, length_exchanged, width_exchanged}
+use Rattle.symmetries.proofs.SymmetricWidths.{bit_exchanged, length_exchanged, width_exchanged}
 
 -- points with equal numbers have equal values of the first j functions
 pub record TellTo (t : TruthTables) (j : ℕ) (values : List ℕ) : Type 0 where

@@ -5,7 +5,7 @@
 ghost use Rattle.std.specs.Prelude.{◌≡◌, ◌≤◌, ◌<◌, ◌^◌, None, ℕ, IfOk, IfSome, OnOk, IsTrue, length, slice_index};
 ghost use Rattle.order_model.specs.Problems.{functions};
 ghost use Rattle.cert_check.specs.Edges.{AreEdgeTables, Fails, IsFirstEdge};
-ghost use Rattle.cert_check.specs.Exchanges.{TellValues};
+ghost use Rattle.cert_check.specs.Images.{TellValues};
 ghost use Rattle.cert_check.specs.FewerEdges.{AreFewer, AreGuides, AreKept};
 
 use crate::images::{are_alike, images_of, is_exchange};

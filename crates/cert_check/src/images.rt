@@ -1,7 +1,8 @@
 //! Variables exchanged in pairs, and what they leave as it is.
 
 ghost use Rattle.std.specs.Prelude.{◌≡◌, ℕ, ◌++◌, ◌<◌, ◌≤◌, ◌^◌, bit_or, map, length, slice_index, IfOk, OnOk, IsTrue};
-ghost use Rattle.cert_check.specs.Exchanges.{AreImages, IsExchange};
+ghost use Rattle.symmetries.specs.Exchanges.{IsExchange};
+ghost use Rattle.cert_check.specs.Images.{AreImages};
 
 use order_model::{Mask, VarIx};
 use std::alloc::{AllocError, Global};

@@ -3,7 +3,7 @@
 ghost use Rattle.std.specs.Prelude.{◌≡◌, ℕ, ◌+◌, ◌*◌, ◌<◌, ◌≤◌, ◌^◌, length, slice_index, IfOk};
 ghost use Rattle.order_model.specs.Functions.{weight};
 ghost use Rattle.order_model.specs.Problems.{packed_bit};
-ghost use Rattle.cert_check.specs.Exchanges.{TellValues};
+ghost use Rattle.cert_check.specs.Images.{TellValues};
 
 use order_model::Problem;
 use order_model::packed::bit_of;

@@ -10,3 +10,4 @@ pub mod ReadOrders
 pub mod ListedSets
 pub mod Solved
 pub mod FoundAhead
+pub mod Harmless

@@ -10,6 +10,7 @@ mod alone;
 mod layering;
 mod looking;
 mod solving;
+mod symmetric;
 
 // A worker's part of a layer: what it is lent, the widths that it needs, the cells of its blocks.
 mod bench;

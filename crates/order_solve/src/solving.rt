@@ -4,6 +4,7 @@ ghost use Rattle.std.specs.Prelude.{◌≡◌, ◌≤◌, IfOk};
 ghost use Rattle.order_model.specs.Problems.{functions};
 ghost use Rattle.order_model.specs.declared.reserve.Reserve.TheVariants.{Variables};
 ghost use Rattle.order_model.specs.Cells.{widths_taken};
+ghost use Rattle.symmetries.specs.SymmetricPairs.{IsHarmless};
 ghost use Rattle.order_solve.specs.Bounded.{IsBounded};
 ghost use Rattle.order_solve.specs.Solutions.{IsOptimum, IsSolution, widths_for_all};
 
@@ -12,7 +13,8 @@ use crate::listing::{count_widths, listed_cells};
 use crate::reading::{all_variables, level_counts, read_order};
 use crate::setting::Setting;
 use crate::solution::{Optimum, Solution};
-use order_model::{Crew, Gate, Limit, Problem, Reserve, Workers};
+use crate::symmetric::pairs_to_keep;
+use order_model::{Crew, Gate, Limit, Pairs, Problem, Reserve, Workers};
 use sifting::Sifted;
 use std::alloc::{AllocError, Global};
 use std::thread::Threads;
@@ -49,11 +51,20 @@ fn solution_of(alloc: Global, cells: &AllCells<'_>) -> Result<Solution, AllocErr
     })
 }
 
-/// What the search is for that a sifted order bounds: its pairs are kept, and its size is the bound.
-fn setting_of<'a>(problem: &'a Problem, sifted: &'a Sifted, reserve: Reserve) -> Setting<'a>
-    requires { sifted.now.problem ≡ problem.now }
+/// What the search is for that a sifted order bounds: its size is the bound, and pairs are kept to
+/// which each order that keeps its pairs can be sorted.
+fn setting_of<'a>(
+    problem: &'a Problem,
+    sifted: &'a Sifted,
+    pairs: &'a Pairs,
+    reserve: Reserve,
+) -> Setting<'a>
+    requires problem { sifted.now.problem ≡ problem.now }
+    requires inputs { pairs.now.inputs ≡ problem.now.inputs }
+    requires harmless { IsHarmless problem.now.inputs (functions problem.now) sifted.now.pairs
+        pairs.now.pairs }
     ensures problem { result.problem ≡ problem.now }
-    ensures pairs { result.pairs.pairs ≡ sifted.now.pairs }
+    ensures pairs { result.pairs ≡ pairs.now }
     ensures reserve { result.reserve ≡ reserve }
     ensures bound { result.bound ≡ sifted.now.size }
     ensures bounded { IsBounded result }
@@ -64,7 +75,7 @@ fn setting_of<'a>(problem: &'a Problem, sifted: &'a Sifted, reserve: Reserve) ->
         bound: sifted.size(),
         reserve,
     };
-    Setting::new(problem, sifted.pairs(), limit)
+    Setting::new(problem, pairs, limit)
 }
 
 /// The first order of the fewest nodes among those that keep the pairs of a sifted order of the
@@ -83,7 +94,8 @@ pub fn find_optimum<R: Threads + Sync, G: Gate>(
     requires { sifted.problem ≡ problem.now }
     ensures { IfOk result (IsOptimum problem.now sifted.pairs) }
 {
-    let setting = setting_of(problem, &sifted, Reserve::Widths);
+    let pairs = pairs_to_keep(alloc, problem, sifted.pairs())?;
+    let setting = setting_of(problem, &sifted, &pairs, Reserve::Widths);
     let crew = Crew::new(rt, workers, gate);
     let searched = AllCells::of(&crew, alloc, &setting)?;
     let optimum = optimum_of(alloc, &searched)?;
@@ -99,7 +111,8 @@ pub fn find_optimum_alone(
     requires { sifted.problem ≡ problem.now }
     ensures { IfOk result (IsOptimum problem.now sifted.pairs) }
 {
-    let setting = setting_of(problem, &sifted, Reserve::Widths);
+    let pairs = pairs_to_keep(alloc, problem, sifted.pairs())?;
+    let setting = setting_of(problem, &sifted, &pairs, Reserve::Widths);
     let searched = AllCells::alone(alloc, &setting)?;
     let optimum = optimum_of(alloc, &searched)?;
     Ok(optimum)
@@ -121,7 +134,7 @@ pub fn solve<R: Threads + Sync, G: Gate>(
         (λ s. s.widths ≡ widths_taken problem.now.inputs (functions problem.now) sifted.pairs
         Variables sifted.size) }
 {
-    let setting = setting_of(problem, &sifted, Reserve::Variables);
+    let setting = setting_of(problem, &sifted, sifted.pairs(), Reserve::Variables);
     let crew = Crew::new(rt, workers, gate);
     let cells = AllCells::of(&crew, alloc, &setting)?;
     let solution = solution_of(alloc, &cells)?;
@@ -136,7 +149,7 @@ pub fn solve_alone(alloc: Global, problem: &Problem, sifted: Sifted) -> Result<S
         (λ s. s.widths ≡ widths_taken problem.now.inputs (functions problem.now) sifted.pairs
         Variables sifted.size) }
 {
-    let setting = setting_of(problem, &sifted, Reserve::Variables);
+    let setting = setting_of(problem, &sifted, sifted.pairs(), Reserve::Variables);
     let cells = AllCells::alone(alloc, &setting)?;
     let solution = solution_of(alloc, &cells)?;
     Ok(solution)

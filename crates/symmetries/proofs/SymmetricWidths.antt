@@ -19,7 +19,7 @@ use Rattle.order_model.proofs.Functions.Same.{table_long}
 use Rattle.order_model.proofs.Functions.Tables.{depends_false, depends_no, depends_same, same_from_table, same_table_decides, table_same}
 use Rattle.order_model.proofs.Lists.Orders.{has_outside, has_variables, same_bool}
 use Rattle.order_model.proofs.Lists.Sets.{Among, Within, among_filter, among_flat_map, among_from_filter, among_from_flat_map, among_from_map, among_map, among_unique, count_le}
-use Rattle.cert_check.specs.Exchanges.{IsExchange, exchanged, AreSymmetric}
+use Rattle.symmetries.specs.Exchanges.{IsExchange, exchanged, AreSymmetric}
 
 -- a point with exchanged variables has as many
 pub length_exchanged : (n : ℕ) (partners : List ℕ) (p : Point) → length (exchanged n partners p) ≡ n

@@ -1,0 +1,4 @@
+pub mod SymmetricWidths
+pub mod FirstSorted
+pub mod SymmetricPoints
+pub mod SortedOrders

@@ -1,0 +1,26 @@
+//! Laws of symmetric functions, each the contract of a function that does nothing.
+
+ghost use Rattle.std.specs.Prelude.{◌≡◌, ℕ, ◌<◌, ◌≤◌, List, slice_index};
+ghost use Rattle.order_model.specs.Functions.{Function};
+ghost use Rattle.order_model.specs.Orders.{has};
+ghost use Rattle.order_model.specs.Diagrams.{IsFirst, IsFirstKeeping};
+ghost use Rattle.order_model.specs.Pairs.{Pair};
+ghost use Rattle.order_model.specs.Widths.{width};
+ghost use Rattle.symmetries.specs.Exchanges.{AreSymmetric, IsExchange};
+ghost use Rattle.symmetries.specs.SymmetricPairs.{AreSymmetricPairs};
+
+/// The width of a variable's partner over the partners of a set is at most that of the variable
+/// over the set.
+pub fn exchanges_keep_widths()
+    ensures { (n : ℕ) (F : List Function) (partners : List ℕ) → IsExchange n partners →
+        AreSymmetric n F partners → (S T : List ℕ) (x : ℕ) → x < n →
+        ((y : ℕ) → y < n → has T (slice_index partners y) ≡ has S y) →
+        width n F T (slice_index partners x) ≤ width n F S x }
+{}
+
+/// Of two symmetric variables the first order of the fewest nodes has the smaller one above the
+/// larger one: the first order among those that do so is the first of all.
+pub fn symmetric_pairs_may_be_kept()
+    ensures { (n : ℕ) (F : List Function) (P : List Pair) (order : List ℕ) →
+        AreSymmetricPairs n F P → IsFirstKeeping n F P order → IsFirst n F order }
+{}
