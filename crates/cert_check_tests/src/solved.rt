@@ -37,7 +37,11 @@ fn random_cover(alloc: Global, inputs: u8, outputs: u8, seed: u64) -> Result<Str
         for x in 0..inputs {
             text.push(if (point >> x) & 1 == 1 { '1' } else { '0' })?;
         }
-        let least = if seed < 2 { point } else { point.min(exchanged(point, inputs)) };
+        let least = if seed < 2 {
+            point
+        } else {
+            point.min(exchanged(point, inputs))
+        };
         let mut state = seed.wrapping_add(u64::from(least) << 8);
         for _output in 0..outputs {
             state = (state ^ (state >> 29))
