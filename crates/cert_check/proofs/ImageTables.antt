@@ -40,7 +40,8 @@ image_with : (n : ℕ) (partners : List ℕ) → IsExchange n partners → (S T 
     IsImage n partners (S + 2 ^ x) (bit_or T (2 ^ slice_index partners x))
 image_with n partners e S T x l inside image = record {
   small = or_lt n T (2 ^ slice_index partners x) image.small (pow-lt (e.inside x inside));
-  bits = λ y less. bit_at_or T (2 ^ slice_index partners x) y ∙ (λ i. max (image.bits y less i) (own y less i)) ∙ sym (bits_with S x (slice_index partners y) l);
+  bits = λ y less. bit_at_or T (2 ^ slice_index partners x) y ∙ (λ i. max (image.bits y less i) (own y less i))
+      ∙ sym (bits_with S x (slice_index partners y) l);
 }
   where
     own : (y : ℕ) → y < n → bit_at (2 ^ slice_index partners x) y ≡ bit_at (2 ^ x) (slice_index partners y)

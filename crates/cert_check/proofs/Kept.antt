@@ -42,7 +42,8 @@ module _ (w : ℕ) (numbers : List ℕ) where
       few = (let l = length-append kept row in let r = long in let f = h.few in let m : (number + 1) * w ≡ number * w + w = grind arith in omega arith);
     }
 
-    pub kept_again : (front between : List ℕ) (rows : ℕ) → kept ≡ front ++ (row ++ between) → length front ≡ rows * length row → IsKept w numbers kept (number + 1)
+    pub kept_again : (front between : List ℕ) (rows : ℕ) → kept ≡ front ++ (row ++ between) → length front ≡ rows * length row →
+        IsKept w numbers kept (number + 1)
     kept_again front between count e l = record {
       steps = suc h.steps;
       short = (

@@ -16,6 +16,7 @@ use Rattle.order_model.proofs.Bits.Masks.{has_members, members_without}
 use Rattle.order_model.proofs.Widths.Recurrence.{has_without, absent_without}
 use Rattle.cert_check.specs.Edges.{Fails, AreEdgeTables}
 use Rattle.symmetries.specs.Exchanges.{IsExchange}
+use Rattle.symmetries.proofs.Partners.{same_partner}
 use Rattle.cert_check.specs.Images.{IsImage, AreImages}
 use Rattle.cert_check.specs.FewerEdges.{AreKept, LeadsOn, AreFewer}
 use Rattle.cert_check.proofs.FirstEdges.{judged_within}
@@ -39,13 +40,6 @@ same_bit n S T y z l m e = one (bit_at S y) (bit_at T z) (bit_at-lt S y) (bit_at
     ]
 
 module _ (n : ℕ) (partners : List ℕ) (exchange : IsExchange n partners) where
-  -- two variables are one just if their partners are
-  same_partner : (x y : ℕ) → x < n → y < n → nat_eq (slice_index partners x) (slice_index partners y) ≡ nat_eq x y
-  same_partner x y l m = same_bool _ _
-      (λ e. eq-eqb x y
-      (sym (exchange.back x l) ∙ ap (slice_index partners) (eqb-true (slice_index partners x) (slice_index partners y) e) ∙ exchange.back y m))
-      (λ e. eq-eqb (slice_index partners x) (slice_index partners y) (ap (slice_index partners) (eqb-true x y e)))
-
   -- the members of the image of a set are the partners of its members
   partner_member : (S T y : ℕ) → IsImage n partners S T → y < n → has (members n T) (slice_index partners y) ≡ has (members n S) y
   partner_member S T y image l =
@@ -60,7 +54,7 @@ module _ (n : ℕ) (partners : List ℕ) (exchange : IsExchange n partners) wher
       let own = partner_member S T x image small ∙ there in
       members_without n T (slice_index partners x) own (slice_index partners y)
       ∙ has_without (slice_index partners x) (members n T) (slice_index partners y)
-      ∙ ap₂ (λ a b. a && not b) (partner_member S T y image l) (same_partner x y small l)
+      ∙ ap₂ (λ a b. a && not b) (partner_member S T y image l) (same_partner n partners exchange x y small l)
       ∙ sym (members_without n S x there y ∙ has_without x (members n S) y)
 
   -- a set with the partners of another's members is its image

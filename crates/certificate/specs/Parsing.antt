@@ -1,7 +1,8 @@
 -- What parts of a text say, as the program takes them.
 --     Lacks byte text, Cuts byte text front behind      the byte doesn't stand in the text; it parts the text for the first time
 --     Says judge line result P      the line passes what it is asked and P holds of its value, or it has the fault
---     outcome number js text, Fails faults fault      the faults of a text, the first line of which has a number, by what its lines are asked; the first of them
+--     outcome number js text      the faults of a text, the first line of which has a number, by what its lines are asked
+--     Fails faults fault      the first of them
 --     Asks judge number text after rest P result, TakesSection ..      the first line of a text, and a section, is taken
 use Rattle.std.specs.Prelude.{◌≡◌, ℕ, ◌+◌, Bool, false, if◌then◌else◌, ◌==◌, nat_lt, List, [], ◌∷◌, ◌++◌, length, take, Some, None, Result, Ok, Err}
 use Rattle.std.specs.List.{All}

@@ -69,7 +69,8 @@ lacks_larger n set x lt = ap (λ m. has (members n m) x) (sym (mod-eq_of_lt lt))
 -- n tables from a place on, one after the other
 ranges : (p : TruthTables) (a n : ℕ) (m : ℕ) →
     map (classes_of p) (range_with_len a n) ++ map (classes_of p) (range_with_len (a + n) m) ≡ map (classes_of p) (range_with_len a (n + m))
-ranges p a n zero = append-nil (map (classes_of p) (range_with_len a n)) ∙ ap (λ k. map (classes_of p) (range_with_len a k)) (let e : n ≡ n + 0 = omega arith in e)
+ranges p a n zero = append-nil (map (classes_of p) (range_with_len a n))
+    ∙ ap (λ k. map (classes_of p) (range_with_len a k)) (let e : n ≡ n + 0 = omega arith in e)
 ranges p a n (suc m) =
     ap (λ ts. map (classes_of p) (range_with_len a n) ++ ts) (more (a + n) m)
     ∙ (sym (append_assoc (map (classes_of p) (range_with_len a n)) (map (classes_of p) (range_with_len (a + n) m)) (classes_of p (a + n + m) ∷ []))

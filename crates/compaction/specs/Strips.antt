@@ -11,7 +11,8 @@
 --     HoldsTable      either of them
 --     AreOfFirstSets p tables      the tables of the first sets, in the order of their masks
 --     CanTakeLow x t      the variable is a low one outside the table's set
---     HoldsBytes t low outer bytes rows masks      strips whose entries stand in rows, which bytes name: a row has an entry for each assignment of the variables below 3 outside the set
+--     HoldsBytes t low outer bytes rows masks      strips whose entries stand in rows, which bytes name: a row has an entry for each
+--         assignment of the variables below 3 outside the set
 use Rattle.std.specs.Prelude.{◌≡◌, ℕ, ◌+◌, ◌*◌, ◌^◌, ◌<◌, ◌≤◌, Bool, IsFalse, IsTrue, min, List, Option, None, Some, map, length, reverse, slice_index, nat_eq}
 use Rattle.std.specs.List.{filter, range_with_len}
 use Rattle.order_model.specs.Orders.{has, variables}

@@ -51,5 +51,6 @@ module _ (n : ℕ) (F : List Function) (P : List Pair) (r : Reserve) (bound mask
   pub cell_small : ((cell_of n F P r bound mask).0 ≤ bound + 1) × ((cell_of n F P r bound mask).1 ≤ n)
   cell_small = elim (cases_Bool (is_within n F P r bound S)) [
     | inl t ↦ subst (λ (c : ℕ × ℕ). (c.0 ≤ bound + 1) × (c.1 ≤ n)) (sym (open_is n F P r bound mask t)) (let w = within_bound t in (omega arith, top_small))
-    | inr e ↦ subst (λ (c : ℕ × ℕ). (c.0 ≤ bound + 1) × (c.1 ≤ n)) (sym (closed_cell n F P r bound mask e)) (omega arith, first_small S n (members_small n mask))
+    | inr e ↦
+        subst (λ (c : ℕ × ℕ). (c.0 ≤ bound + 1) × (c.1 ≤ n)) (sym (closed_cell n F P r bound mask e)) (omega arith, first_small S n (members_small n mask))
   ]

@@ -1,5 +1,6 @@
 -- Problems: the truth tables of some functions of the same variables.
---     TruthTables, functions t, outputs_of t, table_at t j, value_at t j k      a problem's value; its functions; how many there are; function j's table and values
+--     TruthTables, functions t, outputs_of t      a problem's value; its functions; how many there are
+--     table_at t j, value_at t j k      function j's table and values
 --     words_per_table n, packed_bit words k, table_in n words, tables_of n m words      truth tables packed in words of 64 points
 --     IsClean n words, IsPacked n m words      nothing stands after the last point; words of m truth tables of n variables
 use Rattle.std.specs.Prelude.{◌≡◌, ℕ, ◌+◌, ◌*◌, ◌/◌, ◌%◌, ◌^◌, ◌<◌, ◌≤◌, ◌==◌, Bool, false, List, [], length, map, slice_index, get_or, take, drop}

@@ -1,13 +1,14 @@
 -- Pairs that a search keeps besides those that are asked for.
 --     optimum_harmless      what is best among orders that keep more pairs is so among those that keep what is asked for
---     bounded_harmless      a bound that an order has stays one
-use Rattle.std.proofs.Common.{◌≡◌, ℕ, List, sym, ◌∙◌}
+--     sifted_bounds      the size of a sifted order is a bound for orders that keep more pairs
+use Rattle.std.proofs.Common.{◌≡◌, ℕ, List, sym, ap, ◌∙◌, subst}
 use Rattle.order_model.specs.Levels.{size_under}
 use Rattle.order_model.specs.Orders.{IsOrder}
-use Rattle.order_model.specs.Pairs.{Pair, Keeps}
+use Rattle.order_model.specs.Pairs.{Pair}
 use Rattle.order_model.specs.Problems.{TruthTables, functions}
 use Rattle.symmetries.specs.SymmetricPairs.{IsHarmless}
 use Rattle.symmetries.proofs.FirstSorted.{fewest_harmless, first_harmless}
+use Rattle.sifting.specs.Managed.{SiftedOrder, IsSiftedOrder}
 use Rattle.layer_core.specs.Settings.{Setting}
 use Rattle.order_solve.specs.Bounded.{IsBounded}
 use Rattle.order_solve.specs.Solutions.{IsOptimum}
@@ -22,9 +23,11 @@ optimum_harmless t P Q o h best = record {
   levels = best.levels;
 }
 
--- a bound that an order has stays one
-pub bounded_harmless : (t : Setting) (P : List Pair) (order : List ℕ) → IsHarmless t.problem.inputs (functions t.problem) P t.pairs.pairs →
-    IsOrder t.problem.inputs order → Keeps P order → t.bound ≡ size_under t.problem.inputs (functions t.problem) order → IsBounded t
-bounded_harmless t P order h is kept e =
-    let s = h.sorted order is kept in
-    record { order = s.0; is_order = s.1; keeps = s.2; size = e ∙ sym s.3 }
+-- the size of a sifted order is one that an order of more pairs has, if these are harmless
+pub sifted_bounds : (t : Setting) (s : SiftedOrder) → IsSiftedOrder s → s.problem ≡ t.problem →
+    IsHarmless t.problem.inputs (functions t.problem) s.pairs t.pairs.pairs → t.bound ≡ s.size → IsBounded t
+sifted_bounds t s is same h e =
+    let inputs = sym is.managed.inputs ∙ ap (λ (p : TruthTables). p.inputs) same in
+    let o = h.sorted s.order (subst (λ (n : ℕ). IsOrder n s.order) inputs is.managed.is_order) is.managed.kept in
+    let size = is.true_size.size_is ∙ ap (λ (p : TruthTables). size_under p.inputs (functions p) s.order) same in
+    record { order = o.0; is_order = o.1; keeps = o.2; size = e ∙ size ∙ sym o.3 }

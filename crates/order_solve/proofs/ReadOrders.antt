@@ -241,7 +241,8 @@ module _ (t : Setting) (b : IsBounded t) (order : List ℕ)
         let u = order_unclipped t b order read in
         let here = c.top_is ∙ ap (cell_cost N G t.pairs.pairs t.reserve t.bound) c.mask_is
         ∙ left_cost N G t.pairs.pairs t.reserve t.bound order full i read u (omega (arith, lt)) ∙ cost_at N G order i lt in
-        let next = e ∙ ap (cell_cost N G t.pairs.pairs t.reserve t.bound) next_mask ∙ left_cost N G t.pairs.pairs t.reserve t.bound order full (suc i) read u (omega (arith, lt)) in
+        let next = e ∙ ap (cell_cost N G t.pairs.pairs t.reserve t.bound) next_mask
+        ∙ left_cost N G t.pairs.pairs t.reserve t.bound order full (suc i) read u (omega (arith, lt)) in
         let level = level_is N G order i (order_is t b order read) lt in
         omega (arith, here, next, level)
 

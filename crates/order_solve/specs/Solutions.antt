@@ -3,7 +3,8 @@
 --     IsReadOff t order      the order that the cells give
 --     AreListedFor t total cells      the sets that a certificate lists, with their costs
 --     widths_for_all t      how many widths the cells of all sets take
---     IsOptimum problem P o, IsSolution problem P s      the first order of the fewest nodes among those that keep the pairs, with its size and its level counts; this, with its certificate's cells
+--     IsOptimum problem P o      the first order of the fewest nodes among those that keep the pairs, with its size and its level counts
+--     IsSolution problem P s      this, with its certificate's cells
 use Rattle.std.specs.Prelude.{◌≡◌, ℕ, ◌-◌, ◌^◌, List, map}
 use Rattle.order_model.specs.Pairs.{Pair}
 use Rattle.order_model.specs.Problems.{TruthTables, functions}

@@ -1,5 +1,5 @@
 -- What a search finds.
---     IsBest problem P certify b      the first order of the fewest nodes among those that keep the pairs, and the cells of its certificate if that is asked for
+--     IsBest problem P certify b      the first order of the fewest nodes among those that keep the pairs, and its certificate's cells if asked for
 use Rattle.std.specs.Prelude.{◌≡◌, Bool, IfSome, is_some, map, List}
 use Rattle.order_model.specs.Pairs.{Pair}
 use Rattle.order_model.specs.Problems.{TruthTables, functions}

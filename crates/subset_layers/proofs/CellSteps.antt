@@ -46,7 +46,8 @@ first_member n mask pos small lt =
 
 -- ---- the cell
 
-module _ (c : CostsOf) (r : Reserve) (mask bound : ℕ) (widths : List ℕ) (F : List Function) (P : List Pair) (order : List ℕ) (o : IsOrder c.inputs order) (k : Keeps P order)
+module _ (c : CostsOf) (r : Reserve) (mask bound : ℕ) (widths : List ℕ) (F : List Function) (P : List Pair) (order : List ℕ) (o : IsOrder c.inputs order)
+    (k : Keeps P order)
     (next : has (masks_of (layer_with c.inputs (c.size + 1))) mask ≡ true) (true_costs : AreTrueCosts c.inputs F P r bound c)
     (true_widths : AreWidthsFor c.inputs F P r bound mask c widths) where
   n : ℕ

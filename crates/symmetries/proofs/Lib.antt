@@ -1,3 +1,4 @@
+pub mod Partners
 pub mod SymmetricWidths
 pub mod FirstSorted
 pub mod SymmetricPoints

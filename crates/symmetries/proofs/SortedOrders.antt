@@ -1,5 +1,5 @@
 -- Orders with exchanged variables, and orders sorted by pairs of symmetric variables.
---     partner_of, exchange_pair      the partners of n variables of which two are exchanged; they are an exchange
+--     exchange_pair      two variables exchanged are an exchange
 --     order_exchanged, size_exchanged      an order with exchanged variables is one, and of symmetric functions it has at most as many nodes
 --     sorted_order      each order may be sorted by pairs of symmetric variables, with as many nodes, and does not come later for it
 use Rattle.std.proofs.Common.{◌≡◌, ◌≢◌, ℕ, zero, suc, ◌+◌, ◌<◌, ◌≤◌, Bool, true, false, cond, ◌||◌, ◌&&◌, inl, inr, List, [], ◌∷◌, map, slice_index, refl, sym, ap, ap₂, ◌∙◌, subst, arith, nat_eq, eqb-true, eq-eqb, ne_eqb, zero-add, nat_cmp, Ordering, Less, Equal, Greater}
@@ -24,6 +24,7 @@ use Rattle.order_model.proofs.Precedence.Sets.{among_pair}
 use Rattle.order_model.proofs.Widths.Recurrence.{among_has, apart_from_absent, has_among}
 use Rattle.symmetries.specs.Exchanges.{AreSymmetric, IsExchange}
 use Rattle.symmetries.specs.SymmetricPairs.{AreSymmetricPairs, IsSymmetricPair, exchange_of}
+use Rattle.symmetries.proofs.Partners.{partner_of, same_partner}
 use Rattle.symmetries.proofs.SymmetricWidths.{width_exchanged}
 
 -- ---- two variables exchanged
@@ -59,11 +60,6 @@ swapped_back a b y =
       ]
     ]
 
--- the partners of two exchanged variables, and of the others
-pub partner_of : (n a b y : ℕ) → y < n → slice_index (exchange_of n a b) y ≡ (if nat_eq y a then b else if nat_eq y b then a else y)
-unfolding exchange_of
-partner_of n a b y lt = get_or-map-range_with_len (swapped a b) 0 n y y 0 lt (zero-add y)
-
 -- two variables exchanged are an exchange
 pub exchange_pair : (n a b : ℕ) → a < n → b < n → IsExchange n (exchange_of n a b)
 unfolding exchange_of
@@ -88,13 +84,7 @@ module _ (n : ℕ) (partners : List ℕ) (e : IsExchange n partners) where
   -- a list has a variable where the list of partners has its partner
   has_partner : (xs : List ℕ) → Below n xs → (y : ℕ) → y < n → has (map (slice_index partners) xs) (slice_index partners y) ≡ has xs y
   has_partner [] b y lt = refl
-  has_partner (x ∷ xs) b y lt = ap₂ (λ c d. c || d) same (has_partner xs b.1 y lt)
-    where
-      same : nat_eq (slice_index partners y) (slice_index partners x) ≡ nat_eq y x
-      same =
-          same_bool _ _
-          (λ h. eq-eqb y x (sym (e.back y lt) ∙ ap (slice_index partners) (eqb-true _ _ h) ∙ e.back x b.0))
-          (λ h. eq-eqb (slice_index partners y) (slice_index partners x) (ap (slice_index partners) (eqb-true y x h)))
+  has_partner (x ∷ xs) b y lt = ap₂ (λ c d. c || d) (same_partner n partners e y x lt b.0) (has_partner xs b.1 y lt)
 
   -- no variable is the partner of two
   distinct_partners : (xs : List ℕ) → Below n xs → IsDistinct nat_eq xs → IsDistinct nat_eq (map (slice_index partners) xs)

@@ -11,6 +11,7 @@ use Rattle.order_model.specs.Problems.{TruthTables, functions, outputs_of, value
 use Rattle.order_model.proofs.Bits.PointNumbers.{number-small, bit-number, number-raised}
 use Rattle.symmetries.specs.Exchanges.{exchanged}
 use Rattle.symmetries.specs.SymmetricPairs.{exchange_of, IsSymmetricPair}
+use Rattle.symmetries.proofs.Partners.{partner_of}
 use Rattle.symmetries.proofs.SymmetricWidths.{bit_exchanged, length_exchanged}
 
 -- points of n variables with the same bits are equal
@@ -55,29 +56,24 @@ abbrev swapped : ℕ → ℕ → ℕ → Point → Point
 swapped n a b = exchanged n (exchange_of n a b)
 
 module _ (n a b : ℕ) (first : a < b) (inside : b < n) where
-  -- the partner of each variable
-  partner : (y : ℕ) → y < n → slice_index (exchange_of n a b) y ≡ if nat_eq y a then b else if nat_eq y b then a else y
-  unfolding exchange_of
-  partner y lt = get_or-map-range_with_len (λ z. if nat_eq z a then b else if nat_eq z b then a else z) 0 n y y 0 lt (zero-add y)
-
   -- variable a has the value of b after the exchange
   bit_first : (q : Point) → bit (swapped n a b q) a ≡ bit q b
   bit_first q =
       bit_exchanged n (exchange_of n a b) q a (omega arith)
-      ∙ ap (bit q) (partner a (omega arith) ∙ ap (λ v. if v then b else if nat_eq a b then a else a) (eq-eqb a a refl))
+      ∙ ap (bit q) (partner_of n a b a (omega arith) ∙ ap (λ v. if v then b else if nat_eq a b then a else a) (eq-eqb a a refl))
 
   -- variable b has the value of a
   bit_second : (q : Point) → bit (swapped n a b q) b ≡ bit q a
   bit_second q =
       bit_exchanged n (exchange_of n a b) q b inside
-      ∙ ap (bit q) (partner b inside ∙ ap (λ v. if v then b else if nat_eq b b then a else b) (ne_eqb b a (omega arith))
+      ∙ ap (bit q) (partner_of n a b b inside ∙ ap (λ v. if v then b else if nat_eq b b then a else b) (ne_eqb b a (omega arith))
       ∙ ap (λ v. if v then a else b) (eq-eqb b b refl))
 
   -- each other variable has its own
   bit_other : (q : Point) (y : ℕ) → y < n → y ≢ a → y ≢ b → bit (swapped n a b q) y ≡ bit q y
   bit_other q y lt na nb =
       bit_exchanged n (exchange_of n a b) q y lt
-      ∙ ap (bit q) (partner y lt ∙ ap (λ v. if v then b else if nat_eq y b then a else y) (ne_eqb y a na)
+      ∙ ap (bit q) (partner_of n a b y lt ∙ ap (λ v. if v then b else if nat_eq y b then a else y) (ne_eqb y a na)
       ∙ ap (λ v. if v then a else y) (ne_eqb y b nb))
 
   -- a point with equal values of both variables stays as it is

@@ -20,6 +20,7 @@ use Rattle.order_model.proofs.Functions.Tables.{depends_false, depends_no, depen
 use Rattle.order_model.proofs.Lists.Orders.{has_outside, has_variables, same_bool}
 use Rattle.order_model.proofs.Lists.Sets.{Among, Within, among_filter, among_flat_map, among_from_filter, among_from_flat_map, among_from_map, among_map, among_unique, count_le}
 use Rattle.symmetries.specs.Exchanges.{IsExchange, exchanged, AreSymmetric}
+use Rattle.symmetries.proofs.Partners.{one_to_one, same_partner}
 
 -- a point with exchanged variables has as many
 pub length_exchanged : (n : ℕ) (partners : List ℕ) (p : Point) → length (exchanged n partners p) ≡ n
@@ -34,10 +35,6 @@ below_outside : (n : ℕ) (T : List ℕ) → Below n (outside n T)
 below_outside n T = below_from_has n (outside n T) (λ y h. (has_variables n y).0 (and_parts _ _ (sym (has_outside n T y) ∙ h)).0)
 
 module _ (n : ℕ) (partners : List ℕ) (e : IsExchange n partners) where
-  -- different variables have different partners
-  exchange_one_to_one : (x y : ℕ) → x < n → y < n → slice_index partners y ≡ slice_index partners x → y ≡ x
-  exchange_one_to_one x y inside lt h = sym (e.back y lt) ∙ ap (slice_index partners) h ∙ e.back x inside
-
   -- a partner's value set before the exchange is the variable's set after it
   set_exchanged : (p : Point) (x : ℕ) (b : Bool) → length p ≡ n → x < n →
       exchanged n partners (set p (slice_index partners x) b) ≡ set (exchanged n partners p) x b
@@ -56,7 +53,7 @@ module _ (n : ℕ) (partners : List ℕ) (e : IsExchange n partners) where
                 ∙ get_or-set_same p (slice_index partners x) b false (omega arith))
             | inr ne ↦
                 get_or-set_other (exchanged n partners p) x y b false ne ∙ bit_exchanged n partners p y lt
-                ∙ sym (get_or-set_other p (slice_index partners x) (slice_index partners y) b false (λ s. ne (exchange_one_to_one x y inside lt s)))
+                ∙ sym (get_or-set_other p (slice_index partners x) (slice_index partners y) b false (λ s. ne (one_to_one n partners e y x lt inside s)))
           ]
 
   -- a dependence on a partner, at exchanged points, is one on the variable
@@ -87,16 +84,11 @@ module _ (n : ℕ) (partners : List ℕ) (e : IsExchange n partners) where
   outside_exchanged : (S T : List ℕ) → ((y : ℕ) → y < n → has T (slice_index partners y) ≡ has S y) → (x : ℕ) → x < n →
       (y : ℕ) → y < n → has (outside n (slice_index partners x ∷ T)) (slice_index partners y) ≡ has (outside n (x ∷ S)) y
   outside_exchanged S T image x inside y lt =
-      has_outside n (slice_index partners x ∷ T) (slice_index partners y) ∙ (λ i. known i && not (same i || image y lt i)) ∙ sym (has_outside n (x ∷ S) y)
+      has_outside n (slice_index partners x ∷ T) (slice_index partners y)
+      ∙ (λ i. known i && not (same_partner n partners e y x lt inside i || image y lt i)) ∙ sym (has_outside n (x ∷ S) y)
     where
       known : has (variables n) (slice_index partners y) ≡ has (variables n) y
       known = (has_variables n (slice_index partners y)).1 (e.inside y lt) ∙ sym ((has_variables n y).1 lt)
-
-      same : nat_eq (slice_index partners y) (slice_index partners x) ≡ nat_eq y x
-      same =
-          same_bool _ _
-          (λ h. eq-eqb y x (exchange_one_to_one x y inside lt (eqb-true (slice_index partners y) (slice_index partners x) h)))
-          (λ h. eq-eqb (slice_index partners y) (slice_index partners x) (ap (slice_index partners) (eqb-true y x h)))
 
   -- a subfunction that fixes the partners of some variables is one that fixes those, at exchanged points
   exchanged_reached : (F : List Function) → AreSymmetric n F partners → (xs ys : List ℕ) → Below n xs → Below n ys →

@@ -223,7 +223,8 @@ module _ (b : Plan) (plan : IsPlan b) (id : ℕ) (v : View) (words : List ℕ) (
       subst (λ (z : List ℕ × ℕ × ℕ × ℕ). Represents (length z.0) (root_functions z.0 (take z.1 words) words z.2 z.3) z.0 d)
       (λ i. (same_order i, p i, same_first i, same_outputs i)) found in
       represents_same (levels_of b) (root_functions (order_of b) (nodes_of b words) words f m) (functions b.problem.value) (order_of b) d
-      (same_functions (order_of b) (nodes_of b words) words f b.problem.value (λ j low. root_denotes b plan id v words slots live current end j (full' j low))) found'
+      (same_functions (order_of b) (nodes_of b words) words f b.problem.value
+          (λ j low. root_denotes b plan id v words slots live current end j (full' j low))) found'
 
   pub found_lacks : (t : StoreId) (steps writes : ℕ) → t.plan ≡ b → (fault : CloseFault) →
       LacksRoot words (places + entries + roots) (pieces - roots) fault →

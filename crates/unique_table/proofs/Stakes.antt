@@ -160,8 +160,8 @@ module _ (views : List View) (id : ℕ) (v : View) (at : get_elem? views id ≡ 
       let old = within k (omega (arith, h, h', e, e', large)) in omega (arith, a, a', d, d', old)
 
   -- beside the whole no other view has a part
-  pub no_other : (other : ℕ) (w left : View) → left.stake ≡ record { units = 0; halvings = 0 } → other ≢ id → get_elem? views other ≡ some w → 0 < v.stake.units →
-      IsWhole w.stake → ⊥
+  pub no_other : (other : ℕ) (w left : View) → left.stake ≡ record { units = 0; halvings = 0 } → other ≢ id → get_elem? views other ≡ some w →
+      0 < v.stake.units → IsWhole w.stake → ⊥
   no_other other w left none ne at' some_part w_whole =
       let k : ℕ = sum_by halvings views in
       let most = within k (omega arith) in

@@ -10,7 +10,8 @@ use Rattle.cert_check.proofs.class_table.numbered_with.Goals as goal
 
 pub number_pairs-requires-clause-rank : goal.number_pairs-requires-clause-rank
 number_pairs-requires-clause-rank c =
-    subst (λ k. k < 16) (sym c.from.ensures) (ready (table_at c.args.problem.now c.args.set c.args.level) c.args.x c.requires.inside c.requires.below c.requires.free
+    subst (λ k. k < 16) (sym c.from.ensures)
+    (ready (table_at c.args.problem.now c.args.set c.args.level) c.args.x c.requires.inside c.requires.below c.requires.free
     c.args.numbers.now c.args.masks.now c.requires.rows).rank
 
 pub number_pairs-requires-clause-variable : goal.number_pairs-requires-clause-variable

@@ -15,11 +15,13 @@ returns c h =
     let start = (p - 1) * w in
     let n = c.if-place-eq0.false in
     let size : start + w - start ≡ w = omega arith in
-    let told = slice_eq-Decides Decides-eqb (take (start + w - start) (drop start kept)) row (pointwise eqb (take (start + w - start) (drop start kept)) row) refl in
+    let told = slice_eq-Decides Decides-eqb (take (start + w - start) (drop start kept)) row
+    (pointwise eqb (take (start + w - start) (drop start kept)) row) refl in
     let same : take w (drop start kept) ≡ row = ap (λ k. take k (drop start kept)) (sym size) ∙ told.0 (sym c.eq.ensures ∙ h) in
     let m = mul-le-mul_right w c.if-kept-width.false in
     let d = div-mul-le_self (length kept) w in
-    let q : p * w ≡ (p - 1) * w + w = (let s : p ≡ (p - 1) + 1 = omega arith in ap (λ k. k * w) s ∙ (let g : ((p - 1) + 1) * w ≡ (p - 1) * w + w = grind arith in g)) in
+    let q : p * w ≡ (p - 1) * w + w =
+    (let s : p ≡ (p - 1) + 1 = omega arith in ap (λ k. k * w) s ∙ (let g : ((p - 1) + 1) * w ≡ (p - 1) * w + w = grind arith in g)) in
     let l = length-take start kept in (
       take start kept,
       drop w (drop start kept),

@@ -72,7 +72,8 @@ returns-then-not-has_any-2-clause-compactions t c =
     (fewer_compactions (free_below (bit_or c.args.decided (2 ^ y)) n) c.in_ok-before.before before)
 
 pub add_high-requires-clause-high : goal.add_high-requires-clause-high
-add_high-requires-clause-high t c = undecided_high (low_variables c.args.table.now.problem) c.args.decided c.in-Some.y c.in-Some.ensures.undecided.1 c.requires.low
+add_high-requires-clause-high t c =
+    undecided_high (low_variables c.args.table.now.problem) c.args.decided c.in-Some.y c.in-Some.ensures.undecided.1 c.requires.low
 
 pub add_high-requires-clause-new : goal.add_high-requires-clause-new
 add_high-requires-clause-new t c =
@@ -115,7 +116,8 @@ walk-requires-2 t c =
                     (
                       subst (λ (z : ClassesOf). AreMembers z.problem masks needed) (sym c.in_ok-next.ensures) c.requires.members,
                       subst (λ (z : ClassesOf). AreBlank z.problem masks needed c.walk.new.rows) (sym c.in_ok-next.ensures)
-                          (blank_kept p masks needed set c.with_member-more.result c.args.rows.now c.walk.new.rows c.requires.blank c.in_ok-before.ensures.rows),
+                          (blank_kept p masks needed set c.with_member-more.result c.args.rows.now c.walk.new.rows c.requires.blank
+                              c.in_ok-before.ensures.rows),
                     ),
                   ),
                 ),

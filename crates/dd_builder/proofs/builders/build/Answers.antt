@@ -9,7 +9,8 @@ use Rattle.dd_builder.proofs.builders.build.Goals as goal
 
 pub returns-then-has_many_terms-clause-diagram : goal.returns-then-has_many_terms-clause-diagram
 returns-then-has_many_terms-clause-diagram g c =
-    let is : IsOrder c.args.cover.now.inputs c.args.order.now = subst (λ n. IsOrder n c.args.order.now) c.requires.order c.orders_have_each_variable_once.ensures in
+    let is : IsOrder c.args.cover.now.inputs c.args.order.now =
+    subst (λ n. IsOrder n c.args.order.now) c.requires.order c.orders_have_each_variable_once.ensures in
     ok_same (IsDiagramOf c.args.tables.now.inputs (functions c.args.tables.now) c.args.order.now)
     (IsDiagramOf c.args.cover.now.inputs (functions_of c.args.cover.now) c.args.order.now) c.build_tables.result
     c.build_tables.ensures.diagram (λ d h.

@@ -20,4 +20,5 @@ returns-clause-harmless c =
     let none = c.if-count-gt0.false in
     let few = c.count.ensures.value in
     let pairs : c.args.asked.now.pairs ≡ [] = nil_from_length c.args.asked.now.pairs (omega arith) in
-    subst (λ (P : List Pair). IsHarmless n F P c.in_ok-pairs.pairs.pairs) (sym pairs) (harmless_symmetric n F c.in_ok-pairs.pairs.pairs c.in_ok-pairs.ensures.pairs)
+    subst (λ (P : List Pair). IsHarmless n F P c.in_ok-pairs.pairs.pairs) (sym pairs)
+        (harmless_symmetric n F c.in_ok-pairs.pairs.pairs c.in_ok-pairs.ensures.pairs)

@@ -35,7 +35,8 @@ cells_of_block-requires-clause-room g c =
     let gains : widths_for t _ ≡ c.loop-claim.tally + widths_for t (block_masks c.block.result.now) =
     round_gains t c.args.seat s s1 s1 c.loop-claim.tally p b w h
     ∙ ap (λ (z : BlockOf). c.loop-claim.tally + widths_for t (block_masks z)) (sym c.block.ensures) in
-    let small : t.problem.inputs ≤ 16 = (let f = c.inputs.ensures.few in let v = c.inputs.ensures.value ∙ ap (λ (z : BenchOf). z.setting.problem.inputs) c.bench.view_is in omega (arith, f, v)) in
+    let small : t.problem.inputs ≤ 16 =
+    (let f = c.inputs.ensures.few in let v = c.inputs.ensures.value ∙ ap (λ (z : BenchOf). z.setting.problem.inputs) c.bench.view_is in omega (arith, f, v)) in
     let few = few_gained t c.args.seat s1 t.problem.inputs small
     (ap (λ (z : BoardId). z.brief.layer.inputs) c.requires.seat ∙ ap (λ (l : LayerOf). l.inputs) c.requires.layer
     ∙ ap (λ (z : BenchOf). z.layer.inputs) (sym c.bench.view_is) ∙ ap (λ (l : LayerOf). l.inputs) c.bench.invariant.0.layer

@@ -15,7 +15,8 @@ loop-block-init c =
     let l = c.len-half.ensures.count in
     let z : 0 * 2 ^ c.args.entries.now.rank ≡ 0 = omega arith in
     rw z
-    (fronted_none c.args.masks.now c.args.x c.args.entries.now.numbers c.args.entries.now.rank c.args.cells.now c.in_ok-out.out.items c.in_ok-joined.joined.items
+    (fronted_none c.args.masks.now c.args.x c.args.entries.now.numbers c.args.entries.now.rank c.args.cells.now c.in_ok-out.out.items
+        c.in_ok-joined.joined.items
     (omega arith) (omega arith) c.requires.cells c.requires.empty)
 
 pub loop-block-preserved : goal.loop-block-preserved
@@ -97,7 +98,8 @@ index_mut-requires-in-loop-i c =
     let p : ℕ × ℕ = (get_or c.block.result.low.now c.loop-i.i 0, get_or c.block.result.high.now c.loop-i.i 0) in
     let is = c.block.ensures.pairs c.loop-i.i w.early in
     let k = place_inside c.requires.table c.loop-block.block c.loop-i.i c.loop-i.invariant w p is in
-    let e = place_is c.args.entries.now.numbers c.args.entries.now.rank c.requires.table.paired c.rank-rank.result c.loop-block.block c.loop-i.i c.rank-rank.ensures.rank in
+    let e = place_is c.args.entries.now.numbers c.args.entries.now.rank c.requires.table.paired c.rank-rank.result c.loop-block.block c.loop-i.i
+    c.rank-rank.ensures.rank in
     omega arith
 
 pub loop-i-preserved : goal.loop-i-preserved
@@ -106,17 +108,20 @@ loop-i-preserved c =
     c.loop-block.block c.loop-i.i c.len-half.ensures.count c.rank-rank.ensures.rank c.loop-block-test.true c.loop-i-test.true in
     let p : ℕ × ℕ = (get_or c.block.result.low.now c.loop-i.i 0, get_or c.block.result.high.now c.loop-i.i 0) in
     let is = c.block.ensures.pairs c.loop-i.i w.early in
-    let e = place_is c.args.entries.now.numbers c.args.entries.now.rank c.requires.table.paired c.rank-rank.result c.loop-block.block c.loop-i.i c.rank-rank.ensures.rank in
+    let e = place_is c.args.entries.now.numbers c.args.entries.now.rank c.requires.table.paired c.rank-rank.result c.loop-block.block c.loop-i.i
+    c.rank-rank.ensures.rank in
     elim c.if-next-eq0.branch [
       | then-next-eq0 v ↦ elim c.if-next-eq0-2.branch [
         | then-next-eq0-2 u ↦
-            rw (e, v.number-is, u.count-is) (fronted_new c.requires.table c.loop-block.block c.loop-i.i c.loop-i.invariant w p is c.join_mask.result c.join_mask.ensures v.if-next-eq0.true)
+            rw (e, v.number-is, u.count-is) (fronted_new c.requires.table c.loop-block.block c.loop-i.i c.loop-i.invariant w p is c.join_mask.result
+                c.join_mask.ensures v.if-next-eq0.true)
         | else-next-eq0-2 u ↦ absurd (u.if-next-eq0-2.false v.if-next-eq0.true)
       ]
       | else-next-eq0 v ↦ elim c.if-next-eq0-2.branch [
         | then-next-eq0-2 u ↦ absurd (v.if-next-eq0.false u.if-next-eq0-2.true)
         | else-next-eq0-2 u ↦
-            rw (e, v.number-is, u.count-is) (fronted_again c.requires.table c.loop-block.block c.loop-i.i c.loop-i.invariant w p is c.join_mask.result v.if-next-eq0.false)
+            rw (e, v.number-is, u.count-is) (fronted_again c.requires.table c.loop-block.block c.loop-i.i c.loop-i.invariant w p is c.join_mask.result
+                v.if-next-eq0.false)
       ]
     ]
 
@@ -130,7 +135,8 @@ loop-i-else-count-block-init c =
 pub join_mask-requires-then-next-eq0-3-clause-lower : goal.join_mask-requires-then-next-eq0-3-clause-lower
 join_mask-requires-then-next-eq0-3-clause-lower c =
     let w = in_block c.args.entries.now.numbers c.args.entries.now.rank c.requires.table.paired c.len-half.result c.rank-rank.result
-    c.loop-block.block c.loop-i-else-count-block.i c.len-half.ensures.count c.rank-rank.ensures.rank c.loop-block-test.true c.loop-i-else-count-block-test.true in
+    c.loop-block.block c.loop-i-else-count-block.i c.len-half.ensures.count c.rank-rank.ensures.rank c.loop-block-test.true
+        c.loop-i-else-count-block-test.true in
     let p : ℕ × ℕ = (get_or c.block.result.low.now c.loop-i-else-count-block.i 0, get_or c.block.result.high.now c.loop-i-else-count-block.i 0) in
     let is = c.block.ensures.pairs c.loop-i-else-count-block.i w.early in
     (pair_classes c.requires.table c.loop-block.block c.loop-i-else-count-block.i c.loop-i-else-count-block.invariant w p is).0
@@ -138,7 +144,8 @@ join_mask-requires-then-next-eq0-3-clause-lower c =
 pub join_mask-requires-then-next-eq0-3-clause-upper : goal.join_mask-requires-then-next-eq0-3-clause-upper
 join_mask-requires-then-next-eq0-3-clause-upper c =
     let w = in_block c.args.entries.now.numbers c.args.entries.now.rank c.requires.table.paired c.len-half.result c.rank-rank.result
-    c.loop-block.block c.loop-i-else-count-block.i c.len-half.ensures.count c.rank-rank.ensures.rank c.loop-block-test.true c.loop-i-else-count-block-test.true in
+    c.loop-block.block c.loop-i-else-count-block.i c.len-half.ensures.count c.rank-rank.ensures.rank c.loop-block-test.true
+        c.loop-i-else-count-block-test.true in
     let p : ℕ × ℕ = (get_or c.block.result.low.now c.loop-i-else-count-block.i 0, get_or c.block.result.high.now c.loop-i-else-count-block.i 0) in
     let is = c.block.ensures.pairs c.loop-i-else-count-block.i w.early in
     (pair_classes c.requires.table c.loop-block.block c.loop-i-else-count-block.i c.loop-i-else-count-block.invariant w p is).1
@@ -146,7 +153,8 @@ join_mask-requires-then-next-eq0-3-clause-upper c =
 pub bounds-cells-cell-in-loop-i-else-count-block : goal.bounds-cells-cell-in-loop-i-else-count-block
 bounds-cells-cell-in-loop-i-else-count-block c =
     let w = in_block c.args.entries.now.numbers c.args.entries.now.rank c.requires.table.paired c.len-half.result c.rank-rank.result
-    c.loop-block.block c.loop-i-else-count-block.i c.len-half.ensures.count c.rank-rank.ensures.rank c.loop-block-test.true c.loop-i-else-count-block-test.true in
+    c.loop-block.block c.loop-i-else-count-block.i c.len-half.ensures.count c.rank-rank.ensures.rank c.loop-block-test.true
+        c.loop-i-else-count-block-test.true in
     let p : ℕ × ℕ = (get_or c.block.result.low.now c.loop-i-else-count-block.i 0, get_or c.block.result.high.now c.loop-i-else-count-block.i 0) in
     let is = c.block.ensures.pairs c.loop-i-else-count-block.i w.early in
     cell_inside c.requires.table c.loop-block.block c.loop-i-else-count-block.i c.loop-i-else-count-block.invariant w p is
@@ -154,7 +162,8 @@ bounds-cells-cell-in-loop-i-else-count-block c =
 pub bounds-cells-cell-then-next-eq0-3 : goal.bounds-cells-cell-then-next-eq0-3
 bounds-cells-cell-then-next-eq0-3 c =
     let w = in_block c.args.entries.now.numbers c.args.entries.now.rank c.requires.table.paired c.len-half.result c.rank-rank.result
-    c.loop-block.block c.loop-i-else-count-block.i c.len-half.ensures.count c.rank-rank.ensures.rank c.loop-block-test.true c.loop-i-else-count-block-test.true in
+    c.loop-block.block c.loop-i-else-count-block.i c.len-half.ensures.count c.rank-rank.ensures.rank c.loop-block-test.true
+        c.loop-i-else-count-block-test.true in
     let p : ℕ × ℕ = (get_or c.block.result.low.now c.loop-i-else-count-block.i 0, get_or c.block.result.high.now c.loop-i-else-count-block.i 0) in
     let is = c.block.ensures.pairs c.loop-i-else-count-block.i w.early in
     cell_inside c.requires.table c.loop-block.block c.loop-i-else-count-block.i c.loop-i-else-count-block.invariant w p is
@@ -162,26 +171,32 @@ bounds-cells-cell-then-next-eq0-3 c =
 pub index_mut-requires-in-loop-i-else-count-block : goal.index_mut-requires-in-loop-i-else-count-block
 index_mut-requires-in-loop-i-else-count-block c =
     let w = in_block c.args.entries.now.numbers c.args.entries.now.rank c.requires.table.paired c.len-half.result c.rank-rank.result
-    c.loop-block.block c.loop-i-else-count-block.i c.len-half.ensures.count c.rank-rank.ensures.rank c.loop-block-test.true c.loop-i-else-count-block-test.true in
+    c.loop-block.block c.loop-i-else-count-block.i c.len-half.ensures.count c.rank-rank.ensures.rank c.loop-block-test.true
+        c.loop-i-else-count-block-test.true in
     let p : ℕ × ℕ = (get_or c.block.result.low.now c.loop-i-else-count-block.i 0, get_or c.block.result.high.now c.loop-i-else-count-block.i 0) in
     let is = c.block.ensures.pairs c.loop-i-else-count-block.i w.early in
     let k = place_inside c.requires.table c.loop-block.block c.loop-i-else-count-block.i c.loop-i-else-count-block.invariant w p is in
-    let e = place_is c.args.entries.now.numbers c.args.entries.now.rank c.requires.table.paired c.rank-rank.result c.loop-block.block c.loop-i-else-count-block.i c.rank-rank.ensures.rank in
+    let e = place_is c.args.entries.now.numbers c.args.entries.now.rank c.requires.table.paired c.rank-rank.result c.loop-block.block
+    c.loop-i-else-count-block.i c.rank-rank.ensures.rank in
     omega arith
 
 pub loop-i-else-count-block-preserved : goal.loop-i-else-count-block-preserved
 loop-i-else-count-block-preserved c =
     let w = in_block c.args.entries.now.numbers c.args.entries.now.rank c.requires.table.paired c.len-half.result c.rank-rank.result
-    c.loop-block.block c.loop-i-else-count-block.i c.len-half.ensures.count c.rank-rank.ensures.rank c.loop-block-test.true c.loop-i-else-count-block-test.true in
+    c.loop-block.block c.loop-i-else-count-block.i c.len-half.ensures.count c.rank-rank.ensures.rank c.loop-block-test.true
+        c.loop-i-else-count-block-test.true in
     let p : ℕ × ℕ = (get_or c.block.result.low.now c.loop-i-else-count-block.i 0, get_or c.block.result.high.now c.loop-i-else-count-block.i 0) in
     let is = c.block.ensures.pairs c.loop-i-else-count-block.i w.early in
-    let e = place_is c.args.entries.now.numbers c.args.entries.now.rank c.requires.table.paired c.rank-rank.result c.loop-block.block c.loop-i-else-count-block.i c.rank-rank.ensures.rank in
+    let e = place_is c.args.entries.now.numbers c.args.entries.now.rank c.requires.table.paired c.rank-rank.result c.loop-block.block
+    c.loop-i-else-count-block.i c.rank-rank.ensures.rank in
     elim c.if-next-eq0-3.branch [
       | then-next-eq0-3 v ↦
           let next : c.if-next-eq0-3.next ≡ c.loop-i-else-count-block.count + 1 = omega arith in
           let number : c.loop-i-else-count-block.count + 1 - 1 ≡ c.loop-i-else-count-block.count = omega arith in
           rw (e, v.cells-is, v.joined-is, v.count-is, next, number)
-          (fronted_new c.requires.table c.loop-block.block c.loop-i-else-count-block.i c.loop-i-else-count-block.invariant w p is v.join_mask-then-next-eq0-3.result v.join_mask-then-next-eq0-3.ensures v.if-next-eq0-3.true)
+          (fronted_new c.requires.table c.loop-block.block c.loop-i-else-count-block.i c.loop-i-else-count-block.invariant w p is
+              v.join_mask-then-next-eq0-3.result v.join_mask-then-next-eq0-3.ensures v.if-next-eq0-3.true)
       | else-next-eq0-3 v ↦
-          rw (e, v.cells-is, v.joined-is, v.count-is, v.next-is) (fronted_old c.requires.table c.loop-block.block c.loop-i-else-count-block.i c.loop-i-else-count-block.invariant w p is v.if-next-eq0-3.false)
+          rw (e, v.cells-is, v.joined-is, v.count-is, v.next-is)
+              (fronted_old c.requires.table c.loop-block.block c.loop-i-else-count-block.i c.loop-i-else-count-block.invariant w p is v.if-next-eq0-3.false)
     ]

@@ -61,7 +61,8 @@ returns c =
     let a = block_all (length c.args.entries.now.numbers) c.args.rank c.loop-block.block c.requires.paired.whole
     (let e = ap (λ z. z / 2 ^ c.args.rank) c.requires.long in let t = c.loop-block-test.false in omega arith) in
     sym (take_all (c.loop-block.block * 2 ^ c.args.rank) c.loop-block.joined (omega arith)) ∙ c.loop-block.invariant.done
-    ∙ ap (map (joined_key c.args.base)) (take_all (c.loop-block.block * 2 ^ c.args.rank) (places.pairs c.args.entries.now.numbers (2 ^ c.args.rank)) (omega arith))
+    ∙ ap (map (joined_key c.args.base)) (take_all (c.loop-block.block * 2 ^ c.args.rank) (places.pairs c.args.entries.now.numbers (2 ^ c.args.rank))
+        (omega arith))
 
 -- both halves of a pair are below the base
 keys_below : (cs : List ℕ) (rank base j : ℕ) → IsPaired cs rank → AllBelow cs base → j < length (places.pairs cs (2 ^ rank)) → (low high : ℕ) →
@@ -84,7 +85,8 @@ overflow_mul-joined c =
     let b = keys_below cs c.args.entries.now.rank c.args.base (c.loop-block.block * 2 ^ c.args.entries.now.rank + c.loop-i.i)
     (subst (λ k. IsPaired cs k) c.requires.rank c.requires.paired) c.requires.below
     (subst (λ k. c.loop-block.block * 2 ^ k + c.loop-i.i < length (places.pairs cs (2 ^ k))) c.requires.rank
-    (listed_inside cs c.args.rank c.requires.paired c.loop-block.block c.loop-i.i w)) (get_or c.block.result.low.now c.loop-i.i 0) (get_or c.block.result.high.now c.loop-i.i 0) is in
+    (listed_inside cs c.args.rank c.requires.paired c.loop-block.block c.loop-i.i w)) (get_or c.block.result.low.now c.loop-i.i 0)
+    (get_or c.block.result.high.now c.loop-i.i 0) is in
     let k = key_fits (get_or c.block.result.low.now c.loop-i.i 0) (get_or c.block.result.high.now c.loop-i.i 0) c.args.base b.0 b.1 c.requires.base in
     let f = k.0 in
     omega arith
@@ -98,7 +100,8 @@ overflow_add-joined c =
     let b = keys_below cs c.args.entries.now.rank c.args.base (c.loop-block.block * 2 ^ c.args.entries.now.rank + c.loop-i.i)
     (subst (λ k. IsPaired cs k) c.requires.rank c.requires.paired) c.requires.below
     (subst (λ k. c.loop-block.block * 2 ^ k + c.loop-i.i < length (places.pairs cs (2 ^ k))) c.requires.rank
-    (listed_inside cs c.args.rank c.requires.paired c.loop-block.block c.loop-i.i w)) (get_or c.block.result.low.now c.loop-i.i 0) (get_or c.block.result.high.now c.loop-i.i 0) is in
+    (listed_inside cs c.args.rank c.requires.paired c.loop-block.block c.loop-i.i w)) (get_or c.block.result.low.now c.loop-i.i 0)
+    (get_or c.block.result.high.now c.loop-i.i 0) is in
     let k = key_fits (get_or c.block.result.low.now c.loop-i.i 0) (get_or c.block.result.high.now c.loop-i.i 0) c.args.base b.0 b.1 c.requires.base in
     let f = k.1 in
     omega arith

@@ -7,7 +7,8 @@ use Rattle.pair_numbering.proofs.keys.tell_entries.Goals as goal
 pub returns-then-base-len-clause-tells : goal.returns-then-base-len-clause-tells
 returns-then-base-len-clause-tells c =
     let l = c.if-base-le-MOST_JOINED.true in
-    names_joined c.args.masks.now c.args.x c.args.entries.now.numbers c.args.entries.now.rank c.requires.table (omega arith) c.in_ok-keys.keys.items c.in_ok-joined.joined.items
+    names_joined c.args.masks.now c.args.x c.args.entries.now.numbers c.args.entries.now.rank c.requires.table
+        (omega arith) c.in_ok-keys.keys.items c.in_ok-joined.joined.items
     c.in_ok-keys.ensures c.in_ok-joined.ensures
 
 pub returns-clause-tells : goal.returns-clause-tells

@@ -46,4 +46,5 @@ loop-j-preserved c =
     }
 
 pub returns : goal.returns
-returns c = c.loop-j.invariant.done ∙ all_done c.args.entries.now.numbers (2 ^ c.args.entries.now.rank) c.loop-j.j (let h = c.len-half.ensures.count in let t = c.loop-j-test.false in omega arith)
+returns c = c.loop-j.invariant.done ∙ all_done c.args.entries.now.numbers (2 ^ c.args.entries.now.rank) c.loop-j.j
+    (let h = c.len-half.ensures.count in let t = c.loop-j-test.false in omega arith)

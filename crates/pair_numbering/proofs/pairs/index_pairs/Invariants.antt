@@ -9,5 +9,6 @@ use Rattle.pair_numbering.proofs.pairs.index_pairs.Given as goal
 abbrev pub invariant-loop-j : goal.invariant-loop-j
 invariant-loop-j l = record {
   seen : Numbers same_pair pair_decides l.seen.keys (take l.j (places.pairs l.entries.numbers (2 ^ l.entries.rank)));
-  done : l.out.items ≡ map (rank same_pair (places.pairs l.entries.numbers (2 ^ l.entries.rank))) (take l.j (places.pairs l.entries.numbers (2 ^ l.entries.rank)));
+  done : l.out.items ≡ map (rank same_pair (places.pairs l.entries.numbers (2 ^ l.entries.rank)))
+      (take l.j (places.pairs l.entries.numbers (2 ^ l.entries.rank)));
 }

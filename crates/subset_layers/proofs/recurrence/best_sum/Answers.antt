@@ -42,7 +42,8 @@ loop-x-preserved c =
           subst (λ o. IsBestBelow S c.args.bound costs widths (c.loop-x.x + 1) o) (sym w.best-is)
           (best_taken S c.args.bound costs widths c.loop-x.x (w.unwrap-cost.result + slice_index c.args.widths.now c.loop-x.x) c.loop-x.best
           _ w.smaller.result c.loop-x.invariant
-          (member_from_bit n c.args.mask c.loop-x.x (omega arith) (shr_and_one c.args.mask c.loop-x.x ∙ c.contains.ensures.0 w.if-contains.true)) within (omega arith) refl w.smaller.ensures.none w.smaller.ensures.some)
+          (member_from_bit n c.args.mask c.loop-x.x (omega arith) (shr_and_one c.args.mask c.loop-x.x ∙ c.contains.ensures.0 w.if-contains.true))
+          within (omega arith) refl w.smaller.ensures.none w.smaller.ensures.some)
       | then-contains+else-cost-bound w ↦
           let e = shifted_bit c.args.mask c.loop-x.x (omega arith) (shr_and_one c.args.mask c.loop-x.x ∙ c.contains.ensures.0 w.if-contains.true) in
           let is : costs c.loop-x.x ≡ w.unwrap-cost.result = ap (λ k. unwrap_or (cost_at c.args.costs.now (c.args.mask - k)) 0) (sym e)
@@ -53,7 +54,8 @@ loop-x-preserved c =
       | else-contains w ↦
           subst (λ o. IsBestBelow S c.args.bound costs widths (c.loop-x.x + 1) o) (sym w.best-is)
           (best_skipped S c.args.bound costs widths c.loop-x.x c.loop-x.best c.loop-x.invariant
-          (λ m. absurd (iff_false c.contains.ensures w.if-contains.false (sym (shr_and_one c.args.mask c.loop-x.x) ∙ bit_from_member n c.args.mask c.loop-x.x m))))
+          (λ m. absurd (iff_false c.contains.ensures w.if-contains.false (sym (shr_and_one c.args.mask c.loop-x.x)
+              ∙ bit_from_member n c.args.mask c.loop-x.x m))))
     ]
 
 -- the sum over all members

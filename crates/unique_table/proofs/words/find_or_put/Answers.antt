@@ -9,7 +9,14 @@ use Rattle.unique_table.proofs.words.find_or_put.Goals as goal
 pub loop-passed-init : goal.loop-passed-init
 loop-passed-init c = record {
   seat = c.requires.seat;
-  gains = record { good = c.requires.seat.good; current = λ e. e; plan = refl; stake = refl; nodes = grows_refl c.args.seat.now.me.0.seen; pieces = grows_refl c.args.seat.now.me.0.pieces };
+  gains = record {
+    good = c.requires.seat.good;
+    current = λ e. e;
+    plan = refl;
+    stake = refl;
+    nodes = grows_refl c.args.seat.now.me.0.seen;
+    pieces = grows_refl c.args.seat.now.me.0.pieces;
+  };
   word = c.requires.word;
   before = λ j none. absurd (omega arith);
   steps = omega arith;

@@ -38,7 +38,8 @@ returns-in-None c = IfOk-then c.are_wide.result _ _ c.are_wide.ensures (λ wide 
     subst (λ (z : TableOf). HoldsTable z c.self.inside.full c.self.inside.numbers.items c.self.inside.masks.items) c.self.view_is
     c.self.invariant in
     let rows = subst (λ f. HoldsTable t f c.self.inside.numbers.items c.self.inside.masks.items) c.in-None.is table in
-    let w = pairs_with_width t c.args.x y c.requires.inside c.requires.below c.requires.free c.self.inside.numbers.items c.self.inside.masks.items rows member in
+    let w = pairs_with_width t c.args.x y c.requires.inside c.requires.below c.requires.free c.self.inside.numbers.items c.self.inside.masks.items rows
+    member in
     let n = h told y in
     let e : pairs_with c.deref-in-None.result.now c.args.x y (places.pairs c.deref.result.now (2 ^ c.args.x))
     ≡ pairs_with c.self.inside.masks.items c.args.x y (places.pairs c.self.inside.numbers.items (2 ^ c.args.x)) =
