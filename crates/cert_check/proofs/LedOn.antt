@@ -3,7 +3,7 @@
 --     none_lost      if no edge fails among fewer ones, none fails at all
 --     fewer_tables      fewer edges are tables of edges too
 --     fewer_start, fewer_step      no set is left out; one more set is left out that leads on
-use Rattle.std.proofs.Common.{◌≡◌, ℕ, zero, suc, ◌+◌, ◌-◌, ◌^◌, ◌<◌, ◌≤◌, true, not, ◌&&◌, inl, inr, List, length, set, slice_index, nat_eq, eqb, eqb-true, eq-eqb, refl, sym, ap, ap₂, ◌∙◌, subst, arith}
+use Rattle.std.proofs.Common.{◌≡◌, ℕ, zero, suc, ◌+◌, ◌-◌, ◌^◌, ◌<◌, ◌≤◌, true, not, ◌&&◌, inl, inr, List, length, set, slice_index, eqb, eqb-true, eq-eqb, refl, sym, ap, ap₂, ◌∙◌, subst, arith}
 use Rattle.std.specs.Int.{bit_at}
 use Rattle.std.proofs.lemmas.Bool.{cases_eq}
 use Rattle.std.proofs.lemmas.List.{get_or-set_same, get_or-set_other, length-set}
@@ -11,7 +11,7 @@ use Rattle.std.proofs.lemmas.Nat.Bits.{bit_at-zero, bit_at-lt, same_from_bits_be
 use Rattle.order_model.specs.Functions.{Function}
 use Rattle.order_model.specs.Orders.{has, members}
 use Rattle.order_model.specs.Widths.{width}
-use Rattle.order_model.proofs.Lists.Orders.{same_bool, has_variables}
+use Rattle.order_model.proofs.Lists.Orders.{has_variables}
 use Rattle.order_model.proofs.Bits.Masks.{has_members, members_without}
 use Rattle.order_model.proofs.Widths.Recurrence.{has_without, absent_without}
 use Rattle.cert_check.specs.Edges.{Fails, AreEdgeTables}

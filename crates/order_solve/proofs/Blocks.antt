@@ -75,7 +75,7 @@ module _ (b : BenchOf) (h : IsBench b) where
       (is_row : IsRow t.problem mask (needed t mask) row) where
     wanted_has : (x : ℕ) → is_lawful t.pairs.pairs (members c.inputs mask) ≡ true →
         has (asked c.inputs t.reserve t.bound mask (cost_without c mask)) x ≡ true →
-            has (wanted t.problem.inputs F t.pairs.pairs t.reserve t.bound mask) x ≡ true
+        has (wanted t.problem.inputs F t.pairs.pairs t.reserve t.bound mask) x ≡ true
     wanted_has x low m =
         ap (λ k. has (wanted k F t.pairs.pairs t.reserve t.bound mask) x) (sym h.inputs)
         ∙ ap (λ xs. has xs x) (wanted_lawful c F t.pairs.pairs t.reserve t.bound mask next own_costs low) ∙ m

@@ -168,7 +168,7 @@ blocks_more b k blk old new is before stays now p lt low = elim (cases_eq (block
 pub layer_is : (t : Setting) (size : ℕ) (l : LayerOf) (cells : List Cell) (r : CostsOf) → l ≡ layer_with t.problem.inputs size →
     r ≡ costs_with l cells → map pair_of cells ≡ map (cell_for t) (masks_of l) →
     ((F : List Function) (P : List Pair) (v : Reserve) (bound : ℕ) → AreTrueCells l.inputs F P v bound r → AreTrueCosts l.inputs F P v bound r) →
-        IsLayerFor t size r
+    IsLayerFor t size r
 layer_is t size l cells r layer is same exact = record {
   inputs = ap (λ (c : CostsOf). c.inputs) is ∙ inputs;
   size_is = ap (λ (c : CostsOf). c.size) is ∙ ap (λ (z : LayerOf). z.size) layer;

@@ -2,15 +2,14 @@
 --     exchange_pair      two variables exchanged are an exchange
 --     order_exchanged, size_exchanged      an order with exchanged variables is one, and of symmetric functions it has at most as many nodes
 --     sorted_order      each order may be sorted by pairs of symmetric variables, with as many nodes, and does not come later for it
-use Rattle.std.proofs.Common.{◌≡◌, ◌≢◌, ℕ, zero, suc, ◌+◌, ◌<◌, ◌≤◌, Bool, true, false, cond, ◌||◌, ◌&&◌, inl, inr, List, [], ◌∷◌, map, slice_index, refl, sym, ap, ap₂, ◌∙◌, subst, arith, nat_eq, eqb-true, eq-eqb, ne_eqb, zero-add, nat_cmp, Ordering, Less, Equal, Greater}
-use Rattle.std.specs.Prelude.{if◌then◌else◌}
+use Rattle.std.proofs.Common.{◌≡◌, ◌≢◌, ℕ, zero, suc, ◌+◌, ◌<◌, ◌≤◌, Bool, true, false, cond, ◌||◌, ◌&&◌, inl, inr, List, [], ◌∷◌, map, slice_index, refl, sym, ap, ap₂, ◌∙◌, subst, arith, nat_eq, eqb-true, eq-eqb, ne_eqb, nat_cmp, Ordering, Less, Equal, Greater}
 use Rattle.std.specs.Ordering.{ordering_then, is_gt}
 use Rattle.std.specs.Cmp.{nat_cmp_is}
 use Rattle.std.specs.Cmp.Lexicographic.{slice_cmp}
 use Rattle.std.specs.List.{IsDistinct, list_all}
 use Rattle.std.proofs.lemmas.Bool.{false≢true, true≢false, cases_Bool, cases_eq, or_cases, or_parts, cond_both, eqb-false}
 use Rattle.std.proofs.lemmas.Cmp.{nat_list_cmp_total, tied_itself, upto}
-use Rattle.std.proofs.lemmas.List.FromFn.{length-map-range_with_len, get_or-map-range_with_len}
+use Rattle.std.proofs.lemmas.List.FromFn.{length-map-range_with_len}
 use Rattle.order_model.specs.Functions.{Function}
 use Rattle.order_model.specs.Orders.{has, IsOrder}
 use Rattle.order_model.specs.Pairs.{Pair, is_above, keeps, Keeps}
@@ -18,7 +17,7 @@ use Rattle.order_model.specs.Levels.{size_under}
 use Rattle.order_model.specs.Widths.{cost}
 use Rattle.order_model.proofs.Functions.Exchange.{Below, below_from_has, size_is_cost}
 use Rattle.order_model.proofs.Lists.Maps.{map_same}
-use Rattle.order_model.proofs.Lists.Orders.{absent_from_apart, same_bool}
+use Rattle.order_model.proofs.Lists.Orders.{absent_from_apart}
 use Rattle.order_model.proofs.Lists.Sets.{Among, among_from_map}
 use Rattle.order_model.proofs.Precedence.Sets.{among_pair}
 use Rattle.order_model.proofs.Widths.Recurrence.{among_has, apart_from_absent, has_among}

@@ -1,11 +1,11 @@
 -- Functions that are symmetric in two variables, by their values at points that differ in which of both is 1.
 --     symmetric_by_points      where the values at each two such points are equal, the variables are a symmetric pair
-use Rattle.std.specs.Prelude.{◌≡◌, ◌≢◌, ℕ, ◌+◌, ◌-◌, ◌^◌, ◌<◌, Bool, true, false, if◌then◌else◌, [], length, set, slice_index, nat_eq}
-use Rattle.std.proofs.Common.{inl, inr, refl, sym, ap, ◌∙◌, subst, arith, eq-eqb, ne_eqb, zero-add}
+use Rattle.std.specs.Prelude.{◌≡◌, ◌≢◌, ℕ, ◌+◌, ◌-◌, ◌^◌, ◌<◌, Bool, true, false, if◌then◌else◌, [], length, set, nat_eq}
+use Rattle.std.proofs.Common.{inl, inr, refl, sym, ap, ◌∙◌, subst, arith, eq-eqb, ne_eqb}
 use Rattle.std.specs.Int.{bit_at}
 use Rattle.std.proofs.lemmas.Bool.{cases_Bool, cases_eq}
 use Rattle.std.proofs.lemmas.List.{get_or-map, get_or-set_same, get_or-set_other, length-map, length-set, set-get_or}
-use Rattle.std.proofs.lemmas.List.FromFn.{get_or-map-range_with_len, fill_by_all}
+use Rattle.std.proofs.lemmas.List.FromFn.{fill_by_all}
 use Rattle.order_model.specs.Functions.{Point, bit, weight, number, from_table, SameFunction}
 use Rattle.order_model.specs.Problems.{TruthTables, functions, outputs_of, value_at}
 use Rattle.order_model.proofs.Bits.PointNumbers.{number-small, bit-number, number-raised}

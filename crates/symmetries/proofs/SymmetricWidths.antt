@@ -1,7 +1,7 @@
 -- Widths of symmetric functions: an exchange of variables that no function notices takes subfunctions to subfunctions.
 --     length_exchanged, bit_exchanged      a point with exchanged variables, by its bits
 --     width_exchanged      the width of a variable's partner over the partners of a set is at most the width of the variable over the set
-use Rattle.std.proofs.Common.{◌≡◌, ℕ, ◌<◌, ◌≤◌, Bool, true, false, not, cond, ◌&&◌, ◌||◌, inl, inr, List, ◌∷◌, map, length, set, slice_index, sym, ap, ◌∙◌, subst, arith, nat_eq, eqb-true, eq-eqb, zero-add}
+use Rattle.std.proofs.Common.{◌≡◌, ℕ, ◌<◌, ◌≤◌, Bool, true, false, not, cond, ◌&&◌, ◌||◌, inl, inr, List, ◌∷◌, map, length, set, slice_index, sym, ap, ◌∙◌, subst, arith, zero-add}
 use Rattle.std.specs.List.{filter}
 use Rattle.std.specs.Set.{unique_keys}
 use Rattle.std.proofs.lemmas.Bool.{cases_Bool, cases_eq, true≢false, and_parts}
@@ -17,7 +17,7 @@ use Rattle.order_model.proofs.Certificates.Potential.{all_among}
 use Rattle.order_model.proofs.Functions.Exchange.{Below, below_from_has, bit-mix, fixing_reached, length-mix, mix, mix_is, subfunctions_fix}
 use Rattle.order_model.proofs.Functions.Same.{table_long}
 use Rattle.order_model.proofs.Functions.Tables.{depends_false, depends_no, depends_same, same_from_table, same_table_decides, table_same}
-use Rattle.order_model.proofs.Lists.Orders.{has_outside, has_variables, same_bool}
+use Rattle.order_model.proofs.Lists.Orders.{has_outside, has_variables}
 use Rattle.order_model.proofs.Lists.Sets.{Among, Within, among_filter, among_flat_map, among_from_filter, among_from_flat_map, among_from_map, among_map, among_unique, count_le}
 use Rattle.symmetries.specs.Exchanges.{IsExchange, exchanged, AreSymmetric}
 use Rattle.symmetries.proofs.Partners.{one_to_one, same_partner}

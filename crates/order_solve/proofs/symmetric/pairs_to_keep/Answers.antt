@@ -21,4 +21,4 @@ returns-clause-harmless c =
     let few = c.count.ensures.value in
     let pairs : c.args.asked.now.pairs ≡ [] = nil_from_length c.args.asked.now.pairs (omega arith) in
     subst (λ (P : List Pair). IsHarmless n F P c.in_ok-pairs.pairs.pairs) (sym pairs)
-        (harmless_symmetric n F c.in_ok-pairs.pairs.pairs c.in_ok-pairs.ensures.pairs)
+    (harmless_symmetric n F c.in_ok-pairs.pairs.pairs c.in_ok-pairs.ensures.pairs)
