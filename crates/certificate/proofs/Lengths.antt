@@ -148,7 +148,7 @@ module _ (cert : Certificate) (has : HasSpelling cert) where
         let l = length-map cert.pairs pair_words in
         let count = has.pair_count in
         section_length (codes "pairs") (map pair_words cert.pairs) 3 (6 * length cert.pairs)
-            (three (length (map pair_words cert.pairs)) (omega (arith, l, count)))
+        (three (length (map pair_words cert.pairs)) (omega (arith, l, count)))
         (lines_length (IsPair cert.inputs) pair_words 6 (pair_length cert.inputs has.inputs.1) cert.pairs (recursion_from_All _ cert.pairs has.pairs))
 
   cells_length : length (flat_map text_line (section (codes "cells") (map cell_words cert.cells))) ≤ 12 + 12 * length cert.cells

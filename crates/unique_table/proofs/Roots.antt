@@ -224,7 +224,7 @@ module _ (b : Plan) (plan : IsPlan b) (id : ℕ) (v : View) (words : List ℕ) (
       (λ i. (same_order i, p i, same_first i, same_outputs i)) found in
       represents_same (levels_of b) (root_functions (order_of b) (nodes_of b words) words f m) (functions b.problem.value) (order_of b) d
       (same_functions (order_of b) (nodes_of b words) words f b.problem.value
-          (λ j low. root_denotes b plan id v words slots live current end j (full' j low))) found'
+      (λ j low. root_denotes b plan id v words slots live current end j (full' j low))) found'
 
   pub found_lacks : (t : StoreId) (steps writes : ℕ) → t.plan ≡ b → (fault : CloseFault) →
       LacksRoot words (places + entries + roots) (pieces - roots) fault →

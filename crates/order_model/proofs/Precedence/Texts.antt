@@ -150,7 +150,7 @@ pair_without_comma part e = by (cases_lt (position_or_len (λ x. eqb x 44) part)
         let empty : after_first (λ x. eqb x 44) part ≡ [] = drop_all (position_or_len (λ x. eqb x 44) part + 1) part (omega arith) in
         let nothing : variable_of [] ≡ None = number_refused [] (λ a b d. absurd (omega arith)) (λ a b d f. absurd (omega arith)) in
         ap (both (variable_of (before_first (λ x. eqb x 44) part))) (ap variable_of empty ∙ nothing)
-            ∙ both_none (variable_of (before_first (λ x. eqb x 44) part))
+        ∙ both_none (variable_of (before_first (λ x. eqb x 44) part))
 
 -- a part with a comma at place k has the numbers around it
 pub pair_at : (part : List ℕ) (k : ℕ) → Some k ≡ position (λ x. eqb x 44) part →

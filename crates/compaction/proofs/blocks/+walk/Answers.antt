@@ -117,7 +117,7 @@ walk-requires-2 t c =
                       subst (λ (z : ClassesOf). AreMembers z.problem masks needed) (sym c.in_ok-next.ensures) c.requires.members,
                       subst (λ (z : ClassesOf). AreBlank z.problem masks needed c.walk.new.rows) (sym c.in_ok-next.ensures)
                           (blank_kept p masks needed set c.with_member-more.result c.args.rows.now c.walk.new.rows c.requires.blank
-                              c.in_ok-before.ensures.rows),
+                          c.in_ok-before.ensures.rows),
                     ),
                   ),
                 ),

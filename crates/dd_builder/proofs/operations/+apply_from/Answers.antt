@@ -69,14 +69,14 @@ returns-in_err-high-clause-follows t c =
 pub make-requires-clause-low : goal.make-requires-clause-low
 make-requires-clause-low t c = known_below_follows _ _ _ _ c.apply_from-2.ensures.follows (combined_below _ _ _ _ _ _
     (low_combined c.args.store.now c.take_apart-cut.new.session c.apply_from.new.session c.take_apart-cut.result.level c.args.operation c.args.first
-        c.args.second _ _ _ _
+    c.args.second _ _ _ _
     (c.take_apart-cut.ensures.follows.store ∙ (c.recall.ensures.step.follows.store ∙ c.requires.session)) c.take_apart-cut.ensures.inside
     c.take_apart-cut.ensures.first c.take_apart-cut.ensures.second c.in_ok-low.low c.in_ok-low.ensures.combined))
 
 pub make-requires-clause-high : goal.make-requires-clause-high
 make-requires-clause-high t c = combined_below _ _ _ _ _ _
     (high_combined c.args.store.now c.take_apart-cut.new.session c.apply_from.new.session c.take_apart-cut.result.level c.args.operation c.args.first
-        c.args.second _ _ _ _
+    c.args.second _ _ _ _
     (c.take_apart-cut.ensures.follows.store ∙ (c.recall.ensures.step.follows.store ∙ c.requires.session)) c.take_apart-cut.ensures.inside
     c.take_apart-cut.ensures.first c.take_apart-cut.ensures.second c.apply_from-2.new.session c.in_ok-high.high
     c.apply_from.ensures.follows c.in_ok-high.ensures.combined)
@@ -99,11 +99,11 @@ remember-requires-clause-function t c =
     (c.take_apart-cut.ensures.follows.store ∙ (c.recall.ensures.step.follows.store ∙ c.requires.session)) c.take_apart-cut.ensures.first
     c.take_apart-cut.ensures.second
     c.apply_from.ensures.follows (low_combined c.args.store.now c.take_apart-cut.new.session c.apply_from.new.session c.take_apart-cut.result.level
-        c.args.operation c.args.first c.args.second _ _ _ _
+    c.args.operation c.args.first c.args.second _ _ _ _
     (c.take_apart-cut.ensures.follows.store ∙ (c.recall.ensures.step.follows.store ∙ c.requires.session)) c.take_apart-cut.ensures.inside
     c.take_apart-cut.ensures.first c.take_apart-cut.ensures.second c.in_ok-low.low c.in_ok-low.ensures.combined) c.apply_from-2.ensures.follows
-        (high_combined c.args.store.now c.take_apart-cut.new.session c.apply_from.new.session c.take_apart-cut.result.level c.args.operation c.args.first
-            c.args.second _ _ _ _
+    (high_combined c.args.store.now c.take_apart-cut.new.session c.apply_from.new.session c.take_apart-cut.result.level c.args.operation c.args.first
+    c.args.second _ _ _ _
     (c.take_apart-cut.ensures.follows.store ∙ (c.recall.ensures.step.follows.store ∙ c.requires.session)) c.take_apart-cut.ensures.inside
     c.take_apart-cut.ensures.first c.take_apart-cut.ensures.second c.apply_from-2.new.session c.in_ok-high.high
     c.apply_from.ensures.follows c.in_ok-high.ensures.combined)
@@ -130,11 +130,11 @@ returns-clause-combined t c = λ from few one two.
     (c.take_apart-cut.ensures.follows.store ∙ (c.recall.ensures.step.follows.store ∙ c.requires.session)) c.take_apart-cut.ensures.first
     c.take_apart-cut.ensures.second
     c.apply_from.ensures.follows (low_combined c.args.store.now c.take_apart-cut.new.session c.apply_from.new.session c.take_apart-cut.result.level
-        c.args.operation c.args.first c.args.second _ _ _ _
+    c.args.operation c.args.first c.args.second _ _ _ _
     (c.take_apart-cut.ensures.follows.store ∙ (c.recall.ensures.step.follows.store ∙ c.requires.session)) c.take_apart-cut.ensures.inside
     c.take_apart-cut.ensures.first c.take_apart-cut.ensures.second c.in_ok-low.low c.in_ok-low.ensures.combined) c.apply_from-2.ensures.follows
-        (high_combined c.args.store.now c.take_apart-cut.new.session c.apply_from.new.session c.take_apart-cut.result.level c.args.operation c.args.first
-            c.args.second _ _ _ _
+    (high_combined c.args.store.now c.take_apart-cut.new.session c.apply_from.new.session c.take_apart-cut.result.level c.args.operation c.args.first
+    c.args.second _ _ _ _
     (c.take_apart-cut.ensures.follows.store ∙ (c.recall.ensures.step.follows.store ∙ c.requires.session)) c.take_apart-cut.ensures.inside
     c.take_apart-cut.ensures.first c.take_apart-cut.ensures.second c.apply_from-2.new.session c.in_ok-high.high
     c.apply_from.ensures.follows c.in_ok-high.ensures.combined)

@@ -16,7 +16,7 @@ loop-block-init c =
     let z : 0 * 2 ^ c.args.entries.now.rank ≡ 0 = omega arith in
     rw z
     (fronted_none c.args.masks.now c.args.x c.args.entries.now.numbers c.args.entries.now.rank c.args.cells.now c.in_ok-out.out.items
-        c.in_ok-joined.joined.items
+    c.in_ok-joined.joined.items
     (omega arith) (omega arith) c.requires.cells c.requires.empty)
 
 pub loop-block-preserved : goal.loop-block-preserved
@@ -114,14 +114,14 @@ loop-i-preserved c =
       | then-next-eq0 v ↦ elim c.if-next-eq0-2.branch [
         | then-next-eq0-2 u ↦
             rw (e, v.number-is, u.count-is) (fronted_new c.requires.table c.loop-block.block c.loop-i.i c.loop-i.invariant w p is c.join_mask.result
-                c.join_mask.ensures v.if-next-eq0.true)
+            c.join_mask.ensures v.if-next-eq0.true)
         | else-next-eq0-2 u ↦ absurd (u.if-next-eq0-2.false v.if-next-eq0.true)
       ]
       | else-next-eq0 v ↦ elim c.if-next-eq0-2.branch [
         | then-next-eq0-2 u ↦ absurd (v.if-next-eq0.false u.if-next-eq0-2.true)
         | else-next-eq0-2 u ↦
             rw (e, v.number-is, u.count-is) (fronted_again c.requires.table c.loop-block.block c.loop-i.i c.loop-i.invariant w p is c.join_mask.result
-                v.if-next-eq0.false)
+            v.if-next-eq0.false)
       ]
     ]
 
@@ -136,7 +136,7 @@ pub join_mask-requires-then-next-eq0-3-clause-lower : goal.join_mask-requires-th
 join_mask-requires-then-next-eq0-3-clause-lower c =
     let w = in_block c.args.entries.now.numbers c.args.entries.now.rank c.requires.table.paired c.len-half.result c.rank-rank.result
     c.loop-block.block c.loop-i-else-count-block.i c.len-half.ensures.count c.rank-rank.ensures.rank c.loop-block-test.true
-        c.loop-i-else-count-block-test.true in
+    c.loop-i-else-count-block-test.true in
     let p : ℕ × ℕ = (get_or c.block.result.low.now c.loop-i-else-count-block.i 0, get_or c.block.result.high.now c.loop-i-else-count-block.i 0) in
     let is = c.block.ensures.pairs c.loop-i-else-count-block.i w.early in
     (pair_classes c.requires.table c.loop-block.block c.loop-i-else-count-block.i c.loop-i-else-count-block.invariant w p is).0
@@ -145,7 +145,7 @@ pub join_mask-requires-then-next-eq0-3-clause-upper : goal.join_mask-requires-th
 join_mask-requires-then-next-eq0-3-clause-upper c =
     let w = in_block c.args.entries.now.numbers c.args.entries.now.rank c.requires.table.paired c.len-half.result c.rank-rank.result
     c.loop-block.block c.loop-i-else-count-block.i c.len-half.ensures.count c.rank-rank.ensures.rank c.loop-block-test.true
-        c.loop-i-else-count-block-test.true in
+    c.loop-i-else-count-block-test.true in
     let p : ℕ × ℕ = (get_or c.block.result.low.now c.loop-i-else-count-block.i 0, get_or c.block.result.high.now c.loop-i-else-count-block.i 0) in
     let is = c.block.ensures.pairs c.loop-i-else-count-block.i w.early in
     (pair_classes c.requires.table c.loop-block.block c.loop-i-else-count-block.i c.loop-i-else-count-block.invariant w p is).1
@@ -154,7 +154,7 @@ pub bounds-cells-cell-in-loop-i-else-count-block : goal.bounds-cells-cell-in-loo
 bounds-cells-cell-in-loop-i-else-count-block c =
     let w = in_block c.args.entries.now.numbers c.args.entries.now.rank c.requires.table.paired c.len-half.result c.rank-rank.result
     c.loop-block.block c.loop-i-else-count-block.i c.len-half.ensures.count c.rank-rank.ensures.rank c.loop-block-test.true
-        c.loop-i-else-count-block-test.true in
+    c.loop-i-else-count-block-test.true in
     let p : ℕ × ℕ = (get_or c.block.result.low.now c.loop-i-else-count-block.i 0, get_or c.block.result.high.now c.loop-i-else-count-block.i 0) in
     let is = c.block.ensures.pairs c.loop-i-else-count-block.i w.early in
     cell_inside c.requires.table c.loop-block.block c.loop-i-else-count-block.i c.loop-i-else-count-block.invariant w p is
@@ -163,7 +163,7 @@ pub bounds-cells-cell-then-next-eq0-3 : goal.bounds-cells-cell-then-next-eq0-3
 bounds-cells-cell-then-next-eq0-3 c =
     let w = in_block c.args.entries.now.numbers c.args.entries.now.rank c.requires.table.paired c.len-half.result c.rank-rank.result
     c.loop-block.block c.loop-i-else-count-block.i c.len-half.ensures.count c.rank-rank.ensures.rank c.loop-block-test.true
-        c.loop-i-else-count-block-test.true in
+    c.loop-i-else-count-block-test.true in
     let p : ℕ × ℕ = (get_or c.block.result.low.now c.loop-i-else-count-block.i 0, get_or c.block.result.high.now c.loop-i-else-count-block.i 0) in
     let is = c.block.ensures.pairs c.loop-i-else-count-block.i w.early in
     cell_inside c.requires.table c.loop-block.block c.loop-i-else-count-block.i c.loop-i-else-count-block.invariant w p is
@@ -172,7 +172,7 @@ pub index_mut-requires-in-loop-i-else-count-block : goal.index_mut-requires-in-l
 index_mut-requires-in-loop-i-else-count-block c =
     let w = in_block c.args.entries.now.numbers c.args.entries.now.rank c.requires.table.paired c.len-half.result c.rank-rank.result
     c.loop-block.block c.loop-i-else-count-block.i c.len-half.ensures.count c.rank-rank.ensures.rank c.loop-block-test.true
-        c.loop-i-else-count-block-test.true in
+    c.loop-i-else-count-block-test.true in
     let p : ℕ × ℕ = (get_or c.block.result.low.now c.loop-i-else-count-block.i 0, get_or c.block.result.high.now c.loop-i-else-count-block.i 0) in
     let is = c.block.ensures.pairs c.loop-i-else-count-block.i w.early in
     let k = place_inside c.requires.table c.loop-block.block c.loop-i-else-count-block.i c.loop-i-else-count-block.invariant w p is in
@@ -184,7 +184,7 @@ pub loop-i-else-count-block-preserved : goal.loop-i-else-count-block-preserved
 loop-i-else-count-block-preserved c =
     let w = in_block c.args.entries.now.numbers c.args.entries.now.rank c.requires.table.paired c.len-half.result c.rank-rank.result
     c.loop-block.block c.loop-i-else-count-block.i c.len-half.ensures.count c.rank-rank.ensures.rank c.loop-block-test.true
-        c.loop-i-else-count-block-test.true in
+    c.loop-i-else-count-block-test.true in
     let p : ℕ × ℕ = (get_or c.block.result.low.now c.loop-i-else-count-block.i 0, get_or c.block.result.high.now c.loop-i-else-count-block.i 0) in
     let is = c.block.ensures.pairs c.loop-i-else-count-block.i w.early in
     let e = place_is c.args.entries.now.numbers c.args.entries.now.rank c.requires.table.paired c.rank-rank.result c.loop-block.block
@@ -195,8 +195,8 @@ loop-i-else-count-block-preserved c =
           let number : c.loop-i-else-count-block.count + 1 - 1 ≡ c.loop-i-else-count-block.count = omega arith in
           rw (e, v.cells-is, v.joined-is, v.count-is, next, number)
           (fronted_new c.requires.table c.loop-block.block c.loop-i-else-count-block.i c.loop-i-else-count-block.invariant w p is
-              v.join_mask-then-next-eq0-3.result v.join_mask-then-next-eq0-3.ensures v.if-next-eq0-3.true)
+          v.join_mask-then-next-eq0-3.result v.join_mask-then-next-eq0-3.ensures v.if-next-eq0-3.true)
       | else-next-eq0-3 v ↦
           rw (e, v.cells-is, v.joined-is, v.count-is, v.next-is)
-              (fronted_old c.requires.table c.loop-block.block c.loop-i-else-count-block.i c.loop-i-else-count-block.invariant w p is v.if-next-eq0-3.false)
+          (fronted_old c.requires.table c.loop-block.block c.loop-i-else-count-block.i c.loop-i-else-count-block.invariant w p is v.if-next-eq0-3.false)
     ]

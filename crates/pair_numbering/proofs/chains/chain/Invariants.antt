@@ -8,7 +8,7 @@ invariant-loop-j l = record {
   heads : (c : ℕ) → c < length l.heads → IsNext (lower_at l.entries.numbers (2 ^ l.entries.rank)) (length l.entries.numbers / 2) c l.j (get_or l.heads c 0);
   next : (i : ℕ) → l.j ≤ i → i < length l.entries.numbers / 2 →
       IsNext (lower_at l.entries.numbers (2 ^ l.entries.rank)) (length l.entries.numbers / 2) (lower_at l.entries.numbers (2 ^ l.entries.rank) i)
-          (i + 1) (get_or l.next i 0);
+      (i + 1) (get_or l.next i 0);
 }
 
 abbrev pub decreases-loop-j : goal.decreases-loop-j

@@ -62,7 +62,7 @@ returns c =
     (let e = ap (λ z. z / 2 ^ c.args.rank) c.requires.long in let t = c.loop-block-test.false in omega arith) in
     sym (take_all (c.loop-block.block * 2 ^ c.args.rank) c.loop-block.joined (omega arith)) ∙ c.loop-block.invariant.done
     ∙ ap (map (joined_key c.args.base)) (take_all (c.loop-block.block * 2 ^ c.args.rank) (places.pairs c.args.entries.now.numbers (2 ^ c.args.rank))
-        (omega arith))
+    (omega arith))
 
 -- both halves of a pair are below the base
 keys_below : (cs : List ℕ) (rank base j : ℕ) → IsPaired cs rank → AllBelow cs base → j < length (places.pairs cs (2 ^ rank)) → (low high : ℕ) →

@@ -8,7 +8,7 @@ pub returns-then-base-len-clause-tells : goal.returns-then-base-len-clause-tells
 returns-then-base-len-clause-tells c =
     let l = c.if-base-le-MOST_JOINED.true in
     names_joined c.args.masks.now c.args.x c.args.entries.now.numbers c.args.entries.now.rank c.requires.table
-        (omega arith) c.in_ok-keys.keys.items c.in_ok-joined.joined.items
+    (omega arith) c.in_ok-keys.keys.items c.in_ok-joined.joined.items
     c.in_ok-keys.ensures c.in_ok-joined.ensures
 
 pub returns-clause-tells : goal.returns-clause-tells

@@ -42,4 +42,4 @@ returns c =
     let t = c.loop-j-test.false in
     let long = c.requires.first.long in
     counting_all (places.pairs c.args.entries.now.numbers (2 ^ c.args.entries.now.rank)) c.args.masks.now c.args.x c.loop-j.count c.loop-j.j
-        (omega arith) c.loop-j.invariant
+    (omega arith) c.loop-j.invariant

@@ -26,7 +26,7 @@ returns-clause-problem c =
     c.diagrams_have_their_functions_tables.ensures.tables cover.inputs (functions_of cover) c.args.first.order
     c.args.first c.requires.first.long c.requires.first.diagram in
     c.in_ok-sifted.ensures.functions ∙ c.in_ok-manager.ensures.functions ∙ tables
-        ∙ sym (tables_value cover c.args.tabled.now.tables.now c.args.tabled.now.are_its_tables)
+    ∙ sym (tables_value cover c.args.tabled.now.tables.now c.args.tabled.now.are_its_tables)
 
 pub returns-clause-order : goal.returns-clause-order
 returns-clause-order c =

@@ -55,7 +55,7 @@ loop-x-preserved c =
           subst (λ o. IsBestBelow S c.args.bound costs widths (c.loop-x.x + 1) o) (sym w.best-is)
           (best_skipped S c.args.bound costs widths c.loop-x.x c.loop-x.best c.loop-x.invariant
           (λ m. absurd (iff_false c.contains.ensures w.if-contains.false (sym (shr_and_one c.args.mask c.loop-x.x)
-              ∙ bit_from_member n c.args.mask c.loop-x.x m))))
+          ∙ bit_from_member n c.args.mask c.loop-x.x m))))
     ]
 
 -- the sum over all members

@@ -23,7 +23,7 @@ clipped-requires-else-best-above-clause-some c = (some_member c.args.costs.now.i
 -- what is counted on above the set, in the costs' number of variables
 counted : (v : ReservesOf) (n mask above : ℕ) (widths : List ℕ) → v.problem.inputs ≡ n →
     ((v.reserve ≡ Widths → AreMembersWidths v.problem mask widths) →
-        above ≡ reserved v.problem.inputs (functions v.problem) v.reserve (members v.problem.inputs mask)) →
+    above ≡ reserved v.problem.inputs (functions v.problem) v.reserve (members v.problem.inputs mask)) →
     (v.reserve ≡ Widths → (x : ℕ) → has (members n mask) x ≡ true → slice_index widths x ≡ width n (functions v.problem) (without x (members n mask)) x) →
     above ≡ reserved n (functions v.problem) v.reserve (members n mask)
 counted v n mask above widths e nodes are =
