@@ -1,13 +1,10 @@
 -- Sets that need not be judged, since an exchange of variables leads to greater ones.
 --     leads_on      a set whose image is greater leads on
---     none_lost      if no edge fails among fewer ones, none fails at all
---     fewer_tables      fewer edges are tables of edges too
---     fewer_start, fewer_step      no set is left out; one more set is left out that leads on
-use Rattle.std.proofs.Common.{◌≡◌, ℕ, zero, suc, ◌+◌, ◌-◌, ◌^◌, ◌<◌, ◌≤◌, true, not, ◌&&◌, inl, inr, List, length, set, slice_index, eqb, eqb-true, eq-eqb, refl, sym, ap, ap₂, ◌∙◌, subst, arith}
+--     none_lost      if no edge fails among those that are left, none fails at all
+use Rattle.std.proofs.Common.{◌≡◌, ℕ, zero, suc, ◌+◌, ◌-◌, ◌^◌, ◌<◌, ◌≤◌, true, not, ◌&&◌, inl, inr, List, slice_index, eqb, eqb-true, eq-eqb, refl, sym, ap, ap₂, ◌∙◌, arith}
 use Rattle.std.specs.Int.{bit_at}
 use Rattle.std.proofs.lemmas.Bool.{cases_eq}
-use Rattle.std.proofs.lemmas.List.{get_or-set_same, get_or-set_other, length-set}
-use Rattle.std.proofs.lemmas.Nat.Bits.{bit_at-zero, bit_at-lt, same_from_bits_below}
+use Rattle.std.proofs.lemmas.Nat.Bits.{bit_at-lt, same_from_bits_below}
 use Rattle.order_model.specs.Functions.{Function}
 use Rattle.order_model.specs.Orders.{has, members}
 use Rattle.order_model.specs.Widths.{width}
@@ -104,9 +101,9 @@ leads_on n F values judged partners images exchange are tables kept wide T less 
     ((T' - 2 ^ x', x'), edge, omega arith)
 
 module _ (n : ℕ) (F : List Function) (values judged fewer : List ℕ) where
-  -- if no edge fails among fewer ones, none fails at all
-  pub none_lost : AreEdgeTables n values judged → AreFewer n F values judged fewer → ((S x : ℕ) → Fails n F values fewer S x → ⊥) → (S x : ℕ) →
-      Fails n F values judged S x → ⊥
+  -- if no edge fails among those that are left, none fails at all
+  pub none_lost : AreEdgeTables n values judged → AreFewer (LeadsOn n F values judged) judged fewer → ((S x : ℕ) → Fails n F values fewer S x → ⊥) →
+      (S x : ℕ) → Fails n F values judged S x → ⊥
   none_lost tables are none S x f = below (2 ^ n) S x (omega arith) f
     where
       -- an edge that fails and is left out leads to one into a greater set
@@ -116,33 +113,3 @@ module _ (n : ℕ) (F : List Function) (values judged fewer : List ℕ) where
         | inl same ↦ none S x (record { small = f.small; new = f.new; is_judged = ap (λ m. bit_at m x) same ∙ f.is_judged; fails = f.fails })
         | inr led ↦ let next = led.1 S x f refl in below k next.0.0 next.0.1 (let l = next.2 in omega arith) next.1
       ]
-
-  -- fewer edges are tables of edges too
-  pub fewer_tables : AreEdgeTables n values judged → AreFewer n F values judged fewer → AreEdgeTables n values fewer
-  fewer_tables tables are = record {
-    values_all = tables.values_all;
-    judged_all = are.long;
-    members = λ T x o. elim (are.each T) [
-      | inl same ↦ tables.members T x (ap (λ m. bit_at m x) (sym same) ∙ o)
-      | inr led ↦ absurd (let z = ap (λ m. bit_at m x) led.0 ∙ bit_at-zero x in omega arith)
-    ];
-  }
-
-  -- one more set is left out that leads on
-  pub fewer_step : (T : ℕ) → T < 2 ^ n → AreFewer n F values judged fewer → LeadsOn n F values judged T → AreFewer n F values judged (set fewer T 0)
-  fewer_step T less are leads = record {
-    long = length-set fewer T 0 ∙ are.long;
-    each = λ U. elim (cases_eq U T) [
-      | inl e ↦ inr (
-        ap (slice_index (set fewer T 0)) e ∙ get_or-set_same fewer T 0 0 (let l = are.long in omega arith),
-        subst (LeadsOn n F values judged) (sym e) leads,
-      )
-      | inr ne ↦
-          let other : slice_index (set fewer T 0) U ≡ slice_index fewer U = get_or-set_other fewer T U 0 0 ne in
-          elim (are.each U) [ inl same ↦ inl (other ∙ same) | inr led ↦ inr (other ∙ led.0, led.1) ]
-    ];
-  }
-
--- no set is left out
-pub fewer_start : (n : ℕ) (F : List Function) (values judged : List ℕ) → length judged ≡ 2 ^ n → AreFewer n F values judged judged
-fewer_start n F values judged long = record { long = long; each = λ T. inl refl }

@@ -1,8 +1,9 @@
--- Sets that need not be judged, since an exchange of variables leads to greater ones.
+-- Sets that need not be judged, since an exchange of variables leads to greater ones, or since an earlier edge fails.
 --     AreKept n values judged images      sets and their images have equal values, and edges are judged by partners
 --     LeadsOn n F values judged T      with each edge into T that fails, one into a greater set fails
 --     AreGuides n F values judged images      sets with greater images lead on
---     AreFewer n F values judged fewer      the edges that are judged, but for those into sets that lead on
+--     IsPast last T      each edge into T leads from a set past `last`
+--     AreFewer why judged fewer      the edges that are judged, but for those into sets that may be left out
 use Rattle.std.specs.Prelude.{◌≡◌, ℕ, ◌+◌, ◌^◌, ◌<◌, ◌⊎◌, List, length, slice_index}
 use Rattle.order_model.specs.Functions.{Function}
 use Rattle.cert_check.specs.Edges.{Fails}
@@ -18,10 +19,14 @@ abbrev pub LeadsOn : ℕ → List Function → List ℕ → List ℕ → ℕ →
 LeadsOn n F values judged T = (S x : ℕ) → Fails n F values judged S x → S + 2 ^ x ≡ T →
     (a : ℕ × ℕ) × Fails n F values judged a.0 a.1 × (T < a.0 + 2 ^ a.1)
 
--- into each set the same edges are judged, or none if it leads on
-pub record AreFewer (n : ℕ) (F : List Function) (values judged fewer : List ℕ) : Type 0 where
-  pub long : length fewer ≡ 2 ^ n
-  pub each : (T : ℕ) → (slice_index fewer T ≡ slice_index judged T) ⊎ ((slice_index fewer T ≡ 0) × LeadsOn n F values judged T)
+-- each edge into T leads from a set past `last`
+abbrev pub IsPast : ℕ → ℕ → Type 0
+IsPast last T = (S x : ℕ) → S + 2 ^ x ≡ T → last < S
+
+-- into each set the same edges are judged, or none if there is a reason to leave it out
+pub record AreFewer (why : ℕ → Type 0) (judged fewer : List ℕ) : Type 0 where
+  pub long : length fewer ≡ length judged
+  pub each : (T : ℕ) → (slice_index fewer T ≡ slice_index judged T) ⊎ ((slice_index fewer T ≡ 0) × why T)
 
 -- sets with greater images lead on
 pub record AreGuides (n : ℕ) (F : List Function) (values judged images : List ℕ) : Type 0 where

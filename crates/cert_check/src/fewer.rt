@@ -2,11 +2,11 @@
 //! change of any function, value or judged edge, a set and its image have edges of equal widths, and
 //! one of both need be judged.
 
-ghost use Rattle.std.specs.Prelude.{◌≡◌, ◌≤◌, ◌<◌, ◌^◌, None, ℕ, IfOk, IfSome, OnOk, IsTrue, length, slice_index};
+ghost use Rattle.std.specs.Prelude.{◌≡◌, ◌≤◌, ◌<◌, ◌^◌, ℕ, IfOk, IfSome, OnOk, IsTrue, length, slice_index};
 ghost use Rattle.order_model.specs.Problems.{functions};
-ghost use Rattle.cert_check.specs.Edges.{AreEdgeTables, Fails, IsFirstEdge};
+ghost use Rattle.cert_check.specs.Edges.{AreEdgeTables};
 ghost use Rattle.cert_check.specs.Images.{TellValues};
-ghost use Rattle.cert_check.specs.FewerEdges.{AreFewer, AreGuides, AreKept};
+ghost use Rattle.cert_check.specs.FewerEdges.{AreFewer, AreGuides, AreKept, LeadsOn};
 
 use crate::images::{are_alike, images_of, is_exchange};
 use crate::partners::{Pick, marks_of, partners_of};
@@ -65,12 +65,15 @@ fn images_if_kept(
 
 /// Leaves out the edges into sets whose images are greater.
 fn leave_out(problem: &Problem, edges: Edges, images: &[Mask], fewer: &mut Vec<u16>)
+    requires edges { AreEdgeTables problem.now.inputs edges.values.now edges.judged.now }
     requires guides { AreGuides problem.now.inputs (functions problem.now) edges.values.now
         edges.judged.now images.now }
-    requires fewer { AreFewer problem.now.inputs (functions problem.now) edges.values.now
+    requires fewer { AreFewer
+        (LeadsOn problem.now.inputs (functions problem.now) edges.values.now edges.judged.now)
         edges.judged.now fewer.old.items }
-    ensures { AreFewer problem.now.inputs (functions problem.now) edges.entry.values.now
-        edges.entry.judged.now fewer.new.items }
+    ensures { AreFewer
+        (LeadsOn problem.now.inputs (functions problem.now) edges.entry.values.now
+        edges.entry.judged.now) edges.entry.judged.now fewer.new.items }
 {
     for set in 0..images.len() {
         if images[set] as usize > set {
@@ -91,10 +94,13 @@ fn leave_out_by(
     requires points { length points.now ≡ 2 ^ problem.now.inputs }
     requires told { TellValues problem.now points.now }
     requires edges { AreEdgeTables problem.now.inputs edges.values.now edges.judged.now }
-    requires fewer { AreFewer problem.now.inputs (functions problem.now) edges.values.now
+    requires fewer { AreFewer
+        (LeadsOn problem.now.inputs (functions problem.now) edges.values.now edges.judged.now)
         edges.judged.now fewer.old.items }
-    ensures { OnOk result (AreFewer problem.now.inputs (functions problem.now)
-        edges.entry.values.now edges.entry.judged.now fewer.new.items) }
+    ensures { OnOk result
+        (AreFewer
+        (LeadsOn problem.now.inputs (functions problem.now) edges.entry.values.now
+        edges.entry.judged.now) edges.entry.judged.now fewer.new.items) }
 {
     let Some(images) = images_if_kept(alloc, problem, points, edges, partners)? else {
         return Ok(false);
@@ -103,19 +109,17 @@ fn leave_out_by(
     Ok(true)
 }
 
-/// Fewer edges, if variables may be exchanged: if none of these fails, none fails.
+/// Fewer edges, if variables may be exchanged: those into sets that lead on are left out.
 pub(crate) fn fewer_edges(
     alloc: Global,
     problem: &Problem,
     edges: Edges,
 ) -> Result<Option<Vec<u16>>, AllocError>
     requires { AreEdgeTables problem.now.inputs edges.values.now edges.judged.now }
-    ensures tables { IfOk result
-        (λ o. IfSome o (λ v. AreEdgeTables problem.now.inputs edges.entry.values.now v.items)) }
-    ensures enough { IfOk result
-        (λ o. IfSome o (λ v.
-        IsFirstEdge (Fails problem.now.inputs (functions problem.now) edges.entry.values.now v.items) None →
-        IsFirstEdge (Fails problem.now.inputs (functions problem.now) edges.entry.values.now edges.entry.judged.now) None)) }
+    ensures { IfOk result
+        (λ o. IfSome o (λ v. AreFewer
+        (LeadsOn problem.now.inputs (functions problem.now) edges.entry.values.now
+        edges.entry.judged.now) edges.entry.judged.now v.items)) }
 {
     let inputs = problem.inputs();
     let points = values_by_point(alloc, problem)?;

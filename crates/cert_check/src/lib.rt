@@ -7,6 +7,7 @@
 
 mod checking;
 mod class_table;
+mod early;
 mod edges;
 mod fewer;
 mod head;

@@ -1,0 +1,44 @@
+use Rattle.std.proofs.Common.{IfSome, None, subst, arith}
+use Rattle.std.proofs.Math.Pow.{pow_mono}
+use Rattle.rayon.proofs.ListFacts.{IfOk-then}
+use Rattle.order_model.specs.Problems.{functions}
+use Rattle.cert_check.specs.Edges.{Fails, IsFirstEdge}
+use Rattle.cert_check.specs.FewerEdges.{AreFewer, LeadsOn}
+use Rattle.cert_check.proofs.FewerEdges.{fewer_fails, first_early}
+use Rattle.cert_check.proofs.LedOn.{none_lost}
+use Rattle.cert_check.proofs.spread.first_failure_alone.Goals as goal
+
+pub edges_up_to-requires : goal.edges_up_to-requires
+edges_up_to-requires c =
+    let few = c.inputs.ensures.few in
+    let value = c.inputs.ensures.value in
+    let p = pow_mono {i = c.args.problem.now.inputs} {j = 16} (omega arith) in
+    let long = c.requires.judged_all in
+    omega arith
+
+pub returns-in_default-2 : goal.returns-in_default-2
+returns-in_default-2 c =
+    let n = c.args.problem.now.inputs in
+    let F = functions c.args.problem.now in
+    let v = c.args.edges.values.now in
+    let j = c.args.edges.judged.now in
+    let are = subst (λ o. IfSome o (λ w. AreFewer (LeadsOn n F v j) j w.items)) c.in-Some.is c.in_ok-judged.ensures in
+    none_lost n F v j c.in-Some.judged.items c.requires are
+    (subst (λ us. IsFirstEdge (Fails n F v us) None) c.deref.ensures.value
+    (subst (IsFirstEdge (Fails n F v c.deref.result.now)) c.in_default-2.is c.in_ok-last.ensures))
+
+pub returns : goal.returns
+returns c =
+    let n = c.args.problem.now.inputs in
+    let F = functions c.args.problem.now in
+    let v = c.args.edges.values.now in
+    let j = c.args.edges.judged.now in
+    let are = subst (λ o. IfSome o (λ w. AreFewer (LeadsOn n F v j) j w.items)) c.in-Some.is c.in_ok-judged.ensures in
+    let last = c.in-Some-2.last in
+    let x = c.in-Some-2.field-0-1 in
+    let found =
+    subst (λ us. Fails n F v us last x) c.deref.ensures.value
+    (subst (IsFirstEdge (Fails n F v c.deref.result.now)) c.in-Some-2.is c.in_ok-last.ensures).0 in
+    IfOk-then c.first_of_all_alone-3.result _ _ c.first_of_all_alone-3.ensures (λ edge first.
+    first_early n F v c.in_ok-judged-2.ensures x edge (fewer_fails are n F v last x found)
+    (subst (λ us. IsFirstEdge (Fails n F v us) edge) c.deref-2.ensures.value first))

@@ -1,0 +1,32 @@
+//! Edges from small sets.
+
+ghost use Rattle.std.specs.Prelude.{◌≡◌, ◌+◌, ◌^◌, ◌≤◌, ℕ, IfOk, length};
+ghost use Rattle.cert_check.specs.FewerEdges.{AreFewer, IsPast};
+
+use order_model::Mask;
+use std::alloc::{AllocError, Global};
+
+/// The smallest mask from which an edge leads into a set.
+fn smallest_source(set: Mask) -> Mask
+    ensures { (S x : ℕ) → S + 2 ^ x ≡ set → result ≤ S }
+{
+    if set == 0 {
+        return 0;
+    }
+    let highest = 15 - set.leading_zeros();
+    set - (1 << highest)
+}
+
+/// The judged edges, but for those into sets into which each edge leads from a set past `last`.
+pub(crate) fn edges_up_to(alloc: Global, judged: &[u16], last: Mask) -> Result<Vec<u16>, AllocError>
+    requires { length judged.now ≤ 65536 }
+    ensures { IfOk result (λ v. AreFewer (IsPast last) judged.entry.now v.items) }
+{
+    let mut early = judged.to_vec(alloc)?;
+    for set in 0..early.len() {
+        if smallest_source(set as Mask) > last {
+            early[set] = 0;
+        }
+    }
+    Ok(early)
+}
