@@ -2,9 +2,8 @@
 """refused_memory.py [--minorder PROGRAM] [--ordercheck PROGRAM]
 
 Refuses the first allocation of a run of each program, then the second of another run, and so on until a run meets none, and asks of each
-run: it ended with status 4, its message (none before the words are read) and nothing else written, or with status 0 and everything
-written. The programs are ./minorder and
-./ordercheck where none are named; a C compiler makes the allocator that refuses.
+run: it ended with status 4, its message (none before the words are read) and nothing else written, or as a run that is refused nothing.
+A C compiler makes the allocator that refuses.
 """
 import argparse
 import os
@@ -38,8 +37,10 @@ def content(path):
 
 def sweep(name, library, words, made):
     """All runs of a command; `made` is the file that it writes, if it writes one."""
-    wanted = subprocess.run(words, stdin=subprocess.DEVNULL, stdout=subprocess.PIPE, check=True).stdout
-    whole = content(made)
+    plain = subprocess.run(words, stdin=subprocess.DEVNULL, stdout=subprocess.PIPE, stderr=subprocess.PIPE)
+    if plain.returncode not in (0, 1):
+        sys.exit(f"{name}: status {plain.returncode}, errors {plain.stderr}")
+    wanted = plain.returncode, plain.stdout, b"", content(made)
     messages = (os.path.basename(words[0]).encode() + b": OutOfMemory\n", b"")
     without = 0
     for number in range(1, MOST):
@@ -47,7 +48,7 @@ def sweep(name, library, words, made):
             os.remove(made)
         status, out, err, came = refusing(library, number, words)
         written = content(made)
-        if status == 0 and (out, err, written) == (wanted, b"", whole):
+        if (status, out, err, written) == wanted:
             without += 1
         elif (status, out, written) != (4, b"", b"") or err not in messages:
             sys.exit(f"{name}: allocation {number} refused: status {status}, output {out}, errors {err}, {len(written)} bytes in its file")
@@ -68,6 +69,16 @@ def main():
         for name, file in FILES.items():
             sweep(f"minorder, {name}", library, [programs.minorder, "--workers", "2", "--cert", cert, "--above", "0,1", file], cert)
             sweep(f"ordercheck, {name}", library, [programs.ordercheck, file, cert], None)
+        # of a symmetric function: a search that keeps no pairs but those of its variables, and a check that walks twice
+        file = f"{TOP}/examples/majority7.pla"
+        sweep("minorder, majority", library, [programs.minorder, "--workers", "2", file], None)
+        subprocess.run([programs.minorder, "--cert", cert, file], stdout=subprocess.DEVNULL, check=True)
+        sweep("ordercheck, majority", library, [programs.ordercheck, file, cert], None)
+        with open(cert) as good:
+            text = good.read()
+        with open(cert, "w") as bad:
+            bad.write(text.replace("\n0003 3\n", "\n0003 9\n"))
+        sweep("ordercheck, majority, a cost too high", library, [programs.ordercheck, file, cert], None)
 
 
 if __name__ == "__main__":
