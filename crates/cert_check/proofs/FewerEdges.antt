@@ -2,6 +2,7 @@
 --     fewer_start, fewer_step      no set is left out; one more set is left out
 --     fewer_tables, fewer_fails      fewer edges are tables of edges too; one that fails among them is one that fails
 --     first_early      if an edge fails, the first one that fails is the first among those from sets up to that one's
+--     first_again      so it is if that edge was the first of fewer ones
 use Rattle.std.specs.Prelude.{◌≡◌, ℕ, ◌+◌, ◌^◌, ◌<◌, ◌≤◌, List, length, set, slice_index, Option, Some, None}
 use Rattle.std.proofs.Common.{inl, inr, refl, sym, ap, ◌∙◌, subst, arith}
 use Rattle.std.specs.Int.{bit_at}
@@ -68,3 +69,10 @@ module _ (n : ℕ) (F : List Function) (values : List ℕ) {last : ℕ} {judged 
       | inr le ↦ first.1 S y (early_fails S y le g) before
     ],
   )
+
+-- the first edge that fails is found by a second walk, from what a walk over fewer edges found
+pub first_again : (n : ℕ) (F : List Function) (values : List ℕ) {why : ℕ → Type 0} {judged fewer early : List ℕ} (found : ℕ × ℕ) (edge : Option (ℕ × ℕ)) →
+    AreFewer why judged fewer → IsFirstEdge (Fails n F values fewer) (Some found) → AreFewer (IsPast found.0) judged early →
+    IsFirstEdge (Fails n F values early) edge → IsFirstEdge (Fails n F values judged) edge
+first_again n F values found edge less first are =
+    first_early n F values are found.1 edge (fewer_fails less n F values found.0 found.1 first.0)

@@ -1,10 +1,10 @@
-use Rattle.std.proofs.Common.{IfSome, None, subst, arith}
+use Rattle.std.proofs.Common.{ℕ, IfSome, None, Some, subst, arith}
 use Rattle.std.proofs.Math.Pow.{pow_mono}
 use Rattle.rayon.proofs.ListFacts.{IfOk-then}
 use Rattle.order_model.specs.Problems.{functions}
 use Rattle.cert_check.specs.Edges.{Fails, IsFirstEdge}
 use Rattle.cert_check.specs.FewerEdges.{AreFewer, LeadsOn}
-use Rattle.cert_check.proofs.FewerEdges.{fewer_fails, first_early}
+use Rattle.cert_check.proofs.FewerEdges.{first_again}
 use Rattle.cert_check.proofs.LedOn.{none_lost}
 use Rattle.cert_check.proofs.spread.first_failure_alone.Goals as goal
 
@@ -34,11 +34,9 @@ returns c =
     let v = c.args.edges.values.now in
     let j = c.args.edges.judged.now in
     let are = subst (λ o. IfSome o (λ w. AreFewer (LeadsOn n F v j) j w.items)) c.in-Some.is c.in_ok-judged.ensures in
-    let last = c.in-Some-2.last in
-    let x = c.in-Some-2.field-0-1 in
-    let found =
-    subst (λ us. Fails n F v us last x) c.deref.ensures.value
-    (subst (IsFirstEdge (Fails n F v c.deref.result.now)) c.in-Some-2.is c.in_ok-last.ensures).0 in
-    IfOk-then c.first_of_all_alone-3.result _ _ c.first_of_all_alone-3.ensures (λ edge first.
-    first_early n F v c.in_ok-judged-2.ensures x edge (fewer_fails are n F v last x found)
-    (subst (λ us. IsFirstEdge (Fails n F v us) edge) c.deref-2.ensures.value first))
+    let found : ℕ × ℕ = (c.in-Some-2.last, c.in-Some-2.field-0-1) in
+    let first =
+    subst (λ us. IsFirstEdge (Fails n F v us) (Some found)) c.deref.ensures.value
+    (subst (IsFirstEdge (Fails n F v c.deref.result.now)) c.in-Some-2.is c.in_ok-last.ensures) in
+    IfOk-then c.first_of_all_alone-3.result _ _ c.first_of_all_alone-3.ensures (λ edge own.
+    first_again n F v found edge are first c.in_ok-judged-2.ensures (subst (λ us. IsFirstEdge (Fails n F v us) edge) c.deref-2.ensures.value own))

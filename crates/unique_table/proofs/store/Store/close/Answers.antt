@@ -52,5 +52,6 @@ returns-clause-missing c = let k = c.self.invariant in let words : List ℕ = sl
     err_weaker (LacksRoot words first outputs) (Lacks c.args.session) c.last_diagram-diagram.result c.last_diagram-diagram.ensures.missing
     (λ e l. subst (λ (z : Knowledge). Lacks z e) c.session.view_is
     (found_lacks c.self.inside.table.shared.key k.plan _ v words _ c.session.invariant.good.live c.session.invariant.current
-    c.close_with-closed.ensures.values.2 c.self.inside.places c.self.inside.entries c.self.inside.roots c.self.inside.pieces k.places k.entries k.roots k.pieces here.store v.steps v.writes
+    c.close_with-closed.ensures.values.2
+    c.self.inside.places c.self.inside.entries c.self.inside.roots c.self.inside.pieces k.places k.entries k.roots k.pieces here.store v.steps v.writes
     (plan_is c.self.inside c.session.inside c.args.self c.args.session c.self.view_is c.session.view_is k c.session.invariant c.requires) e l))
