@@ -9,6 +9,3 @@ mod usage;
 pub use check_line::CheckLine;
 pub use line::{Line, RunPlan};
 pub use usage::Usage;
-
-#[cfg(test)]
-mod tests;
