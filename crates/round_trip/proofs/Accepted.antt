@@ -13,6 +13,7 @@ use Rattle.order_model.specs.Pairs.{Pair}
 use Rattle.order_model.specs.Sifting.{sifted}
 use Rattle.order_model.proofs.Certificates.Written.{cert_of_is_good}
 use Rattle.order_model.proofs.Lists.Firsts.{first_keeping_unique}
+use Rattle.certificate.specs.Faults.{Spells}
 use Rattle.certificate.proofs.Lengths.{text_readable}
 use Rattle.pla_reader.specs.Answering.{longest}
 use Rattle.pla_reader.specs.Covers.{NamedCover, functions_of}
@@ -66,6 +67,7 @@ in_report cover P text cert answer is =
 -- the certificate of a run's cover, the verdict on it, and what the report says of it
 pub record IsSeen (file written report : List ℕ) : Type 0 where
   pub cert : Certificate
+  pub spelled : Spells written cert
   pub verdict : Judge file written Done (valid_line cert)
   pub names : List (List ℕ)
   pub printed : IsPrinted names cert.order cert.total report
@@ -74,6 +76,7 @@ seen_by : (cover : NamedCover) (P : List Pair) (file text written : List ℕ) �
     IsAnswer cover P text → IsCertificate cover P written → IsSeen file written text
 seen_by cover P file text written few reads answer is = record {
   cert = is.cert;
+  spelled = is.spells;
   verdict = (
     cover,
     is.cert,
@@ -96,7 +99,7 @@ seen false above cover file report text written e few reads (kept, pairs, answer
     subst (λ (r : List ℕ). IsSeen file written r) (sym same) (subst (λ (w : List ℕ). IsSeen file w text) (sym put) here)
 
 pub accepted : (plan : RunPlan) (file report cert : List ℕ) (before after : Option (List ℕ)) (outcome : Outcome) →
-    Wrote plan file report cert → Decides outcome → ChecksAs file cert before after outcome → Accepts report before after outcome
+    Wrote plan file report cert → Decides outcome → ChecksAs file cert before after outcome → Accepts cert report before after outcome
 accepted plan file report cert before after outcome wrote decides checks =
     let d = wrote.delivers in
     let s = seen plan.count plan.above d.0 file report d.1 cert wrote.without_count wrote.tells d.2 d.3 d.4 d.5 in
@@ -104,6 +107,7 @@ accepted plan file report cert before after outcome wrote decides checks =
     let same = judge_unique file cert outcome Done c.0 (valid_line s.cert) c.1 s.verdict in record {
       done = same.0;
       cert = s.cert;
+      spelled = s.spelled;
       line = subst (Appends before after) same.1 c.2;
       names = s.names;
       printed = s.printed;

@@ -1,11 +1,12 @@
 -- A certificate on its way from a run to a check.
 --     Wrote plan file report cert      a run without count read the file, and its writers got a report and a certificate
 --     Decides outcome      a check ended with 0, 1 or 3
---     Accepts report before after outcome      a check accepted a certificate with the nodes of a report
+--     Accepts text report before after outcome      a check accepted the certificate that a text spells, of which a report prints the order and the nodes
 use Rattle.std.specs.Prelude.{◌≡◌, ℕ, false, List, [], ◌∷◌, Option, Some, IsTrue}
 use Rattle.std.specs.Io.KnownBytes.{Appends}
 use Rattle.order_model.specs.Orders.{has}
 use Rattle.order_model.specs.Certificates.{Certificate}
+use Rattle.certificate.specs.Faults.{Spells}
 use Rattle.command_line.specs.declared.line.RunPlan.{RunPlan}
 use Rattle.pla_reader.specs.Reading.{Reads}
 use Rattle.outcomes.specs.declared.outcome.Outcome.{Outcome}
@@ -25,10 +26,11 @@ pub record Wrote (plan : RunPlan) (file report cert : List ℕ) : Type 0 where
 abbrev pub Decides : Outcome → Type 0
 Decides outcome = IsTrue (has (0 ∷ 1 ∷ 3 ∷ []) (status_of outcome))
 
--- the line of a valid certificate, whose order and number of nodes are those that the report prints
-pub record Accepts (report : List ℕ) (before after : Option (List ℕ)) (outcome : Outcome) : Type 0 where
+-- the line of the valid certificate that the text spells, whose order and number of nodes are those that the report prints
+pub record Accepts (text report : List ℕ) (before after : Option (List ℕ)) (outcome : Outcome) : Type 0 where
   pub done : outcome ≡ Done
   pub cert : Certificate
+  pub spelled : Spells text cert
   pub line : Appends before after (valid_line cert)
   pub names : List (List ℕ)
   pub printed : IsPrinted names cert.order cert.total report
