@@ -20,3 +20,4 @@ pub mod Bodies
 pub mod Parsed
 pub mod Lengths
 pub mod ToolCertificates
+pub mod OrderParts

@@ -6,6 +6,7 @@ mod certificate;
 mod faults;
 pub mod laws;
 mod lines;
+mod order_certificates;
 mod parsing;
 mod reader;
 mod texts;
@@ -13,4 +14,5 @@ mod words;
 
 pub use certificate::Certificate;
 pub use faults::{CertFault, LineFault};
+pub use order_certificates::certificate_text;
 pub use parsing::MOST_BYTES;

@@ -1,3 +1,4 @@
 pub mod Answers
 pub mod Statuses
 pub mod Judged
+pub mod Certified

@@ -9,15 +9,15 @@ ghost use Rattle.minorder_c.specs.Statuses.{IsPlainStatus, Refuses, RefusesPairs
 
 use crate::above::{AbovePair, kept_pairs};
 use crate::arguments::tables_of;
-use crate::sifting_from::sifted_from;
+use crate::sifting_from::bound_of;
 use crate::status::Refusal;
 use order_model::Pairs;
 use order_solve::{Optimum, find_optimum_alone};
 use std::alloc::{AllocError, Global};
 use truth_table::Tables;
 
-/// The first order of the fewest nodes among those that keep the pairs, searched below the size of
-/// one that sifting from the first of them ends with.
+/// The first order of the fewest nodes among those that keep the pairs, searched below the
+/// size of a sifted one.
 fn optimum(alloc: Global, tables: &Tables, pairs: Pairs) -> Result<Optimum, AllocError>
     requires { pairs.inputs ≡ tables.now.inputs }
     ensures optimum { IfOk result
@@ -26,8 +26,7 @@ fn optimum(alloc: Global, tables: &Tables, pairs: Pairs) -> Result<Optimum, Allo
     ensures long { IfOk result (λ s. length s.order ≡ tables.now.inputs) }
     ensures counts { IfOk result (λ s. length s.levels.items ≡ tables.now.inputs) }
 {
-    let start = pairs.first_order(alloc)?;
-    let bound = sifted_from(alloc, tables, &start, pairs)?.search_bound(alloc)?;
+    let bound = bound_of(alloc, tables, pairs)?;
     let optimum = find_optimum_alone(alloc, tables.problem(), bound)?;
     Ok(optimum)
 }

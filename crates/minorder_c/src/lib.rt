@@ -1,12 +1,14 @@
-//! The order of the fewest nodes, level counts, sifting and the checker of certificates, for
-//! callers in C. include/minorder.h declares them.
+//! The order of the fewest nodes, its certificate, level counts, sifting and the checker of
+//! certificates, for callers in C. include/minorder.h declares them.
 #![tactic(auto)]
 
 mod above;
 mod arguments;
+mod certifying;
 mod exact;
 mod judging;
 mod levels;
 mod sift;
 mod sifting_from;
 mod status;
+mod version;

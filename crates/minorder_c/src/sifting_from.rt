@@ -34,3 +34,15 @@ pub(crate) fn sifted_from(
     let sifted = manager.sift(alloc)?;
     Ok(sifted)
 }
+
+/// An order whose size bounds the search among the orders that keep the pairs: one that sifting from
+/// the first of them ends with.
+pub(crate) fn bound_of(alloc: Global, tables: &Tables, pairs: Pairs) -> Result<Sifted, AllocError>
+    requires { pairs.inputs ≡ tables.now.inputs }
+    ensures problem { IfOk result (λ s. s.problem ≡ tables.now) }
+    ensures pairs { IfOk result (λ s. s.pairs ≡ pairs.pairs) }
+{
+    let start = pairs.first_order(alloc)?;
+    let bound = sifted_from(alloc, tables, &start, pairs)?.search_bound(alloc)?;
+    Ok(bound)
+}

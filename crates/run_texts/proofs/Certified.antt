@@ -1,40 +1,18 @@
 -- The certificate of a solution.
---     parts_same      a certificate's parts are those of its order's certificate
 --     certified, certified_if_asked      what is a certificate by the truth tables of a cover is one of the cover
-use Rattle.std.proofs.Common.{◌≡◌, ℕ, Bool, true, false, List, length, map, Option, Some, None, String, string_bytes, refl, sym, subst, ◌∙◌}
+use Rattle.std.proofs.Common.{ℕ, Bool, true, false, List, Option, Some, None, String, string_bytes, refl, subst}
 use Rattle.std.specs.Global.{Global}
-use Rattle.order_model.specs.Functions.{Function}
-use Rattle.order_model.specs.Pairs.{Pair, sorted_pairs}
-use Rattle.order_model.specs.Levels.{level_counts, size_under}
-use Rattle.order_model.specs.Listed.{listed}
-use Rattle.order_model.specs.declared.listed_cells.ListedCell.{ListedCell}
+use Rattle.order_model.specs.Pairs.{Pair}
 use Rattle.order_model.specs.Certificates.{certificate_of}
 use Rattle.order_model.specs.Diagrams.{IsFirstKeeping}
 use Rattle.order_model.specs.Problems.{TruthTables, functions}
 use Rattle.order_model.proofs.Certificates.Same.{certificate_same}
 use Rattle.certificate.specs.Faults.{Spells}
-use Rattle.certificate.specs.Values.{value_of}
 use Rattle.pla_reader.specs.Covers.{NamedCover, functions_of}
 use Rattle.truth_table.specs.OfCovers.{AreTablesOf}
 use Rattle.run_texts.specs.Answers.{IsCertificate, IsCertified, IsCertifiedBy}
 use Rattle.truth_table.proofs.OfCovers.{tables_keep}
 use Rattle.run_texts.proofs.SameAnswers.{first_same}
-
-pub parts_same : (n : ℕ) (F : List Function) (P : List Pair) (order : List ℕ) (inputs outputs : ℕ) (o levels : List ℕ) (total : ℕ)
-    (pairs : List Pair) (cells : List ListedCell)
-    → inputs ≡ n → outputs ≡ length F → o ≡ order → levels ≡ level_counts n F order → total ≡ size_under n F order → pairs ≡ P → sorted_pairs n P ≡ P
-    → map listed cells ≡ (certificate_of n F P order).cells → value_of 2 inputs outputs o levels total pairs cells ≡ certificate_of n F P order
-unfolding certificate_of
-parts_same n F P order inputs outputs o levels total pairs cells a b c d e f g h = λ i. record {
-  format = 2;
-  inputs = a i;
-  outputs = b i;
-  order = c i;
-  levels = d i;
-  total = e i;
-  pairs = (f ∙ sym g) i;
-  cells = h i;
-}
 
 pub certified : (cover : NamedCover) (t : TruthTables) (P : List Pair) (order text : List ℕ) → AreTablesOf cover t →
     IsFirstKeeping t.inputs (functions t) P order

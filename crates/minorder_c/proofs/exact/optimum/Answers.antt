@@ -4,9 +4,6 @@ use Rattle.order_model.proofs.Widths.SizeBounds.{order_length}
 use Rattle.minorder_c.proofs.Counts.{order_counts_long}
 use Rattle.minorder_c.proofs.exact.optimum.Goals as goal
 
-pub sifted_from-requires-clause-long : goal.sifted_from-requires-clause-long
-sifted_from-requires-clause-long c = order_length c.args.pairs.inputs c.in_ok-start.start c.in_ok-start.ensures.is_order ∙ c.requires
-
 pub returns-clause-optimum : goal.returns-clause-optimum
 returns-clause-optimum c = search rules
 

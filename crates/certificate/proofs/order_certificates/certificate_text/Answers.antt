@@ -7,8 +7,8 @@ use Rattle.certificate.specs.Spelling.{HasSpelling, spelling}
 use Rattle.order_model.specs.Certificates.{Certificate, certificate_of}
 use Rattle.order_model.specs.Functions.{from_table}
 use Rattle.order_model.specs.Problems.{functions}
-use Rattle.run_texts.proofs.Certified.{parts_same}
-use Rattle.run_texts.proofs.certificates.certificate_text.Goals as goal
+use Rattle.certificate.proofs.OrderParts.{parts_same}
+use Rattle.certificate.proofs.order_certificates.certificate_text.Goals as goal
 
 -- a text that spells a certificate
 told : (cert own : Certificate) (r : Result (String Global) AllocError) → own ≡ cert → HasSpelling own →

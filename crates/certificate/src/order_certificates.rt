@@ -8,8 +8,8 @@ ghost use Rattle.order_model.specs.Listed.{listed};
 ghost use Rattle.order_model.specs.Orders.{IsOrder};
 ghost use Rattle.order_model.specs.Problems.{functions};
 
-use certificate::Certificate;
-use certificate::laws::orders_have_certificates;
+use crate::certificate::Certificate;
+use crate::laws::orders_have_certificates;
 use order_model::{ListedCell, Order, Pairs, Problem};
 use std::alloc::{AllocError, Global};
 

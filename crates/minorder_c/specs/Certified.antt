@@ -1,0 +1,36 @@
+-- What minorder_certify answers.
+--     IsCertificateText n F P text      the text spells the certificate of the first order of the fewest nodes among those that keep the pairs, which is good
+--     Holds Is place place' size      the front of a place holds a text, of this size, and the rest stays
+--     IsShort Is place size      a text has this size, which is larger than the place
+--     IsCertifyStatus s      the numbers of the call
+use Rattle.std.specs.Prelude.{◌≡◌, ◌⊎◌, ℕ, ◌<◌, ◌++◌, List, drop, length}
+use Rattle.order_model.specs.Functions.{Function}
+use Rattle.order_model.specs.Pairs.{Pair}
+use Rattle.order_model.specs.Certificates.{Certificate, IsCertOf, IsGood}
+use Rattle.certificate.specs.Faults.{Spells}
+use Rattle.minorder_c.specs.Statuses.{IsPlainStatus}
+
+-- the text spells the certificate of the first order of the fewest nodes among those that keep the pairs, which is good
+pub record IsCertificateText (n : ℕ) (F : List Function) (P : List Pair) (text : List ℕ) : Type 0 where
+  pub cert : Certificate
+  pub is : IsCertOf n F P cert
+  pub good : IsGood n F cert
+  pub spells : Spells text cert
+
+-- the front of a place holds a text, of this size, and the rest stays
+pub record Holds (Is : List ℕ → Type 0) (place place' : List ℕ) (size : ℕ) : Type 0 where
+  pub text : List ℕ
+  pub is : Is text
+  pub long : length text ≡ size
+  pub front : place' ≡ text ++ drop size place
+
+-- a text has this size, which is larger than the place
+pub record IsShort (Is : List ℕ → Type 0) (place : List ℕ) (size : ℕ) : Type 0 where
+  pub text : List ℕ
+  pub is : Is text
+  pub long : length text ≡ size
+  pub longer : length place < size
+
+-- the numbers of the call: that of a text that is longer than its place, besides those of a call with pairs
+abbrev pub IsCertifyStatus : ℕ → Type 0
+IsCertifyStatus s = (s ≡ 7) ⊎ ((s ≡ 8) ⊎ IsPlainStatus s)

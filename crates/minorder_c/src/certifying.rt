@@ -1,0 +1,118 @@
+//! The certificate of the first order of the fewest nodes.
+
+ghost use Rattle.std.specs.Prelude.{◌≡◌, ◌≢◌, ◌⊎◌, ◌≤◌, ◌++◌, drop, length, string_bytes, IfOk, IfErr, OnOk};
+ghost use Rattle.order_model.specs.KeptPairs.{CanBeKept};
+ghost use Rattle.order_model.specs.Pairs.{sorted_pairs};
+ghost use Rattle.order_model.specs.Problems.{functions};
+ghost use Rattle.minorder_c.specs.Answers.{AreTables, functions_in, pairs_given};
+ghost use Rattle.minorder_c.specs.Certified.{Holds, IsCertificateText, IsCertifyStatus, IsShort};
+ghost use Rattle.minorder_c.specs.Statuses.{RefusesPairs, TellsShape};
+
+use crate::above::{AbovePair, kept_pairs};
+use crate::arguments::tables_of;
+use crate::sifting_from::bound_of;
+use crate::status::Refusal;
+use certificate::certificate_text;
+use order_model::Pairs;
+use order_solve::{Optimum, Solution, solve_alone};
+use std::alloc::{AllocError, Global};
+use truth_table::Tables;
+
+/// The number that C is told if a certificate is longer than its place.
+const SHORT_TEXT: u32 = 7;
+
+/// The certificate of the first order of the fewest nodes among those that keep the pairs.
+fn text_of(alloc: Global, tables: &Tables, pairs: Pairs) -> Result<String, AllocError>
+    requires { pairs.inputs ≡ tables.now.inputs }
+    ensures { IfOk result
+        (λ text. IsCertificateText tables.now.inputs (functions tables.now) pairs.pairs
+        (string_bytes text)) }
+{
+    let kept = pairs.copied();
+    let problem = tables.problem();
+    let bound = bound_of(alloc, tables, pairs)?;
+    let Solution {
+        optimum,
+        cells,
+        widths: _,
+    } = solve_alone(alloc, problem, bound)?;
+    let Optimum {
+        order,
+        total,
+        levels,
+    } = optimum;
+    let text = certificate_text(alloc, problem, &kept, &order, levels, total, cells)?;
+    Ok(text)
+}
+
+/// The same, of what a call is given.
+fn certificate(
+    alloc: Global,
+    words: &[u64],
+    inputs: u32,
+    outputs: u32,
+    above: &[AbovePair],
+) -> Result<String, Refusal>
+    ensures shape { OnOk result (AreTables inputs outputs words.now) }
+    ensures kept { OnOk result (CanBeKept inputs (pairs_given above.now)) }
+    ensures text { IfOk result
+        (λ text. IsCertificateText inputs (functions_in inputs outputs words.now)
+        (sorted_pairs inputs (pairs_given above.now)) (string_bytes text)) }
+    ensures refused { IfErr result
+        (RefusesPairs (AreTables inputs outputs words.now)
+        (CanBeKept inputs (pairs_given above.now))) }
+{
+    let tables = tables_of(alloc, words, inputs, outputs)?;
+    let pairs = kept_pairs(alloc, above, inputs as u8)?;
+    let text = text_of(alloc, &tables, pairs)?;
+    Ok(text)
+}
+
+/// Puts bytes at the front of a place.
+fn put_front(place: &mut [u8], bytes: &[u8])
+    requires { length bytes.now ≤ length place.old }
+    ensures { place.new ≡ bytes.now ++ drop (length bytes.now) place.old }
+{
+    let (front, _) = place.split_at_mut(bytes.len());
+    front.copy_from_slice(bytes);
+}
+
+/// Writes the certificate of the first order of the fewest nodes among those that keep some pairs,
+/// the text that `minorder --cert` writes, and its length. If it is longer than its place only the
+/// length is written; a call that is refused otherwise writes nothing.
+#[unsafe(no_mangle)]
+pub extern "C" fn minorder_certify_with_pairs(
+    alloc: Global,
+    tables: &[u64],
+    inputs: u32,
+    outputs: u32,
+    above: &[AbovePair],
+    text: &mut [u8],
+    size: &mut usize,
+) -> u32
+    ensures status { IsCertifyStatus result }
+    ensures shape { TellsShape (AreTables inputs outputs tables.now) result }
+    ensures bad_pairs { result ≡ 8 → CanBeKept inputs (pairs_given above.now) → ⊥ }
+    ensures kept { (result ≡ 0) ⊎ (result ≡ 7) → CanBeKept inputs (pairs_given above.now) }
+    ensures written { result ≡ 0 →
+        Holds (IsCertificateText inputs (functions_in inputs outputs tables.now)
+        (sorted_pairs inputs (pairs_given above.now))) text.old text.new size.new }
+    ensures short { result ≡ 7 →
+        IsShort (IsCertificateText inputs (functions_in inputs outputs tables.now)
+        (sorted_pairs inputs (pairs_given above.now))) text.old size.new }
+    ensures stays { result ≢ 0 → text.new ≡ text.old }
+    ensures refused { result ≢ 0 → result ≢ 7 → size.new ≡ size.old }
+{
+    match certificate(alloc, tables, inputs, outputs, above) {
+        Ok(made) => {
+            let bytes = made.as_bytes();
+            *size = bytes.len();
+            if text.len() < bytes.len() {
+                return SHORT_TEXT;
+            }
+            put_front(text, bytes);
+            0
+        }
+        Err(refusal) => refusal.status(),
+    }
+}

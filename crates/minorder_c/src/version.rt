@@ -1,0 +1,11 @@
+//! The version of the library.
+
+ghost use Rattle.std.specs.Prelude.{◌≡◌};
+
+/// 10,000 times the first number of the version, 100 times the second, and the third.
+#[unsafe(no_mangle)]
+pub extern "C" fn minorder_version() -> u32
+    ensures { result ≡ 10000 }
+{
+    10_000
+}
