@@ -35,7 +35,7 @@ def round_robin(n):
     return values
 
 
-def alu(k):
+def arithmetic_logic(k):
     """a, b of k bits and an operation: +, -, and, or, exclusive or, not a, a < b without a sign, a < b with one; the carry of + and of a + not b + 1."""
     half, mask = 1 << k - 1, (1 << k) - 1
 
@@ -85,7 +85,7 @@ def of_words():
     for n, bits in ((4, 2), (8, 3)):
         yield Entry(family, f"roundrobin{n}", named("r", n) + named("p", bits), n, "the first request from p on, round the ring, is granted", round_robin(n))
     for k in (2, 4):
-        yield Entry(family, f"alu{k}", named("a", k) + named("b", k) + named("op", 3), k + 1, f"{k} bits: a + b, a - b, and, or, exclusive or, not a, a < b without and with a sign; the carry", alu(k))
+        yield Entry(family, f"arithmeticlogic{k}", named("a", k) + named("b", k) + named("op", 3), k + 1, f"{k} bits: a + b, a - b, and, or, exclusive or, not a, a < b without and with a sign; the carry", arithmetic_logic(k))
 
 
 def of_networks():

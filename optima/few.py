@@ -18,7 +18,7 @@ HERE = os.path.dirname(os.path.abspath(__file__))
 TOP = os.path.dirname(HERE)
 RANDOM = 1_000_000
 CHUNK = 20_000
-COUNTS = ["inputs", "which", "optimum", "sifted nodes", "file order nodes", "functions"]
+COUNTS = ["inputs", "which", "optimum", "sifted_nodes", "file_order_nodes", "functions"]
 CLASSES = ["inputs", "optimum", "classes", "functions"]
 
 
@@ -110,7 +110,7 @@ def make(programs):
     check(counts, classes)
     with open(f"{room}/classes5.seconds") as file:
         times = f"calls of the library,{seconds:.0f}\nclasses of five inputs,{float(file.read()):.0f}\n"
-    write(f"{programs.into}/optima/few_times.csv", f"part,seconds of processor time\n{times}")
+    write(f"{programs.into}/optima/few_times.csv", f"part,processor_seconds\n{times}")
 
 
 def check(counts, classes):

@@ -23,7 +23,7 @@ SEEDS = range(1, 11)
 STARTS = range(1, 11)
 SMALL = 12
 LIMIT = 10
-COLUMNS = ["name", "package", "method", "start", "runs", "late", "without an order", "least nodes", "median nodes", "most nodes", "optimum met", "seconds"]
+COLUMNS = ["name", "package", "method", "start", "runs", "late", "without_an_order", "least_nodes", "median_nodes", "most_nodes", "optimum_met", "seconds"]
 
 
 def random_start(inputs, k):

@@ -7,7 +7,7 @@ import league
 
 SHOWN = [("CUDD", "SIFT"), ("CUDD", "SIFT_CONVERGE"), ("CUDD", "GROUP_SIFT"), ("CUDD", "WINDOW4_CONV"), ("CUDD", "ANNEALING"), ("CUDD", "GENETIC"), ("ABC", "reo"), ("BuDDy", "WIN3ITE"), ("BuDDy", "SIFT"), ("BuDDy", "SIFTITE"), ("minorder", "sifting")]
 CURVES = [("CUDD", "GENETIC"), ("CUDD", "ANNEALING"), ("BuDDy", "SIFTITE"), ("CUDD", "GROUP_SIFT"), ("minorder", "sifting"), ("CUDD", "SIFT_CONVERGE"), ("CUDD", "SIFT"), ("CUDD", "WINDOW4_CONV"), ("BuDDy", "WIN3ITE")]
-FAMILIES = ["family", "package", "method", "functions", "with an order", "mean ratio", "worst ratio", "worst function", "optimum met", "seconds"]
+FAMILIES = ["family", "package", "method", "functions", "with_an_order", "mean_ratio", "worst_ratio", "worst_function", "optimum_met", "seconds"]
 
 
 def mean(values):
@@ -19,10 +19,10 @@ class Standing:
 
     def __init__(self, lines, optima):
         self.lines, self.optima = lines, optima
-        self.ended = [line for line in lines if line["median nodes"]]
-        self.ratios = [self.ratio(line, "median nodes") for line in self.ended]
+        self.ended = [line for line in lines if line["median_nodes"]]
+        self.ratios = [self.ratio(line, "median_nodes") for line in self.ended]
         self.mean = mean(self.ratios)
-        self.worst = max(self.ended, key=lambda line: self.ratio(line, "most nodes"), default=None)
+        self.worst = max(self.ended, key=lambda line: self.ratio(line, "most_nodes"), default=None)
         self.met = sum(ratio == 1 for ratio in self.ratios)
         self.seconds = sum(float(line["seconds"]) for line in self.ended)
         self.late = sum(int(line["late"]) > 0 for line in lines)
@@ -31,7 +31,7 @@ class Standing:
         return int(line[column]) / self.optima[line["name"]]
 
     def worst_ratio(self):
-        return self.ratio(self.worst, "most nodes")
+        return self.ratio(self.worst, "most_nodes")
 
 
 def standings(lines, optima, start):
@@ -41,8 +41,8 @@ def standings(lines, optima, start):
 
 def of_random_starts(standing):
     """Of the runs from random orders: the mean of the functions' median ratios, the worst ratio, the share of runs that met the optimum."""
-    ended = sum(int(line["runs"]) - int(line["late"]) - int(line["without an order"]) for line in standing.lines)
-    met = sum(int(line["optimum met"]) for line in standing.lines)
+    ended = sum(int(line["runs"]) - int(line["late"]) - int(line["without_an_order"]) for line in standing.lines)
+    met = sum(int(line["optimum_met"]) for line in standing.lines)
     return [f"{standing.mean:.3f}", f"{standing.worst_ratio():.2f}", f"{100 * met / ended:.0f} %"]
 
 
@@ -81,8 +81,8 @@ def family_matrix(lines):
         cells = []
         for method in SHOWN:
             line = found[(family, *method)]
-            partly = "" if line["with an order"] == line["functions"] else "*"
-            cells.append(f"{float(line['mean ratio']):.3f}{partly}" if line["mean ratio"] else "late")
+            partly = "" if line["with_an_order"] == line["functions"] else "*"
+            cells.append(f"{float(line['mean_ratio']):.3f}{partly}" if line["mean_ratio"] else "late")
         out.append(f"| {family[0].upper()}{family[1:]} | " + " | ".join(cells) + " |")
     return "\n".join(out)
 
@@ -130,7 +130,7 @@ def name_of(method):
 
 def never_met(league_lines, optima, start):
     """The functions whose optimum no run of any package from such a start met; what is late counts as not met."""
-    met = {line["name"] for line in league_lines if line["start"] == start and line["package"] != "minorder" and int(line["optimum met"])}
+    met = {line["name"] for line in league_lines if line["start"] == start and line["package"] != "minorder" and int(line["optimum_met"])}
     return [name for name in {line["name"]: None for line in league_lines if line["start"] == start} if name not in met]
 
 
@@ -150,7 +150,7 @@ def findings(it):
     whole = len(it.optima)
     close = {method: sum(ratio <= 1.05 for ratio in it.random[method].ratios) for method in it.random}
     missed_by_all = never_met(it.lines, it.optima, "file")
-    worst_family = max((line for line in it.families if line["package"] == "CUDD" and line["method"] == "SIFT"), key=lambda line: float(line["mean ratio"]))
+    worst_family = max((line for line in it.families if line["package"] == "CUDD" and line["method"] == "SIFT"), key=lambda line: float(line["mean_ratio"]))
     return "\n".join(f"- {said}" for said in [
         f"Of the quick methods (without random choices and EXACT) {name_of(first)} has the least mean from random orders, {it.random[first].mean:.3f}; the greatest has {name_of(last)}, {it.random[last].mean:.3f}.",
         f"CUDD's SIFT ends at {cudd.mean:.3f} times the optimum in the mean from the file's order and meets it in {cudd.met} of {len(cudd.ended)} functions; its worst is {cudd.worst_ratio():.2f} times (`{cudd.worst['name']}`).",
@@ -161,7 +161,7 @@ def findings(it):
         f"BuDDy, which has no complement edges, has {it.file[('BuDDy', 'SIFT')].mean:.3f} with SIFT and {it.file[('BuDDy', 'SIFTITE')].mean:.3f} with SIFTITE; its worst there is {it.file[('BuDDy', 'SIFTITE')].worst_ratio():.2f} (`{it.file[('BuDDy', 'SIFTITE')].worst['name']}`).",
         f"Our own pass of sifting has {it.file[('minorder', 'sifting')].mean:.3f} from the file's order and {it.random[('minorder', 'sifting')].mean:.3f} from random ones.",
         f"From random orders the median run is within a twentieth of the optimum in {percent(close[('CUDD', 'SIFT')], it.small())} of the functions with CUDD's SIFT, {percent(close[('CUDD', 'GROUP_SIFT_CONV')], it.small())} with GROUP_SIFT_CONV, {percent(close[('CUDD', 'GENETIC')], it.small())} with GENETIC.",
-        f"The family on which CUDD's SIFT is worst is {worst_family['family']}, {float(worst_family['mean ratio']):.3f} in the mean. In {len(missed_by_all)} of {whole} functions no run of any package from the file's order met the optimum in time.",
+        f"The family on which CUDD's SIFT is worst is {worst_family['family']}, {float(worst_family['mean_ratio']):.3f} in the mean. In {len(missed_by_all)} of {whole} functions no run of any package from the file's order met the optimum in time.",
     ])
 
 

@@ -2,6 +2,7 @@
 import os
 from math import exp, log
 
+import aliases
 import few
 import functions
 import pictures
@@ -20,7 +21,7 @@ def geometric_mean(values):
 
 
 def ratio(row):
-    return int(row["sifted nodes"]) / int(row["optimum"])
+    return int(row["sifted_nodes"]) / int(row["optimum"])
 
 
 def families_of(rows):
@@ -52,10 +53,10 @@ def family_table(rows):
 
 
 def table_line(row, with_what):
-    best, sifted = int(row["optimum"]), int(row["sifted nodes"])
+    best, sifted = int(row["optimum"]), int(row["sifted_nodes"])
     missed = f"{100 * (sifted - best) / best:.1f} %" if sifted > best else "0"
     what = f" {row['what']} |" if with_what else ""
-    return f"| {row['name']} |{what} {row['inputs']} | {row['outputs']} | {row['file order nodes']} | {sifted} | **{best}** | {missed} | {row['first optimal order']} |"
+    return f"| {row['name']} |{what} {row['inputs']} | {row['outputs']} | {row['file_order_nodes']} | {sifted} | **{best}** | {missed} | {row['first_optimal_order']} |"
 
 
 def family_part(family, rows):
@@ -65,6 +66,16 @@ def family_part(family, rows):
     out.append(f"| Name |{' What |' if several else ''} Inputs | Outputs | File order | Sifted | Optimum | Sifting misses | First optimal order |")
     out.append("|---|" + ("---|" if several else "") + "---|" * 7)
     return "\n".join(out + [table_line(row, several) for row in rows] + [""])
+
+
+def alias_table(rows):
+    """A line for each name of the field: the function here, the rule that its file was made by, its fewest nodes."""
+    found = {row["name"]: row for row in rows}
+    out = ["| Name | Here | Rule | Inputs | Outputs | Optimum |", "|---|---|---|---|---|---|"]
+    for alias, (here, inputs, outputs) in aliases.FIELD.items():
+        row = found[here]
+        out.append(f"| `{alias}` | {here} | {row['what']} | {inputs} | {outputs} | **{row['optimum']}** |")
+    return "\n".join(out)
 
 
 def mean(share):
@@ -77,7 +88,7 @@ def few_shares(counts, classes):
     for n in range(1, 6):
         mine = [row for row in counts if row["inputs"] == str(n)]
         best = [(int(row["optimum"]), int(row["functions"])) for row in classes if row["inputs"] == str(n)]
-        found[n] = [pictures.shares(best)] + [pictures.shares((int(row[column]), int(row["functions"])) for row in mine) for column in ("sifted nodes", "file order nodes")]
+        found[n] = [pictures.shares(best)] + [pictures.shares((int(row[column]), int(row["functions"])) for row in mine) for column in ("sifted_nodes", "file_order_nodes")]
     return found
 
 
@@ -92,9 +103,9 @@ def few_line(n, counts, classes, share):
     def missed(column):
         return sum(int(row["functions"]) * int(row[column]) / int(row["optimum"]) for row in mine if row["optimum"] != "0") / sum(int(row["functions"]) for row in mine if row["optimum"] != "0") - 1
 
-    worst = max((row for row in mine if row["optimum"] != "0"), key=lambda row: int(row["sifted nodes"]) / int(row["optimum"]))
+    worst = max((row for row in mine if row["optimum"] != "0"), key=lambda row: int(row["sifted_nodes"]) / int(row["optimum"]))
     cells = [n, f"{sum(int(row['functions']) for row in best.values()):,}", f"{sum(int(row['classes']) for row in best.values()):,}", f"{mean(share[0]):.3f}", f"{most}, of {int(best[most]['functions']):,} functions in {int(best[most]['classes']):,} class{'' if best[most]['classes'] == '1' else 'es'}"]
-    cells += [f"{100 * met('file order nodes'):.1f} %", f"{100 * missed('file order nodes'):.2f} %", f"{100 * met('sifted nodes'):.1f} %", f"{100 * missed('sifted nodes'):.2f} %", f"{worst['sifted nodes']} for {worst['optimum']}"]
+    cells += [f"{100 * met('file_order_nodes'):.1f} %", f"{100 * missed('file_order_nodes'):.2f} %", f"{100 * met('sifted_nodes'):.1f} %", f"{100 * missed('sifted_nodes'):.2f} %", f"{worst['sifted_nodes']} for {worst['optimum']}"]
     return "| " + " | ".join(map(str, cells)) + " |"
 
 
@@ -108,7 +119,7 @@ def few_part(programs):
     for n in range(1, 6):
         by_nodes = {int(row["optimum"]): int(row["functions"]) for row in classes if row["inputs"] == str(n)}
         optima.append(f"| {n} | " + " | ".join(f"{by_nodes[nodes]:,}" if nodes in by_nodes else "" for nodes in range(max(found[5][0]) + 1)) + " |")
-    calls, of_classes = (row["seconds of processor time"] for row in few.read(programs.into, "few_times"))
+    calls, of_classes = (row["processor_seconds"] for row in few.read(programs.into, "few_times"))
     return text_of("few.md").format(rows="\n".join(lines), optima="\n".join(optima), calls=calls, classes=of_classes, random=f"{few.RANDOM:,}")
 
 
@@ -119,7 +130,7 @@ def profile_levels(programs, rows):
     entry = next(entry for entry in functions.entries() if entry.name == "hwb16")
     inputs, tables = len(entry.inputs), entry.tables()
     row = next(row for row in rows if row["name"] == "hwb16")
-    orders = {"file's order": " ".join(map(str, range(inputs))), "sifted order": row["sifted order"], "best order": row["first optimal order"]}
+    orders = {"file's order": " ".join(map(str, range(inputs))), "sifted order": row["sifted_order"], "best order": row["first_optimal_order"]}
     return {name: minorder.levels(tables, list(map(int, order.split()))) for name, order in orders.items()}
 
 
@@ -146,5 +157,6 @@ def make(programs):
     link = "- [The league of heuristics](#the-league): how far the methods of CUDD, BuDDy and ABC end from the optimum.\n" if league else ""
     front = text_of("front.md").format(all=len(rows), kept=kept, met=len(rows) - len(missed), worst=missed[-1]["name"], worst_ratio=f"{ratio(missed[-1]):.2f}", league=link)
     overview = text_of("families.md").format(families=family_table(rows))
-    parts = [front, *league, overview, few_part(programs), text_of("by_hand.md")] + [family_part(family, mine) for family, mine in families.items()]
+    named = text_of("aliases.md").format(aliases=alias_table(rows))
+    parts = [front, *league, overview, named, few_part(programs), text_of("by_hand.md")] + [family_part(family, mine) for family, mine in families.items()]
     table.write(f"{docs}/OPTIMA.md", "\n".join(parts))

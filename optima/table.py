@@ -8,6 +8,7 @@ import shutil
 import subprocess
 import sys
 
+import aliases
 import functions
 
 HERE = os.path.dirname(os.path.abspath(__file__))
@@ -16,7 +17,10 @@ KEPT_BELOW = 20_000
 KEPT_LATER = {"S-boxes", "74 series", "error-correcting codes", "lines and characters", "decimal digits", "processor parts"}
 LATER_INPUTS = 12
 CASES = "crates/worked_cases/data"
-COLUMNS = ["family", "name", "what", "inputs", "outputs", "file order nodes", "sifted nodes", "optimum", "first optimal order", "sifted order", "level counts", "listed sets", "sha256 of the PLA file", "sha256 of the certificate"]
+COLUMNS = [
+    "family", "name", "aliases", "what", "inputs", "outputs", "file_order_nodes", "sifted_nodes", "optimum", "first_optimal_order",
+    "sifted_order", "level_counts", "listed_sets", "pla_sha256", "certificate_sha256",
+]
 
 
 def run(*words):
@@ -59,8 +63,8 @@ def measure(entry, programs, room):
     if os.path.exists(kept):
         with open(kept) as file:
             row = json.load(file)
-        if row["sha256 of the PLA file"] == sum_of(pla):
-            return row
+        if row.get("pla_sha256") == sum_of(pla):
+            return dict(row, aliases=" ".join(aliases.of(entry.name)))
     start = used()
     told = parts(run(programs.minorder, "--workers", str(programs.workers), "--cert", cert, pla))
     between = used()
@@ -69,7 +73,11 @@ def measure(entry, programs, room):
         sys.exit(f"{entry.name}: {verdict}, and {told['nodes']} nodes")
     with open(cert) as file:
         listed = next(line.split()[1] for line in file if line.startswith("cells "))
-    values = [entry.family, entry.name, entry.words, len(entry.inputs), entry.outputs, told["file order nodes"], told["sifted nodes"], told["nodes"], told["order"], told["sifted order"], told["levels"], listed, sum_of(pla), sum_of(cert)]
+    sizes = [told["file order nodes"], told["sifted nodes"], told["nodes"]]
+    orders = [told["order"], told["sifted order"], told["levels"]]
+    shape = [len(entry.inputs), entry.outputs]
+    names = [entry.family, entry.name, " ".join(aliases.of(entry.name)), entry.words]
+    values = [*names, *shape, *sizes, *orders, listed, sum_of(pla), sum_of(cert)]
     row = dict(zip(COLUMNS, map(str, values)), seconds=[between - start, used() - between])
     write(kept, json.dumps(row))
     return row

@@ -1,6 +1,7 @@
 """Tests of the functions of the table against what their sources say: python3 -m unittest discover -s optima"""
 import unittest
 
+import aliases
 import automata
 import chips
 import circuits
@@ -101,6 +102,12 @@ class Others(unittest.TestCase):
             self.assertTrue(1 <= n <= 16 and 1 <= entry.outputs <= 16)
             for x in ([0] * n, [1] * n, [i % 2 for i in range(n)]):
                 self.assertEqual(len(entry.values(x)), entry.outputs)
+
+    def test_names_of_the_field_are_of_functions_of_that_shape(self):
+        shapes = {entry.name: (len(entry.inputs), entry.outputs) for entry in functions.entries()}
+        for alias, (here, *shape) in aliases.FIELD.items():
+            self.assertEqual(shapes[here], tuple(shape), alias)
+            self.assertTrue(alias == here or alias not in shapes, alias)
 
     def test_a_few_values(self):
         self.assertEqual(number([int(bit) for bit in digits.decimal_adder(0)(bits_of(7, 4) + bits_of(5, 4) + [1])]), 3 + 16)
