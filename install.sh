@@ -22,15 +22,7 @@ programs() {
     for program in minorder ordercheck; do
         "$top/$program" --help > /dev/null || fail "$program can't be built"
     done
-    "$top/libminorder" > /dev/null || fail "lib/libminorder.a can't be built"
-}
-
-shared_library() {
-    echo '{ global: minorder_*; local: *; };' > "$made/exports"
-    "${compiler[@]}" -shared -Wl,-soname,libminorder.so.1 -Wl,--version-script="$made/exports" -Wl,-z,defs -Wl,--gc-sections \
-        -Wl,--whole-archive "$top/lib/libminorder.a" -Wl,--no-whole-archive -s -o "$made/tree/lib/libminorder.so.1" ||
-        fail "${compiler[*]} can't make the shared library"
-    ln -s libminorder.so.1 "$made/tree/lib/libminorder.so"
+    "$top/libminorder" > /dev/null || fail "the library can't be built by ${compiler[*]}"
 }
 
 # The folder of the .pc file leads to the prefix, so that the tree can be moved.
@@ -54,17 +46,46 @@ put() {
     install -m "$1" "${@:3}" "$made/tree/$2"
 }
 
+# Each name that a manual page of the library describes leads to it.
+manual() {
+    local name
+    put 644 share/man/man1 "$top"/man/*.1
+    put 644 share/man/man3 "$top"/man/*.3
+    for name in $(sed -n '/^\.SH NAME/,/\\-/{s/\\-.*//;p}' "$top/man/minorder.3" | grep -o 'minorder_[a-z_]*'); do
+        echo ".so man3/minorder.3" > "$made/tree/share/man/man3/$name.3"
+    done
+}
+
+# The folder of documents is laid out as the repository, so that what a page cites lies there under the same path.
+documents() {
+    local folder=share/doc/minorder crate
+    put 644 $folder "$top"/{README,CHANGES,CONTRIBUTING}.md "$top"/{CITATION.cff,crates.txt}
+    put 644 $folder/docs "$top"/docs/*.{md,svg}
+    put 644 $folder/examples "$top"/examples/*.{pla,report,cert,v}
+    for crate in "$top"/crates/*/; do
+        crate=crates/$(basename "$crate")
+        [ ! -d "$top/$crate/specs" ] || put 644 "$folder/$crate/specs" "$top/$crate"/specs/*.antt
+        [ ! -e "$top/$crate/src/laws.rt" ] || put 644 "$folder/$crate/src" "$top/$crate/src/laws.rt"
+    done
+    put 644 share/minorder/optima "$top"/optima/*.{py,md,csv,c,h}
+    put 755 share/minorder/optima "$top"/optima/{functions,levels,make,permute}.py "$top/optima/league.sh"
+    put 755 $folder/examples "$top/examples/make_examples.py"
+    install -d "$made/tree/$folder"/{draw,bindings} "$made/tree/share/minorder/bindings"
+    ln -s ../python "$made/tree/share/minorder/bindings/python"
+    ln -s ../../minorder/optima "$made/tree/$folder/optima"
+    ln -s ../../../minorder/draw.py "$made/tree/$folder/draw/draw.py"
+    ln -s ../../../minorder/python "$made/tree/$folder/bindings/python"
+}
+
 tree() {
     put 755 bin "$top/crates/minorder/out/minorder" "$top/crates/ordercheck/out/ordercheck"
-    put 644 lib "$top/lib/libminorder.a"
-    shared_library
+    put 644 lib "$top"/lib/libminorder.{a,so.1}
+    ln -s libminorder.so.1 "$made/tree/lib/libminorder.so"
     put 644 include "$top/include/minorder.h"
     install -d "$made/tree/lib/pkgconfig"
     package_file
-    put 644 share/man/man1 "$top"/man/*.1
-    put 644 share/man/man3 "$top"/man/*.3
-    put 644 share/doc/minorder "$top"/docs/{USING,PROVED,OPTIMA}.md "$top"/docs/optima_*.svg "$top/optima/optima.csv" "$top/CHANGES.md"
-    put 644 share/doc/minorder/examples "$top"/examples/*.{pla,report,cert}
+    manual
+    documents
     put 755 share/minorder "$top/draw/draw.py"
     put 644 share/minorder/python "$top/bindings/python/pyproject.toml"
     put 644 share/minorder/python/backend "$top"/bindings/python/backend/*.py
@@ -164,7 +185,7 @@ uninstall() {
         [ ! -e "$root/$name" ] || [ -w "$(dirname "$root/$name")" ] || fail "$root/$name can't be taken away"
     done
     # what Python keeps of the package's modules
-    rm -rf -- "$root/share/minorder/python/minorder/__pycache__" "$root/share/minorder/python/backend/__pycache__"
+    rm -rf -- "$root"/share/minorder/{optima,python/minorder,python/backend}/__pycache__
     for name in "${names[@]}"; do
         [[ $name == */ ]] || rm -f -- "$root/$name"
     done

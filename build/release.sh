@@ -8,7 +8,7 @@ fail() { echo "release.sh: $*" >&2; exit 1; }
 [ $# = 1 ] || fail "usage: build/release.sh VERSION"
 version=$1
 [ "$version" = "$(< "$top/VERSION")" ] || fail "VERSION says $(< "$top/VERSION"), not $version"
-grep -q "^## $version" "$top/CHANGES.md" || fail "CHANGES.md has no part for $version"
+"$top/build/versions.sh" > /dev/null
 commit=$(git -C "$top" rev-parse HEAD) || fail "no commit to name"
 changes=$(git -C "$top" status --porcelain)
 seconds=$(git -C "$top" log -1 --format=%ct)

@@ -23,6 +23,9 @@
 extern "C" {
 #endif
 
+/* The version of the library that this header belongs to. */
+#define MINORDER_VERSION "1.0.0"
+
 /* How a call ends. Where it isn't MINORDER_DONE the call has written nothing. */
 enum {
     MINORDER_DONE = 0,

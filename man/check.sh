@@ -9,10 +9,6 @@ trap 'rm -rf "$made"' EXIT
 
 has() { command -v "$1" > /dev/null || { echo "left out: no $1 here"; return 1; }; }
 
-version=$(< "$here/../VERSION")
-for page in "$here"/*.[13]; do
-    grep -q "^\.TH .* \"minorder $version\"" "$page" || { echo "$page is not of version $version" >&2; exit 1; }
-done
 if has man && has groff; then
     for page in "$here"/*.[13]; do
         man --warnings -E UTF-8 -l -Tutf8 -Z "$page" 2>&1 > /dev/null | tee -a "$made/warnings"

@@ -23,17 +23,16 @@ CLASSES = ["inputs", "optimum", "classes", "functions"]
 
 
 def compiled(room, name, *words):
-    """A program or library that cc makes in the room."""
+    """A program that cc makes in the room."""
     subprocess.run(["cc", "-O2", "-o", f"{room}/{name}", *words], check=True)
     return f"{room}/{name}"
 
 
-def library(room):
-    """The Python module over lib/libminorder.a."""
+def library():
+    """The Python module over lib/libminorder.so.1."""
     if "MINORDER_LIBRARY" not in os.environ:
         subprocess.run([f"{TOP}/libminorder"], stdout=subprocess.DEVNULL, check=True)
-        archive = ["-Wl,--whole-archive", f"{TOP}/lib/libminorder.a", "-Wl,--no-whole-archive"]
-        os.environ["MINORDER_LIBRARY"] = compiled(room, "libminorder.so.1", "-shared", *archive)
+        os.environ["MINORDER_LIBRARY"] = f"{TOP}/lib/libminorder.so.1"
     sys.path.insert(0, f"{TOP}/bindings/python")
     import minorder
     return minorder
@@ -88,7 +87,7 @@ def classes_of(room, n):
 def make(programs):
     room = f"{programs.room}/few"
     os.makedirs(room, exist_ok=True)
-    minorder = library(room)
+    minorder = library()
     counts, classes, seconds = [], [], 0
     for n in range(1, 6):
         order = range(n)

@@ -124,8 +124,7 @@ def lines_of(row, found):
 
 def make(programs):
     os.makedirs(f"{programs.room}/league", exist_ok=True)
-    os.makedirs(f"{programs.room}/few", exist_ok=True)
-    minorder, rows = few.library(f"{programs.room}/few"), table.read(programs.into)
+    minorder, rows = few.library(), table.read(programs.into)
     soonest = sorted(rows, key=lambda row: (int(row["inputs"]), int(row["optimum"])))
     with ThreadPoolExecutor(programs.workers) as pool:
         jobs = [(row, pool.submit(measure, row, programs, minorder)) for row in soonest]

@@ -123,10 +123,9 @@ def few_part(programs):
     return text_of("few.md").format(rows="\n".join(lines), optima="\n".join(optima), calls=calls, classes=of_classes, random=f"{few.RANDOM:,}")
 
 
-def profile_levels(programs, rows):
+def profile_levels(rows):
     """The level counts of the largest hidden weighted bit under three orders, by the library."""
-    os.makedirs(f"{programs.room}/few", exist_ok=True)
-    minorder = few.library(f"{programs.room}/few")
+    minorder = few.library()
     entry = next(entry for entry in functions.entries() if entry.name == "hwb16")
     inputs, tables = len(entry.inputs), entry.tables()
     row = next(row for row in rows if row["name"] == "hwb16")
@@ -147,7 +146,7 @@ def league_part(programs, rows):
 def make(programs):
     rows = table.read(programs.into)
     docs = f"{programs.into}/docs"
-    pictures.profiles(profile_levels(programs, rows), f"{docs}/optima_profiles.svg")
+    pictures.profiles(profile_levels(rows), f"{docs}/optima_profiles.svg")
     pictures.growth(rows, f"{docs}/optima_growth.svg")
     families = families_of(rows)
     pictures.misses([(family, list(map(ratio, mine)), geometric_mean(list(map(ratio, mine)))) for family, mine in families.items()], f"{docs}/optima_sifting.svg")

@@ -30,7 +30,7 @@ programs() {
 # The C program that USING.md shows, with the shared library and with the archive.
 c_example() {
     if ! has pkg-config || ! has "${CC:-cc}"; then return; fi
-    sed -n '/^```c$/,/^```$/{/^```/d;p}' "$tree/share/doc/minorder/USING.md" > "$made/example.c"
+    sed -n '/^```c$/,/^```$/{/^```/d;p}' "$tree/share/doc/minorder/docs/USING.md" > "$made/example.c"
     local flags
     read -ra flags < <(PKG_CONFIG_PATH=$tree/lib/pkgconfig pkg-config --cflags --libs minorder)
     "${CC:-cc}" "$made/example.c" "${flags[@]}" -o "$made/example"
