@@ -58,13 +58,14 @@ manual() {
 
 # The folder of documents is laid out as the repository, so that what a page cites lies there under the same path.
 documents() {
-    local folder=share/doc/minorder crate
+    local folder=share/doc/minorder crate files
     put 644 $folder "$top"/{README,CHANGES,CONTRIBUTING}.md "$top"/{CITATION.cff,crates.txt}
     put 644 $folder/docs "$top"/docs/*.{md,svg}
     put 644 $folder/examples "$top"/examples/*.{pla,report,cert,v}
     for crate in "$top"/crates/*/; do
         crate=crates/$(basename "$crate")
-        [ ! -d "$top/$crate/specs" ] || put 644 "$folder/$crate/specs" "$top/$crate"/specs/*.antt
+        mapfile -t files < <(find "$top/$crate/specs" -name '*.antt' -size +0 2> /dev/null)
+        ((${#files[@]} == 0)) || put 644 "$folder/$crate/specs" "${files[@]}"
         [ ! -e "$top/$crate/src/laws.rt" ] || put 644 "$folder/$crate/src" "$top/$crate/src/laws.rt"
     done
     put 644 share/minorder/optima "$top"/optima/*.{py,md,csv,c,h}
@@ -124,8 +125,8 @@ copy_all() {
     while read -r name; do
         place=$root/$name
         [ ! -d "$place" ] || [ -L "$place" ] || fail "$place is a folder"
-        make_folder "$(dirname "$place")"
-        copies+=("$(dirname "$place")/.${place##*/}.$$")
+        make_folder "${place%/*}"
+        copies+=("${place%/*}/.${place##*/}.$$")
         cp -P -- "$made/tree/$name" "${copies[-1]}" || fail "$place can't be written"
     done < "$made/names"
 }

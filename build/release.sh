@@ -1,5 +1,7 @@
 #!/usr/bin/env bash
-# release.sh VERSION     makes out/minorder-VERSION-linux-x86_64.tar.gz, out/minorder_VERSION_amd64.deb where dpkg-deb is there, and out/SHA256SUMS
+# release.sh VERSION     makes out/minorder-VERSION-linux-x86_64.tar.gz, out/minorder-VERSION-certificates.tar.xz, Debian packages where
+#                        dpkg-deb is there, and out/SHA256SUMS
+# The certificates of the table of optima are taken from optima/out where they all lie there, and else made, in some minutes.
 set -euo pipefail
 umask 022
 top=$(cd "$(dirname "${BASH_SOURCE[0]}")/.." && pwd)
@@ -23,13 +25,12 @@ proof() {
     sed -n 's/.*Proved with `\(.*\)`.*/proved with: \1/p' "$top/README.md"
 }
 
-# The newest version of the C library that a symbol is asked of.
-newest_libc() {
-    objdump -T "$@" | grep -o 'GLIBC_[0-9.]*' | sed 's/GLIBC_//' | sort -uV | tail -1
-}
-
 archive() {
     "$top/install.sh" "$made/$name" > /dev/null
+    if command -v strip > /dev/null; then
+        strip --strip-unneeded "$made/$name"/bin/*
+        strip --strip-debug "$made/$name/lib/libminorder.a"
+    fi
     rm "$made/$name/share/minorder/files"
     proof > "$made/$name/share/doc/minorder/PROVED_WITH"
     (cd "$made/$name" && find . -type f ! -name SHA256SUMS -printf '%P\n' | LC_ALL=C sort | xargs sha256sum > SHA256SUMS)
@@ -37,36 +38,31 @@ archive() {
     files=("$name.tar.gz")
 }
 
-package() {
-    local tree=$made/deb libc
+packages() {
     if ! command -v dpkg-deb > /dev/null || ! command -v objdump > /dev/null; then
-        echo "left out: the .deb, since dpkg-deb or objdump isn't here"
+        echo "left out: the Debian packages, since dpkg-deb or objdump isn't here"
         return
     fi
-    install -d "$tree/usr" "$tree/DEBIAN"
-    cp -a "$made/$name"/{bin,lib,include,share} "$tree/usr"
-    libc=$(newest_libc "$tree"/usr/bin/* "$tree/usr/lib/libminorder.so.1")
-    cat > "$tree/DEBIAN/control" << END
-Package: minorder
-Version: $version
-Architecture: amd64
-Maintainer: The minorder developers <minorder@localhost>
-Depends: libc6 (>= $libc)
-Section: science
-Priority: optional
-Description: exact minimum BDD variable orders, proved
- minorder finds the first variable order under which the functions of a
- Berkeley PLA file have a shared binary decision diagram of the fewest
- nodes; ordercheck judges its certificates. With a library for C and Python.
-END
-    echo "activate-noawait ldconfig" > "$tree/DEBIAN/triggers"
-    (cd "$tree" && find usr -type f -printf '%P\n' | LC_ALL=C sort | sed 's/^/usr\//' | xargs md5sum > DEBIAN/md5sums)
-    SOURCE_DATE_EPOCH=$seconds dpkg-deb --root-owner-group --build "$tree" "$made/minorder_${version}_amd64.deb" > /dev/null
-    files+=("minorder_${version}_amd64.deb")
+    local packages
+    mapfile -t packages < <(SOURCE_DATE_EPOCH=$seconds "$top/build/debian.sh" "$made/$name" "$made")
+    ((${#packages[@]} == 3)) || fail "the Debian packages can't be made"
+    files+=("${packages[@]}")
+}
+
+# The certificates of the table of optima: those of an earlier run if all lie in optima/out, else made anew.
+certificates() {
+    local room=$top/optima/out certificates=minorder-$version-certificates.tar.xz
+    if ! "$top/build/certificates.py" "$room/table" "$made/$certificates" "$seconds" 2> /dev/null; then
+        "$top/optima/make.py" table --minorder "$made/$name/bin/minorder" --ordercheck "$made/$name/bin/ordercheck" \
+            --room "$room" --into "$made/optima" 2> /dev/null || fail "the certificates can't be made"
+        "$top/build/certificates.py" "$room/table" "$made/$certificates" "$seconds"
+    fi
+    files+=("$certificates")
 }
 
 archive
-package
+packages
+certificates
 (cd "$made" && sha256sum "${files[@]}" > SHA256SUMS)
 mkdir -p "$top/out" || fail "$top/out can't be made"
 for file in "${files[@]}" SHA256SUMS; do

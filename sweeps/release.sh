@@ -1,6 +1,7 @@
 #!/usr/bin/env bash
 # release.sh     tries the release that build/release.sh made, from an empty folder: its sums, the programs alone on the path, the
-#                library for C by pkg-config, the shared library from Python; the .deb's tree likewise
+#                library for C by pkg-config, the shared library from Python, the certificates of the table of optima; the tree of
+#                the Debian packages likewise, and what lintian says of them
 set -euo pipefail
 top=$(cd "$(dirname "${BASH_SOURCE[0]}")/.." && pwd)
 version=$(< "$top/VERSION")
@@ -32,10 +33,10 @@ c_example() {
     if ! has pkg-config || ! has "${CC:-cc}"; then return; fi
     sed -n '/^```c$/,/^```$/{/^```/d;p}' "$tree/share/doc/minorder/docs/USING.md" > "$made/example.c"
     local flags
-    read -ra flags < <(PKG_CONFIG_PATH=$tree/lib/pkgconfig pkg-config --cflags --libs minorder)
+    read -ra flags < <(PKG_CONFIG_PATH=$libraries/pkgconfig pkg-config --cflags --libs minorder)
     "${CC:-cc}" "$made/example.c" "${flags[@]}" -o "$made/example"
-    [ "$(LD_LIBRARY_PATH=$tree/lib "$made/example")" = "0 3 1 4 2 5 6" ] || fail "the C example prints something else"
-    "${CC:-cc}" "$made/example.c" -I "$tree/include" "$tree/lib/libminorder.a" -o "$made/example"
+    [ "$(LD_LIBRARY_PATH=$libraries "$made/example")" = "0 3 1 4 2 5 6" ] || fail "the C example prints something else"
+    "${CC:-cc}" "$made/example.c" -I "$tree/include" "$libraries/libminorder.a" -o "$made/example"
     [ "$("$made/example")" = "0 3 1 4 2 5 6" ] || fail "the C example prints something else with the archive"
     echo "the C example by pkg-config and with the archive: as USING.md says"
 }
@@ -43,15 +44,39 @@ c_example() {
 python() {
     has python3 || return 0
     local script='import minorder; print(minorder.exact(lambda a, b, s: b if s else a, 3))'
-    [ "$(PYTHONDONTWRITEBYTECODE=1 PYTHONPATH=$tree/share/minorder/python MINORDER_LIBRARY=$tree/lib/libminorder.so.1 python3 -c "$script")" = \
+    [ "$(PYTHONDONTWRITEBYTECODE=1 PYTHONPATH=$tree/share/minorder/python MINORDER_LIBRARY=$libraries/libminorder.so.1 python3 -c "$script")" = \
         "Result(order=(2, 0, 1), levels=(1, 1, 1), total=3)" ] || fail "Python prints something else"
     echo "the shared library from Python: as it is to be"
 }
 
+# try_tree TREE FOLDER: a tree, and its folder of libraries
 try_tree() {
+    tree=$1 libraries=$1/$2
     programs
     c_example
     python
+}
+
+# Each certificate has the sum that the table says, and is judged with its file.
+certificates() {
+    local file count=0
+    tar -xJf "$top/out/minorder-$version-certificates.tar.xz"
+    cd "minorder-$version-certificates"
+    sha256sum --quiet -c SHA256SUMS
+    cmp optima.csv "$top/optima/optima.csv"
+    for file in *.cert; do
+        [[ $(run ordercheck "${file%.cert}.pla" "$file") == "valid "* ]] || fail "$file isn't valid"
+        count=$((count + 1))
+    done
+    cd "$made"
+    echo "$count certificates of the table of optima: valid"
+}
+
+# What a licence would need is not asked for: none has been chosen yet.
+lint() {
+    has lintian || return 0
+    lintian --allow-root --fail-on error,warning --suppress-tags copyright-without-copyright-notice "$@" || fail "lintian has complaints"
+    echo "lintian: nothing but what a licence would need"
 }
 
 cd "$made"
@@ -60,10 +85,14 @@ tar -xzf "$top/out/minorder-$version-linux-x86_64.tar.gz"
 tree=$made/minorder-$version-linux-x86_64
 (cd "$tree" && sha256sum --quiet -c SHA256SUMS)
 cat "$tree/share/doc/minorder/PROVED_WITH"
-try_tree
-if [ -e "$top/out/minorder_${version}_amd64.deb" ] && has dpkg-deb; then
-    dpkg-deb -f "$top/out/minorder_${version}_amd64.deb" Package Version Depends
-    dpkg-deb -x "$top/out/minorder_${version}_amd64.deb" deb
-    tree=$made/deb/usr
-    try_tree
+try_tree "$tree" lib
+certificates
+packages=("$top"/out/{minorder,libminorder1,libminorder-dev}_"$version"_amd64.deb)
+if [ -e "${packages[0]}" ] && has dpkg-deb; then
+    for package in "${packages[@]}"; do
+        dpkg-deb -f "$package" Package Version Depends
+        dpkg-deb -x "$package" deb
+    done
+    try_tree "$made/deb/usr" lib/x86_64-linux-gnu
+    lint "${packages[@]}"
 fi
