@@ -54,7 +54,7 @@ certificates() {
     local room=$top/optima/out certificates=minorder-$version-certificates.tar.xz
     if ! "$top/build/certificates.py" "$room/table" "$made/$certificates" "$seconds" 2> /dev/null; then
         "$top/optima/make.py" table --minorder "$made/$name/bin/minorder" --ordercheck "$made/$name/bin/ordercheck" \
-            --room "$room" --into "$made/optima" 2> /dev/null || fail "the certificates can't be made"
+            --room "$room" --into "$made/optima" 2> "$made/log" || fail "the certificates can't be made: $(tail -1 "$made/log")"
         "$top/build/certificates.py" "$room/table" "$made/$certificates" "$seconds"
     fi
     files+=("$certificates")

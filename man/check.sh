@@ -15,6 +15,12 @@ if has man && has groff; then
     done
     [ ! -s "$made/warnings" ]
     echo "man --warnings: nothing"
+    # each call that the header has for callers
+    for name in $(grep -o 'minorder_[a-z_]*(' "$prefix/include/minorder.h" | tr -d '(' | grep -Ev '_with_lengths$|^minorder_places$' | sort -u); do
+        man -M "$prefix/share/man" 3 "$name" > "$made/page" 2> /dev/null || { echo "man $name finds no page" >&2; exit 1; }
+        grep -q "RETURN VALUE" "$made/page"
+    done
+    echo "man: each call of minorder.h has its page"
 fi
 if has mandoc; then
     mandoc -Tlint -W style "$here"/*.[13]
