@@ -1,8 +1,8 @@
 #!/usr/bin/env python3
 """cited.py PREFIX      goes over the paths that the pages installed below PREFIX cite, and fails on one that isn't there
 
-A path is looked for below the page's folder, the folder of documents (and its crates/), and PREFIX. What the README says is not installed is
-looked for in the repository."""
+A path is looked for below the page's folder, the folder of documents (with its docs/ and crates/), and PREFIX.
+What the README says is not installed is looked for in the repository."""
 import glob
 import os
 import re
@@ -11,6 +11,7 @@ import sys
 TOP = os.path.dirname(os.path.dirname(os.path.abspath(__file__)))
 ENDINGS = r"\.(antt|c|cases|cert|cff|csv|h|json|md|pla|py|report|rs|rt|sh|svg|txt|v)$"
 WORD = re.compile(r"(?<![\w/.$<>*{}-])(?:PREFIX/)?((?:[\w.*-]|\{[\w,.]+\})+/(?:[\w.*/-]|\{[\w,.]+\})*|[\w-]+\.md)(?![\w/])")
+LINK = re.compile(r"\]\(([^()#: ]+)\)")
 # folders of the prefix; those of the repository are read from it
 FOLDERS = {"bin", "include", "lib", "share", "man"}
 
@@ -47,9 +48,11 @@ def spread(path):
 
 
 def cited_by(page):
-    """The paths that a page cites: what begins with a folder of the repository or of the prefix, ends as its files do, or is a page."""
-    folders = FOLDERS | {name for name in os.listdir(TOP) if os.path.isdir(f"{TOP}/{name}")}
-    for found in WORD.finditer(text_of(page)):
+    """The paths that a page cites: links, pages, what begins with a folder of the repository or the prefix or ends as its files do."""
+    folders = FOLDERS | {name for name in os.listdir(TOP) if name != "out" and os.path.isdir(f"{TOP}/{name}")}
+    text = text_of(page)
+    yield from LINK.findall(text)
+    for found in WORD.finditer(text):
         word = found[1].rstrip(".,-")
         if word.split("/")[0] in folders or re.search(ENDINGS, word):
             yield from spread(word)
@@ -64,7 +67,7 @@ def fault_of(path, page, prefix, absent):
     if path.startswith("./"):
         return None if os.path.exists(f"{TOP}/{path}") else "is not in the repository"
     documents = f"{prefix}/share/doc/minorder"
-    places = [os.path.dirname(page), documents, f"{documents}/crates", f"{documents}/crates/*", prefix]
+    places = [os.path.dirname(page), documents, *(f"{documents}/{it}" for it in ("docs", "crates", "crates/*")), prefix]
     if is_there(path, places):
         return None
     crate = path.split("/")[0]
