@@ -1,7 +1,7 @@
 #!/usr/bin/env python3
-"""certificates.py FOLDER OUT [SECONDS]   makes OUT, a tar.xz of the certificates of optima/optima.csv with their PLA files, from FOLDER
+"""certificates.py FOLDER OUT [SECONDS]      makes OUT, a tar.xz of the table's certificates with their PLA files, from FOLDER
 
-The sums of all files have to be those of the table. The archive has them in SHA256SUMS, and the table. SECONDS since 1970 is the
+The table is optima/optima.csv. The sums of all files have to be those of the table. The archive has them in SHA256SUMS, and the table. SECONDS since 1970 is the
 files' time.
 Ends with status 1, and says what is missing, where FOLDER hasn't all of them."""
 import csv
