@@ -48,7 +48,7 @@ def spread(path):
 
 
 def cited_by(page):
-    """The paths that a page cites: links, pages, what begins with a folder of the repository or the prefix, or ends as files do."""
+    """The paths that a page cites: links, pages, what begins with a folder of the repository or the prefix, or ends as files."""
     folders = FOLDERS | {name for name in os.listdir(TOP) if name != "out" and os.path.isdir(f"{TOP}/{name}")}
     text = text_of(page)
     yield from LINK.findall(text)
