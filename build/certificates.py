@@ -1,8 +1,8 @@
 #!/usr/bin/env python3
 """certificates.py FOLDER OUT [SECONDS]      makes OUT, a tar.xz of the table's certificates with their PLA files, from FOLDER
 
-The table is optima/optima.csv, and the sums of all files have to be those that it says. The archive has the table, too, and the sums
-in SHA256SUMS. SECONDS since 1970 is the files' time.
+The table is optima/optima.csv, and the sums of all files have to be those that it says. The archive has the table and the sums,
+too. SECONDS since 1970 is the files' time.
 Ends with status 1, and says what is missing, where FOLDER hasn't all of them."""
 import csv
 import hashlib
