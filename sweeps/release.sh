@@ -59,6 +59,7 @@ try_tree() {
 
 # Each certificate has the sum that the table says, and is judged with its file.
 certificates() {
+    has xz || return 0
     local file count=0
     tar -xJf "$top/out/minorder-$version-certificates.tar.xz"
     cd "minorder-$version-certificates"
