@@ -16,6 +16,8 @@ import time
 import files
 
 TOP = os.path.dirname(os.path.dirname(os.path.abspath(__file__)))
+sys.path.append(f"{TOP}/bindings/python")
+from minorder.files import parts_of  # noqa: E402
 
 
 def peak_of(process):
@@ -56,7 +58,7 @@ class Ran:
         return status == 0
 
     def line(self, name):
-        return next((line.split(": ", 1)[1] for line in (self.text or "").splitlines() if line.startswith(name + ": ")), "-")
+        return parts_of(self.text or "").get(name, "-")
 
 
 def number(value, form):

@@ -3,91 +3,77 @@
 
 ORDER is the variables, top first, by number or by name. Without it, it is that of a report of minorder on standard input, if one is
 piped there, else the file's own. A report's level counts are compared with the diagram's. --both draws the file's order and the other
-one side by side. --svg has Graphviz make a picture of it.
+one side by side. --svg has Graphviz make a picture of it. A diagram of more than MOST nodes is refused, with status 2.
 
 The diagram comes from the truth tables by the definitions: the nodes of a level are the distinct functions, got by fixing the
-variables above, that depend on the level's variable. No code of minorder takes part.
+variables above, that depend on the level's variable. Of minorder only the Python package's readers of files and reports take part.
 """
 import os
+import signal
 import subprocess
 import sys
 import tempfile
+from html import escape
 
+HERE = os.path.dirname(os.path.realpath(__file__))
+# where it is installed, the package lies beside this script
+sys.path[:0] = [f"{HERE}/python", f"{HERE}/../bindings/python"]
+sys.dont_write_bytecode = True
+from minorder.files import BadPla, parts_of, read_pla  # noqa: E402
+
+# Graphviz takes some seconds for so many, and minutes for a few times as many
+MOST = 1000
 LINE, MUTED = "#808080", "#7a7a7a"
 
 
-def fail(text):
-    sys.exit(f"draw.py: {text}")
+def fail(text, status=1):
+    print(f"draw.py: {text}", file=sys.stderr)
+    sys.exit(status)
 
 
 # ---- what is drawn
 
-def read_pla(path):
-    """The inputs' and outputs' names, and a truth table for each output: the values at all points, variable 0 the highest bit."""
-    heads, terms = {}, []
+def read(path):
+    """The inputs' and outputs' names and the truth tables of a PLA file."""
     try:
-        with open(path) as file:
-            lines = [line.split("#")[0].split() for line in file]
-    except (OSError, UnicodeDecodeError) as error:
-        fail(f"{path}: {error}")
-    for words in lines:
-        if not words:
-            continue
-        if words[0] in (".e", ".end"):
-            break
-        if words[0].startswith("."):
-            heads[words[0]] = words[1:]
-        else:
-            terms.append("".join(words).replace("|", ""))
-    try:
-        n, m = int(heads[".i"][0]), int(heads[".o"][0])
-    except (KeyError, IndexError, ValueError):
-        fail(f"{path}: no .i and .o with numbers")
-    if not (1 <= n <= 16 and 1 <= m <= 16):
-        fail(f"{path}: there are 1 to 16 inputs and outputs")
-    tables = [bytearray(1 << n) for _ in range(m)]
-    for term in terms:
-        if len(term) != n + m or set(term[:n]) - set("01-2"):
-            fail(f"{path}: {term} is no term of {n} inputs and {m} outputs")
-        points = [0]
-        for letter in term[:n]:
-            points = [2 * point + bit for point in points for bit in ((0, 1) if letter in "-2" else (int(letter),))]
-        for output in range(m):
-            if term[n + output] in "14":
-                for point in points:
-                    tables[output][point] = 1
-    inputs = heads.get(".ilb", [f"x{i}" for i in range(n)])
-    outputs = heads.get(".ob", [f"f{j}" for j in range(m)] if m > 1 else ["f"])
-    if len(inputs) != n or len(outputs) != m:
-        fail(f"{path}: another number of names")
-    return inputs, outputs, [bytes(table) for table in tables]
+        tables, inputs, outputs = read_pla(path)
+    except (OSError, BadPla) as error:
+        fail(error if isinstance(error, BadPla) else f"{path}: {error.strerror}")
+    return inputs, ["f"] if outputs == ("f0",) else outputs, tables
 
 
-def under(table, order):
-    """The truth table with the order's first variable as the highest bit."""
-    n = len(order)
-    return bytes(table[sum((place >> (n - 1 - i) & 1) << (n - 1 - x) for i, x in enumerate(order))] for place in range(1 << n))
+def under(tables, order):
+    """Of each truth table the values at all points, the order's first variable as the highest bit."""
+    places = [0]
+    for x in reversed(order):
+        places += [place | 1 << x for place in places]
+    for table in tables:
+        values = f"{table:0{len(places)}b}"[::-1].encode()
+        yield bytes(map(values.__getitem__, places))
 
 
 class Diagram:
     def __init__(self, tables, order):
-        self.order = order
+        self.order, self.size = order, 0
         self.levels = [{} for _ in order]
-        self.roots = [self.node(under(table, order), 0) for table in tables]
+        self.roots = [self.node(values, 0) for values in under(tables, order)]
 
-    def node(self, table, level):
+    def node(self, values, level):
         """The node of a function of the variables from a level on: `0`, `1`, or its level and number there."""
-        half = len(table) // 2
+        half = len(values) // 2
         if not half:
-            return "01"[table[0]]
-        if table[:half] == table[half:]:
-            return self.node(table[:half], level + 1)
+            return values.decode()
+        if values[:half] == values[half:]:
+            return self.node(values[:half], level + 1)
         known = self.levels[level]
-        if table not in known:
-            known[table] = None
-            low, high = self.node(table[:half], level + 1), self.node(table[half:], level + 1)
-            known[table] = (f"{level}_{list(known).index(table)}", low, high)
-        return known[table][0]
+        if values not in known:
+            self.size += 1
+            if self.size > MOST:
+                fail(f"the diagram has more than {MOST} nodes, more than are drawn in a few seconds", 2)
+            name = f"{level}_{len(known)}"
+            known[values] = None
+            known[values] = (name, self.node(values[:half], level + 1), self.node(values[half:], level + 1))
+        return known[values][0]
 
     def counts(self):
         return [len(level) for level in self.levels]
@@ -95,9 +81,14 @@ class Diagram:
 
 # ---- as DOT
 
+def quoted(text):
+    """A text as DOT writes one."""
+    return '"' + text.replace("\\", "\\\\").replace('"', '\\"') + '"'
+
+
 def cluster(diagram, inputs, outputs, title, mark):
     """The lines of one diagram, whose nodes' names begin with a mark."""
-    inputs, outputs = ([name.replace("\\", "\\\\").replace('"', '\\"') for name in names] for names in (inputs, outputs))
+    inputs, outputs = ([quoted(name)[1:-1] for name in names] for names in (inputs, outputs))
 
     def line(*words):
         lines.append("    " + "".join(words))
@@ -131,9 +122,9 @@ def cluster(diagram, inputs, outputs, title, mark):
     return [*lines, "  }"]
 
 
-def dot(parts):
+def dot(parts, title):
     head = [
-        "digraph {",
+        f"digraph {quoted(title)} {{",
         '  graph [bgcolor=transparent, ranksep=0.32, nodesep=0.16, fontname="Helvetica,Arial,sans-serif"];',
         '  node [shape=circle, width=0.36, fixedsize=true, fontsize=11, style=filled, fillcolor="#dbe9f6", color="#4a7ba6", '
         'fontcolor="#102030", fontname="Helvetica,Arial,sans-serif"];',
@@ -156,7 +147,7 @@ def report_of(stream, inputs):
     """The order and the level counts of a report of minorder, if one is piped there."""
     if stream.isatty():
         return None, None
-    lines = dict(line.split(": ", 1) for line in stream.read().splitlines() if ": " in line)
+    lines = parts_of(stream.read())
     if "order" not in lines:
         return None, None
     try:
@@ -168,7 +159,7 @@ def report_of(stream, inputs):
     return order_of([lines["order"]], inputs), counts
 
 
-def write_svg(text, path):
+def write_svg(text, path, title):
     folder = os.path.dirname(os.path.abspath(path))
     try:
         made = subprocess.run(["dot", "-Tsvg"], input=text, stdout=subprocess.PIPE, text=True, check=True).stdout
@@ -178,7 +169,7 @@ def write_svg(text, path):
         fail("dot made no picture")
     try:
         with tempfile.NamedTemporaryFile("w", dir=folder, delete=False) as file:
-            file.write(made)
+            file.write(made.replace("<g id=", f"<title>{escape(title)}</title>\n<g id=", 1))
         os.chmod(file.name, 0o644)
         os.replace(file.name, path)
     except OSError as error:
@@ -200,7 +191,7 @@ def main(words):
             fail(f"{option}: no such option, or a word is missing")
     if not words:
         fail("which FILE? --help tells")
-    inputs, outputs, tables = read_pla(words[0])
+    inputs, outputs, tables = read(words[0])
     own, counts, title = list(range(len(inputs))), None, "another order"
     if words[1:]:
         order = order_of(words[1:], inputs)
@@ -214,12 +205,14 @@ def main(words):
     parts = [cluster(drawn, inputs, outputs, title, "b")]
     if both:
         parts.insert(0, cluster(Diagram(tables, own), inputs, outputs, "the file's order", "a"))
-    text = dot(parts)
+    title = f"Decision diagram of {os.path.basename(words[0])}"
+    text = dot(parts, title)
     if svg:
-        write_svg(text, svg)
+        write_svg(text, svg, title)
     else:
         sys.stdout.write(text)
 
 
 if __name__ == "__main__":
+    signal.signal(signal.SIGPIPE, signal.SIG_DFL)
     main(sys.argv[1:])

@@ -10,6 +10,7 @@ shorter. Numbers have their lowest bit first in the formulas, and the file's inp
 has some families.
 """
 import os
+import signal
 import sys
 
 import automata
@@ -44,4 +45,6 @@ def main(words):
 
 
 if __name__ == "__main__":
+    # a reader that takes no more, as `head`, ends it
+    signal.signal(signal.SIGPIPE, signal.SIG_DFL)
     main(sys.argv[1:])

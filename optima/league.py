@@ -12,7 +12,7 @@ from concurrent.futures import ThreadPoolExecutor
 
 import few
 import table
-from levels import tables_of
+from minorder.files import read_pla
 
 CUDD = ["SIFT", "SIFT_CONVERGE", "SYMM_SIFT", "SYMM_SIFT_CONV", "GROUP_SIFT", "GROUP_SIFT_CONV", "WINDOW2", "WINDOW2_CONV", "WINDOW3", "WINDOW3_CONV", "WINDOW4", "WINDOW4_CONV", "ANNEALING", "GENETIC", "LINEAR", "EXACT"]
 BUDDY = ["WIN2", "WIN2ITE", "WIN3", "WIN3ITE", "SIFT", "SIFTITE", "RANDOM"]
@@ -34,8 +34,7 @@ class Judge:
     """Sizes of a function under orders, each counted once."""
 
     def __init__(self, minorder, path):
-        with open(path) as file:
-            self.inputs, self.tables = tables_of(file)
+        self.tables = read_pla(path).tables
         self.minorder, self.sizes = minorder, {}
 
     def size(self, order):

@@ -1,58 +1,55 @@
 #!/usr/bin/env python3
-"""levels.py FILE ORDER..      the level counts and the size of a PLA file's functions under each ORDER, top first, as `2,0,1`, by the library
+"""levels.py FILE ORDER..      the level counts and the size of a PLA file's functions under each ORDER, top first, by the library
 
-The file is of type f, as `minorder` reads it. ./libminorder makes the library that the Python module calls."""
+An ORDER is written as `2,0,1` or as "2 0 1"; one alone may also be the words `2 0 1`. The library is the one that the Python package finds:
+MINORDER_LIBRARY names its file. Status 2 if the words or the file are refused, 1 if there is no library.
+"""
 import os
+import signal
 import sys
 
 from permute import fault_of
 
-HERE = os.path.dirname(os.path.abspath(__file__))
-sys.path.insert(0, f"{HERE}/../bindings/python")
+sys.path.insert(0, f"{os.path.dirname(os.path.abspath(__file__))}/../bindings/python")
+import minorder  # noqa: E402
 
 
-def points_of(literals):
-    """The points at which a term's literals hold, as a truth table."""
-    table = 1
-    for i, literal in enumerate(literals):
-        table = {"0": table, "1": table << (1 << i)}.get(literal, table | table << (1 << i))
-    return table
+def refuse(message, status=2):
+    print(f"levels.py: {message}", file=sys.stderr)
+    sys.exit(status)
 
 
-def tables_of(lines):
-    """The number of inputs and a truth table for each output, bit p for point p, of a PLA file without faults."""
-    inputs, tables = 0, []
-    for line in lines:
-        words = line.split("#")[0].split()
-        if words[:1] == [".i"]:
-            inputs = int(words[1])
-        elif words[:1] == [".o"]:
-            tables = [0] * int(words[1])
-        elif words[:1] in ([".e"], [".end"]):
-            break
-        elif words and not words[0].startswith("."):
-            row = "".join(words).replace("|", "")
-            ones = points_of(row[:inputs])
-            tables = [table | ones if it == "1" else table for table, it in zip(tables, row[inputs:])]
-    return inputs, tables
+def orders_of(words, inputs):
+    """The orders that words spell, each as its words."""
+    orders = [word.replace(",", " ").split() for word in words]
+    alone = inputs > 1 and all(len(order) == 1 for order in orders)
+    return [[word for order in orders for word in order]] if alone else orders
 
 
-def main():
-    if len(sys.argv) < 3:
+def main(words):
+    if len(words) < 2:
         sys.exit(__doc__)
-    import minorder
-    with open(sys.argv[1]) as file:
-        inputs, tables = tables_of(file)
-    for word in sys.argv[2:]:
-        fault = fault_of(word.split(","), inputs)
+    try:
+        tables, names, _ = minorder.read_pla(words[0])
+    except OSError as error:
+        refuse(f"{words[0]}: {error.strerror}")
+    except minorder.BadPla as error:
+        refuse(error)
+    orders = orders_of(words[1:], len(names))
+    for order in orders:
+        fault = fault_of(order, len(names))
         if fault:
-            print(f"levels.py: {word}: {fault}", file=sys.stderr)
-            sys.exit(2)
-        levels = minorder.levels(tables, [int(it) for it in word.split(",")])
-        print("order:", *word.split(","))
+            refuse(f"{' '.join(order)}: {fault}")
+    for order in orders:
+        try:
+            levels = minorder.levels(tables, [int(word) for word in order])
+        except minorder.NoLibrary as error:
+            refuse(error, 1)
+        print("order:", *order)
         print("levels:", *levels)
         print("nodes:", sum(levels))
 
 
 if __name__ == "__main__":
-    main()
+    signal.signal(signal.SIGPIPE, signal.SIG_DFL)
+    main(sys.argv[1:])

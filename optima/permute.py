@@ -1,8 +1,13 @@
 #!/usr/bin/env python3
 """permute.py ORDER < FILE      the PLA file with its inputs in another order, top first, as `2 0 1` or `2,0,1`: so `minorder --count` tells that order's size
 
-An ORDER that hasn't each input of the file once is refused, with status 2."""
+A file that minorder refuses and an ORDER that hasn't each input of the file once are refused, with status 2."""
+import os
+import signal
 import sys
+
+sys.path.insert(0, f"{os.path.dirname(os.path.abspath(__file__))}/../bindings/python")
+from minorder.files import BadPla, cover_of  # noqa: E402
 
 
 def refuse(message):
@@ -23,40 +28,33 @@ def fault_of(words, inputs):
     return f"{', '.join(missing)} {'is' if len(missing) == 1 else 'are'} missing" if missing else None
 
 
-def inputs_of(lines):
-    """The number on the line of `.i`."""
-    for line in lines:
-        words = line.split("#")[0].split()
-        if words[:1] == [".i"] and len(words) == 2 and words[1].isdigit():
-            return int(words[1])
-    return refuse("the file has no line `.i` with a number")
-
-
-def permuted(line, order):
-    """A line of the file with its inputs in the order."""
-    words = line.split("#")[0].split()
-    if words and words[0] == ".ilb":
-        return " ".join([".ilb", *(words[1 + x] for x in order)]) + "\n"
-    if not words or words[0].startswith("."):
-        return line
-    row = "".join(words).replace("|", "")
-    return "".join(row[x] for x in order) + " " + row[len(order):] + "\n"
+def permuted(content, cover, order):
+    """The file's content with the inputs of its names and terms in the order."""
+    lines = content.split(b"\n")
+    for term in cover.terms:
+        left, right = term.characters[:cover.inputs], term.characters[cover.inputs:]
+        lines[term.line - 1] = bytes(left[x] for x in order) + b" " + right
+    if cover.input_names:
+        at = next(i for i, line in enumerate(lines) if line.split(b"#")[0].split()[:1] == [b".ilb"])
+        lines[at] = " ".join([".ilb", *(cover.input_names[x] for x in order)]).encode()
+    return b"\n".join(lines)
 
 
 def main():
     words = " ".join(sys.argv[1:]).replace(",", " ").split()
     if not words:
         sys.exit(__doc__)
-    lines = sys.stdin.readlines()
-    fault = fault_of(words, inputs_of(lines))
+    content = sys.stdin.buffer.read()
+    try:
+        cover = cover_of(content)
+    except BadPla as fault:
+        refuse(f"the file: {fault}")
+    fault = fault_of(words, cover.inputs)
     if fault:
         refuse(fault)
-    order = [int(word) for word in words]
-    try:
-        sys.stdout.write("".join(permuted(line, order) for line in lines))
-    except IndexError:
-        refuse("a line of the file has fewer inputs than `.i` says")
+    sys.stdout.buffer.write(permuted(content, cover, [int(word) for word in words]))
 
 
 if __name__ == "__main__":
+    signal.signal(signal.SIGPIPE, signal.SIG_DFL)
     main()

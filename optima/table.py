@@ -12,6 +12,9 @@ import aliases
 import functions
 
 HERE = os.path.dirname(os.path.abspath(__file__))
+sys.path.append(f"{HERE}/../bindings/python")
+from minorder.files import parts_of  # noqa: E402
+
 KEPT_BELOW = 20_000
 # families whose small certificates the gate judges, and the most inputs that it takes of the families that came later
 KEPT_LATER = {"S-boxes", "74 series", "error-correcting codes", "lines and characters", "decimal digits", "processor parts"}
@@ -28,10 +31,6 @@ def run(*words):
     if ran.returncode:
         sys.exit(f"{' '.join(words)}: status {ran.returncode}: {ran.stderr}{ran.stdout}")
     return ran.stdout
-
-
-def parts(report):
-    return dict(line.split(": ", 1) for line in report.splitlines())
 
 
 def sum_of(path):
@@ -66,7 +65,7 @@ def measure(entry, programs, room):
         if row.get("pla_sha256") == sum_of(pla):
             return dict(row, aliases=" ".join(aliases.of(entry.name)))
     start = used()
-    told = parts(run(programs.minorder, "--workers", str(programs.workers), "--cert", cert, pla))
+    told = parts_of(run(programs.minorder, "--workers", str(programs.workers), "--cert", cert, pla))
     between = used()
     verdict = run(programs.ordercheck, pla, cert).strip()
     if verdict != f"valid {told['nodes']}":

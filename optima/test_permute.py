@@ -40,8 +40,8 @@ class Permute(unittest.TestCase):
         for order, message in refused:
             self.assertEqual(permuted(*order), (2, "", f"permute.py: {message}\n"))
 
-    def test_a_file_without_its_inputs_is_refused(self):
-        self.assertEqual(permuted("0", file=".o 1\n"), (2, "", "permute.py: the file has no line `.i` with a number\n"))
+    def test_a_file_that_minorder_refuses_is_refused(self):
+        self.assertEqual(permuted("0", file=".o 1\n"), (2, "", "permute.py: the file: line 1: MissingHead\n"))
 
 
 if __name__ == "__main__":

@@ -1,19 +1,19 @@
 """The calls, each one call of the library."""
-import re
-from ctypes import byref, c_uint8, c_uint32, c_uint64
-from operator import index
-from typing import Iterable, NamedTuple, Optional, Sequence, Tuple, Union
+from ctypes import Array, byref, c_uint8, c_uint32, c_uint64
+from typing import Iterable, Mapping, NamedTuple, Optional, Sequence, Tuple, Type, Union
 
-from ._errors import BadCertificate, BadOrder, BadPairs, BadShape, MinorderError
+from ._certificates import check_text, inputs_of
+from ._errors import BadArgument, BadOrder, BadPairs, BadShape, MinorderError
 from ._library import Judged, Pair, library
-from ._tables import Tables, checked_inputs, listed, words_of
+from ._tables import Table, Tables, checked_inputs, inputs_said, listed, shown, whole, words_of
 
-REFUSALS = {
-    2: (BadShape, "a shape that the library refuses"),
-    3: (BadCertificate, "the text is no certificate"),
+NO_CERTIFICATE = 3
+REFUSALS: Mapping[int, Tuple[Type[Exception], str]] = {
+    2: (BadShape, "tables: a shape that the library refuses"),
+    NO_CERTIFICATE: (MinorderError, "certificate: the library refuses the text"),
     4: (MemoryError, "the library was refused memory"),
-    5: (BadOrder, "the order hasn't each variable once"),
-    8: (BadPairs, "the pairs lead from a variable back to itself"),
+    5: (BadOrder, "order: it hasn't each variable once"),
+    8: (BadPairs, "above: the pairs lead from a variable back to itself"),
 }
 REASONS = ("Valid", "Shape", "Order", "Pairs", "Levels", "Total", "Start", "CellTooBig", "Edge")
 
@@ -42,40 +42,62 @@ def _done(status: int) -> None:
         raise error(text)
 
 
-def _given(tables: Tables, inputs: int) -> tuple:
+Given = Tuple["Array[c_uint64]", int, int, int]
+
+
+def _given(tables: Sequence[Table], inputs: int) -> Given:
     """The first arguments of each call."""
-    each = listed(tables)
-    data = words_of(each, inputs)
+    data = words_of(tables, inputs)
     words = len(data) // 8
-    return (c_uint64 * words).from_buffer_copy(data), words, inputs, len(each)
+    return (c_uint64 * words).from_buffer_copy(data), words, inputs, len(tables)
+
+
+def _items(value: object, named: str, said: str) -> Sequence[object]:
+    """The items of an argument whose order counts or not; a text or a mapping has none that are meant."""
+    if isinstance(value, (str, bytes, bytearray, Mapping)) or not isinstance(value, Iterable):
+        raise BadArgument(f"{named}: {shown(value)} is no {said}")
+    return list(value)
 
 
 def _order_of(order: Sequence[int]) -> Tuple[int, ...]:
-    variables = tuple(index(variable) for variable in order)
-    checked_inputs(len(variables))
+    if isinstance(order, (set, frozenset)):
+        raise BadArgument(f"order: {shown(order)} has no first variable")
+    variables = tuple(whole(variable, "order") for variable in _items(order, "order", "sequence of variables"))
+    if not 1 <= len(variables) <= 16:
+        raise BadShape(f"order: {len(variables)} variables: there are 1 to 16")
     if sorted(variables) != list(range(len(variables))):
-        raise BadOrder(f"{variables}: an order has each of 0 to {len(variables) - 1} once")
+        raise BadOrder(f"order: {shown(variables)}: an order has each of 0 to {len(variables) - 1} once")
     return variables
 
 
-def _pairs_of(above: Iterable[Tuple[int, int]], inputs: int) -> Sequence[Pair]:
-    pairs = [(index(upper), index(lower)) for upper, lower in above]
-    for pair in pairs:
-        if not all(0 <= variable < inputs for variable in pair):
-            raise BadPairs(f"{pair}: variables are 0 to {inputs - 1}")
+def _pairs_of(above: Iterable[Tuple[int, int]], inputs: int) -> "Array[Pair]":
+    pairs = []
+    for pair in _items(above, "above", "sequence of pairs of variables"):
+        if isinstance(pair, (set, frozenset)):
+            raise BadArgument(f"above: {shown(pair)} is no pair of variables: it has no first one")
+        both = [whole(variable, "above") for variable in _items(pair, "above", "pair of variables")]
+        if len(both) != 2:
+            raise BadPairs(f"above: {shown(pair)} is no pair of variables")
+        if not all(0 <= variable < inputs for variable in both):
+            raise BadPairs(f"above: {shown(pair)}: variables are 0 to {inputs - 1}")
+        pairs.append(Pair(*both))
     return (Pair * len(pairs))(*pairs)
 
 
-def exact(tables: Tables, inputs: int, above: Iterable[Tuple[int, int]] = ()) -> Result:
+def exact(tables: Tables, inputs: Optional[int] = None, above: Iterable[Tuple[int, int]] = ()) -> Result:
     """The first order under which the tables' shared diagram has the fewest nodes.
 
-    ``above`` are pairs of variables; then it is the first such among the orders that have the first variable of each pair above the
-    second. Raises BadShape, BadPairs, MemoryError.
+    The tables have ``inputs`` variables, which may be left out where they are those of ``from_values`` or ``read_pla``. ``above`` are
+    pairs of variables; then it is the first such among the orders that have the first variable of each pair above the second. Raises
+    BadArgument, BadShape, BadPairs, MemoryError.
     """
+    each = listed(tables)
+    if inputs is None and (inputs := inputs_said(each)) is None:
+        raise BadArgument("inputs: it is left out, and the tables don't say how many variables they have")
     inputs = checked_inputs(inputs)
     pairs = _pairs_of(above, inputs)
     order, levels, total = (c_uint8 * inputs)(), (c_uint32 * inputs)(), c_uint32()
-    given, places = _given(tables, inputs), (order, inputs, levels, inputs, byref(total))
+    given, places = _given(each, inputs), (order, inputs, levels, inputs, byref(total))
     if len(pairs):
         _done(library().minorder_exact_above_with_lengths(*given, pairs, len(pairs), *places))
     else:
@@ -84,37 +106,42 @@ def exact(tables: Tables, inputs: int, above: Iterable[Tuple[int, int]] = ()) ->
 
 
 def levels(tables: Tables, order: Sequence[int]) -> Tuple[int, ...]:
-    """The level counts of the tables' shared diagram under an order. Raises BadShape, BadOrder, MemoryError."""
+    """The level counts of the tables' shared diagram under an order. Raises BadArgument, BadShape, BadOrder, MemoryError."""
     variables = _order_of(order)
     inputs = len(variables)
-    counts = (c_uint32 * inputs)()
-    _done(library().minorder_levels_with_lengths(*_given(tables, inputs), (c_uint8 * inputs)(*variables), inputs, counts, inputs))
+    counts, given = (c_uint32 * inputs)(), _given(listed(tables), inputs)
+    _done(library().minorder_levels_with_lengths(*given, (c_uint8 * inputs)(*variables), inputs, counts, inputs))
     return tuple(counts)
 
 
 def sift(tables: Tables, order: Sequence[int]) -> Result:
-    """What one pass of Rudell's sifting makes of an order. Raises BadShape, BadOrder, MemoryError."""
+    """What one pass of Rudell's sifting makes of an order. Raises BadArgument, BadShape, BadOrder, MemoryError."""
     variables = _order_of(order)
     inputs = len(variables)
     sifted, counts, total = (c_uint8 * inputs)(*variables), (c_uint32 * inputs)(), c_uint32()
-    _done(library().minorder_sift_with_lengths(*_given(tables, inputs), sifted, inputs, counts, inputs, byref(total)))
+    given = _given(listed(tables), inputs)
+    _done(library().minorder_sift_with_lengths(*given, sifted, inputs, counts, inputs, byref(total)))
     return Result(tuple(sifted), tuple(counts), total.value)
 
 
 def check(tables: Tables, certificate: Union[str, bytes], inputs: Optional[int] = None) -> Verdict:
     """The verdict on a certificate of the tables, as ``minorder --cert`` writes them.
 
-    The tables have ``inputs`` variables; if that is left out, as many as the certificate says. Raises BadShape, BadCertificate,
-    MemoryError.
+    The tables have ``inputs`` variables; if that is left out, as many as they say themselves, else as many as the certificate says.
+    Raises BadArgument, BadShape, BadCertificate (with the text's first faulty line and what is wrong there), MemoryError.
     """
-    text = certificate.encode("utf-8") if isinstance(certificate, str) else bytes(certificate)
-    if inputs is None:
-        said = re.match(rb"bddorder-certificate [12]\ninputs ([1-9]|1[0-6])\n", text)
-        if not said:
-            raise BadCertificate("the text doesn't begin as a certificate")
-        inputs = int(said.group(1))
+    if not isinstance(certificate, (str, bytes, bytearray, memoryview)):
+        raise BadArgument(f"certificate: {shown(certificate)} is no text")
+    text = certificate.encode("utf-8", "surrogateescape") if isinstance(certificate, str) else bytes(certificate)
+    each = listed(tables)
+    if inputs is None and (inputs := inputs_said(each)) is None:
+        inputs = inputs_of(text)
     judged = Judged()
-    given = _given(tables, checked_inputs(inputs))
+    given = _given(each, checked_inputs(inputs))
     # an empty text also is given an address
-    _done(library().minorder_check(*given, (c_uint8 * max(1, len(text))).from_buffer_copy(text or b"\0"), len(text), byref(judged)))
+    spelled = (c_uint8 * max(1, len(text))).from_buffer_copy(text or b"\0")
+    status = library().minorder_check(*given, spelled, len(text), byref(judged))
+    if status == NO_CERTIFICATE:
+        check_text(text)
+    _done(status)
     return Verdict(REASONS[judged.reason], judged.mask, judged.variable)

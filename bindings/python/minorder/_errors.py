@@ -1,12 +1,18 @@
 """Why calls are refused."""
+from typing import Optional, Tuple
 
 
 class MinorderError(Exception):
-    """A call was refused; each other exception of this package is one of these. Where memory is out it is a MemoryError instead."""
+    """A call was refused; each other exception of this package is one of these, and its text names the argument. Where memory is out
+    it is a MemoryError instead, and a file that can't be read is an OSError."""
 
 
 class NoLibrary(MinorderError, OSError):
     """The shared library isn't there, or is another one."""
+
+
+class BadArgument(MinorderError, TypeError):
+    """An argument is of another type."""
 
 
 class BadShape(MinorderError, ValueError):
@@ -21,5 +27,22 @@ class BadPairs(MinorderError, ValueError):
     """A pair has another variable, or the pairs lead from a variable back to itself."""
 
 
-class BadCertificate(MinorderError, ValueError):
+class BadText(MinorderError, ValueError):
+    """A text isn't of its format: ``kind`` is the word that the programs print, ``line`` the number of the faulty line, None if the kind
+    has none, as ``TooLong``."""
+
+    def __init__(self, line: Optional[int], kind: str, named: str = "") -> None:
+        self.line, self.kind, self.named = line, kind, named
+        where = kind if line is None else f"line {line}: {kind}"
+        super().__init__(f"{named}: {where}" if named else where)
+
+    def __reduce__(self) -> Tuple[object, ...]:
+        return type(self), (self.line, self.kind, self.named)
+
+
+class BadPla(BadText):
+    """A text is no PLA file that ``minorder`` reads."""
+
+
+class BadCertificate(BadText):
     """A text is no certificate."""

@@ -1,22 +1,101 @@
 """Truth tables in the words that the library reads."""
+from array import array
 from itertools import product
 from operator import index
-from typing import Callable, List, Sequence, Union
+from typing import Callable, Iterable, List, Mapping, Optional, Sequence, SupportsIndex, Tuple, Union
 
-from ._errors import BadShape
+from ._errors import BadArgument, BadShape
 
-Table = Union[int, bytes, bytearray, memoryview, Callable[..., object]]
+Table = Union[SupportsIndex, bytes, bytearray, memoryview, "array[int]", Callable[..., object]]
 Tables = Union[Table, Sequence[Table]]
 
 MOST = 16
-BYTES = (bytes, bytearray, memoryview)
+SEVERAL = (
+    "a sequence is several tables, and a table is an integer (bit p is the value at the point p), bytes (bit p % 8 of byte p // 8) "
+    "or a function of booleans; from_values(values) makes one table of a list of values")
 
 
-def checked_inputs(inputs: int) -> int:
+class TruthTable(int):
+    """A table that knows of how many variables it is: an integer whose bit p is the value at the point p."""
+    inputs: int
+
+    def __new__(cls, number: int, inputs: int) -> "TruthTable":
+        made = super().__new__(cls, number)
+        made.inputs = checked_inputs(inputs)
+        if made < 0 or made >> (1 << made.inputs):
+            raise BadShape(f"number: it has values outside the {1 << made.inputs} points of {made.inputs} variables")
+        return made
+
+    def __getnewargs__(self) -> Tuple[int, int]:  # type: ignore[override]
+        return int(self), self.inputs
+
+    def __repr__(self) -> str:
+        return f"TruthTable({int(self):#x}, inputs={self.inputs})"
+
+
+def shown(value: object) -> str:
+    """A value as a message has it."""
+    try:
+        text = repr(value)
+    except Exception:  # such as that of a number with too many digits
+        text = f"a value of type {type(value).__name__}"
+    return text if len(text) <= 60 else text[:57] + "..."
+
+
+def whole(value: object, named: str) -> int:
+    """A whole number that isn't a bool."""
+    if not isinstance(value, bool) and hasattr(value, "__index__"):
+        try:
+            return index(value)
+        except TypeError:
+            pass
+    raise BadArgument(f"{named}: {shown(value)} is no whole number")
+
+
+def checked_inputs(inputs: object) -> int:
     """A number of variables that there may be."""
-    if not 1 <= index(inputs) <= MOST:
-        raise BadShape(f"{inputs} variables: there are 1 to {MOST}")
-    return index(inputs)
+    number = whole(inputs, "inputs")
+    if not 1 <= number <= MOST:
+        raise BadShape(f"inputs: {shown(number)} variables: there are 1 to {MOST}")
+    return number
+
+
+def from_values(values: Iterable[object]) -> TruthTable:
+    """The table with these values, each 0 or 1 or a bool, by rising points: value p is that at the point p.
+
+        >>> minorder.from_values([0, 1, 1, 0, 1, 0, 0, 1])
+        TruthTable(0x96, inputs=3)
+    """
+    if isinstance(values, (str, bytes, bytearray, set, frozenset, Mapping)) or not hasattr(values, "__iter__"):
+        raise BadArgument(f"values: {shown(values)} is no sequence of values")
+    listed = [_native(value) for value in _native(values)]  # type: ignore[attr-defined]
+    for place, value in enumerate(listed):
+        if not isinstance(value, int) or value not in (0, 1):
+            raise BadShape(f"values: {shown(value)} at the point {place}: a value is 0 or 1, or a bool")
+    inputs = len(listed).bit_length() - 1
+    if not 1 <= inputs <= MOST or len(listed) != 1 << inputs:
+        raise BadShape(f"values: {len(listed)} values: a table of n variables has 2^n, and n is 1 to {MOST}")
+    return TruthTable(int("".join("1" if value else "0" for value in reversed(listed)), 2), inputs)
+
+
+def _native(it: object) -> object:
+    """What an array or an item of one is without its package."""
+    return it.tolist() if hasattr(it, "tolist") else it
+
+
+def _bytes_of(table: object) -> Optional[bytes]:
+    """What an object's buffer holds; None if it has none that is an array."""
+    try:
+        view = memoryview(table)  # type: ignore[arg-type]
+    except (TypeError, ValueError, BufferError):
+        return None
+    if view.ndim == 0:
+        return None
+    if view.ndim > 1 or view.format not in ("B", "c", "<B", "=B", "@B"):
+        raise BadShape(
+            f"tables: an array of {view.ndim} dimensions with items of format {view.format!r} is no table: give its bytes, lowest "
+            f"point first, or from_values of its values; {SEVERAL}")
+    return view.tobytes()
 
 
 def _values_of(function: Callable[..., object], inputs: int) -> int:
@@ -27,31 +106,52 @@ def _values_of(function: Callable[..., object], inputs: int) -> int:
 
 def _number_of(table: Table, inputs: int) -> int:
     points = 1 << inputs
-    if isinstance(table, BYTES):
-        data = bytes(table)
+    if isinstance(table, TruthTable) and table.inputs != inputs:
+        raise BadShape(f"tables: a table of {table.inputs} variables where there are {inputs}")
+    data = _bytes_of(table)
+    if data is not None:
         length = max(1, points // 8)
         if len(data) != length:
-            raise BadShape(f"a table of {len(data)} bytes: one of {inputs} variables has {length}")
+            raise BadShape(f"tables: a table of {len(data)} bytes: one of {inputs} variables has {length}; {SEVERAL}")
         number = int.from_bytes(data, "little")
     elif callable(table):
         return _values_of(table, inputs)
+    elif isinstance(_native(table), bool) or not hasattr(table, "__index__"):
+        raise BadArgument(f"tables: {shown(table)} is no table: {SEVERAL}")
     else:
-        number = index(table)
+        number = whole(table, "tables")
     if number < 0 or number >> points:
-        raise BadShape(f"a table with values outside the {points} points of {inputs} variables")
+        raise BadShape(f"tables: a table with values outside the {points} points of {inputs} variables")
     return number
+
+
+def _is_value(it: object) -> bool:
+    """Whether an entry may be meant as one value of a table."""
+    value = _native(it)
+    return isinstance(value, int) and not isinstance(value, TruthTable) and value in (0, 1)
 
 
 def listed(tables: Tables) -> List[Table]:
     """The tables, one by one."""
-    if isinstance(tables, BYTES) or callable(tables) or hasattr(tables, "__index__"):
-        tables = [tables]
+    if _bytes_of(tables) is not None or callable(tables) or hasattr(tables, "__index__"):
+        return [tables]  # type: ignore[list-item]
+    if isinstance(tables, str) or not isinstance(tables, Sequence):
+        raise BadArgument(f"tables: {shown(tables)} is no table and no sequence of tables: {SEVERAL}")
+    if len(tables) > MOST and all(map(_is_value, tables)):
+        raise BadShape(f"tables: {len(tables)} entries that are all 0 or 1: {SEVERAL}")
     if not 1 <= len(tables) <= MOST:
-        raise BadShape(f"{len(tables)} tables: there are 1 to {MOST}")
+        raise BadShape(f"tables: {len(tables)} tables: there are 1 to {MOST}; {SEVERAL}")
     return list(tables)
+
+
+def inputs_said(tables: Sequence[Table]) -> Optional[int]:
+    """The number of variables that the first table says; None if it says none."""
+    return tables[0].inputs if isinstance(tables[0], TruthTable) else None
 
 
 def words_of(tables: Sequence[Table], inputs: int) -> bytes:
     """The tables one after the other, each in whole words of eight bytes, lowest first."""
+    if len(tables) == 1 << inputs and all(map(_is_value, tables)):
+        raise BadShape(f"tables: {len(tables)} entries that are all 0 or 1, as many as {inputs} variables have points: {SEVERAL}")
     length = max(8, (1 << inputs) // 8)
     return b"".join(_number_of(table, inputs).to_bytes(length, "little") for table in tables)

@@ -4,6 +4,7 @@
 
 MINORDER_PROGRAM is the program that the reports come from, ./minorder at the top of the repository if it isn't set.
 """
+import array
 import os
 import random
 import subprocess
@@ -17,10 +18,20 @@ TOP = os.path.dirname(os.path.dirname(os.path.dirname(HERE)))
 sys.path.insert(0, os.path.dirname(HERE))
 
 import minorder  # noqa: E402
-from minorder import _calls  # noqa: E402
+from minorder import _calls, _library  # noqa: E402
+from minorder.files import parts_of  # noqa: E402
 
 PROGRAM = os.environ.get("MINORDER_PROGRAM", f"{TOP}/minorder")
 COUNT = int(os.environ.get("MINORDER_COUNT", "200"))
+
+
+def load_tests(loader, tests, pattern):
+    """Without the library no test is begun."""
+    try:
+        _library.library()
+    except minorder.NoLibrary as error:
+        sys.exit(f"{os.path.basename(__file__)}: {error}")
+    return tests
 
 
 def multiplexer(a, b, s):
@@ -52,7 +63,8 @@ def widths(tables, order):
 
 
 def random_tables(source, inputs, outputs):
-    return [source.getrandbits(1 << inputs) & source.getrandbits(1 << inputs) for _ in range(outputs)]
+    numbers = [source.getrandbits(1 << inputs) & source.getrandbits(1 << inputs) for _ in range(outputs)]
+    return [minorder.TruthTable(number, inputs) for number in numbers]
 
 
 def pla(inputs, tables):
@@ -76,7 +88,7 @@ class Folder(unittest.TestCase):
         with open(f"{self.path}.pla", "w") as file:
             file.write(pla(inputs, tables))
         found = subprocess.run([PROGRAM, *words, f"{self.path}.pla"], stdout=subprocess.PIPE, text=True, check=True).stdout
-        return dict(line.split(": ") for line in found.splitlines())
+        return parts_of(found)
 
 
 class WorkedCases(Folder):
@@ -87,8 +99,25 @@ class WorkedCases(Folder):
 
     def test_a_table_in_each_form(self):
         number = 0b11001010
-        for table in (number, number.to_bytes(1, "little"), bytearray([number]), memoryview(bytes([number])), multiplexer, [number], (multiplexer,)):
+        values = minorder.from_values([0, 1, 0, 1, 0, 0, 1, 1])
+        arrays = [bytes([number]), bytearray([number]), memoryview(bytes([number])), array.array("B", [number])]
+        for table in (number, *arrays, multiplexer, values, [number], (multiplexer,), [values]):
             self.assertEqual(minorder.exact(table, 3).total, 3)
+        self.assertEqual(minorder.exact(values), minorder.exact(number, 3))
+        self.assertEqual(minorder.exact([values, values]).total, 3)
+
+    def test_values_are_told_from_tables(self):
+        self.assertEqual(minorder.exact(minorder.from_values([0, 1, 1, 0, 1, 0, 0, 1])).total, 5)
+        self.assertEqual(minorder.exact([0, 1, 6], 2).total, minorder.exact([1, 6], 2).total)
+        # tables of from_values may be as many as there are points, and each of no or one point
+        self.assertEqual(minorder.exact([minorder.TruthTable(it, 1) for it in (0, 1)]).total, 1)
+
+    def test_a_file(self):
+        tables, inputs, outputs = minorder.read_pla(f"{TOP}/examples/mux2.pla")
+        found = minorder.exact(tables)
+        self.assertEqual([inputs[x] for x in found.order], ["s", "a", "b"])
+        with open(f"{TOP}/examples/mux2.cert") as file:
+            self.assertTrue(minorder.check(tables, file.read()))
 
     def test_products(self):
         self.assertEqual(minorder.exact(products, inputs=6), ((0, 3, 1, 4, 2, 5), (1,) * 6, 6))
@@ -123,41 +152,76 @@ class WorkedCases(Folder):
 
 
 class Refusals(unittest.TestCase):
-    def refused(self, error, call, *arguments, **named):
+    def refused(self, error, named, call, *arguments, **words):
+        """A call is refused, and the message begins with the argument's name."""
         with self.assertRaises(error) as caught:
-            call(*arguments, **named)
+            call(*arguments, **words)
         self.assertIsInstance(caught.exception, minorder.MinorderError)
-        self.assertTrue(str(caught.exception))
+        self.assertTrue(str(caught.exception).startswith(f"{named}: "), caught.exception)
+        return caught.exception
 
     def test_shapes(self):
-        for tables, inputs in ((0, 0), (0, 17), (0, -1), ([], 3), ([0] * 17, 3), (256, 3), (-1, 3), (b"", 3), (bytes(2), 3), (b"\x10", 2), ([1, 1 << 8], 3)):
-            self.refused(minorder.BadShape, minorder.exact, tables, inputs)
-        self.refused(minorder.BadShape, minorder.levels, 0, [])
-        self.refused(minorder.BadShape, minorder.sift, 0, range(17))
-        self.refused(minorder.BadShape, minorder.check, 0, "", inputs=17)
+        for tables, inputs in (([], 3), ([2] * 17, 3), (256, 3), (-1, 3), (b"", 3), (bytes(2), 3), (b"\x10", 2), ([1, 1 << 8], 3)):
+            self.refused(minorder.BadShape, "tables", minorder.exact, tables, inputs)
+        for inputs in (0, 17, -1, 10 ** 12, 10 ** 5000):
+            self.refused(minorder.BadShape, "inputs", minorder.exact, 0, inputs)
+        self.refused(minorder.BadShape, "order", minorder.levels, 0, [])
+        self.refused(minorder.BadShape, "order", minorder.sift, 0, range(17))
+        self.refused(minorder.BadShape, "inputs", minorder.check, 0, "", inputs=17)
+
+    def test_values_are_no_tables(self):
+        values = [0, 1, 1, 0, 1, 0, 0, 1]
+        for tables, inputs in ((values, 3), (tuple(values), 3), (list(map(bool, values)), 3), ([0, 1, 1, 0], 2), ([0, 1], 1), (values * 4, 5)):
+            said = self.refused(minorder.BadShape, "tables", minorder.exact, tables, inputs)
+            self.assertIn("from_values", str(said))
+        for tables in ([True], [False, True, True], True, {0, 1}, frozenset([3]), {3: 1}, iter([3]), "1", 1.5, None, ["1"], [[1]]):
+            said = self.refused(minorder.BadArgument, "tables", minorder.exact, tables, 3)
+            self.assertIn("from_values", str(said))
+        for tables in (array.array("Q", [1]), memoryview(bytes(64)).cast("B", (8, 8)), array.array("i", values), [array.array("Q", [1])]):
+            self.refused(minorder.BadShape, "tables", minorder.exact, tables, 6)
+
+    def test_tables_of_other_inputs(self):
+        table = minorder.from_values([0, 1, 1, 0])
+        self.refused(minorder.BadShape, "tables", minorder.exact, table, 3)
+        self.refused(minorder.BadShape, "tables", minorder.levels, [table], [0, 1, 2])
+        self.refused(minorder.BadShape, "tables", minorder.exact, [table, minorder.from_values([0, 1])])
+        self.refused(minorder.BadArgument, "inputs", minorder.exact, 6)
 
     def test_orders(self):
         for order in ([0, 1, 1], [0, 1, 3], [-1, 0, 1], [0, 1, 256]):
-            self.refused(minorder.BadOrder, minorder.levels, 1, order)
-            self.refused(minorder.BadOrder, minorder.sift, 1, order)
+            self.refused(minorder.BadOrder, "order", minorder.levels, 1, order)
+            self.refused(minorder.BadOrder, "order", minorder.sift, 1, order)
+        for order in ("012", b"012", {0, 1, 2}, {0: 1}, 3, None, ["0"], [0, 1.5], [False, True]):
+            self.refused(minorder.BadArgument, "order", minorder.levels, 1, order)
 
     def test_pairs(self):
-        for pairs in ([(0, 0)], [(0, 1), (1, 0)], [(0, 3)], [(-1, 0)], [(256, 0)]):
-            self.refused(minorder.BadPairs, minorder.exact, 1, 3, above=pairs)
+        for pairs in ([(0, 0)], [(0, 1), (1, 0)], [(0, 3)], [(-1, 0)], [(256, 0)], [(0, 1, 2)], [()]):
+            self.refused(minorder.BadPairs, "above", minorder.exact, 1, 3, above=pairs)
+        for pairs in ("01", "0,1", ["01"], [0, 1], [{0, 1}], {0: 1}, 1, None, [("0", "1")], [(0, True)]):
+            self.refused(minorder.BadArgument, "above", minorder.exact, 1, 3, above=pairs)
 
     def test_certificates(self):
-        for text in ("", "certificate", b"\xff", "bddorder-certificate 1\ninputs 3\n"):
-            self.refused(minorder.BadCertificate, minorder.check, 1, text)
-            self.refused(minorder.BadCertificate, minorder.check, 1, text, inputs=3)
+        faults = (
+            ("", 1, "MissingLine"), ("certificate", 1, "MissingLine"), (b"\xff\n", 1, "BadLine"), ("x" * (1 << 20 | 1), None, "TooLong"),
+            ("bddorder-certificate 1\ninputs 3\n", 3, "MissingLine"), ("bddorder-certificate 1\ninputs 03\n", 2, "BadNumber"))
+        for text, line, kind in faults:
+            for inputs in (3, None):
+                said = self.refused(minorder.BadCertificate, "certificate", minorder.check, 1, text, inputs=inputs)
+                self.assertEqual((said.line, said.kind), (line, kind))
+        for text in (10 ** 12, None, 1.5, ["end"]):
+            self.refused(minorder.BadArgument, "certificate", minorder.check, 1, text, 3)
 
     def test_what_the_library_refuses(self):
-        for status, error in ((2, minorder.BadShape), (3, minorder.BadCertificate), (5, minorder.BadOrder), (6, minorder.MinorderError), (8, minorder.BadPairs), (99, minorder.MinorderError)):
-            self.refused(error, _calls._done, status)
+        refusals = ((2, minorder.BadShape), (3, minorder.MinorderError), (5, minorder.BadOrder), (8, minorder.BadPairs), (99, minorder.MinorderError))
+        for status, error in refusals:
+            with self.assertRaises(error):
+                _calls._done(status)
         with self.assertRaises(MemoryError):
             _calls._done(4)
 
     def test_types(self):
-        for call in (lambda: minorder.exact("1", 3), lambda: minorder.exact(1.5, 3), lambda: minorder.exact(1, "3"), lambda: minorder.levels(1, ["0"]), lambda: minorder.exact(1, 3, [0, 1])):
+        for call in (lambda: minorder.exact(1.5, 3), lambda: minorder.exact(1, "3"), lambda: minorder.exact(1, 3.0), lambda: minorder.exact(1, True)):
+            self.assertRaises(minorder.BadArgument, call)
             self.assertRaises(TypeError, call)
 
     def test_a_function_that_fails(self):

@@ -1,0 +1,117 @@
+"""The reader of PLA files and the faults of certificates beside sweeps/plain.py, reports, and values; none of it calls the library.
+
+    python3 -m unittest discover -s bindings/python/tests -p test_files.py
+"""
+import array
+import copy
+import os
+import pickle
+import random
+import sys
+import tempfile
+import unittest
+
+HERE = os.path.dirname(os.path.abspath(__file__))
+TOP = os.path.dirname(os.path.dirname(os.path.dirname(HERE)))
+sys.path[:0] = [os.path.dirname(HERE), f"{TOP}/sweeps"]
+
+import plain  # noqa: E402
+import random_files  # noqa: E402
+
+import minorder  # noqa: E402
+from minorder import _certificates, files  # noqa: E402
+
+
+def answer(fault, work):
+    """What a piece of work gives, or its fault's text."""
+    try:
+        return work()
+    except fault as error:
+        return str(error).replace("certificate: ", "certificate ")
+
+
+class Pla(unittest.TestCase):
+    def test_multiplexer(self):
+        path = f"{TOP}/examples/mux2.pla"
+        tables, inputs, outputs = minorder.read_pla(path)
+        self.assertEqual((inputs, outputs), (("a", "b", "s"), ("f",)))
+        self.assertEqual(tables, (0b11001010,))
+        self.assertEqual(tables[0].inputs, 3)
+        found = files.pla_of(b".i 2\n.o 2\n-1 1~\n11 01\n")
+        self.assertEqual(found, ((0b1100, 0b1000), ("x0", "x1"), ("f0", "f1")))
+
+    def test_what_is_refused(self):
+        with tempfile.TemporaryDirectory() as folder:
+            path = f"{folder}/it.pla"
+            with open(path, "w") as file:
+                file.write(".i 2\n.o 1\n11 -\n")
+            with self.assertRaises(minorder.BadPla) as caught:
+                minorder.read_pla(path)
+            self.assertEqual((caught.exception.line, caught.exception.kind), (3, "DontCare"))
+            self.assertEqual(str(caught.exception), f"{path}: line 3: DontCare")
+            self.assertRaises(FileNotFoundError, minorder.read_pla, f"{folder}/none.pla")
+        self.assertRaises(minorder.BadArgument, minorder.read_pla, None)
+        with self.assertRaises(minorder.BadPla) as caught:
+            files.pla_of(b"#" * (files.LIMIT + 1))
+        self.assertEqual((caught.exception.line, caught.exception.kind), (None, "TooLong"))
+        self.assertEqual(str(pickle.loads(pickle.dumps(caught.exception))), "TooLong")
+
+    def test_wide_products(self):
+        rows = ["-" * 16 + " 01", "1" + "-" * 15 + " 10", "-" * 15 + "1 10", "0" * 16 + " 11", "2" * 9 + "1010101 10"]
+        (first, second), _, _ = files.pla_of(("\n".join([".i 16", ".o 2", *rows]) + "\n").encode())
+        wanted = sum(1 << p for p in range(1 << 16) if p & 1 or p >> 15 or not p or p >> 9 == 0b1010101)
+        self.assertEqual((first, second), (wanted, (1 << (1 << 16)) - 1))
+
+    def test_random_files_and_certificates(self):
+        source = random_files.Files(random.Random(5))
+        for _ in range(1000):
+            content = source.pla()
+            if source.chance(0.5):
+                content = source.damaged(content)
+            try:
+                wanted = plain.cover_of(content)
+            except NotImplementedError:
+                continue
+            except plain.Fault as fault:
+                self.assertEqual(answer(minorder.BadPla, lambda: files.pla_of(content)), fault.text)
+                continue
+            found = files.pla_of(content)
+            self.assertEqual((list(found.inputs), list(found.tables)), (wanted.names, wanted.tables))
+            if wanted.inputs < 6:
+                text = source.edited(source.made(wanted, plain.Functions(wanted)))
+                said = answer(plain.Fault, lambda: plain.certificate_of(text))
+                told = answer(minorder.BadCertificate, lambda: _certificates.check_text(text))
+                self.assertEqual(told, said if isinstance(said, str) else None)
+
+
+class Reports(unittest.TestCase):
+    def test_parts(self):
+        with open(f"{TOP}/examples/mux2.report") as file:
+            found = files.parts_of(file.read())
+        self.assertEqual((found["order"], found["nodes"], found["file order nodes"]), ("2 0 1", "3", "5"))
+        self.assertEqual(len(found), 7)
+
+
+class Values(unittest.TestCase):
+    def test_parity(self):
+        parity = minorder.from_values([0, 1, 1, 0, 1, 0, 0, 1])
+        self.assertEqual((parity, parity.inputs, repr(parity)), (0x96, 3, "TruthTable(0x96, inputs=3)"))
+        bools = [False, True, True, False, True, False, False, True]
+        for values in (bools, tuple(bools), iter(bools), array.array("b", bools), memoryview(bytes(bools)), (it for it in bools)):
+            self.assertEqual(minorder.from_values(values), parity)
+        for again in (copy.deepcopy(parity), pickle.loads(pickle.dumps(parity))):
+            self.assertEqual((again, again.inputs), (0x96, 3))
+
+    def test_what_is_refused(self):
+        for values in ([], [1], [0, 1, 1], [0, 2], [0, "1"], [0.5, 1], [[0, 1], [1, 0]], [0] * (1 << 17)):
+            self.assertRaises(minorder.BadShape, minorder.from_values, values)
+        for values in ("0110", b"\0\1", {0, 1}, {0: 1, 1: 0}, 5, None):
+            with self.assertRaises(minorder.BadArgument) as caught:
+                minorder.from_values(values)
+            self.assertTrue(str(caught.exception).startswith("values: "))
+        for number, inputs, error in ((16, 2, minorder.BadShape), (-1, 2, minorder.BadShape), (1, 0, minorder.BadShape), (1, "2", minorder.BadArgument)):
+            self.assertRaises(error, minorder.TruthTable, number, inputs)
+
+
+if __name__ == "__main__":
+    unittest.main()
