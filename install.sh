@@ -87,7 +87,7 @@ tree() {
     package_file
     manual
     documents
-    put 755 share/minorder "$top/draw/draw.py"
+    put 755 share/minorder "$top/draw/draw.py" "$top/check/check.py"
     put 644 share/minorder/python "$top/bindings/python/pyproject.toml"
     put 644 share/minorder/python/backend "$top"/bindings/python/backend/*.py
     put 644 share/minorder/python/minorder "$top"/bindings/python/minorder/{*.py,py.typed}
@@ -142,6 +142,9 @@ rename_all() {
 # What a list names, without what would lead out of the prefix.
 listed() { grep -Ev '^/|(^|/)\.\.(/|$)' "$root/$list" || true; }
 
+# Lets the loader see which libraries are in its own folders.
+tell_loader() { [ -n "${DESTDIR:-}" ] || [ "$(id -u)" != 0 ] || ldconfig 2> /dev/null || true; }
+
 install_tree() {
     read -ra compiler <<< "${CC:-cc}"
     made=$(mktemp -d)
@@ -173,8 +176,7 @@ install_tree() {
     for name in "${old[@]}"; do
         [[ $name == */ ]] || grep -qxF -- "$name" "$made/names" || rm -f -- "$root/$name"
     done
-    # lets the loader see the library in its own folders
-    [ -n "${DESTDIR:-}" ] || [ "$(id -u)" != 0 ] || ldconfig 2> /dev/null || true
+    tell_loader
     echo "installed in $root"
 }
 
@@ -194,6 +196,7 @@ uninstall() {
         name=$root/${name#./}
         [ ! -d "$name" ] || rmdir --ignore-fail-on-non-empty -- "${name%/}" || true
     done
+    tell_loader
     echo "taken away from $root"
 }
 

@@ -10,10 +10,16 @@ is_built() {
 }
 
 # build NAME      proves and builds a program or a library, by prove.py beside this file. The files are listed and the stamp is made
-# before, so that an edit during the build is built by the next call.
+# before, so that an edit during the build is built by the next call. Where nothing may be written, prove.py compares the sources with
+# those of what was built, and says so if they are others.
 build() {
     local out=crates/$1/out folders
-    cd "$top" && folders=$(build/prove.py --folders "$1") && mkdir -p "$out" && touch "$out/stamp.$$" || return
+    cd "$top" || return
+    if ! mkdir -p "$out" 2> /dev/null || [ ! -w "$out" ]; then
+        build/prove.py "$1" >&2 < /dev/null
+        return
+    fi
+    folders=$(build/prove.py --folders "$1") && touch "$out/stamp.$$" || return
     # shellcheck disable=SC2086
     find crates.txt HANDLES $folders \( -name out -o -name must-fail \) -prune -o -print0 > "$out/files.$$" \
         && build/prove.py "$1" >&2 < /dev/null && mv "$out/files.$$" "$out/files" && mv "$out/stamp.$$" "$out/stamp" && return

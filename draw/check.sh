@@ -12,6 +12,10 @@ for file in "$here"/../examples/*.pla; do
     ! sed 's/^levels: ./levels: 9/; s/^nodes: .*/nodes: 9/' "$made/report" | "$here/draw.py" "$file" > "$made/wrong" 2>&1 ||
         { echo "draw.py takes a wrong report of $file" >&2; exit 1; }
 done
+# what is too large is refused soon
+printf '.i 16\n.o 16\n' > "$made/large.pla"
+python3 -c 'import random; [print(f"{random.getrandbits(16):016b} {random.getrandbits(16):016b}") for _ in range(3000)]' >> "$made/large.pla"
+! "$here/draw.py" "$made/large.pla" < /dev/null > "$made/dot" 2> "$made/errors" && grep -q 'more than 1500 nodes' "$made/errors"
 echo "draw.py: the level counts of all examples are those of the reports"
 if command -v dot > /dev/null; then
     "$1" "$here/../examples/products3.pla" | "$here/draw.py" --both --svg "$made/it.svg" "$here/../examples/products3.pla"

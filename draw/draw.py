@@ -3,7 +3,7 @@
 
 ORDER is the variables, top first, by number or by name. Without it, it is that of a report of minorder on standard input, if one is
 piped there, else the file's own. A report's level counts are compared with the diagram's. --both draws the file's order and the other
-one side by side. --svg has Graphviz make a picture of it. A diagram of more than MOST nodes is refused, with status 2.
+one side by side. --svg has Graphviz make a picture of it. A diagram of more than 1,500 nodes is refused, with status 2.
 
 The diagram comes from the truth tables by the definitions: the nodes of a level are the distinct functions, got by fixing the
 variables above, that depend on the level's variable. Of minorder only the Python package's readers of files and reports take part.
@@ -21,8 +21,8 @@ sys.path[:0] = [f"{HERE}/python", f"{HERE}/../bindings/python"]
 sys.dont_write_bytecode = True
 from minorder.files import BadPla, parts_of, read_pla  # noqa: E402
 
-# Graphviz takes some seconds for so many, and minutes for a few times as many
-MOST = 1000
+# Graphviz takes 2 s of processor time for 1,200 nodes, 6 to 9 s for 2,300, and over two minutes for 10,000
+MOST = 1500
 LINE, MUTED = "#808080", "#7a7a7a"
 
 
@@ -69,7 +69,7 @@ class Diagram:
         if values not in known:
             self.size += 1
             if self.size > MOST:
-                fail(f"the diagram has more than {MOST} nodes, more than are drawn in a few seconds", 2)
+                fail(f"the diagram has more than {MOST} nodes, more than Graphviz draws in a few seconds", 2)
             name = f"{level}_{len(known)}"
             known[values] = None
             known[values] = (name, self.node(values[:half], level + 1), self.node(values[half:], level + 1))

@@ -5,52 +5,57 @@ from collections import Counter
 import matplotlib
 
 matplotlib.use("svg")
-matplotlib.rcParams.update({"svg.hashsalt": "minorder", "font.family": "DejaVu Sans", "font.size": 9, "axes.spines.top": False, "axes.spines.right": False, "axes.titlesize": 10, "axes.titleweight": "bold"})
+matplotlib.rcParams.update({
+    "svg.hashsalt": "minorder", "svg.fonttype": "none", "font.family": "DejaVu Sans", "font.size": 9,
+    "axes.spines.top": False, "axes.spines.right": False, "axes.titlesize": 10, "axes.titleweight": "bold"})
 from matplotlib import pyplot  # noqa: E402  the settings come first
 
 COLOURS = ["#1b6ca8", "#d1495b", "#2f9e44"]
 
 
-def save(figure, path):
+def save(figure, path, title):
     os.makedirs(os.path.dirname(path), exist_ok=True)
-    figure.savefig(path, metadata={"Date": None}, bbox_inches="tight", pad_inches=0.1)
+    figure.savefig(path, metadata={"Date": None, "Title": title}, bbox_inches="tight", pad_inches=0.1)
     pyplot.close(figure)
 
 
 def profiles(levels_by_order, path):
     """The level counts of hidden weighted bit under some orders."""
+    title = "Hidden weighted bit of 16 inputs: nodes on each level"
     figure, axes = pyplot.subplots(figsize=(7.2, 4.2))
     for colour, (name, levels) in zip(COLOURS, levels_by_order.items()):
         axes.plot(range(1, len(levels) + 1), levels, "o-", color=colour, markersize=4, label=f"{name}, {sum(levels)} nodes")
-    axes.set(title="Hidden weighted bit of 16 inputs: nodes on each level", xlabel="level, from the top", ylabel="nodes on the level", xticks=range(1, 17), ylim=(0, None))
+    axes.set(title=title, xlabel="level, from the top", ylabel="nodes on the level", xticks=range(1, 17), ylim=(0, None))
     axes.grid(axis="y", color="#dddddd")
     axes.legend(frameon=False)
-    save(figure, path)
+    save(figure, path, title)
 
 
 def growth(rows, path):
     """The optimum by the number of inputs, on a logarithmic scale."""
+    title = "The fewest nodes of any order, by the number of inputs"
     figure, axes = pyplot.subplots(figsize=(7.2, 4.2))
     for colour, (name, stem) in zip(COLOURS, (("multiplier, all bits", "mul"), ("hidden weighted bit", "hwb"), ("adder", "add"))):
         found = [row for row in rows if row["name"].startswith(stem) and row["name"][len(stem):].isdigit()]
         axes.semilogy([int(row["inputs"]) for row in found], [int(row["optimum"]) for row in found], "o-", color=colour, markersize=4, label=name)
-    axes.set(title="The fewest nodes of any order, by the number of inputs", xlabel="inputs", ylabel="fewest nodes, logarithmic scale", xticks=range(4, 17, 2))
+    axes.set(title=title, xlabel="inputs", ylabel="fewest nodes, logarithmic scale", xticks=range(4, 17, 2))
     axes.grid(axis="y", color="#dddddd")
     axes.legend(frameon=False)
-    save(figure, path)
+    save(figure, path, title)
 
 
 def misses(families, path):
     """How far sifting is from the optimum: a mark for each function, and the geometric mean of each family."""
+    title = "Nodes after one pass of sifting from the file's order, over the fewest nodes"
     figure, axes = pyplot.subplots(figsize=(7.2, 0.6 + 0.24 * len(families)))
     for i, (family, ratios, mean) in enumerate(families):
         axes.plot(ratios, [i] * len(ratios), "o", color=COLOURS[0], alpha=0.45, markersize=5, markeredgewidth=0, label="a function" if i == 0 else None)
         axes.plot([mean], [i], "|", color=COLOURS[1], markersize=13, markeredgewidth=2.5, label="geometric mean of the family" if i == 0 else None)
-    axes.set(title="Nodes after one pass of sifting from the file's order, over the fewest nodes", xlabel="sifted nodes / fewest nodes (1 is optimal)", yticks=range(len(families)), yticklabels=[family for family, _, _ in families], ylim=(len(families) - 0.4, -0.6))
+    axes.set(title=title, xlabel="sifted nodes / fewest nodes (1 is optimal)", yticks=range(len(families)), yticklabels=[family for family, _, _ in families], ylim=(len(families) - 0.4, -0.6))
     axes.grid(axis="x", color="#dddddd")
     axes.set_axisbelow(True)
     axes.legend(frameon=False, loc="lower right")
-    save(figure, path)
+    save(figure, path, title)
 
 
 def few(counts, path):
@@ -67,7 +72,7 @@ def few(counts, path):
     both[0].set_ylabel("functions, %")
     both[1].legend(frameon=False, loc="upper left")
     figure.tight_layout()
-    save(figure, path)
+    save(figure, path, "How many functions of four and five inputs have how many nodes, under three orders")
 
 
 def shares(pairs):
@@ -91,4 +96,4 @@ def performance(panels, path):
     both[0].set_ylabel("share of the functions, %")
     both[1].legend(frameon=False, loc="lower right")
     figure.tight_layout()
-    save(figure, path)
+    save(figure, path, "The share of functions within a ratio of the optimum, by method")
