@@ -1,11 +1,13 @@
 #!/usr/bin/env python3
-"""check.py FILE CERT      judges a certificate as ordercheck does, with the same lines and statuses, by the rule of USING.md, "The
-certificate's format", alone. It needs Python 3.9 and nothing else, and has no code of minorder, of ordercheck or of their toolchain.
+"""check.py FILE CERT      judges a certificate as ordercheck does, with the same lines and statuses, by the rule of
+USING.md, "The certificate's format", alone. It needs Python 3.9 and nothing else, and has no code of minorder, of
+ordercheck or of their toolchain.
 
-A function's truth table is a whole number: bit p is its value at the point p, and bit i of p that of variable i. A set of variables is a
-mask. The functions got by fixing all variables outside a set are kept as a list of numbers, one for each function and each assignment of
-the variables outside, and equal just where the functions are; so the width of x over S is how many of the numbers over S with x depend on
-x. The list over a set comes from that over the set without its largest variable: each number stands for a pair of the smaller set's.
+A function's truth table is a whole number: bit p is its value at the point p, and bit i of p that of variable i. A
+set of variables is a mask. The functions got by fixing all variables outside a set are kept as a list of numbers, one
+for each function and each assignment of the variables outside, and equal just where the functions are; so the width
+of x over S is how many of the numbers over S with x depend on x. The list over a set comes from that over the set
+without its largest variable: each number stands for a pair of the smaller set's.
 """
 import os
 import re
@@ -204,8 +206,8 @@ def levels_of(values, order):
 
 
 class Walk:
-    """Asks for the widths into the sets of `asked`, which gives for a set some of its variables and the least width that is enough.
-    `failed` are the edges whose width is less: the set without the variable, and the variable."""
+    """Asks for the widths into the sets of `asked`, which gives for a set some of its variables and the least width
+    that is enough. `failed` are the edges whose width is less: the set without the variable, and the variable."""
 
     def __init__(self, values, inputs, asked):
         self.inputs, self.asked, self.failed = inputs, asked, []
@@ -239,7 +241,8 @@ class Walk:
                 numbers = without_repeats(numbers[0::2] + numbers[1::2], 1 << self.inputs - 1 - x)
 
     def visit_distinct(self, mask, many, first):
-        """A set over which all functions differ and depend on all of it: so they do over each larger set, which has half as many."""
+        """A set over which all functions differ and depend on all of it: so they do over each larger set, which has
+        half as many."""
         self.judge(mask, lambda x: many)
         for x in self.steps(mask, first):
             self.visit_distinct(mask | 1 << x, many // 2, x + 1)

@@ -1,8 +1,9 @@
 #!/usr/bin/env python3
 """compare.py [--count COUNT] [--seed SEED] ORDERCHECK      compares check.py with a built ordercheck
 
-On the calls of ordercheck in crates/worked_cases/data, whose certificates lie there, and on COUNT certificates (1000 if it is left out) of
-small random files, each with a line edited or some bytes damaged: status and streams have to be the same, but for the program's name.
+On the calls of ordercheck in crates/worked_cases/data, whose certificates lie there, and on COUNT certificates (1000
+if it is left out) of small random files, each with a line edited or some bytes damaged: status and streams have to be
+the same, but for the program's name.
 """
 import argparse
 import collections

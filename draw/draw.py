@@ -1,12 +1,13 @@
 #!/usr/bin/env python3
 """draw.py [--svg OUT] [--both] FILE [ORDER..]     the reduced shared diagram of a PLA file's functions, as DOT
 
-ORDER is the variables, top first, by number or by name. Without it, it is that of a report of minorder on standard input, if one is
-piped there, else the file's own. A report's level counts are compared with the diagram's. --both draws the file's order and the other
-one side by side. --svg has Graphviz make a picture of it. A diagram of more than 1,500 nodes is refused, with status 2.
+ORDER is the variables, top first, by number or by name. Without it, it is that of a report of minorder on standard
+input, if one is piped there, else the file's own. A report's level counts are compared with the diagram's. --both draws
+the file's order and the other one side by side. --svg has Graphviz make a picture of it. A diagram of more than 1,500 nodes is refused, with status 2.
 
-The diagram comes from the truth tables by the definitions: the nodes of a level are the distinct functions, got by fixing the
-variables above, that depend on the level's variable. Of minorder only the Python package's readers of files and reports take part.
+The diagram comes from the truth tables by the definitions: the nodes of a level are the distinct functions, got by
+fixing the variables above, that depend on the level's variable. Of minorder only the Python package's readers of files
+and reports take part.
 """
 import os
 import signal
@@ -129,7 +130,8 @@ def dot(parts, title):
         '  node [shape=circle, width=0.36, fixedsize=true, fontsize=11, style=filled, fillcolor="#dbe9f6", color="#4a7ba6", '
         'fontcolor="#102030", fontname="Helvetica,Arial,sans-serif"];',
         f'  edge [color="{LINE}", arrowsize=0.4];']
-    return "\n".join([*head, *(text for part in parts for text in part), "}", ""]).replace("shape=plaintext,", "shape=plaintext, style=\"\", width=0.5,")
+    text = "\n".join([*head, *(text for part in parts for text in part), "}", ""])
+    return text.replace("shape=plaintext,", 'shape=plaintext, style="", width=0.5,')
 
 
 # ---- the words

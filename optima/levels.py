@@ -1,8 +1,9 @@
 #!/usr/bin/env python3
 """levels.py FILE ORDER..      the level counts and the size of a PLA file's functions under each ORDER, top first, by the library
 
-An ORDER is written as `2,0,1` or as "2 0 1"; one alone may also be the words `2 0 1`. The library is the one that the Python package finds:
-MINORDER_LIBRARY names its file. Status 2 if the words or the file are refused, 1 if there is no library.
+An ORDER is written as `2,0,1` or as "2 0 1"; one alone may also be the words `2 0 1`. The library is the one that the
+Python package finds: MINORDER_LIBRARY names its file. Status 2 if the words or the file are refused, 1 if there is no
+library.
 """
 import os
 import signal

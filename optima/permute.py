@@ -1,5 +1,7 @@
 #!/usr/bin/env python3
-"""permute.py ORDER < FILE      the PLA file with its inputs in another order, top first, as `2 0 1` or `2,0,1`: so `minorder --count` tells that order's size
+"""permute.py ORDER < FILE      the PLA file with its inputs in another order, top first, as `2 0 1` or `2,0,1`
+
+So `minorder --count` tells that order's size.
 
 A file that minorder refuses and an ORDER that hasn't each input of the file once are refused, with status 2."""
 import os

@@ -10,7 +10,8 @@ The functions of a diagram are given as ``tables``: one truth table or a sequenc
 * bytes: bit p % 8 of byte p // 8 is the value at the point p, as in ``integer.to_bytes(length, "little")``;
 * a function of ``inputs`` booleans, variable 0 first, which is called once for each point.
 
-``from_values`` makes a table of a list of values, and ``read_pla`` reads those of a PLA file; both know their number of variables:
+``from_values`` makes a table of a list of values, and ``read_pla`` reads those of a PLA file; both know their number
+of variables:
 
     >>> minorder.exact(minorder.from_values([0, 1, 1, 0, 1, 0, 0, 1])).total
     5
@@ -18,7 +19,8 @@ The functions of a diagram are given as ``tables``: one truth table or a sequenc
     >>> minorder.exact(tables).order
     (2, 0, 1)
 
-A list of values that isn't put into ``from_values`` is refused where it can be told from a list of tables: 2^n entries, each 0 or 1.
+A list of values that isn't put into ``from_values`` is refused where it can be told from a list of tables: 2^n
+entries, each 0 or 1.
 
 There are 1 to 16 variables and 1 to 16 tables. An order lists each variable once, top first. Level counts are numbers of decision
 nodes, top level first: one root a table, no complement edges, terminals not counted.

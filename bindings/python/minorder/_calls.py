@@ -26,8 +26,8 @@ class Result(NamedTuple):
 
 
 class Verdict(NamedTuple):
-    """Why a certificate isn't good: ``Valid`` if it is, else the word that ``ordercheck`` prints. ``mask`` and ``variable`` are those
-    of ``Edge``, else 0. A verdict counts as true if it is ``Valid``."""
+    """Why a certificate isn't good: ``Valid`` if it is, else the word that ``ordercheck`` prints. ``mask`` and
+    ``variable`` are those of ``Edge``, else 0. A verdict counts as true if it is ``Valid``."""
     reason: str
     mask: int
     variable: int
@@ -87,9 +87,9 @@ def _pairs_of(above: Iterable[Tuple[int, int]], inputs: int) -> "Array[Pair]":
 def exact(tables: Tables, inputs: Optional[int] = None, above: Iterable[Tuple[int, int]] = ()) -> Result:
     """The first order under which the tables' shared diagram has the fewest nodes.
 
-    The tables have ``inputs`` variables, which may be left out where they are those of ``from_values`` or ``read_pla``. ``above`` are
-    pairs of variables; then it is the first such among the orders that have the first variable of each pair above the second. Raises
-    BadArgument, BadShape, BadPairs, MemoryError.
+    The tables have ``inputs`` variables, which may be left out where they are those of ``from_values`` or
+    ``read_pla``. ``above`` are pairs of variables; then it is the first such among the orders that have the first
+    variable of each pair above the second. Raises BadArgument, BadShape, BadPairs, MemoryError.
     """
     each = listed(tables)
     if inputs is None and (inputs := inputs_said(each)) is None:
@@ -127,8 +127,9 @@ def sift(tables: Tables, order: Sequence[int]) -> Result:
 def check(tables: Tables, certificate: Union[str, bytes], inputs: Optional[int] = None) -> Verdict:
     """The verdict on a certificate of the tables, as ``minorder --cert`` writes them.
 
-    The tables have ``inputs`` variables; if that is left out, as many as they say themselves, else as many as the certificate says.
-    Raises BadArgument, BadShape, BadCertificate (with the text's first faulty line and what is wrong there), MemoryError.
+    The tables have ``inputs`` variables; if that is left out, as many as they say themselves, else as many as the
+    certificate says. Raises BadArgument, BadShape, BadCertificate (with the text's first faulty line and what is
+    wrong there), MemoryError.
     """
     if not isinstance(certificate, (str, bytes, bytearray, memoryview)):
         raise BadArgument(f"certificate: {shown(certificate)} is no text")

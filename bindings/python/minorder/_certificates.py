@@ -1,4 +1,5 @@
-"""The faults of a certificate's text: the library tells that there is one, this module which. The rules are those of docs/USING.md."""
+"""The faults of a certificate's text: the library tells that there is one, this module which. The rules are those of
+docs/USING.md."""
 import re
 from typing import List, NoReturn, Optional
 

@@ -3,8 +3,8 @@ from typing import Optional, Tuple
 
 
 class MinorderError(Exception):
-    """A call was refused; each other exception of this package is one of these, and its text names the argument. Where memory is out
-    it is a MemoryError instead, and a file that can't be read is an OSError."""
+    """A call was refused; each other exception of this package is one of these, and its text names the argument.
+    Where memory is out it is a MemoryError instead, and a file that can't be read is an OSError."""
 
 
 class NoLibrary(MinorderError, OSError):
@@ -28,8 +28,8 @@ class BadPairs(MinorderError, ValueError):
 
 
 class BadText(MinorderError, ValueError):
-    """A text isn't of its format: ``kind`` is the word that the programs print, ``line`` the number of the faulty line, None if the kind
-    has none, as ``TooLong``."""
+    """A text isn't of its format: ``kind`` is the word that the programs print, ``line`` the number of the faulty
+    line, None if the kind has none, as ``TooLong``."""
 
     def __init__(self, line: Optional[int], kind: str, named: str = "") -> None:
         self.line, self.kind, self.named = line, kind, named

@@ -11,8 +11,8 @@ Tables = Union[Table, Sequence[Table]]
 
 MOST = 16
 SEVERAL = (
-    "a sequence is several tables, and a table is an integer (bit p is the value at the point p), bytes (bit p % 8 of byte p // 8) "
-    "or a function of booleans; from_values(values) makes one table of a list of values")
+    "a sequence is several tables, and a table is an integer (bit p is the value at the point p), bytes (bit p % 8 of "
+    "byte p // 8) or a function of booleans; from_values(values) makes one table of a list of values")
 
 
 class TruthTable(int):
@@ -93,8 +93,8 @@ def _bytes_of(table: object) -> Optional[bytes]:
         return None
     if view.ndim > 1 or view.format not in ("B", "c", "<B", "=B", "@B"):
         raise BadShape(
-            f"tables: an array of {view.ndim} dimensions with items of format {view.format!r} is no table: give its bytes, lowest "
-            f"point first, or from_values of its values; {SEVERAL}")
+            f"tables: an array of {view.ndim} dimensions with items of format {view.format!r} is no table: give its bytes, "
+            f"lowest point first, or from_values of its values; {SEVERAL}")
     return view.tobytes()
 
 

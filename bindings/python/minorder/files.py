@@ -12,7 +12,8 @@ FEW = 5
 
 
 class Pla(NamedTuple):
-    """A PLA file: the truth tables of its outputs, and the names of its inputs and outputs, x0, x1, .. and f0, f1, .. if it has none."""
+    """A PLA file: the truth tables of its outputs, and the names of its inputs and outputs, x0, x1, .. and f0, f1, ..
+    if it has none."""
     tables: Tuple[TruthTable, ...]
     inputs: Tuple[str, ...]
     outputs: Tuple[str, ...]
@@ -34,8 +35,8 @@ class Cover(NamedTuple):
 
 
 def read_pla(path: str) -> Pla:
-    """The truth tables and the names of a PLA file of type f, which is refused where ``minorder`` refuses it, with the same line and
-    word. Raises BadPla, and OSError if the file can't be read."""
+    """The truth tables and the names of a PLA file of type f, which is refused where ``minorder`` refuses it, with
+    the same line and word. Raises BadPla, and OSError if the file can't be read."""
     try:
         file = open(path, "rb")
     except (TypeError, ValueError):

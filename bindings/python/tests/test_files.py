@@ -1,4 +1,5 @@
-"""The reader of PLA files and the faults of certificates beside sweeps/plain.py, reports, and values; none of it calls the library.
+"""The reader of PLA files and the faults of certificates beside sweeps/plain.py, reports, and values; none of it
+calls the library.
 
     python3 -m unittest discover -s bindings/python/tests -p test_files.py
 """
@@ -109,8 +110,9 @@ class Values(unittest.TestCase):
             with self.assertRaises(minorder.BadArgument) as caught:
                 minorder.from_values(values)
             self.assertTrue(str(caught.exception).startswith("values: "))
-        for number, inputs, error in ((16, 2, minorder.BadShape), (-1, 2, minorder.BadShape), (1, 0, minorder.BadShape), (1, "2", minorder.BadArgument)):
-            self.assertRaises(error, minorder.TruthTable, number, inputs)
+        for number, inputs in ((16, 2), (-1, 2), (1, 0)):
+            self.assertRaises(minorder.BadShape, minorder.TruthTable, number, inputs)
+        self.assertRaises(minorder.BadArgument, minorder.TruthTable, 1, "2")
 
 
 if __name__ == "__main__":

@@ -43,7 +43,8 @@ def products(*x):
 
 
 def widths(tables, order):
-    """Level counts by the definition: of the functions got by fixing the variables above a level, those that depend on the level's."""
+    """Level counts by the definition: of the functions got by fixing the variables above a level, those that depend on
+    the level's."""
     inputs = len(order)
 
     def below(table, level):
@@ -161,7 +162,8 @@ class Refusals(unittest.TestCase):
         return caught.exception
 
     def test_shapes(self):
-        for tables, inputs in (([], 3), ([2] * 17, 3), (256, 3), (-1, 3), (b"", 3), (bytes(2), 3), (b"\x10", 2), ([1, 1 << 8], 3)):
+        wrong = (([], 3), ([2] * 17, 3), (256, 3), (-1, 3), (b"", 3), (bytes(2), 3), (b"\x10", 2), ([1, 1 << 8], 3))
+        for tables, inputs in wrong:
             self.refused(minorder.BadShape, "tables", minorder.exact, tables, inputs)
         for inputs in (0, 17, -1, 10 ** 12, 10 ** 5000):
             self.refused(minorder.BadShape, "inputs", minorder.exact, 0, inputs)
@@ -171,13 +173,16 @@ class Refusals(unittest.TestCase):
 
     def test_values_are_no_tables(self):
         values = [0, 1, 1, 0, 1, 0, 0, 1]
-        for tables, inputs in ((values, 3), (tuple(values), 3), (list(map(bool, values)), 3), ([0, 1, 1, 0], 2), ([0, 1], 1), (values * 4, 5)):
+        several = (tuple(values), 3), (list(map(bool, values)), 3), ([0, 1, 1, 0], 2), ([0, 1], 1), (values * 4, 5)
+        for tables, inputs in ((values, 3), *several):
             said = self.refused(minorder.BadShape, "tables", minorder.exact, tables, inputs)
             self.assertIn("from_values", str(said))
-        for tables in ([True], [False, True, True], True, {0, 1}, frozenset([3]), {3: 1}, iter([3]), "1", 1.5, None, ["1"], [[1]]):
+        others = {0, 1}, frozenset([3]), {3: 1}, iter([3]), "1", 1.5, None, ["1"], [[1]]
+        for tables in ([True], [False, True, True], True, *others):
             said = self.refused(minorder.BadArgument, "tables", minorder.exact, tables, 3)
             self.assertIn("from_values", str(said))
-        for tables in (array.array("Q", [1]), memoryview(bytes(64)).cast("B", (8, 8)), array.array("i", values), [array.array("Q", [1])]):
+        words = array.array("Q", [1])
+        for tables in (words, [words], array.array("i", values), memoryview(bytes(64)).cast("B", (8, 8))):
             self.refused(minorder.BadShape, "tables", minorder.exact, tables, 6)
 
     def test_tables_of_other_inputs(self):
@@ -202,8 +207,10 @@ class Refusals(unittest.TestCase):
 
     def test_certificates(self):
         faults = (
-            ("", 1, "MissingLine"), ("certificate", 1, "MissingLine"), (b"\xff\n", 1, "BadLine"), ("x" * (1 << 20 | 1), None, "TooLong"),
-            ("bddorder-certificate 1\ninputs 3\n", 3, "MissingLine"), ("bddorder-certificate 1\ninputs 03\n", 2, "BadNumber"))
+            ("", 1, "MissingLine"), ("certificate", 1, "MissingLine"), (b"\xff\n", 1, "BadLine"),
+            ("x" * (1 << 20 | 1), None, "TooLong"),
+            ("bddorder-certificate 1\ninputs 3\n", 3, "MissingLine"),
+            ("bddorder-certificate 1\ninputs 03\n", 2, "BadNumber"))
         for text, line, kind in faults:
             for inputs in (3, None):
                 said = self.refused(minorder.BadCertificate, "certificate", minorder.check, 1, text, inputs=inputs)
@@ -212,7 +219,8 @@ class Refusals(unittest.TestCase):
             self.refused(minorder.BadArgument, "certificate", minorder.check, 1, text, 3)
 
     def test_what_the_library_refuses(self):
-        refusals = ((2, minorder.BadShape), (3, minorder.MinorderError), (5, minorder.BadOrder), (8, minorder.BadPairs), (99, minorder.MinorderError))
+        others = (3, minorder.MinorderError), (99, minorder.MinorderError)
+        refusals = ((2, minorder.BadShape), (5, minorder.BadOrder), (8, minorder.BadPairs), *others)
         for status, error in refusals:
             with self.assertRaises(error):
                 _calls._done(status)
@@ -220,9 +228,9 @@ class Refusals(unittest.TestCase):
             _calls._done(4)
 
     def test_types(self):
-        for call in (lambda: minorder.exact(1.5, 3), lambda: minorder.exact(1, "3"), lambda: minorder.exact(1, 3.0), lambda: minorder.exact(1, True)):
-            self.assertRaises(minorder.BadArgument, call)
-            self.assertRaises(TypeError, call)
+        for tables, inputs in ((1.5, 3), (1, "3"), (1, 3.0), (1, True)):
+            for error in (minorder.BadArgument, TypeError):
+                self.assertRaises(error, minorder.exact, tables, inputs)
 
     def test_a_function_that_fails(self):
         self.assertRaises(ZeroDivisionError, minorder.exact, lambda a: 1 // 0, 1)
@@ -254,7 +262,8 @@ class BesideTheProgram(Folder):
         for number in range(COUNT):
             inputs, outputs = source.randint(1, 8), source.randint(1, 4)
             tables = random_tables(source, inputs, outputs)
-            pairs = [tuple(sorted(source.sample(range(inputs), 2), reverse=True)) for _ in range(source.randint(0, 3) if inputs > 1 else 0)]
+            several = range(source.randint(0, 3) if inputs > 1 else 0)
+            pairs = [tuple(sorted(source.sample(range(inputs), 2), reverse=True)) for _ in several]
             words = ["--above", ":".join(f"{a},{b}" for a, b in pairs)] if pairs else []
             report = self.report(inputs, tables, "--cert", f"{self.path}.cert", *words)
             with self.subTest(number=number, inputs=inputs, tables=tables, pairs=pairs):
