@@ -3,7 +3,8 @@
 
 ORDER is the variables, top first, by number or by name. Without it, it is that of a report of minorder on standard
 input, if one is piped there, else the file's own. A report's level counts are compared with the diagram's. --both draws
-the file's order and the other one side by side. --svg has Graphviz make a picture of it. A diagram of more than 1,500 nodes is refused, with status 2.
+the file's order and the other one side by side. --svg has Graphviz make a picture of it. A diagram of more than 1,500
+nodes is refused, with status 2.
 
 The diagram comes from the truth tables by the definitions: the nodes of a level are the distinct functions, got by
 fixing the variables above, that depend on the level's variable. Of minorder only the Python package's readers of files

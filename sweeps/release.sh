@@ -46,7 +46,13 @@ python() {
     local script='import minorder; print(minorder.exact(lambda a, b, s: b if s else a, 3))'
     [ "$(PYTHONDONTWRITEBYTECODE=1 PYTHONPATH=$tree/share/minorder/python MINORDER_LIBRARY=$libraries/libminorder.so.1 python3 -c "$script")" = \
         "Result(order=(2, 0, 1), levels=(1, 1, 1), total=3)" ] || fail "Python prints something else"
-    echo "the shared library from Python: as it is to be"
+    local file
+    for file in "$tree"/share/doc/minorder/examples/*.cert; do
+        [ "$("$tree/share/minorder/check.py" "${file%.cert}.pla" "$file")" = "$(run ordercheck "${file%.cert}.pla" "$file")" ] ||
+            fail "$file: check.py has another verdict"
+        "$tree/share/minorder/draw.py" "${file%.cert}.pla" < "${file%.cert}.report" > "$made/dot" || fail "$file: it isn't drawn"
+    done
+    echo "the shared library from Python, check.py and draw.py: as they are to be"
 }
 
 # try_tree TREE FOLDER: a tree, and its folder of libraries

@@ -85,6 +85,8 @@ def _native(it: object) -> object:
 
 def _bytes_of(table: object) -> Optional[bytes]:
     """What an object's buffer holds; None if it has none that is an array."""
+    if isinstance(table, int):
+        return None
     try:
         view = memoryview(table)  # type: ignore[arg-type]
     except (TypeError, ValueError, BufferError):
