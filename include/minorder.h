@@ -26,7 +26,10 @@ extern "C" {
 /* The version of the library that this header belongs to. */
 #define MINORDER_VERSION "1.0.0"
 
-/* How a call ends. Where it isn't MINORDER_DONE the call has written nothing. */
+/* The version of the library that is called: 10000 for 1.0.0, 10203 for 1.2.3. */
+uint32_t minorder_version(void);
+
+/* How a call ends. Where it isn't MINORDER_DONE the call has written nothing, but for the length at MINORDER_SHORT_TEXT. */
 enum {
     MINORDER_DONE = 0,
     /* inputs or outputs isn't 1 to 16, or a length isn't what these ask for */
@@ -36,9 +39,25 @@ enum {
     MINORDER_OUT_OF_MEMORY = 4,
     /* the order hasn't each variable once */
     MINORDER_BAD_ORDER = 5,
+    /* the certificate is longer than its place */
+    MINORDER_SHORT_TEXT = 7,
     /* a pair has another variable, or the pairs lead from a variable back to itself */
     MINORDER_BAD_PAIRS = 8
 };
+
+/* The words of a status. */
+static inline const char *minorder_status_text(uint32_t status) {
+    switch (status) {
+    case MINORDER_DONE: return "done";
+    case MINORDER_BAD_SHAPE: return "the number of inputs or outputs isn't 1 to 16, or a length isn't what these ask for";
+    case MINORDER_BAD_CERTIFICATE: return "the text is no certificate";
+    case MINORDER_OUT_OF_MEMORY: return "out of memory";
+    case MINORDER_BAD_ORDER: return "the order hasn't each variable once";
+    case MINORDER_SHORT_TEXT: return "the certificate is longer than its place";
+    case MINORDER_BAD_PAIRS: return "a pair has another variable, or the pairs lead from a variable back to itself";
+    default: return "no status of this library";
+    }
+}
 
 /* How many words the truth table of a function takes; 0 above 16 inputs, of which there are no such functions. */
 static inline size_t minorder_words(uint32_t inputs) { return inputs < 6 ? 1 : inputs <= 16 ? (size_t)1 << (inputs - 6) : 0; }
@@ -54,6 +73,8 @@ uint32_t minorder_exact_with_lengths(const uint64_t *tables, size_t words, uint3
 uint32_t minorder_exact_above_with_lengths(const uint64_t *tables, size_t words, uint32_t inputs, uint32_t outputs,
                                            const minorder_pair *pairs, size_t count,
                                            uint8_t *order, size_t order_length, uint32_t *levels, size_t levels_length, uint32_t *total);
+uint32_t minorder_certify_with_pairs(const uint64_t *tables, size_t words, uint32_t inputs, uint32_t outputs,
+                                     const minorder_pair *pairs, size_t count, uint8_t *text, size_t room, size_t *length);
 uint32_t minorder_levels_with_lengths(const uint64_t *tables, size_t words, uint32_t inputs, uint32_t outputs,
                                       const uint8_t *order, size_t order_length, uint32_t *levels, size_t levels_length);
 uint32_t minorder_sift_with_lengths(const uint64_t *tables, size_t words, uint32_t inputs, uint32_t outputs,
@@ -78,6 +99,18 @@ static inline uint32_t minorder_exact_above(const uint64_t *tables, size_t words
     if (count == 0)
         pairs = &none;
     return minorder_exact_above_with_lengths(tables, words, inputs, outputs, pairs, count, order, places, levels, places, total);
+}
+
+/* Writes the text of the certificate of the first order of the fewest nodes among those that keep `count` pairs, and its length: what
+   `minorder --cert` writes, in format 2, which minorder_check accepts. `text` has `room` bytes; if the text is longer, only the
+   length is written and the call returns MINORDER_SHORT_TEXT. No terminating 0 is written. Without pairs `pairs` may be null, and
+   without room `text`. It takes as long as a run with --cert, longer than minorder_exact. */
+static inline uint32_t minorder_certify(const uint64_t *tables, size_t words, uint32_t inputs, uint32_t outputs,
+                                        const minorder_pair *pairs, size_t count, char *text, size_t room, size_t *length) {
+    const minorder_pair no_pair = {0, 0};
+    uint8_t no_text = 0;
+    return minorder_certify_with_pairs(tables, words, inputs, outputs, count == 0 ? &no_pair : pairs, count,
+                                       room == 0 ? &no_text : (uint8_t *)text, room, length);
 }
 
 /* Writes the level counts under an order. `order` and `levels` have `inputs` entries. */
@@ -107,6 +140,12 @@ enum {
     MINORDER_CELL_TOO_BIG = 7, /* a listed cost, with its reserve, is above the total */
     MINORDER_EDGE = 8          /* from the set `mask` by `variable` the value rises by more than the width */
 };
+
+/* The word of a reason, as ordercheck prints it. */
+static inline const char *minorder_reason_text(uint32_t reason) {
+    static const char *const words[] = {"Valid", "Shape", "Order", "Pairs", "Levels", "Total", "Start", "CellTooBig", "Edge"};
+    return reason <= MINORDER_EDGE ? words[reason] : "no reason of this library";
+}
 
 typedef struct {
     uint32_t reason;

@@ -16,7 +16,7 @@ if has man && has groff; then
     [ ! -s "$made/warnings" ]
     echo "man --warnings: nothing"
     # each call that the header has for callers
-    for name in $(grep -o 'minorder_[a-z_]*(' "$prefix/include/minorder.h" | tr -d '(' | grep -Ev '_with_lengths$|^minorder_places$' | sort -u); do
+    for name in $(grep -o 'minorder_[a-z_]*(' "$prefix/include/minorder.h" | tr -d '(' | grep -Ev '_with_(lengths|pairs)$|^minorder_places$' | sort -u); do
         man -M "$prefix/share/man" 3 "$name" > "$made/page" 2> /dev/null || { echo "man $name finds no page" >&2; exit 1; }
         grep -q "RETURN VALUE" "$made/page"
     done

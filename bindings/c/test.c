@@ -137,6 +137,41 @@ static void certificates(void) {
     EXPECT(verdict.reason == MINORDER_START);
 }
 
+/* a certificate is written as far as there is room, is judged to be valid, and keeps its pairs */
+static void written_certificates(void) {
+    uint64_t table = pairs_of_three();
+    const minorder_pair turned[] = {{3, 0}};
+    char text[4096];
+    size_t length = 0, needed = 0;
+    minorder_verdict verdict;
+    for (size_t count = 0; count < 2; count++) {
+        EXPECT(minorder_certify(&table, 1, 6, 1, turned, count, NULL, 0, &needed) == MINORDER_SHORT_TEXT);
+        EXPECT(0 < needed && needed < sizeof text);
+        memset(text, '?', sizeof text);
+        EXPECT(minorder_certify(&table, 1, 6, 1, turned, count, text, needed - 1, &length) == MINORDER_SHORT_TEXT);
+        EXPECT(length == needed && text[0] == '?');
+        EXPECT(minorder_certify(&table, 1, 6, 1, turned, count, text, needed, &length) == MINORDER_DONE);
+        EXPECT(length == needed && text[length] == '?' && memcmp(text, "bddorder-certificate 2\n", 23) == 0);
+        EXPECT(minorder_check(&table, 1, 6, 1, (const uint8_t *)text, length, &verdict) == MINORDER_DONE);
+        EXPECT(verdict.reason == MINORDER_VALID && strcmp(minorder_reason_text(verdict.reason), "Valid") == 0);
+    }
+    EXPECT(minorder_certify(&table, 1, 6, 1, NULL, 0, text, sizeof text, &length) == MINORDER_DONE && length < sizeof text);
+    const minorder_pair circle[] = {{1, 2}, {2, 1}};
+    length = 77;
+    EXPECT(minorder_certify(&table, 1, 6, 1, circle, 2, text, sizeof text, &length) == MINORDER_BAD_PAIRS && length == 77);
+    EXPECT(minorder_certify(&table, 1, 17, 1, NULL, 0, text, sizeof text, &length) == MINORDER_BAD_SHAPE && length == 77);
+    EXPECT(strcmp(minorder_status_text(MINORDER_SHORT_TEXT), "the certificate is longer than its place") == 0);
+    EXPECT(strcmp(minorder_status_text(6), "no status of this library") == 0);
+}
+
+/* the library that is called is of the header's version */
+static void versions(void) {
+    uint32_t number = minorder_version();
+    char text[32];
+    snprintf(text, sizeof text, "%u.%u.%u", number / 10000, number / 100 % 100, number % 100);
+    EXPECT(strcmp(text, MINORDER_VERSION) == 0);
+}
+
 /* ---- no pairs, by a null pointer */
 
 static void no_pairs(void) {
@@ -204,6 +239,11 @@ static uint32_t above_call(void) {
 static uint32_t levels_call(void) { return minorder_levels_with_lengths(refused_tables, 3, 4, 3, given_order, 4, answered_levels, 4); }
 static uint32_t sift_call(void) { return minorder_sift_with_lengths(refused_tables, 3, 4, 3, answered_order, 4, answered_levels, 4, &answered_total); }
 static uint32_t check_call(void) { return checked(good, &answered_verdict); }
+static uint32_t certify_call(void) {
+    char text[1024];
+    size_t length;
+    return minorder_certify(refused_tables, 3, 4, 3, NULL, 0, text, sizeof text, &length);
+}
 
 static void clear_answers(void) {
     memcpy(answered_order, given_order, sizeof given_order);
@@ -242,6 +282,7 @@ static void refusals(void) {
     refuse_each("minorder_levels", levels_call);
     refuse_each("minorder_sift", sift_call);
     refuse_each("minorder_check", check_call);
+    refuse_each("minorder_certify", certify_call);
 }
 
 /* ---- several threads, each with its own data */
@@ -312,6 +353,8 @@ int main(int count, char **words) {
         return report((unsigned)atoi(words[1]), (unsigned)atoi(words[2]));
     worked_cases();
     certificates();
+    written_certificates();
+    versions();
     no_pairs();
     bad_arguments();
     refusals();

@@ -28,7 +28,7 @@ nodes, top level first: one root a table, no complement edges, terminals not cou
 The calls are made by the shared library libminorder, without the interpreter's lock, so that threads run side by side. It is the
 file that the environment variable MINORDER_LIBRARY names, else one beside this module, else what the loader finds.
 """
-from ._calls import Result, Verdict, check, exact, levels, sift
+from ._calls import Result, Verdict, certify, check, exact, levels, sift
 from ._errors import BadArgument, BadCertificate, BadOrder, BadPairs, BadPla, BadShape, BadText, MinorderError, NoLibrary
 from ._tables import Table, Tables, TruthTable, from_values
 from .files import Pla, read_pla
@@ -36,5 +36,5 @@ from .files import Pla, read_pla
 __version__ = "1.0.0"
 __all__ = [
     "BadArgument", "BadCertificate", "BadOrder", "BadPairs", "BadPla", "BadShape", "BadText", "MinorderError", "NoLibrary", "Pla",
-    "Result", "Table", "Tables", "TruthTable", "Verdict", "check", "exact", "from_values", "levels", "read_pla", "sift",
+    "Result", "Table", "Tables", "TruthTable", "Verdict", "certify", "check", "exact", "from_values", "levels", "read_pla", "sift",
 ]

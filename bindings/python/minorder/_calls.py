@@ -1,5 +1,5 @@
 """The calls, each one call of the library."""
-from ctypes import Array, byref, c_uint8, c_uint32, c_uint64
+from ctypes import Array, byref, c_size_t, c_uint8, c_uint32, c_uint64
 from typing import Iterable, Mapping, NamedTuple, Optional, Sequence, Tuple, Type, Union
 
 from ._certificates import check_text, inputs_of
@@ -8,6 +8,7 @@ from ._library import Judged, Pair, library
 from ._tables import Table, Tables, checked_inputs, inputs_said, listed, shown, whole, words_of
 
 NO_CERTIFICATE = 3
+SHORT_TEXT = 7
 REFUSALS: Mapping[int, Tuple[Type[Exception], str]] = {
     2: (BadShape, "tables: a shape that the library refuses"),
     NO_CERTIFICATE: (MinorderError, "certificate: the library refuses the text"),
@@ -84,6 +85,14 @@ def _pairs_of(above: Iterable[Tuple[int, int]], inputs: int) -> "Array[Pair]":
     return (Pair * len(pairs))(*pairs)
 
 
+def _tables_and_inputs(tables: Tables, inputs: Optional[int]) -> Tuple[Sequence[Table], int]:
+    """The tables one by one, and the number of their variables, which they may say themselves."""
+    each = listed(tables)
+    if inputs is None and (inputs := inputs_said(each)) is None:
+        raise BadArgument("inputs: it is left out, and the tables don't say how many variables they have")
+    return each, checked_inputs(inputs)
+
+
 def exact(tables: Tables, inputs: Optional[int] = None, above: Iterable[Tuple[int, int]] = ()) -> Result:
     """The first order under which the tables' shared diagram has the fewest nodes.
 
@@ -91,10 +100,7 @@ def exact(tables: Tables, inputs: Optional[int] = None, above: Iterable[Tuple[in
     ``read_pla``. ``above`` are pairs of variables; then it is the first such among the orders that have the first
     variable of each pair above the second. Raises BadArgument, BadShape, BadPairs, MemoryError.
     """
-    each = listed(tables)
-    if inputs is None and (inputs := inputs_said(each)) is None:
-        raise BadArgument("inputs: it is left out, and the tables don't say how many variables they have")
-    inputs = checked_inputs(inputs)
+    each, inputs = _tables_and_inputs(tables, inputs)
     pairs = _pairs_of(above, inputs)
     order, levels, total = (c_uint8 * inputs)(), (c_uint32 * inputs)(), c_uint32()
     given, places = _given(each, inputs), (order, inputs, levels, inputs, byref(total))
@@ -103,6 +109,24 @@ def exact(tables: Tables, inputs: Optional[int] = None, above: Iterable[Tuple[in
     else:
         _done(library().minorder_exact_with_lengths(*given, *places))
     return Result(tuple(order), tuple(levels), total.value)
+
+
+def certify(tables: Tables, inputs: Optional[int] = None, above: Iterable[Tuple[int, int]] = ()) -> str:
+    """The text of the certificate of the first order of the fewest nodes, as ``minorder --cert`` writes it and ``check`` and
+    ``ordercheck`` accept it. The arguments are those of ``exact``, and so is what it raises; it takes longer.
+    """
+    each, inputs = _tables_and_inputs(tables, inputs)
+    pairs = _pairs_of(above, inputs)
+    given = *_given(each, inputs), pairs if len(pairs) else (Pair * 1)(), len(pairs)
+    # room for most certificates; where it isn't enough, the call says how long the text is
+    room, length = 1 << 16, c_size_t()
+    while True:
+        text = (c_uint8 * room)()
+        status = library().minorder_certify_with_pairs(*given, text, room, byref(length))
+        if status != SHORT_TEXT:
+            _done(status)
+            return bytes(text[:length.value]).decode("ascii")
+        room = length.value
 
 
 def levels(tables: Tables, order: Sequence[int]) -> Tuple[int, ...]:

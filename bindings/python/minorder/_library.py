@@ -27,6 +27,7 @@ TOTAL = [POINTER(c_uint32)]
 CALLS = {
     "minorder_exact_with_lengths": [*TABLES, *ORDER, *LEVELS, *TOTAL],
     "minorder_exact_above_with_lengths": [*TABLES, POINTER(Pair), c_size_t, *ORDER, *LEVELS, *TOTAL],
+    "minorder_certify_with_pairs": [*TABLES, POINTER(Pair), c_size_t, POINTER(c_uint8), c_size_t, POINTER(c_size_t)],
     "minorder_levels_with_lengths": [*TABLES, *ORDER, *LEVELS],
     "minorder_sift_with_lengths": [*TABLES, *ORDER, *LEVELS, *TOTAL],
     "minorder_check": [*TABLES, POINTER(c_uint8), c_size_t, POINTER(Judged)],
