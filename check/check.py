@@ -12,12 +12,17 @@ without its largest variable: each number stands for a pair of the smaller set's
 import os
 import re
 import sys
+from array import array
 from collections import Counter, defaultdict
 from itertools import chain, count
 
 PLA_LIMIT, CERTIFICATE_LIMIT, MOST = 16_777_216, 1_048_576, 999_999
 # rows of so many numbers or more are compared, so that equal ones are kept once
 ROW = 8
+# over up to so many variables a function's number is its truth table, kept as an item of an array of these codes
+WORDS, CODES = 6, "BBBBHIQ"
+# where variable i is 0 in such truth tables that stand side by side
+ZEROS = [b"\x55", b"\x33", b"\x0f", b"\xff\0", b"\xff\xff\0\0", b"\xff\xff\xff\xff\0\0\0\0"]
 
 
 class Fault(Exception):
@@ -192,6 +197,39 @@ def paired(numbers):
     return list(map(pairs.__getitem__, zip(numbers[0::2], numbers[1::2]))), pairs
 
 
+def joined(words, size):
+    """The same for truth tables over `size` variables: two that stand side by side are one over a variable more."""
+    if size >= 3:
+        return array(CODES[size + 1], words.tobytes())
+    low, high = (int.from_bytes(words[i::2].tobytes(), "little") for i in (0, 1))
+    return array(CODES[size + 1], (low | high << (1 << size)).to_bytes(len(words) // 2, "little"))
+
+
+def depends_of(words, size):
+    """On which of its variables each truth table depends, as a bit each: all are compared at once, as one long number."""
+    content, step, found = words.tobytes(), words.itemsize, 0
+    whole = int.from_bytes(content, "little")
+    for i in range(size):
+        zeros = int.from_bytes(ZEROS[i] * (len(content) // len(ZEROS[i])), "little")
+        differ = (whole >> (1 << i) ^ whole) & zeros
+        for shift in (32, 16, 8):
+            differ |= differ >> shift if shift < 8 * step else 0
+        lowest = differ.to_bytes(len(content), "little")[::step]
+        found |= int.from_bytes(lowest.translate(bytes([0] + [1 << i] * 255)), "little")
+    return found.to_bytes(len(words), "little")
+
+
+def without_repeats(numbers, width):
+    """The list with each row of this width once; a row is a function over the set and the variables that may join."""
+    if width < ROW:
+        return numbers
+    kind = tuple if isinstance(numbers, list) else bytes
+    rows = dict.fromkeys(kind(numbers[i:i + width]) for i in range(0, len(numbers), width))
+    if len(rows) * width == len(numbers):
+        return numbers
+    return list(chain.from_iterable(rows)) if kind is tuple else array(numbers.typecode, b"".join(rows))
+
+
 def levels_of(values, order):
     """The level counts under an order: from the bottom level up, how many distinct pairs of unequal numbers there are."""
     places = [0]
@@ -213,32 +251,55 @@ class Walk:
         self.inputs, self.asked, self.failed = inputs, asked, []
         # the sets from which larger variables lead to one that is asked for
         self.wanted = {mask & (2 << x) - 1 for mask in asked for x in range(inputs) if mask >> x & 1}
-        self.visit(0, [0, 0], list(chain.from_iterable(values)), 0)
+        self.visit_words(0, array("B", chain.from_iterable(values)), 0)
 
     def steps(self, mask, first):
         return [x for x in range(first, self.inputs) if mask | 1 << x in self.wanted]
 
-    def judge(self, mask, width_of):
-        self.failed += [(mask ^ 1 << x, x) for x, least in self.asked.get(mask, ()) if width_of(x) < least]
-
-    def visit(self, mask, depends, numbers, first):
-        """A set: the variables on which each number depends, the list over the set, and the smallest variable that may join."""
-        if mask in self.asked:
-            shares = Counter(depends)
-            self.judge(mask, lambda x: sum(many for it, many in shares.items() if it >> x & 1))
+    def lists(self, mask, numbers, first):
+        """Each variable that joins, with the list over the set in which its values stand in turns."""
         steps = self.steps(mask, first)
         for x in range(first, steps[-1] + 1 if steps else first):
             if x in steps:
-                larger, pairs = paired(numbers)
-                joined = mask | 1 << x
-                both = [depends[low] | depends[high] | (low != high) << x for low, high in pairs]
-                if len(both) == len(larger) and set(both) == {joined}:
-                    self.visit_distinct(joined, len(larger), x + 1)
-                else:
-                    del pairs
-                    self.visit(joined, both, larger, x + 1)
+                yield x, numbers
             if x < steps[-1]:
                 numbers = without_repeats(numbers[0::2] + numbers[1::2], 1 << self.inputs - 1 - x)
+
+    def judge(self, mask, width):
+        self.failed += [(mask ^ 1 << x, x) for x, least in self.asked.get(mask, ()) if width(x) < least]
+
+    def visit_words(self, mask, words, first):
+        """A set of at most six variables, whose numbers are truth tables, and the smallest variable that may join."""
+        members = [x for x in range(self.inputs) if mask >> x & 1]
+        size = len(members)
+        if mask in self.asked or size == WORDS:
+            distinct = array(words.typecode, set(words))
+            depends = depends_of(distinct, size)
+            if len(distinct) == len(words) and set(depends) == {(1 << size) - 1}:
+                self.visit_distinct(mask, len(words), first)
+                return
+            if size == WORDS:
+                sets = {it: sum(1 << x for i, x in enumerate(members) if it >> i & 1) for it in set(depends)}
+                numbers = {word: number for number, word in enumerate(distinct)}
+                self.visit(mask, [sets[it] for it in depends], [numbers[word] for word in words], first)
+                return
+            shares = Counter(depends)
+            self.judge(mask, lambda x: sum(many for it, many in shares.items() if it >> members.index(x) & 1))
+        for x, turns in self.lists(mask, words, first):
+            self.visit_words(mask | 1 << x, joined(turns, size), x + 1)
+
+    def visit(self, mask, depends, numbers, first):
+        """A set: the variables on which each number depends, and the list over the set."""
+        if mask in self.asked:
+            shares = Counter(depends)
+            self.judge(mask, lambda x: sum(many for it, many in shares.items() if it >> x & 1))
+        for x, turns in self.lists(mask, numbers, first):
+            larger, pairs = paired(turns)
+            both = [depends[low] | depends[high] | (low != high) << x for low, high in pairs]
+            if len(both) == len(larger) and set(both) == {mask | 1 << x}:
+                self.visit_distinct(mask | 1 << x, len(larger), x + 1)
+            else:
+                self.visit(mask | 1 << x, both, larger, x + 1)
 
     def visit_distinct(self, mask, many, first):
         """A set over which all functions differ and depend on all of it: so they do over each larger set, which has
@@ -246,14 +307,6 @@ class Walk:
         self.judge(mask, lambda x: many)
         for x in self.steps(mask, first):
             self.visit_distinct(mask | 1 << x, many // 2, x + 1)
-
-
-def without_repeats(numbers, width):
-    """The list with each row of this width once; a row is a function over the set and the variables that may join."""
-    if width < ROW:
-        return numbers
-    rows = dict.fromkeys(tuple(numbers[i:i + width]) for i in range(0, len(numbers), width))
-    return numbers if len(rows) * width == len(numbers) else list(chain.from_iterable(rows))
 
 
 # ---- the verdict
