@@ -1,11 +1,13 @@
 #!/usr/bin/env python3
 """prove.py NAME              proves the crates that a program or a static library needs, several at a time, and builds it
 prove.py --folders NAME     writes their folders
-prove.py --built NAME..     takes programs as they lie there, which `rt ci` has just proved and built"""
+prove.py --built NAME..     takes programs as they lie there, which `rt ci` has just proved and built, and builds static libraries over
+                            the libraries that it left"""
+import contextlib
+import csv
 import fcntl
 import hashlib
 import os
-import re
 import shutil
 import signal
 import subprocess
@@ -69,16 +71,10 @@ def sum_of_sources(crates):
 
 
 def seconds_of(crates):
-    """The processor seconds that each crate's proof is expected to take: those of docs/GATE.md, else by its lines."""
+    """The processor seconds that each crate's proof is expected to take: those of costs.csv beside this file, else by its lines."""
     known = {}
-    try:
-        with open(f"{TOP}/docs/GATE.md") as lines:
-            for line in lines:
-                row = re.match(r"\| (\w+) \| (\d+) \|", line)
-                if row:
-                    known[row[1]] = int(row[2])
-    except OSError:
-        pass
+    with contextlib.suppress(OSError), open(f"{TOP}/build/costs.csv", newline="") as table:
+        known = {row["crate"]: int(row["proof"]) for row in csv.DictReader(table)}
 
     def by_lines(crate):
         lines = 0
@@ -283,10 +279,14 @@ def is_library(name):
     return listed()[name].partition(":")[0].split() == [name, "staticlib"]
 
 
+def kit():
+    """The folder of the Rattle kit."""
+    return os.path.dirname(subprocess.run(["rt", "doc"], check=True, stdout=subprocess.PIPE, text=True).stdout.strip())
+
+
 def add_allocator(made):
     """Puts what the library calls of the kit, its allocator over malloc, into the archive."""
-    kit = os.path.dirname(subprocess.run(["rt", "doc"], check=True, stdout=subprocess.PIPE, text=True).stdout.strip())
-    script = f"open {made}\naddlib {kit}/c/liblibc_c.a\nsave\nend\n"
+    script = f"open {made}\naddlib {kit()}/c/liblibc_c.a\nsave\nend\n"
     subprocess.run(["ar", "-M"], check=True, input=script, text=True)
 
 
@@ -355,9 +355,33 @@ def main(name):
             sys.exit(f"{name}: it isn't built, and you may not build it here: {error}")
 
 
+def mark_libraries(crates):
+    """Has rt take the libraries that `rt ci` left in the crates' folders, all of which one run made of these sources, one over the other.
+    It leaves no stamp, which says that a library was made of these sources and of no others; the stamp is rt's own sum of them."""
+    sys.path.insert(0, f"{kit()}/bin")
+    import rtlib
+    for crate in rtlib.crates_below(TOP):
+        made = f"{crate.folder}/out/rlib"
+        if crate.name in crates and os.path.isdir(f"{made}/{crate.name}.rlib") and not os.path.exists(f"{made}/stamp"):
+            with open(f"{made}/stamp", "w") as it:
+                it.write(crate.stamp())
+
+
+def build_over_gate(name):
+    """Proves and builds a static library over the libraries that `rt ci` left; where these can't be taken rt proves them first."""
+    folder, made = made_of(name)
+    mark_libraries(needed(name, named())[:-1])
+    status, said, _ = called(f"{TOP}/crates/{name}", "lib", "--jobs", str(processors()))
+    if status:
+        sys.exit(said)
+    add_allocator(made)
+
+
 def take(names):
     for name in names:
-        if not os.access(made_of(name)[1], os.X_OK):
+        if is_library(name):
+            build_over_gate(name)
+        elif not os.access(made_of(name)[1], os.X_OK):
             sys.exit(f"{name}: it isn't built")
         with open(f"{made_of(name)[0]}/sources", "w") as it:
             it.write(sum_of_sources(needed(name, named())))

@@ -1,0 +1,154 @@
+#!/usr/bin/env python3
+"""gate_cost.py [WORD..]      runs `rt ci WORD..` in this checkout (with --anew it proves and tries all) and says what it took of processor time
+gate_cost.py --unit      takes the unit alone
+
+The unit is what one fixed proof takes on the same machine in the same hour with nothing beside it: that of the kit's example
+forms/compiler, from nothing, with one job. It is taken before the gate and after it. Figures in units can be compared
+between machines and hours; the seconds of build/costs.csv, which this writes, cannot.
+
+What a call of the prover has used is read from /proc twice a second, so a call's last half second is missing. The sum of all is the
+system's own count."""
+import csv
+import os
+import re
+import resource
+import shutil
+import subprocess
+import sys
+import tempfile
+import time
+
+TOP = os.path.dirname(os.path.dirname(os.path.abspath(__file__)))
+TICKS = os.sysconf("SC_CLK_TCK")
+KINDS = ("proof", "tests", "edits")
+
+
+def children_seconds():
+    """The processor seconds of all children that have ended."""
+    used = resource.getrusage(resource.RUSAGE_CHILDREN)
+    return used.ru_utime + used.ru_stime
+
+
+def unit():
+    """The processor seconds of the fixed proof."""
+    kit = os.path.dirname(subprocess.run(["rt", "doc"], check=True, capture_output=True, text=True).stdout.strip())
+    with tempfile.TemporaryDirectory(prefix="unit-") as room:
+        shutil.copytree(f"{kit}/rattle/examples/forms/compiler", f"{room}/crates/compiler", ignore=shutil.ignore_patterns("BUILD.bazel", "must-fail"))
+        for name, text in (("crates.txt", "compiler:\n"), ("HANDLES", "Handles allowed: none.\n")):
+            with open(f"{room}/{name}", "w") as it:
+                it.write(text)
+        before = children_seconds()
+        subprocess.run(["rt", "verdict", "--jobs", "1"], cwd=f"{room}/crates/compiler", check=True, stdout=subprocess.DEVNULL, stderr=subprocess.DEVNULL)
+        return children_seconds() - before
+
+
+def read(path):
+    try:
+        with open(path, "rb") as it:
+            return it.read().decode(errors="replace")
+    except OSError:
+        return ""
+
+
+def processes():
+    """The running processes: parent, start and processor seconds, by number."""
+    found = {}
+    for number in filter(str.isdigit, os.listdir("/proc")):
+        _, _, fields = read(f"/proc/{number}/stat").rpartition(") ")
+        fields = fields.split()
+        if len(fields) > 19:
+            found[number] = fields[1], fields[19], (int(fields[11]) + int(fields[12])) / TICKS
+    return found
+
+
+def is_below(number, top, running):
+    while number in running and number != top:
+        number = running[number][0]
+    return number == top
+
+
+def kind_of(words):
+    """What a call of the prover is for: its crate, and whether it is the crate's proof, that of its tests, or an edit."""
+    crate = re.search(r"--crate-name (\w+) ", words)
+    if not crate:
+        return None
+    is_edit = "/rt-edit" in words
+    return crate[1], "edits" if is_edit else "tests" if " --test " in words else "proof"
+
+
+class Meter:
+    """What each call of the prover below a process has used."""
+
+    def __init__(self, top):
+        self.top, self.calls = str(top), {}
+
+    def look(self):
+        running = processes()
+        for number, (_, start, seconds) in running.items():
+            call = number, start
+            if call not in self.calls:
+                if not is_below(number, self.top, running):
+                    continue
+                folder = os.path.realpath(f"/proc/{number}/cwd") if os.path.exists(f"/proc/{number}/cwd") else ""
+                words = read(f"/proc/{number}/cmdline").replace("\0", " ")
+                self.calls[call] = [kind_of(f"{folder} {words}"), 0]
+            self.calls[call][1] = seconds
+
+    def by_crate(self):
+        found = {}
+        for kind, seconds in self.calls.values():
+            if kind:
+                crate = found.setdefault(kind[0], dict.fromkeys(KINDS, 0))
+                crate[kind[1]] += seconds
+        return found
+
+
+def gate(words):
+    """Runs the gate. Returns its status, its time, its processor seconds and those of each crate."""
+    before, start = children_seconds(), time.monotonic()
+    with subprocess.Popen(["rt", "ci", *words], cwd=TOP, stdin=subprocess.DEVNULL) as ran:
+        meter = Meter(ran.pid)
+        while ran.poll() is None:
+            meter.look()
+            time.sleep(0.5)
+    return ran.returncode, time.monotonic() - start, children_seconds() - before, meter.by_crate()
+
+
+def edits_of(crate):
+    folder = f"{TOP}/crates/{crate}/must-fail"
+    return sum(it.endswith(".edit") for it in os.listdir(folder)) if os.path.isdir(folder) else 0
+
+
+def crates():
+    with open(f"{TOP}/crates.txt") as lines:
+        rows = [line.partition("#")[0].strip() for line in lines]
+    return [re.split(r"[ :]", row)[0] for row in rows if row]
+
+
+def write_costs(found):
+    with open(f"{TOP}/build/costs.csv", "w", newline="") as it:
+        table = csv.writer(it, lineterminator="\n")
+        table.writerow(["crate", "proof", "tests", "edits", "edits_tried"])
+        for crate in filter(found.get, crates()):
+            table.writerow([crate, *(round(found[crate][kind]) for kind in KINDS), edits_of(crate)])
+
+
+def main(words):
+    first = unit()
+    if words == ["--unit"]:
+        return print(f"one unit: {first:.1f} s of processor time")
+    status, passed, seconds, found = gate(words)
+    last = unit()
+    one = (first + last) / 2
+    write_costs(found)
+    sums = {kind: sum(it[kind] for it in found.values()) for kind in KINDS}
+    print(f"{round(passed)} s, {round(seconds)} of processor time: proofs {round(sums['proof'])}, tests {round(sums['tests'])}, edits {round(sums['edits'])}")
+    print(f"one unit: {first:.1f} s before, {last:.1f} s after")
+    print(f"the gate: {seconds / one:.0f} units")
+    return sys.exit(status)
+
+
+if __name__ == "__main__":
+    if {"-h", "--help"} & set(sys.argv):
+        sys.exit(__doc__)
+    main(sys.argv[1:])

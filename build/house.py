@@ -1,0 +1,127 @@
+#!/usr/bin/env python3
+"""house.py [-v]      counts what makes the crates hard to live in: long contracts, functions of many parameters, code that stands twice, proofs
+                beside code, long lines. The crates that hold tests alone are left out. With -v it names the places."""
+import os
+import re
+import sys
+
+TOP = os.path.dirname(os.path.dirname(os.path.abspath(__file__)))
+LONG_CONTRACT, MANY_PARAMETERS, WINDOW = 10, 7, 5
+COMMENT_COLUMNS, PYTHON_COLUMNS = 100, 130
+FUNCTION = re.compile(r"^\s*(pub(\([a-z]+\))? )?(const )?(unsafe )?(extern \"C\" )?fn (\w+)")
+
+
+def crates():
+    with open(f"{TOP}/crates.txt") as lines:
+        rows = [line.partition("#")[0].strip() for line in lines]
+    return [it for it in (re.split(r"[ :]", row)[0] for row in rows if row) if not it.endswith("_tests")]
+
+
+def files(folder, ending):
+    for at, folders, names in os.walk(folder):
+        folders[:] = sorted(it for it in folders if it not in ("out", ".git"))
+        yield from (f"{at}/{name}" for name in sorted(names) if name.endswith(ending))
+
+
+def lines_of(path):
+    with open(path, encoding="utf-8") as it:
+        return it.read().splitlines()
+
+
+def parameters(lines, at):
+    """How many parameters the function at a line has."""
+    text, depth, count = "", 0, 0
+    for line in lines[at:]:
+        text += line.split("//")[0] + " "
+        if text.count("(") and text.count("(") == text.count(")"):
+            break
+    inside = text[text.index("(") + 1:text.rindex(")")] if ")" in text else ""
+    for char in inside:
+        depth += char in "([<{"
+        depth -= char in ")]>}"
+        if depth < 0:
+            break
+        count += char == "," and depth == 0
+    return count + bool(inside.strip().rstrip(",").strip()) - inside.rstrip().endswith(",")
+
+
+def contract_lines(lines, at):
+    """How many lines its contract has, from the first clause to the body."""
+    first = None
+    for number in range(at, len(lines)):
+        line = lines[number].strip()
+        if number > at and FUNCTION.match(lines[number]):
+            return 0
+        if first is None and re.match(r"(requires|ensures)\b", line):
+            first = number
+        if line in ("{", "{}") or line.endswith(";") and first is None or line.endswith("{") and first is None and not re.search(r"(requires|ensures)", line):
+            return 0 if first is None else number - first
+    return 0
+
+
+def functions():
+    for crate in crates():
+        for path in files(f"{TOP}/crates/{crate}/src", ".rt"):
+            lines = lines_of(path)
+            for at, line in enumerate(lines):
+                found = FUNCTION.match(line)
+                if found:
+                    place = f"{os.path.relpath(path, TOP)}:{at + 1} {found[6]}"
+                    yield place, parameters(lines, at), contract_lines(lines, at)
+
+
+def code(path):
+    """The lines of code, with their numbers: no blank ones, comments, imports, closing brackets."""
+    for number, line in enumerate(lines_of(path), 1):
+        line = line.strip()
+        if line and not line.startswith(("//", "use ", "ghost use ", "pub use ", "mod ", "pub mod ", "#!")) and re.search(r"\w", line):
+            yield number, line
+
+
+def windows():
+    """The runs of five equal lines of code that stand in two crates."""
+    seen = {}
+    for crate in crates():
+        for path in files(f"{TOP}/crates/{crate}/src", ".rt"):
+            rows = list(code(path))
+            for at in range(len(rows) - WINDOW + 1):
+                text = tuple(line for _, line in rows[at:at + WINDOW])
+                seen.setdefault(text, []).append((crate, f"{os.path.relpath(path, TOP)}:{rows[at][0]}"))
+    return [" ~ ".join(place for _, place in places) for places in seen.values() if len({crate for crate, _ in places}) > 1]
+
+
+def wide_lines():
+    for crate in crates():
+        for path in files(f"{TOP}/crates/{crate}/src", ".rt"):
+            for number, line in enumerate(lines_of(path), 1):
+                if line.strip().startswith("//") and len(line) > COMMENT_COLUMNS:
+                    yield f"{os.path.relpath(path, TOP)}:{number}"
+    for path in files(TOP, ".py"):
+        for number, line in enumerate(lines_of(path), 1):
+            if len(line) > PYTHON_COLUMNS:
+                yield f"{os.path.relpath(path, TOP)}:{number}"
+
+
+def say(what, places, is_told):
+    print(f"{what}: {len(places)}")
+    if is_told:
+        print(*(f"    {it}" for it in places), sep="\n")
+
+
+def main(is_told):
+    all_functions = list(functions())
+    long = sorted((lines, place) for place, _, lines in all_functions if lines >= LONG_CONTRACT)
+    many = sorted((count, place) for place, count, _ in all_functions if count >= MANY_PARAMETERS)
+    say(f"contracts of {LONG_CONTRACT} lines or more, of {len(all_functions)} functions", [f"{lines} {place}" for lines, place in reversed(long)], is_told)
+    say(f"functions of {MANY_PARAMETERS} parameters or more", [f"{count} {place}" for count, place in reversed(many)], is_told)
+    say(f"equal windows of {WINDOW} lines of code in two crates", windows(), is_told)
+    proofs = sum(len(lines_of(path)) for crate in crates() for path in files(f"{TOP}/crates/{crate}", ".antt"))
+    rust = sum(len(lines_of(path)) for crate in crates() for path in files(f"{TOP}/crates/{crate}", ".rt"))
+    print(f"lines of .antt to lines of .rt: {proofs} to {rust}, {proofs / rust:.2f}")
+    say(f"comments over {COMMENT_COLUMNS} columns, and Python lines over {PYTHON_COLUMNS}", list(wide_lines()), is_told)
+
+
+if __name__ == "__main__":
+    if set(sys.argv[1:]) - {"-v"}:
+        sys.exit(__doc__)
+    main("-v" in sys.argv[1:])
