@@ -1,18 +1,17 @@
 #!/usr/bin/env python3
 """bounds.py [LEAST]: how often the bound of a search is the optimum, over the functions of optima/optima.csv with at least LEAST inputs (13)
 
-Sifts as `Sifted::tightened` does, by the library's passes. MINORDER_LIBRARY names the library, PYTHONPATH has bindings/python.
+Sifts as `Sifted::tightened` does, by the library's passes. MINORDER_LIBRARY names the library.
 """
 import csv
 import math
 import os
 import sys
 
-import minorder
-
 TOP = os.path.dirname(os.path.dirname(os.path.abspath(__file__)))
-sys.path.insert(0, f"{TOP}/optima")
+sys.path[:0] = [f"{TOP}/optima", f"{TOP}/bindings/python"]
 import functions  # noqa: E402
+import minorder  # noqa: E402
 
 
 def settled(tables, sifted):

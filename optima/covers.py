@@ -47,4 +47,4 @@ def lines(inputs, tables):
     every = 0
     for ones in tables:
         every |= ones
-    return found if len(found) <= every.bit_count() else points(inputs, tables)
+    return found if len(found) <= bin(every).count("1") else points(inputs, tables)

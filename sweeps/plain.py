@@ -198,7 +198,7 @@ class Functions:
 
     def outside(self, mask):
         """How many essential variables the set lacks."""
-        return (self.essential & ~mask).bit_count()
+        return bin(self.essential & ~mask).count("1")
 
     def costs(self, pairs):
         """The least cost of each lawful set."""

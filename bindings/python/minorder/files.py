@@ -1,5 +1,6 @@
 """The texts that minorder reads and writes: PLA files and reports. It needs no library."""
-from typing import Dict, List, NamedTuple, NoReturn, Optional, Sequence, Tuple
+import os
+from typing import Dict, List, NamedTuple, NoReturn, Optional, Sequence, Tuple, Union
 
 from ._errors import BadArgument, BadPla
 from ._tables import MOST, TruthTable, shown
@@ -34,19 +35,17 @@ class Cover(NamedTuple):
     terms: Tuple[Term, ...]
 
 
-def read_pla(path: str) -> Pla:
+def read_pla(path: Union[str, "os.PathLike[str]"]) -> Pla:
     """The truth tables and the names of a PLA file of type f, which is refused where ``minorder`` refuses it, with
     the same line and word. Raises BadPla, and OSError if the file can't be read."""
-    try:
-        file = open(path, "rb")
-    except (TypeError, ValueError):
-        raise BadArgument(f"path: {shown(path)} is no path") from None
-    with file:
+    if not isinstance(path, (str, os.PathLike)) or "\0" in os.fspath(path):
+        raise BadArgument(f"path: {shown(path)} is no path")
+    with open(path, "rb") as file:
         content = file.read(LIMIT + 1)
     try:
         return pla_of(content)
     except BadPla as fault:
-        raise BadPla(fault.line, fault.kind, str(path)) from None
+        raise BadPla(fault.line, fault.kind, os.fspath(path)) from None
 
 
 def pla_of(content: bytes) -> Pla:

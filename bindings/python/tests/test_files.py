@@ -6,6 +6,7 @@ calls the library.
 import array
 import copy
 import os
+import pathlib
 import pickle
 import random
 import sys
@@ -51,7 +52,9 @@ class Pla(unittest.TestCase):
             self.assertEqual((caught.exception.line, caught.exception.kind), (3, "DontCare"))
             self.assertEqual(str(caught.exception), f"{path}: line 3: DontCare")
             self.assertRaises(FileNotFoundError, minorder.read_pla, f"{folder}/none.pla")
-        self.assertRaises(minorder.BadArgument, minorder.read_pla, None)
+        self.assertEqual(minorder.read_pla(pathlib.Path(TOP, "examples", "mux2.pla")).outputs, ("f",))
+        for path in (None, 3, "\0", ["it.pla"]):
+            self.assertRaises(minorder.BadArgument, minorder.read_pla, path)
         with self.assertRaises(minorder.BadPla) as caught:
             files.pla_of(b"#" * (files.LIMIT + 1))
         self.assertEqual((caught.exception.line, caught.exception.kind), (None, "TooLong"))
