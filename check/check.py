@@ -313,6 +313,8 @@ class Walk:
 
 def lawful_sets(inputs, pairs):
     """Of each set whether it has B wherever it has A."""
+    if not pairs:
+        return [True] * (1 << inputs)
     below = [0] * inputs
     for a, b in pairs:
         below[a] |= 1 << b
@@ -364,12 +366,14 @@ def verdict(cover, it):
     return f"valid {it.total}" + (f" pairs {len(pairs)}" if pairs else "")
 
 
-def judged(file, certificate):
-    """The status of a file's and a certificate's content, and the line of the verdict or the fault."""
+def judged(read_file, read_certificate):
+    """The status, and the line of the verdict or the fault. The certificate is read once the file has no fault."""
     try:
+        file = read_file()
         if len(file) > PLA_LIMIT:
             raise Fault("TooLong")
         cover = Cover(file)
+        certificate = read_certificate()
         if len(certificate) > CERTIFICATE_LIMIT:
             raise Fault("certificate: TooLong")
         line = verdict(cover, Certificate(certificate))
@@ -395,14 +399,13 @@ def main(words):
     if words in (["--help"], ["-h"]):
         print(__doc__)
         return 0
-    if len(words) != 2 or any(word.startswith("-") for word in words):
+    if len(words) != 2 or any(word.startswith("-") and word != "-" for word in words):
         print("usage: check.py FILE CERT", file=sys.stderr)
         return 2
     try:
-        opened = [os.open(word, os.O_RDONLY) for word in words]
-        file, certificate = content_of(opened[0], PLA_LIMIT), content_of(opened[1], CERTIFICATE_LIMIT)
-        status, line = judged(file, certificate)
-        print(line if status < 2 else f"check.py: {line}", file=sys.stdout if status < 2 else sys.stderr, flush=True)
+        file, certificate = [os.open(word, os.O_RDONLY) for word in words]
+        status, line = judged(lambda: content_of(file, PLA_LIMIT), lambda: content_of(certificate, CERTIFICATE_LIMIT))
+        os.write(1 if status < 2 else 2, f"{'' if status < 2 else 'check.py: '}{line}\n".encode())
         return status
     except OSError:
         print("check.py: Device", file=sys.stderr)

@@ -15,6 +15,7 @@ import shutil
 import subprocess
 import sys
 import tempfile
+from functools import partial
 
 import check
 
@@ -70,7 +71,7 @@ class Comparison:
         ran = subprocess.run([self.program, *words], capture_output=True, text=True)
         found = ran.returncode, ran.stdout, ran.stderr.replace("ordercheck: ", "", 1)
         if len(words) == 2 and all(map(os.path.isfile, words)):
-            status, line = check.judged(*map(read, words))
+            status, line = check.judged(*(partial(read, word) for word in words))
             answer = (status, f"{line}\n", "") if status < 2 else (status, "", f"{line}\n")
         else:
             answer = self.called(words)
