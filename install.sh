@@ -71,10 +71,11 @@ documents() {
     put 644 share/minorder/optima "$top"/optima/*.{py,md,csv,c,h}
     put 755 share/minorder/optima "$top"/optima/{functions,levels,make,permute}.py "$top/optima/league.sh"
     put 755 $folder/examples "$top/examples/make_examples.py"
-    install -d "$made/tree/$folder"/{draw,bindings} "$made/tree/share/minorder/bindings"
+    install -d "$made/tree/$folder"/{check,draw,bindings} "$made/tree/share/minorder/bindings"
     ln -s ../python "$made/tree/share/minorder/bindings/python"
     ln -s ../../minorder/optima "$made/tree/$folder/optima"
     ln -s ../../../minorder/draw.py "$made/tree/$folder/draw/draw.py"
+    ln -s ../../../minorder/check.py "$made/tree/$folder/check/check.py"
     ln -s ../../../minorder/python "$made/tree/$folder/bindings/python"
 }
 

@@ -146,15 +146,18 @@ class WorkedCases(Folder):
         self.assertEqual(minorder.check(multiplexer, text.encode(), inputs=3), good)
         self.assertEqual(minorder.certify(multiplexer, 3), text)
         self.assertIn("pairs 1\n0 2\n", minorder.certify(multiplexer, 3, above=[(0, 2)]))
-        random = minorder.from_values([(p * p >> 7) & 1 for p in range(1 << 14)])
-        self.assertGreater(len(minorder.certify(random)), 1 << 16)
-        self.assertTrue(minorder.check(random, minorder.certify(random)))
         bad = minorder.check(multiplexer, text.replace("total 3", "total 2"))
         self.assertFalse(bad)
         self.assertEqual(bad.reason, "Total")
         self.assertEqual(minorder.check([multiplexer, multiplexer], text).reason, "Shape")
         self.assertEqual(minorder.check(0b10, text, inputs=1).reason, "Shape")
         self.assertEqual(minorder.check(0b11001100, text).reason, "Levels")
+
+    def test_long_certificates(self):
+        table = random.Random(1).getrandbits(1 << 13)
+        text = minorder.certify(table, 13)
+        self.assertGreater(len(text), 1 << 16)
+        self.assertTrue(minorder.check(table, text))
 
 
 class Refusals(unittest.TestCase):

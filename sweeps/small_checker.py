@@ -1,5 +1,5 @@
 #!/usr/bin/env python3
-"""compare.py [--count COUNT] [--seed SEED] ORDERCHECK      compares check.py with a built ordercheck
+"""small_checker.py [--count COUNT] [--seed SEED] ORDERCHECK      compares check.py with a built ordercheck
 
 On the calls of ordercheck in crates/worked_cases/data, whose certificates lie there, and on COUNT certificates (1000
 if it is left out) of small random files, each with a line edited or some bytes damaged: status and streams have to be
@@ -17,13 +17,13 @@ import sys
 import tempfile
 from functools import partial
 
-import check
+import plain
+import random_files
 
 HERE = os.path.dirname(os.path.abspath(__file__))
 DATA = f"{HERE}/../crates/worked_cases/data"
-sys.path.append(f"{HERE}/../sweeps")
-import plain  # noqa: E402
-import random_files  # noqa: E402
+sys.path.append(f"{HERE}/../check")
+import check  # noqa: E402
 
 MOST_INPUTS = 6
 
@@ -84,7 +84,7 @@ class Comparison:
         self.seen[verdict.group() if verdict else f"status {ran.returncode}"] += 1
 
     def called(self, words):
-        ran = subprocess.run([sys.executable, f"{HERE}/check.py", *words], capture_output=True, text=True)
+        ran = subprocess.run([sys.executable, f"{HERE}/../check/check.py", *words], capture_output=True, text=True)
         if ran.returncode in (0, 2):
             return ran.returncode, bool(ran.stdout), bool(ran.stderr)
         return ran.returncode, ran.stdout, ran.stderr.replace("check.py: ", "", 1)
