@@ -17,6 +17,9 @@ printf '.i 16\n.o 16\n' > "$made/large.pla"
 python3 -c 'import random; [print(f"{random.getrandbits(16):016b} {random.getrandbits(16):016b}") for _ in range(3000)]' >> "$made/large.pla"
 ! "$here/draw.py" "$made/large.pla" < /dev/null > "$made/dot" 2> "$made/errors" && grep -q 'more than 1500 nodes' "$made/errors"
 echo "draw.py: the level counts of all examples are those of the reports"
+for file in "$here"/../docs/*.svg; do
+    { grep -q '<text' "$file" && grep -q '<title>' "$file"; } || { echo "$file keeps no text as text, or has no title" >&2; exit 1; }
+done
 if command -v dot > /dev/null; then
     "$1" "$here/../examples/products3.pla" | "$here/draw.py" --both --svg "$made/it.svg" "$here/../examples/products3.pla"
     grep -q '</svg>' "$made/it.svg"
