@@ -6,7 +6,8 @@ import matplotlib
 
 matplotlib.use("svg")
 matplotlib.rcParams.update({
-    "svg.hashsalt": "minorder", "svg.fonttype": "none", "font.family": "DejaVu Sans", "font.size": 9,
+    "svg.hashsalt": "minorder", "svg.fonttype": "none", "font.family": "sans-serif",
+    "font.sans-serif": ["DejaVu Sans", "Verdana", "Helvetica", "Arial"], "font.size": 9,
     "axes.spines.top": False, "axes.spines.right": False, "axes.titlesize": 10, "axes.titleweight": "bold"})
 from matplotlib import pyplot  # noqa: E402  the settings come first
 
