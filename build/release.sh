@@ -1,13 +1,17 @@
 #!/usr/bin/env bash
 # release.sh VERSION     makes out/minorder-VERSION-linux-x86_64.tar.gz, out/minorder-VERSION-certificates.tar.xz, Debian packages where
 #                        dpkg-deb is there, and out/SHA256SUMS
-# The certificates of the table of optima are taken from optima/out where they all lie there, and else made, in some minutes.
+# release.sh --without-certificates VERSION     the same but for the certificates
+# The certificates of the table of optima are taken from optima/out where they all lie there, and else made, in two minutes of processor
+# time.
 set -euo pipefail
 umask 022
 top=$(cd "$(dirname "${BASH_SOURCE[0]}")/.." && pwd)
 fail() { echo "release.sh: $*" >&2; exit 1; }
 
-[ $# = 1 ] || fail "usage: build/release.sh VERSION"
+with_certificates=true
+[ "${1:-}" != --without-certificates ] || { with_certificates=false; shift; }
+[ $# = 1 ] || fail "usage: build/release.sh [--without-certificates] VERSION"
 version=$1
 [ "$version" = "$(< "$top/VERSION")" ] || fail "VERSION says $(< "$top/VERSION"), not $version"
 "$top/build/versions.sh" > /dev/null
@@ -62,7 +66,7 @@ certificates() {
 
 archive
 packages
-certificates
+! "$with_certificates" || certificates
 (cd "$made" && sha256sum "${files[@]}" > SHA256SUMS)
 mkdir -p "$top/out" || fail "$top/out can't be made"
 for file in "${files[@]}" SHA256SUMS; do
