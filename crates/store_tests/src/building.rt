@@ -1,11 +1,10 @@
 //! Builds of small covers, by several workers, and in a full store.
-ghost use Rattle.std.specs.Prelude.{◌≡◌, ◌+◌, ◌<◌, ◌≤◌, length, IfOk, OnOk};
-ghost use Rattle.std.specs.List.{All};
-ghost use Rattle.unique_table.specs.Plans.{levels_of};
-ghost use Rattle.unique_table.specs.Sessions.{IsKnownBelow, Follows};
-ghost use Rattle.store_tests.specs.Cases.{AreFrom};
+ghost use Rattle.std.specs.Prelude.{◌≡◌, ◌≤◌, length, IfOk};
+ghost use Rattle.unique_table.specs.Plans.{levels_of, order_of};
 ghost use Rattle.truth_table.specs.OfCovers.{AreTablesOf};
+ghost use Rattle.dd_builder.specs.Building.{IsForCover};
 
+use crate::filling::{lowest, make_all};
 use counted_io::Counting;
 use dd_builder::{
     BuildError, apply, build, build_from, build_tables, cover_store, from_cover, from_tables,
@@ -21,10 +20,20 @@ use std::thread::Threads;
 use truth_table::Tables;
 use unique_table::{NodeId, Operation, Session, Store, StoreFull};
 
+/// The parity of three variables.
+const PARITY: &[u8] = b".i 3\n.o 1\n001 1\n010 1\n100 1\n111 1\n.e\n";
+
+/// Three products of two variables, x and x + 3.
+const INTERLEAVED: &[u8] = b".i 6\n.o 1\n1--1-- 1\n-1--1- 1\n--1--1 1\n.e\n";
+
+/// The conjunction of sixteen variables.
+const SIXTEEN_ONES: &[u8] = b".i 16\n.o 1\n1111111111111111 1\n.e\n";
+
 /// Covers, and the sizes of their reduced diagrams under their file orders.
-static COVERS: [(&[u8], usize); 9] = [
-    (b".i 3\n.o 1\n001 1\n010 1\n100 1\n111 1\n.e\n", 5),
-    (b".i 6\n.o 1\n1--1-- 1\n-1--1- 1\n--1--1 1\n.e\n", 14),
+static COVERS: [(&[u8], usize); 10] = [
+    (PARITY, 5),
+    (INTERLEAVED, 14),
+    (SIXTEEN_ONES, 16),
     (b".i 3\n.o 1\n.e\n", 0),
     (b".i 1\n.o 2\n1 10\n0 01\n.e\n", 2),
     (b".i 2\n.o 2\n11 10\n1- 01\n-1 01\n.e\n", 3),
@@ -34,21 +43,17 @@ static COVERS: [(&[u8], usize); 9] = [
     (b".i 2\n.o 2\n.type f\n1- 1-\n-1 -1\n.e\n", 2),
 ];
 
-/// The conjunction of sixteen variables.
-static SIXTEEN_ONES: &[u8] = b".i 16\n.o 1\n1111111111111111 1\n.e\n";
-
 // A cover with its truth tables and its file order.
 #[derive(Drop)]
 struct Input {
     cover: Cover,
     tables: Tables,
     order: Order,
+    ghost are_its_tables: { AreTablesOf cover tables },
+    ghost is_its_order: { length order ≡ cover.inputs },
 }
 
-fn read_input<R: Threads + Sync>(rt: &R, alloc: Global, text: &[u8]) -> Result<Input, Fail>
-    ensures tables { IfOk result (λ i. AreTablesOf i.cover i.tables) }
-    ensures order { IfOk result (λ i. length i.order ≡ i.cover.inputs) }
-{
+fn read_input<R: Threads + Sync>(rt: &R, alloc: Global, text: &[u8]) -> Result<Input, Fail> {
     let cover = read_cover(alloc, &mut Counting::new(text))?;
     let tables = Tables::of_cover(rt, alloc, &cover)?;
     let order = Order::file_order(alloc, cover.inputs())?;
@@ -71,109 +76,74 @@ fn size_of(built: Result<Diagram, BuildError>) -> Option<usize> {
 fn cover_size<R: Threads + Sync, G: Gate>(
     rt: &R,
     alloc: Global,
-    text: &[u8],
+    input: &Input,
     workers: Workers,
     gate: &G,
-) -> Result<Option<usize>, Fail> {
-    let Input {
-        cover,
-        tables,
-        order,
-    } = read_input(rt, alloc, text)?;
-    let (store, session) = cover_store(alloc, &cover, &tables, &order)?;
-    Ok(size_of(from_cover(rt, alloc, store, session, &cover, workers, gate)))
+) -> Result<Option<usize>, AllocError> {
+    let (store, session) = cover_store(alloc, &input.cover, &input.tables, &input.order)?;
+    let built = from_cover(rt, alloc, store, session, &input.cover, workers, gate);
+    Ok(size_of(built))
 }
 
 // How many nodes `from_tables` gives in a fresh store.
 fn tables_size<R: Threads + Sync, G: Gate>(
     rt: &R,
     alloc: Global,
-    text: &[u8],
+    input: &Input,
     workers: Workers,
     gate: &G,
-) -> Result<Option<usize>, Fail> {
-    let Input {
-        cover,
-        tables,
-        order,
-    } = read_input(rt, alloc, text)?;
-    let (store, session) = tables_store(alloc, &tables, &order)?;
-    drop(cover);
-    Ok(size_of(from_tables(rt, alloc, store, session, &tables, workers, gate)))
+) -> Result<Option<usize>, AllocError> {
+    let (store, session) = tables_store(alloc, &input.tables, &input.order)?;
+    let built = from_tables(rt, alloc, store, session, &input.tables, workers, gate);
+    Ok(size_of(built))
 }
 
-// How many nodes `build` gives.
-fn built_size<R: Threads + Sync>(
+// Whether a cover's diagram has so many nodes, from its terms and from its truth tables.
+fn has_size<R: Threads + Sync>(
     rt: &R,
     alloc: Global,
     text: &[u8],
+    size: usize,
     workers: Workers,
-) -> Result<Option<usize>, Fail> {
-    let Input {
-        cover,
-        tables,
-        order,
-    } = read_input(rt, alloc, text)?;
-    Ok(size_of(build(rt, alloc, &cover, &tables, &order, workers, &NoGate)))
+) -> Result<bool, Fail> {
+    let input = read_input(rt, alloc, text)?;
+    let from_terms = cover_size(rt, alloc, &input, workers, &NoGate)?;
+    let from_tables = tables_size(rt, alloc, &input, workers, &NoGate)?;
+    Ok(from_terms == Some(size) && from_tables == Some(size))
 }
 
 #[test]
 fn builds_covers_under_their_file_orders(rt: HostRuntime) -> Result<(), Fail> {
     for count in [1u8, 2, 64] {
-        let Some(workers) = Workers::new(count) else {
-            panic!(rt; "no workers")
-        };
+        let workers = Workers::new(count).ok_or("workers")?;
         for (text, size) in &COVERS {
-            let from_terms = cover_size(&rt, rt.alloc(), text, workers, &NoGate)?;
-            assert_eq!(rt; from_terms, Some(*size), "{text:?}");
-            let from_tables = tables_size(&rt, rt.alloc(), text, workers, &NoGate)?;
-            assert_eq!(rt; from_tables, Some(*size), "{text:?}");
+            assert!(rt; has_size(&rt, rt.alloc(), text, *size, workers)?);
         }
-        let from_terms = cover_size(&rt, rt.alloc(), SIXTEEN_ONES, workers, &NoGate)?;
-        assert_eq!(rt; from_terms, Some(16));
-        let from_tables = tables_size(&rt, rt.alloc(), SIXTEEN_ONES, workers, &NoGate)?;
-        assert_eq!(rt; from_tables, Some(16));
     }
     Ok(())
 }
 
-// A cover of three inputs has many terms as soon as it has one, a cover of sixteen has few up to
-// 1,024.
-#[test]
-fn builds_of_few_terms_and_of_many(rt: HostRuntime) -> Result<(), Fail> {
-    let Some(workers) = Workers::new(2) else {
-        panic!(rt; "no workers")
-    };
-    for (text, size) in &COVERS {
-        let built = built_size(&rt, rt.alloc(), text, workers)?;
-        assert_eq!(rt; built, Some(*size), "{text:?}");
+// Whether a diagram of six levels has one root and these level counts.
+fn has_levels(built: Result<Diagram, BuildError>, wanted: &[u32]) -> bool {
+    match built {
+        Ok(diagram) => diagram.roots().len() == 1 && &diagram.level_counts()[..6] == wanted,
+        Err(_) => false,
     }
-    let built = built_size(&rt, rt.alloc(), SIXTEEN_ONES, workers)?;
-    assert_eq!(rt; built, Some(16));
-    Ok(())
 }
 
 #[test]
 fn builds_diagrams_of_covers(rt: HostRuntime) -> Result<(), Fail> {
-    let alloc = rt.alloc();
+    let input = read_input(&rt, rt.alloc(), INTERLEAVED)?;
+    let workers = Workers::new(2).ok_or("workers")?;
     let Input {
         cover,
         tables,
         order,
-    } = read_input(&rt, alloc, COVERS[1].0)?;
-    let Some(workers) = Workers::new(2) else {
-        panic!(rt; "no workers")
-    };
-    let Ok(diagram) = build(&rt, alloc, &cover, &tables, &order, workers, &NoGate) else {
-        panic!(rt; "nothing built")
-    };
-    let counts = diagram.level_counts();
-    assert_eq!(rt; &counts[..6], [1u32, 2, 4, 4, 2, 1].as_slice());
-    assert_eq!(rt; diagram.roots().len(), 1);
-    let Ok(diagram) = build_tables(&rt, alloc, &tables, &order, workers, &NoGate) else {
-        panic!(rt; "nothing built")
-    };
-    assert_eq!(rt; diagram.size(), 14);
+    } = &input;
+    let built = build(&rt, rt.alloc(), cover, tables, order, workers, &NoGate);
+    assert!(rt; has_levels(built, &[1, 2, 4, 4, 2, 1]));
+    let built = build_tables(&rt, rt.alloc(), tables, order, workers, &NoGate);
+    assert!(rt; has_levels(built, &[1, 2, 4, 4, 2, 1]));
     Ok(())
 }
 
@@ -191,17 +161,14 @@ fn conjunctions(store: &Store, session: &mut Session) -> Result<(NodeId, NodeId)
 
 #[test]
 fn applies_operations(rt: HostRuntime) -> Result<(), Fail> {
-    let Input {
-        cover,
-        tables,
-        order,
-    } = read_input(&rt, rt.alloc(), COVERS[0].0)?;
-    let (store, mut session) = cover_store(rt.alloc(), &cover, &tables, &order)?;
-    if store.order().len() >= 2 {
-        let Ok((both, node)) = conjunctions(&store, &mut session) else {
-            panic!(rt; "full")
-        };
-        assert_eq!(rt; both, node);
+    let input = read_input(&rt, rt.alloc(), PARITY)?;
+    let (store, mut session) = cover_store(rt.alloc(), &input.cover, &input.tables, &input.order)?;
+    if store.order().len() < 2 {
+        return Err("two levels".into());
+    }
+    match conjunctions(&store, &mut session) {
+        Ok((both, node)) => assert!(rt; both == node),
+        Err(StoreFull) => panic!(rt; "full"),
     }
     Ok(())
 }
@@ -253,85 +220,81 @@ impl Meeting {
 }
 
 #[test]
-fn two_workers_build_at_once(rt: HostRuntime) -> Result<(), Fail> {
-    let Some(workers) = Workers::new(2) else {
-        panic!(rt; "no workers")
-    };
+fn two_workers_build_terms_at_once(rt: HostRuntime) -> Result<(), Fail> {
+    let input = read_input(&rt, rt.alloc(), SIXTEEN_ONES)?;
+    let workers = Workers::new(2).ok_or("workers")?;
     let gate = Meeting::new();
-    let size = cover_size(&rt, rt.alloc(), SIXTEEN_ONES, workers, &gate)?;
-    assert_eq!(rt; size, Some(16));
-    assert!(rt; gate.saw_each(u64::MAX));
-    let gate = Meeting::new();
-    let size = tables_size(&rt, rt.alloc(), SIXTEEN_ONES, workers, &gate)?;
-    assert_eq!(rt; size, Some(16));
-    assert!(rt; gate.saw_each(0b1111));
-    Ok(())
-}
-
-// Makes nodes of a level of all pairs of unequal ids until the store is full, and adds their ids.
-fn make_all(
-    store: &Store,
-    session: &mut Session,
-    level: u8,
-    below: &[NodeId],
-    ids: &mut Vec<NodeId>,
-) -> Result<(), AllocError>
-    requires session { session.old.store ≡ store.now }
-    requires level { level < levels_of store.now.plan }
-    requires below { All (IsKnownBelow session.old level) below.now }
-    requires ids { AreFrom session.old level ids.old.items }
-    ensures follows { OnOk result (Follows session.old session.new) }
-    ensures ids { OnOk result (AreFrom session.new level ids.new.items) }
-{
-    for low in below {
-        for high in below {
-            if low == high {
-                continue;
-            }
-            let Ok(id) = store.make(session, level, *low, *high) else {
-                return Ok(());
-            };
-            ids.push(id)?;
-        }
-    }
-    Ok(())
-}
-
-// Fills a store of sixteen variables with nodes of the lowest five levels.
-fn fill(store: &Store, session: &mut Session, alloc: Global) -> Result<(), AllocError>
-    requires session { session.old.store ≡ store.now }
-    requires levels { levels_of store.now.plan ≡ 16 }
-    ensures { OnOk result (session.new.store ≡ store.now) }
-{
-    let mut ids = [0u32, 1].to_vec(alloc)?;
-    for step in 0..5u8 {
-        let below = ids.clone()?;
-        make_all(store, session, 15 - step, below.as_slice(), &mut ids)?;
-    }
+    let size = cover_size(&rt, rt.alloc(), &input, workers, &gate)?;
+    assert!(rt; size == Some(16) && gate.saw_each(u64::MAX));
     Ok(())
 }
 
 #[test]
-fn meets_a_full_store(rt: HostRuntime) -> Result<(), Fail> {
-    let alloc = rt.alloc();
-    let Some(workers) = Workers::new(2) else {
-        panic!(rt; "no workers")
-    };
-    let Input {
-        cover,
-        tables,
-        order,
-    } = read_input(&rt, alloc, SIXTEEN_ONES)?;
-    let (store, mut session) = cover_store(alloc, &cover, &tables, &order)?;
-    assert_eq!(rt; store.order().len(), 16);
-    fill(&store, &mut session, alloc)?;
-    let built = from_cover(&rt, alloc, store, session, &cover, workers, &NoGate);
+fn two_workers_build_restrictions_at_once(rt: HostRuntime) -> Result<(), Fail> {
+    let input = read_input(&rt, rt.alloc(), SIXTEEN_ONES)?;
+    let workers = Workers::new(2).ok_or("workers")?;
+    let gate = Meeting::new();
+    let size = tables_size(&rt, rt.alloc(), &input, workers, &gate)?;
+    assert!(rt; size == Some(16) && gate.saw_each(0b1111));
+    Ok(())
+}
+
+// A store for a cover of sixteen variables that is full of nodes of the lowest five levels.
+fn full_store(alloc: Global, input: &Input) -> Result<(Store, Session), Fail>
+    ensures cover { IfOk result (λ r. IsForCover r.0.plan input.now.cover) }
+    ensures order { IfOk result (λ r. order_of r.0.plan ≡ input.now.order) }
+    ensures session { IfOk result (λ r. r.1.store ≡ r.0) }
+{
+    let (store, mut session) = cover_store(alloc, &input.cover, &input.tables, &input.order)?;
+    if store.order().len() != 16 {
+        return Err("sixteen levels".into());
+    }
+    let below = lowest(&store, &mut session, alloc)?;
+    let mut ids = Vec::new(alloc);
+    make_all(
+        &store,
+        &mut session,
+        11,
+        &below,
+        &below,
+        1_000_000,
+        &mut ids,
+    )?;
+    Ok((store, session))
+}
+
+#[test]
+fn terms_meet_a_full_store(rt: HostRuntime) -> Result<(), Fail> {
+    let input = read_input(&rt, rt.alloc(), SIXTEEN_ONES)?;
+    let workers = Workers::new(2).ok_or("workers")?;
+    let (store, session) = full_store(rt.alloc(), &input)?;
+    let built = from_cover(
+        &rt,
+        rt.alloc(),
+        store,
+        session,
+        &input.cover,
+        workers,
+        &NoGate,
+    );
     assert!(rt; matches!(built, Err(BuildError::StoreFull(_))));
-    let (store, mut session) = cover_store(alloc, &cover, &tables, &order)?;
-    assert_eq!(rt; store.order().len(), 16);
-    fill(&store, &mut session, alloc)?;
+    Ok(())
+}
+
+#[test]
+fn truth_tables_stand_in_for_a_full_store(rt: HostRuntime) -> Result<(), Fail> {
+    let input = read_input(&rt, rt.alloc(), SIXTEEN_ONES)?;
+    let workers = Workers::new(2).ok_or("workers")?;
     let crew = Crew::new(&rt, workers, &NoGate);
-    let built = build_from(&crew, alloc, (store, session), &cover, &tables, &order);
-    assert_eq!(rt; size_of(built), Some(16));
+    let begun = full_store(rt.alloc(), &input)?;
+    let built = build_from(
+        &crew,
+        rt.alloc(),
+        begun,
+        &input.cover,
+        &input.tables,
+        &input.order,
+    );
+    assert!(rt; size_of(built) == Some(16));
     Ok(())
 }

@@ -9,7 +9,7 @@ ghost use Rattle.store_tests.specs.Cases.{AreFrom};
 use order_model::{Order, Problem};
 use std::alloc::{AllocError, Global};
 use std::test::Fail;
-use std::thread::join;
+use std::thread::{Threads, join};
 use unique_table::{NodeId, Pieces, Session, Store, StoreFull};
 
 // Makes a node of the level, unless the children are equal, and adds its id. Says whether the store
@@ -42,7 +42,7 @@ fn make_one(
 
 // Makes a node of the level for each pair of unequal ids, until there are so many, and adds their
 // ids. Says whether the store wasn't full.
-fn make_all(
+pub(crate) fn make_all(
     store: &Store,
     session: &mut Session,
     level: u8,
@@ -73,7 +73,11 @@ fn make_all(
 }
 
 // All nodes of the lowest four levels of sixteen, and the terminals.
-fn lowest(store: &Store, session: &mut Session, alloc: Global) -> Result<Vec<NodeId>, AllocError>
+pub(crate) fn lowest(
+    store: &Store,
+    session: &mut Session,
+    alloc: Global,
+) -> Result<Vec<NodeId>, AllocError>
     requires session { session.old.store ≡ store.now }
     requires levels { levels_of store.now.plan ≡ 16 }
     ensures follows { OnOk result (Follows session.old session.new) }
@@ -95,11 +99,13 @@ fn lowest(store: &Store, session: &mut Session, alloc: Global) -> Result<Vec<Nod
     Ok(ids)
 }
 
+// What one thread made: the lowest four levels, how many nodes of level 11, and the first of these.
 #[derive(Drop)]
 struct Filled {
     session: Session,
     below: Vec<NodeId>,
-    ids: Vec<NodeId>,
+    count: usize,
+    first: Option<NodeId>,
 }
 
 // The lowest four levels, and nodes of level 11 by one thread: those whose low child stands at
@@ -131,7 +137,8 @@ fn fill_part(
     Ok(Filled {
         session,
         below,
-        ids,
+        count: ids.len(),
+        first: ids.first().copied(),
     })
 }
 
@@ -198,14 +205,14 @@ fn fill(alloc: Global) -> Result<bool, AllocError> {
     )?;
     let asked = ask(&store, &mut session, below.as_slice());
     let fills = below.len() == 65_536 && fits && ids.len() == 196_610;
-    Ok(fills && answers(asked, ids.first(), ids.get(131_070)))
+    Ok(fills && answers(asked, ids.first().copied(), ids.get(131_070).copied()))
 }
 
 // Whether the triple that the store doesn't have met a full store, and the others gave their ids.
-fn answers(asked: Option<Asked>, first: Option<&NodeId>, second: Option<&NodeId>) -> bool {
+fn answers(asked: Option<Asked>, first: Option<NodeId>, second: Option<NodeId>) -> bool {
     match (asked, first, second) {
         (Some((Err(StoreFull), Ok(one), Ok(two))), Some(first), Some(second)) => {
-            one == *first && two == *second
+            one == first && two == second
         }
         _ => false,
     }
@@ -217,28 +224,46 @@ fn one_session_fills_a_store(rt: HostRuntime) -> Result<(), Fail> {
     Ok(())
 }
 
+// Two threads fill the store, the one from the first place on and the other one from the third.
+fn fill_both<R: Threads + Sync>(
+    rt: &R,
+    alloc: Global,
+    store: &Store,
+    one: Session,
+    two: Session,
+) -> Result<(Filled, Filled), AllocError>
+    requires one { one.store ≡ store.now }
+    requires two { two.store ≡ store.now }
+    requires levels { levels_of store.now.plan ≡ 16 }
+    ensures one { IfOk result (λ p. p.0.session.store ≡ store.now) }
+    ensures two { IfOk result (λ p. p.1.session.store ≡ store.now) }
+    ensures below { IfOk result (λ p. All (IsKnownBelow p.0.session 11) p.0.below.items) }
+{
+    let (a, b) = join(
+        rt,
+        || -> Result<Filled, AllocError>
+            requires { (one.store ≡ store.now) × (levels_of store.now.plan ≡ 16) }
+            ensures { IfOk result
+                (λ p. (p.session.store ≡ store.entry.now)
+                × All (IsKnownBelow p.session 11) p.below.items) }
+        { fill_part(store, one, alloc, 0) },
+        || -> Result<Filled, AllocError>
+            requires { (two.store ≡ store.now) × (levels_of store.now.plan ≡ 16) }
+            ensures { IfOk result
+                (λ p. (p.session.store ≡ store.entry.now)
+                × All (IsKnownBelow p.session 11) p.below.items) }
+        { fill_part(store, two, alloc, 2) },
+    );
+    Ok((a?, b?))
+}
+
 #[test]
 fn two_threads_fill_a_store(rt: HostRuntime) -> Result<(), Fail> {
-    let alloc = rt.alloc();
-    let (store, session) = sixteen(alloc)?;
+    let (store, session) = sixteen(rt.alloc())?;
     let (one, two) = store.split(session);
-    let (a, b) = join(
-        &rt,
-        || -> Result<Filled, AllocError>
-            requires { (one.store ≡ store) × (levels_of store.plan ≡ 16) }
-            ensures { IfOk result
-                (λ p. (p.session.store ≡ store) × All (IsKnownBelow p.session 11) p.below.items) }
-        { fill_part(&store, one, alloc, 0) },
-        || -> Result<Filled, AllocError>
-            requires { (two.store ≡ store) × (levels_of store.plan ≡ 16) }
-            ensures { IfOk result
-                (λ p. (p.session.store ≡ store) × All (IsKnownBelow p.session 11) p.below.items) }
-        { fill_part(&store, two, alloc, 2) },
-    );
-    let (a, b) = (a?, b?);
-    assert_eq!(rt; a.ids.len(), 98_305);
-    assert_eq!(rt; b.ids.len(), 98_305);
+    let (a, b) = fill_both(&rt, rt.alloc(), &store, one, two)?;
+    assert!(rt; a.count == 98_305 && b.count == 98_305);
     let asked = ask_both(&store, a.session, b.session, a.below.as_slice());
-    assert!(rt; answers(asked, a.ids.first(), b.ids.first()));
+    assert!(rt; answers(asked, a.first, b.first));
     Ok(())
 }
