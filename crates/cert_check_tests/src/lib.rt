@@ -1,10 +1,10 @@
-//! Tests of the checker of certificates: worked cases, the solver's certificates, and a checker
-//! written apart.
+//! Tests of the checker of certificates: the largest ones, the solver's, and a checker written
+//! apart.
 #![tactic(auto)]
 
 #[cfg(test)]
 mod plain;
 #[cfg(test)]
-mod solved;
+mod sixteen;
 #[cfg(test)]
-mod worked;
+mod solved;

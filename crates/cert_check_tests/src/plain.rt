@@ -61,33 +61,53 @@ pub(crate) struct Plain {
     edges: Vec<(Mask, VarIx, u64)>,
 }
 
+/// The functions of at most six variables, each in a word that repeats its values.
+fn functions_of(alloc: Global, tables: &Tables, all: Mask) -> Result<Vec<u64>, AllocError> {
+    let problem = tables.problem();
+    let mut functions = Vec::new(alloc);
+    for output in 0..problem.outputs() {
+        let table = problem.words(output).first().copied().unwrap_or(0);
+        functions.push(fixed_outside(table, all, 0))?;
+    }
+    Ok(functions)
+}
+
+/// The variables on which some function depends.
+fn essential_of(functions: &[u64]) -> Mask {
+    let mut essential = 0;
+    for x in 0..6u8 {
+        if functions.iter().any(|function: &u64| depends(*function, x)) {
+            essential |= 1 << x;
+        }
+    }
+    essential
+}
+
+/// Each edge, by its set and then by its variable, with its width.
+fn edges_of(
+    alloc: Global,
+    functions: &[u64],
+    all: Mask,
+) -> Result<Vec<(Mask, VarIx, u64)>, AllocError> {
+    let mut edges = Vec::new(alloc);
+    for set in 0..all {
+        for x in 0..6u8 {
+            if (all & !set) >> x & 1 == 1 {
+                edges.push((set, x, width(alloc, functions, set, x)?))?;
+            }
+        }
+    }
+    Ok(edges)
+}
+
 impl Plain {
     pub(crate) fn of(alloc: Global, tables: &Tables) -> Result<Plain, AllocError> {
-        let problem = tables.problem();
-        let inputs = problem.inputs().min(6);
-        let all = (1 << inputs) - 1;
-        let mut functions = Vec::new(alloc);
-        for output in 0..problem.outputs() {
-            let table = problem.words(output).first().copied().unwrap_or(0);
-            functions.push(fixed_outside(table, all, 0))?;
-        }
-        let mut essential = 0;
-        let mut edges = Vec::new(alloc);
-        for x in 0..inputs {
-            if functions.iter().any(|function: &u64| depends(*function, x)) {
-                essential |= 1 << x;
-            }
-        }
-        for set in 0..all {
-            for x in 0..inputs {
-                if (set >> x) & 1 == 0 {
-                    edges.push((set, x, width(alloc, &functions, set, x)?))?;
-                }
-            }
-        }
+        let all = (1 << tables.problem().inputs().min(6)) - 1;
+        let functions = functions_of(alloc, tables, all)?;
+        let edges = edges_of(alloc, &functions, all)?;
         Ok(Plain {
             all,
-            essential,
+            essential: essential_of(&functions),
             edges,
         })
     }

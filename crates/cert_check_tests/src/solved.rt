@@ -1,13 +1,13 @@
 //! The solver's certificates of random functions, as they are and with a cost changed.
 
-ghost use Rattle.std.specs.Prelude.{◌≡◌, ◌<◌, ◌≤◌, length, IfOk};
+ghost use Rattle.std.specs.Prelude.{◌≡◌, ◌<◌, ◌≤◌, length};
 
 use crate::plain::Plain;
 use cert_check::{Verdict, check, check_alone};
 use certificate::Certificate;
 use counted_io::Counting;
 use dd_builder::build_tables;
-use order_model::{ListedCell, NoGate, Pairs, Workers};
+use order_model::{ListedCell, NoGate, Pairs, VarIx, Workers};
 use order_solve::{Solution, solve};
 use pla_reader::read_cover;
 use sifting::Manager;
@@ -69,6 +69,15 @@ fn random_tables<R: Threads + Sync>(
     Ok(Tables::of_cover(rt, alloc, &cover)?)
 }
 
+/// The pairs that random functions are solved under: none, or that variable 0 stands above
+/// variable 1.
+fn kept(inputs: u8, seed: u64) -> &'static [(VarIx, VarIx)] {
+    if inputs < 2 || seed % 2 == 0 {
+        return &[];
+    }
+    &[(0, 1)]
+}
+
 /// What the solver finds of some functions, from the order sifted from the first one that keeps the
 /// pairs.
 fn solution_of<R: Threads + Sync>(
@@ -93,53 +102,77 @@ fn solution_of<R: Threads + Sync>(
     Ok(solve(rt, alloc, problem, sifted, workers, &NoGate)?)
 }
 
-/// The solver's certificate of some functions with other costs, in format 1 or 2.
-fn certificate_with(
-    alloc: Global,
-    tables: &Tables,
-    pairs: &[(u8, u8)],
-    solution: &Solution,
-    cells: Vec<ListedCell>,
-    format: u8,
-) -> Result<Certificate, Fail> {
-    let problem = tables.problem();
-    let best = &solution.optimum;
-    let order = best.order.variables().to_vec(alloc)?;
-    let levels = best.levels.to_vec(alloc)?;
-    let (inputs, outputs) = (problem.inputs(), problem.outputs());
-    let cert = if format == 1 {
-        Certificate::new(inputs, outputs, order, levels, best.total, cells)
-    } else {
-        let pairs = pairs.to_vec(alloc)?;
-        Certificate::new2(inputs, outputs, order, levels, best.total, pairs, cells)
-    };
-    Ok(cert.ok_or("no spelling")?)
+/// Functions, the pairs that are kept, and what the solver finds of them.
+#[derive(Drop)]
+struct Solved {
+    tables: Tables,
+    pairs: &'static [(VarIx, VarIx)],
+    solution: Solution,
 }
 
-/// The pairs that functions are solved under: none, or that variable 0 stands above variable 1.
-fn pairs_for(inputs: u8, seed: u64) -> Result<Pairs, Fail>
-    requires some { 1 ≤ inputs }
-    requires few { inputs ≤ 16 }
-    ensures { IfOk result (λ p. p.inputs ≡ inputs) }
+/// What the solver finds of random functions.
+fn solve_random<R: Threads + Sync>(
+    rt: &R,
+    alloc: Global,
+    inputs: u8,
+    seed: u64,
+) -> Result<Solved, Fail>
+    requires { inputs ≤ 16 }
 {
-    if inputs < 2 || seed % 2 == 0 {
-        return Ok(Pairs::none(inputs));
+    let tables = random_tables(rt, alloc, inputs, 1 + (seed % 4) as u8, seed)?;
+    let pairs = kept(inputs, seed);
+    let solution = solution_of(
+        rt,
+        alloc,
+        &tables,
+        Pairs::of(pairs, tables.problem().inputs())?,
+    )?;
+    Ok(Solved {
+        tables,
+        pairs,
+        solution,
+    })
+}
+
+/// The solver's certificate with other costs, in format 1 or 2.
+fn certificate_with(
+    alloc: Global,
+    solved: &Solved,
+    cells: Vec<ListedCell>,
+    format: u8,
+) -> Result<Option<Certificate>, AllocError> {
+    let problem = solved.tables.problem();
+    let best = &solved.solution.optimum;
+    let (inputs, outputs) = (problem.inputs(), problem.outputs());
+    let order = best.order.variables().to_vec(alloc)?;
+    let levels = best.levels.to_vec(alloc)?;
+    if format == 1 {
+        return Ok(Certificate::new(inputs, outputs, order, levels, best.total, cells));
     }
-    Ok(Pairs::parse(b"0,1", inputs)?)
+    let pairs = solved.pairs.to_vec(alloc)?;
+    Ok(Certificate::new2(inputs, outputs, order, levels, best.total, pairs, cells))
+}
+
+/// What is said of the solver's certificate, if it has a spelling.
+fn verdict_on<R: Threads + Sync>(
+    rt: &R,
+    alloc: Global,
+    solved: &Solved,
+) -> Result<Option<Verdict>, AllocError> {
+    let cells = solved.solution.cells.to_vec(alloc)?;
+    let Some(cert) = certificate_with(alloc, solved, cells, 2)? else {
+        return Ok(None);
+    };
+    let verdict = check(rt, alloc, &solved.tables, &cert)?;
+    Ok(Some(verdict))
 }
 
 #[test]
 fn solutions_are_valid(rt: HostRuntime) -> Result<(), Fail> {
-    let alloc = rt.alloc();
     for inputs in 1..9u8 {
         for seed in 0..4u64 {
-            let tables = random_tables(&rt, alloc, inputs, 1 + (seed % 4) as u8, seed)?;
-            let pairs = pairs_for(tables.problem().inputs(), seed)?;
-            let kept = pairs.to_vec(alloc)?;
-            let solution = solution_of(&rt, alloc, &tables, pairs)?;
-            let cells = solution.cells.to_vec(alloc)?;
-            let cert = certificate_with(alloc, &tables, &kept, &solution, cells, 2)?;
-            assert_eq!(rt; check(&rt, alloc, &tables, &cert)?, Verdict::Valid);
+            let solved = solve_random(&rt, rt.alloc(), inputs, seed)?;
+            assert!(rt; verdict_on(&rt, rt.alloc(), &solved)? == Some(Verdict::Valid));
         }
     }
     Ok(())
@@ -157,58 +190,93 @@ fn place_of_exchanged(cells: &[ListedCell], inputs: u8, place: usize) -> usize
         .unwrap_or(place)
 }
 
-/// Judges the solver's certificate with the cost at two places changed, or at one.
-fn judge_changed<R: Threads + Sync>(
-    rt: &R,
+/// The solver's certificate with the cost at two places changed, or at one.
+fn changed(
     alloc: Global,
-    tables: &Tables,
-    plain: &Plain,
-    pairs: &[(u8, u8)],
-    solution: &Solution,
+    solved: &Solved,
     places: [usize; 2],
     cost: u32,
-) -> Result<(), Fail> {
-    for format in [1u8, 2] {
-        if format == 1 && !pairs.is_empty() {
-            continue;
-        }
-        let mut cells = solution.cells.to_vec(alloc)?;
-        for place in places {
-            if let Some(cell) = cells.get_mut(place) {
-                cell.cost = cost;
-            }
-        }
-        let cert = certificate_with(alloc, tables, pairs, solution, cells, format)?;
-        let verdict = check_alone(alloc, tables, &cert)?;
-        if verdict != plain.verdict(&cert) || check(rt, alloc, tables, &cert)? != verdict {
-            return Err("another verdict".into());
+    format: u8,
+) -> Result<Option<Certificate>, AllocError> {
+    let mut cells = solved.solution.cells.to_vec(alloc)?;
+    for place in places {
+        if let Some(cell) = cells.get_mut(place) {
+            cell.cost = cost;
         }
     }
-    Ok(())
+    certificate_with(alloc, solved, cells, format)
+}
+
+/// Whether a certificate has its plain verdict, by the calling thread and by several.
+fn has_plain_verdict<R: Threads + Sync>(
+    rt: &R,
+    alloc: Global,
+    solved: &Solved,
+    plain: &Plain,
+    cert: &Certificate,
+) -> Result<bool, AllocError> {
+    let wanted = plain.verdict(cert);
+    let alone = check_alone(alloc, &solved.tables, cert)?;
+    let shared = check(rt, alloc, &solved.tables, cert)?;
+    Ok(alone == wanted && shared == wanted)
+}
+
+/// Whether the solver's certificate with the cost at two places changed, or at one, has its plain
+/// verdict, in both formats if there are no pairs.
+fn is_judged<R: Threads + Sync>(
+    rt: &R,
+    alloc: Global,
+    solved: &Solved,
+    plain: &Plain,
+    places: [usize; 2],
+    cost: u32,
+) -> Result<bool, AllocError> {
+    for format in [1u8, 2] {
+        if format == 2 || solved.pairs.is_empty() {
+            let Some(cert) = changed(alloc, solved, places, cost, format)? else {
+                return Ok(false);
+            };
+            if !has_plain_verdict(rt, alloc, solved, plain, &cert)? {
+                return Ok(false);
+            }
+        }
+    }
+    Ok(true)
+}
+
+/// Whether that is so with each cost as it is, one less and one more, alone and with that of the
+/// exchanged set.
+fn are_judged<R: Threads + Sync>(
+    rt: &R,
+    alloc: Global,
+    solved: &Solved,
+    plain: &Plain,
+    inputs: u8,
+) -> Result<bool, AllocError>
+    requires { inputs ≤ 16 }
+{
+    let cells = solved.solution.cells.as_slice();
+    for (place, cell) in cells.iter().enumerate() {
+        let other = place_of_exchanged(cells, inputs, place);
+        let (less, more) = (cell.cost.saturating_sub(1), cell.cost.saturating_add(1));
+        for cost in [less, cell.cost, more] {
+            for places in [[place, place], [place, other]] {
+                if !is_judged(rt, alloc, solved, plain, places, cost)? {
+                    return Ok(false);
+                }
+            }
+        }
+    }
+    Ok(true)
 }
 
 #[test]
 fn changed_costs_have_the_plain_verdict(rt: HostRuntime) -> Result<(), Fail> {
-    let alloc = rt.alloc();
     for inputs in 1..6u8 {
         for seed in 0..4u64 {
-            let tables = random_tables(&rt, alloc, inputs, 1 + (seed % 4) as u8, seed)?;
-            let plain = Plain::of(alloc, &tables)?;
-            let pairs = pairs_for(tables.problem().inputs(), seed)?;
-            let kept = pairs.to_vec(alloc)?;
-            let solution = solution_of(&rt, alloc, &tables, pairs)?;
-            for (place, cell) in solution.cells.iter().enumerate() {
-                let other = place_of_exchanged(&solution.cells, inputs, place);
-                for cost in [
-                    cell.cost.saturating_sub(1),
-                    cell.cost,
-                    cell.cost.saturating_add(1),
-                ] {
-                    for places in [[place, place], [place, other]] {
-                        judge_changed(&rt, alloc, &tables, &plain, &kept, &solution, places, cost)?;
-                    }
-                }
-            }
+            let solved = solve_random(&rt, rt.alloc(), inputs, seed)?;
+            let plain = Plain::of(rt.alloc(), &solved.tables)?;
+            assert!(rt; are_judged(&rt, rt.alloc(), &solved, &plain, inputs)?);
         }
     }
     Ok(())
