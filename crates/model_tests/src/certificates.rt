@@ -1,9 +1,8 @@
 //! Certificates and their texts.
 
-use certificate::{CertFault, Certificate, LineFault};
+use certificate::Certificate;
 use order_model::{ListedCell, Mask, VarIx};
 use std::alloc::{AllocError, Global};
-use std::process::Abort;
 use std::test::Fail;
 
 /// The multiplexer's certificate in format 1.
@@ -41,16 +40,16 @@ type Parts = (
 );
 
 /// A certificate of parts, in format 1 if they have no list of pairs.
-fn certificate_of(alloc: Global, parts: Parts) -> Result<Option<Certificate>, AllocError> {
+fn certificate_of(alloc: Global, parts: &Parts) -> Result<Option<Certificate>, AllocError> {
     let ((inputs, outputs), order, levels, total, pairs, cells) = parts;
     let order = order.to_vec(alloc)?;
     let levels = levels.to_vec(alloc)?;
     let cells = listed(alloc, cells)?;
     Ok(match pairs {
-        None => Certificate::new(inputs, outputs, order, levels, total, cells),
+        None => Certificate::new(*inputs, *outputs, order, levels, *total, cells),
         Some(pairs) => {
             let pairs = pairs.to_vec(alloc)?;
-            Certificate::new2(inputs, outputs, order, levels, total, pairs, cells)
+            Certificate::new2(*inputs, *outputs, order, levels, *total, pairs, cells)
         }
     })
 }
@@ -113,40 +112,53 @@ static UNSPELLED: [Parts; 17] = [
     ((2, 1), &[0, 1], &[0, 0], 0, Some(&[(0, 1), (0, 1)]), &[]),
 ];
 
-/// Whether a certificate has the parts, and its text is their spelling.
-fn is_of(
-    rt: &impl Abort,
-    alloc: Global,
-    cert: &Certificate,
-    parts: Parts,
-    text: &str,
-) -> Result<(), Fail> {
+/// Whether sets are listed with their costs.
+fn are_listed(cells: &[ListedCell], wanted: &[(Mask, u32)]) -> bool {
+    for (i, (mask, cost)) in wanted.iter().enumerate() {
+        match cells.get(i) {
+            Some(cell) if cell.mask == *mask && cell.cost == *cost => {}
+            _ => return false,
+        }
+    }
+    cells.len() == wanted.len()
+}
+
+/// Whether a certificate has the parts.
+fn is_of(cert: &Certificate, parts: &Parts) -> bool {
     let ((inputs, outputs), order, levels, total, pairs, cells) = parts;
-    assert_eq!(rt; cert.text(alloc)?.as_str(), text);
-    assert_eq!(rt;
-        (cert.inputs(), cert.outputs(), cert.total()),
-        (inputs, outputs, total)
-    );
-    assert_eq!(rt; cert.order(), order);
-    assert_eq!(rt; cert.levels(), levels);
-    assert_eq!(rt; cert.format(), if pairs.is_some() { 2 } else { 1 });
-    assert_eq!(rt; cert.pairs(), pairs.unwrap_or(&[]));
-    assert_eq!(rt; cert.cells(), listed(alloc, cells)?.as_slice());
-    Ok(())
+    let format = if pairs.is_some() { 2 } else { 1 };
+    cert.format() == format
+        && cert.inputs() == *inputs
+        && cert.outputs() == *outputs
+        && cert.order() == *order
+        && cert.levels() == *levels
+        && cert.total() == *total
+        && cert.pairs() == pairs.unwrap_or(&[])
+        && are_listed(cert.cells(), cells)
+}
+
+/// Whether parts have a spelling, as which their certificate is written.
+fn is_written(alloc: Global, parts: &Parts, spelling: &str) -> Result<bool, AllocError> {
+    let Some(cert) = certificate_of(alloc, parts)? else {
+        return Ok(false);
+    };
+    let text = cert.text(alloc)?;
+    Ok(is_of(&cert, parts) && text.as_str() == spelling)
+}
+
+/// Whether a spelling is read as a certificate of the parts.
+fn is_read(alloc: Global, parts: &Parts, spelling: &str) -> bool {
+    match Certificate::parse(alloc, spelling.as_bytes()) {
+        Ok(cert) => is_of(&cert, parts),
+        Err(_) => false,
+    }
 }
 
 #[test]
 fn spellings_are_written_and_read(rt: HostRuntime) -> Result<(), Fail> {
-    let alloc = rt.alloc();
-    for (parts, text) in &SPELLED {
-        let Some(made) = certificate_of(alloc, *parts)? else {
-            return Err("it has a spelling".into());
-        };
-        is_of(&rt, alloc, &made, *parts, text)?;
-        let Ok(read) = Certificate::parse(alloc, text.as_bytes()) else {
-            return Err("it is a spelling".into());
-        };
-        is_of(&rt, alloc, &read, *parts, text)?;
+    for (parts, spelling) in &SPELLED {
+        assert!(rt; is_written(rt.alloc(), parts, spelling)?);
+        assert!(rt; is_read(rt.alloc(), parts, spelling));
     }
     Ok(())
 }
@@ -154,32 +166,7 @@ fn spellings_are_written_and_read(rt: HostRuntime) -> Result<(), Fail> {
 #[test]
 fn other_parts_have_no_spelling(rt: HostRuntime) -> Result<(), Fail> {
     for parts in &UNSPELLED {
-        assert!(rt; certificate_of(rt.alloc(), *parts)?.is_none());
+        assert!(rt; certificate_of(rt.alloc(), parts)?.is_none());
     }
-    Ok(())
-}
-
-/// Each front of a text lacks a line, and a text of a byte too many is too long.
-#[test]
-fn fronts_lack_a_line(rt: HostRuntime) -> Result<(), Fail> {
-    let alloc = rt.alloc();
-    let mut line = 1;
-    for (len, byte) in ABOVE.as_bytes().iter().enumerate() {
-        match Certificate::parse(alloc, &ABOVE.as_bytes()[..len]) {
-            Ok(_) => panic!(rt; "{len} bytes"),
-            Err(found) => assert_eq!(rt; found, CertFault::Line(line, LineFault::MissingLine)),
-        }
-        if *byte == b'\n' {
-            line = usize::saturating_add(line, 1);
-        }
-    }
-    let long = Vec::from_elem(alloc, b'x', 1_048_577)?;
-    assert!(rt; matches!(Certificate::parse(alloc, &long), Err(CertFault::TooLong)));
-    assert!(rt;
-        matches!(
-            Certificate::parse(alloc, &long[1..]),
-            Err(CertFault::Line(1, LineFault::MissingLine))
-        )
-    );
     Ok(())
 }

@@ -6,6 +6,10 @@ mod certificates;
 #[cfg(test)]
 mod covers;
 #[cfg(test)]
+mod devices;
+#[cfg(test)]
+mod diagrams;
+#[cfg(test)]
 mod pairs;
 #[cfg(test)]
 mod tables;

@@ -1,82 +1,87 @@
-//! Workers, orders, truth tables, diagrams and devices.
+//! Workers, orders, truth tables and what is counted on above sets.
 
 ghost use Rattle.std.specs.Prelude.{◌≤◌};
 
-use counted_io::{Counting, Refused, read_all, write_whole};
 use order_model::packed::{bit_of, block, depends_on, lower_half, words_per_table};
 use order_model::{
-    BadOrder, Diagram, Gate, NoGate, Node, Order, Problem, Ref, Reserve, Reserves, Workers,
-    contains, eval, total,
+    BadOrder, Gate, NoGate, Order, Problem, Reserve, Reserves, VarIx, Workers, contains, total,
 };
 use std::alloc::{AllocError, Global};
-use std::io::{self, Read, Write};
 use std::test::Fail;
+
+/// How many workers there are, if there may be so many.
+fn counted(count: u8) -> Option<u8> {
+    match Workers::new(count) {
+        Some(workers) => Some(workers.count()),
+        None => None,
+    }
+}
 
 #[test]
 fn workers(rt: HostRuntime) {
-    for (count, want) in [(0, None), (1, Some(1)), (64, Some(64)), (65, None)] {
-        assert_eq!(rt; Workers::new(count).map(|w| w.count()), want, "at {count}");
-    }
+    assert!(rt; counted(0).is_none() && counted(1) == Some(1));
+    assert!(rt; counted(64) == Some(64) && counted(65).is_none());
     NoGate.between(1, 7);
 }
 
 #[test]
 fn members_of_sets(rt: HostRuntime) {
-    for (set, x, is_member) in [
-        (5u16, 2u8, true),
-        (5, 1, false),
-        (0x8000, 15, true),
-        (0, 0, false),
-    ] {
-        assert!(rt; x < 16);
-        assert_eq!(rt; contains(set, x), is_member, "{x} of {set}");
+    assert!(rt; contains(5, 2) && !contains(5, 1));
+    assert!(rt; contains(0x8000, 15) && !contains(0, 0));
+    assert!(rt; total(&[3, 0, 0xFFFF_FFFF]) == 0x1_0000_0002);
+}
+
+/// The fault of a list that is no order.
+fn fault_of(alloc: Global, list: &[VarIx]) -> Option<BadOrder> {
+    match Order::try_from_slice(alloc, list) {
+        Ok(_) => None,
+        Err(fault) => Some(fault),
     }
 }
 
 #[test]
-fn totals(rt: HostRuntime) {
-    assert_eq!(rt; total(&[3, 0, 0xFFFF_FFFF]), 0x1_0000_0002);
+fn lists_that_are_no_orders(rt: HostRuntime) {
+    let alloc = rt.alloc();
+    assert!(rt; fault_of(alloc, &[]) == Some(BadOrder::OutOfRange));
+    assert!(rt; fault_of(alloc, &[1, 1]) == Some(BadOrder::NotEach));
+    assert!(rt; fault_of(alloc, &[0, 2]) == Some(BadOrder::OutOfRange));
+    assert!(rt; fault_of(alloc, &[3, 0, 0]) == Some(BadOrder::OutOfRange));
+    let seventeen = [0, 1, 2, 3, 4, 5, 6, 7, 8, 9, 10, 11, 12, 13, 14, 15, 16];
+    assert!(rt; fault_of(alloc, &seventeen) == Some(BadOrder::OutOfRange));
+}
+
+/// Whether an order is this one, and so is its copy.
+fn is_order(alloc: Global, order: &Order, wanted: &[VarIx]) -> Result<bool, AllocError> {
+    let copy = order.try_clone(alloc)?;
+    Ok(order.variables() == wanted && copy.variables() == wanted)
+}
+
+/// Whether an order's list makes the same order again.
+fn is_made_again(alloc: Global, wanted: &[VarIx]) -> Result<bool, Fail> {
+    let order = Order::try_from_slice(alloc, wanted)?;
+    let listed = order.variables().to_vec(alloc)?;
+    Ok(Order::from_variables(listed).variables() == wanted)
 }
 
 #[test]
 fn orders(rt: HostRuntime) -> Result<(), Fail> {
-    let alloc = rt.alloc();
-    let refused: [(&[u8], BadOrder); 5] = [
-        (&[], BadOrder::OutOfRange),
-        (&[1, 1], BadOrder::NotEach),
-        (&[0, 2], BadOrder::OutOfRange),
-        (&[3, 0, 0], BadOrder::OutOfRange),
-        (
-            &[0, 1, 2, 3, 4, 5, 6, 7, 8, 9, 10, 11, 12, 13, 14, 15, 16],
-            BadOrder::OutOfRange,
-        ),
-    ];
-    for (list, want) in refused {
-        assert_eq!(rt;
-            Order::try_from_slice(alloc, list).err(),
-            Some(want),
-            "at {list:?}"
-        );
-    }
-    let mut order = Order::try_from_slice(alloc, &[2, 0, 1])?;
-    let listed = order.variables().to_vec(alloc)?;
-    assert_eq!(rt;
-        Order::from_variables(listed).variables(),
-        order.variables()
-    );
-    assert_eq!(rt; order.len(), 3);
-    assert_eq!(rt; order.variables(), [2, 0, 1].as_slice());
+    let mut order = Order::try_from_slice(rt.alloc(), &[2, 0, 1])?;
+    assert!(rt; is_order(rt.alloc(), &order, &[2, 0, 1])?);
+    assert!(rt; order.len() == 3);
     order.swap(1);
-    assert_eq!(rt; order.place_of(0), 2);
-    assert_eq!(rt; order.try_clone(alloc)?.variables(), [2, 1, 0].as_slice());
-    assert_eq!(rt;
-        Order::file_order(alloc, 4)?.variables(),
-        [0, 1, 2, 3].as_slice()
+    assert!(rt; order.len() == 3 && order.place_of(0) == 2);
+    assert!(rt; is_order(rt.alloc(), &order, &[2, 1, 0])?);
+    assert!(rt;
+        is_order(
+            rt.alloc(),
+            &Order::file_order(rt.alloc(), 4)?,
+            &[0, 1, 2, 3]
+        )?
     );
     Ok(())
 }
 
-// A problem with the value 1 at the given outputs and points, if it has them.
+/// A problem with the value 1 at the given outputs and points, if it has them.
 fn problem_of(alloc: Global, n: u8, m: u8, ones: &[(u8, u32)]) -> Result<Problem, AllocError>
     requires some_inputs { 1 ≤ n }
     requires few_inputs { n ≤ 16 }
@@ -92,7 +97,7 @@ fn problem_of(alloc: Global, n: u8, m: u8, ones: &[(u8, u32)]) -> Result<Problem
     Ok(problem)
 }
 
-// The value of an output at a point, if the problem has them.
+/// The value of an output at a point, if the problem has them.
 fn value_in(problem: &Problem, output: u8, point: u32) -> Option<bool> {
     if output < problem.outputs() && point < 1u32 << problem.inputs() {
         Some(problem.value(output, point))
@@ -101,51 +106,53 @@ fn value_in(problem: &Problem, output: u8, point: u32) -> Option<bool> {
     }
 }
 
+/// Whether an output has these values at the points from 0 on.
+fn has_values(problem: &Problem, output: u8, wanted: &[bool]) -> bool {
+    let mut point = 0u32;
+    for value in wanted {
+        if value_in(problem, output, point) != Some(*value) {
+            return false;
+        }
+        point = point.wrapping_add(1);
+    }
+    true
+}
+
 // Two inputs: their conjunction and their disjunction.
 #[test]
 fn conjunction_and_disjunction(rt: HostRuntime) -> Result<(), Fail> {
     let problem = problem_of(rt.alloc(), 2, 2, &[(0, 3), (1, 1), (1, 2), (1, 3)])?;
-    assert_eq!(rt; problem.inputs(), 2);
-    assert_eq!(rt; problem.outputs(), 2);
-    for (output, values) in [
-        (0, [false, false, false, true]),
-        (1, [false, true, true, true]),
-    ] {
-        for (point, want) in values.iter().enumerate() {
-            assert_eq!(rt;
-                value_in(&problem, output, point as u32),
-                Some(*want),
-                "at {output} {point}"
-            );
-        }
-    }
-    assert_eq!(rt; problem.essential(), 0b11);
+    assert!(rt; problem.inputs() == 2 && problem.outputs() == 2);
+    assert!(rt; has_values(&problem, 0, &[false, false, false, true]));
+    assert!(rt; has_values(&problem, 1, &[false, true, true, true]));
+    assert!(rt; problem.essential() == 0b11);
     Ok(())
 }
 
 // Three inputs a, b, s: b if s is 1, else a.
-const MULTIPLEXER: u64 = 0b1100_1010;
-
 #[test]
 fn multiplexer(rt: HostRuntime) -> Result<(), Fail> {
-    let alloc = rt.alloc();
-    let problem = problem_of(alloc, 3, 1, &[(0, 1), (0, 3), (0, 6), (0, 7)])?;
-    assert_eq!(rt; problem.outputs(), 1);
-    assert_eq!(rt; problem.words(0), [MULTIPLEXER].as_slice());
-    assert_eq!(rt; problem.essential(), 0b111);
-    for x in 0..problem.inputs() {
-        assert!(rt; depends_on(problem.inputs(), problem.words(0), x));
+    let problem = problem_of(rt.alloc(), 3, 1, &[(0, 1), (0, 3), (0, 6), (0, 7)])?;
+    let (inputs, outputs, essential) = (problem.inputs(), problem.outputs(), problem.essential());
+    let words = problem.words(0);
+    assert!(rt; inputs == 3 && outputs == 1 && essential == 0b111);
+    assert!(rt; words == [0b1100_1010].as_slice());
+    for x in 0..inputs {
+        assert!(rt; depends_on(inputs, words, x));
     }
-    let words = problem.words(0).to_vec(alloc)?;
-    let same = Problem::from_words(problem.inputs(), problem.outputs(), words);
-    assert_eq!(rt; value_in(&same, 0, 6), Some(true));
-    assert_eq!(rt; value_in(&same, 0, 5), Some(false));
-    let one_of_seven = problem_of(alloc, 7, 1, &[(0, 64), (0, 127)])?;
-    assert_eq!(rt; one_of_seven.essential(), 0b0111_1111);
+    let same = Problem::from_words(inputs, outputs, words.to_vec(rt.alloc())?);
+    assert!(rt; value_in(&same, 0, 6) == Some(true) && value_in(&same, 0, 5) == Some(false));
     Ok(())
 }
 
-// The nodes that are counted on above the variable 0 of three, if its width is 2.
+#[test]
+fn variables_past_the_first_word(rt: HostRuntime) -> Result<(), Fail> {
+    let problem = problem_of(rt.alloc(), 7, 1, &[(0, 64), (0, 127)])?;
+    assert!(rt; problem.essential() == 0b0111_1111);
+    Ok(())
+}
+
+/// The nodes that are counted on above the variable 0 of three, if its width is 2.
 fn above_the_first(problem: &Problem, reserve: Reserve) -> Option<u64> {
     if problem.inputs() != 3 {
         return None;
@@ -160,8 +167,8 @@ fn above_the_first(problem: &Problem, reserve: Reserve) -> Option<u64> {
 fn nodes_above_a_set(rt: HostRuntime) -> Result<(), Fail> {
     let ones = [(0, 6), (0, 7), (1, 1), (1, 2), (1, 4), (1, 7)];
     let problem = problem_of(rt.alloc(), 3, 2, &ones)?;
-    assert_eq!(rt; above_the_first(&problem, Reserve::Variables), Some(2));
-    assert_eq!(rt; above_the_first(&problem, Reserve::Widths), Some(3));
+    assert!(rt; above_the_first(&problem, Reserve::Variables) == Some(2));
+    assert!(rt; above_the_first(&problem, Reserve::Widths) == Some(3));
     let reserves = Reserves::new(&problem, Reserve::Widths);
     assert!(rt; reserves.essential() == 0b111 && reserves.reserve() == Reserve::Widths);
     Ok(())
@@ -169,120 +176,9 @@ fn nodes_above_a_set(rt: HostRuntime) -> Result<(), Fail> {
 
 #[test]
 fn packed_words(rt: HostRuntime) {
-    for (n, want) in [(1, 1), (6, 1), (7, 2), (16, 1024)] {
-        assert_eq!(rt; words_per_table(n), want, "at {n}");
-    }
-    assert_eq!(rt; block(&[10, 11, 12, 13], 2, 1), [12, 13].as_slice());
-    assert!(rt; bit_of(&[0, 4], 66));
-    assert!(rt; !bit_of(&[0, 4], 65));
-    assert_eq!(rt; lower_half(2), 0x0f0f_0f0f_0f0f_0f0f);
-}
-
-// The multiplexer's diagram under the order s, a, b.
-#[test]
-fn diagram(rt: HostRuntime) -> Result<(), Fail> {
-    let alloc = rt.alloc();
-    let order = Order::try_from_slice(alloc, &[2, 0, 1])?;
-    let nodes = vec![in alloc;
-        Node {
-            variable: 0,
-            low: Ref::Terminal(false),
-            high: Ref::Terminal(true)
-        },
-        Node {
-            variable: 1,
-            low: Ref::Terminal(false),
-            high: Ref::Terminal(true)
-        },
-        Node {
-            variable: 2,
-            low: Ref::Place(0),
-            high: Ref::Place(1)
-        },
-    ]?;
-    let roots = vec![in alloc; Ref::Place(2)]?;
-    let diagram = Diagram::new(order, nodes, roots);
-    assert_eq!(rt; diagram.size(), 3);
-    assert_eq!(rt;
-        diagram.level_counts(),
-        [1, 1, 1, 0, 0, 0, 0, 0, 0, 0, 0, 0, 0, 0, 0, 0]
-    );
-    assert_eq!(rt; diagram.roots().len(), 1);
-    for point in 0..8u32 {
-        assert_eq!(rt;
-            diagram.eval(0, point),
-            (MULTIPLEXER >> point) & 1 == 1,
-            "at {point}"
-        );
-    }
-    assert!(rt; eval(3, diagram.nodes(), Ref::Terminal(true), 0));
-    assert_eq!(rt; diagram.order().variables(), [2, 0, 1].as_slice());
-    let (order, nodes, roots) = diagram.into_parts();
-    assert_eq!(rt; (order.len(), nodes.len(), roots.len()), (3, 3, 1));
-    Ok(())
-}
-
-// Gives or takes one byte a call, and fails after some.
-#[derive(Drop)]
-struct Fails {
-    after: u8,
-}
-
-impl Read for Fails {
-    fn read(&mut self, buf: &mut [u8]) -> io::Result<usize> {
-        if self.after == 0 {
-            return Err(io::ErrorKind::Other.into());
-        }
-        if buf.is_empty() {
-            return Ok(0);
-        }
-        self.after -= 1;
-        buf[0] = b'a';
-        Ok(1)
-    }
-}
-
-impl Write for Fails {
-    fn write(&mut self, buf: &[u8]) -> io::Result<usize> {
-        if self.after == 0 || buf.is_empty() {
-            return Ok(0);
-        }
-        self.after -= 1;
-        Ok(1)
-    }
-
-    fn flush(&mut self) -> io::Result<()> {
-        Ok(())
-    }
-}
-
-#[test]
-fn devices(rt: HostRuntime) -> Result<(), Fail> {
-    let alloc = rt.alloc();
-    let text: &[u8] = b"0 1 2";
-    let read = read_all(alloc, &mut Counting::new(text), 5)
-        .ok()
-        .ok_or("refused")?;
-    assert_eq!(rt; read.as_slice(), text);
-    assert_eq!(rt;
-        read_all(alloc, &mut Counting::new(text), 4).err(),
-        Some(Refused::TooLong)
-    );
-    assert_eq!(rt;
-        read_all(alloc, &mut Counting::new(Fails { after: 2 }), 9).err(),
-        Some(Refused::Device)
-    );
-
-    let mut written = Vec::new(alloc);
-    assert_eq!(rt; write_whole(&mut Counting::new(&mut written), text), Ok(()));
-    assert_eq!(rt; written.as_slice(), text);
-    assert_eq!(rt;
-        write_whole(&mut Counting::new(Fails { after: 5 }), text),
-        Ok(())
-    );
-    assert_eq!(rt;
-        write_whole(&mut Counting::new(Fails { after: 4 }), text),
-        Err(Refused::Device)
-    );
-    Ok(())
+    assert!(rt; words_per_table(1) == 1 && words_per_table(6) == 1);
+    assert!(rt; words_per_table(7) == 2 && words_per_table(16) == 1024);
+    assert!(rt; block(&[10, 11, 12, 13], 2, 1) == [12, 13].as_slice());
+    assert!(rt; bit_of(&[0, 4], 66) && !bit_of(&[0, 4], 65));
+    assert!(rt; lower_half(2) == 0x0f0f_0f0f_0f0f_0f0f);
 }

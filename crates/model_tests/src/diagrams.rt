@@ -1,0 +1,64 @@
+//! A diagram and its parts.
+
+use order_model::{Diagram, Node, Order, Ref, eval};
+use std::alloc::Global;
+use std::test::Fail;
+
+/// Three inputs a, b, s: b if s is 1, else a.
+const MULTIPLEXER: u64 = 0b1100_1010;
+
+/// The multiplexer's diagram under the order s, a, b.
+fn multiplexer(alloc: Global) -> Result<Diagram, Fail> {
+    let order = Order::try_from_slice(alloc, &[2, 0, 1])?;
+    let nodes = vec![in alloc;
+        Node {
+            variable: 0,
+            low: Ref::Terminal(false),
+            high: Ref::Terminal(true)
+        },
+        Node {
+            variable: 1,
+            low: Ref::Terminal(false),
+            high: Ref::Terminal(true)
+        },
+        Node {
+            variable: 2,
+            low: Ref::Place(0),
+            high: Ref::Place(1)
+        },
+    ]?;
+    let roots = vec![in alloc; Ref::Place(2)]?;
+    Ok(Diagram::new(order, nodes, roots))
+}
+
+/// Whether a diagram's one root has the multiplexer's values.
+fn is_multiplexer(diagram: &Diagram) -> bool {
+    if diagram.roots().len() != 1 {
+        return false;
+    }
+    for point in 0..8u32 {
+        if diagram.eval(0, point) != ((MULTIPLEXER >> point) & 1 == 1) {
+            return false;
+        }
+    }
+    true
+}
+
+#[test]
+fn values_of_a_diagram(rt: HostRuntime) -> Result<(), Fail> {
+    let diagram = multiplexer(rt.alloc())?;
+    assert!(rt; is_multiplexer(&diagram));
+    assert!(rt; eval(3, &[], Ref::Terminal(true), 0));
+    Ok(())
+}
+
+#[test]
+fn parts_of_a_diagram(rt: HostRuntime) -> Result<(), Fail> {
+    let diagram = multiplexer(rt.alloc())?;
+    assert!(rt; diagram.size() == 3);
+    assert!(rt; diagram.level_counts() == [1, 1, 1, 0, 0, 0, 0, 0, 0, 0, 0, 0, 0, 0, 0, 0]);
+    assert!(rt; diagram.order().variables() == [2, 0, 1].as_slice());
+    let (order, nodes, roots) = diagram.into_parts();
+    assert!(rt; order.len() == 3 && nodes.len() == 3 && roots.len() == 1);
+    Ok(())
+}
