@@ -41,6 +41,11 @@ impl FailingWriter {
             most_a_call,
         }
     }
+
+    /// A writer with room for everything.
+    pub fn ample(alloc: Global) -> FailingWriter {
+        FailingWriter::new(alloc, 10_000_000, 10_000_000)
+    }
 }
 
 impl Write for FailingWriter {

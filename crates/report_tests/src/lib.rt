@@ -1,4 +1,4 @@
-//! Tests of runs and checks over memory and over devices that fail.
+//! Tests of runs and checks over devices that fail.
 #![tactic(auto)]
 
 #[cfg(test)]

@@ -1,13 +1,11 @@
-//! Runs over memory and over devices that fail.
+//! Runs over devices that fail.
 
 use crate::devices::{FailingReader, FailingWriter};
 use counted_io::Counting;
 use order_model::Workers;
 use outcomes::{Fault, Outcome};
 use report::{RunPlan, run};
-use std::alloc::Global;
 use std::io::{ErrorKind, Read};
-use std::test::Fail;
 use std::thread::Threads;
 
 /// The multiplexer, its report, and its certificate.
@@ -19,138 +17,133 @@ static REPORT: &[u8] =
 static CERTIFICATE: &[u8] =
     b"bddorder-certificate 2\ninputs 3\noutputs 1\norder 2 0 1\nlevels 1 1 1\ntotal 3\npairs 0\ncells 0\nend\n";
 
-/// All sixteen ones.
-static ONES: &[u8] = b".i 16\n.o 1\n1111111111111111 1\n.e\n";
+/// How a run ended, and what the writers of the report and of the certificate then hold.
+#[derive(Drop)]
+struct Ended {
+    outcome: Outcome,
+    report: FailingWriter,
+    certificate: FailingWriter,
+}
 
-static ONES_REPORT: &[u8] =
-    b"order: 0 1 2 3 4 5 6 7 8 9 10 11 12 13 14 15\nnames: x0 x1 x2 x3 x4 x5 x6 x7 x8 x9 x10 x11 x12 x13 x14 x15\nlevels: 1 1 1 1 1 1 1 1 1 1 1 1 1 1 1 1\nnodes: 16\nsifted order: 15 14 13 12 11 10 9 8 7 6 5 4 3 2 1 0\nsifted nodes: 16\nfile order nodes: 16\n";
+impl Ended {
+    /// Whether a run ended so, with these bytes in its writers.
+    fn is(&self, outcome: Outcome, report: &[u8], certificate: &[u8]) -> bool {
+        self.outcome == outcome
+            && self.report.taken.as_slice() == report
+            && self.certificate.taken.as_slice() == certificate
+    }
+}
 
-/// Fronts of the multiplexer's file, and their counts.
-static FRONTS: [(usize, &[u8]); 2] = [
-    (9, b"levels: 0 0 0\nnodes: 0\n"),
-    (32, b"levels: 1 0 1\nnodes: 2\n"),
-];
-
-/// How a run ends, and what the writers of the report and of the certificate then hold.
+/// A run of two workers over a reader, or a count, with these two writers.
 fn ran<T: AllocGlobal + Threads + Sync, R: Read + Drop>(
     rt: &T,
-    workers: u8,
     count: bool,
     reader: R,
-    out: FailingWriter,
-    cert: FailingWriter,
-) -> Result<(Outcome, FailingWriter, FailingWriter), Fail> {
+    report: FailingWriter,
+    certificate: FailingWriter,
+) -> Option<Ended> {
     let plan = RunPlan {
-        workers: Workers::new(workers).ok_or("workers")?,
+        workers: Workers::new(2)?,
         count,
         above: None,
     };
     let mut file = Counting::new(reader);
-    let mut out = Counting::new(out);
-    let mut cert = Some(Counting::new(cert));
-    let outcome = run(rt, rt.alloc(), &plan, &mut file, &mut out, &mut cert);
-    let cert = cert.ok_or("certificate")?;
-    Ok((outcome, out.into_inner(), cert.into_inner()))
+    let mut report = Counting::new(report);
+    let mut certificate = Some(Counting::new(certificate));
+    let outcome = run(
+        rt,
+        rt.alloc(),
+        &plan,
+        &mut file,
+        &mut report,
+        &mut certificate,
+    );
+    Some(Ended {
+        outcome,
+        report: report.into_inner(),
+        certificate: certificate?.into_inner(),
+    })
 }
 
-/// A writer with room for everything.
-fn ample(alloc: Global) -> FailingWriter {
-    FailingWriter::new(alloc, 10_000_000, 10_000_000)
-}
-
-#[test]
-fn each_number_of_workers_answers_the_same(rt: HostRuntime) -> Result<(), Fail> {
-    for workers in [1, 2, 64] {
-        let (outcome, out, cert) = ran(
-            &rt,
-            workers,
-            false,
-            ONES,
-            ample(rt.alloc()),
-            ample(rt.alloc()),
-        )?;
-        assert_eq!(rt; outcome, Outcome::Done);
-        assert_eq!(rt; out.taken.as_slice(), ONES_REPORT);
-        assert!(rt; cert.taken.ends_with(b"pairs 0\ncells 0\nend\n"));
+/// Whether a run over a reader that fails after some calls leaves nothing, and one whose reader
+/// doesn't fail ends well. The file is eleven pieces of at most four bytes, and a call that finds
+/// the end.
+fn ends_as_read<T: AllocGlobal + Threads + Sync>(
+    rt: &T,
+    calls_left: u32,
+    error: ErrorKind,
+) -> bool {
+    let reader = FailingReader {
+        rest: FILE,
+        calls_left,
+        error,
+    };
+    let (report, certificate) = (
+        FailingWriter::ample(rt.alloc()),
+        FailingWriter::ample(rt.alloc()),
+    );
+    match ran(rt, false, reader, report, certificate) {
+        Some(ended) if calls_left < 12 => ended.is(Outcome::Refused(Fault::Device), &[], &[]),
+        Some(ended) => ended.is(Outcome::Done, REPORT, CERTIFICATE),
+        None => false,
     }
-    Ok(())
 }
 
 #[test]
-fn counts_leave_the_certificate_alone(rt: HostRuntime) -> Result<(), Fail> {
-    for (length, wanted) in &FRONTS {
-        let (outcome, out, cert) = ran(
-            &rt,
-            1,
-            true,
-            &FILE[..*length],
-            ample(rt.alloc()),
-            ample(rt.alloc()),
-        )?;
-        assert_eq!(rt; outcome, Outcome::Done);
-        assert_eq!(rt; out.taken.as_slice(), *wanted);
-        assert_eq!(rt; cert.taken.len(), 0);
-    }
-    Ok(())
-}
-
-#[test]
-fn readers_that_fail_leave_nothing(rt: HostRuntime) -> Result<(), Fail> {
-    // eleven pieces of at most four bytes, and a call that finds the end
-    let pieces = (FILE.len() + 3) / 4;
+fn readers_that_fail_leave_nothing(rt: HostRuntime) {
     for error in [ErrorKind::Interrupted, ErrorKind::Other] {
         for calls_left in 0..20 {
-            let reader = FailingReader {
-                rest: FILE,
-                calls_left,
-                error,
-            };
-            let (outcome, out, cert) = ran(
-                &rt,
-                2,
-                false,
-                reader,
-                ample(rt.alloc()),
-                ample(rt.alloc()),
-            )?;
-            if (calls_left as usize) <= pieces {
-                assert_eq!(rt; outcome, Outcome::Refused(Fault::Device));
-                assert_eq!(rt; out.taken.len() + cert.taken.len(), 0);
-            } else {
-                assert_eq!(rt; outcome, Outcome::Done);
-            }
+            assert!(rt; ends_as_read(&rt, calls_left, error));
         }
     }
-    Ok(())
+}
+
+/// Whether a run whose report's writer fails after some bytes leaves these, and the certificate.
+fn ends_as_reported<T: AllocGlobal + Threads + Sync>(rt: &T, report: &[u8]) -> bool {
+    let writer = FailingWriter::new(rt.alloc(), report.len(), 1000);
+    match ran(rt, false, FILE, writer, FailingWriter::ample(rt.alloc())) {
+        Some(ended) => ended.is(Outcome::Refused(Fault::Device), report, CERTIFICATE),
+        None => false,
+    }
+}
+
+/// Whether a run whose certificate's writer fails after some bytes leaves these, and no report.
+fn ends_as_certified<T: AllocGlobal + Threads + Sync>(rt: &T, certificate: &[u8]) -> bool {
+    let writer = FailingWriter::new(rt.alloc(), certificate.len(), 1000);
+    match ran(rt, false, FILE, FailingWriter::ample(rt.alloc()), writer) {
+        Some(ended) => ended.is(Outcome::Refused(Fault::Device), &[], certificate),
+        None => false,
+    }
 }
 
 #[test]
-fn writers_that_fail_hold_a_beginning(rt: HostRuntime) -> Result<(), Fail> {
+fn writers_that_fail_hold_a_beginning(rt: HostRuntime) {
     for bytes_left in 0..REPORT.len() {
-        let writer = FailingWriter::new(rt.alloc(), bytes_left, 1000);
-        let (outcome, out, cert) = ran(&rt, 2, false, FILE, writer, ample(rt.alloc()))?;
-        assert_eq!(rt; outcome, Outcome::Refused(Fault::Device));
-        assert_eq!(rt; out.taken.as_slice(), &REPORT[..bytes_left]);
-        assert_eq!(rt; cert.taken.as_slice(), CERTIFICATE);
+        assert!(rt; ends_as_reported(&rt, &REPORT[..bytes_left]));
     }
     for bytes_left in 0..CERTIFICATE.len() {
-        let writer = FailingWriter::new(rt.alloc(), bytes_left, 1000);
-        let (outcome, out, cert) = ran(&rt, 2, false, FILE, ample(rt.alloc()), writer)?;
-        assert_eq!(rt; outcome, Outcome::Refused(Fault::Device));
-        assert_eq!(rt; out.taken.len(), 0);
-        assert_eq!(rt; cert.taken.as_slice(), &CERTIFICATE[..bytes_left]);
+        assert!(rt; ends_as_certified(&rt, &CERTIFICATE[..bytes_left]));
     }
-    let slow = FailingWriter::new(rt.alloc(), 1000, 1);
-    let (outcome, out, cert) = ran(
-        &rt,
-        2,
-        false,
-        FILE,
-        slow,
-        FailingWriter::new(rt.alloc(), 1000, 1),
-    )?;
-    assert_eq!(rt; outcome, Outcome::Done);
-    assert_eq!(rt; out.taken.as_slice(), REPORT);
-    assert_eq!(rt; cert.taken.as_slice(), CERTIFICATE);
-    Ok(())
+}
+
+#[test]
+fn slow_writers_hold_all(rt: HostRuntime) {
+    let report = FailingWriter::new(rt.alloc(), 1000, 1);
+    let certificate = FailingWriter::new(rt.alloc(), 1000, 1);
+    match ran(&rt, false, FILE, report, certificate) {
+        Some(ended) => assert!(rt; ended.is(Outcome::Done, REPORT, CERTIFICATE)),
+        None => panic!(rt; "no run"),
+    }
+}
+
+#[test]
+fn counts_leave_the_certificate_alone(rt: HostRuntime) {
+    let (report, certificate) = (
+        FailingWriter::ample(rt.alloc()),
+        FailingWriter::ample(rt.alloc()),
+    );
+    match ran(&rt, true, FILE, report, certificate) {
+        Some(ended) => assert!(rt; ended.is(Outcome::Done, b"levels: 1 2 2\nnodes: 5\n", &[])),
+        None => panic!(rt; "no run"),
+    }
 }
