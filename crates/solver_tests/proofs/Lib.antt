@@ -1,2 +1,1 @@
-mod CheckedDiagrams
 mod Parity

@@ -1,2 +1,1 @@
-pub mod Checked
 pub mod Examples

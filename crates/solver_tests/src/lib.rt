@@ -6,8 +6,6 @@ mod boards;
 #[cfg(test)]
 mod layers;
 #[cfg(test)]
-mod reduced;
-#[cfg(test)]
 mod sifts;
 #[cfg(test)]
 mod solutions;
