@@ -5,8 +5,7 @@ use anyhow::{Context, Result, bail};
 use checks::ordercheck;
 use counted_io::Counting;
 use report::minorder;
-use std::fs::{self, File};
-use std::io::Write;
+use std::fs;
 use std::rt::Files;
 use std::thread::Threads;
 
@@ -46,10 +45,11 @@ fn call<R: Files + AllocGlobal + Threads + Sync>(rt: &R, line: &str) -> Result<S
 fn put_files<R: Files>(rt: &R, case: &Case<'_>, length: usize) -> Result<()> {
     for text in case.texts.iter() {
         if let Place::File(name) = text.place {
+            if fs::exists(rt, name)? {
+                bail!("{name} is there");
+            }
             let bytes = text.bytes.get(..length).unwrap_or(&text.bytes);
-            File::create_new(rt, name)
-                .context(format_args!("putting {name} there"))?
-                .write_all(bytes)?;
+            fs::write(rt, name, bytes).context(format_args!("putting {name} there"))?;
         }
     }
     Ok(())
@@ -75,13 +75,19 @@ fn agrees(case: &Case<'_>, stream: Place<'_>, got: &[u8]) -> bool {
     }
 }
 
+/// Whether a file holds these bytes.
+fn holds<R: Files + AllocGlobal>(rt: &R, name: &str, bytes: &[u8]) -> bool {
+    match fs::read(rt, name) {
+        Ok(held) => held.as_slice() == bytes,
+        Err(_) => false,
+    }
+}
+
 /// Whether the files are as the case says.
 fn has_files<R: Files + AllocGlobal>(rt: &R, case: &Case<'_>) -> Result<bool> {
     for text in case.texts.iter() {
         let is_well = match text.place {
-            Place::After(name) => {
-                fs::read(rt, name).is_ok_and(|bytes| bytes.as_slice() == text.bytes.as_slice())
-            }
+            Place::After(name) => holds(rt, name, &text.bytes),
             Place::Absent(name) => !fs::exists(rt, name)?,
             _ => true,
         };

@@ -42,6 +42,28 @@ pub struct Case<'a> {
     pub by_clap: Option<Place<'a>>,
 }
 
+/// The text that a line of these words begins, if it begins one.
+fn place_of<'a>(word: &str, rest: &'a str) -> Option<Place<'a>> {
+    match word {
+        "file" => Some(Place::File(rest)),
+        "after" => Some(Place::After(rest)),
+        "absent" => Some(Place::Absent(rest)),
+        "output" if rest.is_empty() => Some(Place::Output),
+        "errors" if rest.is_empty() => Some(Place::Errors),
+        _ => None,
+    }
+}
+
+/// Two lengths.
+fn lengths(range: &str) -> Result<(usize, usize)> {
+    let Some((first, last)) = range.split_once(' ') else {
+        bail!("two lengths")
+    };
+    let first = first.parse()?;
+    let last = last.parse()?;
+    Ok((first, last))
+}
+
 impl<'a> Case<'a> {
     fn new(alloc: Global, name: &'a str) -> Case<'a> {
         Case {
@@ -61,48 +83,90 @@ impl<'a> Case<'a> {
         Ok(())
     }
 
+    /// Adds a call.
+    fn call(&mut self, words: &'a str) -> Result<(), AllocError> {
+        self.calls.push(words)?;
+        Ok(())
+    }
+
     /// Reads a line that says something of the case.
     fn read_line<R: Files + AllocGlobal>(&mut self, rt: &R, line: &'a str) -> Result<()> {
-        match line.split_once(' ').unwrap_or((line, "")) {
-            ("call", call) => self.calls.push(call)?,
-            ("file", name) => self.begin(rt.alloc(), Place::File(name))?,
-            ("lengths", range) => {
-                let (first, last) = range.split_once(' ').context("two lengths")?;
-                self.lengths = (first.parse()?, last.parse()?);
-            }
-            ("status", number) => self.status = number.parse()?,
-            ("output", "by clap") => self.by_clap = Some(Place::Output),
-            ("errors", "by clap") => self.by_clap = Some(Place::Errors),
-            ("output", "") => self.begin(rt.alloc(), Place::Output)?,
-            ("errors", "") => self.begin(rt.alloc(), Place::Errors)?,
-            ("after", name) => self.begin(rt.alloc(), Place::After(name))?,
-            ("absent", name) => self.begin(rt.alloc(), Place::Absent(name))?,
-            _ => self.lengthen(rt, line)?,
+        let (word, rest) = line.split_once(' ').unwrap_or((line, ""));
+        if let Some(place) = place_of(word, rest) {
+            return Ok(self.begin(rt.alloc(), place)?);
         }
-        Ok(())
+        match word {
+            "call" => Ok(self.call(rest)?),
+            "lengths" => {
+                self.lengths = lengths(rest)?;
+                Ok(())
+            }
+            "status" => {
+                self.status = rest.parse()?;
+                Ok(())
+            }
+            "output" | "errors" if rest == "by clap" => {
+                self.by_clap = place_of(word, "");
+                Ok(())
+            }
+            _ => self.lengthen(rt, line),
+        }
     }
 
     /// Adds to the last text what a line says.
     fn lengthen<R: Files + AllocGlobal>(&mut self, rt: &R, line: &str) -> Result<()> {
-        let text = self.texts.last_mut().context("a line of no text")?;
-        if let Some(whole) = line.strip_prefix('|') {
-            text.bytes.extend_from_slice(whole.as_bytes())?;
-            text.bytes.push(b'\n')?;
-        } else if let Some(begun) = line.strip_prefix('+') {
-            text.bytes.extend_from_slice(begun.as_bytes())?;
-        } else {
-            match line.split_once(' ') {
-                Some(("bytes", codes)) => {
-                    for code in codes.split(' ') {
-                        text.bytes.push(u8::from_str_radix(code, 16)?)?;
-                    }
-                }
-                Some(("fill", length)) => text.bytes.resize(length.parse()?, b'x')?,
-                Some(("from", name)) => text.bytes.extend_from_slice(&fs::read(rt, name)?)?,
-                _ => bail!("no line of a case"),
-            }
+        match self.texts.last_mut() {
+            Some(text) => lengthen(rt, &mut text.bytes, line),
+            None => bail!("a line of no text"),
         }
-        Ok(())
+    }
+}
+
+/// Adds a text, and a line feed if it is a whole line.
+fn add_text(bytes: &mut Vec<u8>, text: &str, is_whole: bool) -> Result<(), AllocError> {
+    bytes.extend_from_slice(text.as_bytes())?;
+    if is_whole {
+        bytes.push(b'\n')?;
+    }
+    Ok(())
+}
+
+/// Adds bytes by their hexadecimal codes.
+fn add_codes(bytes: &mut Vec<u8>, codes: &str) -> Result<()> {
+    for code in codes.split(' ') {
+        let byte = u8::from_str_radix(code, 16)?;
+        bytes.push(byte)?;
+    }
+    Ok(())
+}
+
+/// Adds what a file holds.
+fn add_file<R: Files + AllocGlobal>(rt: &R, bytes: &mut Vec<u8>, name: &str) -> Result<()> {
+    let held = fs::read(rt, name)?;
+    bytes.extend_from_slice(&held)?;
+    Ok(())
+}
+
+/// Makes a text as long as a number says.
+fn fill(bytes: &mut Vec<u8>, length: &str) -> Result<()> {
+    let length = length.parse()?;
+    bytes.resize(length, b'x')?;
+    Ok(())
+}
+
+/// Adds to a text what a line says.
+fn lengthen<R: Files + AllocGlobal>(rt: &R, bytes: &mut Vec<u8>, line: &str) -> Result<()> {
+    if let Some(whole) = line.strip_prefix('|') {
+        return Ok(add_text(bytes, whole, true)?);
+    }
+    if let Some(begun) = line.strip_prefix('+') {
+        return Ok(add_text(bytes, begun, false)?);
+    }
+    match line.split_once(' ') {
+        Some(("bytes", codes)) => add_codes(bytes, codes),
+        Some(("fill", length)) => fill(bytes, length),
+        Some(("from", name)) => add_file(rt, bytes, name),
+        _ => bail!("no line of a case"),
     }
 }
 
