@@ -6,7 +6,6 @@ use crate::plain::Plain;
 use cert_check::{Verdict, check, check_alone};
 use certificate::Certificate;
 use counted_io::Counting;
-use dd_builder::build_tables;
 use order_model::{ListedCell, NoGate, Pairs, VarIx, Workers};
 use order_solve::{Solution, solve};
 use pla_reader::read_cover;
@@ -15,6 +14,7 @@ use sifting::laws::diagrams_have_their_problems_tables;
 use std::alloc::{AllocError, Global};
 use std::test::Fail;
 use std::thread::Threads;
+use table_diagrams::reduced_diagram;
 use truth_table::Tables;
 
 /// A set, or a point, with the lower half of the variables exchanged with the upper one.
@@ -94,9 +94,7 @@ fn solution_of<R: Threads + Sync>(
     if order.len() != usize::from(problem.inputs()) {
         return Err("an order of other variables".into());
     }
-    let Ok(diagram) = build_tables(rt, alloc, tables, &order, workers, &NoGate) else {
-        return Err("no diagram".into());
-    };
+    let diagram = reduced_diagram(alloc, tables, &order)?;
     diagrams_have_their_problems_tables(problem);
     let sifted = Manager::with_pairs(alloc, diagram, pairs)?.sift(alloc)?;
     Ok(solve(rt, alloc, problem, sifted, workers, &NoGate)?)
