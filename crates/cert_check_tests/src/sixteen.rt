@@ -18,7 +18,8 @@ fn tables_of_ones<R: Threads + Sync>(rt: &R, alloc: Global) -> Result<Tables, Fa
     Ok(tables)
 }
 
-/// Costs of sets: that of the empty one, and of any other one a number for each member and one more.
+/// Costs of sets: that of the empty one, and of any other one a number for each member and a
+/// further one.
 #[derive(Clone, Copy)]
 struct Costs {
     start: u32,
