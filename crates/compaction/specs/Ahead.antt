@@ -1,17 +1,21 @@
 -- Widths that are found ahead of their layer.
---     RowsOf      some sets, of each the members whose widths are needed, and its row
---     AreAhead p found      the rows hold the widths of a problem's variables
-use Rattle.std.specs.Prelude.{ℕ, List}
+--     RowsOf      some sets, and of each its row
+--     AreAhead p found      the rows hold the widths of all members, of a problem's variables
+--     widths_ahead found      how many widths the rows hold
+use Rattle.std.specs.Prelude.{ℕ, List, sum_by}
 use Rattle.std.specs.List.{All}
 use Rattle.order_model.specs.Problems.{TruthTables}
-use Rattle.compaction.specs.Rows.{AreRows}
+use Rattle.compaction.specs.Rows.{AreRows, wanted_count}
 
--- some sets, of each the members whose widths are needed, and its row
+-- some sets, and of each its row
 pub record RowsOf : Type 0 where
   pub masks : List ℕ
-  pub needed : List ℕ
   pub rows : List (List ℕ)
 
--- the rows hold the widths of a problem's variables
+-- the rows hold the widths of all members of the sets
 abbrev pub AreAhead : TruthTables → List RowsOf → Type 0
-AreAhead p found = All (λ r. AreRows p r.masks r.needed r.rows) found
+AreAhead p found = All (λ r. AreRows p r.masks r.masks r.rows) found
+
+-- how many widths the rows hold: one for each member of each set
+abbrev pub widths_ahead : List RowsOf → ℕ
+widths_ahead found = sum_by (λ r. wanted_count r.masks) found

@@ -1,26 +1,27 @@
 //! Widths that are found ahead of their layer: the walk that goes to the sets of a layer goes on to
 //! those of later ones, so that the tables on the way serve all of them.
 
-ghost use Rattle.std.specs.Prelude.{◌≡◌, ℕ, ◌+◌, ◌^◌, ◌<◌, ◌≤◌, ◌++◌, ◌∷◌, ◌==◌, if◌then◌else◌, take, length, slice_index, [], IfOk, IfSome, OnOk};
+ghost use Rattle.std.specs.Prelude.{◌≡◌, ℕ, ◌+◌, ◌^◌, ◌<◌, ◌≤◌, ◌++◌, ◌∷◌, ◌==◌, if◌then◌else◌, length, slice_index, [], IfOk, IfSome, OnOk, OnErr};
 ghost use Rattle.std.specs.Int.{bit_at};
+ghost use Rattle.order_model.specs.Problems.{TruthTables};
 ghost use Rattle.subset_layers.specs.Layers.{block_masks};
-ghost use Rattle.compaction.specs.Ahead.{AreAhead};
-ghost use Rattle.compaction.specs.Rows.{AreRows, AreOfByte, AreMembers};
+ghost use Rattle.compaction.specs.Ahead.{AreAhead, widths_ahead};
+ghost use Rattle.compaction.specs.Rows.{AreRows, AreOfByte, AreMembers, wanted_count, most_compactions};
 
 use crate::beginning::Beginning;
-use crate::blocks::wanted_rows;
+use crate::blocks::{BlockWidths, wanted_rows};
+use crate::tally::{Tallies, Tally, count_wanted};
 use crate::wanted::Wanted;
 use order_model::{Mask, Pairs, contains};
 use std::alloc::{AllocError, Global};
 use std::marker::Model;
 use subset_layers::Block;
 
-/// The rows of sets with one low byte: of each set the widths of the members in `needed`.
+/// The rows of sets with one low byte: of each set the widths of all its members.
 #[derive(Drop)]
 struct ByteRows {
     low: u8,
     masks: Vec<Mask>,
-    needed: Vec<Mask>,
     rows: Vec<[u32; 16]>,
 }
 
@@ -31,7 +32,6 @@ impl Model for ByteRows {
 
     ghost view = { λ b. record {
       masks = b.masks.items;
-      needed = b.needed.items;
       rows = b.rows.items;
     } };
 }
@@ -67,15 +67,13 @@ fn only(row: [u32; 16], members: Mask) -> [u32; 16]
     found
 }
 
-/// The first place from `from` on at which a set stands with all that is needed of it.
-fn place_of(masks: &[Mask], wanted: &[Mask], mask: Mask, needed: Mask, from: usize) -> Option<usize>
+/// The first place from `from` on at which a set stands.
+fn place_of(masks: &[Mask], mask: Mask, from: usize) -> Option<usize>
     ensures inside { IfSome result (λ i. i < length masks.now) }
     ensures same { IfSome result (λ i. slice_index masks.now i ≡ mask) }
-    ensures needed { IfSome result (λ i. (x : ℕ) → x < 16 → bit_at needed x ≡ 1 →
-        bit_at (slice_index wanted.now i) x ≡ 1) }
 {
-    for i in from..masks.len().min(wanted.len()) {
-        if masks[i] == mask && needed & !wanted[i] == 0 {
+    for i in from..masks.len() {
+        if masks[i] == mask {
             return Some(i);
         }
     }
@@ -98,19 +96,33 @@ impl Ahead {
         self.end
     }
 
-    /// With what others found.
+    /// With what others found. If memory is refused it stays.
     pub fn append(&mut self, others: Ahead) -> Result<(), AllocError>
-        ensures { OnOk result (self.new ≡ self.old ++ others) }
+        ensures ok { OnOk result (self.new ≡ self.old ++ others) }
+        ensures err { OnErr result (self.new ≡ self.old) }
     {
         let mut others = others;
         self.bytes.append(&mut others.bytes)
     }
 
-    /// With the rows of some more sets.
-    fn push(&mut self, byte: ByteRows) -> Result<(), AllocError>
-        ensures { OnOk result (self.new ≡ self.old ++ byte ∷ []) }
+    /// With the rows of some more sets, if there are any. The tally rises by their widths.
+    fn keep(&mut self, byte: ByteRows, tally: &mut Tally) -> Result<(), AllocError>
+        requires few { length byte.masks ≤ 2 ^ 12 }
+        requires room { tally.old ≤ 2 ^ 32 }
+        ensures right { OnOk result ((p : TruthTables) → AreAhead p self.old →
+            AreRows p byte.masks byte.masks byte.rows → AreAhead p self.new) }
+        ensures counted { OnOk result
+            (tally.new + widths_ahead self.old ≡ tally.old + widths_ahead self.new) }
+        ensures few { OnOk result (tally.new ≤ tally.old + 2 ^ 16) }
+        ensures tally { OnErr result (tally.new ≡ tally.old) }
+        ensures err { OnErr result (self.new ≡ self.old) }
     {
+        if byte.masks.is_empty() {
+            return Ok(());
+        }
+        let widths = count_wanted(&byte.masks);
         self.bytes.push(byte)?;
+        tally.add(widths);
         Ok(())
     }
 }
@@ -119,7 +131,8 @@ impl Ahead {
 /// size, up to a size.
 fn later_sets(alloc: Global, block: &Block, pairs: &Pairs, end: u8) -> Result<Vec<Mask>, AllocError>
     requires { block.now.inputs ≤ 16 }
-    ensures { IfOk result (λ v. AreOfByte block.now.inputs block.now.low v.items) }
+    ensures byte { IfOk result (λ v. AreOfByte block.now.inputs block.now.low v.items) }
+    ensures few { IfOk result (λ v. length v.items ≤ 2 ^ 12) }
 {
     let mut sets = Vec::new(alloc);
     let Some(first) = block.masks().first() else {
@@ -128,7 +141,7 @@ fn later_sets(alloc: Global, block: &Block, pairs: &Pairs, end: u8) -> Result<Ve
     let low = Mask::from(block.low());
     let limit = 1u32 << block.inputs();
     let highs = (limit / 256).clamp(1, 256) as Mask;
-    for size in first.count_ones() + 1..u32::from(end) + 1 {
+    for size in first.count_ones() + 1..u32::from(end.min(16)) + 1 {
         for high in 0..highs {
             let set = high * 256 + low;
             if set.count_ones() == size && u32::from(set) < limit && pairs.lawful(set) {
@@ -137,18 +150,6 @@ fn later_sets(alloc: Global, block: &Block, pairs: &Pairs, end: u8) -> Result<Ve
         }
     }
     Ok(sets)
-}
-
-/// The first rows, so many.
-fn first_rows(alloc: Global, rows: &[[u32; 16]], count: usize) -> Result<Vec<[u32; 16]>, AllocError>
-    requires { count ≤ length rows.now }
-    ensures { IfOk result (λ v. v.items ≡ take count rows.now) }
-{
-    let mut first = Vec::with_capacity(alloc, count)?;
-    for i in 0..count {
-        first.push(rows[i])?;
-    }
-    Ok(first)
 }
 
 /// Some sets, and then others.
@@ -169,8 +170,9 @@ impl<'a> Beginning<'a> {
         block: &Block,
         needed: &[Mask],
     ) -> Result<Option<Vec<[u32; 16]>>, AllocError>
-        requires byte { AreRows self.now byte.now.masks byte.now.needed byte.now.rows }
+        requires byte { AreRows self.now byte.now.masks byte.now.masks byte.now.rows }
         requires needed { length needed.now ≡ length (block_masks block.now) }
+        requires members { AreMembers self.now (block_masks block.now) needed.now }
         ensures { IfOk result (λ found. IfSome found
             (λ rows. AreRows self.now (block_masks block.now) needed.now rows.items)) }
     {
@@ -182,7 +184,7 @@ impl<'a> Beginning<'a> {
                 rows.push([0; 16])?;
                 continue;
             }
-            let Some(place) = place_of(&byte.masks, &byte.needed, *mask, needed[i], from) else {
+            let Some(place) = place_of(&byte.masks, *mask, from) else {
                 return Ok(None);
             };
             rows.push(only(own[place], needed[i]))?;
@@ -191,43 +193,41 @@ impl<'a> Beginning<'a> {
         Ok(Some(rows))
     }
 
-    /// The rows of a block's sets, and behind them those of other sets with its low byte.
-    fn byte_rows(
+    /// The widths of a block's sets, and behind them those of all members of other sets with its
+    /// low byte.
+    fn widths_with(
         &self,
         alloc: Global,
         block: &Block,
         needed: &[Mask],
         later: &[Mask],
-    ) -> Result<ByteRows, AllocError>
+    ) -> Result<BlockWidths, AllocError>
         requires inputs { block.now.inputs ≡ self.now.inputs }
         requires needed { length needed.now ≡ length (block_masks block.now) }
         requires members { AreMembers self.now (block_masks block.now) needed.now }
         requires later { AreOfByte self.now.inputs block.now.low later.now }
-        ensures masks { IfOk result (λ b. b.masks ≡ block_masks block.now ++ later.now) }
-        ensures needed { IfOk result (λ b. b.needed ≡ needed.now ++ later.now) }
-        ensures rows { IfOk result (λ b. AreRows self.now b.masks b.needed b.rows) }
+        ensures rows { IfOk result
+            (λ widths. AreRows self.now (block_masks block.now ++ later.now)
+            (needed.now ++ later.now) widths.rows) }
+        ensures compactions { IfOk result (λ widths. widths.compactions ≤ most_compactions) }
     {
         prove!(block.len() <= 256);
         prove!(self.problem().inputs() <= 16);
-        let low = block.low();
         let masks = joined(alloc, block.masks(), later)?;
         let needed = joined(alloc, needed, later)?;
-        let wanted = Wanted::new(block.inputs(), low, &masks, &needed);
-        let rows = wanted_rows(alloc, self, &wanted)?.into_rows();
-        Ok(ByteRows {
-            low,
-            masks,
-            needed,
-            rows,
-        })
+        let wanted = Wanted::new(block.inputs(), block.low(), &masks, &needed);
+        let widths = wanted_rows(alloc, self, &wanted)?;
+        Ok(widths)
     }
 }
 
-/// What the walks of a layer's blocks begin with, and what was found ahead.
+/// What the walks of a layer's blocks begin with, what was found ahead, and the pairs that sets
+/// have to be in orders with for their rows to be found ahead.
 #[derive(Drop)]
 pub struct Walks<'a> {
     beginning: &'a Beginning<'a>,
     ahead: &'a Ahead,
+    pairs: &'a Pairs,
 }
 
 impl<'a> Model for Walks<'a> {
@@ -243,11 +243,15 @@ impl<'a> Model for Walks<'a> {
 
 impl<'a> Walks<'a> {
     /// The walks that begin so, but for what was found ahead.
-    pub fn new(beginning: &'a Beginning<'a>, ahead: &'a Ahead) -> Walks<'a>
+    pub fn new(beginning: &'a Beginning<'a>, ahead: &'a Ahead, pairs: &'a Pairs) -> Walks<'a>
         requires { AreAhead beginning.now ahead.now }
         ensures { result ≡ beginning.now }
     {
-        Walks { beginning, ahead }
+        Walks {
+            beginning,
+            ahead,
+            pairs,
+        }
     }
 
     /// The rows of a block's sets, if all of them were found ahead.
@@ -257,7 +261,8 @@ impl<'a> Walks<'a> {
         block: &Block,
         needed: &[Mask],
     ) -> Result<Option<Vec<[u32; 16]>>, AllocError>
-        requires { length needed.now ≡ length (block_masks block.now) }
+        requires needed { length needed.now ≡ length (block_masks block.now) }
+        requires members { AreMembers self.now (block_masks block.now) needed.now }
         ensures { IfOk result (λ found. IfSome found
             (λ rows. AreRows self.now (block_masks block.now) needed.now rows.items)) }
     {
@@ -270,36 +275,49 @@ impl<'a> Walks<'a> {
         Ok(None)
     }
 
-    /// The rows of a block's sets, as `block_widths` gives them: those that were found ahead, or else
-    /// by a walk. That goes on to the sets of later layers, and their rows go to `found`.
+    /// The widths of a block's sets, as `block_widths` gives them: those that were found ahead, or
+    /// else by a walk. That goes on to the sets of later layers, and their rows go to `found`. If
+    /// memory is refused `found` and the tallies stay.
     pub fn block_rows(
         &self,
         alloc: Global,
         block: &Block,
         needed: &[Mask],
-        pairs: &Pairs,
         found: &mut Ahead,
-    ) -> Result<Vec<[u32; 16]>, AllocError>
+        tallies: &mut Tallies,
+    ) -> Result<BlockWidths, AllocError>
         requires inputs { block.now.inputs ≡ self.now.inputs }
         requires needed { length needed.now ≡ length (block_masks block.now) }
         requires members { AreMembers self.now (block_masks block.now) needed.now }
         requires found { AreAhead self.now found.old }
+        requires cells { tallies.old.cells + wanted_count needed.now ≤ 2 ^ 32 }
+        requires ahead { tallies.old.ahead ≤ 2 ^ 32 }
         ensures rows { IfOk result
-            (λ rows. AreRows self.now (block_masks block.now) needed.now rows.items) }
+            (λ widths. AreRows self.now (block_masks block.now) needed.now widths.rows) }
+        ensures compactions { IfOk result (λ widths. widths.compactions ≤ most_compactions) }
         ensures found { OnOk result (AreAhead self.now found.new) }
+        ensures cells { OnOk result
+            (tallies.new.cells ≡ tallies.old.cells + wanted_count needed.now) }
+        ensures ahead { OnOk result
+            (tallies.new.ahead + widths_ahead found.old
+            ≡ tallies.old.ahead + widths_ahead found.new) }
+        ensures few { OnOk result (tallies.new.ahead ≤ tallies.old.ahead + 2 ^ 16) }
+        ensures tallies { OnErr result (tallies.new ≡ tallies.old) }
+        ensures err { OnErr result (found.new ≡ found.old) }
     {
         prove!(self.beginning.problem().inputs() <= 16);
         prove!(block.len() <= 256);
         if let Some(rows) = self.rows_ahead(alloc, block, needed)? {
-            return Ok(rows);
+            tallies.cells.add_wanted(needed);
+            return Ok(BlockWidths::of_rows(rows));
         }
         let ahead = self.ahead;
-        let later = later_sets(alloc, block, pairs, ahead.end)?;
-        let byte = self.beginning.byte_rows(alloc, block, needed, &later)?;
-        let rows = first_rows(alloc, &byte.rows, block.len())?;
-        if !later.is_empty() {
-            found.push(byte)?;
-        }
-        Ok(rows)
+        let masks = later_sets(alloc, block, self.pairs, ahead.end)?;
+        let mut widths = self.beginning.widths_with(alloc, block, needed, &masks)?;
+        let rows = widths.split_off(block.len())?;
+        let low = block.low();
+        found.keep(ByteRows { low, masks, rows }, &mut tallies.ahead)?;
+        tallies.cells.add_wanted(needed);
+        Ok(widths)
     }
 }

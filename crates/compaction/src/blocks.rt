@@ -1,6 +1,6 @@
 //! The widths of the sets of a block.
 
-ghost use Rattle.std.specs.Prelude.{◌≡◌, ℕ, ◌+◌, ◌-◌, ◌%◌, ◌^◌, ◌<◌, ◌≤◌, IsFalse, length, slice_index, slice_get, get_or, [], ◌≢◌, IfOk, IfSome, IsNone, OnOk, OnErr, Some, bit_and, bit_or};
+ghost use Rattle.std.specs.Prelude.{◌≡◌, ℕ, ◌+◌, ◌-◌, ◌%◌, ◌^◌, ◌<◌, ◌≤◌, IsFalse, length, slice_index, slice_get, get_or, take, drop, [], ◌≢◌, IfOk, IfSome, IsNone, OnOk, OnErr, Some, bit_and, bit_or};
 ghost use Rattle.std.specs.Int.{bit_at};
 ghost use Rattle.subset_layers.specs.Layers.{block_masks};
 ghost use Rattle.compaction.specs.Strips.{low_variables as low_of};
@@ -34,6 +34,27 @@ impl Model for BlockWidths {
 }
 
 impl BlockWidths {
+    /// Rows for which no table was compacted.
+    pub(crate) fn of_rows(rows: Vec<[u32; 16]>) -> BlockWidths
+        ensures rows { result.rows ≡ rows.items }
+        ensures compactions { result.compactions ≡ 0 }
+    {
+        BlockWidths {
+            rows,
+            compactions: 0,
+        }
+    }
+
+    /// Takes away the rows from a place on.
+    pub(crate) fn split_off(&mut self, place: usize) -> Result<Vec<[u32; 16]>, AllocError>
+        requires { place ≤ length self.old.rows }
+        ensures rows { OnOk result (self.new.rows ≡ take place self.old.rows) }
+        ensures others { IfOk result (λ rows. rows.items ≡ drop place self.old.rows) }
+        ensures compactions { self.new.compactions ≡ self.old.compactions }
+    {
+        self.rows.split_off(place)
+    }
+
     /// The widths of the set at a place of the block: at each variable that was wanted its width
     /// over the set without it, else 0.
     pub fn row(&self, i: usize) -> [u32; 16]

@@ -19,4 +19,4 @@ pub use beginning::Beginning;
 pub use blocks::{BlockWidths, all_widths, block_widths};
 pub use classes::Classes;
 pub use pair_numbering::Scratch;
-pub use tally::Tally;
+pub use tally::{Tallies, Tally};

@@ -1,6 +1,6 @@
 //! How many widths were taken.
 
-ghost use Rattle.std.specs.Prelude.{◌≡◌, ◌+◌, ◌^◌, ◌<◌, ◌≤◌, length};
+ghost use Rattle.std.specs.Prelude.{◌≡◌, ◌+◌, ◌*◌, ◌^◌, ◌<◌, ◌≤◌, length};
 ghost use Rattle.compaction.specs.Rows.{wanted_count};
 
 use order_model::Mask;
@@ -20,10 +20,31 @@ impl Model for Tally {
     ghost view = { λ t. t.count };
 }
 
+/// What walks take: widths that cells take, and widths that are found ahead of their layer.
+#[derive(Drop)]
+pub struct Tallies {
+    pub cells: Tally,
+    pub ahead: Tally,
+}
+
+impl Tallies {
+    /// None yet.
+    pub fn new() -> Tallies
+        ensures cells { result.cells ≡ 0 }
+        ensures ahead { result.ahead ≡ 0 }
+    {
+        Tallies {
+            cells: Tally::new(),
+            ahead: Tally::new(),
+        }
+    }
+}
+
 /// How many widths are wanted.
-fn count_wanted(needed: &[Mask]) -> u64
+pub(crate) fn count_wanted(needed: &[Mask]) -> u64
     requires { length needed.now ≤ 2 ^ 20 }
-    ensures { result ≡ wanted_count needed.now }
+    ensures count { result ≡ wanted_count needed.now }
+    ensures few { result ≤ 16 * length needed.now }
 {
     let mut count = 0;
     for wanted in needed {
@@ -48,7 +69,7 @@ impl Tally {
     }
 
     /// With those of a block's sets, of which the members in `needed` are wanted.
-    pub fn add_wanted(&mut self, needed: &[Mask])
+    pub(crate) fn add_wanted(&mut self, needed: &[Mask])
         requires few { length needed.now ≤ 2 ^ 20 }
         requires room { self.old + wanted_count needed.now < 2 ^ 64 }
         ensures { self.new ≡ self.old + wanted_count needed.now }

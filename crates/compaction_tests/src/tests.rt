@@ -1,8 +1,10 @@
-ghost use Rattle.std.specs.Prelude.{◌≡◌, length};
+ghost use Rattle.std.specs.Prelude.{◌≡◌, ◌≤◌, ◌^◌, length};
 ghost use Rattle.subset_layers.specs.Layers.{block_masks};
-ghost use Rattle.compaction.specs.Rows.{AreMembers};
+ghost use Rattle.compaction.specs.Rows.{AreMembers, wanted_count};
 
-use compaction::{Ahead, Beginning, Classes, Scratch, Tally, Walks, all_widths, block_widths};
+use compaction::{
+    Ahead, Beginning, Classes, Scratch, Tallies, Tally, Walks, all_widths, block_widths,
+};
 use order_model::{Mask, Pairs, Problem};
 use pair_numbering::{number_pairs, tell_strip_pairs};
 use std::alloc::{AllocError, Global};
@@ -198,44 +200,67 @@ fn try_layer(rt: &impl Abort, alloc: Global, problem: &Problem, size: u8) -> Res
     Ok(sum)
 }
 
-/// The rows of a block by walks that look ahead to sets of three variables.
+/// The rows of a block by walks that look ahead to sets of three variables, and how many widths are
+/// taken for it and ahead.
 fn rows_by_walks(
     alloc: Global,
     beginning: &Beginning<'_>,
     block: &Block,
     needed: &[Mask],
-) -> Result<Vec<[u32; 16]>, AllocError>
+) -> Result<(Vec<[u32; 16]>, Tallies), AllocError>
     requires inputs { block.now.inputs ≡ beginning.now.inputs }
     requires needed { length needed.now ≡ length (block_masks block.now) }
     requires members { AreMembers beginning.now (block_masks block.now) needed.now }
+    requires room { wanted_count needed.now ≤ 2 ^ 32 }
 {
     let ahead = Ahead::up_to(alloc, 3);
     let mut found = Ahead::up_to(alloc, 0);
-    let pairs = Pairs::none(3);
-    let walks = Walks::new(beginning, &ahead);
-    walks.block_rows(alloc, block, needed, &pairs, &mut found)
+    let mut tallies = Tallies::new();
+    let pairs = Pairs::none(10);
+    let walks = Walks::new(beginning, &ahead, &pairs);
+    let widths = walks.block_rows(alloc, block, needed, &mut found, &mut tallies)?;
+    Ok((widths.into_rows(), tallies))
 }
 
-/// The row of the multiplexer's first block of two variables, which has one set.
+/// The row of the set of the two lowest variables, alone in its block, by itself and by walks that
+/// look ahead; and how many widths these find.
+fn row_of_one(
+    rt: &impl Abort,
+    alloc: Global,
+    problem: &Problem,
+    block: &Block,
+) -> Result<([u32; 16], u64), Fail> {
+    assert!(rt; problem.inputs() == block.inputs());
+    assert!(rt; block.len() == 1);
+    let needed = block.mask(0);
+    assert!(rt; needed == 0x0003);
+    let mut tally = Tally::new();
+    let widths = block_widths(alloc, problem, block, &[needed], &mut tally)?;
+    let row = widths.row(0);
+    assert_eq!(rt; tally.count(), 2);
+    let beginning = Beginning::of(alloc, problem)?;
+    let (rows, tallies) = rows_by_walks(alloc, &beginning, block, &[needed])?;
+    assert_eq!(rt; rows.as_slice(), [row].as_slice());
+    assert_eq!(rt; tallies.cells.count(), 2);
+    Ok((row, tallies.ahead.count()))
+}
+
+/// Of ten variables the walk goes on to two sets of three, with the ninth variable and with the
+/// tenth.
 #[test]
 fn row_of_one_set(rt: HostRuntime) -> Result<(), Fail> {
     let alloc = rt.alloc();
     let problem = problem_of(&rt, alloc, MULTIPLEXER)?;
     let layer = Layer::of(alloc, 3, 2)?;
     assert_eq!(rt; layer.blocks(), 3);
-    let block = layer.block(0);
-    assert!(rt; problem.inputs() == block.inputs());
-    assert!(rt; block.len() == 1);
-    let needed = block.mask(0);
-    assert!(rt; needed == 0x0003);
-    let mut tally = Tally::new();
-    let widths = block_widths(alloc, &problem, &block, &[needed], &mut tally)?;
-    let row = widths.row(0);
+    let (row, ahead) = row_of_one(&rt, alloc, &problem, &layer.block(0))?;
     assert_eq!(rt; row, [1, 1, 0, 0, 0, 0, 0, 0, 0, 0, 0, 0, 0, 0, 0, 0]);
-    assert_eq!(rt; tally.count(), 2);
-    let beginning = Beginning::of(alloc, &problem)?;
-    let rows = rows_by_walks(alloc, &beginning, &block, &[needed])?;
-    assert_eq!(rt; rows.as_slice(), [row].as_slice());
+    assert_eq!(rt; ahead, 0);
+    let numbers = five_bit_numbers(&rt, alloc)?;
+    let layer = Layer::of(alloc, 10, 2)?;
+    assert!(rt; 3 < layer.blocks());
+    let (_, ahead) = row_of_one(&rt, alloc, &numbers, &layer.block(3))?;
+    assert_eq!(rt; ahead, 6);
     Ok(())
 }
 

@@ -10,4 +10,4 @@ pub ahead_none : (p : TruthTables) (found : List RowsOf) → found ≡ [] → Ar
 ahead_none p found e = subst (AreAhead p) (sym e) (λ k d lt. absurd (omega arith))
 
 pub ahead_joined : (p : TruthTables) (first others both : List RowsOf) → both ≡ first ++ others → AreAhead p first → AreAhead p others → AreAhead p both
-ahead_joined p first others both e a b = subst (AreAhead p) (sym e) (All-append (λ (r : RowsOf). AreRows p r.masks r.needed r.rows) first others a b)
+ahead_joined p first others both e a b = subst (AreAhead p) (sym e) (All-append (λ (r : RowsOf). AreRows p r.masks r.masks r.rows) first others a b)

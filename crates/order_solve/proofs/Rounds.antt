@@ -1,14 +1,17 @@
 -- A worker's rounds: a claim, and the posts of its block.
 --     Working t s0 s count      what a worker keeps from s0 to s
 --     working_none, working_stays, working_round      at the start, where claims stay, after a round
-use Rattle.std.proofs.Common.{◌≡◌, ℕ, ◌<◌, slice_get, ◌+◌, Bool, true, false, not, ◌&&◌, List, Option, Some, None, inl, inr, refl, sym, ap, ◌∙◌, subst, nat_eq}
+--     IsFewAhead s count, few_room, few_round      how many widths are found ahead at most
+use Rattle.std.proofs.Common.{◌≡◌, ℕ, ◌<◌, ◌≤◌, ◌*◌, ◌^◌, slice_get, get_or, arith, ◌+◌, Bool, true, false, not, ◌&&◌, List, Option, Some, None, inl, inr, refl, sym, ap, ◌∙◌, subst, nat_eq}
 use Rattle.std.specs.List.{filter}
 use Rattle.std.proofs.lemmas.Bool.{false≢true, cases_Bool, and_parts, and_from}
+use Rattle.std.proofs.lemmas.Option.{slice_get_within}
 use Rattle.order_model.specs.Orders.{has}
 use Rattle.order_model.proofs.Lists.Orders.{has_filter}
 use Rattle.subset_layers.specs.Layers.{LayerOf, BlockOf, masks_of, blocks_of, block_masks, layer_of, low_byte}
 use Rattle.layer_core.specs.Machine.{place_of, claimed, claims_block}
 use Rattle.layer_core.specs.Settings.{Setting, layout_of}
+use Rattle.layer_core.proofs.Layouts.{few_blocks}
 use Rattle.layer_board.specs.Views.{BoardId, SeatOf, stepped, knows_place, has_claimed, knows_filled}
 use Rattle.order_solve.specs.Gains.{gains, gained, widths_for, StaysClaimed, IsPosted}
 use Rattle.order_solve.proofs.Filters.{filter_none}
@@ -114,3 +117,21 @@ pub round_closes : (s s1 s2 : SeatOf) (p : ℕ) (b : BlockOf) → ClaimsBlock s 
 round_closes s s1 s2 p b h stays =
     subst (λ (xs : List Bool). open_marks xs < open_marks s.worker.claims) (sym (stays.claims ∙ ap (λ (z : SeatOf). z.worker.claims) h.is))
     (fewer_open s.worker.claims p (ap (λ (z : SeatOf). claimed z.worker p) (sym h.is) ∙ h.there) (was_open s s1 p b h))
+
+-- at most 2 ^ 16 widths are found ahead for each block up to the last that the seat claimed
+abbrev pub IsFewAhead : SeatOf → ℕ → Type 0
+IsFewAhead s count = (q : ℕ) → ((r : ℕ) → claimed s.worker r ≡ true → r < q) → count ≤ 2 ^ 16 * q
+
+module _ (s s1 s2 : SeatOf) (count p : ℕ) (b : BlockOf) (h : ClaimsBlock s s1 p b) (few : IsFewAhead s count) where
+  pub few_room : count ≤ 2 ^ 24
+  few_room =
+      let at = few p h.later in
+      let within = slice_get_within (blocks_of s.board.brief.layer) p b h.block in
+      let blocks = few_blocks s.board.brief.layer in
+      omega arith
+
+  pub few_round : (more : ℕ) → StaysClaimed s1 s2 → more ≤ count + 2 ^ 16 → IsFewAhead s2 more
+  few_round more stays le q all =
+      let at = few p h.later in
+      let lt = all p (ap (λ (xs : List Bool). get_or xs p false) stays.claims ∙ h.there) in
+      omega arith

@@ -12,7 +12,7 @@ use crate::cells::cells_of_block;
 use crate::layering::NextLayer;
 use crate::looking::look_ahead;
 use crate::setting::Setting;
-use compaction::{Ahead, Beginning, Tally, Walks};
+use compaction::{Ahead, Beginning, Tallies, Walks};
 use std::alloc::{AllocError, Global};
 use subset_layers::{Block, Cell, Costs, Layer};
 
@@ -51,8 +51,8 @@ pub fn cells_alone(
     let mut cells = vec![in alloc; none; layer.len()]?;
     for place in 0..layer.blocks() {
         let block = layer.block(place);
-        let mut tally = Tally::new();
-        let own = cells_of_block(alloc, &block, bench, found, &mut tally)?;
+        let mut tallies = Tallies::new();
+        let own = cells_of_block(alloc, &block, bench, found, &mut tallies)?;
         place_cells(bench, &block, &own, &mut cells);
     }
     Ok(cells)
@@ -74,7 +74,8 @@ fn next_layer_alone(
 {
     let layer = Layer::of(alloc, setting.inputs(), done.len() as u8)?;
     let before = &done[done.len() - 1];
-    let bench = Bench::new(setting, &layer, before).with_walks(Walks::new(beginning, ahead));
+    let walks = Walks::new(beginning, ahead, setting.pairs);
+    let bench = Bench::new(setting, &layer, before).with_walks(walks);
     let mut found = Ahead::up_to(alloc, 0);
     let cells = cells_alone(alloc, &bench, &mut found)?;
     let costs = Costs::of(layer, cells);

@@ -1,7 +1,7 @@
 //! The cells of a block's sets.
 
 ghost use Rattle.std.specs.Prelude.{◌≡◌, ◌+◌, ◌^◌, ◌<◌, ◌≤◌, length, IfOk, OnOk};
-ghost use Rattle.compaction.specs.Ahead.{AreAhead};
+ghost use Rattle.compaction.specs.Ahead.{AreAhead, widths_ahead};
 ghost use Rattle.compaction.specs.Rows.{AreMembers, AreRows, wanted_count};
 ghost use Rattle.subset_layers.specs.Layers.{layer_of, block_masks};
 ghost use Rattle.order_solve.specs.Benches.{AreCells};
@@ -9,7 +9,7 @@ ghost use Rattle.order_solve.specs.Gains.{widths_for};
 
 use crate::bench::Bench;
 use crate::needs::needs_of_block;
-use compaction::{Ahead, Tally, block_widths};
+use compaction::{Ahead, Tallies, block_widths};
 use order_model::Mask;
 use std::alloc::{AllocError, Global};
 use subset_layers::{Block, Cell, least_cell};
@@ -21,50 +21,59 @@ fn widths_of(
     bench: &Bench<'_>,
     needed: &[Mask],
     found: &mut Ahead,
-    tally: &mut Tally,
+    tallies: &mut Tallies,
 ) -> Result<Vec<[u32; 16]>, AllocError>
     requires inputs { block.now.inputs ≡ bench.now.setting.problem.inputs }
     requires needed { length needed.now ≡ length (block_masks block.now) }
     requires members { AreMembers bench.now.setting.problem (block_masks block.now) needed.now }
     requires found { AreAhead bench.now.setting.problem found.old }
-    requires room { tally.old + wanted_count needed.now ≤ 2 ^ 32 }
+    requires cells { tallies.old.cells + wanted_count needed.now ≤ 2 ^ 32 }
+    requires ahead { tallies.old.ahead ≤ 2 ^ 32 }
     ensures rows { IfOk result
         (λ rows. AreRows bench.now.setting.problem (block_masks block.now) needed.now
         rows.items) }
     ensures found { OnOk result (AreAhead bench.now.setting.problem found.new) }
-    ensures tally { OnOk result (tally.new ≡ tally.old + wanted_count needed.now) }
+    ensures cells { OnOk result (tallies.new.cells ≡ tallies.old.cells + wanted_count needed.now) }
+    ensures ahead { OnOk result
+        (tallies.new.ahead + widths_ahead found.old ≡ tallies.old.ahead + widths_ahead found.new) }
+    ensures few { OnOk result (tallies.new.ahead ≤ tallies.old.ahead + 2 ^ 16) }
 {
     let setting = bench.setting;
     let Some(walks) = &bench.walks else {
-        let widths = block_widths(alloc, setting.problem, block, needed, tally)?;
+        let cells = &mut tallies.cells;
+        let widths = block_widths(alloc, setting.problem, block, needed, cells)?;
         return Ok(widths.into_rows());
     };
-    let rows = walks.block_rows(alloc, block, needed, setting.pairs, found)?;
-    prove!(block.len() <= 256);
-    tally.add_wanted(needed);
-    Ok(rows)
+    let widths = walks.block_rows(alloc, block, needed, found, tallies)?;
+    Ok(widths.into_rows())
 }
 
-/// The cells of a block's sets, in their order. Widths of later layers go to `found`. The tally
-/// rises by the number of widths that the cells take.
+/// The cells of a block's sets, in their order. Widths of later layers go to `found`. One tally
+/// rises by the number of widths that the cells take, the other by that of those found ahead.
 pub fn cells_of_block(
     alloc: Global,
     block: &Block,
     bench: &Bench<'_>,
     found: &mut Ahead,
-    tally: &mut Tally,
+    tallies: &mut Tallies,
 ) -> Result<Vec<Cell>, AllocError>
     requires layer { layer_of block.now ≡ bench.now.layer }
     requires found { AreAhead bench.now.setting.problem found.old }
-    requires room { tally.old + widths_for bench.now.setting (block_masks block.now) ≤ 2 ^ 32 }
+    requires cells { tallies.old.cells + widths_for bench.now.setting (block_masks block.now)
+        ≤ 2 ^ 32 }
+    requires ahead { tallies.old.ahead ≤ 2 ^ 32 }
     ensures cells { IfOk result (λ v. AreCells bench.now.setting (block_masks block.now) v.items) }
     ensures found { OnOk result (AreAhead bench.now.setting.problem found.new) }
     ensures tally { OnOk result
-        (tally.new ≡ tally.old + widths_for bench.now.setting (block_masks block.now)) }
+        (tallies.new.cells
+        ≡ tallies.old.cells + widths_for bench.now.setting (block_masks block.now)) }
+    ensures ahead { OnOk result
+        (tallies.new.ahead + widths_ahead found.old ≡ tallies.old.ahead + widths_ahead found.new) }
+    ensures few { OnOk result (tallies.new.ahead ≤ tallies.old.ahead + 2 ^ 16) }
 {
     let setting = bench.setting;
     let needs = needs_of_block(alloc, block, bench)?;
-    let widths = widths_of(alloc, block, bench, &needs, found, tally)?;
+    let widths = widths_of(alloc, block, bench, &needs, found, tallies)?;
     let rows = widths.as_slice();
     let mut cells = Vec::with_capacity(alloc, block.len())?;
     for (i, mask) in block.masks().iter().enumerate() {

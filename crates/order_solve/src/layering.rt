@@ -93,6 +93,7 @@ fn gather(
     let WorkerEnd {
         seat,
         tally: _,
+        ahead: _,
         found: first,
     } = ended.pop().unwrap()?;
     found.append(first)?;
@@ -117,8 +118,9 @@ fn busy_workers(problem: &Problem, layer: &Layer, workers: Workers) -> Workers
     }
 }
 
-/// The cells of a layer in its order, by workers. What they find ahead goes to `found`. If some cell is missing although none of them ran
-/// out of memory, the calling thread does the layer over alone.
+/// The cells of a layer in its order, by workers. What they find ahead goes to `found`. If some cell
+/// is missing although none of them ran out of memory, the calling thread does the layer over alone,
+/// by the same walks.
 fn cells_of_layer<R: Threads + Sync, G: Gate>(
     crew: &Crew<'_, R, G>,
     alloc: Global,
@@ -172,7 +174,8 @@ pub fn next_layer<R: Threads + Sync, G: Gate>(
 {
     let layer = Layer::of(alloc, setting.inputs(), done.len() as u8)?;
     let before = &done[done.len() - 1];
-    let bench = Bench::new(setting, &layer, before).with_walks(Walks::new(beginning, ahead));
+    let walks = Walks::new(beginning, ahead, setting.pairs);
+    let bench = Bench::new(setting, &layer, before).with_walks(walks);
     let mut found = Ahead::up_to(alloc, 0);
     let cells = cells_of_layer(crew, alloc, &bench, &mut found)?;
     let costs = Costs::of(layer, cells);

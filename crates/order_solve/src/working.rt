@@ -3,7 +3,7 @@
 ghost use Rattle.std.specs.Prelude.{◌≡◌, ℕ, Some, IfOk, IsTrue};
 ghost use Rattle.order_model.specs.Orders.{has};
 ghost use Rattle.subset_layers.specs.Layers.{block_masks};
-ghost use Rattle.compaction.specs.Ahead.{AreAhead};
+ghost use Rattle.compaction.specs.Ahead.{AreAhead, widths_ahead};
 ghost use Rattle.layer_core.specs.Settings.{cell_for};
 ghost use Rattle.layer_board.specs.Views.{has_claimed, knows_filled};
 ghost use Rattle.layer_core.specs.Pairing.{pair_of};
@@ -12,17 +12,19 @@ ghost use Rattle.order_solve.specs.Gains.{gains, gained, widths_for, IsPosted, S
 
 use crate::bench::Bench;
 use crate::cells::cells_of_block;
-use compaction::{Ahead, Tally};
+use compaction::{Ahead, Tallies, Tally};
 use layer_board::{Board, BoardSeat};
 use order_model::{Gate, Mask};
 use std::alloc::{AllocError, Global};
 use subset_layers::{Block, Cell};
 
-/// What a worker hands back: its seat, how many widths it took, and what it found ahead.
+/// What a worker hands back: its seat, how many widths its cells took and how many it found ahead,
+/// and the rows that it found.
 #[derive(Drop)]
 pub struct WorkerEnd {
     pub seat: BoardSeat,
     pub tally: Tally,
+    pub ahead: Tally,
     pub found: Ahead,
 }
 
@@ -104,14 +106,21 @@ pub fn work_layer<G: Gate>(
         (λ e. (mask : ℕ) → IsTrue (gains seat e.seat mask) → IsTrue (knows_filled e.seat mask)) }
     ensures tally { IfOk result (λ e. e.tally ≡ widths_for bench.now.setting (gained seat e.seat)) }
     ensures found { IfOk result (λ e. AreAhead bench.now.setting.problem e.found) }
+    ensures ahead { IfOk result (λ e. e.ahead ≡ widths_ahead e.found) }
 {
     prove!(bench.setting.inputs() <= 16);
     let worker = Worker::new(board, bench, worker, gate);
-    let mut tally = Tally::new();
+    let mut tallies = Tallies::new();
     let mut found = Ahead::up_to(alloc, 0);
     while let Some(claim) = board.claim(&mut seat) {
-        let cells = cells_of_block(alloc, claim.block(), bench, &mut found, &mut tally)?;
+        let cells = cells_of_block(alloc, claim.block(), bench, &mut found, &mut tallies)?;
         post_block(&worker, &mut seat, claim.block(), &cells);
     }
-    Ok(WorkerEnd { seat, tally, found })
+    let Tallies { cells, ahead } = tallies;
+    Ok(WorkerEnd {
+        seat,
+        tally: cells,
+        ahead,
+        found,
+    })
 }

@@ -46,6 +46,7 @@ fn cells_by_one(
     let WorkerEnd {
         seat,
         tally: _,
+        ahead: _,
         found: _,
     } = work_layer(alloc, &board, seat, 1, bench, &NoGate)?;
     let Ok(cells) = board.close(alloc, seat) else {
@@ -109,6 +110,7 @@ fn check_missing(
     let WorkerEnd {
         mut seat,
         tally,
+        ahead: _,
         found: _,
     } = work_layer(alloc, &board, worker, 2, bench, &NoGate)?;
     if tally.count() != 10 {
@@ -145,6 +147,7 @@ fn both_work<R: Threads + Sync>(
     let WorkerEnd {
         seat,
         tally: _,
+        ahead: _,
         found: _,
     } = work_layer(alloc, board, worker, 2, bench, &NoGate)?;
     let ((first, second), _) = thread::join(

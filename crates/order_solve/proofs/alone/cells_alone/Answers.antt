@@ -12,8 +12,8 @@ pub cells_of_block-requires-clause-layer : goal.cells_of_block-requires-clause-l
 cells_of_block-requires-clause-layer c = block_layer c.bench.inside.layer.now c.loop-place.place c.block-block.result c.block-block.ensures
     ∙ ap (λ (z : BenchOf). z.layer) c.bench.view_is
 
-pub cells_of_block-requires-clause-room : goal.cells_of_block-requires-clause-room
-cells_of_block-requires-clause-room c =
+pub cells_of_block-requires-clause-cells : goal.cells_of_block-requires-clause-cells
+cells_of_block-requires-clause-cells c =
     let t = c.args.bench.now.setting in
     let v = ap (λ (z : BenchOf). z.setting.problem.inputs) c.bench.view_is in
     let e = c.inputs.ensures.value in
@@ -23,7 +23,7 @@ cells_of_block-requires-clause-room c =
     (block_layer c.bench.inside.layer.now c.loop-place.place c.block-block.result c.block-block.ensures
     ∙ c.bench.invariant.0.layer) ∙ v in
     let k = few_block t c.block-block.result t.problem.inputs (omega (arith, few, v, e)) inputs (omega (arith, few, v, e)) in
-    let n = c.new-tally.ensures in
+    let n = c.new-tallies.ensures.cells in
     omega (arith, k, n)
 
 pub place_cells-requires-clause-layer : goal.place_cells-requires-clause-layer

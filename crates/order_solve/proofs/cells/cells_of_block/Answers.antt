@@ -24,12 +24,12 @@ widths_of-requires-clause-members c =
     subst (λ (ns : List ℕ). AreMembers t.problem (block_masks c.args.block.now) ns) (sym (c.deref.ensures.value ∙ c.in_ok-needs.ensures))
     (are_members t c.args.block.now)
 
-pub widths_of-requires-clause-room : goal.widths_of-requires-clause-room
-widths_of-requires-clause-room c =
+pub widths_of-requires-clause-cells : goal.widths_of-requires-clause-cells
+widths_of-requires-clause-cells c =
     let t = c.args.bench.now.setting in
     let masks = block_masks c.args.block.now in
     let e : wanted_count c.deref.result.now ≡ widths_for t masks = ap wanted_count (c.deref.ensures.value ∙ c.in_ok-needs.ensures) ∙ needed_sum t masks in
-    let r = c.requires.room in
+    let r = c.requires.cells in
     omega (arith, e, r)
 
 pub least_cell-requires-clause-inputs : goal.least_cell-requires-clause-inputs
@@ -82,4 +82,4 @@ pub returns-clause-tally : goal.returns-clause-tally
 returns-clause-tally c =
     let t = c.args.bench.now.setting in
     let masks = block_masks c.args.block.now in
-    c.in_ok-widths.ensures.tally ∙ ap (λ k. c.args.tally.now + k) (ap wanted_count (c.deref.ensures.value ∙ c.in_ok-needs.ensures) ∙ needed_sum t masks)
+    c.in_ok-widths.ensures.cells ∙ ap (λ k. c.args.tallies.now.cells + k) (ap wanted_count (c.deref.ensures.value ∙ c.in_ok-needs.ensures) ∙ needed_sum t masks)

@@ -19,7 +19,7 @@ loop-end-init c =
     let last : EndsAhead p c.unwrap.result = subst (λ (o : Option (Result WorkerEnd AllocError)). IfSome o (EndsAhead p)) c.unwrap.ensures popped.1 in
     let own : AreAhead p c.in_ok-seat.field-0.found = subst (EndsAhead p) c.in_ok-seat.was last in (
       popped.0,
-      ahead_joined p c.args.found.now c.in_ok-seat.field-0.found c.append.new.self c.in_ok-append.ensures c.requires.found own,
+      ahead_joined p c.args.found.now c.in_ok-seat.field-0.found c.append.new.self c.in_ok-append.ensures.ok c.requires.found own,
     )
 
 pub loop-end-preserved : goal.loop-end-preserved
@@ -32,5 +32,5 @@ loop-end-preserved c =
     let last : EndsAhead p c.in-Some.end = subst (λ (o : Option (Result WorkerEnd AllocError)). IfSome o (EndsAhead p)) c.in-Some.is popped.1 in
     let own : AreAhead p c.in_ok-end.field-0.found = subst (EndsAhead p) c.in_ok-end.was last in (
       popped.0,
-      ahead_joined p c.loop-end.found c.in_ok-end.field-0.found c.append-in-Some.new.self c.in_ok-append-2.ensures c.loop-end.invariant.1 own,
+      ahead_joined p c.loop-end.found c.in_ok-end.field-0.found c.append-in-Some.new.self c.in_ok-append-2.ensures.ok c.loop-end.invariant.1 own,
     )

@@ -2,39 +2,43 @@ use Rattle.std.proofs.Common.{◌≡◌, ℕ, ◌+◌, ◌≤◌, refl, sym, ap,
 use Rattle.subset_layers.specs.Layers.{LayerOf, BlockOf, layer_of, block_masks}
 use Rattle.order_model.specs.Orders.{has}
 use Rattle.layer_board.specs.Views.{BoardId, SeatOf}
+use Rattle.compaction.specs.Ahead.{widths_ahead}
 use Rattle.order_solve.specs.Benches.{BenchOf}
 use Rattle.order_solve.specs.Gains.{widths_for, StaysClaimed, IsPosted}
 use Rattle.order_solve.proofs.Posts.{no_more_stays}
 use Rattle.order_solve.proofs.Claimed.{block_layer, few_gained}
 use Rattle.order_solve.proofs.FoundAhead.{ahead_none}
-use Rattle.order_solve.proofs.Rounds.{Working, working_none, working_stays, working_round, round_gains, claims_at, round_closes}
+use Rattle.order_solve.proofs.Rounds.{Working, working_none, working_stays, working_round, round_gains, claims_at, round_closes, few_room, few_round}
 use Rattle.order_solve.proofs.working.work_layer.Goals as goal
 
 pub loop-claim-init : goal.loop-claim-init
-loop-claim-init g c = (
-  subst (λ (n : ℕ). Working c.args.bench.now.setting c.args.seat c.args.seat n) (sym c.new-tally.ensures)
-      (working_none c.args.bench.now.setting c.args.seat),
-  ahead_none c.args.bench.now.setting.problem c.up_to-found.result c.up_to-found.ensures,
-)
+loop-claim-init g c = record {
+  working =
+      subst (λ (n : ℕ). Working c.args.bench.now.setting c.args.seat c.args.seat n) (sym c.new-tallies.ensures.cells)
+      (working_none c.args.bench.now.setting c.args.seat);
+  found = ahead_none c.args.bench.now.setting.problem c.up_to-found.result c.up_to-found.ensures;
+  ahead = c.new-tallies.ensures.ahead ∙ ap widths_ahead (sym c.up_to-found.ensures);
+  few = λ q all. let e = c.new-tallies.ensures.ahead in omega (arith, e);
+}
 
 pub cells_of_block-requires-clause-layer : goal.cells_of_block-requires-clause-layer
 cells_of_block-requires-clause-layer g c =
     ap layer_of c.block.ensures
     ∙ block_layer c.args.board.now.brief.layer c.in-Some.claim.place c.in-Some.claim.block c.in-Some.ensures.block ∙ c.requires.layer
 
-pub cells_of_block-requires-clause-room : goal.cells_of_block-requires-clause-room
-cells_of_block-requires-clause-room g c =
+pub cells_of_block-requires-clause-cells : goal.cells_of_block-requires-clause-cells
+cells_of_block-requires-clause-cells g c =
     let t = c.args.bench.now.setting in
     let s = c.loop-claim.seat in
     let s1 = c.claim.new.seat in
     let p = c.in-Some.claim.place in
     let b = c.in-Some.claim.block in
-    let w = c.loop-claim.invariant.0 in
+    let w = c.loop-claim.invariant.working in
     let e = c.in-Some.ensures in
     let h = claims_at c.args.board.now s s1 p b (w.board ∙ c.requires.seat) e.block e.gained e.claimed e.later in
-    let gains : widths_for t _ ≡ c.loop-claim.tally + widths_for t (block_masks c.block.result.now) =
-    round_gains t c.args.seat s s1 s1 c.loop-claim.tally p b w h
-    ∙ ap (λ (z : BlockOf). c.loop-claim.tally + widths_for t (block_masks z)) (sym c.block.ensures) in
+    let gains : widths_for t _ ≡ c.loop-claim.tallies.cells + widths_for t (block_masks c.block.result.now) =
+    round_gains t c.args.seat s s1 s1 c.loop-claim.tallies.cells p b w h
+    ∙ ap (λ (z : BlockOf). c.loop-claim.tallies.cells + widths_for t (block_masks z)) (sym c.block.ensures) in
     let small : t.problem.inputs ≤ 16 =
     (let f = c.inputs.ensures.few in let v = c.inputs.ensures.value ∙ ap (λ (z : BenchOf). z.setting.problem.inputs) c.bench.view_is in omega (arith, f, v)) in
     let few = few_gained t c.args.seat s1 t.problem.inputs small
@@ -44,11 +48,21 @@ cells_of_block-requires-clause-room g c =
     small in
     omega (arith, gains, few)
 
+pub cells_of_block-requires-clause-ahead : goal.cells_of_block-requires-clause-ahead
+cells_of_block-requires-clause-ahead g c =
+    let s = c.loop-claim.seat in
+    let s1 = c.claim.new.seat in
+    let e = c.in-Some.ensures in
+    let h = claims_at c.args.board.now s s1 c.in-Some.claim.place c.in-Some.claim.block (c.loop-claim.invariant.working.board ∙ c.requires.seat) e.block
+    e.gained e.claimed e.later in
+    let few = few_room s s1 s1 c.loop-claim.tallies.ahead c.in-Some.claim.place c.in-Some.claim.block h c.loop-claim.invariant.few in
+    omega (arith, few)
+
 pub loop-claim-smaller : goal.loop-claim-smaller
 loop-claim-smaller g c =
     let s = c.loop-claim.seat in
     let s1 = c.claim.new.seat in
-    let w = c.loop-claim.invariant.0 in
+    let w = c.loop-claim.invariant.working in
     let e = c.in-Some.ensures in
     round_closes s s1 c.post_block.new.seat c.in-Some.claim.place c.in-Some.claim.block
     (claims_at c.args.board.now s s1 c.in-Some.claim.place c.in-Some.claim.block (w.board ∙ c.requires.seat) e.block e.gained e.claimed
@@ -63,16 +77,20 @@ loop-claim-preserved g c =
     let s2 = c.post_block.new.seat in
     let p = c.in-Some.claim.place in
     let b = c.in-Some.claim.block in
-    let w = c.loop-claim.invariant.0 in
+    let w = c.loop-claim.invariant.working in
     let e = c.in-Some.ensures in
     let h = claims_at c.args.board.now s s1 p b (w.board ∙ c.requires.seat) e.block e.gained e.claimed e.later in
     let all : (mask : ℕ) → has (block_masks b) mask ≡ _ → IsPosted s2 mask =
-    λ mask m. c.post_block.ensures.posted mask (ap (λ (z : BlockOf). has (block_masks z) mask) c.block-in-Some.ensures ∙ m) in (
-      subst (λ (n : ℕ). Working t c.args.seat s2 n)
-          (sym (c.in_ok-cells.ensures.tally ∙ ap (λ (z : BlockOf). c.loop-claim.tally + widths_for t (block_masks z)) c.block.ensures))
-          (working_round t c.args.seat s s1 s2 c.loop-claim.tally p b w h c.post_block.ensures.stays all),
-      c.in_ok-cells.ensures.found,
-    )
+    λ mask m. c.post_block.ensures.posted mask (ap (λ (z : BlockOf). has (block_masks z) mask) c.block-in-Some.ensures ∙ m) in
+    record {
+      working =
+          subst (λ (n : ℕ). Working t c.args.seat s2 n)
+          (sym (c.in_ok-cells.ensures.tally ∙ ap (λ (z : BlockOf). c.loop-claim.tallies.cells + widths_for t (block_masks z)) c.block.ensures))
+          (working_round t c.args.seat s s1 s2 c.loop-claim.tallies.cells p b w h c.post_block.ensures.stays all);
+      found = c.in_ok-cells.ensures.found;
+      ahead = (let r = c.in_ok-cells.ensures.ahead in let i = c.loop-claim.invariant.ahead in omega (arith, r, i));
+      few = few_round s s1 s2 c.loop-claim.tallies.ahead p b h c.loop-claim.invariant.few _ c.post_block.ensures.stays c.in_ok-cells.ensures.few;
+    }
 
 pub returns-clause-tally : goal.returns-clause-tally
 returns-clause-tally g c =
@@ -80,4 +98,4 @@ returns-clause-tally g c =
     let s = c.loop-claim.seat in
     let s1 = c.claim.new.seat in
     let is = c.in_default.ensures.none refl in
-    (working_stays t c.args.seat s s1 c.loop-claim.tally (subst (λ (z : SeatOf). StaysClaimed s z) (sym is) (no_more_stays s)) c.loop-claim.invariant.0).tally
+    (working_stays t c.args.seat s s1 c.loop-claim.tallies.cells (subst (λ (z : SeatOf). StaysClaimed s z) (sym is) (no_more_stays s)) c.loop-claim.invariant.working).tally

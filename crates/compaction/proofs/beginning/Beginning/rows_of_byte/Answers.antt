@@ -1,10 +1,10 @@
-use Rattle.std.proofs.Common.{replicate, ◌≡◌, ◌+◌, ◌<◌, ℕ, length, List, [], cond, eqb, slice_index, get_or, sym, ap, ◌∙◌, subst}
+use Rattle.std.proofs.Common.{arith, replicate, ◌≡◌, ◌+◌, ◌<◌, ℕ, length, List, [], cond, eqb, slice_index, get_or, sym, ap, ◌∙◌, subst}
 use Rattle.std.specs.Int.{bit_at}
 use Rattle.subset_layers.specs.Layers.{block_masks}
 use Rattle.compaction.specs.Ahead.{RowsOf}
 use Rattle.compaction.specs.Rows.{IsRow}
 use Rattle.compaction.proofs.Filled.{blank_row, zeros_at}
-use Rattle.compaction.proofs.Joined.{RowsTo, rows_pushed, row_narrowed}
+use Rattle.compaction.proofs.Joined.{RowsTo, rows_pushed, row_narrowed, member_bit}
 use Rattle.compaction.proofs.beginning.Beginning.rows_of_byte.Goals as goal
 
 pub loop-i-preserved : goal.loop-i-preserved
@@ -17,14 +17,15 @@ loop-i-preserved c =
     let wanted = get_or c.args.needed.now i 0 in
     let e = c.in-Some.ensures in
     let masks_are = c.deref.ensures.value ∙ ap (λ (r : RowsOf). r.masks) c.byte.view_is in
-    let needed_are = c.deref-in-loop-i.ensures.value ∙ ap (λ (r : RowsOf). r.needed) c.byte.view_is in
     let at : slice_index byte.masks place ≡ slice_index masks i =
     ap (λ (ms : List ℕ). slice_index ms place) (sym masks_are) ∙ e.same ∙ ap (λ (ms : List ℕ). slice_index ms i) c.masks-mask-items.ensures in
     let own = c.requires.byte.are place (subst (λ (ms : List ℕ). place < length ms) masks_are e.inside) in
-    let inside = subst (λ (ns : List ℕ). (x : ℕ) → x < 16 → bit_at wanted x ≡ 1 → bit_at (slice_index ns place) x ≡ 1) needed_are e.needed in
+    let long = ap length c.masks-mask-items.ensures in
+    let inside = λ (x : ℕ) (few : x < 16) (bit : bit_at wanted x ≡ 1). subst (λ m. bit_at m x ≡ 1) (sym at)
+    (member_bit p.inputs (slice_index masks i) x (c.requires.members i (omega arith) x bit)) in
     let row_is = ap (λ (rows : List (List ℕ)). get_or rows place []) (c.as_slice-own.ensures.value ∙ ap (λ (r : RowsOf). r.rows) c.byte.view_is) in
     let row : IsRow p (slice_index byte.masks place) wanted c.only.result =
-    row_narrowed p (slice_index byte.masks place) (slice_index byte.needed place) wanted (get_or byte.rows place []) c.only.result own inside
+    row_narrowed p (slice_index byte.masks place) (slice_index byte.masks place) wanted (get_or byte.rows place []) c.only.result own inside
     (λ x few. c.only.ensures x few ∙ ap (λ (row : List ℕ). cond (eqb (bit_at wanted x) 1) (slice_index row x) 0) row_is) in
     subst (RowsTo p masks c.args.needed.now (i + 1)) (sym c.in_ok-push-2.ensures.items)
     (rows_pushed p masks c.args.needed.now i c.loop-i.rows.items c.only.result c.loop-i.invariant

@@ -3,7 +3,7 @@ use Rattle.order_model.specs.Problems.{TruthTables}
 use Rattle.subset_layers.specs.Layers.{block_masks}
 use Rattle.compaction.specs.Rows.{AreOfByte, AreMembers}
 use Rattle.compaction.proofs.Joined.{of_byte_joined, block_of_byte, members_own, members_joined}
-use Rattle.compaction.proofs.beginning.Beginning.byte_rows.Goals as goal
+use Rattle.compaction.proofs.beginning.Beginning.widths_with.Goals as goal
 
 pub wanted_rows-requires-clause-byte : goal.wanted_rows-requires-clause-byte
 wanted_rows-requires-clause-byte c =
@@ -12,7 +12,7 @@ wanted_rows-requires-clause-byte c =
     let masks = e.masks ∙ c.deref.ensures.value ∙ c.in_ok-masks.ensures ∙ ap (λ (ms : List ℕ). ms ++ c.args.later.now) c.masks.ensures in
     subst (λ (ms : List ℕ). AreOfByte c.new-wanted.result.inputs c.new-wanted.result.low ms) (sym masks)
     (subst (λ n. AreOfByte n c.new-wanted.result.low (block_masks b ++ c.args.later.now)) (sym (e.inputs ∙ c.inputs-2.ensures))
-    (subst (λ l. AreOfByte b.inputs l (block_masks b ++ c.args.later.now)) (sym (e.low ∙ c.low-low.ensures.value))
+    (subst (λ l. AreOfByte b.inputs l (block_masks b ++ c.args.later.now)) (sym (e.low ∙ c.low.ensures.value))
     (of_byte_joined b.inputs b.low (block_masks b) c.args.later.now (block_of_byte b)
     (subst (λ n. AreOfByte n b.low c.args.later.now) (sym c.requires.inputs) c.requires.later))))
 

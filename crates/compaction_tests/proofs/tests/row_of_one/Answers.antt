@@ -5,26 +5,26 @@ use Rattle.order_model.specs.Problems.{TruthTables}
 use Rattle.subset_layers.specs.Layers.{block_masks}
 use Rattle.compaction.specs.Rows.{AreMembers}
 use Rattle.compaction.proofs.OwnMembers.{own_members}
-use Rattle.compaction_tests.proofs.tests.row_of_one_set.Goals as goal
+use Rattle.compaction_tests.proofs.tests.row_of_one.Goals as goal
 
 pub block_widths-requires-clause-members : goal.block_widths-requires-clause-members
 block_widths-requires-clause-members g c = λ i low x one.
     let l = c.len.ensures.value in
     let first : i ≡ 0 = omega arith in
-    own_members c.in_ok-problem.problem c.block-block.result (omega arith) i low x
-    (subst (λ (k : ℕ). bit_at (get_or (block_masks c.block-block.result) k 0) x ≡ 1) (sym first)
+    own_members c.args.problem.now c.args.block.now (omega arith) i low x
+    (subst (λ (k : ℕ). bit_at (get_or (block_masks c.args.block.now) k 0) x ≡ 1) (sym first)
     (subst (λ (m : ℕ). bit_at m x ≡ 1)
-    (sym (get_or_from_slice_get (block_masks c.block-block.result) 0 c.mask-needed.result 0 c.mask-needed.ensures))
+    (sym (get_or_from_slice_get (block_masks c.args.block.now) 0 c.mask-needed.result 0 c.mask-needed.ensures))
     (subst (λ (k : ℕ). bit_at (get_or (c.mask-needed.result ∷ []) k 0) x ≡ 1) first one)))
 
 pub rows_by_walks-requires-clause-members : goal.rows_by_walks-requires-clause-members
 rows_by_walks-requires-clause-members g c =
-    subst (λ (p : TruthTables). AreMembers p (block_masks c.block-block.result) (c.mask-needed.result ∷ [])) (sym c.in_ok-beginning.ensures)
+    subst (λ (p : TruthTables). AreMembers p (block_masks c.args.block.now) (c.mask-needed.result ∷ [])) (sym c.in_ok-beginning.ensures)
     (λ i low x one.
     let l = c.len.ensures.value in
     let first : i ≡ 0 = omega arith in
-    own_members c.in_ok-problem.problem c.block-block.result (omega arith) i low x
-    (subst (λ (k : ℕ). bit_at (get_or (block_masks c.block-block.result) k 0) x ≡ 1) (sym first)
+    own_members c.args.problem.now c.args.block.now (omega arith) i low x
+    (subst (λ (k : ℕ). bit_at (get_or (block_masks c.args.block.now) k 0) x ≡ 1) (sym first)
     (subst (λ (m : ℕ). bit_at m x ≡ 1)
-    (sym (get_or_from_slice_get (block_masks c.block-block.result) 0 c.mask-needed.result 0 c.mask-needed.ensures))
+    (sym (get_or_from_slice_get (block_masks c.args.block.now) 0 c.mask-needed.result 0 c.mask-needed.ensures))
     (subst (λ (k : ℕ). bit_at (get_or (c.mask-needed.result ∷ []) k 0) x ≡ 1) first one))))
