@@ -11,6 +11,11 @@ has CHANGES.md "## $version"
 has CITATION.cff "version: $version"
 has include/minorder.h "#define MINORDER_VERSION \"$version\""
 has bindings/python/minorder/__init__.py "__version__ = \"$version\""
+for line in line:minorder check_line:ordercheck; do
+    grep -qF "\"${line#*:} $version " "crates/command_line/src/${line%:*}.rt" || { echo "--help of ${line#*:} is not of version $version" >&2; status=1; }
+done
+grep -qF "    $((${version%%.*} * 10000 + $(cut -d. -f2 VERSION) * 100 + ${version##*.}))" <(tr -d _ < crates/minorder_c/src/version.rt) ||
+    { echo "crates/minorder_c/src/version.rt is not of version $version" >&2; status=1; }
 for page in man/*.[13]; do
     grep -q "^\.TH .* \"minorder $version\"" "$page" || { echo "$page is not of version $version" >&2; status=1; }
 done

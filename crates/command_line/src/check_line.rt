@@ -25,7 +25,7 @@ fn command<'a>(alloc: Global) -> Result<Command<'a>, AllocError>
 {
     let command = Command::new(alloc, "ordercheck")
         .about(
-            "Decides whether a certificate proves that no variable order of a PLA file's functions has fewer nodes",
+            "ordercheck 1.0.0 decides whether a certificate proves that no variable order of a PLA file's functions has fewer nodes",
         )
         .no_binary_name(true);
     command

@@ -99,7 +99,7 @@ fn command<'a>(alloc: Global) -> Result<Command<'a>, AllocError>
 {
     let command = Command::new(alloc, "minorder")
         .about(
-            "Finds the first variable order under which the functions of a PLA file have the smallest shared binary decision diagram",
+            "minorder 1.0.0 finds the first variable order under which the functions of a PLA file have the smallest shared binary decision diagram",
         )
         .no_binary_name(true);
     let file = required_path(
