@@ -2,5 +2,4 @@ pub mod Words
 pub mod Rule
 pub mod Seated
 pub mod Closing
-pub mod Gathering
 pub mod BoardEvents

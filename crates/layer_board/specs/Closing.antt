@@ -1,20 +1,24 @@
--- What a refused close tells.
-use Rattle.std.specs.Prelude.{◌≡◌, ◌≢◌, ℕ, ◌<◌, ◌≤◌, true, false, length, slice_index, None}
+-- What a closed board lacks, and what a refused close tells.
+--     IsLeastEmpty c mask      the least mask whose cell is empty
+--     IsLastState b w s, IsLast seat c      states and cells that a board may end with, if a seat knows what it knows
+--     IsMissing seat mask      a mask that is missing, as a seat knows it
+--     OneMissesTheLeast      what that is on a board of one worker
+use Rattle.std.specs.Prelude.{◌≡◌, ◌≢◌, ℕ, ◌<◌, ◌≤◌, true, false, length, slice_index, slice_index_or, slice_get, Some, None}
 use mathlib.Core.Option.{some}
 use lib.ListN.{get_elem?}
-use Rattle.layer_core.specs.Machine.{World, Worker, cell_at, knows}
+use Rattle.subset_layers.specs.Layers.{masks_of}
+use Rattle.layer_core.specs.Machine.{World, Worker, knows}
 use Rattle.layer_core.specs.Rights.{Right}
 use Rattle.layer_core.specs.Settings.{layout_of}
-use Rattle.layer_board.specs.Views.{BriefOf, SeatOf, knows_filled}
+use Rattle.layer_board.specs.Views.{BriefOf, ClosedOf, SeatOf, knows_filled}
 use Rattle.layer_board.specs.Picture.{IsCellAt}
 
 -- the mask's cell is empty, and that of each mask before it is filled
-pub record IsLeastEmpty (s : World) (mask : ℕ) : Type 0 where
+pub record IsLeastEmpty (c : ClosedOf) (mask : ℕ) : Type 0 where
   pub place : ℕ
-  pub within : place < length s.layout.masks
-  pub is : slice_index s.layout.masks place ≡ mask
-  pub empty : cell_at s place ≡ None
-  pub least : (q : ℕ) → q < place → cell_at s q ≢ None
+  pub is : slice_get (masks_of c.brief.layer) place ≡ Some mask
+  pub empty : slice_index_or c.cells place None ≡ None
+  pub least : (q : ℕ) → q < place → slice_index_or c.cells q None ≢ None
 
 -- a last state of the board, in which the seat is one of the workers
 pub record IsLastState (b : BriefOf) (w : Worker) (s : World) : Type 0 where
@@ -24,11 +28,18 @@ pub record IsLastState (b : BriefOf) (w : Worker) (s : World) : Type 0 where
   pub seat : ℕ
   pub has : get_elem? s.workers seat ≡ some w
 
--- the mask is the least that is empty in the last state, and the seat does not know it to be filled
+-- cells that a seat's board may end with
+pub record IsLast (seat : SeatOf) (c : ClosedOf) : Type 0 where
+  pub brief : c.brief ≡ seat.board.brief
+  pub last : World
+  pub is_last : IsLastState c.brief seat.worker last
+  pub cells : last.cells ≡ c.cells
+
+-- the mask is the least that is empty in the last cells, and the seat does not know it to be filled
 pub record IsMissing (seat : SeatOf) (mask : ℕ) : Type 0 where
   pub unknown : knows_filled seat mask ≡ false
-  pub last : World
-  pub is_last : IsLastState seat.board.brief seat.worker last
+  pub last : ClosedOf
+  pub is_last : IsLast seat last
   pub least : IsLeastEmpty last mask
 
 -- the mask is the least whose cell the seat does not know to be filled

@@ -3,3 +3,4 @@ pub mod Picture
 pub mod Closing
 pub mod Refusals
 pub mod Held
+pub mod Closed

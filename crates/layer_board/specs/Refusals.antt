@@ -1,11 +1,11 @@
 -- Why a post or a close is refused.
-use Rattle.std.specs.Prelude.{◌≡◌, ◌≢◌, ℕ, ◌<◌, true, false, List, Some, slice_get, slice_index}
+use Rattle.std.specs.Prelude.{◌≡◌, ℕ, true, false}
 use Rattle.layer_board.specs.declared.boards.PostRefused.{PostRefused}
 use Rattle.layer_board.specs.declared.boards.PostRefused.TheVariants.{Stranger, Double}
-use Rattle.layer_board.specs.declared.boards.CloseError.{CloseError}
-use Rattle.layer_board.specs.declared.boards.CloseError.TheVariants.{Missing, OutOfMemory}
-use Rattle.layer_board.specs.Views.{SeatOf, stepped, has_claimed, knows_filled}
-use Rattle.layer_board.specs.Closing.{IsMissing}
+use Rattle.layer_board.specs.declared.closed.CloseError.{CloseError}
+use Rattle.layer_board.specs.declared.closed.CloseError.TheVariants.{Missing, OutOfMemory}
+use Rattle.layer_board.specs.Views.{ClosedOf, SeatOf, stepped, has_claimed, knows_filled}
+use Rattle.layer_board.specs.Closing.{IsLeastEmpty, IsLast, IsMissing}
 
 -- a post for a mask: the seat did not claim it, and stays; or it knew the cell to be filled, and took a step
 abbrev pub Refuses : SeatOf → ℕ → SeatOf → PostRefused → Type 0
@@ -17,8 +17,11 @@ abbrev pub Lacks : SeatOf → CloseError → Type 0
 Lacks s (Missing mask) = IsMissing s mask
 Lacks s OutOfMemory = Unit {0}
 
--- of the words of a layer's cells: the mask of the first that is 0, or out of memory
-abbrev pub IsFirstGap : List ℕ → List ℕ → CloseError → Type 0
-IsFirstGap masks words (Missing mask) = (p : ℕ) × (slice_get masks p ≡ Some mask) × (slice_index words p ≡ 0)
-    × ((q : ℕ) → q < p → slice_index words q ≢ 0)
-IsFirstGap masks words OutOfMemory = Unit {0}
+-- cells as a closed board has them: the least mask whose cell is empty, or out of memory
+abbrev pub LacksCell : ClosedOf → CloseError → Type 0
+LacksCell c (Missing mask) = IsLeastEmpty c mask
+LacksCell c OutOfMemory = Unit {0}
+
+-- what the last cells lack is missing to a seat
+abbrev pub SeatsLackWhatIsEmpty : Type 0
+SeatsLackWhatIsEmpty = (seat : SeatOf) (c : ClosedOf) (error : CloseError) → IsLast seat c → LacksCell c error → Lacks seat error

@@ -1,7 +1,7 @@
 -- What a board is for, what a seat at it knows, and what contracts see of a board, a seat and a claim.
 --     BriefOf, SeatView      what a board is for; what the seat of a worker knows
---     BoardId, SeatOf, ClaimOf      a board, a seat, a claim
-use Rattle.std.specs.Prelude.{ℕ, ◌+◌, Bool, false, [], length, slice_index, Option, Some, None, if◌then◌else◌}
+--     BoardId, ClosedOf, SeatOf, ClaimOf      a board, a closed one, a seat, a claim
+use Rattle.std.specs.Prelude.{ℕ, ◌+◌, Bool, false, List, [], length, slice_index, Option, Some, None, if◌then◌else◌}
 use Rattle.atomic_table.specs.Seated.{TableId}
 use Rattle.order_model.specs.declared.reserve.Reserve.TheVariants.{Variables}
 use Rattle.subset_layers.specs.Layers.{LayerOf, BlockOf, masks_of, blocks_of}
@@ -45,6 +45,11 @@ after v w wrote = record {
 pub record BoardId : Type 0 where
   pub table : TableId
   pub brief : BriefOf
+
+-- a closed board: what it was for, and the cell of each mask, None if it is empty
+pub record ClosedOf : Type 0 where
+  pub brief : BriefOf
+  pub cells : List (Option (ℕ × ℕ))
 
 -- a worker's seat: its board, what it claimed, knows to be filled and was told, and how many steps and writes it made
 pub record SeatOf : Type 0 where

@@ -6,15 +6,15 @@ ghost use Rattle.layer_core.specs.Machine.{claimed, claims_block};
 ghost use Rattle.layer_core.specs.Settings.{cell_for, setting_of};
 ghost use Rattle.layer_board.specs.Views.{fresh, first_seat, stepped, no_more, found_empty, has_claimed, knows_filled, learned};
 ghost use Rattle.layer_core.specs.Pairing.{pair_of};
-ghost use Rattle.layer_board.specs.Picture.{IsCellWord, cell_in, cell_words};
-ghost use Rattle.layer_board.specs.Refusals.{Refuses, Lacks, IsFirstGap};
-ghost use Rattle.std.specs.Slots.{slots_items, slots_len, IsFull};
+ghost use Rattle.layer_board.specs.Closing.{IsLast};
+ghost use Rattle.layer_board.specs.Refusals.{Refuses, Lacks};
 
 use crate::cell_words::{cell_of_word, word_of_cell};
+use crate::closed::{CloseError, ClosedBoard};
 use crate::plays::{BoardRule, Claims, NewSeat, Posts, Reads};
 use crate::seats::{BoardSeat, Claim};
 use crate::views::{Brief, Knowledge};
-use atomic_table::{Closed, Seat, Table};
+use atomic_table::{Seat, Table};
 use layer_core::CellResult;
 use order_model::{Limit, Mask, Pairs, Problem, Workers};
 use std::alloc::{AllocError, Global};
@@ -29,14 +29,6 @@ pub enum PostRefused {
     Stranger,
     /// The cell was filled before.
     Double,
-}
-
-/// Why a board gives no cells.
-#[derive(Clone, Copy, Debug, PartialEq, Eq)]
-pub enum CloseError {
-    /// The least mask whose cell is empty.
-    Missing(Mask),
-    OutOfMemory,
 }
 
 /// The cells of a layer, which threads claim by blocks and fill.
@@ -192,6 +184,26 @@ impl Board {
         Some(cell_of_word(found))
     }
 
+    /// The board that no seat shares any more.
+    pub fn into_closed(self, seat: BoardSeat) -> ClosedBoard
+        requires { seat.board ≡ self }
+        ensures brief { result.brief ≡ self.brief }
+        ensures last { IsLast seat result }
+    {
+        let board = Snapshot::of(&self);
+        let Board { table, layer } = self;
+        let BoardSeat {
+            seat,
+            claims: _,
+            told: _,
+        } = seat;
+        ClosedBoard {
+            closed: table.close_with(seat),
+            layer,
+            board,
+        }
+    }
+
     /// All cells in the layer's order, or the least mask whose cell is empty.
     pub fn close(self, alloc: Global, seat: BoardSeat) -> Result<Vec<Cell>, CloseError>
         requires { seat.board ≡ self }
@@ -200,16 +212,8 @@ impl Board {
             (masks_of self.brief.layer)) }
         ensures lacks { IfErr result (Lacks seat) }
     {
-        let Board { table, layer } = self;
-        let BoardSeat {
-            seat,
-            claims: _,
-            told: _,
-        } = seat;
-        let closed = table.close_with(seat);
-        let cells = gather(alloc, &closed, &layer);
-        closed.free();
-        cells
+        let closed = self.into_closed(seat);
+        closed.cells(alloc)
     }
 }
 
@@ -219,48 +223,4 @@ fn zeros(alloc: Global, count: usize) -> Result<Vec<u64>, AllocError>
 {
     let words = vec![in alloc; 0u64; count]?;
     Ok(words)
-}
-
-/// The cells of a closed table.
-fn gather(
-    alloc: Global,
-    closed: &Closed<(), Global>,
-    layer: &Layer,
-) -> Result<Vec<Cell>, CloseError>
-    requires full { IsFull closed.now.words }
-    requires size { slots_len closed.now.words ≡ length (masks_of layer.now) + 1 }
-    requires few { length (masks_of layer.now) ≤ 2 ^ 16 }
-    requires count { length (cell_words (slots_items closed.now.words)) ≡ length
-        (masks_of layer.now) }
-    requires words { (p : ℕ) → slice_index (cell_words (slots_items closed.now.words)) p ≢ 0 →
-        IsCellWord (slice_index (cell_words (slots_items closed.now.words)) p) }
-    ensures cells { IfOk result
-        (λ v. map (λ c. Some (pair_of c)) v.items ≡ take (length (masks_of layer.now))
-        (map cell_in (cell_words (slots_items closed.now.words)))) }
-    ensures lacks { IfErr result
-        (IsFirstGap (masks_of layer.now) (cell_words (slots_items closed.now.words))) }
-{
-    let Ok(mut cells) = Vec::with_capacity(alloc, layer.len()) else {
-        return Err(CloseError::OutOfMemory);
-    };
-    for place in 0..layer.len() {
-        let word = cell_word(closed, place);
-        if word == 0 {
-            return Err(CloseError::Missing(layer.mask_at(place)));
-        }
-        let Ok(()) = cells.push(cell_of_word(word)) else {
-            return Err(CloseError::OutOfMemory);
-        };
-    }
-    Ok(cells)
-}
-
-/// The word of the cell at a place.
-fn cell_word(closed: &Closed<(), Global>, place: usize) -> u64
-    requires full { IsFull closed.now.words }
-    requires size { place + 1 < slots_len closed.now.words }
-    requires room { place < 2 ^ 16 }
-    ensures { result ≡ slice_index (cell_words (slots_items closed.now.words)) place }
-{
-    closed.word(place + 1)
 }

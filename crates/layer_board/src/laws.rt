@@ -11,6 +11,7 @@ ghost use Rattle.layer_core.specs.Rights.{Right};
 ghost use Rattle.layer_core.specs.Settings.{layout_of};
 ghost use Rattle.layer_board.specs.Views.{BriefOf, SeatView};
 ghost use Rattle.layer_board.specs.Closing.{OneMissesTheLeast};
+ghost use Rattle.layer_board.specs.Refusals.{SeatsLackWhatIsEmpty};
 ghost use Rattle.layer_board.specs.Picture.{Kept, IsCellAt, Sat, cell_in, shows, claims, posts, reads, claim_reply, post_reply, read_reply};
 
 /// Between any two steps on the table, the words and the seats show a right state of the machine.
@@ -63,4 +64,10 @@ pub fn reads_are_events()
 /// to be filled.
 pub fn one_worker_misses_the_least()
     ensures { OneMissesTheLeast }
+{}
+
+/// A mask that is the least empty one of the last cells is missing to the seat that the board was
+/// closed with.
+pub fn seats_lack_what_is_empty()
+    ensures { SeatsLackWhatIsEmpty }
 {}

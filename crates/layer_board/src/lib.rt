@@ -3,12 +3,14 @@
 
 mod boards;
 mod cell_words;
+mod closed;
 pub mod laws;
 mod plays;
 mod seats;
 mod views;
 
-pub use boards::{Board, CloseError, PostRefused};
+pub use boards::{Board, PostRefused};
+pub use closed::{CloseError, ClosedBoard};
 pub use plays::BoardRule;
 pub use seats::{BoardSeat, Claim};
 pub use views::{Brief, Knowledge};

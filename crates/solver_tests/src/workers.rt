@@ -168,7 +168,7 @@ fn both_work<R: Threads + Sync>(
 fn check_closed(alloc: Global, board: Board, seat: BoardSeat) -> Result<(), Fail>
     requires { seat.board ≡ board }
 {
-    let Ok(cells) = board.close(alloc, seat) else {
+    let Ok(cells) = board.into_closed(seat).cells(alloc) else {
         return Err("closed".into());
     };
     for cell in &cells {

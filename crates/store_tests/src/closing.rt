@@ -85,7 +85,7 @@ fn close_both(alloc: Global, published: u8, further: bool) -> Result<Ending, Fai
     if further {
         store.make(&mut session, 0, 1, 0)?;
     }
-    let closed = store.close(alloc, session);
+    let closed = store.into_closed(session).diagram(alloc);
     Ok(Ending { collected, closed })
 }
 

@@ -1,7 +1,10 @@
 -- What closing a store finds.
---     root_id words first j, root_functions      the ids in the root words, and the functions that they denote
---     LacksRoot words first m fault      the least root word that is empty
+--     ClosedOf      a closed store: what it was for, and the words that it ended with
+--     root_word c j, root_id c j, root_functions c      the root words, the ids in them, and the functions that these denote
+--     HasRoots c, LacksRoot c fault      each root word is filled; the least root word that is empty
+--     AreFinal c, IsLast s c      words that a store may end with, and those that agree with what a session knows
 --     IsMissing s j, Lacks s fault      a root that is missing, and why a store gives no diagram, as a session knows it
+--     SessionsLackWhatIsEmpty      what the last words lack their session lacks
 use Rattle.std.specs.Prelude.{◌≡◌, ◌≢◌, ℕ, ◌+◌, ◌-◌, ◌<◌, List, length, slice_index, map}
 use Rattle.std.specs.List.{range_with_len}
 use Rattle.order_model.specs.Functions.{Function}
@@ -10,40 +13,64 @@ use Rattle.node_words.specs.Nodes.{AreStored, Grows}
 use Rattle.node_words.specs.Meaning.{function_of}
 use Rattle.unique_table.specs.declared.close.CloseFault.{CloseFault}
 use Rattle.unique_table.specs.declared.close.CloseFault.TheVariants.{MissingRoot, OutOfMemory}
-use Rattle.unique_table.specs.Plans.{levels_of}
+use Rattle.unique_table.specs.declared.plan.Plan.{Plan}
+use Rattle.unique_table.specs.Plans.{order_of, levels_of}
 use Rattle.unique_table.specs.Picture.{nodes_of, pieces_of, AreEntries, ArePieces}
 use Rattle.unique_table.specs.Sessions.{Knowledge, IsAlone}
 
--- the id in root word j
-abbrev pub root_id : List ℕ → ℕ → ℕ → ℕ
-root_id words first j = slice_index words (first + j) - 1
+-- a closed store: what it was for, and the words that it ended with
+pub record ClosedOf : Type 0 where
+  pub plan : Plan
+  pub words : List ℕ
+
+-- how many roots there are, and the place of the first one's word
+abbrev pub roots_count : Plan → ℕ
+roots_count b = outputs_of b.problem.value
+
+abbrev pub first_root : Plan → ℕ
+first_root b = b.places + b.entries + b.roots
+
+-- the word of root j, and the id in it
+abbrev pub root_word : ClosedOf → ℕ → ℕ
+root_word c j = slice_index c.words (first_root c.plan + j)
+
+abbrev pub root_id : ClosedOf → ℕ → ℕ
+root_id c j = root_word c j - 1
 
 -- the functions that the ids in the root words denote
-abbrev pub root_functions : List ℕ → List ℕ → List ℕ → ℕ → ℕ → List Function
-root_functions order nodes words first m = map (λ j. function_of order nodes (root_id words first j))
-    (range_with_len 0 m)
+abbrev pub root_functions : ClosedOf → List Function
+root_functions c = map (λ j. function_of (order_of c.plan) (nodes_of c.plan c.words) (root_id c j))
+    (range_with_len 0 (roots_count c.plan))
 
--- each root word is filled
-abbrev pub AreAllFilled : List ℕ → ℕ → ℕ → Type 0
-AreAllFilled words first m = (j : ℕ) → j < m → slice_index words (first + j) ≢ 0
+-- the words of the first m roots are filled
+abbrev pub AreFilled : ClosedOf → ℕ → Type 0
+AreFilled c m = (j : ℕ) → j < m → root_word c j ≢ 0
 
--- the least root word that is empty
-abbrev pub IsLeastEmpty : List ℕ → ℕ → ℕ → ℕ → Type 0
-IsLeastEmpty words first m j = (j < m) × (slice_index words (first + j) ≡ 0) × AreAllFilled words first j
+abbrev pub HasRoots : ClosedOf → Type 0
+HasRoots c = AreFilled c (roots_count c.plan)
 
-abbrev pub LacksRoot : List ℕ → ℕ → ℕ → CloseFault → Type 0
-LacksRoot words first m (MissingRoot j) = IsLeastEmpty words first m j
-LacksRoot words first m OutOfMemory = Unit {0}
+-- the root is the least whose word is empty
+abbrev pub IsLeastEmpty : ClosedOf → ℕ → Type 0
+IsLeastEmpty c j = (j < roots_count c.plan) × (root_word c j ≡ 0) × AreFilled c j
 
--- words that a store may end with, if a session knows what it knows
-pub record IsLast (s : Knowledge) (words : List ℕ) : Type 0 where
-  pub size : length words ≡ s.store.plan.places + s.store.plan.entries + s.store.plan.pieces
-  pub stored : AreStored (levels_of s.store.plan) s.store.plan.places (nodes_of s.store.plan words)
-  pub entries : AreEntries s.store.plan (nodes_of s.store.plan words) words
-  pub pieces : ArePieces s.store.plan (nodes_of s.store.plan words) (pieces_of s.store.plan words)
-  pub seen : Grows s.seen (nodes_of s.store.plan words)
-  pub has : Grows s.pieces (pieces_of s.store.plan words)
-  pub all : IsAlone s → Grows (pieces_of s.store.plan words) s.pieces
+abbrev pub LacksRoot : ClosedOf → CloseFault → Type 0
+LacksRoot c (MissingRoot j) = IsLeastEmpty c j
+LacksRoot c OutOfMemory = Unit {0}
+
+-- words that a store may end with
+pub record AreFinal (c : ClosedOf) : Type 0 where
+  pub size : length c.words ≡ c.plan.places + c.plan.entries + c.plan.pieces
+  pub stored : AreStored (levels_of c.plan) c.plan.places (nodes_of c.plan c.words)
+  pub entries : AreEntries c.plan (nodes_of c.plan c.words) c.words
+  pub pieces : ArePieces c.plan (nodes_of c.plan c.words) (pieces_of c.plan c.words)
+
+-- words that a session's store may end with, if the session knows what it knows
+pub record IsLast (s : Knowledge) (c : ClosedOf) : Type 0 where
+  pub plan : c.plan ≡ s.store.plan
+  pub final : AreFinal c
+  pub seen : Grows s.seen (nodes_of c.plan c.words)
+  pub has : Grows s.pieces (pieces_of c.plan c.words)
+  pub all : IsAlone s → Grows (pieces_of c.plan c.words) s.pieces
 
 -- the root's word as the session knows it: 0 if it doesn't know the root to be published
 abbrev pub known_root : Knowledge → ℕ → ℕ
@@ -54,11 +81,14 @@ known_root s j = slice_index s.pieces (s.store.plan.roots + j)
 pub record IsMissing (s : Knowledge) (j : ℕ) : Type 0 where
   pub unknown : known_root s j ≡ 0
   pub least : IsAlone s → (i : ℕ) → i < j → known_root s i ≢ 0
-  pub last : List ℕ
+  pub last : ClosedOf
   pub is_last : IsLast s last
-  pub empty : IsLeastEmpty last (s.store.plan.places + s.store.plan.entries + s.store.plan.roots)
-      (outputs_of s.store.plan.problem.value) j
+  pub empty : IsLeastEmpty last j
 
 abbrev pub Lacks : Knowledge → CloseFault → Type 0
 Lacks s (MissingRoot j) = IsMissing s j
 Lacks s OutOfMemory = Unit {0}
+
+-- a root that is the least empty one of its last words is missing to a session
+abbrev pub SessionsLackWhatIsEmpty : Type 0
+SessionsLackWhatIsEmpty = (s : Knowledge) (c : ClosedOf) (fault : CloseFault) → IsLast s c → LacksRoot c fault → Lacks s fault

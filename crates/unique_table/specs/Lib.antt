@@ -6,4 +6,5 @@ pub mod Sessions
 pub mod Insides
 pub mod Seats
 pub mod Closing
+pub mod Closed
 pub mod Steps

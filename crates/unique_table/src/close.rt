@@ -1,16 +1,19 @@
 //! Closing a store.
 
-ghost use Rattle.std.specs.Prelude.{◌≡◌, ◌≢◌, ℕ, ◌+◌, ◌-◌, ◌^◌, ◌<◌, ◌≤◌, length, slice_index, IfOk, IfErr, OnOk, map};
+ghost use Rattle.std.specs.Prelude.{◌≡◌, ◌^◌, ◌<◌, ◌≤◌, length, slice_index, IfOk, IfErr, OnOk, map};
 ghost use Rattle.std.specs.List.{range_with_len};
-ghost use Rattle.std.specs.Slots.{slots_items, slots_len, IsFull};
-ghost use Rattle.node_words.specs.Nodes.{AreNodes, AreUnequal, IsKnown};
-ghost use Rattle.reached_nodes.specs.Copies.{words_in, IsReducedOf};
-ghost use Rattle.unique_table.specs.Closing.{LacksRoot, root_id, root_functions, AreAllFilled};
+ghost use Rattle.order_model.specs.Diagrams.{Represents, IsReduced};
+ghost use Rattle.order_model.specs.Problems.{functions};
+ghost use Rattle.unique_table.specs.Plans.{order_of, levels_of};
+ghost use Rattle.unique_table.specs.Closing.{HasRoots, LacksRoot, root_id, root_word, roots_count};
 
+use crate::store::Store;
 use atomic_table::Closed;
 use order_model::{Diagram, Order};
 use reached_nodes::reached_nodes;
 use std::alloc::Global;
+use std::marker::Model;
+use std::snapshot::Snapshot;
 
 /// Why a store gives no diagram.
 #[derive(Clone, Copy, Debug, PartialEq, Eq)]
@@ -20,78 +23,100 @@ pub enum CloseFault {
     OutOfMemory,
 }
 
-/// A word of a closed table.
-fn word_at(closed: &Closed<(), Global>, place: usize) -> u64
-    requires full { IsFull closed.now.words }
-    requires place { place < slots_len closed.now.words }
-    ensures { result ≡ slice_index (slots_items closed.now.words) place }
-{
-    closed.word(place)
+/// A store that no session shares any more: the words that it ended with.
+pub struct ClosedStore {
+    pub(crate) closed: Closed<(), Global>,
+    pub(crate) places: usize,
+    pub(crate) first: usize,
+    pub(crate) roots: u8,
+    pub(crate) order: Order,
+    pub(crate) store: Snapshot<Store>,
 }
 
-/// The ids in a closed table's words from the first root on.
-fn root_ids(
-    alloc: Global,
-    closed: &Closed<(), Global>,
-    first: usize,
-    outputs: u8,
-) -> Result<Vec<u32>, CloseFault>
-    requires full { IsFull closed.now.words }
-    requires inside { first + outputs ≤ slots_len closed.now.words }
-    requires small { (j : ℕ) → j < outputs →
-        slice_index (slots_items closed.now.words) (first + j) ≤ 2 ^ 32 }
-    ensures filled { OnOk result (AreAllFilled (slots_items closed.now.words) first outputs) }
-    ensures ids { IfOk result
-        (λ v. v.items ≡ map (root_id (slots_items closed.now.words) first)
-        (range_with_len 0 outputs)) }
-    ensures missing { IfErr result (LacksRoot (slots_items closed.now.words) first outputs) }
-{
-    let Ok(mut ids) = Vec::with_capacity(alloc, usize::from(outputs)) else {
-        return Err(CloseFault::OutOfMemory);
-    };
-    for output in 0..outputs {
-        let word = word_at(closed, first + usize::from(output));
-        if word == 0 {
-            return Err(CloseFault::MissingRoot(output));
-        }
-        let Ok(()) = ids.push((word - 1) as u32) else {
+impl Model for ClosedStore {
+    ghost use Rattle.unique_table.specs.Closing.{ClosedOf};
+
+    ghost Value = { ClosedOf };
+
+    ghost use Rattle.unique_table.specs.Closed.{closed_of, IsClosed};
+
+    ghost view = { closed_of };
+
+    ghost invariant = { IsClosed };
+}
+
+impl Drop for ClosedStore {
+    fn drop(self) {
+        let ClosedStore {
+            closed,
+            places: _,
+            first: _,
+            roots: _,
+            order: _,
+            store: _,
+        } = self;
+        closed.free();
+    }
+}
+
+impl ClosedStore {
+    /// The reduced diagram of the store's functions: the roots that were published, with the nodes
+    /// that they reach. The closed store is spent in every case.
+    pub fn diagram(self, alloc: Global) -> Result<Diagram, CloseFault>
+        ensures roots { OnOk result (HasRoots self) }
+        ensures order { IfOk result (λ d. d.order ≡ order_of self.plan) }
+        ensures diagram { IfOk result
+            (λ d. Represents (levels_of self.plan) (functions self.plan.problem.value)
+            (order_of self.plan) d.graph) }
+        ensures reduced { IfOk result (λ d. IsReduced d.graph) }
+        ensures missing { IfErr result (LacksRoot self) }
+    {
+        let ids = self.root_ids(alloc)?;
+        let order = self.order.variables();
+        let made = reached_nodes(alloc, &self.closed, self.places, order, ids.as_slice());
+        let Ok(reached) = made else {
             return Err(CloseFault::OutOfMemory);
         };
+        let ClosedStore {
+            closed,
+            places: _,
+            first: _,
+            roots: _,
+            order,
+            store: _,
+        } = self;
+        closed.free();
+        Ok(Diagram::new(order, reached.nodes, reached.roots))
     }
-    Ok(ids)
-}
 
-/// The reduced diagram of a closed table's roots.
-pub(crate) fn last_diagram(
-    alloc: Global,
-    closed: &Closed<(), Global>,
-    places: usize,
-    first: usize,
-    outputs: u8,
-    order: Order,
-) -> Result<Diagram, CloseFault>
-    requires full { IsFull closed.now.words }
-    requires inside { first + outputs ≤ slots_len closed.now.words }
-    requires places { (places ≤ slots_len closed.now.words) × (places < 2 ^ 20) }
-    requires nodes { AreNodes (length order) (words_in closed.now places) }
-    requires unequal { AreUnequal (words_in closed.now places) }
-    requires known { (j : ℕ) → j < outputs →
-        slice_index (slots_items closed.now.words) (first + j) ≢ 0 →
-        IsKnown (words_in closed.now places) (root_id (slots_items closed.now.words) first j) }
-    requires size { length (words_in closed.now places) ≡ places }
-    ensures filled { OnOk result (AreAllFilled (slots_items closed.now.words) first outputs) }
-    ensures order { IfOk result (λ d. d.order ≡ order) }
-    ensures diagram { IfOk result
-        (λ d. IsReducedOf (length order)
-        (root_functions order (words_in closed.now places) (slots_items closed.now.words) first
-        outputs)
-        order d.graph.nodes d.graph.roots) }
-    ensures missing { IfErr result (LacksRoot (slots_items closed.now.words) first outputs) }
-{
-    let ids = root_ids(alloc, closed, first, outputs)?;
-    let made = reached_nodes(alloc, closed, places, order.variables(), ids.as_slice());
-    let Ok(reached) = made else {
-        return Err(CloseFault::OutOfMemory);
-    };
-    Ok(Diagram::new(order, reached.nodes, reached.roots))
+    /// The ids in the root words.
+    fn root_ids(&self, alloc: Global) -> Result<Vec<u32>, CloseFault>
+        ensures roots { OnOk result (HasRoots self.now) }
+        ensures ids { IfOk result
+            (λ v. v.items ≡ map (root_id self.now) (range_with_len 0 (roots_count self.now.plan))) }
+        ensures missing { IfErr result (LacksRoot self.now) }
+    {
+        let Ok(mut ids) = Vec::with_capacity(alloc, usize::from(self.roots)) else {
+            return Err(CloseFault::OutOfMemory);
+        };
+        for output in 0..self.roots {
+            let word = self.root_word(output);
+            if word == 0 {
+                return Err(CloseFault::MissingRoot(output));
+            }
+            let Ok(()) = ids.push((word - 1) as u32) else {
+                return Err(CloseFault::OutOfMemory);
+            };
+        }
+        Ok(ids)
+    }
+
+    /// The word of a root.
+    fn root_word(&self, output: u8) -> u64
+        requires { output < roots_count self.now.plan }
+        ensures is { result ≡ root_word self.now output }
+        ensures small { result ≤ 2 ^ 32 }
+    {
+        self.closed.word(self.first + usize::from(output))
+    }
 }

@@ -2,6 +2,7 @@
 
 ghost use Rattle.unique_table.specs.Stakes.{HalvesJoin};
 ghost use Rattle.unique_table.specs.Sessions.{AloneStaysAlone};
+ghost use Rattle.unique_table.specs.Closing.{SessionsLackWhatIsEmpty};
 ghost use Rattle.unique_table.specs.Steps.{WholesAreAlone, EqualFunctionsHaveEqualIds, EqualIdsHaveEqualFunctions, Looks, Puts, Publishes, Collects, Recalls, Remembers};
 
 /// Ids that two seats know are equal exactly when they denote equal functions, whichever threads
@@ -28,4 +29,10 @@ pub fn whole_stakes_are_alone()
     ensures only { WholesAreAlone }
     ensures stays { AloneStaysAlone }
     ensures joined { HalvesJoin }
+{}
+
+/// A root that is the least empty one of the last words is missing to the session that the store
+/// was closed with.
+pub fn sessions_lack_what_is_empty()
+    ensures { SessionsLackWhatIsEmpty }
 {}

@@ -13,7 +13,7 @@ pub mod laws;
 mod plays;
 mod words;
 
-pub use close::CloseFault;
+pub use close::{CloseFault, ClosedStore};
 pub use node_words::{NodeParts, Operation};
 pub use plan::{PieceKind, Pieces, Plan, TermList};
 pub use plays::Words;

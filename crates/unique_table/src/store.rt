@@ -9,9 +9,9 @@ ghost use Rattle.node_words.specs.Meaning.{branch};
 ghost use Rattle.unique_table.specs.Sessions.{Knows, IsKnownBelow, Means, Follows, MakesStep, HasParts, HasUniqueIds, HasLevels, LiesNoHigher, combined_in, function_in, depth_in, HasPiece};
 ghost use Rattle.order_model.specs.Diagrams.{Represents, IsReduced};
 ghost use Rattle.unique_table.specs.Stakes.{whole, half, joined};
-ghost use Rattle.unique_table.specs.Closing.{Lacks};
+ghost use Rattle.unique_table.specs.Closing.{IsLast, Lacks};
 
-use crate::close::{CloseFault, last_diagram};
+use crate::close::{CloseFault, ClosedStore};
 use crate::create::{blank_words, cache_places, kind_of, node_places, parts_count};
 use crate::plan::{Pieces, Plan};
 use crate::plays::{Both, Words};
@@ -317,6 +317,33 @@ impl Store {
         Session { seat }
     }
 
+    /// The store that no session shares any more. Other sessions may have published roots that this
+    /// one doesn't know of.
+    pub fn into_closed(self, session: Session) -> ClosedStore
+        requires { session.store ≡ self }
+        ensures plan { result.plan ≡ self.plan }
+        ensures last { IsLast session result }
+    {
+        let store = Snapshot::of(&self);
+        let Store {
+            table,
+            places,
+            entries,
+            roots,
+            pieces,
+            order,
+        } = self;
+        let Session { seat } = session;
+        ClosedStore {
+            closed: table.close_with(seat),
+            places,
+            first: places + entries + roots,
+            roots: (pieces - roots) as u8,
+            order,
+            store,
+        }
+    }
+
     /// The reduced diagram of the store's functions: the published roots, with the nodes that they
     /// reach. The store is spent in every case. Other sessions may have published roots that this
     /// one doesn't know of.
@@ -329,20 +356,6 @@ impl Store {
         ensures reduced { IfOk result (λ d. IsReduced d.graph) }
         ensures missing { IfErr result (Lacks session) }
     {
-        let Store {
-            table,
-            places,
-            entries,
-            roots,
-            pieces,
-            order,
-        } = self;
-        let Session { seat } = session;
-        let closed = table.close_with(seat);
-        let first = places + entries + roots;
-        let outputs = (pieces - roots) as u8;
-        let diagram = last_diagram(alloc, &closed, places, first, outputs, order);
-        closed.free();
-        diagram
+        self.into_closed(session).diagram(alloc)
     }
 }

@@ -1,0 +1,5 @@
+use Rattle.layer_board.proofs.Closing.{lacking}
+use Rattle.layer_board.proofs.laws.seats_lack_what_is_empty.Goals as goal
+
+pub returns : goal.returns
+returns c = lacking

@@ -1,0 +1,92 @@
+//! A closed board.
+
+ghost use Rattle.std.specs.Prelude.{◌≡◌, ◌<◌, Some, None, IfOk, IfErr, IfSome, IfNone, length, map, slice_index_or};
+ghost use Rattle.subset_layers.specs.Layers.{masks_of};
+ghost use Rattle.layer_core.specs.Settings.{cell_for};
+ghost use Rattle.layer_core.specs.Pairing.{pair_of};
+ghost use Rattle.layer_board.specs.Refusals.{LacksCell};
+
+use crate::boards::Board;
+use crate::cell_words::cell_of_word;
+use atomic_table::Closed;
+use order_model::Mask;
+use std::alloc::Global;
+use std::marker::Model;
+use std::snapshot::Snapshot;
+use subset_layers::{Cell, Layer};
+
+/// Why a board gives no cells.
+#[derive(Clone, Copy, Debug, PartialEq, Eq)]
+pub enum CloseError {
+    /// The least mask whose cell is empty.
+    Missing(Mask),
+    OutOfMemory,
+}
+
+/// A board that no seat shares any more: the words that it ended with.
+pub struct ClosedBoard {
+    pub(crate) closed: Closed<(), Global>,
+    pub(crate) layer: Layer,
+    pub(crate) board: Snapshot<Board>,
+}
+
+impl Model for ClosedBoard {
+    ghost use Rattle.layer_board.specs.Views.{ClosedOf};
+
+    ghost Value = { ClosedOf };
+
+    ghost use Rattle.layer_board.specs.Closed.{closed_of, IsClosed};
+
+    ghost view = { closed_of };
+
+    ghost invariant = { IsClosed };
+}
+
+impl Drop for ClosedBoard {
+    fn drop(self) {
+        let ClosedBoard {
+            closed,
+            layer: _,
+            board: _,
+        } = self;
+        closed.free();
+    }
+}
+
+impl ClosedBoard {
+    /// All cells in the layer's order, or the least mask whose cell is empty.
+    pub fn cells(&self, alloc: Global) -> Result<Vec<Cell>, CloseError>
+        ensures all { IfOk result (λ v. map (λ c. Some (pair_of c)) v.items ≡ self.now.cells) }
+        ensures cells { IfOk result
+            (λ v. map pair_of v.items ≡ map (cell_for self.now.brief.setting)
+            (masks_of self.now.brief.layer)) }
+        ensures lacks { IfErr result (LacksCell self.now) }
+    {
+        let Ok(mut cells) = Vec::with_capacity(alloc, self.layer.len()) else {
+            return Err(CloseError::OutOfMemory);
+        };
+        for place in 0..self.layer.len() {
+            let Some(cell) = self.cell_at(place) else {
+                return Err(CloseError::Missing(self.layer.mask_at(place)));
+            };
+            let Ok(()) = cells.push(cell) else {
+                return Err(CloseError::OutOfMemory);
+            };
+        }
+        Ok(cells)
+    }
+
+    /// The cell of the mask at a place, if it is filled.
+    fn cell_at(&self, place: usize) -> Option<Cell>
+        requires { place < length (masks_of self.now.brief.layer) }
+        ensures some { IfSome result
+            (λ c. slice_index_or self.now.cells place None ≡ Some (pair_of c)) }
+        ensures none { IfNone result (slice_index_or self.now.cells place None ≡ None) }
+    {
+        let word = self.closed.word(place + 1);
+        if word == 0 {
+            return None;
+        }
+        Some(cell_of_word(word))
+    }
+}

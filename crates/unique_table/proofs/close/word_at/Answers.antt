@@ -1,7 +1,0 @@
-use Rattle.std.proofs.Common.{sym}
-use Rattle.std.specs.Slots.{slots_items}
-use Rattle.reached_nodes.proofs.Words.{get_or_found}
-use Rattle.unique_table.proofs.close.word_at.Goals as goal
-
-pub returns : goal.returns
-returns c = sym (get_or_found (slots_items c.args.closed.now.words) c.args.place c.word.result c.word.ensures)
