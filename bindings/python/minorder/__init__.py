@@ -26,7 +26,8 @@ There are 1 to 16 variables and 1 to 16 tables. An order lists each variable onc
 nodes, top level first: one root a table, no complement edges, terminals not counted.
 
 The calls are made by the shared library libminorder, without the interpreter's lock, so that threads run side by side. It is the
-file that the environment variable MINORDER_LIBRARY names, else one beside this module, else what the loader finds.
+file that the environment variable MINORDER_LIBRARY names, else one beside this module or in the lib/ of the checkout or prefix that it
+lies in, else what the loader finds.
 """
 from ._calls import Result, Verdict, certify, check, exact, levels, sift
 from ._errors import BadArgument, BadCertificate, BadOrder, BadPairs, BadPla, BadShape, BadText, MinorderError, NoLibrary

@@ -42,10 +42,11 @@ def _candidates() -> Iterator[str]:
     if named:
         yield named
         return
-    for name in (NAME, "libminorder.so"):
-        beside = os.path.join(os.path.dirname(os.path.abspath(__file__)), name)
+    here = os.path.dirname(os.path.abspath(__file__))
+    # beside this module, and the lib/ of a checkout, or of the prefix that the package was installed under
+    for beside in (f"{here}/{NAME}", f"{here}/libminorder.so", f"{here}/../../../lib/{NAME}", f"{here}/../../../../lib/{NAME}"):
         if os.path.exists(beside):
-            yield beside
+            yield os.path.normpath(beside)
             return
     yield NAME
     found = find_library("minorder")
