@@ -118,9 +118,9 @@ fn busy_workers(problem: &Problem, layer: &Layer, workers: Workers) -> Workers
     }
 }
 
-/// The cells of a layer in its order, by workers. What they find ahead goes to `found`. If some cell
-/// is missing although none of them ran out of memory, the calling thread does the layer over alone,
-/// by the same walks.
+/// The cells of a layer in its order, by workers. What they find ahead goes to `found`. If some
+/// cell is missing although none of them ran out of memory, the calling thread does the layer over
+/// alone, by the same walks.
 fn cells_of_layer<R: Threads + Sync, G: Gate>(
     crew: &Crew<'_, R, G>,
     alloc: Global,
