@@ -35,8 +35,8 @@ pub(crate) fn sifted_from(
     Ok(sifted)
 }
 
-/// An order whose size bounds the search among the orders that keep the pairs: one that sifting from
-/// the first of them ends with.
+/// An order whose size bounds the search among the orders that keep the pairs: one that sifting
+/// from the first of them ends with.
 pub(crate) fn bound_of(alloc: Global, tables: &Tables, pairs: Pairs) -> Result<Sifted, AllocError>
     requires { pairs.inputs ≡ tables.now.inputs }
     ensures problem { IfOk result (λ s. s.problem ≡ tables.now) }

@@ -162,8 +162,8 @@ struct Found {
     sifted_size: u32,
 }
 
-/// The first order of the fewest nodes, with what its certificate lists if that is asked for, and the
-/// order sifted from the diagram under the first one that keeps the pairs.
+/// The first order of the fewest nodes, with what its certificate lists if that is asked for, and
+/// the order sifted from the diagram under the first one that keeps the pairs.
 fn search<R: Threads + Sync>(
     rt: &R,
     alloc: Global,
