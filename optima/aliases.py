@@ -1,5 +1,6 @@
-"""Names of the field's benchmarks (Brayton, Hachtel, McMullen and Sangiovanni-Vincentelli 1984; Yang 1991) for functions of the table that are
-the same by their definition, up to the order of inputs and outputs: the name here, and the inputs and outputs that the field's lists have."""
+"""Names of the field's benchmarks (Brayton, Hachtel, McMullen and Sangiovanni-Vincentelli 1984; Yang 1991) for functions of the
+table that are the same by their definition, up to the order of inputs and outputs: the name here, and the inputs and outputs
+that the field's lists have."""
 
 FIELD = {
     "rd53": ("rd53", 5, 3),

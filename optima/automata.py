@@ -58,7 +58,10 @@ def is_permutation(n):
 
 def is_queens(n):
     """n queens on a board of n rows, none in another's row, column or diagonal."""
-    boards = [board for board in permutations(range(n)) if all(abs(board[i] - board[j]) != j - i for i, j in combinations(range(n), 2))]
+    def is_peaceful(board):
+        return all(abs(board[i] - board[j]) != j - i for i, j in combinations(range(n), 2))
+
+    boards = filter(is_peaceful, permutations(range(n)))
     placed = {tuple(int(board[i] == j) for i in range(n) for j in range(n)) for board in boards}
     return lambda x: [tuple(x) in placed]
 
@@ -82,17 +85,24 @@ def entries():
     family = "cellular automata"
     for rule in (30, 110):
         for steps in range(2, 8):
-            yield Entry(family, f"rule{rule}_{steps}", named("x", 2 * steps + 1), 1, f"the middle cell after {steps} steps of rule {rule} (Wolfram 1983)", middle(rule, steps))
+            yield Entry(family, f"rule{rule}_{steps}", named("x", 2 * steps + 1), 1,
+                        f"the middle cell after {steps} steps of rule {rule} (Wolfram 1983)", middle(rule, steps))
         for n, steps in ((8, 2), (8, 4), (12, 4)):
-            yield Entry(family, f"ring{rule}_{n}_{steps}", named("x", n), n, f"a ring of {n} cells after {steps} steps of rule {rule}", ring(rule, steps))
+            yield Entry(family, f"ring{rule}_{n}_{steps}", named("x", n), n,
+                        f"a ring of {n} cells after {steps} steps of rule {rule}", ring(rule, steps))
     yield Entry(family, "life", named("x", 9), 1, "a cell of Conway's Life after a step, the inputs in rows (Gardner 1970)", life)
     family = "graphs and boards"
     for n in (4, 5, 6):
         inputs = [f"e{i}_{j}" for i, j in edges(n)]
-        yield Entry(family, f"connected{n}", inputs, 1, f"the graph of {n} vertices with these edges is connected", is_connected(n))
-        yield Entry(family, f"triangle{n}", inputs, 1, f"the graph of {n} vertices with these edges has a triangle", has_triangle(n))
+        yield Entry(family, f"connected{n}", inputs, 1, f"the graph of {n} vertices with these edges is connected",
+                    is_connected(n))
+        yield Entry(family, f"triangle{n}", inputs, 1, f"the graph of {n} vertices with these edges has a triangle",
+                    has_triangle(n))
     for n in (3, 4):
         inputs = [f"x{i}{j}" for i in range(n) for j in range(n)]
-        yield Entry(family, f"permutation{n}", inputs, 1, f"a square of {n} rows has exactly one 1 in each row and column", is_permutation(n))
-        yield Entry(family, f"determinant{n}", inputs, 1, f"the determinant of {n} rows over the field of two elements", determinant(n))
-    yield Entry(family, "queens4", [f"x{i}{j}" for i in range(4) for j in range(4)], 1, "four queens on a board of four rows that don't attack one another", is_queens(4))
+        yield Entry(family, f"permutation{n}", inputs, 1, f"a square of {n} rows has exactly one 1 in each row and column",
+                    is_permutation(n))
+        yield Entry(family, f"determinant{n}", inputs, 1, f"the determinant of {n} rows over the field of two elements",
+                    determinant(n))
+    squares = [f"x{i}{j}" for i in range(4) for j in range(4)]
+    yield Entry(family, "queens4", squares, 1, "four queens on a board of four rows that don't attack one another", is_queens(4))

@@ -1,5 +1,5 @@
-"""Chips of the 74 series, by the function tables of their data sheets (Texas Instruments). The value 1 is the high level; a name that ends in `n` is
-active low. Inputs stand in the order in which the sheets name them."""
+"""Chips of the 74 series, by the function tables of their data sheets (Texas Instruments). The value 1 is the high level; a
+name that ends in `n` is active low. Inputs stand in the order in which the sheets name them."""
 from entry import Entry, bits_of, named, number
 
 # the segments a .. g of 0 to 15, a in the lowest bit; 6 and 9 have no tail
@@ -21,7 +21,8 @@ def decoder_of(code):
 
 
 def segments(x):
-    """7447: inputs A to D, lamp test and ripple blanking input, the blanking input open; segments a .. g and the ripple blanking output."""
+    """7447: inputs A to D, lamp test and ripple blanking input, the blanking input open; segments a
+    .. g and the ripple blanking output."""
     digit, testn, ripplen = number(x[:4]), x[4], x[5]
     if not testn:
         return [0] * 7 + [1]
@@ -31,7 +32,8 @@ def segments(x):
 
 
 def magnitude(x):
-    """7485: where A = B the inputs A > B, A < B, A = B of the lower places decide; the sheet says what all eight of their values give."""
+    """7485: where A = B the inputs A > B, A < B, A = B of the lower places decide; the sheet says
+    what all eight of their values give."""
     a, b, (greater, less, equal) = number(x[:4]), number(x[4:8]), x[8:]
     return [a > b, a < b, 0] if a != b else [not less and not equal, not greater and not equal, equal]
 
@@ -84,13 +86,15 @@ def parity_generator(x):
 
 
 def unit(x):
-    """74181: A, B, S0 .. S3, M and the carry in; F0 .. F3, A = B, P, G and the carry out, as levels: with high levels as ones both carries are active low."""
+    """74181: A, B, S0 .. S3, M and the carry in; F0 .. F3, A = B, P, G and the carry out, as
+    levels: with high levels as ones both carries are active low."""
     a, b, (s0, s1, s2, s3, mode, carryn) = x[:4], x[4:8], x[8:]
     upper = [p | q & s0 | (1 - q) & s1 for p, q in zip(a, b)]
     lower = [p & (1 - q) & s2 | p & q & s3 for p, q in zip(a, b)]
     total = number(upper) + number(lower) + 1 - carryn
     f = [1 ^ p ^ q for p, q in zip(upper, lower)] if mode else bits_of(total, 4)
-    # a place with neither term passes on the low level of no carry: P and G are active low in the sheet's other reading, low levels as ones
+    # a place with neither term passes on the low level of no carry: P and G are active low in the sheet's other reading, low
+    # levels as ones
     g = 1
     for p, q in zip(upper, lower):
         g = p & (q | g)
@@ -110,21 +114,36 @@ def look_ahead(x):
     return [*carries, *low([all(p), whole])]
 
 
+def adder(x):
+    """74283: A1, B1 .. A4, B4 and the carry in; the sum with its carry."""
+    return bits_of(number(x[0:8:2]) + number(x[1:8:2]) + x[8], 5)
+
+
 def entries():
-    family, address = "74 series", ["a", "b", "c", "d"]
+    family, address, operands = "74 series", ["a", "b", "c", "d"], named("a", 4) + named("b", 4)
     yield Entry(family, "sn7442", address, 10, "7442, binary-coded digit to one of ten", decoder_of(lambda digit: digit))
     yield Entry(family, "sn7443", address, 10, "7443, excess-3 digit to one of ten", decoder_of(lambda digit: digit + 3))
-    yield Entry(family, "sn7447", address + ["ltn", "rbin"], 8, "7447, digit to seven segments, lamp test, ripple blanking", segments)
-    yield Entry(family, "sn7485", named("a", 4) + named("b", 4) + ["gt", "lt", "eq"], 3, "7485, comparator of four bits with cascading inputs", magnitude)
+    yield Entry(family, "sn7447", address + ["ltn", "rbin"], 8,
+                "7447, digit to seven segments, lamp test, ripple blanking", segments)
+    yield Entry(family, "sn7485", operands + ["gt", "lt", "eq"], 3,
+                "7485, comparator of four bits with cascading inputs", magnitude)
     yield Entry(family, "sn74138", ["a", "b", "c", "g1", "g2an", "g2bn"], 8, "74138, decoder of three bits", decoder)
     yield Entry(family, "sn74147", [f"i{i}n" for i in range(1, 10)], 4, "74147, priority encoder of ten lines", digit_priority)
-    yield Entry(family, "sn74148", ["ein"] + [f"i{i}n" for i in range(8)], 5, "74148, priority encoder of eight lines", priority)
+    yield Entry(family, "sn74148", ["ein"] + [f"i{i}n" for i in range(8)], 5,
+                "74148, priority encoder of eight lines", priority)
     yield Entry(family, "sn74151", named("d", 8) + ["a", "b", "c", "strobe"], 2, "74151, selector of eight data", selector)
-    yield Entry(family, "sn74153", ["a", "b"] + [f"{half}{it}" for half in "cd" for it in ("0", "1", "2", "3", "strobe")], 2, "74153, two selectors of four data", two_selectors)
+    halves = [f"{half}{it}" for half in "cd" for it in ("0", "1", "2", "3", "strobe")]
+    yield Entry(family, "sn74153", ["a", "b"] + halves, 2, "74153, two selectors of four data", two_selectors)
     yield Entry(family, "sn74154", address + ["g1n", "g2n"], 16, "74154, decoder of four bits", decoder_of_four)
-    yield Entry(family, "sn74157", ["select", "strobe"] + [f"{it}{i}" for i in range(4) for it in "ab"], 4, "74157, four selectors of two data", four_selectors)
-    yield Entry(family, "sn74180", named("d", 8) + ["even", "odd"], 2, "74180, parity of eight bits with cascading inputs", parity_generator)
-    yield Entry(family, "sn74181", named("a", 4) + named("b", 4) + named("s", 4) + ["m", "cn"], 8, "74181, arithmetic and logic unit of four bits", unit)
-    yield Entry(family, "sn74182", ["cn"] + [f"p{i}n" for i in range(4)] + [f"g{i}n" for i in range(4)], 5, "74182, look-ahead carry generator", look_ahead)
-    yield Entry(family, "sn74280", named("d", 9), 2, "74280, parity of nine bits: even and odd", lambda x: [1 - sum(x) % 2, sum(x) % 2])
-    yield Entry(family, "sn74283", [f"{it}{i}" for i in range(1, 5) for it in "ab"] + ["c0"], 5, "74283, adder of four bits with a carry in", lambda x: bits_of(number(x[0:8:2]) + number(x[1:8:2]) + x[8], 5))
+    pairs = [f"{it}{i}" for i in range(4) for it in "ab"]
+    yield Entry(family, "sn74157", ["select", "strobe"] + pairs, 4, "74157, four selectors of two data", four_selectors)
+    yield Entry(family, "sn74180", named("d", 8) + ["even", "odd"], 2,
+                "74180, parity of eight bits with cascading inputs", parity_generator)
+    yield Entry(family, "sn74181", operands + named("s", 4) + ["m", "cn"], 8,
+                "74181, arithmetic and logic unit of four bits", unit)
+    yield Entry(family, "sn74182", ["cn"] + [f"p{i}n" for i in range(4)] + [f"g{i}n" for i in range(4)], 5,
+                "74182, look-ahead carry generator", look_ahead)
+    yield Entry(family, "sn74280", named("d", 9), 2, "74280, parity of nine bits: even and odd",
+                lambda x: [1 - sum(x) % 2, sum(x) % 2])
+    places = [f"{it}{i}" for i in range(1, 5) for it in "ab"]
+    yield Entry(family, "sn74283", places + ["c0"], 5, "74283, adder of four bits with a carry in", adder)

@@ -36,7 +36,8 @@ def round_robin(n):
 
 
 def arithmetic_logic(k):
-    """a, b of k bits and an operation: +, -, and, or, exclusive or, not a, a < b without a sign, a < b with one; the carry of + and of a + not b + 1."""
+    """a, b of k bits and an operation: +, -, and, or, exclusive or, not a, a < b without a sign, a
+    < b with one; the carry of + and of a + not b + 1."""
     half, mask = 1 << k - 1, (1 << k) - 1
 
     def values(x):
@@ -77,32 +78,45 @@ def several(letters, k):
 def of_words():
     family = "processor parts"
     for n in (8, 12, 16):
-        yield Entry(family, f"leadingzeros{n}", named("x", n), n.bit_length(), "how many zeros stand above the highest one", lambda x, n=n: bits_of(leading_zeros(x), n.bit_length()))
-    for name, said, values in (("rotate8", "8 bits turned left by s", rotated), ("shift8", "8 bits shifted left by s", shifted), ("shiftsign8", "8 bits with a sign shifted right by s", shifted_with_sign)):
+        yield Entry(family, f"leadingzeros{n}", named("x", n), n.bit_length(), "how many zeros stand above the highest one",
+                    lambda x, n=n: bits_of(leading_zeros(x), n.bit_length()))
+    shifters = (
+        ("rotate8", "8 bits turned left by s", rotated),
+        ("shift8", "8 bits shifted left by s", shifted),
+        ("shiftsign8", "8 bits with a sign shifted right by s", shifted_with_sign),
+    )
+    for name, said, values in shifters:
         yield Entry(family, name, named("x", 8) + named("s", 3), 8, said, values)
     for n in (8, 16):
         yield Entry(family, f"arbiter{n}", named("r", n), n, "the first request is granted", first_request)
     for n, bits in ((4, 2), (8, 3)):
-        yield Entry(family, f"roundrobin{n}", named("r", n) + named("p", bits), n, "the first request from p on, round the ring, is granted", round_robin(n))
+        yield Entry(family, f"roundrobin{n}", named("r", n) + named("p", bits), n,
+                    "the first request from p on, round the ring, is granted", round_robin(n))
     for k in (2, 4):
-        yield Entry(family, f"arithmeticlogic{k}", named("a", k) + named("b", k) + named("op", 3), k + 1, f"{k} bits: a + b, a - b, and, or, exclusive or, not a, a < b without and with a sign; the carry", arithmetic_logic(k))
+        said = f"{k} bits: a + b, a - b, and, or, exclusive or, not a, a < b without and with a sign; the carry"
+        inputs = named("a", k) + named("b", k) + named("op", 3)
+        yield Entry(family, f"arithmeticlogic{k}", inputs, k + 1, said, arithmetic_logic(k))
 
 
 def of_networks():
     family = "counting and sorting"
     for n in (6, 10, 12, 15, 16):
-        yield Entry(family, f"ones{n}", named("x", n), n.bit_length(), "the number of ones, in binary", lambda x, n=n: bits_of(sum(x), n.bit_length()))
+        yield Entry(family, f"ones{n}", named("x", n), n.bit_length(), "the number of ones, in binary",
+                    lambda x, n=n: bits_of(sum(x), n.bit_length()))
     for n in (8, 12, 16):
-        yield Entry(family, f"sort{n}", named("x", n), n, "the bits in descending order", lambda x: [sum(x) > i for i in range(len(x))])
+        yield Entry(family, f"sort{n}", named("x", n), n, "the bits in descending order",
+                    lambda x: [sum(x) > i for i in range(len(x))])
     for letters, k in (("abc", 2), ("abcd", 2), ("abc", 4), ("abcd", 4)):
         n = len(letters)
-        yield Entry(family, f"sortwords{n}_{k}", several(letters, k), n * k, f"{n} numbers of {k} bits in ascending order", sorted_words(k))
+        yield Entry(family, f"sortwords{n}_{k}", several(letters, k), n * k, f"{n} numbers of {k} bits in ascending order",
+                    sorted_words(k))
     for letters, k in (("abc", 2), ("abc", 3), ("abc", 4), ("abc", 5), ("abcde", 2), ("abcde", 3)):
         n = len(letters)
         yield Entry(family, f"median{n}_{k}", several(letters, k), k, f"the median of {n} numbers of {k} bits", median(k))
     for letters, k in (("abcd", 2), ("abcd", 3), ("abcd", 4)):
         n = len(letters)
-        yield Entry(family, f"rank{n}_{k}", several(letters, k), (n - 1).bit_length(), f"how many of b .. are smaller than a, {n} numbers of {k} bits", rank(k))
+        yield Entry(family, f"rank{n}_{k}", several(letters, k), (n - 1).bit_length(),
+                    f"how many of b .. are smaller than a, {n} numbers of {k} bits", rank(k))
 
 
 def entries():

@@ -41,7 +41,8 @@ def hamming_decoder(r):
 
 
 def remainder(generator, degree, length):
-    """Of the message times x^degree by the generator (with its highest term); the highest bit of the message is the coefficient of the highest power."""
+    """Of the message times x^degree by the generator (with its highest term); the highest bit of
+    the message is the coefficient of the highest power."""
     def values(x):
         rest = number(x) << degree
         for i in reversed(range(degree, degree + length)):
@@ -75,7 +76,8 @@ def turned(word):
 
 
 def ten_bits(x):
-    """8b/10b of a data byte, lowest bit A first, and the running disparity (1 for +1): a b c d e i f g h j, and the disparity after it."""
+    """8b/10b of a data byte, lowest bit A first, and the running disparity (1 for +1): a b c d e i
+    f g h j, and the disparity after it."""
     low, high, disparity = number(x[:5]), number(x[5:8]), x[8]
     six = [int(bit) for bit in SIX[low]]
     if disparity and (sum(six) != 3 or low == 7):
@@ -96,11 +98,13 @@ def hex_digit(x):
 
 
 def classes(x):
-    """Whether an ASCII character is an upper case letter, a lower case one, a digit, white space, another printing one, a control character."""
+    """Whether an ASCII character is an upper case letter, a lower case one, a digit, white space,
+    another printing one, a control character."""
     code = number(x)
     upper, lower, digit = 65 <= code <= 90, 97 <= code <= 122, 48 <= code <= 57
     space = code == 32 or 9 <= code <= 13
-    return [upper, lower, digit, space, 33 <= code <= 126 and not (upper or lower or digit), code < 32 or code == 127]
+    other = 33 <= code <= 126 and not (upper or lower or digit)
+    return [upper, lower, digit, space, other, code < 32 or code == 127]
 
 
 def sequence_length(x):
@@ -119,16 +123,24 @@ def entries():
     for r, name in ((3, "7_4"), (4, "15_11")):
         n, k = (1 << r) - 1, (1 << r) - 1 - r
         yield Entry(family, f"hamming{name}", named("d", k), n, f"Hamming ({n}, {k}), encoder (Hamming 1950)", hamming_encoder(r))
-        yield Entry(family, f"syndrome{name}", named("r", n), r, f"Hamming ({n}, {k}), syndrome", lambda x, r=r: bits_of(syndrome(x), r))
-        yield Entry(family, f"corrected{name}", named("r", n), k, f"Hamming ({n}, {k}), data with one error corrected", hamming_decoder(r))
+        yield Entry(family, f"syndrome{name}", named("r", n), r, f"Hamming ({n}, {k}), syndrome",
+                    lambda x, r=r: bits_of(syndrome(x), r))
+        yield Entry(family, f"corrected{name}", named("r", n), k, f"Hamming ({n}, {k}), data with one error corrected",
+                    hamming_decoder(r))
     yield Entry(family, "bch15_7", named("r", 15), 8, "BCH (15, 7), syndromes 1 and 3 over x^4 + x + 1", bch_syndromes)
-    yield Entry(family, "crc5_11", named("x", 11), 5, "remainder of 11 bits by x^5 + x^2 + 1 (the generator of USB tokens)", remainder(0b100101, 5, 11))
-    yield Entry(family, "crc8", named("x", 8), 8, "remainder of a byte by x^8 + x^2 + x + 1 (the generator of SMBus and ATM headers)", remainder(0x107, 8, 8))
-    yield Entry(family, "crc16", named("x", 8), 16, "remainder of a byte by x^16 + x^12 + x^5 + 1 (CRC-16 of the CCITT)", remainder(0x11021, 16, 8))
+    yield Entry(family, "crc5_11", named("x", 11), 5, "remainder of 11 bits by x^5 + x^2 + 1 (the generator of USB tokens)",
+                remainder(0b100101, 5, 11))
+    yield Entry(family, "crc8", named("x", 8), 8,
+                "remainder of a byte by x^8 + x^2 + x + 1 (the generator of SMBus and ATM headers)", remainder(0x107, 8, 8))
+    yield Entry(family, "crc16", named("x", 8), 16, "remainder of a byte by x^16 + x^12 + x^5 + 1 (CRC-16 of the CCITT)",
+                remainder(0x11021, 16, 8))
     family = "lines and characters"
-    yield Entry(family, "line8b10b", named("x", 8) + ["disparity"], 11, "8b/10b of a data byte and the disparity after it (Widmer and Franaszek 1983)", ten_bits)
+    yield Entry(family, "line8b10b", named("x", 8) + ["disparity"], 11,
+                "8b/10b of a data byte and the disparity after it (Widmer and Franaszek 1983)", ten_bits)
     yield Entry(family, "ungray8", named("g", 8), 8, "Gray to binary", from_gray)
     yield Entry(family, "ungray16", named("g", 16), 16, "Gray to binary", from_gray)
     yield Entry(family, "hexdigit", named("x", 8), 5, "value of a hexadecimal digit in ASCII, and whether it is one", hex_digit)
-    yield Entry(family, "asciiclass", named("x", 8), 6, "upper case, lower case, digit, space, other printing or control character of ASCII", classes)
-    yield Entry(family, "utf8length", named("x", 8), 3, "length of the UTF-8 sequence with this first byte; 0 if there is none (RFC 3629)", sequence_length)
+    yield Entry(family, "asciiclass", named("x", 8), 6,
+                "upper case, lower case, digit, space, other printing or control character of ASCII", classes)
+    yield Entry(family, "utf8length", named("x", 8), 3,
+                "length of the UTF-8 sequence with this first byte; 0 if there is none (RFC 3629)", sequence_length)

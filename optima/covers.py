@@ -1,4 +1,5 @@
-"""Irredundant covers by prime-like products (Morreale 1970, Minato 1993), with truth tables as whole numbers: bit p is the value at point p."""
+"""Irredundant covers by prime-like products (Morreale 1970, Minato 1993), with truth tables as
+whole numbers: bit p is the value at point p."""
 
 
 def products(inputs, ones):
@@ -37,8 +38,8 @@ def points(inputs, tables):
 
 
 def lines(inputs, tables):
-    """The lines of a PLA file with an output for each truth table: products, of which equal ones of several outputs stand once, or points
-    where these are fewer."""
+    """The lines of a PLA file with an output for each truth table: products, of which equal ones of several outputs stand
+    once, or points where these are fewer."""
     rows = {}
     for output, ones in enumerate(tables):
         for term in products(inputs, ones):

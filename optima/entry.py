@@ -3,10 +3,12 @@ import covers
 
 
 class Entry:
-    """A function: its family and name, the names of its inputs in the file's order, its outputs, a formula in words, and the formula itself."""
+    """A function: its family and name, the names of its inputs in the file's order, its outputs, a
+    formula in words, and the formula itself."""
 
     def __init__(self, family, name, inputs, outputs, words, values):
-        self.family, self.name, self.inputs, self.outputs, self.words, self.values = family, name, inputs, outputs, words, values
+        self.family, self.name, self.words = family, name, words
+        self.inputs, self.outputs, self.values = inputs, outputs, values
 
     def tables(self):
         """A truth table for each output, as a whole number: bit p is the value at the point whose bit i is input i."""
@@ -16,7 +18,8 @@ class Entry:
 
     def pla(self):
         lines = covers.lines(len(self.inputs), self.tables())
-        head = [f"# {self.words}", f".i {len(self.inputs)}", f".o {self.outputs}", ".ilb " + " ".join(self.inputs), f".p {len(lines)}"]
+        counts = [f".i {len(self.inputs)}", f".o {self.outputs}"]
+        head = [f"# {self.words}", *counts, ".ilb " + " ".join(self.inputs), f".p {len(lines)}"]
         return "\n".join([*head, *lines, ".e", ""])
 
 

@@ -1,8 +1,10 @@
-"""The functions of up to five inputs: how many have which fewest number of nodes, and what the file's order and sifting make of them.
+"""The functions of up to five inputs: how many have which fewest number of nodes, and what the file's order and sifting make
+of them.
 
-Up to four inputs all functions are counted under three orders, by the library. Of five inputs the fewest nodes are counted for one function of each
-class under permutations and negations of the inputs and negation of the output, which leave them as they are, and stand for the whole class; what the
-file's order and sifting give differs within a class and is counted for a million random functions."""
+Up to four inputs all functions are counted under three orders, by the library. Of five inputs the fewest nodes are counted for
+one function of each class under permutations and negations of the inputs and negation of the output, which leave them as they
+are, and stand for the whole class; what the file's order and sifting give differs within a class and is counted for a million
+random functions."""
 import csv
 import hashlib
 import json
@@ -47,7 +49,8 @@ def random_functions():
 
 
 def in_chunks(name, room, items, of_item):
-    """How often which outcome comes, chunk by chunk; what a chunk gave lies in the room. Answers the seconds of processor time too."""
+    """How often which outcome comes, chunk by chunk; what a chunk gave lies in the room. Answers
+    the seconds of processor time too."""
     counts, seconds = Counter(), 0
     for first in range(0, len(items), CHUNK):
         kept = f"{room}/{name}.{first}.json"
@@ -58,7 +61,8 @@ def in_chunks(name, room, items, of_item):
                 outcome, weight = of_item(item)
                 found[outcome, 0] += 1
                 found[outcome, 1] += weight
-            write(kept, json.dumps([[[*outcome, which, count] for (outcome, which), count in found.items()], time.process_time() - start]))
+            lines = [[*outcome, which, count] for (outcome, which), count in found.items()]
+            write(kept, json.dumps([lines, time.process_time() - start]))
         with open(kept) as file:
             lines, took = json.load(file)
         for *outcome, which, count in lines:
@@ -84,22 +88,39 @@ def classes_of(room, n):
     return found
 
 
+def count_orders(minorder, room, n):
+    """The lines of few.csv of n inputs, and the seconds that they took."""
+    order, tables = range(n), range(1 << (1 << n)) if n < 5 else list(random_functions())
+
+    def three(table):
+        best, sifted = minorder.exact(table, n).total, minorder.sift(table, order).total
+        return (best, sifted, sum(minorder.levels(table, order))), 1
+
+    found, took = in_chunks(f"functions{n}", room, tables, three)
+    which = "all" if n < 5 else "random"
+    return [[n, which, *outcome, count] for (outcome, part), count in sorted(found.items()) if part == 0], took
+
+
+def count_optima(minorder, room, n):
+    """The lines of few_classes.csv of n inputs, and the seconds that they took."""
+    def optimum(item):
+        table, size = item
+        return (minorder.exact(table, n).total,), size
+
+    each, took = in_chunks(f"optima{n}", room, classes_of(room, n), optimum)
+    return [[n, *outcome, count, each[outcome, 1]] for (outcome, which), count in sorted(each.items()) if which == 0], took
+
+
 def make(programs):
     room = f"{programs.room}/few"
     os.makedirs(room, exist_ok=True)
     minorder = library()
     counts, classes, seconds = [], [], 0
     for n in range(1, 6):
-        order = range(n)
-
-        def three(table):
-            return (minorder.exact(table, n).total, minorder.sift(table, order).total, sum(minorder.levels(table, order))), 1
-
-        tables = range(1 << (1 << n)) if n < 5 else list(random_functions())
-        found, took = in_chunks(f"functions{n}", room, tables, three)
-        counts += [[n, "all" if n < 5 else "random", *outcome, count] for (outcome, which), count in sorted(found.items()) if which == 0]
-        each, more = in_chunks(f"optima{n}", room, classes_of(room, n), lambda item: ((minorder.exact(item[0], n).total,), item[1]))
-        classes += [[n, *outcome, count, each[outcome, 1]] for (outcome, which), count in sorted(each.items()) if which == 0]
+        rows, took = count_orders(minorder, room, n)
+        class_rows, more = count_optima(minorder, room, n)
+        counts += rows
+        classes += class_rows
         seconds += took + more
     for name, head, rows in (("few", COUNTS, counts), ("few_classes", CLASSES, classes)):
         with open(f"{programs.into}/optima/{name}.csv", "w", newline="") as file:

@@ -5,9 +5,9 @@
     functions.py NAME       writes the PLA file of one to standard output
     functions.py --all DIR  writes all of them into a folder
 
-A function is given by a formula on its inputs; its file is an irredundant cover of each output, or the list of its points where that is
-shorter. Numbers have their lowest bit first in the formulas, and the file's inputs stand in the order that the entry says. Each module below
-has some families.
+A function is given by a formula on its inputs; its file is an irredundant cover of each output, or the list of its points
+where that is shorter. Numbers have their lowest bit first in the formulas, and the file's inputs stand in the order that the
+entry says. Each module below has some families.
 """
 import os
 import signal

@@ -1,5 +1,5 @@
-"""The league of heuristics: the orders that the methods of CUDD, BuDDy and ABC and our own pass of sifting end with, all judged by the library's
-level counts without complement edges, beside the proved optimum."""
+"""The league of heuristics: the orders that the methods of CUDD, BuDDy and ABC and our own pass of sifting end with, all
+judged by the library's level counts without complement edges, beside the proved optimum."""
 import csv
 import hashlib
 import json
@@ -14,16 +14,24 @@ import few
 import table
 from minorder.files import read_pla
 
-CUDD = ["SIFT", "SIFT_CONVERGE", "SYMM_SIFT", "SYMM_SIFT_CONV", "GROUP_SIFT", "GROUP_SIFT_CONV", "WINDOW2", "WINDOW2_CONV", "WINDOW3", "WINDOW3_CONV", "WINDOW4", "WINDOW4_CONV", "ANNEALING", "GENETIC", "LINEAR", "EXACT"]
+CUDD = [
+    "SIFT", "SIFT_CONVERGE", "SYMM_SIFT", "SYMM_SIFT_CONV", "GROUP_SIFT", "GROUP_SIFT_CONV", "WINDOW2", "WINDOW2_CONV",
+    "WINDOW3", "WINDOW3_CONV", "WINDOW4", "WINDOW4_CONV", "ANNEALING", "GENETIC", "LINEAR", "EXACT",
+]
 BUDDY = ["WIN2", "WIN2ITE", "WIN3", "WIN3ITE", "SIFT", "SIFTITE", "RANDOM"]
-METHODS = [("minorder", "sifting")] + [("CUDD", method) for method in CUDD] + [("ABC", "reo")] + [("BuDDy", method) for method in BUDDY]
+METHODS = [
+    ("minorder", "sifting"), *(("CUDD", method) for method in CUDD), ("ABC", "reo"), *(("BuDDy", method) for method in BUDDY),
+]
 RANDOM = {("CUDD", "ANNEALING"), ("CUDD", "GENETIC"), ("BuDDy", "RANDOM")}
 DRIVERS = {"CUDD": "league_cudd", "ABC": "league_cudd", "BuDDy": "league_buddy"}
 SEEDS = range(1, 11)
 STARTS = range(1, 11)
 SMALL = 12
 LIMIT = 10
-COLUMNS = ["name", "package", "method", "start", "runs", "late", "without_an_order", "least_nodes", "median_nodes", "most_nodes", "optimum_met", "seconds"]
+COLUMNS = [
+    "name", "package", "method", "start", "runs", "late", "without_an_order", "least_nodes", "median_nodes", "most_nodes",
+    "optimum_met", "seconds",
+]
 
 
 def random_start(inputs, k):
@@ -105,20 +113,28 @@ def measure(row, programs, minorder):
         return json.load(file)
 
 
+def figures_of(runs, best, title):
+    """What a line says of some runs: how many, and how many of them late and without an order; their least, median and most
+    nodes, how often the optimum was met, and the mean seconds."""
+    words = [nodes for nodes, _ in runs]
+    sizes = sorted(nodes for nodes in words if isinstance(nodes, int))
+    if sizes and sizes[0] < best:
+        sys.exit(f"{title} ends below the optimum")
+    three = [sizes[0], statistics.median_low(sizes), sizes[-1]] if sizes else ["", "", ""]
+    seconds = f"{sum(it for _, it in runs if it) / len(sizes):.4f}" if sizes else ""
+    return [len(runs), words.count("late"), words.count("none"), *three, sizes.count(best), seconds]
+
+
 def lines_of(row, found):
     """The lines of the table: for each method its runs from the file's order, and those from random orders together."""
-    best = int(row["optimum"])
     for package, method in METHODS:
         label = f"{package} {method}"
-        several = [("file", found["file"][label])] + ([("random", [found[str(k)][label][0] for k in STARTS])] if "1" in found else [])
-        for start, runs in several:
-            sizes = sorted(nodes for nodes, _ in runs if isinstance(nodes, int))
-            if sizes and sizes[0] < best:
-                sys.exit(f"{row['name']}: {label} ends below the optimum")
-            told = [sizes[0], statistics.median_low(sizes), sizes[-1]] if sizes else ["", "", ""]
-            words = [nodes for nodes, _ in runs]
-            seconds = sum(it for _, it in runs if it) / len(sizes) if sizes else None
-            yield dict(zip(COLUMNS, [row["name"], package, method, start, len(runs), words.count("late"), words.count("none"), *told, sizes.count(best), "" if seconds is None else f"{seconds:.4f}"]))
+        starts = {"file": found["file"][label]}
+        if "1" in found:
+            starts["random"] = [found[str(k)][label][0] for k in STARTS]
+        for start, runs in starts.items():
+            figures = figures_of(runs, int(row["optimum"]), f"{row['name']}: {label}")
+            yield dict(zip(COLUMNS, [row["name"], package, method, start, *figures]))
 
 
 def make(programs):

@@ -5,9 +5,18 @@ from math import exp, log
 
 import league
 
-SHOWN = [("CUDD", "SIFT"), ("CUDD", "SIFT_CONVERGE"), ("CUDD", "GROUP_SIFT"), ("CUDD", "WINDOW4_CONV"), ("CUDD", "ANNEALING"), ("CUDD", "GENETIC"), ("ABC", "reo"), ("BuDDy", "WIN3ITE"), ("BuDDy", "SIFT"), ("BuDDy", "SIFTITE"), ("minorder", "sifting")]
-CURVES = [("CUDD", "GENETIC"), ("CUDD", "ANNEALING"), ("BuDDy", "SIFTITE"), ("CUDD", "GROUP_SIFT"), ("minorder", "sifting"), ("CUDD", "SIFT_CONVERGE"), ("CUDD", "SIFT"), ("CUDD", "WINDOW4_CONV"), ("BuDDy", "WIN3ITE")]
-FAMILIES = ["family", "package", "method", "functions", "with_an_order", "mean_ratio", "worst_ratio", "worst_function", "optimum_met", "seconds"]
+SHOWN = [
+    ("CUDD", "SIFT"), ("CUDD", "SIFT_CONVERGE"), ("CUDD", "GROUP_SIFT"), ("CUDD", "WINDOW4_CONV"), ("CUDD", "ANNEALING"),
+    ("CUDD", "GENETIC"), ("ABC", "reo"), ("BuDDy", "WIN3ITE"), ("BuDDy", "SIFT"), ("BuDDy", "SIFTITE"), ("minorder", "sifting"),
+]
+CURVES = [
+    ("CUDD", "GENETIC"), ("CUDD", "ANNEALING"), ("BuDDy", "SIFTITE"), ("CUDD", "GROUP_SIFT"), ("minorder", "sifting"),
+    ("CUDD", "SIFT_CONVERGE"), ("CUDD", "SIFT"), ("CUDD", "WINDOW4_CONV"), ("BuDDy", "WIN3ITE"),
+]
+FAMILIES = [
+    "family", "package", "method", "functions", "with_an_order", "mean_ratio", "worst_ratio", "worst_function", "optimum_met",
+    "seconds",
+]
 
 
 def mean(values):
@@ -15,7 +24,8 @@ def mean(values):
 
 
 class Standing:
-    """What a method makes of some functions from the file's order: ratios of the median run, the worst run, where the optimum was met."""
+    """What a method makes of some functions from the file's order: ratios of the median run, the
+    worst run, where the optimum was met."""
 
     def __init__(self, lines, optima):
         self.lines, self.optima = lines, optima
@@ -36,11 +46,17 @@ class Standing:
 
 def standings(lines, optima, start):
     """By package and method."""
-    return {method: Standing([line for line in lines if (line["package"], line["method"]) == method and line["start"] == start], optima) for method in league.METHODS}
+    by_method = {method: [] for method in league.METHODS}
+    for line in lines:
+        method = line["package"], line["method"]
+        if line["start"] == start and method in by_method:
+            by_method[method].append(line)
+    return {method: Standing(mine, optima) for method, mine in by_method.items()}
 
 
 def of_random_starts(standing):
-    """Of the runs from random orders: the mean of the functions' median ratios, the worst ratio, the share of runs that met the optimum."""
+    """Of the runs from random orders: the mean of the functions' median ratios, the worst ratio,
+    the share of runs that met the optimum."""
     ended = sum(int(line["runs"]) - int(line["late"]) - int(line["without_an_order"]) for line in standing.lines)
     met = sum(int(line["optimum_met"]) for line in standing.lines)
     return [f"{standing.mean:.3f}", f"{standing.worst_ratio():.2f}", f"{100 * met / ended:.0f} %"]
@@ -48,7 +64,10 @@ def of_random_starts(standing):
 
 def table(file, random):
     """A line for each method, those with the least mean ratio from random orders first; LINEAR, which leaves few orders, last."""
-    heads = ["Method", "Mean ratio, file's order", "Worst ratio", "Optimum met", "Late", "Seconds", "Mean ratio, random orders", "Worst ratio", "Runs that met it"]
+    heads = [
+        "Method", "Mean ratio, file's order", "Worst ratio", "Optimum met", "Late", "Seconds", "Mean ratio, random orders",
+        "Worst ratio", "Runs that met it",
+    ]
     out = ["| " + " | ".join(heads) + " |", "|" + "---|" * len(heads)]
     ranked = sorted(file, key=lambda method: (method == ("CUDD", "LINEAR"), random[method].mean))
     for method in ranked:
@@ -66,11 +85,11 @@ def family_lines(rows, lines, optima):
     for family in dict.fromkeys(row["family"] for row in rows):
         names = {row["name"] for row in rows if row["family"] == family}
         for method, mine in standings([line for line in lines if line["name"] in names], optima, "file").items():
+            counts, ratios, seconds = [len(mine.lines), len(mine.ended)], ["", "", ""], ""
             if mine.ended:
-                values = [family, *method, len(mine.lines), len(mine.ended), f"{mine.mean:.4f}", f"{mine.worst_ratio():.4f}", mine.worst["name"], mine.met, f"{mine.seconds:.2f}"]
-            else:
-                values = [family, *method, len(mine.lines), 0, "", "", "", 0, ""]
-            yield dict(zip(FAMILIES, values))
+                ratios = [f"{mine.mean:.4f}", f"{mine.worst_ratio():.4f}", mine.worst["name"]]
+                seconds = f"{mine.seconds:.2f}"
+            yield dict(zip(FAMILIES, [family, *method, *counts, *ratios, mine.met, seconds]))
 
 
 def family_matrix(lines):
@@ -113,8 +132,11 @@ class League:
         return family_matrix(self.families)
 
     def panels(self):
-        small = len({line["name"] for line in self.lines if line["start"] == "random"})
-        return {f"from the file's order, {len(self.optima)} functions": curves(self.file, len(self.optima)), f"from random orders, {small} functions of up to {league.SMALL} inputs": curves(self.random, small)}
+        whole, small = len(self.optima), self.small()
+        return {
+            f"from the file's order, {whole} functions": curves(self.file, whole),
+            f"from random orders, {small} functions of up to {league.SMALL} inputs": curves(self.random, small),
+        }
 
     def small(self):
         return len({line["name"] for line in self.lines if line["start"] == "random"})
@@ -130,8 +152,9 @@ def name_of(method):
 
 def never_met(league_lines, optima, start):
     """The functions whose optimum no run of any package from such a start met; what is late counts as not met."""
-    met = {line["name"] for line in league_lines if line["start"] == start and line["package"] != "minorder" and int(line["optimum_met"])}
-    return [name for name in {line["name"]: None for line in league_lines if line["start"] == start} if name not in met]
+    mine = [line for line in league_lines if line["start"] == start]
+    met = {line["name"] for line in mine if line["package"] != "minorder" and int(line["optimum_met"])}
+    return [name for name in dict.fromkeys(line["name"] for line in mine) if name not in met]
 
 
 def times_of(one, other):
@@ -141,28 +164,92 @@ def times_of(one, other):
     return seconds[0] / seconds[1]
 
 
+def mean_of(it, method, package="CUDD"):
+    """The mean ratio of a method from the file's order."""
+    return f"{it.file[(package, method)].mean:.3f}"
+
+
+def worst_of(standing):
+    """The worst ratio, with its function."""
+    return f"{standing.worst_ratio():.2f} (`{standing.worst['name']}`)"
+
+
+def of_quick_methods(it):
+    without = {*league.RANDOM, ("CUDD", "EXACT"), ("CUDD", "LINEAR")}
+    by_mean = sorted((method for method in it.file if method not in without), key=lambda method: it.random[method].mean)
+    first, last = by_mean[0], by_mean[-1]
+    return (f"Of the quick methods (without random choices and EXACT) {name_of(first)} has the least mean from random orders, "
+            f"{it.random[first].mean:.3f}; the greatest has {name_of(last)}, {it.random[last].mean:.3f}.")
+
+
+def of_sift(it):
+    cudd = it.file[("CUDD", "SIFT")]
+    return (f"CUDD's SIFT ends at {cudd.mean:.3f} times the optimum in the mean from the file's order and meets it in {cudd.met} "
+            f"of {len(cudd.ended)} functions; its worst is {cudd.worst_ratio():.2f} times (`{cudd.worst['name']}`).")
+
+
+def of_converging(it):
+    return (f"To converge helps: SIFT_CONVERGE {mean_of(it, 'SIFT_CONVERGE')}, SYMM_SIFT_CONV {mean_of(it, 'SYMM_SIFT_CONV')}, "
+            f"GROUP_SIFT_CONV {mean_of(it, 'GROUP_SIFT_CONV')}, against {mean_of(it, 'SIFT')}, {mean_of(it, 'SYMM_SIFT')} "
+            f"and {mean_of(it, 'GROUP_SIFT')} of one pass.")
+
+
+def of_windows(it):
+    two, four = it.file[("CUDD", "WINDOW2")], it.file[("CUDD", "WINDOW4_CONV")]
+    return (f"Windows: WINDOW2 {two.mean:.3f} from the file's order with a worst of {worst_of(two)}, "
+            f"WINDOW4_CONV {four.mean:.3f} with {four.worst_ratio():.2f}.")
+
+
+def of_random_choices(it):
+    sift, genetic, annealing = (it.file[("CUDD", method)] for method in ("SIFT", "GENETIC", "ANNEALING"))
+    return (f"GENETIC's and ANNEALING's median runs meet the optimum in {genetic.met} of {len(genetic.ended)} "
+            f"and in {annealing.met} of {len(annealing.ended)} functions that ended in time, for {times_of(genetic, sift):.0f} "
+            f"and {times_of(annealing, sift):.0f} times SIFT's processor time where both ended.")
+
+
+def of_exact(it):
+    exact = it.file[("CUDD", "EXACT")]
+    return (f"CUDD's EXACT ends in time on {len(exact.ended)} of {len(it.optima)}. Its orders have the fewest nodes without "
+            f"complement edges in {exact.met} of these, {exact.mean:.3f} in the mean; the worst is {worst_of(exact)}.")
+
+
+def of_buddy(it):
+    iterated = it.file[("BuDDy", "SIFTITE")]
+    return (f"BuDDy, which has no complement edges, has {mean_of(it, 'SIFT', 'BuDDy')} with SIFT and {iterated.mean:.3f} "
+            f"with SIFTITE; its worst there is {worst_of(iterated)}.")
+
+
+def of_own_sifting(it):
+    from_random = it.random[("minorder", "sifting")].mean
+    return (f"Our own pass of sifting has {mean_of(it, 'sifting', 'minorder')} from the file's order "
+            f"and {from_random:.3f} from random ones.")
+
+
+def of_random_starts_within(it):
+    def close(method):
+        return percent(sum(ratio <= 1.05 for ratio in it.random[("CUDD", method)].ratios), it.small())
+
+    return (f"From random orders the median run is within a twentieth of the optimum in {close('SIFT')} of the functions "
+            f"with CUDD's SIFT, {close('GROUP_SIFT_CONV')} with GROUP_SIFT_CONV, {close('GENETIC')} with GENETIC.")
+
+
+def of_families(it):
+    by_sift = [line for line in it.families if (line["package"], line["method"]) == ("CUDD", "SIFT")]
+    worst, missed_by_all = max(by_sift, key=lambda line: float(line["mean_ratio"])), never_met(it.lines, it.optima, "file")
+    return (f"The family on which CUDD's SIFT is worst is {worst['family']}, {float(worst['mean_ratio']):.3f} in the mean. "
+            f"In {len(missed_by_all)} of {len(it.optima)} functions no run of any package from the file's order met the optimum "
+            f"in time.")
+
+
+FINDINGS = [
+    of_quick_methods, of_sift, of_converging, of_windows, of_random_choices, of_exact, of_buddy, of_own_sifting,
+    of_random_starts_within, of_families,
+]
+
+
 def findings(it):
     """What the league shows, each line from its numbers."""
-    quick = [method for method in it.file if method not in league.RANDOM and method not in (("CUDD", "EXACT"), ("CUDD", "LINEAR"))]
-    by_mean = sorted(quick, key=lambda method: it.random[method].mean)
-    first, last = by_mean[0], by_mean[-1]
-    cudd, exact, genetic, annealing = (it.file[("CUDD", method)] for method in ("SIFT", "EXACT", "GENETIC", "ANNEALING"))
-    whole = len(it.optima)
-    close = {method: sum(ratio <= 1.05 for ratio in it.random[method].ratios) for method in it.random}
-    missed_by_all = never_met(it.lines, it.optima, "file")
-    worst_family = max((line for line in it.families if line["package"] == "CUDD" and line["method"] == "SIFT"), key=lambda line: float(line["mean_ratio"]))
-    return "\n".join(f"- {said}" for said in [
-        f"Of the quick methods (without random choices and EXACT) {name_of(first)} has the least mean from random orders, {it.random[first].mean:.3f}; the greatest has {name_of(last)}, {it.random[last].mean:.3f}.",
-        f"CUDD's SIFT ends at {cudd.mean:.3f} times the optimum in the mean from the file's order and meets it in {cudd.met} of {len(cudd.ended)} functions; its worst is {cudd.worst_ratio():.2f} times (`{cudd.worst['name']}`).",
-        f"To converge helps: SIFT_CONVERGE {it.file[('CUDD', 'SIFT_CONVERGE')].mean:.3f}, SYMM_SIFT_CONV {it.file[('CUDD', 'SYMM_SIFT_CONV')].mean:.3f}, GROUP_SIFT_CONV {it.file[('CUDD', 'GROUP_SIFT_CONV')].mean:.3f}, against {cudd.mean:.3f}, {it.file[('CUDD', 'SYMM_SIFT')].mean:.3f} and {it.file[('CUDD', 'GROUP_SIFT')].mean:.3f} of one pass.",
-        f"Windows: WINDOW2 {it.file[('CUDD', 'WINDOW2')].mean:.3f} from the file's order with a worst of {it.file[('CUDD', 'WINDOW2')].worst_ratio():.2f} (`{it.file[('CUDD', 'WINDOW2')].worst['name']}`), WINDOW4_CONV {it.file[('CUDD', 'WINDOW4_CONV')].mean:.3f} with {it.file[('CUDD', 'WINDOW4_CONV')].worst_ratio():.2f}.",
-        f"GENETIC's and ANNEALING's median runs meet the optimum in {genetic.met} of {len(genetic.ended)} and in {annealing.met} of {len(annealing.ended)} functions that ended in time, for {times_of(genetic, cudd):.0f} and {times_of(annealing, cudd):.0f} times SIFT's processor time where both ended.",
-        f"CUDD's EXACT ends in time on {len(exact.ended)} of {whole}. Its orders have the fewest nodes without complement edges in {exact.met} of these, {exact.mean:.3f} in the mean; the worst is {exact.worst_ratio():.2f} (`{exact.worst['name']}`).",
-        f"BuDDy, which has no complement edges, has {it.file[('BuDDy', 'SIFT')].mean:.3f} with SIFT and {it.file[('BuDDy', 'SIFTITE')].mean:.3f} with SIFTITE; its worst there is {it.file[('BuDDy', 'SIFTITE')].worst_ratio():.2f} (`{it.file[('BuDDy', 'SIFTITE')].worst['name']}`).",
-        f"Our own pass of sifting has {it.file[('minorder', 'sifting')].mean:.3f} from the file's order and {it.random[('minorder', 'sifting')].mean:.3f} from random ones.",
-        f"From random orders the median run is within a twentieth of the optimum in {percent(close[('CUDD', 'SIFT')], it.small())} of the functions with CUDD's SIFT, {percent(close[('CUDD', 'GROUP_SIFT_CONV')], it.small())} with GROUP_SIFT_CONV, {percent(close[('CUDD', 'GENETIC')], it.small())} with GENETIC.",
-        f"The family on which CUDD's SIFT is worst is {worst_family['family']}, {float(worst_family['mean_ratio']):.3f} in the mean. In {len(missed_by_all)} of {whole} functions no run of any package from the file's order met the optimum in time.",
-    ])
+    return "\n".join(f"- {finding(it)}" for finding in FINDINGS)
 
 
 def part(it):
@@ -170,4 +257,6 @@ def part(it):
     with open(f"{os.path.dirname(os.path.abspath(__file__))}/league.md") as file:
         text = file.read()
     linear = it.file[("CUDD", "LINEAR")]
-    return text.format(small=it.small(), limit_inputs=league.SMALL, seconds=league.LIMIT, linear=len(linear.ended), all=len(it.optima), table=it.table(), findings=findings(it), matrix=it.matrix())
+    counts = {"small": it.small(), "linear": len(linear.ended), "all": len(it.optima)}
+    limits = {"limit_inputs": league.SMALL, "seconds": league.LIMIT}
+    return text.format(**counts, **limits, table=it.table(), findings=findings(it), matrix=it.matrix())

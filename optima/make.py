@@ -5,13 +5,14 @@ Makes the page of optima anew, by parts:
 
     table   optima/optima.csv, and among the worked cases that the gate carries out the small certificates with their PLA files
     all5    optima/few.csv and optima/few_classes.csv: the functions of up to five inputs
-    league  optima/league.csv: what the methods of CUDD, BuDDy and ABC make of each function; wants --peers, the folder that bench/peers.sh and
-            optima/league.sh have built them in, and is left out without it
+    league  optima/league.csv: what the methods of CUDD, BuDDy and ABC make of each function; wants --peers, the folder that
+            bench/peers.sh and optima/league.sh have built them in, and is left out without it
     page    docs/OPTIMA.md and its pictures, from the tables
 
-Without a PART it makes all of them. A part that is stopped goes on where it was: what is done lies in the room, optima/out if none is named. With
---into it is all written into another folder; a second run, with another room, that finds the same is the test (`diff -r`). The programs are
-./minorder and ./ordercheck of this repository where none are named, the library is that of ./libminorder.
+Without a PART it makes all of them. A part that is stopped goes on where it was: what is done lies in the room, optima/out
+if none is named. With --into it is all written into another folder; a second run, with another room, that finds the same is
+the test (`diff -r`). The programs are ./minorder and ./ordercheck of this repository where none are named, the library is
+that of ./libminorder.
 """
 import argparse
 import os

@@ -9,6 +9,7 @@ import pictures
 import table
 
 HERE = os.path.dirname(os.path.abspath(__file__))
+LEAGUE_LINK = "- [The league of heuristics](#the-league): how far the methods of CUDD, BuDDy and ABC end from the optimum.\n"
 
 
 def text_of(name):
@@ -48,23 +49,31 @@ def family_table(rows):
         span = f"{inputs[0]}" if inputs[0] == inputs[-1] else f"{inputs[0]} to {inputs[-1]}"
         worst = max(mine, key=ratio)
         said = f"{ratio(worst):.2f} ({worst['name']})" if ratio(worst) > 1 else "1"
-        out.append(f"| {name} | {len(mine)} | {span} | {sum(ratio(row) == 1 for row in mine)} | {geometric_mean(list(map(ratio, mine))):.3f} | {said} |")
+        ratios = list(map(ratio, mine))
+        out.append(f"| {name} | {len(mine)} | {span} | {ratios.count(1)} | {geometric_mean(ratios):.3f} | {said} |")
     return "\n".join(out)
+
+
+def cells_line(cells):
+    """A line of a table in Markdown."""
+    return "| " + " | ".join(map(str, cells)) + " |"
 
 
 def table_line(row, with_what):
     best, sifted = int(row["optimum"]), int(row["sifted_nodes"])
     missed = f"{100 * (sifted - best) / best:.1f} %" if sifted > best else "0"
-    what = f" {row['what']} |" if with_what else ""
-    return f"| {row['name']} |{what} {row['inputs']} | {row['outputs']} | {row['file_order_nodes']} | {sifted} | **{best}** | {missed} | {row['first_optimal_order']} |"
+    what = [row["what"]] if with_what else []
+    sizes = [row["inputs"], row["outputs"], row["file_order_nodes"], sifted, f"**{best}**"]
+    return cells_line([row["name"], *what, *sizes, missed, row["first_optimal_order"]])
 
 
 def family_part(family, rows):
     said = {row["what"] for row in rows}
     several = len(said) > 1
     out = [f"## {titled(family)}", ""] + ([] if several else [f"{said.pop()}.", ""])
-    out.append(f"| Name |{' What |' if several else ''} Inputs | Outputs | File order | Sifted | Optimum | Sifting misses | First optimal order |")
-    out.append("|---|" + ("---|" if several else "") + "---|" * 7)
+    heads = ["Inputs", "Outputs", "File order", "Sifted", "Optimum", "Sifting misses", "First optimal order"]
+    heads = ["Name", *(["What"] if several else []), *heads]
+    out += [cells_line(heads), "|" + "---|" * len(heads)]
     return "\n".join(out + [table_line(row, several) for row in rows] + [""])
 
 
@@ -87,26 +96,54 @@ def few_shares(counts, classes):
     found = {}
     for n in range(1, 6):
         mine = [row for row in counts if row["inputs"] == str(n)]
-        best = [(int(row["optimum"]), int(row["functions"])) for row in classes if row["inputs"] == str(n)]
-        found[n] = [pictures.shares(best)] + [pictures.shares((int(row[column]), int(row["functions"])) for row in mine) for column in ("sifted_nodes", "file_order_nodes")]
+        best = [row for row in classes if row["inputs"] == str(n)]
+        found[n] = [share_of(best, "optimum"), share_of(mine, "sifted_nodes"), share_of(mine, "file_order_nodes")]
     return found
+
+
+def share_of(rows, column):
+    """The share of the functions by their number of nodes in a column."""
+    return pictures.shares((int(row[column]), int(row["functions"])) for row in rows)
 
 
 def few_line(n, counts, classes, share):
     mine = [row for row in counts if row["inputs"] == str(n)]
+    with_nodes = [row for row in mine if row["optimum"] != "0"]
     best = {int(row["optimum"]): row for row in classes if row["inputs"] == str(n)}
-    total, most = sum(int(row["functions"]) for row in mine), max(best)
 
     def met(column):
-        return sum(int(row["functions"]) for row in mine if row[column] == row["optimum"]) / total
+        return functions_of(row for row in mine if row[column] == row["optimum"]) / functions_of(mine)
 
     def missed(column):
-        return sum(int(row["functions"]) * int(row[column]) / int(row["optimum"]) for row in mine if row["optimum"] != "0") / sum(int(row["functions"]) for row in mine if row["optimum"] != "0") - 1
+        weighed = (int(row["functions"]) * int(row[column]) / int(row["optimum"]) for row in with_nodes)
+        return sum(weighed) / functions_of(with_nodes) - 1
 
-    worst = max((row for row in mine if row["optimum"] != "0"), key=lambda row: int(row["sifted_nodes"]) / int(row["optimum"]))
-    cells = [n, f"{sum(int(row['functions']) for row in best.values()):,}", f"{sum(int(row['classes']) for row in best.values()):,}", f"{mean(share[0]):.3f}", f"{most}, of {int(best[most]['functions']):,} functions in {int(best[most]['classes']):,} class{'' if best[most]['classes'] == '1' else 'es'}"]
-    cells += [f"{100 * met('file_order_nodes'):.1f} %", f"{100 * missed('file_order_nodes'):.2f} %", f"{100 * met('sifted_nodes'):.1f} %", f"{100 * missed('sifted_nodes'):.2f} %", f"{worst['sifted_nodes']} for {worst['optimum']}"]
-    return "| " + " | ".join(map(str, cells)) + " |"
+    worst = max(with_nodes, key=lambda row: int(row["sifted_nodes"]) / int(row["optimum"]))
+    functions_in_all, classes_in_all = functions_of(best.values()), sum(int(row["classes"]) for row in best.values())
+    cells = [n, f"{functions_in_all:,}", f"{classes_in_all:,}", f"{mean(share[0]):.3f}", said_of_most(best)]
+    for column in ("file_order_nodes", "sifted_nodes"):
+        cells += [f"{100 * met(column):.1f} %", f"{100 * missed(column):.2f} %"]
+    return cells_line([*cells, f"{worst['sifted_nodes']} for {worst['optimum']}"])
+
+
+def functions_of(rows):
+    return sum(int(row["functions"]) for row in rows)
+
+
+def said_of_most(best):
+    """The greatest number of nodes, and how many functions and classes have it."""
+    most = max(best)
+    functions_there, classes_there = int(best[most]["functions"]), int(best[most]["classes"])
+    return f"{most}, of {functions_there:,} functions in {classes_there:,} class{'' if classes_there == 1 else 'es'}"
+
+
+def optima_table(classes, most):
+    """How many functions of each number of inputs have which fewest number of nodes."""
+    out = [cells_line(["Inputs", *range(most + 1)]), "|---|" + "---|" * (most + 1)]
+    for n in range(1, 6):
+        by_nodes = {int(row["optimum"]): int(row["functions"]) for row in classes if row["inputs"] == str(n)}
+        out.append(cells_line([n, *(f"{by_nodes[nodes]:,}" if nodes in by_nodes else "" for nodes in range(most + 1))]))
+    return "\n".join(out)
 
 
 def few_part(programs):
@@ -115,12 +152,10 @@ def few_part(programs):
     found = few_shares(counts, classes)
     pictures.few(found, f"{programs.into}/docs/optima_few.svg")
     lines = [few_line(n, counts, classes, found[n]) for n in range(1, 6)]
-    optima = ["| Inputs | " + " | ".join(str(nodes) for nodes in range(max(found[5][0]) + 1)) + " |", "|---|" + "---|" * (max(found[5][0]) + 1)]
-    for n in range(1, 6):
-        by_nodes = {int(row["optimum"]): int(row["functions"]) for row in classes if row["inputs"] == str(n)}
-        optima.append(f"| {n} | " + " | ".join(f"{by_nodes[nodes]:,}" if nodes in by_nodes else "" for nodes in range(max(found[5][0]) + 1)) + " |")
+    optima = optima_table(classes, max(found[5][0]))
     calls, of_classes = (row["processor_seconds"] for row in few.read(programs.into, "few_times"))
-    return text_of("few.md").format(rows="\n".join(lines), optima="\n".join(optima), calls=calls, classes=of_classes, random=f"{few.RANDOM:,}")
+    return text_of("few.md").format(
+        rows="\n".join(lines), optima=optima, calls=calls, classes=of_classes, random=f"{few.RANDOM:,}")
 
 
 def profile_levels(rows):
@@ -129,8 +164,9 @@ def profile_levels(rows):
     entry = next(entry for entry in functions.entries() if entry.name == "hwb16")
     inputs, tables = len(entry.inputs), entry.tables()
     row = next(row for row in rows if row["name"] == "hwb16")
-    orders = {"file's order": " ".join(map(str, range(inputs))), "sifted order": row["sifted_order"], "best order": row["first_optimal_order"]}
-    return {name: minorder.levels(tables, list(map(int, order.split()))) for name, order in orders.items()}
+    sifted, best = (list(map(int, row[column].split())) for column in ("sifted_order", "first_optimal_order"))
+    orders = {"file's order": list(range(inputs)), "sifted order": sifted, "best order": best}
+    return {name: minorder.levels(tables, order) for name, order in orders.items()}
 
 
 def league_part(programs, rows):
@@ -143,19 +179,27 @@ def league_part(programs, rows):
     return [league_page.part(it)]
 
 
+def front_part(rows, kept, link):
+    """The page's beginning."""
+    missed = sorted((row for row in rows if ratio(row) > 1), key=ratio)
+    worst, worst_ratio = missed[-1]["name"], f"{ratio(missed[-1]):.2f}"
+    return text_of("front.md").format(
+        all=len(rows), kept=kept, met=len(rows) - len(missed), worst=worst, worst_ratio=worst_ratio, league=link)
+
+
 def make(programs):
     rows = table.read(programs.into)
     docs = f"{programs.into}/docs"
     pictures.profiles(profile_levels(rows), f"{docs}/optima_profiles.svg")
     pictures.growth(rows, f"{docs}/optima_growth.svg")
     families = families_of(rows)
-    pictures.misses([(family, list(map(ratio, mine)), geometric_mean(list(map(ratio, mine)))) for family, mine in families.items()], f"{docs}/optima_sifting.svg")
+    ratios = {family: list(map(ratio, mine)) for family, mine in families.items()}
+    pictures.misses([(family, it, geometric_mean(it)) for family, it in ratios.items()], f"{docs}/optima_sifting.svg")
     kept = sum(name.endswith(".cert") for name in os.listdir(f"{programs.into}/{table.CASES}/optima"))
-    missed = sorted((row for row in rows if ratio(row) > 1), key=ratio)
     league = league_part(programs, rows)
-    link = "- [The league of heuristics](#the-league): how far the methods of CUDD, BuDDy and ABC end from the optimum.\n" if league else ""
-    front = text_of("front.md").format(all=len(rows), kept=kept, met=len(rows) - len(missed), worst=missed[-1]["name"], worst_ratio=f"{ratio(missed[-1]):.2f}", league=link)
+    front = front_part(rows, kept, LEAGUE_LINK if league else "")
     overview = text_of("families.md").format(families=family_table(rows))
     named = text_of("aliases.md").format(aliases=alias_table(rows))
-    parts = [front, *league, overview, named, few_part(programs), text_of("by_hand.md")] + [family_part(family, mine) for family, mine in families.items()]
+    by_family = [family_part(family, mine) for family, mine in families.items()]
+    parts = [front, *league, overview, named, few_part(programs), text_of("by_hand.md"), *by_family]
     table.write(f"{docs}/OPTIMA.md", "\n".join(parts))

@@ -36,9 +36,11 @@ def growth(rows, path):
     """The optimum by the number of inputs, on a logarithmic scale."""
     title = "The fewest nodes of any order, by the number of inputs"
     figure, axes = pyplot.subplots(figsize=(7.2, 4.2))
-    for colour, (name, stem) in zip(COLOURS, (("multiplier, all bits", "mul"), ("hidden weighted bit", "hwb"), ("adder", "add"))):
+    shown = (("multiplier, all bits", "mul"), ("hidden weighted bit", "hwb"), ("adder", "add"))
+    for colour, (name, stem) in zip(COLOURS, shown):
         found = [row for row in rows if row["name"].startswith(stem) and row["name"][len(stem):].isdigit()]
-        axes.semilogy([int(row["inputs"]) for row in found], [int(row["optimum"]) for row in found], "o-", color=colour, markersize=4, label=name)
+        inputs, optima = [int(row["inputs"]) for row in found], [int(row["optimum"]) for row in found]
+        axes.semilogy(inputs, optima, "o-", color=colour, markersize=4, label=name)
     axes.set(title=title, xlabel="inputs", ylabel="fewest nodes, logarithmic scale", xticks=range(4, 17, 2))
     axes.grid(axis="y", color="#dddddd")
     axes.legend(frameon=False)
@@ -49,10 +51,13 @@ def misses(families, path):
     """How far sifting is from the optimum: a mark for each function, and the geometric mean of each family."""
     title = "Nodes after one pass of sifting from the file's order, over the fewest nodes"
     figure, axes = pyplot.subplots(figsize=(7.2, 0.6 + 0.24 * len(families)))
-    for i, (family, ratios, mean) in enumerate(families):
-        axes.plot(ratios, [i] * len(ratios), "o", color=COLOURS[0], alpha=0.45, markersize=5, markeredgewidth=0, label="a function" if i == 0 else None)
-        axes.plot([mean], [i], "|", color=COLOURS[1], markersize=13, markeredgewidth=2.5, label="geometric mean of the family" if i == 0 else None)
-    axes.set(title=title, xlabel="sifted nodes / fewest nodes (1 is optimal)", yticks=range(len(families)), yticklabels=[family for family, _, _ in families], ylim=(len(families) - 0.4, -0.6))
+    labels = ("a function", "geometric mean of the family")
+    for i, (_, ratios, mean) in enumerate(families):
+        each, of_all = labels if i == 0 else (None, None)
+        axes.plot(ratios, [i] * len(ratios), "o", color=COLOURS[0], alpha=0.45, markersize=5, markeredgewidth=0, label=each)
+        axes.plot([mean], [i], "|", color=COLOURS[1], markersize=13, markeredgewidth=2.5, label=of_all)
+    axes.set(title=title, xlabel="sifted nodes / fewest nodes (1 is optimal)", yticks=range(len(families)),
+             yticklabels=[family for family, _, _ in families], ylim=(len(families) - 0.4, -0.6))
     axes.grid(axis="x", color="#dddddd")
     axes.set_axisbelow(True)
     axes.legend(frameon=False, loc="lower right")
@@ -64,9 +69,11 @@ def few(counts, path):
     figure, both = pyplot.subplots(1, 2, figsize=(7.2, 3.4), gridspec_kw={"width_ratios": (3, 5)})
     for axes, n, said in zip(both, (4, 5), ("functions of 4 inputs", "functions of 5 inputs")):
         for place, (colour, name, share) in enumerate(zip(COLOURS[::-1], ("fewest", "sifted", "file's order"), counts[n])):
-            axes.bar([nodes + 0.28 * (place - 1) for nodes in share], [100 * part for part in share.values()], width=0.28, color=colour, label=name)
+            middles, heights = [nodes + 0.28 * (place - 1) for nodes in share], [100 * part for part in share.values()]
+            axes.bar(middles, heights, width=0.28, color=colour, label=name)
         # fewer nodes have too few functions to be seen
-        first, last = (min(nodes for nodes in counts[n][0] if counts[n][0][nodes] > 0.001), max(max(share) for share in counts[n]))
+        first = min(nodes for nodes, part in counts[n][0].items() if part > 0.001)
+        last = max(max(share) for share in counts[n])
         axes.set(title=said, xlabel="decision nodes", xticks=range(first, last + 1), xlim=(first - 0.6, last + 0.6))
         axes.grid(axis="y", color="#dddddd")
         axes.set_axisbelow(True)
@@ -91,7 +98,8 @@ def performance(panels, path):
     colours = pyplot.get_cmap("tab10").colors
     for axes, (said, curves) in zip(both, panels.items()):
         for colour, (name, (ratios, whole)) in zip(colours, curves.items()):
-            axes.step([*ratios, 10], [100 * (i + 1) / whole for i in range(len(ratios))] + [100 * len(ratios) / whole], where="post", color=colour, linewidth=1.6, label=name)
+            shares_within = [100 * (i + 1) / whole for i in range(len(ratios))] + [100 * len(ratios) / whole]
+            axes.step([*ratios, 10], shares_within, where="post", color=colour, linewidth=1.6, label=name)
         axes.set(title=said, xlabel="nodes / fewest nodes, at most", xlim=(1, 2), ylim=(30, 101))
         axes.grid(color="#dddddd")
     both[0].set_ylabel("share of the functions, %")

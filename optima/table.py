@@ -21,8 +21,8 @@ KEPT_LATER = {"S-boxes", "74 series", "error-correcting codes", "lines and chara
 LATER_INPUTS = 12
 CASES = "crates/worked_cases/data"
 COLUMNS = [
-    "family", "name", "aliases", "what", "inputs", "outputs", "file_order_nodes", "sifted_nodes", "optimum", "first_optimal_order",
-    "sifted_order", "level_counts", "listed_sets", "pla_sha256", "certificate_sha256",
+    "family", "name", "aliases", "what", "inputs", "outputs", "file_order_nodes", "sifted_nodes", "optimum",
+    "first_optimal_order", "sifted_order", "level_counts", "listed_sets", "pla_sha256", "certificate_sha256",
 ]
 
 
@@ -56,7 +56,8 @@ def used():
 
 
 def measure(entry, programs, room):
-    """An entry's line of the table, with its files in the room; a line that lies there already stays if it is of the same file."""
+    """An entry's line of the table, with its files in the room; a line that lies there already
+    stays if it is of the same file."""
     pla, cert, kept = (f"{room}/{entry.name}.{ending}" for ending in ("pla", "cert", "json"))
     write(pla, entry.pla())
     if os.path.exists(kept):
@@ -95,13 +96,17 @@ def keep(rows, room, into):
     """Keeps the small certificates with their files, and the cases of the gate."""
     shutil.rmtree(f"{into}/{CASES}/optima", ignore_errors=True)
     os.makedirs(f"{into}/{CASES}/optima")
-    cases = ["# The certificates that the table of optima keeps, judged by ordercheck. optima/make.py makes this file and the folder."]
+    cases = [
+        "# The certificates that the table of optima keeps, judged by ordercheck. "
+        "optima/make.py makes this file and the folder."
+    ]
     for row in rows:
         name = row["name"]
         if is_kept(row, room):
             for ending in ("pla", "cert"):
                 shutil.copyfile(f"{room}/{name}.{ending}", f"{into}/{CASES}/optima/{name}.{ending}")
-            cases.append(f"\ncase {name}\ncall ordercheck optima/{name}.pla optima/{name}.cert\nstatus 0\noutput\n|valid {row['optimum']}")
+            call = f"call ordercheck optima/{name}.pla optima/{name}.cert"
+            cases.append(f"\ncase {name}\n{call}\nstatus 0\noutput\n|valid {row['optimum']}")
     write(f"{into}/{CASES}/optima.cases", "\n".join(cases) + "\n")
 
 

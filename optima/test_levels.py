@@ -1,4 +1,5 @@
-"""Tests of levels.py without the library, and of functions.py before a reader that takes no more: python3 -m unittest discover -s optima"""
+"""Tests of levels.py without the library, and of functions.py before a reader that takes no more:
+python3 -m unittest discover -s optima"""
 import os
 import subprocess
 import sys
