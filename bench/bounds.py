@@ -1,5 +1,6 @@
 #!/usr/bin/env python3
-"""bounds.py [LEAST]: how often the bound of a search is the optimum, over the functions of optima/optima.csv with at least LEAST inputs (13)
+"""bounds.py [LEAST]: how often the bound of a search is the optimum, over the functions of optima/optima.csv with at least LEAST
+inputs (13)
 
 Sifts as `Sifted::tightened` does, by the library's passes. MINORDER_LIBRARY names the library.
 """
@@ -42,7 +43,8 @@ def main():
             ratios.append((sifted.total / optimum, tight.total / optimum))
     for name, found in zip(("one pass of sifting", "the bound"), zip(*ratios)):
         met, mean = sum(it == 1 for it in found), math.exp(sum(map(math.log, found)) / len(found))
-        print(f"{name}: the optimum for {met} of {len(found)}, {mean:.3f} times it in the geometric mean, {max(found):.2f} at most")
+        print(f"{name}: the optimum for {met} of {len(found)}, "
+              f"{mean:.3f} times it in the geometric mean, {max(found):.2f} at most")
 
 
 main()

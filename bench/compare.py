@@ -1,9 +1,10 @@
 #!/usr/bin/env python3
 """compare.py [--peers FOLDER] [--runs K] [--limit SECONDS] [--workers W] [NAME ..]
 
-Runs minorder (alone, and with a certificate), ordercheck on that certificate, the native baseline and CUDD's exact reordering in turns on the
-same files, and prints a table: the least wall time of K runs, processor time and peak memory of each, ratios, and the sizes that were found.
-The baseline runs twice, over all sets and with the optimum as its bound, which is the tightest one.
+Runs minorder (alone, and with a certificate), ordercheck on that certificate, the native baseline and CUDD's exact reordering
+in turns on the same files, and prints a table: the least wall time of K runs, processor time and peak memory of each, ratios,
+and the sizes that were found. The baseline runs twice, over all sets and with the optimum as its bound, which is the tightest
+one.
 FOLDER is what peers.sh made; without it both programs run alone. The names are those of files.py, all where none is given.
 """
 import argparse
@@ -69,32 +70,65 @@ def ratio(one, other):
     return f"{one.wall / other.wall:.2f}" if other.wall not in (0, float("inf")) and one.wall != float("inf") else "-"
 
 
-def compare(name, given, room):
-    pla, cert = f"{room}/{name}.pla", f"{room}/{name}.cert"
-    with open(pla, "w") as file:
-        file.write(files.FILES[name]())
-    workers = ["--workers", str(given.workers)]
-    commands = {"minorder": [given.minorder, *workers, pla], "certificate": [given.minorder, *workers, "--cert", cert, pla], "check": [given.ordercheck, pla, cert]}
+def commands_of(given, pla, cert):
+    """What is run on a file, by its tool."""
+    minorder = [given.minorder, "--workers", str(given.workers)]
+    commands = {
+        "minorder": [*minorder, pla],
+        "certificate": [*minorder, "--cert", cert, pla],
+        "check": [given.ordercheck, pla, cert],
+    }
     if given.peers:
         commands["native"] = [f"{given.peers}/baseline", str(given.workers), pla]
         if os.path.exists(f"{given.peers}/cudd"):
             commands["CUDD"] = [f"{given.peers}/cudd", "exact", pla]
+    return commands
+
+
+def run_in_turns(given, pla, cert):
+    """What each tool took, by its name, and the tools that were late."""
     ran = {tool: Ran() for tool in ("minorder", "certificate", "check", "native", "bounded", "CUDD")}
-    late = set()
+    commands, late = commands_of(given, pla, cert), set()
     for _ in range(given.runs):
         for tool, words in commands.items():
             if tool not in late and not ran[tool].again(words, given.limit):
                 late.add(tool)
         if given.peers and "minorder" not in late:
-            ran["bounded"].again([f"{given.peers}/baseline", "--bound", ran["minorder"].line("nodes"), str(given.workers), pla], given.limit)
+            bound = ["--bound", ran["minorder"].line("nodes")]
+            ran["bounded"].again([f"{given.peers}/baseline", *bound, str(given.workers), pla], given.limit)
+    return ran, late
+
+
+def judge(name, ran):
+    """Ends the comparison if an answer differs."""
     found, best = ran["minorder"], ran["minorder"].line("nodes")
     for native in ("native", "bounded"):
         if ran[native].text and (ran[native].line("nodes"), ran[native].line("order")) != (best, found.line("order")):
             sys.exit(f"{name}: the baseline found another answer")
     if ran["check"].text and ran["check"].text != f"valid {best}\n":
         sys.exit(f"{name}: ordercheck says {ran['check'].text}")
-    exact = f"over {given.limit}" if "CUDD" in late else number(ran["CUDD"].wall, ".3f")
-    cells = [name, number(found.wall, ".3f"), number(found.processor, ".2f"), f"{found.peak:.0f}", number(ran["certificate"].wall, ".3f"), f"{ran['certificate'].peak:.0f}", number(ran["check"].wall, ".3f"), f"{ran['check'].peak:.0f}", ratio(ran["check"], found), number(ran["native"].wall, ".3f"), number(ran["native"].processor, ".2f"), number(ran["bounded"].wall, ".3f"), number(ran["bounded"].processor, ".2f"), exact, best, ran["CUDD"].line("nodes with complement edges")]
+
+
+def times(ran):
+    """Wall and processor time."""
+    return [number(ran.wall, ".3f"), number(ran.processor, ".2f")]
+
+
+def wall_and_peak(ran):
+    return [number(ran.wall, ".3f"), f"{ran.peak:.0f}"]
+
+
+def compare(name, given, room):
+    pla, cert = f"{room}/{name}.pla", f"{room}/{name}.cert"
+    with open(pla, "w") as file:
+        file.write(files.FILES[name]())
+    ran, late = run_in_turns(given, pla, cert)
+    judge(name, ran)
+    found, check, cudd = ran["minorder"], ran["check"], ran["CUDD"]
+    exact = f"over {given.limit}" if "CUDD" in late else number(cudd.wall, ".3f")
+    cells = [name, *times(found), f"{found.peak:.0f}", *wall_and_peak(ran["certificate"]), *wall_and_peak(check)]
+    cells += [ratio(check, found), *times(ran["native"]), *times(ran["bounded"])]
+    cells += [exact, found.line("nodes"), cudd.line("nodes with complement edges")]
     print("| " + " | ".join(cells) + " |", flush=True)
 
 
@@ -108,7 +142,11 @@ def main():
     given.add_argument("--workers", type=int, default=4)
     given.add_argument("names", nargs="*")
     given = given.parse_args()
-    heads = ["File", "minorder, s", "processor, s", "MB", "with --cert, s", "MB", "ordercheck, s", "MB", "ordercheck / minorder", "native, s", "processor, s", "native with the bound, s", "processor, s", "CUDD exact, s", "nodes", "CUDD's, with complement edges"]
+    heads = [
+        "File", "minorder, s", "processor, s", "MB", "with --cert, s", "MB", "ordercheck, s", "MB", "ordercheck / minorder",
+        "native, s", "processor, s", "native with the bound, s", "processor, s", "CUDD exact, s", "nodes",
+        "CUDD's, with complement edges",
+    ]
     print("| " + " | ".join(heads) + " |\n|" + "---|" * len(heads))
     with tempfile.TemporaryDirectory() as room:
         for name in given.names or files.FILES:

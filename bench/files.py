@@ -1,8 +1,8 @@
 #!/usr/bin/env python3
 """The files that speed is measured on. files.py NAME writes one, files.py alone lists them.
 
-Functions of 16 inputs but for the last two, as disjoint products (a table is split by the first inputs until its halves are equal), so that most
-have many terms. Random ones come from Python's generator with the seed that stands beside them.
+Functions of 16 inputs but for the last two, as disjoint products (a table is split by the first inputs until its halves are
+equal), so that most have many terms. Random ones come from Python's generator with the seed that stands beside them.
 """
 import random
 import sys

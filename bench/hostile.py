@@ -1,8 +1,9 @@
 #!/usr/bin/env python3
 """hostile.py [--minorder PROGRAM] [--ordercheck PROGRAM] [NAME ..]
 
-Times ordercheck on the certificate that minorder writes and on three that list every set of variables but the full one: each at cost 0, each at
-999,999, and each at a share of the total by its size, which has all edges judged up to the first that fails. The least wall time of three runs.
+Times ordercheck on the certificate that minorder writes and on three that list every set of variables but the full one: each
+at cost 0, each at 999,999, and each at a share of the total by its size, which has all edges judged up to the first that fails.
+The least wall time of three runs.
 """
 import argparse
 import os
@@ -24,6 +25,19 @@ def timed(words):
     return best, said
 
 
+def hostile_certificates(head):
+    """The three certificates, with the lines of the good one above its sets."""
+    inputs, total = int(head.split("inputs ")[1].split()[0]), int(head.split("total ")[1].split()[0])
+    full = (1 << inputs) - 1
+
+    def by_size(mask):
+        return max(0, total * bin(mask).count("1") // inputs - inputs)
+
+    for cost in (lambda mask: 0, lambda mask: 999_999, by_size):
+        cells = "".join(f"{mask:04x} {cost(mask)}\n" for mask in range(full))
+        yield f"{head}cells {full}\n{cells}end\n"
+
+
 def main():
     given = argparse.ArgumentParser(description=__doc__, formatter_class=argparse.RawDescriptionHelpFormatter)
     given.add_argument("--minorder", default=f"{TOP}/crates/minorder/out/minorder")
@@ -40,12 +54,10 @@ def main():
             good, _ = timed([given.ordercheck, pla, cert])
             with open(cert) as file:
                 head = file.read().split("cells ")[0]
-            inputs, total = int(head.split("inputs ")[1].split()[0]), int(head.split("total ")[1].split()[0])
-            cells = [f"{name}", f"{good:.2f}"]
-            for cost in (lambda mask: 0, lambda mask: 999_999, lambda mask: max(0, total * bin(mask).count("1") // inputs - inputs)):
-                full = (1 << inputs) - 1
+            cells = [name, f"{good:.2f}"]
+            for text in hostile_certificates(head):
                 with open(cert, "w") as file:
-                    file.write(head + f"cells {full}\n" + "".join(f"{mask:04x} {cost(mask)}\n" for mask in range(full)) + "end\n")
+                    file.write(text)
                 seconds, said = timed([given.ordercheck, pla, cert])
                 cells += [said, f"{seconds:.2f}"]
             print("| " + " | ".join(cells) + " |", flush=True)

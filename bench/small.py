@@ -1,7 +1,7 @@
 #!/usr/bin/env python3
-"""small.py INPUTS COUNT [PEERS]: what COUNT random functions of INPUTS inputs take: by the library, by the program in a loop and by
-several at a time, and, where bench/peers.sh built it in PEERS, by CUDD's exact reordering in one process. Each is run three times, in
-turns, and the fastest counts."""
+"""small.py INPUTS COUNT [PEERS]: what COUNT random functions of INPUTS inputs take: by the library, by the program in a loop and
+by several at a time, and, where bench/peers.sh built it in PEERS, by CUDD's exact reordering in one process. Each is run three
+times, in turns, and the fastest counts."""
 import os
 import random
 import subprocess
@@ -36,8 +36,8 @@ def measured(script, files):
 def main():
     inputs, count = int(sys.argv[1]), int(sys.argv[2])
     peers = sys.argv[3] if len(sys.argv) > 3 else None
-    for name in ("minorder", "libminorder"):
-        subprocess.run([f"{TOP}/{name}", "--help"] if name == "minorder" else f"{TOP}/{name}", check=True, stdout=subprocess.DEVNULL)
+    for made in ([f"{TOP}/minorder", "--help"], [f"{TOP}/libminorder"]):
+        subprocess.run(made, check=True, stdout=subprocess.DEVNULL)
     program = f"{TOP}/crates/minorder/out/minorder"
     with tempfile.TemporaryDirectory() as room:
         files = write_files(room, inputs, count)

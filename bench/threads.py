@@ -1,5 +1,6 @@
 #!/usr/bin/env python3
-"""threads.py COMMAND WORD ..      runs a command and prints the processor time of each of its threads, as far as /proc showed it (every 2 ms)."""
+"""threads.py COMMAND WORD ..      runs a command and prints the processor time of each of its
+threads, as far as /proc showed it (every 2 ms)."""
 import os
 import subprocess
 import sys
@@ -17,8 +18,9 @@ def main(words):
         except OSError:
             pass
         time.sleep(0.002)
-    print(f"status {process.returncode}, {time.monotonic() - start:.2f} s on the clock, {sum(seen.values()):.2f} s in {len(seen)} threads")
-    print("the longest:", " ".join(f"{used:.2f}" for used in sorted(seen.values(), reverse=True)[:10]))
+    passed, used = time.monotonic() - start, sum(seen.values())
+    print(f"status {process.returncode}, {passed:.2f} s on the clock, {used:.2f} s in {len(seen)} threads")
+    print("the longest:", " ".join(f"{it:.2f}" for it in sorted(seen.values(), reverse=True)[:10]))
 
 
 if __name__ == "__main__":

@@ -1,5 +1,6 @@
 #!/usr/bin/env python3
-"""turns.py RUNS PROGRAM.. -- FILE..   runs programs on files in turns, and prints of each the least wall time and processor time in seconds. A PROGRAM may have options, as "minorder --workers 1", and a FILE further words, as "mul8x8.pla mul8x8.cert"."""
+"""turns.py RUNS PROGRAM.. -- FILE..   runs programs on files in turns, and prints of each the least wall time and processor time
+in seconds. A PROGRAM may have options, as "minorder --workers 1", and a FILE further words, as "mul8x8.pla mul8x8.cert"."""
 import os
 import subprocess
 import sys
@@ -26,8 +27,9 @@ def main():
             for program in programs:
                 found[program].append(run(program, file))
         for program in programs:
-            wall, processor = zip(*found[program])
-            print(f"{os.path.basename(file.split()[0])} {program}: wall {min(wall):.4f}, processor {min(processor):.3f}", flush=True)
+            wall, processor = map(min, zip(*found[program]))
+            name = os.path.basename(file.split()[0])
+            print(f"{name} {program}: wall {wall:.4f}, processor {processor:.3f}", flush=True)
 
 
 main()

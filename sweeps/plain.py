@@ -1,5 +1,6 @@
-"""What minorder and ordercheck answer, written from docs/DEFINITIONS.md and docs/USING.md alone: a function is its truth table as a whole
-number (bit p is the value at point p), and up to 5 inputs each order is looked at; beyond, the recurrence of Friedman and Supowit is used."""
+"""What minorder and ordercheck answer, written from docs/DEFINITIONS.md and docs/USING.md alone: a function is its truth table
+as a whole number (bit p is the value at point p), and up to 5 inputs each order is looked at; beyond, the recurrence of Friedman
+and Supowit is used."""
 from functools import lru_cache
 from itertools import combinations, permutations
 
@@ -154,7 +155,8 @@ def depends(table, n, x):
 
 
 def levels_under(functions, n, order):
-    """The level counts: of the functions that restricting by the variables above gives, those that depend on the level's variable."""
+    """The level counts: of the functions that restricting by the variables above gives, those that
+    depend on the level's variable."""
     counts, reached = [], set(functions)
     for x in order:
         counts.append(sum(depends(f, n, x) for f in reached))
@@ -232,7 +234,8 @@ class Functions:
     def best(self, pairs):
         """The first order of the fewest nodes among those that keep the pairs."""
         if self.n <= ALL_ORDERS_UP_TO:
-            return list(min((order for order in permutations(range(self.n)) if keeps(order, pairs)), key=lambda it: (self.size(it), it)))
+            kept = (order for order in permutations(range(self.n)) if keeps(order, pairs))
+            return list(min(kept, key=lambda it: (self.size(it), it)))
         costs, widths = self.costs(pairs)
         order, mask = [], (1 << self.n) - 1
         while mask:
@@ -289,9 +292,15 @@ def words(*items):
 
 def report(cover, functions, pairs):
     order, sifted = functions.best(pairs), functions.sifted(pairs)
-    return (words("order:", *order) + words("names:", *(cover.names[x] for x in order)) + words("levels:", *functions.levels(order))
-            + words("nodes:", functions.size(order)) + words("sifted order:", *sifted) + words("sifted nodes:", functions.size(sifted))
-            + words("file order nodes:", functions.size(range(functions.n))))
+    return "".join([
+        words("order:", *order),
+        words("names:", *(cover.names[x] for x in order)),
+        words("levels:", *functions.levels(order)),
+        words("nodes:", functions.size(order)),
+        words("sifted order:", *sifted),
+        words("sifted nodes:", functions.size(sifted)),
+        words("file order nodes:", functions.size(range(functions.n))),
+    ])
 
 
 def count(functions):
@@ -306,7 +315,8 @@ class Certificate:
 
     def text(self):
         """Of format 1 if `pairs` is None."""
-        heads = words("bddorder-certificate", 1 if self.pairs is None else 2) + words("inputs", self.inputs) + words("outputs", self.outputs)
+        heads = words("bddorder-certificate", 1 if self.pairs is None else 2)
+        heads += words("inputs", self.inputs) + words("outputs", self.outputs)
         heads += words("order", *self.order) + words("levels", *self.levels) + words("total", self.total)
         if self.pairs is not None:
             heads += words("pairs", len(self.pairs)) + "".join(words(a, b) for a, b in self.pairs)
@@ -346,7 +356,8 @@ class Lines:
         return [self.number(word, most) for word in line[len(head):]]
 
     def number(self, word, most):
-        if not word or any(c not in b"0123456789" for c in word) or word[0] == 48 and word != b"0" or len(word) > 9 or int(word) > most:
+        is_number = word and all(c in b"0123456789" for c in word) and (word[0] != 48 or word == b"0") and len(word) <= 9
+        if not is_number or int(word) > most:
             self.fault("BadNumber")
         return int(word)
 

@@ -1,9 +1,9 @@
 #!/usr/bin/env python3
 """refused_memory.py [--minorder PROGRAM] [--ordercheck PROGRAM]
 
-Refuses the first allocation of a run of each program, then the second of another run, and so on until a run meets none, and asks of each
-run: it ended with status 4, its message (none before the words are read) and nothing else written, or as a run that is refused nothing.
-A C compiler makes the allocator that refuses.
+Refuses the first allocation of a run of each program, then the second of another run, and so on until a run meets none, and
+asks of each run: it ended with status 4, its message (none before the words are read) and nothing else written, or as a run
+that is refused nothing. A C compiler makes the allocator that refuses.
 """
 import argparse
 import os
@@ -14,6 +14,7 @@ import tempfile
 HERE = os.path.dirname(os.path.abspath(__file__))
 TOP = os.path.dirname(HERE)
 MOST = 100_000
+STREAMS = {"stdin": subprocess.DEVNULL, "stdout": subprocess.PIPE, "stderr": subprocess.PIPE}
 FILES = {"multiplexer": f"{TOP}/examples/mux2.pla", "hidden weighted bit": f"{TOP}/examples/hwb8.pla"}
 
 
@@ -21,7 +22,7 @@ def refusing(library, number, words):
     """A run with one allocation refused: its status, standard output and error, and whether it came to that allocation."""
     given, taken = os.pipe()
     environment = {"PATH": os.environ["PATH"], "LD_PRELOAD": library, "REFUSED": str(number), "TOLD": str(taken)}
-    ran = subprocess.run(words, stdin=subprocess.DEVNULL, stdout=subprocess.PIPE, stderr=subprocess.PIPE, env=environment, pass_fds=[taken], timeout=60)
+    ran = subprocess.run(words, **STREAMS, env=environment, pass_fds=[taken], timeout=60)
     os.close(taken)
     with os.fdopen(given, "rb") as pipe:
         return ran.returncode, ran.stdout, ran.stderr, pipe.read() != b""
@@ -37,7 +38,7 @@ def content(path):
 
 def sweep(name, library, words, made):
     """All runs of a command; `made` is the file that it writes, if it writes one."""
-    plain = subprocess.run(words, stdin=subprocess.DEVNULL, stdout=subprocess.PIPE, stderr=subprocess.PIPE)
+    plain = subprocess.run(words, **STREAMS)
     if plain.returncode not in (0, 1):
         sys.exit(f"{name}: status {plain.returncode}, errors {plain.stderr}")
     wanted = plain.returncode, plain.stdout, b"", content(made)
@@ -51,9 +52,11 @@ def sweep(name, library, words, made):
         if (status, out, err, written) == wanted:
             without += 1
         elif (status, out, written) != (4, b"", b"") or err not in messages:
-            sys.exit(f"{name}: allocation {number} refused: status {status}, output {out}, errors {err}, {len(written)} bytes in its file")
+            sys.exit(f"{name}: allocation {number} refused: status {status}, output {out}, errors {err}, "
+                     f"{len(written)} bytes in its file")
         if not came:
-            print(f"{name}: {number - 1} allocations refused in turn; {without - 1} runs did without, the others ended with status 4 and nothing written")
+            print(f"{name}: {number - 1} allocations refused in turn; {without - 1} runs did without, "
+                  "the others ended with status 4 and nothing written")
             return
     sys.exit(f"{name}: more than {MOST} allocations")
 
@@ -67,7 +70,8 @@ def main():
         library, cert = f"{room}/refuse.so", f"{room}/out.cert"
         subprocess.run(["cc", "-O2", "-fPIC", "-shared", "-o", library, f"{HERE}/refuse.c"], check=True)
         for name, file in FILES.items():
-            sweep(f"minorder, {name}", library, [programs.minorder, "--workers", "2", "--cert", cert, "--above", "0,1", file], cert)
+            run = [programs.minorder, "--workers", "2", "--cert", cert, "--above", "0,1", file]
+            sweep(f"minorder, {name}", library, run, cert)
             sweep(f"ordercheck, {name}", library, [programs.ordercheck, file, cert], None)
         # of a symmetric function: a search that keeps no pairs but those of its variables, and a check that walks twice
         file = f"{TOP}/examples/majority7.pla"

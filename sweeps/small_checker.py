@@ -18,7 +18,7 @@ import tempfile
 from functools import partial
 
 import plain
-import random_files
+import random_texts
 
 HERE = os.path.dirname(os.path.abspath(__file__))
 DATA = f"{HERE}/../crates/worked_cases/data"
@@ -101,7 +101,7 @@ class Comparison:
                 os.remove(name)
 
     def damaged(self, count, seed):
-        files = random_files.Files(random.Random(seed))
+        files = random_texts.Files(random.Random(seed))
         while count:
             write("it.pla", files.pla())
             try:

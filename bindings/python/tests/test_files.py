@@ -18,7 +18,7 @@ TOP = os.path.dirname(os.path.dirname(os.path.dirname(HERE)))
 sys.path[:0] = [os.path.dirname(HERE), f"{TOP}/sweeps"]
 
 import plain  # noqa: E402
-import random_files  # noqa: E402
+import random_texts  # noqa: E402
 
 import minorder  # noqa: E402
 from minorder import _certificates, files  # noqa: E402
@@ -67,7 +67,7 @@ class Pla(unittest.TestCase):
         self.assertEqual((first, second), (wanted, (1 << (1 << 16)) - 1))
 
     def test_random_files_and_certificates(self):
-        source = random_files.Files(random.Random(5))
+        source = random_texts.Files(random.Random(5))
         for _ in range(1000):
             content = source.pla()
             if source.chance(0.5):
