@@ -1,13 +1,14 @@
 #!/usr/bin/env python3
-"""gate_cost.py [WORD..]      runs `rt ci WORD..` in this checkout (with --anew it proves and tries all) and says what it took of processor time
+"""gate_cost.py [WORD..]      runs `rt ci WORD..` in this checkout (with --anew it proves and tries all) and says what it took of
+                         processor time
 gate_cost.py --unit      takes the unit alone
 
 The unit is what one fixed proof takes on the same machine in the same hour with nothing beside it: that of the kit's example
 forms/compiler, from nothing, with one job. It is taken before the gate and after it. Figures in units can be compared
 between machines and hours; the seconds of build/costs.csv, which this writes, cannot.
 
-What a call of the prover has used is read from /proc twice a second, so a call's last half second is missing. The sum of all is the
-system's own count."""
+What a call of the prover has used is read from /proc twice a second, so a call's last half second is missing. The sum of all
+is the system's own count."""
 import csv
 import os
 import re
@@ -33,12 +34,14 @@ def unit():
     """The processor seconds of the fixed proof."""
     kit = os.path.dirname(subprocess.run(["rt", "doc"], check=True, capture_output=True, text=True).stdout.strip())
     with tempfile.TemporaryDirectory(prefix="unit-") as room:
-        shutil.copytree(f"{kit}/rattle/examples/forms/compiler", f"{room}/crates/compiler", ignore=shutil.ignore_patterns("BUILD.bazel", "must-fail"))
+        without = shutil.ignore_patterns("BUILD.bazel", "must-fail")
+        shutil.copytree(f"{kit}/rattle/examples/forms/compiler", f"{room}/crates/compiler", ignore=without)
         for name, text in (("crates.txt", "compiler:\n"), ("HANDLES", "Handles allowed: none.\n")):
             with open(f"{room}/{name}", "w") as it:
                 it.write(text)
         before = children_seconds()
-        subprocess.run(["rt", "verdict", "--jobs", "1"], cwd=f"{room}/crates/compiler", check=True, stdout=subprocess.DEVNULL, stderr=subprocess.DEVNULL)
+        silent = {"stdout": subprocess.DEVNULL, "stderr": subprocess.DEVNULL}
+        subprocess.run(["rt", "verdict", "--jobs", "1"], cwd=f"{room}/crates/compiler", check=True, **silent)
         return children_seconds() - before
 
 
@@ -141,8 +144,8 @@ def main(words):
     last = unit()
     one = (first + last) / 2
     write_costs(found)
-    sums = {kind: sum(it[kind] for it in found.values()) for kind in KINDS}
-    print(f"{round(passed)} s, {round(seconds)} of processor time: proofs {round(sums['proof'])}, tests {round(sums['tests'])}, edits {round(sums['edits'])}")
+    proofs, tests, edits = (round(sum(it[kind] for it in found.values())) for kind in KINDS)
+    print(f"{round(passed)} s, {round(seconds)} of processor time: proofs {proofs}, tests {tests}, edits {edits}")
     print(f"one unit: {first:.1f} s before, {last:.1f} s after")
     print(f"the gate: {seconds / one:.0f} units")
     return sys.exit(status)

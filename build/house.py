@@ -1,6 +1,7 @@
 #!/usr/bin/env python3
-"""house.py [-v]      counts what makes the crates hard to live in: long contracts, functions of many parameters, code that stands twice, proofs
-                beside code, long lines. The crates that hold tests alone are left out. With -v it names the places."""
+"""house.py [-v]      counts what makes the crates hard to live in: long contracts, functions of many parameters, code that stands
+                twice, proofs beside code, long lines. The crates that hold tests alone are left out. With -v it names the
+                places."""
 import os
 import re
 import sys
@@ -8,6 +9,7 @@ import sys
 TOP = os.path.dirname(os.path.dirname(os.path.abspath(__file__)))
 LONG_CONTRACT, MANY_PARAMETERS, WINDOW = 10, 7, 5
 COMMENT_COLUMNS, PYTHON_COLUMNS = 100, 130
+NO_CODE = ("//", "use ", "ghost use ", "pub use ", "mod ", "pub mod ", "#!")
 FUNCTION = re.compile(r"^\s*(pub(\([a-z]+\))? )?(const )?(unsafe )?(extern \"C\" )?fn (\w+)")
 
 
@@ -54,8 +56,10 @@ def contract_lines(lines, at):
             return 0
         if first is None and re.match(r"(requires|ensures)\b", line):
             first = number
-        if line in ("{", "{}") or line.endswith(";") and first is None or line.endswith("{") and first is None and not re.search(r"(requires|ensures)", line):
+        if line in ("{", "{}"):
             return 0 if first is None else number - first
+        if first is None and (line.endswith(";") or line.endswith("{") and not re.search(r"(requires|ensures)", line)):
+            return 0
     return 0
 
 
@@ -74,7 +78,7 @@ def code(path):
     """The lines of code, with their numbers: no blank ones, comments, imports, closing brackets."""
     for number, line in enumerate(lines_of(path), 1):
         line = line.strip()
-        if line and not line.startswith(("//", "use ", "ghost use ", "pub use ", "mod ", "pub mod ", "#!")) and re.search(r"\w", line):
+        if line and not line.startswith(NO_CODE) and re.search(r"\w", line):
             yield number, line
 
 
@@ -87,7 +91,8 @@ def windows():
             for at in range(len(rows) - WINDOW + 1):
                 text = tuple(line for _, line in rows[at:at + WINDOW])
                 seen.setdefault(text, []).append((crate, f"{os.path.relpath(path, TOP)}:{rows[at][0]}"))
-    return [" ~ ".join(place for _, place in places) for places in seen.values() if len({crate for crate, _ in places}) > 1]
+    twice = (places for places in seen.values() if len({crate for crate, _ in places}) > 1)
+    return [" ~ ".join(place for _, place in places) for places in twice]
 
 
 def wide_lines():
@@ -112,7 +117,8 @@ def main(is_told):
     all_functions = list(functions())
     long = sorted((lines, place) for place, _, lines in all_functions if lines >= LONG_CONTRACT)
     many = sorted((count, place) for place, count, _ in all_functions if count >= MANY_PARAMETERS)
-    say(f"contracts of {LONG_CONTRACT} lines or more, of {len(all_functions)} functions", [f"{lines} {place}" for lines, place in reversed(long)], is_told)
+    contracts = f"contracts of {LONG_CONTRACT} lines or more, of {len(all_functions)} functions"
+    say(contracts, [f"{lines} {place}" for lines, place in reversed(long)], is_told)
     say(f"functions of {MANY_PARAMETERS} parameters or more", [f"{count} {place}" for count, place in reversed(many)], is_told)
     say(f"equal windows of {WINDOW} lines of code in two crates", windows(), is_told)
     proofs = sum(len(lines_of(path)) for crate in crates() for path in files(f"{TOP}/crates/{crate}", ".antt"))

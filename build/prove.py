@@ -1,8 +1,8 @@
 #!/usr/bin/env python3
 """prove.py NAME              proves the crates that a program or a static library needs, several at a time, and builds it
 prove.py --folders NAME     writes their folders
-prove.py --built NAME..     takes programs as they lie there, which `rt ci` has just proved and built, and builds static libraries over
-                            the libraries that it left"""
+prove.py --built NAME..     takes programs as they lie there, which `rt ci` has just proved and built, and builds static
+                            libraries over the libraries that it left"""
 import contextlib
 import csv
 import fcntl
@@ -71,7 +71,8 @@ def sum_of_sources(crates):
 
 
 def seconds_of(crates):
-    """The processor seconds that each crate's proof is expected to take: those of costs.csv beside this file, else by its lines."""
+    """The processor seconds that each crate's proof is expected to take: those of costs.csv beside
+    this file, else by its lines."""
     known = {}
     with contextlib.suppress(OSError), open(f"{TOP}/build/costs.csv", newline="") as table:
         known = {row["crate"]: int(row["proof"]) for row in csv.DictReader(table)}
@@ -174,7 +175,8 @@ def kept_alone(crates):
 
 
 class Lane:
-    """A crate with the libraries below it in folders of their own, since rt works alone in the folders of a crate and of all below it."""
+    """A crate with the libraries below it in folders of their own, since rt works alone in the
+    folders of a crate and of all below it."""
 
     def __init__(self, lanes, crate, below):
         self.crate, self.folder = crate, f"{lanes}/{crate}"
@@ -298,7 +300,9 @@ def build(name, made):
     # what this build leaves in a folder that was there before is someone's work
     own = [it for it in crates if not os.path.isdir(f"{TOP}/crates/{it}/out/incremental")]
     minutes = sum(seconds.values()) // 60
-    report.say(f"proving and building {len(crates)} crates; from nothing it takes some {minutes} minutes of processor time, {GIGABYTES_A_JOB} GB of memory for each crate that is proved at a time, and 4 GB of disk, most of it until it is done")
+    report.say(f"proving and building {len(crates)} crates; from nothing it takes some {minutes} minutes of processor time, "
+               f"{GIGABYTES_A_JOB} GB of memory for each crate that is proved at a time, and 4 GB of disk, "
+               "most of it until it is done")
     place = f"{TOP}/.git" if os.path.isdir(f"{TOP}/.git") else None
     lanes = tempfile.mkdtemp(prefix="lanes-", dir=place)
     held = kept_alone(crates)
@@ -331,9 +335,10 @@ def made_of(name):
 
 def is_up_to_date(name):
     folder, made = made_of(name)
+    use = os.R_OK if is_library(name) else os.X_OK
     try:
         with open(f"{folder}/sources") as it:
-            return it.read() == sum_of_sources(needed(name, named())) and os.access(made, os.R_OK if is_library(name) else os.X_OK)
+            return it.read() == sum_of_sources(needed(name, named())) and os.access(made, use)
     except OSError:
         return False
 
@@ -356,8 +361,9 @@ def main(name):
 
 
 def mark_libraries(crates):
-    """Has rt take the libraries that `rt ci` left in the crates' folders, all of which one run made of these sources, one over the other.
-    It leaves no stamp, which says that a library was made of these sources and of no others; the stamp is rt's own sum of them."""
+    """Has rt take the libraries that `rt ci` left in the crates' folders, all of which one run made of these sources, one over
+    the other. It leaves no stamp, which says that a library was made of these sources and of no others; the stamp is rt's own
+    sum of them."""
     sys.path.insert(0, f"{kit()}/bin")
     import rtlib
     for crate in rtlib.crates_below(TOP):
@@ -368,7 +374,8 @@ def mark_libraries(crates):
 
 
 def build_over_gate(name):
-    """Proves and builds a static library over the libraries that `rt ci` left; where these can't be taken rt proves them first."""
+    """Proves and builds a static library over the libraries that `rt ci` left; where these can't be
+    taken rt proves them first."""
     folder, made = made_of(name)
     mark_libraries(needed(name, named())[:-1])
     status, said, _ = called(f"{TOP}/crates/{name}", "lib", "--jobs", str(processors()))

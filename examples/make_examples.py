@@ -87,8 +87,8 @@ def multiplexer(select):
 
 def products(count):
     terms = ["".join("1" if i % count == k else "-" for i in range(2 * count)) + " 1" for k in range(count)]
-    write(f"products{count}.pla", f"a0 b0 + a1 b1 + ..: {count} products, whose best order is interleaved and whose file order is the worst.",
-          pairs("ab", count), ["f"], terms)
+    about = f"a0 b0 + a1 b1 + ..: {count} products, whose best order is interleaved and whose file order is the worst."
+    write(f"products{count}.pla", about, pairs("ab", count), ["f"], terms)
 
 
 def parity(count):
@@ -113,13 +113,18 @@ def copy_to_worked_cases():
         shutil.copy(name, COPIES)
 
 
+def is_same(one, other):
+    """Whether both files are there and hold the same."""
+    return os.path.exists(one) and os.path.exists(other) and filecmp.cmp(one, other, False)
+
+
 def check():
     """The first file that differs from what the program writes, or from its copy."""
     with tempfile.TemporaryDirectory() as made:
         write_reports(made)
         for folder in (made, COPIES):
             others = copied() if folder == COPIES else sorted(os.listdir(made))
-            wrong = [it for it in others if not os.path.exists(it) or not os.path.exists(f"{folder}/{it}") or not filecmp.cmp(it, f"{folder}/{it}", False)]
+            wrong = [it for it in others if not is_same(it, f"{folder}/{it}")]
             if wrong:
                 sys.exit(f"{wrong[0]} is another in {folder}")
 

@@ -1,5 +1,6 @@
 #!/usr/bin/env python3
-"""compare.py TEST COUNT      compares the order, the level counts and the size that TEST prints of random functions with the program's report"""
+"""compare.py TEST COUNT      compares the order, the level counts and the size that TEST prints of
+random functions with the program's report"""
 import os
 import random
 import subprocess
@@ -19,6 +20,10 @@ def pla(inputs, tables):
     return "\n".join([*lines, ".e", ""])
 
 
+def output_of(words, given=None):
+    return subprocess.run(words, input=given, stdout=subprocess.PIPE, text=True, check=True).stdout
+
+
 def main(test, count):
     draw = random.Random(1)
     with tempfile.TemporaryDirectory() as folder:
@@ -26,10 +31,10 @@ def main(test, count):
             inputs, outputs = draw.randint(1, 9), draw.randint(1, 4)
             tables = [draw.getrandbits(1 << inputs) & draw.getrandbits(1 << inputs) for _ in range(outputs)]
             words = [table >> 64 * word & (1 << 64) - 1 for table in tables for word in range(max(1, (1 << inputs) // 64))]
-            found = subprocess.run([test, str(inputs), str(outputs)], input=" ".join(f"{word:x}" for word in words), stdout=subprocess.PIPE, text=True, check=True).stdout
+            found = output_of([test, str(inputs), str(outputs)], " ".join(f"{word:x}" for word in words))
             with open(f"{folder}/it.pla", "w") as file:
                 file.write(pla(inputs, tables))
-            report = subprocess.run([f"{TOP}/minorder", f"{folder}/it.pla"], stdout=subprocess.PIPE, text=True, check=True).stdout
+            report = output_of([f"{TOP}/minorder", f"{folder}/it.pla"])
             lines = [line for line in report.splitlines() if line.split(":")[0] in ("order", "levels", "nodes")]
             if found.splitlines() != lines:
                 sys.exit(f"function {number} of {inputs} inputs and {outputs} outputs:\n{found}is not\n" + "\n".join(lines))

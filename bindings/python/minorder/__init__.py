@@ -25,9 +25,9 @@ entries, each 0 or 1.
 There are 1 to 16 variables and 1 to 16 tables. An order lists each variable once, top first. Level counts are numbers of decision
 nodes, top level first: one root a table, no complement edges, terminals not counted.
 
-The calls are made by the shared library libminorder, without the interpreter's lock, so that threads run side by side. It is the
-file that the environment variable MINORDER_LIBRARY names, else one beside this module or in the lib/ of the checkout or prefix that it
-lies in, else what the loader finds.
+The calls are made by the shared library libminorder, without the interpreter's lock, so that threads run side by side. It is
+the file that the environment variable MINORDER_LIBRARY names, else one beside this module or in the lib/ of the checkout or
+prefix that it lies in, else what the loader finds.
 """
 from ._calls import Result, Verdict, certify, check, exact, levels, sift
 from ._errors import BadArgument, BadCertificate, BadOrder, BadPairs, BadPla, BadShape, BadText, MinorderError, NoLibrary
@@ -36,6 +36,7 @@ from .files import Pla, read_pla
 
 __version__ = "1.0.0"
 __all__ = [
-    "BadArgument", "BadCertificate", "BadOrder", "BadPairs", "BadPla", "BadShape", "BadText", "MinorderError", "NoLibrary", "Pla",
-    "Result", "Table", "Tables", "TruthTable", "Verdict", "certify", "check", "exact", "from_values", "levels", "read_pla", "sift",
+    "BadArgument", "BadCertificate", "BadOrder", "BadPairs", "BadPla", "BadShape", "BadText", "MinorderError", "NoLibrary",
+    "Pla", "Result", "Table", "Tables", "TruthTable", "Verdict", "certify", "check", "exact", "from_values", "levels",
+    "read_pla", "sift",
 ]
