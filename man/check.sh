@@ -34,6 +34,7 @@ examples() {
 
 cd "$made"
 cp "$prefix"/share/doc/minorder/examples/*.pla .
+"$prefix/bin/minorder" --help | grep -q "1 to 64 \[default: 4\]"
 for page in minorder.1 ordercheck.1; do
     examples "$here/$page" > "$page.shown"
     while read -r mark command; do
