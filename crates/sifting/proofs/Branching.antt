@@ -1,7 +1,8 @@
 -- The number of nodes with two different children, one after another.
-use Rattle.std.proofs.Common.{◌≡◌, ◌≢◌, ℕ, ◌+◌, ◌<◌, ◌≤◌, not, List, [], length, take, refl, ap, nat_eq, eq-eqb, ne_eqb}
-use Rattle.std.proofs.lemmas.List.Sums.{count_by_more_no, count_by_more_yes, count_by-le-length}
-use Rattle.std.proofs.lemmas.List.{take_all}
+use Rattle.std.proofs.Common.{◌≡◌, ◌≢◌, ℕ, ◌+◌, ◌<◌, ◌≤◌, Bool, true, false, cond, not, List, [], ◌∷◌, ◌++◌, length, take, refl, ap, nat_eq, eq-eqb, ne_eqb, arith}
+use mir.Val.{bool_byte}
+use Rattle.std.proofs.lemmas.List.Sums.{count_by_more_no, count_by_more_yes, count_by-le-length, sum_by-append}
+use Rattle.std.proofs.lemmas.List.{take_all, length_push}
 use Rattle.sifting.specs.Leveled.{Children, at, branching}
 
 pub branching_none : 0 ≡ branching []
@@ -22,3 +23,28 @@ branching_more_no L i h e = count_by_more_no (λ (c : Children). not (nat_eq c.0
 
 pub branching_all : (L : List Children) (i : ℕ) → length L ≤ i → branching (take i L) ≡ branching L
 branching_all L i h = ap branching (take_all i L h)
+
+-- a truth value's number
+byte : (b : Bool) → cond b 1 0 ≡ bool_byte b
+byte true = refl
+byte false = refl
+
+pub branching_push : (L : List Children) (c : Children) → branching (L ++ c ∷ []) ≡ branching L + bool_byte (not (nat_eq c.0 c.1))
+unfolding branching
+branching_push L c =
+    let e = byte (not (nat_eq c.0 c.1)) in
+    let s = sum_by-append (λ (n : Children). cond (not (nat_eq n.0 n.1)) 1 0) L (c ∷ []) in
+    omega arith
+
+-- one more node is counted
+pub branching_counted : (L L' : List Children) (c : Children) (count more : ℕ) → count ≡ branching L → L' ≡ L ++ c ∷ [] →
+    more ≡ bool_byte (not (nat_eq c.0 c.1)) →
+    (count + more ≡ branching L') × (count + more ≤ length L + 1)
+branching_counted L L' c count more e f g =
+    let p = branching_push L c in
+    let few = branching_few (L ++ c ∷ []) in
+    let long = length_push L c in
+    let same = ap branching f in (
+      omega arith,
+      omega arith,
+    )

@@ -3,6 +3,7 @@ pub mod Branching
 pub mod Counts
 pub mod Exchanged
 pub mod Inserted
+pub mod NodeSlots
 pub mod Making
 pub mod OrderSwaps
 pub mod Held

@@ -4,7 +4,8 @@ use Rattle.std.proofs.lemmas.Bool.{cases_eq}
 use Rattle.std.proofs.lemmas.List.{length_push, get_or_append_left, get_or_at}
 use Rattle.std.specs.List.{list_any, position_or_len}
 use Rattle.sifting.specs.Leveled.{Children, at, ReachedFirst, NumbersFirst}
-use Rattle.sifting.proofs.Inserted.{Inserted, inserted}
+use Rattle.sifting.specs.NodeTables.{Inserted}
+use Rattle.sifting.proofs.Inserted.{inserted}
 
 -- reading a list with one element more
 pub at_new : (L : List Children) (c : Children) (k done : ℕ) → length L ≡ done → k ≡ done → at (L ++ c ∷ []) k ≡ c
@@ -18,6 +19,21 @@ pub below_next : {P : ℕ → Type 0} (done : ℕ) → ((k : ℕ) → k < done �
 below_next done old new k h = elim (cases_eq k done) [ inl e ↦ new k e | inr ne ↦ old k (omega arith) ]
 
 module _ {K : Type 0} (d : K) (off_key on_key : ℕ → K) where
+  -- no node yet
+  pub numbers_none : (kept : List Children) (keys : List K) → kept ≡ [] → keys ≡ [] → NumbersFirst d off_key on_key 0 kept keys
+  numbers_none kept keys e f =
+      let long = ap length e in
+      let few = ap length f in
+      record {
+        many = omega arith;
+        few = omega arith;
+        inside = λ k h. absurd (omega arith);
+        off = λ k h. absurd (omega arith);
+        on = λ k h. absurd (omega arith);
+        once = λ j k h. absurd (omega arith);
+        reached = λ j h. absurd (omega arith);
+      }
+
   -- two insertions and one more node
   pub numbers_more : (done : ℕ) (kept : List Children) (keys keys1 keys2 : List K) (p q : K) (i j : ℕ) → NumbersFirst d off_key on_key done kept keys →
       Inserted d keys keys1 p i → Inserted d keys1 keys2 q j → p ≡ off_key done → q ≡ on_key done →

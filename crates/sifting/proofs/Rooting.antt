@@ -4,7 +4,8 @@ use Rattle.std.proofs.lemmas.List.{length_push, get_or_append_left, get_or_at}
 use Rattle.std.specs.List.{list_any, position_or_len}
 use Rattle.order_model.specs.declared.diagrams.Ref.{Ref}
 use Rattle.sifting.specs.Cuts.{code_of, ref_at, RootsFirst}
-use Rattle.sifting.proofs.Inserted.{Inserted, inserted}
+use Rattle.sifting.specs.NodeTables.{Inserted}
+use Rattle.sifting.proofs.Inserted.{inserted}
 use Rattle.sifting.proofs.Making.{below_next}
 use Rattle.order_model.proofs.Lists.Sets.{nat_decides}
 

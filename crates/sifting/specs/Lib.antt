@@ -3,3 +3,4 @@ pub mod Managed
 pub mod LevelLists
 pub mod Moves
 pub mod Cuts
+pub mod NodeTables

@@ -5,10 +5,10 @@
 //! then equal. So each edge goes to the next level, and an exchange changes nothing outside its two
 //! levels.
 
-ghost use Rattle.std.specs.Prelude.{◌≡◌, ◌+◌, ◌*◌, ◌<◌, ◌^◌, length, IfOk};
+ghost use Rattle.std.specs.Prelude.{◌≡◌, ◌*◌, ◌<◌, ◌≤◌, ◌^◌, length, IfOk};
 ghost use Rattle.sifting.specs.Leveled.{branching, HasChildren, Exchanges};
 
-use indexmap::IndexSet;
+use crate::node_table::NodeTable;
 use std::alloc::{AllocError, Global};
 
 /// The places of a node's low and high child on the next level.
@@ -60,22 +60,25 @@ impl Level {
 /// The two levels with their variables exchanged, from the nodes of both.
 pub fn swap_levels(
     alloc: Global,
+    table: &mut NodeTable,
     upper: &[Children],
     lower: &[Children],
 ) -> Result<(Level, Level), AllocError>
-    requires few { 2 * length upper.now < 2 ^ 32 }
+    requires few { 4 * length upper.now ≤ 2 ^ 32 }
     requires inside { HasChildren (length lower.now) upper.now }
     ensures { IfOk result (λ r. Exchanges upper.now lower.now r.0.nodes.items r.1.nodes.items) }
 {
-    let mut made = IndexSet::with_capacity(alloc, lower.len())?;
-    let mut kept = Vec::with_capacity(alloc, upper.len())?;
+    let mut kept = table.spare_list(alloc, upper.len())?;
+    table.begin(2 * upper.len())?;
+    let mut count = 0;
     for (off, on) in upper {
         let (off_off, off_on) = lower[*off as usize];
         let (on_off, on_on) = lower[*on as usize];
-        let (without, _) = made.insert_full((off_off, on_off))?;
-        let (with, _) = made.insert_full((off_on, on_on))?;
-        kept.push((without as u32, with as u32))?;
+        let without = table.number_of((off_off, on_off))?;
+        let with = table.number_of((off_on, on_on))?;
+        kept.push((without, with))?;
+        count += u32::from(without != with);
     }
-    let made = Vec::from_slice(alloc, made.as_slice())?;
-    Ok((Level::new(kept), Level::new(made)))
+    let made = table.finish(alloc);
+    Ok((Level { nodes: kept, count }, made))
 }

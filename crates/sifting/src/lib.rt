@@ -5,6 +5,7 @@ mod build;
 pub mod laws;
 mod levels;
 mod manager;
+mod node_table;
 mod sift;
 mod tight;
 

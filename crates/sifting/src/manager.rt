@@ -7,9 +7,11 @@ ghost use Rattle.sifting.specs.Managed.{truth_tables_of, size_of, count_of, IsMa
 
 use crate::build::levels_of;
 use crate::levels::{Level, swap_levels};
+use crate::node_table::NodeTable;
 use order_model::{Diagram, Order, Pairs, contains};
 use std::alloc::{AllocError, Global};
 use std::marker::Model;
+use std::mem;
 
 /// A reduced diagram whose neighbouring levels can be exchanged, under an order that keeps some
 /// pairs. A call that takes it and is refused memory spends it.
@@ -20,6 +22,7 @@ pub struct Manager {
     levels: Vec<Level>,
     terminals: Vec<bool>,
     pairs: Pairs,
+    table: NodeTable,
 }
 
 impl Model for Manager {
@@ -73,6 +76,7 @@ impl Manager {
             levels,
             terminals,
             pairs,
+            table: NodeTable::new(alloc),
         })
     }
 
@@ -106,10 +110,17 @@ impl Manager {
             mut levels,
             terminals,
             pairs,
+            mut table,
         } = self;
-        let (upper, lower) = swap_levels(alloc, &levels[level].nodes, &levels[level + 1].nodes)?;
-        levels[level] = upper;
-        levels[level + 1] = lower;
+        let (upper, lower) = swap_levels(
+            alloc,
+            &mut table,
+            &levels[level].nodes,
+            &levels[level + 1].nodes,
+        )?;
+        let upper = mem::replace(&mut levels[level], upper);
+        let lower = mem::replace(&mut levels[level + 1], lower);
+        table.reuse(upper, lower);
         order.swap(level);
         Ok(Manager {
             order,
@@ -117,6 +128,7 @@ impl Manager {
             levels,
             terminals,
             pairs,
+            table,
         })
     }
 
@@ -169,6 +181,7 @@ impl Manager {
             levels,
             terminals: self.terminals.to_vec(alloc)?,
             pairs: self.pairs.copied(),
+            table: NodeTable::new(alloc),
         })
     }
 

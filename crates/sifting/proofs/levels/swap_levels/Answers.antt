@@ -1,22 +1,50 @@
-use Rattle.std.proofs.Common.{◌≡◌, arith, subst, refl, length, false, true}
-use Rattle.order_model.specs.Widths.{same_pair}
-use Rattle.order_model.proofs.Widths.ClassPairs.{pair_decides}
-use Rattle.sifting.specs.Leveled.{ExchangesFirst, grandchildren}
-use Rattle.sifting.proofs.Making.{numbers_step}
+use Rattle.std.proofs.Common.{◌≡◌, ◌+◌, arith, subst, refl, ap, sym, ◌∙◌, length, false, true}
+use Rattle.sifting.specs.Leveled.{ExchangesFirst, grandchildren, branching}
+use Rattle.sifting.proofs.Branching.{branching_none, branching_counted}
+use Rattle.sifting.proofs.Making.{numbers_none, numbers_more}
 use Rattle.sifting.proofs.levels.swap_levels.Goals as goal
+
+pub loop-off-init : goal.loop-off-init
+loop-off-init c = record {
+  exchanges = numbers_none (0, 0) (grandchildren c.args.upper.now c.args.lower.now false) (grandchildren c.args.upper.now c.args.lower.now true)
+      c.in_ok-kept.kept.items c.begin.new.self.nodes.items c.in_ok-kept.ensures c.in_ok-begin.ensures.empty;
+  table = c.in_ok-begin.ensures.table;
+  room = c.in_ok-begin.ensures.room;
+  counted = branching_none ∙ ap branching (sym c.in_ok-kept.ensures);
+}
+
+pub overflow_add-count : goal.overflow_add-count
+overflow_add-count c =
+    let counted = branching_counted c.loop-off.kept.items c.push.new.self.items (c.in_ok-without.without, c.in_ok-with.with) c.loop-off.count
+    c.from-count.result c.loop-off.invariant.counted c.in_ok-push.ensures.items c.from-count.ensures in
+    let few = counted.1 in
+    let many = c.loop-off.invariant.exchanges.many in
+    let t = c.loop-off-test.true in
+    let r = c.requires.few in
+    omega arith
 
 pub loop-off-preserved : goal.loop-off-preserved
 loop-off-preserved c =
-    numbers_step (0, 0) (grandchildren c.args.upper.now c.args.lower.now false) (grandchildren c.args.upper.now c.args.lower.now true) same_pair pair_decides
-    c.loop-off.off-index c.loop-off.kept.items c.push.new.self.items c.loop-off.made.keys c.insert_full.new.self.keys c.insert_full-in-loop-off.new.self.keys
-    (grandchildren c.args.upper.now c.args.lower.now false c.loop-off.off-index) (grandchildren c.args.upper.now c.args.lower.now true c.loop-off.off-index)
-    c.in_ok-without.without c.in_ok-with.with c.loop-off.invariant refl refl
-    c.in_ok-without.ensures.keys c.in_ok-without.ensures.index c.in_ok-with.ensures.keys c.in_ok-with.ensures.index c.in_ok-push.ensures.items
+    let counted = branching_counted c.loop-off.kept.items c.push.new.self.items (c.in_ok-without.without, c.in_ok-with.with) c.loop-off.count
+    c.from-count.result c.loop-off.invariant.counted c.in_ok-push.ensures.items c.from-count.ensures in
+    let off = grandchildren c.args.upper.now c.args.lower.now false in
+    let on = grandchildren c.args.upper.now c.args.lower.now true in
+    let more = numbers_more (0, 0) off on c.loop-off.off-index c.loop-off.kept.items c.loop-off.table.nodes.items c.number_of.new.self.nodes.items
+    c.number_of-in-loop-off.new.self.nodes.items (off c.loop-off.off-index) (on c.loop-off.off-index) c.in_ok-without.without c.in_ok-with.with
+    c.loop-off.invariant.exchanges c.in_ok-without.ensures.inserted c.in_ok-with.ensures.inserted refl refl in
+    record {
+      exchanges = subst
+          (λ ks. ExchangesFirst (c.loop-off.off-index + 1) c.args.upper.now c.args.lower.now ks c.number_of-in-loop-off.new.self.nodes.items)
+          (sym c.in_ok-push.ensures.items) more;
+      table = c.in_ok-with.ensures.table;
+      room = let a = c.in_ok-with.ensures.base in let b = c.in_ok-without.ensures.base in let r = c.loop-off.invariant.room in omega arith;
+      counted = counted.0;
+    }
 
 pub returns : goal.returns
 returns c =
     let done = c.loop-off.auto.off-index-end in
     let past = c.loop-off-test.false in
     let e : c.loop-off.off-index ≡ length c.args.upper.now = omega arith in
-    rw (c.new.ensures, c.new-2.ensures, c.in_ok-made-2.ensures.items, c.as_slice.ensures.keys)
-    (subst (λ m. ExchangesFirst m c.args.upper.now c.args.lower.now c.loop-off.kept.items c.loop-off.made.keys) e c.loop-off.invariant)
+    rw c.finish-made.ensures
+    (subst (λ m. ExchangesFirst m c.args.upper.now c.args.lower.now c.loop-off.kept.items c.loop-off.table.nodes.items) e c.loop-off.invariant.exchanges)

@@ -1,0 +1,168 @@
+//! The nodes of a level in the making, each once.
+
+ghost use Rattle.std.specs.Prelude.{◌≡◌, [], ◌+◌, ◌*◌, ◌^◌, ◌<◌, ◌≤◌, length, IfOk, IfErr, OnOk, IfSome, IfNone};
+ghost use Rattle.sifting.specs.NodeTables.{home_of, HasNumber, IsFree, Finds, IsFreeSlot, IsSet, IsNodeTable, Inserted};
+
+use crate::levels::{Children, Level};
+use std::alloc::{AllocError, Global};
+use std::mem;
+
+/// Nodes by first occurrence, and slots by which a node is found. A slot has a node's number,
+/// counted on from `base`; what is less is left from earlier levels, so that a new one begins
+/// without a pass over the slots. The memory of levels that are done with is used again.
+#[derive(Debug, Drop)]
+pub struct NodeTable {
+    pub slots: Vec<u32>,
+    pub homes: usize,
+    pub base: u32,
+    pub nodes: Vec<Children>,
+    pub count: u32,
+    pub spare: Vec<Children>,
+}
+
+/// Where the search for a node's slot begins.
+#[inline(always)]
+fn home(homes: usize, node: Children) -> usize
+    requires { homes ≤ 2 ^ 32 }
+    ensures place { result ≡ home_of homes node }
+    ensures within { result ≤ homes }
+{
+    let key = (u64::from(node.0) << 20) + u64::from(node.1);
+    let high = key.wrapping_mul(11400714819323198485) >> 32;
+    ((high * homes as u64) >> 32) as usize
+}
+
+/// The number in a slot, if it is that of one of so many nodes.
+#[inline(always)]
+fn number_in(slot: u32, base: u32, count: usize) -> Option<usize>
+    ensures some { IfSome result (HasNumber base count slot) }
+    ensures none { IfNone result (IsFree base count slot) }
+{
+    let number = slot.checked_sub(base)? as usize;
+    if number < count { Some(number) } else { None }
+}
+
+/// The number of a node, or the first free slot from its home on, or the end of the slots.
+#[inline(always)]
+fn find(
+    slots: &[u32],
+    base: u32,
+    nodes: &[Children],
+    node: Children,
+    home: usize,
+) -> Result<u32, usize>
+    requires room { base + length nodes.now < 2 ^ 32 }
+    requires home { home ≤ length slots.now }
+    ensures found { IfOk result (Finds nodes.now node) }
+    ensures free { IfErr result (IsFreeSlot slots.now base nodes.now node home) }
+{
+    for at in home..slots.len() {
+        let Some(number) = number_in(slots[at], base, nodes.len()) else {
+            return Err(at);
+        };
+        if nodes[number].0 == node.0 && nodes[number].1 == node.1 {
+            return Ok(number as u32);
+        }
+    }
+    Err(slots.len())
+}
+
+/// Sets a slot, which may be the one behind all others.
+fn set_slot(slots: &mut Vec<u32>, at: usize, slot: u32) -> Result<(), AllocError>
+    requires { at ≤ length slots.old.items }
+    ensures { OnOk result (IsSet slots.old.items slots.new.items at slot) }
+{
+    if at < slots.len() {
+        slots[at] = slot;
+        Ok(())
+    } else {
+        slots.push(slot)?;
+        Ok(())
+    }
+}
+
+impl NodeTable {
+    /// A table without nodes and slots, which takes no memory.
+    pub fn new(alloc: Global) -> NodeTable {
+        NodeTable {
+            slots: Vec::new(alloc),
+            homes: 0,
+            base: 1,
+            nodes: Vec::new(alloc),
+            count: 0,
+            spare: Vec::new(alloc),
+        }
+    }
+
+    /// Keeps the memory of two levels for the next ones.
+    pub fn reuse(&mut self, upper: Level, lower: Level) {
+        self.spare = upper.nodes;
+        self.nodes = lower.nodes;
+    }
+
+    /// A list without nodes, with room for so many.
+    pub fn spare_list(&mut self, alloc: Global, most: usize) -> Result<Vec<Children>, AllocError>
+        ensures { IfOk result (λ v. v.items ≡ []) }
+    {
+        let mut list = mem::replace(&mut self.spare, Vec::new(alloc));
+        list.clear();
+        list.reserve(most)?;
+        Ok(list)
+    }
+
+    /// Begins a level of at most so many nodes.
+    pub fn begin(&mut self, most: usize) -> Result<(), AllocError>
+        requires { 2 * most ≤ 2 ^ 32 }
+        ensures table { OnOk result (IsNodeTable self.new) }
+        ensures empty { OnOk result (self.new.nodes.items ≡ []) }
+        ensures room { OnOk result (self.new.base + most < 2 ^ 32) }
+    {
+        if self.base as usize + most > u32::MAX as usize {
+            self.slots.fill(0);
+            self.base = 1;
+        }
+        self.homes = 2 * most;
+        if self.slots.len() < self.homes {
+            self.slots.resize(self.homes, 0)?;
+        }
+        self.nodes.clear();
+        self.count = 0;
+        Ok(())
+    }
+
+    /// The number of a node, which is added if it is new.
+    #[inline(always)]
+    pub fn number_of(&mut self, node: Children) -> Result<u32, AllocError>
+        requires table { IsNodeTable self.old }
+        requires room { self.old.base + length self.old.nodes.items + 1 < 2 ^ 32 }
+        ensures table { OnOk result (IsNodeTable self.new) }
+        ensures inserted { IfOk result
+            (Inserted (0, 0) self.old.nodes.items self.new.nodes.items node) }
+        ensures base { OnOk result (self.new.base ≡ self.old.base) }
+    {
+        let from = home(self.homes, node);
+        let at = match find(&self.slots, self.base, &self.nodes, node, from) {
+            Ok(number) => return Ok(number),
+            Err(at) => at,
+        };
+        let number = self.nodes.len() as u32;
+        set_slot(&mut self.slots, at, self.base + number)?;
+        self.nodes.push(node)?;
+        self.count += u32::from(node.0 != node.1);
+        Ok(number)
+    }
+
+    /// The level that is made.
+    pub fn finish(&mut self, alloc: Global) -> Level
+        requires table { IsNodeTable self.old }
+        requires room { self.old.base + length self.old.nodes.items < 2 ^ 32 }
+        ensures { result.nodes.items ≡ self.old.nodes.items }
+    {
+        let nodes = mem::replace(&mut self.nodes, Vec::new(alloc));
+        self.base += nodes.len() as u32;
+        Level {
+            nodes,
+            count: self.count,
+        }
+    }
+}
