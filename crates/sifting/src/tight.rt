@@ -1,11 +1,14 @@
 //! A tight bound for a search: sifting until nothing is gained, from the sifted order and from the
 //! other end.
 
-ghost use Rattle.std.specs.Prelude.{◌≡◌, IfOk};
+ghost use Rattle.std.specs.Prelude.{◌≡◌, ◌≤◌, ◌⊎◌, IfOk, IfSome};
 
 use crate::manager::Manager;
 use crate::sift::{Sifted, raise};
+use order_model::Workers;
 use std::alloc::{AllocError, Global};
+use std::thread;
+use std::thread::Threads;
 
 /// Passes of sifting that are made at most. Two to five gain all that there is to be gained.
 const MOST_PASSES: u32 = 16;
@@ -58,23 +61,64 @@ impl Sifted {
         Ok(sifted)
     }
 
+    /// The order turned over, to begin with once more. Nothing if that changes the size by no more
+    /// than a sixty-fourth.
+    fn other_start(&self, alloc: Global) -> Result<Option<Manager>, AllocError>
+        ensures { IfOk result (λ o. IfSome o (λ m. (m.problem ≡ self.now.problem)
+            × (m.pairs ≡ self.now.pairs))) }
+    {
+        let other = self.manager().try_clone(alloc)?.turned_over(alloc)?;
+        if is_near(other.size(), self.size()) {
+            Ok(None)
+        } else {
+            Ok(Some(other))
+        }
+    }
+
+    /// The smaller one of two orders, this one if both have one size.
+    fn or_smaller(self, other: Sifted) -> Sifted
+        ensures size { result.size ≤ self.size }
+        ensures either { (result ≡ self) ⊎ (result ≡ other) }
+    {
+        if other.size() < self.size() {
+            other
+        } else {
+            self
+        }
+    }
+
     /// The better one of two orders that are sifted until a pass gains nothing: the first begins
     /// with this order, the other one with this order turned over. If turning it over changes its
     /// size by no more than a sixty-fourth, it stays.
     pub fn tightened(self, alloc: Global) -> Result<Sifted, AllocError>
         ensures { IfOk result (IsNoLarger self) }
     {
-        let other = self.manager().try_clone(alloc)?.turned_over(alloc)?;
-        if is_near(other.size(), self.size()) {
+        let Some(other) = self.other_start(alloc)? else {
             return Ok(self);
-        }
+        };
         let here = self.settled(alloc)?;
         let there = other.sift(alloc)?.settled(alloc)?;
-        if there.size() < here.size() {
-            Ok(there)
-        } else {
-            Ok(here)
-        }
+        Ok(here.or_smaller(there))
+    }
+
+    /// The same by two threads, each of which sifts on from one of the two orders.
+    fn tightened_by_threads<R: Threads>(self, rt: &R, alloc: Global) -> Result<Sifted, AllocError>
+        ensures { IfOk result (IsNoLarger self) }
+    {
+        let Some(other) = self.other_start(alloc)? else {
+            return Ok(self);
+        };
+        let (there, here) = thread::join(
+            rt,
+            move || -> Result<Sifted, AllocError>
+                ensures { IfOk result (λ s. (s.problem ≡ other.problem)
+                    × (s.pairs ≡ other.pairs)) }
+            { other.sift(alloc)?.settled(alloc) },
+            move || -> Result<Sifted, AllocError>
+                ensures { IfOk result (IsNoLarger self) }
+            { self.settled(alloc) },
+        );
+        Ok(here?.or_smaller(there?))
     }
 
     /// The order whose size bounds the search: the tightened one, where a search takes longer than
@@ -86,5 +130,20 @@ impl Sifted {
             return Ok(self);
         }
         self.tightened(alloc)
+    }
+
+    /// The same by two threads, if there are so many workers.
+    pub fn search_bound_by_threads<R: Threads>(
+        self,
+        rt: &R,
+        alloc: Global,
+        workers: Workers,
+    ) -> Result<Sifted, AllocError>
+        ensures { IfOk result (IsNoLarger self) }
+    {
+        if workers.count() == 1 || self.order().len() < LEAST_INPUTS {
+            return self.search_bound(alloc);
+        }
+        self.tightened_by_threads(rt, alloc)
     }
 }
