@@ -1,3 +1,4 @@
 pub mod Words
 pub mod Copying
 pub mod Finishing
+pub mod Paging

@@ -5,6 +5,7 @@ ghost use Rattle.std.specs.Slots.{slots_len, IsFull};
 ghost use Rattle.node_words.specs.Nodes.{AreNodes, IsKnown};
 ghost use Rattle.reached_nodes.specs.Copies.{words_in, AreCopied, Copies};
 
+use crate::numbers::Numbers;
 use atomic_table::Closed;
 use node_words::node_parts;
 use order_model::{Node, Ref, VarIx};
@@ -22,22 +23,22 @@ fn word_at(closed: &Closed<(), Global>, places: usize, place: usize) -> u64
 
 /// Adds the copy of a place.
 fn add(
-    numbers: &mut Vec<u32>,
+    numbers: &mut Numbers,
     nodes: &mut Vec<Node>,
     place: usize,
     node: Node,
 ) -> Result<Ref, AllocError>
-    requires place { place < vec_len numbers.old }
+    requires place { place < length numbers.old }
     requires room { vec_len nodes.old < 2 ^ 20 }
-    ensures size { vec_len numbers.new ≡ vec_len numbers.old }
+    ensures size { length numbers.new ≡ length numbers.old }
     ensures numbers { OnOk result
-        (numbers.new.items ≡ slice_set numbers.old.items place (length nodes.old.items + 1)) }
+        (numbers.new ≡ slice_set numbers.old place (length nodes.old.items + 1)) }
     ensures nodes { OnOk result (nodes.new.items ≡ nodes.old.items ++ node ∷ []) }
     ensures made { IfOk result (λ r. r ≡ Ref.Place (length nodes.old.items)) }
 {
     let copied = nodes.len();
     nodes.push(node)?;
-    numbers[place] = copied as u32 + 1;
+    numbers.set(place, copied as u32 + 1)?;
     Ok(Ref::Place(copied))
 }
 
@@ -46,28 +47,28 @@ pub(crate) fn copy(
     closed: &Closed<(), Global>,
     places: usize,
     order: &[VarIx],
-    numbers: &mut Vec<u32>,
+    numbers: &mut Numbers,
     nodes: &mut Vec<Node>,
     id: u32,
 ) -> Result<Ref, AllocError>
     requires full { IsFull closed.now.words }
-    requires places { (places ≤ slots_len closed.now.words) × (vec_len numbers.old ≡ places)
+    requires places { (places ≤ slots_len closed.now.words) × (length numbers.old ≡ places)
         × (places < 2 ^ 20) }
     requires levels { length order.now ≤ 16 }
     requires nodes { AreNodes (length order.now) (words_in closed.now places) }
     requires known { IsKnown (words_in closed.now places) id }
-    requires copied { AreCopied order.now (words_in closed.now places) numbers.old.items
+    requires copied { AreCopied order.now (words_in closed.now places) numbers.old
         nodes.old.items }
-    ensures size { vec_len numbers.new ≡ places }
+    ensures size { length numbers.new ≡ places }
     ensures copies { IfOk result
-        (λ r. Copies order.now (words_in closed.now places) numbers.old.items nodes.old.items
-        numbers.new.items nodes.new.items id r) }
+        (λ r. Copies order.now (words_in closed.now places) numbers.old nodes.old.items
+        numbers.new nodes.new.items id r) }
 {
     if id < 2 {
         return Ok(Ref::Terminal(id == 1));
     }
     let place = id as usize - 2;
-    let number = numbers[place];
+    let number = numbers.get(place);
     if number != 0 {
         return Ok(Ref::Place(number as usize - 1));
     }

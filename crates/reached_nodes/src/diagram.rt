@@ -9,6 +9,7 @@ ghost use Rattle.node_words.specs.Meaning.{function_of};
 ghost use Rattle.reached_nodes.specs.Copies.{words_in, IsReducedOf};
 
 use crate::copies::copy;
+use crate::numbers::Numbers;
 use atomic_table::Closed;
 use order_model::{Node, Ref, VarIx};
 use std::alloc::{AllocError, Global};
@@ -40,7 +41,7 @@ pub fn reached_nodes(
         (map (function_of order.now (words_in closed.now places)) ids.now) order.now
         r.nodes.items r.roots.items) }
 {
-    let mut numbers = vec![in alloc; 0u32; places]?;
+    let mut numbers = Numbers::zeros(alloc, places)?;
     let mut nodes = Vec::new(alloc);
     let mut roots = Vec::with_capacity(alloc, ids.len())?;
     for id in ids {

@@ -3,5 +3,6 @@
 
 mod copies;
 mod diagram;
+mod numbers;
 
 pub use diagram::{Reached, reached_nodes};

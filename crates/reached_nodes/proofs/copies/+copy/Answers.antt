@@ -1,15 +1,17 @@
-use Rattle.std.proofs.Common.{◌∙◌}
+use Rattle.std.proofs.Common.{◌-◌, ◌∙◌}
 use Rattle.reached_nodes.specs.Copies.{words_in}
 use Rattle.reached_nodes.proofs.Copying.{copies_step}
+use Rattle.reached_nodes.proofs.Paging.{read_as}
 use Rattle.reached_nodes.proofs.copies.+copy.Goals as goal
 
 pub returns-clause-copies : goal.returns-clause-copies
 returns-clause-copies t c =
-    copies_step c.args.order.now (words_in c.args.closed.now c.args.places) c.args.numbers.now.items c.copy.new.numbers.items
-    c.copy-2.new.numbers.items c.add.new.numbers.items
+    let number = read_as c.args.numbers.now (c.args.id - 2) c.get-number.result c.get-number.ensures in
+    copies_step c.args.order.now (words_in c.args.closed.now c.args.places) c.args.numbers.now c.copy.new.numbers
+    c.copy-2.new.numbers c.add.new.numbers
     c.args.nodes.now.items c.copy.new.nodes.items c.copy-2.new.nodes.items c.add.new.nodes.items
-    c.args.id c.word_at.result c.from.result c.node_parts-parts.result.low c.node_parts-parts.result.high c.index-number.result.now
+    c.args.id c.word_at.result c.from.result c.node_parts-parts.result.low c.node_parts-parts.result.high c.get-number.result
     c.in_ok-low.low c.in_ok-high.high c.in_ok-made.made
-    c.requires.nodes c.if-id-lt2.false c.index-number.ensures c.if-number-ne0.false c.requires.known c.requires.copied.size
+    c.requires.nodes c.if-id-lt2.false number c.if-number-ne0.false c.requires.known c.requires.copied.size
     c.word_at.ensures (c.from.ensures ∙ c.node_parts-parts.ensures.level) c.node_parts-parts.ensures.low c.node_parts-parts.ensures.high
     c.in_ok-low.ensures.copies c.in_ok-high.ensures.copies c.in_ok-made.ensures.numbers c.in_ok-made.ensures.nodes c.in_ok-made.ensures.made

@@ -1,4 +1,5 @@
-use Rattle.std.proofs.Common.{◌≡◌, ℕ, ◌+◌, ◌^◌, ◌<◌, List, length, replicate, length-take, sym, ap, subst, arith}
+use Rattle.std.proofs.Common.{◌≡◌, ℕ, ◌+◌, ◌^◌, ◌<◌, List, length, replicate, length-take, sym, ap, subst, ◌∙◌, arith}
+use Rattle.std.proofs.lemmas.List.{length-replicate}
 use Rattle.std.specs.Slots.{slots_items}
 use Rattle.order_model.specs.declared.diagrams.Ref.{Ref}
 use Rattle.order_model.specs.declared.diagrams.Node.{Node}
@@ -12,10 +13,10 @@ loop-id-init c =
     let size : length (words_in c.args.closed.now c.args.places) ≡ c.args.places =
     (let e = length-take c.args.places (slots_items c.args.closed.now.words) in let f = c.args.closed.now.words.ok in
     let g = c.requires.places in omega arith) in
-    let numbers : c.in_ok-numbers.numbers.items ≡ replicate c.args.places 0 = c.in_ok-numbers.ensures.items_if_clones_equal (λ y e. e) in
+    let numbers : c.in_ok-numbers.numbers ≡ replicate c.args.places 0 = c.in_ok-numbers.ensures in
     let nodes = c.new-nodes.ensures.items in let roots = c.in_ok-roots.ensures.items in
     record {
-      size = c.in_ok-numbers.ensures.len;
+      size = ap (λ (z : List ℕ). length z) numbers ∙ length-replicate c.args.places 0;
       copied = subst (λ (z : List ℕ × List Node). AreCopied c.args.order.now (words_in c.args.closed.now c.args.places) z.0 z.1)
           (λ i. (sym numbers i, sym nodes i)) (copied_none c.args.order.now (words_in c.args.closed.now c.args.places) c.args.places size);
       refs = record { count = ap (λ (z : List Ref). length z) roots; each = λ j low. absurd (omega arith) };
@@ -27,8 +28,8 @@ loop-id-preserved c =
     let i = c.loop-id.invariant in let s = c.in_ok-root.ensures.copies in let pushed = c.in_ok-push.ensures.items in record {
       size = c.copy.ensures.size;
       copied = s.copied;
-      refs = subst (λ (z : List Ref). AreRefs c.copy.new.numbers.items z c.args.ids.now (c.loop-id.id-index + 1)) (sym pushed)
-          (more_refs c.loop-id.numbers.items c.copy.new.numbers.items c.loop-id.roots.items c.args.ids.now c.loop-id.id-index
+      refs = subst (λ (z : List Ref). AreRefs c.copy.new.numbers z c.args.ids.now (c.loop-id.id-index + 1)) (sym pushed)
+          (more_refs c.loop-id.numbers c.copy.new.numbers c.loop-id.roots.items c.args.ids.now c.loop-id.id-index
           c.in_ok-root.root s.grows i.refs s.known s.ref);
       reached = subst (λ (z : List Ref). AreReached c.copy.new.nodes.items z) (sym pushed)
           (more_reached c.loop-id.nodes.items c.copy.new.nodes.items c.loop-id.roots.items c.in_ok-root.root s.extends s.leads i.reached);
@@ -39,9 +40,9 @@ returns c =
     let i = c.loop-id.invariant in let ws : List ℕ = words_in c.args.closed.now c.args.places in
     let at : c.loop-id.id-index ≡ length c.args.ids.now =
     (let a = c.loop-id.auto.id-index-end in let b = c.loop-id-test.false in omega arith) in
-    let few : length c.loop-id.numbers.items < 2 ^ 32 =
+    let few : length c.loop-id.numbers < 2 ^ 32 =
     (let a = i.copied.size in let b = length-take c.args.places (slots_items c.args.closed.now.words) in let g = c.requires.places in
     omega arith) in
-    reduced_of c.args.order.now ws c.loop-id.numbers.items c.loop-id.nodes.items c.requires.order.1 c.requires.nodes c.requires.unequal
+    reduced_of c.args.order.now ws c.loop-id.numbers c.loop-id.nodes.items c.requires.order.1 c.requires.nodes c.requires.unequal
     i.copied c.loop-id.roots.items c.args.ids.now few
-    (subst (λ (z : ℕ). AreRefs c.loop-id.numbers.items c.loop-id.roots.items c.args.ids.now z) at i.refs) i.reached
+    (subst (λ (z : ℕ). AreRefs c.loop-id.numbers c.loop-id.roots.items c.args.ids.now z) at i.refs) i.reached
