@@ -8,10 +8,10 @@ ghost use Rattle.order_model.specs.Widths.{class_numbers, width as width_over};
 ghost use Rattle.class_laws.specs.Table.{free_below};
 ghost use Rattle.pair_numbering.specs.Scratch.{most_entries};
 
-use crate::start::{no_dependence, value_numbers};
 use crate::tally::Tally;
 use order_model::{Mask, Problem, VarIx, contains};
 use pair_numbering::{Scratch, number_pairs_by_index, number_pairs_with_masks};
+use point_classes::{no_dependence, value_numbers};
 use std::alloc::{AllocError, Global};
 use std::marker::Model;
 

@@ -10,8 +10,8 @@ ghost use Rattle.compaction.specs.Strips.{HoldsValues};
 ghost use Rattle.class_laws.specs.PairTables.{AllBelow};
 ghost use Rattle.class_laws.specs.Values.{values_of, number_of as number};
 
-use crate::start::value_numbers;
 use order_model::Problem;
+use point_classes::value_numbers;
 use std::alloc::{AllocError, Global};
 
 /// How many chains there are.

@@ -9,7 +9,6 @@ mod bytes;
 mod classes;
 mod columns;
 mod names;
-mod start;
 mod strips;
 mod tally;
 mod wanted;

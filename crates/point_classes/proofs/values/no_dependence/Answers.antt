@@ -1,8 +1,8 @@
 use Rattle.std.proofs.Common.{◌≡◌, ◌++◌, ◌∷◌, [], Vec, Global, ℕ, cond, length, ap, ◌∙◌, arith}
 use Rattle.std.proofs.lemmas.List.{length_push}
 use Rattle.class_laws.specs.Values.{class_count}
-use Rattle.compaction.proofs.start.no_dependence.Goals as goal
-use Rattle.compaction.proofs.start.no_dependence.Goals.{then-has_both+in_ok-push-2, else-has_both}
+use Rattle.point_classes.proofs.values.no_dependence.Goals as goal
+use Rattle.point_classes.proofs.values.no_dependence.Goals.{then-has_both+in_ok-push-2, else-has_both}
 
 pub returns-clause-long : goal.returns-clause-long
 returns-clause-long c =

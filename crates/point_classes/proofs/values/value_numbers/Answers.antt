@@ -4,7 +4,7 @@ use Rattle.std.proofs.lemmas.List.{take_all}
 use Rattle.order_model.specs.Problems.{value_at, table_in}
 use Rattle.class_laws.specs.Values.{number_of, row, values_of}
 use Rattle.class_laws.proofs.StartClasses.{rows_more}
-use Rattle.compaction.proofs.start.value_numbers.Goals as goal
+use Rattle.point_classes.proofs.values.value_numbers.Goals as goal
 
 pub loop-output-preserved : goal.loop-output-preserved
 loop-output-preserved c =

@@ -1,4 +1,4 @@
-//! The class table of the empty set: each subfunction is the value at a point.
+//! Class numbers of values, and what their classes depend on.
 
 ghost use Rattle.std.specs.Prelude.{◌≡◌, ℕ, ◌+◌, ◌*◌, ◌<◌, ◌≤◌, ◌++◌, map, length, slice_index, IfOk, OnOk, nat_eq};
 ghost use Rattle.std.specs.List.{list_any};
