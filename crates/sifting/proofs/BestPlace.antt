@@ -9,12 +9,13 @@ use Rattle.std.proofs.lemmas.List.{append-nil}
 use Rattle.order_model.specs.Orders.{has, without, place_in}
 use Rattle.order_model.specs.Pairs.{Pair, Keeps, keeps, has_pair}
 use Rattle.order_model.specs.Problems.{functions}
+use Rattle.order_model.specs.Levels.{size_under}
 use Rattle.order_model.specs.Sifting.{smallest_of, placements, best}
 use Rattle.order_model.proofs.Widths.Recurrence.{absent_without, distinct_without}
 use Rattle.sifting.specs.Managed.{Managed, IsManagedOrder}
-use Rattle.sifting.specs.Moves.{Moves, IsMoved, StopsAbove, StopsBelow, FindsBest, PassesBetween, placed_from}
+use Rattle.sifting.specs.Moves.{Moves, IsMoved, StopsAbove, StopsBelow, FindsBest, PassesBetween, PassesBelow, placed_from}
 use Rattle.sifting.proofs.Placements.{length-placed, here, above_here, below_here, not_above, not_below, breaks}
-use Rattle.sifting.proofs.MoveSteps.{smallest_default, insert_tells}
+use Rattle.sifting.proofs.MoveSteps.{smallest_is, insert_tells}
 use Rattle.order_model.proofs.Sifting.Placements.{own_place}
 
 -- ---- filters of placements
@@ -105,10 +106,40 @@ module _ (P : List Pair) (others : List ℕ) (x : ℕ) (apart : IsDistinct nat_e
 
 -- ---- the best place
 
-module _ (self raised lowered : Managed) (x top bottom at : ℕ) (ok : IsManagedOrder self) (small : x < length self.order)
+-- a place moved on from another
+pub moved_on : (place top bottom : ℕ) (self raised lowered : Managed) → top ≤ place → IsMoved place top self raised → IsMoved top bottom raised lowered →
+    IsMoved place bottom self lowered
+unfolding Moves
+moved_on place top bottom self raised lowered le up down = record {
+  moves = λ others x h e. down.moves others x (omega arith) (up.moves others x h e);
+  functions_stay = down.functions_stay ∙ up.functions_stay;
+  pairs_stay = down.pairs_stay ∙ up.pairs_stay;
+  length_stays = down.length_stays ∙ up.length_stays;
+}
+
+-- what is found from another place
+pub finds_from : (place top from to best least : ℕ) (self raised : Managed) → top ≤ place → IsMoved place top self raised →
+    FindsBest raised top from to best least → FindsBest self place from to best least
+unfolding Moves
+finds_from place top from to best least self raised le up found =
+    let at = λ (others : List ℕ) (x i : ℕ). ap (λ t. size_under t.inputs (functions t) (insert others i x)) up.functions_stay in
+    record {
+      above = found.above;
+      below = found.below;
+      keeps = λ others x h e i a b. subst (λ P. Keeps P (insert others i x)) up.pairs_stay
+          (found.keeps others x (omega arith) (up.moves others x h e) i a b);
+      size_is = λ others x h e. found.size_is others x (omega arith) (up.moves others x h e) ∙ at others x best;
+      smallest = λ others x h e i a b. let t = found.smallest others x (omega arith) (up.moves others x h e) i a b in
+          let s = at others x i in omega arith;
+      uppermost = λ others x h e i a b. let t = found.uppermost others x (omega arith) (up.moves others x h e) i a b in
+          let s = at others x i in omega arith;
+    }
+
+module _ (self raised lowered : Managed) (x top bottom at least : ℕ) (ok : IsManagedOrder self) (small : x < length self.order)
     (up : IsMoved (place_in self.order x) top self raised) (upward : top ≤ place_in self.order x) (stops_above : StopsAbove raised.pairs raised.order top)
-    (down : IsMoved top bottom raised lowered) (within : bottom < length raised.order)
-    (stops_below : StopsBelow lowered.pairs lowered.order bottom) (found : FindsBest raised top bottom at) where
+    (down : IsMoved (place_in self.order x) bottom self lowered) (within : bottom < length self.order)
+    (stops_below : StopsBelow lowered.pairs lowered.order bottom)
+    (found : FindsBest self (place_in self.order x) top bottom at least) where
   abbrev others : List ℕ
   others = without x self.order
 
@@ -121,55 +152,80 @@ module _ (self raised lowered : Managed) (x top bottom at : ℕ) (ok : IsManaged
   long : suc (length (without x self.order)) ≡ length self.order
   long = sym (length-placed (without x self.order) x (place_in self.order x)) ∙ ap length own.0
 
+  place_in_others : place_in self.order x ≤ length (without x self.order)
+  place_in_others = let l = long in let o = own.1 in omega arith
+
   raised_is : raised.order ≡ insert (without x self.order) top x
   unfolding Moves
-  raised_is = up.moves (without x self.order) x (let l = long in let o = own.1 in omega arith) (sym own.0)
+  raised_is = up.moves (without x self.order) x place_in_others (sym own.0)
 
   lowered_is : lowered.order ≡ insert (without x self.order) bottom x
   unfolding Moves
-  lowered_is = down.moves (without x self.order) x (let l = long in let o = own.1 in omega arith) raised_is
+  lowered_is = down.moves (without x self.order) x place_in_others (sym own.0)
 
   -- no variable on the way back must stay above
   pub passes_back : PassesBetween lowered at bottom
   passes_back zs y h e i a b =
-      let w = up.length_stays in
       let l = long in
       let tells = insert_tells zs others bottom y x h (omega arith) (sym e ∙ lowered_is) in
-      let top_in : top ≤ length (without x self.order) = let o = own.1 in omega arith in
       let apart = distinct_without x self.order ok.is_order.once in
       let out = absent_without x self.order in
       let above = found.above in
       let within' : i < length others = omega arith in
-      let kept = found.keeps others x top_in raised_is i (omega arith) (omega arith) in
-      let same : has_pair lowered.pairs (slice_index zs i) y ≡ has_pair raised.pairs (slice_index others i) x =
-      ap₂ (λ P v. has_pair P v y) down.pairs_stay (ap (λ us. get_or us i 0) tells.0) ∙ ap (has_pair raised.pairs (slice_index others i)) tells.1 in
-      same ∙ false_from_ne_true (has_pair raised.pairs (slice_index others i) x)
-      (λ t. true≢false (sym kept ∙ breaks raised.pairs (slice_index others i) x (insert others i x) t
+      let kept = found.keeps others x place_in_others (sym own.0) i (omega arith) (omega arith) in
+      let same : has_pair lowered.pairs (slice_index zs i) y ≡ has_pair self.pairs (slice_index others i) x =
+      ap₂ (λ P v. has_pair P v y) down.pairs_stay (ap (λ us. get_or us i 0) tells.0) ∙ ap (has_pair self.pairs (slice_index others i)) tells.1 in
+      same ∙ false_from_ne_true (has_pair self.pairs (slice_index others i) x)
+      (λ t. true≢false (sym kept ∙ breaks self.pairs (slice_index others i) x (insert others i x) t
       (not_above (slice_index others i) x others i i (omega arith) within' refl apart out)))
+
+  -- no variable on the way back down must stay below
+  pub passes_down : PassesBelow raised top at
+  passes_down zs y h e i a b =
+      let l = long in
+      let o = own.1 in
+      let tells = insert_tells zs others top y x h (omega arith) (sym e ∙ raised_is) in
+      let apart = distinct_without x self.order ok.is_order.once in
+      let out = absent_without x self.order in
+      let below = found.below in
+      let within' : i < length others = omega arith in
+      let kept = found.keeps others x place_in_others (sym own.0) (i + 1) (omega arith) (omega arith) in
+      let same : has_pair raised.pairs y (slice_index zs i) ≡ has_pair self.pairs x (slice_index others i) =
+      ap₂ (λ P v. has_pair P y v) up.pairs_stay (ap (λ us. get_or us i 0) tells.0) ∙ ap (λ v. has_pair self.pairs v (slice_index others i)) tells.1 in
+      same ∙ false_from_ne_true (has_pair self.pairs x (slice_index others i))
+      (λ t. true≢false (sym kept ∙ breaks self.pairs x (slice_index others i) (insert others (i + 1) x) t
+      (not_below x (slice_index others i) others (i + 1) i (omega arith) (omega arith) refl apart out)))
+
+  last_from_top : (last : Managed) → IsMoved top at raised last → last.order ≡ insert (without x self.order) at x
+  unfolding Moves
+  last_from_top last back = back.moves (without x self.order) x (let l = long in let o = own.1 in omega arith) raised_is
 
   last_is : (last : Managed) → IsMoved bottom at lowered last → last.order ≡ insert (without x self.order) at x
   unfolding Moves
-  last_is last back = back.moves (without x self.order) x (let l = long in let w = up.length_stays in omega arith) lowered_is
+  last_is last back = back.moves (without x self.order) x (let l = long in omega arith) lowered_is
 
-  pub best_is : (last : Managed) → IsMoved bottom at lowered last → last.order ≡ best self.problem.inputs (functions self.problem) self.pairs self.order x
+  best_at : insert (without x self.order) at x ≡ best self.problem.inputs (functions self.problem) self.pairs self.order x
   unfolding best placements
-  best_is last back =
+  best_at =
       let zs = without x self.order in
       let l = long in
       let o = own.1 in
-      let w = up.length_stays in
       let top_in : top ≤ length zs = omega arith in
       let bottom_in : bottom ≤ length zs = omega arith in
       let apart = distinct_without x self.order ok.is_order.once in
       let out = absent_without x self.order in
       let above' = subst (λ P. StopsAbove P raised.order top) up.pairs_stay stops_above in
-      let below' = subst (λ P. StopsBelow P lowered.order bottom) (down.pairs_stay ∙ up.pairs_stay) stops_below in
+      let below' = subst (λ P. StopsBelow P lowered.order bottom) down.pairs_stay stops_below in
       let high = none_higher self.pairs zs x apart out raised.order top top_in raised_is above' in
       let low = none_lower self.pairs zs x apart out lowered.order bottom bottom_in lowered_is below' in
       let le : top ≤ bottom = let a = found.above in let b = found.below in omega arith in
       let kept = between (keeps self.pairs) (λ i. insert zs i x) (length self.order) top bottom le (omega arith) high
-      (λ i a b. subst (λ P. Keeps P (insert zs i x)) up.pairs_stay (found.keeps zs x top_in raised_is i a b)) (λ i a b. low i a (omega arith)) in
-      last_is last back ∙ found.smallest zs x top_in raised_is
-      ∙ ap (λ t. smallest_of t.inputs (functions t) raised.order (placed_from zs x top bottom)) up.functions_stay
-      ∙ smallest_default self.problem.inputs (functions self.problem) raised.order self.order zs x top bottom le
+      (λ i a b. found.keeps zs x place_in_others (sym own.0) i a b) (λ i a b. low i a (omega arith)) in
+      smallest_is self self.order (place_in self.order x) top bottom at least found zs x place_in_others (sym own.0)
       ∙ ap (smallest_of self.problem.inputs (functions self.problem) self.order) (sym kept)
+
+  pub best_is : (last : Managed) → IsMoved bottom at lowered last → last.order ≡ best self.problem.inputs (functions self.problem) self.pairs self.order x
+  best_is last back = last_is last back ∙ best_at
+
+  pub best_from_top : (last : Managed) → IsMoved top at raised last → last.order ≡ best self.problem.inputs (functions self.problem) self.pairs self.order x
+  best_from_top last back = last_from_top last back ∙ best_at

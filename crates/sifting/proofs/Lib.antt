@@ -10,6 +10,7 @@ pub mod Held
 pub mod Placements
 pub mod MoveSteps
 pub mod BestPlace
+pub mod BothWalks
 pub mod Falling
 pub mod SiftedOrder
 pub mod Cutting

@@ -1,7 +1,7 @@
 -- One swap more while a variable moves.
-use Rattle.std.proofs.Common.{◌≡◌, ℕ, zero, suc, ◌+◌, ◌-◌, ◌<◌, ◌≤◌, cond, inl, inr, List, [], ◌∷◌, ◌++◌, map, length, get_or, swap, slice_index, refl, sym, ap, ap₂, ◌∙◌, subst, arith, add-one, IsFalse, ltb}
+use Rattle.std.proofs.Common.{◌≡◌, ℕ, zero, suc, ◌+◌, ◌-◌, ◌<◌, ◌≤◌, Bool, true, false, cond, inl, inr, List, [], ◌∷◌, ◌++◌, map, length, get_or, swap, slice_index, refl, sym, ap, ap₂, ◌∙◌, subst, arith, add-one, IsFalse, ltb}
 use Rattle.std.specs.List.{insert, range_with_len}
-use Rattle.std.proofs.lemmas.Bool.{cases_order, lt-ltb, le-ltb}
+use Rattle.std.proofs.lemmas.Bool.{cases_eq, cases_lt, lt-ltb, le-ltb}
 use Rattle.std.proofs.lemmas.List.FromFn.{map-range_with_len_more}
 use Rattle.order_model.specs.Functions.{Function}
 use Rattle.order_model.specs.Pairs.{Keeps, has_pair}
@@ -10,8 +10,8 @@ use Rattle.order_model.specs.Levels.{size_under}
 use Rattle.order_model.specs.Sifting.{smallest_of, smallest_order}
 use Rattle.order_model.proofs.Lists.Swaps.{crossed, crossed_is, length_crossed}
 use Rattle.sifting.specs.Managed.{Managed, size_of, IsManagedOrder}
-use Rattle.sifting.specs.Moves.{Moves, IsMoved, FindsBest, PassesBetween, placed_from}
-use Rattle.sifting.proofs.Placements.{crossed_up, crossed_down, length-placed, here, above_here}
+use Rattle.sifting.specs.Moves.{Moves, IsMoved, FindsBest, PassesBetween, PassesBelow, placed_from, size_at}
+use Rattle.sifting.proofs.Placements.{crossed_up, crossed_down, length-placed, here, above_here, below_here}
 
 pub moved_none : (place : ℕ) (m : Managed) → IsMoved place place m m
 unfolding Moves
@@ -56,105 +56,217 @@ moved_down place other from m to inside within moved e f g = record {
 
 -- ---- the least size on the way
 
--- a size that is the one with the variable at the best place
-abbrev pub LeastIs : Managed → ℕ → ℕ → ℕ → Type 0
-LeastIs m from best least =
-    (others : List ℕ) (x : ℕ) → from ≤ length others → m.order ≡ insert others from x →
-    least ≡ size_under m.problem.inputs (functions m.problem) (insert others best x)
+-- where a variable came to
+module _ (m cur : Managed) (place q size : ℕ) (moved : IsMoved place q m cur) (ok : IsManagedOrder cur) (size_is : size ≡ size_of cur) where
+  keeps_here : (others : List ℕ) (x : ℕ) → place ≤ length others → m.order ≡ insert others place x → Keeps m.pairs (insert others q x)
+  unfolding Moves
+  keeps_here others x h e = subst (Keeps m.pairs) (moved.moves others x h e) (subst (λ P. Keeps P cur.order) moved.pairs_stay ok.kept)
 
--- one order more after some
-smallest_push : (n : ℕ) (F : List Function) (d y : List ℕ) (first : List ℕ) (rest : List (List ℕ)) →
-    smallest_of n F d ((first ∷ rest) ++ y ∷ []) ≡ cond (ltb (size_under n F y) (size_under n F (smallest_of n F d (first ∷ rest)))) y
-    (smallest_of n F d (first ∷ rest))
-unfolding smallest_of smallest_order
-smallest_push n F d y first [] = refl
-smallest_push n F d y first (z ∷ rest) = smallest_push n F d y (cond (ltb (size_under n F z) (size_under n F first)) z first) rest
-
-placed_first : (others : List ℕ) (x from to : ℕ) → from ≤ to → (first : List ℕ) × (rest : List (List ℕ)) × (placed_from others x from to ≡ first ∷ rest)
-placed_first others x from to h =
-    let e : to + 1 - from ≡ suc (to - from) = omega arith in (
-      insert others from x,
-      map (λ i. insert others i x) (range_with_len (from + 1) (to - from)),
-      ap (λ k. map (λ i. insert others i x) (range_with_len from k)) e,
-    )
-
-placed_more : (others : List ℕ) (x from to : ℕ) → from ≤ to → placed_from others x from (to + 1) ≡ placed_from others x from to ++ insert others (to + 1) x ∷ []
-placed_more others x from to h =
-    let e : to + 1 + 1 - from ≡ (to + 1 - from) + 1 = omega arith in
-    ap (λ k. map (λ i. insert others i x) (range_with_len from k)) e
-    ∙ map-range_with_len_more (λ i. insert others i x) from (to + 1 - from) (to + 1) (omega arith)
-
--- the default doesn't count where there is an order
-pub smallest_default : (n : ℕ) (F : List Function) (d e : List ℕ) (others : List ℕ) (x from to : ℕ) → from ≤ to →
-    smallest_of n F d (placed_from others x from to) ≡ smallest_of n F e (placed_from others x from to)
-unfolding smallest_of
-smallest_default n F d e others x from to h =
-    let p = placed_first others x from to h in
-    ap (smallest_of n F d) p.2 ∙ sym (ap (smallest_of n F e) p.2)
+  size_here : (others : List ℕ) (x : ℕ) → place ≤ length others → m.order ≡ insert others place x → size ≡ size_at m others x q
+  unfolding Moves
+  size_here others x h e = size_is ∙ ap₂ (λ t o. size_under t.inputs (functions t) o) moved.functions_stay (moved.moves others x h e)
 
 -- at the start
-pub finds_first : (m : Managed) (from : ℕ) → IsManagedOrder m → FindsBest m from from from
-unfolding smallest_of smallest_order
-finds_first m from ok = record {
-  above = omega arith;
-  below = omega arith;
-  keeps = λ others x h e i a b. let s : i ≡ from = omega arith in subst (Keeps m.pairs) (e ∙ ap (λ k. insert others k x) (sym s)) ok.kept;
-  smallest = λ others x h e. let s : from + 1 - from ≡ 1 = omega arith in
-      ap (λ k. smallest_of m.problem.inputs (functions m.problem) m.order (map (λ i. insert others i x) (range_with_len from k))) (sym s);
-}
+pub finds_first : (m : Managed) (place size : ℕ) → IsManagedOrder m → size ≡ size_of m → FindsBest m place place place place size
+finds_first m place size ok e =
+    let size_is = size_here m m place place size (moved_none place m) ok e in
+    record {
+      above = omega arith;
+      below = omega arith;
+      keeps = λ others x h o i a b. let s : i ≡ place = omega arith in
+          subst (λ k. Keeps m.pairs (insert others k x)) (sym s) (keeps_here m m place place size (moved_none place m) ok e others x h o);
+      size_is = size_is;
+      smallest = λ others x h o i a b. let s : i ≡ place = omega arith in
+          let t = size_is others x h o ∙ ap (size_at m others x) (sym s) in omega arith;
+      uppermost = λ others x h o i a b. absurd (omega arith);
+    }
 
-module _ (m to : Managed) (from place best least size : ℕ) (up : from ≤ place) (found : FindsBest m from place best)
-    (is : LeastIs m from best least) (moved : IsMoved from (place + 1) m to)
-    (ok : IsManagedOrder to) (size_is : size ≡ size_of to) where
-  keeps_more : (others : List ℕ) (x : ℕ) → from ≤ length others → m.order ≡ insert others from x → (i : ℕ) → from ≤ i → i ≤ place + 1 →
+-- one place lower
+module _ (m cur : Managed) (place from to best least size : ℕ) (found : FindsBest m place from to best least)
+    (moved : IsMoved place (to + 1) m cur) (ok : IsManagedOrder cur) (size_is : size ≡ size_of cur) where
+  keeps_lower : (others : List ℕ) (x : ℕ) → place ≤ length others → m.order ≡ insert others place x → (i : ℕ) → from ≤ i → i ≤ to + 1 →
       Keeps m.pairs (insert others i x)
-  unfolding Moves
-  keeps_more others x h e i a b =
-      elim (cases_order i (place + 1)) [
-        | inl s ↦ subst (Keeps m.pairs) (moved.moves others x h e ∙ ap (λ k. insert others k x) (sym s))
-            (subst (λ P. Keeps P to.order) moved.pairs_stay ok.kept)
-        | inr t ↦ elim t [ inl lt ↦ found.keeps others x h e i a (omega arith) | inr gt ↦ absurd (omega arith) ]
+  keeps_lower others x h e i a b =
+      elim (cases_eq i (to + 1)) [
+        | inl s ↦ subst (λ k. Keeps m.pairs (insert others k x)) (sym s)
+            (keeps_here m cur place (to + 1) size moved ok size_is others x h e)
+        | inr ne ↦ found.keeps others x h e i a (omega arith)
       ]
 
-  new_size : (others : List ℕ) (x : ℕ) → from ≤ length others → m.order ≡ insert others from x →
-      size ≡ size_under m.problem.inputs (functions m.problem) (insert others (place + 1) x)
-  unfolding Moves
-  new_size others x h e = size_is ∙ ap₂ (λ t o. size_under t.inputs (functions t) o) moved.functions_stay (moved.moves others x h e)
-
-  smallest_more : (others : List ℕ) (x : ℕ) → from ≤ length others → m.order ≡ insert others from x →
-      smallest_of m.problem.inputs (functions m.problem) m.order (placed_from others x from (place + 1)) ≡ cond (ltb size least)
-      (insert others (place + 1) x) (insert others best x)
-  smallest_more others x h e =
-      let n = m.problem.inputs in
-      let F = functions m.problem in
-      let p = placed_first others x from place up in
-      let s = found.smallest others x h e in
-      ap (smallest_of n F m.order) (placed_more others x from place up ∙ ap (λ os. os ++ insert others (place + 1) x ∷ []) p.2)
-      ∙ smallest_push n F m.order (insert others (place + 1) x) p.0 p.1
-      ∙ ap (λ o. cond (ltb (size_under n F (insert others (place + 1) x)) (size_under n F o)) (insert others (place + 1) x) o)
-      (sym (s ∙ ap (smallest_of n F m.order) p.2))
-      ∙ ap₂ (λ a b. cond (ltb a b) (insert others (place + 1) x) (insert others best x)) (sym (new_size others x h e)) (sym (is others x h e))
-
   -- a smaller size
-  pub finds_smaller : size < least → FindsBest m from (place + 1) (place + 1)
+  pub finds_smaller : size < least → FindsBest m place from (to + 1) (to + 1) size
   finds_smaller lt = record {
-    above = omega arith;
+    above = let a = found.above in let b = found.below in omega arith;
     below = omega arith;
-    keeps = keeps_more;
-    smallest = λ others x h e. sym (smallest_more others x h e ∙ ap (λ c. cond c (insert others (place + 1) x) (insert others best x)) (lt-ltb size least lt));
+    keeps = keeps_lower;
+    size_is = size_here m cur place (to + 1) size moved ok size_is;
+    smallest = λ others x h e i a b. elim (cases_eq i (to + 1)) [
+      | inl s ↦ let t = size_here m cur place (to + 1) size moved ok size_is others x h e ∙ ap (size_at m others x) (sym s) in omega arith
+      | inr ne ↦ let t = found.smallest others x h e i a (omega arith) in omega arith
+    ];
+    uppermost = λ others x h e i a b. let t = found.smallest others x h e i a (omega arith) in omega arith;
   }
 
-  pub least_smaller : LeastIs m from (place + 1) size
-  least_smaller = new_size
-
   -- no smaller size
-  pub finds_same : least ≤ size → FindsBest m from (place + 1) best
+  pub finds_same : least ≤ size → FindsBest m place from (to + 1) best least
   finds_same le = record {
     above = found.above;
     below = let b = found.below in omega arith;
-    keeps = keeps_more;
-    smallest = λ others x h e. sym (smallest_more others x h e ∙ ap (λ c. cond c (insert others (place + 1) x) (insert others best x)) (le-ltb size least le));
+    keeps = keeps_lower;
+    size_is = found.size_is;
+    smallest = λ others x h e i a b. elim (cases_eq i (to + 1)) [
+      | inl s ↦ let t = size_here m cur place (to + 1) size moved ok size_is others x h e ∙ ap (size_at m others x) (sym s) in omega arith
+      | inr ne ↦ found.smallest others x h e i a (omega arith)
+    ];
+    uppermost = found.uppermost;
   }
+
+-- one place higher
+module _ (m cur : Managed) (place from to best least size : ℕ) (some : 0 < from) (found : FindsBest m place from to best least)
+    (moved : IsMoved place (from - 1) m cur) (ok : IsManagedOrder cur) (size_is : size ≡ size_of cur) where
+  keeps_higher : (others : List ℕ) (x : ℕ) → place ≤ length others → m.order ≡ insert others place x → (i : ℕ) → from - 1 ≤ i → i ≤ to →
+      Keeps m.pairs (insert others i x)
+  keeps_higher others x h e i a b =
+      elim (cases_eq i (from - 1)) [
+        | inl s ↦ subst (λ k. Keeps m.pairs (insert others k x)) (sym s)
+            (keeps_here m cur place (from - 1) size moved ok size_is others x h e)
+        | inr ne ↦ found.keeps others x h e i (omega arith) b
+      ]
+
+  -- a size that is no larger
+  pub finds_above : size ≤ least → FindsBest m place (from - 1) to (from - 1) size
+  finds_above le = record {
+    above = omega arith;
+    below = let a = found.above in let b = found.below in omega arith;
+    keeps = keeps_higher;
+    size_is = size_here m cur place (from - 1) size moved ok size_is;
+    smallest = λ others x h e i a b. elim (cases_eq i (from - 1)) [
+      | inl s ↦ let t = size_here m cur place (from - 1) size moved ok size_is others x h e ∙ ap (size_at m others x) (sym s) in omega arith
+      | inr ne ↦ let t = found.smallest others x h e i (omega arith) b in omega arith
+    ];
+    uppermost = λ others x h e i a b. absurd (omega arith);
+  }
+
+  -- a larger size
+  pub finds_below : least < size → FindsBest m place (from - 1) to best least
+  finds_below lt = record {
+    above = let a = found.above in omega arith;
+    below = found.below;
+    keeps = keeps_higher;
+    size_is = found.size_is;
+    smallest = λ others x h e i a b. elim (cases_eq i (from - 1)) [
+      | inl s ↦ let t = size_here m cur place (from - 1) size moved ok size_is others x h e ∙ ap (size_at m others x) (sym s) in omega arith
+      | inr ne ↦ found.smallest others x h e i (omega arith) b
+    ];
+    uppermost = λ others x h e i a b. elim (cases_eq i (from - 1)) [
+      | inl s ↦ let t = size_here m cur place (from - 1) size moved ok size_is others x h e ∙ ap (size_at m others x) (sym s) in omega arith
+      | inr ne ↦ found.uppermost others x h e i (omega arith) b
+    ];
+  }
+
+-- ---- the places above and those below
+
+module _ (m : Managed) (place top bottom upper less lower least : ℕ) (up : FindsBest m place top place upper less)
+    (down : FindsBest m place place bottom lower least) where
+  keeps_both : (others : List ℕ) (x : ℕ) → place ≤ length others → m.order ≡ insert others place x → (i : ℕ) → top ≤ i → i ≤ bottom →
+      Keeps m.pairs (insert others i x)
+  keeps_both others x h e i a b = elim (cases_lt place i) [
+    | inl gt ↦ down.keeps others x h e i (omega arith) b
+    | inr le ↦ up.keeps others x h e i a le
+  ]
+
+  pub finds_upper : less ≤ least → FindsBest m place top bottom upper less
+  finds_upper le = record {
+    above = up.above;
+    below = let a = up.below in let b = down.above in let c = down.below in omega arith;
+    keeps = keeps_both;
+    size_is = up.size_is;
+    smallest = λ others x h e i a b. elim (cases_lt place i) [
+      | inl gt ↦ let t = down.smallest others x h e i (omega arith) b in omega arith
+      | inr in_up ↦ up.smallest others x h e i a in_up
+    ];
+    uppermost = up.uppermost;
+  }
+
+  pub finds_lower : least < less → FindsBest m place top bottom lower least
+  finds_lower lt = record {
+    above = let a = up.above in let b = up.below in let c = down.above in omega arith;
+    below = down.below;
+    keeps = keeps_both;
+    size_is = down.size_is;
+    smallest = λ others x h e i a b. elim (cases_lt place i) [
+      | inl gt ↦ down.smallest others x h e i (omega arith) b
+      | inr in_up ↦ let t = up.smallest others x h e i a in_up in omega arith
+    ];
+    uppermost = λ others x h e i a b. elim (cases_lt place i) [
+      | inl gt ↦ down.uppermost others x h e i (omega arith) b
+      | inr in_up ↦ let t = up.smallest others x h e i a in_up in omega arith
+    ];
+  }
+
+-- ---- the first of the smallest orders
+
+module _ (n : ℕ) (F : List Function) (f : ℕ → List ℕ) where
+  stays_first : (k a : ℕ) (first : List ℕ) → ((i : ℕ) → a ≤ i → i < a + k → size_under n F first ≤ size_under n F (f i)) →
+      smallest_order n F first (map f (range_with_len a k)) ≡ first
+  unfolding smallest_order
+  stays_first zero a first h = refl
+  stays_first (suc k) a first h =
+      ap (λ c. smallest_order n F (cond c (f a) first) (map f (range_with_len (a + 1) k)))
+      (le-ltb (size_under n F (f a)) (size_under n F first) (h a (omega arith) (omega arith)))
+      ∙ stays_first k (a + 1) first (λ i l r. h i (omega arith) (omega arith))
+
+  comes_first : (k a best : ℕ) (first : List ℕ) → a ≤ best → best < a + k → size_under n F (f best) < size_under n F first →
+      ((i : ℕ) → a ≤ i → i < best → size_under n F (f best) < size_under n F (f i)) →
+      ((i : ℕ) → a ≤ i → i < a + k → size_under n F (f best) ≤ size_under n F (f i)) →
+      smallest_order n F first (map f (range_with_len a k)) ≡ f best
+  unfolding smallest_order
+  comes_first zero a best first le lt less above all = absurd (omega arith)
+  comes_first (suc k) a best first le lt less above all =
+      elim (cases_eq a best) [
+        | inl e ↦
+            let same = ap (λ i. size_under n F (f i)) e in
+            ap (λ c. smallest_order n F (cond c (f a) first) (map f (range_with_len (a + 1) k)))
+            (lt-ltb (size_under n F (f a)) (size_under n F first) (omega arith))
+            ∙ stays_first k (a + 1) (f a) (λ i l r. let t = all i (omega arith) (omega arith) in omega arith) ∙ ap f e
+        | inr ne ↦
+            let far = above a (omega arith) (omega arith) in
+            comes_first k (a + 1) best (cond (ltb (size_under n F (f a)) (size_under n F first)) (f a) first) (omega arith) (omega arith)
+            (either (ltb (size_under n F (f a)) (size_under n F first)) far less) (λ i l r. above i (omega arith) r)
+            (λ i l r. all i (omega arith) (omega arith))
+      ]
+    where
+      either : (b : Bool) → size_under n F (f best) < size_under n F (f a) → size_under n F (f best) < size_under n F first →
+          size_under n F (f best) < size_under n F (cond b (f a) first)
+      either true x y = x
+      either false x y = y
+
+pub smallest_is : (m : Managed) (d : List ℕ) (place from to best least : ℕ) → FindsBest m place from to best least → (others : List ℕ) (x : ℕ) →
+    place ≤ length others → m.order ≡ insert others place x →
+    insert others best x ≡ smallest_of m.problem.inputs (functions m.problem) d (placed_from others x from to)
+unfolding smallest_of
+smallest_is m d place from to best least found others x h e =
+    let n = m.problem.inputs in
+    let F = functions m.problem in
+    let f : ℕ → List ℕ = λ i. insert others i x in
+    let above = found.above in
+    let below = found.below in
+    let k = to - from in
+    let many : to + 1 - from ≡ suc k = omega arith in
+    let is = found.size_is others x h e in
+    let whole = ap (λ j. smallest_of n F d (map f (range_with_len from j))) many in
+    let all : (i : ℕ) → from ≤ i → i ≤ to → size_under n F (f best) ≤ size_under n F (f i) =
+    λ i l r. let t = found.smallest others x h e i l r in omega arith in
+    let first : (i : ℕ) → from ≤ i → i < best → size_under n F (f best) < size_under n F (f i) =
+    λ i l r. let t = found.uppermost others x h e i l r in omega arith in
+    sym (whole ∙ elim (cases_eq best from) [
+      | inl s ↦
+          let same = ap (λ i. size_under n F (f i)) s in
+          stays_first n F f k (from + 1) (f from) (λ i l r. let t = all i (omega arith) (omega arith) in omega arith) ∙ ap f (sym s)
+      | inr ne ↦
+          comes_first n F f k (from + 1) best (f from) (omega arith) (omega arith) (first from (omega arith) (omega arith))
+          (λ i l r. first i (omega arith) r) (λ i l r. all i (omega arith) (omega arith))
+    ])
 
 -- ---- the way back
 
@@ -192,3 +304,19 @@ lift_lawful m cur from to place within le lt moved passes =
     let lower : slice_index cur.order (i + 1) ≡ x = ap (λ j. get_or cur.order j 0) k ∙ ap (λ o. get_or o place 0) at ∙ here zs x place (omega arith) in
     ap₂ (has_pair cur.pairs) upper lower ∙ ap (λ P. has_pair P (slice_index zs i) x) moved.pairs_stay
     ∙ passes zs x (omega arith) t.2 i (omega arith) (omega arith)
+
+pub lower_lawful : (m cur : Managed) (from to place : ℕ) → to < length m.order → from ≤ place → place < to → IsMoved from place m cur →
+    PassesBelow m from to →
+    IsFalse (has_pair cur.pairs (slice_index cur.order place) (slice_index cur.order (place + 1)))
+unfolding Moves
+lower_lawful m cur from to place within le lt moved passes =
+    let t = taken_out m.order from (omega arith) in
+    let zs = t.0 in
+    let x = t.1 in
+    let long = ap length t.2 ∙ length-placed zs x from in
+    let at = moved.moves zs x (omega arith) t.2 in
+    let upper : slice_index cur.order place ≡ x = ap (λ o. get_or o place 0) at ∙ here zs x place (omega arith) in
+    let lower : slice_index cur.order (place + 1) ≡ slice_index zs place = ap (λ o. get_or o (place + 1) 0) at
+    ∙ ap (λ k. get_or (insert zs place x) k 0) (add-one place) ∙ below_here zs x place (omega arith) in
+    ap₂ (has_pair cur.pairs) upper lower ∙ ap (λ P. has_pair P x (slice_index zs place)) moved.pairs_stay
+    ∙ passes zs x (omega arith) t.2 place (omega arith) (omega arith)

@@ -1,6 +1,7 @@
 -- What sifting makes: the definition's order, of a size that is no larger.
-use Rattle.std.proofs.Common.{◌≡◌, ℕ, ◌<◌, ◌≤◌, List, length, get_or, slice_index, sym, ap, ap₂, ◌∙◌, subst, arith}
+use Rattle.std.proofs.Common.{◌≡◌, ℕ, ◌<◌, ◌≤◌, List, length, take, get_or, slice_index, sym, ap, ap₂, ◌∙◌, subst, arith}
 use Rattle.std.specs.List.{fold}
+use Rattle.std.proofs.lemmas.List.{take_all}
 use Rattle.order_model.specs.Orders.{IsOrder, place_in}
 use Rattle.order_model.specs.Problems.{functions}
 use Rattle.order_model.specs.Levels.{size_under}
@@ -24,11 +25,6 @@ module _ (self : Managed) (ok : IsManagedOrder self) (n : ℕ) (e : n ≡ length
       (λ x h. let i = ok.inputs in let small : x < length self.order = omega arith in
       b (place_in self.order x) (own_place x self.order ok.is_order.once ((ok.is_order.all x).1 small)).1)
 
-  pub sifts : (last : List ℕ) → last ≡ fold (best self.problem.inputs (functions self.problem) self.pairs) self.order (by_falling_count counts n) →
-      last ≡ sifted self.problem.inputs (functions self.problem) self.pairs self.order
-  unfolding sifted
-  sifts last h = h ∙ ap (fold (best self.problem.inputs (functions self.problem) self.pairs) self.order) sifts_by
-
   pub variable_below : (items : List ℕ) (k : ℕ) → items ≡ by_falling_count counts n → k < length items → get_or items k 0 < length self.order
   variable_below items k s h =
       let l = ap length s in
@@ -36,13 +32,20 @@ module _ (self : Managed) (ok : IsManagedOrder self) (n : ℕ) (e : n ≡ length
       let g = ap (λ xs. get_or xs k 0) s in
       omega arith
 
-  pub no_larger : (last : Managed) → last.problem ≡ self.problem →
-      last.order ≡ sifted self.problem.inputs (functions self.problem) self.pairs self.order → size_of last ≤ size_of self
-  no_larger last f g =
+-- all variables are put at their best places
+module _ (self last : Managed) (ok : IsManagedOrder self) (items : List ℕ) (k : ℕ) (past : length items ≤ k)
+    (order : items ≡ sifting_order self.problem.inputs (functions self.problem) self.order)
+    (puts : last.order ≡ fold (best self.problem.inputs (functions self.problem) self.pairs) self.order (take k items)) where
+  pub sifts : last.order ≡ sifted self.problem.inputs (functions self.problem) self.pairs self.order
+  unfolding sifted
+  sifts = puts ∙ ap (fold (best self.problem.inputs (functions self.problem) self.pairs) self.order) (take_all k items past ∙ order)
+
+  pub no_larger : last.problem ≡ self.problem → size_of last ≤ size_of self
+  no_larger f =
       let i = ok.inputs in
       let o = subst (λ m. IsOrder m self.order) (sym i) ok.is_order in
       let le = (sifted_lem self.problem.inputs (functions self.problem) self.pairs self.order o ok.kept).2 in
       let s : size_of last ≡ size_under self.problem.inputs (functions self.problem)
       (sifted self.problem.inputs (functions self.problem) self.pairs self.order) =
-      ap₂ (λ t x. size_under t.inputs (functions t) x) f g in
+      ap₂ (λ t x. size_under t.inputs (functions t) x) f sifts in
       omega arith

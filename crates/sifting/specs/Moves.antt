@@ -1,14 +1,19 @@
 -- One variable moved among the others.
 --     Moves place other from to      the variable at one place stands at another, and the others keep their order
 --     StopsAbove, StopsBelow      why a variable can't go further
---     FindsBest      where a variable that went down has its uppermost place of least size
+--     PassesBetween, PassesBelow      why a variable can go back up, or down
+--     size_at m others x i      the size with a variable at a place among others
+--     FindsBest      where a variable has its uppermost place of least size, of those that it went through
+--     WalksUp, WalksDown      what moving a variable as far as the pairs let it finds
 use Rattle.std.specs.Prelude.{◌≡◌, ℕ, ◌+◌, ◌-◌, ◌<◌, ◌≤◌, ◌⊎◌, List, length, map, slice_index, IsTrue, IsFalse, Bool, [], nat_lt}
 use Rattle.std.specs.List.{insert, fold, range_with_len}
 use Rattle.order_model.specs.Pairs.{Pair, Keeps, has_pair}
 use Rattle.order_model.specs.Problems.{functions}
-use Rattle.order_model.specs.Sifting.{smallest_of, insert_by_count}
+use Rattle.order_model.specs.Sifting.{insert_by_count}
+use Rattle.order_model.specs.Levels.{size_under}
 use Rattle.order_model.specs.Orders.{variables}
 use Rattle.sifting.specs.Managed.{Managed}
+use Rattle.sifting.specs.declared.sift.Walk.{Walk}
 
 -- the variable at one place stands at another, and the others keep their order
 unfoldable pub Moves : ℕ → ℕ → List ℕ → List ℕ → Type 0
@@ -31,6 +36,12 @@ abbrev pub StopsBelow : List Pair → List ℕ → ℕ → Type 0
 StopsBelow P order place = (length order ≤ place + 1)
     ⊎ IsTrue (has_pair P (slice_index order place) (slice_index order (place + 1)))
 
+-- of the variables between two places, none must stay below the one at the upper place
+abbrev pub PassesBelow : Managed → ℕ → ℕ → Type 0
+PassesBelow m upper lower = (others : List ℕ) (x : ℕ) → upper ≤ length others → m.order ≡ insert others upper x →
+    (i : ℕ) → upper ≤ i → i < lower →
+    IsFalse (has_pair m.pairs x (slice_index others i))
+
 -- the orders with x at the places from one to another
 abbrev pub placed_from : List ℕ → ℕ → ℕ → ℕ → List (List ℕ)
 placed_from others x from to = map (λ i. insert others i x) (range_with_len from (to + 1 - from))
@@ -49,12 +60,36 @@ has_fewer counts count y = nat_lt (slice_index counts y) count
 unfoldable pub by_falling_count : List ℕ → ℕ → List ℕ
 by_falling_count counts n = fold (λ ys x. insert_by_count (slice_index counts) x ys) [] (variables n)
 
--- between two places all orders keep the pairs, and the first one of least size has the variable at the best one
-pub record FindsBest (m : Managed) (from to best : ℕ) : Type 0 where
+-- the size with x at a place among others
+abbrev pub size_at : Managed → List ℕ → ℕ → ℕ → ℕ
+size_at m others x i = size_under m.problem.inputs (functions m.problem) (insert others i x)
+
+-- the variable at a place keeps the pairs at all places from one to another, and has its least size there at the best one and at none above
+pub record FindsBest (m : Managed) (place from to best least : ℕ) : Type 0 where
   pub above : from ≤ best
   pub below : best ≤ to
-  pub keeps : (others : List ℕ) (x : ℕ) → from ≤ length others → m.order ≡ insert others from x → (i : ℕ) → from ≤ i →
+  pub keeps : (others : List ℕ) (x : ℕ) → place ≤ length others → m.order ≡ insert others place x → (i : ℕ) → from ≤ i →
       i ≤ to →
       Keeps m.pairs (insert others i x)
-  pub smallest : (others : List ℕ) (x : ℕ) → from ≤ length others → m.order ≡ insert others from x →
-      insert others best x ≡ smallest_of m.problem.inputs (functions m.problem) m.order (placed_from others x from to)
+  pub size_is : (others : List ℕ) (x : ℕ) → place ≤ length others → m.order ≡ insert others place x →
+      least ≡ size_at m others x best
+  pub smallest : (others : List ℕ) (x : ℕ) → place ≤ length others → m.order ≡ insert others place x → (i : ℕ) → from ≤ i →
+      i ≤ to →
+      least ≤ size_at m others x i
+  pub uppermost : (others : List ℕ) (x : ℕ) → place ≤ length others → m.order ≡ insert others place x → (i : ℕ) → from ≤ i →
+      i < best →
+      least < size_at m others x i
+
+-- what moving a variable up as far as the pairs let it finds
+pub record WalksUp (m : Managed) (from : ℕ) (w : Walk) : Type 0 where
+  pub moved : IsMoved from w.place m w.manager
+  pub upward : w.place ≤ from
+  pub stops : StopsAbove w.manager.pairs w.manager.order w.place
+  pub best : FindsBest m from w.place from w.best w.least
+
+-- what moving it down finds
+pub record WalksDown (m : Managed) (from : ℕ) (w : Walk) : Type 0 where
+  pub moved : IsMoved from w.place m w.manager
+  pub within : w.place < length m.order
+  pub stops : StopsBelow w.manager.pairs w.manager.order w.place
+  pub best : FindsBest m from from w.place w.best w.least

@@ -7,6 +7,7 @@ mod levels;
 mod manager;
 mod node_table;
 mod sift;
+mod sift_by_threads;
 mod tight;
 
 pub use manager::Manager;
