@@ -13,7 +13,7 @@ use Rattle.order_model.specs.Levels.{size_under}
 use Rattle.order_model.specs.Sifting.{smallest_of, placements, best}
 use Rattle.order_model.proofs.Widths.Recurrence.{absent_without, distinct_without}
 use Rattle.sifting.specs.Managed.{Managed, IsManagedOrder}
-use Rattle.sifting.specs.Moves.{Moves, IsMoved, StopsAbove, StopsBelow, FindsBest, PassesBetween, PassesBelow, placed_from}
+use Rattle.sifting.specs.Moves.{Moves, IsMoved, StopsAbove, StopsBelow, FindsBest, PassesBetween, PassesBelow}
 use Rattle.sifting.proofs.Placements.{length-placed, here, above_here, below_here, not_above, not_below, breaks}
 use Rattle.sifting.proofs.MoveSteps.{smallest_is, insert_tells}
 use Rattle.order_model.proofs.Sifting.Placements.{own_place}

@@ -1,8 +1,7 @@
 -- One swap more while a variable moves.
-use Rattle.std.proofs.Common.{◌≡◌, ℕ, zero, suc, ◌+◌, ◌-◌, ◌<◌, ◌≤◌, Bool, true, false, cond, inl, inr, List, [], ◌∷◌, ◌++◌, map, length, get_or, swap, slice_index, refl, sym, ap, ap₂, ◌∙◌, subst, arith, add-one, IsFalse, ltb}
+use Rattle.std.proofs.Common.{◌≡◌, ℕ, zero, suc, ◌+◌, ◌-◌, ◌<◌, ◌≤◌, Bool, true, false, cond, inl, inr, List, [], ◌∷◌, map, length, get_or, swap, slice_index, refl, sym, ap, ap₂, ◌∙◌, subst, arith, add-one, IsFalse, ltb}
 use Rattle.std.specs.List.{insert, range_with_len}
 use Rattle.std.proofs.lemmas.Bool.{cases_eq, cases_lt, lt-ltb, le-ltb}
-use Rattle.std.proofs.lemmas.List.FromFn.{map-range_with_len_more}
 use Rattle.order_model.specs.Functions.{Function}
 use Rattle.order_model.specs.Pairs.{Keeps, has_pair}
 use Rattle.order_model.specs.Problems.{functions}

@@ -2,6 +2,7 @@
 //! other end.
 
 ghost use Rattle.std.specs.Prelude.{◌≡◌, ◌≤◌, ◌⊎◌, IfOk, IfSome};
+ghost use Rattle.std.specs.Thread.{IsSync};
 
 use crate::manager::Manager;
 use crate::sift::{Sifted, raise};
@@ -61,6 +62,27 @@ impl Sifted {
         Ok(sifted)
     }
 
+    /// The same by two threads, if there are so many workers.
+    fn settled_by_threads<R: Threads + Sync>(
+        self,
+        rt: &R,
+        alloc: Global,
+        workers: Workers,
+    ) -> Result<Sifted, AllocError>
+        ensures { IfOk result (IsNoLarger self) }
+    {
+        let mut sifted = self;
+        for _ in 0..MOST_PASSES {
+            let size = sifted.size();
+            let manager = sifted.into_manager();
+            sifted = manager.sift_by_threads(rt, alloc, workers)?;
+            if sifted.size() == size {
+                break;
+            }
+        }
+        Ok(sifted)
+    }
+
     /// The order turned over, to begin with once more. Nothing if that changes the size by no more
     /// than a sixty-fourth.
     fn other_start(&self, alloc: Global) -> Result<Option<Manager>, AllocError>
@@ -101,8 +123,13 @@ impl Sifted {
         Ok(here.or_smaller(there))
     }
 
-    /// The same by two threads, each of which sifts on from one of the two orders.
-    fn tightened_by_threads<R: Threads>(self, rt: &R, alloc: Global) -> Result<Sifted, AllocError>
+    /// The same, each of the two by so many workers, at the same time.
+    fn tightened_by_threads<R: Threads + Sync>(
+        self,
+        rt: &R,
+        alloc: Global,
+        workers: Workers,
+    ) -> Result<Sifted, AllocError>
         ensures { IfOk result (IsNoLarger self) }
     {
         let Some(other) = self.other_start(alloc)? else {
@@ -111,12 +138,17 @@ impl Sifted {
         let (there, here) = thread::join(
             rt,
             move || -> Result<Sifted, AllocError>
+                requires { IsSync R.row }
                 ensures { IfOk result (λ s. (s.problem ≡ other.problem)
                     × (s.pairs ≡ other.pairs)) }
-            { other.sift(alloc)?.settled(alloc) },
+            {
+                let there = other.sift_by_threads(rt, alloc, workers)?;
+                there.settled_by_threads(rt, alloc, workers)
+            },
             move || -> Result<Sifted, AllocError>
+                requires { IsSync R.row }
                 ensures { IfOk result (IsNoLarger self) }
-            { self.settled(alloc) },
+            { self.settled_by_threads(rt, alloc, workers) },
         );
         Ok(here?.or_smaller(there?))
     }
@@ -132,8 +164,8 @@ impl Sifted {
         self.tightened(alloc)
     }
 
-    /// The same by two threads, if there are so many workers.
-    pub fn search_bound_by_threads<R: Threads>(
+    /// The same by as many threads as there are workers, four at most.
+    pub fn search_bound_by_threads<R: Threads + Sync>(
         self,
         rt: &R,
         alloc: Global,
@@ -141,9 +173,12 @@ impl Sifted {
     ) -> Result<Sifted, AllocError>
         ensures { IfOk result (IsNoLarger self) }
     {
-        if workers.count() == 1 || self.order().len() < LEAST_INPUTS {
+        let Some(half) = Workers::new(workers.count() / 2) else {
             return self.search_bound(alloc);
+        };
+        if self.order().len() < LEAST_INPUTS {
+            return Ok(self);
         }
-        self.tightened_by_threads(rt, alloc)
+        self.tightened_by_threads(rt, alloc, half)
     }
 }

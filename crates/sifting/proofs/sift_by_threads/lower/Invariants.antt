@@ -1,4 +1,3 @@
-use Rattle.std.proofs.Common.{◌≤◌}
 use Rattle.sifting.specs.Moves.{IsMoved}
 use Rattle.sifting.proofs.sift_by_threads.lower.Given as goal
 
