@@ -1,5 +1,5 @@
 -- The kinds of steps.
-use Rattle.std.proofs.Common.{◌≡◌, ◌≢◌, ℕ, ◌+◌, ◌-◌, ◌<◌, Bool, if◌then◌else◌, List, [], set, get_or, length, sym, refl, ap, ◌∙◌, subst, arith, eqb, eq-eqb, ne_eqb, get_or-set_same}
+use Rattle.std.proofs.Common.{◌≡◌, ◌≢◌, ℕ, ◌+◌, ◌-◌, ◌<◌, Bool, if◌then◌else◌, List, [], ◌∷◌, set, get_or, length, sym, refl, ap, ◌∙◌, subst, arith, eqb, eq-eqb, ne_eqb, get_or-set_same}
 use Rattle.std.proofs.lemmas.List.{set-get_or, take-set-le}
 use lib.Seq.{drop-set-lt}
 use mathlib.Core.Option.{Option}
@@ -15,7 +15,7 @@ use Rattle.node_words.proofs.Functions.{denotes_grows, one_id}
 use Rattle.unique_table.specs.declared.plan.Plan.{Plan}
 use Rattle.unique_table.specs.declared.session.View.{View}
 use Rattle.unique_table.specs.Plans.{order_of, levels_of, piece_function}
-use Rattle.unique_table.specs.Picture.{StoreState, IsKept, nodes_of, pieces_of, spent}
+use Rattle.unique_table.specs.Picture.{StoreState, IsKept, having, putting, nodes_of, pieces_of, spent}
 use Rattle.unique_table.specs.Stakes.{IsWhole}
 use Rattle.unique_table.specs.Views.{After}
 use Rattle.unique_table.specs.Steps.{IsSeat, Becomes, put_words}
@@ -38,13 +38,30 @@ module _ (b : Plan) (s : StoreState) (id : ℕ) (v : View) (is : IsSeat b s id v
   Keeps words homes v' = IsKept b record { words = words; homes = homes; views = set s.views id v' }
 
   -- it doesn't read the slots
-  becomes : (words : List ℕ) (homes : List (Option (Unit {0}))) (m' : M) (wrote : ℕ) → Keeps words homes m'.0 → After v m'.0 wrote → Becomes b s id v words m'.0
-  becomes words homes m' wrote k a =
+  becomes : (words : List ℕ) (homes : List (Option (Unit {0}))) (m' : M) (made : List ℕ) (wrote : ℕ) → Keeps words homes m'.0 →
+      After (having made v) m'.0 wrote → Becomes b s id v words m'.0
+  becomes words homes m' made wrote k a =
       record {
         kept =
-            record { order = k.order; size = k.size; stored = k.stored; entries = k.entries; pieces = k.pieces; seen = k.seen; stakes = k.stakes };
+            record {
+              order = k.order;
+              size = k.size;
+              stored = k.stored;
+              put = k.put;
+              entries = k.entries;
+              pieces = k.pieces;
+              seen = k.seen;
+              stakes = k.stakes;
+            };
         gains =
-            gains_after v m'.0 wrote a;
+            (let g = gains_after (having made v) m'.0 wrote a in record {
+              good = g.good;
+              current = g.current;
+              plan = g.plan;
+              stake = g.stake;
+              nodes = g.nodes;
+              pieces = g.pieces;
+            });
       }
 
   same_words : (p : ℕ) (homes : List (Option (Unit {0}))) (v' : View) → Keeps (set s.words p (get_or s.words p 0)) homes v' → Keeps s.words homes v'
@@ -54,7 +71,7 @@ module _ (b : Plan) (s : StoreState) (id : ℕ) (v : View) (is : IsSeat b s id v
   kind_look p inside =
       let a = may_look b (length s.homes) id me is.live p s is.kept refl is.seat (is.fits p) in let g = a.4 in let m' : M = (a.0, carried_after [] a.1) in (
         a.0,
-        becomes s.words (homes_after s.homes [] a.1) m' 0 (same_words p (homes_after s.homes [] a.1) a.0 a.3)
+        becomes s.words (homes_after s.homes [] a.1) m' v.made 0 (same_words p (homes_after s.homes [] a.1) a.0 a.3)
             (after_goes me m' 0 g.0 g.1 g.2 g.3),
         ap (λ (m : M). get_or m.0.seen p 0) g.2
             ∙ g.4 (subst (λ (z : Plan). p < z.places) (sym plan) inside),
@@ -68,7 +85,7 @@ module _ (b : Plan) (s : StoreState) (id : ℕ) (v : View) (is : IsSeat b s id v
       let a = may_collect b (length s.homes) id me is.live q p at s is.kept refl is.seat (is.fits p) in let g = a.4 in
       let m' : M = (a.0, carried_after [] a.1) in (
         a.0,
-        becomes s.words (homes_after s.homes [] a.1) m' 0 (same_words p (homes_after s.homes [] a.1) a.0 a.3) (after_goes me m' 0 g.0 g.1 g.2 g.3),
+        becomes s.words (homes_after s.homes [] a.1) m' v.made 0 (same_words p (homes_after s.homes [] a.1) a.0 a.3) (after_goes me m' 0 g.0 g.1 g.2 g.3),
         ap (λ (m : M). get_or m.0.pieces q 0) g.2 ∙ (ap (λ (z : ℕ). get_or g.1 z 0) (sym back) ∙ g.4),
       )
 
@@ -81,7 +98,7 @@ module _ (b : Plan) (s : StoreState) (id : ℕ) (v : View) (is : IsSeat b s id v
       is.seat (is.fits p) in
       let g = a.4 in let m' : M = (a.0, carried_after [] a.1) in (
         a.0,
-        becomes s.words (homes_after s.homes [] a.1) m' 0 (same_words p (homes_after s.homes [] a.1) a.0 a.3) (after_goes me m' 0 g.0 g.1 g.2 g.3),
+        becomes s.words (homes_after s.homes [] a.1) m' v.made 0 (same_words p (homes_after s.homes [] a.1) a.0 a.3) (after_goes me m' 0 g.0 g.1 g.2 g.3),
         (λ full. subst (λ (m : M). IsEntry (order_of b) m.0.seen (get_or s.words p 0)) (sym g.2)
             (subst (λ (z : Plan). IsEntry (order_of z) g.0 (get_or s.words p 0)) plan (g.4 full))),
       )
@@ -95,7 +112,7 @@ module _ (b : Plan) (s : StoreState) (id : ℕ) (v : View) (is : IsSeat b s id v
       (subst (λ (z : Plan). IsEntry (order_of z) v.seen w) (sym plan) entry) s is.kept refl is.seat (is.fits p) in
       let g = a.4 in let m' : M = (a.0, carried_after [] a.1) in (
         a.0,
-        becomes (set s.words p w) (homes_after s.homes [] a.1) m' 1 a.3 (after_goes me m' 1 g.0 g.1 g.2 g.3),
+        becomes (set s.words p w) (homes_after s.homes [] a.1) m' v.made 1 a.3 (after_goes me m' 1 g.0 g.1 g.2 g.3),
         take-set-le b.places s.words p w (omega arith),
         drop-set-lt (b.places + b.entries) s.words p w (omega arith),
       )
@@ -120,14 +137,14 @@ module _ (b : Plan) (s : StoreState) (id : ℕ) (v : View) (is : IsSeat b s id v
       dite (ℕ_discrete (get_or s.words p 0) 0)
       (λ empty. let h = g.0 empty in (
         a.0,
-        becomes (put_words s.words p w) homes m' 1 kept (after_goes me m' 1 h.0 h.1 h.2 h.3),
+        becomes (put_words s.words p w) homes m' (w ∷ v.made) 1 kept (after_goes (putting w v, []) m' 1 h.0 h.1 h.2 h.3),
         ap (λ (m : M). get_or m.0.seen p 0) h.2 ∙ (h.4
             ∙ (sym (get_or-set_same s.words p w 0 (let e = is.kept.size in omega arith))
             ∙ ap (λ (t : Bool). get_or (if t then set s.words p w else s.words) p 0) (sym (eq-eqb (get_or s.words p 0) 0 empty)))),
       ))
       (λ taken. let h = g.1 taken in (
         a.0,
-        becomes (put_words s.words p w) homes m' 0 kept (after_goes me m' 0 h.0 h.1 h.2 h.3),
+        becomes (put_words s.words p w) homes m' v.made 0 kept (after_goes me m' 0 h.0 h.1 h.2 h.3),
         ap (λ (m : M). get_or m.0.seen p 0) h.2 ∙ (h.4
             ∙ ap (λ (t : Bool). get_or (if t then set s.words p w else s.words) p 0) (sym (ne_eqb (get_or s.words p 0) 0 taken))),
       ))
@@ -142,7 +159,7 @@ module _ (b : Plan) (s : StoreState) (id : ℕ) (v : View) (is : IsSeat b s id v
       (subst (λ (z : Plan). Denotes (order_of z) v.seen ref (piece_function z q)) (sym plan) d) s is.kept refl is.seat (is.fits p) in
       let g = a.4 in let m' : M = (a.0, carried_after [] a.1) in (
         a.0,
-        becomes (set s.words p (ref + 1)) (homes_after s.homes [] a.1) m' 1 a.3 (after_goes me m' 1 g.0 g.1 g.2 g.3),
+        becomes (set s.words p (ref + 1)) (homes_after s.homes [] a.1) m' v.made 1 a.3 (after_goes me m' 1 g.0 g.1 g.2 g.3),
         ap (λ (m : M). get_or m.0.pieces q 0) g.2 ∙ (ap (λ (z : ℕ). get_or g.1 z 0) (sym back) ∙ g.4),
         pieces_grow b s is.kept q ref inside
             (denotes_grows (order_of b) v.seen good (nodes_of b s.words) (is.kept.seen id v is.seat is.live).grows ref

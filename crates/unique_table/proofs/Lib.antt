@@ -1,4 +1,5 @@
 pub mod Stakes
+pub mod Puts
 pub mod Rule
 pub mod Starts
 pub mod Steps

@@ -14,7 +14,7 @@ use Rattle.unique_table.specs.declared.plan.Plan.{Plan}
 use Rattle.unique_table.specs.declared.store.Store.TheInside as store
 use Rattle.unique_table.specs.declared.session.Session.TheInside as session
 use Rattle.unique_table.specs.Plans.{order_of, levels_of, variable_at}
-use Rattle.unique_table.specs.Sessions.{StoreId, Knowledge, Follows, MakesStep, Knows, IsKnownBelow, Means, HasUniqueIds, HasLevels, function_in, depth_in}
+use Rattle.unique_table.specs.Sessions.{StoreId, Knowledge, Follows, MakesStep, Knows, IsKnownBelow, Means, HasUniqueIds, HasLevels, GainsOnly, function_in, depth_in}
 use Rattle.unique_table.specs.Insides.{store_id, IsStore, knowledge, IsSession}
 use Rattle.unique_table.specs.Views.{Gains}
 use Rattle.unique_table.specs.Seats.{Sitting, IsSeatOf, IsSeatAfter, IsNodeWord}
@@ -24,6 +24,11 @@ use Rattle.unique_table.proofs.Following.{follows}
 
 abbrev pub seated : Sitting → Knowledge
 seated seat = knowledge record { seat = seat }
+
+-- what a session's seat has put
+pub made_only : (s : session.Inside) (K : Knowledge) (made : List ℕ) (word w : ℕ) → knowledge s ≡ K → word ≡ w →
+    GainsOnly s.seat.me.0.made made word → GainsOnly K.made made w
+made_only s K made word w is same g = subst (λ (z : ℕ). GainsOnly K.made made z) same (subst (λ (z : Knowledge). GainsOnly z.made made word) is g)
 
 -- a session whose seat is at the table knows the store
 pub store_is : (t : store.Inside) (T : StoreId) (seat : Sitting) → store_id t ≡ T → IsSeatOf t.table.shared seat → (seated seat).store ≡ T
@@ -95,6 +100,7 @@ module _ (t : store.Inside) (s : session.Inside) (T : StoreId) (K : Knowledge) (
       pieces = a.view.pieces;
     };
     stake = a.view.stake ∙ ap (λ (z : Knowledge). z.stake) is_s;
+    made = a.view.made ∙ ap (λ (z : Knowledge). z.made) is_s;
     steps = a.view.steps ∙ ap (λ (z : Knowledge). z.steps + 1) is_s;
     writes = a.view.writes ∙ ap (λ (z : Knowledge). z.writes + wrote) is_s;
   }

@@ -1,7 +1,8 @@
 -- Each step keeps the rule of a store.
-use Rattle.std.proofs.Common.{◌≡◌, ◌≢◌, ℕ, ◌+◌, ◌-◌, ◌<◌, Bool, true, false, List, [], set, get_or, drop, length, length-set, length-drop, get_or-set_same, get_or-set_other, sym, refl, ap, ◌∙◌, subst, ⊎_elim, arith, eqb, eq-eqb, ne_eqb}
+use Rattle.std.proofs.Common.{◌≡◌, ◌≢◌, ℕ, ◌+◌, ◌-◌, ◌<◌, Bool, true, false, ◌⊎◌, inl, inr, List, [], ◌∷◌, set, get_or, drop, length, length-set, length-drop, get_or-set_same, get_or-set_other, sym, refl, ap, ◌∙◌, subst, ⊎_elim, arith, eqb, eq-eqb, ne_eqb}
 use Rattle.std.proofs.lemmas.List.{set-get_or, drop-set-add, take-set-le}
 use lib.Seq.{take-set-lt, drop-set-lt, get_or-take, get_or-drop}
+use Rattle.std.specs.List.{Contains}
 use mathlib.Core.Option.{some, none}
 use mathlib.Core.Logic.{dite}
 use native.Mathlib.Decide.{ℕ_discrete}
@@ -18,7 +19,8 @@ use Rattle.node_words.proofs.Entries.{entry_grows}
 use Rattle.unique_table.specs.declared.plan.Plan.{Plan}
 use Rattle.unique_table.specs.declared.session.View.{View}
 use Rattle.unique_table.specs.Plans.{order_of, levels_of, piece_function}
-use Rattle.unique_table.specs.Picture.{StoreState, IsKept, IsSeen, moved, Sees, AreEntries, ArePieces, sees, nodes_of, entry_in, pieces_of, stepped, another, informed, spent, looks, puts, publishes, collects, recalls, remembers}
+use Rattle.unique_table.specs.Picture.{StoreState, IsKept, IsSeen, IsPut, moved, Sees, AreEntries, ArePieces, having, putting, sees, nodes_of, entry_in, pieces_of, stepped, another, informed, spent, looks, puts, publishes, collects, recalls, remembers}
+use Rattle.unique_table.proofs.Puts.{has_first, has_more, has_front, has_back, put_set, put_here, put_longer, put_joined, whole_put}
 use Rattle.unique_table.proofs.Stakes.{joined_some, half_whole, within_same, within_split, within_join, no_other}
 
 abbrev pub M : Type 0
@@ -33,19 +35,32 @@ each_set {A} P l i w all it j u e =
 none_told : (xs : List ℕ) → Grows [] xs
 none_told xs p full = absurd (full refl)
 
+-- the seat that steps put each word that is new
+abbrev NewArePut : Plan → StoreState → List ℕ → List ℕ → Type 0
+NewArePut b s made ws = (p : ℕ) → get_or ws p 0 ≢ 0 → (get_or (nodes_of b s.words) p 0 ≡ get_or ws p 0) ⊎ Contains made (get_or ws p 0)
+
+abbrev Keeps : List ℕ → List ℕ → Type 0
+Keeps xs ys = (x : ℕ) → Contains xs x → Contains ys x
+
 -- the seat that steps sees all words, and the others saw no more than they have
 placed : (b : Plan) (s : StoreState) (k : IsKept b s) (words : List ℕ) → length words ≡ b.places + b.entries + b.pieces →
     Grows (nodes_of b s.words) (nodes_of b words) → Grows (pieces_of b s.words) (pieces_of b words)
     → AreStored (levels_of b) b.places (nodes_of b words) → AreEntries b (nodes_of b words) words → ArePieces b (nodes_of b words) (pieces_of b words)
-    → (id : ℕ) (v : View) (wrote : ℕ) → get_elem? s.views id ≡ some v → v.live ≡ true
-    → IsKept b (moved s words id (sees v (nodes_of b words) (pieces_of b words) wrote))
-placed b s k words size g gp st ens pcs id v wrote at live = let ws : List ℕ = nodes_of b words in let ps : List ℕ = pieces_of b words in record {
+    → (id : ℕ) (v : View) (made : List ℕ) (wrote : ℕ) → Keeps v.made made → NewArePut b s made (nodes_of b words)
+    → get_elem? s.views id ≡ some v → v.live ≡ true
+    → IsKept b (moved s words id (sees (having made v) (nodes_of b words) (pieces_of b words) wrote))
+placed b s k words size g gp st ens pcs id v made wrote more new at live = let ws : List ℕ = nodes_of b words in let ps : List ℕ = pieces_of b words in record {
   order = k.order;
   size = size;
   stored = st;
+  put = λ p full. ⊎_elim
+      (λ (old : get_or (nodes_of b s.words) p 0 ≡ get_or ws p 0). put_set s.views id v (sees (having made v) ws ps wrote) (get_or ws p 0) at refl
+      (more (get_or ws p 0)) (subst (IsPut s.views) old (k.put p (λ e. full (sym old ∙ e)))))
+      (put_here s.views id v (sees (having made v) ws ps wrote) (get_or ws p 0) at refl)
+      (new p full);
   entries = ens;
   pieces = pcs;
-  seen = each_set (λ (u : View). u.live ≡ true → IsSeen b ws ps u) s.views id (sees v ws ps wrote)
+  seen = each_set (λ (u : View). u.live ≡ true → IsSeen b ws ps u) s.views id (sees (having made v) ws ps wrote)
       (λ j u ne e alive. let i = k.seen j u e alive in record {
         plan = i.plan;
         size = i.size;
@@ -72,13 +87,14 @@ placed b s k words size g gp st ens pcs id v wrote at live = let ws : List ℕ =
         stake = (k.seen id v at live).stake;
         all = λ _ _. grows_refl ps;
       });
-  stakes = within_same s.views id v at k.stakes (sees v ws ps wrote) refl;
+  stakes = within_same s.views id v at k.stakes (sees (having made v) ws ps wrote) refl;
 }
 
 sees_all : (b : Plan) (s : StoreState) (k : IsKept b s) (ws ps : List ℕ) → Grows (nodes_of b s.words) ws → Grows (pieces_of b s.words) ps →
     AreStored (levels_of b) b.places ws → ArePieces b ws ps
-    → (id : ℕ) (v : View) → get_elem? s.views id ≡ some v → v.live ≡ true → Sees v ws ps
-sees_all b s k ws ps g gp st pcs id v at live = let i = k.seen id v at live in record {
+    → (id : ℕ) (v : View) (made : List ℕ) → Keeps v.made made → NewArePut b s made ws → get_elem? s.views id ≡ some v → v.live ≡ true
+    → Sees (having made v) ws ps
+sees_all b s k ws ps g gp st pcs id v made more new at live = let i = k.seen id v at live in record {
   size = st.size ∙ ap (λ (z : Plan). z.places) (sym i.plan);
   nodes = subst (λ (z : Plan). AreNodes (levels_of z) ws) (sym i.plan) st.nodes;
   unequal = st.unequal;
@@ -87,7 +103,15 @@ sees_all b s k ws ps g gp st pcs id v at live = let i = k.seen id v at live in r
   told = grows_trans v.told (nodes_of b s.words) ws i.told g;
   pieces_grow = grows_trans v.pieces (pieces_of b s.words) ps i.pieces gp;
   pieces_told = grows_trans v.pieces_told (pieces_of b s.words) ps i.pieces_told gp;
+  made = λ all p full. ⊎_elim
+      (λ (old : get_or (nodes_of b s.words) p 0 ≡ get_or ws p 0). more (get_or ws p 0)
+      (subst (λ (z : ℕ). Contains v.made z) old (whole_put b s k id v at live all p (λ e. full (sym old ∙ e)))))
+      (λ (has : Contains made (get_or ws p 0)). has)
+      (new p full);
 }
+
+none_put : (b : Plan) (s : StoreState) (made ws : List ℕ) → ws ≡ nodes_of b s.words → NewArePut b s made ws
+none_put b s made ws same p full = inl (ap (λ (z : List ℕ). get_or z p 0) (sym same))
 
 -- a piece's word is the same where there was one, since ids that denote one function are one id
 pieces_same : (b : Plan) (s : StoreState) (k : IsKept b s) (q ref : ℕ) → q < length (pieces_of b s.words) →
@@ -118,13 +142,14 @@ module _ (b : Plan) (slots id : ℕ) (me : M) (live : me.0.live ≡ true) where
   still : (s : StoreState) → IsKept b s → get_elem? s.views id ≡ some v → Sees v (nodes_of b s.words) (pieces_of b s.words)
   still s k at =
       sees_all b s k (nodes_of b s.words) (pieces_of b s.words) (grows_refl (nodes_of b s.words)) (grows_refl (pieces_of b s.words))
-      k.stored k.pieces id v at live
+      k.stored k.pieces id v v.made (λ x h. h) (none_put b s v.made (nodes_of b s.words) refl) at live
 
   -- the words are set to what they are
   unmoved : (s : StoreState) → IsKept b s → get_elem? s.views id ≡ some v → (p : ℕ)
       → IsKept b (moved s (set s.words p (get_or s.words p 0)) id (sees v (nodes_of b s.words) (pieces_of b s.words) 0))
   unmoved s k at p = subst (λ (z : List ℕ). IsKept b (moved s z id (sees v (nodes_of b s.words) (pieces_of b s.words) 0))) (sym (set-get_or s.words p 0))
-      (placed b s k s.words k.size (grows_refl (nodes_of b s.words)) (grows_refl (pieces_of b s.words)) k.stored k.entries k.pieces id v 0 at live)
+      (placed b s k s.words k.size (grows_refl (nodes_of b s.words)) (grows_refl (pieces_of b s.words)) k.stored k.entries k.pieces id v v.made 0
+      (λ x h. h) (none_put b s v.made (nodes_of b s.words) refl) at live)
 
   -- a node's word, as it is found
   node_read : (s : StoreState) → IsKept b s → get_elem? s.views id ≡ some v → (p : ℕ) → p < v.plan.places → get_or (nodes_of b s.words) p 0 ≡ get_or s.words p 0
@@ -203,8 +228,16 @@ module _ (b : Plan) (slots id : ℕ) (me : M) (live : me.0.live ≡ true) where
         sees v (nodes_of b words) (pieces_of b words) 1,
         keeps,
         tt,
-        placed b s k words (length-set s.words p w ∙ k.size) g gp st ens pcs id v 1 at live,
-        (nodes_of b words, pieces_of b words, refl, sees_all b s k (nodes_of b words) (pieces_of b words) g gp st pcs id v at live, tt),
+        placed b s k words (length-set s.words p w ∙ k.size) g gp st ens pcs id v v.made 1 (λ x h. h)
+            (none_put b s v.made (nodes_of b words) same_nodes) at live,
+        (
+          nodes_of b words,
+          pieces_of b words,
+          refl,
+          sees_all b s k (nodes_of b words) (pieces_of b words) g gp st pcs id v v.made (λ x h. h)
+              (none_put b s v.made (nodes_of b words) same_nodes) at live,
+          tt,
+        ),
       )
 
   pub may_put : (p w passed : ℕ) → p < v.plan.places → w ≢ 0 → p ≡ probe v.plan.places w passed
@@ -236,18 +269,23 @@ module _ (b : Plan) (slots id : ℕ) (me : M) (live : me.0.live ≡ true) where
       let pcs : ArePieces b (nodes_of b words) (pieces_of b words) = subst (λ (z : List ℕ). ArePieces b (nodes_of b words) z) (sym same_pieces)
       (λ q full. denotes_grows (order_of b) nodes k.stored.nodes (nodes_of b words) g (get_or pieces q 0 - 1) (piece_function b q) (k.pieces q full)) in
       let there : get_or (nodes_of b words) p 0 ≡ w = ap (λ (l : List ℕ). get_or l p 0) same_nodes
-      ∙ get_or-set_same nodes p w 0 (let e = k.stored.size in omega arith) in (
-        sees v (nodes_of b words) (pieces_of b words) 1,
+      ∙ get_or-set_same nodes p w 0 (let e = k.stored.size in omega arith) in
+      let made : List ℕ = w ∷ v.made in
+      let new : NewArePut b s made (nodes_of b words) = (λ q full. dite (ℕ_discrete q p)
+      (λ same. inr (subst (λ (z : ℕ). Contains made z) (sym there ∙ ap (λ (z : ℕ). get_or (nodes_of b words) z 0) (sym same)) (has_first v.made w)))
+      (λ ne. inl (sym (ap (λ (l : List ℕ). get_or l q 0) same_nodes ∙ get_or-set_other nodes p q w 0 ne)))) in (
+        sees (putting w v) (nodes_of b words) (pieces_of b words) 1,
         keeps,
         tt,
-        subst (λ (z : Bool). IsKept b (moved s (set s.words p (either z w n)) id (sees v (nodes_of b words) (pieces_of b words) 1))) (sym (eq-eqb n 0 empty))
-            (placed b s k words (length-set s.words p w ∙ k.size) g gp st ens pcs id v 1 at live),
+        subst (λ (z : Bool). IsKept b (moved s (set s.words p (either z w n)) id (sees (putting w v) (nodes_of b words) (pieces_of b words) 1)))
+            (sym (eq-eqb n 0 empty))
+            (placed b s k words (length-set s.words p w ∙ k.size) g gp st ens pcs id v made 1 (has_more v.made w) new at live),
         (
           (λ _. (
             nodes_of b words,
             pieces_of b words,
             refl,
-            sees_all b s k (nodes_of b words) (pieces_of b words) g gp st pcs id v at live,
+            sees_all b s k (nodes_of b words) (pieces_of b words) g gp st pcs id v made (has_more v.made w) new at live,
             there,
           )),
           (λ full. absurd (full empty)),
@@ -300,12 +338,14 @@ module _ (b : Plan) (slots id : ℕ) (me : M) (live : me.0.live ≡ true) where
         sees v (nodes_of b words) (pieces_of b words) 1,
         keeps,
         tt,
-        placed b s k words (length-set s.words p (ref + 1) ∙ k.size) g gp st ens pcs id v 1 at live,
+        placed b s k words (length-set s.words p (ref + 1) ∙ k.size) g gp st ens pcs id v v.made 1 (λ x h. h)
+            (none_put b s v.made (nodes_of b words) same_nodes) at live,
         (
           nodes_of b words,
           pieces_of b words,
           refl,
-          sees_all b s k (nodes_of b words) (pieces_of b words) g gp st pcs id v at live,
+          sees_all b s k (nodes_of b words) (pieces_of b words) g gp st pcs id v v.made (λ x h. h)
+              (none_put b s v.made (nodes_of b words) same_nodes) at live,
           (λ j. get_or (same_pieces j) (place j) 0)
               ∙ there,
         ),
@@ -316,6 +356,8 @@ may_split b id v live s k at = let i = k.seen id v at live in record {
   order = k.order;
   size = k.size;
   stored = k.stored;
+  put = λ p full. put_longer (set s.views id (stepped v)) (another v ∷ []) (get_or (nodes_of b s.words) p 0)
+      (put_set s.views id v (stepped v) (get_or (nodes_of b s.words) p 0) at live (λ h. h) (k.put p full));
   entries = k.entries;
   pieces = k.pieces;
   seen = λ j u e alive. ⊎_elim
@@ -368,6 +410,8 @@ may_join b id other v w live live' s k at ne at' =
       order = k.order;
       size = k.size;
       stored = k.stored;
+      put = λ p full. put_joined s.views id other v w (informed v w) spent (get_or (nodes_of b s.words) p 0) at at_old live ne
+          (has_front v.made w.made (get_or (nodes_of b s.words) p 0)) (has_back v.made w.made (get_or (nodes_of b s.words) p 0)) (k.put p full);
       entries = k.entries;
       pieces = k.pieces;
       seen = each_set P (set s.views id (informed v w)) other spent

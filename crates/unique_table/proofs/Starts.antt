@@ -65,6 +65,7 @@ module _ (b : Plan) (n : ℕ) (order : IsOrder (levels_of b) (order_of b)) (size
       unequal = λ p q full same. absurd (full (no_node p));
       reached = λ p full. absurd (full (no_node p));
     };
+    put = λ p full. absurd (full (no_node p));
     entries = λ c low full. absurd (full (blank n (b.places + c)));
     pieces = λ q full. absurd (full (no_piece q));
     seen = seats;

@@ -27,6 +27,7 @@ knowledge s = let v = s.seat.me.0 in
           record { table = s.seat.table_id; plan = v.plan };
       stake = v.stake;
       seen = v.seen;
+      made = v.made;
       pieces = v.pieces;
       steps = v.steps;
       writes = v.writes;

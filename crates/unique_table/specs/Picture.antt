@@ -1,8 +1,10 @@
 -- The picture of a store: what is so between any two steps, and what the steps tell.
 --     StoreState, moved s words id v      the words and the views of all seats, and what a step makes of them
---     IsKept b s      the rule: nodes, meaning, what sessions know, and their stakes
+--     IsPut views w      a seat put the word of a node, or comes from one that did
+--     IsKept b s      the rule: nodes and who put them, meaning, what sessions know, and their stakes
 --     looks, puts, publishes, collects, recalls, remembers      the kinds of steps
-use Rattle.std.specs.Prelude.{◌≡◌, ◌≢◌, ℕ, ◌+◌, ◌-◌, ◌<◌, ◌≤◌, true, false, List, [], length, slice_index, slice_set, take, drop}
+use Rattle.std.specs.Prelude.{◌≡◌, ◌≢◌, ℕ, ◌+◌, ◌-◌, ◌<◌, ◌≤◌, true, false, List, [], ◌∷◌, ◌++◌, length, slice_index, slice_set, take, drop}
+use Rattle.std.specs.List.{Contains}
 use mathlib.Core.Option.{some}
 use lib.ListN.{get_elem?}
 use Rattle.atomic_table.specs.Table.{State, Me, Step}
@@ -43,6 +45,14 @@ abbrev pub ArePieces : Plan → List ℕ → List ℕ → Type 0
 ArePieces b nodes pieces = (q : ℕ) → slice_index pieces q ≢ 0 →
     Denotes (order_of b) nodes (slice_index pieces q - 1) (piece_function b q)
 
+-- the words that were put have each word of a list that is filled
+abbrev pub AreMade : List ℕ → List ℕ → Type 0
+AreMade made ws = (p : ℕ) → slice_index ws p ≢ 0 → Contains made (slice_index ws p)
+
+-- a seat put the word, or comes from one that did
+abbrev pub IsPut : List View → ℕ → Type 0
+IsPut views w = (i : ℕ) × (v : View) × (get_elem? views i ≡ some v) × (v.live ≡ true) × Contains v.made w
+
 -- what a session saw of the words is so in them, and is a list of nodes by itself; it has some stake, and with the whole it
 -- knows all pieces
 pub record IsSeen (b : Plan) (ws ps : List ℕ) (v : View) : Type 0 where
@@ -63,6 +73,7 @@ pub record IsKept (b : Plan) (s : StoreState) : Type 0 where
   pub order : IsOrder (levels_of b) (order_of b)
   pub size : length s.words ≡ b.places + b.entries + b.pieces
   pub stored : AreStored (levels_of b) b.places (nodes_of b s.words)
+  pub put : (p : ℕ) → slice_index (nodes_of b s.words) p ≢ 0 → IsPut s.views (slice_index (nodes_of b s.words) p)
   pub entries : AreEntries b (nodes_of b s.words) s.words
   pub pieces : ArePieces b (nodes_of b s.words) (pieces_of b s.words)
   pub seen : (i : ℕ) (v : View) → get_elem? s.views i ≡ some v → v.live ≡ true →
@@ -78,11 +89,34 @@ newcomer b = record {
   plan = b;
   seen = [];
   told = [];
+  made = [];
   pieces = [];
   pieces_told = [];
   steps = 0;
   writes = 0;
 }
+
+-- a view that has put these words
+abbrev pub having : List ℕ → View → View
+having made v =
+    record {
+      live =
+          v.live;
+      current = v.current;
+      stake = v.stake;
+      plan = v.plan;
+      seen = v.seen;
+      told = v.told;
+      made = made;
+      pieces = v.pieces;
+      pieces_told = v.pieces_told;
+      steps = v.steps;
+      writes = v.writes;
+    }
+
+-- a view that has put one more word
+abbrev pub putting : ℕ → View → View
+putting w v = having (w ∷ v.made) v
 
 -- after a step in which all words were seen as ws and pieces, and which wrote `wrote` of them
 abbrev pub sees : View → List ℕ → List ℕ → ℕ → View
@@ -95,6 +129,7 @@ sees v ws pieces wrote =
       plan = v.plan;
       seen = ws;
       told = [];
+      made = v.made;
       pieces = pieces;
       pieces_told = [];
       steps = v.steps + 1;
@@ -113,6 +148,7 @@ stepped v =
           v.plan;
       seen = v.seen;
       told = v.told;
+      made = v.made;
       pieces = v.pieces;
       pieces_told = v.pieces_told;
       steps = v.steps + 1;
@@ -128,13 +164,14 @@ another v = record {
   plan = v.plan;
   seen = v.seen;
   told = [];
+  made = v.made;
   pieces = v.pieces;
   pieces_told = [];
   steps = 0;
   writes = 0;
 }
 
--- v is told what w saw; the stakes, steps and writes of both are added
+-- v is told what w saw, and has what w put; the stakes, steps and writes of both are added
 abbrev pub informed : View → View → View
 informed v w =
     record {
@@ -148,6 +185,7 @@ informed v w =
           v.seen;
       told =
           w.seen;
+      made = v.made ++ w.made;
       pieces = v.pieces;
       pieces_told = w.pieces;
       steps = v.steps + w.steps + 1;
@@ -174,6 +212,7 @@ spent = record {
   plan = no_plan;
   seen = [];
   told = [];
+  made = [];
   pieces = [];
   pieces_told = [];
   steps = 0;
@@ -183,7 +222,7 @@ spent = record {
 abbrev Seated : Type 0
 Seated = Me (Unit {0}) View
 
--- the words were then such lists
+-- the words were then such lists; a seat with the whole put each node
 pub record Sees (v : View) (ws ps : List ℕ) : Type 0 where
   pub size : length ws ≡ v.plan.places
   pub nodes : AreNodes (levels_of v.plan) ws
@@ -193,6 +232,7 @@ pub record Sees (v : View) (ws ps : List ℕ) : Type 0 where
   pub told : Grows v.told ws
   pub pieces_grow : Grows v.pieces ps
   pub pieces_told : Grows v.pieces_told ps
+  pub made : IsWhole v.stake → AreMade v.made ws
 
 -- a step after which the words are ws and pieces, and which wrote `wrote` of them
 abbrev pub Goes : Seated → Seated → ℕ → (List ℕ → List ℕ → Type 0) → Type 0
@@ -205,7 +245,7 @@ looks st m n m' = Goes m m' 0 (λ ws pieces. st.word < m.0.plan.places → slice
 
 -- one try to fill an empty node place: the session sees what stands there afterwards
 abbrev pub puts : Step (Unit {0}) → Seated → ℕ → Seated → Type 0
-puts st m n m' = (n ≡ 0 → Goes m m' 1 (λ ws pieces. slice_index ws st.word ≡ st.second))
+puts st m n m' = (n ≡ 0 → Goes (putting st.second m.0, m.1) m' 1 (λ ws pieces. slice_index ws st.word ≡ st.second))
     × (n ≢ 0 → Goes m m' 0 (λ ws pieces. slice_index ws st.word ≡ n))
 
 -- a store to a piece word, and a load of one: the session sees the piece

@@ -8,10 +8,13 @@
 --     HasLevels s      no id that a session knows lies below the terminals
 --     HasPiece s q id      the session knows that the piece has the id
 --     IsAlone s, AloneStaysAlone      no other session of the store is left, and it stays so
+--     MadeAll s      a session that is alone made each node that it knows, or comes from sessions that did
+--     GainsOnly made made' w      no word was made but w
 --     Follows s s'      a session goes on: what it knew it still knows
 --     MakesStep s s' wrote      a session goes on by one step
 --     HasParts s id parts      the level and the children of a node
-use Rattle.std.specs.Prelude.{◌≡◌, ◌≢◌, ℕ, ◌+◌, ◌-◌, ◌<◌, ◌≤◌, List, slice_index}
+use Rattle.std.specs.Prelude.{◌≡◌, ◌≢◌, ℕ, ◌+◌, ◌-◌, ◌<◌, ◌≤◌, ◌⊎◌, List, slice_index}
+use Rattle.std.specs.List.{Contains}
 use Rattle.atomic_table.specs.Seated.{TableId}
 use Rattle.order_model.specs.Functions.{Point, Function}
 use Rattle.node_words.specs.declared.operation.Operation.{Operation}
@@ -23,18 +26,20 @@ use Rattle.unique_table.specs.declared.plan.Plan.{Plan}
 use Rattle.unique_table.specs.declared.session.Stake.{Stake}
 use Rattle.unique_table.specs.Plans.{order_of, levels_of, variable_at}
 use Rattle.unique_table.specs.Stakes.{IsWhole, IsNoLess}
+use Rattle.unique_table.specs.Picture.{AreMade}
 
 -- a store: which table it is, and what it is for
 pub record StoreId : Type 0 where
   pub table : TableId
   pub plan : Plan
 
--- a session: its store and its stake in it, the node words and piece words that it knows, and how many steps and writes it
--- made
+-- a session: its store and its stake in it, the node words and piece words that it knows, the node words that it put, or a
+-- session from which it comes, and how many steps and writes it made
 pub record Knowledge : Type 0 where
   pub store : StoreId
   pub stake : Stake
   pub seen : List ℕ
+  pub made : List ℕ
   pub pieces : List ℕ
   pub steps : ℕ
   pub writes : ℕ
@@ -83,6 +88,14 @@ HasPiece s q id = slice_index s.pieces q ≡ id + 1
 abbrev pub IsAlone : Knowledge → Type 0
 IsAlone s = IsWhole s.stake
 
+-- the node words that a session knows were all put by it, or by sessions from which it comes, if no other is left
+abbrev pub MadeAll : Knowledge → Type 0
+MadeAll s = IsAlone s → AreMade s.made s.seen
+
+-- no word was put but w
+abbrev pub GainsOnly : List ℕ → List ℕ → ℕ → Type 0
+GainsOnly made made' w = (x : ℕ) → Contains made' x → (x ≡ w) ⊎ Contains made x
+
 -- a session goes on: it knows all that it knew and has no smaller stake, and ids keep their functions and levels
 pub record Follows (s s' : Knowledge) : Type 0 where
   pub store : s'.store ≡ s.store
@@ -102,6 +115,7 @@ AloneStaysAlone = (s s' : Knowledge) → Follows s s' → IsAlone s → IsAlone 
 pub record MakesStep (s s' : Knowledge) (wrote : ℕ) : Type 0 where
   pub follows : Follows s s'
   pub stake : s'.stake ≡ s.stake
+  pub made : s'.made ≡ s.made
   pub steps : s'.steps ≡ s.steps + 1
   pub writes : s'.writes ≡ s.writes + wrote
 

@@ -5,15 +5,17 @@ use Rattle.std.specs.Prelude.{◌≡◌, ℕ, ◌+◌, ◌≤◌, true, length}
 use Rattle.node_words.specs.Nodes.{AreNodes, AreUnequal, Grows}
 use Rattle.unique_table.specs.declared.session.View.{View}
 use Rattle.unique_table.specs.Plans.{levels_of}
-use Rattle.unique_table.specs.Picture.{ArePieces}
+use Rattle.unique_table.specs.Stakes.{IsWhole}
+use Rattle.unique_table.specs.Picture.{ArePieces, AreMade}
 
--- what was seen is a list of nodes by itself, with the pieces that were seen
+-- what was seen is a list of nodes by itself, with the pieces that were seen; with the whole it was all put
 pub record IsGood (v : View) : Type 0 where
   pub live : v.live ≡ true
   pub size : length v.seen ≤ v.plan.places
   pub nodes : AreNodes (levels_of v.plan) v.seen
   pub unequal : AreUnequal v.seen
   pub are_pieces : ArePieces v.plan v.seen v.pieces
+  pub made : v.current ≡ true → IsWhole v.stake → AreMade v.made v.seen
 
 -- a view after a step that wrote `wrote` words
 pub record After (v v' : View) (wrote : ℕ) : Type 0 where
@@ -21,6 +23,7 @@ pub record After (v v' : View) (wrote : ℕ) : Type 0 where
   pub current : v'.current ≡ true
   pub plan : v'.plan ≡ v.plan
   pub stake : v'.stake ≡ v.stake
+  pub made : v'.made ≡ v.made
   pub nodes : Grows v.seen v'.seen
   pub pieces : Grows v.pieces v'.pieces
   pub told : Grows v.told v'.seen

@@ -33,9 +33,10 @@ pub struct Stake {
 }
 
 /// The words of nodes and of pieces as they were seen, those that another session saw that was
-/// joined into this one, the stake in the store, and how many steps and writes were made. It isn't
-/// live if the session was joined into another, and it isn't current if another was joined into it
-/// and no step followed. No value of it is made.
+/// joined into this one, the words of nodes that it put, or a session that it comes from, the stake
+/// in the store, and how many steps and writes were made. It isn't live if the session was joined
+/// into another, and it isn't current if another was joined into it and no step followed. No value
+/// of it is made.
 pub struct View {
     pub live: bool,
     pub current: bool,
@@ -43,6 +44,7 @@ pub struct View {
     pub plan: Plan,
     pub seen: [u64; 0],
     pub told: [u64; 0],
+    pub made: [u64; 0],
     pub pieces: [u64; 0],
     pub pieces_told: [u64; 0],
     pub steps: u64,

@@ -1,12 +1,12 @@
 //! The store and what its sessions do.
 
-ghost use Rattle.std.specs.Prelude.{◌≡◌, ◌*◌, ◌<◌, ◌≤◌, [], length, IfOk, ◌+◌, ◌==◌, ◌↔◌, OnErr, IfSome, IfNone, IsNone, ℕ, slice_index, ◌-◌, IfErr};
+ghost use Rattle.std.specs.Prelude.{◌≡◌, ◌*◌, ◌<◌, ◌≤◌, [], ◌++◌, length, IfOk, ◌+◌, ◌==◌, ◌↔◌, OnErr, IfSome, IfNone, IsNone, ℕ, slice_index, ◌-◌, IfErr};
 ghost use Rattle.unique_table.specs.Plans.{AreGivenBy, IsPlanFor, IsPlan, order_of, levels_of, variable_at, piece_function};
 ghost use Rattle.order_model.specs.Problems.{functions};
 ghost use Rattle.order_model.specs.Functions.{Point};
-ghost use Rattle.node_words.specs.Nodes.{node_word, IsFullFor, IsIdOf};
+ghost use Rattle.node_words.specs.Nodes.{node_word, AreNodes, AreUnequal, IsFullFor, IsIdOf};
 ghost use Rattle.node_words.specs.Meaning.{branch};
-ghost use Rattle.unique_table.specs.Sessions.{Knows, IsKnownBelow, Means, Follows, MakesStep, HasParts, HasUniqueIds, HasLevels, LiesNoHigher, combined_in, function_in, depth_in, HasPiece};
+ghost use Rattle.unique_table.specs.Sessions.{Knows, IsKnownBelow, Means, Follows, MakesStep, HasParts, HasUniqueIds, HasLevels, MadeAll, GainsOnly, LiesNoHigher, combined_in, function_in, depth_in, HasPiece};
 ghost use Rattle.order_model.specs.Diagrams.{Represents, IsReduced};
 ghost use Rattle.unique_table.specs.Stakes.{whole, half, joined};
 ghost use Rattle.unique_table.specs.Closing.{IsLast, Lacks};
@@ -66,7 +66,7 @@ impl Store {
         ensures plan { IfOk result (λ r. IsPlanFor r.0.plan order problem.now pieces.entry) }
         ensures session { IfOk result
             (λ r. r.1 ≡
-            record { store = r.0; stake = whole; seen = []; pieces = []; steps = 0; writes = 0 }) }
+            record { store = r.0; stake = whole; seen = []; made = []; pieces = []; steps = 0; writes = 0 }) }
     {
         let kind = kind_of(alloc, pieces)?;
         let places = node_places();
@@ -128,12 +128,17 @@ impl Store {
         self.entries
     }
 
-    /// What holds of each session of the store: ids are equal if they denote the same function, and
-    /// no id lies below the terminals.
+    /// What holds of each session of the store. Its words are nodes, no two of them equal, so ids
+    /// are equal if they denote the same function, and no id lies below the terminals. A session
+    /// that is alone made all nodes that it knows.
     pub fn canonical_ids(&self, session: &Session)
         requires { session.now.store ≡ self.now }
         ensures unique { HasUniqueIds session.now }
         ensures levels { HasLevels session.now }
+        ensures nodes { AreNodes (levels_of self.now.plan) session.now.seen }
+        ensures unequal { AreUnequal session.now.seen }
+        ensures size { length session.now.seen ≤ self.now.plan.places }
+        ensures made { MadeAll session.now }
     {
         let _table = &self.table;
         let _seat = &session.seat;
@@ -159,6 +164,7 @@ impl Store {
             (branch (variable_at self.now.plan level) (function_in session.new low)
             (function_in session.new high))) }
         ensures level { IfOk result (λ id. level ≤ depth_in session.new id) }
+        ensures made { GainsOnly session.old.made session.new.made (node_word level low high) }
         ensures unique { HasUniqueIds session.new }
         ensures stake { session.new.stake ≡ session.old.stake }
         ensures full { OnErr result
@@ -187,6 +193,7 @@ impl Store {
         ensures terminal { IsNone result ↔ (id < 2) }
         ensures constant { IfNone result ((p : Point) → function_in session.new id p ≡ (id == 1)) }
         ensures parts { IfSome result (λ parts. HasParts session.new id parts) }
+        ensures made { session.new.made ≡ session.old.made }
         ensures unique { HasUniqueIds session.new }
         ensures stake { session.new.stake ≡ session.old.stake }
         ensures steps { session.new.steps ≤ session.old.steps + 1 }
@@ -306,6 +313,7 @@ impl Store {
         ensures one { Follows one result }
         ensures two { Follows two result }
         ensures stake { result.stake ≡ joined one.stake two.stake }
+        ensures made { result.made ≡ one.made ++ two.made }
         ensures unique { HasUniqueIds result }
         ensures steps { result.steps ≡ one.steps + two.steps + 2 }
         ensures writes { result.writes ≡ one.writes + two.writes }

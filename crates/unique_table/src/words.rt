@@ -5,6 +5,8 @@ ghost use Rattle.node_words.specs.Nodes.{IsTaken, IsFullFor};
 ghost use Rattle.node_words.specs.Meaning.{Denotes};
 ghost use Rattle.node_words.specs.Entries.{IsEntry};
 ghost use Rattle.unique_table.specs.Plans.{order_of, piece_function};
+ghost use Rattle.unique_table.specs.Picture.{putting};
+ghost use Rattle.unique_table.specs.Sessions.{GainsOnly};
 ghost use Rattle.unique_table.specs.Views.{After, Gains};
 ghost use Rattle.unique_table.specs.Seats.{IsSeatOf, IsSeatAfter, IsNodePlace, IsEntryPlace, IsPiecePlace, IsNodeWord, MayPut};
 
@@ -32,7 +34,8 @@ fn put(shared: &Board, seat: &mut Seat<(), View>, place: usize, word: u64) -> u6
     requires { MayPut shared.now seat.old word place }
     ensures seat { IsSeatOf shared.now seat.new }
     ensures empty { result ≡ 0 →
-        After seat.old.me.0 seat.new.me.0 1 × (slice_index seat.new.me.0.seen place ≡ word) }
+        After (putting word seat.old.me.0) seat.new.me.0 1
+        × (slice_index seat.new.me.0.seen place ≡ word) }
     ensures full { result ≢ 0 →
         After seat.old.me.0 seat.new.me.0 0 × (slice_index seat.new.me.0.seen place ≡ result) }
 {
@@ -45,6 +48,7 @@ pub(crate) fn take(shared: &Board, seat: &mut Seat<(), View>, place: usize, word
     requires { MayPut shared.now seat.old word place }
     ensures seat { IsSeatOf shared.now seat.new }
     ensures gains { Gains seat.old.me.0 seat.new.me.0 }
+    ensures made { GainsOnly seat.old.me.0.made seat.new.me.0.made word }
     ensures found { MatchBool result (slice_index seat.new.me.0.seen place ≡ word)
         (IsTaken seat.new.me.0.seen word place) }
     ensures steps { seat.new.me.0.steps ≤ seat.old.me.0.steps + 2 }
@@ -127,6 +131,7 @@ pub(crate) fn find_or_put(
     requires word { IsNodeWord shared.now seat.old word }
     ensures seat { IsSeatOf shared.now seat.new }
     ensures gains { Gains seat.old.me.0 seat.new.me.0 }
+    ensures made { GainsOnly seat.old.me.0.made seat.new.me.0.made word }
     ensures found { IfSome result
         (λ place. (place < places) × (slice_index seat.new.me.0.seen place ≡ word)) }
     ensures full { IfNone result (IsFullFor seat.new.me.0.seen places word) }

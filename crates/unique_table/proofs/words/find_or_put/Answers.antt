@@ -3,6 +3,7 @@ use Rattle.node_words.specs.Nodes.{home}
 use Rattle.node_words.proofs.Growing.{grows_refl, node_grows}
 use Rattle.node_words.proofs.Making.{one_more, full_for}
 use Rattle.unique_table.specs.Plans.{levels_of}
+use Rattle.unique_table.proofs.Puts.{gains_none, gains_again}
 use Rattle.unique_table.proofs.Steps.{gains_both}
 use Rattle.unique_table.proofs.words.find_or_put.Goals as goal
 
@@ -17,6 +18,7 @@ loop-passed-init c = record {
     nodes = grows_refl c.args.seat.now.me.0.seen;
     pieces = grows_refl c.args.seat.now.me.0.pieces;
   };
+  made = gains_none c.args.seat.now.me.0.made c.args.seat.now.me.0.made c.args.word refl;
   word = c.requires.word;
   before = λ j none. absurd (omega arith);
   steps = omega arith;
@@ -27,6 +29,7 @@ pub loop-passed-preserved : goal.loop-passed-preserved
 loop-passed-preserved c = let i = c.loop-passed.invariant in record {
   seat = c.take.ensures.seat;
   gains = gains_both c.args.seat.now.me.0 c.loop-passed.seat.me.0 c.take.new.seat.me.0 i.gains c.take.ensures.gains;
+  made = gains_again c.args.seat.now.me.0.made c.loop-passed.seat.me.0.made c.take.new.seat.me.0.made c.args.word i.made c.take.ensures.made;
   word = record {
     some = i.word.some;
     node = node_grows (levels_of c.args.shared.now.key) c.loop-passed.seat.me.0.seen c.take.new.seat.me.0.seen c.args.word
@@ -44,3 +47,8 @@ returns-clause-full c =
     let within : home c.args.places c.args.word < c.args.places = subst (λ (z : ℕ). z < c.args.places) c.start-start.ensures.is c.start-start.ensures.within in
     full_for c.loop-passed.seat.me.0.seen c.args.places c.args.word c.loop-passed.passed within
     (let past = c.loop-passed-test.false in omega arith) c.loop-passed.invariant.before
+
+pub returns-then-take-clause-made : goal.returns-then-take-clause-made
+returns-then-take-clause-made c =
+    gains_again c.args.seat.now.me.0.made c.loop-passed.seat.me.0.made c.take.new.seat.me.0.made c.args.word
+    c.loop-passed.invariant.made c.take.ensures.made

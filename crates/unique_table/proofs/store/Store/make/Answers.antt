@@ -3,7 +3,7 @@ use Rattle.node_words.specs.Nodes.{node_word}
 use Rattle.node_words.proofs.Making.{makes}
 use Rattle.unique_table.specs.Sessions.{Knowledge, Follows, IsKnownBelow}
 use Rattle.unique_table.proofs.Following.{follows_refl}
-use Rattle.unique_table.proofs.Opened.{seated, word_ready, small_id, seat_of, few_levels, goes_on, made_means, unique_ids}
+use Rattle.unique_table.proofs.Opened.{seated, made_only, word_ready, small_id, seat_of, few_levels, goes_on, made_means, unique_ids}
 use Rattle.unique_table.proofs.store.Store.make.Goals as goal
 
 pub find_or_put-requires-clause-word : goal.find_or_put-requires-clause-word
@@ -72,3 +72,13 @@ returns-in_default-clause-unique c = unique_ids c.self.inside c.self.invariant c
 
 pub returns-clause-unique : goal.returns-clause-unique
 returns-clause-unique c = unique_ids c.self.inside c.self.invariant c.find_or_put.new.seat c.find_or_put.ensures.seat
+
+pub returns-in_default-clause-made : goal.returns-in_default-clause-made
+returns-in_default-clause-made c =
+    made_only c.session.inside c.args.session.now c.find_or_put.new.seat.me.0.made _ _ c.session.view_is
+    c.node_word-word.ensures c.find_or_put.ensures.made
+
+pub returns-clause-made : goal.returns-clause-made
+returns-clause-made c =
+    made_only c.session.inside c.args.session.now c.find_or_put.new.seat.me.0.made _ _ c.session.view_is
+    c.node_word-word.ensures c.find_or_put.ensures.made
