@@ -2,7 +2,7 @@
 use Rattle.std.proofs.Common.{◌≡◌, ◌≢◌, ℕ, zero, suc, ◌+◌, ◌-◌, ◌%◌, ◌<◌, ◌≤◌, ◌⊎◌, inl, inr, Some, Result, List, [], ◌∷◌, ◌++◌, length, slice_get, slice_index, refl, sym, ap, ◌∙◌, arith, subst}
 use Rattle.std.proofs.lemmas.Option.{slice_get_within}
 use Rattle.unique_table.specs.Sessions.{StoreId, Knowledge, Follows, HasPiece, depth_in}
-use Rattle.dd_builder.specs.Parts.{HasPart, HasShare, KnowsParts, IsEndOf, AreEndsOf, part_level}
+use Rattle.dd_builder.specs.Parts.{HasPart, HasShare, KnowsParts, part_level}
 use Rattle.std.proofs.lemmas.Bool.{cases_lt}
 
 -- ---- parts
@@ -87,13 +87,16 @@ front_end [] x k l = absurd (omega arith)
 front_end (y ∷ ys) x zero l = refl
 front_end (y ∷ ys) x (suc k) l = front_end ys x k (omega arith)
 
-pub ends_last : (store : StoreId) (workers : ℕ) (items front : List (Result Knowledge Knowledge)) (end : Result Knowledge Knowledge) →
-    items ≡ front ++ end ∷ [] → AreEndsOf store workers items → IsEndOf store workers (length front) end
-ends_last store workers items front end e h = h (length front) end (ap (λ xs. slice_get xs (length front)) e ∙ last_end front end)
+abbrev pub End : Type 0
+End = Result Knowledge Knowledge
 
-pub ends_front : (store : StoreId) (workers : ℕ) (items front : List (Result Knowledge Knowledge)) (end : Result Knowledge Knowledge) →
-    items ≡ front ++ end ∷ [] → AreEndsOf store workers items → AreEndsOf store workers front
-ends_front store workers items front end e h = λ k x at. h k x (ap (λ xs. slice_get xs k) e ∙ (front_end front end k (slice_get_within front k x at) ∙ at))
+-- what holds of each end holds of the last one and of those before it
+module _ (P : ℕ → End → Type 0) (items front : List End) (end : End) (e : items ≡ front ++ end ∷ []) (h : (k : ℕ) (x : End) → slice_get items k ≡ Some x → P k x) where
+  pub ends_last : P (length front) end
+  ends_last = h (length front) end (ap (λ xs. slice_get xs (length front)) e ∙ last_end front end)
+
+  pub ends_front : (k : ℕ) (x : End) → slice_get front k ≡ Some x → P k x
+  ends_front k x at = h k x (ap (λ xs. slice_get xs k) e ∙ (front_end front end k (slice_get_within front k x at) ∙ at))
 
 -- ---- the union of shares
 

@@ -3,7 +3,7 @@
 --     means_same      an id denotes each function of the same values
 --     makes_same, makes_node      a call makes the id of each function of the same values; a node that is made
 --     function_zero, function_one      the functions of the terminals
-use Rattle.std.proofs.Common.{◌≡◌, ℕ, ◌<◌, true, false, Result, Ok, Err, IfOk, OnErr, length, refl, ◌∙◌, subst, arith}
+use Rattle.std.proofs.Common.{◌≡◌, ℕ, ◌<◌, true, false, Result, Ok, Err, IfOk, IfErr, OnErr, length, refl, ◌∙◌, subst, arith}
 use Rattle.order_model.specs.Functions.{Point, Function, SameFunction}
 use Rattle.node_words.specs.Nodes.{IsFullFor}
 use Rattle.node_words.specs.Meaning.{function_of}
@@ -59,6 +59,11 @@ terminal_depth s id low = depth_terminal (levels_of s.store.plan) s.seen id low
 pub ok_same : {A E : Type 0} (P Q : A → Type 0) (r : Result A E) → IfOk r P → ((x : A) → P x → Q x) → IfOk r Q
 ok_same P Q (Ok x) p h = h x p
 ok_same P Q (Err e) p h = tt
+
+-- and what it has, if it is an error
+pub err_same : {A E : Type 0} (P Q : E → Type 0) (r : Result A E) → IfErr r P → ((x : E) → P x → Q x) → IfErr r Q
+err_same P Q (Ok x) p h = tt
+err_same P Q (Err e) p h = h e p
 
 -- a session went on, and then made an id that denotes g if it denotes f
 pub makes_same : (s1 s2 s3 : Knowledge) (r : Result ℕ StoreFull) (f g : Function) → Follows s1 s2 → Makes s2 s3 r f →

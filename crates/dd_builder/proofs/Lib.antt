@@ -8,3 +8,9 @@ pub mod Shares
 pub mod Ends
 pub mod Unions
 pub mod Covers
+pub mod Counting
+pub mod Ranks
+pub mod Bound
+pub mod Keeping
+pub mod Halves
+pub mod Fullness

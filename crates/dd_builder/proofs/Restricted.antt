@@ -47,6 +47,19 @@ output_leaf s order level path point id output t b same is past at value termina
     ap (λ xs. fixed xs path (from_table (table_at t output)) p) (take_all level order past)
     ∙ (fixed_point order is path point (table_at t output) p at (l ∙ ap length same) ∙ sym value)))
 
+-- the branch of two functions in which one more variable is fixed
+pub restricted_same : (store : StoreId) (s3 : Knowledge) (level path low high : ℕ) (f : Function) → s3.store ≡ store →
+    IsOrder (levels_of store.plan) (order_of store.plan) → level < levels_of store.plan → path < 2 ^ level →
+    Means s3 low (fixed (take (level + 1) (order_of store.plan)) path f) →
+    Means s3 high (fixed (take (level + 1) (order_of store.plan)) (path + 2 ^ level) f)
+    → (p : Point) → length p ≡ levels_of s3.store.plan →
+    branch (variable_at store.plan level) (function_in s3 low) (function_in s3 high) p ≡ fixed (take level (order_of store.plan)) path f p
+restricted_same store s3 level path low high f here is inside small l3 u3 p l =
+    branch_same (variable_at store.plan level) (function_in s3 low) (function_in s3 high)
+    (fixed (take (level + 1) (order_of store.plan)) path f) (fixed (take (level + 1) (order_of store.plan)) (path + 2 ^ level) f) p
+    (means_at s3 low _ p l3 l) (means_at s3 high _ p u3 l)
+    ∙ fixed_step (order_of store.plan) level path f p is.once inside small
+
 -- a node above two functions in which one more variable is fixed
 pub restricted_node : (store : StoreId) (s1 s2 s3 : Knowledge) (level path low high id : ℕ) (f : Function) → s1.store ≡ store →
     Follows s1 s2 → Follows s2 s3 → IsOrder (levels_of store.plan) (order_of store.plan)
@@ -59,10 +72,7 @@ restricted_node store s1 s2 s3 level path low high id f same f12 f23 is inside s
     let u3 : Means s3 high (fixed (take (level + 1) (order_of store.plan)) (path + 2 ^ level) f) = f23.means high _ mu in
     let here : s3.store ≡ store = f23.store ∙ (f12.store ∙ same) in
     means_same s3 id (branch (variable_at store.plan level) (function_in s3 low) (function_in s3 high)) (fixed (take level (order_of store.plan)) path f) m
-    (λ p l. branch_same (variable_at store.plan level) (function_in s3 low) (function_in s3 high)
-    (fixed (take (level + 1) (order_of store.plan)) path f) (fixed (take (level + 1) (order_of store.plan)) (path + 2 ^ level) f) p
-    (means_at s3 low _ p l3 l) (means_at s3 high _ p u3 l)
-    ∙ fixed_step (order_of store.plan) level path f p is.once inside small)
+    (restricted_same store s3 level path low high f here is inside small l3 u3)
 
 -- the program's path of the high one
 pub path_up : (width level path k : ℕ) → level < width → k ≡ path + 1 * 2 ^ level % 2 ^ width → k ≡ path + 2 ^ level

@@ -1,9 +1,9 @@
 -- Building the reduced diagram of some functions.
 --     KnowsFull s      a session knows all places of its store to be filled
---     Refuses store e, RefusesUnder order t e      why a build gives no diagram: in a store, or in some store of an order for truth tables
+--     Refuses store e, IsOutOfMemory e      why a build gives no diagram in a store; for want of memory
 --     IsForTables b t, IsForCover b cover      what a store was made for
 --     IsDiagramFor b d      the reduced diagram of a store's functions
-use Rattle.std.specs.Prelude.{◌≡◌, ◌≢◌, ℕ, ◌<◌, List, map, slice_index}
+use Rattle.std.specs.Prelude.{◌≡◌, ◌≢◌, ℕ, ◌<◌, map, slice_index}
 use Rattle.order_model.specs.OrderedGraphs.{OrderedGraph}
 use Rattle.order_model.specs.Problems.{TruthTables, functions, outputs_of}
 use Rattle.order_model.specs.Products.{product_of}
@@ -12,7 +12,7 @@ pub use Rattle.truth_table.specs.Reduced.{HasLevelCounts, IsDiagramOf}
 use Rattle.unique_table.specs.declared.plan.Plan.{Plan}
 use Rattle.unique_table.specs.declared.plan.PieceKind.{PieceKind}
 use Rattle.unique_table.specs.declared.plan.PieceKind.TheVariants.{Restrictions, Products}
-use Rattle.unique_table.specs.Plans.{IsPlan, order_of, levels_of}
+use Rattle.unique_table.specs.Plans.{order_of, levels_of}
 use Rattle.unique_table.specs.Sessions.{StoreId, Knowledge}
 use Rattle.dd_builder.specs.declared.errors.BuildError.{BuildError}
 use Rattle.dd_builder.specs.declared.errors.BuildError.TheVariants.{StoreFull, OutOfMemory}
@@ -26,6 +26,11 @@ abbrev pub Refuses : StoreId → BuildError → Type 0
 Refuses store (StoreFull s) = (s.store ≡ store) × KnowsFull s
 Refuses store OutOfMemory = Unit {0}
 
+-- no store was full
+abbrev pub IsOutOfMemory : BuildError → Type 0
+IsOutOfMemory (StoreFull s) = ⊥
+IsOutOfMemory OutOfMemory = Unit {0}
+
 -- the parts are restrictions of the outputs
 abbrev pub AreRestrictions : PieceKind → Type 0
 AreRestrictions Restrictions = Unit {0}
@@ -35,12 +40,6 @@ AreRestrictions (Products terms) = ⊥
 pub record IsForTables (b : Plan) (t : TruthTables) : Type 0 where
   pub kind : AreRestrictions b.kind
   pub problem : b.problem.value ≡ t
-
--- the same as of a store, of some store of the order that was made for the truth tables
-abbrev pub RefusesUnder : List ℕ → TruthTables → BuildError → Type 0
-RefusesUnder order t (StoreFull s) = IsPlan s.store.plan × IsForTables s.store.plan t × (order_of s.store.plan ≡ order)
-    × KnowsFull s
-RefusesUnder order t OutOfMemory = Unit {0}
 
 -- the parts are made of terms that stand for the cover's products
 abbrev pub AreProductsOf : NamedCover → PieceKind → Type 0

@@ -4,3 +4,4 @@ pub mod Parts
 pub mod Operating
 pub mod Paths
 pub mod Literals
+pub mod Subfunctions

@@ -6,7 +6,12 @@
 --     AreJobsOf store workers jobs      a job for each worker
 --     HasShare s workers k, IsEndOf store workers k end, AreEndsOf store workers ends      what a worker builds, and how workers end
 --     IsJoined store end      how all workers together end
-use Rattle.std.specs.Prelude.{◌≡◌, ◌≢◌, ℕ, ◌+◌, ◌*◌, ◌%◌, ◌<◌, ◌≤◌, Some, Result, Ok, Err, List, length, slice_index, slice_get}
+--     KeepsFrom source s s', Continues source s s'      a session that builds from a source; from tables it makes nodes of subfunctions alone
+--     HasHalf from k s, AreHalves from workers jobs      sessions that know what another knew, with shares of its stake
+--     IsShareOf source from k s, AreSharesOf source from workers ends      sessions that go on from these
+--     IsOpened end s full, session_of end      the session of an end
+--     MayBeFull source from e      from tables the only session that made nodes of subfunctions alone meets no full store
+use Rattle.std.specs.Prelude.{◌≡◌, ◌≢◌, ℕ, ◌+◌, ◌*◌, ◌%◌, ◌<◌, ◌≤◌, nat_lt, if◌then◌else◌, Bool, MatchBool, Some, Result, Ok, Err, List, length, slice_index, slice_get}
 use Rattle.std.specs.List.{list_any, range_with_len}
 use Rattle.order_model.specs.declared.terms.Term.{Term}
 use Rattle.order_model.specs.Functions.{Function}
@@ -15,11 +20,16 @@ use Rattle.unique_table.specs.declared.plan.Plan.{Plan}
 use Rattle.unique_table.specs.declared.plan.PieceKind.{PieceKind}
 use Rattle.unique_table.specs.declared.plan.PieceKind.TheVariants.{Restrictions, Products}
 use Rattle.unique_table.specs.Plans.{order_of, products_of, tops, piece_function}
-use Rattle.unique_table.specs.Sessions.{StoreId, Knowledge, HasPiece, Knows, depth_in}
+use Rattle.unique_table.specs.declared.session.Stake.{Stake}
+use Rattle.unique_table.specs.Sessions.{StoreId, Knowledge, Follows, HasPiece, Knows, IsAlone, depth_in}
+use Rattle.unique_table.specs.Stakes.{IsNoLess}
 use Rattle.dd_builder.specs.declared.parts.Source.{Source}
 use Rattle.dd_builder.specs.declared.parts.Source.TheVariants.{Tables, Terms}
 use Rattle.dd_builder.specs.declared.workers.Job.{Job}
+use Rattle.dd_builder.specs.declared.errors.BuildError.{BuildError}
+use Rattle.dd_builder.specs.declared.errors.BuildError.TheVariants.{StoreFull, OutOfMemory}
 use Rattle.dd_builder.specs.Building.{KnowsFull, IsForTables}
+use Rattle.dd_builder.specs.Subfunctions.{KeepsSubfunctions, MadeSubfunctions}
 
 -- the parts are made of terms
 abbrev pub AreOfTerms : PieceKind → Type 0
@@ -69,11 +79,46 @@ unfoldable pub shares_union : Plan → ℕ → ℕ → ℕ → Function
 shares_union b output first count p = list_any (λ share. piece_function b (output * 64 + share) p)
     (range_with_len first count)
 
+-- from tables a session makes nodes of subfunctions alone
+abbrev pub KeepsFrom : Source → Knowledge → Knowledge → Type 0
+KeepsFrom (Tables tables) s s' = KeepsSubfunctions s s'
+KeepsFrom (Terms terms) s s' = Unit {0}
+
+-- a session that goes on in building from a source
+pub record Continues (source : Source) (s s' : Knowledge) : Type 0 where
+  pub follows : Follows s s'
+  pub kept : KeepsFrom source s s'
+
+-- a stake that was halved k times
+abbrev pub halved : ℕ → Stake → Stake
+halved k s = record { units = s.units; halvings = s.halvings + k }
+
+-- how often a stake is halved for worker k + 1: once for each worker so far, but the last one has the rest
+abbrev pub halvings_for : ℕ → ℕ → ℕ
+halvings_for workers k = if nat_lt (k + 1) workers then k + 1 else k
+
+-- a session that knows what another knew, whose stake was halved k times
+pub record HasHalf (from : Knowledge) (k : ℕ) (s : Knowledge) : Type 0 where
+  pub store : s.store ≡ from.store
+  pub stake : s.stake ≡ halved k from.stake
+  pub seen : s.seen ≡ from.seen
+  pub made : s.made ≡ from.made
+
+-- a session that has no less than a stake halved k times, and goes on from another in building from a source
+pub record IsShareOf (source : Source) (from : Knowledge) (k : ℕ) (s : Knowledge) : Type 0 where
+  pub stake : IsNoLess (halved k from.stake) s.stake
+  pub kept : KeepsFrom source from s
+
 -- a job for each worker, in their order, each with a session of the store
 pub record AreJobsOf (store : StoreId) (workers : ℕ) (jobs : List Job) : Type 0 where
   pub count : length jobs ≡ workers
   pub sessions : (k : ℕ) (job : Job) → slice_get jobs k ≡ Some job → job.session.store ≡ store
   pub numbers : (k : ℕ) (job : Job) → slice_get jobs k ≡ Some job → job.worker ≡ k + 1
+
+-- each job's session has a share of another's stake
+abbrev pub AreHalves : Knowledge → ℕ → List Job → Type 0
+AreHalves from workers jobs = (k : ℕ) (job : Job) → slice_get jobs k ≡ Some job →
+    HasHalf from (halvings_for workers k) job.session
 
 -- the session knows the parts whose number leaves k when divided by the number of workers
 abbrev pub HasShare : Knowledge → ℕ → ℕ → Type 0
@@ -89,7 +134,27 @@ abbrev pub AreEndsOf : StoreId → ℕ → List (Result Knowledge Knowledge) →
 AreEndsOf store workers ends = (k : ℕ) (end : Result Knowledge Knowledge) → slice_get ends k ≡ Some end →
     IsEndOf store workers k end
 
+-- the session of an end
+abbrev pub session_of : Result Knowledge Knowledge → Knowledge
+session_of (Ok s) = s
+session_of (Err s) = s
+
+-- the session of an end, and whether it met a full store
+abbrev pub IsOpened : Result Knowledge Knowledge → Knowledge → Bool → Type 0
+IsOpened end s full = MatchBool full (end ≡ Err s) (end ≡ Ok s)
+
+-- the ends' sessions have their shares
+abbrev pub AreSharesOf : Source → Knowledge → ℕ → List (Result Knowledge Knowledge) → Type 0
+AreSharesOf source from workers ends = (k : ℕ) (end : Result Knowledge Knowledge) → slice_get ends k ≡ Some end →
+    IsShareOf source from (halvings_for workers k) (session_of end)
+
 -- how all workers together end: with all parts, or one of them knowing that the store is full
 abbrev pub IsJoined : StoreId → Result Knowledge Knowledge → Type 0
 IsJoined store (Ok s) = KnowsParts store s
 IsJoined store (Err s) = (s.store ≡ store) × KnowsFull s
+
+-- the only session that made nodes of subfunctions alone meets no full store in building from tables
+abbrev pub MayBeFull : Source → Knowledge → BuildError → Type 0
+MayBeFull (Tables tables) from (StoreFull s) = IsAlone from → MadeSubfunctions from → ⊥
+MayBeFull (Tables tables) from OutOfMemory = Unit {0}
+MayBeFull (Terms terms) from e = Unit {0}

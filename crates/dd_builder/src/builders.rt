@@ -1,13 +1,14 @@
 //! Reduced diagrams, built by several workers.
 
-ghost use Rattle.std.specs.Prelude.{◌≡◌, ◌-◌, ◌≤◌, length, IfOk, IfErr};
+ghost use Rattle.std.specs.Prelude.{◌≡◌, ◌-◌, ◌≤◌, length, vec_len, IfOk, IfErr};
 ghost use Rattle.std.specs.Thread.{IsSync};
 ghost use Rattle.order_model.specs.Problems.{functions};
 ghost use Rattle.unique_table.specs.Plans.{order_of};
-ghost use Rattle.dd_builder.specs.Building.{Refuses, RefusesUnder, IsDiagramOf, IsDiagramFor, IsForTables, IsForCover};
+ghost use Rattle.dd_builder.specs.Building.{Refuses, IsOutOfMemory, IsDiagramOf, IsDiagramFor, IsForTables, IsForCover};
 ghost use Rattle.truth_table.specs.OfCovers.{AreTablesOf};
 ghost use Rattle.pla_reader.specs.Covers.{functions_of};
-ghost use Rattle.dd_builder.specs.Parts.{IsSourceFor, KnowsParts, IsEndOf};
+ghost use Rattle.dd_builder.specs.Parts.{IsSourceFor, Continues, IsShareOf, AreSharesOf, KnowsParts, IsEndOf, AreEndsOf, MayBeFull, session_of};
+ghost use Rattle.dd_builder.specs.Subfunctions.{IsFresh};
 
 use crate::errors::BuildError;
 use crate::laws::{orders_have_each_variable_once, stores_have_plans};
@@ -34,10 +35,12 @@ fn finish(
     requires source { IsSourceFor store.plan source }
     ensures diagram { IfOk result (IsDiagramFor store.plan) }
     ensures refused { IfErr result (Refuses store) }
+    ensures full { IfErr result (MayBeFull source.entry session) }
 {
     stores_have_plans(&store);
     some_diagram_has_the_level_counts();
     let Ok(()) = publish_roots(&store, &mut session, source) else {
+        store.canonical_ids(&session);
         return Err(BuildError::StoreFull(session));
     };
     match store.close(alloc, session) {
@@ -47,8 +50,42 @@ fn finish(
     }
 }
 
-/// Builds all parts, by workers of their own threads: a session that knows them, or that of a
-/// worker that met a full store.
+/// Has workers build all parts, each in a thread of its own: how they end, in their order.
+fn ends_of_workers<R: Threads + Sync, G: Gate>(
+    crew: &Crew<'_, R, G>,
+    alloc: Global,
+    store: &Store,
+    session: Session,
+    source: Source<'_>,
+    count: u8,
+) -> Result<Vec<Result<Session, Session>>, AllocError>
+    requires session { session.store ≡ store.now }
+    requires source { IsSourceFor store.now.plan source }
+    requires some { 1 ≤ count }
+    ensures count { IfOk result (λ v. vec_len v ≡ count) }
+    ensures ends { IfOk result (λ v. AreEndsOf store.now count v.items) }
+    ensures shares { IfOk result (λ v. AreSharesOf source.entry session count v.items) }
+{
+    let jobs = jobs(alloc, store, session, count)?;
+    let gate = crew.gate;
+    let ended = thread::map_vec(
+        crew.rt,
+        jobs,
+        &|job: Job| -> Result<Session, Session>
+            requires { IsSync G.row × (job.session.store ≡ store.now)
+                × IsSourceFor store.now.plan source × (1 ≤ job.worker) × (job.worker ≤ count) }
+            ensures { IsEndOf store.entry.now count (job.worker - 1) result
+                × Continues source.entry job.session (session_of result) }
+        {
+            let Job { worker, session } = job;
+            build_parts(store, session, worker, count, source, gate)
+        },
+    )?;
+    Ok(ended)
+}
+
+/// Builds all parts, by workers of their own threads: a session that knows them, or one that knows
+/// a full store if a worker met it.
 fn parts_by_workers<R: Threads + Sync, G: Gate>(
     crew: &Crew<'_, R, G>,
     alloc: Global,
@@ -59,30 +96,21 @@ fn parts_by_workers<R: Threads + Sync, G: Gate>(
     requires session { session.store ≡ store.now }
     requires source { IsSourceFor store.now.plan source }
     ensures parts { IfOk result (KnowsParts store.now) }
+    ensures whole { IfOk result (IsShareOf source.entry session 0) }
     ensures refused { IfErr result (Refuses store.now) }
+    ensures full { IfErr result (MayBeFull source.entry session) }
 {
     let count = crew.workers.count();
-    let Ok(jobs) = jobs(alloc, store, session, count) else {
-        return Err(BuildError::OutOfMemory);
-    };
-    let gate = crew.gate;
-    let Ok(ended) = thread::map_vec(
-        crew.rt,
-        jobs,
-        &|job: Job| -> Result<Session, Session>
-            requires { IsSync G.row × (job.session.store ≡ store.now)
-                × IsSourceFor store.now.plan source × (1 ≤ job.worker) × (job.worker ≤ count) }
-            ensures { IsEndOf store.entry.now count (job.worker - 1) result }
-        {
-            let Job { worker, session } = job;
-            build_parts(store, session, worker, count, source, gate)
-        },
-    ) else {
+    let Ok(ended) = ends_of_workers(crew, alloc, store, session, source, count) else {
         return Err(BuildError::OutOfMemory);
     };
     match joined(store, count, ended) {
         Ok(session) => Ok(session),
-        Err(full) => Err(BuildError::StoreFull(full)),
+        Err(full) => {
+            stores_have_plans(store);
+            store.canonical_ids(&full);
+            Err(BuildError::StoreFull(full))
+        }
     }
 }
 
@@ -98,6 +126,7 @@ fn build_in<R: Threads + Sync, G: Gate>(
     requires source { IsSourceFor store.plan source }
     ensures diagram { IfOk result (IsDiagramFor store.plan) }
     ensures refused { IfErr result (Refuses store) }
+    ensures full { IfErr result (MayBeFull source.entry session) }
 {
     let session = parts_by_workers(crew, alloc, &store, session, source)?;
     finish(alloc, store, session, source)
@@ -106,7 +135,8 @@ fn build_in<R: Threads + Sync, G: Gate>(
 /// The reduced diagram of the store's functions, from their truth tables. Worker i builds the
 /// pieces that aren't outputs and whose number leaves i-1 when divided by the number of workers,
 /// and calls the gate before it publishes each; the outputs are then made by the calling thread.
-/// The store is spent. The time is that of a search in the store for each output and point.
+/// The store is spent; a fresh one is never full. The time is that of a search in the store for
+/// each output and point.
 pub fn from_tables<R: Threads + Sync, G: Gate>(
     rt: &R,
     alloc: Global,
@@ -120,6 +150,7 @@ pub fn from_tables<R: Threads + Sync, G: Gate>(
     requires tables { IsForTables store.plan tables.now }
     ensures diagram { IfOk result (IsDiagramFor store.plan) }
     ensures refused { IfErr result (Refuses store) }
+    ensures never_full { IsFresh session → IfErr result IsOutOfMemory }
 {
     let crew = Crew::new(rt, workers, gate);
     build_in(&crew, alloc, store, session, Source::Tables(tables))
@@ -159,6 +190,7 @@ pub fn tables_store(
     ensures tables { IfOk result (λ r. IsForTables r.0.plan tables.now) }
     ensures order { IfOk result (λ r. order_of r.0.plan ≡ order.now) }
     ensures session { IfOk result (λ r. r.1.store ≡ r.0) }
+    ensures fresh { IfOk result (λ r. IsFresh r.1) }
 {
     Store::new(
         alloc,
@@ -188,7 +220,7 @@ pub fn cover_store(
 }
 
 /// The reduced diagram of the functions of some truth tables under an order, built from the tables
-/// in a store of its own.
+/// in a store of its own, which is never full.
 pub fn build_tables<R: Threads + Sync, G: Gate>(
     rt: &R,
     alloc: Global,
@@ -199,7 +231,7 @@ pub fn build_tables<R: Threads + Sync, G: Gate>(
 ) -> Result<Diagram, BuildError>
     requires order { length order.now ≡ tables.now.inputs }
     ensures diagram { IfOk result (IsDiagramOf tables.now.inputs (functions tables.now) order.now) }
-    ensures refused { IfErr result (RefusesUnder order.now tables.now) }
+    ensures refused { IfErr result IsOutOfMemory }
 {
     let Ok((store, session)) = tables_store(alloc, tables, order) else {
         return Err(BuildError::OutOfMemory);
@@ -224,7 +256,7 @@ pub fn build_from<R: Threads + Sync, G: Gate>(
     requires tables { AreTablesOf cover.now tables.now }
     ensures diagram { IfOk result
         (IsDiagramOf cover.now.inputs (functions_of cover.now) order.now) }
-    ensures refused { IfErr result (RefusesUnder order.now tables.now) }
+    ensures refused { IfErr result IsOutOfMemory }
 {
     let (store, session) = begun;
     stores_have_plans(&store);
@@ -261,7 +293,7 @@ pub fn build<R: Threads + Sync, G: Gate>(
     requires tables { AreTablesOf cover.now tables.now }
     ensures diagram { IfOk result
         (IsDiagramOf cover.now.inputs (functions_of cover.now) order.now) }
-    ensures refused { IfErr result (RefusesUnder order.now tables.now) }
+    ensures refused { IfErr result IsOutOfMemory }
 {
     if has_many_terms(cover) {
         orders_have_each_variable_once(order);

@@ -15,4 +15,5 @@ pub use builders::{
     build, build_from, build_tables, cover_store, from_cover, from_tables, tables_store,
 };
 pub use errors::BuildError;
+pub use laws::subfunctions_are_few;
 pub use operations::apply;

@@ -4,7 +4,7 @@ ghost use Rattle.std.specs.Prelude.{◌≡◌, ◌<◌, ◌≤◌, IfOk, OnErr};
 ghost use Rattle.unique_table.specs.Plans.{piece_function};
 ghost use Rattle.unique_table.specs.Sessions.{Means, Follows, depth_in};
 ghost use Rattle.dd_builder.specs.Making.{Makes};
-ghost use Rattle.dd_builder.specs.Parts.{IsSourceFor, part_level};
+ghost use Rattle.dd_builder.specs.Parts.{IsSourceFor, KeepsFrom, part_level};
 
 use crate::cover_terms::terms_share;
 use crate::tables::restriction;
@@ -30,6 +30,7 @@ pub(crate) fn part(
     requires source { IsSourceFor store.now.plan source }
     requires piece { piece < store.now.plan.roots }
     ensures made { Makes session.old session.new result (piece_function store.now.plan piece) }
+    ensures kept { KeepsFrom source.entry session.old session.new }
     ensures level { IfOk result (λ id. part_level store.now.plan ≤ depth_in session.new id) }
 {
     match source {

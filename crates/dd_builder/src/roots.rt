@@ -7,7 +7,8 @@ ghost use Rattle.unique_table.specs.Sessions.{Means, Follows, depth_in};
 ghost use Rattle.dd_builder.specs.Building.{KnowsFull, AreRestrictions};
 ghost use Rattle.dd_builder.specs.Making.{Makes};
 ghost use Rattle.dd_builder.specs.Paths.{output_along};
-ghost use Rattle.dd_builder.specs.Parts.{IsSourceFor, AreOfTerms, KnowsParts, HasRoots, part_level, shares_union};
+ghost use Rattle.dd_builder.specs.Subfunctions.{KeepsSubfunctions};
+ghost use Rattle.dd_builder.specs.Parts.{IsSourceFor, AreOfTerms, KeepsFrom, KnowsParts, HasRoots, part_level, shares_union};
 
 use crate::laws::stores_have_plans;
 use crate::operations::apply;
@@ -20,6 +21,7 @@ fn part_id(store: &Store, session: &mut Session, piece: usize) -> NodeId
     requires session { KnowsParts store.now session.old }
     requires piece { piece < store.now.plan.roots }
     ensures follows { Follows session.old session.new }
+    ensures made { session.new.made ≡ session.old.made }
     ensures function { Means session.new result (piece_function store.now.plan piece) }
     ensures level { part_level store.now.plan ≤ depth_in session.new result }
 {
@@ -46,6 +48,7 @@ fn of_restrictions(
     requires path { path < 2 ^ level }
     ensures made { Makes session.old session.new result
         (output_along store.now.plan level path output) }
+    ensures kept { KeepsSubfunctions session.old session.new }
     ensures level { IfOk result (λ id. level ≤ depth_in session.new id) }
 {
     let tops = tops(store.order().variables());
@@ -105,7 +108,9 @@ fn root(
     requires session { KnowsParts store.now session.old }
     requires source { IsSourceFor store.now.plan source }
     requires output { output < outputs_of store.now.plan.problem.value }
-    ensures { Makes session.old session.new result (output_at store.now.plan.problem.value output) }
+    ensures made { Makes session.old session.new result
+        (output_at store.now.plan.problem.value output) }
+    ensures kept { KeepsFrom source.entry session.old session.new }
 {
     match source {
         Source::Tables(_) => of_restrictions(store, session, output, 0, 0),
@@ -122,6 +127,7 @@ pub(crate) fn publish_roots(
     requires session { KnowsParts store.now session.old }
     requires source { IsSourceFor store.now.plan source }
     ensures follows { Follows session.old session.new }
+    ensures kept { KeepsFrom source.entry session.old session.new }
     ensures roots { OnOk result (HasRoots session.new) }
     ensures full { OnErr result (KnowsFull session.new) }
 {

@@ -7,6 +7,7 @@ ghost use Rattle.unique_table.specs.Plans.{order_of, levels_of, output_at, fixed
 ghost use Rattle.unique_table.specs.Sessions.{Means, Follows, depth_in};
 ghost use Rattle.dd_builder.specs.Building.{IsForTables};
 ghost use Rattle.dd_builder.specs.Making.{Makes};
+ghost use Rattle.dd_builder.specs.Subfunctions.{KeepsSubfunctions};
 ghost use Rattle.dd_builder.specs.Paths.{IsPointAbove, IsPointOf, output_along};
 
 use order_model::VarIx;
@@ -51,6 +52,7 @@ fn output_below(
     requires point { IsPointAbove (order_of store.now.plan) path.level path.bits path.point }
     ensures made { Makes session.old session.new result
         (output_along store.now.plan path.level path.bits output) }
+    ensures kept { KeepsSubfunctions session.old session.new }
     ensures level { IfOk result (λ id. path.level ≤ depth_in session.new id) }
 {
     let order = store.order().variables();
@@ -94,6 +96,7 @@ pub(crate) fn restriction(
     requires tables { IsForTables store.now.plan tables.now }
     requires piece { piece < store.now.plan.roots }
     ensures made { Makes session.old session.new result (piece_function store.now.plan piece) }
+    ensures kept { KeepsSubfunctions session.old session.new }
     ensures level { IfOk result
         (λ id. length (tops (order_of store.now.plan)) ≤ depth_in session.new id) }
 {

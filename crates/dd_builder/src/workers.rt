@@ -1,7 +1,9 @@
 //! Workers that share the parts of a store's functions.
 
 ghost use Rattle.std.specs.Prelude.{◌≡◌, ◌-◌, ◌<◌, ◌≤◌, IfOk, vec_len};
-ghost use Rattle.dd_builder.specs.Parts.{IsSourceFor, IsEndOf, AreEndsOf, IsJoined, AreJobsOf};
+ghost use Rattle.unique_table.specs.Sessions.{Knowledge};
+ghost use Rattle.dd_builder.specs.declared.parts.Source.{Source};
+ghost use Rattle.dd_builder.specs.Parts.{IsSourceFor, Continues, IsEndOf, AreEndsOf, AreSharesOf, IsShareOf, IsOpened, IsJoined, AreJobsOf, AreHalves, session_of};
 
 use crate::parts::{Source, part};
 use order_model::Gate;
@@ -29,7 +31,8 @@ pub(crate) fn build_parts<G: Gate>(
     requires source { IsSourceFor store.now.plan source }
     requires worker { 1 ≤ worker }
     requires workers { worker ≤ workers }
-    ensures { IsEndOf store.now workers (worker - 1) result }
+    ensures end { IsEndOf store.now workers (worker - 1) result }
+    ensures continues { Continues source.entry session (session_of result) }
 {
     for piece in 0..store.roots() {
         if piece % usize::from(workers) == usize::from(worker - 1) {
@@ -52,7 +55,8 @@ pub(crate) fn jobs(
 ) -> Result<Vec<Job>, AllocError>
     requires session { session.store ≡ store.now }
     requires some { 1 ≤ workers }
-    ensures { IfOk result (λ v. AreJobsOf store.now workers v.items) }
+    ensures jobs { IfOk result (λ v. AreJobsOf store.now workers v.items) }
+    ensures halves { IfOk result (λ v. AreHalves session workers v.items) }
 {
     let mut jobs = Vec::with_capacity(alloc, usize::from(workers))?;
     let mut rest = session;
@@ -71,7 +75,17 @@ pub(crate) fn jobs(
     Ok(jobs)
 }
 
-/// A session that knows what all workers know, or that of one that met a full store.
+/// The session of a worker that has ended, and whether it met a full store.
+fn opened(end: Result<Session, Session>) -> (Session, bool)
+    ensures { IsOpened end result.0 result.1 }
+{
+    match end {
+        Ok(session) => (session, false),
+        Err(session) => (session, true),
+    }
+}
+
+/// A session that knows what all workers know; an error if one of them met a full store.
 pub(crate) fn joined(
     store: &Store,
     workers: u8,
@@ -80,20 +94,18 @@ pub(crate) fn joined(
     requires some { 1 ≤ workers }
     requires count { vec_len ended ≡ workers }
     requires ends { AreEndsOf store.now workers ended.items }
-    ensures { IsJoined store.now result }
+    ensures joined { IsJoined store.now result }
+    ensures whole { (source : Source) (from : Knowledge) →
+        AreSharesOf source from workers ended.items → IsShareOf source from 0 (session_of result) }
 {
     let Some(last) = ended.pop() else {
         unreachable!()
     };
-    let mut session = match last {
-        Ok(session) => session,
-        Err(full) => return Err(full),
-    };
+    let (mut session, mut full) = opened(last);
     while let Some(next) = ended.pop() {
-        match next {
-            Ok(other) => session = store.join(session, other),
-            Err(full) => return Err(full),
-        }
+        let (other, met_full) = opened(next);
+        session = store.join(session, other);
+        full |= met_full;
     }
-    Ok(session)
+    if full { Err(session) } else { Ok(session) }
 }

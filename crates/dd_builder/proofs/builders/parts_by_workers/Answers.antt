@@ -1,19 +1,16 @@
-use Rattle.std.proofs.Common.{◌≡◌, ◌-◌, ◌<◌, Some, get_or, slice_get, length, rules, arith, ap, sym, ◌∙◌, subst}
-use Rattle.std.proofs.lemmas.Option.{slice_get_within, slice_get-get_or, get_or_from_slice_get}
-use Rattle.dd_builder.specs.Parts.{IsEndOf}
+use Rattle.std.proofs.Common.{subst}
+use Rattle.dd_builder.specs.Parts.{IsShareOf, session_of}
+use Rattle.dd_builder.proofs.Fullness.{full_never}
 use Rattle.dd_builder.proofs.builders.parts_by_workers.Goals as goal
 
-pub joined-requires-clause-ends : goal.joined-requires-clause-ends
-joined-requires-clause-ends g c = λ k end at.
-    let ended = c.in-Ok-map_vec.ended in let jobs = c.in-Ok.jobs in
-    let inside = slice_get_within ended.items k end at in
-    let size = ended.ok in let count = jobs.ok in let same = c.in-Ok-map_vec.ensures.len in
-    let low : k < length jobs.items = omega (arith, inside, size, count, same) in
-    let h = (c.in-Ok-map_vec.ensures.each k end low).1 in
-    let there : slice_get jobs.items k ≡ Some h.job = slice_get-get_or jobs.items k h.job low ∙ ap Some (sym h.job_read) in
-    let number = c.in-Ok.ensures.numbers k h.job there in
-    let place : h.job.worker - 1 ≡ k = omega (arith, number) in
-    let met = h.call.met in
-    let made : IsEndOf c.args.store.now c.count-count.result (h.job.worker - 1) (get_or ended.items k end) = search (rules, met) in
-    subst (IsEndOf c.args.store.now c.count-count.result k) (get_or_from_slice_get ended.items k end end at)
-    (subst (λ z. IsEndOf c.args.store.now c.count-count.result z (get_or ended.items k end)) place made)
+pub returns-in-Ok-joined-clause-whole : goal.returns-in-Ok-joined-clause-whole
+returns-in-Ok-joined-clause-whole g c =
+    subst (λ z. IsShareOf c.args.source c.args.session 0 (session_of z)) c.in-Ok-joined.is
+    (c.joined.ensures.whole c.args.source c.args.session c.in-Ok.ensures.shares)
+
+pub returns-in-Err-clause-full : goal.returns-in-Err-clause-full
+returns-in-Err-clause-full g c =
+    full_never c.args.source c.args.session c.in-Err.full c.args.store.now c.in-Err.ensures.joined.0
+    (subst (λ z. IsShareOf c.args.source c.args.session 0 (session_of z)) c.in-Err.is
+    (c.joined.ensures.whole c.args.source c.args.session c.in-Ok.ensures.shares)) c.stores_have_plans.ensures
+    c.canonical_ids.ensures.nodes c.canonical_ids.ensures.unequal c.canonical_ids.ensures.size c.canonical_ids.ensures.made c.in-Err.ensures.joined.1

@@ -5,6 +5,7 @@ use Rattle.unique_table.specs.Sessions.{Means}
 use Rattle.unique_table.proofs.Following.{follows_trans}
 use Rattle.dd_builder.proofs.Going.{makes_node}
 use Rattle.dd_builder.proofs.Ends.{parts_follow}
+use Rattle.dd_builder.proofs.Keeping.{keeps_step, keeps_node}
 use Rattle.dd_builder.proofs.Restricted.{restriction_at, restricted_node, path_up, path_small}
 use Rattle.dd_builder.proofs.roots.+of_restrictions.Goals as goal
 
@@ -68,3 +69,23 @@ returns-in_err-high-clause-made t c = record {
   function = search rules;
   full = search rules;
 }
+
+pub returns-then-level-tops-clause-kept : goal.returns-then-level-tops-clause-kept
+returns-then-level-tops-clause-kept t c = keeps_step c.args.session.now c.part_id.new.session c.part_id.ensures.follows c.part_id.ensures.made
+
+pub returns-in_err-high-clause-kept : goal.returns-in_err-high-clause-kept
+returns-in_err-high-clause-kept t c = λ all. c.of_restrictions-2.ensures.kept (c.of_restrictions.ensures.kept all)
+
+pub returns-clause-kept : goal.returns-clause-kept
+returns-clause-kept t c =
+    let order = c.variables.ensures.value ∙ c.order.ensures.value in
+    let top = c.tops-tops.ensures.value ∙ ap (λ xs. length (tops xs)) order in
+    let few = c.tops-tops.ensures.few in let size = length-take 2 (order_of c.args.store.now.plan) in
+    let inside : c.args.level < levels_of c.args.store.now.plan = omega arith in
+    keeps_node c.args.store.now c.args.session.now c.of_restrictions.new.session c.of_restrictions-2.new.session c.make.new.session c.args.level
+    c.args.path c.in_ok-low.low c.in_ok-high.high c.args.output c.of_restrictions.ensures.kept c.of_restrictions-2.ensures.kept
+    (c.of_restrictions.ensures.made.follows.store ∙ c.requires.session.same) c.of_restrictions-2.ensures.made.follows c.make.ensures.follows
+    c.make.ensures.made c.order.ensures.plan.order.order inside c.requires.path c.requires.output c.in_ok-low.ensures.made.function
+    (subst (λ k. Means c.of_restrictions-2.new.session c.in_ok-high.high
+    (fixed (take (c.args.level + 1) (order_of c.args.store.now.plan)) k (output_at c.args.store.now.plan.problem.value c.args.output)))
+    (path_up 64 c.args.level c.args.path _ (omega arith) refl) c.in_ok-high.ensures.made.function)

@@ -2,6 +2,7 @@ use Rattle.std.proofs.Common.{◌≡◌, ◌+◌, sym, subst, arith}
 use Rattle.unique_table.specs.Sessions.{Means}
 use Rattle.unique_table.proofs.Following.{follows_trans}
 use Rattle.dd_builder.proofs.Ends.{parts_follow, root_more}
+use Rattle.dd_builder.proofs.Keeping.{kept_on, kept_step}
 use Rattle.dd_builder.proofs.Unions.{root_piece}
 use Rattle.dd_builder.proofs.roots.publish_roots.Goals as goal
 
@@ -10,15 +11,18 @@ publish-requires-clause-function c =
     let r = c.roots-roots.ensures.value in let f = c.from.ensures in
     let at : c.roots-roots.result + c.from.result ≡ c.args.store.now.plan.roots + c.loop-output.output = omega arith in
     subst (Means c.root.new.session c.in_ok-id.id)
-    (sym (root_piece c.args.store.now.plan c.loop-output.output (c.roots-roots.result + c.from.result) at)) c.in_ok-id.ensures.function
+    (sym (root_piece c.args.store.now.plan c.loop-output.output (c.roots-roots.result + c.from.result) at)) c.in_ok-id.ensures.made.function
 
 pub loop-output-preserved : goal.loop-output-preserved
 loop-output-preserved c =
-    let f = follows_trans _ _ _ c.root.ensures.follows c.publish.ensures.step.follows in
+    let f = follows_trans _ _ _ c.root.ensures.made.follows c.publish.ensures.step.follows in
     let r = c.roots-roots.ensures.value in let e = c.from.ensures in
     let at : c.roots-roots.result + c.from.result ≡ c.args.store.now.plan.roots + c.loop-output.output = omega arith in
     record {
       follows = follows_trans _ _ _ c.loop-output.invariant.follows f;
+      kept = kept_on c.args.source c.args.session.now c.loop-output.session c.publish.new.session c.loop-output.invariant.kept
+          (kept_on c.args.source c.loop-output.session c.root.new.session c.publish.new.session c.root.ensures.kept
+          (kept_step c.args.source c.root.new.session c.publish.new.session c.publish.ensures.step.follows c.publish.ensures.step.made));
       parts = parts_follow _ _ _ f c.loop-output.invariant.parts;
       published =
           root_more c.loop-output.session c.publish.new.session c.args.store.now.plan.roots c.loop-output.output _ c.in_ok-id.id f
@@ -26,4 +30,8 @@ loop-output-preserved c =
     }
 
 pub returns-in_err-id-clause-follows : goal.returns-in_err-id-clause-follows
-returns-in_err-id-clause-follows c = follows_trans _ _ _ c.loop-output.invariant.follows c.root.ensures.follows
+returns-in_err-id-clause-follows c = follows_trans _ _ _ c.loop-output.invariant.follows c.root.ensures.made.follows
+
+pub returns-in_err-id-clause-kept : goal.returns-in_err-id-clause-kept
+returns-in_err-id-clause-kept c =
+    kept_on c.args.source c.args.session.now c.loop-output.session c.root.new.session c.loop-output.invariant.kept c.root.ensures.kept

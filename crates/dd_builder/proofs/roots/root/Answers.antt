@@ -5,7 +5,7 @@ use Rattle.dd_builder.proofs.Going.{stays, makes_same}
 use Rattle.dd_builder.proofs.Restricted.{none_fixed}
 use Rattle.dd_builder.proofs.roots.root.Goals as goal
 
-pub returns-in-Tables : goal.returns-in-Tables
-returns-in-Tables c = makes_same _ _ _ c.of_restrictions.result _ _ (stays _) c.of_restrictions.ensures.made (λ id m.
+pub returns-in-Tables-clause-made : goal.returns-in-Tables-clause-made
+returns-in-Tables-clause-made c = makes_same _ _ _ c.of_restrictions.result _ _ (stays _) c.of_restrictions.ensures.made (λ id m.
     subst (Means c.of_restrictions.new.session id)
     (none_fixed (order_of c.args.store.now.plan) (output_at c.args.store.now.plan.problem.value c.args.output)) m)

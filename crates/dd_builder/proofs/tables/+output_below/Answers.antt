@@ -1,12 +1,13 @@
 use Rattle.std.proofs.Common.{◌+◌, ◌*◌, ◌%◌, ◌^◌, ◌≤◌, ◌<◌, get_or, length, take, refl, sym, ap, ap₂, ◌∙◌, subst, arith, rules, bit_or}
 use Rattle.order_model.specs.Orders.{IsOrder}
-use Rattle.order_model.specs.Problems.{TruthTables}
+use Rattle.order_model.specs.Problems.{TruthTables, outputs_of}
 use Rattle.unique_table.specs.Plans.{order_of, levels_of, output_at, fixed}
 use Rattle.unique_table.specs.Sessions.{StoreId, Means}
 use Rattle.unique_table.proofs.Following.{follows_trans}
 use Rattle.dd_builder.specs.Paths.{IsPointAbove}
 use Rattle.dd_builder.proofs.Pathways.{point_whole, point_low, point_high}
 use Rattle.dd_builder.proofs.Going.{stays, makes_node}
+use Rattle.dd_builder.proofs.Keeping.{keeps_node}
 use Rattle.dd_builder.proofs.Restricted.{output_leaf, restricted_node, path_up, path_small}
 use Rattle.dd_builder.proofs.tables.+output_below.Goals as goal
 
@@ -121,3 +122,19 @@ output_below-requires-2 t c =
         ),
       ),
     )
+
+pub returns-clause-kept : goal.returns-clause-kept
+returns-clause-kept t c =
+    let order = c.order.ensures.value in
+    let is : IsOrder (levels_of c.args.store.now.plan) (order_of c.args.store.now.plan) =
+    subst (λ xs. IsOrder (length xs) xs) order c.variables-order.ensures.order in
+    let few = c.order.ensures.plan.order.few in let size = ap length (c.variables-order.ensures.value ∙ order) in
+    let inside : c.args.path.level < levels_of c.args.store.now.plan = omega arith in
+    keeps_node c.args.store.now c.args.session.now c.output_below.new.session c.output_below-2.new.session c.make.new.session c.args.path.level
+    c.args.path.bits c.in_ok-low.low c.in_ok-high.high c.args.output c.output_below.ensures.kept c.output_below-2.ensures.kept
+    (c.output_below.ensures.made.follows.store ∙ c.requires.session) c.output_below-2.ensures.made.follows c.make.ensures.follows c.make.ensures.made is inside
+    c.requires.bits (subst (λ (z : TruthTables). c.args.output < outputs_of z) c.requires.tables c.requires.output)
+    c.in_ok-low.ensures.made.function
+    (subst (λ k. Means c.output_below-2.new.session c.in_ok-high.high
+    (fixed (take (c.args.path.level + 1) (order_of c.args.store.now.plan)) k (output_at c.args.store.now.plan.problem.value c.args.output)))
+    (path_up 32 c.args.path.level c.args.path.bits _ (omega arith) refl) c.in_ok-high.ensures.made.function)

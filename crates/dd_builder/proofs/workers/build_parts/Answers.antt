@@ -1,8 +1,9 @@
 use Rattle.std.proofs.Common.{◌%◌, ◌≤◌, ap, ◌∙◌, sym, subst, arith}
 use Rattle.unique_table.specs.Sessions.{Knowledge, depth_in}
 use Rattle.unique_table.proofs.Following.{follows_trans}
-use Rattle.dd_builder.specs.Parts.{HasPart, part_level}
+use Rattle.dd_builder.specs.Parts.{HasPart, Continues, part_level}
 use Rattle.dd_builder.proofs.Ends.{part_made, share_more, share_other}
+use Rattle.dd_builder.proofs.Keeping.{kept_on, kept_step, continues_on}
 use Rattle.dd_builder.proofs.workers.build_parts.Goals as goal
 use Rattle.dd_builder.proofs.workers.build_parts.Goals.{then-piece-from+in-Ok, else-piece-from}
 
@@ -16,6 +17,13 @@ loop-piece-preserved g c = elim c.if-piece-from.branch [
       let level : part_level c.args.store.now.plan ≤ depth_in w.publish.new.session w.in-Ok.id = omega arith in
       record {
         store = ap (λ (s : Knowledge). s.store) w.session-is ∙ same;
+        continues = subst (Continues c.args.source c.args.session) (sym w.session-is)
+            (continues_on c.args.source c.args.session c.loop-piece.session w.publish.new.session c.loop-piece.invariant.continues
+            record {
+              follows = follows_trans _ _ _ w.part.ensures.made.follows published;
+              kept = kept_on c.args.source c.loop-piece.session w.part.new.session w.publish.new.session w.part.ensures.kept
+                  (kept_step c.args.source w.part.new.session w.publish.new.session published w.publish.ensures.step.made);
+            });
         built = λ q low e. subst (λ (s : Knowledge). HasPart s q) (sym w.session-is)
             (share_more c.loop-piece.session w.publish.new.session c.loop-piece.piece c.args.workers _
             (follows_trans _ _ _ w.part.ensures.made.follows published) c.loop-piece.invariant.built
@@ -25,8 +33,14 @@ loop-piece-preserved g c = elim c.if-piece-from.branch [
       }
   | else-piece-from w ↦ record {
     store = ap (λ (s : Knowledge). s.store) w.session-is ∙ c.loop-piece.invariant.store;
+    continues = subst (Continues c.args.source c.args.session) (sym w.session-is) c.loop-piece.invariant.continues;
     built = λ q low e. subst (λ (s : Knowledge). HasPart s q) (sym w.session-is)
         (share_other c.loop-piece.session c.loop-piece.piece c.args.workers _ c.loop-piece.invariant.built
         (λ own. w.if-piece-from.false (ap (λ z. c.loop-piece.piece % z) c.from.ensures ∙ (own ∙ sym c.from-in-loop-piece.ensures))) q low e);
   }
 ]
+
+pub returns-in_default-clause-continues : goal.returns-in_default-clause-continues
+returns-in_default-clause-continues g c =
+    continues_on c.args.source c.args.session c.loop-piece.session c.part.new.session c.loop-piece.invariant.continues
+    record { follows = c.part.ensures.made.follows; kept = c.part.ensures.kept }

@@ -1,0 +1,47 @@
+-- The bound of all nodes is half of a store.
+use Rattle.std.proofs.Common.{◌≡◌, ℕ, zero, suc, ◌<◌, ◌≤◌, true, false, Bool, nat_lt, ◌&&◌, refl, sym, ◌∙◌, subst, arith, ⊎_elim, le-ltb}
+use Rattle.std.proofs.lemmas.Bool.{cases_lt}
+use Rattle.dd_builder.specs.Subfunctions.{most_nodes, MostNodesFit}
+use Rattle.dd_builder.proofs.Ranks.{more_above}
+
+-- with 16 outputs
+abbrev fits : ℕ → Bool
+fits n = nat_lt (most_nodes n 16) 131311
+
+abbrev all_fit : ℕ → Bool
+all_fit zero = fits 0
+all_fit (suc n) = fits (suc n) && all_fit n
+
+first : (a b : Bool) → (a && b) ≡ true → a ≡ true
+first true b e = refl
+first false b e = e
+
+second : (a b : Bool) → (a && b) ≡ true → b ≡ true
+second true b e = e
+second false true e = refl
+second false false e = e
+
+each_fits : (most n : ℕ) → n ≤ most → all_fit most ≡ true → fits n ≡ true
+each_fits zero n low e = subst (λ z. fits z ≡ true) none e
+  where
+    none : 0 ≡ n
+    none = omega (arith, low)
+each_fits (suc most) n low e = ⊎_elim
+    (λ (less : n < suc most). each_fits most n (omega (arith, less)) (second (fits (suc most)) (all_fit most) e))
+    (λ (more : suc most ≤ n). subst (λ z. fits z ≡ true) (let s : suc most ≡ n = omega (arith, low, more) in s) (first (fits (suc most)) (all_fit most) e))
+    (cases_lt n (suc most))
+
+below : (a b : ℕ) → nat_lt a b ≡ true → a < b
+below a b e = ⊎_elim
+    (λ (less : a < b). less)
+    (λ (more : b ≤ a). absurd (no (sym e ∙ le-ltb a b more)))
+    (cases_lt a b)
+  where
+    no : true ≡ false → ⊥
+    no e = cc
+
+pub most_fit : MostNodesFit
+most_fit n m few few' =
+    let a = more_above n m n few' in
+    let b = below (most_nodes n 16) 131311 (each_fits 16 n few refl) in
+    omega (arith, a, b)
