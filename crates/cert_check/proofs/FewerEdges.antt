@@ -41,6 +41,7 @@ module _ {why : ℕ → Type 0} {judged fewer : List ℕ} (are : AreFewer why ju
   -- fewer edges are tables of edges too
   pub fewer_tables : (n : ℕ) (values : List ℕ) → AreEdgeTables n values judged → AreEdgeTables n values fewer
   fewer_tables n values tables = record {
+    few = tables.few;
     values_all = tables.values_all;
     judged_all = are.long ∙ tables.judged_all;
     members = λ T x o. tables.members T x (judged_too T x o);

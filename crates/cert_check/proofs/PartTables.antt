@@ -3,7 +3,7 @@
 --     part_skip, part_with      the next variable down is not in the mask; it is, and the table has one more
 use Rattle.std.proofs.Common.{◌≡◌, ℕ, ◌+◌, ◌*◌, ◌/◌, ◌%◌, ◌^◌, bit_or, sym, ap, ◌∙◌, arith}
 use Rattle.std.specs.Int.{bit_at}
-use Rattle.cert_check.specs.Edges.{IsPartTable}
+use Rattle.cert_check.specs.Blocks.{IsPartTable}
 use Rattle.cert_check.specs.Tables.{TableOf, rows_with}
 use Rattle.cert_check.proofs.HighSets.{part_high, part_more, part_same}
 

@@ -1,28 +1,26 @@
 //! Fewer edges, of which one fails if one of all does. Where variables may be exchanged without a
-//! change of any function, value or judged edge, a set and its image have edges of equal widths, and
-//! one of both need be judged.
+//! change of any function, value or judged edge, a set and its image have edges of equal widths,
+//! and one of both need be judged.
 
 ghost use Rattle.std.specs.Prelude.{◌≡◌, ◌≤◌, ◌<◌, ◌^◌, ℕ, IfOk, IfSome, OnOk, IsTrue, length, slice_index};
-ghost use Rattle.order_model.specs.Problems.{functions};
-ghost use Rattle.cert_check.specs.Edges.{AreEdgeTables};
 ghost use Rattle.cert_check.specs.Images.{TellValues};
-ghost use Rattle.cert_check.specs.FewerEdges.{AreFewer, AreGuides, AreKept, LeadsOn};
+ghost use Rattle.cert_check.specs.FewerEdges.{AreKept};
+ghost use Rattle.cert_check.specs.Walks.{AreEnough, AreGuidesOf};
 
 use crate::images::{are_alike, images_of, is_exchange};
 use crate::partners::{Pick, marks_of, partners_of};
 use crate::points::values_by_point;
-use crate::walk::Edges;
-use order_model::{Mask, Problem, VarIx};
+use crate::position::Edges;
+use order_model::{Mask, VarIx};
 use std::alloc::{AllocError, Global};
 
 /// Whether sets and their images have equal values, and the edges into them are judged by partners.
 fn keeps_edges(edges: Edges, images: &[Mask]) -> bool
-    requires values { length edges.values.now ≡ length images.now }
-    requires judged { length edges.judged.now ≡ length images.now }
+    requires long { length images.now ≡ 2 ^ edges.problem.now.inputs }
     requires inside { (S : ℕ) → S < length images.now →
         slice_index images.now S < length images.now }
-    ensures { (n : ℕ) → length images.now ≡ 2 ^ n → IsTrue result →
-        AreKept n edges.entry.values.now edges.entry.judged.now images.now }
+    ensures { IsTrue result →
+        AreKept edges.entry.problem.now.inputs edges.entry.values.now edges.entry.judged.now images.now }
 {
     for set in 0..images.len() {
         let image = images[set] as usize;
@@ -40,19 +38,15 @@ fn keeps_edges(edges: Edges, images: &[Mask]) -> bool
 /// The images of all sets, if an exchange changes no function, no value and no judged edge.
 fn images_if_kept(
     alloc: Global,
-    problem: &Problem,
     points: &[u16],
     edges: Edges,
     partners: &[VarIx],
 ) -> Result<Option<Vec<Mask>>, AllocError>
-    requires points { length points.now ≡ 2 ^ problem.now.inputs }
-    requires told { TellValues problem.now points.now }
-    requires edges { AreEdgeTables problem.now.inputs edges.values.now edges.judged.now }
-    ensures { IfOk result
-        (λ o. IfSome o (λ v. AreGuides problem.now.inputs (functions problem.now)
-        edges.entry.values.now edges.entry.judged.now v.items)) }
+    requires points { length points.now ≡ 2 ^ edges.problem.now.inputs }
+    requires told { TellValues edges.problem.now points.now }
+    ensures { IfOk result (λ o. IfSome o (λ v. AreGuidesOf edges.entry v.items)) }
 {
-    let inputs = problem.inputs();
+    let inputs = edges.problem.inputs();
     if !is_exchange(inputs, partners) {
         return Ok(None);
     }
@@ -64,16 +58,10 @@ fn images_if_kept(
 }
 
 /// Leaves out the edges into sets whose images are greater.
-fn leave_out(problem: &Problem, edges: Edges, images: &[Mask], fewer: &mut Vec<u16>)
-    requires edges { AreEdgeTables problem.now.inputs edges.values.now edges.judged.now }
-    requires guides { AreGuides problem.now.inputs (functions problem.now) edges.values.now
-        edges.judged.now images.now }
-    requires fewer { AreFewer
-        (LeadsOn problem.now.inputs (functions problem.now) edges.values.now edges.judged.now)
-        edges.judged.now fewer.old.items }
-    ensures { AreFewer
-        (LeadsOn problem.now.inputs (functions problem.now) edges.entry.values.now
-        edges.entry.judged.now) edges.entry.judged.now fewer.new.items }
+fn leave_out(edges: Edges, images: &[Mask], fewer: &mut Vec<u16>)
+    requires guides { AreGuidesOf edges images.now }
+    requires fewer { AreEnough edges fewer.old.items }
+    ensures { AreEnough edges.entry fewer.new.items }
 {
     for set in 0..images.len() {
         if images[set] as usize > set {
@@ -85,44 +73,29 @@ fn leave_out(problem: &Problem, edges: Edges, images: &[Mask], fewer: &mut Vec<u
 /// Leaves out edges by an exchange. Returns whether it changes nothing.
 fn leave_out_by(
     alloc: Global,
-    problem: &Problem,
     points: &[u16],
     edges: Edges,
     partners: &[VarIx],
     fewer: &mut Vec<u16>,
 ) -> Result<bool, AllocError>
-    requires points { length points.now ≡ 2 ^ problem.now.inputs }
-    requires told { TellValues problem.now points.now }
-    requires edges { AreEdgeTables problem.now.inputs edges.values.now edges.judged.now }
-    requires fewer { AreFewer
-        (LeadsOn problem.now.inputs (functions problem.now) edges.values.now edges.judged.now)
-        edges.judged.now fewer.old.items }
-    ensures { OnOk result
-        (AreFewer
-        (LeadsOn problem.now.inputs (functions problem.now) edges.entry.values.now
-        edges.entry.judged.now) edges.entry.judged.now fewer.new.items) }
+    requires points { length points.now ≡ 2 ^ edges.problem.now.inputs }
+    requires told { TellValues edges.problem.now points.now }
+    requires fewer { AreEnough edges fewer.old.items }
+    ensures { OnOk result (AreEnough edges.entry fewer.new.items) }
 {
-    let Some(images) = images_if_kept(alloc, problem, points, edges, partners)? else {
+    let Some(images) = images_if_kept(alloc, points, edges, partners)? else {
         return Ok(false);
     };
-    leave_out(problem, edges, &images, fewer);
+    leave_out(edges, &images, fewer);
     Ok(true)
 }
 
 /// Fewer edges, if variables may be exchanged: those into sets that lead on are left out.
-pub(crate) fn fewer_edges(
-    alloc: Global,
-    problem: &Problem,
-    edges: Edges,
-) -> Result<Option<Vec<u16>>, AllocError>
-    requires { AreEdgeTables problem.now.inputs edges.values.now edges.judged.now }
-    ensures { IfOk result
-        (λ o. IfSome o (λ v. AreFewer
-        (LeadsOn problem.now.inputs (functions problem.now) edges.entry.values.now
-        edges.entry.judged.now) edges.entry.judged.now v.items)) }
+pub(crate) fn fewer_edges(alloc: Global, edges: Edges) -> Result<Option<Vec<u16>>, AllocError>
+    ensures { IfOk result (λ o. IfSome o (λ v. AreEnough edges.entry v.items)) }
 {
-    let inputs = problem.inputs();
-    let points = values_by_point(alloc, problem)?;
+    let inputs = edges.problem.inputs();
+    let points = values_by_point(alloc, edges.problem)?;
     let marks = marks_of(alloc, inputs, &points)?;
     let mut fewer = Vec::with_capacity(alloc, edges.judged.len())?;
     fewer.extend_from_slice(edges.judged)?;
@@ -134,7 +107,7 @@ pub(crate) fn fewer_edges(
             Pick::Rank(number - inputs)
         };
         if let Some(partners) = partners_of(alloc, &marks, pick)? {
-            let kept = leave_out_by(alloc, problem, &points, edges, &partners, &mut fewer)?;
+            let kept = leave_out_by(alloc, &points, edges, &partners, &mut fewer)?;
             some = some || kept;
         }
     }

@@ -1,59 +1,56 @@
 //! Tables of sets of the highest variables, which tasks share.
 
-ghost use Rattle.std.specs.Prelude.{◌≡◌, ◌+◌, ◌%◌, ◌^◌, ◌<◌, ◌≤◌, IfOk, IfSome, OnOk};
+ghost use Rattle.std.specs.Prelude.{◌≡◌, ◌+◌, ◌-◌, ◌<◌, ◌≤◌, IfOk, IfSome, OnOk};
 ghost use Rattle.std.specs.List.{All};
-ghost use Rattle.order_model.specs.Problems.{functions};
-ghost use Rattle.cert_check.specs.Edges.{CanWalk, FailsWithin, IsFirstEdge, IsTop};
+ghost use Rattle.cert_check.specs.Edges.{IsFirstEdge};
+ghost use Rattle.cert_check.specs.Blocks.{IsBlock, StandsAt};
+ghost use Rattle.cert_check.specs.Walks.{FailsInBlock};
 
 use crate::class_table::ClassTable;
-use crate::walk::{Edge, Edges, first_in_part, has_judged};
+use crate::position::{Edge, Position};
+use crate::walk::{first_in_part, has_upper_judged, upper_table};
 use order_model::{Mask, VarIx};
 use std::alloc::{AllocError, Global};
 
-/// The table with one more variable, below which its set has none, if an edge is judged into a set
-/// that has these variables and smaller ones.
-fn larger_table<'a>(
+/// The table of the upper half, if an edge is judged into one of its sets.
+fn judged_upper_table<'t>(
     alloc: Global,
-    edges: Edges,
-    inputs: u8,
-    table: &ClassTable<'a>,
-    x: VarIx,
-) -> Result<Option<ClassTable<'a>>, AllocError>
-    requires walk { CanWalk inputs table.now edges.values.now edges.judged.now }
-    requires inside { x < inputs }
-    requires level { x < table.now.level }
-    requires free { table.now.set % 2 ^ (x + 1) ≡ 0 }
-    requires set { table.now.set < 2 ^ inputs }
-    ensures { IfOk result (λ o. IfSome o (IsTop inputs table.now x)) }
+    at: Position<'_, 't>,
+) -> Result<Option<ClassTable<'t>>, AllocError>
+    requires { 0 < at.free }
+    ensures { IfOk result
+        (λ o. IfSome o (StandsAt at.entry.edges.problem.now (at.entry.free - 1))) }
 {
-    if !has_judged(edges.judged, table.set() + (1 << x), x) {
+    if !has_upper_judged(at) {
         return Ok(None);
     }
-    let larger = table.with_variable(alloc, x)?;
+    let larger = upper_table(alloc, at)?;
     Ok(Some(larger))
 }
 
-/// Adds the tables with one more variable, below which their sets have none.
-fn add_variable<'a>(
+/// Adds the tables of the upper halves: of the root, and of the tables that are there.
+fn add_variable<'t>(
     alloc: Global,
-    edges: Edges,
-    inputs: u8,
-    root: &ClassTable<'a>,
-    x: VarIx,
-    tops: &mut Vec<ClassTable<'a>>,
+    root: Position<'_, 't>,
+    tops: &mut Vec<ClassTable<'t>>,
 ) -> Result<(), AllocError>
-    requires walk { CanWalk inputs root.now edges.values.now edges.judged.now }
-    requires root { IsTop inputs root.now (x + 1) root.now }
-    requires inside { x < inputs }
-    requires tops { All (IsTop inputs root.now (x + 1)) tops.old.items }
-    ensures { OnOk result (All (IsTop inputs root.entry.now x) tops.new.items) }
+    requires free { 0 < root.free }
+    requires tops { All (StandsAt root.edges.problem.now root.free) tops.old.items }
+    ensures { OnOk result
+        (All (StandsAt root.entry.edges.problem.now (root.entry.free - 1)) tops.new.items) }
 {
+    let Position { edges, free, .. } = root;
     let made = tops.len();
-    if let Some(larger) = larger_table(alloc, edges, inputs, root, x)? {
+    if let Some(larger) = judged_upper_table(alloc, root)? {
         tops.push(larger)?;
     }
     for i in 0..made {
-        if let Some(larger) = larger_table(alloc, edges, inputs, &tops[i], x)? {
+        let at = Position {
+            edges,
+            table: &tops[i],
+            free,
+        };
+        if let Some(larger) = judged_upper_table(alloc, at)? {
             tops.push(larger)?;
         }
     }
@@ -62,21 +59,23 @@ fn add_variable<'a>(
 
 /// The tables of the sets of variables from `y` on, but for the empty one, into which or behind
 /// which an edge is judged.
-pub(crate) fn top_tables<'a>(
+pub(crate) fn top_tables<'t>(
     alloc: Global,
-    edges: Edges,
-    inputs: u8,
-    root: &ClassTable<'a>,
+    root: Position<'_, 't>,
     y: VarIx,
-) -> Result<Vec<ClassTable<'a>>, AllocError>
-    requires walk { CanWalk inputs root.now edges.values.now edges.judged.now }
-    requires root { IsTop inputs root.now inputs root.now }
-    requires variable { y ≤ inputs }
-    ensures { IfOk result (λ v. All (IsTop inputs root.entry.now y) v.items) }
+) -> Result<Vec<ClassTable<'t>>, AllocError>
+    requires { y ≤ root.free }
+    ensures { IfOk result (λ v. All (StandsAt root.entry.edges.problem.now y) v.items) }
 {
+    let Position { edges, table, free } = root;
     let mut tops = Vec::new(alloc);
-    for x in (y..inputs).rev() {
-        add_variable(alloc, edges, inputs, root, x, &mut tops)?;
+    for x in (y..free).rev() {
+        let above = Position {
+            edges,
+            table,
+            free: x + 1,
+        };
+        add_variable(alloc, above, &mut tops)?;
     }
     Ok(tops)
 }
@@ -86,31 +85,27 @@ pub(crate) fn top_tables<'a>(
 /// the empty set.
 pub(crate) fn first_from_tops(
     alloc: Global,
-    edges: Edges,
-    inputs: u8,
-    root: &ClassTable,
+    root: Position,
     tops: &[ClassTable],
     y: VarIx,
     part: Mask,
     end: VarIx,
 ) -> Result<Option<Edge>, AllocError>
-    requires walk { CanWalk inputs root.now edges.values.now edges.judged.now }
-    requires empty { root.now.set ≡ 0 }
-    requires level { inputs ≤ root.now.level }
-    requires tops { All (IsTop inputs root.now y) tops.now }
-    requires variable { y < inputs }
-    requires end { end ≤ y }
-    requires aligned { part % 2 ^ end ≡ 0 }
-    requires part { part < 2 ^ inputs }
-    ensures { IfOk result
-        (IsFirstEdge
-        (FailsWithin inputs (functions root.now.problem) edges.entry.values.now
-        edges.entry.judged.now part end)) }
+    requires root { (root.table.now.set ≡ 0) × (root.free ≡ root.edges.problem.now.inputs) }
+    requires tops { All (StandsAt root.edges.problem.now y) tops.now }
+    requires end { (end ≤ y) × (y < root.free) }
+    requires part { IsBlock root.edges.problem.now.inputs part end }
+    ensures { IfOk result (IsFirstEdge (FailsInBlock root.entry.edges part end)) }
 {
     for table in tops {
         if table.set() == part >> y << y {
-            return first_in_part(alloc, edges, inputs, table, y, part, end);
+            let top = Position {
+                edges: root.edges,
+                table,
+                free: y,
+            };
+            return first_in_part(alloc, top, part, end);
         }
     }
-    first_in_part(alloc, edges, inputs, root, inputs, part, end)
+    first_in_part(alloc, root, part, end)
 }

@@ -1,31 +1,48 @@
-use Rattle.std.proofs.Common.{IfOk, Option, arith, subst, ◌∙◌, ◌≡◌, ◌*◌, ◌/◌, ◌^◌}
-use Rattle.std.proofs.lemmas.Nat.{div-add-mod'}
-use Rattle.order_model.specs.Problems.{functions}
-use Rattle.cert_check.specs.Edges.{FailsWithin, IsFirstEdge, IsPartTable, table_or}
+use Rattle.std.proofs.Common.{IfOk, Option, arith, subst}
+use Rattle.cert_check.specs.Edges.{IsFirstEdge}
+use Rattle.cert_check.specs.Blocks.{IsPartTable, table_or}
+use Rattle.cert_check.specs.Walks.{FailsInBlock}
 use Rattle.cert_check.specs.Tables.{TableOf}
-use Rattle.cert_check.proofs.HighSets.{high_room}
+use Rattle.cert_check.proofs.Stands.{part_set, stands_part}
 use Rattle.cert_check.proofs.walk.first_in_part.Goals as goal
 
-pub has_judged-requires-clause-within : goal.has_judged-requires-clause-within
-has_judged-requires-clause-within c =
-    let v = c.requires.variable in
-    let e = c.requires.end in
-    let r = high_room c.args.inputs c.args.part c.args.end (omega arith) c.requires.aligned c.requires.part in
-    let l = c.requires.walk.edges.judged_all in
-    omega arith
+pub has_judged-requires : goal.has_judged-requires
+has_judged-requires c =
+    let few = c.args.at.edges.tables.few in
+    let inside = c.args.at.stands.inside in
+    let end = c.requires.end in
+    let room = c.requires.part.room in
+    let all = c.args.at.edges.tables.judged_all in
+    record { variable = omega arith; within = omega arith }
+
+pub invariant_of-own_part : goal.invariant_of-own_part
+invariant_of-own_part c =
+    let root = c.args.at.table.now in
+    let is = subst (λ (o : Option TableOf). IsPartTable root c.args.part c.args.end (table_or o root)) c.in-Some.is c.in_ok-own.ensures in
+    record {
+      stands = stands_part c.args.at.edges.problem.now c.args.part c.args.end root c.in-Some.own c.requires.part
+          (let end = c.requires.end in let inside = c.args.at.stands.inside in omega arith) c.args.at.stands.problem is;
+    }
 
 pub returns-in-Some : goal.returns-in-Some
 returns-in-Some c =
-    let n = c.args.inputs in
-    let v = c.args.edges.values.now in
-    let j = c.args.edges.judged.now in
-    let root = c.args.table.now in
-    let part = c.args.part in
-    let end = c.args.end in
-    let own = c.in-Some.own in
-    let is = subst (λ (o : Option TableOf). IsPartTable root part end (table_or o root)) c.in-Some.is c.in_ok-own.ensures in
-    let d = div-add-mod' part (2 ^ end) in
-    let whole = c.requires.aligned in
-    let set : own.set ≡ part = is.set ∙ (let e : part / 2 ^ end * 2 ^ end ≡ part = omega arith in e) in
-    subst (λ t. IfOk c.first_above.result (IsFirstEdge (FailsWithin n (functions t) v j part end))) is.problem
-    (subst (λ s. IfOk c.first_above.result (IsFirstEdge (FailsWithin n (functions own.problem) v j s end))) set c.first_above.ensures)
+    let root = c.args.at.table.now in
+    let is = subst (λ (o : Option TableOf). IsPartTable root c.args.part c.args.end (table_or o root)) c.in-Some.is c.in_ok-own.ensures in
+    subst (λ s. IfOk c.first_failing.result (IsFirstEdge (FailsInBlock c.args.at.edges s c.args.end)))
+    (part_set c.args.at.edges.problem.now c.args.part c.args.end root c.in-Some.own c.requires.part is) c.first_failing.ensures
+
+pub invariant_of-same : goal.invariant_of-same
+invariant_of-same c =
+    let root = c.args.at.table.now in
+    let is = subst (λ (o : Option TableOf). IsPartTable root c.args.part c.args.end (table_or o root)) c.in-None.is c.in_ok-own.ensures in
+    record {
+      stands = stands_part c.args.at.edges.problem.now c.args.part c.args.end root root c.requires.part
+          (let end = c.requires.end in let inside = c.args.at.stands.inside in omega arith) c.args.at.stands.problem is;
+    }
+
+pub returns-in-None : goal.returns-in-None
+returns-in-None c =
+    let root = c.args.at.table.now in
+    let is = subst (λ (o : Option TableOf). IsPartTable root c.args.part c.args.end (table_or o root)) c.in-None.is c.in_ok-own.ensures in
+    subst (λ s. IfOk c.first_failing-in-None.result (IsFirstEdge (FailsInBlock c.args.at.edges s c.args.end)))
+    (part_set c.args.at.edges.problem.now c.args.part c.args.end root root c.requires.part is) c.first_failing-in-None.ensures

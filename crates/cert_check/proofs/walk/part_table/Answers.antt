@@ -2,7 +2,7 @@ use Rattle.std.proofs.Common.{◌≡◌, ◌-◌, Option, arith, subst, sym}
 use Rattle.std.specs.Int.{bit_at}
 use Rattle.std.proofs.lemmas.Bool.{iff_false}
 use Rattle.std.proofs.lemmas.Nat.Bits.{bit_at-lt}
-use Rattle.cert_check.specs.Edges.{IsPartTable, table_or}
+use Rattle.cert_check.specs.Blocks.{IsPartTable, table_or}
 use Rattle.cert_check.specs.Tables.{TableOf}
 use Rattle.cert_check.proofs.PartTables.{part_free, part_skip, part_with}
 use Rattle.cert_check.proofs.walk.part_table.Goals as goal
@@ -11,21 +11,21 @@ use Rattle.cert_check.proofs.walk.part_table.Goals.{in-Some+in_ok-larger-in-Some
 pub with_variable-requires-clause-free : goal.with_variable-requires-clause-free
 with_variable-requires-clause-free c =
     let more = c.loop-x-test.true in
-    let root = c.args.table.now in
+    let root = c.args.at.table.now in
     let is = subst (λ (o : Option TableOf). IsPartTable root c.args.part c.loop-x.x (table_or o root)) c.in-Some.is c.loop-x.invariant.is in
     part_free root c.args.part (c.loop-x.x - 1) c.loop-x.x (omega arith) c.in-Some.smaller is
 
 pub with_variable-requires-in-None-clause-free : goal.with_variable-requires-in-None-clause-free
 with_variable-requires-in-None-clause-free c =
     let more = c.loop-x-test.true in
-    let root = c.args.table.now in
+    let root = c.args.at.table.now in
     let is = subst (λ (o : Option TableOf). IsPartTable root c.args.part c.loop-x.x (table_or o root)) c.in-None.is c.loop-x.invariant.is in
     part_free root c.args.part (c.loop-x.x - 1) c.loop-x.x (omega arith) root is
 
 pub loop-x-preserved-then-contains : goal.loop-x-preserved-then-contains
 loop-x-preserved-then-contains c =
     let more = c.loop-x-test.true in
-    let root = c.args.table.now in
+    let root = c.args.at.table.now in
     let part = c.args.part in
     let x = c.loop-x.x - 1 in
     let one = c.contains.ensures.0 c.if-contains.true in
@@ -47,7 +47,7 @@ loop-x-preserved-then-contains c =
 pub loop-x-preserved : goal.loop-x-preserved
 loop-x-preserved c =
     let more = c.loop-x-test.true in
-    let root = c.args.table.now in
+    let root = c.args.at.table.now in
     let part = c.args.part in
     let x = c.loop-x.x - 1 in
     let absent = iff_false c.contains.ensures c.if-contains.false in

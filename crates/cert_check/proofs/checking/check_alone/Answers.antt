@@ -1,7 +1,0 @@
-use Rattle.std.proofs.Common.{rules}
-use Rattle.order_model.specs.Problems.{functions}
-use Rattle.cert_check.proofs.Verdicts.{verdict_from}
-use Rattle.cert_check.proofs.checking.check_alone.Goals as goal
-
-pub returns : goal.returns
-returns c = verdict_from c.args.tables.now.inputs (functions c.args.tables.now) c.args.cert.now c.verdict_by.result (search rules)

@@ -1,0 +1,173 @@
+//! The walk over all sets, by many threads or by one.
+
+ghost use Rattle.std.specs.Prelude.{◌≡◌, ◌-◌, ◌*◌, ◌^◌, ◌<◌, ◌≤◌, IfOk};
+ghost use Rattle.cert_check.specs.Edges.{IsFirstEdge, IsFirstOfParts, part_at};
+ghost use Rattle.cert_check.specs.Walks.{CanStart, FailsAmong, FailsInBlock};
+
+use crate::class_table::ClassTable;
+use crate::early::edges_up_to;
+use crate::fewer::fewer_edges;
+use crate::position::{Edge, Edges, Position};
+use crate::tops::{first_from_tops, top_tables};
+use crate::walk::{first_failing, first_of};
+use order_model::{Mask, VarIx};
+use rayon::prelude::*;
+use std::alloc::{AllocError, Global};
+use std::thread::Threads;
+
+/// The sets are shared out among tasks by so many of their highest variables.
+const PART_VARIABLES: u8 = 6;
+
+/// The tables of sets of so many of the highest variables are made once for all tasks.
+const SHARED_VARIABLES: u8 = 2;
+
+/// The part at a place. Parts of few variables take longest; laying the low bits over the high ones
+/// spreads them evenly over runs of neighbouring places.
+#[tactic(auto, unfolding(crate::specs::Edges::part_at), using(crate::proofs::Places::part_within))]
+fn part_of(place: usize, end: u8) -> Mask
+    requires end { end ≤ 6 }
+    requires place { place < 2 ^ end }
+    ensures part { result ≡ part_at end place }
+    ensures within { result < 2 ^ end }
+{
+    let mixed = place ^ ((place & 7) * 8);
+    (mixed & ((1 << end) - 1)) as Mask
+}
+
+/// The first of the edges that parts found, if no part lacked memory.
+fn first_of_parts(parts: &[Result<Option<Edge>, AllocError>]) -> Result<Option<Edge>, AllocError>
+    ensures { IfOk result (IsFirstOfParts parts.now) }
+{
+    let mut first = None;
+    for part in parts {
+        match part {
+            Ok(edge) => first = first_of(first, *edge),
+            Err(_) => return Err(AllocError),
+        }
+    }
+    Ok(first)
+}
+
+/// The first edge that fails, of all that are judged: each task walks over the sets that have the
+/// same `end` highest variables.
+fn first_by_tasks<R: Threads + Sync>(
+    rt: &R,
+    alloc: Global,
+    root: Position,
+    tops: &[ClassTable],
+    y: VarIx,
+    end: u8,
+) -> Result<Option<Edge>, AllocError>
+    requires { CanStart root tops.now y end }
+    ensures { IfOk result (IsFirstEdge (FailsAmong root.entry.edges)) }
+{
+    let parts: Vec<Result<Option<Edge>, AllocError>> = (0..1usize << end)
+        .into_par_iter()
+        .with_min_len(1)
+        .map(
+            |place: usize| -> Result<Option<Edge>, AllocError>
+                requires { (place < 2 ^ end) × CanStart root tops.now y end }
+                ensures { IfOk result
+                    (IsFirstEdge
+                    (FailsInBlock root.entry.edges (part_at end place * 2 ^ (root.entry.free - end))
+                    (root.entry.free - end))) }
+            {
+                let bottom = root.free - end;
+                let part = part_of(place, end) << bottom;
+                first_from_tops(alloc, root, tops, y, part, bottom)
+            },
+        )
+        .collect(rt, alloc)?;
+    first_of_parts(&parts)
+}
+
+/// Who walks over the sets.
+pub(crate) trait Walker {
+    // What a walk asks for.
+    ghost ready: { Self → Type 0 };
+
+    /// The first edge that fails, of all that are judged.
+    fn first_of_all(&self, alloc: Global, edges: Edges) -> Result<Option<Edge>, AllocError>
+        requires { ready self.now }
+        ensures { IfOk result (IsFirstEdge (FailsAmong edges.entry)) };
+}
+
+/// The threads of `rayon`.
+#[derive(Drop)]
+pub(crate) struct ThreadPool<'r, R> {
+    pub(crate) rt: &'r R,
+}
+
+/// The calling thread.
+#[derive(Drop)]
+pub(crate) struct CallingThread;
+
+impl<'r, R: Threads + Sync> Walker for ThreadPool<'r, R> {
+    ghost use Rattle.std.specs.Thread.{IsSync};
+
+    ghost ready = { λ _. IsSync R.row };
+
+    fn first_of_all(&self, alloc: Global, edges: Edges) -> Result<Option<Edge>, AllocError> {
+        let inputs = edges.problem.inputs();
+        let end = inputs.min(PART_VARIABLES);
+        let table = ClassTable::of_problem(alloc, edges.problem)?;
+        let root = Position {
+            edges,
+            table: &table,
+            free: inputs,
+        };
+        let y = inputs - end.min(SHARED_VARIABLES);
+        let tops = top_tables(alloc, root, y)?;
+        first_by_tasks(self.rt, alloc, root, &tops, y, end)
+    }
+}
+
+impl Walker for CallingThread {
+    ghost ready = { λ _. Unit {0} };
+
+    fn first_of_all(&self, alloc: Global, edges: Edges) -> Result<Option<Edge>, AllocError> {
+        let table = ClassTable::of_problem(alloc, edges.problem)?;
+        let root = Position {
+            edges,
+            table: &table,
+            free: edges.problem.inputs(),
+        };
+        first_failing(alloc, root, false)
+    }
+}
+
+/// The first edge that fails, of all that are judged. If variables may be exchanged without a
+/// change, fewer edges are judged first; if one of these fails, the first of all is one from a set
+/// up to that one's.
+pub(crate) fn first_failure<W: Walker>(
+    walker: &W,
+    alloc: Global,
+    edges: Edges,
+) -> Result<Option<Edge>, AllocError>
+    requires { W.ready walker.now }
+    ensures { IfOk result (IsFirstEdge (FailsAmong edges.entry)) }
+{
+    let Edges {
+        problem,
+        values,
+        ..
+    } = edges;
+    let Some(judged) = fewer_edges(alloc, edges)? else {
+        return walker.first_of_all(alloc, edges);
+    };
+    let fewer = Edges {
+        problem,
+        values,
+        judged: &judged,
+    };
+    let Some((last, _)) = walker.first_of_all(alloc, fewer)? else {
+        return Ok(None);
+    };
+    let judged = edges_up_to(alloc, edges.judged, last)?;
+    let early = Edges {
+        problem,
+        values,
+        judged: &judged,
+    };
+    walker.first_of_all(alloc, early)
+}
