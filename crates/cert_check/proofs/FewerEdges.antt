@@ -1,5 +1,5 @@
 -- Fewer judged edges.
---     fewer_start, fewer_step      no set is left out; one more set is left out
+--     fewer_step      one more set is left out
 --     fewer_tables, fewer_fails      fewer edges are tables of edges too; one that fails among them is one that fails
 --     first_early      if an edge fails, the first one that fails is the first among those from sets up to that one's
 --     first_again      so it is if that edge was the first of fewer ones
@@ -12,10 +12,6 @@ use Rattle.std.proofs.lemmas.Nat.Bits.{bit_at-zero}
 use Rattle.order_model.specs.Functions.{Function}
 use Rattle.cert_check.specs.Edges.{AreEdgeTables, Fails, IsFirstEdge}
 use Rattle.cert_check.specs.FewerEdges.{AreFewer, IsPast}
-
--- no set is left out
-pub fewer_start : (why : ℕ → Type 0) (judged : List ℕ) → AreFewer why judged judged
-fewer_start why judged = record { long = refl; each = λ T. inl refl }
 
 -- one more set is left out
 pub fewer_step : (why : ℕ → Type 0) (judged fewer : List ℕ) (T : ℕ) → T < length judged → AreFewer why judged fewer → why T →

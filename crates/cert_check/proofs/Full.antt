@@ -118,9 +118,11 @@ module _ (t : TableOf) (count : ℕ) (h : IsFull t count) (x : ℕ) (inside : x 
       let n = half in
       let m = made (count / 2) (omega arith) in
       rows_more t x inside below free cs (replicate count t.set) h out (replicate (count / 2) union)
-      (made_numbers 0 ps join out (replicate (count / 2) union) (count / 2) (omega arith) m)
-      (made_many 0 ps join out (replicate (count / 2) union) (count / 2) (omega arith) m)
-      (made_told 0 ps join out (replicate (count / 2) union) (count / 2) (omega arith) m)
+      (record {
+        numbers_are = made_numbers 0 ps join out (replicate (count / 2) union) (count / 2) (omega arith) m;
+        many = made_many 0 ps join out (replicate (count / 2) union) (count / 2) (omega arith) m;
+        told = made_told 0 ps join out (replicate (count / 2) union) (count / 2) (omega arith) m;
+      })
 
 all_kept : (p : ℕ → Bool) (v n : ℕ) → p v ≡ true → length (filter p (replicate n v)) ≡ n
 all_kept p v zero e = refl

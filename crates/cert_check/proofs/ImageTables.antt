@@ -1,33 +1,21 @@
 -- The images of sets when variables are exchanged, with one variable after the other.
 --     AreImagesTo n partners x images      the images of the sets of variables below x
---     images_none, images_more, images_all      of the empty set, with one variable more, and of all sets
-use Rattle.std.proofs.Common.{◌≡◌, ℕ, ◌+◌, ◌-◌, ◌*◌, ◌^◌, ◌<◌, max, inl, inr, List, [], ◌∷◌, ◌++◌, map, length, slice_index, bit_or, refl, sym, ap, ◌∙◌, subst, arith, pow_pos, zero-mul}
+--     images_more      with one variable more
+use Rattle.std.proofs.Common.{◌≡◌, ℕ, ◌+◌, ◌-◌, ◌*◌, ◌^◌, ◌<◌, max, inl, inr, List, ◌++◌, map, length, slice_index, bit_or, sym, ap, ◌∙◌, subst, arith, zero-mul}
 use Rattle.std.specs.Int.{bit_at}
 use Rattle.std.proofs.lemmas.Bool.{cases_eq, cases_lt}
 use Rattle.std.proofs.lemmas.List.{get_or-map, get_or_append_left, get_or-append_right, length-append, length-map}
 use Rattle.std.proofs.lemmas.Grind.{pow_more}
 use Rattle.std.proofs.Math.Pow.{pow-lt}
 use Rattle.std.proofs.lemmas.Nat.{or_disjoint, or_lt}
-use Rattle.std.proofs.lemmas.Nat.Bits.{and_pow, bit_at-pow_same, bit_at-pow_other, bit_at-zero, bit_at_above, bit_at_or}
+use Rattle.std.proofs.lemmas.Nat.Bits.{and_pow, bit_at-pow_same, bit_at-pow_other, bit_at_above, bit_at_or}
 use Rattle.symmetries.specs.Exchanges.{IsExchange}
-use Rattle.cert_check.specs.Images.{AreImages, IsImage}
+use Rattle.cert_check.specs.Images.{IsImage}
 
 -- the images of the sets of variables below x
 pub record AreImagesTo (n : ℕ) (partners : List ℕ) (x : ℕ) (images : List ℕ) : Type 0 where
   pub long : length images ≡ 2 ^ x
   pub each : (S : ℕ) → S < 2 ^ x → IsImage n partners S (slice_index images S)
-
--- of the empty set
-pub images_none : (n : ℕ) (partners : List ℕ) → AreImagesTo n partners 0 (0 ∷ [])
-images_none n partners = record {
-  long = refl;
-  each = λ S l.
-      let none : S ≡ 0 = omega arith in
-      subst (λ k. IsImage n partners k (slice_index (0 ∷ []) k)) (sym none) (record {
-        small = pow_pos n;
-        bits = λ y less. bit_at-zero y ∙ sym (bit_at-zero (slice_index partners y));
-      });
-}
 
 -- the bits of a set of variables below x, with x
 bits_with : (S x y : ℕ) → S < 2 ^ x → bit_at (S + 2 ^ x) y ≡ max (bit_at S y) (bit_at (2 ^ x) y)
@@ -81,10 +69,3 @@ images_more n partners x images e inside are = record {
 
     others : List ℕ
     others = map with images
-
--- of all sets
-pub images_all : (n : ℕ) (partners : List ℕ) (x : ℕ) (images : List ℕ) → x ≡ n → AreImagesTo n partners x images → AreImages n partners images
-images_all n partners x images e are = record {
-  long = are.long ∙ ap (λ k. 2 ^ k) e;
-  each = λ S l. are.each S (subst (λ k. S < 2 ^ k) (sym e) l);
-}

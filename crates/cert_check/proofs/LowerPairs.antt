@@ -110,4 +110,5 @@ pairs_with_width t x y inside below free numbers masks h member =
     told = masks_told ps (ranks same_pair ps) keys.0 refl keys.1.many (numbers_told keys.0 ps keys.1) join
 
     more : HoldsRows (rows_with t x) (ranks same_pair ps) joined
-    more = rows_more t x inside below free numbers masks h (ranks same_pair ps) joined refl many told
+    more = rows_more t x inside below free numbers masks h (ranks same_pair ps) joined
+        (record { numbers_are = refl; many = many; told = told })

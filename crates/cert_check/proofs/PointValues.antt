@@ -1,7 +1,7 @@
 -- The values of functions at points, as numbers, and exchanges that these numbers do not notice.
 --     TellTo t j values      points with equal numbers have equal values of the first j functions
 --     room      one bit more fits 16 bits
---     tell_none, tell_more, tell_all      of no function, with one function more, and of all
+--     tell_more      with one function more
 --     symmetric_by_values      where points and their images have equal numbers, the functions are symmetric
 --     guided      an exchange that keeps the functions' values and the edges shows which sets lead on
 use Rattle.std.proofs.Common.{◌≡◌, ℕ, ◌+◌, ◌*◌, ◌^◌, ◌<◌, ◌≤◌, Bool, true, false, inl, inr, List, [], length, get_or, slice_index, refl, sym, ap, ◌∙◌, subst, arith, pow_mono, pow_pos}
@@ -11,7 +11,7 @@ use Rattle.std.proofs.lemmas.Grind.{pow_more}
 use Rattle.std.proofs.lemmas.List.{get_or-map, length-map}
 use Rattle.std.proofs.lemmas.Nat.Bits.{same_from_bits_below}
 use Rattle.order_model.specs.Functions.{Point, weight, number, from_table, SameFunction}
-use Rattle.order_model.specs.Problems.{TruthTables, functions, outputs_of, packed_bit, table_at, table_in, value_at}
+use Rattle.order_model.specs.Problems.{TruthTables, functions, packed_bit, table_at, table_in, value_at}
 use Rattle.order_model.proofs.Bits.PointNumbers.{number-small, bit-number}
 use Rattle.class_laws.proofs.ValueRows.{bit_in}
 use Rattle.symmetries.specs.Exchanges.{AreSymmetric, IsExchange, exchanged}
@@ -27,14 +27,6 @@ pub record TellTo (t : TruthTables) (j : ℕ) (values : List ℕ) : Type 0 where
   pub long : length values ≡ 2 ^ t.inputs
   pub below : (p : ℕ) → slice_index values p < 2 ^ j
   pub told : (p q : ℕ) → p < 2 ^ t.inputs → q < 2 ^ t.inputs → slice_index values p ≡ slice_index values q → (i : ℕ) → i < j → value_at t i p ≡ value_at t i q
-
--- of no function
-pub tell_none : (t : TruthTables) (values : List ℕ) → length values ≡ 2 ^ t.inputs → ((p : ℕ) → slice_index values p ≡ 0) → TellTo t 0 values
-tell_none t values long zeros = record {
-  long = long;
-  below = λ p. (let z = zeros p in omega arith);
-  told = λ p q l m e i less. absurd (omega arith);
-}
 
 -- the last bits and what stands before them are told by the sum
 parts_same : (a b : ℕ) (v w : Bool) → 2 * a + weight v ≡ 2 * b + weight w → (a ≡ b) × (v ≡ w)
@@ -78,10 +70,6 @@ tell_more t j old new words tell long table each = record {
   where
     value : (p : ℕ) → p < 2 ^ t.inputs → packed_bit words p ≡ value_at t j p
     value p l = bit_in t.inputs words p l ∙ ap (λ u. get_or u p false) table
-
--- of all functions
-pub tell_all : (t : TruthTables) (j : ℕ) (values : List ℕ) → j ≡ outputs_of t → TellTo t j values → TellValues t values
-tell_all t j values e tell = λ p q l m same i less. tell.told p q l m same i (omega arith)
 
 -- the number of a point with exchanged variables is the image of its number
 number_exchanged : (n : ℕ) (partners images : List ℕ) → IsExchange n partners → AreImages n partners images → (p : Point) → length p ≡ n →

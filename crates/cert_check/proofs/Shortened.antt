@@ -1,5 +1,5 @@
 -- One more variable in the set of a class table of which rows are left out.
---     ready      what the numbering of the pairs asks for
+--     ready, pair_table      what the numbering of the pairs asks for
 --     rows_more      the table with one more variable, from the numbers of the pairs and their masks
 use Rattle.std.proofs.Common.{◌≡◌, ℕ, zero, suc, ◌+◌, ◌*◌, ◌%◌, ◌^◌, ◌<◌, Bool, true, false, nat_eq, inl, inr, List, [], ◌∷◌, map, length, get_or, refl, sym, ap, ◌∙◌, subst, arith}
 use Rattle.std.specs.Set.{distinct_count}
@@ -11,6 +11,7 @@ use Rattle.order_model.proofs.Lists.Sets.{Among, nat_decides}
 use Rattle.order_model.proofs.Widths.ClassPairs.{pair_decides}
 use Rattle.class_laws.specs.Dependence.{joined_mask}
 use Rattle.class_laws.specs.Numbering.{rank, ranks}
+use Rattle.class_laws.specs.PairTables.{IsPairTable, NumbersPairs}
 use Rattle.class_laws.specs.Places.{pairs}
 use Rattle.class_laws.specs.Table.{free_below, set_of}
 use Rattle.class_laws.proofs.Counted.{same_at}
@@ -64,6 +65,15 @@ module _ (t : TableOf) (x : ℕ) (inside : x < t.problem.inputs) (below : x < t.
       same_decides : (a b : ℕ) → (same_number a b ≡ true → a ≡ b) × (a ≡ b → same_number a b ≡ true)
       same_decides = nat_decides
 
+  pub pair_table : IsPairTable numbers x (length masks)
+  pair_table =
+      let most = ready.few_entries in
+      record {
+        paired = record { small_rank = ready.rank; short = omega arith; whole = ready.whole };
+        few = most;
+        below = ready.classes;
+      }
+
   abbrev all : List (ℕ × ℕ)
   all = pairs h.whole (2 ^ x)
 
@@ -76,26 +86,25 @@ module _ (t : TableOf) (x : ℕ) (inside : x < t.problem.inputs) (below : x < t.
   same_rank : (p : ℕ × ℕ) → rank same_pair all p ≡ rank same_pair few p
   same_rank = short_rank same_pair pair_decides (2 ^ x) h.steps all few short_all
 
-  pub rows_more : (numbered joined : List ℕ) → numbered ≡ ranks same_pair few → length joined ≡ distinct_count same_pair few →
-      map (λ c. get_or joined c 0) numbered ≡ map (joined_mask masks x) few → HoldsRows (rows_with t x) numbered joined
+  pub rows_more : (numbered joined : List ℕ) → NumbersPairs masks x few numbered joined → HoldsRows (rows_with t x) numbered joined
   unfolding ranks
-  rows_more numbered joined e many told = record {
+  rows_more numbered joined made = record {
     whole = ranks same_pair all;
     steps = h.steps;
     holds = holds_more (classes_at t) x inside new h.whole masks (ranks same_pair all) joined h.holds
         (ap (λ k. ranks same_pair (pairs h.whole (2 ^ k))) (sym rank_is))
-        (many ∙ sym (short_count same_pair pair_decides (2 ^ x) h.steps all few short_all)
+        (made.many ∙ sym (short_count same_pair pair_decides (2 ^ x) h.steps all few short_all)
         ∙ ap (λ k. distinct_count same_pair (pairs h.whole (2 ^ k))) (sym rank_is))
         (map-map (λ c. get_or joined c 0) (rank same_pair all) all
         ∙ map_same (λ p. get_or joined (rank same_pair all p) 0) (joined_mask masks x) all each
         ∙ ap (λ k. map (joined_mask masks x) (pairs h.whole (2 ^ k))) (sym rank_is));
     short = subst (λ us. IsShort (2 ^ x) h.steps us numbered) (map_same (rank same_pair few) (rank same_pair all) all (λ p a. sym (same_rank p)))
-        (subst (IsShort (2 ^ x) h.steps (map (rank same_pair few) all)) (sym e)
+        (subst (IsShort (2 ^ x) h.steps (map (rank same_pair few) all)) (sym made.numbers_are)
         (short_map (rank same_pair few) (2 ^ x) h.steps all few short_all));
   }
     where
       told_few : map (λ p. get_or joined (rank same_pair few p) 0) few ≡ map (joined_mask masks x) few
-      told_few = sym (map-map (λ c. get_or joined c 0) (rank same_pair few) few) ∙ ap (map (λ c. get_or joined c 0)) (sym e) ∙ told
+      told_few = sym (map-map (λ c. get_or joined c 0) (rank same_pair few) few) ∙ ap (map (λ c. get_or joined c 0)) (sym made.numbers_are) ∙ made.told
 
       each : (p : ℕ × ℕ) → Among p all → get_or joined (rank same_pair all p) 0 ≡ joined_mask masks x p
       each p a =

@@ -2,7 +2,7 @@
 //! change of any function, value or judged edge, a set and its image have edges of equal widths,
 //! and one of both need be judged.
 
-ghost use Rattle.std.specs.Prelude.{◌≡◌, ◌≤◌, ◌<◌, ◌^◌, ℕ, IfOk, IfSome, OnOk, IsTrue, length, slice_index};
+ghost use Rattle.std.specs.Prelude.{◌≡◌, ◌<◌, ◌^◌, ℕ, IfOk, IfSome, OnOk, IsTrue, length, slice_index};
 ghost use Rattle.cert_check.specs.Images.{TellValues};
 ghost use Rattle.cert_check.specs.FewerEdges.{AreKept};
 ghost use Rattle.cert_check.specs.Walks.{AreEnough, AreGuidesOf};

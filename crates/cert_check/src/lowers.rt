@@ -1,5 +1,5 @@
-//! What widths with one more variable are at least. Distinct lower classes are of distinct pairs, so
-//! that there are as many pairs as lower classes at least: no pair need be numbered to tell.
+//! What widths with one more variable are at least. Distinct lower classes are of distinct pairs,
+//! so that there are as many pairs as lower classes at least: no pair need be numbered to tell.
 
 ghost use Rattle.std.specs.Prelude.{◌≡◌, ℕ, ◌<◌, ◌≤◌, ◌^◌, length, slice_index, IfOk, IsTrue};
 ghost use Rattle.class_laws.specs.PairTables.{IsPairTable};
@@ -15,19 +15,17 @@ use std::alloc::{AllocError, Global};
 fn lower_masks(
     alloc: Global,
     numbers: &[u32],
-    rank: u32,
     x: VarIx,
     masks: &[u16],
 ) -> Result<Vec<u16>, AllocError>
-    requires table { IsPairTable numbers.now rank (length masks.now) }
-    requires variable { x < 16 }
+    requires { IsPairTable numbers.now x (length masks.now) }
     ensures long { IfOk result (λ v. length v.items ≡ length masks.now) }
     ensures told { IfOk result
-        (λ v. AreTold masks.now x (places.pairs numbers.now (2 ^ rank)) v.items) }
+        (λ v. AreTold masks.now x (places.pairs numbers.now (2 ^ x)) v.items) }
 {
     let mut told = vec![in alloc; 0u16; masks.len()]?;
     for j in 0..numbers.len() / 2 {
-        let pair = pair_at(numbers, rank, j);
+        let pair = pair_at(numbers, x, j);
         told[pair.0 as usize] |= join_mask(masks, x, pair);
     }
     Ok(told)
@@ -49,7 +47,7 @@ pub(crate) fn are_wide(
         (λ wide. IsTrue wide → (y : ℕ) → slice_index needed.now y ≤ pairs_with masks.now x y
         (places.pairs numbers.now (2 ^ x))) }
 {
-    let told = lower_masks(alloc, numbers, u32::from(x), x, masks)?;
+    let told = lower_masks(alloc, numbers, x, masks)?;
     for y in 0..needed.len() {
         if needed[y] > 0 && count_with(&told, y as VarIx) < needed[y] {
             return Ok(false);

@@ -1,6 +1,6 @@
 //! Tables of sets of the highest variables, which tasks share.
 
-ghost use Rattle.std.specs.Prelude.{◌≡◌, ◌+◌, ◌-◌, ◌<◌, ◌≤◌, IfOk, IfSome, OnOk};
+ghost use Rattle.std.specs.Prelude.{◌≡◌, ◌-◌, ◌<◌, ◌≤◌, IfOk, IfSome, OnOk};
 ghost use Rattle.std.specs.List.{All};
 ghost use Rattle.cert_check.specs.Edges.{IsFirstEdge};
 ghost use Rattle.cert_check.specs.Blocks.{IsBlock, StandsAt};

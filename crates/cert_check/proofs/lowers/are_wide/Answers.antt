@@ -3,7 +3,7 @@ use Rattle.std.specs.Int.{bit_at}
 use Rattle.std.specs.List.{filter}
 use Rattle.std.proofs.lemmas.Bool.{cases_lt}
 use Rattle.class_laws.specs.Places as places
-use Rattle.cert_check.specs.LowerClasses.{AreTold, pairs_with}
+use Rattle.cert_check.specs.LowerClasses.{pairs_with}
 use Rattle.cert_check.proofs.LowerMarks.{told_le}
 use Rattle.cert_check.proofs.lowers.are_wide.Goals as goal
 use Rattle.cert_check.proofs.lowers.are_wide.Goals.{else-needed-y-gt0-via-then-needed-y-gt0+else-count_with-needed, else-needed-y-gt0-via-else-needed-y-gt0}
@@ -16,8 +16,7 @@ loop-y-preserved c y l =
     let here : get_or c.args.needed.now c.loop-y.y 0 ≤ pairs_with masks c.args.x c.loop-y.y ps =
     elim c.else-needed-y-gt0.branch [
       | else-needed-y-gt0-via-then-needed-y-gt0+else-count_with-needed w ↦
-          let t = told_le masks c.args.x ps told c.loop-y.y
-          (subst (λ k. AreTold masks c.args.x (places.pairs c.args.numbers.now (2 ^ k)) told) c.from.ensures c.in_ok-told.ensures.told) in
+          let t = told_le masks c.args.x ps told c.loop-y.y c.in_ok-told.ensures.told in
           let e = w.count_with.ensures ∙ ap (λ ms. length (filter (λ m. eqb (bit_at m c.loop-y.y) 1) ms)) w.deref.ensures.value in
           let n = w.if-count_with-needed.false in
           omega arith

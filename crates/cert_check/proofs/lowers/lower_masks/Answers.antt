@@ -9,14 +9,14 @@ use Rattle.cert_check.proofs.lowers.lower_masks.Goals as goal
 
 pub loop-j-preserved : goal.loop-j-preserved
 loop-j-preserved c =
-    let ps = places.pairs c.args.numbers.now (2 ^ c.args.rank) in
+    let ps = places.pairs c.args.numbers.now (2 ^ c.args.x) in
     let j = c.loop-j.j in
     let small = c.loop-j-test.true in
     let told = c.loop-j.told.items in
     let lower = c.pair_at-pair.result.0 in
-    let l = length-pairs c.args.numbers.now (2 ^ c.args.rank) in
-    let is = pair_listed c.args.numbers.now (2 ^ c.args.rank) j small ∙ sym c.pair_at-pair.ensures in
-    let classes = (pair_classes c.args.numbers.now c.args.rank (length c.args.masks.now) j c.requires.table.paired.whole c.requires.table.below small).0 in
+    let l = length-pairs c.args.numbers.now (2 ^ c.args.x) in
+    let is = pair_listed c.args.numbers.now (2 ^ c.args.x) j small ∙ sym c.pair_at-pair.ensures in
+    let classes = (pair_classes c.args.numbers.now c.args.x (length c.args.masks.now) j c.requires.paired.whole c.requires.below small).0 in
     let same = ap (λ (p : ℕ × ℕ). p.0) c.pair_at-pair.ensures in
     let long = c.loop-j.invariant.long in
     let within : lower < length told = omega arith in

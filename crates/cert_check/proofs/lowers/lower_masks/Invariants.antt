@@ -6,5 +6,5 @@ use Rattle.cert_check.proofs.lowers.lower_masks.Given as goal
 abbrev pub invariant-loop-j : goal.invariant-loop-j
 invariant-loop-j l = record {
   long : length l.told.items ≡ length l.masks;
-  told : AreTold l.masks l.x (places.pairs l.numbers (2 ^ l.rank)) l.told.items;
+  told : AreTold l.masks l.x (places.pairs l.numbers (2 ^ l.x)) l.told.items;
 }

@@ -5,27 +5,22 @@ use Rattle.class_laws.specs.Places as places
 use Rattle.cert_check.specs.LowerClasses.{pairs_with}
 use Rattle.cert_check.specs.Tables.{HoldsTable, TableOf}
 use Rattle.cert_check.proofs.LowerPairs.{pairs_with_width}
-use Rattle.cert_check.proofs.Shortened.{ready}
+use Rattle.cert_check.proofs.Shortened.{pair_table, ready}
 use Rattle.cert_check.proofs.class_table.ClassTable.tells_wide.Goals as goal
 
 pub are_wide-requires : goal.are_wide-requires
 are_wide-requires c =
     let t = c.args.self.now in
-    let table =
-    subst (λ (z : TableOf). HoldsTable z c.self.inside.full c.self.inside.numbers.items c.self.inside.masks.items) c.self.view_is
-    c.self.invariant in
-    let h = subst (λ f. HoldsTable t f c.self.inside.numbers.items c.self.inside.masks.items) c.in-None.is table in
-    let r = ready t c.args.x c.requires.inside c.requires.below c.requires.free c.self.inside.numbers.items c.self.inside.masks.items h in
-    let most = r.few_entries in
+    let ns = c.self.inside.numbers.items in
+    let ms = c.self.inside.masks.items in
+    let table = subst (λ (z : TableOf). HoldsTable z c.self.inside.full ns ms) c.self.view_is c.self.invariant in
+    let rows = subst (λ f. HoldsTable t f ns ms) c.in-None.is table in
+    let paired = pair_table t c.args.x c.requires.inside c.requires.below c.requires.free ns ms rows in
+    let classes = (ready t c.args.x c.requires.inside c.requires.below c.requires.free ns ms rows).few in
     let e = ap length c.deref-in-None.ensures.value in
-    let classes = r.few in
     record {
       table = subst (λ us. IsPairTable us c.args.x (length c.deref-in-None.result.now)) (sym c.deref.ensures.value)
-          (subst (λ us. IsPairTable c.self.inside.numbers.items c.args.x (length us)) (sym c.deref-in-None.ensures.value) (record {
-            paired = record { small_rank = r.rank; short = omega arith; whole = r.whole };
-            few = most;
-            below = r.classes;
-          }));
+          (subst (λ us. IsPairTable ns c.args.x (length us)) (sym c.deref-in-None.ensures.value) paired);
       few = omega arith;
       variables = c.requires.variables;
     }
