@@ -16,9 +16,11 @@ fn bucket_of(row: &[u32], buckets: usize) -> usize
 {
     let mut even = 0u64;
     let mut odd = 0u64;
-    for i in 0..row.len() / 4 {
-        let first = u64::from(row[4 * i]) | u64::from(row[4 * i + 1]) << 32;
-        let second = u64::from(row[4 * i + 2]) | u64::from(row[4 * i + 3]) << 32;
+    let (fours, _) = row.as_chunks::<4>();
+    for four in fours {
+        let [a, b, c, d] = *four;
+        let first = u64::from(a) | u64::from(b) << 32;
+        let second = u64::from(c) | u64::from(d) << 32;
         even = (even ^ first).wrapping_mul(SPREAD);
         odd = (odd ^ second).wrapping_mul(SPREAD);
     }
