@@ -228,16 +228,17 @@ pub fn build_tables<R: Threads + Sync, G: Gate>(
     order: &Order,
     workers: Workers,
     gate: &G,
-) -> Result<Diagram, BuildError>
+) -> Result<Diagram, AllocError>
     requires order { length order.now ≡ tables.now.inputs }
     ensures diagram { IfOk result (IsDiagramOf tables.now.inputs (functions tables.now) order.now) }
-    ensures refused { IfErr result IsOutOfMemory }
 {
-    let Ok((store, session)) = tables_store(alloc, tables, order) else {
-        return Err(BuildError::OutOfMemory);
-    };
+    let (store, session) = tables_store(alloc, tables, order)?;
     stores_have_plans(&store);
-    from_tables(rt, alloc, store, session, tables, workers, gate)
+    match from_tables(rt, alloc, store, session, tables, workers, gate) {
+        Ok(diagram) => Ok(diagram),
+        Err(BuildError::OutOfMemory) => Err(AllocError),
+        Err(BuildError::StoreFull(_)) => unreachable!(),
+    }
 }
 
 /// The reduced diagram of a cover's functions under an order, built from its terms in the store
@@ -249,14 +250,13 @@ pub fn build_from<R: Threads + Sync, G: Gate>(
     cover: &Cover,
     tables: &Tables,
     order: &Order,
-) -> Result<Diagram, BuildError>
+) -> Result<Diagram, AllocError>
     requires session { begun.1.store ≡ begun.0 }
     requires order { order_of begun.0.plan ≡ order.now }
     requires cover { IsForCover begun.0.plan cover.now }
     requires tables { AreTablesOf cover.now tables.now }
     ensures diagram { IfOk result
         (IsDiagramOf cover.now.inputs (functions_of cover.now) order.now) }
-    ensures refused { IfErr result IsOutOfMemory }
 {
     let (store, session) = begun;
     stores_have_plans(&store);
@@ -266,7 +266,7 @@ pub fn build_from<R: Threads + Sync, G: Gate>(
         Err(BuildError::StoreFull(_)) => {
             build_tables(crew.rt, alloc, tables, order, crew.workers, crew.gate)
         }
-        Err(BuildError::OutOfMemory) => Err(BuildError::OutOfMemory),
+        Err(BuildError::OutOfMemory) => Err(AllocError),
         Ok(diagram) => Ok(diagram),
     }
 }
@@ -288,12 +288,11 @@ pub fn build<R: Threads + Sync, G: Gate>(
     order: &Order,
     workers: Workers,
     gate: &G,
-) -> Result<Diagram, BuildError>
+) -> Result<Diagram, AllocError>
     requires order { length order.now ≡ cover.now.inputs }
     requires tables { AreTablesOf cover.now tables.now }
     ensures diagram { IfOk result
         (IsDiagramOf cover.now.inputs (functions_of cover.now) order.now) }
-    ensures refused { IfErr result IsOutOfMemory }
 {
     if has_many_terms(cover) {
         orders_have_each_variable_once(order);
@@ -301,9 +300,7 @@ pub fn build<R: Threads + Sync, G: Gate>(
         truth_tables_keep_functions();
         return build_tables(rt, alloc, tables, order, workers, gate);
     }
-    let Ok(begun) = cover_store(alloc, cover, tables, order) else {
-        return Err(BuildError::OutOfMemory);
-    };
+    let begun = cover_store(alloc, cover, tables, order)?;
     let crew = Crew::new(rt, workers, gate);
     build_from(&crew, alloc, begun, cover, tables, order)
 }

@@ -1,8 +1,8 @@
-//! Why a build gives no diagram.
+//! Why a build in a store gives no diagram.
 
 use unique_table::Session;
 
-/// Why a build gives no diagram.
+/// Why a build in a store gives no diagram.
 #[derive(Drop)]
 pub enum BuildError {
     /// All places of the store are taken: the session that met it.

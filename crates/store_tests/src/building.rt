@@ -124,7 +124,7 @@ fn builds_covers_under_their_file_orders(rt: HostRuntime) -> Result<(), Fail> {
 }
 
 // Whether a diagram of six levels has one root and these level counts.
-fn has_levels(built: Result<Diagram, BuildError>, wanted: &[u32]) -> bool {
+fn has_levels(built: Result<Diagram, AllocError>, wanted: &[u32]) -> bool {
     match built {
         Ok(diagram) => diagram.roots().len() == 1 && &diagram.level_counts()[..6] == wanted,
         Err(_) => false,
@@ -294,7 +294,7 @@ fn truth_tables_stand_in_for_a_full_store(rt: HostRuntime) -> Result<(), Fail> {
         &input.cover,
         &input.tables,
         &input.order,
-    );
-    assert!(rt; size_of(built) == Some(16));
+    )?;
+    assert!(rt; built.size() == 16);
     Ok(())
 }
