@@ -7,7 +7,7 @@ use cert_check::{Verdict, check, check_alone};
 use certificate::Certificate;
 use counted_io::Counting;
 use order_model::{ListedCell, NoGate, Pairs, VarIx, Workers};
-use order_solve::{Solution, solve};
+use order_solve::{Preparation, Solution, solve};
 use pla_reader::read_cover;
 use sifting::Manager;
 use sifting::laws::diagrams_have_their_problems_tables;
@@ -78,8 +78,8 @@ fn kept(inputs: u8, seed: u64) -> &'static [(VarIx, VarIx)] {
     &[(0, 1)]
 }
 
-/// What the solver finds of some functions, from the order sifted from the first one that keeps the
-/// pairs.
+/// What the solver finds of some functions, with all rows found beforehand, from the order sifted
+/// from the first one that keeps the pairs.
 fn solution_of<R: Threads + Sync>(
     rt: &R,
     alloc: Global,
@@ -94,10 +94,11 @@ fn solution_of<R: Threads + Sync>(
     if order.len() != usize::from(problem.inputs()) {
         return Err("an order of other variables".into());
     }
+    let prepared = Preparation::by_workers(rt, alloc, problem, &pairs, 16, workers)?;
     let diagram = reduced_diagram(alloc, tables, &order)?;
     diagrams_have_their_problems_tables(problem);
     let sifted = Manager::with_pairs(alloc, diagram, pairs)?.sift(alloc)?;
-    Ok(solve(rt, alloc, problem, sifted, workers, &NoGate)?)
+    Ok(solve(rt, alloc, prepared, sifted, workers, &NoGate)?)
 }
 
 /// Functions, the pairs that are kept, and what the solver finds of them.

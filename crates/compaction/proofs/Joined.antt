@@ -1,19 +1,18 @@
 -- Sets of a block and other sets behind them, with their rows.
 --     of_byte_joined, of_byte_pushed, members_joined      conditions on sets, of both parts
---     members_own, member_bit      all members of a set are its members; a member's bit
---     rows_behind      the rows of the second part
+--     members_own      all members of a set are its members
+--     rows_before, rows_behind      the rows of the first part and of the second
 --     row_narrowed      a row of fewer members
 --     RowsTo, rows_pushed, rows_all      rows found one after another
-use Rattle.std.proofs.Common.{◌≡◌, ℕ, zero, suc, refl, true, ◌+◌, ◌-◌, ◌%◌, ◌^◌, ◌<◌, ◌≤◌, cond, eqb, inl, inr, List, [], ◌∷◌, ◌++◌, length, length-append, slice_index, get_or, drop, length-drop, sym, ap, ◌∙◌, subst, arith, eq-eqb, eqb-true, ne_eqb}
+use Rattle.std.proofs.Common.{◌≡◌, ℕ, zero, suc, refl, true, ◌+◌, ◌-◌, ◌%◌, ◌^◌, ◌<◌, ◌≤◌, cond, eqb, inl, inr, List, [], ◌∷◌, ◌++◌, length, length-append, slice_index, get_or, drop, length-drop, take, length-take, sym, ap, ◌∙◌, subst, arith, eq-eqb, ne_eqb}
 use Rattle.std.specs.Int.{bit_at}
-use Rattle.std.proofs.lemmas.Bool.{cases_lt, cases_eq, and_parts}
+use Rattle.std.proofs.lemmas.Bool.{cases_lt, cases_eq}
 use Rattle.std.proofs.lemmas.Nat.Bits.{bit_at_above}
-use Rattle.std.proofs.lemmas.List.{get_or_append_left, get_or-append_right, get_or-drop, get_or_push}
-use Rattle.order_model.specs.Orders.{has, members, variables, without}
+use Rattle.std.proofs.lemmas.List.{get_or_append_left, get_or-append_right, get_or-drop, get_or-take, get_or_push}
+use Rattle.order_model.specs.Orders.{has, members, without}
 use Rattle.order_model.specs.Widths.{width}
 use Rattle.order_model.specs.Problems.{TruthTables, functions}
 use Rattle.order_model.proofs.Precedence.MaskLaws.{member_from}
-use Rattle.order_model.proofs.Bits.Masks.{has_members}
 use Rattle.order_model.proofs.Lists.Orders.{has_at}
 use Rattle.subset_layers.specs.Layers.{BlockOf, block_masks}
 use Rattle.subset_layers.proofs.BlockLists.{in_block}
@@ -57,9 +56,6 @@ below_inputs n mask x lt bit = elim (cases_lt x n) [
 pub members_own : (p : TruthTables) (low : ℕ) (ys : List ℕ) → p.inputs ≤ 16 → AreOfByte p.inputs low ys → AreMembers p ys ys
 members_own p low ys few a i lt x bit = member_from p.inputs (slice_index ys i) x (below_inputs p.inputs (slice_index ys i) x (a i lt).0 bit) bit
 
-pub member_bit : (n mask x : ℕ) → has (members n mask) x ≡ true → bit_at mask x ≡ 1
-member_bit n mask x m = eqb-true (bit_at mask x) 1 (and_parts (has (variables n) x) (eqb (bit_at mask x) 1) (sym (has_members n mask x) ∙ m)).1
-
 pub members_joined : (p : TruthTables) (xs ns ys ms : List ℕ) → length ns ≡ length xs → AreMembers p xs ns → AreMembers p ys ms →
     AreMembers p (xs ++ ys) (ns ++ ms)
 members_joined p xs ns ys ms e a b i lt x bit = elim (cases_lt i (length xs)) [
@@ -86,6 +82,21 @@ rows_behind p xs ns ys ms rows e r =
           ∙ r.are (n + i) (omega arith) x few
           ∙ ap (λ m. width_wanted p m (slice_index (ns ++ ms) (n + i)) x) (later_at xs ys n (n + i) refl (omega arith) ∙ ap (slice_index ys) back)
           ∙ ap (λ w. width_wanted p (slice_index ys i) w x) (later_at ns ms n (n + i) e (omega arith) ∙ ap (slice_index ms) back);
+    }
+
+pub rows_before : (p : TruthTables) (xs ns ys ms : List ℕ) (rows : List (List ℕ)) → length ns ≡ length xs →
+    AreRows p (xs ++ ys) (ns ++ ms) rows → AreRows p xs ns (take (length xs) rows)
+rows_before p xs ns ys ms rows e r =
+    let long = length-append xs ys in
+    let each = r.each in
+    let n = length xs in
+    record {
+      each = (let t = length-take n rows in omega arith);
+      are = λ i lt x few.
+          ap (λ row. slice_index row x) (get_or-take n rows i [] lt)
+          ∙ r.are i (omega arith) x few
+          ∙ ap (λ m. width_wanted p m (slice_index (ns ++ ms) i) x) (first_at xs ys i lt)
+          ∙ ap (λ w. width_wanted p (slice_index xs i) w x) (first_at ns ms i (omega arith));
     }
 
 pub row_narrowed : (p : TruthTables) (mask more needed : ℕ) (row narrow : List ℕ) → IsRow p mask more row →

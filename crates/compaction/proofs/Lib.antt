@@ -1,6 +1,7 @@
 pub mod RowSteps
 pub mod Filled
 pub mod Joined
+pub mod FoundAhead
 pub mod JoinedTables
 pub mod OwnMembers
 pub mod Decided

@@ -19,10 +19,10 @@ use subset_layers::Block;
 
 /// The rows of sets with one low byte: of each set the widths of all its members.
 #[derive(Drop)]
-struct ByteRows {
-    low: u8,
-    masks: Vec<Mask>,
-    rows: Vec<[u32; 16]>,
+pub(crate) struct ByteRows {
+    pub(crate) low: u8,
+    pub(crate) masks: Vec<Mask>,
+    pub(crate) rows: Vec<[u32; 16]>,
 }
 
 impl Model for ByteRows {
@@ -51,6 +51,13 @@ impl Model for Ahead {
     ghost Value = { List RowsOf };
 
     ghost view = { λ a. a.bytes.items };
+}
+
+/// From the first of some sizes to the last one.
+#[derive(Clone, Copy)]
+pub(crate) struct Sizes {
+    pub(crate) first: u32,
+    pub(crate) last: u32,
 }
 
 /// The widths of some members alone, and 0 of the others.
@@ -105,9 +112,9 @@ impl Ahead {
         self.bytes.append(&mut others.bytes)
     }
 
-    /// With the rows of some more sets, if there are any. The tally rises by their widths.
-    fn keep(&mut self, byte: ByteRows, tally: &mut Tally) -> Result<(), AllocError>
-        requires few { length byte.masks ≤ 2 ^ 12 }
+    /// With the rows of some more sets. The tally rises by their widths.
+    pub(crate) fn keep(&mut self, byte: ByteRows, tally: &mut Tally) -> Result<(), AllocError>
+        requires few { length byte.masks ≤ 2 ^ 8 }
         requires room { tally.old ≤ 2 ^ 32 }
         ensures right { OnOk result ((p : TruthTables) → AreAhead p self.old →
             AreRows p byte.masks byte.masks byte.rows → AreAhead p self.new) }
@@ -117,9 +124,6 @@ impl Ahead {
         ensures tally { OnErr result (tally.new ≡ tally.old) }
         ensures err { OnErr result (self.new ≡ self.old) }
     {
-        if byte.masks.is_empty() {
-            return Ok(());
-        }
         let widths = count_wanted(&byte.masks);
         self.bytes.push(byte)?;
         tally.add(widths);
@@ -127,29 +131,50 @@ impl Ahead {
     }
 }
 
-/// The sets of later layers that have a block's low byte and are in orders with the pairs, by rising
-/// size, up to a size.
-fn later_sets(alloc: Global, block: &Block, pairs: &Pairs, end: u8) -> Result<Vec<Mask>, AllocError>
-    requires { block.now.inputs ≤ 16 }
-    ensures byte { IfOk result (λ v. AreOfByte block.now.inputs block.now.low v.items) }
-    ensures few { IfOk result (λ v. length v.items ≤ 2 ^ 12) }
+/// The sets of some sizes that have a low byte and are in orders with the pairs, as rising masks.
+pub(crate) fn sets_of_byte(
+    alloc: Global,
+    inputs: u8,
+    low: u8,
+    pairs: &Pairs,
+    sizes: Sizes,
+) -> Result<Vec<Mask>, AllocError>
+    requires { inputs ≤ 16 }
+    ensures byte { IfOk result (λ v. AreOfByte inputs low v.items) }
+    ensures few { IfOk result (λ v. length v.items ≤ 2 ^ 8) }
 {
     let mut sets = Vec::new(alloc);
-    let Some(first) = block.masks().first() else {
-        return Ok(sets);
-    };
-    let low = Mask::from(block.low());
-    let limit = 1u32 << block.inputs();
+    let limit = 1u32 << inputs;
     let highs = (limit / 256).clamp(1, 256) as Mask;
-    for size in first.count_ones() + 1..u32::from(end.min(16)) + 1 {
-        for high in 0..highs {
-            let set = high * 256 + low;
-            if set.count_ones() == size && u32::from(set) < limit && pairs.lawful(set) {
-                sets.push(set)?;
-            }
+    for high in 0..highs {
+        let set = high * 256 + Mask::from(low);
+        let size = set.count_ones();
+        if sizes.first <= size
+            && size <= sizes.last
+            && u32::from(set) < limit
+            && pairs.lawful(set)
+        {
+            sets.push(set)?;
         }
     }
     Ok(sets)
+}
+
+/// The sets of later layers that have a block's low byte and are in orders with the pairs, up to a
+/// size.
+fn later_sets(alloc: Global, block: &Block, pairs: &Pairs, end: u8) -> Result<Vec<Mask>, AllocError>
+    requires { block.now.inputs ≤ 16 }
+    ensures byte { IfOk result (λ v. AreOfByte block.now.inputs block.now.low v.items) }
+    ensures few { IfOk result (λ v. length v.items ≤ 2 ^ 8) }
+{
+    let Some(first) = block.masks().first() else {
+        return Ok(Vec::new(alloc));
+    };
+    let sizes = Sizes {
+        first: first.count_ones() + 1,
+        last: u32::from(end),
+    };
+    sets_of_byte(alloc, block.inputs(), block.low(), pairs, sizes)
 }
 
 /// Some sets, and then others.
@@ -193,28 +218,28 @@ impl<'a> Beginning<'a> {
         Ok(Some(rows))
     }
 
-    /// The widths of a block's sets, and behind them those of all members of other sets with its
-    /// low byte.
+    /// The widths of all members of sets with a block's low byte, and behind them those of the
+    /// block's own sets.
     fn widths_with(
         &self,
         alloc: Global,
+        later: &[Mask],
         block: &Block,
         needed: &[Mask],
-        later: &[Mask],
     ) -> Result<BlockWidths, AllocError>
         requires inputs { block.now.inputs ≡ self.now.inputs }
         requires needed { length needed.now ≡ length (block_masks block.now) }
         requires members { AreMembers self.now (block_masks block.now) needed.now }
         requires later { AreOfByte self.now.inputs block.now.low later.now }
         ensures rows { IfOk result
-            (λ widths. AreRows self.now (block_masks block.now ++ later.now)
-            (needed.now ++ later.now) widths.rows) }
+            (λ widths. AreRows self.now (later.now ++ block_masks block.now)
+            (later.now ++ needed.now) widths.rows) }
         ensures compactions { IfOk result (λ widths. widths.compactions ≤ most_compactions) }
     {
         prove!(block.len() <= 256);
         prove!(self.problem().inputs() <= 16);
-        let masks = joined(alloc, block.masks(), later)?;
-        let needed = joined(alloc, needed, later)?;
+        let masks = joined(alloc, later, block.masks())?;
+        let needed = joined(alloc, later, needed)?;
         let wanted = Wanted::new(block.inputs(), block.low(), &masks, &needed);
         let widths = wanted_rows(alloc, self, &wanted)?;
         Ok(widths)
@@ -313,11 +338,20 @@ impl<'a> Walks<'a> {
         }
         let ahead = self.ahead;
         let masks = later_sets(alloc, block, self.pairs, ahead.end)?;
-        let mut widths = self.beginning.widths_with(alloc, block, needed, &masks)?;
-        let rows = widths.split_off(block.len())?;
-        let low = block.low();
-        found.keep(ByteRows { low, masks, rows }, &mut tallies.ahead)?;
+        if masks.is_empty() {
+            return self
+                .beginning
+                .block_widths(alloc, block, needed, &mut tallies.cells);
+        }
+        let mut widths = self.beginning.widths_with(alloc, &masks, block, needed)?;
+        let own = widths.split_off(masks.len())?;
+        let byte = ByteRows {
+            low: block.low(),
+            masks,
+            rows: widths.into_rows(),
+        };
+        found.keep(byte, &mut tallies.ahead)?;
         tallies.cells.add_wanted(needed);
-        Ok(widths)
+        Ok(own)
     }
 }

@@ -9,7 +9,7 @@ ghost use Rattle.compaction.specs.Joining.{AreJoined};
 use crate::bytes::ByteKeys;
 use crate::names::AllNamePairs;
 use crate::strips::{Strips, low_variables};
-use order_model::{Mask, Problem, VarIx};
+use order_model::{Mask, Problem, VarIx, Workers};
 use std::alloc::{AllocError, Global};
 use std::marker::Model;
 use std::thread;
@@ -18,10 +18,6 @@ use std::thread::Threads;
 /// Truth tables of no more distinct strips than these have the tables of all low sets made
 /// beforehand, which take 6,561 numbers a strip.
 const MOST_STRIPS: usize = 1 << 10;
-
-/// So many threads at most share the tables with one more variable: more than processors, since
-/// the tables of larger sets are smaller.
-const MOST_THREADS: usize = 16;
 
 /// What the walks over a problem's sets begin with: the tables of all sets of low variables if they
 /// are small, else the keys of the sets of the lowest three variables; and the pairs of names for
@@ -78,17 +74,18 @@ fn joined<'a>(
     Ok(all)
 }
 
-/// The same, by several threads.
+/// The same, by workers.
 fn with_low_by_threads<'a, R: Threads + Sync>(
     rt: &R,
     alloc: Global,
     tables: &[Strips<'a>],
     x: VarIx,
+    workers: Workers,
 ) -> Result<Vec<Strips<'a>>, AllocError>
     requires { All (CanTakeLow x) tables.now }
     ensures { IfOk result (λ v. v.items ≡ map (λ t. with_variable t x) tables.now) }
 {
-    let size = tables.len().div_ceil(MOST_THREADS).max(1);
+    let size = tables.len().div_ceil(usize::from(workers.count())).max(1);
     let parts = thread::map_chunks(
         rt,
         alloc,
@@ -123,12 +120,13 @@ fn tables_of_low_sets<'a>(
     Ok(tables)
 }
 
-/// The same, by several threads.
+/// The same, by workers.
 fn tables_by_threads<'a, R: Threads + Sync>(
     rt: &R,
     alloc: Global,
     problem: &'a Problem,
     empty: Option<Strips<'a>>,
+    workers: Workers,
 ) -> Result<Vec<Strips<'a>>, AllocError>
     requires { IfSome empty (λ t. t ≡ classes_of problem.now 0) }
     ensures { IfOk result (λ v. AreOfFirstSets problem.now v.items) }
@@ -137,7 +135,7 @@ fn tables_by_threads<'a, R: Threads + Sync>(
     if let Some(empty) = empty {
         tables.push(empty)?;
         for largest in 0..low_variables(problem) {
-            let mut larger = with_low_by_threads(rt, alloc, &tables, largest)?;
+            let mut larger = with_low_by_threads(rt, alloc, &tables, largest, workers)?;
             tables.append(&mut larger)?;
         }
     }
@@ -217,18 +215,19 @@ impl<'a> Beginning<'a> {
         })
     }
 
-    /// The same, made by several threads.
+    /// The same, made by workers.
     pub fn by_threads<R: Threads + Sync>(
         rt: &R,
         alloc: Global,
         problem: &'a Problem,
+        workers: Workers,
     ) -> Result<Beginning<'a>, AllocError>
         ensures { IfOk result (λ b. b ≡ problem.now) }
     {
         let Basis { empty, keys, names } = basis_of(alloc, problem)?;
         Ok(Beginning {
             problem,
-            tables: tables_by_threads(rt, alloc, problem, empty)?,
+            tables: tables_by_threads(rt, alloc, problem, empty, workers)?,
             keys,
             names,
         })

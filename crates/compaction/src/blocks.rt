@@ -45,14 +45,17 @@ impl BlockWidths {
         }
     }
 
-    /// Takes away the rows from a place on.
-    pub(crate) fn split_off(&mut self, place: usize) -> Result<Vec<[u32; 16]>, AllocError>
+    /// Takes away the rows from a place on. What they took to find is told of both parts.
+    pub(crate) fn split_off(&mut self, place: usize) -> Result<BlockWidths, AllocError>
         requires { place ≤ length self.old.rows }
         ensures rows { OnOk result (self.new.rows ≡ take place self.old.rows) }
-        ensures others { IfOk result (λ rows. rows.items ≡ drop place self.old.rows) }
-        ensures compactions { self.new.compactions ≡ self.old.compactions }
+        ensures others { IfOk result (λ others. others.rows ≡ drop place self.old.rows) }
+        ensures compactions { IfOk result (λ others. others.compactions ≡ self.old.compactions) }
     {
-        self.rows.split_off(place)
+        Ok(BlockWidths {
+            rows: self.rows.split_off(place)?,
+            compactions: self.compactions,
+        })
     }
 
     /// The widths of the set at a place of the block: at each variable that was wanted its width

@@ -9,5 +9,4 @@ pub mod Layers
 pub mod ReadOrders
 pub mod ListedSets
 pub mod Solved
-pub mod FoundAhead
 pub mod Harmless

@@ -15,8 +15,8 @@ use crate::layering::next_layer;
 use crate::looking::look_ahead;
 use crate::needs::needed_members;
 use crate::setting::Setting;
-use compaction::{Ahead, Beginning};
-use order_model::{Crew, Gate, Mask, Problem};
+use compaction::Preparation;
+use order_model::{Crew, Gate, Mask};
 use std::alloc::{AllocError, Global};
 use std::marker::Model;
 use std::thread::Threads;
@@ -41,35 +41,17 @@ impl<'a> Model for AllCells<'a> {
     ghost invariant = { λ a. HoldsCells a.setting.now a.layers.items };
 }
 
-/// Truth tables of fewer entries than these are worth no threads that make what a search begins
-/// with.
-const ENTRIES_WORTH_THREADS: usize = 1 << 16;
-
-/// What the search begins with, by several threads if there are several workers and it pays.
-fn beginning_of<'a, R: Threads + Sync, G: Gate>(
-    crew: &Crew<'_, R, G>,
-    alloc: Global,
-    problem: &'a Problem,
-) -> Result<Beginning<'a>, AllocError>
-    ensures { IfOk result (λ b. b ≡ problem.now) }
-{
-    let entries = usize::from(problem.outputs()) << problem.inputs();
-    if crew.workers.count() == 1 || entries < ENTRIES_WORTH_THREADS {
-        return Beginning::of(alloc, problem);
-    }
-    Beginning::by_threads(crew.rt, alloc, problem)
-}
-
 /// The layers of all sets, each by workers.
 pub(crate) fn layers_of<R: Threads + Sync, G: Gate>(
     crew: &Crew<'_, R, G>,
     alloc: Global,
     setting: &Setting<'_>,
+    prepared: Preparation<'_>,
 ) -> Result<Vec<Costs>, AllocError>
+    requires { prepared.problem ≡ setting.now.problem }
     ensures { IfOk result (λ v. AreAllLayers setting.now v.items) }
 {
-    let beginning = beginning_of(crew, alloc, setting.problem)?;
-    let mut ahead = Ahead::up_to(alloc, 0);
+    let (beginning, mut ahead) = prepared.into_parts();
     let mut layers = Vec::new(alloc);
     layers.push(Costs::start(alloc, setting.inputs())?)?;
     for _size in 0..setting.inputs() {
@@ -89,11 +71,13 @@ impl<'a> AllCells<'a> {
         crew: &Crew<'_, R, G>,
         alloc: Global,
         setting: &'a Setting<'a>,
+        prepared: Preparation<'_>,
     ) -> Result<AllCells<'a>, AllocError>
-        requires { IsBounded setting.now }
+        requires bounded { IsBounded setting.now }
+        requires prepared { prepared.problem ≡ setting.now.problem }
         ensures { IfOk result (λ a. a ≡ setting.now) }
     {
-        let layers = layers_of(crew, alloc, setting)?;
+        let layers = layers_of(crew, alloc, setting, prepared)?;
         Ok(AllCells { setting, layers })
     }
 

@@ -9,6 +9,7 @@ mod setting;
 mod alone;
 mod layering;
 mod looking;
+mod preparing;
 mod solving;
 mod symmetric;
 
@@ -25,6 +26,8 @@ mod reading;
 mod solution;
 
 pub use bench::Bench;
+pub use compaction::Preparation;
+pub use preparing::prepare;
 pub use setting::Setting;
 pub use solution::{Optimum, Solution};
 pub use solving::{find_optimum, find_optimum_alone, solve, solve_alone};

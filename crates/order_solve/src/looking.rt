@@ -6,21 +6,21 @@ ghost use Rattle.order_solve.specs.Bounded.{AreDone};
 
 use crate::setting::Setting;
 use compaction::Ahead;
-use order_model::Reserve;
+use order_model::{Limit, Problem, Reserve};
 use std::alloc::Global;
 use subset_layers::Costs;
 
 /// One in so many entries of the truth tables is a node of a diagram that is as large as most.
 const ENTRIES_A_NODE: u64 = 16;
 
-/// How many layers are searched together at first: all if the bound is that of a diagram as large
-/// as most, since then hardly a set is clipped, else those most of whose sets are wanted.
-fn first_layers(setting: &Setting<'_>) -> usize {
-    let entries = u64::from(setting.problem.outputs()) << setting.inputs();
-    if u64::from(setting.limit.bound) >= entries / ENTRIES_A_NODE {
-        return usize::from(setting.inputs());
+/// How many layers are searched together at first: all if a diagram of the functions is as large as
+/// most, since then hardly a set is clipped, else those most of whose sets are wanted.
+pub fn first_layers(problem: &Problem, limit: Limit) -> u8 {
+    let entries = u64::from(problem.outputs()) << problem.inputs();
+    if u64::from(limit.bound) >= entries / ENTRIES_A_NODE {
+        return problem.inputs();
     }
-    match setting.limit.reserve {
+    match limit.reserve {
         Reserve::Variables => 6,
         Reserve::Widths => 5,
     }
@@ -95,9 +95,9 @@ pub fn look_ahead(alloc: Global, setting: &Setting<'_>, ahead: Ahead, done: &[Co
         return ahead;
     }
     let end = if next == 1 {
-        first_layers(setting)
+        first_layers(setting.problem, setting.limit)
     } else {
-        likely_end(setting, done)
+        likely_end(setting, done).min(16) as u8
     };
-    Ahead::up_to(alloc, end.min(16) as u8)
+    Ahead::up_to(alloc, end)
 }

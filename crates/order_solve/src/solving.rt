@@ -14,6 +14,7 @@ use crate::reading::{all_variables, level_counts, read_order};
 use crate::setting::Setting;
 use crate::solution::{Optimum, Solution};
 use crate::symmetric::pairs_to_keep;
+use compaction::Preparation;
 use order_model::{Crew, Gate, Limit, Pairs, Problem, Reserve, Workers};
 use sifting::Sifted;
 use std::alloc::{AllocError, Global};
@@ -80,24 +81,26 @@ fn setting_of<'a>(
 
 /// The first order of the fewest nodes among those that keep the pairs of a sifted order of the
 /// same functions. The size of that order bounds the search, which counts on the nodes above a set
-/// that the set's widths ask for. The gate is called by the workers for each set but the empty one.
+/// that the set's widths ask for, and begins with what was prepared. The gate is called by the
+/// workers for each set but the empty one.
 ///
 /// Memory alone is refused: if any worker met it, no layer is done over.
 pub fn find_optimum<R: Threads + Sync, G: Gate>(
     rt: &R,
     alloc: Global,
-    problem: &Problem,
+    prepared: Preparation<'_>,
     sifted: Sifted,
     workers: Workers,
     gate: &G,
 ) -> Result<Optimum, AllocError>
-    requires { sifted.problem ≡ problem.now }
-    ensures { IfOk result (IsOptimum problem.now sifted.pairs) }
+    requires { sifted.problem ≡ prepared.problem }
+    ensures { IfOk result (IsOptimum prepared.entry.problem sifted.pairs) }
 {
+    let problem = prepared.problem();
     let pairs = pairs_to_keep(alloc, problem, sifted.pairs())?;
     let setting = setting_of(problem, &sifted, &pairs, Reserve::Widths);
     let crew = Crew::new(rt, workers, gate);
-    let searched = AllCells::of(&crew, alloc, &setting)?;
+    let searched = AllCells::of(&crew, alloc, &setting, prepared)?;
     let optimum = optimum_of(alloc, &searched)?;
     Ok(optimum)
 }
@@ -123,20 +126,21 @@ pub fn find_optimum_alone(
 pub fn solve<R: Threads + Sync, G: Gate>(
     rt: &R,
     alloc: Global,
-    problem: &Problem,
+    prepared: Preparation<'_>,
     sifted: Sifted,
     workers: Workers,
     gate: &G,
 ) -> Result<Solution, AllocError>
-    requires { sifted.problem ≡ problem.now }
-    ensures solution { IfOk result (IsSolution problem.now sifted.pairs) }
+    requires { sifted.problem ≡ prepared.problem }
+    ensures solution { IfOk result (IsSolution prepared.entry.problem sifted.pairs) }
     ensures widths { IfOk result
-        (λ s. s.widths ≡ widths_taken problem.now.inputs (functions problem.now) sifted.pairs
-        Variables sifted.size) }
+        (λ s. s.widths ≡ widths_taken prepared.entry.problem.inputs
+        (functions prepared.entry.problem) sifted.pairs Variables sifted.size) }
 {
+    let problem = prepared.problem();
     let setting = setting_of(problem, &sifted, sifted.pairs(), Reserve::Variables);
     let crew = Crew::new(rt, workers, gate);
-    let cells = AllCells::of(&crew, alloc, &setting)?;
+    let cells = AllCells::of(&crew, alloc, &setting, prepared)?;
     let solution = solution_of(alloc, &cells)?;
     Ok(solution)
 }

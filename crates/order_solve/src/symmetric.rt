@@ -47,12 +47,51 @@ fn is_symmetric_in(words: &[u64], inputs: u8, a: VarIx, b: VarIx) -> bool
     true
 }
 
+/// So many points apart are those of a sample.
+const SAMPLE_STEP: usize = 61;
+
+/// Whether a function's value changes if 1 is moved from one variable to another at a point.
+#[inline(always)]
+fn changes(words: &[u64], inputs: u8, a: VarIx, b: VarIx, point: usize) -> bool
+    requires few { inputs ≤ 16 }
+    requires long { length words.now ≡ words_per_table inputs }
+    requires first { a < b }
+    requires inside { b < inputs }
+    requires point { point < 2 ^ inputs }
+{
+    match moved(point, inputs, a, b) {
+        Some(other) => bit_of(words, point) != bit_of(words, other),
+        None => false,
+    }
+}
+
+/// Whether some function's value so changes at a point of a sample: most pairs of variables in which
+/// functions aren't symmetric are told by few points.
+fn change_in_sample(problem: &Problem, a: VarIx, b: VarIx) -> bool
+    requires first { a < b }
+    requires inside { b < problem.now.inputs }
+{
+    let inputs = problem.inputs();
+    for output in 0..problem.outputs() {
+        let words = problem.words(output);
+        for step in 0..(1usize << inputs) / SAMPLE_STEP {
+            if changes(words, inputs, a, b, step * SAMPLE_STEP) {
+                return true;
+            }
+        }
+    }
+    false
+}
+
 /// Whether all functions are symmetric in two variables.
 fn are_symmetric(problem: &Problem, a: VarIx, b: VarIx) -> bool
     requires first { a < b }
     requires inside { b < problem.now.inputs }
     ensures { IsTrue result → IsSymmetricPair problem.now.inputs (functions problem.now) a b }
 {
+    if change_in_sample(problem, a, b) {
+        return false;
+    }
     for output in 0..problem.outputs() {
         if !is_symmetric_in(problem.words(output), problem.inputs(), a, b) {
             return false;
@@ -73,6 +112,19 @@ fn next_symmetric(problem: &Problem, a: VarIx) -> Option<VarIx>
         }
     }
     None
+}
+
+/// Whether the functions seem to be symmetric in some two variables, by a sample of their values.
+pub(crate) fn seem_symmetric(problem: &Problem) -> bool {
+    let inputs = problem.inputs();
+    for b in 1..inputs {
+        for a in 0..b {
+            if !change_in_sample(problem, a, b) {
+                return true;
+            }
+        }
+    }
+    false
 }
 
 /// Each variable with the next one with which it may be exchanged.

@@ -47,12 +47,12 @@ abbrev pub IsRefusal : Usage → Type 0
 IsRefusal (usage.Refused error) = Unit {0}
 IsRefusal _ = ⊥
 
--- the exit statuses of command lines that give no plan, of minorder, and of ordercheck
+-- the exit statuses of command lines that give no plan, of minorder, and of ordercheck; 6 is that of no run
 abbrev pub usage_exits : List ℕ
 usage_exits = 0 ∷ 2 ∷ 4 ∷ []
 
 abbrev pub exits : List ℕ
-exits = 0 ∷ 2 ∷ 3 ∷ 4 ∷ 5 ∷ 6 ∷ 8 ∷ []
+exits = 0 ∷ 2 ∷ 3 ∷ 4 ∷ 5 ∷ 8 ∷ []
 
 abbrev pub check_exits : List ℕ
 check_exits = 0 ∷ 1 ∷ 2 ∷ 3 ∷ 4 ∷ 5 ∷ []

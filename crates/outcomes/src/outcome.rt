@@ -18,7 +18,7 @@ pub enum Fault {
     OutOfMemory,
     /// A file was not opened or made, or a read or a write failed.
     Device,
-    /// A store for building from truth tables was full.
+    /// A store for building from truth tables was full; no run is refused so.
     StoreFull,
     /// The pairs that the order has to keep are refused.
     Pairs(PairsFault),
@@ -40,7 +40,7 @@ pub enum Outcome {
 
 impl Outcome {
     /// The exit status: 0 done, 1 the certificate is not valid, 3 input refused, 4 out of memory, 5
-    /// a device failed, 6 a store was full, 8 pairs refused.
+    /// a device failed, 8 pairs refused; 6 is reserved for a store that was full.
     pub fn status(self) -> u8
         ensures { result ≡ status_of self }
     {

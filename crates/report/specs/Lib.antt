@@ -1,3 +1,3 @@
-pub mod Shortages
 pub mod FirstDiagrams
 pub mod Bests
+pub mod Found

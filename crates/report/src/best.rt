@@ -3,8 +3,8 @@
 ghost use Rattle.std.specs.Prelude.{◌≡◌, IfOk};
 ghost use Rattle.report.specs.Bests.{IsBest};
 
-use order_model::{ListedCell, NoGate, Problem, Workers};
-use order_solve::{Optimum, Solution, find_optimum, solve};
+use order_model::{ListedCell, NoGate, Workers};
+use order_solve::{Optimum, Preparation, Solution, find_optimum, solve};
 use sifting::Sifted;
 use std::alloc::{AllocError, Global};
 use std::thread::Threads;
@@ -21,26 +21,26 @@ pub struct Best {
 pub fn best_order<R: Threads + Sync>(
     rt: &R,
     alloc: Global,
-    problem: &Problem,
+    prepared: Preparation<'_>,
     bound: Sifted,
     workers: Workers,
     certify: bool,
 ) -> Result<Best, AllocError>
-    requires { bound.problem ≡ problem.now }
-    ensures { IfOk result (IsBest problem.now bound.pairs certify) }
+    requires { bound.problem ≡ prepared.problem }
+    ensures { IfOk result (IsBest prepared.entry.problem bound.pairs certify) }
 {
     if certify {
         let Solution {
             optimum,
             cells,
             widths: _,
-        } = solve(rt, alloc, problem, bound, workers, &NoGate)?;
+        } = solve(rt, alloc, prepared, bound, workers, &NoGate)?;
         return Ok(Best {
             optimum,
             cells: Some(cells),
         });
     }
-    let optimum = find_optimum(rt, alloc, problem, bound, workers, &NoGate)?;
+    let optimum = find_optimum(rt, alloc, prepared, bound, workers, &NoGate)?;
     Ok(Best {
         optimum,
         cells: None,

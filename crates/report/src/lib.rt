@@ -10,8 +10,9 @@ mod runs;
 // Answers.
 mod answers;
 mod best;
-mod shortage;
-mod tabled_cover;
+mod diagrams;
+mod instance;
+mod search;
 
 pub use command_line::RunPlan;
 pub use program::minorder;

@@ -5,7 +5,7 @@ ghost use Rattle.order_model.specs.Orders.{has};
 ghost use Rattle.command_line.specs.Lines.{LacksArguments, minorder as minorder_line, texts};
 ghost use Rattle.command_line.specs.Usages.{AreFaulty, TurnsAway};
 ghost use Rattle.pla_reader.specs.Covers.{IsCover};
-ghost use Rattle.run_texts.specs.Runs.{DeliversReport, EndsInPart, EndsWell, IsFaultyRunOf, IsFullRunOf, IsHindered, IsRunOf, MayEndRun};
+ghost use Rattle.run_texts.specs.Runs.{DeliversReport, EndsInPart, EndsWell, IsFaultyRunOf, IsHindered, IsRunOf, MayEndRun};
 ghost use Rattle.outcomes.specs.Messages.{IsTold, writer};
 ghost use Rattle.outcomes.specs.Statuses.{exits};
 
@@ -66,10 +66,8 @@ pub fn minorder<'a, R: Files + AllocGlobal + Threads + Sync, W: CountedWrite, E:
         EndsWell (texts words.now) (W.contents out.old) (W.contents out.new) }
     ensures part { result ≡ 5 →
         EndsInPart (texts words.now) (W.contents out.old) (W.contents out.new) }
-    // 3 is a run's fault, 6 that of a run without count, 8 that of a list of pairs that is faulty
-    // for some cover
+    // 3 is a run's fault, 8 that of a list of pairs that is faulty for some cover
     ensures run { result ≡ 3 → IsRunOf (texts words.now) }
-    ensures full { result ≡ 6 → IsFullRunOf (texts words.now) }
     ensures pairs { result ≡ 8 → IsFaultyRunOf (texts words.now) }
     ensures quiet { result ≡ 0 → E.contents err.new ≡ E.contents err.old }
     ensures silent { result ≢ 0 → result ≢ 5 → W.contents out.new ≡ W.contents out.old }

@@ -1,10 +1,12 @@
 //! Runs of minorder, over any reader and writers.
 
-ghost use Rattle.std.specs.Prelude.{◌+◌, ◌<◌, ◌^◌, IfOk, IfErr, IfSome, option_map, string_bytes};
+ghost use Rattle.std.specs.Prelude.{◌≢◌, ◌+◌, ◌<◌, ◌^◌, IfOk, IfErr, IfSome, option_map, string_bytes};
 ghost use Rattle.pla_reader.specs.Covers.{IsCover};
 ghost use Rattle.pla_reader.specs.Reading.{Reads};
 ghost use Rattle.run_texts.specs.Answers.{HasCertificate, Hinders, IsTextOf};
 ghost use Rattle.outcomes.specs.Headline.{PrintsOptimum};
+ghost use Rattle.outcomes.specs.declared.outcome.Outcome.TheVariants.{Refused};
+ghost use Rattle.outcomes.specs.declared.outcome.Fault.TheVariants.{StoreFull};
 ghost use Rattle.run_texts.specs.Runs.{Delivers, IsHindered, Tells, WritesGood, failures_in, held};
 ghost use Rattle.outcomes.specs.Statuses.{FailsOnlyByDevice};
 
@@ -42,7 +44,7 @@ fn planned_texts<'a, R: Threads + Sync>(
     match pairs_of(plan, cover.inputs()) {
         Ok(pairs) => match answer_texts(rt, alloc, cover, pairs, plan.workers, certify) {
             Ok(texts) => Ok(texts),
-            Err(shortage) => Err(Fault::from(shortage)),
+            Err(_) => Err(Fault::OutOfMemory),
         },
         Err(fault) => Err(Fault::Pairs(fault)),
     }
@@ -75,6 +77,8 @@ pub fn run<'a, R: Threads + Sync, F: CountedRead, W: CountedWrite, C: CountedWri
         (held (W.contents out.old) (option_map C.contents cert.old))
         (held (W.contents out.new) (option_map C.contents cert.new)) result }
     ensures hindered { IsHindered plan.now IsCover result }
+    // no run ends with status 6
+    ensures never_full { result ≢ Refused StoreFull }
     // what the certificate's writer got reads as a good certificate
     ensures good { IfSome (F.remaining file.old)
         (λ bytes. WritesGood plan.now bytes (option_map C.contents cert.old)

@@ -76,9 +76,8 @@ HasCertificate false above cover false text = text ≡ None
 HasCertificate false above cover true None = ⊥
 HasCertificate false above cover true (Some text) = IsCertificateOf above cover (string_bytes text)
 
--- why a run that read a cover writes nothing of it; a count needs no pairs and no store
+-- why a run that read a cover writes nothing of it; a count needs no pairs, and no store is ever full
 abbrev pub Hinders : RunPlan → NamedCover → Fault → Type 0
 Hinders plan cover fault.OutOfMemory = Unit {0}
-Hinders plan cover fault.StoreFull = plan.count ≡ false
 Hinders plan cover (fault.Pairs f) = (plan.count ≡ false) × PairsAre plan.above cover.inputs (Err f)
 Hinders plan cover _ = ⊥

@@ -5,7 +5,7 @@
 --     Delivers plan IsRead before after outcome      what the writers get, by what is known of the cover that was read
 --     IsPlanOf words plan, EndsWell words before after      the plan of words; what a program writes that ends with status 0
 --     IsHindered plan IsRead outcome      which faults need a cover that was read
---     IsRunOf words, IsFullRunOf words, IsFaultyRunOf words      what words ask for that end with the statuses 3, 6 and 8
+--     IsRunOf words, IsFaultyRunOf words      what words ask for that end with the statuses 3 and 8
 --     MayEndRun words fault      the faults that standard error may name
 use Rattle.std.specs.Prelude.{◌≡◌, ◌⊎◌, ℕ, ◌<◌, ◌≤◌, Bool, true, false, List, [], length, take, Option, Some, None, Err, String, codes, option_map, string_bytes}
 use Rattle.std.specs.Borrow.{Bor}
@@ -158,19 +158,15 @@ EndsInPart words before after = (plan : RunPlan) × IsPlanOf words plan
     × ((after ≡ before) ⊎ ((cover : NamedCover) × (text : List ℕ) × (n : ℕ) × IsCover cover
     × IsTextOf plan cover text × Appends before after (take n text)))
 
--- a run that no store is large enough for, and one whose pairs are faulty, have read a cover that is hindered so
+-- no run meets a full store, and one whose pairs are faulty has read a cover that is hindered so
 abbrev pub IsHindered : RunPlan → (NamedCover → Type 0) → Outcome → Type 0
-IsHindered plan IsRead (Refused StoreFull) = (cover : NamedCover) × IsRead cover × Hinders plan cover StoreFull
+IsHindered plan IsRead (Refused StoreFull) = ⊥
 IsHindered plan IsRead (Refused (Pairs fault)) = (cover : NamedCover) × IsRead cover × Hinders plan cover (Pairs fault)
 IsHindered plan IsRead _ = Unit {0}
 
 -- the words ask for a run
 abbrev pub IsRunOf : List (List ℕ) → Type 0
 IsRunOf words = (plan : RunPlan) × IsPlanOf words plan
-
--- the words ask for a run without count
-abbrev pub IsFullRunOf : List (List ℕ) → Type 0
-IsFullRunOf words = (plan : RunPlan) × IsPlanOf words plan × (plan.count ≡ false)
 
 -- the words ask for a run without count, with a list of pairs that is faulty for some cover
 abbrev pub IsFaultyRunOf : List (List ℕ) → Type 0
@@ -179,11 +175,12 @@ IsFaultyRunOf words =
     × (fault : PairsFault)
     × PairsAre plan.above cover.inputs (Err fault)
 
--- the faults that may end a run of the words: of pairs those of their list for some cover, and none of a certificate
+-- the faults that may end a run of the words: of pairs those of their list for some cover, and none of a certificate or a full store
 abbrev pub MayEndRun : List (List ℕ) → Fault → Type 0
 MayEndRun words (Pairs fault) =
     (plan : RunPlan) × IsPlanOf words plan × (cover : NamedCover) × IsCover cover
     × PairsAre plan.above cover.inputs (Err fault)
+MayEndRun words StoreFull = ⊥
 MayEndRun words (CertificateLine line fault) = ⊥
 MayEndRun words CertificateTooLong = ⊥
 MayEndRun words fault = Unit {0}

@@ -3,8 +3,8 @@
 ghost use Rattle.std.specs.Prelude.{◌≡◌, IfOk};
 
 use counted_io::Counting;
-use order_model::{Gate, NoGate, Order, VarIx, Workers};
-use order_solve::{Optimum, Solution, find_optimum_alone, solve, solve_alone};
+use order_model::{Gate, Limit, NoGate, Order, Pairs, Reserve, VarIx, Workers};
+use order_solve::{Optimum, Solution, find_optimum_alone, prepare, solve, solve_alone};
 use pla_reader::read_cover;
 use sifting::Manager;
 use sifting::laws::diagrams_have_their_problems_tables;
@@ -55,9 +55,22 @@ fn solved<R: Threads + Sync, G: Gate>(
     gate: &G,
 ) -> Result<Solution, Fail> {
     let tables = tables_of(rt, alloc, text)?;
+    let problem = tables.problem();
     let workers = Workers::new(2).ok_or("workers")?;
+    let limit = Limit {
+        bound: 16,
+        reserve: Reserve::Variables,
+    };
+    let prepared = prepare(
+        rt,
+        alloc,
+        problem,
+        &Pairs::none(problem.inputs()),
+        limit,
+        workers,
+    )?;
     let sifted = manager_of(alloc, &tables)?.sift(alloc)?;
-    Ok(solve(rt, alloc, tables.problem(), sifted, workers, gate)?)
+    Ok(solve(rt, alloc, prepared, sifted, workers, gate)?)
 }
 
 #[test]

@@ -15,7 +15,7 @@ use Rattle.order_model.specs.Reserves.{reserved}
 use Rattle.order_model.specs.declared.reserve.Reserve.{Reserve}
 use Rattle.order_model.specs.declared.reserve.Reserve.TheVariants.{Widths}
 use Rattle.order_model.specs.Cells.{first_of, cell_of, AreForCell}
-use Rattle.order_model.proofs.Bits.Masks.{has_members}
+use Rattle.order_model.proofs.Precedence.MaskLaws.{member_bit}
 use Rattle.order_model.proofs.Widths.Cells.{rising_members, first_has, first_le, all_asked, found, clipped, members_zero}
 use Rattle.subset_layers.specs.Layers.{masks_of, layer_with}
 use Rattle.subset_layers.specs.Costs.{CostsOf, cost_without, AreTrueCosts, AreWidthsFor}
@@ -27,9 +27,6 @@ use Rattle.order_model.proofs.Widths.Outside.{bit_has}
 abbrev pub pair_of : ℕ → ℕ → ℕ × ℕ
 pair_of a b = (a, b)
 
-has_bit : (n mask y : ℕ) → has (members n mask) y ≡ true → bit_at mask y ≡ 1
-has_bit n mask y h = eqb-true (bit_at mask y) 1 (and_parts (has (variables n) y) (eqb (bit_at mask y) 1) (sym (has_members n mask y) ∙ h)).1
-
 -- the lowest bit of a mask is its smallest member
 pub first_member : (n mask : ℕ) → 0 < mask → mask < 65536 → mask < 2 ^ n → trailing_zeros w16 mask ≡ first_of (members n mask)
 first_member n mask pos small lt =
@@ -38,7 +35,7 @@ first_member n mask pos small lt =
     let below : t < n = elim (cases_lt t n) [ inl l ↦ l | inr g ↦ let a = bit_at_above mask n t lt g in let b = z.1 in absurd (omega arith) ] in
     let member : has (members n mask) t ≡ true = bit_has n mask t below ∙ eq-eqb (bit_at mask t) 1 z.1 in
     let le = first_le (members n mask) t (rising_members n mask) member in
-    let one = has_bit n mask (first_of (members n mask)) (first_has (members n mask) t member) in
+    let one = (member_bit n mask (first_of (members n mask)) (first_has (members n mask) t member)).1 in
     elim (cases_lt (first_of (members n mask)) t) [
       | inl l ↦ let a = z.2 (first_of (members n mask)) l in absurd (omega arith)
       | inr g ↦ omega arith

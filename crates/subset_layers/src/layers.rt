@@ -63,7 +63,7 @@ fn size_flags(alloc: Global, inputs: u8, size: u8) -> Result<Vec<bool>, AllocErr
         (λ flags. flags.items ≡ map (λ mask. nat_eq (length (members inputs mask)) size)
         (range_with_len 0 (2 ^ inputs))) }
 {
-    let mut flags = Vec::new(alloc);
+    let mut flags = Vec::with_capacity(alloc, 1 << inputs)?;
     for mask in 0..1u32 << inputs {
         flags.push(mask.count_ones() == size as u32)?;
     }

@@ -7,3 +7,4 @@ solve-requires-after_bounds g c κs within =
     c.in_ok-sifted.ensures.functions ∙ c.in_ok-with_pairs.ensures.functions
     ∙ c.diagrams_have_their_problems_tables.ensures.tables c.in_ok-order.order c.in_ok-diagram.diagram long
     (rw (sym c.problem-problem.ensures) at c.in_ok-diagram.ensures.diagram)
+    ∙ sym c.in_ok-prepared.ensures

@@ -3,7 +3,7 @@ use Rattle.subset_layers.specs.Costs.{CostsOf}
 use Rattle.order_solve.specs.Benches.{IsLayerFor}
 use Rattle.order_solve.specs.Bounded.{AreLayersFor}
 use Rattle.order_solve.proofs.Layers.{layers_push}
-use Rattle.order_solve.proofs.FoundAhead.{ahead_joined}
+use Rattle.compaction.proofs.FoundAhead.{ahead_joined}
 use Rattle.order_solve.proofs.all_cells.layers_of.Goals as goal
 
 pub look_ahead-ahead-requires-clause-done : goal.look_ahead-ahead-requires-clause-done

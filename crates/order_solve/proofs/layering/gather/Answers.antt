@@ -4,7 +4,7 @@ use Rattle.std.specs.declared.alloc.AllocError.{AllocError}
 use Rattle.order_model.specs.Problems.{TruthTables}
 use Rattle.compaction.specs.Ahead.{AreAhead}
 use Rattle.order_solve.specs.declared.working.WorkerEnd.{WorkerEnd}
-use Rattle.order_solve.proofs.FoundAhead.{ahead_joined}
+use Rattle.compaction.proofs.FoundAhead.{ahead_joined}
 use Rattle.order_solve.proofs.layering.gather.Goals as goal
 
 -- what a worker that ends well found

@@ -10,7 +10,7 @@ use Rattle.order_solve.proofs.solving.find_optimum.Goals as goal
 
 pub returns : goal.returns
 returns g c =
-    let t = c.args.problem.now in
+    let t = c.problem-problem.result.now in
     let P = c.args.sifted.pairs in
     let Q = c.in_ok-pairs.pairs.pairs in
     let o = c.in_ok-optimum.optimum in
@@ -18,6 +18,7 @@ returns g c =
     let harmless = subst (λ (R : List Pair). IsHarmless t.inputs (functions t) R Q) c.pairs.ensures.value c.in_ok-pairs.ensures.harmless in
     let found =
     subst (λ (s : Setting). IsOptimum s.problem s.pairs.pairs o) c.in_ok-searched.ensures c.in_ok-optimum.ensures.optimum in
-    optimum_harmless t P Q o harmless
+    subst (λ (u : TruthTables). IsOptimum u P o) c.problem-problem.ensures
+    (optimum_harmless t P Q o harmless
     (subst (λ (u : TruthTables). IsOptimum u Q o) setting.problem
-    (subst (λ (k : KeptPairs). IsOptimum c.setting_of-setting.result.problem k.pairs o) setting.pairs found))
+    (subst (λ (k : KeptPairs). IsOptimum c.setting_of-setting.result.problem k.pairs o) setting.pairs found)))

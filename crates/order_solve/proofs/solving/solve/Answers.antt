@@ -6,5 +6,5 @@ use Rattle.order_solve.proofs.solving.solve.Goals as goal
 
 pub setting_of-setting-requires-clause-harmless : goal.setting_of-setting-requires-clause-harmless
 setting_of-setting-requires-clause-harmless g c =
-    subst (IsHarmless c.args.problem.now.inputs (functions c.args.problem.now) c.args.sifted.pairs) (sym c.pairs.ensures.value)
-    (harmless_same c.args.problem.now.inputs (functions c.args.problem.now) c.args.sifted.pairs)
+    subst (IsHarmless c.problem-problem.result.now.inputs (functions c.problem-problem.result.now) c.args.sifted.pairs) (sym c.pairs.ensures.value)
+    (harmless_same c.problem-problem.result.now.inputs (functions c.problem-problem.result.now) c.args.sifted.pairs)

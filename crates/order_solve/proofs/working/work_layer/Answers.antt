@@ -7,7 +7,7 @@ use Rattle.order_solve.specs.Benches.{BenchOf}
 use Rattle.order_solve.specs.Gains.{widths_for, StaysClaimed, IsPosted}
 use Rattle.order_solve.proofs.Posts.{no_more_stays}
 use Rattle.order_solve.proofs.Claimed.{block_layer, few_gained}
-use Rattle.order_solve.proofs.FoundAhead.{ahead_none}
+use Rattle.compaction.proofs.FoundAhead.{ahead_none}
 use Rattle.order_solve.proofs.Rounds.{Working, working_none, working_stays, working_round, round_gains, claims_at, round_closes, few_room, few_round}
 use Rattle.order_solve.proofs.working.work_layer.Goals as goal
 

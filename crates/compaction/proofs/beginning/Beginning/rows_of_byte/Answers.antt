@@ -4,7 +4,8 @@ use Rattle.subset_layers.specs.Layers.{block_masks}
 use Rattle.compaction.specs.Ahead.{RowsOf}
 use Rattle.compaction.specs.Rows.{IsRow}
 use Rattle.compaction.proofs.Filled.{blank_row, zeros_at}
-use Rattle.compaction.proofs.Joined.{RowsTo, rows_pushed, row_narrowed, member_bit}
+use Rattle.order_model.proofs.Precedence.MaskLaws.{member_bit}
+use Rattle.compaction.proofs.Joined.{RowsTo, rows_pushed, row_narrowed}
 use Rattle.compaction.proofs.beginning.Beginning.rows_of_byte.Goals as goal
 
 pub loop-i-preserved : goal.loop-i-preserved
@@ -22,7 +23,7 @@ loop-i-preserved c =
     let own = c.requires.byte.are place (subst (λ (ms : List ℕ). place < length ms) masks_are e.inside) in
     let long = ap length c.masks-mask-items.ensures in
     let inside = λ (x : ℕ) (few : x < 16) (bit : bit_at wanted x ≡ 1). subst (λ m. bit_at m x ≡ 1) (sym at)
-    (member_bit p.inputs (slice_index masks i) x (c.requires.members i (omega arith) x bit)) in
+    (member_bit p.inputs (slice_index masks i) x (c.requires.members i (omega arith) x bit)).1 in
     let row_is = ap (λ (rows : List (List ℕ)). get_or rows place []) (c.as_slice-own.ensures.value ∙ ap (λ (r : RowsOf). r.rows) c.byte.view_is) in
     let row : IsRow p (slice_index byte.masks place) wanted c.only.result =
     row_narrowed p (slice_index byte.masks place) (slice_index byte.masks place) wanted (get_or byte.rows place []) c.only.result own inside

@@ -6,14 +6,14 @@ use Rattle.order_model.specs.Levels.{level_counts}
 use Rattle.order_model.specs.Orders.{variables}
 use Rattle.pla_reader.specs.Covers.{functions_of}
 use Rattle.report.proofs.Leveled.{counts_read}
-use Rattle.report.proofs.answers.file_order_levels_of.Goals as goal
+use Rattle.report.proofs.diagrams.file_order_levels_of.Goals as goal
 
 pub build-requires-clause-order : goal.build-requires-clause-order
 build-requires-clause-order g c κs within = ap length c.in_ok-order.ensures ∙ length-range_with_len 0 c.inputs.result ∙ c.inputs.ensures.value
 
 pub returns-then-eq-clause-counts : goal.returns-then-eq-clause-counts
 returns-then-eq-clause-counts g c =
-    let cover = c.args.tabled.now.cover.now in
+    let cover = c.args.instance.now.cover.now in
     let same : c.variables.result.now ≡ c.variables-2.result.now =
     (slice_eq-Decides Decides-eqb c.variables.result.now c.variables-2.result.now c.eq.result c.eq.ensures).0 c.if-eq.true in
     let order = sym (c.variables.ensures.value ∙ c.order.ensures.value) ∙ same ∙ c.variables-2.ensures.value in
@@ -24,7 +24,7 @@ returns-then-eq-clause-counts g c =
 
 pub returns-clause-counts : goal.returns-clause-counts
 returns-clause-counts g c =
-    let cover = c.args.tabled.now.cover.now in
+    let cover = c.args.instance.now.cover.now in
     let read = counts_read cover.inputs (functions_of cover) c.in_ok-order.order c.in_ok-levels-2.levels.items
     c.in_ok-diagram.diagram.graph
     (rw (← c.in_ok-diagram.ensures.diagram.order) c.in_ok-levels-2.ensures.long)

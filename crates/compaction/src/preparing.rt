@@ -1,0 +1,236 @@
+//! What a search begins with before a bound is known: rows are facts about the functions, and ask
+//! for none.
+
+ghost use Rattle.std.specs.Prelude.{◌≡◌, ◌^◌, ◌<◌, ◌≤◌, All, length, vec_len, IfOk};
+ghost use Rattle.compaction.specs.Ahead.{AreAhead, widths_ahead};
+ghost use Rattle.compaction.specs.Rows.{AreRows};
+
+use crate::ahead::{Ahead, ByteRows, Sizes, sets_of_byte};
+use crate::beginning::Beginning;
+use crate::blocks::wanted_rows;
+use crate::tally::Tally;
+use crate::wanted::Wanted;
+use order_model::{Pairs, Problem, Workers};
+use std::alloc::{AllocError, Global};
+use std::marker::Model;
+use std::sync::atomic::{AtomicU64, Ordering};
+use std::thread;
+use std::thread::Threads;
+
+/// Rows that a thread found, and how many widths they hold.
+#[derive(Drop)]
+struct Part {
+    found: Ahead,
+    tally: Tally,
+    ghost counted: { tally ≡ widths_ahead found },
+    ghost few: { tally ≤ 2 ^ 24 },
+}
+
+/// The low bytes, which threads take one after another: those with the largest tables first.
+#[derive(Drop)]
+struct Turns {
+    bytes: [u8; 256],
+    taken: AtomicU64,
+}
+
+/// All bytes, by rising number of members.
+fn bytes_by_size() -> [u8; 256] {
+    let mut bytes = [0; 256];
+    let mut count = 0usize;
+    for size in 0..9u32 {
+        for byte in 0..256u16 {
+            if byte.count_ones() == size && count < 256 {
+                bytes[count] = byte as u8;
+                count += 1;
+            }
+        }
+    }
+    bytes
+}
+
+impl Turns {
+    /// None is taken.
+    fn new() -> Turns {
+        Turns {
+            bytes: bytes_by_size(),
+            taken: AtomicU64::new(0),
+        }
+    }
+
+    /// The next low byte, if one is left.
+    fn next(&self) -> Option<u8> {
+        let turn = self.taken.fetch_add(1, Ordering::SeqCst);
+        if turn < 256 {
+            Some(self.bytes[turn as usize])
+        } else {
+            None
+        }
+    }
+}
+
+impl<'a> Beginning<'a> {
+    /// The rows of the sets that have a low byte and are in orders with the pairs, up to a size.
+    fn rows_up_to(
+        &self,
+        alloc: Global,
+        low: u8,
+        pairs: &Pairs,
+        end: u8,
+    ) -> Result<ByteRows, AllocError>
+        requires { low < 2 ^ self.now.inputs }
+        ensures rows { IfOk result (λ b. AreRows self.now b.masks b.masks b.rows) }
+        ensures few { IfOk result (λ b. length b.masks ≤ 2 ^ 8) }
+    {
+        let inputs = self.problem().inputs();
+        prove!(inputs <= 16);
+        let sizes = Sizes {
+            first: 1,
+            last: u32::from(end),
+        };
+        let masks = sets_of_byte(alloc, inputs, low, pairs, sizes)?;
+        let wanted = Wanted::new(inputs, low, &masks, &masks);
+        let rows = wanted_rows(alloc, self, &wanted)?.into_rows();
+        Ok(ByteRows { low, masks, rows })
+    }
+
+    /// The rows of the low bytes that a thread comes to take.
+    fn part_of(
+        &self,
+        alloc: Global,
+        pairs: &Pairs,
+        end: u8,
+        turns: &Turns,
+    ) -> Result<Part, AllocError>
+        ensures { IfOk result (λ p. AreAhead self.now p.found) }
+    {
+        let mut found = Ahead::up_to(alloc, end);
+        let mut tally = Tally::new();
+        let limit = 1u32 << self.problem().inputs();
+        for _turn in 0..256u32 {
+            let Some(low) = turns.next() else {
+                break;
+            };
+            if u32::from(low) < limit {
+                let byte = self.rows_up_to(alloc, low, pairs, end)?;
+                found.keep(byte, &mut tally)?;
+            }
+        }
+        Ok(Part { found, tally })
+    }
+}
+
+/// What all threads found.
+fn joined(
+    alloc: Global,
+    problem: &Problem,
+    end: u8,
+    parts: Vec<Result<Part, AllocError>>,
+) -> Result<(Ahead, Tally), AllocError>
+    requires few { vec_len parts ≤ 64 }
+    requires parts { All (λ r. IfOk r (λ p. AreAhead problem.now p.found)) parts.items }
+    ensures found { IfOk result (λ r. AreAhead problem.now r.0) }
+    ensures counted { IfOk result (λ r. r.1 ≡ widths_ahead r.0) }
+{
+    let mut parts = parts;
+    let mut found = Ahead::up_to(alloc, end);
+    let mut tally = Tally::new();
+    while let Some(part) = parts.pop() {
+        let Part {
+            found: own,
+            tally: taken,
+        } = part?;
+        found.append(own)?;
+        tally.add(taken.count());
+    }
+    Ok((found, tally))
+}
+
+/// What a search begins with: what serves several blocks, and rows that were found before a bound
+/// was known, which it takes as those that its own walks find ahead.
+#[derive(Drop)]
+pub struct Preparation<'a> {
+    beginning: Beginning<'a>,
+    found: Ahead,
+    tally: Tally,
+}
+
+impl<'a> Model for Preparation<'a> {
+    ghost use Rattle.std.specs.Prelude.{◌≡◌};
+    ghost use Rattle.compaction.specs.Ahead.{PreparationOf, AreAhead, widths_ahead};
+
+    ghost Value = { PreparationOf };
+
+    ghost view = { λ p. record {
+      problem = p.beginning;
+      found = p.found;
+    } };
+
+    ghost invariant = { λ p. AreAhead p.beginning p.found × (p.tally ≡ widths_ahead p.found) };
+}
+
+impl<'a> Preparation<'a> {
+    /// Without rows, by the calling thread.
+    pub fn of(alloc: Global, problem: &'a Problem) -> Result<Preparation<'a>, AllocError>
+        ensures { IfOk result (λ p. p.problem ≡ problem.now) }
+    {
+        Ok(Preparation {
+            beginning: Beginning::of(alloc, problem)?,
+            found: Ahead::up_to(alloc, 0),
+            tally: Tally::new(),
+        })
+    }
+
+    /// With the rows of all sets up to a size that are in orders with the pairs, by the workers. With
+    /// size 0 there are none.
+    pub fn by_workers<R: Threads + Sync>(
+        rt: &R,
+        alloc: Global,
+        problem: &'a Problem,
+        pairs: &Pairs,
+        end: u8,
+        workers: Workers,
+    ) -> Result<Preparation<'a>, AllocError>
+        ensures { IfOk result (λ p. p.problem ≡ problem.now) }
+    {
+        let beginning = Beginning::by_threads(rt, alloc, problem, workers)?;
+        let count = usize::from(workers.count()) * usize::from(end.min(1));
+        let turns = Turns::new();
+        let parts = thread::map_indices(
+            rt,
+            alloc,
+            count,
+            &|_worker: usize| -> Result<Part, AllocError>
+                ensures { IfOk result (λ p. AreAhead beginning.entry p.found) }
+            { beginning.part_of(alloc, pairs, end, &turns) },
+        )?;
+        let (found, tally) = joined(alloc, problem, end, parts)?;
+        Ok(Preparation {
+            beginning,
+            found,
+            tally,
+        })
+    }
+
+    /// The problem.
+    pub fn problem(&self) -> &'a Problem
+        ensures { result.now ≡ self.now.problem }
+    {
+        self.beginning.problem()
+    }
+
+    /// How many widths the rows hold.
+    pub fn widths(&self) -> u64
+        ensures { result ≡ widths_ahead self.now.found }
+    {
+        self.tally.count()
+    }
+
+    /// What serves several blocks, and the rows.
+    pub fn into_parts(self) -> (Beginning<'a>, Ahead)
+        ensures beginning { result.0 ≡ self.entry.problem }
+        ensures found { result.1 ≡ self.entry.found }
+        ensures right { AreAhead self.entry.problem self.entry.found }
+    {
+        (self.beginning, self.found)
+    }
+}

@@ -1,0 +1,43 @@
+//! What a search can do before its bound is known.
+
+ghost use Rattle.std.specs.Prelude.{◌≡◌, IfOk};
+
+use crate::looking::first_layers;
+use crate::symmetric::seem_symmetric;
+use compaction::Preparation;
+use order_model::{Limit, Pairs, Problem, Reserve, Workers};
+use std::alloc::{AllocError, Global};
+use std::thread::Threads;
+
+/// Truth tables of fewer entries than these are worth no threads that prepare a search.
+const ENTRIES_WORTH_THREADS: usize = 1 << 14;
+
+/// What a search for the first order of the fewest nodes among those that keep the pairs begins
+/// with: found by the workers while another thread sifts, say. The bound is the size of any diagram
+/// of the functions; from it is guessed how many layers hardly a set is clipped of. No rows are
+/// found if the search seems to keep pairs of symmetric variables, since few sets are then left.
+pub fn prepare<'a, R: Threads + Sync>(
+    rt: &R,
+    alloc: Global,
+    problem: &'a Problem,
+    pairs: &Pairs,
+    limit: Limit,
+    workers: Workers,
+) -> Result<Preparation<'a>, AllocError>
+    requires { pairs.now.inputs ≡ problem.now.inputs }
+    ensures { IfOk result (λ p. p.problem ≡ problem.now) }
+{
+    let entries = usize::from(problem.outputs()) << problem.inputs();
+    if workers.count() == 1 || entries < ENTRIES_WORTH_THREADS {
+        let prepared = Preparation::of(alloc, problem)?;
+        return Ok(prepared);
+    }
+    let asks_no_pairs = limit.reserve == Reserve::Widths && pairs.count() == 0;
+    let end = if asks_no_pairs && seem_symmetric(problem) {
+        0
+    } else {
+        first_layers(problem, limit)
+    };
+    let prepared = Preparation::by_workers(rt, alloc, problem, pairs, end, workers)?;
+    Ok(prepared)
+}

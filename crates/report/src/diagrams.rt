@@ -1,0 +1,114 @@
+//! The diagrams that an answer is read off.
+
+ghost use Rattle.std.specs.Prelude.{◌≡◌, ◌≤◌, ◌<◌, ℕ, IfOk, length, slice_index};
+ghost use Rattle.order_model.specs.Diagrams.{nodes_at};
+ghost use Rattle.order_model.specs.Levels.{level_counts};
+ghost use Rattle.order_model.specs.Problems.{functions};
+ghost use Rattle.dd_builder.specs.Building.{HasLevelCounts};
+ghost use Rattle.pla_reader.specs.Covers.{functions_of};
+ghost use Rattle.report.specs.FirstDiagrams.{IsFirstDiagram};
+ghost use Rattle.run_texts.specs.Texts.{file_order_levels};
+
+use crate::instance::Instance;
+use dd_builder::{build, build_tables};
+use order_model::{Diagram, NoGate, Order, Workers};
+use std::alloc::{AllocError, Global};
+use std::thread::Threads;
+
+/// The level counts of a diagram, one a level of its order.
+fn levels_of(alloc: Global, diagram: &Diagram) -> Result<Vec<u32>, AllocError>
+    requires { length diagram.now.order ≤ 16 }
+    ensures long { IfOk result (λ v. length v.items ≡ length diagram.now.order) }
+    ensures few { IfOk result (λ v. length v.items ≤ 16) }
+    ensures counts { IfOk result
+        (λ v. (i : ℕ) → i < length diagram.now.order →
+        slice_index v.items i ≡ nodes_at diagram.now.graph (slice_index diagram.now.order i)) }
+{
+    let counts = diagram.level_counts();
+    counts[..diagram.order().len()].to_vec(alloc)
+}
+
+/// Truth tables of fewer entries than these are worth no thread that builds diagrams of them.
+const ENTRIES_WORTH_THREADS: usize = 1 << 14;
+
+/// The workers that build diagrams: one for small truth tables.
+fn building_workers(instance: &Instance<'_>) -> Workers {
+    let problem = instance.tables.problem();
+    let entries = usize::from(problem.outputs()) << problem.inputs();
+    match Workers::new(1) {
+        Some(one) if entries < ENTRIES_WORTH_THREADS => one,
+        _ => instance.workers,
+    }
+}
+
+/// The diagram under the first order that keeps the pairs.
+pub(crate) fn first_diagram<R: Threads + Sync>(
+    rt: &R,
+    alloc: Global,
+    instance: &Instance<'_>,
+) -> Result<Diagram, AllocError>
+    ensures { IfOk result (IsFirstDiagram instance.now.cover.now instance.now.pairs.now.pairs) }
+{
+    let order = instance.pairs.first_order(alloc)?;
+    let diagram = build(
+        rt,
+        alloc,
+        instance.cover,
+        instance.tables,
+        &order,
+        building_workers(instance),
+        &NoGate,
+    )?;
+    Ok(diagram)
+}
+
+/// The level counts under the file order, off the diagram under the first order if that is the file
+/// order, else off one that is built under it.
+pub(crate) fn file_order_levels_of<R: Threads + Sync>(
+    rt: &R,
+    alloc: Global,
+    instance: &Instance<'_>,
+    first: &Diagram,
+) -> Result<Vec<u32>, AllocError>
+    requires first { HasLevelCounts instance.now.cover.now.inputs
+        (functions_of instance.now.cover.now) first.now.order first.now.graph }
+    requires long { length first.now.order ≡ instance.now.cover.now.inputs }
+    ensures counts { IfOk result (λ v. v.items ≡ file_order_levels instance.now.cover.now) }
+    ensures few { IfOk result (λ v. length v.items ≤ 16) }
+{
+    let order = Order::file_order(alloc, instance.cover.inputs())?;
+    if first.order().variables() == order.variables() {
+        let levels = levels_of(alloc, first)?;
+        return Ok(levels);
+    }
+    let diagram = build(
+        rt,
+        alloc,
+        instance.cover,
+        instance.tables,
+        &order,
+        building_workers(instance),
+        &NoGate,
+    )?;
+    let levels = levels_of(alloc, &diagram)?;
+    Ok(levels)
+}
+
+/// The level counts under an order, off the diagram built from the truth tables.
+pub(crate) fn levels_under<R: Threads + Sync>(
+    rt: &R,
+    alloc: Global,
+    instance: &Instance<'_>,
+    order: &Order,
+) -> Result<Vec<u32>, AllocError>
+    requires { length order.now ≡ instance.now.tables.now.inputs }
+    ensures counts { IfOk result
+        (λ v. v.items ≡ level_counts instance.now.tables.now.inputs
+        (functions instance.now.tables.now) order.now) }
+    ensures few { IfOk result (λ v. length v.items ≤ 16) }
+{
+    let workers = building_workers(instance);
+    let diagram = build_tables(rt, alloc, instance.tables, order, workers, &NoGate)?;
+    let levels = levels_of(alloc, &diagram)?;
+    Ok(levels)
+}

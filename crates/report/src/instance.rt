@@ -1,0 +1,21 @@
+//! What a run searches.
+
+ghost use Rattle.std.specs.Prelude.{◌≡◌};
+ghost use Rattle.truth_table.specs.OfCovers.{AreTablesOf};
+
+use order_model::{Pairs, Workers};
+use pla_reader::Cover;
+use truth_table::Tables;
+
+/// What a run searches: a cover with its truth tables, the pairs that the order has to keep, whether
+/// what a certificate lists is asked for, and by how many workers.
+#[derive(Drop)]
+pub struct Instance<'a> {
+    pub cover: &'a Cover,
+    pub tables: &'a Tables,
+    pub pairs: &'a Pairs,
+    pub certify: bool,
+    pub workers: Workers,
+    pub ghost are_its_tables: { AreTablesOf cover.now tables.now },
+    pub ghost are_its_pairs: { pairs.now.inputs ≡ cover.now.inputs },
+}
