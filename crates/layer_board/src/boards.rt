@@ -71,7 +71,7 @@ impl Board {
         ensures seats { IfOk result (λ r. All (λ s. s ≡ first_seat r.0) r.1.items) }
     {
         let count = workers.count();
-        let layer = Layer::of(alloc, problem.inputs(), layer.size())?;
+        let layer = layer.try_clone(alloc)?;
         let brief = Brief {
             problem: Snapshot::of(problem),
             pairs: Snapshot::of(pairs),

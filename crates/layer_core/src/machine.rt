@@ -48,11 +48,10 @@ impl Model for Core {
 impl Core {
     /// Workers that made no step, at a layer whose cells are empty.
     pub fn new(alloc: Global, layer: &Layer, workers: Workers) -> Result<Core, AllocError>
-        requires { layer.now.inputs ≤ 16 }
         ensures opening { IfOk result (λ c. c ≡ opening (layout_of layer.now) workers) }
         ensures layout { IfOk result (λ c. IsLayout c.layout) }
     {
-        let layer = Layer::of(alloc, layer.inputs(), layer.size())?;
+        let layer = layer.try_clone(alloc)?;
         let cells = empty_cells(alloc, layer.len())?;
         let workers = blank_marks(alloc, layer.blocks(), layer.len(), workers.count())?;
         Ok(Core {

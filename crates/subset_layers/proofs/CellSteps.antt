@@ -3,12 +3,12 @@
 --     some_member      a set of some layer but the first has a member
 --     members_widths      the widths of all members, if widths are counted on
 --     cell_found, cell_clipped      the cell where the best sum leaves room, and where none does
-use Rattle.std.proofs.Common.{◌≡◌, ℕ, ◌+◌, ◌-◌, ◌^◌, ◌<◌, ◌≤◌, true, ◌||◌, inl, inr, IsTrue, List, [], ◌∷◌, length, slice_index, unwrap_or, refl, sym, ap, ◌∙◌, arith, eqb, eqb-true, eq-eqb, w16}
+use Rattle.std.proofs.Common.{◌≡◌, ℕ, ◌+◌, ◌-◌, ◌^◌, ◌<◌, ◌≤◌, true, ◌||◌, inl, inr, IsTrue, List, [], ◌∷◌, length, slice_index, unwrap_or, refl, sym, ap, ◌∙◌, arith, eq-eqb, w16}
 use Rattle.std.specs.Int.{bit_at, trailing_zeros}
-use Rattle.std.proofs.lemmas.Bool.{cases_lt, and_parts}
+use Rattle.std.proofs.lemmas.Bool.{cases_lt}
 use Rattle.std.proofs.lemmas.Nat.Bits.{bit_at-trailing_zeros, bit_at_above}
 use Rattle.order_model.specs.Functions.{Function}
-use Rattle.order_model.specs.Orders.{has, IsOrder, members, variables, without}
+use Rattle.order_model.specs.Orders.{has, IsOrder, members, without}
 use Rattle.order_model.specs.Widths.{width}
 use Rattle.order_model.specs.Pairs.{Pair, Keeps, is_lawful}
 use Rattle.order_model.specs.Reserves.{reserved}

@@ -63,9 +63,9 @@ fn size_flags(alloc: Global, inputs: u8, size: u8) -> Result<Vec<bool>, AllocErr
         (λ flags. flags.items ≡ map (λ mask. nat_eq (length (members inputs mask)) size)
         (range_with_len 0 (2 ^ inputs))) }
 {
-    let mut flags = Vec::with_capacity(alloc, 1 << inputs)?;
-    for mask in 0..1u32 << inputs {
-        flags.push(mask.count_ones() == size as u32)?;
+    let mut flags = vec![in alloc; false; 1 << inputs]?;
+    for mask in 0..1usize << inputs {
+        flags[mask] = mask.count_ones() == size as u32;
     }
     Ok(flags)
 }
@@ -106,6 +106,19 @@ impl Layer {
             size,
             masks,
             lows,
+        })
+    }
+
+    /// The same layer, in memory of its own.
+    pub fn try_clone(&self, alloc: Global) -> Result<Layer, AllocError>
+        ensures same { IfOk result (λ l. l ≡ self.now) }
+        ensures few { IfOk result (λ l. l.inputs ≤ 16) }
+    {
+        Ok(Layer {
+            inputs: self.inputs,
+            size: self.size,
+            masks: self.masks.try_clone(alloc)?,
+            lows: self.lows.try_clone(alloc)?,
         })
     }
 

@@ -22,14 +22,24 @@ impl Selection {
         ensures { IfOk result (λ s. s.numbers.items ≡ chosen flags.now) }
     {
         let mut numbers = Vec::new(alloc);
-        let mut places = Vec::with_capacity(alloc, flags.len())?;
+        let mut places = vec![in alloc; 0; flags.len()]?;
         for (number, is_chosen) in flags.iter().enumerate() {
-            places.push(numbers.len() as u16)?;
             if *is_chosen {
+                places[number] = numbers.len() as u16;
                 numbers.push(number as u16)?;
             }
         }
         Ok(Selection { numbers, places })
+    }
+
+    /// The same selection, in memory of its own.
+    pub fn try_clone(&self, alloc: Global) -> Result<Selection, AllocError>
+        ensures { IfOk result (λ s. s.numbers.items ≡ self.now.numbers.items) }
+    {
+        Ok(Selection {
+            numbers: self.numbers.to_vec(alloc)?,
+            places: self.places.to_vec(alloc)?,
+        })
     }
 
     /// The place of a number among those chosen.

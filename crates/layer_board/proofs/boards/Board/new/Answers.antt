@@ -1,4 +1,4 @@
-use Rattle.std.proofs.Common.{◌≡◌, ◌+◌, ℕ, replicate, length, sym, ap, ◌∙◌, arith}
+use Rattle.std.proofs.Common.{◌≡◌, ◌+◌, ℕ, replicate, length, refl, sym, ap, ◌∙◌, arith}
 use Rattle.subset_layers.specs.Layers.{LayerOf, masks_of}
 use Rattle.layer_core.proofs.Lists.{length-same}
 use Rattle.layer_core.specs.Settings.{setting_of}
@@ -11,26 +11,26 @@ pub of_words-requires : goal.of_words-requires
 of_words-requires c =
     let b : BriefOf =
     record {
-      setting = setting_of c.of-2.result.value c.of-3.result.value c.args.limit;
-      layer = c.of-4.result.value;
+      setting = setting_of c.of.result.value c.of-2.result.value c.args.limit;
+      layer = c.of-3.result.value;
       workers = c.args.workers;
     } in
-    let many : c.len.result ≡ length (masks_of b.layer) = c.len.ensures ∙ ap (λ (l : LayerOf). length (masks_of l)) (sym c.of-4.ensures) in
+    let many : c.len.result ≡ length (masks_of b.layer) = c.len.ensures ∙ ap (λ (l : LayerOf). length (masks_of l)) (sym c.of-3.ensures) in
     may_open b c.as_slice.result.now (c.as_slice.ensures.value ∙ (c.in_ok-words.ensures ∙ ap (λ (n : ℕ). replicate (n + 1) 0) many))
     (omega (arith, c.count-count.ensures.some, c.count-count.ensures.value)) (omega (arith, c.count-count.ensures.most, c.count-count.ensures.value))
 
 pub invariant_of-board : goal.invariant_of-board
 invariant_of-board c = let e = c.in_ok-table.ensures in record {
-  layer = sym (ap (λ (b : BriefOf). b.layer) e.5 ∙ c.of-4.ensures);
+  layer = sym (ap (λ (b : BriefOf). b.layer) e.5 ∙ c.of-3.ensures);
   no_slots = e.1;
   words = e.0 ∙ (ap length (c.as_slice.ensures.value ∙ c.in_ok-words.ensures) ∙ (length-same (c.len.result + 1) 0 ∙ ap (λ (n : ℕ). n + 1) c.len.ensures));
-  few = few_masks_in c.in_ok-layer.layer c.inputs.result (ap (λ (l : LayerOf). l.inputs) c.in_ok-layer.ensures) c.inputs.ensures.few;
+  few = few_masks_in c.in_ok-layer.layer c.in_ok-layer.layer.inputs refl c.in_ok-layer.ensures.few;
 }
 
 pub invariant_of-board-2 : goal.invariant_of-board-2
 invariant_of-board-2 c = let e = c.in_ok-table.ensures in record {
-  layer = sym (ap (λ (b : BriefOf). b.layer) e.5 ∙ c.of-4.ensures);
+  layer = sym (ap (λ (b : BriefOf). b.layer) e.5 ∙ c.of-3.ensures);
   no_slots = e.1;
   words = e.0 ∙ (ap length (c.as_slice.ensures.value ∙ c.in_ok-words.ensures) ∙ (length-same (c.len.result + 1) 0 ∙ ap (λ (n : ℕ). n + 1) c.len.ensures));
-  few = few_masks_in c.in_ok-layer.layer c.inputs.result (ap (λ (l : LayerOf). l.inputs) c.in_ok-layer.ensures) c.inputs.ensures.few;
+  few = few_masks_in c.in_ok-layer.layer c.in_ok-layer.layer.inputs refl c.in_ok-layer.ensures.few;
 }

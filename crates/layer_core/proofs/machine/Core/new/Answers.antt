@@ -1,5 +1,5 @@
 use Rattle.std.proofs.Common.{◌≡◌, ℕ, None, map, replicate, refl, sym, ap, ◌∙◌, subst, arith}
-use Rattle.subset_layers.specs.Layers.{LayerOf, layer_with}
+use Rattle.subset_layers.specs.Layers.{LayerOf}
 use Rattle.layer_core.specs.Machine.{blank, unmarked, opening}
 use Rattle.layer_core.specs.Rights.{Right}
 use Rattle.layer_core.proofs.Starts.{right_opening}
@@ -27,7 +27,7 @@ returns-clause-opening c =
     let x : Inside = record { layer = l; counter = 0; cells = c.in_ok-cells.cells; workers = c.in_ok-workers.workers } in
     let blanks : map marks_of x.workers.items ≡ replicate c.count.result (blank (layout_of l)) = c.in_ok-workers.ensures
     ∙ λ i. replicate c.count.result (unmarked (c.blocks-2.ensures i) (c.len-2.ensures i)) in
-    let same : l ≡ c.args.layer.now = c.in_ok-layer.ensures ∙ λ i. layer_with (c.inputs.ensures i) (c.size.ensures i) in
+    let same : l ≡ c.args.layer.now = c.in_ok-layer.ensures.same in
     opened x c.count.result refl (c.in_ok-cells.ensures ∙ ap (λ (k : ℕ). replicate k None) c.len.ensures) blanks
     ∙ λ i. opening (layout_of (same i)) (c.count.ensures.value i)
 
