@@ -133,7 +133,8 @@ def compare(name, given, room):
     judge(name, ran)
     found, check, cudd = ran["minorder"], ran["check"], ran["CUDD"]
     exact = f"over {given.limit}" if "CUDD" in late else number(cudd.wall, ".3f")
-    cells = [name, *times(found), mean_threads(found), f"{found.peak:.0f}", *wall_and_peak(ran["certificate"]), *wall_and_peak(check)]
+    cells = [name, *times(found), mean_threads(found), f"{found.peak:.0f}"]
+    cells += [*wall_and_peak(ran["certificate"]), *wall_and_peak(check)]
     cells += [ratio(check, found), *times(ran["native"]), *times(ran["bounded"])]
     cells += [exact, found.line("nodes"), cudd.line("nodes with complement edges")]
     print("| " + " | ".join(cells) + " |", flush=True)
@@ -150,7 +151,8 @@ def main():
     given.add_argument("names", nargs="*")
     given = given.parse_args()
     heads = [
-        "File", "minorder, s", "processor, s", "threads", "MB", "with --cert, s", "MB", "ordercheck, s", "MB", "ordercheck / minorder",
+        "File", "minorder, s", "processor, s", "threads", "MB", "with --cert, s", "MB", "ordercheck, s", "MB",
+        "ordercheck / minorder",
         "native, s", "processor, s", "native with the bound, s", "processor, s", "CUDD exact, s", "nodes",
         "CUDD's, with complement edges",
     ]

@@ -18,6 +18,10 @@ pub enum Refused {
     OutOfMemory,
 }
 
+/// Room that is asked for at first, enough for most files. Pages of it that are never written cost
+/// nothing, and once it is given back the C library keeps memory of that size for the next table.
+const FIRST_ROOM: usize = 1 << 22;
+
 /// The bytes of a device, read to its end; one with more than the limit is too long.
 pub fn read_all<R: CountedRead>(
     alloc: Global,
@@ -33,7 +37,9 @@ pub fn read_all<R: CountedRead>(
     ensures err { IfErr result
         (Refuses limit (R.remaining device.old) (R.failures device.old) (R.failures device.new)) }
 {
-    let mut bytes = Vec::new(alloc);
+    let Ok(mut bytes) = Vec::with_capacity(alloc, FIRST_ROOM) else {
+        return Err(Refused::OutOfMemory);
+    };
     let mut piece = [0u8; 4096];
     loop {
         match device.read_some(&mut piece) {

@@ -83,8 +83,8 @@ fn likely_end(setting: &Setting<'_>, done: &[Costs]) -> usize
     end
 }
 
-/// What was found ahead, as long as that reaches to the next layer. Else nothing, and rows are to be
-/// found of all layers that are likely to be wanted nearly whole.
+/// What was found ahead, as long as that reaches to the next layer. Else nothing, and rows are to
+/// be found of all layers that are likely to be wanted nearly whole.
 pub fn look_ahead(alloc: Global, setting: &Setting<'_>, ahead: Ahead, done: &[Costs]) -> Ahead
     requires ahead { AreAhead setting.now.problem ahead }
     requires done { AreDone setting.now done.now }

@@ -7,8 +7,8 @@ use order_model::{Limit, Mask, Pairs, Problem, Reserves};
 use std::marker::Model;
 use subset_layers::Cell;
 
-/// What a search is for: the functions, the pairs that an order must keep, and what clips its cells:
-/// the bound, and what is counted on above a set.
+/// What a search is for: the functions, the pairs that an order must keep, and what clips its
+/// cells: the bound, and what is counted on above a set.
 #[derive(Drop)]
 pub struct Setting<'a> {
     pub(crate) problem: &'a Problem,

@@ -65,8 +65,8 @@ fn changes(words: &[u64], inputs: u8, a: VarIx, b: VarIx, point: usize) -> bool
     }
 }
 
-/// Whether some function's value so changes at a point of a sample: most pairs of variables in which
-/// functions aren't symmetric are told by few points.
+/// Whether some function's value so changes at a point of a sample: most pairs of variables in
+/// which functions aren't symmetric are told by few points.
 fn change_in_sample(problem: &Problem, a: VarIx, b: VarIx) -> bool
     requires first { a < b }
     requires inside { b < problem.now.inputs }

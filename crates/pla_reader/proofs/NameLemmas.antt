@@ -1,5 +1,5 @@
 -- Names.
-use Rattle.std.proofs.Common.{◌≡◌, ℕ, ◌+◌, zero, suc, true, refl, ◌∙◌, ap, List, [], ◌∷◌, ◌++◌, map, decimal, length, Option, Some, None, IfSome, unwrap_or, sym, arith}
+use Rattle.std.proofs.Common.{◌≡◌, ℕ, ◌+◌, true, refl, ◌∙◌, ap, List, [], ◌∷◌, ◌++◌, map, decimal, length, Option, Some, None, IfSome, unwrap_or, sym, arith}
 use Rattle.std.proofs.lemmas.List.FromFn.{length-map-range_with_len}
 use Rattle.std.specs.List.{range_with_len}
 use Rattle.std.specs.Char.{is_ascii_graphic}

@@ -13,8 +13,6 @@ use Rattle.pla_reader.specs.declared.errors.LineFault.{LineFault}
 use Rattle.pla_reader.specs.declared.errors.LineFault.TheVariants.{MissingHead}
 use Rattle.pla_reader.specs.declared.errors.PlaError.{PlaError}
 use Rattle.pla_reader.specs.declared.errors.PlaError.TheVariants as pla_errors
-use Rattle.pla_reader.specs.declared.progress.LineError.{LineError}
-use Rattle.pla_reader.specs.declared.progress.LineError.TheVariants as line_errors
 use Rattle.pla_reader.specs.Text.{lines_of}
 use Rattle.pla_reader.specs.Lines.{Line, is_end, description, said, line_said}
 use Rattle.pla_reader.specs.Lines.Line.{Empty, Inputs, Outputs, InputNames, OutputNames, Products, LogicalType, End, UnknownWord, Row}

@@ -1,8 +1,9 @@
 -- How lines and words begin.
-use Rattle.std.proofs.Common.{◌≡◌, ℕ, ◌+◌, ◌<◌, suc, refl, sym, ◌∙◌, ap, Bool, true, false, ◌==◌, List, [], ◌∷◌, length, take, drop, ◌-◌, not, cond, nat_lt, Option, Some, None, position, unwrap_or, arith}
+use Rattle.std.proofs.Common.{◌≡◌, ℕ, ◌+◌, ◌<◌, suc, get_or, refl, sym, ◌∙◌, ap, Bool, true, false, ◌==◌, List, [], ◌∷◌, length, take, drop, ◌-◌, Option, Some, None, unwrap_or, arith}
 use Rattle.std.specs.List.{slice_index_or, position_or_len, onto_first, slice_split, filter}
-use Rattle.std.proofs.lemmas.Bool.{ltb-false}
-use Rattle.std.proofs.lemmas.List.Sums.{prefix_len-le-length}
+use Rattle.std.proofs.lemmas.Bool.{false_from_ne_true}
+use Rattle.std.proofs.lemmas.List.Sums.{position_or_len_is}
+use Rattle.memchr.specs.Find.{IsFirstByte}
 use Rattle.pla_reader.specs.Text.{is_filled, lines_of, is_blank, words}
 use Rattle.order_model.proofs.Lists.Digits.{behind_first}
 
@@ -97,10 +98,14 @@ pub word_some : (xs : List ℕ) → 0 < length xs → is_blank (slice_index_or x
 word_some [] some e = absurd (omega (arith, some))
 word_some (b ∷ bs) some e = rw e (omega arith)
 
--- the first place that passes a test, or the length where there is none
-pub place_or_len : (p : ℕ → Bool) (xs : List ℕ) (found : Option ℕ) → found ≡ position p xs → unwrap_or found (length xs) ≡ position_or_len p xs
-place_or_len p xs found e = ap (λ o. unwrap_or o (length xs)) e ∙ by (nat_lt (position_or_len p xs) (length xs)) refl
-  where
-    by : (t : Bool) → nat_lt (position_or_len p xs) (length xs) ≡ t → unwrap_or (cond t (Some (position_or_len p xs)) None) (length xs) ≡ position_or_len p xs
-    by true t = refl
-    by false t = let le = prefix_len-le-length (λ x. not (p x)) xs in let ge = ltb-false (position_or_len p xs) (length xs) t in omega arith
+-- how many bytes stand before the first one that passes a test, by a search for an equal test
+pub len_before_first : (p q : ℕ → Bool) → ((b : ℕ) → q b ≡ p b) → (xs : List ℕ) (found : Option ℕ) → IsFirstByte q xs found →
+    unwrap_or found (length xs) ≡ position_or_len p xs
+len_before_first p q same xs None h =
+    sym (position_or_len_is p xs (length xs) 0 (omega arith)
+    (λ k lt. false_from_ne_true (p (get_or xs k 0)) (λ t. h k (omega arith) lt (same (get_or xs k 0) ∙ t))) (λ lt. absurd (omega arith)))
+len_before_first p q same xs (Some i) h =
+    let lt = h.0.high in
+    sym (position_or_len_is p xs i 0 (omega arith)
+    (λ k below. false_from_ne_true (p (get_or xs k 0)) (λ t. h.0.before k (omega arith) below (same (get_or xs k 0) ∙ t)))
+    (λ inside. sym (same (get_or xs i 0)) ∙ h.1))

@@ -1,24 +1,18 @@
 //! Lines, words and numbers.
 
-ghost use Rattle.std.specs.Prelude.{◌≡◌, ◌<◌, ◌≤◌, ◌==◌, ◌||◌, ◌∷◌, [], false, IsTrue, length, position, IfSome, IfNone, Some, None};
+ghost use Rattle.std.specs.Prelude.{◌≡◌, ◌<◌, ◌≤◌, ◌==◌, ◌||◌, ◌∷◌, [], false, IsTrue, length, IfSome, IfNone, Some, None};
 ghost use Rattle.std.specs.List.{position_or_len, list_all};
 ghost use Rattle.order_model.specs.Texts.{number_of};
 ghost use Rattle.pla_reader.specs.Text.{lines_of, is_blank, bar, words, content as content_of, only_word as one_word, is_number, is_name};
 
-/// The place of the first of a byte.
-fn place_of(text: &[u8], byte: u8) -> Option<usize>
-    ensures first { result ≡ position (λ b. b == byte) text.now }
-    ensures bound { IfSome result (λ place. place < length text.now) }
-{
-    text.iter().position(|b| *b == byte)
-}
+use memchr::{memchr, memchr3};
 
 /// How many bytes stand before a byte, or all of them.
 fn len_until(text: &[u8], byte: u8) -> usize
     ensures value { result ≡ position_or_len (λ b. b == byte) text.now }
     ensures bound { result ≤ length text.now }
 {
-    place_of(text, byte).unwrap_or(text.len())
+    memchr(byte, text).unwrap_or(text.len())
 }
 
 /// Whether a byte is a blank.
@@ -35,20 +29,12 @@ pub(crate) fn is_separator(b: u8) -> bool
     is_blank_byte(b) || b == b'|'
 }
 
-/// The place of the first blank.
-fn blank_place(text: &[u8]) -> Option<usize>
-    ensures first { result ≡ position is_blank text.now }
-    ensures bound { IfSome result (λ place. place < length text.now) }
-{
-    text.iter().position(|b| is_blank_byte(*b))
-}
-
 /// How many bytes stand before a blank, or all of them.
 fn word_len(text: &[u8]) -> usize
     ensures value { result ≡ position_or_len is_blank text.now }
     ensures bound { result ≤ length text.now }
 {
-    blank_place(text).unwrap_or(text.len())
+    memchr3(b' ', b'\t', b'\r', text).unwrap_or(text.len())
 }
 
 /// The first line of a text that isn't empty, and what follows its line feed.

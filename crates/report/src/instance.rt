@@ -7,8 +7,8 @@ use order_model::{Pairs, Workers};
 use pla_reader::Cover;
 use truth_table::Tables;
 
-/// What a run searches: a cover with its truth tables, the pairs that the order has to keep, whether
-/// what a certificate lists is asked for, and by how many workers.
+/// What a run searches: a cover with its truth tables, the pairs that the order has to keep,
+/// whether what a certificate lists is asked for, and by how many workers.
 #[derive(Drop)]
 pub struct Instance<'a> {
     pub cover: &'a Cover,
