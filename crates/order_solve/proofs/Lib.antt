@@ -1,3 +1,4 @@
+pub mod SymmetricWords
 pub mod Filters
 pub mod Wanted
 pub mod Blocks

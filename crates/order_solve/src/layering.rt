@@ -13,7 +13,7 @@ use crate::setting::Setting;
 use crate::working::{WorkerEnd, work_layer};
 use compaction::{Ahead, Beginning, Walks};
 use layer_board::{Board, BoardSeat, CloseError};
-use order_model::{Crew, Gate, Problem, Workers};
+use order_model::{Crew, Gate, Pairs, Problem, Workers};
 use std::alloc::{AllocError, Global};
 use std::thread;
 use std::thread::Threads;
@@ -106,11 +106,26 @@ fn gather(
 /// How many entries of truth tables are worth a thread.
 const ENTRIES_A_WORKER: usize = 1 << 18;
 
-/// As many workers as a layer's blocks keep busy, and no more than there are.
-fn busy_workers(problem: &Problem, layer: &Layer, workers: Workers) -> Workers
+/// How many sets of a layer are in orders with the pairs, counted up to a number.
+fn count_lawful(pairs: &Pairs, layer: &Layer, most: usize) -> usize
+    ensures { result ≤ most }
+{
+    let mut count = 0;
+    for i in 0..layer.len() {
+        if count < most && pairs.lawful(layer.mask_at(i)) {
+            count += 1;
+        }
+    }
+    count
+}
+
+/// As many workers as a layer's lawful sets keep busy, at most one a block, and no more than there
+/// are.
+fn busy_workers(setting: &Setting<'_>, layer: &Layer, workers: Workers) -> Workers
     ensures { result ≤ workers }
 {
-    let entries = (usize::from(problem.outputs()) << problem.inputs()) * layer.blocks().min(256);
+    let tables = count_lawful(setting.pairs, layer, layer.blocks().min(256));
+    let entries = (usize::from(setting.problem.outputs()) << setting.inputs()) * tables;
     let busy = entries / ENTRIES_A_WORKER + 1;
     match Workers::new(busy.min(usize::from(workers.count())) as u8) {
         Some(fewer) => fewer,
@@ -137,7 +152,7 @@ fn cells_of_layer<R: Threads + Sync, G: Gate>(
         setting.problem,
         setting.limit,
         bench.layer,
-        busy_workers(setting.problem, bench.layer, crew.workers),
+        busy_workers(setting, bench.layer, crew.workers),
         setting.pairs,
     )?;
     let jobs = numbered(alloc, &board, seats)?;

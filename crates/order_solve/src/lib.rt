@@ -12,6 +12,7 @@ mod looking;
 mod preparing;
 mod solving;
 mod symmetric;
+mod symmetric_words;
 
 // A worker's part of a layer: what it is lent, the widths that it needs, the cells of its blocks.
 mod bench;

@@ -3,7 +3,7 @@
 ghost use Rattle.std.specs.Prelude.{◌≡◌, IfOk};
 
 use crate::looking::first_layers;
-use crate::symmetric::seem_symmetric;
+use crate::symmetric::has_symmetric_variables;
 use compaction::Preparation;
 use order_model::{Limit, Pairs, Problem, Reserve, Workers};
 use std::alloc::{AllocError, Global};
@@ -15,7 +15,7 @@ const ENTRIES_WORTH_THREADS: usize = 1 << 14;
 /// What a search for the first order of the fewest nodes among those that keep the pairs begins
 /// with: found by the workers while another thread sifts, say. The bound is the size of any diagram
 /// of the functions; from it is guessed how many layers hardly a set is clipped of. No rows are
-/// found if the search seems to keep pairs of symmetric variables, since few sets are then left.
+/// found if the search keeps pairs of symmetric variables, since few sets are then left.
 pub fn prepare<'a, R: Threads + Sync>(
     rt: &R,
     alloc: Global,
@@ -33,7 +33,7 @@ pub fn prepare<'a, R: Threads + Sync>(
         return Ok(prepared);
     }
     let asks_no_pairs = limit.reserve == Reserve::Widths && pairs.count() == 0;
-    let end = if asks_no_pairs && seem_symmetric(problem) {
+    let end = if asks_no_pairs && has_symmetric_variables(problem) {
         0
     } else {
         first_layers(problem, limit)
