@@ -2,7 +2,7 @@
 --     free_split, free_other, free_less      how many variables outside the set stand below
 --     table_high, table_low      the strips are paired by a variable above them, or by one inside them
 --     holds_high, holds_low      a variable above the strips, and one inside them
-use Rattle.std.proofs.Common.{◌≡◌, ◌≢◌, ℕ, Bool, zero, suc, ◌+◌, ◌-◌, ◌*◌, ◌/◌, ◌%◌, ◌^◌, ◌<◌, ◌≤◌, true, false, not, cond, ◌&&◌, inl, inr, List, [], ◌∷◌, length, get_or, bit_or, eqb, eq-eqb, ne_eqb, refl, sym, ap, ap₂, ◌∙◌, subst, arith}
+use Rattle.std.proofs.Common.{◌≡◌, ◌≢◌, ℕ, zero, suc, ◌+◌, ◌-◌, ◌*◌, ◌/◌, ◌%◌, ◌^◌, ◌<◌, ◌≤◌, true, false, not, cond, ◌&&◌, inl, inr, List, [], ◌∷◌, length, get_or, bit_or, eqb, eq-eqb, ne_eqb, refl, sym, ap, ap₂, ◌∙◌, subst, arith}
 use Rattle.std.specs.Int.{bit_at}
 use Rattle.std.proofs.Math.Nat.{eq_of_mul-eq-mul_right, div-lt_iff_lt-mul, mod-lt}
 use Rattle.std.proofs.lemmas.Bool.{cases_eq}
@@ -144,10 +144,10 @@ module _ (t : ClassesOf) (x : ℕ) (inside : x < t.problem.inputs) (new : has (s
             below = h.below;
           }
 
-      pub holds_high : (grown told joined : List ℕ) (all_used : Bool) →
-          GrowsStrips outer rank numbers (free_below t.set low) masks x grown told joined all_used →
+      pub holds_high : (grown told joined : List ℕ) →
+          GrowsStrips (record { outer = outer; rank = rank; numbers = numbers; bits = free_below t.set low; masks = masks }) x grown told joined →
           HoldsStrips (with_variable t x) low grown told joined
-      holds_high grown told joined all_used g =
+      holds_high grown told joined g =
           let e : 2 ^ free_below (with_variable t x).set low ≡ 2 ^ free_below t.set low = ap (λ k. 2 ^ k) (free_other t.set x low high) in
           record {
             strips = subst (AreStrips grown told) (sym e) g.strips;

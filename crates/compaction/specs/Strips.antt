@@ -2,8 +2,8 @@
 --     low_variables p      how many variables run inside a strip of the empty set
 --     AreStrips      each strip is whole, and used
 --     HoldsValues p outer numbers len      strips that hold a problem's values
---     IsStripTable outer rank numbers bits masks      strips whose names are paired by a variable
---     GrowsStrips outer rank numbers bits masks x grown told joined all_used      the strips with that variable too
+--     StripTableOf, IsStripTable outer rank numbers bits masks      strips whose names are paired by a variable
+--     GrowsStrips t x grown told joined      the strips with that variable too
 --     masks_in_use numbers masks      the masks of the numbers that occur, rising
 --     HoldsKeys t keys masks      the numbers tell the set's subfunctions apart, in any order; the masks are what the function with each number depends on
 --     HoldsStrips t low outer numbers masks      the unrolled table holds the keys of t; `low` parts the variables
@@ -45,6 +45,14 @@ pub record HoldsValues (p : TruthTables) (outer numbers : List ℕ) (len : ℕ) 
   pub values : unrolled outer numbers len ≡ map (number_of (value_at p 0 0)) (values_of p)
   pub few : length numbers ≤ 2 ^ 20
 
+-- strips, how many variables stand inside one and below the variable that pairs the names, and the mask of each number
+pub record StripTableOf : Type 0 where
+  pub outer : List ℕ
+  pub rank : ℕ
+  pub numbers : List ℕ
+  pub bits : ℕ
+  pub masks : List ℕ
+
 -- strips of 2 ^ bits entries, whose names are paired by a variable above those inside a strip
 pub record IsStripTable (outer : List ℕ) (rank : ℕ) (numbers : List ℕ) (bits : ℕ) (masks : List ℕ) : Type 0 where
   pub small_rank : bits + rank < 16
@@ -56,15 +64,12 @@ pub record IsStripTable (outer : List ℕ) (rank : ℕ) (numbers : List ℕ) (bi
   pub below : AllBelow numbers (length masks)
 
 -- strips with that variable x too: all their entries tell the pairs of the entries apart, and the masks are those of the pairs
-pub record GrowsStrips (outer : List ℕ) (rank : ℕ) (numbers : List ℕ) (bits : ℕ) (masks : List ℕ) (x : ℕ)
-    (grown told joined : List ℕ)
-    (all_used : Bool) : Type 0 where
-  pub strips : AreStrips grown told (2 ^ bits)
-  pub tells : TellsPairs masks x (pairs (unrolled outer numbers (2 ^ bits)) (2 ^ bits * 2 ^ rank))
-      (unrolled grown told (2 ^ bits)) joined
+pub record GrowsStrips (t : StripTableOf) (x : ℕ) (grown told joined : List ℕ) : Type 0 where
+  pub strips : AreStrips grown told (2 ^ t.bits)
+  pub tells : TellsPairs t.masks x (pairs (unrolled t.outer t.numbers (2 ^ t.bits)) (2 ^ t.bits * 2 ^ t.rank))
+      (unrolled grown told (2 ^ t.bits)) joined
   pub below : AllBelow told (length joined)
   pub few : length told ≤ 2 ^ 20
-  pub used : IsTrue all_used → AreUsed told joined
 
 -- the masks of the numbers that occur
 unfoldable pub masks_in_use : List ℕ → List ℕ → List ℕ

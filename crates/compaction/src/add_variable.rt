@@ -3,24 +3,59 @@
 ghost use Rattle.std.specs.Prelude.{◌≡◌, ℕ, ◌+◌, ◌*◌, ◌^◌, ◌<◌, ◌≤◌, length, slice_index, IfOk, IsTrue};
 ghost use Rattle.class_laws.specs.PairTables.{AreOwn};
 ghost use Rattle.pair_numbering.specs.Strips.{AreNamed, names_of, unrolled};
-ghost use Rattle.compaction.specs.Strips.{GrowsStrips, IsStripTable};
+ghost use Rattle.pair_numbering.specs.Keys.{AreUsed};
+ghost use Rattle.compaction.specs.Strips.{GrowsStrips};
 
 use crate::names::{NamePairs, number_names};
+use order_model::VarIx;
 use pair_numbering::{tell_pairs, tell_strip_pairs};
 use std::alloc::{AllocError, Global};
+use std::marker::Model;
+
+/// Strips whose names are paired by a variable above those inside a strip.
+#[derive(Drop)]
+pub(crate) struct StripTable<'a> {
+    /// The name of the strip of each assignment of the variables above those inside a strip.
+    pub(crate) outer: &'a [u32],
+    /// How many of these variables stand below the one that pairs the names.
+    pub(crate) rank: u32,
+    /// The entries of the strips, one strip after the other.
+    pub(crate) numbers: &'a [u32],
+    /// How many variables stand inside a strip: it has 2^bits entries.
+    pub(crate) bits: u32,
+    /// The mask of each number.
+    pub(crate) masks: &'a [u16],
+}
+
+impl<'a> Model for StripTable<'a> {
+    ghost use Rattle.compaction.specs.Strips.{IsStripTable, StripTableOf};
+
+    ghost Value = { StripTableOf };
+
+    ghost view = { λ t. record {
+      outer = t.outer.now;
+      rank = t.rank;
+      numbers = t.numbers.now;
+      bits = t.bits;
+      masks = t.masks.now;
+    } };
+
+    ghost invariant = { λ t. IsStripTable t.outer.now t.rank t.numbers.now t.bits t.masks.now };
+}
 
 /// Strips, the names of the runs, and the mask of each number. If `all_used` is true each mask is
 /// that of a number that occurs.
 #[derive(Drop)]
-pub struct StripParts {
-    pub outer: Vec<u32>,
-    pub numbers: Vec<u32>,
-    pub masks: Vec<u16>,
-    pub all_used: bool,
+pub(crate) struct StripParts {
+    pub(crate) outer: Vec<u32>,
+    pub(crate) numbers: Vec<u32>,
+    pub(crate) masks: Vec<u16>,
+    pub(crate) all_used: bool,
+    ghost used: { IsTrue all_used → AreUsed numbers.items masks.items },
 }
 
 /// Whether the numbers count up from 0, as they do if each is new.
-pub fn are_in_order(numbers: &[u32]) -> bool
+pub(crate) fn are_in_order(numbers: &[u32]) -> bool
     ensures up { IsTrue result → AreOwn numbers.now }
     ensures all { AreOwn numbers.now → IsTrue result }
 {
@@ -47,24 +82,20 @@ fn first_numbers(alloc: Global, count: usize) -> Result<Vec<u32>, AllocError>
 
 /// Strips with one more variable, which stands above those inside a strip, if the strips are named
 /// in order: their entries are all entries.
-fn add_in_order(
-    alloc: Global,
-    outer: &[u32],
-    rank: u32,
-    numbers: &[u32],
-    bits: u32,
-    x: u8,
-    masks: &[u16],
-) -> Result<StripParts, AllocError>
-    requires table { IsStripTable outer.now rank numbers.now bits masks.now }
+fn add_in_order(alloc: Global, table: &StripTable<'_>, x: VarIx) -> Result<StripParts, AllocError>
     requires variable { x < 16 }
-    requires own { AreOwn outer.now }
+    requires own { AreOwn table.now.outer }
     ensures { IfOk result (λ g.
-        GrowsStrips outer.now rank numbers.now bits masks.now x g.outer.items g.numbers.items
-        g.masks.items g.all_used) }
+        GrowsStrips table.now x g.outer.items g.numbers.items g.masks.items) }
 {
-    let told = tell_pairs(alloc, numbers, bits + rank, x, masks)?;
-    let outer = first_numbers(alloc, outer.len() / 2)?;
+    let told = tell_pairs(
+        alloc,
+        table.numbers,
+        table.bits + table.rank,
+        x,
+        table.masks,
+    )?;
+    let outer = first_numbers(alloc, table.outer.len() / 2)?;
     Ok(StripParts {
         outer,
         numbers: told.numbers,
@@ -77,22 +108,24 @@ fn add_in_order(
 /// strips. What is known of the pairs of names isn't numbered again.
 fn add_by_pairs(
     alloc: Global,
-    outer: &[u32],
-    rank: u32,
-    numbers: &[u32],
-    bits: u32,
-    x: u8,
-    masks: &[u16],
+    table: &StripTable<'_>,
+    x: VarIx,
     known: Option<&NamePairs>,
 ) -> Result<StripParts, AllocError>
-    requires table { IsStripTable outer.now rank numbers.now bits masks.now }
-    requires variable { x < 16 }
+    requires { x < 16 }
     ensures { IfOk result (λ g.
-        GrowsStrips outer.now rank numbers.now bits masks.now x g.outer.items g.numbers.items
-        g.masks.items g.all_used) }
+        GrowsStrips table.now x g.outer.items g.numbers.items g.masks.items) }
 {
-    let runs = number_names(alloc, outer, rank, numbers.len() >> bits, known)?;
-    let told = tell_strip_pairs(alloc, &runs.pairs, numbers, bits, x, masks)?;
+    let strips = table.numbers.len() >> table.bits;
+    let runs = number_names(alloc, table.outer, table.rank, strips, known)?;
+    let told = tell_strip_pairs(
+        alloc,
+        &runs.pairs,
+        table.numbers,
+        table.bits,
+        x,
+        table.masks,
+    )?;
     Ok(StripParts {
         outer: runs.numbers,
         numbers: told.numbers,
@@ -102,26 +135,18 @@ fn add_by_pairs(
 }
 
 /// Strips with one more variable, which stands above those inside a strip.
-pub fn add_above(
+pub(crate) fn add_above(
     alloc: Global,
-    outer: &[u32],
-    rank: u32,
-    numbers: &[u32],
-    bits: u32,
-    x: u8,
-    masks: &[u16],
+    table: &StripTable<'_>,
+    x: VarIx,
     known: Option<&NamePairs>,
 ) -> Result<StripParts, AllocError>
-    requires table { IsStripTable outer.now rank numbers.now bits masks.now }
-    requires variable { x < 16 }
+    requires { x < 16 }
     ensures { IfOk result (λ g.
-        GrowsStrips outer.now rank numbers.now bits masks.now x g.outer.items g.numbers.items
-        g.masks.items g.all_used) }
+        GrowsStrips table.now x g.outer.items g.numbers.items g.masks.items) }
 {
-    let grown = if are_in_order(outer) {
-        add_in_order(alloc, outer, rank, numbers, bits, x, masks)?
-    } else {
-        add_by_pairs(alloc, outer, rank, numbers, bits, x, masks, known)?
-    };
-    Ok(grown)
+    if are_in_order(table.outer) {
+        return add_in_order(alloc, table, x);
+    }
+    add_by_pairs(alloc, table, x, known)
 }

@@ -5,6 +5,7 @@ ghost use Rattle.std.specs.Prelude.{◌≡◌, ◌*◌, ◌^◌, ◌<◌, ◌≤
 ghost use Rattle.order_model.specs.Orders.{has};
 ghost use Rattle.pair_numbering.specs.Strips.{AreNamed, unrolled};
 
+use crate::add_variable::StripParts;
 use crate::classes::rank_of;
 use crate::columns::{ByteStrips, byte_strips};
 use crate::names::copied;
@@ -148,6 +149,12 @@ impl<'a> ByteKeys<'a> {
         let mut masks = Vec::with_capacity(alloc, self.masks.len())?;
         masks.extend_from_slice(&self.masks)?;
         let outer = copied(alloc, &self.outer)?;
-        Ok(Strips::of_parts(alloc, self.problem, self.set, outer, numbers, masks, false))
+        let parts = StripParts {
+            outer,
+            numbers,
+            masks,
+            all_used: false,
+        };
+        Ok(Strips::of_parts(alloc, self.problem, self.set, parts))
     }
 }

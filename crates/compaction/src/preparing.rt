@@ -180,8 +180,8 @@ impl<'a> Preparation<'a> {
         })
     }
 
-    /// With the rows of all sets up to a size that are in orders with the pairs, by the workers. With
-    /// size 0 there are none.
+    /// With the rows of all sets up to a size that are in orders with the pairs, by the workers.
+    /// With size 0 there are none.
     pub fn by_workers<R: Threads + Sync>(
         rt: &R,
         alloc: Global,

@@ -8,7 +8,7 @@ ghost use Rattle.class_laws.specs.PairTables.{AllBelow, AreOwn};
 ghost use Rattle.pair_numbering.specs.Keys.{AreUsed};
 ghost use Rattle.compaction.specs.Strips.{masks_in_use, low_variables as low_of};
 
-use crate::add_variable::{add_above, are_in_order};
+use crate::add_variable::{StripParts, StripTable, add_above, are_in_order};
 use crate::classes::{rank_of, row_of};
 use crate::columns::{ValueStrips, whole_strips};
 use crate::names::{NamePairs, copied};
@@ -128,31 +128,27 @@ impl<'a> Strips<'a> {
 
     /// A table of strips, or the count alone if all subfunctions are distinct and depend on the
     /// whole set.
-    pub fn of_parts(
+    pub(crate) fn of_parts(
         alloc: Global,
         problem: &'a Problem,
         set: Mask,
-        outer: Vec<u32>,
-        numbers: Vec<u32>,
-        masks: Vec<u16>,
-        all_used: bool,
+        parts: StripParts,
     ) -> Strips<'a>
-        requires holds { HoldsStrips (classes_of problem.now set) (low_variables problem.now)
-            outer.items numbers.items masks.items }
-        requires used { IsTrue all_used → AreUsed numbers.items masks.items }
+        requires { HoldsStrips (classes_of problem.now set) (low_variables problem.now)
+            parts.outer.items parts.numbers.items parts.masks.items }
         ensures { result ≡ classes_of problem.now set }
     {
-        if all_distinct(&outer, &numbers, &masks, set) {
-            return Strips::of_count(alloc, problem, set, numbers.len() as u32);
+        if all_distinct(&parts.outer, &parts.numbers, &parts.masks, set) {
+            return Strips::of_count(alloc, problem, set, parts.numbers.len() as u32);
         }
         Strips {
             problem,
             set,
             distinct: None,
-            all_used,
-            outer,
-            numbers,
-            masks,
+            all_used: parts.all_used,
+            outer: parts.outer,
+            numbers: parts.numbers,
+            masks: parts.masks,
         }
     }
 
@@ -182,7 +178,13 @@ impl<'a> Strips<'a> {
         let mut masks = Vec::with_capacity(alloc, 2)?;
         masks.push(0)?;
         masks.push(0)?;
-        Ok(Strips::of_parts(alloc, problem, 0, outer, numbers, masks, false))
+        let parts = StripParts {
+            outer,
+            numbers,
+            masks,
+            all_used: false,
+        };
+        Ok(Strips::of_parts(alloc, problem, 0, parts))
     }
 
     /// How many variables are low.
@@ -212,16 +214,13 @@ impl<'a> Strips<'a> {
                 let rank = rank_of(self.set, x);
                 let told = tell_pairs(alloc, &self.numbers, rank, x, &self.masks)?;
                 let outer = copied(alloc, &self.outer)?;
-                let strips = Strips::of_parts(
-                    alloc,
-                    self.problem,
-                    set,
+                let parts = StripParts {
                     outer,
-                    told.numbers,
-                    told.masks,
-                    told.all_used,
-                );
-                Ok(strips)
+                    numbers: told.numbers,
+                    masks: told.masks,
+                    all_used: told.all_used,
+                };
+                Ok(Strips::of_parts(alloc, self.problem, set, parts))
             }
         }
     }
@@ -246,26 +245,15 @@ impl<'a> Strips<'a> {
             None => {
                 let bits = rank_of(self.set, low_variables(self.problem));
                 let rank = rank_of(self.set, x) - bits;
-                let grown = add_above(
-                    alloc,
-                    &self.outer,
+                let table = StripTable {
+                    outer: &self.outer,
                     rank,
-                    &self.numbers,
+                    numbers: &self.numbers,
                     bits,
-                    x,
-                    &self.masks,
-                    known,
-                )?;
-                let strips = Strips::of_parts(
-                    alloc,
-                    self.problem,
-                    set,
-                    grown.outer,
-                    grown.numbers,
-                    grown.masks,
-                    grown.all_used,
-                );
-                Ok(strips)
+                    masks: &self.masks,
+                };
+                let grown = add_above(alloc, &table, x, known)?;
+                Ok(Strips::of_parts(alloc, self.problem, set, grown))
             }
         }
     }

@@ -35,8 +35,8 @@ unroll-requires-clause-named c =
     (subst (λ us. AreNamed c.self.inside.bytes.items us (1 * 2 ^ c.rank_of.result % 2 ^ 64)) (sym c.deref-2.ensures.value)
     (subst (AreNamed c.self.inside.bytes.items c.self.inside.rows.items) (sym r) h.named))
 
-pub of_parts-requires-clause-holds : goal.of_parts-requires-clause-holds
-of_parts-requires-clause-holds c =
+pub of_parts-requires : goal.of_parts-requires
+of_parts-requires c =
     let h = c.self.invariant in
     let f = free_le c.self.inside.set 3 in
     let e = c.rank_of.ensures in

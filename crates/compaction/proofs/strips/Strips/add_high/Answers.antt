@@ -16,8 +16,8 @@ overflow_sub-rank c =
     let e = ap (free_below c.self.inside.set) l in
     omega arith
 
-pub add_above-requires-clause-table : goal.add_above-requires-clause-table
-add_above-requires-clause-table c =
+pub invariant_of-table : goal.invariant_of-table
+invariant_of-table c =
     let h = table_strips c.args.self.now (low_variables c.args.self.now.problem) c.self.inside.distinct c.self.inside.all_used
     c.self.inside.outer.items c.self.inside.numbers.items c.self.inside.masks.items
     (subst (λ (z : ClassesOf). HoldsTable z (low_variables z.problem) c.self.inside.distinct c.self.inside.all_used
@@ -35,8 +35,8 @@ add_above-requires-clause-table c =
     (table_high c.args.self.now c.args.x c.requires.inside c.requires.new (low_variables c.args.self.now.problem) c.self.inside.outer.items
     c.self.inside.numbers.items c.self.inside.masks.items h c.requires.high rank (omega arith))
 
-pub of_parts-strips-requires-clause-holds : goal.of_parts-strips-requires-clause-holds
-of_parts-strips-requires-clause-holds c =
+pub of_parts-requires : goal.of_parts-requires
+of_parts-requires c =
     let h = table_strips c.args.self.now (low_variables c.args.self.now.problem) c.self.inside.distinct c.self.inside.all_used
     c.self.inside.outer.items c.self.inside.numbers.items c.self.inside.masks.items
     (subst (λ (z : ClassesOf). HoldsTable z (low_variables z.problem) c.self.inside.distinct c.self.inside.all_used
@@ -54,12 +54,19 @@ of_parts-strips-requires-clause-holds c =
     let g = c.in_ok-grown-in-None.grown in
     let grown =
     subst (λ z. z)
-    (λ i. GrowsStrips (c.deref.ensures.value i) rank (c.deref-in-None.ensures.value i) (b i) (c.deref-in-None-2.ensures.value i)
-    c.args.x g.outer.items g.numbers.items g.masks.items g.all_used)
+    (λ i. GrowsStrips
+    (record {
+      outer = c.deref.ensures.value i;
+      rank = rank;
+      numbers = c.deref-in-None.ensures.value i;
+      bits = b i;
+      masks = c.deref-in-None-2.ensures.value i;
+    })
+    c.args.x g.outer.items g.numbers.items g.masks.items)
     c.in_ok-grown-in-None.ensures in
     let k = holds_high c.args.self.now c.args.x c.requires.inside c.requires.new (low_variables c.args.self.now.problem)
     c.self.inside.outer.items c.self.inside.numbers.items c.self.inside.masks.items h
-    c.requires.high rank (omega arith) g.outer.items g.numbers.items g.masks.items g.all_used grown in
+    c.requires.high rank (omega arith) g.outer.items g.numbers.items g.masks.items grown in
     subst (λ (z : ClassesOf). HoldsStrips z (low_variables z.problem) g.outer.items g.numbers.items g.masks.items)
     (λ i. classes_of (sym c.self.view_is i).problem (bit_or (sym c.self.view_is i).set (sym o i))) k
 
@@ -92,4 +99,4 @@ returns-in_ok-grown-in-None c =
     let few = c.inputs.ensures.few in
     let same = c.inputs.ensures.value ∙ ap (λ (z : ClassesOf). z.problem.inputs) c.self.view_is in
     let s = one_shl c.args.x 16 (omega arith) in
-    c.of_parts-strips.ensures ∙ (λ i. classes_of (c.self.view_is i).problem (bit_or (c.self.view_is i).set (s i)))
+    c.of_parts.ensures ∙ (λ i. classes_of (c.self.view_is i).problem (bit_or (c.self.view_is i).set (s i)))

@@ -23,8 +23,8 @@ tell_pairs-requires-clause-table c =
     (table_low c.args.self.now c.args.x (omega arith) c.requires.new (low_variables c.args.self.now.problem) c.self.inside.outer.items
     c.self.inside.numbers.items c.self.inside.masks.items h l)
 
-pub of_parts-strips-requires-clause-holds : goal.of_parts-strips-requires-clause-holds
-of_parts-strips-requires-clause-holds c =
+pub of_parts-requires : goal.of_parts-requires
+of_parts-requires c =
     let l = c.requires.low in
     let h = table_strips c.args.self.now (low_variables c.args.self.now.problem) c.self.inside.distinct c.self.inside.all_used
     c.self.inside.outer.items c.self.inside.numbers.items c.self.inside.masks.items

@@ -4,8 +4,8 @@ use Rattle.class_laws.specs.Table.{classes_of}
 use Rattle.compaction.proofs.HeldStrips.{holds_values}
 use Rattle.compaction.proofs.strips.Strips.of_problem.Goals as goal
 
-pub of_parts-requires-clause-holds : goal.of_parts-requires-clause-holds
-of_parts-requires-clause-holds c =
+pub of_parts-requires : goal.of_parts-requires
+of_parts-requires c =
     let p = c.args.problem.now in
     let n = c.inputs.ensures.value in
     let f = c.inputs.ensures.few in
