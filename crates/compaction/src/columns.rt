@@ -4,7 +4,7 @@
 ghost use Rattle.std.specs.Prelude.{◌≡◌, ◌==◌, ℕ, ◌+◌, ◌*◌, ◌/◌, ◌^◌, ◌<◌, ◌≤◌, ◌++◌, Bool, List, false, length, get_or, slice_index, IfOk, IfSome, OnOk};
 ghost use Rattle.std.specs.Int.{bit_at};
 ghost use Rattle.order_model.specs.Problems.{outputs_of, packed_bit};
-ghost use Rattle.compaction.specs.Columns.{AreByteRows, AreChained, KeepsRuns, low_numbers, packed_numbers};
+ghost use Rattle.compaction.specs.Columns.{AddsRuns, AreByteRows, IsChained, KeepsValues, low_numbers, packed_numbers};
 ghost use Rattle.pair_numbering.specs.Strips.{AreNamed, unrolled};
 ghost use Rattle.compaction.specs.Strips.{HoldsValues};
 ghost use Rattle.class_laws.specs.PairTables.{AllBelow};
@@ -21,9 +21,9 @@ const SLOTS: usize = 4096;
 /// names the strip of each run, function by function, and `numbers` has the strips that are kept,
 /// one after the other.
 #[derive(Drop)]
-pub struct ValueStrips {
-    pub outer: Vec<u32>,
-    pub numbers: Vec<u32>,
+pub(crate) struct ValueStrips {
+    pub(crate) outer: Vec<u32>,
+    pub(crate) numbers: Vec<u32>,
 }
 
 /// Runs of 256 points. `outer` names the kept run that each is equal to, and `kept` has the words
@@ -82,23 +82,11 @@ fn find_run(kept: &[u64], next: &[u32], head: u32, run: &[u64]) -> Option<u32>
 /// Adds a run.
 #[inline(always)]
 fn push_run(columns: &mut Columns, run: &[u64]) -> Result<(), AllocError>
-    requires chained { AreChained columns.old.kept.items columns.old.next.items
-        columns.old.heads.items }
+    requires chained { IsChained columns.old }
     requires run { length run.now ≡ 4 }
     requires room { length columns.old.next.items < 2 ^ 20 }
-    ensures chained { OnOk result
-        (AreChained columns.new.kept.items columns.new.next.items columns.new.heads.items) }
-    ensures long { OnOk result
-        (length columns.new.outer.items ≡ length columns.old.outer.items + 1) }
-    ensures room { OnOk result (length columns.new.next.items ≤ length columns.old.next.items + 1) }
-    ensures keeps { OnOk result
-        ((values : List Bool) →
-        KeepsRuns values columns.old.outer.items columns.old.kept.items
-        (length columns.old.next.items) →
-        ((b : ℕ) → b < 256 → packed_bit run.now b
-        ≡ get_or values (length columns.old.outer.items * 256 + b) false) →
-        KeepsRuns values columns.new.outer.items columns.new.kept.items
-        (length columns.new.next.items)) }
+    ensures chained { OnOk result (IsChained columns.new) }
+    ensures runs { OnOk result (AddsRuns columns.old columns.new run.now) }
 {
     let slot = slot_of(run);
     let head = columns.heads[slot];
@@ -119,25 +107,12 @@ fn push_run(columns: &mut Columns, run: &[u64]) -> Result<(), AllocError>
 
 /// Adds the runs of a function.
 fn push_runs(columns: &mut Columns, words: &[u64]) -> Result<(), AllocError>
-    requires chained { AreChained columns.old.kept.items columns.old.next.items
-        columns.old.heads.items }
+    requires chained { IsChained columns.old }
     requires whole { (runs : ℕ) × (length words.now ≡ runs * 4) }
     requires few { length words.now ≤ 2 ^ 10 }
     requires room { length columns.old.next.items ≤ 2 ^ 16 }
-    ensures chained { OnOk result
-        (AreChained columns.new.kept.items columns.new.next.items columns.new.heads.items) }
-    ensures long { OnOk result
-        (length columns.new.outer.items ≡ length columns.old.outer.items + length words.now / 4) }
-    ensures room { OnOk result
-        (length columns.new.next.items ≤ length columns.old.next.items + length words.now / 4) }
-    ensures keeps { OnOk result
-        ((values : List Bool) →
-        KeepsRuns values columns.old.outer.items columns.old.kept.items
-        (length columns.old.next.items) →
-        ((k : ℕ) → k < length words.now * 64 →
-        packed_bit words.now k ≡ get_or values (length columns.old.outer.items * 256 + k) false) →
-        KeepsRuns values columns.new.outer.items columns.new.kept.items
-        (length columns.new.next.items)) }
+    ensures chained { OnOk result (IsChained columns.new) }
+    ensures runs { OnOk result (AddsRuns columns.old columns.new words.now) }
 {
     for run in 0..words.len() / 4 {
         push_run(columns, &words[run * 4..run * 4 + 4])?;
@@ -153,8 +128,7 @@ fn columns_of(alloc: Global, problem: &Problem) -> Result<Columns, AllocError>
         (λ c. length c.outer.items * 256 ≡ outputs_of problem.now * 2 ^ problem.now.inputs) }
     ensures few { IfOk result (λ c. length c.outer.items ≤ 2 ^ 12) }
     ensures whole { IfOk result (λ c. length c.kept.items ≡ length c.next.items * 4) }
-    ensures keeps { IfOk result
-        (λ c. KeepsRuns (values_of problem.now) c.outer.items c.kept.items (length c.next.items)) }
+    ensures keeps { IfOk result (λ c. KeepsValues c (values_of problem.now)) }
 {
     let runs = (problem.outputs() as usize) << (problem.inputs() - 8);
     let mut columns = Columns {
@@ -222,7 +196,11 @@ fn bytes_of(alloc: Global, words: &[u64]) -> Result<Vec<u8>, AllocError>
 }
 
 /// A strip for each run of 2^low points, function by function.
-pub fn whole_strips(alloc: Global, problem: &Problem, low: u8) -> Result<ValueStrips, AllocError>
+pub(crate) fn whole_strips(
+    alloc: Global,
+    problem: &Problem,
+    low: u8,
+) -> Result<ValueStrips, AllocError>
     requires inside { low ≤ problem.now.inputs }
     ensures { IfOk result (λ v. HoldsValues problem.now v.outer.items v.numbers.items (2 ^ low)) }
 {
@@ -238,14 +216,14 @@ pub fn whole_strips(alloc: Global, problem: &Problem, low: u8) -> Result<ValueSt
 /// The strips of 256 points, whose numbers stand in rows of eight that bytes name: 0 for the first
 /// value met, and 1 for the other one.
 #[derive(Drop)]
-pub struct ByteStrips {
-    pub outer: Vec<u32>,
-    pub bytes: Vec<u8>,
-    pub rows: Vec<u32>,
+pub(crate) struct ByteStrips {
+    pub(crate) outer: Vec<u32>,
+    pub(crate) bytes: Vec<u8>,
+    pub(crate) rows: Vec<u32>,
 }
 
 /// The values of a problem as bytes of kept runs.
-pub fn byte_strips(alloc: Global, problem: &Problem) -> Result<ByteStrips, AllocError>
+pub(crate) fn byte_strips(alloc: Global, problem: &Problem) -> Result<ByteStrips, AllocError>
     requires { 8 ≤ problem.now.inputs }
     ensures named { IfOk result (λ v. AreNamed v.bytes.items v.rows.items 8) }
     ensures values { IfOk result

@@ -64,8 +64,8 @@ loop-output-preserved c =
     let s = suc-mul output (2 ^ (n - 8)) in
     let a : (output + 1) * 2 ^ (n - 8) ≡ output * 2 ^ (n - 8) + 2 ^ (n - 8) =
     ap (λ k. k * 2 ^ (n - 8)) (let e : output + 1 ≡ suc output = omega arith in e) ∙ s in
-    let l = c.in_ok-push_runs.ensures.long in
-    let r = c.in_ok-push_runs.ensures.room in
+    let l = c.in_ok-push_runs.ensures.runs.long in
+    let r = c.in_ok-push_runs.ensures.runs.room in
     let li = c.loop-output.invariant.long in
     let ri = c.loop-output.invariant.room in
     let q : output * 2 ^ n ≡ output * 2 ^ (n - 8) * 256 = ap (λ m. output * m) parts.1 ∙ sym (mul_assoc output (2 ^ (n - 8)) 256) in
@@ -75,7 +75,7 @@ loop-output-preserved c =
       chained = c.in_ok-push_runs.ensures.chained;
       long = omega arith;
       room = omega arith;
-      keeps = c.in_ok-push_runs.ensures.keeps (values_of p) c.loop-output.invariant.keeps
+      keeps = c.in_ok-push_runs.ensures.runs.keeps (values_of p) c.loop-output.invariant.keeps
           (λ k h.
           let inside : k < 2 ^ n = (let z = parts.1 in omega arith) in
           table_bit n c.words.result.now k inside ∙ ap (λ t. get_or t k false) c.words.ensures.table ∙ sym (values_at p output k small inside)

@@ -1,12 +1,12 @@
 use Rattle.std.proofs.Common.{◌≡◌, ◌*◌, ◌-◌, ◌^◌, ◌≤◌, length}
-use Rattle.compaction.specs.Columns.{AreChained, KeepsRuns}
+use Rattle.compaction.specs.Columns.{IsChained, KeepsValues}
 use Rattle.class_laws.specs.Values.{values_of}
 use Rattle.compaction.proofs.columns.columns_of.Given as goal
 
 abbrev pub invariant-loop-output : goal.invariant-loop-output
 invariant-loop-output l = record {
-  chained : AreChained l.columns.kept.items l.columns.next.items l.columns.heads.items;
+  chained : IsChained l.columns;
   long : length l.columns.outer.items ≡ l.output * 2 ^ (l.problem.inputs - 8);
   room : length l.columns.next.items ≤ l.output * 2 ^ (l.problem.inputs - 8);
-  keeps : KeepsRuns (values_of l.problem) l.columns.outer.items l.columns.kept.items (length l.columns.next.items);
+  keeps : KeepsValues l.columns (values_of l.problem);
 }
