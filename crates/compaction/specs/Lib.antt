@@ -3,3 +3,4 @@ pub mod Columns
 pub mod Joining
 pub mod Rows
 pub mod Strips
+pub mod Walks

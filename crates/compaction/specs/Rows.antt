@@ -5,6 +5,7 @@
 --     most_compactions      how many tables a block's widths take at most
 --     WidthsOf      the rows of a block, and how many compactions they took
 --     AreOfByte inputs low masks      sets with one low byte
+--     AreMembersAmong inputs masks needed, AreMembers p masks needed      what is wanted of each set are its members
 --     AreUnwanted masks needed set decided      nothing is wanted of the sets that agree with `set` in the decided variables
 --     IsFilled p masks needed set old new      the row of one set is filled
 use Rattle.std.specs.Prelude.{◌≡◌, ◌≢◌, ℕ, ◌%◌, ◌^◌, ◌<◌, ◌==◌, IsTrue, List, [], if◌then◌else◌, sum_by, length, slice_index, get_or, count_ones, bit_and}
@@ -46,9 +47,12 @@ abbrev pub AreOfByte : ℕ → ℕ → List ℕ → Type 0
 AreOfByte inputs low masks = (i : ℕ) → i < length masks → (slice_index masks i < 2 ^ inputs) × (slice_index masks i % 256 ≡ low)
 
 -- the variables that are wanted of each set are its members
+abbrev pub AreMembersAmong : ℕ → List ℕ → List ℕ → Type 0
+AreMembersAmong inputs masks needed = (i : ℕ) → i < length masks → (x : ℕ) → bit_at (slice_index needed i) x ≡ 1 →
+    IsTrue (has (members inputs (slice_index masks i)) x)
+
 abbrev pub AreMembers : TruthTables → List ℕ → List ℕ → Type 0
-AreMembers p masks needed = (i : ℕ) → i < length masks → (x : ℕ) → bit_at (slice_index needed i) x ≡ 1 →
-    IsTrue (has (members p.inputs (slice_index masks i)) x)
+AreMembers p masks needed = AreMembersAmong p.inputs masks needed
 
 -- the rows of the sets of which nothing is wanted hold zeros
 abbrev pub AreBlank : TruthTables → List ℕ → List ℕ → List (List ℕ) → Type 0

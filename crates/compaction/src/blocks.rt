@@ -5,7 +5,8 @@ ghost use Rattle.std.specs.Int.{bit_at};
 ghost use Rattle.subset_layers.specs.Layers.{block_masks};
 ghost use Rattle.compaction.specs.Strips.{low_variables as low_of};
 ghost use Rattle.class_laws.specs.Table.{classes_of, free_below};
-ghost use Rattle.compaction.specs.Rows.{AreRows, AreOfByte, AreMembers, AreBlank, AreFilled, IsFilled, wanted_count, most_compactions};
+ghost use Rattle.compaction.specs.Rows.{AreRows, AreMembers, wanted_count, most_compactions};
+ghost use Rattle.compaction.specs.Walks.{CanBeFilled, FillsOwn, FillsRows, HasDecided, HasRows};
 
 use crate::beginning::Beginning;
 use crate::bytes::ByteKeys;
@@ -110,13 +111,9 @@ fn fill_row(
     wanted: &Wanted<'_>,
     rows: &mut [[u32; 16]],
 ) -> Result<(), AllocError>
-    requires needed { length wanted.now.needed.now ≡ length wanted.now.masks.now }
+    requires inputs { wanted.now.inputs ≡ table.now.problem.inputs }
     requires rows { length rows.old ≡ length wanted.now.masks.now }
-    requires members { AreMembers table.now.problem wanted.now.masks.now
-        wanted.now.needed.now }
-    ensures { OnOk result
-        (IsFilled table.now.problem wanted.now.masks.now wanted.now.needed.now
-        table.now.set rows.old rows.new) }
+    ensures { OnOk result (FillsOwn table.now wanted.now rows.old rows.new) }
 {
     let set = table.set();
     for (i, needed) in wanted.needed.iter().enumerate() {
@@ -137,20 +134,10 @@ fn walk(
     wanted: &Wanted<'_>,
     rows: &mut [[u32; 16]],
 ) -> Result<u32, AllocError>
-    requires few { table.now.problem.inputs ≤ 16 }
     requires inputs { wanted.now.inputs ≡ table.now.problem.inputs }
-    requires byte { AreOfByte wanted.now.inputs wanted.now.low wanted.now.masks.now }
-    requires low { (y : ℕ) → y < low_of table.now.problem → bit_at decided y ≡ 1 }
-    requires set { bit_and table.now.set decided ≡ table.now.set }
-    requires needed { length wanted.now.needed.now ≡ length wanted.now.masks.now }
-    requires rows { length rows.old ≡ length wanted.now.masks.now }
-    requires members { AreMembers table.now.problem wanted.now.masks.now
-        wanted.now.needed.now }
-    requires blank { AreBlank table.now.problem wanted.now.masks.now
-        wanted.now.needed.now rows.old }
-    ensures rows { OnOk result
-        (AreFilled table.now.problem wanted.now.masks.now wanted.now.needed.now
-        table.now.set decided rows.old rows.new) }
+    requires decided { HasDecided table.now decided }
+    requires rows { CanBeFilled table.now.problem wanted.now rows.old }
+    ensures rows { OnOk result (FillsRows table.now decided wanted.now rows.old rows.new) }
     ensures compactions { IfOk result
         (λ count. count + 1 ≤ 2 ^ free_below decided table.now.problem.inputs) }
 {
@@ -249,23 +236,14 @@ fn walk_from(
     rows: &mut [[u32; 16]],
 ) -> Result<u32, AllocError>
     requires inputs { wanted.now.inputs ≡ beginning.now.inputs }
-    requires byte { AreOfByte wanted.now.inputs wanted.now.low wanted.now.masks.now }
     requires low { wanted.now.low < 2 ^ low_of beginning.now }
     requires table { table.now ≡ classes_of beginning.now wanted.now.low }
-    requires needed { length wanted.now.needed.now ≡ length wanted.now.masks.now }
-    requires rows { length rows.old ≡ length wanted.now.masks.now }
-    requires members { AreMembers beginning.now wanted.now.masks.now
-        wanted.now.needed.now }
-    requires blank { AreBlank beginning.now wanted.now.masks.now
-        wanted.now.needed.now rows.old }
-    ensures rows { OnOk result
-        (AreRows beginning.now wanted.now.masks.now wanted.now.needed.now rows.new) }
+    requires rows { CanBeFilled beginning.now wanted.now rows.old }
+    ensures rows { OnOk result (HasRows beginning.now wanted.now rows.new) }
     ensures compactions { IfOk result
         (λ count. count + 1 ≤ 2 ^ (beginning.now.inputs - low_of beginning.now)) }
 {
-    let problem = beginning.problem();
-    prove!(problem.inputs() <= 16);
-    let decided = low_mask(problem);
+    let decided = low_mask(beginning.problem());
     let count = walk(alloc, table, beginning.names(), decided, wanted, rows)?;
     Ok(count)
 }
@@ -278,12 +256,8 @@ pub(crate) fn wanted_rows(
     wanted: &Wanted<'_>,
 ) -> Result<BlockWidths, AllocError>
     requires inputs { wanted.now.inputs ≡ beginning.now.inputs }
-    requires byte { AreOfByte wanted.now.inputs wanted.now.low wanted.now.masks.now }
     requires low { wanted.now.low < 2 ^ low_of beginning.now }
-    requires needed { length wanted.now.needed.now ≡ length wanted.now.masks.now }
-    requires members { AreMembers beginning.now wanted.now.masks.now wanted.now.needed.now }
-    ensures rows { IfOk result
-        (λ widths. AreRows beginning.now wanted.now.masks.now wanted.now.needed.now widths.rows) }
+    ensures rows { IfOk result (λ widths. HasRows beginning.now wanted.now widths.rows) }
     ensures compactions { IfOk result (λ widths. widths.compactions ≤ most_compactions) }
 {
     let problem = beginning.problem();
@@ -353,6 +327,7 @@ impl<'a> Beginning<'a> {
         ensures err { OnErr result (tally.new ≡ tally.old) }
     {
         prove!(block.len() <= 256);
+        prove!(self.problem().inputs() <= 16);
         let wanted = Wanted::new(block.inputs(), block.low(), block.masks(), needed);
         let widths = wanted_rows(alloc, self, &wanted)?;
         tally.add_wanted(needed);

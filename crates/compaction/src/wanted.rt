@@ -2,24 +2,32 @@
 
 ghost use Rattle.std.specs.Prelude.{◌≡◌, ℕ, ◌+◌, ◌^◌, ◌<◌, ◌≤◌, IsFalse, length, IfSome, IsNone};
 ghost use Rattle.std.specs.Int.{bit_at};
-ghost use Rattle.compaction.specs.Rows.{AreUnwanted};
+ghost use Rattle.compaction.specs.Rows.{AreMembersAmong, AreOfByte, AreUnwanted};
 
 use order_model::{Mask, VarIx, contains};
 
 /// Sets of so many variables with one low byte, and of each the members whose widths are wanted.
 #[derive(Drop)]
-pub struct Wanted<'a> {
+pub(crate) struct Wanted<'a> {
     pub(crate) inputs: u8,
     pub(crate) low: u8,
     pub(crate) masks: &'a [Mask],
     pub(crate) needed: &'a [Mask],
     /// Something is wanted of each set.
     is_whole: bool,
+    ghost few: { inputs ≤ 16 },
+    ghost byte: { AreOfByte inputs low masks.now },
+    ghost long: { length needed.now ≡ length masks.now },
+    ghost members: { AreMembersAmong inputs masks.now needed.now },
 }
 
 impl<'a> Wanted<'a> {
     /// The masks in `needed` belong to the sets at the same places of `masks`.
-    pub fn new(inputs: u8, low: u8, masks: &'a [Mask], needed: &'a [Mask]) -> Wanted<'a>
+    pub(crate) fn new(inputs: u8, low: u8, masks: &'a [Mask], needed: &'a [Mask]) -> Wanted<'a>
+        requires few { inputs ≤ 16 }
+        requires byte { AreOfByte inputs low masks.now }
+        requires long { length needed.now ≡ length masks.now }
+        requires members { AreMembersAmong inputs masks.now needed.now }
         ensures inputs { result.inputs ≡ inputs }
         ensures low { result.low ≡ low }
         ensures masks { result.masks.now ≡ masks.now }
@@ -35,8 +43,7 @@ impl<'a> Wanted<'a> {
     }
 
     /// Whether something is wanted of a set that agrees with `set` in the decided variables.
-    pub fn has_any(&self, set: Mask, decided: Mask) -> bool
-        requires { length self.now.needed.now ≡ length self.now.masks.now }
+    pub(crate) fn has_any(&self, set: Mask, decided: Mask) -> bool
         ensures { IsFalse result →
             AreUnwanted self.now.masks.now self.now.needed.now set decided }
     {
@@ -50,9 +57,7 @@ impl<'a> Wanted<'a> {
 
     /// How many of the wanted sets that agree with `set` in the decided variables have each
     /// variable.
-    fn count_members(&self, set: Mask, decided: Mask) -> [u16; 16]
-        requires { length self.now.needed.now ≡ length self.now.masks.now }
-    {
+    fn count_members(&self, set: Mask, decided: Mask) -> [u16; 16] {
         let mut counts = [0u16; 16];
         for (i, needed) in self.needed.iter().enumerate() {
             let mask = self.masks[i];
@@ -69,9 +74,7 @@ impl<'a> Wanted<'a> {
     /// The undecided variable that most of the wanted sets have; nothing if all are decided.
     /// Tables halve with each variable, so what most sets share is made first. If all sets are
     /// wanted any order serves, and the last two variables aren't worth the count.
-    pub fn next_variable(&self, set: Mask, decided: Mask) -> Option<VarIx>
-        requires inputs { self.now.inputs ≤ 16 }
-        requires needed { length self.now.needed.now ≡ length self.now.masks.now }
+    pub(crate) fn next_variable(&self, set: Mask, decided: Mask) -> Option<VarIx>
         ensures undecided { IfSome result
             (λ y. (y < self.now.inputs) × (bit_at decided y ≡ 0)) }
         ensures all { IsNone result →

@@ -2,7 +2,7 @@ use Rattle.std.proofs.Common.{◌≡◌, ◌<◌, ◌≤◌, ◌+◌, ◌^◌, b
 use Rattle.std.specs.Int.{bit_at}
 use Rattle.compaction.specs.Strips.{low_variables}
 use Rattle.class_laws.specs.Table.{ClassesOf, free_below}
-use Rattle.compaction.specs.Rows.{AreFilled, AreBlank, AreMembers}
+use Rattle.compaction.specs.Rows.{AreFilled, AreBlank}
 use Rattle.compaction.proofs.Filled.{filled_own, filled_lower, filled_both, blank_kept, few_compactions, fewer_compactions}
 use Rattle.compaction.proofs.Decided.{all_decided, lacks_new, within_same, within_more, decided_more, undecided_high, free_with, few_free}
 use Rattle.compaction.proofs.blocks.+walk.Goals as goal
@@ -12,7 +12,7 @@ returns-in_default-clause-rows t c =
     let masks = c.args.wanted.now.masks.now in
     filled_own c.args.table.now.problem masks c.args.wanted.now.needed.now c.args.table.now.set c.args.decided c.args.rows.now c.fill_row.new.rows
     (λ i lt. all_decided c.args.wanted.now.inputs (slice_index masks i) c.args.decided
-    (c.requires.byte i lt).0 (c.in_default.ensures.all refl))
+    (c.args.wanted.now.byte i lt).0 (c.in_default.ensures.all refl))
     c.in_ok-fill_row.ensures
 
 pub walk-requires : goal.walk-requires
@@ -27,19 +27,13 @@ walk-requires t c =
     let d = c.decreases in (
       omega arith,
       (
-        c.requires.few,
+        w,
         (
-          w,
-          (
-            c.requires.byte,
-            (
-              λ z lt. ap (λ k. bit_at k z) m ∙ decided_more c.args.decided y z (c.requires.low z lt),
-              (
-                ap (bit_and c.args.table.now.set) m ∙ within_same c.args.table.now.set c.args.decided y c.requires.set,
-                (c.requires.needed, (c.requires.rows, (c.requires.members, c.requires.blank))),
-              ),
-            ),
-          ),
+          record {
+            low = λ z lt. ap (λ k. bit_at k z) m ∙ decided_more c.args.decided y z (c.requires.decided.low z lt);
+            set = ap (bit_and c.args.table.now.set) m ∙ within_same c.args.table.now.set c.args.decided y c.requires.decided.set;
+          },
+          c.requires.rows,
         ),
       ),
     )
@@ -53,12 +47,12 @@ returns-then-not-has_any-2-clause-rows t c =
     let y = c.in-Some.y in
     let m = c.with_member-more.ensures in
     let a = c.in_ok-before.ensures.rows in
-    filled_lower p masks needed set c.args.decided y c.args.rows.now c.walk.new.rows c.in-Some.ensures.undecided.1 c.requires.set
+    filled_lower p masks needed set c.args.decided y c.args.rows.now c.walk.new.rows c.in-Some.ensures.undecided.1 c.requires.decided.set
     (subst (λ k. AreFilled p masks needed set k c.args.rows.now c.walk.new.rows) m a)
-    (blank_kept p masks needed set c.with_member-more.result c.args.rows.now c.walk.new.rows c.requires.blank a)
+    (blank_kept p masks needed set c.with_member-more.result c.args.rows.now c.walk.new.rows c.requires.rows.blank a)
     (λ i lt e. c.if-not-has_any-2.ensures refl i lt
     (ap (bit_and (slice_index masks i)) m ∙ e ∙ sym (c.with_member.ensures ∙ ap (λ s. bit_or s (2 ^ y)) c.set-set.ensures)))
-    c.requires.needed
+    c.args.wanted.now.long
 
 pub returns-then-not-has_any-2-clause-compactions : goal.returns-then-not-has_any-2-clause-compactions
 returns-then-not-has_any-2-clause-compactions t c =
@@ -73,11 +67,11 @@ returns-then-not-has_any-2-clause-compactions t c =
 
 pub add_high-requires-clause-high : goal.add_high-requires-clause-high
 add_high-requires-clause-high t c =
-    undecided_high (low_variables c.args.table.now.problem) c.args.decided c.in-Some.y c.in-Some.ensures.undecided.1 c.requires.low
+    undecided_high (low_variables c.args.table.now.problem) c.args.decided c.in-Some.y c.in-Some.ensures.undecided.1 c.requires.decided.low
 
 pub add_high-requires-clause-new : goal.add_high-requires-clause-new
 add_high-requires-clause-new t c =
-    lacks_new c.args.table.now.problem.inputs c.args.table.now.set c.args.decided c.in-Some.y c.in-Some.ensures.undecided.1 c.requires.set
+    lacks_new c.args.table.now.problem.inputs c.args.table.now.set c.args.decided c.in-Some.y c.in-Some.ensures.undecided.1 c.requires.decided.set
 
 pub walk-requires-2 : goal.walk-requires-2
 walk-requires-2 t c =
@@ -93,37 +87,24 @@ walk-requires-2 t c =
     let n = ap (λ (z : ClassesOf). z.problem.inputs) c.in_ok-next.ensures in
     let e = ap₂ free_below m n in
     let s = ap (λ (z : ClassesOf). z.set) c.in_ok-next.ensures in
-    let few = c.requires.few in
     let long = c.walk.auto.rows in
-    let l = c.requires.rows in
+    let l = c.requires.rows.each in
     let d = c.decreases in (
       omega arith,
       (
-        omega arith,
+        w ∙ sym n,
         (
-          w ∙ sym n,
-          (
-            c.requires.byte,
-            (
-              subst (λ (z : ClassesOf). (x : _) → x < low_variables z.problem → bit_at c.with_member-more.result x ≡ 1) (sym c.in_ok-next.ensures)
-                  (λ x lt. ap (λ k. bit_at k x) m ∙ decided_more c.args.decided y x (c.requires.low x lt)),
-              (
-                ap₂ bit_and s m ∙ within_more set c.args.decided y c.requires.set ∙ sym s,
-                (
-                  c.requires.needed,
-                  (
-                    omega arith,
-                    (
-                      subst (λ (z : ClassesOf). AreMembers z.problem masks needed) (sym c.in_ok-next.ensures) c.requires.members,
-                      subst (λ (z : ClassesOf). AreBlank z.problem masks needed c.walk.new.rows) (sym c.in_ok-next.ensures)
-                          (blank_kept p masks needed set c.with_member-more.result c.args.rows.now c.walk.new.rows c.requires.blank
-                          c.in_ok-before.ensures.rows),
-                    ),
-                  ),
-                ),
-              ),
-            ),
-          ),
+          record {
+            low = subst (λ (z : ClassesOf). (x : _) → x < low_variables z.problem → bit_at c.with_member-more.result x ≡ 1) (sym c.in_ok-next.ensures)
+                (λ x lt. ap (λ k. bit_at k x) m ∙ decided_more c.args.decided y x (c.requires.decided.low x lt));
+            set = ap₂ bit_and s m ∙ within_more set c.args.decided y c.requires.decided.set ∙ sym s;
+          },
+          record {
+            each = omega arith;
+            blank = subst (λ (z : ClassesOf). AreBlank z.problem masks needed c.walk.new.rows) (sym c.in_ok-next.ensures)
+                (blank_kept p masks needed set c.with_member-more.result c.args.rows.now c.walk.new.rows c.requires.rows.blank
+                c.in_ok-before.ensures.rows);
+          },
         ),
       ),
     )
@@ -132,7 +113,7 @@ pub overflow_add-result : goal.overflow_add-result
 overflow_add-result t c =
     let a = c.in_ok-before.ensures.compactions in
     let b = c.in_ok-after.ensures.compactions in
-    let few = c.requires.few in
+    let few : c.args.table.now.problem.inputs ≤ 16 = (let i = c.requires.inputs in let w = c.args.wanted.now.few in omega arith) in
     let n = ap (λ (z : ClassesOf). z.problem.inputs) c.in_ok-next.ensures in
     let x = few_free c.args.table.now.problem.inputs c.with_member-more.result few in
     let z = few_free c.in_ok-next.next.problem.inputs c.with_member-more.result (omega arith) in
@@ -142,7 +123,7 @@ pub overflow_add-result-2 : goal.overflow_add-result-2
 overflow_add-result-2 t c =
     let a = c.in_ok-before.ensures.compactions in
     let b = c.in_ok-after.ensures.compactions in
-    let few = c.requires.few in
+    let few : c.args.table.now.problem.inputs ≤ 16 = (let i = c.requires.inputs in let w = c.args.wanted.now.few in omega arith) in
     let n = ap (λ (z : ClassesOf). z.problem.inputs) c.in_ok-next.ensures in
     let x = few_free c.args.table.now.problem.inputs c.with_member-more.result few in
     let z = few_free c.in_ok-next.next.problem.inputs c.with_member-more.result (omega arith) in
@@ -156,7 +137,7 @@ returns-clause-rows t c =
     let set = c.args.table.now.set in
     let y = c.in-Some.y in
     let m = c.with_member-more.ensures in
-    filled_both p masks needed set c.args.decided y c.args.rows.now c.walk.new.rows c.walk-2.new.rows c.in-Some.ensures.undecided.1 c.requires.set
+    filled_both p masks needed set c.args.decided y c.args.rows.now c.walk.new.rows c.walk-2.new.rows c.in-Some.ensures.undecided.1 c.requires.decided.set
     (subst (λ k. AreFilled p masks needed set k c.args.rows.now c.walk.new.rows) m c.in_ok-before.ensures.rows)
     (subst (λ k. AreFilled p masks needed (bit_or set (2 ^ y)) k c.walk.new.rows c.walk-2.new.rows) m
     (subst (λ (z : ClassesOf). AreFilled z.problem masks needed z.set c.with_member-more.result c.walk.new.rows c.walk-2.new.rows)

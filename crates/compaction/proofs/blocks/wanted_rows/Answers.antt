@@ -1,37 +1,45 @@
 use Rattle.std.proofs.Common.{Vec, Global, ◌≡◌, ◌+◌, ◌<◌, ◌≤◌, ◌^◌, ◌-◌, bit_and, count_ones, [], ℕ, List, length, slice_index, get_or, refl, sym, ap, ◌∙◌, subst, arith}
 use Rattle.order_model.specs.Problems.{TruthTables}
 use Rattle.compaction.specs.Rows.{AreRows, most_compactions}
+use Rattle.compaction.specs.Walks.{CanBeFilled}
+use Rattle.compaction.specs.declared.wanted.Wanted.{Wanted}
 use Rattle.compaction.specs.Strips.{low_variables as low_of}
 use Rattle.compaction.proofs.Filled.{agree_low, rows_back, blank_row, few_tables}
 use Rattle.compaction.proofs.blocks.wanted_rows.Goals as goal
 use Rattle.compaction.proofs.blocks.wanted_rows.Goals.{in-Some+in_ok-walked-in-Some, in-None+in_ok-table-in-None+in_ok-walked-in-None}
 
-pub walk_from-requires-clause-blank : goal.walk_from-requires-clause-blank
-walk_from-requires-clause-blank c = λ i lt z x few.
-    let wanted = c.args.wanted.now in
-    let rows = c.deref_mut.result.now in
-    let v = c.deref_mut.ensures.value in
-    blank_row c.args.beginning.now (slice_index wanted.masks.now i) (slice_index wanted.needed.now i) x (get_or rows i []) z
-    (ap (λ (rs : List (List ℕ)). slice_index (get_or rs i []) x) v ∙ c.in_ok-rows.ensures.zeros i x (omega arith))
+-- rows of zeros
+blank : (p : TruthTables) (w : Wanted) (zeros rows : List (List ℕ)) → length zeros ≡ length w.masks.now →
+    ((i x : ℕ) → i < length w.masks.now → slice_index (get_or zeros i []) x ≡ 0) → rows ≡ zeros → CanBeFilled p w rows
+blank p w zeros rows long all e =
+    subst (CanBeFilled p w) (sym e)
+    (record {
+      each = long;
+      blank = λ i lt z x few. blank_row p (slice_index w.masks.now i) (slice_index w.needed.now i) x (get_or zeros i []) z (all i x lt);
+    })
 
-pub walk_from-requires-in-None-clause-blank : goal.walk_from-requires-in-None-clause-blank
-walk_from-requires-in-None-clause-blank c = λ i lt z x few.
-    let wanted = c.args.wanted.now in
-    let rows = c.deref_mut-in-None.result.now in
-    let v = c.deref_mut-in-None.ensures.value in
-    blank_row c.args.beginning.now (slice_index wanted.masks.now i) (slice_index wanted.needed.now i) x (get_or rows i []) z
-    (ap (λ (rs : List (List ℕ)). slice_index (get_or rs i []) x) v ∙ c.in_ok-rows.ensures.zeros i x (omega arith))
+pub walk_from-requires-clause-rows : goal.walk_from-requires-clause-rows
+walk_from-requires-clause-rows c =
+    let k = c.in_ok-rows.ensures.long in
+    blank c.args.beginning.now c.args.wanted.now c.in_ok-rows.rows.items c.deref_mut.result.now (omega arith)
+    (λ i x lt. c.in_ok-rows.ensures.zeros i x (omega arith)) c.deref_mut.ensures.value
+
+pub walk_from-requires-in-None-clause-rows : goal.walk_from-requires-in-None-clause-rows
+walk_from-requires-in-None-clause-rows c =
+    let k = c.in_ok-rows.ensures.long in
+    blank c.args.beginning.now c.args.wanted.now c.in_ok-rows.rows.items c.deref_mut-in-None.result.now (omega arith)
+    (λ i x lt. c.in_ok-rows.ensures.zeros i x (omega arith)) c.deref_mut-in-None.ensures.value
 
 pub returns-then-not-has_any-clause-rows : goal.returns-then-not-has_any-clause-rows
 returns-then-not-has_any-clause-rows c =
     let wanted = c.args.wanted.now in
     let masks = wanted.masks.now in
     let k = c.in_ok-rows.ensures.long in
-    let n = c.requires.needed in
+    let n = c.args.wanted.now.long in
     record {
       each = omega arith;
       are = λ i lt x few.
-          let byte = c.requires.byte i lt in
+          let byte = c.args.wanted.now.byte i lt in
           blank_row c.args.beginning.now (slice_index masks i) (slice_index wanted.needed.now i) x (get_or c.in_ok-rows.rows.items i [])
           (c.if-not-has_any.ensures refl i (omega arith)
           (ap (bit_and (slice_index masks i)) (c.low_mask.ensures ∙ ap (λ (t : TruthTables). 2 ^ low_of t - 1) c.problem-problem.ensures)

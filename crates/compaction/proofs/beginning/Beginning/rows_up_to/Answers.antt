@@ -1,17 +1,17 @@
 use Rattle.std.proofs.Common.{ℕ, List, sym, ap, ◌∙◌, subst, arith}
 use Rattle.order_model.specs.Problems.{TruthTables}
-use Rattle.compaction.specs.Rows.{AreOfByte, AreMembers}
+use Rattle.compaction.specs.Rows.{AreOfByte, AreMembers, AreMembersAmong}
 use Rattle.compaction.proofs.Joined.{members_own}
 use Rattle.compaction.proofs.beginning.Beginning.rows_up_to.Goals as goal
 
-pub wanted_rows-requires-clause-members : goal.wanted_rows-requires-clause-members
-wanted_rows-requires-clause-members c =
+pub new-wanted-requires-clause-members : goal.new-wanted-requires-clause-members
+new-wanted-requires-clause-members c =
     let p = c.args.self.now in
-    let e = c.new-wanted.ensures in
     let ys = c.in_ok-masks.masks.items in
     let v = c.inputs-inputs.ensures.value ∙ ap (λ (t : TruthTables). t.inputs) c.problem.ensures in
     let few = c.inputs-inputs.ensures.few in
     let byte = subst (λ n. AreOfByte n c.args.low ys) v c.in_ok-masks.ensures.byte in
-    subst (λ (ms : List ℕ). AreMembers p ms c.new-wanted.result.needed.now) (sym (e.masks ∙ c.deref.ensures.value))
-    (subst (λ (ns : List ℕ). AreMembers p ys ns) (sym (e.needed ∙ c.deref-2.ensures.value))
-    (members_own p c.args.low ys (omega (arith, few, v)) byte))
+    subst (λ n. AreMembersAmong n c.deref.result.now c.deref-2.result.now) (sym v)
+    (subst (λ (ms : List ℕ). AreMembers p ms c.deref-2.result.now) (sym c.deref.ensures.value)
+    (subst (λ (ns : List ℕ). AreMembers p ys ns) (sym c.deref-2.ensures.value)
+    (members_own p c.args.low ys (omega (arith, few, v)) byte)))

@@ -1,33 +1,32 @@
 use Rattle.std.proofs.Common.{ℕ, ◌++◌, List, refl, sym, ap, ◌∙◌, subst, arith}
 use Rattle.order_model.specs.Problems.{TruthTables}
 use Rattle.subset_layers.specs.Layers.{block_masks}
-use Rattle.compaction.specs.Rows.{AreOfByte, AreMembers}
+use Rattle.compaction.specs.Rows.{AreOfByte, AreMembers, AreMembersAmong}
 use Rattle.compaction.proofs.Joined.{of_byte_joined, block_of_byte, members_own, members_joined}
 use Rattle.compaction.proofs.beginning.Beginning.widths_with.Goals as goal
 
-pub wanted_rows-requires-clause-byte : goal.wanted_rows-requires-clause-byte
-wanted_rows-requires-clause-byte c =
+pub new-wanted-requires-clause-byte : goal.new-wanted-requires-clause-byte
+new-wanted-requires-clause-byte c =
     let b = c.args.block.now in
     let later = c.args.later.now in
-    let e = c.new-wanted.ensures in
-    let masks = e.masks ∙ c.deref.ensures.value ∙ c.in_ok-masks.ensures ∙ ap (λ (ms : List ℕ). later ++ ms) c.masks.ensures in
-    subst (λ (ms : List ℕ). AreOfByte c.new-wanted.result.inputs c.new-wanted.result.low ms) (sym masks)
-    (subst (λ n. AreOfByte n c.new-wanted.result.low (later ++ block_masks b)) (sym (e.inputs ∙ c.inputs-2.ensures))
-    (subst (λ l. AreOfByte b.inputs l (later ++ block_masks b)) (sym (e.low ∙ c.low.ensures.value))
+    let masks = c.deref.ensures.value ∙ c.in_ok-masks.ensures ∙ ap (λ (ms : List ℕ). later ++ ms) c.masks.ensures in
+    subst (λ (ms : List ℕ). AreOfByte c.inputs-2.result c.low.result ms) (sym masks)
+    (subst (λ n. AreOfByte n c.low.result (later ++ block_masks b)) (sym c.inputs-2.ensures)
+    (subst (λ l. AreOfByte b.inputs l (later ++ block_masks b)) (sym c.low.ensures.value)
     (of_byte_joined b.inputs b.low later (block_masks b) (subst (λ n. AreOfByte n b.low later) (sym c.requires.inputs) c.requires.later)
     (block_of_byte b))))
 
-pub wanted_rows-requires-clause-members : goal.wanted_rows-requires-clause-members
-wanted_rows-requires-clause-members c =
+pub new-wanted-requires-clause-members : goal.new-wanted-requires-clause-members
+new-wanted-requires-clause-members c =
     let p = c.args.self.now in
     let b = c.args.block.now in
     let later = c.args.later.now in
-    let e = c.new-wanted.ensures in
-    let masks = e.masks ∙ c.deref.ensures.value ∙ c.in_ok-masks.ensures ∙ ap (λ (ms : List ℕ). later ++ ms) c.masks.ensures in
+    let masks = c.deref.ensures.value ∙ c.in_ok-masks.ensures ∙ ap (λ (ms : List ℕ). later ++ ms) c.masks.ensures in
     let v = c.inputs.ensures.value ∙ ap (λ (t : TruthTables). t.inputs) c.problem.ensures in
     let few = c.inputs.ensures.few in
-    let needed = e.needed ∙ c.deref-2.ensures.value ∙ c.in_ok-needed.ensures in
-    subst (λ (ms : List ℕ). AreMembers p ms c.new-wanted.result.needed.now) (sym masks)
-    (subst (λ (ns : List ℕ). AreMembers p (later ++ block_masks b) ns) (sym needed)
-    (members_joined p later later (block_masks b) c.args.needed.now refl (members_own p b.low later (omega (arith, few, v)) c.requires.later)
-    c.requires.members))
+    let needed = c.deref-2.ensures.value ∙ c.in_ok-needed.ensures in
+    let all = members_joined p later later (block_masks b) c.args.needed.now refl
+    (members_own p b.low later (omega (arith, few, v)) c.requires.later) c.requires.members in
+    subst (λ n. AreMembersAmong n c.deref.result.now c.deref-2.result.now) (sym (c.inputs-2.ensures ∙ c.requires.inputs))
+    (subst (λ (ms : List ℕ). AreMembers p ms c.deref-2.result.now) (sym masks)
+    (subst (λ (ns : List ℕ). AreMembers p (later ++ block_masks b) ns) (sym needed) all))

@@ -1,0 +1,35 @@
+-- A walk over the high variables, which fills the rows of what is wanted.
+--     HasDecided t decided      the low variables and the members of the table's set are decided
+--     CanBeFilled p w rows      each set has a row, and a right one if nothing is wanted of it
+--     FillsRows t decided w old new      the rows of the sets that agree with the table's in the decided variables are filled
+--     FillsOwn t w old new      the row of the table's own set is filled
+--     HasRows p w rows      all rows are filled
+use Rattle.std.specs.Prelude.{◌≡◌, ℕ, ◌<◌, List, length, bit_and}
+use Rattle.std.specs.Int.{bit_at}
+use Rattle.order_model.specs.Problems.{TruthTables}
+use Rattle.class_laws.specs.Table.{ClassesOf}
+use Rattle.compaction.specs.Rows.{AreRows, AreBlank, AreFilled, IsFilled}
+use Rattle.compaction.specs.Strips.{low_variables}
+use Rattle.compaction.specs.declared.wanted.Wanted.{Wanted}
+
+-- the low variables and the members of the table's set are decided
+pub record HasDecided (t : ClassesOf) (decided : ℕ) : Type 0 where
+  pub low : (y : ℕ) → y < low_variables t.problem → bit_at decided y ≡ 1
+  pub set : bit_and t.set decided ≡ t.set
+
+-- each set has a row, and a right one if nothing is wanted of it
+pub record CanBeFilled (p : TruthTables) (w : Wanted) (rows : List (List ℕ)) : Type 0 where
+  pub each : length rows ≡ length w.masks.now
+  pub blank : AreBlank p w.masks.now w.needed.now rows
+
+-- the rows of the sets that agree with the table's in the decided variables hold their widths, and the others are as they were
+abbrev pub FillsRows : ClassesOf → ℕ → Wanted → List (List ℕ) → List (List ℕ) → Type 0
+FillsRows t decided w old new = AreFilled t.problem w.masks.now w.needed.now t.set decided old new
+
+-- the row of the table's own set holds its widths, and the others are as they were
+abbrev pub FillsOwn : ClassesOf → Wanted → List (List ℕ) → List (List ℕ) → Type 0
+FillsOwn t w old new = IsFilled t.problem w.masks.now w.needed.now t.set old new
+
+-- the rows hold the widths that are wanted of each set
+abbrev pub HasRows : TruthTables → Wanted → List (List ℕ) → Type 0
+HasRows p w rows = AreRows p w.masks.now w.needed.now rows
