@@ -5,8 +5,8 @@ ghost use Rattle.class_laws.specs.Places as places;
 ghost use Rattle.class_laws.specs.PairTables.{IsPairTable, NumbersPairs};
 
 use crate::entries::{Block, EntryPairs};
-use crate::masks::join_mask;
 use crate::numbering::Numbered;
+use point_classes::join_mask;
 use std::alloc::{AllocError, Global};
 
 /// The numbers of the pairs and their masks. A cell is 0, or one more than the number of its pair.

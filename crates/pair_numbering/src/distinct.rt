@@ -6,8 +6,8 @@ ghost use Rattle.class_laws.specs.PairTables.{AllBelow, IsPairTable, NumbersPair
 ghost use Rattle.pair_numbering.specs.Numbers.{AreLowersApart};
 
 use crate::entries::EntryPairs;
-use crate::masks::join_mask;
 use crate::numbering::Numbered;
+use point_classes::join_mask;
 use std::alloc::{AllocError, Global};
 
 /// Whether no lower class occurs twice. All are below `bound`.

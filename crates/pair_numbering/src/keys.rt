@@ -9,8 +9,8 @@ ghost use Rattle.class_laws.specs.PairTables.{AllBelow, IsPaired, IsPairTable};
 ghost use Rattle.pair_numbering.specs.Strips.{AreNamed, names_of, unrolled};
 
 use crate::entries::{Block, EntryPairs};
-use crate::masks::join_mask;
 use crate::numbering::number_with_masks;
+use point_classes::join_mask;
 use std::alloc::{AllocError, Global};
 
 /// Pairs of more keys than these are numbered by first occurrence.

@@ -4,24 +4,8 @@ ghost use Rattle.std.specs.Prelude.{◌≡◌, ℕ, ◌<◌, map, length, IfOk};
 ghost use Rattle.class_laws.specs.Dependence.{joined_mask};
 ghost use Rattle.pair_numbering.specs.Numbers.{ArePairsBelow};
 
+use point_classes::join_mask;
 use std::alloc::{AllocError, Global};
-
-/// The mask of a pair of classes: what its halves depend on, and `x` if they differ.
-#[inline(always)]
-pub fn join_mask(masks: &[u16], x: u8, pair: (u32, u32)) -> u16
-    requires variable { x < 16 }
-    requires lower { pair.0 < length masks.now }
-    requires upper { pair.1 < length masks.now }
-    ensures { result ≡ joined_mask masks.now x pair }
-{
-    let (lower, upper) = pair;
-    let halves = masks[lower as usize] | masks[upper as usize];
-    if lower == upper {
-        halves
-    } else {
-        halves | 1 << x
-    }
-}
 
 /// The masks of pairs.
 pub fn join_masks(

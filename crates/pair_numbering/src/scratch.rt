@@ -8,8 +8,8 @@ ghost use Rattle.pair_numbering.specs.Chains.{AreFirsts};
 
 use crate::chains::{chain, find_firsts};
 use crate::entries::EntryPairs;
-use crate::masks::join_mask;
 use order_model::{Problem, contains};
+use point_classes::join_mask;
 use std::alloc::{AllocError, Global};
 use std::marker::Model;
 

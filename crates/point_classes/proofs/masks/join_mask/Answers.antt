@@ -1,6 +1,6 @@
 use Rattle.std.proofs.Common.{◌^◌, get_or, cond, bit_or, sym, ap, ◌∙◌, eq-eqb}
 use Rattle.std.specs.Int.Bits.{or_zero_r}
-use Rattle.pair_numbering.proofs.masks.join_mask.Goals as goal
+use Rattle.point_classes.proofs.masks.join_mask.Goals as goal
 
 pub returns-then-lower-upper : goal.returns-then-lower-upper
 returns-then-lower-upper c =
