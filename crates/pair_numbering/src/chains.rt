@@ -9,6 +9,40 @@ use crate::entries::EntryPairs;
 use crate::pairs::NumberedPairs;
 use std::alloc::{AllocError, Global};
 
+/// Pairs of entries, chained by their lower class: the first pair of each class, and the one after
+/// each pair.
+#[derive(Drop)]
+pub(crate) struct Chains<'e, 'r> {
+    entries: &'e EntryPairs<'e>,
+    heads: &'r [u32],
+    next: &'r [u32],
+    ghost few: { length heads.now < 2 ^ 31 },
+    ghost first: { AreHeads entries.now heads.now },
+    ghost after: { AreLinks entries.now next.now },
+}
+
+impl<'e, 'r> Chains<'e, 'r> {
+    /// The chains that `chain` wrote.
+    #[inline(always)]
+    pub(crate) fn of(
+        entries: &'e EntryPairs<'e>,
+        heads: &'r [u32],
+        next: &'r [u32],
+    ) -> Chains<'e, 'r>
+        requires few { length heads.now < 2 ^ 31 }
+        requires heads { AreHeads entries.now heads.now }
+        requires next { AreLinks entries.now next.now }
+        ensures entries { result.entries.now ≡ entries.now }
+        ensures classes { length result.heads.now ≡ length heads.now }
+    {
+        Chains {
+            entries,
+            heads,
+            next,
+        }
+    }
+}
+
 /// Chains the pairs by their lower class: a head is the first pair of its class, and `next` the one
 /// after each.
 pub fn chain(entries: &EntryPairs<'_>, heads: &mut [u32], next: &mut [u32])
@@ -17,8 +51,8 @@ pub fn chain(entries: &EntryPairs<'_>, heads: &mut [u32], next: &mut [u32])
     requires half { length next.old ≡ length entries.now.numbers / 2 }
     requires empty { (c : ℕ) → c < length heads.old →
         slice_index heads.old c ≡ length entries.now.numbers / 2 }
-    ensures heads { AreHeads entries.now.numbers entries.now.rank heads.new }
-    ensures next { AreLinks entries.now.numbers entries.now.rank next.new }
+    ensures heads { AreHeads entries.now heads.new }
+    ensures next { AreLinks entries.now next.new }
 {
     let mut j = next.len();
     while j > 0 {
@@ -37,7 +71,7 @@ pub fn number_firsts(
 ) -> Result<NumberedPairs, AllocError>
     requires paired { IsPaired entries.now.numbers entries.now.rank }
     requires len { length entries.now.numbers ≤ 2 ^ 20 }
-    requires first { AreFirsts entries.now.numbers entries.now.rank first.now }
+    requires first { AreFirsts entries.now first.now }
     ensures { IfOk result (λ v. ArePairsNumbered entries.now.numbers entries.now.rank v.numbers.items v.pairs.items) }
 {
     let mut out = vec![in alloc; 0u32; first.len()]?;
@@ -61,29 +95,27 @@ pub fn number_firsts(
 /// marks are of this class.
 #[inline(always)]
 fn walk_chain(
-    entries: &EntryPairs<'_>,
-    lower: u32,
-    head: u32,
-    next: &[u32],
+    chains: &Chains<'_, '_>,
+    lower: usize,
     stamps: &mut [u32],
     marks: &mut [u32],
     first: &mut [u32],
 )
-    requires paired { IsPaired entries.now.numbers entries.now.rank }
-    requires classes { AllBelow entries.now.numbers (length stamps.old) }
+    requires paired { IsPaired chains.now.entries.now.numbers chains.now.entries.now.rank }
+    requires classes { AllBelow chains.now.entries.now.numbers (length stamps.old) }
     requires marks_len { length marks.old ≡ length stamps.old }
-    requires first_len { length first.old ≡ length entries.now.numbers / 2 }
-    requires lower { lower + 1 < 2 ^ 32 }
-    requires head { IsNext (lower_at entries.now.numbers (2 ^ entries.now.rank)) (length entries.now.numbers / 2) lower 0 head }
-    requires next { AreLinks entries.now.numbers entries.now.rank next.now }
+    requires first_len { length first.old ≡ length chains.now.entries.now.numbers / 2 }
+    requires lower { lower < length chains.now.heads.now }
     requires stamps { (h : ℕ) → h < length stamps.old → slice_index stamps.old h ≤ lower }
     ensures stamps { (h : ℕ) → h < length stamps.new → slice_index stamps.new h ≤ lower + 1 }
-    ensures own { AreFirstsOf entries.now.numbers entries.now.rank lower first.new }
-    ensures others { KeepsOthers entries.now.numbers entries.now.rank lower first.old first.new }
+    ensures own { AreFirstsOf chains.now.entries.now lower first.new }
+    ensures others { KeepsOthers chains.now.entries.now lower first.old first.new }
 {
+    let entries = chains.entries;
+    let next = chains.next;
     let half = next.len();
-    let stamp = lower + 1;
-    let mut j = head as usize;
+    let stamp = lower as u32 + 1;
+    let mut j = chains.heads[lower] as usize;
     while j < half {
         let upper = entries.pair(j).1 as usize;
         if stamps[upper] == stamp {
@@ -114,31 +146,28 @@ pub fn number_pairs_by_chains(
     let mut next = vec![in alloc; 0u32; half]?;
     let mut first = vec![in alloc; 0u32; half]?;
     chain(entries, &mut heads, &mut next);
-    find_firsts(entries, &heads, &next, &mut stamps, &mut marks, &mut first);
+    let chains = Chains::of(entries, &heads, &next);
+    find_firsts(&chains, &mut stamps, &mut marks, &mut first);
     number_firsts(alloc, entries, &first)
 }
 
 /// Finds the first equal pair of each pair.
+#[inline(always)]
 pub fn find_firsts(
-    entries: &EntryPairs<'_>,
-    heads: &[u32],
-    next: &[u32],
+    chains: &Chains<'_, '_>,
     stamps: &mut [u32],
     marks: &mut [u32],
     first: &mut [u32],
 )
-    requires paired { IsPaired entries.now.numbers entries.now.rank }
-    requires classes { AllBelow entries.now.numbers (length stamps.old) }
-    requires few { length heads.now < 2 ^ 31 }
-    requires heads_len { length heads.now ≡ length stamps.old }
+    requires paired { IsPaired chains.now.entries.now.numbers chains.now.entries.now.rank }
+    requires classes { AllBelow chains.now.entries.now.numbers (length stamps.old) }
+    requires heads_len { length chains.now.heads.now ≡ length stamps.old }
     requires marks_len { length marks.old ≡ length stamps.old }
-    requires first_len { length first.old ≡ length entries.now.numbers / 2 }
-    requires heads { AreHeads entries.now.numbers entries.now.rank heads.now }
-    requires next { AreLinks entries.now.numbers entries.now.rank next.now }
+    requires first_len { length first.old ≡ length chains.now.entries.now.numbers / 2 }
     requires stamps { (h : ℕ) → h < length stamps.old → slice_index stamps.old h ≡ 0 }
-    ensures { AreFirsts entries.now.numbers entries.now.rank first.new }
+    ensures { AreFirsts chains.now.entries.now first.new }
 {
-    for (lower, head) in heads.iter().enumerate() {
-        walk_chain(entries, lower as u32, *head, next, stamps, marks, first);
+    for lower in 0..chains.heads.len() {
+        walk_chain(chains, lower, stamps, marks, first);
     }
 }

@@ -1,12 +1,12 @@
 //! Counts of masks that take no memory: by chains and marks in rows that are lent.
 
 ghost use Rattle.std.specs.Prelude.{◌≡◌, ◌==◌, ℕ, ◌+◌, ◌*◌, ◌/◌, ◌^◌, ◌<◌, ◌≤◌, length, IfOk};
-ghost use Rattle.pair_numbering.specs.Scratch.{CountsMasks, most_entries};
+ghost use Rattle.pair_numbering.specs.Scratch.{AreLong, CountsMasks, most_entries};
 ghost use Rattle.class_laws.specs.Places as places;
 ghost use Rattle.class_laws.specs.PairTables.{IsPairTable};
 ghost use Rattle.pair_numbering.specs.Chains.{AreFirsts};
 
-use crate::chains::{chain, find_firsts};
+use crate::chains::{Chains, chain, find_firsts};
 use crate::entries::EntryPairs;
 use order_model::{Problem, contains};
 use point_classes::join_mask;
@@ -59,11 +59,13 @@ impl Scratch {
         ensures count { CountsMasks masks.now x (places.pairs numbers.now (2 ^ rank)) result }
         ensures same { self.new ≡ self.old }
     {
-        let entries = EntryPairs::of_table(numbers, rank);
-        count_in(
-            &entries,
-            x,
+        let pairs = MaskedPairs {
+            entries: EntryPairs::of_table(numbers, rank),
             masks,
+            x,
+        };
+        count_in(
+            &pairs,
             &mut self.heads,
             &mut self.next,
             &mut self.stamps,
@@ -73,29 +75,34 @@ impl Scratch {
     }
 }
 
+/// The pairs of a class table's entries that differ in variable `x`, and the mask of each class.
+#[derive(Drop)]
+struct MaskedPairs<'e, 'm> {
+    entries: EntryPairs<'e>,
+    masks: &'m [u16],
+    x: u8,
+    ghost variable: { x < 16 },
+}
+
 /// How many distinct pairs have a mask with `x`, in rows that are long enough.
 fn count_in(
-    entries: &EntryPairs<'_>,
-    x: u8,
-    masks: &[u16],
+    pairs: &MaskedPairs<'_, '_>,
     heads: &mut [u32],
     next: &mut [u32],
     stamps: &mut [u32],
     marks: &mut [u32],
     first: &mut [u32],
 ) -> u32
-    requires table { IsPairTable entries.now.numbers entries.now.rank (length masks.now) }
-    requires variable { x < 16 }
-    requires few { length masks.now ≤ length entries.now.numbers }
-    requires heads { length entries.now.numbers ≤ length heads.old }
-    requires next { length entries.now.numbers ≤ length next.old }
-    requires stamps { length entries.now.numbers ≤ length stamps.old }
-    requires marks { length entries.now.numbers ≤ length marks.old }
-    requires first { length entries.now.numbers ≤ length first.old }
-    ensures { CountsMasks masks.now x (places.pairs entries.now.numbers (2 ^ entries.now.rank)) result }
+    requires table { IsPairTable pairs.now.entries.numbers pairs.now.entries.rank
+        (length pairs.now.masks.now) }
+    requires few { length pairs.now.masks.now ≤ length pairs.now.entries.numbers }
+    requires rows { AreLong (length heads.old) next.old stamps.old marks.old first.old }
+    requires long { length pairs.now.entries.numbers ≤ length heads.old }
+    ensures { CountsMasks pairs.now.masks.now pairs.now.x
+        (places.pairs pairs.now.entries.numbers (2 ^ pairs.now.entries.rank)) result }
 {
-    let classes = masks.len();
-    let half = entries.len();
+    let classes = pairs.masks.len();
+    let half = pairs.entries.len();
     let heads = &mut heads[..classes];
     let next = &mut next[..half];
     let stamps = &mut stamps[..classes];
@@ -103,22 +110,26 @@ fn count_in(
     let first = &mut first[..half];
     heads.fill(half as u32);
     stamps.fill(0);
-    chain(entries, heads, next);
-    find_firsts(entries, heads, next, stamps, marks, first);
-    count_firsts(entries, x, masks, first)
+    chain(&pairs.entries, heads, next);
+    let chains = Chains::of(&pairs.entries, heads, next);
+    find_firsts(&chains, stamps, marks, first);
+    count_firsts(pairs, first)
 }
 
 /// How many pairs that are the first of their kind have a mask with `x`.
-fn count_firsts(entries: &EntryPairs<'_>, x: u8, masks: &[u16], first: &[u32]) -> u32
-    requires table { IsPairTable entries.now.numbers entries.now.rank (length masks.now) }
-    requires variable { x < 16 }
-    requires first { AreFirsts entries.now.numbers entries.now.rank first.now }
-    ensures { CountsMasks masks.now x (places.pairs entries.now.numbers (2 ^ entries.now.rank)) result }
+fn count_firsts(pairs: &MaskedPairs<'_, '_>, first: &[u32]) -> u32
+    requires table { IsPairTable pairs.now.entries.numbers pairs.now.entries.rank
+        (length pairs.now.masks.now) }
+    requires first { AreFirsts pairs.now.entries first.now }
+    ensures { CountsMasks pairs.now.masks.now pairs.now.x
+        (places.pairs pairs.now.entries.numbers (2 ^ pairs.now.entries.rank)) result }
 {
+    let masks = pairs.masks;
+    let x = pairs.x;
     let mut count = 0;
     for (j, f) in first.iter().enumerate() {
         if *f as usize == j {
-            let mask = join_mask(masks, x, entries.pair(j));
+            let mask = join_mask(masks, x, pairs.entries.pair(j));
             count += u32::from(contains(mask, x));
         }
     }

@@ -8,9 +8,9 @@ use Rattle.pair_numbering.proofs.chains.find_firsts.Goals as goal
 pub loop-lower-preserved : goal.loop-lower-preserved
 loop-lower-preserved c = record {
   stamps = c.walk_chain.ensures.stamps;
-  done = λ j l m. elim (cases_eq (lower_at c.args.entries.now.numbers (2 ^ c.args.entries.now.rank) j) c.loop-lower.lower) [
+  done = λ j l m. elim (cases_eq (lower_at c.args.chains.now.entries.now.numbers (2 ^ c.args.chains.now.entries.now.rank) j) c.loop-lower.lower) [
     | inl e ↦ c.walk_chain.ensures.own j l e
-    | inr ne ↦ subst (IsFirst (pair_at c.args.entries.now.numbers (2 ^ c.args.entries.now.rank)) j) (sym (c.walk_chain.ensures.others j l ne))
+    | inr ne ↦ subst (IsFirst (pair_at c.args.chains.now.entries.now.numbers (2 ^ c.args.chains.now.entries.now.rank)) j) (sym (c.walk_chain.ensures.others j l ne))
         (c.loop-lower.invariant.done j l (omega arith))
   ];
 }

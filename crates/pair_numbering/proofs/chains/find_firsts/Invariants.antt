@@ -7,6 +7,6 @@ use Rattle.pair_numbering.proofs.chains.find_firsts.Given as goal
 abbrev pub invariant-loop-lower : goal.invariant-loop-lower
 invariant-loop-lower l = record {
   stamps : (h : ℕ) → h < length l.stamps → get_or l.stamps h 0 ≤ l.lower;
-  done : (j : ℕ) → j < length l.entries.numbers / 2 → lower_at l.entries.numbers (2 ^ l.entries.rank) j < l.lower →
-      IsFirst (pair_at l.entries.numbers (2 ^ l.entries.rank)) j (get_or l.first j 0);
+  done : (j : ℕ) → j < length l.chains.entries.now.numbers / 2 → lower_at l.chains.entries.now.numbers (2 ^ l.chains.entries.now.rank) j < l.lower →
+      IsFirst (pair_at l.chains.entries.now.numbers (2 ^ l.chains.entries.now.rank)) j (get_or l.first j 0);
 }

@@ -10,19 +10,19 @@ use Rattle.pair_numbering.proofs.chains.walk_chain.Goals.{then-stamps-upper, els
 
 pub loop-j-preserved : goal.loop-j-preserved
 loop-j-preserved c =
-    let cs = c.args.entries.now.numbers in
-    let step = 2 ^ c.args.entries.now.rank in
+    let cs = c.args.chains.now.entries.now.numbers in
+    let step = 2 ^ c.args.chains.now.entries.now.rank in
     let half = length cs / 2 in
     let lower = c.args.lower in
     let j = c.loop-j.j in
     let stamps = c.loop-j.stamps in
     let marks = c.loop-j.marks in
     let first = c.loop-j.first in
-    let k = get_or c.args.next.now j 0 in
-    let n = c.requires.next.long in
+    let k = get_or c.args.chains.now.next.now j 0 in
+    let n = c.args.chains.now.after.long in
     let t = c.loop-j-test.true in
     let small : j < half = omega arith in
-    let w = pair_within step c.requires.paired.whole.0 (length cs) j (pow_pos c.args.entries.now.rank) c.requires.paired.whole.1 small in
+    let w = pair_within step c.requires.paired.whole.0 (length cs) j (pow_pos c.args.chains.now.entries.now.rank) c.requires.paired.whole.1 small in
     let v : c.pair-upper.result.1 ≡ upper_at cs step j = ap (λ (p : ℕ × ℕ). p.1) c.pair-upper.ensures in
     let b = c.requires.classes (places.low_place step j + step) w in
     let sa = c.loop-j.auto.stamps in
@@ -32,7 +32,7 @@ loop-j-preserved c =
     let fl = c.requires.first_len in
     let inside : upper_at cs step j < length stamps = omega arith in
     let here = c.loop-j.invariant.walk.here small in
-    let nx = subst (λ z. IsNext (lower_at cs step) half z (j + 1) k) here (c.requires.next.each j small) in
+    let nx = subst (λ z. IsNext (lower_at cs step) half z (j + 1) k) here (c.args.chains.now.after.each j small) in
     record {
       walk = elim c.if-stamps-upper.branch [
         | then-stamps-upper u ↦
