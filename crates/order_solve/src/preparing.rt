@@ -9,13 +9,11 @@ use order_model::{Limit, Pairs, Problem, Reserve, Workers};
 use std::alloc::{AllocError, Global};
 use std::thread::Threads;
 
-/// Truth tables of fewer entries than these are worth no threads that prepare a search.
-const ENTRIES_WORTH_THREADS: usize = 1 << 14;
-
 /// What a search for the first order of the fewest nodes among those that keep the pairs begins
 /// with: found by the workers while another thread sifts, say. The bound is the size of any diagram
 /// of the functions; from it is guessed how many layers hardly a set is clipped of. No rows are
-/// found if the search keeps pairs of symmetric variables, since few sets are then left.
+/// found if the search keeps pairs of symmetric variables, since few sets are then left, nor by one
+/// worker.
 pub fn prepare<'a, R: Threads + Sync>(
     rt: &R,
     alloc: Global,
@@ -27,8 +25,7 @@ pub fn prepare<'a, R: Threads + Sync>(
     requires { pairs.now.inputs ≡ problem.now.inputs }
     ensures { IfOk result (λ p. p.problem ≡ problem.now) }
 {
-    let entries = usize::from(problem.outputs()) << problem.inputs();
-    if workers.count() == 1 || entries < ENTRIES_WORTH_THREADS {
+    if workers.count() == 1 {
         let prepared = Preparation::of(alloc, problem)?;
         return Ok(prepared);
     }

@@ -11,7 +11,7 @@ ghost use Rattle.run_texts.specs.Texts.{file_order_levels};
 
 use crate::instance::Instance;
 use dd_builder::{build, build_tables};
-use order_model::{Diagram, NoGate, Order, Workers};
+use order_model::{Diagram, NoGate, Order};
 use std::alloc::{AllocError, Global};
 use std::thread::Threads;
 
@@ -26,19 +26,6 @@ fn levels_of(alloc: Global, diagram: &Diagram) -> Result<Vec<u32>, AllocError>
 {
     let counts = diagram.level_counts();
     counts[..diagram.order().len()].to_vec(alloc)
-}
-
-/// Truth tables of fewer entries than these are worth no thread that builds diagrams of them.
-const ENTRIES_WORTH_THREADS: usize = 1 << 14;
-
-/// The workers that build diagrams: one for small truth tables.
-fn building_workers(instance: &Instance<'_>) -> Workers {
-    let problem = instance.tables.problem();
-    let entries = usize::from(problem.outputs()) << problem.inputs();
-    match Workers::new(1) {
-        Some(one) if entries < ENTRIES_WORTH_THREADS => one,
-        _ => instance.workers,
-    }
 }
 
 /// The diagram under the first order that keeps the pairs.
@@ -56,7 +43,7 @@ pub(crate) fn first_diagram<R: Threads + Sync>(
         instance.cover,
         instance.tables,
         &order,
-        building_workers(instance),
+        instance.busy_workers(),
         &NoGate,
     )?;
     Ok(diagram)
@@ -87,7 +74,7 @@ pub(crate) fn file_order_levels_of<R: Threads + Sync>(
         instance.cover,
         instance.tables,
         &order,
-        building_workers(instance),
+        instance.busy_workers(),
         &NoGate,
     )?;
     let levels = levels_of(alloc, &diagram)?;
@@ -107,7 +94,7 @@ pub(crate) fn levels_under<R: Threads + Sync>(
         (functions instance.now.tables.now) order.now) }
     ensures few { IfOk result (λ v. length v.items ≤ 16) }
 {
-    let workers = building_workers(instance);
+    let workers = instance.busy_workers();
     let diagram = build_tables(rt, alloc, instance.tables, order, workers, &NoGate)?;
     let levels = levels_of(alloc, &diagram)?;
     Ok(levels)

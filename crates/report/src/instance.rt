@@ -19,3 +19,18 @@ pub struct Instance<'a> {
     pub ghost are_its_tables: { AreTablesOf cover.now tables.now },
     pub ghost are_its_pairs: { pairs.now.inputs ≡ cover.now.inputs },
 }
+
+/// Truth tables of fewer entries than these are worth no threads.
+const ENTRIES_WORTH_THREADS: usize = 1 << 14;
+
+impl Instance<'_> {
+    /// The workers that are kept busy before the search: one by small truth tables.
+    pub(crate) fn busy_workers(&self) -> Workers {
+        let problem = self.tables.problem();
+        let entries = usize::from(problem.outputs()) << problem.inputs();
+        match Workers::new(1) {
+            Some(one) if entries < ENTRIES_WORTH_THREADS => one,
+            _ => self.workers,
+        }
+    }
+}

@@ -79,7 +79,8 @@ fn do_job<'a, R: Threads + Sync>(
         }
         Job::Prepare(limit) => {
             let problem = instance.tables.problem();
-            let prepared = prepare(rt, alloc, problem, instance.pairs, limit, instance.workers)?;
+            let workers = instance.busy_workers();
+            let prepared = prepare(rt, alloc, problem, instance.pairs, limit, workers)?;
             Ok(Done::Prepared(prepared))
         }
     }
@@ -108,7 +109,7 @@ fn jobs_before<'a>(
     Ok(jobs)
 }
 
-/// Does the jobs at the same time, or one after the other if there is one worker.
+/// Does the jobs at the same time, or one after the other if that keeps one worker busy.
 fn all_done<'a, R: Threads + Sync>(
     rt: &R,
     alloc: Global,
@@ -118,7 +119,7 @@ fn all_done<'a, R: Threads + Sync>(
     requires { All (IsJobFor instance.now) jobs.items }
     ensures { IfOk result (λ v. All (λ r. IfOk r (IsDoneFor instance.now)) v.items) }
 {
-    if instance.workers.count() == 1 {
+    if instance.busy_workers().count() == 1 {
         let mut jobs = jobs;
         let mut ended = Vec::with_capacity(alloc, jobs.len())?;
         while let Some(job) = jobs.pop() {
