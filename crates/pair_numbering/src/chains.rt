@@ -72,7 +72,9 @@ pub fn number_firsts(
     requires paired { IsPaired entries.now.numbers entries.now.rank }
     requires len { length entries.now.numbers ≤ 2 ^ 20 }
     requires first { AreFirsts entries.now first.now }
-    ensures { IfOk result (λ v. ArePairsNumbered entries.now.numbers entries.now.rank v.numbers.items v.pairs.items) }
+    ensures { IfOk result
+        (λ v. ArePairsNumbered entries.now.numbers entries.now.rank v.numbers.items
+        v.pairs.items) }
 {
     let mut out = vec![in alloc; 0u32; first.len()]?;
     let mut pairs = Vec::new(alloc);
@@ -137,7 +139,9 @@ pub fn number_pairs_by_chains(
 ) -> Result<NumberedPairs, AllocError>
     requires table { IsPairTable entries.now.numbers entries.now.rank classes }
     requires few { classes ≤ 2 ^ 20 }
-    ensures { IfOk result (λ v. ArePairsNumbered entries.now.numbers entries.now.rank v.numbers.items v.pairs.items) }
+    ensures { IfOk result
+        (λ v. ArePairsNumbered entries.now.numbers entries.now.rank v.numbers.items
+        v.pairs.items) }
 {
     let half = entries.len();
     let mut heads = vec![in alloc; half as u32; classes]?;

@@ -1,5 +1,5 @@
-//! The class table of the empty set, in which each subfunction is the value at a point, and the mask
-//! of a pair of classes.
+//! The class table of the empty set: each subfunction is the value at a point. And the mask of a
+//! pair of classes.
 #![tactic(auto)]
 
 mod masks;
