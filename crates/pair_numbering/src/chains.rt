@@ -1,7 +1,7 @@
 //! Numbers of pairs by first occurrence, without hashing.
 
-ghost use Rattle.std.specs.Prelude.{◌≡◌, ◌≢◌, ℕ, ◌+◌, ◌*◌, ◌/◌, ◌^◌, ◌<◌, ◌≤◌, length, slice_index, IfOk};
-ghost use Rattle.pair_numbering.specs.Chains.{IsNext, lower_at, AreHeads, AreLinks, AreFirsts, AreFirstsOf, KeepsOthers};
+ghost use Rattle.std.specs.Prelude.{◌≡◌, ℕ, ◌+◌, ◌*◌, ◌/◌, ◌^◌, ◌<◌, ◌≤◌, length, slice_index, IfOk};
+ghost use Rattle.pair_numbering.specs.Chains.{AreHeads, AreLinks, AreFirsts, AreFirstsOf, KeepsOthers};
 ghost use Rattle.class_laws.specs.PairTables.{AllBelow, IsPaired, IsPairTable};
 ghost use Rattle.pair_numbering.specs.Numbers.{ArePairsNumbered};
 
