@@ -10,8 +10,8 @@ loop-lower-preserved c = record {
   stamps = c.walk_chain.ensures.stamps;
   done = λ j l m. elim (cases_eq (lower_at c.args.chains.now.entries.now.numbers (2 ^ c.args.chains.now.entries.now.rank) j) c.loop-lower.lower) [
     | inl e ↦ c.walk_chain.ensures.own j l e
-    | inr ne ↦ subst (IsFirst (pair_at c.args.chains.now.entries.now.numbers (2 ^ c.args.chains.now.entries.now.rank)) j) (sym (c.walk_chain.ensures.others j l ne))
-        (c.loop-lower.invariant.done j l (omega arith))
+    | inr ne ↦ subst (IsFirst (pair_at c.args.chains.now.entries.now.numbers (2 ^ c.args.chains.now.entries.now.rank)) j)
+        (sym (c.walk_chain.ensures.others j l ne)) (c.loop-lower.invariant.done j l (omega arith))
   ];
 }
 

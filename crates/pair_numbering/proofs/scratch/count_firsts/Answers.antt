@@ -12,6 +12,8 @@ use Rattle.pair_numbering.proofs.scratch.count_firsts.Goals.{then-f-j, else-f-j}
 pub loop-j-preserved : goal.loop-j-preserved
 loop-j-preserved c =
     let cs = c.args.pairs.now.entries.numbers in
+    let masks = c.args.pairs.now.masks.now in
+    let x = c.args.pairs.now.x in
     let step = 2 ^ c.args.pairs.now.entries.rank in
     let ps = places.pairs cs step in
     let j = c.loop-j.j in
@@ -23,23 +25,24 @@ loop-j-preserved c =
     let first = first_listed cs step j (get_or c.args.first.now j 0) small (c.requires.first.each j small) in
     elim c.if-f-j.branch [
       | then-f-j w ↦
-          let m = w.join_mask-mask.ensures ∙ ap (joined_mask c.args.pairs.now.masks.now c.args.pairs.now.x) (w.pair.ensures ∙ sym (pair_listed cs step j small)) in
-          let l = bit_at-lt w.join_mask-mask.result c.args.pairs.now.x in
-          let b : w.from-count.result ≡ bit_at w.join_mask-mask.result c.args.pairs.now.x = grind arith in
-          subst (λ k. Counting ps c.args.pairs.now.masks.now c.args.pairs.now.x k (j + 1)) (sym w.count-is)
-          (counting_first ps c.args.pairs.now.masks.now c.args.pairs.now.x c.loop-j.count w.from-count.result j w.join_mask-mask.result listed
+          let m = w.join_mask-mask.ensures ∙ ap (joined_mask masks x) (w.pair.ensures ∙ sym (pair_listed cs step j small)) in
+          let l = bit_at-lt w.join_mask-mask.result x in
+          let b : w.from-count.result ≡ bit_at w.join_mask-mask.result x = grind arith in
+          subst (λ k. Counting ps masks x k (j + 1)) (sym w.count-is)
+          (counting_first ps masks x c.loop-j.count w.from-count.result j w.join_mask-mask.result listed
           (subst (IsFirst (λ i. get_or ps i (0, 0)) j) w.if-f-j.true first) m b c.loop-j.invariant)
       | else-f-j w ↦
           let before = first.before in
           let other = w.if-f-j.false in
-          subst (λ k. Counting ps c.args.pairs.now.masks.now c.args.pairs.now.x k (j + 1)) (sym w.count-is)
-          (counting_again ps c.args.pairs.now.masks.now c.args.pairs.now.x c.loop-j.count j (get_or c.args.first.now j 0) listed first (omega arith) c.loop-j.invariant)
+          subst (λ k. Counting ps masks x k (j + 1)) (sym w.count-is)
+          (counting_again ps masks x c.loop-j.count j (get_or c.args.first.now j 0) listed first (omega arith) c.loop-j.invariant)
     ]
 
 pub returns : goal.returns
 returns c =
-    let lp = length-pairs c.args.pairs.now.entries.numbers (2 ^ c.args.pairs.now.entries.rank) in
+    let cs = c.args.pairs.now.entries.numbers in
+    let step = 2 ^ c.args.pairs.now.entries.rank in
+    let lp = length-pairs cs step in
     let t = c.loop-j-test.false in
     let long = c.requires.first.long in
-    counting_all (places.pairs c.args.pairs.now.entries.numbers (2 ^ c.args.pairs.now.entries.rank)) c.args.pairs.now.masks.now c.args.pairs.now.x c.loop-j.count c.loop-j.j
-    (omega arith) c.loop-j.invariant
+    counting_all (places.pairs cs step) c.args.pairs.now.masks.now c.args.pairs.now.x c.loop-j.count c.loop-j.j (omega arith) c.loop-j.invariant
