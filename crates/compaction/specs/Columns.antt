@@ -1,5 +1,6 @@
 -- Runs of 256 points, four words each, of which equal ones are kept once.
---     IsChained columns, AreChained kept next heads      the kept runs are chained: a head, or a run's next, is one more than an earlier run's number, or 0 at the end
+--     AreChained kept next heads      the kept runs are chained: a head, or a run's next, is one more than an earlier run's number, or 0 at the end
+--     IsChained columns      the same of columns
 --     KeepsRuns values outer kept count      `outer` names a kept run for each run of the values
 --     KeepsValues columns values      the same of columns
 --     AddsRuns old new words      the runs of some words stand behind the others

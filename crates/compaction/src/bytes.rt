@@ -18,7 +18,7 @@ use std::marker::Model;
 /// The keys of a set of the lowest three variables. A byte names a row, which has an entry for each
 /// assignment of those of the three outside the set.
 #[derive(Drop)]
-pub struct ByteKeys<'a> {
+pub(crate) struct ByteKeys<'a> {
     problem: &'a Problem,
     set: Mask,
     outer: Vec<u32>,
@@ -83,7 +83,10 @@ impl<'a> ByteKeys<'a> {
     ghost use Rattle.class_laws.specs.Table.{set_of, with_variable, classes_of};
 
     /// The keys of the empty set: the values.
-    pub fn of_problem(alloc: Global, problem: &'a Problem) -> Result<ByteKeys<'a>, AllocError>
+    pub(crate) fn of_problem(
+        alloc: Global,
+        problem: &'a Problem,
+    ) -> Result<ByteKeys<'a>, AllocError>
         requires { 8 ≤ problem.now.inputs }
         ensures { IfOk result (λ c. c ≡ classes_of problem.now 0) }
     {
@@ -104,17 +107,17 @@ impl<'a> ByteKeys<'a> {
     }
 
     /// The names of the strips, function by function.
-    pub fn names(&self) -> &[u32] {
+    pub(crate) fn names(&self) -> &[u32] {
         self.outer.as_slice()
     }
 
     /// How many strips are kept.
-    pub fn strips(&self) -> usize {
+    pub(crate) fn strips(&self) -> usize {
         self.bytes.len() / 32
     }
 
     /// The keys with one more variable in the set.
-    pub fn add(&self, alloc: Global, x: VarIx) -> Result<ByteKeys<'a>, AllocError>
+    pub(crate) fn add(&self, alloc: Global, x: VarIx) -> Result<ByteKeys<'a>, AllocError>
         requires inner { x < 3 }
         requires inside { 8 ≤ self.now.problem.inputs }
         requires new { IsFalse (has (set_of self.now) x) }
@@ -136,7 +139,7 @@ impl<'a> ByteKeys<'a> {
     }
 
     /// The strips, written out.
-    pub fn write_out(&self, alloc: Global) -> Result<Strips<'a>, AllocError>
+    pub(crate) fn write_out(&self, alloc: Global) -> Result<Strips<'a>, AllocError>
         requires { 8 ≤ self.now.problem.inputs }
         ensures { IfOk result (λ c. c ≡ self.now) }
     {

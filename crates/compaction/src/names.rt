@@ -12,7 +12,7 @@ use std::alloc::{AllocError, Global};
 
 /// Names of strips, and the numbers of their pairs by one variable.
 #[derive(Drop)]
-pub struct NamePairs {
+pub(crate) struct NamePairs {
     names: Vec<u32>,
     rank: u32,
     numbers: Vec<u32>,
@@ -42,7 +42,7 @@ fn are_whole(count: usize, rank: u32) -> bool
 }
 
 /// The same words once more.
-pub fn copied(alloc: Global, words: &[u32]) -> Result<Vec<u32>, AllocError>
+pub(crate) fn copied(alloc: Global, words: &[u32]) -> Result<Vec<u32>, AllocError>
     ensures { IfOk result (λ v. v.items ≡ words.now) }
 {
     let mut copy = Vec::with_capacity(alloc, words.len())?;
@@ -93,7 +93,7 @@ impl NamePairs {
 }
 
 /// The numbers of the pairs of names, as they were given before if these names are those.
-pub fn number_names(
+pub(crate) fn number_names(
     alloc: Global,
     names: &[u32],
     rank: u32,
@@ -116,7 +116,7 @@ pub fn number_names(
 /// The pairs of names of each set of high variables, by each variable outside it. Those of a set
 /// and the variable `8 + y` stand at eight times the set's high byte and `y`.
 #[derive(Drop)]
-pub struct AllNamePairs {
+pub(crate) struct AllNamePairs {
     steps: Vec<Option<NamePairs>>,
 }
 
@@ -146,7 +146,7 @@ fn step_of(
 
 impl AllNamePairs {
     /// The pairs of a problem's names, of so many high variables.
-    pub fn of(alloc: Global, names: &[u32], high: u8) -> Result<AllNamePairs, AllocError>
+    pub(crate) fn of(alloc: Global, names: &[u32], high: u8) -> Result<AllNamePairs, AllocError>
         requires { high ≤ 8 }
     {
         let mut steps: Vec<Option<NamePairs>> = Vec::with_capacity(alloc, 8usize << high)?;
@@ -164,14 +164,14 @@ impl AllNamePairs {
     }
 
     /// Nothing is known.
-    pub fn none(alloc: Global) -> AllNamePairs {
+    pub(crate) fn none(alloc: Global) -> AllNamePairs {
         AllNamePairs {
             steps: Vec::new(alloc),
         }
     }
 
     /// What is known of the pairs of a set by a high variable.
-    pub fn at(&self, set: Mask, y: VarIx) -> Option<&NamePairs> {
+    pub(crate) fn at(&self, set: Mask, y: VarIx) -> Option<&NamePairs> {
         match self
             .steps
             .get(usize::from(set / 256) * 8 + usize::from(y % 8))

@@ -23,7 +23,7 @@ use std::marker::Model;
 /// by function. If `all_used` is true each mask is that of a key that occurs. If all subfunctions
 /// are distinct and depend on the whole set their count is kept alone.
 #[derive(Drop)]
-pub struct Strips<'a> {
+pub(crate) struct Strips<'a> {
     problem: &'a Problem,
     set: Mask,
     distinct: Option<u32>,
@@ -47,7 +47,7 @@ impl<'a> Model for Strips<'a> {
 }
 
 /// How many variables are low.
-pub fn low_variables(problem: &Problem) -> u8
+pub(crate) fn low_variables(problem: &Problem) -> u8
     ensures { result ≡ low_of problem.now }
 {
     problem.inputs().min(8)
@@ -169,7 +169,7 @@ impl<'a> Strips<'a> {
     }
 
     /// The keys of the empty set: the values.
-    pub fn of_problem(alloc: Global, problem: &'a Problem) -> Result<Strips<'a>, AllocError>
+    pub(crate) fn of_problem(alloc: Global, problem: &'a Problem) -> Result<Strips<'a>, AllocError>
         ensures { IfOk result (λ c. c ≡ classes_of problem.now 0) }
     {
         prove!(problem.inputs() <= 16);
@@ -188,21 +188,21 @@ impl<'a> Strips<'a> {
     }
 
     /// How many variables are low.
-    pub fn low_variables(&self) -> u8
+    pub(crate) fn low_variables(&self) -> u8
         ensures { result ≡ low_variables self.now.problem }
     {
         low_variables(self.problem)
     }
 
     /// The set, as a mask.
-    pub fn set(&self) -> Mask
+    pub(crate) fn set(&self) -> Mask
         ensures { result ≡ self.now.set }
     {
         self.set
     }
 
     /// The keys with one more low variable in the set.
-    pub fn add_low(&self, alloc: Global, x: VarIx) -> Result<Strips<'a>, AllocError>
+    pub(crate) fn add_low(&self, alloc: Global, x: VarIx) -> Result<Strips<'a>, AllocError>
         requires low { x < low_variables self.now.problem }
         requires new { IsFalse (has (set_of self.now) x) }
         ensures { IfOk result (λ c. c ≡ with_variable self.now x) }
@@ -227,7 +227,7 @@ impl<'a> Strips<'a> {
 
     /// The keys with one more high variable in the set. What is known of the pairs of names isn't
     /// numbered again.
-    pub fn add_high(
+    pub(crate) fn add_high(
         &self,
         alloc: Global,
         x: VarIx,
@@ -259,7 +259,7 @@ impl<'a> Strips<'a> {
     }
 
     /// The widths of the wanted variables, each over the set without it, and 0 of the others.
-    pub fn width_row(&self, alloc: Global, wanted: Mask) -> Result<[u32; 16], AllocError>
+    pub(crate) fn width_row(&self, alloc: Global, wanted: Mask) -> Result<[u32; 16], AllocError>
         requires { (x : ℕ) → bit_at wanted x ≡ 1 → IsTrue (has (set_of self.now) x) }
         ensures { IfOk result (λ row. IsRow self.now.problem self.now.set wanted row) }
     {
