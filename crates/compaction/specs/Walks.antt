@@ -1,15 +1,22 @@
--- A walk over the high variables, which fills the rows of what is wanted.
+-- A walk over the high variables, which fills the rows of what is wanted, and what the walks of a layer's blocks take.
 --     HasDecided t decided      the low variables and the members of the table's set are decided
 --     CanBeFilled p w rows      each set has a row, and a right one if nothing is wanted of it
 --     FillsRows t decided w old new      the rows of the sets that agree with the table's in the decided variables are filled
 --     FillsOwn t w old new      the row of the table's own set is filled
 --     HasRows p w rows      all rows are filled
-use Rattle.std.specs.Prelude.{◌≡◌, ℕ, ◌<◌, List, length, bit_and}
+--     AreAsked p b needed      what is asked of a block's sets are their members
+--     AreRowsOf p b needed rows      the rows hold the widths that are asked
+--     HasRoom tallies needed      the tallies can take that, and what is found ahead
+--     Counts needed old before new after      one tally rises by what is asked, the other by what is found ahead
+use Rattle.std.specs.Prelude.{◌≡◌, ℕ, ◌+◌, ◌^◌, ◌<◌, ◌≤◌, List, length, bit_and}
 use Rattle.std.specs.Int.{bit_at}
 use Rattle.order_model.specs.Problems.{TruthTables}
 use Rattle.class_laws.specs.Table.{ClassesOf}
-use Rattle.compaction.specs.Rows.{AreRows, AreBlank, AreFilled, IsFilled}
+use Rattle.subset_layers.specs.Layers.{BlockOf, block_masks}
+use Rattle.compaction.specs.Ahead.{RowsOf, widths_ahead}
+use Rattle.compaction.specs.Rows.{AreRows, AreBlank, AreFilled, AreMembers, IsFilled, wanted_count}
 use Rattle.compaction.specs.Strips.{low_variables}
+use Rattle.compaction.specs.declared.tally.Tallies.{Tallies}
 use Rattle.compaction.specs.declared.wanted.Wanted.{Wanted}
 
 -- the low variables and the members of the table's set are decided
@@ -33,3 +40,24 @@ FillsOwn t w old new = IsFilled t.problem w.masks.now w.needed.now t.set old new
 -- the rows hold the widths that are wanted of each set
 abbrev pub HasRows : TruthTables → Wanted → List (List ℕ) → Type 0
 HasRows p w rows = AreRows p w.masks.now w.needed.now rows
+
+-- a mask for each set of the block, of members of the set
+pub record AreAsked (p : TruthTables) (b : BlockOf) (needed : List ℕ) : Type 0 where
+  pub inputs : b.inputs ≡ p.inputs
+  pub each : length needed ≡ length (block_masks b)
+  pub members : AreMembers p (block_masks b) needed
+
+-- the rows hold the widths that are asked of a block's sets
+abbrev pub AreRowsOf : TruthTables → BlockOf → List ℕ → List (List ℕ) → Type 0
+AreRowsOf p b needed rows = AreRows p (block_masks b) needed rows
+
+-- there is room for the widths that are asked, and for those that are found ahead
+pub record HasRoom (tallies : Tallies) (needed : List ℕ) : Type 0 where
+  pub cells : tallies.cells + wanted_count needed ≤ 2 ^ 32
+  pub ahead : tallies.ahead ≤ 2 ^ 32
+
+-- one tally rises by the widths that are asked, the other by those that are found ahead
+pub record Counts (needed : List ℕ) (old : List RowsOf) (before : Tallies) (new : List RowsOf) (after : Tallies) : Type 0 where
+  pub cells : after.cells ≡ before.cells + wanted_count needed
+  pub ahead : after.ahead + widths_ahead old ≡ before.ahead + widths_ahead new
+  pub few : after.ahead ≤ before.ahead + 2 ^ 16

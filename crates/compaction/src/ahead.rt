@@ -6,7 +6,8 @@ ghost use Rattle.std.specs.Int.{bit_at};
 ghost use Rattle.order_model.specs.Problems.{TruthTables};
 ghost use Rattle.subset_layers.specs.Layers.{block_masks};
 ghost use Rattle.compaction.specs.Ahead.{AreAhead, widths_ahead};
-ghost use Rattle.compaction.specs.Rows.{AreRows, AreOfByte, AreMembers, wanted_count, most_compactions};
+ghost use Rattle.compaction.specs.Rows.{AreRows, AreOfByte, AreMembers, most_compactions};
+ghost use Rattle.compaction.specs.Walks.{AreAsked, AreRowsOf, Counts, HasRoom};
 
 use crate::beginning::Beginning;
 use crate::blocks::{BlockWidths, wanted_rows};
@@ -227,9 +228,7 @@ impl<'a> Beginning<'a> {
         block: &Block,
         needed: &[Mask],
     ) -> Result<BlockWidths, AllocError>
-        requires inputs { block.now.inputs ≡ self.now.inputs }
-        requires needed { length needed.now ≡ length (block_masks block.now) }
-        requires members { AreMembers self.now (block_masks block.now) needed.now }
+        requires asked { AreAsked self.now block.now needed.now }
         requires later { AreOfByte self.now.inputs block.now.low later.now }
         ensures rows { IfOk result
             (λ widths. AreRows self.now (later.now ++ block_masks block.now)
@@ -311,22 +310,13 @@ impl<'a> Walks<'a> {
         found: &mut Ahead,
         tallies: &mut Tallies,
     ) -> Result<BlockWidths, AllocError>
-        requires inputs { block.now.inputs ≡ self.now.inputs }
-        requires needed { length needed.now ≡ length (block_masks block.now) }
-        requires members { AreMembers self.now (block_masks block.now) needed.now }
+        requires asked { AreAsked self.now block.now needed.now }
         requires found { AreAhead self.now found.old }
-        requires cells { tallies.old.cells + wanted_count needed.now ≤ 2 ^ 32 }
-        requires ahead { tallies.old.ahead ≤ 2 ^ 32 }
-        ensures rows { IfOk result
-            (λ widths. AreRows self.now (block_masks block.now) needed.now widths.rows) }
+        requires room { HasRoom tallies.old needed.now }
+        ensures rows { IfOk result (λ widths. AreRowsOf self.now block.now needed.now widths.rows) }
         ensures compactions { IfOk result (λ widths. widths.compactions ≤ most_compactions) }
         ensures found { OnOk result (AreAhead self.now found.new) }
-        ensures cells { OnOk result
-            (tallies.new.cells ≡ tallies.old.cells + wanted_count needed.now) }
-        ensures ahead { OnOk result
-            (tallies.new.ahead + widths_ahead found.old
-            ≡ tallies.old.ahead + widths_ahead found.new) }
-        ensures few { OnOk result (tallies.new.ahead ≤ tallies.old.ahead + 2 ^ 16) }
+        ensures ok { OnOk result (Counts needed.now found.old tallies.old found.new tallies.new) }
         ensures tallies { OnErr result (tallies.new ≡ tallies.old) }
         ensures err { OnErr result (found.new ≡ found.old) }
     {

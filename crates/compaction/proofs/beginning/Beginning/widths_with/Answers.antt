@@ -13,7 +13,7 @@ new-wanted-requires-clause-byte c =
     subst (λ (ms : List ℕ). AreOfByte c.inputs-2.result c.low.result ms) (sym masks)
     (subst (λ n. AreOfByte n c.low.result (later ++ block_masks b)) (sym c.inputs-2.ensures)
     (subst (λ l. AreOfByte b.inputs l (later ++ block_masks b)) (sym c.low.ensures.value)
-    (of_byte_joined b.inputs b.low later (block_masks b) (subst (λ n. AreOfByte n b.low later) (sym c.requires.inputs) c.requires.later)
+    (of_byte_joined b.inputs b.low later (block_masks b) (subst (λ n. AreOfByte n b.low later) (sym c.requires.asked.inputs) c.requires.later)
     (block_of_byte b))))
 
 pub new-wanted-requires-clause-members : goal.new-wanted-requires-clause-members
@@ -26,7 +26,7 @@ new-wanted-requires-clause-members c =
     let few = c.inputs.ensures.few in
     let needed = c.deref-2.ensures.value ∙ c.in_ok-needed.ensures in
     let all = members_joined p later later (block_masks b) c.args.needed.now refl
-    (members_own p b.low later (omega (arith, few, v)) c.requires.later) c.requires.members in
-    subst (λ n. AreMembersAmong n c.deref.result.now c.deref-2.result.now) (sym (c.inputs-2.ensures ∙ c.requires.inputs))
+    (members_own p b.low later (omega (arith, few, v)) c.requires.later) c.requires.asked.members in
+    subst (λ n. AreMembersAmong n c.deref.result.now c.deref-2.result.now) (sym (c.inputs-2.ensures ∙ c.requires.asked.inputs))
     (subst (λ (ms : List ℕ). AreMembers p ms c.deref-2.result.now) (sym masks)
     (subst (λ (ns : List ℕ). AreMembers p (later ++ block_masks b) ns) (sym needed) all))
