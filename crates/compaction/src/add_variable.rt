@@ -2,7 +2,6 @@
 
 ghost use Rattle.std.specs.Prelude.{◌≡◌, ℕ, ◌+◌, ◌*◌, ◌^◌, ◌<◌, ◌≤◌, length, slice_index, IfOk, IsTrue};
 ghost use Rattle.class_laws.specs.PairTables.{AreOwn};
-ghost use Rattle.pair_numbering.specs.Strips.{AreNamed, names_of, unrolled};
 ghost use Rattle.pair_numbering.specs.Keys.{AreUsed};
 ghost use Rattle.compaction.specs.Strips.{GrowsStrips};
 

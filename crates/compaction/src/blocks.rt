@@ -1,7 +1,6 @@
 //! The widths of the sets of a block.
 
-ghost use Rattle.std.specs.Prelude.{◌≡◌, ℕ, ◌+◌, ◌-◌, ◌%◌, ◌^◌, ◌<◌, ◌≤◌, IsFalse, length, slice_index, slice_get, get_or, take, drop, [], ◌≢◌, IfOk, IfSome, IsNone, OnOk, OnErr, Some, bit_and, bit_or};
-ghost use Rattle.std.specs.Int.{bit_at};
+ghost use Rattle.std.specs.Prelude.{◌≡◌, ℕ, ◌+◌, ◌-◌, ◌%◌, ◌^◌, ◌<◌, ◌≤◌, IsFalse, length, slice_index, slice_get, get_or, take, drop, [], ◌≢◌, IfOk, IfSome, IsNone, OnOk, OnErr, Some, bit_or};
 ghost use Rattle.subset_layers.specs.Layers.{block_masks};
 ghost use Rattle.compaction.specs.Strips.{low_variables as low_of};
 ghost use Rattle.class_laws.specs.Table.{classes_of, free_below};

@@ -1,9 +1,9 @@
 //! The numbers of a problem's values, in strips: runs of 256 points are four words of a function,
 //! and equal ones are kept once.
 
-ghost use Rattle.std.specs.Prelude.{◌≡◌, ◌==◌, ℕ, ◌+◌, ◌*◌, ◌/◌, ◌^◌, ◌<◌, ◌≤◌, ◌++◌, Bool, List, false, length, get_or, slice_index, IfOk, IfSome, OnOk};
+ghost use Rattle.std.specs.Prelude.{◌≡◌, ◌==◌, ℕ, ◌+◌, ◌*◌, ◌/◌, ◌^◌, ◌<◌, ◌≤◌, ◌++◌, Bool, List, length, slice_index, IfOk, IfSome, OnOk};
 ghost use Rattle.std.specs.Int.{bit_at};
-ghost use Rattle.order_model.specs.Problems.{outputs_of, packed_bit};
+ghost use Rattle.order_model.specs.Problems.{outputs_of};
 ghost use Rattle.compaction.specs.Columns.{AddsRuns, AreByteRows, IsChained, KeepsValues, low_numbers, packed_numbers};
 ghost use Rattle.pair_numbering.specs.Strips.{AreNamed, unrolled};
 ghost use Rattle.compaction.specs.Strips.{HoldsValues};
