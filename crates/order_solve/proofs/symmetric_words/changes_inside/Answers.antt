@@ -31,7 +31,8 @@ returns c none k small one zero =
     let m : 2 ^ a ≤ 2 ^ b = pow_mono {j = b} (omega arith) in
     let le = (place_without k a one).0 in
     let with_a = bit_xor c.lower_half-without_b.result (bit_and c.lower_half-without_b.result c.lower_half.result) in
-    let there = places_with a b c.lower_half.result c.lower_half-without_b.result k (c.lower_half.ensures k small) (c.lower_half-without_b.ensures k small) one zero in
+    let there = places_with a b c.lower_half.result c.lower_half-without_b.result k
+    (c.lower_half.ensures k small) (c.lower_half-without_b.ensures k small) one zero in
     let apart : 1 * 2 ^ b % 4294967296 - 1 * 2 ^ a % 4294967296 ≡ 2 ^ b - 2 ^ a = ap₂ (λ x y. x - y) f e in
     let up : k + (2 ^ b - 2 ^ a) ≡ k - 2 ^ a + 2 ^ b = omega arith in
     sym (ap (bit_at c.args.word) (sym up)

@@ -98,4 +98,5 @@ returns-clause-tally g c =
     let s = c.loop-claim.seat in
     let s1 = c.claim.new.seat in
     let is = c.in_default.ensures.none refl in
-    (working_stays t c.args.seat s s1 c.loop-claim.tallies.cells (subst (λ (z : SeatOf). StaysClaimed s z) (sym is) (no_more_stays s)) c.loop-claim.invariant.working).tally
+    (working_stays t c.args.seat s s1 c.loop-claim.tallies.cells
+    (subst (λ (z : SeatOf). StaysClaimed s z) (sym is) (no_more_stays s)) c.loop-claim.invariant.working).tally

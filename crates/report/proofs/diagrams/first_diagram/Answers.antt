@@ -10,7 +10,8 @@ use Rattle.report.proofs.diagrams.first_diagram.Goals as goal
 pub build-requires-clause-order : goal.build-requires-clause-order
 build-requires-clause-order g c κs within =
     let own = subst (λ (o : List ℕ). IsOrder (length o) o) c.order.view_is c.order.invariant.order in
-    one_length (length c.in_ok-order.order) c.args.instance.now.cover.now.inputs c.in_ok-order.order own (rw c.args.instance.now.are_its_pairs at c.in_ok-order.ensures.is_order)
+    one_length (length c.in_ok-order.order) c.args.instance.now.cover.now.inputs c.in_ok-order.order own
+    (rw c.args.instance.now.are_its_pairs at c.in_ok-order.ensures.is_order)
 
 pub returns : goal.returns
 returns g c =
