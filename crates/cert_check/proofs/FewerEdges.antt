@@ -10,7 +10,7 @@ use Rattle.std.proofs.lemmas.Bool.{cases_eq, cases_lt}
 use Rattle.std.proofs.lemmas.List.{get_or-set_same, get_or-set_other, length-set}
 use Rattle.std.proofs.lemmas.Nat.Bits.{bit_at-zero}
 use Rattle.order_model.specs.Functions.{Function}
-use Rattle.cert_check.specs.Edges.{AreEdgeTables, Fails, IsFirstEdge}
+use Rattle.cert_check.specs.Edges.{AreEdgeTables, EdgeFails, IsFirstEdge}
 use Rattle.cert_check.specs.FewerEdges.{AreFewer, IsPast}
 
 -- one more set is left out
@@ -44,20 +44,20 @@ module _ {why : ℕ → Type 0} {judged fewer : List ℕ} (are : AreFewer why ju
   }
 
   -- an edge that fails among fewer ones fails
-  pub fewer_fails : (n : ℕ) (F : List Function) (values : List ℕ) (S x : ℕ) → Fails n F values fewer S x → Fails n F values judged S x
+  pub fewer_fails : (n : ℕ) (F : List Function) (values : List ℕ) (S x : ℕ) → EdgeFails n F values fewer S x → EdgeFails n F values judged S x
   fewer_fails n F values S x f = record { small = f.small; new = f.new; is_judged = judged_too (S + 2 ^ x) x f.is_judged; fails = f.fails }
 
 module _ (n : ℕ) (F : List Function) (values : List ℕ) {last : ℕ} {judged early : List ℕ} (are : AreFewer (IsPast last) judged early) where
   -- an edge from a set up to the last one fails among those too
-  early_fails : (S x : ℕ) → S ≤ last → Fails n F values judged S x → Fails n F values early S x
+  early_fails : (S x : ℕ) → S ≤ last → EdgeFails n F values judged S x → EdgeFails n F values early S x
   early_fails S x le f = elim (are.each (S + 2 ^ x)) [
     | inl same ↦ record { small = f.small; new = f.new; is_judged = ap (λ m. bit_at m x) same ∙ f.is_judged; fails = f.fails }
     | inr out ↦ absurd (let l = out.1 S x refl in omega arith)
   ]
 
   -- if an edge fails, the first one that fails is the first among those from sets up to that one's
-  pub first_early : (x : ℕ) (edge : Option (ℕ × ℕ)) → Fails n F values judged last x → IsFirstEdge (Fails n F values early) edge →
-      IsFirstEdge (Fails n F values judged) edge
+  pub first_early : (x : ℕ) (edge : Option (ℕ × ℕ)) → EdgeFails n F values judged last x → IsFirstEdge (EdgeFails n F values early) edge →
+      IsFirstEdge (EdgeFails n F values judged) edge
   first_early x None f first = absurd (first last x (early_fails last x (omega arith) f))
   first_early x (Some b) f first = (
     fewer_fails are n F values b.0 b.1 first.0,
@@ -69,7 +69,7 @@ module _ (n : ℕ) (F : List Function) (values : List ℕ) {last : ℕ} {judged 
 
 -- the first edge that fails is found by a second walk, from what a walk over fewer edges found
 pub first_again : (n : ℕ) (F : List Function) (values : List ℕ) {why : ℕ → Type 0} {judged fewer early : List ℕ} (found : ℕ × ℕ) (edge : Option (ℕ × ℕ)) →
-    AreFewer why judged fewer → IsFirstEdge (Fails n F values fewer) (Some found) → AreFewer (IsPast found.0) judged early →
-    IsFirstEdge (Fails n F values early) edge → IsFirstEdge (Fails n F values judged) edge
+    AreFewer why judged fewer → IsFirstEdge (EdgeFails n F values fewer) (Some found) → AreFewer (IsPast found.0) judged early →
+    IsFirstEdge (EdgeFails n F values early) edge → IsFirstEdge (EdgeFails n F values judged) edge
 first_again n F values found edge less first are =
     first_early n F values are found.1 edge (fewer_fails less n F values found.0 found.1 first.0)

@@ -5,13 +5,13 @@
 use Rattle.std.proofs.Common.{◌≡◌, ℕ, suc, ◌+◌, ◌-◌, ◌*◌, ◌/◌, ◌<◌, ◌≤◌, List, ◌++◌, length, take, drop, sym, ap, ◌∙◌, subst, arith}
 use Rattle.std.proofs.lemmas.Nat.{div-mul-add}
 use Rattle.std.proofs.lemmas.List.{append_assoc, append-nil, length-append, length-take, length-drop, take-append-drop, drop_all, drop-drop}
-use Rattle.cert_check.specs.Rows.{AreRows, IsShort}
+use Rattle.cert_check.specs.Rows.{AreWholeRows, IsShortened}
 use Rattle.cert_check.proofs.Rows.{rows_append, rows_minus}
 
 pub record IsKept (w : ℕ) (numbers kept : List ℕ) (number : ℕ) : Type 0 where
   pub steps : ℕ
-  pub short : IsShort w steps numbers (kept ++ drop (number * w) numbers)
-  pub rows : AreRows w kept
+  pub short : IsShortened w steps numbers (kept ++ drop (number * w) numbers)
+  pub rows : AreWholeRows w kept
   pub few : length kept ≤ number * w
 
 module _ (w : ℕ) (numbers : List ℕ) where
@@ -25,7 +25,7 @@ module _ (w : ℕ) (numbers : List ℕ) where
         let m : (number + 1) * w ≡ number * w + w = grind arith in
         omega arith
 
-    row_rows : AreRows w row
+    row_rows : AreWholeRows w row
     row_rows = (1, (let l = long in omega arith))
 
     parts : drop (number * w) numbers ≡ row ++ drop ((number + 1) * w) numbers
@@ -37,7 +37,7 @@ module _ (w : ℕ) (numbers : List ℕ) where
     pub kept_row : IsKept w numbers (kept ++ row) (number + 1)
     kept_row = record {
       steps = h.steps;
-      short = subst (IsShort w h.steps numbers) (ap (λ us. kept ++ us) parts ∙ sym (append_assoc kept row (drop ((number + 1) * w) numbers))) h.short;
+      short = subst (IsShortened w h.steps numbers) (ap (λ us. kept ++ us) parts ∙ sym (append_assoc kept row (drop ((number + 1) * w) numbers))) h.short;
       rows = rows_append w kept row h.rows row_rows;
       few = (let l = length-append kept row in let r = long in let f = h.few in let m : (number + 1) * w ≡ number * w + w = grind arith in omega arith);
     }
@@ -65,7 +65,7 @@ module _ (w : ℕ) (numbers : List ℕ) where
       few = (let f = h.few in let m : (number + 1) * w ≡ number * w + w = grind arith in omega arith);
     }
       where
-        left : AreRows w between
+        left : AreWholeRows w between
         left =
             let p = h.rows.1 in
             let q = ap length e ∙ length-append front (row ++ between) in
@@ -75,9 +75,9 @@ module _ (w : ℕ) (numbers : List ℕ) where
             let m : (count + 1) * w ≡ count * w + w = grind arith in
             rows_minus h.rows.0 (count + 1) (length between) w (omega arith)
 
-  pub kept_all : (kept : List ℕ) (number : ℕ) → length numbers ≤ number * w → IsKept w numbers kept number → (steps : ℕ) × IsShort w steps numbers kept
+  pub kept_all : (kept : List ℕ) (number : ℕ) → length numbers ≤ number * w → IsKept w numbers kept number → (steps : ℕ) × IsShortened w steps numbers kept
   kept_all kept number all h =
-      (h.steps, subst (IsShort w h.steps numbers) (ap (λ us. kept ++ us) (drop_all (number * w) numbers all) ∙ append-nil kept) h.short)
+      (h.steps, subst (IsShortened w h.steps numbers) (ap (λ us. kept ++ us) (drop_all (number * w) numbers all) ∙ append-nil kept) h.short)
 
 -- as the code has them
 pub rows_are : (w rows len : ℕ) → 0 < w → len ≡ rows * w → len / w ≡ rows

@@ -11,7 +11,7 @@ use Rattle.order_model.specs.Widths.{width}
 use Rattle.order_model.proofs.Lists.Orders.{has_variables}
 use Rattle.order_model.proofs.Bits.Masks.{has_members, members_without}
 use Rattle.order_model.proofs.Widths.Recurrence.{has_without, absent_without}
-use Rattle.cert_check.specs.Edges.{Fails, AreEdgeTables}
+use Rattle.cert_check.specs.Edges.{EdgeFails, AreEdgeTables}
 use Rattle.symmetries.specs.Exchanges.{IsExchange}
 use Rattle.symmetries.proofs.Partners.{same_partner}
 use Rattle.cert_check.specs.Images.{IsImage, AreImages}
@@ -90,7 +90,7 @@ leads_on n F values judged partners images exchange are tables kept wide T less 
     let narrow = wide (members n S) (members n (T' - 2 ^ x')) x f.small same in
     let rises = f.fails in
     let bits = (are.each (slice_index judged T) (kept.inside T less)).bits x' small in
-    let edge : Fails n F values judged (T' - 2 ^ x') x' = record {
+    let edge : EdgeFails n F values judged (T' - 2 ^ x') x' = record {
       small = small;
       new = members_without n T' x' there' x' ∙ absent_without x' (members n T');
       is_judged =
@@ -102,12 +102,12 @@ leads_on n F values judged partners images exchange are tables kept wide T less 
 
 module _ (n : ℕ) (F : List Function) (values judged fewer : List ℕ) where
   -- if no edge fails among those that are left, none fails at all
-  pub none_lost : AreEdgeTables n values judged → AreFewer (LeadsOn n F values judged) judged fewer → ((S x : ℕ) → Fails n F values fewer S x → ⊥) →
-      (S x : ℕ) → Fails n F values judged S x → ⊥
+  pub none_lost : AreEdgeTables n values judged → AreFewer (LeadsOn n F values judged) judged fewer → ((S x : ℕ) → EdgeFails n F values fewer S x → ⊥) →
+      (S x : ℕ) → EdgeFails n F values judged S x → ⊥
   none_lost tables are none S x f = below (2 ^ n) S x (omega arith) f
     where
       -- an edge that fails and is left out leads to one into a greater set
-      below : (k S x : ℕ) → 2 ^ n ≤ S + 2 ^ x + k → Fails n F values judged S x → ⊥
+      below : (k S x : ℕ) → 2 ^ n ≤ S + 2 ^ x + k → EdgeFails n F values judged S x → ⊥
       below zero S x le f = let w = judged_within n F values judged tables.judged_all S x f in omega arith
       below (suc k) S x le f = elim (are.each (S + 2 ^ x)) [
         | inl same ↦ none S x (record { small = f.small; new = f.new; is_judged = ap (λ m. bit_at m x) same ∙ f.is_judged; fails = f.fails })

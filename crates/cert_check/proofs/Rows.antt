@@ -19,11 +19,11 @@ use Rattle.class_laws.specs.Places.{low_place, pair_at, pairs}
 use Rattle.class_laws.proofs.Index.{length-pairs, pair_within}
 use Rattle.class_laws.proofs.Lists.{map_ranges}
 use Rattle.class_laws.proofs.Ranks.{among_or_not, rank_found}
-use Rattle.cert_check.specs.Rows.{AreRows, IsShort, IsWithout}
+use Rattle.cert_check.specs.Rows.{AreWholeRows, IsShortened, IsWithout}
 
 -- ---- whole rows
 
-pub rows_append : {K : Type 0} (w : ℕ) (xs ys : List K) → AreRows w xs → AreRows w ys → AreRows w (xs ++ ys)
+pub rows_append : {K : Type 0} (w : ℕ) (xs ys : List K) → AreWholeRows w xs → AreWholeRows w ys → AreWholeRows w (xs ++ ys)
 rows_append w xs ys a b =
     let l = length-append xs ys in
     let p = a.1 in
@@ -31,7 +31,7 @@ rows_append w xs ys a b =
     let d : (a.0 + b.0) * w ≡ a.0 * w + b.0 * w = grind arith in
     (a.0 + b.0, omega arith)
 
-rows_finer : {K : Type 0} (m w : ℕ) (xs : List K) → AreRows (m * w) xs → AreRows w xs
+rows_finer : {K : Type 0} (m w : ℕ) (xs : List K) → AreWholeRows (m * w) xs → AreWholeRows w xs
 rows_finer m w xs a = let p = a.1 in let d : a.0 * (m * w) ≡ a.0 * m * w = grind arith in (a.0 * m, omega arith)
 
 -- what is left of whole rows without some of them
@@ -45,7 +45,7 @@ rows_minus (suc a) (suc b) c w e =
     let f : suc b * w ≡ b * w + w = grind arith in
     rows_minus a b c w (omega arith)
 
-rows_without : {K : Type 0} (w : ℕ) (long short : List K) → AreRows w long → IsWithout w long short → AreRows w short
+rows_without : {K : Type 0} (w : ℕ) (long short : List K) → AreWholeRows w long → IsWithout w long short → AreWholeRows w short
 rows_without w long short a h =
     let head = h.front ++ (h.part ++ h.between) in
     let l = ap length h.long_is ∙ length-append head (h.part ++ h.rest) in
@@ -55,11 +55,11 @@ rows_without w long short a h =
     let q = h.part_rows.1 in
     rows_minus a.0 h.part_rows.0 (length short) w (omega arith)
 
-pub rows_left : {K : Type 0} (w steps : ℕ) (long short : List K) → AreRows w long → IsShort w steps long short → AreRows w short
-rows_left w zero long short a h = subst (AreRows w) h a
+pub rows_left : {K : Type 0} (w steps : ℕ) (long short : List K) → AreWholeRows w long → IsShortened w steps long short → AreWholeRows w short
+rows_left w zero long short a h = subst (AreWholeRows w) h a
 rows_left w (suc steps) long short a h = rows_without w h.0 short (rows_left w steps long h.0 a h.1) h.2
 
-pub short_fewer : {K : Type 0} (w steps : ℕ) (long short : List K) → IsShort w steps long short → length short ≤ length long
+pub short_fewer : {K : Type 0} (w steps : ℕ) (long short : List K) → IsShortened w steps long short → length short ≤ length long
 short_fewer w zero long short h = let e = ap length h in omega arith
 short_fewer w (suc steps) long short h =
     let r = short_fewer w steps long h.0 h.1 in
@@ -70,8 +70,8 @@ short_fewer w (suc steps) long short h =
     omega arith
 
 -- one after the other
-pub short_then : {K : Type 0} (w s steps : ℕ) (long mid short : List K) → IsShort w s long mid → IsShort w steps mid short → (n : ℕ) × IsShort w n long short
-short_then w s zero long mid short h k = (s, subst (IsShort w s long) k h)
+pub short_then : {K : Type 0} (w s steps : ℕ) (long mid short : List K) → IsShortened w s long mid → IsShortened w steps mid short → (n : ℕ) × IsShortened w n long short
+short_then w s zero long mid short h k = (s, subst (IsShortened w s long) k h)
 short_then w s (suc steps) long mid short h k = let r = short_then w s steps long mid k.0 h k.1 in (suc r.0, (k.0, r.1, k.2))
 
 -- ---- shorter rows, and one more part
@@ -89,19 +89,19 @@ finer m w long short h = record {
   between_rows = rows_finer m w h.between h.between_rows;
 }
 
-short_parts : {K : Type 0} (m w steps : ℕ) (long short : List K) → IsShort (m * w) steps long short → IsShort w steps long short
+short_parts : {K : Type 0} (m w steps : ℕ) (long short : List K) → IsShortened (m * w) steps long short → IsShortened w steps long short
 short_parts m w zero long short h = h
 short_parts m w (suc steps) long short h = (h.0, short_parts m w steps long h.0 h.1, finer m w h.0 short h.2)
 
-pub short_finer : {K : Type 0} (l y steps : ℕ) (long short : List K) → y ≤ l → IsShort (2 ^ l) steps long short → IsShort (2 ^ y) steps long short
+pub short_finer : {K : Type 0} (l y steps : ℕ) (long short : List K) → y ≤ l → IsShortened (2 ^ l) steps long short → IsShortened (2 ^ y) steps long short
 short_finer l y steps long short le h =
     short_parts (2 ^ (l - y)) (2 ^ y) steps long short
-    (subst (λ w. IsShort w steps long short) (ap (λ k. 2 ^ k) (let s : l ≡ (l - y) + y = omega arith in s) ∙ pow-add 2 (l - y) y) h)
+    (subst (λ w. IsShortened w steps long short) (ap (λ k. 2 ^ k) (let s : l ≡ (l - y) + y = omega arith in s) ∙ pow-add 2 (l - y) y) h)
 
 -- ---- what is made of each entry
 
 module _ {K L : Type 0} (f : K → L) where
-  rows_map : (w : ℕ) (xs : List K) → AreRows w xs → AreRows w (map f xs)
+  rows_map : (w : ℕ) (xs : List K) → AreWholeRows w xs → AreWholeRows w (map f xs)
   rows_map w xs a = (a.0, length-map xs f ∙ a.1)
 
   head_map : (a b c : List K) → map f (a ++ (b ++ c)) ≡ map f a ++ (map f b ++ map f c)
@@ -122,14 +122,14 @@ module _ {K L : Type 0} (f : K → L) where
     between_rows = rows_map w h.between h.between_rows;
   }
 
-  pub short_map : (w steps : ℕ) (long short : List K) → IsShort w steps long short → IsShort w steps (map f long) (map f short)
+  pub short_map : (w steps : ℕ) (long short : List K) → IsShortened w steps long short → IsShortened w steps (map f long) (map f short)
   short_map w zero long short h = ap (map f) h
   short_map w (suc steps) long short h = (map f h.0, short_map w steps long h.0 h.1, without_map w h.0 short h.2)
 
 -- ---- pairs
 
 module _ (step : ℕ) (some : 0 < step) where
-  pairs_append : (xs ys : List ℕ) → AreRows (2 * step) xs → pairs (xs ++ ys) step ≡ pairs xs step ++ pairs ys step
+  pairs_append : (xs ys : List ℕ) → AreWholeRows (2 * step) xs → pairs (xs ++ ys) step ≡ pairs xs step ++ pairs ys step
   unfolding pairs
   pairs_append xs ys a =
       let l = length-append xs ys in
@@ -169,14 +169,14 @@ module _ (step : ℕ) (some : 0 < step) where
           (ap (λ k. get_or (xs ++ ys) k 0) low ∙ get_or-append-add xs ys (low_place step (0 + i)) 0)
           (ap (λ k. get_or (xs ++ ys) k 0) high ∙ get_or-append-add xs ys (low_place step (0 + i) + step) 0)
 
-  pub rows_pairs : (xs : List ℕ) → AreRows (2 * step) xs → AreRows step (pairs xs step)
+  pub rows_pairs : (xs : List ℕ) → AreWholeRows (2 * step) xs → AreWholeRows step (pairs xs step)
   rows_pairs xs a =
       let p = a.1 in
       let l = length-pairs xs step in
       let d : a.0 * (2 * step) ≡ 2 * (a.0 * step) = grind arith in
       (a.0, omega arith)
 
-  head_pairs : (a b c : List ℕ) → AreRows (2 * step) a → AreRows (2 * step) b → pairs (a ++ (b ++ c)) step ≡ pairs a step ++ (pairs b step ++ pairs c step)
+  head_pairs : (a b c : List ℕ) → AreWholeRows (2 * step) a → AreWholeRows (2 * step) b → pairs (a ++ (b ++ c)) step ≡ pairs a step ++ (pairs b step ++ pairs c step)
   head_pairs a b c p q = pairs_append a (b ++ c) p ∙ ap (λ us. pairs a step ++ us) (pairs_append b c q)
 
   without_pairs : (long short : List ℕ) → IsWithout (2 * step) long short → IsWithout step (pairs long step) (pairs short step)
@@ -196,7 +196,7 @@ module _ (step : ℕ) (some : 0 < step) where
         between_rows = rows_pairs h.between h.between_rows;
       }
 
-  pub short_pairs : (steps : ℕ) (long short : List ℕ) → IsShort (2 * step) steps long short → IsShort step steps (pairs long step) (pairs short step)
+  pub short_pairs : (steps : ℕ) (long short : List ℕ) → IsShortened (2 * step) steps long short → IsShortened step steps (pairs long step) (pairs short step)
   short_pairs zero long short h = ap (λ us. pairs us step) h
   short_pairs (suc steps) long short h = (pairs h.0 step, short_pairs steps long h.0 h.1, without_pairs h.0 short h.2)
 
@@ -270,18 +270,18 @@ module _ {K : Type 0} (eq : K → K → Bool) (decides : (x y : K) → (eq x y �
     unfolding head
     among_without u a = subst (Among u) (sym h.long_is) (part_without head h.part h.rest u (subst (Among u) h.short_is a))
 
-  pub short_rank : (w steps : ℕ) (long short : List K) → IsShort w steps long short → (t : K) → rank eq long t ≡ rank eq short t
+  pub short_rank : (w steps : ℕ) (long short : List K) → IsShortened w steps long short → (t : K) → rank eq long t ≡ rank eq short t
   short_rank w zero long short h t = ap (λ us. rank eq us t) h
   short_rank w (suc steps) long short h t = short_rank w steps long h.0 h.1 t ∙ without_rank w h.0 short h.2 t
 
-  pub short_count : (w steps : ℕ) (long short : List K) → IsShort w steps long short → distinct_count eq long ≡ distinct_count eq short
+  pub short_count : (w steps : ℕ) (long short : List K) → IsShortened w steps long short → distinct_count eq long ≡ distinct_count eq short
   short_count w zero long short h = ap (distinct_count eq) h
   short_count w (suc steps) long short h = short_count w steps long h.0 h.1 ∙ without_count w h.0 short h.2
 
-  pub short_among : (w steps : ℕ) (long short : List K) → IsShort w steps long short → Within long short
+  pub short_among : (w steps : ℕ) (long short : List K) → IsShortened w steps long short → Within long short
   short_among w zero long short h u a = subst (Among u) h a
   short_among w (suc steps) long short h u a = without_among w h.0 short h.2 u (short_among w steps long h.0 h.1 u a)
 
-  pub among_short : (w steps : ℕ) (long short : List K) → IsShort w steps long short → Within short long
+  pub among_short : (w steps : ℕ) (long short : List K) → IsShortened w steps long short → Within short long
   among_short w zero long short h u a = subst (Among u) (sym h) a
   among_short w (suc steps) long short h u a = among_short w steps long h.0 h.1 u (among_without w h.0 short h.2 u a)

@@ -17,7 +17,7 @@ use Rattle.class_laws.specs.Table.{free_below, set_of}
 use Rattle.class_laws.proofs.Counted.{same_at}
 use Rattle.class_laws.proofs.Extended.{IsReady, is_ready, holds_more}
 use Rattle.class_laws.proofs.Lists.{place_of}
-use Rattle.cert_check.specs.Rows.{AreRows, IsShort}
+use Rattle.cert_check.specs.Rows.{AreWholeRows, IsShortened}
 use Rattle.cert_check.specs.Tables.{HoldsRows, TableOf, classes_at, rows_with}
 use Rattle.cert_check.proofs.HighSets.{free_all, high_new, step_down}
 use Rattle.cert_check.proofs.Rows.{among_short, rows_left, short_among, short_count, short_fewer, short_finer, short_map, short_pairs, short_rank}
@@ -39,12 +39,12 @@ module _ (t : TableOf) (x : ℕ) (inside : x < t.problem.inputs) (below : x < t.
   whole_ready : IsReady h.whole masks x
   whole_ready = is_ready (classes_at t) x inside new h.whole masks x h.holds (sym rank_is)
 
-  short : IsShort (2 * 2 ^ x) h.steps h.whole numbers
+  short : IsShortened (2 * 2 ^ x) h.steps h.whole numbers
   short =
-      subst (λ w. IsShort w h.steps h.whole numbers) (ap (λ k. 2 ^ k) (let s : x + 1 ≡ 1 + x = omega arith in s) ∙ pow-add 2 1 x)
+      subst (λ w. IsShortened w h.steps h.whole numbers) (ap (λ k. 2 ^ k) (let s : x + 1 ≡ 1 + x = omega arith in s) ∙ pow-add 2 1 x)
       (short_finer t.level (x + 1) h.steps h.whole numbers (omega arith) h.short)
 
-  pub rows : AreRows (2 * 2 ^ x) numbers
+  pub rows : AreWholeRows (2 * 2 ^ x) numbers
   rows = rows_left (2 * 2 ^ x) h.steps h.whole numbers whole_ready.whole short
 
   pub ready : IsReady numbers masks x
@@ -80,7 +80,7 @@ module _ (t : TableOf) (x : ℕ) (inside : x < t.problem.inputs) (below : x < t.
   abbrev few : List (ℕ × ℕ)
   few = pairs numbers (2 ^ x)
 
-  short_all : IsShort (2 ^ x) h.steps all few
+  short_all : IsShortened (2 ^ x) h.steps all few
   short_all = short_pairs (2 ^ x) (pow_pos x) h.steps h.whole numbers short
 
   same_rank : (p : ℕ × ℕ) → rank same_pair all p ≡ rank same_pair few p
@@ -98,8 +98,8 @@ module _ (t : TableOf) (x : ℕ) (inside : x < t.problem.inputs) (below : x < t.
         (map-map (λ c. get_or joined c 0) (rank same_pair all) all
         ∙ map_same (λ p. get_or joined (rank same_pair all p) 0) (joined_mask masks x) all each
         ∙ ap (λ k. map (joined_mask masks x) (pairs h.whole (2 ^ k))) (sym rank_is));
-    short = subst (λ us. IsShort (2 ^ x) h.steps us numbered) (map_same (rank same_pair few) (rank same_pair all) all (λ p a. sym (same_rank p)))
-        (subst (IsShort (2 ^ x) h.steps (map (rank same_pair few) all)) (sym made.numbers_are)
+    short = subst (λ us. IsShortened (2 ^ x) h.steps us numbered) (map_same (rank same_pair few) (rank same_pair all) all (λ p a. sym (same_rank p)))
+        (subst (IsShortened (2 ^ x) h.steps (map (rank same_pair few) all)) (sym made.numbers_are)
         (short_map (rank same_pair few) (2 ^ x) h.steps all few short_all));
   }
     where

@@ -6,13 +6,13 @@ use Rattle.order_model.specs.Functions.{Function}
 use Rattle.order_model.specs.Certificates as certs
 use Rattle.cert_check.specs.declared.verdict.Reason.{Reason}
 use Rattle.cert_check.specs.declared.checking.EdgesLeft.{EdgesLeft}
-use Rattle.cert_check.specs.Edges.{AreEdgeTables, Fails, IsFirstEdge}
+use Rattle.cert_check.specs.Edges.{AreEdgeTables, EdgeFails, IsFirstEdge}
 use Rattle.cert_check.specs.Verdicts.{Judges, edge_verdict, reason_of}
 
 -- the first edge that fails decides the verdict
 pub record AreEdgesLeft (n : ℕ) (F : List Function) (cert : certs.Certificate) (values judged : List ℕ) : Type 0 where
   pub edges : AreEdgeTables n values judged
-  pub decides : (first : Option (ℕ × ℕ)) → IsFirstEdge (Fails n F values judged) first →
+  pub decides : (first : Option (ℕ × ℕ)) → IsFirstEdge (EdgeFails n F values judged) first →
       Judges n F cert (edge_verdict first)
 
 -- the first reason but for those of edges, or what is left

@@ -6,7 +6,7 @@
 --     AreFewer why judged fewer      the edges that are judged, but for those into sets that may be left out
 use Rattle.std.specs.Prelude.{◌≡◌, ℕ, ◌+◌, ◌^◌, ◌<◌, ◌⊎◌, List, length, slice_index}
 use Rattle.order_model.specs.Functions.{Function}
-use Rattle.cert_check.specs.Edges.{Fails}
+use Rattle.cert_check.specs.Edges.{EdgeFails}
 
 -- sets and their images have equal values, and the edges into them are judged by partners
 pub record AreKept (n : ℕ) (values judged images : List ℕ) : Type 0 where
@@ -16,8 +16,8 @@ pub record AreKept (n : ℕ) (values judged images : List ℕ) : Type 0 where
 
 -- if an edge into T fails, one into a greater set does
 abbrev pub LeadsOn : ℕ → List Function → List ℕ → List ℕ → ℕ → Type 0
-LeadsOn n F values judged T = (S x : ℕ) → Fails n F values judged S x → S + 2 ^ x ≡ T →
-    (a : ℕ × ℕ) × Fails n F values judged a.0 a.1 × (T < a.0 + 2 ^ a.1)
+LeadsOn n F values judged T = (S x : ℕ) → EdgeFails n F values judged S x → S + 2 ^ x ≡ T →
+    (a : ℕ × ℕ) × EdgeFails n F values judged a.0 a.1 × (T < a.0 + 2 ^ a.1)
 
 -- each edge into T leads from a set past `last`
 abbrev pub IsPast : ℕ → ℕ → Type 0

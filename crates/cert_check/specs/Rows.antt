@@ -1,12 +1,12 @@
 -- Lists in rows, of which some that have come before are left out.
---     AreRows w xs      whole rows of w
+--     AreWholeRows w xs      whole rows of w
 --     IsWithout w long short      `short` is `long` without a part, of whole rows, that has come before
---     IsShort w steps long short      so many parts are left out
+--     IsShortened w steps long short      so many parts are left out
 use Rattle.std.specs.Prelude.{◌≡◌, ℕ, zero, suc, ◌*◌, ◌++◌, List, length}
 
 -- whole rows
-abbrev pub AreRows : {K : Type 0} → ℕ → List K → Type 0
-AreRows w xs = (rows : ℕ) × (length xs ≡ rows * w)
+abbrev pub AreWholeRows : {K : Type 0} → ℕ → List K → Type 0
+AreWholeRows w xs = (rows : ℕ) × (length xs ≡ rows * w)
 
 -- one part is left out
 pub record IsWithout {K : Type 0} (w : ℕ) (long short : List K) : Type 0 where
@@ -16,11 +16,11 @@ pub record IsWithout {K : Type 0} (w : ℕ) (long short : List K) : Type 0 where
   pub rest : List K
   pub long_is : long ≡ (front ++ (part ++ between)) ++ (part ++ rest)
   pub short_is : short ≡ (front ++ (part ++ between)) ++ rest
-  pub front_rows : AreRows w front
-  pub part_rows : AreRows w part
-  pub between_rows : AreRows w between
+  pub front_rows : AreWholeRows w front
+  pub part_rows : AreWholeRows w part
+  pub between_rows : AreWholeRows w between
 
 -- so many are
-abbrev pub IsShort : {K : Type 0} → ℕ → ℕ → List K → List K → Type 0
-IsShort w zero long short = long ≡ short
-IsShort {K} w (suc steps) long short = (mid : List K) × IsShort w steps long mid × IsWithout w mid short
+abbrev pub IsShortened : {K : Type 0} → ℕ → ℕ → List K → List K → Type 0
+IsShortened w zero long short = long ≡ short
+IsShortened {K} w (suc steps) long short = (mid : List K) × IsShortened w steps long mid × IsWithout w mid short

@@ -8,7 +8,7 @@ use Rattle.std.specs.Prelude.{ℕ, ◌^◌, List, replicate, bit_or, Option, Som
 use Rattle.std.specs.List.{range_with_len}
 use Rattle.order_model.specs.Problems.{TruthTables}
 use Rattle.class_laws.specs.Table.{ClassesOf, HoldsClasses, classes_of}
-use Rattle.cert_check.specs.Rows.{IsShort}
+use Rattle.cert_check.specs.Rows.{IsShortened}
 
 -- a problem, a set of its variables as a mask, and a bound below which no variable is in the set
 pub record TableOf : Type 0 where
@@ -35,7 +35,7 @@ pub record HoldsRows (t : TableOf) (numbers masks : List ℕ) : Type 0 where
   pub whole : List ℕ
   pub steps : ℕ
   pub holds : HoldsClasses (classes_at t) whole masks
-  pub short : IsShort (2 ^ t.level) steps whole numbers
+  pub short : IsShortened (2 ^ t.level) steps whole numbers
 
 -- each entry is a class of its own, and each mask is the set's
 abbrev pub IsFull : TableOf → ℕ → Type 0

@@ -9,13 +9,13 @@ use Rattle.order_model.specs.Problems.{functions}
 use Rattle.cert_check.specs.declared.position.Edges.{Edges}
 use Rattle.cert_check.specs.declared.position.Position.{Position}
 use Rattle.cert_check.specs.Blocks.{StandsAt}
-use Rattle.cert_check.specs.Edges.{Fails, FailsWithin}
+use Rattle.cert_check.specs.Edges.{EdgeFails, FailsWithin}
 use Rattle.cert_check.specs.FewerEdges.{AreFewer, AreGuides, LeadsOn}
 use Rattle.cert_check.specs.Tables.{TableOf}
 
 -- an edge of e fails
 abbrev pub FailsAmong : Edges → ℕ → ℕ → Type 0
-FailsAmong e = Fails e.problem.now.inputs (functions e.problem.now) e.values.now e.judged.now
+FailsAmong e = EdgeFails e.problem.now.inputs (functions e.problem.now) e.values.now e.judged.now
 
 -- one into the 2 ^ y sets from `set` on does
 abbrev pub FailsInBlock : Edges → ℕ → ℕ → ℕ → ℕ → Type 0

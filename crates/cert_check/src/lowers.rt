@@ -6,10 +6,9 @@ ghost use Rattle.class_laws.specs.PairTables.{IsPairTable};
 ghost use Rattle.class_laws.specs.Places as places;
 ghost use Rattle.cert_check.specs.LowerClasses.{AreTold, pairs_with};
 
-use crate::class_table::count_with;
 use crate::numbering::pair_at;
 use order_model::VarIx;
-use point_classes::join_mask;
+use point_classes::{count_with, join_mask};
 use std::alloc::{AllocError, Global};
 
 /// For each class the masks of the pairs whose lower class it is, joined.

@@ -1,7 +1,7 @@
 //! Rows of entries, of which those that have come before are left out.
 
 ghost use Rattle.std.specs.Prelude.{◌≡◌, ℕ, ◌*◌, ◌^◌, ◌<◌, ◌≤◌, ◌++◌, List, length, IfOk, IfSome, IsTrue};
-ghost use Rattle.cert_check.specs.Rows.{AreRows, IsShort};
+ghost use Rattle.cert_check.specs.Rows.{AreWholeRows, IsShortened};
 
 use order_model::VarIx;
 use std::alloc::{AllocError, Global};
@@ -47,7 +47,7 @@ fn is_kept(kept: &[u32], place: usize, row: &[u32]) -> bool
 fn has_repeat(alloc: Global, numbers: &[u32], y: VarIx) -> Result<bool, AllocError>
     requires variable { y ≤ 16 }
     requires few { length numbers.now ≤ 2 ^ 20 }
-    requires rows { AreRows (2 ^ y) numbers.now }
+    requires rows { AreWholeRows (2 ^ y) numbers.now }
 {
     let width = 1usize << y;
     let rows = numbers.len() / width / 2;
@@ -72,9 +72,9 @@ pub(crate) fn without_repeats(
 ) -> Result<Option<Vec<u32>>, AllocError>
     requires variable { y ≤ 16 }
     requires few { length numbers.now ≤ 2 ^ 20 }
-    requires rows { AreRows (2 ^ y) numbers.now }
+    requires rows { AreWholeRows (2 ^ y) numbers.now }
     ensures { IfOk result
-        (λ o. IfSome o (λ v. (steps : ℕ) × IsShort (2 ^ y) steps numbers.now v.items)) }
+        (λ o. IfSome o (λ v. (steps : ℕ) × IsShortened (2 ^ y) steps numbers.now v.items)) }
 {
     let repeats = has_repeat(alloc, numbers, y)?;
     if !repeats {

@@ -10,7 +10,7 @@ use Rattle.certificate.specs.Spelling.{most_pairs}
 use Rattle.certificate.specs.Faults.{Judge, said, number_said, inputs_said, is_pair, is_cell, pair_key_of, cell_key_of, section_judges, pairs_judges, cells_judges, fixed_fault}
 use Rattle.certificate.specs.Decoded.{read_pair, read_cell, section_said, cells_place, cert_of}
 use Rattle.certificate.specs.Values.{format_of}
-use Rattle.certificate.specs.Parsing.{Fails, TakesSection, outcome}
+use Rattle.certificate.specs.Parsing.{FailsFirst, TakesSection, outcome}
 use Rattle.certificate.specs.Heads.{TakesSets, TakesBody, body_judges}
 
 abbrev last : List Judge
@@ -42,18 +42,18 @@ pub sets_fail : (n number : ℕ) (text : List ℕ) (after : ℕ) (rest : List �
     TakesSets n number text result
 sets_fail n number text after rest fault (Ok v) is takes = elim is [ ]
 sets_fail n number text after rest fault (Err e) is takes =
-    rw is (λ pre place known. subst (λ js. Fails (outcome number (js ++ last) text) fault) (cells_asked n number text pre known place) (takes pre last))
+    rw is (λ pre place known. subst (λ js. FailsFirst (outcome number (js ++ last) text) fault) (cells_asked n number text pre known place) (takes pre last))
 
 pub end_fails : (n number : ℕ) (text : List ℕ) (cells : Vec ListedCell Global) (after : ℕ) (rest : List ℕ) (fault : CertFault)
     (result : Result (Vec ListedCell Global) CertFault) →
     IsErrAnd result (λ e. e ≡ fault) →
     TakesSection (codes "cells") (2 ^ n - 1) (is_cell n) cell_key_of read_cell (λ (v : Vec ListedCell Global). map listed v.items) number
     text after rest (Ok cells) →
-    Fails (outcome after last rest) fault → TakesSets n number text result
+    FailsFirst (outcome after last rest) fault → TakesSets n number text result
 end_fails n number text cells after rest fault (Ok v) is takes fails = elim is [ ]
 end_fails n number text cells after rest fault (Err e) is takes fails =
-    rw is (λ pre place known. subst (λ js. Fails (outcome number (js ++ last) text) fault) (cells_asked n number text pre known place)
-    (subst (λ faults. Fails faults fault) (sym ((takes pre).0 last)) fails))
+    rw is (λ pre place known. subst (λ js. FailsFirst (outcome number (js ++ last) text) fault) (cells_asked n number text pre known place)
+    (subst (λ faults. FailsFirst faults fault) (sym ((takes pre).0 last)) fails))
 
 pub sets_told : (n number : ℕ) (text : List ℕ) (cells : Vec ListedCell Global) (after : ℕ) (rest : List ℕ) →
     TakesSection (codes "cells") (2 ^ n - 1) (is_cell n) cell_key_of read_cell (λ (v : Vec ListedCell Global). map listed v.items) number
@@ -81,7 +81,7 @@ pub first_fails : (format n number : ℕ) (text : List ℕ) (fault : CertFault)
 first_fails format n number text fault (Ok v) is one takes = elim is [ ]
 first_fails format n number text fault (Err e) is one takes =
     rw is (λ pre six says known. subst
-    (λ js. Fails (outcome number (js ++ (cells_judges (pre ++ said text) (cells_place (pre ++ said text)) ++ last)) text) fault)
+    (λ js. FailsFirst (outcome number (js ++ (cells_judges (pre ++ said text) (cells_place (pre ++ said text)) ++ last)) text) fault)
     (sym (no_pairs format n number text pre six says known one))
     (takes pre (place_first format n number text pre six says known one) known))
 
@@ -95,7 +95,7 @@ pub pairs_fail : (format n number : ℕ) (text : List ℕ) (after : ℕ) (rest :
 pairs_fail format n number text after rest fault (Ok v) is two takes = elim is [ ]
 pairs_fail format n number text after rest fault (Err e) is two takes =
     rw is (λ pre six says known. subst
-    (λ js. Fails (outcome number (js ++ (cells_judges (pre ++ said text) (cells_place (pre ++ said text)) ++ last)) text) fault)
+    (λ js. FailsFirst (outcome number (js ++ (cells_judges (pre ++ said text) (cells_place (pre ++ said text)) ++ last)) text) fault)
     (pairs_asked n number text pre known six (says ∙ two))
     (takes pre (cells_judges (pre ++ said text) (cells_place (pre ++ said text)) ++ last)))
 
@@ -127,10 +127,10 @@ module _ (format n number : ℕ) (text : List ℕ) (after : ℕ) (rest : List �
       (sym (pairs_asked n number text pre known six (says ∙ two)))
       ∙ (takes pre).0 (cells_judges (pre ++ said text) (cells_place (pre ++ said text)) ++ last)
 
-  second_fails_here : (fault : CertFault) → TakesSets n after rest (Err fault) → Fails (outcome number (body_judges (pre ++ said text)) text) fault
+  second_fails_here : (fault : CertFault) → TakesSets n after rest (Err fault) → FailsFirst (outcome number (body_judges (pre ++ said text)) text) fault
   second_fails_here fault sets =
-      subst (λ faults. Fails faults fault) (sym asked)
-      (subst (λ ws. Fails (outcome after (cells_judges ws (cells_place ws) ++ last) rest) fault) whole (sets front place_here known_here))
+      subst (λ faults. FailsFirst faults fault) (sym asked)
+      (subst (λ ws. FailsFirst (outcome after (cells_judges ws (cells_place ws) ++ last) rest) fault) whole (sets front place_here known_here))
 
   second_told_here : (cells : Vec ListedCell Global) → TakesSets n after rest (Ok cells) →
       (outcome number (body_judges (pre ++ said text)) text ≡ []) × (format_of (Some pairs) ≡ format)

@@ -6,7 +6,7 @@ use Rattle.std.proofs.lemmas.List.Elements.{All-from_recursion}
 use Rattle.certificate.specs.declared.faults.CertFault.{CertFault}
 use Rattle.certificate.specs.Faults.{Judge, said, inputs_said, field_fault, head_judges}
 use Rattle.certificate.specs.Decoded.{numbers_of}
-use Rattle.certificate.specs.Parsing.{Fails, Asks, outcome}
+use Rattle.certificate.specs.Parsing.{FailsFirst, Asks, outcome}
 use Rattle.certificate.specs.Heads.{TakesHead}
 use Rattle.certificate.specs.declared.parsing.Head.{Head}
 use Rattle.certificate.specs.declared.faults.CertFault.TheVariants as found
@@ -38,18 +38,18 @@ taken_more number₀ text js lines number rest judge after rest' taken (ws, part
 -- what is asked of the first six lines, so far as the lines taken say it
 pub head_fails : (number₀ : ℕ) (text : List ℕ) (js : List Judge) (lines : List (List (List ℕ))) (number : ℕ) (rest : List ℕ) (judge : Judge)
     (others : List Judge) (fault : CertFault) →
-    Taken number₀ text js lines number rest → ((ks : List Judge) → Fails (outcome number (judge ∷ ks) rest) fault) → (ks : List Judge) →
-    Fails (outcome number₀ (js ++ (judge ∷ (others ++ ks))) text) fault
+    Taken number₀ text js lines number rest → ((ks : List Judge) → FailsFirst (outcome number (judge ∷ ks) rest) fault) → (ks : List Judge) →
+    FailsFirst (outcome number₀ (js ++ (judge ∷ (others ++ ks))) text) fault
 head_fails number₀ text js lines number rest judge others fault taken asks ks =
-    subst (λ faults. Fails faults fault) (sym (taken.left (judge ∷ (others ++ ks)))) (asks (others ++ ks))
+    subst (λ faults. FailsFirst faults fault) (sym (taken.left (judge ∷ (others ++ ks)))) (asks (others ++ ks))
 
 -- a refusal of the first six lines, where their number of inputs is known or not asked for
 pub told_fails : (number₀ : ℕ) (text : List ℕ) (after : ℕ) (rest : List ℕ) (n : ℕ) (fault : CertFault) (result : Result Head CertFault) →
     IsErrAnd result (λ e. e ≡ fault) → inputs_said (said text) ≡ n →
-    ((ks : List Judge) → Fails (outcome number₀ (head_judges n ++ ks) text) fault) → TakesHead number₀ text after rest result
+    ((ks : List Judge) → FailsFirst (outcome number₀ (head_judges n ++ ks) text) fault) → TakesHead number₀ text after rest result
 told_fails number₀ text after rest n fault (Ok head) is known fails = elim is [ ]
 told_fails number₀ text after rest n fault (Err e) is known fails =
-    rw is (λ ks. subst (λ m. Fails (outcome number₀ (head_judges m ++ ks) text) fault) (sym known) (fails ks))
+    rw is (λ ks. subst (λ m. FailsFirst (outcome number₀ (head_judges m ++ ks) text) fault) (sym known) (fails ks))
 
 pub head_memory : (number₀ : ℕ) (text : List ℕ) (after : ℕ) (rest : List ℕ) (fault : CertFault) (result : Result Head CertFault) →
     IsErrAnd result (λ e. e ≡ fault) → fault ≡ found.OutOfMemory → TakesHead number₀ text after rest result

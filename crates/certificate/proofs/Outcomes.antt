@@ -10,7 +10,7 @@ use Rattle.certificate.specs.declared.faults.LineFault.TheVariants.{MissingLine,
 use Rattle.certificate.specs.declared.faults.CertFault.{CertFault}
 use Rattle.certificate.specs.declared.faults.CertFault.TheVariants as found
 use Rattle.certificate.specs.Faults.{Judge, words, said, whole_lines, with_feeds, line_faults}
-use Rattle.certificate.specs.Parsing.{Lacks, Cuts, Fails, Asks, trailing_from, outcome}
+use Rattle.certificate.specs.Parsing.{Lacks, Cuts, FailsFirst, Asks, trailing_from, outcome}
 use Rattle.certificate.proofs.WordLines.{HasNoFeed, line_first, no_line}
 
 has_none : (text : List ℕ) → AllByRecursion (λ b. (b == 10) ≡ false) text → HasNoFeed text
@@ -92,7 +92,7 @@ asked_missing judge number after text rest' P fault (Err given) is lacks e = rw 
 -- a missing line, where one alone is asked for
 pub only_missing : {V : Type 0} (judge : Judge) (number : ℕ) (text : List ℕ) (fault : CertFault) (result : Result V CertFault) →
     IsErrAnd result (λ e. e ≡ fault) → Lacks 10 text → fault ≡ found.Line number MissingLine →
-    IfErr result (Fails (outcome number (judge ∷ []) text))
+    IfErr result (FailsFirst (outcome number (judge ∷ []) text))
 only_missing judge number text fault (Ok value) is lacks e = elim is [ ]
 only_missing judge number text fault (Err given) is lacks e = rw (is ∙ e) (missing number judge [] text lacks)
 

@@ -9,8 +9,8 @@ use Rattle.certificate.specs.declared.parsing.Head.{Head}
 use Rattle.certificate.specs.Spelling.{HasSpelling, spelling}
 use Rattle.certificate.specs.Faults.{said, number_said, inputs_said, head_judges, judges, trailing, faults}
 use Rattle.certificate.specs.Decoded.{cert_of}
-use Rattle.certificate.specs.Parsing.{Fails, outcome}
-use Rattle.certificate.specs.Heads.{TakesHead, TakesBody, Refuses, body_judges, parts_of, most_bytes}
+use Rattle.certificate.specs.Parsing.{FailsFirst, outcome}
+use Rattle.certificate.specs.Heads.{TakesHead, TakesBody, FailsToParse, body_judges, parts_of, most_bytes}
 use Rattle.certificate.proofs.Spelled.{by_parts}
 use Rattle.certificate.proofs.Faultless.{Faultless, faultless}
 
@@ -18,16 +18,16 @@ faults_are : (text : List ℕ) → outcome 1 (head_judges (inputs_said (said tex
 unfolding outcome faults trailing judges
 faults_are text = let next : 1 + length (judges (said text)) ≡ length (judges (said text)) + 1 = omega arith in rw next refl
 
-refuses : (text : List ℕ) (fault : CertFault) → length text ≤ most_bytes → Fails (faults text) fault → Refuses text fault
+refuses : (text : List ℕ) (fault : CertFault) → length text ≤ most_bytes → FailsFirst (faults text) fault → FailsToParse text fault
 refuses text (found.Line number fault) short (others, first) = (short, record { others = others; first = first })
 refuses text found.TooLong short fails = elim fails [ ]
 refuses text found.OutOfMemory short fails = tt
 
 pub head_refused : {V : Type 0} (text : List ℕ) (after : ℕ) (rest : List ℕ) (fault : CertFault) (result : Result V CertFault) →
-    IsErrAnd result (λ e. e ≡ fault) → length text ≤ most_bytes → TakesHead 1 text after rest (Err fault) → IfErr result (Refuses text)
+    IsErrAnd result (λ e. e ≡ fault) → length text ≤ most_bytes → TakesHead 1 text after rest (Err fault) → IfErr result (FailsToParse text)
 head_refused text after rest fault (Ok v) is short takes = elim is [ ]
 head_refused text after rest fault (Err e) is short takes =
-    rw is (refuses text fault short (subst (λ fs. Fails fs fault) (faults_are text) (takes (body_judges (said text)))))
+    rw is (refuses text fault short (subst (λ fs. FailsFirst fs fault) (faults_are text) (takes (body_judges (said text)))))
 
 module _ (text : List ℕ) (after : ℕ) (rest : List ℕ) (head : Head) (takes : TakesHead 1 text after rest (Ok head)) where
   -- what is asked of the lines after the first six
@@ -41,10 +41,10 @@ module _ (text : List ℕ) (after : ℕ) (rest : List ℕ) (head : Head) (takes 
   inputs_here = ap inputs_said (sym takes.2) ∙ sym takes.0.inputs
 
   pub body_refused : {V : Type 0} (fault : CertFault) (result : Result V CertFault) → IsErrAnd result (λ e. e ≡ fault) →
-      length text ≤ most_bytes → TakesBody head.format head.inputs after rest (Err fault) → IfErr result (Refuses text)
+      length text ≤ most_bytes → TakesBody head.format head.inputs after rest (Err fault) → IfErr result (FailsToParse text)
   body_refused fault (Ok v) is short body = elim is [ ]
   body_refused fault (Err e) is short body =
-      rw is (refuses text fault short (subst (λ fs. Fails fs fault) (sym behind) (body takes.1 takes.3 format_here inputs_here)))
+      rw is (refuses text fault short (subst (λ fs. FailsFirst fs fault) (sym behind) (body takes.1 takes.3 format_here inputs_here)))
 
   module _ (pairs : Option (Vec Pair Global)) (cells : Vec ListedCell Global) (body : TakesBody head.format head.inputs after rest (Ok (pairs, cells))) where
     told : Faultless text

@@ -11,7 +11,7 @@ use Rattle.certificate.specs.declared.faults.CertFault.TheVariants as found
 use Rattle.order_model.specs.Texts.{number_of}
 use Rattle.certificate.specs.Faults.{Judge, said, line_faults, number_said, field_fault, entry_fault, rises, section_judges}
 use Rattle.certificate.specs.Decoded.{section_said}
-use Rattle.certificate.specs.Parsing.{Fails, Asks, outcome, TakesSection}
+use Rattle.certificate.specs.Parsing.{FailsFirst, Asks, outcome, TakesSection}
 use Rattle.certificate.specs.Values.{is_above}
 use Rattle.certificate.proofs.Sections.{Before, entry_judges, entry_is}
 
@@ -110,9 +110,9 @@ module _ {E : Type 0} (read : List (List ℕ) → E) (key_of : E → ℕ) (name 
       Reached number₀ text₀ count i last items number rest → i < count →
       Asks {V = E} (entry_fault is_entry (λ a b. is_above last (key a b))) number rest after rest' P (Err fault) →
       (pre : List (List (List ℕ))) (js : List Judge) →
-      Fails (outcome number₀ (section_judges name most is_entry key (pre ++ said text₀) (length pre) ++ js) text₀) fault
+      FailsFirst (outcome number₀ (section_judges name most is_entry key (pre ++ said text₀) (length pre) ++ js) text₀) fault
   reached_fails number₀ text₀ count i last items number rest after rest' P fault r more asks pre js =
-      subst (λ faults. Fails faults fault) (sym (with_next number₀ text₀ count i last items number rest r more pre js)) (asks _)
+      subst (λ faults. FailsFirst faults fault) (sym (with_next number₀ text₀ count i last items number rest r more pre js)) (asks _)
 
   -- one entry more
   pub reached_more : (number₀ : ℕ) (text₀ : List ℕ) (count i : ℕ) (last : Option ℕ) (items : List E) (number : ℕ) (rest : List ℕ)
@@ -201,7 +201,7 @@ pub section_fails : {V E : Type 0} (name : List ℕ) (most : ℕ) (is_entry : Li
     (fault : CertFault) →
     IsErrAnd result (λ e. e ≡ fault) →
     ((pre : List (List (List ℕ))) (js : List Judge) →
-    Fails (outcome number (section_judges name most is_entry key (pre ++ said text) (length pre) ++ js) text) fault) →
+    FailsFirst (outcome number (section_judges name most is_entry key (pre ++ said text) (length pre) ++ js) text) fault) →
     TakesSection name most is_entry key read items number text after rest result
 section_fails name most is_entry key read items number text after rest (Ok v) fault is fails = elim is [ ]
 section_fails name most is_entry key read items number text after rest (Err e) fault is fails = rw is fails

@@ -2,7 +2,7 @@
 --     IsHead ws head      the parts that the words of the lines give
 --     TakesHead number text after rest result      the first six lines of a text are taken
 --     TakesBody format n number text result      all lines after them are taken
---     Refuses text fault      why a text is refused
+--     FailsToParse text fault      why a text is refused
 use Rattle.std.specs.Prelude.{◌≡◌, ℕ, ◌<◌, ◌≤◌, ◌⊎◌, List, [], ◌∷◌, ◌++◌, length, map, get_or, codes, Option, Some, None, Result, Ok, Err}
 use Rattle.std.specs.Global.{Global}
 use Rattle.std.specs.Prelude.{Vec}
@@ -16,7 +16,7 @@ use Rattle.certificate.specs.declared.faults.CertFault.TheVariants as found
 use Rattle.certificate.specs.Faults.{FirstFault, Judge, said, number_said, inputs_said, head_judges, pairs_judges, cells_judges, fixed_fault}
 use Rattle.certificate.specs.Decoded.{numbers_of, cells_place, cert_of}
 use Rattle.certificate.specs.Values.{format_of, value_of}
-use Rattle.certificate.specs.Parsing.{Fails, outcome}
+use Rattle.certificate.specs.Parsing.{FailsFirst, outcome}
 
 -- the parts that the words of the lines give
 pub record IsHead (ws : List (List (List ℕ))) (head : Head) : Type 0 where
@@ -36,7 +36,7 @@ TakesHead number text after rest (Ok head) = IsHead (said text) head
     × (lines : List (List (List ℕ))) × (said text ≡ lines ++ said rest) × (length lines ≡ 6)
     × ((js : List Judge) → outcome number (head_judges (inputs_said (said text)) ++ js) text ≡ outcome after js rest)
 TakesHead number text after rest (Err fault) = (js : List Judge) →
-    Fails (outcome number (head_judges (inputs_said (said text)) ++ js) text) fault
+    FailsFirst (outcome number (head_judges (inputs_said (said text)) ++ js) text) fault
 
 -- what is asked of the lines after the first six
 abbrev pub body_judges : List (List (List ℕ)) → List Judge
@@ -51,7 +51,7 @@ TakesSets n number text (Ok cells) = (pre : List (List (List ℕ))) → length p
     × (map listed cells.items ≡ (cert_of (pre ++ said text)).cells)
 TakesSets n number text (Err fault) = (pre : List (List (List ℕ))) → length pre ≡ cells_place (pre ++ said text) →
     inputs_said (pre ++ said text) ≡ n →
-    Fails (outcome number (cells_judges (pre ++ said text) (cells_place (pre ++ said text))
+    FailsFirst (outcome number (cells_judges (pre ++ said text) (cells_place (pre ++ said text))
     ++ fixed_fault (codes "end" ∷ []) ∷ []) text) fault
 
 -- the pairs that may be there, and the format: format 1 has none
@@ -70,7 +70,7 @@ TakesBody format n number text (Ok parts) =
 TakesBody format n number text (Err fault) =
     (pre : List (List (List ℕ))) → length pre ≡ 6 → number_said (pre ++ said text) 0 ≡ format →
     inputs_said (pre ++ said text) ≡ n →
-    Fails (outcome number (body_judges (pre ++ said text)) text) fault
+    FailsFirst (outcome number (body_judges (pre ++ said text)) text) fault
 
 -- the parts of a certificate, as they are read
 abbrev pub parts_of : Head → Option (Vec Pair Global) → List ListedCell → Certificate
@@ -82,7 +82,7 @@ abbrev pub most_bytes : ℕ
 most_bytes = 1048576
 
 -- why a text is refused: its first fault, or that it is too long; out of memory may stand in the place of either
-abbrev pub Refuses : List ℕ → CertFault → Type 0
-Refuses text (found.Line number fault) = (length text ≤ most_bytes) × FirstFault text number fault
-Refuses text found.TooLong = most_bytes < length text
-Refuses text found.OutOfMemory = Unit {0}
+abbrev pub FailsToParse : List ℕ → CertFault → Type 0
+FailsToParse text (found.Line number fault) = (length text ≤ most_bytes) × FirstFault text number fault
+FailsToParse text found.TooLong = most_bytes < length text
+FailsToParse text found.OutOfMemory = Unit {0}

@@ -2,7 +2,7 @@
 --     Lacks byte text, Cuts byte text front behind      the byte doesn't stand in the text; it parts the text for the first time
 --     Says judge line result P      the line passes what it is asked and P holds of its value, or it has the fault
 --     outcome number js text      the faults of a text, the first line of which has a number, by what its lines are asked
---     Fails faults fault      the first of them
+--     FailsFirst faults fault      the first of them
 --     Asks judge number text after rest P result, TakesSection ..      the first line of a text, and a section, is taken
 use Rattle.std.specs.Prelude.{◌≡◌, ℕ, ◌+◌, Bool, false, if◌then◌else◌, ◌==◌, nat_lt, List, [], ◌∷◌, ◌++◌, length, take, Some, None, Result, Ok, Err}
 use Rattle.std.specs.List.{All}
@@ -37,10 +37,10 @@ unfoldable pub outcome : ℕ → List Judge → List ℕ → List (ℕ × LineFa
 outcome number js text = line_faults number js (said text) ++ trailing_from number (length js) text
 
 -- the first of some faults; out of memory may stand in its place
-abbrev pub Fails : List (ℕ × LineFault) → CertFault → Type 0
-Fails faults (found.Line number fault) = (others : List (ℕ × LineFault)) × (faults ≡ (number, fault) ∷ others)
-Fails faults found.TooLong = ⊥
-Fails faults found.OutOfMemory = Unit {0}
+abbrev pub FailsFirst : List (ℕ × LineFault) → CertFault → Type 0
+FailsFirst faults (found.Line number fault) = (others : List (ℕ × LineFault)) × (faults ≡ (number, fault) ∷ others)
+FailsFirst faults found.TooLong = ⊥
+FailsFirst faults found.OutOfMemory = Unit {0}
 
 -- the first line of a text is taken: it passes, and P holds of its words and the value; or the text's first fault is told
 abbrev pub Asks : {V : Type 0} → Judge → ℕ → List ℕ → ℕ → List ℕ → (List (List ℕ) → V → Type 0) → Result V CertFault →
@@ -48,7 +48,7 @@ abbrev pub Asks : {V : Type 0} → Judge → ℕ → List ℕ → ℕ → List �
 Asks judge number text after rest P (Ok value) =
     (ws : List (List ℕ)) × (said text ≡ ws ∷ said rest) × (judge ws ≡ None)
     × ((js : List Judge) → outcome number (judge ∷ js) text ≡ outcome after js rest) × P ws value
-Asks judge number text after rest P (Err fault) = (js : List Judge) → Fails (outcome number (judge ∷ js) text) fault
+Asks judge number text after rest P (Err fault) = (js : List Judge) → FailsFirst (outcome number (judge ∷ js) text) fault
 
 -- a section of a text is taken, which stands after some lines: its lines pass, and its entries are told; or the text's first fault is
 abbrev pub TakesSection : {V E : Type 0} → List ℕ → ℕ → (List ℕ → List ℕ → Bool) → (List ℕ → List ℕ → ℕ) →
@@ -62,4 +62,4 @@ TakesSection name most is_entry key read items number text after rest (Ok value)
     × (items value ≡ section_said read (pre ++ said text) (length pre))
 TakesSection name most is_entry key read items number text after rest (Err fault) = (pre : List (List (List ℕ)))
     (js : List Judge) →
-    Fails (outcome number (section_judges name most is_entry key (pre ++ said text) (length pre) ++ js) text) fault
+    FailsFirst (outcome number (section_judges name most is_entry key (pre ++ said text) (length pre) ++ js) text) fault

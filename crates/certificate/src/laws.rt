@@ -32,8 +32,8 @@ pub fn texts_have_one_reading()
         FirstFault text j f → (i ≡ j) × (e ≡ f) }
 {}
 
-/// A spelling has at most 256 bytes, 6 for each pair and 12 for each listed set; so it isn't too long
-/// to be read.
+/// A spelling has at most 256 bytes, 6 for each pair and 12 for each listed set; so it isn't too
+/// long to be read.
 pub fn spellings_are_short()
     ensures bytes { (cert : Certificate) → HasSpelling cert →
         length (spelling cert) ≤ 256 + 6 * length cert.pairs + 12 * length cert.cells }

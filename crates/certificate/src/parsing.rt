@@ -3,7 +3,7 @@
 ghost use Rattle.std.specs.Prelude.{◌≡◌, ◌+◌, ◌^◌, ◌<◌, ◌≤◌, ◌⊎◌, IfOk, IfErr, IfSome, IfNone, length};
 ghost use Rattle.std.specs.List.{All};
 ghost use Rattle.certificate.specs.declared.faults.CertFault.TheVariants.{OutOfMemory};
-ghost use Rattle.certificate.specs.Heads.{Refuses, TakesBody, TakesHead, TakesSets, most_bytes, parts_of};
+ghost use Rattle.certificate.specs.Heads.{FailsToParse, TakesBody, TakesHead, TakesSets, most_bytes, parts_of};
 ghost use Rattle.certificate.specs.Reading.{FitsCount, StaysWithin};
 ghost use Rattle.certificate.specs.Spelling.{HasSpelling, spelling};
 
@@ -127,7 +127,7 @@ impl Certificate {
     pub fn parse(alloc: Global, text: &[u8]) -> Result<Certificate, CertFault>
         ensures spelled { IfOk result (λ cert. text.now ≡ spelling cert) }
         ensures short { IfOk result (λ _. length text.now ≤ most_bytes) }
-        ensures refused { IfErr result (Refuses text.now) }
+        ensures refused { IfErr result (FailsToParse text.now) }
     {
         if text.len() > MOST_BYTES {
             return Err(CertFault::TooLong);

@@ -8,7 +8,7 @@ ghost use Rattle.order_model.specs.Listed.{listed};
 ghost use Rattle.certificate.specs.Decoded.{numbers_of, read_pair, read_cell};
 ghost use Rattle.order_model.specs.Texts.{number_of};
 ghost use Rattle.certificate.specs.Faults.{cell_key_of, entry_fault, field_fault, fixed_fault, is_cell, is_decimal, is_pair, pair_key_of, title_fault, words};
-ghost use Rattle.certificate.specs.Parsing.{Cuts, Fails, Lacks, outcome};
+ghost use Rattle.certificate.specs.Parsing.{Cuts, FailsFirst, Lacks, outcome};
 ghost use Rattle.certificate.specs.Reading.{FitsCount, StaysWithin, TakesEntries, TakesLine};
 ghost use Rattle.certificate.specs.Spelling.{most_nodes, most_pairs};
 ghost use Rattle.certificate.specs.Values.{is_above as above};
@@ -173,7 +173,7 @@ impl<'a> Lines<'a> {
         ensures passed { OnOk result
             (outcome self.old.number (fixed_fault (codes "end" ∷ []) ∷ []) self.old.rest.now ≡ []) }
         ensures failed { IfErr result
-            (Fails (outcome self.old.number (fixed_fault (codes "end" ∷ []) ∷ [])
+            (FailsFirst (outcome self.old.number (fixed_fault (codes "end" ∷ []) ∷ [])
             self.old.rest.now)) }
     {
         let number = self.number;

@@ -47,7 +47,7 @@ fn read_certificate<C: CountedRead>(alloc: Global, cert: &mut C) -> Result<Certi
 }
 
 /// The line of the verdict on a certificate, and how a check ends that writes it.
-fn judged<R: Threads + Sync>(
+fn verdict_on<R: Threads + Sync>(
     rt: &R,
     alloc: Global,
     cover: &Cover,
@@ -96,7 +96,7 @@ pub fn run_check<R: Threads + Sync, F: CountedRead, C: CountedRead, W: CountedWr
         Ok(cert) => cert,
         Err(fault) => return Outcome::Refused(fault),
     };
-    let Ok((outcome, line)) = judged(rt, alloc, &cover, &cert) else {
+    let Ok((outcome, line)) = verdict_on(rt, alloc, &cover, &cert) else {
         return Outcome::Refused(Fault::OutOfMemory);
     };
     match write_whole(out, line.as_bytes()) {

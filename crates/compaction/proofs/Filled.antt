@@ -12,12 +12,12 @@ use Rattle.order_model.specs.Orders.{members, without}
 use Rattle.order_model.specs.Widths.{width}
 use Rattle.order_model.specs.Problems.{TruthTables, functions}
 use Rattle.compaction.proofs.Decided.{split_decided, join_without, join_with, not_both}
-use Rattle.compaction.specs.Rows.{width_wanted, IsRow, IsFilled, AreFilled, AreBlank, AreUnwanted, most_compactions}
+use Rattle.compaction.specs.Rows.{width_wanted, IsWidthRow, IsRowFilled, AreRowsFilled, AreBlank, AreUnwanted, most_compactions}
 
 -- the rows of one set among the first k masks
 pub record IsFilling (p : TruthTables) (masks needed : List ℕ) (own k : ℕ) (old new : List (List ℕ)) : Type 0 where
   pub long : length new ≡ length masks
-  pub own_rows : (i : ℕ) → i < k → slice_index masks i ≡ own → IsRow p own (slice_index needed i) (get_or new i [])
+  pub own_rows : (i : ℕ) → i < k → slice_index masks i ≡ own → IsWidthRow p own (slice_index needed i) (get_or new i [])
   pub others : (i : ℕ) → i < k → slice_index masks i ≢ own → get_or new i [] ≡ get_or old i []
   pub later : (i : ℕ) → k ≤ i → get_or new i [] ≡ get_or old i []
 
@@ -40,37 +40,37 @@ few_tables n low walked few small h =
 module _ (p : TruthTables) (masks needed : List ℕ) where
   -- nothing is wanted
   pub filled_unwanted : (set decided : ℕ) (old : List (List ℕ)) → AreBlank p masks needed old → AreUnwanted masks needed set decided →
-      length needed ≡ length masks → AreFilled p masks needed set decided old old
+      length needed ≡ length masks → AreRowsFilled p masks needed set decided old old
   filled_unwanted set decided old blank none l = λ i lt. (λ e. blank i lt (none i (omega arith) e), λ ne. refl)
 
   -- all variables are decided
   pub filled_own : (set decided : ℕ) (old new : List (List ℕ)) →
       ((i : ℕ) → i < length masks → bit_and (slice_index masks i) decided ≡ slice_index masks i) →
-      IsFilled p masks needed set old new → AreFilled p masks needed set decided old new
+      IsRowFilled p masks needed set old new → AreRowsFilled p masks needed set decided old new
   filled_own set decided old new all own = λ i lt.
       let whole = all i lt in (
         λ e. let s : slice_index masks i ≡ set = sym whole ∙ e in
-            subst (λ m. IsRow p m (slice_index needed i) (get_or new i [])) (sym s) ((own i lt).0 s),
+            subst (λ m. IsWidthRow p m (slice_index needed i) (get_or new i [])) (sym s) ((own i lt).0 s),
         λ ne. (own i lt).1 (λ s. ne (whole ∙ s)),
       )
 
   -- what is blank stays so
-  pub blank_kept : (set decided : ℕ) (old new : List (List ℕ)) → AreBlank p masks needed old → AreFilled p masks needed set decided old new →
+  pub blank_kept : (set decided : ℕ) (old new : List (List ℕ)) → AreBlank p masks needed old → AreRowsFilled p masks needed set decided old new →
       AreBlank p masks needed new
   blank_kept set decided old new blank filled = λ i lt z. elim (cases_eq (bit_and (slice_index masks i) decided) set) [
     | inl e ↦ (filled i lt).0 e
-    | inr ne ↦ subst (IsRow p (slice_index masks i) (slice_index needed i)) (sym ((filled i lt).1 ne)) (blank i lt z)
+    | inr ne ↦ subst (IsWidthRow p (slice_index masks i) (slice_index needed i)) (sym ((filled i lt).1 ne)) (blank i lt z)
   ]
 
   -- the sets without a variable, and those with it
   pub filled_both : (set decided y : ℕ) (old mid new : List (List ℕ)) → bit_at decided y ≡ 0 → bit_and set decided ≡ set →
-      AreFilled p masks needed set (bit_or decided (2 ^ y)) old mid →
-      AreFilled p masks needed (bit_or set (2 ^ y)) (bit_or decided (2 ^ y)) mid new → AreFilled p masks needed set decided old new
+      AreRowsFilled p masks needed set (bit_or decided (2 ^ y)) old mid →
+      AreRowsFilled p masks needed (bit_or set (2 ^ y)) (bit_or decided (2 ^ y)) mid new → AreRowsFilled p masks needed set decided old new
   filled_both set decided y old mid new undecided within a b = λ i lt. (
     λ e. elim (split_decided (slice_index masks i) set decided y e) [
       | inl low ↦
           let kept = (b i lt).1 (λ s. not_both set decided y undecided within (sym low ∙ s)) in
-          subst (IsRow p (slice_index masks i) (slice_index needed i)) (sym kept) ((a i lt).0 low)
+          subst (IsWidthRow p (slice_index masks i) (slice_index needed i)) (sym kept) ((a i lt).0 low)
       | inr high ↦ (b i lt).0 high
     ],
     λ ne. (b i lt).1 (λ s. ne (join_with (slice_index masks i) set decided y undecided within s))
@@ -79,9 +79,9 @@ module _ (p : TruthTables) (masks needed : List ℕ) where
 
   -- nothing is wanted of those with it
   pub filled_lower : (set decided y : ℕ) (old mid : List (List ℕ)) → bit_at decided y ≡ 0 → bit_and set decided ≡ set →
-      AreFilled p masks needed set (bit_or decided (2 ^ y)) old mid → AreBlank p masks needed mid →
+      AreRowsFilled p masks needed set (bit_or decided (2 ^ y)) old mid → AreBlank p masks needed mid →
       AreUnwanted masks needed (bit_or set (2 ^ y)) (bit_or decided (2 ^ y)) → length needed ≡ length masks →
-      AreFilled p masks needed set decided old mid
+      AreRowsFilled p masks needed set decided old mid
   filled_lower set decided y old mid undecided within a blank none l =
       filled_both set decided y old mid mid undecided within a (filled_unwanted (bit_or set (2 ^ y)) (bit_or decided (2 ^ y)) mid blank none l)
 

@@ -16,7 +16,7 @@ use Rattle.order_model.proofs.Precedence.MaskLaws.{member_from}
 use Rattle.order_model.proofs.Lists.Orders.{has_at}
 use Rattle.subset_layers.specs.Layers.{BlockOf, block_masks}
 use Rattle.subset_layers.proofs.BlockLists.{in_block}
-use Rattle.compaction.specs.Rows.{width_wanted, IsRow, AreRows, AreOfByte, AreMembers}
+use Rattle.compaction.specs.Rows.{width_wanted, IsWidthRow, AreWidthRows, AreOfByte, AreMembers}
 
 -- an element of one part or the other
 first_at : (xs ys : List ℕ) (i : ℕ) → i < length xs → slice_index (xs ++ ys) i ≡ slice_index xs i
@@ -32,16 +32,6 @@ of_byte_joined n low xs ys a b i lt = elim (cases_lt i (length xs)) [
       let long = length-append xs ys in
       subst (λ m. (m < 2 ^ n) × (m % 256 ≡ low)) (sym (later_at xs ys (length xs) i refl l)) (b (i - length xs) (omega arith))
 ]
-
-pub of_byte_none : (n low : ℕ) → AreOfByte n low []
-of_byte_none n low i lt = absurd (omega arith)
-
-pub of_byte_pushed : (n low : ℕ) (xs : List ℕ) (m : ℕ) → m < 2 ^ n → m % 256 ≡ low → AreOfByte n low xs → AreOfByte n low (xs ++ m ∷ [])
-of_byte_pushed n low xs m lt e a = of_byte_joined n low xs (m ∷ []) a one
-  where
-    one : AreOfByte n low (m ∷ [])
-    one zero k = (lt, e)
-    one (suc i) k = absurd (omega arith)
 
 pub block_of_byte : (b : BlockOf) → AreOfByte b.inputs b.low (block_masks b)
 block_of_byte b i lt = in_block b (slice_index (block_masks b) i) (has_at (block_masks b) i lt)
@@ -68,24 +58,8 @@ members_joined p xs ns ys ms e a b i lt x bit = elim (cases_lt i (length xs)) [
       (b (i - length xs) (omega arith) x (subst (λ m. bit_at m x ≡ 1) (later_at ns ms (length xs) i e l) bit))
 ]
 
-pub rows_behind : (p : TruthTables) (xs ns ys ms : List ℕ) (rows : List (List ℕ)) → length ns ≡ length xs →
-    AreRows p (xs ++ ys) (ns ++ ms) rows → AreRows p ys ms (drop (length xs) rows)
-rows_behind p xs ns ys ms rows e r =
-    let long = length-append xs ys in
-    let each = r.each in
-    let n = length xs in
-    record {
-      each = (let d = length-drop n rows in omega arith);
-      are = λ i lt x few.
-          let back : n + i - n ≡ i = omega arith in
-          ap (λ row. slice_index row x) (get_or-drop n rows i [])
-          ∙ r.are (n + i) (omega arith) x few
-          ∙ ap (λ m. width_wanted p m (slice_index (ns ++ ms) (n + i)) x) (later_at xs ys n (n + i) refl (omega arith) ∙ ap (slice_index ys) back)
-          ∙ ap (λ w. width_wanted p (slice_index ys i) w x) (later_at ns ms n (n + i) e (omega arith) ∙ ap (slice_index ms) back);
-    }
-
 pub rows_before : (p : TruthTables) (xs ns ys ms : List ℕ) (rows : List (List ℕ)) → length ns ≡ length xs →
-    AreRows p (xs ++ ys) (ns ++ ms) rows → AreRows p xs ns (take (length xs) rows)
+    AreWidthRows p (xs ++ ys) (ns ++ ms) rows → AreWidthRows p xs ns (take (length xs) rows)
 rows_before p xs ns ys ms rows e r =
     let long = length-append xs ys in
     let each = r.each in
@@ -99,10 +73,10 @@ rows_before p xs ns ys ms rows e r =
           ∙ ap (λ w. width_wanted p (slice_index xs i) w x) (first_at ns ms i (omega arith));
     }
 
-pub row_narrowed : (p : TruthTables) (mask more needed : ℕ) (row narrow : List ℕ) → IsRow p mask more row →
+pub row_narrowed : (p : TruthTables) (mask more needed : ℕ) (row narrow : List ℕ) → IsWidthRow p mask more row →
     ((x : ℕ) → x < 16 → bit_at needed x ≡ 1 → bit_at more x ≡ 1) →
     ((x : ℕ) → x < 16 → slice_index narrow x ≡ cond (eqb (bit_at needed x) 1) (slice_index row x) 0) →
-    IsRow p mask needed narrow
+    IsWidthRow p mask needed narrow
 unfolding width_wanted
 row_narrowed p mask more needed row narrow is inside each x few =
     let w = width p.inputs (functions p) (without x (members p.inputs mask)) x in
@@ -120,7 +94,7 @@ row_narrowed p mask more needed row narrow is inside each x few =
 -- the rows of the first k sets
 pub record RowsTo (p : TruthTables) (masks needed : List ℕ) (k : ℕ) (rows : List (List ℕ)) : Type 0 where
   pub each : length rows ≡ k
-  pub are : (i : ℕ) → i < k → IsRow p (slice_index masks i) (slice_index needed i) (get_or rows i [])
+  pub are : (i : ℕ) → i < k → IsWidthRow p (slice_index masks i) (slice_index needed i) (get_or rows i [])
 
 pub rows_none : (p : TruthTables) (masks needed : List ℕ) → RowsTo p masks needed 0 []
 rows_none p masks needed = record {
@@ -129,22 +103,22 @@ rows_none p masks needed = record {
 }
 
 pub rows_pushed : (p : TruthTables) (masks needed : List ℕ) (k : ℕ) (rows : List (List ℕ)) (row : List ℕ) →
-    RowsTo p masks needed k rows → IsRow p (slice_index masks k) (slice_index needed k) row → RowsTo p masks needed (k + 1) (rows ++ row ∷ [])
+    RowsTo p masks needed k rows → IsWidthRow p (slice_index masks k) (slice_index needed k) row → RowsTo p masks needed (k + 1) (rows ++ row ∷ [])
 rows_pushed p masks needed k rows row r is =
     let e = r.each in
     record {
       each = (let l = length-append rows (row ∷ []) in omega arith);
       are = λ i lt. elim (cases_lt i k) [
-        | inl low ↦ subst (IsRow p (slice_index masks i) (slice_index needed i)) (sym (get_or_append_left rows (row ∷ []) [] i (omega arith))) (r.are i low)
+        | inl low ↦ subst (IsWidthRow p (slice_index masks i) (slice_index needed i)) (sym (get_or_append_left rows (row ∷ []) [] i (omega arith))) (r.are i low)
         | inr high ↦
             let s : i ≡ k = omega arith in
-            subst (IsRow p (slice_index masks i) (slice_index needed i)) (sym (get_or_push rows row [] i (omega arith)))
-            (subst (λ j. IsRow p (slice_index masks j) (slice_index needed j) row) (sym s) is)
+            subst (IsWidthRow p (slice_index masks i) (slice_index needed i)) (sym (get_or_push rows row [] i (omega arith)))
+            (subst (λ j. IsWidthRow p (slice_index masks j) (slice_index needed j) row) (sym s) is)
       ];
     }
 
 pub rows_all : (p : TruthTables) (masks needed : List ℕ) (k : ℕ) (rows : List (List ℕ)) → k ≡ length masks → RowsTo p masks needed k rows →
-    AreRows p masks needed rows
+    AreWidthRows p masks needed rows
 rows_all p masks needed k rows e r = record {
   each = r.each ∙ e;
   are = λ i lt. r.are i (omega arith);

@@ -6,7 +6,7 @@
 use Rattle.std.specs.Prelude.{ℕ, List, sum_by}
 use Rattle.std.specs.List.{All}
 use Rattle.order_model.specs.Problems.{TruthTables}
-use Rattle.compaction.specs.Rows.{AreRows, wanted_count}
+use Rattle.compaction.specs.Rows.{AreWidthRows, wanted_count}
 
 -- some sets, and of each its row
 pub record RowsOf : Type 0 where
@@ -15,7 +15,7 @@ pub record RowsOf : Type 0 where
 
 -- the rows hold the widths of all members of the sets
 abbrev pub AreAhead : TruthTables → List RowsOf → Type 0
-AreAhead p found = All (λ r. AreRows p r.masks r.masks r.rows) found
+AreAhead p found = All (λ r. AreWidthRows p r.masks r.masks r.rows) found
 
 -- how many widths the rows hold: one for each member of each set
 abbrev pub widths_ahead : List RowsOf → ℕ

@@ -1,5 +1,5 @@
 -- Runs of 256 points, four words each, of which equal ones are kept once.
---     AreChained kept next heads      the kept runs are chained: a head, or a run's next, is one more than an earlier run's number, or 0 at the end
+--     AreChainedRuns kept next heads      the kept runs are chained: a head, or a run's next, is one more than an earlier run's number, or 0 at the end
 --     IsChained columns      the same of columns
 --     KeepsRuns values outer kept count      `outer` names a kept run for each run of the values
 --     KeepsValues columns values      the same of columns
@@ -15,14 +15,14 @@ use Rattle.pair_numbering.specs.Strips.{strip}
 use Rattle.compaction.specs.declared.columns.Columns.{Columns}
 
 -- chains go from later runs to earlier ones
-pub record AreChained (kept next heads : List ℕ) : Type 0 where
+pub record AreChainedRuns (kept next heads : List ℕ) : Type 0 where
   pub whole : length kept ≡ length next * 4
   pub slots : length heads ≡ 4096
   pub starts : (s : ℕ) → s < length heads → slice_index heads s ≤ length next
   pub earlier : (k : ℕ) → k < length next → slice_index next k ≤ k
 
 abbrev pub IsChained : Columns → Type 0
-IsChained c = AreChained c.kept.items c.next.items c.heads.items
+IsChained c = AreChainedRuns c.kept.items c.next.items c.heads.items
 
 -- each run is equal to the kept one that is named for it, and each kept one is named
 pub record KeepsRuns (values : List Bool) (outer kept : List ℕ) (count : ℕ) : Type 0 where

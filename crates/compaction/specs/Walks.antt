@@ -14,10 +14,10 @@ use Rattle.order_model.specs.Problems.{TruthTables}
 use Rattle.class_laws.specs.Table.{ClassesOf}
 use Rattle.subset_layers.specs.Layers.{BlockOf, block_masks}
 use Rattle.compaction.specs.Ahead.{RowsOf, widths_ahead}
-use Rattle.compaction.specs.Rows.{AreRows, AreBlank, AreFilled, AreMembers, IsFilled, wanted_count}
+use Rattle.compaction.specs.Rows.{AreWidthRows, AreBlank, AreRowsFilled, AreMembers, IsRowFilled, wanted_count}
 use Rattle.compaction.specs.Strips.{low_variables}
 use Rattle.compaction.specs.declared.tally.Tallies.{Tallies}
-use Rattle.compaction.specs.declared.wanted.Wanted.{Wanted}
+use Rattle.compaction.specs.declared.request.WidthRequest.{WidthRequest}
 
 -- the low variables and the members of the table's set are decided
 pub record HasDecided (t : ClassesOf) (decided : ℕ) : Type 0 where
@@ -25,21 +25,21 @@ pub record HasDecided (t : ClassesOf) (decided : ℕ) : Type 0 where
   pub set : bit_and t.set decided ≡ t.set
 
 -- each set has a row, and a right one if nothing is wanted of it
-pub record CanBeFilled (p : TruthTables) (w : Wanted) (rows : List (List ℕ)) : Type 0 where
+pub record CanBeFilled (p : TruthTables) (w : WidthRequest) (rows : List (List ℕ)) : Type 0 where
   pub each : length rows ≡ length w.masks.now
   pub blank : AreBlank p w.masks.now w.needed.now rows
 
 -- the rows of the sets that agree with the table's in the decided variables hold their widths, and the others are as they were
-abbrev pub FillsRows : ClassesOf → ℕ → Wanted → List (List ℕ) → List (List ℕ) → Type 0
-FillsRows t decided w old new = AreFilled t.problem w.masks.now w.needed.now t.set decided old new
+abbrev pub FillsRows : ClassesOf → ℕ → WidthRequest → List (List ℕ) → List (List ℕ) → Type 0
+FillsRows t decided w old new = AreRowsFilled t.problem w.masks.now w.needed.now t.set decided old new
 
 -- the row of the table's own set holds its widths, and the others are as they were
-abbrev pub FillsOwn : ClassesOf → Wanted → List (List ℕ) → List (List ℕ) → Type 0
-FillsOwn t w old new = IsFilled t.problem w.masks.now w.needed.now t.set old new
+abbrev pub FillsOwn : ClassesOf → WidthRequest → List (List ℕ) → List (List ℕ) → Type 0
+FillsOwn t w old new = IsRowFilled t.problem w.masks.now w.needed.now t.set old new
 
 -- the rows hold the widths that are wanted of each set
-abbrev pub HasRows : TruthTables → Wanted → List (List ℕ) → Type 0
-HasRows p w rows = AreRows p w.masks.now w.needed.now rows
+abbrev pub HasRows : TruthTables → WidthRequest → List (List ℕ) → Type 0
+HasRows p w rows = AreWidthRows p w.masks.now w.needed.now rows
 
 -- a mask for each set of the block, of members of the set
 pub record AreAsked (p : TruthTables) (b : BlockOf) (needed : List ℕ) : Type 0 where
@@ -49,7 +49,7 @@ pub record AreAsked (p : TruthTables) (b : BlockOf) (needed : List ℕ) : Type 0
 
 -- the rows hold the widths that are asked of a block's sets
 abbrev pub AreRowsOf : TruthTables → BlockOf → List ℕ → List (List ℕ) → Type 0
-AreRowsOf p b needed rows = AreRows p (block_masks b) needed rows
+AreRowsOf p b needed rows = AreWidthRows p (block_masks b) needed rows
 
 -- there is room for the widths that are asked, and for those that are found ahead
 pub record HasRoom (tallies : Tallies) (needed : List ℕ) : Type 0 where

@@ -7,7 +7,7 @@ ghost use Rattle.compaction.specs.Strips.{GrowsStrips};
 
 use crate::names::{NamePairs, number_names};
 use order_model::VarIx;
-use pair_numbering::{tell_pairs, tell_strip_pairs};
+use pair_numbering::{label_pairs, label_strip_pairs};
 use std::alloc::{AllocError, Global};
 use std::marker::Model;
 
@@ -87,7 +87,7 @@ fn add_in_order(alloc: Global, table: &StripTable<'_>, x: VarIx) -> Result<Strip
     ensures { IfOk result (λ g.
         GrowsStrips table.now x g.outer.items g.numbers.items g.masks.items) }
 {
-    let told = tell_pairs(
+    let told = label_pairs(
         alloc,
         table.numbers,
         table.bits + table.rank,
@@ -117,7 +117,7 @@ fn add_by_pairs(
 {
     let strips = table.numbers.len() >> table.bits;
     let runs = number_names(alloc, table.outer, table.rank, strips, known)?;
-    let told = tell_strip_pairs(
+    let told = label_strip_pairs(
         alloc,
         &runs.pairs,
         table.numbers,

@@ -6,13 +6,13 @@ ghost use Rattle.std.specs.Int.{bit_at};
 ghost use Rattle.order_model.specs.Problems.{TruthTables};
 ghost use Rattle.subset_layers.specs.Layers.{block_masks};
 ghost use Rattle.compaction.specs.Ahead.{AreAhead, widths_ahead};
-ghost use Rattle.compaction.specs.Rows.{AreRows, AreOfByte, AreMembers, most_compactions};
+ghost use Rattle.compaction.specs.Rows.{AreWidthRows, AreOfByte, AreMembers, most_compactions};
 ghost use Rattle.compaction.specs.Walks.{AreAsked, AreRowsOf, Counts, HasRoom};
 
-use crate::beginning::Beginning;
-use crate::blocks::{BlockWidths, wanted_rows};
+use crate::blocks::{BlockWidths, requested_rows};
+use crate::request::WidthRequest;
+use crate::shared_tables::SharedTables;
 use crate::tally::{Tallies, Tally, count_wanted};
-use crate::wanted::Wanted;
 use order_model::{Mask, Pairs, contains};
 use std::alloc::{AllocError, Global};
 use std::marker::Model;
@@ -40,12 +40,12 @@ impl Model for ByteRows {
 /// Rows that were found ahead of their layers, and the size of the largest sets of which rows are
 /// to be found.
 #[derive(Drop)]
-pub struct Ahead {
+pub struct WidthsAhead {
     end: u8,
     bytes: Vec<ByteRows>,
 }
 
-impl Model for Ahead {
+impl Model for WidthsAhead {
     ghost use Rattle.std.specs.Prelude.{List};
     ghost use Rattle.compaction.specs.Ahead.{RowsOf};
 
@@ -62,7 +62,7 @@ pub(crate) struct Sizes {
 }
 
 /// The widths of some members alone, and 0 of the others.
-fn only(row: [u32; 16], members: Mask) -> [u32; 16]
+fn members_only(row: [u32; 16], members: Mask) -> [u32; 16]
     ensures { (x : ℕ) → x < 16 →
         slice_index result x ≡ (if bit_at members x == 1 then slice_index row x else 0) }
 {
@@ -88,12 +88,12 @@ fn place_of(masks: &[Mask], mask: Mask, from: usize) -> Option<usize>
     None
 }
 
-impl Ahead {
+impl WidthsAhead {
     /// Nothing is found, and rows are to be found of sets up to a size.
-    pub fn up_to(alloc: Global, end: u8) -> Ahead
+    pub fn up_to(alloc: Global, end: u8) -> WidthsAhead
         ensures { result ≡ [] }
     {
-        Ahead {
+        WidthsAhead {
             end,
             bytes: Vec::new(alloc),
         }
@@ -105,7 +105,7 @@ impl Ahead {
     }
 
     /// With what others found. If memory is refused it stays.
-    pub fn append(&mut self, others: Ahead) -> Result<(), AllocError>
+    pub fn append(&mut self, others: WidthsAhead) -> Result<(), AllocError>
         ensures ok { OnOk result (self.new ≡ self.old ++ others) }
         ensures err { OnErr result (self.new ≡ self.old) }
     {
@@ -118,7 +118,7 @@ impl Ahead {
         requires few { length byte.masks ≤ 2 ^ 8 }
         requires room { tally.old ≤ 2 ^ 32 }
         ensures right { OnOk result ((p : TruthTables) → AreAhead p self.old →
-            AreRows p byte.masks byte.masks byte.rows → AreAhead p self.new) }
+            AreWidthRows p byte.masks byte.masks byte.rows → AreAhead p self.new) }
         ensures counted { OnOk result
             (tally.new + widths_ahead self.old ≡ tally.old + widths_ahead self.new) }
         ensures few { OnOk result (tally.new ≤ tally.old + 2 ^ 16) }
@@ -179,7 +179,7 @@ fn later_sets(alloc: Global, block: &Block, pairs: &Pairs, end: u8) -> Result<Ve
 }
 
 /// Some sets, and then others.
-fn joined(alloc: Global, first: &[Mask], others: &[Mask]) -> Result<Vec<Mask>, AllocError>
+fn concatenate(alloc: Global, first: &[Mask], others: &[Mask]) -> Result<Vec<Mask>, AllocError>
     ensures { IfOk result (λ v. v.items ≡ first.now ++ others.now) }
 {
     let mut sets = first.to_vec(alloc)?;
@@ -187,7 +187,7 @@ fn joined(alloc: Global, first: &[Mask], others: &[Mask]) -> Result<Vec<Mask>, A
     Ok(sets)
 }
 
-impl<'a> Beginning<'a> {
+impl<'a> SharedTables<'a> {
     /// The rows of a block's sets, if all of them stand in order among those of its low byte.
     fn rows_of_byte(
         &self,
@@ -196,11 +196,11 @@ impl<'a> Beginning<'a> {
         block: &Block,
         needed: &[Mask],
     ) -> Result<Option<Vec<[u32; 16]>>, AllocError>
-        requires byte { AreRows self.now byte.now.masks byte.now.masks byte.now.rows }
+        requires byte { AreWidthRows self.now byte.now.masks byte.now.masks byte.now.rows }
         requires needed { length needed.now ≡ length (block_masks block.now) }
         requires members { AreMembers self.now (block_masks block.now) needed.now }
         ensures { IfOk result (λ found. IfSome found
-            (λ rows. AreRows self.now (block_masks block.now) needed.now rows.items)) }
+            (λ rows. AreWidthRows self.now (block_masks block.now) needed.now rows.items)) }
     {
         let own = byte.rows.as_slice();
         let mut rows = Vec::with_capacity(alloc, block.len())?;
@@ -213,7 +213,7 @@ impl<'a> Beginning<'a> {
             let Some(place) = place_of(&byte.masks, *mask, from) else {
                 return Ok(None);
             };
-            rows.push(only(own[place], needed[i]))?;
+            rows.push(members_only(own[place], needed[i]))?;
             from = place;
         }
         Ok(Some(rows))
@@ -231,48 +231,52 @@ impl<'a> Beginning<'a> {
         requires asked { AreAsked self.now block.now needed.now }
         requires later { AreOfByte self.now.inputs block.now.low later.now }
         ensures rows { IfOk result
-            (λ widths. AreRows self.now (later.now ++ block_masks block.now)
+            (λ widths. AreWidthRows self.now (later.now ++ block_masks block.now)
             (later.now ++ needed.now) widths.rows) }
         ensures compactions { IfOk result (λ widths. widths.compactions ≤ most_compactions) }
     {
         prove!(block.len() <= 256);
         prove!(self.problem().inputs() <= 16);
-        let masks = joined(alloc, later, block.masks())?;
-        let needed = joined(alloc, later, needed)?;
-        let wanted = Wanted::new(block.inputs(), block.low(), &masks, &needed);
-        let widths = wanted_rows(alloc, self, &wanted)?;
+        let masks = concatenate(alloc, later, block.masks())?;
+        let needed = concatenate(alloc, later, needed)?;
+        let request = WidthRequest::new(block.inputs(), block.low(), &masks, &needed);
+        let widths = requested_rows(alloc, self, &request)?;
         Ok(widths)
     }
 }
 
-/// What the walks of a layer's blocks begin with, what was found ahead, and the pairs that sets
-/// have to be in orders with for their rows to be found ahead.
+/// Where the widths of a layer's blocks come from: the tables that walks share, what was found
+/// ahead, and the pairs that sets have to be in orders with for their rows to be found ahead.
 #[derive(Drop)]
-pub struct Walks<'a> {
-    beginning: &'a Beginning<'a>,
-    ahead: &'a Ahead,
+pub struct WidthSource<'a> {
+    shared: &'a SharedTables<'a>,
+    ahead: &'a WidthsAhead,
     pairs: &'a Pairs,
 }
 
-impl<'a> Model for Walks<'a> {
+impl<'a> Model for WidthSource<'a> {
     ghost use Rattle.order_model.specs.Problems.{TruthTables};
     ghost use Rattle.compaction.specs.Ahead.{AreAhead};
 
     ghost Value = { TruthTables };
 
-    ghost view = { λ w. w.beginning.now };
+    ghost view = { λ w. w.shared.now };
 
-    ghost invariant = { λ w. AreAhead w.beginning.now w.ahead.now };
+    ghost invariant = { λ w. AreAhead w.shared.now w.ahead.now };
 }
 
-impl<'a> Walks<'a> {
-    /// The walks that begin so, but for what was found ahead.
-    pub fn new(beginning: &'a Beginning<'a>, ahead: &'a Ahead, pairs: &'a Pairs) -> Walks<'a>
-        requires { AreAhead beginning.now ahead.now }
-        ensures { result ≡ beginning.now }
+impl<'a> WidthSource<'a> {
+    /// Widths that were found ahead, and else walks from the shared tables.
+    pub fn new(
+        shared: &'a SharedTables<'a>,
+        ahead: &'a WidthsAhead,
+        pairs: &'a Pairs,
+    ) -> WidthSource<'a>
+        requires { AreAhead shared.now ahead.now }
+        ensures { result ≡ shared.now }
     {
-        Walks {
-            beginning,
+        WidthSource {
+            shared,
             ahead,
             pairs,
         }
@@ -288,12 +292,12 @@ impl<'a> Walks<'a> {
         requires needed { length needed.now ≡ length (block_masks block.now) }
         requires members { AreMembers self.now (block_masks block.now) needed.now }
         ensures { IfOk result (λ found. IfSome found
-            (λ rows. AreRows self.now (block_masks block.now) needed.now rows.items)) }
+            (λ rows. AreWidthRows self.now (block_masks block.now) needed.now rows.items)) }
     {
         let ahead = self.ahead;
         for byte in &ahead.bytes {
             if byte.low == block.low() {
-                return self.beginning.rows_of_byte(alloc, byte, block, needed);
+                return self.shared.rows_of_byte(alloc, byte, block, needed);
             }
         }
         Ok(None)
@@ -307,7 +311,7 @@ impl<'a> Walks<'a> {
         alloc: Global,
         block: &Block,
         needed: &[Mask],
-        found: &mut Ahead,
+        found: &mut WidthsAhead,
         tallies: &mut Tallies,
     ) -> Result<BlockWidths, AllocError>
         requires asked { AreAsked self.now block.now needed.now }
@@ -320,7 +324,7 @@ impl<'a> Walks<'a> {
         ensures tallies { OnErr result (tallies.new ≡ tallies.old) }
         ensures err { OnErr result (found.new ≡ found.old) }
     {
-        prove!(self.beginning.problem().inputs() <= 16);
+        prove!(self.shared.problem().inputs() <= 16);
         prove!(block.len() <= 256);
         if let Some(rows) = self.rows_ahead(alloc, block, needed)? {
             tallies.cells.add_wanted(needed);
@@ -330,10 +334,10 @@ impl<'a> Walks<'a> {
         let masks = later_sets(alloc, block, self.pairs, ahead.end)?;
         if masks.is_empty() {
             return self
-                .beginning
+                .shared
                 .block_widths(alloc, block, needed, &mut tallies.cells);
         }
-        let mut widths = self.beginning.widths_with(alloc, &masks, block, needed)?;
+        let mut widths = self.shared.widths_with(alloc, &masks, block, needed)?;
         let own = widths.split_off(masks.len())?;
         let byte = ByteRows {
             low: block.low(),

@@ -4,15 +4,15 @@ ghost use Rattle.std.specs.Prelude.{◌≡◌, ℕ, ◌+◌, ◌-◌, ◌%◌, �
 ghost use Rattle.subset_layers.specs.Layers.{block_masks};
 ghost use Rattle.compaction.specs.Strips.{low_variables as low_of};
 ghost use Rattle.class_laws.specs.Table.{classes_of, free_below};
-ghost use Rattle.compaction.specs.Rows.{AreRows, AreMembers, wanted_count, most_compactions};
+ghost use Rattle.compaction.specs.Rows.{AreWidthRows, AreMembers, wanted_count, most_compactions};
 ghost use Rattle.compaction.specs.Walks.{CanBeFilled, FillsOwn, FillsRows, HasDecided, HasRows};
 
-use crate::beginning::Beginning;
 use crate::bytes::ByteKeys;
 use crate::names::AllNamePairs;
+use crate::request::WidthRequest;
+use crate::shared_tables::SharedTables;
 use crate::strips::{Strips, low_variables};
 use crate::tally::Tally;
-use crate::wanted::Wanted;
 use order_model::{Mask, Problem, VarIx, contains};
 use std::alloc::{AllocError, Global};
 use std::marker::Model;
@@ -107,16 +107,16 @@ fn with_member(set: Mask, y: VarIx) -> Mask
 fn fill_row(
     alloc: Global,
     table: &Strips<'_>,
-    wanted: &Wanted<'_>,
+    request: &WidthRequest<'_>,
     rows: &mut [[u32; 16]],
 ) -> Result<(), AllocError>
-    requires inputs { wanted.now.inputs ≡ table.now.problem.inputs }
-    requires rows { length rows.old ≡ length wanted.now.masks.now }
-    ensures { OnOk result (FillsOwn table.now wanted.now rows.old rows.new) }
+    requires inputs { request.now.inputs ≡ table.now.problem.inputs }
+    requires rows { length rows.old ≡ length request.now.masks.now }
+    ensures { OnOk result (FillsOwn table.now request.now rows.old rows.new) }
 {
     let set = table.set();
-    for (i, needed) in wanted.needed.iter().enumerate() {
-        if wanted.masks[i] == set {
+    for (i, needed) in request.needed.iter().enumerate() {
+        if request.masks[i] == set {
             rows[i] = table.width_row(alloc, *needed)?;
         }
     }
@@ -130,47 +130,47 @@ fn walk(
     table: &Strips<'_>,
     names: &AllNamePairs,
     decided: Mask,
-    wanted: &Wanted<'_>,
+    request: &WidthRequest<'_>,
     rows: &mut [[u32; 16]],
 ) -> Result<u32, AllocError>
-    requires inputs { wanted.now.inputs ≡ table.now.problem.inputs }
+    requires inputs { request.now.inputs ≡ table.now.problem.inputs }
     requires decided { HasDecided table.now decided }
-    requires rows { CanBeFilled table.now.problem wanted.now rows.old }
-    ensures rows { OnOk result (FillsRows table.now decided wanted.now rows.old rows.new) }
+    requires rows { CanBeFilled table.now.problem request.now rows.old }
+    ensures rows { OnOk result (FillsRows table.now decided request.now rows.old rows.new) }
     ensures compactions { IfOk result
         (λ count. count + 1 ≤ 2 ^ free_below decided table.now.problem.inputs) }
 {
     let set = table.set();
-    if !wanted.has_any(set, decided) {
+    if !request.has_any(set, decided) {
         return Ok(0);
     }
-    let Some(y) = wanted.next_variable(set, decided) else {
-        fill_row(alloc, table, wanted, rows)?;
+    let Some(y) = request.next_variable(set, decided) else {
+        fill_row(alloc, table, request, rows)?;
         return Ok(0);
     };
     let more = with_member(decided, y);
-    let before = walk(alloc, table, names, more, wanted, rows)?;
-    if !wanted.has_any(with_member(set, y), more) {
+    let before = walk(alloc, table, names, more, request, rows)?;
+    if !request.has_any(with_member(set, y), more) {
         return Ok(before);
     }
     let next = table.add_high(alloc, y, names.at(set, y))?;
-    let after = walk(alloc, &next, names, more, wanted, rows)?;
+    let after = walk(alloc, &next, names, more, request, rows)?;
     Ok(before + after + 1)
 }
 
 /// The keys of a set's members below 3.
 fn low_bytes<'a>(
     alloc: Global,
-    beginning: &Beginning<'a>,
+    shared: &SharedTables<'a>,
     low: Mask,
 ) -> Result<Strips<'a>, AllocError>
-    requires { 8 ≤ beginning.now.inputs }
-    ensures { IfOk result (λ c. c ≡ classes_of beginning.now (low % 8)) }
+    requires { 8 ≤ shared.now.inputs }
+    ensures { IfOk result (λ c. c ≡ classes_of shared.now (low % 8)) }
 {
-    if let Some(keys) = beginning.keys(low % 8) {
+    if let Some(keys) = shared.keys(low % 8) {
         return keys.write_out(alloc);
     }
-    let mut keys = ByteKeys::of_problem(alloc, beginning.problem())?;
+    let mut keys = ByteKeys::of_problem(alloc, shared.problem())?;
     for y in 0..3 {
         if contains(low, y) {
             keys = keys.add(alloc, y)?;
@@ -203,18 +203,18 @@ fn add_members<'a>(
 /// The keys of a set of low variables.
 fn low_strips<'a>(
     alloc: Global,
-    beginning: &Beginning<'a>,
+    shared: &SharedTables<'a>,
     low: Mask,
 ) -> Result<Strips<'a>, AllocError>
-    requires { low < 2 ^ low_of beginning.now }
-    ensures { IfOk result (λ c. c ≡ classes_of beginning.now low) }
+    requires { low < 2 ^ low_of shared.now }
+    ensures { IfOk result (λ c. c ≡ classes_of shared.now low) }
 {
-    let problem = beginning.problem();
+    let problem = shared.problem();
     if problem.inputs() < 8 {
         let strips = Strips::of_problem(alloc, problem)?;
         return add_members(alloc, strips, low, 0);
     }
-    let strips = low_bytes(alloc, beginning, low)?;
+    let strips = low_bytes(alloc, shared, low)?;
     add_members(alloc, strips, low, 3)
 }
 
@@ -229,51 +229,51 @@ fn low_mask(problem: &Problem) -> Mask
 /// variables. Returns how many tables were compacted.
 fn walk_from(
     alloc: Global,
-    beginning: &Beginning<'_>,
+    shared: &SharedTables<'_>,
     table: &Strips<'_>,
-    wanted: &Wanted<'_>,
+    request: &WidthRequest<'_>,
     rows: &mut [[u32; 16]],
 ) -> Result<u32, AllocError>
-    requires inputs { wanted.now.inputs ≡ beginning.now.inputs }
-    requires low { wanted.now.low < 2 ^ low_of beginning.now }
-    requires table { table.now ≡ classes_of beginning.now wanted.now.low }
-    requires rows { CanBeFilled beginning.now wanted.now rows.old }
-    ensures rows { OnOk result (HasRows beginning.now wanted.now rows.new) }
+    requires inputs { request.now.inputs ≡ shared.now.inputs }
+    requires low { request.now.low < 2 ^ low_of shared.now }
+    requires table { table.now ≡ classes_of shared.now request.now.low }
+    requires rows { CanBeFilled shared.now request.now rows.old }
+    ensures rows { OnOk result (HasRows shared.now request.now rows.new) }
     ensures compactions { IfOk result
-        (λ count. count + 1 ≤ 2 ^ (beginning.now.inputs - low_of beginning.now)) }
+        (λ count. count + 1 ≤ 2 ^ (shared.now.inputs - low_of shared.now)) }
 {
-    let decided = low_mask(beginning.problem());
-    let count = walk(alloc, table, beginning.names(), decided, wanted, rows)?;
+    let decided = low_mask(shared.problem());
+    let count = walk(alloc, table, shared.names(), decided, request, rows)?;
     Ok(count)
 }
 
 /// The rows of sets with one low byte. The table of that is made once, and the others by a walk
 /// over the high variables that shares common beginnings. If nothing is wanted no table is made.
-pub(crate) fn wanted_rows(
+pub(crate) fn requested_rows(
     alloc: Global,
-    beginning: &Beginning<'_>,
-    wanted: &Wanted<'_>,
+    shared: &SharedTables<'_>,
+    request: &WidthRequest<'_>,
 ) -> Result<BlockWidths, AllocError>
-    requires inputs { wanted.now.inputs ≡ beginning.now.inputs }
-    requires low { wanted.now.low < 2 ^ low_of beginning.now }
-    ensures rows { IfOk result (λ widths. HasRows beginning.now wanted.now widths.rows) }
+    requires inputs { request.now.inputs ≡ shared.now.inputs }
+    requires low { request.now.low < 2 ^ low_of shared.now }
+    ensures rows { IfOk result (λ widths. HasRows shared.now request.now widths.rows) }
     ensures compactions { IfOk result (λ widths. widths.compactions ≤ most_compactions) }
 {
-    let problem = beginning.problem();
+    let problem = shared.problem();
     prove!(problem.inputs() <= 16);
-    let low = Mask::from(wanted.low);
-    let mut rows = blank_rows(alloc, wanted.masks.len())?;
-    if !wanted.has_any(low, low_mask(problem)) {
+    let low = Mask::from(request.low);
+    let mut rows = blank_rows(alloc, request.masks.len())?;
+    if !request.has_any(low, low_mask(problem)) {
         return Ok(BlockWidths {
             rows,
             compactions: 0,
         });
     }
-    let walked = match beginning.table(low) {
-        Some(table) => walk_from(alloc, beginning, table, wanted, &mut rows)?,
+    let walked = match shared.table(low) {
+        Some(table) => walk_from(alloc, shared, table, request, &mut rows)?,
         None => {
-            let table = low_strips(alloc, beginning, low)?;
-            walk_from(alloc, beginning, &table, wanted, &mut rows)?
+            let table = low_strips(alloc, shared, low)?;
+            walk_from(alloc, shared, &table, request, &mut rows)?
         }
     };
     Ok(BlockWidths {
@@ -296,18 +296,18 @@ pub fn block_widths(
     requires members { AreMembers problem.now (block_masks block.now) needed.now }
     requires room { tally.old + wanted_count needed.now ≤ 2 ^ 32 }
     ensures rows { IfOk result
-        (λ widths. AreRows problem.now (block_masks block.now) needed.now widths.rows) }
+        (λ widths. AreWidthRows problem.now (block_masks block.now) needed.now widths.rows) }
     ensures compactions { IfOk result (λ widths. widths.compactions ≤ most_compactions) }
     ensures ok { OnOk result (tally.new ≡ tally.old + wanted_count needed.now) }
     ensures err { OnErr result (tally.new ≡ tally.old) }
 {
-    let beginning = Beginning::bare(alloc, problem);
-    let widths = beginning.block_widths(alloc, block, needed, tally)?;
+    let shared = SharedTables::bare(alloc, problem);
+    let widths = shared.block_widths(alloc, block, needed, tally)?;
     Ok(widths)
 }
 
-impl<'a> Beginning<'a> {
-    /// As `block_widths`, of the problem that this is the beginning of.
+impl<'a> SharedTables<'a> {
+    /// As `block_widths`, of the problem that the tables are of.
     pub fn block_widths(
         &self,
         alloc: Global,
@@ -320,15 +320,15 @@ impl<'a> Beginning<'a> {
         requires members { AreMembers self.now (block_masks block.now) needed.now }
         requires room { tally.old + wanted_count needed.now ≤ 2 ^ 32 }
         ensures rows { IfOk result
-            (λ widths. AreRows self.now (block_masks block.now) needed.now widths.rows) }
+            (λ widths. AreWidthRows self.now (block_masks block.now) needed.now widths.rows) }
         ensures compactions { IfOk result (λ widths. widths.compactions ≤ most_compactions) }
         ensures ok { OnOk result (tally.new ≡ tally.old + wanted_count needed.now) }
         ensures err { OnErr result (tally.new ≡ tally.old) }
     {
         prove!(block.len() <= 256);
         prove!(self.problem().inputs() <= 16);
-        let wanted = Wanted::new(block.inputs(), block.low(), block.masks(), needed);
-        let widths = wanted_rows(alloc, self, &wanted)?;
+        let request = WidthRequest::new(block.inputs(), block.low(), block.masks(), needed);
+        let widths = requested_rows(alloc, self, &request)?;
         tally.add_wanted(needed);
         Ok(widths)
     }
@@ -343,7 +343,7 @@ impl<'a> Beginning<'a> {
         requires inputs { block.now.inputs ≡ self.now.inputs }
         requires room { tally.old < 2 ^ 31 }
         ensures rows { IfOk result
-            (λ widths. AreRows self.now (block_masks block.now) (block_masks block.now)
+            (λ widths. AreWidthRows self.now (block_masks block.now) (block_masks block.now)
             widths.rows) }
         ensures compactions { IfOk result (λ widths. widths.compactions ≤ most_compactions) }
         ensures ok { OnOk result (tally.new ≡ tally.old + wanted_count (block_masks block.now)) }
@@ -365,13 +365,13 @@ pub fn all_widths(
     requires inputs { block.now.inputs ≡ problem.now.inputs }
     requires room { tally.old < 2 ^ 31 }
     ensures rows { IfOk result
-        (λ widths. AreRows problem.now (block_masks block.now) (block_masks block.now)
+        (λ widths. AreWidthRows problem.now (block_masks block.now) (block_masks block.now)
         widths.rows) }
     ensures compactions { IfOk result (λ widths. widths.compactions ≤ most_compactions) }
     ensures ok { OnOk result (tally.new ≡ tally.old + wanted_count (block_masks block.now)) }
     ensures err { OnErr result (tally.new ≡ tally.old) }
 {
-    let beginning = Beginning::bare(alloc, problem);
-    let widths = beginning.all_widths(alloc, block, tally)?;
+    let shared = SharedTables::bare(alloc, problem);
+    let widths = shared.all_widths(alloc, block, tally)?;
     Ok(widths)
 }

@@ -8,10 +8,9 @@ ghost use Rattle.pair_numbering.specs.Strips.{AreNamed, unrolled};
 use crate::add_variable::StripParts;
 use crate::classes::rank_of;
 use crate::columns::{ByteStrips, byte_strips};
-use crate::names::copied;
 use crate::strips::Strips;
 use order_model::{Mask, Problem, VarIx};
-use pair_numbering::tell_pairs;
+use pair_numbering::label_pairs;
 use std::alloc::{AllocError, Global};
 use std::marker::Model;
 
@@ -125,13 +124,13 @@ impl<'a> ByteKeys<'a> {
     {
         prove!(self.problem.inputs() <= 16);
         let rank = rank_of(self.set, x);
-        let told = tell_pairs(alloc, &self.rows, rank, x, &self.masks)?;
+        let told = label_pairs(alloc, &self.rows, rank, x, &self.masks)?;
         let mut bytes = Vec::with_capacity(alloc, self.bytes.len())?;
         bytes.extend_from_slice(&self.bytes)?;
         Ok(ByteKeys {
             problem: self.problem,
             set: self.set | (1 << x),
-            outer: copied(alloc, &self.outer)?,
+            outer: self.outer.to_vec(alloc)?,
             bytes,
             rows: told.numbers,
             masks: told.masks,
@@ -151,7 +150,7 @@ impl<'a> ByteKeys<'a> {
         )?;
         let mut masks = Vec::with_capacity(alloc, self.masks.len())?;
         masks.extend_from_slice(&self.masks)?;
-        let outer = copied(alloc, &self.outer)?;
+        let outer = self.outer.to_vec(alloc)?;
         let parts = StripParts {
             outer,
             numbers,

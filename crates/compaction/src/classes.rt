@@ -11,7 +11,7 @@ ghost use Rattle.pair_numbering.specs.Scratch.{most_entries};
 use crate::tally::Tally;
 use order_model::{Mask, Problem, VarIx, contains};
 use pair_numbering::{Scratch, number_pairs_by_index, number_pairs_with_masks};
-use point_classes::{no_dependence, value_numbers};
+use point_classes::{count_with, no_dependence, value_numbers};
 use std::alloc::{AllocError, Global};
 use std::marker::Model;
 
@@ -49,21 +49,6 @@ pub(crate) fn rank_of(set: Mask, x: VarIx) -> u32
         }
     }
     rank
-}
-
-/// How many masks have a bit.
-fn count_with(masks: &[u16], x: VarIx) -> u32
-    requires variable { x < 16 }
-    requires few { length masks.now ≤ 2 ^ 20 }
-    ensures { result ≡ length (filter (λ m. bit_at m x == 1) masks.now) }
-{
-    let mut count = 0;
-    for mask in masks {
-        if contains(*mask, x) {
-            count += 1;
-        }
-    }
-    count
 }
 
 /// At each wanted variable how many masks have its bit, else 0.

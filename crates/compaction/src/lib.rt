@@ -3,21 +3,21 @@
 
 mod add_variable;
 mod ahead;
-mod beginning;
 mod blocks;
 mod bytes;
 mod classes;
 mod columns;
 mod names;
 mod preparing;
+mod request;
+mod shared_tables;
 mod strips;
 mod tally;
-mod wanted;
 
-pub use ahead::{Ahead, Walks};
-pub use beginning::Beginning;
+pub use ahead::{WidthSource, WidthsAhead};
 pub use blocks::{BlockWidths, all_widths, block_widths};
 pub use classes::Classes;
 pub use pair_numbering::Scratch;
 pub use preparing::Preparation;
+pub use shared_tables::SharedTables;
 pub use tally::{Tallies, Tally};

@@ -41,24 +41,6 @@ fn are_whole(count: usize, rank: u32) -> bool
     count % (2 * step) == 0
 }
 
-/// The same words once more.
-pub(crate) fn copied(alloc: Global, words: &[u32]) -> Result<Vec<u32>, AllocError>
-    ensures { IfOk result (λ v. v.items ≡ words.now) }
-{
-    let mut copy = Vec::with_capacity(alloc, words.len())?;
-    copy.extend_from_slice(words)?;
-    Ok(copy)
-}
-
-/// The same pairs once more.
-fn copied_pairs(alloc: Global, pairs: &[(u32, u32)]) -> Result<Vec<(u32, u32)>, AllocError>
-    ensures { IfOk result (λ v. v.items ≡ pairs.now) }
-{
-    let mut copy = Vec::with_capacity(alloc, pairs.len())?;
-    copy.extend_from_slice(pairs)?;
-    Ok(copy)
-}
-
 impl NamePairs {
     /// The pairs of names, if they are worth keeping: names that count up aren't paired by number.
     fn of(alloc: Global, names: &[u32], rank: u32) -> Result<Option<NamePairs>, AllocError>
@@ -72,7 +54,7 @@ impl NamePairs {
         }
         let paired = number_pairs(alloc, names, rank, names.len())?;
         Ok(Some(NamePairs {
-            names: copied(alloc, names)?,
+            names: names.to_vec(alloc)?,
             rank,
             numbers: paired.numbers,
             pairs: paired.pairs,
@@ -80,14 +62,14 @@ impl NamePairs {
     }
 
     /// The pairs of names with the numbers that they were given before.
-    fn given(&self, alloc: Global) -> Result<NumberedPairs, AllocError>
+    fn numbered_pairs(&self, alloc: Global) -> Result<NumberedPairs, AllocError>
         ensures { IfOk result
             (λ v. ArePairsNumbered self.now.names.items self.now.rank v.numbers.items
             v.pairs.items) }
     {
         Ok(NumberedPairs {
-            numbers: copied(alloc, &self.numbers)?,
-            pairs: copied_pairs(alloc, &self.pairs)?,
+            numbers: self.numbers.to_vec(alloc)?,
+            pairs: self.pairs.to_vec(alloc)?,
         })
     }
 }
@@ -106,8 +88,7 @@ pub(crate) fn number_names(
 {
     if let Some(known) = known {
         if known.rank == rank && known.names.as_slice() == names {
-            let given = known.given(alloc)?;
-            return Ok(given);
+            return known.numbered_pairs(alloc);
         }
     }
     number_pairs(alloc, names, rank, count)

@@ -3,13 +3,13 @@
 
 ghost use Rattle.std.specs.Prelude.{◌≡◌, ◌^◌, ◌<◌, ◌≤◌, All, length, vec_len, IfOk};
 ghost use Rattle.compaction.specs.Ahead.{AreAhead, widths_ahead};
-ghost use Rattle.compaction.specs.Rows.{AreRows};
+ghost use Rattle.compaction.specs.Rows.{AreWidthRows};
 
-use crate::ahead::{Ahead, ByteRows, Sizes, sets_of_byte};
-use crate::beginning::Beginning;
-use crate::blocks::wanted_rows;
+use crate::ahead::{ByteRows, Sizes, WidthsAhead, sets_of_byte};
+use crate::blocks::requested_rows;
+use crate::request::WidthRequest;
+use crate::shared_tables::SharedTables;
 use crate::tally::Tally;
-use crate::wanted::Wanted;
 use order_model::{Pairs, Problem, Workers};
 use std::alloc::{AllocError, Global};
 use std::marker::Model;
@@ -20,7 +20,7 @@ use std::thread::Threads;
 /// Rows that a thread found, and how many widths they hold.
 #[derive(Drop)]
 struct Part {
-    found: Ahead,
+    found: WidthsAhead,
     tally: Tally,
     ghost counted: { tally ≡ widths_ahead found },
     ghost few: { tally ≤ 2 ^ 24 },
@@ -68,7 +68,7 @@ impl Turns {
     }
 }
 
-impl<'a> Beginning<'a> {
+impl<'a> SharedTables<'a> {
     /// The rows of the sets that have a low byte and are in orders with the pairs, up to a size.
     fn rows_up_to(
         &self,
@@ -78,7 +78,7 @@ impl<'a> Beginning<'a> {
         end: u8,
     ) -> Result<ByteRows, AllocError>
         requires { low < 2 ^ self.now.inputs }
-        ensures rows { IfOk result (λ b. AreRows self.now b.masks b.masks b.rows) }
+        ensures rows { IfOk result (λ b. AreWidthRows self.now b.masks b.masks b.rows) }
         ensures few { IfOk result (λ b. length b.masks ≤ 2 ^ 8) }
     {
         let inputs = self.problem().inputs();
@@ -88,8 +88,8 @@ impl<'a> Beginning<'a> {
             last: u32::from(end),
         };
         let masks = sets_of_byte(alloc, inputs, low, pairs, sizes)?;
-        let wanted = Wanted::new(inputs, low, &masks, &masks);
-        let rows = wanted_rows(alloc, self, &wanted)?.into_rows();
+        let request = WidthRequest::new(inputs, low, &masks, &masks);
+        let rows = requested_rows(alloc, self, &request)?.into_rows();
         Ok(ByteRows { low, masks, rows })
     }
 
@@ -103,7 +103,7 @@ impl<'a> Beginning<'a> {
     ) -> Result<Part, AllocError>
         ensures { IfOk result (λ p. AreAhead self.now p.found) }
     {
-        let mut found = Ahead::up_to(alloc, end);
+        let mut found = WidthsAhead::up_to(alloc, end);
         let mut tally = Tally::new();
         let limit = 1u32 << self.problem().inputs();
         for _turn in 0..256u32 {
@@ -120,19 +120,19 @@ impl<'a> Beginning<'a> {
 }
 
 /// What all threads found.
-fn joined(
+fn collect(
     alloc: Global,
     problem: &Problem,
     end: u8,
     parts: Vec<Result<Part, AllocError>>,
-) -> Result<(Ahead, Tally), AllocError>
+) -> Result<(WidthsAhead, Tally), AllocError>
     requires few { vec_len parts ≤ 64 }
     requires parts { All (λ r. IfOk r (λ p. AreAhead problem.now p.found)) parts.items }
     ensures found { IfOk result (λ r. AreAhead problem.now r.0) }
     ensures counted { IfOk result (λ r. r.1 ≡ widths_ahead r.0) }
 {
     let mut parts = parts;
-    let mut found = Ahead::up_to(alloc, end);
+    let mut found = WidthsAhead::up_to(alloc, end);
     let mut tally = Tally::new();
     while let Some(part) = parts.pop() {
         let Part {
@@ -149,8 +149,8 @@ fn joined(
 /// was known, which it takes as those that its own walks find ahead.
 #[derive(Drop)]
 pub struct Preparation<'a> {
-    beginning: Beginning<'a>,
-    found: Ahead,
+    shared: SharedTables<'a>,
+    found: WidthsAhead,
     tally: Tally,
 }
 
@@ -161,11 +161,11 @@ impl<'a> Model for Preparation<'a> {
     ghost Value = { PreparationOf };
 
     ghost view = { λ p. record {
-      problem = p.beginning;
+      problem = p.shared;
       found = p.found;
     } };
 
-    ghost invariant = { λ p. AreAhead p.beginning p.found × (p.tally ≡ widths_ahead p.found) };
+    ghost invariant = { λ p. AreAhead p.shared p.found × (p.tally ≡ widths_ahead p.found) };
 }
 
 impl<'a> Preparation<'a> {
@@ -174,8 +174,8 @@ impl<'a> Preparation<'a> {
         ensures { IfOk result (λ p. p.problem ≡ problem.now) }
     {
         Ok(Preparation {
-            beginning: Beginning::of(alloc, problem)?,
-            found: Ahead::up_to(alloc, 0),
+            shared: SharedTables::of(alloc, problem)?,
+            found: WidthsAhead::up_to(alloc, 0),
             tally: Tally::new(),
         })
     }
@@ -192,7 +192,7 @@ impl<'a> Preparation<'a> {
     ) -> Result<Preparation<'a>, AllocError>
         ensures { IfOk result (λ p. p.problem ≡ problem.now) }
     {
-        let beginning = Beginning::by_threads(rt, alloc, problem, workers)?;
+        let shared = SharedTables::by_threads(rt, alloc, problem, workers)?;
         let count = usize::from(workers.count()) * usize::from(end.min(1));
         let turns = Turns::new();
         let parts = thread::map_indices(
@@ -200,12 +200,12 @@ impl<'a> Preparation<'a> {
             alloc,
             count,
             &|_worker: usize| -> Result<Part, AllocError>
-                ensures { IfOk result (λ p. AreAhead beginning.entry p.found) }
-            { beginning.part_of(alloc, pairs, end, &turns) },
+                ensures { IfOk result (λ p. AreAhead shared.entry p.found) }
+            { shared.part_of(alloc, pairs, end, &turns) },
         )?;
-        let (found, tally) = joined(alloc, problem, end, parts)?;
+        let (found, tally) = collect(alloc, problem, end, parts)?;
         Ok(Preparation {
-            beginning,
+            shared,
             found,
             tally,
         })
@@ -215,7 +215,7 @@ impl<'a> Preparation<'a> {
     pub fn problem(&self) -> &'a Problem
         ensures { result.now ≡ self.now.problem }
     {
-        self.beginning.problem()
+        self.shared.problem()
     }
 
     /// How many widths the rows hold.
@@ -226,11 +226,11 @@ impl<'a> Preparation<'a> {
     }
 
     /// What serves several blocks, and the rows.
-    pub fn into_parts(self) -> (Beginning<'a>, Ahead)
-        ensures beginning { result.0 ≡ self.entry.problem }
+    pub fn into_parts(self) -> (SharedTables<'a>, WidthsAhead)
+        ensures shared { result.0 ≡ self.entry.problem }
         ensures found { result.1 ≡ self.entry.found }
         ensures right { AreAhead self.entry.problem self.entry.found }
     {
-        (self.beginning, self.found)
+        (self.shared, self.found)
     }
 }

@@ -10,9 +10,9 @@ ghost use Rattle.compaction.specs.Strips.{masks_in_use, low_variables as low_of}
 use crate::add_variable::{StripParts, StripTable, add_above, are_in_order};
 use crate::classes::{rank_of, row_of};
 use crate::columns::{ValueStrips, whole_strips};
-use crate::names::{NamePairs, copied};
+use crate::names::NamePairs;
 use order_model::{Mask, Problem, VarIx, contains};
-use pair_numbering::tell_pairs;
+use pair_numbering::label_pairs;
 use std::alloc::{AllocError, Global};
 use std::marker::Model;
 
@@ -121,7 +121,7 @@ fn same_row(width: u32, wanted: Mask) -> [u32; 16]
 }
 
 impl<'a> Strips<'a> {
-    ghost use Rattle.compaction.specs.Rows.{IsRow};
+    ghost use Rattle.compaction.specs.Rows.{IsWidthRow};
     ghost use Rattle.compaction.specs.Strips.{AreDistinct, HoldsStrips, low_variables};
     ghost use Rattle.class_laws.specs.Table.{set_of, with_variable, classes_of};
 
@@ -211,8 +211,8 @@ impl<'a> Strips<'a> {
             Some(count) => Ok(Strips::of_count(alloc, self.problem, set, count / 2)),
             None => {
                 let rank = rank_of(self.set, x);
-                let told = tell_pairs(alloc, &self.numbers, rank, x, &self.masks)?;
-                let outer = copied(alloc, &self.outer)?;
+                let told = label_pairs(alloc, &self.numbers, rank, x, &self.masks)?;
+                let outer = self.outer.to_vec(alloc)?;
                 let parts = StripParts {
                     outer,
                     numbers: told.numbers,
@@ -260,7 +260,7 @@ impl<'a> Strips<'a> {
     /// The widths of the wanted variables, each over the set without it, and 0 of the others.
     pub(crate) fn width_row(&self, alloc: Global, wanted: Mask) -> Result<[u32; 16], AllocError>
         requires { (x : ℕ) → bit_at wanted x ≡ 1 → IsTrue (has (set_of self.now) x) }
-        ensures { IfOk result (λ row. IsRow self.now.problem self.now.set wanted row) }
+        ensures { IfOk result (λ row. IsWidthRow self.now.problem self.now.set wanted row) }
     {
         match self.distinct {
             Some(count) => Ok(same_row(count, wanted)),

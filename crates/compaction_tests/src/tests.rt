@@ -3,10 +3,11 @@ ghost use Rattle.subset_layers.specs.Layers.{block_masks};
 ghost use Rattle.compaction.specs.Rows.{AreMembers, wanted_count};
 
 use compaction::{
-    Ahead, Beginning, Classes, Scratch, Tallies, Tally, Walks, all_widths, block_widths,
+    Classes, Scratch, SharedTables, Tallies, Tally, WidthSource, WidthsAhead, all_widths,
+    block_widths,
 };
 use order_model::{Mask, Pairs, Problem};
-use pair_numbering::{number_pairs, tell_strip_pairs};
+use pair_numbering::{label_strip_pairs, number_pairs};
 use std::alloc::{AllocError, Global};
 use std::process::Abort;
 use std::test::Fail;
@@ -109,10 +110,10 @@ fn pairs_by_first_occurrence(rt: HostRuntime) -> Result<(), Fail> {
 #[test]
 fn pairs_of_strips(rt: HostRuntime) -> Result<(), Fail> {
     let names = [(0, 1), (1, 1)];
-    let numbered = tell_strip_pairs(rt.alloc(), &names, &[0, 1, 2, 0], 1, 3, &[1, 2, 4])?;
+    let numbered = label_strip_pairs(rt.alloc(), &names, &[0, 1, 2, 0], 1, 3, &[1, 2, 4])?;
     assert_eq!(rt; numbered.numbers.as_slice(), [0, 1, 2, 3].as_slice());
     assert_eq!(rt; numbered.masks.as_slice(), [13, 11, 4, 1].as_slice());
-    let keys = tell_strip_pairs(rt.alloc(), &names, &[0, 1, 1, 0], 1, 3, &[1, 2])?;
+    let keys = label_strip_pairs(rt.alloc(), &names, &[0, 1, 1, 0], 1, 3, &[1, 2])?;
     assert_eq!(rt; keys.numbers.as_slice(), [2, 1, 3, 0].as_slice());
     assert_eq!(rt; keys.masks.as_slice(), [1, 11, 11, 2].as_slice());
     Ok(())
@@ -149,14 +150,14 @@ fn try_block(
     rt: &impl Abort,
     alloc: Global,
     problem: &Problem,
-    beginning: &Beginning<'_>,
+    shared: &SharedTables<'_>,
     block: &Block,
 ) -> Result<u64, Fail>
-    requires { beginning.now ≡ problem.now }
+    requires { shared.now ≡ problem.now }
 {
     assert!(rt; block.inputs() == problem.inputs());
     let mut tally = Tally::new();
-    let widths = beginning.all_widths(alloc, block, &mut tally)?;
+    let widths = shared.all_widths(alloc, block, &mut tally)?;
     let mut count = 0u64;
     let mut sum = 0u64;
     for i in 0..block.len() {
@@ -190,10 +191,10 @@ fn try_block(
 /// The same for all blocks of a layer.
 fn try_layer(rt: &impl Abort, alloc: Global, problem: &Problem, size: u8) -> Result<u64, Fail> {
     let layer = Layer::of(alloc, problem.inputs(), size)?;
-    let beginning = Beginning::of(alloc, problem)?;
+    let shared = SharedTables::of(alloc, problem)?;
     let mut sum = 0u64;
     for i in 0..layer.blocks() {
-        let own = try_block(rt, alloc, problem, &beginning, &layer.block(i))?;
+        let own = try_block(rt, alloc, problem, &shared, &layer.block(i))?;
         assert!(rt; sum < 1 << 40 && own < 1 << 41);
         sum += own;
     }
@@ -204,20 +205,20 @@ fn try_layer(rt: &impl Abort, alloc: Global, problem: &Problem, size: u8) -> Res
 /// taken for it and ahead.
 fn rows_by_walks(
     alloc: Global,
-    beginning: &Beginning<'_>,
+    shared: &SharedTables<'_>,
     block: &Block,
     needed: &[Mask],
 ) -> Result<(Vec<[u32; 16]>, Tallies), AllocError>
-    requires inputs { block.now.inputs ≡ beginning.now.inputs }
+    requires inputs { block.now.inputs ≡ shared.now.inputs }
     requires needed { length needed.now ≡ length (block_masks block.now) }
-    requires members { AreMembers beginning.now (block_masks block.now) needed.now }
+    requires members { AreMembers shared.now (block_masks block.now) needed.now }
     requires room { wanted_count needed.now ≤ 2 ^ 32 }
 {
-    let ahead = Ahead::up_to(alloc, 3);
-    let mut found = Ahead::up_to(alloc, 0);
+    let ahead = WidthsAhead::up_to(alloc, 3);
+    let mut found = WidthsAhead::up_to(alloc, 0);
     let mut tallies = Tallies::new();
     let pairs = Pairs::none(10);
-    let walks = Walks::new(beginning, &ahead, &pairs);
+    let walks = WidthSource::new(shared, &ahead, &pairs);
     let widths = walks.block_rows(alloc, block, needed, &mut found, &mut tallies)?;
     Ok((widths.into_rows(), tallies))
 }
@@ -238,8 +239,8 @@ fn row_of_one(
     let widths = block_widths(alloc, problem, block, &[needed], &mut tally)?;
     let row = widths.row(0);
     assert_eq!(rt; tally.count(), 2);
-    let beginning = Beginning::of(alloc, problem)?;
-    let (rows, tallies) = rows_by_walks(alloc, &beginning, block, &[needed])?;
+    let shared = SharedTables::of(alloc, problem)?;
+    let (rows, tallies) = rows_by_walks(alloc, &shared, block, &[needed])?;
     assert_eq!(rt; rows.as_slice(), [row].as_slice());
     assert_eq!(rt; tallies.cells.count(), 2);
     Ok((row, tallies.ahead.count()))

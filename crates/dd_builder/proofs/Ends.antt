@@ -91,7 +91,8 @@ abbrev pub End : Type 0
 End = Result Knowledge Knowledge
 
 -- what holds of each end holds of the last one and of those before it
-module _ (P : ℕ → End → Type 0) (items front : List End) (end : End) (e : items ≡ front ++ end ∷ []) (h : (k : ℕ) (x : End) → slice_get items k ≡ Some x → P k x) where
+module _ (P : ℕ → End → Type 0) (items front : List End) (end : End) (e : items ≡ front ++ end ∷ [])
+    (h : (k : ℕ) (x : End) → slice_get items k ≡ Some x → P k x) where
   pub ends_last : P (length front) end
   ends_last = h (length front) end (ap (λ xs. slice_get xs (length front)) e ∙ last_end front end)
 

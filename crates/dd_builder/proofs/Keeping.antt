@@ -110,10 +110,6 @@ keeps_joined one two joint f g both a b w has = ⊎_elim
 
 -- ---- building from a source
 
-pub kept_stays : (source : Source) (s : Knowledge) → KeepsFrom source s s
-kept_stays (Tables tables) s = λ h. h
-kept_stays (Terms terms) s = tt
-
 pub kept_on : (source : Source) (s1 s2 s3 : Knowledge) → KeepsFrom source s1 s2 → KeepsFrom source s2 s3 → KeepsFrom source s1 s3
 kept_on (Tables tables) s1 s2 s3 a b = λ h. b (a h)
 kept_on (Terms terms) s1 s2 s3 a b = tt
@@ -121,9 +117,6 @@ kept_on (Terms terms) s1 s2 s3 a b = tt
 pub kept_step : (source : Source) (s s' : Knowledge) → Follows s s' → s'.made ≡ s.made → KeepsFrom source s s'
 kept_step (Tables tables) s s' f same = keeps_step s s' f same
 kept_step (Terms terms) s s' f same = tt
-
-pub continues_stays : (source : Source) (s : Knowledge) → Continues source s s
-continues_stays source s = record { follows = stays s; kept = kept_stays source s }
 
 pub continues_on : (source : Source) (s1 s2 s3 : Knowledge) → Continues source s1 s2 → Continues source s2 s3 → Continues source s1 s3
 continues_on source s1 s2 s3 a b = record { follows = follows_trans s1 s2 s3 a.follows b.follows; kept = kept_on source s1 s2 s3 a.kept b.kept }

@@ -77,7 +77,8 @@ module _ (n : ℕ) (ws : List ℕ) (nodes : AreNodes n ws) (unequal : AreUnequal
   terminal_of : (id : ℕ) → IsDeep 0 id → id < 2
   terminal_of id d = ⊎_elim
       (λ (small : id < 2). small)
-      (λ (node : 2 ≤ id). let e = depth_node n ws id node in let l = (nodes (id - 2) (d.known node)).level in let far = d.deep in absurd (omega (arith, e, l, far)))
+      (λ (node : 2 ≤ id). let e = depth_node n ws id node in let l = (nodes (id - 2) (d.known node)).level in
+      let far = d.deep in absurd (omega (arith, e, l, far)))
       (cases_lt id 2)
 
   module _ (k id : ℕ) (known : IsKnown ws id) (two : 2 ≤ id) (far : n ≤ depth n ws id + suc k) where
@@ -277,7 +278,8 @@ module _ (order : List ℕ) (t : TruthTables) (ws : List ℕ) (count : ℕ) (is 
   local p low = on_level n ws nodes unequal (level_at p) (get_or ws p 0) (sub_at p low).output (sub_at p low).path
 
   local_small : (p : ℕ) (low : p < count) → local p low < most_on n m (level_at p)
-  local_small p low = on_level_small n ws nodes unequal p m (sub_at p low).output (sub_at p low).path (full p low) (sub_at p low).is_output (sub_at p low).is_path
+  local_small p low =
+      let s = sub_at p low in on_level_small n ws nodes unequal p m s.output s.path (full p low) s.is_output s.is_path
 
   abbrev numbered : (p : ℕ) → p < count → ℕ
   numbered p low = most_above n m (level_at p) + local p low

@@ -1,6 +1,6 @@
 -- Building the reduced diagram of some functions.
 --     KnowsFull s      a session knows all places of its store to be filled
---     Refuses store e, IsOutOfMemory e      why a build gives no diagram in a store; for want of memory
+--     FailsToBuild store e, IsOutOfMemory e      why a build gives no diagram in a store; for want of memory
 --     IsForTables b t, IsForCover b cover      what a store was made for
 --     IsDiagramFor b d      the reduced diagram of a store's functions
 use Rattle.std.specs.Prelude.{◌≡◌, ◌≢◌, ℕ, ◌<◌, map, slice_index}
@@ -22,9 +22,9 @@ abbrev pub KnowsFull : Knowledge → Type 0
 KnowsFull s = (p : ℕ) → p < s.store.plan.places → slice_index s.seen p ≢ 0
 
 -- why nothing was built in a store: a session of it knows all places to be filled, or memory was wanting
-abbrev pub Refuses : StoreId → BuildError → Type 0
-Refuses store (StoreFull s) = (s.store ≡ store) × KnowsFull s
-Refuses store OutOfMemory = Unit {0}
+abbrev pub FailsToBuild : StoreId → BuildError → Type 0
+FailsToBuild store (StoreFull s) = (s.store ≡ store) × KnowsFull s
+FailsToBuild store OutOfMemory = Unit {0}
 
 -- no store was full
 abbrev pub IsOutOfMemory : BuildError → Type 0

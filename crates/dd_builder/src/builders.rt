@@ -4,7 +4,7 @@ ghost use Rattle.std.specs.Prelude.{◌≡◌, ◌-◌, ◌≤◌, length, vec_l
 ghost use Rattle.std.specs.Thread.{IsSync};
 ghost use Rattle.order_model.specs.Problems.{functions};
 ghost use Rattle.unique_table.specs.Plans.{order_of};
-ghost use Rattle.dd_builder.specs.Building.{Refuses, IsOutOfMemory, IsDiagramOf, IsDiagramFor, IsForTables, IsForCover};
+ghost use Rattle.dd_builder.specs.Building.{FailsToBuild, IsOutOfMemory, IsDiagramOf, IsDiagramFor, IsForTables, IsForCover};
 ghost use Rattle.truth_table.specs.OfCovers.{AreTablesOf};
 ghost use Rattle.pla_reader.specs.Covers.{functions_of};
 ghost use Rattle.dd_builder.specs.Parts.{IsSourceFor, Continues, IsShareOf, AreSharesOf, KnowsParts, IsEndOf, AreEndsOf, MayBeFull, session_of};
@@ -14,7 +14,7 @@ use crate::errors::BuildError;
 use crate::laws::{orders_have_each_variable_once, stores_have_plans};
 use crate::parts::Source;
 use crate::roots::publish_roots;
-use crate::workers::{Job, build_parts, jobs, joined};
+use crate::workers::{Job, build_parts, jobs, join_all};
 use order_model::laws::{some_diagram_has_the_level_counts, truth_tables_keep_functions};
 use order_model::{Crew, Diagram, Gate, Order, Workers};
 use pla_reader::Cover;
@@ -34,7 +34,7 @@ fn finish(
     requires session { KnowsParts store session }
     requires source { IsSourceFor store.plan source }
     ensures diagram { IfOk result (IsDiagramFor store.plan) }
-    ensures refused { IfErr result (Refuses store) }
+    ensures refused { IfErr result (FailsToBuild store) }
     ensures full { IfErr result (MayBeFull source.entry session) }
 {
     stores_have_plans(&store);
@@ -97,14 +97,14 @@ fn parts_by_workers<R: Threads + Sync, G: Gate>(
     requires source { IsSourceFor store.now.plan source }
     ensures parts { IfOk result (KnowsParts store.now) }
     ensures whole { IfOk result (IsShareOf source.entry session 0) }
-    ensures refused { IfErr result (Refuses store.now) }
+    ensures refused { IfErr result (FailsToBuild store.now) }
     ensures full { IfErr result (MayBeFull source.entry session) }
 {
     let count = crew.workers.count();
     let Ok(ended) = ends_of_workers(crew, alloc, store, session, source, count) else {
         return Err(BuildError::OutOfMemory);
     };
-    match joined(store, count, ended) {
+    match join_all(store, count, ended) {
         Ok(session) => Ok(session),
         Err(full) => {
             stores_have_plans(store);
@@ -125,7 +125,7 @@ fn build_in<R: Threads + Sync, G: Gate>(
     requires session { session.store ≡ store }
     requires source { IsSourceFor store.plan source }
     ensures diagram { IfOk result (IsDiagramFor store.plan) }
-    ensures refused { IfErr result (Refuses store) }
+    ensures refused { IfErr result (FailsToBuild store) }
     ensures full { IfErr result (MayBeFull source.entry session) }
 {
     let session = parts_by_workers(crew, alloc, &store, session, source)?;
@@ -149,7 +149,7 @@ pub fn from_tables<R: Threads + Sync, G: Gate>(
     requires session { session.store ≡ store }
     requires tables { IsForTables store.plan tables.now }
     ensures diagram { IfOk result (IsDiagramFor store.plan) }
-    ensures refused { IfErr result (Refuses store) }
+    ensures refused { IfErr result (FailsToBuild store) }
     ensures never_full { IsFresh session → IfErr result IsOutOfMemory }
 {
     let crew = Crew::new(rt, workers, gate);
@@ -173,7 +173,7 @@ pub fn from_cover<R: Threads + Sync, G: Gate>(
     requires session { session.store ≡ store }
     requires cover { IsForCover store.plan cover.now }
     ensures diagram { IfOk result (IsDiagramFor store.plan) }
-    ensures refused { IfErr result (Refuses store) }
+    ensures refused { IfErr result (FailsToBuild store) }
 {
     let crew = Crew::new(rt, workers, gate);
     build_in(&crew, alloc, store, session, Source::Terms(cover.terms()))

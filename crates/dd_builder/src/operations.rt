@@ -11,7 +11,7 @@ use op_cache::{recall, remember};
 use unique_table::{NodeId, Operation, Session, Store, StoreFull};
 
 /// What a conjunction is if an operand is a terminal, or both are one.
-fn settled_and(first: NodeId, second: NodeId) -> Option<NodeId>
+fn terminal_case_of_and(first: NodeId, second: NodeId) -> Option<NodeId>
     ensures { IsSettled Operation.And first second result }
 {
     if first == 0 || second == 0 {
@@ -26,7 +26,7 @@ fn settled_and(first: NodeId, second: NodeId) -> Option<NodeId>
 }
 
 /// What a disjunction is if an operand is a terminal, or both are one.
-fn settled_or(first: NodeId, second: NodeId) -> Option<NodeId>
+fn terminal_case_of_or(first: NodeId, second: NodeId) -> Option<NodeId>
     ensures { IsSettled Operation.Or first second result }
 {
     if first == 1 || second == 1 {
@@ -41,7 +41,7 @@ fn settled_or(first: NodeId, second: NodeId) -> Option<NodeId>
 }
 
 /// What an exclusive disjunction is if an operand is 0, or both are one.
-fn settled_xor(first: NodeId, second: NodeId) -> Option<NodeId>
+fn terminal_case_of_xor(first: NodeId, second: NodeId) -> Option<NodeId>
     ensures { IsSettled Operation.Xor first second result }
 {
     if first == second {
@@ -56,13 +56,13 @@ fn settled_xor(first: NodeId, second: NodeId) -> Option<NodeId>
 }
 
 /// What an operation is if no node has to be taken apart.
-fn settled(operation: Operation, first: NodeId, second: NodeId) -> Option<NodeId>
+fn terminal_case(operation: Operation, first: NodeId, second: NodeId) -> Option<NodeId>
     ensures { IsSettled operation first second result }
 {
     match operation {
-        Operation::And => settled_and(first, second),
-        Operation::Or => settled_or(first, second),
-        Operation::Xor => settled_xor(first, second),
+        Operation::And => terminal_case_of_and(first, second),
+        Operation::Or => terminal_case_of_or(first, second),
+        Operation::Xor => terminal_case_of_xor(first, second),
     }
 }
 
@@ -160,7 +160,7 @@ fn apply_from(
         (AreCombined session.old session.new operation first second) }
     ensures full { OnErr result (KnowsFull session.new) }
 {
-    if let Some(id) = settled(operation, first, second) {
+    if let Some(id) = terminal_case(operation, first, second) {
         return Ok(id);
     }
     if let Some(id) = recall(store, session, operation, first, second) {

@@ -76,7 +76,7 @@ pub(crate) fn jobs(
 }
 
 /// The session of a worker that has ended, and whether it met a full store.
-fn opened(end: Result<Session, Session>) -> (Session, bool)
+fn session_at_end(end: Result<Session, Session>) -> (Session, bool)
     ensures { IsOpened end result.0 result.1 }
 {
     match end {
@@ -86,7 +86,7 @@ fn opened(end: Result<Session, Session>) -> (Session, bool)
 }
 
 /// A session that knows what all workers know; an error if one of them met a full store.
-pub(crate) fn joined(
+pub(crate) fn join_all(
     store: &Store,
     workers: u8,
     mut ended: Vec<Result<Session, Session>>,
@@ -101,9 +101,9 @@ pub(crate) fn joined(
     let Some(last) = ended.pop() else {
         unreachable!()
     };
-    let (mut session, mut full) = opened(last);
+    let (mut session, mut full) = session_at_end(last);
     while let Some(next) = ended.pop() {
-        let (other, met_full) = opened(next);
+        let (other, met_full) = session_at_end(next);
         session = store.join(session, other);
         full |= met_full;
     }

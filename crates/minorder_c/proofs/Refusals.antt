@@ -3,10 +3,10 @@
 use Rattle.std.proofs.Common.{ℕ, List}
 use Rattle.minorder_c.specs.declared.status.Refusal.{Refusal}
 use Rattle.minorder_c.specs.declared.status.Refusal.TheVariants.{Shape, Certificate, OutOfMemory, Order, Pairs}
-use Rattle.minorder_c.specs.Statuses.{Refuses}
+use Rattle.minorder_c.specs.Statuses.{RefusesShape}
 use Rattle.minorder_c.specs.Judged.{RefusesText}
 
-pub tables_refused : (shape : Type 0) (text : List ℕ) (r : Refusal) → Refuses shape r → RefusesText shape text r
+pub tables_refused : (shape : Type 0) (text : List ℕ) (r : Refusal) → RefusesShape shape r → RefusesText shape text r
 tables_refused shape text Shape h = h
 tables_refused shape text Certificate h = absurd h
 tables_refused shape text OutOfMemory h = h

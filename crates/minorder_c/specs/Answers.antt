@@ -3,13 +3,12 @@
 --     functions_in inputs outputs words      their functions
 --     HasShape inputs outputs words places counts      the same, with a place and a count for each variable
 --     pairs_given above      the pairs that an order has to keep
---     IsOptimum n F P order levels total, IsSiftedFrom n F start order levels total      what is answered
+--     IsSiftedFrom n F P start order levels total      the order that one pass of sifting makes
 --     AllStay order order' levels levels' total total'      nothing is written
 use Rattle.std.specs.Prelude.{◌≡◌, ℕ, ◌*◌, ◌≤◌, List, length, map}
 use Rattle.order_model.specs.Functions.{Function}
 use Rattle.order_model.specs.Pairs.{Pair}
 use Rattle.order_model.specs.Levels.{level_counts, size_under}
-use Rattle.order_model.specs.Diagrams.{FewestKeeping, IsFirstKeeping}
 use Rattle.order_model.specs.Sifting.{sifted}
 use Rattle.order_model.specs.Problems.{functions, packed_tables, words_per_table}
 use Rattle.minorder_c.specs.declared.above.AbovePair.{AbovePair}
@@ -35,13 +34,6 @@ pub record HasShape (inputs outputs : ℕ) (words : List ℕ) (places counts : �
 -- the pairs (a, b) for which a has to stand above b
 abbrev pub pairs_given : List AbovePair → List Pair
 pairs_given above = map (λ p. (p.above, p.below)) above
-
--- the first order of the fewest nodes among those that keep the pairs, with its level counts and its size
-pub record IsOptimum (n : ℕ) (F : List Function) (P : List Pair) (order levels : List ℕ) (total : ℕ) : Type 0 where
-  pub first : IsFirstKeeping n F P order
-  pub fewest : FewestKeeping n F P total
-  pub size : total ≡ size_under n F order
-  pub levels_are : levels ≡ level_counts n F order
 
 -- nothing is written: the order, the level counts and the total stay
 abbrev pub AllStay : List ℕ → List ℕ → List ℕ → List ℕ → ℕ → ℕ → Type 0

@@ -52,7 +52,7 @@ pub record IsJudged (n : ℕ) (F : List Function) (text : List ℕ) (v : Verdict
   pub verdict : IsVerdict n F cert v
 
 -- the same, as C is told it
-pub record IsTold (n : ℕ) (F : List Function) (text : List ℕ) (told : ToldVerdict) : Type 0 where
+pub record IsVerdictTold (n : ℕ) (F : List Function) (text : List ℕ) (told : ToldVerdict) : Type 0 where
   pub verdict : Verdict
   pub judged : IsJudged n F text verdict
   pub told_is : told ≡ told_verdict verdict

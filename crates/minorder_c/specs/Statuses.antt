@@ -1,6 +1,6 @@
 -- How calls end.
 --     status_of r      the number of a refusal
---     Refuses shape r      memory was wanting, of arguments that have their shape, or they haven't
+--     RefusesShape shape r      memory was wanting, of arguments that have their shape, or they haven't
 --     RefusesOrder shape order r      the same, or what is given is no order
 --     RefusesPairs shape keepable r      the same, or no order keeps the pairs
 --     IsPlainStatus s, IsOrderStatus s      the numbers of calls without an order and with one
@@ -18,10 +18,10 @@ status_of Order = 5
 status_of Pairs = 8
 
 -- arguments without their shape are refused for it; others only if memory is wanting
-abbrev pub Refuses : Type 0 → Refusal → Type 0
-Refuses shape Shape = shape → ⊥
-Refuses shape OutOfMemory = shape
-Refuses shape _ = ⊥
+abbrev pub RefusesShape : Type 0 → Refusal → Type 0
+RefusesShape shape Shape = shape → ⊥
+RefusesShape shape OutOfMemory = shape
+RefusesShape shape _ = ⊥
 
 -- the numbers of the calls that take no order and no pairs
 abbrev pub IsPlainStatus : ℕ → Type 0

@@ -4,7 +4,7 @@ ghost use Rattle.std.specs.Prelude.{◌≡◌, ◌≤◌, length, IfOk, IfErr, O
 ghost use Rattle.order_model.specs.Problems.{packed_tables};
 ghost use Rattle.order_model.specs.Orders.{IsOrder};
 ghost use Rattle.minorder_c.specs.Answers.{AreTables, HasShape};
-ghost use Rattle.minorder_c.specs.Statuses.{Refuses, RefusesOrder};
+ghost use Rattle.minorder_c.specs.Statuses.{RefusesShape, RefusesOrder};
 
 use crate::status::Refusal;
 use order_model::packed::words_per_table;
@@ -21,7 +21,7 @@ pub(crate) fn tables_of(
 ) -> Result<Tables, Refusal>
     ensures there { OnOk result (AreTables inputs outputs words.now) }
     ensures tables { IfOk result (λ t. t ≡ packed_tables inputs outputs words.now) }
-    ensures refused { IfErr result (Refuses (AreTables inputs outputs words.now)) }
+    ensures refused { IfErr result (RefusesShape (AreTables inputs outputs words.now)) }
 {
     if inputs < 1 || 16 < inputs || outputs < 1 || 16 < outputs {
         return Err(Refusal::Shape);
@@ -63,7 +63,7 @@ pub(crate) struct Arguments {
 
 /// The truth tables that words hold and an order of their variables, if a level count is asked for
 /// each.
-pub(crate) fn given(
+pub(crate) fn arguments_of(
     alloc: Global,
     words: &[u64],
     inputs: u32,

@@ -4,8 +4,9 @@ ghost use Rattle.std.specs.Prelude.{◌≡◌, ◌≢◌, ◌⊎◌, [], length,
 ghost use Rattle.order_model.specs.Problems.{functions};
 ghost use Rattle.order_model.specs.KeptPairs.{CanBeKept};
 ghost use Rattle.order_model.specs.Pairs.{sorted_pairs};
-ghost use Rattle.minorder_c.specs.Answers.{AllStay, HasShape, IsOptimum, functions_in, pairs_given};
-ghost use Rattle.minorder_c.specs.Statuses.{IsPlainStatus, Refuses, RefusesPairs, TellsShape};
+ghost use Rattle.minorder_c.specs.Answers.{AllStay, HasShape, functions_in, pairs_given};
+ghost use Rattle.order_solve.specs.Solutions.{IsFirstFewest, IsOptimumFor};
+ghost use Rattle.minorder_c.specs.Statuses.{IsPlainStatus, RefusesShape, RefusesPairs, TellsShape};
 
 use crate::above::{AbovePair, kept_pairs};
 use crate::arguments::tables_of;
@@ -21,8 +22,7 @@ use truth_table::Tables;
 fn optimum(alloc: Global, tables: &Tables, pairs: Pairs) -> Result<Optimum, AllocError>
     requires { pairs.inputs ≡ tables.now.inputs }
     ensures optimum { IfOk result
-        (λ s. IsOptimum tables.now.inputs (functions tables.now) pairs.pairs s.order s.levels.items
-        s.total) }
+        (IsOptimumFor tables.now pairs.pairs) }
     ensures long { IfOk result (λ s. length s.order ≡ tables.now.inputs) }
     ensures counts { IfOk result (λ s. length s.levels.items ≡ tables.now.inputs) }
 {
@@ -42,11 +42,11 @@ fn exact(
 ) -> Result<Optimum, Refusal>
     ensures shape { OnOk result (HasShape inputs outputs words.now places counts) }
     ensures optimum { IfOk result
-        (λ s. IsOptimum inputs (functions_in inputs outputs words.now) [] s.order s.levels.items
+        (λ s. IsFirstFewest inputs (functions_in inputs outputs words.now) [] s.order s.levels.items
         s.total) }
     ensures long { IfOk result (λ s. length s.order ≡ inputs) }
     ensures counts { IfOk result (λ s. length s.levels.items ≡ inputs) }
-    ensures refused { IfErr result (Refuses (HasShape inputs outputs words.now places counts)) }
+    ensures refused { IfErr result (RefusesShape (HasShape inputs outputs words.now places counts)) }
 {
     if places != inputs as usize || counts != inputs as usize {
         return Err(Refusal::Shape);
@@ -70,7 +70,7 @@ fn exact_above(
     ensures shape { OnOk result (HasShape inputs outputs words.now places counts) }
     ensures kept { OnOk result (CanBeKept inputs (pairs_given above.now)) }
     ensures optimum { IfOk result
-        (λ s. IsOptimum inputs (functions_in inputs outputs words.now)
+        (λ s. IsFirstFewest inputs (functions_in inputs outputs words.now)
         (sorted_pairs inputs (pairs_given above.now)) s.order s.levels.items s.total) }
     ensures long { IfOk result (λ s. length s.order ≡ inputs) }
     ensures counts { IfOk result (λ s. length s.levels.items ≡ inputs) }
@@ -103,7 +103,7 @@ pub extern "C" fn minorder_exact_with_lengths(
     ensures shape { TellsShape
         (HasShape inputs outputs tables.now (length order.old) (length levels.old)) result }
     ensures optimum { result ≡ 0 →
-        IsOptimum inputs (functions_in inputs outputs tables.now) [] order.new levels.new
+        IsFirstFewest inputs (functions_in inputs outputs tables.now) [] order.new levels.new
         total.new }
     ensures refused { result ≢ 0 →
         AllStay order.old order.new levels.old levels.new total.old total.new }
@@ -138,7 +138,7 @@ pub extern "C" fn minorder_exact_above_with_lengths(
     ensures bad_pairs { result ≡ 8 → CanBeKept inputs (pairs_given above.now) → ⊥ }
     ensures kept { result ≡ 0 → CanBeKept inputs (pairs_given above.now) }
     ensures optimum { result ≡ 0 →
-        IsOptimum inputs (functions_in inputs outputs tables.now)
+        IsFirstFewest inputs (functions_in inputs outputs tables.now)
         (sorted_pairs inputs (pairs_given above.now)) order.new levels.new total.new }
     ensures refused { result ≢ 0 →
         AllStay order.old order.new levels.old levels.new total.old total.new }

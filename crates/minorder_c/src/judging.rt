@@ -3,7 +3,7 @@
 ghost use Rattle.std.specs.Prelude.{◌≡◌, ◌≢◌, IfOk, IfErr, OnOk};
 ghost use Rattle.certificate.specs.Spelling.{spelling};
 ghost use Rattle.minorder_c.specs.Answers.{AreTables, functions_in};
-ghost use Rattle.minorder_c.specs.Judged.{IsJudged, IsNoCertificate, IsTextStatus, IsTold, RefusesText, told_verdict};
+ghost use Rattle.minorder_c.specs.Judged.{IsJudged, IsNoCertificate, IsTextStatus, IsVerdictTold, RefusesText, told_verdict};
 ghost use Rattle.minorder_c.specs.Statuses.{TellsShape};
 
 use crate::arguments::tables_of;
@@ -33,7 +33,7 @@ fn plain(reason: u32) -> ToldVerdict
 }
 
 /// A verdict, as C is told it.
-fn told(verdict: Verdict) -> ToldVerdict
+fn verdict_for_c(verdict: Verdict) -> ToldVerdict
     ensures { result ≡ told_verdict verdict }
 {
     match verdict {
@@ -101,12 +101,12 @@ pub extern "C" fn minorder_check(
     ensures shape { TellsShape (AreTables inputs outputs tables.now) result }
     ensures no_certificate { result ≡ 3 → IsNoCertificate certificate.now }
     ensures told { result ≡ 0 →
-        IsTold inputs (functions_in inputs outputs tables.now) certificate.now verdict.new }
+        IsVerdictTold inputs (functions_in inputs outputs tables.now) certificate.now verdict.new }
     ensures refused { result ≢ 0 → verdict.new ≡ verdict.old }
 {
     match verdict_on(alloc, tables, inputs, outputs, certificate) {
         Ok(found) => {
-            *verdict = told(found);
+            *verdict = verdict_for_c(found);
             0
         }
         Err(refusal) => refusal.status(),

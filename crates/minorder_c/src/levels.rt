@@ -6,7 +6,7 @@ ghost use Rattle.order_model.specs.Orders.{IsOrder};
 ghost use Rattle.minorder_c.specs.Answers.{HasShape, functions_in};
 ghost use Rattle.minorder_c.specs.Statuses.{IsOrderStatus, RefusesOrder, TellsShape};
 
-use crate::arguments::given;
+use crate::arguments::arguments_of;
 use crate::status::Refusal;
 use std::alloc::Global;
 
@@ -28,7 +28,7 @@ fn level_counts_of(
         (RefusesOrder (HasShape inputs outputs words.now (length order.now) counts)
         (IsOrder inputs order.now)) }
 {
-    let given = given(alloc, words, inputs, outputs, order, counts)?;
+    let given = arguments_of(alloc, words, inputs, outputs, order, counts)?;
     let levels = given.tables.widths_of(alloc, &given.order)?;
     Ok(levels)
 }

@@ -7,7 +7,7 @@ ghost use Rattle.order_model.specs.Levels.{level_count};
 ghost use Rattle.minorder_c.specs.Answers.{AllStay, HasShape, IsSiftedFrom, functions_in};
 ghost use Rattle.minorder_c.specs.Statuses.{IsOrderStatus, RefusesOrder, TellsShape};
 
-use crate::arguments::given;
+use crate::arguments::arguments_of;
 use crate::sifting_from::sifted_from;
 use crate::status::Refusal;
 use order_model::{Order, Pairs};
@@ -54,7 +54,7 @@ fn sifted_order(
         (RefusesOrder (HasShape inputs outputs words.now (length order.now) counts)
         (IsOrder inputs order.now)) }
 {
-    let given = given(alloc, words, inputs, outputs, order, counts)?;
+    let given = arguments_of(alloc, words, inputs, outputs, order, counts)?;
     let pairs = Pairs::none(inputs as u8);
     let sifted = sifted_from(alloc, &given.tables, &given.order, pairs)?;
     Ok(Found {

@@ -1,4 +1,4 @@
--- The sets of a block of a bench's layer: their needs, widths and cells.
+-- The sets of a block of a context's layer: their needs, widths and cells.
 --     in_layer      a set of the block is in the layer after the costs'
 --     are_members      the widths that are needed
 --     cell_is      the cell of a set
@@ -20,8 +20,8 @@ use Rattle.subset_layers.specs.Layers.{LayerOf, BlockOf, layer_of, layer_with, m
 use Rattle.subset_layers.specs.Costs.{CostsOf, cost_without, AreTrueCosts, AreWidthsFor, IsCellOnce}
 use Rattle.subset_layers.proofs.BlockLists.{has_slice_get}
 use Rattle.layer_core.specs.Settings.{Setting, cell_for}
-use Rattle.compaction.specs.Rows.{width_wanted, IsRow, AreMembers, AreRows}
-use Rattle.order_solve.specs.Benches.{BenchOf, IsBench}
+use Rattle.compaction.specs.Rows.{width_wanted, IsWidthRow, AreMembers, AreWidthRows}
+use Rattle.order_solve.specs.LayerContexts.{ContextOf, IsContext}
 use Rattle.order_solve.specs.Settings.{HoldsSetting}
 use Rattle.order_solve.specs.Needs.{needed}
 use Rattle.order_solve.proofs.Wanted.{wanted_lawful, wanted_member, wanted_bit, bit_wanted}
@@ -34,12 +34,12 @@ block_has blk i mask is =
 
 -- the row of a set
 pub row_there : (p : TruthTables) (masks needs : List ℕ) (rows : List (List ℕ)) (i mask need : ℕ) (row : List ℕ) →
-    AreRows p masks needs rows → slice_get masks i ≡ Some mask → slice_index needs i ≡ need → slice_get rows i ≡ Some row →
-    IsRow p mask need row
+    AreWidthRows p masks needs rows → slice_get masks i ≡ Some mask → slice_index needs i ≡ need → slice_get rows i ≡ Some row →
+    IsWidthRow p mask need row
 row_there p masks needs rows i mask need row are at is there =
-    subst (λ (r : List ℕ). IsRow p mask need r) (get_or_from_slice_get rows i row [] there)
-    (subst (λ (k : ℕ). IsRow p mask k (get_or rows i [])) is
-    (subst (λ (m : ℕ). IsRow p m (slice_index needs i) (get_or rows i [])) (get_or_from_slice_get masks i mask 0 at)
+    subst (λ (r : List ℕ). IsWidthRow p mask need r) (get_or_from_slice_get rows i row [] there)
+    (subst (λ (k : ℕ). IsWidthRow p mask k (get_or rows i [])) is
+    (subst (λ (m : ℕ). IsWidthRow p m (slice_index needs i) (get_or rows i [])) (get_or_from_slice_get masks i mask 0 at)
     (are.are i (slice_get_within masks i mask at))))
 
 -- the masks that are needed are of members
@@ -50,7 +50,7 @@ are_members t blk i lt x e =
     (bit_wanted t.problem.inputs (functions t.problem) t.pairs.pairs t.reserve t.bound (get_or (block_masks blk) i 0) x
     (ap (λ m. bit_at m x) (sym (get_or-map (needed t) (block_masks blk) i 0 0 lt)) ∙ e))
 
-module _ (b : BenchOf) (h : IsBench b) where
+module _ (b : ContextOf) (h : IsContext b) where
   abbrev t : Setting
   t = b.setting
 
@@ -72,7 +72,7 @@ module _ (b : BenchOf) (h : IsBench b) where
 
   -- the widths of a set, as its cell takes them
   module _ (v : ReservesOf) (s : HoldsSetting t v) (mask : ℕ) (next : has (masks_of (layer_with c.inputs (c.size + 1))) mask ≡ true) (row : List ℕ)
-      (is_row : IsRow t.problem mask (needed t mask) row) where
+      (is_row : IsWidthRow t.problem mask (needed t mask) row) where
     wanted_has : (x : ℕ) → is_lawful t.pairs.pairs (members c.inputs mask) ≡ true →
         has (asked c.inputs t.reserve t.bound mask (cost_without c mask)) x ≡ true →
         has (wanted t.problem.inputs F t.pairs.pairs t.reserve t.bound mask) x ≡ true

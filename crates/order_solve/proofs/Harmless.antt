@@ -11,16 +11,16 @@ use Rattle.symmetries.proofs.FirstSorted.{fewest_harmless, first_harmless}
 use Rattle.sifting.specs.Managed.{SiftedOrder, IsSiftedOrder}
 use Rattle.layer_core.specs.Settings.{Setting}
 use Rattle.order_solve.specs.Bounded.{IsBounded}
-use Rattle.order_solve.specs.Solutions.{IsOptimum}
+use Rattle.order_solve.specs.Solutions.{IsOptimumFor}
 use Rattle.order_solve.specs.declared.solution.Optimum.{Optimum}
 
 -- what is best among orders that keep more pairs is so among those that keep what is asked for
-pub optimum_harmless : (t : TruthTables) (P Q : List Pair) (o : Optimum) → IsHarmless t.inputs (functions t) P Q → IsOptimum t Q o → IsOptimum t P o
+pub optimum_harmless : (t : TruthTables) (P Q : List Pair) (o : Optimum) → IsHarmless t.inputs (functions t) P Q → IsOptimumFor t Q o → IsOptimumFor t P o
 optimum_harmless t P Q o h best = record {
   first = first_harmless t.inputs (functions t) P Q o.order h best.first;
   fewest = fewest_harmless t.inputs (functions t) P Q o.total h best.fewest;
   size = best.size;
-  levels = best.levels;
+  levels_are = best.levels_are;
 }
 
 -- the size of a sifted order is one that an order of more pairs has, if these are harmless

@@ -23,7 +23,7 @@ use Rattle.subset_layers.proofs.BlockLists.{masks_has}
 use Rattle.order_model.proofs.Bits.Ones.{ones-members}
 use Rattle.layer_core.specs.Settings.{Setting, cell_for}
 use Rattle.layer_core.proofs.Layouts.{length-map_lem}
-use Rattle.order_solve.specs.Benches.{IsLayerFor}
+use Rattle.order_solve.specs.LayerContexts.{IsLayerFor}
 use Rattle.order_solve.specs.Bounded.{IsBounded, AreLayersFor}
 use Rattle.order_model.proofs.Lists.Ranges.{filter_at_most}
 

@@ -23,7 +23,7 @@ use Rattle.layer_core.specs.Settings.{Setting, cell_for}
 use Rattle.layer_core.specs.Pairing.{pair_of}
 use Rattle.layer_core.proofs.Layouts.{length-map_lem, few_masks_in}
 use Rattle.subset_layers.proofs.CostLists.{distinct_masks}
-use Rattle.order_solve.specs.Benches.{BenchOf, IsLayerFor}
+use Rattle.order_solve.specs.LayerContexts.{ContextOf, IsLayerFor}
 use Rattle.order_solve.specs.Gains.{width_count, widths_for}
 use Rattle.order_solve.specs.Placed.{IsPlaced, no_cell}
 use Rattle.order_solve.proofs.Claimed.{block_layer, in_place, sum_few, few_each}
@@ -39,7 +39,7 @@ found_cell t masks cells i mask same at =
     ∙ get_or-map (cell_for t) masks i 0 (0, 0) lt
     ∙ ap (cell_for t) (get_or_from_slice_get masks i mask 0 at)
 
-module _ (b : BenchOf) (cells : List Cell) (q : ℕ) (v : Cell) (within : q < length cells)
+module _ (b : ContextOf) (cells : List Cell) (q : ℕ) (v : Cell) (within : q < length cells)
     (is : pair_of v ≡ cell_for b.setting (get_or (masks_of b.layer) q 0)) where
   pub placed_here : IsPlaced b (set cells q v) q
   placed_here = ap pair_of (get_or-set_same cells q v no_cell within) ∙ is
@@ -86,17 +86,17 @@ lists_same t (c ∷ cs) [] e h = absurd (omega arith)
 lists_same t (c ∷ cs) (m ∷ ms) e h =
     ap₂ (λ (x : ℕ × ℕ) (xs : List (ℕ × ℕ)). x ∷ xs) (h 0 (omega arith)) (lists_same t cs ms (omega arith) (λ p lt. h (suc p) (omega arith)))
 
-pub all_placed : (b : BenchOf) (cells : List Cell) → length cells ≡ length (masks_of b.layer) →
+pub all_placed : (b : ContextOf) (cells : List Cell) → length cells ≡ length (masks_of b.layer) →
     ((p : ℕ) → p < length (masks_of b.layer) → IsPlaced b cells p) → map pair_of cells ≡ map (cell_for b.setting) (masks_of b.layer)
 all_placed b cells e h = lists_same b.setting cells (masks_of b.layer) e h
 
 -- the cells of the first masks of a block are put, and those that were right stay right
-pub record PlacesFirst (b : BenchOf) (blk : BlockOf) (start : List Cell) (i : ℕ) (cells : List Cell) : Type 0 where
+pub record PlacesFirst (b : ContextOf) (blk : BlockOf) (start : List Cell) (i : ℕ) (cells : List Cell) : Type 0 where
   pub length_is : length cells ≡ length start
   pub kept : (p : ℕ) → IsPlaced b start p → IsPlaced b cells p
   pub placed : (p j : ℕ) → j < i → p < length (masks_of b.layer) → slice_index (masks_of b.layer) p ≡ slice_index (block_masks blk) j → IsPlaced b cells p
 
-module _ (b : BenchOf) (blk : BlockOf) (start : List Cell) (i : ℕ) (cells : List Cell) (h : PlacesFirst b blk start i cells) (mask : ℕ)
+module _ (b : ContextOf) (blk : BlockOf) (start : List Cell) (i : ℕ) (cells : List Cell) (h : PlacesFirst b blk start i cells) (mask : ℕ)
     (at : slice_get (block_masks blk) i ≡ Some mask) where
   abbrev M : List ℕ
   M = masks_of b.layer
@@ -136,7 +136,7 @@ module _ (b : BenchOf) (blk : BlockOf) (start : List Cell) (i : ℕ) (cells : Li
   }
 
 -- all of a block's masks
-pub places_all : (b : BenchOf) (blk : BlockOf) (start : List Cell) (i : ℕ) (cells : List Cell) → PlacesFirst b blk start i cells →
+pub places_all : (b : ContextOf) (blk : BlockOf) (start : List Cell) (i : ℕ) (cells : List Cell) → PlacesFirst b blk start i cells →
     length (block_masks blk) ≤ i → (p : ℕ) → p < length (masks_of b.layer) →
     has (block_masks blk) (slice_index (masks_of b.layer) p) ≡ true → IsPlaced b cells p
 places_all b blk start i cells h many p lt m =
@@ -155,7 +155,7 @@ written_back (x ∷ xs) (y ∷ ys) zero a b = absurd (omega arith)
 written_back (x ∷ xs) (y ∷ ys) (suc n) a b = ap (λ zs. x ∷ zs) (written_back xs ys n (omega arith) (omega arith))
 
 -- the blocks from the first one on
-pub blocks_more : (b : BenchOf) (k : ℕ) (blk : BlockOf) (old new : List Cell) → slice_get (blocks_of b.layer) k ≡ Some blk →
+pub blocks_more : (b : ContextOf) (k : ℕ) (blk : BlockOf) (old new : List Cell) → slice_get (blocks_of b.layer) k ≡ Some blk →
     ((p : ℕ) → p < length (masks_of b.layer) → block_place b.layer p < k → IsPlaced b old p) → ((p : ℕ) → IsPlaced b old p → IsPlaced b new p) →
     ((p : ℕ) → p < length (masks_of b.layer) → has (block_masks blk) (slice_index (masks_of b.layer) p) ≡ true → IsPlaced b new p) →
     (p : ℕ) → p < length (masks_of b.layer) → block_place b.layer p < k + 1 → IsPlaced b new p

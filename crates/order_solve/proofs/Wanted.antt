@@ -31,7 +31,7 @@ use Rattle.subset_layers.specs.Costs.{CostsOf, cost_without, AreTrueCosts}
 use Rattle.subset_layers.proofs.CostLists.{less_one}
 use Rattle.order_model.proofs.Bits.Ones.{ones-members}
 use Rattle.layer_core.specs.Settings.{Setting}
-use Rattle.order_solve.specs.Benches.{AreCostsFor}
+use Rattle.order_solve.specs.LayerContexts.{AreCostsFor}
 use Rattle.order_solve.specs.Needs.{affordable, needed}
 use Rattle.order_solve.specs.Gains.{width_count, widths_for}
 use Rattle.order_solve.proofs.Filters.{filter_none, sum_map}

@@ -10,7 +10,7 @@ use Rattle.order_model.specs.Problems.{functions}
 use Rattle.order_model.specs.Levels.{size_under}
 use Rattle.subset_layers.specs.Costs.{CostsOf}
 use Rattle.layer_core.specs.Settings.{Setting}
-use Rattle.order_solve.specs.Benches.{IsLayerFor}
+use Rattle.order_solve.specs.LayerContexts.{IsLayerFor}
 
 -- some order that keeps the pairs has the bound as its size
 pub record IsBounded (t : Setting) : Type 0 where

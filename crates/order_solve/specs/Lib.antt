@@ -1,5 +1,5 @@
 pub mod Settings
-pub mod Benches
+pub mod LayerContexts
 pub mod Needs
 pub mod Gains
 pub mod Placed

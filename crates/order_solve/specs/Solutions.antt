@@ -3,9 +3,11 @@
 --     IsReadOff t order      the order that the cells give
 --     AreListedFor t total cells      the sets that a certificate lists, with their costs
 --     widths_for_all t      how many widths the cells of all sets take
---     IsOptimum problem P o      the first order of the fewest nodes among those that keep the pairs, with its size and its level counts
+--     IsFirstFewest n F P order levels total      the first order of the fewest nodes among those that keep the pairs, with its level counts and its size
+--     IsOptimumFor problem P o      the optimum holds them
 --     IsSolution problem P s      this, with its certificate's cells
 use Rattle.std.specs.Prelude.{◌≡◌, ℕ, ◌-◌, ◌^◌, List, map}
+use Rattle.order_model.specs.Functions.{Function}
 use Rattle.order_model.specs.Pairs.{Pair}
 use Rattle.order_model.specs.Problems.{TruthTables, functions}
 use Rattle.order_model.specs.Levels.{level_counts, size_under}
@@ -37,14 +39,18 @@ AreListedFor t total cells =
 abbrev pub widths_for_all : Setting → ℕ
 widths_for_all t = widths_taken t.problem.inputs (functions t.problem) t.pairs.pairs t.reserve t.bound
 
--- the first order of the fewest nodes among those that keep the pairs, its size, and its level counts
-pub record IsOptimum (problem : TruthTables) (P : List Pair) (o : Optimum) : Type 0 where
-  pub first : IsFirstKeeping problem.inputs (functions problem) P o.order
-  pub fewest : FewestKeeping problem.inputs (functions problem) P o.total
-  pub size : o.total ≡ size_under problem.inputs (functions problem) o.order
-  pub levels : o.levels.items ≡ level_counts problem.inputs (functions problem) o.order
+-- the first order of the fewest nodes among those that keep the pairs, with its level counts and its size
+pub record IsFirstFewest (n : ℕ) (F : List Function) (P : List Pair) (order levels : List ℕ) (total : ℕ) : Type 0 where
+  pub first : IsFirstKeeping n F P order
+  pub fewest : FewestKeeping n F P total
+  pub size : total ≡ size_under n F order
+  pub levels_are : levels ≡ level_counts n F order
+
+-- the optimum holds them
+abbrev pub IsOptimumFor : TruthTables → List Pair → Optimum → Type 0
+IsOptimumFor problem P o = IsFirstFewest problem.inputs (functions problem) P o.order o.levels.items o.total
 
 -- this, and the cells of its certificate
 pub record IsSolution (problem : TruthTables) (P : List Pair) (s : Solution) : Type 0 where
-  pub optimum : IsOptimum problem P s.optimum
+  pub optimum : IsOptimumFor problem P s.optimum
   pub cells : map listed s.cells.items ≡ (certificate_of problem.inputs (functions problem) P s.optimum.order).cells

@@ -7,7 +7,7 @@ ghost use Rattle.layer_core.specs.Settings.{cell_for};
 ghost use Rattle.layer_core.specs.Pairing.{pair_of};
 ghost use Rattle.order_solve.specs.Needs.{needed};
 ghost use Rattle.order_solve.specs.Solutions.{cost_for};
-ghost use Rattle.order_solve.specs.Benches.{IsLayerFor};
+ghost use Rattle.order_solve.specs.LayerContexts.{IsLayerFor};
 ghost use Rattle.order_solve.specs.Bounded.{AreAllLayers};
 
 use crate::alone::layers_alone;
@@ -51,12 +51,12 @@ pub(crate) fn layers_of<R: Threads + Sync, G: Gate>(
     requires { prepared.problem ≡ setting.now.problem }
     ensures { IfOk result (λ v. AreAllLayers setting.now v.items) }
 {
-    let (beginning, mut ahead) = prepared.into_parts();
+    let (shared, mut ahead) = prepared.into_parts();
     let mut layers = Vec::new(alloc);
     layers.push(Costs::start(alloc, setting.inputs())?)?;
     for _size in 0..setting.inputs() {
         ahead = look_ahead(alloc, setting, ahead, &layers);
-        let next = next_layer(crew, alloc, setting, &beginning, &ahead, &layers)?;
+        let next = next_layer(crew, alloc, setting, &shared, &ahead, &layers)?;
         ahead.append(next.found)?;
         layers.push(next.costs)?;
     }

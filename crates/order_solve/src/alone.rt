@@ -3,47 +3,47 @@
 ghost use Rattle.std.specs.Prelude.{◌≡◌, length, IfOk, OnOk};
 ghost use Rattle.compaction.specs.Ahead.{AreAhead};
 ghost use Rattle.subset_layers.specs.Layers.{layer_of, masks_of, block_masks};
-ghost use Rattle.order_solve.specs.Benches.{AreCells, IsLayerFor};
+ghost use Rattle.order_solve.specs.LayerContexts.{AreCells, IsLayerFor};
 ghost use Rattle.order_solve.specs.Bounded.{AreAllLayers, AreDone};
-ghost use Rattle.order_solve.specs.Placed.{ArePlaced, StayPlaced};
+ghost use Rattle.order_solve.specs.Placed.{AreCellsPlaced, StayPlaced};
 
-use crate::bench::Bench;
 use crate::cells::cells_of_block;
+use crate::context::LayerContext;
 use crate::layering::NextLayer;
 use crate::looking::look_ahead;
 use crate::setting::Setting;
-use compaction::{Ahead, Beginning, Tallies, Walks};
+use compaction::{SharedTables, Tallies, WidthSource, WidthsAhead};
 use std::alloc::{AllocError, Global};
 use subset_layers::{Block, Cell, Costs, Layer};
 
 /// Puts the cells of a block's sets at their places in the layer.
-fn place_cells(bench: &Bench<'_>, block: &Block, found: &[Cell], cells: &mut [Cell])
-    requires layer { layer_of block.now ≡ bench.now.layer }
-    requires found { AreCells bench.now.setting (block_masks block.now) found.now }
-    requires cells { length cells.old ≡ length (masks_of bench.now.layer) }
+fn place_cells(context: &LayerContext<'_>, block: &Block, found: &[Cell], cells: &mut [Cell])
+    requires layer { layer_of block.now ≡ context.now.layer }
+    requires found { AreCells context.now.setting (block_masks block.now) found.now }
+    requires cells { length cells.old ≡ length (masks_of context.now.layer) }
     ensures length { length cells.new ≡ length cells.old }
-    ensures kept { StayPlaced bench.now cells.old cells.new }
-    ensures placed { ArePlaced bench.now block.now cells.new }
+    ensures kept { StayPlaced context.now cells.old cells.new }
+    ensures placed { AreCellsPlaced context.now block.now cells.new }
 {
     for (i, mask) in block.masks().iter().enumerate() {
-        if let Some(place) = bench.layer.position(*mask) {
+        if let Some(place) = context.layer.position(*mask) {
             cells[place] = found[i];
         }
     }
 }
 
-/// The cells of a layer in its order. What the walks find ahead goes to `found`.
+/// The cells of a layer in its order. Widths that are found ahead go to `found`.
 pub fn cells_alone(
     alloc: Global,
-    bench: &Bench<'_>,
-    found: &mut Ahead,
+    context: &LayerContext<'_>,
+    found: &mut WidthsAhead,
 ) -> Result<Vec<Cell>, AllocError>
-    requires { AreAhead bench.now.setting.problem found.old }
-    ensures cells { IfOk result (λ v. AreCells bench.now.setting (masks_of bench.now.layer) v.items) }
-    ensures found { OnOk result (AreAhead bench.now.setting.problem found.new) }
+    requires { AreAhead context.now.setting.problem found.old }
+    ensures cells { IfOk result (λ v. AreCells context.now.setting (masks_of context.now.layer) v.items) }
+    ensures found { OnOk result (AreAhead context.now.setting.problem found.new) }
 {
-    prove!(bench.setting.inputs() <= 16);
-    let layer = bench.layer;
+    prove!(context.setting.inputs() <= 16);
+    let layer = context.layer;
     let none = Cell {
         cost: 0,
         variable: 0,
@@ -52,8 +52,8 @@ pub fn cells_alone(
     for place in 0..layer.blocks() {
         let block = layer.block(place);
         let mut tallies = Tallies::new();
-        let own = cells_of_block(alloc, &block, bench, found, &mut tallies)?;
-        place_cells(bench, &block, &own, &mut cells);
+        let own = cells_of_block(alloc, &block, context, found, &mut tallies)?;
+        place_cells(context, &block, &own, &mut cells);
     }
     Ok(cells)
 }
@@ -62,11 +62,11 @@ pub fn cells_alone(
 fn next_layer_alone(
     alloc: Global,
     setting: &Setting<'_>,
-    beginning: &Beginning<'_>,
-    ahead: &Ahead,
+    shared: &SharedTables<'_>,
+    ahead: &WidthsAhead,
     done: &[Costs],
 ) -> Result<NextLayer, AllocError>
-    requires beginning { beginning.now ≡ setting.now.problem }
+    requires shared { shared.now ≡ setting.now.problem }
     requires ahead { AreAhead setting.now.problem ahead.now }
     requires done { AreDone setting.now done.now }
     ensures layer { IfOk result (λ n. IsLayerFor setting.now (length done.now) n.costs) }
@@ -74,10 +74,10 @@ fn next_layer_alone(
 {
     let layer = Layer::of(alloc, setting.inputs(), done.len() as u8)?;
     let before = &done[done.len() - 1];
-    let walks = Walks::new(beginning, ahead, setting.pairs);
-    let bench = Bench::new(setting, &layer, before).with_walks(walks);
-    let mut found = Ahead::up_to(alloc, 0);
-    let cells = cells_alone(alloc, &bench, &mut found)?;
+    let source = WidthSource::new(shared, ahead, setting.pairs);
+    let context = LayerContext::new(setting, &layer, before).with_source(source);
+    let mut found = WidthsAhead::up_to(alloc, 0);
+    let cells = cells_alone(alloc, &context, &mut found)?;
     let costs = Costs::of(layer, cells);
     Ok(NextLayer { costs, found })
 }
@@ -86,13 +86,13 @@ fn next_layer_alone(
 pub fn layers_alone(alloc: Global, setting: &Setting<'_>) -> Result<Vec<Costs>, AllocError>
     ensures { IfOk result (λ v. AreAllLayers setting.now v.items) }
 {
-    let beginning = Beginning::of(alloc, setting.problem)?;
-    let mut ahead = Ahead::up_to(alloc, 0);
+    let shared = SharedTables::of(alloc, setting.problem)?;
+    let mut ahead = WidthsAhead::up_to(alloc, 0);
     let mut layers = Vec::new(alloc);
     layers.push(Costs::start(alloc, setting.inputs())?)?;
     for _size in 0..setting.inputs() {
         ahead = look_ahead(alloc, setting, ahead, &layers);
-        let next = next_layer_alone(alloc, setting, &beginning, &ahead, &layers)?;
+        let next = next_layer_alone(alloc, setting, &shared, &ahead, &layers)?;
         ahead.append(next.found)?;
         layers.push(next.costs)?;
     }

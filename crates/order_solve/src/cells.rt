@@ -2,14 +2,14 @@
 
 ghost use Rattle.std.specs.Prelude.{◌≡◌, ◌+◌, ◌^◌, ◌<◌, ◌≤◌, length, IfOk, OnOk};
 ghost use Rattle.compaction.specs.Ahead.{AreAhead, widths_ahead};
-ghost use Rattle.compaction.specs.Rows.{AreMembers, AreRows, wanted_count};
+ghost use Rattle.compaction.specs.Rows.{AreMembers, AreWidthRows, wanted_count};
 ghost use Rattle.subset_layers.specs.Layers.{layer_of, block_masks};
-ghost use Rattle.order_solve.specs.Benches.{AreCells};
+ghost use Rattle.order_solve.specs.LayerContexts.{AreCells};
 ghost use Rattle.order_solve.specs.Gains.{widths_for};
 
-use crate::bench::Bench;
+use crate::context::LayerContext;
 use crate::needs::needs_of_block;
-use compaction::{Ahead, Tallies, block_widths};
+use compaction::{Tallies, WidthsAhead, block_widths};
 use order_model::Mask;
 use std::alloc::{AllocError, Global};
 use subset_layers::{Block, Cell, least_cell};
@@ -18,33 +18,33 @@ use subset_layers::{Block, Cell, least_cell};
 fn widths_of(
     alloc: Global,
     block: &Block,
-    bench: &Bench<'_>,
+    context: &LayerContext<'_>,
     needed: &[Mask],
-    found: &mut Ahead,
+    found: &mut WidthsAhead,
     tallies: &mut Tallies,
 ) -> Result<Vec<[u32; 16]>, AllocError>
-    requires inputs { block.now.inputs ≡ bench.now.setting.problem.inputs }
+    requires inputs { block.now.inputs ≡ context.now.setting.problem.inputs }
     requires needed { length needed.now ≡ length (block_masks block.now) }
-    requires members { AreMembers bench.now.setting.problem (block_masks block.now) needed.now }
-    requires found { AreAhead bench.now.setting.problem found.old }
+    requires members { AreMembers context.now.setting.problem (block_masks block.now) needed.now }
+    requires found { AreAhead context.now.setting.problem found.old }
     requires cells { tallies.old.cells + wanted_count needed.now ≤ 2 ^ 32 }
     requires ahead { tallies.old.ahead ≤ 2 ^ 32 }
     ensures rows { IfOk result
-        (λ rows. AreRows bench.now.setting.problem (block_masks block.now) needed.now
+        (λ rows. AreWidthRows context.now.setting.problem (block_masks block.now) needed.now
         rows.items) }
-    ensures found { OnOk result (AreAhead bench.now.setting.problem found.new) }
+    ensures found { OnOk result (AreAhead context.now.setting.problem found.new) }
     ensures cells { OnOk result (tallies.new.cells ≡ tallies.old.cells + wanted_count needed.now) }
     ensures ahead { OnOk result
         (tallies.new.ahead + widths_ahead found.old ≡ tallies.old.ahead + widths_ahead found.new) }
     ensures few { OnOk result (tallies.new.ahead ≤ tallies.old.ahead + 2 ^ 16) }
 {
-    let setting = bench.setting;
-    let Some(walks) = &bench.walks else {
+    let setting = context.setting;
+    let Some(source) = &context.source else {
         let cells = &mut tallies.cells;
         let widths = block_widths(alloc, setting.problem, block, needed, cells)?;
         return Ok(widths.into_rows());
     };
-    let widths = walks.block_rows(alloc, block, needed, found, tallies)?;
+    let widths = source.block_rows(alloc, block, needed, found, tallies)?;
     Ok(widths.into_rows())
 }
 
@@ -53,34 +53,34 @@ fn widths_of(
 pub fn cells_of_block(
     alloc: Global,
     block: &Block,
-    bench: &Bench<'_>,
-    found: &mut Ahead,
+    context: &LayerContext<'_>,
+    found: &mut WidthsAhead,
     tallies: &mut Tallies,
 ) -> Result<Vec<Cell>, AllocError>
-    requires layer { layer_of block.now ≡ bench.now.layer }
-    requires found { AreAhead bench.now.setting.problem found.old }
-    requires cells { tallies.old.cells + widths_for bench.now.setting (block_masks block.now)
+    requires layer { layer_of block.now ≡ context.now.layer }
+    requires found { AreAhead context.now.setting.problem found.old }
+    requires cells { tallies.old.cells + widths_for context.now.setting (block_masks block.now)
         ≤ 2 ^ 32 }
     requires ahead { tallies.old.ahead ≤ 2 ^ 32 }
-    ensures cells { IfOk result (λ v. AreCells bench.now.setting (block_masks block.now) v.items) }
-    ensures found { OnOk result (AreAhead bench.now.setting.problem found.new) }
+    ensures cells { IfOk result (λ v. AreCells context.now.setting (block_masks block.now) v.items) }
+    ensures found { OnOk result (AreAhead context.now.setting.problem found.new) }
     ensures tally { OnOk result
         (tallies.new.cells
-        ≡ tallies.old.cells + widths_for bench.now.setting (block_masks block.now)) }
+        ≡ tallies.old.cells + widths_for context.now.setting (block_masks block.now)) }
     ensures ahead { OnOk result
         (tallies.new.ahead + widths_ahead found.old ≡ tallies.old.ahead + widths_ahead found.new) }
     ensures few { OnOk result (tallies.new.ahead ≤ tallies.old.ahead + 2 ^ 16) }
 {
-    let setting = bench.setting;
-    let needs = needs_of_block(alloc, block, bench)?;
-    let widths = widths_of(alloc, block, bench, &needs, found, tallies)?;
+    let setting = context.setting;
+    let needs = needs_of_block(alloc, block, context)?;
+    let widths = widths_of(alloc, block, context, &needs, found, tallies)?;
     let rows = widths.as_slice();
     let mut cells = Vec::with_capacity(alloc, block.len())?;
     for (i, mask) in block.masks().iter().enumerate() {
         let row = rows[i];
         cells.push(least_cell(
             *mask,
-            bench.before,
+            context.before,
             &row,
             setting.limit.bound,
             &setting.reserves,

@@ -4,14 +4,14 @@ ghost use Rattle.std.specs.Prelude.{◌≡◌, ◌≤◌, All, IfOk, OnOk, lengt
 ghost use Rattle.std.specs.Thread.{IsSync};
 ghost use Rattle.subset_layers.specs.Layers.{masks_of};
 ghost use Rattle.compaction.specs.Ahead.{AreAhead};
-ghost use Rattle.order_solve.specs.Benches.{AreCells, IsLayerFor};
+ghost use Rattle.order_solve.specs.LayerContexts.{AreCells, IsLayerFor};
 ghost use Rattle.order_solve.specs.Bounded.{AreDone};
 
 use crate::alone::cells_alone;
-use crate::bench::Bench;
+use crate::context::LayerContext;
 use crate::setting::Setting;
-use crate::working::{WorkerEnd, work_layer};
-use compaction::{Ahead, Beginning, Walks};
+use crate::working::{WorkerResult, work_layer};
+use compaction::{SharedTables, WidthSource, WidthsAhead};
 use layer_board::{Board, BoardSeat, CloseError};
 use order_model::{Crew, Gate, Pairs, Problem, Workers};
 use std::alloc::{AllocError, Global};
@@ -27,7 +27,7 @@ struct Job {
 }
 
 /// Numbers the seats of a board.
-fn numbered(alloc: Global, board: &Board, seats: Vec<BoardSeat>) -> Result<Vec<Job>, AllocError>
+fn number_seats(alloc: Global, board: &Board, seats: Vec<BoardSeat>) -> Result<Vec<Job>, AllocError>
     requires few { vec_len seats ≤ 64 }
     requires seats { All (λ s. s.board ≡ board.now) seats.items }
     ensures count { IfOk result (λ v. vec_len v ≡ vec_len seats) }
@@ -48,29 +48,29 @@ fn do_jobs<R: Threads + Sync, G: Gate>(
     alloc: Global,
     board: &Board,
     jobs: Vec<Job>,
-    bench: &Bench<'_>,
-) -> Result<Vec<Result<WorkerEnd, AllocError>>, AllocError>
+    context: &LayerContext<'_>,
+) -> Result<Vec<Result<WorkerResult, AllocError>>, AllocError>
     requires seats { All (λ j. j.seat.board ≡ board.now) jobs.items }
-    requires setting { board.now.brief.setting ≡ bench.now.setting }
-    requires layer { board.now.brief.layer ≡ bench.now.layer }
+    requires setting { board.now.brief.setting ≡ context.now.setting }
+    requires layer { board.now.brief.layer ≡ context.now.layer }
     ensures count { IfOk result (λ v. vec_len v ≡ vec_len jobs) }
     ensures seats { IfOk result (λ v. All (λ r. IfOk r (λ e. e.seat.board ≡ board.now)) v.items) }
     ensures found { IfOk result
-        (λ v. All (λ r. IfOk r (λ e. AreAhead bench.now.setting.problem e.found)) v.items) }
+        (λ v. All (λ r. IfOk r (λ e. AreAhead context.now.setting.problem e.found)) v.items) }
 {
     let gate = crew.gate;
     thread::map_vec(
         crew.rt,
         jobs,
-        &|job: Job| -> Result<WorkerEnd, AllocError>
+        &|job: Job| -> Result<WorkerResult, AllocError>
             requires { IsSync G.row × (job.seat.board ≡ board.now)
-                × (board.now.brief.setting ≡ bench.now.setting)
-                × (board.now.brief.layer ≡ bench.now.layer) }
+                × (board.now.brief.setting ≡ context.now.setting)
+                × (board.now.brief.layer ≡ context.now.layer) }
             ensures { IfOk result (λ e. (e.seat.board ≡ board.entry.now)
-                × AreAhead bench.entry.now.setting.problem e.found) }
+                × AreAhead context.entry.now.setting.problem e.found) }
         {
             let Job { worker, seat } = job;
-            work_layer(alloc, board, seat, worker, bench, gate)
+            work_layer(alloc, board, seat, worker, context, gate)
         },
     )
 }
@@ -79,8 +79,8 @@ fn do_jobs<R: Threads + Sync, G: Gate>(
 fn gather(
     board: &Board,
     problem: &Problem,
-    ended: Vec<Result<WorkerEnd, AllocError>>,
-    found: &mut Ahead,
+    ended: Vec<Result<WorkerResult, AllocError>>,
+    found: &mut WidthsAhead,
 ) -> Result<BoardSeat, AllocError>
     requires some { 1 ≤ vec_len ended }
     requires seats { All (λ r. IfOk r (λ e. e.seat.board ≡ board.now)) ended.items }
@@ -90,7 +90,7 @@ fn gather(
     ensures found { OnOk result (AreAhead problem.now found.new) }
 {
     let mut ended = ended;
-    let WorkerEnd {
+    let WorkerResult {
         seat,
         tally: _,
         ahead: _,
@@ -135,32 +135,32 @@ fn busy_workers(setting: &Setting<'_>, layer: &Layer, workers: Workers) -> Worke
 
 /// The cells of a layer in its order, by workers. What they find ahead goes to `found`. If some
 /// cell is missing although none of them ran out of memory, the calling thread does the layer over
-/// alone, by the same walks.
+/// alone, with widths from the same source.
 fn cells_of_layer<R: Threads + Sync, G: Gate>(
     crew: &Crew<'_, R, G>,
     alloc: Global,
-    bench: &Bench<'_>,
-    found: &mut Ahead,
+    context: &LayerContext<'_>,
+    found: &mut WidthsAhead,
 ) -> Result<Vec<Cell>, AllocError>
-    requires { AreAhead bench.now.setting.problem found.old }
-    ensures cells { IfOk result (λ v. AreCells bench.now.setting (masks_of bench.now.layer) v.items) }
-    ensures found { OnOk result (AreAhead bench.now.setting.problem found.new) }
+    requires { AreAhead context.now.setting.problem found.old }
+    ensures cells { IfOk result (λ v. AreCells context.now.setting (masks_of context.now.layer) v.items) }
+    ensures found { OnOk result (AreAhead context.now.setting.problem found.new) }
 {
-    let setting = bench.setting;
+    let setting = context.setting;
     let (board, seats) = Board::new(
         alloc,
         setting.problem,
         setting.limit,
-        bench.layer,
-        busy_workers(setting, bench.layer, crew.workers),
+        context.layer,
+        busy_workers(setting, context.layer, crew.workers),
         setting.pairs,
     )?;
-    let jobs = numbered(alloc, &board, seats)?;
-    let ended = do_jobs(crew, alloc, &board, jobs, bench)?;
+    let jobs = number_seats(alloc, &board, seats)?;
+    let ended = do_jobs(crew, alloc, &board, jobs, context)?;
     let seat = gather(&board, setting.problem, ended, found)?;
     match board.close(alloc, seat) {
         Ok(cells) => Ok(cells),
-        Err(CloseError::Missing(_)) => cells_alone(alloc, bench, found),
+        Err(CloseError::Missing(_)) => cells_alone(alloc, context, found),
         Err(CloseError::OutOfMemory) => Err(AllocError),
     }
 }
@@ -169,7 +169,7 @@ fn cells_of_layer<R: Threads + Sync, G: Gate>(
 #[derive(Drop)]
 pub struct NextLayer {
     pub costs: Costs,
-    pub found: Ahead,
+    pub found: WidthsAhead,
 }
 
 /// The layer after those that are done.
@@ -177,11 +177,11 @@ pub fn next_layer<R: Threads + Sync, G: Gate>(
     crew: &Crew<'_, R, G>,
     alloc: Global,
     setting: &Setting<'_>,
-    beginning: &Beginning<'_>,
-    ahead: &Ahead,
+    shared: &SharedTables<'_>,
+    ahead: &WidthsAhead,
     done: &[Costs],
 ) -> Result<NextLayer, AllocError>
-    requires beginning { beginning.now ≡ setting.now.problem }
+    requires shared { shared.now ≡ setting.now.problem }
     requires ahead { AreAhead setting.now.problem ahead.now }
     requires done { AreDone setting.now done.now }
     ensures layer { IfOk result (λ n. IsLayerFor setting.now (length done.now) n.costs) }
@@ -189,10 +189,10 @@ pub fn next_layer<R: Threads + Sync, G: Gate>(
 {
     let layer = Layer::of(alloc, setting.inputs(), done.len() as u8)?;
     let before = &done[done.len() - 1];
-    let walks = Walks::new(beginning, ahead, setting.pairs);
-    let bench = Bench::new(setting, &layer, before).with_walks(walks);
-    let mut found = Ahead::up_to(alloc, 0);
-    let cells = cells_of_layer(crew, alloc, &bench, &mut found)?;
+    let source = WidthSource::new(shared, ahead, setting.pairs);
+    let context = LayerContext::new(setting, &layer, before).with_source(source);
+    let mut found = WidthsAhead::up_to(alloc, 0);
+    let cells = cells_of_layer(crew, alloc, &context, &mut found)?;
     let costs = Costs::of(layer, cells);
     Ok(NextLayer { costs, found })
 }

@@ -15,8 +15,8 @@ mod symmetric;
 mod symmetric_words;
 
 // A worker's part of a layer: what it is lent, the widths that it needs, the cells of its blocks.
-mod bench;
 mod cells;
+mod context;
 mod needs;
 mod working;
 
@@ -26,10 +26,10 @@ mod listing;
 mod reading;
 mod solution;
 
-pub use bench::Bench;
 pub use compaction::Preparation;
+pub use context::LayerContext;
 pub use preparing::prepare;
 pub use setting::Setting;
 pub use solution::{Optimum, Solution};
 pub use solving::{find_optimum, find_optimum_alone, solve, solve_alone};
-pub use working::{WorkerEnd, work_layer};
+pub use working::{WorkerResult, work_layer};

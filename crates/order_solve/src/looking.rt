@@ -5,7 +5,7 @@ ghost use Rattle.compaction.specs.Ahead.{AreAhead};
 ghost use Rattle.order_solve.specs.Bounded.{AreDone};
 
 use crate::setting::Setting;
-use compaction::Ahead;
+use compaction::WidthsAhead;
 use order_model::{Limit, Problem, Reserve};
 use std::alloc::Global;
 use subset_layers::Costs;
@@ -85,7 +85,12 @@ fn likely_end(setting: &Setting<'_>, done: &[Costs]) -> usize
 
 /// What was found ahead, as long as that reaches to the next layer. Else nothing, and rows are to
 /// be found of all layers that are likely to be wanted nearly whole.
-pub fn look_ahead(alloc: Global, setting: &Setting<'_>, ahead: Ahead, done: &[Costs]) -> Ahead
+pub fn look_ahead(
+    alloc: Global,
+    setting: &Setting<'_>,
+    ahead: WidthsAhead,
+    done: &[Costs],
+) -> WidthsAhead
     requires ahead { AreAhead setting.now.problem ahead }
     requires done { AreDone setting.now done.now }
     ensures { AreAhead setting.now.problem result }
@@ -99,5 +104,5 @@ pub fn look_ahead(alloc: Global, setting: &Setting<'_>, ahead: Ahead, done: &[Co
     } else {
         likely_end(setting, done).min(16) as u8
     };
-    Ahead::up_to(alloc, end)
+    WidthsAhead::up_to(alloc, end)
 }

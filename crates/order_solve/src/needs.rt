@@ -5,10 +5,10 @@ ghost use Rattle.order_model.specs.Orders.{mask_of};
 ghost use Rattle.order_model.specs.Cells.{asked};
 ghost use Rattle.subset_layers.specs.Costs.{CostsOf, cost_without};
 ghost use Rattle.subset_layers.specs.Layers.{layer_of, block_masks};
-ghost use Rattle.order_solve.specs.Benches.{AreCostsFor};
+ghost use Rattle.order_solve.specs.LayerContexts.{AreCostsFor};
 ghost use Rattle.order_solve.specs.Needs.{IsInNextLayer, affordable, needed};
 
-use crate::bench::Bench;
+use crate::context::LayerContext;
 use crate::setting::Setting;
 use order_model::{Mask, Reserve, contains};
 use std::alloc::{AllocError, Global};
@@ -63,14 +63,14 @@ pub fn needed_members(setting: &Setting<'_>, before: &Costs, mask: Mask) -> Mask
 pub fn needs_of_block(
     alloc: Global,
     block: &Block,
-    bench: &Bench<'_>,
+    context: &LayerContext<'_>,
 ) -> Result<Vec<Mask>, AllocError>
-    requires { layer_of block.now ≡ bench.now.layer }
-    ensures { IfOk result (λ v. v.items ≡ map (needed bench.now.setting) (block_masks block.now)) }
+    requires { layer_of block.now ≡ context.now.layer }
+    ensures { IfOk result (λ v. v.items ≡ map (needed context.now.setting) (block_masks block.now)) }
 {
     let mut needs = Vec::with_capacity(alloc, block.len())?;
     for mask in block.masks() {
-        needs.push(needed_members(bench.setting, bench.before, *mask))?;
+        needs.push(needed_members(context.setting, context.before, *mask))?;
     }
     Ok(needs)
 }

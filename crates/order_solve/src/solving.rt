@@ -6,7 +6,7 @@ ghost use Rattle.order_model.specs.declared.reserve.Reserve.TheVariants.{Variabl
 ghost use Rattle.order_model.specs.Cells.{widths_taken};
 ghost use Rattle.symmetries.specs.SymmetricPairs.{IsHarmless};
 ghost use Rattle.order_solve.specs.Bounded.{IsBounded};
-ghost use Rattle.order_solve.specs.Solutions.{IsOptimum, IsSolution, widths_for_all};
+ghost use Rattle.order_solve.specs.Solutions.{IsOptimumFor, IsSolution, widths_for_all};
 
 use crate::all_cells::AllCells;
 use crate::listing::{count_widths, listed_cells};
@@ -23,7 +23,7 @@ use std::thread::Threads;
 /// The order that the cells of all sets give: the first one of the fewest nodes among those that
 /// keep the pairs.
 fn optimum_of(alloc: Global, cells: &AllCells<'_>) -> Result<Optimum, AllocError>
-    ensures optimum { IfOk result (IsOptimum cells.now.problem cells.now.pairs.pairs) }
+    ensures optimum { IfOk result (IsOptimumFor cells.now.problem cells.now.pairs.pairs) }
     ensures bounded { IfOk result (λ o. o.total ≤ cells.now.bound) }
 {
     let total = cells.cost(all_variables(cells.inputs()));
@@ -94,7 +94,7 @@ pub fn find_optimum<R: Threads + Sync, G: Gate>(
     gate: &G,
 ) -> Result<Optimum, AllocError>
     requires { sifted.problem ≡ prepared.problem }
-    ensures { IfOk result (IsOptimum prepared.entry.problem sifted.pairs) }
+    ensures { IfOk result (IsOptimumFor prepared.entry.problem sifted.pairs) }
 {
     let problem = prepared.problem();
     let pairs = pairs_to_keep(alloc, problem, sifted.pairs())?;
@@ -112,7 +112,7 @@ pub fn find_optimum_alone(
     sifted: Sifted,
 ) -> Result<Optimum, AllocError>
     requires { sifted.problem ≡ problem.now }
-    ensures { IfOk result (IsOptimum problem.now sifted.pairs) }
+    ensures { IfOk result (IsOptimumFor problem.now sifted.pairs) }
 {
     let pairs = pairs_to_keep(alloc, problem, sifted.pairs())?;
     let setting = setting_of(problem, &sifted, &pairs, Reserve::Widths);

@@ -7,12 +7,12 @@ ghost use Rattle.compaction.specs.Ahead.{AreAhead, widths_ahead};
 ghost use Rattle.layer_core.specs.Settings.{cell_for};
 ghost use Rattle.layer_board.specs.Views.{has_claimed, knows_filled};
 ghost use Rattle.layer_core.specs.Pairing.{pair_of};
-ghost use Rattle.order_solve.specs.Benches.{AreCells};
+ghost use Rattle.order_solve.specs.LayerContexts.{AreCells};
 ghost use Rattle.order_solve.specs.Gains.{gains, gained, widths_for, IsPosted, StaysClaimed};
 
-use crate::bench::Bench;
 use crate::cells::cells_of_block;
-use compaction::{Ahead, Tallies, Tally};
+use crate::context::LayerContext;
+use compaction::{Tallies, Tally, WidthsAhead};
 use layer_board::{Board, BoardSeat};
 use order_model::{Gate, Mask};
 use std::alloc::{AllocError, Global};
@@ -21,11 +21,11 @@ use subset_layers::{Block, Cell};
 /// What a worker hands back: its seat, how many widths its cells took and how many it found ahead,
 /// and the rows that it found.
 #[derive(Drop)]
-pub struct WorkerEnd {
+pub struct WorkerResult {
     pub seat: BoardSeat,
     pub tally: Tally,
     pub ahead: Tally,
-    pub found: Ahead,
+    pub found: WidthsAhead,
 }
 
 /// A worker at a board: what it is lent, its number, and what it calls between a claim and its
@@ -33,21 +33,26 @@ pub struct WorkerEnd {
 #[derive(Drop)]
 struct Worker<'a, G> {
     board: &'a Board,
-    bench: &'a Bench<'a>,
+    context: &'a LayerContext<'a>,
     number: u8,
     gate: &'a G,
 }
 
 impl<'a, G: Gate> Worker<'a, G> {
-    fn new(board: &'a Board, bench: &'a Bench<'a>, number: u8, gate: &'a G) -> Worker<'a, G>
+    fn new(
+        board: &'a Board,
+        context: &'a LayerContext<'a>,
+        number: u8,
+        gate: &'a G,
+    ) -> Worker<'a, G>
         ensures board { result.board.now ≡ board.now }
-        ensures bench { result.bench.now ≡ bench.now }
+        ensures context { result.context.now ≡ context.now }
         ensures number { result.number ≡ number }
         ensures gate { result.gate.now ≡ gate.now }
     {
         Worker {
             board,
-            bench,
+            context,
             number,
             gate,
         }
@@ -57,21 +62,21 @@ impl<'a, G: Gate> Worker<'a, G> {
 /// Posts the cell of a set. The gate is called before.
 fn post_cell<G: Gate>(worker: &Worker<'_, G>, seat: &mut BoardSeat, mask: Mask, cell: Cell)
     requires seat { seat.old.board ≡ worker.now.board.now }
-    requires setting { worker.now.board.now.brief.setting ≡ worker.now.bench.now.setting }
-    requires cell { pair_of cell ≡ cell_for worker.now.bench.now.setting mask }
+    requires setting { worker.now.board.now.brief.setting ≡ worker.now.context.now.setting }
+    requires cell { pair_of cell ≡ cell_for worker.now.context.now.setting mask }
     ensures stays { StaysClaimed seat.old seat.new }
     ensures posted { IsPosted seat.new mask }
 {
-    let bench = worker.bench;
+    let context = worker.context;
     worker.gate.between(worker.number, u32::from(mask));
-    let _ = worker.board.post(seat, bench.setting.result(mask, cell));
+    let _ = worker.board.post(seat, context.setting.result(mask, cell));
 }
 
 /// Posts the cells of a block's sets.
 fn post_block<G: Gate>(worker: &Worker<'_, G>, seat: &mut BoardSeat, block: &Block, cells: &[Cell])
     requires seat { seat.old.board ≡ worker.now.board.now }
-    requires setting { worker.now.board.now.brief.setting ≡ worker.now.bench.now.setting }
-    requires cells { AreCells worker.now.bench.now.setting (block_masks block.now) cells.now }
+    requires setting { worker.now.board.now.brief.setting ≡ worker.now.context.now.setting }
+    requires cells { AreCells worker.now.context.now.setting (block_masks block.now) cells.now }
     ensures stays { StaysClaimed seat.old seat.new }
     ensures posted { (mask : ℕ) → IsTrue (has (block_masks block.now) mask) →
         IsPosted seat.new mask }
@@ -90,12 +95,12 @@ pub fn work_layer<G: Gate>(
     board: &Board,
     mut seat: BoardSeat,
     worker: u8,
-    bench: &Bench<'_>,
+    context: &LayerContext<'_>,
     gate: &G,
-) -> Result<WorkerEnd, AllocError>
+) -> Result<WorkerResult, AllocError>
     requires seat { seat.board ≡ board.now }
-    requires setting { board.now.brief.setting ≡ bench.now.setting }
-    requires layer { board.now.brief.layer ≡ bench.now.layer }
+    requires setting { board.now.brief.setting ≡ context.now.setting }
+    requires layer { board.now.brief.layer ≡ context.now.layer }
     ensures board { IfOk result (λ e. e.seat.board ≡ board.now) }
     ensures told { IfOk result (λ e. IsTrue e.seat.worker.told) }
     ensures kept { IfOk result
@@ -104,20 +109,20 @@ pub fn work_layer<G: Gate>(
         (λ e. (mask : ℕ) → IsTrue (knows_filled seat mask) → IsTrue (knows_filled e.seat mask)) }
     ensures posted { IfOk result
         (λ e. (mask : ℕ) → IsTrue (gains seat e.seat mask) → IsTrue (knows_filled e.seat mask)) }
-    ensures tally { IfOk result (λ e. e.tally ≡ widths_for bench.now.setting (gained seat e.seat)) }
-    ensures found { IfOk result (λ e. AreAhead bench.now.setting.problem e.found) }
+    ensures tally { IfOk result (λ e. e.tally ≡ widths_for context.now.setting (gained seat e.seat)) }
+    ensures found { IfOk result (λ e. AreAhead context.now.setting.problem e.found) }
     ensures ahead { IfOk result (λ e. e.ahead ≡ widths_ahead e.found) }
 {
-    prove!(bench.setting.inputs() <= 16);
-    let worker = Worker::new(board, bench, worker, gate);
+    prove!(context.setting.inputs() <= 16);
+    let worker = Worker::new(board, context, worker, gate);
     let mut tallies = Tallies::new();
-    let mut found = Ahead::up_to(alloc, 0);
+    let mut found = WidthsAhead::up_to(alloc, 0);
     while let Some(claim) = board.claim(&mut seat) {
-        let cells = cells_of_block(alloc, claim.block(), bench, &mut found, &mut tallies)?;
+        let cells = cells_of_block(alloc, claim.block(), context, &mut found, &mut tallies)?;
         post_block(&worker, &mut seat, claim.block(), &cells);
     }
     let Tallies { cells, ahead } = tallies;
-    Ok(WorkerEnd {
+    Ok(WorkerResult {
         seat,
         tally: cells,
         ahead,

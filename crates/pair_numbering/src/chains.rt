@@ -151,13 +151,13 @@ pub fn number_pairs_by_chains(
     let mut first = vec![in alloc; 0u32; half]?;
     chain(entries, &mut heads, &mut next);
     let chains = Chains::of(entries, &heads, &next);
-    find_firsts(&chains, &mut stamps, &mut marks, &mut first);
+    first_occurrences(&chains, &mut stamps, &mut marks, &mut first);
     number_firsts(alloc, entries, &first)
 }
 
 /// Finds the first equal pair of each pair.
 #[inline(always)]
-pub fn find_firsts(
+pub fn first_occurrences(
     chains: &Chains<'_, '_>,
     stamps: &mut [u32],
     marks: &mut [u32],

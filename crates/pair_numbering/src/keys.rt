@@ -117,7 +117,7 @@ fn tell_entries(
 
 /// Tells the pairs of a table's entries apart: by joined keys if these are few, and not more than
 /// the entries, else by numbers.
-pub fn tell_pairs(
+pub fn label_pairs(
     alloc: Global,
     numbers: &[u32],
     rank: u32,
@@ -138,7 +138,7 @@ pub fn tell_pairs(
 }
 
 /// The same of the entries of pairs of strips of 2 ^ bits entries, which are read where they stand.
-pub fn tell_strip_pairs(
+pub fn label_strip_pairs(
     alloc: Global,
     names: &[(u32, u32)],
     numbers: &[u32],

@@ -14,7 +14,7 @@ mod pairs;
 mod scratch;
 mod slots;
 
-pub use keys::{PairKeys, tell_pairs, tell_strip_pairs};
+pub use keys::{PairKeys, label_pairs, label_strip_pairs};
 pub use numbering::{Numbered, number_pairs, number_pairs_by_index, number_pairs_with_masks};
 pub use pairs::NumberedPairs;
 pub use scratch::Scratch;

@@ -6,7 +6,7 @@ ghost use Rattle.class_laws.specs.Places as places;
 ghost use Rattle.class_laws.specs.PairTables.{IsPairTable};
 ghost use Rattle.pair_numbering.specs.Chains.{AreFirsts};
 
-use crate::chains::{Chains, chain, find_firsts};
+use crate::chains::{Chains, chain, first_occurrences};
 use crate::entries::EntryPairs;
 use order_model::{Problem, contains};
 use point_classes::join_mask;
@@ -112,7 +112,7 @@ fn count_in(
     stamps.fill(0);
     chain(&pairs.entries, heads, next);
     let chains = Chains::of(&pairs.entries, heads, next);
-    find_firsts(&chains, stamps, marks, first);
+    first_occurrences(&chains, stamps, marks, first);
     count_firsts(pairs, first)
 }
 

@@ -1,9 +1,11 @@
-//! What the functions of a pair of classes depend on, as a mask.
+//! What the functions of classes depend on, as masks.
 
-ghost use Rattle.std.specs.Prelude.{◌≡◌, ◌<◌, length};
+ghost use Rattle.std.specs.Prelude.{◌≡◌, ◌^◌, ◌<◌, ◌≤◌, ◌==◌, length};
+ghost use Rattle.std.specs.Int.{bit_at};
+ghost use Rattle.std.specs.List.{filter};
 ghost use Rattle.class_laws.specs.Dependence.{joined_mask};
 
-use order_model::VarIx;
+use order_model::{VarIx, contains};
 
 /// The mask of a pair of classes: what its halves depend on, and `x` if they differ.
 #[inline(always)]
@@ -20,4 +22,17 @@ pub fn join_mask(masks: &[u16], x: VarIx, pair: (u32, u32)) -> u16
     } else {
         halves | 1 << x
     }
+}
+
+/// How many masks have the bit of a variable.
+pub fn count_with(masks: &[u16], x: VarIx) -> u32
+    requires variable { x < 16 }
+    requires few { length masks.now ≤ 2 ^ 20 }
+    ensures { result ≡ length (filter (λ m. bit_at m x == 1) masks.now) }
+{
+    let mut count = 0;
+    for mask in masks {
+        count += u32::from(contains(*mask, x));
+    }
+    count
 }

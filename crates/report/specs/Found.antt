@@ -10,7 +10,7 @@ use Rattle.order_model.specs.Problems.{TruthTables, functions}
 use Rattle.order_model.specs.Sifting.{sifted}
 use Rattle.pla_reader.specs.Covers.{NamedCover}
 use Rattle.run_texts.specs.Texts.{file_order_levels}
-use Rattle.report.specs.Bests.{IsBest}
+use Rattle.report.specs.Bests.{IsBestFor}
 use Rattle.report.specs.declared.instance.Instance.{Instance}
 use Rattle.report.specs.FirstDiagrams.{IsFirstDiagram}
 use Rattle.report.specs.declared.search.Done.{Done}
@@ -45,6 +45,6 @@ IsDoneFor i (done.Prepared p) = p.problem ≡ i.tables.now
 
 -- the best order, with its certificate's cells if asked for, the sifted one with its size, and the size under the file order
 pub record IsFound (i : Instance) (f : Found) : Type 0 where
-  pub best : IsBest i.tables.now i.pairs.now.pairs i.certify f.best
+  pub best : IsBestFor i.tables.now i.pairs.now.pairs i.certify f.best
   pub sifted : IsSiftedFromFirst i.cover.now i.tables.now i.pairs.now.pairs f.sifted f.sifted_size
   pub file : f.file_size ≡ sum (file_order_levels i.cover.now)

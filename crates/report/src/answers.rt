@@ -2,7 +2,7 @@
 
 ghost use Rattle.std.specs.Prelude.{◌≡◌, ◌≤◌, IfOk, is_some, string_bytes, sum};
 ghost use Rattle.order_model.specs.Orders.{IsOrder};
-ghost use Rattle.report.specs.Bests.{IsBest};
+ghost use Rattle.report.specs.Bests.{IsBestFor};
 ghost use Rattle.run_texts.specs.Answers.{IsAnswer, IsCertified, IsCertifiedBy};
 ghost use Rattle.outcomes.specs.Plans.{PairsAre};
 ghost use Rattle.run_texts.specs.Texts.{file_order_levels, report_parts};
@@ -68,7 +68,7 @@ fn certificate_of(
     best: Best,
 ) -> Result<Option<String>, AllocError>
     requires inputs { pairs.now.inputs ≡ problem.now.inputs }
-    requires best { IsBest problem.now pairs.now.pairs (is_some best.cells) best }
+    requires best { IsBestFor problem.now pairs.now.pairs (is_some best.cells) best }
     ensures { IfOk result
         (IsCertifiedBy problem.now pairs.now.pairs best.optimum.order (is_some best.cells)) }
 {

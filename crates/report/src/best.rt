@@ -1,7 +1,7 @@
 //! The first order of the fewest nodes, and what its certificate lists.
 
 ghost use Rattle.std.specs.Prelude.{◌≡◌, IfOk};
-ghost use Rattle.report.specs.Bests.{IsBest};
+ghost use Rattle.report.specs.Bests.{IsBestFor};
 
 use order_model::{ListedCell, NoGate, Workers};
 use order_solve::{Optimum, Preparation, Solution, find_optimum, solve};
@@ -27,7 +27,7 @@ pub fn best_order<R: Threads + Sync>(
     certify: bool,
 ) -> Result<Best, AllocError>
     requires { bound.problem ≡ prepared.problem }
-    ensures { IfOk result (IsBest prepared.entry.problem bound.pairs certify) }
+    ensures { IfOk result (IsBestFor prepared.entry.problem bound.pairs certify) }
 {
     if certify {
         let Solution {

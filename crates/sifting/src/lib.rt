@@ -2,13 +2,13 @@
 #![tactic(auto)]
 
 mod build;
+mod convergence;
 pub mod laws;
 mod levels;
 mod manager;
 mod node_table;
 mod sift;
 mod sift_by_threads;
-mod tight;
 
 pub use manager::Manager;
 pub use sift::Sifted;

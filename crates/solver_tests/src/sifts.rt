@@ -88,7 +88,7 @@ fn tightens_the_sum(rt: HostRuntime) -> Result<(), Fail> {
     let tables = tables_of(&rt, rt.alloc(), SUM)?;
     let sifted = manager_of(rt.alloc(), &tables)?.sift(rt.alloc())?;
     assert!(rt; sifted.size() == 13);
-    let tight = sifted.tightened(rt.alloc())?;
-    assert!(rt; tight.size() == 11);
+    let converged = sifted.sifted_to_convergence(rt.alloc())?;
+    assert!(rt; converged.size() == 11);
     Ok(())
 }

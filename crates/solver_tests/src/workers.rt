@@ -4,13 +4,13 @@ ghost use Rattle.std.specs.Prelude.{◌≡◌, ◌+◌, ◌^◌, ◌<◌, All, I
 ghost use Rattle.subset_layers.specs.Layers.{masks_of};
 ghost use Rattle.layer_core.specs.Pairing.{pair_of};
 ghost use Rattle.layer_core.specs.Settings.{cell_for};
-ghost use Rattle.order_solve.specs.Benches.{AreCostsFor, IsBench, IsLayerFor, bench_with};
+ghost use Rattle.order_solve.specs.LayerContexts.{AreCostsFor, IsContext, IsLayerFor, context_with};
 
 use crate::solutions::tables_of;
 use layer_board::{Board, BoardSeat, CloseError, PostRefused};
 use layer_core::CellResult;
 use order_model::{Limit, Mask, NoGate, Pairs, Reserve, Workers};
-use order_solve::{Bench, Setting, WorkerEnd, work_layer};
+use order_solve::{LayerContext, Setting, WorkerResult, work_layer};
 use std::alloc::Global;
 use std::test::Fail;
 use std::thread;
@@ -25,11 +25,11 @@ fn cells_by_one(
     alloc: Global,
     setting: &Setting<'_>,
     layer: &Layer,
-    bench: &Bench<'_>,
+    context: &LayerContext<'_>,
 ) -> Result<Vec<Cell>, Fail>
     requires inputs { layer.now.inputs ≡ setting.now.problem.inputs }
-    requires setting { bench.now.setting ≡ setting.now }
-    requires layer { bench.now.layer ≡ layer.now }
+    requires setting { context.now.setting ≡ setting.now }
+    requires layer { context.now.layer ≡ layer.now }
     ensures { IfOk result
         (λ v. map pair_of v.items ≡ map (cell_for setting.now) (masks_of layer.now)) }
 {
@@ -43,12 +43,12 @@ fn cells_by_one(
         setting.pairs(),
     )?;
     let seat = seats.pop().ok_or("one seat")?;
-    let WorkerEnd {
+    let WorkerResult {
         seat,
         tally: _,
         ahead: _,
         found: _,
-    } = work_layer(alloc, &board, seat, 1, bench, &NoGate)?;
+    } = work_layer(alloc, &board, seat, 1, context, &NoGate)?;
     let Ok(cells) = board.close(alloc, seat) else {
         return Err("closed".into());
     };
@@ -61,8 +61,8 @@ fn first_costs(alloc: Global, setting: &Setting<'_>) -> Result<Costs, Fail>
 {
     let start = Costs::start(alloc, setting.inputs())?;
     let layer = Layer::of(alloc, setting.inputs(), 1)?;
-    let bench = Bench::new(setting, &layer, &start);
-    let cells = cells_by_one(alloc, setting, &layer, &bench)?;
+    let context = LayerContext::new(setting, &layer, &start);
+    let cells = cells_by_one(alloc, setting, &layer, &context)?;
     Ok(Costs::of(layer, cells))
 }
 
@@ -100,19 +100,19 @@ fn check_missing(
     board: Board,
     worker: BoardSeat,
     one: CellResult,
-    bench: &Bench<'_>,
+    context: &LayerContext<'_>,
 ) -> Result<(), Fail>
     requires seat { worker.board ≡ board }
-    requires setting { board.brief.setting ≡ bench.now.setting }
-    requires layer { board.brief.layer ≡ bench.now.layer }
-    requires one { one.setting ≡ bench.now.setting }
+    requires setting { board.brief.setting ≡ context.now.setting }
+    requires layer { board.brief.layer ≡ context.now.layer }
+    requires one { one.setting ≡ context.now.setting }
 {
-    let WorkerEnd {
+    let WorkerResult {
         mut seat,
         tally,
         ahead: _,
         found: _,
-    } = work_layer(alloc, &board, worker, 2, bench, &NoGate)?;
+    } = work_layer(alloc, &board, worker, 2, context, &NoGate)?;
     if tally.count() != 10 {
         return Err("two widths for each of five sets".into());
     }
@@ -134,22 +134,22 @@ fn both_work<R: Threads + Sync>(
     worker: BoardSeat,
     one: CellResult,
     two: CellResult,
-    bench: &Bench<'_>,
+    context: &LayerContext<'_>,
 ) -> Result<BoardSeat, Fail>
     requires owner { owner.board ≡ board.now }
     requires seat { worker.board ≡ board.now }
-    requires setting { board.now.brief.setting ≡ bench.now.setting }
-    requires layer { board.now.brief.layer ≡ bench.now.layer }
-    requires one { one.setting ≡ bench.now.setting }
-    requires two { two.setting ≡ bench.now.setting }
+    requires setting { board.now.brief.setting ≡ context.now.setting }
+    requires layer { board.now.brief.layer ≡ context.now.layer }
+    requires one { one.setting ≡ context.now.setting }
+    requires two { two.setting ≡ context.now.setting }
     ensures { IfOk result (λ s. s.board ≡ board.now) }
 {
-    let WorkerEnd {
+    let WorkerResult {
         seat,
         tally: _,
         ahead: _,
         found: _,
-    } = work_layer(alloc, board, worker, 2, bench, &NoGate)?;
+    } = work_layer(alloc, board, worker, 2, context, &NoGate)?;
     let ((first, second), _) = thread::join(
         rt,
         move || -> (Result<(), PostRefused>, Result<(), PostRefused>)
@@ -209,21 +209,21 @@ fn hold_claim<R: Threads + Sync>(
     seats: Vec<BoardSeat>,
     one: CellResult,
     two: CellResult,
-    bench: &Bench<'_>,
+    context: &LayerContext<'_>,
     posts: bool,
 ) -> Result<(), Fail>
     requires seats { All (λ s. s.board ≡ board) seats.items }
-    requires setting { board.brief.setting ≡ bench.now.setting }
-    requires layer { board.brief.layer ≡ bench.now.layer }
-    requires one { one.setting ≡ bench.now.setting }
-    requires two { two.setting ≡ bench.now.setting }
+    requires setting { board.brief.setting ≡ context.now.setting }
+    requires layer { board.brief.layer ≡ context.now.layer }
+    requires one { one.setting ≡ context.now.setting }
+    requires two { two.setting ≡ context.now.setting }
 {
     let (owner, worker) = seats_with_claim(&board, seats)?;
     if posts {
-        let seat = both_work(rt, alloc, &board, owner, worker, one, two, bench)?;
+        let seat = both_work(rt, alloc, &board, owner, worker, one, two, context)?;
         check_closed(alloc, board, seat)
     } else {
-        check_missing(alloc, board, worker, one, bench)
+        check_missing(alloc, board, worker, one, context)
     }
 }
 
@@ -232,15 +232,15 @@ fn first_results(
     alloc: Global,
     setting: &Setting<'_>,
     layer: &Layer,
-    bench: &Bench<'_>,
+    context: &LayerContext<'_>,
 ) -> Result<(CellResult, CellResult), Fail>
     requires inputs { layer.now.inputs ≡ setting.now.problem.inputs }
-    requires setting { bench.now.setting ≡ setting.now }
-    requires layer { bench.now.layer ≡ layer.now }
+    requires setting { context.now.setting ≡ setting.now }
+    requires layer { context.now.layer ≡ layer.now }
     ensures one { IfOk result (λ r. r.0.setting ≡ setting.now) }
     ensures two { IfOk result (λ r. r.1.setting ≡ setting.now) }
 {
-    let cells = cells_by_one(alloc, setting, layer, bench)?;
+    let cells = cells_by_one(alloc, setting, layer, context)?;
     let one = first_result(setting, layer, &cells)?;
     let two = first_result(setting, layer, &cells)?;
     Ok((one, two))
@@ -252,14 +252,14 @@ fn hold_in_layer<R: Threads + Sync>(
     alloc: Global,
     setting: &Setting<'_>,
     layer: &Layer,
-    bench: &Bench<'_>,
+    context: &LayerContext<'_>,
     posts: bool,
 ) -> Result<(), Fail>
     requires inputs { layer.now.inputs ≡ setting.now.problem.inputs }
-    requires setting { bench.now.setting ≡ setting.now }
-    requires layer { bench.now.layer ≡ layer.now }
+    requires setting { context.now.setting ≡ setting.now }
+    requires layer { context.now.layer ≡ layer.now }
 {
-    let (one, two) = first_results(alloc, setting, layer, bench)?;
+    let (one, two) = first_results(alloc, setting, layer, context)?;
     let workers = Workers::new(2).ok_or("two workers")?;
     let (board, seats) = Board::new(
         alloc,
@@ -269,7 +269,7 @@ fn hold_in_layer<R: Threads + Sync>(
         workers,
         setting.pairs(),
     )?;
-    hold_claim(rt, alloc, board, seats, one, two, bench, posts)
+    hold_claim(rt, alloc, board, seats, one, two, context, posts)
 }
 
 /// The layer of the sets of two of four variables, for the parity and the bound 7.
@@ -284,8 +284,8 @@ fn held_claim<R: Threads + Sync>(rt: &R, alloc: Global, posts: bool) -> Result<(
     let setting = Setting::new(problem, &pairs, limit);
     let before = first_costs(alloc, &setting)?;
     let layer = Layer::of(alloc, setting.inputs(), 2)?;
-    let bench = Bench::new(&setting, &layer, &before);
-    hold_in_layer(rt, alloc, &setting, &layer, &bench, posts)
+    let context = LayerContext::new(&setting, &layer, &before);
+    hold_in_layer(rt, alloc, &setting, &layer, &context, posts)
 }
 
 #[test]

@@ -38,9 +38,6 @@ has_back (y ∷ xs) ys x h = has_more (xs ++ ys) y x (has_back xs ys x h)
 pub gains_none : (made made' : List ℕ) (w : ℕ) → made' ≡ made → GainsOnly made made' w
 gains_none made made' w same x h = inr (subst (λ (z : List ℕ). Contains z x) same h)
 
-pub gains_one : (made made' : List ℕ) (w : ℕ) → made' ≡ w ∷ made → GainsOnly made made' w
-gains_one made made' w more x h = has_cases made w x (subst (λ (z : List ℕ). Contains z x) more h)
-
 pub gains_again : (a b c : List ℕ) (w : ℕ) → GainsOnly a b w → GainsOnly b c w → GainsOnly a c w
 gains_again a b c w f g x h = ⊎_elim (λ (e : x ≡ w). inl e) (λ (t : Contains b x). f x t) (g x h)
 
@@ -59,7 +56,8 @@ put_set views id v v' w at live more put = dite (ℕ_discrete put.0 id)
     (id, v', set_here views id v' (there views id v at), live, more (subst (λ (z : View). Contains z.made w) (sym is) put.4)))
     (λ other. (put.0, put.1, set_else views id put.0 v' other ∙ put.2, put.3, put.4))
 
-pub put_here : (views : List View) (id : ℕ) (v v' : View) (w : ℕ) → get_elem? views id ≡ some v → v'.live ≡ true → Contains v'.made w → IsPut (set views id v') w
+pub put_here : (views : List View) (id : ℕ) (v v' : View) (w : ℕ) → get_elem? views id ≡ some v → v'.live ≡ true →
+    Contains v'.made w → IsPut (set views id v') w
 put_here views id v v' w at live has = (id, v', set_here views id v' (there views id v at), live, has)
 
 pub put_longer : (views more : List View) (w : ℕ) → IsPut views w → IsPut (views ++ more) w

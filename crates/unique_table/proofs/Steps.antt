@@ -9,7 +9,14 @@ use Rattle.unique_table.proofs.Rule.{M}
 
 pub after_goes : (m m' : M) (wrote : ℕ) (ws ps : List ℕ) → m' ≡ (sees m.0 ws ps wrote, m.1) → Sees m.0 ws ps → After m.0 m'.0 wrote
 after_goes m m' wrote ws ps is s = subst (λ (z : M). After m.0 z.0 wrote) (sym is) record {
-  good = record { live = refl; size = (let e = s.size in omega arith); nodes = s.nodes; unequal = s.unequal; are_pieces = s.are_pieces; made = λ _ all. s.made all };
+  good = record {
+    live = refl;
+    size = (let e = s.size in omega arith);
+    nodes = s.nodes;
+    unequal = s.unequal;
+    are_pieces = s.are_pieces;
+    made = λ _ all. s.made all;
+  };
   current = refl;
   plan = refl;
   stake = refl;

@@ -2,7 +2,7 @@ use Rattle.std.proofs.Common.{ℕ, IfSome, None, Some, sym, subst, arith}
 use Rattle.std.proofs.Math.Pow.{pow_mono}
 use Rattle.rayon.proofs.ListFacts.{IfOk-then}
 use Rattle.order_model.specs.Problems.{functions}
-use Rattle.cert_check.specs.Edges.{AreEdgeTables, Fails, IsFirstEdge}
+use Rattle.cert_check.specs.Edges.{AreEdgeTables, EdgeFails, IsFirstEdge}
 use Rattle.cert_check.specs.Walks.{AreEnough}
 use Rattle.cert_check.proofs.FewerEdges.{fewer_tables, first_again}
 use Rattle.cert_check.proofs.LedOn.{none_lost}
@@ -37,8 +37,8 @@ returns-in_default-2 g c =
     let v = c.args.edges.values.now in
     let are = subst (λ o. IfSome o (λ w. AreEnough c.args.edges w.items)) c.in-Some.is c.in_ok-judged.ensures in
     none_lost n F v c.args.edges.judged.now c.in-Some.judged.items c.args.edges.tables are
-    (subst (λ us. IsFirstEdge (Fails n F v us) None) c.deref.ensures.value
-    (subst (IsFirstEdge (Fails n F v c.deref.result.now)) c.in_default-2.is c.in_ok-last.ensures))
+    (subst (λ us. IsFirstEdge (EdgeFails n F v us) None) c.deref.ensures.value
+    (subst (IsFirstEdge (EdgeFails n F v c.deref.result.now)) c.in_default-2.is c.in_ok-last.ensures))
 
 pub returns : goal.returns
 returns g c =
@@ -48,7 +48,7 @@ returns g c =
     let are = subst (λ o. IfSome o (λ w. AreEnough c.args.edges w.items)) c.in-Some.is c.in_ok-judged.ensures in
     let found : ℕ × ℕ = (c.in-Some-2.last, c.in-Some-2.field-0-1) in
     let first =
-    subst (λ us. IsFirstEdge (Fails n F v us) (Some found)) c.deref.ensures.value
-    (subst (IsFirstEdge (Fails n F v c.deref.result.now)) c.in-Some-2.is c.in_ok-last.ensures) in
+    subst (λ us. IsFirstEdge (EdgeFails n F v us) (Some found)) c.deref.ensures.value
+    (subst (IsFirstEdge (EdgeFails n F v c.deref.result.now)) c.in-Some-2.is c.in_ok-last.ensures) in
     IfOk-then c.first_of_all-3.result _ _ c.first_of_all-3.ensures (λ edge own.
-    first_again n F v found edge are first c.in_ok-judged-2.ensures (subst (λ us. IsFirstEdge (Fails n F v us) edge) c.deref-2.ensures.value own))
+    first_again n F v found edge are first c.in_ok-judged-2.ensures (subst (λ us. IsFirstEdge (EdgeFails n F v us) edge) c.deref-2.ensures.value own))

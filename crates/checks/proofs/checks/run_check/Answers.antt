@@ -6,5 +6,5 @@ pub returns-in-Ok-write_whole-clause-truth : goal.returns-in-Ok-write_whole-clau
 returns-in-Ok-write_whole-clause-truth g c =
     with_read _ c.in-Ok.cover _ c.in-Ok.ensures.answer
     (λ bytes reads. with_known _ _ _ c.in-Ok-read_certificate.ensures.cert
-    (λ text spells. accepted c.in-Ok.cover c.in-Ok-read_certificate.cert bytes text c.in-Ok-judged.outcome _ reads spells.1
-    c.in-Ok-judged.ensures))
+    (λ text spells. accepted c.in-Ok.cover c.in-Ok-read_certificate.cert bytes text c.in-Ok-verdict_on.outcome _ reads spells.1
+    c.in-Ok-verdict_on.ensures))

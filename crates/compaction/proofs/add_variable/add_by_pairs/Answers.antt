@@ -29,16 +29,16 @@ number_names-requires-clause-table c =
       below = λ i h. let w = strips.within i h in omega arith;
     }
 
-pub tell_strip_pairs-requires-clause-named : goal.tell_strip_pairs-requires-clause-named
-tell_strip_pairs-requires-clause-named c =
+pub label_strip_pairs-requires-clause-named : goal.label_strip_pairs-requires-clause-named
+label_strip_pairs-requires-clause-named c =
     let t = c.table.inside in
     let table = c.table.invariant in
     subst (λ us. AreNamed (names_of us) t.numbers.now (2 ^ t.bits)) (sym c.deref.ensures.value)
     (paired_named t.outer.now t.numbers.now (2 ^ t.bits) t.rank table.strips table.whole c.in_ok-runs.runs.numbers.items
     c.in_ok-runs.runs.pairs.items c.in_ok-runs.ensures)
 
-pub tell_strip_pairs-requires-clause-small : goal.tell_strip_pairs-requires-clause-small
-tell_strip_pairs-requires-clause-small c =
+pub label_strip_pairs-requires-clause-small : goal.label_strip_pairs-requires-clause-small
+label_strip_pairs-requires-clause-small c =
     let t = c.table.inside in
     let table = c.table.invariant in
     let len = 2 ^ t.bits in

@@ -9,8 +9,8 @@ use Rattle.pair_numbering.proofs.Names.{names_below, length_names}
 use Rattle.compaction.proofs.Ordered.{ordered_strips, ordered_tells, ordered_whole}
 use Rattle.compaction.proofs.add_variable.add_in_order.Goals as goal
 
-pub tell_pairs-requires-clause-table : goal.tell_pairs-requires-clause-table
-tell_pairs-requires-clause-table c =
+pub label_pairs-requires-clause-table : goal.label_pairs-requires-clause-table
+label_pairs-requires-clause-table c =
     let t = c.table.inside in
     let table = c.table.invariant in
     let own = subst (λ (z : StripTableOf). AreOwn z.outer) (sym c.table.view_is) c.requires.own in

@@ -2,17 +2,17 @@ use Rattle.std.proofs.Common.{◌≡◌, ◌<◌, ◌≤◌, ◌+◌, ◌^◌, b
 use Rattle.std.specs.Int.{bit_at}
 use Rattle.compaction.specs.Strips.{low_variables}
 use Rattle.class_laws.specs.Table.{ClassesOf, free_below}
-use Rattle.compaction.specs.Rows.{AreFilled, AreBlank}
+use Rattle.compaction.specs.Rows.{AreRowsFilled, AreBlank}
 use Rattle.compaction.proofs.Filled.{filled_own, filled_lower, filled_both, blank_kept, few_compactions, fewer_compactions}
 use Rattle.compaction.proofs.Decided.{all_decided, lacks_new, within_same, within_more, decided_more, undecided_high, free_with, few_free}
 use Rattle.compaction.proofs.blocks.+walk.Goals as goal
 
 pub returns-in_default-clause-rows : goal.returns-in_default-clause-rows
 returns-in_default-clause-rows t c =
-    let masks = c.args.wanted.now.masks.now in
-    filled_own c.args.table.now.problem masks c.args.wanted.now.needed.now c.args.table.now.set c.args.decided c.args.rows.now c.fill_row.new.rows
-    (λ i lt. all_decided c.args.wanted.now.inputs (slice_index masks i) c.args.decided
-    (c.args.wanted.now.byte i lt).0 (c.in_default.ensures.all refl))
+    let masks = c.args.request.now.masks.now in
+    filled_own c.args.table.now.problem masks c.args.request.now.needed.now c.args.table.now.set c.args.decided c.args.rows.now c.fill_row.new.rows
+    (λ i lt. all_decided c.args.request.now.inputs (slice_index masks i) c.args.decided
+    (c.args.request.now.byte i lt).0 (c.in_default.ensures.all refl))
     c.in_ok-fill_row.ensures
 
 pub walk-requires : goal.walk-requires
@@ -41,18 +41,18 @@ walk-requires t c =
 pub returns-then-not-has_any-2-clause-rows : goal.returns-then-not-has_any-2-clause-rows
 returns-then-not-has_any-2-clause-rows t c =
     let p = c.args.table.now.problem in
-    let masks = c.args.wanted.now.masks.now in
-    let needed = c.args.wanted.now.needed.now in
+    let masks = c.args.request.now.masks.now in
+    let needed = c.args.request.now.needed.now in
     let set = c.args.table.now.set in
     let y = c.in-Some.y in
     let m = c.with_member-more.ensures in
     let a = c.in_ok-before.ensures.rows in
     filled_lower p masks needed set c.args.decided y c.args.rows.now c.walk.new.rows c.in-Some.ensures.undecided.1 c.requires.decided.set
-    (subst (λ k. AreFilled p masks needed set k c.args.rows.now c.walk.new.rows) m a)
+    (subst (λ k. AreRowsFilled p masks needed set k c.args.rows.now c.walk.new.rows) m a)
     (blank_kept p masks needed set c.with_member-more.result c.args.rows.now c.walk.new.rows c.requires.rows.blank a)
     (λ i lt e. c.if-not-has_any-2.ensures refl i lt
     (ap (bit_and (slice_index masks i)) m ∙ e ∙ sym (c.with_member.ensures ∙ ap (λ s. bit_or s (2 ^ y)) c.set-set.ensures)))
-    c.args.wanted.now.long
+    c.args.request.now.long
 
 pub returns-then-not-has_any-2-clause-compactions : goal.returns-then-not-has_any-2-clause-compactions
 returns-then-not-has_any-2-clause-compactions t c =
@@ -76,8 +76,8 @@ add_high-requires-clause-new t c =
 pub walk-requires-2 : goal.walk-requires-2
 walk-requires-2 t c =
     let p = c.args.table.now.problem in
-    let masks = c.args.wanted.now.masks.now in
-    let needed = c.args.wanted.now.needed.now in
+    let masks = c.args.request.now.masks.now in
+    let needed = c.args.request.now.needed.now in
     let set = c.args.table.now.set in
     let y = c.in-Some.y in
     let m = c.with_member-more.ensures in
@@ -113,7 +113,7 @@ pub overflow_add-result : goal.overflow_add-result
 overflow_add-result t c =
     let a = c.in_ok-before.ensures.compactions in
     let b = c.in_ok-after.ensures.compactions in
-    let few : c.args.table.now.problem.inputs ≤ 16 = (let i = c.requires.inputs in let w = c.args.wanted.now.few in omega arith) in
+    let few : c.args.table.now.problem.inputs ≤ 16 = (let i = c.requires.inputs in let w = c.args.request.now.few in omega arith) in
     let n = ap (λ (z : ClassesOf). z.problem.inputs) c.in_ok-next.ensures in
     let x = few_free c.args.table.now.problem.inputs c.with_member-more.result few in
     let z = few_free c.in_ok-next.next.problem.inputs c.with_member-more.result (omega arith) in
@@ -123,7 +123,7 @@ pub overflow_add-result-2 : goal.overflow_add-result-2
 overflow_add-result-2 t c =
     let a = c.in_ok-before.ensures.compactions in
     let b = c.in_ok-after.ensures.compactions in
-    let few : c.args.table.now.problem.inputs ≤ 16 = (let i = c.requires.inputs in let w = c.args.wanted.now.few in omega arith) in
+    let few : c.args.table.now.problem.inputs ≤ 16 = (let i = c.requires.inputs in let w = c.args.request.now.few in omega arith) in
     let n = ap (λ (z : ClassesOf). z.problem.inputs) c.in_ok-next.ensures in
     let x = few_free c.args.table.now.problem.inputs c.with_member-more.result few in
     let z = few_free c.in_ok-next.next.problem.inputs c.with_member-more.result (omega arith) in
@@ -132,15 +132,15 @@ overflow_add-result-2 t c =
 pub returns-clause-rows : goal.returns-clause-rows
 returns-clause-rows t c =
     let p = c.args.table.now.problem in
-    let masks = c.args.wanted.now.masks.now in
-    let needed = c.args.wanted.now.needed.now in
+    let masks = c.args.request.now.masks.now in
+    let needed = c.args.request.now.needed.now in
     let set = c.args.table.now.set in
     let y = c.in-Some.y in
     let m = c.with_member-more.ensures in
     filled_both p masks needed set c.args.decided y c.args.rows.now c.walk.new.rows c.walk-2.new.rows c.in-Some.ensures.undecided.1 c.requires.decided.set
-    (subst (λ k. AreFilled p masks needed set k c.args.rows.now c.walk.new.rows) m c.in_ok-before.ensures.rows)
-    (subst (λ k. AreFilled p masks needed (bit_or set (2 ^ y)) k c.walk.new.rows c.walk-2.new.rows) m
-    (subst (λ (z : ClassesOf). AreFilled z.problem masks needed z.set c.with_member-more.result c.walk.new.rows c.walk-2.new.rows)
+    (subst (λ k. AreRowsFilled p masks needed set k c.args.rows.now c.walk.new.rows) m c.in_ok-before.ensures.rows)
+    (subst (λ k. AreRowsFilled p masks needed (bit_or set (2 ^ y)) k c.walk.new.rows c.walk-2.new.rows) m
+    (subst (λ (z : ClassesOf). AreRowsFilled z.problem masks needed z.set c.with_member-more.result c.walk.new.rows c.walk-2.new.rows)
     c.in_ok-next.ensures c.in_ok-after.ensures.rows))
 
 pub returns-clause-compactions : goal.returns-clause-compactions

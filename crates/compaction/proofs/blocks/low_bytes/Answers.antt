@@ -8,7 +8,7 @@ use Rattle.compaction.proofs.blocks.low_bytes.Goals as goal
 use Rattle.compaction.proofs.blocks.low_bytes.Goals.{then-contains+in_ok-keys-2, else-contains}
 
 pub add-requires-clause-new : goal.add-requires-clause-new
-add-requires-clause-new c = ap (λ (t : ClassesOf). has (set_of t) c.loop-y.y) c.loop-y.invariant ∙ low_new c.args.beginning.now.inputs c.args.low c.loop-y.y
+add-requires-clause-new c = ap (λ (t : ClassesOf). has (set_of t) c.loop-y.y) c.loop-y.invariant ∙ low_new c.args.shared.now.inputs c.args.low c.loop-y.y
 
 pub loop-y-preserved : goal.loop-y-preserved
 loop-y-preserved c =
@@ -16,8 +16,8 @@ loop-y-preserved c =
     elim c.if-contains.branch [
       | then-contains+in_ok-keys-2 w ↦
           w.keys-is ∙ w.in_ok-keys-2.ensures ∙ ap (λ (t : ClassesOf). with_variable t c.loop-y.y) c.loop-y.invariant
-          ∙ ap (classes_of c.args.beginning.now) (low_more c.args.low c.loop-y.y (s ∙ c.contains.ensures.0 w.if-contains.true))
+          ∙ ap (classes_of c.args.shared.now) (low_more c.args.low c.loop-y.y (s ∙ c.contains.ensures.0 w.if-contains.true))
       | else-contains w ↦
           w.keys-is ∙ c.loop-y.invariant
-          ∙ ap (classes_of c.args.beginning.now) (low_same c.args.low c.loop-y.y (λ e. iff_false c.contains.ensures w.if-contains.false (sym s ∙ e)))
+          ∙ ap (classes_of c.args.shared.now) (low_same c.args.low c.loop-y.y (λ e. iff_false c.contains.ensures w.if-contains.false (sym s ∙ e)))
     ]

@@ -2,10 +2,10 @@ use Rattle.std.proofs.Common.{arith, rules}
 use Rattle.pair_numbering.specs.Strips.{names_of}
 use Rattle.compaction_tests.proofs.tests.pairs_of_strips.Goals as goal
 
-pub tell_strip_pairs-requires-clause-named : goal.tell_strip_pairs-requires-clause-named
+pub label_strip_pairs-requires-clause-named : goal.label_strip_pairs-requires-clause-named
 unfolding names_of
-tell_strip_pairs-requires-clause-named g c = record { count = 2; whole = omega arith; within = search rules }
+label_strip_pairs-requires-clause-named g c = record { count = 2; whole = omega arith; within = search rules }
 
-pub tell_strip_pairs-requires-2-clause-named : goal.tell_strip_pairs-requires-2-clause-named
+pub label_strip_pairs-requires-2-clause-named : goal.label_strip_pairs-requires-2-clause-named
 unfolding names_of
-tell_strip_pairs-requires-2-clause-named g c = record { count = 2; whole = omega arith; within = search rules }
+label_strip_pairs-requires-2-clause-named g c = record { count = 2; whole = omega arith; within = search rules }

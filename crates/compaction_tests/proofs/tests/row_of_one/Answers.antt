@@ -19,7 +19,7 @@ block_widths-requires-clause-members g c = λ i low x one.
 
 pub rows_by_walks-requires-clause-members : goal.rows_by_walks-requires-clause-members
 rows_by_walks-requires-clause-members g c =
-    subst (λ (p : TruthTables). AreMembers p (block_masks c.args.block.now) (c.mask-needed.result ∷ [])) (sym c.in_ok-beginning.ensures)
+    subst (λ (p : TruthTables). AreMembers p (block_masks c.args.block.now) (c.mask-needed.result ∷ [])) (sym c.in_ok-shared.ensures)
     (λ i low x one.
     let l = c.len.ensures.value in
     let first : i ≡ 0 = omega arith in

@@ -1,6 +1,6 @@
 use Rattle.std.proofs.Common.{ℕ, List, [], ◌∷◌, length, length-append, slice_get, sym, ap, ◌∙◌, subst, arith}
 use Rattle.subset_layers.specs.Costs.{CostsOf}
-use Rattle.order_solve.specs.Benches.{IsLayerFor}
+use Rattle.order_solve.specs.LayerContexts.{IsLayerFor}
 use Rattle.order_solve.specs.Bounded.{AreLayersFor}
 use Rattle.order_solve.proofs.Layers.{layers_push}
 use Rattle.compaction.proofs.FoundAhead.{ahead_joined}

@@ -6,7 +6,7 @@ use Rattle.order_solve.proofs.alone.cells_alone.Given as goal
 
 abbrev pub invariant-loop-place : goal.invariant-loop-place
 invariant-loop-place l = record {
-  length_is : length l.cells.items ≡ length (masks_of l.bench.layer);
-  placed : (p : ℕ) → p < length (masks_of l.bench.layer) → block_place l.bench.layer p < l.place → IsPlaced l.bench l.cells.items p;
-  found : AreAhead l.bench.setting.problem l.found;
+  length_is : length l.cells.items ≡ length (masks_of l.context.layer);
+  placed : (p : ℕ) → p < length (masks_of l.context.layer) → block_place l.context.layer p < l.place → IsPlaced l.context l.cells.items p;
+  found : AreAhead l.context.setting.problem l.found;
 }

@@ -5,4 +5,4 @@ use Rattle.layer_core.specs.Pairing.{pair_of}
 use Rattle.order_solve.proofs.cells.cells_of_block.Given as goal
 
 abbrev pub invariant-loop-i : goal.invariant-loop-i
-invariant-loop-i l = map pair_of l.cells.items ≡ map (cell_for l.bench.setting) (take l.i (block_masks l.block))
+invariant-loop-i l = map pair_of l.cells.items ≡ map (cell_for l.context.setting) (take l.i (block_masks l.block))

@@ -4,7 +4,7 @@ use Rattle.subset_layers.specs.Layers.{layer_with, masks_of}
 use Rattle.layer_core.specs.Settings.{cell_for}
 use Rattle.layer_core.specs.Pairing.{pair_of}
 use Rattle.layer_core.proofs.Layouts.{length-map_lem}
-use Rattle.order_solve.specs.Benches.{BenchOf}
+use Rattle.order_solve.specs.LayerContexts.{ContextOf}
 use Rattle.order_solve.proofs.Placing.{layer_is}
 use Rattle.order_solve.proofs.layering.next_layer.Goals as goal
 
@@ -27,7 +27,7 @@ of-costs-requires-clause-cells g c =
     sym (length-map_lem pair_of c.in_ok-cells.cells.items)
     ∙ ap length
     (c.in_ok-cells.ensures.cells
-    ∙ ap (λ (b : BenchOf). map (cell_for b.setting) (masks_of b.layer)) (c.with_walks-bench.ensures ∙ c.new.ensures))
+    ∙ ap (λ (b : ContextOf). map (cell_for b.setting) (masks_of b.layer)) (c.with_source-context.ensures ∙ c.new.ensures))
     ∙ length-map_lem (cell_for c.args.setting.now) (masks_of c.in_ok-layer.layer)
 
 pub returns-clause-layer : goal.returns-clause-layer
@@ -37,5 +37,5 @@ returns-clause-layer g c =
     layer_is t size c.in_ok-layer.layer c.in_ok-cells.cells.items c.of-costs.result
     (c.in_ok-layer.ensures ∙ ap (λ n. layer_with n size) c.inputs.ensures.value) c.of-costs.ensures.value
     (c.in_ok-cells.ensures.cells
-    ∙ ap (λ (b : BenchOf). map (cell_for b.setting) (masks_of b.layer)) (c.with_walks-bench.ensures ∙ c.new.ensures))
+    ∙ ap (λ (b : ContextOf). map (cell_for b.setting) (masks_of b.layer)) (c.with_source-context.ensures ∙ c.new.ensures))
     c.of-costs.ensures.exact

@@ -3,7 +3,7 @@ use Rattle.order_model.specs.Orders.{members}
 use Rattle.order_model.specs.Pairs.{is_lawful}
 use Rattle.subset_layers.proofs.BlockLists.{has_masks}
 use Rattle.layer_core.specs.Settings.{Setting}
-use Rattle.order_solve.specs.Benches.{AreCostsFor}
+use Rattle.order_solve.specs.LayerContexts.{AreCostsFor}
 use Rattle.order_solve.specs.Needs.{needed}
 use Rattle.order_solve.proofs.Wanted.{needed_lawful, needed_unlawful}
 use Rattle.order_solve.proofs.needs.needed_members.Goals as goal

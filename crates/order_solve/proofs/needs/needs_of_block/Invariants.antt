@@ -4,4 +4,4 @@ use Rattle.order_solve.specs.Needs.{needed}
 use Rattle.order_solve.proofs.needs.needs_of_block.Given as goal
 
 abbrev pub invariant-loop-mask : goal.invariant-loop-mask
-invariant-loop-mask l = l.needs.items ≡ map (needed l.bench.setting) (take l.mask-index (block_masks l.block))
+invariant-loop-mask l = l.needs.items ≡ map (needed l.context.setting) (take l.mask-index (block_masks l.block))

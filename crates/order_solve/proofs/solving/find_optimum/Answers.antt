@@ -4,7 +4,7 @@ use Rattle.order_model.specs.Pairs.{Pair}
 use Rattle.order_model.specs.Problems.{TruthTables, functions}
 use Rattle.symmetries.specs.SymmetricPairs.{IsHarmless}
 use Rattle.layer_core.specs.Settings.{Setting}
-use Rattle.order_solve.specs.Solutions.{IsOptimum}
+use Rattle.order_solve.specs.Solutions.{IsOptimumFor}
 use Rattle.order_solve.proofs.Harmless.{optimum_harmless}
 use Rattle.order_solve.proofs.solving.find_optimum.Goals as goal
 
@@ -17,8 +17,8 @@ returns g c =
     let setting = c.setting_of-setting.ensures in
     let harmless = subst (λ (R : List Pair). IsHarmless t.inputs (functions t) R Q) c.pairs.ensures.value c.in_ok-pairs.ensures.harmless in
     let found =
-    subst (λ (s : Setting). IsOptimum s.problem s.pairs.pairs o) c.in_ok-searched.ensures c.in_ok-optimum.ensures.optimum in
-    subst (λ (u : TruthTables). IsOptimum u P o) c.problem-problem.ensures
+    subst (λ (s : Setting). IsOptimumFor s.problem s.pairs.pairs o) c.in_ok-searched.ensures c.in_ok-optimum.ensures.optimum in
+    subst (λ (u : TruthTables). IsOptimumFor u P o) c.problem-problem.ensures
     (optimum_harmless t P Q o harmless
-    (subst (λ (u : TruthTables). IsOptimum u Q o) setting.problem
-    (subst (λ (k : KeptPairs). IsOptimum c.setting_of-setting.result.problem k.pairs o) setting.pairs found)))
+    (subst (λ (u : TruthTables). IsOptimumFor u Q o) setting.problem
+    (subst (λ (k : KeptPairs). IsOptimumFor c.setting_of-setting.result.problem k.pairs o) setting.pairs found)))

@@ -25,7 +25,7 @@ returns-clause-optimum c =
       first = order_first t b o read;
       fewest = total_fewest t b o read total is;
       size = total_size t b o read total is;
-      levels = c.in_ok-levels.ensures;
+      levels_are = c.in_ok-levels.ensures;
     }
 
 pub returns-clause-bounded : goal.returns-clause-bounded

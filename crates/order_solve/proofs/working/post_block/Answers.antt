@@ -16,7 +16,7 @@ post_cell-requires-clause-cell g c κs within =
     let masks = block_masks c.args.block.now in
     let items = c.masks-mask-items.result.now in
     let is = c.masks-mask-items.ensures in
-    let t = c.args.worker.now.bench.now.setting in
+    let t = c.args.worker.now.context.now.setting in
     let cells : List Cell = c.args.cells.now in
     let none : Cell = record { cost = 0; variable = 0 } in
     let lt : c.loop-i.i < length masks = (let l = ap length is in omega (arith, l)) in

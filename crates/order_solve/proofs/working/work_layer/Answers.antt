@@ -3,7 +3,7 @@ use Rattle.subset_layers.specs.Layers.{LayerOf, BlockOf, layer_of, block_masks}
 use Rattle.order_model.specs.Orders.{has}
 use Rattle.layer_board.specs.Views.{BoardId, SeatOf}
 use Rattle.compaction.specs.Ahead.{widths_ahead}
-use Rattle.order_solve.specs.Benches.{BenchOf}
+use Rattle.order_solve.specs.LayerContexts.{ContextOf}
 use Rattle.order_solve.specs.Gains.{widths_for, StaysClaimed, IsPosted}
 use Rattle.order_solve.proofs.Posts.{no_more_stays}
 use Rattle.order_solve.proofs.Claimed.{block_layer, few_gained}
@@ -14,9 +14,9 @@ use Rattle.order_solve.proofs.working.work_layer.Goals as goal
 pub loop-claim-init : goal.loop-claim-init
 loop-claim-init g c = record {
   working =
-      subst (λ (n : ℕ). Working c.args.bench.now.setting c.args.seat c.args.seat n) (sym c.new-tallies.ensures.cells)
-      (working_none c.args.bench.now.setting c.args.seat);
-  found = ahead_none c.args.bench.now.setting.problem c.up_to-found.result c.up_to-found.ensures;
+      subst (λ (n : ℕ). Working c.args.context.now.setting c.args.seat c.args.seat n) (sym c.new-tallies.ensures.cells)
+      (working_none c.args.context.now.setting c.args.seat);
+  found = ahead_none c.args.context.now.setting.problem c.up_to-found.result c.up_to-found.ensures;
   ahead = c.new-tallies.ensures.ahead ∙ ap widths_ahead (sym c.up_to-found.ensures);
   few = λ q all. let e = c.new-tallies.ensures.ahead in omega (arith, e);
 }
@@ -28,7 +28,7 @@ cells_of_block-requires-clause-layer g c =
 
 pub cells_of_block-requires-clause-cells : goal.cells_of_block-requires-clause-cells
 cells_of_block-requires-clause-cells g c =
-    let t = c.args.bench.now.setting in
+    let t = c.args.context.now.setting in
     let s = c.loop-claim.seat in
     let s1 = c.claim.new.seat in
     let p = c.in-Some.claim.place in
@@ -40,11 +40,11 @@ cells_of_block-requires-clause-cells g c =
     round_gains t c.args.seat s s1 s1 c.loop-claim.tallies.cells p b w h
     ∙ ap (λ (z : BlockOf). c.loop-claim.tallies.cells + widths_for t (block_masks z)) (sym c.block.ensures) in
     let small : t.problem.inputs ≤ 16 =
-    (let f = c.inputs.ensures.few in let v = c.inputs.ensures.value ∙ ap (λ (z : BenchOf). z.setting.problem.inputs) c.bench.view_is in omega (arith, f, v)) in
+    (let f = c.inputs.ensures.few in let v = c.inputs.ensures.value ∙ ap (λ (z : ContextOf). z.setting.problem.inputs) c.context.view_is in omega (arith, f, v)) in
     let few = few_gained t c.args.seat s1 t.problem.inputs small
     (ap (λ (z : BoardId). z.brief.layer.inputs) c.requires.seat ∙ ap (λ (l : LayerOf). l.inputs) c.requires.layer
-    ∙ ap (λ (z : BenchOf). z.layer.inputs) (sym c.bench.view_is) ∙ ap (λ (l : LayerOf). l.inputs) c.bench.invariant.0.layer
-    ∙ ap (λ (z : BenchOf). z.setting.problem.inputs) c.bench.view_is)
+    ∙ ap (λ (z : ContextOf). z.layer.inputs) (sym c.context.view_is) ∙ ap (λ (l : LayerOf). l.inputs) c.context.invariant.0.layer
+    ∙ ap (λ (z : ContextOf). z.setting.problem.inputs) c.context.view_is)
     small in
     omega (arith, gains, few)
 
@@ -71,7 +71,7 @@ loop-claim-smaller g c =
 
 pub loop-claim-preserved : goal.loop-claim-preserved
 loop-claim-preserved g c =
-    let t = c.args.bench.now.setting in
+    let t = c.args.context.now.setting in
     let s = c.loop-claim.seat in
     let s1 = c.claim.new.seat in
     let s2 = c.post_block.new.seat in
@@ -94,7 +94,7 @@ loop-claim-preserved g c =
 
 pub returns-clause-tally : goal.returns-clause-tally
 returns-clause-tally g c =
-    let t = c.args.bench.now.setting in
+    let t = c.args.context.now.setting in
     let s = c.loop-claim.seat in
     let s1 = c.claim.new.seat in
     let is = c.in_default.ensures.none refl in

@@ -6,8 +6,8 @@ use Rattle.order_solve.proofs.working.work_layer.Given as goal
 
 abbrev pub invariant-loop-claim : goal.invariant-loop-claim
 invariant-loop-claim g l = record {
-  working : Working l.bench.setting l.fn.seat l.seat l.tallies.cells;
-  found : AreAhead l.bench.setting.problem l.found;
+  working : Working l.context.setting l.fn.seat l.seat l.tallies.cells;
+  found : AreAhead l.context.setting.problem l.found;
   ahead : l.tallies.ahead ≡ widths_ahead l.found;
   few : IsFewAhead l.seat l.tallies.ahead;
 }

@@ -1,7 +1,7 @@
 use Rattle.std.proofs.Common.{◌≡◌, ℕ, ◌+◌, ◌-◌, ◌*◌, ◌≤◌, ◌%◌, ◌^◌, ◌++◌, length, sym, ap, subst, ◌∙◌, arith}
 use Rattle.std.specs.Option.{IfSome}
 use Rattle.class_laws.specs.Table.{HoldsClasses}
-use Rattle.cert_check.specs.Rows.{IsShort}
+use Rattle.cert_check.specs.Rows.{IsShortened}
 use Rattle.cert_check.specs.Tables.{HoldsTable, TableOf, classes_at, table_at}
 use Rattle.cert_check.proofs.HighSets.{double}
 use Rattle.cert_check.proofs.Rows.{short_finer, short_then}
@@ -46,8 +46,8 @@ invariant_of-result c =
     let y = c.args.y in
     let lower = c.if-self-y.false in
     let numbers = c.in-Some-shorter.numbers.items in
-    let e = subst (λ o. IfSome o (λ v. (steps : ℕ) × IsShort (2 ^ y) steps c.deref.result.now v.items)) c.in-Some-shorter.is c.in_ok-shorter-in-None.ensures in
-    let from = subst (λ us. IsShort (2 ^ y) e.0 us numbers) c.deref.ensures.value e.1 in
+    let e = subst (λ o. IfSome o (λ v. (steps : ℕ) × IsShortened (2 ^ y) steps c.deref.result.now v.items)) c.in-Some-shorter.is c.in_ok-shorter-in-None.ensures in
+    let from = subst (λ us. IsShortened (2 ^ y) e.0 us numbers) c.deref.ensures.value e.1 in
     let both = short_then (2 ^ y) h.steps e.0 h.whole c.self.inside.numbers.items numbers
     (short_finer c.self.inside.level y h.steps h.whole c.self.inside.numbers.items (omega arith) h.short) from in
     let copied : c.in_ok-masks-in-None.masks.items ++ c.deref-in-None.result.now ≡ c.self.inside.masks.items =

@@ -1,7 +1,7 @@
 use Rattle.std.proofs.Common.{◌^◌, ap, arith}
 use Rattle.rayon.proofs.ListFacts.{IfOk-then}
 use Rattle.order_model.specs.Problems.{functions}
-use Rattle.cert_check.specs.Edges.{Fails, FailsWithin}
+use Rattle.cert_check.specs.Edges.{EdgeFails, FailsWithin}
 use Rattle.cert_check.specs.Tables.{TableOf}
 use Rattle.cert_check.proofs.EdgeMarks.{first_same}
 use Rattle.cert_check.proofs.FirstEdges.{judged_within}
@@ -21,5 +21,5 @@ returns c =
     let empty = ap (λ (u : TableOf). u.set) c.in_ok-table.ensures in
     let power = ap (λ k. 2 ^ k) c.inputs.ensures.value in
     IfOk-then c.first_failing.result _ _ c.first_failing.ensures (λ edge first.
-    first_same (FailsWithin P.inputs (functions P) v j t.set c.inputs.result) (Fails P.inputs (functions P) v j) edge (λ S x f. f.0)
+    first_same (FailsWithin P.inputs (functions P) v j t.set c.inputs.result) (EdgeFails P.inputs (functions P) v j) edge (λ S x f. f.0)
     (λ S x f. (f, omega arith, (let w = judged_within P.inputs (functions P) v j c.args.edges.tables.judged_all S x f in omega arith))) first)

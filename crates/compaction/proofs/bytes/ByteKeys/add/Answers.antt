@@ -8,8 +8,8 @@ use Rattle.class_laws.specs.Table.{ClassesOf, classes_of, free_below}
 use Rattle.compaction.proofs.HeldBytes.{bytes_more, bytes_table}
 use Rattle.compaction.proofs.bytes.ByteKeys.add.Goals as goal
 
-pub tell_pairs-requires-clause-table : goal.tell_pairs-requires-clause-table
-tell_pairs-requires-clause-table c =
+pub label_pairs-requires-clause-table : goal.label_pairs-requires-clause-table
+label_pairs-requires-clause-table c =
     let h = subst
     (λ (z : ClassesOf). HoldsBytes z 8 c.self.inside.outer.items c.self.inside.bytes.items c.self.inside.rows.items
     c.self.inside.masks.items)

@@ -9,8 +9,8 @@ use Rattle.compaction.proofs.AllDistinct.{distinct_more, table_distinct, table_s
 use Rattle.compaction.proofs.HeldStrips.{table_low, holds_low}
 use Rattle.compaction.proofs.strips.Strips.add_low.Goals as goal
 
-pub tell_pairs-requires-clause-table : goal.tell_pairs-requires-clause-table
-tell_pairs-requires-clause-table c =
+pub label_pairs-requires-clause-table : goal.label_pairs-requires-clause-table
+label_pairs-requires-clause-table c =
     let l = c.requires.low in
     let h = table_strips c.args.self.now (low_variables c.args.self.now.problem) c.self.inside.distinct c.self.inside.all_used
     c.self.inside.outer.items c.self.inside.numbers.items c.self.inside.masks.items
@@ -69,8 +69,8 @@ of_count-requires c =
     (λ i. classes_of (sym c.self.view_is i).problem (bit_or (sym c.self.view_is i).set (sym s i)))
     (distinct_more c.args.self.now c.in-Some.count d c.args.x (omega arith) c.requires.new)
 
-pub tell_pairs-requires-clause-few : goal.tell_pairs-requires-clause-few
-tell_pairs-requires-clause-few c =
+pub label_pairs-requires-clause-few : goal.label_pairs-requires-clause-few
+label_pairs-requires-clause-few c =
     let h = table_strips c.args.self.now (low_variables c.args.self.now.problem) c.self.inside.distinct c.self.inside.all_used
     c.self.inside.outer.items c.self.inside.numbers.items c.self.inside.masks.items
     (subst (λ (z : ClassesOf). HoldsTable z (low_variables z.problem) c.self.inside.distinct c.self.inside.all_used

@@ -1,0 +1,30 @@
+use Rattle.std.proofs.Common.{◌+◌, ◌^◌, ◌<◌, ◌++◌, length, map, add-one, sym, ap, ◌∙◌, subst, arith}
+use Rattle.std.specs.List.{All}
+use Rattle.std.proofs.lemmas.List.{length-append, length-map}
+use Rattle.class_laws.specs.Table.{with_variable}
+use Rattle.compaction.specs.Strips.{AreOfFirstSets, CanTakeLow, low_variables}
+use Rattle.compaction.proofs.FirstSets.{can_take, with_larger}
+use Rattle.compaction.proofs.shared_tables.tables_by_threads.Goals as goal
+
+pub with_low_by_threads-requires : goal.with_low_by_threads-requires
+with_low_by_threads-requires g c =
+    let x = c.loop-largest.largest in
+    let low : x < low_variables c.args.problem.now = (let t = c.loop-largest-test.true in let l = c.low_variables-largest-end.ensures in omega arith) in (
+      c.type_bounds.sync-R,
+      subst (All (CanTakeLow x)) (sym c.deref.ensures.value)
+          (can_take c.args.problem.now c.loop-largest.tables.items x c.loop-largest.invariant.1 c.loop-largest.invariant.0 low),
+    )
+
+pub loop-largest-preserved : goal.loop-largest-preserved
+loop-largest-preserved g c =
+    let x = c.loop-largest.largest in
+    let tables = c.loop-largest.tables.items in
+    let more = c.in_ok-larger.ensures ∙ ap (map (λ t. with_variable t x)) c.deref.ensures.value in
+    let items = c.in_ok-append.ensures.items ∙ ap (λ ts. tables ++ ts) more in
+    let n = c.loop-largest.invariant.0 in
+    let long = ap length items ∙ (length-append tables (map (λ t. with_variable t x) tables)
+    ∙ ap (λ k. length tables + k) (length-map tables (λ t. with_variable t x))) in
+    let next = ap (λ k. 2 ^ k) (add-one x) in (
+      omega arith,
+      subst (AreOfFirstSets c.args.problem.now) (sym items) (with_larger c.args.problem.now tables x c.loop-largest.invariant.1 n),
+    )

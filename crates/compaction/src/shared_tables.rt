@@ -1,0 +1,273 @@
+//! Tables that are made once a search and read by the walks of all blocks.
+
+ghost use Rattle.std.specs.Prelude.{◌≡◌, ◌<◌, ◌≤◌, map, IfOk, IfSome};
+ghost use Rattle.std.specs.List.{All};
+ghost use Rattle.class_laws.specs.Table.{classes_of, with_variable};
+ghost use Rattle.compaction.specs.Strips.{AreOfFirstSets, CanTakeLow};
+ghost use Rattle.compaction.specs.Joining.{AreJoined};
+
+use crate::bytes::ByteKeys;
+use crate::names::AllNamePairs;
+use crate::strips::{Strips, low_variables};
+use order_model::{Mask, Problem, VarIx, Workers};
+use std::alloc::{AllocError, Global};
+use std::marker::Model;
+use std::thread;
+use std::thread::Threads;
+
+/// Truth tables of no more distinct strips than these have the tables of all low sets made
+/// beforehand, which take 6,561 numbers a strip.
+const MOST_STRIPS: usize = 1 << 10;
+
+/// What the walks of all blocks share: the class tables of all sets of low variables if they are
+/// small, else the keys of the sets of the lowest three variables; and the pairs of names for the
+/// sets of high variables. They are made once a search.
+#[derive(Drop)]
+pub struct SharedTables<'a> {
+    problem: &'a Problem,
+    tables: Vec<Strips<'a>>,
+    keys: Vec<ByteKeys<'a>>,
+    names: AllNamePairs,
+}
+
+impl<'a> Model for SharedTables<'a> {
+    ghost use Rattle.order_model.specs.Problems.{TruthTables};
+    ghost use Rattle.compaction.specs.Strips.{AreOfFirstSets};
+
+    ghost Value = { TruthTables };
+
+    ghost view = { λ b. b.problem.now };
+
+    ghost invariant = { λ b. AreOfFirstSets b.problem.now b.tables.items
+        × AreOfFirstSets b.problem.now b.keys.items };
+}
+
+/// Tables with one more low variable in each set.
+fn with_low<'a>(
+    alloc: Global,
+    tables: &[Strips<'a>],
+    x: VarIx,
+) -> Result<Vec<Strips<'a>>, AllocError>
+    requires { All (CanTakeLow x) tables.now }
+    ensures { IfOk result (λ v. v.items ≡ map (λ t. with_variable t x) tables.now) }
+{
+    let mut larger = Vec::with_capacity(alloc, tables.len())?;
+    for table in tables {
+        larger.push(table.add_low(alloc, x)?)?;
+    }
+    Ok(larger)
+}
+
+/// The tables of all parts, one part after the other.
+fn concatenate<'a>(
+    alloc: Global,
+    parts: Vec<Result<Vec<Strips<'a>>, AllocError>>,
+) -> Result<Vec<Strips<'a>>, AllocError>
+    ensures { IfOk result (λ v. AreJoined parts.entry.items v.items) }
+{
+    let mut parts = parts;
+    let mut all = Vec::new(alloc);
+    while !parts.is_empty() {
+        let mut part = parts.remove(0)?;
+        all.append(&mut part)?;
+    }
+    Ok(all)
+}
+
+/// The same, by workers.
+fn with_low_by_threads<'a, R: Threads + Sync>(
+    rt: &R,
+    alloc: Global,
+    tables: &[Strips<'a>],
+    x: VarIx,
+    workers: Workers,
+) -> Result<Vec<Strips<'a>>, AllocError>
+    requires { All (CanTakeLow x) tables.now }
+    ensures { IfOk result (λ v. v.items ≡ map (λ t. with_variable t x) tables.now) }
+{
+    let size = tables.len().div_ceil(usize::from(workers.count())).max(1);
+    let parts = thread::map_chunks(
+        rt,
+        alloc,
+        tables,
+        size,
+        &|_start: usize, part: &[Strips<'_>]| -> Result<Vec<Strips<'_>>, AllocError>
+            requires { All (CanTakeLow x) part.now }
+            ensures { IfOk result (λ v. v.items ≡ map (λ t. with_variable t x) part.entry.now) }
+        { with_low(alloc, part, x) },
+    )?;
+    concatenate(alloc, parts)
+}
+
+/// The tables of all sets of low variables, in the order of their masks, from that of the empty set
+/// if there is one.
+fn tables_of_low_sets<'a>(
+    alloc: Global,
+    problem: &'a Problem,
+    empty: Option<Strips<'a>>,
+) -> Result<Vec<Strips<'a>>, AllocError>
+    requires { IfSome empty (λ t. t ≡ classes_of problem.now 0) }
+    ensures { IfOk result (λ v. AreOfFirstSets problem.now v.items) }
+{
+    let mut tables = Vec::new(alloc);
+    if let Some(empty) = empty {
+        tables.push(empty)?;
+        for largest in 0..low_variables(problem) {
+            let mut larger = with_low(alloc, &tables, largest)?;
+            tables.append(&mut larger)?;
+        }
+    }
+    Ok(tables)
+}
+
+/// The same, by workers.
+fn tables_by_threads<'a, R: Threads + Sync>(
+    rt: &R,
+    alloc: Global,
+    problem: &'a Problem,
+    empty: Option<Strips<'a>>,
+    workers: Workers,
+) -> Result<Vec<Strips<'a>>, AllocError>
+    requires { IfSome empty (λ t. t ≡ classes_of problem.now 0) }
+    ensures { IfOk result (λ v. AreOfFirstSets problem.now v.items) }
+{
+    let mut tables = Vec::new(alloc);
+    if let Some(empty) = empty {
+        tables.push(empty)?;
+        for largest in 0..low_variables(problem) {
+            let mut larger = with_low_by_threads(rt, alloc, &tables, largest, workers)?;
+            tables.append(&mut larger)?;
+        }
+    }
+    Ok(tables)
+}
+
+/// The keys of the sets of the lowest three variables, in the order of their masks, from those of
+/// the empty set.
+fn keys_of_low_sets<'a>(
+    alloc: Global,
+    problem: &'a Problem,
+    empty: ByteKeys<'a>,
+) -> Result<Vec<ByteKeys<'a>>, AllocError>
+    requires inputs { 8 ≤ problem.now.inputs }
+    requires empty { empty ≡ classes_of problem.now 0 }
+    ensures { IfOk result (λ v. AreOfFirstSets problem.now v.items) }
+{
+    let mut keys = Vec::with_capacity(alloc, 8)?;
+    keys.push(empty)?;
+    for largest in 0..3u8 {
+        for without in 0..1usize << largest {
+            let more = keys[without].add(alloc, largest)?;
+            keys.push(more)?;
+        }
+    }
+    Ok(keys)
+}
+
+/// What shared tables are made from: the keys and the pairs of names, and the table of the empty
+/// set if those of all low sets are to be made of it.
+#[derive(Drop)]
+struct Basis<'a> {
+    empty: Option<Strips<'a>>,
+    keys: Vec<ByteKeys<'a>>,
+    names: AllNamePairs,
+}
+
+/// What shared tables are made from.
+fn basis_of<'a>(alloc: Global, problem: &'a Problem) -> Result<Basis<'a>, AllocError>
+    ensures empty { IfOk result (λ b. IfSome b.empty (λ t. t ≡ classes_of problem.now 0)) }
+    ensures keys { IfOk result (λ b. AreOfFirstSets problem.now b.keys.items) }
+{
+    if problem.inputs() < 8 {
+        return Ok(Basis {
+            empty: Some(Strips::of_problem(alloc, problem)?),
+            keys: Vec::new(alloc),
+            names: AllNamePairs::none(alloc),
+        });
+    }
+    let keys = ByteKeys::of_problem(alloc, problem)?;
+    let names = AllNamePairs::of(alloc, keys.names(), problem.inputs() - 8)?;
+    if keys.strips() <= MOST_STRIPS {
+        return Ok(Basis {
+            empty: Some(keys.write_out(alloc)?),
+            keys: Vec::new(alloc),
+            names,
+        });
+    }
+    Ok(Basis {
+        empty: None,
+        keys: keys_of_low_sets(alloc, problem, keys)?,
+        names,
+    })
+}
+
+impl<'a> SharedTables<'a> {
+    /// With all that serves several blocks, made by the calling thread.
+    pub fn of(alloc: Global, problem: &'a Problem) -> Result<SharedTables<'a>, AllocError>
+        ensures { IfOk result (λ b. b ≡ problem.now) }
+    {
+        let Basis { empty, keys, names } = basis_of(alloc, problem)?;
+        Ok(SharedTables {
+            problem,
+            tables: tables_of_low_sets(alloc, problem, empty)?,
+            keys,
+            names,
+        })
+    }
+
+    /// The same, made by workers.
+    pub fn by_threads<R: Threads + Sync>(
+        rt: &R,
+        alloc: Global,
+        problem: &'a Problem,
+        workers: Workers,
+    ) -> Result<SharedTables<'a>, AllocError>
+        ensures { IfOk result (λ b. b ≡ problem.now) }
+    {
+        let Basis { empty, keys, names } = basis_of(alloc, problem)?;
+        Ok(SharedTables {
+            problem,
+            tables: tables_by_threads(rt, alloc, problem, empty, workers)?,
+            keys,
+            names,
+        })
+    }
+
+    /// With nothing made beforehand, for a single block.
+    pub(crate) fn bare(alloc: Global, problem: &'a Problem) -> SharedTables<'a>
+        ensures { result ≡ problem.now }
+    {
+        SharedTables {
+            problem,
+            tables: Vec::new(alloc),
+            keys: Vec::new(alloc),
+            names: AllNamePairs::none(alloc),
+        }
+    }
+
+    /// The problem.
+    pub(crate) fn problem(&self) -> &'a Problem
+        ensures { result.now ≡ self.now }
+    {
+        self.problem
+    }
+
+    /// The pairs of names.
+    pub(crate) fn names(&self) -> &AllNamePairs {
+        &self.names
+    }
+
+    /// The keys of a set of the lowest three variables, if they were made beforehand.
+    pub(crate) fn keys(&self, set: Mask) -> Option<&ByteKeys<'a>>
+        ensures { IfSome result (λ k. k.now ≡ classes_of self.now set) }
+    {
+        self.keys.get(usize::from(set))
+    }
+
+    /// The table of a set of low variables, if it was made beforehand.
+    pub(crate) fn table(&self, set: Mask) -> Option<&Strips<'a>>
+        ensures { IfSome result (λ t. t.now ≡ classes_of self.now set) }
+    {
+        self.tables.get(usize::from(set))
+    }
+}

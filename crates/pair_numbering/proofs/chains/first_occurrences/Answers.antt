@@ -1,0 +1,22 @@
+use Rattle.std.proofs.Common.{◌^◌, inl, inr, sym, subst, ◌∙◌, arith}
+use Rattle.std.proofs.lemmas.Bool.{cases_eq}
+use Rattle.class_laws.specs.Numbering.{IsFirst}
+use Rattle.pair_numbering.specs.Chains.{lower_at}
+use Rattle.class_laws.specs.Places.{pair_at}
+use Rattle.pair_numbering.proofs.chains.first_occurrences.Goals as goal
+
+pub loop-lower-preserved : goal.loop-lower-preserved
+loop-lower-preserved c = record {
+  stamps = c.walk_chain.ensures.stamps;
+  done = λ j l m. elim (cases_eq (lower_at c.args.chains.now.entries.now.numbers (2 ^ c.args.chains.now.entries.now.rank) j) c.loop-lower.lower) [
+    | inl e ↦ c.walk_chain.ensures.own j l e
+    | inr ne ↦ subst (IsFirst (pair_at c.args.chains.now.entries.now.numbers (2 ^ c.args.chains.now.entries.now.rank)) j)
+        (sym (c.walk_chain.ensures.others j l ne)) (c.loop-lower.invariant.done j l (omega arith))
+  ];
+}
+
+pub returns : goal.returns
+returns c = record {
+  long = c.loop-lower.auto.first ∙ c.requires.first_len;
+  each = λ j l. c.loop-lower.invariant.done j l (omega arith);
+}

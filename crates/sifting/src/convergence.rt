@@ -1,0 +1,184 @@
+//! A tight bound for a search: sifting until nothing is gained, from the sifted order and from the
+//! other end.
+
+ghost use Rattle.std.specs.Prelude.{◌≡◌, ◌≤◌, ◌⊎◌, IfOk, IfSome};
+ghost use Rattle.std.specs.Thread.{IsSync};
+
+use crate::manager::Manager;
+use crate::sift::{Sifted, raise};
+use order_model::Workers;
+use std::alloc::{AllocError, Global};
+use std::thread;
+use std::thread::Threads;
+
+/// Passes of sifting that are made at most. Two to five gain all that there is to be gained.
+const MOST_PASSES: u32 = 16;
+
+/// With fewer inputs a search takes no longer than sifting again.
+const LEAST_INPUTS: usize = 13;
+
+/// Sizes that differ by no more than this part of one of them are near: those of random functions
+/// are under all orders.
+const NEAR_PART: u32 = 64;
+
+/// Whether a size is near another one.
+fn is_near(size: u32, other: u32) -> bool {
+    size.abs_diff(other) <= other / NEAR_PART
+}
+
+impl Manager {
+    /// The manager with its order turned over, as far as the pairs let it: from the top, each
+    /// variable is taken above all that stood above it.
+    fn turned_over(self, alloc: Global) -> Result<Manager, AllocError>
+        ensures functions { IfOk result (λ m. m.problem ≡ self.problem) }
+        ensures pairs { IfOk result (λ m. m.pairs ≡ self.pairs) }
+    {
+        let start = self.order().try_clone(alloc)?;
+        let mut manager = self;
+        for x in start.variables() {
+            let place = manager.order().place_of(*x);
+            let (raised, _) = raise(alloc, manager, place)?;
+            manager = raised;
+        }
+        Ok(manager)
+    }
+}
+
+impl Sifted {
+    ghost use Rattle.sifting.specs.Managed.{IsNoLarger};
+
+    /// Sifted again, until a pass gains nothing.
+    fn repeat(self, alloc: Global) -> Result<Sifted, AllocError>
+        ensures { IfOk result (IsNoLarger self) }
+    {
+        let mut sifted = self;
+        for _ in 0..MOST_PASSES {
+            let size = sifted.size();
+            sifted = sifted.into_manager().sift(alloc)?;
+            if sifted.size() == size {
+                break;
+            }
+        }
+        Ok(sifted)
+    }
+
+    /// The same by two threads, if there are so many workers.
+    fn repeat_by_threads<R: Threads + Sync>(
+        self,
+        rt: &R,
+        alloc: Global,
+        workers: Workers,
+    ) -> Result<Sifted, AllocError>
+        ensures { IfOk result (IsNoLarger self) }
+    {
+        let mut sifted = self;
+        for _ in 0..MOST_PASSES {
+            let size = sifted.size();
+            let manager = sifted.into_manager();
+            sifted = manager.sift_by_threads(rt, alloc, workers)?;
+            if sifted.size() == size {
+                break;
+            }
+        }
+        Ok(sifted)
+    }
+
+    /// The order turned over, to begin with once more. Nothing if that changes the size by no more
+    /// than a sixty-fourth.
+    fn other_start(&self, alloc: Global) -> Result<Option<Manager>, AllocError>
+        ensures { IfOk result (λ o. IfSome o (λ m. (m.problem ≡ self.now.problem)
+            × (m.pairs ≡ self.now.pairs))) }
+    {
+        let other = self.manager().try_clone(alloc)?.turned_over(alloc)?;
+        if is_near(other.size(), self.size()) {
+            Ok(None)
+        } else {
+            Ok(Some(other))
+        }
+    }
+
+    /// The smaller one of two orders, this one if both have one size.
+    fn or_smaller(self, other: Sifted) -> Sifted
+        ensures size { result.size ≤ self.size }
+        ensures either { (result ≡ self) ⊎ (result ≡ other) }
+    {
+        if other.size() < self.size() {
+            other
+        } else {
+            self
+        }
+    }
+
+    /// The better one of two orders that are sifted until a pass gains nothing: the first begins
+    /// with this order, the other one with this order turned over. If turning it over changes its
+    /// size by no more than a sixty-fourth, it stays.
+    pub fn sifted_to_convergence(self, alloc: Global) -> Result<Sifted, AllocError>
+        ensures { IfOk result (IsNoLarger self) }
+    {
+        let Some(other) = self.other_start(alloc)? else {
+            return Ok(self);
+        };
+        let here = self.repeat(alloc)?;
+        let there = other.sift(alloc)?.repeat(alloc)?;
+        Ok(here.or_smaller(there))
+    }
+
+    /// The same, each of the two by so many workers, at the same time.
+    fn sifted_to_convergence_by_threads<R: Threads + Sync>(
+        self,
+        rt: &R,
+        alloc: Global,
+        workers: Workers,
+    ) -> Result<Sifted, AllocError>
+        ensures { IfOk result (IsNoLarger self) }
+    {
+        let Some(other) = self.other_start(alloc)? else {
+            return Ok(self);
+        };
+        let (there, here) = thread::join(
+            rt,
+            move || -> Result<Sifted, AllocError>
+                requires { IsSync R.row }
+                ensures { IfOk result (λ s. (s.problem ≡ other.problem)
+                    × (s.pairs ≡ other.pairs)) }
+            {
+                let there = other.sift_by_threads(rt, alloc, workers)?;
+                there.repeat_by_threads(rt, alloc, workers)
+            },
+            move || -> Result<Sifted, AllocError>
+                requires { IsSync R.row }
+                ensures { IfOk result (IsNoLarger self) }
+            { self.repeat_by_threads(rt, alloc, workers) },
+        );
+        Ok(here?.or_smaller(there?))
+    }
+
+    /// The order whose size bounds the search: that of sifting to convergence, where a
+    /// search takes longer than that.
+    pub fn search_bound(self, alloc: Global) -> Result<Sifted, AllocError>
+        ensures { IfOk result (IsNoLarger self) }
+    {
+        if self.order().len() < LEAST_INPUTS {
+            return Ok(self);
+        }
+        self.sifted_to_convergence(alloc)
+    }
+
+    /// The same by as many threads as there are workers, four at most.
+    pub fn search_bound_by_threads<R: Threads + Sync>(
+        self,
+        rt: &R,
+        alloc: Global,
+        workers: Workers,
+    ) -> Result<Sifted, AllocError>
+        ensures { IfOk result (IsNoLarger self) }
+    {
+        let Some(half) = Workers::new(workers.count() / 2) else {
+            return self.search_bound(alloc);
+        };
+        if self.order().len() < LEAST_INPUTS {
+            return Ok(self);
+        }
+        self.sifted_to_convergence_by_threads(rt, alloc, half)
+    }
+}
