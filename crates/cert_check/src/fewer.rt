@@ -90,6 +90,40 @@ fn leave_out_by(
     Ok(true)
 }
 
+/// The pick with a number: each variable alone, and then each rank.
+fn pick_at(inputs: u8, number: u8) -> Pick {
+    if number < inputs {
+        Pick::One(number)
+    } else {
+        Pick::Rank(number - inputs)
+    }
+}
+
+/// Leaves out edges by the exchanges of all picks. Returns whether one of them changes nothing.
+fn leave_out_by_all(
+    alloc: Global,
+    points: &[u16],
+    marks: &[u32],
+    edges: Edges,
+    fewer: &mut Vec<u16>,
+) -> Result<bool, AllocError>
+    requires marks { length marks.now ≡ edges.problem.now.inputs }
+    requires points { length points.now ≡ 2 ^ edges.problem.now.inputs }
+    requires told { TellValues edges.problem.now points.now }
+    requires fewer { AreEnough edges fewer.old.items }
+    ensures { OnOk result (AreEnough edges.entry fewer.new.items) }
+{
+    let inputs = edges.problem.inputs();
+    let mut some = false;
+    for number in 0..2 * inputs {
+        if let Some(partners) = partners_of(marks, pick_at(inputs, number)) {
+            let own = &partners[..usize::from(inputs)];
+            some |= leave_out_by(alloc, points, edges, own, fewer)?;
+        }
+    }
+    Ok(some)
+}
+
 /// Fewer edges, if variables may be exchanged: those into sets that lead on are left out.
 pub(crate) fn fewer_edges(alloc: Global, edges: Edges) -> Result<Option<Vec<u16>>, AllocError>
     ensures { IfOk result (λ o. IfSome o (λ v. AreEnough edges.entry v.items)) }
@@ -97,19 +131,11 @@ pub(crate) fn fewer_edges(alloc: Global, edges: Edges) -> Result<Option<Vec<u16>
     let inputs = edges.problem.inputs();
     let points = values_by_point(alloc, edges.problem)?;
     let marks = marks_of(alloc, inputs, &points)?;
-    let mut fewer = Vec::with_capacity(alloc, edges.judged.len())?;
-    fewer.extend_from_slice(edges.judged)?;
-    let mut some = false;
-    for number in 0..2 * inputs {
-        let pick = if number < inputs {
-            Pick::One(number)
-        } else {
-            Pick::Rank(number - inputs)
-        };
-        if let Some(partners) = partners_of(alloc, &marks, pick)? {
-            let kept = leave_out_by(alloc, &points, edges, &partners, &mut fewer)?;
-            some = some || kept;
-        }
+    let marks = &marks[..usize::from(inputs)];
+    let mut fewer = edges.judged.to_vec(alloc)?;
+    if leave_out_by_all(alloc, &points, marks, edges, &mut fewer)? {
+        Ok(Some(fewer))
+    } else {
+        Ok(None)
     }
-    if some { Ok(Some(fewer)) } else { Ok(None) }
 }

@@ -1,7 +1,7 @@
 //! Which variables to try to exchange. Any answer is right: an exchange is asked whether it changes
 //! anything.
 
-ghost use Rattle.std.specs.Prelude.{◌≡◌, ◌+◌, ◌<◌, ◌≤◌, ◌^◌, length, IfOk, IfSome};
+ghost use Rattle.std.specs.Prelude.{◌≡◌, ◌+◌, ◌<◌, ◌≤◌, ◌^◌, length, IfSome};
 
 use order_model::VarIx;
 use std::alloc::{AllocError, Global};
@@ -40,16 +40,15 @@ fn fold_upper(sums: &mut [u32], half: usize) -> u32
 
 /// A mark for each variable: a sum over the points at which it is 1. Variables that may be
 /// exchanged have equal marks.
-pub(crate) fn marks_of(alloc: Global, inputs: u8, points: &[u16]) -> Result<Vec<u32>, AllocError>
+pub(crate) fn marks_of(alloc: Global, inputs: u8, points: &[u16]) -> Result<[u32; 16], AllocError>
     requires few { inputs ≤ 16 }
     requires points { length points.now ≡ 2 ^ inputs }
-    ensures { IfOk result (λ v. length v.items ≡ inputs) }
 {
     let mut sums = Vec::with_capacity(alloc, points.len())?;
     for values in points {
         sums.push(hash_of(*values))?;
     }
-    let mut marks = vec![in alloc; 0u32; inputs as usize]?;
+    let mut marks = [0; 16];
     for x in (0..inputs).rev() {
         marks[x as usize] = fold_upper(&mut sums, 1usize << x);
     }
@@ -96,18 +95,11 @@ fn is_picked(marks: &[u32], pick: Pick, x: VarIx) -> bool
 
 /// Each variable's partner, if the variables that are picked have any; `Rank` is for two pairs at
 /// least.
-pub(crate) fn partners_of(
-    alloc: Global,
-    marks: &[u32],
-    pick: Pick,
-) -> Result<Option<Vec<VarIx>>, AllocError>
+pub(crate) fn partners_of(marks: &[u32], pick: Pick) -> Option<[VarIx; 16]>
     requires few { length marks.now ≤ 16 }
 {
     let variables = marks.len() as VarIx;
-    let mut partners = Vec::with_capacity(alloc, marks.len())?;
-    for x in 0..variables {
-        partners.push(x)?;
-    }
+    let mut partners = [0, 1, 2, 3, 4, 5, 6, 7, 8, 9, 10, 11, 12, 13, 14, 15];
     let mut pairs = 0u8;
     for x in 0..variables {
         if is_picked(marks, pick, x) {
@@ -122,9 +114,5 @@ pub(crate) fn partners_of(
         Pick::One(_) => 1,
         Pick::Rank(_) => 2,
     };
-    if pairs < enough {
-        Ok(None)
-    } else {
-        Ok(Some(partners))
-    }
+    if pairs < enough { None } else { Some(partners) }
 }

@@ -1,6 +1,6 @@
 //! Rows of entries, of which those that have come before are left out.
 
-ghost use Rattle.std.specs.Prelude.{◌≡◌, ℕ, ◌*◌, ◌^◌, ◌<◌, ◌≤◌, ◌++◌, List, length, IfOk, IfSome, IsTrue};
+ghost use Rattle.std.specs.Prelude.{◌≡◌, ℕ, ◌*◌, ◌^◌, ◌<◌, ◌≤◌, ◌++◌, List, [], length, IfOk, IfSome, IsTrue, OnOk};
 ghost use Rattle.cert_check.specs.Rows.{AreWholeRows, IsShortened};
 
 use order_model::VarIx;
@@ -63,6 +63,33 @@ fn has_repeat(alloc: Global, numbers: &[u32], y: VarIx) -> Result<bool, AllocErr
     Ok(false)
 }
 
+/// Puts the rows of 2 ^ y entries behind one another, mostly each once, in the order in which they
+/// first come. A bucket has the place of the last row that was put for it, from 1, or 0.
+fn keep_rows(
+    numbers: &[u32],
+    y: VarIx,
+    places: &mut [u32],
+    kept: &mut Vec<u32>,
+) -> Result<(), AllocError>
+    requires variable { y ≤ 16 }
+    requires few { length numbers.now ≤ 2 ^ 20 }
+    requires rows { AreWholeRows (2 ^ y) numbers.now }
+    requires buckets { 0 < length places.old }
+    requires empty { kept.old.items ≡ [] }
+    ensures { OnOk result ((steps : ℕ) × IsShortened (2 ^ y) steps numbers.now kept.new.items) }
+{
+    let width = 1usize << y;
+    for number in 0..numbers.len() / width {
+        let row = &numbers[number * width..(number + 1) * width];
+        let home = bucket_of(row, places.len());
+        if !is_kept(kept, places[home] as usize, row) {
+            kept.extend_from_slice(row)?;
+            places[home] = (kept.len() / width) as u32;
+        }
+    }
+    Ok(())
+}
+
 /// The rows of 2 ^ y entries, mostly each once, in the order in which they first come, if one of
 /// the first half of them is seen to come again.
 pub(crate) fn without_repeats(
@@ -76,21 +103,12 @@ pub(crate) fn without_repeats(
     ensures { IfOk result
         (λ o. IfSome o (λ v. (steps : ℕ) × IsShortened (2 ^ y) steps numbers.now v.items)) }
 {
-    let repeats = has_repeat(alloc, numbers, y)?;
-    if !repeats {
+    if !has_repeat(alloc, numbers, y)? {
         return Ok(None);
     }
-    let width = 1usize << y;
-    let rows = numbers.len() / width;
-    let mut places = vec![in alloc; 0u32; (2 * rows).next_power_of_two()]?;
+    let buckets = (2 * (numbers.len() >> y)).next_power_of_two();
+    let mut places = vec![in alloc; 0u32; buckets]?;
     let mut kept = Vec::with_capacity(alloc, numbers.len())?;
-    for number in 0..rows {
-        let row = &numbers[number * width..(number + 1) * width];
-        let home = bucket_of(row, places.len());
-        if !is_kept(&kept, places[home] as usize, row) {
-            kept.extend_from_slice(row)?;
-            places[home] = (kept.len() / width) as u32;
-        }
-    }
+    keep_rows(numbers, y, &mut places, &mut kept)?;
     Ok(Some(kept))
 }

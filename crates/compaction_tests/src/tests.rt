@@ -1,4 +1,4 @@
-ghost use Rattle.std.specs.Prelude.{◌≡◌, ◌≤◌, ◌^◌, length};
+ghost use Rattle.std.specs.Prelude.{◌≡◌, ◌≤◌, ◌^◌, IfOk, length};
 ghost use Rattle.subset_layers.specs.Layers.{block_masks};
 ghost use Rattle.compaction.specs.Rows.{AreMembers, wanted_count};
 
@@ -6,7 +6,7 @@ use compaction::{
     Classes, Scratch, SharedTables, Tallies, Tally, WidthSource, WidthsAhead, all_widths,
     block_widths,
 };
-use order_model::{Mask, Pairs, Problem};
+use order_model::{Mask, Pairs, Problem, contains};
 use pair_numbering::{label_strip_pairs, number_pairs};
 use std::alloc::{AllocError, Global};
 use std::process::Abort;
@@ -56,8 +56,8 @@ fn with<'a>(
     assert!(rt; classes.lacks(x));
     let next = classes.compact(alloc, x)?;
     let indexed = classes.compact_indexed(alloc, x)?;
-    assert_eq!(rt; next.set(), indexed.set());
-    assert_eq!(rt; next.numbers(), indexed.numbers());
+    assert!(rt; next.set() == indexed.set());
+    assert!(rt; next.numbers() == indexed.numbers());
     Ok(next)
 }
 
@@ -79,19 +79,19 @@ fn classes_of_the_multiplexer(rt: HostRuntime) -> Result<(), Fail> {
     let problem = problem_of(&rt, alloc, MULTIPLEXER)?;
     let mut tally = Tally::new();
     let none = Classes::of_problem(alloc, &problem)?;
-    assert_eq!(rt; none.numbers(), [0, 1, 0, 1, 0, 0, 1, 1].as_slice());
-    assert_eq!(rt; width_of(&rt, alloc, &none, 0, &mut tally)?, 1);
+    assert!(rt; none.numbers() == [0, 1, 0, 1, 0, 0, 1, 1].as_slice());
+    assert!(rt; width_of(&rt, alloc, &none, 0, &mut tally)? == 1);
     let one = with(&rt, alloc, &none, 0)?;
-    assert_eq!(rt; (one.set(), one.lacks(0), one.lacks(1)), (1, false, true));
-    assert_eq!(rt; one.numbers(), [0, 0, 1, 2].as_slice());
-    assert_eq!(rt; width_of(&rt, alloc, &one, 1, &mut tally)?, 1);
-    assert_eq!(rt; width_of(&rt, alloc, &one, 2, &mut tally)?, 2);
-    assert_eq!(rt; tally.count(), 3);
-    assert_eq!(rt; with(&rt, alloc, &one, 1)?.numbers(), [0, 1].as_slice());
-    assert_eq!(rt; with(&rt, alloc, &one, 2)?.numbers(), [0, 1].as_slice());
-    assert_eq!(rt; problem.inputs(), 3);
+    assert!(rt; (one.set(), one.lacks(0), one.lacks(1)) == (1, false, true));
+    assert!(rt; one.numbers() == [0, 0, 1, 2].as_slice());
+    assert!(rt; width_of(&rt, alloc, &one, 1, &mut tally)? == 1);
+    assert!(rt; width_of(&rt, alloc, &one, 2, &mut tally)? == 2);
+    assert!(rt; tally.count() == 3);
+    assert!(rt; with(&rt, alloc, &one, 1)?.numbers() == [0, 1].as_slice());
+    assert!(rt; with(&rt, alloc, &one, 2)?.numbers() == [0, 1].as_slice());
+    assert!(rt; problem.inputs() == 3);
     let same = Classes::of_set(alloc, &problem, 0x0001)?;
-    assert_eq!(rt; same.numbers(), one.numbers());
+    assert!(rt; same.numbers() == one.numbers());
     Ok(())
 }
 
@@ -99,11 +99,8 @@ fn classes_of_the_multiplexer(rt: HostRuntime) -> Result<(), Fail> {
 fn pairs_by_first_occurrence(rt: HostRuntime) -> Result<(), Fail> {
     let numbers = [2, 0, 1, 2, 0, 0, 1, 2, 2, 0, 1, 1];
     let numbered = number_pairs(rt.alloc(), &numbers, 1, 3)?;
-    assert_eq!(rt; numbered.numbers.as_slice(), [0, 1, 2, 1, 0, 2].as_slice());
-    assert_eq!(rt;
-        numbered.pairs.as_slice(),
-        [(2, 1), (0, 2), (0, 1)].as_slice()
-    );
+    assert!(rt; numbered.numbers.as_slice() == [0, 1, 2, 1, 0, 2].as_slice());
+    assert!(rt; numbered.pairs.as_slice() == [(2, 1), (0, 2), (0, 1)].as_slice());
     Ok(())
 }
 
@@ -111,11 +108,11 @@ fn pairs_by_first_occurrence(rt: HostRuntime) -> Result<(), Fail> {
 fn pairs_of_strips(rt: HostRuntime) -> Result<(), Fail> {
     let names = [(0, 1), (1, 1)];
     let numbered = label_strip_pairs(rt.alloc(), &names, &[0, 1, 2, 0], 1, 3, &[1, 2, 4])?;
-    assert_eq!(rt; numbered.numbers.as_slice(), [0, 1, 2, 3].as_slice());
-    assert_eq!(rt; numbered.masks.as_slice(), [13, 11, 4, 1].as_slice());
+    assert!(rt; numbered.numbers.as_slice() == [0, 1, 2, 3].as_slice());
+    assert!(rt; numbered.masks.as_slice() == [13, 11, 4, 1].as_slice());
     let keys = label_strip_pairs(rt.alloc(), &names, &[0, 1, 1, 0], 1, 3, &[1, 2])?;
-    assert_eq!(rt; keys.numbers.as_slice(), [2, 1, 3, 0].as_slice());
-    assert_eq!(rt; keys.masks.as_slice(), [1, 11, 11, 2].as_slice());
+    assert!(rt; keys.numbers.as_slice() == [2, 1, 3, 0].as_slice());
+    assert!(rt; keys.masks.as_slice() == [1, 11, 11, 2].as_slice());
     Ok(())
 }
 
@@ -138,11 +135,57 @@ fn crowded_pairs_by_first_occurrence(rt: HostRuntime) -> Result<(), Fail> {
     let numbers = crowded_pairs();
     assert!(rt; numbers.iter().all(|number| *number < 1 << 17));
     let numbered = number_pairs(rt.alloc(), &numbers, 0, 1 << 17)?;
-    assert_eq!(rt; numbered.pairs.len(), 80);
+    assert!(rt; numbered.pairs.len() == 80);
     for (j, number) in numbered.numbers.iter().enumerate() {
-        assert_eq!(rt; *number as usize, j % 80, "pair {j}");
+        assert!(rt; *number as usize == j % 80);
     }
     Ok(())
+}
+
+/// The width of a variable over a set without it, found in both ways.
+fn width_alone(
+    rt: &impl Abort,
+    alloc: Global,
+    problem: &Problem,
+    without: Mask,
+    x: u8,
+) -> Result<u32, Fail> {
+    assert!(rt; u32::from(without) < 1u32 << problem.inputs());
+    let classes = Classes::of_set(alloc, problem, without)?;
+    let mut tally = Tally::new();
+    let width = width_of(rt, alloc, &classes, x, &mut tally)?;
+    let mut scratch = Scratch::of(alloc, problem)?;
+    assert!(rt; classes.width_in(x, &mut scratch, &mut tally) == width);
+    assert!(rt; tally.count() == 2);
+    Ok(width)
+}
+
+/// The widths of a set's members, each by itself.
+fn row_alone(
+    rt: &impl Abort,
+    alloc: Global,
+    problem: &Problem,
+    mask: Mask,
+) -> Result<[u32; 16], Fail> {
+    let mut row = [0; 16];
+    for x in 0..16u8 {
+        if contains(mask, x) {
+            row[x as usize] = width_alone(rt, alloc, problem, mask & !(1 << x), x)?;
+        }
+    }
+    Ok(row)
+}
+
+/// The sum of a row, whose widths are small.
+fn sum_of(rt: &impl Abort, row: &[u32; 16]) -> u64
+    ensures { result ≤ 2 ^ 24 }
+{
+    let mut sum = 0u64;
+    for width in row {
+        assert!(rt; *width < 1 << 20 && sum < 1 << 23);
+        sum += u64::from(*width);
+    }
+    sum
 }
 
 /// Compares the widths of a block with those by each set alone. The answer is their sum.
@@ -154,37 +197,23 @@ fn try_block(
     block: &Block,
 ) -> Result<u64, Fail>
     requires { shared.now ≡ problem.now }
+    ensures { IfOk result (λ sum. sum ≤ 2 ^ 41) }
 {
     assert!(rt; block.inputs() == problem.inputs());
     let mut tally = Tally::new();
     let widths = shared.all_widths(alloc, block, &mut tally)?;
-    let mut count = 0u64;
+    assert!(rt; widths.compactions() <= 2367);
     let mut sum = 0u64;
+    let mut members = 0u64;
     for i in 0..block.len() {
         let mask = block.mask(i);
-        let row = widths.row(i);
-        for x in 0..16u8 {
-            let mut wanted = 0;
-            if (mask >> x) & 1 == 1 {
-                let mut single = Tally::new();
-                let without = mask & !(1 << x);
-                assert!(rt; (without as u32) < 1u32 << problem.inputs());
-                let classes = Classes::of_set(alloc, problem, without)?;
-                wanted = width_of(rt, alloc, &classes, x, &mut single)?;
-                let mut scratch = Scratch::of(alloc, problem)?;
-                let mut again = Tally::new();
-                assert!(rt; classes.lacks(x));
-                assert_eq!(rt; classes.width_in(x, &mut scratch, &mut again), wanted);
-                assert_eq!(rt; (single.count(), again.count()), (1, 1));
-                assert!(rt; count < 10000 && sum < 1 << 40);
-                count += 1;
-                sum += u64::from(wanted);
-            }
-            assert_eq!(rt; row[x as usize], wanted, "set {mask}, variable {x}");
-        }
+        let row = row_alone(rt, alloc, problem, mask)?;
+        assert!(rt; widths.row(i) == row);
+        assert!(rt; sum < 1 << 40 && members < 1 << 20);
+        sum += sum_of(rt, &row);
+        members += u64::from(mask.count_ones());
     }
-    assert_eq!(rt; tally.count(), count);
-    assert!(rt; widths.compactions() <= 2367);
+    assert!(rt; tally.count() == members);
     Ok(sum)
 }
 
@@ -195,7 +224,7 @@ fn try_layer(rt: &impl Abort, alloc: Global, problem: &Problem, size: u8) -> Res
     let mut sum = 0u64;
     for i in 0..layer.blocks() {
         let own = try_block(rt, alloc, problem, &shared, &layer.block(i))?;
-        assert!(rt; sum < 1 << 40 && own < 1 << 41);
+        assert!(rt; sum < 1 << 40);
         sum += own;
     }
     Ok(sum)
@@ -238,11 +267,11 @@ fn row_of_one(
     let mut tally = Tally::new();
     let widths = block_widths(alloc, problem, block, &[needed], &mut tally)?;
     let row = widths.row(0);
-    assert_eq!(rt; tally.count(), 2);
+    assert!(rt; tally.count() == 2);
     let shared = SharedTables::of(alloc, problem)?;
     let (rows, tallies) = rows_by_walks(alloc, &shared, block, &[needed])?;
-    assert_eq!(rt; rows.as_slice(), [row].as_slice());
-    assert_eq!(rt; tallies.cells.count(), 2);
+    assert!(rt; rows.as_slice() == [row].as_slice());
+    assert!(rt; tallies.cells.count() == 2);
     Ok((row, tallies.ahead.count()))
 }
 
@@ -253,15 +282,15 @@ fn row_of_one_set(rt: HostRuntime) -> Result<(), Fail> {
     let alloc = rt.alloc();
     let problem = problem_of(&rt, alloc, MULTIPLEXER)?;
     let layer = Layer::of(alloc, 3, 2)?;
-    assert_eq!(rt; layer.blocks(), 3);
+    assert!(rt; layer.blocks() == 3);
     let (row, ahead) = row_of_one(&rt, alloc, &problem, &layer.block(0))?;
-    assert_eq!(rt; row, [1, 1, 0, 0, 0, 0, 0, 0, 0, 0, 0, 0, 0, 0, 0, 0]);
-    assert_eq!(rt; ahead, 0);
+    assert!(rt; row == [1, 1, 0, 0, 0, 0, 0, 0, 0, 0, 0, 0, 0, 0, 0, 0]);
+    assert!(rt; ahead == 0);
     let numbers = five_bit_numbers(&rt, alloc)?;
     let layer = Layer::of(alloc, 10, 2)?;
     assert!(rt; 3 < layer.blocks());
     let (_, ahead) = row_of_one(&rt, alloc, &numbers, &layer.block(3))?;
-    assert_eq!(rt; ahead, 6);
+    assert!(rt; ahead == 6);
     Ok(())
 }
 
@@ -270,16 +299,16 @@ fn widths_of_blocks(rt: HostRuntime) -> Result<(), Fail> {
     let alloc = rt.alloc();
     let problem = problem_of(&rt, alloc, MULTIPLEXER)?;
     let layer = Layer::of(alloc, 3, 2)?;
-    assert_eq!(rt; layer.blocks(), 3);
+    assert!(rt; layer.blocks() == 3);
     let block = layer.block(0);
-    assert_eq!(rt; (problem.inputs(), block.inputs()), (3, 3));
+    assert!(rt; (problem.inputs(), block.inputs()) == (3, 3));
     let mut tally = Tally::new();
     let widths = all_widths(alloc, &problem, &block, &mut tally)?;
     assert!(rt; 0 < block.len());
-    assert_eq!(rt; block.mask(0), 0x0003);
+    assert!(rt; block.mask(0) == 0x0003);
     let row = widths.row(0);
-    assert_eq!(rt; (row[0], row[1], row[2]), (1, 1, 0));
-    assert_eq!(rt; tally.count(), 2);
+    assert!(rt; (row[0], row[1], row[2]) == (1, 1, 0));
+    assert!(rt; tally.count() == 2);
     for tables in &PROBLEMS {
         let problem = problem_of(&rt, alloc, *tables)?;
         for size in 1..=problem.inputs() {
@@ -333,11 +362,11 @@ fn cubes(rt: &impl Abort, alloc: Global) -> Result<Problem, Fail> {
 fn widths_of_ten_variables(rt: HostRuntime) -> Result<(), Fail> {
     let alloc = rt.alloc();
     let numbers = five_bit_numbers(&rt, alloc)?;
-    assert_eq!(rt; try_layer(&rt, alloc, &numbers, 1)?, 20);
-    assert_eq!(rt; try_layer(&rt, alloc, &numbers, 5)?, 41363);
-    assert_eq!(rt; try_layer(&rt, alloc, &numbers, 10)?, 22);
+    assert!(rt; try_layer(&rt, alloc, &numbers, 1)? == 20);
+    assert!(rt; try_layer(&rt, alloc, &numbers, 5)? == 41363);
+    assert!(rt; try_layer(&rt, alloc, &numbers, 10)? == 22);
     let cubed = cubes(&rt, alloc)?;
-    assert_eq!(rt; try_layer(&rt, alloc, &cubed, 4)?, 53457);
+    assert!(rt; try_layer(&rt, alloc, &cubed, 4)? == 53457);
     Ok(())
 }
 

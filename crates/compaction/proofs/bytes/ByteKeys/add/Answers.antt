@@ -42,7 +42,7 @@ invariant_of-result c =
     c.deref.ensures.value
     (subst (λ r. TellsPairs c.deref-2.result.now c.args.x (places.pairs c.deref.result.now (2 ^ r)) told.numbers.items told.masks.items) e
     c.in_ok-told.ensures.tells))) in
-    let outer = c.in_ok-copied.ensures ∙ c.deref-4.ensures.value in
+    let outer = c.in_ok-to_vec.ensures.items_if_clones_equal (λ x y h. h) ∙ c.deref-4.ensures.value in
     let bytes = c.in_ok-extend_from_slice.ensures.items ∙ (λ i. c.in_ok-bytes.ensures.items i ++ c.deref-3.ensures.value i) in
     subst (λ us. HoldsBytes (classes_of c.self.inside.problem.now (bit_or c.self.inside.set (1 * 2 ^ c.args.x % 2 ^ 16))) 8 us
     c.extend_from_slice.new.self.items told.numbers.items told.masks.items) (sym outer)

@@ -48,7 +48,7 @@ of_parts-requires c =
     (2 ^ free_below c.self.inside.set 3) =
     c.in_ok-numbers.ensures
     ∙ (λ i. unrolled (c.deref.ensures.value i) (c.deref-2.ensures.value i) (r i)) in
-    let outer = c.in_ok-outer.ensures ∙ c.deref-4.ensures.value in
+    let outer = c.in_ok-outer.ensures.items_if_clones_equal (λ x y h. h) ∙ c.deref-4.ensures.value in
     let masks = c.in_ok-extend_from_slice.ensures.items ∙ (λ i. c.in_ok-masks.ensures.items i ++ c.deref-3.ensures.value i) in
     subst (λ us. HoldsStrips (classes_of c.self.inside.problem.now c.self.inside.set) (low_variables c.self.inside.problem.now)
     c.in_ok-outer.outer.items us c.extend_from_slice.new.self.items) (sym n)

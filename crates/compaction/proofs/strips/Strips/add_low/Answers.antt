@@ -47,7 +47,7 @@ of_parts-requires c =
     (subst (λ r. TellsPairs c.deref-in-None.result.now c.args.x (places.pairs c.deref.result.now (2 ^ r))
     c.in_ok-told-in-None.told.numbers.items c.in_ok-told-in-None.told.masks.items)
     e c.in_ok-told-in-None.ensures.tells))) in
-    let outer = c.in_ok-outer-in-None.ensures ∙ c.deref-in-None-2.ensures.value in
+    let outer = c.in_ok-outer-in-None.ensures.items_if_clones_equal (λ x y h. h) ∙ c.deref-in-None-2.ensures.value in
     subst (λ us. HoldsStrips (classes_of c.self.inside.problem.now (bit_or c.self.inside.set (1 * 2 ^ c.args.x % 2 ^ 16)))
     (low_variables c.self.inside.problem.now) us c.in_ok-told-in-None.told.numbers.items c.in_ok-told-in-None.told.masks.items) (sym outer)
     (subst (λ (z : ClassesOf). HoldsStrips z (low_variables z.problem) c.self.inside.outer.items c.in_ok-told-in-None.told.numbers.items

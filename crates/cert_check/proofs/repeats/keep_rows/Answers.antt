@@ -3,8 +3,8 @@ use Rattle.std.proofs.lemmas.Nat.{one_shl, pow_pos}
 use Rattle.std.proofs.Math.Nat.{mul-le-mul_right}
 use Rattle.std.proofs.lemmas.List.{length-set}
 use Rattle.cert_check.proofs.Kept.{IsKept, kept_row, kept_again, kept_all, rows_are, slice_is}
-use Rattle.cert_check.proofs.repeats.without_repeats.Goals as goal
-use Rattle.cert_check.proofs.repeats.without_repeats.Goals.{then-not-is_kept+in_ok-extend_from_slice, else-not-is_kept}
+use Rattle.cert_check.proofs.repeats.keep_rows.Goals as goal
+use Rattle.cert_check.proofs.repeats.keep_rows.Goals.{then-not-is_kept+in_ok-extend_from_slice, else-not-is_kept}
 
 pub loop-number-preserved : goal.loop-number-preserved
 loop-number-preserved c =
@@ -22,25 +22,25 @@ loop-number-preserved c =
     let inside = mul-le-mul_right w below in
     let l = rows.1 in
     let is = slice_is step w number numbers s in
-    let long = c.loop-number.invariant.places in
+    let some = c.loop-number.invariant.buckets in
     elim c.if-not-is_kept.branch [
       | then-not-is_kept+in_ok-extend_from_slice b ↦
           let k = ap (λ (v : Vec ℕ Global). v.items) b.kept-is ∙ b.in_ok-extend_from_slice.ensures.items in
-          let p = ap (λ (v : Vec ℕ Global). v.items) b.places-is in
+          let p = b.places-is in
           record {
             kept = subst (λ us. IsKept w numbers us (number + 1)) (sym k)
                 (kept_row w numbers kept row number is (omega arith) c.loop-number.invariant.kept);
-            places = ap length p ∙ length-set c.loop-number.places.items _ _ ∙ long;
+            buckets = (let n = ap length p ∙ length-set c.loop-number.places _ _ in omega (arith, n, some));
           }
       | else-not-is_kept b ↦
           let k = ap (λ (v : Vec ℕ Global). v.items) b.kept-is in
-          let p = ap (λ (v : Vec ℕ Global). v.items) b.places-is in
+          let p = b.places-is in
           let e = b.if-not-is_kept.ensures refl in
           record {
             kept = subst (λ us. IsKept w numbers us (number + 1)) (sym k)
                 (kept_again w numbers kept row number is (omega arith) c.loop-number.invariant.kept e.0 e.1 e.2
                 (sym c.deref.ensures.value ∙ e.3) e.4);
-            places = ap length p ∙ long;
+            buckets = (let n = ap length p in omega (arith, n, some));
           }
     ]
 
