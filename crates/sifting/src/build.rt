@@ -1,12 +1,12 @@
 //! The levels of a reduced diagram, made from the top.
 
-ghost use Rattle.std.specs.Prelude.{◌≡◌, ◌+◌, ◌*◌, ◌<◌, ◌≤◌, ◌^◌, length, map, IfOk};
+ghost use Rattle.std.specs.Prelude.{◌≡◌, ◌+◌, ◌*◌, ◌<◌, ◌≤◌, ◌^◌, [], length, map, IfOk, OnOk};
 ghost use Rattle.std.specs.List.{All};
 ghost use Rattle.order_model.specs.Orders.{IsOrder};
 ghost use Rattle.order_model.specs.Diagrams.{AreNodes, IsBefore, IsOrdered, IsReduced};
 ghost use Rattle.order_model.specs.OrderedGraphs.{IsDiagramUnder};
 ghost use Rattle.sifting.specs.LevelLists.{nodes_of};
-ghost use Rattle.sifting.specs.Cuts.{code_of, ref_of, split_ref, is_true, Splits, Numbers, IsBuilt};
+ghost use Rattle.sifting.specs.Cuts.{code_of, ref_of, split_ref, is_true, RootsFirst, Splits, SplitsFirst, Numbers, IsBuilt};
 
 use crate::levels::{Children, Level};
 use indexmap::IndexSet;
@@ -65,6 +65,33 @@ fn halves(nodes: &[Node], variable: VarIx, r: Ref) -> (Ref, Ref)
     }
 }
 
+/// Numbers the refs that the refs above a variable's level lead to, by first occurrence.
+fn number_halves(
+    n: u8,
+    nodes: &[Node],
+    variable: VarIx,
+    cut: &[Ref],
+    codes: &mut IndexSet<usize>,
+    level: &mut Vec<Children>,
+) -> Result<(), AllocError>
+    requires nodes { AreNodes n nodes.now }
+    requires small { length nodes.now < 2 ^ 32 }
+    requires few { 2 * length cut.now < 2 ^ 32 }
+    requires inside { All (IsBefore (length nodes.now)) cut.now }
+    requires codes { codes.old.keys ≡ [] }
+    requires level { level.old.items ≡ [] }
+    ensures { OnOk result
+        (SplitsFirst (length cut.now) nodes.now variable cut.now level.new.items codes.new.keys) }
+{
+    for r in cut {
+        let (low, high) = halves(nodes, variable, *r);
+        let (off, _) = codes.insert_full(code(low))?;
+        let (on, _) = codes.insert_full(code(high))?;
+        level.push((off as u32, on as u32))?;
+    }
+    Ok(())
+}
+
 /// The nodes of a variable's level, from the refs that paths come to above it, and the refs below
 /// it.
 fn split(
@@ -82,14 +109,29 @@ fn split(
 {
     let mut codes = IndexSet::with_capacity(alloc, cut.len())?;
     let mut level = Vec::with_capacity(alloc, cut.len())?;
-    for r in cut {
-        let (low, high) = halves(nodes, variable, *r);
-        let (off, _) = codes.insert_full(code(low))?;
-        let (on, _) = codes.insert_full(code(high))?;
-        level.push((off as u32, on as u32))?;
-    }
+    number_halves(n, nodes, variable, cut, &mut codes, &mut level)?;
     let next = references(alloc, codes.as_slice())?;
     Ok((level, next))
+}
+
+/// Numbers the roots by first occurrence.
+fn number_roots(
+    roots: &[Ref],
+    codes: &mut IndexSet<usize>,
+    numbers: &mut Vec<u32>,
+) -> Result<(), AllocError>
+    requires few { length roots.now ≤ 16 }
+    requires inside { All (IsBefore (2 ^ 32)) roots.now }
+    requires codes { codes.old.keys ≡ [] }
+    requires numbers { numbers.old.items ≡ [] }
+    ensures { OnOk result
+        (RootsFirst (length roots.now) roots.now numbers.new.items codes.new.keys) }
+{
+    for root in roots {
+        let (number, _) = codes.insert_full(code(*root))?;
+        numbers.push(number as u32)?;
+    }
+    Ok(())
 }
 
 /// The numbers of the roots, and the refs above all levels.
@@ -101,10 +143,7 @@ fn first_cut(alloc: Global, size: usize, roots: &[Ref]) -> Result<(Vec<u32>, Vec
 {
     let mut codes = IndexSet::with_capacity(alloc, roots.len())?;
     let mut numbers = Vec::with_capacity(alloc, roots.len())?;
-    for root in roots {
-        let (number, _) = codes.insert_full(code(*root))?;
-        numbers.push(number as u32)?;
-    }
+    number_roots(roots, &mut codes, &mut numbers)?;
     let cut = references(alloc, codes.as_slice())?;
     Ok((numbers, cut))
 }

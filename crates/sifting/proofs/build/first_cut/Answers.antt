@@ -1,21 +1,16 @@
-use Rattle.std.proofs.Common.{◌≡◌, length, ap, subst, ◌∙◌, arith, map}
-use Rattle.sifting.specs.Cuts.{ref_of, RootsFirst}
-use Rattle.sifting.proofs.Rooting.{roots_step}
+use Rattle.std.proofs.Common.{◌∙◌, ◌^◌, ap, map, arith}
+use Rattle.order_model.proofs.Nodes.Paths.{before_more}
+use Rattle.sifting.specs.Cuts.{ref_of}
 use Rattle.sifting.proofs.build.first_cut.Goals as goal
 
-pub loop-root-preserved : goal.loop-root-preserved
-loop-root-preserved c =
-    roots_step c.loop-root.root-index c.args.roots.now c.loop-root.numbers.items c.push.new.self.items c.loop-root.codes.keys
-    c.insert_full.new.self.keys c.code.result c.in_ok-number.number
-    c.loop-root.invariant c.code.ensures c.in_ok-number.ensures.keys c.in_ok-number.ensures.index c.in_ok-push.ensures.items
+pub number_roots-requires-clause-inside : goal.number_roots-requires-clause-inside
+number_roots-requires-clause-inside c =
+    let small = c.requires.small in λ k d lt. before_more c.args.size (2 ^ 32) _ (omega arith) (c.requires.inside k d lt)
 
 pub returns : goal.returns
 returns c =
-    let done = c.loop-root.auto.root-index-end in
-    let past = c.loop-root-test.false in
-    let e : c.loop-root.root-index ≡ length c.args.roots.now = omega arith in
     record {
-      codes = c.loop-root.codes.keys;
-      first = subst (λ m. RootsFirst m c.args.roots.now c.loop-root.numbers.items c.loop-root.codes.keys) e c.loop-root.invariant;
+      codes = c.number_roots.new.codes.keys;
+      first = c.in_ok-number_roots.ensures;
       cut_is = c.in_ok-cut.ensures ∙ ap (map ref_of) c.as_slice.ensures.keys;
     }

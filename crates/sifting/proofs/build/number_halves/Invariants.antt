@@ -1,5 +1,5 @@
 use Rattle.sifting.specs.Cuts.{SplitsFirst}
-use Rattle.sifting.proofs.build.split.Given as goal
+use Rattle.sifting.proofs.build.number_halves.Given as goal
 
 abbrev pub invariant-loop-r : goal.invariant-loop-r
 invariant-loop-r l = SplitsFirst l.r-index l.nodes l.variable l.cut l.level.items l.codes.keys
