@@ -32,19 +32,19 @@ def lines_of(path):
 
 def parameters(lines, at):
     """How many parameters the function at a line has."""
-    text, depth, count = "", 0, 0
-    for line in lines[at:]:
-        text += line.split("//")[0] + " "
-        if text.count("(") and text.count("(") == text.count(")"):
+    text = " ".join(line.split("//")[0] for line in lines[at:at + 30])
+    text = text[text.index("(") + 1:]
+    depth, parts, part = 0, [], ""
+    for char in text.replace("->", "  "):
+        if char == ")" and depth == 0:
             break
-    inside = text[text.index("(") + 1:text.rindex(")")] if ")" in text else ""
-    for char in inside:
-        depth += char in "([<{"
-        depth -= char in ")]>}"
-        if depth < 0:
-            break
-        count += char == "," and depth == 0
-    return count + bool(inside.strip().rstrip(",").strip()) - inside.rstrip().endswith(",")
+        depth += (char in "([<{") - (char in ")]>}")
+        if char == "," and depth == 0:
+            parts.append(part)
+            part = ""
+        else:
+            part += char
+    return sum(bool(it.strip()) for it in (*parts, part))
 
 
 def contract_lines(lines, at):

@@ -1,4 +1,4 @@
-ghost use Rattle.std.specs.Prelude.{◌≡◌, ◌≤◌, ◌^◌, IfOk, length};
+ghost use Rattle.std.specs.Prelude.{◌≡◌, ◌≤◌, ◌^◌, length};
 ghost use Rattle.subset_layers.specs.Layers.{block_masks};
 ghost use Rattle.compaction.specs.Rows.{AreMembers, wanted_count};
 
@@ -154,7 +154,9 @@ fn width_alone(
     let classes = Classes::of_set(alloc, problem, without)?;
     let mut tally = Tally::new();
     let width = width_of(rt, alloc, &classes, x, &mut tally)?;
+    assert!(rt; tally.count() == 1);
     let mut scratch = Scratch::of(alloc, problem)?;
+    assert!(rt; classes.lacks(x));
     assert!(rt; classes.width_in(x, &mut scratch, &mut tally) == width);
     assert!(rt; tally.count() == 2);
     Ok(width)
@@ -177,9 +179,7 @@ fn row_alone(
 }
 
 /// The sum of a row, whose widths are small.
-fn sum_of(rt: &impl Abort, row: &[u32; 16]) -> u64
-    ensures { result ≤ 2 ^ 24 }
-{
+fn sum_of(rt: &impl Abort, row: &[u32; 16]) -> u64 {
     let mut sum = 0u64;
     for width in row {
         assert!(rt; *width < 1 << 20 && sum < 1 << 23);
@@ -197,7 +197,6 @@ fn try_block(
     block: &Block,
 ) -> Result<u64, Fail>
     requires { shared.now ≡ problem.now }
-    ensures { IfOk result (λ sum. sum ≤ 2 ^ 41) }
 {
     assert!(rt; block.inputs() == problem.inputs());
     let mut tally = Tally::new();
@@ -209,8 +208,9 @@ fn try_block(
         let mask = block.mask(i);
         let row = row_alone(rt, alloc, problem, mask)?;
         assert!(rt; widths.row(i) == row);
-        assert!(rt; sum < 1 << 40 && members < 1 << 20);
-        sum += sum_of(rt, &row);
+        let own = sum_of(rt, &row);
+        assert!(rt; sum < 1 << 40 && own < 1 << 40 && members < 1 << 20);
+        sum += own;
         members += u64::from(mask.count_ones());
     }
     assert!(rt; tally.count() == members);
@@ -224,7 +224,7 @@ fn try_layer(rt: &impl Abort, alloc: Global, problem: &Problem, size: u8) -> Res
     let mut sum = 0u64;
     for i in 0..layer.blocks() {
         let own = try_block(rt, alloc, problem, &shared, &layer.block(i))?;
-        assert!(rt; sum < 1 << 40);
+        assert!(rt; sum < 1 << 40 && own < 1 << 41);
         sum += own;
     }
     Ok(sum)
