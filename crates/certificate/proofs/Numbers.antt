@@ -1,19 +1,15 @@
 -- Words that are numbers as a certificate has them.
-use Rattle.std.proofs.Common.{◌≡◌, ℕ, ◌+◌, ◌-◌, ◌*◌, ◌^◌, ◌≤◌, ◌<◌, refl, sym, ◌∙◌, ap, true, false, nat_le, inl, inr, ◌⊎◌, List, [], ◌∷◌, length, take, drop, get_or, decimal, arith, lit<}
+use Rattle.std.proofs.Common.{◌≡◌, ℕ, ◌^◌, ◌≤◌, ◌<◌, refl, sym, ◌∙◌, ap, true, false, nat_le, inl, inr, ◌⊎◌, List, length, get_or, decimal, arith, lit<}
 use Rattle.std.specs.Fmt.{digits}
 use Rattle.std.specs.Str.{all_ascii_digits}
-use Rattle.std.specs.Str.Parse.{digits_value_after}
-use Rattle.std.specs.Char.{is_ascii_digit, digit_value}
 use Rattle.std.proofs.lemmas.Bool.Decides.{nat_tests}
 use Rattle.std.proofs.lemmas.Bool.{cases_lt, false_from_ne_true}
 use Rattle.std.proofs.lemmas.Fmt.{decimal_nonempty, first_decimal, length-decimal-le, decimal-digits_value, digits_decimal}
-use Rattle.std.proofs.lemmas.Str.{digit_value_digit}
 use Rattle.std.proofs.lemmas.Str.Parse.{tells_all_ascii_digits, numerals_by_value}
 use Rattle.certificate.specs.Spelling.{most_nodes}
 use Rattle.order_model.specs.Texts.{number_of}
 use Rattle.certificate.specs.Faults.{is_decimal}
 use Rattle.certificate.proofs.Judges.{same_self, decimal_is}
-use Rattle.order_model.proofs.Lists.Digits.{behind_first}
 
 -- digits without a leading zero, or just zero, are their number's decimal
 pub spelled_digits : (word : List ℕ) → all_ascii_digits word ≡ true → 0 < length word → (get_or word 0 0 ≡ 48 → length word ≡ 1) →
@@ -53,23 +49,3 @@ unbounded least most word few never =
     false_from_ne_true (is_decimal least most word)
     (λ yes. let d = decimal_is least most word yes in let high = d.1.1 in
     never (number_of word) (omega (arith, high, few)) d.1.0 d.1.1 refl (sym d.0))
-
-pub digits_rest : (xs : List ℕ) → 0 < length xs → is_ascii_digit (get_or xs 0 0) ≡ true →
-    all_ascii_digits xs ≡ all_ascii_digits (take (length xs - 1) (drop 1 xs))
-digits_rest [] some e = absurd (omega (arith, some))
-digits_rest (x ∷ xs) some e = rw e (ap all_ascii_digits (sym (behind_first (x ∷ xs))))
-
-pub value_rest : (v : ℕ) (xs : List ℕ) → 0 < length xs → 48 ≤ get_or xs 0 0 → get_or xs 0 0 ≤ 57 →
-    digits_value_after 10 v xs ≡ digits_value_after 10 (v * 10 + (get_or xs 0 0 - 48)) (take (length xs - 1) (drop 1 xs))
-value_rest v [] some low high = absurd (omega (arith, some))
-value_rest v (x ∷ xs) some low high =
-    let digit : digit_value x ≡ x - 48 = omega (arith, digit_value_digit x (low, high)) in
-    rw digit (ap (digits_value_after 10 (v * 10 + (x - 48))) (sym (behind_first (x ∷ xs))))
-
-pub digit_range : (c : ℕ) → is_ascii_digit c ≡ true → (48 ≤ c) × (c ≤ 57)
-digit_range c e = (grind (arith, nat_tests), grind (arith, nat_tests))
-
--- no decimal has another byte
-pub no_digits : (xs : List ℕ) → 0 < length xs → is_ascii_digit (get_or xs 0 0) ≡ false → all_ascii_digits xs ≡ false
-no_digits [] some e = absurd (omega (arith, some))
-no_digits (x ∷ xs) some e = rw e refl

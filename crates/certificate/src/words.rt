@@ -8,7 +8,7 @@ ghost use Rattle.certificate.specs.Faults.{is_decimal, is_mask, mask_of};
 ghost use Rattle.certificate.specs.Parsing.{Cuts, Lacks};
 
 use crate::bounds::sets_below_all;
-use order_model::Mask;
+use order_model::{Mask, decimal_number};
 
 /// The most digits of a number: all bounds are below a million.
 const MOST_DIGITS: usize = 6;
@@ -36,25 +36,13 @@ fn decimal(word: &[u8]) -> Option<u32>
         (λ value. (decimal_of value ≡ word.now) × (number_of word.now ≡ value)) }
     ensures none { IfNone result ((n : ℕ) → n ≤ most_nodes → word.now ≡ decimal_of n → ⊥) }
 {
-    if word.is_empty() {
-        return None;
-    }
     if word.len() > MOST_DIGITS {
         return None;
     }
-    if word[0] == b'0' && word.len() > 1 {
+    if word.len() > 1 && word[0] == b'0' {
         return None;
     }
-    let mut value = 0u32;
-    let mut rest = word;
-    while let [b, more @ ..] = rest {
-        if !b.is_ascii_digit() {
-            return None;
-        }
-        value = value * 10 + (*b - b'0') as u32;
-        rest = more;
-    }
-    Some(value)
+    decimal_number(word)
 }
 
 /// The number of a word that is a decimal in bounds, as a certificate writes it.

@@ -1,7 +1,7 @@
 -- Which lists of variables are orders, and what is wrong with the others.
 --     Accepts xs      xs has 1 to 16 variables, and is an order of as many
 --     IsInRange xs      xs has 1 to 16 variables, each below its length
---     Refuses xs fault      why xs is no order
+--     IsNoOrder xs fault      why xs is no order
 use Rattle.std.specs.Prelude.{ℕ, ◌<◌, ◌≤◌, List, length}
 use Rattle.std.specs.List.{All}
 use Rattle.order_model.specs.declared.orders.BadOrder.{BadOrder}
@@ -21,7 +21,7 @@ pub record IsInRange (xs : List ℕ) : Type 0 where
   pub below : All (λ x. x < length xs) xs
 
 -- why a list is no order: being out of range comes first
-abbrev pub Refuses : List ℕ → BadOrder → Type 0
-Refuses xs OutOfRange = IsInRange xs → ⊥
-Refuses xs NotEach = IsInRange xs × (IsOrder (length xs) xs → ⊥)
-Refuses xs OutOfMemory = Unit {0}
+abbrev pub IsNoOrder : List ℕ → BadOrder → Type 0
+IsNoOrder xs OutOfRange = IsInRange xs → ⊥
+IsNoOrder xs NotEach = IsInRange xs × (IsOrder (length xs) xs → ⊥)
+IsNoOrder xs OutOfMemory = Unit {0}

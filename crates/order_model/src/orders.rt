@@ -4,7 +4,7 @@ ghost use Rattle.std.specs.Prelude.{◌≡◌, ◌↔◌, ◌+◌, ◌<◌, ◌�
 ghost use Rattle.std.specs.Bool.{OnTrue};
 ghost use Rattle.std.specs.List.{All, IsDistinct};
 ghost use Rattle.order_model.specs.Orders.{IsOrder, has, place_in, variables as all_variables};
-ghost use Rattle.order_model.specs.OrderFaults.{Accepts, IsInRange, Refuses};
+ghost use Rattle.order_model.specs.OrderFaults.{Accepts, IsInRange, IsNoOrder};
 
 use crate::variables::{Mask, VarIx, contains};
 use std::alloc::{AllocError, Global};
@@ -83,7 +83,7 @@ impl Order {
     pub fn try_from_slice(alloc: Global, variables: &[VarIx]) -> Result<Order, BadOrder>
         ensures accepted { OnOk result (Accepts variables.now) }
         ensures value { IfOk result (λ order. order ≡ variables.now) }
-        ensures refused { IfErr result (Refuses variables.now) }
+        ensures refused { IfErr result (IsNoOrder variables.now) }
     {
         if !is_in_range(variables) {
             return Err(BadOrder::OutOfRange);

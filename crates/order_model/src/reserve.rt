@@ -173,14 +173,14 @@ impl<'a> Reserves<'a> {
         let mut most = least;
         for x in 0..self.problem.inputs() {
             if contains(mask, x) {
-                most = most.max(self.asked(mask, x, widths[x as usize]));
+                most = most.max(self.nodes_for_width(mask, x, widths[x as usize]));
             }
         }
         most
     }
 
     /// The nodes above a set that the width of a member asks for.
-    fn asked(&self, mask: Mask, x: VarIx, width: u32) -> u64
+    fn nodes_for_width(&self, mask: Mask, x: VarIx, width: u32) -> u64
         requires { x < self.now.problem.inputs }
         ensures few { result < 2 ^ 33 }
         ensures nodes { width ≡ width_of self.now.problem.inputs (functions self.now.problem)

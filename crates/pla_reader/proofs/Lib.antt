@@ -2,7 +2,6 @@ mod WorkedFiles
 pub mod Reading
 pub mod TextLemmas
 pub mod NameLemmas
-pub mod Digits
 pub mod TermLemmas
 pub mod RowLemmas
 pub mod LineLemmas

@@ -18,7 +18,7 @@ use Rattle.order_model.specs.Products.{product_of}
 use Rattle.pla_reader.specs.Covers.{input_count, output_count, input_naming, output_naming, type_words, row_bytes, term_of, first_number, inputs_of, outputs_of}
 use Rattle.pla_reader.specs.Faults.{comes, head_fault, fault_of, term_fault, naming_fault, type_fault, takes_dont_cares, is_one_number}
 use Rattle.pla_reader.specs.Masks.{Fits}
-use Rattle.pla_reader.specs.Progress.{State, Agrees, IsSound, Taken, is_f, words_of}
+use Rattle.pla_reader.specs.Progress.{State, Agrees, IsSoundState, Taken, is_f, words_of}
 use Rattle.std.proofs.Math.Bool.{and-false}
 
 -- a further line that gives nothing, or something
@@ -99,7 +99,7 @@ names_wait None old new e counted = tt
 names_wait (Some ns) old new e counted = absurd cc
 
 -- terms wait for both counts
-no_terms_yet : (s : State) → IsSound s → (s.inputs ≡ None) ⊎ (s.outputs ≡ None) → s.terms ≡ []
+no_terms_yet : (s : State) → IsSoundState s → (s.inputs ≡ None) ⊎ (s.outputs ≡ None) → s.terms ≡ []
 no_terms_yet s sound (inl none) = sound.no_terms (rw none refl)
 no_terms_yet s sound (inr none) = sound.no_terms (rw none (and-false (is_some s.inputs)))
 

@@ -1,6 +1,6 @@
 -- What the reader of covers returns.
 --     Answers bytes result      the answer for the bytes of an input within the limit
---     IsAnswer bytes result      the answer for the bytes that a device has left
+--     IsReading bytes result      the answer for the bytes that a device has left
 --     failed_calls result      how many calls of the device failed
 use Rattle.std.specs.Prelude.{ℕ, ◌≤◌, ◌<◌, List, length, Result, Ok, Err}
 use Rattle.pla_reader.specs.declared.cover.Cover.{Cover}
@@ -21,12 +21,12 @@ Answers bytes (Err TooLong) = ⊥
 Answers bytes (Err Device) = ⊥
 
 -- the answer for the bytes that a device has left
-abbrev pub IsAnswer : List ℕ → Result Cover PlaError → Type 0
-IsAnswer bytes (Ok cover) = (length bytes ≤ longest) × Reads bytes cover
-IsAnswer bytes (Err (Line line fault)) = (length bytes ≤ longest) × FirstFault bytes line fault
-IsAnswer bytes (Err TooLong) = longest < length bytes
-IsAnswer bytes (Err Device) = Unit {0}
-IsAnswer bytes (Err OutOfMemory) = Unit {0}
+abbrev pub IsReading : List ℕ → Result Cover PlaError → Type 0
+IsReading bytes (Ok cover) = (length bytes ≤ longest) × Reads bytes cover
+IsReading bytes (Err (Line line fault)) = (length bytes ≤ longest) × FirstFault bytes line fault
+IsReading bytes (Err TooLong) = longest < length bytes
+IsReading bytes (Err Device) = Unit {0}
+IsReading bytes (Err OutOfMemory) = Unit {0}
 
 -- how many calls of the device failed
 abbrev pub failed_calls : Result Cover PlaError → ℕ

@@ -63,7 +63,7 @@ words_of types.F = codes "f" ∷ []
 words_of types.Fd = codes "fd" ∷ []
 
 -- the numbers of inputs and outputs, and the terms, fit one another
-pub record IsSound (s : State) : Type 0 where
+pub record IsSoundState (s : State) : Type 0 where
   pub inputs : IfSome s.inputs (λ n. (1 ≤ n) × (n ≤ 16))
   pub outputs : IfSome s.outputs (λ m. (1 ≤ m) × (m ≤ 16))
   pub input_names : IfSome s.input_names (λ names. s.inputs ≡ Some (length names))
@@ -80,7 +80,7 @@ pub record Agrees (before : List Line) (s : State) : Type 0 where
   pub types : filter_map type_words before ≡ option_to_list (option_map words_of s.logical_type)
   pub rows : map (term_of (unwrap_or s.inputs 0)) (filter_map row_bytes before)
       ≡ map (product_of (unwrap_or s.inputs 0) (unwrap_or s.outputs 0)) s.terms
-  pub sound : IsSound s
+  pub sound : IsSoundState s
 
 -- the answer for a line after others: it has no fault and is held, or its fault
 abbrev pub Taken : {U : Type 0} → List Line → Line → State → Result U LineError → Type 0

@@ -1,11 +1,10 @@
 -- The text of a PLA description: its lines, the words of a line, and what words may be.
 --     lines_of bytes      the lines, without their line feeds
 --     content line, words content, positions content      a line up to its comment; its words; the bytes of a term
---     only_word words, is_number word, is_name word      what directives are given
-use Rattle.std.specs.Prelude.{ℕ, Bool, true, false, not, if◌then◌else◌, ◌&&◌, ◌||◌, ◌==◌, List, [], ◌∷◌, length, filter, take_while, nat_le, Option, Some, None}
+--     only_word words, is_name word      what directives are given
+use Rattle.std.specs.Prelude.{ℕ, Bool, true, false, not, if◌then◌else◌, ◌||◌, ◌==◌, List, [], ◌∷◌, filter, take_while, Option, Some, None}
 use Rattle.std.specs.List.{slice_split, onto_first, list_all}
 use Rattle.std.specs.Char.{is_ascii_graphic}
-use Rattle.std.specs.Str.{all_ascii_digits}
 
 -- the bytes that have a meaning of their own
 abbrev pub line_feed : ℕ
@@ -47,10 +46,6 @@ positions line = filter (λ b. not (is_blank b || b == bar)) line
 abbrev pub only_word : List (List ℕ) → Option (List ℕ)
 only_word (word ∷ []) = Some word
 only_word _ = None
-
--- a number: one to nine decimal digits
-abbrev pub is_number : List ℕ → Bool
-is_number word = all_ascii_digits word && (nat_le 1 (length word) && nat_le (length word) 9)
 
 -- a name has visible ASCII bytes only, 33 to 126
 abbrev pub is_name : List ℕ → Bool

@@ -1,9 +1,8 @@
-//! Lines, words and numbers.
+//! Lines and their words.
 
-ghost use Rattle.std.specs.Prelude.{◌≡◌, ◌<◌, ◌≤◌, ◌==◌, ◌||◌, ◌∷◌, [], false, IsTrue, length, IfSome, IfNone, Some, None};
+ghost use Rattle.std.specs.Prelude.{◌≡◌, ◌<◌, ◌≤◌, ◌==◌, ◌||◌, ◌∷◌, [], length, IfSome, IfNone, Some, None};
 ghost use Rattle.std.specs.List.{position_or_len, list_all};
-ghost use Rattle.order_model.specs.Texts.{number_of};
-ghost use Rattle.pla_reader.specs.Text.{lines_of, is_blank, bar, words, content as content_of, only_word as one_word, is_number, is_name};
+ghost use Rattle.pla_reader.specs.Text.{lines_of, is_blank, bar, words, content as content_of, only_word as one_word, is_name};
 
 use memchr::{memchr, memchr3};
 
@@ -121,26 +120,4 @@ fn is_graphic(word: &[u8]) -> bool
     ensures { result ≡ is_name word.now }
 {
     word.iter().all(|b| b.is_ascii_graphic())
-}
-
-/// The value of a number.
-#[tactic(auto, using(crate::proofs::Digits::digit_is, crate::proofs::Digits::pow_small))]
-pub(crate) fn number(word: &[u8]) -> Option<u32>
-    ensures some { IfSome result
-        (λ value. IsTrue (is_number word.now) × (value ≡ number_of word.now)) }
-    ensures none { IfNone result (is_number word.now ≡ false) }
-{
-    if word.is_empty() || word.len() > 9 {
-        return None;
-    }
-    let mut value = 0u32;
-    let mut rest = word;
-    while let [b, more @ ..] = rest {
-        if !b.is_ascii_digit() {
-            return None;
-        }
-        value = value * 10 + (*b - b'0') as u32;
-        rest = more;
-    }
-    Some(value)
 }

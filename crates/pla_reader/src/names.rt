@@ -36,7 +36,11 @@ pub(crate) fn names(alloc: Global, text: &[u8]) -> Result<Vec<String>, AllocErro
 }
 
 /// Names that are a text with a number after it, from 0 on.
-pub(crate) fn numbered(alloc: Global, front: &str, count: u8) -> Result<Vec<String>, AllocError>
+pub(crate) fn default_names(
+    alloc: Global,
+    front: &str,
+    count: u8,
+) -> Result<Vec<String>, AllocError>
     ensures { IfOk result (λ names. map string_bytes names.items ≡ numbered_names front.now count) }
 {
     let mut names = Vec::new(alloc);

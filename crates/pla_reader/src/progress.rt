@@ -10,15 +10,15 @@ ghost use Rattle.pla_reader.specs.Lines.Line.{Inputs, Outputs, InputNames, Outpu
 ghost use Rattle.pla_reader.specs.Covers.{first_number, numbered_names};
 ghost use Rattle.pla_reader.specs.Faults.{head_fault, naming_fault, type_fault, is_one_number};
 ghost use Rattle.pla_reader.specs.Statements.{line_of};
-ghost use Rattle.pla_reader.specs.Progress.{state_of, start, is_f, words_of, IsSound, Takes, IsCoverOf, IsEndError};
+ghost use Rattle.pla_reader.specs.Progress.{state_of, start, is_f, words_of, IsSoundState, Takes, IsCoverOf, IsEndError};
 
 use crate::cover::Cover;
 use crate::errors::{LineFault, PlaError};
-use crate::lines::{count_words, has_names, number, only_word};
-use crate::names::{names, numbered};
+use crate::lines::{count_words, has_names, only_word};
+use crate::names::{default_names, names};
 use crate::statements::{Statement, is_same};
 use crate::terms::row;
-use order_model::Term;
+use order_model::{Term, decimal_number};
 use std::alloc::{AllocError, Global};
 
 /// The logical type of a description.
@@ -67,7 +67,10 @@ fn count(known: Option<u8>, text: &[u8], outside: LineFault) -> Result<u8, LineF
     if known.is_some() {
         return Err(LineFault::RepeatedHead);
     }
-    match only_word(text).and_then(number) {
+    let Some(word) = only_word(text) else {
+        return Err(LineFault::BadNumber);
+    };
+    match decimal_number(word) {
         None => Err(LineFault::BadNumber),
         Some(value) if 1 <= value && value <= 16 => Ok(value as u8),
         Some(_) => Err(outside),
@@ -80,7 +83,7 @@ fn is_number_alone(text: &[u8]) -> bool
 {
     match only_word(text) {
         None => false,
-        Some(word) => number(word).is_some(),
+        Some(word) => decimal_number(word).is_some(),
     }
 }
 
@@ -124,7 +127,7 @@ fn logical_type(repeated: bool, late: bool, text: &[u8]) -> Result<LogicalType, 
 }
 
 /// The names given, or else numbered ones.
-fn given_or_numbered(
+fn given_or_default_names(
     alloc: Global,
     given: Option<Vec<String>>,
     front: &str,
@@ -136,7 +139,7 @@ fn given_or_numbered(
 {
     match given {
         Some(names) => Ok(names),
-        None => numbered(alloc, front, count),
+        None => default_names(alloc, front, count),
     }
 }
 
@@ -218,7 +221,7 @@ impl Progress {
     }
 
     fn take_row(&mut self, text: &[u8]) -> Result<(), LineError>
-        requires { IsSound (state_of self.old) }
+        requires { IsSoundState (state_of self.old) }
         ensures { Takes self.old (Row (positions text.now)) self.new result }
     {
         let (Some(inputs), Some(outputs)) = (self.inputs, self.outputs) else {
@@ -233,7 +236,7 @@ impl Progress {
 
     /// Takes what the next line says.
     pub(crate) fn take(&mut self, alloc: Global, statement: Statement) -> Result<(), LineError>
-        requires { IsSound (state_of self.old) }
+        requires { IsSoundState (state_of self.old) }
         ensures { Takes self.old (line_of statement.entry) self.new result }
     {
         match statement {
@@ -258,7 +261,7 @@ impl Progress {
     /// The cover of the lines read, if both counts came; the line that ends the description has the
     /// number.
     pub(crate) fn finish(self, alloc: Global, number: usize) -> Result<Cover, PlaError>
-        requires { IsSound (state_of self) }
+        requires { IsSoundState (state_of self) }
         ensures ok { IfOk result (IsCoverOf (state_of self)) }
         ensures err { IfErr result (IsEndError (state_of self) number) }
     {
@@ -273,8 +276,8 @@ impl Progress {
         let (Some(inputs), Some(outputs)) = (inputs, outputs) else {
             return Err(PlaError::Line(number, LineFault::MissingHead));
         };
-        let input_names = given_or_numbered(alloc, input_names, "x", inputs)?;
-        let output_names = given_or_numbered(alloc, output_names, "y", outputs)?;
+        let input_names = given_or_default_names(alloc, input_names, "x", inputs)?;
+        let output_names = given_or_default_names(alloc, output_names, "y", outputs)?;
         Ok(Cover::new(inputs, outputs, input_names, output_names, terms))
     }
 }

@@ -1,45 +1,55 @@
-use Rattle.std.proofs.Common.{◌≡◌, true, false, rules, sym, ◌∙◌, get_or, arith}
-use Rattle.std.specs.Char.{is_ascii_digit}
+use Rattle.std.proofs.Common.{◌≡◌, ◌≤◌, ◌<◌, ◌&&◌, true, false, get_or, arith, length, Option, Some, None, IfSome, IfNone, IsTrue, ℕ, decimal, nat_le, List, sym}
 use Rattle.std.specs.Str.{all_ascii_digits}
-use Rattle.order_model.specs.Texts.{number_of}
-use Rattle.certificate.proofs.Numbers.{spelled_digits, decimal_some, decimal_short, decimal_leads, decimal_all, digits_rest, value_rest, digit_range, no_digits}
-use Rattle.order_model.proofs.Lists.Digits.{pow_more, no_more_digits, no_more_value}
+use Rattle.std.proofs.lemmas.Bool.{and_parts}
+use Rattle.std.proofs.lemmas.Bool.Decides.{nat_tests}
+use Rattle.std.proofs.lemmas.Str.Parse.{digits_value_short, numerals_by_value, tells_all_ascii_digits}
+use Rattle.order_model.specs.Texts.{number_of, is_number}
+use Rattle.certificate.specs.Spelling.{most_nodes}
+use Rattle.certificate.proofs.Numbers.{spelled_digits, decimal_some, decimal_short, decimal_leads, decimal_all}
 use Rattle.certificate.proofs.words.decimal.Goals as goal
-
-pub returns-then-is_empty-clause-none : goal.returns-then-is_empty-clause-none
-returns-then-is_empty-clause-none c n few e = let some = decimal_some n c.args.word.now few e in absurd (search rules)
+use Rattle.certificate.proofs.words.decimal.Goals.{else-word-gt1-via-then-word-gt1+else-word-eq48, else-word-gt1-via-else-word-gt1}
 
 pub returns-then-word-gt-MOST_DIGITS-clause-none : goal.returns-then-word-gt-MOST_DIGITS-clause-none
 returns-then-word-gt-MOST_DIGITS-clause-none c n few e = let short = decimal_short n c.args.word.now few e in absurd (omega (arith, short))
 
-pub returns-then-word-gt1-clause-none : goal.returns-then-word-gt1-clause-none
-returns-then-word-gt1-clause-none c n few e = let one = decimal_leads n c.args.word.now few e c.if-word-eq48.true in absurd (omega (arith, one))
+pub returns-then-word-eq48-clause-none : goal.returns-then-word-eq48-clause-none
+returns-then-word-eq48-clause-none c n few e =
+    let one = decimal_leads n c.args.word.now few e c.if-word-eq48.true in absurd (omega (arith, one))
 
-pub returns-then-not-is_ascii_digit-clause-none : goal.returns-then-not-is_ascii_digit-clause-none
-returns-then-not-is_ascii_digit-clause-none c n few e =
-    let other : is_ascii_digit (get_or c.loop-rest.rest.now 0 0) ≡ false = search rules in
-    let wrong : true ≡ false = sym (decimal_all n c.args.word.now few e) ∙ c.loop-rest.invariant.digits
-    ∙ no_digits c.loop-rest.rest.now (omega arith) other in
-    absurd (cc (wrong))
-
-pub loop-rest-preserved : goal.loop-rest-preserved
-loop-rest-preserved c =
-    let digit : is_ascii_digit (get_or c.loop-rest.rest.now 0 0) ≡ true = search rules in
-    let range = digit_range _ digit in
-    record {
-      fits = search rules;
-      short = search rules;
-      some = search rules;
-      leads = c.loop-rest.invariant.leads;
-      small = pow_more _ _ c.loop-rest.value _ c.loop-rest.invariant.small (omega arith) (search rules);
-      digits = c.loop-rest.invariant.digits ∙ digits_rest c.loop-rest.rest.now (omega arith) digit;
-      value = c.loop-rest.invariant.value ∙ value_rest c.loop-rest.value c.loop-rest.rest.now (omega arith) range.0 range.1;
-    }
+-- a number that is read is its word's, if that begins with no zero
+spelled : (word : List ℕ) (v : ℕ) → (get_or word 0 0 ≡ 48 → length word ≤ 1) → length word ≤ 6 → is_number word ≡ true → v ≡ number_of word →
+    (decimal v ≡ word) × (number_of word ≡ v)
+spelled word v leads short is e =
+    let parts = and_parts (all_ascii_digits word) (nat_le 1 (length word) && nat_le (length word) 9) is in
+    let lengths = and_parts (nat_le 1 (length word)) (nat_le (length word) 9) parts.1 in
+    let some : 0 < length word = grind (arith, nat_tests, lengths.0) in
+    let small = digits_value_short (numerals_by_value (λ ds. all_ascii_digits ds ≡ true) tells_all_ascii_digits) word 6 parts.0 short in
+    (rw e (spelled_digits word parts.0 some (λ first. let l = leads first in omega (arith, l, some)) (omega (arith, small))), sym e)
 
 pub returns-clause-some : goal.returns-clause-some
-returns-clause-some c =
-    let word = c.args.word.now in
-    let value : number_of word ≡ c.loop-rest.value = c.loop-rest.invariant.value ∙ no_more_value c.loop-rest.value c.loop-rest.rest.now (omega arith) in
-    let all : all_ascii_digits word ≡ true = c.loop-rest.invariant.digits ∙ no_more_digits c.loop-rest.rest.now (omega arith) in
-    let fits = c.loop-rest.auto.value-fits in
-    (rw (sym value) (spelled_digits word all c.loop-rest.invariant.some c.loop-rest.invariant.leads (omega (arith, value, fits))), value)
+returns-clause-some c = by c.decimal_number.result c.decimal_number.ensures.some where
+  leads : get_or c.args.word.now 0 0 ≡ 48 → length c.args.word.now ≤ 1
+  leads first = elim c.else-word-gt1.branch [
+    | else-word-gt1-via-then-word-gt1+else-word-eq48 w ↦ absurd (w.if-word-eq48.false first)
+    | else-word-gt1-via-else-word-gt1 w ↦ w.if-word-gt1.false
+  ]
+
+  by : (o : Option ℕ) → IfSome o (λ v. IsTrue (is_number c.args.word.now) × (v ≡ number_of c.args.word.now)) →
+      IfSome o (λ v. (decimal v ≡ c.args.word.now) × (number_of c.args.word.now ≡ v))
+  by None h = record {}
+  by (Some v) h = spelled c.args.word.now v leads c.if-word-gt-MOST_DIGITS.false h.0 h.1
+
+pub returns-clause-none : goal.returns-clause-none
+returns-clause-none c = by c.decimal_number.result c.decimal_number.ensures.none where
+  never : is_number c.args.word.now ≡ false → (n : ℕ) → n ≤ most_nodes → c.args.word.now ≡ decimal n → ⊥
+  never none n few e =
+      let all = decimal_all n c.args.word.now few e in
+      let short = decimal_short n c.args.word.now few e in
+      let some = decimal_some n c.args.word.now few e in
+      let low : nat_le 1 (length c.args.word.now) ≡ true = grind (arith, nat_tests, some) in
+      let high : nat_le (length c.args.word.now) 9 ≡ true = grind (arith, nat_tests, short) in
+      absurd (cc (none, all, low, high))
+
+  by : (o : Option ℕ) → IfNone o (is_number c.args.word.now ≡ false) → IfNone o ((n : ℕ) → n ≤ most_nodes → c.args.word.now ≡ decimal n → ⊥)
+  by (Some v) h = record {}
+  by None h = never h

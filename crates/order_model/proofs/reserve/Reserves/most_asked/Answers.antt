@@ -28,7 +28,7 @@ loop-x-preserved c =
             few = omega arith;
             most = λ are.
                 w.most-is ∙ w.max-most.ensures
-                ∙ ap₂ max (c.loop-x.invariant.most are) (w.asked.ensures.nodes (are x (member_has n c.args.mask x inside bit)))
+                ∙ ap₂ max (c.loop-x.invariant.most are) (w.nodes_for_width.ensures.nodes (are x (member_has n c.args.mask x inside bit)))
                 ∙ sym (most_with f c.args.least x c.args.mask bit);
           }
       | else-contains w ↦

@@ -1,7 +1,7 @@
 use Rattle.std.proofs.Common.{◌+◌, ◌-◌, ap, ap₂, ◌∙◌, subst}
 use Rattle.order_model.specs.Problems.{TruthTables, functions}
 use Rattle.order_model.specs.Reserves.{ReservesOf, HoldsReserves, asked_by, functions_without}
-use Rattle.order_model.proofs.reserve.Reserves.asked.Goals as goal
+use Rattle.order_model.proofs.reserve.Reserves.nodes_for_width.Goals as goal
 
 pub returns-clause-nodes : goal.returns-clause-nodes
 unfolding asked_by

@@ -3,7 +3,7 @@ use Rattle.std.specs.String.{string_bytes}
 use Rattle.pla_reader.specs.Covers.{numbered_names}
 use Rattle.pla_reader.proofs.NameLemmas.{numbered_next}
 use mathlib.Core.List.{map-append}
-use Rattle.pla_reader.proofs.names.numbered.Goals as goal
+use Rattle.pla_reader.proofs.names.default_names.Goals as goal
 
 pub loop-i-init : goal.loop-i-init
 unfolding numbered_names
