@@ -1,24 +1,35 @@
 //! minorder: the exact minimum variable order of a PLA file's shared decision diagram.
 #![tactic(auto)]
 
-use counted_io::Counting;
-use outcomes::words_of_program;
+ghost use Rattle.std.specs.Prelude.{◌<◌, ◌^◌};
+
+use counted_io::{CountedWrite, Counting};
+use outcomes::{texts_of, words_of_program};
 use report::minorder;
+use std::env::Env;
 use std::process::ExitCode;
+use std::rt::Files;
+use std::thread::Threads;
+
+/// The exit status of the program with the words that it was given.
+fn minorder_status<R: Env + Files + AllocGlobal + Threads + Sync, W: CountedWrite, E: CountedWrite>(
+    rt: &R,
+    out: &mut W,
+    err: &mut E,
+) -> Result<u8, u8>
+    requires out { W.failures out.old < 2 ^ 32 }
+    requires err { E.failures err.old < 2 ^ 32 }
+{
+    let words = words_of_program(rt)?;
+    let words = texts_of(rt.alloc(), &words)?;
+    Ok(minorder(rt, &words, out, err))
+}
 
 fn main(rt: HostRuntime) -> ExitCode {
-    let words = match words_of_program(&rt) {
-        Ok(words) => words,
-        Err(status) => return ExitCode::from(status),
-    };
-    let Ok(words) = words
-        .iter()
-        .map(|word: &String| word.as_str())
-        .collect::<Vec<&str>>(rt.alloc())
-    else {
-        return ExitCode::from(4);
-    };
     let mut out = Counting::new(rt.stdout());
     let mut err = Counting::new(rt.stderr());
-    ExitCode::from(minorder(&rt, &words, &mut out, &mut err))
+    let status = match minorder_status(&rt, &mut out, &mut err) {
+        Ok(status) | Err(status) => status,
+    };
+    ExitCode::from(status)
 }

@@ -33,6 +33,15 @@ pub fn words_of_program<R: Env + AllocGlobal>(rt: &R) -> Result<Vec<String>, u8>
     }
 }
 
+/// The words as texts, or the exit status 4 out of memory.
+pub fn texts_of<'a>(alloc: Global, words: &'a [String]) -> Result<Vec<&'a str>, u8> {
+    let texts = words.iter().map(|word: &String| word.as_str());
+    match texts.collect::<Vec<&str>>(alloc) {
+        Ok(texts) => Ok(texts),
+        Err(_) => Err(MEMORY_STATUS),
+    }
+}
+
 /// Writes why a program was refused, which takes no memory. A failure of the writer has no effect.
 pub fn write_fault<E: CountedWrite>(err: &mut E, program: Program, fault: Fault)
     requires { E.failures err.old < 2 ^ 32 }
