@@ -4,11 +4,11 @@
 --     rows_before, rows_behind      the rows of the first part and of the second
 --     row_narrowed      a row of fewer members
 --     RowsTo, rows_pushed, rows_all      rows found one after another
-use Rattle.std.proofs.Common.{◌≡◌, ℕ, zero, suc, refl, true, ◌+◌, ◌-◌, ◌%◌, ◌^◌, ◌<◌, ◌≤◌, cond, eqb, inl, inr, List, [], ◌∷◌, ◌++◌, length, length-append, slice_index, get_or, drop, length-drop, take, length-take, sym, ap, ◌∙◌, subst, arith, eq-eqb, ne_eqb}
+use Rattle.std.proofs.Common.{◌≡◌, ℕ, refl, true, ◌+◌, ◌-◌, ◌%◌, ◌^◌, ◌<◌, ◌≤◌, cond, eqb, inl, inr, List, [], ◌∷◌, ◌++◌, length, length-append, slice_index, get_or, take, length-take, sym, ap, ◌∙◌, subst, arith, eq-eqb, ne_eqb}
 use Rattle.std.specs.Int.{bit_at}
 use Rattle.std.proofs.lemmas.Bool.{cases_lt, cases_eq}
 use Rattle.std.proofs.lemmas.Nat.Bits.{bit_at_above}
-use Rattle.std.proofs.lemmas.List.{get_or_append_left, get_or-append_right, get_or-drop, get_or-take, get_or_push}
+use Rattle.std.proofs.lemmas.List.{get_or_append_left, get_or-append_right, get_or-take, get_or_push}
 use Rattle.order_model.specs.Orders.{has, members, without}
 use Rattle.order_model.specs.Widths.{width}
 use Rattle.order_model.specs.Problems.{TruthTables, functions}
@@ -109,7 +109,8 @@ rows_pushed p masks needed k rows row r is =
     record {
       each = (let l = length-append rows (row ∷ []) in omega arith);
       are = λ i lt. elim (cases_lt i k) [
-        | inl low ↦ subst (IsWidthRow p (slice_index masks i) (slice_index needed i)) (sym (get_or_append_left rows (row ∷ []) [] i (omega arith))) (r.are i low)
+        | inl low ↦ subst (IsWidthRow p (slice_index masks i) (slice_index needed i))
+            (sym (get_or_append_left rows (row ∷ []) [] i (omega arith))) (r.are i low)
         | inr high ↦
             let s : i ≡ k = omega arith in
             subst (IsWidthRow p (slice_index masks i) (slice_index needed i)) (sym (get_or_push rows row [] i (omega arith)))

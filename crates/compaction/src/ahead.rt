@@ -1,12 +1,13 @@
 //! Widths that are found ahead of their layer: the walk that goes to the sets of a layer goes on to
 //! those of later ones, so that the tables on the way serve all of them.
 
-ghost use Rattle.std.specs.Prelude.{◌≡◌, ℕ, ◌+◌, ◌^◌, ◌<◌, ◌≤◌, ◌++◌, ◌∷◌, ◌==◌, if◌then◌else◌, length, slice_index, [], IfOk, IfSome, OnOk, OnErr};
+ghost use Rattle.std.specs.Prelude.{◌≡◌, ℕ, ◌+◌, ◌^◌, ◌<◌, ◌≤◌, ◌++◌, ◌∷◌, ◌==◌, if◌then◌else◌, length, slice_index, [], IfOk, IfSome, IsTrue, OnOk, OnErr};
 ghost use Rattle.std.specs.Int.{bit_at};
+ghost use Rattle.order_model.specs.Orders.{has, members};
 ghost use Rattle.order_model.specs.Problems.{TruthTables};
 ghost use Rattle.subset_layers.specs.Layers.{block_masks};
 ghost use Rattle.compaction.specs.Ahead.{AreAhead, widths_ahead};
-ghost use Rattle.compaction.specs.Rows.{AreWidthRows, AreOfByte, AreMembers, most_compactions};
+ghost use Rattle.compaction.specs.Rows.{AreWidthRows, IsWidthRow, AreOfByte, AreMembers, most_compactions};
 ghost use Rattle.compaction.specs.Walks.{AreAsked, AreRowsOf, Counts, HasRoom};
 
 use crate::blocks::{BlockWidths, requested_rows};
@@ -188,6 +189,28 @@ fn concatenate(alloc: Global, first: &[Mask], others: &[Mask]) -> Result<Vec<Mas
 }
 
 impl<'a> SharedTables<'a> {
+    /// A set's row of the members that are wanted, and the place at which the set stands among
+    /// those of its low byte, from some place on. If nothing is wanted any place does.
+    fn row_of_set(
+        &self,
+        byte: &ByteRows,
+        mask: Mask,
+        wanted: Mask,
+        from: usize,
+    ) -> Option<([u32; 16], usize)>
+        requires byte { AreWidthRows self.now byte.now.masks byte.now.masks byte.now.rows }
+        requires members { (x : ℕ) → bit_at wanted x ≡ 1 →
+            IsTrue (has (members self.now.inputs mask) x) }
+        ensures { IfSome result (λ r. IsWidthRow self.now mask wanted r.0) }
+    {
+        if wanted == 0 {
+            return Some(([0; 16], from));
+        }
+        let place = place_of(&byte.masks, mask, from)?;
+        let own = byte.rows.as_slice();
+        Some((members_only(own[place], wanted), place))
+    }
+
     /// The rows of a block's sets, if all of them stand in order among those of its low byte.
     fn rows_of_byte(
         &self,
@@ -202,26 +225,22 @@ impl<'a> SharedTables<'a> {
         ensures { IfOk result (λ found. IfSome found
             (λ rows. AreWidthRows self.now (block_masks block.now) needed.now rows.items)) }
     {
-        let own = byte.rows.as_slice();
         let mut rows = Vec::with_capacity(alloc, block.len())?;
         let mut from = 0;
         for (i, mask) in block.masks().iter().enumerate() {
-            if needed[i] == 0 {
-                rows.push([0; 16])?;
-                continue;
-            }
-            let Some(place) = place_of(&byte.masks, *mask, from) else {
+            let Some(found) = self.row_of_set(byte, *mask, needed[i], from) else {
                 return Ok(None);
             };
-            rows.push(members_only(own[place], needed[i]))?;
-            from = place;
+            let row = found.0;
+            rows.push(row)?;
+            from = found.1;
         }
         Ok(Some(rows))
     }
 
     /// The widths of all members of sets with a block's low byte, and behind them those of the
     /// block's own sets.
-    fn widths_with(
+    fn widths_behind(
         &self,
         alloc: Global,
         later: &[Mask],
@@ -242,6 +261,31 @@ impl<'a> SharedTables<'a> {
         let request = WidthRequest::new(block.inputs(), block.low(), &masks, &needed);
         let widths = requested_rows(alloc, self, &request)?;
         Ok(widths)
+    }
+
+    /// The widths of a block's sets, and the rows of other sets with its low byte.
+    fn widths_with(
+        &self,
+        alloc: Global,
+        later: Vec<Mask>,
+        block: &Block,
+        needed: &[Mask],
+    ) -> Result<(BlockWidths, ByteRows), AllocError>
+        requires asked { AreAsked self.now block.now needed.now }
+        requires later { AreOfByte self.now.inputs block.now.low later.items }
+        ensures rows { IfOk result (λ r. AreRowsOf self.now block.now needed.now r.0.rows) }
+        ensures compactions { IfOk result (λ r. r.0.compactions ≤ most_compactions) }
+        ensures masks { IfOk result (λ r. r.1.masks ≡ later.items) }
+        ensures others { IfOk result (λ r. AreWidthRows self.now r.1.masks r.1.masks r.1.rows) }
+    {
+        let mut widths = self.widths_behind(alloc, &later, block, needed)?;
+        let own = widths.split_off(later.len())?;
+        let byte = ByteRows {
+            low: block.low(),
+            masks: later,
+            rows: widths.into_rows(),
+        };
+        Ok((own, byte))
     }
 }
 
@@ -337,13 +381,7 @@ impl<'a> WidthSource<'a> {
                 .shared
                 .block_widths(alloc, block, needed, &mut tallies.cells);
         }
-        let mut widths = self.shared.widths_with(alloc, &masks, block, needed)?;
-        let own = widths.split_off(masks.len())?;
-        let byte = ByteRows {
-            low: block.low(),
-            masks,
-            rows: widths.into_rows(),
-        };
+        let (own, byte) = self.shared.widths_with(alloc, masks, block, needed)?;
         found.keep(byte, &mut tallies.ahead)?;
         tallies.cells.add_wanted(needed);
         Ok(own)

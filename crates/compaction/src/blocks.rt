@@ -247,6 +247,29 @@ fn walk_from(
     Ok(count)
 }
 
+/// Fills the rows of sets with one low byte, whose table is made here if it wasn't beforehand. The
+/// answer is how many tables the walk compacted.
+fn walk_all(
+    alloc: Global,
+    shared: &SharedTables<'_>,
+    request: &WidthRequest<'_>,
+    rows: &mut [[u32; 16]],
+) -> Result<u32, AllocError>
+    requires inputs { request.now.inputs ≡ shared.now.inputs }
+    requires low { request.now.low < 2 ^ low_of shared.now }
+    requires rows { CanBeFilled shared.now request.now rows.old }
+    ensures rows { OnOk result (HasRows shared.now request.now rows.new) }
+    ensures compactions { IfOk result
+        (λ count. count + 1 ≤ 2 ^ (shared.now.inputs - low_of shared.now)) }
+{
+    let low = Mask::from(request.low);
+    if let Some(table) = shared.table(low) {
+        return walk_from(alloc, shared, table, request, rows);
+    }
+    let table = low_strips(alloc, shared, low)?;
+    walk_from(alloc, shared, &table, request, rows)
+}
+
 /// The rows of sets with one low byte. The table of that is made once, and the others by a walk
 /// over the high variables that shares common beginnings. If nothing is wanted no table is made.
 pub(crate) fn requested_rows(
@@ -269,13 +292,7 @@ pub(crate) fn requested_rows(
             compactions: 0,
         });
     }
-    let walked = match shared.table(low) {
-        Some(table) => walk_from(alloc, shared, table, request, &mut rows)?,
-        None => {
-            let table = low_strips(alloc, shared, low)?;
-            walk_from(alloc, shared, &table, request, &mut rows)?
-        }
-    };
+    let walked = walk_all(alloc, shared, request, &mut rows)?;
     Ok(BlockWidths {
         rows,
         compactions: low.count_ones() + walked,

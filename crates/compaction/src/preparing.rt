@@ -1,7 +1,8 @@
 //! What a search begins with before a bound is known: rows are facts about the functions, and ask
 //! for none.
 
-ghost use Rattle.std.specs.Prelude.{◌≡◌, ◌^◌, ◌<◌, ◌≤◌, All, length, vec_len, IfOk};
+ghost use Rattle.std.specs.Prelude.{◌≡◌, ◌+◌, ◌^◌, ◌<◌, ◌≤◌, All, length, vec_len, IfOk, OnOk};
+ghost use Rattle.order_model.specs.Problems.{TruthTables};
 ghost use Rattle.compaction.specs.Ahead.{AreAhead, widths_ahead};
 ghost use Rattle.compaction.specs.Rows.{AreWidthRows};
 
@@ -119,6 +120,24 @@ impl<'a> SharedTables<'a> {
     }
 }
 
+/// Adds what a thread found.
+fn add_part(found: &mut WidthsAhead, tally: &mut Tally, part: Part) -> Result<(), AllocError>
+    requires room { tally.old ≤ 2 ^ 30 }
+    ensures found { OnOk result ((p : TruthTables) → AreAhead p found.old → AreAhead p part.found →
+        AreAhead p found.new) }
+    ensures counted { OnOk result
+        (tally.new + widths_ahead found.old ≡ tally.old + widths_ahead found.new) }
+    ensures few { OnOk result (tally.new ≤ tally.old + 2 ^ 24) }
+{
+    let Part {
+        found: own,
+        tally: taken,
+    } = part;
+    found.append(own)?;
+    tally.add(taken.count());
+    Ok(())
+}
+
 /// What all threads found.
 fn collect(
     alloc: Global,
@@ -135,14 +154,36 @@ fn collect(
     let mut found = WidthsAhead::up_to(alloc, end);
     let mut tally = Tally::new();
     while let Some(part) = parts.pop() {
-        let Part {
-            found: own,
-            tally: taken,
-        } = part?;
-        found.append(own)?;
-        tally.add(taken.count());
+        add_part(&mut found, &mut tally, part?)?;
     }
     Ok((found, tally))
+}
+
+impl<'a> SharedTables<'a> {
+    /// The rows that the workers find, up to a size, and how many widths they hold.
+    fn rows_by_workers<R: Threads + Sync>(
+        &self,
+        rt: &R,
+        alloc: Global,
+        pairs: &Pairs,
+        end: u8,
+        workers: Workers,
+    ) -> Result<(WidthsAhead, Tally), AllocError>
+        ensures found { IfOk result (λ r. AreAhead self.now r.0) }
+        ensures counted { IfOk result (λ r. r.1 ≡ widths_ahead r.0) }
+    {
+        let count = usize::from(workers.count()) * usize::from(end.min(1));
+        let turns = Turns::new();
+        let parts = thread::map_indices(
+            rt,
+            alloc,
+            count,
+            &|_worker: usize| -> Result<Part, AllocError>
+                ensures { IfOk result (λ p. AreAhead self.entry.now p.found) }
+            { self.part_of(alloc, pairs, end, &turns) },
+        )?;
+        collect(alloc, self.problem(), end, parts)
+    }
 }
 
 /// What a search begins with: what serves several blocks, and rows that were found before a bound
@@ -193,17 +234,7 @@ impl<'a> Preparation<'a> {
         ensures { IfOk result (λ p. p.problem ≡ problem.now) }
     {
         let shared = SharedTables::by_threads(rt, alloc, problem, workers)?;
-        let count = usize::from(workers.count()) * usize::from(end.min(1));
-        let turns = Turns::new();
-        let parts = thread::map_indices(
-            rt,
-            alloc,
-            count,
-            &|_worker: usize| -> Result<Part, AllocError>
-                ensures { IfOk result (λ p. AreAhead shared.entry p.found) }
-            { shared.part_of(alloc, pairs, end, &turns) },
-        )?;
-        let (found, tally) = collect(alloc, problem, end, parts)?;
+        let (found, tally) = shared.rows_by_workers(rt, alloc, pairs, end, workers)?;
         Ok(Preparation {
             shared,
             found,

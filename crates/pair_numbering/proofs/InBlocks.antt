@@ -1,13 +1,14 @@
 -- Pairs by blocks, as a loop over the blocks comes to them.
 --     InBlock numbers rank block i      pair i of a block is one of the table
---     in_block, step_is, place_is, all_pairs      the block, its length, the place and the end, as the code has them
+--     in_step, in_block, step_is, place_is, all_pairs      the block, its length, the place and the end, as the code has them
 --     listed_inside      the pair is listed
-use Rattle.std.proofs.Common.{◌≡◌, ℕ, ◌+◌, ◌*◌, ◌/◌, ◌%◌, ◌^◌, ◌<◌, ◌≤◌, List, length, ap, ◌∙◌, subst, arith}
-use Rattle.std.proofs.lemmas.Nat.{one_shl}
-use Rattle.class_laws.specs.PairTables.{IsPaired}
-use Rattle.class_laws.specs.Places.{pairs}
+--     pair_inside      both halves of a pair are classes
+use Rattle.std.proofs.Common.{◌≡◌, ℕ, ◌+◌, ◌*◌, ◌/◌, ◌%◌, ◌^◌, ◌<◌, ◌≤◌, List, length, sym, ap, ◌∙◌, subst, arith}
+use Rattle.std.proofs.lemmas.Nat.{one_shl, pow_pos}
+use Rattle.class_laws.specs.PairTables.{AllBelow, IsPaired}
+use Rattle.class_laws.specs.Places.{pairs, pair_at, low_place}
 use Rattle.class_laws.proofs.BlockPlaces.{block_all, block_inside}
-use Rattle.class_laws.proofs.Index.{length-pairs}
+use Rattle.class_laws.proofs.Index.{length-pairs, pair_within}
 
 -- pair i of a block is one of the table
 pub record InBlock (numbers : List ℕ) (rank block i : ℕ) : Type 0 where
@@ -22,11 +23,11 @@ module _ (numbers : List ℕ) (rank : ℕ) (paired : IsPaired numbers rank) wher
   pub inside_is : (half r block : ℕ) → half ≡ length numbers / 2 → r ≡ rank → block < half / 2 ^ r → block < length numbers / 2 / 2 ^ rank
   inside_is half r block h e l = subst (λ z. z) (λ t. block < h t / 2 ^ e t) l
 
+  pub in_step : (r block i : ℕ) → r ≡ rank → block < length numbers / 2 / 2 ^ rank → i < 1 * 2 ^ r % 2 ^ 64 → InBlock numbers rank block i
+  in_step r block i e inside m = record { inside = inside; early = subst (λ z. i < z) (step_is r e) m }
+
   pub in_block : (half r block i : ℕ) → half ≡ length numbers / 2 → r ≡ rank → block < half / 2 ^ r → i < 1 * 2 ^ r % 2 ^ 64 → InBlock numbers rank block i
-  in_block half r block i h e l m = record {
-    inside = inside_is half r block h e l;
-    early = subst (λ z. i < z) (step_is r e) m;
-  }
+  in_block half r block i h e l m = in_step r block i e (inside_is half r block h e l) m
 
   pub place_is : (r block i : ℕ) → r ≡ rank → block * (1 * 2 ^ r % 2 ^ 64) + i ≡ block * 2 ^ rank + i
   place_is r block i e = ap (λ z. block * z + i) (step_is r e)
@@ -41,3 +42,10 @@ module _ (numbers : List ℕ) (rank : ℕ) (paired : IsPaired numbers rank) wher
         let l = length-pairs numbers (2 ^ rank) in
         let b = block_inside (length numbers) rank block i paired.whole here.inside here.early in
         omega arith
+
+  pub pair_inside : (classes j : ℕ) (p : ℕ × ℕ) → AllBelow numbers classes → j < length numbers / 2 → p ≡ pair_at numbers (2 ^ rank) j →
+      (p.0 < classes) × (p.1 < classes)
+  pair_inside classes j p below small e =
+      let w = pair_within (2 ^ rank) paired.whole.0 (length numbers) j (pow_pos rank) paired.whole.1 small in
+      let low : low_place (2 ^ rank) j < length numbers = omega arith in
+      subst (λ (q : ℕ × ℕ). (q.0 < classes) × (q.1 < classes)) (sym e) (below (low_place (2 ^ rank) j) low, below (low_place (2 ^ rank) j + 2 ^ rank) w)

@@ -1,40 +1,19 @@
 -- Steps of the numbering by slots.
---     Found ps home slots keys count i      pair i has a slot behind taken ones
---     Slotted ps home slots keys out count j      the numbering has come to pair j
 --     slotted_none      no pair yet
 --     slotted_step      one more pair, whose number is that of the first pair like it
 --     slotted_old, slotted_new      it has come before; it is new
-use Rattle.std.proofs.Common.{◌≡◌, ◌≢◌, ℕ, ◌+◌, ◌*◌, ◌<◌, ◌≤◌, ◌⊎◌, inl, inr, List, length, get_or, set, take, refl, sym, ap, ◌∙◌, subst, arith}
+use Rattle.std.proofs.Common.{◌≡◌, ◌≢◌, ℕ, ◌+◌, ◌*◌, ◌<◌, ◌≤◌, inl, inr, List, length, get_or, set, take, refl, sym, ap, ◌∙◌, subst, arith}
 use Rattle.std.proofs.Math.Nat.{min-eq_left, min-eq_right}
 use Rattle.std.proofs.lemmas.Bool.{cases_eq, cases_lt}
 use Rattle.std.proofs.lemmas.List.{get_or-set_same, get_or-set_other, length-set, length-take, take-set, take_more_set}
 use Rattle.class_laws.specs.Numbering.{IsFirst}
-use Rattle.pair_numbering.specs.Slots.{IsSlot, slot_number}
+use Rattle.pair_numbering.specs.Slots.{Found, IsSlot, Slotted, slot_number}
 use Rattle.class_laws.proofs.Firsts.{Made, made_none, made_first, made_again}
 
 module _ (ps : List (ℕ × ℕ)) (home : ℕ × ℕ → ℕ) where
-  -- pair i is in a slot behind taken ones
-  abbrev pub Found : List ℕ → List (ℕ × ℕ) → ℕ → ℕ → Type 0
-  Found slots keys count i =
-      (t : ℕ) × (home (get_or ps i (0, 0)) ≤ t) × (t < length slots) × (get_or slots t 0 < count)
-      × (get_or keys (get_or slots t 0) (0, 0) ≡ get_or ps i (0, 0))
-      × ((u : ℕ) → home (get_or ps i (0, 0)) ≤ u → u < t → get_or slots u 0 < count)
-
-  -- the numbering has come to pair j: a slot below `count` has a number, and each pair is found from its home on
-  pub record Slotted (slots : List ℕ) (keys : List (ℕ × ℕ)) (out : List ℕ) (count j : ℕ) : Type 0 where
-    pub long_keys : length keys ≡ length ps
-    pub room : length slots ≡ 4 * length ps + 64
-    pub few : count ≤ j
-    pub made : Made (0, 0) ps (λ p. p) out (take count keys) j
-    pub free : (t : ℕ) → t < length slots → (get_or slots t 0 < count) ⊎ (get_or slots t 0 ≡ length ps)
-    pub each : (t : ℕ) → t < length slots → get_or slots t 0 < count →
-        (i : ℕ) × (i < j) × (get_or out i 0 ≡ get_or slots t 0) × (get_or ps i (0, 0) ≡ get_or keys (get_or slots t 0) (0, 0))
-        × ((k : ℕ) → k < i → get_or ps k (0, 0) ≢ get_or ps i (0, 0))
-    pub there : (i : ℕ) → i < j → Found slots keys count i
-
   pub slotted_none : (slots : List ℕ) (keys : List (ℕ × ℕ)) (out : List ℕ) → length keys ≡ length ps → length out ≡ length ps →
       length slots ≡ 4 * length ps + 64 →
-      ((t : ℕ) → t < length slots → get_or slots t 0 ≡ length ps) → Slotted slots keys out 0 0
+      ((t : ℕ) → t < length slots → get_or slots t 0 ≡ length ps) → Slotted ps home slots keys out 0 0
   slotted_none slots keys out k o r f = record {
     long_keys = k;
     room = r;

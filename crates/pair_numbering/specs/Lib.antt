@@ -1,3 +1,4 @@
+pub mod Cells
 pub mod Chains
 pub mod Keys
 pub mod Numbers

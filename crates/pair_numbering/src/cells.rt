@@ -1,13 +1,124 @@
 //! Numbers of pairs by first occurrence, by a cell for each pair of classes.
 
-ghost use Rattle.std.specs.Prelude.{◌≡◌, ℕ, ◌+◌, ◌*◌, ◌^◌, ◌<◌, ◌≤◌, length, slice_index, IfOk};
+ghost use Rattle.std.specs.Prelude.{◌≡◌, ℕ, ◌+◌, ◌*◌, ◌/◌, ◌^◌, ◌<◌, ◌≤◌, length, slice_index, take, IfOk};
 ghost use Rattle.class_laws.specs.Places as places;
 ghost use Rattle.class_laws.specs.PairTables.{IsPairTable, NumbersPairs};
+ghost use Rattle.pair_numbering.specs.Cells.{AreCelled};
 
 use crate::entries::{Block, EntryPairs};
+use crate::masks::MaskedPairs;
 use crate::numbering::Numbered;
 use point_classes::join_mask;
 use std::alloc::{AllocError, Global};
+
+/// Numbers the pairs of a block, with a branch on whether a pair is new. The answer is how many
+/// numbers there are then.
+#[inline(always)]
+fn number_block(
+    pairs: &MaskedPairs<'_>,
+    block: usize,
+    cells: &mut [u32],
+    out: &mut [u32],
+    joined: &mut [u16],
+    count: u32,
+) -> u32
+    requires table { IsPairTable pairs.now.entries.now.numbers pairs.now.entries.now.rank
+        (length pairs.now.masks.now) }
+    requires few { length pairs.now.masks.now ≤ 2 ^ 20 }
+    requires block { block <
+        length pairs.now.entries.now.numbers / 2 / 2 ^ pairs.now.entries.now.rank }
+    requires before { AreCelled pairs.now block cells.old out.old joined.old count }
+    ensures { AreCelled pairs.now (block + 1) cells.new out.new joined.new result }
+{
+    let masks = pairs.masks;
+    let classes = masks.len();
+    let step = 1usize << pairs.entries.rank();
+    let Block { low, high } = pairs.entries.block(block);
+    let mut count = count;
+    for i in 0..step {
+        let pair = (low[i], high[i]);
+        let cell = pair.0 as usize * classes + pair.1 as usize;
+        let mut next = cells[cell];
+        if next == 0 {
+            joined[count as usize] = join_mask(masks, pairs.x, pair);
+            count += 1;
+            next = count;
+            cells[cell] = next;
+        }
+        out[block * step + i] = next - 1;
+    }
+    count
+}
+
+/// The same with no such branch, and more to write.
+#[inline(always)]
+fn number_block_evenly(
+    pairs: &MaskedPairs<'_>,
+    block: usize,
+    cells: &mut [u32],
+    out: &mut [u32],
+    joined: &mut [u16],
+    count: u32,
+) -> u32
+    requires table { IsPairTable pairs.now.entries.now.numbers pairs.now.entries.now.rank
+        (length pairs.now.masks.now) }
+    requires few { length pairs.now.masks.now ≤ 2 ^ 20 }
+    requires block { block <
+        length pairs.now.entries.now.numbers / 2 / 2 ^ pairs.now.entries.now.rank }
+    requires before { AreCelled pairs.now block cells.old out.old joined.old count }
+    ensures { AreCelled pairs.now (block + 1) cells.new out.new joined.new result }
+{
+    let masks = pairs.masks;
+    let classes = masks.len();
+    let step = 1usize << pairs.entries.rank();
+    let Block { low, high } = pairs.entries.block(block);
+    let mut count = count;
+    for i in 0..step {
+        let pair = (low[i], high[i]);
+        let cell = pair.0 as usize * classes + pair.1 as usize;
+        let next = cells[cell];
+        let number = if next == 0 { count } else { next - 1 };
+        cells[cell] = number + 1;
+        joined[count as usize] = join_mask(masks, pairs.x, pair);
+        out[block * step + i] = number;
+        if next == 0 {
+            count += 1;
+        }
+    }
+    count
+}
+
+/// Writes the numbers of the pairs and their masks. The answer is how many masks there are.
+#[inline(always)]
+fn number_blocks(
+    pairs: &MaskedPairs<'_>,
+    cells: &mut [u32],
+    out: &mut [u32],
+    joined: &mut [u16],
+) -> u32
+    requires table { IsPairTable pairs.now.entries.now.numbers pairs.now.entries.now.rank
+        (length pairs.now.masks.now) }
+    requires few { length pairs.now.masks.now ≤ 2 ^ 20 }
+    requires cells { length cells.old ≡ length pairs.now.masks.now * length pairs.now.masks.now }
+    requires empty { (k : ℕ) → k < length cells.old → slice_index cells.old k ≡ 0 }
+    requires out { length out.old ≡ length pairs.now.entries.now.numbers / 2 }
+    requires joined { length joined.old ≡ length pairs.now.entries.now.numbers / 2 }
+    ensures { NumbersPairs pairs.now.masks.now pairs.now.x
+        (places.pairs pairs.now.entries.now.numbers (2 ^ pairs.now.entries.now.rank))
+        out.new (take result joined.new) }
+{
+    let rank = pairs.entries.rank();
+    let step = 1usize << rank;
+    let mut count = 0u32;
+    for block in 0..pairs.entries.len() >> rank {
+        count = if 4 * count as usize > block * step {
+            number_block_evenly(pairs, block, cells, out, joined, count)
+        } else {
+            number_block(pairs, block, cells, out, joined, count)
+        };
+    }
+    count
+}
 
 /// The numbers of the pairs and their masks. A cell is 0, or one more than the number of its pair.
 /// If many pairs were new so far a block is numbered without a branch on whether a pair is new.
@@ -27,43 +138,11 @@ pub fn number_pairs_by_cells(
         (λ v. NumbersPairs masks.now x (places.pairs entries.now.numbers (2 ^ entries.now.rank))
         v.numbers.items v.masks.items) }
 {
-    let rank = entries.rank();
-    let step = 1usize << rank;
     let half = entries.len();
-    let classes = masks.len();
     let mut joined = vec![in alloc; 0u16; half]?;
     let mut out = vec![in alloc; 0u32; half]?;
-    let mut count = 0u32;
-    for block in 0..half >> rank {
-        let Block { low, high } = entries.block(block);
-        if 4 * count as usize > block * step {
-            for i in 0..step {
-                let pair = (low[i], high[i]);
-                let cell = pair.0 as usize * classes + pair.1 as usize;
-                let next = cells[cell];
-                let number = if next == 0 { count } else { next - 1 };
-                cells[cell] = number + 1;
-                joined[count as usize] = join_mask(masks, x, pair);
-                out[block * step + i] = number;
-                if next == 0 {
-                    count += 1;
-                }
-            }
-        } else {
-            for i in 0..step {
-                let pair = (low[i], high[i]);
-                let cell = pair.0 as usize * classes + pair.1 as usize;
-                let mut next = cells[cell];
-                if next == 0 {
-                    joined[count as usize] = join_mask(masks, x, pair);
-                    count += 1;
-                    next = count;
-                    cells[cell] = next;
-                }
-                out[block * step + i] = next - 1;
-            }
-        }
-    }
+    let pairs = MaskedPairs { entries, masks, x };
+    let count = number_blocks(&pairs, cells, &mut out, &mut joined);
     joined.truncate(count as usize);
     Ok(Numbered {
         numbers: out,

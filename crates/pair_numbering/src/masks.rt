@@ -4,8 +4,18 @@ ghost use Rattle.std.specs.Prelude.{◌≡◌, ℕ, ◌<◌, map, length, IfOk};
 ghost use Rattle.class_laws.specs.Dependence.{joined_mask};
 ghost use Rattle.pair_numbering.specs.Numbers.{ArePairsBelow};
 
+use crate::entries::EntryPairs;
 use point_classes::join_mask;
 use std::alloc::{AllocError, Global};
+
+/// The pairs of a class table's entries that differ in variable `x`, and the mask of each class.
+#[derive(Drop)]
+pub(crate) struct MaskedPairs<'e> {
+    pub(crate) entries: &'e EntryPairs<'e>,
+    pub(crate) masks: &'e [u16],
+    pub(crate) x: u8,
+    ghost variable: { x < 16 },
+}
 
 /// The masks of pairs.
 pub fn join_masks(

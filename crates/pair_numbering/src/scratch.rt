@@ -8,6 +8,7 @@ ghost use Rattle.pair_numbering.specs.Chains.{AreFirsts};
 
 use crate::chains::{Chains, chain, first_occurrences};
 use crate::entries::EntryPairs;
+use crate::masks::MaskedPairs;
 use order_model::{Problem, contains};
 use point_classes::join_mask;
 use std::alloc::{AllocError, Global};
@@ -59,8 +60,9 @@ impl Scratch {
         ensures count { CountsMasks masks.now x (places.pairs numbers.now (2 ^ rank)) result }
         ensures same { self.new ≡ self.old }
     {
+        let entries = EntryPairs::of_table(numbers, rank);
         let pairs = MaskedPairs {
-            entries: EntryPairs::of_table(numbers, rank),
+            entries: &entries,
             masks,
             x,
         };
@@ -75,31 +77,22 @@ impl Scratch {
     }
 }
 
-/// The pairs of a class table's entries that differ in variable `x`, and the mask of each class.
-#[derive(Drop)]
-struct MaskedPairs<'e, 'm> {
-    entries: EntryPairs<'e>,
-    masks: &'m [u16],
-    x: u8,
-    ghost variable: { x < 16 },
-}
-
 /// How many distinct pairs have a mask with `x`, in rows that are long enough.
 fn count_in(
-    pairs: &MaskedPairs<'_, '_>,
+    pairs: &MaskedPairs<'_>,
     heads: &mut [u32],
     next: &mut [u32],
     stamps: &mut [u32],
     marks: &mut [u32],
     first: &mut [u32],
 ) -> u32
-    requires table { IsPairTable pairs.now.entries.numbers pairs.now.entries.rank
+    requires table { IsPairTable pairs.now.entries.now.numbers pairs.now.entries.now.rank
         (length pairs.now.masks.now) }
-    requires few { length pairs.now.masks.now ≤ length pairs.now.entries.numbers }
+    requires few { length pairs.now.masks.now ≤ length pairs.now.entries.now.numbers }
     requires rows { AreLong (length heads.old) next.old stamps.old marks.old first.old }
-    requires long { length pairs.now.entries.numbers ≤ length heads.old }
+    requires long { length pairs.now.entries.now.numbers ≤ length heads.old }
     ensures { CountsMasks pairs.now.masks.now pairs.now.x
-        (places.pairs pairs.now.entries.numbers (2 ^ pairs.now.entries.rank)) result }
+        (places.pairs pairs.now.entries.now.numbers (2 ^ pairs.now.entries.now.rank)) result }
 {
     let classes = pairs.masks.len();
     let half = pairs.entries.len();
@@ -110,19 +103,19 @@ fn count_in(
     let first = &mut first[..half];
     heads.fill(half as u32);
     stamps.fill(0);
-    chain(&pairs.entries, heads, next);
-    let chains = Chains::of(&pairs.entries, heads, next);
+    chain(pairs.entries, heads, next);
+    let chains = Chains::of(pairs.entries, heads, next);
     first_occurrences(&chains, stamps, marks, first);
     count_firsts(pairs, first)
 }
 
 /// How many pairs that are the first of their kind have a mask with `x`.
-fn count_firsts(pairs: &MaskedPairs<'_, '_>, first: &[u32]) -> u32
-    requires table { IsPairTable pairs.now.entries.numbers pairs.now.entries.rank
+fn count_firsts(pairs: &MaskedPairs<'_>, first: &[u32]) -> u32
+    requires table { IsPairTable pairs.now.entries.now.numbers pairs.now.entries.now.rank
         (length pairs.now.masks.now) }
-    requires first { AreFirsts pairs.now.entries first.now }
+    requires first { AreFirsts pairs.now.entries.now first.now }
     ensures { CountsMasks pairs.now.masks.now pairs.now.x
-        (places.pairs pairs.now.entries.numbers (2 ^ pairs.now.entries.rank)) result }
+        (places.pairs pairs.now.entries.now.numbers (2 ^ pairs.now.entries.now.rank)) result }
 {
     let masks = pairs.masks;
     let x = pairs.x;

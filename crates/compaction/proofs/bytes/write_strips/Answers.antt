@@ -1,9 +1,9 @@
-use Rattle.std.proofs.Common.{◌≡◌, ◌+◌, ◌*◌, ◌++◌, ◌∷◌, [], get_or, set, take, length, sym, ap, subst, ◌∙◌, arith}
+use Rattle.std.proofs.Common.{◌≡◌, ◌+◌, ◌*◌, ◌<◌, ◌++◌, ◌∷◌, [], get_or, set, take, length, sym, ap, subst, ◌∙◌, arith}
 use Rattle.std.proofs.lemmas.List.{take_more, take_more_set, take_all, length-set}
 use Rattle.pair_numbering.specs.Strips.{unrolled}
 use Rattle.class_laws.proofs.BlockPlaces.{block_next}
 use Rattle.compaction.proofs.Stripped.{below_product}
-use Rattle.pair_numbering.proofs.Unrolled.{length_named, named_at}
+use Rattle.pair_numbering.proofs.Unrolled.{length_named, named_at, named_inside}
 use Rattle.compaction.proofs.bytes.write_strips.Goals as goal
 
 pub loop-a-init : goal.loop-a-init
@@ -12,6 +12,43 @@ loop-a-init c = record {
   done = subst (λ z. take z c.loop-i.out ≡ take z (unrolled c.args.names.now c.args.numbers.now c.args.strip))
       (let e : c.loop-i.i * c.args.strip ≡ c.loop-i.i * c.args.strip + 0 = omega arith in e) c.loop-i.invariant.done;
 }
+
+pub overflow_mul-start : goal.overflow_mul-start
+overflow_mul-start c =
+    let n = named_inside c.args.names.now c.args.numbers.now c.args.strip c.requires.named c.loop-i.i c.loop-i-test.true in
+    let few = c.requires.few in
+    omega (arith, n, few)
+
+pub overflow_add-out : goal.overflow_add-out
+overflow_add-out c =
+    let n = named_inside c.args.names.now c.args.numbers.now c.args.strip c.requires.named c.loop-i.i c.loop-i-test.true in
+    let few = c.requires.few in
+    let t = c.loop-a-test.true in
+    omega (arith, n, few, t)
+
+pub bounds-numbers-start : goal.bounds-numbers-start
+bounds-numbers-start c =
+    let n = named_inside c.args.names.now c.args.numbers.now c.args.strip c.requires.named c.loop-i.i c.loop-i-test.true in
+    let few = c.requires.few in
+    let t = c.loop-a-test.true in
+    omega (arith, n, t)
+
+pub overflow_mul-out : goal.overflow_mul-out
+overflow_mul-out c =
+    let b = below_product c.loop-i.i (length c.args.names.now) c.args.strip c.loop-a.a c.loop-i-test.true c.loop-a-test.true in
+    let small = c.requires.small in
+    omega (arith, b, small)
+
+pub overflow_add-out-in-loop-a : goal.overflow_add-out-in-loop-a
+overflow_add-out-in-loop-a c =
+    let b = below_product c.loop-i.i (length c.args.names.now) c.args.strip c.loop-a.a c.loop-i-test.true c.loop-a-test.true in
+    let small = c.requires.small in
+    omega (arith, b, small)
+
+pub bounds-out-i : goal.bounds-out-i
+bounds-out-i c =
+    let b = below_product c.loop-i.i (length c.args.names.now) c.args.strip c.loop-a.a c.loop-i-test.true c.loop-a-test.true in
+    subst (λ k. c.loop-i.i * c.args.strip + c.loop-a.a < k) (sym c.loop-a.invariant.long) b
 
 pub loop-a-preserved : goal.loop-a-preserved
 loop-a-preserved c =

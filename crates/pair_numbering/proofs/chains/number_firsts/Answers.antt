@@ -16,6 +16,14 @@ loop-j-init c =
     subst (λ us. Made (0, 0) ps (λ p. p) c.in_ok-out.out.items us 0) (sym c.new-pairs.ensures.items)
     (made_none (0, 0) ps (λ p. p) c.in_ok-out.out.items (omega arith))
 
+pub index_mut-requires : goal.index_mut-requires
+index_mut-requires c =
+    let long = c.requires.first.long in
+    let o = c.loop-j.invariant.long in
+    let t = c.loop-j-test.true in
+    let l = length-pairs c.args.entries.now.numbers (2 ^ c.args.entries.now.rank) in
+    omega (arith, long, o, t, l)
+
 pub index_mut-requires-else-f-j : goal.index_mut-requires-else-f-j
 index_mut-requires-else-f-j c =
     let long = c.requires.first.long in

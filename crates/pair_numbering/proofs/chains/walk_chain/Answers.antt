@@ -1,12 +1,48 @@
-use Rattle.std.proofs.Common.{◌≡◌, ◌≢◌, ℕ, ◌+◌, ◌/◌, ◌^◌, ◌<◌, get_or, set, length, sym, ap, subst, ◌∙◌, arith}
+use Rattle.std.proofs.Common.{◌≡◌, ◌≢◌, ℕ, ◌+◌, ◌/◌, ◌^◌, ◌<◌, ◌≤◌, List, get_or, set, length, sym, ap, subst, ◌∙◌, arith}
 use Rattle.std.proofs.lemmas.List.{get_or-set_other}
 use Rattle.std.proofs.lemmas.Nat.{pow_pos}
+use Rattle.class_laws.specs.PairTables.{AllBelow, IsPaired}
 use Rattle.class_laws.specs.Places as places
 use Rattle.pair_numbering.specs.Chains.{IsNext, lower_at, upper_at}
 use Rattle.class_laws.proofs.Index.{pair_within}
+use Rattle.pair_numbering.proofs.InBlocks.{pair_inside}
 use Rattle.pair_numbering.proofs.Chained.{Walk, walk_again, walk_new}
 use Rattle.pair_numbering.proofs.chains.walk_chain.Goals as goal
 use Rattle.pair_numbering.proofs.chains.walk_chain.Goals.{then-stamps-upper, else-stamps-upper}
+
+-- the upper class of a pair is a class
+upper_inside : (cs : List ℕ) (rank classes j : ℕ) (pair : ℕ × ℕ) (rows : List ℕ) → IsPaired cs rank → AllBelow cs classes → j < length cs / 2 →
+    pair ≡ places.pair_at cs (2 ^ rank) j → length rows ≡ classes → pair.1 < length rows
+upper_inside cs rank classes j pair rows paired below small here long =
+    subst (λ n. pair.1 < n) (sym long) (pair_inside cs rank paired classes j pair below small here).1
+
+-- the walk stands at a pair
+pair_there : (half len j : ℕ) → len ≡ half → j < len → j < half
+pair_there half len j e l = subst (λ z. j < z) e l
+
+-- at its end it is past all of them
+pair_past : (half len at j : ℕ) → len ≡ half → len ≤ at → j < half → j < at
+pair_past half len at j e l m = omega arith
+
+pub bounds-stamps-upper : goal.bounds-stamps-upper
+bounds-stamps-upper c =
+    upper_inside _ _ _ c.loop-j.j c.pair-upper.result c.loop-j.stamps c.requires.paired c.requires.classes
+    (pair_there _ _ c.loop-j.j c.args.chains.now.after.long c.loop-j-test.true) c.pair-upper.ensures c.loop-j.auto.stamps
+
+pub bounds-stamps-upper-else-stamps-upper : goal.bounds-stamps-upper-else-stamps-upper
+bounds-stamps-upper-else-stamps-upper c =
+    upper_inside _ _ _ c.loop-j.j c.pair-upper.result c.loop-j.stamps c.requires.paired c.requires.classes
+    (pair_there _ _ c.loop-j.j c.args.chains.now.after.long c.loop-j-test.true) c.pair-upper.ensures c.loop-j.auto.stamps
+
+pub bounds-marks-upper : goal.bounds-marks-upper
+bounds-marks-upper c =
+    upper_inside _ _ _ c.loop-j.j c.pair-upper.result c.loop-j.marks c.requires.paired c.requires.classes
+    (pair_there _ _ c.loop-j.j c.args.chains.now.after.long c.loop-j-test.true) c.pair-upper.ensures (c.loop-j.auto.marks ∙ c.requires.marks_len)
+
+pub bounds-marks-upper-else-stamps-upper : goal.bounds-marks-upper-else-stamps-upper
+bounds-marks-upper-else-stamps-upper c =
+    upper_inside _ _ _ c.loop-j.j c.pair-upper.result c.loop-j.marks c.requires.paired c.requires.classes
+    (pair_there _ _ c.loop-j.j c.args.chains.now.after.long c.loop-j-test.true) c.pair-upper.ensures (c.loop-j.auto.marks ∙ c.requires.marks_len)
 
 pub loop-j-preserved : goal.loop-j-preserved
 loop-j-preserved c =
@@ -54,3 +90,6 @@ loop-j-preserved c =
             | else-stamps-upper u ↦ ap (λ us. get_or us i 0) u.first-is ∙ get_or-set_other first j i _ 0 d ∙ c.loop-j.invariant.others i ne
           ];
     }
+
+pub returns-clause-own : goal.returns-clause-own
+returns-clause-own c = λ j l e. c.loop-j.invariant.walk.own j (pair_past _ _ _ j c.args.chains.now.after.long c.loop-j-test.false l) e

@@ -5,6 +5,7 @@ use Rattle.class_laws.specs.Places as places
 use Rattle.class_laws.specs.Numbering.{IsFirst}
 use Rattle.class_laws.proofs.Index.{length-pairs, pair_listed}
 use Rattle.class_laws.proofs.Firsts.{Made, made_none, made_first, made_numbers, made_many, made_told}
+use Rattle.pair_numbering.proofs.InBlocks.{pair_inside}
 use Rattle.pair_numbering.proofs.distinct.number_distinct_pairs.Goals as goal
 
 pub loop-j-init : goal.loop-j-init
@@ -18,6 +19,20 @@ loop-j-init c =
       long = omega arith;
       made = made_none 0 ps (joined_mask c.args.masks.now c.args.x) c.in_ok-out.out.items (omega arith);
     }
+
+pub join_mask-requires-clause-lower : goal.join_mask-requires-clause-lower
+join_mask-requires-clause-lower c =
+    let count = c.len-half.ensures.count in
+    let t = c.loop-j-test.true in
+    (pair_inside c.args.entries.now.numbers c.args.entries.now.rank c.requires.table.paired (length c.args.masks.now) c.loop-j.j c.pair.result
+    c.requires.table.below (omega (arith, count, t)) c.pair.ensures).0
+
+pub join_mask-requires-clause-upper : goal.join_mask-requires-clause-upper
+join_mask-requires-clause-upper c =
+    let count = c.len-half.ensures.count in
+    let t = c.loop-j-test.true in
+    (pair_inside c.args.entries.now.numbers c.args.entries.now.rank c.requires.table.paired (length c.args.masks.now) c.loop-j.j c.pair.result
+    c.requires.table.below (omega (arith, count, t)) c.pair.ensures).1
 
 pub loop-j-preserved : goal.loop-j-preserved
 loop-j-preserved c =

@@ -1,0 +1,36 @@
+use Rattle.std.proofs.Common.{◌≡◌, ◌*◌, ◌^◌, ◌≤◌, length, take, sym, subst, arith}
+use Rattle.class_laws.specs.Dependence.{joined_mask}
+use Rattle.class_laws.specs.Places as places
+use Rattle.class_laws.proofs.Index.{length-pairs}
+use Rattle.class_laws.proofs.Firsts.{made_numbers, made_many, made_told}
+use Rattle.pair_numbering.proofs.InBlocks.{all_pairs}
+use Rattle.pair_numbering.proofs.CellSteps.{fronted_none}
+use Rattle.pair_numbering.proofs.cells.number_blocks.Goals as goal
+
+pub loop-block-init : goal.loop-block-init
+loop-block-init c =
+    let pairs = c.args.pairs.now in
+    let z : 0 * 2 ^ pairs.entries.now.rank ≡ 0 = omega arith in
+    rw z
+    (fronted_none pairs.masks.now pairs.x pairs.entries.now.numbers pairs.entries.now.rank c.args.cells.now c.args.out.now c.args.joined.now
+    c.requires.out c.requires.joined c.requires.cells c.requires.empty)
+
+pub returns : goal.returns
+returns c =
+    let pairs = c.args.pairs.now in
+    let rank = pairs.entries.now.rank in
+    let ps = places.pairs pairs.entries.now.numbers (2 ^ rank) in
+    let join = joined_mask pairs.masks.now pairs.x in
+    let out = c.loop-block.out in
+    let joined = take c.loop-block.count c.loop-block.joined in
+    let j = c.loop-block.block * 2 ^ rank in
+    let made = c.loop-block.invariant.celled.made in
+    let l = length-pairs pairs.entries.now.numbers (2 ^ rank) in
+    let a = all_pairs pairs.entries.now.numbers rank c.requires.table.paired c.len.result c.rank-rank.result c.loop-block.block c.len.ensures.count
+    c.rank-rank.ensures.rank c.loop-block-test.false in
+    let all : length ps ≤ j = subst (λ n. n ≤ j) (sym l) a in
+    record {
+      numbers_are = made_numbers 0 ps join out joined j all made;
+      many = made_many 0 ps join out joined j all made;
+      told = made_told 0 ps join out joined j all made;
+    }

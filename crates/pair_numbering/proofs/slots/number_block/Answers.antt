@@ -1,0 +1,116 @@
+use Rattle.std.proofs.Common.{◌≡◌, ℕ, ◌+◌, ◌-◌, ◌*◌, ◌/◌, ◌^◌, ◌<◌, ◌≤◌, List, get_or, set, length, sym, ap, subst, ◌∙◌, arith}
+use Rattle.std.proofs.lemmas.List.{length-set}
+use Rattle.pair_numbering.specs.Slots.{IsSlot, Slotted, home_of, slot_number}
+use Rattle.class_laws.specs.Places as places
+use Rattle.class_laws.proofs.BlockPlaces.{block_next}
+use Rattle.class_laws.proofs.Index.{length-pairs}
+use Rattle.pair_numbering.proofs.InBlocks.{in_step, listed_inside, place_is, step_is}
+use Rattle.pair_numbering.proofs.SlotSteps.{slotted_new, slotted_old}
+use Rattle.pair_numbering.proofs.slots.number_block.Goals as goal
+use Rattle.pair_numbering.proofs.slots.number_block.Goals.{then-number-count, else-number-count}
+
+pub loop-i-init : goal.loop-i-init
+loop-i-init c =
+    let e : c.args.block * 2 ^ c.args.entries.now.rank + 0 ≡ c.args.block * 2 ^ c.args.entries.now.rank = omega arith in
+    rw e c.requires.before
+
+-- so many homes there are
+homes_are : (cs : List ℕ) (step slots : ℕ) → slots ≡ 4 * length (places.pairs cs step) + 64 → slots - 64 ≡ 4 * (length cs / 2)
+homes_are cs step slots room = let l = length-pairs cs step in omega arith
+
+-- there is a key for each pair
+count_inside : {ps : List (ℕ × ℕ)} {home : ℕ × ℕ → ℕ} {slots : List ℕ} {keys : List (ℕ × ℕ)} {out : List ℕ} {count j : ℕ} →
+    Slotted ps home slots keys out count j → j < length ps → count < length keys
+count_inside h l = let few = h.few in let long = h.long_keys in omega arith
+
+-- a table with a pair has homes, and not too many
+some_homes : (cs : List ℕ) (step slots j : ℕ) → slots ≡ 4 * length (places.pairs cs step) + 64 → j < length (places.pairs cs step) → 0 < slots - 64
+some_homes cs step slots j room l = omega arith
+
+few_homes : (cs : List ℕ) (step slots : ℕ) → slots ≡ 4 * length (places.pairs cs step) + 64 → length cs ≤ 2 ^ 20 → slots - 64 ≤ 2 ^ 21
+few_homes cs step slots room l = let e = homes_are cs step slots room in omega arith
+
+pub bounds-keys-count : goal.bounds-keys-count
+bounds-keys-count c =
+    let cs = c.args.entries.now.numbers in
+    let rank = c.args.entries.now.rank in
+    let w = in_step cs rank c.rank.ensures.paired c.rank.result c.args.block c.loop-i.i c.rank.ensures.rank c.requires.block c.loop-i-test.true in
+    let small = listed_inside cs rank c.rank.ensures.paired c.args.block c.loop-i.i w in
+    count_inside c.loop-i.invariant small
+
+pub home-requires-clause-some : goal.home-requires-clause-some
+home-requires-clause-some c =
+    let cs = c.args.entries.now.numbers in
+    let rank = c.args.entries.now.rank in
+    let w = in_step cs rank c.rank.ensures.paired c.rank.result c.args.block c.loop-i.i c.rank.ensures.rank c.requires.block c.loop-i-test.true in
+    let small = listed_inside cs rank c.rank.ensures.paired c.args.block c.loop-i.i w in
+    some_homes cs (2 ^ rank) (length c.args.slots.now) (c.args.block * 2 ^ rank + c.loop-i.i) c.requires.before.room small
+
+pub home-requires-clause-few : goal.home-requires-clause-few
+home-requires-clause-few c =
+    few_homes c.args.entries.now.numbers (2 ^ c.args.entries.now.rank) (length c.args.slots.now) c.requires.before.room c.requires.few
+
+pub find_slot-requires-clause-keys : goal.find_slot-requires-clause-keys
+find_slot-requires-clause-keys c =
+    let cs = c.args.entries.now.numbers in
+    let rank = c.args.entries.now.rank in
+    let w = in_step cs rank c.rank.ensures.paired c.rank.result c.args.block c.loop-i.i c.rank.ensures.rank c.requires.block c.loop-i-test.true in
+    let small = listed_inside cs rank c.rank.ensures.paired c.args.block c.loop-i.i w in
+    subst (λ n. c.loop-i.count < n) (sym (length-set c.loop-i.keys c.loop-i.count _)) (count_inside c.loop-i.invariant small)
+
+pub bounds-out-block : goal.bounds-out-block
+bounds-out-block c =
+    let cs = c.args.entries.now.numbers in
+    let rank = c.args.entries.now.rank in
+    let w = in_step cs rank c.rank.ensures.paired c.rank.result c.args.block c.loop-i.i c.rank.ensures.rank c.requires.block c.loop-i-test.true in
+    let small = listed_inside cs rank c.rank.ensures.paired c.args.block c.loop-i.i w in
+    let e = place_is cs rank c.rank.ensures.paired c.rank.result c.args.block c.loop-i.i c.rank.ensures.rank in
+    subst (λ z. z) (λ i. sym e i < sym c.loop-i.invariant.made.long i) small
+
+pub loop-i-preserved : goal.loop-i-preserved
+loop-i-preserved c =
+    let cs = c.args.entries.now.numbers in
+    let rank = c.args.entries.now.rank in
+    let ps = places.pairs cs (2 ^ rank) in
+    let place = home_of (4 * (length cs / 2)) in
+    let j = c.args.block * 2 ^ rank + c.loop-i.i in
+    let slots = c.loop-i.slots in
+    let keys = c.loop-i.keys in
+    let out = c.loop-i.out in
+    let count = c.loop-i.count in
+    let at = c.in_ok-at.at in
+    let paired = c.rank.ensures.paired in
+    let w = in_step cs rank paired c.rank.result c.args.block c.loop-i.i c.rank.ensures.rank c.requires.block c.loop-i-test.true in
+    let small = listed_inside cs rank paired c.args.block c.loop-i.i w in
+    let here : ℕ × ℕ = (get_or c.block.result.low.now c.loop-i.i 0, get_or c.block.result.high.now c.loop-i.i 0) in
+    let p : here ≡ get_or ps j (0, 0) = c.block.ensures.pairs c.loop-i.i w.early in
+    let written = place_is cs rank paired c.rank.result c.args.block c.loop-i.i c.rank.ensures.rank in
+    let next : j + 1 ≡ c.args.block * 2 ^ rank + (c.loop-i.i + 1) = omega arith in
+    let begin = c.home.ensures.place ∙ ap (λ n. home_of n here) (homes_are cs (2 ^ rank) (length c.args.slots.now) c.requires.before.room) ∙ ap place p in
+    let found : IsSlot slots (set keys count (get_or ps j (0, 0))) count (get_or ps j (0, 0)) (place (get_or ps j (0, 0))) at =
+    subst (λ z. z) (λ t. IsSlot slots (set keys count (p t)) count (p t) (begin t) at) c.in_ok-at.ensures in
+    let number : c.min-number.result ≡ slot_number slots count at = c.min-number.ensures in
+    elim c.if-number-count.branch [
+      | then-number-count w ↦
+          rw w.count-is
+          (subst (λ z. z)
+          (λ t. Slotted ps place (set slots at (sym number t)) (set keys count (sym p t)) (set out (sym written t) (sym number t)) (count + 1) (next t))
+          (slotted_new c.loop-i.invariant at small found (sym number ∙ w.if-number-count.true)))
+      | else-number-count w ↦
+          rw w.count-is
+          (subst (λ z. z)
+          (λ t. Slotted ps place (set slots at (sym number t)) (set keys count (sym p t)) (set out (sym written t) (sym number t)) count (next t))
+          (slotted_old c.loop-i.invariant at small found (λ e. w.if-number-count.false (number ∙ e))))
+    ]
+
+pub returns : goal.returns
+returns c =
+    let rank = c.args.entries.now.rank in
+    let s = step_is c.args.entries.now.numbers rank c.rank.ensures.paired c.rank.result c.rank.ensures.rank in
+    let t = c.loop-i-test.false in
+    let u = c.loop-i.auto.i-end in
+    let e : c.loop-i.i ≡ 2 ^ rank = omega (arith, s, t, u) in
+    subst
+    (Slotted (places.pairs c.args.entries.now.numbers (2 ^ rank)) (home_of (4 * (length c.args.entries.now.numbers / 2))) c.loop-i.slots
+    c.loop-i.keys c.loop-i.out c.loop-i.count)
+    (ap (λ z. c.args.block * 2 ^ rank + z) e ∙ block_next (2 ^ rank) c.args.block) c.loop-i.invariant
