@@ -52,13 +52,16 @@ fn width(alloc: Global, functions: &[u64], set: Mask, x: VarIx) -> Result<u64, A
     Ok(left.len() as u64)
 }
 
+/// A set, a variable outside it, and the width.
+type Edge = (Mask, VarIx, u64);
+
 /// What the checker asks of the functions: the mask of all variables, that of those on which some
 /// function depends, and each edge, by its set and then by its variable, with its width.
 #[derive(Drop)]
 pub(crate) struct Plain {
     all: Mask,
     essential: Mask,
-    edges: Vec<(Mask, VarIx, u64)>,
+    edges: Vec<Edge>,
 }
 
 /// The functions of at most six variables, each in a word that repeats its values.
@@ -72,11 +75,23 @@ fn functions_of(alloc: Global, tables: &Tables, all: Mask) -> Result<Vec<u64>, A
     Ok(functions)
 }
 
+/// Whether some function depends on a variable.
+fn some_depends(functions: &[u64], x: VarIx) -> bool
+    requires { x < 6 }
+{
+    for function in functions {
+        if depends(*function, x) {
+            return true;
+        }
+    }
+    false
+}
+
 /// The variables on which some function depends.
 fn essential_of(functions: &[u64]) -> Mask {
     let mut essential = 0;
     for x in 0..6u8 {
-        if functions.iter().any(|function: &u64| depends(*function, x)) {
+        if some_depends(functions, x) {
             essential |= 1 << x;
         }
     }
@@ -84,11 +99,7 @@ fn essential_of(functions: &[u64]) -> Mask {
 }
 
 /// Each edge, by its set and then by its variable, with its width.
-fn edges_of(
-    alloc: Global,
-    functions: &[u64],
-    all: Mask,
-) -> Result<Vec<(Mask, VarIx, u64)>, AllocError> {
+fn edges_of(alloc: Global, functions: &[u64], all: Mask) -> Result<Vec<Edge>, AllocError> {
     let mut edges = Vec::new(alloc);
     for set in 0..all {
         for x in 0..6u8 {
@@ -104,10 +115,14 @@ impl Plain {
     pub(crate) fn of(alloc: Global, tables: &Tables) -> Result<Plain, AllocError> {
         let all = (1 << tables.problem().inputs().min(6)) - 1;
         let functions = functions_of(alloc, tables, all)?;
-        let edges = edges_of(alloc, &functions, all)?;
+        Plain::of_functions(alloc, &functions, all)
+    }
+
+    fn of_functions(alloc: Global, functions: &[u64], all: Mask) -> Result<Plain, AllocError> {
+        let edges = edges_of(alloc, functions, all)?;
         Ok(Plain {
             all,
-            essential: essential_of(&functions),
+            essential: essential_of(functions),
             edges,
         })
     }
@@ -132,23 +147,36 @@ impl Plain {
         cert.total().saturating_sub(self.reserve(cert, set))
     }
 
+    /// Whether the cost of a listed cell, with what is counted on, is above the total.
+    fn is_too_big(&self, cert: &Certificate, cell: &ListedCell) -> bool {
+        cell.cost.saturating_add(self.reserve(cert, cell.mask)) > cert.total()
+    }
+
+    /// Whether an edge between lawful sets, from a listed one, has a width that is too small.
+    fn is_broken(&self, cert: &Certificate, edge: &Edge) -> bool {
+        let (mask, x, width) = edge;
+        let above = mask | (1 << (x % 16));
+        if !is_listed(cert, *mask) || !is_lawful(cert, *mask) || !is_lawful(cert, above) {
+            return false;
+        }
+        let reached = u64::from(self.value(cert, *mask)).saturating_add(*width);
+        u64::from(self.value(cert, above)) > reached
+    }
+
     /// The verdict on a certificate of which only the listed sets are to be judged.
     pub(crate) fn verdict(&self, cert: &Certificate) -> Verdict {
         if self.value(cert, 0) != 0 {
             return Verdict::Invalid(Reason::Start);
         }
         for cell in cert.cells() {
-            if cell.cost.saturating_add(self.reserve(cert, cell.mask)) > cert.total() {
+            if self.is_too_big(cert, cell) {
                 return Verdict::Invalid(Reason::CellTooBig);
             }
         }
-        for (mask, x, width) in &self.edges {
-            let above = mask | (1 << (x % 16));
-            if is_listed(cert, *mask) && is_lawful(cert, *mask) && is_lawful(cert, above) {
-                let reached = u64::from(self.value(cert, *mask)).saturating_add(*width);
-                if u64::from(self.value(cert, above)) > reached {
-                    return Verdict::Invalid(Reason::Edge { mask: *mask, x: *x });
-                }
+        for edge in &self.edges {
+            if self.is_broken(cert, edge) {
+                let (mask, x, _) = edge;
+                return Verdict::Invalid(Reason::Edge { mask: *mask, x: *x });
             }
         }
         Verdict::Valid
@@ -156,9 +184,12 @@ impl Plain {
 }
 
 fn is_listed(cert: &Certificate, set: Mask) -> bool {
-    cert.cells()
-        .iter()
-        .any(|cell: &ListedCell| cell.mask == set)
+    for cell in cert.cells() {
+        if cell.mask == set {
+            return true;
+        }
+    }
+    false
 }
 
 /// Whether a set has b if it has a, of each pair (a, b).

@@ -1,12 +1,12 @@
 //! The board of a layer, and its machine.
 
-ghost use Rattle.std.specs.Prelude.{◌≡◌, ◌<◌, All, IfOk, vec_len, [], ◌∷◌};
-ghost use Rattle.layer_core.specs.Settings.{cell_for};
+ghost use Rattle.std.specs.Prelude.{◌≡◌, ◌<◌, ◌≤◌, All, IfOk, IfSome, length, vec_len, [], ◌∷◌};
+ghost use Rattle.layer_core.specs.Settings.{cell_for, setting_of};
 ghost use Rattle.order_model.specs.declared.reserve.Reserve.TheVariants.{Variables};
 ghost use Rattle.layer_board.specs.Views.{first_seat};
 ghost use Rattle.solver_tests.specs.Examples.{parity};
 
-use layer_board::{Board, BoardSeat, CloseError, PostRefused};
+use layer_board::{Board, BoardSeat, Claim, CloseError, PostRefused};
 use layer_core::{CellResult, Core, Event, Reply};
 use order_model::{Limit, Mask, Pairs, Problem, Reserve, Workers};
 use std::alloc::{AllocError, Global};
@@ -55,26 +55,89 @@ fn parity_cell(problem: &Problem, mask: Mask, cost: u32, pairs: &Pairs) -> CellR
     CellResult::new(problem, limit(7), mask, Cell { cost, variable: 0 }, pairs)
 }
 
-/// Claims the next block: it stands at the place, and has so many sets with the low byte, of which
-/// this is the first.
-fn claim_next(
-    rt: &impl Abort,
-    board: &Board,
-    seat: &mut BoardSeat,
-    place: usize,
-    count: usize,
-    first: Mask,
-)
+/// A board and its only seat.
+fn with_only_seat(board: Board, mut seats: Vec<BoardSeat>) -> Option<(Board, BoardSeat)>
+    requires { All (λ s. s ≡ first_seat board) seats.items }
+    ensures board { IfSome result (λ r. r.0 ≡ board) }
+    ensures seat { IfSome result (λ r. r.1.board ≡ board) }
+{
+    let count = seats.len();
+    let seat = seats.pop()?;
+    if count == 1 {
+        Some((board, seat))
+    } else {
+        None
+    }
+}
+
+/// A board of a layer, and the seat of a lone worker.
+pub(crate) fn lone_board(
+    alloc: Global,
+    problem: &Problem,
+    pairs: &Pairs,
+    limit: Limit,
+    layer: &Layer,
+) -> Result<(Board, BoardSeat), Fail>
+    requires { layer.now.inputs ≡ problem.now.inputs }
+    ensures setting { IfOk result
+        (λ r. r.0.brief.setting ≡ setting_of problem.now pairs.now limit) }
+    ensures layer { IfOk result (λ r. r.0.brief.layer ≡ layer.now) }
+    ensures seat { IfOk result (λ r. r.1.board ≡ r.0) }
+{
+    let one = Workers::new(1).ok_or("one worker")?;
+    let (board, seats) = Board::new(alloc, problem, limit, layer, one, pairs)?;
+    Ok(with_only_seat(board, seats).ok_or("one seat")?)
+}
+
+/// The board of the sets of two variables, and the seat of a lone worker.
+fn board_of_twos(
+    alloc: Global,
+    problem: &Problem,
+    pairs: &Pairs,
+    bound: u32,
+) -> Result<(Board, BoardSeat), Fail>
+    ensures setting { IfOk result
+        (λ r. r.0.brief.setting ≡ setting_of problem.now pairs.now (record
+        { bound = bound; reserve = Variables })) }
+    ensures seat { IfOk result (λ r. r.1.board ≡ r.0) }
+{
+    let layer = Layer::of(alloc, problem.inputs(), 2)?;
+    lone_board(alloc, problem, pairs, limit(bound), &layer)
+}
+
+/// A place, how many sets its block has, and the first of them.
+type BlockRow = (usize, usize, Mask);
+
+/// Whether a claim is of this block.
+fn is_of_block(claim: &Claim, row: &BlockRow) -> bool {
+    let (place, count, first) = row;
+    let block = claim.block();
+    claim.place() == *place
+        && Mask::from(block.low()) == *first % 256
+        && block.len() == *count
+        && block.len() > 0
+        && block.mask(0) == *first
+}
+
+/// Claims blocks, which are to be these.
+fn claim_blocks(rt: &impl Abort, board: &Board, seat: &mut BoardSeat, rows: &[BlockRow])
     requires { seat.old.board ≡ board.now }
     ensures { seat.new.board ≡ board.now }
 {
-    let Some(claim) = board.claim(seat) else {
-        panic!(rt; "no block")
-    };
-    let block = claim.block();
-    assert!(rt; claim.place() == place && Mask::from(block.low()) == first % 256);
-    assert!(rt; block.len() == count && block.len() > 0);
-    assert!(rt; block.mask(0) == first);
+    for row in rows {
+        let claim = board.claim(seat);
+        assert!(rt; claim.is_some_and(|claim: Claim| is_of_block(&claim, row)));
+    }
+}
+
+/// Whether there is no block left, asked twice.
+fn has_no_more(board: &Board, seat: &mut BoardSeat) -> bool
+    requires { seat.old.board ≡ board.now }
+    ensures { seat.new.board ≡ board.now }
+{
+    let once = board.claim(seat).is_none();
+    let twice = board.claim(seat).is_none();
+    once && twice
 }
 
 /// Posts and reads while the first block alone is claimed.
@@ -94,118 +157,177 @@ fn post_and_read(
     ensures { seat.new.board ≡ board.now }
 {
     // The second block is not this seat's, and the mask 0007 is not in the layer.
-    let five = board.post(seat, parity_cell(problem, 5, 4, pairs));
-    assert!(rt; five == Err(PostRefused::Stranger));
-    let seven = board.post(seat, parity_cell(problem, 7, 6, pairs));
-    assert!(rt; seven == Err(PostRefused::Stranger));
-    assert!(rt; board.post(seat, parity_cell(problem, 3, 4, pairs)) == Ok(()));
-    let again = board.post(seat, parity_cell(problem, 3, 4, pairs));
-    assert!(rt; again == Err(PostRefused::Double));
+    let answers = [
+        board.post(seat, parity_cell(problem, 5, 4, pairs)),
+        board.post(seat, parity_cell(problem, 7, 6, pairs)),
+        board.post(seat, parity_cell(problem, 3, 4, pairs)),
+        board.post(seat, parity_cell(problem, 3, 4, pairs)),
+    ];
+    let stranger = Err(PostRefused::Stranger);
+    assert!(rt; answers == [stranger, stranger, Ok(()), Err(PostRefused::Double)]);
     let three = Cell {
         cost: 4,
         variable: 0,
     };
-    assert!(rt; board.read(seat, 3) == Some(three));
-    assert!(rt; board.read(seat, 5) == None);
+    assert!(rt; [board.read(seat, 3), board.read(seat, 5)] == [Some(three), None]);
+}
+
+/// Why a board does not close.
+pub(crate) fn error_of_closing(alloc: Global, board: Board, seat: BoardSeat) -> Option<CloseError>
+    requires { seat.board ≡ board }
+{
+    board.close(alloc, seat).err()
+}
+
+/// The masks 0005, 0006, 0009, 000a and 000c, each a block.
+static AFTER_THE_FIRST: [BlockRow; 5] = [(1, 1, 5), (2, 1, 6), (3, 1, 9), (4, 1, 10), (5, 1, 12)];
+
+/// Claims all blocks, and posts the cell of the first one.
+fn claim_and_post(
+    rt: &impl Abort,
+    board: &Board,
+    seat: &mut BoardSeat,
+    problem: &Problem,
+    pairs: &Pairs,
+)
+    requires board { seat.old.board ≡ board.now }
+    requires problem { problem.now ≡ parity.problem }
+    requires pairs { pairs.now.pairs ≡ [] }
+    requires setting { board.now.brief.setting ≡ record
+        { problem = problem.now; pairs = pairs.now; reserve = Variables; bound = 7 } }
+    ensures { seat.new.board ≡ board.now }
+{
+    claim_blocks(rt, board, seat, &[(0, 1, 3)]);
+    post_and_read(rt, board, seat, problem, pairs);
+    claim_blocks(rt, board, seat, &AFTER_THE_FIRST);
+    assert!(rt; has_no_more(board, seat));
 }
 
 #[test]
 fn board_of_the_second_layer(rt: HostRuntime) -> Result<(), Fail> {
     let problem = parity_problem(rt.alloc())?;
     let pairs = Pairs::none(4);
-    let layer = Layer::of(rt.alloc(), 4, 2)?;
-    let one = Workers::new(1).ok_or("one worker")?;
-    let (board, mut seats) = Board::new(rt.alloc(), &problem, limit(7), &layer, one, &pairs)?;
-    assert!(rt; seats.len() == 1);
-    let Some(mut seat) = seats.pop() else {
-        panic!(rt; "no seat")
-    };
-    claim_next(&rt, &board, &mut seat, 0, 1, 3);
-    post_and_read(&rt, &board, &mut seat, &problem, &pairs);
-
-    // The masks 0005, 0006, 0009, 000a and 000c, each a block, and then no more.
-    for (place, mask) in [(1, 5), (2, 6), (3, 9), (4, 10), (5, 12)] {
-        claim_next(&rt, &board, &mut seat, place, 1, mask);
-    }
-    assert!(rt; board.claim(&mut seat).is_none());
-    assert!(rt; board.claim(&mut seat).is_none());
-    match board.close(rt.alloc(), seat) {
-        Ok(_) => panic!(rt; "closed"),
-        Err(error) => assert!(rt; error == CloseError::Missing(5)),
-    }
+    let (board, mut seat) = board_of_twos(rt.alloc(), &problem, &pairs, 7)?;
+    claim_and_post(&rt, &board, &mut seat, &problem, &pairs);
+    assert!(rt; error_of_closing(rt.alloc(), board, seat) == Some(CloseError::Missing(5)));
     Ok(())
 }
 
-#[test]
-#[tactic(auto, using(crate::proofs::Parity::cell_3, crate::proofs::Parity::cell_5))]
-fn events_of_two_workers(rt: HostRuntime) -> Result<(), Fail> {
-    let problem = parity_problem(rt.alloc())?;
-    let pairs = Pairs::none(4);
-    let layer = Layer::of(rt.alloc(), 4, 2)?;
-    let Some(two) = Workers::new(2) else {
-        panic!(rt; "two workers")
+/// The machine of the sets of two of four variables, with two workers.
+fn core_of_two(alloc: Global) -> Result<Core, Fail>
+    ensures { IfOk result (λ c. length c.workers ≡ 2) }
+{
+    let two = Workers::new(2).ok_or("two workers")?;
+    let layer = Layer::of(alloc, 4, 2)?;
+    Ok(Core::new(alloc, &layer, two)?)
+}
+
+/// Posts the cell of 0005 for a worker.
+#[tactic(auto, using(crate::proofs::Parity::cell_5))]
+fn post_five(core: &mut Core, worker: u8, problem: &Problem, pairs: &Pairs) -> Reply
+    requires some { 1 ≤ worker }
+    requires worker { worker ≤ length core.old.workers }
+    requires problem { problem.now ≡ parity.problem }
+    requires pairs { pairs.now.pairs ≡ [] }
+    ensures { length core.new.workers ≡ length core.old.workers }
+{
+    core.step(Event::Post(worker, parity_cell(problem, 5, 4, pairs)))
+}
+
+/// Two workers claim a block each, the owner of the second one fills its cell once, and the other
+/// one reads it.
+fn post_by_two(rt: &impl Abort, core: &mut Core, problem: &Problem, pairs: &Pairs)
+    requires workers { length core.old.workers ≡ 2 }
+    requires problem { problem.now ≡ parity.problem }
+    requires pairs { pairs.now.pairs ≡ [] }
+    ensures { length core.new.workers ≡ 2 }
+{
+    let cell = Cell {
+        cost: 4,
+        variable: 0,
     };
-    let mut core = Core::new(rt.alloc(), &layer, two)?;
-    assert!(rt; core.step(Event::Claim(1)) == Reply::Claimed(0));
-    assert!(rt; core.step(Event::Claim(2)) == Reply::Claimed(1));
-    let five = parity_cell(&problem, 5, 4, &pairs);
-    assert!(rt; core.step(Event::Post(1, five)) == Reply::Stranger);
-    let five = parity_cell(&problem, 5, 4, &pairs);
-    assert!(rt; core.step(Event::Post(2, five)) == Reply::Posted);
-    let five = parity_cell(&problem, 5, 4, &pairs);
-    assert!(rt; core.step(Event::Post(2, five)) == Reply::Double);
-    assert!(rt;
-        core.step(Event::Read(1, 5))
-            == Reply::Seen(Cell {
-                cost: 4,
-                variable: 0
-            })
-    );
-    assert!(rt; core.step(Event::Read(1, 3)) == Reply::Empty);
+    let replies = [
+        core.step(Event::Claim(1)),
+        core.step(Event::Claim(2)),
+        post_five(core, 1, problem, pairs),
+        post_five(core, 2, problem, pairs),
+        post_five(core, 2, problem, pairs),
+        core.step(Event::Read(1, 5)),
+        core.step(Event::Read(1, 3)),
+    ];
+    let wanted = [
+        Reply::Claimed(0),
+        Reply::Claimed(1),
+        Reply::Stranger,
+        Reply::Posted,
+        Reply::Double,
+        Reply::Seen(cell),
+        Reply::Empty,
+    ];
+    assert!(rt; replies == wanted);
+}
+
+/// The first of two workers claims the other blocks, and then there is none for the second one.
+fn claim_by_two(rt: &impl Abort, core: &mut Core)
+    requires { length core.old.workers ≡ 2 }
+{
     for block in 2..6usize {
         assert!(rt; core.step(Event::Claim(1)) == Reply::Claimed(block));
     }
     assert!(rt; core.step(Event::Claim(2)) == Reply::NoMore);
     assert!(rt; core.step(Event::Claim(2)) == Reply::NoMore);
+}
+
+#[test]
+fn events_of_two_workers(rt: HostRuntime) -> Result<(), Fail> {
+    let problem = parity_problem(rt.alloc())?;
+    let mut core = core_of_two(rt.alloc())?;
+    post_by_two(&rt, &mut core, &problem, &Pairs::none(4));
+    claim_by_two(&rt, &mut core);
     Ok(())
+}
+
+/// The first five blocks of the sets of two of ten variables: 0300, 0101 and 0201, 0102 and 0202,
+/// 0003, 0104 and 0204.
+static FIRST_FIVE: [BlockRow; 5] = [
+    (0, 1, 0x300),
+    (1, 2, 0x101),
+    (2, 2, 0x102),
+    (3, 1, 3),
+    (4, 2, 0x104),
+];
+
+/// How many sets the next block has, which is to stand at a place.
+fn claim_at(rt: &impl Abort, board: &Board, seat: &mut BoardSeat, place: usize) -> usize
+    requires { seat.old.board ≡ board.now }
+    ensures { seat.new.board ≡ board.now }
+{
+    match board.claim(seat) {
+        Some(claim) => {
+            assert!(rt; claim.place() == place);
+            claim.block().len()
+        },
+        None => panic!(rt; "no block"),
+    }
+}
+
+/// Claims the 37 blocks, of which none is stepped over.
+fn claim_all(rt: &impl Abort, board: &Board, seat: &mut BoardSeat)
+    requires { seat.old.board ≡ board.now }
+{
+    claim_blocks(rt, board, seat, &FIRST_FIVE);
+    let mut masks = 8usize;
+    for place in 5..37usize {
+        masks = masks.saturating_add(claim_at(rt, board, seat, place));
+    }
+    assert!(rt; masks == 45 && board.claim(seat).is_none());
 }
 
 #[test]
 fn blocks_of_the_sets_of_two(rt: HostRuntime) -> Result<(), Fail> {
     let problem = Problem::new(rt.alloc(), 10, 1)?;
-    let pairs = Pairs::none(10);
-    let layer = Layer::of(rt.alloc(), 10, 2)?;
-    assert!(rt; layer.len() == 45 && layer.blocks() == 37);
-    let Some(one) = Workers::new(1) else {
-        panic!(rt; "one worker")
-    };
-    let (board, mut seats) = Board::new(rt.alloc(), &problem, limit(9), &layer, one, &pairs)?;
-    let Some(mut seat) = seats.pop() else {
-        panic!(rt; "no seat")
-    };
-
-    // The first five are 0300, 0101 and 0201, 0102 and 0202, 0003, 0104 and 0204.
-    for (place, count, first) in [
-        (0, 1, 0x300),
-        (1, 2, 0x101),
-        (2, 2, 0x102),
-        (3, 1, 3),
-        (4, 2, 0x104),
-    ] {
-        claim_next(&rt, &board, &mut seat, place, count, first);
-    }
-
-    // No block is stepped over.
-    let mut masks = 8usize;
-    for place in 5..37usize {
-        let Some(claim) = board.claim(&mut seat) else {
-            panic!(rt; "no block")
-        };
-        assert!(rt; claim.place() == place);
-        masks = masks.saturating_add(claim.block().len());
-    }
-    assert!(rt; masks == 45);
-    assert!(rt; board.claim(&mut seat).is_none());
+    let (board, mut seat) = board_of_twos(rt.alloc(), &problem, &Pairs::none(10), 9)?;
+    claim_all(&rt, &board, &mut seat);
     Ok(())
 }
 
@@ -244,17 +366,29 @@ fn draw_all<R: Threads + Sync>(
     )
 }
 
+/// The blocks that each of two workers claims of the sets of two of four variables.
+fn draw_by_two<R: Threads + Sync>(
+    rt: &R,
+    alloc: Global,
+    problem: &Problem,
+) -> Result<Vec<u64>, Fail>
+    requires { problem.now.inputs ≡ 4 }
+{
+    let two = Workers::new(2).ok_or("two workers")?;
+    let layer = Layer::of(alloc, 4, 2)?;
+    let (board, seats) = Board::new(alloc, problem, limit(7), &layer, two, &Pairs::none(4))?;
+    Ok(draw_all(rt, &board, seats)?)
+}
+
+/// Whether each of six blocks was drawn by one of two workers.
+fn are_shared(drawn: &[u64]) -> bool {
+    drawn.len() == 2 && drawn[0] | drawn[1] == 63 && drawn[0] & drawn[1] == 0
+}
+
 #[test]
 fn two_threads_share_the_blocks(rt: HostRuntime) -> Result<(), Fail> {
     let problem = parity_problem(rt.alloc())?;
-    let pairs = Pairs::none(4);
-    let layer = Layer::of(rt.alloc(), 4, 2)?;
-    let Some(two) = Workers::new(2) else {
-        panic!(rt; "two workers")
-    };
-    let (board, seats) = Board::new(rt.alloc(), &problem, limit(7), &layer, two, &pairs)?;
-    let drawn = draw_all(&rt, &board, seats)?;
-    assert!(rt; drawn.len() == 2);
-    assert!(rt; drawn[0] | drawn[1] == 63 && drawn[0] & drawn[1] == 0);
+    let drawn = draw_by_two(&rt, rt.alloc(), &problem)?;
+    assert!(rt; are_shared(&drawn));
     Ok(())
 }

@@ -1,10 +1,11 @@
 //! Worked layers, blocks and cells.
 
-ghost use Rattle.std.specs.Prelude.{◌≡◌, ◌+◌, IfOk};
+ghost use Rattle.std.specs.Prelude.{◌≡◌, ◌+◌, ◌<◌, IfOk};
 
 use crate::solutions::tables_of;
-use order_model::{Mask, Pairs, Reserve, Reserves};
-use std::alloc::Global;
+use order_model::{Mask, Pairs, Problem, Reserve, Reserves};
+use std::alloc::{AllocError, Global};
+use std::process::Abort;
 use std::test::Fail;
 use subset_layers::{Cell, Costs, Layer, least_cell};
 
@@ -34,14 +35,22 @@ fn has_blocks(layer: &Layer) -> bool {
     true
 }
 
+/// Whether a layer has the numbers and the places of the sets of two of ten variables.
+fn has_sets(layer: &Layer) -> bool {
+    layer.inputs() == 10
+        && layer.size() == 2
+        && layer.len() == 45
+        && layer.blocks() == 37
+        && layer.position(0x0003) == Some(0)
+        && layer.position(0x0001).is_none()
+        && layer.block_place(0) == 3
+        && layer.mask_at(0) == 0x0003
+}
+
 #[test]
 fn sets_of_two_of_ten_variables(rt: HostRuntime) -> Result<(), Fail> {
     let layer = Layer::of(rt.alloc(), 10, 2)?;
-    assert!(rt; layer.inputs() == 10 && layer.size() == 2);
-    assert!(rt; layer.len() == 45 && layer.blocks() == 37);
-    assert!(rt; layer.position(0x0003) == Some(0) && layer.position(0x0001).is_none());
-    assert!(rt; layer.block_place(0) == 3 && layer.mask_at(0) == 0x0003);
-    assert!(rt; has_blocks(&layer));
+    assert!(rt; has_sets(&layer) && has_blocks(&layer));
     Ok(())
 }
 
@@ -64,109 +73,142 @@ static TWO: [Row; 3] = [
 
 static THREE: [Row; 1] = [(0x0007, [0, 0, 1], 3, 2)];
 
-/// The cells of a layer's sets over the costs of the layer before, if they are those of the rows.
-fn least_cells(
-    alloc: Global,
-    layer: &Layer,
-    costs: &Costs,
-    reserves: &Reserves<'_>,
-    rows: &[Row],
-) -> Result<Vec<Cell>, Fail>
+/// The cell of a row.
+fn cell_of(row: &Row) -> Cell {
+    let (_, _, cost, variable) = row;
+    Cell {
+        cost: *cost,
+        variable: *variable,
+    }
+}
+
+/// The cells of rows.
+fn cells_of(alloc: Global, rows: &[Row]) -> Result<Vec<Cell>, AllocError> {
+    let mut cells = Vec::new(alloc);
+    for row in rows {
+        cells.push(cell_of(row))?;
+    }
+    Ok(cells)
+}
+
+/// Whether the cells of a layer's sets, over the costs of the layer before, are those of the rows.
+fn are_least(layer: &Layer, costs: &Costs, reserves: &Reserves<'_>, rows: &[Row]) -> bool
     requires inputs { costs.now.inputs ≡ 3 }
     requires functions { reserves.now.problem.inputs ≡ 3 }
     requires same { layer.now.inputs ≡ 3 }
     requires next { layer.now.size ≡ costs.now.size + 1 }
 {
-    let mut cells = Vec::new(alloc);
-    for (i, (mask, widths, cost, variable)) in rows.iter().enumerate() {
+    for (i, row) in rows.iter().enumerate() {
+        let (mask, widths, _, _) = row;
         if layer.position(*mask) != Some(i) {
-            return Err("another place".into());
+            return false;
         }
-        let mut row = [0; 16];
-        row[..3].copy_from_slice(widths);
-        let cell = least_cell(*mask, costs, &row, 3, reserves, &Pairs::none(3));
-        if cell.cost != *cost || cell.variable != *variable {
-            return Err("another cell".into());
-        }
-        cells.push(cell)?;
-    }
-    Ok(cells)
-}
-
-/// Whether the costs of a layer's sets are those of the rows.
-fn has_rows(costs: &Costs, rows: &[Row]) -> bool {
-    for (mask, _, cost, variable) in rows {
-        let wanted = Cell {
-            cost: *cost,
-            variable: *variable,
-        };
-        if costs.cell_of(*mask) != Some(wanted) || costs.cost_of(*mask) != Some(*cost) {
+        let mut padded = [0; 16];
+        padded[..3].copy_from_slice(widths);
+        if least_cell(*mask, costs, &padded, 3, reserves, &Pairs::none(3)) != cell_of(row) {
             return false;
         }
     }
     true
 }
 
-/// The costs of the layer after that of the costs, if they are those of the rows.
+/// Whether the costs of a layer's sets are those of the rows.
+fn has_rows(costs: &Costs, rows: &[Row]) -> bool {
+    for row in rows {
+        let (mask, _, cost, _) = row;
+        if costs.cell_of(*mask) != Some(cell_of(row)) || costs.cost_of(*mask) != Some(*cost) {
+            return false;
+        }
+    }
+    true
+}
+
+/// The costs of a layer of which each set has a cell.
+fn costs_of(rt: &impl Abort, layer: Layer, cells: Vec<Cell>, rows: &[Row]) -> Costs
+    requires inputs { layer.inputs ≡ 3 }
+    requires some { 0 < layer.size }
+    ensures inputs { result.inputs ≡ 3 }
+    ensures size { result.size ≡ layer.size }
+{
+    assert!(rt; cells.len() == layer.len());
+    let costs = Costs::of(layer, cells);
+    assert!(rt; has_rows(&costs, rows));
+    costs
+}
+
+/// The costs of the layer after that of the costs, which are to be those of the rows.
 fn next_costs(
+    rt: &impl Abort,
+    alloc: Global,
+    costs: &Costs,
+    reserves: &Reserves<'_>,
+    size: u8,
+    rows: &[Row],
+) -> Result<Costs, AllocError>
+    requires inputs { costs.now.inputs ≡ 3 }
+    requires functions { reserves.now.problem.inputs ≡ 3 }
+    requires next { size ≡ costs.now.size + 1 }
+    ensures inputs { IfOk result (λ c. c.inputs ≡ 3) }
+    ensures size { IfOk result (λ c. c.size ≡ size) }
+{
+    let layer = Layer::of(alloc, 3, size)?;
+    assert!(rt; are_least(&layer, costs, reserves, rows));
+    let cells = cells_of(alloc, rows)?;
+    Ok(costs_of(rt, layer, cells, rows))
+}
+
+/// The same, where the costs are not used again.
+fn costs_after(
+    rt: &impl Abort,
     alloc: Global,
     costs: Costs,
     reserves: &Reserves<'_>,
     size: u8,
     rows: &[Row],
-) -> Result<Costs, Fail>
+) -> Result<Costs, AllocError>
     requires inputs { costs.inputs ≡ 3 }
     requires functions { reserves.now.problem.inputs ≡ 3 }
     requires next { size ≡ costs.size + 1 }
     ensures inputs { IfOk result (λ c. c.inputs ≡ 3) }
     ensures size { IfOk result (λ c. c.size ≡ size) }
 {
-    let layer = Layer::of(alloc, 3, size)?;
-    let cells = least_cells(alloc, &layer, &costs, reserves, rows)?;
-    if cells.len() != layer.len() {
-        return Err("another number of cells".into());
-    }
-    let costs = Costs::of(layer, cells);
-    if !has_rows(&costs, rows) {
-        return Err("other costs".into());
-    }
-    Ok(costs)
+    next_costs(rt, alloc, &costs, reserves, size, rows)
 }
 
 /// The costs of the empty set alone.
-fn first_costs(alloc: Global) -> Result<Costs, Fail>
+fn first_costs(rt: &impl Abort, alloc: Global) -> Result<Costs, AllocError>
     ensures inputs { IfOk result (λ c. c.inputs ≡ 3) }
     ensures size { IfOk result (λ c. c.size ≡ 0) }
 {
     let costs = Costs::start(alloc, 3)?;
-    if costs.cost_of(0x0000) != Some(0) || costs.cell_of(0x0000).is_some() {
-        return Err("another cost".into());
-    }
+    assert!(rt; costs.cost_of(0x0000) == Some(0) && costs.cell_of(0x0000).is_none());
     Ok(costs)
 }
 
 /// The costs of the layer of all three variables, each layer's made from those of the one before.
-fn last_costs(alloc: Global, reserves: &Reserves<'_>) -> Result<Costs, Fail>
+fn last_costs(rt: &impl Abort, alloc: Global, reserves: &Reserves<'_>) -> Result<Costs, AllocError>
     requires { reserves.now.problem.inputs ≡ 3 }
 {
-    let costs = first_costs(alloc)?;
-    let costs = next_costs(alloc, costs, reserves, 1, &ONE)?;
-    if costs.cost_of(0x0003).is_some() {
-        return Err("a set of another layer".into());
-    }
-    let costs = next_costs(alloc, costs, reserves, 2, &TWO)?;
-    next_costs(alloc, costs, reserves, 3, &THREE)
+    let costs = first_costs(rt, alloc)?;
+    let costs = costs_after(rt, alloc, costs, reserves, 1, &ONE)?;
+    assert!(rt; costs.cost_of(0x0003).is_none());
+    let costs = costs_after(rt, alloc, costs, reserves, 2, &TWO)?;
+    costs_after(rt, alloc, costs, reserves, 3, &THREE)
 }
 
 static MULTIPLEXER: &[u8] = b".i 3\n.o 1\n1-0 1\n-11 1\n.e\n";
 
+/// Goes through all layers of some functions, which are those of the multiplexer.
+fn check_layers(rt: &impl Abort, alloc: Global, problem: &Problem) -> Result<(), AllocError> {
+    assert!(rt; problem.inputs() == 3);
+    let reserves = Reserves::new(problem, Reserve::Variables);
+    assert!(rt; last_costs(rt, alloc, &reserves)?.inputs() == 3);
+    Ok(())
+}
+
 #[test]
 fn cells_of_the_multiplexer(rt: HostRuntime) -> Result<(), Fail> {
     let tables = tables_of(&rt, rt.alloc(), MULTIPLEXER)?;
-    let reserves = Reserves::new(tables.problem(), Reserve::Variables);
-    if tables.problem().inputs() != 3 {
-        return Err("another number of variables".into());
-    }
-    assert!(rt; last_costs(rt.alloc(), &reserves)?.inputs() == 3);
+    check_layers(&rt, rt.alloc(), tables.problem())?;
     Ok(())
 }

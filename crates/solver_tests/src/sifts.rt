@@ -1,10 +1,14 @@
 //! The steps of a sift, and a sum that more passes tighten.
 
+ghost use Rattle.std.specs.Prelude.{◌<◌, length};
+
 use crate::solutions::{manager_of, tables_of};
 use order_model::VarIx;
 use sifting::Manager;
 use std::alloc::{AllocError, Global};
+use std::process::Abort;
 use std::test::Fail;
+use std::thread::Threads;
 
 // Three products of two of six inputs, x and x + 3.
 static INTERLEAVED: &[u8] = b".i 6\n.o 1\n1--1-- 1\n-1--1- 1\n--1--1 1\n.e\n";
@@ -13,30 +17,10 @@ static INTERLEAVED: &[u8] = b".i 6\n.o 1\n1--1-- 1\n-1--1- 1\n--1--1 1\n.e\n";
 static SUM: &[u8] =
     b".i 4\n.o 3\n10-- 100\n01-- 100\n1100 010\n1111 010\n0-10 010\n-010 010\n0-01 010\n-001 010\n--11 001\n111- 001\n11-1 001\n.e\n";
 
-// The manager with the variable at a level on top, if the pairs let it there.
-fn lifted(alloc: Global, manager: Manager, from: usize) -> Result<Manager, AllocError> {
-    let mut manager = manager;
-    for level in (0..from).rev() {
-        if level < 16 && level + 1 < manager.order().len() && manager.may_swap(level) {
-            manager = manager.swap(alloc, level)?;
-        }
-    }
-    Ok(manager)
-}
-
-// The manager with the variable on top on the lowest level, and the sizes with it on each level,
-// top first.
-fn sizes_by_level(alloc: Global, manager: Manager) -> Result<(Manager, [u32; 16]), AllocError> {
-    let mut manager = manager;
-    let mut sizes = [0; 16];
-    sizes[0] = manager.size();
-    for level in 0..15usize {
-        if level + 1 < manager.order().len() && manager.may_swap(level) {
-            manager = manager.swap(alloc, level)?;
-            sizes[level + 1] = manager.size();
-        }
-    }
-    Ok((manager, sizes))
+/// The manager of a cover's functions under the file order.
+fn managed<R: Threads + Sync>(rt: &R, alloc: Global, text: &[u8]) -> Result<Manager, Fail> {
+    let tables = tables_of(rt, alloc, text)?;
+    manager_of(alloc, &tables)
 }
 
 /// A variable, the sizes with it on each level, and the order after it.
@@ -52,41 +36,93 @@ static STEPS: [Step; 6] = [
     (5, [10, 10, 8, 8, 6, 6], [0, 3, 4, 1, 5, 2]),
 ];
 
-/// The manager with a step's variable where `put_best` puts it from the lowest level, if the sizes
-/// and the order are the step's.
-fn stepped(alloc: Global, manager: Manager, step: &Step) -> Result<Manager, Fail> {
-    let (x, wanted, after) = step;
-    if usize::from(*x) >= manager.order().len() {
-        return Err("no such variable".into());
+/// The manager with a level and the next one exchanged.
+fn swapped(
+    rt: &impl Abort,
+    alloc: Global,
+    manager: Manager,
+    level: usize,
+) -> Result<Manager, AllocError>
+    requires { level < 16 }
+{
+    assert!(rt; level + 1 < manager.order().len() && manager.may_swap(level));
+    manager.swap(alloc, level)
+}
+
+/// The manager with a variable on top.
+fn lifted(
+    rt: &impl Abort,
+    alloc: Global,
+    manager: Manager,
+    x: VarIx,
+) -> Result<Manager, AllocError> {
+    assert!(rt; usize::from(x) < manager.order().len());
+    let from = manager.order().place_of(x);
+    let mut manager = manager;
+    for level in (0..from).rev() {
+        manager = swapped(rt, alloc, manager, level)?;
     }
-    let level = manager.order().place_of(*x);
-    let highest = lifted(alloc, manager, level)?;
-    let (lowest, sizes) = sizes_by_level(alloc, highest)?;
-    if &sizes[..6] != wanted.as_slice() || usize::from(*x) >= lowest.order().len() {
-        return Err("another size".into());
+    Ok(manager)
+}
+
+/// The manager with the variable on top on the lowest of six levels, if the sizes with it on each
+/// level, top first, are these.
+fn lowered(
+    rt: &impl Abort,
+    alloc: Global,
+    manager: Manager,
+    sizes: &[u32; 6],
+) -> Result<Manager, AllocError> {
+    let mut manager = manager;
+    for level in 0..5usize {
+        assert!(rt; manager.size() == sizes[level]);
+        manager = swapped(rt, alloc, manager, level)?;
     }
-    let best = lowest.put_best(alloc, *x)?;
-    if best.order().variables() != after.as_slice() {
-        return Err("another order".into());
-    }
+    assert!(rt; manager.size() == sizes[5]);
+    Ok(manager)
+}
+
+/// The manager with a variable where `put_best` puts it, if the order is this one.
+fn put_best(
+    rt: &impl Abort,
+    alloc: Global,
+    manager: Manager,
+    x: VarIx,
+    order: &[VarIx],
+) -> Result<Manager, AllocError> {
+    assert!(rt; usize::from(x) < manager.order().len());
+    let best = manager.put_best(alloc, x)?;
+    assert!(rt; best.order().variables() == order);
     Ok(best)
+}
+
+/// The manager after a step: its variable goes to the top, then to the lowest level, and then to
+/// where `put_best` puts it.
+fn stepped(
+    rt: &impl Abort,
+    alloc: Global,
+    manager: Manager,
+    step: &Step,
+) -> Result<Manager, AllocError> {
+    let (x, sizes, after) = step;
+    let highest = lifted(rt, alloc, manager, *x)?;
+    let lowest = lowered(rt, alloc, highest, sizes)?;
+    put_best(rt, alloc, lowest, *x, after)
 }
 
 #[test]
 fn each_step_of_the_interleaved_products(rt: HostRuntime) -> Result<(), Fail> {
-    let tables = tables_of(&rt, rt.alloc(), INTERLEAVED)?;
-    let mut manager = manager_of(rt.alloc(), &tables)?;
+    let mut manager = managed(&rt, rt.alloc(), INTERLEAVED)?;
     assert!(rt; manager.size() == 14);
     for step in &STEPS {
-        manager = stepped(rt.alloc(), manager, step)?;
+        manager = stepped(&rt, rt.alloc(), manager, step)?;
     }
     Ok(())
 }
 
 #[test]
 fn tightens_the_sum(rt: HostRuntime) -> Result<(), Fail> {
-    let tables = tables_of(&rt, rt.alloc(), SUM)?;
-    let sifted = manager_of(rt.alloc(), &tables)?.sift(rt.alloc())?;
+    let sifted = managed(&rt, rt.alloc(), SUM)?.sift(rt.alloc())?;
     assert!(rt; sifted.size() == 13);
     let converged = sifted.sifted_to_convergence(rt.alloc())?;
     assert!(rt; converged.size() == 11);

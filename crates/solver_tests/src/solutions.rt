@@ -6,8 +6,8 @@ use counted_io::Counting;
 use order_model::{Gate, Limit, NoGate, Order, Pairs, Reserve, VarIx, Workers};
 use order_solve::{Optimum, Solution, find_optimum_alone, prepare, solve, solve_alone};
 use pla_reader::read_cover;
-use sifting::Manager;
 use sifting::laws::diagrams_have_their_problems_tables;
+use sifting::{Manager, Sifted};
 use std::alloc::{AllocError, Global};
 use std::hint;
 use std::sync::atomic::{AtomicU64, Ordering};
@@ -47,6 +47,33 @@ pub(crate) fn manager_of(alloc: Global, tables: &Tables) -> Result<Manager, Fail
     Ok(Manager::of(alloc, diagram)?)
 }
 
+/// The sifted order of some functions.
+fn sifted_of(alloc: Global, tables: &Tables) -> Result<Sifted, Fail>
+    ensures { IfOk result (λ s. s.problem ≡ tables.now) }
+{
+    let manager = manager_of(alloc, tables)?;
+    Ok(manager.sift(alloc)?)
+}
+
+/// The solution of some functions by two workers.
+fn solution_of<R: Threads + Sync, G: Gate>(
+    rt: &R,
+    alloc: Global,
+    tables: &Tables,
+    gate: &G,
+) -> Result<Solution, Fail> {
+    let workers = Workers::new(2).ok_or("workers")?;
+    let limit = Limit {
+        bound: 16,
+        reserve: Reserve::Variables,
+    };
+    let problem = tables.problem();
+    let pairs = Pairs::none(problem.inputs());
+    let prepared = prepare(rt, alloc, problem, &pairs, limit, workers)?;
+    let sifted = sifted_of(alloc, tables)?;
+    Ok(solve(rt, alloc, prepared, sifted, workers, gate)?)
+}
+
 /// The solution of a cover.
 fn solved<R: Threads + Sync, G: Gate>(
     rt: &R,
@@ -55,22 +82,7 @@ fn solved<R: Threads + Sync, G: Gate>(
     gate: &G,
 ) -> Result<Solution, Fail> {
     let tables = tables_of(rt, alloc, text)?;
-    let problem = tables.problem();
-    let workers = Workers::new(2).ok_or("workers")?;
-    let limit = Limit {
-        bound: 16,
-        reserve: Reserve::Variables,
-    };
-    let prepared = prepare(
-        rt,
-        alloc,
-        problem,
-        &Pairs::none(problem.inputs()),
-        limit,
-        workers,
-    )?;
-    let sifted = manager_of(alloc, &tables)?.sift(alloc)?;
-    Ok(solve(rt, alloc, prepared, sifted, workers, gate)?)
+    solution_of(rt, alloc, &tables, gate)
 }
 
 #[test]
@@ -85,21 +97,32 @@ fn is_optimum(found: &Optimum, order: &[VarIx], levels: &[u32], total: u32) -> b
     found.order.variables() == order && found.levels.as_slice() == levels && found.total == total
 }
 
+/// The optimum of the solution of some functions by the calling thread.
+fn solved_alone(alloc: Global, tables: &Tables) -> Result<Optimum, Fail> {
+    let sifted = sifted_of(alloc, tables)?;
+    let solved = solve_alone(alloc, tables.problem(), sifted)?;
+    Ok(solved.optimum)
+}
+
+/// The optimum of some functions, without a certificate, by the calling thread.
+fn found_alone(alloc: Global, tables: &Tables) -> Result<Optimum, Fail> {
+    let sifted = sifted_of(alloc, tables)?;
+    Ok(find_optimum_alone(alloc, tables.problem(), sifted)?)
+}
+
 #[test]
 fn solves_words_alone(rt: HostRuntime) -> Result<(), Fail> {
     let tables = Tables::of_words(rt.alloc(), 3, 1, &[0xff96])?;
-    let sifted = manager_of(rt.alloc(), &tables)?.sift(rt.alloc())?;
-    let solved = solve_alone(rt.alloc(), tables.problem(), sifted)?;
-    assert!(rt; is_optimum(&solved.optimum, &[0, 1, 2], &[1, 2, 2], 5));
+    let optimum = solved_alone(rt.alloc(), &tables)?;
+    assert!(rt; is_optimum(&optimum, &[0, 1, 2], &[1, 2, 2], 5));
     Ok(())
 }
 
 #[test]
 fn finds_the_optimum_of_words_alone(rt: HostRuntime) -> Result<(), Fail> {
     let tables = Tables::of_words(rt.alloc(), 3, 1, &[0xff96])?;
-    let sifted = manager_of(rt.alloc(), &tables)?.sift(rt.alloc())?;
-    let found = find_optimum_alone(rt.alloc(), tables.problem(), sifted)?;
-    assert!(rt; is_optimum(&found, &[0, 1, 2], &[1, 2, 2], 5));
+    let optimum = found_alone(rt.alloc(), &tables)?;
+    assert!(rt; is_optimum(&optimum, &[0, 1, 2], &[1, 2, 2], 5));
     Ok(())
 }
 
@@ -174,12 +197,16 @@ fn saw_each(gate: &Meet, items: u64) -> bool {
         && gate.missed.load(Ordering::SeqCst) == 0
 }
 
+/// Whether a solution is the conjunction's, which has nothing to list.
+fn is_of_ones(found: &Solution) -> bool {
+    let all = [0, 1, 2, 3, 4, 5, 6, 7, 8, 9, 10, 11, 12, 13, 14, 15];
+    is_optimum(&found.optimum, &all, &[1; 16], 16) && found.cells.is_empty()
+}
+
 #[test]
 fn two_workers_meet(rt: HostRuntime) -> Result<(), Fail> {
     let gate = open_gate(rt.alloc())?;
     let found = solved(&rt, rt.alloc(), ALL_ONES, &gate)?;
-    let all = [0, 1, 2, 3, 4, 5, 6, 7, 8, 9, 10, 11, 12, 13, 14, 15];
-    assert!(rt; is_optimum(&found.optimum, &all, &[1; 16], 16) && found.cells.is_empty());
-    assert!(rt; saw_each(&gate, 65_535));
+    assert!(rt; is_of_ones(&found) && saw_each(&gate, 65_535));
     Ok(())
 }

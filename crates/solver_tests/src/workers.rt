@@ -1,17 +1,18 @@
 //! Workers at a board whose claims another one holds.
 
-ghost use Rattle.std.specs.Prelude.{◌≡◌, ◌+◌, ◌^◌, ◌<◌, All, IfOk, map};
-ghost use Rattle.subset_layers.specs.Layers.{masks_of};
+ghost use Rattle.std.specs.Prelude.{◌≡◌, ◌+◌, All, IfOk, IfSome, map};
+ghost use Rattle.subset_layers.specs.Layers.{masks_of, layer_with};
 ghost use Rattle.layer_core.specs.Pairing.{pair_of};
 ghost use Rattle.layer_core.specs.Settings.{cell_for};
-ghost use Rattle.order_solve.specs.LayerContexts.{AreCostsFor, IsContext, IsLayerFor, context_with};
+ghost use Rattle.order_solve.specs.LayerContexts.{IsContext, IsLayerFor, context_with};
 
+use crate::boards::{error_of_closing, lone_board};
 use crate::solutions::tables_of;
 use layer_board::{Board, BoardSeat, CloseError, PostRefused};
-use layer_core::CellResult;
-use order_model::{Limit, Mask, NoGate, Pairs, Reserve, Workers};
-use order_solve::{LayerContext, Setting, WorkerResult, work_layer};
-use std::alloc::Global;
+use order_model::{Limit, Mask, NoGate, Pairs, Problem, Reserve, Workers};
+use order_solve::{LayerContext, Setting, work_layer};
+use std::alloc::{AllocError, Global};
+use std::process::Abort;
 use std::test::Fail;
 use std::thread;
 use std::thread::Threads;
@@ -20,280 +21,356 @@ use subset_layers::{Cell, Costs, Layer};
 static PARITY_OF_FOUR: &[u8] =
     b".i 4\n.o 1\n1000 1\n0100 1\n0010 1\n0001 1\n1110 1\n1101 1\n1011 1\n0111 1\n.e\n";
 
+/// A worker does all blocks that are left: its seat, and how many widths its cells took.
+fn worked(
+    alloc: Global,
+    board: &Board,
+    seat: BoardSeat,
+    worker: u8,
+    context: &LayerContext<'_>,
+) -> Result<(BoardSeat, u64), AllocError>
+    requires seat { seat.board ≡ board.now }
+    requires setting { board.now.brief.setting ≡ context.now.setting }
+    requires layer { board.now.brief.layer ≡ context.now.layer }
+    ensures { IfOk result (λ r. r.0.board ≡ board.now) }
+{
+    let done = work_layer(alloc, board, seat, worker, context, &NoGate)?;
+    let count = done.tally.count();
+    Ok((done.seat, count))
+}
+
 /// The cells of a layer, by a lone worker at a board of its own.
 fn cells_by_one(
     alloc: Global,
     setting: &Setting<'_>,
     layer: &Layer,
-    context: &LayerContext<'_>,
+    before: &Costs,
 ) -> Result<Vec<Cell>, Fail>
-    requires inputs { layer.now.inputs ≡ setting.now.problem.inputs }
-    requires setting { context.now.setting ≡ setting.now }
-    requires layer { context.now.layer ≡ layer.now }
+    requires { IsContext (context_with setting.now layer.now before.now) }
     ensures { IfOk result
         (λ v. map pair_of v.items ≡ map (cell_for setting.now) (masks_of layer.now)) }
 {
-    let one = Workers::new(1).ok_or("one worker")?;
-    let (board, mut seats) = Board::new(
+    let context = LayerContext::new(setting, layer, before);
+    let (board, seat) = lone_board(
         alloc,
         setting.problem(),
+        setting.pairs(),
         setting.limit(),
         layer,
-        one,
-        setting.pairs(),
     )?;
-    let seat = seats.pop().ok_or("one seat")?;
-    let WorkerResult {
-        seat,
-        tally: _,
-        ahead: _,
-        found: _,
-    } = work_layer(alloc, &board, seat, 1, context, &NoGate)?;
-    let Ok(cells) = board.close(alloc, seat) else {
-        return Err("closed".into());
-    };
-    Ok(cells)
+    let (seat, _) = worked(alloc, &board, seat, 1, &context)?;
+    match board.close(alloc, seat) {
+        Ok(cells) => Ok(cells),
+        Err(_) => Err("closed".into()),
+    }
+}
+
+/// The cells of the sets of one variable.
+fn first_cells(alloc: Global, setting: &Setting<'_>, layer: &Layer) -> Result<Vec<Cell>, Fail>
+    requires { layer.now ≡ layer_with setting.now.problem.inputs 1 }
+    ensures { IfOk result
+        (λ v. map pair_of v.items ≡ map (cell_for setting.now) (masks_of layer.now)) }
+{
+    let start = Costs::start(alloc, setting.inputs())?;
+    cells_by_one(alloc, setting, layer, &start)
 }
 
 /// The costs of the sets of one variable.
 fn first_costs(alloc: Global, setting: &Setting<'_>) -> Result<Costs, Fail>
     ensures { IfOk result (IsLayerFor setting.now 1) }
 {
-    let start = Costs::start(alloc, setting.inputs())?;
     let layer = Layer::of(alloc, setting.inputs(), 1)?;
-    let context = LayerContext::new(setting, &layer, &start);
-    let cells = cells_by_one(alloc, setting, &layer, &context)?;
+    let cells = first_cells(alloc, setting, &layer)?;
     Ok(Costs::of(layer, cells))
 }
 
-/// The result of a layer's first set.
-fn first_result(setting: &Setting<'_>, layer: &Layer, cells: &[Cell]) -> Result<CellResult, Fail>
+/// A layer's first set, and its cell.
+fn first_of(rt: &impl Abort, setting: &Setting<'_>, layer: &Layer, cells: &[Cell]) -> (Mask, Cell)
     requires { map pair_of cells.now ≡ map (cell_for setting.now) (masks_of layer.now) }
-    ensures { IfOk result (λ r. r.setting ≡ setting.now) }
+    ensures { pair_of result.1 ≡ cell_for setting.now result.0 }
 {
-    if layer.len() == 0 || cells.is_empty() {
-        return Err("an empty layer".into());
-    }
-    let mask = layer.mask_at(0);
-    Ok(setting.result(mask, cells[0]))
+    assert!(rt; layer.len() > 0 && !cells.is_empty());
+    (layer.mask_at(0), cells[0])
 }
 
-/// Posts two results, one after the other.
-fn post_both(
-    board: &Board,
-    mut seat: BoardSeat,
-    one: CellResult,
-    two: CellResult,
-) -> (Result<(), PostRefused>, Result<(), PostRefused>)
-    requires seat { seat.board ≡ board.now }
-    requires one { one.setting ≡ board.now.brief.setting }
-    requires two { two.setting ≡ board.now.brief.setting }
-{
-    let first = board.post(&mut seat, one);
-    let second = board.post(&mut seat, two);
-    (first, second)
-}
-
-/// A worker does all blocks but one that another seat claimed and holds.
-fn check_missing(
+/// The same, where a lone worker finds the cells.
+fn first_cell(
+    rt: &impl Abort,
     alloc: Global,
-    board: Board,
-    worker: BoardSeat,
-    one: CellResult,
-    context: &LayerContext<'_>,
-) -> Result<(), Fail>
-    requires seat { worker.board ≡ board }
-    requires setting { board.brief.setting ≡ context.now.setting }
-    requires layer { board.brief.layer ≡ context.now.layer }
-    requires one { one.setting ≡ context.now.setting }
+    setting: &Setting<'_>,
+    layer: &Layer,
+    before: &Costs,
+) -> Result<(Mask, Cell), Fail>
+    requires { IsContext (context_with setting.now layer.now before.now) }
+    ensures { IfOk result (λ r. pair_of r.1 ≡ cell_for setting.now r.0) }
 {
-    let WorkerResult {
-        mut seat,
-        tally,
-        ahead: _,
-        found: _,
-    } = work_layer(alloc, &board, worker, 2, context, &NoGate)?;
-    if tally.count() != 10 {
-        return Err("two widths for each of five sets".into());
-    }
-    if board.post(&mut seat, one) != Err(PostRefused::Stranger) {
-        return Err("not its own".into());
-    }
-    match board.close(alloc, seat) {
-        Err(CloseError::Missing(3)) => Ok(()),
-        _ => Err("0003 is missing".into()),
-    }
+    let cells = cells_by_one(alloc, setting, layer, before)?;
+    Ok(first_of(rt, setting, layer, &cells))
 }
 
-/// A worker does all blocks but one, whose owner then posts it from a thread of its own.
-fn both_work<R: Threads + Sync>(
-    rt: &R,
+/// A board of a layer, and the seats of two workers.
+fn board_of_two(
     alloc: Global,
-    board: &Board,
-    owner: BoardSeat,
-    worker: BoardSeat,
-    one: CellResult,
-    two: CellResult,
-    context: &LayerContext<'_>,
-) -> Result<BoardSeat, Fail>
-    requires owner { owner.board ≡ board.now }
-    requires seat { worker.board ≡ board.now }
-    requires setting { board.now.brief.setting ≡ context.now.setting }
-    requires layer { board.now.brief.layer ≡ context.now.layer }
-    requires one { one.setting ≡ context.now.setting }
-    requires two { two.setting ≡ context.now.setting }
-    ensures { IfOk result (λ s. s.board ≡ board.now) }
+    setting: &Setting<'_>,
+    layer: &Layer,
+) -> Result<(Board, Vec<BoardSeat>), Fail>
+    requires { layer.now.inputs ≡ setting.now.problem.inputs }
+    ensures setting { IfOk result (λ r. r.0.brief.setting ≡ setting.now) }
+    ensures layer { IfOk result (λ r. r.0.brief.layer ≡ layer.now) }
+    ensures seats { IfOk result (λ r. All (λ s. s.board ≡ r.0) r.1.items) }
 {
-    let WorkerResult {
-        seat,
-        tally: _,
-        ahead: _,
-        found: _,
-    } = work_layer(alloc, board, worker, 2, context, &NoGate)?;
-    let ((first, second), _) = thread::join(
-        rt,
-        move || -> (Result<(), PostRefused>, Result<(), PostRefused>)
-            requires { (owner.board ≡ board.now) × (one.setting ≡ board.now.brief.setting)
-                × (two.setting ≡ board.now.brief.setting) }
-        { post_both(board, owner, one, two) },
-        || (),
-    );
-    if first != Ok(()) || second != Err(PostRefused::Double) {
-        return Err("posted once".into());
-    }
-    Ok(seat)
+    let two = Workers::new(2).ok_or("two workers")?;
+    let limit = setting.limit();
+    let made = Board::new(alloc, setting.problem(), limit, layer, two, setting.pairs())?;
+    Ok(made)
 }
 
-/// The cells of a board, of which there are six, each of cost 4.
-fn check_closed(alloc: Global, board: Board, seat: BoardSeat) -> Result<(), Fail>
-    requires { seat.board ≡ board }
+/// Whether the next block that a seat claims is that of 0003.
+fn claims_three(board: &Board, seat: &mut BoardSeat) -> bool
+    requires { seat.old.board ≡ board.now }
+    ensures { seat.new.board ≡ board.now }
 {
-    let Ok(cells) = board.into_closed(seat).cells(alloc) else {
-        return Err("closed".into());
-    };
-    for cell in &cells {
-        if cell.cost != 4 {
-            return Err("cost 4".into());
-        }
+    match board.claim(seat) {
+        Some(claim) => claim.block().low() == 3,
+        None => false,
     }
-    if cells.len() != 6 {
-        return Err("six cells".into());
-    }
-    Ok(())
 }
 
 /// Two seats, of which the first one claimed the first block.
-fn seats_with_claim(board: &Board, seats: Vec<BoardSeat>) -> Result<(BoardSeat, BoardSeat), Fail>
+fn seats_with_claim(
+    rt: &impl Abort,
+    board: &Board,
+    mut seats: Vec<BoardSeat>,
+) -> Option<(BoardSeat, BoardSeat)>
     requires { All (λ s. s.board ≡ board.now) seats.items }
-    ensures first { IfOk result (λ s. s.0.board ≡ board.now) }
-    ensures second { IfOk result (λ s. s.1.board ≡ board.now) }
+    ensures first { IfSome result (λ s. s.0.board ≡ board.now) }
+    ensures second { IfSome result (λ s. s.1.board ≡ board.now) }
 {
-    let mut seats = seats;
-    let worker = seats.pop().ok_or("two seats")?;
-    let mut owner = seats.pop().ok_or("two seats")?;
-    let Some(claim) = board.claim(&mut owner) else {
-        return Err("a block".into());
-    };
-    if claim.block().low() != 3 {
-        return Err("0003".into());
-    }
-    Ok((owner, worker))
+    let worker = seats.pop()?;
+    let mut owner = seats.pop()?;
+    assert!(rt; claims_three(board, &mut owner));
+    Some((owner, worker))
 }
 
-/// One of two seats claims the first block and holds it while the other one works, or posts it from
-/// a thread of its own.
-fn hold_claim<R: Threads + Sync>(
-    rt: &R,
+/// Whether a seat cannot post a cell, since its block is another seat's.
+fn is_stranger(
+    board: &Board,
+    seat: &mut BoardSeat,
+    setting: &Setting<'_>,
+    mask: Mask,
+    cell: Cell,
+) -> bool
+    requires seat { seat.old.board ≡ board.now }
+    requires setting { board.now.brief.setting ≡ setting.now }
+    requires cell { pair_of cell ≡ cell_for setting.now mask }
+    ensures { seat.new.board ≡ board.now }
+{
+    board.post(seat, setting.result(mask, cell)) == Err(PostRefused::Stranger)
+}
+
+/// A worker does all blocks but the first one, which another seat claimed and holds: its seat.
+fn work_beside_claim(
+    rt: &impl Abort,
     alloc: Global,
-    board: Board,
+    board: &Board,
     seats: Vec<BoardSeat>,
-    one: CellResult,
-    two: CellResult,
+    setting: &Setting<'_>,
     context: &LayerContext<'_>,
-    posts: bool,
-) -> Result<(), Fail>
-    requires seats { All (λ s. s.board ≡ board) seats.items }
-    requires setting { board.brief.setting ≡ context.now.setting }
-    requires layer { board.brief.layer ≡ context.now.layer }
-    requires one { one.setting ≡ context.now.setting }
-    requires two { two.setting ≡ context.now.setting }
+    mask: Mask,
+    cell: Cell,
+) -> Result<BoardSeat, Fail>
+    requires seats { All (λ s. s.board ≡ board.now) seats.items }
+    requires setting { board.now.brief.setting ≡ setting.now }
+    requires context { context.now.setting ≡ setting.now }
+    requires layer { board.now.brief.layer ≡ context.now.layer }
+    requires cell { pair_of cell ≡ cell_for setting.now mask }
+    ensures { IfOk result (λ s. s.board ≡ board.now) }
 {
-    let (owner, worker) = seats_with_claim(&board, seats)?;
-    if posts {
-        let seat = both_work(rt, alloc, &board, owner, worker, one, two, context)?;
-        check_closed(alloc, board, seat)
-    } else {
-        check_missing(alloc, board, worker, one, context)
+    let (_owner, worker) = seats_with_claim(rt, board, seats).ok_or("two seats")?;
+    let (mut seat, widths) = worked(alloc, board, worker, 2, context)?;
+    // Two widths for each of five sets.
+    assert!(rt; widths == 10);
+    assert!(rt; is_stranger(board, &mut seat, setting, mask, cell));
+    Ok(seat)
+}
+
+/// Whether a seat can post a cell, and only once.
+fn posts_once(
+    board: &Board,
+    mut seat: BoardSeat,
+    setting: &Setting<'_>,
+    mask: Mask,
+    cell: Cell,
+) -> bool
+    requires seat { seat.board ≡ board.now }
+    requires setting { board.now.brief.setting ≡ setting.now }
+    requires cell { pair_of cell ≡ cell_for setting.now mask }
+{
+    let first = board.post(&mut seat, setting.result(mask, cell));
+    let second = board.post(&mut seat, setting.result(mask, cell));
+    first == Ok(()) && second == Err(PostRefused::Double)
+}
+
+/// The same, from a thread of its own.
+fn posts_once_apart<R: Threads + Sync>(
+    rt: &R,
+    board: &Board,
+    seat: BoardSeat,
+    setting: &Setting<'_>,
+    mask: Mask,
+    cell: Cell,
+) -> bool
+    requires seat { seat.board ≡ board.now }
+    requires setting { board.now.brief.setting ≡ setting.now }
+    requires cell { pair_of cell ≡ cell_for setting.now mask }
+{
+    let (posted, ()) = thread::join(
+        rt,
+        move || -> bool
+            requires { (seat.board ≡ board.now) × (board.now.brief.setting ≡ setting.now)
+                × (pair_of cell ≡ cell_for setting.now mask) }
+        { posts_once(board, seat, setting, mask, cell) },
+        || (),
+    );
+    posted
+}
+
+/// A worker does all blocks but the first one, whose owner then posts it: the worker's seat.
+fn post_after_work<R: Abort + Threads + Sync>(
+    rt: &R,
+    alloc: Global,
+    board: &Board,
+    seats: Vec<BoardSeat>,
+    setting: &Setting<'_>,
+    context: &LayerContext<'_>,
+    mask: Mask,
+    cell: Cell,
+) -> Result<BoardSeat, Fail>
+    requires seats { All (λ s. s.board ≡ board.now) seats.items }
+    requires setting { board.now.brief.setting ≡ setting.now }
+    requires context { context.now.setting ≡ setting.now }
+    requires layer { board.now.brief.layer ≡ context.now.layer }
+    requires cell { pair_of cell ≡ cell_for setting.now mask }
+    ensures { IfOk result (λ s. s.board ≡ board.now) }
+{
+    let (owner, worker) = seats_with_claim(rt, board, seats).ok_or("two seats")?;
+    let (seat, _) = worked(alloc, board, worker, 2, context)?;
+    assert!(rt; posts_once_apart(rt, board, owner, setting, mask, cell));
+    Ok(seat)
+}
+
+/// Whether a board closes with six cells, each of cost 4.
+fn closes_with_fours(alloc: Global, board: Board, seat: BoardSeat) -> bool
+    requires { seat.board ≡ board }
+{
+    match board.into_closed(seat).cells(alloc) {
+        Ok(cells) => are_six_fours(&cells),
+        Err(_) => false,
     }
 }
 
-/// The result of a layer's first set, twice.
-fn first_results(
+/// Whether there are six cells, each of cost 4.
+fn are_six_fours(cells: &[Cell]) -> bool {
+    cells.len() == 6 && cells.iter().all(|cell: &Cell| cell.cost == 4)
+}
+
+/// Holds a claim at a board for two workers of a layer, and leaves its cell empty.
+fn hold_and_leave(
+    rt: &impl Abort,
     alloc: Global,
     setting: &Setting<'_>,
     layer: &Layer,
     context: &LayerContext<'_>,
-) -> Result<(CellResult, CellResult), Fail>
-    requires inputs { layer.now.inputs ≡ setting.now.problem.inputs }
-    requires setting { context.now.setting ≡ setting.now }
+    mask: Mask,
+    cell: Cell,
+) -> Result<(), Fail>
+    requires context { context.now.setting ≡ setting.now }
     requires layer { context.now.layer ≡ layer.now }
-    ensures one { IfOk result (λ r. r.0.setting ≡ setting.now) }
-    ensures two { IfOk result (λ r. r.1.setting ≡ setting.now) }
+    requires inputs { layer.now.inputs ≡ setting.now.problem.inputs }
+    requires cell { pair_of cell ≡ cell_for setting.now mask }
 {
-    let cells = cells_by_one(alloc, setting, layer, context)?;
-    let one = first_result(setting, layer, &cells)?;
-    let two = first_result(setting, layer, &cells)?;
-    Ok((one, two))
+    let (board, seats) = board_of_two(alloc, setting, layer)?;
+    let seat = work_beside_claim(rt, alloc, &board, seats, setting, context, mask, cell)?;
+    assert!(rt; error_of_closing(alloc, board, seat) == Some(CloseError::Missing(3)));
+    Ok(())
 }
 
-/// Holds a claim at a board for two workers of a layer.
-fn hold_in_layer<R: Threads + Sync>(
+/// The same, and posts its cell.
+fn hold_and_post<R: Abort + Threads + Sync>(
     rt: &R,
     alloc: Global,
     setting: &Setting<'_>,
     layer: &Layer,
     context: &LayerContext<'_>,
-    posts: bool,
+    mask: Mask,
+    cell: Cell,
 ) -> Result<(), Fail>
-    requires inputs { layer.now.inputs ≡ setting.now.problem.inputs }
-    requires setting { context.now.setting ≡ setting.now }
+    requires context { context.now.setting ≡ setting.now }
     requires layer { context.now.layer ≡ layer.now }
+    requires inputs { layer.now.inputs ≡ setting.now.problem.inputs }
+    requires cell { pair_of cell ≡ cell_for setting.now mask }
 {
-    let (one, two) = first_results(alloc, setting, layer, context)?;
-    let workers = Workers::new(2).ok_or("two workers")?;
-    let (board, seats) = Board::new(
-        alloc,
-        setting.problem(),
-        setting.limit(),
-        layer,
-        workers,
-        setting.pairs(),
-    )?;
-    hold_claim(rt, alloc, board, seats, one, two, context, posts)
+    let (board, seats) = board_of_two(alloc, setting, layer)?;
+    let seat = post_after_work(rt, alloc, &board, seats, setting, context, mask, cell)?;
+    assert!(rt; closes_with_fours(alloc, board, seat));
+    Ok(())
 }
 
-/// The layer of the sets of two of four variables, for the parity and the bound 7.
-fn held_claim<R: Threads + Sync>(rt: &R, alloc: Global, posts: bool) -> Result<(), Fail> {
-    let tables = tables_of(rt, alloc, PARITY_OF_FOUR)?;
-    let problem = tables.problem();
+/// Holds a claim at a board of a layer, and leaves its cell empty or posts it.
+fn hold_claim<R: Abort + Threads + Sync>(
+    rt: &R,
+    alloc: Global,
+    setting: &Setting<'_>,
+    layer: &Layer,
+    before: &Costs,
+    posts: bool,
+) -> Result<(), Fail>
+    requires { IsContext (context_with setting.now layer.now before.now) }
+{
+    let (mask, cell) = first_cell(rt, alloc, setting, layer, before)?;
+    let context = LayerContext::new(setting, layer, before);
+    if posts {
+        hold_and_post(rt, alloc, setting, layer, &context, mask, cell)
+    } else {
+        hold_and_leave(rt, alloc, setting, layer, &context, mask, cell)
+    }
+}
+
+/// Holds a claim in the layer of the sets of two variables.
+fn hold_in_second_layer<R: Abort + Threads + Sync>(
+    rt: &R,
+    alloc: Global,
+    setting: &Setting<'_>,
+    posts: bool,
+) -> Result<(), Fail> {
+    let before = first_costs(alloc, setting)?;
+    let layer = Layer::of(alloc, setting.inputs(), 2)?;
+    hold_claim(rt, alloc, setting, &layer, &before, posts)
+}
+
+/// Holds a claim for some functions and the bound 7.
+fn hold_for<R: Abort + Threads + Sync>(
+    rt: &R,
+    alloc: Global,
+    problem: &Problem,
+    posts: bool,
+) -> Result<(), Fail> {
     let pairs = Pairs::none(problem.inputs());
     let limit = Limit {
         bound: 7,
         reserve: Reserve::Variables,
     };
-    let setting = Setting::new(problem, &pairs, limit);
-    let before = first_costs(alloc, &setting)?;
-    let layer = Layer::of(alloc, setting.inputs(), 2)?;
-    let context = LayerContext::new(&setting, &layer, &before);
-    hold_in_layer(rt, alloc, &setting, &layer, &context, posts)
+    hold_in_second_layer(rt, alloc, &Setting::new(problem, &pairs, limit), posts)
 }
 
 #[test]
 fn a_held_claim_is_missing(rt: HostRuntime) -> Result<(), Fail> {
-    held_claim(&rt, rt.alloc(), false)
+    let tables = tables_of(&rt, rt.alloc(), PARITY_OF_FOUR)?;
+    hold_for(&rt, rt.alloc(), tables.problem(), false)
 }
 
 #[test]
 fn a_held_claim_is_posted(rt: HostRuntime) -> Result<(), Fail> {
-    held_claim(&rt, rt.alloc(), true)
+    let tables = tables_of(&rt, rt.alloc(), PARITY_OF_FOUR)?;
+    hold_for(&rt, rt.alloc(), tables.problem(), true)
 }

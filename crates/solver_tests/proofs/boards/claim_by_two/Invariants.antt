@@ -1,5 +1,5 @@
 use Rattle.std.proofs.Common.{◌≡◌, length}
-use Rattle.solver_tests.proofs.boards.events_of_two_workers.Given as goal
+use Rattle.solver_tests.proofs.boards.claim_by_two.Given as goal
 
 abbrev pub invariant-loop-block : goal.invariant-loop-block
 invariant-loop-block g l = length l.core.workers ≡ 2

@@ -1,7 +1,0 @@
-use Rattle.subset_layers.specs.Layers.{masks_of}
-use Rattle.order_solve.proofs.Placing.{found_cell}
-use Rattle.solver_tests.proofs.workers.first_result.Goals as goal
-
-pub result-requires : goal.result-requires
-result-requires c =
-    found_cell c.args.setting.now (masks_of c.args.layer.now) c.args.cells.now 0 c.mask_at-mask.result c.requires c.mask_at-mask.ensures
