@@ -2,4 +2,12 @@
 #![tactic(auto)]
 
 #[cfg(test)]
-mod tests;
+mod numberings;
+#[cfg(test)]
+mod problems;
+#[cfg(test)]
+mod tables;
+#[cfg(test)]
+mod walks;
+#[cfg(test)]
+mod widths;

@@ -44,21 +44,28 @@ fn is_multiplexer(diagram: &Diagram) -> bool {
     true
 }
 
-#[test]
-fn values_of_a_diagram(rt: HostRuntime) -> Result<(), Fail> {
-    let diagram = multiplexer(rt.alloc())?;
-    assert!(rt; is_multiplexer(&diagram));
-    assert!(rt; eval(3, &[], Ref::Terminal(true), 0));
-    Ok(())
+/// Whether a diagram has the multiplexer's order, and a node at each of its levels.
+fn has_one_a_level(diagram: &Diagram) -> bool {
+    diagram.size() == 3
+        && diagram.level_counts() == [1, 1, 1, 0, 0, 0, 0, 0, 0, 0, 0, 0, 0, 0, 0, 0]
+        && diagram.order().variables() == [2, 0, 1].as_slice()
+}
+
+/// How many variables, nodes and roots a diagram hands out.
+fn lengths_of_parts(diagram: Diagram) -> (usize, usize, usize) {
+    let (order, nodes, roots) = diagram.into_parts();
+    (order.len(), nodes.len(), roots.len())
 }
 
 #[test]
-fn parts_of_a_diagram(rt: HostRuntime) -> Result<(), Fail> {
+fn values_of_a_terminal(rt: HostRuntime) {
+    assert!(rt; eval(3, &[], Ref::Terminal(true), 0));
+}
+
+#[test]
+fn values_and_parts_of_a_diagram(rt: HostRuntime) -> Result<(), Fail> {
     let diagram = multiplexer(rt.alloc())?;
-    assert!(rt; diagram.size() == 3);
-    assert!(rt; diagram.level_counts() == [1, 1, 1, 0, 0, 0, 0, 0, 0, 0, 0, 0, 0, 0, 0, 0]);
-    assert!(rt; diagram.order().variables() == [2, 0, 1].as_slice());
-    let (order, nodes, roots) = diagram.into_parts();
-    assert!(rt; order.len() == 3 && nodes.len() == 3 && roots.len() == 1);
+    assert!(rt; is_multiplexer(&diagram) && has_one_a_level(&diagram));
+    assert!(rt; lengths_of_parts(diagram) == (3, 3, 1));
     Ok(())
 }

@@ -4,17 +4,17 @@ use counted_io::Counting;
 use order_model::Mask;
 use pla_reader::read_cover;
 use std::alloc::{AllocError, Global};
-use std::test::Fail;
 use std::thread::Threads;
 use truth_table::Tables;
 
 /// Three products of the variables 0 to 5, in which variable i meets variable i + 3.
 static INTERLEAVED: &[u8] = b".i 6\n.o 1\n1--1-- 1\n-1--1- 1\n--1--1 1\n.e\n";
 
-fn tables_of<R: Threads + Sync>(rt: &R, alloc: Global, text: &[u8]) -> Result<Tables, Fail> {
-    let cover = read_cover(alloc, &mut Counting::new(text))?;
-    let tables = Tables::of_cover(rt, alloc, &cover)?;
-    Ok(tables)
+fn tables_of<R: Threads + Sync>(rt: &R, alloc: Global, text: &[u8]) -> Option<Tables> {
+    match read_cover(alloc, &mut Counting::new(text)) {
+        Ok(cover) => Tables::of_cover(rt, alloc, &cover).ok(),
+        Err(_) => None,
+    }
 }
 
 /// The variables on which the first output depends if those of `care` are fixed to the bits of
@@ -33,14 +33,21 @@ fn dependence(alloc: Global, tables: &Tables, care: Mask, value: Mask) -> Result
     Ok(set)
 }
 
-#[test]
-fn tells_the_dependence_of_cofactors(rt: HostRuntime) -> Result<(), Fail> {
-    let tables = tables_of(&rt, rt.alloc(), INTERLEAVED)?;
+/// Whether the cofactors of the interleaved products depend on what they should.
+fn have_dependences(alloc: Global, tables: &Tables) -> Result<bool, AllocError> {
     // Variable 0 is fixed to 0: variables 0 and 3 don't matter any more.
-    assert!(rt; dependence(rt.alloc(), &tables, 1, 0)? == 0b110110);
+    let without = dependence(alloc, tables, 1, 0)?;
     // Variables 0 and 3 are fixed to 1: the function is 1.
-    assert!(rt; dependence(rt.alloc(), &tables, 0b1001, 0b1001)? == 0);
-    Ok(())
+    let both = dependence(alloc, tables, 0b1001, 0b1001)?;
+    Ok(without == 0b110110 && both == 0)
+}
+
+#[test]
+fn tells_the_dependence_of_cofactors(rt: HostRuntime) {
+    match tables_of(&rt, rt.alloc(), INTERLEAVED) {
+        Some(tables) => assert!(rt; have_dependences(rt.alloc(), &tables) == Ok(true)),
+        None => panic!(rt; "no tables"),
+    }
 }
 
 /// The product of variables 5, 6 and 15 of 16, and the complement of variable 9.
@@ -70,10 +77,16 @@ fn have_values(tables: &Tables) -> bool {
     true
 }
 
+/// Whether these functions have their values, and where variable 15 is 1 the first one depends on
+/// the variables 5 and 6.
+fn are_wide(alloc: Global, tables: &Tables) -> bool {
+    have_values(tables) && dependence(alloc, tables, 0x8000, 0x8000) == Ok(0x0060)
+}
+
 #[test]
-fn holds_the_values_of_wide_covers(rt: HostRuntime) -> Result<(), Fail> {
-    let tables = tables_of(&rt, rt.alloc(), WIDE)?;
-    assert!(rt; have_values(&tables));
-    assert!(rt; dependence(rt.alloc(), &tables, 0x8000, 0x8000)? == 0x0060);
-    Ok(())
+fn holds_the_values_of_wide_covers(rt: HostRuntime) {
+    match tables_of(&rt, rt.alloc(), WIDE) {
+        Some(tables) => assert!(rt; are_wide(rt.alloc(), &tables)),
+        None => panic!(rt; "no tables"),
+    }
 }

@@ -31,29 +31,30 @@ fn members_of_sets(rt: HostRuntime) {
     assert!(rt; total(&[3, 0, 0xFFFF_FFFF]) == 0x1_0000_0002);
 }
 
-/// The fault of a list that is no order.
-fn fault_of(alloc: Global, list: &[VarIx]) -> Option<BadOrder> {
+/// Whether a list is no order, for this fault.
+fn is_refused(alloc: Global, list: &[VarIx], wanted: BadOrder) -> bool {
     match Order::try_from_slice(alloc, list) {
-        Ok(_) => None,
-        Err(fault) => Some(fault),
+        Ok(_) => false,
+        Err(fault) => fault == wanted,
     }
 }
 
 #[test]
 fn lists_that_are_no_orders(rt: HostRuntime) {
     let alloc = rt.alloc();
-    assert!(rt; fault_of(alloc, &[]) == Some(BadOrder::OutOfRange));
-    assert!(rt; fault_of(alloc, &[1, 1]) == Some(BadOrder::NotEach));
-    assert!(rt; fault_of(alloc, &[0, 2]) == Some(BadOrder::OutOfRange));
-    assert!(rt; fault_of(alloc, &[3, 0, 0]) == Some(BadOrder::OutOfRange));
+    assert!(rt; is_refused(alloc, &[], BadOrder::OutOfRange));
+    assert!(rt; is_refused(alloc, &[1, 1], BadOrder::NotEach));
+    assert!(rt; is_refused(alloc, &[0, 2], BadOrder::OutOfRange));
+    assert!(rt; is_refused(alloc, &[3, 0, 0], BadOrder::OutOfRange));
     let seventeen = [0, 1, 2, 3, 4, 5, 6, 7, 8, 9, 10, 11, 12, 13, 14, 15, 16];
-    assert!(rt; fault_of(alloc, &seventeen) == Some(BadOrder::OutOfRange));
+    assert!(rt; is_refused(alloc, &seventeen, BadOrder::OutOfRange));
 }
 
 /// Whether an order is this one, and so is its copy.
 fn is_order(alloc: Global, order: &Order, wanted: &[VarIx]) -> Result<bool, AllocError> {
     let copy = order.try_clone(alloc)?;
-    Ok(order.variables() == wanted && copy.variables() == wanted)
+    let is_copied = copy.variables() == wanted;
+    Ok(is_copied && order.variables() == wanted)
 }
 
 /// Whether an order's list makes the same order again.
@@ -63,22 +64,43 @@ fn is_made_again(alloc: Global, wanted: &[VarIx]) -> Result<bool, Fail> {
     Ok(Order::from_variables(listed).variables() == wanted)
 }
 
-#[test]
-fn orders(rt: HostRuntime) -> Result<(), Fail> {
-    let mut order = Order::try_from_slice(rt.alloc(), &[2, 0, 1])?;
-    assert!(rt; is_order(rt.alloc(), &order, &[2, 0, 1])?);
-    assert!(rt; order.len() == 3);
+/// Whether the file order of four variables is this one.
+fn is_file_order(alloc: Global, wanted: &[VarIx]) -> Result<bool, AllocError> {
+    let order = Order::file_order(alloc, 4)?;
+    is_order(alloc, &order, wanted)
+}
+
+/// Whether 2, 0, 1 is so ordered, and also once its two lowest are exchanged.
+fn is_exchanged(alloc: Global, order: &mut Order) -> Result<bool, AllocError> {
+    if order.len() != 3 || !is_order(alloc, order, &[2, 0, 1])? {
+        return Ok(false);
+    }
     order.swap(1);
-    assert!(rt; order.len() == 3 && order.place_of(0) == 2);
-    assert!(rt; is_order(rt.alloc(), &order, &[2, 1, 0])?);
-    assert!(rt;
-        is_order(
-            rt.alloc(),
-            &Order::file_order(rt.alloc(), 4)?,
-            &[0, 1, 2, 3]
-        )?
-    );
+    Ok(order.len() == 3 && order.place_of(0) == 2 && is_order(alloc, order, &[2, 1, 0])?)
+}
+
+#[test]
+fn orders_of_their_lists(rt: HostRuntime) -> Result<(), Fail> {
+    assert!(rt; is_made_again(rt.alloc(), &[2, 0, 1])?);
     Ok(())
+}
+
+#[test]
+fn orders(rt: HostRuntime) {
+    assert!(rt; is_file_order(rt.alloc(), &[0, 1, 2, 3]) == Ok(true));
+    match Order::try_from_slice(rt.alloc(), &[2, 0, 1]) {
+        Ok(mut order) => assert!(rt; is_exchanged(rt.alloc(), &mut order) == Ok(true)),
+        Err(_) => panic!(rt; "no order"),
+    }
+}
+
+/// Sets the value 1 at the given outputs and points, if the problem has them.
+fn set_ones(problem: &mut Problem, ones: &[(u8, u32)]) {
+    for (output, point) in ones {
+        if *output < problem.outputs() && *point < 1u32 << problem.inputs() {
+            problem.set(*output, *point);
+        }
+    }
 }
 
 /// A problem with the value 1 at the given outputs and points, if it has them.
@@ -89,11 +111,7 @@ fn problem_of(alloc: Global, n: u8, m: u8, ones: &[(u8, u32)]) -> Result<Problem
     requires few_outputs { m ≤ 16 }
 {
     let mut problem = Problem::new(alloc, n, m)?;
-    for (output, point) in ones {
-        if *output < problem.outputs() && *point < 1u32 << problem.inputs() {
-            problem.set(*output, *point);
-        }
-    }
+    set_ones(&mut problem, ones);
     Ok(problem)
 }
 
@@ -118,38 +136,68 @@ fn has_values(problem: &Problem, output: u8, wanted: &[bool]) -> bool {
     true
 }
 
-// Two inputs: their conjunction and their disjunction.
-#[test]
-fn conjunction_and_disjunction(rt: HostRuntime) -> Result<(), Fail> {
-    let problem = problem_of(rt.alloc(), 2, 2, &[(0, 3), (1, 1), (1, 2), (1, 3)])?;
-    assert!(rt; problem.inputs() == 2 && problem.outputs() == 2);
-    assert!(rt; has_values(&problem, 0, &[false, false, false, true]));
-    assert!(rt; has_values(&problem, 1, &[false, true, true, true]));
-    assert!(rt; problem.essential() == 0b11);
-    Ok(())
+/// Whether a problem is the conjunction and the disjunction of two inputs.
+fn is_of_both(problem: &Problem) -> bool {
+    problem.inputs() == 2
+        && problem.outputs() == 2
+        && has_values(problem, 0, &[false, false, false, true])
+        && has_values(problem, 1, &[false, true, true, true])
+        && problem.essential() == 0b11
 }
 
-// Three inputs a, b, s: b if s is 1, else a.
 #[test]
-fn multiplexer(rt: HostRuntime) -> Result<(), Fail> {
-    let problem = problem_of(rt.alloc(), 3, 1, &[(0, 1), (0, 3), (0, 6), (0, 7)])?;
-    let (inputs, outputs, essential) = (problem.inputs(), problem.outputs(), problem.essential());
-    let words = problem.words(0);
-    assert!(rt; inputs == 3 && outputs == 1 && essential == 0b111);
-    assert!(rt; words == [0b1100_1010].as_slice());
-    for x in 0..inputs {
-        assert!(rt; depends_on(inputs, words, x));
+fn conjunction_and_disjunction(rt: HostRuntime) {
+    match problem_of(rt.alloc(), 2, 2, &[(0, 3), (1, 1), (1, 2), (1, 3)]) {
+        Ok(problem) => assert!(rt; is_of_both(&problem)),
+        Err(_) => panic!(rt; "memory"),
     }
-    let same = Problem::from_words(inputs, outputs, words.to_vec(rt.alloc())?);
-    assert!(rt; value_in(&same, 0, 6) == Some(true) && value_in(&same, 0, 5) == Some(false));
-    Ok(())
+}
+
+/// Whether a problem is one function of three inputs a, b, s: b if s is 1, else a.
+fn is_multiplexer(problem: &Problem) -> bool {
+    let inputs = problem.inputs();
+    if inputs != 3 || problem.outputs() != 1 || problem.essential() != 0b111 {
+        return false;
+    }
+    let words = problem.words(0);
+    for x in 0..inputs {
+        if !depends_on(inputs, words, x) {
+            return false;
+        }
+    }
+    words == [0b1100_1010].as_slice()
+}
+
+/// Whether the words of a problem with the multiplexer's values make such a problem again.
+fn is_made_of_words(alloc: Global, problem: &Problem) -> Result<bool, AllocError> {
+    let (inputs, outputs) = (problem.inputs(), problem.outputs());
+    if inputs != 3 || outputs != 1 {
+        return Ok(false);
+    }
+    let words = problem.words(0).to_vec(alloc)?;
+    let same = Problem::from_words(inputs, outputs, words);
+    Ok(value_in(&same, 0, 6) == Some(true) && value_in(&same, 0, 5) == Some(false))
+}
+
+/// Whether a problem is the multiplexer, and its words have such values again.
+fn holds_in_its_words(alloc: Global, problem: &Problem) -> bool {
+    is_multiplexer(problem) && is_made_of_words(alloc, problem) == Ok(true)
 }
 
 #[test]
-fn variables_past_the_first_word(rt: HostRuntime) -> Result<(), Fail> {
-    let problem = problem_of(rt.alloc(), 7, 1, &[(0, 64), (0, 127)])?;
-    assert!(rt; problem.essential() == 0b0111_1111);
-    Ok(())
+fn multiplexer(rt: HostRuntime) {
+    match problem_of(rt.alloc(), 3, 1, &[(0, 1), (0, 3), (0, 6), (0, 7)]) {
+        Ok(problem) => assert!(rt; holds_in_its_words(rt.alloc(), &problem)),
+        Err(_) => panic!(rt; "memory"),
+    }
+}
+
+#[test]
+fn variables_past_the_first_word(rt: HostRuntime) {
+    match problem_of(rt.alloc(), 7, 1, &[(0, 64), (0, 127)]) {
+        Ok(problem) => assert!(rt; problem.essential() == 0b0111_1111),
+        Err(_) => panic!(rt; "memory"),
+    }
 }
 
 /// The nodes that are counted on above the variable 0 of three, if its width is 2.
@@ -162,16 +210,24 @@ fn above_the_first(problem: &Problem, reserve: Reserve) -> Option<u64> {
     Some(Reserves::new(problem, reserve).above(1, &widths))
 }
 
+/// Whether the reserves of three essential variables count on two nodes by the variables that are
+/// left, and on three by the widths.
+fn counts_on_what_is_left(problem: &Problem) -> bool {
+    let reserves = Reserves::new(problem, Reserve::Widths);
+    reserves.essential() == 0b111
+        && reserves.reserve() == Reserve::Widths
+        && above_the_first(problem, Reserve::Variables) == Some(2)
+        && above_the_first(problem, Reserve::Widths) == Some(3)
+}
+
 // The conjunction of 1 and 2, and the parity of 0, 1 and 2, of which two subfunctions depend on 0.
 #[test]
-fn nodes_above_a_set(rt: HostRuntime) -> Result<(), Fail> {
+fn nodes_above_a_set(rt: HostRuntime) {
     let ones = [(0, 6), (0, 7), (1, 1), (1, 2), (1, 4), (1, 7)];
-    let problem = problem_of(rt.alloc(), 3, 2, &ones)?;
-    assert!(rt; above_the_first(&problem, Reserve::Variables) == Some(2));
-    assert!(rt; above_the_first(&problem, Reserve::Widths) == Some(3));
-    let reserves = Reserves::new(&problem, Reserve::Widths);
-    assert!(rt; reserves.essential() == 0b111 && reserves.reserve() == Reserve::Widths);
-    Ok(())
+    match problem_of(rt.alloc(), 3, 2, &ones) {
+        Ok(problem) => assert!(rt; counts_on_what_is_left(&problem)),
+        Err(_) => panic!(rt; "memory"),
+    }
 }
 
 #[test]

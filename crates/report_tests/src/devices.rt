@@ -1,5 +1,6 @@
 //! Readers and writers that fail.
 
+use counted_io::Counting;
 use std::alloc::Global;
 use std::io;
 use std::io::{ErrorKind, Read, Write};
@@ -27,7 +28,7 @@ impl Read for FailingReader<'_> {
 /// many as it may.
 #[derive(Drop)]
 pub struct FailingWriter {
-    pub taken: Vec<u8>,
+    taken: Vec<u8>,
     bytes_left: usize,
     most_a_call: usize,
 }
@@ -45,6 +46,19 @@ impl FailingWriter {
     /// A writer with room for everything.
     pub fn ample(alloc: Global) -> FailingWriter {
         FailingWriter::new(alloc, 10_000_000, 10_000_000)
+    }
+}
+
+/// Whether a report's writer, or a check's, holds these bytes.
+pub fn holds(writer: Counting<FailingWriter>, bytes: &[u8]) -> bool {
+    writer.into_inner().taken.as_slice() == bytes
+}
+
+/// Whether there is a certificate's writer, which holds these bytes.
+pub fn certificate_holds(writer: Option<Counting<FailingWriter>>, bytes: &[u8]) -> bool {
+    match writer {
+        Some(writer) => holds(writer, bytes),
+        None => false,
     }
 }
 

@@ -1,11 +1,12 @@
 //! Runs over devices that fail.
 
-use crate::devices::{FailingReader, FailingWriter};
+use crate::devices::{FailingReader, FailingWriter, certificate_holds, holds};
 use counted_io::Counting;
 use order_model::Workers;
 use outcomes::{Fault, Outcome};
 use report::{RunPlan, run};
 use std::io::{ErrorKind, Read};
+use std::test::Fail;
 use std::thread::Threads;
 
 /// The multiplexer, its report, and its certificate.
@@ -17,33 +18,41 @@ static REPORT: &[u8] =
 static CERTIFICATE: &[u8] =
     b"bddorder-certificate 2\ninputs 3\noutputs 1\norder 2 0 1\nlevels 1 1 1\ntotal 3\npairs 0\ncells 0\nend\n";
 
-/// How a run ended, and what the writers of the report and of the certificate then hold.
-#[derive(Drop)]
-struct Ended {
+/// How a run ends, and what the writers of the report and of the certificate then hold.
+#[derive(Clone, Copy)]
+struct Ending<'a> {
     outcome: Outcome,
-    report: FailingWriter,
-    certificate: FailingWriter,
+    report: &'a [u8],
+    certificate: &'a [u8],
 }
 
-impl Ended {
-    /// Whether a run ended so, with these bytes in its writers.
-    fn is(&self, outcome: Outcome, report: &[u8], certificate: &[u8]) -> bool {
-        self.outcome == outcome
-            && self.report.taken.as_slice() == report
-            && self.certificate.taken.as_slice() == certificate
-    }
+const DONE: Ending<'static> = Ending {
+    outcome: Outcome::Done,
+    report: REPORT,
+    certificate: CERTIFICATE,
+};
+
+const FAILED: Ending<'static> = Ending {
+    outcome: Outcome::Refused(Fault::Device),
+    report: &[],
+    certificate: &[],
+};
+
+fn two_workers() -> Result<Workers, Fail> {
+    Ok(Workers::new(2).ok_or("workers")?)
 }
 
-/// A run of two workers over a reader, or a count, with these two writers.
-fn ran<T: AllocGlobal + Threads + Sync, R: Read + Drop>(
+/// Whether a run of these workers over a reader, or a count, ends so with these two writers.
+fn ends<T: AllocGlobal + Threads + Sync, R: Read + Drop>(
     rt: &T,
-    count: bool,
+    (workers, count): (Workers, bool),
     reader: R,
     report: FailingWriter,
     certificate: FailingWriter,
-) -> Option<Ended> {
+    wanted: &Ending<'_>,
+) -> bool {
     let plan = RunPlan {
-        workers: Workers::new(2)?,
+        workers,
         count,
         above: None,
     };
@@ -58,11 +67,9 @@ fn ran<T: AllocGlobal + Threads + Sync, R: Read + Drop>(
         &mut report,
         &mut certificate,
     );
-    Some(Ended {
-        outcome,
-        report: report.into_inner(),
-        certificate: certificate?.into_inner(),
-    })
+    let is_reported = holds(report, wanted.report);
+    let is_certified = certificate_holds(certificate, wanted.certificate);
+    outcome == wanted.outcome && is_reported && is_certified
 }
 
 /// Whether a run over a reader that fails after some calls leaves nothing, and one whose reader
@@ -70,6 +77,7 @@ fn ran<T: AllocGlobal + Threads + Sync, R: Read + Drop>(
 /// the end.
 fn ends_as_read<T: AllocGlobal + Threads + Sync>(
     rt: &T,
+    workers: Workers,
     calls_left: u32,
     error: ErrorKind,
 ) -> bool {
@@ -78,72 +86,89 @@ fn ends_as_read<T: AllocGlobal + Threads + Sync>(
         calls_left,
         error,
     };
-    let (report, certificate) = (
-        FailingWriter::ample(rt.alloc()),
-        FailingWriter::ample(rt.alloc()),
-    );
-    match ran(rt, false, reader, report, certificate) {
-        Some(ended) if calls_left < 12 => ended.is(Outcome::Refused(Fault::Device), &[], &[]),
-        Some(ended) => ended.is(Outcome::Done, REPORT, CERTIFICATE),
-        None => false,
+    let report = FailingWriter::ample(rt.alloc());
+    let certificate = FailingWriter::ample(rt.alloc());
+    let asked = (workers, false);
+    if calls_left < 12 {
+        ends(rt, asked, reader, report, certificate, &FAILED)
+    } else {
+        ends(rt, asked, reader, report, certificate, &DONE)
     }
 }
 
 #[test]
-fn readers_that_fail_leave_nothing(rt: HostRuntime) {
-    for error in [ErrorKind::Interrupted, ErrorKind::Other] {
-        for calls_left in 0..20 {
-            assert!(rt; ends_as_read(&rt, calls_left, error));
-        }
+fn readers_that_fail_leave_nothing(rt: HostRuntime) -> Result<(), Fail> {
+    let workers = two_workers()?;
+    for calls_left in 0..20 {
+        assert!(rt; ends_as_read(&rt, workers, calls_left, ErrorKind::Interrupted));
+        assert!(rt; ends_as_read(&rt, workers, calls_left, ErrorKind::Other));
     }
+    Ok(())
 }
 
 /// Whether a run whose report's writer fails after some bytes leaves these, and the certificate.
-fn ends_as_reported<T: AllocGlobal + Threads + Sync>(rt: &T, report: &[u8]) -> bool {
+fn ends_as_reported<T: AllocGlobal + Threads + Sync>(
+    rt: &T,
+    workers: Workers,
+    report: &[u8],
+) -> bool {
     let writer = FailingWriter::new(rt.alloc(), report.len(), 1000);
-    match ran(rt, false, FILE, writer, FailingWriter::ample(rt.alloc())) {
-        Some(ended) => ended.is(Outcome::Refused(Fault::Device), report, CERTIFICATE),
-        None => false,
-    }
+    let certificate = FailingWriter::ample(rt.alloc());
+    let wanted = Ending {
+        outcome: Outcome::Refused(Fault::Device),
+        report,
+        certificate: CERTIFICATE,
+    };
+    ends(rt, (workers, false), FILE, writer, certificate, &wanted)
 }
 
 /// Whether a run whose certificate's writer fails after some bytes leaves these, and no report.
-fn ends_as_certified<T: AllocGlobal + Threads + Sync>(rt: &T, certificate: &[u8]) -> bool {
+fn ends_as_certified<T: AllocGlobal + Threads + Sync>(
+    rt: &T,
+    workers: Workers,
+    certificate: &[u8],
+) -> bool {
+    let report = FailingWriter::ample(rt.alloc());
     let writer = FailingWriter::new(rt.alloc(), certificate.len(), 1000);
-    match ran(rt, false, FILE, FailingWriter::ample(rt.alloc()), writer) {
-        Some(ended) => ended.is(Outcome::Refused(Fault::Device), &[], certificate),
-        None => false,
-    }
+    let wanted = Ending {
+        outcome: Outcome::Refused(Fault::Device),
+        report: &[],
+        certificate,
+    };
+    ends(rt, (workers, false), FILE, report, writer, &wanted)
 }
 
 #[test]
-fn writers_that_fail_hold_a_beginning(rt: HostRuntime) {
+fn writers_that_fail_hold_a_beginning(rt: HostRuntime) -> Result<(), Fail> {
+    let workers = two_workers()?;
     for bytes_left in 0..REPORT.len() {
-        assert!(rt; ends_as_reported(&rt, &REPORT[..bytes_left]));
+        assert!(rt; ends_as_reported(&rt, workers, &REPORT[..bytes_left]));
     }
     for bytes_left in 0..CERTIFICATE.len() {
-        assert!(rt; ends_as_certified(&rt, &CERTIFICATE[..bytes_left]));
+        assert!(rt; ends_as_certified(&rt, workers, &CERTIFICATE[..bytes_left]));
     }
+    Ok(())
 }
 
 #[test]
-fn slow_writers_hold_all(rt: HostRuntime) {
+fn slow_writers_hold_all(rt: HostRuntime) -> Result<(), Fail> {
+    let workers = two_workers()?;
     let report = FailingWriter::new(rt.alloc(), 1000, 1);
     let certificate = FailingWriter::new(rt.alloc(), 1000, 1);
-    match ran(&rt, false, FILE, report, certificate) {
-        Some(ended) => assert!(rt; ended.is(Outcome::Done, REPORT, CERTIFICATE)),
-        None => panic!(rt; "no run"),
-    }
+    assert!(rt; ends(&rt, (workers, false), FILE, report, certificate, &DONE));
+    Ok(())
 }
 
 #[test]
-fn counts_leave_the_certificate_alone(rt: HostRuntime) {
-    let (report, certificate) = (
-        FailingWriter::ample(rt.alloc()),
-        FailingWriter::ample(rt.alloc()),
-    );
-    match ran(&rt, true, FILE, report, certificate) {
-        Some(ended) => assert!(rt; ended.is(Outcome::Done, b"levels: 1 2 2\nnodes: 5\n", &[])),
-        None => panic!(rt; "no run"),
-    }
+fn counts_leave_the_certificate_alone(rt: HostRuntime) -> Result<(), Fail> {
+    let workers = two_workers()?;
+    let report = FailingWriter::ample(rt.alloc());
+    let certificate = FailingWriter::ample(rt.alloc());
+    let wanted = Ending {
+        outcome: Outcome::Done,
+        report: b"levels: 1 2 2\nnodes: 5\n",
+        certificate: &[],
+    };
+    assert!(rt; ends(&rt, (workers, true), FILE, report, certificate, &wanted));
+    Ok(())
 }

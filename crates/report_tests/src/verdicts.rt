@@ -1,6 +1,6 @@
 //! Checks over devices that fail.
 
-use crate::devices::{FailingReader, FailingWriter};
+use crate::devices::{FailingReader, FailingWriter, holds};
 use checks::run_check;
 use counted_io::Counting;
 use outcomes::{Fault, Outcome};
@@ -27,7 +27,8 @@ fn ends<T: AllocGlobal + Threads + Sync, C: Read + Drop>(
     let mut certificate = Counting::new(certificate);
     let mut out = Counting::new(FailingWriter::new(rt.alloc(), room, 100));
     let outcome = run_check(rt, rt.alloc(), &mut file, &mut certificate, &mut out);
-    outcome == wanted && out.into_inner().taken.as_slice() == line
+    let is_written = holds(out, line);
+    outcome == wanted && is_written
 }
 
 /// Whether a check of a certificate whose reader fails after some calls ends so. The certificate is
@@ -51,10 +52,9 @@ fn ends_as_read<T: AllocGlobal + Threads + Sync>(
 
 #[test]
 fn readers_that_fail_leave_nothing(rt: HostRuntime) {
-    for error in [ErrorKind::Interrupted, ErrorKind::Other] {
-        for calls_left in 0..35 {
-            assert!(rt; ends_as_read(&rt, calls_left, error));
-        }
+    for calls_left in 0..35 {
+        assert!(rt; ends_as_read(&rt, calls_left, ErrorKind::Interrupted));
+        assert!(rt; ends_as_read(&rt, calls_left, ErrorKind::Other));
     }
 }
 

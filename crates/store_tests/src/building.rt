@@ -1,5 +1,5 @@
 //! Builds of small covers, by several workers, and in a full store.
-ghost use Rattle.std.specs.Prelude.{◌≡◌, ◌≤◌, length, IfOk};
+ghost use Rattle.std.specs.Prelude.{◌≡◌, ◌≤◌, length, IfOk, OnOk};
 ghost use Rattle.unique_table.specs.Plans.{levels_of, order_of};
 ghost use Rattle.truth_table.specs.OfCovers.{AreTablesOf};
 ghost use Rattle.dd_builder.specs.Building.{IsForCover};
@@ -102,14 +102,25 @@ fn tables_size<R: Threads + Sync, G: Gate>(
 fn has_size<R: Threads + Sync>(
     rt: &R,
     alloc: Global,
+    input: &Input,
+    size: usize,
+    workers: Workers,
+) -> Result<bool, AllocError> {
+    let from_terms = cover_size(rt, alloc, input, workers, &NoGate)?;
+    let from_tables = tables_size(rt, alloc, input, workers, &NoGate)?;
+    Ok(from_terms == Some(size) && from_tables == Some(size))
+}
+
+// The same of a cover that is read.
+fn text_has_size<R: Threads + Sync>(
+    rt: &R,
+    alloc: Global,
     text: &[u8],
     size: usize,
     workers: Workers,
 ) -> Result<bool, Fail> {
     let input = read_input(rt, alloc, text)?;
-    let from_terms = cover_size(rt, alloc, &input, workers, &NoGate)?;
-    let from_tables = tables_size(rt, alloc, &input, workers, &NoGate)?;
-    Ok(from_terms == Some(size) && from_tables == Some(size))
+    Ok(has_size(rt, alloc, &input, size, workers)?)
 }
 
 #[test]
@@ -117,7 +128,7 @@ fn builds_covers_under_their_file_orders(rt: HostRuntime) -> Result<(), Fail> {
     for count in [1u8, 2, 64] {
         let workers = Workers::new(count).ok_or("workers")?;
         for (text, size) in &COVERS {
-            assert!(rt; has_size(&rt, rt.alloc(), text, *size, workers)?);
+            assert!(rt; text_has_size(&rt, rt.alloc(), text, *size, workers)?);
         }
     }
     Ok(())
@@ -131,24 +142,39 @@ fn has_levels(built: Result<Diagram, AllocError>, wanted: &[u32]) -> bool {
     }
 }
 
-#[test]
-fn builds_diagrams_of_covers(rt: HostRuntime) -> Result<(), Fail> {
-    let input = read_input(&rt, rt.alloc(), INTERLEAVED)?;
-    let workers = Workers::new(2).ok_or("workers")?;
+// Whether the diagrams from a cover's terms and from its truth tables have these level counts.
+fn both_have_levels<R: Threads + Sync>(
+    rt: &R,
+    alloc: Global,
+    input: &Input,
+    workers: Workers,
+    wanted: &[u32],
+) -> bool {
     let Input {
         cover,
         tables,
         order,
-    } = &input;
-    let built = build(&rt, rt.alloc(), cover, tables, order, workers, &NoGate);
-    assert!(rt; has_levels(built, &[1, 2, 4, 4, 2, 1]));
-    let built = build_tables(&rt, rt.alloc(), tables, order, workers, &NoGate);
-    assert!(rt; has_levels(built, &[1, 2, 4, 4, 2, 1]));
+    } = input;
+    has_levels(
+        build(rt, alloc, cover, tables, order, workers, &NoGate),
+        wanted,
+    ) && has_levels(
+        build_tables(rt, alloc, tables, order, workers, &NoGate),
+        wanted,
+    )
+}
+
+#[test]
+fn builds_diagrams_of_covers(rt: HostRuntime) -> Result<(), Fail> {
+    let workers = Workers::new(2).ok_or("workers")?;
+    let input = read_input(&rt, rt.alloc(), INTERLEAVED)?;
+    let counts = [1, 2, 4, 4, 2, 1];
+    assert!(rt; both_have_levels(&rt, rt.alloc(), &input, workers, &counts));
     Ok(())
 }
 
-// The conjunction of two variables, by the operation and as a node.
-fn conjunctions(store: &Store, session: &mut Session) -> Result<(NodeId, NodeId), StoreFull>
+// Whether the operation gives the node of the conjunction of two variables.
+fn gives_conjunction(store: &Store, session: &mut Session) -> Result<bool, StoreFull>
     requires session { session.old.store ≡ store.now }
     requires levels { 2 ≤ levels_of store.now.plan }
 {
@@ -156,20 +182,22 @@ fn conjunctions(store: &Store, session: &mut Session) -> Result<(NodeId, NodeId)
     let y = store.make(session, 1, 0, 1)?;
     let both = apply(store, session, Operation::And, x, y)?;
     let node = store.make(session, 0, 0, y)?;
-    Ok((both, node))
+    Ok(both == node)
+}
+
+// The same in a fresh store, if it has two levels.
+fn gives_conjunction_in_fresh_store(alloc: Global, input: &Input) -> Result<bool, Fail> {
+    if input.order.len() < 2 {
+        return Err("two levels".into());
+    }
+    let (store, mut session) = cover_store(alloc, &input.cover, &input.tables, &input.order)?;
+    Ok(gives_conjunction(&store, &mut session)?)
 }
 
 #[test]
 fn applies_operations(rt: HostRuntime) -> Result<(), Fail> {
     let input = read_input(&rt, rt.alloc(), PARITY)?;
-    let (store, mut session) = cover_store(rt.alloc(), &input.cover, &input.tables, &input.order)?;
-    if store.order().len() < 2 {
-        return Err("two levels".into());
-    }
-    match conjunctions(&store, &mut session) {
-        Ok((both, node)) => assert!(rt; both == node),
-        Err(StoreFull) => panic!(rt; "full"),
-    }
+    assert!(rt; gives_conjunction_in_fresh_store(rt.alloc(), &input)?);
     Ok(())
 }
 
@@ -177,7 +205,8 @@ fn applies_operations(rt: HostRuntime) -> Result<(), Fail> {
 // most, and notes the items, which are below 64.
 #[derive(Drop)]
 struct Meeting {
-    came: [AtomicU64; 2],
+    first_came: AtomicU64,
+    second_came: AtomicU64,
     items: AtomicU64,
     repeated: AtomicU64,
     missed: AtomicU64,
@@ -189,10 +218,14 @@ impl Gate for Meeting {
         if self.items.fetch_or(mark, Ordering::SeqCst) & mark != 0 || mark == 0 {
             self.repeated.store(1, Ordering::SeqCst);
         }
-        let me = usize::from(worker == 2);
-        self.came[me].store(1, Ordering::SeqCst);
+        let (mine, other) = if worker == 2 {
+            (&self.second_came, &self.first_came)
+        } else {
+            (&self.first_came, &self.second_came)
+        };
+        mine.store(1, Ordering::SeqCst);
         for _ in 0..100_000_000u64 {
-            if self.came[1 - me].load(Ordering::SeqCst) == 1 {
+            if other.load(Ordering::SeqCst) == 1 {
                 return;
             }
             hint::spin_loop();
@@ -204,7 +237,8 @@ impl Gate for Meeting {
 impl Meeting {
     fn new() -> Meeting {
         Meeting {
-            came: [AtomicU64::new(0), AtomicU64::new(0)],
+            first_came: AtomicU64::new(0),
+            second_came: AtomicU64::new(0),
             items: AtomicU64::new(0),
             repeated: AtomicU64::new(0),
             missed: AtomicU64::new(0),
@@ -219,23 +253,59 @@ impl Meeting {
     }
 }
 
-#[test]
-fn two_workers_build_terms_at_once(rt: HostRuntime) -> Result<(), Fail> {
-    let input = read_input(&rt, rt.alloc(), SIXTEEN_ONES)?;
-    let workers = Workers::new(2).ok_or("workers")?;
+// Whether two workers that meet build sixteen nodes, and saw each of the items once.
+fn meet_over_terms<R: Threads + Sync>(
+    rt: &R,
+    alloc: Global,
+    input: &Input,
+    workers: Workers,
+) -> Result<bool, AllocError> {
     let gate = Meeting::new();
-    let size = cover_size(&rt, rt.alloc(), &input, workers, &gate)?;
-    assert!(rt; size == Some(16) && gate.saw_each(u64::MAX));
-    Ok(())
+    let size = cover_size(rt, alloc, input, workers, &gate)?;
+    Ok(size == Some(16) && gate.saw_each(u64::MAX))
+}
+
+fn meet_over_restrictions<R: Threads + Sync>(
+    rt: &R,
+    alloc: Global,
+    input: &Input,
+    workers: Workers,
+) -> Result<bool, AllocError> {
+    let gate = Meeting::new();
+    let size = tables_size(rt, alloc, input, workers, &gate)?;
+    Ok(size == Some(16) && gate.saw_each(0b1111))
+}
+
+// The same of both kinds of pieces.
+fn meet_over_both<R: Threads + Sync>(
+    rt: &R,
+    alloc: Global,
+    input: &Input,
+    workers: Workers,
+) -> Result<bool, AllocError> {
+    Ok(
+        meet_over_terms(rt, alloc, input, workers)?
+            && meet_over_restrictions(rt, alloc, input, workers)?,
+    )
 }
 
 #[test]
-fn two_workers_build_restrictions_at_once(rt: HostRuntime) -> Result<(), Fail> {
-    let input = read_input(&rt, rt.alloc(), SIXTEEN_ONES)?;
+fn two_workers_build_at_once(rt: HostRuntime) -> Result<(), Fail> {
     let workers = Workers::new(2).ok_or("workers")?;
-    let gate = Meeting::new();
-    let size = tables_size(&rt, rt.alloc(), &input, workers, &gate)?;
-    assert!(rt; size == Some(16) && gate.saw_each(0b1111));
+    let input = read_input(&rt, rt.alloc(), SIXTEEN_ONES)?;
+    assert!(rt; meet_over_both(&rt, rt.alloc(), &input, workers)?);
+    Ok(())
+}
+
+// Fills a store of sixteen levels with nodes of the lowest five.
+fn fill_lowest(store: &Store, session: &mut Session, alloc: Global) -> Result<(), AllocError>
+    requires session { session.old.store ≡ store.now }
+    requires levels { levels_of store.now.plan ≡ 16 }
+    ensures { OnOk result (session.new.store ≡ store.now) }
+{
+    let below = lowest(store, session, alloc)?;
+    let mut ids = Vec::new(alloc);
+    make_all(store, session, 11, &below, &below, 1_000_000, &mut ids)?;
     Ok(())
 }
 
@@ -245,56 +315,65 @@ fn full_store(alloc: Global, input: &Input) -> Result<(Store, Session), Fail>
     ensures order { IfOk result (λ r. order_of r.0.plan ≡ input.now.order) }
     ensures session { IfOk result (λ r. r.1.store ≡ r.0) }
 {
-    let (store, mut session) = cover_store(alloc, &input.cover, &input.tables, &input.order)?;
-    if store.order().len() != 16 {
+    if input.order.len() != 16 {
         return Err("sixteen levels".into());
     }
-    let below = lowest(&store, &mut session, alloc)?;
-    let mut ids = Vec::new(alloc);
-    make_all(
-        &store,
-        &mut session,
-        11,
-        &below,
-        &below,
-        1_000_000,
-        &mut ids,
-    )?;
+    let (store, mut session) = cover_store(alloc, &input.cover, &input.tables, &input.order)?;
+    fill_lowest(&store, &mut session, alloc)?;
     Ok((store, session))
 }
 
-#[test]
-fn terms_meet_a_full_store(rt: HostRuntime) -> Result<(), Fail> {
-    let input = read_input(&rt, rt.alloc(), SIXTEEN_ONES)?;
-    let workers = Workers::new(2).ok_or("workers")?;
-    let (store, session) = full_store(rt.alloc(), &input)?;
-    let built = from_cover(
-        &rt,
-        rt.alloc(),
-        store,
-        session,
-        &input.cover,
-        workers,
-        &NoGate,
-    );
-    assert!(rt; matches!(built, Err(BuildError::StoreFull(_))));
-    Ok(())
+// Whether a build met a full store.
+fn met_full_store(built: Result<Diagram, BuildError>) -> bool {
+    matches!(built, Err(BuildError::StoreFull(_)))
+}
+
+// Whether the terms of a cover of sixteen variables meet a store that is full.
+fn terms_meet_full_store<R: Threads + Sync>(
+    rt: &R,
+    alloc: Global,
+    input: &Input,
+    workers: Workers,
+) -> Result<bool, Fail> {
+    let (store, session) = full_store(alloc, input)?;
+    let built = from_cover(rt, alloc, store, session, &input.cover, workers, &NoGate);
+    Ok(met_full_store(built))
+}
+
+// How many nodes are built if the store of a cover of sixteen variables is full.
+fn size_from_full_store<R: Threads + Sync>(
+    rt: &R,
+    alloc: Global,
+    input: &Input,
+    workers: Workers,
+) -> Result<usize, Fail> {
+    let crew = Crew::new(rt, workers, &NoGate);
+    let begun = full_store(alloc, input)?;
+    let Input {
+        cover,
+        tables,
+        order,
+    } = input;
+    Ok(build_from(&crew, alloc, begun, cover, tables, order)?.size())
+}
+
+// Whether the terms meet a full store, and sixteen nodes are built all the same.
+fn tables_stand_in<R: Threads + Sync>(
+    rt: &R,
+    alloc: Global,
+    input: &Input,
+    workers: Workers,
+) -> Result<bool, Fail> {
+    Ok(
+        terms_meet_full_store(rt, alloc, input, workers)?
+            && size_from_full_store(rt, alloc, input, workers)? == 16,
+    )
 }
 
 #[test]
 fn truth_tables_stand_in_for_a_full_store(rt: HostRuntime) -> Result<(), Fail> {
-    let input = read_input(&rt, rt.alloc(), SIXTEEN_ONES)?;
     let workers = Workers::new(2).ok_or("workers")?;
-    let crew = Crew::new(&rt, workers, &NoGate);
-    let begun = full_store(rt.alloc(), &input)?;
-    let built = build_from(
-        &crew,
-        rt.alloc(),
-        begun,
-        &input.cover,
-        &input.tables,
-        &input.order,
-    )?;
-    assert!(rt; built.size() == 16);
+    let input = read_input(&rt, rt.alloc(), SIXTEEN_ONES)?;
+    assert!(rt; tables_stand_in(&rt, rt.alloc(), &input, workers)?);
     Ok(())
 }

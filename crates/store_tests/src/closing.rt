@@ -70,33 +70,68 @@ struct Ending {
     closed: Result<Diagram, CloseFault>,
 }
 
+// Makes the two functions and publishes so many of them; with a node that no root reaches, if that
+// is wanted. Says whether each published output was collected.
+fn publish_both(
+    store: &Store,
+    session: &mut Session,
+    published: u8,
+    further: bool,
+) -> Result<bool, StoreFull>
+    requires session { session.old.store ≡ store.now }
+    requires order { order_of store.now.plan ≡ 0 ∷ 1 ∷ [] }
+    requires tables { store.now.plan.problem.value.tables ≡ two_tables }
+    ensures { OnOk result (session.new.store ≡ store.now) }
+{
+    let (conjunction, disjunction) = make_both(store, session)?;
+    let mut collected = true;
+    if published > 0 {
+        collected = publish_output(store, session, 0, conjunction);
+    }
+    if published > 1 {
+        collected = publish_output(store, session, 1, disjunction) && collected;
+    }
+    if further {
+        store.make(session, 0, 1, 0)?;
+    }
+    Ok(collected)
+}
+
 // Closes a store for which so many of the two functions were published; with a node that no root
 // reaches, if that is wanted.
 fn close_both(alloc: Global, published: u8, further: bool) -> Result<Ending, Fail> {
     let (store, mut session) = store_of_both(alloc)?;
-    let (conjunction, disjunction) = make_both(&store, &mut session)?;
-    let mut collected = true;
-    if published > 0 {
-        collected = publish_output(&store, &mut session, 0, conjunction);
-    }
-    if published > 1 {
-        collected = publish_output(&store, &mut session, 1, disjunction) && collected;
-    }
-    if further {
-        store.make(&mut session, 0, 1, 0)?;
-    }
+    let collected = publish_both(&store, &mut session, published, further)?;
     let closed = store.into_closed(session).diagram(alloc);
     Ok(Ending { collected, closed })
+}
+
+impl Ending {
+    // Whether all was collected, and the diagram has the three nodes of the two functions.
+    fn has_three_nodes(&self) -> bool {
+        match &self.closed {
+            Ok(diagram) => {
+                self.collected
+                    && diagram.size() == 3
+                    && &diagram.level_counts()[..3] == [2, 1, 0].as_slice()
+            }
+            Err(_) => false,
+        }
+    }
+
+    // Whether all was collected, and this root is missing.
+    fn lacks(&self, root: u8) -> bool {
+        match &self.closed {
+            Ok(_) => false,
+            Err(fault) => self.collected && *fault == CloseFault::MissingRoot(root),
+        }
+    }
 }
 
 #[test]
 fn closes_to_three_nodes(rt: HostRuntime) -> Result<(), Fail> {
     for further in [false, true] {
-        let Ending { collected, closed } = close_both(rt.alloc(), 2, further)?;
-        assert!(rt; collected);
-        let diagram = closed?;
-        assert_eq!(rt; diagram.size(), 3);
-        assert_eq!(rt; &diagram.level_counts()[..3], [2, 1, 0].as_slice());
+        assert!(rt; close_both(rt.alloc(), 2, further)?.has_three_nodes());
     }
     Ok(())
 }
@@ -104,25 +139,31 @@ fn closes_to_three_nodes(rt: HostRuntime) -> Result<(), Fail> {
 #[test]
 fn tells_the_least_missing_root(rt: HostRuntime) -> Result<(), Fail> {
     for published in [0, 1] {
-        let Ending { collected, closed } = close_both(rt.alloc(), published, false)?;
-        assert!(rt; collected);
-        assert_eq!(rt; closed.err(), Some(CloseFault::MissingRoot(published)));
+        assert!(rt; close_both(rt.alloc(), published, false)?.lacks(published));
     }
     Ok(())
 }
 
-// What two sessions of a store answer to the same triple.
-fn make_in_two_sessions(alloc: Global) -> Result<(NodeId, NodeId), Fail> {
+// Whether two sessions of a store answer the same to a triple.
+fn get_the_same_id(store: &Store, one: &mut Session, two: &mut Session) -> Result<bool, StoreFull>
+    requires one { one.old.store ≡ store.now }
+    requires two { two.old.store ≡ store.now }
+    requires order { order_of store.now.plan ≡ 0 ∷ 1 ∷ [] }
+{
+    let first = store.make(one, 1, 0, 1)?;
+    let second = store.make(two, 1, 0, 1)?;
+    Ok(first == second)
+}
+
+// The same of the sessions of a fresh store.
+fn fresh_sessions_get_the_same_id(alloc: Global) -> Result<bool, Fail> {
     let (store, session) = store_of_both(alloc)?;
     let (mut one, mut two) = store.split(session);
-    let first = store.make(&mut one, 1, 0, 1)?;
-    let second = store.make(&mut two, 1, 0, 1)?;
-    Ok((first, second))
+    Ok(get_the_same_id(&store, &mut one, &mut two)?)
 }
 
 #[test]
 fn sessions_get_the_same_id(rt: HostRuntime) -> Result<(), Fail> {
-    let (first, second) = make_in_two_sessions(rt.alloc())?;
-    assert_eq!(rt; first, second);
+    assert!(rt; fresh_sessions_get_the_same_id(rt.alloc())?);
     Ok(())
 }

@@ -99,6 +99,26 @@ pub(crate) fn lowest(
     Ok(ids)
 }
 
+// Makes nodes of level 11 over the lowest four: those whose low child stands at place `from` or
+// after it. The answer is how many there are, and the first of them.
+fn fill_level(
+    store: &Store,
+    session: &mut Session,
+    alloc: Global,
+    below: &[NodeId],
+    from: usize,
+) -> Result<(usize, Option<NodeId>), AllocError>
+    requires session { session.old.store ≡ store.now }
+    requires levels { levels_of store.now.plan ≡ 16 }
+    requires below { All (IsKnownBelow session.old 11) below.now }
+    ensures follows { OnOk result (Follows session.old session.new) }
+{
+    let mut ids = Vec::with_capacity(alloc, 98_305)?;
+    let lows = behind(below, from);
+    make_all(store, session, 11, lows, below, 98_305, &mut ids)?;
+    Ok((ids.len(), ids.first().copied()))
+}
+
 // What one thread made: the lowest four levels, how many nodes of level 11, and the first of these.
 #[derive(Drop)]
 struct Filled {
@@ -123,22 +143,12 @@ fn fill_part(
 {
     let mut session = session;
     let below = lowest(store, &mut session, alloc)?;
-    let mut ids = Vec::with_capacity(alloc, 98_305)?;
-    let lows = behind(below.as_slice(), from);
-    make_all(
-        store,
-        &mut session,
-        11,
-        lows,
-        below.as_slice(),
-        98_305,
-        &mut ids,
-    )?;
+    let (count, first) = fill_level(store, &mut session, alloc, &below, from)?;
     Ok(Filled {
         session,
         below,
-        count: ids.len(),
-        first: ids.first().copied(),
+        count,
+        first,
     })
 }
 
@@ -189,23 +199,31 @@ fn sixteen(alloc: Global) -> Result<(Store, Session), AllocError>
     Store::new(alloc, order, &problem, Pieces::Tables)
 }
 
-// One session fills a store, and asks it then.
-fn fill(alloc: Global) -> Result<bool, AllocError> {
-    let (store, mut session) = sixteen(alloc)?;
-    let below = lowest(&store, &mut session, alloc)?;
+// Fills a store over its lowest four levels, and asks it then. Says whether it answers right.
+fn fill_over(
+    store: &Store,
+    session: &mut Session,
+    alloc: Global,
+    below: &[NodeId],
+) -> Result<bool, AllocError>
+    requires session { session.old.store ≡ store.now }
+    requires levels { levels_of store.now.plan ≡ 16 }
+    requires below { All (IsKnownBelow session.old 11) below.now }
+{
     let mut ids = Vec::new(alloc);
-    let fits = make_all(
-        &store,
-        &mut session,
-        11,
-        below.as_slice(),
-        below.as_slice(),
-        196_610,
-        &mut ids,
-    )?;
-    let asked = ask(&store, &mut session, below.as_slice());
+    let fits = make_all(store, session, 11, below, below, 196_610, &mut ids)?;
+    let asked = ask(store, session, below);
     let fills = below.len() == 65_536 && fits && ids.len() == 196_610;
     Ok(fills && answers(asked, ids.first().copied(), ids.get(131_070).copied()))
+}
+
+// One session fills a store, and asks it then.
+fn fill(store: &Store, session: &mut Session, alloc: Global) -> Result<bool, AllocError>
+    requires session { session.old.store ≡ store.now }
+    requires levels { levels_of store.now.plan ≡ 16 }
+{
+    let below = lowest(store, session, alloc)?;
+    fill_over(store, session, alloc, &below)
 }
 
 // Whether the triple that the store doesn't have met a full store, and the others gave their ids.
@@ -220,7 +238,8 @@ fn answers(asked: Option<Asked>, first: Option<NodeId>, second: Option<NodeId>) 
 
 #[test]
 fn one_session_fills_a_store(rt: HostRuntime) -> Result<(), Fail> {
-    assert!(rt; fill(rt.alloc())?);
+    let (store, mut session) = sixteen(rt.alloc())?;
+    assert!(rt; fill(&store, &mut session, rt.alloc())?);
     Ok(())
 }
 
@@ -257,13 +276,36 @@ fn fill_both<R: Threads + Sync>(
     Ok((a?, b?))
 }
 
+// Whether a store answers right to the joined sessions of two threads that filled it.
+fn answers_both(store: &Store, a: Filled, b: Filled) -> bool
+    requires a { a.session.store ≡ store.now }
+    requires b { b.session.store ≡ store.now }
+    requires levels { levels_of store.now.plan ≡ 16 }
+    requires below { All (IsKnownBelow a.session 11) a.below.items }
+{
+    let fills = a.count == 98_305 && b.count == 98_305;
+    let asked = ask_both(store, a.session, b.session, a.below.as_slice());
+    fills && answers(asked, a.first, b.first)
+}
+
+// Whether two threads fill a store, and it answers right then.
+fn fills_by_two<R: Threads + Sync>(
+    rt: &R,
+    alloc: Global,
+    store: &Store,
+    session: Session,
+) -> Result<bool, AllocError>
+    requires session { session.store ≡ store.now }
+    requires levels { levels_of store.now.plan ≡ 16 }
+{
+    let (one, two) = store.split(session);
+    let (a, b) = fill_both(rt, alloc, store, one, two)?;
+    Ok(answers_both(store, a, b))
+}
+
 #[test]
 fn two_threads_fill_a_store(rt: HostRuntime) -> Result<(), Fail> {
     let (store, session) = sixteen(rt.alloc())?;
-    let (one, two) = store.split(session);
-    let (a, b) = fill_both(&rt, rt.alloc(), &store, one, two)?;
-    assert!(rt; a.count == 98_305 && b.count == 98_305);
-    let asked = ask_both(&store, a.session, b.session, a.below.as_slice());
-    assert!(rt; answers(asked, a.first, b.first));
+    assert!(rt; fills_by_two(&rt, rt.alloc(), &store, session)?);
     Ok(())
 }

@@ -1,7 +1,6 @@
 //! Remembering and recalling.
 
 ghost use Rattle.std.specs.Prelude.{◌≡◌, IfOk};
-ghost use Rattle.unique_table.specs.Plans.{levels_of};
 ghost use Rattle.unique_table.specs.Sessions.{Knows};
 
 use op_cache::{recall, remember};
@@ -11,8 +10,7 @@ use std::test::Fail;
 use unique_table::{NodeId, Operation, Pieces, Session, Store};
 
 fn single(alloc: Global) -> Result<(Store, Session), AllocError>
-    ensures session { IfOk result (λ r. r.1.store ≡ r.0) }
-    ensures levels { IfOk result (λ r. levels_of r.0.plan ≡ 1) }
+    ensures { IfOk result (λ r. r.1.store ≡ r.0) }
 {
     let problem = Problem::new(alloc, 1, 1)?;
     let order = Order::file_order(alloc, 1)?;
@@ -29,11 +27,18 @@ fn keep(store: &Store, session: &mut Session, id: NodeId) -> Option<NodeId>
     recall(store, session, Operation::And, id, 1)
 }
 
+// Whether a fresh store recalls what it is to remember, and nothing else.
+fn recalls(store: &Store, session: &mut Session) -> bool
+    requires { session.old.store ≡ store.now }
+{
+    keep(store, session, 0) == Some(0)
+        && recall(store, session, Operation::Or, 0, 1).is_none()
+        && recall(store, session, Operation::And, 0, 0).is_none()
+}
+
 #[test]
 fn recalls_what_it_remembers(rt: HostRuntime) -> Result<(), Fail> {
     let (store, mut session) = single(rt.alloc())?;
-    assert!(rt; keep(&store, &mut session, 0) == Some(0));
-    assert!(rt; recall(&store, &mut session, Operation::Or, 0, 1).is_none());
-    assert!(rt; recall(&store, &mut session, Operation::And, 0, 0).is_none());
+    assert!(rt; recalls(&store, &mut session));
     Ok(())
 }

@@ -1,5 +1,5 @@
 use Rattle.std.proofs.Common.{arith, rules}
-use Rattle.compaction_tests.proofs.tests.pairs_by_first_occurrence.Goals as goal
+use Rattle.compaction_tests.proofs.numberings.pairs_by_first_occurrence.Goals as goal
 
 pub number_pairs-requires-clause-table : goal.number_pairs-requires-clause-table
 number_pairs-requires-clause-table g c = record {

@@ -1,6 +1,6 @@
 use Rattle.std.proofs.Common.{arith, rules}
 use Rattle.pair_numbering.specs.Strips.{names_of}
-use Rattle.compaction_tests.proofs.tests.pairs_of_strips.Goals as goal
+use Rattle.compaction_tests.proofs.numberings.pairs_of_strips.Goals as goal
 
 pub label_strip_pairs-requires-clause-named : goal.label_strip_pairs-requires-clause-named
 unfolding names_of

@@ -1,0 +1,16 @@
+use Rattle.std.proofs.Common.{◌≡◌, ℕ, [], ◌∷◌, sym, subst, arith, get_or}
+use Rattle.std.proofs.lemmas.Option.{get_or_from_slice_get}
+use Rattle.std.specs.Int.{bit_at}
+use Rattle.subset_layers.specs.Layers.{block_masks}
+use Rattle.compaction.proofs.OwnMembers.{own_members}
+use Rattle.compaction_tests.proofs.walks.row_by_itself.Goals as goal
+
+pub block_widths-requires-clause-members : goal.block_widths-requires-clause-members
+block_widths-requires-clause-members g c = λ i low x one.
+    let l = c.len.ensures.value in
+    let first : i ≡ 0 = omega arith in
+    own_members c.args.problem.now c.args.block.now (omega arith) i low x
+    (subst (λ (k : ℕ). bit_at (get_or (block_masks c.args.block.now) k 0) x ≡ 1) (sym first)
+    (subst (λ (m : ℕ). bit_at m x ≡ 1)
+    (sym (get_or_from_slice_get (block_masks c.args.block.now) 0 c.mask-needed.result 0 c.mask-needed.ensures))
+    (subst (λ (k : ℕ). bit_at (get_or (c.mask-needed.result ∷ []) k 0) x ≡ 1) first one)))
