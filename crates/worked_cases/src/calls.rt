@@ -1,7 +1,7 @@
 //! Calls of both programs, and what is seen then.
 
 use crate::cases::{Case, Place};
-use anyhow::{Context, Result, bail};
+use anyhow::{Context, Result, bail, ensure};
 use checks::ordercheck;
 use counted_io::Counting;
 use report::minorder;
@@ -41,15 +41,17 @@ fn call<R: Files + AllocGlobal + Threads + Sync>(rt: &R, line: &str) -> Result<S
     })
 }
 
-/// Puts the case's files there, each cut at the length. None of them may be there yet.
+/// Puts a file there, which may not be there yet.
+fn put_file<R: Files>(rt: &R, name: &str, bytes: &[u8]) -> Result<()> {
+    ensure!(!fs::exists(rt, name)?, "{name} is there");
+    fs::write(rt, name, bytes).context(format_args!("putting {name} there"))
+}
+
+/// Puts the case's files there, each cut at the length.
 fn put_files<R: Files>(rt: &R, case: &Case<'_>, length: usize) -> Result<()> {
     for text in case.texts.iter() {
         if let Place::File(name) = text.place {
-            if fs::exists(rt, name)? {
-                bail!("{name} is there");
-            }
-            let bytes = text.bytes.get(..length).unwrap_or(&text.bytes);
-            fs::write(rt, name, bytes).context(format_args!("putting {name} there"))?;
+            put_file(rt, name, text.bytes.get(..length).unwrap_or(&text.bytes))?;
         }
     }
     Ok(())
@@ -117,8 +119,44 @@ fn difference<R: Files + AllocGlobal>(
     })
 }
 
-/// Makes each call of the case, and prints a line for each that does something else than the case
-/// says.
+/// Prints what a call did, a part of which is other than its case says.
+fn print_difference<R: AllocGlobal + Print>(
+    rt: &R,
+    case: &Case<'_>,
+    line: &str,
+    seen: &Seen,
+    part: &str,
+) -> Result<()> {
+    let output = seen.output.escape_ascii();
+    let errors = seen.errors.escape_ascii();
+    println!(rt;
+        "{}: {line}: {part} differs: status {}, output {output}, errors {errors}",
+        case.name, seen.status
+    )?;
+    Ok(())
+}
+
+/// Makes a call of the case, with its files cut at the length, and prints a line if it does
+/// something else than the case says.
+fn carry_out_call<R: Files + AllocGlobal + Threads + Sync + Print>(
+    rt: &R,
+    case: &Case<'_>,
+    length: usize,
+    line: &str,
+    tally: &mut Tally,
+) -> Result<()> {
+    put_files(rt, case, length)?;
+    let seen = call(rt, line)?;
+    tally.calls = tally.calls.saturating_add(1);
+    if let Some(part) = difference(rt, case, &seen)? {
+        tally.differ = tally.differ.saturating_add(1);
+        print_difference(rt, case, line, &seen, part)?;
+    }
+    remove_files(rt, case);
+    Ok(())
+}
+
+/// Makes each call of the case, with each length.
 pub fn carry_out<R: Files + AllocGlobal + Threads + Sync + Print>(
     rt: &R,
     case: &Case<'_>,
@@ -127,19 +165,7 @@ pub fn carry_out<R: Files + AllocGlobal + Threads + Sync + Print>(
     let (first, last) = case.lengths;
     for length in first..=last {
         for line in case.calls.iter() {
-            put_files(rt, case, length)?;
-            let seen = call(rt, line)?;
-            tally.calls = tally.calls.saturating_add(1);
-            if let Some(part) = difference(rt, case, &seen)? {
-                tally.differ = tally.differ.saturating_add(1);
-                let output = seen.output.escape_ascii();
-                let errors = seen.errors.escape_ascii();
-                println!(rt;
-                    "{}: {line}: {part} differs: status {}, output {output}, errors {errors}",
-                    case.name, seen.status
-                )?;
-            }
-            remove_files(rt, case);
+            carry_out_call(rt, case, length, line, tally)?;
         }
     }
     Ok(())

@@ -170,17 +170,29 @@ fn lengthen<R: Files + AllocGlobal>(rt: &R, bytes: &mut Vec<u8>, line: &str) -> 
     }
 }
 
+/// Reads a line of a text into its cases.
+fn read_line<'a, R: Files + AllocGlobal>(
+    rt: &R,
+    cases: &mut Vec<Case<'a>>,
+    line: &'a str,
+) -> Result<()> {
+    if let Some(name) = line.strip_prefix("case ") {
+        cases.push(Case::new(rt.alloc(), name))?;
+        return Ok(());
+    }
+    if line.is_empty() || line.starts_with('#') {
+        return Ok(());
+    }
+    let case: &mut Case<'a> = cases.last_mut().context("a line before the first case")?;
+    case.read_line(rt, line)
+        .context(format_args!("in {}: {line}", case.name))
+}
+
 /// The cases of a text.
 pub fn read_cases<'a, R: Files + AllocGlobal>(rt: &R, text: &'a str) -> Result<Vec<Case<'a>>> {
     let mut cases = Vec::new(rt.alloc());
     for line in text.lines() {
-        if let Some(name) = line.strip_prefix("case ") {
-            cases.push(Case::new(rt.alloc(), name))?;
-        } else if !line.is_empty() && !line.starts_with('#') {
-            let case: &mut Case<'a> = cases.last_mut().context("a line before the first case")?;
-            case.read_line(rt, line)
-                .context(format_args!("in {}: {line}", case.name))?;
-        }
+        read_line(rt, &mut cases, line)?;
     }
     Ok(cases)
 }

@@ -11,7 +11,23 @@ mod cases;
 use anyhow::{Context, Result, ensure};
 use calls::{Tally, carry_out};
 use cases::read_cases;
+use std::rt::Files;
+use std::thread::Threads;
 use std::{env, fs};
+
+/// Carries out the cases of a file.
+fn carry_out_file<R: Files + AllocGlobal + Threads + Sync + Print>(
+    rt: &R,
+    file: &str,
+    tally: &mut Tally,
+) -> Result<()> {
+    let text = fs::read_to_string(rt, file).context(format_args!("reading {file}"))?;
+    let cases = read_cases(rt, text.as_str())?;
+    for case in &cases {
+        carry_out(rt, case, tally)?;
+    }
+    Ok(())
+}
 
 fn main(rt: HostRuntime) -> Result<()> {
     let mut words = env::args(&rt)?.skip(1);
@@ -19,10 +35,7 @@ fn main(rt: HostRuntime) -> Result<()> {
     env::set_current_dir(&rt, folder)?;
     let mut tally = Tally::default();
     for file in words {
-        let text = fs::read_to_string(&rt, file.as_str()).context(format_args!("reading {file}"))?;
-        for case in read_cases(&rt, text.as_str())? {
-            carry_out(&rt, &case, &mut tally)?;
-        }
+        carry_out_file(&rt, file.as_str(), &mut tally)?;
     }
     println!(rt; "{} calls, {} differ", tally.calls, tally.differ)?;
     ensure!(tally.differ == 0, "not all as worked out");
