@@ -1,14 +1,17 @@
 #!/usr/bin/env python3
 """gate_cost.py [WORD..]      runs `rt ci WORD..` in this checkout (with --anew it proves and tries all) and says what it took of
                          processor time
+gate_cost.py --beside COMMIT [CRATE..]      runs `rt ci --anew` in clean clones of HEAD and of the commit at once, each on half of
+                         the cores, and says what each took and how the two compare
 gate_cost.py --unit      takes the unit alone
 
 The unit is what one fixed proof takes on the same machine in the same hour with nothing beside it: that of the kit's example
 forms/compiler, from nothing, with one job. It is taken before the gate and after it. Figures in units can be compared
-between machines and hours; the seconds of build/costs.csv, which this writes, cannot.
+between machines and hours; the seconds of build/costs.csv, which a run in this checkout writes, cannot.
 
 What a call of the prover has used is read from /proc twice a second, so a call's last half second is missing. The sum of all
 is the system's own count."""
+import concurrent.futures
 import csv
 import os
 import re
@@ -106,15 +109,43 @@ class Meter:
         return found
 
 
-def gate(words):
-    """Runs the gate. Returns its status, its time, its processor seconds and those of each crate."""
-    before, start = children_seconds(), time.monotonic()
-    with subprocess.Popen(["rt", "ci", *words], cwd=TOP, stdin=subprocess.DEVNULL) as ran:
-        meter = Meter(ran.pid)
-        while ran.poll() is None:
+class Gate:
+    """A run of the gate in a checkout: its status, its time, its processor seconds and those of each crate."""
+
+    def __init__(self, top, words, cores):
+        start = time.monotonic()
+        limit = {"preexec_fn": lambda: os.sched_setaffinity(0, cores), "stdin": subprocess.DEVNULL}
+        ran = subprocess.Popen(["rt", "ci", *words], cwd=top, **limit)
+        meter, ended = Meter(ran.pid), 0
+        while not ended:
             meter.look()
             time.sleep(0.5)
-    return ran.returncode, time.monotonic() - start, children_seconds() - before, meter.by_crate()
+            ended, status, used = os.wait4(ran.pid, os.WNOHANG)
+        self.status, self.passed = os.waitstatus_to_exitcode(status), time.monotonic() - start
+        self.seconds, self.found = used.ru_utime + used.ru_stime, meter.by_crate()
+
+    def __str__(self):
+        proofs, tests, edits = (round(sum(it[kind] for it in self.found.values())) for kind in KINDS)
+        parts = f"proofs {proofs}, tests {tests}, edits {edits}"
+        return f"{self.passed / 60:.0f} min, {self.seconds:.0f} s of processor time: {parts}; status {self.status}"
+
+
+def beside(commit, words):
+    """Runs the gate of HEAD and that of a commit at once, each on one half of the cores."""
+    cores = sorted(os.sched_getaffinity(0))
+    half = len(cores) // 2
+    with tempfile.TemporaryDirectory(prefix="gates-") as room, concurrent.futures.ThreadPoolExecutor() as pool:
+        runs = []
+        for name, own in (("HEAD", cores[:half]), (commit, cores[half:])):
+            top = f"{room}/{len(runs)}"
+            told = subprocess.run(["git", "rev-parse", name], cwd=TOP, check=True, capture_output=True, text=True)
+            subprocess.run(["git", "clone", "-q", TOP, top], check=True)
+            subprocess.run(["git", "checkout", "-q", told.stdout.strip()], cwd=top, check=True)
+            runs.append(pool.submit(Gate, top, ["--anew", *words], own))
+        ours, theirs = (it.result() for it in runs)
+    print(f"HEAD: {ours}\n{commit}: {theirs}")
+    print(f"HEAD takes {ours.seconds / theirs.seconds:.2f} of the processor time, {ours.passed / theirs.passed:.2f} of the time")
+    sys.exit(ours.status)
 
 
 def edits_of(crate):
@@ -137,18 +168,17 @@ def write_costs(found):
 
 
 def main(words):
+    if words[:1] == ["--beside"] and len(words) > 1:
+        return beside(words[1], words[2:])
     first = unit()
     if words == ["--unit"]:
         return print(f"one unit: {first:.1f} s of processor time")
-    status, passed, seconds, found = gate(words)
+    ran = Gate(TOP, words, os.sched_getaffinity(0))
     last = unit()
-    one = (first + last) / 2
-    write_costs(found)
-    proofs, tests, edits = (round(sum(it[kind] for it in found.values())) for kind in KINDS)
-    print(f"{round(passed)} s, {round(seconds)} of processor time: proofs {proofs}, tests {tests}, edits {edits}")
-    print(f"one unit: {first:.1f} s before, {last:.1f} s after")
-    print(f"the gate: {seconds / one:.0f} units")
-    return sys.exit(status)
+    write_costs(ran.found)
+    print(f"{ran}\none unit: {first:.1f} s before, {last:.1f} s after")
+    print(f"the gate: {2 * ran.seconds / (first + last):.0f} units")
+    return sys.exit(ran.status)
 
 
 if __name__ == "__main__":
