@@ -70,7 +70,8 @@ short_fewer w (suc steps) long short h =
     omega arith
 
 -- one after the other
-pub short_then : {K : Type 0} (w s steps : ℕ) (long mid short : List K) → IsShortened w s long mid → IsShortened w steps mid short → (n : ℕ) × IsShortened w n long short
+pub short_then : {K : Type 0} (w s steps : ℕ) (long mid short : List K) → IsShortened w s long mid → IsShortened w steps mid short →
+    (n : ℕ) × IsShortened w n long short
 short_then w s zero long mid short h k = (s, subst (IsShortened w s long) k h)
 short_then w s (suc steps) long mid short h k = let r = short_then w s steps long mid k.0 h k.1 in (suc r.0, (k.0, r.1, k.2))
 
@@ -176,7 +177,8 @@ module _ (step : ℕ) (some : 0 < step) where
       let d : a.0 * (2 * step) ≡ 2 * (a.0 * step) = grind arith in
       (a.0, omega arith)
 
-  head_pairs : (a b c : List ℕ) → AreWholeRows (2 * step) a → AreWholeRows (2 * step) b → pairs (a ++ (b ++ c)) step ≡ pairs a step ++ (pairs b step ++ pairs c step)
+  head_pairs : (a b c : List ℕ) → AreWholeRows (2 * step) a → AreWholeRows (2 * step) b →
+      pairs (a ++ (b ++ c)) step ≡ pairs a step ++ (pairs b step ++ pairs c step)
   head_pairs a b c p q = pairs_append a (b ++ c) p ∙ ap (λ us. pairs a step ++ us) (pairs_append b c q)
 
   without_pairs : (long short : List ℕ) → IsWithout (2 * step) long short → IsWithout step (pairs long step) (pairs short step)

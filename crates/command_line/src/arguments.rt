@@ -19,7 +19,7 @@ pub(crate) fn required_path<'a>(alloc: Global, name: &'a str, help: &'a str) -> 
 }
 
 /// The fault of words that lack an argument. Clap's own rules find it first.
-pub(crate) fn lacking<'a>(mut command: Command<'a>, what: &str) -> Usage
+pub(crate) fn missing_argument<'a>(mut command: Command<'a>, what: &str) -> Usage
     ensures { IsNoHelp result }
 {
     match command.error(ErrorKind::MissingRequiredArgument, what) {

@@ -5,7 +5,7 @@ ghost use Rattle.clap.specs.Words.{app_of, first_value, found_of};
 ghost use Rattle.command_line.specs.Lines.{LacksFiles, LacksPaths, faults_of, ordercheck, texts, value_of};
 ghost use Rattle.command_line.specs.Usages.{Explains};
 
-use crate::arguments::{lacking, required_path};
+use crate::arguments::{missing_argument, required_path};
 use crate::usage::{Usage, usage_of};
 use clap::{ArgMatches, Command};
 use std::alloc::{AllocError, Global};
@@ -72,7 +72,7 @@ impl<'a> CheckLine<'a> {
         };
         match line {
             Some(line) => Ok(line),
-            None => Err(lacking(command, "no file, or no certificate")),
+            None => Err(missing_argument(command, "no file, or no certificate")),
         }
     }
 }

@@ -5,7 +5,7 @@ ghost use Rattle.clap.specs.Words.{app_of, first_value, found_of, one_text, rule
 ghost use Rattle.command_line.specs.Lines.{IsFlag, IsNumber, LacksArguments, LacksValues, count_rule, faults_of, minorder, option as option_rule, read_of, texts, value_of, with_options as options_of, workers_rule};
 ghost use Rattle.command_line.specs.Usages.{Explains};
 
-use crate::arguments::{lacking, required_path};
+use crate::arguments::{missing_argument, required_path};
 use crate::usage::{Usage, usage_of};
 use clap::{Arg, ArgAction, ArgMatches, Command, value_parser};
 use order_model::Workers;
@@ -175,7 +175,7 @@ impl<'a> Line<'a> {
         };
         match line {
             Some(line) => Ok(line),
-            None => Err(lacking(command, "no file, or no number of workers")),
+            None => Err(missing_argument(command, "no file, or no number of workers")),
         }
     }
 }

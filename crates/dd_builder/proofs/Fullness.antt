@@ -2,7 +2,7 @@
 use Rattle.std.proofs.Common.{◌≡◌, ◌≢◌, ℕ, ◌+◌, ◌^◌, ◌<◌, ◌≤◌, length, get_or, sym, ap, ◌∙◌, subst, arith}
 use Rattle.order_model.specs.Functions.{SameFunction}
 use Rattle.order_model.specs.Problems.{outputs_of}
-use Rattle.node_words.specs.Nodes.{AreNodes, AreUnequal, level_of, low_of, high_of}
+use Rattle.node_words.specs.Nodes.{AreNodeWords, AreUnequal, level_of, low_of, high_of}
 use Rattle.node_words.specs.Meaning.{function_of}
 use Rattle.node_words.proofs.Making.{word_level, word_low, word_high, makes}
 use Rattle.node_words.proofs.Functions.{function_made, known_small}
@@ -22,7 +22,7 @@ use Rattle.dd_builder.proofs.Halves.{halved_none}
 use Rattle.dd_builder.proofs.Ranks.{few}
 use Rattle.dd_builder.proofs.Bound.{most_fit}
 
-module _ (s : Knowledge) (plan : IsPlan s.store.plan) (nodes : AreNodes (levels_of s.store.plan) s.seen) (unequal : AreUnequal s.seen)
+module _ (s : Knowledge) (plan : IsPlan s.store.plan) (nodes : AreNodeWords (levels_of s.store.plan) s.seen) (unequal : AreUnequal s.seen)
     (size : length s.seen ≤ s.store.plan.places) where
   -- the word at a place
   module _ (p : ℕ) (there : get_or s.seen p 0 ≢ 0) (h : IsOfSubfunction s (get_or s.seen p 0)) where
@@ -71,10 +71,10 @@ stays_alone from s more alone = stays_whole from.stake s.stake (subst (λ (z : S
 
 -- so it gives no such error
 pub full_never : (source : Source) (from s : Knowledge) (store : StoreId) → s.store ≡ store → IsShareOf source from 0 s → IsPlan store.plan →
-    AreNodes (levels_of store.plan) s.seen → AreUnequal s.seen → length s.seen ≤ store.plan.places → MadeAll s → KnowsFull s
+    AreNodeWords (levels_of store.plan) s.seen → AreUnequal s.seen → length s.seen ≤ store.plan.places → MadeAll s → KnowsFull s
     → MayBeFull source from (StoreFull s)
 full_never (Tables tables) from s store same share plan nodes unequal size made full = λ alone subs.
-    never_full s (subst (λ (z : StoreId). IsPlan z.plan) (sym same) plan) (subst (λ (z : StoreId). AreNodes (levels_of z.plan) s.seen) (sym same) nodes)
+    never_full s (subst (λ (z : StoreId). IsPlan z.plan) (sym same) plan) (subst (λ (z : StoreId). AreNodeWords (levels_of z.plan) s.seen) (sym same) nodes)
     unequal (subst (λ (z : StoreId). length s.seen ≤ z.plan.places) (sym same) size) made
     (stays_alone from s share.stake alone) (share.kept subs) full
 full_never (Terms terms) from s store same share plan nodes unequal size made full = tt

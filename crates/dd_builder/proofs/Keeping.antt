@@ -14,7 +14,6 @@ use Rattle.dd_builder.specs.declared.parts.Source.TheVariants.{Tables, Terms}
 use Rattle.dd_builder.specs.Parts.{KeepsFrom, Continues}
 use Rattle.dd_builder.specs.Subfunctions.{IsSubfunction, IsOfSubfunction, MadeSubfunctions, KeepsSubfunctions}
 use Rattle.unique_table.proofs.Following.{follows_trans}
-use Rattle.dd_builder.proofs.Going.{stays}
 use Rattle.dd_builder.proofs.Combining.{branch_same}
 use Rattle.dd_builder.proofs.Restricted.{restricted_same}
 

@@ -5,7 +5,7 @@ use Rattle.std.proofs.lemmas.Bool.{cases_lt}
 use Rattle.order_model.specs.Functions.{SameFunction}
 use Rattle.order_model.specs.Orders.{IsOrder}
 use Rattle.order_model.specs.Problems.{TruthTables, outputs_of}
-use Rattle.node_words.specs.Nodes.{IsNode, AreNodes, AreUnequal, IsKnown, node_word, level_of, low_of, high_of}
+use Rattle.node_words.specs.Nodes.{IsNode, AreNodeWords, AreUnequal, IsKnown, node_word, level_of, low_of, high_of}
 use Rattle.node_words.specs.Meaning.{depth, function_of}
 use Rattle.node_words.proofs.Meaning.{choose_n, refuse_n, depth_terminal, depth_node, known_low, known_high}
 use Rattle.node_words.proofs.Functions.{depth_below, same_ids}
@@ -46,7 +46,7 @@ dependent_is k = ap (λ z. tail (suc k) - tail z) back ∙ rest
     rest : tail (suc k) - tail k ≡ tail k * (tail k - 1)
     rest = let e = tail_next k in omega (arith, e)
 
-module _ (n : ℕ) (ws : List ℕ) (nodes : AreNodes n ws) (unequal : AreUnequal ws) where
+module _ (n : ℕ) (ws : List ℕ) (nodes : AreNodeWords n ws) (unequal : AreUnequal ws) where
   abbrev word : ℕ → ℕ
   word id = get_or ws (id - 2) 0
 
@@ -260,7 +260,7 @@ levels_same n m i j c d small small' e = ⊎_elim
     (λ (less : j < i). let r = above_rises n m (suc j) i less in absurd (omega (arith, r, small', e))))
     (three i j)
 
-module _ (order : List ℕ) (t : TruthTables) (ws : List ℕ) (count : ℕ) (is : IsOrder (length order) order) (nodes : AreNodes (length order) ws)
+module _ (order : List ℕ) (t : TruthTables) (ws : List ℕ) (count : ℕ) (is : IsOrder (length order) order) (nodes : AreNodeWords (length order) ws)
     (unequal : AreUnequal ws) (subs : AreSubfunctions order t ws) (full : (p : ℕ) → p < count → get_or ws p 0 ≢ 0) where
   abbrev n : ℕ
   n = length order

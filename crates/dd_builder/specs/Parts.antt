@@ -1,11 +1,11 @@
 -- The parts of a store's functions: its pieces that aren't outputs.
 --     IsForTerms b terms, IsSourceFor b source      parts that are made of terms, and of a source
---     HasPart s q, HasRoots s      the parts and the outputs whose ids a session knows
+--     HasPart s q, KnowsRoots s      the parts and the outputs whose ids a session knows
 --     KnowsParts store s      a session of a store that knows all its parts
 --     shares_union b output first count      the union of some parts of an output
 --     AreJobsOf store workers jobs      a job for each worker
 --     HasShare s workers k, IsEndOf store workers k end, AreEndsOf store workers ends      what a worker builds, and how workers end
---     IsJoined store end      how all workers together end
+--     AreJoinedEnds store end      how all workers together end
 --     KeepsFrom source s s', Continues source s s'      a session that builds from a source; from tables it makes nodes of subfunctions alone
 --     HasHalf from k s, AreHalves from workers jobs      sessions that know what another knew, with shares of its stake
 --     IsShareOf source from k s, AreSharesOf source from workers ends      sessions that go on from these
@@ -71,8 +71,8 @@ pub record KnowsParts (store : StoreId) (s : Knowledge) : Type 0 where
   pub parts : (q : ℕ) → q < s.store.plan.roots → HasPart s q
 
 -- the session knows the ids of all outputs
-abbrev pub HasRoots : Knowledge → Type 0
-HasRoots s = (j : ℕ) → j < outputs_of s.store.plan.problem.value → slice_index s.pieces (s.store.plan.roots + j) ≢ 0
+abbrev pub KnowsRoots : Knowledge → Type 0
+KnowsRoots s = (j : ℕ) → j < outputs_of s.store.plan.problem.value → slice_index s.pieces (s.store.plan.roots + j) ≢ 0
 
 -- 1 if one of an output's parts by terms is, of `count` parts from a share on
 unfoldable pub shares_union : Plan → ℕ → ℕ → ℕ → Function
@@ -149,9 +149,9 @@ AreSharesOf source from workers ends = (k : ℕ) (end : Result Knowledge Knowled
     IsShareOf source from (halvings_for workers k) (session_of end)
 
 -- how all workers together end: with all parts, or one of them knowing that the store is full
-abbrev pub IsJoined : StoreId → Result Knowledge Knowledge → Type 0
-IsJoined store (Ok s) = KnowsParts store s
-IsJoined store (Err s) = (s.store ≡ store) × KnowsFull s
+abbrev pub AreJoinedEnds : StoreId → Result Knowledge Knowledge → Type 0
+AreJoinedEnds store (Ok s) = KnowsParts store s
+AreJoinedEnds store (Err s) = (s.store ≡ store) × KnowsFull s
 
 -- the only session that made nodes of subfunctions alone meets no full store in building from tables
 abbrev pub MayBeFull : Source → Knowledge → BuildError → Type 0

@@ -10,7 +10,7 @@ use Rattle.std.specs.List.{Contains}
 use Rattle.order_model.specs.Functions.{Function, SameFunction}
 use Rattle.order_model.specs.Orders.{IsOrder}
 use Rattle.order_model.specs.Problems.{TruthTables, outputs_of}
-use Rattle.node_words.specs.Nodes.{AreNodes, AreUnequal, level_of, node_word}
+use Rattle.node_words.specs.Nodes.{AreNodeWords, AreUnequal, level_of, node_word}
 use Rattle.node_words.specs.Meaning.{function_of, branch}
 use Rattle.unique_table.specs.Plans.{order_of, levels_of, variable_at, output_at, fixed}
 use Rattle.unique_table.specs.Sessions.{Knowledge, Knows, IsAlone, function_in}
@@ -48,7 +48,7 @@ most_nodes inputs outputs = most_above inputs outputs inputs
 -- unequal nodes that denote subfunctions of their levels are no more than that
 abbrev pub SubfunctionsAreFew : Type 0
 SubfunctionsAreFew = (order : List ℕ) (t : TruthTables) (ws : List ℕ) (count : ℕ) → IsOrder (length order) order →
-    AreNodes (length order) ws → AreUnequal ws → AreSubfunctions order t ws →
+    AreNodeWords (length order) ws → AreUnequal ws → AreSubfunctions order t ws →
     ((p : ℕ) → p < count → slice_index ws p ≢ 0) → count ≤ most_nodes (length order) (outputs_of t)
 
 -- which is half of a store

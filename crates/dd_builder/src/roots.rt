@@ -8,7 +8,7 @@ ghost use Rattle.dd_builder.specs.Building.{KnowsFull, AreRestrictions};
 ghost use Rattle.dd_builder.specs.Making.{Makes};
 ghost use Rattle.dd_builder.specs.Paths.{output_along};
 ghost use Rattle.dd_builder.specs.Subfunctions.{KeepsSubfunctions};
-ghost use Rattle.dd_builder.specs.Parts.{IsSourceFor, AreOfTerms, KeepsFrom, KnowsParts, HasRoots, part_level, shares_union};
+ghost use Rattle.dd_builder.specs.Parts.{IsSourceFor, AreOfTerms, KeepsFrom, KnowsParts, KnowsRoots, part_level, shares_union};
 
 use crate::laws::stores_have_plans;
 use crate::operations::apply;
@@ -128,7 +128,7 @@ pub(crate) fn publish_roots(
     requires source { IsSourceFor store.now.plan source }
     ensures follows { Follows session.old session.new }
     ensures kept { KeepsFrom source.entry session.old session.new }
-    ensures roots { OnOk result (HasRoots session.new) }
+    ensures roots { OnOk result (KnowsRoots session.new) }
     ensures full { OnErr result (KnowsFull session.new) }
 {
     let roots = store.roots();

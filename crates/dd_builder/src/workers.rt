@@ -3,7 +3,7 @@
 ghost use Rattle.std.specs.Prelude.{◌≡◌, ◌-◌, ◌<◌, ◌≤◌, IfOk, vec_len};
 ghost use Rattle.unique_table.specs.Sessions.{Knowledge};
 ghost use Rattle.dd_builder.specs.declared.parts.Source.{Source};
-ghost use Rattle.dd_builder.specs.Parts.{IsSourceFor, Continues, IsEndOf, AreEndsOf, AreSharesOf, IsShareOf, IsOpened, IsJoined, AreJobsOf, AreHalves, session_of};
+ghost use Rattle.dd_builder.specs.Parts.{IsSourceFor, Continues, IsEndOf, AreEndsOf, AreSharesOf, IsShareOf, IsOpened, AreJoinedEnds, AreJobsOf, AreHalves, session_of};
 
 use crate::parts::{Source, part};
 use order_model::Gate;
@@ -94,7 +94,7 @@ pub(crate) fn join_all(
     requires some { 1 ≤ workers }
     requires count { vec_len ended ≡ workers }
     requires ends { AreEndsOf store.now workers ended.items }
-    ensures joined { IsJoined store.now result }
+    ensures joined { AreJoinedEnds store.now result }
     ensures whole { (source : Source) (from : Knowledge) →
         AreSharesOf source from workers ended.items → IsShareOf source from 0 (session_of result) }
 {

@@ -13,8 +13,8 @@ use Rattle.layer_core.specs.Rights.{total}
 use Rattle.layer_core.proofs.Runs.{cells_are}
 use Rattle.layer_board.specs.declared.closed.CloseError.TheVariants.{Missing, OutOfMemory}
 use Rattle.layer_core.specs.Settings.{layout_of}
-use Rattle.layer_board.specs.Views.{BriefOf, ClosedOf, SeatOf, SeatView, knows_place}
-use Rattle.layer_board.specs.Closing.{IsLastState, IsLast, OneMissesTheLeast}
+use Rattle.layer_board.specs.Views.{BriefOf, ClosedBoardOf, SeatOf, SeatView, knows_place}
+use Rattle.layer_board.specs.Closing.{IsLastState, IsFinalBoard, OneMissesTheLeast}
 use Rattle.layer_board.specs.Picture.{Kept, picture, worker_of, cell_words, cell_in}
 use Rattle.layer_core.specs.Pairing.{pair_of}
 use Rattle.layer_board.specs.Refusals.{SeatsLackWhatIsEmpty}
@@ -76,8 +76,8 @@ module _ (b : BriefOf) (V : SeatView) (id : ℕ) (ws : List ℕ) (slots : List (
       let m = no_more (λ (v : SeatView). v.seats) end.0.views (λ i v there. (kept.briefs i v there).1) in
       let n = kept.seats in omega (arith, l, m, n)
 
-  pub is_last : (S : SeatOf) (c : ClosedOf) → S.board.brief ≡ b → S.worker ≡ V.worker → c.brief ≡ b → map cell_in (cell_words ws) ≡ c.cells →
-      IsLast S c
+  pub is_last : (S : SeatOf) (c : ClosedBoardOf) → S.board.brief ≡ b → S.worker ≡ V.worker → c.brief ≡ b → map cell_in (cell_words ws) ≡ c.cells →
+      IsFinalBoard S c
   is_last S c same worker brief cells = record {
     brief = brief ∙ sym same;
     last = picture b.layer end.0.words end.0.views;

@@ -7,7 +7,7 @@ use Rattle.layer_board.specs.declared.boards.Board.TheInside as board
 use Rattle.layer_board.specs.declared.seats.BoardSeat.TheInside as seat
 use Rattle.layer_core.specs.Settings.{ResultOf, layout_of, cell_for}
 use Rattle.layer_board.specs.Views.{BriefOf, BoardId, SeatOf, after, stepped, claims_place, knows_place, learns_place, has_claimed, knows_filled, learned, found_empty, found_empty_at}
-use Rattle.layer_board.specs.Held.{board_shown, seat_shown, view_of, IsBoard, IsSeat}
+use Rattle.layer_board.specs.Held.{board_shown, seat_shown, view_of, IsBoard, IsBoardSeat}
 use Rattle.layer_core.proofs.Layouts.{place_found, block_at}
 use Rattle.layer_core.proofs.CoreSteps.{mark_at}
 
@@ -37,7 +37,7 @@ module _ (b : board.Inside) (B : BoardId) (S : SeatOf) (kept : IsBoard b) (bv : 
   pub missing_empty : S ≡ found_empty S mask
   missing_empty = sym (ap (found_empty_at S) gone)
 
-module _ (b : board.Inside) (s : seat.Inside) (B : BoardId) (S : SeatOf) (kept : IsBoard b) (held : IsSeat s) (bv : board_shown b ≡ B)
+module _ (b : board.Inside) (s : seat.Inside) (B : BoardId) (S : SeatOf) (kept : IsBoard b) (held : IsBoardSeat s) (bv : board_shown b ≡ B)
     (sv : seat_shown s ≡ S) (fits : S.board ≡ B) where
   same_board : (seat_shown s).board ≡ board_shown b
   same_board = ap (λ (z : SeatOf). z.board) sv ∙ (fits ∙ sym bv)

@@ -1,7 +1,7 @@
 -- What a closed board lacks, and what a refused close tells.
---     IsLeastEmpty c mask      the least mask whose cell is empty
---     IsLastState b w s, IsLast seat c      states and cells that a board may end with, if a seat knows what it knows
---     IsMissing seat mask      a mask that is missing, as a seat knows it
+--     IsLeastEmptyMask c mask      the least mask whose cell is empty
+--     IsLastState b w s, IsFinalBoard seat c      states and cells that a board may end with, if a seat knows what it knows
+--     IsMissingMask seat mask      a mask that is missing, as a seat knows it
 --     OneMissesTheLeast      what that is on a board of one worker
 use Rattle.std.specs.Prelude.{◌≡◌, ◌≢◌, ℕ, ◌<◌, ◌≤◌, true, false, length, slice_index, slice_index_or, slice_get, Some, None}
 use mathlib.Core.Option.{some}
@@ -10,11 +10,11 @@ use Rattle.subset_layers.specs.Layers.{masks_of}
 use Rattle.layer_core.specs.Machine.{World, Worker, knows}
 use Rattle.layer_core.specs.Rights.{Right}
 use Rattle.layer_core.specs.Settings.{layout_of}
-use Rattle.layer_board.specs.Views.{BriefOf, ClosedOf, SeatOf, knows_filled}
+use Rattle.layer_board.specs.Views.{BriefOf, ClosedBoardOf, SeatOf, knows_filled}
 use Rattle.layer_board.specs.Picture.{IsCellAt}
 
 -- the mask's cell is empty, and that of each mask before it is filled
-pub record IsLeastEmpty (c : ClosedOf) (mask : ℕ) : Type 0 where
+pub record IsLeastEmptyMask (c : ClosedBoardOf) (mask : ℕ) : Type 0 where
   pub place : ℕ
   pub is : slice_get (masks_of c.brief.layer) place ≡ Some mask
   pub empty : slice_index_or c.cells place None ≡ None
@@ -29,18 +29,18 @@ pub record IsLastState (b : BriefOf) (w : Worker) (s : World) : Type 0 where
   pub has : get_elem? s.workers seat ≡ some w
 
 -- cells that a seat's board may end with
-pub record IsLast (seat : SeatOf) (c : ClosedOf) : Type 0 where
+pub record IsFinalBoard (seat : SeatOf) (c : ClosedBoardOf) : Type 0 where
   pub brief : c.brief ≡ seat.board.brief
   pub last : World
   pub is_last : IsLastState c.brief seat.worker last
   pub cells : last.cells ≡ c.cells
 
 -- the mask is the least that is empty in the last cells, and the seat does not know it to be filled
-pub record IsMissing (seat : SeatOf) (mask : ℕ) : Type 0 where
+pub record IsMissingMask (seat : SeatOf) (mask : ℕ) : Type 0 where
   pub unknown : knows_filled seat mask ≡ false
-  pub last : ClosedOf
-  pub is_last : IsLast seat last
-  pub least : IsLeastEmpty last mask
+  pub last : ClosedBoardOf
+  pub is_last : IsFinalBoard seat last
+  pub least : IsLeastEmptyMask last mask
 
 -- the mask is the least whose cell the seat does not know to be filled
 pub record IsLeastUnknown (seat : SeatOf) (mask : ℕ) : Type 0 where
@@ -52,4 +52,4 @@ pub record IsLeastUnknown (seat : SeatOf) (mask : ℕ) : Type 0 where
 
 -- on a board of one worker the seat knows each filled cell, so a refused close names the least that it doesn't know to be filled
 abbrev pub OneMissesTheLeast : Type 0
-OneMissesTheLeast = (seat : SeatOf) (mask : ℕ) → seat.board.brief.workers ≤ 1 → IsMissing seat mask → IsLeastUnknown seat mask
+OneMissesTheLeast = (seat : SeatOf) (mask : ℕ) → seat.board.brief.workers ≤ 1 → IsMissingMask seat mask → IsLeastUnknown seat mask

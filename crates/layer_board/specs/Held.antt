@@ -29,7 +29,7 @@ seat_shown s =
     }
 
 -- the seat's own marks are what its view says
-pub record IsSeat (s : seat.Inside) : Type 0 where
+pub record IsBoardSeat (s : seat.Inside) : Type 0 where
   pub claims : s.claims.items ≡ (view_of s).worker.claims
   pub told : s.told ≡ (view_of s).worker.told
   pub claims_wide : length (view_of s).worker.claims ≡ length (blocks_of (view_of s).brief.layer)

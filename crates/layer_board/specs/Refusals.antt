@@ -4,24 +4,24 @@ use Rattle.layer_board.specs.declared.boards.PostRefused.{PostRefused}
 use Rattle.layer_board.specs.declared.boards.PostRefused.TheVariants.{Stranger, Double}
 use Rattle.layer_board.specs.declared.closed.CloseError.{CloseError}
 use Rattle.layer_board.specs.declared.closed.CloseError.TheVariants.{Missing, OutOfMemory}
-use Rattle.layer_board.specs.Views.{ClosedOf, SeatOf, stepped, has_claimed, knows_filled}
-use Rattle.layer_board.specs.Closing.{IsLeastEmpty, IsLast, IsMissing}
+use Rattle.layer_board.specs.Views.{ClosedBoardOf, SeatOf, stepped, has_claimed, knows_filled}
+use Rattle.layer_board.specs.Closing.{IsLeastEmptyMask, IsFinalBoard, IsMissingMask}
 
 -- a post for a mask: the seat did not claim it, and stays; or it knew the cell to be filled, and took a step
-abbrev pub Refuses : SeatOf → ℕ → SeatOf → PostRefused → Type 0
-Refuses s mask s' Stranger = (has_claimed s mask ≡ false) × (s' ≡ s)
-Refuses s mask s' Double = (has_claimed s mask ≡ true) × (knows_filled s mask ≡ true) × (s' ≡ stepped s s.worker 0)
+abbrev pub RefusesPost : SeatOf → ℕ → SeatOf → PostRefused → Type 0
+RefusesPost s mask s' Stranger = (has_claimed s mask ≡ false) × (s' ≡ s)
+RefusesPost s mask s' Double = (has_claimed s mask ≡ true) × (knows_filled s mask ≡ true) × (s' ≡ stepped s s.worker 0)
 
 -- a close with a seat: the least empty mask, or out of memory
-abbrev pub Lacks : SeatOf → CloseError → Type 0
-Lacks s (Missing mask) = IsMissing s mask
-Lacks s OutOfMemory = Unit {0}
+abbrev pub LacksMask : SeatOf → CloseError → Type 0
+LacksMask s (Missing mask) = IsMissingMask s mask
+LacksMask s OutOfMemory = Unit {0}
 
 -- cells as a closed board has them: the least mask whose cell is empty, or out of memory
-abbrev pub LacksCell : ClosedOf → CloseError → Type 0
-LacksCell c (Missing mask) = IsLeastEmpty c mask
+abbrev pub LacksCell : ClosedBoardOf → CloseError → Type 0
+LacksCell c (Missing mask) = IsLeastEmptyMask c mask
 LacksCell c OutOfMemory = Unit {0}
 
 -- what the last cells lack is missing to a seat
 abbrev pub SeatsLackWhatIsEmpty : Type 0
-SeatsLackWhatIsEmpty = (seat : SeatOf) (c : ClosedOf) (error : CloseError) → IsLast seat c → LacksCell c error → Lacks seat error
+SeatsLackWhatIsEmpty = (seat : SeatOf) (c : ClosedBoardOf) (error : CloseError) → IsFinalBoard seat c → LacksCell c error → LacksMask seat error

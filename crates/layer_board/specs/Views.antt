@@ -1,6 +1,6 @@
 -- What a board is for, what a seat at it knows, and what contracts see of a board, a seat and a claim.
 --     BriefOf, SeatView      what a board is for; what the seat of a worker knows
---     BoardId, ClosedOf, SeatOf, ClaimOf      a board, a closed one, a seat, a claim
+--     BoardId, ClosedBoardOf, SeatOf, ClaimOf      a board, a closed one, a seat, a claim
 use Rattle.std.specs.Prelude.{ℕ, ◌+◌, Bool, false, List, [], length, slice_index, Option, Some, None, if◌then◌else◌}
 use Rattle.atomic_table.specs.Seated.{TableId}
 use Rattle.order_model.specs.declared.reserve.Reserve.TheVariants.{Variables}
@@ -47,7 +47,7 @@ pub record BoardId : Type 0 where
   pub brief : BriefOf
 
 -- a closed board: what it was for, and the cell of each mask, None if it is empty
-pub record ClosedOf : Type 0 where
+pub record ClosedBoardOf : Type 0 where
   pub brief : BriefOf
   pub cells : List (Option (ℕ × ℕ))
 

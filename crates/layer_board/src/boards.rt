@@ -6,8 +6,8 @@ ghost use Rattle.layer_core.specs.Machine.{claimed, claims_block};
 ghost use Rattle.layer_core.specs.Settings.{cell_for, setting_of};
 ghost use Rattle.layer_board.specs.Views.{fresh, first_seat, stepped, no_more, found_empty, has_claimed, knows_filled, learned};
 ghost use Rattle.layer_core.specs.Pairing.{pair_of};
-ghost use Rattle.layer_board.specs.Closing.{IsLast};
-ghost use Rattle.layer_board.specs.Refusals.{Refuses, Lacks};
+ghost use Rattle.layer_board.specs.Closing.{IsFinalBoard};
+ghost use Rattle.layer_board.specs.Refusals.{RefusesPost, LacksMask};
 
 use crate::cell_words::{cell_of_word, word_of_cell};
 use crate::closed::{CloseError, ClosedBoard};
@@ -144,7 +144,7 @@ impl Board {
         ensures board { seat.new.board ≡ self.now }
         ensures claimed { IfOk result (λ _. has_claimed seat.old cell.mask ≡ true) }
         ensures filled { IfOk result (λ _. seat.new ≡ learned seat.old cell.mask 1) }
-        ensures refused { IfErr result (λ e. Refuses seat.old cell.mask seat.new e) }
+        ensures refused { IfErr result (λ e. RefusesPost seat.old cell.mask seat.new e) }
         ensures known { has_claimed seat.old cell.mask ≡ true →
             knows_filled seat.new cell.mask ≡ true }
     {
@@ -188,7 +188,7 @@ impl Board {
     pub fn into_closed(self, seat: BoardSeat) -> ClosedBoard
         requires { seat.board ≡ self }
         ensures brief { result.brief ≡ self.brief }
-        ensures last { IsLast seat result }
+        ensures last { IsFinalBoard seat result }
     {
         let board = Snapshot::of(&self);
         let Board { table, layer } = self;
@@ -210,7 +210,7 @@ impl Board {
         ensures cells { IfOk result
             (λ v. map pair_of v.items ≡ map (cell_for self.brief.setting)
             (masks_of self.brief.layer)) }
-        ensures lacks { IfErr result (Lacks seat) }
+        ensures lacks { IfErr result (LacksMask seat) }
     {
         let closed = self.into_closed(seat);
         closed.cells(alloc)

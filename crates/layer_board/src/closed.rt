@@ -31,15 +31,15 @@ pub struct ClosedBoard {
 }
 
 impl Model for ClosedBoard {
-    ghost use Rattle.layer_board.specs.Views.{ClosedOf};
+    ghost use Rattle.layer_board.specs.Views.{ClosedBoardOf};
 
-    ghost Value = { ClosedOf };
+    ghost Value = { ClosedBoardOf };
 
-    ghost use Rattle.layer_board.specs.Closed.{closed_of, IsClosed};
+    ghost use Rattle.layer_board.specs.Closed.{closed_board, IsClosedBoard};
 
-    ghost view = { closed_of };
+    ghost view = { closed_board };
 
-    ghost invariant = { IsClosed };
+    ghost invariant = { IsClosedBoard };
 }
 
 impl Drop for ClosedBoard {

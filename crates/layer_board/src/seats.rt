@@ -23,11 +23,11 @@ impl Model for BoardSeat {
 
     ghost Value = { SeatOf };
 
-    ghost use Rattle.layer_board.specs.Held.{seat_shown, IsSeat};
+    ghost use Rattle.layer_board.specs.Held.{seat_shown, IsBoardSeat};
 
     ghost view = { seat_shown };
 
-    ghost invariant = { IsSeat };
+    ghost invariant = { IsBoardSeat };
 }
 
 impl BoardSeat {

@@ -1,7 +1,7 @@
 -- What the calls of minorder.h take and answer.
 --     AreTables inputs outputs words      the truth tables of 1 to 16 functions of 1 to 16 variables, in words of 64 points
 --     functions_in inputs outputs words      their functions
---     HasShape inputs outputs words places counts      the same, with a place and a count for each variable
+--     HasCallShape inputs outputs words places counts      the same, with a place and a count for each variable
 --     pairs_given above      the pairs that an order has to keep
 --     IsSiftedFrom n F P start order levels total      the order that one pass of sifting makes
 --     AllStay order order' levels levels' total total'      nothing is written
@@ -26,7 +26,7 @@ abbrev pub functions_in : ℕ → ℕ → List ℕ → List Function
 functions_in inputs outputs words = functions (packed_tables inputs outputs words)
 
 -- truth tables, and a place in an order and a level count for each variable
-pub record HasShape (inputs outputs : ℕ) (words : List ℕ) (places counts : ℕ) : Type 0 where
+pub record HasCallShape (inputs outputs : ℕ) (words : List ℕ) (places counts : ℕ) : Type 0 where
   pub tables : AreTables inputs outputs words
   pub places_are : places ≡ inputs
   pub counts_are : counts ≡ inputs

@@ -3,7 +3,7 @@
 ghost use Rattle.std.specs.Prelude.{◌≡◌, ◌≤◌, length, IfOk, IfErr, OnOk};
 ghost use Rattle.order_model.specs.Problems.{packed_tables};
 ghost use Rattle.order_model.specs.Orders.{IsOrder};
-ghost use Rattle.minorder_c.specs.Answers.{AreTables, HasShape};
+ghost use Rattle.minorder_c.specs.Answers.{AreTables, HasCallShape};
 ghost use Rattle.minorder_c.specs.Statuses.{RefusesShape, RefusesOrder};
 
 use crate::status::Refusal;
@@ -71,12 +71,12 @@ pub(crate) fn arguments_of(
     variables: &[u8],
     counts: usize,
 ) -> Result<Arguments, Refusal>
-    ensures shape { OnOk result (HasShape inputs outputs words.now (length variables.now) counts) }
+    ensures shape { OnOk result (HasCallShape inputs outputs words.now (length variables.now) counts) }
     ensures is_order { OnOk result (IsOrder inputs variables.now) }
     ensures tables { IfOk result (λ g. g.tables ≡ packed_tables inputs outputs words.now) }
     ensures order { IfOk result (λ g. g.order ≡ variables.now) }
     ensures refused { IfErr result
-        (RefusesOrder (HasShape inputs outputs words.now (length variables.now) counts)
+        (RefusesOrder (HasCallShape inputs outputs words.now (length variables.now) counts)
         (IsOrder inputs variables.now)) }
 {
     if variables.len() != inputs as usize || counts != inputs as usize {

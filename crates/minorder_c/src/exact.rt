@@ -4,7 +4,7 @@ ghost use Rattle.std.specs.Prelude.{◌≡◌, ◌≢◌, ◌⊎◌, [], length,
 ghost use Rattle.order_model.specs.Problems.{functions};
 ghost use Rattle.order_model.specs.KeptPairs.{CanBeKept};
 ghost use Rattle.order_model.specs.Pairs.{sorted_pairs};
-ghost use Rattle.minorder_c.specs.Answers.{AllStay, HasShape, functions_in, pairs_given};
+ghost use Rattle.minorder_c.specs.Answers.{AllStay, HasCallShape, functions_in, pairs_given};
 ghost use Rattle.order_solve.specs.Solutions.{IsFirstFewest, IsOptimumFor};
 ghost use Rattle.minorder_c.specs.Statuses.{IsPlainStatus, RefusesShape, RefusesPairs, TellsShape};
 
@@ -40,13 +40,13 @@ fn exact(
     places: usize,
     counts: usize,
 ) -> Result<Optimum, Refusal>
-    ensures shape { OnOk result (HasShape inputs outputs words.now places counts) }
+    ensures shape { OnOk result (HasCallShape inputs outputs words.now places counts) }
     ensures optimum { IfOk result
         (λ s. IsFirstFewest inputs (functions_in inputs outputs words.now) [] s.order s.levels.items
         s.total) }
     ensures long { IfOk result (λ s. length s.order ≡ inputs) }
     ensures counts { IfOk result (λ s. length s.levels.items ≡ inputs) }
-    ensures refused { IfErr result (RefusesShape (HasShape inputs outputs words.now places counts)) }
+    ensures refused { IfErr result (RefusesShape (HasCallShape inputs outputs words.now places counts)) }
 {
     if places != inputs as usize || counts != inputs as usize {
         return Err(Refusal::Shape);
@@ -67,7 +67,7 @@ fn exact_above(
     places: usize,
     counts: usize,
 ) -> Result<Optimum, Refusal>
-    ensures shape { OnOk result (HasShape inputs outputs words.now places counts) }
+    ensures shape { OnOk result (HasCallShape inputs outputs words.now places counts) }
     ensures kept { OnOk result (CanBeKept inputs (pairs_given above.now)) }
     ensures optimum { IfOk result
         (λ s. IsFirstFewest inputs (functions_in inputs outputs words.now)
@@ -75,7 +75,7 @@ fn exact_above(
     ensures long { IfOk result (λ s. length s.order ≡ inputs) }
     ensures counts { IfOk result (λ s. length s.levels.items ≡ inputs) }
     ensures refused { IfErr result
-        (RefusesPairs (HasShape inputs outputs words.now places counts)
+        (RefusesPairs (HasCallShape inputs outputs words.now places counts)
         (CanBeKept inputs (pairs_given above.now))) }
 {
     if places != inputs as usize || counts != inputs as usize {
@@ -101,7 +101,7 @@ pub extern "C" fn minorder_exact_with_lengths(
 ) -> u32
     ensures status { IsPlainStatus result }
     ensures shape { TellsShape
-        (HasShape inputs outputs tables.now (length order.old) (length levels.old)) result }
+        (HasCallShape inputs outputs tables.now (length order.old) (length levels.old)) result }
     ensures optimum { result ≡ 0 →
         IsFirstFewest inputs (functions_in inputs outputs tables.now) [] order.new levels.new
         total.new }
@@ -134,7 +134,7 @@ pub extern "C" fn minorder_exact_above_with_lengths(
 ) -> u32
     ensures status { (result ≡ 8) ⊎ IsPlainStatus result }
     ensures shape { TellsShape
-        (HasShape inputs outputs tables.now (length order.old) (length levels.old)) result }
+        (HasCallShape inputs outputs tables.now (length order.old) (length levels.old)) result }
     ensures bad_pairs { result ≡ 8 → CanBeKept inputs (pairs_given above.now) → ⊥ }
     ensures kept { result ≡ 0 → CanBeKept inputs (pairs_given above.now) }
     ensures optimum { result ≡ 0 →

@@ -3,7 +3,7 @@
 ghost use Rattle.std.specs.Prelude.{◌≡◌, ◌≢◌, length, IfOk, IfErr, OnOk};
 ghost use Rattle.order_model.specs.Levels.{level_counts};
 ghost use Rattle.order_model.specs.Orders.{IsOrder};
-ghost use Rattle.minorder_c.specs.Answers.{HasShape, functions_in};
+ghost use Rattle.minorder_c.specs.Answers.{HasCallShape, functions_in};
 ghost use Rattle.minorder_c.specs.Statuses.{IsOrderStatus, RefusesOrder, TellsShape};
 
 use crate::arguments::arguments_of;
@@ -19,13 +19,13 @@ fn level_counts_of(
     order: &[u8],
     counts: usize,
 ) -> Result<Vec<u32>, Refusal>
-    ensures shape { OnOk result (HasShape inputs outputs words.now (length order.now) counts) }
+    ensures shape { OnOk result (HasCallShape inputs outputs words.now (length order.now) counts) }
     ensures order { OnOk result (IsOrder inputs order.now) }
     ensures levels { IfOk result
         (λ v. v.items ≡ level_counts inputs (functions_in inputs outputs words.now) order.now) }
     ensures counts { IfOk result (λ v. length v.items ≡ counts) }
     ensures refused { IfErr result
-        (RefusesOrder (HasShape inputs outputs words.now (length order.now) counts)
+        (RefusesOrder (HasCallShape inputs outputs words.now (length order.now) counts)
         (IsOrder inputs order.now)) }
 {
     let given = arguments_of(alloc, words, inputs, outputs, order, counts)?;
@@ -46,7 +46,7 @@ pub extern "C" fn minorder_levels_with_lengths(
 ) -> u32
     ensures status { IsOrderStatus result }
     ensures shape { TellsShape
-        (HasShape inputs outputs tables.now (length order.now) (length levels.old)) result }
+        (HasCallShape inputs outputs tables.now (length order.now) (length levels.old)) result }
     ensures no_order { result ≡ 5 → IsOrder inputs order.now → ⊥ }
     ensures order { result ≡ 0 → IsOrder inputs order.now }
     ensures levels { result ≡ 0 →

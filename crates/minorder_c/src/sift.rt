@@ -4,7 +4,7 @@ ghost use Rattle.std.specs.Prelude.{◌≡◌, ◌≢◌, ◌<◌, ℕ, [], leng
 ghost use Rattle.order_model.specs.Orders.{IsOrder};
 ghost use Rattle.order_model.specs.Problems.{functions};
 ghost use Rattle.order_model.specs.Levels.{level_count};
-ghost use Rattle.minorder_c.specs.Answers.{AllStay, HasShape, IsSiftedFrom, functions_in};
+ghost use Rattle.minorder_c.specs.Answers.{AllStay, HasCallShape, IsSiftedFrom, functions_in};
 ghost use Rattle.minorder_c.specs.Statuses.{IsOrderStatus, RefusesOrder, TellsShape};
 
 use crate::arguments::arguments_of;
@@ -43,7 +43,7 @@ fn sifted_order(
     order: &[u8],
     counts: usize,
 ) -> Result<Found, Refusal>
-    ensures shape { OnOk result (HasShape inputs outputs words.now (length order.now) counts) }
+    ensures shape { OnOk result (HasCallShape inputs outputs words.now (length order.now) counts) }
     ensures order { OnOk result (IsOrder inputs order.now) }
     ensures sifted { IfOk result
         (λ f. IsSiftedFrom inputs (functions_in inputs outputs words.now) [] order.now f.order
@@ -51,7 +51,7 @@ fn sifted_order(
     ensures long { IfOk result (λ f. length f.order ≡ length order.now) }
     ensures counts { IfOk result (λ f. length f.levels.items ≡ counts) }
     ensures refused { IfErr result
-        (RefusesOrder (HasShape inputs outputs words.now (length order.now) counts)
+        (RefusesOrder (HasCallShape inputs outputs words.now (length order.now) counts)
         (IsOrder inputs order.now)) }
 {
     let given = arguments_of(alloc, words, inputs, outputs, order, counts)?;
@@ -78,7 +78,7 @@ pub extern "C" fn minorder_sift_with_lengths(
 ) -> u32
     ensures status { IsOrderStatus result }
     ensures shape { TellsShape
-        (HasShape inputs outputs tables.now (length order.old) (length levels.old)) result }
+        (HasCallShape inputs outputs tables.now (length order.old) (length levels.old)) result }
     ensures no_order { result ≡ 5 → IsOrder inputs order.old → ⊥ }
     ensures order { result ≡ 0 → IsOrder inputs order.old }
     ensures sifted { result ≡ 0 →

@@ -3,7 +3,7 @@ use Rattle.std.proofs.Common.{◌≡◌, ℕ, ◌+◌, ◌-◌, ◌*◌, ◌/◌
 use Rattle.order_model.specs.Functions.{SameFunction}
 use Rattle.node_words.specs.declared.operation.Operation.{Operation}
 use Rattle.node_words.specs.declared.operation.Operation.TheVariants.{And, Or, Xor}
-use Rattle.node_words.specs.Nodes.{AreNodes, Grows, IsKnown}
+use Rattle.node_words.specs.Nodes.{AreNodeWords, Grows, IsKnown}
 use Rattle.node_words.specs.Meaning.{function_of, Denotes}
 use Rattle.node_words.specs.Entries.{code_of, combine, combine_values, entry_word, first_of, second_of, result_of, IsEntry}
 use Rattle.node_words.proofs.Growing.{grows_full}
@@ -31,7 +31,7 @@ one_code Xor Or e = absurd (omega arith)
 one_code Xor Xor e = refl
 
 -- more places filled leave the operands' functions, and so the entry
-pub entry_grows : (order xs ys : List ℕ) (w : ℕ) → AreNodes (length order) xs → Grows xs ys → IsEntry order xs w → IsEntry order ys w
+pub entry_grows : (order xs ys : List ℕ) (w : ℕ) → AreNodeWords (length order) xs → Grows xs ys → IsEntry order xs w → IsEntry order ys w
 unfolding SameFunction combine
 entry_grows order xs ys w nodes g e = record {
   operation = e.operation;

@@ -8,7 +8,7 @@ use Rattle.std.proofs.lemmas.List.FromFn.{get_or-map-range_with_len, length-map-
 use Rattle.order_model.specs.Functions.{Point, Function, bit, SameFunction}
 use Rattle.order_model.specs.Orders.{IsOrder, place_in}
 use Rattle.order_model.proofs.Lists.Orders.{has_at, place_get}
-use Rattle.node_words.specs.Nodes.{IsBelow, AreNodes, AreUnequal, Grows, level_of, low_of, high_of, node_word, IsKnown, IsIdOf}
+use Rattle.node_words.specs.Nodes.{IsBelow, AreNodeWords, AreUnequal, Grows, level_of, low_of, high_of, node_word, IsKnown, IsIdOf}
 use Rattle.node_words.specs.Meaning.{value, IsSame, depth, along, function_of, Denotes, branch}
 use Rattle.node_words.specs.declared.operation.Operation.{Operation}
 use Rattle.node_words.specs.Entries.{combine, combine_values}
@@ -30,7 +30,7 @@ along-point_along order t level is inside =
     let x : ℕ = get_or order level 0 in let small : x < length order = (is.all x).0 (has_at order level inside) in
     get_or-map-range_with_len (λ y. t (place_in order y)) 0 (length order) x x false small (zero-add x) ∙ ap t (place_get order level is.once inside)
 
-module _ (order ws : List ℕ) (nodes : AreNodes (length order) ws) where
+module _ (order ws : List ℕ) (nodes : AreNodeWords (length order) ws) where
   -- each choice of children is that of a point
   pub value_at : (id : ℕ) (t : ℕ → Bool) → IsOrder (length order) order → IsKnown ws id →
       value (length order) ws id t ≡ function_of order ws id (point_along order t)
@@ -163,7 +163,7 @@ known_made ws level low high id known made = dite (ℕ_discrete low high)
     let word = m.1 in λ two empty. omega arith)
 
 -- a made id is known, and denotes the branch of the children's functions by the level's variable
-pub denotes_made : (order ws : List ℕ) → AreNodes (length order) ws → (level low high id : ℕ) → level < 16 → low < 2 ^ 20 → high < 2 ^ 20 →
+pub denotes_made : (order ws : List ℕ) → AreNodeWords (length order) ws → (level low high id : ℕ) → level < 16 → low < 2 ^ 20 → high < 2 ^ 20 →
     IsKnown ws low → IsIdOf ws level low high id
     → Denotes order ws id (branch (get_or order level 0) (function_of order ws low) (function_of order ws high))
 unfolding SameFunction

@@ -1,5 +1,5 @@
 -- What making a node rests on.
-use Rattle.std.proofs.Common.{◌≡◌, ◌≢◌, ℕ, ◌+◌, ◌-◌, ◌^◌, ◌<◌, ◌≤◌, ◌⊎◌, Bool, true, false, MatchBool, nat_lt, if◌then◌else◌, List, get_or, sym, ap, ◌∙◌, subst, ⊎_elim, arith, ne_eqb, lt-ltb, le-ltb}
+use Rattle.std.proofs.Common.{◌≡◌, ◌≢◌, ℕ, ◌+◌, ◌-◌, ◌^◌, ◌<◌, ◌≤◌, ◌⊎◌, Bool, MatchBool, nat_lt, List, get_or, sym, ap, ◌∙◌, subst, ⊎_elim, arith, ne_eqb, lt-ltb, le-ltb}
 use Rattle.node_words.specs.Nodes.{IsBelow, IsNode, Grows, level_of, low_of, high_of, node_word, probe, home, IsFullFor, IsIdOf}
 use Rattle.node_words.proofs.Meaning.{le_or_lt, choose_n, refuse_n}
 

@@ -1,6 +1,6 @@
 -- What ids mean: growth keeps it, and ids that mean the same are the same.
 use Rattle.std.proofs.Common.{◌≡◌, ◌≢◌, ℕ, zero, suc, ◌+◌, ◌-◌, ◌<◌, ◌≤◌, ◌⊎◌, ◌==◌, Bool, true, false, nat_lt, if◌then◌else◌, List, get_or, sym, refl, ap, ◌∙◌, subst, ⊎_elim, arith, lt-ltb, le-ltb, eq-eqb, ne_eqb}
-use Rattle.node_words.specs.Nodes.{IsBelow, AreNodes, AreUnequal, Grows, level_of, low_of, high_of, node_word, IsKnown}
+use Rattle.node_words.specs.Nodes.{IsBelow, AreNodeWords, AreUnequal, Grows, level_of, low_of, high_of, node_word, IsKnown}
 use Rattle.node_words.specs.Meaning.{value, IsSame, depth}
 
 pub le_or_lt : (a b : ℕ) → (a ≤ b) ⊎ (b < a)
@@ -34,7 +34,7 @@ pub value_node : (k : ℕ) (ws : List ℕ) (id : ℕ) (t : ℕ → Bool) → 2 �
     (low_of (get_or ws (id - 2) 0)) t)
 value_node k ws id t h = refuse (nat_lt id 2) (id == 1) _ (le-ltb id 2 h)
 
-module _ (levels : ℕ) (xs ys : List ℕ) (nodes : AreNodes levels xs) (g : Grows xs ys) where
+module _ (levels : ℕ) (xs ys : List ℕ) (nodes : AreNodeWords levels xs) (g : Grows xs ys) where
   -- what an id means stays as the words grow
   pub value_grows : (k id : ℕ) (t : ℕ → Bool) → IsKnown xs id → value k ys id t ≡ value k xs id t
   value_grows zero id t known = refl
@@ -49,7 +49,7 @@ module _ (levels : ℕ) (xs ys : List ℕ) (nodes : AreNodes levels xs) (g : Gro
       (λ (small : id < 2). value_terminal (suc k) ys id t small ∙ sym (value_terminal (suc k) xs id t small))
       (le_or_lt 2 id)
 
-module _ (levels : ℕ) (ws : List ℕ) (nodes : AreNodes levels ws) where
+module _ (levels : ℕ) (ws : List ℕ) (nodes : AreNodeWords levels ws) where
   deeper : (id child : ℕ) → 2 ≤ id → IsKnown ws id → IsBelow ws (level_of (get_or ws (id - 2) 0)) child →
       level_of (get_or ws (id - 2) 0) < depth levels ws child
   deeper id child two known below = ⊎_elim

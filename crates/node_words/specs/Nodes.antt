@@ -1,7 +1,7 @@
 -- The words of nodes, and what is so of a list of them.
 --     node_word, level_of, low_of, high_of      a node's word and its parts; id p + 2 is the node at place p, ids 0 and 1 are the terminals
 --     home, probe      the places that the search for a word comes to
---     IsNode, AreNodes, AreUnequal, AreStored      lists of words that are nodes, no two of them equal
+--     IsNode, AreNodeWords, AreUnequal, AreStored      lists of words that are nodes, no two of them equal
 --     Grows      what was filled stays
 use Rattle.std.specs.Prelude.{◌≡◌, ◌≢◌, ℕ, ◌+◌, ◌-◌, ◌*◌, ◌/◌, ◌%◌, ◌^◌, ◌<◌, ◌≤◌, ◌==◌, nat_lt, if◌then◌else◌, List, length, slice_index, bit_xor, MatchBool}
 
@@ -50,8 +50,8 @@ pub record IsNode (levels : ℕ) (ws : List ℕ) (w : ℕ) : Type 0 where
   pub high : IsBelow ws (level_of w) (high_of w)
 
 -- each filled word is a node
-abbrev pub AreNodes : ℕ → List ℕ → Type 0
-AreNodes levels ws = (p : ℕ) → slice_index ws p ≢ 0 → IsNode levels ws (slice_index ws p)
+abbrev pub AreNodeWords : ℕ → List ℕ → Type 0
+AreNodeWords levels ws = (p : ℕ) → slice_index ws p ≢ 0 → IsNode levels ws (slice_index ws p)
 
 -- no two filled places hold equal words
 abbrev pub AreUnequal : List ℕ → Type 0
@@ -70,7 +70,7 @@ Grows xs ys = (p : ℕ) → slice_index xs p ≢ 0 → slice_index ys p ≡ slic
 -- the node words of a store
 pub record AreStored (levels places : ℕ) (ws : List ℕ) : Type 0 where
   pub size : length ws ≡ places
-  pub nodes : AreNodes levels ws
+  pub nodes : AreNodeWords levels ws
   pub unequal : AreUnequal ws
   pub reached : (p : ℕ) → slice_index ws p ≢ 0 → IsReached places ws (slice_index ws p) p
 
@@ -83,7 +83,7 @@ abbrev pub IsFullFor : List ℕ → ℕ → ℕ → Type 0
 IsFullFor ws places w = (p : ℕ) → p < places → IsTaken ws w p
 
 -- the place comes next in the search for w: the places before are taken by other words
-pub record IsNext (ws : List ℕ) (places w p : ℕ) : Type 0 where
+pub record IsNextProbe (ws : List ℕ) (places w p : ℕ) : Type 0 where
   pub passed : ℕ
   pub here : p ≡ probe places w passed
   pub before : (j : ℕ) → j < passed → IsTaken ws w (probe places w j)

@@ -3,18 +3,18 @@
 ghost use Rattle.std.specs.Prelude.{◌≡◌, ℕ, List, length};
 ghost use Rattle.order_model.specs.Functions.{Function};
 ghost use Rattle.order_model.specs.Orders.{IsOrder};
-ghost use Rattle.node_words.specs.Nodes.{AreNodes, AreUnequal, Grows};
+ghost use Rattle.node_words.specs.Nodes.{AreNodeWords, AreUnequal, Grows};
 ghost use Rattle.node_words.specs.Meaning.{Denotes};
 
 /// Ids that denote one function are one id.
 pub fn equal_functions_have_equal_ids()
-    ensures { (order ws : List ℕ) → IsOrder (length order) order → AreNodes (length order) ws →
+    ensures { (order ws : List ℕ) → IsOrder (length order) order → AreNodeWords (length order) ws →
         AreUnequal ws → (a b : ℕ) (f : Function) → Denotes order ws a f →
         Denotes order ws b f → a ≡ b }
 {}
 
 /// What an id denotes stays as more places are filled.
 pub fn growth_keeps_functions()
-    ensures { (order ws later : List ℕ) → AreNodes (length order) ws → Grows ws later →
+    ensures { (order ws later : List ℕ) → AreNodeWords (length order) ws → Grows ws later →
         (id : ℕ) (f : Function) → Denotes order ws id f → Denotes order later id f }
 {}

@@ -80,7 +80,8 @@ module _ (n : ℕ) (words : List ℕ) (a b p : ℕ) (long : length words ≡ wor
   at i k lt q e = sym (ap (packed_bit words) e) ∙ value_at_word words i k lt
 
   pub inside_value : b < 6 →
-      ((i k : ℕ) → i < length words → k < 64 → bit_at k a ≡ 1 → bit_at k b ≡ 0 → bit_at (slice_index words i) k ≡ bit_at (slice_index words i) ((k - 2 ^ a) + 2 ^ b)) →
+      ((i k : ℕ) → i < length words → k < 64 → bit_at k a ≡ 1 → bit_at k b ≡ 0 →
+      bit_at (slice_index words i) k ≡ bit_at (slice_index words i) ((k - 2 ^ a) + 2 ^ b)) →
       packed_bit words p ≡ packed_bit words ((p - 2 ^ a) + 2 ^ b)
   inside_value low h =
       let i = p / 64 in

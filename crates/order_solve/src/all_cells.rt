@@ -133,7 +133,7 @@ impl<'a> AllCells<'a> {
     }
 
     /// The members of a set that is not empty whose widths its cell takes.
-    pub fn needed(&self, mask: Mask) -> Mask
+    pub fn needed_members(&self, mask: Mask) -> Mask
         requires some { 0 < mask }
         requires within { mask < 2 ^ self.now.problem.inputs }
         ensures { result ≡ needed self.now mask }

@@ -49,7 +49,7 @@ pub fn count_widths(cells: &AllCells<'_>) -> u64
 {
     let mut count = 0;
     for number in 1..1u32 << cells.inputs() {
-        count += u64::from(cells.needed(number as Mask).count_ones());
+        count += u64::from(cells.needed_members(number as Mask).count_ones());
     }
     count
 }

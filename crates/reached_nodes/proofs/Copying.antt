@@ -9,7 +9,7 @@ use Rattle.order_model.specs.declared.diagrams.Ref.TheVariants.{Terminal, Place}
 use Rattle.order_model.specs.declared.diagrams.Node.{Node}
 use Rattle.order_model.specs.Diagrams.{IsBefore}
 use Rattle.order_model.proofs.Nodes.Appended.{get_left, get_right}
-use Rattle.node_words.specs.Nodes.{IsKnown, Grows, AreNodes, level_of, low_of, high_of}
+use Rattle.node_words.specs.Nodes.{IsKnown, Grows, AreNodeWords, level_of, low_of, high_of}
 use Rattle.node_words.specs.Meaning.{depth}
 use Rattle.node_words.proofs.Growing.{grows_trans, grows_full}
 use Rattle.node_words.proofs.Meaning.{depth_node, le_or_lt}
@@ -212,7 +212,7 @@ module _ (order ws numbers : List ℕ) (nodes : List Node) (c : AreCopied order 
 -- ---- what copying does
 
 -- a node, after its children
-module _ (order ws n0 n1 n2 : List ℕ) (d0 d1 d2 : List Node) (p : ℕ) (r1 r2 : Ref) (are : AreNodes (length order) ws)
+module _ (order ws n0 n1 n2 : List ℕ) (d0 d1 d2 : List Node) (p : ℕ) (r1 r2 : Ref) (are : AreNodeWords (length order) ws)
     (blank_p : get_or n0 p 0 ≡ 0) (inside : p < length ws) (full : get_or ws p 0 ≢ 0)
     (c1 : Copies order ws n0 d0 n1 d1 (low_of (get_or ws p 0)) r1) (c2 : Copies order ws n1 d1 n2 d2 (high_of (get_or ws p 0)) r2) where
   abbrev w : ℕ
@@ -295,7 +295,7 @@ inside_of ws p full = ⊎_elim (λ (past : length ws ≤ p). absurd (full (get_o
 
 -- the same, as the code makes it
 pub copies_step : (order ws n0 n1 n2 n3 : List ℕ) (d0 d1 d2 d3 : List Node) (id word level low high number : ℕ) (r1 r2 r : Ref) →
-    AreNodes (length order) ws → 2 ≤ id → number ≡ get_or n0 (id - 2) number → number ≡ 0 → IsKnown ws id
+    AreNodeWords (length order) ws → 2 ≤ id → number ≡ get_or n0 (id - 2) number → number ≡ 0 → IsKnown ws id
     → length n0 ≡ length ws → word ≡ get_or ws (id - 2) 0 → level ≡ level_of word → low ≡ low_of word → high ≡ high_of word →
     Copies order ws n0 d0 n1 d1 low r1 → Copies order ws n1 d1 n2 d2 high r2
     → n3 ≡ set n2 (id - 2) (length d2 + 1) → d3 ≡ d2 ++ (record { variable = get_or order level 0; low = r1; high = r2 }) ∷ [] →

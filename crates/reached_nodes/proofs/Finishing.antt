@@ -8,11 +8,11 @@ use Rattle.order_model.specs.declared.diagrams.Ref.TheVariants.{Terminal, Place}
 use Rattle.order_model.specs.declared.diagrams.Node.{Node}
 use Rattle.order_model.specs.Functions.{Point, bit, SameFunction}
 use Rattle.order_model.specs.Orders.{IsOrder, place_in}
-use Rattle.order_model.specs.Diagrams.{Graph, IsBefore, IsNodeAt, AreNodes as ArePlaced, IsOrdered, IsOf, Reached, from_root, from_parent, value}
+use Rattle.order_model.specs.Diagrams.{Graph, IsBefore, IsNodeAt, AreNodes, IsOrdered, IsOf, Reached, from_root, from_parent, value}
 use Rattle.order_model.proofs.Lists.Orders.{has_at, place_get}
 use Rattle.order_model.proofs.Nodes.Paths.{value_place, value_terminal}
 use Rattle.order_model.proofs.Nodes.Appended.{graph_of, diagram_of, get_left}
-use Rattle.node_words.specs.Nodes.{IsKnown, Grows, AreNodes, AreUnequal, IsBelow, node_word, level_of, low_of, high_of}
+use Rattle.node_words.specs.Nodes.{IsKnown, Grows, AreNodeWords, AreUnequal, IsBelow, node_word, level_of, low_of, high_of}
 use Rattle.node_words.specs.Meaning.{depth, function_of, branch}
 use Rattle.node_words.proofs.Meaning.{below_low, below_high, shallow, le_or_lt}
 use Rattle.node_words.proofs.Functions.{function_child, function_terminal}
@@ -67,7 +67,7 @@ more_refs numbers numbers' refs ids i r g a known is = record {
 
 -- ---- the diagram
 
-module _ (order ws numbers : List ℕ) (nodes : List Node) (is : IsOrder (length order) order) (are : AreNodes (length order) ws)
+module _ (order ws numbers : List ℕ) (nodes : List Node) (is : IsOrder (length order) order) (are : AreNodeWords (length order) ws)
     (unequal : AreUnequal ws) (c : AreCopied order ws numbers nodes) where
   -- the place of which a node is the copy
   record From (k : ℕ) (node : Node) : Type 0 where
@@ -101,7 +101,7 @@ module _ (order ws numbers : List ℕ) (nodes : List Node) (is : IsOrder (length
   small_level : (p : ℕ) → get_or ws p 0 ≢ 0 → level_of (get_or ws p 0) < length order
   small_level p full = (are p full).level
 
-  pub placed_nodes : ArePlaced (length order) nodes
+  pub placed_nodes : AreNodes (length order) nodes
   placed_nodes k node at = let f = from k node at in let o = f.copied in let w : ℕ = get_or ws f.place 0 in
       let m : get_or numbers f.place 0 - 1 ≡ k = (let e = f.number in omega arith) in
       subst (λ (z : ℕ × Node). IsNodeAt (length order) z.0 z.1) (λ i. (m i, f.is_copy i)) record {

@@ -2,7 +2,7 @@
 
 ghost use Rattle.std.specs.Prelude.{◌≡◌, ◌^◌, ◌<◌, ◌≤◌, ◌+◌, ◌++◌, ◌∷◌, [], IfOk, OnOk, vec_len, length, slice_index, slice_set};
 ghost use Rattle.std.specs.Slots.{slots_len, IsFull};
-ghost use Rattle.node_words.specs.Nodes.{AreNodes, IsKnown};
+ghost use Rattle.node_words.specs.Nodes.{AreNodeWords, IsKnown};
 ghost use Rattle.reached_nodes.specs.Copies.{words_in, AreCopied, Copies};
 
 use crate::numbers::Numbers;
@@ -55,7 +55,7 @@ pub(crate) fn copy(
     requires places { (places ≤ slots_len closed.now.words) × (length numbers.old ≡ places)
         × (places < 2 ^ 20) }
     requires levels { length order.now ≤ 16 }
-    requires nodes { AreNodes (length order.now) (words_in closed.now places) }
+    requires nodes { AreNodeWords (length order.now) (words_in closed.now places) }
     requires known { IsKnown (words_in closed.now places) id }
     requires copied { AreCopied order.now (words_in closed.now places) numbers.old
         nodes.old.items }

@@ -4,7 +4,7 @@ ghost use Rattle.std.specs.Prelude.{◌^◌, ◌<◌, ◌≤◌, IfOk, length, m
 ghost use Rattle.std.specs.List.{All};
 ghost use Rattle.std.specs.Slots.{slots_len, IsFull};
 ghost use Rattle.order_model.specs.Orders.{IsOrder};
-ghost use Rattle.node_words.specs.Nodes.{AreNodes, AreUnequal, IsKnown};
+ghost use Rattle.node_words.specs.Nodes.{AreNodeWords, AreUnequal, IsKnown};
 ghost use Rattle.node_words.specs.Meaning.{function_of};
 ghost use Rattle.reached_nodes.specs.Copies.{words_in, IsReducedOf};
 
@@ -33,7 +33,7 @@ pub fn reached_nodes(
     requires full { IsFull closed.now.words }
     requires places { (places ≤ slots_len closed.now.words) × (places < 2 ^ 20) }
     requires order { (length order.now ≤ 16) × IsOrder (length order.now) order.now }
-    requires nodes { AreNodes (length order.now) (words_in closed.now places) }
+    requires nodes { AreNodeWords (length order.now) (words_in closed.now places) }
     requires unequal { AreUnequal (words_in closed.now places) }
     requires known { All (IsKnown (words_in closed.now places)) ids.now }
     ensures { IfOk result

@@ -30,7 +30,7 @@ use Rattle.run_texts.proofs.Determined.{pairs_unique}
 use Rattle.checks.specs.Judging.{ChecksAs, Judge}
 use Rattle.checks.specs.VerdictTexts.{valid_line}
 use Rattle.checks.proofs.OneVerdict.{judge_unique}
-use Rattle.round_trip.specs.RoundTrip.{Accepts, Decides, Wrote}
+use Rattle.round_trip.specs.RoundTrip.{AcceptsWritten, Decides, Wrote}
 
 -- what a check that decides writes is what the bytes lead to
 decided : (file text : List ℕ) (before after : Option (List ℕ)) (outcome : Outcome) → Decides outcome → ChecksAs file text before after outcome →
@@ -99,7 +99,7 @@ seen false above cover file report text written e few reads (kept, pairs, answer
     subst (λ (r : List ℕ). IsSeen file written r) (sym same) (subst (λ (w : List ℕ). IsSeen file w text) (sym put) here)
 
 pub accepted : (plan : RunPlan) (file report cert : List ℕ) (before after : Option (List ℕ)) (outcome : Outcome) →
-    Wrote plan file report cert → Decides outcome → ChecksAs file cert before after outcome → Accepts cert report before after outcome
+    Wrote plan file report cert → Decides outcome → ChecksAs file cert before after outcome → AcceptsWritten cert report before after outcome
 accepted plan file report cert before after outcome wrote decides checks =
     let d = wrote.delivers in
     let s = seen plan.count plan.above d.0 file report d.1 cert wrote.without_count wrote.tells d.2 d.3 d.4 d.5 in

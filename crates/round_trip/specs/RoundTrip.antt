@@ -1,7 +1,7 @@
 -- A certificate on its way from a run to a check.
 --     Wrote plan file report cert      a run without count read the file, and its writers got a report and a certificate
 --     Decides outcome      a check ended with 0, 1 or 3
---     Accepts text report before after outcome      a check accepted the certificate that a text spells, of which a report prints the order and the nodes
+--     AcceptsWritten text report before after outcome      a check accepted the certificate that a text spells, whose order and nodes a report prints
 use Rattle.std.specs.Prelude.{◌≡◌, ℕ, false, List, [], ◌∷◌, Option, Some, IsTrue}
 use Rattle.std.specs.Io.KnownBytes.{Appends}
 use Rattle.order_model.specs.Orders.{has}
@@ -27,7 +27,7 @@ abbrev pub Decides : Outcome → Type 0
 Decides outcome = IsTrue (has (0 ∷ 1 ∷ 3 ∷ []) (status_of outcome))
 
 -- the line of the valid certificate that the text spells, whose order and number of nodes are those that the report prints
-pub record Accepts (text report : List ℕ) (before after : Option (List ℕ)) (outcome : Outcome) : Type 0 where
+pub record AcceptsWritten (text report : List ℕ) (before after : Option (List ℕ)) (outcome : Outcome) : Type 0 where
   pub done : outcome ≡ Done
   pub cert : Certificate
   pub spelled : Spells text cert

@@ -4,7 +4,7 @@ ghost use Rattle.std.specs.Prelude.{ℕ, List, Option};
 ghost use Rattle.command_line.specs.declared.line.RunPlan.{RunPlan};
 ghost use Rattle.outcomes.specs.declared.outcome.Outcome.{Outcome};
 ghost use Rattle.checks.specs.Judging.{ChecksAs};
-ghost use Rattle.round_trip.specs.RoundTrip.{Accepts, Decides, Wrote};
+ghost use Rattle.round_trip.specs.RoundTrip.{AcceptsWritten, Decides, Wrote};
 
 /// A certificate that a run wrote is accepted: each check of it with the same file that decides,
 /// and so ends with 0, 1 or 3, ends with 0. The certificate that its text spells has the order that
@@ -12,5 +12,5 @@ ghost use Rattle.round_trip.specs.RoundTrip.{Accepts, Decides, Wrote};
 pub fn written_certificates_are_accepted()
     ensures { (plan : RunPlan) (file report cert : List ℕ) (before after : Option (List ℕ))
         (outcome : Outcome) → Wrote plan file report cert → Decides outcome →
-        ChecksAs file cert before after outcome → Accepts cert report before after outcome }
+        ChecksAs file cert before after outcome → AcceptsWritten cert report before after outcome }
 {}

@@ -54,7 +54,7 @@ fn best_sum(mask: Mask, costs: &Costs, widths: &[u32; 16], bound: u32) -> Option
 }
 
 /// The clipped cell of a set.
-fn clipped(mask: Mask, bound: u32) -> Cell
+fn clipped_cell(mask: Mask, bound: u32) -> Cell
     requires some { 0 < mask }
     requires room { bound + 1 < 2 ^ 32 }
     ensures { (n : ℕ) → mask < 2 ^ n → as_pair result ≡ (bound + 1, first_of (members n mask)) }
@@ -83,7 +83,7 @@ fn lawful_cell(
         IsCellOnce reserves.now P bound mask costs.now widths.now (as_pair result) }
 {
     match best_sum(mask, costs, widths, bound) {
-        None => clipped(mask, bound),
+        None => clipped_cell(mask, bound),
         Some(best) => {
             if best.sum + reserves.above(mask, widths) <= u64::from(bound) {
                 Cell {
@@ -91,7 +91,7 @@ fn lawful_cell(
                     variable: best.variable,
                 }
             } else {
-                clipped(mask, bound)
+                clipped_cell(mask, bound)
             }
         }
     }
@@ -120,6 +120,6 @@ pub fn least_cell(
     if pairs.lawful(mask) {
         lawful_cell(mask, costs, widths, bound, reserves)
     } else {
-        clipped(mask, bound)
+        clipped_cell(mask, bound)
     }
 }

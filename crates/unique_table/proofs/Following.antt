@@ -2,7 +2,7 @@
 use Rattle.std.proofs.Common.{◌≡◌, ℕ, ◌-◌, ◌≤◌, ◌++◌, List, [], ◌∷◌, get_or, sym, refl, ap, ◌∙◌, subst, arith}
 use Rattle.std.specs.List.{All}
 use Rattle.std.proofs.lemmas.List.Elements.{All-push}
-use Rattle.node_words.specs.Nodes.{AreNodes, Grows}
+use Rattle.node_words.specs.Nodes.{AreNodeWords, Grows}
 use Rattle.node_words.specs.Meaning.{function_of, Denotes, depth}
 use Rattle.node_words.proofs.Growing.{grows_full, grows_refl, grows_trans}
 use Rattle.node_words.proofs.Functions.{function_grows, denotes_grows, depth_grows}
@@ -11,7 +11,7 @@ use Rattle.unique_table.specs.Sessions.{StoreId, Knowledge, Follows, Knows, IsKn
 use Rattle.unique_table.specs.Stakes.{IsNoLess}
 use Rattle.unique_table.proofs.Stakes.{no_less_same, no_less_trans}
 
-pub follows : (s s' : Knowledge) → AreNodes (levels_of s.store.plan) s.seen → s'.store ≡ s.store → IsNoLess s.stake s'.stake →
+pub follows : (s s' : Knowledge) → AreNodeWords (levels_of s.store.plan) s.seen → s'.store ≡ s.store → IsNoLess s.stake s'.stake →
     Grows s.seen s'.seen → Grows s.pieces s'.pieces → Follows s s'
 follows s s' are same no_less g gp = record {
   store = same;
@@ -26,7 +26,7 @@ follows s s' are same no_less g gp = record {
   depths = λ id known. ap (λ (z : StoreId). depth (levels_of z.plan) s'.seen id) same ∙ depth_grows (levels_of s.store.plan) s.seen s'.seen g id known;
 }
 
-pub follows_refl : (s : Knowledge) → AreNodes (levels_of s.store.plan) s.seen → Follows s s
+pub follows_refl : (s : Knowledge) → AreNodeWords (levels_of s.store.plan) s.seen → Follows s s
 follows_refl s are = follows s s are refl (no_less_same s.stake s.stake refl) (grows_refl s.seen) (grows_refl s.pieces)
 
 pub follows_trans : (a b c : Knowledge) → Follows a b → Follows b c → Follows a c

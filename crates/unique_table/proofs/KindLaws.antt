@@ -8,7 +8,7 @@ use native.Mathlib.Decide.{ℕ_discrete}
 use prog.Atomic.{either}
 use Rattle.atomic_table.specs.Table.{carried_after, homes_after}
 use Rattle.order_model.specs.Functions.{Function, SameFunction}
-use Rattle.node_words.specs.Nodes.{Grows, AreNodes, IsNode, IsNext, IsTaken, probe}
+use Rattle.node_words.specs.Nodes.{Grows, AreNodeWords, IsNode, IsNextProbe, IsTaken, probe}
 use Rattle.node_words.specs.Meaning.{Denotes}
 use Rattle.node_words.specs.Entries.{IsEntry}
 use Rattle.node_words.proofs.Functions.{denotes_grows, one_id}
@@ -18,19 +18,19 @@ use Rattle.unique_table.specs.Plans.{order_of, levels_of, piece_function}
 use Rattle.unique_table.specs.Picture.{StoreState, IsKept, having, putting, nodes_of, pieces_of, spent}
 use Rattle.unique_table.specs.Stakes.{IsWhole}
 use Rattle.unique_table.specs.Views.{After}
-use Rattle.unique_table.specs.Steps.{IsSeat, Becomes, put_words}
+use Rattle.unique_table.specs.Steps.{IsStoreSeat, Becomes, put_words}
 use Rattle.unique_table.proofs.Rule.{M, pieces_grow, may_look, may_put, may_publish, may_collect, may_recall, may_remember}
 use Rattle.unique_table.proofs.Steps.{after_goes, gains_after}
 use Rattle.unique_table.proofs.Stakes.{no_other}
 
-module _ (b : Plan) (s : StoreState) (id : ℕ) (v : View) (is : IsSeat b s id v) where
+module _ (b : Plan) (s : StoreState) (id : ℕ) (v : View) (is : IsStoreSeat b s id v) where
   abbrev me : M
   me = (v, [])
 
   plan : v.plan ≡ b
   plan = (is.kept.seen id v is.seat is.live).plan
 
-  good : AreNodes (levels_of b) v.seen
+  good : AreNodeWords (levels_of b) v.seen
   good = (is.kept.seen id v is.seat is.live).nodes
 
   -- the rule after a step of the seat
@@ -124,7 +124,7 @@ module _ (b : Plan) (s : StoreState) (id : ℕ) (v : View) (is : IsSeat b s id v
       (λ full. ap (λ (t : Bool). set s.words p (either t w (get_or s.words p 0))) (ne_eqb (get_or s.words p 0) 0 full)
       ∙ (set-get_or s.words p 0 ∙ ap (λ (t : Bool). if t then set s.words p w else s.words) (sym (ne_eqb (get_or s.words p 0) 0 full))))
 
-  pub kind_put : (p w : ℕ) → p < b.places → w ≢ 0 → IsNext v.seen b.places w p → IsNode (levels_of b) v.seen w
+  pub kind_put : (p w : ℕ) → p < b.places → w ≢ 0 → IsNextProbe v.seen b.places w p → IsNode (levels_of b) v.seen w
       → (v' : View) × Becomes b s id v (put_words s.words p w) v' × (get_or v'.seen p 0 ≡ get_or (put_words s.words p w) p 0)
   kind_put p w inside full next node =
       let k = next in let here = k.here in let before = k.before in
@@ -166,8 +166,9 @@ module _ (b : Plan) (s : StoreState) (id : ℕ) (v : View) (is : IsSeat b s id v
             (piece_function b q) d),
       )
 
-module _ (b : Plan) (s : StoreState) (i j : ℕ) (v w : View) (a : IsSeat b s i v) (d : IsSeat b s j w) where
-  in_words : (k : ℕ) (u : View) (at : IsSeat b s k u) (x : ℕ) (f : Function) → Denotes (order_of b) u.seen x f → Denotes (order_of b) (nodes_of b s.words) x f
+module _ (b : Plan) (s : StoreState) (i j : ℕ) (v w : View) (a : IsStoreSeat b s i v) (d : IsStoreSeat b s j w) where
+  in_words : (k : ℕ) (u : View) (at : IsStoreSeat b s k u) (x : ℕ) (f : Function) → Denotes (order_of b) u.seen x f →
+      Denotes (order_of b) (nodes_of b s.words) x f
   in_words k u at x f m = let seen = at.kept.seen k u at.seat at.live in denotes_grows (order_of b) u.seen seen.nodes (nodes_of b s.words) seen.grows x f m
 
   pub same_function_ids : (x y : ℕ) (f : Function) → Denotes (order_of b) v.seen x f → Denotes (order_of b) w.seen y f → x ≡ y
@@ -180,7 +181,7 @@ module _ (b : Plan) (s : StoreState) (i j : ℕ) (v w : View) (a : IsSeat b s i 
   same_id_functions x f g dx dy p l = sym ((in_words i v a x f dx).function p l) ∙ (in_words j w d x g dy).function p l
 
 -- beside a seat with the whole there is no other
-pub only_seat : (b : Plan) (s : StoreState) (i j : ℕ) (v w : View) → IsSeat b s i v → IsSeat b s j w → IsWhole v.stake → i ≡ j
+pub only_seat : (b : Plan) (s : StoreState) (i j : ℕ) (v w : View) → IsStoreSeat b s i v → IsStoreSeat b s j w → IsWhole v.stake → i ≡ j
 only_seat b s i j v w a d all = dite (ℕ_discrete i j)
     (λ same. same)
     (λ ne. absurd (no_other s.views j w d.seat d.kept.stakes i v spent refl ne a.seat (d.kept.seen j w d.seat d.live).stake all))

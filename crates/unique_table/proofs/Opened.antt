@@ -1,6 +1,6 @@
 -- A store and a session, opened.
 use Rattle.std.proofs.Common.{◌≡◌, ◌≢◌, ℕ, ◌+◌, ◌-◌, ◌*◌, ◌/◌, ◌^◌, ◌<◌, ◌≤◌, List, sym, ap, ◌∙◌, subst, ⊎_elim, arith}
-use Rattle.node_words.specs.Nodes.{AreNodes, Grows, IsNode, IsIdOf, node_word}
+use Rattle.node_words.specs.Nodes.{AreNodeWords, Grows, IsNode, IsIdOf, node_word}
 use Rattle.node_words.specs.Meaning.{function_of, Denotes, branch}
 use Rattle.node_words.proofs.Making.{word_node}
 use Rattle.node_words.proofs.Meaning.{depth_node, depth_terminal}
@@ -69,8 +69,8 @@ module _ (t : store.Inside) (s : session.Inside) (T : StoreId) (K : Knowledge) (
             (subst (λ (z : Knowledge). IsNode (levels_of z.store.plan) z.seen word) (sym is_s) node);
       }
 
-  pub nodes_are : AreNodes (levels_of K.store.plan) K.seen
-  nodes_are = subst (λ (z : Knowledge). AreNodes (levels_of z.store.plan) z.seen) is_s ks.good.nodes
+  pub nodes_are : AreNodeWords (levels_of K.store.plan) K.seen
+  nodes_are = subst (λ (z : Knowledge). AreNodeWords (levels_of z.store.plan) z.seen) is_s ks.good.nodes
 
   module _ (seat : Sitting) (sits : IsSeatOf t.table.shared seat) where
     pub goes_on : Gains s.seat.me.0 seat.me.0 → Follows K (seated seat)
@@ -122,7 +122,7 @@ unique_ids t kt seat sits id other f a b =
     (subst (λ (z : Plan). IsOrder (levels_of z) (order_of z)) (sym sits.plan) kt.plan.order.order) a b
 
 -- ids lie at levels, or are terminals
-pub has_levels : (seat : Sitting) → AreNodes (levels_of seat.me.0.plan) seat.me.0.seen → HasLevels (seated seat)
+pub has_levels : (seat : Sitting) → AreNodeWords (levels_of seat.me.0.plan) seat.me.0.seen → HasLevels (seated seat)
 has_levels seat are id known = ⊎_elim
     (λ (small : id < 2). let e = depth_terminal (levels_of seat.me.0.plan) seat.me.0.seen id small in omega (arith, e))
     (λ (node : 2 ≤ id).
@@ -153,7 +153,7 @@ module _ (t : store.Inside) (kt : IsStore t) (seat : Sitting) (sits : IsSeatOf t
 
 -- what a made id denotes, and how deep it lies
 module _ (T : StoreId) (K K' : Knowledge) (fits : K.store ≡ T) (few : levels_of T.plan ≤ 16)
-    (are : AreNodes (levels_of K'.store.plan) K'.seen) (on : Follows K K') (level low high id : ℕ) (small : level < levels_of T.plan)
+    (are : AreNodeWords (levels_of K'.store.plan) K'.seen) (on : Follows K K') (level low high id : ℕ) (small : level < levels_of T.plan)
     (a : low < 2 ^ 20) (b : high < 2 ^ 20) (kl : IsKnownBelow K level low) (made : IsIdOf K'.seen level low high id) where
   pub made_means : Means K' id (branch (variable_at T.plan level) (function_in K' low) (function_in K' high))
   made_means = subst (λ (z : StoreId). Means K' id (branch (variable_at z.plan level) (function_in K' low) (function_in K' high))) (on.store ∙ fits)

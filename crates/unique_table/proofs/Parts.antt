@@ -1,13 +1,13 @@
 -- The parts of a known node.
 use Rattle.std.proofs.Common.{◌≡◌, ℕ, ◌-◌, ◌≤◌, get_or, sym, ap, ◌∙◌, subst}
 use Rattle.node_words.specs.declared.words.NodeParts.{NodeParts}
-use Rattle.node_words.specs.Nodes.{AreNodes, level_of, low_of, high_of}
+use Rattle.node_words.specs.Nodes.{AreNodeWords, level_of, low_of, high_of}
 use Rattle.node_words.proofs.Meaning.{known_low, known_high, depth_node}
 use Rattle.node_words.proofs.Functions.{function_child, depth_below}
 use Rattle.unique_table.specs.Plans.{order_of, levels_of}
 use Rattle.unique_table.specs.Sessions.{Knowledge, Knows, HasParts}
 
-pub has_parts : (s : Knowledge) → AreNodes (levels_of s.store.plan) s.seen → (id : ℕ) → 2 ≤ id → Knows s id → (w : ℕ) →
+pub has_parts : (s : Knowledge) → AreNodeWords (levels_of s.store.plan) s.seen → (id : ℕ) → 2 ≤ id → Knows s id → (w : ℕ) →
     get_or s.seen (id - 2) 0 ≡ w → (parts : NodeParts)
     → parts.level ≡ level_of w → parts.low ≡ low_of w → parts.high ≡ high_of w → HasParts s id parts
 has_parts s are id two known w is parts level low high =

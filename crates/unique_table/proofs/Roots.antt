@@ -15,17 +15,17 @@ use Rattle.unique_table.specs.declared.close.CloseFault.TheVariants.{MissingRoot
 use Rattle.unique_table.specs.declared.plan.Plan.{Plan}
 use Rattle.unique_table.specs.Plans.{order_of, levels_of, output_at, piece_function, part_function}
 use Rattle.unique_table.specs.Picture.{nodes_of, pieces_of}
-use Rattle.unique_table.specs.Closing.{ClosedOf, AreFinal, AreFilled, HasRoots, SessionsLackWhatIsEmpty, root_word, root_id, root_functions, roots_count}
+use Rattle.unique_table.specs.Closing.{ClosedStoreOf, AreFinal, AreFilled, HasAllRoots, SessionsLackWhatIsEmpty, root_word, root_id, root_functions, roots_count}
 use Rattle.std.proofs.lemmas.Bool.{cases_lt}
 
 -- one more id
-pub more_ids : (c : ClosedOf) (ids ids' : List ℕ) (j x word : ℕ) → ids ≡ map (root_id c) (range_with_len 0 j) →
+pub more_ids : (c : ClosedStoreOf) (ids ids' : List ℕ) (j x word : ℕ) → ids ≡ map (root_id c) (range_with_len 0 j) →
     word ≡ root_word c j → x ≡ word - 1 → ids' ≡ ids ++ x ∷ [] → ids' ≡ map (root_id c) (range_with_len 0 (j + 1))
 more_ids c ids ids' j x word old word_is x_is new =
     let last : x ≡ root_id c j = x_is ∙ ap (λ (z : ℕ). z - 1) word_is in
     new ∙ ((λ i. old i ++ last i ∷ []) ∙ sym (map-range_with_len_more (root_id c) 0 j j (zero-add j)))
 
-pub more_filled : (c : ClosedOf) (j word : ℕ) → AreFilled c j → word ≡ root_word c j → word ≢ 0 → AreFilled c (j + 1)
+pub more_filled : (c : ClosedStoreOf) (j word : ℕ) → AreFilled c j → word ≡ root_word c j → word ≢ 0 → AreFilled c (j + 1)
 more_filled c j word all is full i low = ⊎_elim
     (λ (old : i < j). all i old)
     (λ (last : j ≤ i). let e : j ≡ i = omega arith in λ empty. full (is ∙ (ap (root_word c) e ∙ empty)))
@@ -48,7 +48,7 @@ root_function b j = past b.roots ∙ ap (output_at b.problem.value) (minus b.roo
 
 -- ---- the roots
 
-module _ (c : ClosedOf) (f : AreFinal c) where
+module _ (c : ClosedStoreOf) (f : AreFinal c) where
   -- the word of a root, as a piece
   root_piece : (j : ℕ) → root_word c j ≡ get_or (pieces_of c.plan c.words) (c.plan.roots + j) 0
   root_piece j = ap (λ (z : ℕ). get_or c.words z 0) (add c.plan.places c.plan.entries c.plan.roots j)
@@ -122,7 +122,7 @@ pub represents_same : (n : ℕ) (F G : List Function) (order : List ℕ) (d : Gr
 unfolding IsOf
 represents_same n F G order d s r = record { diagram = r.diagram; ordered = r.ordered; functions = of_same n d d.roots F G r.functions s }
 
-pub same_functions : (c : ClosedOf) → AreFinal c → HasRoots c →
+pub same_functions : (c : ClosedStoreOf) → AreFinal c → HasAllRoots c →
     AllZip (SameFunction (levels_of c.plan)) (root_functions c) (functions c.plan.problem.value)
 unfolding output_at
 same_functions c f full = zip_functions (levels_of c.plan) (λ j. function_of (order_of c.plan) (nodes_of c.plan c.words) (root_id c j)) 0
@@ -137,7 +137,7 @@ map_twice : (f : ℕ → Function) (g : ℕ → ℕ) (xs : List ℕ) → map f (
 map_twice f g [] = refl
 map_twice f g (x ∷ xs) = λ i. f (g x) ∷ map_twice f g xs i
 
-module _ (c : ClosedOf) (f : AreFinal c) (full : HasRoots c) (ids : List ℕ) (is : ids ≡ map (root_id c) (range_with_len 0 (roots_count c.plan))) where
+module _ (c : ClosedStoreOf) (f : AreFinal c) (full : HasAllRoots c) (ids : List ℕ) (is : ids ≡ map (root_id c) (range_with_len 0 (roots_count c.plan))) where
   pub ids_known : All (IsKnown (nodes_of c.plan c.words)) ids
   ids_known = let m : ℕ = roots_count c.plan in
       subst (λ (z : List ℕ). All (IsKnown (nodes_of c.plan c.words)) z) (sym is)

@@ -10,7 +10,7 @@ use lib.ListN.{get_elem?}
 use prog.Atomic.{either}
 use Rattle.atomic_table.specs.Table.{Me, step, keeps, Allows, Splits, Joins}
 use Rattle.atomic_table.proofs.Lists.{at_set, at_snoc, set_else}
-use Rattle.node_words.specs.Nodes.{IsNode, AreNodes, AreStored, Grows, probe, IsTaken}
+use Rattle.node_words.specs.Nodes.{IsNode, AreNodeWords, AreStored, Grows, probe, IsTaken}
 use Rattle.node_words.specs.Meaning.{Denotes}
 use Rattle.node_words.specs.Entries.{IsEntry}
 use Rattle.node_words.proofs.Growing.{grows_refl, grows_trans, node_grows, set_grows, stored_put}
@@ -96,7 +96,7 @@ sees_all : (b : Plan) (s : StoreState) (k : IsKept b s) (ws ps : List ℕ) → G
     → Sees (having made v) ws ps
 sees_all b s k ws ps g gp st pcs id v made more new at live = let i = k.seen id v at live in record {
   size = st.size ∙ ap (λ (z : Plan). z.places) (sym i.plan);
-  nodes = subst (λ (z : Plan). AreNodes (levels_of z) ws) (sym i.plan) st.nodes;
+  nodes = subst (λ (z : Plan). AreNodeWords (levels_of z) ws) (sym i.plan) st.nodes;
   unequal = st.unequal;
   are_pieces = subst (λ (z : Plan). ArePieces z ws ps) (sym i.plan) pcs;
   grows = grows_trans v.seen (nodes_of b s.words) ws i.grows g;

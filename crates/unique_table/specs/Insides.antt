@@ -1,7 +1,7 @@
 -- The fields of a store and of a session.
 use Rattle.std.specs.Prelude.{◌≡◌, ◌+◌, true, []}
 use Rattle.unique_table.specs.Plans.{order_of, IsPlan}
-use Rattle.unique_table.specs.Views.{IsGood}
+use Rattle.unique_table.specs.Views.{IsGoodView}
 use Rattle.unique_table.specs.Sessions.{StoreId, Knowledge}
 use Rattle.unique_table.specs.declared.store.Store.TheInside as store
 use Rattle.unique_table.specs.declared.session.Session.TheInside as session
@@ -35,6 +35,6 @@ knowledge s = let v = s.seat.me.0 in
 
 -- the session's view is good and current, and it holds no slot
 pub record IsSession (s : session.Inside) : Type 0 where
-  pub good : IsGood s.seat.me.0
+  pub good : IsGoodView s.seat.me.0
   pub current : s.seat.me.0.current ≡ true
   pub empty : s.seat.me.1 ≡ []

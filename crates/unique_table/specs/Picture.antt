@@ -9,7 +9,7 @@ use mathlib.Core.Option.{some}
 use lib.ListN.{get_elem?}
 use Rattle.atomic_table.specs.Table.{State, Me, Step}
 use Rattle.order_model.specs.Orders.{IsOrder}
-use Rattle.node_words.specs.Nodes.{AreNodes, AreUnequal, AreStored, Grows}
+use Rattle.node_words.specs.Nodes.{AreNodeWords, AreUnequal, AreStored, Grows}
 use Rattle.node_words.specs.Meaning.{Denotes}
 use Rattle.node_words.specs.Entries.{IsEntry}
 use Rattle.unique_table.specs.declared.plan.Plan.{Plan}
@@ -58,7 +58,7 @@ IsPut views w = (i : ℕ) × (v : View) × (get_elem? views i ≡ some v) × (v.
 pub record IsSeen (b : Plan) (ws ps : List ℕ) (v : View) : Type 0 where
   pub plan : v.plan ≡ b
   pub size : length v.seen ≤ b.places
-  pub nodes : AreNodes (levels_of b) v.seen
+  pub nodes : AreNodeWords (levels_of b) v.seen
   pub unequal : AreUnequal v.seen
   pub are_pieces : ArePieces b v.seen v.pieces
   pub grows : Grows v.seen ws
@@ -225,7 +225,7 @@ Seated = Me (Unit {0}) View
 -- the words were then such lists; a seat with the whole put each node
 pub record Sees (v : View) (ws ps : List ℕ) : Type 0 where
   pub size : length ws ≡ v.plan.places
-  pub nodes : AreNodes (levels_of v.plan) ws
+  pub nodes : AreNodeWords (levels_of v.plan) ws
   pub unequal : AreUnequal ws
   pub are_pieces : ArePieces v.plan ws ps
   pub grows : Grows v.seen ws

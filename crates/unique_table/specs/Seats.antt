@@ -6,12 +6,12 @@
 use Rattle.std.specs.Prelude.{◌≡◌, ◌≢◌, ℕ, ◌+◌, ◌<◌, []}
 use Rattle.atomic_table.specs.declared.shared.Shared.{Shared}
 use Rattle.atomic_table.specs.declared.shared.Seat.{Seat}
-use Rattle.node_words.specs.Nodes.{IsNode, IsNext}
+use Rattle.node_words.specs.Nodes.{IsNode, IsNextProbe}
 use Rattle.unique_table.specs.declared.plan.Plan.{Plan}
 use Rattle.unique_table.specs.declared.session.View.{View}
 use Rattle.unique_table.specs.declared.plays.Words.{Words}
 use Rattle.unique_table.specs.Plans.{levels_of}
-use Rattle.unique_table.specs.Views.{IsGood, After}
+use Rattle.unique_table.specs.Views.{IsGoodView, After}
 
 -- a store's table
 abbrev pub Board : Type 0
@@ -26,7 +26,7 @@ pub record IsSeatOf (t : Board) (s : Sitting) : Type 0 where
   pub table : s.table_id ≡ t.table_id
   pub plan : s.me.0.plan ≡ t.key
   pub empty : s.me.1 ≡ []
-  pub good : IsGood s.me.0
+  pub good : IsGoodView s.me.0
 
 -- the table's seat after a step that wrote `wrote` words
 pub record IsSeatAfter (t : Board) (s s' : Sitting) (wrote : ℕ) : Type 0 where
@@ -58,5 +58,5 @@ pub record IsNodeWord (t : Board) (s : Sitting) (word : ℕ) : Type 0 where
 pub record MayPut (t : Board) (s : Sitting) (word place : ℕ) : Type 0 where
   pub seat : IsSeatOf t s
   pub at : IsNodePlace t place
-  pub next : IsNext s.me.0.seen t.key.places word place
+  pub next : IsNextProbe s.me.0.seen t.key.places word place
   pub node : IsNodeWord t s word

@@ -1,13 +1,13 @@
 -- The kinds of steps, over states under the rule.
 --     Becomes b s id words' told      after a step of seat id the words are words', the rule holds, and the seat's view gained what it was told
---     IsSeat b s id v      seat id has the view v, which is live
+--     IsStoreSeat b s id v      seat id has the view v, which is live
 --     WholesAreAlone      a seat with the whole is the only one
 --     EqualFunctionsHaveEqualIds, EqualIdsHaveEqualFunctions      what any two seats know of one function, and of one id
 use Rattle.std.specs.Prelude.{◌≡◌, ◌≢◌, ℕ, ◌+◌, ◌^◌, ◌<◌, ◌==◌, true, if◌then◌else◌, List, slice_index, slice_set}
 use mathlib.Core.Option.{some}
 use lib.ListN.{get_elem?}
 use Rattle.order_model.specs.Functions.{Function, SameFunction}
-use Rattle.node_words.specs.Nodes.{Grows, IsNext, IsNode}
+use Rattle.node_words.specs.Nodes.{Grows, IsNextProbe, IsNode}
 use Rattle.node_words.specs.Meaning.{Denotes}
 use Rattle.node_words.specs.Entries.{IsEntry}
 use Rattle.unique_table.specs.declared.plan.Plan.{Plan}
@@ -18,7 +18,7 @@ use Rattle.unique_table.specs.Stakes.{IsWhole}
 use Rattle.unique_table.specs.Views.{Gains}
 
 -- a seat of a state under the rule, with its view; words have 64 bits
-pub record IsSeat (b : Plan) (s : StoreState) (id : ℕ) (v : View) : Type 0 where
+pub record IsStoreSeat (b : Plan) (s : StoreState) (id : ℕ) (v : View) : Type 0 where
   pub kept : IsKept b s
   pub seat : get_elem? s.views id ≡ some v
   pub live : v.live ≡ true
@@ -31,17 +31,17 @@ pub record Becomes (b : Plan) (s : StoreState) (id : ℕ) (v : View) (words : Li
 
 -- a seat that has the whole is the only one
 abbrev pub WholesAreAlone : Type 0
-WholesAreAlone = (b : Plan) (s : StoreState) (i j : ℕ) (v w : View) → IsSeat b s i v → IsSeat b s j w →
+WholesAreAlone = (b : Plan) (s : StoreState) (i j : ℕ) (v w : View) → IsStoreSeat b s i v → IsStoreSeat b s j w →
     IsWhole v.stake → i ≡ j
 
 -- ids that two seats know are one id if they denote one function, whichever threads made them
 abbrev pub EqualFunctionsHaveEqualIds : Type 0
-EqualFunctionsHaveEqualIds = (b : Plan) (s : StoreState) (i j : ℕ) (v w : View) → IsSeat b s i v → IsSeat b s j w →
+EqualFunctionsHaveEqualIds = (b : Plan) (s : StoreState) (i j : ℕ) (v w : View) → IsStoreSeat b s i v → IsStoreSeat b s j w →
     (x y : ℕ) (f : Function) → Denotes (order_of b) v.seen x f → Denotes (order_of b) w.seen y f → x ≡ y
 
 -- and one id denotes one function to both
 abbrev pub EqualIdsHaveEqualFunctions : Type 0
-EqualIdsHaveEqualFunctions = (b : Plan) (s : StoreState) (i j : ℕ) (v w : View) → IsSeat b s i v → IsSeat b s j w →
+EqualIdsHaveEqualFunctions = (b : Plan) (s : StoreState) (i j : ℕ) (v w : View) → IsStoreSeat b s i v → IsStoreSeat b s j w →
     (x : ℕ) (f g : Function) → Denotes (order_of b) v.seen x f → Denotes (order_of b) w.seen x g →
     SameFunction (levels_of b) f g
 
@@ -51,13 +51,13 @@ put_words words p w = if slice_index words p == 0 then slice_set words p w else 
 
 -- a load of a node word
 abbrev pub Looks : Type 0
-Looks = (b : Plan) (s : StoreState) (id : ℕ) (v : View) (p : ℕ) → IsSeat b s id v → p < b.places →
+Looks = (b : Plan) (s : StoreState) (id : ℕ) (v : View) (p : ℕ) → IsStoreSeat b s id v → p < b.places →
     (v' : View) × Becomes b s id v s.words v' × (slice_index v'.seen p ≡ slice_index s.words p)
 
 -- one try to put a node's word into the place that comes next in the search for it
 abbrev pub Puts : Type 0
-Puts = (b : Plan) (s : StoreState) (id : ℕ) (v : View) (p w : ℕ) → IsSeat b s id v → p < b.places → w ≢ 0 →
-    IsNext v.seen b.places w p →
+Puts = (b : Plan) (s : StoreState) (id : ℕ) (v : View) (p w : ℕ) → IsStoreSeat b s id v → p < b.places → w ≢ 0 →
+    IsNextProbe v.seen b.places w p →
     IsNode (levels_of b) v.seen w →
     (v' : View) × Becomes b s id v (put_words s.words p w) v'
     × (slice_index v'.seen p ≡ slice_index (put_words s.words p w) p)
@@ -65,7 +65,7 @@ Puts = (b : Plan) (s : StoreState) (id : ℕ) (v : View) (p w : ℕ) → IsSeat 
 -- a store of a piece's id: if there was one, it is the same
 abbrev pub Publishes : Type 0
 Publishes =
-    (b : Plan) (s : StoreState) (id : ℕ) (v : View) (q ref : ℕ) → IsSeat b s id v → q < b.pieces →
+    (b : Plan) (s : StoreState) (id : ℕ) (v : View) (q ref : ℕ) → IsStoreSeat b s id v → q < b.pieces →
     Denotes (order_of b) v.seen ref (piece_function b q) →
     (v' : View) × Becomes b s id v (slice_set s.words (b.places + b.entries + q) (ref + 1)) v'
     × (slice_index v'.pieces q ≡ ref + 1)
@@ -73,19 +73,19 @@ Publishes =
 
 -- a load of a piece word
 abbrev pub Collects : Type 0
-Collects = (b : Plan) (s : StoreState) (id : ℕ) (v : View) (q : ℕ) → IsSeat b s id v →
+Collects = (b : Plan) (s : StoreState) (id : ℕ) (v : View) (q : ℕ) → IsStoreSeat b s id v →
     (v' : View) × Becomes b s id v s.words v'
     × (slice_index v'.pieces q ≡ slice_index s.words (b.places + b.entries + q))
 
 -- a load of a cache word
 abbrev pub Recalls : Type 0
-Recalls = (b : Plan) (s : StoreState) (id : ℕ) (v : View) (c : ℕ) → IsSeat b s id v → c < b.entries →
+Recalls = (b : Plan) (s : StoreState) (id : ℕ) (v : View) (c : ℕ) → IsStoreSeat b s id v → c < b.entries →
     (v' : View) × Becomes b s id v s.words v'
     × (slice_index s.words (b.places + c) ≢ 0 → IsEntry (order_of b) v'.seen (slice_index s.words (b.places + c)))
 
 -- a store of an operation's result: nodes and pieces stay
 abbrev pub Remembers : Type 0
-Remembers = (b : Plan) (s : StoreState) (id : ℕ) (v : View) (c w : ℕ) → IsSeat b s id v → c < b.entries →
+Remembers = (b : Plan) (s : StoreState) (id : ℕ) (v : View) (c w : ℕ) → IsStoreSeat b s id v → c < b.entries →
     IsEntry (order_of b) v.seen w →
     (v' : View) × Becomes b s id v (slice_set s.words (b.places + c) w) v'
     × (nodes_of b (slice_set s.words (b.places + c) w) ≡ nodes_of b s.words)

@@ -1,25 +1,25 @@
 -- What a seat's view keeps.
---     IsGood v      a view is a list of nodes by itself, with the pieces that it has
+--     IsGoodView v      a view is a list of nodes by itself, with the pieces that it has
 --     After v v' wrote      a view after a step
 use Rattle.std.specs.Prelude.{◌≡◌, ℕ, ◌+◌, ◌≤◌, true, length}
-use Rattle.node_words.specs.Nodes.{AreNodes, AreUnequal, Grows}
+use Rattle.node_words.specs.Nodes.{AreNodeWords, AreUnequal, Grows}
 use Rattle.unique_table.specs.declared.session.View.{View}
 use Rattle.unique_table.specs.Plans.{levels_of}
 use Rattle.unique_table.specs.Stakes.{IsWhole}
 use Rattle.unique_table.specs.Picture.{ArePieces, AreMade}
 
 -- what was seen is a list of nodes by itself, with the pieces that were seen; with the whole it was all put
-pub record IsGood (v : View) : Type 0 where
+pub record IsGoodView (v : View) : Type 0 where
   pub live : v.live ≡ true
   pub size : length v.seen ≤ v.plan.places
-  pub nodes : AreNodes (levels_of v.plan) v.seen
+  pub nodes : AreNodeWords (levels_of v.plan) v.seen
   pub unequal : AreUnequal v.seen
   pub are_pieces : ArePieces v.plan v.seen v.pieces
   pub made : v.current ≡ true → IsWhole v.stake → AreMade v.made v.seen
 
 -- a view after a step that wrote `wrote` words
 pub record After (v v' : View) (wrote : ℕ) : Type 0 where
-  pub good : IsGood v'
+  pub good : IsGoodView v'
   pub current : v'.current ≡ true
   pub plan : v'.plan ≡ v.plan
   pub stake : v'.stake ≡ v.stake
@@ -33,7 +33,7 @@ pub record After (v v' : View) (wrote : ℕ) : Type 0 where
 
 -- a view that goes on: what was seen stays
 pub record Gains (v v' : View) : Type 0 where
-  pub good : IsGood v'
+  pub good : IsGoodView v'
   pub current : v.current ≡ true → v'.current ≡ true
   pub plan : v'.plan ≡ v.plan
   pub stake : v'.stake ≡ v.stake

@@ -5,7 +5,7 @@ ghost use Rattle.std.specs.List.{range_with_len};
 ghost use Rattle.order_model.specs.Diagrams.{Represents, IsReduced};
 ghost use Rattle.order_model.specs.Problems.{functions};
 ghost use Rattle.unique_table.specs.Plans.{order_of, levels_of};
-ghost use Rattle.unique_table.specs.Closing.{HasRoots, LacksRoot, root_id, root_word, roots_count};
+ghost use Rattle.unique_table.specs.Closing.{HasAllRoots, LacksRoot, root_id, root_word, roots_count};
 
 use crate::store::Store;
 use atomic_table::Closed;
@@ -34,15 +34,15 @@ pub struct ClosedStore {
 }
 
 impl Model for ClosedStore {
-    ghost use Rattle.unique_table.specs.Closing.{ClosedOf};
+    ghost use Rattle.unique_table.specs.Closing.{ClosedStoreOf};
 
-    ghost Value = { ClosedOf };
+    ghost Value = { ClosedStoreOf };
 
-    ghost use Rattle.unique_table.specs.Closed.{closed_of, IsClosed};
+    ghost use Rattle.unique_table.specs.Closed.{closed_store, IsClosedStore};
 
-    ghost view = { closed_of };
+    ghost view = { closed_store };
 
-    ghost invariant = { IsClosed };
+    ghost invariant = { IsClosedStore };
 }
 
 impl Drop for ClosedStore {
@@ -63,7 +63,7 @@ impl ClosedStore {
     /// The reduced diagram of the store's functions: the roots that were published, with the nodes
     /// that they reach. The closed store is spent in every case.
     pub fn diagram(self, alloc: Global) -> Result<Diagram, CloseFault>
-        ensures roots { OnOk result (HasRoots self) }
+        ensures roots { OnOk result (HasAllRoots self) }
         ensures order { IfOk result (λ d. d.order ≡ order_of self.plan) }
         ensures diagram { IfOk result
             (λ d. Represents (levels_of self.plan) (functions self.plan.problem.value)
@@ -91,7 +91,7 @@ impl ClosedStore {
 
     /// The ids in the root words.
     fn root_ids(&self, alloc: Global) -> Result<Vec<u32>, CloseFault>
-        ensures roots { OnOk result (HasRoots self.now) }
+        ensures roots { OnOk result (HasAllRoots self.now) }
         ensures ids { IfOk result
             (λ v. v.items ≡ map (root_id self.now) (range_with_len 0 (roots_count self.now.plan))) }
         ensures missing { IfErr result (LacksRoot self.now) }

@@ -4,12 +4,12 @@ ghost use Rattle.std.specs.Prelude.{◌≡◌, ◌*◌, ◌<◌, ◌≤◌, [], 
 ghost use Rattle.unique_table.specs.Plans.{AreGivenBy, IsPlanFor, IsPlan, order_of, levels_of, variable_at, piece_function};
 ghost use Rattle.order_model.specs.Problems.{functions};
 ghost use Rattle.order_model.specs.Functions.{Point};
-ghost use Rattle.node_words.specs.Nodes.{node_word, AreNodes, AreUnequal, IsFullFor, IsIdOf};
+ghost use Rattle.node_words.specs.Nodes.{node_word, AreNodeWords, AreUnequal, IsFullFor, IsIdOf};
 ghost use Rattle.node_words.specs.Meaning.{branch};
 ghost use Rattle.unique_table.specs.Sessions.{Knows, IsKnownBelow, Means, Follows, MakesStep, HasParts, HasUniqueIds, HasLevels, MadeAll, GainsOnly, LiesNoHigher, combined_in, function_in, depth_in, HasPiece};
 ghost use Rattle.order_model.specs.Diagrams.{Represents, IsReduced};
 ghost use Rattle.unique_table.specs.Stakes.{whole, half, joined};
-ghost use Rattle.unique_table.specs.Closing.{IsLast, Lacks};
+ghost use Rattle.unique_table.specs.Closing.{IsFinalStore, MayLackRoot};
 
 use crate::close::{CloseFault, ClosedStore};
 use crate::create::{blank_words, cache_places, kind_of, node_places, parts_count};
@@ -135,7 +135,7 @@ impl Store {
         requires { session.now.store ≡ self.now }
         ensures unique { HasUniqueIds session.now }
         ensures levels { HasLevels session.now }
-        ensures nodes { AreNodes (levels_of self.now.plan) session.now.seen }
+        ensures nodes { AreNodeWords (levels_of self.now.plan) session.now.seen }
         ensures unequal { AreUnequal session.now.seen }
         ensures size { length session.now.seen ≤ self.now.plan.places }
         ensures made { MadeAll session.now }
@@ -330,7 +330,7 @@ impl Store {
     pub fn into_closed(self, session: Session) -> ClosedStore
         requires { session.store ≡ self }
         ensures plan { result.plan ≡ self.plan }
-        ensures last { IsLast session result }
+        ensures last { IsFinalStore session result }
     {
         let store = Snapshot::of(&self);
         let Store {
@@ -362,7 +362,7 @@ impl Store {
             (λ d. Represents (levels_of self.plan) (functions self.plan.problem.value)
             (order_of self.plan) d.graph) }
         ensures reduced { IfOk result (λ d. IsReduced d.graph) }
-        ensures missing { IfErr result (Lacks session) }
+        ensures missing { IfErr result (MayLackRoot session) }
     {
         self.into_closed(session).diagram(alloc)
     }

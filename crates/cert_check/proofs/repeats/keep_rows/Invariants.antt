@@ -1,4 +1,4 @@
-use Rattle.std.proofs.Common.{◌≡◌, ◌^◌, ◌<◌, length}
+use Rattle.std.proofs.Common.{◌^◌, ◌<◌, length}
 use Rattle.cert_check.proofs.Kept.{IsKept}
 use Rattle.cert_check.proofs.repeats.keep_rows.Given as goal
 

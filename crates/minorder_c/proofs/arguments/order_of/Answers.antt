@@ -1,11 +1,11 @@
 use Rattle.std.proofs.Common.{subst}
-use Rattle.order_model.specs.OrderFaults.{Refuses}
+use Rattle.order_model.specs.OrderFaults.{IsNoOrder}
 use Rattle.order_model.proofs.Precedence.Greedy.{in_range}
 use Rattle.minorder_c.proofs.arguments.order_of.Goals as goal
 
 pub returns-in-Err-OutOfRange-clause-refused : goal.returns-in-Err-OutOfRange-clause-refused
 returns-in-Err-OutOfRange-clause-refused c = (
   tt,
-  λ o. subst (Refuses c.args.variables.now) c.in-Err-OutOfRange.field-0-is c.in-Err-OutOfRange.ensures.refused
+  λ o. subst (IsNoOrder c.args.variables.now) c.in-Err-OutOfRange.field-0-is c.in-Err-OutOfRange.ensures.refused
       (in_range c.args.variables.now (record { some = c.requires.some; few = c.requires.few; order = o })),
 )

@@ -12,7 +12,7 @@ loop-number-preserved c =
     let few = c.inputs.ensures.few in
     let v = c.inputs.ensures.value in
     widths_next c.args.cells.now c.loop-number.number c.loop-number.count c.from-count.result c.loop-number.invariant
-    (omega (arith, few, v)) (c.from-count.ensures ∙ ap count_ones c.needed.ensures)
+    (omega (arith, few, v)) (c.from-count.ensures ∙ ap count_ones c.needed_members.ensures)
 
 pub returns : goal.returns
 returns c =

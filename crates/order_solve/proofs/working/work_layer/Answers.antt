@@ -40,7 +40,8 @@ cells_of_block-requires-clause-cells g c =
     round_gains t c.args.seat s s1 s1 c.loop-claim.tallies.cells p b w h
     ∙ ap (λ (z : BlockOf). c.loop-claim.tallies.cells + widths_for t (block_masks z)) (sym c.block.ensures) in
     let small : t.problem.inputs ≤ 16 =
-    (let f = c.inputs.ensures.few in let v = c.inputs.ensures.value ∙ ap (λ (z : ContextOf). z.setting.problem.inputs) c.context.view_is in omega (arith, f, v)) in
+    (let f = c.inputs.ensures.few in
+    let v = c.inputs.ensures.value ∙ ap (λ (z : ContextOf). z.setting.problem.inputs) c.context.view_is in omega (arith, f, v)) in
     let few = few_gained t c.args.seat s1 t.problem.inputs small
     (ap (λ (z : BoardId). z.brief.layer.inputs) c.requires.seat ∙ ap (λ (l : LayerOf). l.inputs) c.requires.layer
     ∙ ap (λ (z : ContextOf). z.layer.inputs) (sym c.context.view_is) ∙ ap (λ (l : LayerOf). l.inputs) c.context.invariant.0.layer

@@ -9,16 +9,16 @@ use Rattle.subset_layers.proofs.BlockLists.{has_masks}
 use Rattle.subset_layers.proofs.CellSteps.{members_widths, cell_found, cell_clipped, some_member}
 use Rattle.subset_layers.proofs.recurrence.lawful_cell.Goals as goal
 
-pub clipped-requires-clause-some : goal.clipped-requires-clause-some
-clipped-requires-clause-some c = (some_member c.args.costs.now.inputs c.args.costs.now.size c.args.mask c.requires.next).0
+pub clipped_cell-requires-clause-some : goal.clipped_cell-requires-clause-some
+clipped_cell-requires-clause-some c = (some_member c.args.costs.now.inputs c.args.costs.now.size c.args.mask c.requires.next).0
 
 pub above-requires : goal.above-requires
 above-requires c =
     subst (λ (n : ℕ). c.args.mask < 2 ^ n) (sym c.requires.inputs)
     (has_masks c.args.costs.now.inputs (c.args.costs.now.size + 1) c.args.mask c.requires.next).0
 
-pub clipped-requires-else-best-above-clause-some : goal.clipped-requires-else-best-above-clause-some
-clipped-requires-else-best-above-clause-some c = (some_member c.args.costs.now.inputs c.args.costs.now.size c.args.mask c.requires.next).0
+pub clipped_cell-requires-else-best-above-clause-some : goal.clipped_cell-requires-else-best-above-clause-some
+clipped_cell-requires-else-best-above-clause-some c = (some_member c.args.costs.now.inputs c.args.costs.now.size c.args.mask c.requires.next).0
 
 -- what is counted on above the set, in the costs' number of variables
 counted : (v : ReservesOf) (n mask above : ℕ) (widths : List ℕ) → v.problem.inputs ≡ n →
@@ -35,7 +35,7 @@ pub returns-in-None : goal.returns-in-None
 returns-in-None c = λ P order o k l t w.
     let n = c.args.costs.now.inputs in
     let v = c.args.reserves.now in
-    c.clipped.ensures n (has_masks n (c.args.costs.now.size + 1) c.args.mask c.requires.next).0
+    c.clipped_cell.ensures n (has_masks n (c.args.costs.now.size + 1) c.args.mask c.requires.next).0
     ∙ cell_clipped c.args.costs.now v.reserve c.args.mask c.args.bound c.args.widths.now (functions v.problem) P order o k c.requires.next t w _
     (first_of (members n c.args.mask)) (some_member n c.args.costs.now.size c.args.mask c.requires.next).1 refl
     (λ low y m le. let far = c.in-None.ensures.none refl y m in absurd (omega arith))
@@ -62,7 +62,7 @@ returns-else-best-above c = λ P order o k l t w.
     c.in-Some.best.variable l b.member b.within) in
     let no = c.if-best-above.false in
     let f = c.from.ensures in
-    c.clipped-else-best-above.ensures n (has_masks n (c.args.costs.now.size + 1) c.args.mask c.requires.next).0
+    c.clipped_cell-else-best-above.ensures n (has_masks n (c.args.costs.now.size + 1) c.args.mask c.requires.next).0
     ∙ cell_clipped c.args.costs.now v.reserve c.args.mask c.args.bound c.args.widths.now (functions v.problem) P order o k c.requires.next t w c.above.result
     (first_of (members n c.args.mask)) (some_member n c.args.costs.now.size c.args.mask c.requires.next).1 is
     (λ low y m le. let best = b.least y m le in omega (arith, best, no, f))

@@ -16,8 +16,8 @@ some_order n m P e k =
     let o = acyclic_kept n P k.below k.acyclic in
     (o.0, subst (λ i. IsOrder i o.0) e o.2.is_order, o.2.kept)
 
-pub clipped-requires-clause-some : goal.clipped-requires-clause-some
-clipped-requires-clause-some c = (some_member c.args.costs.now.inputs c.args.costs.now.size c.args.mask c.requires.next).0
+pub clipped_cell-requires-clause-some : goal.clipped_cell-requires-clause-some
+clipped_cell-requires-clause-some c = (some_member c.args.costs.now.inputs c.args.costs.now.size c.args.mask c.requires.next).0
 
 pub returns-then-lawful : goal.returns-then-lawful
 returns-then-lawful c = λ t w.
@@ -35,7 +35,7 @@ returns-else-lawful c = λ t w.
     let P = c.args.pairs.now.pairs in
     let o = some_order c.args.pairs.now.inputs n P c.requires.inputs c.inputs.ensures.kept in
     let unlawful = ap (λ i. is_lawful P (members i c.args.mask)) (sym c.requires.inputs) ∙ sym c.if-lawful.ensures in
-    c.clipped.ensures n (has_masks n (c.args.costs.now.size + 1) c.args.mask c.requires.next).0
+    c.clipped_cell.ensures n (has_masks n (c.args.costs.now.size + 1) c.args.mask c.requires.next).0
     ∙ cell_clipped c.args.costs.now v.reserve c.args.mask c.args.bound c.args.widths.now (functions v.problem) P o.0 o.1 o.2 c.requires.next t w _
     (first_of (members n c.args.mask))
     (some_member n c.args.costs.now.size c.args.mask c.requires.next).1 refl (λ low. absurd (true≢false (sym low ∙ unlawful)))

@@ -46,7 +46,8 @@ invariant_of-result c =
     let y = c.args.y in
     let lower = c.if-self-y.false in
     let numbers = c.in-Some-shorter.numbers.items in
-    let e = subst (λ o. IfSome o (λ v. (steps : ℕ) × IsShortened (2 ^ y) steps c.deref.result.now v.items)) c.in-Some-shorter.is c.in_ok-shorter-in-None.ensures in
+    let e = subst (λ o. IfSome o (λ v. (steps : ℕ) × IsShortened (2 ^ y) steps c.deref.result.now v.items)) c.in-Some-shorter.is
+    c.in_ok-shorter-in-None.ensures in
     let from = subst (λ us. IsShortened (2 ^ y) e.0 us numbers) c.deref.ensures.value e.1 in
     let both = short_then (2 ^ y) h.steps e.0 h.whole c.self.inside.numbers.items numbers
     (short_finer c.self.inside.level y h.steps h.whole c.self.inside.numbers.items (omega arith) h.short) from in

@@ -28,7 +28,7 @@ returns-clause-refused c =
     c.in-Ok-try_get_matches_from_mut.matches c.in-Ok-try_get_matches_from_mut.ensures.ok.2 (codes "FILE") in
     let cert = value_matched (app_of c.in-Ok.command) ordercheck c.in-Ok.ensures ordercheck_is_simple words
     c.in-Ok-try_get_matches_from_mut.matches c.in-Ok-try_get_matches_from_mut.ensures.ok.2 (codes "CERT") in
-    lacking_explained ordercheck LacksPaths words c.lacking.result c.lacking.ensures
+    lacking_explained ordercheck LacksPaths words c.missing_argument.result c.missing_argument.ensures
     (subst (λ v. LacksFiles v (value_of ordercheck words (codes "CERT"))) (sym file)
     (subst (LacksFiles _) (sym cert) (c.in-None.ensures.lacks refl)))
 

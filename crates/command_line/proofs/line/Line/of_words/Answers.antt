@@ -49,7 +49,7 @@ returns-clause-refused c =
     let workers =
     read_matched (app_of c.in-Ok.command) minorder c.in-Ok.ensures minorder_is_simple words c.in-Ok-try_get_matches_from_mut.matches
     c.in-Ok-try_get_matches_from_mut.ensures.ok.2 (codes "workers") in
-    lacking_explained minorder LacksArguments words c.lacking.result c.lacking.ensures
+    lacking_explained minorder LacksArguments words c.missing_argument.result c.missing_argument.ensures
     (subst (λ v. LacksValues v (read_of minorder words (codes "workers"))) (sym file)
     (subst (LacksValues _) (sym workers) (c.in-None.ensures.lacks refl)))
 

@@ -11,4 +11,5 @@ returns-clause-last c =
     is_last c.self.inside.table.shared.key (view_of c.seat.inside) c.seat.inside.seat.id (slots_items r.words) (slots_items r.slots)
     c.close_with.ensures.values.2 c.args.seat _
     (ap (λ (z : BoardId). z.brief) c.requires ∙ sym (ap (λ (z : BoardId). z.brief) c.self.view_is))
-    (sym (ap (λ (z : SeatOf). z.worker) c.seat.view_is)) (ap (λ (z : BoardId). z.brief) c.of-board.ensures ∙ sym (ap (λ (z : BoardId). z.brief) c.self.view_is)) refl
+    (sym (ap (λ (z : SeatOf). z.worker) c.seat.view_is))
+    (ap (λ (z : BoardId). z.brief) c.of-board.ensures ∙ sym (ap (λ (z : BoardId). z.brief) c.self.view_is)) refl

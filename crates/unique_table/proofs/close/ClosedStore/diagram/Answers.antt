@@ -8,14 +8,15 @@ use Rattle.node_words.specs.Meaning.{function_of}
 use Rattle.unique_table.specs.declared.close.ClosedStore.TheInside as closed
 use Rattle.unique_table.specs.Plans.{order_of, levels_of}
 use Rattle.unique_table.specs.Picture.{nodes_of}
-use Rattle.unique_table.specs.Closed.{closed_of, IsClosed}
-use Rattle.unique_table.specs.Closing.{ClosedOf, AreFinal}
+use Rattle.unique_table.specs.Closed.{closed_store, IsClosedStore}
+use Rattle.unique_table.specs.Closing.{ClosedStoreOf, AreFinal}
 use Rattle.unique_table.proofs.Roots.{ids_known, ids_represent}
 use Rattle.unique_table.proofs.close.ClosedStore.diagram.Goals as goal
 
 -- the words of nodes, as the code finds them
-nodes_found : (c : closed.Inside) (C : ClosedOf) → IsClosed c → closed_of c ≡ C → nodes_of C.plan C.words ≡ take c.places (slots_items c.closed.words)
-nodes_found c C k is = ap (λ (z : ClosedOf). nodes_of z.plan z.words) (sym is) ∙ ap (λ (n : ℕ). take n (slots_items c.closed.words)) (sym k.places)
+nodes_found : (c : closed.Inside) (C : ClosedStoreOf) → IsClosedStore c → closed_store c ≡ C →
+    nodes_of C.plan C.words ≡ take c.places (slots_items c.closed.words)
+nodes_found c C k is = ap (λ (z : ClosedStoreOf). nodes_of z.plan z.words) (sym is) ∙ ap (λ (n : ℕ). take n (slots_items c.closed.words)) (sym k.places)
 
 pub reached_nodes-made-requires-clause-known : goal.reached_nodes-made-requires-clause-known
 reached_nodes-made-requires-clause-known c =
@@ -28,7 +29,7 @@ pub returns-clause-diagram : goal.returns-clause-diagram
 returns-clause-diagram c =
     let k = c.self.invariant in let ids : List ℕ = c.as_slice.result.now in
     let order : c.variables-order.result.now ≡ order_of c.args.self.plan =
-    c.variables-order.ensures.value ∙ (k.order ∙ ap (λ (z : ClosedOf). order_of z.plan) c.self.view_is) in
+    c.variables-order.ensures.value ∙ (k.order ∙ ap (λ (z : ClosedStoreOf). order_of z.plan) c.self.view_is) in
     let nodes = nodes_found c.self.inside c.args.self k c.self.view_is in
     let found : Graph = record { nodes = c.in-Ok.reached.nodes.items; roots = c.in-Ok.reached.roots.items } in
     subst (λ (d : Graph). Represents (levels_of c.args.self.plan) (functions c.args.self.plan.problem.value) (order_of c.args.self.plan) d)

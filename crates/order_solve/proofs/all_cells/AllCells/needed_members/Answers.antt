@@ -2,7 +2,7 @@ use Rattle.std.proofs.Common.{ap, ◌∙◌, arith}
 use Rattle.layer_core.specs.Settings.{Setting}
 use Rattle.order_solve.specs.Needs.{needed}
 use Rattle.order_solve.proofs.Layers.{ones_le, ones_some, next_there}
-use Rattle.order_solve.proofs.all_cells.AllCells.needed.Goals as goal
+use Rattle.order_solve.proofs.all_cells.AllCells.needed_members.Goals as goal
 
 pub overflow_sub-mask : goal.overflow_sub-mask
 overflow_sub-mask c = let s = ones_some c.args.mask c.requires.some in omega (arith, s)
