@@ -4,7 +4,8 @@ ghost use Rattle.std.specs.Prelude.{◌≤◌};
 
 use order_model::packed::{bit_of, block, depends_on, lower_half, words_per_table};
 use order_model::{
-    BadOrder, Gate, NoGate, Order, Problem, Reserve, Reserves, VarIx, Workers, contains, total,
+    BadOrder, Gate, NoGate, Order, Problem, Reserve, Reserves, VarIx, Workers, contains,
+    decimal_number, total,
 };
 use std::alloc::{AllocError, Global};
 use std::test::Fail;
@@ -22,6 +23,14 @@ fn workers(rt: HostRuntime) {
     assert!(rt; counted(0).is_none() && counted(1) == Some(1));
     assert!(rt; counted(64) == Some(64) && counted(65).is_none());
     NoGate.between(1, 7);
+}
+
+#[test]
+fn decimal_numbers(rt: HostRuntime) {
+    assert!(rt; decimal_number(b"0") == Some(0) && decimal_number(b"007") == Some(7));
+    assert!(rt; decimal_number(b"999999999") == Some(999_999_999));
+    assert!(rt; decimal_number(b"").is_none() && decimal_number(b"1000000000").is_none());
+    assert!(rt; decimal_number(b"+5").is_none() && decimal_number(b"1a").is_none());
 }
 
 #[test]
