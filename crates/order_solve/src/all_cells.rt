@@ -11,7 +11,7 @@ ghost use Rattle.order_solve.specs.LayerContexts.{IsLayerFor};
 ghost use Rattle.order_solve.specs.Bounded.{AreAllLayers};
 
 use crate::alone::layers_alone;
-use crate::layering::next_layer;
+use crate::layering::{first_layer, next_layer};
 use crate::looking::look_ahead;
 use crate::needs::needed_members;
 use crate::setting::Setting;
@@ -52,13 +52,11 @@ pub(crate) fn layers_of<R: Threads + Sync, G: Gate>(
     ensures { IfOk result (λ v. AreAllLayers setting.now v.items) }
 {
     let (shared, mut ahead) = prepared.into_parts();
-    let mut layers = Vec::new(alloc);
-    layers.push(Costs::start(alloc, setting.inputs())?)?;
+    let mut layers = first_layer(alloc, setting)?;
     for _size in 0..setting.inputs() {
         ahead = look_ahead(alloc, setting, ahead, &layers);
         let next = next_layer(crew, alloc, setting, &shared, &ahead, &layers)?;
-        ahead.append(next.found)?;
-        layers.push(next.costs)?;
+        next.add_to(&mut layers, &mut ahead)?;
     }
     Ok(layers)
 }

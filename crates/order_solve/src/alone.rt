@@ -9,7 +9,7 @@ ghost use Rattle.order_solve.specs.Placed.{AreCellsPlaced, StayPlaced};
 
 use crate::cells::cells_of_block;
 use crate::context::LayerContext;
-use crate::layering::NextLayer;
+use crate::layering::{NextLayer, first_layer};
 use crate::looking::look_ahead;
 use crate::setting::Setting;
 use compaction::{SharedTables, Tallies, WidthSource, WidthsAhead};
@@ -88,13 +88,11 @@ pub fn layers_alone(alloc: Global, setting: &Setting<'_>) -> Result<Vec<Costs>, 
 {
     let shared = SharedTables::of(alloc, setting.problem)?;
     let mut ahead = WidthsAhead::up_to(alloc, 0);
-    let mut layers = Vec::new(alloc);
-    layers.push(Costs::start(alloc, setting.inputs())?)?;
+    let mut layers = first_layer(alloc, setting)?;
     for _size in 0..setting.inputs() {
         ahead = look_ahead(alloc, setting, ahead, &layers);
         let next = next_layer_alone(alloc, setting, &shared, &ahead, &layers)?;
-        ahead.append(next.found)?;
-        layers.push(next.costs)?;
+        next.add_to(&mut layers, &mut ahead)?;
     }
     Ok(layers)
 }

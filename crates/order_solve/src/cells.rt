@@ -1,11 +1,12 @@
 //! The cells of a block's sets.
 
-ghost use Rattle.std.specs.Prelude.{◌≡◌, ◌+◌, ◌^◌, ◌<◌, ◌≤◌, length, IfOk, OnOk};
+ghost use Rattle.std.specs.Prelude.{◌≡◌, ◌+◌, ◌^◌, ◌<◌, ◌≤◌, length, map, IfOk, OnOk};
 ghost use Rattle.compaction.specs.Ahead.{AreAhead, widths_ahead};
 ghost use Rattle.compaction.specs.Rows.{AreMembers, AreWidthRows, wanted_count};
 ghost use Rattle.subset_layers.specs.Layers.{layer_of, block_masks};
 ghost use Rattle.order_solve.specs.LayerContexts.{AreCells};
 ghost use Rattle.order_solve.specs.Gains.{widths_for};
+ghost use Rattle.order_solve.specs.Needs.{needed};
 
 use crate::context::LayerContext;
 use crate::needs::needs_of_block;
@@ -48,6 +49,34 @@ fn widths_of(
     Ok(widths.into_rows())
 }
 
+/// The cells of a block's sets, in their order, from the rows of their widths.
+fn cells_by_rows(
+    alloc: Global,
+    block: &Block,
+    context: &LayerContext<'_>,
+    rows: &[[u32; 16]],
+) -> Result<Vec<Cell>, AllocError>
+    requires layer { layer_of block.now ≡ context.now.layer }
+    requires rows { AreWidthRows context.now.setting.problem (block_masks block.now)
+        (map (needed context.now.setting) (block_masks block.now)) rows.now }
+    ensures { IfOk result (λ v. AreCells context.now.setting (block_masks block.now) v.items) }
+{
+    let setting = context.setting;
+    let mut cells = Vec::with_capacity(alloc, block.len())?;
+    for (i, mask) in block.masks().iter().enumerate() {
+        let row = rows[i];
+        cells.push(least_cell(
+            *mask,
+            context.before,
+            &row,
+            setting.limit.bound,
+            &setting.reserves,
+            setting.pairs,
+        ))?;
+    }
+    Ok(cells)
+}
+
 /// The cells of a block's sets, in their order. Widths of later layers go to `found`. One tally
 /// rises by the number of widths that the cells take, the other by that of those found ahead.
 pub fn cells_of_block(
@@ -71,21 +100,8 @@ pub fn cells_of_block(
         (tallies.new.ahead + widths_ahead found.old ≡ tallies.old.ahead + widths_ahead found.new) }
     ensures few { OnOk result (tallies.new.ahead ≤ tallies.old.ahead + 2 ^ 16) }
 {
-    let setting = context.setting;
+    prove!(context.setting.inputs() <= 16);
     let needs = needs_of_block(alloc, block, context)?;
-    let widths = widths_of(alloc, block, context, &needs, found, tallies)?;
-    let rows = widths.as_slice();
-    let mut cells = Vec::with_capacity(alloc, block.len())?;
-    for (i, mask) in block.masks().iter().enumerate() {
-        let row = rows[i];
-        cells.push(least_cell(
-            *mask,
-            context.before,
-            &row,
-            setting.limit.bound,
-            &setting.reserves,
-            setting.pairs,
-        ))?;
-    }
-    Ok(cells)
+    let rows = widths_of(alloc, block, context, &needs, found, tallies)?;
+    cells_by_rows(alloc, block, context, &rows)
 }

@@ -1,11 +1,11 @@
 //! The cells of a layer by workers.
 
-ghost use Rattle.std.specs.Prelude.{◌≡◌, ◌≤◌, All, IfOk, OnOk, length, vec_len};
+ghost use Rattle.std.specs.Prelude.{◌≡◌, ◌≤◌, ◌++◌, ◌∷◌, [], All, IfOk, OnOk, length, vec_len};
 ghost use Rattle.std.specs.Thread.{IsSync};
 ghost use Rattle.subset_layers.specs.Layers.{masks_of};
 ghost use Rattle.compaction.specs.Ahead.{AreAhead};
 ghost use Rattle.order_solve.specs.LayerContexts.{AreCells, IsLayerFor};
-ghost use Rattle.order_solve.specs.Bounded.{AreDone};
+ghost use Rattle.order_solve.specs.Bounded.{AreDone, AreLayersFor};
 
 use crate::alone::cells_alone;
 use crate::context::LayerContext;
@@ -133,6 +133,31 @@ fn busy_workers(setting: &Setting<'_>, layer: &Layer, workers: Workers) -> Worke
     }
 }
 
+/// Posts the cells of a layer by workers, and hands back a seat of theirs. What they find ahead goes
+/// to `found`.
+fn post_by_workers<R: Threads + Sync, G: Gate>(
+    crew: &Crew<'_, R, G>,
+    alloc: Global,
+    board: &Board,
+    seats: Vec<BoardSeat>,
+    context: &LayerContext<'_>,
+    found: &mut WidthsAhead,
+) -> Result<BoardSeat, AllocError>
+    requires some { 1 ≤ vec_len seats }
+    requires few { vec_len seats ≤ 64 }
+    requires seats { All (λ s. s.board ≡ board.now) seats.items }
+    requires setting { board.now.brief.setting ≡ context.now.setting }
+    requires layer { board.now.brief.layer ≡ context.now.layer }
+    requires found { AreAhead context.now.setting.problem found.old }
+    ensures seat { IfOk result (λ s. s.board ≡ board.now) }
+    ensures found { OnOk result (AreAhead context.now.setting.problem found.new) }
+{
+    let setting = context.setting;
+    let jobs = number_seats(alloc, board, seats)?;
+    let ended = do_jobs(crew, alloc, board, jobs, context)?;
+    gather(board, setting.problem, ended, found)
+}
+
 /// The cells of a layer in its order, by workers. What they find ahead goes to `found`. If some
 /// cell is missing although none of them ran out of memory, the calling thread does the layer over
 /// alone, with widths from the same source.
@@ -155,9 +180,7 @@ fn cells_of_layer<R: Threads + Sync, G: Gate>(
         busy_workers(setting, context.layer, crew.workers),
         setting.pairs,
     )?;
-    let jobs = number_seats(alloc, &board, seats)?;
-    let ended = do_jobs(crew, alloc, &board, jobs, context)?;
-    let seat = gather(&board, setting.problem, ended, found)?;
+    let seat = post_by_workers(crew, alloc, &board, seats, context, found)?;
     match board.close(alloc, seat) {
         Ok(cells) => Ok(cells),
         Err(CloseError::Missing(_)) => cells_alone(alloc, context, found),
@@ -170,6 +193,32 @@ fn cells_of_layer<R: Threads + Sync, G: Gate>(
 pub struct NextLayer {
     pub costs: Costs,
     pub found: WidthsAhead,
+}
+
+/// The layer of the empty set.
+pub(crate) fn first_layer(alloc: Global, setting: &Setting<'_>) -> Result<Vec<Costs>, AllocError>
+    ensures one { IfOk result (λ v. length v.items ≡ 1) }
+    ensures layers { IfOk result (λ v. AreLayersFor setting.now v.items) }
+{
+    let mut layers = Vec::new(alloc);
+    layers.push(Costs::start(alloc, setting.inputs())?)?;
+    Ok(layers)
+}
+
+impl NextLayer {
+    /// Adds the layer to those that are done, and what was found ahead to what was before.
+    pub(crate) fn add_to(
+        self,
+        layers: &mut Vec<Costs>,
+        ahead: &mut WidthsAhead,
+    ) -> Result<(), AllocError>
+        ensures layers { OnOk result (layers.new.items ≡ layers.old.items ++ self.costs ∷ []) }
+        ensures ahead { OnOk result (ahead.new ≡ ahead.old ++ self.found) }
+    {
+        ahead.append(self.found)?;
+        layers.push(self.costs)?;
+        Ok(())
+    }
 }
 
 /// The layer after those that are done.

@@ -52,6 +52,58 @@ fn solution_of(alloc: Global, cells: &AllCells<'_>) -> Result<Solution, AllocErr
     })
 }
 
+/// The optimum that a search is for, by workers.
+fn optimum_by<R: Threads + Sync, G: Gate>(
+    crew: &Crew<'_, R, G>,
+    alloc: Global,
+    setting: &Setting<'_>,
+    prepared: Preparation<'_>,
+) -> Result<Optimum, AllocError>
+    requires bounded { IsBounded setting.now }
+    requires prepared { prepared.problem ≡ setting.now.problem }
+    ensures { IfOk result (IsOptimumFor setting.now.problem setting.now.pairs.pairs) }
+{
+    let cells = AllCells::of(crew, alloc, setting, prepared)?;
+    optimum_of(alloc, &cells)
+}
+
+/// The same, by the calling thread alone.
+fn optimum_alone(alloc: Global, setting: &Setting<'_>) -> Result<Optimum, AllocError>
+    requires { IsBounded setting.now }
+    ensures { IfOk result (IsOptimumFor setting.now.problem setting.now.pairs.pairs) }
+{
+    let cells = AllCells::alone(alloc, setting)?;
+    optimum_of(alloc, &cells)
+}
+
+/// The solution that a search is for, by workers.
+fn solution_by<R: Threads + Sync, G: Gate>(
+    crew: &Crew<'_, R, G>,
+    alloc: Global,
+    setting: &Setting<'_>,
+    prepared: Preparation<'_>,
+) -> Result<Solution, AllocError>
+    requires bounded { IsBounded setting.now }
+    requires prepared { prepared.problem ≡ setting.now.problem }
+    requires reserve { setting.now.reserve ≡ Variables }
+    ensures solution { IfOk result (IsSolution setting.now.problem setting.now.pairs.pairs) }
+    ensures widths { IfOk result (λ s. s.widths ≡ widths_for_all setting.now) }
+{
+    let cells = AllCells::of(crew, alloc, setting, prepared)?;
+    solution_of(alloc, &cells)
+}
+
+/// The same, by the calling thread alone.
+fn solution_alone(alloc: Global, setting: &Setting<'_>) -> Result<Solution, AllocError>
+    requires bounded { IsBounded setting.now }
+    requires reserve { setting.now.reserve ≡ Variables }
+    ensures solution { IfOk result (IsSolution setting.now.problem setting.now.pairs.pairs) }
+    ensures widths { IfOk result (λ s. s.widths ≡ widths_for_all setting.now) }
+{
+    let cells = AllCells::alone(alloc, setting)?;
+    solution_of(alloc, &cells)
+}
+
 /// What the search is for that a sifted order bounds: its size is the bound, and pairs are kept to
 /// which each order that keeps its pairs can be sorted.
 fn setting_of<'a>(
@@ -99,10 +151,7 @@ pub fn find_optimum<R: Threads + Sync, G: Gate>(
     let problem = prepared.problem();
     let pairs = pairs_to_keep(alloc, problem, sifted.pairs())?;
     let setting = setting_of(problem, &sifted, &pairs, Reserve::Widths);
-    let crew = Crew::new(rt, workers, gate);
-    let searched = AllCells::of(&crew, alloc, &setting, prepared)?;
-    let optimum = optimum_of(alloc, &searched)?;
-    Ok(optimum)
+    optimum_by(&Crew::new(rt, workers, gate), alloc, &setting, prepared)
 }
 
 /// The same as `find_optimum`, by the calling thread alone.
@@ -116,9 +165,7 @@ pub fn find_optimum_alone(
 {
     let pairs = pairs_to_keep(alloc, problem, sifted.pairs())?;
     let setting = setting_of(problem, &sifted, &pairs, Reserve::Widths);
-    let searched = AllCells::alone(alloc, &setting)?;
-    let optimum = optimum_of(alloc, &searched)?;
-    Ok(optimum)
+    optimum_alone(alloc, &setting)
 }
 
 /// The same as `find_optimum`, with what the order's certificate lists. For that the search counts
@@ -139,10 +186,7 @@ pub fn solve<R: Threads + Sync, G: Gate>(
 {
     let problem = prepared.problem();
     let setting = setting_of(problem, &sifted, sifted.pairs(), Reserve::Variables);
-    let crew = Crew::new(rt, workers, gate);
-    let cells = AllCells::of(&crew, alloc, &setting, prepared)?;
-    let solution = solution_of(alloc, &cells)?;
-    Ok(solution)
+    solution_by(&Crew::new(rt, workers, gate), alloc, &setting, prepared)
 }
 
 /// The same as `solve`, by the calling thread alone.
@@ -154,7 +198,5 @@ pub fn solve_alone(alloc: Global, problem: &Problem, sifted: Sifted) -> Result<S
         Variables sifted.size) }
 {
     let setting = setting_of(problem, &sifted, sifted.pairs(), Reserve::Variables);
-    let cells = AllCells::alone(alloc, &setting)?;
-    let solution = solution_of(alloc, &cells)?;
-    Ok(solution)
+    solution_alone(alloc, &setting)
 }

@@ -1,9 +1,10 @@
 //! The search of a cover: sifting bounds it, while workers prepare it.
 
-ghost use Rattle.std.specs.Prelude.{◌≡◌, All, IfOk};
+ghost use Rattle.std.specs.Prelude.{◌≡◌, All, IfOk, sum};
 ghost use Rattle.std.specs.Thread.{IsSync};
 ghost use Rattle.report.specs.Found.{IsFound, IsJobFor, IsDoneFor, IsSiftingFor};
 ghost use Rattle.report.specs.FirstDiagrams.{IsFirstDiagram};
+ghost use Rattle.run_texts.specs.Texts.{file_order_levels};
 
 use crate::best::{Best, best_order};
 use crate::diagrams::{file_order_levels_of, first_diagram};
@@ -161,6 +162,36 @@ fn both_of<'a>(
     }
 }
 
+/// Sifts and prepares, from the diagram under the first order that keeps the pairs.
+fn sift_and_prepare<'a, R: Threads + Sync>(
+    rt: &R,
+    alloc: Global,
+    instance: &Instance<'a>,
+    first: Diagram,
+) -> Result<(Sifting, Preparation<'a>), AllocError>
+    requires { IsFirstDiagram instance.now.cover.now instance.now.pairs.now.pairs first }
+    ensures sifting { IfOk result (λ r. IsSiftingFor instance.now r.0) }
+    ensures prepared { IfOk result (λ r. r.1.problem ≡ instance.now.tables.now) }
+{
+    let jobs = jobs_before(alloc, instance, first)?;
+    let ended = all_done(rt, alloc, instance, jobs)?;
+    both_of(instance, ended)
+}
+
+/// The size under the file order, from the diagram under the first order that keeps the pairs.
+fn file_size_of<R: Threads + Sync>(
+    rt: &R,
+    alloc: Global,
+    instance: &Instance<'_>,
+    first: &Diagram,
+) -> Result<u64, AllocError>
+    requires { IsFirstDiagram instance.now.cover.now instance.now.pairs.now.pairs first.now }
+    ensures { IfOk result (λ size. size ≡ sum (file_order_levels instance.now.cover.now)) }
+{
+    let levels = file_order_levels_of(rt, alloc, instance, first)?;
+    Ok(total(&levels))
+}
+
 /// What the search finds of a cover: the best order, the sifted one with its size, and the size
 /// under the file order.
 #[derive(Drop)]
@@ -181,11 +212,8 @@ pub(crate) fn search<R: Threads + Sync>(
     ensures { IfOk result (IsFound instance.now) }
 {
     let first = first_diagram(rt, alloc, instance)?;
-    let levels = file_order_levels_of(rt, alloc, instance, &first)?;
-    let file_size = total(&levels);
-    let jobs = jobs_before(alloc, instance, first)?;
-    let ended = all_done(rt, alloc, instance, jobs)?;
-    let (sifting, prepared) = both_of(instance, ended)?;
+    let file_size = file_size_of(rt, alloc, instance, &first)?;
+    let (sifting, prepared) = sift_and_prepare(rt, alloc, instance, first)?;
     let Sifting {
         sifted,
         size,

@@ -30,7 +30,7 @@ pub loop-size-preserved : goal.loop-size-preserved
 loop-size-preserved g c =
     let t = c.args.setting.now in
     let items = c.loop-size.layers.items in
-    let is = c.in_ok-push-2.ensures.items in
+    let is = c.in_ok-add_to.ensures.layers in
     let costs = c.in_ok-next.next.costs in
     record {
       many = (let l = ap length is in let a = length-append items (costs ∷ []) in let m = c.loop-size.invariant.many in omega (arith, l, a, m));
@@ -38,6 +38,6 @@ loop-size-preserved g c =
           λ k d at. layers_push t items costs c.loop-size.invariant.layers_are
           (subst (λ (n : ℕ). IsLayerFor t n costs) (ap length c.deref-in-loop-size.ensures.value) c.in_ok-next.ensures.layer) k d
           (ap (λ (xs : List CostsOf). slice_get xs k) (sym is) ∙ at);
-      ahead = ahead_joined t.problem c.look_ahead-ahead.result c.in_ok-next.next.found c.append.new.self c.in_ok-append.ensures.ok c.look_ahead-ahead.ensures
+      ahead = ahead_joined t.problem c.look_ahead-ahead.result c.in_ok-next.next.found c.add_to.new.ahead c.in_ok-add_to.ensures.ahead c.look_ahead-ahead.ensures
           c.in_ok-next.ensures.found;
     }

@@ -1,9 +1,9 @@
 use Rattle.std.proofs.Common.{List, subst}
+use Rattle.std.proofs.lemmas.Result.{IfOk-weaker}
 use Rattle.order_model.specs.KeptPairs.{KeptPairs}
 use Rattle.order_model.specs.Pairs.{Pair}
 use Rattle.order_model.specs.Problems.{TruthTables, functions}
 use Rattle.symmetries.specs.SymmetricPairs.{IsHarmless}
-use Rattle.layer_core.specs.Settings.{Setting}
 use Rattle.order_solve.specs.Solutions.{IsOptimumFor}
 use Rattle.order_solve.proofs.Harmless.{optimum_harmless}
 use Rattle.order_solve.proofs.solving.find_optimum_alone.Goals as goal
@@ -13,11 +13,8 @@ returns c =
     let t = c.args.problem.now in
     let P = c.args.sifted.pairs in
     let Q = c.in_ok-pairs.pairs.pairs in
-    let o = c.in_ok-optimum.optimum in
     let setting = c.setting_of-setting.ensures in
     let harmless = subst (λ (R : List Pair). IsHarmless t.inputs (functions t) R Q) c.pairs.ensures.value c.in_ok-pairs.ensures.harmless in
-    let found =
-    subst (λ (s : Setting). IsOptimumFor s.problem s.pairs.pairs o) c.in_ok-searched.ensures c.in_ok-optimum.ensures.optimum in
-    optimum_harmless t P Q o harmless
+    IfOk-weaker c.optimum_alone.result _ _ (λ o found. optimum_harmless t P Q o harmless
     (subst (λ (u : TruthTables). IsOptimumFor u Q o) setting.problem
-    (subst (λ (k : KeptPairs). IsOptimumFor c.setting_of-setting.result.problem k.pairs o) setting.pairs found))
+    (subst (λ (k : KeptPairs). IsOptimumFor c.setting_of-setting.result.problem k.pairs o) setting.pairs found))) c.optimum_alone.ensures

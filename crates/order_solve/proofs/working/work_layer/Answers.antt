@@ -1,4 +1,4 @@
-use Rattle.std.proofs.Common.{◌≡◌, ℕ, ◌+◌, ◌≤◌, refl, sym, ap, ◌∙◌, subst, arith}
+use Rattle.std.proofs.Common.{rules, ◌≡◌, ℕ, ◌+◌, ◌≤◌, refl, sym, ap, ◌∙◌, subst, arith}
 use Rattle.subset_layers.specs.Layers.{LayerOf, BlockOf, layer_of, block_masks}
 use Rattle.order_model.specs.Orders.{has}
 use Rattle.layer_board.specs.Views.{BoardId, SeatOf}
@@ -92,6 +92,9 @@ loop-claim-preserved g c =
       ahead = (let r = c.in_ok-cells.ensures.ahead in let i = c.loop-claim.invariant.ahead in omega (arith, r, i));
       few = few_round s s1 s2 c.loop-claim.tallies.ahead p b h c.loop-claim.invariant.few _ c.post_block.ensures.stays c.in_ok-cells.ensures.few;
     }
+
+pub returns-clause-told : goal.returns-clause-told
+returns-clause-told g c = search rules
 
 pub returns-clause-tally : goal.returns-clause-tally
 returns-clause-tally g c =
