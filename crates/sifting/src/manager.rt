@@ -3,6 +3,7 @@
 ghost use Rattle.std.specs.Prelude.{◌≡◌, ◌+◌, ◌<◌, ◌≤◌, ℕ, [], not, length, slice_index, swap, IfOk, IsFalse};
 ghost use Rattle.order_model.specs.Diagrams.{IsReduced, IsOrdered};
 ghost use Rattle.order_model.specs.Pairs.{Keeps, has_pair};
+ghost use Rattle.sifting.specs.LevelLists.{nodes_of};
 ghost use Rattle.sifting.specs.Managed.{truth_tables_of, size_of, count_of, IsManagedOrder};
 
 use crate::build::levels_of;
@@ -39,6 +40,17 @@ impl Model for Manager {
 
     ghost invariant = { λ m. HoldsDiagram
         (nodes_of m.levels.items) m.terminals.items m.order m.roots.items m.pairs };
+}
+
+/// The levels once more.
+fn copies_of(alloc: Global, levels: &[Level]) -> Result<Vec<Level>, AllocError>
+    ensures { IfOk result (λ v. nodes_of v.items ≡ nodes_of levels.now) }
+{
+    let mut copies = Vec::with_capacity(alloc, levels.len())?;
+    for level in levels {
+        copies.push(level.try_clone(alloc)?)?;
+    }
+    Ok(copies)
 }
 
 impl Manager {
@@ -171,14 +183,10 @@ impl Manager {
     pub(crate) fn try_clone(&self, alloc: Global) -> Result<Manager, AllocError>
         ensures { IfOk result (λ m. m ≡ self.now) }
     {
-        let mut levels = Vec::with_capacity(alloc, self.levels.len())?;
-        for level in &self.levels {
-            levels.push(level.try_clone(alloc)?)?;
-        }
         Ok(Manager {
             order: self.order.try_clone(alloc)?,
             roots: self.roots.to_vec(alloc)?,
-            levels,
+            levels: copies_of(alloc, &self.levels)?,
             terminals: self.terminals.to_vec(alloc)?,
             pairs: self.pairs.copied(),
             table: NodeTable::new(alloc),

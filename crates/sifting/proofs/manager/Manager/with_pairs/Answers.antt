@@ -1,9 +1,12 @@
-use Rattle.std.proofs.Common.{subst, ◌∙◌}
+use Rattle.std.proofs.Common.{rules, subst, ◌∙◌}
 use Rattle.sifting.specs.LevelLists.{nodes_of}
 use Rattle.sifting.specs.Managed.{truth_tables_of}
 use Rattle.sifting.specs.Cuts.{IsBuilt}
 use Rattle.sifting.proofs.Built.{built_problem}
 use Rattle.sifting.proofs.manager.Manager.with_pairs.Goals as goal
+
+pub invariant_of-result : goal.invariant_of-result
+invariant_of-result c = search rules
 
 pub returns-clause-functions : goal.returns-clause-functions
 returns-clause-functions c =
