@@ -1,6 +1,10 @@
+use Rattle.std.proofs.Common.{rules}
 use Rattle.checks.proofs.Checked.{accepted}
 use Rattle.outcomes.proofs.Known.{with_known, with_read}
 use Rattle.checks.proofs.checks.run_check.Goals as goal
+
+pub returns-in-Err-clause-checks : goal.returns-in-Err-clause-checks
+returns-in-Err-clause-checks g c = search rules
 
 pub returns-in-Ok-write_whole-clause-truth : goal.returns-in-Ok-write_whole-clause-truth
 returns-in-Ok-write_whole-clause-truth g c =
