@@ -1,6 +1,6 @@
 //! The solver's certificates of random functions, as they are and with a cost changed.
 
-ghost use Rattle.std.specs.Prelude.{◌≡◌, ◌<◌, ◌≤◌, IfOk, length};
+ghost use Rattle.std.specs.Prelude.{◌≡◌, ◌<◌, ◌≤◌, IfSome, length};
 
 use crate::plain::Plain;
 use crate::sixteen::tables_of;
@@ -8,10 +8,9 @@ use cert_check::{Verdict, check, check_alone};
 use certificate::Certificate;
 use order_model::{ListedCell, NoGate, Pairs, VarIx, Workers};
 use order_solve::{Optimum, Preparation, Solution, solve};
-use sifting::Manager;
 use sifting::laws::diagrams_have_their_problems_tables;
+use sifting::{Manager, Sifted};
 use std::alloc::{AllocError, Global};
-use std::test::Fail;
 use std::thread::Threads;
 use table_diagrams::reduced_diagram;
 use truth_table::Tables;
@@ -69,6 +68,15 @@ fn push_rows(text: &mut String, inputs: u8, outputs: u8, seed: u64) -> Result<()
     Ok(())
 }
 
+/// The text of a cover of random functions.
+fn random_text(alloc: Global, inputs: u8, outputs: u8, seed: u64) -> Result<String, AllocError>
+    requires { inputs ≤ 16 }
+{
+    let mut text = format!(in alloc; ".i {inputs}\n.o {outputs}\n")?;
+    push_rows(&mut text, inputs, outputs, seed)?;
+    Ok(text)
+}
+
 /// The truth tables of random functions.
 fn random_tables<R: Threads + Sync>(
     rt: &R,
@@ -76,12 +84,13 @@ fn random_tables<R: Threads + Sync>(
     inputs: u8,
     outputs: u8,
     seed: u64,
-) -> Result<Tables, Fail>
+) -> Option<Tables>
     requires { inputs ≤ 16 }
 {
-    let mut text = format!(in alloc; ".i {inputs}\n.o {outputs}\n")?;
-    push_rows(&mut text, inputs, outputs, seed)?;
-    tables_of(rt, alloc, text.as_bytes())
+    match random_text(alloc, inputs, outputs, seed) {
+        Ok(text) => tables_of(rt, alloc, text.as_bytes()),
+        Err(_) => None,
+    }
 }
 
 /// The pairs that random functions are solved under: none, or that variable 0 stands above
@@ -94,18 +103,33 @@ fn kept(inputs: u8, seed: u64) -> &'static [(VarIx, VarIx)] {
 }
 
 /// The manager of some functions' reduced diagram under the first order that keeps the pairs.
-fn manager_of(alloc: Global, tables: &Tables, pairs: Pairs) -> Result<Manager, Fail>
+fn manager_of(alloc: Global, tables: &Tables, pairs: Pairs) -> Option<Manager>
     requires { pairs.inputs ≡ tables.now.inputs }
-    ensures problem { IfOk result (λ m. m.problem ≡ tables.now) }
+    ensures problem { IfSome result (λ m. m.problem ≡ tables.now) }
 {
     let problem = tables.problem();
-    let order = pairs.first_order(alloc)?;
+    let Ok(order) = pairs.first_order(alloc) else {
+        return None;
+    };
     if order.len() != usize::from(problem.inputs()) {
-        return Err("an order of other variables".into());
+        return None;
     }
-    let diagram = reduced_diagram(alloc, tables, &order)?;
+    let Ok(diagram) = reduced_diagram(alloc, tables, &order) else {
+        return None;
+    };
     diagrams_have_their_problems_tables(problem);
-    Ok(Manager::with_pairs(alloc, diagram, pairs)?)
+    Manager::with_pairs(alloc, diagram, pairs).ok()
+}
+
+/// The order sifted from the first one that keeps the pairs.
+fn sifted_of(alloc: Global, tables: &Tables, pairs: Pairs) -> Option<Sifted>
+    requires { pairs.inputs ≡ tables.now.inputs }
+    ensures { IfSome result (λ s. s.problem ≡ tables.now) }
+{
+    match manager_of(alloc, tables, pairs) {
+        Some(manager) => manager.sift(alloc).ok(),
+        None => None,
+    }
 }
 
 /// What the solver finds of some functions, with all rows found beforehand, from the order sifted
@@ -115,13 +139,20 @@ fn solution_of<R: Threads + Sync>(
     alloc: Global,
     tables: &Tables,
     pairs: Pairs,
-) -> Result<Solution, Fail>
+) -> Option<Solution>
     requires { pairs.inputs ≡ tables.now.inputs }
 {
-    let workers = Workers::new(2).ok_or("workers")?;
-    let prepared = Preparation::by_workers(rt, alloc, tables.problem(), &pairs, 16, workers)?;
-    let sifted = manager_of(alloc, tables, pairs)?.sift(alloc)?;
-    Ok(solve(rt, alloc, prepared, sifted, workers, &NoGate)?)
+    let Some(workers) = Workers::new(2) else {
+        return None;
+    };
+    let Ok(prepared) = Preparation::by_workers(rt, alloc, tables.problem(), &pairs, 16, workers)
+    else {
+        return None;
+    };
+    match sifted_of(alloc, tables, pairs) {
+        Some(sifted) => solve(rt, alloc, prepared, sifted, workers, &NoGate).ok(),
+        None => None,
+    }
 }
 
 /// Functions, the pairs that are kept, and what the solver finds of them.
@@ -133,27 +164,24 @@ struct Solved {
 }
 
 /// What the solver finds of random functions.
-fn solve_random<R: Threads + Sync>(
-    rt: &R,
-    alloc: Global,
-    inputs: u8,
-    seed: u64,
-) -> Result<Solved, Fail>
+fn solve_random<R: Threads + Sync>(rt: &R, alloc: Global, inputs: u8, seed: u64) -> Option<Solved>
     requires { inputs ≤ 16 }
 {
-    let tables = random_tables(rt, alloc, inputs, 1 + (seed % 4) as u8, seed)?;
+    let Some(tables) = random_tables(rt, alloc, inputs, 1 + (seed % 4) as u8, seed) else {
+        return None;
+    };
     let pairs = kept(inputs, seed);
-    let solution = solution_of(
-        rt,
-        alloc,
-        &tables,
-        Pairs::of(pairs, tables.problem().inputs())?,
-    )?;
-    Ok(Solved {
-        tables,
-        pairs,
-        solution,
-    })
+    let Ok(parsed) = Pairs::of(pairs, tables.problem().inputs()) else {
+        return None;
+    };
+    match solution_of(rt, alloc, &tables, parsed) {
+        Some(solution) => Some(Solved {
+            tables,
+            pairs,
+            solution,
+        }),
+        None => None,
+    }
 }
 
 /// An order, and the numbers of nodes on its levels.
@@ -164,30 +192,32 @@ fn order_and_levels(alloc: Global, found: &Optimum) -> Result<(Vec<VarIx>, Vec<u
 }
 
 /// The solver's certificate with other costs, in format 1.
-fn first_format(
-    alloc: Global,
-    solved: &Solved,
-    cells: Vec<ListedCell>,
-) -> Result<Option<Certificate>, AllocError> {
+fn first_format(alloc: Global, solved: &Solved, cells: Vec<ListedCell>) -> Option<Certificate> {
     let problem = solved.tables.problem();
     let best = &solved.solution.optimum;
-    let (order, levels) = order_and_levels(alloc, best)?;
     let (inputs, outputs) = (problem.inputs(), problem.outputs());
-    Ok(Certificate::new(inputs, outputs, order, levels, best.total, cells))
+    match order_and_levels(alloc, best) {
+        Ok((order, levels)) => {
+            Certificate::new(inputs, outputs, order, levels, best.total, cells)
+        }
+        Err(_) => None,
+    }
 }
 
 /// The same in format 2, which has the pairs.
-fn second_format(
-    alloc: Global,
-    solved: &Solved,
-    cells: Vec<ListedCell>,
-) -> Result<Option<Certificate>, AllocError> {
+fn second_format(alloc: Global, solved: &Solved, cells: Vec<ListedCell>) -> Option<Certificate> {
     let problem = solved.tables.problem();
     let best = &solved.solution.optimum;
-    let pairs = solved.pairs.to_vec(alloc)?;
-    let (order, levels) = order_and_levels(alloc, best)?;
     let (inputs, outputs) = (problem.inputs(), problem.outputs());
-    Ok(Certificate::new2(inputs, outputs, order, levels, best.total, pairs, cells))
+    let Ok(pairs) = solved.pairs.to_vec(alloc) else {
+        return None;
+    };
+    match order_and_levels(alloc, best) {
+        Ok((order, levels)) => {
+            Certificate::new2(inputs, outputs, order, levels, best.total, pairs, cells)
+        }
+        Err(_) => None,
+    }
 }
 
 /// Gives a cost to the cells at some places.
@@ -206,8 +236,10 @@ fn changed(
     places: &[usize],
     cost: u32,
     format: u8,
-) -> Result<Option<Certificate>, AllocError> {
-    let mut cells = solved.solution.cells.to_vec(alloc)?;
+) -> Option<Certificate> {
+    let Ok(mut cells) = solved.solution.cells.to_vec(alloc) else {
+        return None;
+    };
     set_costs(&mut cells, places, cost);
     if format == 1 {
         first_format(alloc, solved, cells)
@@ -216,35 +248,31 @@ fn changed(
     }
 }
 
-/// Whether the solver's certificate of random functions has a spelling and is valid.
-fn has_valid_solution<R: Threads + Sync>(
-    rt: &R,
-    alloc: Global,
-    inputs: u8,
-    seed: u64,
-) -> Result<bool, Fail>
-    requires { inputs ≤ 16 }
-{
-    let solved = solve_random(rt, alloc, inputs, seed)?;
-    Ok(is_valid(rt, alloc, &solved)?)
+/// Whether the solver's certificate has a spelling and is valid.
+fn is_valid<R: Threads + Sync>(rt: &R, alloc: Global, solved: &Solved) -> bool {
+    match changed(alloc, solved, &[], 0, 2) {
+        Some(cert) => check(rt, alloc, &solved.tables, &cert) == Ok(Verdict::Valid),
+        None => false,
+    }
 }
 
-/// Whether the solver's certificate has a spelling and is valid.
-fn is_valid<R: Threads + Sync>(rt: &R, alloc: Global, solved: &Solved) -> Result<bool, AllocError> {
-    match changed(alloc, solved, &[], 0, 2)? {
-        Some(cert) => Ok(check(rt, alloc, &solved.tables, &cert)? == Verdict::Valid),
-        None => Ok(false),
+/// The same of random functions.
+fn has_valid_solution<R: Threads + Sync>(rt: &R, alloc: Global, inputs: u8, seed: u64) -> bool
+    requires { inputs ≤ 16 }
+{
+    match solve_random(rt, alloc, inputs, seed) {
+        Some(solved) => is_valid(rt, alloc, &solved),
+        None => false,
     }
 }
 
 #[test]
-fn solutions_are_valid(rt: HostRuntime) -> Result<(), Fail> {
+fn solutions_are_valid(rt: HostRuntime) {
     for inputs in 1..9u8 {
         for seed in 0..4u64 {
-            assert!(rt; has_valid_solution(&rt, rt.alloc(), inputs, seed)?);
+            assert!(rt; has_valid_solution(&rt, rt.alloc(), inputs, seed));
         }
     }
-    Ok(())
 }
 
 /// The place of the set with exchanged variables among the listed ones, or that of the set itself.
@@ -268,11 +296,10 @@ fn has_plain_verdict<R: Threads + Sync>(
     solved: &Solved,
     plain: &Plain,
     cert: &Certificate,
-) -> Result<bool, AllocError> {
-    let wanted = plain.verdict(cert);
-    let alone = check_alone(alloc, &solved.tables, cert)?;
-    let shared = check(rt, alloc, &solved.tables, cert)?;
-    Ok(alone == wanted && shared == wanted)
+) -> bool {
+    let wanted = Ok(plain.verdict(cert));
+    check_alone(alloc, &solved.tables, cert) == wanted
+        && check(rt, alloc, &solved.tables, cert) == wanted
 }
 
 /// Whether the solver's certificate with the cost at some places changed has its plain verdict.
@@ -284,10 +311,10 @@ fn is_judged_in<R: Threads + Sync>(
     places: &[usize],
     cost: u32,
     format: u8,
-) -> Result<bool, AllocError> {
-    match changed(alloc, solved, places, cost, format)? {
+) -> bool {
+    match changed(alloc, solved, places, cost, format) {
         Some(cert) => has_plain_verdict(rt, alloc, solved, plain, &cert),
-        None => Ok(false),
+        None => false,
     }
 }
 
@@ -299,11 +326,9 @@ fn is_judged<R: Threads + Sync>(
     plain: &Plain,
     places: &[usize],
     cost: u32,
-) -> Result<bool, AllocError> {
-    if solved.pairs.is_empty() && !is_judged_in(rt, alloc, solved, plain, places, cost, 1)? {
-        return Ok(false);
-    }
-    is_judged_in(rt, alloc, solved, plain, places, cost, 2)
+) -> bool {
+    (!solved.pairs.is_empty() || is_judged_in(rt, alloc, solved, plain, places, cost, 1))
+        && is_judged_in(rt, alloc, solved, plain, places, cost, 2)
 }
 
 /// Whether that is so with the cost at some places as a given one, one less and one more.
@@ -314,13 +339,10 @@ fn are_judged_near<R: Threads + Sync>(
     plain: &Plain,
     places: &[usize],
     cost: u32,
-) -> Result<bool, AllocError> {
-    for cost in [cost.saturating_sub(1), cost, cost.saturating_add(1)] {
-        if !is_judged(rt, alloc, solved, plain, places, cost)? {
-            return Ok(false);
-        }
-    }
-    Ok(true)
+) -> bool {
+    is_judged(rt, alloc, solved, plain, places, cost.saturating_sub(1))
+        && is_judged(rt, alloc, solved, plain, places, cost)
+        && is_judged(rt, alloc, solved, plain, places, cost.saturating_add(1))
 }
 
 /// Whether that is so with each cost, alone and with that of the exchanged set.
@@ -330,41 +352,39 @@ fn are_judged<R: Threads + Sync>(
     solved: &Solved,
     plain: &Plain,
     inputs: u8,
-) -> Result<bool, AllocError>
+) -> bool
     requires { inputs ≤ 16 }
 {
     let cells = solved.solution.cells.as_slice();
     for (place, cell) in cells.iter().enumerate() {
         let other = place_of_exchanged(cells, inputs, place);
-        if !are_judged_near(rt, alloc, solved, plain, &[place], cell.cost)?
-            || !are_judged_near(rt, alloc, solved, plain, &[place, other], cell.cost)?
+        if !are_judged_near(rt, alloc, solved, plain, &[place], cell.cost)
+            || !are_judged_near(rt, alloc, solved, plain, &[place, other], cell.cost)
         {
-            return Ok(false);
+            return false;
         }
     }
-    Ok(true)
+    true
 }
 
 /// Whether that is so of the solver's certificate of random functions.
-fn has_plain_verdicts<R: Threads + Sync>(
-    rt: &R,
-    alloc: Global,
-    inputs: u8,
-    seed: u64,
-) -> Result<bool, Fail>
+fn have_plain_verdicts<R: Threads + Sync>(rt: &R, alloc: Global, inputs: u8, seed: u64) -> bool
     requires { inputs ≤ 16 }
 {
-    let solved = solve_random(rt, alloc, inputs, seed)?;
-    let plain = Plain::of(alloc, &solved.tables)?;
-    Ok(are_judged(rt, alloc, &solved, &plain, inputs)?)
+    let Some(solved) = solve_random(rt, alloc, inputs, seed) else {
+        return false;
+    };
+    match Plain::of(alloc, &solved.tables) {
+        Ok(plain) => are_judged(rt, alloc, &solved, &plain, inputs),
+        Err(_) => false,
+    }
 }
 
 #[test]
-fn changed_costs_have_the_plain_verdict(rt: HostRuntime) -> Result<(), Fail> {
+fn changed_costs_have_the_plain_verdict(rt: HostRuntime) {
     for inputs in 1..6u8 {
         for seed in 0..4u64 {
-            assert!(rt; has_plain_verdicts(&rt, rt.alloc(), inputs, seed)?);
+            assert!(rt; have_plain_verdicts(&rt, rt.alloc(), inputs, seed));
         }
     }
-    Ok(())
 }

@@ -1,20 +1,20 @@
 //! Pairs of a table's entries, numbered by first occurrence and by keys.
 
 use pair_numbering::{NumberedPairs, PairKeys, label_strip_pairs, number_pairs};
-use std::test::Fail;
+use std::alloc::Global;
 
 /// Whether pairs are numbered so.
 fn are_numbered(numbered: &NumberedPairs, numbers: &[u32], pairs: &[(u32, u32)]) -> bool {
     numbered.numbers.as_slice() == numbers && numbered.pairs.as_slice() == pairs
 }
 
-#[test]
-fn pairs_by_first_occurrence(rt: HostRuntime) -> Result<(), Fail> {
+/// Whether pairs are numbered by first occurrence.
+fn numbers_pairs(alloc: Global) -> bool {
     let numbers = [2, 0, 1, 2, 0, 0, 1, 2, 2, 0, 1, 1];
-    let numbered = number_pairs(rt.alloc(), &numbers, 1, 3)?;
-    let pairs = [(2, 1), (0, 2), (0, 1)];
-    assert!(rt; are_numbered(&numbered, &[0, 1, 2, 1, 0, 2], &pairs));
-    Ok(())
+    match number_pairs(alloc, &numbers, 1, 3) {
+        Ok(numbered) => are_numbered(&numbered, &[0, 1, 2, 1, 0, 2], &[(2, 1), (0, 2), (0, 1)]),
+        Err(_) => false,
+    }
 }
 
 /// Whether pairs have these keys and masks.
@@ -22,14 +22,19 @@ fn have_keys(keys: PairKeys, numbers: &[u32], masks: &[u16]) -> bool {
     keys.numbers.as_slice() == numbers && keys.masks.as_slice() == masks
 }
 
-#[test]
-fn pairs_of_strips(rt: HostRuntime) -> Result<(), Fail> {
+/// Whether pairs of strips have their keys and masks.
+fn labels_strip_pairs(alloc: Global) -> bool {
     let names = [(0, 1), (1, 1)];
-    let numbered = label_strip_pairs(rt.alloc(), &names, &[0, 1, 2, 0], 1, 3, &[1, 2, 4])?;
-    assert!(rt; have_keys(numbered, &[0, 1, 2, 3], &[13, 11, 4, 1]));
-    let keys = label_strip_pairs(rt.alloc(), &names, &[0, 1, 1, 0], 1, 3, &[1, 2])?;
-    assert!(rt; have_keys(keys, &[2, 1, 3, 0], &[1, 11, 11, 2]));
-    Ok(())
+    let Ok(keys) = label_strip_pairs(alloc, &names, &[0, 1, 2, 0], 1, 3, &[1, 2, 4]) else {
+        return false;
+    };
+    if !have_keys(keys, &[0, 1, 2, 3], &[13, 11, 4, 1]) {
+        return false;
+    }
+    match label_strip_pairs(alloc, &names, &[0, 1, 1, 0], 1, 3, &[1, 2]) {
+        Ok(keys) => have_keys(keys, &[2, 1, 3, 0], &[1, 11, 11, 2]),
+        Err(_) => false,
+    }
 }
 
 /// Eighty pairs that are looked for from one slot on, each of them twice. Fewer slots are tried.
@@ -56,11 +61,20 @@ fn count_up_to_eighty(numbers: &[u32]) -> bool {
     true
 }
 
-#[test]
-fn crowded_pairs_by_first_occurrence(rt: HostRuntime) -> Result<(), Fail> {
+/// Whether the crowded pairs are numbered by first occurrence.
+fn numbers_crowded_pairs(alloc: Global) -> bool {
     let numbers = crowded_pairs();
-    assert!(rt; numbers.iter().all(|number| *number < 1 << 17));
-    let numbered = number_pairs(rt.alloc(), &numbers, 0, 1 << 17)?;
-    assert!(rt; numbered.pairs.len() == 80 && count_up_to_eighty(&numbered.numbers));
-    Ok(())
+    if !numbers.iter().all(|number| *number < 1 << 17) {
+        return false;
+    }
+    match number_pairs(alloc, &numbers, 0, 1 << 17) {
+        Ok(numbered) => numbered.pairs.len() == 80 && count_up_to_eighty(&numbered.numbers),
+        Err(_) => false,
+    }
+}
+
+#[test]
+fn numberings_of_pairs(rt: HostRuntime) {
+    assert!(rt; numbers_pairs(rt.alloc()) && numbers_crowded_pairs(rt.alloc()));
+    assert!(rt; labels_strip_pairs(rt.alloc()));
 }

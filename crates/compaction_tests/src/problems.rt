@@ -2,8 +2,6 @@
 
 use order_model::Problem;
 use std::alloc::Global;
-use std::process::Abort;
-use std::test::Fail;
 
 /// The number of variables, and the truth table of each function: bit k is the value at point k.
 pub(crate) type Tables = (u8, &'static [u64]);
@@ -43,13 +41,19 @@ fn set_tables(problem: &mut Problem, tables: &[u64]) -> bool {
     true
 }
 
-pub(crate) fn problem_of(rt: &impl Abort, alloc: Global, tables: Tables) -> Result<Problem, Fail> {
+pub(crate) fn problem_of(alloc: Global, tables: Tables) -> Option<Problem> {
     let (inputs, tables) = tables;
-    assert!(rt; 1 <= inputs && inputs <= 6);
-    assert!(rt; 1 <= tables.len() && tables.len() <= 16);
-    let mut problem = Problem::new(alloc, inputs, tables.len() as u8)?;
-    assert!(rt; set_tables(&mut problem, tables));
-    Ok(problem)
+    if inputs == 0 || inputs > 6 || tables.is_empty() || tables.len() > 16 {
+        return None;
+    }
+    let Ok(mut problem) = Problem::new(alloc, inputs, tables.len() as u8) else {
+        return None;
+    };
+    if set_tables(&mut problem, tables) {
+        Some(problem)
+    } else {
+        None
+    }
 }
 
 /// Sets the value of a function where a number is odd. Says whether the problem has it.
@@ -73,10 +77,15 @@ fn set_numbers(problem: &mut Problem) -> bool {
     true
 }
 
-pub(crate) fn five_bit_numbers(rt: &impl Abort, alloc: Global) -> Result<Problem, Fail> {
-    let mut problem = Problem::new(alloc, 10, 3)?;
-    assert!(rt; set_numbers(&mut problem));
-    Ok(problem)
+pub(crate) fn five_bit_numbers(alloc: Global) -> Option<Problem> {
+    let Ok(mut problem) = Problem::new(alloc, 10, 3) else {
+        return None;
+    };
+    if set_numbers(&mut problem) {
+        Some(problem)
+    } else {
+        None
+    }
 }
 
 /// Sets the values of the last bit of a cube, modulo a prime.
@@ -89,8 +98,13 @@ fn set_cubes(problem: &mut Problem) -> bool {
     true
 }
 
-pub(crate) fn cubes(rt: &impl Abort, alloc: Global) -> Result<Problem, Fail> {
-    let mut problem = Problem::new(alloc, 10, 1)?;
-    assert!(rt; set_cubes(&mut problem));
-    Ok(problem)
+pub(crate) fn cubes(alloc: Global) -> Option<Problem> {
+    let Ok(mut problem) = Problem::new(alloc, 10, 1) else {
+        return None;
+    };
+    if set_cubes(&mut problem) {
+        Some(problem)
+    } else {
+        None
+    }
 }

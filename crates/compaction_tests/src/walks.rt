@@ -5,12 +5,9 @@ ghost use Rattle.subset_layers.specs.Layers.{block_masks};
 ghost use Rattle.compaction.specs.Rows.{AreMembers, wanted_count};
 
 use crate::problems::{MULTIPLEXER, five_bit_numbers, problem_of};
-use crate::widths::pairs_of_three;
 use compaction::{SharedTables, Tallies, Tally, WidthSource, WidthsAhead, block_widths};
 use order_model::{Mask, Pairs, Problem};
-use std::alloc::{AllocError, Global};
-use std::process::Abort;
-use std::test::Fail;
+use std::alloc::Global;
 use subset_layers::{Block, Layer};
 
 /// The rows of a block by walks that look ahead to sets of three variables, and how many widths are
@@ -20,7 +17,7 @@ fn rows_by_walks(
     shared: &SharedTables<'_>,
     block: &Block,
     needed: &[Mask],
-) -> Result<(Vec<[u32; 16]>, Tallies), AllocError>
+) -> Option<(Vec<[u32; 16]>, Tallies)>
     requires inputs { block.now.inputs ≡ shared.now.inputs }
     requires needed { length needed.now ≡ length (block_masks block.now) }
     requires members { AreMembers shared.now (block_masks block.now) needed.now }
@@ -31,24 +28,23 @@ fn rows_by_walks(
     let mut tallies = Tallies::new();
     let pairs = Pairs::none(10);
     let walks = WidthSource::new(shared, &ahead, &pairs);
-    let widths = walks.block_rows(alloc, block, needed, &mut found, &mut tallies)?;
-    Ok((widths.into_rows(), tallies))
+    match walks.block_rows(alloc, block, needed, &mut found, &mut tallies) {
+        Ok(widths) => Some((widths.into_rows(), tallies)),
+        Err(_) => None,
+    }
 }
 
 /// The row of a set that is alone in its block, for which two widths are taken.
-fn row_by_itself(
-    rt: &impl Abort,
-    alloc: Global,
-    problem: &Problem,
-    block: &Block,
-) -> Result<[u32; 16], Fail> {
-    assert!(rt; problem.inputs() == block.inputs());
-    assert!(rt; block.len() == 1);
+fn row_by_itself(alloc: Global, problem: &Problem, block: &Block) -> Option<[u32; 16]> {
+    if problem.inputs() != block.inputs() || block.len() != 1 {
+        return None;
+    }
     let needed = block.mask(0);
     let mut tally = Tally::new();
-    let widths = block_widths(alloc, problem, block, &[needed], &mut tally)?;
-    assert!(rt; tally.count() == 2);
-    Ok(widths.row(0))
+    match block_widths(alloc, problem, block, &[needed], &mut tally) {
+        Ok(widths) if tally.count() == 2 => Some(widths.row(0)),
+        _ => None,
+    }
 }
 
 /// How many widths were found ahead, if the one row is this, and two widths were taken for it.
@@ -62,54 +58,86 @@ fn ahead_of_row(rows: Vec<[u32; 16]>, tallies: Tallies, row: [u32; 16]) -> Optio
 
 /// How many widths are found ahead by walks to a set that is alone in its block, if they give this
 /// row for it, for which two widths are taken.
-fn ahead_by_walks(
-    rt: &impl Abort,
-    alloc: Global,
-    problem: &Problem,
-    block: &Block,
-    row: [u32; 16],
-) -> Result<Option<u64>, Fail> {
-    assert!(rt; problem.inputs() == block.inputs());
-    assert!(rt; block.len() == 1);
+fn ahead_by_walks(alloc: Global, problem: &Problem, block: &Block, row: [u32; 16]) -> Option<u64> {
+    if problem.inputs() != block.inputs() || block.len() != 1 {
+        return None;
+    }
     let needed = block.mask(0);
-    assert!(rt; needed == 0x0003);
-    let shared = SharedTables::of(alloc, problem)?;
-    let (rows, tallies) = rows_by_walks(alloc, &shared, block, &[needed])?;
-    Ok(ahead_of_row(rows, tallies, row))
+    if needed != 0x0003 {
+        return None;
+    }
+    let Ok(shared) = SharedTables::of(alloc, problem) else {
+        return None;
+    };
+    match rows_by_walks(alloc, &shared, block, &[needed]) {
+        Some((rows, tallies)) => ahead_of_row(rows, tallies, row),
+        None => None,
+    }
 }
 
 /// The row of the set of the two lowest variables, alone in a block of a layer, by itself; and how
 /// many widths are found by walks that look ahead, if they give the same row.
 fn row_of_one(
-    rt: &impl Abort,
     alloc: Global,
     problem: &Problem,
     layer: &Layer,
     place: usize,
-) -> Result<([u32; 16], Option<u64>), Fail> {
-    assert!(rt; place < layer.blocks());
+) -> Option<([u32; 16], u64)> {
+    if place >= layer.blocks() {
+        return None;
+    }
     let block = layer.block(place);
-    let row = row_by_itself(rt, alloc, problem, &block)?;
-    let ahead = ahead_by_walks(rt, alloc, problem, &block, row)?;
-    Ok((row, ahead))
+    let Some(row) = row_by_itself(alloc, problem, &block) else {
+        return None;
+    };
+    match ahead_by_walks(alloc, problem, &block, row) {
+        Some(ahead) => Some((row, ahead)),
+        None => None,
+    }
 }
 
-#[test]
-fn row_of_one_set(rt: HostRuntime) -> Result<(), Fail> {
-    let problem = problem_of(&rt, rt.alloc(), MULTIPLEXER)?;
-    let layer = pairs_of_three(&rt, rt.alloc())?;
-    let (row, ahead) = row_of_one(&rt, rt.alloc(), &problem, &layer, 0)?;
-    assert!(rt; row == [1, 1, 0, 0, 0, 0, 0, 0, 0, 0, 0, 0, 0, 0, 0, 0] && ahead == Some(0));
-    Ok(())
+/// The same of a block of the sets of two variables, if a problem has as many as the layer.
+fn row_at(
+    alloc: Global,
+    problem: Option<Problem>,
+    inputs: u8,
+    place: usize,
+) -> Option<([u32; 16], u64)>
+    requires some { 2 ≤ inputs }
+    requires few { inputs ≤ 16 }
+{
+    let Some(problem) = problem else {
+        return None;
+    };
+    match Layer::of(alloc, inputs, 2) {
+        Ok(layer) => row_of_one(alloc, &problem, &layer, place),
+        Err(_) => None,
+    }
 }
 
-/// Of ten variables the walk goes on to two sets of three, with the ninth variable and with the
-/// tenth.
+/// Whether the multiplexer's row is this, and nothing is found ahead.
+fn has_row(alloc: Global, wanted: [u32; 16]) -> bool {
+    match row_at(alloc, problem_of(alloc, MULTIPLEXER), 3, 0) {
+        Some(found) => {
+            let row = found.0;
+            row == wanted && found.1 == 0
+        }
+        None => false,
+    }
+}
+
+/// How many widths are found ahead of a set of two of ten variables.
+fn found_ahead(alloc: Global) -> Option<u64> {
+    match row_at(alloc, five_bit_numbers(alloc), 10, 3) {
+        Some((_, ahead)) => Some(ahead),
+        None => None,
+    }
+}
+
+// Of ten variables the walk goes on to two sets of three, with the ninth variable and with the
+// tenth.
 #[test]
-fn row_of_one_set_of_ten_variables(rt: HostRuntime) -> Result<(), Fail> {
-    let numbers = five_bit_numbers(&rt, rt.alloc())?;
-    let layer = Layer::of(rt.alloc(), 10, 2)?;
-    let (_, ahead) = row_of_one(&rt, rt.alloc(), &numbers, &layer, 3)?;
-    assert!(rt; ahead == Some(6));
-    Ok(())
+fn rows_of_one_set(rt: HostRuntime) {
+    assert!(rt; has_row(rt.alloc(), [1, 1, 0, 0, 0, 0, 0, 0, 0, 0, 0, 0, 0, 0, 0, 0]));
+    assert!(rt; found_ahead(rt.alloc()) == Some(6));
 }

@@ -166,9 +166,7 @@ fn are_listed(cells: &[ListedCell], wanted: &[(Mask, u32)]) -> bool {
 fn is_of(cert: &Certificate, parts: &Parts) -> bool {
     let ((inputs, outputs), order, levels, total, pairs, cells) = parts;
     let format = if pairs.is_some() { 2 } else { 1 };
-    cert.format() == format
-        && cert.inputs() == *inputs
-        && cert.outputs() == *outputs
+    [cert.format(), cert.inputs(), cert.outputs()] == [format, *inputs, *outputs]
         && cert.order() == *order
         && cert.levels() == *levels
         && cert.total() == *total
@@ -177,16 +175,18 @@ fn is_of(cert: &Certificate, parts: &Parts) -> bool {
 }
 
 /// Whether a certificate's text is this.
-fn has_text(alloc: Global, cert: &Certificate, spelling: &str) -> Result<bool, AllocError> {
-    let text = cert.text(alloc)?;
-    Ok(text.as_str() == spelling)
+fn has_text(alloc: Global, cert: &Certificate, spelling: &str) -> bool {
+    match cert.text(alloc) {
+        Ok(text) => text.as_str() == spelling,
+        Err(_) => false,
+    }
 }
 
 /// Whether parts have a spelling, as which their certificate is written.
-fn is_written(alloc: Global, parts: &Parts, spelling: &str) -> Result<bool, AllocError> {
-    match certificate_of(alloc, parts)? {
-        Some(cert) => Ok(is_of(&cert, parts) && has_text(alloc, &cert, spelling) == Ok(true)),
-        None => Ok(false),
+fn is_written(alloc: Global, parts: &Parts, spelling: &str) -> bool {
+    match certificate_of(alloc, parts) {
+        Ok(Some(cert)) => is_of(&cert, parts) && has_text(alloc, &cert, spelling),
+        _ => false,
     }
 }
 
@@ -201,18 +201,23 @@ fn is_read(alloc: Global, parts: &Parts, spelling: &str) -> bool {
 #[test]
 fn spellings_are_written_and_read(rt: HostRuntime) {
     for (parts, spelling) in &SPELLED {
-        assert!(rt; is_written(rt.alloc(), parts, spelling) == Ok(true));
-        assert!(rt; is_read(rt.alloc(), parts, spelling));
+        assert!(rt;
+            is_written(rt.alloc(), parts, spelling) && is_read(rt.alloc(), parts, spelling)
+        );
     }
 }
 
-fn has_spelling(alloc: Global, parts: &Parts) -> Result<bool, AllocError> {
-    Ok(certificate_of(alloc, parts)?.is_some())
+/// Whether parts have no spelling.
+fn have_none(alloc: Global, parts: &Parts) -> bool {
+    match certificate_of(alloc, parts) {
+        Ok(cert) => cert.is_none(),
+        Err(_) => false,
+    }
 }
 
 #[test]
 fn other_parts_have_no_spelling(rt: HostRuntime) {
     for parts in &UNSPELLED {
-        assert!(rt; has_spelling(rt.alloc(), parts) == Ok(false));
+        assert!(rt; have_none(rt.alloc(), parts));
     }
 }

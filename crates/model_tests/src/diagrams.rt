@@ -2,33 +2,41 @@
 
 use order_model::{Diagram, Node, Order, Ref, eval};
 use std::alloc::Global;
-use std::test::Fail;
 
 /// Three inputs a, b, s: b if s is 1, else a.
 const MULTIPLEXER: u64 = 0b1100_1010;
 
+/// A node at each level of the order s, a, b, of which the last one is the root.
+static NODES: [Node; 3] = [
+    Node {
+        variable: 0,
+        low: Ref::Terminal(false),
+        high: Ref::Terminal(true),
+    },
+    Node {
+        variable: 1,
+        low: Ref::Terminal(false),
+        high: Ref::Terminal(true),
+    },
+    Node {
+        variable: 2,
+        low: Ref::Place(0),
+        high: Ref::Place(1),
+    },
+];
+
 /// The multiplexer's diagram under the order s, a, b.
-fn multiplexer(alloc: Global) -> Result<Diagram, Fail> {
-    let order = Order::try_from_slice(alloc, &[2, 0, 1])?;
-    let nodes = vec![in alloc;
-        Node {
-            variable: 0,
-            low: Ref::Terminal(false),
-            high: Ref::Terminal(true)
-        },
-        Node {
-            variable: 1,
-            low: Ref::Terminal(false),
-            high: Ref::Terminal(true)
-        },
-        Node {
-            variable: 2,
-            low: Ref::Place(0),
-            high: Ref::Place(1)
-        },
-    ]?;
-    let roots = vec![in alloc; Ref::Place(2)]?;
-    Ok(Diagram::new(order, nodes, roots))
+fn multiplexer(alloc: Global) -> Option<Diagram> {
+    let Ok(order) = Order::try_from_slice(alloc, &[2, 0, 1]) else {
+        return None;
+    };
+    let Ok(nodes) = NODES.to_vec(alloc) else {
+        return None;
+    };
+    let Ok(roots) = [Ref::Place(2)].to_vec(alloc) else {
+        return None;
+    };
+    Some(Diagram::new(order, nodes, roots))
 }
 
 /// Whether a diagram's one root has the multiplexer's values.
@@ -52,20 +60,24 @@ fn has_one_a_level(diagram: &Diagram) -> bool {
 }
 
 /// How many variables, nodes and roots a diagram hands out.
-fn lengths_of_parts(diagram: Diagram) -> (usize, usize, usize) {
+fn lengths_of_parts(diagram: Diagram) -> [usize; 3] {
     let (order, nodes, roots) = diagram.into_parts();
-    (order.len(), nodes.len(), roots.len())
+    [order.len(), nodes.len(), roots.len()]
+}
+
+/// Whether the multiplexer's diagram has its values, and three variables, three nodes and one root.
+fn is_as_it_was_made(alloc: Global) -> bool {
+    match multiplexer(alloc) {
+        Some(diagram) => {
+            is_multiplexer(&diagram)
+                && has_one_a_level(&diagram)
+                && lengths_of_parts(diagram) == [3, 3, 1]
+        }
+        None => false,
+    }
 }
 
 #[test]
-fn values_of_a_terminal(rt: HostRuntime) {
-    assert!(rt; eval(3, &[], Ref::Terminal(true), 0));
-}
-
-#[test]
-fn values_and_parts_of_a_diagram(rt: HostRuntime) -> Result<(), Fail> {
-    let diagram = multiplexer(rt.alloc())?;
-    assert!(rt; is_multiplexer(&diagram) && has_one_a_level(&diagram));
-    assert!(rt; lengths_of_parts(diagram) == (3, 3, 1));
-    Ok(())
+fn values_and_parts_of_diagrams(rt: HostRuntime) {
+    assert!(rt; eval(3, &[], Ref::Terminal(true), 0) && is_as_it_was_made(rt.alloc()));
 }

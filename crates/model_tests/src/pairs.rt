@@ -1,7 +1,7 @@
 //! Pairs that an order must keep.
 
 use order_model::{Order, Pairs, PairsFault, VarIx};
-use std::alloc::{AllocError, Global};
+use std::alloc::Global;
 
 /// Whether pairs have this fault.
 fn is_refused(pairs: Result<Pairs, PairsFault>, wanted: PairsFault) -> bool {
@@ -11,19 +11,30 @@ fn is_refused(pairs: Result<Pairs, PairsFault>, wanted: PairsFault) -> bool {
     }
 }
 
+/// Pairs that aren't pairs of three variables, with their faults.
+static REFUSED: [(&[(VarIx, VarIx)], PairsFault); 3] = [
+    (&[(0, 1), (0, 3)], PairsFault::PairOutOfRange),
+    (&[(0, 16)], PairsFault::PairOutOfRange),
+    (&[(1, 2), (2, 1)], PairsFault::PairCycle(1)),
+];
+
 #[test]
 fn faults_of_pairs(rt: HostRuntime) {
-    assert!(rt; is_refused(Pairs::parse(b" 0,1", 16), PairsFault::BadPair));
-    assert!(rt; is_refused(Pairs::of(&[(0, 1), (0, 3)], 3), PairsFault::PairOutOfRange));
-    assert!(rt; is_refused(Pairs::of(&[(0, 16)], 3), PairsFault::PairOutOfRange));
-    assert!(rt; is_refused(Pairs::of(&[(1, 2), (2, 1)], 3), PairsFault::PairCycle(1)));
-    assert!(rt; is_refused(Pairs::of(&[(0, 16)], 16), PairsFault::PairOutOfRange));
+    for (pairs, wanted) in &REFUSED {
+        assert!(rt; is_refused(Pairs::of(pairs, 3), *wanted));
+    }
+    assert!(rt;
+        is_refused(Pairs::parse(b" 0,1", 16), PairsFault::BadPair)
+            && is_refused(Pairs::of(&[(0, 16)], 16), PairsFault::PairOutOfRange)
+    );
 }
 
 /// Whether the pairs are 1 above 0 and 2 above 0.
-fn are_two(alloc: Global, pairs: &Pairs) -> Result<bool, AllocError> {
-    let listed = pairs.to_vec(alloc)?;
-    Ok(listed.as_slice() == [(1, 0), (2, 0)].as_slice())
+fn are_two(alloc: Global, pairs: &Pairs) -> bool {
+    match pairs.to_vec(alloc) {
+        Ok(listed) => listed.as_slice() == [(1, 0), (2, 0)].as_slice(),
+        Err(_) => false,
+    }
 }
 
 /// Whether there are two pairs of three variables, with 0 below 2 and nothing below 0.
@@ -34,7 +45,7 @@ fn have_zero_below_two(pairs: &Pairs) -> bool {
 /// Whether pairs that a text or a list gives are these two.
 fn are_those_two(alloc: Global, pairs: Result<Pairs, PairsFault>) -> bool {
     match pairs {
-        Ok(pairs) => have_zero_below_two(&pairs) && are_two(alloc, &pairs) == Ok(true),
+        Ok(pairs) => have_zero_below_two(&pairs) && are_two(alloc, &pairs),
         Err(_) => false,
     }
 }
@@ -71,33 +82,42 @@ fn are_kept(alloc: Global, pairs: &Pairs) -> bool {
         && !pairs.lawful(0b110)
 }
 
-#[test]
-fn orders_and_sets_that_keep_pairs(rt: HostRuntime) {
-    match Pairs::parse(b"2,0:1,0", 3) {
-        Ok(pairs) => assert!(rt; are_kept(rt.alloc(), &pairs)),
-        Err(_) => panic!(rt; "two pairs"),
+/// The same of the pairs of a text.
+fn is_kept(alloc: Global, text: &[u8]) -> bool {
+    match Pairs::parse(text, 3) {
+        Ok(pairs) => are_kept(alloc, &pairs),
+        Err(_) => false,
     }
 }
 
+#[test]
+fn orders_and_sets_that_keep_pairs(rt: HostRuntime) {
+    assert!(rt; is_kept(rt.alloc(), b"2,0:1,0"));
+}
+
 /// Whether the first order that keeps the pairs is this one.
-fn is_first(alloc: Global, pairs: &Pairs, wanted: &[VarIx]) -> Result<bool, AllocError> {
-    let order = pairs.first_order(alloc)?;
-    Ok(order.variables() == wanted)
+fn is_first(alloc: Global, pairs: &Pairs, wanted: &[VarIx]) -> bool {
+    match pairs.first_order(alloc) {
+        Ok(order) => order.variables() == wanted,
+        Err(_) => false,
+    }
 }
 
 /// Whether the first order that keeps the copies of a text's pairs of three variables is this one.
 fn is_first_of(alloc: Global, text: &[u8], wanted: &[VarIx]) -> bool {
     match Pairs::parse(text, 3) {
-        Ok(pairs) => is_first(alloc, &pairs.copied(), wanted) == Ok(true),
+        Ok(pairs) => is_first(alloc, &pairs.copied(), wanted),
         Err(_) => false,
     }
 }
+
+/// The sixteen variables.
+static ALL: [VarIx; 16] = [0, 1, 2, 3, 4, 5, 6, 7, 8, 9, 10, 11, 12, 13, 14, 15];
 
 #[test]
 fn first_orders_keep_pairs(rt: HostRuntime) {
     assert!(rt; is_first_of(rt.alloc(), b"2,0", &[1, 2, 0]));
     assert!(rt; is_first_of(rt.alloc(), b"0,2", &[0, 1, 2]));
     let none = Pairs::none(16);
-    let all = [0, 1, 2, 3, 4, 5, 6, 7, 8, 9, 10, 11, 12, 13, 14, 15];
-    assert!(rt; none.count() == 0 && is_first(rt.alloc(), &none, &all) == Ok(true));
+    assert!(rt; none.count() == 0 && is_first(rt.alloc(), &none, &ALL));
 }

@@ -34,19 +34,19 @@ fn dependence(alloc: Global, tables: &Tables, care: Mask, value: Mask) -> Result
 }
 
 /// Whether the cofactors of the interleaved products depend on what they should.
-fn have_dependences(alloc: Global, tables: &Tables) -> Result<bool, AllocError> {
+fn have_dependences(alloc: Global, tables: &Tables) -> bool {
     // Variable 0 is fixed to 0: variables 0 and 3 don't matter any more.
-    let without = dependence(alloc, tables, 1, 0)?;
+    let without = dependence(alloc, tables, 1, 0);
     // Variables 0 and 3 are fixed to 1: the function is 1.
-    let both = dependence(alloc, tables, 0b1001, 0b1001)?;
-    Ok(without == 0b110110 && both == 0)
+    let both = dependence(alloc, tables, 0b1001, 0b1001);
+    without == Ok(0b110110) && both == Ok(0)
 }
 
-#[test]
-fn tells_the_dependence_of_cofactors(rt: HostRuntime) {
-    match tables_of(&rt, rt.alloc(), INTERLEAVED) {
-        Some(tables) => assert!(rt; have_dependences(rt.alloc(), &tables) == Ok(true)),
-        None => panic!(rt; "no tables"),
+/// The same of a text's tables.
+fn has_dependences<R: Threads + Sync>(rt: &R, alloc: Global, text: &[u8]) -> bool {
+    match tables_of(rt, alloc, text) {
+        Some(tables) => have_dependences(alloc, &tables),
+        None => false,
     }
 }
 
@@ -77,16 +77,19 @@ fn have_values(tables: &Tables) -> bool {
     true
 }
 
-/// Whether these functions have their values, and where variable 15 is 1 the first one depends on
+/// Whether a text's functions have these values, and where variable 15 is 1 the first one depends on
 /// the variables 5 and 6.
-fn are_wide(alloc: Global, tables: &Tables) -> bool {
-    have_values(tables) && dependence(alloc, tables, 0x8000, 0x8000) == Ok(0x0060)
+fn is_wide<R: Threads + Sync>(rt: &R, alloc: Global, text: &[u8]) -> bool {
+    match tables_of(rt, alloc, text) {
+        Some(tables) => {
+            have_values(&tables) && dependence(alloc, &tables, 0x8000, 0x8000) == Ok(0x0060)
+        }
+        None => false,
+    }
 }
 
 #[test]
-fn holds_the_values_of_wide_covers(rt: HostRuntime) {
-    match tables_of(&rt, rt.alloc(), WIDE) {
-        Some(tables) => assert!(rt; are_wide(rt.alloc(), &tables)),
-        None => panic!(rt; "no tables"),
-    }
+fn tables_of_covers(rt: HostRuntime) {
+    assert!(rt; has_dependences(&rt, rt.alloc(), INTERLEAVED));
+    assert!(rt; is_wide(&rt, rt.alloc(), WIDE));
 }

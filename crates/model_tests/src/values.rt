@@ -4,11 +4,10 @@ ghost use Rattle.std.specs.Prelude.{◌≤◌};
 
 use order_model::packed::{bit_of, block, depends_on, lower_half, words_per_table};
 use order_model::{
-    BadOrder, Gate, NoGate, Order, Problem, Reserve, Reserves, VarIx, Workers, contains,
+    BadOrder, Gate, Mask, NoGate, Order, Problem, Reserve, Reserves, VarIx, Workers, contains,
     decimal_number, total,
 };
 use std::alloc::{AllocError, Global};
-use std::test::Fail;
 
 /// How many workers there are, if there may be so many.
 fn counted(count: u8) -> Option<u8> {
@@ -20,23 +19,38 @@ fn counted(count: u8) -> Option<u8> {
 
 #[test]
 fn workers(rt: HostRuntime) {
-    assert!(rt; counted(0).is_none() && counted(1) == Some(1));
-    assert!(rt; counted(64) == Some(64) && counted(65).is_none());
+    let counts = [counted(0), counted(1), counted(64), counted(65)];
+    assert!(rt; counts == [None, Some(1), Some(64), None]);
     NoGate.between(1, 7);
 }
 
+/// Texts, and the decimal numbers that they are.
+static NUMBERS: [(&[u8], Option<u32>); 7] = [
+    (b"0", Some(0)),
+    (b"007", Some(7)),
+    (b"999999999", Some(999_999_999)),
+    (b"", None),
+    (b"1000000000", None),
+    (b"+5", None),
+    (b"1a", None),
+];
+
 #[test]
 fn decimal_numbers(rt: HostRuntime) {
-    assert!(rt; decimal_number(b"0") == Some(0) && decimal_number(b"007") == Some(7));
-    assert!(rt; decimal_number(b"999999999") == Some(999_999_999));
-    assert!(rt; decimal_number(b"").is_none() && decimal_number(b"1000000000").is_none());
-    assert!(rt; decimal_number(b"+5").is_none() && decimal_number(b"1a").is_none());
+    for (text, wanted) in &NUMBERS {
+        assert!(rt; decimal_number(text) == *wanted);
+    }
 }
 
 #[test]
 fn members_of_sets(rt: HostRuntime) {
-    assert!(rt; contains(5, 2) && !contains(5, 1));
-    assert!(rt; contains(0x8000, 15) && !contains(0, 0));
+    let members = [
+        contains(5, 2),
+        contains(5, 1),
+        contains(0x8000, 15),
+        contains(0, 0),
+    ];
+    assert!(rt; members == [true, false, true, false]);
     assert!(rt; total(&[3, 0, 0xFFFF_FFFF]) == 0x1_0000_0002);
 }
 
@@ -48,59 +62,79 @@ fn is_refused(alloc: Global, list: &[VarIx], wanted: BadOrder) -> bool {
     }
 }
 
+/// Lists that are no orders, with their faults.
+static REFUSED: [(&[VarIx], BadOrder); 5] = [
+    (&[], BadOrder::OutOfRange),
+    (&[1, 1], BadOrder::NotEach),
+    (&[0, 2], BadOrder::OutOfRange),
+    (&[3, 0, 0], BadOrder::OutOfRange),
+    (
+        &[0, 1, 2, 3, 4, 5, 6, 7, 8, 9, 10, 11, 12, 13, 14, 15, 16],
+        BadOrder::OutOfRange,
+    ),
+];
+
 #[test]
 fn lists_that_are_no_orders(rt: HostRuntime) {
-    let alloc = rt.alloc();
-    assert!(rt; is_refused(alloc, &[], BadOrder::OutOfRange));
-    assert!(rt; is_refused(alloc, &[1, 1], BadOrder::NotEach));
-    assert!(rt; is_refused(alloc, &[0, 2], BadOrder::OutOfRange));
-    assert!(rt; is_refused(alloc, &[3, 0, 0], BadOrder::OutOfRange));
-    let seventeen = [0, 1, 2, 3, 4, 5, 6, 7, 8, 9, 10, 11, 12, 13, 14, 15, 16];
-    assert!(rt; is_refused(alloc, &seventeen, BadOrder::OutOfRange));
+    for (list, wanted) in &REFUSED {
+        assert!(rt; is_refused(rt.alloc(), list, *wanted));
+    }
 }
 
-/// Whether an order is this one, and so is its copy.
-fn is_order(alloc: Global, order: &Order, wanted: &[VarIx]) -> Result<bool, AllocError> {
-    let copy = order.try_clone(alloc)?;
-    let is_copied = copy.variables() == wanted;
-    Ok(is_copied && order.variables() == wanted)
+/// Whether an order is this one.
+fn is_order(order: &Order, wanted: &[VarIx]) -> bool {
+    order.variables() == wanted
 }
 
-/// Whether an order's list makes the same order again.
-fn is_made_again(alloc: Global, wanted: &[VarIx]) -> Result<bool, Fail> {
-    let order = Order::try_from_slice(alloc, wanted)?;
-    let listed = order.variables().to_vec(alloc)?;
-    Ok(Order::from_variables(listed).variables() == wanted)
+/// Whether an order and its copy are this one.
+fn is_copied(alloc: Global, order: &Order, wanted: &[VarIx]) -> bool {
+    match order.try_clone(alloc) {
+        Ok(copy) => is_order(&copy, wanted) && is_order(order, wanted),
+        Err(_) => false,
+    }
 }
 
-/// Whether the file order of four variables is this one.
-fn is_file_order(alloc: Global, wanted: &[VarIx]) -> Result<bool, AllocError> {
-    let order = Order::file_order(alloc, 4)?;
-    is_order(alloc, &order, wanted)
+/// Whether the list of an order makes the same order again.
+fn is_made_again(alloc: Global, wanted: &[VarIx]) -> bool {
+    let Ok(order) = Order::try_from_slice(alloc, wanted) else {
+        return false;
+    };
+    match order.variables().to_vec(alloc) {
+        Ok(listed) => is_order(&Order::from_variables(listed), wanted),
+        Err(_) => false,
+    }
 }
 
 /// Whether 2, 0, 1 is so ordered, and also once its two lowest are exchanged.
-fn is_exchanged(alloc: Global, order: &mut Order) -> Result<bool, AllocError> {
-    if order.len() != 3 || !is_order(alloc, order, &[2, 0, 1])? {
-        return Ok(false);
+fn is_exchanged(alloc: Global, order: &mut Order) -> bool {
+    if order.len() != 3 || !is_copied(alloc, order, &[2, 0, 1]) {
+        return false;
     }
     order.swap(1);
-    Ok(order.len() == 3 && order.place_of(0) == 2 && is_order(alloc, order, &[2, 1, 0])?)
+    order.len() == 3 && order.place_of(0) == 2 && is_copied(alloc, order, &[2, 1, 0])
 }
 
-#[test]
-fn orders_of_their_lists(rt: HostRuntime) -> Result<(), Fail> {
-    assert!(rt; is_made_again(rt.alloc(), &[2, 0, 1])?);
-    Ok(())
+/// Whether a list is such an order.
+fn lists_exchanged(alloc: Global, list: &[VarIx]) -> bool {
+    match Order::try_from_slice(alloc, list) {
+        Ok(mut order) => is_exchanged(alloc, &mut order),
+        Err(_) => false,
+    }
+}
+
+/// Whether the file order of four variables is this one.
+fn is_file_order(alloc: Global, wanted: &[VarIx]) -> bool {
+    match Order::file_order(alloc, 4) {
+        Ok(order) => is_copied(alloc, &order, wanted),
+        Err(_) => false,
+    }
 }
 
 #[test]
 fn orders(rt: HostRuntime) {
-    assert!(rt; is_file_order(rt.alloc(), &[0, 1, 2, 3]) == Ok(true));
-    match Order::try_from_slice(rt.alloc(), &[2, 0, 1]) {
-        Ok(mut order) => assert!(rt; is_exchanged(rt.alloc(), &mut order) == Ok(true)),
-        Err(_) => panic!(rt; "no order"),
-    }
+    assert!(rt; is_file_order(rt.alloc(), &[0, 1, 2, 3]));
+    let list = [2, 0, 1];
+    assert!(rt; is_made_again(rt.alloc(), &list) && lists_exchanged(rt.alloc(), &list));
 }
 
 /// Sets the value 1 at the given outputs and points, if the problem has them.
@@ -147,18 +181,17 @@ fn has_values(problem: &Problem, output: u8, wanted: &[bool]) -> bool {
 
 /// Whether a problem is the conjunction and the disjunction of two inputs.
 fn is_of_both(problem: &Problem) -> bool {
-    problem.inputs() == 2
-        && problem.outputs() == 2
+    [problem.inputs(), problem.outputs()] == [2, 2]
         && has_values(problem, 0, &[false, false, false, true])
         && has_values(problem, 1, &[false, true, true, true])
         && problem.essential() == 0b11
 }
 
-#[test]
-fn conjunction_and_disjunction(rt: HostRuntime) {
-    match problem_of(rt.alloc(), 2, 2, &[(0, 3), (1, 1), (1, 2), (1, 3)]) {
-        Ok(problem) => assert!(rt; is_of_both(&problem)),
-        Err(_) => panic!(rt; "memory"),
+/// Whether the values 1 at some points are the conjunction and the disjunction of two inputs.
+fn are_of_both(alloc: Global, ones: &[(u8, u32)]) -> bool {
+    match problem_of(alloc, 2, 2, ones) {
+        Ok(problem) => is_of_both(&problem),
+        Err(_) => false,
     }
 }
 
@@ -178,35 +211,39 @@ fn is_multiplexer(problem: &Problem) -> bool {
 }
 
 /// Whether the words of a problem with the multiplexer's values make such a problem again.
-fn is_made_of_words(alloc: Global, problem: &Problem) -> Result<bool, AllocError> {
+fn is_made_of_words(alloc: Global, problem: &Problem) -> bool {
     let (inputs, outputs) = (problem.inputs(), problem.outputs());
     if inputs != 3 || outputs != 1 {
-        return Ok(false);
+        return false;
     }
-    let words = problem.words(0).to_vec(alloc)?;
-    let same = Problem::from_words(inputs, outputs, words);
-    Ok(value_in(&same, 0, 6) == Some(true) && value_in(&same, 0, 5) == Some(false))
+    match problem.words(0).to_vec(alloc) {
+        Ok(words) => is_multiplexer(&Problem::from_words(inputs, outputs, words)),
+        Err(_) => false,
+    }
 }
 
-/// Whether a problem is the multiplexer, and its words have such values again.
-fn holds_in_its_words(alloc: Global, problem: &Problem) -> bool {
-    is_multiplexer(problem) && is_made_of_words(alloc, problem) == Ok(true)
+/// Whether the values 1 at some points are the multiplexer, whose words have such values again.
+fn are_of_multiplexer(alloc: Global, ones: &[(u8, u32)]) -> bool {
+    match problem_of(alloc, 3, 1, ones) {
+        Ok(problem) => is_multiplexer(&problem) && is_made_of_words(alloc, &problem),
+        Err(_) => false,
+    }
+}
+
+/// The variables on which a function of seven depends that is 1 at some points.
+fn essential_of(alloc: Global, ones: &[(u8, u32)]) -> Option<Mask> {
+    match problem_of(alloc, 7, 1, ones) {
+        Ok(problem) => Some(problem.essential()),
+        Err(_) => None,
+    }
 }
 
 #[test]
-fn multiplexer(rt: HostRuntime) {
-    match problem_of(rt.alloc(), 3, 1, &[(0, 1), (0, 3), (0, 6), (0, 7)]) {
-        Ok(problem) => assert!(rt; holds_in_its_words(rt.alloc(), &problem)),
-        Err(_) => panic!(rt; "memory"),
-    }
-}
-
-#[test]
-fn variables_past_the_first_word(rt: HostRuntime) {
-    match problem_of(rt.alloc(), 7, 1, &[(0, 64), (0, 127)]) {
-        Ok(problem) => assert!(rt; problem.essential() == 0b0111_1111),
-        Err(_) => panic!(rt; "memory"),
-    }
+fn functions_of_their_values(rt: HostRuntime) {
+    assert!(rt; are_of_both(rt.alloc(), &[(0, 3), (1, 1), (1, 2), (1, 3)]));
+    assert!(rt; are_of_multiplexer(rt.alloc(), &[(0, 1), (0, 3), (0, 6), (0, 7)]));
+    // variables past the first word
+    assert!(rt; essential_of(rt.alloc(), &[(0, 64), (0, 127)]) == Some(0b0111_1111));
 }
 
 /// The nodes that are counted on above the variable 0 of three, if its width is 2.
@@ -229,21 +266,31 @@ fn counts_on_what_is_left(problem: &Problem) -> bool {
         && above_the_first(problem, Reserve::Widths) == Some(3)
 }
 
+/// The same of two functions of three variables that are 1 at some points.
+fn count_on_what_is_left(alloc: Global, ones: &[(u8, u32)]) -> bool {
+    match problem_of(alloc, 3, 2, ones) {
+        Ok(problem) => counts_on_what_is_left(&problem),
+        Err(_) => false,
+    }
+}
+
 // The conjunction of 1 and 2, and the parity of 0, 1 and 2, of which two subfunctions depend on 0.
 #[test]
 fn nodes_above_a_set(rt: HostRuntime) {
     let ones = [(0, 6), (0, 7), (1, 1), (1, 2), (1, 4), (1, 7)];
-    match problem_of(rt.alloc(), 3, 2, &ones) {
-        Ok(problem) => assert!(rt; counts_on_what_is_left(&problem)),
-        Err(_) => panic!(rt; "memory"),
-    }
+    assert!(rt; count_on_what_is_left(rt.alloc(), &ones));
 }
 
 #[test]
 fn packed_words(rt: HostRuntime) {
-    assert!(rt; words_per_table(1) == 1 && words_per_table(6) == 1);
-    assert!(rt; words_per_table(7) == 2 && words_per_table(16) == 1024);
+    let counts = [
+        words_per_table(1),
+        words_per_table(6),
+        words_per_table(7),
+        words_per_table(16),
+    ];
+    assert!(rt; counts == [1, 1, 2, 1024]);
     assert!(rt; block(&[10, 11, 12, 13], 2, 1) == [12, 13].as_slice());
-    assert!(rt; bit_of(&[0, 4], 66) && !bit_of(&[0, 4], 65));
+    assert!(rt; [bit_of(&[0, 4], 66), bit_of(&[0, 4], 65)] == [true, false]);
     assert!(rt; lower_half(2) == 0x0f0f_0f0f_0f0f_0f0f);
 }

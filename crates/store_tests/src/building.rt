@@ -1,5 +1,5 @@
 //! Builds of small covers, by several workers, and in a full store.
-ghost use Rattle.std.specs.Prelude.{◌≡◌, ◌≤◌, length, IfOk, OnOk};
+ghost use Rattle.std.specs.Prelude.{◌≡◌, ◌≤◌, length, IfSome, OnOk};
 ghost use Rattle.unique_table.specs.Plans.{levels_of, order_of};
 ghost use Rattle.truth_table.specs.OfCovers.{AreTablesOf};
 ghost use Rattle.dd_builder.specs.Building.{IsForCover};
@@ -15,7 +15,6 @@ use pla_reader::{Cover, read_cover};
 use std::alloc::{AllocError, Global};
 use std::hint;
 use std::sync::atomic::{AtomicU64, Ordering};
-use std::test::Fail;
 use std::thread::Threads;
 use truth_table::Tables;
 use unique_table::{NodeId, Operation, Session, Store, StoreFull};
@@ -53,11 +52,17 @@ struct Input {
     ghost is_its_order: { length order ≡ cover.inputs },
 }
 
-fn read_input<R: Threads + Sync>(rt: &R, alloc: Global, text: &[u8]) -> Result<Input, Fail> {
-    let cover = read_cover(alloc, &mut Counting::new(text))?;
-    let tables = Tables::of_cover(rt, alloc, &cover)?;
-    let order = Order::file_order(alloc, cover.inputs())?;
-    Ok(Input {
+fn read_input<R: Threads + Sync>(rt: &R, alloc: Global, text: &[u8]) -> Option<Input> {
+    let Ok(cover) = read_cover(alloc, &mut Counting::new(text)) else {
+        return None;
+    };
+    let Ok(tables) = Tables::of_cover(rt, alloc, &cover) else {
+        return None;
+    };
+    let Ok(order) = Order::file_order(alloc, cover.inputs()) else {
+        return None;
+    };
+    Some(Input {
         cover,
         tables,
         order,
@@ -79,10 +84,19 @@ fn cover_size<R: Threads + Sync, G: Gate>(
     input: &Input,
     workers: Workers,
     gate: &G,
-) -> Result<Option<usize>, AllocError> {
-    let (store, session) = cover_store(alloc, &input.cover, &input.tables, &input.order)?;
-    let built = from_cover(rt, alloc, store, session, &input.cover, workers, gate);
-    Ok(size_of(built))
+) -> Option<usize> {
+    match cover_store(alloc, &input.cover, &input.tables, &input.order) {
+        Ok((store, session)) => size_of(from_cover(
+            rt,
+            alloc,
+            store,
+            session,
+            &input.cover,
+            workers,
+            gate,
+        )),
+        Err(_) => None,
+    }
 }
 
 // How many nodes `from_tables` gives in a fresh store.
@@ -92,46 +106,56 @@ fn tables_size<R: Threads + Sync, G: Gate>(
     input: &Input,
     workers: Workers,
     gate: &G,
-) -> Result<Option<usize>, AllocError> {
-    let (store, session) = tables_store(alloc, &input.tables, &input.order)?;
-    let built = from_tables(rt, alloc, store, session, &input.tables, workers, gate);
-    Ok(size_of(built))
+) -> Option<usize> {
+    match tables_store(alloc, &input.tables, &input.order) {
+        Ok((store, session)) => size_of(from_tables(
+            rt,
+            alloc,
+            store,
+            session,
+            &input.tables,
+            workers,
+            gate,
+        )),
+        Err(_) => None,
+    }
 }
 
-// Whether a cover's diagram has so many nodes, from its terms and from its truth tables.
+// Whether a text's cover has a diagram of so many nodes, from its terms and from its truth tables.
 fn has_size<R: Threads + Sync>(
-    rt: &R,
-    alloc: Global,
-    input: &Input,
-    size: usize,
-    workers: Workers,
-) -> Result<bool, AllocError> {
-    let from_terms = cover_size(rt, alloc, input, workers, &NoGate)?;
-    let from_tables = tables_size(rt, alloc, input, workers, &NoGate)?;
-    Ok(from_terms == Some(size) && from_tables == Some(size))
-}
-
-// The same of a cover that is read.
-fn text_has_size<R: Threads + Sync>(
     rt: &R,
     alloc: Global,
     text: &[u8],
     size: usize,
     workers: Workers,
-) -> Result<bool, Fail> {
-    let input = read_input(rt, alloc, text)?;
-    Ok(has_size(rt, alloc, &input, size, workers)?)
+) -> bool {
+    match read_input(rt, alloc, text) {
+        Some(input) => {
+            cover_size(rt, alloc, &input, workers, &NoGate) == Some(size)
+                && tables_size(rt, alloc, &input, workers, &NoGate) == Some(size)
+        }
+        None => false,
+    }
+}
+
+// Whether so many workers find the sizes of all covers.
+fn have_sizes<R: Threads + Sync>(rt: &R, alloc: Global, count: u8) -> bool {
+    let Some(workers) = Workers::new(count) else {
+        return false;
+    };
+    for (text, size) in &COVERS {
+        if !has_size(rt, alloc, text, *size, workers) {
+            return false;
+        }
+    }
+    true
 }
 
 #[test]
-fn builds_covers_under_their_file_orders(rt: HostRuntime) -> Result<(), Fail> {
+fn builds_covers_under_their_file_orders(rt: HostRuntime) {
     for count in [1u8, 2, 64] {
-        let workers = Workers::new(count).ok_or("workers")?;
-        for (text, size) in &COVERS {
-            assert!(rt; text_has_size(&rt, rt.alloc(), text, *size, workers)?);
-        }
+        assert!(rt; have_sizes(&rt, rt.alloc(), count));
     }
-    Ok(())
 }
 
 // Whether a diagram of six levels has one root and these level counts.
@@ -164,13 +188,20 @@ fn both_have_levels<R: Threads + Sync>(
     )
 }
 
+// The same by two workers of a cover that is read.
+fn text_has_levels<R: Threads + Sync>(rt: &R, alloc: Global, text: &[u8], wanted: &[u32]) -> bool {
+    let Some(workers) = Workers::new(2) else {
+        return false;
+    };
+    match read_input(rt, alloc, text) {
+        Some(input) => both_have_levels(rt, alloc, &input, workers, wanted),
+        None => false,
+    }
+}
+
 #[test]
-fn builds_diagrams_of_covers(rt: HostRuntime) -> Result<(), Fail> {
-    let workers = Workers::new(2).ok_or("workers")?;
-    let input = read_input(&rt, rt.alloc(), INTERLEAVED)?;
-    let counts = [1, 2, 4, 4, 2, 1];
-    assert!(rt; both_have_levels(&rt, rt.alloc(), &input, workers, &counts));
-    Ok(())
+fn builds_diagrams_of_covers(rt: HostRuntime) {
+    assert!(rt; text_has_levels(&rt, rt.alloc(), INTERLEAVED, &[1, 2, 4, 4, 2, 1]));
 }
 
 // Whether the operation gives the node of the conjunction of two variables.
@@ -186,19 +217,27 @@ fn gives_conjunction(store: &Store, session: &mut Session) -> Result<bool, Store
 }
 
 // The same in a fresh store, if it has two levels.
-fn gives_conjunction_in_fresh_store(alloc: Global, input: &Input) -> Result<bool, Fail> {
+fn gives_conjunction_in_fresh_store(alloc: Global, input: &Input) -> bool {
     if input.order.len() < 2 {
-        return Err("two levels".into());
+        return false;
     }
-    let (store, mut session) = cover_store(alloc, &input.cover, &input.tables, &input.order)?;
-    Ok(gives_conjunction(&store, &mut session)?)
+    match cover_store(alloc, &input.cover, &input.tables, &input.order) {
+        Ok((store, mut session)) => gives_conjunction(&store, &mut session) == Ok(true),
+        Err(_) => false,
+    }
+}
+
+// The same for a cover that is read.
+fn applies_operation<R: Threads + Sync>(rt: &R, alloc: Global, text: &[u8]) -> bool {
+    match read_input(rt, alloc, text) {
+        Some(input) => gives_conjunction_in_fresh_store(alloc, &input),
+        None => false,
+    }
 }
 
 #[test]
-fn applies_operations(rt: HostRuntime) -> Result<(), Fail> {
-    let input = read_input(&rt, rt.alloc(), PARITY)?;
-    assert!(rt; gives_conjunction_in_fresh_store(rt.alloc(), &input)?);
-    Ok(())
+fn applies_operations(rt: HostRuntime) {
+    assert!(rt; applies_operation(&rt, rt.alloc(), PARITY));
 }
 
 // Holds each of two workers at its first call until the other one has made one, for some turns at
@@ -259,10 +298,9 @@ fn meet_over_terms<R: Threads + Sync>(
     alloc: Global,
     input: &Input,
     workers: Workers,
-) -> Result<bool, AllocError> {
+) -> bool {
     let gate = Meeting::new();
-    let size = cover_size(rt, alloc, input, workers, &gate)?;
-    Ok(size == Some(16) && gate.saw_each(u64::MAX))
+    cover_size(rt, alloc, input, workers, &gate) == Some(16) && gate.saw_each(u64::MAX)
 }
 
 fn meet_over_restrictions<R: Threads + Sync>(
@@ -270,31 +308,9 @@ fn meet_over_restrictions<R: Threads + Sync>(
     alloc: Global,
     input: &Input,
     workers: Workers,
-) -> Result<bool, AllocError> {
+) -> bool {
     let gate = Meeting::new();
-    let size = tables_size(rt, alloc, input, workers, &gate)?;
-    Ok(size == Some(16) && gate.saw_each(0b1111))
-}
-
-// The same of both kinds of pieces.
-fn meet_over_both<R: Threads + Sync>(
-    rt: &R,
-    alloc: Global,
-    input: &Input,
-    workers: Workers,
-) -> Result<bool, AllocError> {
-    Ok(
-        meet_over_terms(rt, alloc, input, workers)?
-            && meet_over_restrictions(rt, alloc, input, workers)?,
-    )
-}
-
-#[test]
-fn two_workers_build_at_once(rt: HostRuntime) -> Result<(), Fail> {
-    let workers = Workers::new(2).ok_or("workers")?;
-    let input = read_input(&rt, rt.alloc(), SIXTEEN_ONES)?;
-    assert!(rt; meet_over_both(&rt, rt.alloc(), &input, workers)?);
-    Ok(())
+    tables_size(rt, alloc, input, workers, &gate) == Some(16) && gate.saw_each(0b1111)
 }
 
 // Fills a store of sixteen levels with nodes of the lowest five.
@@ -310,17 +326,22 @@ fn fill_lowest(store: &Store, session: &mut Session, alloc: Global) -> Result<()
 }
 
 // A store for a cover of sixteen variables that is full of nodes of the lowest five levels.
-fn full_store(alloc: Global, input: &Input) -> Result<(Store, Session), Fail>
-    ensures cover { IfOk result (λ r. IsForCover r.0.plan input.now.cover) }
-    ensures order { IfOk result (λ r. order_of r.0.plan ≡ input.now.order) }
-    ensures session { IfOk result (λ r. r.1.store ≡ r.0) }
+fn full_store(alloc: Global, input: &Input) -> Option<(Store, Session)>
+    ensures cover { IfSome result (λ r. IsForCover r.0.plan input.now.cover) }
+    ensures order { IfSome result (λ r. order_of r.0.plan ≡ input.now.order) }
+    ensures session { IfSome result (λ r. r.1.store ≡ r.0) }
 {
     if input.order.len() != 16 {
-        return Err("sixteen levels".into());
+        return None;
     }
-    let (store, mut session) = cover_store(alloc, &input.cover, &input.tables, &input.order)?;
-    fill_lowest(&store, &mut session, alloc)?;
-    Ok((store, session))
+    let Ok((store, mut session)) = cover_store(alloc, &input.cover, &input.tables, &input.order)
+    else {
+        return None;
+    };
+    match fill_lowest(&store, &mut session, alloc) {
+        Ok(()) => Some((store, session)),
+        Err(_) => None,
+    }
 }
 
 // Whether a build met a full store.
@@ -334,10 +355,19 @@ fn terms_meet_full_store<R: Threads + Sync>(
     alloc: Global,
     input: &Input,
     workers: Workers,
-) -> Result<bool, Fail> {
-    let (store, session) = full_store(alloc, input)?;
-    let built = from_cover(rt, alloc, store, session, &input.cover, workers, &NoGate);
-    Ok(met_full_store(built))
+) -> bool {
+    match full_store(alloc, input) {
+        Some((store, session)) => met_full_store(from_cover(
+            rt,
+            alloc,
+            store,
+            session,
+            &input.cover,
+            workers,
+            &NoGate,
+        )),
+        None => false,
+    }
 }
 
 // How many nodes are built if the store of a cover of sixteen variables is full.
@@ -346,34 +376,40 @@ fn size_from_full_store<R: Threads + Sync>(
     alloc: Global,
     input: &Input,
     workers: Workers,
-) -> Result<usize, Fail> {
+) -> Option<usize> {
     let crew = Crew::new(rt, workers, &NoGate);
-    let begun = full_store(alloc, input)?;
     let Input {
         cover,
         tables,
         order,
     } = input;
-    Ok(build_from(&crew, alloc, begun, cover, tables, order)?.size())
+    match full_store(alloc, input) {
+        Some(begun) => match build_from(&crew, alloc, begun, cover, tables, order) {
+            Ok(diagram) => Some(diagram.size()),
+            Err(_) => None,
+        },
+        None => None,
+    }
 }
 
-// Whether the terms meet a full store, and sixteen nodes are built all the same.
-fn tables_stand_in<R: Threads + Sync>(
-    rt: &R,
-    alloc: Global,
-    input: &Input,
-    workers: Workers,
-) -> Result<bool, Fail> {
-    Ok(
-        terms_meet_full_store(rt, alloc, input, workers)?
-            && size_from_full_store(rt, alloc, input, workers)? == 16,
-    )
+// Whether two workers that meet build the sixteen nodes of a cover from its terms and from its
+// truth tables, and both build them all the same if the terms meet a full store.
+fn builds_by_two<R: Threads + Sync>(rt: &R, alloc: Global, text: &[u8]) -> bool {
+    let Some(workers) = Workers::new(2) else {
+        return false;
+    };
+    match read_input(rt, alloc, text) {
+        Some(input) => {
+            meet_over_terms(rt, alloc, &input, workers)
+                && meet_over_restrictions(rt, alloc, &input, workers)
+                && terms_meet_full_store(rt, alloc, &input, workers)
+                && size_from_full_store(rt, alloc, &input, workers) == Some(16)
+        }
+        None => false,
+    }
 }
 
 #[test]
-fn truth_tables_stand_in_for_a_full_store(rt: HostRuntime) -> Result<(), Fail> {
-    let workers = Workers::new(2).ok_or("workers")?;
-    let input = read_input(&rt, rt.alloc(), SIXTEEN_ONES)?;
-    assert!(rt; tables_stand_in(&rt, rt.alloc(), &input, workers)?);
-    Ok(())
+fn two_workers_build_at_once_and_past_a_full_store(rt: HostRuntime) {
+    assert!(rt; builds_by_two(&rt, rt.alloc(), SIXTEEN_ONES));
 }

@@ -8,7 +8,6 @@ ghost use Rattle.store_tests.specs.Cases.{two_tables};
 
 use order_model::{Diagram, Order, Problem};
 use std::alloc::{AllocError, Global};
-use std::test::Fail;
 use unique_table::{CloseFault, NodeId, Pieces, Session, Store, StoreFull};
 
 fn two_functions(alloc: Global) -> Result<Problem, AllocError>
@@ -63,13 +62,6 @@ fn publish_output(store: &Store, session: &mut Session, output: u8, id: NodeId) 
     before == None && store.collect(session, piece) == Some(id)
 }
 
-// How a store was closed, and whether each published output was collected.
-#[derive(Drop)]
-struct Ending {
-    collected: bool,
-    closed: Result<Diagram, CloseFault>,
-}
-
 // Makes the two functions and publishes so many of them; with a node that no root reaches, if that
 // is wanted. Says whether each published output was collected.
 fn publish_both(
@@ -97,51 +89,42 @@ fn publish_both(
     Ok(collected)
 }
 
-// Closes a store for which so many of the two functions were published; with a node that no root
-// reaches, if that is wanted.
-fn close_both(alloc: Global, published: u8, further: bool) -> Result<Ending, Fail> {
-    let (store, mut session) = store_of_both(alloc)?;
-    let collected = publish_both(&store, &mut session, published, further)?;
-    let closed = store.into_closed(session).diagram(alloc);
-    Ok(Ending { collected, closed })
+// How a store is closed for which so many of the two functions were published, if each of these was
+// collected; with a node that no root reaches, if that is wanted.
+fn close_both(alloc: Global, published: u8, further: bool) -> Option<Result<Diagram, CloseFault>> {
+    let Ok((store, mut session)) = store_of_both(alloc) else {
+        return None;
+    };
+    match publish_both(&store, &mut session, published, further) {
+        Ok(true) => Some(store.into_closed(session).diagram(alloc)),
+        _ => None,
+    }
 }
 
-impl Ending {
-    // Whether all was collected, and the diagram has the three nodes of the two functions.
-    fn has_three_nodes(&self) -> bool {
-        match &self.closed {
-            Ok(diagram) => {
-                self.collected
-                    && diagram.size() == 3
-                    && &diagram.level_counts()[..3] == [2, 1, 0].as_slice()
-            }
-            Err(_) => false,
+// Whether a store of both closes to a diagram with the three nodes of the two functions.
+fn closes_to_three_nodes(alloc: Global, further: bool) -> bool {
+    match close_both(alloc, 2, further) {
+        Some(Ok(diagram)) => {
+            diagram.size() == 3 && &diagram.level_counts()[..3] == [2, 1, 0].as_slice()
         }
+        _ => false,
     }
+}
 
-    // Whether all was collected, and this root is missing.
-    fn lacks(&self, root: u8) -> bool {
-        match &self.closed {
-            Ok(_) => false,
-            Err(fault) => self.collected && *fault == CloseFault::MissingRoot(root),
-        }
+// Whether this root is missing, the least one that wasn't published.
+fn lacks(alloc: Global, root: u8) -> bool {
+    match close_both(alloc, root, false) {
+        Some(Err(fault)) => fault == CloseFault::MissingRoot(root),
+        _ => false,
     }
 }
 
 #[test]
-fn closes_to_three_nodes(rt: HostRuntime) -> Result<(), Fail> {
-    for further in [false, true] {
-        assert!(rt; close_both(rt.alloc(), 2, further)?.has_three_nodes());
-    }
-    Ok(())
-}
-
-#[test]
-fn tells_the_least_missing_root(rt: HostRuntime) -> Result<(), Fail> {
-    for published in [0, 1] {
-        assert!(rt; close_both(rt.alloc(), published, false)?.lacks(published));
-    }
-    Ok(())
+fn closes_stores(rt: HostRuntime) {
+    assert!(rt;
+        closes_to_three_nodes(rt.alloc(), false) && closes_to_three_nodes(rt.alloc(), true)
+    );
+    assert!(rt; lacks(rt.alloc(), 0) && lacks(rt.alloc(), 1));
 }
 
 // Whether two sessions of a store answer the same to a triple.
@@ -156,14 +139,17 @@ fn get_the_same_id(store: &Store, one: &mut Session, two: &mut Session) -> Resul
 }
 
 // The same of the sessions of a fresh store.
-fn fresh_sessions_get_the_same_id(alloc: Global) -> Result<bool, Fail> {
-    let (store, session) = store_of_both(alloc)?;
-    let (mut one, mut two) = store.split(session);
-    Ok(get_the_same_id(&store, &mut one, &mut two)?)
+fn fresh_sessions_get_the_same_id(alloc: Global) -> bool {
+    match store_of_both(alloc) {
+        Ok((store, session)) => {
+            let (mut one, mut two) = store.split(session);
+            get_the_same_id(&store, &mut one, &mut two) == Ok(true)
+        }
+        Err(_) => false,
+    }
 }
 
 #[test]
-fn sessions_get_the_same_id(rt: HostRuntime) -> Result<(), Fail> {
-    assert!(rt; fresh_sessions_get_the_same_id(rt.alloc())?);
-    Ok(())
+fn sessions_get_the_same_id(rt: HostRuntime) {
+    assert!(rt; fresh_sessions_get_the_same_id(rt.alloc()));
 }

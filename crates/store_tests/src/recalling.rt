@@ -6,7 +6,6 @@ ghost use Rattle.unique_table.specs.Sessions.{Knows};
 use op_cache::{recall, remember};
 use order_model::{Order, Problem};
 use std::alloc::{AllocError, Global};
-use std::test::Fail;
 use unique_table::{NodeId, Operation, Pieces, Session, Store};
 
 fn single(alloc: Global) -> Result<(Store, Session), AllocError>
@@ -36,9 +35,15 @@ fn recalls(store: &Store, session: &mut Session) -> bool
         && recall(store, session, Operation::And, 0, 0).is_none()
 }
 
+// The same of a store that is made.
+fn fresh_store_recalls(alloc: Global) -> bool {
+    match single(alloc) {
+        Ok((store, mut session)) => recalls(&store, &mut session),
+        Err(_) => false,
+    }
+}
+
 #[test]
-fn recalls_what_it_remembers(rt: HostRuntime) -> Result<(), Fail> {
-    let (store, mut session) = single(rt.alloc())?;
-    assert!(rt; recalls(&store, &mut session));
-    Ok(())
+fn recalls_what_it_remembers(rt: HostRuntime) {
+    assert!(rt; fresh_store_recalls(rt.alloc()));
 }

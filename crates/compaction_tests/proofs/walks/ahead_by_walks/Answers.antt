@@ -8,8 +8,8 @@ use Rattle.compaction.proofs.OwnMembers.{own_members}
 use Rattle.compaction_tests.proofs.walks.ahead_by_walks.Goals as goal
 
 pub rows_by_walks-requires-clause-members : goal.rows_by_walks-requires-clause-members
-rows_by_walks-requires-clause-members g c =
-    subst (λ (p : TruthTables). AreMembers p (block_masks c.args.block.now) (c.mask-needed.result ∷ [])) (sym c.in_ok-shared.ensures)
+rows_by_walks-requires-clause-members c =
+    subst (λ (p : TruthTables). AreMembers p (block_masks c.args.block.now) (c.mask-needed.result ∷ [])) (sym c.in-Ok.ensures)
     (λ i low x one.
     let l = c.len.ensures.value in
     let first : i ≡ 0 = omega arith in

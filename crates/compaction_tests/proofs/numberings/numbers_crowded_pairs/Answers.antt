@@ -1,8 +1,8 @@
 use Rattle.std.proofs.Common.{rules}
-use Rattle.compaction_tests.proofs.numberings.crowded_pairs_by_first_occurrence.Goals as goal
+use Rattle.compaction_tests.proofs.numberings.numbers_crowded_pairs.Goals as goal
 
 pub number_pairs-requires-clause-table : goal.number_pairs-requires-clause-table
-number_pairs-requires-clause-table g c =
+number_pairs-requires-clause-table c =
     let l = c.crowded_pairs-numbers.auto in
     record {
       paired = record { small_rank = search rules; short = search (l, rules); whole = (160, search rules) };
