@@ -1,6 +1,6 @@
 //! The board of a layer, and its machine.
 
-ghost use Rattle.std.specs.Prelude.{◌≡◌, ◌<◌, ◌≤◌, All, IfOk, IfSome, length, vec_len, [], ◌∷◌};
+ghost use Rattle.std.specs.Prelude.{◌≡◌, ◌<◌, ◌≤◌, All, length, [], ◌∷◌};
 ghost use Rattle.layer_core.specs.Settings.{cell_for, setting_of};
 ghost use Rattle.order_model.specs.declared.reserve.Reserve.TheVariants.{Variables};
 ghost use Rattle.layer_board.specs.Views.{first_seat};
@@ -9,28 +9,27 @@ ghost use Rattle.solver_tests.specs.Examples.{parity};
 use layer_board::{Board, BoardSeat, Claim, CloseError, PostRefused};
 use layer_core::{CellResult, Core, Event, Reply};
 use order_model::{Limit, Mask, Pairs, Problem, Reserve, Workers};
-use std::alloc::{AllocError, Global};
+use std::alloc::Global;
 use std::process::Abort;
-use std::test::Fail;
 use std::thread;
 use std::thread::Threads;
 use subset_layers::{Cell, Layer};
 
 /// The parity of four variables.
-fn parity_problem(alloc: Global) -> Result<Problem, AllocError>
-    ensures { IfOk result (λ p. p ≡ parity.problem) }
+fn parity_problem(rt: &impl Abort, alloc: Global) -> Problem
+    ensures { result ≡ parity.problem }
 {
-    let words = words(alloc, 0x6996)?;
-    Ok(Problem::from_words(4, 1, words))
+    let words = words(rt, alloc, 0x6996);
+    Problem::from_words(4, 1, words)
 }
 
 /// One word.
-fn words(alloc: Global, word: u64) -> Result<Vec<u64>, AllocError>
-    ensures { IfOk result (λ v. v.items ≡ word ∷ []) }
+fn words(rt: &impl Abort, alloc: Global, word: u64) -> Vec<u64>
+    ensures { result.items ≡ word ∷ [] }
 {
     let mut words = Vec::new(alloc);
-    words.push(word)?;
-    Ok(words)
+    words.push(word).expect(rt, "memory");
+    words
 }
 
 /// A bound, with one node counted on for each essential variable outside a set.
@@ -55,54 +54,50 @@ fn parity_cell(problem: &Problem, mask: Mask, cost: u32, pairs: &Pairs) -> CellR
     CellResult::new(problem, limit(7), mask, Cell { cost, variable: 0 }, pairs)
 }
 
-/// A board and its only seat.
-fn with_only_seat(board: Board, mut seats: Vec<BoardSeat>) -> Option<(Board, BoardSeat)>
-    requires { All (λ s. s ≡ first_seat board) seats.items }
-    ensures board { IfSome result (λ r. r.0 ≡ board) }
-    ensures seat { IfSome result (λ r. r.1.board ≡ board) }
+/// The only seat of a board.
+fn only_seat(rt: &impl Abort, board: &Board, mut seats: Vec<BoardSeat>) -> BoardSeat
+    requires { All (λ s. s ≡ first_seat board.now) seats.items }
+    ensures { result.board ≡ board.now }
 {
-    let count = seats.len();
-    let seat = seats.pop()?;
-    if count == 1 {
-        Some((board, seat))
-    } else {
-        None
-    }
+    assert!(rt; seats.len() == 1);
+    seats.pop().expect(rt, "one seat")
 }
 
 /// A board of a layer, and the seat of a lone worker.
 pub(crate) fn lone_board(
+    rt: &impl Abort,
     alloc: Global,
     problem: &Problem,
     pairs: &Pairs,
     limit: Limit,
     layer: &Layer,
-) -> Result<(Board, BoardSeat), Fail>
+) -> (Board, BoardSeat)
     requires { layer.now.inputs ≡ problem.now.inputs }
-    ensures setting { IfOk result
-        (λ r. r.0.brief.setting ≡ setting_of problem.now pairs.now limit) }
-    ensures layer { IfOk result (λ r. r.0.brief.layer ≡ layer.now) }
-    ensures seat { IfOk result (λ r. r.1.board ≡ r.0) }
+    ensures setting { result.0.brief.setting ≡ setting_of problem.now pairs.now limit }
+    ensures layer { result.0.brief.layer ≡ layer.now }
+    ensures seat { result.1.board ≡ result.0 }
 {
-    let one = Workers::new(1).ok_or("one worker")?;
-    let (board, seats) = Board::new(alloc, problem, limit, layer, one, pairs)?;
-    Ok(with_only_seat(board, seats).ok_or("one seat")?)
+    let one = Workers::new(1).expect(rt, "one worker");
+    let made = Board::new(alloc, problem, limit, layer, one, pairs);
+    let (board, seats) = made.expect(rt, "memory");
+    let seat = only_seat(rt, &board, seats);
+    (board, seat)
 }
 
 /// The board of the sets of two variables, and the seat of a lone worker.
 fn board_of_twos(
+    rt: &impl Abort,
     alloc: Global,
     problem: &Problem,
     pairs: &Pairs,
     bound: u32,
-) -> Result<(Board, BoardSeat), Fail>
-    ensures setting { IfOk result
-        (λ r. r.0.brief.setting ≡ setting_of problem.now pairs.now (record
-        { bound = bound; reserve = Variables })) }
-    ensures seat { IfOk result (λ r. r.1.board ≡ r.0) }
+) -> (Board, BoardSeat)
+    ensures setting { result.0.brief.setting ≡ setting_of problem.now pairs.now (record
+        { bound = bound; reserve = Variables }) }
+    ensures seat { result.1.board ≡ result.0 }
 {
-    let layer = Layer::of(alloc, problem.inputs(), 2)?;
-    lone_board(alloc, problem, pairs, limit(bound), &layer)
+    let layer = Layer::of(alloc, problem.inputs(), 2).expect(rt, "memory");
+    lone_board(rt, alloc, problem, pairs, limit(bound), &layer)
 }
 
 /// A place, how many sets its block has, and the first of them.
@@ -140,6 +135,15 @@ fn has_no_more(board: &Board, seat: &mut BoardSeat) -> bool
     once && twice
 }
 
+/// Whether a seat cannot post a cell, since it did not claim its mask.
+pub(crate) fn is_stranger(board: &Board, seat: &mut BoardSeat, cell: CellResult) -> bool
+    requires seat { seat.old.board ≡ board.now }
+    requires setting { cell.setting ≡ board.now.brief.setting }
+    ensures { seat.new.board ≡ board.now }
+{
+    board.post(seat, cell) == Err(PostRefused::Stranger)
+}
+
 /// Posts and reads while the first block alone is claimed.
 #[tactic(auto, using(crate::proofs::Parity::cell_3, crate::proofs::Parity::cell_5, crate::proofs::Parity::cell_7))]
 fn post_and_read(
@@ -157,19 +161,17 @@ fn post_and_read(
     ensures { seat.new.board ≡ board.now }
 {
     // The second block is not this seat's, and the mask 0007 is not in the layer.
-    let answers = [
-        board.post(seat, parity_cell(problem, 5, 4, pairs)),
-        board.post(seat, parity_cell(problem, 7, 6, pairs)),
-        board.post(seat, parity_cell(problem, 3, 4, pairs)),
-        board.post(seat, parity_cell(problem, 3, 4, pairs)),
-    ];
-    let stranger = Err(PostRefused::Stranger);
-    assert!(rt; answers == [stranger, stranger, Ok(()), Err(PostRefused::Double)]);
+    assert!(rt; is_stranger(board, seat, parity_cell(problem, 5, 4, pairs)));
+    assert!(rt; is_stranger(board, seat, parity_cell(problem, 7, 6, pairs)));
+    let once = board.post(seat, parity_cell(problem, 3, 4, pairs));
+    let twice = board.post(seat, parity_cell(problem, 3, 4, pairs));
+    assert!(rt; once == Ok(()) && twice == Err(PostRefused::Double));
     let three = Cell {
         cost: 4,
         variable: 0,
     };
-    assert!(rt; [board.read(seat, 3), board.read(seat, 5)] == [Some(three), None]);
+    assert!(rt; board.read(seat, 3) == Some(three));
+    assert!(rt; board.read(seat, 5).is_none());
 }
 
 /// Why a board does not close.
@@ -204,22 +206,21 @@ fn claim_and_post(
 }
 
 #[test]
-fn board_of_the_second_layer(rt: HostRuntime) -> Result<(), Fail> {
-    let problem = parity_problem(rt.alloc())?;
+fn board_of_the_second_layer(rt: HostRuntime) {
+    let problem = parity_problem(&rt, rt.alloc());
     let pairs = Pairs::none(4);
-    let (board, mut seat) = board_of_twos(rt.alloc(), &problem, &pairs, 7)?;
+    let (board, mut seat) = board_of_twos(&rt, rt.alloc(), &problem, &pairs, 7);
     claim_and_post(&rt, &board, &mut seat, &problem, &pairs);
     assert!(rt; error_of_closing(rt.alloc(), board, seat) == Some(CloseError::Missing(5)));
-    Ok(())
 }
 
 /// The machine of the sets of two of four variables, with two workers.
-fn core_of_two(alloc: Global) -> Result<Core, Fail>
-    ensures { IfOk result (λ c. length c.workers ≡ 2) }
+fn core_of_two(rt: &impl Abort, alloc: Global) -> Core
+    ensures { length result.workers ≡ 2 }
 {
-    let two = Workers::new(2).ok_or("two workers")?;
-    let layer = Layer::of(alloc, 4, 2)?;
-    Ok(Core::new(alloc, &layer, two)?)
+    let two = Workers::new(2).expect(rt, "two workers");
+    let layer = Layer::of(alloc, 4, 2).expect(rt, "memory");
+    Core::new(alloc, &layer, two).expect(rt, "memory")
 }
 
 /// Posts the cell of 0005 for a worker.
@@ -279,12 +280,11 @@ fn claim_by_two(rt: &impl Abort, core: &mut Core)
 }
 
 #[test]
-fn events_of_two_workers(rt: HostRuntime) -> Result<(), Fail> {
-    let problem = parity_problem(rt.alloc())?;
-    let mut core = core_of_two(rt.alloc())?;
+fn events_of_two_workers(rt: HostRuntime) {
+    let problem = parity_problem(&rt, rt.alloc());
+    let mut core = core_of_two(&rt, rt.alloc());
     post_by_two(&rt, &mut core, &problem, &Pairs::none(4));
     claim_by_two(&rt, &mut core);
-    Ok(())
 }
 
 /// The first five blocks of the sets of two of ten variables: 0300, 0101 and 0201, 0102 and 0202,
@@ -302,13 +302,9 @@ fn claim_at(rt: &impl Abort, board: &Board, seat: &mut BoardSeat, place: usize) 
     requires { seat.old.board ≡ board.now }
     ensures { seat.new.board ≡ board.now }
 {
-    match board.claim(seat) {
-        Some(claim) => {
-            assert!(rt; claim.place() == place);
-            claim.block().len()
-        },
-        None => panic!(rt; "no block"),
-    }
+    let claim = board.claim(seat).expect(rt, "a block");
+    assert!(rt; claim.place() == place);
+    claim.block().len()
 }
 
 /// Claims the 37 blocks, of which none is stepped over.
@@ -324,11 +320,10 @@ fn claim_all(rt: &impl Abort, board: &Board, seat: &mut BoardSeat)
 }
 
 #[test]
-fn blocks_of_the_sets_of_two(rt: HostRuntime) -> Result<(), Fail> {
-    let problem = Problem::new(rt.alloc(), 10, 1)?;
-    let (board, mut seat) = board_of_twos(rt.alloc(), &problem, &Pairs::none(10), 9)?;
+fn blocks_of_the_sets_of_two(rt: HostRuntime) {
+    let problem = Problem::new(rt.alloc(), 10, 1).expect(&rt, "memory");
+    let (board, mut seat) = board_of_twos(&rt, rt.alloc(), &problem, &Pairs::none(10), 9);
     claim_all(&rt, &board, &mut seat);
-    Ok(())
 }
 
 /// Claims until there is no block left: bit p of the answer stands for the block at place p.
@@ -349,35 +344,33 @@ fn draw(board: &Board, mut seat: BoardSeat) -> u64
 }
 
 /// The same by a thread for each seat.
-fn draw_all<R: Threads + Sync>(
-    rt: &R,
-    board: &Board,
-    seats: Vec<BoardSeat>,
-) -> Result<Vec<u64>, AllocError>
+fn draw_all<R: Abort + Threads + Sync>(rt: &R, board: &Board, seats: Vec<BoardSeat>) -> Vec<u64>
     requires { All (λ s. s ≡ first_seat board.now) seats.items }
-    ensures { IfOk result (λ v. vec_len v ≡ vec_len seats) }
 {
-    thread::map_vec(
+    let drawn = thread::map_vec(
         rt,
         seats,
         &|seat: BoardSeat| -> u64
             requires { seat ≡ first_seat board.now }
         { draw(board, seat) },
-    )
+    );
+    drawn.expect(rt, "memory")
 }
 
-/// The blocks that each of two workers claims of the sets of two of four variables.
-fn draw_by_two<R: Threads + Sync>(
+/// The blocks that each of two workers claims of a layer.
+fn draw_by_two<R: Abort + Threads + Sync>(
     rt: &R,
     alloc: Global,
     problem: &Problem,
-) -> Result<Vec<u64>, Fail>
-    requires { problem.now.inputs ≡ 4 }
+    layer: &Layer,
+) -> Vec<u64>
+    requires { layer.now.inputs ≡ problem.now.inputs }
 {
-    let two = Workers::new(2).ok_or("two workers")?;
-    let layer = Layer::of(alloc, 4, 2)?;
-    let (board, seats) = Board::new(alloc, problem, limit(7), &layer, two, &Pairs::none(4))?;
-    Ok(draw_all(rt, &board, seats)?)
+    let two = Workers::new(2).expect(rt, "two workers");
+    let pairs = Pairs::none(problem.inputs());
+    let made = Board::new(alloc, problem, limit(7), layer, two, &pairs);
+    let (board, seats) = made.expect(rt, "memory");
+    draw_all(rt, &board, seats)
 }
 
 /// Whether each of six blocks was drawn by one of two workers.
@@ -386,9 +379,9 @@ fn are_shared(drawn: &[u64]) -> bool {
 }
 
 #[test]
-fn two_threads_share_the_blocks(rt: HostRuntime) -> Result<(), Fail> {
-    let problem = parity_problem(rt.alloc())?;
-    let drawn = draw_by_two(&rt, rt.alloc(), &problem)?;
+fn two_threads_share_the_blocks(rt: HostRuntime) {
+    let problem = parity_problem(&rt, rt.alloc());
+    let layer = Layer::of(rt.alloc(), 4, 2).expect(&rt, "memory");
+    let drawn = draw_by_two(&rt, rt.alloc(), &problem, &layer);
     assert!(rt; are_shared(&drawn));
-    Ok(())
 }

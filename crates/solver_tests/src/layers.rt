@@ -1,12 +1,11 @@
 //! Worked layers, blocks and cells.
 
-ghost use Rattle.std.specs.Prelude.{◌≡◌, ◌+◌, ◌<◌, IfOk};
+ghost use Rattle.std.specs.Prelude.{◌≡◌, ◌+◌, ◌<◌};
 
 use crate::solutions::tables_of;
-use order_model::{Mask, Pairs, Problem, Reserve, Reserves};
-use std::alloc::{AllocError, Global};
+use order_model::{Mask, Pairs, Reserve, Reserves};
+use std::alloc::Global;
 use std::process::Abort;
-use std::test::Fail;
 use subset_layers::{Cell, Costs, Layer, least_cell};
 
 /// Low bytes of sets, how many sets have each, and the first of these.
@@ -48,10 +47,9 @@ fn has_sets(layer: &Layer) -> bool {
 }
 
 #[test]
-fn sets_of_two_of_ten_variables(rt: HostRuntime) -> Result<(), Fail> {
-    let layer = Layer::of(rt.alloc(), 10, 2)?;
+fn sets_of_two_of_ten_variables(rt: HostRuntime) {
+    let layer = Layer::of(rt.alloc(), 10, 2).expect(&rt, "memory");
     assert!(rt; has_sets(&layer) && has_blocks(&layer));
-    Ok(())
 }
 
 /// Of each set of a layer of the multiplexer (the variable 2 selects 0 or 1) the widths of the
@@ -83,12 +81,12 @@ fn cell_of(row: &Row) -> Cell {
 }
 
 /// The cells of rows.
-fn cells_of(alloc: Global, rows: &[Row]) -> Result<Vec<Cell>, AllocError> {
+fn cells_of(rt: &impl Abort, alloc: Global, rows: &[Row]) -> Vec<Cell> {
     let mut cells = Vec::new(alloc);
     for row in rows {
-        cells.push(cell_of(row))?;
+        cells.push(cell_of(row)).expect(rt, "memory");
     }
-    Ok(cells)
+    cells
 }
 
 /// Whether the cells of a layer's sets, over the costs of the layer before, are those of the rows.
@@ -140,75 +138,54 @@ fn costs_of(rt: &impl Abort, layer: Layer, cells: Vec<Cell>, rows: &[Row]) -> Co
 fn next_costs(
     rt: &impl Abort,
     alloc: Global,
-    costs: &Costs,
-    reserves: &Reserves<'_>,
-    size: u8,
-    rows: &[Row],
-) -> Result<Costs, AllocError>
-    requires inputs { costs.now.inputs ≡ 3 }
-    requires functions { reserves.now.problem.inputs ≡ 3 }
-    requires next { size ≡ costs.now.size + 1 }
-    ensures inputs { IfOk result (λ c. c.inputs ≡ 3) }
-    ensures size { IfOk result (λ c. c.size ≡ size) }
-{
-    let layer = Layer::of(alloc, 3, size)?;
-    assert!(rt; are_least(&layer, costs, reserves, rows));
-    let cells = cells_of(alloc, rows)?;
-    Ok(costs_of(rt, layer, cells, rows))
-}
-
-/// The same, where the costs are not used again.
-fn costs_after(
-    rt: &impl Abort,
-    alloc: Global,
     costs: Costs,
     reserves: &Reserves<'_>,
     size: u8,
     rows: &[Row],
-) -> Result<Costs, AllocError>
+) -> Costs
     requires inputs { costs.inputs ≡ 3 }
     requires functions { reserves.now.problem.inputs ≡ 3 }
     requires next { size ≡ costs.size + 1 }
-    ensures inputs { IfOk result (λ c. c.inputs ≡ 3) }
-    ensures size { IfOk result (λ c. c.size ≡ size) }
+    ensures inputs { result.inputs ≡ 3 }
+    ensures size { result.size ≡ size }
 {
-    next_costs(rt, alloc, &costs, reserves, size, rows)
+    let layer = Layer::of(alloc, 3, size).expect(rt, "memory");
+    assert!(rt; are_least(&layer, &costs, reserves, rows));
+    let cells = cells_of(rt, alloc, rows);
+    costs_of(rt, layer, cells, rows)
 }
 
 /// The costs of the empty set alone.
-fn first_costs(rt: &impl Abort, alloc: Global) -> Result<Costs, AllocError>
-    ensures inputs { IfOk result (λ c. c.inputs ≡ 3) }
-    ensures size { IfOk result (λ c. c.size ≡ 0) }
+fn first_costs(rt: &impl Abort, alloc: Global) -> Costs
+    ensures inputs { result.inputs ≡ 3 }
+    ensures size { result.size ≡ 0 }
 {
-    let costs = Costs::start(alloc, 3)?;
+    let costs = Costs::start(alloc, 3).expect(rt, "memory");
     assert!(rt; costs.cost_of(0x0000) == Some(0) && costs.cell_of(0x0000).is_none());
-    Ok(costs)
+    costs
 }
 
-/// The costs of the layer of all three variables, each layer's made from those of the one before.
-fn last_costs(rt: &impl Abort, alloc: Global, reserves: &Reserves<'_>) -> Result<Costs, AllocError>
+/// Goes through the layers, each layer's costs made from those of the one before.
+fn check_layers(rt: &impl Abort, alloc: Global, reserves: &Reserves<'_>)
     requires { reserves.now.problem.inputs ≡ 3 }
 {
-    let costs = first_costs(rt, alloc)?;
-    let costs = costs_after(rt, alloc, costs, reserves, 1, &ONE)?;
+    let costs = first_costs(rt, alloc);
+    let costs = next_costs(rt, alloc, costs, reserves, 1, &ONE);
     assert!(rt; costs.cost_of(0x0003).is_none());
-    let costs = costs_after(rt, alloc, costs, reserves, 2, &TWO)?;
-    costs_after(rt, alloc, costs, reserves, 3, &THREE)
+    let costs = next_costs(rt, alloc, costs, reserves, 2, &TWO);
+    let costs = next_costs(rt, alloc, costs, reserves, 3, &THREE);
+    assert!(rt; costs.inputs() == 3);
 }
 
 static MULTIPLEXER: &[u8] = b".i 3\n.o 1\n1-0 1\n-11 1\n.e\n";
 
-/// Goes through all layers of some functions, which are those of the multiplexer.
-fn check_layers(rt: &impl Abort, alloc: Global, problem: &Problem) -> Result<(), AllocError> {
-    assert!(rt; problem.inputs() == 3);
-    let reserves = Reserves::new(problem, Reserve::Variables);
-    assert!(rt; last_costs(rt, alloc, &reserves)?.inputs() == 3);
-    Ok(())
-}
-
 #[test]
-fn cells_of_the_multiplexer(rt: HostRuntime) -> Result<(), Fail> {
-    let tables = tables_of(&rt, rt.alloc(), MULTIPLEXER)?;
-    check_layers(&rt, rt.alloc(), tables.problem())?;
-    Ok(())
+fn cells_of_the_multiplexer(rt: HostRuntime) {
+    let tables = tables_of(&rt, rt.alloc(), MULTIPLEXER);
+    assert!(rt; tables.problem().inputs() == 3);
+    check_layers(
+        &rt,
+        rt.alloc(),
+        &Reserves::new(tables.problem(), Reserve::Variables),
+    );
 }

@@ -5,9 +5,8 @@ ghost use Rattle.std.specs.Prelude.{◌<◌, length};
 use crate::solutions::{manager_of, tables_of};
 use order_model::VarIx;
 use sifting::Manager;
-use std::alloc::{AllocError, Global};
+use std::alloc::Global;
 use std::process::Abort;
-use std::test::Fail;
 use std::thread::Threads;
 
 // Three products of two of six inputs, x and x + 3.
@@ -18,9 +17,8 @@ static SUM: &[u8] =
     b".i 4\n.o 3\n10-- 100\n01-- 100\n1100 010\n1111 010\n0-10 010\n-010 010\n0-01 010\n-001 010\n--11 001\n111- 001\n11-1 001\n.e\n";
 
 /// The manager of a cover's functions under the file order.
-fn managed<R: Threads + Sync>(rt: &R, alloc: Global, text: &[u8]) -> Result<Manager, Fail> {
-    let tables = tables_of(rt, alloc, text)?;
-    manager_of(alloc, &tables)
+fn managed<R: Abort + Threads + Sync>(rt: &R, alloc: Global, text: &[u8]) -> Manager {
+    manager_of(rt, alloc, &tables_of(rt, alloc, text))
 }
 
 /// A variable, the sizes with it on each level, and the order after it.
@@ -37,49 +35,34 @@ static STEPS: [Step; 6] = [
 ];
 
 /// The manager with a level and the next one exchanged.
-fn swapped(
-    rt: &impl Abort,
-    alloc: Global,
-    manager: Manager,
-    level: usize,
-) -> Result<Manager, AllocError>
+fn swapped(rt: &impl Abort, alloc: Global, manager: Manager, level: usize) -> Manager
     requires { level < 16 }
 {
     assert!(rt; level + 1 < manager.order().len() && manager.may_swap(level));
-    manager.swap(alloc, level)
+    manager.swap(alloc, level).expect(rt, "memory")
 }
 
 /// The manager with a variable on top.
-fn lifted(
-    rt: &impl Abort,
-    alloc: Global,
-    manager: Manager,
-    x: VarIx,
-) -> Result<Manager, AllocError> {
+fn lifted(rt: &impl Abort, alloc: Global, manager: Manager, x: VarIx) -> Manager {
     assert!(rt; usize::from(x) < manager.order().len());
     let from = manager.order().place_of(x);
     let mut manager = manager;
     for level in (0..from).rev() {
-        manager = swapped(rt, alloc, manager, level)?;
+        manager = swapped(rt, alloc, manager, level);
     }
-    Ok(manager)
+    manager
 }
 
 /// The manager with the variable on top on the lowest of six levels, if the sizes with it on each
 /// level, top first, are these.
-fn lowered(
-    rt: &impl Abort,
-    alloc: Global,
-    manager: Manager,
-    sizes: &[u32; 6],
-) -> Result<Manager, AllocError> {
+fn lowered(rt: &impl Abort, alloc: Global, manager: Manager, sizes: &[u32; 6]) -> Manager {
     let mut manager = manager;
     for level in 0..5usize {
         assert!(rt; manager.size() == sizes[level]);
-        manager = swapped(rt, alloc, manager, level)?;
+        manager = swapped(rt, alloc, manager, level);
     }
     assert!(rt; manager.size() == sizes[5]);
-    Ok(manager)
+    manager
 }
 
 /// The manager with a variable where `put_best` puts it, if the order is this one.
@@ -89,42 +72,39 @@ fn put_best(
     manager: Manager,
     x: VarIx,
     order: &[VarIx],
-) -> Result<Manager, AllocError> {
+) -> Manager {
     assert!(rt; usize::from(x) < manager.order().len());
-    let best = manager.put_best(alloc, x)?;
+    let best = manager.put_best(alloc, x).expect(rt, "memory");
     assert!(rt; best.order().variables() == order);
-    Ok(best)
+    best
 }
 
 /// The manager after a step: its variable goes to the top, then to the lowest level, and then to
 /// where `put_best` puts it.
-fn stepped(
-    rt: &impl Abort,
-    alloc: Global,
-    manager: Manager,
-    step: &Step,
-) -> Result<Manager, AllocError> {
+fn stepped(rt: &impl Abort, alloc: Global, manager: Manager, step: &Step) -> Manager {
     let (x, sizes, after) = step;
-    let highest = lifted(rt, alloc, manager, *x)?;
-    let lowest = lowered(rt, alloc, highest, sizes)?;
+    let highest = lifted(rt, alloc, manager, *x);
+    let lowest = lowered(rt, alloc, highest, sizes);
     put_best(rt, alloc, lowest, *x, after)
 }
 
 #[test]
-fn each_step_of_the_interleaved_products(rt: HostRuntime) -> Result<(), Fail> {
-    let mut manager = managed(&rt, rt.alloc(), INTERLEAVED)?;
+fn each_step_of_the_interleaved_products(rt: HostRuntime) {
+    let mut manager = managed(&rt, rt.alloc(), INTERLEAVED);
     assert!(rt; manager.size() == 14);
     for step in &STEPS {
-        manager = stepped(&rt, rt.alloc(), manager, step)?;
+        manager = stepped(&rt, rt.alloc(), manager, step);
     }
-    Ok(())
 }
 
 #[test]
-fn tightens_the_sum(rt: HostRuntime) -> Result<(), Fail> {
-    let sifted = managed(&rt, rt.alloc(), SUM)?.sift(rt.alloc())?;
+fn tightens_the_sum(rt: HostRuntime) {
+    let sifted = managed(&rt, rt.alloc(), SUM)
+        .sift(rt.alloc())
+        .expect(&rt, "memory");
     assert!(rt; sifted.size() == 13);
-    let converged = sifted.sifted_to_convergence(rt.alloc())?;
+    let converged = sifted
+        .sifted_to_convergence(rt.alloc())
+        .expect(&rt, "memory");
     assert!(rt; converged.size() == 11);
-    Ok(())
 }

@@ -1,6 +1,6 @@
 //! Widths that solutions take, solutions by one thread, and two workers of the search.
 
-ghost use Rattle.std.specs.Prelude.{◌≡◌, IfOk};
+ghost use Rattle.std.specs.Prelude.{◌≡◌};
 
 use counted_io::Counting;
 use order_model::{Gate, Limit, NoGate, Order, Pairs, Reserve, VarIx, Workers};
@@ -8,10 +8,10 @@ use order_solve::{Optimum, Solution, find_optimum_alone, prepare, solve, solve_a
 use pla_reader::read_cover;
 use sifting::laws::diagrams_have_their_problems_tables;
 use sifting::{Manager, Sifted};
-use std::alloc::{AllocError, Global};
+use std::alloc::Global;
 use std::hint;
+use std::process::Abort;
 use std::sync::atomic::{AtomicU64, Ordering};
-use std::test::Fail;
 use std::thread::Threads;
 use table_diagrams::reduced_diagram;
 use truth_table::Tables;
@@ -23,73 +23,65 @@ static MULTIPLEXER: &[u8] = b".i 3\n.o 1\n1-0 1\n-11 1\n.e\n";
 static ALL_ONES: &[u8] = b".i 16\n.o 1\n1111111111111111 1\n.e\n";
 
 /// The truth tables of a cover's text.
-pub(crate) fn tables_of<R: Threads + Sync>(
-    rt: &R,
-    alloc: Global,
-    text: &[u8],
-) -> Result<Tables, Fail> {
-    let cover = read_cover(alloc, &mut Counting::new(text))?;
-    let tables = Tables::of_cover(rt, alloc, &cover)?;
-    Ok(tables)
+pub(crate) fn tables_of<R: Abort + Threads + Sync>(rt: &R, alloc: Global, text: &[u8]) -> Tables {
+    let cover = read_cover(alloc, &mut Counting::new(text)).expect(rt, "a cover");
+    Tables::of_cover(rt, alloc, &cover).expect(rt, "memory")
 }
 
 /// The manager of some functions' reduced diagram under the file order.
-pub(crate) fn manager_of(alloc: Global, tables: &Tables) -> Result<Manager, Fail>
-    ensures problem { IfOk result (λ m. m.problem ≡ tables.now) }
+pub(crate) fn manager_of(rt: &impl Abort, alloc: Global, tables: &Tables) -> Manager
+    ensures { result.problem ≡ tables.now }
 {
     let problem = tables.problem();
-    let order = Order::file_order(alloc, problem.inputs())?;
-    if order.len() != usize::from(problem.inputs()) {
-        return Err("another length".into());
-    }
-    let diagram = reduced_diagram(alloc, tables, &order)?;
+    let order = Order::file_order(alloc, problem.inputs()).expect(rt, "memory");
+    assert!(rt; order.len() == usize::from(problem.inputs()));
+    let diagram = reduced_diagram(alloc, tables, &order).expect(rt, "memory");
     diagrams_have_their_problems_tables(problem);
-    Ok(Manager::of(alloc, diagram)?)
+    Manager::of(alloc, diagram).expect(rt, "memory")
 }
 
 /// The sifted order of some functions.
-fn sifted_of(alloc: Global, tables: &Tables) -> Result<Sifted, Fail>
-    ensures { IfOk result (λ s. s.problem ≡ tables.now) }
+fn sifted_of(rt: &impl Abort, alloc: Global, tables: &Tables) -> Sifted
+    ensures { result.problem ≡ tables.now }
 {
-    let manager = manager_of(alloc, tables)?;
-    Ok(manager.sift(alloc)?)
+    manager_of(rt, alloc, tables)
+        .sift(alloc)
+        .expect(rt, "memory")
 }
 
 /// The solution of some functions by two workers.
-fn solution_of<R: Threads + Sync, G: Gate>(
+fn solution_of<R: Abort + Threads + Sync, G: Gate>(
     rt: &R,
     alloc: Global,
     tables: &Tables,
     gate: &G,
-) -> Result<Solution, Fail> {
-    let workers = Workers::new(2).ok_or("workers")?;
+) -> Solution {
+    let workers = Workers::new(2).expect(rt, "two workers");
     let limit = Limit {
         bound: 16,
         reserve: Reserve::Variables,
     };
     let problem = tables.problem();
     let pairs = Pairs::none(problem.inputs());
-    let prepared = prepare(rt, alloc, problem, &pairs, limit, workers)?;
-    let sifted = sifted_of(alloc, tables)?;
-    Ok(solve(rt, alloc, prepared, sifted, workers, gate)?)
+    let prepared = prepare(rt, alloc, problem, &pairs, limit, workers).expect(rt, "memory");
+    let sifted = sifted_of(rt, alloc, tables);
+    solve(rt, alloc, prepared, sifted, workers, gate).expect(rt, "memory")
 }
 
 /// The solution of a cover.
-fn solved<R: Threads + Sync, G: Gate>(
+fn solved<R: Abort + Threads + Sync, G: Gate>(
     rt: &R,
     alloc: Global,
     text: &[u8],
     gate: &G,
-) -> Result<Solution, Fail> {
-    let tables = tables_of(rt, alloc, text)?;
-    solution_of(rt, alloc, &tables, gate)
+) -> Solution {
+    solution_of(rt, alloc, &tables_of(rt, alloc, text), gate)
 }
 
 #[test]
-fn widths_that_are_taken(rt: HostRuntime) -> Result<(), Fail> {
-    assert!(rt; solved(&rt, rt.alloc(), PARITY, &NoGate)?.widths == 12);
-    assert!(rt; solved(&rt, rt.alloc(), MULTIPLEXER, &NoGate)?.widths == 8);
-    Ok(())
+fn widths_that_are_taken(rt: HostRuntime) {
+    assert!(rt; solved(&rt, rt.alloc(), PARITY, &NoGate).widths == 12);
+    assert!(rt; solved(&rt, rt.alloc(), MULTIPLEXER, &NoGate).widths == 8);
 }
 
 /// Whether an optimum is this one.
@@ -97,40 +89,37 @@ fn is_optimum(found: &Optimum, order: &[VarIx], levels: &[u32], total: u32) -> b
     found.order.variables() == order && found.levels.as_slice() == levels && found.total == total
 }
 
-/// The optimum of the solution of some functions by the calling thread.
-fn solved_alone(alloc: Global, tables: &Tables) -> Result<Optimum, Fail> {
-    let sifted = sifted_of(alloc, tables)?;
-    let solved = solve_alone(alloc, tables.problem(), sifted)?;
-    Ok(solved.optimum)
+/// Whether an optimum is that of the words below.
+fn is_of_words(found: &Optimum) -> bool {
+    is_optimum(found, &[0, 1, 2], &[1, 2, 2], 5)
 }
 
-/// The optimum of some functions, without a certificate, by the calling thread.
-fn found_alone(alloc: Global, tables: &Tables) -> Result<Optimum, Fail> {
-    let sifted = sifted_of(alloc, tables)?;
-    Ok(find_optimum_alone(alloc, tables.problem(), sifted)?)
+/// Whether the calling thread solves the words.
+fn solves_words(rt: &impl Abort, alloc: Global, tables: &Tables) -> bool {
+    let sifted = sifted_of(rt, alloc, tables);
+    let solved = solve_alone(alloc, tables.problem(), sifted).expect(rt, "memory");
+    is_of_words(&solved.optimum)
+}
+
+/// Whether the calling thread finds the optimum of the words, without a certificate.
+fn finds_optimum_of_words(rt: &impl Abort, alloc: Global, tables: &Tables) -> bool {
+    let sifted = sifted_of(rt, alloc, tables);
+    let found = find_optimum_alone(alloc, tables.problem(), sifted).expect(rt, "memory");
+    is_of_words(&found)
 }
 
 #[test]
-fn solves_words_alone(rt: HostRuntime) -> Result<(), Fail> {
-    let tables = Tables::of_words(rt.alloc(), 3, 1, &[0xff96])?;
-    let optimum = solved_alone(rt.alloc(), &tables)?;
-    assert!(rt; is_optimum(&optimum, &[0, 1, 2], &[1, 2, 2], 5));
-    Ok(())
+fn solves_words_alone(rt: HostRuntime) {
+    let tables = Tables::of_words(rt.alloc(), 3, 1, &[0xff96]).expect(&rt, "memory");
+    assert!(rt; solves_words(&rt, rt.alloc(), &tables));
+    assert!(rt; finds_optimum_of_words(&rt, rt.alloc(), &tables));
 }
 
-#[test]
-fn finds_the_optimum_of_words_alone(rt: HostRuntime) -> Result<(), Fail> {
-    let tables = Tables::of_words(rt.alloc(), 3, 1, &[0xff96])?;
-    let optimum = found_alone(rt.alloc(), &tables)?;
-    assert!(rt; is_optimum(&optimum, &[0, 1, 2], &[1, 2, 2], 5));
-    Ok(())
-}
-
-/// Holds each of two workers at its first call until the other has made one, for some turns at
-/// most, and marks each of the items 1 to 65,535.
+/// Holds each of the workers 1 and 2 at its first call until the other has made one, for some turns
+/// at most, and marks each of the items 1 to 65,535. The bits 0 and 1 stand for who came.
 #[derive(Drop)]
 struct Meet {
-    came: [AtomicU64; 2],
+    came: AtomicU64,
     seen: Vec<AtomicU64>,
     calls: AtomicU64,
     again: AtomicU64,
@@ -158,10 +147,9 @@ impl Gate for Meet {
             self.missed.store(1, Ordering::SeqCst);
             return;
         }
-        let me = usize::from(worker - 1);
-        self.came[me].store(1, Ordering::SeqCst);
+        self.came.fetch_or(u64::from(worker), Ordering::SeqCst);
         for _turn in 0..100_000_000u64 {
-            if self.came[1 - me].load(Ordering::SeqCst) == 1 {
+            if self.came.load(Ordering::SeqCst) == 0b11 {
                 return;
             }
             hint::spin_loop();
@@ -171,28 +159,24 @@ impl Gate for Meet {
 }
 
 /// A gate that no worker came to.
-fn open_gate(alloc: Global) -> Result<Meet, AllocError> {
-    let mut seen = Vec::with_capacity(alloc, 1024)?;
+fn open_gate(rt: &impl Abort, alloc: Global) -> Meet {
+    let mut seen = Vec::with_capacity(alloc, 1024).expect(rt, "memory");
     for _mark in 0..1024u32 {
-        seen.push(AtomicU64::new(0))?;
+        seen.push(AtomicU64::new(0)).expect(rt, "memory");
     }
-    Ok(Meet {
-        came: [AtomicU64::new(0), AtomicU64::new(0)],
+    Meet {
+        came: AtomicU64::new(0),
         seen,
         calls: AtomicU64::new(0),
         again: AtomicU64::new(0),
         missed: AtomicU64::new(0),
-    })
+    }
 }
 
 /// Whether both workers came and met, and each of so many items came once.
 fn saw_each(gate: &Meet, items: u64) -> bool {
-    for came in &gate.came {
-        if came.load(Ordering::SeqCst) != 1 {
-            return false;
-        }
-    }
-    gate.calls.load(Ordering::SeqCst) == items
+    gate.came.load(Ordering::SeqCst) == 0b11
+        && gate.calls.load(Ordering::SeqCst) == items
         && gate.again.load(Ordering::SeqCst) == 0
         && gate.missed.load(Ordering::SeqCst) == 0
 }
@@ -204,9 +188,8 @@ fn is_of_ones(found: &Solution) -> bool {
 }
 
 #[test]
-fn two_workers_meet(rt: HostRuntime) -> Result<(), Fail> {
-    let gate = open_gate(rt.alloc())?;
-    let found = solved(&rt, rt.alloc(), ALL_ONES, &gate)?;
+fn two_workers_meet(rt: HostRuntime) {
+    let gate = open_gate(&rt, rt.alloc());
+    let found = solved(&rt, rt.alloc(), ALL_ONES, &gate);
     assert!(rt; is_of_ones(&found) && saw_each(&gate, 65_535));
-    Ok(())
 }

@@ -1,19 +1,18 @@
 //! Workers at a board whose claims another one holds.
 
-ghost use Rattle.std.specs.Prelude.{◌≡◌, ◌+◌, All, IfOk, IfSome, map};
+ghost use Rattle.std.specs.Prelude.{◌≡◌, ◌+◌, All, map};
 ghost use Rattle.subset_layers.specs.Layers.{masks_of, layer_with};
 ghost use Rattle.layer_core.specs.Pairing.{pair_of};
 ghost use Rattle.layer_core.specs.Settings.{cell_for};
 ghost use Rattle.order_solve.specs.LayerContexts.{IsContext, IsLayerFor, context_with};
 
-use crate::boards::{error_of_closing, lone_board};
+use crate::boards::{error_of_closing, is_stranger, lone_board};
 use crate::solutions::tables_of;
 use layer_board::{Board, BoardSeat, CloseError, PostRefused};
-use order_model::{Limit, Mask, NoGate, Pairs, Problem, Reserve, Workers};
+use order_model::{Limit, Mask, NoGate, Pairs, Reserve, Workers};
 use order_solve::{LayerContext, Setting, work_layer};
-use std::alloc::{AllocError, Global};
+use std::alloc::Global;
 use std::process::Abort;
-use std::test::Fail;
 use std::thread;
 use std::thread::Threads;
 use subset_layers::{Cell, Costs, Layer};
@@ -23,65 +22,57 @@ static PARITY_OF_FOUR: &[u8] =
 
 /// A worker does all blocks that are left: its seat, and how many widths its cells took.
 fn worked(
+    rt: &impl Abort,
     alloc: Global,
     board: &Board,
     seat: BoardSeat,
     worker: u8,
     context: &LayerContext<'_>,
-) -> Result<(BoardSeat, u64), AllocError>
+) -> (BoardSeat, u64)
     requires seat { seat.board ≡ board.now }
     requires setting { board.now.brief.setting ≡ context.now.setting }
     requires layer { board.now.brief.layer ≡ context.now.layer }
-    ensures { IfOk result (λ r. r.0.board ≡ board.now) }
+    ensures { result.0.board ≡ board.now }
 {
-    let done = work_layer(alloc, board, seat, worker, context, &NoGate)?;
+    let done = work_layer(alloc, board, seat, worker, context, &NoGate).expect(rt, "memory");
     let count = done.tally.count();
-    Ok((done.seat, count))
+    (done.seat, count)
 }
 
 /// The cells of a layer, by a lone worker at a board of its own.
 fn cells_by_one(
+    rt: &impl Abort,
     alloc: Global,
     setting: &Setting<'_>,
     layer: &Layer,
     before: &Costs,
-) -> Result<Vec<Cell>, Fail>
+) -> Vec<Cell>
     requires { IsContext (context_with setting.now layer.now before.now) }
-    ensures { IfOk result
-        (λ v. map pair_of v.items ≡ map (cell_for setting.now) (masks_of layer.now)) }
+    ensures { map pair_of result.items ≡ map (cell_for setting.now) (masks_of layer.now) }
 {
     let context = LayerContext::new(setting, layer, before);
-    let (board, seat) = lone_board(
-        alloc,
-        setting.problem(),
-        setting.pairs(),
-        setting.limit(),
-        layer,
-    )?;
-    let (seat, _) = worked(alloc, &board, seat, 1, &context)?;
-    match board.close(alloc, seat) {
-        Ok(cells) => Ok(cells),
-        Err(_) => Err("closed".into()),
-    }
+    let limit = setting.limit();
+    let (board, seat) = lone_board(rt, alloc, setting.problem(), setting.pairs(), limit, layer);
+    let (seat, _) = worked(rt, alloc, &board, seat, 1, &context);
+    board.close(alloc, seat).expect(rt, "all cells")
 }
 
 /// The cells of the sets of one variable.
-fn first_cells(alloc: Global, setting: &Setting<'_>, layer: &Layer) -> Result<Vec<Cell>, Fail>
+fn first_cells(rt: &impl Abort, alloc: Global, setting: &Setting<'_>, layer: &Layer) -> Vec<Cell>
     requires { layer.now ≡ layer_with setting.now.problem.inputs 1 }
-    ensures { IfOk result
-        (λ v. map pair_of v.items ≡ map (cell_for setting.now) (masks_of layer.now)) }
+    ensures { map pair_of result.items ≡ map (cell_for setting.now) (masks_of layer.now) }
 {
-    let start = Costs::start(alloc, setting.inputs())?;
-    cells_by_one(alloc, setting, layer, &start)
+    let start = Costs::start(alloc, setting.inputs()).expect(rt, "memory");
+    cells_by_one(rt, alloc, setting, layer, &start)
 }
 
 /// The costs of the sets of one variable.
-fn first_costs(alloc: Global, setting: &Setting<'_>) -> Result<Costs, Fail>
-    ensures { IfOk result (IsLayerFor setting.now 1) }
+fn first_costs(rt: &impl Abort, alloc: Global, setting: &Setting<'_>) -> Costs
+    ensures { IsLayerFor setting.now 1 result }
 {
-    let layer = Layer::of(alloc, setting.inputs(), 1)?;
-    let cells = first_cells(alloc, setting, &layer)?;
-    Ok(Costs::of(layer, cells))
+    let layer = Layer::of(alloc, setting.inputs(), 1).expect(rt, "memory");
+    let cells = first_cells(rt, alloc, setting, &layer);
+    Costs::of(layer, cells)
 }
 
 /// A layer's first set, and its cell.
@@ -100,29 +91,30 @@ fn first_cell(
     setting: &Setting<'_>,
     layer: &Layer,
     before: &Costs,
-) -> Result<(Mask, Cell), Fail>
+) -> (Mask, Cell)
     requires { IsContext (context_with setting.now layer.now before.now) }
-    ensures { IfOk result (λ r. pair_of r.1 ≡ cell_for setting.now r.0) }
+    ensures { pair_of result.1 ≡ cell_for setting.now result.0 }
 {
-    let cells = cells_by_one(alloc, setting, layer, before)?;
-    Ok(first_of(rt, setting, layer, &cells))
+    let cells = cells_by_one(rt, alloc, setting, layer, before);
+    first_of(rt, setting, layer, &cells)
 }
 
 /// A board of a layer, and the seats of two workers.
 fn board_of_two(
+    rt: &impl Abort,
     alloc: Global,
     setting: &Setting<'_>,
     layer: &Layer,
-) -> Result<(Board, Vec<BoardSeat>), Fail>
+) -> (Board, Vec<BoardSeat>)
     requires { layer.now.inputs ≡ setting.now.problem.inputs }
-    ensures setting { IfOk result (λ r. r.0.brief.setting ≡ setting.now) }
-    ensures layer { IfOk result (λ r. r.0.brief.layer ≡ layer.now) }
-    ensures seats { IfOk result (λ r. All (λ s. s.board ≡ r.0) r.1.items) }
+    ensures setting { result.0.brief.setting ≡ setting.now }
+    ensures layer { result.0.brief.layer ≡ layer.now }
+    ensures seats { All (λ s. s.board ≡ result.0) result.1.items }
 {
-    let two = Workers::new(2).ok_or("two workers")?;
+    let two = Workers::new(2).expect(rt, "two workers");
     let limit = setting.limit();
-    let made = Board::new(alloc, setting.problem(), limit, layer, two, setting.pairs())?;
-    Ok(made)
+    let made = Board::new(alloc, setting.problem(), limit, layer, two, setting.pairs());
+    made.expect(rt, "memory")
 }
 
 /// Whether the next block that a seat claims is that of 0003.
@@ -141,31 +133,15 @@ fn seats_with_claim(
     rt: &impl Abort,
     board: &Board,
     mut seats: Vec<BoardSeat>,
-) -> Option<(BoardSeat, BoardSeat)>
+) -> (BoardSeat, BoardSeat)
     requires { All (λ s. s.board ≡ board.now) seats.items }
-    ensures first { IfSome result (λ s. s.0.board ≡ board.now) }
-    ensures second { IfSome result (λ s. s.1.board ≡ board.now) }
+    ensures first { result.0.board ≡ board.now }
+    ensures second { result.1.board ≡ board.now }
 {
-    let worker = seats.pop()?;
-    let mut owner = seats.pop()?;
+    let worker = seats.pop().expect(rt, "a seat");
+    let mut owner = seats.pop().expect(rt, "two seats");
     assert!(rt; claims_three(board, &mut owner));
-    Some((owner, worker))
-}
-
-/// Whether a seat cannot post a cell, since its block is another seat's.
-fn is_stranger(
-    board: &Board,
-    seat: &mut BoardSeat,
-    setting: &Setting<'_>,
-    mask: Mask,
-    cell: Cell,
-) -> bool
-    requires seat { seat.old.board ≡ board.now }
-    requires setting { board.now.brief.setting ≡ setting.now }
-    requires cell { pair_of cell ≡ cell_for setting.now mask }
-    ensures { seat.new.board ≡ board.now }
-{
-    board.post(seat, setting.result(mask, cell)) == Err(PostRefused::Stranger)
+    (owner, worker)
 }
 
 /// A worker does all blocks but the first one, which another seat claimed and holds: its seat.
@@ -178,20 +154,20 @@ fn work_beside_claim(
     context: &LayerContext<'_>,
     mask: Mask,
     cell: Cell,
-) -> Result<BoardSeat, Fail>
+) -> BoardSeat
     requires seats { All (λ s. s.board ≡ board.now) seats.items }
     requires setting { board.now.brief.setting ≡ setting.now }
     requires context { context.now.setting ≡ setting.now }
     requires layer { board.now.brief.layer ≡ context.now.layer }
     requires cell { pair_of cell ≡ cell_for setting.now mask }
-    ensures { IfOk result (λ s. s.board ≡ board.now) }
+    ensures { result.board ≡ board.now }
 {
-    let (_owner, worker) = seats_with_claim(rt, board, seats).ok_or("two seats")?;
-    let (mut seat, widths) = worked(alloc, board, worker, 2, context)?;
+    let (_owner, worker) = seats_with_claim(rt, board, seats);
+    let (mut seat, widths) = worked(rt, alloc, board, worker, 2, context);
     // Two widths for each of five sets.
     assert!(rt; widths == 10);
-    assert!(rt; is_stranger(board, &mut seat, setting, mask, cell));
-    Ok(seat)
+    assert!(rt; is_stranger(board, &mut seat, setting.result(mask, cell)));
+    seat
 }
 
 /// Whether a seat can post a cell, and only once.
@@ -245,18 +221,18 @@ fn post_after_work<R: Abort + Threads + Sync>(
     context: &LayerContext<'_>,
     mask: Mask,
     cell: Cell,
-) -> Result<BoardSeat, Fail>
+) -> BoardSeat
     requires seats { All (λ s. s.board ≡ board.now) seats.items }
     requires setting { board.now.brief.setting ≡ setting.now }
     requires context { context.now.setting ≡ setting.now }
     requires layer { board.now.brief.layer ≡ context.now.layer }
     requires cell { pair_of cell ≡ cell_for setting.now mask }
-    ensures { IfOk result (λ s. s.board ≡ board.now) }
+    ensures { result.board ≡ board.now }
 {
-    let (owner, worker) = seats_with_claim(rt, board, seats).ok_or("two seats")?;
-    let (seat, _) = worked(alloc, board, worker, 2, context)?;
+    let (owner, worker) = seats_with_claim(rt, board, seats);
+    let (seat, _) = worked(rt, alloc, board, worker, 2, context);
     assert!(rt; posts_once_apart(rt, board, owner, setting, mask, cell));
-    Ok(seat)
+    seat
 }
 
 /// Whether a board closes with six cells, each of cost 4.
@@ -283,16 +259,15 @@ fn hold_and_leave(
     context: &LayerContext<'_>,
     mask: Mask,
     cell: Cell,
-) -> Result<(), Fail>
+)
     requires context { context.now.setting ≡ setting.now }
     requires layer { context.now.layer ≡ layer.now }
     requires inputs { layer.now.inputs ≡ setting.now.problem.inputs }
     requires cell { pair_of cell ≡ cell_for setting.now mask }
 {
-    let (board, seats) = board_of_two(alloc, setting, layer)?;
-    let seat = work_beside_claim(rt, alloc, &board, seats, setting, context, mask, cell)?;
+    let (board, seats) = board_of_two(rt, alloc, setting, layer);
+    let seat = work_beside_claim(rt, alloc, &board, seats, setting, context, mask, cell);
     assert!(rt; error_of_closing(alloc, board, seat) == Some(CloseError::Missing(3)));
-    Ok(())
 }
 
 /// The same, and posts its cell.
@@ -304,73 +279,48 @@ fn hold_and_post<R: Abort + Threads + Sync>(
     context: &LayerContext<'_>,
     mask: Mask,
     cell: Cell,
-) -> Result<(), Fail>
+)
     requires context { context.now.setting ≡ setting.now }
     requires layer { context.now.layer ≡ layer.now }
     requires inputs { layer.now.inputs ≡ setting.now.problem.inputs }
     requires cell { pair_of cell ≡ cell_for setting.now mask }
 {
-    let (board, seats) = board_of_two(alloc, setting, layer)?;
-    let seat = post_after_work(rt, alloc, &board, seats, setting, context, mask, cell)?;
+    let (board, seats) = board_of_two(rt, alloc, setting, layer);
+    let seat = post_after_work(rt, alloc, &board, seats, setting, context, mask, cell);
     assert!(rt; closes_with_fours(alloc, board, seat));
-    Ok(())
 }
 
-/// Holds a claim at a board of a layer, and leaves its cell empty or posts it.
-fn hold_claim<R: Abort + Threads + Sync>(
+/// Holds a claim at two boards of a layer: leaves its cell empty at one, and posts it at the other.
+fn hold_claims<R: Abort + Threads + Sync>(
     rt: &R,
     alloc: Global,
     setting: &Setting<'_>,
     layer: &Layer,
     before: &Costs,
-    posts: bool,
-) -> Result<(), Fail>
+)
     requires { IsContext (context_with setting.now layer.now before.now) }
 {
-    let (mask, cell) = first_cell(rt, alloc, setting, layer, before)?;
+    let (mask, cell) = first_cell(rt, alloc, setting, layer, before);
     let context = LayerContext::new(setting, layer, before);
-    if posts {
-        hold_and_post(rt, alloc, setting, layer, &context, mask, cell)
-    } else {
-        hold_and_leave(rt, alloc, setting, layer, &context, mask, cell)
-    }
+    hold_and_leave(rt, alloc, setting, layer, &context, mask, cell);
+    hold_and_post(rt, alloc, setting, layer, &context, mask, cell);
 }
 
-/// Holds a claim in the layer of the sets of two variables.
-fn hold_in_second_layer<R: Abort + Threads + Sync>(
-    rt: &R,
-    alloc: Global,
-    setting: &Setting<'_>,
-    posts: bool,
-) -> Result<(), Fail> {
-    let before = first_costs(alloc, setting)?;
-    let layer = Layer::of(alloc, setting.inputs(), 2)?;
-    hold_claim(rt, alloc, setting, &layer, &before, posts)
+/// The same in the layer of the sets of two variables.
+fn hold_in_second_layer<R: Abort + Threads + Sync>(rt: &R, alloc: Global, setting: &Setting<'_>) {
+    let before = first_costs(rt, alloc, setting);
+    let layer = Layer::of(alloc, setting.inputs(), 2).expect(rt, "memory");
+    hold_claims(rt, alloc, setting, &layer, &before);
 }
 
-/// Holds a claim for some functions and the bound 7.
-fn hold_for<R: Abort + Threads + Sync>(
-    rt: &R,
-    alloc: Global,
-    problem: &Problem,
-    posts: bool,
-) -> Result<(), Fail> {
+#[test]
+fn a_held_claim_is_missing_or_posted(rt: HostRuntime) {
+    let tables = tables_of(&rt, rt.alloc(), PARITY_OF_FOUR);
+    let problem = tables.problem();
     let pairs = Pairs::none(problem.inputs());
     let limit = Limit {
         bound: 7,
         reserve: Reserve::Variables,
     };
-    hold_in_second_layer(rt, alloc, &Setting::new(problem, &pairs, limit), posts)
-}
-
-#[test]
-fn a_held_claim_is_missing(rt: HostRuntime) -> Result<(), Fail> {
-    let tables = tables_of(&rt, rt.alloc(), PARITY_OF_FOUR)?;
-    hold_for(&rt, rt.alloc(), tables.problem(), false)
-}
-
-#[test]
-fn a_held_claim_is_posted(rt: HostRuntime) -> Result<(), Fail> {
-    let tables = tables_of(&rt, rt.alloc(), PARITY_OF_FOUR)?;
-    hold_for(&rt, rt.alloc(), tables.problem(), true)
+    hold_in_second_layer(&rt, rt.alloc(), &Setting::new(problem, &pairs, limit));
 }
