@@ -77,8 +77,8 @@ fn have_values(tables: &Tables) -> bool {
     true
 }
 
-/// Whether a text's functions have these values, and where variable 15 is 1 the first one depends on
-/// the variables 5 and 6.
+/// Whether a text's functions have these values, and where variable 15 is 1 the first one depends
+/// on the variables 5 and 6.
 fn is_wide<R: Threads + Sync>(rt: &R, alloc: Global, text: &[u8]) -> bool {
     match tables_of(rt, alloc, text) {
         Some(tables) => {

@@ -133,8 +133,8 @@ fn busy_workers(setting: &Setting<'_>, layer: &Layer, workers: Workers) -> Worke
     }
 }
 
-/// Posts the cells of a layer by workers, and hands back a seat of theirs. What they find ahead goes
-/// to `found`.
+/// Posts the cells of a layer by workers, and hands back a seat of theirs. What they find ahead
+/// goes to `found`.
 fn post_by_workers<R: Threads + Sync, G: Gate>(
     crew: &Crew<'_, R, G>,
     alloc: Global,

@@ -38,6 +38,6 @@ loop-size-preserved c =
           λ k d at. layers_push t items costs c.loop-size.invariant.layers_are
           (subst (λ (n : ℕ). IsLayerFor t n costs) (ap length c.deref-in-loop-size.ensures.value) c.in_ok-next.ensures.layer) k d
           (ap (λ (xs : List CostsOf). slice_get xs k) (sym is) ∙ at);
-      ahead = ahead_joined t.problem c.look_ahead-ahead.result c.in_ok-next.next.found c.add_to.new.ahead c.in_ok-add_to.ensures.ahead c.look_ahead-ahead.ensures
-          c.in_ok-next.ensures.found;
+      ahead = ahead_joined t.problem c.look_ahead-ahead.result c.in_ok-next.next.found c.add_to.new.ahead c.in_ok-add_to.ensures.ahead
+          c.look_ahead-ahead.ensures c.in_ok-next.ensures.found;
     }

@@ -34,7 +34,9 @@ returns-clause-tally c =
     let t = c.args.context.now.setting in
     let masks = block_masks c.args.block.now in
     IfOk-weaker c.cells_by_rows.result _ _
-    (λ _ _. c.in_ok-rows.ensures.cells ∙ ap (λ k. c.args.tallies.now.cells + k) (ap wanted_count (c.deref.ensures.value ∙ c.in_ok-needs.ensures) ∙ needed_sum t masks)) c.cells_by_rows.ensures
+    (λ _ _. c.in_ok-rows.ensures.cells
+    ∙ ap (λ k. c.args.tallies.now.cells + k) (ap wanted_count (c.deref.ensures.value ∙ c.in_ok-needs.ensures) ∙ needed_sum t masks))
+    c.cells_by_rows.ensures
 
 pub cells_by_rows-requires-clause-rows : goal.cells_by_rows-requires-clause-rows
 cells_by_rows-requires-clause-rows c =
