@@ -6,7 +6,6 @@ use order_model::Workers;
 use outcomes::{Fault, Outcome};
 use report::{RunPlan, run};
 use std::io::{ErrorKind, Read};
-use std::test::Fail;
 use std::thread::Threads;
 
 /// The multiplexer, its report, and its certificate.
@@ -38,19 +37,18 @@ const FAILED: Ending<'static> = Ending {
     certificate: &[],
 };
 
-fn two_workers() -> Result<Workers, Fail> {
-    Ok(Workers::new(2).ok_or("workers")?)
-}
-
-/// Whether a run of these workers over a reader, or a count, ends so with these two writers.
+/// Whether a run of two workers over a reader, or a count, ends so with these two writers.
 fn ends<T: AllocGlobal + Threads + Sync, R: Read + Drop>(
     rt: &T,
-    (workers, count): (Workers, bool),
+    count: bool,
     reader: R,
     report: FailingWriter,
     certificate: FailingWriter,
     wanted: &Ending<'_>,
 ) -> bool {
+    let Some(workers) = Workers::new(2) else {
+        return false;
+    };
     let plan = RunPlan {
         workers,
         count,
@@ -77,7 +75,6 @@ fn ends<T: AllocGlobal + Threads + Sync, R: Read + Drop>(
 /// the end.
 fn ends_as_read<T: AllocGlobal + Threads + Sync>(
     rt: &T,
-    workers: Workers,
     calls_left: u32,
     error: ErrorKind,
 ) -> bool {
@@ -88,30 +85,23 @@ fn ends_as_read<T: AllocGlobal + Threads + Sync>(
     };
     let report = FailingWriter::ample(rt.alloc());
     let certificate = FailingWriter::ample(rt.alloc());
-    let asked = (workers, false);
     if calls_left < 12 {
-        ends(rt, asked, reader, report, certificate, &FAILED)
+        ends(rt, false, reader, report, certificate, &FAILED)
     } else {
-        ends(rt, asked, reader, report, certificate, &DONE)
+        ends(rt, false, reader, report, certificate, &DONE)
     }
 }
 
 #[test]
-fn readers_that_fail_leave_nothing(rt: HostRuntime) -> Result<(), Fail> {
-    let workers = two_workers()?;
+fn readers_that_fail_leave_nothing(rt: HostRuntime) {
     for calls_left in 0..20 {
-        assert!(rt; ends_as_read(&rt, workers, calls_left, ErrorKind::Interrupted));
-        assert!(rt; ends_as_read(&rt, workers, calls_left, ErrorKind::Other));
+        assert!(rt; ends_as_read(&rt, calls_left, ErrorKind::Interrupted));
+        assert!(rt; ends_as_read(&rt, calls_left, ErrorKind::Other));
     }
-    Ok(())
 }
 
 /// Whether a run whose report's writer fails after some bytes leaves these, and the certificate.
-fn ends_as_reported<T: AllocGlobal + Threads + Sync>(
-    rt: &T,
-    workers: Workers,
-    report: &[u8],
-) -> bool {
+fn ends_as_reported<T: AllocGlobal + Threads + Sync>(rt: &T, report: &[u8]) -> bool {
     let writer = FailingWriter::new(rt.alloc(), report.len(), 1000);
     let certificate = FailingWriter::ample(rt.alloc());
     let wanted = Ending {
@@ -119,15 +109,11 @@ fn ends_as_reported<T: AllocGlobal + Threads + Sync>(
         report,
         certificate: CERTIFICATE,
     };
-    ends(rt, (workers, false), FILE, writer, certificate, &wanted)
+    ends(rt, false, FILE, writer, certificate, &wanted)
 }
 
 /// Whether a run whose certificate's writer fails after some bytes leaves these, and no report.
-fn ends_as_certified<T: AllocGlobal + Threads + Sync>(
-    rt: &T,
-    workers: Workers,
-    certificate: &[u8],
-) -> bool {
+fn ends_as_certified<T: AllocGlobal + Threads + Sync>(rt: &T, certificate: &[u8]) -> bool {
     let report = FailingWriter::ample(rt.alloc());
     let writer = FailingWriter::new(rt.alloc(), certificate.len(), 1000);
     let wanted = Ending {
@@ -135,40 +121,32 @@ fn ends_as_certified<T: AllocGlobal + Threads + Sync>(
         report: &[],
         certificate,
     };
-    ends(rt, (workers, false), FILE, report, writer, &wanted)
+    ends(rt, false, FILE, report, writer, &wanted)
 }
 
 #[test]
-fn writers_that_fail_hold_a_beginning(rt: HostRuntime) -> Result<(), Fail> {
-    let workers = two_workers()?;
+fn writers_that_fail_hold_a_beginning(rt: HostRuntime) {
     for bytes_left in 0..REPORT.len() {
-        assert!(rt; ends_as_reported(&rt, workers, &REPORT[..bytes_left]));
+        assert!(rt; ends_as_reported(&rt, &REPORT[..bytes_left]));
     }
     for bytes_left in 0..CERTIFICATE.len() {
-        assert!(rt; ends_as_certified(&rt, workers, &CERTIFICATE[..bytes_left]));
+        assert!(rt; ends_as_certified(&rt, &CERTIFICATE[..bytes_left]));
     }
-    Ok(())
 }
 
+/// What a count writes, which leaves the certificate alone.
+const COUNTED: Ending<'static> = Ending {
+    outcome: Outcome::Done,
+    report: b"levels: 1 2 2\nnodes: 5\n",
+    certificate: &[],
+};
+
 #[test]
-fn slow_writers_hold_all(rt: HostRuntime) -> Result<(), Fail> {
-    let workers = two_workers()?;
+fn slow_writers_hold_all_and_counts_no_certificate(rt: HostRuntime) {
     let report = FailingWriter::new(rt.alloc(), 1000, 1);
     let certificate = FailingWriter::new(rt.alloc(), 1000, 1);
-    assert!(rt; ends(&rt, (workers, false), FILE, report, certificate, &DONE));
-    Ok(())
-}
-
-#[test]
-fn counts_leave_the_certificate_alone(rt: HostRuntime) -> Result<(), Fail> {
-    let workers = two_workers()?;
+    assert!(rt; ends(&rt, false, FILE, report, certificate, &DONE));
     let report = FailingWriter::ample(rt.alloc());
     let certificate = FailingWriter::ample(rt.alloc());
-    let wanted = Ending {
-        outcome: Outcome::Done,
-        report: b"levels: 1 2 2\nnodes: 5\n",
-        certificate: &[],
-    };
-    assert!(rt; ends(&rt, (workers, true), FILE, report, certificate, &wanted));
-    Ok(())
+    assert!(rt; ends(&rt, true, FILE, report, certificate, &COUNTED));
 }
