@@ -62,6 +62,31 @@ fn publish_output(store: &Store, session: &mut Session, output: u8, id: NodeId) 
     before == None && store.collect(session, piece) == Some(id)
 }
 
+// Publishes none of the two functions, the conjunction alone or both. Says whether each published
+// output was collected.
+fn publish_some(
+    store: &Store,
+    session: &mut Session,
+    published: u8,
+    conjunction: NodeId,
+    disjunction: NodeId,
+) -> bool
+    requires session { session.old.store ≡ store.now }
+    requires tables { store.now.plan.problem.value.tables ≡ two_tables }
+    requires conjunction { Means session.old conjunction (output_at store.now.plan.problem.value 0) }
+    requires disjunction { Means session.old disjunction (output_at store.now.plan.problem.value 1) }
+    ensures { session.new.store ≡ store.now }
+{
+    if published == 0 {
+        return true;
+    }
+    let first = publish_output(store, session, 0, conjunction);
+    if published == 1 {
+        return first;
+    }
+    publish_output(store, session, 1, disjunction) && first
+}
+
 // Makes the two functions and publishes so many of them; with a node that no root reaches, if that
 // is wanted. Says whether each published output was collected.
 fn publish_both(
@@ -76,13 +101,7 @@ fn publish_both(
     ensures { OnOk result (session.new.store ≡ store.now) }
 {
     let (conjunction, disjunction) = make_both(store, session)?;
-    let mut collected = true;
-    if published > 0 {
-        collected = publish_output(store, session, 0, conjunction);
-    }
-    if published > 1 {
-        collected = publish_output(store, session, 1, disjunction) && collected;
-    }
+    let collected = publish_some(store, session, published, conjunction, disjunction);
     if further {
         store.make(session, 0, 1, 0)?;
     }
