@@ -6,7 +6,8 @@ ghost use Rattle.std.specs.Prelude.{◌<◌};
 use cert_check::{Reason, Verdict};
 use certificate::Certificate;
 use order_model::{ListedCell, Mask, VarIx};
-use std::alloc::{AllocError, Global};
+use std::alloc::Global;
+use std::process::Abort;
 use truth_table::Tables;
 
 /// A function with the variables outside a set fixed as at a point.
@@ -37,7 +38,7 @@ fn depends(function: u64, x: VarIx) -> bool
 
 /// How many functions are left if the variables outside a set and one more are fixed in all ways,
 /// of those that depend on that one.
-fn width(alloc: Global, functions: &[u64], set: Mask, x: VarIx) -> Result<u64, AllocError>
+fn width(rt: &impl Abort, alloc: Global, functions: &[u64], set: Mask, x: VarIx) -> u64
     requires { x < 6 }
 {
     let mut left = Vec::new(alloc);
@@ -45,11 +46,11 @@ fn width(alloc: Global, functions: &[u64], set: Mask, x: VarIx) -> Result<u64, A
         for point in 0..64u32 {
             let fixed = fixed_outside(*function, set | (1 << x), point);
             if depends(fixed, x) && !left.contains(&fixed) {
-                left.push(fixed)?;
+                left.push(fixed).expect(rt, "memory");
             }
         }
     }
-    Ok(left.len() as u64)
+    left.len() as u64
 }
 
 /// A set, a variable outside it, and the width.
@@ -65,14 +66,16 @@ pub(crate) struct Plain {
 }
 
 /// The functions of at most six variables, each in a word that repeats its values.
-fn functions_of(alloc: Global, tables: &Tables, all: Mask) -> Result<Vec<u64>, AllocError> {
+fn functions_of(rt: &impl Abort, alloc: Global, tables: &Tables, all: Mask) -> Vec<u64> {
     let problem = tables.problem();
     let mut functions = Vec::new(alloc);
     for output in 0..problem.outputs() {
         let table = problem.words(output).first().copied().unwrap_or(0);
-        functions.push(fixed_outside(table, all, 0))?;
+        functions
+            .push(fixed_outside(table, all, 0))
+            .expect(rt, "memory");
     }
-    Ok(functions)
+    functions
 }
 
 /// Whether some function depends on a variable.
@@ -99,32 +102,28 @@ fn essential_of(functions: &[u64]) -> Mask {
 }
 
 /// Each edge, by its set and then by its variable, with its width.
-fn edges_of(alloc: Global, functions: &[u64], all: Mask) -> Result<Vec<Edge>, AllocError> {
+fn edges_of(rt: &impl Abort, alloc: Global, functions: &[u64], all: Mask) -> Vec<Edge> {
     let mut edges = Vec::new(alloc);
     for set in 0..all {
         for x in 0..6u8 {
             if (all & !set) >> x & 1 == 1 {
-                edges.push((set, x, width(alloc, functions, set, x)?))?;
+                let edge = (set, x, width(rt, alloc, functions, set, x));
+                edges.push(edge).expect(rt, "memory");
             }
         }
     }
-    Ok(edges)
+    edges
 }
 
 impl Plain {
-    pub(crate) fn of(alloc: Global, tables: &Tables) -> Result<Plain, AllocError> {
+    pub(crate) fn of(rt: &impl Abort, alloc: Global, tables: &Tables) -> Plain {
         let all = (1 << tables.problem().inputs().min(6)) - 1;
-        let functions = functions_of(alloc, tables, all)?;
-        Plain::of_functions(alloc, &functions, all)
-    }
-
-    fn of_functions(alloc: Global, functions: &[u64], all: Mask) -> Result<Plain, AllocError> {
-        let edges = edges_of(alloc, functions, all)?;
-        Ok(Plain {
+        let functions = functions_of(rt, alloc, tables, all);
+        Plain {
             all,
-            essential: essential_of(functions),
-            edges,
-        })
+            essential: essential_of(&functions),
+            edges: edges_of(rt, alloc, &functions, all),
+        }
     }
 
     fn reserve(&self, cert: &Certificate, set: Mask) -> u32 {
@@ -139,12 +138,8 @@ impl Plain {
         if set == self.all {
             return cert.total();
         }
-        for cell in cert.cells() {
-            if cell.mask == set {
-                return cell.cost;
-            }
-        }
-        cert.total().saturating_sub(self.reserve(cert, set))
+        let left = cert.total().saturating_sub(self.reserve(cert, set));
+        listed_cost(cert, set).unwrap_or(left)
     }
 
     /// Whether the cost of a listed cell, with what is counted on, is above the total.
@@ -156,7 +151,10 @@ impl Plain {
     fn is_broken(&self, cert: &Certificate, edge: &Edge) -> bool {
         let (mask, x, width) = edge;
         let above = mask | (1 << (x % 16));
-        if !is_listed(cert, *mask) || !is_lawful(cert, *mask) || !is_lawful(cert, above) {
+        if listed_cost(cert, *mask).is_none()
+            || !is_lawful(cert, *mask)
+            || !is_lawful(cert, above)
+        {
             return false;
         }
         let reached = u64::from(self.value(cert, *mask)).saturating_add(*width);
@@ -183,13 +181,14 @@ impl Plain {
     }
 }
 
-fn is_listed(cert: &Certificate, set: Mask) -> bool {
+/// The cost of a set, if it is listed.
+fn listed_cost(cert: &Certificate, set: Mask) -> Option<u32> {
     for cell in cert.cells() {
         if cell.mask == set {
-            return true;
+            return Some(cell.cost);
         }
     }
-    false
+    None
 }
 
 /// Whether a set has b if it has a, of each pair (a, b).

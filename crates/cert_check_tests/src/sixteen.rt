@@ -5,18 +5,17 @@ use certificate::Certificate;
 use counted_io::Counting;
 use order_model::{ListedCell, Mask};
 use pla_reader::read_cover;
-use std::alloc::{AllocError, Global};
+use std::alloc::Global;
+use std::process::Abort;
 use std::thread::Threads;
 use truth_table::Tables;
 
 static SIXTEEN_ONES: &[u8] = b".i 16\n.o 1\n1111111111111111 1\n.e\n";
 
 /// The truth tables of a cover's text.
-pub(crate) fn tables_of<R: Threads + Sync>(rt: &R, alloc: Global, text: &[u8]) -> Option<Tables> {
-    match read_cover(alloc, &mut Counting::new(text)) {
-        Ok(cover) => Tables::of_cover(rt, alloc, &cover).ok(),
-        Err(_) => None,
-    }
+pub(crate) fn tables_of<R: Abort + Threads + Sync>(rt: &R, alloc: Global, text: &[u8]) -> Tables {
+    let cover = read_cover(alloc, &mut Counting::new(text)).expect(rt, "a cover");
+    Tables::of_cover(rt, alloc, &cover).expect(rt, "memory")
 }
 
 /// Costs of sets: that of the empty one, and of any other one a number for each member and a
@@ -41,41 +40,38 @@ fn cost_of(costs: &Costs, mask: Mask) -> u32 {
 }
 
 /// The costs of the proper subsets of sixteen variables.
-fn subsets(alloc: Global, costs: &Costs) -> Result<Vec<ListedCell>, AllocError> {
-    let mut cells = Vec::with_capacity(alloc, 65_535)?;
+fn subsets(rt: &impl Abort, alloc: Global, costs: &Costs) -> Vec<ListedCell> {
+    let mut cells = Vec::with_capacity(alloc, 65_535).expect(rt, "memory");
     for mask in 0..Mask::MAX {
         let cost = cost_of(costs, mask);
-        cells.push(ListedCell { mask, cost })?;
+        cells.push(ListedCell { mask, cost }).expect(rt, "memory");
     }
-    Ok(cells)
+    cells
 }
 
 /// The certificate of the file order, one node on each level, with these costs.
-fn certificate_of(alloc: Global, costs: &Costs) -> Option<Certificate> {
-    let Ok(order) = [0u8, 1, 2, 3, 4, 5, 6, 7, 8, 9, 10, 11, 12, 13, 14, 15].to_vec(alloc) else {
-        return None;
-    };
-    let Ok(levels) = [1u32; 16].to_vec(alloc) else {
-        return None;
-    };
-    match subsets(alloc, costs) {
-        Ok(cells) => Certificate::new(16, 1, order, levels, 16, cells),
-        Err(_) => None,
-    }
+fn certificate_of(rt: &impl Abort, alloc: Global, costs: &Costs) -> Certificate {
+    let order = [0u8, 1, 2, 3, 4, 5, 6, 7, 8, 9, 10, 11, 12, 13, 14, 15].to_vec(alloc);
+    let levels = [1u32; 16].to_vec(alloc);
+    Certificate::new(
+        16,
+        1,
+        order.expect(rt, "memory"),
+        levels.expect(rt, "memory"),
+        16,
+        subsets(rt, alloc, costs),
+    )
+    .expect(rt, "a spelling")
 }
 
-/// Whether the certificate with these costs has a spelling, and this verdict.
-fn is_judged<R: Threads + Sync>(
+/// The verdict on the certificate with these costs.
+fn verdict_on<R: Abort + Threads + Sync>(
     rt: &R,
     alloc: Global,
     tables: &Tables,
     costs: &Costs,
-    verdict: Verdict,
-) -> bool {
-    match certificate_of(alloc, costs) {
-        Some(cert) => check(rt, alloc, tables, &cert) == Ok(verdict),
-        None => false,
-    }
+) -> Verdict {
+    check(rt, alloc, tables, &certificate_of(rt, alloc, costs)).expect(rt, "memory")
 }
 
 /// Costs of sets, and the verdict.
@@ -125,20 +121,10 @@ static CASES: [(Costs, Verdict); 5] = [
     ),
 ];
 
-/// Whether each case's certificate of a cover has its verdict.
-fn are_judged<R: Threads + Sync>(rt: &R, alloc: Global, text: &[u8]) -> bool {
-    let Some(tables) = tables_of(rt, alloc, text) else {
-        return false;
-    };
-    for (costs, verdict) in &CASES {
-        if !is_judged(rt, alloc, &tables, costs, *verdict) {
-            return false;
-        }
-    }
-    true
-}
-
 #[test]
 fn judges_all_sets_of_sixteen_variables(rt: HostRuntime) {
-    assert!(rt; are_judged(&rt, rt.alloc(), SIXTEEN_ONES));
+    let tables = tables_of(&rt, rt.alloc(), SIXTEEN_ONES);
+    for (costs, verdict) in &CASES {
+        assert!(rt; verdict_on(&rt, rt.alloc(), &tables, costs) == *verdict);
+    }
 }

@@ -1,16 +1,17 @@
 //! The solver's certificates of random functions, as they are and with a cost changed.
 
-ghost use Rattle.std.specs.Prelude.{◌≡◌, ◌<◌, ◌≤◌, IfSome, length};
+ghost use Rattle.std.specs.Prelude.{◌≡◌, ◌<◌, ◌≤◌, length};
 
 use crate::plain::Plain;
 use crate::sixteen::tables_of;
 use cert_check::{Verdict, check, check_alone};
 use certificate::Certificate;
 use order_model::{ListedCell, NoGate, Pairs, VarIx, Workers};
-use order_solve::{Optimum, Preparation, Solution, solve};
+use order_solve::{Preparation, Solution, solve};
 use sifting::laws::diagrams_have_their_problems_tables;
 use sifting::{Manager, Sifted};
-use std::alloc::{AllocError, Global};
+use std::alloc::Global;
+use std::process::Abort;
 use std::thread::Threads;
 use table_diagrams::reduced_diagram;
 use truth_table::Tables;
@@ -49,48 +50,25 @@ fn random_values(inputs: u8, outputs: u8, seed: u64, point: u32) -> u32
 }
 
 /// Writes some bits, the lowest first.
-fn push_bits(text: &mut String, bits: u32, count: u8) -> Result<(), AllocError> {
+fn push_bits(rt: &impl Abort, text: &mut String, bits: u32, count: u8) {
     for place in 0..count.min(16) {
-        text.push(if (bits >> place) & 1 == 1 { '1' } else { '0' })?;
+        text.push(if (bits >> place) & 1 == 1 { '1' } else { '0' })
+            .expect(rt, "memory");
     }
-    Ok(())
-}
-
-/// Writes the rows of a cover of random functions.
-fn push_rows(text: &mut String, inputs: u8, outputs: u8, seed: u64) -> Result<(), AllocError>
-    requires { inputs ≤ 16 }
-{
-    for point in 0..1u32 << inputs {
-        push_bits(text, point, inputs)?;
-        push_bits(text, random_values(inputs, outputs, seed, point), outputs)?;
-        text.push('\n')?;
-    }
-    Ok(())
 }
 
 /// The text of a cover of random functions.
-fn random_text(alloc: Global, inputs: u8, outputs: u8, seed: u64) -> Result<String, AllocError>
+fn random_text(rt: &impl Abort, alloc: Global, inputs: u8, outputs: u8, seed: u64) -> String
     requires { inputs ≤ 16 }
 {
-    let mut text = format!(in alloc; ".i {inputs}\n.o {outputs}\n")?;
-    push_rows(&mut text, inputs, outputs, seed)?;
-    Ok(text)
-}
-
-/// The truth tables of random functions.
-fn random_tables<R: Threads + Sync>(
-    rt: &R,
-    alloc: Global,
-    inputs: u8,
-    outputs: u8,
-    seed: u64,
-) -> Option<Tables>
-    requires { inputs ≤ 16 }
-{
-    match random_text(alloc, inputs, outputs, seed) {
-        Ok(text) => tables_of(rt, alloc, text.as_bytes()),
-        Err(_) => None,
+    let mut text = format!(in alloc; ".i {inputs}\n.o {outputs}\n").expect(rt, "memory");
+    for point in 0..1u32 << inputs {
+        push_bits(rt, &mut text, point, inputs);
+        let values = random_values(inputs, outputs, seed, point);
+        push_bits(rt, &mut text, values, outputs);
+        text.push('\n').expect(rt, "memory");
     }
+    text
 }
 
 /// The pairs that random functions are solved under: none, or that variable 0 stands above
@@ -102,57 +80,36 @@ fn kept(inputs: u8, seed: u64) -> &'static [(VarIx, VarIx)] {
     &[(0, 1)]
 }
 
-/// The manager of some functions' reduced diagram under the first order that keeps the pairs.
-fn manager_of(alloc: Global, tables: &Tables, pairs: Pairs) -> Option<Manager>
+/// The order sifted from the first one that keeps the pairs.
+fn sifted_of(rt: &impl Abort, alloc: Global, tables: &Tables, pairs: Pairs) -> Sifted
     requires { pairs.inputs ≡ tables.now.inputs }
-    ensures problem { IfSome result (λ m. m.problem ≡ tables.now) }
+    ensures { result.problem ≡ tables.now }
 {
     let problem = tables.problem();
-    let Ok(order) = pairs.first_order(alloc) else {
-        return None;
-    };
-    if order.len() != usize::from(problem.inputs()) {
-        return None;
-    }
-    let Ok(diagram) = reduced_diagram(alloc, tables, &order) else {
-        return None;
-    };
+    let order = pairs.first_order(alloc).expect(rt, "memory");
+    assert!(rt; order.len() == usize::from(problem.inputs()));
+    let diagram = reduced_diagram(alloc, tables, &order).expect(rt, "memory");
     diagrams_have_their_problems_tables(problem);
-    Manager::with_pairs(alloc, diagram, pairs).ok()
-}
-
-/// The order sifted from the first one that keeps the pairs.
-fn sifted_of(alloc: Global, tables: &Tables, pairs: Pairs) -> Option<Sifted>
-    requires { pairs.inputs ≡ tables.now.inputs }
-    ensures { IfSome result (λ s. s.problem ≡ tables.now) }
-{
-    match manager_of(alloc, tables, pairs) {
-        Some(manager) => manager.sift(alloc).ok(),
-        None => None,
-    }
+    let manager = Manager::with_pairs(alloc, diagram, pairs).expect(rt, "memory");
+    manager.sift(alloc).expect(rt, "memory")
 }
 
 /// What the solver finds of some functions, with all rows found beforehand, from the order sifted
 /// from the first one that keeps the pairs.
-fn solution_of<R: Threads + Sync>(
+fn solution_of<R: Abort + Threads + Sync>(
     rt: &R,
     alloc: Global,
     tables: &Tables,
     pairs: Pairs,
-) -> Option<Solution>
+) -> Solution
     requires { pairs.inputs ≡ tables.now.inputs }
 {
-    let Some(workers) = Workers::new(2) else {
-        return None;
-    };
-    let Ok(prepared) = Preparation::by_workers(rt, alloc, tables.problem(), &pairs, 16, workers)
-    else {
-        return None;
-    };
-    match sifted_of(alloc, tables, pairs) {
-        Some(sifted) => solve(rt, alloc, prepared, sifted, workers, &NoGate).ok(),
-        None => None,
-    }
+    let workers = Workers::new(2).expect(rt, "two workers");
+    let problem = tables.problem();
+    let prepared = Preparation::by_workers(rt, alloc, problem, &pairs, 16, workers);
+    let prepared = prepared.expect(rt, "memory");
+    let sifted = sifted_of(rt, alloc, tables, pairs);
+    solve(rt, alloc, prepared, sifted, workers, &NoGate).expect(rt, "memory")
 }
 
 /// Functions, the pairs that are kept, and what the solver finds of them.
@@ -164,113 +121,80 @@ struct Solved {
 }
 
 /// What the solver finds of random functions.
-fn solve_random<R: Threads + Sync>(rt: &R, alloc: Global, inputs: u8, seed: u64) -> Option<Solved>
+fn solve_random<R: Abort + Threads + Sync>(rt: &R, alloc: Global, inputs: u8, seed: u64) -> Solved
     requires { inputs ≤ 16 }
 {
-    let Some(tables) = random_tables(rt, alloc, inputs, 1 + (seed % 4) as u8, seed) else {
-        return None;
-    };
+    let text = random_text(rt, alloc, inputs, 1 + (seed % 4) as u8, seed);
+    let tables = tables_of(rt, alloc, text.as_bytes());
     let pairs = kept(inputs, seed);
-    let Ok(parsed) = Pairs::of(pairs, tables.problem().inputs()) else {
-        return None;
-    };
-    match solution_of(rt, alloc, &tables, parsed) {
-        Some(solution) => Some(Solved {
-            tables,
-            pairs,
-            solution,
-        }),
-        None => None,
+    let parsed = Pairs::of(pairs, tables.problem().inputs()).expect(rt, "pairs");
+    let solution = solution_of(rt, alloc, &tables, parsed);
+    Solved {
+        tables,
+        pairs,
+        solution,
     }
 }
 
-/// An order, and the numbers of nodes on its levels.
-fn order_and_levels(alloc: Global, found: &Optimum) -> Result<(Vec<VarIx>, Vec<u32>), AllocError> {
-    let order = found.order.variables().to_vec(alloc)?;
-    let levels = found.levels.to_vec(alloc)?;
-    Ok((order, levels))
-}
-
-/// The solver's certificate with other costs, in format 1.
-fn first_format(alloc: Global, solved: &Solved, cells: Vec<ListedCell>) -> Option<Certificate> {
-    let problem = solved.tables.problem();
-    let best = &solved.solution.optimum;
-    let (inputs, outputs) = (problem.inputs(), problem.outputs());
-    match order_and_levels(alloc, best) {
-        Ok((order, levels)) => {
-            Certificate::new(inputs, outputs, order, levels, best.total, cells)
-        }
-        Err(_) => None,
-    }
-}
-
-/// The same in format 2, which has the pairs.
-fn second_format(alloc: Global, solved: &Solved, cells: Vec<ListedCell>) -> Option<Certificate> {
-    let problem = solved.tables.problem();
-    let best = &solved.solution.optimum;
-    let (inputs, outputs) = (problem.inputs(), problem.outputs());
-    let Ok(pairs) = solved.pairs.to_vec(alloc) else {
-        return None;
-    };
-    match order_and_levels(alloc, best) {
-        Ok((order, levels)) => {
-            Certificate::new2(inputs, outputs, order, levels, best.total, pairs, cells)
-        }
-        Err(_) => None,
-    }
-}
-
-/// Gives a cost to the cells at some places.
-fn set_costs(cells: &mut [ListedCell], places: &[usize], cost: u32) {
+/// The listed costs, with another one at some places.
+fn changed_cells(
+    rt: &impl Abort,
+    alloc: Global,
+    cells: &[ListedCell],
+    places: &[usize],
+    cost: u32,
+) -> Vec<ListedCell> {
+    let mut cells = cells.to_vec(alloc).expect(rt, "memory");
     for place in places {
         if let Some(cell) = cells.get_mut(*place) {
             cell.cost = cost;
         }
     }
+    cells
 }
 
-/// The solver's certificate with the cost at some places changed, in format 1 or 2.
+/// The solver's certificate with the cost at some places changed, in format 1, or in format 2,
+/// which has the pairs.
 fn changed(
+    rt: &impl Abort,
     alloc: Global,
     solved: &Solved,
     places: &[usize],
     cost: u32,
     format: u8,
-) -> Option<Certificate> {
-    let Ok(mut cells) = solved.solution.cells.to_vec(alloc) else {
-        return None;
-    };
-    set_costs(&mut cells, places, cost);
-    if format == 1 {
-        first_format(alloc, solved, cells)
+) -> Certificate {
+    let problem = solved.tables.problem();
+    let (inputs, outputs) = (problem.inputs(), problem.outputs());
+    let best = &solved.solution.optimum;
+    let order = best.order.variables().to_vec(alloc).expect(rt, "memory");
+    let levels = best.levels.to_vec(alloc).expect(rt, "memory");
+    let cells = changed_cells(rt, alloc, &solved.solution.cells, places, cost);
+    let made = if format == 1 {
+        Certificate::new(inputs, outputs, order, levels, best.total, cells)
     } else {
-        second_format(alloc, solved, cells)
-    }
+        let pairs = solved.pairs.to_vec(alloc).expect(rt, "memory");
+        Certificate::new2(inputs, outputs, order, levels, best.total, pairs, cells)
+    };
+    made.expect(rt, "a spelling")
 }
 
-/// Whether the solver's certificate has a spelling and is valid.
-fn is_valid<R: Threads + Sync>(rt: &R, alloc: Global, solved: &Solved) -> bool {
-    match changed(alloc, solved, &[], 0, 2) {
-        Some(cert) => check(rt, alloc, &solved.tables, &cert) == Ok(Verdict::Valid),
-        None => false,
-    }
-}
-
-/// The same of random functions.
-fn has_valid_solution<R: Threads + Sync>(rt: &R, alloc: Global, inputs: u8, seed: u64) -> bool
-    requires { inputs ≤ 16 }
-{
-    match solve_random(rt, alloc, inputs, seed) {
-        Some(solved) => is_valid(rt, alloc, &solved),
-        None => false,
-    }
+/// Whether the solver's certificate is valid.
+fn is_valid<R: Abort + Threads + Sync>(rt: &R, alloc: Global, solved: &Solved) -> bool {
+    let cert = changed(rt, alloc, solved, &[], 0, 2);
+    check(rt, alloc, &solved.tables, &cert).expect(rt, "memory") == Verdict::Valid
 }
 
 #[test]
 fn solutions_are_valid(rt: HostRuntime) {
     for inputs in 1..9u8 {
         for seed in 0..4u64 {
-            assert!(rt; has_valid_solution(&rt, rt.alloc(), inputs, seed));
+            assert!(rt;
+                is_valid(
+                    &rt,
+                    rt.alloc(),
+                    &solve_random(&rt, rt.alloc(), inputs, seed)
+                )
+            );
         }
     }
 }
@@ -289,21 +213,9 @@ fn place_of_exchanged(cells: &[ListedCell], inputs: u8, place: usize) -> usize
     place
 }
 
-/// Whether a certificate has its plain verdict, by the calling thread and by several.
-fn has_plain_verdict<R: Threads + Sync>(
-    rt: &R,
-    alloc: Global,
-    solved: &Solved,
-    plain: &Plain,
-    cert: &Certificate,
-) -> bool {
-    let wanted = Ok(plain.verdict(cert));
-    check_alone(alloc, &solved.tables, cert) == wanted
-        && check(rt, alloc, &solved.tables, cert) == wanted
-}
-
-/// Whether the solver's certificate with the cost at some places changed has its plain verdict.
-fn is_judged_in<R: Threads + Sync>(
+/// Whether the solver's certificate with the cost at some places changed has its plain verdict, by
+/// the calling thread and by several.
+fn is_judged<R: Abort + Threads + Sync>(
     rt: &R,
     alloc: Global,
     solved: &Solved,
@@ -312,71 +224,38 @@ fn is_judged_in<R: Threads + Sync>(
     cost: u32,
     format: u8,
 ) -> bool {
-    match changed(alloc, solved, places, cost, format) {
-        Some(cert) => has_plain_verdict(rt, alloc, solved, plain, &cert),
-        None => false,
+    let cert = changed(rt, alloc, solved, places, cost, format);
+    let wanted = plain.verdict(&cert);
+    check_alone(alloc, &solved.tables, &cert).expect(rt, "memory") == wanted
+        && check(rt, alloc, &solved.tables, &cert).expect(rt, "memory") == wanted
+}
+
+/// Judges the certificate with the cost at some places as a given one, one less and one more, in
+/// both formats if there are no pairs, and in format 2 otherwise.
+fn judge_near<R: Abort + Threads + Sync>(
+    rt: &R,
+    alloc: Global,
+    solved: &Solved,
+    plain: &Plain,
+    places: &[usize],
+    cost: u32,
+) {
+    let first = if solved.pairs.is_empty() { 1 } else { 2 };
+    for near in cost.saturating_sub(1)..=cost.saturating_add(1) {
+        for format in first..=2u8 {
+            assert!(rt; is_judged(rt, alloc, solved, plain, places, near, format));
+        }
     }
 }
 
-/// The same in both formats if there are no pairs, and in format 2 otherwise.
-fn is_judged<R: Threads + Sync>(
-    rt: &R,
-    alloc: Global,
-    solved: &Solved,
-    plain: &Plain,
-    places: &[usize],
-    cost: u32,
-) -> bool {
-    (!solved.pairs.is_empty() || is_judged_in(rt, alloc, solved, plain, places, cost, 1))
-        && is_judged_in(rt, alloc, solved, plain, places, cost, 2)
-}
-
-/// Whether that is so with the cost at some places as a given one, one less and one more.
-fn are_judged_near<R: Threads + Sync>(
-    rt: &R,
-    alloc: Global,
-    solved: &Solved,
-    plain: &Plain,
-    places: &[usize],
-    cost: u32,
-) -> bool {
-    is_judged(rt, alloc, solved, plain, places, cost.saturating_sub(1))
-        && is_judged(rt, alloc, solved, plain, places, cost)
-        && is_judged(rt, alloc, solved, plain, places, cost.saturating_add(1))
-}
-
-/// Whether that is so with each cost, alone and with that of the exchanged set.
-fn are_judged<R: Threads + Sync>(
-    rt: &R,
-    alloc: Global,
-    solved: &Solved,
-    plain: &Plain,
-    inputs: u8,
-) -> bool
-    requires { inputs ≤ 16 }
-{
+/// Judges it with each cost changed, alone and with that of the exchanged set.
+fn judge_changes<R: Abort + Threads + Sync>(rt: &R, alloc: Global, solved: &Solved, plain: &Plain) {
+    let inputs = solved.tables.problem().inputs();
     let cells = solved.solution.cells.as_slice();
     for (place, cell) in cells.iter().enumerate() {
         let other = place_of_exchanged(cells, inputs, place);
-        if !are_judged_near(rt, alloc, solved, plain, &[place], cell.cost)
-            || !are_judged_near(rt, alloc, solved, plain, &[place, other], cell.cost)
-        {
-            return false;
-        }
-    }
-    true
-}
-
-/// Whether that is so of the solver's certificate of random functions.
-fn have_plain_verdicts<R: Threads + Sync>(rt: &R, alloc: Global, inputs: u8, seed: u64) -> bool
-    requires { inputs ≤ 16 }
-{
-    let Some(solved) = solve_random(rt, alloc, inputs, seed) else {
-        return false;
-    };
-    match Plain::of(alloc, &solved.tables) {
-        Ok(plain) => are_judged(rt, alloc, &solved, &plain, inputs),
-        Err(_) => false,
+        judge_near(rt, alloc, solved, plain, &[place], cell.cost);
+        judge_near(rt, alloc, solved, plain, &[place, other], cell.cost);
     }
 }
 
@@ -384,7 +263,9 @@ fn have_plain_verdicts<R: Threads + Sync>(rt: &R, alloc: Global, inputs: u8, see
 fn changed_costs_have_the_plain_verdict(rt: HostRuntime) {
     for inputs in 1..6u8 {
         for seed in 0..4u64 {
-            assert!(rt; have_plain_verdicts(&rt, rt.alloc(), inputs, seed));
+            let solved = solve_random(&rt, rt.alloc(), inputs, seed);
+            let plain = Plain::of(&rt, rt.alloc(), &solved.tables);
+            judge_changes(&rt, rt.alloc(), &solved, &plain);
         }
     }
 }

@@ -1,20 +1,15 @@
 //! Pairs of a table's entries, numbered by first occurrence and by keys.
 
-use pair_numbering::{NumberedPairs, PairKeys, label_strip_pairs, number_pairs};
+use pair_numbering::{PairKeys, label_strip_pairs, number_pairs};
 use std::alloc::Global;
-
-/// Whether pairs are numbered so.
-fn are_numbered(numbered: &NumberedPairs, numbers: &[u32], pairs: &[(u32, u32)]) -> bool {
-    numbered.numbers.as_slice() == numbers && numbered.pairs.as_slice() == pairs
-}
+use std::process::Abort;
 
 /// Whether pairs are numbered by first occurrence.
-fn numbers_pairs(alloc: Global) -> bool {
+fn numbers_pairs(rt: &impl Abort, alloc: Global) -> bool {
     let numbers = [2, 0, 1, 2, 0, 0, 1, 2, 2, 0, 1, 1];
-    match number_pairs(alloc, &numbers, 1, 3) {
-        Ok(numbered) => are_numbered(&numbered, &[0, 1, 2, 1, 0, 2], &[(2, 1), (0, 2), (0, 1)]),
-        Err(_) => false,
-    }
+    let numbered = number_pairs(alloc, &numbers, 1, 3).expect(rt, "memory");
+    numbered.numbers.as_slice() == [0, 1, 2, 1, 0, 2].as_slice()
+        && numbered.pairs.as_slice() == [(2, 1), (0, 2), (0, 1)].as_slice()
 }
 
 /// Whether pairs have these keys and masks.
@@ -23,18 +18,13 @@ fn have_keys(keys: PairKeys, numbers: &[u32], masks: &[u16]) -> bool {
 }
 
 /// Whether pairs of strips have their keys and masks.
-fn labels_strip_pairs(alloc: Global) -> bool {
+fn labels_strip_pairs(rt: &impl Abort, alloc: Global) -> bool {
     let names = [(0, 1), (1, 1)];
-    let Ok(keys) = label_strip_pairs(alloc, &names, &[0, 1, 2, 0], 1, 3, &[1, 2, 4]) else {
-        return false;
-    };
-    if !have_keys(keys, &[0, 1, 2, 3], &[13, 11, 4, 1]) {
-        return false;
-    }
-    match label_strip_pairs(alloc, &names, &[0, 1, 1, 0], 1, 3, &[1, 2]) {
-        Ok(keys) => have_keys(keys, &[2, 1, 3, 0], &[1, 11, 11, 2]),
-        Err(_) => false,
-    }
+    let four = label_strip_pairs(alloc, &names, &[0, 1, 2, 0], 1, 3, &[1, 2, 4]);
+    let is_four = have_keys(four.expect(rt, "memory"), &[0, 1, 2, 3], &[13, 11, 4, 1]);
+    let two = label_strip_pairs(alloc, &names, &[0, 1, 1, 0], 1, 3, &[1, 2]);
+    let is_two = have_keys(two.expect(rt, "memory"), &[2, 1, 3, 0], &[1, 11, 11, 2]);
+    is_four && is_two
 }
 
 /// Eighty pairs that are looked for from one slot on, each of them twice. Fewer slots are tried.
@@ -62,19 +52,15 @@ fn count_up_to_eighty(numbers: &[u32]) -> bool {
 }
 
 /// Whether the crowded pairs are numbered by first occurrence.
-fn numbers_crowded_pairs(alloc: Global) -> bool {
+fn numbers_crowded_pairs(rt: &impl Abort, alloc: Global) -> bool {
     let numbers = crowded_pairs();
-    if !numbers.iter().all(|number| *number < 1 << 17) {
-        return false;
-    }
-    match number_pairs(alloc, &numbers, 0, 1 << 17) {
-        Ok(numbered) => numbered.pairs.len() == 80 && count_up_to_eighty(&numbered.numbers),
-        Err(_) => false,
-    }
+    assert!(rt; numbers.iter().all(|number| *number < 1 << 17));
+    let numbered = number_pairs(alloc, &numbers, 0, 1 << 17).expect(rt, "memory");
+    numbered.pairs.len() == 80 && count_up_to_eighty(&numbered.numbers)
 }
 
 #[test]
 fn numberings_of_pairs(rt: HostRuntime) {
-    assert!(rt; numbers_pairs(rt.alloc()) && numbers_crowded_pairs(rt.alloc()));
-    assert!(rt; labels_strip_pairs(rt.alloc()));
+    assert!(rt; numbers_pairs(&rt, rt.alloc()) && numbers_crowded_pairs(&rt, rt.alloc()));
+    assert!(rt; labels_strip_pairs(&rt, rt.alloc()));
 }

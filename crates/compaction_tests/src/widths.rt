@@ -3,25 +3,23 @@
 ghost use Rattle.std.specs.Prelude.{◌≡◌, length};
 ghost use Rattle.subset_layers.specs.Layers.{block_masks};
 
-use crate::problems::{MULTIPLEXER, PROBLEMS, Tables, cubes, five_bit_numbers, problem_of};
+use crate::problems::{MULTIPLEXER, PROBLEMS, cubes, five_bit_numbers, problem_of};
 use crate::tables::width_alone;
 use compaction::{BlockWidths, SharedTables, Tally, all_widths};
 use order_model::{Mask, Problem, contains};
 use std::alloc::Global;
+use std::process::Abort;
 use subset_layers::{Block, Layer};
 
 /// The widths of a set's members, each by itself.
-fn row_alone(alloc: Global, problem: &Problem, mask: Mask) -> Option<[u32; 16]> {
+fn row_alone(rt: &impl Abort, alloc: Global, problem: &Problem, mask: Mask) -> [u32; 16] {
     let mut row = [0; 16];
     for x in 0..16u8 {
         if contains(mask, x) {
-            let Some(width) = width_alone(alloc, problem, mask & !(1 << x), x) else {
-                return None;
-            };
-            row[x as usize] = width;
+            row[x as usize] = width_alone(rt, alloc, problem, mask & !(1 << x), x);
         }
     }
-    Some(row)
+    row
 }
 
 /// The sum of a row.
@@ -42,138 +40,86 @@ fn members_of(block: &Block) -> u64 {
     members
 }
 
-/// The sum of the widths of a block, if its rows are those by each set alone.
-fn sum_of_rows(alloc: Global, problem: &Problem, block: &Block, widths: &BlockWidths) -> Option<u64>
+/// The sum of the widths of a block, whose rows are to be those by each set alone.
+fn sum_of_rows(
+    rt: &impl Abort,
+    alloc: Global,
+    problem: &Problem,
+    block: &Block,
+    widths: &BlockWidths,
+) -> u64
     requires { length widths.now.rows ≡ length (block_masks block.now) }
 {
     let mut sum = 0u64;
     for i in 0..block.len() {
-        match row_alone(alloc, problem, block.mask(i)) {
-            Some(row) if widths.row(i) == row => sum = sum.saturating_add(sum_of(&row)),
-            _ => return None,
-        }
+        let row = row_alone(rt, alloc, problem, block.mask(i));
+        assert!(rt; widths.row(i) == row);
+        sum = sum.saturating_add(sum_of(&row));
     }
-    Some(sum)
+    sum
 }
 
 /// The same, where the widths are taken first.
 fn sum_of_block(
+    rt: &impl Abort,
     alloc: Global,
     problem: &Problem,
     shared: &SharedTables<'_>,
     block: &Block,
-) -> Option<u64>
+) -> u64
     requires { shared.now ≡ problem.now }
 {
-    if block.inputs() != problem.inputs() {
-        return None;
-    }
+    assert!(rt; block.inputs() == problem.inputs());
     let mut tally = Tally::new();
-    let Ok(widths) = shared.all_widths(alloc, block, &mut tally) else {
-        return None;
-    };
-    if widths.compactions() <= 2367 && tally.count() == members_of(block) {
-        sum_of_rows(alloc, problem, block, &widths)
-    } else {
-        None
-    }
+    let widths = shared
+        .all_widths(alloc, block, &mut tally)
+        .expect(rt, "memory");
+    assert!(rt; widths.compactions() <= 2367 && tally.count() == members_of(block));
+    sum_of_rows(rt, alloc, problem, block, &widths)
 }
 
-/// The same for all blocks of a layer.
-fn sum_of_blocks(
-    alloc: Global,
-    problem: &Problem,
-    shared: &SharedTables<'_>,
-    layer: &Layer,
-) -> Option<u64>
-    requires { shared.now ≡ problem.now }
-{
+/// The same for all blocks of the layer of the sets of a size.
+fn sum_of_layer(rt: &impl Abort, alloc: Global, problem: &Problem, size: u8) -> u64 {
+    let layer = Layer::of(alloc, problem.inputs(), size).expect(rt, "memory");
+    let shared = SharedTables::of(alloc, problem).expect(rt, "memory");
     let mut sum = 0u64;
     for i in 0..layer.blocks() {
-        let Some(own) = sum_of_block(alloc, problem, shared, &layer.block(i)) else {
-            return None;
-        };
+        let own = sum_of_block(rt, alloc, problem, &shared, &layer.block(i));
         sum = sum.saturating_add(own);
     }
-    Some(sum)
-}
-
-/// The same for the layer of the sets of a size.
-fn sum_of_layer(alloc: Global, problem: &Problem, size: u8) -> Option<u64> {
-    let Ok(layer) = Layer::of(alloc, problem.inputs(), size) else {
-        return None;
-    };
-    match SharedTables::of(alloc, problem) {
-        Ok(shared) => sum_of_blocks(alloc, problem, &shared, &layer),
-        Err(_) => None,
-    }
+    sum
 }
 
 /// Whether the set of the two lowest variables is the first of a block of three, with one
 /// subfunction at each, and two widths are taken for the block.
-fn has_one_at_each(alloc: Global, problem: &Problem, block: &Block) -> bool {
-    if [problem.inputs(), block.inputs()] != [3, 3] || block.len() == 0 {
-        return false;
-    }
+fn has_one_at_each(rt: &impl Abort, alloc: Global, problem: &Problem, block: &Block) -> bool {
+    assert!(rt; problem.inputs() == 3 && block.inputs() == 3 && block.len() > 0);
     let mut tally = Tally::new();
-    match all_widths(alloc, problem, block, &mut tally) {
-        Ok(widths) => {
-            let row = widths.row(0);
-            block.mask(0) == 0x0003 && row[..3] == [1, 1, 0] && tally.count() == 2
-        }
-        Err(_) => false,
-    }
+    let widths = all_widths(alloc, problem, block, &mut tally).expect(rt, "memory");
+    let row = widths.row(0);
+    block.mask(0) == 0x0003 && row[..3] == [1, 1, 0] && tally.count() == 2
 }
 
-/// The same of the multiplexer's first block of three, one for each set of two variables.
-fn has_widths(alloc: Global) -> bool {
-    let Some(problem) = problem_of(alloc, MULTIPLEXER) else {
-        return false;
-    };
-    match Layer::of(alloc, 3, 2) {
-        Ok(layer) => { layer.blocks() == 3 && has_one_at_each(alloc, &problem, &layer.block(0)) }
-        Err(_) => false,
-    }
+// The layer has three blocks, one for each set of two variables.
+#[test]
+fn first_block_of_the_multiplexer(rt: HostRuntime) {
+    let problem = problem_of(&rt, rt.alloc(), MULTIPLEXER);
+    let layer = Layer::of(rt.alloc(), 3, 2).expect(&rt, "memory");
+    assert!(rt; layer.blocks() == 3);
+    assert!(rt; has_one_at_each(&rt, rt.alloc(), &problem, &layer.block(0)));
 }
 
-/// Whether the widths of all layers but the empty set's are those by each set alone.
-fn are_alike(alloc: Global, tables: Tables) -> bool {
-    let Some(problem) = problem_of(alloc, tables) else {
-        return false;
-    };
+/// Sums the widths of all layers but the empty set's, which are to be those by each set alone.
+fn sum_layers(rt: &impl Abort, alloc: Global, problem: &Problem) {
     for size in 1..=problem.inputs() {
-        if sum_of_layer(alloc, &problem, size).is_none() {
-            return false;
-        }
+        let _sum = sum_of_layer(rt, alloc, problem, size);
     }
-    true
 }
 
 #[test]
 fn widths_of_blocks(rt: HostRuntime) {
-    assert!(rt; has_widths(rt.alloc()));
     for tables in &PROBLEMS {
-        assert!(rt; are_alike(rt.alloc(), *tables));
-    }
-}
-
-/// The sums of the widths of the first layer, of that in the middle and of the last one.
-fn sums_of_numbers(alloc: Global) -> [Option<u64>; 3] {
-    match five_bit_numbers(alloc) {
-        Some(problem) => [
-            sum_of_layer(alloc, &problem, 1),
-            sum_of_layer(alloc, &problem, 5),
-            sum_of_layer(alloc, &problem, 10),
-        ],
-        None => [None; 3],
-    }
-}
-
-/// The sum of the widths of the layer of the sets of four.
-fn sum_of_cubes(alloc: Global) -> Option<u64> {
-    match cubes(alloc) {
-        Some(problem) => sum_of_layer(alloc, &problem, 4),
-        None => None,
+        sum_layers(&rt, rt.alloc(), &problem_of(&rt, rt.alloc(), *tables));
     }
 }
 
@@ -181,6 +127,10 @@ fn sum_of_cubes(alloc: Global) -> Option<u64> {
 // subfunctions are distinct. The sums were counted by another program, by the definition.
 #[test]
 fn widths_of_ten_variables(rt: HostRuntime) {
-    assert!(rt; sums_of_numbers(rt.alloc()) == [Some(20), Some(41363), Some(22)]);
-    assert!(rt; sum_of_cubes(rt.alloc()) == Some(53457));
+    let numbers = five_bit_numbers(&rt, rt.alloc());
+    assert!(rt; sum_of_layer(&rt, rt.alloc(), &numbers, 1) == 20);
+    assert!(rt; sum_of_layer(&rt, rt.alloc(), &numbers, 5) == 41363);
+    assert!(rt; sum_of_layer(&rt, rt.alloc(), &numbers, 10) == 22);
+    let cubes = cubes(&rt, rt.alloc());
+    assert!(rt; sum_of_layer(&rt, rt.alloc(), &cubes, 4) == 53457);
 }

@@ -1,8 +1,9 @@
 //! Certificates and their texts.
 
 use certificate::Certificate;
-use order_model::{ListedCell, Mask, VarIx};
-use std::alloc::{AllocError, Global};
+use order_model::{ListedCell, VarIx};
+use std::alloc::Global;
+use std::process::Abort;
 
 /// The multiplexer's certificate in format 1.
 const MULTIPLEXER: &str =
@@ -16,15 +17,11 @@ const ABOVE: &str =
 const LARGEST: &str =
     "bddorder-certificate 2\ninputs 16\noutputs 16\norder 15 15 15 15 15 15 15 15 15 15 15 15 15 15 15 15\nlevels 999999 0 0 0 0 0 0 0 0 0 0 0 0 0 0 0\ntotal 999999\npairs 2\n14 15\n15 0\ncells 3\n00ff 10\n0abc 999999\nfffe 0\nend\n";
 
-fn listed(alloc: Global, cells: &[(Mask, u32)]) -> Result<Vec<ListedCell>, AllocError> {
-    let mut listed = Vec::new(alloc);
-    for (mask, cost) in cells {
-        listed.push(ListedCell {
-            mask: *mask,
-            cost: *cost,
-        })?;
-    }
-    Ok(listed)
+/// Sets with their costs.
+macro_rules! cells {
+    ($(($mask:expr, $cost:expr)),*) => {
+        &[$(ListedCell { mask: $mask, cost: $cost }),*]
+    };
 }
 
 /// The parts of a certificate: its numbers of inputs and outputs, order, level counts, total, pairs
@@ -35,61 +32,21 @@ type Parts = (
     &'static [u32],
     u32,
     Option<&'static [(VarIx, VarIx)]>,
-    &'static [(Mask, u32)],
+    &'static [ListedCell],
 );
 
-/// The lists that a certificate has in both formats.
-#[derive(Drop)]
-struct Lists {
-    order: Vec<VarIx>,
-    levels: Vec<u32>,
-    cells: Vec<ListedCell>,
-}
-
-fn lists_of(alloc: Global, parts: &Parts) -> Result<Lists, AllocError> {
-    let (_, order, levels, _, _, cells) = parts;
-    let order = order.to_vec(alloc)?;
-    let levels = levels.to_vec(alloc)?;
-    let cells = listed(alloc, cells)?;
-    Ok(Lists {
-        order,
-        levels,
-        cells,
-    })
-}
-
-/// A certificate of parts without their pairs, in format 1.
-fn first_format(alloc: Global, parts: &Parts) -> Result<Option<Certificate>, AllocError> {
-    let ((inputs, outputs), _, _, total, _, _) = parts;
-    let Lists {
-        order,
-        levels,
-        cells,
-    } = lists_of(alloc, parts)?;
-    Ok(Certificate::new(*inputs, *outputs, order, levels, *total, cells))
-}
-
-/// A certificate of parts with these pairs, in format 2.
-fn second_format(
-    alloc: Global,
-    parts: &Parts,
-    pairs: &[(VarIx, VarIx)],
-) -> Result<Option<Certificate>, AllocError> {
-    let ((inputs, outputs), _, _, total, _, _) = parts;
-    let pairs = pairs.to_vec(alloc)?;
-    let Lists {
-        order,
-        levels,
-        cells,
-    } = lists_of(alloc, parts)?;
-    Ok(Certificate::new2(*inputs, *outputs, order, levels, *total, pairs, cells))
-}
-
 /// A certificate of parts, in format 1 if they have no list of pairs.
-fn certificate_of(alloc: Global, parts: &Parts) -> Result<Option<Certificate>, AllocError> {
-    match parts.4 {
-        None => first_format(alloc, parts),
-        Some(pairs) => second_format(alloc, parts, pairs),
+fn certificate_of(rt: &impl Abort, alloc: Global, parts: &Parts) -> Option<Certificate> {
+    let ((inputs, outputs), order, levels, total, pairs, cells) = parts;
+    let order = order.to_vec(alloc).expect(rt, "memory");
+    let levels = levels.to_vec(alloc).expect(rt, "memory");
+    let cells = cells.to_vec(alloc).expect(rt, "memory");
+    match pairs {
+        None => Certificate::new(*inputs, *outputs, order, levels, *total, cells),
+        Some(pairs) => {
+            let pairs = pairs.to_vec(alloc).expect(rt, "memory");
+            Certificate::new2(*inputs, *outputs, order, levels, *total, pairs, cells)
+        }
     }
 }
 
@@ -102,7 +59,7 @@ static SPELLED: [(Parts, &str); 3] = [
             &[1, 1, 1],
             3,
             None,
-            &[(0, 0), (1, 1), (2, 1), (3, 2), (4, 2)],
+            cells![(0, 0), (1, 1), (2, 1), (3, 2), (4, 2)],
         ),
         MULTIPLEXER,
     ),
@@ -113,7 +70,7 @@ static SPELLED: [(Parts, &str); 3] = [
             &[1, 2, 1],
             4,
             Some(&[(0, 2)]),
-            &[(0, 0), (2, 1)],
+            cells![(0, 0), (2, 1)],
         ),
         ABOVE,
     ),
@@ -124,7 +81,7 @@ static SPELLED: [(Parts, &str); 3] = [
             &[999_999, 0, 0, 0, 0, 0, 0, 0, 0, 0, 0, 0, 0, 0, 0, 0],
             999_999,
             Some(&[(14, 15), (15, 0)]),
-            &[(0xff, 10), (0xabc, 999_999), (0xfffe, 0)],
+            cells![(0xff, 10), (0xabc, 999_999), (0xfffe, 0)],
         ),
         LARGEST,
     ),
@@ -141,26 +98,15 @@ static UNSPELLED: [Parts; 17] = [
     ((1, 1), &[0], &[], 0, None, &[]),
     ((1, 1), &[0], &[1_000_000], 0, None, &[]),
     ((1, 1), &[0], &[0], 1_000_000, None, &[]),
-    ((1, 1), &[0], &[0], 0, None, &[(1, 0)]),
-    ((1, 1), &[0], &[0], 0, None, &[(0, 1_000_000)]),
-    ((2, 1), &[0, 1], &[0, 0], 0, None, &[(1, 0), (0, 0)]),
-    ((2, 1), &[0, 1], &[0, 0], 0, None, &[(1, 0), (1, 0)]),
+    ((1, 1), &[0], &[0], 0, None, cells![(1, 0)]),
+    ((1, 1), &[0], &[0], 0, None, cells![(0, 1_000_000)]),
+    ((2, 1), &[0, 1], &[0, 0], 0, None, cells![(1, 0), (0, 0)]),
+    ((2, 1), &[0, 1], &[0, 0], 0, None, cells![(1, 0), (1, 0)]),
     ((2, 1), &[0, 1], &[0, 0], 0, Some(&[(0, 2)]), &[]),
     ((2, 1), &[0, 1], &[0, 0], 0, Some(&[(2, 0)]), &[]),
     ((2, 1), &[0, 1], &[0, 0], 0, Some(&[(1, 0), (0, 1)]), &[]),
     ((2, 1), &[0, 1], &[0, 0], 0, Some(&[(0, 1), (0, 1)]), &[]),
 ];
-
-/// Whether sets are listed with their costs.
-fn are_listed(cells: &[ListedCell], wanted: &[(Mask, u32)]) -> bool {
-    for (i, (mask, cost)) in wanted.iter().enumerate() {
-        match cells.get(i) {
-            Some(cell) if cell.mask == *mask && cell.cost == *cost => {}
-            _ => return false,
-        }
-    }
-    cells.len() == wanted.len()
-}
 
 /// Whether a certificate has the parts.
 fn is_of(cert: &Certificate, parts: &Parts) -> bool {
@@ -171,53 +117,33 @@ fn is_of(cert: &Certificate, parts: &Parts) -> bool {
         && cert.levels() == *levels
         && cert.total() == *total
         && cert.pairs() == pairs.unwrap_or(&[])
-        && are_listed(cert.cells(), cells)
-}
-
-/// Whether a certificate's text is this.
-fn has_text(alloc: Global, cert: &Certificate, spelling: &str) -> bool {
-    match cert.text(alloc) {
-        Ok(text) => text.as_str() == spelling,
-        Err(_) => false,
-    }
+        && cert.cells() == *cells
 }
 
 /// Whether parts have a spelling, as which their certificate is written.
-fn is_written(alloc: Global, parts: &Parts, spelling: &str) -> bool {
-    match certificate_of(alloc, parts) {
-        Ok(Some(cert)) => is_of(&cert, parts) && has_text(alloc, &cert, spelling),
-        _ => false,
-    }
+fn is_written(rt: &impl Abort, alloc: Global, parts: &Parts, spelling: &str) -> bool {
+    let cert = certificate_of(rt, alloc, parts).expect(rt, "a certificate");
+    let text = cert.text(alloc).expect(rt, "memory");
+    is_of(&cert, parts) && text.as_str() == spelling
 }
 
 /// Whether a spelling is read as a certificate of the parts.
-fn is_read(alloc: Global, parts: &Parts, spelling: &str) -> bool {
-    match Certificate::parse(alloc, spelling.as_bytes()) {
-        Ok(cert) => is_of(&cert, parts),
-        Err(_) => false,
-    }
+fn is_read(rt: &impl Abort, alloc: Global, parts: &Parts, spelling: &str) -> bool {
+    let cert = Certificate::parse(alloc, spelling.as_bytes()).expect(rt, "a certificate");
+    is_of(&cert, parts)
 }
 
 #[test]
 fn spellings_are_written_and_read(rt: HostRuntime) {
     for (parts, spelling) in &SPELLED {
-        assert!(rt;
-            is_written(rt.alloc(), parts, spelling) && is_read(rt.alloc(), parts, spelling)
-        );
-    }
-}
-
-/// Whether parts have no spelling.
-fn have_none(alloc: Global, parts: &Parts) -> bool {
-    match certificate_of(alloc, parts) {
-        Ok(cert) => cert.is_none(),
-        Err(_) => false,
+        assert!(rt; is_written(&rt, rt.alloc(), parts, spelling));
+        assert!(rt; is_read(&rt, rt.alloc(), parts, spelling));
     }
 }
 
 #[test]
 fn other_parts_have_no_spelling(rt: HostRuntime) {
     for parts in &UNSPELLED {
-        assert!(rt; have_none(rt.alloc(), parts));
+        assert!(rt; certificate_of(&rt, rt.alloc(), parts).is_none());
     }
 }

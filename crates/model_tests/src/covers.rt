@@ -4,6 +4,7 @@ use counted_io::Counting;
 use order_model::Term;
 use pla_reader::{Cover, read_cover};
 use std::alloc::Global;
+use std::process::Abort;
 
 /// A multiplexer: two products of the variables a, b and s.
 static NAMED: &[u8] = b".i 3\n.o 1\n.ilb a b s\n.ob f\n1-0 1\n-11 1\n.e\n";
@@ -45,24 +46,15 @@ fn is_multiplexer(cover: &Cover) -> bool {
     }
 }
 
-/// Whether a text is a cover of the multiplexer with its names.
-fn reads_multiplexer(alloc: Global, text: &[u8]) -> bool {
-    match read_cover(alloc, &mut Counting::new(text)) {
-        Ok(cover) => is_named(&cover, &["a", "b", "s"], &["f"]) && is_multiplexer(&cover),
-        Err(_) => false,
-    }
-}
-
-/// Whether a text is a cover with the names of what has none.
-fn reads_unnamed(alloc: Global, text: &[u8]) -> bool {
-    match read_cover(alloc, &mut Counting::new(text)) {
-        Ok(cover) => is_named(&cover, &["x0", "x1"], &["y0", "y1"]),
-        Err(_) => false,
-    }
+/// The cover of a text.
+fn cover_of(rt: &impl Abort, alloc: Global, text: &[u8]) -> Cover {
+    read_cover(alloc, &mut Counting::new(text)).expect(rt, "a cover")
 }
 
 #[test]
 fn holds_what_was_read(rt: HostRuntime) {
-    assert!(rt; reads_multiplexer(rt.alloc(), NAMED));
-    assert!(rt; reads_unnamed(rt.alloc(), UNNAMED));
+    let named = cover_of(&rt, rt.alloc(), NAMED);
+    assert!(rt; is_named(&named, &["a", "b", "s"], &["f"]) && is_multiplexer(&named));
+    let unnamed = cover_of(&rt, rt.alloc(), UNNAMED);
+    assert!(rt; is_named(&unnamed, &["x0", "x1"], &["y0", "y1"]));
 }

@@ -1,7 +1,6 @@
 //! Devices that fail, or take nothing.
 
 use counted_io::{Counting, Refused, read_all, write_whole};
-use std::alloc::Global;
 use std::io::{self, Read, Write};
 
 /// Gives or takes one byte a call; then it fails to give, and takes nothing.
@@ -40,25 +39,14 @@ impl Write for Fails {
 
 static TEXT: &[u8] = b"0 1 2";
 
-/// Whether a text is read whole, if it may be so long.
-fn reads(alloc: Global, limit: u8) -> Result<bool, Refused> {
-    let bytes = read_all(alloc, &mut Counting::new(TEXT), usize::from(limit))?;
-    Ok(bytes.as_slice() == TEXT)
-}
-
-/// Why a device that fails isn't read.
-fn refusal(alloc: Global, after: u8) -> Option<Refused> {
-    match read_all(alloc, &mut Counting::new(Fails { after }), 9) {
-        Ok(_) => None,
-        Err(refused) => Some(refused),
-    }
-}
-
-/// Whether a text is written whole to memory.
-fn writes(alloc: Global) -> bool {
-    let mut written = Vec::new(alloc);
-    let ended = write_whole(&mut Counting::new(&mut written), TEXT);
-    ended == Ok(()) && written.as_slice() == TEXT
+#[test]
+fn devices_that_are_read(rt: HostRuntime) {
+    let bytes = read_all(rt.alloc(), &mut Counting::new(TEXT), 5).expect(&rt, "five bytes");
+    assert!(rt; bytes.as_slice() == TEXT);
+    let too_long = read_all(rt.alloc(), &mut Counting::new(TEXT), 4).err();
+    assert!(rt; too_long == Some(Refused::TooLong));
+    let failed = read_all(rt.alloc(), &mut Counting::new(Fails { after: 2 }), 9).err();
+    assert!(rt; failed == Some(Refused::Device));
 }
 
 /// How the writing to a device that takes nothing after some bytes ends.
@@ -67,14 +55,9 @@ fn ended(after: u8) -> Result<(), Refused> {
 }
 
 #[test]
-fn devices_that_are_read(rt: HostRuntime) {
-    assert!(rt; reads(rt.alloc(), 5) == Ok(true));
-    assert!(rt; reads(rt.alloc(), 4) == Err(Refused::TooLong));
-    assert!(rt; refusal(rt.alloc(), 2) == Some(Refused::Device));
-}
-
-#[test]
 fn devices_that_are_written(rt: HostRuntime) {
-    assert!(rt; writes(rt.alloc()));
+    let mut written = Vec::new(rt.alloc());
+    let whole = write_whole(&mut Counting::new(&mut written), TEXT);
+    assert!(rt; whole == Ok(()) && written.as_slice() == TEXT);
     assert!(rt; ended(5) == Ok(()) && ended(4) == Err(Refused::Device));
 }

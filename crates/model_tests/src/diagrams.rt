@@ -2,6 +2,7 @@
 
 use order_model::{Diagram, Node, Order, Ref, eval};
 use std::alloc::Global;
+use std::process::Abort;
 
 /// Three inputs a, b, s: b if s is 1, else a.
 const MULTIPLEXER: u64 = 0b1100_1010;
@@ -26,17 +27,11 @@ static NODES: [Node; 3] = [
 ];
 
 /// The multiplexer's diagram under the order s, a, b.
-fn multiplexer(alloc: Global) -> Option<Diagram> {
-    let Ok(order) = Order::try_from_slice(alloc, &[2, 0, 1]) else {
-        return None;
-    };
-    let Ok(nodes) = NODES.to_vec(alloc) else {
-        return None;
-    };
-    let Ok(roots) = [Ref::Place(2)].to_vec(alloc) else {
-        return None;
-    };
-    Some(Diagram::new(order, nodes, roots))
+fn multiplexer(rt: &impl Abort, alloc: Global) -> Diagram {
+    let order = Order::try_from_slice(alloc, &[2, 0, 1]).expect(rt, "an order");
+    let nodes = NODES.to_vec(alloc).expect(rt, "memory");
+    let roots = [Ref::Place(2)].to_vec(alloc).expect(rt, "memory");
+    Diagram::new(order, nodes, roots)
 }
 
 /// Whether a diagram's one root has the multiplexer's values.
@@ -65,19 +60,10 @@ fn lengths_of_parts(diagram: Diagram) -> [usize; 3] {
     [order.len(), nodes.len(), roots.len()]
 }
 
-/// Whether the multiplexer's diagram has its values, and three variables, three nodes and one root.
-fn is_as_it_was_made(alloc: Global) -> bool {
-    match multiplexer(alloc) {
-        Some(diagram) => {
-            is_multiplexer(&diagram)
-                && has_one_a_level(&diagram)
-                && lengths_of_parts(diagram) == [3, 3, 1]
-        }
-        None => false,
-    }
-}
-
 #[test]
 fn values_and_parts_of_diagrams(rt: HostRuntime) {
-    assert!(rt; eval(3, &[], Ref::Terminal(true), 0) && is_as_it_was_made(rt.alloc()));
+    assert!(rt; eval(3, &[], Ref::Terminal(true), 0));
+    let diagram = multiplexer(&rt, rt.alloc());
+    assert!(rt; is_multiplexer(&diagram) && has_one_a_level(&diagram));
+    assert!(rt; lengths_of_parts(diagram) == [3, 3, 1]);
 }

@@ -3,51 +3,40 @@
 use counted_io::Counting;
 use order_model::Mask;
 use pla_reader::read_cover;
-use std::alloc::{AllocError, Global};
+use std::alloc::Global;
+use std::process::Abort;
 use std::thread::Threads;
 use truth_table::Tables;
 
 /// Three products of the variables 0 to 5, in which variable i meets variable i + 3.
 static INTERLEAVED: &[u8] = b".i 6\n.o 1\n1--1-- 1\n-1--1- 1\n--1--1 1\n.e\n";
 
-fn tables_of<R: Threads + Sync>(rt: &R, alloc: Global, text: &[u8]) -> Option<Tables> {
-    match read_cover(alloc, &mut Counting::new(text)) {
-        Ok(cover) => Tables::of_cover(rt, alloc, &cover).ok(),
-        Err(_) => None,
-    }
+fn tables_of<R: Abort + Threads + Sync>(rt: &R, alloc: Global, text: &[u8]) -> Tables {
+    let cover = read_cover(alloc, &mut Counting::new(text)).expect(rt, "a cover");
+    Tables::of_cover(rt, alloc, &cover).expect(rt, "memory")
 }
 
 /// The variables on which the first output depends if those of `care` are fixed to the bits of
 /// `value`.
-fn dependence(alloc: Global, tables: &Tables, care: Mask, value: Mask) -> Result<Mask, AllocError> {
-    if tables.problem().outputs() == 0 {
-        return Ok(0);
-    }
-    let row = tables.cofactor(alloc, 0, care, value)?;
+fn dependence(rt: &impl Abort, alloc: Global, tables: &Tables, care: Mask, value: Mask) -> Mask {
+    assert!(rt; tables.problem().outputs() > 0);
+    let row = tables.cofactor(alloc, 0, care, value).expect(rt, "memory");
     let mut set: Mask = 0;
     for x in 0..row.inputs() {
         if row.depends(x) {
             set |= 1 << x;
         }
     }
-    Ok(set)
+    set
 }
 
-/// Whether the cofactors of the interleaved products depend on what they should.
-fn have_dependences(alloc: Global, tables: &Tables) -> bool {
+#[test]
+fn cofactors_of_interleaved_products(rt: HostRuntime) {
+    let tables = tables_of(&rt, rt.alloc(), INTERLEAVED);
     // Variable 0 is fixed to 0: variables 0 and 3 don't matter any more.
-    let without = dependence(alloc, tables, 1, 0);
+    assert!(rt; dependence(&rt, rt.alloc(), &tables, 1, 0) == 0b110110);
     // Variables 0 and 3 are fixed to 1: the function is 1.
-    let both = dependence(alloc, tables, 0b1001, 0b1001);
-    without == Ok(0b110110) && both == Ok(0)
-}
-
-/// The same of a text's tables.
-fn has_dependences<R: Threads + Sync>(rt: &R, alloc: Global, text: &[u8]) -> bool {
-    match tables_of(rt, alloc, text) {
-        Some(tables) => have_dependences(alloc, &tables),
-        None => false,
-    }
+    assert!(rt; dependence(&rt, rt.alloc(), &tables, 0b1001, 0b1001) == 0);
 }
 
 /// The product of variables 5, 6 and 15 of 16, and the complement of variable 9.
@@ -77,19 +66,10 @@ fn have_values(tables: &Tables) -> bool {
     true
 }
 
-/// Whether a text's functions have these values, and where variable 15 is 1 the first one depends
-/// on the variables 5 and 6.
-fn is_wide<R: Threads + Sync>(rt: &R, alloc: Global, text: &[u8]) -> bool {
-    match tables_of(rt, alloc, text) {
-        Some(tables) => {
-            have_values(&tables) && dependence(alloc, &tables, 0x8000, 0x8000) == Ok(0x0060)
-        }
-        None => false,
-    }
-}
-
 #[test]
-fn tables_of_covers(rt: HostRuntime) {
-    assert!(rt; has_dependences(&rt, rt.alloc(), INTERLEAVED));
-    assert!(rt; is_wide(&rt, rt.alloc(), WIDE));
+fn functions_of_sixteen_variables(rt: HostRuntime) {
+    let tables = tables_of(&rt, rt.alloc(), WIDE);
+    assert!(rt; have_values(&tables));
+    // Where variable 15 is 1 the first function depends on the variables 5 and 6.
+    assert!(rt; dependence(&rt, rt.alloc(), &tables, 0x8000, 0x8000) == 0x0060);
 }

@@ -24,28 +24,42 @@ impl Read for FailingReader<'_> {
     }
 }
 
-/// A writer that keeps what it takes, at most so many bytes a call, and fails once it has taken as
-/// many as it may.
+/// How many bytes a writer takes in all, and how many at most a call.
+#[derive(Clone, Copy)]
+pub struct Room {
+    pub bytes: usize,
+    pub most_a_call: usize,
+}
+
+impl Room {
+    /// Room for so many bytes, by calls that take much.
+    pub fn of(bytes: usize) -> Room {
+        Room {
+            bytes,
+            most_a_call: 1000,
+        }
+    }
+}
+
+/// Room for everything.
+pub const AMPLE: Room = Room {
+    bytes: 10_000_000,
+    most_a_call: 10_000_000,
+};
+
+/// A writer that keeps what it takes, and fails once it has taken as many bytes as it may.
 #[derive(Drop)]
 pub struct FailingWriter {
     taken: Vec<u8>,
-    bytes_left: usize,
-    most_a_call: usize,
+    left: Room,
 }
 
 impl FailingWriter {
-    /// A writer that takes so many bytes in all, at most so many a call.
-    pub fn new(alloc: Global, bytes_left: usize, most_a_call: usize) -> FailingWriter {
+    pub fn new(alloc: Global, room: Room) -> FailingWriter {
         FailingWriter {
             taken: Vec::new(alloc),
-            bytes_left,
-            most_a_call,
+            left: room,
         }
-    }
-
-    /// A writer with room for everything.
-    pub fn ample(alloc: Global) -> FailingWriter {
-        FailingWriter::new(alloc, 10_000_000, 10_000_000)
     }
 }
 
@@ -64,12 +78,12 @@ pub fn certificate_holds(writer: Option<Counting<FailingWriter>>, bytes: &[u8]) 
 
 impl Write for FailingWriter {
     fn write(&mut self, buf: &[u8]) -> io::Result<usize> {
-        let len = buf.len().min(self.bytes_left).min(self.most_a_call);
+        let len = buf.len().min(self.left.bytes).min(self.left.most_a_call);
         if len == 0 && !buf.is_empty() {
             return Err(io::Error::from(ErrorKind::Other));
         }
         self.taken.extend_from_slice(&buf[..len])?;
-        self.bytes_left -= len;
+        self.left.bytes -= len;
         Ok(len)
     }
 

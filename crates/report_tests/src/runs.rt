@@ -1,11 +1,12 @@
 //! Runs over devices that fail.
 
-use crate::devices::{FailingReader, FailingWriter, certificate_holds, holds};
+use crate::devices::{AMPLE, FailingReader, FailingWriter, Room, certificate_holds, holds};
 use counted_io::Counting;
 use order_model::Workers;
 use outcomes::{Fault, Outcome};
 use report::{RunPlan, run};
 use std::io::{ErrorKind, Read};
+use std::process::Abort;
 use std::thread::Threads;
 
 /// The multiplexer, its report, and its certificate.
@@ -31,32 +32,32 @@ const DONE: Ending<'static> = Ending {
     certificate: CERTIFICATE,
 };
 
-const FAILED: Ending<'static> = Ending {
-    outcome: Outcome::Refused(Fault::Device),
-    report: &[],
-    certificate: &[],
-};
+/// How a run ends of which a device fails, with these texts.
+fn failed<'a>(report: &'a [u8], certificate: &'a [u8]) -> Ending<'a> {
+    Ending {
+        outcome: Outcome::Refused(Fault::Device),
+        report,
+        certificate,
+    }
+}
 
-/// Whether a run of two workers over a reader, or a count, ends so with these two writers.
-fn ends<T: AllocGlobal + Threads + Sync, R: Read + Drop>(
+/// Whether a run of two workers over a reader, or a count, ends so with writers of this room.
+fn ends<T: Abort + AllocGlobal + Threads + Sync, R: Read + Drop>(
     rt: &T,
     count: bool,
     reader: R,
-    report: FailingWriter,
-    certificate: FailingWriter,
+    report: Room,
+    certificate: Room,
     wanted: &Ending<'_>,
 ) -> bool {
-    let Some(workers) = Workers::new(2) else {
-        return false;
-    };
     let plan = RunPlan {
-        workers,
+        workers: Workers::new(2).expect(rt, "two workers"),
         count,
         above: None,
     };
     let mut file = Counting::new(reader);
-    let mut report = Counting::new(report);
-    let mut certificate = Some(Counting::new(certificate));
+    let mut report = Counting::new(FailingWriter::new(rt.alloc(), report));
+    let mut certificate = Some(Counting::new(FailingWriter::new(rt.alloc(), certificate)));
     let outcome = run(
         rt,
         rt.alloc(),
@@ -73,7 +74,7 @@ fn ends<T: AllocGlobal + Threads + Sync, R: Read + Drop>(
 /// Whether a run over a reader that fails after some calls leaves nothing, and one whose reader
 /// doesn't fail ends well. The file is eleven pieces of at most four bytes, and a call that finds
 /// the end.
-fn ends_as_read<T: AllocGlobal + Threads + Sync>(
+fn ends_as_read<T: Abort + AllocGlobal + Threads + Sync>(
     rt: &T,
     calls_left: u32,
     error: ErrorKind,
@@ -83,13 +84,12 @@ fn ends_as_read<T: AllocGlobal + Threads + Sync>(
         calls_left,
         error,
     };
-    let report = FailingWriter::ample(rt.alloc());
-    let certificate = FailingWriter::ample(rt.alloc());
-    if calls_left < 12 {
-        ends(rt, false, reader, report, certificate, &FAILED)
+    let wanted = if calls_left < 12 {
+        failed(&[], &[])
     } else {
-        ends(rt, false, reader, report, certificate, &DONE)
-    }
+        DONE
+    };
+    ends(rt, false, reader, AMPLE, AMPLE, &wanted)
 }
 
 #[test]
@@ -100,37 +100,15 @@ fn readers_that_fail_leave_nothing(rt: HostRuntime) {
     }
 }
 
-/// Whether a run whose report's writer fails after some bytes leaves these, and the certificate.
-fn ends_as_reported<T: AllocGlobal + Threads + Sync>(rt: &T, report: &[u8]) -> bool {
-    let writer = FailingWriter::new(rt.alloc(), report.len(), 1000);
-    let certificate = FailingWriter::ample(rt.alloc());
-    let wanted = Ending {
-        outcome: Outcome::Refused(Fault::Device),
-        report,
-        certificate: CERTIFICATE,
-    };
-    ends(rt, false, FILE, writer, certificate, &wanted)
-}
-
-/// Whether a run whose certificate's writer fails after some bytes leaves these, and no report.
-fn ends_as_certified<T: AllocGlobal + Threads + Sync>(rt: &T, certificate: &[u8]) -> bool {
-    let report = FailingWriter::ample(rt.alloc());
-    let writer = FailingWriter::new(rt.alloc(), certificate.len(), 1000);
-    let wanted = Ending {
-        outcome: Outcome::Refused(Fault::Device),
-        report: &[],
-        certificate,
-    };
-    ends(rt, false, FILE, report, writer, &wanted)
-}
-
 #[test]
 fn writers_that_fail_hold_a_beginning(rt: HostRuntime) {
-    for bytes_left in 0..REPORT.len() {
-        assert!(rt; ends_as_reported(&rt, &REPORT[..bytes_left]));
+    for bytes in 0..REPORT.len() {
+        let wanted = failed(&REPORT[..bytes], CERTIFICATE);
+        assert!(rt; ends(&rt, false, FILE, Room::of(bytes), AMPLE, &wanted));
     }
-    for bytes_left in 0..CERTIFICATE.len() {
-        assert!(rt; ends_as_certified(&rt, &CERTIFICATE[..bytes_left]));
+    for bytes in 0..CERTIFICATE.len() {
+        let wanted = failed(&[], &CERTIFICATE[..bytes]);
+        assert!(rt; ends(&rt, false, FILE, AMPLE, Room::of(bytes), &wanted));
     }
 }
 
@@ -143,10 +121,10 @@ const COUNTED: Ending<'static> = Ending {
 
 #[test]
 fn slow_writers_hold_all_and_counts_no_certificate(rt: HostRuntime) {
-    let report = FailingWriter::new(rt.alloc(), 1000, 1);
-    let certificate = FailingWriter::new(rt.alloc(), 1000, 1);
-    assert!(rt; ends(&rt, false, FILE, report, certificate, &DONE));
-    let report = FailingWriter::ample(rt.alloc());
-    let certificate = FailingWriter::ample(rt.alloc());
-    assert!(rt; ends(&rt, true, FILE, report, certificate, &COUNTED));
+    let slow = Room {
+        bytes: 1000,
+        most_a_call: 1,
+    };
+    assert!(rt; ends(&rt, false, FILE, slow, slow, &DONE));
+    assert!(rt; ends(&rt, true, FILE, AMPLE, AMPLE, &COUNTED));
 }

@@ -1,6 +1,6 @@
 //! Checks over devices that fail.
 
-use crate::devices::{FailingReader, FailingWriter, holds};
+use crate::devices::{FailingReader, FailingWriter, Room, holds};
 use checks::run_check;
 use counted_io::Counting;
 use outcomes::{Fault, Outcome};
@@ -25,7 +25,7 @@ fn ends<T: AllocGlobal + Threads + Sync, C: Read + Drop>(
 ) -> bool {
     let mut file = Counting::new(FILE);
     let mut certificate = Counting::new(certificate);
-    let mut out = Counting::new(FailingWriter::new(rt.alloc(), room, 100));
+    let mut out = Counting::new(FailingWriter::new(rt.alloc(), Room::of(room)));
     let outcome = run_check(rt, rt.alloc(), &mut file, &mut certificate, &mut out);
     let is_written = holds(out, line);
     outcome == wanted && is_written
@@ -43,11 +43,12 @@ fn ends_as_read<T: AllocGlobal + Threads + Sync>(
         calls_left,
         error,
     };
-    if calls_left < 32 {
-        ends(rt, reader, 100, Outcome::Refused(Fault::Device), &[])
+    let (wanted, line): (Outcome, &[u8]) = if calls_left < 32 {
+        (Outcome::Refused(Fault::Device), &[])
     } else {
-        ends(rt, reader, 100, Outcome::Done, LINE)
-    }
+        (Outcome::Done, LINE)
+    };
+    ends(rt, reader, 100, wanted, line)
 }
 
 #[test]

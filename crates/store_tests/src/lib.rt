@@ -8,4 +8,6 @@ mod closing;
 #[cfg(test)]
 mod filling;
 #[cfg(test)]
+mod fresh;
+#[cfg(test)]
 mod recalling;

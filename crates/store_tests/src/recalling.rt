@@ -1,22 +1,14 @@
 //! Remembering and recalling.
 
-ghost use Rattle.std.specs.Prelude.{◌≡◌, IfOk};
+ghost use Rattle.std.specs.Prelude.{◌≡◌};
 ghost use Rattle.unique_table.specs.Sessions.{Knows};
 
+use crate::fresh::fresh_store;
 use op_cache::{recall, remember};
-use order_model::{Order, Problem};
-use std::alloc::{AllocError, Global};
-use unique_table::{NodeId, Operation, Pieces, Session, Store};
+use order_model::Problem;
+use unique_table::{NodeId, Operation, Session, Store};
 
-fn single(alloc: Global) -> Result<(Store, Session), AllocError>
-    ensures { IfOk result (λ r. r.1.store ≡ r.0) }
-{
-    let problem = Problem::new(alloc, 1, 1)?;
-    let order = Order::file_order(alloc, 1)?;
-    Store::new(alloc, order, &problem, Pieces::Tables)
-}
-
-// Remembers that an id and 1 give the id, and recalls it.
+/// Remembers that an id and 1 give the id, and recalls it.
 fn keep(store: &Store, session: &mut Session, id: NodeId) -> Option<NodeId>
     requires session { session.old.store ≡ store.now }
     requires known { Knows session.old id }
@@ -26,7 +18,7 @@ fn keep(store: &Store, session: &mut Session, id: NodeId) -> Option<NodeId>
     recall(store, session, Operation::And, id, 1)
 }
 
-// Whether a fresh store recalls what it is to remember, and nothing else.
+/// Whether a fresh store recalls what it is to remember, and nothing else.
 fn recalls(store: &Store, session: &mut Session) -> bool
     requires { session.old.store ≡ store.now }
 {
@@ -35,15 +27,9 @@ fn recalls(store: &Store, session: &mut Session) -> bool
         && recall(store, session, Operation::And, 0, 0).is_none()
 }
 
-// The same of a store that is made.
-fn fresh_store_recalls(alloc: Global) -> bool {
-    match single(alloc) {
-        Ok((store, mut session)) => recalls(&store, &mut session),
-        Err(_) => false,
-    }
-}
-
 #[test]
 fn recalls_what_it_remembers(rt: HostRuntime) {
-    assert!(rt; fresh_store_recalls(rt.alloc()));
+    let problem = Problem::new(rt.alloc(), 1, 1).expect(&rt, "memory");
+    let (store, mut session) = fresh_store(&rt, rt.alloc(), &problem);
+    assert!(rt; recalls(&store, &mut session));
 }

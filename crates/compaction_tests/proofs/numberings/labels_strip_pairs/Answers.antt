@@ -2,10 +2,10 @@ use Rattle.std.proofs.Common.{arith, rules}
 use Rattle.pair_numbering.specs.Strips.{names_of}
 use Rattle.compaction_tests.proofs.numberings.labels_strip_pairs.Goals as goal
 
-pub label_strip_pairs-requires-clause-named : goal.label_strip_pairs-requires-clause-named
+pub label_strip_pairs-four-requires-clause-named : goal.label_strip_pairs-four-requires-clause-named
 unfolding names_of
-label_strip_pairs-requires-clause-named c = record { count = 2; whole = omega arith; within = search rules }
+label_strip_pairs-four-requires-clause-named g c = record { count = 2; whole = omega arith; within = search rules }
 
-pub label_strip_pairs-requires-2-clause-named : goal.label_strip_pairs-requires-2-clause-named
+pub label_strip_pairs-two-requires-clause-named : goal.label_strip_pairs-two-requires-clause-named
 unfolding names_of
-label_strip_pairs-requires-2-clause-named c = record { count = 2; whole = omega arith; within = search rules }
+label_strip_pairs-two-requires-clause-named g c = record { count = 2; whole = omega arith; within = search rules }

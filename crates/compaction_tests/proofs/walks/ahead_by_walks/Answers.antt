@@ -1,4 +1,4 @@
-use Rattle.std.proofs.Common.{◌≡◌, ℕ, [], ◌∷◌, sym, subst, arith, get_or}
+use Rattle.std.proofs.Common.{◌≡◌, ℕ, [], ◌∷◌, sym, subst, arith, rules, get_or}
 use Rattle.std.proofs.lemmas.Option.{get_or_from_slice_get}
 use Rattle.std.specs.Int.{bit_at}
 use Rattle.order_model.specs.Problems.{TruthTables}
@@ -7,9 +7,10 @@ use Rattle.compaction.specs.Rows.{AreMembers}
 use Rattle.compaction.proofs.OwnMembers.{own_members}
 use Rattle.compaction_tests.proofs.walks.ahead_by_walks.Goals as goal
 
-pub rows_by_walks-requires-clause-members : goal.rows_by_walks-requires-clause-members
-rows_by_walks-requires-clause-members c =
-    subst (λ (p : TruthTables). AreMembers p (block_masks c.args.block.now) (c.mask-needed.result ∷ [])) (sym c.in-Ok.ensures)
+pub rows_by_walks-rows-requires-clause-members : goal.rows_by_walks-rows-requires-clause-members
+rows_by_walks-rows-requires-clause-members g c =
+    let made : c.expect-shared.result ≡ c.args.problem.now = search rules in
+    subst (λ (p : TruthTables). AreMembers p (block_masks c.args.block.now) (c.mask-needed.result ∷ [])) (sym made)
     (λ i low x one.
     let l = c.len.ensures.value in
     let first : i ≡ 0 = omega arith in

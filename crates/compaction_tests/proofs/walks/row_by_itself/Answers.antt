@@ -6,7 +6,7 @@ use Rattle.compaction.proofs.OwnMembers.{own_members}
 use Rattle.compaction_tests.proofs.walks.row_by_itself.Goals as goal
 
 pub block_widths-requires-clause-members : goal.block_widths-requires-clause-members
-block_widths-requires-clause-members c = λ i low x one.
+block_widths-requires-clause-members g c = λ i low x one.
     let l = c.len.ensures.value in
     let first : i ≡ 0 = omega arith in
     own_members c.args.problem.now c.args.block.now (omega arith) i low x

@@ -5,7 +5,7 @@ use Rattle.unique_table.proofs.Following.{IsFrom}
 use Rattle.store_tests.proofs.filling.lowest.Given as goal
 
 abbrev pub invariant-loop-step : goal.invariant-loop-step
-invariant-loop-step l = record {
+invariant-loop-step g l = record {
   follows : Follows l.fn.session l.session;
   ids : All (IsFrom l.session (16 - l.step)) l.ids.items;
 }

@@ -4,7 +4,7 @@ use Rattle.unique_table.proofs.Following.{IsFrom}
 use Rattle.store_tests.proofs.filling.make_all.Given as goal
 
 abbrev pub invariant-loop-low : goal.invariant-loop-low
-invariant-loop-low l = record {
+invariant-loop-low g l = record {
   follows : Follows l.fn.session l.session;
   lows : All (IsKnownBelow l.session l.level) l.lows;
   highs : All (IsKnownBelow l.session l.level) l.highs;
@@ -12,7 +12,7 @@ invariant-loop-low l = record {
 }
 
 abbrev pub invariant-loop-high : goal.invariant-loop-high
-invariant-loop-high l = record {
+invariant-loop-high g l = record {
   follows : Follows l.fn.session l.session;
   lows : All (IsKnownBelow l.session l.level) l.lows;
   highs : All (IsKnownBelow l.session l.level) l.highs;
