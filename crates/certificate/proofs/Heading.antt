@@ -26,21 +26,20 @@ Passes judge number text after rest =
     (ws : List (List ℕ)) × (said text ≡ ws ∷ said rest) × (judge ws ≡ None)
     × ((js : List Judge) → outcome number (judge ∷ js) text ≡ outcome after js rest)
 
-pub taken_more : (number₀ : ℕ) (text : List ℕ) (js : List Judge) (lines : List (List (List ℕ))) (number : ℕ) (rest : List ℕ) (judge : Judge)
-    (after : ℕ) (rest' : List ℕ) →
-    Taken number₀ text js lines number rest → (passes : Passes judge number rest after rest') →
+pub taken_more : {number₀ : ℕ} {text : List ℕ} {js : List Judge} {lines : List (List (List ℕ))} {number : ℕ} {rest : List ℕ} (judge : Judge)
+    {after : ℕ} {rest' : List ℕ} → Taken number₀ text js lines number rest → (passes : Passes judge number rest after rest') →
     Taken number₀ text (js ++ judge ∷ []) (lines ++ passes.0 ∷ []) after rest'
-taken_more number₀ text js lines number rest judge after rest' taken (ws, parts, passes, left) = record {
+taken_more {number₀ = number₀} {text = text} {js = js} {lines = lines} judge {rest' = rest'} taken (ws, parts, passes, left) = record {
   parts = taken.parts ∙ ap (λ xs. lines ++ xs) parts ∙ sym (append_assoc lines (ws ∷ []) (said rest'));
   left = λ ks. ap (λ all. outcome number₀ all text) (append_assoc js (judge ∷ []) ks) ∙ taken.left (judge ∷ ks) ∙ left ks;
 }
 
 -- what is asked of the first six lines, so far as the lines taken say it
-pub head_fails : (number₀ : ℕ) (text : List ℕ) (js : List Judge) (lines : List (List (List ℕ))) (number : ℕ) (rest : List ℕ) (judge : Judge)
+pub head_fails : {number₀ : ℕ} {text : List ℕ} {js : List Judge} {lines : List (List (List ℕ))} {number : ℕ} {rest : List ℕ} (judge : Judge)
     (others : List Judge) (fault : CertFault) →
     Taken number₀ text js lines number rest → ((ks : List Judge) → FailsFirst (outcome number (judge ∷ ks) rest) fault) → (ks : List Judge) →
     FailsFirst (outcome number₀ (js ++ (judge ∷ (others ++ ks))) text) fault
-head_fails number₀ text js lines number rest judge others fault taken asks ks =
+head_fails judge others fault taken asks ks =
     subst (λ faults. FailsFirst faults fault) (sym (taken.left (judge ∷ (others ++ ks)))) (asks (others ++ ks))
 
 -- a refusal of the first six lines, where their number of inputs is known or not asked for

@@ -15,37 +15,34 @@ pub record InBlock (numbers : List ℕ) (rank block i : ℕ) : Type 0 where
   pub inside : block < length numbers / 2 / 2 ^ rank
   pub early : i < 2 ^ rank
 
-module _ (numbers : List ℕ) (rank : ℕ) (paired : IsPaired numbers rank) where
+module _ {numbers : List ℕ} {rank : ℕ} (paired : IsPaired numbers rank) where
   -- the length of a block, as the code has it
-  pub step_is : (r : ℕ) → r ≡ rank → 1 * 2 ^ r % 2 ^ 64 ≡ 2 ^ rank
-  step_is r e = let s = paired.small_rank in one_shl r 64 (omega arith) ∙ ap (λ k. 2 ^ k) e
+  pub step_is : {r : ℕ} → r ≡ rank → 1 * 2 ^ r % 2 ^ 64 ≡ 2 ^ rank
+  step_is {r = r} e = let s = paired.small_rank in one_shl r 64 (omega arith) ∙ ap (λ k. 2 ^ k) e
 
-  pub inside_is : (half r block : ℕ) → half ≡ length numbers / 2 → r ≡ rank → block < half / 2 ^ r → block < length numbers / 2 / 2 ^ rank
-  inside_is half r block h e l = subst (λ z. z) (λ t. block < h t / 2 ^ e t) l
+  pub in_step : {r block i : ℕ} → r ≡ rank → block < length numbers / 2 / 2 ^ rank → i < 1 * 2 ^ r % 2 ^ 64 → InBlock numbers rank block i
+  in_step {i = i} e inside m = record { inside = inside; early = subst (λ z. i < z) (step_is e) m }
 
-  pub in_step : (r block i : ℕ) → r ≡ rank → block < length numbers / 2 / 2 ^ rank → i < 1 * 2 ^ r % 2 ^ 64 → InBlock numbers rank block i
-  in_step r block i e inside m = record { inside = inside; early = subst (λ z. i < z) (step_is r e) m }
+  pub in_block : {half r block i : ℕ} → half ≡ length numbers / 2 → r ≡ rank → block < half / 2 ^ r → i < 1 * 2 ^ r % 2 ^ 64 →
+      InBlock numbers rank block i
+  in_block {block = block} h e l m = in_step e (subst (λ z. z) (λ t. block < h t / 2 ^ e t) l) m
 
-  pub in_block : (half r block i : ℕ) → half ≡ length numbers / 2 → r ≡ rank → block < half / 2 ^ r → i < 1 * 2 ^ r % 2 ^ 64 → InBlock numbers rank block i
-  in_block half r block i h e l m = in_step r block i e (inside_is half r block h e l) m
-
-  pub place_is : (r block i : ℕ) → r ≡ rank → block * (1 * 2 ^ r % 2 ^ 64) + i ≡ block * 2 ^ rank + i
-  place_is r block i e = ap (λ z. block * z + i) (step_is r e)
+  pub place_is : {r : ℕ} (block i : ℕ) → r ≡ rank → block * (1 * 2 ^ r % 2 ^ 64) + i ≡ block * 2 ^ rank + i
+  place_is block i e = ap (λ z. block * z + i) (step_is e)
 
   -- the blocks are the whole table
-  pub all_pairs : (half r block : ℕ) → half ≡ length numbers / 2 → r ≡ rank → half / 2 ^ r ≤ block → length numbers / 2 ≤ block * 2 ^ rank
-  all_pairs half r block h e l = block_all (length numbers) rank block paired.whole (subst (λ z. z) (λ t. h t / 2 ^ e t ≤ block) l)
+  pub all_pairs : {half r : ℕ} (block : ℕ) → half ≡ length numbers / 2 → r ≡ rank → half / 2 ^ r ≤ block → length numbers / 2 ≤ block * 2 ^ rank
+  all_pairs block h e l = block_all (length numbers) rank block paired.whole (subst (λ z. z) (λ t. h t / 2 ^ e t ≤ block) l)
 
-  module _ (block i : ℕ) (here : InBlock numbers rank block i) where
-    pub listed_inside : block * 2 ^ rank + i < length (pairs numbers (2 ^ rank))
-    listed_inside =
-        let l = length-pairs numbers (2 ^ rank) in
-        let b = block_inside (length numbers) rank block i paired.whole here.inside here.early in
-        omega arith
+  pub listed_inside : {block i : ℕ} → InBlock numbers rank block i → block * 2 ^ rank + i < length (pairs numbers (2 ^ rank))
+  listed_inside {block = block} {i = i} here =
+      let l = length-pairs numbers (2 ^ rank) in
+      let b = block_inside (length numbers) rank block i paired.whole here.inside here.early in
+      omega arith
 
-  pub pair_inside : (classes j : ℕ) (p : ℕ × ℕ) → AllBelow numbers classes → j < length numbers / 2 → p ≡ pair_at numbers (2 ^ rank) j →
+  pub pair_inside : {classes j : ℕ} {p : ℕ × ℕ} → AllBelow numbers classes → j < length numbers / 2 → p ≡ pair_at numbers (2 ^ rank) j →
       (p.0 < classes) × (p.1 < classes)
-  pair_inside classes j p below small e =
+  pair_inside {classes = classes} {j = j} below small e =
       let w = pair_within (2 ^ rank) paired.whole.0 (length numbers) j (pow_pos rank) paired.whole.1 small in
       let low : low_place (2 ^ rank) j < length numbers = omega arith in
       subst (λ (q : ℕ × ℕ). (q.0 < classes) × (q.1 < classes)) (sym e) (below (low_place (2 ^ rank) j) low, below (low_place (2 ^ rank) j + 2 ^ rank) w)

@@ -1,4 +1,4 @@
-use Rattle.std.proofs.Common.{◌≡◌, ℕ, ◌+◌, ◌*◌, ◌^◌, ◌<◌, get_or, length, sym, subst, arith}
+use Rattle.std.proofs.Common.{◌≡◌, ◌+◌, ◌*◌, ◌^◌, ◌<◌, length, sym, subst, arith}
 use Rattle.pair_numbering.proofs.InBlocks.{in_step, place_is, step_is}
 use Rattle.pair_numbering.proofs.CellSteps.{fronted_block, pair_classes, place_inside, cell_inside, fronted_new, fronted_again}
 use Rattle.pair_numbering.proofs.cells.number_block_evenly.Goals as goal
@@ -11,77 +11,59 @@ loop-i-init c =
 
 pub bounds-cells-cell : goal.bounds-cells-cell
 bounds-cells-cell c =
-    let numbers = c.args.pairs.now.entries.now.numbers in
-    let rank = c.args.pairs.now.entries.now.rank in
-    let w = in_step numbers rank c.requires.table.paired c.rank.result c.args.block c.loop-i.i c.rank.ensures.rank c.requires.block c.loop-i-test.true in
-    let p : ℕ × ℕ = (get_or c.block.result.low.now c.loop-i.i 0, get_or c.block.result.high.now c.loop-i.i 0) in
+    let w = in_step c.requires.table.paired c.rank.ensures.rank c.requires.block c.loop-i-test.true in
     let is = c.block.ensures.pairs c.loop-i.i w.early in
-    cell_inside c.requires.table c.args.block c.loop-i.i c.loop-i.invariant w p is
+    cell_inside c.requires.table c.loop-i.invariant w is
 
 pub bounds-cells-cell-in-loop-i : goal.bounds-cells-cell-in-loop-i
 bounds-cells-cell-in-loop-i c =
-    let numbers = c.args.pairs.now.entries.now.numbers in
-    let rank = c.args.pairs.now.entries.now.rank in
-    let w = in_step numbers rank c.requires.table.paired c.rank.result c.args.block c.loop-i.i c.rank.ensures.rank c.requires.block c.loop-i-test.true in
-    let p : ℕ × ℕ = (get_or c.block.result.low.now c.loop-i.i 0, get_or c.block.result.high.now c.loop-i.i 0) in
+    let w = in_step c.requires.table.paired c.rank.ensures.rank c.requires.block c.loop-i-test.true in
     let is = c.block.ensures.pairs c.loop-i.i w.early in
-    cell_inside c.requires.table c.args.block c.loop-i.i c.loop-i.invariant w p is
+    cell_inside c.requires.table c.loop-i.invariant w is
 
 pub join_mask-requires-clause-lower : goal.join_mask-requires-clause-lower
 join_mask-requires-clause-lower c =
-    let numbers = c.args.pairs.now.entries.now.numbers in
-    let rank = c.args.pairs.now.entries.now.rank in
-    let w = in_step numbers rank c.requires.table.paired c.rank.result c.args.block c.loop-i.i c.rank.ensures.rank c.requires.block c.loop-i-test.true in
-    let p : ℕ × ℕ = (get_or c.block.result.low.now c.loop-i.i 0, get_or c.block.result.high.now c.loop-i.i 0) in
+    let w = in_step c.requires.table.paired c.rank.ensures.rank c.requires.block c.loop-i-test.true in
     let is = c.block.ensures.pairs c.loop-i.i w.early in
-    (pair_classes c.requires.table c.args.block c.loop-i.i c.loop-i.invariant w p is).0
+    (pair_classes c.requires.table c.loop-i.invariant w is).0
 
 pub join_mask-requires-clause-upper : goal.join_mask-requires-clause-upper
 join_mask-requires-clause-upper c =
-    let numbers = c.args.pairs.now.entries.now.numbers in
-    let rank = c.args.pairs.now.entries.now.rank in
-    let w = in_step numbers rank c.requires.table.paired c.rank.result c.args.block c.loop-i.i c.rank.ensures.rank c.requires.block c.loop-i-test.true in
-    let p : ℕ × ℕ = (get_or c.block.result.low.now c.loop-i.i 0, get_or c.block.result.high.now c.loop-i.i 0) in
+    let w = in_step c.requires.table.paired c.rank.ensures.rank c.requires.block c.loop-i-test.true in
     let is = c.block.ensures.pairs c.loop-i.i w.early in
-    (pair_classes c.requires.table c.args.block c.loop-i.i c.loop-i.invariant w p is).1
+    (pair_classes c.requires.table c.loop-i.invariant w is).1
 
 pub bounds-out-block : goal.bounds-out-block
 bounds-out-block c =
-    let numbers = c.args.pairs.now.entries.now.numbers in
-    let rank = c.args.pairs.now.entries.now.rank in
-    let w = in_step numbers rank c.requires.table.paired c.rank.result c.args.block c.loop-i.i c.rank.ensures.rank c.requires.block c.loop-i-test.true in
-    let p : ℕ × ℕ = (get_or c.block.result.low.now c.loop-i.i 0, get_or c.block.result.high.now c.loop-i.i 0) in
+    let w = in_step c.requires.table.paired c.rank.ensures.rank c.requires.block c.loop-i-test.true in
     let is = c.block.ensures.pairs c.loop-i.i w.early in
-    let k = place_inside c.requires.table c.args.block c.loop-i.i c.loop-i.invariant w p is in
-    let e = place_is numbers rank c.requires.table.paired c.rank.result c.args.block c.loop-i.i c.rank.ensures.rank in
+    let k = place_inside c.requires.table c.loop-i.invariant w is in
+    let e = place_is c.requires.table.paired c.args.block c.loop-i.i c.rank.ensures.rank in
     subst (λ z. z < length c.loop-i.out) (sym e) k
 
 pub loop-i-preserved : goal.loop-i-preserved
 loop-i-preserved c =
-    let numbers = c.args.pairs.now.entries.now.numbers in
-    let rank = c.args.pairs.now.entries.now.rank in
-    let w = in_step numbers rank c.requires.table.paired c.rank.result c.args.block c.loop-i.i c.rank.ensures.rank c.requires.block c.loop-i-test.true in
-    let p : ℕ × ℕ = (get_or c.block.result.low.now c.loop-i.i 0, get_or c.block.result.high.now c.loop-i.i 0) in
+    let w = in_step c.requires.table.paired c.rank.ensures.rank c.requires.block c.loop-i-test.true in
     let is = c.block.ensures.pairs c.loop-i.i w.early in
-    let e = place_is numbers rank c.requires.table.paired c.rank.result c.args.block c.loop-i.i c.rank.ensures.rank in
+    let e = place_is c.requires.table.paired c.args.block c.loop-i.i c.rank.ensures.rank in
     elim c.if-next-eq0.branch [
       | then-next-eq0 v ↦ elim c.if-next-eq0-2.branch [
         | then-next-eq0-2 u ↦
             rw (e, v.number-is, u.count-is)
-            (fronted_new c.requires.table c.args.block c.loop-i.i c.loop-i.invariant w p is c.join_mask.result c.join_mask.ensures v.if-next-eq0.true)
+            (fronted_new c.requires.table c.loop-i.invariant w is c.join_mask.result c.join_mask.ensures v.if-next-eq0.true)
         | else-next-eq0-2 u ↦ absurd (u.if-next-eq0-2.false v.if-next-eq0.true)
       ]
       | else-next-eq0 v ↦ elim c.if-next-eq0-2.branch [
         | then-next-eq0-2 u ↦ absurd (v.if-next-eq0.false u.if-next-eq0-2.true)
         | else-next-eq0-2 u ↦
             rw (e, v.number-is, u.count-is)
-            (fronted_again c.requires.table c.args.block c.loop-i.i c.loop-i.invariant w p is c.join_mask.result v.if-next-eq0.false)
+            (fronted_again c.requires.table c.loop-i.invariant w is c.join_mask.result v.if-next-eq0.false)
       ]
     ]
 
 pub returns : goal.returns
 returns c =
-    let s = step_is c.args.pairs.now.entries.now.numbers c.args.pairs.now.entries.now.rank c.requires.table.paired c.rank.result c.rank.ensures.rank in
+    let s = step_is c.requires.table.paired c.rank.ensures.rank in
     let t = c.loop-i-test.false in
     let e = c.loop-i.auto.i-end in
-    fronted_block c.requires.table c.args.block c.loop-i.i c.loop-i.invariant (omega (arith, s, t, e))
+    fronted_block c.args.block c.loop-i.i c.loop-i.invariant (omega (arith, s, t, e))

@@ -26,8 +26,7 @@ returns c =
     let j = c.loop-block.block * 2 ^ rank in
     let made = c.loop-block.invariant.celled.made in
     let l = length-pairs pairs.entries.now.numbers (2 ^ rank) in
-    let a = all_pairs pairs.entries.now.numbers rank c.requires.table.paired c.len.result c.rank-rank.result c.loop-block.block c.len.ensures.count
-    c.rank-rank.ensures.rank c.loop-block-test.false in
+    let a = all_pairs c.requires.table.paired c.loop-block.block c.len.ensures.count c.rank-rank.ensures.rank c.loop-block-test.false in
     let all : length ps ≤ j = subst (λ n. n ≤ j) (sym l) a in
     record {
       numbers_are = made_numbers 0 ps join out joined j all made;

@@ -14,7 +14,7 @@ use Rattle.pair_numbering.proofs.chains.walk_chain.Goals.{then-stamps-upper, els
 upper_inside : (cs : List ℕ) (rank classes j : ℕ) (pair : ℕ × ℕ) (rows : List ℕ) → IsPaired cs rank → AllBelow cs classes → j < length cs / 2 →
     pair ≡ places.pair_at cs (2 ^ rank) j → length rows ≡ classes → pair.1 < length rows
 upper_inside cs rank classes j pair rows paired below small here long =
-    subst (λ n. pair.1 < n) (sym long) (pair_inside cs rank paired classes j pair below small here).1
+    subst (λ n. pair.1 < n) (sym long) (pair_inside paired below small here).1
 
 -- the walk stands at a pair
 pair_there : (half len j : ℕ) → len ≡ half → j < len → j < half

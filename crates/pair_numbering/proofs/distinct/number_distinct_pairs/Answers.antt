@@ -24,15 +24,13 @@ pub join_mask-requires-clause-lower : goal.join_mask-requires-clause-lower
 join_mask-requires-clause-lower c =
     let count = c.len-half.ensures.count in
     let t = c.loop-j-test.true in
-    (pair_inside c.args.entries.now.numbers c.args.entries.now.rank c.requires.table.paired (length c.args.masks.now) c.loop-j.j c.pair.result
-    c.requires.table.below (omega (arith, count, t)) c.pair.ensures).0
+    (pair_inside c.requires.table.paired c.requires.table.below (omega (arith, count, t)) c.pair.ensures).0
 
 pub join_mask-requires-clause-upper : goal.join_mask-requires-clause-upper
 join_mask-requires-clause-upper c =
     let count = c.len-half.ensures.count in
     let t = c.loop-j-test.true in
-    (pair_inside c.args.entries.now.numbers c.args.entries.now.rank c.requires.table.paired (length c.args.masks.now) c.loop-j.j c.pair.result
-    c.requires.table.below (omega (arith, count, t)) c.pair.ensures).1
+    (pair_inside c.requires.table.paired c.requires.table.below (omega (arith, count, t)) c.pair.ensures).1
 
 pub loop-j-preserved : goal.loop-j-preserved
 loop-j-preserved c =

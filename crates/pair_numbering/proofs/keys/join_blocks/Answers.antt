@@ -25,8 +25,7 @@ loop-i-preserved c =
     let j = c.loop-block.block * 2 ^ c.args.rank + c.loop-i.i in
     let out = c.loop-i.joined in
     let r = c.requires.rank in
-    let w = in_block cs c.args.rank c.requires.paired (length c.args.joined.now) c.args.rank c.loop-block.block c.loop-i.i c.requires.long refl
-    c.loop-block-test.true c.loop-i-test.true in
+    let w = in_block c.requires.paired c.requires.long refl c.loop-block-test.true c.loop-i-test.true in
     let small = block_inside (length cs) c.args.rank c.loop-block.block c.loop-i.i c.requires.paired.whole w.inside w.early in
     let key = joined_key c.args.base (get_or c.block.result.low.now c.loop-i.i 0, get_or c.block.result.high.now c.loop-i.i 0) in
     let is : (get_or c.block.result.low.now c.loop-i.i 0, get_or c.block.result.high.now c.loop-i.i 0) ≡ get_or ps j (0, 0) =
@@ -35,7 +34,7 @@ loop-i-preserved c =
     (c.block.ensures.pairs c.loop-i.i (subst (λ k. c.loop-i.i < 2 ^ k) r w.early)) in
     let value = ap (joined_key c.args.base) (is ∙ pair_listed cs step j small) in
     let o = c.loop-i.invariant.long in
-    let place = place_is cs c.args.rank c.requires.paired c.args.rank c.loop-block.block c.loop-i.i refl in
+    let place = place_is c.requires.paired c.loop-block.block c.loop-i.i refl in
     let k : j + 1 ≡ c.loop-block.block * 2 ^ c.args.rank + (c.loop-i.i + 1) = omega arith in
     record {
       long = length-set out _ _ ∙ o;
@@ -79,13 +78,12 @@ key_fits low high base l h b =
 pub overflow_mul-joined : goal.overflow_mul-joined
 overflow_mul-joined c =
     let cs = c.args.entries.now.numbers in
-    let w = in_block cs c.args.rank c.requires.paired (length c.args.joined.now) c.args.rank c.loop-block.block c.loop-i.i c.requires.long refl
-    c.loop-block-test.true c.loop-i-test.true in
+    let w = in_block c.requires.paired c.requires.long refl c.loop-block-test.true c.loop-i-test.true in
     let is = c.block.ensures.pairs c.loop-i.i (subst (λ k. c.loop-i.i < 2 ^ k) c.requires.rank w.early) in
     let b = keys_below cs c.args.entries.now.rank c.args.base (c.loop-block.block * 2 ^ c.args.entries.now.rank + c.loop-i.i)
     (subst (λ k. IsPaired cs k) c.requires.rank c.requires.paired) c.requires.below
     (subst (λ k. c.loop-block.block * 2 ^ k + c.loop-i.i < length (places.pairs cs (2 ^ k))) c.requires.rank
-    (listed_inside cs c.args.rank c.requires.paired c.loop-block.block c.loop-i.i w)) (get_or c.block.result.low.now c.loop-i.i 0)
+    (listed_inside c.requires.paired w)) (get_or c.block.result.low.now c.loop-i.i 0)
     (get_or c.block.result.high.now c.loop-i.i 0) is in
     let k = key_fits (get_or c.block.result.low.now c.loop-i.i 0) (get_or c.block.result.high.now c.loop-i.i 0) c.args.base b.0 b.1 c.requires.base in
     let f = k.0 in
@@ -94,13 +92,12 @@ overflow_mul-joined c =
 pub overflow_add-joined : goal.overflow_add-joined
 overflow_add-joined c =
     let cs = c.args.entries.now.numbers in
-    let w = in_block cs c.args.rank c.requires.paired (length c.args.joined.now) c.args.rank c.loop-block.block c.loop-i.i c.requires.long refl
-    c.loop-block-test.true c.loop-i-test.true in
+    let w = in_block c.requires.paired c.requires.long refl c.loop-block-test.true c.loop-i-test.true in
     let is = c.block.ensures.pairs c.loop-i.i (subst (λ k. c.loop-i.i < 2 ^ k) c.requires.rank w.early) in
     let b = keys_below cs c.args.entries.now.rank c.args.base (c.loop-block.block * 2 ^ c.args.entries.now.rank + c.loop-i.i)
     (subst (λ k. IsPaired cs k) c.requires.rank c.requires.paired) c.requires.below
     (subst (λ k. c.loop-block.block * 2 ^ k + c.loop-i.i < length (places.pairs cs (2 ^ k))) c.requires.rank
-    (listed_inside cs c.args.rank c.requires.paired c.loop-block.block c.loop-i.i w)) (get_or c.block.result.low.now c.loop-i.i 0)
+    (listed_inside c.requires.paired w)) (get_or c.block.result.low.now c.loop-i.i 0)
     (get_or c.block.result.high.now c.loop-i.i 0) is in
     let k = key_fits (get_or c.block.result.low.now c.loop-i.i 0) (get_or c.block.result.high.now c.loop-i.i 0) c.args.base b.0 b.1 c.requires.base in
     let f = k.1 in

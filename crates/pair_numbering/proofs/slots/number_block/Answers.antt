@@ -32,19 +32,15 @@ few_homes cs step slots room l = let e = homes_are cs step slots room in omega a
 
 pub bounds-keys-count : goal.bounds-keys-count
 bounds-keys-count c =
-    let cs = c.args.entries.now.numbers in
-    let rank = c.args.entries.now.rank in
-    let w = in_step cs rank c.rank.ensures.paired c.rank.result c.args.block c.loop-i.i c.rank.ensures.rank c.requires.block c.loop-i-test.true in
-    let small = listed_inside cs rank c.rank.ensures.paired c.args.block c.loop-i.i w in
+    let w = in_step c.rank.ensures.paired c.rank.ensures.rank c.requires.block c.loop-i-test.true in
+    let small = listed_inside c.rank.ensures.paired w in
     count_inside c.loop-i.invariant small
 
 pub home-requires-clause-some : goal.home-requires-clause-some
 home-requires-clause-some c =
-    let cs = c.args.entries.now.numbers in
-    let rank = c.args.entries.now.rank in
-    let w = in_step cs rank c.rank.ensures.paired c.rank.result c.args.block c.loop-i.i c.rank.ensures.rank c.requires.block c.loop-i-test.true in
-    let small = listed_inside cs rank c.rank.ensures.paired c.args.block c.loop-i.i w in
-    some_homes cs (2 ^ rank) (length c.args.slots.now) (c.args.block * 2 ^ rank + c.loop-i.i) c.requires.before.room small
+    let w = in_step c.rank.ensures.paired c.rank.ensures.rank c.requires.block c.loop-i-test.true in
+    let small = listed_inside c.rank.ensures.paired w in
+    some_homes c.args.entries.now.numbers (2 ^ c.args.entries.now.rank) (length c.args.slots.now) _ c.requires.before.room small
 
 pub home-requires-clause-few : goal.home-requires-clause-few
 home-requires-clause-few c =
@@ -52,19 +48,15 @@ home-requires-clause-few c =
 
 pub find_slot-requires-clause-keys : goal.find_slot-requires-clause-keys
 find_slot-requires-clause-keys c =
-    let cs = c.args.entries.now.numbers in
-    let rank = c.args.entries.now.rank in
-    let w = in_step cs rank c.rank.ensures.paired c.rank.result c.args.block c.loop-i.i c.rank.ensures.rank c.requires.block c.loop-i-test.true in
-    let small = listed_inside cs rank c.rank.ensures.paired c.args.block c.loop-i.i w in
+    let w = in_step c.rank.ensures.paired c.rank.ensures.rank c.requires.block c.loop-i-test.true in
+    let small = listed_inside c.rank.ensures.paired w in
     subst (λ n. c.loop-i.count < n) (sym (length-set c.loop-i.keys c.loop-i.count _)) (count_inside c.loop-i.invariant small)
 
 pub bounds-out-block : goal.bounds-out-block
 bounds-out-block c =
-    let cs = c.args.entries.now.numbers in
-    let rank = c.args.entries.now.rank in
-    let w = in_step cs rank c.rank.ensures.paired c.rank.result c.args.block c.loop-i.i c.rank.ensures.rank c.requires.block c.loop-i-test.true in
-    let small = listed_inside cs rank c.rank.ensures.paired c.args.block c.loop-i.i w in
-    let e = place_is cs rank c.rank.ensures.paired c.rank.result c.args.block c.loop-i.i c.rank.ensures.rank in
+    let w = in_step c.rank.ensures.paired c.rank.ensures.rank c.requires.block c.loop-i-test.true in
+    let small = listed_inside c.rank.ensures.paired w in
+    let e = place_is c.rank.ensures.paired c.args.block c.loop-i.i c.rank.ensures.rank in
     subst (λ z. z) (λ i. sym e i < sym c.loop-i.invariant.made.long i) small
 
 pub loop-i-preserved : goal.loop-i-preserved
@@ -80,11 +72,11 @@ loop-i-preserved c =
     let count = c.loop-i.count in
     let at = c.in_ok-at.at in
     let paired = c.rank.ensures.paired in
-    let w = in_step cs rank paired c.rank.result c.args.block c.loop-i.i c.rank.ensures.rank c.requires.block c.loop-i-test.true in
-    let small = listed_inside cs rank paired c.args.block c.loop-i.i w in
+    let w = in_step paired c.rank.ensures.rank c.requires.block c.loop-i-test.true in
+    let small = listed_inside paired w in
     let here : ℕ × ℕ = (get_or c.block.result.low.now c.loop-i.i 0, get_or c.block.result.high.now c.loop-i.i 0) in
     let p : here ≡ get_or ps j (0, 0) = c.block.ensures.pairs c.loop-i.i w.early in
-    let written = place_is cs rank paired c.rank.result c.args.block c.loop-i.i c.rank.ensures.rank in
+    let written = place_is paired c.args.block c.loop-i.i c.rank.ensures.rank in
     let next : j + 1 ≡ c.args.block * 2 ^ rank + (c.loop-i.i + 1) = omega arith in
     let begin = c.home.ensures.place ∙ ap (λ n. home_of n here) (homes_are cs (2 ^ rank) (length c.args.slots.now) c.requires.before.room) ∙ ap place p in
     let found : IsSlot slots (set keys count (get_or ps j (0, 0))) count (get_or ps j (0, 0)) (place (get_or ps j (0, 0))) at =
@@ -106,7 +98,7 @@ loop-i-preserved c =
 pub returns : goal.returns
 returns c =
     let rank = c.args.entries.now.rank in
-    let s = step_is c.args.entries.now.numbers rank c.rank.ensures.paired c.rank.result c.rank.ensures.rank in
+    let s = step_is c.rank.ensures.paired c.rank.ensures.rank in
     let t = c.loop-i-test.false in
     let u = c.loop-i.auto.i-end in
     let e : c.loop-i.i ≡ 2 ^ rank = omega (arith, s, t, u) in

@@ -29,8 +29,7 @@ returns c =
     let made = c.loop-block.invariant.made in
     let j = c.loop-block.block * 2 ^ rank in
     let l = length-pairs cs (2 ^ rank) in
-    let a = all_pairs cs rank c.rank.ensures.paired c.len.result c.rank.result c.loop-block.block c.len.ensures.count c.rank.ensures.rank
-    c.loop-block-test.false in
+    let a = all_pairs c.rank.ensures.paired c.loop-block.block c.len.ensures.count c.rank.ensures.rank c.loop-block-test.false in
     let all : length ps ≤ j = subst (λ n. n ≤ j) (sym l) a in
     record {
       numbered_are = made_numbers (0, 0) ps (λ p. p) out keys j all made;
