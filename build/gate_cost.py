@@ -1,8 +1,8 @@
 #!/usr/bin/env python3
-"""gate_cost.py [WORD..]      runs `rt ci WORD..` in this checkout (with --anew it proves and tries all) and says what it took of
-                         processor time
-gate_cost.py --beside COMMIT [CRATE..]      runs `rt ci --anew` in clean clones of HEAD and of the commit at once, each on half of
-                         the cores, and says what each took and how the two compare
+"""gate_cost.py [--anew]      runs the gate in this checkout and says what it took of processor time; with --anew nothing that an
+                         earlier run kept is taken (kits whose `rt ci` has no --anew keep nothing)
+gate_cost.py --beside COMMIT [CRATE..]      runs the whole gate in clean clones of HEAD and of the commit at once, each on half of
+                         the cores, and says what each took and how the two compare; some kits can run it for single crates
 gate_cost.py --unit      takes the unit alone
 
 The unit is what one fixed proof takes on the same machine in the same hour with nothing beside it: that of the kit's example
@@ -25,6 +25,12 @@ import time
 TOP = os.path.dirname(os.path.dirname(os.path.abspath(__file__)))
 TICKS = os.sysconf("SC_CLK_TCK")
 KINDS = ("proof", "tests", "edits")
+
+
+def flags(words):
+    """The words that this kit's `rt ci` takes of these: some kits keep what a run has proved, and prove it again with --anew."""
+    told = subprocess.run(["rt", "help"], capture_output=True, text=True)
+    return [it for it in words if it != "--anew" or it in told.stdout + told.stderr]
 
 
 def children_seconds():
@@ -115,7 +121,7 @@ class Gate:
     def __init__(self, top, words, cores):
         start = time.monotonic()
         limit = {"preexec_fn": lambda: os.sched_setaffinity(0, cores), "stdin": subprocess.DEVNULL}
-        ran = subprocess.Popen(["rt", "ci", *words], cwd=top, **limit)
+        ran = subprocess.Popen(["rt", "ci", *flags(words)], cwd=top, **limit)
         meter, ended = Meter(ran.pid), 0
         while not ended:
             meter.look()
