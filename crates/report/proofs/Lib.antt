@@ -1,1 +1,2 @@
 pub mod Leveled
+pub mod Sifted

@@ -11,14 +11,14 @@ use std::thread::Threads;
 
 /// The first order of the fewest nodes, and the cells that its certificate lists if one is written.
 #[derive(Drop)]
-pub struct Best {
+pub(crate) struct Best {
     pub optimum: Optimum,
     pub cells: Option<Vec<ListedCell>>,
 }
 
 /// The first order of the fewest nodes among those that keep the pairs of a sifted order, and the
 /// cells that its certificate lists if one is to be written. Without it fewer sets are searched.
-pub fn best_order<R: Threads + Sync>(
+pub(crate) fn best_order<R: Threads + Sync>(
     rt: &R,
     alloc: Global,
     prepared: Preparation<'_>,

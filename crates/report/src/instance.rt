@@ -10,7 +10,7 @@ use truth_table::Tables;
 /// What a run searches: a cover with its truth tables, the pairs that the order has to keep,
 /// whether what a certificate lists is asked for, and by how many workers.
 #[derive(Drop)]
-pub struct Instance<'a> {
+pub(crate) struct Instance<'a> {
     pub cover: &'a Cover,
     pub tables: &'a Tables,
     pub pairs: &'a Pairs,

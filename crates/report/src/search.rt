@@ -1,15 +1,15 @@
 //! The search of a cover: sifting bounds it, while workers prepare it.
 
-ghost use Rattle.std.specs.Prelude.{◌≡◌, All, IfOk, sum};
+ghost use Rattle.std.specs.Prelude.{◌≡◌, IfOk, sum};
 ghost use Rattle.std.specs.Thread.{IsSync};
-ghost use Rattle.report.specs.Found.{IsFound, IsJobFor, IsDoneFor, IsSiftingFor};
+ghost use Rattle.report.specs.Found.{IsFirstManager, IsFound, IsSiftingFor, IsSiftingOf};
 ghost use Rattle.report.specs.FirstDiagrams.{IsFirstDiagram};
 ghost use Rattle.run_texts.specs.Texts.{file_order_levels};
 
 use crate::best::{Best, best_order};
 use crate::diagrams::{file_order_levels_of, first_diagram};
 use crate::instance::Instance;
-use order_model::{Diagram, Limit, Order, Reserve, total};
+use order_model::{Diagram, Limit, Order, Reserve, Workers, total};
 use order_solve::{Preparation, prepare};
 use sifting::laws::diagrams_have_their_functions_tables;
 use sifting::{Manager, Sifted};
@@ -19,29 +19,25 @@ use std::thread::Threads;
 
 /// The order that sifting finds and its size, and the order whose size bounds the search.
 #[derive(Drop)]
-pub struct Sifting {
-    pub sifted: Order,
-    pub size: u32,
-    pub bound: Sifted,
+pub(crate) struct Sifting {
+    pub(crate) sifted: Order,
+    pub(crate) size: u32,
+    pub(crate) bound: Sifted,
 }
 
-/// Sifts from the first order that keeps the pairs, off the diagram under that.
-fn sift_from_first<R: Threads + Sync>(
+/// Sifts, and sifts on for the bound.
+fn sift<R: Threads + Sync>(
     rt: &R,
     alloc: Global,
-    instance: &Instance<'_>,
-    first: Diagram,
+    manager: Manager,
+    workers: Workers,
 ) -> Result<Sifting, AllocError>
-    requires { IsFirstDiagram instance.now.cover.now instance.now.pairs.now.pairs first }
-    ensures { IfOk result (IsSiftingFor instance.now) }
+    ensures { IfOk result (IsSiftingOf manager) }
 {
-    prove!(instance.cover.outputs() <= 16);
-    diagrams_have_their_functions_tables();
-    let manager = Manager::with_pairs(alloc, first, instance.pairs.copied())?;
-    let found = manager.sift_by_threads(rt, alloc, instance.workers)?;
+    let found = manager.sift_by_threads(rt, alloc, workers)?;
     let sifted = found.order().try_clone(alloc)?;
     let size = found.size();
-    let bound = found.search_bound_by_threads(rt, alloc, instance.workers)?;
+    let bound = found.search_bound_by_threads(rt, alloc, workers)?;
     Ok(Sifting {
         sifted,
         size,
@@ -49,133 +45,69 @@ fn sift_from_first<R: Threads + Sync>(
     })
 }
 
-/// What is done before a search: sifting from a diagram, and preparing.
-#[derive(Drop)]
-enum Job {
-    Sift(Diagram),
-    Prepare(Limit),
+/// The diagram under the first order that keeps the pairs, to be sifted.
+fn manager_of(alloc: Global, instance: &Instance<'_>, first: Diagram) -> Result<Manager, AllocError>
+    requires { IsFirstDiagram instance.now.cover.now instance.now.pairs.now.pairs first }
+    ensures { IfOk result (IsFirstManager instance.now) }
+{
+    prove!(instance.cover.outputs() <= 16);
+    diagrams_have_their_functions_tables();
+    let manager = Manager::with_pairs(alloc, first, instance.pairs.copied())?;
+    Ok(manager)
 }
 
-/// What a job comes to.
-#[derive(Drop)]
-enum Done<'a> {
-    Sifting(Sifting),
-    Prepared(Preparation<'a>),
-}
-
-/// Does a job.
-fn do_job<'a, R: Threads + Sync>(
+/// Prepares the search. Before a bound is known the size under the first order serves.
+fn prepare_below<'a, R: Threads + Sync>(
     rt: &R,
     alloc: Global,
     instance: &Instance<'a>,
-    job: Job,
-) -> Result<Done<'a>, AllocError>
-    requires { IsJobFor instance.now job }
-    ensures { IfOk result (IsDoneFor instance.now) }
-{
-    match job {
-        Job::Sift(first) => {
-            let sifting = sift_from_first(rt, alloc, instance, first)?;
-            Ok(Done::Sifting(sifting))
-        }
-        Job::Prepare(limit) => {
-            let problem = instance.tables.problem();
-            let workers = instance.busy_workers();
-            let prepared = prepare(rt, alloc, problem, instance.pairs, limit, workers)?;
-            Ok(Done::Prepared(prepared))
-        }
-    }
-}
-
-/// The jobs before a search from a diagram.
-fn jobs_before<'a>(
-    alloc: Global,
-    instance: &Instance<'a>,
-    first: Diagram,
-) -> Result<Vec<Job>, AllocError>
-    requires { IsFirstDiagram instance.now.cover.now instance.now.pairs.now.pairs first }
-    ensures { IfOk result (λ v. All (IsJobFor instance.now) v.items) }
+    size: u32,
+) -> Result<Preparation<'a>, AllocError>
+    ensures { IfOk result (λ p. p.problem ≡ instance.now.tables.now) }
 {
     let limit = Limit {
-        bound: first.size().min(1 << 20) as u32,
+        bound: size.min(1 << 20),
         reserve: if instance.certify {
             Reserve::Variables
         } else {
             Reserve::Widths
         },
     };
-    let mut jobs = Vec::with_capacity(alloc, 2)?;
-    jobs.push(Job::Sift(first))?;
-    jobs.push(Job::Prepare(limit))?;
-    Ok(jobs)
+    let problem = instance.tables.problem();
+    let workers = instance.busy_workers();
+    let prepared = prepare(rt, alloc, problem, instance.pairs, limit, workers)?;
+    Ok(prepared)
 }
 
-/// Does the jobs at the same time, or one after the other if that keeps one worker busy.
-fn all_done<'a, R: Threads + Sync>(
-    rt: &R,
-    alloc: Global,
-    instance: &Instance<'a>,
-    jobs: Vec<Job>,
-) -> Result<Vec<Result<Done<'a>, AllocError>>, AllocError>
-    requires { All (IsJobFor instance.now) jobs.items }
-    ensures { IfOk result (λ v. All (λ r. IfOk r (IsDoneFor instance.now)) v.items) }
-{
-    if instance.busy_workers().count() == 1 {
-        let mut jobs = jobs;
-        let mut ended = Vec::with_capacity(alloc, jobs.len())?;
-        while let Some(job) = jobs.pop() {
-            ended.push(do_job(rt, alloc, instance, job))?;
-        }
-        return Ok(ended);
-    }
-    thread::map_vec(
-        rt,
-        jobs,
-        &|job: Job| -> Result<Done<'_>, AllocError>
-            requires { IsSync R.row × IsJobFor instance.now job }
-            ensures { IfOk result (IsDoneFor instance.entry.now) }
-        { do_job(rt, alloc, instance, job) },
-    )
-}
-
-/// What sifting and what preparing came to. Both are among what is done.
-fn both_of<'a>(
-    instance: &Instance<'a>,
-    ended: Vec<Result<Done<'a>, AllocError>>,
-) -> Result<(Sifting, Preparation<'a>), AllocError>
-    requires { All (λ r. IfOk r (IsDoneFor instance.now)) ended.items }
-    ensures sifting { IfOk result (λ r. IsSiftingFor instance.now r.0) }
-    ensures prepared { IfOk result (λ r. r.1.problem ≡ instance.now.tables.now) }
-{
-    let mut ended = ended;
-    let mut sifting = None;
-    let mut prepared = None;
-    while let Some(end) = ended.pop() {
-        match end? {
-            Done::Sifting(own) => sifting = Some(own),
-            Done::Prepared(own) => prepared = Some(own),
-        }
-    }
-    match (sifting, prepared) {
-        (Some(sifting), Some(prepared)) => Ok((sifting, prepared)),
-        _ => Err(AllocError),
-    }
-}
-
-/// Sifts and prepares, from the diagram under the first order that keeps the pairs.
+/// Sifts and prepares at the same time, or one after the other if that keeps one worker busy.
 fn sift_and_prepare<'a, R: Threads + Sync>(
     rt: &R,
     alloc: Global,
     instance: &Instance<'a>,
-    first: Diagram,
+    manager: Manager,
 ) -> Result<(Sifting, Preparation<'a>), AllocError>
-    requires { IsFirstDiagram instance.now.cover.now instance.now.pairs.now.pairs first }
+    requires { IsFirstManager instance.now manager }
     ensures sifting { IfOk result (λ r. IsSiftingFor instance.now r.0) }
     ensures prepared { IfOk result (λ r. r.1.problem ≡ instance.now.tables.now) }
 {
-    let jobs = jobs_before(alloc, instance, first)?;
-    let ended = all_done(rt, alloc, instance, jobs)?;
-    both_of(instance, ended)
+    let size = manager.size();
+    let workers = instance.workers;
+    if instance.busy_workers().count() == 1 {
+        let prepared = prepare_below(rt, alloc, instance, size)?;
+        let sifting = sift(rt, alloc, manager, workers)?;
+        return Ok((sifting, prepared));
+    }
+    // what owns the manager borrows no instance: of a closure that does both, `join` tells nothing
+    let sifting = move || -> Result<Sifting, AllocError>
+        requires { IsSync R.row }
+        ensures { IfOk result (IsSiftingOf manager) }
+    { sift(rt, alloc, manager, workers) };
+    let preparing = move || -> Result<Preparation<'_>, AllocError>
+        requires { IsSync R.row }
+        ensures { IfOk result (λ p. p.problem ≡ instance.entry.now.tables.now) }
+    { prepare_below(rt, alloc, instance, size) };
+    let (sifting, prepared) = thread::join(rt, sifting, preparing);
+    Ok((sifting?, prepared?))
 }
 
 /// The size under the file order, from the diagram under the first order that keeps the pairs.
@@ -195,7 +127,7 @@ fn file_size_of<R: Threads + Sync>(
 /// What the search finds of a cover: the best order, the sifted one with its size, and the size
 /// under the file order.
 #[derive(Drop)]
-pub struct Found {
+pub(crate) struct Found {
     pub best: Best,
     pub sifted: Order,
     pub sifted_size: u32,
@@ -213,7 +145,8 @@ pub(crate) fn search<R: Threads + Sync>(
 {
     let first = first_diagram(rt, alloc, instance)?;
     let file_size = file_size_of(rt, alloc, instance, &first)?;
-    let (sifting, prepared) = sift_and_prepare(rt, alloc, instance, first)?;
+    let manager = manager_of(alloc, instance, first)?;
+    let (sifting, prepared) = sift_and_prepare(rt, alloc, instance, manager)?;
     let Sifting {
         sifted,
         size,
