@@ -29,7 +29,7 @@ fn two_words(line: &[u8]) -> Option<(&[u8], &[u8])>
 }
 
 /// The number of a line of a fixed word and a number.
-pub fn number_line(line: &[u8], name: &[u8], least: u32, most: u32) -> Result<u32, LineFault>
+pub(crate) fn number_line(line: &[u8], name: &[u8], least: u32, most: u32) -> Result<u32, LineFault>
     requires { most ≤ most_nodes }
     ensures says { Says (field_fault name.now 1 least most) line.now
         (λ value. value ≡ number_of (get_or (words line.now) 1 [])) result }
@@ -48,7 +48,7 @@ pub fn number_line(line: &[u8], name: &[u8], least: u32, most: u32) -> Result<u3
 }
 
 /// The pair of a line, whose key is above one that may have come before.
-pub fn pair_line(line: &[u8], n: u8, last: Option<u32>) -> Result<(VarIx, VarIx), LineFault>
+pub(crate) fn pair_line(line: &[u8], n: u8, last: Option<u32>) -> Result<(VarIx, VarIx), LineFault>
     requires some { 1 ≤ n }
     requires few { n ≤ 16 }
     ensures { Says (entry_fault (is_pair n) (λ a b. above last (pair_key_of a b))) line.now
@@ -74,7 +74,7 @@ pub fn pair_line(line: &[u8], n: u8, last: Option<u32>) -> Result<(VarIx, VarIx)
 }
 
 /// The listed set of a line, whose mask is above one that may have come before.
-pub fn cell_line(line: &[u8], n: u8, last: Option<u32>) -> Result<ListedCell, LineFault>
+pub(crate) fn cell_line(line: &[u8], n: u8, last: Option<u32>) -> Result<ListedCell, LineFault>
     requires { n ≤ 16 }
     ensures { Says (entry_fault (is_cell n) (λ a b. above last (cell_key_of a b))) line.now
         (λ cell. listed cell ≡ record {
@@ -99,7 +99,7 @@ pub fn cell_line(line: &[u8], n: u8, last: Option<u32>) -> Result<ListedCell, Li
 }
 
 /// The format that the first line says.
-pub fn title_line(line: &[u8]) -> Result<u8, LineFault>
+pub(crate) fn title_line(line: &[u8]) -> Result<u8, LineFault>
     ensures { Says title_fault line.now
         (λ format. format ≡ number_of (get_or (words line.now) 1 [])) result }
 {
@@ -113,7 +113,7 @@ pub fn title_line(line: &[u8]) -> Result<u8, LineFault>
 }
 
 /// The last line.
-pub fn end_line(line: &[u8]) -> Result<(), LineFault>
+pub(crate) fn end_line(line: &[u8]) -> Result<(), LineFault>
     ensures { Says (fixed_fault (codes "end" ∷ [])) line.now (λ _. Unit {0}) result }
 {
     if line == b"end".as_slice() {

@@ -32,7 +32,7 @@ fn variables(alloc: Global, numbers: &[u32]) -> Result<Vec<VarIx>, CertFault>
 
 /// What the first six lines say.
 #[derive(Drop)]
-pub struct Head {
+pub(crate) struct Head {
     format: u8,
     inputs: u8,
     outputs: u8,

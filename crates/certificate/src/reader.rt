@@ -68,7 +68,7 @@ fn numbers_in(alloc: Global, text: &[u8], most: u32, line: usize) -> Result<Vec<
 
 /// What is left of a text, and the number of its first line.
 #[derive(Drop)]
-pub struct Lines<'a> {
+pub(crate) struct Lines<'a> {
     rest: &'a [u8],
     number: usize,
 }

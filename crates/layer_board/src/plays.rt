@@ -17,7 +17,7 @@ impl TableRule<(), Knowledge, Brief> for BoardRule {
 
 /// The step of a claim, at the counter: the seat gains the block whose place is the count that it
 /// found, or learns that no block is left.
-pub struct Claims;
+pub(crate) struct Claims;
 
 impl Play<(), Knowledge> for Claims {
     ghost then = { claims };
@@ -25,7 +25,7 @@ impl Play<(), Knowledge> for Claims {
 
 /// The step of a post, at the word of a cell: an empty word takes the cell, and the seat learns
 /// that it is filled. A word that is found filled stays, and the seat knew that it was.
-pub struct Posts;
+pub(crate) struct Posts;
 
 impl Play<(), Knowledge> for Posts {
     ghost then = { posts };
@@ -33,14 +33,14 @@ impl Play<(), Knowledge> for Posts {
 
 /// The step of a read, at the word of a cell: a filled word holds the right cell, and the seat
 /// learns that it is filled. A word that is found empty is none that it knew to be filled.
-pub struct Reads;
+pub(crate) struct Reads;
 
 impl Play<(), Knowledge> for Reads {
     ghost then = { reads };
 }
 
 /// A seat of one worker is cut off.
-pub struct NewSeat;
+pub(crate) struct NewSeat;
 
 impl Split<Knowledge> for NewSeat {
     ghost left = { one_left };

@@ -16,7 +16,7 @@ use subset_layers::{Cell, Layer};
 
 /// What a worker claimed, knows to be filled and was told.
 #[derive(Drop)]
-pub struct Marks {
+pub(crate) struct Marks {
     pub(crate) claims: Vec<bool>,
     pub(crate) known: Vec<bool>,
     pub(crate) told: bool,

@@ -13,7 +13,7 @@ use std::alloc::{AllocError, Global};
 /// A variable that has to stand above another one.
 #[repr(C)]
 #[derive(Clone, Copy, Debug)]
-pub struct AbovePair {
+pub(crate) struct AbovePair {
     pub above: u8,
     pub below: u8,
 }

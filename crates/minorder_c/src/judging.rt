@@ -15,7 +15,7 @@ use std::alloc::Global;
 /// A verdict, as C is told it: 0 is valid, and an edge has the mask of its set and its variable.
 #[repr(C)]
 #[derive(Clone, Copy, Debug)]
-pub struct ToldVerdict {
+pub(crate) struct ToldVerdict {
     pub reason: u32,
     pub mask: u32,
     pub variable: u32,

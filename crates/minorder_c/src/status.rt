@@ -8,7 +8,7 @@ use std::alloc::AllocError;
 
 /// Why a call is refused.
 #[derive(Clone, Copy, Debug, PartialEq, Eq)]
-pub enum Refusal {
+pub(crate) enum Refusal {
     /// The number of inputs or of outputs, or a length, isn't what it may be.
     Shape,
     /// A text is no certificate.

@@ -25,7 +25,7 @@ use subset_layers::{Cell, Costs};
 /// The cells of all sets of a problem's variables. The bound is the size of some order that keeps
 /// the pairs.
 #[derive(Drop)]
-pub struct AllCells<'a> {
+pub(crate) struct AllCells<'a> {
     setting: &'a Setting<'a>,
     layers: Vec<Costs>,
 }

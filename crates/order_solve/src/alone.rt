@@ -33,7 +33,7 @@ fn place_cells(context: &LayerContext<'_>, block: &Block, found: &[Cell], cells:
 }
 
 /// The cells of a layer in its order. Widths that are found ahead go to `found`.
-pub fn cells_alone(
+pub(crate) fn cells_alone(
     alloc: Global,
     context: &LayerContext<'_>,
     found: &mut WidthsAhead,
@@ -83,7 +83,7 @@ fn next_layer_alone(
 }
 
 /// The layers of all sets.
-pub fn layers_alone(alloc: Global, setting: &Setting<'_>) -> Result<Vec<Costs>, AllocError>
+pub(crate) fn layers_alone(alloc: Global, setting: &Setting<'_>) -> Result<Vec<Costs>, AllocError>
     ensures { IfOk result (λ v. AreAllLayers setting.now v.items) }
 {
     let shared = SharedTables::of(alloc, setting.problem)?;

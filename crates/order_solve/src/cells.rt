@@ -79,7 +79,7 @@ fn cells_by_rows(
 
 /// The cells of a block's sets, in their order. Widths of later layers go to `found`. One tally
 /// rises by the number of widths that the cells take, the other by that of those found ahead.
-pub fn cells_of_block(
+pub(crate) fn cells_of_block(
     alloc: Global,
     block: &Block,
     context: &LayerContext<'_>,

@@ -190,7 +190,7 @@ fn cells_of_layer<R: Threads + Sync, G: Gate>(
 
 /// A layer, and what its walks found ahead.
 #[derive(Drop)]
-pub struct NextLayer {
+pub(crate) struct NextLayer {
     pub costs: Costs,
     pub found: WidthsAhead,
 }
@@ -222,7 +222,7 @@ impl NextLayer {
 }
 
 /// The layer after those that are done.
-pub fn next_layer<R: Threads + Sync, G: Gate>(
+pub(crate) fn next_layer<R: Threads + Sync, G: Gate>(
     crew: &Crew<'_, R, G>,
     alloc: Global,
     setting: &Setting<'_>,

@@ -22,7 +22,7 @@ fn count_outside(essential: Mask, mask: Mask) -> u32
 
 /// The sets, without that of all variables, whose cost with one node for each essential variable
 /// outside is below the total.
-pub fn listed_cells(
+pub(crate) fn listed_cells(
     alloc: Global,
     cells: &AllCells<'_>,
     total: u32,
@@ -44,7 +44,7 @@ pub fn listed_cells(
 }
 
 /// How many widths the cells of all sets take.
-pub fn count_widths(cells: &AllCells<'_>) -> u64
+pub(crate) fn count_widths(cells: &AllCells<'_>) -> u64
     ensures { result ≡ widths_for_all cells.now }
 {
     let mut count = 0;

@@ -15,7 +15,7 @@ const ENTRIES_A_NODE: u64 = 16;
 
 /// How many layers are searched together at first: all if a diagram of the functions is as large as
 /// most, since then hardly a set is clipped, else those most of whose sets are wanted.
-pub fn first_layers(problem: &Problem, limit: Limit) -> u8 {
+pub(crate) fn first_layers(problem: &Problem, limit: Limit) -> u8 {
     let entries = u64::from(problem.outputs()) << problem.inputs();
     if u64::from(limit.bound) >= entries / ENTRIES_A_NODE {
         return problem.inputs();
@@ -85,7 +85,7 @@ fn likely_end(setting: &Setting<'_>, done: &[Costs]) -> usize
 
 /// What was found ahead, as long as that reaches to the next layer. Else nothing, and rows are to
 /// be found of all layers that are likely to be wanted nearly whole.
-pub fn look_ahead(
+pub(crate) fn look_ahead(
     alloc: Global,
     setting: &Setting<'_>,
     ahead: WidthsAhead,

@@ -45,7 +45,7 @@ fn asked_members(reserve: Reserve, mask: Mask, known: Mask) -> Mask
 }
 
 /// The members of a set whose widths its cell takes.
-pub fn needed_members(setting: &Setting<'_>, before: &Costs, mask: Mask) -> Mask
+pub(crate) fn needed_members(setting: &Setting<'_>, before: &Costs, mask: Mask) -> Mask
     requires next { IsInNextLayer before.now mask }
     requires inputs { before.now.inputs ≡ setting.now.problem.inputs }
     requires costs { AreCostsFor setting.now before.now }
@@ -60,7 +60,7 @@ pub fn needed_members(setting: &Setting<'_>, before: &Costs, mask: Mask) -> Mask
 }
 
 /// The same for each set of a block.
-pub fn needs_of_block(
+pub(crate) fn needs_of_block(
     alloc: Global,
     block: &Block,
     context: &LayerContext<'_>,

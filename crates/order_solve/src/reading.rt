@@ -10,7 +10,7 @@ use order_model::{Mask, Order, VarIx};
 use std::alloc::{AllocError, Global};
 
 /// The set of all variables.
-pub fn all_variables(inputs: u8) -> Mask
+pub(crate) fn all_variables(inputs: u8) -> Mask
     requires some { 1 ≤ inputs }
     requires few { inputs ≤ 16 }
     ensures { result ≡ 2 ^ inputs - 1 }
@@ -35,7 +35,7 @@ fn read_variables(alloc: Global, cells: &AllCells<'_>) -> Result<Vec<VarIx>, All
 }
 
 /// The order that the cells give.
-pub fn read_order(alloc: Global, cells: &AllCells<'_>) -> Result<Order, AllocError>
+pub(crate) fn read_order(alloc: Global, cells: &AllCells<'_>) -> Result<Order, AllocError>
     ensures { IfOk result (λ o. IsReadOff cells.now o) }
 {
     prove!(cells.inputs() <= 16);
@@ -45,7 +45,7 @@ pub fn read_order(alloc: Global, cells: &AllCells<'_>) -> Result<Order, AllocErr
 
 /// The level counts of the order that the cells give: by how much the cost falls when a variable is
 /// taken off the top.
-pub fn level_counts(
+pub(crate) fn level_counts(
     alloc: Global,
     cells: &AllCells<'_>,
     order: &Order,

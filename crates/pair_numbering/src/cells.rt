@@ -122,7 +122,7 @@ fn number_blocks(
 
 /// The numbers of the pairs and their masks. A cell is 0, or one more than the number of its pair.
 /// If many pairs were new so far a block is numbered without a branch on whether a pair is new.
-pub fn number_pairs_by_cells(
+pub(crate) fn number_pairs_by_cells(
     alloc: Global,
     entries: &EntryPairs<'_>,
     x: u8,

@@ -45,7 +45,7 @@ impl<'e, 'r> Chains<'e, 'r> {
 
 /// Chains the pairs by their lower class: a head is the first pair of its class, and `next` the one
 /// after each.
-pub fn chain(entries: &EntryPairs<'_>, heads: &mut [u32], next: &mut [u32])
+pub(crate) fn chain(entries: &EntryPairs<'_>, heads: &mut [u32], next: &mut [u32])
     requires paired { IsPaired entries.now.numbers entries.now.rank }
     requires classes { AllBelow entries.now.numbers (length heads.old) }
     requires half { length next.old ≡ length entries.now.numbers / 2 }
@@ -64,7 +64,7 @@ pub fn chain(entries: &EntryPairs<'_>, heads: &mut [u32], next: &mut [u32])
 }
 
 /// The numbers of the pairs, from the first pair equal to each.
-pub fn number_firsts(
+pub(crate) fn number_firsts(
     alloc: Global,
     entries: &EntryPairs<'_>,
     first: &[u32],
@@ -132,7 +132,7 @@ fn walk_chain(
 }
 
 /// The numbers of the pairs, by chains and marks. All classes are below `classes`.
-pub fn number_pairs_by_chains(
+pub(crate) fn number_pairs_by_chains(
     alloc: Global,
     entries: &EntryPairs<'_>,
     classes: usize,
@@ -157,7 +157,7 @@ pub fn number_pairs_by_chains(
 
 /// Finds the first equal pair of each pair.
 #[inline(always)]
-pub fn first_occurrences(
+pub(crate) fn first_occurrences(
     chains: &Chains<'_, '_>,
     stamps: &mut [u32],
     marks: &mut [u32],

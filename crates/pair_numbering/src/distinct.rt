@@ -11,7 +11,7 @@ use point_classes::join_mask;
 use std::alloc::{AllocError, Global};
 
 /// Whether no lower class occurs twice. All are below `bound`.
-pub fn are_distinct(
+pub(crate) fn are_distinct(
     alloc: Global,
     entries: &EntryPairs<'_>,
     bound: usize,
@@ -32,7 +32,7 @@ pub fn are_distinct(
 }
 
 /// The numbers of the pairs, which are distinct too, and their masks.
-pub fn number_distinct_pairs(
+pub(crate) fn number_distinct_pairs(
     alloc: Global,
     entries: &EntryPairs<'_>,
     x: u8,

@@ -18,7 +18,7 @@ pub(crate) struct MaskedPairs<'e> {
 }
 
 /// The masks of pairs.
-pub fn join_masks(
+pub(crate) fn join_masks(
     alloc: Global,
     pairs: &[(u32, u32)],
     x: u8,

@@ -18,7 +18,7 @@ pub struct NumberedPairs {
 }
 
 /// The numbers of the pairs, in an `IndexSet`.
-pub fn index_pairs(alloc: Global, entries: &EntryPairs<'_>) -> Result<Vec<u32>, AllocError>
+pub(crate) fn index_pairs(alloc: Global, entries: &EntryPairs<'_>) -> Result<Vec<u32>, AllocError>
     ensures { IfOk result (λ v. v.items ≡
         ranks same_pair (places.pairs entries.now.numbers (2 ^ entries.now.rank))) }
 {
@@ -33,7 +33,7 @@ pub fn index_pairs(alloc: Global, entries: &EntryPairs<'_>) -> Result<Vec<u32>, 
 }
 
 /// The pair of each number: a pair with the next number is the first of its kind.
-pub fn distinct_pairs(
+pub(crate) fn distinct_pairs(
     alloc: Global,
     entries: &EntryPairs<'_>,
     numbered: &[u32],

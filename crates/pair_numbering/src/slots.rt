@@ -108,7 +108,7 @@ fn number_blocks(
 
 /// The numbers of the pairs. A pair's slot is the first free one from its home on; an empty slot
 /// has a number too large for a pair. Nothing if too many pairs have homes close together.
-pub fn number_pairs_by_slots(
+pub(crate) fn number_pairs_by_slots(
     alloc: Global,
     entries: &EntryPairs<'_>,
 ) -> Result<Option<NumberedPairs>, AllocError>

@@ -23,14 +23,14 @@ use std::alloc::{AllocError, Global};
 
 /// The logical type of a description.
 #[derive(Clone, Copy)]
-pub enum LogicalType {
+pub(crate) enum LogicalType {
     F,
     Fd,
 }
 
 /// Why a line was not taken.
 #[derive(Clone, Copy)]
-pub enum LineError {
+pub(crate) enum LineError {
     Memory,
     Fault(LineFault),
 }
@@ -145,7 +145,7 @@ fn given_or_default_names(
 
 /// What was read so far.
 #[derive(Drop)]
-pub struct Progress {
+pub(crate) struct Progress {
     inputs: Option<u8>,
     outputs: Option<u8>,
     input_names: Option<Vec<String>>,

@@ -10,7 +10,7 @@ use crate::lines::{content, next_word};
 
 /// What a line says, with the text after its directive, or that of its term.
 #[derive(Drop)]
-pub enum Statement<'a> {
+pub(crate) enum Statement<'a> {
     Empty,
     Inputs(&'a [u8]),
     Outputs(&'a [u8]),

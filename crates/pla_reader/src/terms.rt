@@ -14,7 +14,7 @@ use order_model::Term;
 
 /// The masks of a term while it is read.
 #[derive(Clone, Copy)]
-pub struct Masks {
+pub(crate) struct Masks {
     care: u16,
     value: u16,
     outs: u16,

@@ -12,7 +12,7 @@ const PAGE: usize = 64;
 /// A number for each place, 0 at first. Places in use have their numbers on pages of their own, and
 /// all others share a page of zeros, so that the memory is that of the places in use.
 #[derive(Drop)]
-pub struct Numbers {
+pub(crate) struct Numbers {
     places: usize,
     pages: Vec<usize>,
     numbers: Vec<u32>,

@@ -160,7 +160,7 @@ fn terminal_values(alloc: Global, cut: &[Ref]) -> Result<Vec<bool>, AllocError>
 }
 
 /// The numbers of the roots, the levels and the terminals of a reduced diagram.
-pub fn levels_of(
+pub(crate) fn levels_of(
     alloc: Global,
     order: &[VarIx],
     nodes: &[Node],

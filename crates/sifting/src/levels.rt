@@ -12,11 +12,11 @@ use crate::node_table::NodeTable;
 use std::alloc::{AllocError, Global};
 
 /// The places of a node's low and high child on the next level.
-pub type Children = (u32, u32);
+pub(crate) type Children = (u32, u32);
 
 /// The nodes of a level, each once, and how many of them have two different children.
 #[derive(Debug, Drop)]
-pub struct Level {
+pub(crate) struct Level {
     pub nodes: Vec<Children>,
     pub count: u32,
     pub ghost counted: { count ≡ branching nodes.items },
@@ -58,7 +58,7 @@ impl Level {
 }
 
 /// The two levels with their variables exchanged, from the nodes of both.
-pub fn swap_levels(
+pub(crate) fn swap_levels(
     alloc: Global,
     table: &mut NodeTable,
     upper: &[Children],

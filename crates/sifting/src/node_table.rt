@@ -11,7 +11,7 @@ use std::mem;
 /// counted on from `base`; what is less is left from earlier levels, so that a new one begins
 /// without a pass over the slots. The memory of levels that are done with is used again.
 #[derive(Debug, Drop)]
-pub struct NodeTable {
+pub(crate) struct NodeTable {
     pub slots: Vec<u32>,
     pub homes: usize,
     pub base: u32,

@@ -7,7 +7,7 @@ use std::alloc::{AllocError, Global};
 
 /// Chosen numbers, rising, and at each of them in `places` its place among them.
 #[derive(Drop)]
-pub struct Selection {
+pub(crate) struct Selection {
     pub numbers: Vec<u16>,
     pub places: Vec<u16>,
     ghost placed: { ArePlaced numbers.items places.items },
