@@ -7,13 +7,13 @@ use Rattle.order_model.specs.Listed.{listed}
 use Rattle.order_model.specs.declared.listed_cells.ListedCell.{ListedCell}
 use Rattle.certificate.specs.declared.faults.CertFault.{CertFault}
 use Rattle.certificate.specs.Spelling.{most_pairs}
-use Rattle.certificate.specs.Faults.{Judge, said, number_said, inputs_said, is_pair, is_cell, pair_key_of, cell_key_of, section_judges, pairs_judges, cells_judges, fixed_fault}
+use Rattle.certificate.specs.Faults.{LineTest, said, number_said, inputs_said, is_pair, is_cell, pair_key_of, cell_key_of, section_judges, pairs_judges, cells_judges, fixed_fault}
 use Rattle.certificate.specs.Decoded.{read_pair, read_cell, section_said, cells_place, cert_of}
 use Rattle.certificate.specs.Values.{format_of}
 use Rattle.certificate.specs.Parsing.{FailsFirst, TakesSection, outcome}
 use Rattle.certificate.specs.Heads.{TakesSets, TakesBody, body_judges}
 
-abbrev last : List Judge
+abbrev last : List LineTest
 last = fixed_fault (codes "end" ∷ []) ∷ []
 
 module _ (n number : ℕ) (text : List ℕ) (pre : List (List (List ℕ))) (known : inputs_said (pre ++ said text) ≡ n) where
@@ -72,7 +72,7 @@ module _ (format n number : ℕ) (text : List ℕ) (pre : List (List (List ℕ))
   no_pairs one = rw (says ∙ one) refl
 
   place_first : format ≡ 1 → length pre ≡ cells_place (pre ++ said text)
-  place_first one = six ∙ ap (λ (js : List Judge). 6 + length js) (sym (no_pairs one))
+  place_first one = six ∙ ap (λ (js : List LineTest). 6 + length js) (sym (no_pairs one))
 
 pub first_fails : (format n number : ℕ) (text : List ℕ) (fault : CertFault)
     (result : Result (Option (Vec Pair Global) × Vec ListedCell Global) CertFault) →

@@ -13,7 +13,7 @@ use Rattle.order_model.specs.Certificates.{Certificate, Cell}
 use Rattle.certificate.specs.declared.faults.LineFault.{LineFault}
 use Rattle.certificate.specs.Spelling.{most_nodes, most_pairs, field, section, pair_words, pair_lines, cell_words, pair_key, IsPair, IsCell, word_lines, text_line, spelling, HasSpelling}
 use Rattle.order_model.specs.Texts.{same, number_of}
-use Rattle.certificate.specs.Faults.{whole_lines, onto_line, words, said, number_said, inputs_said, is_pair, is_cell, pair_key_of, cell_key_of, title_fault, fixed_fault, section_judges, pairs_judges, cells_judges, judges, Judge, numbered, line_faults, with_feeds, trailing, faults, Spells, FirstFault}
+use Rattle.certificate.specs.Faults.{whole_lines, onto_line, words, said, number_said, inputs_said, is_pair, is_cell, pair_key_of, cell_key_of, title_fault, fixed_fault, section_judges, pairs_judges, cells_judges, judges, LineTest, numbered, line_faults, with_feeds, trailing, faults, Spells, FirstCertFault}
 use Rattle.certificate.proofs.WordLines.{decimal_back}
 use Rattle.certificate.proofs.Judges.{Pass, pass_length, all_same_is, IsFrom, field_is, one_number}
 use Rattle.certificate.proofs.Spelled.{no_fault}
@@ -22,7 +22,7 @@ use Rattle.certificate.proofs.Decoded.{pair_kind, cell_kind, IsSection, section_
 use Rattle.order_model.proofs.Bits.Masks.{power_small}
 
 -- lines without a fault pass
-none_pass : (number : ℕ) (js : List Judge) (ws : List (List (List ℕ))) → line_faults number js ws ≡ [] →
+none_pass : (number : ℕ) (js : List LineTest) (ws : List (List (List ℕ))) → line_faults number js ws ≡ [] →
     (vs : List (List (List ℕ))) × (us : List (List (List ℕ))) × (ws ≡ vs ++ us) × Pass js vs
 unfolding line_faults
 none_pass number [] ws none = ([], ws, refl, refl)
@@ -99,7 +99,7 @@ all_are_taken count text none =
       empty (x ∷ xs) e = absurd (omega (arith, e))
 
 -- a pass in parts
-pass_split : (js ks : List Judge) (ws : List (List (List ℕ))) → Pass (js ++ ks) ws →
+pass_split : (js ks : List LineTest) (ws : List (List (List ℕ))) → Pass (js ++ ks) ws →
     (vs : List (List (List ℕ))) × (us : List (List (List ℕ))) × (ws ≡ vs ++ us) × Pass js vs × Pass ks us
 pass_split [] ks ws pass = ([], ws, refl, refl, pass)
 pass_split (j ∷ js) ks [] pass = elim pass [ ]
@@ -321,21 +321,21 @@ faultless text none =
       empty (x ∷ xs) e = absurd (omega (arith, e))
 
 -- a text has a fault, or is a spelling
-pub spelled_or_faulty : (text : List ℕ) → ((cert : Certificate) × Spells text cert) ⊎ ((line : ℕ) × (fault : LineFault) × FirstFault text line fault)
+pub spelled_or_faulty : (text : List ℕ) → ((cert : Certificate) × Spells text cert) ⊎ ((line : ℕ) × (fault : LineFault) × FirstCertFault text line fault)
 spelled_or_faulty text = by (faults text) refl where
   by : (fs : List (ℕ × LineFault)) → faults text ≡ fs →
-      ((cert : Certificate) × Spells text cert) ⊎ ((line : ℕ) × (fault : LineFault) × FirstFault text line fault)
+      ((cert : Certificate) × Spells text cert) ⊎ ((line : ℕ) × (fault : LineFault) × FirstCertFault text line fault)
   by [] none = let f = faultless text none in inl (cert_of (said text), record { has = f.has; text_is = f.text_is })
   by ((line, fault) ∷ others) some = inr (line, fault, record { others = others; first = some })
 
 -- and not both
-pub spelled_not_faulty : (text : List ℕ) (cert : Certificate) (line : ℕ) (fault : LineFault) → Spells text cert → FirstFault text line fault → ⊥
+pub spelled_not_faulty : (text : List ℕ) (cert : Certificate) (line : ℕ) (fault : LineFault) → Spells text cert → FirstCertFault text line fault → ⊥
 spelled_not_faulty text cert line fault spells first =
     let none : faults text ≡ [] = ap faults spells.text_is ∙ no_fault cert spells.has in let some = first.first in
     absurd (let wrong = sym none ∙ some in cc (wrong))
 
 -- one first fault
-pub one_first_fault : (text : List ℕ) (i j : ℕ) (e f : LineFault) → FirstFault text i e → FirstFault text j f → (i ≡ j) × (e ≡ f)
+pub one_first_fault : (text : List ℕ) (i j : ℕ) (e f : LineFault) → FirstCertFault text i e → FirstCertFault text j f → (i ≡ j) × (e ≡ f)
 one_first_fault text i j e f a b =
     let same : (i, e) ∷ a.others ≡ (j, f) ∷ b.others = sym a.first ∙ b.first in
     (ap (λ (fs : List (ℕ × LineFault)). head_number fs) same, ap (λ (fs : List (ℕ × LineFault)). head_fault fs e) same) where

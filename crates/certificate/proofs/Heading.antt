@@ -4,7 +4,7 @@ use Rattle.std.specs.List.{All, AllByRecursion}
 use Rattle.std.specs.Result.{IsErrAnd}
 use Rattle.std.proofs.lemmas.List.Elements.{All-from_recursion}
 use Rattle.certificate.specs.declared.faults.CertFault.{CertFault}
-use Rattle.certificate.specs.Faults.{Judge, said, inputs_said, field_fault, head_judges}
+use Rattle.certificate.specs.Faults.{LineTest, said, inputs_said, field_fault, head_judges}
 use Rattle.certificate.specs.Decoded.{numbers_of}
 use Rattle.certificate.specs.Parsing.{FailsFirst, Asks, outcome}
 use Rattle.certificate.specs.Heads.{TakesHead}
@@ -13,20 +13,20 @@ use Rattle.certificate.specs.declared.faults.CertFault.TheVariants as found
 use Rattle.certificate.proofs.Judges.{IsFrom, field_is}
 
 -- some lines of a text are taken, and pass what they are asked
-pub record Taken (number₀ : ℕ) (text : List ℕ) (js : List Judge) (lines : List (List (List ℕ))) (number : ℕ) (rest : List ℕ) : Type 0 where
+pub record Taken (number₀ : ℕ) (text : List ℕ) (js : List LineTest) (lines : List (List (List ℕ))) (number : ℕ) (rest : List ℕ) : Type 0 where
   pub parts : said text ≡ lines ++ said rest
-  pub left : (ks : List Judge) → outcome number₀ (js ++ ks) text ≡ outcome number ks rest
+  pub left : (ks : List LineTest) → outcome number₀ (js ++ ks) text ≡ outcome number ks rest
 
 pub taken_none : (number : ℕ) (text : List ℕ) → Taken number text [] [] number text
 taken_none number text = record { parts = refl; left = λ ks. refl }
 
 -- a line passes what it is asked
-abbrev pub Passes : Judge → ℕ → List ℕ → ℕ → List ℕ → Type 0
+abbrev pub Passes : LineTest → ℕ → List ℕ → ℕ → List ℕ → Type 0
 Passes judge number text after rest =
     (ws : List (List ℕ)) × (said text ≡ ws ∷ said rest) × (judge ws ≡ None)
-    × ((js : List Judge) → outcome number (judge ∷ js) text ≡ outcome after js rest)
+    × ((js : List LineTest) → outcome number (judge ∷ js) text ≡ outcome after js rest)
 
-pub taken_more : {number₀ : ℕ} {text : List ℕ} {js : List Judge} {lines : List (List (List ℕ))} {number : ℕ} {rest : List ℕ} (judge : Judge)
+pub taken_more : {number₀ : ℕ} {text : List ℕ} {js : List LineTest} {lines : List (List (List ℕ))} {number : ℕ} {rest : List ℕ} (judge : LineTest)
     {after : ℕ} {rest' : List ℕ} → Taken number₀ text js lines number rest → (passes : Passes judge number rest after rest') →
     Taken number₀ text (js ++ judge ∷ []) (lines ++ passes.0 ∷ []) after rest'
 taken_more {number₀ = number₀} {text = text} {js = js} {lines = lines} judge {rest' = rest'} taken (ws, parts, passes, left) = record {
@@ -35,9 +35,9 @@ taken_more {number₀ = number₀} {text = text} {js = js} {lines = lines} judge
 }
 
 -- what is asked of the first six lines, so far as the lines taken say it
-pub head_fails : {number₀ : ℕ} {text : List ℕ} {js : List Judge} {lines : List (List (List ℕ))} {number : ℕ} {rest : List ℕ} (judge : Judge)
-    (others : List Judge) (fault : CertFault) →
-    Taken number₀ text js lines number rest → ((ks : List Judge) → FailsFirst (outcome number (judge ∷ ks) rest) fault) → (ks : List Judge) →
+pub head_fails : {number₀ : ℕ} {text : List ℕ} {js : List LineTest} {lines : List (List (List ℕ))} {number : ℕ} {rest : List ℕ} (judge : LineTest)
+    (others : List LineTest) (fault : CertFault) →
+    Taken number₀ text js lines number rest → ((ks : List LineTest) → FailsFirst (outcome number (judge ∷ ks) rest) fault) → (ks : List LineTest) →
     FailsFirst (outcome number₀ (js ++ (judge ∷ (others ++ ks))) text) fault
 head_fails judge others fault taken asks ks =
     subst (λ faults. FailsFirst faults fault) (sym (taken.left (judge ∷ (others ++ ks)))) (asks (others ++ ks))
@@ -45,7 +45,7 @@ head_fails judge others fault taken asks ks =
 -- a refusal of the first six lines, where their number of inputs is known or not asked for
 pub told_fails : (number₀ : ℕ) (text : List ℕ) (after : ℕ) (rest : List ℕ) (n : ℕ) (fault : CertFault) (result : Result Head CertFault) →
     IsErrAnd result (λ e. e ≡ fault) → inputs_said (said text) ≡ n →
-    ((ks : List Judge) → FailsFirst (outcome number₀ (head_judges n ++ ks) text) fault) → TakesHead number₀ text after rest result
+    ((ks : List LineTest) → FailsFirst (outcome number₀ (head_judges n ++ ks) text) fault) → TakesHead number₀ text after rest result
 told_fails number₀ text after rest n fault (Ok head) is known fails = elim is [ ]
 told_fails number₀ text after rest n fault (Err e) is known fails =
     rw is (λ ks. subst (λ m. FailsFirst (outcome number₀ (head_judges m ++ ks) text) fault) (sym known) (fails ks))

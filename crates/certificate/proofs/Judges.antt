@@ -8,28 +8,28 @@ use Rattle.std.proofs.lemmas.List.{length-map}
 use Rattle.certificate.specs.declared.faults.LineFault.{LineFault}
 use Rattle.certificate.specs.Spelling.{hex4, field}
 use Rattle.order_model.specs.Texts.{same, number_of, first_fault}
-use Rattle.certificate.specs.Faults.{mask_of, is_decimal, is_mask, field_fault, Judge, line_faults}
+use Rattle.certificate.specs.Faults.{mask_of, is_decimal, is_mask, field_fault, LineTest, line_faults}
 use Rattle.certificate.specs.Decoded.{numbers_of}
 use Rattle.certificate.proofs.WordLines.{decimal_back, hex_back}
 
 -- each line passes what it is asked, and each question has its line
-abbrev pub Pass : List Judge → List (List (List ℕ)) → Type 0
+abbrev pub Pass : List LineTest → List (List (List ℕ)) → Type 0
 Pass [] ws = ws ≡ []
 Pass (judge ∷ others) [] = ⊥
 Pass (judge ∷ others) (line ∷ ws) = (judge line ≡ None) × Pass others ws
 
-pub pass_length : (js : List Judge) (ws : List (List (List ℕ))) → Pass js ws → length js ≡ length ws
+pub pass_length : (js : List LineTest) (ws : List (List (List ℕ))) → Pass js ws → length js ≡ length ws
 pass_length [] ws pass = rw pass refl
 pass_length (j ∷ js) [] pass = elim pass [ ]
 pass_length (j ∷ js) (line ∷ ws) (here, pass) = ap suc (pass_length js ws pass)
 
-pub pass_append : (js ks : List Judge) (vs ws : List (List (List ℕ))) → Pass js vs → Pass ks ws → Pass (js ++ ks) (vs ++ ws)
+pub pass_append : (js ks : List LineTest) (vs ws : List (List (List ℕ))) → Pass js vs → Pass ks ws → Pass (js ++ ks) (vs ++ ws)
 pass_append [] ks vs ws here more = rw here more
 pass_append (j ∷ js) ks [] ws here more = elim here [ ]
 pass_append (j ∷ js) ks (line ∷ vs) ws (first, here) more = (first, pass_append js ks vs ws here more)
 
 -- lines that pass have no fault
-pub pass_none : (number : ℕ) (js : List Judge) (ws : List (List (List ℕ))) → Pass js ws → line_faults number js ws ≡ []
+pub pass_none : (number : ℕ) (js : List LineTest) (ws : List (List (List ℕ))) → Pass js ws → line_faults number js ws ≡ []
 unfolding line_faults
 pass_none number [] ws pass = refl
 pass_none number (j ∷ js) [] pass = elim pass [ ]

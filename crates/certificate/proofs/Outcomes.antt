@@ -9,7 +9,7 @@ use Rattle.certificate.specs.declared.faults.LineFault.{LineFault}
 use Rattle.certificate.specs.declared.faults.LineFault.TheVariants.{MissingLine, TrailingText}
 use Rattle.certificate.specs.declared.faults.CertFault.{CertFault}
 use Rattle.certificate.specs.declared.faults.CertFault.TheVariants as found
-use Rattle.certificate.specs.Faults.{Judge, words, said, whole_lines, with_feeds, line_faults}
+use Rattle.certificate.specs.Faults.{LineTest, words, said, whole_lines, with_feeds, line_faults}
 use Rattle.certificate.specs.Parsing.{Lacks, Cuts, FailsFirst, Asks, trailing_from, outcome}
 use Rattle.certificate.proofs.WordLines.{HasNoFeed, line_first, no_line}
 
@@ -49,7 +49,7 @@ trails number count text line rest cuts =
     rw less (rw number_is refl)
 
 -- the first line passes
-pub step : (number : ℕ) (judge : Judge) (js : List Judge) (text line rest : List ℕ) → Cuts 10 text line rest → judge (words line) ≡ None →
+pub step : (number : ℕ) (judge : LineTest) (js : List LineTest) (text line rest : List ℕ) → Cuts 10 text line rest → judge (words line) ≡ None →
     outcome number (judge ∷ js) text ≡ outcome (number + 1) js rest
 unfolding outcome line_faults
 step number judge js text line rest cuts passes =
@@ -57,7 +57,7 @@ step number judge js text line rest cuts passes =
     (rw passes (ap (λ xs. line_faults (number + 1) js (said rest) ++ xs) (trails number (length js) text line rest cuts)))
 
 -- it has a fault
-pub stop : (number : ℕ) (judge : Judge) (js : List Judge) (text line rest : List ℕ) (fault : LineFault) → Cuts 10 text line rest →
+pub stop : (number : ℕ) (judge : LineTest) (js : List LineTest) (text line rest : List ℕ) (fault : LineFault) → Cuts 10 text line rest →
     judge (words line) ≡ Some fault →
     (others : List (ℕ × LineFault)) × (outcome number (judge ∷ js) text ≡ (number, fault) ∷ others)
 unfolding outcome line_faults
@@ -65,7 +65,7 @@ stop number judge js text line rest fault cuts fails =
     (line_faults (number + 1) js (said rest) ++ trailing_from number (suc (length js)) text, rw (said_first text line rest cuts) (rw fails refl))
 
 -- it is missing
-pub missing : (number : ℕ) (judge : Judge) (js : List Judge) (text : List ℕ) → Lacks 10 text →
+pub missing : (number : ℕ) (judge : LineTest) (js : List LineTest) (text : List ℕ) → Lacks 10 text →
     (others : List (ℕ × LineFault)) × (outcome number (judge ∷ js) text ≡ (number, MissingLine) ∷ others)
 unfolding outcome line_faults
 missing number judge js text lacks = (line_faults (number + 1) js [] ++ trailing_from number (suc (length js)) text, rw (said_none text lacks) refl)
@@ -82,7 +82,7 @@ trailing_text number text some = let test : nat_lt 0 (length text) ≡ true = gr
     let first : number + 0 ≡ number = omega arith in ([], rw test (rw first refl))
 
 -- what taking a line tells
-pub asked_missing : {V : Type 0} (judge : Judge) (number after : ℕ) (text rest' : List ℕ) (P : List (List ℕ) → V → Type 0)
+pub asked_missing : {V : Type 0} (judge : LineTest) (number after : ℕ) (text rest' : List ℕ) (P : List (List ℕ) → V → Type 0)
     (fault : CertFault) (result : Result V CertFault) →
     IsErrAnd result (λ e. e ≡ fault) → Lacks 10 text →
     fault ≡ found.Line number MissingLine → Asks judge number text after rest' P result
@@ -90,7 +90,7 @@ asked_missing judge number after text rest' P fault (Ok value) is lacks e = elim
 asked_missing judge number after text rest' P fault (Err given) is lacks e = rw (is ∙ e) (λ js. missing number judge js text lacks)
 
 -- a missing line, where one alone is asked for
-pub only_missing : {V : Type 0} (judge : Judge) (number : ℕ) (text : List ℕ) (fault : CertFault) (result : Result V CertFault) →
+pub only_missing : {V : Type 0} (judge : LineTest) (number : ℕ) (text : List ℕ) (fault : CertFault) (result : Result V CertFault) →
     IsErrAnd result (λ e. e ≡ fault) → Lacks 10 text → fault ≡ found.Line number MissingLine →
     IfErr result (FailsFirst (outcome number (judge ∷ []) text))
 only_missing judge number text fault (Ok value) is lacks e = elim is [ ]

@@ -2,7 +2,7 @@
 use Rattle.std.proofs.Common.{◌≡◌, ℕ, ◌+◌, ◌-◌, ◌<◌, zero, suc, refl, ◌∙◌, ap, Bool, true, false, ◌==◌, List, [], ◌∷◌, length, map, get_or, Option, None, Some, arith}
 use Rattle.std.specs.List.{AllByRecursion, range_with_len}
 use Rattle.std.proofs.lemmas.Bool.Decides.{nat_tests}
-use Rattle.certificate.specs.Faults.{entry_fault, rises, word_at, Judge}
+use Rattle.certificate.specs.Faults.{entry_fault, rises, word_at, LineTest}
 use Rattle.certificate.proofs.Rising.{IsAbove, RiseFrom}
 use Rattle.certificate.proofs.Judges.{Pass}
 
@@ -40,7 +40,7 @@ module _ (is_entry : List ℕ → List ℕ → Bool) (key : List ℕ → List �
   next_before ws first k (Some j) a b (later, e) is = (omega arith, let place : (k + 1) - 1 ≡ k = omega arith in rw place (rw is refl))
 
   -- what is asked of the lines from k on
-  abbrev pub entry_judges : List (List (List ℕ)) → ℕ → ℕ → ℕ → List Judge
+  abbrev pub entry_judges : List (List (List ℕ)) → ℕ → ℕ → ℕ → List LineTest
   entry_judges ws first k count = map (λ j. entry_fault is_entry (rises key ws first j)) (range_with_len k count)
 
   pub entries_pass : (ws : List (List (List ℕ))) (first k : ℕ) (before : Option ℕ) (es : List (List (List ℕ))) → Before ws first k before →

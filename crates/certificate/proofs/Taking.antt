@@ -9,14 +9,14 @@ use Rattle.std.proofs.Math.Seq.{get_or-append_seam, drop-append-add, take-append
 use Rattle.certificate.specs.declared.faults.CertFault.{CertFault}
 use Rattle.certificate.specs.declared.faults.CertFault.TheVariants as found
 use Rattle.order_model.specs.Texts.{number_of}
-use Rattle.certificate.specs.Faults.{Judge, said, line_faults, number_said, field_fault, entry_fault, rises, section_judges}
+use Rattle.certificate.specs.Faults.{LineTest, said, line_faults, number_said, field_fault, entry_fault, rises, section_judges}
 use Rattle.certificate.specs.Decoded.{section_said}
 use Rattle.certificate.specs.Parsing.{FailsFirst, Asks, outcome, TakesSection}
 use Rattle.certificate.specs.Values.{is_above}
 use Rattle.certificate.proofs.Sections.{Before, entry_judges, entry_is}
 
 -- judges that agree find the same
-pub same_judge : (number : ℕ) (j k : Judge) (js : List Judge) (text : List ℕ) → ((ws : List (List ℕ)) → j ws ≡ k ws) →
+pub same_judge : (number : ℕ) (j k : LineTest) (js : List LineTest) (text : List ℕ) → ((ws : List (List ℕ)) → j ws ≡ k ws) →
     outcome number (j ∷ js) text ≡ outcome number (k ∷ js) text
 unfolding outcome line_faults
 same_judge number j k js text same = by (said text) refl where
@@ -42,7 +42,7 @@ module _ {E : Type 0} (read : List (List ℕ) → E) (key_of : E → ℕ) (name 
     pub many : length es ≡ i
     pub items_are : items ≡ map read es
     pub before : (pre : List (List (List ℕ))) → Before is_entry key (pre ++ said text₀) (length pre + 1) ((length pre + 1) + i) last
-    pub left : (pre : List (List (List ℕ))) (js : List Judge) →
+    pub left : (pre : List (List (List ℕ))) (js : List LineTest) →
         outcome number₀ (section_judges name most is_entry key (pre ++ said text₀) (length pre) ++ js) text₀
         ≡ outcome number (entry_judges is_entry key (pre ++ said text₀) (length pre + 1) ((length pre + 1) + i) (count - i) ++ js) rest
 
@@ -75,7 +75,7 @@ module _ {E : Type 0} (read : List (List ℕ) → E) (key_of : E → ℕ) (name 
     before = λ pre. omega arith;
     left = λ pre js. first_left pre js;
   } where
-    first_left : (pre : List (List (List ℕ))) (js : List Judge) →
+    first_left : (pre : List (List (List ℕ))) (js : List LineTest) →
         outcome number₀ (section_judges name most is_entry key (pre ++ said text₀) (length pre) ++ js) text₀
         ≡ outcome number (entry_judges is_entry key (pre ++ said text₀) (length pre + 1) ((length pre + 1) + 0) (count - 0) ++ js) rest
     first_left pre js =
@@ -93,7 +93,7 @@ module _ {E : Type 0} (read : List (List ℕ) → E) (key_of : E → ℕ) (name 
   -- what is left with one entry to be asked
   with_next : (number₀ : ℕ) (text₀ : List ℕ) (count i : ℕ) (last : Option ℕ) (items : List E) (number : ℕ) (rest : List ℕ) →
       Reached number₀ text₀ count i last items number rest → i < count →
-      (pre : List (List (List ℕ))) (js : List Judge) →
+      (pre : List (List (List ℕ))) (js : List LineTest) →
       outcome number₀ (section_judges name most is_entry key (pre ++ said text₀) (length pre) ++ js) text₀
       ≡ outcome number
       (entry_fault is_entry (λ a b. is_above last (key a b)) ∷
@@ -109,7 +109,7 @@ module _ {E : Type 0} (read : List (List ℕ) → E) (key_of : E → ℕ) (name 
       (after : ℕ) (rest' : List ℕ) (P : List (List ℕ) → E → Type 0) (fault : CertFault) →
       Reached number₀ text₀ count i last items number rest → i < count →
       Asks {V = E} (entry_fault is_entry (λ a b. is_above last (key a b))) number rest after rest' P (Err fault) →
-      (pre : List (List (List ℕ))) (js : List Judge) →
+      (pre : List (List (List ℕ))) (js : List LineTest) →
       FailsFirst (outcome number₀ (section_judges name most is_entry key (pre ++ said text₀) (length pre) ++ js) text₀) fault
   reached_fails number₀ text₀ count i last items number rest after rest' P fault r more asks pre js =
       subst (λ faults. FailsFirst faults fault) (sym (with_next number₀ text₀ count i last items number rest r more pre js)) (asks _)
@@ -149,7 +149,7 @@ module _ {E : Type 0} (read : List (List ℕ) → E) (key_of : E → ℕ) (name 
             let place : ((length pre + 1) + (i + 1)) - 1 ≡ (length pre + 1) + i = omega arith in
             (omega arith, rw place (rw (here pre ∙ is) (sym same)))
 
-        next_left : (pre : List (List (List ℕ))) (js : List Judge) →
+        next_left : (pre : List (List (List ℕ))) (js : List LineTest) →
             outcome number₀ (section_judges name most is_entry key (pre ++ said text₀) (length pre) ++ js) text₀
             ≡ outcome after (entry_judges is_entry key (pre ++ said text₀) (length pre + 1) ((length pre + 1) + (i + 1)) (count - (i + 1)) ++ js) rest'
         next_left pre js =
@@ -172,7 +172,7 @@ module _ {E : Type 0} (read : List (List ℕ) → E) (key_of : E → ℕ) (name 
         none : count - i ≡ 0
         none = omega (arith, low)
 
-        whole : (js : List Judge) → outcome number₀ (section_judges name most is_entry key ws (length pre) ++ js) text₀ ≡ outcome number js rest
+        whole : (js : List LineTest) → outcome number₀ (section_judges name most is_entry key ws (length pre) ++ js) text₀ ≡ outcome number js rest
         whole js = r.left pre js
             ∙ ap (λ n. outcome number (entry_judges is_entry key (pre ++ said text₀) (length pre + 1) ((length pre + 1) + i) n ++ js)
             rest) none
@@ -200,7 +200,7 @@ pub section_fails : {V E : Type 0} (name : List ℕ) (most : ℕ) (is_entry : Li
     (read : List (List ℕ) → E) (items : V → List E) (number : ℕ) (text : List ℕ) (after : ℕ) (rest : List ℕ) (result : Result V CertFault)
     (fault : CertFault) →
     IsErrAnd result (λ e. e ≡ fault) →
-    ((pre : List (List (List ℕ))) (js : List Judge) →
+    ((pre : List (List (List ℕ))) (js : List LineTest) →
     FailsFirst (outcome number (section_judges name most is_entry key (pre ++ said text) (length pre) ++ js) text) fault) →
     TakesSection name most is_entry key read items number text after rest result
 section_fails name most is_entry key read items number text after rest (Ok v) fault is fails = elim is [ ]

@@ -2,7 +2,7 @@
 --     whole_lines text, words line, said text      the lines that end with a line feed; the words of a line; the words of these lines
 --     judges ws      what each line of the text is asked, from the first on
 --     faults text      the faulty lines with their numbers, counted from 1, and then what follows the end
---     Spells text cert, FirstFault text line fault      the text is the certificate's spelling; its first fault
+--     Spells text cert, FirstCertFault text line fault      the text is the certificate's spelling; its first fault
 use Rattle.std.specs.Prelude.{◌≡◌, ℕ, ◌+◌, ◌-◌, ◌^◌, Bool, not, if◌then◌else◌, ◌&&◌, ◌||◌, ◌==◌, List, [], ◌∷◌, ◌++◌, length, map, take, codes, decimal, Option, Some, None, nat_lt, nat_le, nat_eq}
 use Rattle.std.specs.List.{slice_split, slice_index_or, range_with_len, list_all, flat_map}
 use Rattle.std.specs.Cmp.Lexicographic.{pointwise}
@@ -53,15 +53,15 @@ abbrev pub number_said : List (List (List ℕ)) → ℕ → ℕ
 number_said ws k = number_of (word_at ws k 1)
 
 -- what is asked of the words of a line
-abbrev pub Judge : Type 0
-Judge = List (List ℕ) → Option LineFault
+abbrev pub LineTest : Type 0
+LineTest = List (List ℕ) → Option LineFault
 
 -- a line of fixed words
-abbrev pub fixed_fault : List (List ℕ) → Judge
+abbrev pub fixed_fault : List (List ℕ) → LineTest
 fixed_fault wanted given = first_fault ((not (pointwise same given wanted), BadLine) ∷ [])
 
 -- the first line, of either format
-abbrev pub title_fault : Judge
+abbrev pub title_fault : LineTest
 title_fault given = first_fault ((
   not (pointwise same given (codes "bddorder-certificate" ∷ codes "1" ∷ []) || pointwise same given
       (codes "bddorder-certificate" ∷ codes "2" ∷ [])),
@@ -69,14 +69,14 @@ title_fault given = first_fault ((
 ) ∷ [])
 
 -- a line of a fixed word with a count of decimals from least to most
-abbrev pub field_fault : List ℕ → ℕ → ℕ → ℕ → Judge
+abbrev pub field_fault : List ℕ → ℕ → ℕ → ℕ → LineTest
 field_fault name count least most [] = Some BadLine
 field_fault name count least most (word ∷ numbers) = first_fault (
     (not (same word name) || not (length numbers == count), BadLine)
     ∷ (not (list_all (is_decimal least most) numbers), BadNumber) ∷ [])
 
 -- a line of two words that are entries of a kind, and whose key is above that of the line before
-abbrev pub entry_fault : (List ℕ → List ℕ → Bool) → (List ℕ → List ℕ → Bool) → Judge
+abbrev pub entry_fault : (List ℕ → List ℕ → Bool) → (List ℕ → List ℕ → Bool) → LineTest
 entry_fault is_entry is_above (first ∷ second ∷ []) = first_fault (
     (not (is_entry first second), BadNumber)
     ∷ (not (is_above first second), NotRising) ∷ [])
@@ -103,7 +103,7 @@ rises key ws first k a b = k == first || nat_lt (key (word_at ws (k - 1) 0) (wor
 
 -- a line with a count of at most most, and as many lines of entries; the first line is line at, counted from 0
 abbrev pub section_judges : List ℕ → ℕ → (List ℕ → List ℕ → Bool) → (List ℕ → List ℕ → ℕ) → List (List (List ℕ)) → ℕ →
-    List Judge
+    List LineTest
 section_judges name most is_entry key ws at =
     field_fault name 1 0 most ∷ map (λ k. entry_fault is_entry (rises key ws (at + 1) k))
     (range_with_len (at + 1) (number_said ws at))
@@ -113,18 +113,18 @@ abbrev pub inputs_said : List (List (List ℕ)) → ℕ
 inputs_said ws = number_said ws 1
 
 -- what is asked of the lines of pairs, which format 2 alone has
-abbrev pub pairs_judges : List (List (List ℕ)) → List Judge
+abbrev pub pairs_judges : List (List (List ℕ)) → List LineTest
 pairs_judges ws =
     if nat_eq (number_said ws 0) 1 then []
     else section_judges (codes "pairs") most_pairs (is_pair (inputs_said ws)) pair_key_of ws 6
 
 -- what is asked of the lines of listed sets, the first of which is line at
-abbrev pub cells_judges : List (List (List ℕ)) → ℕ → List Judge
+abbrev pub cells_judges : List (List (List ℕ)) → ℕ → List LineTest
 cells_judges ws at = section_judges (codes "cells") (2 ^ inputs_said ws - 1)
     (is_cell (inputs_said ws)) cell_key_of ws at
 
 -- what is asked of the first six lines, for a number of inputs
-abbrev pub head_judges : ℕ → List Judge
+abbrev pub head_judges : ℕ → List LineTest
 head_judges n = title_fault
     ∷ field_fault (codes "inputs") 1 1 16
     ∷ field_fault (codes "outputs") 1 1 16
@@ -133,7 +133,7 @@ head_judges n = title_fault
     ∷ field_fault (codes "total") 1 0 most_nodes ∷ []
 
 -- what is asked of the words of each line, from the first on, by what the lines before it say
-unfoldable pub judges : List (List (List ℕ)) → List Judge
+unfoldable pub judges : List (List (List ℕ)) → List LineTest
 judges ws = head_judges (inputs_said ws)
     ++ (pairs_judges ws ++ (cells_judges ws (6 + length (pairs_judges ws)) ++ fixed_fault (codes "end" ∷ []) ∷ []))
 
@@ -143,7 +143,7 @@ numbered number None = []
 numbered number (Some fault) = (number, fault) ∷ []
 
 -- the faulty lines, counted from a number on, by what each is asked
-unfoldable pub line_faults : ℕ → List Judge → List (List (List ℕ)) → List (ℕ × LineFault)
+unfoldable pub line_faults : ℕ → List LineTest → List (List (List ℕ)) → List (ℕ × LineFault)
 line_faults number [] ws = []
 line_faults number (judge ∷ others) [] = (number, MissingLine) ∷ line_faults (number + 1) others []
 line_faults number (judge ∷ others) (line ∷ ws) = numbered number (judge line) ++ line_faults (number + 1) others ws
@@ -168,6 +168,6 @@ pub record Spells (text : List ℕ) (cert : Certificate) : Type 0 where
   pub text_is : text ≡ spelling cert
 
 -- the first fault of the text
-pub record FirstFault (text : List ℕ) (line : ℕ) (fault : LineFault) : Type 0 where
+pub record FirstCertFault (text : List ℕ) (line : ℕ) (fault : LineFault) : Type 0 where
   pub others : List (ℕ × LineFault)
   pub first : faults text ≡ (line, fault) ∷ others

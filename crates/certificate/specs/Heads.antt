@@ -13,7 +13,7 @@ use Rattle.certificate.specs.declared.parsing.Head.{Head}
 use Rattle.order_model.specs.Certificates.{Certificate}
 use Rattle.certificate.specs.declared.faults.CertFault.{CertFault}
 use Rattle.certificate.specs.declared.faults.CertFault.TheVariants as found
-use Rattle.certificate.specs.Faults.{FirstFault, Judge, said, number_said, inputs_said, head_judges, pairs_judges, cells_judges, fixed_fault}
+use Rattle.certificate.specs.Faults.{FirstCertFault, LineTest, said, number_said, inputs_said, head_judges, pairs_judges, cells_judges, fixed_fault}
 use Rattle.certificate.specs.Decoded.{numbers_of, cells_place, cert_of}
 use Rattle.certificate.specs.Values.{format_of, value_of}
 use Rattle.certificate.specs.Parsing.{FailsFirst, outcome}
@@ -34,12 +34,12 @@ pub record IsHead (ws : List (List (List ℕ))) (head : Head) : Type 0 where
 abbrev pub TakesHead : ℕ → List ℕ → ℕ → List ℕ → Result Head CertFault → Type 0
 TakesHead number text after rest (Ok head) = IsHead (said text) head
     × (lines : List (List (List ℕ))) × (said text ≡ lines ++ said rest) × (length lines ≡ 6)
-    × ((js : List Judge) → outcome number (head_judges (inputs_said (said text)) ++ js) text ≡ outcome after js rest)
-TakesHead number text after rest (Err fault) = (js : List Judge) →
+    × ((js : List LineTest) → outcome number (head_judges (inputs_said (said text)) ++ js) text ≡ outcome after js rest)
+TakesHead number text after rest (Err fault) = (js : List LineTest) →
     FailsFirst (outcome number (head_judges (inputs_said (said text)) ++ js) text) fault
 
 -- what is asked of the lines after the first six
-abbrev pub body_judges : List (List (List ℕ)) → List Judge
+abbrev pub body_judges : List (List (List ℕ)) → List LineTest
 body_judges ws = pairs_judges ws ++ (cells_judges ws (cells_place ws) ++ fixed_fault (codes "end" ∷ []) ∷ [])
 
 -- the lines of listed sets and the last one are taken, after some lines that say a number of inputs, or the first fault is told
@@ -83,6 +83,6 @@ most_bytes = 1048576
 
 -- why a text is refused: its first fault, or that it is too long; out of memory may stand in the place of either
 abbrev pub FailsToParse : List ℕ → CertFault → Type 0
-FailsToParse text (found.Line number fault) = (length text ≤ most_bytes) × FirstFault text number fault
+FailsToParse text (found.Line number fault) = (length text ≤ most_bytes) × FirstCertFault text number fault
 FailsToParse text found.TooLong = most_bytes < length text
 FailsToParse text found.OutOfMemory = Unit {0}

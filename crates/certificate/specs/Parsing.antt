@@ -10,7 +10,7 @@ use Rattle.certificate.specs.declared.faults.LineFault.{LineFault}
 use Rattle.certificate.specs.declared.faults.LineFault.TheVariants.{TrailingText}
 use Rattle.certificate.specs.declared.faults.CertFault.{CertFault}
 use Rattle.certificate.specs.declared.faults.CertFault.TheVariants as found
-use Rattle.certificate.specs.Faults.{Judge, words, said, whole_lines, with_feeds, line_faults, section_judges}
+use Rattle.certificate.specs.Faults.{LineTest, words, said, whole_lines, with_feeds, line_faults, section_judges}
 use Rattle.certificate.specs.Decoded.{section_said}
 
 -- the byte doesn't stand in the text
@@ -22,7 +22,7 @@ abbrev pub Cuts : ℕ → List ℕ → List ℕ → List ℕ → Type 0
 Cuts byte text front behind = (text ≡ front ++ byte ∷ behind) × Lacks byte front
 
 -- the line passes what it is asked, and P holds of its value, or it has the fault
-abbrev pub Says : {V : Type 0} → Judge → List ℕ → (V → Type 0) → Result V LineFault → Type 0
+abbrev pub Says : {V : Type 0} → LineTest → List ℕ → (V → Type 0) → Result V LineFault → Type 0
 Says judge line P (Ok value) = (judge (words line) ≡ None) × P value
 Says judge line P (Err fault) = judge (words line) ≡ Some fault
 
@@ -33,7 +33,7 @@ trailing_from number count text =
     else []
 
 -- the faults of a text, the first line of which has a number, by what its lines are asked
-unfoldable pub outcome : ℕ → List Judge → List ℕ → List (ℕ × LineFault)
+unfoldable pub outcome : ℕ → List LineTest → List ℕ → List (ℕ × LineFault)
 outcome number js text = line_faults number js (said text) ++ trailing_from number (length js) text
 
 -- the first of some faults; out of memory may stand in its place
@@ -43,23 +43,23 @@ FailsFirst faults found.TooLong = ⊥
 FailsFirst faults found.OutOfMemory = Unit {0}
 
 -- the first line of a text is taken: it passes, and P holds of its words and the value; or the text's first fault is told
-abbrev pub Asks : {V : Type 0} → Judge → ℕ → List ℕ → ℕ → List ℕ → (List (List ℕ) → V → Type 0) → Result V CertFault →
+abbrev pub Asks : {V : Type 0} → LineTest → ℕ → List ℕ → ℕ → List ℕ → (List (List ℕ) → V → Type 0) → Result V CertFault →
     Type 0
 Asks judge number text after rest P (Ok value) =
     (ws : List (List ℕ)) × (said text ≡ ws ∷ said rest) × (judge ws ≡ None)
-    × ((js : List Judge) → outcome number (judge ∷ js) text ≡ outcome after js rest) × P ws value
-Asks judge number text after rest P (Err fault) = (js : List Judge) → FailsFirst (outcome number (judge ∷ js) text) fault
+    × ((js : List LineTest) → outcome number (judge ∷ js) text ≡ outcome after js rest) × P ws value
+Asks judge number text after rest P (Err fault) = (js : List LineTest) → FailsFirst (outcome number (judge ∷ js) text) fault
 
 -- a section of a text is taken, which stands after some lines: its lines pass, and its entries are told; or the text's first fault is
 abbrev pub TakesSection : {V E : Type 0} → List ℕ → ℕ → (List ℕ → List ℕ → Bool) → (List ℕ → List ℕ → ℕ) →
     (List (List ℕ) → E) →
     (V → List E) → ℕ → List ℕ → ℕ → List ℕ → Result V CertFault → Type 0
 TakesSection name most is_entry key read items number text after rest (Ok value) = (pre : List (List (List ℕ))) →
-    ((js : List Judge) → outcome number
+    ((js : List LineTest) → outcome number
     (section_judges name most is_entry key (pre ++ said text) (length pre) ++ js) text ≡ outcome after js rest)
     × (lines : List (List (List ℕ))) × (said text ≡ lines ++ said rest)
     × (length lines ≡ length (section_judges name most is_entry key (pre ++ said text) (length pre)))
     × (items value ≡ section_said read (pre ++ said text) (length pre))
 TakesSection name most is_entry key read items number text after rest (Err fault) = (pre : List (List (List ℕ)))
-    (js : List Judge) →
+    (js : List LineTest) →
     FailsFirst (outcome number (section_judges name most is_entry key (pre ++ said text) (length pre) ++ js) text) fault

@@ -5,7 +5,7 @@
 use Rattle.std.specs.Prelude.{ℕ, ◌+◌, ◌^◌, ◌<◌, ◌≤◌, Bool, List, length, Result}
 use Rattle.certificate.specs.declared.faults.CertFault.{CertFault}
 use Rattle.certificate.specs.declared.reader.Lines.{Lines}
-use Rattle.certificate.specs.Faults.{Judge}
+use Rattle.certificate.specs.Faults.{LineTest}
 use Rattle.certificate.specs.Parsing.{Asks, TakesSection}
 
 -- no line that is left has a number above this one: each has a byte at least
@@ -21,7 +21,7 @@ abbrev pub StaysWithin : Lines → Lines → Type 0
 StaysWithin old new = last_number new ≤ last_number old
 
 -- the next line is taken: it passes, and P holds of its words and the value; or the text's first fault is told
-abbrev pub TakesLine : {V : Type 0} → Judge → Lines → Lines → (List (List ℕ) → V → Type 0) → Result V CertFault → Type 0
+abbrev pub TakesLine : {V : Type 0} → LineTest → Lines → Lines → (List (List ℕ) → V → Type 0) → Result V CertFault → Type 0
 TakesLine judge old new P result = Asks judge old.number old.rest.now new.number new.rest.now P result
 
 -- the lines of a section are taken: they pass, and its entries are told; or the text's first fault is

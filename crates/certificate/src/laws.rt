@@ -7,7 +7,7 @@ ghost use Rattle.order_model.specs.Orders.{IsOrder};
 ghost use Rattle.order_model.specs.Pairs.{AreBelow, Pair, sorted_pairs};
 ghost use Rattle.certificate.specs.declared.faults.LineFault.{LineFault};
 ghost use Rattle.certificate.specs.Spelling.{HasSpelling, spelling};
-ghost use Rattle.certificate.specs.Faults.{Spells, FirstFault, faults};
+ghost use Rattle.certificate.specs.Faults.{Spells, FirstCertFault, faults};
 ghost use Rattle.certificate.specs.Heads.{most_bytes};
 
 /// A text is the spelling of at most one certificate.
@@ -25,11 +25,11 @@ pub fn spellings_have_no_fault()
 pub fn texts_have_one_reading()
     ensures some { (text : List ℕ) →
         ((cert : Certificate) × Spells text cert) ⊎
-        ((line : ℕ) × (fault : LineFault) × FirstFault text line fault) }
+        ((line : ℕ) × (fault : LineFault) × FirstCertFault text line fault) }
     ensures not_both { (text : List ℕ) (cert : Certificate) (line : ℕ) (fault : LineFault) →
-        Spells text cert → FirstFault text line fault → ⊥ }
-    ensures one_fault { (text : List ℕ) (i j : ℕ) (e f : LineFault) → FirstFault text i e →
-        FirstFault text j f → (i ≡ j) × (e ≡ f) }
+        Spells text cert → FirstCertFault text line fault → ⊥ }
+    ensures one_fault { (text : List ℕ) (i j : ℕ) (e f : LineFault) → FirstCertFault text i e →
+        FirstCertFault text j f → (i ≡ j) × (e ≡ f) }
 {}
 
 /// A spelling has at most 256 bytes, 6 for each pair and 12 for each listed set; so it isn't too

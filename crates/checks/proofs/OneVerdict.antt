@@ -4,7 +4,7 @@
 use Rattle.std.proofs.Common.{◌≡◌, ℕ, ◌≤◌, ◌<◌, List, [], length, refl, sym, ap, ◌∙◌, subst, arith}
 use Rattle.order_model.specs.Certificates.{Certificate}
 use Rattle.certificate.specs.declared.faults.LineFault.{LineFault as TextFault}
-use Rattle.certificate.specs.Faults.{FirstFault as CertificateFault}
+use Rattle.certificate.specs.Faults.{FirstCertFault}
 use Rattle.certificate.specs.Heads.{most_bytes}
 use Rattle.certificate.proofs.Faultless.{spelled_not_faulty, one_first_fault}
 use Rattle.certificate.proofs.Spelled.{one_form}
@@ -63,7 +63,7 @@ module _ (file text : List ℕ) where
   by_length many (Refused CertificateTooLong) b q = absurd (let few : length file ≤ longest = q.0.1.0 in omega (arith, many))
 
   module _ (cover : NamedCover) (few : length file ≤ longest) (reads : Reads file cover) where
-    by_text_line : (line : ℕ) (fault : TextFault) → length text ≤ most_bytes → CertificateFault text line fault →
+    by_text_line : (line : ℕ) (fault : TextFault) → length text ≤ most_bytes → FirstCertFault text line fault →
         (other : Outcome) (b : List ℕ) → Judge file text other b → (Refused (CertificateLine line fault) ≡ other) × ([] ≡ b)
     by_text_line line fault short first Done b q = absurd (spelled_not_faulty text q.1 line fault q.3.1 first)
     by_text_line line fault short first Invalid b q = absurd (spelled_not_faulty text q.1 line fault q.3.1 first)

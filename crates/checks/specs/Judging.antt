@@ -6,7 +6,7 @@
 use Rattle.std.specs.Prelude.{◌≡◌, ◌⊎◌, ℕ, ◌<◌, ◌≤◌, List, [], length, take, Option, Result, Ok, Err, Some, codes}
 use Rattle.std.specs.Io.KnownBytes.{Appends}
 use Rattle.order_model.specs.Certificates.{Certificate, Reason, IsGood, IsFirstReason}
-use Rattle.certificate.specs.Faults.{FirstFault as CertificateFault}
+use Rattle.certificate.specs.Faults.{FirstCertFault}
 use Rattle.certificate.specs.Heads.{most_bytes}
 use Rattle.pla_reader.specs.Covers.{NamedCover, functions_of}
 use Rattle.pla_reader.specs.Reading.{FirstFault}
@@ -30,7 +30,7 @@ bytes_fault refused.OutOfMemory = OutOfMemory
 
 -- why the bytes of a certificate are refused
 abbrev pub IsRefusedText : List ℕ → Fault → Type 0
-IsRefusedText text (CertificateLine line fault) = (length text ≤ most_bytes) × CertificateFault text line fault
+IsRefusedText text (CertificateLine line fault) = (length text ≤ most_bytes) × FirstCertFault text line fault
 IsRefusedText text CertificateTooLong = most_bytes < length text
 IsRefusedText text Device = Unit {0}
 IsRefusedText text OutOfMemory = Unit {0}
@@ -63,7 +63,7 @@ Judge file text (Refused (Line line fault)) written = (length file ≤ longest) 
     × (written ≡ [])
 Judge file text (Refused TooLong) written = (longest < length file) × (written ≡ [])
 Judge file text (Refused (CertificateLine line fault)) written =
-    ((cover : NamedCover) × ReadsWithin file cover) × (length text ≤ most_bytes) × CertificateFault text line fault
+    ((cover : NamedCover) × ReadsWithin file cover) × (length text ≤ most_bytes) × FirstCertFault text line fault
     × (written ≡ [])
 Judge file text (Refused CertificateTooLong) written = ((cover : NamedCover) × ReadsWithin file cover)
     × (most_bytes < length text) × (written ≡ [])

@@ -5,7 +5,7 @@ use Rattle.std.proofs.Common.{◌≡◌, ◌≢◌, ℕ, ◌+◌, ◌*◌, ◌/�
 use Rattle.std.proofs.Math.Nat.{mul-le-mul_right, div-mul-le_self, lt-div-mul-add}
 use Rattle.std.proofs.lemmas.Bool.{cases_lt}
 use Rattle.std.proofs.lemmas.Nat.{pow_pos, div-add-mod'}
-use Rattle.class_laws.specs.Numbering.{IsFirst}
+use Rattle.class_laws.specs.Numbering.{IsFirstOccurrence}
 use Rattle.class_laws.specs.Places.{low_place, pairs}
 use Rattle.class_laws.proofs.Index.{pair_within, first_listed}
 
@@ -35,7 +35,7 @@ low_rises step i j some lt =
 
 pub distinct_first : (cs : List ℕ) (r : ℕ) → ((blocks : ℕ) × (length cs ≡ blocks * (2 * 2 ^ r))) →
     ((i j : ℕ) → i < j → j < length cs → get_or cs i 0 ≢ get_or cs j 0) → (j : ℕ) → j < length cs / 2 →
-    IsFirst (λ i. get_or (pairs cs (2 ^ r)) i (0, 0)) j j
+    IsFirstOccurrence (λ i. get_or (pairs cs (2 ^ r)) i (0, 0)) j j
 distinct_first cs r whole apart j h = first_listed cs (2 ^ r) j j h (record {
   before = omega arith;
   same = refl;

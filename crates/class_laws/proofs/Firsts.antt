@@ -8,14 +8,14 @@ use Rattle.std.proofs.lemmas.List.{take_more_set, length-set, length-append, tak
 use Rattle.order_model.specs.Widths.{same_pair}
 use Rattle.order_model.proofs.Widths.ClassPairs.{pair_decides}
 use Rattle.order_model.proofs.Lists.Sets.{Among}
-use Rattle.class_laws.specs.Numbering.{IsFirst, rank, ranks}
+use Rattle.class_laws.specs.Numbering.{IsFirstOccurrence, rank, ranks}
 use Rattle.class_laws.proofs.Ranks.{rank_absent, rank_below}
 use Rattle.class_laws.proofs.Progress.{Progress, progress_none, progress_new, progress_old, progress_all, among_take, take_among}
 use Rattle.class_laws.proofs.Joined.{Joined, joined_none, joined_new, joined_old, joined_many, joined_told, rank_is}
 
 module _ {M : Type 0} (none : M) (ps : List (ℕ × ℕ)) (join : ℕ × ℕ → M) where
   -- the masks with one more pair, which is the first of its kind
-  pub joined_first : (masks : List M) (j : ℕ) (mask : M) → j < length ps → IsFirst (λ i. get_or ps i (0, 0)) j j →
+  pub joined_first : (masks : List M) (j : ℕ) (mask : M) → j < length ps → IsFirstOccurrence (λ i. get_or ps i (0, 0)) j j →
       mask ≡ join (get_or ps j (0, 0)) → Joined none ps join masks j → Joined none ps join (masks ++ mask ∷ []) (j + 1)
   joined_first masks j mask l f m h =
       joined_new none ps join masks j (rank same_pair ps (get_or ps j (0, 0))) mask l h refl
@@ -25,7 +25,7 @@ module _ {M : Type 0} (none : M) (ps : List (ℕ × ℕ)) (join : ℕ × ℕ →
       ∙ sym h.many) m
 
   -- with one that has come before
-  pub joined_again : (masks : List M) (j first : ℕ) → j < length ps → IsFirst (λ i. get_or ps i (0, 0)) j first → first < j →
+  pub joined_again : (masks : List M) (j first : ℕ) → j < length ps → IsFirstOccurrence (λ i. get_or ps i (0, 0)) j first → first < j →
       Joined none ps join masks j → Joined none ps join masks (j + 1)
   joined_again masks j first l f lt h =
       let there : Among (get_or ps j (0, 0)) (take j ps) = subst (λ t. Among t (take j ps)) f.same (take_among ps ps j first lt (omega arith)) in
@@ -43,7 +43,7 @@ module _ {M : Type 0} (none : M) (ps : List (ℕ × ℕ)) (join : ℕ × ℕ →
   pub made_none : (out : List ℕ) → length out ≡ length ps → Made out [] 0
   made_none out l = record { long = l; few = omega arith; within = omega arith; progress = progress_none ps; joined = joined_none none ps join }
 
-  pub made_first : (out : List ℕ) (masks : List M) (j : ℕ) (mask : M) → j < length ps → IsFirst (λ i. get_or ps i (0, 0)) j j →
+  pub made_first : (out : List ℕ) (masks : List M) (j : ℕ) (mask : M) → j < length ps → IsFirstOccurrence (λ i. get_or ps i (0, 0)) j j →
       mask ≡ join (get_or ps j (0, 0)) → Made out masks j → Made (set out j (length masks)) (masks ++ mask ∷ []) (j + 1)
   made_first out masks j mask l f m h =
       let o = h.long in
@@ -59,7 +59,7 @@ module _ {M : Type 0} (none : M) (ps : List (ℕ × ℕ)) (join : ℕ × ℕ →
         joined = joined_first masks j mask l f m h.joined;
       }
 
-  pub made_again : (out : List ℕ) (masks : List M) (j first : ℕ) → j < length ps → IsFirst (λ i. get_or ps i (0, 0)) j first → first < j →
+  pub made_again : (out : List ℕ) (masks : List M) (j first : ℕ) → j < length ps → IsFirstOccurrence (λ i. get_or ps i (0, 0)) j first → first < j →
       Made out masks j → Made (set out j (get_or out first 0)) masks (j + 1)
   made_again out masks j first l f lt h =
       let o = h.long in

@@ -8,7 +8,7 @@ use Rattle.std.proofs.lemmas.List.{append_assoc, map-append, take-append-drop, l
 use Rattle.order_model.specs.Widths.{same_pair}
 use Rattle.order_model.proofs.Widths.ClassPairs.{pair_decides}
 use Rattle.order_model.proofs.Lists.Sets.{Among}
-use Rattle.class_laws.specs.Numbering.{IsFirst, rank, ranks}
+use Rattle.class_laws.specs.Numbering.{IsFirstOccurrence, rank, ranks}
 use Rattle.class_laws.proofs.Ranks.{count_new, count_old, count_end, rank_here}
 
 module _ (ps : List (ℕ × ℕ)) where
@@ -52,7 +52,7 @@ module _ (ps : List (ℕ × ℕ)) where
       ∙ sym (ap (map (rank same_pair ps)) (one_more j l) ∙ map-append (rank same_pair ps) (take j ps) (key j ∷ []))
 
   -- a pair that none before equals has the next number
-  pub progress_new : (out : List ℕ) (count j : ℕ) → j < length ps → Progress out count j → IsFirst (λ i. get_or ps i (0, 0)) j j →
+  pub progress_new : (out : List ℕ) (count j : ℕ) → j < length ps → Progress out count j → IsFirstOccurrence (λ i. get_or ps i (0, 0)) j j →
       Progress (out ++ count ∷ []) (count + 1) (j + 1)
   unfolding key
   progress_new out count j l p f = record {
@@ -70,7 +70,7 @@ module _ (ps : List (ℕ × ℕ)) where
 
   -- another one has the number of its first place
   pub progress_old : (out : List ℕ) (count j first : ℕ) → j < length ps → Progress out count j → first < j →
-      IsFirst (λ i. get_or ps i (0, 0)) j first → Progress (out ++ get_or out first 0 ∷ []) count (j + 1)
+      IsFirstOccurrence (λ i. get_or ps i (0, 0)) j first → Progress (out ++ get_or out first 0 ∷ []) count (j + 1)
   unfolding key
   progress_old out count j first l p lt f = record {
     done = out_more out (get_or out first 0) j l p.done

@@ -1,6 +1,6 @@
 -- Numbers by first occurrence.
 --     rank eq xs k, ranks eq xs      how many distinct keys stand before the first one equal to k; the numbers of all entries of a list
---     IsFirst key j f      f is the first place with the key of place j
+--     IsFirstOccurrence key j f      f is the first place with the key of place j
 use Rattle.std.specs.Prelude.{◌≡◌, ◌≢◌, ◌<◌, ◌≤◌, ℕ, Bool, not, List, map}
 use Rattle.std.specs.List.{take_while}
 use Rattle.std.specs.Set.{distinct_count}
@@ -14,7 +14,7 @@ unfoldable pub ranks : {K : Type 0} → (K → K → Bool) → List K → List �
 ranks eq xs = map (rank eq xs) xs
 
 -- f is the first place with the key of place j
-pub record IsFirst (key : ℕ → ℕ × ℕ) (j f : ℕ) : Type 0 where
+pub record IsFirstOccurrence (key : ℕ → ℕ × ℕ) (j f : ℕ) : Type 0 where
   pub before : f ≤ j
   pub same : key f ≡ key j
   pub none : (i : ℕ) → i < f → key i ≢ key j

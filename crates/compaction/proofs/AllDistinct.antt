@@ -21,7 +21,7 @@ use Rattle.class_laws.specs.Places.{low_place, pairs}
 use Rattle.compaction.specs.Rows.{width_wanted}
 use Rattle.pair_numbering.specs.Keys.{AreUsed, TellsPairs}
 use Rattle.pair_numbering.specs.Strips.{unrolled}
-use Rattle.compaction.specs.Strips.{AreDistinct, AreStrips, HoldsStrips, HoldsTable, masks_in_use, HoldsKeys}
+use Rattle.compaction.specs.Strips.{AreDistinct, AreStrips, HoldsStrips, HoldsStripTable, masks_in_use, HoldsKeys}
 use Rattle.class_laws.specs.Table.{ClassesOf, with_variable, functions_of, set_of, free_below}
 use Rattle.class_laws.proofs.Counted.{length_filter_map}
 use Rattle.class_laws.proofs.Index.{length-pairs, pair_listed, pair_within}
@@ -222,16 +222,16 @@ distinct_strips t low outer numbers masks h exact own counted full = record {
 
 -- which of both a table holds
 pub table_strips : (t : ClassesOf) (low : ℕ) (distinct : Option ℕ) (all_used : Bool) (outer numbers masks : List ℕ) →
-    HoldsTable t low distinct all_used outer numbers masks → distinct ≡ None → HoldsStrips t low outer numbers masks
-unfolding HoldsTable
-table_strips t low distinct all_used outer numbers masks h e = (subst (λ d. HoldsTable t low d all_used outer numbers masks) e h).0
+    HoldsStripTable t low distinct all_used outer numbers masks → distinct ≡ None → HoldsStrips t low outer numbers masks
+unfolding HoldsStripTable
+table_strips t low distinct all_used outer numbers masks h e = (subst (λ d. HoldsStripTable t low d all_used outer numbers masks) e h).0
 
 pub table_used : (t : ClassesOf) (low : ℕ) (distinct : Option ℕ) (all_used : Bool) (outer numbers masks : List ℕ) →
-    HoldsTable t low distinct all_used outer numbers masks → distinct ≡ None → all_used ≡ true → AreUsed numbers masks
-unfolding HoldsTable
-table_used t low distinct all_used outer numbers masks h e = (subst (λ d. HoldsTable t low d all_used outer numbers masks) e h).1
+    HoldsStripTable t low distinct all_used outer numbers masks → distinct ≡ None → all_used ≡ true → AreUsed numbers masks
+unfolding HoldsStripTable
+table_used t low distinct all_used outer numbers masks h e = (subst (λ d. HoldsStripTable t low d all_used outer numbers masks) e h).1
 
 pub table_distinct : (t : ClassesOf) (low : ℕ) (distinct : Option ℕ) (count : ℕ) (all_used : Bool) (outer numbers masks : List ℕ) →
-    HoldsTable t low distinct all_used outer numbers masks → distinct ≡ Some count → AreDistinct t count
-unfolding HoldsTable
-table_distinct t low distinct count all_used outer numbers masks h e = subst (λ d. HoldsTable t low d all_used outer numbers masks) e h
+    HoldsStripTable t low distinct all_used outer numbers masks → distinct ≡ Some count → AreDistinct t count
+unfolding HoldsStripTable
+table_distinct t low distinct count all_used outer numbers masks h e = subst (λ d. HoldsStripTable t low d all_used outer numbers masks) e h

@@ -8,7 +8,7 @@
 --     HoldsKeys t keys masks      the numbers tell the set's subfunctions apart, in any order; the masks are what the function with each number depends on
 --     HoldsStrips t low outer numbers masks      the unrolled table holds the keys of t; `low` parts the variables
 --     AreDistinct t count      all subfunctions are distinct and depend on the whole set
---     HoldsTable      either of them
+--     HoldsStripTable      either of them
 --     AreOfFirstSets p tables      the tables of the first sets, in the order of their masks
 --     CanTakeLow x t      the variable is a low one outside the table's set
 --     HoldsBytes t low outer bytes rows masks      strips whose entries stand in rows, which bytes name: a row has an entry for each
@@ -100,10 +100,10 @@ pub record AreDistinct (t : ClassesOf) (count : ℕ) : Type 0 where
   pub full : (i : ℕ) → i < count → slice_index masks i ≡ t.set
 
 -- if all are distinct nothing else is kept; else it may be known that all masks are used
-unfoldable pub HoldsTable : ClassesOf → ℕ → Option ℕ → Bool → List ℕ → List ℕ → List ℕ → Type 0
-HoldsTable t low None all_used outer numbers masks = HoldsStrips t low outer numbers masks
+unfoldable pub HoldsStripTable : ClassesOf → ℕ → Option ℕ → Bool → List ℕ → List ℕ → List ℕ → Type 0
+HoldsStripTable t low None all_used outer numbers masks = HoldsStrips t low outer numbers masks
     × (IsTrue all_used → AreUsed numbers masks)
-HoldsTable t low (Some count) all_used outer numbers masks = AreDistinct t count
+HoldsStripTable t low (Some count) all_used outer numbers masks = AreDistinct t count
 
 -- the strips' entries stand in rows, which `bytes` name
 pub record HoldsBytes (t : ClassesOf) (low : ℕ) (outer bytes rows masks : List ℕ) : Type 0 where

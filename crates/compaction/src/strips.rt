@@ -34,13 +34,13 @@ pub(crate) struct Strips<'a> {
 
 impl<'a> Model for Strips<'a> {
     ghost use Rattle.class_laws.specs.Table.{ClassesOf, classes_of};
-    ghost use Rattle.compaction.specs.Strips.{HoldsTable, low_variables};
+    ghost use Rattle.compaction.specs.Strips.{HoldsStripTable, low_variables};
 
     ghost Value = { ClassesOf };
 
     ghost view = { λ c. classes_of c.problem.now c.set };
 
-    ghost invariant = { λ c. HoldsTable
+    ghost invariant = { λ c. HoldsStripTable
         (classes_of c.problem.now c.set) (low_variables c.problem.now) c.distinct c.all_used
         c.outer.items c.numbers.items c.masks.items };
 }

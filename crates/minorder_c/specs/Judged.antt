@@ -5,7 +5,7 @@
 use Rattle.std.specs.Prelude.{◌≡◌, ℕ, ◌<◌, ◌⊎◌, List, length}
 use Rattle.order_model.specs.Functions.{Function}
 use Rattle.order_model.specs.Certificates.{Certificate}
-use Rattle.certificate.specs.Faults.{FirstFault}
+use Rattle.certificate.specs.Faults.{FirstCertFault}
 use Rattle.certificate.specs.declared.faults.LineFault.{LineFault}
 use Rattle.certificate.specs.Heads.{most_bytes}
 use Rattle.certificate.specs.Spelling.{spelling}
@@ -36,7 +36,7 @@ told_verdict (Invalid (why.Edge mask x)) = record { reason = 8; mask = mask; var
 
 -- the text has a first fault, or is too long
 abbrev pub IsNoCertificate : List ℕ → Type 0
-IsNoCertificate text = ((line : ℕ) × (fault : LineFault) × FirstFault text line fault) ⊎ (most_bytes < length text)
+IsNoCertificate text = ((line : ℕ) × (fault : LineFault) × FirstCertFault text line fault) ⊎ (most_bytes < length text)
 
 -- tables without their shape, or a text that is no certificate, are refused for it; others only if memory is wanting
 abbrev pub RefusesText : Type 0 → List ℕ → Refusal → Type 0

@@ -2,7 +2,7 @@
 use Rattle.std.proofs.Common.{◌≡◌, ◌≢◌, ℕ, suc, ◌+◌, ◌<◌, ◌≤◌, inl, inr, List, length, get_or, set, refl, sym, ap, ◌∙◌, subst, arith}
 use Rattle.std.proofs.lemmas.Bool.{cases_eq, cases_lt}
 use Rattle.std.proofs.lemmas.List.{length-set, get_or-set_same, get_or-set_other}
-use Rattle.class_laws.specs.Numbering.{IsFirst}
+use Rattle.class_laws.specs.Numbering.{IsFirstOccurrence}
 use Rattle.pair_numbering.specs.Chains.{IsNext, lower_at, upper_at}
 use Rattle.class_laws.specs.Places.{pair_at}
 
@@ -54,7 +54,7 @@ module _ (cs : List ℕ) (step half c : ℕ) where
   pub record Walk (stamps marks first : List ℕ) (j : ℕ) : Type 0 where
     pub within : j ≤ half
     pub here : j < half → lower_at cs step j ≡ c
-    pub own : (i : ℕ) → i < j → lower_at cs step i ≡ c → IsFirst (pair_at cs step) i (get_or first i 0)
+    pub own : (i : ℕ) → i < j → lower_at cs step i ≡ c → IsFirstOccurrence (pair_at cs step) i (get_or first i 0)
     pub stamped : (h : ℕ) → h < length stamps → get_or stamps h 0 ≤ c + 1
     pub marked : (h : ℕ) → h < length stamps → get_or stamps h 0 ≡ c + 1 →
         (get_or marks h 0 < j) × (pair_at cs step (get_or marks h 0) ≡ (c, h))
@@ -62,14 +62,14 @@ module _ (cs : List ℕ) (step half c : ℕ) where
     pub unmarked : (h : ℕ) → h < length stamps → get_or stamps h 0 ≢ c + 1 → (i : ℕ) → i < j → pair_at cs step i ≢ (c, h)
 
   own_more : (first : List ℕ) (j k f : ℕ) → j < length first → IsNext (lower_at cs step) half c (j + 1) k →
-      ((i : ℕ) → i < j → lower_at cs step i ≡ c → IsFirst (pair_at cs step) i (get_or first i 0)) → IsFirst (pair_at cs step) j f →
-      (i : ℕ) → i < k → lower_at cs step i ≡ c → IsFirst (pair_at cs step) i (get_or (set first j f) i 0)
+      ((i : ℕ) → i < j → lower_at cs step i ≡ c → IsFirstOccurrence (pair_at cs step) i (get_or first i 0)) → IsFirstOccurrence (pair_at cs step) j f →
+      (i : ℕ) → i < k → lower_at cs step i ≡ c → IsFirstOccurrence (pair_at cs step) i (get_or (set first j f) i 0)
   own_more first j k f fl n o now i l v =
       elim (cases_eq i j) [
-        | inl e ↦ subst (λ z. IsFirst (pair_at cs step) z (get_or (set first j f) z 0)) (sym e)
-            (subst (IsFirst (pair_at cs step) j) (sym (get_or-set_same first j f 0 fl)) now)
+        | inl e ↦ subst (λ z. IsFirstOccurrence (pair_at cs step) z (get_or (set first j f) z 0)) (sym e)
+            (subst (IsFirstOccurrence (pair_at cs step) j) (sym (get_or-set_same first j f 0 fl)) now)
         | inr ne ↦ elim (cases_lt i j) [
-          | inl a ↦ subst (IsFirst (pair_at cs step) i) (sym (get_or-set_other first j i f 0 ne)) (o i a v)
+          | inl a ↦ subst (IsFirstOccurrence (pair_at cs step) i) (sym (get_or-set_other first j i f 0 ne)) (o i a v)
           | inr a ↦ absurd (n.none i (omega arith) l v)
         ]
       ]
@@ -81,7 +81,7 @@ module _ (cs : List ℕ) (step half c : ℕ) where
   walk_again stamps marks first j k small fl ul w e n =
       let m = w.marked (upper_at cs step j) ul e in
       let key : pair_at cs step j ≡ (c, upper_at cs step j) = λ i. (w.here small i, upper_at cs step j) in
-      let now : IsFirst (pair_at cs step) j (get_or marks (upper_at cs step j) 0) =
+      let now : IsFirstOccurrence (pair_at cs step) j (get_or marks (upper_at cs step j) 0) =
       record { before = let a = m.0 in omega arith; same = m.1 ∙ sym key; none = λ i l q. m.2 i l (q ∙ key) } in
       record {
         within = n.within;
@@ -106,7 +106,7 @@ module _ (cs : List ℕ) (step half c : ℕ) where
       let u = upper_at cs step j in
       let sl = length-set stamps u (c + 1) in
       let key : pair_at cs step j ≡ (c, u) = λ i. (w.here small i, u) in
-      let now : IsFirst (pair_at cs step) j j = record { before = omega arith; same = refl; none = λ i l q. w.unmarked u ul e i l (q ∙ key) } in
+      let now : IsFirstOccurrence (pair_at cs step) j j = record { before = omega arith; same = refl; none = λ i l q. w.unmarked u ul e i l (q ∙ key) } in
       let here_stamp : get_or (set stamps u (c + 1)) u 0 ≡ c + 1 = get_or-set_same stamps u (c + 1) 0 ul in
       let here_mark : get_or (set marks u j) u 0 ≡ j = get_or-set_same marks u j 0 (omega arith) in
       record {

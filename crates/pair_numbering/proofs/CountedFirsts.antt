@@ -5,7 +5,7 @@ use Rattle.std.specs.List.{filter}
 use Rattle.std.proofs.lemmas.Nat.Bits.{bit_at-lt}
 use Rattle.std.proofs.lemmas.List.{length-append}
 use Rattle.std.proofs.lemmas.List.Elements.{filter-append}
-use Rattle.class_laws.specs.Numbering.{IsFirst}
+use Rattle.class_laws.specs.Numbering.{IsFirstOccurrence}
 use Rattle.class_laws.specs.Dependence.{joined_mask}
 use Rattle.pair_numbering.specs.Scratch.{CountsMasks}
 use Rattle.class_laws.proofs.Firsts.{joined_again, joined_first}
@@ -19,7 +19,7 @@ module _ (ps : List (ℕ × ℕ)) (masks : List ℕ) (x : ℕ) where
     pub counted : count ≡ length (filter (λ m. eqb (bit_at m x) 1) out)
     pub few : count ≤ j
 
-  pub counting_first : (count more j mask : ℕ) → j < length ps → IsFirst (λ i. get_or ps i (0, 0)) j j →
+  pub counting_first : (count more j mask : ℕ) → j < length ps → IsFirstOccurrence (λ i. get_or ps i (0, 0)) j j →
       mask ≡ joined_mask masks x (get_or ps j (0, 0)) → more ≡ bit_at mask x → Counting count j → Counting (count + more) (j + 1)
   counting_first count more j mask l f m b h = record {
     out = h.out ++ mask ∷ [];
@@ -36,7 +36,8 @@ module _ (ps : List (ℕ × ℕ)) (masks : List ℕ) (x : ℕ) where
       one (suc zero) lt = refl
       one (suc (suc v)) lt = absurd (omega arith)
 
-  pub counting_again : (count j first : ℕ) → j < length ps → IsFirst (λ i. get_or ps i (0, 0)) j first → first < j → Counting count j → Counting count (j + 1)
+  pub counting_again : (count j first : ℕ) → j < length ps → IsFirstOccurrence (λ i. get_or ps i (0, 0)) j first → first < j →
+      Counting count j → Counting count (j + 1)
   counting_again count j first l f lt h = record {
     out = h.out;
     joined = joined_again 0 ps (joined_mask masks x) h.out j first l f lt h.joined;

@@ -6,7 +6,7 @@ use Rattle.std.proofs.Common.{◌≡◌, ◌≢◌, ℕ, ◌+◌, ◌*◌, ◌<�
 use Rattle.std.proofs.Math.Nat.{min-eq_left, min-eq_right}
 use Rattle.std.proofs.lemmas.Bool.{cases_eq, cases_lt}
 use Rattle.std.proofs.lemmas.List.{get_or-set_same, get_or-set_other, length-set, length-take, take-set, take_more_set}
-use Rattle.class_laws.specs.Numbering.{IsFirst}
+use Rattle.class_laws.specs.Numbering.{IsFirstOccurrence}
 use Rattle.pair_numbering.specs.Slots.{Found, IsSlot, Slotted, slot_number}
 use Rattle.class_laws.proofs.Firsts.{Made, made_none, made_first, made_again}
 
@@ -73,7 +73,7 @@ module _ {ps : List (ℕ × ℕ)} {home : ℕ × ℕ → ℕ} {slots : List ℕ}
       let a = taken u l m in
       s.none u l m (ap (λ c. get_or all_keys c (0, 0)) (min-eq_left (omega arith)) ∙ key_kept (get_or slots u 0) a ∙ e)
 
-  slotted_step : (first more : ℕ) → count ≤ more → more ≤ j + 1 → number < more → IsFirst pair j first → get_or (set out j number) first 0 ≡ number →
+  slotted_step : (first more : ℕ) → count ≤ more → more ≤ j + 1 → number < more → IsFirstOccurrence pair j first → get_or (set out j number) first 0 ≡ number →
       Made (0, 0) ps (λ p. p) (set out j number) (take more all_keys) (j + 1) → Slotted ps home marked all_keys (set out j number) more (j + 1)
   slotted_step first more wide few new f n m = let wider = length-set slots at number in record {
     long_keys = length-set keys count (pair j) ∙ h.long_keys;
@@ -128,7 +128,7 @@ module _ {ps : List (ℕ × ℕ)} {home : ℕ × ℕ → ℕ} {slots : List ℕ}
       let l = o.1 in
       let known = o.2 ∙ sym e in
       let same = o.3 ∙ sym (key_kept (get_or slots at 0) lt) ∙ ap (λ c. get_or all_keys c (0, 0)) (sym e) ∙ s.here in
-      let first : IsFirst pair j o.0 = record { before = omega arith; same = same; none = λ k m q. o.4 k m (q ∙ sym same) } in
+      let first : IsFirstOccurrence pair j o.0 = record { before = omega arith; same = same; none = λ k m q. o.4 k m (q ∙ sym same) } in
       slotted_step o.0 count (omega arith) (omega arith) (omega arith) first (out_kept o.0 l ∙ known)
       (subst (λ us. Made (0, 0) ps (λ p. p) (set out j number) us (j + 1)) (sym (take-set keys count (pair j)))
       (subst (λ z. Made (0, 0) ps (λ p. p) (set out j z) (take count keys) (j + 1)) known
@@ -156,7 +156,7 @@ module _ {ps : List (ℕ × ℕ)} {home : ℕ × ℕ → ℕ} {slots : List ℕ}
           | inr d ↦ let v = f.5 at (omega arith) (omega arith) in absurd (omega arith)
         ]
       ] in
-      let first : IsFirst pair j j = record { before = omega arith; same = refl; none = absent } in
+      let first : IsFirstOccurrence pair j j = record { before = omega arith; same = refl; none = absent } in
       let known : length (take count keys) ≡ number = (let t = length-take count keys in omega arith) in
       slotted_step j (count + 1) (omega arith) (omega arith) (omega arith) first (get_or-set_same out j number 0 (omega arith))
       (subst (λ z. z) (λ t. Made (0, 0) ps (λ p. p) (set out j (known t)) (sym (take_more_set keys count (pair j) (omega arith)) t) (j + 1))

@@ -14,7 +14,7 @@ use Rattle.node_words.specs.Meaning.{depth}
 use Rattle.node_words.proofs.Growing.{grows_trans, grows_full}
 use Rattle.node_words.proofs.Meaning.{depth_node, le_or_lt}
 use Rattle.node_words.proofs.Functions.{depth_below}
-use Rattle.reached_nodes.specs.Copies.{ref_of, node_of, IsEarlier, IsCopied, blank, blanks, AreCopied, Leads, here, below, Extends, Copies}
+use Rattle.reached_nodes.specs.Copies.{ref_of, node_of, IsEarlier, IsCopied, blank, blanks, AreCopied, HasPath, here, below, Extends, Copies}
 
 choose : (b : Bool) (x y : Ref) → b ≡ true → (if b then x else y) ≡ x
 choose b x y e = ap (λ (c : Bool). if c then x else y) e
@@ -92,11 +92,11 @@ blanks_set (x ∷ xs) (suc p) v few e some = let f = blanks_set xs p v (omega ar
 
 -- ---- paths
 
-pub leads_through : (nodes : List Node) (a b c : Ref) → Leads nodes a b → Leads nodes b c → Leads nodes a c
-leads_through nodes a b c l (here e) = subst (Leads nodes a) e l
+pub leads_through : (nodes : List Node) (a b c : Ref) → HasPath nodes a b → HasPath nodes b c → HasPath nodes a c
+leads_through nodes a b c l (here e) = subst (HasPath nodes a) e l
 leads_through nodes a b c l (below k node m at child) = below k node (leads_through nodes a b (Place k) l m) at child
 
-pub leads_extend : (nodes nodes' : List Node) (a b : Ref) → Extends nodes nodes' → Leads nodes a b → Leads nodes' a b
+pub leads_extend : (nodes nodes' : List Node) (a b : Ref) → Extends nodes nodes' → HasPath nodes a b → HasPath nodes' a b
 leads_extend nodes nodes' a b x (here e) = here e
 leads_extend nodes nodes' a b x (below k node m at child) =
     below k node (leads_extend nodes nodes' a (Place k) x m) (x.same k (slice_get_within nodes k node at) ∙ at) child

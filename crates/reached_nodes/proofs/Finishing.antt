@@ -16,12 +16,12 @@ use Rattle.node_words.specs.Nodes.{IsKnown, Grows, AreNodeWords, AreUnequal, IsB
 use Rattle.node_words.specs.Meaning.{depth, function_of, branch}
 use Rattle.node_words.proofs.Meaning.{below_low, below_high, shallow, le_or_lt}
 use Rattle.node_words.proofs.Functions.{function_child, function_terminal}
-use Rattle.reached_nodes.specs.Copies.{ref_of, node_of, IsEarlier, IsCopied, AreCopied, Leads, here, below, Extends, AreRefs, AreReached, IsReducedOf}
+use Rattle.reached_nodes.specs.Copies.{ref_of, node_of, IsEarlier, IsCopied, AreCopied, HasPath, here, below, Extends, AreRefs, AreReached, IsReducedOf}
 use Rattle.reached_nodes.proofs.Copying.{ref_terminal, ref_place, ref_grows, ref_before, ref_one}
 
 -- ---- what is reached
 
-pub reached_leads : (d : Graph) (a b : Ref) → Reached d a → Leads d.nodes a b → Reached d b
+pub reached_leads : (d : Graph) (a b : Ref) → Reached d a → HasPath d.nodes a b → Reached d b
 reached_leads d a b r (here e) = subst (Reached d) e r
 reached_leads d a b r (below k node l at child) = from_parent k node (reached_leads d a (Place k) r l) at child
 
@@ -32,7 +32,7 @@ reached_more nodes nodes' roots root b x (from_parent k node r at child) =
     from_parent k node (reached_more nodes nodes' roots root (Place k) x r) (x.same k (slice_get_within nodes k node at) ∙ at) child
 
 pub more_reached : (nodes nodes' : List Node) (roots : List Ref) (root : Ref) → Extends nodes nodes' →
-    ((k : ℕ) → length nodes ≤ k → k < length nodes' → Leads nodes' root (Place k)) → AreReached nodes roots →
+    ((k : ℕ) → length nodes ≤ k → k < length nodes' → HasPath nodes' root (Place k)) → AreReached nodes roots →
     AreReached nodes' (roots ++ root ∷ [])
 more_reached nodes nodes' roots root x leads reached k short = ⊎_elim
     (λ (new : length nodes ≤ k). reached_leads record { nodes = nodes'; roots = roots ++ root ∷ [] } root (Place k)

@@ -62,10 +62,10 @@ pub record AreCopied (order ws numbers : List ℕ) (nodes : List Node) : Type 0 
   pub count : length nodes + blanks numbers ≡ length numbers
 
 -- a ref that paths from another come to
-pub data Leads (nodes : List Node) (r : Ref) : Ref → Type 0 where
-  here : {q : Ref} → r ≡ q → Leads nodes r q
-  below : {q : Ref} → (k : ℕ) (node : Node) → Leads nodes r (Place k) → slice_get nodes k ≡ Some node → IsChild q node →
-      Leads nodes r q
+pub data HasPath (nodes : List Node) (r : Ref) : Ref → Type 0 where
+  here : {q : Ref} → r ≡ q → HasPath nodes r q
+  below : {q : Ref} → (k : ℕ) (node : Node) → HasPath nodes r (Place k) → slice_get nodes k ≡ Some node → IsChild q node →
+      HasPath nodes r q
 
 -- nodes that were there stay
 pub record Extends (nodes nodes' : List Node) : Type 0 where
@@ -82,7 +82,7 @@ pub record Copies (order ws numbers : List ℕ) (nodes : List Node) (numbers' : 
   pub extends : Extends nodes nodes'
   pub untouched : (q : ℕ) → level_of (slice_index ws q) < depth (length order) ws id →
       slice_index numbers' q ≡ slice_index numbers q
-  pub leads : (k : ℕ) → length nodes ≤ k → k < length nodes' → Leads nodes' r (Place k)
+  pub leads : (k : ℕ) → length nodes ≤ k → k < length nodes' → HasPath nodes' r (Place k)
 
 -- the first i refs are those of the first i ids, which have copies
 pub record AreRefs (numbers : List ℕ) (refs : List Ref) (ids : List ℕ) (i : ℕ) : Type 0 where

@@ -1,7 +1,7 @@
 use Rattle.std.proofs.Common.{ℕ, List, sym, ◌∙◌, ap, [], ◌∷◌, ◌++◌, get_or, codes, refl}
 use Rattle.certificate.specs.Spelling.{most_nodes}
 use Rattle.order_model.specs.Texts.{number_of}
-use Rattle.certificate.specs.Faults.{Judge, title_fault, field_fault, head_judges}
+use Rattle.certificate.specs.Faults.{LineTest, title_fault, field_fault, head_judges}
 use Rattle.certificate.specs.Decoded.{numbers_of}
 use Rattle.certificate.specs.Parsing.{outcome}
 use Rattle.certificate.proofs.Faultless.{format_of}
@@ -9,22 +9,22 @@ use Rattle.certificate.proofs.Heading.{taken_none, taken_more, head_fails, told_
 use Rattle.certificate.proofs.parsing.read_head.Goals as goal
 
 -- what is asked of a line, and of those behind it
-abbrev inputs_line : Judge
+abbrev inputs_line : LineTest
 inputs_line = field_fault (codes "inputs") 1 1 16
 
-abbrev outputs_line : Judge
+abbrev outputs_line : LineTest
 outputs_line = field_fault (codes "outputs") 1 1 16
 
-abbrev order_line : ℕ → Judge
+abbrev order_line : ℕ → LineTest
 order_line n = field_fault (codes "order") n 0 15
 
-abbrev levels_line : ℕ → Judge
+abbrev levels_line : ℕ → LineTest
 levels_line n = field_fault (codes "levels") n 0 most_nodes
 
-abbrev total_line : Judge
+abbrev total_line : LineTest
 total_line = field_fault (codes "total") 1 0 most_nodes
 
-abbrev behind_outputs : ℕ → List Judge
+abbrev behind_outputs : ℕ → List LineTest
 behind_outputs n = order_line n ∷ levels_line n ∷ total_line ∷ []
 
 -- a field's number, and its numbers

@@ -1,6 +1,6 @@
 use Rattle.std.proofs.Common.{◌^◌, inl, inr, sym, subst, ◌∙◌, arith}
 use Rattle.std.proofs.lemmas.Bool.{cases_eq}
-use Rattle.class_laws.specs.Numbering.{IsFirst}
+use Rattle.class_laws.specs.Numbering.{IsFirstOccurrence}
 use Rattle.pair_numbering.specs.Chains.{lower_at}
 use Rattle.class_laws.specs.Places.{pair_at}
 use Rattle.pair_numbering.proofs.chains.first_occurrences.Goals as goal
@@ -10,7 +10,7 @@ loop-lower-preserved c = record {
   stamps = c.walk_chain.ensures.stamps;
   done = λ j l m. elim (cases_eq (lower_at c.args.chains.now.entries.now.numbers (2 ^ c.args.chains.now.entries.now.rank) j) c.loop-lower.lower) [
     | inl e ↦ c.walk_chain.ensures.own j l e
-    | inr ne ↦ subst (IsFirst (pair_at c.args.chains.now.entries.now.numbers (2 ^ c.args.chains.now.entries.now.rank)) j)
+    | inr ne ↦ subst (IsFirstOccurrence (pair_at c.args.chains.now.entries.now.numbers (2 ^ c.args.chains.now.entries.now.rank)) j)
         (sym (c.walk_chain.ensures.others j l ne)) (c.loop-lower.invariant.done j l (omega arith))
   ];
 }

@@ -1,5 +1,5 @@
 use Rattle.std.proofs.Common.{ℕ, ◌/◌, ◌^◌, ◌<◌, ◌≤◌, get_or, length}
-use Rattle.class_laws.specs.Numbering.{IsFirst}
+use Rattle.class_laws.specs.Numbering.{IsFirstOccurrence}
 use Rattle.pair_numbering.specs.Chains.{lower_at}
 use Rattle.class_laws.specs.Places.{pair_at}
 use Rattle.pair_numbering.proofs.chains.first_occurrences.Given as goal
@@ -8,5 +8,5 @@ abbrev pub invariant-loop-lower : goal.invariant-loop-lower
 invariant-loop-lower l = record {
   stamps : (h : ℕ) → h < length l.stamps → get_or l.stamps h 0 ≤ l.lower;
   done : (j : ℕ) → j < length l.chains.entries.now.numbers / 2 → lower_at l.chains.entries.now.numbers (2 ^ l.chains.entries.now.rank) j < l.lower →
-      IsFirst (pair_at l.chains.entries.now.numbers (2 ^ l.chains.entries.now.rank)) j (get_or l.first j 0);
+      IsFirstOccurrence (pair_at l.chains.entries.now.numbers (2 ^ l.chains.entries.now.rank)) j (get_or l.first j 0);
 }

@@ -1,6 +1,6 @@
 use Rattle.std.proofs.Common.{◌≡◌, ℕ, ◌+◌, ◌/◌, ◌^◌, ◌<◌, get_or, set, length, sym, ap, subst, ◌∙◌, arith, Vec, Global}
 use Rattle.std.proofs.lemmas.List.{get_or_default, map-id}
-use Rattle.class_laws.specs.Numbering.{IsFirst}
+use Rattle.class_laws.specs.Numbering.{IsFirstOccurrence}
 use Rattle.class_laws.specs.Places as places
 use Rattle.class_laws.proofs.Index.{first_listed, pair_listed, length-pairs}
 use Rattle.class_laws.proofs.Firsts.{Made, made_none, made_first, made_again, made_numbers, made_many, made_told}
@@ -55,7 +55,7 @@ loop-j-preserved c =
           let pair = w.pair.ensures ∙ sym (pair_listed cs step j small) in
           subst (λ z. z) (λ i. Made (0, 0) ps (λ p. p) (sym o i) (sym d i) (j + 1))
           (made_first (0, 0) ps (λ p. p) out masks j w.pair.result listed
-          (subst (IsFirst (λ i. get_or ps i (0, 0)) j) w.if-f-j.true first) pair c.loop-j.invariant)
+          (subst (IsFirstOccurrence (λ i. get_or ps i (0, 0)) j) w.if-f-j.true first) pair c.loop-j.invariant)
       | else-f-j w ↦
           let f = first.before in
           let other = w.if-f-j.false in

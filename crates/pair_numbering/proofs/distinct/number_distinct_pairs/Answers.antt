@@ -2,7 +2,7 @@ use Rattle.std.proofs.Common.{◌≡◌, ℕ, ◌+◌, ◌/◌, ◌^◌, ◌<◌
 use Rattle.std.proofs.lemmas.List.{take_more_set, take_all, length-set, length-take}
 use Rattle.class_laws.specs.Dependence.{joined_mask}
 use Rattle.class_laws.specs.Places as places
-use Rattle.class_laws.specs.Numbering.{IsFirst}
+use Rattle.class_laws.specs.Numbering.{IsFirstOccurrence}
 use Rattle.class_laws.proofs.Index.{length-pairs, pair_listed}
 use Rattle.class_laws.proofs.Firsts.{Made, made_none, made_first, made_numbers, made_many, made_told}
 use Rattle.pair_numbering.proofs.InBlocks.{pair_inside}
@@ -48,7 +48,7 @@ loop-j-preserved c =
     let l = length-pairs cs (2 ^ c.args.entries.now.rank) in
     let o = c.loop-j.invariant.long in
     let few : length (take j masks) ≡ j = (let t = length-take j masks in omega arith) in
-    let first : IsFirst (λ i. get_or ps i (0, 0)) j j =
+    let first : IsFirstOccurrence (λ i. get_or ps i (0, 0)) j j =
     record {
       before = omega arith;
       same = refl;

@@ -1,7 +1,7 @@
 use Rattle.std.proofs.Common.{◌≡◌, ◌+◌, ◌/◌, ◌<◌, ◌^◌, get_or, length, sym, ap, ◌∙◌, subst, arith}
 use Rattle.std.specs.Int.{bit_at}
 use Rattle.std.proofs.lemmas.Nat.Bits.{bit_at-lt}
-use Rattle.class_laws.specs.Numbering.{IsFirst}
+use Rattle.class_laws.specs.Numbering.{IsFirstOccurrence}
 use Rattle.class_laws.specs.Dependence.{joined_mask}
 use Rattle.class_laws.specs.Places as places
 use Rattle.pair_numbering.proofs.CountedFirsts.{Counting, counting_first, counting_again, counting_all}
@@ -30,7 +30,7 @@ loop-j-preserved c =
           let b : w.from-count.result ≡ bit_at w.join_mask-mask.result x = grind arith in
           subst (λ k. Counting ps masks x k (j + 1)) (sym w.count-is)
           (counting_first ps masks x c.loop-j.count w.from-count.result j w.join_mask-mask.result listed
-          (subst (IsFirst (λ i. get_or ps i (0, 0)) j) w.if-f-j.true first) m b c.loop-j.invariant)
+          (subst (IsFirstOccurrence (λ i. get_or ps i (0, 0)) j) w.if-f-j.true first) m b c.loop-j.invariant)
       | else-f-j w ↦
           let before = first.before in
           let other = w.if-f-j.false in

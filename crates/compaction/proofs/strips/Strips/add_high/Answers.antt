@@ -1,6 +1,6 @@
 use Rattle.std.proofs.Common.{◌-◌, ◌/◌, bit_or, sym, ap, ◌∙◌, subst, arith}
 use Rattle.std.proofs.lemmas.Nat.{one_shl}
-use Rattle.compaction.specs.Strips.{AreDistinct, GrowsStrips, HoldsStrips, HoldsTable, IsStripTable, low_variables}
+use Rattle.compaction.specs.Strips.{AreDistinct, GrowsStrips, HoldsStrips, HoldsStripTable, IsStripTable, low_variables}
 use Rattle.class_laws.specs.Table.{ClassesOf, classes_of, free_below}
 use Rattle.compaction.proofs.AllDistinct.{distinct_more, table_distinct, table_strips}
 use Rattle.compaction.proofs.HeldStrips.{free_split, table_high, holds_high}
@@ -20,7 +20,7 @@ pub invariant_of-table : goal.invariant_of-table
 invariant_of-table c =
     let h = table_strips c.args.self.now (low_variables c.args.self.now.problem) c.self.inside.distinct c.self.inside.all_used
     c.self.inside.outer.items c.self.inside.numbers.items c.self.inside.masks.items
-    (subst (λ (z : ClassesOf). HoldsTable z (low_variables z.problem) c.self.inside.distinct c.self.inside.all_used
+    (subst (λ (z : ClassesOf). HoldsStripTable z (low_variables z.problem) c.self.inside.distinct c.self.inside.all_used
     c.self.inside.outer.items c.self.inside.numbers.items c.self.inside.masks.items)
     c.self.view_is c.self.invariant)
     c.in-None.is in
@@ -39,7 +39,7 @@ pub of_parts-requires : goal.of_parts-requires
 of_parts-requires c =
     let h = table_strips c.args.self.now (low_variables c.args.self.now.problem) c.self.inside.distinct c.self.inside.all_used
     c.self.inside.outer.items c.self.inside.numbers.items c.self.inside.masks.items
-    (subst (λ (z : ClassesOf). HoldsTable z (low_variables z.problem) c.self.inside.distinct c.self.inside.all_used
+    (subst (λ (z : ClassesOf). HoldsStripTable z (low_variables z.problem) c.self.inside.distinct c.self.inside.all_used
     c.self.inside.outer.items c.self.inside.numbers.items c.self.inside.masks.items)
     c.self.view_is c.self.invariant)
     c.in-None.is in
@@ -74,7 +74,7 @@ pub of_count-requires : goal.of_count-requires
 of_count-requires c =
     let d = (table_distinct c.args.self.now (low_variables c.args.self.now.problem) c.self.inside.distinct c.in-Some.count
     c.self.inside.all_used c.self.inside.outer.items c.self.inside.numbers.items c.self.inside.masks.items
-    (subst (λ (z : ClassesOf). HoldsTable z (low_variables z.problem) c.self.inside.distinct c.self.inside.all_used
+    (subst (λ (z : ClassesOf). HoldsStripTable z (low_variables z.problem) c.self.inside.distinct c.self.inside.all_used
     c.self.inside.outer.items c.self.inside.numbers.items c.self.inside.masks.items)
     c.self.view_is c.self.invariant)
     c.in-Some.is) in

@@ -1,6 +1,6 @@
 use Rattle.std.proofs.Common.{◌*◌, ◌/◌, ◌%◌, ◌^◌, length, bit_or, sym, ap, ◌∙◌, subst, arith}
 use Rattle.std.proofs.lemmas.Nat.{one_shl}
-use Rattle.compaction.specs.Strips.{AreDistinct, HoldsStrips, HoldsTable, low_variables}
+use Rattle.compaction.specs.Strips.{AreDistinct, HoldsStrips, HoldsStripTable, low_variables}
 use Rattle.pair_numbering.specs.Keys.{TellsPairs}
 use Rattle.class_laws.specs.PairTables.{IsPairTable}
 use Rattle.class_laws.specs.Places as places
@@ -14,7 +14,7 @@ label_pairs-requires-clause-table c =
     let l = c.requires.low in
     let h = table_strips c.args.self.now (low_variables c.args.self.now.problem) c.self.inside.distinct c.self.inside.all_used
     c.self.inside.outer.items c.self.inside.numbers.items c.self.inside.masks.items
-    (subst (λ (z : ClassesOf). HoldsTable z (low_variables z.problem) c.self.inside.distinct c.self.inside.all_used
+    (subst (λ (z : ClassesOf). HoldsStripTable z (low_variables z.problem) c.self.inside.distinct c.self.inside.all_used
     c.self.inside.outer.items c.self.inside.numbers.items c.self.inside.masks.items)
     c.self.view_is c.self.invariant)
     c.in-None.is in
@@ -28,7 +28,7 @@ of_parts-requires c =
     let l = c.requires.low in
     let h = table_strips c.args.self.now (low_variables c.args.self.now.problem) c.self.inside.distinct c.self.inside.all_used
     c.self.inside.outer.items c.self.inside.numbers.items c.self.inside.masks.items
-    (subst (λ (z : ClassesOf). HoldsTable z (low_variables z.problem) c.self.inside.distinct c.self.inside.all_used
+    (subst (λ (z : ClassesOf). HoldsStripTable z (low_variables z.problem) c.self.inside.distinct c.self.inside.all_used
     c.self.inside.outer.items c.self.inside.numbers.items c.self.inside.masks.items)
     c.self.view_is c.self.invariant)
     c.in-None.is in
@@ -59,7 +59,7 @@ of_count-requires c =
     let l = c.requires.low in
     let d = (table_distinct c.args.self.now (low_variables c.args.self.now.problem) c.self.inside.distinct c.in-Some.count c.self.inside.all_used
     c.self.inside.outer.items c.self.inside.numbers.items c.self.inside.masks.items
-    (subst (λ (z : ClassesOf). HoldsTable z (low_variables z.problem) c.self.inside.distinct c.self.inside.all_used
+    (subst (λ (z : ClassesOf). HoldsStripTable z (low_variables z.problem) c.self.inside.distinct c.self.inside.all_used
     c.self.inside.outer.items c.self.inside.numbers.items c.self.inside.masks.items)
     c.self.view_is c.self.invariant)
     c.in-Some.is) in
@@ -73,7 +73,7 @@ pub label_pairs-requires-clause-few : goal.label_pairs-requires-clause-few
 label_pairs-requires-clause-few c =
     let h = table_strips c.args.self.now (low_variables c.args.self.now.problem) c.self.inside.distinct c.self.inside.all_used
     c.self.inside.outer.items c.self.inside.numbers.items c.self.inside.masks.items
-    (subst (λ (z : ClassesOf). HoldsTable z (low_variables z.problem) c.self.inside.distinct c.self.inside.all_used
+    (subst (λ (z : ClassesOf). HoldsStripTable z (low_variables z.problem) c.self.inside.distinct c.self.inside.all_used
     c.self.inside.outer.items c.self.inside.numbers.items c.self.inside.masks.items)
     c.self.view_is c.self.invariant)
     c.in-None.is in

@@ -1,5 +1,5 @@
 use Rattle.std.proofs.Common.{◌≡◌, get_or, length, refl, subst, sym, ap, ◌∙◌, arith}
-use Rattle.compaction.specs.Strips.{AreDistinct, HoldsTable, low_variables}
+use Rattle.compaction.specs.Strips.{AreDistinct, HoldsStripTable, low_variables}
 use Rattle.class_laws.specs.Table.{classes_of}
 use Rattle.compaction.proofs.AllDistinct.{distinct_strips}
 use Rattle.compaction.proofs.strips.Strips.of_parts.Goals as goal
@@ -19,5 +19,5 @@ of_count-requires c =
     let t = c.if-all_distinct.ensures.full refl i (omega arith) in omega arith))
 
 pub invariant_of-result : goal.invariant_of-result
-unfolding HoldsTable
+unfolding HoldsStripTable
 invariant_of-result c = (c.requires, c.args.parts.used)

@@ -1,7 +1,7 @@
 use Rattle.std.proofs.Common.{get_or, length, ap, ◌∙◌, sym, subst, arith, cond, eqb}
 use Rattle.std.specs.Int.{bit_at}
 use Rattle.std.specs.List.{filter}
-use Rattle.compaction.specs.Strips.{HoldsTable, low_variables, masks_in_use}
+use Rattle.compaction.specs.Strips.{HoldsStripTable, low_variables, masks_in_use}
 use Rattle.class_laws.specs.Table.{ClassesOf}
 use Rattle.compaction.proofs.AllDistinct.{distinct_row, table_distinct, table_strips, table_used}
 use Rattle.compaction.proofs.Used.{all_in_use, few_in_use, strips_row}
@@ -11,7 +11,7 @@ pub row_of-requires : goal.row_of-requires
 row_of-requires c =
     let h = table_strips c.args.self.now (low_variables c.args.self.now.problem) c.self.inside.distinct c.self.inside.all_used
     c.self.inside.outer.items c.self.inside.numbers.items c.self.inside.masks.items
-    (subst (λ (z : ClassesOf). HoldsTable z (low_variables z.problem) c.self.inside.distinct c.self.inside.all_used
+    (subst (λ (z : ClassesOf). HoldsStripTable z (low_variables z.problem) c.self.inside.distinct c.self.inside.all_used
     c.self.inside.outer.items c.self.inside.numbers.items c.self.inside.masks.items)
     c.self.view_is c.self.invariant)
     c.in-None.is in
@@ -23,7 +23,7 @@ pub row_of-requires-in-None : goal.row_of-requires-in-None
 row_of-requires-in-None c =
     let h = table_strips c.args.self.now (low_variables c.args.self.now.problem) c.self.inside.distinct c.self.inside.all_used
     c.self.inside.outer.items c.self.inside.numbers.items c.self.inside.masks.items
-    (subst (λ (z : ClassesOf). HoldsTable z (low_variables z.problem) c.self.inside.distinct c.self.inside.all_used
+    (subst (λ (z : ClassesOf). HoldsStripTable z (low_variables z.problem) c.self.inside.distinct c.self.inside.all_used
     c.self.inside.outer.items c.self.inside.numbers.items c.self.inside.masks.items)
     c.self.view_is c.self.invariant)
     c.in-None.is in
@@ -37,7 +37,7 @@ pub used_masks-requires : goal.used_masks-requires
 used_masks-requires c =
     let h = table_strips c.args.self.now (low_variables c.args.self.now.problem) c.self.inside.distinct c.self.inside.all_used
     c.self.inside.outer.items c.self.inside.numbers.items c.self.inside.masks.items
-    (subst (λ (z : ClassesOf). HoldsTable z (low_variables z.problem) c.self.inside.distinct c.self.inside.all_used
+    (subst (λ (z : ClassesOf). HoldsStripTable z (low_variables z.problem) c.self.inside.distinct c.self.inside.all_used
     c.self.inside.outer.items c.self.inside.numbers.items c.self.inside.masks.items)
     c.self.view_is c.self.invariant)
     c.in-None.is in
@@ -56,7 +56,7 @@ returns-in-Some c =
     λ x small. distinct_row c.args.self.now c.in-Some.count
     (table_distinct c.args.self.now (low_variables c.args.self.now.problem) c.self.inside.distinct c.in-Some.count
     c.self.inside.all_used c.self.inside.outer.items c.self.inside.numbers.items c.self.inside.masks.items
-    (subst (λ (z : ClassesOf). HoldsTable z (low_variables z.problem) c.self.inside.distinct c.self.inside.all_used
+    (subst (λ (z : ClassesOf). HoldsStripTable z (low_variables z.problem) c.self.inside.distinct c.self.inside.all_used
     c.self.inside.outer.items c.self.inside.numbers.items c.self.inside.masks.items)
     c.self.view_is c.self.invariant)
     c.in-Some.is)
@@ -66,13 +66,13 @@ pub returns-then-self : goal.returns-then-self
 returns-then-self c = λ x small.
     let h = table_strips c.args.self.now (low_variables c.args.self.now.problem) c.self.inside.distinct c.self.inside.all_used
     c.self.inside.outer.items c.self.inside.numbers.items c.self.inside.masks.items
-    (subst (λ (z : ClassesOf). HoldsTable z (low_variables z.problem) c.self.inside.distinct c.self.inside.all_used
+    (subst (λ (z : ClassesOf). HoldsStripTable z (low_variables z.problem) c.self.inside.distinct c.self.inside.all_used
     c.self.inside.outer.items c.self.inside.numbers.items c.self.inside.masks.items)
     c.self.view_is c.self.invariant)
     c.in-None.is in
     let u = table_used c.args.self.now (low_variables c.args.self.now.problem) c.self.inside.distinct c.self.inside.all_used
     c.self.inside.outer.items c.self.inside.numbers.items c.self.inside.masks.items
-    (subst (λ (z : ClassesOf). HoldsTable z (low_variables z.problem) c.self.inside.distinct c.self.inside.all_used
+    (subst (λ (z : ClassesOf). HoldsStripTable z (low_variables z.problem) c.self.inside.distinct c.self.inside.all_used
     c.self.inside.outer.items c.self.inside.numbers.items c.self.inside.masks.items)
     c.self.view_is c.self.invariant)
     c.in-None.is c.if-self.true in
@@ -86,7 +86,7 @@ pub returns-in_ok-used-in-None : goal.returns-in_ok-used-in-None
 returns-in_ok-used-in-None c = λ x small.
     let h = table_strips c.args.self.now (low_variables c.args.self.now.problem) c.self.inside.distinct c.self.inside.all_used
     c.self.inside.outer.items c.self.inside.numbers.items c.self.inside.masks.items
-    (subst (λ (z : ClassesOf). HoldsTable z (low_variables z.problem) c.self.inside.distinct c.self.inside.all_used
+    (subst (λ (z : ClassesOf). HoldsStripTable z (low_variables z.problem) c.self.inside.distinct c.self.inside.all_used
     c.self.inside.outer.items c.self.inside.numbers.items c.self.inside.masks.items)
     c.self.view_is c.self.invariant)
     c.in-None.is in
