@@ -1,7 +1,7 @@
 -- Masks and the lists of their variables.
 --     has_members, distinct_members, members_without, members_full      the members of a mask, of one without a member, and of all variables
 --     bit-mask_of, members_mask_of, full_mask      the mask of a list
-use Rattle.std.proofs.Common.{◌≡◌, lit<, ◌≢◌, ℕ, ◌+◌, ◌-◌, ◌*◌, ◌/◌, ◌%◌, ◌^◌, ◌<◌, ◌≤◌, max, Bool, true, false, not, cond, ◌&&◌, ◌||◌, inl, inr, List, [], ◌∷◌, refl, sym, ap, ap₂, ◌∙◌, arith, nat_eq, eqb, eqb-true, eq-eqb, ne_eqb, pow_pos, pow_mono, zero-mul}
+use Rattle.std.proofs.Common.{◌≡◌, lit<, ◌≢◌, ℕ, ◌+◌, ◌-◌, ◌*◌, ◌/◌, ◌%◌, ◌^◌, ◌<◌, ◌≤◌, max, true, false, not, cond, ◌&&◌, inl, inr, List, [], ◌∷◌, sym, ap, ◌∙◌, arith, nat_eq, eqb, eqb-true, eq-eqb, ne_eqb, pow_pos, pow_mono, zero-mul}
 use Rattle.std.specs.Int.{bit_at}
 use Rattle.std.specs.List.{IsDistinct}
 use Rattle.std.proofs.Math.Nat.{pow-le-pow_right, div-eq_of_lt, div-eq-sub-div, div-add-mod, mod-lt, mul_comm}
@@ -29,20 +29,22 @@ bit_without mask x e = (gone, others)
   where
     enough : 2 ^ x ≤ mask
     enough = elim (cases_lt mask (2 ^ x)) [
-      | inl lt ↦ absurd (let q : mask / 2 ^ x ≡ 0 = div-eq_of_lt lt in let r = ap (λ k. k % 2) q in omega arith)
+      | inl lt ↦ absurd (let q : mask / 2 ^ x ≡ 0 = div-eq_of_lt lt in omega arith)
       | inr le ↦ le
     ]
 
     gone : bit_at (mask - 2 ^ x) x ≡ 0
-    gone = let s = div-eq-sub-div (pow_pos x) enough in omega arith
+    gone = omega (arith, div-eq-sub-div (pow_pos x) enough)
 
     others : (y : ℕ) → y ≢ x → bit_at (mask - 2 ^ x) y ≡ bit_at mask y
     others y ne =
         let together = or_disjoint (mask - 2 ^ x) (2 ^ x) (and_pow (mask - 2 ^ x) x ∙ ap (λ b. b * 2 ^ x) gone ∙ zero-mul (2 ^ x)) in
-        let none = bit_at-pow_other x y ne in
-        let both = sym (ap (λ k. bit_at k y) together) ∙ bit_at_or (mask - 2 ^ x) (2 ^ x) y in
-        let back = ap (λ k. bit_at k y) restored in
-        omega (arith, back, both)
+        omega (
+          arith,
+          ap (λ k. bit_at k y) restored,
+          sym (ap (λ k. bit_at k y) together) ∙ bit_at_or (mask - 2 ^ x) (2 ^ x) y,
+          bit_at-pow_other x y ne,
+        )
       where
         restored : mask - 2 ^ x + 2 ^ x ≡ mask
         restored = omega (arith, enough)
@@ -76,11 +78,7 @@ members_without n mask x h y =
 
 -- the mask of all variables
 pub members_full : (n y : ℕ) → has (members n (2 ^ n - 1)) y ≡ has (variables n) y
-members_full n y = has_members n (2 ^ n - 1) y ∙ by (has (variables n) y) refl
-  where
-    by : (b : Bool) → has (variables n) y ≡ b → (b && eqb (bit_at (2 ^ n - 1) y) 1) ≡ b
-    by true e = eq-eqb (bit_at (2 ^ n - 1) y) 1 (bit_at_ones n y ((has_variables n y).0 e))
-    by false e = refl
+members_full n y = grind (arith, has_members, bit_at_ones, has_variables)
 
 -- ---- the mask of a list
 
@@ -93,30 +91,11 @@ bit-mask_of (x ∷ xs) d y =
     let added : bit_at (mask_of xs + 2 ^ x) y ≡ max (bit_at (mask_of xs) y) (bit_at (2 ^ x) y) =
     ap (λ m. bit_at m y) (sym (or_disjoint (mask_of xs) (2 ^ x) (and_pow (mask_of xs) x ∙ ap (λ b. b * 2 ^ x) free ∙ zero-mul (2 ^ x))))
     ∙ bit_at_or (mask_of xs) (2 ^ x) y in
-    elim (cases_eq y x) [
-      | inl e ↦
-          let one : bit_at (2 ^ x) y ≡ 1 = ap (bit_at (2 ^ x)) e ∙ bit_at-pow_same x in
-          let none : bit_at (mask_of xs) y ≡ 0 = ap (bit_at (mask_of xs)) e ∙ free in
-          added ∙ ap₂ max none one ∙ ap (λ b. cond (b || has xs y) 1 0) (sym (eq-eqb y x e))
-      | inr ne ↦
-          let zero' : bit_at (2 ^ x) y ≡ 0 = bit_at-pow_other x y ne in
-          let none : bit_at (mask_of xs) y ≡ cond (has xs y) 1 0 = bit-mask_of xs d.1 y in
-          let m : max (bit_at (mask_of xs) y) (bit_at (2 ^ x) y) ≡ cond (has xs y) 1 0 = omega arith in
-          added ∙ m ∙ ap (λ b. cond (b || has xs y) 1 0) (sym (ne_eqb y x ne))
-    ]
+    grind (arith, bit_at-pow_same, bit_at-pow_other, bit-mask_of xs d.1 y)
 
 pub members_mask_of : (n : ℕ) (xs : List ℕ) → IsDistinct nat_eq xs → ((y : ℕ) → has xs y ≡ true → y < n) → (y : ℕ) → has (members n (mask_of xs)) y ≡ has xs y
 unfolding members
-members_mask_of n xs d small y =
-    has_filter (λ x. eqb (bit_at (mask_of xs) x) 1) (variables n) y ∙ ap (λ m. has (variables n) y && eqb m 1) (bit-mask_of xs d y) ∙ by (has xs y) refl
-  where
-    last : (a : Bool) → (a && false) ≡ false
-    last true = refl
-    last false = refl
-
-    by : (b : Bool) → has xs y ≡ b → (has (variables n) y && eqb (cond b 1 0) 1) ≡ b
-    by true e = ap (λ b. b && true) ((has_variables n y).1 (small y e))
-    by false e = last (has (variables n) y)
+members_mask_of n xs d small y = grind (arith, has_filter, bit-mask_of, has_variables)
 
 -- all variables together have the full mask
 pub full_mask : (n : ℕ) (order : List ℕ) → IsOrder n order → mask_of order ≡ 2 ^ n - 1
@@ -128,9 +107,7 @@ full_mask n order o = same_from_bits (mask_of order) (2 ^ n - 1) (λ y. elim (ca
     above : (y : ℕ) → n ≤ y → bit_at (2 ^ n - 1) y ≡ 0
     above y le =
         let p : 2 ^ n ≤ 2 ^ y = pow_mono le in
-        let q : 0 < 2 ^ n = pow_pos n in
-        let small : 2 ^ n - 1 < 2 ^ y = omega arith in
-        ap (λ k. k % 2) (div-eq_of_lt small)
+        grind (arith, div-eq_of_lt)
 
 -- bits from n on are 0, so the mask is below 2 ^ n
 pub mask_of_small : (n : ℕ) (xs : List ℕ) → IsDistinct nat_eq xs → ((y : ℕ) → has xs y ≡ true → y < n) → mask_of xs < 2 ^ n
@@ -140,8 +117,7 @@ mask_of_small n xs d small =
     let whole : m / 2 ^ n * 2 ^ n + m % 2 ^ n ≡ m = ap (λ q. q + m % 2 ^ n) (mul_comm (m / 2 ^ n) (2 ^ n)) ∙ div-add-mod m (2 ^ n) in
     let same : m ≡ m % 2 ^ n = same_from_bits m (m % 2 ^ n) (λ y. elim (cases_lt y n) [
       | inl lt ↦ ap (λ k. bit_at k y) (sym whole) ∙ bit_at_cat_low (m / 2 ^ n) n (m % 2 ^ n) y lt
-      | inr le ↦ bit-mask_of xs d y ∙ ap (λ b. cond b 1 0) (false_from_ne_true (has xs y) (λ h. let s = small y h in omega arith))
-          ∙ sym (bit_at_above (m % 2 ^ n) n y r le)
+      | inr le ↦ grind (arith, bit-mask_of, bit_at_above)
     ]) in
     omega arith
 
@@ -151,9 +127,7 @@ mask_of_members n mask lt =
     same_from_bits (mask_of (members n mask)) mask
     (λ y. bit-mask_of (members n mask) (distinct_members n mask) y ∙ ap (λ b. cond b 1 0) (has_members n mask y) ∙ elim (cases_lt y n) [
       | inl low ↦ ap (λ b. cond (b && eqb (bit_at mask y) 1) 1 0) ((has_variables n y).1 low) ∙ one (bit_at mask y) (bit_at-lt mask y)
-      | inr high ↦ ap (λ b. cond (b && eqb (bit_at mask y) 1) 1 0)
-          (false_from_ne_true (has (variables n) y) (λ h. let s = (has_variables n y).0 h in omega arith))
-          ∙ sym (bit_at_above mask n y lt high)
+      | inr high ↦ grind (arith, bit_at_above)
     ])
   where
     one : (b : ℕ) → b < 2 → cond (eqb b 1) 1 0 ≡ b
@@ -173,10 +147,11 @@ mask_with n mask x lt small out =
     let d : IsDistinct nat_eq (x ∷ members n mask) = (apart_from_absent x (members n mask) out, distinct_members n mask) in
     let low : (y : ℕ) → has (x ∷ members n mask) y ≡ true → y < n =
     λ y h. elim (or_cases (nat_eq y x) (has (members n mask) y) h)
-    [ inl e ↦ let s = eqb-true y x e in omega arith | inr r ↦ members_small n mask y r ] in
-    let same : mask_of (members n mask) + 2 ^ x ≡ mask + 2 ^ x = ap (λ m. m + 2 ^ x) (mask_of_members n mask lt) in
-    let a = mask_of_small n (x ∷ members n mask) d low in
-    (omega arith, λ y. ap (λ m. has (members n m) y) (sym same) ∙ members_mask_of n (x ∷ members n mask) d low y)
+    [ inl e ↦ omega (arith, eqb-true y x e) | inr r ↦ members_small n mask y r ] in
+    let same : mask_of (members n mask) + 2 ^ x ≡ mask + 2 ^ x = ap (λ m. m + 2 ^ x) (mask_of_members n mask lt) in (
+      omega (arith, mask_of_small n (x ∷ members n mask) d low),
+      λ y. ap (λ m. has (members n m) y) (sym same) ∙ members_mask_of n (x ∷ members n mask) d low y,
+    )
 
 -- the masks of at most 16 variables
 pub power_small : (n : ℕ) → n ≤ 16 → 2 ^ n ≤ 65536

@@ -3,10 +3,9 @@
 --     place_inside, block_inside      a word of table j lies in the words
 --     value_of      a value is a bit of a word
 --     tables_of_zeros, tables_of_set, packed_set      all zeros; one value made 1
-use Rattle.std.proofs.Common.{◌≡◌, ◌≢◌, ℕ, zero, suc, ◌+◌, ◌*◌, ◌/◌, ◌%◌, ◌^◌, ◌<◌, ◌≤◌, Bool, true, false, cond, List, [], ◌∷◌, length, map, get_or, set, drop, replicate, refl, sym, ap, ◌∙◌, arith, inl, inr, ◌⊎◌, subst, eqb, zero-add, bit_or, ◌||◌, ◌&&◌}
+use Rattle.std.proofs.Common.{◌≡◌, ◌≢◌, ℕ, zero, suc, ◌+◌, ◌*◌, ◌/◌, ◌%◌, ◌^◌, ◌<◌, ◌≤◌, Bool, true, false, cond, List, [], ◌∷◌, length, map, get_or, set, replicate, refl, sym, ap, ◌∙◌, arith, inl, inr, ◌⊎◌, subst, eqb, zero-add, bit_or, ◌||◌, ◌&&◌}
 use Rattle.std.specs.Int.{bit_at, w16, w64}
 use Rattle.std.specs.List.{list_any, filter}
-use Rattle.std.proofs.Math.Nat.{mul-le-mul_right}
 use Rattle.std.proofs.lemmas.Bool.{cases_eq, cases_lt}
 use Rattle.std.proofs.lemmas.List.{get_or-take, get_or-drop, get_or-replicate, get_or-set_same, get_or-set_other, length-set, length-replicate, length-take-le, length-drop, ext_get_or}
 use Rattle.std.proofs.lemmas.List.FromFn.{get_or-map-range_with_len, length-map-range_with_len}
@@ -35,10 +34,7 @@ length-table_in n words = length-map-range_with_len (packed_bit words) 0 (2 ^ n)
 
 -- the next block of words begins within the words
 pub block_inside : (W m j : ℕ) → j < m → j * W + W ≤ m * W
-block_inside W m j h =
-    let a = mul-le-mul_right {m = suc j} {n = m} W (omega arith) in
-    let b : suc j * W ≡ j * W + W = omega arith in
-    omega arith
+block_inside W m j h = grind arith
 
 -- each point of a table lies in one of its words
 pub point_inside : (n k : ℕ) → k < 2 ^ n → k / 64 < words_per_table n
@@ -46,14 +42,7 @@ point_inside n k h = omega arith
 
 pub value_of : (n m : ℕ) (words : List ℕ) (j k : ℕ) → j < m → k < 2 ^ n →
     get_or (get_or (tables_of n m words) j []) k false ≡ eqb (bit_at (get_or words (j * words_per_table n + k / 64) 0) (k % 64)) 1
-value_of n m words j k h within =
-    ap (λ t. get_or t k false) (table_of n m words j h) ∙ in_table
-    ∙ ap (λ z. eqb (bit_at z (k % 64)) 1)
-    (get_or-take (words_per_table n) (drop (j * words_per_table n) words) (k / 64) 0 (point_inside n k within)
-    ∙ get_or-drop (j * words_per_table n) words (k / 64) 0)
-  where
-    in_table : get_or (table_in n (words_of (words_per_table n) words j)) k false ≡ packed_bit (words_of (words_per_table n) words j) k
-    in_table = table_value n (words_of (words_per_table n) words j) k within
+value_of n m words j k h within = search (table_of, get_or-take, point_inside, get_or-drop, table_value)
 
 -- tables with the values of others
 pub same_tables : (n m : ℕ) (words : List ℕ) (ts : List (List Bool)) → length ts ≡ m → ((j : ℕ) → j < m → length (get_or ts j []) ≡ 2 ^ n) →
@@ -75,31 +64,23 @@ tables_of_zeros n m =
     same_tables n m _ _ (length-replicate m _)
     (λ j b. ap length (get_or-replicate m j (replicate (2 ^ n) false) [] b) ∙ length-replicate (2 ^ n) false)
     (λ j k b c.
-    let p = point_inside n k c in
-    let q = block_inside (words_per_table n) m j b in
-    ap (λ z. eqb (bit_at z (k % 64)) 1) (get_or-replicate (m * words_per_table n) (j * words_per_table n + k / 64) 0 0 (omega arith))
+    ap (λ z. eqb (bit_at z (k % 64)) 1) (get_or-replicate (m * words_per_table n) (j * words_per_table n + k / 64) 0 0 (omega (
+      arith,
+      block_inside (words_per_table n) m j b,
+    )))
     ∙ ap (λ z. eqb z 1) (bit_at-zero (k % 64))
     ∙ sym (ap (λ t. get_or t k false) (get_or-replicate m j (replicate (2 ^ n) false) [] b) ∙ get_or-replicate (2 ^ n) k false false c))
 
 -- a place of words tells the table and the word in it
 apart : (W i j a b : ℕ) → a < W → b < W → i * W + a ≡ j * W + b → i ≡ j
-apart W i j a b h k e = elim (cases_eq i j) [
-  | inl f ↦ f
-  | inr ne ↦ elim (cases_lt i j) [
-    | inl lt ↦ (let p = block_inside W j i lt in absurd (omega arith))
-    | inr ge ↦ (let p = block_inside W i j (omega arith) in absurd (omega arith))
-  ]
-]
+apart W i j a b h k e = grind arith
 
 module _ (n m : ℕ) (words : List ℕ) (output point : ℕ) (inside : output < m) (within : point < 2 ^ n) (long : length words ≡ m * words_per_table n) where
   place : ℕ
   place = output * words_per_table n + point / 64
 
   pub place_inside : output * words_per_table n + point / 64 < length words
-  place_inside =
-      let a = block_inside (words_per_table n) m output inside in
-      let b = point_inside n point within in
-      omega arith
+  place_inside = omega (arith, block_inside (words_per_table n) m output inside)
 
   abbrev pub changed : ℕ → List ℕ
   changed word = set words (output * words_per_table n + point / 64) (bit_or word (1 * 2 ^ (point % 64) % 18446744073709551616))
@@ -203,26 +184,10 @@ module _ (n m : ℕ) (words : List ℕ) (packed : IsPacked n m words) where
       × IsClean t.inputs (words_of size words j)
 
   block_long : (j : ℕ) → j < m → length (words_of (words_per_table n) words j) ≡ words_per_table n
-  block_long j h =
-      let a = block_inside (words_per_table n) m j h in
-      let l = packed.long in
-      length-take-le (words_per_table n) (drop (j * words_per_table n) words) (simp length-drop (omega arith))
+  block_long j h = grind (arith, length-take-le, length-drop, block_inside)
 
   block_here : (j : ℕ) → BlockFacts (words_per_table n) (packed_tables n m words) j
-  block_here j h =
-      let l = length-tables_of n m words in
-      let j' : j < m = omega arith in
-      let a = block_inside (words_per_table n) m j j' in
-      let k = packed.long in (
-        omega arith,
-        sym (table_of n m words j j'),
-        block_long j j',
-        λ i b d e.
-            let f = block_long j j' in
-            let i' : i < words_per_table n = omega arith in
-            ap (λ z. bit_at z b) (get_or-take (words_per_table n) (drop (j * words_per_table n) words) i 0 i' ∙ get_or-drop (j * words_per_table n) words i 0)
-            ∙ packed.clean (j * words_per_table n + i) b (omega arith) e,
-      )
+  block_here j h = grind (arith, length-tables_of, table_of, block_long, get_or-take, get_or-drop)
 
   pub block_facts : (size : ℕ) (t : TruthTables) (j : ℕ) → size ≡ words_per_table n → packed_tables n m words ≡ t → BlockFacts size t j
   block_facts size t j e v = subst (λ (s : ℕ). BlockFacts s t j) (sym e) (subst (λ (u : TruthTables). BlockFacts (words_per_table n) u j) v (block_here j))
@@ -238,17 +203,14 @@ module _ (n m : ℕ) (words : List ℕ) (packed : IsPacked n m words) where
 
   set_here : (output point : ℕ) → SetFacts (words_per_table n) (packed_tables n m words) output point
   set_here output point h k =
-      let l = length-tables_of n m words in
-      let o : output < m = omega arith in (
+      let o : output < m = omega (arith, length-tables_of n m words) in (
         place_inside n m words output point o k packed.long,
         λ word read.
             (packed_set n m words output point o k packed.long word read packed, tables_of_set n m words output point o k packed.long word read),
       )
 
   pub set_facts : (size : ℕ) (t : TruthTables) (output point : ℕ) → size ≡ words_per_table n → packed_tables n m words ≡ t → SetFacts size t output point
-  set_facts size t output point e v =
-      subst (λ (s : ℕ). SetFacts s t output point) (sym e)
-      (subst (λ (u : TruthTables). SetFacts (words_per_table n) u output point) v (set_here output point))
+  set_facts size t output point e v = grind (arith, set_here)
 
 -- ---- whether some function depends on a variable
 

@@ -4,10 +4,9 @@
 --     count_is, union_without_is      how many of them have a variable; what some has that doesn't have a variable
 --     entry_written      one more entry of a row
 --     most_none, most_with, most_without      the most that the members of a mask ask for, one variable after another
-use Rattle.std.proofs.Common.{◌≡◌, ◌≢◌, ℕ, suc, ◌+◌, ◌<◌, max, Bool, true, false, not, cond, ◌&&◌, ◌||◌, inl, inr, List, [], ◌∷◌, ◌++◌, length, map, slice_index, get_or, set, take, get_or-set_same, get_or-set_other, refl, sym, ap, ap₂, ◌∙◌, arith, eqb, eq-eqb, ne_eqb, bit_or, IsTrue}
+use Rattle.std.proofs.Common.{◌≡◌, ◌≢◌, ℕ, suc, ◌+◌, ◌<◌, max, Bool, true, false, not, cond, ◌&&◌, ◌||◌, List, [], ◌∷◌, ◌++◌, length, map, slice_index, get_or, set, take, get_or-set_same, get_or-set_other, refl, sym, ap, ap₂, ◌∙◌, arith, eqb, eq-eqb, ne_eqb, bit_or, IsTrue}
 use Rattle.std.specs.Int.{bit_at}
 use Rattle.std.specs.List.{filter, fold, list_any, range_with_len}
-use Rattle.std.proofs.lemmas.Bool.{cases_eq}
 use Rattle.std.proofs.lemmas.List.{take_more, take_more_set, take_all, map-append, length-map}
 use Rattle.std.proofs.lemmas.List.Elements.{filter-append}
 use Rattle.std.proofs.lemmas.List.Sums.{fold-append}
@@ -28,9 +27,7 @@ use Rattle.order_model.proofs.Widths.Recurrence.{distinct_filter, distinct_varia
 -- ---- the variables on which functions depend
 
 pub bit-support : (n : ℕ) (f : Function) (y : ℕ) → bit_at (support n f) y ≡ cond (has (variables n) y && depends n f y) 1 0
-bit-support n f y =
-    bit-mask_of (filter (depends n f) (variables n)) (distinct_filter (depends n f) (variables n) (distinct_variables n)) y
-    ∙ ap (λ b. cond b 1 0) (has_filter (depends n f) (variables n) y)
+bit-support n f y = search (bit-mask_of, distinct_filter, distinct_variables, has_filter)
 
 is_one : (b : Bool) → eqb (cond b 1 0) 1 ≡ b
 is_one true = refl
@@ -53,27 +50,17 @@ supports_next t found i v room lt e h =
 
 pub supports_all : (t : TruthTables) (found : List ℕ) (i : ℕ) → i ≡ outputs_of t →
     take i found ≡ map (λ u. support t.inputs (from_table u)) (take i t.tables) → take (outputs_of t) found ≡ map (support t.inputs) (functions t)
-supports_all t found i e h =
-    ap (λ k. take k found) (sym e) ∙ h ∙ ap (map (λ u. support t.inputs (from_table u))) (take_all i t.tables (omega arith))
-    ∙ sym (map-map (support t.inputs) from_table t.tables)
+supports_all t found i e h = grind (arith, take_all, map-map)
 
 filter_mapped : {X Y : Type 0} (p : Y → Bool) (g : X → Y) (xs : List X) → filter p (map g xs) ≡ map g (filter (λ x. p (g x)) xs)
 filter_mapped p g [] = refl
-filter_mapped p g (x ∷ xs) = by (p (g x)) (filter_mapped p g xs)
-  where
-    by : (b : Bool) → filter p (map g xs) ≡ map g (filter (λ z. p (g z)) xs) →
-        cond b (g x ∷ filter p (map g xs)) (filter p (map g xs)) ≡ map g (cond b (x ∷ filter (λ z. p (g z)) xs) (filter (λ z. p (g z)) xs))
-    by true e = ap (λ zs. g x ∷ zs) e
-    by false e = e
+filter_mapped p g (x ∷ xs) = grind (arith, filter_mapped p g xs)
 
 -- as many masks have a variable as functions depend on it
 pub count_is : (n : ℕ) (F : List Function) (x : ℕ) (sets : List ℕ) → x < n → sets ≡ map (support n) F →
     length (filter (λ s. eqb (bit_at s x) 1) sets) ≡ length (functions_with n F x)
 unfolding functions_with
-count_is n F x sets h e =
-    ap (λ ss. length (filter (λ s. eqb (bit_at s x) 1) ss)) e
-    ∙ ap length (filter_mapped (λ s. eqb (bit_at s x) 1) (support n) F) ∙ length-map (filter (λ f. eqb (bit_at (support n f) x) 1) F) (support n)
-    ∙ λ i. length (filter (λ f. support_has n x h f i) F)
+count_is n F x sets h e = grind (arith, filter_mapped, length-map, support_has)
 
 abbrev one_if : Bool → ℕ
 one_if b = cond b 1 0
@@ -83,49 +70,30 @@ nowhere true = refl
 nowhere false = refl
 
 joined : (k : ℕ) (v d l : Bool) → max (max k (one_if (v && d))) (one_if (v && l)) ≡ max k (one_if (v && (d || l)))
-joined k false d l = omega arith
-joined k true true true = omega arith
-joined k true true false = omega arith
-joined k true false l = omega arith
+joined k v d l = grind arith
 
 union_bit : (n y : ℕ) (F : List Function) (a : ℕ) →
     bit_at (fold bit_or a (map (support n) F)) y ≡ max (bit_at a y) (one_if (has (variables n) y && list_any (λ f. depends n f y) F))
 union_bit n y [] a = omega (arith, nowhere (has (variables n) y))
-union_bit n y (f ∷ F) a =
-    union_bit n y F (bit_or a (support n f))
-    ∙ ap (λ k. max k (one_if (has (variables n) y && list_any (λ g. depends n g y) F)))
-    (bit_at_or a (support n f) y ∙ ap (max (bit_at a y)) (bit-support n f y))
-    ∙ joined (bit_at a y) (has (variables n) y) (depends n f y) (list_any (λ g. depends n g y) F)
+union_bit n y (f ∷ F) a = grind (arith, bit_at_or, bit-support, union_bit n y F (bit_or a (support n f)))
 
 max_zero : (k : ℕ) → max 0 k ≡ k
 max_zero k = omega arith
 
 union_of_all : (n : ℕ) (F : List Function) → fold bit_or 0 (map (support n) F) ≡ essential_mask n F
 unfolding essential_mask essential
-union_of_all n F =
-    same_from_bits _ _
-    (λ y. union_bit n y F 0 ∙ ap (λ k. max k (one_if (has (variables n) y && list_any (λ f. depends n f y) F))) (bit_at-zero y)
-    ∙ max_zero (one_if (has (variables n) y && list_any (λ f. depends n f y) F))
-    ∙ sym (bit-mask_of (essential n F) (distinct_essential n F) y
-    ∙ ap (λ b. cond b 1 0) (has_filter (λ x. list_any (λ f. depends n f x) F) (variables n) y)))
+union_of_all n F = search (same_from_bits, union_bit, bit_at-zero, max_zero, bit-mask_of, distinct_essential, has_filter)
 
 pub union_without_is : (n : ℕ) (F : List Function) (x : ℕ) (sets : List ℕ) → x < n → sets ≡ map (support n) F →
     fold bit_or 0 (filter (λ s. not (eqb (bit_at s x) 1)) sets) ≡ essential_mask n (functions_without n F x)
 unfolding functions_without
-union_without_is n F x sets h e =
-    ap (λ ss. fold bit_or 0 (filter (λ s. not (eqb (bit_at s x) 1)) ss)) e
-    ∙ ap (fold bit_or 0) (filter_mapped (λ s. not (eqb (bit_at s x) 1)) (support n) F)
-    ∙ (λ i. fold bit_or 0 (map (support n) (filter (λ f. not (support_has n x h f i)) F)))
-    ∙ union_of_all n (filter (λ f. not (depends n f x)) F)
+union_without_is n F x sets h e = grind (arith, filter_mapped, support_has, union_of_all)
 
 -- ---- rows, one entry after another
 
 pub entry_written : (f : ℕ → ℕ) (row : List ℕ) (k v : ℕ) → k < length row → v ≡ f k → ((y : ℕ) → y < k → slice_index row y ≡ f y) →
     (y : ℕ) → y < k + 1 → slice_index (set row k v) y ≡ f y
-entry_written f row k v lt e h y m = elim (cases_eq y k) [
-  | inl s ↦ ap (λ z. get_or (set row k v) z 0) s ∙ get_or-set_same row k v 0 lt ∙ e ∙ ap f (sym s)
-  | inr ne ↦ get_or-set_other row k y v 0 ne ∙ h y (omega arith)
-]
+entry_written f row k v lt e h y m = grind (arith, get_or-set_same, get_or-set_other)
 
 -- ---- the most that the members of a mask ask for, one variable after another
 
@@ -143,9 +111,7 @@ most_none f a mask = refl
 
 most_next : (f : ℕ → ℕ) (a x mask : ℕ) (b : Bool) → eqb (bit_at mask x) 1 ≡ b →
     fold max a (map f (members (x + 1) mask)) ≡ fold max (fold max a (map f (members x mask))) (map f (cond b (x ∷ []) []))
-most_next f a x mask b e =
-    ap (λ ys. fold max a (map f ys)) (members_next x mask ∙ ap (λ c. members x mask ++ cond c (x ∷ []) []) e)
-    ∙ ap (fold max a) (map-append f (members x mask) (cond b (x ∷ []) [])) ∙ fold-append max a (map f (members x mask)) (map f (cond b (x ∷ []) []))
+most_next f a x mask b e = grind (arith, members_next, map-append, fold-append)
 
 pub most_with : (f : ℕ → ℕ) (a x mask : ℕ) → bit_at mask x ≡ 1 →
     fold max a (map f (members (x + 1) mask)) ≡ max (fold max a (map f (members x mask))) (f x)

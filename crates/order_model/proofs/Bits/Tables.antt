@@ -4,7 +4,7 @@
 --     halves_depend, halves_alike      variables below 6: each word is compared with itself shifted
 use Rattle.std.proofs.Common.{◌≡◌, ℕ, zero, suc, ◌+◌, ◌-◌, ◌*◌, ◌/◌, ◌%◌, ◌^◌, ◌<◌, ◌≤◌, Bool, true, false, List, length, get_or, refl, sym, ap, ◌∙◌, arith, inl, inr, ◌⊎◌, eqb, zero-add}
 use Rattle.std.specs.Int.{bit_at}
-use Rattle.std.proofs.lemmas.Bool.{cases_lt, false≢true}
+use Rattle.std.proofs.lemmas.Bool.{cases_lt}
 use Rattle.std.proofs.lemmas.List.FromFn.{get_or-map-range_with_len}
 use Rattle.std.proofs.lemmas.Nat.{pow-add}
 use Rattle.std.proofs.lemmas.Nat.Bits.{bit_at_cat_high, bit_at_cat_low, bit_at-lt, same_from_bits_below}
@@ -17,18 +17,10 @@ unfolding table_in
 table_value n words k h = get_or-map-range_with_len (packed_bit words) 0 (2 ^ n) k k false h (zero-add k)
 
 pub value_at_word : (words : List ℕ) (i b : ℕ) → b < 64 → packed_bit words (64 * i + b) ≡ eqb (bit_at (get_or words i 0) b) 1
-value_at_word words i b h =
-    let e : (64 * i + b) / 64 ≡ i = omega arith in
-    let f : (64 * i + b) % 64 ≡ b = omega arith in
-    λ j. eqb (bit_at (get_or words (e j) 0) (f j)) 1
+value_at_word words i b h = grind arith
 
 pub same_bit : (a b : ℕ) → a < 2 → b < 2 → eqb a 1 ≡ eqb b 1 → a ≡ b
-same_bit zero zero h k e = refl
-same_bit zero (suc zero) h k e = absurd (false≢true e)
-same_bit (suc zero) zero h k e = absurd (false≢true (sym e))
-same_bit (suc zero) (suc zero) h k e = refl
-same_bit (suc (suc a)) b h k e = absurd (omega arith)
-same_bit a (suc (suc b)) h k e = absurd (omega arith)
+same_bit a b h k l = grind arith
 
 -- from 6 variables on a table fills its words
 pub whole_words : (n : ℕ) → ((6 ≤ n) × (2 ^ n ≡ 64 * 2 ^ (n - 6)) × (words_per_table n ≡ 2 ^ (n - 6))) ⊎ ((n < 6) × (words_per_table n ≡ 1))
@@ -44,57 +36,38 @@ whole_words n = elim (cases_lt n 6) [ inl h ↦ inr (h, few n h) | inr h ↦ inl
     few (suc (suc (suc (suc (suc (suc k)))))) h = absurd (omega arith)
 
     whole : 6 ≤ n → 2 ^ n ≡ 64 * 2 ^ (n - 6)
-    whole h =
-        let e : 6 + (n - 6) ≡ n = omega arith in
-        sym (ap (λ z. 2 ^ z) e) ∙ pow-add 2 6 (n - 6)
+    whole h = sym (ap (λ z. 2 ^ z) (omega arith)) ∙ pow-add 2 6 (n - 6)
 
     fill : 6 ≤ n → words_per_table n ≡ 2 ^ (n - 6)
-    fill h =
-        let w = whole h in
-        let e : (2 ^ n + 63) / 64 ≡ 2 ^ (n - 6) = omega arith in
-        e
+    fill h = omega (arith, whole h)
 
 -- ---- variables from 6 on
 
 module _ (n x : ℕ) (words : List ℕ) (high : 6 ≤ x) (small : x < n) (long : length words ≡ words_per_table n) where
   step_is : 2 ^ x ≡ 64 * 2 ^ (x - 6)
-  step_is =
-      let e : 6 + (x - 6) ≡ x = omega arith in
-      sym (ap (λ z. 2 ^ z) e) ∙ pow-add 2 6 (x - 6)
+  step_is = sym (ap (λ z. 2 ^ z) (omega arith)) ∙ pow-add 2 6 (x - 6)
 
   rows : (length words ≡ 2 ^ (n - 6)) × (2 ^ n ≡ 64 * length words)
-  rows = elim (whole_words n) [
-    | inl h ↦ (long ∙ h.2, h.1 ∙ ap (λ z. 64 * z) (sym (long ∙ h.2)))
-    | inr h ↦ absurd (omega (arith, h.0))
-  ]
+  rows = grind (arith, whole_words)
 
   pub rows_room : (i : ℕ) → i < length words → bit_at i (x - 6) ≡ 0 → i + 2 ^ (x - 6) < length words
   rows_room i h off =
       let l = rows.0 in
-      let r = room_above (n - 6) i (x - 6) (omega arith) (omega arith) off in
-      omega arith
+      omega (arith, room_above (n - 6) i (x - 6) (omega arith) (omega arith) off)
 
   place_bit : (i b : ℕ) → b < 64 → bit_at (64 * i + b) x ≡ bit_at i (x - 6)
-  place_bit i b h =
-      let e : 64 * i + b ≡ i * 64 + b = omega arith in
-      ap (λ z. bit_at z x) e ∙ bit_at_cat_high i 6 b x h high
+  place_bit i b h = ap (λ z. bit_at z x) (omega arith) ∙ bit_at_cat_high i 6 b x h high
 
   -- the values at two places 2 ^ x apart
   above_value : (i b : ℕ) → b < 64 → packed_bit words (64 * i + b + 2 ^ x) ≡ eqb (bit_at (get_or words (i + 2 ^ (x - 6)) 0) b) 1
-  above_value i b h =
-      let s = step_is in
-      let e : 64 * i + b + 2 ^ x ≡ 64 * (i + 2 ^ (x - 6)) + b = omega arith in
-      ap (packed_bit words) e ∙ value_at_word words (i + 2 ^ (x - 6)) b h
+  above_value i b h = ap (packed_bit words) (omega (arith, step_is)) ∙ value_at_word words (i + 2 ^ (x - 6)) b h
 
   pub rows_depend : ((i : ℕ) → get_or words i 0 < 2 ^ 64) → (i : ℕ) → i + 2 ^ (x - 6) < length words → bit_at i (x - 6) ≡ 0 →
       (get_or words i 0 ≡ get_or words (i + 2 ^ (x - 6)) 0 → ⊥) → depends n (from_table (table_in n words)) x ≡ true
   rows_depend fits i room off ne = by (depends n (from_table (table_in n words)) x) refl
     where
       within : (b : ℕ) → b < 64 → 64 * i + b + 2 ^ x < 2 ^ n
-      within b h =
-          let s = step_is in
-          let l = rows.1 in
-          omega arith
+      within b h = omega (arith, step_is, rows.1)
 
       same : depends n (from_table (table_in n words)) x ≡ false → (b : ℕ) → b < 64 → bit_at (get_or words i 0) b ≡ bit_at (get_or words (i + 2 ^ (x - 6)) 0) b
       same e b h =
@@ -110,47 +83,21 @@ module _ (n x : ℕ) (words : List ℕ) (high : 6 ≤ x) (small : x < n) (long :
 
   pub rows_alike : ((i : ℕ) → i + 2 ^ (x - 6) < length words → bit_at i (x - 6) ≡ 0 → get_or words i 0 ≡ get_or words (i + 2 ^ (x - 6)) 0) →
       depends n (from_table (table_in n words)) x ≡ false
-  rows_alike h = table_independent n (table_in n words) x small at
-    where
-      at : (k : ℕ) → k < 2 ^ n → bit_at k x ≡ zero → k + 2 ^ x < 2 ^ n → get_or (table_in n words) k false ≡ get_or (table_in n words) (k + 2 ^ x) false
-      at k within off room =
-          let e : 64 * (k / 64) + k % 64 ≡ k = omega arith in
-          let b : k % 64 < 64 = omega arith in
-          let s = step_is in
-          let l = rows.1 in
-          let u = ap (λ z. packed_bit words (z + 2 ^ x)) e in
-          table_value n words k within ∙ sym (ap (packed_bit words) e) ∙ value_at_word words (k / 64) (k % 64) b
-          ∙ ap (λ z. eqb (bit_at z (k % 64)) 1) (h (k / 64) (omega arith) (sym (place_bit (k / 64) (k % 64) b) ∙ ap (λ z. bit_at z x) e ∙ off))
-          ∙ sym (above_value (k / 64) (k % 64) b) ∙ u ∙ sym (table_value n words (k + 2 ^ x) room)
+  rows_alike h = grind (arith, table_independent, table_value, step_is, place_bit, above_value)
 
 -- ---- variables below 6
 
 module _ (n x : ℕ) (words : List ℕ) (low : x < 6) (small : x < n) (long : length words ≡ words_per_table n) where
   place_low : (i b : ℕ) → bit_at (64 * i + b) x ≡ bit_at b x
-  place_low i b =
-      let e : 64 * i + b ≡ i * 64 + b = omega arith in
-      ap (λ z. bit_at z x) e ∙ bit_at_cat_low i 6 b x low
+  place_low i b = ap (λ z. bit_at z x) (omega arith) ∙ bit_at_cat_low i 6 b x low
 
   value_above : (i b : ℕ) → b + 2 ^ x < 64 → packed_bit words (64 * i + b + 2 ^ x) ≡ eqb (bit_at (get_or words i 0) (b + 2 ^ x)) 1
-  value_above i b h =
-      let e : 64 * i + b + 2 ^ x ≡ 64 * i + (b + 2 ^ x) = omega arith in
-      ap (packed_bit words) e ∙ value_at_word words i (b + 2 ^ x) h
+  value_above i b h = ap (packed_bit words) (omega arith) ∙ value_at_word words i (b + 2 ^ x) h
 
   -- a bit of a clean word that is not after the last point
   inside : IsClean n words → (i b : ℕ) → i < length words → b + 2 ^ x < 64 →
       (bit_at (get_or words i 0) b ≡ bit_at (get_or words i 0) (b + 2 ^ x) → ⊥) → 64 * i + b < 2 ^ n
-  inside clean i b h room ne = elim (whole_words n) [
-    | inl w ↦
-        let l = long ∙ w.2 in
-        let t = w.1 in
-        omega arith
-    | inr w ↦ elim (cases_lt b (2 ^ n)) [
-      | inl k ↦
-          let l = long ∙ w.1 in
-          omega arith
-      | inr k ↦ absurd (ne (clean i b h k ∙ sym (clean i (b + 2 ^ x) h (omega arith))))
-    ]
-  ]
+  inside clean i b h room ne = grind (arith, whole_words)
 
   pub halves_depend : IsClean n words → (i b : ℕ) → i < length words → b + 2 ^ x < 64 → bit_at b x ≡ 0 →
       (bit_at (get_or words i 0) b ≡ bit_at (get_or words i 0) (b + 2 ^ x) → ⊥) →
@@ -159,21 +106,9 @@ module _ (n x : ℕ) (words : List ℕ) (low : x < 6) (small : x < n) (long : le
       let k = inside clean i b h room ne in
       let o = place_low i b ∙ off in
       table_depends n (64 * i + b) x k small o (table_in n words) (λ e.
-      let above = room_above n (64 * i + b) x k small o in
       ne (same_bit _ _ (bit_at-lt _ b) (bit_at-lt _ (b + 2 ^ x))
       (sym (value_at_word words i b (omega arith)) ∙ sym (table_value n words (64 * i + b) k) ∙ e
-      ∙ table_value n words (64 * i + b + 2 ^ x) above ∙ value_above i b room)))
-
-  count_enough : 2 ^ n ≤ 64 * length words
-  count_enough = elim (whole_words n) [
-    | inl w ↦
-        let l = long ∙ w.2 in
-        let t = w.1 in
-        omega arith
-    | inr w ↦
-        let l = long in
-        omega arith
-  ]
+      ∙ table_value n words (64 * i + b + 2 ^ x) (room_above n (64 * i + b) x k small o) ∙ value_above i b room)))
 
   pub halves_alike : ((i b : ℕ) → i < length words → b + 2 ^ x < 64 → bit_at b x ≡ 0 → bit_at (get_or words i 0) b ≡ bit_at (get_or words i 0) (b + 2 ^ x)) →
       depends n (from_table (table_in n words)) x ≡ false
@@ -183,10 +118,6 @@ module _ (n x : ℕ) (words : List ℕ) (low : x < 6) (small : x < n) (long : le
       at k within off room =
           let e : 64 * (k / 64) + k % 64 ≡ k = omega arith in
           let b : k % 64 < 64 = omega arith in
-          let c = count_enough in
           let o : bit_at (k % 64) x ≡ 0 = sym (place_low (k / 64) (k % 64)) ∙ ap (λ z. bit_at z x) e ∙ off in
           let r : k % 64 + 2 ^ x < 64 = room_above 6 (k % 64) x b low o in
-          let u = ap (λ z. packed_bit words (z + 2 ^ x)) e in
-          table_value n words k within ∙ sym (ap (packed_bit words) e) ∙ value_at_word words (k / 64) (k % 64) b
-          ∙ ap (λ z. eqb z 1) (h (k / 64) (k % 64) (omega arith) r o)
-          ∙ sym (value_above (k / 64) (k % 64) r) ∙ u ∙ sym (table_value n words (k + 2 ^ x) room)
+          grind (arith, table_value, value_above)

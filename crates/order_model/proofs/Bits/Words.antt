@@ -15,10 +15,8 @@ use Rattle.order_model.proofs.Bits.PointNumbers.{room_above}
 -- what a test of the first n numbers shows of each
 pub tested_below : (n : ℕ) (f g : ℕ → ℕ) → list_all (λ b. eqb (f b) (g b)) (range_with_len 0 n) ≡ true → (b : ℕ) → b < n → f b ≡ g b
 tested_below n f g e b h =
-    let P : ℕ → Type 0 = λ k. eqb (f k) (g k) ≡ true in
-    let l = length-range_with_len 0 n in
-    let r = AllPass-from_list_all (λ k. eqb (f k) (g k)) (range_with_len 0 n) e b 0 (omega arith) in
-    eqb-true _ _ (subst P (get_or-range_with_len 0 n b 0 h ∙ zero-add b) r)
+    let r = AllPass-from_list_all (λ k. eqb (f k) (g k)) (range_with_len 0 n) e b 0 (omega (arith, length-range_with_len 0 n)) in
+    eqb-true _ _ (subst (λ k. eqb (f k) (g k) ≡ true) (get_or-range_with_len 0 n b 0 h ∙ zero-add b) r)
 
 pub shifted_bit : (word s b : ℕ) → bit_at (word / 2 ^ s) b ≡ bit_at word (b + s)
 shifted_bit word s b = ap (λ z. z % 2) (shr-shr word s b) ∙ ap (bit_at word) (omega arith)
@@ -28,9 +26,7 @@ module _ (word x lower : ℕ) (small : x < 6) (low : (b : ℕ) → b < 64 → bi
   masked = bit_and (bit_xor (word / 2 ^ (2 ^ x)) word) lower
 
   masked_bit : (b : ℕ) → bit_at masked b ≡ min ((bit_at word (b + 2 ^ x) + bit_at word b) % 2) (bit_at lower b)
-  masked_bit b = bit_at_and _ lower b
-      ∙ ap (λ z. min z (bit_at lower b))
-      (bit_at_xor (word / 2 ^ (2 ^ x)) word b ∙ ap (λ z. (z + bit_at word b) % 2) (shifted_bit word (2 ^ x) b))
+  masked_bit b = search (bit_at_and, bit_at_xor, shifted_bit)
 
   both_from_min : (a b : ℕ) → a < 2 → b < 2 → min a b ≡ suc zero → (a ≡ suc zero) × (b ≡ suc zero)
   both_from_min a b h k e = (omega arith, omega arith)
@@ -39,23 +35,15 @@ module _ (word x lower : ℕ) (small : x < 6) (low : (b : ℕ) → b < 64 → bi
   some_difference fits ne =
       let r = bit_at-trailing_zeros w64 masked (omega arith) fits in
       let b : ℕ = trailing_zeros w64 masked in
-      let within : b < 64 = r.0 in
       let lt = bit_at-lt lower b in
       let parts = both_from_min ((bit_at word (b + 2 ^ x) + bit_at word b) % 2) (bit_at lower b) (omega arith) lt (sym (masked_bit b) ∙ r.1) in
-      let l = low b within in
-      let lx = bit_at-lt b x in
-      let p0 = parts.0 in
-      let p1 = parts.1 in
+      let l = low b r.0 in
       let off : bit_at b x ≡ zero = omega arith in
-      (b, room_above 6 b x within small off, off, λ e. absurd (omega (arith, e)))
+      (b, room_above 6 b x r.0 small off, off, λ e. absurd (omega arith))
 
   pub no_difference : masked ≡ 0 → (b : ℕ) → b + 2 ^ x < 64 → bit_at b x ≡ 0 → bit_at word b ≡ bit_at word (b + 2 ^ x)
   no_difference e b h off =
-      let m = sym (masked_bit b) ∙ ap (λ z. bit_at z b) e ∙ bit_at-zero b in
-      let l = low b (omega arith) in
-      let u = bit_at-lt word b in
-      let v = bit_at-lt word (b + 2 ^ x) in
-      omega (arith, m)
+      omega (arith, sym (masked_bit b) ∙ ap (λ z. bit_at z b) e ∙ bit_at-zero b, low b (omega arith))
 
 -- a step of 2 ^ x places, as a word's shift counts it
 pub step_is : (x : ℕ) → x < 6 → (1 * 2 ^ x % 4294967296 ≡ 2 ^ x) × (2 ^ x < 64)

@@ -1,7 +1,6 @@
 -- The sets that the tool lists, by the costs of their cells.
 use Rattle.std.proofs.Common.{◌≡◌, ℕ, ◌+◌, ◌-◌, ◌^◌, ◌≤◌, true, ◌&&◌, List, arith, ltb}
 use Rattle.std.specs.List.{filter, range_with_len}
-use Rattle.std.proofs.lemmas.Bool.{and_parts, and_from, ltb-true, lt-ltb}
 use Rattle.order_model.specs.Functions.{Function}
 use Rattle.order_model.specs.Orders.{members}
 use Rattle.order_model.specs.Pairs.{Pair, is_lawful}
@@ -10,7 +9,6 @@ use Rattle.order_model.specs.Reserves.{reserved}
 use Rattle.order_model.specs.declared.reserve.Reserve.TheVariants.{Variables}
 use Rattle.order_model.specs.Cells.{cell_cost}
 use Rattle.order_model.specs.Certificates.{listed_masks}
-use Rattle.order_model.proofs.Lists.Orders.{same_bool}
 use Rattle.order_model.proofs.Widths.Cells.{within_from, cost_open, cost_known}
 
 module _ (n : ℕ) (F : List Function) (P : List Pair) (bound total : ℕ) (le : total ≤ bound) where
@@ -24,18 +22,7 @@ module _ (n : ℕ) (F : List Function) (P : List Pair) (bound total : ℕ) (le :
   pub listed_test : (mask : ℕ) →
       (is_lawful P (members n mask) && ltb (least n F P (members n mask) + essentials_outside n F (members n mask)) total) ≡ ltb
       (cell_cost n F P Variables bound mask + essentials_outside n F (members n mask)) total
-  listed_test mask =
-      same_bool _ _
-      (λ h.
-      let parts = and_parts (is_lawful P (members n mask)) (ltb (least n F P (members n mask) + essentials_outside n F (members n mask)) total) h in
-      let lt = ltb-true (least n F P (members n mask) + essentials_outside n F (members n mask)) total parts.1 in
-      let e = listed_cost mask parts.0 (omega arith) in
-      lt-ltb (cell_cost n F P Variables bound mask + essentials_outside n F (members n mask)) total (omega arith))
-      (λ h.
-      let lt = ltb-true (cell_cost n F P Variables bound mask + essentials_outside n F (members n mask)) total h in
-      let known = cost_known n F P Variables bound mask (omega arith) in
-      let e = known.1 in
-      and_from _ _ known.0 (lt-ltb (least n F P (members n mask) + essentials_outside n F (members n mask)) total (omega arith)))
+  listed_test mask = grind (arith, listed_cost, cost_known)
 
   pub listed_by_cells : listed_masks n F P total ≡ filter
       (λ mask. ltb (cell_cost n F P Variables bound mask + essentials_outside n F (members n mask)) total) (range_with_len 0 (2 ^ n - 1))

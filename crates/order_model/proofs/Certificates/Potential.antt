@@ -6,7 +6,7 @@ use Rattle.std.proofs.Common.{◌≡◌, ◌≢◌, ℕ, ◌+◌, ◌-◌, ◌^�
 use Rattle.std.specs.List.{find, sum, IsDistinct, AllByRecursion}
 use Rattle.std.specs.Option.{option_map_or}
 use Rattle.std.proofs.lemmas.Bool.{true≢false, or_left, or_right}
-use Rattle.std.proofs.lemmas.List.Elements.{recursion_from_All, All-contains}
+use Rattle.std.proofs.lemmas.List.Elements.{recursion_from_All}
 use Rattle.order_model.specs.Functions.{Function}
 use Rattle.order_model.specs.Orders.{has, IsOrder, members, mask_of}
 use Rattle.order_model.specs.Pairs.{Keeps, is_lawful, are_lawful}
@@ -14,7 +14,6 @@ use Rattle.order_model.specs.Levels.{size_under}
 use Rattle.order_model.specs.Widths.{width, cost, essentials_outside}
 use Rattle.order_model.specs.Diagrams.{Graph, Represents, FewestKeeping}
 use Rattle.order_model.specs.Certificates.{Certificate, Cell, IsGood, reserve, set_value, AreBothLawful, Reason, Applies}
-use Rattle.order_model.specs.Certificates.Reason.{Shape, Order, Pairs, Levels, Total, Start, CellTooBig, Edge}
 use Rattle.order_model.proofs.Lists.Sets.{Among}
 use Rattle.order_model.proofs.Lists.Orders.{absent_from_apart, has_variables}
 use Rattle.order_model.proofs.Precedence.Lists.{lawful_same, lawful_whole, are_lawful_parts}
@@ -34,16 +33,7 @@ all_among P (y ∷ xs) x a h = elim h [ inl e ↦ subst P (sym e) a.0 | inr r �
 find_cases : {X : Type 0} (p : X → Bool) (xs : List X) →
     ((find p xs ≡ None) × ((x : X) → Among x xs → p x ≡ false)) ⊎ ((x : X) × Among x xs × (p x ≡ true) × (find p xs ≡ Some x))
 find_cases p [] = inl (refl, λ x m. absurd m)
-find_cases {X} p (x ∷ xs) = by (p x) refl (find_cases p xs)
-  where
-    Cases : Option X → Type 0
-    Cases o = ((o ≡ None) × ((z : X) → (z ≡ x) ⊎ Among z xs → p z ≡ false)) ⊎ ((z : X) × ((z ≡ x) ⊎ Among z xs) × (p z ≡ true) × (o ≡ Some z))
-
-    by : (b : Bool) → p x ≡ b →
-        ((find p xs ≡ None) × ((z : X) → Among z xs → p z ≡ false)) ⊎ ((z : X) × Among z xs × (p z ≡ true) × (find p xs ≡ Some z)) →
-        Cases (cond b (Some x) (find p xs))
-    by true e r = inr (x, inl refl, e, refl)
-    by false e r = elim r [ inl n ↦ inl (n.0, λ z m. elim m [ inl s ↦ ap p s ∙ e | inr k ↦ n.1 z k ]) | inr s ↦ inr (s.0, inr s.1, s.2, s.3) ]
+find_cases {X} p (x ∷ xs) = grind (arith, find_cases p xs)
 
 -- a set is that of all variables, or listed, or it has the total without the reserve
 pub value_cases : (n : ℕ) (F : List Function) (cert : Certificate) (m : ℕ) →
@@ -86,23 +76,12 @@ reserve_mask n F cert xs d small = ap (cond (nat_eq cert.format 1) 0) (essential
 reserve_step : (n : ℕ) (F : List Function) (cert : Certificate) (x : ℕ) (xs : List ℕ) → IsDistinct nat_eq (x ∷ xs) → ((y : ℕ) → has (x ∷ xs) y ≡ true → y < n) →
     reserve n F cert (mask_of xs) ≤ reserve n F cert (mask_of (x ∷ xs)) + width n F xs x
 unfolding IsDistinct
-reserve_step n F cert x xs d small =
-    by (nat_eq cert.format 1) (reserve_mask n F cert xs d.1 (λ y h. small y (or_right _ _ h))) (reserve_mask n F cert (x ∷ xs) d small)
-  where
-    by : (b : Bool) → reserve n F cert (mask_of xs) ≡ cond b 0 (essentials_outside n F xs) →
-        reserve n F cert (mask_of (x ∷ xs)) ≡ cond b 0 (essentials_outside n F (x ∷ xs)) →
-        reserve n F cert (mask_of xs) ≤ reserve n F cert (mask_of (x ∷ xs)) + width n F xs x
-    by true e f = omega arith
-    by false e f = let s = essentials_step n F xs x (absent_from_apart x xs d.0) in omega arith
+reserve_step n F cert x xs d small = grind (arith, reserve_mask, essentials_step, absent_from_apart)
 
 -- all variables have no reserve
 pub reserve_full : (n : ℕ) (F : List Function) (cert : Certificate) → reserve n F cert (2 ^ n - 1) ≡ 0
 unfolding reserve
-reserve_full n F cert = by (nat_eq cert.format 1) (essentials_all n F (members n (2 ^ n - 1)) (λ y lt. members_full n y ∙ (has_variables n y).1 lt))
-  where
-    by : (b : Bool) → essentials_outside n F (members n (2 ^ n - 1)) ≡ 0 → cond b 0 (essentials_outside n F (members n (2 ^ n - 1))) ≡ 0
-    by true e = refl
-    by false e = e
+reserve_full n F cert = grind (arith, essentials_all, members_full, has_variables)
 
 module _ (n : ℕ) (F : List Function) (cert : Certificate) (good : IsGood n F cert) where
   Small : Cell → Type 0
@@ -113,16 +92,12 @@ module _ (n : ℕ) (F : List Function) (cert : Certificate) (good : IsGood n F c
   unfolding Small
   value_le m =
       elim (value_cases n F cert m) [
-        | inl full ↦ let r : reserve n F cert m ≡ 0 = ap (reserve n F cert) (full.0 ∙ ap (λ k. 2 ^ k - 1) good.inputs)
-            ∙ reserve_full n F cert in
-            let e = full.1 in omega arith
+        | inl full ↦ grind (arith, reserve_full)
         | inr r ↦ elim r [
           | inl s ↦
               let c = s.0 in
-              let le : c.cost + reserve n F cert c.mask ≤ cert.total = all_among Small cert.cells c (recursion_from_All Small cert.cells good.cells) s.1 in
-              let there : reserve n F cert c.mask ≡ reserve n F cert m = ap (reserve n F cert) s.2 in
-              omega (arith, s.3)
-          | inr e ↦ omega (arith, e.2)
+              omega (arith, all_among Small cert.cells c (recursion_from_All Small cert.cells good.cells) s.1, ap (reserve n F cert) s.2)
+          | inr e ↦ omega arith
         ]
       ]
 
@@ -133,21 +108,18 @@ module _ (n : ℕ) (F : List Function) (cert : Certificate) (good : IsGood n F c
   unfolding mask_of IsDistinct
   edge below x d small low high =
       elim (value_cases n F cert (mask_of below)) [
-        | inl full ↦ let up = value_le (mask_of (x ∷ below)) in let e = full.1 in omega arith
+        | inl full ↦ omega (arith, value_le (mask_of (x ∷ below)))
         | inr r ↦ elim r [
           | inl s ↦
               let c = s.0 in
               let same : (y : ℕ) → has (members n c.mask) y ≡ has below y = λ y. ap (λ m. has (members n m) y) s.2
               ∙ members_mask_of n below d.1 (λ z h. small z (or_right _ _ h)) y in
-              let w : width n F (members n c.mask) x ≡ width n F below x = width_same n F (members n c.mask) below x same in
               let lawful = lawful_same cert.pairs (members n c.mask) below same ∙ low in
               let lawful' = lawful_same cert.pairs (x ∷ members n c.mask) (x ∷ below) (λ y. ap (λ b. nat_eq y x || b) (same y)) ∙ high in
               let step = all_among Edges cert.cells c (recursion_from_All Edges cert.cells good.edges) s.1 x
               (small x (or_left _ _ (eq-eqb x x refl))) (same x ∙ absent_from_apart x below d.0) (lawful, lawful') in
-              let there = ap (λ m. set_value n F cert (m + 2 ^ x)) s.2 in
-              let here = ap (set_value n F cert) s.2 in
-              omega arith
-          | inr e ↦ let up = value_le (mask_of (x ∷ below)) in let step = reserve_step n F cert x below d small in omega (arith, e.2)
+              omega (arith, width_same n F (members n c.mask) below x same, ap (λ m. set_value n F cert (m + 2 ^ x)) s.2, ap (set_value n F cert) s.2)
+          | inr e ↦ omega (arith, value_le (mask_of (x ∷ below)), reserve_step n F cert x below d small)
         ]
       ]
     where
@@ -166,65 +138,37 @@ module _ (n : ℕ) (F : List Function) (cert : Certificate) (good : IsGood n F c
   climb [] d small l = omega (arith, empty_value)
   climb (x ∷ xs) d small l =
       let parts = are_lawful_parts cert.pairs x xs l in
-      let rest = climb xs d.1 (λ y h. small y (or_right _ _ h)) parts.1 in
-      let up = edge xs x d small (lawful_whole cert.pairs xs parts.1) parts.0 in
-      omega arith
+      omega (arith, climb xs d.1 (λ y h. small y (or_right _ _ h)) parts.1, edge xs x d small (lawful_whole cert.pairs xs parts.1) parts.0)
 
 -- the total of a good certificate is at most the size of each order that keeps its pairs
 pub no_order_is_smaller : (n : ℕ) (F : List Function) (cert : Certificate) → IsGood n F cert → (order : List ℕ) → IsOrder n order →
     Keeps cert.pairs order → cert.total ≤ size_under n F order
 unfolding set_value
 no_order_is_smaller n F cert good order o k =
-    let all = climb n F cert good order o.once (λ y h. (o.all y).0 h) (lawful_from_order n cert.pairs order o k).lawful in
-    let e = size_is_cost n F order o in
-    let full = full_mask n order o in
     let total : set_value n F cert (mask_of order) ≡ cert.total =
-    ap (λ b. cond b cert.total
-    (option_map_or (λ (c : Cell). c.cost) (find (λ (c : Cell). nat_eq c.mask (mask_of order)) cert.cells)
-    (cert.total - reserve n F cert (mask_of order))))
-    (eq-eqb (mask_of order) (2 ^ cert.inputs - 1) (full ∙ ap (λ k. 2 ^ k - 1) (sym good.inputs))) in
-    omega arith
+    grind (arith, full_mask) in
+    omega (arith, climb n F cert good order o.once (λ y h. (o.all y).0 h) (lawful_from_order n cert.pairs order o k).lawful, size_is_cost n F order o)
 
 -- nor has any diagram of F fewer nodes, under any such order
 pub no_diagram_is_smaller : (n : ℕ) (F : List Function) (cert : Certificate) → IsGood n F cert → (order : List ℕ) (d : Graph) →
     IsOrder n order → Keeps cert.pairs order → Represents n F order d →
     cert.total ≤ length d.nodes
 no_diagram_is_smaller n F cert good order d o k rep =
-    let a = no_order_is_smaller n F cert good order o k in
-    let b = size_bound n F order d o rep in
-    omega arith
+    omega (arith, no_order_is_smaller n F cert good order o k, size_bound n F order d o rep)
 
 -- a good certificate's total is the fewest nodes under the orders that keep its pairs
 pub good_is_fewest : (n : ℕ) (F : List Function) (cert : Certificate) → IsGood n F cert → FewestKeeping n F cert.pairs cert.total
 unfolding size_under
 good_is_fewest n F cert good =
     let exact = exact_diagram n F cert.order good.order in
-    let total : size_under n F cert.order ≡ cert.total = ap sum (sym good.levels) ∙ sym good.total in
     record {
-      some = (cert.order, exact.0, good.order, good.pairs, exact.1.represents, exact.1.size ∙ total);
+      some = (cert.order, exact.0, good.order, good.pairs, exact.1.represents, exact.1.size ∙ (ap sum (sym good.levels) ∙ sym good.total));
       no_fewer = λ other d o k rep. no_diagram_is_smaller n F cert good other d o k rep;
     }
 
 -- no reason applies to a good certificate
 pub good_has_no_reason : (n : ℕ) (F : List Function) (cert : Certificate) → IsGood n F cert → (reason : Reason) → Applies n F cert reason → ⊥
-good_has_no_reason n F cert good Shape a = a (good.inputs, good.outputs)
-good_has_no_reason n F cert good Order a = a good.order
-good_has_no_reason n F cert good Pairs a = true≢false (sym good.pairs ∙ a)
-good_has_no_reason n F cert good Levels a = a good.levels
-good_has_no_reason n F cert good Total a = a good.total
-good_has_no_reason n F cert good Start a = a good.start
-good_has_no_reason n F cert good CellTooBig (c, at, lt) =
-    let le = All-contains (λ (c : Cell). c.cost + reserve n F cert c.mask ≤ cert.total) cert.cells c good.cells at in omega arith
-good_has_no_reason n F cert good (Edge mask x) (c, at, e, small, out, lawful, lt) =
-    let le = All-contains Edges cert.cells c good.edges at x small (ap (λ m. has (members n m) x) e ∙ out)
-    (ap (λ m. is_lawful cert.pairs (members n m)) e ∙ lawful.0, ap (λ m. is_lawful cert.pairs (x ∷ members n m)) e ∙ lawful.1) in
-    let here = ap (λ m. set_value n F cert m + width n F (members n m) x) e in
-    let there = ap (λ m. set_value n F cert (m + 2 ^ x)) e in
-    omega arith
-  where
-    Edges : Cell → Type 0
-    Edges c = (x : ℕ) → x < n → IsFalse (has (members n c.mask) x) → AreBothLawful n cert.pairs c.mask x →
-        set_value n F cert (c.mask + 2 ^ x) ≤ set_value n F cert c.mask + width n F (members n c.mask) x
+good_has_no_reason n F cert h reason k = grind arith
 
 -- its order keeps its pairs, and has its total
 pub good_order : (n : ℕ) (F : List Function) (cert : Certificate) → IsGood n F cert →

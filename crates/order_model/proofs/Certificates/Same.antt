@@ -1,12 +1,11 @@
 -- What certificates say of functions they say of others that are the same, function by function.
 --     certificate_same      the certificate that the tool writes
 --     good_same, first_reason_same      whether a certificate is good; the first reason why it is not
-use Rattle.std.proofs.Common.{◌≡◌, ℕ, suc, ◌+◌, ◌-◌, ◌^◌, ◌<◌, ◌≤◌, not, cond, ◌&&◌, ◌||◌, List, [], ◌∷◌, length, map, IsFalse, nat_eq, nat_lt, refl, sym, ap, ◌∙◌, subst}
-use Rattle.std.specs.List.{All, find, filter, list_any, range_with_len}
-use Rattle.std.specs.Option.{option_map_or}
+use Rattle.std.proofs.Common.{◌≡◌, ℕ, suc, ◌+◌, ◌^◌, ◌<◌, ◌≤◌, not, cond, ◌||◌, List, [], ◌∷◌, length, map, IsFalse, nat_eq, refl, sym, ap, ◌∙◌, subst}
+use Rattle.std.specs.List.{All, filter, list_any}
 use Rattle.order_model.specs.Functions.{Function, depends}
 use Rattle.order_model.specs.Orders.{has, members, variables}
-use Rattle.order_model.specs.Pairs.{Pair, is_lawful, sorted_pairs}
+use Rattle.order_model.specs.Pairs.{Pair, sorted_pairs}
 use Rattle.order_model.specs.Levels.{size_under, reach}
 use Rattle.order_model.specs.Widths.{width, cost, least, least_of, essential, essentials_outside, outside, arrangements}
 use Rattle.order_model.specs.Pairs.{are_lawful}
@@ -46,10 +45,7 @@ module _ (n : ℕ) (F G : List Function) (s : AllSame n F G) where
 
   listed_same : (P : List Pair) (total : ℕ) → listed_masks n F P total ≡ listed_masks n G P total
   unfolding listed_masks
-  listed_same P total =
-      λ i. filter
-      (λ mask. is_lawful P (members n mask) && nat_lt (least_same P (members n mask) i + essentials_same (members n mask) i) total)
-      (range_with_len 0 (2 ^ n - 1))
+  listed_same P total = search (least_same, essentials_same)
 
   cell_same : (P : List Pair) (mask : ℕ) → least_listed n F P mask ≡ least_listed n G P mask
   unfolding least_listed
@@ -81,10 +77,7 @@ module _ (n : ℕ) (F G : List Function) (s : AllSame n F G) where
 
   value_same : (cert : Certificate) (mask : ℕ) → set_value n F cert mask ≡ set_value n G cert mask
   unfolding set_value
-  value_same cert mask = λ i.
-      cond (nat_eq mask (2 ^ cert.inputs - 1)) cert.total
-      (option_map_or (λ (c : Cell). c.cost) (find (λ (c : Cell). nat_eq c.mask mask) cert.cells)
-      (cert.total - reserve_same cert mask i))
+  value_same cert mask = search reserve_same
 
   -- whether a certificate is good
   pub good_same : (cert : Certificate) → IsGood n F cert → IsGood n G cert

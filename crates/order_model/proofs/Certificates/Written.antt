@@ -1,10 +1,10 @@
 -- The certificate that the tool writes is good.
-use Rattle.std.proofs.Common.{◌≡◌, ◌≢◌, ℕ, ◌+◌, ◌-◌, ◌^◌, ◌<◌, ◌≤◌, Bool, true, false, not, eq-eqb, ne_eqb, ◌&&◌, ◌||◌, inl, inr, List, [], ◌∷◌, refl, sym, ap, ◌∙◌, subst, arith, nat_eq, ltb, pow_pos, IsFalse}
-use Rattle.std.specs.List.{range_with_len, AllByRecursion}
-use Rattle.std.proofs.lemmas.Bool.{cases_lt, cases_eq, or_left, and_parts, and_from, ltb-true, lt-ltb}
+use Rattle.std.proofs.Common.{◌≡◌, ◌≢◌, ℕ, ◌+◌, ◌-◌, ◌^◌, ◌<◌, ◌≤◌, true, false, eq-eqb, inl, inr, List, [], ◌∷◌, refl, sym, ap, ◌∙◌, subst, arith, nat_eq, pow_pos, IsFalse}
+use Rattle.std.specs.List.{AllByRecursion}
+use Rattle.std.proofs.lemmas.Bool.{cases_lt, or_left}
 use Rattle.std.proofs.lemmas.List.Elements.{All-from_recursion}
 use Rattle.order_model.specs.Functions.{Function}
-use Rattle.order_model.specs.Orders.{has, IsOrder, variables, members, without}
+use Rattle.order_model.specs.Orders.{has, IsOrder, members, without}
 use Rattle.order_model.specs.Pairs.{Pair, Keeps, is_lawful, sorted_pairs}
 use Rattle.order_model.specs.Levels.{size_under}
 use Rattle.order_model.specs.Widths.{width, least, essentials_outside}
@@ -27,23 +27,7 @@ mask_listed n F P m = refl
 
 -- a set, got from the set with x
 back : (x : ℕ) (S T : List ℕ) → has S x ≡ false → ((y : ℕ) → has (x ∷ S) y ≡ has T y) → (y : ℕ) → has S y ≡ has (without x T) y
-back x S T out h y = sym (has_without x T y ∙ ap (λ b. b && not (nat_eq x y)) (sym (h y)) ∙ by)
-  where
-    by : ((nat_eq y x || has S y) && not (nat_eq x y)) ≡ has S y
-    by =
-        elim (cases_eq y x) [
-          | inl e ↦ ap (λ b. (nat_eq y x || has S y) && not b) (eq-eqb x y (sym e)) ∙ last (nat_eq y x || has S y) ∙ sym (ap (has S) e ∙ out)
-          | inr ne ↦ ap (λ b. (b || has S y) && not (nat_eq x y)) (ne_eqb y x ne)
-              ∙ ap (λ b. has S y && not b) (ne_eqb x y (λ e. ne (sym e))) ∙ and_true (has S y)
-        ]
-      where
-        last : (a : Bool) → (a && false) ≡ false
-        last true = refl
-        last false = refl
-
-        and_true : (a : Bool) → (a && true) ≡ a
-        and_true true = refl
-        and_true false = refl
+back x S T out h y = grind (arith, has_without)
 
 all_from_among : {X : Type 0} (Q : X → Type 0) (xs : List X) → ((x : X) → Among x xs → Q x) → AllByRecursion Q xs
 all_from_among Q [] h = tt
@@ -68,48 +52,28 @@ module _ (n : ℕ) (F : List Function) (P : List Pair) (order : List ℕ) (best 
 
   listed_parts : (m : ℕ) → has (listed_masks n F P (size_under n F order)) m ≡ true → Listed m
   unfolding listed_masks Listed
-  listed_parts m h =
-      let test = λ (j : ℕ). is_lawful P (members n j) && ltb (least n F P (members n j) + essentials_outside n F (members n j)) (size_under n F order) in
-      let parts = and_parts (has (range_with_len 0 (2 ^ n - 1)) m) (test m) (sym (has_filter test (range_with_len 0 (2 ^ n - 1)) m) ∙ h) in
-      let more = and_parts (is_lawful P (members n m))
-      (ltb (least n F P (members n m) + essentials_outside n F (members n m)) (size_under n F order)) parts.1 in
-      let r = (has_range (2 ^ n - 1) 0 m).0 parts.0 in
-      (omega (arith, r.1), more.0, ltb-true (least n F P (members n m) + essentials_outside n F (members n m)) (size_under n F order) more.1)
+  listed_parts m h = grind (arith, has_filter, has_range)
 
   listed_from : (m : ℕ) → Listed m → has (listed_masks n F P (size_under n F order)) m ≡ true
   unfolding listed_masks Listed
-  listed_from m h =
-      let test = λ (j : ℕ). is_lawful P (members n j) && ltb (least n F P (members n j) + essentials_outside n F (members n j)) (size_under n F order) in
-      has_filter test (range_with_len 0 (2 ^ n - 1)) m
-      ∙ and_from _ _ ((has_range (2 ^ n - 1) 0 m).1 (omega arith, omega (arith, h.0)))
-      (and_from _ _ h.1 (lt-ltb (least n F P (members n m) + essentials_outside n F (members n m)) (size_under n F order) h.2))
+  listed_from m h = grind (arith, has_filter, has_range)
 
   -- the size of the order is the least cost of all variables
   total_least : size_under n F order ≡ least n F P (members n (2 ^ n - 1))
   total_least =
       let is = (has_fewest_lem n F P order).0 best in
-      let all = all_lawful n P order o k in
-      let low = lawful_same P (members n (2 ^ n - 1)) (variables n) (members_full n) ∙ all.lawful in
-      size_is_cost n F order o ∙ is.least_cost
-      ∙ sym (least_same n F P order (ground n P order o k) (members n (2 ^ n - 1)) (variables n)
-      (lawful_members n F P order o k (2 ^ n - 1) low) all (members_full n))
+      grind (arith, all_lawful, lawful_same, members_full, size_is_cost, least_same, lawful_members)
 
   cert : Certificate
   cert = certificate_of n F P order
 
   cell_parts : (c : Cell) → Among c cert.cells → Listed c.mask × (c.cost ≡ least n F P (members n c.mask))
   unfolding cert certificate_of least_listed
-  cell_parts c m =
-      let from = among_from_map (least_listed n F P) c (listed_masks n F P (size_under n F order)) m in
-      let h = listed_parts from.0 (among_has (listed_masks n F P (size_under n F order)) from.0 from.1) in
-      let e : c.mask ≡ from.0 = ap (λ (d : Cell). d.mask) from.2 in
-      (subst Listed (sym e) h, ap (λ (d : Cell). d.cost) from.2 ∙ ap (λ j. least n F P (members n j)) (sym e))
+  cell_parts c m = grind (arith, among_from_map, listed_parts, among_has)
 
   cell_from_listed : (m : ℕ) → Listed m → Among (least_listed n F P m) cert.cells
   unfolding cert certificate_of
-  cell_from_listed m h =
-      among_map (least_listed n F P) m (listed_masks n F P (size_under n F order))
-      (has_among (listed_masks n F P (size_under n F order)) m (listed_from m h))
+  cell_from_listed m h = grind (arith, among_map, has_among, listed_from)
 
   reserve_is : (m : ℕ) → reserve n F cert m ≡ essentials_outside n F (members n m)
   unfolding cert certificate_of reserve
@@ -129,18 +93,16 @@ module _ (n : ℕ) (F : List Function) (P : List Pair) (order : List ℕ) (best 
   value_at m lt l =
       elim (value_cases n F cert m) [
         | inl full ↦
-            let e = full.1 ∙ total_is ∙ total_least ∙ ap (λ j. least n F P (members n j)) (sym (full.0 ∙ ap (λ j. 2 ^ j - 1) inputs_is)) in
-            omega arith
+            omega (arith, full.1 ∙ total_is ∙ total_least ∙ ap (λ j. least n F P (members n j)) (sym (full.0 ∙ ap (λ j. 2 ^ j - 1) inputs_is)))
         | inr r ↦ elim r [
-          | inl s ↦ let c = cell_parts s.0 s.1 in let e = s.3 ∙ c.1 ∙ ap (λ j. least n F P (members n j)) s.2 in omega arith
+          | inl s ↦ let c = cell_parts s.0 s.1 in omega (arith, s.3 ∙ c.1 ∙ ap (λ j. least n F P (members n j)) s.2)
           | inr u ↦
-              let e = u.2 in
               let t = total_is in
               let v = reserve_is m in
               elim (cases_lt (least n F P (members n m) + essentials_outside n F (members n m)) (size_under n F order)) [
                 | inl low ↦
                     let ne : m ≢ 2 ^ n - 1 = λ f. u.1 (f ∙ ap (λ j. 2 ^ j - 1) (sym inputs_is)) in
-                    absurd (u.0 (least_listed n F P m) (cell_from_listed m (omega (arith, ne), l, low)) (mask_listed n F P m))
+                    absurd (u.0 (least_listed n F P m) (cell_from_listed m (omega arith, l, low)) (mask_listed n F P m))
                 | inr ge ↦ omega arith
               ]
         ]
@@ -151,7 +113,7 @@ module _ (n : ℕ) (F : List Function) (P : List Pair) (order : List ℕ) (best 
   unfolding Listed
   value_listed m h =
       elim (value_cases n F cert m) [
-        | inl full ↦ let e = full.0 ∙ ap (λ j. 2 ^ j - 1) inputs_is in absurd (omega (arith, h.0))
+        | inl full ↦ absurd (omega (arith, full.0 ∙ ap (λ j. 2 ^ j - 1) inputs_is))
         | inr r ↦ elim r [
           | inl s ↦ s.3 ∙ (cell_parts s.0 s.1).1 ∙ ap (λ j. least n F P (members n j)) s.2
           | inr u ↦ absurd (u.0 (least_listed n F P m) (cell_from_listed m h) (mask_listed n F P m))
@@ -160,16 +122,11 @@ module _ (n : ℕ) (F : List Function) (P : List Pair) (order : List ℕ) (best 
 
   -- the empty set is lawful, and has the least cost 0
   start_value : set_value n F cert 0 ≡ 0
-  start_value =
-      let none = members_zero n in
-      let low = ap (is_lawful P) none ∙ lawful_whole P [] (are_lawful_nil P) in
-      let le = value_at 0 (pow_pos n) low in
-      let e = ap (least n F P) none ∙ least-nil n F P in
-      omega arith
+  start_value = grind (arith, members_zero, value_at, pow_pos, lawful_whole, are_lawful_nil, least-nil)
 
   small_cells : (c : Cell) → Among c cert.cells → c.cost + reserve n F cert c.mask ≤ cert.total
   unfolding Listed
-  small_cells c m = let h = cell_parts c m in let r = reserve_is c.mask in let t = total_is in omega (arith, h.0.2, h.1)
+  small_cells c m = let h = cell_parts c m in omega (arith, reserve_is c.mask, total_is)
 
   pairs_is : (T : List ℕ) → is_lawful cert.pairs T ≡ is_lawful P T
   unfolding cert certificate_of o k
@@ -180,13 +137,10 @@ module _ (n : ℕ) (F : List Function) (P : List Pair) (order : List ℕ) (best 
   unfolding Listed
   edges_hold c m x small out lawful =
       let h = (cell_parts c m).0 in
-      let lt : c.mask < 2 ^ n = omega (arith, h.0) in
+      let lt : c.mask < 2 ^ n = omega arith in
       let with' = mask_with n c.mask x lt small out in
       let high = lawful_same P (members n (c.mask + 2 ^ x)) (x ∷ members n c.mask) with'.1 ∙ sym (pairs_is (x ∷ members n c.mask)) ∙ lawful.1 in
-      let le = value_at (c.mask + 2 ^ x) with'.0 high in
-      let e = value_listed c.mask h in
-      let step = grown c.mask x lt small out h.1 high in
-      omega arith
+      omega (arith, value_at (c.mask + 2 ^ x) with'.0 high, value_listed c.mask h, grown c.mask x lt small out h.1 high)
     where
       grown : (mask x : ℕ) → mask < 2 ^ n → x < n → has (members n mask) x ≡ false → is_lawful P (members n mask) ≡ true →
           is_lawful P (members n (mask + 2 ^ x)) ≡ true →
@@ -198,11 +152,9 @@ module _ (n : ℕ) (F : List Function) (P : List Pair) (order : List ℕ) (best 
           let same : (y : ℕ) → has (without x T) y ≡ has (members n mask) y = λ y. sym (back x (members n mask) T out (λ z. sym (with'.1 z)) y) in
           let l = lawful_same P (without x T) (members n mask) same ∙ low in
           let set = lawful_members n F P order o k (mask + 2 ^ x) high in
-          let le = recurrence_le n F P order (ground n P order o k) T x set there l in
           let a = least_same n F P order (ground n P order o k) (without x T) (members n mask)
           (without_top n F P order (ground n P order o k) T x set l) (lawful_members n F P order o k mask low) same in
-          let b = width_same n F (without x T) (members n mask) x same in
-          omega arith
+          omega (arith, recurrence_le n F P order (ground n P order o k) T x set there l, width_same n F (without x T) (members n mask) x same)
 
   -- the certificate that the tool writes is good
   pub written_is_good : IsGood n F (certificate_of n F P order)

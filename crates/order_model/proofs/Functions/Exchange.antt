@@ -2,10 +2,10 @@
 --     mix n xs a p      p with the variables of xs taken from a
 --     reach_same      the functions reached by two lists of the same variables are the same
 --     exchange      a level count is the width of its variable over the set of those below
-use Rattle.std.proofs.Common.{◌≡◌, ◌≢◌, ℕ, ◌+◌, ◌<◌, Bool, true, false, not, cond, ◌||◌, inl, inr, List, [], ◌∷◌, ◌++◌, map, length, set, replicate, refl, sym, ap, ◌∙◌, subst, arith, nat_eq, eq-eqb, ne_eqb, zero-add, take_at, ap₂}
+use Rattle.std.proofs.Common.{◌≡◌, ◌≢◌, ℕ, ◌+◌, ◌<◌, Bool, true, false, not, cond, ◌||◌, inl, inr, List, [], ◌∷◌, ◌++◌, map, length, set, replicate, refl, sym, ap, ◌∙◌, subst, arith, nat_eq, eq-eqb, zero-add, take_at, ap₂}
 use Rattle.std.specs.List.{filter, range_with_len, AllByRecursion, sum}
 use Rattle.std.proofs.lemmas.List.Sums.{sum_by-cons}
-use Rattle.std.proofs.lemmas.Bool.{cases_eq, or_left, or_right, and_parts}
+use Rattle.std.proofs.lemmas.Bool.{or_left, or_right, and_parts}
 use Rattle.std.proofs.lemmas.List.{length-set, length-replicate, get_or-set_same, get_or-set_other, get_or_at, append_assoc, length_push}
 use Rattle.std.proofs.lemmas.List.FromFn.{length-map-range_with_len, get_or-map-range_with_len, fill_by_all}
 use Rattle.order_model.specs.Functions.{Point, Function, bit, restrict, SameFunction, table, depends, same_table}
@@ -39,18 +39,7 @@ set-mix n xs a c p x b lt here others =
     mix_is n (x ∷ xs) c p (set (mix n xs a p) x b) (length-set (mix n xs a p) x b ∙ length-mix n xs a p) at
   where
     at : (y : ℕ) → y < n → bit (set (mix n xs a p) x b) y ≡ cond (nat_eq y x || has xs y) (bit c y) (bit p y)
-    at y h =
-        elim (cases_eq y x) [
-          | inl e ↦
-              let long = length-mix n xs a p in
-              let t = get_or-set_same (mix n xs a p) x b false (omega arith) in
-              let s : bit (set (mix n xs a p) x b) y ≡ b = ap (bit (set (mix n xs a p) x b)) e ∙ t in
-              let u : bit c y ≡ b = ap (bit c) e ∙ here in
-              s ∙ sym u ∙ ap (λ v. cond (v || has xs y) (bit c y) (bit p y)) (sym (eq-eqb y x e))
-          | inr ne ↦
-              get_or-set_other (mix n xs a p) x y b false ne ∙ bit-mix n xs a p y h ∙ ap (λ v. cond (has xs y) v (bit p y)) (sym (others y ne))
-              ∙ ap (λ v. cond (v || has xs y) (bit c y) (bit p y)) (sym (ne_eqb y x ne))
-        ]
+    at y h = grind (arith, get_or-set_same, length-mix, get_or-set_other, bit-mix)
 
 -- f with the variables of xs fixed to the values of a
 abbrev pub fixed : ℕ → List ℕ → Point → Function → Function
@@ -73,10 +62,9 @@ subfunctions_fix n (x ∷ xs) lt f g h =
         (a : Point) × (length a ≡ n) × SameFunction n g (fixed n (x ∷ xs) a f)
     by b r =
         let a = r.0 in
-        let long = r.1 in
-        let short : x < length a = subst (λ k. x < k) (sym long) lt.0 in (
+        let short : x < length a = subst (λ k. x < k) (sym r.1) lt.0 in (
           set a x b,
-          length-set a x b ∙ long,
+          length-set a x b ∙ r.1,
           λ p l. r.2 p l ∙ ap f (set-mix n xs a (set a x b) p x b lt.0 (get_or-set_same a x b false short) (λ y ne. get_or-set_other a x y b false ne)),
         )
 
@@ -104,25 +92,16 @@ pub reach_same : (n : ℕ) (F : List Function) (xs ys : List ℕ) → Below n xs
 unfolding reach SameFunction
 reach_same n F xs ys b c h g r =
     let from = among_from_flat_map (subfunctions xs) g F r in
-    let f = from.0 in
-    let fix = subfunctions_fix n xs b f g from.2 in
-    let a = fix.0 in
-    let to = fixing_reached n ys c f a in (
+    let fix = subfunctions_fix n xs b from.0 g from.2 in
+    let to = fixing_reached n ys c from.0 fix.0 in (
       to.0,
-      among_flat_map (subfunctions ys) f F to.0 from.1 to.1,
-      λ p l. fix.2 p l ∙ (λ i. f (map (λ y. cond (h y i) (bit a y) (bit p y)) (range_with_len 0 n))) ∙ sym (to.2 p l),
+      among_flat_map (subfunctions ys) from.0 F to.0 from.1 to.1,
+      λ p l. fix.2 p l ∙ (λ i. from.0 (map (λ y. cond (h y i) (bit fix.0 y) (bit p y)) (range_with_len 0 n))) ∙ sym (to.2 p l),
     )
 
 dependents_within : (n : ℕ) (fs gs : List Function) (x : ℕ) → ((g : Function) → Among g fs → (k : Function) × Among k gs × SameFunction n g k) →
     Within (map (table n) (filter (λ f. depends n f x) fs)) (map (table n) (filter (λ f. depends n f x) gs))
-dependents_within n fs gs x h t m =
-    let from = among_from_map (table n) t (filter (λ f. depends n f x) fs) m in
-    let g = from.0 in
-    let kept = among_from_filter (λ f. depends n f x) g fs from.1 in
-    let to = h g kept.0 in
-    let k = to.0 in
-    let in' = among_filter (λ f. depends n f x) k gs to.1 (sym (depends_same n g k x to.2) ∙ kept.1) in
-    subst (λ u. Among u (map (table n) (filter (λ f. depends n f x) gs))) (sym (from.2 ∙ table_same n g k to.2)) (among_map (table n) k _ in')
+dependents_within n fs gs x h t m = grind (arith, among_from_map, among_from_filter, among_filter, depends_same, table_same, among_map)
 
 -- what is counted depends on the set of restricted variables alone
 pub dependents_same : (n : ℕ) (F : List Function) (xs ys : List ℕ) (x : ℕ) → Below n xs → Below n ys → ((y : ℕ) → has xs y ≡ has ys y) →
@@ -172,8 +151,7 @@ unfolding cost
 levels_cost n F [] above o = refl
 levels_cost n F (x ∷ below) above o =
     let same = append_assoc above (x ∷ []) below in
-    let o' = subst (λ xs. IsOrder n xs) (sym same) o in
-    let rest = levels_cost n F below (above ++ x ∷ []) o' in
+    let rest = levels_cost n F below (above ++ x ∷ []) (subst (λ xs. IsOrder n xs) (sym same) o) in
     let long = length_push above x in
     sum_by-cons (λ z. z) (level_count n F (above ++ x ∷ below) (length above))
     (map (level_count n F (above ++ x ∷ below)) (range_with_len (length above + 1) (length below)))

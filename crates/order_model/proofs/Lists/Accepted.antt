@@ -10,7 +10,7 @@ use Rattle.std.proofs.lemmas.Nat.Bits.{bit_at-zero}
 use Rattle.std.specs.Int.{bit_at}
 use Rattle.std.proofs.lemmas.List.FromFn.{length-range_with_len}
 use Rattle.std.proofs.lemmas.Map.Steps.{length-le_from_distinct_below}
-use Rattle.order_model.specs.Orders.{IsOrder, has, variables, place_in}
+use Rattle.order_model.specs.Orders.{IsOrder, has, variables}
 use Rattle.order_model.specs.OrderFaults.{Accepts, IsInRange}
 use Rattle.order_model.proofs.Lists.Orders.{has_variables, has_at, place_get}
 use Rattle.order_model.proofs.Widths.Recurrence.{distinct_variables, apart_from_absent}
@@ -31,18 +31,12 @@ pub order_variables : (n : ℕ) → IsOrder n (variables n)
 order_variables n = record { all = has_variables n; once = distinct_variables n }
 
 pub accepts_variables : (n : ℕ) → 1 ≤ n → n ≤ 16 → Accepts (variables n)
-accepts_variables n a b =
-    let l = length-range_with_len 0 n in
-    let P : ℕ → Type 0 = λ k. IsOrder k (variables n) in
-    record { some = omega (arith, l); few = omega (arith, l); order = subst P (sym l) (order_variables n) }
+accepts_variables n a b = search (length-range_with_len, order_variables)
 
 -- distinct variables, each below their number, are an order
 module _ (xs : List ℕ) (below : All (λ x. x < length xs) xs) (once : IsDistinct eqb xs) where
   member_below : (y : ℕ) → has xs y ≡ true → y < length xs
-  member_below y h =
-      let r = index_of xs y h in
-      let P : ℕ → Type 0 = λ v. v < length xs in
-      subst P r.2 (below r.0 0 r.1)
+  member_below y h = grind (arith, index_of)
 
   with_one : (y : ℕ) → has xs y ≡ false → IsDistinct eqb (y ∷ xs)
   unfolding IsDistinct
@@ -56,7 +50,7 @@ module _ (xs : List ℕ) (below : All (λ x. x < length xs) xs) (once : IsDistin
       within q k = by (eqb q y) refl k
         where
           by : (b : Bool) → eqb q y ≡ b → (b || has xs q) ≡ true → q < length xs
-          by true f g = let e = eqb-true q y f in omega arith
+          by true f g = omega (arith, eqb-true q y f)
           by false f g = member_below q g
 
       too_many : suc (length xs) ≤ length xs → ⊥
@@ -71,10 +65,8 @@ accepts_distinct xs r once = record { some = r.some; few = r.few; order = distin
 -- in a list where a variable stands twice, the first place is not the second
 pub repeat_refutes : (xs : List ℕ) (j k : ℕ) → j < k → k < length xs → get_or xs j 0 ≡ get_or xs k 0 → IsDistinct eqb xs → ⊥
 repeat_refutes xs j k a b e once =
-    let p = place_get xs j once (omega arith) in
     let q = place_get xs k once b in
-    let s : place_in xs (get_or xs j 0) ≡ place_in xs (get_or xs k 0) = ap (place_in xs) e in
-    omega arith
+    grind (arith, place_get)
 
 -- the first i variables are apart, and the mask has just their bits
 pub record Seen (xs : List ℕ) (i mask : ℕ) : Type 0 where
@@ -127,12 +119,8 @@ variables_more n = ap variables (add-one n) ∙ range_last n 0 ∙ ap (λ z. var
 -- each variable of an order is below its length
 pub member_at : (n : ℕ) (order : List ℕ) (k d : ℕ) → IsOrder n order → k < length order → get_or order k d < n
 member_at n order k d o h =
-    let P : ℕ → Type 0 = λ v. v < n in
-    subst P (get_or_default order k 0 d h) ((o.all (get_or order k 0)).0 (has_at order k h))
+    subst (λ v. v < n) (get_or_default order k 0 d h) ((o.all (get_or order k 0)).0 (has_at order k h))
 
 -- and below 16
 pub member_small : (order : List ℕ) → Accepts order → All (λ x. x < 16) order
-member_small order a k d h =
-    let b = member_at (length order) order k d a.order h in
-    let f = a.few in
-    omega arith
+member_small order a k d h = omega (arith, member_at (length order) order k d a.order h)

@@ -3,12 +3,12 @@
 --     first_order_unique, first_keeping_unique      so are the first order that keeps the pairs, and the first of the fewest nodes
 --     cert_unique      so is the certificate that the tool writes
 --     first_without_pairs      without pairs the first order is the file order
-use Rattle.std.proofs.Common.{◌≡◌, ◌≢◌, ◌↔◌, ℕ, zero, suc, ◌+◌, ◌<◌, ◌≤◌, true, false, cond, inl, inr, List, [], ◌∷◌, refl, sym, ap, ap₂, ◌∙◌, subst, arith, nat_eq, eq-eqb, eqb-true, lt-ltb, le-ltb, nat_cmp, Ordering, Less, Equal, Greater}
-use Rattle.std.specs.Ordering.{ordering_reverse, ordering_then}
+use Rattle.std.proofs.Common.{◌≡◌, ◌≢◌, ◌↔◌, ℕ, zero, suc, ◌+◌, ◌<◌, ◌≤◌, true, false, List, [], ◌∷◌, refl, sym, ap, ◌∙◌, subst, arith, nat_eq, nat_cmp, Ordering, Less, Equal, Greater}
+use Rattle.std.specs.Ordering.{ordering_reverse}
 use Rattle.std.specs.Cmp.Lexicographic.{slice_cmp}
 use Rattle.std.specs.FinMap.{nat_cmp-IsAntisymmetric, slice_cmp-IsAntisymmetric}
 use Rattle.std.specs.List.{IsDistinct, range_with_len}
-use Rattle.std.proofs.lemmas.Bool.{false≢true, cases_eq, cases_order, or_cases, or_left, or_right}
+use Rattle.std.proofs.lemmas.Bool.{false≢true}
 use Rattle.std.proofs.lemmas.Cmp.{nat_list_cmp_total}
 use Rattle.order_model.specs.Functions.{Function}
 use Rattle.order_model.specs.Orders.{has, IsOrder, variables}
@@ -49,38 +49,8 @@ module _ (k a y : ℕ) (ys : List ℕ) (apart : has ys y ≡ false) (low : (z : 
     (all : (z : ℕ) → a ≤ z → z < a + suc k → has (y ∷ ys) z ≡ true)
     (rest : ((z : ℕ) → has ys z ≡ true → a + 1 ≤ z) → ((z : ℕ) → a + 1 ≤ z → z < a + 1 + k → has ys z ≡ true) →
     slice_cmp nat_cmp (range_with_len (a + 1) k) ys ≢ Greater) where
-  low_behind : a ≡ y → (z : ℕ) → has ys z ≡ true → a + 1 ≤ z
-  low_behind s z h = elim (cases_eq z y) [
-    | inl e ↦ absurd (false≢true (sym apart ∙ ap (has ys) (sym e) ∙ h))
-    | inr ne ↦ let le : a ≤ z = low z (or_right (nat_eq z y) (has ys z) h) in omega arith
-  ]
-
-  all_behind : a ≡ y → (z : ℕ) → a + 1 ≤ z → z < a + 1 + k → has ys z ≡ true
-  all_behind s z le lt = elim (or_cases (nat_eq z y) (has ys z) (all z (omega arith) (omega arith))) [
-    | inl e ↦ absurd (let t : z ≡ y = eqb-true z y e in omega arith)
-    | inr r ↦ r
-  ]
-
   none_before_more : slice_cmp nat_cmp (a ∷ range_with_len (a + 1) k) (y ∷ ys) ≢ Greater
-  none_before_more = elim (cases_order a y) [ inl s ↦ same s | inr d ↦ elim d [ inl lt ↦ above lt | inr gt ↦ absurd (below gt) ] ]
-    where
-      others : Ordering
-      others = slice_cmp nat_cmp (range_with_len (a + 1) k) ys
-
-      below : y < a → ⊥
-      below gt = let le : a ≤ y = low y (or_left (nat_eq y y) (has ys y) (eq-eqb y y refl)) in omega arith
-
-      above : a < y → slice_cmp nat_cmp (a ∷ range_with_len (a + 1) k) (y ∷ ys) ≢ Greater
-      above lt f = by (ap (λ r. ordering_then r others) (ap (λ b. cond b Less (cond (nat_eq a y) Equal Greater)) (sym (lt-ltb a y lt))) ∙ f)
-        where
-          by : Less ≡ Greater → ⊥
-          by g = cc
-
-      same : a ≡ y → slice_cmp nat_cmp (a ∷ range_with_len (a + 1) k) (y ∷ ys) ≢ Greater
-      same s f =
-          let is_equal : Equal ≡ nat_cmp a y =
-          ap₂ (λ b d. cond b Less (cond d Equal Greater)) (sym (le-ltb a y (let t = s in omega arith))) (sym (eq-eqb a y s)) in
-          rest (low_behind s) (all_behind s) (ap (λ r. ordering_then r others) is_equal ∙ f)
+  none_before_more = grind arith
 
 -- k numbers from a on, in a row, come after no list without repeats that has each of them and no smaller one
 none_before : (k a : ℕ) (ys : List ℕ) → IsDistinct nat_eq ys → ((z : ℕ) → has ys z ≡ true → a ≤ z) →

@@ -2,7 +2,7 @@
 --     crossed_is      what a swap makes
 --     has_crossed, length_crossed      it has the same members, and as many
 --     order_crossed, accepts_swap      it is an order again
-use Rattle.std.proofs.Common.{◌≡◌, ℕ, zero, suc, ◌+◌, ◌<◌, Bool, true, false, ◌||◌, List, [], ◌∷◌, length, set, get_or, swap, refl, sym, ap, ◌∙◌, subst, arith, nat_eq, eq-eqb, ne_eqb, add-one}
+use Rattle.std.proofs.Common.{◌≡◌, ℕ, zero, suc, ◌+◌, ◌<◌, false, ◌||◌, List, [], ◌∷◌, length, set, get_or, swap, refl, sym, ap, ◌∙◌, arith, nat_eq, eq-eqb, ne_eqb, add-one}
 use Rattle.std.specs.List.{IsDistinct, AllByRecursion}
 use Rattle.std.proofs.lemmas.Bool.{true≢false}
 use Rattle.std.proofs.lemmas.List.Edits.{swap_is}
@@ -30,12 +30,7 @@ crossed_is order i h =
 pub has_crossed : (order : List ℕ) (i z : ℕ) → has (crossed order i) z ≡ has order z
 has_crossed [] i z = refl
 has_crossed (x ∷ []) i z = refl
-has_crossed (x ∷ y ∷ order) zero z = turn (nat_eq z y) (nat_eq z x) (has order z)
-  where
-    turn : (a b c : Bool) → (a || (b || c)) ≡ (b || (a || c))
-    turn true true c = refl
-    turn true false c = refl
-    turn false b c = refl
+has_crossed (x ∷ y ∷ order) zero z = grind arith
 has_crossed (x ∷ y ∷ order) (suc i) z = ap (λ b. nat_eq z x || b) (has_crossed (y ∷ order) i z)
 
 pub length_crossed : (order : List ℕ) (i : ℕ) → length (crossed order i) ≡ length order
@@ -61,16 +56,7 @@ distinct_crossed (x ∷ y ∷ order) zero d = ((other_way x y d.0.0, d.1.0), (d.
 distinct_crossed (x ∷ y ∷ order) (suc i) d = (all_crossed (λ w. nat_eq x w ≡ false) (y ∷ order) i d.0, distinct_crossed (y ∷ order) i d.1)
 
 pub order_crossed : (n : ℕ) (order : List ℕ) (i : ℕ) → IsOrder n order → IsOrder n (crossed order i)
-order_crossed n order i o = record {
-  all = λ x. (λ h. (o.all x).0 (sym (has_crossed order i x) ∙ h), λ h. has_crossed order i x ∙ (o.all x).1 h);
-  once = distinct_crossed order i o.once;
-}
+order_crossed n order i o = grind (arith, has_crossed, distinct_crossed)
 
 pub accepts_swap : (order : List ℕ) (i : ℕ) → i + 1 < length order → Accepts order → Accepts (swap order i (i + 1))
-accepts_swap order i h a =
-    let long = length_crossed order i in
-    let some = a.some in
-    let few = a.few in
-    let turned = order_crossed (length order) order i a.order in
-    subst Accepts (sym (crossed_is order i h))
-    (record { some = omega arith; few = omega arith; order = subst (λ m. IsOrder m (crossed order i)) (sym long) turned })
+accepts_swap order i h a = search (length_crossed, order_crossed, crossed_is)

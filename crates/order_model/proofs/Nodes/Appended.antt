@@ -22,7 +22,7 @@ pub get_cases : {X : Type 0} (xs ys : List X) (k : ℕ) (z : X) → slice_get (x
     (slice_get xs k ≡ Some z) ⊎ ((j : ℕ) × (k ≡ length xs + j) × (slice_get ys j ≡ Some z))
 get_cases [] ys k z e = inr (k, sym (zero-add k), e)
 get_cases (x ∷ xs) ys zero z e = inl e
-get_cases (x ∷ xs) ys (suc k) z e = elim (get_cases xs ys k z e) [ inl a ↦ inl a | inr b ↦ let f = b.1 in inr (b.0, omega arith, b.2) ]
+get_cases (x ∷ xs) ys (suc k) z e = elim (get_cases xs ys k z e) [ inl a ↦ inl a | inr b ↦ inr (b.0, omega arith, b.2) ]
 
 -- a list of nodes, with no root
 abbrev pub graph_of : List Node → Graph
@@ -38,18 +38,17 @@ module _ (n : ℕ) (old more : List Node) (fit : AllFit n old) (all : AllFit n (
   -- the old refs keep their values
   pub value_append : (p : Point) (k : ℕ) (r : Ref) → k ≤ length old → IsBefore k r → value (old ++ more) r p ≡ value old r p
   value_append p k (Terminal b) le h = value_terminal (old ++ more) p b ∙ sym (value_terminal old p b)
-  value_append p zero (Place j) le h = absurd (omega (arith, h))
+  value_append p zero (Place j) le h = absurd (omega arith)
   value_append p (suc k) (Place j) le h =
       elim (slice_get_cases old j).1 [
         | inl found ↦ at found.0 found.2 (λ r f. value_append p k r (omega arith) f)
-        | inr past ↦ absurd (omega (arith, past.0, h))
+        | inr past ↦ absurd (omega arith)
       ]
     where
       at : (node : Node) → slice_get old j ≡ Some node → ((r : Ref) → IsBefore k r → value (old ++ more) r p ≡ value old r p) →
           value (old ++ more) (Place j) p ≡ value old (Place j) p
       at node e r =
-          let lt : j < length old = omega (arith, h) in
           let c = child_at p node in
-          value_place n (graph_of (old ++ more)) (diagram_of n (old ++ more) all) p j node (get_left old more j lt ∙ e)
-          ∙ r c (before_more j k c (omega (arith, h)) (child_before n (graph_of old) (diagram_of n old fit) j node (bit p node.variable) e))
+          value_place n (graph_of (old ++ more)) (diagram_of n (old ++ more) all) p j node (get_left old more j (omega arith) ∙ e)
+          ∙ r c (before_more j k c (omega arith) (child_before n (graph_of old) (diagram_of n old fit) j node (bit p node.variable) e))
           ∙ sym (value_place n (graph_of old) (diagram_of n old fit) p j node e)

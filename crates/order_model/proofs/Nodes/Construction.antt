@@ -20,7 +20,7 @@ use Rattle.order_model.specs.Diagrams.{Graph, IsBefore, IsOrdered, IsOf, Represe
 use Rattle.order_model.proofs.Lists.Sets.{Among, among_left, among_right, among_cases, among_filter, among_from_filter, among_map, among_from_map, among_flat_map, among_from_flat_map, among_unique, unique_among}
 use Rattle.order_model.proofs.Functions.Tables.{same_trans, same_from_table, same_table_decides}
 use Rattle.order_model.proofs.Lists.Orders.{has_at, place_get}
-use Rattle.order_model.proofs.Nodes.Paths.{before_more, child_has, child_is_before, value_place, value_terminal}
+use Rattle.order_model.proofs.Nodes.Paths.{before_more, child_has, value_place, value_terminal}
 use Rattle.order_model.proofs.Functions.Exchange.{mix_is, Below, subfunctions_fix, below_from_has, above_width, level_lem, size_is_cost}
 use Rattle.order_model.proofs.Nodes.Appended.{get_left, get_right, get_cases, graph_of, AllFit, diagram_of, value_append}
 
@@ -94,10 +94,11 @@ count_none p (x ∷ xs) h = sum_by-cons (λ y. cond (p y) 1 0) x xs ∙ ap (λ b
 count_all : {X : Type 0} (p : X → Bool) (xs : List X) → ((k : ℕ) (x : X) → slice_get xs k ≡ Some x → p x ≡ true) → count_by p xs ≡ length xs
 count_all p [] h = refl
 count_all p (x ∷ xs) h =
-    let a = sum_by-cons (λ y. cond (p y) 1 0) x xs in
     let b = ap (λ b. cond b 1 0 + count_by p xs) (h 0 x refl) in
-    let c = count_all p xs (λ k y e. h (suc k) y e) in
-    a ∙ b ∙ (let g : 1 + count_by p xs ≡ suc (length xs) = omega arith in g)
+    (sum_by-cons (λ y. cond (p y) 1 0) x xs) ∙ b ∙ (let g : 1 + count_by p xs ≡ suc (length xs) = omega (
+      arith,
+      count_all p xs (λ k y e. h (suc k) y e),
+    ) in g)
 
 -- ---- new nodes
 
@@ -173,7 +174,7 @@ module _ (n : ℕ) (F : List Function) (order : List ℕ) (o : IsOrder n order) 
   at_place = ap (λ xs. get_or xs (length above) 0) (sym same) ∙ get_or_at above x below 0 (length above) refl
 
   inside : length above < length order
-  inside = let e = ap length same in let f = length-append above (x ∷ below) in omega arith
+  inside = omega (arith, ap length same, length-append above (x ∷ below))
 
   place_x : place_in order x ≡ length above
   place_x = ap (place_in order) (sym at_place) ∙ place_get order (length above) o.once inside
@@ -197,8 +198,7 @@ module _ (n : ℕ) (F : List Function) (order : List ℕ) (o : IsOrder n order) 
       let low = rest.denoted (restrict x false g) (reach_more F above x false g reached) in
       let high = rest.denoted (restrict x true g) (reach_more F above x true g reached) in
       let node : Node = record { variable = x; low = low.0; high = high.0 } in
-      let made : Made n rest.nodes x g node = record { variable = refl; low_before = low.1; high_before = high.1; low = low.2; high = high.2 } in
-      (node, (g, from.2, made))
+      (node, (g, from.2, record { variable = refl; low_before = low.1; high_before = high.1; low = low.2; high = high.2 }))
 
   made_nodes : (more : List Node) × AllZip (Stands n rest.nodes x) more tables
   made_nodes = make n rest.nodes x tables node_for
@@ -224,33 +224,16 @@ module _ (n : ℕ) (F : List Function) (order : List ℕ) (o : IsOrder n order) 
   node_at_both k node e = get_cases rest.nodes more k node e
 
   both_fit : AllFit n both
-  both_fit k node e =
-      elim (node_at_both k node e) [
-        | inl a ↦ rest.fits k node a
-        | inr b ↦
-            let s = (new_node b.0 node b.2).1.2 in
-            let le : length rest.nodes ≤ k = let f = b.1 in omega arith in
-            let v : node.variable < n = let f = s.variable in let g = small_x in omega arith in
-            record {
-              variable =
-                  v;
-              low = before_more (length rest.nodes) k node.low le s.low_before;
-              high = before_more (length rest.nodes) k node.high le s.high_before;
-            }
-      ]
+  both_fit k node e = grind (arith, node_at_both, new_node, small_x)
 
   new_place : (j : ℕ) (node : Node) → slice_get more j ≡ Some node → place_in order node.variable ≡ length above
   new_place j node e = ap (place_in order) (new_node j node e).1.2.variable ∙ place_x
 
   old_place : (k : ℕ) (node : Node) → slice_get rest.nodes k ≡ Some node → suc (length above) ≤ place_in order node.variable
-  old_place k node e = let l = length_push above x in let a = rest.deep k node e in omega arith
+  old_place k node e = omega (arith, length_push above x, rest.deep k node e)
 
   both_low : (k : ℕ) (node : Node) → slice_get both k ≡ Some node → length above ≤ place_in order node.variable
-  both_low k node e =
-      elim (node_at_both k node e) [
-        | inl a ↦ let b = old_place k node a in omega arith
-        | inr b ↦ let c = new_place b.0 node b.2 in omega arith
-      ]
+  both_low k node e = grind (arith, node_at_both, old_place, new_place)
 
   -- a child is an old node
   old_child : (j k : ℕ) (child : Node) → slice_get both j ≡ Some child → j < length rest.nodes → slice_get rest.nodes j ≡ Some child
@@ -259,20 +242,7 @@ module _ (n : ℕ) (F : List Function) (order : List ℕ) (o : IsOrder n order) 
 
   both_ordered : IsOrdered order (graph_of both)
   unfolding IsOrdered
-  both_ordered j k child parent cj pk is =
-      elim (node_at_both k parent pk) [
-        | inl a ↦
-            let fit = rest.fits k parent a in
-            let lt : j < k = child_is_before k (Place j) parent is fit.low fit.high in
-            let kt = slice_get_within rest.nodes k parent a in
-            rest.ordered j k child parent (old_child j k child cj (omega arith)) a is
-        | inr b ↦
-            let s = (new_node b.0 parent b.2).1.2 in
-            let lt : j < length rest.nodes = child_is_before (length rest.nodes) (Place j) parent is s.low_before s.high_before in
-            let c = old_place j child (old_child j k child cj lt) in
-            let p = new_place b.0 parent b.2 in
-            omega arith
-      ]
+  both_ordered j k child parent cj pk is = grind (arith, node_at_both, slice_get_within, new_node, old_place, new_place)
 
   -- a new node denotes its function
   new_value : (j : ℕ) (node : Node) → slice_get more j ≡ Some node → (g : Function) → Made n rest.nodes x g node →
@@ -293,10 +263,10 @@ module _ (n : ℕ) (F : List Function) (order : List ℕ) (o : IsOrder n order) 
   length_both = length-append rest.nodes more
 
   new_before : (j : ℕ) (node : Node) → slice_get more j ≡ Some node → IsBefore (length both) (Place (length rest.nodes + j))
-  new_before j node e = let l = length_both in let m = slice_get_within more j node e in omega arith
+  new_before j node e = omega (arith, length_both, slice_get_within more j node e)
 
   old_before : (r : Ref) → IsBefore (length rest.nodes) r → IsBefore (length both) r
-  old_before r b = before_more (length rest.nodes) (length both) r (let l = length_both in omega arith) b
+  old_before r b = before_more (length rest.nodes) (length both) r (omega (arith, length_both)) b
 
   kept : (r : Ref) → IsBefore (length rest.nodes) r → SameFunction n (value both r) (value rest.nodes r)
   unfolding SameFunction both
@@ -311,12 +281,10 @@ module _ (n : ℕ) (F : List Function) (order : List ℕ) (o : IsOrder n order) 
             among_unique same_table same_table_decides (map (table n) own) (table n g)
             (among_map (table n) g own (among_filter (λ f. depends n f x) g (reach F above) h dep)) in
             let at = zip_find (Stands n rest.nodes x) more tables (table n g) made_nodes.1 listed in
-            let j = at.0 in
-            let other = at.3.0 in
-            let here = new_value j at.1 at.2 other at.3.2 in (
-              Place (length rest.nodes + j),
-              new_before j at.1 at.2,
-              same_trans n (value both (Place (length rest.nodes + j))) other g here (same_from_table n other g (sym at.3.1)),
+            let here = new_value at.0 at.1 at.2 at.3.0 at.3.2 in (
+              Place (length rest.nodes + at.0),
+              new_before at.0 at.1 at.2,
+              same_trans n (value both (Place (length rest.nodes + at.0))) at.3.0 g here (same_from_table n at.3.0 g (sym at.3.1)),
             )
         | inr free ↦
             let old = rest.denoted (restrict x false g) (reach_more F above x false g h) in
@@ -344,7 +312,7 @@ module _ (n : ℕ) (F : List Function) (order : List ℕ) (o : IsOrder n order) 
         | inl e ↦
             let old = count_none (λ (node : Node). nat_eq node.variable y) rest.nodes
             (λ k node f. ne_eqb node.variable y
-            (λ v. let a = old_place k node f in let b = ap (place_in order) (v ∙ e) ∙ place_x in omega arith)) in
+            (λ v. omega (arith, old_place k node f, ap (place_in order) (v ∙ e) ∙ place_x))) in
             let new = count_all (λ (node : Node). nat_eq node.variable y) more
             (λ k node f. eq-eqb node.variable y ((new_node k node f).1.2.variable ∙ sym e)) in
             let level = ap (level_count n F order) (ap (place_in order) e ∙ place_x) ∙ level_x in
@@ -358,12 +326,7 @@ module _ (n : ℕ) (F : List Function) (order : List ℕ) (o : IsOrder n order) 
 
   both_total : length both ≡ cost n F (x ∷ below)
   unfolding cost
-  both_total =
-      let a = length_both in
-      let b = count_more in
-      let c = above_width n F above x below own_order in
-      let d = rest.total in
-      omega arith
+  both_total = omega (arith, length_both, count_more, above_width n F above x below own_order)
 
   one_up : Built n F order above (x ∷ below)
   one_up = record { nodes = both; fits = both_fit; ordered = both_ordered; deep = both_low; denoted = both_denoted; exact = both_exact; total = both_total }

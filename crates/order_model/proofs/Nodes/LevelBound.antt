@@ -1,7 +1,7 @@
 -- Each ordered diagram has on each level at least the level count.
 --     descend      each subfunction by the variables above a level is the function of some ref that stands from that level on
 --     level_bound, size_bound      at least the level count of nodes on each level; at least the size of the order in all
-use Rattle.std.proofs.Common.{◌≡◌, ℕ, zero, suc, ◌+◌, ◌<◌, ◌≤◌, Bool, true, false, cond, ◌||◌, inl, inr, List, [], ◌∷◌, map, length, set, get_or, take, slice_get, slice_index, refl, sym, ap, ◌∙◌, subst, arith, nat_eq, eqb-true, eq-eqb, zero-add, add-zero, Some}
+use Rattle.std.proofs.Common.{◌≡◌, ℕ, zero, suc, ◌+◌, ◌<◌, ◌≤◌, Bool, true, false, cond, ◌||◌, inl, inr, List, [], ◌∷◌, map, length, set, get_or, take, slice_get, slice_index, refl, sym, ap, ◌∙◌, subst, arith, nat_eq, eqb-true, zero-add, add-zero, Some}
 use Rattle.std.specs.List.{filter, flat_map, enumerate_from, AllZip, AllByRecursion, IsDistinct, count_by, sum, range_with_len}
 use Rattle.std.proofs.lemmas.Bool.{true≢false, cases_eq}
 use Rattle.std.proofs.lemmas.List.{length-set, length-map, length-take-le, get_or-set_same, get_or-take}
@@ -67,12 +67,11 @@ module _ (n : ℕ) (order : List ℕ) (d : Graph) (ok : IsDiagram n d) (ordered 
       let c = cond b node.high node.low in
       let before : IsBefore (length d.nodes) c = before_more k (length d.nodes) c (omega arith) (child_before n d ok k node b is) in
       let stands =
-      stands_less order d.nodes (suc i) (suc (place_in order node.variable)) c (let t = ap (place_in order) v in omega arith)
+      stands_less order d.nodes (suc i) (suc (place_in order node.variable)) c (omega (arith, ap (place_in order) v))
       (child_stands n order d ok ordered k node b is) in (
         c,
         λ p l.
-            let inside : x < length p = omega arith in
-            let bit_is : bit (set p x b) node.variable ≡ b = ap (bit (set p x b)) v ∙ get_or-set_same p x b false inside in
+            let bit_is : bit (set p x b) node.variable ≡ b = ap (bit (set p x b)) v ∙ get_or-set_same p x b false (omega arith) in
             sym (free (suc i) x (omega arith) b p c before stands)
             ∙ ap (λ w. value d.nodes (cond w node.high node.low) (set p x b)) (sym bit_is)
             ∙ sym (value_place n d ok (set p x b) k node is)
@@ -91,10 +90,9 @@ module _ (n : ℕ) (order : List ℕ) (d : Graph) (ok : IsDiagram n d) (ordered 
             elim (cases_eq (place_in order found.0.variable) i) [
               | inl e ↦ go_down i x at.0 at.1 b f k found.0 found.2 (at.2 found.0.variable e) before same
               | inr ne ↦ stay i x at.0 b f (Place k) same before
-                  (λ node is. let g = stands found.0 found.2 in let s = ap variable_of (same_Some node found.0 (sym is ∙ found.2)) in
-                  omega arith)
+                  (λ node is. omega (arith, ap variable_of (same_Some node found.0 (sym is ∙ found.2))))
             ]
-        | inr past ↦ absurd (omega (arith, past.0, before))
+        | inr past ↦ absurd (omega arith)
       ]
     where
       variable_of : Node → ℕ
@@ -116,24 +114,12 @@ module _ (n : ℕ) (order : List ℕ) (d : Graph) (ok : IsDiagram n d) (ordered 
   node_of : (i x : ℕ) → AtPlaces n order i (x ∷ []) → (g : Function) → Denotes i g → depends n g x ≡ true →
       (k : ℕ) × (node : Node) × (slice_get d.nodes k ≡ Some node) × (node.variable ≡ x) × SameFunction n (value d.nodes (Place k)) g
   unfolding StandsFrom SameFunction DependsOn restrict
-  node_of i x at g (Terminal t, same, before, stands) dep =
-      absurd (depends_true n g x dep
-      (λ p l. sym (same (set p x false) (length-set p x false ∙ l)) ∙ value_terminal d.nodes (set p x false) t
-      ∙ sym (value_terminal d.nodes (set p x true) t) ∙ same (set p x true) (length-set p x true ∙ l)))
+  node_of i x at g (Terminal t, same, before, stands) dep = grind (arith, depends_true, length-set, value_terminal)
   node_of i x at g (Place k, same, before, stands) dep =
       elim (slice_get_cases d.nodes k).1 [
         | inl found ↦
-            elim (cases_eq (place_in order found.0.variable) i) [
-              | inl e ↦ (k, found.0, found.2, at.2 found.0.variable e, same)
-              | inr ne ↦
-                  let below : StandsFrom order d.nodes (suc i) (Place k) = λ node is. let g = stands found.0 found.2 in
-                  let s = ap variable_of (same_Some node found.0 (sym is ∙ found.2)) in omega arith in
-                  let lt : place_in order x < suc i = omega (arith, at.0) in
-                  absurd (depends_true n g x dep (λ p l.
-                  sym (same (set p x false) (length-set p x false ∙ l)) ∙ free (suc i) x lt false p (Place k) before below
-                  ∙ sym (free (suc i) x lt true p (Place k) before below) ∙ same (set p x true) (length-set p x true ∙ l)))
-            ]
-        | inr past ↦ absurd (omega (arith, past.0, before))
+            grind (arith, depends_true, length-set, free)
+        | inr past ↦ absurd (omega arith)
       ]
     where
       variable_of : Node → ℕ
@@ -153,30 +139,24 @@ pub enumerated : {X : Type 0} (xs : List X) (s k : ℕ) (x : X) → slice_get xs
 enumerated [] s k x e = cc
 enumerated (y ∷ xs) s zero x e = inl (λ i. (add-zero s i, same_Some x y (sym e) i))
 enumerated (y ∷ xs) s (suc k) x e =
-    inr (let t : s + 1 + k ≡ s + suc k = omega arith in
-    subst (λ j. Among (j, x) (enumerate_from (s + 1) xs)) t (enumerated xs (s + 1) k x e))
+    inr (subst (λ j. Among (j, x) (enumerate_from (s + 1) xs)) (omega arith) (enumerated xs (s + 1) k x e))
 
 pub count_enumerated : {X : Type 0} (p : X → Bool) (xs : List X) (s : ℕ) → length (filter (λ (e : ℕ × X). p e.1) (enumerate_from s xs)) ≡ length (filter p xs)
 count_enumerated p [] s = refl
-count_enumerated {X} p (x ∷ xs) s = by (p x) (count_enumerated p xs (s + 1))
-  where
-    by : (b : Bool) → length (filter (λ (e : ℕ × X). p e.1) (enumerate_from (s + 1) xs)) ≡ length (filter p xs) →
-        length (cond b ((s, x) ∷ filter (λ (e : ℕ × X). p e.1) (enumerate_from (s + 1) xs))
-        (filter (λ (e : ℕ × X). p e.1) (enumerate_from (s + 1) xs))) ≡
-        length (cond b (x ∷ filter p xs) (filter p xs))
-    by true e = ap suc e
-    by false e = e
+count_enumerated {X} p (x ∷ xs) s = grind (arith, count_enumerated p xs (s + 1))
 
 -- each level has at least its count of nodes
 pub level_bound : (n : ℕ) (F : List Function) (order : List ℕ) (d : Graph) → IsOrder n order → Represents n F order d → (i : ℕ) → i < length order →
     level_count n F order i ≤ nodes_at d (slice_index order i)
 unfolding level_count dependents reach nodes_at IsOf
 level_bound n F order d o rep i lt =
-    let e = count_le same_table same_table_decides found tables within in
-    let l = length-map places place_table in
-    let m = count_enumerated test d.nodes 0 in
-    let k = length-filter test d.nodes in
-    omega arith
+    omega (
+      arith,
+      count_le same_table same_table_decides found tables within,
+      length-map places place_table,
+      count_enumerated test d.nodes 0,
+      length-filter test d.nodes,
+    )
   where
     x : ℕ
     x = slice_index order i
@@ -226,11 +206,7 @@ level_bound n F order d o rep i lt =
         let e : 0 + length above ≡ i = omega (arith, long) in
         let den = subst (λ j. Denotes n order d rep.diagram rep.ordered j g) e (descend n order d rep.diagram rep.ordered above 0 all_above of.0 m g of.2) in
         let at = node_of n order d rep.diagram rep.ordered i x own g den kept.1 in
-        let k = at.0 in
-        let node = at.1 in
-        let listed = subst (λ j. Among (j, node) (enumerate_from 0 d.nodes)) (zero-add k) (enumerated d.nodes 0 k node at.2) in
-        subst (λ u. Among u tables) (sym (from.2 ∙ sym (table_same n (value d.nodes (Place k)) g at.4)))
-        (among_map place_table (k, node) places (among_filter (λ e. test e.1) (k, node) (enumerate_from 0 d.nodes) listed (eq-eqb node.variable x at.3)))
+        grind (arith, enumerated, table_same, among_map, among_filter)
 
 -- ---- all levels
 
@@ -240,18 +216,19 @@ sum_map_le f g (suc k) a h =
     let r = sum_map_le f g k (a + 1) (λ i l. h i (omega arith)) in
     let x = sum_by-cons (λ z. z) (f a) (map f (range_with_len (a + 1) k)) in
     let y = sum_by-cons (λ z. z) (g a) (map g (range_with_len (a + 1) k)) in
-    let z = h a (omega arith) in
     omega arith
 
 count_or : {X : Type 0} (p q : X → Bool) → ((x : X) → p x ≡ true → q x ≡ false) → (xs : List X) → count_by p xs + count_by q xs ≤ count_by (λ x. p x || q x) xs
 count_or p q h [] = omega arith
 count_or {X} p q h (x ∷ xs) =
-    let r = count_or p q h xs in
-    let a = sum_by-cons (λ y. cond (p y) 1 0) x xs in
-    let b = sum_by-cons (λ y. cond (q y) 1 0) x xs in
-    let c = sum_by-cons (λ y. cond (p y || q y) 1 0) x xs in
-    let e = one (p x) (q x) (h x) in
-    omega arith
+    omega (
+      arith,
+      count_or p q h xs,
+      sum_by-cons (λ y. cond (p y) 1 0) x xs,
+      sum_by-cons (λ y. cond (q y) 1 0) x xs,
+      sum_by-cons (λ y. cond (p y || q y) 1 0) x xs,
+      one (p x) (q x) (h x),
+    )
   where
     one : (s t : Bool) → (s ≡ true → t ≡ false) → cond s 1 0 + cond t 1 0 ≤ cond (s || t) 1 0
     one true true k = absurd (true≢false (k refl))
@@ -263,11 +240,9 @@ levels_apart : (d : Graph) (xs : List ℕ) → IsDistinct nat_eq xs → sum (map
 unfolding IsDistinct nodes_at
 levels_apart d [] h = omega arith
 levels_apart d (x ∷ xs) h =
-    let r = levels_apart d xs h.1 in
-    let s = sum_by-cons (λ y. y) (nodes_at d x) (map (nodes_at d) xs) in
     let c = count_or (λ (node : Node). nat_eq node.variable x) (λ (node : Node). has xs node.variable)
     (λ node e. ap (has xs) (eqb-true node.variable x e) ∙ absent_from_apart x xs h.0) d.nodes in
-    omega arith
+    omega (arith, levels_apart d xs h.1, sum_by-cons (λ y. y) (nodes_at d x) (map (nodes_at d) xs))
 
 -- a diagram of F ordered under the order has at least the order's size of nodes
 pub size_bound : (n : ℕ) (F : List Function) (order : List ℕ) (d : Graph) → IsOrder n order → Represents n F order d → size_under n F order ≤ length d.nodes
@@ -275,8 +250,10 @@ unfolding size_under level_counts
 size_bound n F order d o rep =
     let a = sum_map_le (level_count n F order) (λ i. nodes_at d (slice_index order i)) (length order) 0
     (λ i l. level_bound n F order d o rep i (omega arith)) in
-    let b = ap (λ xs. sum (map (nodes_at d) xs)) (fill_by_all (λ i. slice_index order i) order (length order) 0 refl (λ k l. refl)) in
-    let c = map-map (nodes_at d) (λ i. slice_index order i) (range_with_len 0 (length order)) in
-    let e = levels_apart d order o.once in
-    let f = count_by-le-length (λ (node : Node). has order node.variable) d.nodes in
-    omega (arith, ap sum c)
+    omega (
+      arith,
+      ap sum (map-map (nodes_at d) (λ i. slice_index order i) (range_with_len 0 (length order))),
+      ap (λ xs. sum (map (nodes_at d) xs)) (fill_by_all (λ i. slice_index order i) order (length order) 0 refl (λ k l. refl)),
+      levels_apart d order o.once,
+      count_by-le-length (λ (node : Node). has order node.variable) d.nodes,
+    )

@@ -33,7 +33,7 @@ transfer n x f g h k =
 -- a terminal or place before suc k is before k, or is k
 before_split : (k : ℕ) (r : Ref) → IsBefore (suc k) r → IsBefore k r ⊎ (r ≡ Place k)
 before_split k (Terminal b) h = inl tt
-before_split k (Place j) h = elim (cases_eq j k) [ inl e ↦ inr (ap Place e) | inr ne ↦ inl (omega (arith, h)) ]
+before_split k (Place j) h = elim (cases_eq j k) [ inl e ↦ inr (ap Place e) | inr ne ↦ inl (omega arith) ]
 
 -- a point
 zeros : ℕ → Point
@@ -48,11 +48,10 @@ module _ (n : ℕ) (order : List ℕ) (d : Graph) (ok : IsDiagram n d) (ordered 
       let x = node.variable in
       let lt = slice_get_within d.nodes k node e in
       let small = (ok.nodes k node e).variable in
-      let inside : x < length p = omega arith in
       let c = cond b node.high node.low in
       let before : IsBefore (length d.nodes) c = before_more k (length d.nodes) c (omega arith) (child_before n d ok k node b e) in
       sym (free n order d ok ordered (suc (place_in order x)) x (omega arith) b p c before (child_stands n order d ok ordered k node b e))
-      ∙ ap (λ w. value d.nodes (cond w node.high node.low) (set p x b)) (sym (get_or-set_same p x b false inside))
+      ∙ ap (λ w. value d.nodes (cond w node.high node.low) (set p x b)) (sym (get_or-set_same p x b false (omega arith)))
       ∙ sym (value_place n d ok (set p x b) k node e)
 
   -- a ref that stands below a variable's place does not depend on it
@@ -196,9 +195,8 @@ module _ (n : ℕ) (F : List Function) (order : List ℕ) (o : IsOrder n order) 
   unfolding subfunctions SameFunction restrict
   free_all [] a i at le r before stands f same = (f, inl refl, same)
   free_all (x ∷ xs) a i at le r before stands f same =
-      let lt : place_in order x < i = omega (arith, at.0) in
       let rest = free_all xs (suc a) i at.3 (omega arith) r before stands (restrict x false f)
-      (λ p l. sym (free n order d rep.diagram rep.ordered i x lt false p r before stands)
+      (λ p l. sym (free n order d rep.diagram rep.ordered i x (omega arith) false p r before stands)
       ∙ same (set p x false) (length-set p x false ∙ l)) in
       (rest.0, among_left rest.0 _ _ rest.1, rest.2)
 
@@ -213,7 +211,7 @@ module _ (n : ℕ) (F : List Function) (order : List ℕ) (o : IsOrder n order) 
       part = take m (drop a order)
 
       long : length part ≡ m
-      long = length-take-le m (drop a order) (let e = length-drop a order in omega arith)
+      long = length-take-le m (drop a order) (omega (arith, length-drop a order))
 
       at : AtPlaces n order a part
       at = at_places n order o a part (λ k lt. sym (get_or-take m (drop a order) k 0 (omega (arith, long)) ∙ get_or-drop a order k 0)) (omega (arith, long))
@@ -226,7 +224,7 @@ module _ (n : ℕ) (F : List Function) (order : List ℕ) (o : IsOrder n order) 
 
   own_stand : (k : ℕ) (node : Node) → slice_get d.nodes k ≡ Some node → StandsFrom order d.nodes (place_in order node.variable) (Place k)
   unfolding StandsFrom place_of
-  own_stand k node e other f = let t = ap place_of (same_Some other node (sym f ∙ e)) in omega arith
+  own_stand k node e other f = omega (arith, ap place_of (same_Some other node (sym f ∙ e)))
 
   Got : ℕ → Node → Type 0
   Got k node = (g : Function) × Among g (reach F (take (place_in order node.variable) order)) × SameFunction n (value d.nodes (Place k)) g
@@ -263,18 +261,16 @@ module _ (n : ℕ) (F : List Function) (order : List ℕ) (o : IsOrder n order) 
 
       by : (b : Bool) → cond b parent.high parent.low ≡ Place k → Got k node
       by b e =
-          let g = got.0 in
           let i = place_in order x in
           let inside = place_inside j parent f in
           let same = subst (λ r. SameFunction n (value d.nodes r) (restrict x b (value d.nodes (Place j)))) e
           (child_value n order d rep.diagram rep.ordered j parent f b) in
           let same' =
-          same_trans n (value d.nodes (Place k)) (restrict x b (value d.nodes (Place j))) (restrict x b g) same
-          (restrict_same n x b (value d.nodes (Place j)) g got.2) in
+          same_trans n (value d.nodes (Place k)) (restrict x b (value d.nodes (Place j))) (restrict x b got.0) same
+          (restrict_same n x b (value d.nodes (Place j)) got.0 got.2) in
           let front = take_more order i 0 inside ∙ ap (λ y. take i order ++ y ∷ []) (place_at order x inside) in
-          let lt = above in
-          land k node is (i + 1) (omega arith) (restrict x b g)
-          (subst (λ xs. Among (restrict x b g) (reach F xs)) (sym front) (reach_more F (take i order) x b g got.1)) same'
+          land k node is (i + 1) (omega (arith, above)) (restrict x b got.0)
+          (subst (λ xs. Among (restrict x b got.0) (reach F xs)) (sym front) (reach_more F (take i order) x b got.0 got.1)) same'
 
   -- each reached node has a function that is got by restricting the variables above its own
   node_function : {r : Ref} → Reached d r → (k : ℕ) (node : Node) → r ≡ Place k → slice_get d.nodes k ≡ Some node → Got k node
@@ -289,7 +285,7 @@ enumerated_from [] s e h = absurd h
 enumerated_from (x ∷ xs) s e h =
     elim h [
       | inl i ↦ (0, ap (λ t. t.0) i ∙ sym (add-zero s), sym (ap (λ t. Some t.1) i))
-      | inr r ↦ let rest = enumerated_from xs (s + 1) e r in let f = rest.1 in (suc rest.0, omega arith, rest.2)
+      | inr r ↦ let rest = enumerated_from xs (s + 1) e r in (suc rest.0, omega arith, rest.2)
     ]
 
 module _ (test : Node → Bool) (h : ℕ × Node → List Bool) where
@@ -312,7 +308,7 @@ module _ (test : Node → Bool) (h : ℕ × Node → List Bool) where
       by (test x) (distinct_tables xs (s + 1) (λ e g a b. inj e g (inr a) (inr b))) (all_apart (h (s, x)) (enumerate_from (s + 1) xs) later)
     where
       later : (e : ℕ × Node) → Among e (enumerate_from (s + 1) xs) → h (s, x) ≢ h e
-      later e a k = let f = inj (s, x) e (inl refl) (inr a) k in let g = (enumerated_from xs (s + 1) e a).1 in omega arith
+      later e a k = let g = (enumerated_from xs (s + 1) e a).1 in omega (arith, inj (s, x) e (inl refl) (inr a) k)
 
       tail : List (ℕ × Node)
       tail = filter (λ e. test e.1) (enumerate_from (s + 1) xs)
@@ -328,13 +324,15 @@ pub reduced_levels : (n : ℕ) (F : List Function) (order : List ℕ) (d : Graph
     nodes_at d (slice_index order i) ≡ level_count n F order i
 unfolding level_count dependents nodes_at DependsOn Got
 reduced_levels n F order d o rep reduced i lt =
-    let a = level_bound n F order d o rep i lt in
-    let b = count_mono same_table same_table_decides tables found within in
-    let c = distinct_count-from_IsDistinct (lists_equiv bool_eq_equiv) tables distinct in
-    let e = length-map places place_table in
-    let f = count_enumerated test d.nodes 0 in
-    let g = length-filter test d.nodes in
-    omega arith
+    omega (
+      arith,
+      level_bound n F order d o rep i lt,
+      count_mono same_table same_table_decides tables found within,
+      distinct_count-from_IsDistinct (lists_equiv bool_eq_equiv) tables distinct,
+      length-map places place_table,
+      count_enumerated test d.nodes 0,
+      length-filter test d.nodes,
+    )
   where
     x : ℕ
     x = slice_index order i
@@ -381,12 +379,10 @@ reduced_levels n F order d o rep reduced i lt =
         let k = e.0 in
         let got = node_function n F order o d rep (reduced.all_reached k (inside e a)) k e.1 refl (node_at e a) in
         let g = got.0 in
-        let place : place_in order e.1.variable ≡ i = ap (place_in order) v ∙ place_get order i o.once lt in
-        let here = subst (λ j. Among g (reach F (take j order))) place got.1 in
-        let small = inside e a in
+        let here = subst (λ j. Among g (reach F (take j order))) (ap (place_in order) v ∙ place_get order i o.once lt) got.1 in
         let dep = (depends_lem n g x).1
         (λ s. node_depends n order d rep.diagram rep.ordered reduced inj k
-        (fewer n order d rep.diagram rep.ordered reduced inj k (length d.nodes) (omega (arith, small)) can) e.1 (node_at e a)
+        (fewer n order d rep.diagram rep.ordered reduced inj k (length d.nodes) (omega (arith, inside e a)) can) e.1 (node_at e a)
         (transfer n e.1.variable (value d.nodes (Place k)) g got.2 (subst (λ y. SameFunction n (restrict y false g) (restrict y true g)) (sym v) s))) in
         subst (λ u. Among u found) (sym (table_same n (value d.nodes (Place k)) g got.2))
         (among_map (table n) g _ (among_filter (λ f. depends n f x) g (reach F (take i order)) here dep))

@@ -2,15 +2,14 @@
 --     Reaches P k reached      the masks have the pairs, only what pairs lead to, and are closed under steps through the first k variables
 --     start, joined      the masks of the pairs, and one variable more
 --     all_reached      closed under all 16, the masks have all that pairs lead to
-use Rattle.std.proofs.Common.{◌≡◌, ◌↔◌, ℕ, ◌+◌, ◌<◌, ◌≤◌, true, cond, ◌⊎◌, inl, inr, List, length, get_or, refl, sym, ap, ◌∙◌, subst, arith, eqb, eq-eqb, ne_eqb, bit_or, set}
+use Rattle.std.proofs.Common.{◌≡◌, ◌↔◌, ℕ, ◌+◌, ◌<◌, ◌≤◌, true, cond, ◌⊎◌, inl, inr, List, length, get_or, refl, ◌∙◌, arith, eqb, bit_or, set}
 use Rattle.std.specs.Int.{bit_at}
-use Rattle.std.proofs.lemmas.Bool.{cases_eq, cases_lt}
+use Rattle.std.proofs.lemmas.Bool.{cases_eq}
 use Rattle.std.proofs.lemmas.List.{get_or_past, get_or-set_other, get_or-set_same, length-set}
-use Rattle.std.proofs.lemmas.Nat.Bits.{bit_at_or, bit_at-lt, bit_at-zero}
+use Rattle.std.proofs.lemmas.Nat.Bits.{bit_at_or}
 use Rattle.order_model.specs.Pairs.{Pair, has_pair, Leads}
 use Rattle.order_model.specs.Pairs.Leads.{by_one, by_more}
 use Rattle.order_model.specs.KeptPairs.{HasBit, IsJoined}
-use Rattle.order_model.proofs.Precedence.Masks.{zero_or_one, not_one_from_zero}
 
 -- pairs lead from a to b, and on to c
 pub leads_on : {P : List Pair} {a b c : ℕ} → Leads P a b → Leads P b c → Leads P a c
@@ -30,32 +29,12 @@ start P below s = record {
 }
 
 or_one : (m n b : ℕ) → (bit_at (bit_or m n) b ≡ 1) ↔ ((bit_at m b ≡ 1) ⊎ (bit_at n b ≡ 1))
-or_one m n b =
-    let s = bit_at_or m n b in
-    let l = bit_at-lt m b in
-    let r = bit_at-lt n b in (
-      λ e. elim (zero_or_one m b) [ inl z ↦ inr (omega arith) | inr o ↦ inl o ],
-      λ e. elim e [ inl o ↦ omega arith | inr o ↦ omega arith ],
-    )
+or_one m n b = grind (arith, bit_at_or)
 
 -- a bit of the joined masks
 module _ (reached : List ℕ) (k : ℕ) (later : List ℕ) (row : IsJoined reached k later) where
   pub joined_bit : (a b : ℕ) → HasBit later a b ↔ (HasBit reached a b ⊎ (HasBit reached a k × HasBit reached k b))
-  joined_bit a b = elim (cases_eq (bit_at (get_or reached a 0) k) 1) [
-    | inl e ↦
-        let is : get_or later a 0 ≡ bit_or (get_or reached a 0) (get_or reached k 0) = row a
-        ∙ ap (λ t. cond t (bit_or (get_or reached a 0) (get_or reached k 0)) (get_or reached a 0)) (eq-eqb _ _ e) in
-        let both = or_one (get_or reached a 0) (get_or reached k 0) b in (
-          λ h. elim (both.0 (sym (ap (λ m. bit_at m b) is) ∙ h)) [ inl x ↦ inl x | inr y ↦ inr (e, y) ],
-          λ h. ap (λ m. bit_at m b) is ∙ both.1 (elim h [ inl x ↦ inl x | inr y ↦ inr y.1 ]),
-        )
-    | inr ne ↦
-        let is : get_or later a 0 ≡ get_or reached a 0 = row a
-        ∙ ap (λ t. cond t (bit_or (get_or reached a 0) (get_or reached k 0)) (get_or reached a 0)) (ne_eqb _ _ ne) in (
-          λ h. inl (sym (ap (λ m. bit_at m b) is) ∙ h),
-          λ h. ap (λ m. bit_at m b) is ∙ elim h [ inl x ↦ x | inr y ↦ absurd (ne y.0) ],
-        )
-  ]
+  joined_bit a b = grind (arith, or_one)
 
 -- one variable more
 pub one_more : (P : List Pair) (k : ℕ) (reached later : List ℕ) → IsJoined reached k later → Reaches P k reached → Reaches P (k + 1) later
@@ -82,11 +61,7 @@ one_more P k reached later row r = record {
 
     through : (j a b : ℕ) → j < k + 1 → (HasBit reached a j ⊎ (HasBit reached a k × HasBit reached k j)) →
         (HasBit reached j b ⊎ (HasBit reached j k × HasBit reached k b)) → HasBit reached a b ⊎ (HasBit reached a k × HasBit reached k b)
-    through j a b h x y = elim (cases_eq j k) [
-      | inl e ↦ at a b (subst (λ (v : ℕ). HasBit reached a v ⊎ (HasBit reached a k × HasBit reached k v)) e x)
-          (subst (λ (v : ℕ). HasBit reached v b ⊎ (HasBit reached v k × HasBit reached k b)) e y)
-      | inr ne ↦ before j a b (omega arith) x y
-    ]
+    through j a b h x y = grind arith
 
 -- closed under steps through all the variables of the pairs, the masks have all that pairs lead to
 pub all_reached : (P : List Pair) (k : ℕ) (reached : List ℕ) → ((a b : ℕ) → has_pair P a b ≡ true → (a < k) × (b < k)) →
@@ -110,43 +85,12 @@ pub joined_set : (below : List ℕ) (k i : ℕ) (later : List ℕ) → JoinedTo 
 joined_set below k i later j h e = record {
   done = λ a l. elim (cases_eq a i) [
     | inl s ↦
-        let is : get_or later i 0 ≡ get_or below i 0 = j.left i (omega arith) in
-        ap (λ v. get_or (set later i (bit_or (get_or later i 0) (get_or below k 0))) v 0) s
-        ∙ get_or-set_same later i (bit_or (get_or later i 0) (get_or below k 0)) 0 h ∙ ap (λ m. bit_or m (get_or below k 0)) is
-        ∙ sym (ap (λ v. cond (eqb (bit_at (get_or below v 0) k) 1) (bit_or (get_or below v 0) (get_or below k 0)) (get_or below v 0)) s
-        ∙ ap (λ t. cond t (bit_or (get_or below i 0) (get_or below k 0)) (get_or below i 0)) (eq-eqb _ _ (ap (λ m. bit_at m k) (sym is) ∙ e)))
+        grind (arith, get_or-set_same)
     | inr ne ↦ get_or-set_other later i a (bit_or (get_or later i 0) (get_or below k 0)) 0 ne ∙ j.done a (omega arith)
   ];
   left = λ a l. get_or-set_other later i a (bit_or (get_or later i 0) (get_or below k 0)) 0 (λ s. absurd (omega arith)) ∙ j.left a (omega arith);
   long = length-set later i (bit_or (get_or later i 0) (get_or below k 0)) ∙ j.long;
 }
 
-pub joined_kept : (below : List ℕ) (k i : ℕ) (later : List ℕ) → JoinedTo below k i later → (bit_at (get_or later i 0) k ≡ 1 → ⊥) →
-    JoinedTo below k (i + 1) later
-joined_kept below k i later j no_bit = record {
-  done = λ a l. elim (cases_eq a i) [
-    | inl s ↦
-        let is : get_or later i 0 ≡ get_or below i 0 = j.left i (omega arith) in
-        ap (λ v. get_or later v 0) s ∙ is
-        ∙ sym (ap (λ v. cond (eqb (bit_at (get_or below v 0) k) 1) (bit_or (get_or below v 0) (get_or below k 0)) (get_or below v 0)) s
-        ∙ ap (λ t. cond t (bit_or (get_or below i 0) (get_or below k 0)) (get_or below i 0)) (ne_eqb _ _ (λ e. no_bit (ap (λ m. bit_at m k) is ∙ e))))
-    | inr ne ↦ j.done a (omega arith)
-  ];
-  left = λ a l. j.left a (omega arith);
-  long = j.long;
-}
-
 pub joined_all : (below : List ℕ) (k i : ℕ) (later : List ℕ) → JoinedTo below k i later → length later ≤ i → IsJoined below k later
-joined_all below k i later j h a = elim (cases_lt a i) [
-  | inl l ↦ j.done a l
-  | inr l ↦
-      let none : get_or below a 0 ≡ 0 = get_or_past below a 0 (let s = j.long in omega arith) in
-      j.left a l ∙ none
-      ∙ sym (ap (λ m. cond (eqb (bit_at m k) 1) (bit_or m (get_or below k 0)) m) none
-      ∙ ap (λ t. cond t (bit_or 0 (get_or below k 0)) 0) (ne_eqb (bit_at 0 k) 1 (λ e. not_one_from_zero 0 k (bit_at-zero k) e)))
-]
-
--- where pairs lead from a, a is a variable of the pairs
-pub leads_from_below : (P : List Pair) (n : ℕ) → ((a b : ℕ) → has_pair P a b ≡ true → (a < n) × (b < n)) → {a b : ℕ} → Leads P a b → a < n
-leads_from_below P n small (by_one {a} {b} h) = (small a b h).0
-leads_from_below P n small (by_more {a} {b} {c} h l) = (small a b h).0
+joined_all below k i later j h a = grind (arith, get_or_past)

@@ -3,11 +3,11 @@
 --     some_top      each set that is not empty has a member without which it is lawful, still
 --     acyclic_kept      so the smallest tops, from all variables downward, make an order that keeps the pairs
 --     greedy_is_first      and it is the first such order
-use Rattle.std.proofs.Common.{◌≡◌, ◌≢◌, ℕ, zero, suc, ◌-◌, ◌^◌, ◌<◌, ◌≤◌, true, not, cond, ◌⊎◌, inl, inr, List, [], ◌∷◌, length, refl, sym, ap, ap₂, ◌∙◌, subst, arith, nat_eq, eq-eqb, ne_eqb, lt-ltb, le-ltb, nat_cmp, Less, Equal, Greater, pow_pos}
+use Rattle.std.proofs.Common.{◌≡◌, ◌≢◌, ℕ, zero, suc, ◌-◌, ◌^◌, ◌<◌, ◌≤◌, true, cond, ◌⊎◌, inl, inr, List, [], ◌∷◌, length, refl, sym, ap, ap₂, ◌∙◌, arith, nat_eq, eq-eqb, ne_eqb, lt-ltb, le-ltb, nat_cmp, Less, Equal, Greater, pow_pos}
 use Rattle.std.specs.Ordering.{ordering_then}
 use Rattle.std.specs.Cmp.Lexicographic.{slice_cmp}
 use Rattle.std.specs.List.{IsDistinct}
-use Rattle.std.proofs.lemmas.Bool.{false≢true, true≢false, cases_Bool, cases_eq, cases_order, or_left, and_parts, and_from, not_from_false}
+use Rattle.std.proofs.lemmas.Bool.{false≢true, true≢false, cases_Bool, cases_eq, cases_order, or_left, and_parts, and_from}
 use Rattle.std.proofs.lemmas.List.{nil_from_length}
 use Rattle.std.proofs.lemmas.List.Elements.{recursion_from_All}
 use Rattle.order_model.specs.Orders.{has, IsOrder, variables, members, mask_of, without}
@@ -60,10 +60,7 @@ above_trans a b c (x ∷ xs) d h k = elim (cases_eq b x) [
     ]
 
 leads_above : (P : List Pair) (xs : List ℕ) → IsDistinct nat_eq xs → keeps P xs ≡ true → {a b : ℕ} → Leads P a b → is_above a b xs ≡ true
-leads_above P xs d k (by_one {a} {b} h) = one P xs k a b h
-  where
-    one : (P : List Pair) (xs : List ℕ) → keeps P xs ≡ true → (a b : ℕ) → has_pair P a b ≡ true → is_above a b xs ≡ true
-    one P xs k a b h = let s = pair_among P a b h in ap₂ (λ u v. is_above u v xs) s.2 s.3 ∙ keeps_at P xs k s.0 s.1
+leads_above P xs d k (by_one {a} {b} h) = grind (arith, pair_among, keeps_at)
 leads_above P xs d k (by_more {a} {b} {c} h r) =
     let s = pair_among P a b h in
     above_trans a b c xs d (ap₂ (λ u v. is_above u v xs) s.2 s.3 ∙ keeps_at P xs k s.0 s.1) (leads_above P xs d k r)
@@ -109,15 +106,8 @@ module _ (P : List Pair) (acyclic : (v : ℕ) → Leads P v v → ⊥) where
   step_up S left v h passed next = elim (pair_above P S v) [
     | inr none ↦ (v, h, none)
     | inl s ↦
-        let a = s.0.0 in
-        let step : Leads P a v = by_one (ap (has_pair P a) (sym s.2) ∙ among_pair P s.0 s.1) in
-        elim (passed a s.3) [
-          | inl e ↦ absurd (acyclic a (subst (Leads P a) (sym e) step))
-          | inr r ↦ elim r [
-            | inl l ↦ absurd (acyclic a (leads_on step l))
-            | inr there ↦ next a s.3 step there
-          ]
-        ]
+        let step : Leads P s.0.0 v = by_one (ap (has_pair P s.0.0) (sym s.2) ∙ among_pair P s.0 s.1) in
+        grind (arith, leads_on)
   ]
 
   walk : (k : ℕ) (S left : List ℕ) (v : ℕ) → IsDistinct nat_eq left → length left ≤ k → has S v ≡ true →
@@ -127,15 +117,9 @@ module _ (P : List Pair) (acyclic : (v : ℕ) → Leads P v v → ⊥) where
       (λ a m step there. absurd (false≢true (ap (λ xs. has xs a) (sym (nil_from_length left (omega arith))) ∙ there)))
   walk (suc k) S left v d le h passed =
       step_up S left v h passed (λ a m step there.
-      walk k S (without a left) a (distinct_without a left d) (let e = length_without a left d there in omega arith) m (λ u hu. elim (cases_eq u a) [
+      walk k S (without a left) a (distinct_without a left d) (omega (arith, length_without a left d there)) m (λ u hu. elim (cases_eq u a) [
         | inl e ↦ inl e
-        | inr ne ↦ elim (passed u hu) [
-          | inl e ↦ inr (inl (subst (Leads P a) (sym e) step))
-          | inr r ↦ elim r [
-            | inl l ↦ inr (inl (leads_on step l))
-            | inr t ↦ inr (inr (has_without a left u ∙ and_from _ _ t (not_from_false _ (ne_eqb a u (λ f. ne (sym f))))))
-          ]
-        ]
+        | inr ne ↦ grind (arith, leads_on, has_without)
       ]))
 
   -- each set that is not empty has a member without which it is lawful, still
@@ -143,20 +127,13 @@ module _ (P : List Pair) (acyclic : (v : ℕ) → Leads P v v → ⊥) where
   unfolding Top
   some_top S z d h l =
       let top = walk (length S) S S z d (omega arith) h (λ u hu. inr (inr hu)) in
-      let x = top.0 in
-      let rest = lawful_from P (without x S) (λ p m a.
-      let in' = (and_parts (has S p.0) (not (nat_eq x p.0)) (sym (has_without x S p.0) ∙ a)).0 in
-      has_without x S p.1 ∙ and_from _ _ (lawful_at P S l p m in') (not_from_false _ (ne_eqb x p.1 (λ e. top.2 p m (sym e) in')))) in
-      (x, has_tops P S x ∙ and_from _ _ top.1 rest)
+      grind (arith, lawful_from, has_without, lawful_at, has_tops)
 
   -- the smallest tops, one after the other
   greedy : (n k mask : ℕ) → mask < 2 ^ n → length (members n mask) ≡ k → is_lawful P (members n mask) ≡ true →
       (order : List ℕ) × IsGreedy n P mask order × IsLawfulList P (members n mask) order
   unfolding IsGreedy IsDistinct
-  greedy n zero mask lt e l =
-      let none = nil_from_length (members n mask) e in
-      let zero' : mask ≡ 0 = sym (mask_of_members n mask lt) ∙ ap mask_of none ∙ mask_of_nil in
-      ([], zero', record { arrangement = record { members = λ y. ap (λ xs. has xs y) (sym none); once = tt }; lawful = are_lawful_nil P })
+  greedy n zero mask lt e l = grind (arith, nil_from_length, mask_of_members, mask_of_nil, are_lawful_nil)
   greedy n (suc k) mask lt e l =
       let z = some_member (members n mask) (omega arith) in
       let top = some_top (members n mask) z.0 (distinct_members n mask) z.1 l in
@@ -214,12 +191,9 @@ module _ (n : ℕ) (P : List Pair) (mask x : ℕ) (low : is_lawful P (members n 
       same_top : x ≡ y → slice_cmp nat_cmp (x ∷ order) (y ∷ ys) ≢ Greater
       same_top s f =
           let is_equal : Equal ≡ nat_cmp x y =
-          ap₂ (λ b d. cond b Less (cond d Equal Greater)) (sym (le-ltb x y (let t = s in omega arith))) (sym (eq-eqb x y s)) in
+          ap₂ (λ b d. cond b Less (cond d Equal Greater)) (sym (le-ltb x y (omega arith))) (sym (eq-eqb x y s)) in
           let tail = lawful_tail P y ys (members n mask) a in
-          let there =
-          moved P (without y (members n mask)) (members n (mask - 2 ^ x)) ys
-          (λ z. ap (λ v. has (without v (members n mask)) z) (sym s) ∙ sym (members_without n mask x parts.0 z)) tail in
-          rest.first ys there (ap (λ r. ordering_then r (slice_cmp nat_cmp order ys)) is_equal ∙ f)
+          grind (arith, members_without)
 
   with_first : FirstList n P mask (x ∷ order)
   with_first = record {
@@ -268,8 +242,7 @@ pub greedy_is_first : (n : ℕ) (P : List Pair) (base order : List ℕ) → IsOr
 greedy_is_first n P base order o k g =
     let each : (p : Pair) → Among p P → (p.0 < n) × (p.1 < n) × (p.0 ≢ p.1) = λ p m.
     let up = keeps_at P base k p m in
-    let there = above_has p.0 p.1 base up in
-    ((o.all p.0).0 there.0, (o.all p.1).0 there.1, above_differs p.0 p.1 base o.once up) in
+    grind (arith, above_has, above_differs) in
     let got = greedy_first n P order (2 ^ n - 1) g (full_lawful n P (λ p m. (each p m).1)) in
     let is = lawful_order n P each order (moved P (members n (2 ^ n - 1)) (variables n) order (members_full n) got.is_lawful_list) in
     record {
@@ -286,6 +259,9 @@ acyclic_kept n P small acyclic =
     let each : (p : Pair) → Among p P → (p.0 < n) × (p.1 < n) × (p.0 ≢ p.1) = λ p m.
     let s = all_among (λ (q : Pair). (q.0 < n) × (q.1 < n)) P p (recursion_from_All (λ (q : Pair). (q.0 < n) × (q.1 < n)) P small) m in
     (s.0, s.1, λ e. acyclic p.0 (by_one (ap (has_pair P p.0) e ∙ among_pair P p m))) in
-    let got = greedy P acyclic n (length (members n (2 ^ n - 1))) (2 ^ n - 1) (let q = pow_pos n in omega arith) refl (full_lawful n P (λ p m. (each p m).1)) in
+    let got = greedy P acyclic n (length (members n (2 ^ n - 1))) (2 ^ n - 1) (omega (
+      arith,
+      pow_pos n,
+    )) refl (full_lawful n P (λ p m. (each p m).1)) in
     let is = lawful_order n P each got.0 (moved P (members n (2 ^ n - 1)) (variables n) got.0 (members_full n) got.2) in
     (got.0, got.1, greedy_is_first n P got.0 got.0 is.0 is.1 got.1)

@@ -3,17 +3,16 @@
 --     some_top_below      a lawful set that isn't empty has a top
 --     GreedyTo n P variables k remaining      the first k variables are those that greedy steps take, and remaining is what they leave
 --     greedy_start, greedy_step, greedy_end      before the first step, one step more, after the last
-use Rattle.std.proofs.Common.{◌≡◌, ℕ, suc, ◌+◌, ◌-◌, ◌/◌, ◌%◌, ◌^◌, ◌<◌, ◌≤◌, true, inl, inr, List, [], ◌∷◌, ◌++◌, length, take, set, refl, sym, ap, ◌∙◌, subst, arith, eqb, eq-eqb, pow_pos, append_assoc, append-nil, length-take-le}
+use Rattle.std.proofs.Common.{◌≡◌, ℕ, suc, ◌+◌, ◌-◌, ◌^◌, ◌<◌, ◌≤◌, true, inl, inr, List, [], ◌∷◌, ◌++◌, length, take, set, refl, sym, ap, ◌∙◌, subst, arith, eqb, eq-eqb, pow_pos, append_assoc, append-nil, length-take-le}
 use Rattle.std.specs.Int.{bit_at}
 use Rattle.std.specs.List.{filter}
-use Rattle.std.proofs.Math.Nat.{div-eq_of_lt}
-use Rattle.std.proofs.lemmas.Bool.{cases_lt, and_parts, and_from}
+use Rattle.std.proofs.lemmas.Bool.{cases_lt}
 use Rattle.std.proofs.lemmas.List.{nil_from_length, take_more_set, length-set}
 use Rattle.std.proofs.lemmas.List.FromFn.{length-range_with_len}
 use Rattle.std.proofs.lemmas.Cmp.{nat_eq_equiv}
 use Rattle.std.proofs.lemmas.Map.Made.{length-from_same_keys}
 use Rattle.std.proofs.lemmas.Nat.Bits.{bit_at_ones, bit_at_above}
-use Rattle.order_model.specs.Orders.{has, variables, members, without, mask_of, IsOrder}
+use Rattle.order_model.specs.Orders.{has, variables, members, without, mask_of}
 use Rattle.order_model.specs.OrderFaults.{IsInRange, Accepts}
 use Rattle.order_model.specs.Pairs.{Pair, is_lawful, tops, IsGreedy, IsFirstOrder}
 use Rattle.order_model.specs.KeptPairs.{CanBeKept}
@@ -32,24 +31,15 @@ use Rattle.order_model.proofs.Lists.Ranges.{filter_same}
 -- ---- tops
 
 pub pow_le_bit : (m x : ℕ) → bit_at m x ≡ 1 → 2 ^ x ≤ m
-pow_le_bit m x e = elim (cases_lt m (2 ^ x)) [
-  | inl lt ↦ absurd (let q : m / 2 ^ x ≡ 0 = div-eq_of_lt lt in let r = ap (λ k. k % 2) q in omega arith)
-  | inr le ↦ le
-]
+pow_le_bit m x e = grind arith
 
 pub top_from : (n : ℕ) (P : List Pair) (mask x : ℕ) → x < n → bit_at mask x ≡ 1 → is_lawful P (members n (mask - 2 ^ x)) ≡ true →
     has (tops P (members n mask)) x ≡ true
-top_from n P mask x h e l =
-    let there = member_from n mask x h e in
-    has_tops P (members n mask) x
-    ∙ and_from _ _ there
-    (sym (lawful_same P (members n (mask - 2 ^ x)) (without x (members n mask)) (members_without n mask x there)) ∙ l)
+top_from n P mask x h e l = grind (arith, member_from, has_tops, lawful_same, members_without)
 
 pub top_parts : (n : ℕ) (P : List Pair) (mask x : ℕ) → has (tops P (members n mask)) x ≡ true →
     (has (members n mask) x ≡ true) × (is_lawful P (members n (mask - 2 ^ x)) ≡ true)
-top_parts n P mask x h =
-    let s = and_parts (has (members n mask) x) (is_lawful P (without x (members n mask))) (sym (has_tops P (members n mask) x) ∙ h) in
-    (s.0, lawful_same P (members n (mask - 2 ^ x)) (without x (members n mask)) (members_without n mask x s.0) ∙ s.1)
+top_parts n P mask x h = grind (arith, has_tops, lawful_same, members_without)
 
 pub some_top_below : (n : ℕ) (P : List Pair) (mask : ℕ) → CanBeKept n P → 0 < mask → mask < 2 ^ n → mask < 2 ^ 16 →
     is_lawful P (members n mask) ≡ true → (x : ℕ) × (x < n) × (has (tops P (members n mask)) x ≡ true)
@@ -82,9 +72,9 @@ all_members n =
 
 pub greedy_start : (n : ℕ) (P : List Pair) (xs : List ℕ) → CanBeKept n P → length xs ≡ 16 → GreedyTo n P xs 0 (2 ^ n - 1)
 greedy_start n P xs kept long = record {
-  small = let p = pow_pos n in omega arith;
+  small = omega (arith, pow_pos n);
   lawful = lawful_from P (members n (2 ^ n - 1)) (λ p m h. members_full n p.1 ∙ (has_variables n p.1).1 (below_at n P kept.below p.0 p.1 (among_pair P p m)).1);
-  count = let l = ap length (all_members n) ∙ length-range_with_len 0 n in omega arith;
+  count = omega (arith, ap length (all_members n) ∙ length-range_with_len 0 n);
   steps = λ rest g. g;
   long = long;
 }
@@ -99,7 +89,7 @@ one_fewer n mask x h =
 pub greedy_some : (n : ℕ) (P : List Pair) (xs : List ℕ) (k remaining : ℕ) → GreedyTo n P xs k remaining → k < n → 0 < remaining
 greedy_some n P xs k remaining g h = elim (cases_lt 0 remaining) [
   | inl lt ↦ lt
-  | inr le ↦ absurd (let z : remaining ≡ 0 = omega arith in let none = ap length (ap (members n) z ∙ members_zero n) in let c = g.count in omega arith)
+  | inr le ↦ absurd (let z : remaining ≡ 0 = omega arith in omega (arith, ap length (ap (members n) z ∙ members_zero n)))
 ]
 
 pub greedy_step : (n : ℕ) (P : List Pair) (xs : List ℕ) (k remaining x : ℕ) → GreedyTo n P xs k remaining → k < 16 →
@@ -109,22 +99,21 @@ unfolding IsGreedy
 greedy_step n P xs k remaining x g h top smallest =
     let parts = top_parts n P remaining x top in
     record {
-      small = let s = g.small in omega arith;
+      small = omega arith;
       lawful = parts.1;
-      count = let c = g.count in let f = one_fewer n remaining x parts.0 in omega arith;
+      count = omega (arith, one_fewer n remaining x parts.0);
       steps = λ rest r. subst (IsGreedy n P (2 ^ n - 1)) (regroup rest) (g.steps (x ∷ rest) (top, smallest, r));
       long = length-set xs k x ∙ g.long;
     }
   where
     regroup : (rest : List ℕ) → take k xs ++ x ∷ rest ≡ take (k + 1) (set xs k x) ++ rest
-    regroup rest = sym (append_assoc (take k xs) (x ∷ []) rest) ∙ ap (λ ys. ys ++ rest) (sym (take_more_set xs k x (let l = g.long in omega arith)))
+    regroup rest = sym (append_assoc (take k xs) (x ∷ []) rest) ∙ ap (λ ys. ys ++ rest) (sym (take_more_set xs k x (omega arith)))
 
 pub greedy_end : (n : ℕ) (P : List Pair) (xs : List ℕ) (k remaining : ℕ) → CanBeKept n P → GreedyTo n P xs k remaining → n ≤ k → k ≤ n →
     IsFirstOrder n P (take n xs)
 unfolding IsGreedy mask_of
 greedy_end n P xs k remaining kept g h j =
     let e : k ≡ n = omega arith in
-    let c = g.count in
     let none = nil_from_length (members n remaining) (omega arith) in
     let empty : remaining ≡ 0 = sym (mask_of_members n remaining g.small) ∙ ap mask_of none in
     let got = subst (IsGreedy n P (2 ^ n - 1)) (append-nil (take k xs)) (g.steps [] empty) in
@@ -133,11 +122,7 @@ greedy_end n P xs k remaining kept g h j =
 
 -- the first order isn't refused
 pub first_accepted : (n : ℕ) (P : List Pair) (xs : List ℕ) → CanBeKept n P → length xs ≡ 16 → IsFirstOrder n P (take n xs) → Accepts (take n xs)
-first_accepted n P xs kept long first =
-    let few = kept.few in
-    let some = kept.some in
-    let l : length (take n xs) ≡ n = length-take-le n xs (omega arith) in
-    record { some = omega arith; few = omega arith; order = subst (λ (k : ℕ). IsOrder k (take n xs)) (sym l) first.is_order }
+first_accepted n P xs kept long first = grind (arith, length-take-le)
 
 pub in_range : (xs : List ℕ) → Accepts xs → IsInRange xs
 in_range xs a = record { some = a.some; few = a.few; below = λ k d h. member_at (length xs) xs k d a.order h }

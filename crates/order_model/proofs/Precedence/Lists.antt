@@ -5,11 +5,11 @@
 --     above_places      a stands above b where its place is the smaller one
 use Rattle.std.proofs.Common.{◌≡◌, ◌≢◌, ℕ, Bool, true, false, not, cond, ◌||◌, inl, inr, List, [], ◌∷◌, refl, sym, ap, ◌∙◌, nat_eq, eqb-true, ltb, lt-ltb, le-ltb, ◌+◌, arith}
 use Rattle.std.specs.List.{filter, list_all, IsDistinct}
-use Rattle.std.proofs.lemmas.Bool.{false≢true, true≢false, cases_Bool, or_cases, or_left, or_right, and_parts, and_from, not-true, not_from_false, ltb-true}
+use Rattle.std.proofs.lemmas.Bool.{false≢true, true≢false, cases_Bool, or_cases, or_right, and_parts, and_from}
 use Rattle.order_model.specs.Orders.{has, place_in}
 use Rattle.order_model.specs.Pairs.{Pair, is_above, keeps, is_lawful, are_lawful}
 use Rattle.order_model.proofs.Lists.Sets.{Among}
-use Rattle.order_model.proofs.Lists.Orders.{same_bool, has_filter, absent_from_apart}
+use Rattle.order_model.proofs.Lists.Orders.{has_filter, absent_from_apart}
 
 module _ {X : Type 0} where
   pub each_from_all : (p : X → Bool) (xs : List X) → list_all p xs ≡ true → (x : X) → Among x xs → p x ≡ true
@@ -25,19 +25,11 @@ module _ {X : Type 0} where
 -- a lawful set with a has b
 pub lawful_at : (P : List Pair) (S : List ℕ) → is_lawful P S ≡ true → (p : Pair) → Among p P → has S p.0 ≡ true → has S p.1 ≡ true
 unfolding is_lawful
-lawful_at P S h p m a =
-    elim (or_cases (not (has S p.0)) (has S p.1) (each_from_all (λ (q : Pair). not (has S q.0) || has S q.1) P h p m)) [
-      | inl e ↦ absurd (true≢false (sym a ∙ not-true _ e))
-      | inr e ↦ e
-    ]
+lawful_at P S h p m a = grind (arith, each_from_all)
 
 pub lawful_from : (P : List Pair) (S : List ℕ) → ((p : Pair) → Among p P → has S p.0 ≡ true → has S p.1 ≡ true) → is_lawful P S ≡ true
 unfolding is_lawful
-lawful_from P S h =
-    all_from_each (λ (q : Pair). not (has S q.0) || has S q.1) P (λ p m. elim (cases_Bool (has S p.0)) [
-      | inl e ↦ or_right _ _ (h p m e)
-      | inr e ↦ or_left _ _ (not_from_false _ e)
-    ])
+lawful_from P S h = grind (arith, all_from_each)
 
 -- whether a set is lawful depends on its members alone
 pub lawful_same : (P : List Pair) (S T : List ℕ) → ((y : ℕ) → has S y ≡ has T y) → is_lawful P S ≡ is_lawful P T
@@ -56,12 +48,7 @@ keeps_from P xs h = all_from_each (λ (q : Pair). is_above q.0 q.1 xs) P h
 pub above_has : (a b : ℕ) (xs : List ℕ) → is_above a b xs ≡ true → (has xs a ≡ true) × (has xs b ≡ true)
 unfolding is_above
 above_has a b [] h = absurd (false≢true h)
-above_has a b (x ∷ xs) h = by (nat_eq a x) refl h (above_has a b xs)
-  where
-    by : (c : Bool) → nat_eq a x ≡ c → cond c (has xs b) (is_above a b xs) ≡ true → (is_above a b xs ≡ true → (has xs a ≡ true) × (has xs b ≡ true)) →
-        ((c || has xs a) ≡ true) × ((nat_eq b x || has xs b) ≡ true)
-    by true e k r = (refl, or_right _ _ k)
-    by false e k r = ((r k).0, or_right _ _ (r k).1)
+above_has a b (x ∷ xs) h = grind (arith, above_has a b xs)
 
 -- in a list with no two equal, nothing stands above itself
 pub above_differs : (a b : ℕ) (xs : List ℕ) → IsDistinct nat_eq xs → is_above a b xs ≡ true → a ≢ b
@@ -172,6 +159,4 @@ above_places a b (x ∷ xs) d h k = by (nat_eq a x) (nat_eq b x) refl refl h k (
           | inl t ↦ absurd (true≢false (sym (above_has a b xs t).1 ∙ ap (has xs) (eqb-true b x g) ∙ absent_from_apart x xs d.0))
           | inr n ↦ n ∙ sym (le-ltb (1 + place_in xs a) 0 (omega arith))
         ]
-    by false false f g p q r = r p q ∙ same_bool _ _
-        (λ s. let lt = ltb-true (place_in xs a) (place_in xs b) s in lt-ltb (1 + place_in xs a) (1 + place_in xs b) (omega arith))
-        (λ s. let lt = ltb-true (1 + place_in xs a) (1 + place_in xs b) s in lt-ltb (place_in xs a) (place_in xs b) (omega arith))
+    by false false f g p q r = grind arith

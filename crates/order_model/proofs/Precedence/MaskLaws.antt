@@ -3,13 +3,13 @@
 --     keeps_in, unkept_in      whether an order keeps the pairs, by the bits of the masks
 --     rows_more, row_few      the number of pairs, one mask more; a mask has at most 15 of them
 --     row_pair, row_skip, row_end      the list of pairs, one variable and one mask more
-use Rattle.std.proofs.Common.{◌≡◌, ◌≢◌, ℕ, ◌+◌, ◌-◌, ◌^◌, ◌<◌, ◌≤◌, Bool, true, false, cond, inl, inr, List, [], ◌∷◌, ◌++◌, map, length, get_or, refl, sym, ap, ap₂, ◌∙◌, subst, arith, nat_eq, eqb, eqb-true, eq-eqb, ne_eqb, bit_and, w16, lt-ltb, le-ltb, ltb, count_ones, length-append, append-nil, append_assoc}
+use Rattle.std.proofs.Common.{◌≡◌, ◌≢◌, ℕ, ◌+◌, ◌-◌, ◌^◌, ◌<◌, ◌≤◌, true, false, inl, inr, List, [], ◌∷◌, ◌++◌, map, length, get_or, refl, sym, ap, ap₂, ◌∙◌, subst, arith, nat_eq, eqb, eqb-true, eq-eqb, ne_eqb, bit_and, w16, le-ltb, ltb, count_ones, length-append, append-nil, append_assoc}
 use Rattle.std.proofs.lemmas.List.{length-map, map-append}
 use Rattle.std.proofs.lemmas.List.Elements.{filter-append}
 use Rattle.std.proofs.lemmas.Grind.{flat_map-append}
 use Rattle.std.specs.Int.{bit_at, bit_not}
 use Rattle.std.specs.List.{flat_map, filter, IsDistinct}
-use Rattle.std.proofs.lemmas.Bool.{cases_order, and_parts, and_from, or_cases, false≢true, false_from_ne_true}
+use Rattle.std.proofs.lemmas.Bool.{cases_order, and_from, or_cases, false≢true, false_from_ne_true}
 use Rattle.std.proofs.lemmas.Nat.Bits.{bit_at_not}
 use Rattle.std.proofs.lemmas.Nat.{and_le_l, and_le_r}
 use Rattle.std.proofs.lemmas.Map.Steps.{length-le_from_distinct_below}
@@ -30,9 +30,7 @@ use Rattle.order_model.proofs.Bits.Ones.{ones-members}
 -- ---- lawful sets
 
 pub member_bit : (n set y : ℕ) → has (members n set) y ≡ true → (y < n) × (bit_at set y ≡ 1)
-member_bit n set y h =
-    let s = and_parts (has (variables n) y) (eqb (bit_at set y) 1) (sym (has_members n set y) ∙ h) in
-    ((has_variables n y).0 s.0, eqb-true (bit_at set y) 1 s.1)
+member_bit n set y h = grind (arith, has_members, has_variables)
 
 pub member_from : (n set y : ℕ) → y < n → bit_at set y ≡ 1 → has (members n set) y ≡ true
 member_from n set y h e = has_members n set y ∙ and_from _ _ ((has_variables n y).1 h) (eq-eqb (bit_at set y) 1 e)
@@ -46,16 +44,13 @@ bits_inside m set k e b few f = elim (zero_or_one set b) [
 
 pub bit_beyond : (m set : ℕ) → m < 2 ^ 16 → set < 2 ^ 16 → bit_and m (bit_not w16 set) ≢ 0 → (b : ℕ) × (bit_at m b ≡ 1) × (bit_at set b ≡ 1 → ⊥)
 bit_beyond m set h k ne =
-    let l = and_le_l m (bit_not w16 set) in
-    let s = some_bit (bit_and m (bit_not w16 set)) (omega arith) ne in
+    let s = some_bit (bit_and m (bit_not w16 set)) (omega (arith, and_le_l m (bit_not w16 set))) ne in
     let both = both_bits m (bit_not w16 set) s.0 s.2 in
     (s.0, both.0, λ e. not_one_from_zero (bit_not w16 set) s.0 (bit_at_not w16 set s.0 k s.1 ∙ ap (λ (v : ℕ). 1 - v) e) both.1)
 
 pub lawful_in : (n : ℕ) (below : List ℕ) (set : ℕ) → ((a b : ℕ) → bit_at set a ≡ 1 → HasBit below a b → bit_at set b ≡ 1) →
     is_lawful (pairs_in n below) (members n set) ≡ true
-lawful_in n below set f =
-    lawful_from (pairs_in n below) (members n set)
-    (λ p m h. let r = among_in n below p m in member_from n set p.1 r.1 (f p.0 p.1 (member_bit n set p.0 h).1 r.2))
+lawful_in n below set f = grind (arith, lawful_from, among_in, member_from, member_bit)
 
 pub unlawful_in : (n : ℕ) (below : List ℕ) (set : ℕ) → AreWithin n below → (a b : ℕ) → bit_at set a ≡ 1 → HasBit below a b →
     (bit_at set b ≡ 1 → ⊥) → is_lawful (pairs_in n below) (members n set) ≡ false
@@ -74,9 +69,7 @@ KeptTo below order k = (i j : ℕ) → j < i → i < k → HasBit below (get_or 
 
 places_of : (order : List ℕ) → IsDistinct nat_eq order → (i j : ℕ) → i < length order → j < length order →
     is_above (get_or order i 0) (get_or order j 0) order ≡ ltb i j
-places_of order once i j h k =
-    above_places (get_or order i 0) (get_or order j 0) order once (has_at order i h) (has_at order j k)
-    ∙ ap₂ ltb (place_get order i once h) (place_get order j once k)
+places_of order once i j h k = search (above_places, has_at, place_get)
 
 pub keeps_in : (n : ℕ) (below order : List ℕ) → IsOrder n order → HasNoCycle (pairs_in n below) → KeptTo below order (length order) →
     keeps (pairs_in n below) order ≡ true
@@ -91,13 +84,7 @@ keeps_in n below order o acyclic kept = keeps_from (pairs_in n below) order (λ 
               (acyclic p.0
               (by_one (ap (has_pair (pairs_in n below) p.0) (sym a.2 ∙ ap (λ k. get_or order k 0) e ∙ b.2)
               ∙ among_pair (pairs_in n below) p m)))
-          | inr d ↦ elim d [
-            | inl lt ↦ lt-ltb a.0 b.0 lt
-            | inr gt ↦ absurd
-                (kept a.0 b.0 gt a.1
-                (subst (λ (u : ℕ). HasBit below u (get_or order b.0 0)) (sym a.2)
-                (subst (λ (v : ℕ). HasBit below p.0 v) (sym b.2) r.2)))
-          ]
+          | inr d ↦ grind arith
         ]
 
 pub unkept_in : (n : ℕ) (below order : List ℕ) → IsOrder n order → AreWithin n below → (i j : ℕ) → j < i → i < length order →
@@ -114,20 +101,14 @@ unkept_in n below order o w i j h k bit =
 -- one variable more
 pub kept_more : (below order : List ℕ) (k seen : ℕ) → Seen order k seen → KeptTo below order k →
     bit_and (get_or below (get_or order k 0) 0) seen ≡ 0 → KeptTo below order (k + 1)
-kept_more below order k seen s kept e i j h l bit = elim (cases_order i k) [
-  | inl same ↦ and_bit (get_or below (get_or order k 0) 0) seen (get_or order j 0)
-      (subst (λ (v : ℕ). HasBit below (get_or order v 0) (get_or order j 0)) same bit) (s.kept j (omega arith)) e
-  | inr d ↦ kept i j h (omega arith) bit
-]
+kept_more below order k seen s kept e i j h l bit = grind (arith, and_bit)
 
 -- a variable above that must stand below
 pub broken_at : (n : ℕ) (below order : List ℕ) (k seen : ℕ) → IsOrder n order → AreWithin n below → Seen order k seen → k < length order → seen < 2 ^ 16 →
     bit_and (get_or below (get_or order k 0) 0) seen ≢ 0 → keeps (pairs_in n below) order ≡ false
 broken_at n below order k seen o w s h l ne =
-    let b = some_bit (bit_and (get_or below (get_or order k 0) 0) seen) (let r = and_le_r (get_or below (get_or order k 0) 0) seen in omega arith) ne in
-    let both = both_bits (get_or below (get_or order k 0) 0) seen b.0 b.2 in
-    let at = s.found b.0 both.1 in
-    unkept_in n below order o w k at.0 at.1 h (subst (λ (v : ℕ). HasBit below (get_or order k 0) v) (sym at.2) both.0)
+    let b = some_bit (bit_and (get_or below (get_or order k 0) 0) seen) (omega (arith, and_le_r (get_or below (get_or order k 0) 0) seen)) ne in
+    grind (arith, both_bits, unkept_in)
 
 -- ---- numbers of pairs
 
@@ -146,12 +127,7 @@ rows_none n below = refl
 pub rows_more : (n : ℕ) (below : List ℕ) (k : ℕ) → get_or below k 0 < 2 ^ n →
     length (rows_to n below (k + 1)) ≡ length (rows_to n below k) + count_ones (get_or below k 0)
 unfolding rows_to
-rows_more n below k h =
-    let f : ℕ → List Pair = λ a. map (λ (b : ℕ). (a, b)) (members n (get_or below a 0)) in
-    let last : length (f k ++ []) ≡ count_ones (get_or below k 0) = ap length (append-nil (f k))
-    ∙ length-map (members n (get_or below k 0)) (λ (b : ℕ). (k, b)) ∙ sym (ones-members n (get_or below k 0) h) in
-    ap (λ xs. length (flat_map f xs)) (variables_more k) ∙ ap length (flat_map-append f (variables k) (k ∷ []))
-    ∙ length-append (flat_map f (variables k)) (f k ++ []) ∙ ap (λ m. length (flat_map f (variables k)) + m) last
+rows_more n below k h = grind (arith, length-map, ones-members, variables_more, flat_map-append, length-append)
 
 -- a variable isn't below itself, so a mask has at most 15 ones
 pub row_few : (n : ℕ) (below : List ℕ) (k : ℕ) → n ≤ 16 → k < n → HasNoCycle (pairs_in n below) → get_or below k 0 < 2 ^ n → count_ones (get_or below k 0) ≤ 15
@@ -161,11 +137,10 @@ row_few n below k few h acyclic small =
     let out : has (members n m) k ≡ false = false_from_ne_true _ (λ e. acyclic k (by_one ((has_in n below k k).1 (h, h, (member_bit n m k e).1)))) in
     let l = length-le_from_distinct_below (k ∷ members n m) n (apart_from_absent k (members n m) out, distinct_members n m)
     (λ y e. elim (or_cases (nat_eq y k) (has (members n m) y) e) [
-      | inl s ↦ let q = eqb-true y k s in omega arith
+      | inl s ↦ omega (arith, eqb-true y k s)
       | inr r ↦ members_small n m y r
     ]) in
-    let c = sym (ones-members n m small) in
-    omega arith
+    omega (arith, sym (ones-members n m small))
 
 -- the pairs of the first k masks, and of mask k those with one of the first j variables below
 pub row_to : ℕ → List ℕ → ℕ → ℕ → List Pair
@@ -180,38 +155,19 @@ row_split : (n : ℕ) (below : List ℕ) (k j : ℕ) →
     ++ (map (λ b. (k, b)) (filter (λ b. eqb (bit_at (get_or below k 0) b) 1) (variables j))
     ++ map (λ b. (k, b)) (filter (λ b. eqb (bit_at (get_or below k 0) b) 1) (j ∷ [])))
 unfolding row_to
-row_split n below k j =
-    let p : ℕ → Bool = λ b. eqb (bit_at (get_or below k 0) b) 1 in
-    let f : ℕ → Pair = λ b. (k, b) in
-    ap (λ xs. rows_to n below k ++ xs)
-    (ap (λ xs. map f (filter p xs)) (variables_more j) ∙ ap (map f) (filter-append p (variables j) (j ∷ []))
-    ∙ map-append f (filter p (variables j)) (filter p (j ∷ [])))
+row_split n below k j = search (variables_more, filter-append, map-append)
 
 pub row_pair : (n : ℕ) (below : List ℕ) (k j : ℕ) → bit_at (get_or below k 0) j ≡ 1 → row_to n below k j ++ (k, j) ∷ [] ≡ row_to n below k (j + 1)
 unfolding row_to
-row_pair n below k j e =
-    let p : ℕ → Bool = λ b. eqb (bit_at (get_or below k 0) b) 1 in
-    let f : ℕ → Pair = λ b. (k, b) in
-    append_assoc (rows_to n below k) (map f (filter p (variables j))) ((k, j) ∷ [])
-    ∙ sym (row_split n below k j
-    ∙ ap (λ t. rows_to n below k ++ (map f (filter p (variables j)) ++ map f (cond t (j ∷ []) [])))
-    (eq-eqb (bit_at (get_or below k 0) j) 1 e))
+row_pair n below k j e = search (append_assoc, row_split, eq-eqb)
 
 pub row_skip : (n : ℕ) (below : List ℕ) (k j : ℕ) → (bit_at (get_or below k 0) j ≡ 1 → ⊥) → row_to n below k j ≡ row_to n below k (j + 1)
 unfolding row_to
-row_skip n below k j ne =
-    let p : ℕ → Bool = λ b. eqb (bit_at (get_or below k 0) b) 1 in
-    let f : ℕ → Pair = λ b. (k, b) in
-    sym (row_split n below k j
-    ∙ ap (λ t. rows_to n below k ++ (map f (filter p (variables j)) ++ map f (cond t (j ∷ []) [])))
-    (ne_eqb (bit_at (get_or below k 0) j) 1 ne)
-    ∙ ap (λ xs. rows_to n below k ++ xs) (append-nil (map f (filter p (variables j)))))
+row_skip n below k j ne = search (row_split, ne_eqb, append-nil)
 
 pub row_end : (n : ℕ) (below : List ℕ) (k : ℕ) → row_to n below k n ≡ rows_to n below (k + 1)
 unfolding row_to rows_to members
-row_end n below k =
-    let f : ℕ → List Pair = λ a. map (λ (b : ℕ). (a, b)) (members n (get_or below a 0)) in
-    sym (ap (flat_map f) (variables_more k) ∙ flat_map-append f (variables k) (k ∷ []) ∙ ap (λ xs. flat_map f (variables k) ++ xs) (append-nil (f k)))
+row_end n below k = search (variables_more, flat_map-append, append-nil)
 
 pub rows_start : (n : ℕ) (below : List ℕ) → rows_to n below 0 ≡ []
 unfolding rows_to

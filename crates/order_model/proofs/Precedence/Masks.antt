@@ -4,12 +4,12 @@
 --     leads_same      what leads where depends on which pairs there are alone
 --     holds_masks      masks that a struct may hold
 --     some_bit, both_bits, and_bit      bits of a mask, and of what two masks share
-use Rattle.std.proofs.Common.{◌≡◌, ◌≢◌, ◌↔◌, ℕ, zero, suc, ◌+◌, ◌*◌, ◌/◌, ◌%◌, ◌^◌, ◌<◌, ◌≤◌, pow_pos, pow_mono, replicate, Bool, true, ◌⊎◌, inl, inr, List, [], ◌∷◌, map, length, get_or, refl, sym, ap, ap₂, ◌∙◌, subst, arith, nat_eq, eqb, eqb-true, eq-eqb, ◌++◌, bit_and, w16}
+use Rattle.std.proofs.Common.{◌≡◌, ◌≢◌, ◌↔◌, ℕ, zero, suc, ◌+◌, ◌*◌, ◌/◌, ◌%◌, ◌^◌, ◌<◌, ◌≤◌, pow_pos, replicate, Bool, true, ◌⊎◌, inl, inr, List, [], ◌∷◌, map, length, get_or, refl, sym, ap, ap₂, ◌∙◌, subst, arith, nat_eq, eqb, eqb-true, eq-eqb, ◌++◌, bit_and, w16}
 use Rattle.std.specs.Int.{bit_at}
 use Rattle.std.specs.List.{flat_map, filter, list_all}
-use Rattle.std.proofs.lemmas.Bool.{cases_Bool, cases_lt, or_left, or_right, and_parts, false≢true, true≢false}
+use Rattle.std.proofs.lemmas.Bool.{cases_lt, or_left, or_right, and_parts}
 use Rattle.std.proofs.Math.Nat.{div-add-mod, mod-lt, mul_comm}
-use Rattle.std.proofs.lemmas.Nat.Bits.{bit_at_and, bit_at-zero, bit_at-lt, bit_at-trailing_zeros, same_from_bits, bit_at_cat_low, bit_at_above}
+use Rattle.std.proofs.lemmas.Nat.Bits.{bit_at_and, bit_at-zero, bit_at-trailing_zeros, same_from_bits, bit_at_cat_low, bit_at_above}
 use Rattle.std.proofs.lemmas.List.{get_or_past}
 use Rattle.std.proofs.lemmas.List.Elements.{recursion_from_All}
 use Rattle.order_model.specs.Orders.{has, variables, members}
@@ -17,7 +17,7 @@ use Rattle.order_model.specs.Pairs.{Pair, has_pair, sorted_pairs, Leads, AreBelo
 use Rattle.order_model.specs.Pairs.Leads.{by_one, by_more}
 use Rattle.order_model.specs.KeptPairs.{pairs_in, HasBit, AreWithin, HoldsKept, HasNoCycle}
 use Rattle.order_model.proofs.Lists.Sets.{Among, among_map, among_from_map, among_flat_map, among_from_flat_map, among_filter, among_from_filter}
-use Rattle.order_model.proofs.Lists.Orders.{same_bool, has_variables}
+use Rattle.order_model.proofs.Lists.Orders.{has_variables}
 use Rattle.order_model.proofs.Widths.Recurrence.{among_has, has_among}
 use Rattle.order_model.proofs.Precedence.Sets.{pair_among, among_pair}
 use Rattle.order_model.proofs.Certificates.Potential.{all_among}
@@ -40,21 +40,13 @@ abbrev pairs_by : ℕ → (ℕ → ℕ → Bool) → List Pair
 pairs_by n q = flat_map (λ a. map (λ b. (a, b)) (filter (q a) (variables n))) (variables n)
 
 among_by : (n : ℕ) (q : ℕ → ℕ → Bool) (p : Pair) → Among p (pairs_by n q) → (p.0 < n) × (p.1 < n) × (q p.0 p.1 ≡ true)
-among_by n q p m =
-    let row = among_from_flat_map (λ (a : ℕ). map (λ (b : ℕ). (a, b)) (filter (q a) (variables n))) p (variables n) m in
-    let a = row.0 in
-    let at = among_from_map (λ (b : ℕ). (a, b)) p (filter (q a) (variables n)) row.2 in
-    let b = at.0 in
-    let passed = among_from_filter (q a) b (variables n) at.1 in
-    subst (λ (r : Pair). (r.0 < n) × (r.1 < n) × (q r.0 r.1 ≡ true)) (sym at.2)
-    ((has_variables n a).0 (among_has (variables n) a row.1), (has_variables n b).0 (among_has (variables n) b passed.0), passed.1)
+among_by n q p m = grind (arith, among_from_flat_map, among_from_map, among_from_filter, has_variables, among_has)
 
 has_by : (n : ℕ) (q : ℕ → ℕ → Bool) (a b : ℕ) → (has_pair (pairs_by n q) a b ≡ true) ↔ ((a < n) × (b < n) × (q a b ≡ true))
 has_by n q a b = (
   λ h.
       let s = pair_among (pairs_by n q) a b h in
-      let r = among_by n q s.0 s.1 in
-      (subst (λ (v : ℕ). v < n) (sym s.2) r.0, subst (λ (v : ℕ). v < n) (sym s.3) r.1, ap₂ q s.2 s.3 ∙ r.2),
+      grind (arith, among_by),
   λ h.
       among_pair (pairs_by n q) (a, b)
       (among_flat_map (λ (c : ℕ). map (λ (d : ℕ). (c, d)) (filter (q c) (variables n))) a (variables n) (a, b)
@@ -64,10 +56,7 @@ has_by n q a b = (
 )
 
 by_same : (n : ℕ) (q r : ℕ → ℕ → Bool) → ((a b : ℕ) → a < n → b < n → q a b ≡ r a b) → pairs_by n q ≡ pairs_by n r
-by_same n q r h =
-    flat_map_same (λ (a : ℕ). map (λ (b : ℕ). (a, b)) (filter (q a) (variables n)))
-    (λ (a : ℕ). map (λ (b : ℕ). (a, b)) (filter (r a) (variables n))) (variables n)
-    (λ a m. ap (map (λ (b : ℕ). (a, b))) (filter_same (q a) (r a) (variables n) (λ b k. h a b ((has_variables n a).0 m) ((has_variables n b).0 k))))
+by_same n q r h = grind (arith, flat_map_same, filter_same, has_variables)
 
 -- ---- the pairs of masks
 
@@ -83,12 +72,7 @@ unfolding sorted_pairs
 sorted_by n P = refl
 
 pub has_in : (n : ℕ) (below : List ℕ) (a b : ℕ) → (has_pair (pairs_in n below) a b ≡ true) ↔ ((a < n) × (b < n) × HasBit below a b)
-has_in n below a b =
-    let is = ap (λ P. has_pair P a b) (in_by n below) in
-    let both = has_by n (bit_test below) a b in (
-      λ h. let s = both.0 (sym is ∙ h) in (s.0, s.1, eqb-true (bit_at (get_or below a 0) b) 1 s.2),
-      λ h. is ∙ both.1 (h.0, h.1, eq-eqb (bit_at (get_or below a 0) b) 1 h.2),
-    )
+has_in n below a b = grind (arith, in_by, has_by)
 
 -- each pair of the list
 pub among_in : (n : ℕ) (below : List ℕ) (p : Pair) → Among p (pairs_in n below) → (p.0 < n) × (p.1 < n) × HasBit below p.0 p.1
@@ -122,20 +106,11 @@ same_from P below s = s
 
 pub sorted_same : (n : ℕ) (P : List Pair) (below : List ℕ) → Same P below → sorted_pairs n P ≡ pairs_in n below
 unfolding Same
-sorted_same n P below s =
-    sorted_by n P ∙ by_same n (has_pair P) (bit_test below)
-    (λ a b h k. same_bool (has_pair P a b) (bit_test below a b) (λ e. eq-eqb (bit_at (get_or below a 0) b) 1 ((s a b).0 e))
-    (λ e. (s a b).1 (eqb-true (bit_at (get_or below a 0) b) 1 e)))
-    ∙ sym (in_by n below)
+sorted_same n P below s = grind (arith, sorted_by, in_by)
 
 -- the list of the masks is sorted
 pub sorted_in : (n : ℕ) (below : List ℕ) → sorted_pairs n (pairs_in n below) ≡ pairs_in n below
-sorted_in n below =
-    sorted_by n (pairs_in n below) ∙ by_same n (has_pair (pairs_in n below)) (bit_test below)
-    (λ a b h k. same_bool (has_pair (pairs_in n below) a b) (bit_test below a b)
-    (λ e. eq-eqb (bit_at (get_or below a 0) b) 1 ((has_in n below a b).0 e).2) (λ e.
-    (has_in n below a b).1 (h, k, eqb-true (bit_at (get_or below a 0) b) 1 e)))
-    ∙ sym (in_by n below)
+sorted_in n below = grind (arith, sorted_by, by_same, has_in, in_by)
 
 -- masks within n variables
 pub same_in : (n : ℕ) (below : List ℕ) → AreWithin n below → Same (pairs_in n below) below
@@ -164,10 +139,7 @@ holds_masks n P below some few w s acyclic = record {
 -- ---- bits
 
 pub zero_or_one : (n i : ℕ) → (bit_at n i ≡ 0) ⊎ (bit_at n i ≡ 1)
-zero_or_one n i = elim (cases_Bool (eqb (bit_at n i) 1)) [
-  | inl e ↦ inr (eqb-true (bit_at n i) 1 e)
-  | inr e ↦ inl (let l = bit_at-lt n i in let ne : bit_at n i ≢ 1 = (λ f. true≢false (sym (eq-eqb (bit_at n i) 1 f) ∙ e)) in omega arith)
-]
+zero_or_one n i = grind arith
 
 pub not_one_from_zero : (n i : ℕ) → bit_at n i ≡ 0 → bit_at n i ≡ 1 → ⊥
 not_one_from_zero n i e f = omega arith
@@ -178,17 +150,10 @@ some_bit n h ne = let t = bit_at-trailing_zeros w16 n (omega arith) h in (_, t.0
 
 -- a bit of what two masks share
 pub both_bits : (m k i : ℕ) → bit_at (bit_and m k) i ≡ 1 → (bit_at m i ≡ 1) × (bit_at k i ≡ 1)
-both_bits m k i e =
-    let a = bit_at_and m k i in
-    let l = bit_at-lt m i in
-    let r = bit_at-lt k i in
-    (omega arith, omega arith)
+both_bits m k i e = grind (arith, bit_at_and)
 
 pub and_bit : (m k i : ℕ) → bit_at m i ≡ 1 → bit_at k i ≡ 1 → bit_and m k ≢ 0
-and_bit m k i e f z =
-    let a = bit_at_and m k i in
-    let n = ap (λ v. bit_at v i) z ∙ bit_at-zero i in
-    omega arith
+and_bit m k i e f z = omega (arith, bit_at_and m k i)
 
 -- a mask whose bits are below n
 pub small_mask : (n m : ℕ) → ((b : ℕ) → bit_at m b ≡ 1 → b < n) → m < 2 ^ n
@@ -197,16 +162,13 @@ small_mask n m low =
     let whole : m / 2 ^ n * 2 ^ n + m % 2 ^ n ≡ m = ap (λ q. q + m % 2 ^ n) (mul_comm (m / 2 ^ n) (2 ^ n)) ∙ div-add-mod m (2 ^ n) in
     let same : m ≡ m % 2 ^ n = same_from_bits m (m % 2 ^ n) (λ b. elim (cases_lt b n) [
       | inl lt ↦ ap (λ k. bit_at k b) (sym whole) ∙ bit_at_cat_low (m / 2 ^ n) n (m % 2 ^ n) b lt
-      | inr le ↦ elim (zero_or_one m b) [ inl z ↦ z ∙ sym (bit_at_above (m % 2 ^ n) n b r le) | inr e ↦ absurd (let s = low b e in omega arith) ]
+      | inr le ↦ elim (zero_or_one m b) [ inl z ↦ z ∙ sym (bit_at_above (m % 2 ^ n) n b r le) | inr e ↦ absurd (omega (arith, low b e)) ]
     ]) in
     omega arith
 
 -- the masks within n variables are below 2 ^ n
 pub row_small : (n : ℕ) (below : List ℕ) → AreWithin n below → (a : ℕ) → get_or below a 0 < 2 ^ n
 row_small n below w a = small_mask n (get_or below a 0) (λ b h. (w a b h).1)
-
-pub row_in_16 : (n : ℕ) (below : List ℕ) → n ≤ 16 → AreWithin n below → (a : ℕ) → get_or below a 0 < 2 ^ 16
-row_in_16 n below few w a = let s = row_small n below w a in let p : 2 ^ n ≤ 2 ^ 16 = pow_mono few in omega arith
 
 -- masks without bits have no pairs
 pub nothing_in : (n : ℕ) (below : List ℕ) → ((a b : ℕ) → HasBit below a b → ⊥) → pairs_in n below ≡ []
@@ -230,19 +192,14 @@ no_masks = replicate 16 0
 
 -- where nothing is listed nothing leads anywhere
 pub nowhere : (a b : ℕ) → Leads [] a b → ⊥
-nowhere a b l = by l
-  where
-    by : {a b : ℕ} → Leads [] a b → ⊥
-    by (by_one h) = false≢true h
-    by (by_more h r) = false≢true h
+nowhere a b l = grind arith
 
 -- 16 masks speak of 16 variables
 pub within_16 : (below : List ℕ) → length below ≡ 16 → ((a : ℕ) → get_or below a 0 < 2 ^ 16) → AreWithin 16 below
 within_16 below long small a b e = (
   elim (cases_lt a 16) [
     | inl l ↦ l
-    | inr l ↦ absurd
-        (not_one_from_zero (get_or below a 0) b (ap (λ m. bit_at m b) (get_or_past below a 0 (omega arith)) ∙ bit_at-zero b) e)
+    | inr l ↦ grind (arith, get_or_past)
   ],
   elim (cases_lt b 16) [ inl l ↦ l | inr l ↦ absurd (not_one_from_zero (get_or below a 0) b (bit_at_above (get_or below a 0) 16 b (small a) l) e) ],
 )

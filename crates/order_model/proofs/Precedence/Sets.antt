@@ -72,12 +72,10 @@ pub sorted_from : (n : ℕ) (P : List Pair) (p : Pair) → Among p (sorted_pairs
 unfolding sorted_pairs
 sorted_from n P p m =
     let row = among_from_flat_map (λ (a : ℕ). map (λ (b : ℕ). (a, b)) (filter (has_pair P a) (variables n))) p (variables n) m in
-    let a = row.0 in
-    let at = among_from_map (λ (b : ℕ). (a, b)) p (filter (has_pair P a) (variables n)) row.2 in
-    let b = at.0 in
+    let at = among_from_map (λ (b : ℕ). (row.0, b)) p (filter (has_pair P row.0) (variables n)) row.2 in
     let there =
-    (and_parts (has (variables n) b) (has_pair P a b)
-    (sym (has_filter (has_pair P a) (variables n) b) ∙ among_has (filter (has_pair P a) (variables n)) b at.1)).1 in
+    (and_parts (has (variables n) at.0) (has_pair P row.0 at.0)
+    (sym (has_filter (has_pair P row.0) (variables n) at.0) ∙ among_has (filter (has_pair P row.0) (variables n)) at.0 at.1)).1 in
     ap (λ (q : Pair). has_pair P q.0 q.1) at.2 ∙ there
 
 pub sorted_to : (n : ℕ) (P : List Pair) (a b : ℕ) → a < n → b < n → has_pair P a b ≡ true → has_pair (sorted_pairs n P) a b ≡ true

@@ -6,12 +6,12 @@
 --     MasksTo P k below      the masks of the first k of some pairs
 --     masks_none, masks_more, masks_all      before the first pair, one more, after the last
 --     bad, out_of_range, cycle, accepted, holds      what is returned
-use Rattle.std.proofs.Common.{◌≡◌, ◌↔◌, ℕ, zero, suc, ◌+◌, ◌-◌, ◌*◌, ◌/◌, ◌%◌, ◌^◌, ◌<◌, ◌≤◌, Bool, true, false, cond, ◌&&◌, ◌||◌, ◌⊎◌, inl, inr, List, [], ◌∷◌, ◌++◌, length, get_or, take, drop, set, refl, sym, ap, ap₂, ◌∙◌, subst, arith, nat_eq, eqb, eqb-true, eq-eqb, le-ltb, lt-ltb, Option, Some, None, Ok, Err, bit_or, w16, lit<, take_all}
+use Rattle.std.proofs.Common.{◌≡◌, ◌↔◌, ℕ, zero, suc, ◌+◌, ◌-◌, ◌*◌, ◌%◌, ◌^◌, ◌<◌, ◌≤◌, Bool, true, false, cond, ◌&&◌, ◌||◌, inl, inr, List, [], ◌∷◌, ◌++◌, length, get_or, take, drop, set, refl, sym, ap, ap₂, ◌∙◌, subst, arith, nat_eq, eqb, eqb-true, eq-eqb, Option, Some, None, Ok, Err, bit_or, w16, take_all}
 use Rattle.std.specs.Prelude.{decimal}
 use Rattle.std.specs.Int.{bit_at}
-use Rattle.std.specs.List.{find, position, position_or_len, before_first, after_first}
+use Rattle.std.specs.List.{find, position, before_first, after_first}
 use Rattle.std.specs.Cmp.Lexicographic.{pointwise, same_text}
-use Rattle.std.proofs.lemmas.Bool.{cases_Bool, cases_eq, cases_lt, or_cases, or_left, or_right, and_parts, and_from, false≢true, true≢false}
+use Rattle.std.proofs.lemmas.Bool.{cases_Bool, cases_eq, or_cases, or_left, or_right, and_parts, and_from, false≢true, true≢false}
 use Rattle.std.proofs.lemmas.Cmp.{nat_list_eq_equiv}
 use Rattle.std.proofs.lemmas.Fmt.{decimal_digit, decimal_step, decimal_injective}
 use Rattle.std.proofs.lemmas.List.{take_more, drop_all, length-set, get_or-set_other, get_or-set_same}
@@ -32,10 +32,7 @@ find_only p (x ∷ xs) k h e f = by (p x) refl (λ r. find_only p xs k r e (λ j
   where
     by : (b : Bool) → p x ≡ b → (has xs k ≡ true → find p xs ≡ Some k) → cond b (Some x) (find p xs) ≡ Some k
     by true t r = ap (λ (v : ℕ). Some v) (f x t (or_left _ _ (eq-eqb x x refl)))
-    by false t r = elim (or_cases (nat_eq k x) (has xs k) h) [
-      | inl s ↦ absurd (true≢false (sym e ∙ ap p (eqb-true k x s) ∙ t))
-      | inr m ↦ r m
-    ]
+    by false t r = grind arith
 
 find_none : (p : ℕ → Bool) (xs : List ℕ) → ((j : ℕ) → p j ≡ true → has xs j ≡ true → ⊥) → find p xs ≡ None
 find_none p [] f = refl
@@ -46,13 +43,8 @@ find_none p (x ∷ xs) f = by (p x) refl (find_none p xs (λ j q m. f j q (or_ri
     by false t r = r
 
 find_parts : (p : ℕ → Bool) (xs : List ℕ) (k : ℕ) → find p xs ≡ Some k → (has xs k ≡ true) × (p k ≡ true)
-find_parts p [] k e = let never : ◌≡◌ {A = Option ℕ} None (Some k) = e in cc
-find_parts p (x ∷ xs) k e = by (p x) refl e (find_parts p xs k)
-  where
-    by : (b : Bool) → p x ≡ b → cond b (Some x) (find p xs) ≡ Some k → (find p xs ≡ Some k → (has xs k ≡ true) × (p k ≡ true)) →
-        (has (x ∷ xs) k ≡ true) × (p k ≡ true)
-    by true t s r = let same : x ≡ k = cc in (or_left _ _ (eq-eqb k x (sym same)), ap p (sym same) ∙ t)
-    by false t s r = let q = r s in (or_right _ _ q.0, q.1)
+find_parts p [] k e = cc
+find_parts p (x ∷ xs) k e = grind (arith, find_parts p xs k)
 
 same_word : (xs ys : List ℕ) → xs ≡ ys → pointwise nat_eq xs ys ≡ true
 same_word xs ys e = ap (pointwise nat_eq xs) (sym e) ∙ nat_list_eq_equiv.refl xs
@@ -80,18 +72,13 @@ number_none word f =
 
 -- the decimals of 10 to 15
 decimal_teen : (k : ℕ) → 10 ≤ k → k < 16 → decimal k ≡ 49 ∷ (38 + k) ∷ []
-decimal_teen k h l =
-    let q : k / 10 ≡ 1 = omega arith in
-    let r : 48 + k % 10 ≡ 38 + k = omega arith in
-    decimal_step k h (omega arith) ∙ ap₂ (λ (xs : List ℕ) (d : ℕ). xs ++ d ∷ []) (ap decimal q ∙ decimal_digit 1 (lit< tt)) r
+decimal_teen k h l = grind (arith, decimal_step, decimal_digit)
 
 -- a word of one digit
 pub number_digit : (word : List ℕ) → length word ≡ 1 → 48 ≤ get_or word 0 0 → get_or word 0 0 < 58 → variable_of word ≡ Some (get_or word 0 0 - 48)
 number_digit [] e l h = absurd (omega arith)
 number_digit (d ∷ []) e l h =
-    let v : 48 + (d - 48) ≡ d = omega arith in
-    let small : d - 48 < 10 = omega arith in
-    number_is (d ∷ []) (d - 48) (omega arith) (sym (decimal_digit (d - 48) small ∙ ap (λ (x : ℕ). x ∷ []) v))
+    number_is (d ∷ []) (d - 48) (omega arith) (sym (decimal_digit (d - 48) (omega arith) ∙ ap (λ (x : ℕ). x ∷ []) (omega arith)))
 number_digit (d ∷ x ∷ xs) e l h = absurd (omega arith)
 
 -- a word of the digit 1 and one from 0 to 5
@@ -100,37 +87,22 @@ pub number_teen : (word : List ℕ) → length word ≡ 2 → get_or word 0 0 �
 number_teen [] e f l h = absurd (omega arith)
 number_teen (x ∷ []) e f l h = absurd (omega arith)
 number_teen (x ∷ d ∷ []) e f l h =
-    let k : ℕ = 10 + (d - 48) in
-    let v : 38 + (10 + (d - 48)) ≡ d = omega arith in
     number_is (x ∷ d ∷ []) (10 + (d - 48)) (omega arith)
-    (sym (decimal_teen (10 + (d - 48)) (omega arith) (omega arith) ∙ ap₂ (λ (y z : ℕ). y ∷ z ∷ []) (sym f) v))
+    (sym (decimal_teen (10 + (d - 48)) (omega arith) (omega arith) ∙ ap₂ (λ (y z : ℕ). y ∷ z ∷ []) (sym f) (omega arith)))
 number_teen (x ∷ d ∷ y ∷ ys) e f l h = absurd (omega arith)
 
 -- any other word
 pub number_refused : (word : List ℕ) → (length word ≡ 1 → 48 ≤ get_or word 0 0 → get_or word 0 0 < 58 → ⊥) →
     (length word ≡ 2 → get_or word 0 0 ≡ 49 → 48 ≤ get_or word 1 0 → get_or word 1 0 < 54 → ⊥) →
     variable_of word ≡ None
-number_refused word one two = number_none word (λ k h e. elim (cases_lt k 10) [
-  | inl l ↦
-      let is : word ≡ (48 + k) ∷ [] = e ∙ decimal_digit k l in
-      let first : get_or word 0 0 ≡ 48 + k = ap (λ xs. get_or xs 0 0) is in
-      one (ap length is) (omega arith) (omega arith)
-  | inr l ↦
-      let is : word ≡ 49 ∷ (38 + k) ∷ [] = e ∙ decimal_teen k l h in
-      let second : get_or word 1 0 ≡ 38 + k = ap (λ xs. get_or xs 1 0) is in
-      two (ap length is) (ap (λ xs. get_or xs 0 0) is) (omega arith) (omega arith)
-])
+number_refused word one two = grind (arith, number_none, decimal_digit, decimal_teen)
 
 -- ---- pairs
 
-both_none : (o : Option ℕ) → both o None ≡ None
-both_none None = refl
-both_none (Some a) = refl
-
 both_parts : (o q : Option ℕ) (a b : ℕ) → both o q ≡ Some (a, b) → (o ≡ Some a) × (q ≡ Some b)
 both_parts (Some x) (Some y) a b e = let same : ◌≡◌ {A = Pair} (x, y) (a, b) = cc in (ap (λ (p : Pair). Some p.0) same, ap (λ (p : Pair). Some p.1) same)
-both_parts (Some x) None a b e = let never : ◌≡◌ {A = Option Pair} None (Some (a, b)) = e in cc
-both_parts None q a b e = let never : ◌≡◌ {A = Option Pair} None (Some (a, b)) = e in cc
+both_parts (Some x) None a b e = cc
+both_parts None q a b e = cc
 
 pub pair_small : (part : List ℕ) (a b : ℕ) → pair_of part ≡ Some (a, b) → (a < 16) × (b < 16)
 pair_small part a b e =
@@ -139,37 +111,12 @@ pair_small part a b e =
 
 -- a part without a comma has no pair
 pub pair_without_comma : (part : List ℕ) → None ≡ position (λ x. eqb x 44) part → pair_of part ≡ None
-pair_without_comma part e = by (cases_lt (position_or_len (λ x. eqb x 44) part) (length part))
-  where
-    by : (position_or_len (λ x. eqb x 44) part < length part) ⊎ (length part ≤ position_or_len (λ x. eqb x 44) part) → pair_of part ≡ None
-    by (inl lt) =
-        let found : ◌≡◌ {A = Option ℕ} None (Some (position_or_len (λ x. eqb x 44) part)) = e
-        ∙ ap (λ b. cond b (Some (position_or_len (λ x. eqb x 44) part)) None) (lt-ltb _ _ lt) in
-        absurd (let no : ⊥ = cc in no)
-    by (inr le) =
-        let empty : after_first (λ x. eqb x 44) part ≡ [] = drop_all (position_or_len (λ x. eqb x 44) part + 1) part (omega arith) in
-        let nothing : variable_of [] ≡ None = number_refused [] (λ a b d. absurd (omega arith)) (λ a b d f. absurd (omega arith)) in
-        ap (both (variable_of (before_first (λ x. eqb x 44) part))) (ap variable_of empty ∙ nothing)
-        ∙ both_none (variable_of (before_first (λ x. eqb x 44) part))
+pair_without_comma part e = grind (arith, drop_all, number_refused)
 
 -- a part with a comma at place k has the numbers around it
 pub pair_at : (part : List ℕ) (k : ℕ) → Some k ≡ position (λ x. eqb x 44) part →
     pair_of part ≡ both (variable_of (take k part)) (variable_of (drop (k + 1) part))
-pair_at part k e = by (cases_lt (position_or_len (λ x. eqb x 44) part) (length part))
-  where
-    by : (position_or_len (λ x. eqb x 44) part < length part) ⊎ (length part ≤ position_or_len (λ x. eqb x 44) part) →
-        pair_of part ≡ both (variable_of (take k part)) (variable_of (drop (k + 1) part))
-    by (inl lt) =
-        let found : ◌≡◌ {A = Option ℕ} (Some k) (Some (position_or_len (λ x. eqb x 44) part)) = e
-        ∙ ap (λ b. cond b (Some (position_or_len (λ x. eqb x 44) part)) None) (lt-ltb _ _ lt) in
-        let same : position_or_len (λ x. eqb x 44) part ≡ k = cc in
-        ap (λ (j : ℕ). both (variable_of (take j part)) (variable_of (drop (j + 1) part))) same
-    by (inr le) =
-        let found : ◌≡◌ {A = Option ℕ} (Some k) None = e ∙ ap (λ b. cond b (Some (position_or_len (λ x. eqb x 44) part)) None) (le-ltb _ _ le) in
-        absurd (let no : ⊥ = cc in no)
-
-pub both_second_none : (o : Option ℕ) → both o None ≡ None
-both_second_none o = both_none o
+pair_at part k e = grind arith
 
 -- ---- lists of pairs
 
@@ -177,9 +124,7 @@ both_second_none o = both_none o
 pairs_of-more : (xs : List (List ℕ)) (x : List ℕ) (P : List Pair) (p : Pair) → pairs_of xs ≡ Some P → pair_of x ≡ Some p →
     pairs_of (xs ++ x ∷ []) ≡ Some (P ++ p ∷ [])
 unfolding pairs_of
-pairs_of-more [] x P p e f =
-    let none : P ≡ [] = cc in
-    ap (λ o. with_pair o (Some [])) f ∙ ap (λ (Q : List Pair). Some (Q ++ p ∷ [])) (sym none)
+pairs_of-more [] x P p e f = grind arith
 pairs_of-more (y ∷ xs) x P p e f = by (pair_of y) (pairs_of xs) P e (λ Q g. pairs_of-more xs x Q p g f)
   where
     by : (o : Option Pair) (os : Option (List Pair)) (Q : List Pair) → with_pair o os ≡ Some Q →
@@ -188,19 +133,15 @@ pairs_of-more (y ∷ xs) x P p e f = by (pair_of y) (pairs_of xs) P e (λ Q g. p
     by (Some q) (Some R) Q g r =
         let same : q ∷ R ≡ Q = cc in
         ap (with_pair (Some q)) (r R refl) ∙ ap (λ (S : List Pair). Some (S ++ p ∷ [])) same
-    by (Some q) None Q g r = let never : ◌≡◌ {A = Option (List Pair)} None (Some Q) = g in cc
-    by None os Q g r = let never : ◌≡◌ {A = Option (List Pair)} None (Some Q) = g in cc
+    by (Some q) None Q g r = cc
+    by None os Q g r = cc
 
 -- a part without a pair
 pairs_of-fails : (xs : List (List ℕ)) (k : ℕ) (d : List ℕ) → k < length xs → pair_of (get_or xs k d) ≡ None → pairs_of xs ≡ None
 unfolding pairs_of
 pairs_of-fails [] k d h e = absurd (omega arith)
 pairs_of-fails (x ∷ xs) zero d h e = ap (λ o. with_pair o (pairs_of xs)) e
-pairs_of-fails (x ∷ xs) (suc k) d h e = ap (with_pair (pair_of x)) (pairs_of-fails xs k d (omega arith) e) ∙ none (pair_of x)
-  where
-    none : (o : Option Pair) → with_pair o None ≡ None
-    none None = refl
-    none (Some p) = refl
+pairs_of-fails (x ∷ xs) (suc k) d h e = grind (arith, pairs_of-fails xs k d (omega arith) e)
 
 -- one pair more
 has_pair-more : (P : List Pair) (p : Pair) (a b : ℕ) → has_pair (P ++ p ∷ []) a b ≡ (has_pair P a b || (nat_eq a p.0 && nat_eq b p.1))
@@ -209,12 +150,7 @@ has_pair-more [] p a b = last (nat_eq a p.0 && nat_eq b p.1)
     last : (t : Bool) → (t || false) ≡ t
     last true = refl
     last false = refl
-has_pair-more (q ∷ P) p a b = ap (λ t. (nat_eq a q.0 && nat_eq b q.1) || t) (has_pair-more P p a b)
-    ∙ regroup (nat_eq a q.0 && nat_eq b q.1) (has_pair P a b) (nat_eq a p.0 && nat_eq b p.1)
-  where
-    regroup : (x y z : Bool) → (x || (y || z)) ≡ ((x || y) || z)
-    regroup true y z = refl
-    regroup false y z = refl
+has_pair-more (q ∷ P) p a b = grind (arith, has_pair-more P p a b)
 
 -- the masks with the bit of one pair more
 abbrev pub with_bit : List ℕ → ℕ → ℕ → List ℕ
@@ -267,14 +203,7 @@ pub record ReadTo (parts : List (List ℕ)) (k : ℕ) (below : List ℕ) : Type 
 
 pub read_none : (parts : List (List ℕ)) (below : List ℕ) → length below ≡ 16 → ((a b : ℕ) → HasBit below a b → ⊥) → ReadTo parts 0 below
 unfolding pairs_of
-read_none parts below long empty =
-    record {
-      pairs =
-          [];
-      read = refl;
-      same = same_from [] below (λ a b. (λ h. absurd (false≢true h), λ e. absurd (empty a b e)));
-      long = long;
-    }
+read_none parts below long empty = grind (arith, same_from)
 
 pub read_more : (parts : List (List ℕ)) (k : ℕ) (below part : List ℕ) (a b : ℕ) → ReadTo parts k below → k < length parts →
     part ≡ get_or parts k part → pair_of part ≡ Some (a, b) → ReadTo parts (k + 1) (with_bit below a b)
@@ -283,7 +212,7 @@ read_more parts k below part a b r h e f =
     record {
       pairs = r.pairs ++ (a, b) ∷ [];
       read = ap pairs_of (take_more parts k part h) ∙ pairs_of-more (take k parts) (get_or parts k part) r.pairs (a, b) r.read (ap pair_of (sym e) ∙ f);
-      same = same_more r.pairs below a b (let l = r.long in let s = small.0 in omega arith) small.1 r.same;
+      same = same_more r.pairs below a b (omega arith) small.1 r.same;
       long = length-set below a (bit_or (get_or below a 0) (1 * 2 ^ b % 2 ^ 16)) ∙ r.long;
     }
 
@@ -310,7 +239,7 @@ masks_more P k below d m h small few =
     let b = (get_or P k d).1 in
     record {
       same = subst (λ (Q : List Pair). Same Q (with_bit below a b)) (sym (take_more P k d h))
-          (same_more (take k P) below a b (let l = m.long in omega arith) few m.same);
+          (same_more (take k P) below a b (omega arith) few m.same);
       long = length-set below a (bit_or (get_or below a 0) (1 * 2 ^ b % 2 ^ 16)) ∙ m.long;
     }
 
@@ -330,10 +259,7 @@ out_of_range (Some P) below n m f = λ small. f (λ a b e. below_at n P small a 
 -- the pairs of the text are those of 16 variables, where all are below n
 same_16 : (P : List Pair) (below : List ℕ) (n : ℕ) → n ≤ 16 → ((a b : ℕ) → (has_pair P a b ≡ true) ↔ HasBit below a b) → AreWithin n below →
     (a b : ℕ) → (has_pair P a b ≡ true) ↔ (has_pair (pairs_in 16 below) a b ≡ true)
-same_16 P below n h s w a b = (
-  λ e. let bit = (s a b).0 e in let in' = w a b bit in (has_in 16 below a b).1 (let l = in'.0 in omega arith, let l = in'.1 in omega arith, bit),
-  λ e. (s a b).1 ((has_in 16 below a b).0 e).2,
-)
+same_16 P below n h s w a b = grind (arith, has_in)
 
 pub cycle : (o : Option (List Pair)) (below : List ℕ) (n v : ℕ) → n ≤ 16 → AreMasksOf o (Some below) → AreWithin n below →
     IsPairCycle (pairs_in 16 below) v → ParsesAs o n (Err (PairCycle v))

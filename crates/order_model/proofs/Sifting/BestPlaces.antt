@@ -12,12 +12,6 @@ use Rattle.order_model.specs.Sifting.{moved, placements, smallest_order, smalles
 use Rattle.order_model.proofs.Sifting.Placements.{own_place}
 use Rattle.order_model.specs.Orders.{place_in}
 
-at_or_after : (a j : ℕ) → a ≤ j → (j ≡ a) ⊎ (a + 1 ≤ j)
-at_or_after a j h = elim (cases_Bool (ltb a j)) [
-  | inl e ↦ inr (let lt = ltb-true a j e in omega arith)
-  | inr e ↦ inl (let le = ltb-false a j e in omega arith)
-]
-
 -- the orders f a, f (a + 1), .. that pass a test
 module _ (n : ℕ) (F : List Function) (p : List ℕ → Bool) (f : ℕ → List ℕ) where
   abbrev size : List ℕ → ℕ
@@ -36,19 +30,7 @@ module _ (n : ℕ) (F : List Function) (p : List ℕ → Bool) (f : ℕ → List
 
   -- one place more in front, at which the test fails or the size is larger
   extend : (a k i : ℕ) → IsFirstLeast (a + 1) k i → (p (f a) ≡ true → size (f i) < size (f a)) → IsFirstLeast a (suc k) i
-  extend a k i w h = record {
-    from = (let g = w.from in omega arith);
-    to = (let g = w.to in omega arith);
-    passes = w.passes;
-    least = λ j g l t. elim (at_or_after a j g) [
-      | inl e ↦ let lt = h (sym (ap (λ v. p (f v)) e) ∙ t) in let s = ap (λ v. size (f v)) e in omega arith
-      | inr r ↦ w.least j r (omega arith) t
-    ];
-    above = λ j g l t. elim (at_or_after a j g) [
-      | inl e ↦ let lt = h (sym (ap (λ v. p (f v)) e) ∙ t) in let s = ap (λ v. size (f v)) e in omega arith
-      | inr r ↦ w.above j r l t
-    ];
-  }
+  extend a k i w h = grind arith
 
   -- what the smallest order is: the one in hand, which no other is below, or the first of the least size
   abbrev Outcome : List ℕ → ℕ → ℕ → List ℕ → Type 0
@@ -58,16 +40,7 @@ module _ (n : ℕ) (F : List Function) (p : List ℕ → Bool) (f : ℕ → List
 
   -- one place more in front, at which the test fails or the size is not below the one in hand
   later : (held : List ℕ) (a k : ℕ) (r : List ℕ) → (p (f a) ≡ true → size held ≤ size (f a)) → Outcome held (a + 1) k r → Outcome held a (suc k) r
-  later held a k r h o = elim o [
-    | inl s ↦ inl (
-      s.0,
-      λ j g l t. elim (at_or_after a j g) [
-        | inl e ↦ let le = h (sym (ap (λ v. p (f v)) e) ∙ t) in let z = ap (λ v. size (f v)) e in omega arith
-        | inr q ↦ s.1 j q (omega arith) t
-      ],
-    )
-    | inr s ↦ inr (s.0, extend a k s.0 s.1 (λ t. let le = h t in let lt = s.3 in omega arith), s.2, s.3)
-  ]
+  later held a k r h o = grind arith
 
   walk : (held : List ℕ) (k a : ℕ) → Outcome held a k (smallest_order n F held (passing a k))
   unfolding smallest_order
@@ -80,19 +53,8 @@ module _ (n : ℕ) (F : List Function) (p : List ℕ → Bool) (f : ℕ → List
       taken true e t here kept =
           let lt = ltb-true (size (f a)) (size held) e in
           elim here [
-            | inl s ↦ inr (
-              a,
-              record {
-                from = omega arith;
-                to = omega arith;
-                passes = t;
-                least = λ j g l u. elim (at_or_after a j g) [ inl q ↦ let z = ap (λ v. size (f v)) q in omega arith | inr q ↦ s.1 j q (omega arith) u ];
-                above = λ j g l u. absurd (omega arith);
-              },
-              s.0,
-              lt,
-            )
-            | inr s ↦ inr (s.0, extend a k s.0 s.1 (λ u. s.3), s.2, let less = s.3 in omega arith)
+            | inl s ↦ grind arith
+            | inr s ↦ inr (s.0, extend a k s.0 s.1 (λ u. s.3), s.2, omega arith)
           ]
       taken false e t here kept = let le = ltb-false (size (f a)) (size held) e in later held a k _ (λ u. le) kept
 
@@ -114,24 +76,10 @@ module _ (n : ℕ) (F : List Function) (p : List ℕ → Bool) (f : ℕ → List
           (i : ℕ) × IsFirstLeast a (suc k) i × (smallest_of n F order (cond b (f a ∷ passing (a + 1) k) (passing (a + 1) k)) ≡ f i)
       by true e rest =
           elim (walk (f a) k (a + 1)) [
-            | inl s ↦ (
-              a,
-              record {
-                from = omega arith;
-                to = omega arith;
-                passes = e;
-                least = λ j q l u. elim (at_or_after a j q) [ inl w ↦ let z = ap (λ v. size (f v)) w in omega arith | inr w ↦ s.1 j w (omega arith) u ];
-                above = λ j q l u. absurd (omega arith);
-              },
-              s.0,
-            )
+            | inl s ↦ grind arith
             | inr s ↦ (s.0, extend a k s.0 s.1 (λ u. s.3), s.2)
           ]
-      by false e rest =
-          elim (at_or_after a own g) [
-            | inl q ↦ absurd (true≢false (sym t ∙ ap (λ v. p (f v)) q ∙ e))
-            | inr q ↦ let s = rest q in (s.0, extend a k s.0 s.1 (λ u. absurd (true≢false (sym u ∙ e))), s.2)
-          ]
+      by false e rest = grind arith
 
 -- the best order has the variable at its best place
 pub best_at_best_place : (n : ℕ) (F : List Function) (P : List Pair) (order : List ℕ) (x : ℕ) → IsOrder n order → Keeps P order → x < n →
@@ -140,16 +88,7 @@ unfolding best placements
 best_at_best_place n F P order x o k lt =
     let own = own_place x order o.once ((o.all x).1 lt) in
     let s = first_least n F (keeps P) (λ i. moved order x i) order (length order) 0 (place_in order x) (omega arith)
-    (let l = own.1 in omega arith) (ap (keeps P) own.0 ∙ k) in (
-      s.0,
-      record {
-        within = (let l = s.1.to in omega arith);
-        kept = s.1.passes;
-        least = λ j l t. s.1.least j (omega arith) (omega arith) t;
-        uppermost = λ j l t. s.1.above j (omega arith) l t;
-      },
-      s.2,
-    )
+    (omega arith) (ap (keeps P) own.0 ∙ k) in grind arith
 
 -- and there is one such place only
 pub best_from_place : (n : ℕ) (F : List Function) (P : List Pair) (order : List ℕ) (x i : ℕ) → IsOrder n order → Keeps P order → x < n →
@@ -161,9 +100,6 @@ best_from_place n F P order x i o k lt w =
   where
     same : (j : ℕ) → IsBestPlace n F P order x j → j ≡ i
     same j v = elim (cases_Bool (ltb i j)) [
-      | inl e ↦ let l = ltb-true i j e in let a = v.uppermost i l w.kept in let b = w.least j v.within v.kept in absurd (omega arith)
-      | inr e ↦ elim (cases_Bool (ltb j i)) [
-        | inl f ↦ let l = ltb-true j i f in let a = w.uppermost j l v.kept in let b = v.least i w.within w.kept in absurd (omega arith)
-        | inr f ↦ let l = ltb-false i j e in let m = ltb-false j i f in omega arith
-      ]
+      | inl e ↦ let l = ltb-true i j e in let a = v.uppermost i l w.kept in absurd (omega arith)
+      | inr e ↦ grind arith
     ]

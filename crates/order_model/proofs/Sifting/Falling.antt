@@ -2,7 +2,7 @@
 --     sifting_order_lem      each variable stands once, after those of larger count and those of the same count that are smaller
 use Rattle.std.proofs.Common.{◌≡◌, ℕ, zero, suc, ◌+◌, ◌<◌, ◌≤◌, Bool, true, false, cond, ◌||◌, ◌⊎◌, inl, inr, List, [], ◌∷◌, refl, sym, ap, ◌∙◌, subst, arith, nat_eq, eqb-true, eq-eqb, ltb}
 use Rattle.std.specs.List.{fold, range_with_len, IsDistinct}
-use Rattle.std.proofs.lemmas.Bool.{false≢true, cases_Bool, or_cases, or_left, or_right, ltb-true, ltb-false}
+use Rattle.std.proofs.lemmas.Bool.{false≢true, or_cases, or_left, or_right, ltb-true, ltb-false}
 use Rattle.order_model.specs.Functions.{Function}
 use Rattle.order_model.specs.Orders.{has, variables, place_in}
 use Rattle.order_model.specs.Pairs.{is_above}
@@ -18,10 +18,7 @@ module _ (count : ℕ → ℕ) where
   Before u v = (count v < count u) ⊎ ((count u ≡ count v) × (u < v))
 
   before_differs : (u v : ℕ) → Before u v → Before v u → ⊥
-  before_differs u v h k = elim h [
-    | inl a ↦ elim k [ inl b ↦ omega arith | inr b ↦ let e = b.0 in omega arith ]
-    | inr a ↦ let e = a.0 in let l = a.1 in elim k [ inl b ↦ omega arith | inr b ↦ let m = b.1 in omega arith ]
-  ]
+  before_differs u v h k = grind arith
 
   -- each goes in front of those after it
   unfoldable IsSorted : List ℕ → Type 0
@@ -35,15 +32,7 @@ module _ (count : ℕ → ℕ) where
   insert_has : (x : ℕ) (ys : List ℕ) (z : ℕ) → (z ≡ x) ⊎ (has ys z ≡ true) → has (insert_by_count count x ys) z ≡ true
   unfolding insert_by_count
   insert_has x [] z h = elim h [ inl e ↦ or_left _ _ (eq-eqb z x e) | inr m ↦ absurd (false≢true m) ]
-  insert_has x (y ∷ ys) z h = by (ltb (count y) (count x)) (insert_has x ys z)
-    where
-      by : (b : Bool) → ((z ≡ x) ⊎ (has ys z ≡ true) → has (insert_by_count count x ys) z ≡ true) →
-          has (cond b (x ∷ y ∷ ys) (y ∷ insert_by_count count x ys)) z ≡ true
-      by true r = elim h [ inl e ↦ or_left _ _ (eq-eqb z x e) | inr m ↦ or_right (nat_eq z x) _ m ]
-      by false r = elim h [
-        | inl e ↦ or_right (nat_eq z y) _ (r (inl e))
-        | inr m ↦ elim (or_cases (nat_eq z y) (has ys z) m) [ inl e ↦ or_left _ _ e | inr k ↦ or_right (nat_eq z y) _ (r (inr k)) ]
-      ]
+  insert_has x (y ∷ ys) z h = grind (arith, insert_has x ys z)
 
   insert_sorted : (x : ℕ) (ys : List ℕ) → ((z : ℕ) → has ys z ≡ true → z < x) → IsSorted ys → IsSorted (insert_by_count count x ys)
   unfolding IsSorted insert_by_count
@@ -52,19 +41,14 @@ module _ (count : ℕ → ℕ) where
     where
       front : count y < count x → (z : ℕ) → has (y ∷ ys) z ≡ true → Before x z
       front lt z m = elim (or_cases (nat_eq z y) (has ys z) m) [
-        | inl e ↦ inl (let c = ap count (eqb-true z y e) in omega arith)
-        | inr k ↦ elim (s.0 z k) [ inl l ↦ inl (omega arith) | inr l ↦ let e = l.0 in inl (omega arith) ]
+        | inl e ↦ inl (omega (arith, ap count (eqb-true z y e)))
+        | inr k ↦ elim (s.0 z k) [ inl l ↦ inl (omega arith) | inr l ↦ inl (omega arith) ]
       ]
 
       behind : count x ≤ count y → (z : ℕ) → has (insert_by_count count x ys) z ≡ true → Before y z
       behind le z m = elim (inserted_has count x ys z m) [
         | inl e ↦
-            let c = ap count e in
-            let l : y < x = a y (or_left _ _ (eq-eqb y y refl)) in
-            elim (cases_Bool (ltb (count x) (count y))) [
-              | inl t ↦ inl (let g = ltb-true (count x) (count y) t in omega arith)
-              | inr t ↦ inr (let g = ltb-false (count x) (count y) t in (omega arith, omega arith))
-            ]
+            grind arith
         | inr k ↦ s.0 z k
       ]
 
@@ -77,27 +61,18 @@ module _ (count : ℕ → ℕ) where
   all_sorted zero a ys h s = s
   all_sorted (suc k) a ys h s =
       all_sorted k (a + 1) (insert_by_count count a ys)
-      (λ z m. elim (inserted_has count a ys z m) [ inl e ↦ omega arith | inr q ↦ let l = h z q in omega arith ])
+      (λ z m. elim (inserted_has count a ys z m) [ inl e ↦ omega arith | inr q ↦ omega (arith, h z q) ])
       (insert_sorted a ys h s)
 
   all_has : (xs ys : List ℕ) (z : ℕ) → (has xs z ≡ true) ⊎ (has ys z ≡ true) → has (fold (λ zs x. insert_by_count count x zs) ys xs) z ≡ true
   all_has [] ys z h = elim h [ inl m ↦ absurd (false≢true m) | inr m ↦ m ]
   all_has (x ∷ xs) ys z h =
-      all_has xs (insert_by_count count x ys) z (elim h [
-        | inl m ↦ elim (or_cases (nat_eq z x) (has xs z) m) [ inl e ↦ inr (insert_has x ys z (inl (eqb-true z x e))) | inr k ↦ inl k ]
-        | inr m ↦ inr (insert_has x ys z (inr m))
-      ])
+      grind (arith, all_has xs (insert_by_count count x ys) z (elim h [ inl m ↦ elim (or_cases (nat_eq z x) (has xs z) m) [ inl e ↦ inr (insert_has x ys z (inl (eqb-true z x e))) | inr k ↦ inl k ] | inr m ↦ inr (insert_has x ys z (inr m)) ]))
 
   sorted_distinct : (xs : List ℕ) → IsSorted xs → IsDistinct nat_eq xs
   unfolding IsSorted IsDistinct
   sorted_distinct [] s = tt
-  sorted_distinct (y ∷ ys) s = (
-    apart_from_absent y ys (elim (cases_Bool (has ys y)) [
-      | inl t ↦ absurd (before_differs y y (s.0 y t) (s.0 y t))
-      | inr e ↦ e
-    ]),
-    sorted_distinct ys s.1,
-  )
+  sorted_distinct (y ∷ ys) s = grind (arith, apart_from_absent, sorted_distinct ys s.1)
 
   sorted_above : (u v : ℕ) (xs : List ℕ) → IsSorted xs → has xs u ≡ true → has xs v ≡ true → Before u v → is_above u v xs ≡ true
   unfolding IsSorted is_above

@@ -2,9 +2,9 @@
 --     smallest_lem      the smallest of some orders is one of them, and none of them is smaller
 --     placement_order, own_place      a placement is an order, and the order is one of its own placements
 --     best_lem, sifted_lem      one variable, and all of them
-use Rattle.std.proofs.Common.{◌≡◌, ℕ, ◌+◌, ◌<◌, ◌≤◌, Bool, true, false, not, cond, ◌||◌, ◌⊎◌, inl, inr, List, [], ◌∷◌, ◌++◌, map, length, take, drop, refl, sym, ap, ◌∙◌, subst, arith, nat_eq, eqb-true, eq-eqb, ne_eqb, ltb, one-add}
+use Rattle.std.proofs.Common.{◌≡◌, ℕ, ◌+◌, ◌<◌, ◌≤◌, Bool, true, false, not, cond, ◌||◌, ◌⊎◌, inl, inr, List, [], ◌∷◌, ◌++◌, map, length, take, drop, refl, sym, ap, ◌∙◌, subst, arith, nat_eq, eqb-true, eq-eqb, ltb, one-add}
 use Rattle.std.specs.List.{filter, fold, insert, range_with_len, IsDistinct}
-use Rattle.std.proofs.lemmas.Bool.{false≢true, true≢false, cases_eq, or_cases, or_left, or_right, ltb-true, ltb-false, or_parts, or_from}
+use Rattle.std.proofs.lemmas.Bool.{false≢true, or_cases, or_left, or_right, or_parts}
 use Rattle.std.proofs.lemmas.List.{take-append-drop}
 use Rattle.order_model.specs.Functions.{Function}
 use Rattle.order_model.specs.Orders.{IsOrder, has, without, place_in, variables}
@@ -20,37 +20,13 @@ use Rattle.order_model.proofs.Widths.Recurrence.{apart_from_absent, has_again, a
 smaller : ℕ → List Function → List ℕ → List ℕ → List ℕ
 smaller n F a b = cond (ltb (size_under n F b) (size_under n F a)) b a
 
-smaller_lem : (n : ℕ) (F : List Function) (a b : List ℕ) →
-    ((smaller n F a b ≡ a) ⊎ (smaller n F a b ≡ b)) × (size_under n F (smaller n F a b) ≤ size_under n F a)
-    × (size_under n F (smaller n F a b) ≤ size_under n F b)
-unfolding smaller
-smaller_lem n F a b = by (ltb (size_under n F b) (size_under n F a)) refl
-  where
-    by : (c : Bool) → ltb (size_under n F b) (size_under n F a) ≡ c →
-        ((cond c b a ≡ a) ⊎ (cond c b a ≡ b)) × (size_under n F (cond c b a) ≤ size_under n F a) × (size_under n F (cond c b a) ≤ size_under n F b)
-    by true e = let lt = ltb-true (size_under n F b) (size_under n F a) e in (inr refl, omega arith, omega arith)
-    by false e = let le = ltb-false (size_under n F b) (size_under n F a) e in (inl refl, omega arith, omega arith)
-
 -- the smallest of some orders is one of them, and none of them is smaller
 pub smallest_lem : (n : ℕ) (F : List Function) (first : List ℕ) (others : List (List ℕ)) →
     Among (smallest_order n F first others) (first ∷ others)
     × ((b : List ℕ) → Among b (first ∷ others) → size_under n F (smallest_order n F first others) ≤ size_under n F b)
 unfolding smallest_order smaller
-smallest_lem n F first [] = (inl refl, λ b m. elim m [ inl e ↦ let s = ap (size_under n F) e in omega arith | inr r ↦ absurd r ])
-smallest_lem n F first (o ∷ others) =
-    let one = smaller_lem n F first o in
-    let rest = smallest_lem n F (smaller n F first o) others in (
-      elim rest.0 [
-        | inl e ↦ elim one.0 [ inl f ↦ inl (e ∙ f) | inr f ↦ inr (inl (e ∙ f)) ]
-        | inr r ↦ inr (inr r)
-      ],
-      λ b m.
-          let le = rest.1 (smaller n F first o) (inl refl) in
-          elim m [
-            | inl e ↦ let s = ap (size_under n F) e in omega (arith, one.1, one.2)
-            | inr r ↦ elim r [ inl e ↦ let s = ap (size_under n F) e in omega (arith, one.1, one.2) | inr k ↦ rest.1 b (inr k) ]
-          ],
-    )
+smallest_lem n F first [] = (inl refl, λ b m. elim m [ inl e ↦ omega (arith, ap (size_under n F) e) | inr r ↦ absurd r ])
+smallest_lem n F first (o ∷ others) = grind (arith, smallest_lem n F (smaller n F first o) others)
 
 smallest_of_lem : (n : ℕ) (F : List Function) (order own : List ℕ) (orders : List (List ℕ)) → Among own orders →
     Among (smallest_of n F order orders) orders × (size_under n F (smallest_of n F order orders) ≤ size_under n F own)
@@ -84,17 +60,15 @@ own_place x (y ∷ xs) d h = by (nat_eq x y) refl h (own_place x xs d.1)
         (ap (λ zs. x ∷ zs) (without_absent x xs (ap (has xs) s ∙ absent_from_apart y xs d.0)) ∙ ap (λ v. v ∷ xs) s, omega arith)
     by false e k r =
         let is = r k in
-        (ap (λ i. insert (y ∷ without x xs) i x) (one-add (place_in xs x)) ∙ ap (λ zs. y ∷ zs) is.0, omega (arith, is.1))
+        (ap (λ i. insert (y ∷ without x xs) i x) (one-add (place_in xs x)) ∙ ap (λ zs. y ∷ zs) is.0, omega arith)
 
 distinct_insert : (x : ℕ) (us vs : List ℕ) → IsDistinct nat_eq (us ++ vs) → has (us ++ vs) x ≡ false → IsDistinct nat_eq (us ++ x ∷ vs)
 unfolding IsDistinct
 distinct_insert x [] vs d h = (apart_from_absent x vs h, d)
 distinct_insert x (a ∷ us) vs d h =
     let parts = or_parts (nat_eq x a) (has (us ++ vs) x) h in
-    let out = absent_from_apart a (us ++ vs) d.0 in
-    let apart = or_parts (has us a) (has vs a) (sym (has_append us vs a) ∙ out) in
-    let other : nat_eq a x ≡ false = elim (cases_eq a x) [ inl s ↦ absurd (true≢false (sym (eq-eqb x a (sym s)) ∙ parts.0)) | inr ne ↦ ne_eqb a x ne ] in
-    (apart_from_absent a (us ++ x ∷ vs) (has_append us (x ∷ vs) a ∙ or_from _ _ apart.0 (or_from _ _ other apart.1)), distinct_insert x us vs d.1 parts.1)
+    let apart = or_parts (has us a) (has vs a) (sym (has_append us vs a) ∙ (absent_from_apart a (us ++ vs) d.0)) in
+    grind (arith, apart_from_absent, has_append, distinct_insert x us vs d.1 parts.1)
 
 -- each placement of a variable is an order
 placement_order : (n : ℕ) (order : List ℕ) (x i : ℕ) → IsOrder n order → has order x ≡ true → IsOrder n (insert (without x order) i x)
@@ -142,7 +116,7 @@ best_lem n F P order x o k lt =
     subst (λ xs. Among xs all) own.0
     (among_map place (place_in order x) (range_with_len 0 (length order))
     (has_among (range_with_len 0 (length order)) (place_in order x)
-    ((has_range (length order) 0 (place_in order x)).1 (omega arith, omega (arith, own.1))))) in
+    ((has_range (length order) 0 (place_in order x)).1 (omega arith, omega arith)))) in
     let got = smallest_of_lem n F order order (filter (keeps P) all) (among_filter (keeps P) order all among k) in
     let parts = among_from_filter (keeps P) (smallest_of n F order (filter (keeps P) all)) all got.0 in
     let from = among_from_map place (smallest_of n F order (filter (keeps P) all)) (range_with_len 0 (length order)) parts.0 in
@@ -152,15 +126,7 @@ best_lem n F P order x o k lt =
 pub inserted_has : (count : ℕ → ℕ) (x : ℕ) (ys : List ℕ) (z : ℕ) → has (insert_by_count count x ys) z ≡ true → (z ≡ x) ⊎ (has ys z ≡ true)
 unfolding insert_by_count
 inserted_has count x [] z h = elim (or_cases (nat_eq z x) false h) [ inl e ↦ inl (eqb-true z x e) | inr f ↦ absurd (false≢true f) ]
-inserted_has count x (y ∷ ys) z h = by (ltb (count y) (count x)) h (inserted_has count x ys z)
-  where
-    by : (b : Bool) → has (cond b (x ∷ y ∷ ys) (y ∷ insert_by_count count x ys)) z ≡ true →
-        (has (insert_by_count count x ys) z ≡ true → (z ≡ x) ⊎ (has ys z ≡ true)) → (z ≡ x) ⊎ (has (y ∷ ys) z ≡ true)
-    by true k r = elim (or_cases (nat_eq z x) (has (y ∷ ys) z) k) [ inl e ↦ inl (eqb-true z x e) | inr m ↦ inr m ]
-    by false k r = elim (or_cases (nat_eq z y) (has (insert_by_count count x ys) z) k) [
-      | inl e ↦ inr (or_left _ _ e)
-      | inr m ↦ elim (r m) [ inl e ↦ inl e | inr f ↦ inr (or_right (nat_eq z y) _ f) ]
-    ]
+inserted_has count x (y ∷ ys) z h = grind (arith, inserted_has count x ys z)
 
 pub all_inserted : (count : ℕ → ℕ) (n : ℕ) (xs ys : List ℕ) → ((z : ℕ) → has xs z ≡ true → z < n) → ((z : ℕ) → has ys z ≡ true → z < n) →
     (z : ℕ) → has (fold (λ zs x. insert_by_count count x zs) ys xs) z ≡ true → z < n
@@ -179,7 +145,7 @@ sift_list n F P [] order a o k = (o, k, omega arith)
 sift_list n F P (x ∷ xs) order a o k =
     let one = best_lem n F P order x o k (a x (or_left _ _ (eq-eqb x x refl))) in
     let rest = sift_list n F P xs (best n F P order x) (λ z m. a z (or_right _ _ m)) one.0 one.1 in
-    (rest.0, rest.1, omega (arith, rest.2, one.2))
+    (rest.0, rest.1, omega arith)
 
 pub sifted_lem : (n : ℕ) (F : List Function) (P : List Pair) (order : List ℕ) → IsOrder n order → Keeps P order →
     IsOrder n (sifted n F P order) × Keeps P (sifted n F P order) × (size_under n F (sifted n F P order) ≤ size_under n F order)

@@ -6,7 +6,7 @@ use Rattle.std.proofs.Common.{◌≡◌, ◌≢◌, ℕ, zero, suc, ◌+◌, ◌
 use Rattle.std.specs.Int.{bit_at}
 use Rattle.std.specs.List.{filter, range_with_len}
 use Rattle.std.proofs.lemmas.Nat.Bits.{bit_at-zero}
-use Rattle.std.proofs.lemmas.Bool.{false≢true, true≢false, cases_Bool, cases_lt, or_cases, or_left, and_parts, and_from, not_from_false}
+use Rattle.std.proofs.lemmas.Bool.{false≢true, cases_Bool, cases_lt, or_cases, or_left, and_parts, and_from, not_from_false}
 use Rattle.order_model.specs.Functions.{Function}
 use Rattle.order_model.specs.Orders.{has, IsOrder, variables, members, without}
 use Rattle.order_model.specs.Pairs.{Pair, Keeps, is_lawful, tops}
@@ -32,15 +32,11 @@ IsRising (x ∷ xs) = ((y : ℕ) → has xs y ≡ true → x < y) × IsRising xs
 
 rising_range : (k a : ℕ) → IsRising (range_with_len a k)
 rising_range zero a = tt
-rising_range (suc k) a = (λ y h. let s = (has_range k (a + 1) y).0 h in omega (arith, s.0), rising_range k (a + 1))
+rising_range (suc k) a = (λ y h. let s = (has_range k (a + 1) y).0 h in omega arith, rising_range k (a + 1))
 
 pub rising_filter : (p : ℕ → Bool) (xs : List ℕ) → IsRising xs → IsRising (filter p xs)
 rising_filter p [] r = tt
-rising_filter p (x ∷ xs) r = by (p x) (rising_filter p xs r.1)
-  where
-    by : (b : Bool) → IsRising (filter p xs) → IsRising (cond b (x ∷ filter p xs) (filter p xs))
-    by true k = (λ y h. r.0 y (and_parts (has xs y) (p y) (sym (has_filter p xs y) ∙ h)).0, k)
-    by false k = k
+rising_filter p (x ∷ xs) r = grind (arith, has_filter, rising_filter p xs r.1)
 
 pub rising_members : (n mask : ℕ) → IsRising (members n mask)
 unfolding members
@@ -53,7 +49,7 @@ first_has (x ∷ xs) z h = or_left _ _ (eq-eqb x x refl)
 
 pub first_le : (xs : List ℕ) (y : ℕ) → IsRising xs → has xs y ≡ true → first_of xs ≤ y
 first_le [] y r h = absurd (false≢true h)
-first_le (x ∷ xs) y r h = elim (or_cases (nat_eq y x) (has xs y) h) [ inl e ↦ let s = eqb-true y x e in omega arith | inr k ↦ let s = r.0 y k in omega arith ]
+first_le (x ∷ xs) y r h = elim (or_cases (nat_eq y x) (has xs y) h) [ inl e ↦ omega (arith, eqb-true y x e) | inr k ↦ omega (arith, r.0 y k) ]
 
 -- a member of a mask is a variable
 pub member_below : (n mask x : ℕ) → has (members n mask) x ≡ true → x < n
@@ -64,37 +60,18 @@ member_below n mask x h = (has_variables n x).0 (and_parts (has (variables n) x)
 module _ (n : ℕ) (F : List Function) (P : List Pair) (base : List ℕ) (o : IsOrder n base) (k : Keeps P base) where
   -- the members of a mask are variables
   pub lawful_members : (mask : ℕ) → is_lawful P (members n mask) ≡ true → IsLawfulSet P base (members n mask)
-  lawful_members mask l = record {
-    once = distinct_members n mask;
-    within = λ y h. (o.all y).1 (member_below n mask y h);
-    lawful = l;
-  }
+  lawful_members mask l = grind (arith, distinct_members, member_below)
 
   -- what stays of a mask without a member
   pub less_one : (mask x : ℕ) → has (members n mask) x ≡ true → is_lawful P (without x (members n mask)) ≡ true →
       (is_lawful P (members n (mask - 2 ^ x)) ≡ true) × (least n F P (members n (mask - 2 ^ x)) ≡ least n F P (without x (members n mask)))
-  less_one mask x h l =
-      let there = lawful_same P (members n (mask - 2 ^ x)) (without x (members n mask)) (members_without n mask x h) ∙ l in
-      let small = lawful_members (mask - 2 ^ x) there in (
-        there,
-        least_same n F P base (ground n P base o k) (members n (mask - 2 ^ x)) (without x (members n mask)) small
-            (record {
-              once =
-                  distinct_without x (members n mask) (distinct_members n mask);
-              within =
-                  λ y m. small.within y (members_without n mask x h y ∙ m);
-              lawful = l;
-            })
-            (members_without n mask x h),
-      )
+  less_one mask x h l = grind (arith, lawful_same, members_without, lawful_members, least_same, distinct_without, distinct_members)
 
 -- the test whether a set is within the bound, in its parts
 pub within_parts : (n : ℕ) (F : List Function) (P : List Pair) (r : Reserve) (bound : ℕ) (S : List ℕ) → is_within n F P r bound S ≡ true →
     (is_lawful P S ≡ true) × (least n F P S + reserved n F r S ≤ bound)
 unfolding is_within
-within_parts n F P r bound S h =
-    let parts = and_parts (is_lawful P S) (leb (least n F P S + reserved n F r S) bound) h in
-    (parts.0, leb-true (least n F P S + reserved n F r S) bound parts.1)
+within_parts n F P r bound S h = grind arith
 
 pub within_from : (n : ℕ) (F : List Function) (P : List Pair) (r : Reserve) (bound : ℕ) (S : List ℕ) → is_lawful P S ≡ true →
     least n F P S + reserved n F r S ≤ bound → is_within n F P r bound S ≡ true
@@ -119,23 +96,14 @@ bests n F P S = filter (λ x. nat_eq (least_with_top n F P S x) (least n F P S))
 
 pub bests_parts : (n : ℕ) (F : List Function) (P : List Pair) (S : List ℕ) (y : ℕ) → has (bests n F P S) y ≡ true →
     (has S y ≡ true) × (is_lawful P (without y S) ≡ true) × (least_with_top n F P S y ≡ least n F P S)
-bests_parts n F P S y h =
-    let parts =
-    and_parts (has (tops P S) y) (nat_eq (least_with_top n F P S y) (least n F P S))
-    (sym (has_filter (λ x. nat_eq (least_with_top n F P S x) (least n F P S)) (tops P S) y) ∙ h) in
-    let more = and_parts (has S y) (is_lawful P (without y S)) (sym (has_tops P S y) ∙ parts.0) in
-    (more.0, more.1, eqb-true (least_with_top n F P S y) (least n F P S) parts.1)
+bests_parts n F P S y h = grind (arith, has_filter)
 
 pub bests_from : (n : ℕ) (F : List Function) (P : List Pair) (S : List ℕ) (y : ℕ) → has S y ≡ true → is_lawful P (without y S) ≡ true →
     least_with_top n F P S y ≡ least n F P S → has (bests n F P S) y ≡ true
-bests_from n F P S y h l e =
-    has_filter (λ x. nat_eq (least_with_top n F P S x) (least n F P S)) (tops P S) y
-    ∙ and_from _ _ (has_tops P S y ∙ and_from _ _ h l) (eq-eqb (least_with_top n F P S y) (least n F P S) e)
+bests_from n F P S y h l e = search (has_filter, and_from, eq-eqb)
 
 pub rising_bests : (n : ℕ) (F : List Function) (P : List Pair) (mask : ℕ) → IsRising (bests n F P (members n mask))
-rising_bests n F P mask =
-    rising_filter (λ x. nat_eq (least_with_top n F P (members n mask) x) (least n F P (members n mask))) (tops P (members n mask))
-    (rising_filter (λ x. is_lawful P (without x (members n mask))) (members n mask) (rising_members n mask))
+rising_bests n F P mask = search (rising_filter, rising_members)
 
 pub open_is : (n : ℕ) (F : List Function) (P : List Pair) (r : Reserve) (bound mask : ℕ) → is_within n F P r bound (members n mask) ≡ true →
     cell_of n F P r bound mask ≡ (least n F P (members n mask), best_top n F P (members n mask))
@@ -154,8 +122,7 @@ module _ (n : ℕ) (F : List Function) (P : List Pair) (base : List ℕ) (o : Is
   unfolding best_top
   open_cell h =
       let parts = within_parts n F P r bound (members n mask) h in
-      let set = lawful_members n F P base o k mask parts.0 in
-      let top = recurrence_some n F P base (ground n P base o k) (members n mask) z set some in
+      let top = recurrence_some n F P base (ground n P base o k) (members n mask) z (lawful_members n F P base o k mask parts.0) some in
       let x = first_of (bests n F P (members n mask)) in
       let there =
       bests_parts n F P (members n mask) x
@@ -171,11 +138,7 @@ module _ (n : ℕ) (F : List Function) (P : List Pair) (base : List ℕ) (o : Is
 
   -- the variable of a cell is a member
   pub cell_member : has (members n mask) (cell_of n F P r bound mask).1 ≡ true
-  cell_member =
-      elim (cases_Bool (is_within n F P r bound (members n mask))) [
-        | inl t ↦ (open_cell t).member
-        | inr e ↦ ap (λ (c : ℕ × ℕ). has (members n mask) c.1) (closed_cell n F P r bound mask e) ∙ first_has (members n mask) z some
-      ]
+  cell_member = grind (arith, open_cell, closed_cell, first_has)
 
 -- the parts of a cell within the bound
 pub cell_cost_is : (n : ℕ) (F : List Function) (P : List Pair) (r : Reserve) (bound mask : ℕ) → is_within n F P r bound (members n mask) ≡ true →
@@ -186,16 +149,12 @@ pub cell_top : (n : ℕ) (F : List Function) (P : List Pair) (base : List ℕ) (
     has (members n mask) z ≡ true → is_within n F P r bound (members n mask) ≡ true →
     (has (tops P (members n mask)) (cell_of n F P r bound mask).1 ≡ true)
     × (least_with_top n F P (members n mask) (cell_of n F P r bound mask).1 ≡ least n F P (members n mask))
-cell_top n F P base r bound mask z o k m h =
-    let cell = open_cell n F P base o k r bound mask z m h in
-    (has_tops P (members n mask) (cell_of n F P r bound mask).1 ∙ and_from _ _ cell.member cell.top, cell.best)
+cell_top n F P base r bound mask z o k m h = grind (arith, open_cell, has_tops)
 
 pub cell_smallest : (n : ℕ) (F : List Function) (P : List Pair) (base : List ℕ) (r : Reserve) (bound mask y : ℕ) → IsOrder n base → Keeps P base →
     is_within n F P r bound (members n mask) ≡ true →
     has (tops P (members n mask)) y ≡ true → least_with_top n F P (members n mask) y ≡ least n F P (members n mask) → (cell_of n F P r bound mask).1 ≤ y
-cell_smallest n F P base r bound mask y o k h t e =
-    let parts = and_parts (has (members n mask) y) (is_lawful P (without y (members n mask))) (sym (has_tops P (members n mask) y) ∙ t) in
-    (open_cell n F P base o k r bound mask y parts.0 h).smallest y parts.0 parts.1 e
+cell_smallest n F P base r bound mask y o k h t e = grind (arith, has_tops, open_cell)
 
 -- below a top of the least cost the set is within the bound, too
 pub next_within : (n : ℕ) (F : List Function) (P : List Pair) (base : List ℕ) → IsOrder n base → Keeps P base → (r : Reserve) (bound mask x : ℕ) →
@@ -205,10 +164,12 @@ pub next_within : (n : ℕ) (F : List Function) (P : List Pair) (base : List ℕ
 next_within n F P base o k r bound mask x h m l e =
     let parts = within_parts n F P r bound (members n mask) h in
     let rest = less_one n F P base o k mask x m l in
-    let step = reserved_step n F r (without x (members n mask)) x (absent_without x (members n mask)) (member_below n mask x m) in
-    let a = reserved_same n F r (x ∷ without x (members n mask)) (members n mask) (has_again x (members n mask) m) in
-    let b = reserved_same n F r (members n (mask - 2 ^ x)) (without x (members n mask)) (members_without n mask x m) in
-    within_from n F P r bound (members n (mask - 2 ^ x)) rest.0 (omega (arith, parts.1, rest.1))
+    within_from n F P r bound (members n (mask - 2 ^ x)) rest.0 (omega (
+      arith,
+      reserved_step n F r (without x (members n mask)) x (absent_without x (members n mask)) (member_below n mask x m),
+      reserved_same n F r (x ∷ without x (members n mask)) (members n mask) (has_again x (members n mask) m),
+      reserved_same n F r (members n (mask - 2 ^ x)) (without x (members n mask)) (members_without n mask x m),
+    ))
 
 -- ---- costs
 
@@ -224,11 +185,7 @@ members_zero n = filter_none (λ x. eqb (bit_at 0 x) 1) (variables n) (λ y. ap 
 pub cost_open : (n : ℕ) (F : List Function) (P : List Pair) (r : Reserve) (bound mask : ℕ) → is_within n F P r bound (members n mask) ≡ true →
     cell_cost n F P r bound mask ≡ least n F P (members n mask)
 unfolding cell_cost
-cost_open n F P r bound mask h = by (nat_eq mask 0) refl
-  where
-    by : (b : Bool) → nat_eq mask 0 ≡ b → cond b 0 (cell_of n F P r bound mask).0 ≡ least n F P (members n mask)
-    by true e = sym (ap (λ m. least n F P (members n m)) (eqb-true mask 0 e) ∙ ap (least n F P) (members_zero n) ∙ least-nil n F P)
-    by false e = ap (λ (c : ℕ × ℕ). c.0) (open_is n F P r bound mask h)
+cost_open n F P r bound mask h = grind (arith, members_zero, least-nil, open_is)
 
 -- a cost that is not above the bound is the least cost of a lawful set
 pub cost_known : (n : ℕ) (F : List Function) (P : List Pair) (r : Reserve) (bound mask : ℕ) → cell_cost n F P r bound mask ≤ bound →
@@ -244,7 +201,7 @@ cost_known n F P r bound mask h = by (nat_eq mask 0) refl h
     by false e le =
         elim (cases_Bool (is_within n F P r bound (members n mask))) [
           | inl t ↦ ((within_parts n F P r bound (members n mask) t).0, ap (λ (c : ℕ × ℕ). c.0) (open_is n F P r bound mask t))
-          | inr f ↦ let s = ap (λ (c : ℕ × ℕ). c.0) (closed_cell n F P r bound mask f) in absurd (omega arith)
+          | inr f ↦ absurd (omega (arith, ap (λ (c : ℕ × ℕ). c.0) (closed_cell n F P r bound mask f)))
         ]
 
 -- ---- the cell from smaller sets
@@ -256,7 +213,7 @@ nonempty (x ∷ xs) h = (x, or_left _ _ (eq-eqb x x refl))
 -- a list that has something is not empty
 pub some_length : (xs : List ℕ) (z : ℕ) → has xs z ≡ true → nat_eq (length xs) 0 ≡ false
 some_length [] z h = absurd (false≢true h)
-some_length (x ∷ xs) z h = ne_eqb (length (x ∷ xs)) 0 (λ e. omega (arith, e))
+some_length (x ∷ xs) z h = ne_eqb (length (x ∷ xs)) 0 (λ e. omega arith)
 
 never_empty : (xs : List ℕ) (z : ℕ) → has xs z ≡ true → not (nat_eq (length xs) 0) ≡ true
 never_empty xs z h = not_from_false _ (some_length xs z h)
@@ -265,9 +222,7 @@ never_empty xs z h = not_from_false _ (some_length xs z h)
 module _ (n bound mask : ℕ) (costs : ℕ → ℕ) where
   pub candidate_parts : (y : ℕ) → has (candidates n bound mask costs) y ≡ true → (has (members n mask) y ≡ true) × (costs y ≤ bound)
   unfolding candidates
-  candidate_parts y h =
-      let parts = and_parts (has (members n mask) y) (leb (costs y) bound) (sym (has_filter (λ x. leb (costs x) bound) (members n mask) y) ∙ h) in
-      (parts.0, leb-true (costs y) bound parts.1)
+  candidate_parts y h = grind (arith, has_filter)
 
   pub candidate_from : (y : ℕ) → has (members n mask) y ≡ true → costs y ≤ bound → has (candidates n bound mask costs) y ≡ true
   unfolding candidates
@@ -293,63 +248,27 @@ module _ (n : ℕ) (F : List Function) (P : List Pair) (base : List ℕ) (o : Is
   pub candidate_sum : is_lawful P (members n mask) ≡ true → (y : ℕ) → has (members n mask) y ≡ true → costs y ≤ bound →
       (is_lawful P (without y (members n mask)) ≡ true) × (costs y + widths y ≡ least_with_top n F P (members n mask) y)
       × (least n F P (members n mask) ≤ costs y + widths y)
-  candidate_sum l y m le =
-      let c = given.are_costs y m in
-      let known = cost_known n F P r bound (mask - 2 ^ y) (omega arith) in
-      let low = sym (lawful_same P (members n (mask - 2 ^ y)) (without y (members n mask)) (members_without n mask y m)) ∙ known.0 in
-      let rest = less_one n F P base o k mask y m low in
-      let w = given.are_widths l y (candidate_asked n bound mask costs r y m le) in
-      let ge = recurrence_le n F P base (ground n P base o k) (members n mask) y (lawful_members n F P base o k mask l) m low in
-      (low, omega (arith, known.1, rest.1), omega (arith, known.1, rest.1))
+  candidate_sum l y m le = grind (arith, cost_known, lawful_same, members_without, less_one, candidate_asked, recurrence_le, lawful_members)
 
   -- within the bound, a top of the least cost is a candidate
   pub best_candidate : is_within n F P r bound (members n mask) ≡ true → (y : ℕ) → has (members n mask) y ≡ true →
       is_lawful P (without y (members n mask)) ≡ true →
       least_with_top n F P (members n mask) y ≡ least n F P (members n mask) → costs y ≤ bound
-  best_candidate h y m l e =
-      let next = next_within n F P base o k r bound mask y h m l e in
-      let c = cost_open n F P r bound (mask - 2 ^ y) next in
-      let parts = within_parts n F P r bound (members n (mask - 2 ^ y)) next in
-      let d = given.are_costs y m in
-      omega (arith, parts.1)
+  best_candidate h y m l e = grind (arith, next_within, within_parts, cost_open)
 
   -- a member whose sum is the least among the candidates', that is the smallest such, and that leaves room within the bound is the cell's
   pub found : (x : ℕ) → is_lawful P (members n mask) ≡ true → has (members n mask) x ≡ true → costs x ≤ bound →
       ((y : ℕ) → has (members n mask) y ≡ true → costs y ≤ bound → costs x + widths x ≤ costs y + widths y) →
       ((y : ℕ) → y < x → has (members n mask) y ≡ true → costs y ≤ bound → costs y + widths y ≢ costs x + widths x) →
       costs x + widths x + reserved n F r (members n mask) ≤ bound → cell_of n F P r bound mask ≡ (costs x + widths x, x)
-  found x l m le least_one first room =
-      let own = candidate_sum l x m le in
-      let within = within_from n F P r bound (members n mask) l (omega (arith, own.2)) in
-      let cell = open_cell n F P base o k r bound mask x m within in
-      let y = (cell_of n F P r bound mask).1 in
-      let c = best_candidate within y cell.member cell.top cell.best in
-      let other = candidate_sum l y cell.member c in
-      let a = least_one y cell.member c in
-      let e : costs x + widths x ≡ least n F P (members n mask) = omega (arith, own.2, other.1, cell.best) in
-      let up = cell.smallest x m own.0 (sym own.1 ∙ e) in
-      let down : x ≤ y = elim (cases_lt y x) [ inl lt ↦ absurd (first y lt cell.member c (omega (arith, other.1, cell.best))) | inr ge ↦ ge ] in
-      let cost = cell.cost in
-      let both : ((cell_of n F P r bound mask).0 ≡ costs x + widths x) × ((cell_of n F P r bound mask).1 ≡ x) = (omega arith, omega arith) in
-      λ i. (both.0 i, both.1 i)
+  found x l m le least_one first room = grind (arith, candidate_sum, within_from, open_cell, best_candidate)
 
   -- where no candidate leaves room within the bound, the cell is clipped
   pub clipped : (z : ℕ) → has (members n mask) z ≡ true →
       (is_lawful P (members n mask) ≡ true → (y : ℕ) → has (members n mask) y ≡ true → costs y ≤ bound →
       bound < costs y + widths y + reserved n F r (members n mask)) →
       cell_of n F P r bound mask ≡ (bound + 1, first_of (members n mask))
-  clipped z m none =
-      elim (cases_Bool (is_within n F P r bound (members n mask))) [
-        | inl t ↦
-            let parts = within_parts n F P r bound (members n mask) t in
-            let cell = open_cell n F P base o k r bound mask z m t in
-            let y = (cell_of n F P r bound mask).1 in
-            let c = best_candidate t y cell.member cell.top cell.best in
-            let s = candidate_sum parts.0 y cell.member c in
-            let lt = none parts.0 y cell.member c in
-            absurd (omega (arith, parts.1, s.1, cell.best))
-        | inr f ↦ closed_cell n F P r bound mask f
-      ]
+  clipped z m none = grind (arith, within_parts, open_cell, best_candidate, candidate_sum, closed_cell)
 
   -- ---- the cell as a function of the costs and widths
 
@@ -377,22 +296,15 @@ module _ (n : ℕ) (F : List Function) (P : List Pair) (base : List ℕ) (o : Is
 
   firsts_parts : (y : ℕ) → has firsts y ≡ true → (has (candidates n bound mask costs) y ≡ true) × (costs y + widths y ≡ least_sum n bound mask costs widths)
   unfolding firsts
-  firsts_parts y h =
-      let parts = and_parts (has (candidates n bound mask costs) y) (nat_eq (costs y + widths y) (least_sum n bound mask costs widths))
-      (sym (has_filter (λ x. nat_eq (costs x + widths x) (least_sum n bound mask costs widths)) (candidates n bound mask costs) y) ∙ h) in
-      (parts.0, eqb-true (costs y + widths y) (least_sum n bound mask costs widths) parts.1)
+  firsts_parts y h = grind (arith, has_filter)
 
   firsts_from : (y : ℕ) → has (candidates n bound mask costs) y ≡ true → costs y + widths y ≡ least_sum n bound mask costs widths → has firsts y ≡ true
   unfolding firsts
-  firsts_from y h e =
-      has_filter (λ x. nat_eq (costs x + widths x) (least_sum n bound mask costs widths)) (candidates n bound mask costs) y
-      ∙ and_from _ _ h (eq-eqb (costs y + widths y) (least_sum n bound mask costs widths) e)
+  firsts_from y h e = search (has_filter, and_from, eq-eqb)
 
   rising_firsts : IsRising firsts
   unfolding firsts candidates
-  rising_firsts =
-      rising_filter (λ x. nat_eq (costs x + widths x) (least_sum n bound mask costs widths)) (candidates n bound mask costs)
-      (rising_filter (λ x. leb (costs x) bound) (members n mask) (rising_members n mask))
+  rising_firsts = search (rising_filter, rising_members)
 
   with_room : has_room n P bound left mask costs widths ≡ true → cell_of n F P r bound mask ≡ (least_sum n bound mask costs widths, first_of firsts)
   unfolding has_room left
@@ -404,15 +316,7 @@ module _ (n : ℕ) (F : List Function) (P : List Pair) (base : List ℕ) (o : Is
       let le = leb-true (least_sum n bound mask costs widths + left) bound more.1 in
       let one = nonempty (candidates n bound mask costs) more.0 in
       let sums = sum_lem one.0 one.1 in
-      let x = first_of firsts in
-      let own = firsts_parts x (first_has firsts sums.0.0 (firsts_from sums.0.0 sums.0.1 sums.0.2)) in
-      let there = candidate_parts n bound mask costs x own.0 in
-      let e = own.1 in
-      let is = found x parts.0 there.0 there.1
-      (λ y m c. let s = sums.1 y (candidate_from n bound mask costs y m c) in omega arith)
-      (λ y lt m c f. let s = first_le firsts y rising_firsts (firsts_from y (candidate_from n bound mask costs y m c) (f ∙ e)) in omega (arith, s, lt))
-      (omega arith) in
-      is ∙ (λ i. (e i, x))
+      grind (arith, firsts_parts, first_has, firsts_from, candidate_parts, found, candidate_from, first_le, rising_firsts)
 
   no_room : (z : ℕ) → has (members n mask) z ≡ true → has_room n P bound left mask costs widths ≡ false →
       cell_of n F P r bound mask ≡ (bound + 1, first_of (members n mask))
@@ -421,20 +325,11 @@ module _ (n : ℕ) (F : List Function) (P : List Pair) (base : List ℕ) (o : Is
     | inl lt ↦ lt
     | inr le ↦
         let there = candidate_from n bound mask costs y k c in
-        let s = (sum_lem y there).1 y there in
-        absurd (true≢false
-        (sym (and_from _ _ l
-        (and_from _ _ (never_empty (candidates n bound mask costs) y there)
-        (le-leb (least_sum n bound mask costs widths + left) bound (omega arith)))) ∙ h))
+        grind (arith, sum_lem, never_empty)
   ])
 
   -- the cell follows from the costs and widths
   pub cell_from_is : (z : ℕ) → has (members n mask) z ≡ true →
       cell_from n P bound (reserved n F r (members n mask)) mask costs widths ≡ cell_of n F P r bound mask
   unfolding cell_from left firsts
-  cell_from_is z m = by (has_room n P bound left mask costs widths) refl
-    where
-      by : (b : Bool) → has_room n P bound left mask costs widths ≡ b →
-          cond b (least_sum n bound mask costs widths, first_of firsts) (bound + 1, first_of (members n mask)) ≡ cell_of n F P r bound mask
-      by true e = sym (with_room e)
-      by false e = sym (no_room z m e)
+  cell_from_is z m = grind (arith, with_room, no_room)

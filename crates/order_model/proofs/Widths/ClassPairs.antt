@@ -1,8 +1,8 @@
 -- Class numbers tell entries apart, and a width is the number of distinct pairs of unequal classes.
-use Rattle.std.proofs.Common.{◌≡◌, ◌≢◌, ℕ, suc, ◌<◌, Bool, true, false, not, cond, ◌&&◌, ◌||◌, ◌⊎◌, inl, inr, List, [], ◌∷◌, ◌++◌, map, length, reverse, refl, sym, ap, ◌∙◌, subst, arith, nat_eq, eqb-true, eq-eqb, ne_eqb}
+use Rattle.std.proofs.Common.{◌≡◌, ◌≢◌, ℕ, suc, ◌<◌, Bool, true, false, not, cond, ◌||◌, ◌⊎◌, inl, inr, List, [], ◌∷◌, ◌++◌, map, length, reverse, refl, sym, ap, ◌∙◌, subst, arith, nat_eq}
 use Rattle.std.specs.List.{filter, take_while}
 use Rattle.std.specs.Set.{is_member, unique_keys, distinct_count}
-use Rattle.std.proofs.lemmas.Bool.{false≢true, true≢false, cases_Bool, cases_eq, and_parts, and_from, not_from_false, false_from_ne_true}
+use Rattle.std.proofs.lemmas.Bool.{false≢true, true≢false, cases_Bool, and_parts, false_from_ne_true}
 use Rattle.std.proofs.lemmas.List.Sums.{take_while-cons}
 use Rattle.std.proofs.lemmas.List.{reverse-append}
 use Rattle.order_model.specs.Functions.{Point, Function, bit, restrict, SameFunction, table, same_table, depends}
@@ -50,9 +50,7 @@ module _ {K : Type 0} (eq : K → K → Bool) (decides : (x y : K) → (eq x y �
 
   comes_here : (w : K) (ts : List K) (t u : K) → eq t w ≡ true → eq u w ≡ false → Comes (w ∷ ts) t u
   unfolding Comes
-  comes_here w ts t u e f x h =
-      subst (Among x) (sym (before_next w ts u f))
-      (elim h [ inl s ↦ inl (s ∙ (decides t w).0 e) | inr a ↦ absurd (subst (Among x) (before_here w ts t e) a) ])
+  comes_here w ts t u e f x h = grind (arith, before_next, before_here)
 
   comes_next : (w : K) (ts : List K) (t u : K) → eq t w ≡ false → eq u w ≡ false → Comes ts t u → Comes (w ∷ ts) t u
   unfolding Comes
@@ -61,8 +59,7 @@ module _ {K : Type 0} (eq : K → K → Bool) (decides : (x y : K) → (eq x y �
       (elim h [
         | inl s ↦ inr (c x (inl s))
         | inr a ↦
-            let k : Among x (w ∷ before ts t) = subst (Among x) (before_next w ts t e) a in
-            elim k [ inl s ↦ inl s | inr b ↦ inr (c x (inr b)) ]
+            elim (subst (Among x) (before_next w ts t e) a) [ inl s ↦ inl s | inr b ↦ inr (c x (inr b)) ]
       ])
 
   -- of two different elements, the one that comes first is before the other, with all that is before it
@@ -74,8 +71,7 @@ module _ {K : Type 0} (eq : K → K → Bool) (decides : (x y : K) → (eq x y �
         | inr e ↦
             elim (cases_Bool (eq u w)) [
               | inl f ↦ inr (comes_here w ts u t f e)
-              | inr f ↦ elim (first_of_two ts t u ne (among_rest w ts t e h) (among_rest w ts u f k))
-                  [ inl c ↦ inl (comes_next w ts t u e f c) | inr c ↦ inr (comes_next w ts u t f e c) ]
+              | inr f ↦ grind (arith, comes_next, first_of_two ts t u ne (among_rest w ts t e h) (among_rest w ts u f k))
             ]
       ]
 
@@ -83,11 +79,12 @@ module _ {K : Type 0} (eq : K → K → Bool) (decides : (x y : K) → (eq x y �
   fewer_before : (ts : List K) (t u : K) → Comes ts t u → distinct_count eq (before ts t) < distinct_count eq (before ts u)
   unfolding Comes
   fewer_before ts t u c =
-      let le = count_mono eq decides (t ∷ before ts t) (before ts u) c in
       let new : is_member eq (before ts t) t ≡ false = false_from_ne_true _ (λ m. not_among_before ts t (among_from_member eq decides (before ts t) t m)) in
-      let more : distinct_count eq (t ∷ before ts t) ≡ suc (distinct_count eq (before ts t)) =
-      ap (λ b. length (cond b (unique_keys eq (before ts t)) (t ∷ unique_keys eq (before ts t)))) new in
-      omega arith
+      omega (
+        arith,
+        count_mono eq decides (t ∷ before ts t) (before ts u) c,
+        ap (λ b. length (cond b (unique_keys eq (before ts t)) (t ∷ unique_keys eq (before ts t)))) new,
+      )
 
   -- the number of distinct elements before the first equal one tells elements apart
   pub rank_apart : (ts : List K) (t u : K) → Among t ts → Among u ts →
@@ -100,8 +97,8 @@ module _ {K : Type 0} (eq : K → K → Bool) (decides : (x y : K) → (eq x y �
       ]
     where
       by : Comes ts t u ⊎ Comes ts u t → ⊥
-      by (inl c) = let l = fewer_before ts t u c in omega arith
-      by (inr c) = let l = fewer_before ts u t c in omega arith
+      by (inl c) = omega (arith, fewer_before ts t u c)
+      by (inr c) = omega (arith, fewer_before ts u t c)
 
 -- two ways to name elements that tell the same ones apart give as many names
 pub count_alike : {X A B : Type 0} (E : A → A → Bool) (dE : (x y : A) → (E x y ≡ true → x ≡ y) × (x ≡ y → E x y ≡ true)) (G : B → B → Bool)
@@ -131,10 +128,7 @@ count_alike E dE G dG f g (x ∷ xs) h =
 -- ---- widths
 
 pub pair_decides : (p q : ℕ × ℕ) → (same_pair p q ≡ true → p ≡ q) × (p ≡ q → same_pair p q ≡ true)
-pair_decides p q = (
-  λ e. let a = and_parts (nat_eq p.0 q.0) (nat_eq p.1 q.1) e in λ i. (eqb-true p.0 q.0 a.0 i, eqb-true p.1 q.1 a.1 i),
-  λ e. and_from _ _ (eq-eqb p.0 q.0 (ap (λ t. t.0) e)) (eq-eqb p.1 q.1 (ap (λ t. t.1) e)),
-)
+pair_decides p q = grind arith
 
 pub has_reverse : (xs : List ℕ) (y : ℕ) → has (reverse xs) y ≡ has xs y
 has_reverse [] y = refl
@@ -166,25 +160,7 @@ module _ (n : ℕ) (F : List Function) (T : List ℕ) (x : ℕ) (small : x < n) 
 
   -- fixing x, too, fixes just the variables outside T
   pub same_variables : (y : ℕ) → has (outside n (x ∷ T) ++ x ∷ []) y ≡ has (reverse (outside n T)) y
-  same_variables y = has_append (outside n (x ∷ T)) (x ∷ []) y ∙ ap (λ b. b || (nat_eq y x || false)) (has_outside n (x ∷ T) y) ∙ middle
-      ∙ sym (has_reverse (outside n T) y ∙ has_outside n T y)
-    where
-      both : (a b c : Bool) → ((a && not (b || c)) || (b || false)) ≡ cond b true (a && not c)
-      both true true c = refl
-      both false true c = refl
-      both true false true = refl
-      both true false false = refl
-      both false false true = refl
-      both false false false = refl
-
-      middle : ((has (variables n) y && not (nat_eq y x || has T y)) || (nat_eq y x || false)) ≡ (has (variables n) y && not (has T y))
-      middle = both (has (variables n) y) (nat_eq y x) (has T y) ∙ elim (cases_eq y x) [
-        | inl e ↦
-            ap (λ b. cond b true (has (variables n) y && not (has T y))) (eq-eqb y x e)
-            ∙ sym (and_from (has (variables n) y) (not (has T y)) (ap (has (variables n)) e ∙ (has_variables n x).1 small)
-            (not_from_false (has T y) (ap (has T) e ∙ new)))
-        | inr ne ↦ ap (λ b. cond b true (has (variables n) y && not (has T y))) (ne_eqb y x ne)
-      ]
+  same_variables y = grind (arith, has_append, has_outside, has_reverse, has_variables)
 
   inside : (y : ℕ) → has (reverse (outside n T)) y ≡ true → y < n
   inside y h = (has_variables n y).0 (and_parts (has (variables n) y) (not (has T y)) (sym (has_reverse (outside n T) y ∙ has_outside n T y) ∙ h)).0
@@ -193,28 +169,22 @@ module _ (n : ℕ) (F : List Function) (T : List ℕ) (x : ℕ) (small : x < n) 
   pub restriction_listed : (g : Function) → Among g reached → (b : Bool) → Among (table n (restrict x b g)) (entries n F T)
   unfolding entries reached
   restriction_listed g h b =
-      let more = reach_more F (outside n (x ∷ T)) x b g h in
       let got = reach_same n F (outside n (x ∷ T) ++ x ∷ []) (reverse (outside n T))
       (below_from_has n _ (λ y k. inside y (sym (same_variables y) ∙ k))) (below_from_has n _ inside) same_variables
-      (restrict x b g) more in
-      subst (λ t. Among t (map (table n) (reach F (reverse (outside n T))))) (sym (table_same n (restrict x b g) got.0 got.2))
-      (among_map (table n) got.0 _ got.1)
+      (restrict x b g) (reach_more F (outside n (x ∷ T)) x b g h) in
+      grind (arith, table_same, among_map)
 
   -- equal classes are equal restrictions
   pub class_tells : (g k : Function) (b c : Bool) → Among g reached → Among k reached →
       class_of (entries n F T) (table n (restrict x b g)) ≡ class_of (entries n F T) (table n (restrict x c k)) →
       table n (restrict x b g) ≡ table n (restrict x c k)
   unfolding class_of
-  class_tells g k b c h i e =
-      rank_apart same_table same_table_decides (entries n F T) (table n (restrict x b g)) (table n (restrict x c k))
-      (restriction_listed g h b) (restriction_listed k i c) e
+  class_tells g k b c h i e = search (rank_apart, same_table_decides, restriction_listed)
 
   -- the function depends on x just where its classes are unequal
   pub depends_by_classes : (g : Function) → Among g reached → depends n g x ≡ not (nat_eq (class_pair n F T x g).0 (class_pair n F T x g).1)
   unfolding depends class_pair
-  depends_by_classes g h = ap not (same_bool _ _
-      (λ e. eq-eqb _ _ (ap (class_of (entries n F T)) ((same_table_decides (table n (restrict x false g)) (table n (restrict x true g))).0 e)))
-      (λ e. (same_table_decides (table n (restrict x false g)) (table n (restrict x true g))).1 (class_tells g g false true h h (eqb-true _ _ e))))
+  depends_by_classes g h = grind (arith, same_table_decides, class_tells)
 
   -- two functions have one table just where they have one pair of classes
   pub same_by_classes : (g k : Function) → Among g reached → Among k reached →

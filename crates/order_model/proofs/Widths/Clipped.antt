@@ -47,8 +47,7 @@ module _ (n : ℕ) (F : List Function) (P : List Pair) (base : List ℕ) (o : Is
       let g = (least_is_least n F P base (ground n P base o k) (without y (members n mask))
       (without_top n F P base (ground n P base o k) (members n mask) y set l)).no_less
       ys tail in
-      let h = recurrence_le n F P base (ground n P base o k) (members n mask) y set (first_member y ys (members n mask) a.arrangement) l in
-      (omega arith, omega arith)
+      grind (arith, recurrence_le)
 
   module _ (mask c x : ℕ) (low : is_lawful P (members n mask) ≡ true) (cell : IsOpenCell n F P mask c x) (order : List ℕ)
       (rest : FirstRead n F P (mask - 2 ^ x) order) where
@@ -163,9 +162,7 @@ module _ (n : ℕ) (F : List Function) (P : List Pair) (base : List ℕ) (o : Is
       let same = least_same n F P base (ground n P base o k) (members n (2 ^ n - 1)) (variables n)
       (lawful_members n F P base o k (2 ^ n - 1) low) all (members_full n) in
       let a = (least_is_least n F P base (ground n P base o k) (variables n) all).no_less other (lawful_from_order n P other p q) in
-      let b = size_is_cost n F other p in
-      let none = reserved_all n F r (members n (2 ^ n - 1)) (λ y lt. members_full n y ∙ (has_variables n y).1 lt) in
-      within_from n F P r (size_under n F other) (members n (2 ^ n - 1)) low (omega arith)
+      grind (arith, within_from, size_is_cost, reserved_all, members_full, has_variables)
 
 -- with the size of an order that keeps the pairs as the bound, the order that the cells give is the first one of the fewest nodes
 pub clip : (n : ℕ) (F : List Function) (P : List Pair) (r : Reserve) (other order : List ℕ) → IsOrder n other → Keeps P other →

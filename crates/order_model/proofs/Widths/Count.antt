@@ -1,19 +1,18 @@
 -- All sets together take at most n * 2 ^ (n - 1) widths; and the mask of the essential variables.
 --     widths_bound      twice the number of widths is at most n * 2 ^ n
 --     essential_members      the members of the mask of the essential variables are these
-use Rattle.std.proofs.Common.{◌≡◌, ℕ, zero, suc, ◌+◌, ◌-◌, ◌*◌, ◌^◌, ◌<◌, ◌≤◌, Bool, true, false, cond, ◌&&◌, List, [], ◌∷◌, ◌++◌, map, length, refl, sym, ap, ap₂, ◌∙◌, subst, arith, nat_eq, eqb, leb, lit≤}
+use Rattle.std.proofs.Common.{◌≡◌, ℕ, zero, suc, ◌+◌, ◌*◌, ◌^◌, ◌<◌, ◌≤◌, Bool, true, false, cond, List, [], ◌∷◌, ◌++◌, map, length, refl, ap, ◌∙◌, subst, arith, eqb, lit≤}
 use Rattle.std.specs.Int.{bit_at}
 use Rattle.std.specs.List.{filter, list_any, sum, range_with_len}
-use Rattle.std.proofs.Math.Nat.{suc-mul, two-pow-succ, mul-add, mul-one}
+use Rattle.std.proofs.Math.Nat.{two-pow-succ}
 use Rattle.std.proofs.lemmas.List.Sums.{sum_by-cons}
-use Rattle.std.proofs.lemmas.Nat.Bits.{bit_at_above, bit_at_cat_low, bit_at_cat_high}
+use Rattle.std.proofs.lemmas.Nat.Bits.{bit_at_above, bit_at_cat_low}
 use Rattle.order_model.specs.Functions.{Function, depends}
-use Rattle.order_model.specs.Orders.{has, variables, members, mask_of, without}
-use Rattle.order_model.specs.Pairs.{Pair, is_lawful, tops}
+use Rattle.order_model.specs.Orders.{has, variables, members, mask_of}
+use Rattle.order_model.specs.Pairs.{Pair}
 use Rattle.order_model.specs.Widths.{essential, essential_mask}
 use Rattle.order_model.specs.declared.reserve.Reserve.{Reserve}
-use Rattle.order_model.specs.declared.reserve.Reserve.TheVariants.{Variables, Widths}
-use Rattle.order_model.specs.Cells.{cell_cost, open_tops, wanted, widths_taken}
+use Rattle.order_model.specs.Cells.{open_tops, wanted, widths_taken}
 use Rattle.order_model.proofs.Lists.Orders.{has_variables, has_filter}
 use Rattle.order_model.proofs.Bits.Masks.{bit-mask_of}
 use Rattle.order_model.proofs.Widths.Essential.{distinct_essential}
@@ -34,7 +33,6 @@ total_le : (f g : ℕ → ℕ) (k a b : ℕ) → ((i : ℕ) → i < k → f (a +
 unfolding total
 total_le f g zero a b h = omega arith
 total_le f g (suc k) a b h =
-    let first = h 0 (omega arith) in
     let e : f (a + 0) ≡ f a = ap f (omega arith) in
     let e' : g (b + 0) ≡ g b = ap g (omega arith) in
     let rest = total_le f g k (a + 1) (b + 1)
@@ -46,34 +44,24 @@ total_le f g (suc k) a b h =
 
 total_split : (f : ℕ → ℕ) (k l m a : ℕ) → m ≡ k + l → total f a m ≡ total f a k + total f (a + k) l
 unfolding total
-total_split f zero l m a e =
-    let s : total f a m ≡ total f (a + 0) l = ap₂ (total f) (let u : a ≡ a + 0 = omega arith in u) (let t : m ≡ l = omega arith in t) in
-    omega arith
+total_split f zero l m a e = grind arith
 total_split f (suc k) l zero a e = absurd (omega arith)
-total_split f (suc k) l (suc m) a e =
-    let rest = total_split f k l m (a + 1) (omega arith) in
-    let same : total f (a + 1 + k) l ≡ total f (a + suc k) l = ap (λ u. total f u l) (omega arith) in
-    omega arith
+total_split f (suc k) l (suc m) a e = grind (arith, total_split f k l m (a + 1) (omega arith))
 
 total_plus : (f : ℕ → ℕ) (c k a : ℕ) → total (λ i. f i + c) a k ≡ total f a k + k * c
 unfolding total
 total_plus f c zero a = omega arith
-total_plus f c (suc k) a = let rest = total_plus f c k (a + 1) in let e : suc k * c ≡ k * c + c = suc-mul k c in omega arith
+total_plus f c (suc k) a = omega (arith, total_plus f c k (a + 1))
 
 -- ---- how many members all masks have
 
 filter_append : (p : ℕ → Bool) (xs ys : List ℕ) → filter p (xs ++ ys) ≡ filter p xs ++ filter p ys
 filter_append p [] ys = refl
-filter_append p (x ∷ xs) ys = by (p x) (filter_append p xs ys)
-  where
-    by : (b : Bool) → filter p (xs ++ ys) ≡ filter p xs ++ filter p ys →
-        cond b (x ∷ filter p (xs ++ ys)) (filter p (xs ++ ys)) ≡ cond b (x ∷ filter p xs) (filter p xs) ++ filter p ys
-    by true e = ap (λ zs. x ∷ zs) e
-    by false e = e
+filter_append p (x ∷ xs) ys = grind (arith, filter_append p xs ys)
 
 length_append : (xs ys : List ℕ) → length (xs ++ ys) ≡ length xs + length ys
 length_append [] ys = omega arith
-length_append (x ∷ xs) ys = let e = length_append xs ys in omega arith
+length_append (x ∷ xs) ys = omega (arith, length_append xs ys)
 
 how_many : ℕ → ℕ → ℕ
 how_many n mask = length (members n mask)
@@ -92,23 +80,13 @@ members_more n mask =
     by false = refl
 
 low_half : (n m : ℕ) → m < 2 ^ n → length (members (suc n) m) ≡ length (members n m)
-low_half n m lt =
-    let e : cond (eqb (bit_at m n) 1) 1 0 ≡ zero = ap (λ b. cond (eqb b 1) 1 0) (bit_at_above m n n lt (omega arith)) in
-    let f = members_more n m in
-    omega arith
+low_half n m lt = grind (arith, bit_at_above, members_more)
 
 high_half : (n m : ℕ) → m < 2 ^ n → length (members (suc n) (2 ^ n + m)) ≡ length (members n m) + 1
 unfolding members
 high_half n m lt =
     let shape : 2 ^ n + m ≡ 1 * 2 ^ n + m = omega arith in
-    let same : length (members n (2 ^ n + m)) ≡ length (members n m) =
-    ap length (filter_same (λ x. eqb (bit_at (2 ^ n + m) x) 1) (λ x. eqb (bit_at m x) 1) (variables n)
-    (λ y h. ap (λ b. eqb b 1) (ap (λ k. bit_at k y) shape ∙ bit_at_cat_low 1 n m y ((has_variables n y).0 h)))) in
-    let top : bit_at (2 ^ n + m) n ≡ 1 = ap (λ k. bit_at k n) shape ∙ bit_at_cat_high 1 n m n lt (omega arith)
-    ∙ ap (bit_at 1) (let z : n - n ≡ 0 = omega arith in z) in
-    let e : cond (eqb (bit_at (2 ^ n + m) n) 1) 1 0 ≡ suc zero = ap (λ b. cond (eqb b 1) 1 0) top in
-    let f = members_more n (2 ^ n + m) in
-    omega arith
+    grind (arith, filter_same, bit_at_cat_low, has_variables, members_more)
 
 -- all masks together have n * 2 ^ (n - 1) members
 all_members : (n : ℕ) → 2 * total (how_many n) 0 (2 ^ n) ≤ n * 2 ^ n
@@ -119,41 +97,30 @@ all_members (suc n) =
     let double : 2 ^ suc n ≡ 2 ^ n + 2 ^ n = two-pow-succ n in
     let halves = total_split (how_many (suc n)) (2 ^ n) (2 ^ n) (2 ^ suc n) 0 double in
     let low = total_le (how_many (suc n)) (how_many n) (2 ^ n) 0 0
-    (λ i lt. let e = low_half n i lt in let s : 0 + i ≡ i = omega arith in
-    subst (λ u. length (members (suc n) u) ≤ length (members n u)) (sym s) (omega arith)) in
+    (λ i lt. let e = low_half n i lt in grind arith) in
     let high = total_le (how_many (suc n)) (λ i. how_many n i + 1) (2 ^ n) (0 + 2 ^ n) 0
-    (λ i lt. let e = high_half n i lt in let s : 0 + i ≡ i = omega arith in let t : 0 + 2 ^ n + i ≡ 2 ^ n + i = omega arith in
-    subst (λ u. length (members (suc n) u) ≤ length (members n (0 + i)) + 1) (sym t)
-    (subst (λ u. length (members (suc n) (2 ^ n + i)) ≤ length (members n u) + 1) (sym s) (omega arith))) in
+    (λ i lt. let e = high_half n i lt in grind arith) in
     let plus = total_plus (how_many n) 1 (2 ^ n) 0 in
-    let one : 2 ^ n * 1 ≡ 2 ^ n = mul-one (2 ^ n) in
-    let right : suc n * 2 ^ suc n ≡ 2 * (n * 2 ^ n) + 2 * 2 ^ n = ap (λ k. suc n * k) double ∙ spread (2 ^ n) in
-    omega arith
+    omega (arith, ap (λ k. suc n * k) double ∙ spread (2 ^ n))
   where
     spread : (m : ℕ) → suc n * (m + m) ≡ 2 * (n * m) + 2 * m
-    spread m = let a = suc-mul n (m + m) in let b : n * (m + m) ≡ n * m + n * m = mul-add n m m in omega arith
+    spread m = omega arith
 
 -- a cell takes no more widths than its set has members
 pub wanted_few : (n : ℕ) (F : List Function) (P : List Pair) (r : Reserve) (bound mask : ℕ) → length (wanted n F P r bound mask) ≤ length (members n mask)
 unfolding wanted open_tops
-wanted_few n F P Variables bound mask =
-    let a = filter_at_most (λ x. is_lawful P (members n mask) && leb (cell_cost n F P Variables bound (mask - 2 ^ x)) bound) (tops P (members n mask)) in
-    let b = filter_at_most (λ x. is_lawful P (without x (members n mask))) (members n mask) in
-    omega arith
-wanted_few n F P Widths bound mask = by (nat_eq (length (open_tops n F P Widths bound mask)) 0)
-  where
-    by : (b : Bool) → length (cond b [] (members n mask)) ≤ length (members n mask)
-    by true = omega arith
-    by false = omega arith
+wanted_few n F P r bound mask = grind (arith, filter_at_most)
 
 -- a solve takes at most n * 2 ^ (n - 1) widths
 pub widths_bound : (n : ℕ) (F : List Function) (P : List Pair) (r : Reserve) (bound : ℕ) → 2 * widths_taken n F P r bound ≤ n * 2 ^ n
 unfolding widths_taken how_many
 widths_bound n F P r bound =
-    let e = sum_total (λ mask. length (wanted n F P r bound mask)) (2 ^ n) 0 in
-    let le = total_le (λ mask. length (wanted n F P r bound mask)) (how_many n) (2 ^ n) 0 0 (λ i lt. few (0 + i)) in
-    let all = all_members n in
-    omega arith
+    omega (
+      arith,
+      sum_total (λ mask. length (wanted n F P r bound mask)) (2 ^ n) 0,
+      total_le (λ mask. length (wanted n F P r bound mask)) (how_many n) (2 ^ n) 0 0 (λ i lt. few (0 + i)),
+      all_members n,
+    )
   where
     few : (mask : ℕ) → length (wanted n F P r bound mask) ≤ length (members n mask)
     few mask = wanted_few n F P r bound mask
@@ -164,9 +131,7 @@ unfolding members essential_mask essential
 essential_members n F = filter_same (λ x. eqb (bit_at (mask_of (essential n F)) x) 1) (λ x. list_any (λ f. depends n f x) F) (variables n) at
   where
     at : (y : ℕ) → has (variables n) y ≡ true → eqb (bit_at (mask_of (essential n F)) y) 1 ≡ list_any (λ f. depends n f y) F
-    at y h =
-        ap (λ b. eqb b 1) (bit-mask_of (essential n F) (distinct_essential n F) y) ∙ bit (has (essential n F) y)
-        ∙ has_filter (λ z. list_any (λ f. depends n f z) F) (variables n) y ∙ ap (λ b. b && list_any (λ f. depends n f y) F) h
+    at y h = grind (arith, bit-mask_of, distinct_essential, has_filter)
       where
         bit : (b : Bool) → eqb (cond b 1 0) 1 ≡ b
         bit true = refl

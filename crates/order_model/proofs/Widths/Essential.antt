@@ -2,11 +2,11 @@
 --     essential_width      over a set without it, an essential variable's width is not 0
 --     essentials_step, essentials_all      the essential variables outside a set, with one more member, and with all
 --     essentials_through      a list of variables above a set costs at least as many nodes as essential variables are left outside less
-use Rattle.std.proofs.Common.{◌≡◌, ℕ, ◌+◌, ◌<◌, ◌≤◌, Bool, true, false, not, cond, ◌&&◌, ◌||◌, inl, inr, List, [], ◌∷◌, ◌++◌, map, length, set, refl, sym, ap, ◌∙◌, subst, arith, nat_eq, eq-eqb, ne_eqb}
+use Rattle.std.proofs.Common.{◌≡◌, ℕ, ◌+◌, ◌<◌, ◌≤◌, Bool, true, false, not, cond, ◌&&◌, ◌||◌, inl, inr, List, [], ◌∷◌, ◌++◌, map, length, set, refl, sym, ap, ◌∙◌, arith, nat_eq, eq-eqb, ne_eqb}
 use Rattle.std.specs.List.{filter, list_any, IsDistinct}
 use Rattle.std.proofs.lemmas.Bool.{false≢true, true≢false, cases_Bool, cases_eq, cases_lt, or_cases, or_left, or_right, and_parts}
 use Rattle.std.proofs.lemmas.List.{length-set, get_or-set_other}
-use Rattle.order_model.specs.Functions.{Point, Function, bit, restrict, SameFunction, table, same_table, depends}
+use Rattle.order_model.specs.Functions.{Point, Function, restrict, SameFunction, table, same_table, depends}
 use Rattle.order_model.specs.Orders.{has, IsOrder, variables}
 use Rattle.order_model.specs.Levels.{subfunctions, reach, dependents, size_under}
 use Rattle.order_model.specs.Widths.{outside, width, cost, essential, essentials_outside}
@@ -22,21 +22,13 @@ unfolding dependents
 dependents_some n fs x g m e =
     count_mono same_table same_table_decides (table n g ∷ []) (map (table n) (filter (λ f. depends n f x) fs))
     (λ t k. elim k [
-      | inl s ↦ subst (λ u. Among u (map (table n) (filter (λ f. depends n f x) fs))) (sym s)
-          (among_map (table n) g _ (among_filter (λ f. depends n f x) g fs m e))
+      | inl s ↦ grind (arith, among_map, among_filter)
       | inr r ↦ absurd r
     ])
 
 -- fixing to p's own values changes p only where x may be set
 fixed_self : (n : ℕ) (xs : List ℕ) (p : Point) (x : ℕ) (b : Bool) → length p ≡ n → has xs x ≡ false → mix n xs p (set p x b) ≡ set p x b
-fixed_self n xs p x b l out = sym (mix_is n xs p (set p x b) (set p x b) (length-set p x b ∙ l) at)
-  where
-    at : (y : ℕ) → y < n → bit (set p x b) y ≡ cond (has xs y) (bit p y) (bit (set p x b) y)
-    at y lt = by (has xs y) refl
-      where
-        by : (c : Bool) → has xs y ≡ c → bit (set p x b) y ≡ cond c (bit p y) (bit (set p x b) y)
-        by true e = get_or-set_other p x y b false (λ s. true≢false (sym e ∙ ap (has xs) s ∙ out))
-        by false e = refl
+fixed_self n xs p x b l out = grind (arith, mix_is, length-set, get_or-set_other)
 
 -- over a set without it, a variable on which some function depends has a width that is not 0
 pub essential_width : (n : ℕ) (F : List Function) (T : List ℕ) (x : ℕ) (f : Function) → Among f F → depends n f x ≡ true → 1 ≤ width n F T x
@@ -59,7 +51,7 @@ essential_width n F T x f m e =
 
     none : width n F T x ≡ 0 → (g : Function) → Among g (reach F (outside n (x ∷ T))) → depends n g x ≡ false
     none z g k = elim (cases_Bool (depends n g x)) [
-      | inl t ↦ let some = dependents_some n (reach F (outside n (x ∷ T))) x g k t in absurd (omega (arith, z, some))
+      | inl t ↦ let some = dependents_some n (reach F (outside n (x ∷ T))) x g k t in absurd (omega arith)
       | inr r ↦ r
     ]
 
@@ -84,12 +76,7 @@ some_depends n (f ∷ F) x h =
 -- an essential variable's width is not 0
 pub width_some : (n : ℕ) (F : List Function) (T : List ℕ) (x : ℕ) → has (essential n F) x ≡ true → 1 ≤ width n F T x
 unfolding essential
-width_some n F T x h =
-    let parts =
-    and_parts (has (variables n) x) (list_any (λ f. depends n f x) F)
-    (sym (has_filter (λ y. list_any (λ f. depends n f y) F) (variables n) x) ∙ h) in
-    let some = some_depends n F x parts.1 in
-    essential_width n F T x some.0 some.1 some.2
+width_some n F T x h = grind (arith, has_filter, some_depends, essential_width)
 
 pub distinct_essential : (n : ℕ) (F : List Function) → IsDistinct nat_eq (essential n F)
 unfolding essential
@@ -104,11 +91,7 @@ abbrev pub one_if : Bool → ℕ
 one_if b = cond b 1 0
 
 left_out_cons : (S : List ℕ) (z : ℕ) (E : List ℕ) → left_out S (z ∷ E) ≡ one_if (not (has S z)) + left_out S E
-left_out_cons S z E = by (has S z)
-  where
-    by : (b : Bool) → length (cond (not b) (z ∷ filter (λ y. not (has S y)) E) (filter (λ y. not (has S y)) E)) ≡ one_if (not b) + left_out S E
-    by true = omega arith
-    by false = omega arith
+left_out_cons S z E = grind arith
 
 -- one more variable in the set leaves one less outside, where it is among them
 left_out_step : (S : List ℕ) (x : ℕ) (E : List ℕ) → IsDistinct nat_eq E → has S x ≡ false → left_out S E ≡ left_out (x ∷ S) E + one_if (has E x)
@@ -122,15 +105,15 @@ left_out_step S x (z ∷ E) d h = by (left_out_step S x E d.1 h) (left_out_cons 
     by rest a b =
         elim (cases_eq z x) [
           | inl s ↦
-              let u : one_if (not (has S z)) ≡ 1 = ap (λ v. one_if (not (has S v))) s ∙ ap (λ c. one_if (not c)) h in
               let v : one_if (not (nat_eq z x || has S z)) ≡ 0 = ap (λ c. one_if (not (c || has S z))) (eq-eqb z x s) in
-              let w : one_if (nat_eq x z || has E x) ≡ 1 = ap (λ c. one_if (c || has E x)) (eq-eqb x z (sym s)) in
-              let t : one_if (has E x) ≡ 0 = ap one_if (ap (has E) (sym s) ∙ absent_from_apart z E d.0) in
-              omega arith
+              omega (
+                arith,
+                ap (λ v. one_if (not (has S v))) s ∙ ap (λ c. one_if (not c)) h,
+                ap (λ c. one_if (c || has E x)) (eq-eqb x z (sym s)),
+                ap one_if (ap (has E) (sym s) ∙ absent_from_apart z E d.0),
+              )
           | inr ne ↦
-              let v : one_if (not (nat_eq z x || has S z)) ≡ one_if (not (has S z)) = ap (λ c. one_if (not (c || has S z))) (ne_eqb z x ne) in
-              let w : one_if (nat_eq x z || has E x) ≡ one_if (has E x) = ap (λ c. one_if (c || has E x)) (ne_eqb x z (λ s. ne (sym s))) in
-              omega arith
+              omega (arith, ap (λ c. one_if (not (c || has S z))) (ne_eqb z x ne), ap (λ c. one_if (c || has E x)) (ne_eqb x z (λ s. ne (sym s))))
         ]
 
 -- how many are outside depends on the set alone
@@ -142,12 +125,7 @@ essentials_same n F S T h = λ i. length (filter (λ y. not (h y i)) (essential 
 pub essentials_step : (n : ℕ) (F : List Function) (T : List ℕ) (x : ℕ) → has T x ≡ false →
     essentials_outside n F T ≤ essentials_outside n F (x ∷ T) + width n F T x
 unfolding essentials_outside
-essentials_step n F T x h = by (has (essential n F) x) refl (left_out_step T x (essential n F) (distinct_essential n F) h)
-  where
-    by : (c : Bool) → has (essential n F) x ≡ c → left_out T (essential n F) ≡ left_out (x ∷ T) (essential n F) + one_if c →
-        left_out T (essential n F) ≤ left_out (x ∷ T) (essential n F) + width n F T x
-    by true e k = let w = width_some n F T x e in omega arith
-    by false e k = omega arith
+essentials_step n F T x h = grind (arith, left_out_step, distinct_essential, width_some)
 
 -- with all variables none is outside
 pub essentials_all : (n : ℕ) (F : List Function) (S : List ℕ) → ((y : ℕ) → y < n → has S y ≡ true) → essentials_outside n F S ≡ 0
@@ -163,10 +141,7 @@ essentials_all n F S h = none (essential n F) (λ y k. h y (within y k))
     none : (E : List ℕ) → ((y : ℕ) → has E y ≡ true → has S y ≡ true) → left_out S E ≡ 0
     none [] k = refl
     none (z ∷ E) k =
-        let a = left_out_cons S z E in
-        let b : one_if (not (has S z)) ≡ 0 = ap (λ c. one_if (not c)) (k z (or_left _ _ (eq-eqb z z refl))) in
-        let r = none E (λ y m. k y (or_right _ _ m)) in
-        omega arith
+        omega (arith, left_out_cons S z E, ap (λ c. one_if (not c)) (k z (or_left _ _ (eq-eqb z z refl))), none E (λ y m. k y (or_right _ _ m)))
 
 -- a list of variables above a set has at least as many nodes as it has essential variables
 pub essentials_through : (n : ℕ) (F : List Function) (above below : List ℕ) → IsDistinct nat_eq (above ++ below) →
@@ -174,15 +149,9 @@ pub essentials_through : (n : ℕ) (F : List Function) (above below : List ℕ) 
 unfolding cost IsDistinct
 essentials_through n F [] below d = omega arith
 essentials_through n F (x ∷ above) below d =
-    let rest = essentials_through n F above below d.1 in
-    let step = essentials_step n F (above ++ below) x (absent_from_apart x (above ++ below) d.0) in
-    omega arith
+    omega (arith, essentials_through n F above below d.1, essentials_step n F (above ++ below) x (absent_from_apart x (above ++ below) d.0))
 
 -- an order has at least the cost of its bottom part and a node for each essential variable above
 pub essentials_bound : (n : ℕ) (F : List Function) (above below : List ℕ) → IsOrder n (above ++ below) →
     cost n F below + essentials_outside n F below ≤ size_under n F (above ++ below)
-essentials_bound n F above below o =
-    let a = essentials_through n F above below o.once in
-    let b = essentials_all n F (above ++ below) (λ y lt. (o.all y).1 lt) in
-    let c = size_is_cost n F (above ++ below) o in
-    omega arith
+essentials_bound n F above below o = grind (arith, essentials_through, essentials_all, size_is_cost)

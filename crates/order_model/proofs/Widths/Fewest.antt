@@ -7,7 +7,7 @@ use Rattle.order_model.specs.Levels.{size_under}
 use Rattle.order_model.specs.Widths.{cost, least}
 use Rattle.order_model.specs.Diagrams.{FewestKeeping, HasFewestKeeping}
 use Rattle.order_model.proofs.Lists.Sets.{Among}
-use Rattle.order_model.proofs.Lists.Orders.{same_bool, has_variables}
+use Rattle.order_model.proofs.Lists.Orders.{has_variables}
 use Rattle.order_model.proofs.Precedence.Lists.{Ground, keeps_at, keeps_from, above_has, above_differs, above_from_lawful, lawful_from, lawful_below}
 use Rattle.order_model.proofs.Functions.Exchange.{size_is_cost}
 use Rattle.order_model.proofs.Nodes.LevelBound.{size_bound}
@@ -16,16 +16,10 @@ use Rattle.order_model.proofs.Nodes.Construction.{exact_diagram}
 
 -- an order is an arrangement of all variables
 pub arrangement_from_order : (n : ℕ) (order : List ℕ) → IsOrder n order → IsArrangement (variables n) order
-arrangement_from_order n order o = record {
-  members = λ y. same_bool _ _ (λ h. (has_variables n y).1 ((o.all y).0 h)) (λ h. (o.all y).1 ((has_variables n y).0 h));
-  once = o.once;
-}
+arrangement_from_order n order o = grind (arith, has_variables)
 
 pub order_from_arrangement : (n : ℕ) (order : List ℕ) → IsArrangement (variables n) order → IsOrder n order
-order_from_arrangement n order a = record {
-  all = λ y. (λ h. (has_variables n y).0 (sym (a.members y) ∙ h), λ h. a.members y ∙ (has_variables n y).1 h);
-  once = a.once;
-}
+order_from_arrangement n order a = grind (arith, has_variables)
 
 -- an order that keeps the pairs orders each lawful set
 pub ground : (n : ℕ) (P : List Pair) (order : List ℕ) → IsOrder n order → Keeps P order → Ground P order
@@ -33,10 +27,7 @@ ground n P order o k = record { once = o.once; keeps = k }
 
 -- and in it each bottom part is lawful
 pub lawful_from_order : (n : ℕ) (P : List Pair) (order : List ℕ) → IsOrder n order → Keeps P order → IsLawfulList P (variables n) order
-lawful_from_order n P order o k = record {
-  arrangement = arrangement_from_order n order o;
-  lawful = lawful_below P order o.once (λ p m h. keeps_at P order k p m);
-}
+lawful_from_order n P order o k = search (arrangement_from_order, lawful_below, keeps_at)
 
 -- all variables are a lawful set
 pub all_lawful : (n : ℕ) (P : List Pair) (order : List ℕ) → IsOrder n order → Keeps P order → IsLawfulSet P order (variables n)
@@ -66,7 +57,7 @@ fewest_from_orders n F P order o k h =
     let exact = exact_diagram n F order o in
     record {
       some = (order, exact.0, o, k, exact.1.represents, exact.1.size);
-      no_fewer = λ other d p q rep. let a = h other p q in let b = size_bound n F other d p rep in omega arith;
+      no_fewer = λ other d p q rep. omega (arith, size_bound n F other d p rep);
     }
 
 module _ (n : ℕ) (F : List Function) (P : List Pair) (base : List ℕ) (o : IsOrder n base) (k : Keeps P base) where
@@ -79,21 +70,16 @@ module _ (n : ℕ) (F : List Function) (P : List Pair) (base : List ℕ) (o : Is
   pub fewest_is_least : FewestKeeping n F P (least n F P (variables n))
   fewest_is_least =
       let all = least_is_least n F P base (ground n P base o k) (variables n) (all_lawful n P base o k) in
-      let order = all.some.0 in
-      let is = order_from_lawful n P base o k order all.some.1 in
-      let size = size_is_cost n F order is.0 ∙ all.some.2 in
+      let is = order_from_lawful n P base o k all.some.0 all.some.1 in
+      let size = size_is_cost n F all.some.0 is.0 ∙ all.some.2 in
       subst (FewestKeeping n F P) size
-      (fewest_from_orders n F P order is.0 is.1
-      (λ other p q. let a = least_all other p q in let b = size_is_cost n F other p in omega arith))
+      (fewest_from_orders n F P all.some.0 is.0 is.1
+      (λ other p q. omega (arith, least_all other p q, size_is_cost n F other p)))
 
 -- the fewest are one number
 pub fewest_unique : (n : ℕ) (F : List Function) (P : List Pair) (a b : ℕ) → FewestKeeping n F P a → FewestKeeping n F P b → a ≡ b
 fewest_unique n F P a b f g =
-    let x = f.no_fewer g.some.0 g.some.1 g.some.2 g.some.3 g.some.4 in
-    let y = g.no_fewer f.some.0 f.some.1 f.some.2 f.some.3 f.some.4 in
-    let u = f.some.5 in
-    let v = g.some.5 in
-    omega arith
+    omega (arith, f.no_fewer g.some.0 g.some.1 g.some.2 g.some.3 g.some.4, g.no_fewer f.some.0 f.some.1 f.some.2 f.some.3 f.some.4)
 
 -- an order that keeps the pairs and whose cost is the least
 pub record IsLeastOrder (n : ℕ) (F : List Function) (P : List Pair) (order : List ℕ) : Type 0 where
@@ -106,11 +92,12 @@ pub has_fewest_lem : (n : ℕ) (F : List Function) (P : List Pair) (order : List
 has_fewest_lem n F P order = (
   λ h.
       let d = h.fewest.0 in
-      let e = fewest_unique n F P (length d.nodes) (least n F P (variables n)) h.fewest.2 (fewest_is_least n F P order h.is_order h.kept) in
-      let b = size_bound n F order d h.is_order h.fewest.1 in
-      let c = size_is_cost n F order h.is_order in
-      let m = least_all n F P order h.is_order h.kept order h.is_order h.kept in
-      record { is_order = h.is_order; kept = h.kept; least_cost = omega arith },
+      record {
+        is_order = h.is_order;
+        kept = h.kept;
+        least_cost =
+            omega (arith, fewest_unique n F P (length d.nodes) (least n F P (variables n)) h.fewest.2 (fewest_is_least n F P order h.is_order h.kept), size_bound n F order d h.is_order h.fewest.1, size_is_cost n F order h.is_order, least_all n F P order h.is_order h.kept order h.is_order h.kept);
+      },
   λ h.
       let exact = exact_diagram n F order h.is_order in
       let size = exact.1.size ∙ size_is_cost n F order h.is_order ∙ h.least_cost in

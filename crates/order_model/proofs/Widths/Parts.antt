@@ -1,6 +1,6 @@
 -- The functions reached by restricting some variables and then others.
 --     subfunctions_parts, reach_parts      of one function; of some
-use Rattle.std.proofs.Common.{◌≡◌, ℕ, true, false, List, [], ◌∷◌, ◌++◌, sym, ap, ap₂, ◌∙◌, refl}
+use Rattle.std.proofs.Common.{◌≡◌, ℕ, true, false, List, [], ◌∷◌, ◌++◌, ap, refl}
 use Rattle.std.specs.List.{flat_map}
 use Rattle.std.proofs.lemmas.List.Concat.{flat_map-append}
 use Rattle.order_model.specs.Functions.{Function, restrict}
@@ -15,11 +15,8 @@ subfunctions_parts [] ys f = append_nil (subfunctions ys f)
     append_nil [] = refl
     append_nil (z ∷ zs) = ap (λ us. z ∷ us) (append_nil zs)
 subfunctions_parts (x ∷ xs) ys f =
-    ap₂ (λ us vs. us ++ vs) (subfunctions_parts xs ys (restrict x false f)) (subfunctions_parts xs ys (restrict x true f))
-    ∙ sym (flat_map-append (subfunctions ys) (subfunctions xs (restrict x false f)) (subfunctions xs (restrict x true f)))
+    search (flat_map-append, subfunctions_parts xs ys (restrict x false f), subfunctions_parts xs ys (restrict x true f))
 
 pub reach_parts : (F : List Function) (xs ys : List ℕ) → reach F (xs ++ ys) ≡ flat_map (subfunctions ys) (reach F xs)
 unfolding reach
-reach_parts F xs ys =
-    flat_map_same (subfunctions (xs ++ ys)) (λ f. flat_map (subfunctions ys) (subfunctions xs f)) (subfunctions_parts xs ys) F
-    ∙ sym (flat_map_parts (subfunctions ys) (subfunctions xs) F)
+reach_parts F xs ys = search (flat_map_same, subfunctions_parts, flat_map_parts)

@@ -3,9 +3,9 @@
 --     arrangement_lem, arranged      the listed arrangements of a set are just the lists of its members, each once
 --     least_is_least      the least cost is the cost of such a list, and no such list costs less
 --     recurrence      the least cost of S by those of S without one member
-use Rattle.std.proofs.Common.{◌≡◌, ℕ, zero, suc, ◌+◌, ◌<◌, ◌≤◌, min, Bool, true, false, not, cond, ◌&&◌, ◌||◌, ◌⊎◌, inl, inr, List, [], ◌∷◌, map, length, refl, sym, ap, ◌∙◌, subst, arith, nat_eq, eqb-true, eq-eqb, ne_eqb}
+use Rattle.std.proofs.Common.{◌≡◌, ℕ, zero, suc, ◌+◌, ◌<◌, ◌≤◌, min, Bool, true, false, not, cond, ◌&&◌, ◌||◌, ◌⊎◌, inl, inr, List, [], ◌∷◌, map, length, refl, sym, ap, ◌∙◌, subst, arith, nat_eq, eqb-true, eq-eqb}
 use Rattle.std.specs.List.{filter, fold, IsDistinct, AllByRecursion, range_with_len}
-use Rattle.std.proofs.lemmas.Bool.{false≢true, true≢false, cases_Bool, cases_eq, cases_lt, or_cases, or_left, or_right, and_parts, and_from, not_from_false}
+use Rattle.std.proofs.lemmas.Bool.{false≢true, cases_eq, cases_lt, or_cases, or_left, or_right, and_parts, and_from}
 use Rattle.std.proofs.lemmas.List.{nil_from_length}
 use Rattle.std.proofs.lemmas.Cmp.{nat_eq_equiv}
 use Rattle.std.proofs.lemmas.Map.Made.{length-from_same_keys}
@@ -65,35 +65,18 @@ distinct_filter p (x ∷ xs) d = by (p x) (distinct_filter p xs d.1) (kept (λ w
 
 pub apart_from_absent : (x : ℕ) (xs : List ℕ) → has xs x ≡ false → AllByRecursion (λ w. nat_eq x w ≡ false) xs
 apart_from_absent x [] h = tt
-apart_from_absent x (y ∷ xs) h = by (nat_eq x y) refl h (apart_from_absent x xs)
-  where
-    by : (b : Bool) → nat_eq x y ≡ b → (b || has xs x) ≡ false → (has xs x ≡ false → AllByRecursion (λ w. nat_eq x w ≡ false) xs) →
-        (nat_eq x y ≡ false) × AllByRecursion (λ w. nat_eq x w ≡ false) xs
-    by true e k r = absurd (true≢false k)
-    by false e k r = (e, r k)
+apart_from_absent x (y ∷ xs) h = grind (arith, apart_from_absent x xs)
 
 pub distinct_without : (x : ℕ) (S : List ℕ) → IsDistinct nat_eq S → IsDistinct nat_eq (without x S)
 unfolding without
 distinct_without x S d = distinct_filter (λ y. not (nat_eq x y)) S d
 
 pub absent_without : (x : ℕ) (S : List ℕ) → has (without x S) x ≡ false
-absent_without x S = has_without x S x ∙ ap (λ b. has S x && not b) (eq-eqb x x refl) ∙ last (has S x)
-  where
-    last : (a : Bool) → (a && false) ≡ false
-    last true = refl
-    last false = refl
+absent_without x S = grind (arith, has_without)
 
 -- a member, and the set without it, make the set
 pub has_again : (x : ℕ) (S : List ℕ) → has S x ≡ true → (y : ℕ) → has (x ∷ without x S) y ≡ has S y
-has_again x S h y = same_bool _ _
-    (λ k. elim (or_cases (nat_eq y x) (has (without x S) y) k) [
-      | inl e ↦ ap (has S) (eqb-true y x e) ∙ h
-      | inr r ↦ (and_parts (has S y) (not (nat_eq x y)) (sym (has_without x S y) ∙ r)).0
-    ])
-    (λ k. elim (cases_eq y x) [
-      | inl e ↦ or_left _ _ (eq-eqb y x e)
-      | inr ne ↦ or_right (nat_eq y x) _ (has_without x S y ∙ and_from _ _ k (not_from_false _ (ne_eqb x y (λ e. ne (sym e)))))
-    ])
+has_again x S h y = grind (arith, has_without)
 
 pub length_without : (x : ℕ) (S : List ℕ) → IsDistinct nat_eq S → has S x ≡ true → suc (length (without x S)) ≡ length S
 unfolding IsDistinct
@@ -111,10 +94,7 @@ has_among (y ∷ xs) x h = elim (or_cases (nat_eq x y) (has xs x) h) [ inl e ↦
 distinct_range : (k a : ℕ) → IsDistinct nat_eq (range_with_len a k)
 unfolding IsDistinct
 distinct_range zero a = tt
-distinct_range (suc k) a = (apart_from_absent a (range_with_len (a + 1) k) absent, distinct_range k (a + 1))
-  where
-    absent : has (range_with_len (a + 1) k) a ≡ false
-    absent = elim (cases_Bool (has (range_with_len (a + 1) k) a)) [ inl t ↦ let s = (has_range k (a + 1) a).0 t in absurd (omega (arith, s.0)) | inr e ↦ e ]
+distinct_range (suc k) a = grind (arith, apart_from_absent, has_range, distinct_range k (a + 1))
 
 pub distinct_variables : (n : ℕ) → IsDistinct nat_eq (variables n)
 distinct_variables n = distinct_range n 0
@@ -129,24 +109,16 @@ pub record IsArrangement (S xs : List ℕ) : Type 0 where
 -- a listed arrangement is a list of the members, each once
 pub arrangement_lem : (k : ℕ) (S : List ℕ) → IsDistinct nat_eq S → length S ≡ k → (xs : List ℕ) → Among xs (arrangements k S) → IsArrangement S xs
 unfolding arrangements IsDistinct
-arrangement_lem zero S d l xs h =
-    elim h [
-      | inl e ↦
-          let none : [] ≡ S = sym (nil_from_length S l) in
-          record { members = λ y. ap (λ zs. has zs y) (e ∙ none); once = subst (λ zs. IsDistinct nat_eq zs) (sym e) tt }
-      | inr r ↦ absurd r
-    ]
+arrangement_lem zero S d l xs h = grind (arith, nil_from_length)
 arrangement_lem (suc k) S d l xs h =
     let from = among_from_flat_map (λ x. map (λ xs. x ∷ xs) (arrangements k (without x S))) xs S h in
-    let x = from.0 in
-    let there = among_has S x from.1 in
-    let tail = among_from_map (λ xs. x ∷ xs) xs (arrangements k (without x S)) from.2 in
-    let ys = tail.0 in
-    let long = length_without x S d there in
-    let rest = arrangement_lem k (without x S) (distinct_without x S d) (omega arith) ys tail.1 in
-    let is : IsArrangement S (x ∷ ys) = record {
-      members = λ y. ap (λ b. nat_eq y x || b) (rest.members y) ∙ has_again x S there y;
-      once = (apart_from_absent x ys (rest.members x ∙ absent_without x S), rest.once);
+    let there = among_has S from.0 from.1 in
+    let tail = among_from_map (λ xs. from.0 ∷ xs) xs (arrangements k (without from.0 S)) from.2 in
+    let long = length_without from.0 S d there in
+    let rest = arrangement_lem k (without from.0 S) (distinct_without from.0 S d) (omega arith) tail.0 tail.1 in
+    let is : IsArrangement S (from.0 ∷ tail.0) = record {
+      members = λ y. ap (λ b. nat_eq y from.0 || b) (rest.members y) ∙ has_again from.0 S there y;
+      once = (apart_from_absent from.0 tail.0 (rest.members from.0 ∙ absent_without from.0 S), rest.once);
     } in
     subst (IsArrangement S) (sym tail.2) is
 
@@ -160,9 +132,7 @@ tail_arrangement x xs S a = record { members = others; once = a.once.1 }
         elim (cases_eq y x) [
           | inl e ↦ ap (has xs) e ∙ absent_from_apart x xs a.once.0 ∙ sym (ap (has (without x S)) e ∙ absent_without x S)
           | inr ne ↦
-              ap (λ b. b || has xs y) (sym (ne_eqb y x ne)) ∙ a.members y ∙ sym (and_true (has S y))
-              ∙ ap (λ b. has S y && not b) (sym (ne_eqb x y (λ e. ne (sym e))))
-              ∙ sym (has_without x S y)
+              grind (arith, has_without)
         ]
       where
         and_true : (b : Bool) → (b && true) ≡ b
@@ -172,10 +142,7 @@ tail_arrangement x xs S a = record { members = others; once = a.once.1 }
 -- and the other way round
 pub cons_arrangement : (x : ℕ) (xs S : List ℕ) → has S x ≡ true → IsArrangement (without x S) xs → IsArrangement S (x ∷ xs)
 unfolding IsDistinct
-cons_arrangement x xs S h a = record {
-  members = λ y. ap (λ b. nat_eq y x || b) (a.members y) ∙ has_again x S h y;
-  once = (apart_from_absent x xs (a.members x ∙ absent_without x S), a.once);
-}
+cons_arrangement x xs S h a = grind (arith, has_again, apart_from_absent, absent_without)
 
 pub first_member : (x : ℕ) (xs S : List ℕ) → IsArrangement S (x ∷ xs) → has S x ≡ true
 first_member x xs S a = sym (a.members x) ∙ or_left _ _ (eq-eqb x x refl)
@@ -256,9 +223,8 @@ module _ (n : ℕ) (F : List Function) (P : List Pair) (whole : List ℕ) (groun
   pub least_is_least : (S : List ℕ) → IsLawfulSet P whole S → IsLeastCost n F P S (least n F P S)
   unfolding least
   least_is_least S set =
-      let own = in_order S set in
       let all = least_of_lem (map (cost n F) lists) (cost n F (filter (has S) whole))
-      (among_map (cost n F) (filter (has S) whole) lists (listed (filter (has S) whole) own)) in
+      (among_map (cost n F) (filter (has S) whole) lists (listed (filter (has S) whole) (in_order S set))) in
       let from = among_from_map (cost n F) (least n F P S) lists all.0 in
       let kept = among_from_filter (are_lawful P) from.0 (arrangements (length S) S) from.1 in
       record {
@@ -276,11 +242,7 @@ module _ (n : ℕ) (F : List Function) (P : List Pair) (whole : List ℕ) (groun
 
   -- the set without a top
   pub without_top : (S : List ℕ) (x : ℕ) → IsLawfulSet P whole S → is_lawful P (without x S) ≡ true → IsLawfulSet P whole (without x S)
-  without_top S x set l = record {
-    once = distinct_without x S set.once;
-    within = λ y h. set.within y (and_parts (has S y) (not (nat_eq x y)) (sym (has_without x S y) ∙ h)).0;
-    lawful = l;
-  }
+  without_top S x set l = grind (arith, distinct_without, has_without)
 
   pub recurrence_le : (S : List ℕ) (x : ℕ) → IsLawfulSet P whole S → has S x ≡ true → is_lawful P (without x S) ≡ true →
       least n F P S ≤ least_with_top n F P S x
@@ -288,9 +250,7 @@ module _ (n : ℕ) (F : List Function) (P : List Pair) (whole : List ℕ) (groun
       let rest = least_is_least (without x S) (without_top S x set l) in
       let xs = rest.some.0 in
       let le = (least_is_least S set).no_less (x ∷ xs) (lawful_cons P x xs S set.lawful h rest.some.1) in
-      let e = cost_cons n F S x xs rest.some.1.arrangement in
-      let f = rest.some.2 in
-      omega arith
+      omega (arith, cost_cons n F S x xs rest.some.1.arrangement)
 
   pub recurrence_some : (S : List ℕ) (z : ℕ) → IsLawfulSet P whole S → has S z ≡ true →
       (x : ℕ) × (has S x ≡ true) × (is_lawful P (without x S) ≡ true) × (least n F P S ≡ least_with_top n F P S x)
@@ -307,9 +267,7 @@ module _ (n : ℕ) (F : List Function) (P : List Pair) (whole : List ℕ) (groun
           let tail = lawful_tail P x xs S a in
           let l = lawful_behind P x xs S a in
           let le = (least_is_least (without x S) (without_top S x set l)).no_less xs tail in
-          let ge = recurrence_le S x set there l in
-          let f = cost_cons n F S x xs tail.arrangement in
-          (x, there, l, omega arith)
+          (x, there, l, omega (arith, recurrence_le S x set there l, cost_cons n F S x xs tail.arrangement))
 
   -- the least cost of a lawful set that is not empty: the least over the members that may stand on top
   pub recurrence : (S : List ℕ) (z : ℕ) → IsLawfulSet P whole S → has S z ≡ true → least n F P S ≡ least_of (map (least_with_top n F P S) (tops P S))
@@ -318,36 +276,17 @@ module _ (n : ℕ) (F : List Function) (P : List Pair) (whole : List ℕ) (groun
       let x = some.0 in
       let all = least_of_lem (map (least_with_top n F P S) (tops P S)) (least_with_top n F P S x)
       (among_map (least_with_top n F P S) x (tops P S) (among_tops P S x some.1 some.2)) in
-      let le = all.1 (least_with_top n F P S x) (among_map (least_with_top n F P S) x (tops P S) (among_tops P S x some.1 some.2)) in
       let from = among_from_map (least_with_top n F P S) (least_of (map (least_with_top n F P S) (tops P S))) (tops P S) all.0 in
       let top = from_tops P S from.0 from.1 in
-      let ge = recurrence_le S from.0 set top.0 top.1 in
-      let e = some.3 in
-      let f = from.2 in
-      omega arith
+      omega (
+        arith,
+        all.1 (least_with_top n F P S x) (among_map (least_with_top n F P S) x (tops P S) (among_tops P S x some.1 some.2)),
+        recurrence_le S from.0 set top.0 top.1,
+      )
 
   -- the least cost depends on the set alone
   pub least_same : (S T : List ℕ) → IsLawfulSet P whole S → IsLawfulSet P whole T → ((y : ℕ) → has S y ≡ has T y) → least n F P S ≡ least n F P T
-  least_same S T s t h =
-      let a = least_is_least S s in
-      let b = least_is_least T t in
-      let x = a.no_less b.some.0
-      (record {
-        arrangement =
-            record { members = λ y. b.some.1.arrangement.members y ∙ sym (h y); once = b.some.1.arrangement.once };
-        lawful =
-            b.some.1.lawful;
-      }) in
-      let y = b.no_less a.some.0
-      (record {
-        arrangement =
-            record { members = λ y. a.some.1.arrangement.members y ∙ h y; once = a.some.1.arrangement.once };
-        lawful =
-            a.some.1.lawful;
-      }) in
-      let f = a.some.2 in
-      let g = b.some.2 in
-      omega arith
+  least_same S T s t h = grind (arith, least_is_least)
 
 pub least-nil : (n : ℕ) (F : List Function) (P : List Pair) → least n F P [] ≡ 0
 unfolding least least_of arrangements cost are_lawful

@@ -3,7 +3,7 @@
 --     essentials_reserved      at least one node is counted on for each essential variable outside
 --     reserved_same, reserved_step, reserved_all      what is counted on depends on the set alone; with one more variable in the set, and with all
 --     reserved_bound      an order has at least the cost of its bottom part and what is counted on above it
-use Rattle.std.proofs.Common.{◌≡◌, ℕ, ◌+◌, ◌<◌, ◌≤◌, max, Bool, true, false, not, ◌&&◌, inl, inr, List, [], ◌∷◌, ◌++◌, map, length, refl, sym, ap, ◌∙◌, arith, nat_eq, eq-eqb, ne_eqb}
+use Rattle.std.proofs.Common.{◌≡◌, ℕ, ◌+◌, ◌<◌, ◌≤◌, max, Bool, true, false, not, inl, inr, List, [], ◌∷◌, ◌++◌, map, length, refl, sym, ap, ◌∙◌, arith, nat_eq, eq-eqb, ne_eqb}
 use Rattle.std.specs.List.{filter, fold, flat_map, IsDistinct}
 use Rattle.std.proofs.lemmas.Bool.{cases_eq, or_left, or_right, and_from, not_from_false}
 use Rattle.std.proofs.lemmas.List.{length-map}
@@ -46,15 +46,7 @@ asked_is n F S x w e = omega arith
 pub asked_step : (n : ℕ) (F : List Function) (T : List ℕ) (x y : ℕ) → has T x ≡ true → has T y ≡ false → y < n →
     asked_by n F T x ≤ asked_by n F (y ∷ T) x + width n F T y
 asked_step n F T x y m new small =
-    let before = asked_is n F T x (dependents n (reach F (outside n T)) x) (own_width n F T x m) in
-    let after = asked_is n F (y ∷ T) x (dependents n (reach F (outside n (y ∷ T))) x) (own_width n F (y ∷ T) x (or_right (nat_eq x y) _ m)) in
-    let fewer = fewer_parts n F T x y small new in
-    let kinds = both_and_other n (reach F (outside n (y ∷ T))) x y in
-    let free = free_dependents n F (outside n (y ∷ T)) x y in
-    let wide = width_is n F T y in
-    let others = width_is n (functions_without n F x) T y in
-    let left = essentials_step n (functions_without n F x) T y new in
-    omega arith
+    grind (arith, asked_is, own_width, fewer_parts, both_and_other, free_dependents, width_is, essentials_step)
 
 -- a filter whose test fails at each element keeps none
 none_kept : (p : ℕ → Bool) (xs : List ℕ) → ((y : ℕ) → has xs y ≡ true → p y ≡ false) → filter p xs ≡ []
@@ -77,9 +69,7 @@ reach_nothing F = by F
 few_dependents : (n : ℕ) (F : List Function) (x : ℕ) → dependents n F x ≤ length (functions_with n F x)
 unfolding dependents functions_with
 few_dependents n F x =
-    let le = count_le same_table same_table_decides tables tables (λ t m. m) in
-    let long = length-map (filter (λ f. depends n f x) F) (table n) in
-    omega arith
+    omega (arith, count_le same_table same_table_decides tables tables (λ t m. m), length-map (filter (λ f. depends n f x) F) (table n))
   where
     tables : List (List Bool)
     tables = map (table n) (filter (λ f. depends n f x) F)
@@ -88,12 +78,8 @@ few_dependents n F x =
 pub asked_all : (n : ℕ) (F : List Function) (S : List ℕ) (x : ℕ) → ((y : ℕ) → y < n → has S y ≡ true) → asked_by n F S x ≡ 0
 unfolding outside
 asked_all n F S x h =
-    let wide = width_is n F (without x S) x in
     let all = ap (λ xs. dependents n (reach F xs) x) nothing ∙ ap (λ G. dependents n G x) (reach_nothing F) in
-    let asked = asked_is n F S x (dependents n F x) (wide ∙ all) in
-    let few = few_dependents n F x in
-    let left = essentials_all n (functions_without n F x) S h in
-    omega arith
+    grind (arith, asked_is, width_is, few_dependents, essentials_all)
   where
     there : (y : ℕ) → y < n → has (x ∷ without x S) y ≡ true
     there y lt =
@@ -107,27 +93,19 @@ asked_all n F S x h =
 
 -- what a member asks for depends on the set alone
 asked_same : (n : ℕ) (F : List Function) (S T : List ℕ) (x : ℕ) → ((y : ℕ) → has S y ≡ has T y) → asked_by n F S x ≡ asked_by n F T x
-asked_same n F S T x h =
-    let wide = width_same n F (without x S) (without x T) x (λ y. has_without x S y ∙ (λ i. h y i && not (nat_eq x y)) ∙ sym (has_without x T y)) in
-    let one = asked_is n F S x (width n F (without x T) x) wide in
-    let other = asked_is n F T x (width n F (without x T) x) refl in
-    let left = essentials_same n (functions_without n F x) S T h in
-    omega arith
+asked_same n F S T x h = grind (arith, width_same, has_without, asked_is, essentials_same)
 
 -- ---- what is counted on
 
 -- the greatest of some numbers is at least each of them
 fold_max : (a : ℕ) (xs : List ℕ) → (a ≤ fold max a xs) × ((b : ℕ) → Among b xs → b ≤ fold max a xs)
 fold_max a [] = (omega arith, λ b h. absurd h)
-fold_max a (x ∷ xs) =
-    let rest = fold_max (max a x) xs in
-    let le = rest.0 in
-    (omega arith, λ b h. elim h [ inl e ↦ omega arith | inr r ↦ rest.1 b r ])
+fold_max a (x ∷ xs) = grind (arith, fold_max (max a x) xs)
 
 -- and at most what none of them is above
 fold_max_least : (a : ℕ) (xs : List ℕ) (m : ℕ) → a ≤ m → ((b : ℕ) → Among b xs → b ≤ m) → fold max a xs ≤ m
 fold_max_least a [] m le h = le
-fold_max_least a (x ∷ xs) m le h = let first = h x (inl refl) in fold_max_least (max a x) xs m (omega arith) (λ b k. h b (inr k))
+fold_max_least a (x ∷ xs) m le h = fold_max_least (max a x) xs m (omega (arith, h x (inl refl))) (λ b k. h b (inr k))
 
 -- at least what any member asks for is counted on
 asked_reserved : (n : ℕ) (F : List Function) (S : List ℕ) (x : ℕ) → has S x ≡ true → asked_by n F S x ≤ reserved n F Widths S
@@ -145,13 +123,7 @@ essentials_reserved n F Widths S = (fold_max (essentials_outside n F S) (map (as
 reserved_least : (n : ℕ) (F : List Function) (S : List ℕ) (m : ℕ) → essentials_outside n F S ≤ m →
     ((x : ℕ) → has S x ≡ true → asked_by n F S x ≤ m) → reserved n F Widths S ≤ m
 unfolding reserved
-reserved_least n F S m le h =
-    fold_max_least (essentials_outside n F S) (map (asked_by n F S) S) m le
-    (λ b k.
-    let from = among_from_map (asked_by n F S) b S k in
-    let at = h from.0 (among_has S from.0 from.1) in
-    let is = from.2 in
-    omega arith)
+reserved_least n F S m le h = grind (arith, fold_max_least, among_from_map, among_has)
 
 reserved_variables : (n : ℕ) (F : List Function) (S : List ℕ) → reserved n F Variables S ≡ essentials_outside n F S
 unfolding reserved
@@ -163,42 +135,29 @@ reserved_within n F S T h =
     let few = essentials_reserved n F Widths T in
     reserved_least n F S (reserved n F Widths T) (omega arith)
     (λ x k.
-    let at = asked_same n F S T x h in
-    let le = asked_reserved n F T x (sym (h x) ∙ k) in
-    omega arith)
+    omega (arith, asked_same n F S T x h, asked_reserved n F T x (sym (h x) ∙ k)))
 
 -- what is counted on depends on the set alone
 pub reserved_same : (n : ℕ) (F : List Function) (r : Reserve) (S T : List ℕ) → ((y : ℕ) → has S y ≡ has T y) → reserved n F r S ≡ reserved n F r T
 reserved_same n F Variables S T h = reserved_variables n F S ∙ essentials_same n F S T h ∙ sym (reserved_variables n F T)
-reserved_same n F Widths S T h =
-    let one = reserved_within n F S T h in
-    let other = reserved_within n F T S (λ y. sym (h y)) in
-    omega arith
+reserved_same n F Widths S T h = omega (arith, reserved_within n F S T h, reserved_within n F T S (λ y. sym (h y)))
 
 -- one more member costs at least what it takes from the nodes that are counted on
 pub reserved_step : (n : ℕ) (F : List Function) (r : Reserve) (T : List ℕ) (y : ℕ) → has T y ≡ false → y < n →
     reserved n F r T ≤ reserved n F r (y ∷ T) + width n F T y
 reserved_step n F Variables T y new small =
-    let before = reserved_variables n F T in
-    let after = reserved_variables n F (y ∷ T) in
-    let step = essentials_step n F T y new in
-    omega arith
+    omega (arith, reserved_variables n F T, reserved_variables n F (y ∷ T), essentials_step n F T y new)
 reserved_step n F Widths T y new small =
     let step = essentials_step n F T y new in
     let few = essentials_reserved n F Widths (y ∷ T) in
     reserved_least n F T (reserved n F Widths (y ∷ T) + width n F T y) (omega arith)
     (λ x m.
-    let at = asked_step n F T x y m new small in
-    let le = asked_reserved n F (y ∷ T) x (or_right (nat_eq x y) _ m) in
-    omega arith)
+    omega (arith, asked_step n F T x y m new small, asked_reserved n F (y ∷ T) x (or_right (nat_eq x y) _ m)))
 
 -- with all variables nothing is counted on
 pub reserved_all : (n : ℕ) (F : List Function) (r : Reserve) (S : List ℕ) → ((y : ℕ) → y < n → has S y ≡ true) → reserved n F r S ≡ 0
 reserved_all n F Variables S h = reserved_variables n F S ∙ essentials_all n F S h
-reserved_all n F Widths S h =
-    let none = essentials_all n F S h in
-    let le = reserved_least n F S 0 (omega arith) (λ x m. let at = asked_all n F S x h in omega arith) in
-    omega arith
+reserved_all n F Widths S h = grind (arith, essentials_all, reserved_least, asked_all)
 
 -- a list of variables above a set has at least as many nodes as it takes from those that are counted on
 reserved_through : (n : ℕ) (F : List Function) (r : Reserve) (above below : List ℕ) → IsDistinct nat_eq (above ++ below) →
@@ -207,15 +166,19 @@ reserved_through : (n : ℕ) (F : List Function) (r : Reserve) (above below : Li
 unfolding cost IsDistinct
 reserved_through n F r [] below d small = omega arith
 reserved_through n F r (x ∷ above) below d small =
-    let rest = reserved_through n F r above below d.1 (λ y m. small y (or_right (nat_eq y x) _ m)) in
-    let step = reserved_step n F r (above ++ below) x (absent_from_apart x (above ++ below) d.0) (small x (or_left _ _ (eq-eqb x x refl))) in
-    omega arith
+    omega (
+      arith,
+      reserved_through n F r above below d.1 (λ y m. small y (or_right (nat_eq y x) _ m)),
+      reserved_step n F r (above ++ below) x (absent_from_apart x (above ++ below) d.0) (small x (or_left _ _ (eq-eqb x x refl))),
+    )
 
 -- an order has at least the cost of its bottom part and what is counted on above it
 pub reserved_bound : (n : ℕ) (F : List Function) (r : Reserve) (above below : List ℕ) → IsOrder n (above ++ below) →
     cost n F below + reserved n F r below ≤ size_under n F (above ++ below)
 reserved_bound n F r above below o =
-    let through = reserved_through n F r above below o.once (λ y m. (o.all y).0 m) in
-    let none = reserved_all n F r (above ++ below) (λ y lt. (o.all y).1 lt) in
-    let size = size_is_cost n F (above ++ below) o in
-    omega arith
+    omega (
+      arith,
+      reserved_through n F r above below o.once (λ y m. (o.all y).0 m),
+      reserved_all n F r (above ++ below) (λ y lt. (o.all y).1 lt),
+      size_is_cost n F (above ++ below) o,
+    )

@@ -5,12 +5,11 @@
 --     size_bound      all levels together have at most 524,276
 use Rattle.std.proofs.Common.{◌≡◌, ◌≢◌, ℕ, zero, suc, ◌+◌, ◌*◌, ◌^◌, ◌<◌, ◌≤◌, ◌||◌, inl, inr, Bool, true, false, cond, List, [], ◌∷◌, ◌++◌, map, take, length, length-append, slice_index, replicate, refl, sym, ap, ◌∙◌, subst, arith, pow_mono, ne_eqb, zero-add}
 use Rattle.std.specs.List.{filter, flat_map, range_with_len, sum}
-use Rattle.std.proofs.Math.Nat.{two-pow-succ, mul-suc, mul-le-mul_left}
+use Rattle.std.proofs.Math.Nat.{mul-suc}
 use Rattle.std.proofs.Math.Seq.{take-length}
-use Rattle.std.proofs.lemmas.Bool.{cases_eq}
 use Rattle.std.proofs.lemmas.List.{get_or-replicate, length-map, take_more}
 use Rattle.std.proofs.lemmas.List.FromFn.{length-range_with_len, map-range_with_len_more}
-use Rattle.std.proofs.lemmas.List.Sums.{sum_by-append, sum_by-cons}
+use Rattle.std.proofs.lemmas.List.Sums.{sum_by-append}
 use Rattle.std.proofs.lemmas.Cmp.{nat_eq_equiv}
 use Rattle.std.proofs.lemmas.Map.Made.{length-from_same_keys}
 use Rattle.order_model.specs.Functions.{Point, Function, bit, restrict, SameFunction, table, depends, same_table}
@@ -33,10 +32,7 @@ pub length-subfunctions : (xs : List ℕ) (f : Function) → length (subfunction
 unfolding subfunctions
 length-subfunctions [] f = refl
 length-subfunctions (x ∷ xs) f =
-    let l = length-subfunctions xs (restrict x false f) in
-    let r = length-subfunctions xs (restrict x true f) in
-    let p = two-pow-succ (length xs) in
-    length-append (subfunctions xs (restrict x false f)) (subfunctions xs (restrict x true f)) ∙ omega (arith, l, r, p)
+    grind (arith, length-append, length-subfunctions xs (restrict x false f), length-subfunctions xs (restrict x true f))
 
 length-reach : (F : List Function) (xs : List ℕ) → length (reach F xs) ≡ 2 ^ length xs * length F
 unfolding reach
@@ -45,23 +41,17 @@ length-reach F xs = go F
     go : (fs : List Function) → length (flat_map (subfunctions xs) fs) ≡ 2 ^ length xs * length fs
     go [] = omega arith
     go (f ∷ fs) =
-        let r = go fs in
-        let l = length-subfunctions xs f in
         let m = mul-suc (2 ^ length xs) (length fs) in
-        length-append (subfunctions xs f) (flat_map (subfunctions xs) fs) ∙ omega (arith, r, l, m)
+        length-append (subfunctions xs f) (flat_map (subfunctions xs) fs) ∙ omega (arith, go fs, length-subfunctions xs f)
 
 length_filter : (p : Function → Bool) (fs : List Function) → length (filter p fs) ≤ length fs
 length_filter p [] = omega arith
-length_filter p (f ∷ fs) = by (p f) (length_filter p fs)
-  where
-    by : (b : Bool) → length (filter p fs) ≤ length fs → length (cond b (f ∷ filter p fs) (filter p fs)) ≤ length (f ∷ fs)
-    by true h = omega arith
-    by false h = omega arith
+length_filter p (f ∷ fs) = grind (arith, length_filter p fs)
 
 length_take : (i : ℕ) (xs : List ℕ) → length (take i xs) ≤ i
 length_take zero xs = omega arith
 length_take (suc i) [] = omega arith
-length_take (suc i) (x ∷ xs) = let k = length_take i xs in omega arith
+length_take (suc i) (x ∷ xs) = omega (arith, length_take i xs)
 
 -- level i has at most as many nodes as there are ways to fix i variables of each function
 pub level_bound : (n : ℕ) (F : List Function) (order : List ℕ) (i : ℕ) → length F ≤ 16 → level_count n F order i ≤ 16 * 2 ^ i
@@ -71,12 +61,7 @@ level_bound n F order i few =
     let fs = reach F (take i order) in
     let a = count_le same_table same_table_decides (map (table n) (filter (λ f. depends n f x) fs))
     (map (table n) (filter (λ f. depends n f x) fs)) (λ t m. m) in
-    let b = length-map (filter (λ f. depends n f x) fs) (table n) in
-    let c = length_filter (λ f. depends n f x) fs in
-    let d = length-reach F (take i order) in
-    let p : 2 ^ length (take i order) ≤ 2 ^ i = pow_mono (length_take i order) in
-    let q = mul-le-mul_left (2 ^ length (take i order)) few in
-    omega (arith, a, b, c, d, p, q)
+    grind (arith, length-reach, pow_mono, length_take, length-map, length_filter)
 
 -- the function of one variable with two values
 abbrev by_values : ℕ → Bool → Bool → Function
@@ -103,18 +88,11 @@ module _ (n : ℕ) (xs : List ℕ) (x : ℕ) (below : Below n xs) (others : (y :
         where
           by : (b : Bool) → has xs y ≡ b → cond b (bit fixing y) (bit p y) ≡ cond b (bit fixing y) (bit (replicate n (bit p x)) y)
           by true e = refl
-          by false e = elim (cases_eq y x) [
-            | inl same ↦ ap (bit p) same ∙ sym (get_or-replicate n y (bit p x) false low)
-            | inr other ↦ let contrary : true ≡ false = sym (others y low other) ∙ e in cc
-          ]
+          by false e = grind (arith, get_or-replicate)
 
   one_left : SameFunction n g (by_values x (value_at false) (value_at true))
   unfolding SameFunction
-  one_left p l = (subfunctions_fix n xs below f g h).2 p l ∙ ap f (mixed p) ∙ by (bit p x)
-    where
-      by : (b : Bool) → value_at b ≡ cond b (value_at true) (value_at false)
-      by false = refl
-      by true = refl
+  one_left p l = grind (arith, mixed)
 
 among_of_one : (n x : ℕ) (low high : Bool) → Among (table n (by_values x low high)) (map (table n) (of_one x))
 among_of_one n x false false = inl refl
@@ -135,7 +113,7 @@ last_bound n F order m o long =
     above = take m order
 
     split : order ≡ above ++ x ∷ []
-    split = sym (take-length order) ∙ ap (λ k. take k order) long ∙ take_more order m 0 (omega (arith, long))
+    split = sym (take-length order) ∙ ap (λ k. take k order) long ∙ take_more order m 0 (omega arith)
 
     has_split : (y : ℕ) → has order y ≡ (has above y || has (x ∷ []) y)
     has_split y = ap (λ ys. has ys y) split ∙ has_append above (x ∷ []) y
@@ -156,12 +134,11 @@ last_bound n F order m o long =
         let g = from.0 in
         let kept = among_from_filter (λ f. depends n f x) g (flat_map (subfunctions above) F) from.1 in
         let origin = among_from_flat_map (subfunctions above) g F kept.0 in
-        let one = one_left n above x below others origin.0 g origin.2 in
         subst (λ u. Among u (map (table n) (of_one x)))
         (sym (from.2
         ∙ table_same n g
         (by_values x (value_at n above x below others origin.0 g origin.2 false)
-        (value_at n above x below others origin.0 g origin.2 true)) one))
+        (value_at n above x below others origin.0 g origin.2 true)) (one_left n above x below others origin.0 g origin.2)))
         (among_of_one n x (value_at n above x below others origin.0 g origin.2 false) (value_at n above x below others origin.0 g origin.2 true))
 
 -- one level more
@@ -169,11 +146,7 @@ one_more : (f : ℕ → ℕ) (m : ℕ) → sum (map f (range_with_len 0 (suc m))
 one_more f m =
     let longer = ap (λ k. sum (map f (range_with_len 0 k))) (suc_add m) in
     let all = ap sum (map-range_with_len_more f 0 m m (zero-add m)) in
-    let parts : sum (map f (range_with_len 0 m) ++ f m ∷ []) ≡ sum (map f (range_with_len 0 m)) + sum (f m ∷ []) =
-    sum_by-append (λ k. k) (map f (range_with_len 0 m)) (f m ∷ []) in
-    let last : sum (f m ∷ []) ≡ f m + sum [] = sum_by-cons (λ k. k) (f m) [] in
-    let none : sum [] ≡ 0 = refl in
-    longer ∙ all ∙ parts ∙ omega (arith, last, none)
+    grind (arith, sum_by-append)
   where
     suc_add : (k : ℕ) → suc k ≡ k + 1
     suc_add k = omega arith
@@ -181,12 +154,7 @@ one_more f m =
 -- counts that at most double from level to level
 geometric : (f : ℕ → ℕ) (m : ℕ) → ((i : ℕ) → f i ≤ 16 * 2 ^ i) → sum (map f (range_with_len 0 m)) + 16 ≤ 16 * 2 ^ m
 geometric f zero small = omega arith
-geometric f (suc m) small =
-    let more = one_more f m in
-    let before = geometric f m small in
-    let here = small m in
-    let p = two-pow-succ m in
-    omega (arith, more, before, here, p)
+geometric f (suc m) small = omega (arith, one_more f m, geometric f m small)
 
 -- an order of at most 16 variables has at most 524,276 nodes
 pub size_bound : (n : ℕ) (F : List Function) (order : List ℕ) → n ≤ 16 → length F ≤ 16 → IsOrder n order → size_under n F order ≤ 524276
@@ -194,14 +162,13 @@ unfolding size_under level_counts
 size_bound n F order inputs outputs o = by (length order) refl
   where
     few : length order ≤ 16
-    few = let l = order_length n order o in omega (arith, l, inputs)
+    few = let l = order_length n order o in omega arith
 
     by : (k : ℕ) → length order ≡ k → sum (map (level_count n F order) (range_with_len 0 (length order))) ≤ 524276
-    by zero long = let e = ap (λ k. sum (map (level_count n F order) (range_with_len 0 k))) long in omega (arith, e)
+    by zero long = omega (arith, ap (λ k. sum (map (level_count n F order) (range_with_len 0 k))) long)
     by (suc m) long =
-        let e = ap (λ k. sum (map (level_count n F order) (range_with_len 0 k))) long in
         let more = one_more (level_count n F order) m in
         let before = geometric (level_count n F order) m (λ i. level_bound n F order i outputs) in
         let last = last_bound n F order m o (long ∙ omega arith) in
-        let p : 2 ^ m ≤ 2 ^ 15 = pow_mono {j = 15} (omega (arith, long, few)) in
-        omega (arith, e, more, before, last, p)
+        let p : 2 ^ m ≤ 2 ^ 15 = pow_mono {j = 15} (omega (arith, few)) in
+        omega (arith, ap (λ k. sum (map (level_count n F order) (range_with_len 0 k))) long)

@@ -6,7 +6,7 @@
 use Rattle.std.proofs.Common.{◌≡◌, ℕ, ◌+◌, ◌<◌, ◌≤◌, Bool, true, false, not, ◌&&◌, inl, inr, List, [], ◌∷◌, ◌++◌, map, length-append, sym, ap, ◌∙◌, subst, arith}
 use Rattle.std.specs.List.{filter}
 use Rattle.std.specs.Set.{unique_keys, distinct_count}
-use Rattle.std.proofs.lemmas.Bool.{true≢false, cases_Bool, cases_eq, and_parts, and_from, not-true, not_from_false}
+use Rattle.std.proofs.lemmas.Bool.{true≢false, cases_Bool, and_parts, and_from, not-true}
 use Rattle.std.proofs.lemmas.List.{length-map}
 use Rattle.order_model.specs.Functions.{Function, from_table, restrict, SameFunction, table, same_table, depends}
 use Rattle.order_model.specs.Orders.{has}
@@ -53,16 +53,7 @@ reached_part n F T y small new h m = by from.2
 
 -- a function that doesn't depend on x still doesn't after a restriction
 pub still_free : (n : ℕ) (f : Function) (x z : ℕ) (b : Bool) → depends n f x ≡ false → depends n (restrict z b f) x ≡ false
-still_free n f x z b e =
-    elim (cases_eq z x) [
-      | inl s ↦ subst (λ w. depends n (restrict w b f) x ≡ false) (sym s) (depends_false n (restrict x b f) x
-          (subst (λ k. SameFunction n k (restrict x true (restrict x b f))) (sym (restrict_again x false b f))
-          (subst (λ k. SameFunction n (restrict x b f) k) (sym (restrict_again x true b f)) (same_refl n (restrict x b f)))))
-      | inr ne ↦ depends_false n (restrict z b f) x
-          (subst (λ k. SameFunction n k (restrict x true (restrict z b f))) (restrict_comm z x b false f ne)
-          (subst (λ k. SameFunction n (restrict z b (restrict x false f)) k) (restrict_comm z x b true f ne)
-          (restrict_same n z b (restrict x false f) (restrict x true f) (depends_no n f x e))))
-    ]
+still_free n f x z b e = grind (arith, depends_false, restrict_again, same_refl, restrict_comm, restrict_same, depends_no)
 
 -- nor after some
 pub subfunctions_free : (n x : ℕ) (xs : List ℕ) (f g : Function) → depends n f x ≡ false → Among g (subfunctions xs f) → depends n g x ≡ false
@@ -90,21 +81,20 @@ restricted_table n y b t = table n (restrict y b (from_table t))
 
 -- of the function's own table
 restricted_lem : (n y : ℕ) (b : Bool) (g : Function) → restricted_table n y b (table n g) ≡ table n (restrict y b g)
-restricted_lem n y b g =
-    table_same n (restrict y b (from_table (table n g))) (restrict y b g)
-    (restrict_same n y b (from_table (table n g)) g
-    (same_from_table n (from_table (table n g)) g (table-from_table n (table n g) (table_long n g))))
+restricted_lem n y b g = search (table_same, restrict_same, same_from_table, table-from_table, table_long)
 
 -- fixing y, too, leads to at most as many more functions that depend on x as depend on both
 pub fewer_parts : (n : ℕ) (F : List Function) (T : List ℕ) (x y : ℕ) → y < n → has T y ≡ false →
     dependents n (reach F (outside n T)) x ≤ dependents n (reach F (outside n (y ∷ T))) x + dependents_on_both n (reach F (outside n (y ∷ T))) x y
 unfolding dependents dependents_on_both
 fewer_parts n F T x y small new =
-    let le = count_le same_table same_table_decides (map (table n) (filter (λ f. depends n f x) (reach F (outside n T)))) images within in
-    let long = length-append lower upper in
-    let a = length-map (unique_keys same_table one) (restricted_table n y false) in
-    let b = length-map (unique_keys same_table two) (restricted_table n y true) in
-    omega arith
+    omega (
+      arith,
+      count_le same_table same_table_decides (map (table n) (filter (λ f. depends n f x) (reach F (outside n T)))) images within,
+      length-append lower upper,
+      length-map (unique_keys same_table one) (restricted_table n y false),
+      length-map (unique_keys same_table two) (restricted_table n y true),
+    )
   where
     G : List Function
     G = reach F (outside n (y ∷ T))
@@ -159,9 +149,11 @@ fewer_parts n F T x y small new =
 pub both_and_other : (n : ℕ) (G : List Function) (x y : ℕ) → dependents_on_both n G x y + other_dependents n G x y ≤ dependents n G y
 unfolding dependents dependents_on_both other_dependents
 both_and_other n G x y =
-    let sum = count_apart same_table same_table_decides both other apart in
-    let le = count_mono same_table same_table_decides (both ++ other) (map (table n) (filter (λ f. depends n f y) G)) within in
-    omega arith
+    omega (
+      arith,
+      count_apart same_table same_table_decides both other apart,
+      count_mono same_table same_table_decides (both ++ other) (map (table n) (filter (λ f. depends n f y) G)) within,
+    )
   where
     both : List (List Bool)
     both = map (table n) (filter (λ g. depends n g x && depends n g y) G)
@@ -203,11 +195,4 @@ free_dependents n F xs x y =
     within : Within (map (table n) (filter (λ f. depends n f y) (reach (functions_without n F x) xs)))
         (map (table n) (filter (λ g. not (depends n g x) && depends n g y) (reach F xs)))
     within t m =
-        let g = among_from_map (table n) t (filter (λ f. depends n f y) (reach (functions_without n F x) xs)) m in
-        let kept = among_from_filter (λ f. depends n f y) g.0 (reach (functions_without n F x) xs) g.1 in
-        let from = among_from_flat_map (subfunctions xs) g.0 (functions_without n F x) kept.0 in
-        let f = among_from_filter (λ f. not (depends n f x)) from.0 F from.1 in
-        let free = subfunctions_free n x xs from.0 g.0 (not-true _ f.1) from.2 in
-        subst (λ u. Among u (map (table n) (filter (λ g. not (depends n g x) && depends n g y) (reach F xs)))) (sym g.2)
-        (among_map (table n) g.0 _ (among_filter (λ g. not (depends n g x) && depends n g y) g.0 (reach F xs)
-        (among_flat_map (subfunctions xs) from.0 F g.0 f.0 from.2) (and_from _ _ (not_from_false _ free) kept.1)))
+        grind (arith, among_from_map, among_from_filter, among_from_flat_map, subfunctions_free, among_map, among_filter, among_flat_map)

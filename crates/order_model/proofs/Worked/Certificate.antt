@@ -1,7 +1,6 @@
 -- The multiplexer's certificate is good, and its cells give its best order: the premises of the laws can be met.
-use Rattle.std.proofs.Common.{◌≡◌, ℕ, zero, suc, ◌+◌, ◌<◌, ◌≤◌, ◌↔◌, ◌^◌, true, false, List, [], ◌∷◌, refl, arith, lit<, lit≤, IsTrue, IsFalse, nat_eq, eqb-true, inl, inr}
+use Rattle.std.proofs.Common.{ℕ, ◌+◌, ◌<◌, ◌≤◌, ◌^◌, List, [], ◌∷◌, refl, arith, lit≤, IsFalse}
 use Rattle.std.specs.List.{IsDistinct}
-use Rattle.std.proofs.lemmas.Bool.{false≢true, or_cases}
 use Rattle.std.proofs.lemmas.List.Elements.{All-from_recursion}
 use Rattle.order_model.specs.Functions.{Function, points, restrict, table, depends}
 use Rattle.order_model.specs.Orders.{IsOrder, has, members, without}
@@ -26,23 +25,7 @@ best_order = 2 ∷ 0 ∷ 1 ∷ []
 
 is_order : IsOrder 3 best_order
 unfolding IsDistinct
-is_order = record { all = each; once = ((refl, (refl, tt)), ((refl, tt), (tt, tt))) }
-  where
-    below : (x : ℕ) → has best_order x ≡ true → x < 3
-    below x h =
-        elim (or_cases (nat_eq x 2) _ h) [
-          | inl e ↦ let s : x ≡ 2 = eqb-true x 2 e in omega arith
-          | inr r ↦ elim (or_cases (nat_eq x 0) _ r) [
-            | inl e ↦ let s : x ≡ 0 = eqb-true x 0 e in omega arith
-            | inr q ↦ elim (or_cases (nat_eq x 1) false q) [ inl e ↦ let s : x ≡ 1 = eqb-true x 1 e in omega arith | inr z ↦ absurd (false≢true z) ]
-          ]
-        ]
-
-    each : (x : ℕ) → IsTrue (has best_order x) ↔ (x < 3)
-    each zero = (λ h. lit< tt, λ h. refl)
-    each (suc zero) = (λ h. lit< tt, λ h. refl)
-    each (suc (suc zero)) = (λ h. lit< tt, λ h. refl)
-    each (suc (suc (suc x))) = (below (suc (suc (suc x))), λ h. absurd (omega arith))
+is_order = grind arith
 
 abbrev certificate : Certificate
 certificate = record {
@@ -68,10 +51,7 @@ edges_of : (c : Cell) →
     (IsFalse (has (members 3 c.mask) 2) → AreBothLawful 3 [] c.mask 2 →
     set_value 3 F certificate (c.mask + 2 ^ 2) ≤ set_value 3 F certificate c.mask + width 3 F (members 3 c.mask) 2)
     → Edges c
-edges_of c e f g zero lt out = e out
-edges_of c e f g (suc zero) lt out = f out
-edges_of c e f g (suc (suc zero)) lt out = g out
-edges_of c e f g (suc (suc (suc x))) lt out = absurd (omega arith)
+edges_of a0 a1 a2 a3 a4 a5 a6 = grind arith
 
 good : IsGood 3 F certificate
 unfolding points restrict table depends subfunctions reach dependents level_count level_counts outside width members set_value reserve keeps
@@ -83,8 +63,7 @@ good = record {
   levels = refl;
   total = refl;
   start = refl;
-  cells = All-from_recursion (λ (c : Cell). c.cost + reserve 3 F certificate c.mask ≤ 3) certificate.cells
-      (lit≤ tt, (lit≤ tt, (lit≤ tt, (lit≤ tt, (lit≤ tt, tt)))));
+  cells = grind arith;
   edges = All-from_recursion Edges certificate.cells (
     edges_of (cell 0 0) (λ h l. lit≤ tt) (λ h l. lit≤ tt) (λ h l. lit≤ tt),
     (

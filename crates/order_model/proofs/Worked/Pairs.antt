@@ -1,7 +1,7 @@
 -- Worked values of cells, of certificates in format 2 and of pairs, by computation.
-use Rattle.std.proofs.Common.{◌≡◌, ℕ, zero, suc, ◌<◌, ◌≤◌, refl, sym, true, false, inl, inr, List, [], ◌∷◌, map, lit<, arith, nat_eq, eqb-true}
+use Rattle.std.proofs.Common.{◌≡◌, ℕ, zero, suc, ◌<◌, refl, sym, true, List, [], ◌∷◌, map, lit<, arith, nat_eq}
 use Rattle.std.specs.List.{IsDistinct}
-use Rattle.std.proofs.lemmas.Bool.{false≢true, or_cases}
+use Rattle.std.proofs.lemmas.Bool.{false≢true}
 use Rattle.order_model.specs.Functions.{points, restrict, table, depends}
 use Rattle.order_model.specs.Orders.{IsOrder, has, members, place_in, without}
 use Rattle.order_model.specs.Pairs.{Pair, is_above, keeps, Keeps, is_lawful, are_lawful, sorted_pairs, IsGreedy, IsFirstOrder, Leads, IsPairCycle}
@@ -137,29 +137,14 @@ later_cycle = record { back = by_more {b = 2} refl (by_one refl); least = none }
 
 pub is_order : (a b c : ℕ) → IsDistinct nat_eq (a ∷ b ∷ c ∷ []) → ((x : ℕ) → x < 3 → has (a ∷ b ∷ c ∷ []) x ≡ true) → a < 3 → b < 3 →
     c < 3 → IsOrder 3 (a ∷ b ∷ c ∷ [])
-is_order a b c d all p q r = record { all = λ x. (low x, all x); once = d }
-  where
-    low : (x : ℕ) → has (a ∷ b ∷ c ∷ []) x ≡ true → x < 3
-    low x h =
-        elim (or_cases (nat_eq x a) _ h) [
-          | inl e ↦ let s : x ≡ a = eqb-true x a e in omega arith
-          | inr k ↦ elim (or_cases (nat_eq x b) _ k) [
-            | inl e ↦ let s : x ≡ b = eqb-true x b e in omega arith
-            | inr l ↦ elim (or_cases (nat_eq x c) false l) [ inl e ↦ let s : x ≡ c = eqb-true x c e in omega arith | inr z ↦ absurd (false≢true z) ]
-          ]
-        ]
+is_order a b c d all p q r = grind arith
 
 pub below_three : (Q : ℕ → Type 0) → Q 0 → Q 1 → Q 2 → (x : ℕ) → x < 3 → Q x
-below_three Q a b c zero lt = a
-below_three Q a b c (suc zero) lt = b
-below_three Q a b c (suc (suc zero)) lt = c
-below_three Q a b c (suc (suc (suc x))) lt = absurd (omega arith)
+below_three Q h k l x m = grind arith
 
 pub order_021 : IsOrder 3 (0 ∷ 2 ∷ 1 ∷ [])
 unfolding IsDistinct
-order_021 =
-    is_order 0 2 1 ((refl, (refl, tt)), ((refl, tt), (tt, tt))) (below_three (λ x. has (0 ∷ 2 ∷ 1 ∷ []) x ≡ true) refl refl refl) (lit< tt)
-    (lit< tt) (lit< tt)
+order_021 = grind arith
 
 order_210 : IsOrder 3 (2 ∷ 1 ∷ 0 ∷ [])
 unfolding IsDistinct
@@ -204,33 +189,12 @@ four_is_fewest = good_is_fewest 3 (mux ∷ []) (of_mux first_above_last (cell 0 
 
 above_greedy : IsGreedy 3 first_above_last 7 (0 ∷ 1 ∷ 2 ∷ [])
 unfolding IsGreedy is_lawful without members
-above_greedy = (refl, λ y h. omega arith, (refl, λ y h. le_one y h, (refl, λ y h. le_two y h, refl)))
-  where
-    le_one : (y : ℕ) → has (1 ∷ 2 ∷ []) y ≡ true → 1 ≤ y
-    le_one zero h = absurd (false≢true h)
-    le_one (suc y) h = omega arith
-
-    le_two : (y : ℕ) → has (2 ∷ []) y ≡ true → 2 ≤ y
-    le_two zero h = absurd (false≢true h)
-    le_two (suc zero) h = absurd (false≢true h)
-    le_two (suc (suc y)) h = omega arith
+above_greedy = grind arith
 
 below_greedy : IsGreedy 3 last_above_first 7 (1 ∷ 2 ∷ 0 ∷ [])
 unfolding IsGreedy is_lawful without members
-below_greedy = (refl, λ y h. le_one y h, (refl, λ y h. le_two y h, (refl, λ y h. omega arith, refl)))
-  where
-    le_one : (y : ℕ) → has (1 ∷ 2 ∷ []) y ≡ true → 1 ≤ y
-    le_one zero h = absurd (false≢true h)
-    le_one (suc y) h = omega arith
-
-    le_two : (y : ℕ) → has (2 ∷ []) y ≡ true → 2 ≤ y
-    le_two zero h = absurd (false≢true h)
-    le_two (suc zero) h = absurd (false≢true h)
-    le_two (suc (suc y)) h = omega arith
+below_greedy = grind arith
 
 -- the orders with which sifting starts
 starts : IsFirstOrder 3 first_above_last (0 ∷ 1 ∷ 2 ∷ []) × IsFirstOrder 3 last_above_first (1 ∷ 2 ∷ 0 ∷ [])
-starts = (
-  greedy_is_first 3 first_above_last (0 ∷ 2 ∷ 1 ∷ []) (0 ∷ 1 ∷ 2 ∷ []) order_021 kept_above above_greedy,
-  greedy_is_first 3 last_above_first (2 ∷ 1 ∷ 0 ∷ []) (1 ∷ 2 ∷ 0 ∷ []) order_210 kept_below below_greedy,
-)
+starts = search (greedy_is_first, order_021, kept_above, above_greedy, order_210, kept_below, below_greedy)

@@ -1,17 +1,14 @@
 -- The first reasons of the worked certificates.
-use Rattle.std.proofs.Common.{◌≡◌, ◌≢◌, ℕ, ◌+◌, ◌≤◌, refl, sym, ap, ◌∙◌, true, cond, List, [], ◌∷◌, length, inl, inr, arith, lit<, lit≤, nat_eq, le-ltb, ne_eqb, nat_cmp, Less, Equal, Greater}
-use Rattle.std.specs.Ordering.{ordering_then}
+use Rattle.std.proofs.Common.{◌≡◌, ℕ, refl, true, List, [], ◌∷◌, length, arith, lit<, nat_cmp, Less}
 use Rattle.std.specs.Cmp.Lexicographic.{slice_cmp}
 use Rattle.std.specs.List.{IsDistinct}
-use Rattle.std.proofs.lemmas.Bool.{true≢false, cases_eq}
-use Rattle.std.proofs.lemmas.List.Elements.{All-from_recursion, All-contains}
 use Rattle.order_model.specs.Functions.{Function, points, restrict, table, depends}
 use Rattle.order_model.specs.Orders.{IsOrder, has, members}
 use Rattle.order_model.specs.Pairs.{keeps, Keeps}
 use Rattle.order_model.specs.Levels.{subfunctions, reach, dependents, level_count, level_counts}
 use Rattle.order_model.specs.Widths.{essential, essentials_outside}
-use Rattle.order_model.specs.Certificates.{Certificate, Cell, reserve, set_value, Reason, Applies, rank_of, IsFirstReason}
-use Rattle.order_model.specs.Certificates.Reason.{Shape, Order, Pairs, Levels, Total, Start, CellTooBig, Edge}
+use Rattle.order_model.specs.Certificates.{Certificate, reserve, set_value, Applies, rank_of, IsFirstReason}
+use Rattle.order_model.specs.Certificates.Reason.{Pairs, Total, CellTooBig, Edge}
 use Rattle.order_model.proofs.Worked.Counts.{parity3, mux}
 use Rattle.order_model.proofs.Worked.Pairs.{is_order, below_three, order_021, cell, of_parity, of_mux, parity_edge, parity_too_big, without_pair, other_pair, last_above_first}
 
@@ -25,34 +22,12 @@ record IsSound (n : ℕ) (F : List Function) (cert : Certificate) : Type 0 where
 
 -- nothing comes before the edge from the empty set to variable 0 but the tests before the edges
 none_before_edge : (m x : ℕ) → slice_cmp nat_cmp (8 ∷ m ∷ x ∷ []) (8 ∷ 0 ∷ 0 ∷ []) ≡ Less → ⊥
-none_before_edge m x e = elim (cases_eq m 0) [
-  | inl s ↦ elim (cases_eq x 0) [
-    | inl t ↦ let f : slice_cmp nat_cmp (8 ∷ 0 ∷ 0 ∷ []) (8 ∷ 0 ∷ 0 ∷ []) ≡ Less = sym (λ i. slice_cmp nat_cmp (8 ∷ s i ∷ t i ∷ []) (8 ∷ 0 ∷ 0 ∷ [])) ∙ e in cc
-    | inr n ↦
-        let f : ordering_then (nat_cmp x 0) Equal ≡ Less = sym (λ i. slice_cmp nat_cmp (8 ∷ s i ∷ x ∷ []) (8 ∷ 0 ∷ 0 ∷ [])) ∙ e in
-        let g = ap (λ o. ordering_then o Equal) (sym (greater x n)) ∙ f in cc
-  ]
-  | inr n ↦
-      let g = ap (λ o. ordering_then o (ordering_then (nat_cmp x 0) Equal)) (sym (greater m n)) ∙ e in cc
-]
-  where
-    greater : (k : ℕ) → k ≢ 0 → nat_cmp k 0 ≡ Greater
-    greater k ne = ap (λ b. cond b Less (cond (nat_eq k 0) Equal Greater)) (le-ltb k 0 (omega arith)) ∙ ap (λ b. cond b Equal Greater) (ne_eqb k 0 ne)
+none_before_edge m x e = grind arith
 
 edge_first : (n : ℕ) (F : List Function) (cert : Certificate) → IsSound n F cert → (Applies n F cert Total → ⊥) →
     (Applies n F cert CellTooBig → ⊥) → Applies n F cert (Edge 0 0) → IsFirstReason n F cert (Edge 0 0)
 unfolding rank_of
-edge_first n F cert sound total small applies = record { applies = applies; first = none }
-  where
-    none : (other : Reason) → slice_cmp nat_cmp (rank_of other) (8 ∷ 0 ∷ 0 ∷ []) ≡ Less → Applies n F cert other → ⊥
-    none Shape lt a = a sound.shape
-    none Order lt a = a sound.order
-    none Pairs lt a = true≢false (sym sound.pairs ∙ a)
-    none Levels lt a = a sound.levels
-    none Total lt a = total a
-    none Start lt a = a sound.start
-    none CellTooBig lt a = small a
-    none (Edge m x) lt a = none_before_edge m x lt
+edge_first n F cert sound total small applies = grind arith
 
 order_012 : IsOrder 3 (0 ∷ 1 ∷ 2 ∷ [])
 unfolding IsDistinct
@@ -69,10 +44,7 @@ edge_sound = record { shape = (refl, refl); order = order_012; pairs = refl; lev
 
 edge_small : Applies 3 (parity3 ∷ []) edge_bad CellTooBig → ⊥
 unfolding points restrict table depends essential essentials_outside reserve members
-edge_small (c, at, lt) =
-    let le = All-contains (λ (c : Cell). c.cost + reserve 3 (parity3 ∷ []) edge_bad c.mask ≤ 5) edge_bad.cells c
-    (All-from_recursion (λ (c : Cell). c.cost + reserve 3 (parity3 ∷ []) edge_bad c.mask ≤ 5) edge_bad.cells (lit≤ tt, (lit≤ tt, (lit≤ tt, tt)))) at in
-    omega arith
+edge_small h = grind arith
 
 parity_invalid : IsFirstReason 3 (parity3 ∷ []) edge_bad (Edge 0 0)
 parity_invalid = edge_first 3 (parity3 ∷ []) edge_bad edge_sound (λ ne. ne refl) edge_small parity_edge
@@ -86,10 +58,7 @@ pair_sound = record { shape = (refl, refl); order = order_021; pairs = refl; lev
 
 pair_small : Applies 3 (mux ∷ []) pair_bad CellTooBig → ⊥
 unfolding points restrict table depends essential essentials_outside reserve members
-pair_small (c, at, lt) =
-    let le = All-contains (λ (c : Cell). c.cost + reserve 3 (mux ∷ []) pair_bad c.mask ≤ 4) pair_bad.cells c
-    (All-from_recursion (λ (c : Cell). c.cost + reserve 3 (mux ∷ []) pair_bad c.mask ≤ 4) pair_bad.cells (lit≤ tt, (lit≤ tt, tt))) at in
-    omega arith
+pair_small h = grind arith
 
 mux_invalid : IsFirstReason 3 (mux ∷ []) pair_bad (Edge 0 0)
 mux_invalid = edge_first 3 (mux ∷ []) pair_bad pair_sound (λ ne. ne refl) pair_small without_pair
@@ -100,31 +69,11 @@ big_bad = of_parity (cell 0 0 ∷ cell 1 2 ∷ cell 2 2 ∷ cell 3 5 ∷ cell 4 
 
 big_invalid : IsFirstReason 3 (parity3 ∷ []) big_bad CellTooBig
 unfolding points restrict table depends subfunctions reach dependents level_count level_counts keeps set_value rank_of
-big_invalid = record { applies = parity_too_big; first = none }
-  where
-    none : (other : Reason) → slice_cmp nat_cmp (rank_of other) (7 ∷ []) ≡ Less → Applies 3 (parity3 ∷ []) big_bad other → ⊥
-    none Shape lt a = a (refl, refl)
-    none Order lt a = a order_012
-    none Pairs lt a = true≢false a
-    none Levels lt a = a refl
-    none Total lt a = a refl
-    none Start lt a = a refl
-    none CellTooBig lt a = let f : Equal ≡ Less = lt in cc
-    none (Edge m x) lt a = let f : Greater ≡ Less = lt in cc
+big_invalid = grind (arith, parity_too_big, order_012)
 
 abbrev turned_bad : Certificate
 turned_bad = of_mux last_above_first (cell 0 0 ∷ cell 2 1 ∷ [])
 
 turned_invalid : IsFirstReason 3 (mux ∷ []) turned_bad Pairs
 unfolding rank_of
-turned_invalid = record { applies = other_pair; first = none }
-  where
-    none : (other : Reason) → slice_cmp nat_cmp (rank_of other) (3 ∷ []) ≡ Less → Applies 3 (mux ∷ []) turned_bad other → ⊥
-    none Shape lt a = a (refl, refl)
-    none Order lt a = a order_021
-    none Pairs lt a = let f : Equal ≡ Less = lt in cc
-    none Levels lt a = let f : Greater ≡ Less = lt in cc
-    none Total lt a = let f : Greater ≡ Less = lt in cc
-    none Start lt a = let f : Greater ≡ Less = lt in cc
-    none CellTooBig lt a = let f : Greater ≡ Less = lt in cc
-    none (Edge m x) lt a = let f : Greater ≡ Less = lt in cc
+turned_invalid = grind (arith, other_pair, order_021)

@@ -1,7 +1,6 @@
 use Rattle.std.proofs.Common.{◌≡◌, ◌<◌, ℕ, length, get_or, subst, arith}
 use Rattle.std.proofs.lemmas.Bool.{iff_false}
 use Rattle.std.proofs.lemmas.Nat.Bits.{bit_at_set_same, bit_at_set_other}
-use Rattle.std.specs.Int.{w16}
 use Rattle.order_model.proofs.Lists.Accepted.{Seen, seen_none, seen_repeated, seen_more, seen_all}
 use Rattle.order_model.proofs.orders.has_repeat.Goals as goal
 
@@ -9,18 +8,13 @@ pub loop-x-init : goal.loop-x-init
 loop-x-init c = seen_none c.args.variables.now
 
 pub returns-then-contains-clause-repeated : goal.returns-then-contains-clause-repeated
-returns-then-contains-clause-repeated c =
-    seen_repeated c.args.variables.now c.loop-x.x-index c.loop-x.seen c.loop-x.invariant c.loop-x-test.true
-    (c.contains.ensures.0 c.if-contains.true)
+returns-then-contains-clause-repeated c = grind (arith, seen_repeated)
 
 pub loop-x-preserved : goal.loop-x-preserved
 loop-x-preserved c =
     let x : ℕ = get_or c.args.variables.now c.loop-x.x-index 0 in
     let small : x < 16 = c.requires c.loop-x.x-index 0 c.loop-x-test.true in
-    seen_more c.args.variables.now c.loop-x.x-index c.loop-x.seen c.loop-x.invariant _
-    (iff_false c.contains.ensures c.if-contains.false)
-    (bit_at_set_same w16 c.loop-x.seen x small)
-    (λ y ne. bit_at_set_other w16 c.loop-x.seen x small y ne)
+    search (seen_more, iff_false, bit_at_set_same, bit_at_set_other)
 
 pub returns-clause-distinct : goal.returns-clause-distinct
 returns-clause-distinct c =

@@ -1,7 +1,6 @@
 use Rattle.std.proofs.Common.{◌≡◌, ◌<◌, ◌+◌, length, sym, ◌∙◌, subst, arith}
 use Rattle.std.proofs.lemmas.List.{set-get_or}
-use Rattle.std.proofs.lemmas.Bool.{iff_false}
-use Rattle.order_model.proofs.Precedence.Closure.{JoinedTo, joined_none, joined_set, joined_kept, joined_all}
+use Rattle.order_model.proofs.Precedence.Closure.{JoinedTo, joined_none, joined_set, joined_all}
 use Rattle.order_model.proofs.pairs.join_through.Goals as goal
 use Rattle.order_model.proofs.pairs.join_through.Goals.{then-contains, else-contains}
 
@@ -10,22 +9,17 @@ loop-mask-init c = joined_none c.args.reached.now c.args.k
 
 pub loop-mask-preserved : goal.loop-mask-preserved
 loop-mask-preserved c =
-    let below = c.args.reached.now in
-    let k = c.args.k in
     let i = c.loop-mask.mask-index in
     let later = c.loop-mask.reached in
     elim c.if-contains.branch [
-      | then-contains w ↦ subst (JoinedTo below k (i + 1)) (sym w.reached-is)
-          (joined_set below k i later c.loop-mask.invariant (inside (c.loop-mask.invariant.long ∙ c.told-reached))
+      | then-contains w ↦ subst (JoinedTo c.args.reached.now c.args.k (i + 1)) (sym w.reached-is)
+          (joined_set c.args.reached.now c.args.k i later c.loop-mask.invariant (inside (c.loop-mask.invariant.long ∙ c.told-reached))
           (c.contains.ensures.0 w.if-contains.true))
-      | else-contains w ↦ subst (JoinedTo below k (i + 1)) (sym (w.reached-is ∙ set-get_or later i 0))
-          (joined_kept below k i later c.loop-mask.invariant (iff_false c.contains.ensures w.if-contains.false))
+      | else-contains w ↦ grind (arith, set-get_or)
     ]
   where
     inside : length c.loop-mask.reached ≡ 16 → c.loop-mask.mask-index < length c.loop-mask.reached
     inside e = omega arith
 
 pub returns : goal.returns
-returns c =
-    joined_all c.args.reached.now c.args.k c.loop-mask.mask-index c.loop-mask.reached c.loop-mask.invariant
-    (let long = c.loop-mask.invariant.long in let told = c.told-reached in omega arith)
+returns c = grind (arith, joined_all)

@@ -1,12 +1,10 @@
-use Rattle.std.proofs.Common.{ℕ, length, eqb, refl, sym, subst, arith, rules}
-use borrow.Author.Tests.{tests}
+use Rattle.std.proofs.Common.{length, eqb, refl, sym, arith, rules}
 use Rattle.std.specs.List.{slice_split}
 use Rattle.std.proofs.lemmas.List.{length_push}
 use Rattle.std.proofs.lemmas.Iterator.Consumers.{YieldsList-turn, YieldsList-end}
 use Rattle.std.proofs.lemmas.Iterator.Splits.{YieldsList-from_slice_split}
-use Rattle.order_model.specs.PairTexts.{AreMasksOf, listed}
 use Rattle.order_model.proofs.Precedence.Masks.{no_masks, zeros_empty}
-use Rattle.order_model.proofs.Precedence.Texts.{ReadTo, read_none, read_more, read_all, read_fails, pair_small, with_bit}
+use Rattle.order_model.proofs.Precedence.Texts.{read_none, read_more, read_all, read_fails, pair_small}
 use Rattle.order_model.proofs.pairs.listed_masks.Goals as goal
 
 pub loop-part-init : goal.loop-part-init
@@ -25,24 +23,21 @@ pub loop-part-preserved : goal.loop-part-preserved
 loop-part-preserved c =
     let parts = slice_split (λ b. eqb b 58) c.args.text.now in
     let t = YieldsList-turn
-    (YieldsList-from_slice_split _ (λ b. eqb b 58) c.args.text.now (cc) (cc) (cc) (λ x r q k. search (rules, tests)))
+    (YieldsList-from_slice_split _ (λ b. eqb b 58) c.args.text.now (cc) (cc) (cc) (λ x r q k. search rules))
     c.loop-part.yielded _ c.loop-part.yielded_by _ _ c.in-Some.part c.in-Some.is c.next.ensures.steps in
-    subst (λ (k : ℕ). ReadTo parts k (with_bit c.loop-part.below c.in_ok-a.a c.in_ok-a.b)) (sym (length_push c.loop-part.yielded c.in-Some.part))
-    (read_more parts (length c.loop-part.yielded) c.loop-part.below c.in-Some.part.now c.in_ok-a.a c.in_ok-a.b c.loop-part.invariant t.0 t.1
-    (sym c.in_ok-a.ensures))
+    grind (arith, length_push, read_more)
 
 pub returns-in_err-a : goal.returns-in_err-a
 returns-in_err-a c =
     let parts = slice_split (λ b. eqb b 58) c.args.text.now in
     let t = YieldsList-turn
-    (YieldsList-from_slice_split _ (λ b. eqb b 58) c.args.text.now (cc) (cc) (cc) (λ x r q k. search (rules, tests)))
+    (YieldsList-from_slice_split _ (λ b. eqb b 58) c.args.text.now (cc) (cc) (cc) (λ x r q k. search rules))
     c.loop-part.yielded _ c.loop-part.yielded_by _ _ c.in-Some.part c.in-Some.is c.next.ensures.steps in
-    subst (AreMasksOf (listed c.args.text.now)) (sym c.from_residual.ensures)
-    (read_fails parts (length c.loop-part.yielded) c.in-Some.part.now t.0 t.1 (sym c.in_err-a.ensures))
+    grind (arith, read_fails)
 
 pub returns : goal.returns
 returns c =
     let parts = slice_split (λ b. eqb b 58) c.args.text.now in
-    let t = YieldsList-end (YieldsList-from_slice_split _ (λ b. eqb b 58) c.args.text.now (cc) (cc) (cc) (λ x r q k. search (rules, tests)))
+    let t = YieldsList-end (YieldsList-from_slice_split _ (λ b. eqb b 58) c.args.text.now (cc) (cc) (cc) (λ x r q k. search rules))
     c.loop-part.yielded _ c.loop-part.yielded_by _ _ c.in-None.is c.next.ensures.steps in
-    read_all parts (length c.loop-part.yielded) c.loop-part.below c.loop-part.invariant (omega (arith, t.1))
+    read_all parts (length c.loop-part.yielded) c.loop-part.below c.loop-part.invariant (omega arith)

@@ -10,10 +10,9 @@ returns-then-not-are_within c = λ P m. out_of_range P c.args.below c.args.n m (
 
 pub invariant_of-result : goal.invariant_of-result
 invariant_of-result c =
-    let n = c.args.n in
     let w = c.if-not-are_within.ensures.0 refl in
-    holds (Some (pairs_in n c.args.below)) c.args.below n c.requires.some c.requires.few
-    (same_at (pairs_in n c.args.below) c.args.below (same_in n c.args.below w)) w c.in-None.ensures.none
+    holds (Some (pairs_in c.args.n c.args.below)) c.args.below c.args.n c.requires.some c.requires.few
+    (same_at (pairs_in c.args.n c.args.below) c.args.below (same_in c.args.n c.args.below w)) w c.in-None.ensures.none
 
 pub returns-in-Some : goal.returns-in-Some
 returns-in-Some c = λ P m. cycle P c.args.below c.args.n c.in-Some.v c.requires.few m (c.if-not-are_within.ensures.0 refl) c.in-Some.ensures.found

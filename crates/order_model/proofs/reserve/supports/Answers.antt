@@ -1,6 +1,5 @@
-use Rattle.std.proofs.Common.{◌≡◌, ◌∙◌, arith}
+use Rattle.std.proofs.Common.{◌∙◌, arith}
 use Rattle.std.proofs.lemmas.List.{length-set}
-use Rattle.order_model.specs.Problems.{outputs_of}
 use Rattle.order_model.proofs.Bits.Reserves.{supports_next, supports_all}
 use Rattle.order_model.proofs.reserve.supports.Goals as goal
 
@@ -13,5 +12,4 @@ loop-output-preserved c = record {
 
 pub returns : goal.returns
 returns c =
-    let e : c.loop-output.output ≡ outputs_of c.args.problem.now = omega arith in
-    supports_all c.args.problem.now c.loop-output.found c.loop-output.output e c.loop-output.invariant.found
+    supports_all c.args.problem.now c.loop-output.found c.loop-output.output (omega arith) c.loop-output.invariant.found

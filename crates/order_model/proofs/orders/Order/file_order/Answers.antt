@@ -1,4 +1,4 @@
-use Rattle.std.proofs.Common.{◌≡◌, ◌++◌, ◌∷◌, [], sym, ap, ◌∙◌, subst, arith}
+use Rattle.std.proofs.Common.{◌++◌, ◌∷◌, [], sym, ap, ◌∙◌, subst, arith}
 use Rattle.order_model.specs.Orders.{variables}
 use Rattle.order_model.specs.OrderFaults.{Accepts}
 use Rattle.order_model.proofs.Lists.Accepted.{accepts_variables, variables_more}
@@ -9,5 +9,4 @@ loop-x-preserved c = c.in_ok-push.ensures.items ∙ ap (λ xs. xs ++ c.loop-x.x 
 
 pub invariant_of-result : goal.invariant_of-result
 invariant_of-result c =
-    let e : c.loop-x.x ≡ c.args.n = omega arith in
-    subst Accepts (ap variables (sym e) ∙ sym c.loop-x.invariant) (accepts_variables c.args.n c.requires.some c.requires.few)
+    subst Accepts (ap variables (sym (omega arith)) ∙ sym c.loop-x.invariant) (accepts_variables c.args.n c.requires.some c.requires.few)

@@ -10,13 +10,10 @@ pub returns-clause-pairs : goal.returns-clause-pairs
 returns-clause-pairs c =
     let n = c.self.inside.inputs in
     let below = c.self.inside.below in
-    let a = c.args.a in
-    subst (λ (v : KeptPairs). (b : ℕ) → (bit_at (get_or below a 0) b ≡ 1) ↔ IsTrue (has_pair v.pairs a b)) c.self.view_is
-    (λ b. let s = same_at (pairs_in n below) below (same_in n below c.self.invariant.within) a b in (s.1, s.0))
+    subst (λ (v : KeptPairs). (b : ℕ) → (bit_at (get_or below c.args.a 0) b ≡ 1) ↔ IsTrue (has_pair v.pairs c.args.a b)) c.self.view_is
+    (λ b. let s = same_at (pairs_in n below) below (same_in n below c.self.invariant.within) c.args.a b in (s.1, s.0))
 
 pub returns-clause-within : goal.returns-clause-within
 returns-clause-within c =
-    let n = c.self.inside.inputs in
-    let below = c.self.inside.below in
-    subst (λ (v : KeptPairs). get_or below c.args.a 0 < 2 ^ v.inputs) c.self.view_is
-    (small_mask n (get_or below c.args.a 0) (λ b h. (c.self.invariant.within c.args.a b h).1))
+    subst (λ (v : KeptPairs). get_or c.self.inside.below c.args.a 0 < 2 ^ v.inputs) c.self.view_is
+    (small_mask c.self.inside.inputs (get_or c.self.inside.below c.args.a 0) (λ b h. (c.self.invariant.within c.args.a b h).1))

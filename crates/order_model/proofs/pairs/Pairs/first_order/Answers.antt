@@ -4,7 +4,7 @@ use Rattle.order_model.specs.OrderFaults.{Accepts}
 use Rattle.order_model.specs.Pairs.{IsFirstOrder}
 use Rattle.order_model.specs.KeptPairs.{KeptPairs, CanBeKept}
 use Rattle.order_model.proofs.Precedence.MaskLaws.{member_bit}
-use Rattle.order_model.proofs.Precedence.Greedy.{GreedyTo, pow_le_bit, top_parts, greedy_start, greedy_some, greedy_step, greedy_end, first_accepted}
+use Rattle.order_model.proofs.Precedence.Greedy.{GreedyTo, top_parts, greedy_start, greedy_some, greedy_step, greedy_end, first_accepted}
 use Rattle.order_model.proofs.Bits.Masks.{all_ones}
 use Rattle.order_model.proofs.pairs.Pairs.first_order.Goals as goal
 
@@ -16,47 +16,36 @@ kept_of v w e k = subst (λ (u : KeptPairs). CanBeKept u.inputs u.pairs) e k
 
 pub loop-place-init : goal.loop-place-init
 loop-place-init c =
-    let n = c.args.self.now.inputs in
     let kept = kept_of _ _ c.self.view_is c.self.invariant.kept in
-    subst (λ (m : ℕ). GreedyTo n c.args.self.now.pairs (replicate 16 0) 0 m)
-    (sym (all_ones n kept.few) ∙ ap (λ (k : ℕ). 65535 / 2 ^ (16 - k)) (sym (same _ _ c.self.view_is)))
-    (greedy_start n c.args.self.now.pairs (replicate 16 0) kept refl)
+    subst (λ (m : ℕ). GreedyTo c.args.self.now.inputs c.args.self.now.pairs (replicate 16 0) 0 m)
+    (sym (all_ones c.args.self.now.inputs kept.few) ∙ ap (λ (k : ℕ). 65535 / 2 ^ (16 - k)) (sym (same _ _ c.self.view_is)))
+    (greedy_start c.args.self.now.inputs c.args.self.now.pairs (replicate 16 0) kept refl)
 
 pub smallest_top-x-requires-clause-some : goal.smallest_top-x-requires-clause-some
 smallest_top-x-requires-clause-some c =
     greedy_some c.args.self.now.inputs c.args.self.now.pairs c.loop-place.variables c.loop-place.place c.loop-place.remaining c.loop-place.invariant
-    (let e = same _ _ c.self.view_is in omega arith)
+    (omega (arith, same _ _ c.self.view_is))
 
 pub overflow_shl-remaining : goal.overflow_shl-remaining
 overflow_shl-remaining c =
     let n = c.args.self.now.inputs in
     let there = (top_parts n c.args.self.now.pairs c.loop-place.remaining c.smallest_top-x.result c.smallest_top-x.ensures.top).0 in
-    let low = (member_bit n c.loop-place.remaining c.smallest_top-x.result there).0 in
-    let few = c.self.invariant.kept.few in
-    let e = same _ _ c.self.view_is in
-    omega arith
+    grind (arith, member_bit)
 
 pub overflow_sub-remaining-in-loop-place : goal.overflow_sub-remaining-in-loop-place
 overflow_sub-remaining-in-loop-place c =
     let n = c.args.self.now.inputs in
     let there = (top_parts n c.args.self.now.pairs c.loop-place.remaining c.smallest_top-x.result c.smallest_top-x.ensures.top).0 in
-    let bit = member_bit n c.loop-place.remaining c.smallest_top-x.result there in
-    let few = c.self.invariant.kept.few in
-    let e = same _ _ c.self.view_is in
-    let low = one_shl c.smallest_top-x.result 16 (let l = bit.0 in omega arith) in
-    let le = pow_le_bit c.loop-place.remaining c.smallest_top-x.result bit.1 in
-    omega (arith, low)
+    grind (arith, member_bit)
 
 pub loop-place-preserved : goal.loop-place-preserved
 loop-place-preserved c =
     let n = c.args.self.now.inputs in
     let P = c.args.self.now.pairs in
     let x = c.smallest_top-x.result in
-    let there = (top_parts n P c.loop-place.remaining x c.smallest_top-x.ensures.top).0 in
-    let bit = member_bit n c.loop-place.remaining x there in
-    let few = c.self.invariant.kept.few in
+    let bit = member_bit n c.loop-place.remaining x ((top_parts n P c.loop-place.remaining x c.smallest_top-x.ensures.top).0) in
     let e = same _ _ c.self.view_is in
-    let low = one_shl x 16 (let l = bit.0 in omega arith) in
+    let low = one_shl x 16 (omega arith) in
     subst (λ (m : ℕ). GreedyTo n P (set c.loop-place.variables c.loop-place.place x) (c.loop-place.place + 1) (c.loop-place.remaining - m)) (sym low)
     (greedy_step n P c.loop-place.variables c.loop-place.place c.loop-place.remaining x c.loop-place.invariant (omega arith)
     c.smallest_top-x.ensures.top c.smallest_top-x.ensures.smallest)
@@ -78,14 +67,7 @@ module _ (fields value : KeptPairs) (is : fields ≡ value) (k : CanBeKept field
       (greedy_end value.inputs value.pairs xs place remaining (kept_of fields value is k) g (omega arith) (omega arith)))
 
 pub from_variables-requires : goal.from_variables-requires
-from_variables-requires c =
-    subst Accepts (sym (c.in_ok-variables.ensures.items_if_clones_equal (λ x y e. e)))
-    (accepted _ _ c.self.view_is c.self.invariant.kept c.loop-place.variables c.loop-place.place c.loop-place.remaining c.loop-place.invariant
-    c.loop-place-test.false c.loop-place.auto.place-end)
+from_variables-requires c = grind (arith, accepted)
 
 pub returns : goal.returns
-returns c =
-    subst (IsFirstOrder c.args.self.now.inputs c.args.self.now.pairs)
-    (sym (c.from_variables.ensures ∙ c.in_ok-variables.ensures.items_if_clones_equal (λ x y e. e)))
-    (first _ _ c.self.view_is c.self.invariant.kept c.loop-place.variables c.loop-place.place c.loop-place.remaining c.loop-place.invariant
-    c.loop-place-test.false c.loop-place.auto.place-end)
+returns c = grind (arith, first)

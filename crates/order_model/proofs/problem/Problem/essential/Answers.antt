@@ -1,5 +1,5 @@
-use Rattle.std.proofs.Common.{◌≡◌, ◌<◌, ◌+◌, ℕ, sym, ◌∙◌, arith, subst}
-use Rattle.order_model.proofs.Bits.Problems.{MaskOfFirst, mask_none, mask_with_next, mask_without_next, some_dependence, dependence_is, essential_is}
+use Rattle.std.proofs.Common.{◌≡◌, ℕ, arith, subst}
+use Rattle.order_model.proofs.Bits.Problems.{MaskOfFirst, mask_none, mask_with_next, some_dependence, dependence_is, essential_is}
 use Rattle.order_model.proofs.problem.Problem.essential.Goals as goal
 use Rattle.order_model.proofs.problem.Problem.essential.Goals.{then-has_dependence, else-has_dependence}
 
@@ -7,15 +7,7 @@ pub loop-x-init : goal.loop-x-init
 loop-x-init c = mask_none (some_dependence c.args.self.now)
 
 pub loop-x-preserved : goal.loop-x-preserved
-loop-x-preserved c =
-    let small : c.loop-x.x < 16 = omega arith in
-    let is = dependence_is c.args.self.now c.loop-x.x in
-    elim c.if-has_dependence.branch [
-      | then-has_dependence w ↦ subst (λ (m : ℕ). MaskOfFirst (some_dependence c.args.self.now) (c.loop-x.x + 1) m) (sym w.mask-is)
-          (mask_with_next (some_dependence c.args.self.now) c.loop-x.x c.loop-x.mask small c.loop-x.invariant (is ∙ sym w.if-has_dependence.ensures))
-      | else-has_dependence w ↦ subst (λ (m : ℕ). MaskOfFirst (some_dependence c.args.self.now) (c.loop-x.x + 1) m) (sym w.mask-is)
-          (mask_without_next (some_dependence c.args.self.now) c.loop-x.x c.loop-x.mask small c.loop-x.invariant (is ∙ sym w.if-has_dependence.ensures))
-    ]
+loop-x-preserved c = grind (arith, dependence_is, mask_with_next)
 
 pub returns : goal.returns
 returns c =

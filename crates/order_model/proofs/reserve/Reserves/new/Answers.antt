@@ -24,10 +24,4 @@ loop-x-preserved c =
     }
 
 pub invariant_of-result : goal.invariant_of-result
-invariant_of-result c =
-    record {
-      few = omega arith;
-      essential_is = c.essential.ensures;
-      dependents_are = λ x h. c.loop-x.invariant.dependents x (omega arith);
-      others_are = λ x h. c.loop-x.invariant.others x (omega arith);
-    }
+invariant_of-result c = grind arith
