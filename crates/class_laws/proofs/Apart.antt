@@ -1,37 +1,20 @@
 -- Where no class occurs twice, no pair does.
 --     low_rises      lower entries rise with the pairs
 --     distinct_first      each pair is the first of its kind
-use Rattle.std.proofs.Common.{◌≡◌, ◌≢◌, ℕ, ◌+◌, ◌*◌, ◌/◌, ◌^◌, ◌<◌, ◌≤◌, suc, inl, inr, List, length, get_or, refl, ap, arith}
-use Rattle.std.proofs.Math.Nat.{mul-le-mul_right, div-mul-le_self, lt-div-mul-add}
-use Rattle.std.proofs.lemmas.Bool.{cases_lt}
-use Rattle.std.proofs.lemmas.Nat.{pow_pos, div-add-mod'}
+use Rattle.std.proofs.Common.{◌≡◌, ◌≢◌, ℕ, ◌+◌, ◌*◌, ◌/◌, ◌^◌, ◌<◌, ◌≤◌, List, length, get_or, refl, ap, arith}
+use Rattle.std.proofs.lemmas.Nat.{pow_pos}
 use Rattle.class_laws.specs.Numbering.{IsFirstOccurrence}
 use Rattle.class_laws.specs.Places.{low_place, pairs}
 use Rattle.class_laws.proofs.Index.{pair_within, first_listed}
 
 low_is : (step j : ℕ) → low_place step j ≡ j + j / step * step
-low_is step j =
-    let d = div-add-mod' j step in
-    let e : j / step * (2 * step) ≡ j / step * step + j / step * step = grind arith in
-    omega arith
+low_is step j = omega arith
 
 quotient_rises : (step i j : ℕ) → 0 < step → i < j → i / step * step ≤ j / step * step
-quotient_rises step i j some lt = elim (cases_lt (j / step) (i / step)) [
-  | inl b ↦
-      let m = mul-le-mul_right step (let s : suc (j / step) ≤ i / step = omega arith in s) in
-      let e : suc (j / step) * step ≡ j / step * step + step = grind arith in
-      let d = div-mul-le_self i step in
-      let u = lt-div-mul-add {a = j} some in
-      absurd (omega arith)
-  | inr le ↦ mul-le-mul_right step le
-]
+quotient_rises step i j some lt = grind arith
 
 pub low_rises : (step i j : ℕ) → 0 < step → i < j → low_place step i < low_place step j
-low_rises step i j some lt =
-    let a = low_is step i in
-    let b = low_is step j in
-    let m = quotient_rises step i j some lt in
-    omega arith
+low_rises step i j some lt = omega (arith, quotient_rises step i j some lt)
 
 pub distinct_first : (cs : List ℕ) (r : ℕ) → ((blocks : ℕ) × (length cs ≡ blocks * (2 * 2 ^ r))) →
     ((i j : ℕ) → i < j → j < length cs → get_or cs i 0 ≢ get_or cs j 0) → (j : ℕ) → j < length cs / 2 →

@@ -2,7 +2,7 @@
 --     fixed k j f      f with the variables below k fixed by the bits of j
 --     subfunctions_fixed      all of them, rising
 --     fixed_value      with all variables fixed it has f's value at the point with the number
-use Rattle.std.proofs.Common.{◌≡◌, ℕ, zero, suc, ◌+◌, ◌-◌, ◌*◌, ◌^◌, ◌<◌, ◌≤◌, Bool, true, false, not, inl, inr, List, [], ◌∷◌, ◌++◌, map, length, reverse, get_or, set, get_or-set_same, get_or-set_other, refl, sym, ap, ap₂, ◌∙◌, subst, arith, eqb, eq-eqb}
+use Rattle.std.proofs.Common.{◌≡◌, ℕ, zero, suc, ◌+◌, ◌*◌, ◌^◌, ◌<◌, ◌≤◌, Bool, true, false, not, inl, inr, List, [], ◌∷◌, ◌++◌, map, length, reverse, get_or, set, get_or-set_same, get_or-set_other, refl, sym, ap, ap₂, ◌∙◌, subst, arith, eqb}
 use Rattle.std.specs.Int.{bit_at}
 use Rattle.std.specs.List.{filter, range_with_len, flat_map}
 use Rattle.std.proofs.Math.Nat.{two-pow-succ}
@@ -33,8 +33,7 @@ fixed_same (suc k) i j h f =
     ap (λ b. fixed k i (restrict k (eqb b 1) f)) (h k (omega arith)) ∙ fixed_same k i j (λ x lt. h x (omega arith)) (restrict k (eqb (bit_at j k) 1) f)
 
 range_last : (k : ℕ) → variables (suc k) ≡ variables k ++ k ∷ []
-range_last k = ap (range_with_len 0) (let s : suc k ≡ k + 1 = omega arith in s) ∙ range_append 0 k 1
-    ∙ ap (λ z. range_with_len 0 k ++ z ∷ []) (let s : 0 + k ≡ k = omega arith in s)
+range_last k = grind (arith, range_append)
 
 subfunctions_fixed : (k : ℕ) (f : Function) → subfunctions (reverse (variables k)) f ≡ map (λ j. fixed k j f) (range_with_len 0 (2 ^ k))
 unfolding subfunctions fixed
@@ -54,13 +53,7 @@ subfunctions_fixed (suc k) f =
     high : (i : ℕ) → i < 2 ^ k → fixed k (0 + i) (restrict k true f) ≡ fixed k (0 + 2 ^ k + i) (restrict k (eqb (bit_at (0 + 2 ^ k + i) k) 1) f)
     high i lt =
         let shape : 0 + 2 ^ k + i ≡ 1 * 2 ^ k + i = omega arith in
-        let zero_add : 0 + i ≡ i = omega arith in
-        let top : bit_at (0 + 2 ^ k + i) k ≡ 1 = ap (λ z. bit_at z k) shape ∙ bit_at_cat_high 1 k i k lt (omega arith)
-        ∙ ap (bit_at 1) (let z : k - k ≡ 0 = omega arith in z) in
-        ap (λ b. fixed k (0 + i) (restrict k b f)) (sym (eq-eqb (bit_at (0 + 2 ^ k + i) k) 1 top))
-        ∙ fixed_same k (0 + i) (0 + 2 ^ k + i)
-        (λ x m. ap (λ z. bit_at z x) zero_add ∙ sym (ap (λ z. bit_at z x) shape ∙ bit_at_cat_low 1 k i x m))
-        (restrict k (eqb (bit_at (0 + 2 ^ k + i) k) 1) f)
+        grind (arith, bit_at_cat_high, fixed_same, bit_at_cat_low)
 
 -- ---- values
 
@@ -83,10 +76,8 @@ bit-put : (k j : ℕ) (p : Point) → k ≤ length p → (x : ℕ) → x < k →
 unfolding put
 bit-put zero j p h x lt = absurd (omega arith)
 bit-put (suc k) j p h x lt = elim (cases_eq x k) [
-  | inl e ↦ ap (λ z. get_or (set (put k j p) k (eqb (bit_at j k) 1)) z false) e
-      ∙ get_or-set_same (put k j p) k (eqb (bit_at j k) 1) false (let l = length-put k j p in omega arith)
-      ∙ ap (λ z. eqb (bit_at j z) 1) (sym e)
-  | inr ne ↦ get_or-set_other (put k j p) k x (eqb (bit_at j k) 1) false ne ∙ bit-put k j p (omega arith) x (omega arith)
+  | inl e ↦ grind (arith, get_or-set_same, length-put)
+  | inr ne ↦ search (get_or-set_other, bit-put k j p (omega arith) x (omega arith))
 ]
 
 put_all : (n j : ℕ) (p : Point) → length p ≡ n → put n j p ≡ point_of n j
@@ -124,8 +115,7 @@ pub reached_constant : (n : ℕ) (F : List Function) (g : Function) → Among g 
 unfolding reach
 reached_constant n F g a p l =
     let s = among_from_flat_map (subfunctions (reverse (variables n))) g F a in
-    let t : Among g (map (λ j. fixed n j s.0) (range_with_len 0 (2 ^ n))) = subst (Among g) (subfunctions_fixed n s.0) s.2 in
-    let u = among_from_map (λ j. fixed n j s.0) g (range_with_len 0 (2 ^ n)) t in
+    let u = among_from_map (λ j. fixed n j s.0) g (range_with_len 0 (2 ^ n)) (subst (Among g) (subfunctions_fixed n s.0) s.2) in
     ap (λ h. h p) u.2 ∙ fixed_value n u.0 s.0 p l ∙ sym (ap (λ h. h (point_of n 0)) u.2 ∙ fixed_value n u.0 s.0 (point_of n 0) (long_point n 0))
 
 -- tables tell the same ones apart as values

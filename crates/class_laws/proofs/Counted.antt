@@ -1,7 +1,7 @@
 -- One numbering of a set gives the widths into it: w(S without x, x) is the number of classes of S that depend on x.
 --     distinct_by_numbers      the distinct elements that pass a test are as many as the numbers whose element passes
 --     width_is_dependent_classes      a width is the number of classes whose mask has the variable
-use Rattle.std.proofs.Common.{◌≡◌, ℕ, ◌<◌, Bool, true, false, not, cond, eqb, ◌&&◌, ◌||◌, inl, inr, List, [], ◌∷◌, map, length, reverse, get_or, refl, sym, ap, ◌∙◌, subst, arith, nat_eq, eq-eqb, ne_eqb}
+use Rattle.std.proofs.Common.{◌≡◌, ℕ, ◌<◌, Bool, true, false, not, cond, eqb, ◌&&◌, ◌||◌, inl, inr, List, [], ◌∷◌, map, length, reverse, get_or, refl, sym, ap, ◌∙◌, subst, arith, nat_eq, eq-eqb}
 use Rattle.std.specs.List.{filter}
 use Rattle.std.specs.Int.{bit_at}
 use Rattle.std.specs.Set.{distinct_count}
@@ -65,20 +65,11 @@ module _ {X K : Type 0} (eq : K → K → Bool) (decides : (x y : K) → (eq x y
       onto c h =
           let k = among_from_filter q c (variables many) h in
           let t = rank_reached eq decides (map f xs) c (variables_below many c k.0) in
-          let s = among_from_map f t.0 xs t.1 in
-          let e : number_of s.0 ≡ c = ap (rank eq (map f xs)) (sym s.2) ∙ t.2 in
-          subst (λ z. Among z (map number_of (filter p xs))) e
-          (among_map number_of s.0 (filter p xs) (among_filter p s.0 xs s.1 (sym (agree s.0 s.1) ∙ ap q e ∙ k.1)))
+          grind (arith, among_from_map, among_map, among_filter)
 
 pub length_filter_map : {A B : Type 0} (q : B → Bool) (g : A → B) (xs : List A) → length (filter q (map g xs)) ≡ length (filter (λ x. q (g x)) xs)
 length_filter_map q g [] = refl
-length_filter_map q g (x ∷ xs) = by (q (g x)) (length_filter_map q g xs)
-  where
-    by : (b : Bool) → length (filter q (map g xs)) ≡ length (filter (λ z. q (g z)) xs) →
-        length (cond b (g x ∷ filter q (map g xs)) (filter q (map g xs))) ≡ length
-        (cond b (x ∷ filter (λ z. q (g z)) xs) (filter (λ z. q (g z)) xs))
-    by true e = omega arith
-    by false e = e
+length_filter_map q g (x ∷ xs) = grind (arith, length_filter_map q g xs)
 
 pub same_at : {X Y : Type 0} (f g : X → Y) (xs : List X) → map f xs ≡ map g xs → (y : X) → Among y xs → f y ≡ g y
 same_at f g [] e y h = absurd h
@@ -115,8 +106,7 @@ width_is_dependent_classes n F S masks x small in_set are =
         members =
             elim (cases_eq y x) [
               | inl e ↦ ap (λ b. b || has (without x S) y) (eq-eqb y x e) ∙ sym (ap (has S) e ∙ in_set)
-              | inr ne ↦ ap (λ b. b || has (without x S) y) (ne_eqb y x ne) ∙ has_without x S y
-                  ∙ ap (λ b. has S y && not b) (ne_eqb x y (λ e. ne (sym e))) ∙ kept (has S y)
+              | inr ne ↦ grind (arith, has_without)
             ]
 
     listed : masks ≡ map (λ c. get_or masks c 0) (variables (distinct_count same_table (entries n F S)))
@@ -145,10 +135,4 @@ width_is_dependent_classes n F S masks x small in_set are =
 -- the masks depend on the members of the set alone
 pub masks_same : (n : ℕ) (F : List Function) (S T : List ℕ) → ((y : ℕ) → has S y ≡ has T y) → (masks : List ℕ) → AreMasks n F S masks → AreMasks n F T masks
 unfolding outside class_numbers entries
-masks_same n F S T h masks are = record {
-  many = are.many ∙ (λ i. distinct_count same_table (map (table n) (reach F (reverse (filter (λ y. not (h y i)) (variables n))))));
-  told = (λ i. map (λ c. get_or masks c 0)
-      (map (class_of (map (table n) (reach F (reverse (filter (λ y. not (sym (h y) i)) (variables n))))))
-      (map (table n) (reach F (reverse (filter (λ y. not (sym (h y) i)) (variables n)))))))
-      ∙ are.told ∙ (λ i. map (dependence n) (reach F (reverse (filter (λ y. not (h y i)) (variables n)))));
-}
+masks_same n F S T h masks are = grind arith

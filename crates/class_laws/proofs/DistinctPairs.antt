@@ -28,9 +28,7 @@ module _ (ps : List (ℕ × ℕ)) (numbers : List ℕ) (met : List (ℕ × ℕ))
       (sym (map-map (λ c. get_or met c (0, 0)) (rank same_pair ps) ps) ∙ ap (map (λ c. get_or met c (0, 0))) (sym numbered) ∙ told ∙ sym (map-id ps)) p a
 
   pub pair_numbered : (j : ℕ) → j < length ps → get_or met (get_or numbers j 0) (0, 0) ≡ get_or ps j (0, 0)
-  pair_numbered j l =
-      let e = length-ranks ps numbers numbered in
-      sym (get_or-map (λ c. get_or met c (0, 0)) numbers j 0 (0, 0) (omega arith)) ∙ ap (λ us. get_or us j (0, 0)) told
+  pair_numbered j l = grind (arith, get_or-map, length-ranks)
 
   pub pair_met : (k : ℕ) → k < length met → (i : ℕ) × (i < length ps) × (get_or ps i (0, 0) ≡ get_or met k (0, 0))
   pair_met k l =
@@ -41,9 +39,7 @@ module _ (ps : List (ℕ × ℕ)) (numbers : List ℕ) (met : List (ℕ × ℕ))
   pub number_below : (j : ℕ) → j < length ps → get_or numbers j 0 < length met
   number_below j l =
       let a = subst (Among (get_or ps j (0, 0))) (take_all (length ps) ps (omega arith)) (take_among ps ps (length ps) j l l) in
-      let b = rank_below same_pair pair_decides ps (get_or ps j (0, 0)) a in
-      let e = number_at ps numbers j numbered l in
-      omega arith
+      omega (arith, rank_below same_pair pair_decides ps (get_or ps j (0, 0)) a, number_at ps numbers j numbered l)
 
   pub masks_many : (join : ℕ × ℕ → ℕ) → length (map join met) ≡ distinct_count same_pair ps
   masks_many join = length-map met join ∙ many
@@ -53,7 +49,7 @@ module _ (ps : List (ℕ × ℕ)) (numbers : List ℕ) (met : List (ℕ × ℕ))
   masks_told join =
       ap (map (λ c. get_or (map join met) c 0)) numbered ∙ map-map (λ c. get_or (map join met) c 0) (rank same_pair ps) ps
       ∙ map_same (λ p. get_or (map join met) (rank same_pair ps p) 0) join ps
-      (λ p a. let b = rank_below same_pair pair_decides ps p a in get_or-map join met (rank same_pair ps p) (0, 0) 0 (omega arith) ∙ ap join (pair_told p a))
+      (λ p a. get_or-map join met (rank same_pair ps p) (0, 0) 0 (omega (arith, rank_below same_pair pair_decides ps p a)) ∙ ap join (pair_told p a))
 
 -- the pairs of a table's entries are pairs of its classes
 pub met_classes : (cs : List ℕ) (r classes : ℕ) → ((blocks : ℕ) × (length cs ≡ blocks * (2 * 2 ^ r))) →

@@ -30,7 +30,7 @@ module _ {M : Type 0} (none : M) (ps : List (ℕ × ℕ)) (join : ℕ × ℕ →
   joined_again masks j first l f lt h =
       let there : Among (get_or ps j (0, 0)) (take j ps) = subst (λ t. Among t (take j ps)) f.same (take_among ps ps j first lt (omega arith)) in
       joined_old none ps join masks j (rank same_pair ps (get_or ps j (0, 0))) l h refl
-      (λ e. let r = rank_is ps j l in let b = rank_below same_pair pair_decides (take j ps) (get_or ps j (0, 0)) there in let m = h.many in omega arith)
+      (λ e. omega (arith, rank_is ps j l, rank_below same_pair pair_decides (take j ps) (get_or ps j (0, 0)) there))
 
   -- the first j numbers are written, and the masks are those of as many pairs
   pub record Made (out : List ℕ) (masks : List M) (j : ℕ) : Type 0 where
@@ -46,12 +46,10 @@ module _ {M : Type 0} (none : M) (ps : List (ℕ × ℕ)) (join : ℕ × ℕ →
   pub made_first : (out : List ℕ) (masks : List M) (j : ℕ) (mask : M) → j < length ps → IsFirstOccurrence (λ i. get_or ps i (0, 0)) j j →
       mask ≡ join (get_or ps j (0, 0)) → Made out masks j → Made (set out j (length masks)) (masks ++ mask ∷ []) (j + 1)
   made_first out masks j mask l f m h =
-      let o = h.long in
-      let w = h.few in
       let e = length-append masks (mask ∷ []) in
       let more : length (masks ++ mask ∷ []) ≡ length masks + 1 = omega arith in
       record {
-        long = length-set out j (length masks) ∙ o;
+        long = length-set out j (length masks) ∙ h.long;
         few = omega arith;
         within = omega arith;
         progress = subst (λ us. Progress ps us (length (masks ++ mask ∷ [])) (j + 1)) (sym (take_more_set out j (length masks) (omega arith)))
@@ -62,10 +60,8 @@ module _ {M : Type 0} (none : M) (ps : List (ℕ × ℕ)) (join : ℕ × ℕ →
   pub made_again : (out : List ℕ) (masks : List M) (j first : ℕ) → j < length ps → IsFirstOccurrence (λ i. get_or ps i (0, 0)) j first → first < j →
       Made out masks j → Made (set out j (get_or out first 0)) masks (j + 1)
   made_again out masks j first l f lt h =
-      let o = h.long in
-      let w = h.few in
       record {
-        long = length-set out j (get_or out first 0) ∙ o;
+        long = length-set out j (get_or out first 0) ∙ h.long;
         few = omega arith;
         within = omega arith;
         progress = subst (λ us. Progress ps us (length masks) (j + 1)) (sym (take_more_set out j (get_or out first 0) (omega arith)))
@@ -75,7 +71,7 @@ module _ {M : Type 0} (none : M) (ps : List (ℕ × ℕ)) (join : ℕ × ℕ →
       }
 
   pub made_numbers : (out : List ℕ) (masks : List M) (j : ℕ) → length ps ≤ j → Made out masks j → out ≡ ranks same_pair ps
-  made_numbers out masks j l h = sym (take_all j out (let o = h.long in omega arith)) ∙ progress_all ps (take j out) (length masks) j l h.progress
+  made_numbers out masks j l h = sym (take_all j out (omega arith)) ∙ progress_all ps (take j out) (length masks) j l h.progress
 
   pub made_many : (out : List ℕ) (masks : List M) (j : ℕ) → length ps ≤ j → Made out masks j → length masks ≡ distinct_count same_pair ps
   made_many out masks j l h = joined_many none ps join masks j l h.joined

@@ -4,7 +4,7 @@
 --     joined_many, joined_told      the end
 --     rank_is, number_at, length-ranks, numbered_place      a pair's number, as a rank and in the list of numbers
 --     pair_classes      the classes of a pair are among those numbered
-use Rattle.std.proofs.Common.{◌≡◌, ◌≢◌, ℕ, suc, ◌+◌, ◌*◌, ◌/◌, ◌^◌, ◌<◌, ◌≤◌, inl, inr, List, [], ◌∷◌, ◌++◌, map, length, get_or, take, drop, refl, sym, ap, ◌∙◌, subst, arith}
+use Rattle.std.proofs.Common.{◌≡◌, ◌≢◌, ℕ, suc, ◌+◌, ◌*◌, ◌/◌, ◌^◌, ◌<◌, ◌≤◌, inl, inr, List, [], ◌∷◌, ◌++◌, map, length, get_or, take, drop, refl, sym, ap, ◌∙◌, arith}
 use Rattle.std.specs.Set.{distinct_count}
 use Rattle.std.proofs.lemmas.Bool.{cases_lt}
 use Rattle.std.proofs.lemmas.List.{append_assoc, take-append-drop, take_more, take_all, get_or-map, get_or_append_left, get_or_push, length-append}
@@ -13,10 +13,9 @@ use Rattle.order_model.proofs.Widths.ClassPairs.{pair_decides}
 use Rattle.order_model.proofs.Lists.Sets.{Among}
 use Rattle.class_laws.specs.Numbering.{rank, ranks}
 use Rattle.class_laws.proofs.Ranks.{count_new, count_old, count_end, rank_next, rank_found, rank_absent, rank_below, among_or_not}
-use Rattle.class_laws.specs.Places.{low_place, pair_at, pairs}
+use Rattle.class_laws.specs.Places.{pair_at, pairs}
 use Rattle.class_laws.proofs.Progress.{among_take, take_among}
-use Rattle.class_laws.proofs.Index.{pair_within, length-pairs}
-use Rattle.std.proofs.lemmas.Nat.{pow_pos}
+use Rattle.class_laws.proofs.Index.{length-pairs}
 
 module _ (ps : List (ℕ × ℕ)) where
   parts : (j : ℕ) → j < length ps → ps ≡ take j ps ++ get_or ps j (0, 0) ∷ drop (j + 1) ps
@@ -33,8 +32,7 @@ module _ (ps : List (ℕ × ℕ)) where
       let a = take_among ps ps j i l (omega arith) in
       let e = ap (λ us. rank same_pair us (get_or ps i (0, 0))) (parts j m)
       ∙ rank_found same_pair pair_decides (take j ps) (get_or ps j (0, 0) ∷ drop (j + 1) ps) (get_or ps i (0, 0)) a in
-      let b = rank_below same_pair pair_decides (take j ps) (get_or ps i (0, 0)) a in
-      omega arith
+      omega (arith, rank_below same_pair pair_decides (take j ps) (get_or ps i (0, 0)) a)
 
   pub count_is : (j : ℕ) → j < length ps → distinct_count same_pair (take (j + 1) ps) ≡ distinct_count same_pair (get_or ps j (0, 0) ∷ take j ps)
   count_is j l = ap (distinct_count same_pair) (take_more ps j (0, 0) l) ∙ count_end same_pair pair_decides (get_or ps j (0, 0)) (take j ps)
@@ -53,43 +51,32 @@ module _ {M : Type 0} (none : M) (ps : List (ℕ × ℕ)) (join : ℕ × ℕ →
       number ≡ rank same_pair ps (get_or ps j (0, 0)) → number ≡ length out → mask ≡ join (get_or ps j (0, 0)) →
       Joined (out ++ mask ∷ []) (j + 1)
   joined_new out j number mask l h e f m = record {
-    many = (let n = count_is ps j l ∙ count_new same_pair pair_decides (get_or ps j (0, 0)) (take j ps) absent in
-        let a = length-append out (mask ∷ []) in let b = h.many in omega arith);
+    many = omega (arith, count_is ps j l ∙ count_new same_pair pair_decides (get_or ps j (0, 0)) (take j ps) absent, length-append out (mask ∷ []));
     told = λ i lt. elim (cases_lt i j) [
       | inl before ↦
-          get_or_append_left out (mask ∷ []) none (rank same_pair ps (get_or ps i (0, 0)))
-          (let r = rank_before ps i j before l in let b = h.many in omega arith)
-          ∙ h.told i before
+          grind (arith, get_or_append_left, rank_before)
       | inr here ↦
-          let s : j ≡ i = omega arith in
-          subst (λ k. get_or (out ++ mask ∷ []) (rank same_pair ps (get_or ps k (0, 0))) none ≡ join (get_or ps k (0, 0))) s
-          (get_or_push out mask none (rank same_pair ps (get_or ps j (0, 0))) (sym f ∙ e) ∙ m)
+          grind (arith, get_or_push)
     ];
   }
     where
       absent : Among (get_or ps j (0, 0)) (take j ps) → ⊥
-      absent a =
-          let r = rank_is ps j l in
-          let b = rank_below same_pair pair_decides (take j ps) (get_or ps j (0, 0)) a in
-          let c = h.many in
-          omega arith
+      absent a = omega (arith, rank_is ps j l, rank_below same_pair pair_decides (take j ps) (get_or ps j (0, 0)) a)
 
   -- a pair with an older number
   pub joined_old : (out : List M) (j number : ℕ) → j < length ps → Joined out j → number ≡ rank same_pair ps (get_or ps j (0, 0)) →
       number ≢ length out → Joined out (j + 1)
   joined_old out j number l h e f = elim (among_or_not same_pair pair_decides (get_or ps j (0, 0)) (take j ps)) [
     | inl a ↦ record {
-      many = h.many ∙ sym (count_is ps j l ∙ count_old same_pair pair_decides (get_or ps j (0, 0)) (take j ps) a);
+      many = search (count_is, count_old, pair_decides);
       told = λ i lt. elim (cases_lt i j) [
         | inl before ↦ h.told i before
         | inr here ↦
-            let s : j ≡ i = omega arith in
             let older = among_take ps ps j (get_or ps j (0, 0)) a in
-            subst (λ k. get_or out (rank same_pair ps (get_or ps k (0, 0))) none ≡ join (get_or ps k (0, 0))) s
-            (ap (λ q. get_or out (rank same_pair ps q) none) (sym older.3) ∙ h.told older.0 older.1 ∙ ap join older.3)
+            grind arith
       ];
     }
-    | inr n ↦ absurd (f (e ∙ rank_is ps j l ∙ rank_absent same_pair pair_decides (take j ps) (get_or ps j (0, 0)) n ∙ sym h.many))
+    | inr n ↦ grind (arith, rank_is, rank_absent)
   ]
 
   pub joined_many : (out : List M) (j : ℕ) → length ps ≤ j → Joined out j → length out ≡ distinct_count same_pair ps
@@ -123,9 +110,7 @@ length-ranks ps numbered e = ap length e ∙ mapped ps
 pub pair_classes : (cs : List ℕ) (rank classes j : ℕ) → ((blocks : ℕ) × (length cs ≡ blocks * (2 * 2 ^ rank))) →
     ((i : ℕ) → i < length cs → get_or cs i 0 < classes) → j < length cs / 2 →
     ((pair_at cs (2 ^ rank) j).0 < classes) × ((pair_at cs (2 ^ rank) j).1 < classes)
-pair_classes cs rank classes j whole small h =
-    let w = pair_within (2 ^ rank) whole.0 (length cs) j (pow_pos rank) whole.1 h in
-    (small (low_place (2 ^ rank) j) (omega arith), small (low_place (2 ^ rank) j + 2 ^ rank) w)
+pair_classes cs rank classes j whole small h = grind arith
 
 -- the place of a number is that of a pair
 pub numbered_place : (cs numbered : List ℕ) (rank : ℕ) → numbered ≡ ranks same_pair (pairs cs (2 ^ rank)) → length numbered ≡ length cs / 2

@@ -23,5 +23,5 @@ pub place_of : {X : Type 0} (none : X) (xs : List X) (x : X) → Among x xs → 
 place_of none [] x h = absurd h
 place_of none (y ∷ ys) x h = elim h [
   | inl e ↦ (0, (omega arith, sym e))
-  | inr a ↦ let s = place_of none ys x a in (suc s.0, (let l = s.1.0 in omega arith, s.1.1))
+  | inr a ↦ let s = place_of none ys x a in (suc s.0, (omega arith, s.1.1))
 ]

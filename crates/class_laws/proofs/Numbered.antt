@@ -15,11 +15,10 @@ use mathlib.Core.List.{map-map}
 pub position_at : (p : ℕ × ℕ) (xs : List (ℕ × ℕ)) → position_or_len (same_pair p) xs < length xs → get_or xs (position_or_len (same_pair p) xs) (0, 0) ≡ p
 position_at p [] l = absurd (omega arith)
 position_at p (x ∷ xs) l = elim (cases_Bool (same_pair p x)) [
-  | inl t ↦ ap (λ b. get_or (x ∷ xs) (cond (not b) (1 + position_or_len (same_pair p) xs) 0) (0, 0)) t ∙ sym ((pair_decides p x).0 t)
+  | inl t ↦ grind arith
   | inr f ↦
       let e : cond (not (same_pair p x)) (1 + position_or_len (same_pair p) xs) 0 ≡ suc (position_or_len (same_pair p) xs) =
-      ap (λ b. cond (not b) (1 + position_or_len (same_pair p) xs) 0) f
-      ∙ omega arith in
+      grind arith in
       ap (λ k. get_or (x ∷ xs) k (0, 0)) e ∙ position_at p xs (omega arith)
 ]
 
@@ -28,8 +27,5 @@ unfolding ranks
 numbers_told keys ps n =
     map-map (λ c. get_or keys c (0, 0)) (rank same_pair ps) ps
     ∙ map_same (λ p. get_or keys (rank same_pair ps p) (0, 0)) (λ p. p) ps (λ p a.
-    let b = rank_below same_pair pair_decides ps p a in
-    let m = n.many in
-    let s = n.places p in
-    ap (λ k. get_or keys k (0, 0)) (sym s) ∙ position_at p keys (omega arith))
+    ap (λ k. get_or keys k (0, 0)) (sym (n.places p)) ∙ position_at p keys (omega (arith, rank_below same_pair pair_decides ps p a)))
     ∙ map-id ps

@@ -22,7 +22,7 @@ module _ (ps : List (ℕ × ℕ)) where
       elim h [
         | inl e ↦ (0, omega arith, omega arith, sym e)
         | inr a ↦ let s = among_take qs j t a in
-            (suc s.0, omega (arith, s.1), omega (arith, s.2), s.3)
+            (suc s.0, omega arith, omega arith, s.3)
       ]
 
   pub take_among : (qs : List (ℕ × ℕ)) (j i : ℕ) → i < j → i < length qs → Among (get_or qs i (0, 0)) (take j qs)
@@ -48,8 +48,7 @@ module _ (ps : List (ℕ × ℕ)) where
 
   out_more : (out : List ℕ) (number j : ℕ) → j < length ps → out ≡ map (rank same_pair ps) (take j ps) →
       number ≡ rank same_pair ps (key j) → out ++ number ∷ [] ≡ map (rank same_pair ps) (take (j + 1) ps)
-  out_more out number j l o e = (λ i. o i ++ e i ∷ [])
-      ∙ sym (ap (map (rank same_pair ps)) (one_more j l) ∙ map-append (rank same_pair ps) (take j ps) (key j ∷ []))
+  out_more out number j l o e = grind (arith, one_more, map-append)
 
   -- a pair that none before equals has the next number
   pub progress_new : (out : List ℕ) (count j : ℕ) → j < length ps → Progress out count j → IsFirstOccurrence (λ i. get_or ps i (0, 0)) j j →
@@ -59,8 +58,7 @@ module _ (ps : List (ℕ × ℕ)) where
     done = out_more out count j l p.done
         (p.many ∙ sym (ap (λ us. rank same_pair us (key j)) (parts j l)
         ∙ rank_here same_pair pair_decides (take j ps) (drop (j + 1) ps) (key j) absent));
-    many = let m = p.many in
-        let n = ap (distinct_count same_pair) (one_more j l) ∙ count_end same_pair pair_decides (key j) (take j ps)
+    many = let n = ap (distinct_count same_pair) (one_more j l) ∙ count_end same_pair pair_decides (key j) (take j ps)
         ∙ count_new same_pair pair_decides (key j) (take j ps) absent in
         omega arith;
   }
@@ -73,10 +71,7 @@ module _ (ps : List (ℕ × ℕ)) where
       IsFirstOccurrence (λ i. get_or ps i (0, 0)) j first → Progress (out ++ get_or out first 0 ∷ []) count (j + 1)
   unfolding key
   progress_old out count j first l p lt f = record {
-    done = out_more out (get_or out first 0) j l p.done
-        (ap (λ us. get_or us first 0) p.done
-        ∙ get_or-map (rank same_pair ps) (take j ps) first (0, 0) 0 (let t = length-take j ps in omega arith)
-        ∙ ap (rank same_pair ps) (get_or-take j ps first (0, 0) lt ∙ f.same));
+    done = grind (arith, out_more, get_or-map, length-take, get_or-take);
     many = p.many
         ∙ sym (ap (distinct_count same_pair) (one_more j l) ∙ count_end same_pair pair_decides (key j) (take j ps)
         ∙ count_old same_pair pair_decides (key j) (take j ps) there);

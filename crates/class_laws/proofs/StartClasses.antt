@@ -8,9 +8,8 @@ use Rattle.std.specs.Bool.{beq}
 use Rattle.std.specs.Int.{bit_at}
 use Rattle.std.specs.List.{take_while, filter, list_any, flat_map, range_with_len}
 use Rattle.std.proofs.Common.{◌-◌, ◌*◌, ◌/◌, ◌^◌, eqb, zero-mul, pow_mono, take}
-use Rattle.std.proofs.Math.Nat.{two-pow-succ, mul-le-mul_left, mul-le-mul_right}
 use Rattle.std.proofs.lemmas.Nat.{pow_pos}
-use Rattle.std.proofs.lemmas.Nat.Bits.{bit_at_lowest, bit_at-suc, bit_at-lt}
+use Rattle.std.proofs.lemmas.Nat.Bits.{bit_at-suc, bit_at-lt}
 use Rattle.std.proofs.lemmas.List.FromFn.{length-map-range_with_len}
 use Rattle.std.specs.Set.{distinct_count}
 use Rattle.std.proofs.lemmas.Bool.{false≢true, true≢false, cases_lt, or_cases, or_left, or_right}
@@ -36,12 +35,7 @@ use Rattle.class_laws.proofs.Constants.{value_of, all_values, values_reached, re
 
 -- there is one other value
 other : (b x y : Bool) → beq b x ≡ false → beq b y ≡ false → x ≡ y
-other true true y p q = absurd (true≢false p)
-other true false true p q = absurd (true≢false q)
-other true false false p q = refl
-other false true true p q = refl
-other false true false p q = absurd (true≢false q)
-other false false y p q = absurd (true≢false p)
+other b x y h k = grind arith
 
 -- how many distinct values stand before a value
 rank_value : (first : Bool) (bs : List Bool) (b : Bool) → rank beq (first ∷ bs) b ≡ number_of first b
@@ -67,11 +61,7 @@ rank_value first bs b = ap (distinct_count beq) (take_while-cons (λ u. not (beq
 -- the numbers of the values
 pub ranks_values : (first : Bool) (bs : List Bool) → ranks beq (first ∷ bs) ≡ map (number_of first) (first ∷ bs)
 unfolding ranks
-ranks_values first bs = each (first ∷ bs)
-  where
-    each : (xs : List Bool) → map (rank beq (first ∷ bs)) xs ≡ map (number_of first) xs
-    each [] = refl
-    each (x ∷ xs) = λ i. rank_value first bs x i ∷ each xs i
+ranks_values first bs = grind (arith, rank_value)
 
 -- the class numbers of the empty set
 pub start_numbers : (n : ℕ) (F : List Function) (first : Bool) (rest : List Bool) → all_values n F ≡ first ∷ rest →
@@ -126,26 +116,20 @@ count_values first bs = by (list_any (λ k. nat_eq k 1) (map (number_of first) (
 
     few : distinct_count beq (first ∷ bs) ≤ 2
     few = elim (cases_lt 2 (distinct_count beq (first ∷ bs))) [
-      | inl lt ↦ let t = rank_reached beq beq_decides (first ∷ bs) 2 lt in let r = rank_value first bs t.0 in let m = at_most t.0 in
-          let e = t.2 in absurd (omega arith)
+      | inl lt ↦ let t = rank_reached beq beq_decides (first ∷ bs) 2 lt in absurd (omega (arith, rank_value first bs t.0, at_most t.0))
       | inr le ↦ le
     ]
 
     by : (c : Bool) → list_any (λ k. nat_eq k 1) (map (number_of first) (first ∷ bs)) ≡ c → distinct_count beq (first ∷ bs) ≡ cond c 2 1
     by true e =
         let z = some (first ∷ bs) e in
-        let r = rank_value first bs z.0 in
-        let b = rank_below beq beq_decides (first ∷ bs) z.0 z.1 in
-        let f = few in
-        let one = z.2 in
-        omega arith
+        omega (arith, rank_value first bs z.0, rank_below beq beq_decides (first ∷ bs) z.0 z.1, few)
     by false e =
-        let b = rank_below beq beq_decides (first ∷ bs) first (inl refl) in
         elim (cases_lt 1 (distinct_count beq (first ∷ bs))) [
           | inl lt ↦
               let t = rank_reached beq beq_decides (first ∷ bs) 1 lt in
               absurd (true≢false (sym (there (first ∷ bs) t.0 t.1 (sym (rank_value first bs t.0) ∙ t.2)) ∙ e))
-          | inr le ↦ omega arith
+          | inr le ↦ omega (arith, rank_below beq beq_decides (first ∷ bs) first (inl refl))
         ]
 
 -- as many zeros
@@ -193,8 +177,7 @@ unfolding number point_of
 number-point_of zero k h = omega arith
 number-point_of (suc n) k h =
     ap (λ xs. cond (eqb (bit_at k 0) 1) 1 0 + 2 * number xs) rest
-    ∙ (let ih = number-point_of n (k / 2) (let p = two-pow-succ n in omega arith) in let l = bit_at_lowest k in
-    let b = low (bit_at k 0) (bit_at-lt k 0) in omega arith)
+    ∙ (let ih = number-point_of n (k / 2) (omega arith) in omega (arith, low (bit_at k 0) (bit_at-lt k 0)))
   where
     low : (b : ℕ) → b < 2 → cond (eqb b 1) 1 0 ≡ b
     low zero lt = refl
@@ -209,9 +192,7 @@ number-point_of (suc n) k h =
 
 row_is : (n : ℕ) (t : List Bool) → map (λ j. from_table t (point_of n j)) (range_with_len 0 (2 ^ n)) ≡ row n t
 unfolding row from_table
-row_is n t =
-    map_ranges (λ j. from_table t (point_of n j)) (λ j. get_or t j false) (2 ^ n) 0 0
-    (λ i lt. ap (λ k. get_or t k false) (number-point_of n (0 + i) (omega arith)))
+row_is n t = grind (arith, map_ranges, number-point_of)
 
 -- the values of a problem's functions
 pub values_are : (p : TruthTables) → all_values p.inputs (functions p) ≡ values_of p
@@ -232,7 +213,7 @@ values_start p some = by p.tables some
     by : (ts : List (List Bool)) → 0 < length ts → (rest : List Bool) × (flat_map (row p.inputs) ts ≡ get_or (get_or ts 0 []) 0 false ∷ rest)
     by [] h = absurd (omega arith)
     by (t ∷ ts) h =
-        let e : 2 ^ p.inputs ≡ suc (2 ^ p.inputs - 1) = (let q = pow_pos p.inputs in omega arith) in (
+        let e : 2 ^ p.inputs ≡ suc (2 ^ p.inputs - 1) = omega (arith, pow_pos p.inputs) in (
           map (λ j. get_or t j false) (range_with_len (0 + 1) (2 ^ p.inputs - 1)) ++ flat_map (row p.inputs) ts,
           ap (λ k. map (λ j. get_or t j false) (range_with_len 0 k) ++ flat_map (row p.inputs) ts) e,
         )
@@ -249,9 +230,7 @@ length_values p = each p.tables
     each [] = sym (zero-mul (2 ^ p.inputs))
     each (t ∷ ts) =
         let r = each ts in
-        let l = length_row p.inputs t in
-        let m : suc (length ts) * 2 ^ p.inputs ≡ length ts * 2 ^ p.inputs + 2 ^ p.inputs = grind arith in
-        length-append (row p.inputs t) (flat_map (row p.inputs) ts) ∙ omega arith
+        grind (arith, length_row, length-append)
 
 -- the class table of the empty set
 pub holds_start : (p : TruthTables) (numbers masks : List ℕ) → p.inputs ≤ 16 → length p.tables ≤ 16 → 0 < length p.tables →
@@ -260,18 +239,7 @@ pub holds_start : (p : TruthTables) (numbers masks : List ℕ) → p.inputs ≤ 
 holds_start p numbers masks inputs outputs some e zeros l =
     let start = values_start p some in
     let head = values_are p ∙ start.1 in
-    let none = members_zero p.inputs in
-    record {
-      few_inputs = inputs;
-      few = (let a = ap length e ∙ length-map (values_of p) (number_of (value_at p 0 0)) ∙ length_values p in
-          let b : 2 ^ p.inputs ≤ 65536 = pow_mono {j = 16} inputs in let c = mul-le-mul_left (length p.tables) b in
-          let d = mul-le-mul_right 65536 outputs in omega arith);
-      classes = e ∙ ap (map (number_of (value_at p 0 0))) (sym (values_are p))
-          ∙ sym (start_numbers p.inputs (functions p) (value_at p 0 0) start.0 head) ∙ ap (class_numbers p.inputs (functions p)) (sym none);
-      masks_are = subst (λ T. AreMasks p.inputs (functions p) T masks) (sym none)
-          (start_masks p.inputs (functions p) (value_at p 0 0) start.0 head masks zeros
-          (l ∙ ap class_count (e ∙ ap (map (number_of (value_at p 0 0))) (sym (values_are p)))));
-    }
+    grind (arith, members_zero, pow_mono, length-map, length_values, start_numbers, start_masks)
 
 -- one function more
 pub rows_more : (num : Bool → ℕ) (n : ℕ) (ts : List (List Bool)) (j : ℕ) → j < length ts →
