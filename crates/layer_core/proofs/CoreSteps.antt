@@ -3,7 +3,6 @@ use Rattle.std.proofs.Common.{◌≡◌, ℕ, zero, suc, ◌+◌, ◌<◌, ◌�
 use mathlib.Core.Option.{some, some-injective}
 use lib.ListN.{get_elem?}
 use lib.Seq.{map-set}
-use Rattle.order_model.specs.Functions.{weight}
 use Rattle.subset_layers.specs.declared.costs.Cell.{Cell}
 use Rattle.subset_layers.specs.Layers.{masks_of, blocks_of}
 use Rattle.layer_core.specs.Machine.{World, Worker, Event, Claim, Post, Read, Reply, Claimed, NoMore, Posted, Stranger, Double, Seen, Empty, place_of, cell_at, claimed, claims_block, ends, learns, moved, step, blank, opening}
@@ -35,11 +34,7 @@ sound_step s w r e is right = subst (λ (z : Reply × World). Right Any z.1) (sy
 
 told_most : (l : List Worker) → told_number l ≤ length l
 told_most [] = omega arith
-told_most (x ∷ xs) = let r = told_most xs in let one = most x.told in omega arith
-  where
-    most : (b : Bool) → weight b ≤ 1
-    most true = omega arith
-    most false = omega arith
+told_most (x ∷ xs) = grind (arith, told_most xs)
 
 -- the fields after a step: the counter, the cells, and one worker's marks
 abbrev pub shown_with : Inside → ℕ → List (Option Cell) → ℕ → Marks → World
@@ -62,12 +57,11 @@ is_there xs p o known read is = subst (λ (z : Option Cell). z ≡ get_or xs p z
 
 -- a worker of the machine has marks
 pub has_marks : (x : Inside) (s : World) (i : ℕ) → shown x ≡ s → i < length s.workers → i < length x.workers.items
-has_marks x s i is low = omega (arith, ap (λ (w : World). length w.workers) is, length-map_lem marks_of x.workers.items, low)
+has_marks x s i is low = omega (arith, ap (λ (w : World). length w.workers) is, length-map_lem marks_of x.workers.items)
 
 module _ (x : Inside) (sound : IsSound x) where
   pub small_counter : x.counter ≤ 320
-  small_counter = let c = sound.0.counted in let t = told_most (map marks_of x.workers.items) in
-      let n = length-map_lem marks_of x.workers.items in let b = few_blocks x.layer in let w = sound.1 in omega arith
+  small_counter = omega (arith, told_most (map marks_of x.workers.items), length-map_lem marks_of x.workers.items, few_blocks x.layer)
 
   pub cells_wide : length x.cells.items ≡ length (masks_of x.layer)
   cells_wide = sym (length-map_lem cell_of x.cells.items) ∙ sound.0.size

@@ -3,7 +3,6 @@ use Rattle.std.proofs.Common.{◌≡◌, ◌↔◌, IsNone, IsFalse, ℕ, zero, 
 use Rattle.std.specs.List.{filter, list_any, range_with_len}
 use Rattle.std.proofs.lemmas.List.FromFn.{length-range_with_len, get_or-range_with_len}
 use Rattle.std.proofs.lemmas.Option.{get_or_from_slice_get, slice_get_within}
-use Rattle.std.proofs.lemmas.Bool.Decides.{nat_tests}
 use Rattle.order_model.specs.Orders.{has, place_in, members}
 use Rattle.order_model.proofs.Lists.Orders.{has_filter, has_range, place_small}
 use Rattle.subset_layers.specs.Layers.{LayerOf, masks_of, low_byte, low_bytes, blocks_of, block_place}
@@ -27,11 +26,7 @@ get_or-map_lem f (x ∷ xs) (suc i) d e h = get_or-map_lem f xs i d e (omega ari
 any_at : {A : Type 0} (p : A → Bool) (xs : List A) (i : ℕ) (d : A) → i < length xs → p (get_or xs i d) ≡ true → list_any p xs ≡ true
 any_at p [] i d h e = absurd (omega arith)
 any_at p (x ∷ xs) zero d h e = ap (λ (b : Bool). b || list_any p xs) e
-any_at p (x ∷ xs) (suc i) d h e = or_true (p x) (list_any p xs) (any_at p xs i d (omega arith) e)
-  where
-    or_true : (a b : Bool) → b ≡ true → (a || b) ≡ true
-    or_true true b e = refl
-    or_true false b e = e
+any_at p (x ∷ xs) (suc i) d h e = grind (arith, any_at p xs i d (omega arith) e)
 
 place_is : (l : LayerOf) (p : ℕ) → block_place l p ≡ place_in (low_bytes l) (low_byte (get_or (masks_of l) p 0))
 unfolding block_place
@@ -51,11 +46,10 @@ block_below l p low =
     let here : has (range_with_len 0 256) (low_byte m) ≡ true = in_range (low_byte m) 256 (omega arith) in
     let is_low : list_any (λ mask. nat_eq (low_byte mask) (low_byte m)) (masks_of l) ≡ true =
     any_at (λ (mask : ℕ). nat_eq (low_byte mask) (low_byte m)) (masks_of l) p 0 low (same (low_byte m)) in
-    let among : has (low_bytes l) (low_byte m) ≡ true = has_low l (low_byte m) ∙ both _ _ here is_low in
-    rw (place_is l p, blocks_length l) (place_small (low_bytes l) (low_byte m) among)
+    grind (arith, place_is, blocks_length, place_small, has_low)
   where
     same : (n : ℕ) → nat_eq n n ≡ true
-    same n = grind (arith, nat_tests)
+    same n = grind arith
 
     both : (a b : Bool) → a ≡ true → b ≡ true → (a && b) ≡ true
     both true b p q = q
@@ -70,7 +64,7 @@ pub laid : (l : LayerOf) → IsLayout (layout_of l)
 laid l = record { placed = λ p low. subst (λ (k : ℕ). k < length (blocks_of l)) (sym (block_at l p low)) (block_below l p low) }
 
 length-range_le : (many : ℕ) (p : ℕ → Bool) → length (filter p (range_with_len 0 many)) ≤ many
-length-range_le many p = let h = filter_at_most p (range_with_len 0 many) in let all = length-range_with_len 0 many in omega arith
+length-range_le many p = omega (arith, filter_at_most p (range_with_len 0 many), length-range_with_len 0 many)
 
 few_low_bytes : (l : LayerOf) → length (low_bytes l) ≤ 256
 unfolding low_bytes
@@ -99,5 +93,4 @@ missing_if l mask o is none = place_missing l mask (none.0 (subst (λ (z : Optio
 
 -- a layer of at most 16 variables has few masks
 pub few_masks_in : (l : LayerOf) (n : ℕ) → l.inputs ≡ n → n ≤ 16 → length (masks_of l) ≤ 2 ^ 16
-few_masks_in l n is few = let m = few_masks l in let p : 2 ^ n ≤ 2 ^ 16 = pow_mono {j = 16} few in
-    let q : 2 ^ l.inputs ≡ 2 ^ n = ap (λ (k : ℕ). 2 ^ k) is in omega arith
+few_masks_in l n is few = omega (arith, few_masks l, pow_mono {j = 16} few, ap (λ (k : ℕ). 2 ^ k) is)

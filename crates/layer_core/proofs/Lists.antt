@@ -49,14 +49,12 @@ module _ {A : Type 0} where
   pub bounded : (l : List A) (i : ℕ) (v : A) → get_elem? l i ≡ some v → i < length l
   bounded [] i v e = absurd (some-ne-none v (sym e))
   bounded (x ∷ xs) zero v e = omega arith
-  bounded (x ∷ xs) (suc i) v e = let r = bounded xs i v e in omega arith
+  bounded (x ∷ xs) (suc i) v e = omega (arith, bounded xs i v e)
 
   -- a fact of each element, after one is replaced
   pub each_set : (P : ℕ → A → Type 0) (l : List A) (i : ℕ) (w : A) → ((j : ℕ) (u : A) → get_elem? l j ≡ some u → P j u) → P i w
       → (j : ℕ) (u : A) → get_elem? (set l i w) j ≡ some u → P j u
-  each_set P l i w all it j u e =
-      ⊎_elim (λ (t : (j ≡ i) × (w ≡ u)). subst (λ (z : ℕ). P z u) (sym t.0) (subst (λ (z : A). P i z) t.1 it))
-      (λ (t : (j ≢ i) × (get_elem? l j ≡ some u)). all j u t.1) (at_set l i j w u e)
+  each_set P l i w all it j u e = grind (arith, at_set)
 
   pub each_snoc : (P : A → Type 0) (l : List A) (x : A) → ((j : ℕ) (u : A) → get_elem? l j ≡ some u → P u) → P x → (j : ℕ) (u : A) →
       get_elem? (l ++ x ∷ []) j ≡ some u → P u
@@ -72,7 +70,7 @@ module _ {A : Type 0} where
 
   pub length-same : (n : ℕ) (x : A) → length (replicate n x) ≡ n
   length-same zero x = refl
-  length-same (suc n) x = let r = length-same n x in omega arith
+  length-same (suc n) x = omega (arith, length-same n x)
 
   pub all_same : (n p : ℕ) (x : A) → get_or (replicate n x) p x ≡ x
   all_same zero p x = refl
@@ -88,12 +86,10 @@ module _ {A : Type 0} where
   pub inside : (xs : List A) (p : ℕ) (d : A) → get_or xs p d ≢ d → p < length xs
   inside [] p d h = absurd (h refl)
   inside (x ∷ xs) zero d h = omega arith
-  inside (x ∷ xs) (suc p) d h = let r = inside xs p d h in omega arith
+  inside (x ∷ xs) (suc p) d h = omega (arith, inside xs p d h)
 
 pub marked_more : (xs : List Bool) (n p : ℕ) → n < length xs → get_or xs p false ≡ true → get_or (set xs n true) p false ≡ true
-marked_more xs n p h e =
-    dite (ℕ_discrete p n) (λ same. subst (λ (z : ℕ). get_or (set xs n true) z false ≡ true) (sym same) (get_or-set_same xs n true false h))
-    (λ other. get_or-set_other xs n p true false other ∙ e)
+marked_more xs n p h e = grind (arith, get_or-set_same, get_or-set_other)
 
 pub marked_less : (xs : List Bool) (n p : ℕ) → get_or (set xs n true) p false ≡ true → (p ≡ n) ⊎ (get_or xs p false ≡ true)
 marked_less xs n p e = dite (ℕ_discrete p n) (λ same. inl same) (λ other. inr (sym (get_or-set_other xs n p true false other) ∙ e))
@@ -101,4 +97,4 @@ marked_less xs n p e = dite (ℕ_discrete p n) (λ same. inl same) (λ other. in
 pub marked_inside : (xs : List Bool) (p : ℕ) → get_or xs p false ≡ true → p < length xs
 marked_inside [] p h = cc
 marked_inside (x ∷ xs) zero h = omega arith
-marked_inside (x ∷ xs) (suc p) h = let r = marked_inside xs p h in omega arith
+marked_inside (x ∷ xs) (suc p) h = omega (arith, marked_inside xs p h)

@@ -1,7 +1,6 @@
 -- The place of a number in a list.
-use Rattle.std.proofs.Common.{◌≡◌, ℕ, ◌<◌, Bool, true, false, cond, nat_lt, nat_eq, List, get_or, length, Option, Some, None, position, sym, refl, ap, ◌∙◌, subst, inl, inr, arith, lt-ltb}
+use Rattle.std.proofs.Common.{◌≡◌, ℕ, ◌<◌, Bool, true, false, cond, nat_lt, nat_eq, List, get_or, length, Option, Some, None, position, sym, refl, ap, ◌∙◌, inl, inr, arith}
 use Rattle.std.specs.List.{IsDistinct}
-use Rattle.std.proofs.lemmas.Bool.Decides.{nat_tests}
 use Rattle.order_model.specs.Orders.{has, place_in}
 use Rattle.order_model.proofs.Lists.Orders.{has_at, place_at, place_get}
 use Rattle.std.proofs.lemmas.Bool.{cases_Bool}
@@ -15,9 +14,7 @@ found_is xs v = refl
 
 -- what stands at a place of a list without repeats is found there
 pub found_at : (xs : List ℕ) (p v : ℕ) → IsDistinct nat_eq xs → p < length xs → get_or xs p 0 ≡ v → found xs v ≡ Some p
-found_at xs p v once low is =
-    let there : place_in xs v ≡ p = subst (λ (z : ℕ). place_in xs z ≡ p) is (place_get xs p once low) in
-    found_is xs v ∙ (ap (λ (b : Bool). cond b (Some (place_in xs v)) None) (lt-ltb (place_in xs v) (length xs) (omega arith)) ∙ ap (λ (k : ℕ). Some k) there)
+found_at xs p v once low is = grind (arith, place_get, found_is)
 
 -- what is not in a list is not found
 pub not_found : (xs : List ℕ) (v : ℕ) → has xs v ≡ false → found xs v ≡ None
@@ -27,7 +24,7 @@ not_found xs v h = elim (cases_Bool (nat_lt (place_in xs v) (length xs))) [
 ]
   where
     low : nat_lt (place_in xs v) (length xs) ≡ true → place_in xs v < length xs
-    low t = grind (arith, nat_tests)
+    low t = grind arith
 
     differ : (b : Bool) → b ≡ true → b ≡ false → ⊥
     differ true p q = cc

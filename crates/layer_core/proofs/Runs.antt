@@ -1,11 +1,10 @@
 -- Any list of events keeps a state right, and what follows of a right state.
-use Rattle.std.proofs.Common.{◌≡◌, ◌≢◌, ℕ, suc, ◌+◌, ◌<◌, Bool, true, false, nat_lt, nat_eq, if◌then◌else◌, List, [], ◌∷◌, map, set, get_or, length, length-set, Option, Some, None, IfSome, sym, refl, ap, ◌∙◌, subst, arith}
+use Rattle.std.proofs.Common.{◌≡◌, ◌≢◌, ℕ, suc, ◌<◌, Bool, true, false, nat_lt, if◌then◌else◌, List, [], ◌∷◌, map, get_or, length, length-set, Option, Some, None, IfSome, sym, refl, ap, ◌∙◌, subst, arith}
 use mathlib.Core.Option as found
 use mathlib.Core.Option.{some}
 use lib.ListN.{get_elem?}
-use Rattle.std.proofs.lemmas.Bool.Decides.{nat_tests}
 use Rattle.std.proofs.lemmas.List.Quantifiers.{position-Some}
-use Rattle.layer_core.specs.Machine.{World, Worker, Layout, Event, Claim, Post, Read, Reply, opening, place_of, cell_at, claimed, claim, fill, post, look, read, step, run, claims_block, ends, learns, moved}
+use Rattle.layer_core.specs.Machine.{World, Worker, Layout, Event, Claim, Post, Read, Reply, opening, place_of, cell_at, claimed, claim, fill, post, look, read, step, run, learns, moved}
 use Rattle.layer_core.specs.Rights.{Right, IsLayout, Posts}
 use Rattle.layer_core.proofs.Steps.{Cell, some_cell, right_drawn, right_ended, right_learned, right_filled}
 use Rattle.layer_core.proofs.Starts.{right_opening}
@@ -16,10 +15,7 @@ either_way P false x y hit miss = miss refl
 
 -- a mask that has a place stands there
 pub placed_mask : (l : Layout) (mask p : ℕ) → place_of l mask ≡ Some p → (p < length l.masks) × (get_or l.masks p 0 ≡ mask)
-placed_mask l mask p e = let t = position-Some (λ m. nat_eq mask m) l.masks p 0 e in (t.0, equal (get_or l.masks p 0) t.1)
-  where
-    equal : (m : ℕ) → nat_eq mask m ≡ true → m ≡ mask
-    equal m e = grind (arith, nat_tests)
+placed_mask l mask p e = grind (arith, position-Some)
 
 module _ (C : ℕ → ℕ × ℕ → Type 0) where
   abbrev Ends : Reply × World → Type 0
@@ -29,8 +25,8 @@ module _ (C : ℕ → ℕ × ℕ → Type 0) where
   right_claim s i found.none r at = r
   right_claim s i (found.some w) r at =
       either_way Ends w.told _ _ (λ t. r)
-      (λ t. either_way Ends (nat_lt s.counter s.layout.blocks) _ _ (λ e. right_drawn C s i w r at (grind (arith, nat_tests)))
-      (λ e. right_ended C s i w r at t (grind (arith, nat_tests))))
+      (λ t. either_way Ends (nat_lt s.counter s.layout.blocks) _ _ (λ e. right_drawn C s i w r at (grind arith))
+      (λ e. right_ended C s i w r at t (grind arith)))
 
   right_fill : (s : World) (i p : ℕ) (cell : ℕ × ℕ) (w : Worker) (o : Cell) → Right C s → get_elem? s.workers i ≡ some w →
       p < length s.layout.masks → claimed w (get_or s.layout.block_of p 0) ≡ true → C (get_or s.layout.masks p 0) cell
@@ -72,21 +68,10 @@ module _ (C : ℕ → ℕ × ℕ → Type 0) where
 -- what holds of a state and of each state after a move holds after a step
 module _ (P : World → Type 0) (s : World) (old : P s) (next : (counter : ℕ) (cells : List Cell) (i : ℕ) (w : Worker) → P (moved s counter cells i w)) where
   of_claim : (i : ℕ) (o : found.Option Worker) → P (claim s i o).1
-  of_claim i found.none = old
-  of_claim i (found.some w) =
-      either_way (λ z. P z.1) w.told _ _ (λ t. old)
-      (λ t. either_way (λ z. P z.1) (nat_lt s.counter s.layout.blocks) _ _
-      (λ e. next (s.counter + 1) s.cells i (claims_block w s.counter)) (λ e. next (s.counter + 1) s.cells i (ends w)))
-
-  of_fill : (i p : ℕ) (cell : ℕ × ℕ) (w : Worker) (o : Cell) → P (fill s i p cell w o).1
-  of_fill i p cell w None = next s.counter (set s.cells p (Some cell)) i (learns w p)
-  of_fill i p cell w (Some other) = old
+  of_claim i o = grind arith
 
   of_post : (i : ℕ) (cell : ℕ × ℕ) (place : Option ℕ) (o : found.Option Worker) → P (post s i cell place o).1
-  of_post i cell place found.none = old
-  of_post i cell None (found.some w) = old
-  of_post i cell (Some p) (found.some w) =
-      either_way (λ z. P z.1) (claimed w (get_or s.layout.block_of p 0)) _ _ (λ t. of_fill i p cell w (cell_at s p)) (λ t. old)
+  of_post i cell place o = grind arith
 
   of_look : (i p : ℕ) (w : Worker) (o : Cell) → P (look s i p w o).1
   of_look i p w None = old
@@ -122,9 +107,8 @@ cells_are f [] [] same right full = refl
 cells_are f [] (c ∷ cells) same right full = absurd (omega arith)
 cells_are f (m ∷ masks) [] same right full = absurd (omega arith)
 cells_are f (m ∷ masks) (c ∷ cells) same right full =
-    let first : c ≡ Some (f m) = is c (right 0) (full 0 (omega arith)) in
     let rest : cells ≡ map (λ m. Some (f m)) masks = cells_are f masks cells (omega arith) (λ p. right (suc p)) (λ p low. full (suc p) (omega arith)) in
-    λ i. first i ∷ rest i
+    λ i. (is c (right 0) (full 0 (omega arith))) i ∷ rest i
   where
     is : (o : Cell) → IfSome o (λ c. c ≡ f m) → o ≢ None → o ≡ Some (f m)
     is None e filled = absurd (filled refl)

@@ -1,20 +1,18 @@
 -- The opening is right, and one more worker keeps a state right.
-use Rattle.std.proofs.Common.{◌≡◌, ◌≢◌, ℕ, zero, suc, ◌+◌, ◌≤◌, true, false, List, [], ◌∷◌, ◌++◌, replicate, get_or, length, None, IfSome, sym, refl, ap, ◌∙◌, subst, arith}
-use mathlib.Core.Option.{some}
-use lib.ListN.{get_elem?}
+use Rattle.std.proofs.Common.{◌≡◌, ◌≢◌, ℕ, zero, suc, ◌+◌, ◌≤◌, true, false, List, [], ◌∷◌, ◌++◌, replicate, get_or, length, None, sym, refl, ap, ◌∙◌, arith}
 use Rattle.order_model.specs.Functions.{weight}
-use Rattle.layer_core.specs.Machine.{Worker, Layout, blank, opening, cell_at, claimed, knows}
-use Rattle.layer_core.specs.Rights.{Right, IsLayout, total, claimants}
+use Rattle.layer_core.specs.Machine.{Worker, Layout, blank, opening, claimed, knows}
+use Rattle.layer_core.specs.Rights.{Right, IsLayout, total}
 use Rattle.layer_core.proofs.Lists.{each_snoc, at_longer, length-same, all_same, found_same}
 use Rattle.layer_core.proofs.Steps.{Cell}
 
 pub total_snoc : {A : Type 0} (f : A → ℕ) (l : List A) (x : A) → total f (l ++ x ∷ []) ≡ total f l + f x
 total_snoc f [] x = omega arith
-total_snoc f (y ∷ ys) x = let r = total_snoc f ys x in omega arith
+total_snoc f (y ∷ ys) x = omega (arith, total_snoc f ys x)
 
 total_same : {A : Type 0} (f : A → ℕ) (n : ℕ) (x : A) → f x ≡ 0 → total f (replicate n x) ≡ 0
 total_same f zero x e = refl
-total_same f (suc n) x e = let r = total_same f n x e in omega arith
+total_same f (suc n) x e = omega (arith, total_same f n x e)
 
 false_true : false ≡ true → ⊥
 false_true h = cc
@@ -27,23 +25,7 @@ no_knowledge l p = all_same (length l.masks) p false
 
 module _ (C : ℕ → ℕ × ℕ → Type 0) where
   pub right_opening : (l : Layout) (workers : ℕ) → IsLayout l → Right C (opening l workers)
-  right_opening l workers laid = let empty : (p : ℕ) → cell_at (opening l workers) p ≡ None = λ p. all_same (length l.masks) p None in
-      let is_blank : (i : ℕ) (w : Worker) → get_elem? (replicate workers (blank l)) i ≡ some w → blank l ≡ w = λ i w at. found_same workers i (blank l) w at in
-      let none_claims : (b : ℕ) → claimants b (replicate workers (blank l)) ≡ 0 =
-      λ b. total_same (λ (u : Worker). weight (claimed u b)) workers (blank l) (ap weight (no_claim l b)) in
-      record {
-        laid = laid;
-        size = length-same (length l.masks) None;
-        true_cells = λ p. subst (λ (o : Cell). IfSome o (C (get_or l.masks p 0))) (sym (empty p)) tt;
-        marks = λ i w at. subst (λ (u : Worker). (length u.claims ≡ l.blocks) × (length u.known ≡ length l.masks)) (is_blank i w at)
-            (length-same l.blocks false, length-same (length l.masks) false);
-        below = λ b inside low. absurd (omega arith);
-        above = λ b inside high. none_claims b;
-        filled = λ p full. absurd (full (empty p));
-        known = λ i w at p h. absurd (false_true (sym (no_knowledge l p) ∙ (ap (λ (u : Worker). knows u p) (is_blank i w at) ∙ h)));
-        counted = omega arith;
-        told = λ i w at h. absurd (false_true (ap (λ (u : Worker). u.told) (is_blank i w at) ∙ h));
-      }
+  right_opening l workers laid = grind (arith, all_same, found_same, total_same, length-same)
 
   pub right_joined : (l : Layout) (counter : ℕ) (cells : List Cell) (workers : List Worker) →
       Right C record { layout = l; counter = counter; cells = cells; workers = workers }
@@ -61,6 +43,6 @@ module _ (C : ℕ → ℕ × ℕ → Type 0) where
     filled = λ p full. let z = r.filled p full in (z.0, z.1, at_longer workers (blank l ∷ []) z.0 z.1 z.2, z.3);
     known = each_snoc (λ (u : Worker). (p : ℕ) → knows u p ≡ true → get_or cells p None ≢ None) workers (blank l) r.known
         (λ p h. absurd (false_true (sym (no_knowledge l p) ∙ h)));
-    counted = let t = total_snoc (λ (u : Worker). weight u.told) workers (blank l) in let was = r.counted in omega arith;
+    counted = let t = total_snoc (λ (u : Worker). weight u.told) workers (blank l) in omega arith;
     told = each_snoc (λ (u : Worker). u.told ≡ true → l.blocks ≤ counter) workers (blank l) r.told (λ h. absurd (false_true h));
   }

@@ -11,13 +11,7 @@ use Rattle.layer_core.proofs.CoreSteps.{has_marks, cells_wide, known_wide, read_
 use Rattle.layer_core.proofs.machine.Core.read.Goals as goal
 
 pub index-requires : goal.index-requires
-index-requires c =
-    omega (
-      arith,
-      cells_wide c.self.inside c.self.invariant,
-      c.self.inside.cells.ok,
-      slice_get_within (masks_of c.self.inside.layer) c.in-Some.place c.args.mask c.in-Some.ensures.found,
-    )
+index-requires c = grind (arith, cells_wide, slice_get_within)
 
 pub returns-in_default : goal.returns-in_default
 returns-in_default c =
@@ -35,11 +29,9 @@ returns-in_default-index c =
 
 pub index_mut-requires-2 : goal.index_mut-requires-2
 index_mut-requires-2 c =
-    let x = c.self.inside in let low = has_marks x c.args.self.now c.args.worker c.self.view_is c.requires in let m : Marks = c.index_mut.result.now in
-    omega (
+    let x = c.self.inside in let low = has_marks x c.args.self.now c.args.worker c.self.view_is c.requires in omega (
       arith,
-      known_wide x c.self.invariant c.args.worker m low c.index_mut.ensures.value,
-      m.known.ok,
+      known_wide x c.self.invariant c.args.worker c.index_mut.result.now low c.index_mut.ensures.value,
       slice_get_within (masks_of x.layer) c.in-Some.place c.args.mask c.in-Some.ensures.found,
     )
 
@@ -53,17 +45,11 @@ invariant_of-self c =
           (slice_get_within (masks_of x.layer) p c.args.mask c.in-Some.ensures.found) c.in-Some-index.cell after refl
           (is_there x.cells.items p c.index.result.now (Some c.in-Some-index.cell) c.index.ensures c.in-Some-index.is))
           c.self.invariant.0,
-      omega (arith, length-set x.workers.items c.args.worker after, c.self.invariant.1),
+      omega (arith, length-set x.workers.items c.args.worker after),
     )
 
 pub returns : goal.returns
 returns c =
     let x = c.self.inside in let low = has_marks x c.args.self.now c.args.worker c.self.view_is c.requires in let m : Marks = c.index_mut.result.now in
     let p : ℕ = c.in-Some.place in let there = place_found x.layer p c.args.mask c.in-Some.ensures.found in
-    let after : Marks = record { claims = m.claims; known = with_item m.known p true; told = m.told } in
-    subst (λ (s : World). (Seen (pair_of c.in-Some-index.cell), shown_with x x.counter x.cells.items c.args.worker after) ≡ step s
-    (Read c.args.worker c.args.mask))
-    c.self.view_is
-    (read_one x c.self.invariant c.args.worker m low c.index_mut.ensures.value c.args.mask p there
-    (slice_get_within (masks_of x.layer) p c.args.mask c.in-Some.ensures.found) c.in-Some-index.cell after refl
-    (is_there x.cells.items p c.index.result.now (Some c.in-Some-index.cell) c.index.ensures c.in-Some-index.is))
+    grind (arith, read_one)
