@@ -12,40 +12,13 @@ module _ (value : ℕ → ℕ) (len : ℕ) where
   -- the chains of all classes, with one more pair in front
   pub heads_more : (heads : List ℕ) (k : ℕ) → k < len → value k < length heads → ((c : ℕ) → c < length heads → IsNext value len c (suc k) (get_or heads c 0)) →
       (c : ℕ) → c < length (set heads (value k) k) → IsNext value len c k (get_or (set heads (value k) k) c 0)
-  heads_more heads k small lt h c l =
-      elim (cases_eq c (value k)) [
-        | inl e ↦ subst (IsNext value len c k)
-            (sym (ap (λ d. get_or (set heads (value k) k) d 0) e ∙ get_or-set_same heads (value k) k 0 lt))
-            (record { from = omega arith; within = omega arith; here = λ m. sym e; none = λ i m n. absurd (omega arith) })
-        | inr ne ↦
-            let old = h c (let s = length-set heads (value k) k in omega arith) in
-            subst (IsNext value len c k) (sym (get_or-set_other heads (value k) c k 0 ne)) (record {
-              from = let f = old.from in omega arith;
-              within = old.within;
-              here = old.here;
-              none = λ i m n. elim (cases_eq i k) [ inl e ↦ λ v. ne (sym v ∙ ap value e) | inr d ↦ old.none i (omega arith) n ];
-            })
-      ]
+  heads_more heads k small lt h c l = grind (arith, cases_eq, set, get_or-set_same, length-set, get_or-set_other)
 
   pub next_more : (heads next : List ℕ) (k : ℕ) → k < length next → value k < length heads →
       ((c : ℕ) → c < length heads → IsNext value len c (suc k) (get_or heads c 0)) →
       ((i : ℕ) → suc k ≤ i → i < len → IsNext value len (value i) (i + 1) (get_or next i 0)) →
       (i : ℕ) → k ≤ i → i < len → IsNext value len (value i) (i + 1) (get_or (set next k (get_or heads (value k) 0)) i 0)
-  next_more heads next k small lt h n i l m =
-      elim (cases_eq i k) [
-        | inl e ↦
-            let g = h (value k) lt in
-            let at : get_or (set next k (get_or heads (value k) 0)) i 0 ≡ get_or heads (value k) 0 =
-            ap (λ d. get_or (set next k (get_or heads (value k) 0)) d 0) e
-            ∙ get_or-set_same next k (get_or heads (value k) 0) 0 small in
-            subst (IsNext value len (value i) (i + 1)) (sym at) (record {
-              from = let f = g.from in omega arith;
-              within = g.within;
-              here = λ q. g.here q ∙ ap value (sym e);
-              none = λ j q r. λ v. g.none j (omega arith) r (v ∙ ap value e);
-            })
-        | inr ne ↦ subst (IsNext value len (value i) (i + 1)) (sym (get_or-set_other next k i (get_or heads (value k) 0) 0 ne)) (n i (omega arith) m)
-      ]
+  next_more heads next k small lt h n i l m = grind (arith, cases_eq, set, get_or-set_same, get_or-set_other)
 
 -- ---- a walk along the chain of one lower class
 
@@ -82,13 +55,13 @@ module _ (cs : List ℕ) (step half c : ℕ) where
       let m = w.marked (upper_at cs step j) ul e in
       let key : pair_at cs step j ≡ (c, upper_at cs step j) = λ i. (w.here small i, upper_at cs step j) in
       let now : IsFirstOccurrence (pair_at cs step) j (get_or marks (upper_at cs step j) 0) =
-      record { before = let a = m.0 in omega arith; same = m.1 ∙ sym key; none = λ i l q. m.2 i l (q ∙ key) } in
+      record { before = omega arith; same = m.1 ∙ sym key; none = λ i l q. m.2 i l (q ∙ key) } in
       record {
         within = n.within;
         here = n.here;
         own = own_more first j k (get_or marks (upper_at cs step j) 0) fl n w.own now;
         stamped = w.stamped;
-        marked = λ h l s. let o = w.marked h l s in ((let a = o.0 in let b = n.from in omega arith), o.1, o.2);
+        marked = λ h l s. let o = w.marked h l s in ((omega arith), o.1, o.2);
         unmarked = λ h l s i q. elim (cases_lt i j) [
           | inl a ↦ w.unmarked h l s i a
           | inr a ↦ elim (cases_eq i j) [
@@ -114,8 +87,8 @@ module _ (cs : List ℕ) (step half c : ℕ) where
         here = n.here;
         own = own_more first j k j fl n w.own now;
         stamped = λ h l. elim (cases_eq h u) [
-          | inl d ↦ let t : get_or (set stamps u (c + 1)) h 0 ≡ c + 1 = ap (λ z. get_or (set stamps u (c + 1)) z 0) d ∙ here_stamp in omega arith
-          | inr d ↦ let t = get_or-set_other stamps u h (c + 1) 0 d in let o = w.stamped h (omega arith) in omega arith
+          | inl d ↦ omega (arith, ap (λ z. get_or (set stamps u (c + 1)) z 0) d ∙ here_stamp)
+          | inr d ↦ let t = get_or-set_other stamps u h (c + 1) 0 d in omega arith
         ];
         marked = λ h l s. elim (cases_eq h u) [
           | inl d ↦
@@ -123,11 +96,11 @@ module _ (cs : List ℕ) (step half c : ℕ) where
               λ z. (get_or (set marks u j) z 0 < k) × (pair_at cs step (get_or (set marks u j) z 0) ≡ (c, z))
               × ((i : ℕ) → i < get_or (set marks u j) z 0 → pair_at cs step i ≢ (c, z)) in
               let Q : ℕ → Type 0 = λ z. (z < k) × (pair_at cs step z ≡ (c, u)) × ((i : ℕ) → i < z → pair_at cs step i ≢ (c, u)) in
-              subst P (sym d) (subst Q (sym here_mark) ((let b = n.from in omega arith), key, λ i q. w.unmarked u ul e i q))
+              subst P (sym d) (subst Q (sym here_mark) ((omega arith), key, λ i q. w.unmarked u ul e i q))
           | inr d ↦
               let Q : ℕ → Type 0 = λ z. (z < k) × (pair_at cs step z ≡ (c, h)) × ((i : ℕ) → i < z → pair_at cs step i ≢ (c, h)) in
               let o = w.marked h (omega arith) (sym (get_or-set_other stamps u h (c + 1) 0 d) ∙ s) in
-              subst Q (sym (get_or-set_other marks u h j 0 d)) ((let a = o.0 in let b = n.from in omega arith), o.1, o.2)
+              subst Q (sym (get_or-set_other marks u h j 0 d)) ((omega arith), o.1, o.2)
         ];
         unmarked = λ h l s i q. elim (cases_eq h u) [
           | inl d ↦ absurd (s (ap (λ z. get_or (set stamps u (c + 1)) z 0) d ∙ here_stamp))

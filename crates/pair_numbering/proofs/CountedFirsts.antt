@@ -24,11 +24,10 @@ module _ (ps : List (ℕ × ℕ)) (masks : List ℕ) (x : ℕ) where
   counting_first count more j mask l f m b h = record {
     out = h.out ++ mask ∷ [];
     joined = joined_first 0 ps (joined_mask masks x) h.out j mask l f m h.joined;
-    counted = (let c = h.counted in
-        let e = ap length (filter-append (λ k. eqb (bit_at k x) 1) h.out (mask ∷ []))
+    counted = (let e = ap length (filter-append (λ k. eqb (bit_at k x) 1) h.out (mask ∷ []))
         ∙ length-append (filter (λ k. eqb (bit_at k x) 1) h.out) (filter (λ k. eqb (bit_at k x) 1) (mask ∷ [])) in
-        let o = one (bit_at mask x) (bit_at-lt mask x) in omega arith);
-    few = (let w = h.few in let z = bit_at-lt mask x in omega arith);
+        omega (arith, one (bit_at mask x) (bit_at-lt mask x)));
+    few = omega arith;
   }
     where
       one : (v : ℕ) → v < 2 → length (cond (eqb v 1) (mask ∷ []) []) ≡ v
@@ -42,7 +41,7 @@ module _ (ps : List (ℕ × ℕ)) (masks : List ℕ) (x : ℕ) where
     out = h.out;
     joined = joined_again 0 ps (joined_mask masks x) h.out j first l f lt h.joined;
     counted = h.counted;
-    few = (let w = h.few in omega arith);
+    few = omega arith;
   }
 
   pub counting_all : (count j : ℕ) → length ps ≤ j → Counting count j → CountsMasks masks x ps count

@@ -18,7 +18,7 @@ pub record InBlock (numbers : List ℕ) (rank block i : ℕ) : Type 0 where
 module _ {numbers : List ℕ} {rank : ℕ} (paired : IsPaired numbers rank) where
   -- the length of a block, as the code has it
   pub step_is : {r : ℕ} → r ≡ rank → 1 * 2 ^ r % 2 ^ 64 ≡ 2 ^ rank
-  step_is {r = r} e = let s = paired.small_rank in one_shl r 64 (omega arith) ∙ ap (λ k. 2 ^ k) e
+  step_is {r = r} e = one_shl r 64 (omega arith) ∙ ap (λ k. 2 ^ k) e
 
   pub in_step : {r block i : ℕ} → r ≡ rank → block < length numbers / 2 / 2 ^ rank → i < 1 * 2 ^ r % 2 ^ 64 → InBlock numbers rank block i
   in_step {i = i} e inside m = record { inside = inside; early = subst (λ z. i < z) (step_is e) m }
@@ -36,9 +36,7 @@ module _ {numbers : List ℕ} {rank : ℕ} (paired : IsPaired numbers rank) wher
 
   pub listed_inside : {block i : ℕ} → InBlock numbers rank block i → block * 2 ^ rank + i < length (pairs numbers (2 ^ rank))
   listed_inside {block = block} {i = i} here =
-      let l = length-pairs numbers (2 ^ rank) in
-      let b = block_inside (length numbers) rank block i paired.whole here.inside here.early in
-      omega arith
+      omega (arith, length-pairs numbers (2 ^ rank), block_inside (length numbers) rank block i paired.whole here.inside here.early)
 
   pub pair_inside : {classes j : ℕ} {p : ℕ × ℕ} → AllBelow numbers classes → j < length numbers / 2 → p ≡ pair_at numbers (2 ^ rank) j →
       (p.0 < classes) × (p.1 < classes)

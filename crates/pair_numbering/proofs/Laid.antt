@@ -6,7 +6,7 @@
 --     pair_block      a pair is one of a block
 --     strip_table      the strips of pairs of names are a table
 use Rattle.std.proofs.Common.{◌≡◌, ℕ, suc, ◌+◌, ◌*◌, ◌/◌, ◌^◌, ◌<◌, ◌≤◌, List, Option, None, Some, IfSome, length, get_or, sym, ap, ◌∙◌, subst, arith}
-use Rattle.std.proofs.Math.Nat.{div-lt_iff_lt-mul, mul-le-mul_left, mul-le-mul_right}
+use Rattle.std.proofs.Math.Nat.{div-lt_iff_lt-mul, mul-le-mul_right}
 use Rattle.std.proofs.lemmas.Nat.{div-mul-add, pow_pos}
 use Rattle.class_laws.specs.PairTables.{AllBelow, IsPaired, IsPairTable}
 use Rattle.pair_numbering.specs.Strips.{AreNamed, IsLaid, laid_out, names_of, strips_at, unrolled}
@@ -17,21 +17,18 @@ two_strips : (n len : ℕ) → n * 2 * len ≡ n * (2 * len)
 two_strips n len = grind arith
 
 half_of : (n len x : ℕ) → x ≡ n * (2 * len) → x / 2 ≡ n * len
-half_of n len x e = let f : n * (2 * len) ≡ 2 * (n * len) = grind arith in omega arith
+half_of n len x e = omega arith
 
 -- there are so many blocks
 block_of : (n len x b : ℕ) → 0 < len → x ≡ n * (2 * len) → b < x / 2 / len → b < n
 block_of n len x b some e h =
-    let half : x / 2 ≡ n * len + 0 = (let f = half_of n len x e in omega arith) in
-    let q = ap (λ z. z / len) half ∙ div-mul-add n len 0 some in
-    omega arith
+    let half : x / 2 ≡ n * len + 0 = omega arith in
+    omega (arith, ap (λ z. z / len) half ∙ div-mul-add n len 0 some)
 
 -- a block of a table lies within it
 within : (n len x b : ℕ) → x ≡ n * (2 * len) → b < n → ((2 * b) * len + len ≤ x) × ((2 * b + 1) * len + len ≤ x)
 within n len x b e h =
     let m = mul-le-mul_right (2 * len) (let s : suc b ≤ n = omega arith in s) in
-    let d : suc b * (2 * len) ≡ (2 * b + 1) * len + len = grind arith in
-    let f : (2 * b + 1) * len + len ≡ (2 * b) * len + len + len = grind arith in
     (omega arith, omega arith)
 
 module _ {R : Type 0} (now : R → List (ℕ × ℕ)) where
@@ -48,8 +45,6 @@ module _ {R : Type 0} (now : R → List (ℕ × ℕ)) where
   laid_paired None numbers rank h = h
   laid_paired (Some ns) numbers rank h =
       let l = long ns numbers rank h in
-      let e = two_strips (length (now ns)) (2 ^ rank) in
-      let small = h.3 in
       record { small_rank = h.1; short = omega arith; whole = (length (now ns), l) }
 
   pub laid_rank : (names : Option R) (numbers : List ℕ) (rank : ℕ) → IsLaid now names numbers rank → rank < 16
@@ -60,7 +55,7 @@ module _ {R : Type 0} (now : R → List (ℕ × ℕ)) where
   pub laid_few : (names : Option R) (numbers : List ℕ) (rank : ℕ) → IsLaid now names numbers rank → length numbers < 2 ^ 32
   unfolding IsLaid
   laid_few None numbers rank h = h.short
-  laid_few (Some ns) numbers rank h = let f = h.2 in omega arith
+  laid_few (Some ns) numbers rank h = omega arith
 
   pub laid_half : (ns : R) (numbers : List ℕ) (rank : ℕ) → IsLaid now (Some ns) numbers rank →
       length (now ns) * 2 ^ rank ≡ length (laid_out now (Some ns) numbers (2 ^ rank)) / 2
@@ -77,14 +72,7 @@ module _ {R : Type 0} (now : R → List (ℕ × ℕ)) where
 
   pub laid_blocks : (names : Option R) (numbers : List ℕ) (rank b : ℕ) → IsLaid now names numbers rank →
       b < length (laid_out now names numbers (2 ^ rank)) / 2 / 2 ^ rank → b < 2 ^ 32
-  laid_blocks names numbers rank b h l =
-      let p = laid_paired names numbers rank h in
-      let k = block_of p.whole.0 (2 ^ rank) _ b (pow_pos rank) p.whole.1 l in
-      let w = within p.whole.0 (2 ^ rank) _ b p.whole.1 k in
-      let s = p.short in
-      let q = pow_pos rank in
-      let m : 2 * b * 1 ≤ 2 * b * 2 ^ rank = mul-le-mul_left (2 * b) q in
-      omega arith
+  laid_blocks names numbers rank b h l = grind (arith, laid_paired, block_of, pow_pos)
 
   pub laid_inside : (names : Option R) (numbers : List ℕ) (rank b : ℕ) → IsLaid now names numbers rank →
       b < length (laid_out now names numbers (2 ^ rank)) / 2 / 2 ^ rank →
@@ -104,44 +92,33 @@ module _ {R : Type 0} (now : R → List (ℕ × ℕ)) where
       b < length (laid_out now names numbers (2 ^ rank)) / 2 / 2 ^ rank → i < 2 ^ rank →
       get_or numbers ((strips_at now names b).0 * 2 ^ rank + i) 0 ≡ get_or (laid_out now names numbers (2 ^ rank)) (b * (2 * 2 ^ rank) + i) 0
   unfolding IsLaid
-  laid_low None numbers rank b i h l m = ap (λ k. get_or numbers k 0) (let e : 2 * b * 2 ^ rank ≡ b * (2 * 2 ^ rank) = grind arith in omega arith)
+  laid_low None numbers rank b i h l m = ap (λ k. get_or numbers k 0) (omega arith)
   laid_low (Some ns) numbers rank b i h l m =
       let k = laid_name ns numbers rank b h l in
       let n = length_names_of (now ns) in
       ap (λ z. get_or numbers (z * 2 ^ rank + i) 0) (sym (name_low (now ns) b k))
       ∙ sym (named_at (names_of (now ns)) numbers (2 ^ rank) h.0 (b * 2) i (omega arith) m)
-      ∙ ap (λ z. get_or (laid_out now (Some ns) numbers (2 ^ rank)) z 0) (let e = two_strips b (2 ^ rank) in omega arith)
+      ∙ ap (λ z. get_or (laid_out now (Some ns) numbers (2 ^ rank)) z 0) (omega arith)
 
   pub laid_high : (names : Option R) (numbers : List ℕ) (rank b i : ℕ) → IsLaid now names numbers rank →
       b < length (laid_out now names numbers (2 ^ rank)) / 2 / 2 ^ rank → i < 2 ^ rank →
       get_or numbers ((strips_at now names b).1 * 2 ^ rank + i) 0
       ≡ get_or (laid_out now names numbers (2 ^ rank)) (b * (2 * 2 ^ rank) + i + 2 ^ rank) 0
   unfolding IsLaid
-  laid_high None numbers rank b i h l m =
-      ap (λ k. get_or numbers k 0) (let e : (2 * b + 1) * 2 ^ rank ≡ b * (2 * 2 ^ rank) + 2 ^ rank = grind arith in omega arith)
+  laid_high None numbers rank b i h l m = ap (λ k. get_or numbers k 0) (omega arith)
   laid_high (Some ns) numbers rank b i h l m =
       let k = laid_name ns numbers rank b h l in
       let n = length_names_of (now ns) in
       ap (λ z. get_or numbers (z * 2 ^ rank + i) 0) (sym (name_high (now ns) b k))
       ∙ sym (named_at (names_of (now ns)) numbers (2 ^ rank) h.0 (b * 2 + 1) i (omega arith) m)
       ∙ ap (λ z. get_or (laid_out now (Some ns) numbers (2 ^ rank)) z 0)
-      (let e : (b * 2 + 1) * 2 ^ rank ≡ b * (2 * 2 ^ rank) + 2 ^ rank = grind arith in omega arith)
+      (omega arith)
 
 -- a pair is one of a block
 pub pair_block : (numbers : List ℕ) (rank j : ℕ) → IsPaired numbers rank → j < length numbers / 2 → j / 2 ^ rank < length numbers / 2 / 2 ^ rank
-pair_block numbers rank j p h =
-    let half : length numbers / 2 ≡ p.whole.0 * 2 ^ rank + 0 = (let f = half_of p.whole.0 (2 ^ rank) (length numbers) p.whole.1 in omega arith) in
-    let q = ap (λ z. z / 2 ^ rank) half ∙ div-mul-add p.whole.0 (2 ^ rank) 0 (pow_pos rank) in
-    let k : j / 2 ^ rank < p.whole.0 = (div-lt_iff_lt-mul (pow_pos rank)).1 (omega arith) in
-    omega arith
+pair_block numbers rank j p h = grind (arith, div-mul-add, pow_pos, div-lt_iff_lt-mul)
 
 -- the strips of pairs of names, as a table
 pub strip_table : (names : List (ℕ × ℕ)) (numbers : List ℕ) (rank classes : ℕ) → AreNamed (names_of names) numbers (2 ^ rank) → rank < 16 →
     length names * 2 * 2 ^ rank ≤ 2 ^ 20 → AllBelow numbers classes → IsPairTable (unrolled (names_of names) numbers (2 ^ rank)) rank classes
-strip_table names numbers rank classes named small few below =
-    let l = length_named (names_of names) numbers (2 ^ rank) named ∙ ap (λ k. k * 2 ^ rank) (length_names_of names) in
-    record {
-      paired = record { small_rank = small; short = omega arith; whole = (length names, l ∙ two_strips (length names) (2 ^ rank)) };
-      few = omega arith;
-      below = unrolled_below (names_of names) numbers (2 ^ rank) classes (pow_pos rank) named below;
-    }
+strip_table names numbers rank classes named small few below = grind (arith, length_named, length_names_of, two_strips, unrolled_below, pow_pos)

@@ -49,7 +49,6 @@ module _ (masks : List ℕ) (x : ℕ) (ps : List (ℕ × ℕ)) (numbers joined :
   names_below i lt =
       let l = ap length t.numbers_are ∙ length-map ps t.name in
       let v = ap (λ us. get_or us i 0) t.numbers_are ∙ get_or-map t.name ps i (0, 0) 0 (omega arith) in
-      let b = t.below i (omega arith) in
       omega arith
 
   pub length_names : length numbers ≡ length ps
@@ -79,13 +78,12 @@ names_numbered masks x ps numbers joined small h = record {
   name = rank same_pair ps;
   numbers_are = h.numbers_are;
   apart = λ i j a b. rank_apart same_pair pair_decides ps (get_or ps i (0, 0)) (get_or ps j (0, 0)) (among_at ps i (0, 0) a) (among_at ps j (0, 0) b);
-  below = λ i a. let b = rank_below same_pair pair_decides ps (get_or ps i (0, 0)) (among_at ps i (0, 0) a) in omega arith;
+  below = λ i a. omega (arith, rank_below same_pair pair_decides ps (get_or ps i (0, 0)) (among_at ps i (0, 0) a));
   told = λ i a.
-      let l = ap length h.numbers_are ∙ length-map ps (rank same_pair ps) in
       sym (ap (λ c. get_or joined c 0) (ap (λ us. get_or us i 0) h.numbers_are ∙ get_or-map (rank same_pair ps) ps i (0, 0) 0 a))
-      ∙ sym (get_or-map (λ c. get_or joined c 0) numbers i 0 0 (omega arith))
+      ∙ sym (get_or-map (λ c. get_or joined c 0) numbers i 0 0 (omega (arith, ap length h.numbers_are ∙ length-map ps (rank same_pair ps))))
       ∙ ap (λ us. get_or us i 0) h.told ∙ get_or-map (joined_mask masks x) ps i (0, 0) 0 a;
-  few = (let d = distinct_count-le same_pair ps in let m = h.many in omega arith);
+  few = omega (arith, distinct_count-le same_pair ps);
 }
 
 -- joined keys are names
@@ -99,26 +97,21 @@ names_joined masks x cs r table narrow numbers joined e d = record {
   apart = λ i j a b q.
       let p = parts i a in
       let u = parts j b in
-      let pl = p.0 in
-      let ul = u.0 in
-      let some : 0 < length masks = omega arith in
-      let lower = sym (mod-eq_of_lt pl) ∙ sym (add-mul-mod_self_right (at i).0 (at i).1 (length masks)) ∙ ap (λ z. z % length masks) q
-      ∙ add-mul-mod_self_right (at j).0 (at j).1 (length masks) ∙ mod-eq_of_lt ul in
-      let upper = sym (high (at i) pl some) ∙ ap (λ z. z / length masks) q ∙ high (at j) ul some in
+      let lower = sym (mod-eq_of_lt p.0) ∙ sym (add-mul-mod_self_right (at i).0 (at i).1 (length masks)) ∙ ap (λ z. z % length masks) q
+      ∙ add-mul-mod_self_right (at j).0 (at j).1 (length masks) ∙ mod-eq_of_lt u.0 in
+      let upper = sym (high (at i) p.0 (omega arith)) ∙ ap (λ z. z / length masks) q ∙ high (at j) u.0 (omega arith) in
       λ k. (lower k, upper k);
   below = λ i a. let k = ap length d ∙ length-map-range_with_len (joined_key_mask masks x) 0 (length masks * length masks) in
       let s = key_small i a in omega arith;
   told = λ i a.
       let low = (parts i a).0 in
-      let some : 0 < length masks = omega arith in
-      let q = high (at i) low some in
-      let s : ((at i).0 + (at i).1 * length masks) % length masks ≡ (at i).0 = add-mul-mod_self_right (at i).0 (at i).1 (length masks) ∙ mod-eq_of_lt low in
+      let q = high (at i) low (omega arith) in
       ap (λ us. get_or us (joined_key (length masks) (at i)) 0) d
       ∙ get_or-map-range_with_len (joined_key_mask masks x) 0 (length masks * length masks) (joined_key (length masks) (at i))
       (joined_key (length masks) (at i)) 0 (key_small i a) (omega arith)
-      ∙ (λ k. joined_mask masks x (s k, q k));
+      ∙ (λ k. joined_mask masks x ((add-mul-mod_self_right (at i).0 (at i).1 (length masks) ∙ mod-eq_of_lt low) k, q k));
   few = (let k = ap length d ∙ length-map-range_with_len (joined_key_mask masks x) 0 (length masks * length masks) in
-      let a = mul-le-mul_left (length masks) narrow in let b = mul-le-mul_right 256 narrow in omega arith);
+      let a = mul-le-mul_left (length masks) narrow in omega arith);
 }
   where
     at : ℕ → ℕ × ℕ
@@ -136,19 +129,15 @@ names_joined masks x cs r table narrow numbers joined e d = record {
     key_small : (i : ℕ) → i < length (pairs cs (2 ^ r)) → joined_key (length masks) (at i) < length masks * length masks
     key_small i a =
         let low = (parts i a).0 in
-        let m = product_below (at i).1 (length masks) (length masks) (parts i a).1 in
-        omega arith
+        omega (arith, product_below (at i).1 (length masks) (length masks) (parts i a).1)
       where
         product_below : (u k b : ℕ) → u < k → u * b + b ≤ k * b
-        product_below u k b l =
-            (let q = mul-le-mul_right b (let s : suc u ≤ k = omega arith in s) in let z : suc u * b ≡ u * b + b = grind arith in
-            omega arith)
+        product_below u k b l = (let q = mul-le-mul_right b (let s : suc u ≤ k = omega arith in s) in omega arith)
 
 -- numbers by first occurrence occur, all of them
 pub ranks_used : (masks : List ℕ) (x : ℕ) (ps : List (ℕ × ℕ)) (numbers joined : List ℕ) → NumbersPairs masks x ps numbers joined → AreUsed numbers joined
 unfolding ranks
 ranks_used masks x ps numbers joined h k l =
-    let m = h.many in
     let t = rank_reached same_pair pair_decides ps k (omega arith) in
     member_from_among nat_eq nat_decides numbers k
     (subst (Among k) (sym h.numbers_are)

@@ -14,15 +14,7 @@ module _ (ps : List (ℕ × ℕ)) (home : ℕ × ℕ → ℕ) where
   pub slotted_none : (slots : List ℕ) (keys : List (ℕ × ℕ)) (out : List ℕ) → length keys ≡ length ps → length out ≡ length ps →
       length slots ≡ 4 * length ps + 64 →
       ((t : ℕ) → t < length slots → get_or slots t 0 ≡ length ps) → Slotted ps home slots keys out 0 0
-  slotted_none slots keys out k o r f = record {
-    long_keys = k;
-    room = r;
-    few = omega arith;
-    made = made_none (0, 0) ps (λ p. p) out o;
-    free = λ t l. inr (f t l);
-    each = λ t l lt. absurd (omega arith);
-    there = λ i l. absurd (omega arith);
-  }
+  slotted_none slots keys out k o r f = grind (arith, made_none)
 
 -- one more pair, whose slot is `at`
 module _ {ps : List (ℕ × ℕ)} {home : ℕ × ℕ → ℕ} {slots : List ℕ} {keys : List (ℕ × ℕ)} {out : List ℕ} {count j : ℕ}
@@ -51,22 +43,11 @@ module _ {ps : List (ℕ × ℕ)} {home : ℕ × ℕ → ℕ} {slots : List ℕ}
   slot_here = get_or-set_same slots at number 0 s.within
 
   slot_kept : (u : ℕ) → get_or slots u 0 < count → get_or marked u 0 ≡ get_or slots u 0
-  slot_kept u l = elim (cases_eq u at) [
-    | inl e ↦
-        let v = ap (λ z. get_or slots z 0) e in
-        let same : number ≡ get_or slots at 0 = min-eq_left (omega arith) in
-        ap (λ z. get_or marked z 0) e ∙ slot_here ∙ same ∙ sym v
-    | inr ne ↦ get_or-set_other slots at u number 0 ne
-  ]
+  slot_kept u l = grind (arith, cases_eq, number, min-eq_left, marked, slot_here, get_or-set_other)
 
   -- the slots before are taken, by other pairs
   taken : (u : ℕ) → home (pair j) ≤ u → u < at → get_or slots u 0 < count
-  taken u l m = elim (cases_lt (get_or slots u 0) count) [
-    | inl a ↦ a
-    | inr b ↦
-        let own = get_or-set_same keys count (pair j) (0, 0) (let k = h.long_keys in let f = h.few in omega arith) in
-        absurd (s.none u l m (ap (λ c. get_or all_keys c (0, 0)) (min-eq_right b) ∙ own))
-  ]
+  taken u l m = grind (arith, cases_lt, get_or-set_same, pair, all_keys, min-eq_right)
 
   other : (u : ℕ) → home (pair j) ≤ u → u < at → get_or keys (get_or slots u 0) (0, 0) ≢ pair j
   other u l m e =
@@ -81,7 +62,7 @@ module _ {ps : List (ℕ × ℕ)} {home : ℕ × ℕ → ℕ} {slots : List ℕ}
     few = few;
     made = m;
     free = λ t l. elim (cases_eq t at) [
-      | inl e ↦ let v = ap (λ z. get_or marked z 0) e ∙ slot_here in inl (omega arith)
+      | inl e ↦ inl (omega (arith, ap (λ z. get_or marked z 0) e ∙ slot_here))
       | inr ne ↦
           let v = get_or-set_other slots at t number 0 ne in
           elim (h.free t (omega arith)) [ inl a ↦ inl (omega arith) | inr b ↦ inr (v ∙ b) ]
@@ -89,7 +70,6 @@ module _ {ps : List (ℕ × ℕ)} {home : ℕ × ℕ → ℕ} {slots : List ℕ}
     each = λ t l a. elim (cases_eq t at) [
       | inl e ↦
           let v = ap (λ z. get_or marked z 0) e ∙ slot_here in
-          let b = f.before in
           (first, omega arith, n ∙ sym v, f.same ∙ sym (ap (λ c. get_or all_keys c (0, 0)) v ∙ s.here), λ k r q. f.none k r (q ∙ f.same))
       | inr ne ↦
           let v = get_or-set_other slots at t number 0 ne in
@@ -101,15 +81,14 @@ module _ {ps : List (ℕ × ℕ)} {home : ℕ × ℕ → ℕ} {slots : List ℕ}
     there = λ i l. elim (cases_lt i j) [
       | inl b ↦
           let q = h.there i b in
-          let a = q.2 in
           let r = q.3 in
           let v = slot_kept q.0 r in
           (q.0, q.1, omega arith, omega arith, ap (λ c. get_or all_keys c (0, 0)) v ∙ key_kept (get_or slots q.0 0) r ∙ q.4, λ u d e. still u (q.5 u d e))
       | inr b ↦ subst (Found ps home marked all_keys more) (let e : j ≡ i = omega arith in e) (
         at,
         s.from,
-        (let w = s.within in omega arith),
-        (let v = slot_here in omega arith),
+        omega arith,
+        omega (arith, slot_here),
         ap (λ c. get_or all_keys c (0, 0)) slot_here ∙ s.here,
         λ u d e. still u (taken u d e),
       )
@@ -117,47 +96,35 @@ module _ {ps : List (ℕ × ℕ)} {home : ℕ × ℕ → ℕ} {slots : List ℕ}
   }
     where
       still : (u : ℕ) → get_or slots u 0 < count → get_or marked u 0 < more
-      still u a = let v = slot_kept u a in omega arith
+      still u a = omega (arith, slot_kept u a)
 
   pub slotted_old : number ≢ count → Slotted ps home marked all_keys (set out j number) count (j + 1)
   slotted_old ne =
       let lt : get_or slots at 0 < count = elim (cases_lt (get_or slots at 0) count) [ inl a ↦ a | inr b ↦ absurd (ne (min-eq_right b)) ] in
       let e : number ≡ get_or slots at 0 = min-eq_left (omega arith) in
-      let few = h.few in
       let o = h.each at s.within lt in
-      let l = o.1 in
       let known = o.2 ∙ sym e in
       let same = o.3 ∙ sym (key_kept (get_or slots at 0) lt) ∙ ap (λ c. get_or all_keys c (0, 0)) (sym e) ∙ s.here in
       let first : IsFirstOccurrence pair j o.0 = record { before = omega arith; same = same; none = λ k m q. o.4 k m (q ∙ sym same) } in
-      slotted_step o.0 count (omega arith) (omega arith) (omega arith) first (out_kept o.0 l ∙ known)
+      slotted_step o.0 count (omega arith) (omega arith) (omega arith) first (out_kept o.0 o.1 ∙ known)
       (subst (λ us. Made (0, 0) ps (λ p. p) (set out j number) us (j + 1)) (sym (take-set keys count (pair j)))
       (subst (λ z. Made (0, 0) ps (λ p. p) (set out j z) (take count keys) (j + 1)) known
-      (made_again (0, 0) ps (λ p. p) out (take count keys) j o.0 small first l h.made)))
+      (made_again (0, 0) ps (λ p. p) out (take count keys) j o.0 small first o.1 h.made)))
 
   pub slotted_new : number ≡ count → Slotted ps home marked all_keys (set out j number) (count + 1) (j + 1)
   slotted_new e =
-      let le : count ≤ get_or slots at 0 = elim (cases_lt (get_or slots at 0) count) [
-        | inl a ↦ (let f : number ≡ get_or slots at 0 = min-eq_left (omega arith) in absurd (omega arith))
-        | inr b ↦ b
-      ] in
-      let few = h.few in
-      let long = h.long_keys in
-      let own = h.made.long in
       let absent : (i : ℕ) → i < j → pair i ≢ pair j = λ i l q.
       let f = h.there i l in
       let g = ap home q in
-      let a = f.1 in
-      let b = f.3 in
-      let k = s.from in
       elim (cases_lt f.0 at) [
         | inl c ↦ other f.0 (omega arith) c (f.4 ∙ q)
         | inr c ↦ elim (cases_eq f.0 at) [
-          | inl d ↦ let v = ap (λ z. get_or slots z 0) d in absurd (omega arith)
-          | inr d ↦ let v = f.5 at (omega arith) (omega arith) in absurd (omega arith)
+          | inl d ↦ absurd (omega (arith, ap (λ z. get_or slots z 0) d))
+          | inr d ↦ absurd (omega arith)
         ]
       ] in
       let first : IsFirstOccurrence pair j j = record { before = omega arith; same = refl; none = absent } in
-      let known : length (take count keys) ≡ number = (let t = length-take count keys in omega arith) in
+      let known : length (take count keys) ≡ number = omega (arith, length-take count keys) in
       slotted_step j (count + 1) (omega arith) (omega arith) (omega arith) first (get_or-set_same out j number 0 (omega arith))
       (subst (λ z. z) (λ t. Made (0, 0) ps (λ p. p) (set out j (known t)) (sym (take_more_set keys count (pair j) (omega arith)) t) (j + 1))
       (made_first (0, 0) ps (λ p. p) out (take count keys) j (pair j) small first refl h.made))

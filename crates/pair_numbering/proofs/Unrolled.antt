@@ -7,7 +7,6 @@
 use Rattle.std.proofs.Common.{◌≡◌, ℕ, zero, suc, ◌+◌, ◌*◌, ◌/◌, ◌%◌, ◌<◌, ◌≤◌, List, [], ◌∷◌, ◌++◌, length, get_or, drop, zero-mul, refl, ap, ◌∙◌, sym, arith}
 use Rattle.std.specs.List.{flat_map}
 use Rattle.std.proofs.Math.Nat.{div-lt_iff_lt-mul, mod-lt, mul-le-mul_right}
-use Rattle.std.proofs.lemmas.Nat.{div-add-mod'}
 use Rattle.std.proofs.lemmas.List.Concat.{flat_map-append}
 use Rattle.std.proofs.lemmas.List.{append-nil, length-append, length-drop, length-take-le, get_or_append_left, get_or-append-add, get_or-take, get_or-drop}
 use Rattle.pair_numbering.specs.Strips.{AreNamed, names_of, strip, unrolled}
@@ -16,15 +15,12 @@ use Rattle.pair_numbering.specs.Strips.{AreNamed, names_of, strip, unrolled}
 pub named_inside : (outer numbers : List ℕ) (len : ℕ) → AreNamed outer numbers len → (i : ℕ) → i < length outer → get_or outer i 0 * len + len ≤ length numbers
 named_inside outer numbers len s i h =
     let m = mul-le-mul_right len (s.within i h) in
-    let e : suc (get_or outer i 0) * len ≡ get_or outer i 0 * len + len = grind arith in
-    let w = s.whole in
     omega arith
 
 pub length_strip : (numbers : List ℕ) (len k : ℕ) → k * len + len ≤ length numbers → length (strip numbers len k) ≡ len
 unfolding strip
 length_strip numbers len k h =
-    let d = length-drop (k * len) numbers in
-    length-take-le len (drop (k * len) numbers) (omega arith)
+    length-take-le len (drop (k * len) numbers) (omega (arith, length-drop (k * len) numbers))
 
 pub strip_at : (numbers : List ℕ) (len k a : ℕ) → a < len → get_or (strip numbers len k) a 0 ≡ get_or numbers (k * len + a) 0
 unfolding strip
@@ -39,7 +35,6 @@ length_named outer numbers len s = each outer (named_inside outer numbers len s)
     each (o ∷ os) f =
         let r = each os (λ i h. f (suc i) (omega arith)) in
         let l = length_strip numbers len o (f 0 (omega arith)) in
-        let m : suc (length os) * len ≡ length os * len + len = grind arith in
         length-append (strip numbers len o) (flat_map (strip numbers len) os) ∙ omega arith
 
 pub named_at : (outer numbers : List ℕ) (len : ℕ) → AreNamed outer numbers len → (i a : ℕ) → i < length outer → a < len →
@@ -52,15 +47,12 @@ named_at outer numbers len s i a small inside = each outer (named_inside outer n
     each [] f j h = absurd (omega arith)
     each (o ∷ os) f zero h =
         let l = length_strip numbers len o (f 0 (omega arith)) in
-        let z : 0 * len + a ≡ a = omega (arith, zero-mul len) in
-        ap (λ k. get_or (flat_map (strip numbers len) (o ∷ os)) k 0) z
+        ap (λ k. get_or (flat_map (strip numbers len) (o ∷ os)) k 0) (omega (arith, zero-mul len))
         ∙ get_or_append_left (strip numbers len o) (flat_map (strip numbers len) os) 0 a (omega arith)
         ∙ strip_at numbers len o a inside
     each (o ∷ os) f (suc j) h =
         let l = length_strip numbers len o (f 0 (omega arith)) in
-        let m : suc j * len ≡ j * len + len = grind arith in
-        let p : suc j * len + a ≡ length (strip numbers len o) + (j * len + a) = omega arith in
-        ap (λ k. get_or (flat_map (strip numbers len) (o ∷ os)) k 0) p
+        ap (λ k. get_or (flat_map (strip numbers len) (o ∷ os)) k 0) (omega arith)
         ∙ get_or-append-add (strip numbers len o) (flat_map (strip numbers len) os) (j * len + a) 0
         ∙ each os (λ i k. f (suc i) (omega arith)) j (omega arith)
 
@@ -80,25 +72,19 @@ unrolled_none numbers len = refl
 pub length_names_of : (pairs : List (ℕ × ℕ)) → length (names_of pairs) ≡ length pairs * 2
 unfolding names_of
 length_names_of [] = refl
-length_names_of (p ∷ ps) = let r = length_names_of ps in omega arith
+length_names_of (p ∷ ps) = omega (arith, length_names_of ps)
 
 pub name_low : (pairs : List (ℕ × ℕ)) (k : ℕ) → k < length pairs → get_or (names_of pairs) (k * 2) 0 ≡ (get_or pairs k (0, 0)).0
 unfolding names_of
 name_low [] k l = absurd (omega arith)
 name_low (p ∷ ps) zero l = refl
-name_low (p ∷ ps) (suc k) l =
-    ap (λ z. get_or (p.0 ∷ p.1 ∷ flat_map (λ (q : ℕ × ℕ). q.0 ∷ q.1 ∷ []) ps) z 0)
-    (let e : suc k * 2 ≡ suc (suc (k * 2)) = omega arith in e)
-    ∙ name_low ps k (omega arith)
+name_low (p ∷ ps) (suc k) l = grind (arith, name_low ps k (omega arith))
 
 pub name_high : (pairs : List (ℕ × ℕ)) (k : ℕ) → k < length pairs → get_or (names_of pairs) (k * 2 + 1) 0 ≡ (get_or pairs k (0, 0)).1
 unfolding names_of
 name_high [] k l = absurd (omega arith)
 name_high (p ∷ ps) zero l = refl
-name_high (p ∷ ps) (suc k) l =
-    ap (λ z. get_or (p.0 ∷ p.1 ∷ flat_map (λ (q : ℕ × ℕ). q.0 ∷ q.1 ∷ []) ps) z 0)
-    (let e : suc k * 2 + 1 ≡ suc (suc (k * 2 + 1)) = omega arith in e)
-    ∙ name_high ps k (omega arith)
+name_high (p ∷ ps) (suc k) l = grind (arith, name_high ps k (omega arith))
 
 -- ---- what named strips hold
 
@@ -109,9 +95,7 @@ pub unrolled_below : (names numbers : List ℕ) (len m : ℕ) → 0 < len → Ar
 unrolled_below names numbers len m some s below i h =
     let l = length_named names numbers len s in
     let q : i / len < length names = (div-lt_iff_lt-mul some).1 (omega arith) in
-    let a = mod-lt i some in
-    let e : i ≡ i / len * len + i % len = (let d = div-add-mod' i len in omega arith) in
-    let v = ap (λ z. get_or (unrolled names numbers len) z 0) e ∙ named_at names numbers len s (i / len) (i % len) q a in
+    let e : i ≡ i / len * len + i % len = omega arith in
+    let v = ap (λ z. get_or (unrolled names numbers len) z 0) e ∙ named_at names numbers len s (i / len) (i % len) q (mod-lt i some) in
     let w = named_inside names numbers len s (i / len) q in
-    let b = below (get_or names (i / len) 0 * len + i % len) (omega arith) in
     omega arith

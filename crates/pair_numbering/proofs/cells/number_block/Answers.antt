@@ -12,34 +12,28 @@ loop-i-init c =
 pub bounds-cells-cell : goal.bounds-cells-cell
 bounds-cells-cell c =
     let w = in_step c.requires.table.paired c.rank.ensures.rank c.requires.block c.loop-i-test.true in
-    let is = c.block.ensures.pairs c.loop-i.i w.early in
-    cell_inside c.requires.table c.loop-i.invariant w is
+    cell_inside c.requires.table c.loop-i.invariant w (c.block.ensures.pairs c.loop-i.i w.early)
 
 pub join_mask-requires-clause-lower : goal.join_mask-requires-clause-lower
 join_mask-requires-clause-lower c =
     let w = in_step c.requires.table.paired c.rank.ensures.rank c.requires.block c.loop-i-test.true in
-    let is = c.block.ensures.pairs c.loop-i.i w.early in
-    (pair_classes c.requires.table c.loop-i.invariant w is).0
+    (pair_classes c.requires.table c.loop-i.invariant w (c.block.ensures.pairs c.loop-i.i w.early)).0
 
 pub join_mask-requires-clause-upper : goal.join_mask-requires-clause-upper
 join_mask-requires-clause-upper c =
     let w = in_step c.requires.table.paired c.rank.ensures.rank c.requires.block c.loop-i-test.true in
-    let is = c.block.ensures.pairs c.loop-i.i w.early in
-    (pair_classes c.requires.table c.loop-i.invariant w is).1
+    (pair_classes c.requires.table c.loop-i.invariant w (c.block.ensures.pairs c.loop-i.i w.early)).1
 
 pub bounds-cells-cell-then-next-eq0 : goal.bounds-cells-cell-then-next-eq0
 bounds-cells-cell-then-next-eq0 c =
     let w = in_step c.requires.table.paired c.rank.ensures.rank c.requires.block c.loop-i-test.true in
-    let is = c.block.ensures.pairs c.loop-i.i w.early in
-    cell_inside c.requires.table c.loop-i.invariant w is
+    cell_inside c.requires.table c.loop-i.invariant w (c.block.ensures.pairs c.loop-i.i w.early)
 
 pub bounds-out-block : goal.bounds-out-block
 bounds-out-block c =
     let w = in_step c.requires.table.paired c.rank.ensures.rank c.requires.block c.loop-i-test.true in
-    let is = c.block.ensures.pairs c.loop-i.i w.early in
-    let k = place_inside c.requires.table c.loop-i.invariant w is in
-    let e = place_is c.requires.table.paired c.args.block c.loop-i.i c.rank.ensures.rank in
-    subst (λ z. z < length c.loop-i.out) (sym e) k
+    let k = place_inside c.requires.table c.loop-i.invariant w (c.block.ensures.pairs c.loop-i.i w.early) in
+    subst (λ z. z < length c.loop-i.out) (sym (place_is c.requires.table.paired c.args.block c.loop-i.i c.rank.ensures.rank)) k
 
 pub loop-i-preserved : goal.loop-i-preserved
 loop-i-preserved c =
@@ -58,8 +52,4 @@ loop-i-preserved c =
     ]
 
 pub returns : goal.returns
-returns c =
-    let s = step_is c.requires.table.paired c.rank.ensures.rank in
-    let t = c.loop-i-test.false in
-    let e = c.loop-i.auto.i-end in
-    fronted_block c.args.block c.loop-i.i c.loop-i.invariant (omega (arith, s, t, e))
+returns c = grind (arith, fronted_block, step_is)

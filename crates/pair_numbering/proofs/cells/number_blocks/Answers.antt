@@ -17,19 +17,17 @@ loop-block-init c =
 
 pub returns : goal.returns
 returns c =
-    let pairs = c.args.pairs.now in
-    let rank = pairs.entries.now.rank in
-    let ps = places.pairs pairs.entries.now.numbers (2 ^ rank) in
-    let join = joined_mask pairs.masks.now pairs.x in
-    let out = c.loop-block.out in
+    let rank = c.args.pairs.now.entries.now.rank in
+    let ps = places.pairs c.args.pairs.now.entries.now.numbers (2 ^ rank) in
+    let join = joined_mask c.args.pairs.now.masks.now c.args.pairs.now.x in
     let joined = take c.loop-block.count c.loop-block.joined in
     let j = c.loop-block.block * 2 ^ rank in
     let made = c.loop-block.invariant.celled.made in
-    let l = length-pairs pairs.entries.now.numbers (2 ^ rank) in
+    let l = length-pairs c.args.pairs.now.entries.now.numbers (2 ^ rank) in
     let a = all_pairs c.requires.table.paired c.loop-block.block c.len.ensures.count c.rank-rank.ensures.rank c.loop-block-test.false in
     let all : length ps ≤ j = subst (λ n. n ≤ j) (sym l) a in
     record {
-      numbers_are = made_numbers 0 ps join out joined j all made;
-      many = made_many 0 ps join out joined j all made;
-      told = made_told 0 ps join out joined j all made;
+      numbers_are = made_numbers 0 ps join c.loop-block.out joined j all made;
+      many = made_many 0 ps join c.loop-block.out joined j all made;
+      told = made_told 0 ps join c.loop-block.out joined j all made;
     }

@@ -1,8 +1,6 @@
-use Rattle.std.proofs.Common.{◌≡◌, ℕ, suc, ◌+◌, ◌-◌, ◌/◌, ◌^◌, ◌<◌, ◌≤◌, get_or, set, length, sym, ap, ◌∙◌, subst, arith}
-use Rattle.std.proofs.lemmas.Nat.{pow_pos}
+use Rattle.std.proofs.Common.{◌≡◌, ℕ, suc, ◌+◌, ◌-◌, ◌/◌, ◌^◌, ◌<◌, get_or, set, length, sym, ap, subst, arith}
 use Rattle.class_laws.specs.Places.{low_place}
 use Rattle.pair_numbering.specs.Chains.{IsNext, lower_at}
-use Rattle.class_laws.proofs.Index.{pair_within}
 use Rattle.pair_numbering.proofs.Chained.{heads_more, next_more}
 use Rattle.pair_numbering.proofs.chains.chain.Goals as goal
 
@@ -15,19 +13,12 @@ loop-j-preserved c =
     let heads = c.loop-j.heads in
     let next = c.loop-j.next in
     let k = c.loop-j.j - 1 in
-    let t : 0 < c.loop-j.j = c.loop-j-test.true in
-    let s : c.loop-j.j ≤ half = c.loop-j.invariant.small in
     let kl : k < half = omega arith in
-    let up : c.loop-j.j ≡ suc k = omega arith in
     let v : c.pair-lower.result.0 ≡ value k = ap (λ (p : ℕ × ℕ). p.0) c.pair-lower.ensures in
-    let w = pair_within step c.requires.paired.whole.0 (length cs) k (pow_pos c.args.entries.now.rank) c.requires.paired.whole.1 kl in
     let b = c.requires.classes (low_place step k) (omega arith) in
-    let hl = c.loop-j.auto.heads in
-    let nl = c.loop-j.auto.next in
-    let nh = c.requires.half in
     let lt : value k < length heads = omega arith in
     let hs : (d : ℕ) → d < length heads → IsNext value half d (suc k) (get_or heads d 0) =
-    λ d l. subst (λ z. IsNext value half d z (get_or heads d 0)) up (c.loop-j.invariant.heads d l) in
+    λ d l. subst (λ z. IsNext value half d z (get_or heads d 0)) (omega arith) (c.loop-j.invariant.heads d l) in
     record {
       small = omega arith;
       heads = λ d l. let P : ℕ → Type 0 = λ z. d < length (set heads z k) → IsNext value half d k (get_or (set heads z k) d 0) in
@@ -37,7 +28,4 @@ loop-j-preserved c =
     }
 
 pub returns-clause-next : goal.returns-clause-next
-returns-clause-next c = record {
-  long = c.loop-j.auto.next ∙ c.requires.half;
-  each = λ j l. c.loop-j.invariant.next j (omega arith) l;
-}
+returns-clause-next c = grind arith

@@ -1,4 +1,4 @@
-use Rattle.std.proofs.Common.{◌^◌, inl, inr, sym, subst, ◌∙◌, arith}
+use Rattle.std.proofs.Common.{◌^◌, inl, inr, sym, subst, arith}
 use Rattle.std.proofs.lemmas.Bool.{cases_eq}
 use Rattle.class_laws.specs.Numbering.{IsFirstOccurrence}
 use Rattle.pair_numbering.specs.Chains.{lower_at}
@@ -16,7 +16,4 @@ loop-lower-preserved c = record {
 }
 
 pub returns : goal.returns
-returns c = record {
-  long = c.loop-lower.auto.first ∙ c.requires.first_len;
-  each = λ j l. c.loop-lower.invariant.done j l (omega arith);
-}
+returns c = grind arith

@@ -8,29 +8,15 @@ use Rattle.pair_numbering.proofs.chains.number_firsts.Goals as goal
 use Rattle.pair_numbering.proofs.chains.number_firsts.Goals.{then-f-j+in_ok-push, else-f-j}
 
 pub loop-j-init : goal.loop-j-init
-loop-j-init c =
-    let ps = places.pairs c.args.entries.now.numbers (2 ^ c.args.entries.now.rank) in
-    let l = length-pairs c.args.entries.now.numbers (2 ^ c.args.entries.now.rank) in
-    let n = c.in_ok-out.ensures.len in
-    let m = c.requires.first.long in
-    subst (λ us. Made (0, 0) ps (λ p. p) c.in_ok-out.out.items us 0) (sym c.new-pairs.ensures.items)
-    (made_none (0, 0) ps (λ p. p) c.in_ok-out.out.items (omega arith))
+loop-j-init c = grind (arith, made_none, length-pairs)
 
 pub index_mut-requires : goal.index_mut-requires
 index_mut-requires c =
-    let long = c.requires.first.long in
-    let o = c.loop-j.invariant.long in
-    let t = c.loop-j-test.true in
     let l = length-pairs c.args.entries.now.numbers (2 ^ c.args.entries.now.rank) in
-    omega (arith, long, o, t, l)
+    omega (arith, c.requires.first.long, c.loop-j.invariant.long, c.loop-j-test.true, l)
 
 pub index_mut-requires-else-f-j : goal.index_mut-requires-else-f-j
-index_mut-requires-else-f-j c =
-    let long = c.requires.first.long in
-    let o = c.loop-j.invariant.long in
-    let t = c.loop-j-test.true in
-    let l = length-pairs c.args.entries.now.numbers (2 ^ c.args.entries.now.rank) in
-    omega arith
+index_mut-requires-else-f-j c = omega (arith, length-pairs c.args.entries.now.numbers (2 ^ c.args.entries.now.rank))
 
 pub loop-j-preserved : goal.loop-j-preserved
 loop-j-preserved c =
@@ -41,15 +27,12 @@ loop-j-preserved c =
     let out = c.loop-j.out.items in
     let masks = c.loop-j.pairs.items in
     let lp = length-pairs cs step in
-    let t = c.loop-j-test.true in
-    let long = c.requires.first.long in
     let small : j < length cs / 2 = omega arith in
     let listed : j < length ps = omega arith in
     let first = first_listed cs step j (get_or c.args.first.now j 0) small (c.requires.first.each j small) in
     elim c.if-f-j.branch [
       | then-f-j+in_ok-push w ↦
           let d = ap (λ (v : Vec (ℕ × ℕ) Global). v.items) w.pairs-is ∙ w.in_ok-push.ensures.items in
-          let n = w.len.ensures in
           let m : w.len.result ≡ length masks = omega arith in
           let o : c.if-f-j.out.items ≡ set out j (length masks) = ap (λ (v : Vec ℕ Global). v.items) w.out-is ∙ ap (set out j) m in
           let pair = w.pair.ensures ∙ sym (pair_listed cs step j small) in
@@ -57,9 +40,6 @@ loop-j-preserved c =
           (made_first (0, 0) ps (λ p. p) out masks j w.pair.result listed
           (subst (IsFirstOccurrence (λ i. get_or ps i (0, 0)) j) w.if-f-j.true first) pair c.loop-j.invariant)
       | else-f-j w ↦
-          let f = first.before in
-          let other = w.if-f-j.false in
-          let long_out = c.loop-j.invariant.long in
           let v = w.index.ensures ∙ get_or_default out (get_or c.args.first.now j 0) w.index.result.now 0 (omega arith) in
           let o = ap (λ (v : Vec ℕ Global). v.items) w.out-is ∙ ap (set out j) v in
           subst (λ z. z) (λ i. Made (0, 0) ps (λ p. p) (sym o i) (ap (λ (v : Vec (ℕ × ℕ) Global). v.items) (sym w.pairs-is) i) (j + 1))
@@ -69,13 +49,9 @@ loop-j-preserved c =
 pub returns : goal.returns
 returns c =
     let ps = places.pairs c.args.entries.now.numbers (2 ^ c.args.entries.now.rank) in
-    let out = c.loop-j.out.items in
-    let pairs = c.loop-j.pairs.items in
     let l = length-pairs c.args.entries.now.numbers (2 ^ c.args.entries.now.rank) in
-    let t = c.loop-j-test.false in
-    let long = c.requires.first.long in
     record {
-      numbered_are = made_numbers (0, 0) ps (λ p. p) out pairs c.loop-j.j (omega arith) c.loop-j.invariant;
-      many = made_many (0, 0) ps (λ p. p) out pairs c.loop-j.j (omega arith) c.loop-j.invariant;
-      told = made_told (0, 0) ps (λ p. p) out pairs c.loop-j.j (omega arith) c.loop-j.invariant ∙ map-id ps;
+      numbered_are = made_numbers (0, 0) ps (λ p. p) c.loop-j.out.items c.loop-j.pairs.items c.loop-j.j (omega arith) c.loop-j.invariant;
+      many = made_many (0, 0) ps (λ p. p) c.loop-j.out.items c.loop-j.pairs.items c.loop-j.j (omega arith) c.loop-j.invariant;
+      told = made_told (0, 0) ps (λ p. p) c.loop-j.out.items c.loop-j.pairs.items c.loop-j.j (omega arith) c.loop-j.invariant ∙ map-id ps;
     }

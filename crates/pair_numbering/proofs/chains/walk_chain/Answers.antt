@@ -55,17 +55,9 @@ loop-j-preserved c =
     let marks = c.loop-j.marks in
     let first = c.loop-j.first in
     let k = get_or c.args.chains.now.next.now j 0 in
-    let n = c.args.chains.now.after.long in
-    let t = c.loop-j-test.true in
     let small : j < half = omega arith in
     let w = pair_within step c.requires.paired.whole.0 (length cs) j (pow_pos c.args.chains.now.entries.now.rank) c.requires.paired.whole.1 small in
     let v : c.pair-upper.result.1 ≡ upper_at cs step j = ap (λ (p : ℕ × ℕ). p.1) c.pair-upper.ensures in
-    let b = c.requires.classes (places.low_place step j + step) w in
-    let sa = c.loop-j.auto.stamps in
-    let ma = c.loop-j.auto.marks in
-    let fa = c.loop-j.auto.first in
-    let ml = c.requires.marks_len in
-    let fl = c.requires.first_len in
     let inside : upper_at cs step j < length stamps = omega arith in
     let here = c.loop-j.invariant.walk.here small in
     let nx = subst (λ z. IsNext (lower_at cs step) half z (j + 1) k) here (c.args.chains.now.after.each j small) in
@@ -78,9 +70,8 @@ loop-j-preserved c =
             (walk_again cs step half lower stamps marks first j k small (omega arith) inside c.loop-j.invariant.walk g nx)
         | else-stamps-upper u ↦
             let a = u.stamps-is ∙ ap (λ z. set stamps z (lower + 1)) v in
-            let m = u.marks-is ∙ ap (λ z. set marks z j) v in
             let g : get_or stamps (upper_at cs step j) 0 ≢ lower + 1 = λ q. u.if-stamps-upper.false (ap (λ z. get_or stamps z 0) v ∙ q) in
-            subst (λ z. z) (λ i. Walk cs step half lower (sym a i) (sym m i) (sym u.first-is i) k)
+            subst (λ z. z) (λ i. Walk cs step half lower (sym a i) (sym (u.marks-is ∙ ap (λ z. set marks z j) v) i) (sym u.first-is i) k)
             (walk_new cs step half lower stamps marks first j k small (omega arith) inside (omega arith) c.loop-j.invariant.walk g nx)
       ];
       others = λ i ne.

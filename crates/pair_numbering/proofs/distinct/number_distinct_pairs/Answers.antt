@@ -9,28 +9,17 @@ use Rattle.pair_numbering.proofs.InBlocks.{pair_inside}
 use Rattle.pair_numbering.proofs.distinct.number_distinct_pairs.Goals as goal
 
 pub loop-j-init : goal.loop-j-init
-loop-j-init c =
-    let ps = places.pairs c.args.entries.now.numbers (2 ^ c.args.entries.now.rank) in
-    let l = length-pairs c.args.entries.now.numbers (2 ^ c.args.entries.now.rank) in
-    let n = c.in_ok-out.ensures.len in
-    let h = c.len-half.ensures.count in
-    let m = c.in_ok-joined.ensures.len in
-    record {
-      long = omega arith;
-      made = made_none 0 ps (joined_mask c.args.masks.now c.args.x) c.in_ok-out.out.items (omega arith);
-    }
+loop-j-init c = grind (arith, length-pairs, made_none)
 
 pub join_mask-requires-clause-lower : goal.join_mask-requires-clause-lower
 join_mask-requires-clause-lower c =
-    let count = c.len-half.ensures.count in
     let t = c.loop-j-test.true in
-    (pair_inside c.requires.table.paired c.requires.table.below (omega (arith, count, t)) c.pair.ensures).0
+    (pair_inside c.requires.table.paired c.requires.table.below (omega (arith, c.len-half.ensures.count, t)) c.pair.ensures).0
 
 pub join_mask-requires-clause-upper : goal.join_mask-requires-clause-upper
 join_mask-requires-clause-upper c =
-    let count = c.len-half.ensures.count in
     let t = c.loop-j-test.true in
-    (pair_inside c.requires.table.paired c.requires.table.below (omega (arith, count, t)) c.pair.ensures).1
+    (pair_inside c.requires.table.paired c.requires.table.below (omega (arith, c.len-half.ensures.count, t)) c.pair.ensures).1
 
 pub loop-j-preserved : goal.loop-j-preserved
 loop-j-preserved c =
@@ -41,13 +30,11 @@ loop-j-preserved c =
     let out = c.loop-j.out.items in
     let masks = c.loop-j.joined.items in
     let mask = c.join_mask.result in
-    let h = c.len-half.ensures.count in
     let t = c.loop-j-test.true in
     let small : j < length cs / 2 = omega arith in
     let p = c.pair.ensures ∙ sym (pair_listed cs (2 ^ c.args.entries.now.rank) j small) in
     let l = length-pairs cs (2 ^ c.args.entries.now.rank) in
-    let o = c.loop-j.invariant.long in
-    let few : length (take j masks) ≡ j = (let t = length-take j masks in omega arith) in
+    let few : length (take j masks) ≡ j = omega (arith, length-take j masks) in
     let first : IsFirstOccurrence (λ i. get_or ps i (0, 0)) j j =
     record {
       before = omega arith;
@@ -57,7 +44,7 @@ loop-j-preserved c =
           ∙ pair_listed cs (2 ^ c.args.entries.now.rank) j small));
     } in
     record {
-      long = length-set masks _ _ ∙ o;
+      long = length-set masks _ _ ∙ c.loop-j.invariant.long;
       made = subst (λ z. z) (λ t. Made 0 ps join (set out j (few t)) (sym (take_more_set masks j mask (omega arith)) t) (j + 1))
           (made_first 0 ps join out (take j masks) j mask (omega arith) first (c.join_mask.ensures ∙ ap join p) c.loop-j.invariant.made);
     }
@@ -69,9 +56,6 @@ returns c =
     let out = c.loop-j.out.items in
     let joined = take c.loop-j.j c.loop-j.joined.items in
     let l = length-pairs c.args.entries.now.numbers (2 ^ c.args.entries.now.rank) in
-    let o = c.loop-j.invariant.long in
-    let t = c.loop-j-test.false in
-    let h = c.len-half.ensures.count in
     let all = sym (take_all c.loop-j.j c.loop-j.joined.items (omega arith)) in
     record {
       numbers_are = made_numbers 0 ps join out joined c.loop-j.j (omega arith) c.loop-j.invariant.made;

@@ -1,4 +1,4 @@
-use Rattle.std.proofs.Common.{◌≡◌, ℕ, List, ◌≤◌, ◌+◌, ◌*◌, ◌/◌, ◌^◌, ◌<◌, get_or, set, take, map, length, refl, sym, ap, subst, ◌∙◌, arith}
+use Rattle.std.proofs.Common.{◌≡◌, ℕ, List, ◌≤◌, ◌+◌, ◌*◌, ◌^◌, ◌<◌, get_or, set, take, map, length, refl, sym, ap, subst, ◌∙◌, arith}
 use Rattle.std.proofs.lemmas.Nat.{one_shl}
 use Rattle.std.proofs.lemmas.List.{take_more_set, take_all, length-set}
 use Rattle.std.proofs.Math.Nat.{mul-le-mul}
@@ -11,11 +11,7 @@ use Rattle.pair_numbering.proofs.InBlocks.{in_block, listed_inside, place_is}
 use Rattle.pair_numbering.proofs.keys.join_blocks.Goals as goal
 
 pub loop-i-init : goal.loop-i-init
-loop-i-init c = record {
-  long = c.loop-block.invariant.long;
-  done = subst (λ z. take z c.loop-block.joined ≡ map (joined_key c.args.base) (take z (places.pairs c.args.entries.now.numbers (2 ^ c.args.rank))))
-      (let e : c.loop-block.block * 2 ^ c.args.rank ≡ c.loop-block.block * 2 ^ c.args.rank + 0 = omega arith in e) c.loop-block.invariant.done;
-}
+loop-i-init c = grind arith
 
 pub loop-i-preserved : goal.loop-i-preserved
 loop-i-preserved c =
@@ -24,44 +20,27 @@ loop-i-preserved c =
     let ps = places.pairs cs step in
     let j = c.loop-block.block * 2 ^ c.args.rank + c.loop-i.i in
     let out = c.loop-i.joined in
-    let r = c.requires.rank in
     let w = in_block c.requires.paired c.requires.long refl c.loop-block-test.true c.loop-i-test.true in
     let small = block_inside (length cs) c.args.rank c.loop-block.block c.loop-i.i c.requires.paired.whole w.inside w.early in
     let key = joined_key c.args.base (get_or c.block.result.low.now c.loop-i.i 0, get_or c.block.result.high.now c.loop-i.i 0) in
     let is : (get_or c.block.result.low.now c.loop-i.i 0, get_or c.block.result.high.now c.loop-i.i 0) ≡ get_or ps j (0, 0) =
     subst (λ k. (get_or c.block.result.low.now c.loop-i.i 0, get_or c.block.result.high.now c.loop-i.i 0)
-    ≡ get_or (places.pairs cs (2 ^ k)) (c.loop-block.block * 2 ^ k + c.loop-i.i) (0, 0)) (sym r)
-    (c.block.ensures.pairs c.loop-i.i (subst (λ k. c.loop-i.i < 2 ^ k) r w.early)) in
+    ≡ get_or (places.pairs cs (2 ^ k)) (c.loop-block.block * 2 ^ k + c.loop-i.i) (0, 0)) (sym c.requires.rank)
+    (c.block.ensures.pairs c.loop-i.i (subst (λ k. c.loop-i.i < 2 ^ k) c.requires.rank w.early)) in
     let value = ap (joined_key c.args.base) (is ∙ pair_listed cs step j small) in
-    let o = c.loop-i.invariant.long in
     let place = place_is c.requires.paired c.loop-block.block c.loop-i.i refl in
     let k : j + 1 ≡ c.loop-block.block * 2 ^ c.args.rank + (c.loop-i.i + 1) = omega arith in
     record {
-      long = length-set out _ _ ∙ o;
+      long = length-set out _ _ ∙ c.loop-i.invariant.long;
       done = subst (λ z. z) (λ t. take (k t) (set out (sym place t) key) ≡ map (joined_key c.args.base) (take (k t) ps))
           (take_more_set out j key (omega arith) ∙ done_more cs step j small (joined_key c.args.base) (take j out) key c.loop-i.invariant.done value);
     }
 
 pub loop-block-preserved : goal.loop-block-preserved
-loop-block-preserved c =
-    let s = one_shl c.args.rank 64 (let h = c.requires.paired.small_rank in omega arith) in
-    let t = c.loop-i-test.false in
-    let all : c.loop-i.i ≡ 2 ^ c.args.rank = (let u = c.loop-i.auto.i-end in omega arith) in
-    record {
-      long = c.loop-i.invariant.long;
-      done = subst (λ z. take z c.loop-i.joined ≡ map (joined_key c.args.base) (take z (places.pairs c.args.entries.now.numbers (2 ^ c.args.rank))))
-          (ap (λ z. c.loop-block.block * 2 ^ c.args.rank + z) all ∙ block_next (2 ^ c.args.rank) c.loop-block.block) c.loop-i.invariant.done;
-    }
+loop-block-preserved c = grind (arith, one_shl, block_next)
 
 pub returns : goal.returns
-returns c =
-    let l = length-pairs c.args.entries.now.numbers (2 ^ c.args.rank) in
-    let o = c.loop-block.invariant.long in
-    let a = block_all (length c.args.entries.now.numbers) c.args.rank c.loop-block.block c.requires.paired.whole
-    (let e = ap (λ z. z / 2 ^ c.args.rank) c.requires.long in let t = c.loop-block-test.false in omega arith) in
-    sym (take_all (c.loop-block.block * 2 ^ c.args.rank) c.loop-block.joined (omega arith)) ∙ c.loop-block.invariant.done
-    ∙ ap (map (joined_key c.args.base)) (take_all (c.loop-block.block * 2 ^ c.args.rank) (places.pairs c.args.entries.now.numbers (2 ^ c.args.rank))
-    (omega arith))
+returns c = grind (arith, length-pairs, block_all, take_all)
 
 -- both halves of a pair are below the base
 keys_below : (cs : List ℕ) (rank base j : ℕ) → IsPaired cs rank → AllBelow cs base → j < length (places.pairs cs (2 ^ rank)) → (low high : ℕ) →
@@ -86,7 +65,6 @@ overflow_mul-joined c =
     (listed_inside c.requires.paired w)) (get_or c.block.result.low.now c.loop-i.i 0)
     (get_or c.block.result.high.now c.loop-i.i 0) is in
     let k = key_fits (get_or c.block.result.low.now c.loop-i.i 0) (get_or c.block.result.high.now c.loop-i.i 0) c.args.base b.0 b.1 c.requires.base in
-    let f = k.0 in
     omega arith
 
 pub overflow_add-joined : goal.overflow_add-joined
@@ -100,5 +78,4 @@ overflow_add-joined c =
     (listed_inside c.requires.paired w)) (get_or c.block.result.low.now c.loop-i.i 0)
     (get_or c.block.result.high.now c.loop-i.i 0) is in
     let k = key_fits (get_or c.block.result.low.now c.loop-i.i 0) (get_or c.block.result.high.now c.loop-i.i 0) c.args.base b.0 b.1 c.requires.base in
-    let f = k.1 in
     omega arith

@@ -5,18 +5,10 @@ use Rattle.pair_numbering.proofs.Names.{names_joined, names_numbered, ranks_used
 use Rattle.pair_numbering.proofs.keys.tell_entries.Goals as goal
 
 pub returns-then-base-len-clause-tells : goal.returns-then-base-len-clause-tells
-returns-then-base-len-clause-tells c =
-    let l = c.if-base-le-MOST_JOINED.true in
-    names_joined c.args.masks.now c.args.x c.args.entries.now.numbers c.args.entries.now.rank c.requires.table
-    (omega arith) c.in_ok-keys.keys.items c.in_ok-joined.joined.items
-    c.in_ok-keys.ensures c.in_ok-joined.ensures
+returns-then-base-len-clause-tells c = grind (arith, names_joined)
 
 pub returns-clause-tells : goal.returns-clause-tells
-returns-clause-tells c =
-    let l = length-pairs c.args.entries.now.numbers (2 ^ c.args.entries.now.rank) in
-    let f = c.requires.table.few in
-    names_numbered c.args.masks.now c.args.x (places.pairs c.args.entries.now.numbers (2 ^ c.args.entries.now.rank)) c.in_ok-numbered.numbered.numbers.items
-    c.in_ok-numbered.numbered.masks.items (omega arith) c.in_ok-numbered.ensures
+returns-clause-tells c = grind (arith, names_numbered, length-pairs)
 
 pub returns-clause-used : goal.returns-clause-used
 returns-clause-used c =

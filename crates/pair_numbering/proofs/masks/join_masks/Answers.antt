@@ -5,22 +5,17 @@ use Rattle.pair_numbering.proofs.masks.join_masks.Goals as goal
 
 pub loop-k-preserved : goal.loop-k-preserved
 loop-k-preserved c =
-    let k = c.loop-k.k in
     let pairs = c.args.pairs.now in
-    let out = c.loop-k.joined.items in
     let mask = c.join_mask.result in
-    let o = c.loop-k.invariant.long in
     record {
-      long = length-set out k mask ∙ o;
+      long = length-set c.loop-k.joined.items c.loop-k.k mask ∙ c.loop-k.invariant.long;
       done =
-          take_more_set out k mask (omega arith) ∙ (λ t. c.loop-k.invariant.done t ++ c.join_mask.ensures t ∷ [])
-          ∙ sym (map-append (joined_mask c.args.masks.now c.args.x) (take k pairs) (get_or pairs k (0, 0) ∷ []))
-          ∙ ap (map (joined_mask c.args.masks.now c.args.x)) (sym (take_more pairs k (0, 0) (omega arith)));
+          take_more_set c.loop-k.joined.items c.loop-k.k mask (omega arith) ∙ (λ t. c.loop-k.invariant.done t ++ c.join_mask.ensures t ∷ [])
+          ∙ sym (map-append (joined_mask c.args.masks.now c.args.x) (take c.loop-k.k pairs) (get_or pairs c.loop-k.k (0, 0) ∷ []))
+          ∙ ap (map (joined_mask c.args.masks.now c.args.x)) (sym (take_more pairs c.loop-k.k (0, 0) (omega arith)));
     }
 
 pub returns : goal.returns
 returns c =
-    let o = c.loop-k.invariant.long in
-    let t = c.loop-k-test.false in
     sym (take_all c.loop-k.k c.loop-k.joined.items (omega arith)) ∙ c.loop-k.invariant.done
     ∙ ap (map (joined_mask c.args.masks.now c.args.x)) (take_all c.loop-k.k c.args.pairs.now (omega arith))

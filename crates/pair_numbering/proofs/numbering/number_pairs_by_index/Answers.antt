@@ -19,7 +19,6 @@ pub returns : goal.returns
 returns c =
     let ps = places.pairs c.args.numbers.now (2 ^ c.args.rank) in
     let join = joined_mask c.args.masks.now c.args.x in
-    let numbers = c.deref.result.now in
     let pairs = c.in_ok-pairs.pairs.items in
     let n = c.deref.ensures.value in
     let e = c.of_table-entries.ensures in
@@ -27,6 +26,6 @@ returns c =
     let joined = c.in_ok-joined.ensures ∙ ap (map join) c.deref-2.ensures.value in
     record {
       numbers_are = c.in_ok-indexed.ensures ∙ (λ i. ranks same_pair (places.pairs (e.numbers i) (2 ^ e.rank i)));
-      many = ap length joined ∙ masks_many ps numbers pairs m.numbered_are m.many m.told join;
-      told = (λ i. map (λ k. get_or (joined i) k 0) (sym n i)) ∙ masks_told ps numbers pairs m.numbered_are m.many m.told join;
+      many = ap length joined ∙ masks_many ps c.deref.result.now pairs m.numbered_are m.many m.told join;
+      told = (λ i. map (λ k. get_or (joined i) k 0) (sym n i)) ∙ masks_told ps c.deref.result.now pairs m.numbered_are m.many m.told join;
     }

@@ -17,25 +17,17 @@ loop-j-init c = record {
 pub overflow_cast-number : goal.overflow_cast-number
 overflow_cast-number c =
     let cs = c.args.entries.now.numbers in
-    let here = c.pair.ensures in
-    let h = c.len-half.ensures.count in
-    let t = c.loop-j-test.true in
-    let small : c.loop-j.j < length cs / 2 = omega arith in
-    let n = c.in_ok-number.ensures.index ∙ ap (λ k. position_or_len (same_pair k) c.loop-j.seen.keys) here in
-    let l = number_small cs (2 ^ c.args.entries.now.rank) c.loop-j.j small c.loop-j.seen.keys c.loop-j.invariant.seen in
-    let f = c.len-half.ensures.few in
+    let n = c.in_ok-number.ensures.index ∙ ap (λ k. position_or_len (same_pair k) c.loop-j.seen.keys) c.pair.ensures in
+    let l = number_small cs (2 ^ c.args.entries.now.rank) c.loop-j.j (omega arith) c.loop-j.seen.keys c.loop-j.invariant.seen in
     omega arith
 
 pub loop-j-preserved : goal.loop-j-preserved
 loop-j-preserved c =
     let cs = c.args.entries.now.numbers in
-    let here = c.pair.ensures in
-    let h = c.len-half.ensures.count in
-    let t = c.loop-j-test.true in
     let small : c.loop-j.j < length cs / 2 = omega arith in
-    let n = c.in_ok-number.ensures.index ∙ ap (λ k. position_or_len (same_pair k) c.loop-j.seen.keys) here in
+    let n = c.in_ok-number.ensures.index ∙ ap (λ k. position_or_len (same_pair k) c.loop-j.seen.keys) c.pair.ensures in
     let k = c.in_ok-number.ensures.keys
-    ∙ ap (λ k. if list_any (same_pair k) c.loop-j.seen.keys then c.loop-j.seen.keys else c.loop-j.seen.keys ++ k ∷ []) here in
+    ∙ ap (λ k. if list_any (same_pair k) c.loop-j.seen.keys then c.loop-j.seen.keys else c.loop-j.seen.keys ++ k ∷ []) c.pair.ensures in
     record {
       seen = subst (λ ks. Numbers same_pair pair_decides ks (take (c.loop-j.j + 1) (places.pairs cs (2 ^ c.args.entries.now.rank)))) (sym k)
           (seen_more cs (2 ^ c.args.entries.now.rank) c.loop-j.j small c.loop-j.seen.keys c.loop-j.invariant.seen);
@@ -47,4 +39,4 @@ loop-j-preserved c =
 
 pub returns : goal.returns
 returns c = c.loop-j.invariant.done ∙ all_done c.args.entries.now.numbers (2 ^ c.args.entries.now.rank) c.loop-j.j
-    (let h = c.len-half.ensures.count in let t = c.loop-j-test.false in omega arith)
+    (omega arith)

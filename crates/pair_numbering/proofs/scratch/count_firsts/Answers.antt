@@ -1,6 +1,4 @@
-use Rattle.std.proofs.Common.{◌≡◌, ◌+◌, ◌/◌, ◌<◌, ◌^◌, get_or, length, sym, ap, ◌∙◌, subst, arith}
-use Rattle.std.specs.Int.{bit_at}
-use Rattle.std.proofs.lemmas.Nat.Bits.{bit_at-lt}
+use Rattle.std.proofs.Common.{◌+◌, ◌/◌, ◌<◌, ◌^◌, get_or, length, sym, ap, ◌∙◌, subst, arith}
 use Rattle.class_laws.specs.Numbering.{IsFirstOccurrence}
 use Rattle.class_laws.specs.Dependence.{joined_mask}
 use Rattle.class_laws.specs.Places as places
@@ -18,22 +16,16 @@ loop-j-preserved c =
     let ps = places.pairs cs step in
     let j = c.loop-j.j in
     let lp = length-pairs cs step in
-    let t = c.loop-j-test.true in
-    let long = c.requires.first.long in
     let small : j < length cs / 2 = omega arith in
     let listed : j < length ps = omega arith in
     let first = first_listed cs step j (get_or c.args.first.now j 0) small (c.requires.first.each j small) in
     elim c.if-f-j.branch [
       | then-f-j w ↦
           let m = w.join_mask-mask.ensures ∙ ap (joined_mask masks x) (w.pair.ensures ∙ sym (pair_listed cs step j small)) in
-          let l = bit_at-lt w.join_mask-mask.result x in
-          let b : w.from-count.result ≡ bit_at w.join_mask-mask.result x = grind arith in
           subst (λ k. Counting ps masks x k (j + 1)) (sym w.count-is)
           (counting_first ps masks x c.loop-j.count w.from-count.result j w.join_mask-mask.result listed
-          (subst (IsFirstOccurrence (λ i. get_or ps i (0, 0)) j) w.if-f-j.true first) m b c.loop-j.invariant)
+          (subst (IsFirstOccurrence (λ i. get_or ps i (0, 0)) j) w.if-f-j.true first) m (grind arith) c.loop-j.invariant)
       | else-f-j w ↦
-          let before = first.before in
-          let other = w.if-f-j.false in
           subst (λ k. Counting ps masks x k (j + 1)) (sym w.count-is)
           (counting_again ps masks x c.loop-j.count j (get_or c.args.first.now j 0) listed first (omega arith) c.loop-j.invariant)
     ]
@@ -42,7 +34,7 @@ pub returns : goal.returns
 returns c =
     let cs = c.args.pairs.now.entries.now.numbers in
     let step = 2 ^ c.args.pairs.now.entries.now.rank in
-    let lp = length-pairs cs step in
-    let t = c.loop-j-test.false in
-    let long = c.requires.first.long in
-    counting_all (places.pairs cs step) c.args.pairs.now.masks.now c.args.pairs.now.x c.loop-j.count c.loop-j.j (omega arith) c.loop-j.invariant
+    counting_all (places.pairs cs step) c.args.pairs.now.masks.now c.args.pairs.now.x c.loop-j.count c.loop-j.j (omega (
+      arith,
+      length-pairs cs step,
+    )) c.loop-j.invariant

@@ -16,25 +16,24 @@ loop-i-init c =
 
 -- so many homes there are
 homes_are : (cs : List ℕ) (step slots : ℕ) → slots ≡ 4 * length (places.pairs cs step) + 64 → slots - 64 ≡ 4 * (length cs / 2)
-homes_are cs step slots room = let l = length-pairs cs step in omega arith
+homes_are cs step slots room = omega (arith, length-pairs cs step)
 
 -- there is a key for each pair
 count_inside : {ps : List (ℕ × ℕ)} {home : ℕ × ℕ → ℕ} {slots : List ℕ} {keys : List (ℕ × ℕ)} {out : List ℕ} {count j : ℕ} →
     Slotted ps home slots keys out count j → j < length ps → count < length keys
-count_inside h l = let few = h.few in let long = h.long_keys in omega arith
+count_inside h l = omega arith
 
 -- a table with a pair has homes, and not too many
 some_homes : (cs : List ℕ) (step slots j : ℕ) → slots ≡ 4 * length (places.pairs cs step) + 64 → j < length (places.pairs cs step) → 0 < slots - 64
 some_homes cs step slots j room l = omega arith
 
 few_homes : (cs : List ℕ) (step slots : ℕ) → slots ≡ 4 * length (places.pairs cs step) + 64 → length cs ≤ 2 ^ 20 → slots - 64 ≤ 2 ^ 21
-few_homes cs step slots room l = let e = homes_are cs step slots room in omega arith
+few_homes cs step slots room l = omega (arith, homes_are cs step slots room)
 
 pub bounds-keys-count : goal.bounds-keys-count
 bounds-keys-count c =
     let w = in_step c.rank.ensures.paired c.rank.ensures.rank c.requires.block c.loop-i-test.true in
-    let small = listed_inside c.rank.ensures.paired w in
-    count_inside c.loop-i.invariant small
+    count_inside c.loop-i.invariant (listed_inside c.rank.ensures.paired w)
 
 pub home-requires-clause-some : goal.home-requires-clause-some
 home-requires-clause-some c =
@@ -47,17 +46,13 @@ home-requires-clause-few c =
     few_homes c.args.entries.now.numbers (2 ^ c.args.entries.now.rank) (length c.args.slots.now) c.requires.before.room c.requires.few
 
 pub find_slot-requires-clause-keys : goal.find_slot-requires-clause-keys
-find_slot-requires-clause-keys c =
-    let w = in_step c.rank.ensures.paired c.rank.ensures.rank c.requires.block c.loop-i-test.true in
-    let small = listed_inside c.rank.ensures.paired w in
-    subst (λ n. c.loop-i.count < n) (sym (length-set c.loop-i.keys c.loop-i.count _)) (count_inside c.loop-i.invariant small)
+find_slot-requires-clause-keys c = search (in_step, listed_inside, length-set, count_inside)
 
 pub bounds-out-block : goal.bounds-out-block
 bounds-out-block c =
     let w = in_step c.rank.ensures.paired c.rank.ensures.rank c.requires.block c.loop-i-test.true in
-    let small = listed_inside c.rank.ensures.paired w in
     let e = place_is c.rank.ensures.paired c.args.block c.loop-i.i c.rank.ensures.rank in
-    subst (λ z. z) (λ i. sym e i < sym c.loop-i.invariant.made.long i) small
+    subst (λ z. z) (λ i. sym e i < sym c.loop-i.invariant.made.long i) (listed_inside c.rank.ensures.paired w)
 
 pub loop-i-preserved : goal.loop-i-preserved
 loop-i-preserved c =
@@ -71,12 +66,11 @@ loop-i-preserved c =
     let out = c.loop-i.out in
     let count = c.loop-i.count in
     let at = c.in_ok-at.at in
-    let paired = c.rank.ensures.paired in
-    let w = in_step paired c.rank.ensures.rank c.requires.block c.loop-i-test.true in
-    let small = listed_inside paired w in
+    let w = in_step c.rank.ensures.paired c.rank.ensures.rank c.requires.block c.loop-i-test.true in
+    let small = listed_inside c.rank.ensures.paired w in
     let here : ℕ × ℕ = (get_or c.block.result.low.now c.loop-i.i 0, get_or c.block.result.high.now c.loop-i.i 0) in
     let p : here ≡ get_or ps j (0, 0) = c.block.ensures.pairs c.loop-i.i w.early in
-    let written = place_is paired c.args.block c.loop-i.i c.rank.ensures.rank in
+    let written = place_is c.rank.ensures.paired c.args.block c.loop-i.i c.rank.ensures.rank in
     let next : j + 1 ≡ c.args.block * 2 ^ rank + (c.loop-i.i + 1) = omega arith in
     let begin = c.home.ensures.place ∙ ap (λ n. home_of n here) (homes_are cs (2 ^ rank) (length c.args.slots.now) c.requires.before.room) ∙ ap place p in
     let found : IsSlot slots (set keys count (get_or ps j (0, 0))) count (get_or ps j (0, 0)) (place (get_or ps j (0, 0))) at =
@@ -96,13 +90,4 @@ loop-i-preserved c =
     ]
 
 pub returns : goal.returns
-returns c =
-    let rank = c.args.entries.now.rank in
-    let s = step_is c.rank.ensures.paired c.rank.ensures.rank in
-    let t = c.loop-i-test.false in
-    let u = c.loop-i.auto.i-end in
-    let e : c.loop-i.i ≡ 2 ^ rank = omega (arith, s, t, u) in
-    subst
-    (Slotted (places.pairs c.args.entries.now.numbers (2 ^ rank)) (home_of (4 * (length c.args.entries.now.numbers / 2))) c.loop-i.slots
-    c.loop-i.keys c.loop-i.out c.loop-i.count)
-    (ap (λ z. c.args.block * 2 ^ rank + z) e ∙ block_next (2 ^ rank) c.args.block) c.loop-i.invariant
+returns c = grind (arith, step_is, block_next)

@@ -40,8 +40,6 @@ strip_at-requires-2-clause-inside c =
 
 pub returns-clause-pairs : goal.returns-clause-pairs
 returns-clause-pairs c i h =
-    let numbers = c.args.self.now.numbers in
-    let rank = c.args.self.now.rank in
     let inside = subst (λ t. c.args.block < length t.numbers / 2 / 2 ^ t.rank) (sym c.self.view_is) c.requires in
     let m : i < 2 ^ c.self.inside.rank = subst (λ t. i < 2 ^ t.rank) (sym c.self.view_is) h in
     let p = subst (λ t. IsPaired t.numbers t.rank) c.self.view_is
@@ -54,4 +52,4 @@ returns-clause-pairs c i h =
     ∙ ap (λ (q : ℕ × ℕ). get_or c.self.inside.numbers.now (q.1 * 2 ^ c.self.inside.rank + i) 0) c.strips_of-low.ensures
     ∙ laid_high (λ r. r.now) c.self.inside.names c.self.inside.numbers.now c.self.inside.rank c.args.block i c.self.invariant inside m
     ∙ ap (λ t. get_or t.numbers (c.args.block * (2 * 2 ^ t.rank) + i + 2 ^ t.rank) 0) c.self.view_is in
-    (λ k. (low k, high k)) ∙ sym (block_pair numbers rank c.args.block i p.whole c.requires h)
+    (λ k. (low k, high k)) ∙ sym (block_pair c.args.self.now.numbers c.args.self.now.rank c.args.block i p.whole c.requires h)
