@@ -21,17 +21,12 @@ module _ (n number : ℕ) (text : List ℕ) (pre : List (List (List ℕ))) (know
   cells_asked : length pre ≡ cells_place (pre ++ said text) →
       section_judges (codes "cells") (2 ^ n - 1) (is_cell n) cell_key_of (pre ++ said text) (length pre) ≡ cells_judges (pre ++ said text)
       (cells_place (pre ++ said text))
-  cells_asked place =
-      ap (λ k. section_judges (codes "cells") (2 ^ k - 1) (is_cell k) cell_key_of (pre ++ said text) (length pre)) (sym known)
-      ∙ ap (cells_judges (pre ++ said text)) place
+  cells_asked place = search codes
 
   -- and of pairs, in format 2
   pairs_asked : length pre ≡ 6 → number_said (pre ++ said text) 0 ≡ 2 →
       section_judges (codes "pairs") most_pairs (is_pair n) pair_key_of (pre ++ said text) (length pre) ≡ pairs_judges (pre ++ said text)
-  pairs_asked six two =
-      ap (λ k. section_judges (codes "pairs") most_pairs (is_pair k) pair_key_of (pre ++ said text) (length pre)) (sym known)
-      ∙ ap (section_judges (codes "pairs") most_pairs (is_pair (inputs_said (pre ++ said text))) pair_key_of (pre ++ said text)) six
-      ∙ rw two refl
+  pairs_asked six two = search codes
 
 -- listed sets, and the end
 pub sets_fail : (n number : ℕ) (text : List ℕ) (after : ℕ) (rest : List ℕ) (fault : CertFault)

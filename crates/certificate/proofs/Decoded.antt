@@ -1,5 +1,5 @@
 -- The certificate that lines of words say, and what is asked of its lines.
-use Rattle.std.proofs.Common.{◌≡◌, ℕ, ◌+◌, ◌-◌, ◌^◌, ◌≤◌, ◌<◌, refl, sym, ◌∙◌, ap, subst, Bool, true, List, [], ◌∷◌, ◌++◌, length, map, take, drop, get_or, decimal, None, arith, lit<}
+use Rattle.std.proofs.Common.{◌≡◌, ℕ, ◌+◌, ◌-◌, ◌^◌, ◌≤◌, ◌<◌, refl, ◌∙◌, ap, Bool, true, List, [], ◌∷◌, ◌++◌, length, map, take, drop, get_or, decimal, None, arith, lit<}
 use Rattle.std.specs.List.{AllByRecursion, AllPairs}
 use Rattle.std.proofs.lemmas.List.{length-map, length-append}
 use Rattle.std.proofs.Math.Seq.{take-append_seam, drop-append-add, get_or-append_seam}
@@ -33,10 +33,7 @@ pair_kind n some small = record { written = written; back = back; told = told } 
   told : (a b : List ℕ) → is_pair n a b ≡ true →
       (pair_words (read_pair (a ∷ b ∷ [])) ≡ a ∷ b ∷ []) × IsPair n (read_pair (a ∷ b ∷ []))
       × (pair_key (read_pair (a ∷ b ∷ [])) ≡ pair_key_of a b)
-  told a b e =
-      let t = both_are _ _ e in let first = decimal_is 0 (n - 1) a t.0 in let second = decimal_is 0 (n - 1) b t.1 in
-      let above = first.1.1 in let below = second.1.1 in
-      (rw first.0 (rw second.0 refl), (omega arith, omega arith), refl)
+  told a b e = grind (arith, decimal_is)
 
 pub cell_kind : (n : ℕ) → n ≤ 16 → IsKind cell_words read_cell mask_key (IsCell n) (is_cell n) cell_key_of
 cell_kind n small = record { written = written; back = back; told = told } where
@@ -52,26 +49,19 @@ cell_kind n small = record { written = written; back = back; told = told } where
 
   back : (c : Cell) → IsCell n c → read_cell (cell_words c) ≡ c
   back c is = let mask = is.mask in let cost = is.cost in let top = power_small n small in
-      rw (hex_back c.mask (omega arith)) (rw (decimal_back c.cost (omega (arith, cost))) refl)
+      rw (hex_back c.mask (omega arith)) (rw (decimal_back c.cost (omega arith)) refl)
 
   told : (a b : List ℕ) → is_cell n a b ≡ true →
       (cell_words (read_cell (a ∷ b ∷ [])) ≡ a ∷ b ∷ []) × IsCell n (read_cell (a ∷ b ∷ []))
       × (mask_key (read_cell (a ∷ b ∷ [])) ≡ cell_key_of a b)
-  told a b e =
-      let t = both_are _ _ e in let first = mask_is n a t.0 in let second = decimal_is 0 most_nodes b t.1 in
-      (rw first.0 (rw second.0 refl), record { mask = first.1; cost = second.1.1 }, refl)
+  told a b e = let t = both_are _ _ e in let first = mask_is n a t.0 in grind (arith, decimal_is)
 
 -- lines that stand between others
 pub stand_behind : (is_entry : List ℕ → List ℕ → Bool) (key : List ℕ → List ℕ → ℕ) (pre es post : List (List (List ℕ))) →
     StandAt is_entry key (pre ++ (es ++ post)) (length pre) es
 stand_behind is_entry key pre [] post = tt
 stand_behind is_entry key pre (e ∷ es) post =
-    let same : (pre ++ e ∷ []) ++ (es ++ post) ≡ pre ++ (e ∷ (es ++ post)) = append_assoc pre (e ∷ []) (es ++ post) in
-    let long : length (pre ++ e ∷ []) ≡ length pre + 1 = length-append pre (e ∷ []) in
-    let more = stand_behind is_entry key (pre ++ e ∷ []) es post in
-    let moved : StandAt is_entry key (pre ++ (e ∷ (es ++ post))) (length (pre ++ e ∷ [])) es =
-    subst (λ ws. StandAt is_entry key ws (length (pre ++ e ∷ [])) es) same more in
-    (get_or-append_seam pre e (es ++ post) [], subst (λ k. StandAt is_entry key (pre ++ (e ∷ (es ++ post))) k es) long moved)
+    grind (arith, length-append, append_assoc, get_or-append_seam, stand_behind is_entry key (pre ++ e ∷ []) es post)
 
 module _ {E : Type 0} (write : E → List (List ℕ)) (read : List (List ℕ) → E) (key_of : E → ℕ) (Is : E → Type 0)
     (is_entry : List ℕ → List ℕ → Bool) (key : List ℕ → List ℕ → ℕ)
@@ -79,10 +69,7 @@ module _ {E : Type 0} (write : E → List (List ℕ)) (read : List (List ℕ) �
   -- the number of entries that stands in a section's first line
   count_said : (pre post entries : List (List (List ℕ))) → length entries < 2 ^ 64 →
       number_said (pre ++ (section name entries ++ post)) (length pre) ≡ length entries
-  count_said pre post entries few =
-      ap (λ (ws : List (List ℕ)). number_of (get_or ws 1 []))
-      (get_or-append_seam pre (field name (length entries ∷ [])) (entries ++ post) [])
-      ∙ decimal_back (length entries) few
+  count_said pre post entries few = search (get_or-append_seam, decimal_back)
 
   -- a section that is spelled passes
   pub section_passes : (pre post : List (List (List ℕ))) (es : List E) → length es ≤ most → AllByRecursion Is es → AllPairs (λ a b. key_of a < key_of b) es →
@@ -91,22 +78,15 @@ module _ {E : Type 0} (write : E → List (List ℕ)) (read : List (List ℕ) �
       let ws = pre ++ (section name (map write es) ++ post) in
       let long : length (map write es) ≡ length es = length-map es write in
       let stand = stand_behind is_entry key pre (section name (map write es)) post in
-      let count = count_said pre post (map write es) (omega (arith, fits, few, long)) in
-      let head = field_passes name 1 0 most (length (map write es) ∷ []) refl fits ((omega arith, omega (arith, long, few)), tt) in
-      let from : length pre + 1 ≡ length pre + 1 = refl in
+      let count = count_said pre post (map write es) (omega arith) in
+      let head = field_passes name 1 0 most (length (map write es) ∷ []) refl fits ((omega arith, omega arith), tt) in
       let are = write_entries write read key_of Is is_entry key kind None es all (pairs_rise key_of es rising) in
       (head, rw count (entries_pass is_entry key ws (length pre + 1) (length pre + 1) None (map write es) refl stand.1 are))
 
   -- and its entries are read back
   pub section_back : (pre post : List (List (List ℕ))) (es : List E) → length es ≤ most → AllByRecursion Is es →
       section_said read (pre ++ (section name (map write es) ++ post)) (length pre) ≡ es
-  section_back pre post es few all =
-      let ws = pre ++ (section name (map write es) ++ post) in
-      let long : length (map write es) ≡ length es = length-map es write in
-      let count = count_said pre post (map write es) (omega (arith, fits, few, long)) in
-      let behind : drop (length pre + 1) ws ≡ map write es ++ post = drop-append-add pre (section name (map write es) ++ post) 1 in
-      ap (map read) (ap (λ k. take k (drop (length pre + 1) ws)) count ∙ ap (take (length (map write es))) behind ∙ take-append_seam (map write es) post)
-      ∙ read_back write read key_of Is is_entry key kind es all
+  section_back pre post es few all = grind (arith, count_said, length-map, drop-append-add, take-append_seam, read_back)
 
   -- a section that passes is spelled
   pub record IsSection (ws vs : List (List (List ℕ))) (at : ℕ) : Type 0 where
@@ -126,7 +106,7 @@ module _ {E : Type 0} (write : E → List (List ℕ)) (read : List (List ℕ) �
       let are = entries_are is_entry key ws (length pre + 1) (length pre + 1) None es refl stand.1 (number_said ws (length pre)) pass in
       let behind : drop (length pre + 1) ws ≡ es ++ post = drop-append-add pre ((head ∷ es) ++ post) 1 in
       let taken : take (number_said ws (length pre)) (drop (length pre + 1) ws) ≡ es =
-      ap (λ k. take k (drop (length pre + 1) ws)) (sym are.1) ∙ ap (take (length es)) behind ∙ take-append_seam es post in
+      grind (arith, take-append_seam) in
       let said = read_entries write read key_of Is is_entry key kind None es are.0 in
       let many : length es ≡ number_of (get_or head 1 []) = are.1 ∙ count in
       let first : field name (length es ∷ []) ≡ head = rw many line.0 in
@@ -134,7 +114,7 @@ module _ {E : Type 0} (write : E → List (List ℕ)) (read : List (List ℕ) �
       let is : section_said read ws (length pre) ≡ map read es = ap (map read) taken in
       record {
         lines_are = rw is (rw said.0 (rw first refl));
-        few = rw is (omega (arith, length-map es read, many, bound));
+        few = rw is (omega (arith, length-map es read));
         all = rw is said.1;
         rise = rw is (rise_pairs key_of None (map read es) said.2);
       }

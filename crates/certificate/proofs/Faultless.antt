@@ -1,9 +1,7 @@
 -- A text without a fault is the spelling of the certificate that it says.
-use Rattle.std.proofs.Common.{◌≡◌, ℕ, ◌+◌, ◌-◌, ◌^◌, ◌≤◌, ◌<◌, refl, sym, ◌∙◌, ap, subst, Bool, true, false, cond, ◌==◌, nat_lt, inl, inr, ◌⊎◌, List, [], ◌∷◌, ◌++◌, length, map, take, drop, get_or, codes, Option, None, Some, arith, lit<}
+use Rattle.std.proofs.Common.{◌≡◌, ℕ, ◌+◌, ◌-◌, ◌^◌, ◌≤◌, ◌<◌, refl, sym, ◌∙◌, ap, subst, Bool, true, false, cond, ◌==◌, inl, inr, ◌⊎◌, List, [], ◌∷◌, ◌++◌, length, map, take, drop, get_or, codes, Option, None, Some, arith, lit<}
 use Rattle.std.specs.List.{AllByRecursion, AllPairs, flat_map}
 use Rattle.std.specs.Fmt.{digits}
-use Rattle.std.specs.Cmp.Lexicographic.{pointwise}
-use Rattle.std.proofs.lemmas.Bool.Decides.{nat_tests}
 use Rattle.std.proofs.lemmas.List.{length-map, length-take, length-append, append-nil, take-append-drop}
 use Rattle.std.proofs.lemmas.List.Elements.{All-from_recursion}
 use Rattle.std.proofs.lemmas.List.Splits.{join_with_byte-slice_split}
@@ -12,13 +10,13 @@ use Rattle.order_model.specs.Pairs.{Pair}
 use Rattle.order_model.specs.Certificates.{Certificate, Cell}
 use Rattle.certificate.specs.declared.faults.LineFault.{LineFault}
 use Rattle.certificate.specs.Spelling.{most_nodes, most_pairs, field, section, pair_words, pair_lines, cell_words, pair_key, IsPair, IsCell, word_lines, text_line, spelling, HasSpelling}
-use Rattle.order_model.specs.Texts.{same, number_of}
+use Rattle.order_model.specs.Texts.{number_of}
 use Rattle.certificate.specs.Faults.{whole_lines, onto_line, words, said, number_said, inputs_said, is_pair, is_cell, pair_key_of, cell_key_of, title_fault, fixed_fault, section_judges, pairs_judges, cells_judges, judges, LineTest, numbered, line_faults, with_feeds, trailing, faults, Spells, FirstCertFault}
 use Rattle.certificate.proofs.WordLines.{decimal_back}
 use Rattle.certificate.proofs.Judges.{Pass, pass_length, all_same_is, IsFrom, field_is, one_number}
 use Rattle.certificate.proofs.Spelled.{no_fault}
-use Rattle.certificate.specs.Decoded.{read_pair, read_cell, mask_key, section_said, cells_place, cert_of}
-use Rattle.certificate.proofs.Decoded.{pair_kind, cell_kind, IsSection, section_is}
+use Rattle.certificate.specs.Decoded.{read_pair, read_cell, mask_key, cells_place, cert_of}
+use Rattle.certificate.proofs.Decoded.{pair_kind, cell_kind, section_is}
 use Rattle.order_model.proofs.Bits.Masks.{power_small}
 
 -- lines without a fault pass
@@ -26,13 +24,13 @@ none_pass : (number : ℕ) (js : List LineTest) (ws : List (List (List ℕ))) �
     (vs : List (List (List ℕ))) × (us : List (List (List ℕ))) × (ws ≡ vs ++ us) × Pass js vs
 unfolding line_faults
 none_pass number [] ws none = ([], ws, refl, refl)
-none_pass number (j ∷ js) [] none = absurd (cc (none))
+none_pass number (j ∷ js) [] none = absurd (cc none)
 none_pass number (j ∷ js) (line ∷ ws) none = by (j line) refl none (none_pass (number + 1) js ws) where
   by : (f : Option LineFault) → j line ≡ f → numbered number f ++ line_faults (number + 1) js ws ≡ [] →
       (line_faults (number + 1) js ws ≡ [] → (vs : List (List (List ℕ))) × (us : List (List (List ℕ))) × (ws ≡ vs ++ us) × Pass js vs) →
       (vs : List (List (List ℕ))) × (us : List (List (List ℕ))) × (line ∷ ws ≡ vs ++ us) × Pass (j ∷ js) vs
   by None is rest others = let more = others rest in (line ∷ more.0, more.1, ap (λ xs. line ∷ xs) more.2, (is, more.3))
-  by (Some fault) is rest others = absurd (cc (rest))
+  by (Some fault) is rest others = absurd (cc rest)
 
 -- the text of its whole lines, and what follows the last of them
 behind_lines : (text : List ℕ) → (rest : List ℕ) × (text ≡ with_feeds (whole_lines text) ++ rest)
@@ -41,7 +39,7 @@ behind_lines [] = ([], refl)
 behind_lines (b ∷ text) = by (b == 10) refl (behind_lines text) where
   by : (t : Bool) → (b == 10) ≡ t → (rest : List ℕ) × (text ≡ with_feeds (whole_lines text) ++ rest) →
       (rest : List ℕ) × (b ∷ text ≡ with_feeds (cond (b == 10) ([] ∷ whole_lines text) (onto_line b (whole_lines text))) ++ rest)
-  by true is (rest, e) = (rest, rw is (let feed : b ≡ 10 = grind (arith, nat_tests) in rw feed (ap (λ xs. 10 ∷ xs) e)))
+  by true is (rest, e) = (rest, rw is (let feed : b ≡ 10 = grind arith in rw feed (ap (λ xs. 10 ∷ xs) e)))
   by false is (rest, e) = onto (whole_lines text) refl where
     onto : (lines : List (List ℕ)) → whole_lines text ≡ lines →
         (rest : List ℕ) × (b ∷ text ≡ with_feeds (cond (b == 10) ([] ∷ whole_lines text) (onto_line b (whole_lines text))) ++ rest)
@@ -56,11 +54,7 @@ feeds_append (x ∷ xs) ys = ap (λ more. (x ++ 10 ∷ []) ++ more) (feeds_appen
 -- where nothing follows the first lines, these are all
 none_behind : (count : ℕ) (text : List ℕ) → trailing count text ≡ [] → length text ≤ length (with_feeds (take count (whole_lines text)))
 unfolding trailing
-none_behind count text none = by (nat_lt (length (with_feeds (take count (whole_lines text)))) (length text)) refl where
-  by : (t : Bool) → nat_lt (length (with_feeds (take count (whole_lines text)))) (length text) ≡ t →
-      length text ≤ length (with_feeds (take count (whole_lines text)))
-  by true is = absurd (let wrong = rw is at none in cc)
-  by false is = grind (arith, nat_tests)
+none_behind count text none = grind arith
 
 no_more : (line : List ℕ) (lines : List (List ℕ)) → 0 < length (with_feeds (line ∷ lines))
 no_more line lines = omega (arith, length-append (line ++ 10 ∷ []) (with_feeds lines), length-append line (10 ∷ []))
@@ -79,24 +73,19 @@ all_are_taken : (count : ℕ) (text : List ℕ) → trailing count text ≡ [] �
 all_are_taken count text none =
     let b = behind_lines text in let lines = whole_lines text in
     let split : take count lines ++ drop count lines ≡ lines = take-append-drop count lines in
-    let parts : text ≡ (with_feeds (take count lines) ++ with_feeds (drop count lines)) ++ b.0 = b.1
-    ∙ ap (λ ls. with_feeds ls ++ b.0) (sym split) ∙ ap (λ xs. xs ++ b.0) (feeds_append (take count lines) (drop count lines)) in
+    let parts : text ≡ (with_feeds (take count lines) ++ with_feeds (drop count lines)) ++ b.0 = grind (arith, feeds_append) in
     let sizes : length text ≡ (length (with_feeds (take count lines)) + length (with_feeds (drop count lines))) + length b.0 =
-    ap length parts ∙ length-append (with_feeds (take count lines) ++ with_feeds (drop count lines)) b.0
-    ∙ ap (λ k. k + length b.0) (length-append (with_feeds (take count lines)) (with_feeds (drop count lines))) in
+    grind (arith, length-append) in
     let bound = none_behind count text none in
-    let no_lines : drop count lines ≡ [] = empty_lines (drop count lines) (omega (arith, sizes, bound)) in
-    let no_rest : b.0 ≡ [] = empty b.0 (omega (arith, sizes, bound)) in (
-      sym (append-nil (take count lines)) ∙ ap (λ xs. take count lines ++ xs) (sym no_lines) ∙ split,
-      b.1 ∙ ap (λ xs. with_feeds lines ++ xs) no_rest ∙ append-nil (with_feeds lines) ∙ sym (joined_back lines),
-    ) where
+    let no_lines : drop count lines ≡ [] = empty_lines (drop count lines) (omega arith) in
+    let no_rest : b.0 ≡ [] = empty b.0 (omega arith) in grind (arith, append-nil, joined_back) where
       empty_lines : (ls : List (List ℕ)) → length (with_feeds ls) ≡ 0 → ls ≡ []
       empty_lines [] e = refl
-      empty_lines (l ∷ ls) e = absurd (omega (arith, e, no_more l ls))
+      empty_lines (l ∷ ls) e = absurd (omega (arith, no_more l ls))
 
       empty : (xs : List ℕ) → length xs ≡ 0 → xs ≡ []
       empty [] e = refl
-      empty (x ∷ xs) e = absurd (omega (arith, e))
+      empty (x ∷ xs) e = absurd (omega arith)
 
 -- a pass in parts
 pass_split : (js ks : List LineTest) (ws : List (List (List ℕ))) → Pass (js ++ ks) ws →
@@ -110,22 +99,11 @@ pass_split (j ∷ js) ks (line ∷ ws) (here, pass) = let more = pass_split js k
 title_is : (line : List (List ℕ)) → title_fault line ≡ None →
     (line ≡ field (codes "bddorder-certificate") (1 ∷ [])) ⊎ (line ≡ field (codes "bddorder-certificate") (2 ∷ []))
 unfolding digits
-title_is line none =
-    by (pointwise same line (codes "bddorder-certificate" ∷ codes "1" ∷ []))
-    (pointwise same line (codes "bddorder-certificate" ∷ codes "2" ∷ [])) refl refl where
-      by : (s t : Bool) → pointwise same line (codes "bddorder-certificate" ∷ codes "1" ∷ []) ≡ s →
-          pointwise same line (codes "bddorder-certificate" ∷ codes "2" ∷ []) ≡ t →
-          (line ≡ field (codes "bddorder-certificate") (1 ∷ [])) ⊎ (line ≡ field (codes "bddorder-certificate") (2 ∷ []))
-      by true t es et = inl (all_same_is line (codes "bddorder-certificate" ∷ codes "1" ∷ []) es)
-      by false true es et = inr (all_same_is line (codes "bddorder-certificate" ∷ codes "2" ∷ []) et)
-      by false false es et = absurd (let half = rw es at none in let wrong = rw et at half in cc)
+title_is line none = grind (arith, all_same_is)
 
 -- a line of fixed words
 fixed_is : (wanted line : List (List ℕ)) → fixed_fault wanted line ≡ None → line ≡ wanted
-fixed_is wanted line none = by (pointwise same line wanted) refl where
-  by : (t : Bool) → pointwise same line wanted ≡ t → line ≡ wanted
-  by true e = all_same_is line wanted e
-  by false e = absurd (let wrong = rw e at none in cc)
+fixed_is wanted line none = grind (arith, all_same_is)
 
 -- what pairs a text says
 record PairsSaid (n : ℕ) (ws vs : List (List (List ℕ))) : Type 0 where
@@ -135,43 +113,16 @@ record PairsSaid (n : ℕ) (ws vs : List (List (List ℕ))) : Type 0 where
   all : AllByRecursion (IsPair n) (cert_of ws).pairs
   rise : AllPairs (λ (p q : Pair). pair_key p < pair_key q) (cert_of ws).pairs
 
-no_pairs_rise : AllPairs (λ (p q : Pair). pair_key p < pair_key q) []
-no_pairs_rise i j d less within = absurd (omega (arith, within))
-
 pairs_said : (n : ℕ) (pre vs post ws : List (List (List ℕ))) → 1 ≤ n → n ≤ 16 → length pre ≡ 6 → ws ≡ pre ++ (vs ++ post) → inputs_said ws ≡ n →
     (number_said ws 0 ≡ 1) ⊎ (number_said ws 0 ≡ 2) → Pass (pairs_judges ws) vs → PairsSaid n ws vs
-pairs_said n pre vs post ws some few six parts number (inl one) pass =
-    let none : (cert_of ws).pairs ≡ [] = rw one refl in let asked = rw one at pass in
-    record {
-      lines_are = rw one (sym asked);
-      format = inl (one, none);
-      few = rw none (omega arith);
-      all = rw none tt;
-      rise = rw none no_pairs_rise;
-    }
+pairs_said n pre vs post ws some few six parts number (inl one) pass = grind arith
 pairs_said n pre vs post ws some few six parts number (inr two) pass =
-    let asked : Pass (section_judges (codes "pairs") most_pairs (is_pair (inputs_said ws)) pair_key_of ws 6) vs = rw two at pass in
-    let known = subst (λ k. Pass (section_judges (codes "pairs") most_pairs (is_pair k) pair_key_of ws 6) vs) number asked in
+    let known = subst (λ k. Pass (section_judges (codes "pairs") most_pairs (is_pair k) pair_key_of ws 6) vs) number (rw two at pass) in
     let placed = subst (λ at. Pass (section_judges (codes "pairs") most_pairs (is_pair n) pair_key_of ws at) vs) (sym six) known in
     let moved = subst (λ lines. Pass (section_judges (codes "pairs") most_pairs (is_pair n) pair_key_of lines (length pre)) vs) parts placed in
     let is = section_is pair_words read_pair pair_key (IsPair n) (is_pair n) pair_key_of (pair_kind n some few) (codes "pairs") most_pairs
     (lit< tt) pre post vs moved in
-    let back = subst
-    (λ lines. IsSection pair_words read_pair pair_key (IsPair n) (is_pair n) pair_key_of (pair_kind n some few) (codes "pairs")
-    most_pairs (lit< tt) lines vs (length pre))
-    (sym parts) is in
-    let here = subst
-    (λ at. IsSection pair_words read_pair pair_key (IsPair n) (is_pair n) pair_key_of (pair_kind n some few) (codes "pairs") most_pairs
-    (lit< tt) ws vs at)
-    six back in
-    let same : (cert_of ws).pairs ≡ section_said read_pair ws 6 = rw two refl in
-    record {
-      lines_are = rw two here.lines_are;
-      format = inr two;
-      few = rw same here.few;
-      all = rw same here.all;
-      rise = rw same here.rise;
-    }
+    grind arith
 
 -- what listed sets a text says
 record CellsSaid (n : ℕ) (ws cs : List (List (List ℕ))) : Type 0 where
@@ -184,24 +135,15 @@ cells_said : (n : ℕ) (pre vs cs post ws : List (List (List ℕ))) → n ≤ 16
     Pass (pairs_judges ws) vs → Pass (cells_judges ws (cells_place ws)) cs → CellsSaid n ws cs
 cells_said n pre vs cs post ws few six parts number pairs pass =
     let front = pre ++ vs in
-    let place : cells_place ws ≡ length front = ap (λ k. 6 + k) (pass_length (pairs_judges ws) vs pairs) ∙ ap (λ k. k + length vs) (sym six)
-    ∙ sym (length-append pre vs) in
+    let place : cells_place ws ≡ length front = grind (arith, pass_length, length-append) in
     let apart : ws ≡ front ++ (cs ++ post) = parts ∙ sym (append_assoc pre vs (cs ++ post)) in
-    let most_small : 2 ^ n - 1 < 2 ^ 64 = let top = power_small n few in omega (arith, top) in
+    let most_small : 2 ^ n - 1 < 2 ^ 64 = let top = power_small n few in omega arith in
     let known = subst (λ k. Pass (section_judges (codes "cells") (2 ^ k - 1) (is_cell k) cell_key_of ws (cells_place ws)) cs) number pass in
     let placed = subst (λ at. Pass (section_judges (codes "cells") (2 ^ n - 1) (is_cell n) cell_key_of ws at) cs) place known in
     let moved = subst (λ lines. Pass (section_judges (codes "cells") (2 ^ n - 1) (is_cell n) cell_key_of lines (length front)) cs) apart placed in
     let is = section_is cell_words read_cell mask_key (IsCell n) (is_cell n) cell_key_of (cell_kind n few) (codes "cells") (2 ^ n - 1)
     most_small front post cs moved in
-    let back = subst
-    (λ lines. IsSection cell_words read_cell mask_key (IsCell n) (is_cell n) cell_key_of (cell_kind n few) (codes "cells") (2 ^ n - 1)
-    most_small lines cs (length front))
-    (sym apart) is in
-    let here = subst
-    (λ at. IsSection cell_words read_cell mask_key (IsCell n) (is_cell n) cell_key_of (cell_kind n few) (codes "cells") (2 ^ n - 1)
-    most_small ws cs at)
-    (sym place) back in
-    record { lines_are = here.lines_are; few = here.few; all = here.all; rise = here.rise }
+    grind arith
 
 end_is : (last : List (List (List ℕ))) → Pass (fixed_fault (codes "end" ∷ []) ∷ []) last → last ≡ (codes "end" ∷ []) ∷ []
 end_is [] pass = elim pass [ ]
@@ -209,24 +151,10 @@ end_is (line ∷ more) (here, none) = rw (fixed_is (codes "end" ∷ []) line her
 
 -- the number in the first line
 pub format_of : (t : List (List ℕ)) → title_fault t ≡ None → (number_of (get_or t 1 []) ≡ 1) ⊎ (number_of (get_or t 1 []) ≡ 2)
-format_of t title = by (title_is t title) where
-  by : (t ≡ field (codes "bddorder-certificate") (1 ∷ [])) ⊎ (t ≡ field (codes "bddorder-certificate") (2 ∷ [])) →
-      (number_of (get_or t 1 []) ≡ 1) ⊎ (number_of (get_or t 1 []) ≡ 2)
-  by (inl one) = inl (rw one (decimal_back 1 (lit< tt)))
-  by (inr two) = inr (rw two (decimal_back 2 (lit< tt)))
+format_of t title = grind (arith, title_is, decimal_back)
 
 title_back : (t : List (List ℕ)) → title_fault t ≡ None → field (codes "bddorder-certificate") (number_of (get_or t 1 []) ∷ []) ≡ t
-title_back t title = by (title_is t title) where
-  by : (t ≡ field (codes "bddorder-certificate") (1 ∷ [])) ⊎ (t ≡ field (codes "bddorder-certificate") (2 ∷ [])) →
-      field (codes "bddorder-certificate") (number_of (get_or t 1 []) ∷ []) ≡ t
-  by (inl one) =
-      ap (λ k. field (codes "bddorder-certificate") (k ∷ []))
-      (ap (λ (w : List (List ℕ)). number_of (get_or w 1 [])) one ∙ decimal_back 1 (lit< tt))
-      ∙ sym one
-  by (inr two) =
-      ap (λ k. field (codes "bddorder-certificate") (k ∷ []))
-      (ap (λ (w : List (List ℕ)). number_of (get_or w 1 [])) two ∙ decimal_back 2 (lit< tt))
-      ∙ sym two
+title_back t title = grind (arith, title_is, decimal_back)
 
 no_least : (most : ℕ) (ns : List ℕ) → AllByRecursion (IsFrom 0 most) ns → AllByRecursion (λ x. x ≤ most) ns
 no_least most [] all = tt
@@ -241,8 +169,7 @@ by_lines : (cert : Certificate) (t i o r l s : List (List ℕ)) (rest vs cs last
     rest ≡ vs ++ (cs ++ last) →
     word_lines cert ≡ t ∷ i ∷ o ∷ r ∷ l ∷ s ∷ rest
 unfolding word_lines
-by_lines cert t i o r l s rest vs cs last et ei eo er el es ev ec end whole =
-    rw whole (rw end (rw (sym et) (rw (sym ei) (rw (sym eo) (rw (sym er) (rw (sym el) (rw (sym es) (rw (sym ev) (rw (sym ec) refl)))))))))
+by_lines cert t i o r l s rest vs cs last et ei eo er el es ev ec end whole = grind arith
 
 -- what lines that pass say
 record LinesSaid (ws : List (List (List ℕ))) : Type 0 where
@@ -288,9 +215,7 @@ lines_said (t ∷ i ∷ o ∷ r ∷ l ∷ s ∷ rest) (title, (inputs, (outputs,
         cells = All-from_recursion _ _ cells.all;
         cells_rise = cells.rise;
       };
-      lines_are =
-          by_lines (cert_of ws) t i o r l s rest vs cs last (title_back t title) input_line.0 output_line.0 order_line.line_is
-          level_line.line_is total_line.0 said.lines_are cells.lines_are end whole;
+      lines_are = search (by_lines, title_back);
     }
 
 -- a text without a fault
@@ -304,21 +229,14 @@ faultless text none =
     let ws = said text in let js = judges ws in
     let two = both_empty (line_faults 1 js ws) (trailing (length js) text) none in
     let all = all_are_taken (length js) text two.1 in
-    let passed = none_pass 1 js ws two.0 in
-    let count : length js ≡ length passed.0 = pass_length js passed.0 passed.3 in
-    let long : length ws ≡ length passed.0 + length passed.1 = ap length passed.2 ∙ length-append passed.0 passed.1 in
-    let enough : length ws ≤ length js = enough_lines (length js) text all.0 in
-    let nothing : passed.1 ≡ [] = empty passed.1 (omega (arith, count, long, enough)) in
-    let whole : ws ≡ passed.0 = passed.2 ∙ ap (λ xs. passed.0 ++ xs) nothing ∙ append-nil passed.0 in
-    let lines = lines_said ws (subst (Pass js) (sym whole) passed.3) in
-    record { has = lines.has; text_is = all.1 ∙ ap (flat_map text_line) (sym lines.lines_are) } where
+    grind (arith, none_pass, length-append, enough_lines, pass_length, lines_said, append-nil) where
       both_empty : (xs ys : List (ℕ × LineFault)) → xs ++ ys ≡ [] → (xs ≡ []) × (ys ≡ [])
       both_empty [] ys e = (refl, e)
-      both_empty (x ∷ xs) ys e = absurd (cc (e))
+      both_empty (x ∷ xs) ys e = absurd (cc e)
 
       empty : (xs : List (List (List ℕ))) → length xs ≡ 0 → xs ≡ []
       empty [] e = refl
-      empty (x ∷ xs) e = absurd (omega (arith, e))
+      empty (x ∷ xs) e = absurd (omega arith)
 
 -- a text has a fault, or is a spelling
 pub spelled_or_faulty : (text : List ℕ) → ((cert : Certificate) × Spells text cert) ⊎ ((line : ℕ) × (fault : LineFault) × FirstCertFault text line fault)
@@ -330,19 +248,8 @@ spelled_or_faulty text = by (faults text) refl where
 
 -- and not both
 pub spelled_not_faulty : (text : List ℕ) (cert : Certificate) (line : ℕ) (fault : LineFault) → Spells text cert → FirstCertFault text line fault → ⊥
-spelled_not_faulty text cert line fault spells first =
-    let none : faults text ≡ [] = ap faults spells.text_is ∙ no_fault cert spells.has in let some = first.first in
-    absurd (let wrong = sym none ∙ some in cc (wrong))
+spelled_not_faulty text cert line fault spells first = grind (arith, no_fault)
 
 -- one first fault
 pub one_first_fault : (text : List ℕ) (i j : ℕ) (e f : LineFault) → FirstCertFault text i e → FirstCertFault text j f → (i ≡ j) × (e ≡ f)
-one_first_fault text i j e f a b =
-    let same : (i, e) ∷ a.others ≡ (j, f) ∷ b.others = sym a.first ∙ b.first in
-    (ap (λ (fs : List (ℕ × LineFault)). head_number fs) same, ap (λ (fs : List (ℕ × LineFault)). head_fault fs e) same) where
-      head_number : List (ℕ × LineFault) → ℕ
-      head_number [] = 0
-      head_number (x ∷ xs) = x.0
-
-      head_fault : List (ℕ × LineFault) → LineFault → LineFault
-      head_fault [] d = d
-      head_fault (x ∷ xs) d = x.1
+one_first_fault text i j e f a b = grind arith

@@ -1,7 +1,6 @@
 -- What the tests of a certificate's parts say.
-use Rattle.std.proofs.Common.{◌≡◌, ℕ, ◌-◌, ◌^◌, ◌<◌, ◌≤◌, refl, sym, ap, Bool, true, ◌&&◌, nat_lt, nat_le, List, [], ◌∷◌, length, map, Option, None, Some, arith}
+use Rattle.std.proofs.Common.{◌≡◌, ℕ, ◌-◌, ◌^◌, ◌<◌, ◌≤◌, refl, ap, Bool, true, ◌&&◌, nat_lt, List, [], ◌∷◌, length, map, Option, None, Some, arith}
 use Rattle.std.specs.List.{AllByRecursion, All, AllPairs}
-use Rattle.std.proofs.lemmas.Bool.Decides.{nat_tests}
 use Rattle.std.proofs.lemmas.List.{length-map}
 use Rattle.std.proofs.lemmas.List.Elements.{All-from_recursion, recursion_from_All}
 use Rattle.order_model.specs.Pairs.{Pair}
@@ -11,15 +10,7 @@ use Rattle.order_model.specs.declared.listed_cells.ListedCell.{ListedCell}
 use Rattle.certificate.specs.Spelling.{most_nodes, most_pairs, pair_key, IsPair, IsCell, HasSpelling}
 use Rattle.certificate.specs.Values.{fit, is_above, is_pair_of, is_cell_of, mask_in, value_of, HasPairs}
 use Rattle.certificate.proofs.Judges.{both_are}
-use Rattle.certificate.proofs.Rising.{IsAbove, RiseFrom, rise_pairs, pairs_rise}
-
-above_is : (before : Option ℕ) (key : ℕ) → is_above before key ≡ true → IsAbove before key
-above_is None key e = tt
-above_is (Some last) key e = grind (arith, nat_tests)
-
-is_above_at : (before : Option ℕ) (key : ℕ) → IsAbove before key → is_above before key ≡ true
-is_above_at None key above = refl
-is_above_at (Some last) key above = grind (arith, nat_tests)
+use Rattle.certificate.proofs.Rising.{RiseFrom, rise_pairs, pairs_rise}
 
 -- entries of a kind E, seen as X, that a test tells
 module _ {E X : Type 0} (see : E → X) (is : E → Bool) (Is : X → Type 0) (key : E → ℕ) (key_of : X → ℕ) (same_key : (e : E) → key e ≡ key_of (see e))
@@ -29,15 +20,12 @@ module _ {E X : Type 0} (see : E → X) (is : E → Bool) (Is : X → Type 0) (k
   fit_rises before (x ∷ es) e =
       let b = both_are (is x) (is_above before (key x) && fit is key (Some (key x)) es) e in
       let c = both_are (is_above before (key x)) (fit is key (Some (key x)) es) b.1 in
-      let rest = fit_rises (Some (key x)) es c.1 in let k = same_key x in
-      ((told x b.0, rest.0), (rw (sym k) (above_is before (key x) c.0), rw (sym k) rest.1))
+      grind (arith, fit_rises (Some (key x)) es c.1)
 
   rises_fit : (before : Option ℕ) (es : List E) → AllByRecursion Is (map see es) → RiseFrom key_of before (map see es) → fit is key before es ≡ true
   rises_fit before [] all rise = refl
   rises_fit before (x ∷ es) (here, all) (above, rise) =
-      let k = same_key x in let first : is_above before (key x) ≡ true = is_above_at before (key x) (rw k above) in
-      let more : fit is key (Some (key x)) es ≡ true = rises_fit (Some (key x)) es all (rw k rise) in
-      rw (tells x here) (rw first more)
+      let k = same_key x in grind (arith, rises_fit (Some (key x)) es all (rw k rise))
 
   pub fit_is : (es : List E) → fit is key None es ≡ true → All Is (map see es) × AllPairs (λ a b. key_of a < key_of b) (map see es)
   fit_is es e = let r = fit_rises None es e in (All-from_recursion _ _ r.0, rise_pairs key_of None (map see es) r.1)
@@ -46,24 +34,16 @@ module _ {E X : Type 0} (see : E → X) (is : E → Bool) (Is : X → Type 0) (k
   is_fit es all rise = rises_fit None es (recursion_from_All _ _ all) (pairs_rise key_of (map see es) rise)
 
 pair_told : (n : ℕ) (p : Pair) → is_pair_of n p ≡ true → IsPair n p
-pair_told n p e = let b = both_are (nat_lt p.0 n) (nat_lt p.1 n) e in let first : nat_lt p.0 n ≡ true = b.0 in
-    let second : nat_lt p.1 n ≡ true = b.1 in (grind (arith, nat_tests), grind (arith, nat_tests))
+pair_told n p e = let b = both_are (nat_lt p.0 n) (nat_lt p.1 n) e in (grind arith, grind arith)
 
 pair_tells : (n : ℕ) (p : Pair) → IsPair n p → is_pair_of n p ≡ true
-pair_tells n p (a, b) = let first : nat_lt p.0 n ≡ true = grind (arith, nat_tests) in
-    let second : nat_lt p.1 n ≡ true = grind (arith, nat_tests) in rw first second
+pair_tells n p (a, b) = grind arith
 
 cell_told : (n : ℕ) (c : ListedCell) → is_cell_of n c ≡ true → IsCell n (listed c)
-cell_told n c e =
-    let b = both_are (nat_lt c.mask (2 ^ n - 1)) (nat_le c.cost most_nodes) e in let first : nat_lt c.mask (2 ^ n - 1) ≡ true = b.0 in
-    let second : nat_le c.cost most_nodes ≡ true = b.1 in
-    record { mask = grind (arith, nat_tests); cost = grind (arith, nat_tests) }
+cell_told n c e = grind arith
 
 cell_tells : (n : ℕ) (c : ListedCell) → IsCell n (listed c) → is_cell_of n c ≡ true
-cell_tells n c is =
-    let mask = is.mask in let cost = is.cost in
-    let first : nat_lt c.mask (2 ^ n - 1) ≡ true = grind (arith, nat_tests) in
-    let second : nat_le c.cost most_nodes ≡ true = grind (arith, nat_tests) in rw first second
+cell_tells n c is = grind arith
 
 map-same : (ps : List Pair) → map (λ (p : Pair). p) ps ≡ ps
 map-same [] = refl
@@ -73,8 +53,7 @@ map-same (p ∷ ps) = ap (λ xs. p ∷ xs) (map-same ps)
 pub pairs_fit_is : (n : ℕ) (ps : List Pair) → fit (is_pair_of n) pair_key None ps ≡ true →
     All (IsPair n) ps × AllPairs (λ (p q : Pair). pair_key p < pair_key q) ps
 pairs_fit_is n ps e =
-    let f = fit_is (λ (p : Pair). p) (is_pair_of n) (IsPair n) pair_key pair_key (λ p. refl) (pair_told n) (pair_tells n) ps e in
-    rw (map-same ps) at f
+    rw (map-same ps) at (fit_is (λ (p : Pair). p) (is_pair_of n) (IsPair n) pair_key pair_key (λ p. refl) (pair_told n) (pair_tells n) ps e)
 
 pub pairs_is_fit : (n : ℕ) (ps : List Pair) → All (IsPair n) ps → AllPairs (λ (p q : Pair). pair_key p < pair_key q) ps →
     fit (is_pair_of n) pair_key None ps ≡ true
@@ -97,22 +76,8 @@ pub spelled : (format inputs outputs : ℕ) (order levels : List ℕ) (total : �
     (length pairs ≤ most_pairs) × (fit (is_pair_of inputs) pair_key None pairs ≡ true) →
     (length cells ≤ 2 ^ inputs - 1) × (fit (is_cell_of inputs) mask_in None cells ≡ true) →
     HasSpelling (value_of format inputs outputs order levels total pairs cells)
-spelled format inputs outputs order levels total pairs cells known i o r l t (pair_count, pair_fit) (cell_count, cell_fit) =
-    let p = pairs_fit_is inputs pairs pair_fit in let c = cells_fit_is inputs cells cell_fit in
-    record {
-      format = known;
-      inputs = i;
-      outputs = o;
-      order = r;
-      levels = l;
-      total = t;
-      pair_count = pair_count;
-      pairs = p.0;
-      pairs_rise = p.1;
-      cell_count = omega (arith, cell_count, length-map cells listed);
-      cells = c.0;
-      cells_rise = c.1;
-    }
+spelled format inputs outputs order levels total pairs cells known i o r l t h k =
+    grind (arith, pairs_fit_is, cells_fit_is, length-map)
 
 module _ (format inputs outputs : ℕ) (order levels : List ℕ) (total : ℕ) (pairs : List Pair) (cells : List ListedCell)
     (has : HasSpelling (value_of format inputs outputs order levels total pairs cells)) where
@@ -120,4 +85,4 @@ module _ (format inputs outputs : ℕ) (order levels : List ℕ) (total : ℕ) (
   spelled_pairs = (has.pair_count, pairs_is_fit inputs pairs has.pairs has.pairs_rise)
 
   pub spelled_cells : (length cells ≤ 2 ^ inputs - 1) × (fit (is_cell_of inputs) mask_in None cells ≡ true)
-  spelled_cells = let count = has.cell_count in (omega (arith, count, length-map cells listed), cells_is_fit inputs cells has.cells has.cells_rise)
+  spelled_cells = let count = has.cell_count in (omega (arith, length-map cells listed), cells_is_fit inputs cells has.cells has.cells_rise)

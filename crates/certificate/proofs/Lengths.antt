@@ -2,7 +2,7 @@
 --     line_length name ns      the bytes of a line of a fixed word and numbers
 --     spelling_length      at most 6 bytes a pair and 12 a listed set, beside 256
 --     text_readable      so no text is longer than what is read
-use Rattle.std.proofs.Common.{◌≡◌, ℕ, ◌+◌, ◌*◌, ◌^◌, ◌≤◌, inl, inr, true, false, cond, List, [], ◌∷◌, ◌++◌, length, map, refl, ap, arith, codes, decimal, length-append, append-nil, nat_eq, Bool, ◌⊎◌}
+use Rattle.std.proofs.Common.{◌≡◌, ℕ, ◌+◌, ◌*◌, ◌≤◌, true, false, cond, List, [], ◌∷◌, ◌++◌, length, map, refl, ap, arith, codes, decimal, length-append, append-nil, nat_eq, Bool}
 use Rattle.std.proofs.Math.Nat.{pow-le-pow_right}
 use Rattle.std.specs.List.{AllByRecursion, flat_map}
 use Rattle.std.proofs.lemmas.Fmt.{length-decimal-le}
@@ -19,71 +19,50 @@ use Rattle.certificate.proofs.Written.{numbers_written, pair_written, cell_writt
 
 -- decimals of numbers that are known to be small
 one : (n : ℕ) → n ≤ 2 → length (decimal n) ≤ 1
-one n few = length-decimal-le 1 n (omega arith) (omega (arith, few)) (omega (arith, few))
+one n few = length-decimal-le 1 n (omega arith) (omega arith) (omega arith)
 
 six : (n : ℕ) → n ≤ 999999 → length (decimal n) ≤ 6
-six n few = length-decimal-le 6 n (omega arith) (omega (arith, few)) (omega (arith, few))
+six n few = length-decimal-le 6 n (omega arith) (omega arith) (omega arith)
 
 three : (n : ℕ) → n ≤ 240 → length (decimal n) ≤ 3
-three n few = length-decimal-le 3 n (omega arith) (omega (arith, few)) (omega (arith, few))
+three n few = length-decimal-le 3 n (omega arith) (omega arith) (omega arith)
 
 two : (n : ℕ) → n ≤ 16 → length (decimal n) ≤ 2
-two n few = length-decimal-le 2 n (omega arith) (omega (arith, few)) (omega (arith, few))
+two n few = length-decimal-le 2 n (omega arith) (omega arith) (omega arith)
 
 five : (n : ℕ) → n ≤ 65535 → length (decimal n) ≤ 5
-five n few = length-decimal-le 5 n (omega arith) (omega (arith, few)) (omega (arith, few))
+five n few = length-decimal-le 5 n (omega arith) (omega arith) (omega arith)
 
 -- a line of a fixed word and numbers
 line_length : (name ns : List ℕ) → length (text_line (field name ns)) ≡ length name + length (each_spaced ns) + 1
 line_length name ns =
-    let e = numbers_written [] name (name ++ each_spaced ns) ((name ++ each_spaced ns) ++ 10 ∷ []) name ns refl refl refl in
-    let l = ap length e in
-    let a = length-append (name ++ each_spaced ns) (10 ∷ []) in
-    let b = length-append name (each_spaced ns) in
-    omega (arith, l, a, b)
+    let l = ap length (numbers_written [] name (name ++ each_spaced ns) ((name ++ each_spaced ns) ++ 10 ∷ []) name ns refl refl refl) in
+    omega (arith, length-append (name ++ each_spaced ns) (10 ∷ []), length-append name (each_spaced ns))
 
 spaced_length : (most bytes : ℕ) → ((n : ℕ) → n ≤ most → length (decimal n) ≤ bytes) → (ns : List ℕ) → AllByRecursion (λ n. n ≤ most) ns →
     length (each_spaced ns) ≤ (bytes + 1) * length ns
 spaced_length most bytes few [] small = omega arith
-spaced_length most bytes few (n ∷ ns) (here, small) =
-    let first = few n here in
-    let rest = spaced_length most bytes few ns small in
-    let a = length-append (decimal n) (each_spaced ns) in
-    let m : (bytes + 1) * length (n ∷ ns) ≡ (bytes + 1) + (bytes + 1) * length ns = grind arith in
-    omega (arith, first, rest, a, m)
+spaced_length most bytes few (n ∷ ns) (here, small) = grind (arith, length-append, spaced_length most bytes few ns small)
 
 numbers_length : (name : List ℕ) (most bytes : ℕ) → ((n : ℕ) → n ≤ most → length (decimal n) ≤ bytes) → (ns : List ℕ) →
     AllByRecursion (λ n. n ≤ most) ns → length (text_line (field name ns)) ≤ length name + (bytes + 1) * length ns + 1
-numbers_length name most bytes few ns small =
-    let a = line_length name ns in
-    let b = spaced_length most bytes few ns small in
-    omega (arith, a, b)
+numbers_length name most bytes few ns small = omega (arith, line_length name ns, spaced_length most bytes few ns small)
 
 number_length : (name : List ℕ) (n bytes : ℕ) → length (decimal n) ≤ bytes → length (text_line (field name (n ∷ []))) ≤ length name + bytes + 2
-number_length name n bytes few =
-    let a = line_length name (n ∷ []) in
-    let b = length-append (decimal n) [] in
-    omega (arith, a, b, few)
+number_length name n bytes few = omega (arith, line_length name (n ∷ []), length-append (decimal n) [])
 
 -- lines that are of so many bytes each
 lines_length : {E : Type 0} (P : E → Type 0) (write : E → List (List ℕ)) (bytes : ℕ) → ((e : E) → P e → length (text_line (write e)) ≤ bytes) →
     (es : List E) → AllByRecursion P es → length (flat_map text_line (map write es)) ≤ bytes * length es
 lines_length P write bytes few [] all = omega arith
-lines_length P write bytes few (e ∷ es) (here, all) =
-    let first = few e here in
-    let rest = lines_length P write bytes few es all in
-    let a = length-append (text_line (write e)) (flat_map text_line (map write es)) in
-    let m : bytes * length (e ∷ es) ≡ bytes + bytes * length es = grind arith in
-    omega (arith, first, rest, a, m)
+lines_length P write bytes few (e ∷ es) (here, all) = grind (arith, length-append, lines_length P write bytes few es all)
 
 pair_length : (n : ℕ) → n ≤ 16 → (p : Pair) → IsPair n p → length (text_line (pair_words p)) ≤ 6
 pair_length n few p (above, below) =
-    let l = ap length (pair_written p) in
-    let a = length-append (decimal p.0) (32 ∷ (decimal p.1 ++ 10 ∷ [])) in
     let b = length-append (decimal p.1) (10 ∷ []) in
-    let c = two p.0 (omega (arith, few, above)) in
-    let d = two p.1 (omega (arith, few, below)) in
-    omega (arith, l, a, b, c, d)
+    let c = two p.0 (omega arith) in
+    let d = two p.1 (omega arith) in
+    omega (arith, ap length (pair_written p), length-append (decimal p.0) (32 ∷ (decimal p.1 ++ 10 ∷ [])))
 
 hex4_length : (mask : ℕ) → length (hex4 mask) ≡ 4
 unfolding hex4
@@ -91,12 +70,10 @@ hex4_length mask = refl
 
 cell_length : (n : ℕ) (cell : Cell) → IsCell n cell → length (text_line (cell_words cell)) ≤ 12
 cell_length n cell is =
-    let l = ap length (cell_written cell) in
-    let a = length-append (hex4 cell.mask) (32 ∷ (decimal cell.cost ++ 10 ∷ [])) in
     let b = length-append (decimal cell.cost) (10 ∷ []) in
     let c = hex4_length cell.mask in
     let d = six cell.cost is.cost in
-    omega (arith, l, a, b, c, d)
+    omega (arith, ap length (cell_written cell), length-append (hex4 cell.mask) (32 ∷ (decimal cell.cost ++ 10 ∷ [])))
 
 end_length : length (text_line (codes "end" ∷ [])) ≡ 4
 unfolding text_line
@@ -104,10 +81,7 @@ end_length = refl
 
 section_length : (name : List ℕ) (entries : List (List (List ℕ))) (digits bytes : ℕ) → length (decimal (length entries)) ≤ digits →
     length (flat_map text_line entries) ≤ bytes → length (flat_map text_line (section name entries)) ≤ length name + digits + 2 + bytes
-section_length name entries digits bytes a b =
-    let first = number_length name (length entries) digits a in
-    let both = length-append (text_line (field name (length entries ∷ []))) (flat_map text_line entries) in
-    omega (arith, first, both, b)
+section_length name entries digits bytes a b = grind (arith, length-append, number_length)
 
 six_lines : (a b c d e f : List (List ℕ)) → length (flat_map text_line (a ∷ b ∷ c ∷ d ∷ e ∷ f ∷ [])) ≡
     length (text_line a) + (length (text_line b) + (length (text_line c) + (length (text_line d) + (length (text_line e) + length (text_line f)))))
@@ -115,70 +89,45 @@ six_lines a b c d e f = simp (length-append, append-nil)
 
 module _ (cert : Certificate) (has : HasSpelling cert) where
   cells_few : length cert.cells ≤ 65535
-  cells_few =
-      let few = has.cell_count in
-      let power : 2 ^ cert.inputs ≤ 2 ^ 16 = pow-le-pow_right (omega arith) has.inputs.1 in
-      omega (arith, few, power)
+  cells_few = grind (arith, pow-le-pow_right)
 
   format_small : cert.format ≤ 2
-  format_small = by has.format where
-    by : ((cert.format ≡ 1) × (cert.pairs ≡ [])) ⊎ (cert.format ≡ 2) → cert.format ≤ 2
-    by (inl (first, none)) = omega (arith, first)
-    by (inr second) = omega (arith, second)
+  format_small = grind arith
 
   head_length : length (flat_map text_line (head_lines cert)) ≤ 230
   head_length =
       let all = six_lines (field (codes "bddorder-certificate") (cert.format ∷ [])) (field (codes "inputs") (cert.inputs ∷ []))
       (field (codes "outputs") (cert.outputs ∷ [])) (field (codes "order") cert.order) (field (codes "levels") cert.levels)
       (field (codes "total") (cert.total ∷ [])) in
-      let a = number_length (codes "bddorder-certificate") cert.format 1 (one cert.format format_small) in
       let b = number_length (codes "inputs") cert.inputs 2 (two cert.inputs has.inputs.1) in
       let c = number_length (codes "outputs") cert.outputs 2 (two cert.outputs has.outputs.1) in
-      let d = numbers_length (codes "order") 15 2 (λ n few. two n (omega (arith, few))) cert.order (recursion_from_All _ cert.order has.order.1) in
+      let d = numbers_length (codes "order") 15 2 (λ n few. two n (omega arith)) cert.order (recursion_from_All _ cert.order has.order.1) in
       let e = numbers_length (codes "levels") 999999 6 six cert.levels (recursion_from_All _ cert.levels has.levels.1) in
-      let f = number_length (codes "total") cert.total 6 (six cert.total has.total) in
-      let g = has.order.0 in let h = has.levels.0 in let i = has.inputs.1 in
-      omega (arith, all, a, b, c, d, e, f, g, h, i)
+      grind (arith, number_length, six, one)
 
   pairs_length : length (flat_map text_line (pair_lines cert.format cert.pairs)) ≤ 10 + 6 * length cert.pairs
   pairs_length = by (nat_eq cert.format 1) where
     by : (b : Bool) → length (flat_map text_line (cond b [] (section (codes "pairs") (map pair_words cert.pairs)))) ≤ 10 + 6 * length cert.pairs
     by true = omega arith
     by false =
-        let l = length-map cert.pairs pair_words in
-        let count = has.pair_count in
         section_length (codes "pairs") (map pair_words cert.pairs) 3 (6 * length cert.pairs)
-        (three (length (map pair_words cert.pairs)) (omega (arith, l, count)))
+        (three (length (map pair_words cert.pairs)) (omega (arith, length-map cert.pairs pair_words)))
         (lines_length (IsPair cert.inputs) pair_words 6 (pair_length cert.inputs has.inputs.1) cert.pairs (recursion_from_All _ cert.pairs has.pairs))
 
   cells_length : length (flat_map text_line (section (codes "cells") (map cell_words cert.cells))) ≤ 12 + 12 * length cert.cells
   cells_length =
       let l = length-map cert.cells cell_words in
       let few = cells_few in
-      section_length (codes "cells") (map cell_words cert.cells) 5 (12 * length cert.cells) (five (length (map cell_words cert.cells)) (omega (arith, l, few)))
+      section_length (codes "cells") (map cell_words cert.cells) 5 (12 * length cert.cells) (five (length (map cell_words cert.cells)) (omega arith))
       (lines_length (IsCell cert.inputs) cell_words 12 (cell_length cert.inputs) cert.cells (recursion_from_All _ cert.cells has.cells))
 
   -- at most 6 bytes a pair and 12 a listed set, beside 256
   pub spelling_length : length (spelling cert) ≤ 256 + 6 * length cert.pairs + 12 * length cert.cells
   unfolding spelling word_lines
-  spelling_length =
-      let last = (codes "end" ∷ []) ∷ [] in
-      let cells = section (codes "cells") (map cell_words cert.cells) in
-      let pairs = pair_lines cert.format cert.pairs in
-      let a = ap length (flat_map-append text_line (head_lines cert) (pairs ++ (cells ++ last))) in
-      let b = ap length (flat_map-append text_line pairs (cells ++ last)) in
-      let c = ap length (flat_map-append text_line cells last) in
-      let d = length-append (flat_map text_line (head_lines cert)) (flat_map text_line (pairs ++ (cells ++ last))) in
-      let e = length-append (flat_map text_line pairs) (flat_map text_line (cells ++ last)) in
-      let f = length-append (flat_map text_line cells) (flat_map text_line last) in
-      let g = head_length in let h = pairs_length in let i = cells_length in
-      let j = length-append (text_line (codes "end" ∷ [])) [] in let k = end_length in
-      omega (arith, a, b, c, d, e, f, g, h, i, j, k)
+  spelling_length = grind (arith, flat_map-append, length-append, head_length, pairs_length, cells_length, end_length)
 
   pub spelling_readable : length (spelling cert) ≤ most_bytes
-  spelling_readable =
-      let l = spelling_length in let few = cells_few in let count = has.pair_count in
-      omega (arith, l, few, count)
+  spelling_readable = let l = spelling_length in let few = cells_few in omega arith
 
 -- a text that spells a certificate is no longer than what is read
 pub text_readable : (text : List ℕ) (cert : Certificate) → Spells text cert → length text ≤ most_bytes

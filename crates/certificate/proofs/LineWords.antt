@@ -2,7 +2,6 @@
 use Rattle.std.proofs.Common.{◌≡◌, ℕ, ◌<◌, refl, sym, ◌∙◌, ap, Bool, true, false, ◌==◌, List, [], ◌∷◌, length, get_or, codes, None, Some, arith}
 use Rattle.std.specs.List.{join_with_byte, slice_split}
 use Rattle.std.specs.Cmp.Lexicographic.{pointwise}
-use Rattle.std.proofs.lemmas.Bool.Decides.{nat_tests}
 use Rattle.std.proofs.lemmas.List.Splits.{join_with_byte-slice_split, slice_split_none, slice_split_at, length-slice_split}
 use Rattle.certificate.specs.declared.faults.LineFault.TheVariants.{BadLine}
 use Rattle.order_model.specs.Texts.{same, number_of}
@@ -38,18 +37,14 @@ not_two name least most (w ∷ []) never = by (same w name) refl where
   by true e = rw e refl
   by false e = rw e refl
 not_two name least most (w ∷ n ∷ []) never = absurd (never w n refl)
-not_two name least most (w ∷ n ∷ m ∷ more) never =
-    let other : (length (n ∷ m ∷ more) == 1) ≡ false = grind (arith, nat_tests) in by (same w name) refl other where
-      by : (t : Bool) → same w name ≡ t → (length (n ∷ m ∷ more) == 1) ≡ false → field_fault name 1 least most (w ∷ n ∷ m ∷ more) ≡ Some BadLine
-      by true e other = rw e (rw other refl)
-      by false e other = rw e refl
+not_two name least most (w ∷ n ∷ m ∷ more) never = grind arith
 
 -- a line that isn't what is wanted
 other_words : (wanted : List (List ℕ)) (line text : List ℕ) → join_with_byte 32 wanted ≡ text → same line text ≡ false →
     pointwise same (words line) wanted ≡ false
 other_words wanted line text joined other = false_from_ne_true (pointwise same (words line) wanted) (λ yes.
     let here : line ≡ text = sym (words_join line) ∙ ap (join_with_byte 32) (all_same_is (words line) wanted yes) ∙ joined in
-    let wrong : false ≡ true = sym other ∙ (rw here (same_self text)) in absurd (cc (wrong)))
+    let wrong : false ≡ true = sym other ∙ (rw here (same_self text)) in absurd (cc wrong))
 
 abbrev end_words : List (List ℕ)
 end_words = codes "end" ∷ []
@@ -61,30 +56,17 @@ end_yes line e = let is : slice_split (λ b. b == 32) line ≡ end_words = ap (s
 pub end_no : (line : List ℕ) → same line (codes "end") ≡ false → fixed_fault end_words (words line) ≡ Some BadLine
 end_no line e = rw (other_words end_words line (codes "end") refl e) refl
 
-abbrev first_words : List (List ℕ)
-first_words = codes "bddorder-certificate" ∷ codes "1" ∷ []
-
-abbrev second_words : List (List ℕ)
-second_words = codes "bddorder-certificate" ∷ codes "2" ∷ []
-
 pub first_title : (line : List ℕ) → same line (codes "bddorder-certificate 1") ≡ true →
     (title_fault (words line) ≡ None) × (1 ≡ number_of (get_or (words line) 1 []))
 unfolding words
-first_title line e =
-    let is : slice_split (λ b. b == 32) line ≡ first_words =
-    ap (slice_split (λ b. b == 32)) (same_is line (codes "bddorder-certificate 1") e) in
-    rw is (refl, refl)
+first_title line e = rw (ap (slice_split (λ b. b == 32)) (same_is line (codes "bddorder-certificate 1") e)) (refl, refl)
 
 pub second_title : (line : List ℕ) → same line (codes "bddorder-certificate 2") ≡ true →
     (title_fault (words line) ≡ None) × (2 ≡ number_of (get_or (words line) 1 []))
 unfolding words
 second_title line e =
-    let is : slice_split (λ b. b == 32) line ≡ second_words =
-    ap (slice_split (λ b. b == 32)) (same_is line (codes "bddorder-certificate 2") e) in
-    rw is (refl, refl)
+    rw (ap (slice_split (λ b. b == 32)) (same_is line (codes "bddorder-certificate 2") e)) (refl, refl)
 
 pub no_title : (line : List ℕ) → same line (codes "bddorder-certificate 1") ≡ false → same line (codes "bddorder-certificate 2") ≡ false →
     title_fault (words line) ≡ Some BadLine
-no_title line first second =
-    rw (other_words first_words line (codes "bddorder-certificate 1") refl first)
-    (rw (other_words second_words line (codes "bddorder-certificate 2") refl second) refl)
+no_title line first second = grind (arith, other_words)

@@ -2,7 +2,6 @@
 use Rattle.std.proofs.Common.{◌≡◌, ℕ, ◌+◌, ◌<◌, refl, sym, ◌∙◌, ap, Bool, true, false, ◌==◌, inl, inr, ◌⊎◌, List, [], ◌∷◌, ◌++◌, length, map, None, Some, Result, Ok, Err, IfOk, IfErr, arith, append_assoc}
 use Rattle.std.specs.List.{list_all}
 use Rattle.std.specs.Result.{IsErrAnd}
-use Rattle.std.proofs.lemmas.Bool.Decides.{nat_tests}
 use Rattle.certificate.specs.declared.faults.LineFault.TheVariants.{BadLine, BadNumber}
 use Rattle.certificate.specs.declared.faults.CertFault.{CertFault}
 use Rattle.certificate.specs.declared.faults.CertFault.TheVariants as found
@@ -31,9 +30,7 @@ module _ (p : List ℕ → Bool) where
 -- one number more
 pub cut_numbers : (old new : List ℕ) (rest word more : List ℕ) → Cuts 32 rest word more → new ≡ old ++ number_of word ∷ [] →
     new ++ map number_of (words more) ≡ old ++ map number_of (words rest)
-cut_numbers old new rest word more cuts e =
-    ap (λ xs. xs ++ map number_of (words more)) e ∙ append_assoc old (number_of word ∷ []) (map number_of (words more))
-    ∙ ap (λ ws. old ++ map number_of ws) (sym (cut_words rest word more cuts))
+cut_numbers old new rest word more cuts e = grind (arith, append_assoc, cut_words)
 
 pub last_number : (old new : List ℕ) (rest : List ℕ) → Lacks 32 rest → new ≡ old ++ number_of rest ∷ [] → new ≡ old ++ map number_of (words rest)
 last_number old new rest lacks e = e ∙ ap (λ ws. old ++ map number_of ws) (sym (whole_word rest lacks))
@@ -48,13 +45,7 @@ refused_on (Err given) fault line a b is (inr (bad, other)) more = inr (is ∙ b
 
 -- a line of other words than are wanted
 pub no_name : (name : List ℕ) (count least most : ℕ) (line : List ℕ) → 0 < count → Lacks 32 line → field_fault name count least most (words line) ≡ Some BadLine
-no_name name count least most line some lacks = rw (whole_word line lacks) (by (same line name) refl) where
-  other : (0 == count) ≡ false
-  other = grind (arith, nat_tests)
-
-  by : (t : Bool) → same line name ≡ t → field_fault name count least most (line ∷ []) ≡ Some BadLine
-  by true e = rw e (rw other refl)
-  by false e = rw e refl
+no_name name count least most line some lacks = grind (arith, whole_word)
 
 pub other_name : (name : List ℕ) (count least most : ℕ) (line word rest : List ℕ) → Cuts 32 line word rest → same word name ≡ false →
     field_fault name count least most (words line) ≡ Some BadLine
@@ -62,21 +53,16 @@ other_name name count least most line word rest cuts e = rw (cut_words line word
 
 pub other_count : (name : List ℕ) (count least most : ℕ) (line word rest : List ℕ) → Cuts 32 line word rest →
     (length (words rest) == count) ≡ false → field_fault name count least most (words line) ≡ Some BadLine
-other_count name count least most line word rest cuts other = rw (cut_words line word rest cuts) (by (same word name) refl) where
-  by : (t : Bool) → same word name ≡ t → field_fault name count least most (word ∷ words rest) ≡ Some BadLine
-  by true e = rw e (rw other refl)
-  by false e = rw e refl
+other_count name count least most line word rest cuts other = grind (arith, cut_words)
 
 -- a line of the words that are wanted
 pub field_told : (name : List ℕ) (count most : ℕ) (ws numbers : List (List ℕ)) → ws ≡ name ∷ numbers → length numbers ≡ count →
     list_all (is_decimal 0 most) numbers ≡ true → field_fault name count 0 most ws ≡ None
-field_told name count most ws numbers is many all = let number : (length numbers == count) ≡ true = grind (arith, nat_tests) in
-    rw is (rw (same_self name) (rw number (rw all refl)))
+field_told name count most ws numbers is many all = grind (arith, same_self)
 
 pub field_bad : (name : List ℕ) (count most : ℕ) (ws numbers : List (List ℕ)) → ws ≡ name ∷ numbers → length numbers ≡ count →
     list_all (is_decimal 0 most) numbers ≡ false → field_fault name count 0 most ws ≡ Some BadNumber
-field_bad name count most ws numbers is many some = let number : (length numbers == count) ≡ true = grind (arith, nat_tests) in
-    rw is (rw (same_self name) (rw number (rw some refl)))
+field_bad name count most ws numbers is many some = grind (arith, same_self)
 
 -- what taking such a line tells
 pub asked_numbers : {V : Type 0} (items : V → List ℕ) (name : List ℕ) (count most number after : ℕ) (text line rest digits : List ℕ)
@@ -86,14 +72,7 @@ pub asked_numbers : {V : Type 0} (items : V → List ℕ) (name : List ℕ) (cou
     IfErr result (λ fault. (fault ≡ found.OutOfMemory) ⊎ ((fault ≡ found.Line number BadNumber) × (list_all (is_decimal 0 most) (words digits) ≡ false))) →
     Asks (field_fault name count 0 most) number text after rest (λ ws v. items v ≡ numbers_of ws) result
 asked_numbers items name count most number after text line rest digits (Ok v) cuts next is many numbers all refused =
-    let passes = field_told name count most (words line) (words digits) is many all in (
-      words line,
-      said_first text line rest cuts,
-      passes,
-      λ js. rw next (step number (field_fault name count 0 most) js text line rest cuts passes),
-      numbers
-          ∙ ap numbers_of (sym is),
-    )
+    let passes = field_told name count most (words line) (words digits) is many all in grind (arith, said_first, step)
 asked_numbers items name count most number after text line rest digits (Err fault) cuts next is many numbers all (inl memory) = rw memory (λ js. tt)
 asked_numbers items name count most number after text line rest digits (Err fault) cuts next is many numbers all (inr (bad, some)) =
     rw bad (λ js. stop number (field_fault name count 0 most) js text line rest BadNumber cuts

@@ -1,15 +1,14 @@
 -- How the faults of a text follow from its first line and the lines after it.
-use Rattle.std.proofs.Common.{◌≡◌, ℕ, ◌+◌, ◌<◌, suc, refl, ◌∙◌, ap, Bool, true, false, ◌==◌, nat_lt, List, [], ◌∷◌, ◌++◌, length, map, take, None, Some, Result, Ok, Err, IfErr, arith}
+use Rattle.std.proofs.Common.{◌≡◌, ℕ, ◌+◌, ◌<◌, suc, refl, ◌∙◌, ap, false, ◌==◌, List, [], ◌∷◌, ◌++◌, length, map, None, Some, Result, Ok, Err, IfErr, arith}
 use Rattle.std.specs.List.{AllByRecursion}
 use Rattle.std.specs.Result.{IsErrAnd}
-use Rattle.std.proofs.lemmas.Bool.Decides.{nat_tests}
 use Rattle.std.proofs.lemmas.List.{length-append}
 use Rattle.std.proofs.lemmas.List.Elements.{recursion_from_All}
 use Rattle.certificate.specs.declared.faults.LineFault.{LineFault}
 use Rattle.certificate.specs.declared.faults.LineFault.TheVariants.{MissingLine, TrailingText}
 use Rattle.certificate.specs.declared.faults.CertFault.{CertFault}
 use Rattle.certificate.specs.declared.faults.CertFault.TheVariants as found
-use Rattle.certificate.specs.Faults.{LineTest, words, said, whole_lines, with_feeds, line_faults}
+use Rattle.certificate.specs.Faults.{LineTest, words, said, whole_lines, line_faults}
 use Rattle.certificate.specs.Parsing.{Lacks, Cuts, FailsFirst, Asks, trailing_from, outcome}
 use Rattle.certificate.proofs.WordLines.{HasNoFeed, line_first, no_line}
 
@@ -27,34 +26,15 @@ said_first text line rest cuts = ap (map words) (first_line text line rest cuts)
 pub said_none : (text : List ℕ) → Lacks 10 text → said text ≡ []
 said_none text lacks = ap (map words) (no_line text (has_none text (recursion_from_All _ text lacks)))
 
-same_less : (a k m : ℕ) → nat_lt (a + k) (a + m) ≡ nat_lt k m
-same_less a k m = by (nat_lt k m) refl where
-  by : (t : Bool) → nat_lt k m ≡ t → nat_lt (a + k) (a + m) ≡ nat_lt k m
-  by true e = rw e (grind (arith, nat_tests))
-  by false e = rw e (grind (arith, nat_tests))
-
 -- what follows the lines is what follows the others
 trails : (number count : ℕ) (text line rest : List ℕ) → Cuts 10 text line rest → trailing_from number (suc count) text ≡ trailing_from (number + 1) count rest
-trails number count text line rest cuts =
-    let front = line ++ 10 ∷ [] in
-    let taken : length (with_feeds (take (suc count) (whole_lines text))) ≡ length front + length (with_feeds (take count (whole_lines rest))) =
-    ap (λ lines. length (with_feeds (take (suc count) lines))) (first_line text line rest cuts)
-    ∙ length-append front (with_feeds (take count (whole_lines rest))) in
-    let long : length text ≡ length front + length rest = omega (arith, ap length cuts.0, length-append line (10 ∷ rest), length-append line (10 ∷ [])) in
-    let less : nat_lt (length (with_feeds (take (suc count) (whole_lines text)))) (length text) ≡ nat_lt
-    (length (with_feeds (take count (whole_lines rest)))) (length rest) =
-    ap (λ k. nat_lt k (length text)) taken ∙ ap (nat_lt (length front + length (with_feeds (take count (whole_lines rest))))) long
-    ∙ same_less (length front) (length (with_feeds (take count (whole_lines rest)))) (length rest) in
-    let number_is : number + suc count ≡ (number + 1) + count = omega arith in
-    rw less (rw number_is refl)
+trails number count text line rest cuts = grind (arith, first_line, length-append)
 
 -- the first line passes
 pub step : (number : ℕ) (judge : LineTest) (js : List LineTest) (text line rest : List ℕ) → Cuts 10 text line rest → judge (words line) ≡ None →
     outcome number (judge ∷ js) text ≡ outcome (number + 1) js rest
 unfolding outcome line_faults
-step number judge js text line rest cuts passes =
-    rw (said_first text line rest cuts)
-    (rw passes (ap (λ xs. line_faults (number + 1) js (said rest) ++ xs) (trails number (length js) text line rest cuts)))
+step number judge js text line rest cuts passes = grind (arith, said_first, trails)
 
 -- it has a fault
 pub stop : (number : ℕ) (judge : LineTest) (js : List LineTest) (text line rest : List ℕ) (fault : LineFault) → Cuts 10 text line rest →
@@ -78,8 +58,7 @@ ended number = refl
 pub trailing_text : (number : ℕ) (text : List ℕ) → 0 < length text →
     (others : List (ℕ × LineFault)) × (outcome number [] text ≡ (number, TrailingText) ∷ others)
 unfolding outcome line_faults
-trailing_text number text some = let test : nat_lt 0 (length text) ≡ true = grind (arith, nat_tests) in
-    let first : number + 0 ≡ number = omega arith in ([], rw test (rw first refl))
+trailing_text number text some = grind arith
 
 -- what taking a line tells
 pub asked_missing : {V : Type 0} (judge : LineTest) (number after : ℕ) (text rest' : List ℕ) (P : List (List ℕ) → V → Type 0)
@@ -98,4 +77,4 @@ only_missing judge number text fault (Err given) is lacks e = rw (is ∙ e) (mis
 
 pub no_bytes : (text : List ℕ) → length text ≡ 0 → text ≡ []
 no_bytes [] e = refl
-no_bytes (b ∷ text) e = absurd (omega (arith, e))
+no_bytes (b ∷ text) e = absurd (omega arith)

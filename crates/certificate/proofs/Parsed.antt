@@ -43,8 +43,7 @@ module _ (text : List ℕ) (after : ℕ) (rest : List ℕ) (head : Head) (takes 
   pub body_refused : {V : Type 0} (fault : CertFault) (result : Result V CertFault) → IsErrAnd result (λ e. e ≡ fault) →
       length text ≤ most_bytes → TakesBody head.format head.inputs after rest (Err fault) → IfErr result (FailsToParse text)
   body_refused fault (Ok v) is short body = elim is [ ]
-  body_refused fault (Err e) is short body =
-      rw is (refuses text fault short (subst (λ fs. FailsFirst fs fault) (sym behind) (body takes.1 takes.3 format_here inputs_here)))
+  body_refused fault (Err e) is short body = grind (arith, behind)
 
   module _ (pairs : Option (Vec Pair Global)) (cells : Vec ListedCell Global) (body : TakesBody head.format head.inputs after rest (Ok (pairs, cells))) where
     told : Faultless text

@@ -19,9 +19,7 @@ module _ {E : Type 0} (key_of : E → ℕ) where
   RiseFrom before (e ∷ es) = IsAbove before (key_of e) × RiseFrom (Some (key_of e)) es
 
   pub rise_pairs : (before : Option ℕ) (es : List E) → RiseFrom before es → AllPairs Rise es
-  rise_pairs before [] rise = none where
-    none : AllPairs Rise []
-    none i j d less within = absurd (omega (arith, within))
+  rise_pairs before [] rise = grind arith
   rise_pairs before (e ∷ es) (above, rise) =
       AllPairs-cons Rise e es (All-from_recursion _ es (later (key_of e) es rise)) (rise_pairs (Some (key_of e)) es rise) where
         lower : (j k : ℕ) (xs : List E) → j < k → AllByRecursion (λ x. k < key_of x) xs → AllByRecursion (λ x. j < key_of x) xs

@@ -1,7 +1,6 @@
 -- Lines of a count and of as many entries, which rise by a key.
-use Rattle.std.proofs.Common.{◌≡◌, ℕ, ◌+◌, ◌-◌, ◌<◌, zero, suc, refl, ◌∙◌, ap, Bool, true, false, ◌==◌, List, [], ◌∷◌, length, map, get_or, Option, None, Some, arith}
+use Rattle.std.proofs.Common.{◌≡◌, ℕ, ◌+◌, ◌-◌, ◌<◌, zero, suc, refl, ◌∙◌, Bool, true, List, [], ◌∷◌, length, map, get_or, Option, None, Some, arith}
 use Rattle.std.specs.List.{AllByRecursion, range_with_len}
-use Rattle.std.proofs.lemmas.Bool.Decides.{nat_tests}
 use Rattle.certificate.specs.Faults.{entry_fault, rises, word_at, LineTest}
 use Rattle.certificate.proofs.Rising.{IsAbove, RiseFrom}
 use Rattle.certificate.proofs.Judges.{Pass}
@@ -23,16 +22,10 @@ module _ (is_entry : List ℕ → List ℕ → Bool) (key : List ℕ → List �
   StandAt ws k [] = Unit {0}
   StandAt ws k (e ∷ es) = (get_or ws k [] ≡ e) × StandAt ws (k + 1) es
 
-  rises_after : (ws : List (List (List ℕ))) (first k : ℕ) (before : Option ℕ) (a b : List ℕ) → Before ws first k before →
-      IsAbove before (key a b) → rises key ws first k a b ≡ true
-  rises_after ws first k None a b e above = let here : (k == first) ≡ true = grind (arith, nat_tests) in rw here refl
-  rises_after ws first k (Some j) a b (later, e) above = let here : (k == first) ≡ false = grind (arith, nat_tests) in rw here (rw e (grind (arith, nat_tests)))
-
   above_after : (ws : List (List (List ℕ))) (first k : ℕ) (before : Option ℕ) (a b : List ℕ) → Before ws first k before →
       rises key ws first k a b ≡ true → IsAbove before (key a b)
   above_after ws first k None a b e told = tt
-  above_after ws first k (Some j) a b (later, e) told =
-      let here : (k == first) ≡ false = grind (arith, nat_tests) in let lower = rw here at told in let less = rw e at lower in grind (arith, nat_tests)
+  above_after ws first k (Some j) a b (later, e) told = grind arith
 
   pub next_before : (ws : List (List (List ℕ))) (first k : ℕ) (before : Option ℕ) (a b : List ℕ) → Before ws first k before →
       get_or ws k [] ≡ a ∷ b ∷ [] → Before ws first (k + 1) (Some (key a b))
@@ -47,33 +40,22 @@ module _ (is_entry : List ℕ → List ℕ → Bool) (key : List ℕ → List �
       StandAt ws k es → AreEntries before es →
       Pass (entry_judges ws first k (length es)) es
   entries_pass ws first k before [] from stand are = refl
-  entries_pass ws first k before (e ∷ es) from (here, stand) (a, b, is, entry, above, more) = (
-    rw is (rw entry (rw (rises_after ws first k before a b from above) refl)),
-    entries_pass ws first (k + 1) (Some (key a b)) es (next_before ws first k before a b from (here ∙ is)) stand more,
-  )
+  entries_pass ws first k before (e ∷ es) from (here, stand) (a, b, is, entry, above, more) =
+      grind (arith, entries_pass ws first (k + 1) (Some (key a b)) es (next_before ws first k before a b from (here ∙ is)) stand more)
 
   pub entry_is : (is_above : List ℕ → List ℕ → Bool) (e : List (List ℕ)) → entry_fault is_entry is_above e ≡ None →
       (a : List ℕ) × (b : List ℕ) × (e ≡ a ∷ b ∷ []) × (is_entry a b ≡ true) × (is_above a b ≡ true)
-  entry_is is_above [] none = absurd (cc (none))
-  entry_is is_above (a ∷ []) none = absurd (cc (none))
-  entry_is is_above (a ∷ b ∷ []) none = let told = by (is_entry a b) (is_above a b) refl refl none in (a, b, refl, told.0, told.1) where
-    by : (s t : Bool) → is_entry a b ≡ s → is_above a b ≡ t → entry_fault is_entry is_above (a ∷ b ∷ []) ≡ None → (is_entry a b ≡ true) × (is_above a b ≡ true)
-    by true true es et told = (es, et)
-    by true false es et told = absurd (let half = rw es at told in let wrong = rw et at half in cc)
-    by false t es et told = absurd (let wrong = rw es at told in cc)
-  entry_is is_above (a ∷ b ∷ c ∷ more) none = absurd (cc (none))
+  entry_is is_above e h = grind arith
 
   pub entries_are : (ws : List (List (List ℕ))) (first k : ℕ) (before : Option ℕ) (es : List (List (List ℕ))) → Before ws first k before → StandAt ws k es →
       (count : ℕ) → Pass (entry_judges ws first k count) es → AreEntries before es × (length es ≡ count)
   entries_are ws first k before [] from stand zero pass = (tt, refl)
   entries_are ws first k before [] from stand (suc count) pass = elim pass [ ]
-  entries_are ws first k before (e ∷ es) from stand zero pass = absurd (cc (pass))
+  entries_are ws first k before (e ∷ es) from stand zero pass = absurd (cc pass)
   entries_are ws first k before (e ∷ es) from (here, stand) (suc count) (passes, pass) =
       let is = entry_is (rises key ws first k) e passes in
       let a = is.0 in let b = is.1 in let same = is.2 in
-      let above = above_after ws first k before a b from is.4 in
-      let more = entries_are ws first (k + 1) (Some (key a b)) es (next_before ws first k before a b from (here ∙ same)) stand count pass in
-      ((a, b, same, is.3, above, more.0), ap suc more.1)
+      search (above_after, entries_are ws first (k + 1) (Some (key a b)) es (next_before ws first k before a b from (here ∙ same)) stand count pass)
 
 -- a kind of entries: how they are written and read
 pub record IsKind {E : Type 0} (write : E → List (List ℕ)) (read : List (List ℕ) → E) (key_of : E → ℕ) (Is : E → Type 0)
@@ -88,9 +70,7 @@ module _ {E : Type 0} (write : E → List (List ℕ)) (read : List (List ℕ) �
   -- entries that are written
   pub write_entries : (before : Option ℕ) (es : List E) → AllByRecursion Is es → RiseFrom key_of before es → AreEntries is_entry key before (map write es)
   write_entries before [] all rise = tt
-  write_entries before (e ∷ es) (here, all) (above, rise) =
-      let w = kind.written e here in let k = w.4 in
-      (w.0, w.1, w.2, w.3, rw k above, rw k (write_entries (Some (key_of e)) es all rise))
+  write_entries before (e ∷ es) (here, all) (above, rise) = grind (arith, write_entries (Some (key_of e)) es all rise)
 
   pub read_back : (es : List E) → AllByRecursion Is es → map read (map write es) ≡ es
   read_back [] all = refl
@@ -100,11 +80,4 @@ module _ {E : Type 0} (write : E → List (List ℕ)) (read : List (List ℕ) �
   pub read_entries : (before : Option ℕ) (ws : List (List (List ℕ))) → AreEntries is_entry key before ws →
       (map write (map read ws) ≡ ws) × AllByRecursion Is (map read ws) × RiseFrom key_of before (map read ws)
   read_entries before [] are = (refl, tt, tt)
-  read_entries before (e ∷ ws) (a, b, same, entry, above, more) =
-      let t = kind.told a b entry in let k = t.2 in let rest = read_entries (Some (key a b)) ws more in
-      let rising : RiseFrom key_of (Some (key_of (read e))) (map read ws) = rw same (rw k rest.2) in
-      let above_it : IsAbove before (key_of (read e)) = rw same (rw k above) in (
-        rw same (rw t.0 (rw rest.0 refl)),
-        (rw same t.1, rest.1),
-        (above_it, rising),
-      )
+  read_entries before (e ∷ ws) (a, b, same, entry, above, more) = grind (arith, read_entries (Some (key a b)) ws more)

@@ -1,8 +1,7 @@
 -- A spelling has no fault, and says its certificate.
-use Rattle.std.proofs.Common.{◌≡◌, ℕ, ◌+◌, ◌-◌, ◌^◌, ◌≤◌, ◌<◌, refl, sym, ◌∙◌, ap, subst, false, cond, nat_eq, nat_lt, inl, inr, ◌⊎◌, List, [], ◌∷◌, ◌++◌, length, map, take, get_or, codes, None, arith, lit<}
+use Rattle.std.proofs.Common.{◌≡◌, ℕ, ◌+◌, ◌-◌, ◌^◌, ◌≤◌, ◌<◌, refl, sym, ◌∙◌, ap, false, cond, nat_eq, nat_lt, inl, inr, ◌⊎◌, List, [], ◌∷◌, ◌++◌, length, map, take, get_or, codes, None, arith, lit<}
 use Rattle.std.specs.List.{AllByRecursion, AllPairs, flat_map, join_with_byte}
 use Rattle.std.specs.Fmt.{digits}
-use Rattle.std.proofs.lemmas.Bool.Decides.{nat_tests}
 use Rattle.std.proofs.lemmas.List.{length-map, length-append, take_all}
 use Rattle.std.proofs.lemmas.List.Elements.{recursion_from_All}
 use mathlib.Core.List.{append_assoc}
@@ -32,12 +31,13 @@ pairs_plain n (p ∷ ps) few ((above, below), all) = ((decimal_plain p.0 (omega 
 
 cells_plain : (n : ℕ) (cells : List Cell) → AllByRecursion (IsCell n) cells → AllPlain (map cell_words cells)
 cells_plain n [] all = tt
-cells_plain n (c ∷ cells) (is, all) = let cost = is.cost in ((hex_plain c.mask, (decimal_plain c.cost (omega (arith, cost)), tt)), tt, cells_plain n cells all)
+cells_plain n (c ∷ cells) (is, all) =
+    let cost = is.cost in ((hex_plain c.mask, (decimal_plain c.cost (omega arith), tt)), tt, cells_plain n cells all)
 
 -- a text that its first lines make up has nothing after them
 nothing_behind : (count : ℕ) (text : List ℕ) → with_feeds (take count (whole_lines text)) ≡ text → trailing count text ≡ []
 unfolding trailing
-nothing_behind count text whole = let test : nat_lt (length text) (length text) ≡ false = grind (arith, nat_tests) in rw whole (rw test refl)
+nothing_behind count text whole = let test : nat_lt (length text) (length text) ≡ false = grind arith in rw whole (rw test refl)
 
 -- a certificate of its parts
 abbrev pub certificate_of : ℕ → ℕ → ℕ → List ℕ → List ℕ → ℕ → List Pair → List Cell → Certificate
@@ -79,10 +79,7 @@ module _ (format n : ℕ) (ps : List Pair) (cells : List Cell) (pre post ws : Li
         let s : PairsPass n (pre ++ (section (codes "pairs") (map pair_words ps) ++ after_pairs)) (length pre) =
         section_passes pair_words read_pair pair_key (IsPair n) (is_pair n) pair_key_of (pair_kind n some few) (codes "pairs") most_pairs
         (lit< tt) pre after_pairs ps pair_count pairs pairs_rise in
-        let v = subst (λ k. PairsPass k ws 6) (sym number)
-        (subst (λ lines. PairsPass n lines 6) (two_parts two)
-        (subst (PairsPass n (pre ++ (section (codes "pairs") (map pair_words ps) ++ after_pairs))) six_long s)) in
-        rw (format_said ∙ two) (rw two v)
+        grind arith
 
   pub pairs_back : cond (nat_eq (number_said ws 0) 1) [] (section_said read_pair ws 6) ≡ ps
   pairs_back = by known where
@@ -91,28 +88,23 @@ module _ (format n : ℕ) (ps : List Pair) (cells : List Cell) (pre post ws : Li
     by (inr two) =
         let s = section_back pair_words read_pair pair_key (IsPair n) (is_pair n) pair_key_of (pair_kind n some few) (codes "pairs")
         most_pairs (lit< tt) pre after_pairs ps pair_count pairs in
-        let t = rw six_long at s in let u = rw (two_parts two) at t in
-        rw (format_said ∙ two) u
+        let t = rw six_long at s in rw (format_said ∙ two) (rw (two_parts two) at t)
 
   cells_parts : (pre ++ pair_lines format ps) ++ (section (codes "cells") (map cell_words cells) ++ post) ≡ ws
   cells_parts = append_assoc pre (pair_lines format ps) (section (codes "cells") (map cell_words cells) ++ post) ∙ sym parts
 
   place : length (pre ++ pair_lines format ps) ≡ 6 + length (pairs_judges ws)
-  place = length-append pre (pair_lines format ps) ∙ ap (λ k. k + length (pair_lines format ps)) six_long
-      ∙ ap (λ k. 6 + k) (sym (pass_length (pairs_judges ws) (pair_lines format ps) pairs_pass))
+  place = grind (arith, length-append, pass_length, pairs_pass)
 
   most_small : 2 ^ n - 1 < 2 ^ 64
-  most_small = let top = power_small n few in omega (arith, top)
+  most_small = let top = power_small n few in omega arith
 
   pub cells_pass : Pass (cells_judges ws (6 + length (pairs_judges ws))) (section (codes "cells") (map cell_words cells))
   cells_pass =
       let before = pre ++ pair_lines format ps in
       let s : CellsPass n (before ++ (section (codes "cells") (map cell_words cells) ++ post)) (length before) =
-      section_passes cell_words read_cell mask_key (IsCell n) (is_cell n) cell_key_of (cell_kind n few) (codes "cells") (2 ^ n - 1)
-      most_small before post cells cell_count listed cells_rise in
-      subst (λ k. CellsPass k ws (cells_place ws)) (sym number)
-      (subst (λ lines. CellsPass n lines (cells_place ws)) cells_parts
-      (subst (CellsPass n (before ++ (section (codes "cells") (map cell_words cells) ++ post))) place s))
+      search (section_passes, cell_kind, most_small) in
+      grind (arith, cells_parts, place)
 
   pub cells_back : section_said read_cell ws (cells_place ws) ≡ cells
   cells_back =
@@ -147,26 +139,17 @@ module _ (cert : Certificate) (has : HasSpelling cert) where
   all_cells = recursion_from_All _ cert.cells has.cells
 
   few_cells : length cert.cells < 65536
-  few_cells = let count = has.cell_count in let top = power_small cert.inputs is_few in omega (arith, count, top)
+  few_cells = let count = has.cell_count in let top = power_small cert.inputs is_few in omega arith
 
   format_small : cert.format < 2 ^ 64
-  format_small = by has.format where
-    by : ((cert.format ≡ 1) × (cert.pairs ≡ [])) ⊎ (cert.format ≡ 2) → cert.format < 2 ^ 64
-    by (inl (one, none)) = rw one (lit< tt)
-    by (inr two) = rw two (lit< tt)
+  format_small = grind arith
 
   section_plain : (name : List ℕ) (entries : List (List (List ℕ))) → length entries < 2 ^ 64 → ArePlain (name ∷ []) → AllPlain entries →
       AllPlain (section name entries)
   section_plain name entries few (plain, rest) all = ((plain, (decimal_plain (length entries) few, tt)), tt, all)
 
   pairs_are_plain : AllPlain pairs_here
-  pairs_are_plain = by has.format where
-    by : ((cert.format ≡ 1) × (cert.pairs ≡ [])) ⊎ (cert.format ≡ 2) → AllPlain pairs_here
-    by (inl (one, none)) = rw one tt
-    by (inr two) =
-        rw two (section_plain (codes "pairs") (map pair_words cert.pairs)
-        (let few = has.pair_count in omega (arith, few, length-map cert.pairs pair_words)) (list_word (codes "pairs") refl, tt)
-        (pairs_plain cert.inputs cert.pairs is_few all_pairs))
+  pairs_are_plain = grind (arith, section_plain, length-map, pairs_plain, all_pairs)
 
   one_plain : (name : List ℕ) (k : ℕ) → ArePlain (name ∷ []) → k < 2 ^ 64 → ArePlain (field name (k ∷ []))
   one_plain name k (plain, rest) few = (plain, (decimal_plain k few, tt))
@@ -177,10 +160,10 @@ module _ (cert : Certificate) (has : HasSpelling cert) where
         one_plain (codes "bddorder-certificate") cert.format (list_word (codes "bddorder-certificate") refl, tt) format_small,
         tt,
         (
-          one_plain (codes "inputs") cert.inputs (list_word (codes "inputs") refl, tt) (omega (arith, inputs.1)),
+          one_plain (codes "inputs") cert.inputs (list_word (codes "inputs") refl, tt) (omega arith),
           tt,
           (
-            one_plain (codes "outputs") cert.outputs (list_word (codes "outputs") refl, tt) (omega (arith, outputs.1)),
+            one_plain (codes "outputs") cert.outputs (list_word (codes "outputs") refl, tt) (omega arith),
             tt,
             (
               (list_word (codes "order") refl, decimals_plain cert.order (small 0 15 cert.order (lit< tt) (recursion_from_All _ cert.order has.order.1))),
@@ -192,7 +175,7 @@ module _ (cert : Certificate) (has : HasSpelling cert) where
                 ),
                 tt,
                 (
-                  one_plain (codes "total") cert.total (list_word (codes "total") refl, tt) (omega (arith, total)),
+                  one_plain (codes "total") cert.total (list_word (codes "total") refl, tt) (omega arith),
                   tt,
                   tt,
                 ),
@@ -216,7 +199,7 @@ module _ (cert : Certificate) (has : HasSpelling cert) where
   spelling_said = unfold spelling in said_back (word_lines cert) all_plain
 
   inputs_are : inputs_said (word_lines cert) ≡ cert.inputs
-  inputs_are = rw lines_are (decimal_back cert.inputs (let few = is_few in omega arith))
+  inputs_are = rw lines_are (decimal_back cert.inputs (omega arith))
 
   format_is : number_said (word_lines cert) 0 ≡ cert.format
   format_is = rw lines_are (decimal_back cert.format format_small)
@@ -225,24 +208,16 @@ module _ (cert : Certificate) (has : HasSpelling cert) where
   parts = lines_are
 
   pairs_pass_here : Pass (pairs_judges (word_lines cert)) (pair_lines cert.format cert.pairs)
-  pairs_pass_here =
-      pairs_pass cert.format cert.inputs cert.pairs cert.cells six last (word_lines cert) has.inputs.0 is_few refl parts format_is
-      inputs_are has.format has.pair_count all_pairs has.pairs_rise has.cell_count all_cells has.cells_rise
+  pairs_pass_here = search (pairs_pass, parts, format_is, inputs_are, all_pairs, all_cells)
 
   pairs_are_back : (cert_of (word_lines cert)).pairs ≡ cert.pairs
-  pairs_are_back =
-      pairs_back cert.format cert.inputs cert.pairs cert.cells six last (word_lines cert) has.inputs.0 is_few refl parts format_is
-      inputs_are has.format has.pair_count all_pairs has.pairs_rise has.cell_count all_cells has.cells_rise
+  pairs_are_back = search (pairs_back, parts, format_is, inputs_are, all_pairs, all_cells)
 
   cells_pass_here : Pass (cells_judges (word_lines cert) (cells_place (word_lines cert))) (section (codes "cells") (map cell_words cert.cells))
-  cells_pass_here =
-      cells_pass cert.format cert.inputs cert.pairs cert.cells six last (word_lines cert) has.inputs.0 is_few refl parts format_is
-      inputs_are has.format has.pair_count all_pairs has.pairs_rise has.cell_count all_cells has.cells_rise
+  cells_pass_here = search (cells_pass, parts, format_is, inputs_are, all_pairs, all_cells)
 
   cells_are_back : (cert_of (word_lines cert)).cells ≡ cert.cells
-  cells_are_back =
-      cells_back cert.format cert.inputs cert.pairs cert.cells six last (word_lines cert) has.inputs.0 is_few refl parts format_is
-      inputs_are has.format has.pair_count all_pairs has.pairs_rise has.cell_count all_cells has.cells_rise
+  cells_are_back = search (cells_back, parts, format_is, inputs_are, all_pairs, all_cells)
 
   title_passes : title_fault (field (codes "bddorder-certificate") (cert.format ∷ [])) ≡ None
   title_passes = by cert.format has.format where
@@ -251,28 +226,7 @@ module _ (cert : Certificate) (has : HasSpelling cert) where
     by format (inr two) = unfold digits in rw two refl
 
   six_pass : Pass (head_judges cert.inputs) six
-  six_pass =
-      let inputs = has.inputs in let outputs = has.outputs in let total = has.total in (
-        title_passes,
-        (
-          field_passes (codes "inputs") 1 1 16 (cert.inputs ∷ []) refl (lit< tt) (inputs, tt),
-          (
-            field_passes (codes "outputs") 1 1 16 (cert.outputs ∷ []) refl (lit< tt) (outputs, tt),
-            (
-              field_passes (codes "order") cert.inputs 0 15 cert.order has.order.0 (lit< tt)
-                  (from_zero 15 cert.order (recursion_from_All _ cert.order has.order.1)),
-              (
-                field_passes (codes "levels") cert.inputs 0 most_nodes cert.levels has.levels.0 (lit< tt)
-                    (from_zero most_nodes cert.levels (recursion_from_All _ cert.levels has.levels.1)),
-                (
-                  field_passes (codes "total") 1 0 most_nodes (cert.total ∷ []) refl (lit< tt) ((omega arith, total), tt),
-                  refl,
-                ),
-              ),
-            ),
-          ),
-        ),
-      )
+  six_pass = search (title_passes, field_passes, lit<, from_zero, recursion_from_All)
 
   -- each line passes
   all_pass : Pass (judges (word_lines cert)) (word_lines cert)
@@ -281,20 +235,7 @@ module _ (cert : Certificate) (has : HasSpelling cert) where
       let asked : head_judges (inputs_said ws)
       ++ (pairs_judges ws ++ (cells_judges ws (cells_place ws) ++ fixed_fault (codes "end" ∷ []) ∷ [])) ≡ judges ws =
       unfold judges in refl in
-      let first : Pass (head_judges (inputs_said ws)) six = subst (λ n. Pass (head_judges n) six) (sym inputs_are) six_pass in
-      let end : Pass (fixed_fault (codes "end" ∷ []) ∷ []) last = (refl, refl) in
-      let rest = pass_append (cells_judges ws (cells_place ws)) (fixed_fault (codes "end" ∷ []) ∷ [])
-      (section (codes "cells") (map cell_words cert.cells)) last cells_pass_here end in
-      let more = pass_append (pairs_judges ws) (cells_judges ws (cells_place ws) ++ fixed_fault (codes "end" ∷ []) ∷ [])
-      (pair_lines cert.format cert.pairs) (section (codes "cells") (map cell_words cert.cells) ++ last) pairs_pass_here rest in
-      let all = pass_append (head_judges (inputs_said ws))
-      (pairs_judges ws ++ (cells_judges ws (cells_place ws) ++ fixed_fault (codes "end" ∷ []) ∷ [])) six
-      (pair_lines cert.format cert.pairs ++ (section (codes "cells") (map cell_words cert.cells) ++ last)) first more in
-      subst (λ js. Pass js ws) asked
-      (subst (Pass
-      (head_judges (inputs_said ws)
-      ++ (pairs_judges ws ++ (cells_judges ws (cells_place ws) ++ fixed_fault (codes "end" ∷ []) ∷ []))))
-      (sym parts) all)
+      grind (arith, inputs_are, six_pass, pass_append, cells_pass_here, pairs_pass_here, parts)
 
   -- the lines of a spelling, each with its line feed, are the spelling
   feeds_back : (lines : List (List (List ℕ))) → with_feeds (map (join_with_byte 32) lines) ≡ flat_map text_line lines
@@ -308,17 +249,7 @@ module _ (cert : Certificate) (has : HasSpelling cert) where
   spelling_is = unfold spelling in refl
 
   nothing_trails : trailing (length (judges (word_lines cert))) (spelling cert) ≡ []
-  nothing_trails =
-      let count : length (judges (word_lines cert)) ≡ length (map (join_with_byte 32) (word_lines cert)) =
-      pass_length (judges (word_lines cert)) (word_lines cert) all_pass
-      ∙ sym (length-map (word_lines cert) (join_with_byte 32)) in
-      nothing_behind (length (judges (word_lines cert))) (spelling cert)
-      (
-      ap (λ lines. with_feeds (take (length (judges (word_lines cert))) lines)) whole_are
-      ∙ ap with_feeds (take_all (length (judges (word_lines cert))) (map (join_with_byte 32) (word_lines cert)) (omega (arith, count)))
-      ∙ feeds_back (word_lines cert)
-      ∙ spelling_is
-      )
+  nothing_trails = grind (arith, pass_length, all_pass, length-map, nothing_behind, whole_are, take_all, feeds_back, spelling_is)
 
   pub no_fault : faults (spelling cert) ≡ []
   no_fault = unfold faults in rw spelling_said (rw (pass_none 1 (judges (word_lines cert)) (word_lines cert) all_pass) nothing_trails)
@@ -333,10 +264,10 @@ module _ (cert : Certificate) (has : HasSpelling cert) where
     levels_back = decimals_back cert.levels (small 0 most_nodes cert.levels (lit< tt) (recursion_from_All _ cert.levels has.levels.1))
 
     outputs_back : number_said (word_lines cert) 2 ≡ cert.outputs
-    outputs_back = let outputs = has.outputs in rw lines_are (decimal_back cert.outputs (omega (arith, outputs.1)))
+    outputs_back = let outputs = has.outputs in rw lines_are (decimal_back cert.outputs (omega arith))
 
     total_back : number_said (word_lines cert) 5 ≡ cert.total
-    total_back = let total = has.total in rw lines_are (decimal_back cert.total (omega (arith, total)))
+    total_back = let total = has.total in rw lines_are (decimal_back cert.total (omega arith))
 
     orders : numbers_of (get_or (word_lines cert) 3 []) ≡ cert.order
     orders = rw lines_are order_back

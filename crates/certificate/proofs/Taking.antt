@@ -2,34 +2,16 @@
 use Rattle.std.proofs.Common.{◌≡◌, ℕ, ◌+◌, ◌-◌, ◌<◌, ◌≤◌, zero, suc, refl, sym, ◌∙◌, ap, subst, Bool, true, false, ◌==◌, List, [], ◌∷◌, ◌++◌, length, map, take, drop, get_or, Option, None, Some, Result, Ok, Err, arith, append_assoc}
 use Rattle.std.specs.List.{range_with_len}
 use Rattle.std.specs.Result.{IsErrAnd}
-use Rattle.std.proofs.lemmas.Bool.Decides.{nat_tests}
 use Rattle.std.proofs.lemmas.List.{length-append, length-map, map-append}
 use Rattle.std.proofs.lemmas.List.FromFn.{length-range_with_len}
 use Rattle.std.proofs.Math.Seq.{get_or-append_seam, drop-append-add, take-append_seam}
 use Rattle.certificate.specs.declared.faults.CertFault.{CertFault}
-use Rattle.certificate.specs.declared.faults.CertFault.TheVariants as found
 use Rattle.order_model.specs.Texts.{number_of}
-use Rattle.certificate.specs.Faults.{LineTest, said, line_faults, number_said, field_fault, entry_fault, rises, section_judges}
+use Rattle.certificate.specs.Faults.{LineTest, said, number_said, field_fault, entry_fault, rises, section_judges}
 use Rattle.certificate.specs.Decoded.{section_said}
 use Rattle.certificate.specs.Parsing.{FailsFirst, Asks, outcome, TakesSection}
 use Rattle.certificate.specs.Values.{is_above}
 use Rattle.certificate.proofs.Sections.{Before, entry_judges, entry_is}
-
--- judges that agree find the same
-pub same_judge : (number : ℕ) (j k : LineTest) (js : List LineTest) (text : List ℕ) → ((ws : List (List ℕ)) → j ws ≡ k ws) →
-    outcome number (j ∷ js) text ≡ outcome number (k ∷ js) text
-unfolding outcome line_faults
-same_judge number j k js text same = by (said text) refl where
-  by : (lines : List (List (List ℕ))) → said text ≡ lines → outcome number (j ∷ js) text ≡ outcome number (k ∷ js) text
-  by [] e = unfold outcome in rw e refl
-  by (ws ∷ lines) e = unfold outcome in rw e (rw (same ws) refl)
-
-entry_same : (is_entry f g : List ℕ → List ℕ → Bool) → ((a b : List ℕ) → f a b ≡ g a b) → (ws : List (List ℕ)) →
-    entry_fault is_entry f ws ≡ entry_fault is_entry g ws
-entry_same is_entry f g same [] = refl
-entry_same is_entry f g same (a ∷ []) = refl
-entry_same is_entry f g same (a ∷ b ∷ []) = rw (same a b) refl
-entry_same is_entry f g same (a ∷ b ∷ d ∷ more) = refl
 
 module _ {E : Type 0} (read : List (List ℕ) → E) (key_of : E → ℕ) (name : List ℕ) (most : ℕ) (is_entry : List ℕ → List ℕ → Bool)
     (key : List ℕ → List ℕ → ℕ) (keyed : (a b : List ℕ) → key_of (read (a ∷ b ∷ [])) ≡ key a b) where
@@ -48,14 +30,14 @@ module _ {E : Type 0} (read : List (List ℕ) → E) (key_of : E → ℕ) (name 
 
   rises_is : (ws : List (List (List ℕ))) (first k : ℕ) (last : Option ℕ) → Before is_entry key ws first k last → (a b : List ℕ) →
       rises key ws first k a b ≡ is_above last (key a b)
-  rises_is ws first k None e a b = let here : (k == first) ≡ true = grind (arith, nat_tests) in rw here refl
-  rises_is ws first k (Some j) (later, e) a b = let here : (k == first) ≡ false = grind (arith, nat_tests) in rw here (rw e refl)
+  rises_is ws first k None e a b = let here : (k == first) ≡ true = grind arith in rw here refl
+  rises_is ws first k (Some j) (later, e) a b = let here : (k == first) ≡ false = grind arith in rw here (rw e refl)
 
   -- what is asked of the next entry, and what of those after it
   next_judges : (ws : List (List (List ℕ))) (first k left : ℕ) → 0 < left →
       entry_judges is_entry key ws first k left ≡ entry_fault is_entry (rises key ws first k) ∷ entry_judges is_entry key ws first (k + 1)
       (left - 1)
-  next_judges ws first k zero some = absurd (omega (arith, some))
+  next_judges ws first k zero some = absurd (omega arith)
   next_judges ws first k (suc left) some = let less : suc left - 1 ≡ left = omega arith in rw less refl
 
   number_here : (pre : List (List (List ℕ))) (text : List ℕ) (head : List (List ℕ)) (others : List (List (List ℕ))) →
@@ -78,17 +60,7 @@ module _ {E : Type 0} (read : List (List ℕ) → E) (key_of : E → ℕ) (name 
     first_left : (pre : List (List (List ℕ))) (js : List LineTest) →
         outcome number₀ (section_judges name most is_entry key (pre ++ said text₀) (length pre) ++ js) text₀
         ≡ outcome number (entry_judges is_entry key (pre ++ said text₀) (length pre + 1) ((length pre + 1) + 0) (count - 0) ++ js) rest
-    first_left pre js =
-        let same : number_said (pre ++ said text₀) (length pre) ≡ count - 0 = number_here pre text₀ ws (said rest) parts ∙ sym value ∙ (omega arith) in
-        let start : (length pre + 1) + 0 ≡ length pre + 1 = omega arith in
-        let all = left
-        (map (λ k. entry_fault is_entry (rises key (pre ++ said text₀) (length pre + 1) k))
-        (range_with_len (length pre + 1) (number_said (pre ++ said text₀) (length pre)))
-        ++ js) in
-        all ∙ ap (λ n. outcome number
-        (map (λ k. entry_fault is_entry (rises key (pre ++ said text₀) (length pre + 1) k)) (range_with_len (length pre + 1) n) ++ js)
-        rest) same
-        ∙ ap (λ k. outcome number (entry_judges is_entry key (pre ++ said text₀) (length pre + 1) k (count - 0) ++ js) rest) (sym start)
+    first_left pre js = grind (arith, number_here)
 
   -- what is left with one entry to be asked
   with_next : (number₀ : ℕ) (text₀ : List ℕ) (count i : ℕ) (last : Option ℕ) (items : List E) (number : ℕ) (rest : List ℕ) →
@@ -98,12 +70,7 @@ module _ {E : Type 0} (read : List (List ℕ) → E) (key_of : E → ℕ) (name 
       ≡ outcome number
       (entry_fault is_entry (λ a b. is_above last (key a b)) ∷
       (entry_judges is_entry key (pre ++ said text₀) (length pre + 1) (((length pre + 1) + i) + 1) ((count - i) - 1) ++ js)) rest
-  with_next number₀ text₀ count i last items number rest r more pre js =
-      let ws = pre ++ said text₀ in let first = length pre + 1 in
-      r.left pre js ∙ ap (λ ks. outcome number (ks ++ js) rest) (next_judges ws first (first + i) (count - i) (omega (arith, more)))
-      ∙ same_judge number (entry_fault is_entry (rises key ws first (first + i))) (entry_fault is_entry (λ a b. is_above last (key a b)))
-      (entry_judges is_entry key ws first ((first + i) + 1) ((count - i) - 1) ++ js) rest
-      (entry_same is_entry (rises key ws first (first + i)) (λ a b. is_above last (key a b)) (rises_is ws first (first + i) last (r.before pre)))
+  with_next number₀ text₀ count i last items number rest r more pre js = grind (arith, next_judges, rises_is)
 
   pub reached_fails : (number₀ : ℕ) (text₀ : List ℕ) (count i : ℕ) (last : Option ℕ) (items : List E) (number : ℕ) (rest : List ℕ)
       (after : ℕ) (rest' : List ℕ) (P : List (List ℕ) → E → Type 0) (fault : CertFault) →
@@ -127,14 +94,14 @@ module _ {E : Type 0} (read : List (List ℕ) → E) (key_of : E → ℕ) (name 
         head = r.head;
         es = r.es ++ ws ∷ [];
         count_is = r.count_is;
-        parts = r.parts ∙ ap (λ xs. (r.head ∷ r.es) ++ xs) parts ∙ sym (append_assoc (r.head ∷ r.es) (ws ∷ []) (said rest'));
+        parts = grind (arith, append_assoc);
         many = length-append r.es (ws ∷ []) ∙ ap (λ n. n + 1) r.many;
-        items_are = ap (λ xs. items ++ xs) (ap (λ x. x ∷ []) value) ∙ ap (λ xs. xs ++ read ws ∷ []) r.items_are ∙ sym (map-append read r.es (ws ∷ []));
+        items_are = grind (arith, map-append);
         before = λ pre. later pre told.0 told.1 told.2 key_here;
         left = λ pre js. next_left pre js;
       } where
         place_is : (pre : List (List (List ℕ))) → length (pre ++ (r.head ∷ r.es)) ≡ (length pre + 1) + i
-        place_is pre = omega (arith, length-append pre (r.head ∷ r.es), r.many)
+        place_is pre = omega (arith, length-append pre (r.head ∷ r.es))
 
         here : (pre : List (List (List ℕ))) → get_or (pre ++ said text₀) ((length pre + 1) + i) [] ≡ ws
         here pre =
@@ -170,7 +137,7 @@ module _ {E : Type 0} (read : List (List ℕ) → E) (key_of : E → ℕ) (name 
         ws = pre ++ said text₀
 
         none : count - i ≡ 0
-        none = omega (arith, low)
+        none = omega arith
 
         whole : (js : List LineTest) → outcome number₀ (section_judges name most is_entry key ws (length pre) ++ js) text₀ ≡ outcome number js rest
         whole js = r.left pre js
@@ -178,7 +145,7 @@ module _ {E : Type 0} (read : List (List ℕ) → E) (key_of : E → ℕ) (name 
             rest) none
 
         count_here : number_said ws (length pre) ≡ length r.es
-        count_here = number_here pre text₀ r.head (r.es ++ said rest) r.parts ∙ r.count_is ∙ (omega (arith, low, high, r.many))
+        count_here = number_here pre text₀ r.head (r.es ++ said rest) r.parts ∙ r.count_is ∙ (omega arith)
 
         long : length (r.head ∷ r.es) ≡ length (section_judges name most is_entry key ws (length pre))
         long = ap suc
@@ -205,10 +172,3 @@ pub section_fails : {V E : Type 0} (name : List ℕ) (most : ℕ) (is_entry : Li
     TakesSection name most is_entry key read items number text after rest result
 section_fails name most is_entry key read items number text after rest (Ok v) fault is fails = elim is [ ]
 section_fails name most is_entry key read items number text after rest (Err e) fault is fails = rw is fails
-
-pub memory_fails : {V E : Type 0} (name : List ℕ) (most : ℕ) (is_entry : List ℕ → List ℕ → Bool) (key : List ℕ → List ℕ → ℕ)
-    (read : List (List ℕ) → E) (items : V → List E) (number : ℕ) (text : List ℕ) (after : ℕ) (rest : List ℕ) (result : Result V CertFault)
-    (fault : CertFault) →
-    IsErrAnd result (λ e. e ≡ fault) → fault ≡ found.OutOfMemory → TakesSection name most is_entry key read items number text after rest result
-memory_fails name most is_entry key read items number text after rest (Ok v) fault is memory = elim is [ ]
-memory_fails name most is_entry key read items number text after rest (Err e) fault is memory = rw (is ∙ memory) (λ pre js. tt)

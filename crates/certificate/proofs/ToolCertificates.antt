@@ -3,7 +3,6 @@
 --     tool_spelled      the bounds of all its parts
 use Rattle.std.proofs.Common.{◌≡◌, ℕ, zero, suc, ◌+◌, ◌-◌, ◌*◌, ◌^◌, ◌<◌, ◌≤◌, ◌&&◌, inr, Bool, true, false, cond, List, [], ◌∷◌, ◌++◌, length, map, Option, None, Some, refl, ◌∙◌, arith, nat_lt}
 use Rattle.std.specs.List.{AllByRecursion, AllPairs, filter, flat_map, range_with_len, sum}
-use Rattle.std.proofs.lemmas.Bool.Decides.{nat_tests}
 use Rattle.std.proofs.lemmas.List.{length-map}
 use Rattle.std.proofs.lemmas.List.Elements.{All-from_recursion}
 use Rattle.std.proofs.lemmas.List.FromFn.{length-map-range_with_len}
@@ -17,7 +16,6 @@ use Rattle.order_model.specs.Certificates.{Cell, certificate_of, least_listed, l
 use Rattle.order_model.proofs.Functions.Exchange.{Below, below_from_has}
 use Rattle.order_model.proofs.Widths.SizeBounds.{order_length, size_bound}
 use Rattle.certificate.specs.Spelling.{HasSpelling, IsCell, most_nodes, pair_key}
-use Rattle.certificate.proofs.Judges.{both_are}
 use Rattle.certificate.proofs.Rising.{IsAbove, RiseFrom, rise_pairs}
 
 module _ {E : Type 0} (key : E → ℕ) where
@@ -29,18 +27,18 @@ module _ {E : Type 0} (key : E → ℕ) where
   range_rises : (before : Option ℕ) (low high : ℕ) (es : List E) → ((k : ℕ) → low ≤ k → IsAbove before k) → InRange low high es → RiseFrom key before es
   range_rises before low high [] above within = tt
   range_rises before low high (e ∷ es) above (here, under, within) =
-      (above (key e) here, range_rises (Some (key e)) (key e + 1) high es (λ k h. omega (arith, h)) within)
+      (above (key e) here, range_rises (Some (key e)) (key e + 1) high es (λ k h. omega arith) within)
 
   range_wider : (low low' high high' : ℕ) (es : List E) → low' ≤ low → high ≤ high' → InRange low high es → InRange low' high' es
   range_wider low low' high high' [] a b within = tt
   range_wider low low' high high' (e ∷ es) a b (here, under, within) =
-      (omega (arith, a, here), omega (arith, b, under), range_wider (key e + 1) (key e + 1) high high' es (omega arith) b within)
+      grind (arith, range_wider (key e + 1) (key e + 1) high high' es (omega arith) b within)
 
   range_append : (low middle high : ℕ) (es fs : List E) → low ≤ middle → middle ≤ high → InRange low middle es → InRange middle high fs →
       InRange low high (es ++ fs)
   range_append low middle high [] fs a b here more = range_wider middle low high high fs a (omega arith) more
   range_append low middle high (e ∷ es) fs a b (first, under, here) more =
-      (first, omega (arith, b, under), range_append (key e + 1) middle high es fs (omega (arith, under)) b here more)
+      grind (arith, range_append (key e + 1) middle high es fs (omega arith) b here more)
 
   pub range_pairs : (low high : ℕ) (es : List E) → InRange low high es → AllPairs (λ a b. key a < key b) es
   range_pairs low high es within = rise_pairs key None es (range_rises None low high es (λ k h. tt) within)
@@ -50,28 +48,12 @@ module _ {E : Type 0} (make : ℕ → E) (p : ℕ → Bool) where
   pub kept_range : (key : E → ℕ) (base : ℕ) → ((k : ℕ) → key (make k) ≡ base + k) → (low count : ℕ) →
       InRange key (base + low) (base + low + count) (map make (filter p (range_with_len low count)))
   kept_range key base is low zero = tt
-  kept_range key base is low (suc count) = by (p low) (kept_range key base is (low + 1) count)
-    where
-      here : key (make low) ≡ base + low
-      here = is low
-
-      by : (b : Bool) → InRange key (base + (low + 1)) (base + (low + 1) + count) (map make (filter p (range_with_len (low + 1) count))) →
-          InRange key (base + low) (base + low + suc count)
-          (map make (cond b (low ∷ filter p (range_with_len (low + 1) count)) (filter p (range_with_len (low + 1) count))))
-      by true rest = (
-        omega (arith, here),
-        omega (arith, here),
-        range_wider key (base + (low + 1)) (key (make low) + 1) (base + (low + 1) + count) (base + low + suc count)
-            (map make (filter p (range_with_len (low + 1) count))) (omega (arith, here)) (omega arith) rest,
-      )
-      by false rest =
-          range_wider key (base + (low + 1)) (base + low) (base + (low + 1) + count) (base + low + suc count)
-          (map make (filter p (range_with_len (low + 1) count))) (omega arith) (omega arith) rest
+  kept_range key base is low (suc count) = grind (arith, range_wider, kept_range key base is (low + 1) count)
 
   pub kept_all : (Q : E → Type 0) (low count : ℕ) → ((k : ℕ) → low ≤ k → k < low + count → p k ≡ true → Q (make k)) →
       AllByRecursion Q (map make (filter p (range_with_len low count)))
   kept_all Q low zero holds = tt
-  kept_all Q low (suc count) holds = by (p low) refl (kept_all Q (low + 1) count (λ k a b e. holds k (omega (arith, a)) (omega (arith, b)) e))
+  kept_all Q low (suc count) holds = by (p low) refl (kept_all Q (low + 1) count (λ k a b e. holds k (omega arith) (omega arith) e))
     where
       by : (b : Bool) → p low ≡ b → AllByRecursion Q (map make (filter p (range_with_len (low + 1) count))) →
           AllByRecursion Q (map make (cond b (low ∷ filter p (range_with_len (low + 1) count)) (filter p (range_with_len (low + 1) count))))
@@ -80,12 +62,7 @@ module _ {E : Type 0} (make : ℕ → E) (p : ℕ → Bool) where
 
 kept_few : (p : ℕ → Bool) (low count : ℕ) → length (filter p (range_with_len low count)) ≤ count
 kept_few p low zero = omega arith
-kept_few p low (suc count) = by (p low) (kept_few p (low + 1) count)
-  where
-    by : (b : Bool) → length (filter p (range_with_len (low + 1) count)) ≤ count →
-        length (cond b (low ∷ filter p (range_with_len (low + 1) count)) (filter p (range_with_len (low + 1) count))) ≤ suc count
-    by true few = omega (arith, few)
-    by false few = omega (arith, few)
+kept_few p low (suc count) = grind (arith, kept_few p (low + 1) count)
 
 -- pairs that are listed by their first variable and then by their second one rise
 pairs_of : (ℕ → ℕ → Bool) → ℕ → List ℕ → List Pair
@@ -99,7 +76,7 @@ pairs_rise has n low (suc count) few =
     (pairs_of has n (range_with_len (low + 1) count))
     (omega arith) (omega arith)
     (range_wider pair_key (low * 16 + 0) (low * 16) (low * 16 + 0 + n) ((low + 1) * 16)
-    (map (λ b. (low, b)) (filter (has low) (range_with_len 0 n))) (omega arith) (omega (arith, few))
+    (map (λ b. (low, b)) (filter (has low) (range_with_len 0 n))) (omega arith) (omega arith)
     (kept_range (λ (b : ℕ). (low, b)) (has low) pair_key (low * 16) (λ k. refl) 0 n))
     (range_wider pair_key ((low + 1) * 16) ((low + 1) * 16) ((low + 1 + count) * 16) ((low + suc count) * 16)
     (pairs_of has n (range_with_len (low + 1) count)) (omega arith) (omega arith) (pairs_rise has n (low + 1) count few))
@@ -109,11 +86,11 @@ each_within : (xs : List ℕ) (most : ℕ) → sum xs ≤ most → AllByRecursio
 each_within [] most small = tt
 each_within (x ∷ xs) most small =
     let parts : sum (x ∷ xs) ≡ x + sum xs = sum_by-cons (λ k. k) x xs in
-    (omega (arith, parts, small), each_within xs most (omega (arith, parts, small)))
+    (omega arith, each_within xs most (omega arith))
 
 at_most_15 : (n : ℕ) (xs : List ℕ) → n ≤ 16 → Below n xs → AllByRecursion (λ x. x ≤ 15) xs
 at_most_15 n [] few below = tt
-at_most_15 n (x ∷ xs) few (here, below) = (omega (arith, here, few), at_most_15 n xs few below)
+at_most_15 n (x ∷ xs) few (here, below) = (omega arith, at_most_15 n xs few below)
 
 module _ (n : ℕ) (F : List Function) (P : List Pair) (order : List ℕ) (some : 1 ≤ n) (few : n ≤ 16) (outputs : 1 ≤ length F) (few_outputs : length F ≤ 16)
     (is_order : IsOrder n order) (below : AreBelow n P) (most : length P ≤ 240) (sorted : sorted_pairs n P ≡ P) where
@@ -121,7 +98,7 @@ module _ (n : ℕ) (F : List Function) (P : List Pair) (order : List ℕ) (some 
   total = size_under n F order
 
   small : size_under n F order ≤ most_nodes
-  small = let s = size_bound n F order few few_outputs is_order in omega (arith, s)
+  small = let s = size_bound n F order few few_outputs is_order in omega arith
 
   levels : AllByRecursion (λ count. count ≤ most_nodes) (level_counts n F order)
   unfolding size_under
@@ -149,14 +126,7 @@ module _ (n : ℕ) (F : List Function) (P : List Pair) (order : List ℕ) (some 
           (is_lawful P (members n k)
           && nat_lt (least n F P (members n k) + essentials_outside n F (members n k)) (size_under n F order)) ≡ true →
           IsCell n (least_listed n F P k)
-      one k a b e =
-          let parts =
-          both_are (is_lawful P (members n k))
-          (nat_lt (least n F P (members n k) + essentials_outside n F (members n k)) (size_under n F order)) e in
-          let under : nat_lt (least n F P (members n k) + essentials_outside n F (members n k)) (size_under n F order) ≡ true = parts.1 in
-          let room : least n F P (members n k) + essentials_outside n F (members n k) < size_under n F order = grind (arith, nat_tests) in
-          let bound = small in
-          record { mask = omega (arith, b); cost = omega (arith, room, bound) }
+      one k a b e = grind (arith, small)
 
   cells_rise : AllPairs (λ (a b : Cell). a.mask < b.mask) (map (least_listed n F P) (listed_masks n F P (size_under n F order)))
   unfolding listed_masks least_listed
@@ -168,13 +138,7 @@ module _ (n : ℕ) (F : List Function) (P : List Pair) (order : List ℕ) (some 
 
   cells_few : length (map (least_listed n F P) (listed_masks n F P (size_under n F order))) ≤ 2 ^ n - 1
   unfolding listed_masks
-  cells_few =
-      let l = length-map (listed_masks n F P (size_under n F order)) (least_listed n F P) in
-      let k = kept_few
-      (λ mask. is_lawful P (members n mask)
-      && nat_lt (least n F P (members n mask) + essentials_outside n F (members n mask)) (size_under n F order))
-      0 (2 ^ n - 1) in
-      omega (arith, l, k)
+  cells_few = search (kept_few, length-map)
 
   -- the certificate that the tool writes has a spelling
   pub tool_spelled : HasSpelling (certificate_of n F P order)

@@ -1,10 +1,9 @@
 -- Lines and words of a text that is made of lines of words.
-use Rattle.std.proofs.Common.{◌≡◌, ℕ, ◌/◌, ◌%◌, ◌^◌, ◌≤◌, ◌<◌, refl, ◌∙◌, ap, Bool, true, false, not, ◌&&◌, ◌==◌, List, [], ◌∷◌, ◌++◌, map, decimal, arith}
+use Rattle.std.proofs.Common.{◌≡◌, ℕ, ◌^◌, ◌≤◌, ◌<◌, refl, ◌∙◌, ap, Bool, true, false, not, ◌&&◌, ◌==◌, List, [], ◌∷◌, ◌++◌, map, decimal, arith}
 use Rattle.std.specs.List.{AllByRecursion, flat_map, join_with_byte, slice_split, list_all}
 use Rattle.std.specs.Str.Parse.{AllDigits}
 use Rattle.std.specs.Char.{digit_value}
 use Rattle.std.specs.Fmt.{digit_glyph}
-use Rattle.std.proofs.lemmas.Bool.Decides.{nat_tests}
 use Rattle.std.proofs.lemmas.Fmt.{decimal_is_IsNumeral}
 use Rattle.std.proofs.lemmas.Str.{digit_value-digit_char}
 use Rattle.std.proofs.lemmas.Str.Parse.{digit_from_value}
@@ -73,19 +72,12 @@ no_line (b ∷ text) (here, none) = rw here (ap (onto_line b) (no_line text none
 -- words that are written out are plain, by computation
 pub list_word : (w : List ℕ) → list_all is_plain w ≡ true → IsPlain w
 list_word [] e = tt
-list_word (b ∷ bs) e = by (b == 32) (b == 10) refl refl (list_word bs) where
-  by : (s f : Bool) → (b == 32) ≡ s → (b == 10) ≡ f → (list_all is_plain bs ≡ true → IsPlain bs) → IsPlain (b ∷ bs)
-  by true f es ef more = absurd (let wrong = rw es at e in cc)
-  by false true es ef more = absurd (let half = rw es at e in let wrong = rw ef at half in cc)
-  by false false es ef more = let half = rw es at e in let rest = rw ef at half in (es, ef, more rest)
+list_word (b ∷ bs) e = grind (arith, list_word bs)
 
 pub lines_back : (lines : List (List (List ℕ))) → AllPlain lines → whole_lines (flat_map text_line lines) ≡ map (join_with_byte 32) lines
 unfolding text_line whole_lines
 lines_back [] plain = refl
-lines_back (ws ∷ lines) (plain, filled, rest) =
-    ap whole_lines (append_assoc (join_with_byte 32 ws) (10 ∷ []) (flat_map text_line lines))
-    ∙ line_first (join_with_byte 32 ws) (flat_map text_line lines) (joined_has_none ws plain)
-    ∙ ap (λ more. join_with_byte 32 ws ∷ more) (lines_back lines rest)
+lines_back (ws ∷ lines) (plain, filled, rest) = grind (arith, append_assoc, line_first, joined_has_none, lines_back lines rest)
 
 -- the words of a word and what follows it
 abbrev is_space : ℕ → Bool
@@ -115,7 +107,7 @@ said_back lines plain = ap (map words) (lines_back lines plain) ∙ all_words_ba
 
 -- digits are plain
 digit_plain : (c : ℕ) → 48 ≤ c → ((c == 32) ≡ false) × ((c == 10) ≡ false)
-digit_plain c low = (grind (arith, nat_tests), grind (arith, nat_tests))
+digit_plain c low = (grind arith, grind arith)
 
 digits_plain : (ds : List ℕ) → AllDigits 10 ds → IsPlain ds
 digits_plain [] digits = tt
@@ -134,23 +126,14 @@ glyph d = digit_glyph false d
 pub glyph_value : (d : ℕ) → d < 16 → digit_value (glyph d) ≡ d
 glyph_value d small = digit_value-digit_char d (omega arith)
 
-glyph_low : (d : ℕ) → 48 ≤ glyph d
-glyph_low d = grind (arith, nat_tests)
-
 -- the digits of masks
 pub hex_plain : (mask : ℕ) → IsPlain (hex4 mask)
 unfolding hex4
-hex_plain mask =
-    let a = digit_plain _ (glyph_low (mask / 16 ^ 3 % 16)) in let b = digit_plain _ (glyph_low (mask / 16 ^ 2 % 16)) in
-    let c = digit_plain _ (glyph_low (mask / 16 ^ 1 % 16)) in let d = digit_plain _ (glyph_low (mask / 16 ^ 0 % 16)) in
-    (a.0, a.1, (b.0, b.1, (c.0, c.1, (d.0, d.1, tt))))
+hex_plain mask = grind arith
 
 pub hex_back : (mask : ℕ) → mask < 65536 → mask_of (hex4 mask) ≡ mask
 unfolding hex4
-hex_back mask small =
-    rw (glyph_value (mask / 16 ^ 3 % 16) (omega arith))
-    (rw (glyph_value (mask / 16 ^ 2 % 16) (omega arith))
-    (rw (glyph_value (mask / 16 ^ 1 % 16) (omega arith)) (rw (glyph_value (mask / 16 ^ 0 % 16) (omega arith)) (omega arith))))
+hex_back mask small = grind (arith, glyph_value)
 
 -- decimals of small numbers
 pub decimals_plain : (ns : List ℕ) → AllByRecursion (λ n. n < 2 ^ 64) ns → ArePlain (map decimal ns)

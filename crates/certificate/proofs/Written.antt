@@ -3,7 +3,6 @@ use Rattle.std.proofs.Common.{◌≡◌, ℕ, ◌+◌, ◌/◌, ◌%◌, ◌<◌
 use Rattle.std.specs.List.{flat_map, join_with_byte}
 use Rattle.std.specs.Fmt.{char_count, digits, format_spec, padded_integral}
 use Rattle.std.proofs.lemmas.Bool.{cases_lt}
-use Rattle.std.proofs.lemmas.Bool.Decides.{nat_tests}
 use Rattle.std.proofs.lemmas.List.{take_more, map-append}
 use Rattle.std.proofs.lemmas.Grind.{flat_map-append}
 use Rattle.order_model.specs.Pairs.{Pair}
@@ -21,10 +20,7 @@ behind w (n ∷ ns) = ap (λ r. w ++ (32 ∷ r)) (behind (decimal n) ns)
 pub numbers_written : (s₀ s₁ s₂ s₃ name : List ℕ) (ns : List ℕ) → s₁ ≡ s₀ ++ name → s₂ ≡ s₁ ++ each_spaced ns → s₃ ≡ s₂ ++ 10 ∷ [] →
     s₃ ≡ s₀ ++ text_line (field name ns)
 unfolding text_line
-numbers_written s₀ s₁ s₂ s₃ name ns a b c =
-    c ∙ ap (λ s. s ++ 10 ∷ [])
-    (b ∙ ap (λ s. s ++ each_spaced ns) a ∙ append_assoc s₀ name (each_spaced ns) ∙ ap (λ r. s₀ ++ r) (sym (behind name ns)))
-    ∙ append_assoc s₀ (join_with_byte 32 (name ∷ map decimal ns)) (10 ∷ [])
+numbers_written s₀ s₁ s₂ s₃ name ns a b c = grind (arith, append_assoc, behind)
 
 pub number_written : (name : List ℕ) (n : ℕ) → name ++ (32 ∷ (decimal n ++ 10 ∷ [])) ≡ text_line (field name (n ∷ []))
 unfolding text_line
@@ -47,8 +43,7 @@ entries_more write s₀ s₁ s₂ es i d within a b =
     ap (λ xs. flat_map text_line (map write xs)) (take_more es i d within) ∙ ap (flat_map text_line) (map-append write (take i es) (get_or es i d ∷ []))
     ∙ flat_map-append text_line (map write (take i es)) (write (get_or es i d) ∷ [])
     ∙ ap (λ r. flat_map text_line (map write (take i es)) ++ r) (append-nil (text_line (write (get_or es i d)))) in
-    b ∙ ap (λ s. s ++ text_line (write (get_or es i d))) a
-    ∙ append_assoc s₀ (flat_map text_line (map write (take i es))) (text_line (write (get_or es i d))) ∙ ap (λ r. s₀ ++ r) (sym more)
+    grind (arith, append_assoc)
 
 -- a mask in four hexadecimal digits
 four : (a b c d : ℕ) (mask : ℕ) → a ≡ mask / 4096 % 16 → b ≡ mask / 256 % 16 → c ≡ mask / 16 % 16 → d ≡ mask / 1 % 16 →
@@ -79,25 +74,25 @@ pad_four a b c d = refl
 -- the hexadecimal digits of a mask
 one_digit : (mask : ℕ) → mask < 16 → digits 16 false mask ≡ glyph (mask % 16) ∷ []
 unfolding digits
-one_digit mask small = let end : (mask / 16 == 0) ≡ true = grind (arith, nat_tests) in rw end refl
+one_digit mask small = let end : (mask / 16 == 0) ≡ true = grind arith in rw end refl
 
 two_digits : (mask : ℕ) → 16 ≤ mask → mask < 256 → digits 16 false mask ≡ glyph (mask / 16 % 16) ∷ glyph (mask % 16) ∷ []
 unfolding digits
 two_digits mask low small =
-    let more : (mask / 16 == 0) ≡ false = grind (arith, nat_tests) in let end : (mask / 16 / 16 == 0) ≡ true = grind (arith, nat_tests) in rw more (rw end refl)
+    let more : (mask / 16 == 0) ≡ false = grind arith in let end : (mask / 16 / 16 == 0) ≡ true = grind arith in rw more (rw end refl)
 
 three_digits : (mask : ℕ) → 256 ≤ mask → mask < 4096 → digits 16 false mask ≡ glyph (mask / 16 / 16 % 16) ∷ glyph (mask / 16 % 16) ∷ glyph (mask % 16) ∷ []
 unfolding digits
 three_digits mask low small =
-    let more : (mask / 16 == 0) ≡ false = grind (arith, nat_tests) in let third : (mask / 16 / 16 == 0) ≡ false = grind (arith, nat_tests) in
-    let end : (mask / 16 / 16 / 16 == 0) ≡ true = grind (arith, nat_tests) in rw more (rw third (rw end refl))
+    let more : (mask / 16 == 0) ≡ false = grind arith in let third : (mask / 16 / 16 == 0) ≡ false = grind arith in
+    let end : (mask / 16 / 16 / 16 == 0) ≡ true = grind arith in rw more (rw third (rw end refl))
 
 four_digits : (mask : ℕ) → 4096 ≤ mask → mask < 65536 →
     digits 16 false mask ≡ glyph (mask / 16 / 16 / 16 % 16) ∷ glyph (mask / 16 / 16 % 16) ∷ glyph (mask / 16 % 16) ∷ glyph (mask % 16) ∷ []
 unfolding digits
 four_digits mask low small =
-    let more : (mask / 16 == 0) ≡ false = grind (arith, nat_tests) in let third : (mask / 16 / 16 == 0) ≡ false = grind (arith, nat_tests) in
-    let fourth : (mask / 16 / 16 / 16 == 0) ≡ false = grind (arith, nat_tests) in let end : (mask / 16 / 16 / 16 / 16 == 0) ≡ true = grind (arith, nat_tests) in
+    let more : (mask / 16 == 0) ≡ false = grind arith in let third : (mask / 16 / 16 == 0) ≡ false = grind arith in
+    let fourth : (mask / 16 / 16 / 16 == 0) ≡ false = grind arith in let end : (mask / 16 / 16 / 16 / 16 == 0) ≡ true = grind arith in
     rw more (rw third (rw fourth (rw end refl)))
 
 -- and with zeros before them up to four
@@ -111,10 +106,7 @@ zero_padded mask small = by (cases_lt mask 16) (cases_lt mask 256) (cases_lt mas
   by (inr a) (inr b) (inl c) =
       ap padded_to (three_digits mask b c) ∙ pad_three (glyph (mask / 16 / 16 % 16)) (glyph (mask / 16 % 16)) (glyph (mask % 16))
       ∙ four 0 (mask / 16 / 16 % 16) (mask / 16 % 16) (mask % 16) mask (omega arith) (omega arith) (omega arith) (omega arith)
-  by (inr a) (inr b) (inr c) =
-      ap padded_to (four_digits mask c small)
-      ∙ pad_four (glyph (mask / 16 / 16 / 16 % 16)) (glyph (mask / 16 / 16 % 16)) (glyph (mask / 16 % 16)) (glyph (mask % 16))
-      ∙ four (mask / 16 / 16 / 16 % 16) (mask / 16 / 16 % 16) (mask / 16 % 16) (mask % 16) mask (omega arith) (omega arith) (omega arith) (omega arith)
+  by (inr a) (inr b) (inr c) = grind (arith, four_digits, pad_four, four)
 
 -- a text after two others
 pub after : (s₀ s₁ s₂ a b : List ℕ) → s₁ ≡ s₀ ++ a → s₂ ≡ s₁ ++ b → s₂ ≡ s₀ ++ (a ++ b)
@@ -124,12 +116,7 @@ after s₀ s₁ s₂ a b e g = g ∙ ap (λ s. s ++ b) e ∙ append_assoc s₀ a
 pub six_written : (s₀ s₁ s₂ s₃ s₄ s₅ s₆ : List ℕ) (a b c d e f : List (List ℕ)) → s₁ ≡ s₀ ++ text_line a → s₂ ≡ s₁ ++ text_line b →
     s₃ ≡ s₂ ++ text_line c → s₄ ≡ s₃ ++ text_line d → s₅ ≡ s₄ ++ text_line e → s₆ ≡ s₅ ++ text_line f →
     s₆ ≡ s₀ ++ flat_map text_line (a ∷ b ∷ c ∷ d ∷ e ∷ f ∷ [])
-six_written s₀ s₁ s₂ s₃ s₄ s₅ s₆ a b c d e f ea eb ec ed ee ef =
-    let five = after s₄ s₅ s₆ (text_line e) (text_line f ++ []) ee (ef ∙ ap (λ r. s₅ ++ r) (sym (append-nil (text_line f)))) in
-    let four = after s₃ s₄ s₆ (text_line d) _ ed five in
-    let three = after s₂ s₃ s₆ (text_line c) _ ec four in
-    let two = after s₁ s₂ s₆ (text_line b) _ eb three in
-    after s₀ s₁ s₆ (text_line a) _ ea two
+six_written s₀ s₁ s₂ s₃ s₄ s₅ s₆ a b c d e f ea eb ec ed ee ef = grind (arith, after, append-nil)
 
 -- the whole text
 pub spelling_written : (s₀ s₁ s₂ s₃ s₄ : List ℕ) (cert : Certificate) → s₀ ≡ [] → s₁ ≡ s₀ ++ flat_map text_line (head_lines cert) →
@@ -138,19 +125,11 @@ pub spelling_written : (s₀ s₁ s₂ s₃ s₄ : List ℕ) (cert : Certificate
 unfolding spelling word_lines text_line
 spelling_written s₀ s₁ s₂ s₃ s₄ cert none a b c d =
     let pairs = pair_lines cert.format cert.pairs in let cells = section (codes "cells") (map cell_words cert.cells) in let last = (codes "end" ∷ []) ∷ [] in
-    let three = after s₂ s₃ s₄ (flat_map text_line cells) (flat_map text_line last) c d in
-    let two = after s₁ s₂ s₄ (flat_map text_line pairs) _ b three in
-    let one = after s₀ s₁ s₄ (flat_map text_line (head_lines cert)) _ a two in
+    let two = after s₁ s₂ s₄ (flat_map text_line pairs) _ b (after s₂ s₃ s₄ (flat_map text_line cells) (flat_map text_line last) c d) in
     let joined : flat_map text_line (head_lines cert ++ (pairs ++ (cells ++ last))) ≡ flat_map text_line (head_lines cert)
     ++ (flat_map text_line pairs ++ (flat_map text_line cells ++ flat_map text_line last)) =
-    flat_map-append text_line (head_lines cert) (pairs ++ (cells ++ last))
-    ∙ ap (λ r. flat_map text_line (head_lines cert) ++ r)
-    (flat_map-append text_line pairs (cells ++ last)
-    ∙ ap (λ r. flat_map text_line pairs ++ r) (flat_map-append text_line cells last)) in
-    one ∙ ap (λ s. s
-    ++ (flat_map text_line (head_lines cert)
-    ++ (flat_map text_line pairs ++ (flat_map text_line cells ++ flat_map text_line last)))) none
-    ∙ sym joined
+    search flat_map-append in
+    grind arith
 
 -- a line of numbers that are told
 pub told : (s₀ s₁ name : List ℕ) (ms ns : List ℕ) → s₁ ≡ s₀ ++ text_line (field name ms) → ms ≡ ns → s₁ ≡ s₀ ++ text_line (field name ns)

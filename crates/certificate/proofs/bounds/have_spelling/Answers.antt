@@ -5,7 +5,7 @@ use Rattle.certificate.proofs.bounds.have_spelling.Goals as goal
 pub returns-then-not-pairs_fit-clause-unspelled : goal.returns-then-not-pairs_fit-clause-unspelled
 returns-then-not-pairs_fit-clause-unspelled c e format has =
     let fits : c.pairs_fit.result ≡ true = c.pairs_fit.ensures.1 (spelled_pairs format _ _ _ _ _ _ c.args.cells.now has) in
-    absurd (let wrong = sym c.if-not-pairs_fit.true ∙ fits in cc (wrong))
+    absurd (let wrong = sym c.if-not-pairs_fit.true ∙ fits in cc wrong)
 
 pub returns-clause-spelled : goal.returns-clause-spelled
 returns-clause-spelled c e format known =
@@ -15,5 +15,4 @@ returns-clause-spelled c e format known =
 
 pub returns-clause-unspelled : goal.returns-clause-unspelled
 returns-clause-unspelled c e format has =
-    let fits : c.cells_fit.result ≡ true = c.cells_fit.ensures.1 (spelled_cells format _ _ _ _ _ _ c.args.cells.now has) in
-    absurd (let wrong = sym e ∙ fits in cc (wrong))
+    absurd (let wrong = sym e ∙ (c.cells_fit.ensures.1 (spelled_cells format _ _ _ _ _ _ c.args.cells.now has)) in cc wrong)

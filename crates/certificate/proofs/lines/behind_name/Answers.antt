@@ -1,5 +1,4 @@
-use Rattle.std.proofs.Common.{◌≡◌, ◌==◌, false, true, length, ◌∙◌, ap, ◌∷◌, arith, rules}
-use Rattle.std.proofs.lemmas.Bool.Decides.{nat_tests}
+use Rattle.std.proofs.Common.{◌≡◌, true, ◌∙◌, ap, ◌∷◌, arith, rules}
 use Rattle.order_model.specs.Texts.{same}
 use Rattle.certificate.specs.Faults.{words}
 use Rattle.certificate.proofs.Judges.{same_is}
@@ -8,26 +7,18 @@ use Rattle.certificate.proofs.NumberLines.{no_name, other_name, other_count}
 use Rattle.certificate.proofs.lines.behind_name.Goals as goal
 
 pub returns-in_default-clause-none : goal.returns-in_default-clause-none
-returns-in_default-clause-none c least most =
-    no_name c.args.name.now c.args.count least most c.args.line.now (omega (arith, c.requires)) c.in_default.ensures.none
+returns-in_default-clause-none c least most = grind (arith, no_name)
 
 pub returns-then-ne-clause-none : goal.returns-then-ne-clause-none
-returns-then-ne-clause-none c least most =
-    let other : same c.in-Some.word.now c.args.name.now ≡ false = search rules in
-    other_name c.args.name.now c.args.count least most c.args.line.now c.in-Some.word.now c.in-Some.rest.now
-    c.in-Some.ensures.some other
+returns-then-ne-clause-none c least most = grind (arith, other_name)
 
 pub returns-then-count_words-count-clause-none : goal.returns-then-count_words-count-clause-none
-returns-then-count_words-count-clause-none c least most =
-    let counted = c.count_words.ensures in
-    let other : (length (words c.in-Some.rest.now) == c.args.count) ≡ false = grind (arith, nat_tests) in
-    other_count c.args.name.now c.args.count least most c.args.line.now c.in-Some.word.now c.in-Some.rest.now
-    c.in-Some.ensures.some other
+returns-then-count_words-count-clause-none c least most = grind (arith, other_count)
 
 pub returns-clause-some : goal.returns-clause-some
 returns-clause-some c =
     let is : same c.in-Some.word.now c.args.name.now ≡ true = search rules in let counted = c.count_words.ensures in (
       cut_words c.args.line.now c.in-Some.word.now c.in-Some.rest.now c.in-Some.ensures.some
           ∙ ap (λ w. w ∷ words c.in-Some.rest.now) (same_is c.in-Some.word.now c.args.name.now is),
-      omega (arith, counted),
+      omega arith,
     )

@@ -61,9 +61,8 @@ returns-in_err-numbers-clause-head c =
     let a0 = c.in_ok-format.ensures.line in
     let t1 = taken_more title_fault (taken_none c.args.lines.now.number c.args.lines.now.rest.now) (a0.0, a0.1, a0.2, a0.3) in
     let a1 = c.in_ok-inputs.ensures.line in
-    let t2 = taken_more inputs_line t1 (a1.0, a1.1, a1.2, a1.3) in
     let a2 = c.in_ok-outputs.ensures.line in
-    let t3 = taken_more outputs_line t2 (a2.0, a2.1, a2.2, a2.3) in
+    let t3 = taken_more outputs_line (taken_more inputs_line t1 (a1.0, a1.1, a1.2, a1.3)) (a2.0, a2.1, a2.2, a2.3) in
     told_fails _ _ _ _ _ _ c.from_residual-in_err-numbers.result c.from_residual-in_err-numbers.ensures.1 (ap (number_at 1) t3.parts ∙ sym a1.4)
     (head_fails (order_line c.in_ok-inputs.inputs) (levels_line c.in_ok-inputs.inputs ∷ total_line ∷ []) _ t3 c.in_err-numbers.ensures.line)
 
@@ -76,9 +75,8 @@ returns-in_err-levels-clause-head c =
     let a0 = c.in_ok-format.ensures.line in
     let t1 = taken_more title_fault (taken_none c.args.lines.now.number c.args.lines.now.rest.now) (a0.0, a0.1, a0.2, a0.3) in
     let a1 = c.in_ok-inputs.ensures.line in
-    let t2 = taken_more inputs_line t1 (a1.0, a1.1, a1.2, a1.3) in
     let a2 = c.in_ok-outputs.ensures.line in
-    let t3 = taken_more outputs_line t2 (a2.0, a2.1, a2.2, a2.3) in
+    let t3 = taken_more outputs_line (taken_more inputs_line t1 (a1.0, a1.1, a1.2, a1.3)) (a2.0, a2.1, a2.2, a2.3) in
     let a3 = c.in_ok-numbers.ensures.line in
     let t4 = taken_more (order_line c.in_ok-inputs.inputs) t3 (a3.0, a3.1, a3.2, a3.3) in
     told_fails _ _ _ _ _ _ c.from_residual-in_err-levels.result c.from_residual-in_err-levels.ensures.1 (ap (number_at 1) t4.parts ∙ sym a1.4)
@@ -89,9 +87,8 @@ returns-in_err-total-clause-head c =
     let a0 = c.in_ok-format.ensures.line in
     let t1 = taken_more title_fault (taken_none c.args.lines.now.number c.args.lines.now.rest.now) (a0.0, a0.1, a0.2, a0.3) in
     let a1 = c.in_ok-inputs.ensures.line in
-    let t2 = taken_more inputs_line t1 (a1.0, a1.1, a1.2, a1.3) in
     let a2 = c.in_ok-outputs.ensures.line in
-    let t3 = taken_more outputs_line t2 (a2.0, a2.1, a2.2, a2.3) in
+    let t3 = taken_more outputs_line (taken_more inputs_line t1 (a1.0, a1.1, a1.2, a1.3)) (a2.0, a2.1, a2.2, a2.3) in
     let a3 = c.in_ok-numbers.ensures.line in
     let t4 = taken_more (order_line c.in_ok-inputs.inputs) t3 (a3.0, a3.1, a3.2, a3.3) in
     let a4 = c.in_ok-levels.ensures.line in
@@ -110,9 +107,8 @@ returns-clause-head c =
     let a0 = c.in_ok-format.ensures.line in
     let t1 = taken_more title_fault (taken_none c.args.lines.now.number c.args.lines.now.rest.now) (a0.0, a0.1, a0.2, a0.3) in
     let a1 = c.in_ok-inputs.ensures.line in
-    let t2 = taken_more inputs_line t1 (a1.0, a1.1, a1.2, a1.3) in
     let a2 = c.in_ok-outputs.ensures.line in
-    let t3 = taken_more outputs_line t2 (a2.0, a2.1, a2.2, a2.3) in
+    let t3 = taken_more outputs_line (taken_more inputs_line t1 (a1.0, a1.1, a1.2, a1.3)) (a2.0, a2.1, a2.2, a2.3) in
     let a3 = c.in_ok-numbers.ensures.line in
     let t4 = taken_more (order_line c.in_ok-inputs.inputs) t3 (a3.0, a3.1, a3.2, a3.3) in
     let a4 = c.in_ok-levels.ensures.line in

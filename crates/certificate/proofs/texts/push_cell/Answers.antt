@@ -5,7 +5,6 @@ use Rattle.certificate.proofs.texts.push_cell.Goals as goal
 
 pub returns : goal.returns
 returns c =
-    let laid_out = rw c.laid_out.ensures at c.in_ok-write.ensures.bytes in
-    let in_digits = rw c.in_radix.ensures at laid_out in
+    let in_digits = rw c.in_radix.ensures at (rw c.laid_out.ensures at c.in_ok-write.ensures.bytes) in
     let written = rw (zero_padded c.args.cell.mask (omega arith)) at in_digits in
     written ∙ ap (λ line. string_bytes c.args.text.now ++ line) (cell_written (listed c.args.cell))

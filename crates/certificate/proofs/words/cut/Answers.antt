@@ -1,5 +1,5 @@
-use Rattle.std.proofs.Common.{◌≡◌, ◌+◌, ◌-◌, ℕ, List, IfNone, None, Some, take, drop, length, take_all, length-drop, refl, sym, subst, arith}
-use Rattle.certificate.specs.Parsing.{Cuts, Lacks}
+use Rattle.std.proofs.Common.{◌≡◌, ◌+◌, ◌-◌, ℕ, List, Some, take, drop, length, take_all, length-drop, refl, sym, subst, arith}
+use Rattle.certificate.specs.Parsing.{Cuts}
 use Rattle.certificate.proofs.Cutting.{cut_at, cut_nowhere}
 use Rattle.certificate.proofs.words.cut.Goals as goal
 
@@ -8,9 +8,7 @@ rest_of : (text : List ℕ) (k : ℕ) → take (length text - (k + 1)) (drop (k 
 rest_of text k = take_all (length text - (k + 1)) (drop (k + 1) text) (simp length-drop (omega arith))
 
 pub returns-in_err-place-clause-none : goal.returns-in_err-place-clause-none
-returns-in_err-place-clause-none c =
-    subst (λ found. IfNone found (Lacks c.args.byte c.args.text.now)) (sym c.from_residual.ensures)
-    (cut_nowhere c.args.byte c.args.text.now None c.in_err-place.ensures.first refl)
+returns-in_err-place-clause-none c = grind (arith, cut_nowhere)
 
 pub returns-clause-some : goal.returns-clause-some
 returns-clause-some c =

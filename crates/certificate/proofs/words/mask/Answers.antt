@@ -3,10 +3,10 @@ use Rattle.certificate.proofs.Masks.{mask_no, mask_yes, word_mask, four_long, fo
 use Rattle.certificate.proofs.words.mask.Goals as goal
 
 pub returns-in_default-clause-none : goal.returns-in_default-clause-none
-returns-in_default-clause-none c = mask_no c.args.n c.args.word.now (λ e within. let four = four_long c.args.word.now e in absurd (omega (arith, four)))
+returns-in_default-clause-none c = mask_no c.args.n c.args.word.now (λ e within. let four = four_long c.args.word.now e in absurd (omega arith))
 
 pub returns-in_default-2-clause-none : goal.returns-in_default-2-clause-none
-returns-in_default-2-clause-none c = mask_no c.args.n c.args.word.now (λ e within. let four = four_long c.args.word.now e in absurd (omega (arith, four)))
+returns-in_default-2-clause-none c = mask_no c.args.n c.args.word.now (λ e within. let four = four_long c.args.word.now e in absurd (omega arith))
 
 pub returns-in_err-a-clause-none : goal.returns-in_err-a-clause-none
 returns-in_err-a-clause-none c =
@@ -38,12 +38,9 @@ returns-then-from-sets_below_all-clause-none c =
     let value =
     word_mask c.args.word.now c.in_ok-a.a c.in_ok-b.b c.in_ok-c.c c.in_ok-d.d
     (four_bytes c.args.word.now _ _ _ _ (omega arith) a.0 b.0 d.0 f.0) a.1 b.1 d.1 f.1 in
-    mask_no c.args.n c.args.word.now (λ e within. absurd (omega (arith, value, within)))
+    mask_no c.args.n c.args.word.now (λ e within. absurd (omega arith))
 
 pub returns-clause-some : goal.returns-clause-some
 returns-clause-some c =
     let a = c.in_ok-a.ensures.some in let b = c.in_ok-b.ensures.some in let d = c.in_ok-c.ensures.some in let f = c.in_ok-d.ensures.some in
-    let word = four_bytes c.args.word.now _ _ _ _ (omega arith) a.0 b.0 d.0 f.0 in (
-      mask_yes c.args.n c.args.word.now c.in_ok-a.a c.in_ok-b.b c.in_ok-c.c c.in_ok-d.d word a.1 b.1 d.1 f.1 (omega arith),
-      word_mask c.args.word.now c.in_ok-a.a c.in_ok-b.b c.in_ok-c.c c.in_ok-d.d word a.1 b.1 d.1 f.1,
-    )
+    let word = four_bytes c.args.word.now _ _ _ _ (omega arith) a.0 b.0 d.0 f.0 in grind (arith, mask_yes, word_mask)

@@ -1,11 +1,11 @@
-use Rattle.std.proofs.Common.{◌≡◌, ◌-◌, ◌^◌, ◌<◌, ℕ, refl, sym, subst, [], ◌∷◌, ◌++◌, map, length, codes, get_or, Some, Ok, Err, arith}
+use Rattle.std.proofs.Common.{◌≡◌, ◌-◌, ◌^◌, ℕ, refl, subst, [], map, length, codes, get_or, Err, arith}
 use Rattle.std.proofs.lemmas.List.{length-append, map-append}
 use Rattle.order_model.specs.Listed.{listed}
 use Rattle.order_model.specs.Texts.{number_of}
 use Rattle.certificate.specs.Faults.{field_fault, is_cell, cell_key_of}
 use Rattle.certificate.specs.Parsing.{Asks}
 use Rattle.certificate.specs.Decoded.{read_cell, mask_key}
-use Rattle.certificate.proofs.Taking.{Reached, reached_first, reached_more, reached_fails, reached_all, section_fails, memory_fails}
+use Rattle.certificate.proofs.Taking.{reached_first, reached_more, reached_fails, reached_all, section_fails}
 use Rattle.certificate.proofs.reader.Lines.cells.Goals as goal
 
 pub returns-in_err-count-clause-section : goal.returns-in_err-count-clause-section
@@ -18,21 +18,7 @@ returns-in_err-count-clause-section c =
     c.sets_below_all.ensures c.in_err-count.ensures.line in asks _)
 
 pub loop-last-init : goal.loop-last-init
-loop-last-init c =
-    let small = c.requires.small in let bound = c.in_ok-count.ensures.bound in
-    let none = c.new-cells.ensures.items in
-    let asks = subst
-    (λ most. Asks (field_fault (codes "cells") 1 0 most) c.args.self.now.number c.args.self.now.rest.now c.number.new.self.number
-    c.number.new.self.rest.now (λ ws v. v ≡ number_of (get_or ws 1 [])) (Ok c.in_ok-count.count))
-    c.sets_below_all.ensures c.in_ok-count.ensures.line in
-    record {
-      reached = rw none
-          (reached_first read_cell mask_key (codes "cells") (2 ^ c.args.n - 1) (is_cell c.args.n) cell_key_of (λ a b. refl)
-          c.args.self.now.number c.args.self.now.rest.now c.number.new.self.number c.number.new.self.rest.now c.in_ok-count.count asks);
-      few = rw none (omega arith);
-      small = omega (arith, small, bound);
-      bound = bound;
-    }
+loop-last-init c = grind (arith, reached_first)
 
 pub returns-in_err-cell-clause-section : goal.returns-in_err-cell-clause-section
 returns-in_err-cell-clause-section c =
@@ -41,38 +27,17 @@ returns-in_err-cell-clause-section c =
     (reached_fails read_cell mask_key (codes "cells") (2 ^ c.args.n - 1) (is_cell c.args.n) cell_key_of (λ a b. refl) c.args.self.now.number
     c.args.self.now.rest.now c.in_ok-count.count (length c.loop-last.cells.items) c.loop-last.last (map listed c.loop-last.cells.items)
     c.loop-last.self.number c.loop-last.self.rest.now c.cell.new.self.number c.cell.new.self.rest.now (λ ws v. v ≡ read_cell ws) _
-    c.loop-last.invariant.reached (omega (arith, c.len.ensures, c.loop-last-test.true)) c.in_err-cell.ensures.line)
+    c.loop-last.invariant.reached (omega arith) c.in_err-cell.ensures.line)
 
 pub returns-in_err-add-clause-section : goal.returns-in_err-add-clause-section
-returns-in_err-add-clause-section c =
-    memory_fails (codes "cells") (2 ^ c.args.n - 1) (is_cell c.args.n) cell_key_of read_cell (λ v. map listed v.items) _ _ _ _
-    c.from_residual-in_err-add.result _ c.from_residual-in_err-add.ensures.1 c.in_err-add.ensures.memory
+returns-in_err-add-clause-section c = grind arith
 
 pub loop-last-preserved : goal.loop-last-preserved
-loop-last-preserved c =
-    let known = c.loop-last.invariant in let small = known.small in let bound = known.bound in let taken = c.in_ok-cell.ensures.bound in
-    let more : length c.loop-last.cells.items < c.in_ok-count.count = omega (arith, c.len.ensures, c.loop-last-test.true) in
-    let count = length-append c.loop-last.cells.items (c.in_ok-cell.cell ∷ []) in
-    let next = reached_more read_cell mask_key (codes "cells") (2 ^ c.args.n - 1) (is_cell c.args.n) cell_key_of (λ a b. refl)
-    c.args.self.now.number c.args.self.now.rest.now c.in_ok-count.count (length c.loop-last.cells.items) c.loop-last.last
-    (map listed c.loop-last.cells.items) c.loop-last.self.number c.loop-last.self.rest.now
-    c.cell.new.self.number c.cell.new.self.rest.now (listed c.in_ok-cell.cell) c.from.result known.reached more c.in_ok-cell.ensures.line c.from.ensures in
-    let step = subst
-    (λ i. Reached read_cell mask_key (codes "cells") (2 ^ c.args.n - 1) (is_cell c.args.n) cell_key_of (λ a b. refl)
-    c.args.self.now.number c.args.self.now.rest.now c.in_ok-count.count i (Some c.from.result)
-    (map listed c.loop-last.cells.items ++ listed c.in_ok-cell.cell ∷ []) c.cell.new.self.number c.cell.new.self.rest.now)
-    (sym count) next in
-    record {
-      reached = rw c.in_ok-add.ensures.added (rw (map-append listed c.loop-last.cells.items (c.in_ok-cell.cell ∷ [])) step);
-      few = rw c.in_ok-add.ensures.added (omega (arith, more, count));
-      small = omega (arith, small, taken);
-      bound = omega (arith, bound, taken);
-    }
+loop-last-preserved c = grind (arith, length-append, reached_more, map-append)
 
 pub returns-clause-section : goal.returns-clause-section
 returns-clause-section c =
-    let few = c.loop-last.invariant.few in
     reached_all read_cell mask_key (codes "cells") (2 ^ c.args.n - 1) (is_cell c.args.n) cell_key_of (λ a b. refl) (λ v. map listed v.items)
     c.loop-last.cells c.args.self.now.number c.args.self.now.rest.now c.in_ok-count.count (length c.loop-last.cells.items)
     c.loop-last.last c.loop-last.self.number c.loop-last.self.rest.now
-    c.loop-last.invariant.reached (omega (arith, c.len.ensures, c.loop-last-test.false)) few
+    c.loop-last.invariant.reached (omega arith) c.loop-last.invariant.few
