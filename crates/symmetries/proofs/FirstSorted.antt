@@ -6,7 +6,7 @@
 use Rattle.std.proofs.Common.{◌≡◌, ◌≢◌, ℕ, false, List, [], length, refl, sym, ap, ◌∙◌, subst, arith, true≢false, nat_cmp, Ordering, Less, Equal, Greater}
 use Rattle.std.specs.Cmp.Lexicographic.{slice_cmp}
 use Rattle.std.specs.Ordering.{is_gt}
-use Rattle.std.proofs.lemmas.Cmp.{nat_list_cmp_total, tied_itself, upto}
+use Rattle.std.proofs.lemmas.Cmp.{nat_list_cmp_total, tied_itself}
 use Rattle.order_model.specs.Functions.{Function}
 use Rattle.order_model.specs.Orders.{IsOrder}
 use Rattle.order_model.specs.Pairs.{Pair, Keeps, keeps}
@@ -28,8 +28,7 @@ not_greater Greater h = absurd (h refl)
 
 -- of three lists, if the first does not come later than the second, nor the second than the third, then nor does the first than the third
 not_later : (xs ys zs : List ℕ) → slice_cmp nat_cmp xs ys ≢ Greater → slice_cmp nat_cmp ys zs ≢ Greater → slice_cmp nat_cmp xs zs ≢ Greater
-not_later xs ys zs h k e =
-    true≢false (sym (ap is_gt e) ∙ upto nat_list_cmp_total xs ys zs (not_greater (slice_cmp nat_cmp xs ys) h) (not_greater (slice_cmp nat_cmp ys zs) k))
+not_later xs ys zs h k e = grind (arith, nat_list_cmp_total)
 
 -- no list comes later than itself
 not_later_itself : (xs : List ℕ) → slice_cmp nat_cmp xs xs ≢ Greater
@@ -44,11 +43,7 @@ fewest_harmless n F P Q size h f = record {
   no_fewer = λ order d o k rep.
       let to = h.sorted order o k in
       let exact = exact_diagram n F to.0 to.1 in
-      let none = f.no_fewer to.0 exact.0 to.1 to.2 exact.1.represents in
-      let long = exact.1.size in
-      let same = to.3 in
-      let bound = size_bound n F order d o rep in
-      omega arith;
+      omega (arith, f.no_fewer to.0 exact.0 to.1 to.2 exact.1.represents, size_bound n F order d o rep);
 }
 
 -- an order that keeps Q, and whose size is that of an order of the fewest nodes under P, has the fewest under Q
@@ -57,28 +52,28 @@ fewest_sorted : (n : ℕ) (F : List Function) (P Q : List Pair) (size : ℕ) (or
 fewest_sorted n F P Q size order sorted h f g o k same =
     let exact = exact_diagram n F sorted o in
     let d = g.fewest.0 in
-    let bound = size_bound n F order d g.is_order g.fewest.1 in
-    let one = fewest_unique n F P size (length d.nodes) (fewest_harmless n F P Q size h f) g.fewest.2 in
-    let none = f.no_fewer sorted exact.0 o k exact.1.represents in
-    let long = exact.1.size in
-    let fewest : size ≡ length exact.0.nodes = omega arith in
+    let fewest : size ≡ length exact.0.nodes = omega (
+      arith,
+      size_bound n F order d g.is_order g.fewest.1,
+      fewest_unique n F P size (length d.nodes) (fewest_harmless n F P Q size h f) g.fewest.2,
+      f.no_fewer sorted exact.0 o k exact.1.represents,
+    ) in
     record { is_order = o; kept = k; fewest = (exact.0, exact.1.represents, subst (FewestKeeping n F Q) fewest f) }
 
 -- the first order of the fewest nodes among those that keep Q is the first among those that keep P
 pub first_harmless : (n : ℕ) (F : List Function) (P Q : List Pair) (order : List ℕ) → IsHarmless n F P Q → IsFirstKeeping n F Q order →
     IsFirstKeeping n F P order
 first_harmless n F P Q order h f =
-    let best = f.fewest in
-    let d = best.fewest.0 in
+    let d = f.fewest.fewest.0 in
     record {
       fewest = record {
-        is_order = best.is_order;
-        kept = h.more order best.is_order best.kept;
-        fewest = (d, best.fewest.1, fewest_harmless n F P Q (length d.nodes) h best.fewest.2);
+        is_order = f.fewest.is_order;
+        kept = h.more order f.fewest.is_order f.fewest.kept;
+        fewest = (d, f.fewest.fewest.1, fewest_harmless n F P Q (length d.nodes) h f.fewest.fewest.2);
       };
       first = λ other g.
           let to = h.sorted other g.is_order g.kept in
-          let there = fewest_sorted n F P Q (length d.nodes) other to.0 h best.fewest.2 g to.1 to.2 to.3 in
+          let there = fewest_sorted n F P Q (length d.nodes) other to.0 h f.fewest.fewest.2 g to.1 to.2 to.3 in
           not_later order to.0 other (f.first to.0 there) to.4;
     }
 
@@ -89,7 +84,4 @@ harmless_same n F P = record { more = λ order o k. k; sorted = λ order o k. (o
 -- pairs of symmetric variables may be kept where no pair is asked for
 pub harmless_symmetric : (n : ℕ) (F : List Function) (P : List Pair) → AreSymmetricPairs n F P → IsHarmless n F [] P
 unfolding keeps
-harmless_symmetric n F P h = record {
-  more = λ order o k. refl;
-  sorted = λ order o k. sorted_order n F P h order o;
-}
+harmless_symmetric n F P h = grind (arith, sorted_order)

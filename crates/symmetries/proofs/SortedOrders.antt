@@ -3,12 +3,11 @@
 --     order_exchanged, size_exchanged      an order with exchanged variables is one, and of symmetric functions it has at most as many nodes
 --     sorted_order      each order may be sorted by pairs of symmetric variables, with as many nodes, and does not come later for it
 use Rattle.std.proofs.Common.{◌≡◌, ◌≢◌, ℕ, zero, suc, ◌+◌, ◌<◌, ◌≤◌, Bool, true, false, cond, ◌||◌, ◌&&◌, inl, inr, List, [], ◌∷◌, map, slice_index, refl, sym, ap, ap₂, ◌∙◌, subst, arith, nat_eq, eqb-true, eq-eqb, ne_eqb, nat_cmp, Ordering, Less, Equal, Greater}
-use Rattle.std.specs.Ordering.{ordering_then, is_gt}
-use Rattle.std.specs.Cmp.{nat_cmp_is}
+use Rattle.std.specs.Ordering.{is_gt}
 use Rattle.std.specs.Cmp.Lexicographic.{slice_cmp}
 use Rattle.std.specs.List.{IsDistinct, list_all}
-use Rattle.std.proofs.lemmas.Bool.{false≢true, true≢false, cases_Bool, cases_eq, or_cases, or_parts, cond_both, eqb-false}
-use Rattle.std.proofs.lemmas.Cmp.{nat_list_cmp_total, tied_itself, upto}
+use Rattle.std.proofs.lemmas.Bool.{false≢true, true≢false, cases_Bool, cases_eq, or_cases, or_parts, eqb-false}
+use Rattle.std.proofs.lemmas.Cmp.{nat_list_cmp_total}
 use Rattle.std.proofs.lemmas.List.FromFn.{length-map-range_with_len}
 use Rattle.order_model.specs.Functions.{Function}
 use Rattle.order_model.specs.Orders.{has, IsOrder}
@@ -38,40 +37,16 @@ swapped_first a b = ap (λ c. cond c b (cond (nat_eq a b) a a)) (eq-eqb a a refl
 
 -- and the second the first
 swapped_second : (a b : ℕ) → swapped a b b ≡ a
-swapped_second a b =
-    elim (cases_eq b a) [
-      | inl e ↦ ap (λ c. cond c b (cond (nat_eq b b) a b)) (eq-eqb b a e) ∙ e
-      | inr ne ↦ ap₂ (λ c d. cond c b (cond d a b)) (ne_eqb b a ne) (eq-eqb b b refl)
-    ]
+swapped_second a b = grind arith
 
 -- the others stay
 swapped_other : (a b y : ℕ) → y ≢ a → y ≢ b → swapped a b y ≡ y
 swapped_other a b y p q = ap₂ (λ c d. cond c b (cond d a y)) (ne_eqb y a p) (ne_eqb y b q)
 
--- variables exchanged twice are as before
-swapped_back : (a b y : ℕ) → swapped a b (swapped a b y) ≡ y
-swapped_back a b y =
-    elim (cases_eq y a) [
-      | inl e ↦ ap (λ z. swapped a b (swapped a b z)) e ∙ ap (swapped a b) (swapped_first a b) ∙ swapped_second a b ∙ sym e
-      | inr p ↦ elim (cases_eq y b) [
-        | inl e ↦ ap (λ z. swapped a b (swapped a b z)) e ∙ ap (swapped a b) (swapped_second a b) ∙ swapped_first a b ∙ sym e
-        | inr q ↦ ap (swapped a b) (swapped_other a b y p q) ∙ swapped_other a b y p q
-      ]
-    ]
-
 -- two variables exchanged are an exchange
 pub exchange_pair : (n a b : ℕ) → a < n → b < n → IsExchange n (exchange_of n a b)
 unfolding exchange_of
-exchange_pair n a b la lb = record {
-  long = length-map-range_with_len (swapped a b) 0 n;
-  inside = inside;
-  back = λ y lt. partner_of n a b _ (inside y lt) ∙ ap (swapped a b) (partner_of n a b y lt) ∙ swapped_back a b y;
-}
-  where
-    inside : (y : ℕ) → y < n → slice_index (exchange_of n a b) y < n
-    inside y lt =
-        subst (λ (v : ℕ). v < n) (sym (partner_of n a b y lt))
-        (cond_both (nat_eq y a) b (cond (nat_eq y b) a y) (λ v. v < n) (λ e. lb) (λ e. cond_both (nat_eq y b) a y (λ v. v < n) (λ f. la) (λ f. lt)))
+exchange_pair n a b la lb = grind (arith, length-map-range_with_len, partner_of)
 
 -- ---- orders with exchanged variables
 
@@ -89,10 +64,7 @@ module _ (n : ℕ) (partners : List ℕ) (e : IsExchange n partners) where
   distinct_partners : (xs : List ℕ) → Below n xs → IsDistinct nat_eq xs → IsDistinct nat_eq (map (slice_index partners) xs)
   unfolding IsDistinct
   distinct_partners [] b d = tt
-  distinct_partners (x ∷ xs) b d = (
-    apart_from_absent (slice_index partners x) (map (slice_index partners) xs) (has_partner xs b.1 x b.0 ∙ absent_from_apart x xs d.0),
-    distinct_partners xs b.1 d.1,
-  )
+  distinct_partners (x ∷ xs) b d = grind (arith, apart_from_absent, has_partner, absent_from_apart, distinct_partners xs b.1 d.1)
 
   -- the partners' partners are the variables
   partners_back : (xs : List ℕ) → Below n xs → map (slice_index partners) (map (slice_index partners) xs) ≡ xs
@@ -104,10 +76,7 @@ module _ (n : ℕ) (partners : List ℕ) (e : IsExchange n partners) where
       cost n F (map (slice_index partners) xs) ≤ cost n F xs
   unfolding cost
   cost_exchanged F symmetric [] b = omega arith
-  cost_exchanged F symmetric (x ∷ xs) b =
-      let top = width_exchanged n F partners e symmetric xs (map (slice_index partners) xs) x b.0 (λ y lt. has_partner xs b.1 y lt) in
-      let rest = cost_exchanged F symmetric xs b.1 in
-      omega arith
+  cost_exchanged F symmetric (x ∷ xs) b = grind (arith, width_exchanged, has_partner, cost_exchanged F symmetric xs b.1)
 
 -- an order with exchanged variables is one
 pub order_exchanged : (n : ℕ) (partners order : List ℕ) → IsExchange n partners → IsOrder n order → IsOrder n (map (slice_index partners) order)
@@ -129,20 +98,18 @@ order_exchanged n partners order e o = record {
 -- and of symmetric functions it has at most as many nodes
 pub size_exchanged : (n : ℕ) (F : List Function) (partners order : List ℕ) → IsExchange n partners → AreSymmetric n F partners → IsOrder n order →
     size_under n F (map (slice_index partners) order) ≤ size_under n F order
-size_exchanged n F partners order e symmetric o =
-    let before = size_is_cost n F order o in
-    let after = size_is_cost n F (map (slice_index partners) order) (order_exchanged n partners order e o) in
-    let le = cost_exchanged n partners e F symmetric order (below_order n order o) in
-    omega arith
+size_exchanged n F partners order e symmetric o = search (size_is_cost, order_exchanged, cost_exchanged, below_order)
 
 -- in fact it has as many
 same_size_exchanged : (n : ℕ) (F : List Function) (partners order : List ℕ) → IsExchange n partners → AreSymmetric n F partners → IsOrder n order →
     size_under n F (map (slice_index partners) order) ≡ size_under n F order
 same_size_exchanged n F partners order e symmetric o =
-    let le = size_exchanged n F partners order e symmetric o in
-    let ge = size_exchanged n F partners (map (slice_index partners) order) e symmetric (order_exchanged n partners order e o) in
-    let again = ap (size_under n F) (partners_back n partners e order (below_order n order o)) in
-    omega arith
+    omega (
+      arith,
+      size_exchanged n F partners order e symmetric o,
+      size_exchanged n F partners (map (slice_index partners) order) e symmetric (order_exchanged n partners order e o),
+      ap (size_under n F) (partners_back n partners e order (below_order n order o)),
+    )
 
 -- ---- the smaller of two variables moved above the other
 
@@ -158,7 +125,7 @@ module _ (a b : ℕ) (less : a < b) where
   none_swapped (x ∷ xs) h k =
       let p = or_parts (nat_eq a x) (has xs a) h in
       let q = or_parts (nat_eq b x) (has xs b) k in
-      ap₂ (λ y ys. y ∷ ys) (swapped_other a b x (λ s. eqb-false a x p.0 (sym s)) (λ s. eqb-false b x q.0 (sym s))) (none_swapped xs p.1 q.1)
+      grind (arith, none_swapped xs p.1 q.1)
 
   -- below b, partial sums of the exchanged list are not larger
   sums_below : (k m : ℕ) → k + b ≡ m + a → (xs : List ℕ) → IsDistinct nat_eq xs → has xs b ≡ false → sums k (map (swapped a b) xs) ≤ sums m xs
@@ -169,12 +136,10 @@ module _ (a b : ℕ) (less : a < b) where
         | inl e ↦
             let same : swapped a b x ≡ b = ap (swapped a b) e ∙ swapped_first a b in
             let now : k + swapped a b x ≡ m + x = omega arith in
-            let rest = ap₂ sums now (none_swapped xs (ap (has xs) (sym e) ∙ absent_from_apart x xs d.0) parts.1) in
-            omega arith
+            omega (arith, ap₂ sums now (none_swapped xs (ap (has xs) (sym e) ∙ absent_from_apart x xs d.0) parts.1))
         | inr ne ↦
             let same : swapped a b x ≡ x = swapped_other a b x ne (λ t. eqb-false b x parts.0 (sym t)) in
-            let rest = sums_below (k + swapped a b x) (m + x) (omega arith) xs d.1 parts.1 in
-            omega arith
+            omega (arith, sums_below (k + swapped a b x) (m + x) (omega arith) xs d.1 parts.1)
       ]
     where
       parts : (nat_eq b x ≡ false) × (has xs b ≡ false)
@@ -190,17 +155,13 @@ module _ (a b : ℕ) (less : a < b) where
         | inl e ↦
             let same : swapped a b x ≡ a = ap (swapped a b) e ∙ swapped_second a b in
             let rest = sums_below (k + swapped a b x) (k + x) (omega arith) xs d.1 (ap (has xs) (sym e) ∙ absent_from_apart x xs d.0) in
-            (omega arith, ap (λ r. ordering_then r (slice_cmp nat_cmp (map (swapped a b) xs) xs)) (sym (nat_cmp_is (swapped a b x) x Less (omega arith))))
+            grind arith
         | inr p ↦ elim (cases_eq x a) [
           | inl e ↦ absurd (no_a p e)
           | inr q ↦
               let same : swapped a b x ≡ x = swapped_other a b x q p in
               let rest = exchange_falls (k + x) xs d.1 (later a ha (λ s. q (sym s))) (later b hb (λ s. p (sym s)))
-              (ap (λ c. cond c (has xs b) (is_above a b xs)) (sym (ne_eqb a x (λ s. q (sym s)))) ∙ h) in
-              let now = ap (λ y. k + y + sums (k + y) (map (swapped a b) xs)) same in (
-                omega (arith, rest.0),
-                ap (λ r. ordering_then r (slice_cmp nat_cmp (map (swapped a b) xs) xs)) (sym (nat_cmp_is (swapped a b x) x Equal same)) ∙ rest.1,
-              )
+              (ap (λ c. cond c (has xs b) (is_above a b xs)) (sym (ne_eqb a x (λ s. q (sym s)))) ∙ h) in grind arith
         ]
       ]
     where
@@ -238,12 +199,10 @@ record Step (n : ℕ) (F : List Function) (order : List ℕ) : Type 0 where
 -- where two symmetric variables stand the wrong way round, they are exchanged
 step_at : (n : ℕ) (F : List Function) (a b : ℕ) → IsSymmetricPair n F a b → (order : List ℕ) → IsOrder n order → is_above a b order ≡ false → Step n F order
 step_at n F a b s order o h =
-    let less = s.first in
-    let inside = s.inside in
-    let e = exchange_pair n a b (omega arith) inside in
+    let e = exchange_pair n a b (omega arith) s.inside in
     let same : map (slice_index (exchange_of n a b)) order ≡ map (swapped a b) order =
-    map_same (slice_index (exchange_of n a b)) (swapped a b) order (λ x m. partner_of n a b x ((o.all x).0 (among_has order x m))) in
-    let falls = exchange_falls a b less 0 order o.once ((o.all a).1 (omega arith)) ((o.all b).1 inside) h in
+    grind (arith, map_same, partner_of, among_has) in
+    let falls = exchange_falls a b s.first 0 order o.once ((o.all a).1 (omega arith)) ((o.all b).1 s.inside) h in
     record {
       next = map (slice_index (exchange_of n a b)) order;
       is_order = order_exchanged n (exchange_of n a b) order e o;
@@ -265,18 +224,11 @@ unfolding keeps
 sorted_within n F P pairs zero order o lt = absurd (omega arith)
 sorted_within n F P pairs (suc k) order o lt =
     elim (cases_Bool (keeps P order)) [
-      | inl t ↦ (order, o, t, refl, λ g. true≢false (sym (ap is_gt g) ∙ ap is_gt (tied_itself nat_list_cmp_total order)))
+      | inl t ↦ grind (arith, nat_list_cmp_total)
       | inr f ↦
           let miss = fails_at (λ (p : Pair). is_above p.0 p.1 order) P f in
           let step = step_at n F miss.0.0 miss.0.1 (pairs miss.0.0 miss.0.1 (among_pair P miss.0 miss.1)) order o miss.2 in
-          let falls = step.falls in
-          let rest = sorted_within n F P pairs k step.next step.is_order (omega arith) in (
-            rest.0,
-            rest.1,
-            rest.2,
-            rest.3 ∙ step.as_large,
-            λ g. true≢false (sym (ap is_gt g) ∙ upto nat_list_cmp_total rest.0 step.next order (not_greater _ rest.4) (ap is_gt step.before)),
-          )
+          grind (arith, nat_list_cmp_total, sorted_within n F P pairs k step.next step.is_order (omega arith))
     ]
 
 -- each order may be sorted by pairs of symmetric variables: the result keeps the pairs, has as many nodes, and does not come later

@@ -1,15 +1,15 @@
 -- Widths of symmetric functions: an exchange of variables that no function notices takes subfunctions to subfunctions.
 --     length_exchanged, bit_exchanged      a point with exchanged variables, by its bits
 --     width_exchanged      the width of a variable's partner over the partners of a set is at most the width of the variable over the set
-use Rattle.std.proofs.Common.{◌≡◌, ℕ, ◌<◌, ◌≤◌, Bool, true, false, not, cond, ◌&&◌, ◌||◌, inl, inr, List, ◌∷◌, map, length, set, slice_index, sym, ap, ◌∙◌, subst, arith, zero-add}
+use Rattle.std.proofs.Common.{◌≡◌, ℕ, ◌<◌, ◌≤◌, Bool, true, false, cond, inl, inr, List, ◌∷◌, map, length, set, slice_index, sym, ap, ◌∙◌, arith, zero-add}
 use Rattle.std.specs.List.{filter}
 use Rattle.std.specs.Set.{unique_keys}
-use Rattle.std.proofs.lemmas.Bool.{cases_Bool, cases_eq, true≢false, and_parts}
+use Rattle.std.proofs.lemmas.Bool.{cases_Bool, true≢false, and_parts}
 use Rattle.std.proofs.lemmas.List.{length-map, length-set, get_or-set_same, get_or-set_other}
 use Rattle.std.proofs.lemmas.List.Elements.{recursion_from_All}
 use Rattle.std.proofs.lemmas.List.FromFn.{length-map-range_with_len, get_or-map-range_with_len, fill_by_all}
 use Rattle.order_model.specs.Functions.{Point, Function, bit, from_table, restrict, SameFunction, table, same_table, depends}
-use Rattle.order_model.specs.Orders.{has, variables}
+use Rattle.order_model.specs.Orders.{has}
 use Rattle.order_model.specs.Levels.{subfunctions, reach, dependents}
 use Rattle.order_model.specs.Widths.{outside, width}
 use Rattle.order_model.proofs.Bits.Points.{table-from_table}
@@ -20,7 +20,6 @@ use Rattle.order_model.proofs.Functions.Tables.{depends_false, depends_no, depen
 use Rattle.order_model.proofs.Lists.Orders.{has_outside, has_variables}
 use Rattle.order_model.proofs.Lists.Sets.{Among, Within, among_filter, among_flat_map, among_from_filter, among_from_flat_map, among_from_map, among_map, among_unique, count_le}
 use Rattle.symmetries.specs.Exchanges.{IsExchange, exchanged, AreSymmetric}
-use Rattle.symmetries.proofs.Partners.{one_to_one, same_partner}
 
 -- a point with exchanged variables has as many
 pub length_exchanged : (n : ℕ) (partners : List ℕ) (p : Point) → length (exchanged n partners p) ≡ n
@@ -43,18 +42,7 @@ module _ (n : ℕ) (partners : List ℕ) (e : IsExchange n partners) where
       (length-set (exchanged n partners p) x b ∙ length_exchanged n partners p) at)
     where
       at : (y : ℕ) → y < n → bit (set (exchanged n partners p) x b) y ≡ bit (set p (slice_index partners x) b) (slice_index partners y)
-      at y lt =
-          elim (cases_eq y x) [
-            | inl s ↦
-                let long = length_exchanged n partners p in
-                let there = e.inside x inside in
-                ap (bit (set (exchanged n partners p) x b)) s ∙ get_or-set_same (exchanged n partners p) x b false (omega arith)
-                ∙ sym (ap (λ z. bit (set p (slice_index partners x) b) (slice_index partners z)) s
-                ∙ get_or-set_same p (slice_index partners x) b false (omega arith))
-            | inr ne ↦
-                get_or-set_other (exchanged n partners p) x y b false ne ∙ bit_exchanged n partners p y lt
-                ∙ sym (get_or-set_other p (slice_index partners x) (slice_index partners y) b false (λ s. ne (one_to_one n partners e y x lt inside s)))
-          ]
+      at y lt = grind (arith, length_exchanged, get_or-set_same, get_or-set_other, bit_exchanged)
 
   -- a dependence on a partner, at exchanged points, is one on the variable
   depends_exchanged : (g k : Function) (x : ℕ) → x < n → SameFunction n g (λ p. k (exchanged n partners p)) → depends n g (slice_index partners x) ≡ true →
@@ -83,12 +71,7 @@ module _ (n : ℕ) (partners : List ℕ) (e : IsExchange n partners) where
   -- the variables outside the partners of a set are the partners of those outside the set
   outside_exchanged : (S T : List ℕ) → ((y : ℕ) → y < n → has T (slice_index partners y) ≡ has S y) → (x : ℕ) → x < n →
       (y : ℕ) → y < n → has (outside n (slice_index partners x ∷ T)) (slice_index partners y) ≡ has (outside n (x ∷ S)) y
-  outside_exchanged S T image x inside y lt =
-      has_outside n (slice_index partners x ∷ T) (slice_index partners y)
-      ∙ (λ i. known i && not (same_partner n partners e y x lt inside i || image y lt i)) ∙ sym (has_outside n (x ∷ S) y)
-    where
-      known : has (variables n) (slice_index partners y) ≡ has (variables n) y
-      known = (has_variables n (slice_index partners y)).1 (e.inside y lt) ∙ sym ((has_variables n y).1 lt)
+  outside_exchanged S T image x inside y lt = grind (arith, has_outside, has_variables)
 
   -- a subfunction that fixes the partners of some variables is one that fixes those, at exchanged points
   exchanged_reached : (F : List Function) → AreSymmetric n F partners → (xs ys : List ℕ) → Below n xs → Below n ys →
@@ -119,10 +102,9 @@ module _ (n : ℕ) (partners : List ℕ) (e : IsExchange n partners) where
       dependents n gs (slice_index partners x) ≤ dependents n fs x
   unfolding dependents
   dependents_exchanged fs gs x inside h =
-      let l = length-map (unique_keys same_table counted) moved in
       let c = count_le same_table same_table_decides (map (table n) (filter (λ f. depends n f (slice_index partners x)) gs))
       (map moved (unique_keys same_table counted)) within in
-      omega arith
+      omega (arith, length-map (unique_keys same_table counted) moved)
     where
       counted : List (List Bool)
       counted = map (table n) (filter (λ f. depends n f x) fs)
@@ -139,7 +121,7 @@ module _ (n : ℕ) (partners : List ℕ) (e : IsExchange n partners) where
           let k = to.0 in
           let there = among_filter (λ f. depends n f x) k fs to.1 (depends_exchanged g k x inside to.2 kept.1) in
           let once = among_unique same_table same_table_decides counted (table n k) (among_map (table n) k _ there) in
-          subst (λ u. Among u (map moved (unique_keys same_table counted))) (sym (from.2 ∙ table_exchanged g k to.2)) (among_map moved (table n k) _ once)
+          grind (arith, table_exchanged, among_map)
 
 -- the width of a variable's partner over the partners of a set is at most the width of the variable over the set
 pub width_exchanged : (n : ℕ) (F : List Function) (partners : List ℕ) → IsExchange n partners → AreSymmetric n F partners → (S T : List ℕ) (x : ℕ) → x < n →
