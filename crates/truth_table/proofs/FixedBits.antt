@@ -6,13 +6,12 @@
 --     table_by      a truth table from its values
 --     fixed_table_low, fixed_table_high      the truth table in words that are fixed within, or whole
 --     fixed_clean_low, fixed_clean_high      nothing stands behind the last point
-use Rattle.std.proofs.Common.{◌≡◌, ◌≢◌, ℕ, zero, suc, ◌+◌, ◌-◌, ◌*◌, ◌/◌, ◌%◌, ◌^◌, ◌<◌, ◌≤◌, Bool, true, false, ◌⊎◌, inl, inr, List, length, get_or, set, refl, sym, ap, ◌∙◌, arith, subst, eqb, min, bit_and, bit_or}
+use Rattle.std.proofs.Common.{◌≡◌, ℕ, zero, suc, ◌+◌, ◌-◌, ◌*◌, ◌/◌, ◌%◌, ◌^◌, ◌<◌, ◌≤◌, Bool, true, false, ◌⊎◌, inl, inr, List, length, get_or, set, refl, sym, ap, ◌∙◌, arith, subst, eqb, min, bit_and, bit_or}
 use Rattle.std.specs.Int.{bit_at}
-use Rattle.std.proofs.Math.Nat.{add-mul-div_right}
-use Rattle.std.proofs.lemmas.Bool.{cases_eq, cases_lt}
+use Rattle.std.proofs.lemmas.Bool.{cases_lt}
 use Rattle.std.proofs.lemmas.List.{set-get_or, get_or-set_same, get_or-set_other}
 use Rattle.std.proofs.lemmas.Nat.{pow_pos}
-use Rattle.std.proofs.lemmas.Nat.Bits.{bit_at-lt, bit_at-zero, bit_at_and, bit_at_or, bit_at_above, bit_at_cat_low, bit_at_cat_high}
+use Rattle.std.proofs.lemmas.Nat.Bits.{bit_at-zero, bit_at_and, bit_at_or, bit_at_above, bit_at_cat_low, bit_at_cat_high}
 use Rattle.order_model.specs.Functions.{Point, Function, weight, number, from_table, restrict, SameFunction, table}
 use Rattle.order_model.specs.Problems.{IsClean, packed_bit, table_in, words_per_table}
 use Rattle.order_model.proofs.Bits.Points.{table-from_table}
@@ -29,17 +28,10 @@ use Rattle.order_model.proofs.Precedence.Greedy.{pow_le_bit}
 -- ---- numbers
 
 pub flip : (m x : ℕ) → bit_at (m + 2 ^ x) x ≡ 1 - bit_at m x
-flip m x =
-    let e : m + 2 ^ x ≡ m + 1 * 2 ^ x = omega arith in
-    let d = ap (λ z. z / 2 ^ x) e ∙ add-mul-div_right m 1 (pow_pos x) in
-    ap (λ z. z % 2) d ∙ omega arith
+flip m x = grind (arith, pow_pos)
 
 bit_without : (k x : ℕ) → bit_at k x ≡ 1 → bit_at (k - 2 ^ x) x ≡ 0
-bit_without k x e =
-    let l = pow_le_bit k x e in
-    let s : k - 2 ^ x + 2 ^ x ≡ k = omega arith in
-    let f = sym (flip (k - 2 ^ x) x) ∙ ap (λ z. bit_at z x) s ∙ e in
-    omega arith
+bit_without k x e = grind arith
 
 -- the four cases
 up_zero : (k x : ℕ) → bit_at k x ≡ 0 → fixed_bit x true k ≡ k + 2 ^ x
@@ -71,58 +63,32 @@ step_bound (suc (suc (suc (suc (suc (suc (suc (suc (suc (suc r)))))))))) h = abs
 -- a number below 2 ^ n stays below it
 pub fixed_inside : (n x : ℕ) (b : Bool) (k : ℕ) → x < n → k < 2 ^ n → fixed_bit x b k < 2 ^ n
 fixed_inside n x true k small h = elim (zero_or_one k x) [
-  | inl e ↦ (let r = room_above n k x h small e in let f = up_zero k x e in omega arith)
-  | inr e ↦ (let f = up_one k x e in omega arith)
+  | inl e ↦ omega (arith, room_above n k x h small e, up_zero k x e)
+  | inr e ↦ omega (arith, up_one k x e)
 ]
 fixed_inside n x false k small h = omega arith
 
 -- fixing a bit twice is fixing it once
 fixed_twice : (x : ℕ) (b : Bool) (k : ℕ) → fixed_bit x b (fixed_bit x b k) ≡ fixed_bit x b k
-fixed_twice x true k = elim (zero_or_one k x) [
-  | inl e ↦
-      let f = up_zero k x e in
-      let t = flip k x in
-      let one : bit_at (k + 2 ^ x) x ≡ 1 = omega arith in
-      ap (fixed_bit x true) f ∙ up_one (k + 2 ^ x) x one ∙ sym f
-  | inr e ↦ ap (fixed_bit x true) (up_one k x e)
-]
-fixed_twice x false k = elim (zero_or_one k x) [
-  | inl e ↦ ap (fixed_bit x false) (down_zero k x e)
-  | inr e ↦ (let f = down_one k x e in ap (fixed_bit x false) f ∙ down_zero (k - 2 ^ x) x (bit_without k x e) ∙ sym f)
-]
+fixed_twice x b k = grind (arith, up_zero, up_one, flip, down_zero, down_one)
 
 -- where the program computes it
 pub raised_step : (i r bit : ℕ) → r < 10 → i < 1024 → bit ≡ bit_at i r →
     (bit ≤ 1) × ((1 - bit) * 2 ^ r % 18446744073709551616 ≡ (1 - bit_at i r) * 2 ^ r) × ((1 - bit) * 2 ^ r ≤ 512)
-raised_step i r bit h k e =
-    let p = step_bound r h in
-    let l = bit_at-lt i r in
-    let s : (1 - bit) * 2 ^ r ≤ 512 = by bit (omega arith) in
-    (omega arith, omega arith ∙ ap (λ z. (1 - z) * 2 ^ r) e, s)
-  where
-    by : (b : ℕ) → b < 2 → (1 - b) * 2 ^ r ≤ 512
-    by zero l = let p = step_bound r h in omega arith
-    by (suc zero) l = omega arith
-    by (suc (suc b)) l = absurd (omega arith)
+raised_step i r bit h k e = grind (arith, step_bound)
 
 pub lowered_step : (i r bit : ℕ) → r < 10 → i < 1024 → bit ≡ bit_at i r → (bit * 2 ^ r % 18446744073709551616 ≡ bit_at i r * 2 ^ r) × (bit * 2 ^ r ≤ i)
-lowered_step i r bit h k e =
-    let s : bit * 2 ^ r ≤ i = ap_le (zero_or_one i r) in
-    (omega arith ∙ ap (λ z. z * 2 ^ r) e, s)
-  where
-    ap_le : (bit_at i r ≡ 0) ⊎ (bit_at i r ≡ 1) → bit * 2 ^ r ≤ i
-    ap_le (inl z) = let f = ap (λ y. y * 2 ^ r) (e ∙ z) in omega arith
-    ap_le (inr o) = let f = ap (λ y. y * 2 ^ r) (e ∙ o) in let t = pow_le_bit i r o in omega arith
+lowered_step i r bit h k e = grind arith
 
 -- and one that isn't below it doesn't come below it
 fixed_outside : (n x : ℕ) (b : Bool) (k : ℕ) → x < n → 2 ^ n ≤ k → 2 ^ n ≤ fixed_bit x b k
 fixed_outside n x true k small h = omega arith
 fixed_outside n x false k small h = elim (zero_or_one k x) [
-  | inl e ↦ (let f = down_zero k x e in omega arith)
+  | inl e ↦ omega (arith, down_zero k x e)
   | inr e ↦
       let f = down_one k x e in
       elim (cases_lt (k - 2 ^ x) (2 ^ n)) [
-        | inl lt ↦ (let r = room_above n (k - 2 ^ x) x lt small (bit_without k x e) in let l = pow_le_bit k x e in absurd (omega arith))
+        | inl lt ↦ (absurd (omega (arith, room_above n (k - 2 ^ x) x lt small (bit_without k x e))))
         | inr ge ↦ omega arith
       ]
 ]
@@ -131,22 +97,11 @@ fixed_outside n x false k small h = elim (zero_or_one k x) [
 pub row_done : (old now : List ℕ) (r : ℕ) (b : Bool) (i v : ℕ) → i < length now → v ≡ get_or now (fixed_bit r b i) 0 →
     ((j : ℕ) → j < i → get_or now j 0 ≡ get_or old (fixed_bit r b j) 0) → ((j : ℕ) → i ≤ j → get_or now j 0 ≡ get_or old j 0) →
     (j : ℕ) → j < i + 1 → get_or (set now i v) j 0 ≡ get_or old (fixed_bit r b j) 0
-row_done old now r b i v h read done rest j l = elim (cases_eq j i) [
-  | inl e ↦ ap (λ z. get_or (set now i v) z 0) e ∙ get_or-set_same now i v 0 h ∙ read ∙ from ∙ sym (ap (λ z. get_or old (fixed_bit r b z) 0) e)
-  | inr ne ↦ get_or-set_other now i j v 0 ne ∙ done j (omega arith)
-]
-  where
-    from : get_or now (fixed_bit r b i) 0 ≡ get_or old (fixed_bit r b i) 0
-    from = elim (cases_lt (fixed_bit r b i) i) [
-      | inl lt ↦ done (fixed_bit r b i) lt ∙ ap (λ z. get_or old z 0) (fixed_twice r b i)
-      | inr ge ↦ rest (fixed_bit r b i) ge
-    ]
+row_done old now r b i v h read done rest j l = grind (arith, get_or-set_same, get_or-set_other, fixed_twice)
 
 pub row_rest : (old now : List ℕ) (i v : ℕ) → ((j : ℕ) → i ≤ j → get_or now j 0 ≡ get_or old j 0) → (j : ℕ) → i + 1 ≤ j →
     get_or (set now i v) j 0 ≡ get_or old j 0
-row_rest old now i v rest j l =
-    let ne : j ≢ i = omega arith in
-    get_or-set_other now i j v 0 ne ∙ rest j (omega arith)
+row_rest old now i v rest j l = get_or-set_other now i j v 0 (omega arith) ∙ rest j (omega arith)
 
 -- the number of a point with a variable set
 pub number-fixed : (p : Point) (x : ℕ) (b : Bool) → x < length p → number (set p x b) ≡ fixed_bit x b (number p)
@@ -156,10 +111,7 @@ number-fixed p x b h = by (get_or p x false) refl b
     raised = number-raised p x h
 
     by : (c : Bool) → get_or p x false ≡ c → (d : Bool) → number (set p x d) ≡ fixed_bit x d (number p)
-    by true e d =
-        let same : number (set p x true) ≡ number p = ap number (ap (set p x) (sym e) ∙ set-get_or p x false) in
-        let one : bit_at (number p) x ≡ 1 = bit-number p x h ∙ ap weight e in
-        pick d
+    by true e d = pick d
       where
         pick : (d : Bool) → number (set p x d) ≡ fixed_bit x d (number p)
         pick true =
@@ -167,17 +119,13 @@ number-fixed p x b h = by (get_or p x false) refl b
             same ∙ sym (up_one (number p) x (bit-number p x h ∙ ap weight e))
         pick false =
             let same : number (set p x true) ≡ number p = ap number (ap (set p x) (sym e) ∙ set-get_or p x false) in
-            let r = raised in
-            let f = down_one (number p) x (bit-number p x h ∙ ap weight e) in
-            omega arith
+            omega (arith, raised, down_one (number p) x (bit-number p x h ∙ ap weight e))
     by false e d = pick d
       where
         pick : (d : Bool) → number (set p x d) ≡ fixed_bit x d (number p)
         pick true =
             let same : number (set p x false) ≡ number p = ap number (ap (set p x) (sym e) ∙ set-get_or p x false) in
-            let r = raised in
-            let f = up_zero (number p) x (bit-number p x h ∙ ap weight e) in
-            omega arith
+            omega (arith, raised, up_zero (number p) x (bit-number p x h ∙ ap weight e))
         pick false =
             let same : number (set p x false) ≡ number p = ap number (ap (set p x) (sym e) ∙ set-get_or p x false) in
             same ∙ sym (down_zero (number p) x (bit-number p x h ∙ ap weight e))
@@ -185,29 +133,21 @@ number-fixed p x b h = by (get_or p x false) refl b
 -- a place of a table's words, with a bit of a variable from 6 on fixed
 pub fixed_rows_room : (n x : ℕ) (b : Bool) (words : List ℕ) → 6 ≤ x → x < n → length words ≡ words_per_table n → (i : ℕ) →
     i < length words → fixed_bit (x - 6) b i < length words
-fixed_rows_room n x b words high small long i h = elim (whole_words n) [
-  | inl w ↦
-      let l = long ∙ w.2 in
-      let f = fixed_inside (n - 6) (x - 6) b i (omega arith) (omega arith) in
-      omega arith
-  | inr w ↦ absurd (omega (arith, w.0))
-]
+fixed_rows_room n x b words high small long i h = grind (arith, whole_words, fixed_inside)
 
 -- ---- words
 
 -- a word shifted up
 raised_low : (h s k : ℕ) → k < 64 → k < s → bit_at (h * 2 ^ s % 2 ^ 64) k ≡ 0
 raised_low h s k lt low =
-    let e : h * 2 ^ s ≡ (h * 2 ^ s / 2 ^ 64) * 2 ^ 64 + h * 2 ^ s % 2 ^ 64 = omega arith in
     let z : h * 2 ^ s ≡ h * 2 ^ s + 0 = omega arith in
-    sym (ap (λ w. bit_at w k) e ∙ bit_at_cat_low (h * 2 ^ s / 2 ^ 64) 64 (h * 2 ^ s % 2 ^ 64) k lt) ∙ ap (λ w. bit_at w k) z
+    sym (ap (λ w. bit_at w k) (omega arith) ∙ bit_at_cat_low (h * 2 ^ s / 2 ^ 64) 64 (h * 2 ^ s % 2 ^ 64) k lt) ∙ ap (λ w. bit_at w k) z
     ∙ bit_at_cat_low h s 0 k low ∙ bit_at-zero k
 
 raised_high : (h s k : ℕ) → k < 64 → s ≤ k → bit_at (h * 2 ^ s % 2 ^ 64) k ≡ bit_at h (k - s)
 raised_high h s k lt high =
-    let e : h * 2 ^ s ≡ (h * 2 ^ s / 2 ^ 64) * 2 ^ 64 + h * 2 ^ s % 2 ^ 64 = omega arith in
     let z : h * 2 ^ s ≡ h * 2 ^ s + 0 = omega arith in
-    sym (ap (λ w. bit_at w k) e ∙ bit_at_cat_low (h * 2 ^ s / 2 ^ 64) 64 (h * 2 ^ s % 2 ^ 64) k lt) ∙ ap (λ w. bit_at w k) z
+    sym (ap (λ w. bit_at w k) (omega arith) ∙ bit_at_cat_low (h * 2 ^ s / 2 ^ 64) 64 (h * 2 ^ s % 2 ^ 64) k lt) ∙ ap (λ w. bit_at w k) z
     ∙ bit_at_cat_high h s 0 k (pow_pos s) high
 
 module _ (from lower x : ℕ) (small : x < 6) (low : (b : ℕ) → b < 64 → bit_at lower b ≡ 1 - bit_at b x) where
@@ -219,55 +159,30 @@ module _ (from lower x : ℕ) (small : x < 6) (low : (b : ℕ) → b < 64 → bi
   half_bit k h = bit_at_and from lower k ∙ ap (min (bit_at from k)) (low k h)
 
   below_half : (k : ℕ) → k < 64 → bit_at k x ≡ 0 → bit_at (half * 2 ^ (2 ^ x) % 2 ^ 64) k ≡ 0
-  below_half k h e = elim (cases_lt k (2 ^ x)) [
-    | inl lt ↦ raised_low half (2 ^ x) k h lt
-    | inr ge ↦
-        let s : k - 2 ^ x + 2 ^ x ≡ k = omega arith in
-        let f = sym (flip (k - 2 ^ x) x) ∙ ap (λ z. bit_at z x) s ∙ e in
-        let l = bit_at-lt (k - 2 ^ x) x in
-        let b = half_bit (k - 2 ^ x) (omega arith) in
-        raised_high half (2 ^ x) k h ge ∙ omega arith
-  ]
+  below_half k h e = grind (arith, raised_low, flip, raised_high, half_bit)
 
   -- both halves of a word are the masked half
   pub doubled_zero : (k : ℕ) → k < 64 → bit_at k x ≡ 0 → bit_at (bit_or (bit_and from lower) (bit_and from lower * 2 ^ (2 ^ x) % 2 ^ 64)) k ≡ bit_at from k
   unfolding half
-  doubled_zero k h e =
-      let a = half_bit k h in
-      let b = below_half k h e in
-      let l = bit_at-lt from k in
-      bit_at_or half (half * 2 ^ (2 ^ x) % 2 ^ 64) k ∙ omega arith
+  doubled_zero k h e = bit_at_or half (half * 2 ^ (2 ^ x) % 2 ^ 64) k ∙ omega (arith, half_bit k h, below_half k h e)
 
   pub doubled_one : (k : ℕ) → k < 64 → bit_at k x ≡ 1 →
       bit_at (bit_or (bit_and from lower) (bit_and from lower * 2 ^ (2 ^ x) % 2 ^ 64)) k ≡ bit_at from (k - 2 ^ x)
   unfolding half
-  doubled_one k h e =
-      let there = pow_le_bit k x e in
-      let without = bit_without k x e in
-      let a = half_bit k h in
-      let c = half_bit (k - 2 ^ x) (omega arith) in
-      let b = raised_high half (2 ^ x) k h there in
-      let l = bit_at-lt from k in
-      let m = bit_at-lt from (k - 2 ^ x) in
-      bit_at_or half (half * 2 ^ (2 ^ x) % 2 ^ 64) k ∙ omega arith
+  doubled_one k h e = grind (arith, bit_without, half_bit, raised_high, pow_le_bit, bit_at_or)
 
 module _ (word lower x : ℕ) (small : x < 6) (low : (b : ℕ) → b < 64 → bit_at lower b ≡ 1 - bit_at b x) where
   pub upper_bit : (k : ℕ) → k < 64 →
       bit_at (bit_or (bit_and (word / 2 ^ (2 ^ x)) lower) (bit_and (word / 2 ^ (2 ^ x)) lower * 2 ^ (2 ^ x) % 2 ^ 64)) k ≡ bit_at word
       (fixed_bit x true k)
   upper_bit k h = elim (zero_or_one k x) [
-    | inl e ↦ doubled_zero (word / 2 ^ (2 ^ x)) lower x small low k h e ∙ shifted_bit word (2 ^ x) k ∙ sym (ap (bit_at word) (up_zero k x e))
+    | inl e ↦ search (doubled_zero, shifted_bit, up_zero)
     | inr e ↦
-        let there = pow_le_bit k x e in
-        let s : k - 2 ^ x + 2 ^ x ≡ k = omega arith in
-        doubled_one (word / 2 ^ (2 ^ x)) lower x small low k h e ∙ shifted_bit word (2 ^ x) (k - 2 ^ x) ∙ ap (bit_at word) (s ∙ sym (up_one k x e))
+        grind (arith, pow_le_bit, doubled_one, shifted_bit)
   ]
 
   pub lower_bit : (k : ℕ) → k < 64 → bit_at (bit_or (bit_and word lower) (bit_and word lower * 2 ^ (2 ^ x) % 2 ^ 64)) k ≡ bit_at word (fixed_bit x false k)
-  lower_bit k h = elim (zero_or_one k x) [
-    | inl e ↦ doubled_zero word lower x small low k h e ∙ sym (ap (bit_at word) (down_zero k x e))
-    | inr e ↦ doubled_one word lower x small low k h e ∙ sym (ap (bit_at word) (down_one k x e))
-  ]
+  lower_bit k h = grind (arith, doubled_zero, doubled_one, down_one)
 
 -- ---- truth tables
 
@@ -285,7 +200,7 @@ module _ (n x : ℕ) (b : Bool) (old new : List ℕ) (small : x < n) where
       let s : number p < 2 ^ n = subst (λ (z : ℕ). number p < 2 ^ z) l (number-small p) in
       let f = number-fixed p x b (omega arith) in
       let i = fixed_inside n x b (number p) small s in
-      table_value n new (number p) s ∙ h (number p) s ∙ sym (ap (λ z. get_or (table_in n old) z false) f ∙ table_value n old (fixed_bit x b (number p)) i))
+      grind (arith, table_value))
 
   -- variables below 6: within each word
   module _ (low : x < 6) (same : (i c : ℕ) → i < length new → c < 64 → bit_at (get_or new i 0) c ≡ bit_at (get_or old i 0) (fixed_bit x b c)) where

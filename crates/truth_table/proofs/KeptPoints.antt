@@ -1,12 +1,12 @@
 -- Packed truth tables of words whose points behind the last one are left out.
 --     kept_packed, kept_tables      they are packed, and hold the same truth tables
-use Rattle.std.proofs.Common.{◌≡◌, ℕ, zero, suc, ◌+◌, ◌*◌, ◌/◌, ◌%◌, ◌^◌, ◌<◌, ◌≤◌, Bool, true, false, ◌&&◌, inl, inr, List, length, get_or, refl, sym, ap, ◌∙◌, arith, eqb, bit_and, ltb}
+use Rattle.std.proofs.Common.{◌≡◌, ℕ, zero, suc, ◌*◌, ◌^◌, ◌<◌, ◌≤◌, Bool, true, false, ◌&&◌, inl, inr, List, length, get_or, refl, sym, ap, ◌∙◌, arith, eqb, bit_and, ltb}
 use Rattle.std.specs.Int.{bit_at}
-use Rattle.std.proofs.lemmas.Bool.{cases_lt, false≢true, lt-ltb, le-ltb}
+use Rattle.std.proofs.lemmas.Bool.{cases_lt, false≢true, le-ltb}
 use Rattle.std.proofs.lemmas.Nat.{and_le_r}
 use Rattle.std.proofs.lemmas.Nat.Bits.{bit_at-lt, bit_at_above}
 use Rattle.order_model.specs.Problems.{IsClean, IsPacked, tables_of, words_per_table}
-use Rattle.order_model.proofs.Bits.Problems.{point_inside, block_inside, same_tables, table_of, length-tables_of, length-table_in, value_of}
+use Rattle.order_model.proofs.Bits.Problems.{block_inside, same_tables, table_of, length-tables_of, length-table_in, value_of}
 use Rattle.truth_table.proofs.TermWords.{masked_bits}
 
 module _ (n m : ℕ) (words items : List ℕ) (mask : ℕ) (masks : (b : ℕ) → b < 64 → eqb (bit_at mask b) 1 ≡ ltb b (2 ^ n))
@@ -14,20 +14,14 @@ module _ (n m : ℕ) (words items : List ℕ) (mask : ℕ) (masks : (b : ℕ) �
     (same : length items ≡ length words) (laid : (i : ℕ) → i < length words → get_or items i 0 ≡ bit_and (get_or words i 0) mask) where
   -- the bits of a word that is kept
   kept_bit : (i b : ℕ) → i < length words → b < 64 → eqb (bit_at (get_or items i 0) b) 1 ≡ (eqb (bit_at (get_or words i 0) b) 1 && ltb b (2 ^ n))
-  kept_bit i b h l = ap (λ v. eqb (bit_at v b) 1) (laid i h) ∙ masked_bits (get_or words i 0) mask b
-      ∙ ap (λ c. eqb (bit_at (get_or words i 0) b) 1 && c) (masks b l)
+  kept_bit i b h l = grind (arith, masked_bits)
 
   -- the truth tables are the same
   pub kept_tables : tables_of n m items ≡ tables_of n m words
   kept_tables = same_tables n m items (tables_of n m words) (length-tables_of n m words) (λ j h. ap length (table_of n m words j h) ∙ length-table_in n _)
       (λ j k h l.
-      let p = point_inside n k l in
       let q = block_inside (words_per_table n) m j h in
-      let place : ℕ = j * words_per_table n + k / 64 in
-      kept_bit place (k % 64) (omega arith) (omega arith)
-      ∙ ap (λ c. eqb (bit_at (get_or words place 0) (k % 64)) 1 && c) (lt-ltb (k % 64) (2 ^ n) (omega arith))
-      ∙ and_yes (eqb (bit_at (get_or words place 0) (k % 64)) 1)
-      ∙ sym (value_of n m words j k h l))
+      grind (arith, kept_bit, value_of))
     where
       and_yes : (b : Bool) → (b && true) ≡ b
       and_yes true = refl
@@ -35,7 +29,7 @@ module _ (n m : ℕ) (words items : List ℕ) (mask : ℕ) (masks : (b : ℕ) �
 
   clean : IsClean n items
   clean i b h big = elim (cases_lt b 64) [
-    | inr ge ↦ bit_at_above (get_or items i 0) 64 b (let e = laid i (omega arith) in let f = and_le_r (get_or words i 0) mask in omega arith) ge
+    | inr ge ↦ bit_at_above (get_or items i 0) 64 b (omega (arith, and_le_r (get_or words i 0) mask)) ge
     | inl lt ↦ not_one (bit_at (get_or items i 0) b) (bit_at-lt (get_or items i 0) b)
         (kept_bit i b (omega arith) lt ∙ ap (λ c. eqb (bit_at (get_or words i 0) b) 1 && c) (le-ltb b (2 ^ n) big)
         ∙ and_no (eqb (bit_at (get_or words i 0) b) 1))

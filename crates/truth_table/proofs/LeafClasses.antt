@@ -17,7 +17,7 @@ use Rattle.order_model.specs.Levels.{subfunctions, reach}
 use Rattle.order_model.specs.Orders.{has, IsOrder}
 use Rattle.order_model.specs.Problems.{packed_bit, table_in}
 use Rattle.order_model.proofs.Functions.Exchange.{below_from_has}
-use Rattle.order_model.proofs.Bits.Tables.{table_value, same_bit}
+use Rattle.order_model.proofs.Bits.Tables.{table_value}
 use Rattle.order_model.proofs.Bits.PointNumbers.{number-small, bit-number, weight_bit}
 use Rattle.order_model.proofs.Functions.Tables.{table_same, same_from_table}
 use Rattle.truth_table.specs.Assignments.{assignments, value_number, values_at}
@@ -68,26 +68,18 @@ assignments_clear x (y ∷ ys) h =
     let rest = assignments_clear x ys h.1 in
     each_append (λ k. bit_at k x ≡ 0) (assignments ys) (map (λ k. bit_or k (2 ^ y)) (assignments ys)) rest
     (each_map (λ k. bit_at k x ≡ 0) (λ k. bit_at k x ≡ 0) (λ k. bit_or k (2 ^ y)) (λ k e.
-    let other = bit_at-pow_other y x (λ s. h.0 (sym s)) in
-    bit_at_or k (2 ^ y) x ∙ omega arith) (assignments ys) rest)
+    bit_at_or k (2 ^ y) x ∙ omega (arith, bit_at-pow_other y x (λ s. h.0 (sym s)))) (assignments ys) rest)
 
 pub assignments_small : (n : ℕ) (xs : List ℕ) → AreDistinct n xs → Each (λ k. k < 2 ^ n) (assignments xs)
 unfolding assignments
 assignments_small n [] h = (pow_pos n, tt)
-assignments_small n (x ∷ xs) h =
-    let rest = assignments_small n xs h.2 in
-    each_append (λ k. k < 2 ^ n) (assignments xs) (map (λ k. bit_or k (2 ^ x)) (assignments xs)) rest
-    (each_map (λ k. k < 2 ^ n) (λ k. k < 2 ^ n) (λ k. bit_or k (2 ^ x)) (λ k l. or_lt n k (2 ^ x) l (pow_below x n h.0)) (assignments xs) rest)
+assignments_small n (x ∷ xs) h = search (each_append, each_map, or_lt, pow_below, assignments_small n xs h.2)
 
 -- a bit that is fixed last doesn't change what the others are fixed to
 fixed_apart : (x k : ℕ) (xs : List ℕ) → Each (λ y. y ≢ x) xs → (f : Function) → fixed xs (bit_or k (2 ^ x)) f ≡ fixed xs k f
 unfolding fixed
 fixed_apart x k [] h f = refl
-fixed_apart x k (y ∷ ys) h f =
-    let other = bit_at-pow_other x y h.0 in
-    let l = bit_at-lt k y in
-    let same : bit_at (bit_or k (2 ^ x)) y ≡ bit_at k y = bit_at_or k (2 ^ x) y ∙ omega arith in
-    ap (λ z. fixed ys (bit_or k (2 ^ x)) (restrict y (eqb z 1) f)) same ∙ fixed_apart x k ys h.1 (restrict y (eqb (bit_at k y) 1) f)
+fixed_apart x k (y ∷ ys) h f = grind (arith, bit_at_or, bit_at-pow_other, fixed_apart x k ys h.1 (restrict y (eqb (bit_at k y) 1) f))
 
 -- the subfunctions fix the variables to the bits of the points
 pub subfunctions_fixed : (n : ℕ) (xs : List ℕ) → AreDistinct n xs → (f : Function) → subfunctions xs f ≡ map (λ k. fixed xs k f) (assignments xs)
@@ -112,9 +104,8 @@ subfunctions_fixed n (x ∷ xs) h f =
     upper = map_each (λ k. bit_at k x ≡ 0) (λ k. fixed xs k (restrict x true f))
         (λ k. fixed xs (bit_or k (2 ^ x)) (restrict x (eqb (bit_at (bit_or k (2 ^ x)) x) 1) f))
         (λ k e.
-        let own = bit_at-pow_same x in
-        let one : bit_at (bit_or k (2 ^ x)) x ≡ 1 = bit_at_or k (2 ^ x) x ∙ omega arith in
-        sym (fixed_apart x k xs h.1 (restrict x true f)) ∙ sym (ap (λ z. fixed xs (bit_or k (2 ^ x)) (restrict x (eqb z 1) f)) one)) (assignments xs) clear
+        let one : bit_at (bit_or k (2 ^ x)) x ≡ 1 = bit_at_or k (2 ^ x) x ∙ omega (arith, bit_at-pow_same x) in
+        grind (arith, fixed_apart)) (assignments xs) clear
         ∙ sym (twice (assignments xs))
       where
         twice : (ks : List ℕ) →
@@ -143,9 +134,7 @@ bit-laid : (xs : List ℕ) (k : ℕ) (p : Point) (y : ℕ) → y < length p → 
 bit-laid [] k p y l h = absurd (false≢true h)
 bit-laid (x ∷ xs) k p y l h = elim (cases_eq y x) [
   | inl e ↦
-      let long = length-laid xs k p in
-      ap (get_at (set (laid xs k p) x (eqb (bit_at k x) 1))) e ∙ get_or-set_same (laid xs k p) x (eqb (bit_at k x) 1) false (omega arith)
-      ∙ sym (ap (λ z. eqb (bit_at k z) 1) e)
+      grind (arith, get_or-set_same, length-laid)
   | inr ne ↦ get_or-set_other (laid xs k p) x y (eqb (bit_at k x) 1) false ne ∙ bit-laid xs k p y l (sym (ap (λ b. b || has xs y) (ne_eqb y x ne)) ∙ h)
 ]
   where
@@ -219,10 +208,7 @@ leaves_apart n fs cs h = record {
       let f = zip_at (IsLeaf n) fs cs h j a in
       let g = zip_at (IsLeaf n) fs cs h k b in
       let p : Point = replicate n false in
-      let l = length-replicate n false in (
-        λ e. table_same n (function_at fs j) (function_at fs k) (λ q m. f.0 q m ∙ ap (λ z. eqb z 1) e ∙ sym (g.0 q m)),
-        λ e. same_bit (get_or cs j 0) (get_or cs k 0) f.1 g.1 (sym (f.0 p l) ∙ same_from_table n (function_at fs j) (function_at fs k) e p l ∙ g.0 p l),
-      );
+      let l = length-replicate n false in grind (arith, table_same, same_from_table);
 }
 
 -- each value is that of its function with all variables fixed
@@ -232,16 +218,12 @@ leaves_are n order o tables = leaves n order (order_distinct n order o) (λ y h.
 
 pub leaves_tell : (n : ℕ) (order : List ℕ) → IsOrder n order → (tables : List (List Bool)) →
     Tells n (reach (map from_table tables) order) (values_at (assignments order) tables)
-leaves_tell n order o tables =
-    leaves_apart n (reach (map from_table tables) order) (values_at (assignments order) tables)
-    (leaves_are n order o tables)
+leaves_tell n order o tables = search (leaves_apart, leaves_are)
 
 -- ---- the program's lists
 
 pub upper_inside : (old now : List ℕ) (x i : ℕ) → i < length old → now ≡ old ++ map (λ k. bit_or k (2 ^ x)) (take i old) → i < length now
-upper_inside old now x i h e =
-    let l = ap length e ∙ length-append old (map (λ k. bit_or k (2 ^ x)) (take i old)) in
-    omega arith
+upper_inside old now x i h e = omega (arith, ap length e ∙ length-append old (map (λ k. bit_or k (2 ^ x)) (take i old)))
 
 -- one more variable, from the bottom up
 pub assignments_more : (xs : List ℕ) (i : ℕ) → 0 < i → i ≤ length xs →
@@ -250,9 +232,8 @@ unfolding assignments
 assignments_more xs zero h l = absurd (omega arith)
 assignments_more xs (suc i) h l =
     let e : suc i - 1 ≡ i = omega arith in
-    let c = drop-cons xs i 0 (omega arith) in
     ap (λ z. assignments (drop (suc i) xs) ++ map (λ k. bit_or k (2 ^ get_or xs z 0)) (assignments (drop (suc i) xs))) e
-    ∙ sym (ap (λ z. assignments (drop z xs)) e ∙ ap assignments c)
+    ∙ sym (ap (λ z. assignments (drop z xs)) e ∙ ap assignments (drop-cons xs i 0 (omega arith)))
 
 -- one more table
 pub values_more : (ks : List ℕ) (tables : List (List Bool)) (j : ℕ) → j < length tables →
@@ -268,9 +249,8 @@ pub values_packed : (n : ℕ) (words : List ℕ) (t : List Bool) (ks : List ℕ)
     map (λ k. cond (packed_bit words k) 1 0) ks ≡ map (value_number t) ks
 values_packed n words t [] e h = refl
 values_packed n words t (k ∷ ks) e h =
-    let here : packed_bit words k ≡ get_or t k false = sym (table_value n words k (All-head (λ k. k < 2 ^ n) k ks h)) ∙ ap (λ u. get_or u k false) e in
     let rest = values_packed n words t ks e (All-tail (λ k. k < 2 ^ n) k ks h) in
-    λ i. cond (here i) 1 0 ∷ rest i
+    λ i. cond ((sym (table_value n words k (All-head (λ k. k < 2 ^ n) k ks h)) ∙ ap (λ u. get_or u k false) e) i) 1 0 ∷ rest i
 
 pub assignments_below : (n : ℕ) (order : List ℕ) → IsOrder n order → All (λ k. k < 2 ^ n) (assignments order)
 assignments_below n order o = each_all (assignments order) (assignments_small n order (order_distinct n order o))

@@ -7,8 +7,6 @@ use Rattle.std.specs.List.{flat_map, filter, range_with_len}
 use Rattle.std.specs.Set.{distinct_count}
 use Rattle.std.proofs.lemmas.List.{get_or-set_other, get_or-set_same, length-append, length-set, length-take-le, take_more}
 use Rattle.std.proofs.lemmas.Nat.{pow-add, pow_pos}
-use Rattle.std.proofs.Math.Nat.{mul-le-mul_right}
-use Rattle.std.proofs.lemmas.Bool.{cases_eq}
 use Rattle.std.proofs.lemmas.List.FromFn.{fill_by_all}
 use Rattle.order_model.specs.Functions.{Point, Function, bit, restrict, SameFunction, table, same_table, depends}
 use Rattle.order_model.specs.Levels.{subfunctions, reach, dependents, level_count, level_counts}
@@ -43,9 +41,7 @@ length-reach F xs = go F
     go [] = omega arith
     go (f ∷ fs) =
         let r = go fs in
-        let l = length-subfunctions xs f in
-        let e : suc (length fs) * 2 ^ length xs ≡ 2 ^ length xs + length fs * 2 ^ length xs = omega arith in
-        length-append (subfunctions xs f) (flat_map (subfunctions xs) fs) ∙ omega arith
+        grind (arith, length-subfunctions, length-append)
 
 -- ---- functions by their places
 
@@ -57,21 +53,17 @@ function_at fs j = get_or fs j none
 
 pub length-restricted : (x : ℕ) (fs : List Function) → length (restricted x fs) ≡ 2 * length fs
 length-restricted x [] = omega arith
-length-restricted x (f ∷ fs) = let r = length-restricted x fs in omega arith
+length-restricted x (f ∷ fs) = omega (arith, length-restricted x fs)
 
 pub lower_at : (x : ℕ) (fs : List Function) (j : ℕ) → j < length fs → function_at (restricted x fs) (2 * j) ≡ restrict x false (function_at fs j)
 lower_at x [] j h = absurd (omega arith)
 lower_at x (f ∷ fs) zero h = refl
-lower_at x (f ∷ fs) (suc j) h =
-    let e : 2 * suc j ≡ suc (suc (2 * j)) = omega arith in
-    ap (λ z. get_or (restrict x false f ∷ restrict x true f ∷ restricted x fs) z none) e ∙ lower_at x fs j (omega arith)
+lower_at x (f ∷ fs) (suc j) h = grind (arith, lower_at x fs j (omega arith))
 
 pub upper_at : (x : ℕ) (fs : List Function) (j : ℕ) → j < length fs → function_at (restricted x fs) (2 * j + 1) ≡ restrict x true (function_at fs j)
 upper_at x [] j h = absurd (omega arith)
 upper_at x (f ∷ fs) zero h = refl
-upper_at x (f ∷ fs) (suc j) h =
-    let e : 2 * suc j + 1 ≡ suc (suc (2 * j + 1)) = omega arith in
-    ap (λ z. get_or (restrict x false f ∷ restrict x true f ∷ restricted x fs) z none) e ∙ upper_at x fs j (omega arith)
+upper_at x (f ∷ fs) (suc j) h = grind (arith, upper_at x fs j (omega arith))
 
 -- two functions have one number just where they are the same
 pub record Tells (n : ℕ) (fs : List Function) (cs : List ℕ) : Type 0 where
@@ -89,10 +81,7 @@ among_range (suc len) a j h = elim h [
 
 module _ (n x : ℕ) (fs : List Function) (cs : List ℕ) (t : Tells n (restricted x fs) cs) where
   half_long : length cs / 2 ≡ length fs
-  half_long =
-      let l = t.long in
-      let r = length-restricted x fs in
-      omega arith
+  half_long = omega (arith, length-restricted x fs)
 
   -- one of the two restrictions of a function
   place_of : Bool → ℕ → ℕ
@@ -101,8 +90,8 @@ module _ (n x : ℕ) (fs : List Function) (cs : List ℕ) (t : Tells n (restrict
 
   place_small : (b : Bool) (j : ℕ) → j < length fs → place_of b j < length (restricted x fs)
   unfolding place_of
-  place_small true j h = let r = length-restricted x fs in omega arith
-  place_small false j h = let r = length-restricted x fs in omega arith
+  place_small true j h = omega (arith, length-restricted x fs)
+  place_small false j h = omega (arith, length-restricted x fs)
 
   at_place : (b : Bool) (j : ℕ) → j < length fs → function_at (restricted x fs) (place_of b j) ≡ restrict x b (function_at fs j)
   unfolding place_of
@@ -117,11 +106,7 @@ module _ (n x : ℕ) (fs : List Function) (cs : List ℕ) (t : Tells n (restrict
       (part b j ≡ part c k → table n (restrict x b (function_at fs j)) ≡ table n (restrict x c (function_at fs k)))
       × (table n (restrict x b (function_at fs j)) ≡ table n (restrict x c (function_at fs k)) → part b j ≡ part c k)
   unfolding part
-  tells b c j k h i =
-      let a = t.apart (place_of b j) (place_of c k) (place_small b j h) (place_small c k i) in
-      let e = ap (table n) (at_place b j h) in
-      let f = ap (table n) (at_place c k i) in
-      (λ s. sym e ∙ a.0 s ∙ f, λ s. a.1 (e ∙ s ∙ sym f))
+  tells b c j k h i = grind (arith, place_small, at_place)
 
   both_tell : (j k : ℕ) → j < length fs → k < length fs →
       (table n (function_at fs j) ≡ table n (function_at fs k) → pair_at cs j ≡ pair_at cs k)
@@ -155,17 +140,7 @@ module _ (n x : ℕ) (fs : List Function) (cs : List ℕ) (t : Tells n (restrict
 
   -- the numbers of the pairs tell the functions apart
   pub tells_above : (ns : List ℕ) → IsNumbering (pairs_of cs) ns → Tells n fs ns
-  tells_above ns m =
-      let l = length-pairs_of cs ∙ half_long in
-      record {
-        long = m.long ∙ l;
-        apart = λ j k h i.
-            let a = m.apart j k (omega arith) (omega arith) in
-            let e = get_or-pairs_of cs j (let g = half_long in omega arith) in
-            let f = get_or-pairs_of cs k (let g = half_long in omega arith) in
-            let b = both_tell j k h i in
-            (λ s. b.1 (sym e ∙ a.0 s ∙ f), λ s. a.1 (e ∙ b.0 s ∙ sym f));
-      }
+  tells_above ns m = grind (arith, length-pairs_of, half_long, get_or-pairs_of, both_tell)
 
   -- a function depends on x just where its classes are unequal
   depends_by_parts : (j : ℕ) → j < length fs → depends n (function_at fs j) x ≡ is_unequal (pair_at cs j)
@@ -182,7 +157,7 @@ module _ (n x : ℕ) (fs : List Function) (cs : List ℕ) (t : Tells n (restrict
 
   inside : (j : ℕ) → Among j places → j < length fs
   unfolding places
-  inside j h = let r = among_range (length fs) 0 j h in omega arith
+  inside j h = omega (arith, among_range (length fs) 0 j h)
 
   -- the functions that depend on x are as many as the pairs with unequal parts
   pub dependents_are_pairs : dependents n fs x ≡ unequal_count (pairs_of cs)
@@ -191,10 +166,9 @@ module _ (n x : ℕ) (fs : List Function) (cs : List ℕ) (t : Tells n (restrict
       let kept : ℕ → Bool = λ j. depends n (function_at fs j) x in
       let all : fs ≡ map (function_at fs) places = fill_by_all (function_at fs) fs (length fs) none refl (λ k h. refl) in
       let chosen : filter (λ f. depends n f x) fs ≡ map (function_at fs) (filter kept places) =
-      ap (filter (λ f. depends n f x)) all ∙ filter_map_same kept (λ f. depends n f x) (function_at fs) places (λ j h. refl) in
+      grind (arith, filter_map_same) in
       let pairs : filter is_unequal (map (pair_at cs) (range_with_len 0 (length cs / 2))) ≡ map (pair_at cs) (filter kept places) =
-      ap (λ z. filter is_unequal (map (pair_at cs) (range_with_len 0 z))) half_long
-      ∙ filter_map_same kept is_unequal (pair_at cs) places (λ j h. depends_by_parts j (inside j h)) in
+      search (half_long, filter_map_same, depends_by_parts, inside) in
       ap (λ gs. distinct_count same_table (map (table n) gs)) chosen ∙ ap (distinct_count same_table) (map-map (table n) (function_at fs) (filter kept places))
       ∙ count_alike same_table same_table_decides same_pair pair_decides (λ j. table n (function_at fs j)) (pair_at cs) (filter kept places)
       (λ j k a b. both_tell j k (inside j (among_from_filter kept j places a).0) (inside k (among_from_filter kept k places b).0))
@@ -220,10 +194,7 @@ module _ (n : ℕ) (F : List Function) (order : List ℕ) (level : ℕ) (h : lev
 -- one more count
 pub counts_more : (count : ℕ → ℕ) (counts : List ℕ) (level top unequal : ℕ) → level < length counts → unequal ≡ count level →
     ((i : ℕ) → level + 1 ≤ i → i < top → get_or counts i 0 ≡ count i) → (i : ℕ) → level ≤ i → i < top → get_or (set counts level unequal) i 0 ≡ count i
-counts_more count counts level top unequal h e done i l k = elim (cases_eq i level) [
-  | inl s ↦ ap (λ z. get_or (set counts level unequal) z 0) s ∙ get_or-set_same counts level unequal 0 h ∙ e ∙ sym (ap count s)
-  | inr ne ↦ get_or-set_other counts level i unequal 0 ne ∙ done i (omega arith) k
-]
+counts_more count counts level top unequal h e done i l k = grind (arith, get_or-set_same, get_or-set_other)
 
 pub counts_whole : (n : ℕ) (F : List Function) (order counts : List ℕ) → length counts ≡ length order →
     ((i : ℕ) → i < length order → get_or counts i 0 ≡ level_count n F order i) → counts ≡ level_counts n F order
@@ -237,22 +208,12 @@ few_blocks k h = grows k (16 - k) (omega arith)
     grows a b e =
         let p = pow_pos b in
         let s = pow-add 2 a b in
-        let t = ap (λ z. 2 ^ z) e in
-        let m = mul-le-mul_right {m = 1} {n = 2 ^ b} (2 ^ a) (omega arith) in
-        let c : 2 ^ b * 2 ^ a ≡ 2 ^ a * 2 ^ b = omega arith in
-        omega arith
+        grind arith
 
 -- the classes of a level are few
 pub few_classes : (n : ℕ) (F : List Function) (order : List ℕ) (level : ℕ) (cs : List ℕ) → length F ≤ 16 → length order ≤ 16 →
     level ≤ length order → Tells n (reach F (take level order)) cs → length cs < 4294967296
-few_classes n F order level cs m o l t =
-    let r = length-reach F (take level order) in
-    let k = length-take-le level order l in
-    let b = few_blocks level (omega arith) in
-    let e = ap (λ z. length F * 2 ^ z) k in
-    let c = mul-le-mul_right {m = length F} {n = 16} (2 ^ level) m in
-    let u = t.long in
-    omega arith
+few_classes n F order level cs m o l t = grind (arith, length-reach, length-take-le, few_blocks)
 
 -- the program's step from a level to the one above
 pub level_step : (n : ℕ) (F : List Function) (order : List ℕ) (level : ℕ) (cs classes ns counts : List ℕ) (unequal : ℕ) → 0 < level →

@@ -4,18 +4,16 @@
 --     literals_above      those from 6 on hold where the masks agree with the place
 --     group_without      they hold at no place of a group of 32 with which the masks of those from 11 on don't agree
 --     product_is      the function of the products of terms
-use Rattle.std.proofs.Common.{◌≡◌, ℕ, zero, suc, ◌+◌, ◌-◌, ◌*◌, ◌/◌, ◌^◌, ◌<◌, ◌≤◌, Bool, true, false, cond, not, ◌&&◌, ◌||◌, inl, inr, List, [], ◌∷◌, length, map, refl, sym, ap, ◌∙◌, arith, eqb, eqb-true, eq-eqb, min, bit_and, zero-add}
+use Rattle.std.proofs.Common.{◌≡◌, ℕ, zero, suc, ◌+◌, ◌-◌, ◌*◌, ◌/◌, ◌^◌, ◌<◌, ◌≤◌, Bool, true, false, not, ◌&&◌, ◌||◌, inl, inr, List, [], ◌∷◌, length, map, refl, sym, ap, ◌∙◌, arith, eqb, eqb-true, eq-eqb, min, bit_and, zero-add}
 use Rattle.std.specs.Int.{bit_at}
 use Rattle.std.specs.List.{All, list_all, range_with_len, enumerate_from}
-use Rattle.std.specs.Bool.{beq}
-use Rattle.std.specs.Prelude.{Some, None}
 use Rattle.std.proofs.lemmas.Bool.{cases_lt, and_parts, false≢true}
 use Rattle.std.proofs.lemmas.List.Elements.{All-head, All-tail}
 use Rattle.std.proofs.lemmas.List.FromFn.{get_or-map-range_with_len}
 use Rattle.std.proofs.lemmas.Nat.{and_shr, shr-shr}
-use Rattle.std.proofs.lemmas.Nat.Bits.{bit_at-lt, bit_at_and, bit_at_above, bit_at_cat_low, bit_at_cat_high, same_from_bits}
+use Rattle.std.proofs.lemmas.Nat.Bits.{bit_at_and, bit_at_above, bit_at_cat_low, bit_at_cat_high, same_from_bits}
 use Rattle.order_model.specs.declared.terms.Term.{Term}
-use Rattle.order_model.specs.Functions.{Point, bit, weight, number}
+use Rattle.order_model.specs.Functions.{Point, number}
 use Rattle.order_model.specs.Products.{literal_holds, literal_in, matches, has_output, output_in, product_function, product_of}
 use Rattle.order_model.proofs.Lists.Orders.{same_bool}
 use Rattle.order_model.proofs.Bits.Words.{shifted_bit}
@@ -30,9 +28,7 @@ pub all_same : (f g : ℕ → Bool) (len a : ℕ) → ((x : ℕ) → a ≤ x →
     list_all f (range_with_len a len) ≡ list_all g (range_with_len a len)
 all_same f g zero a h = refl
 all_same f g (suc len) a h =
-    let here = h a (omega arith) (omega arith) in
-    let rest = all_same f g len (a + 1) (λ x l u. h x (omega arith) (omega arith)) in
-    λ i. here i && rest i
+    λ i. (h a (omega arith) (omega arith)) i && (all_same f g len (a + 1) (λ x l u. h x (omega arith) (omega arith))) i
 
 all_true : (len a : ℕ) → list_all (λ _. true) (range_with_len a len) ≡ true
 all_true zero a = refl
@@ -56,17 +52,10 @@ and_assoc false b c = refl
 
 -- a range in two parts
 pub all_parts : (f : ℕ → Bool) (m k a : ℕ) → list_all f (range_with_len a (m + k)) ≡ (list_all f (range_with_len a m) && list_all f (range_with_len (a + m) k))
-all_parts f zero k a =
-    let e : zero + k ≡ k = omega arith in
-    let s : a ≡ a + zero = omega arith in
-    ap (λ z. list_all f (range_with_len a z)) e ∙ ap (λ z. list_all f (range_with_len z k)) s
+all_parts f zero k a = grind arith
 all_parts f (suc m) k a =
     let e : suc m + k ≡ suc (m + k) = omega arith in
-    let s : a + 1 + m ≡ a + suc m = omega arith in
-    ap (λ z. list_all f (range_with_len a z)) e
-    ∙ ap (λ b. f a && b)
-    (all_parts f m k (a + 1) ∙ ap (λ z. list_all f (range_with_len (a + 1) m) && list_all f (range_with_len z k)) s)
-    ∙ sym (and_assoc (f a) (list_all f (range_with_len (a + 1) m)) (list_all f (range_with_len (a + suc m) k)))
+    grind (arith, all_parts f m k (a + 1))
 
 -- ---- literals by bits
 
@@ -76,19 +65,13 @@ literal_same term k l x e = λ i. not (eqb (bit_at term.care x) 1) || eqb (e i) 
 
 -- the bits of a place and of a bit's number within its word
 pub low_bit : (i b x : ℕ) → x < 6 → bit_at (64 * i + b) x ≡ bit_at b x
-low_bit i b x h =
-    let e : 64 * i + b ≡ i * 64 + b = omega arith in
-    ap (λ z. bit_at z x) e ∙ bit_at_cat_low i 6 b x h
+low_bit i b x h = ap (λ z. bit_at z x) (omega arith) ∙ bit_at_cat_low i 6 b x h
 
 pub high_bit : (i b x : ℕ) → b < 64 → 6 ≤ x → bit_at (64 * i + b) x ≡ bit_at i (x - 6)
-high_bit i b x h high =
-    let e : 64 * i + b ≡ i * 64 + b = omega arith in
-    ap (λ z. bit_at z x) e ∙ bit_at_cat_high i 6 b x h high
+high_bit i b x h high = ap (λ z. bit_at z x) (omega arith) ∙ bit_at_cat_high i 6 b x h high
 
 high_bit_alone : (i x : ℕ) → 6 ≤ x → bit_at (64 * i) x ≡ bit_at i (x - 6)
-high_bit_alone i x high =
-    let e : 64 * i ≡ 64 * i + 0 = omega arith in
-    ap (λ z. bit_at z x) e ∙ high_bit i 0 x (omega arith) high
+high_bit_alone i x high = ap (λ z. bit_at z x) (omega arith) ∙ high_bit i 0 x (omega arith) high
 
 pub literals_apart : (term : Term) (place b : ℕ) → b < 64 →
     literals_at term (64 * place + b) 0 16 ≡ (literals_at term b 0 6 && literals_at term (64 * place) 6 10)
@@ -99,21 +82,6 @@ literals_apart term place b h =
     && all_same (literal_at term (64 * place + b)) (literal_at term (64 * place)) 10 6
     (λ x l u. literal_same term (64 * place + b) (64 * place) x (high_bit place b x h l ∙ sym (high_bit_alone place x l))) i)
 
--- a literal holds where the masked bit is the value's
-literal_bits : (p c v : ℕ) → p < 2 → c < 2 → v < 2 → v ≡ min v c →
-    ((not (eqb c 1) || eqb p v) ≡ true → min p c ≡ v) × (min p c ≡ v → (not (eqb c 1) || eqb p v) ≡ true)
-literal_bits zero zero zero a b d e = (λ _. refl, λ _. refl)
-literal_bits zero zero (suc zero) a b d e = absurd (omega arith)
-literal_bits zero (suc zero) zero a b d e = (λ _. refl, λ _. refl)
-literal_bits zero (suc zero) (suc zero) a b d e = (λ h. absurd (false≢true h), λ h. absurd (omega arith))
-literal_bits (suc zero) zero zero a b d e = (λ _. refl, λ _. refl)
-literal_bits (suc zero) zero (suc zero) a b d e = absurd (omega arith)
-literal_bits (suc zero) (suc zero) zero a b d e = (λ h. absurd (false≢true h), λ h. absurd (omega arith))
-literal_bits (suc zero) (suc zero) (suc zero) a b d e = (λ _. refl, λ _. refl)
-literal_bits (suc (suc p)) c v a b d e = absurd (omega arith)
-literal_bits p (suc (suc c)) v a b d e = absurd (omega arith)
-literal_bits p c (suc (suc v)) a b d e = absurd (omega arith)
-
 module _ (term : Term) (care_fits : term.care < 2 ^ 16) (within : bit_and term.value term.care ≡ term.value) where
   value_within : (x : ℕ) → bit_at term.value x ≡ min (bit_at term.value x) (bit_at term.care x)
   value_within x = sym (ap (λ z. bit_at z x) within) ∙ bit_at_and term.value term.care x
@@ -123,13 +91,7 @@ module _ (term : Term) (care_fits : term.care < 2 ^ 16) (within : bit_and term.v
   at_bit place y =
       let c = shifted_bit term.care 6 y in
       let v = shifted_bit term.value 6 y in
-      let s : (y + 6) - 6 ≡ y = omega arith in
-      let p : bit_at (64 * place) (y + 6) ≡ bit_at place y = high_bit_alone place (y + 6) (omega arith) ∙ ap (bit_at place) s in
-      let bits = literal_bits (bit_at place y) (bit_at term.care (y + 6)) (bit_at term.value (y + 6)) (bit_at-lt place y)
-      (bit_at-lt term.care (y + 6)) (bit_at-lt term.value (y + 6)) (value_within (y + 6)) in
-      let test : literal_at term (64 * place) (y + 6) ≡ (not (eqb (bit_at term.care (y + 6)) 1) || eqb (bit_at place y) (bit_at term.value (y + 6))) =
-      ap (λ z. not (eqb (bit_at term.care (y + 6)) 1) || eqb z (bit_at term.value (y + 6))) p in
-      (λ e. ap (min (bit_at place y)) c ∙ bits.0 (sym test ∙ e) ∙ sym v, λ e. test ∙ bits.1 (sym (ap (min (bit_at place y)) c) ∙ e ∙ v))
+      grind (arith, high_bit_alone, value_within)
 
   -- the literals from variable 6 on hold where the masks agree with the place
   pub literals_above : (place : ℕ) → eqb (bit_and place (term.care / 2 ^ 6)) (term.value / 2 ^ 6) ≡ literals_at term (64 * place) 6 10
@@ -138,8 +100,7 @@ module _ (term : Term) (care_fits : term.care < 2 ^ 16) (within : bit_and term.v
     where
       to : eqb (bit_and place (term.care / 2 ^ 6)) (term.value / 2 ^ 6) ≡ true → list_all (literal_at term (64 * place)) (range_with_len 6 10) ≡ true
       to e = all_from (literal_at term (64 * place)) 10 6 (λ x l u.
-          let s : x - 6 + 6 ≡ x = omega arith in
-          sym (ap (literal_at term (64 * place)) s)
+          sym (ap (literal_at term (64 * place)) (omega arith))
           ∙ (at_bit place (x - 6)).1 (sym (bit_at_and place (term.care / 2 ^ 6) (x - 6)) ∙ ap (λ z. bit_at z (x - 6)) (eqb-true _ _ e)))
 
       from : list_all (literal_at term (64 * place)) (range_with_len 6 10) ≡ true → eqb (bit_and place (term.care / 2 ^ 6)) (term.value / 2 ^ 6) ≡ true
@@ -149,8 +110,7 @@ module _ (term : Term) (care_fits : term.care < 2 ^ 16) (within : bit_and term.v
             let c = shifted_bit term.care 6 y ∙ bit_at_above term.care 16 (y + 6) care_fits (omega arith) in
             let v = shifted_bit term.value 6 y in
             let w = value_within (y + 6) in
-            let o = bit_at_above term.care 16 (y + 6) care_fits (omega arith) in
-            omega arith)
+            omega (arith, bit_at_above term.care 16 (y + 6) care_fits (omega arith)))
       ]))
 
   in_group : (group place : ℕ) → place < 32 → bit_and (32 * group + place) (term.care / 2 ^ 6) ≡ term.value / 2 ^ 6 →
@@ -172,27 +132,14 @@ module _ (term : Term) (care_fits : term.care < 2 ^ 16) (within : bit_and term.v
 
 -- ---- products
 
-beq_weight : (b : Bool) (v : ℕ) → v < 2 → beq b (eqb v 1) ≡ eqb (weight b) v
-beq_weight true zero h = refl
-beq_weight true (suc zero) h = refl
-beq_weight false zero h = refl
-beq_weight false (suc zero) h = refl
-beq_weight b (suc (suc v)) h = absurd (omega arith)
-
 literal_is : (term : Term) (p : Point) (x : ℕ) → x < length p → literal_holds p (x, literal_in term x) ≡ literal_at term (number p) x
-literal_is term p x h = by (eqb (bit_at term.care x) 1)
-  where
-    by : (c : Bool) → literal_holds p (x, cond c (Some (eqb (bit_at term.value x) 1)) None) ≡ (not c || eqb (bit_at (number p) x) (bit_at term.value x))
-    by false = refl
-    by true = beq_weight (bit p x) (bit_at term.value x) (bit_at-lt term.value x) ∙ ap (λ z. eqb z (bit_at term.value x)) (sym (bit-number p x h))
+literal_is term p x h = grind (arith, bit-number)
 
 matches_from : (term : Term) (p : Point) (len a : ℕ) → a + len ≤ length p →
     list_all (literal_holds p) (enumerate_from a (map (literal_in term) (range_with_len a len))) ≡ list_all (literal_at term (number p)) (range_with_len a len)
 matches_from term p zero a h = refl
 matches_from term p (suc len) a h =
-    let here = literal_is term p a (omega arith) in
-    let rest = matches_from term p len (a + 1) (omega arith) in
-    λ i. here i && rest i
+    λ i. (literal_is term p a (omega arith)) i && (matches_from term p len (a + 1) (omega arith)) i
 
 -- a variable with no literal
 no_literal : (term : Term) (k x : ℕ) → bit_at term.care x ≡ 0 → literal_at term k x ≡ true
@@ -216,10 +163,7 @@ unfolding product_of
 output_is n m term j h = get_or-map-range_with_len (output_in term) 0 m j j false h (zero-add j)
 
 pub and_turned : (a b : Bool) → (a && b) ≡ (b && a)
-and_turned true true = refl
-and_turned true false = refl
-and_turned false true = refl
-and_turned false false = refl
+and_turned a b = grind arith
 
 -- the function of the products of terms
 pub product_is : (n m : ℕ) (terms : List Term) (j : ℕ) (p : Point) → n ≤ 16 → j < m → length p ≡ n → All (Fits n m) terms →
@@ -228,7 +172,4 @@ unfolding product_function covered
 product_is n m [] j p few h l fit = refl
 product_is n m (term ∷ terms) j p few h l fit =
     let fits = All-head (Fits n m) term terms fit in
-    let here = and_turned (matches (product_of n m term) p) (has_output (product_of n m term) j)
-    ∙ (λ i. output_is n m term j h i && matches_is n m term p few fits.care l i) in
-    let rest = product_is n m terms j p few h l (All-tail (Fits n m) term terms fit) in
-    λ i. here i || rest i
+    search (and_turned, output_is, matches_is, product_is n m terms j p few h l (All-tail (Fits n m) term terms fit))

@@ -3,10 +3,10 @@
 --     Merging keys done out unequal      the state after some pairs: the set's keys, the numbers given, the count of unequal pairs
 --     merging_none, merging_push      at the start, and with one more pair
 --     merging_numbers      the numbers tell the pairs apart
-use Rattle.std.proofs.Common.{◌≡◌, ◌≢◌, ℕ, zero, suc, ◌+◌, ◌/◌, ◌<◌, ◌≤◌, Bool, true, false, cond, not, ◌&&◌, ◌||◌, ◌⊎◌, inl, inr, List, [], ◌∷◌, ◌++◌, length, map, take, get_or, refl, sym, ap, ◌∙◌, arith, subst, eq-eqb, ne_eqb, if◌then◌else◌, zero-add}
+use Rattle.std.proofs.Common.{◌≡◌, ℕ, zero, suc, ◌+◌, ◌/◌, ◌<◌, ◌≤◌, Bool, true, false, cond, not, ◌&&◌, ◌||◌, inl, inr, List, [], ◌∷◌, ◌++◌, length, map, take, get_or, refl, sym, ap, ◌∙◌, arith, subst, if◌then◌else◌, zero-add}
 use Rattle.std.specs.List.{filter, list_any, position_or_len}
 use Rattle.std.specs.Set.{is_member, unique_keys, distinct_count}
-use Rattle.std.proofs.lemmas.Bool.{true≢false, false≢true, false_from_ne_true}
+use Rattle.std.proofs.lemmas.Bool.{false≢true, false_from_ne_true}
 use Rattle.std.proofs.lemmas.List.{map-append, length-append, length-map, take_all}
 use Rattle.std.proofs.lemmas.List.Folds.{position_or_len_push}
 use Rattle.std.proofs.lemmas.List.FromFn.{take-map-range_with_len, map-range_with_len_more, length-map-range_with_len, get_or-map-range_with_len}
@@ -40,11 +40,7 @@ Pair = ℕ × ℕ
 
 any_among : (u : Pair) (ks : List Pair) → list_any (same_pair u) ks ≡ true → Among u ks
 any_among u [] e = absurd (false≢true e)
-any_among u (k ∷ ks) e = by (same_pair u k) refl e (any_among u ks)
-  where
-    by : (b : Bool) → same_pair u k ≡ b → (b || list_any (same_pair u) ks) ≡ true → (list_any (same_pair u) ks ≡ true → Among u ks) → (u ≡ k) ⊎ Among u ks
-    by true s h r = inl ((pair_decides u k).0 s)
-    by false s h r = inr (r h)
+any_among u (k ∷ ks) e = grind (arith, any_among u ks)
 
 among_any : (u : Pair) (ks : List Pair) → Among u ks → list_any (same_pair u) ks ≡ true
 among_any u [] h = absurd h
@@ -64,56 +60,22 @@ place keys u = position_or_len (same_pair u) keys
 place_inside : (u : Pair) (ks : List Pair) → Among u ks → place ks u < length ks
 unfolding place
 place_inside u [] h = absurd h
-place_inside u (k ∷ ks) h = by (same_pair u k) refl (place_inside u ks)
-  where
-    by : (b : Bool) → same_pair u k ≡ b → (Among u ks → position_or_len (same_pair u) ks < length ks) →
-        cond (not b) (1 + position_or_len (same_pair u) ks) 0 < suc (length ks)
-    by true e more = omega arith
-    by false e more = elim h [
-      | inl s ↦ absurd (true≢false (sym ((pair_decides u k).1 s) ∙ e))
-      | inr a ↦ (let r = more a in omega arith)
-    ]
+place_inside u (k ∷ ks) h = grind (arith, place_inside u ks)
 
 place_holds : (u : Pair) (ks : List Pair) → Among u ks → get_or ks (place ks u) (0, 0) ≡ u
 unfolding place
 place_holds u [] h = absurd h
-place_holds u (k ∷ ks) h = by (same_pair u k) refl (place_holds u ks)
-  where
-    by : (b : Bool) → same_pair u k ≡ b → (Among u ks → get_or ks (position_or_len (same_pair u) ks) (0, 0) ≡ u) →
-        get_or (k ∷ ks) (cond (not b) (1 + position_or_len (same_pair u) ks) 0) (0, 0) ≡ u
-    by true e more = sym ((pair_decides u k).0 e)
-    by false e more = elim h [
-      | inl s ↦ absurd (true≢false (sym ((pair_decides u k).1 s) ∙ e))
-      | inr a ↦
-          let next : 1 + position_or_len (same_pair u) ks ≡ suc (position_or_len (same_pair u) ks) = omega arith in
-          ap (λ z. get_or (k ∷ ks) z (0, 0)) next ∙ more a
-    ]
-
-place_none : (u : Pair) (ks : List Pair) → (Among u ks → ⊥) → place ks u ≡ length ks
-unfolding place
-place_none u [] h = refl
-place_none u (k ∷ ks) h = by (same_pair u k) refl (place_none u ks (λ a. h (inr a)))
-  where
-    by : (b : Bool) → same_pair u k ≡ b → position_or_len (same_pair u) ks ≡ length ks → cond (not b) (1 + position_or_len (same_pair u) ks) 0 ≡ suc (length ks)
-    by true e r = absurd (h (inl ((pair_decides u k).0 e)))
-    by false e r = omega arith
+place_holds u (k ∷ ks) h = grind (arith, place_holds u ks)
 
 -- with one more key, the keys before keep their places
 place_kept : (u k : Pair) (ks : List Pair) → Among u ks → place (ks ++ k ∷ []) u ≡ place ks u
 unfolding place
-place_kept u k ks h =
-    let i = place_inside u ks h in
-    let ne : position_or_len (same_pair u) ks ≢ length ks = omega arith in
-    position_or_len_push (same_pair u) ks k ∙ ap (λ b. cond b (length ks + cond (same_pair u k) 0 1) (position_or_len (same_pair u) ks)) (ne_eqb _ _ ne)
+place_kept u k ks h = grind (arith, place_inside, position_or_len_push)
 
 -- and the new one comes last
 place_new : (k : Pair) (ks : List Pair) → (Among k ks → ⊥) → place (ks ++ k ∷ []) k ≡ place ks k
 unfolding place
-place_new k ks h =
-    let e = place_none k ks h in
-    let z : length ks + 0 ≡ length ks = omega arith in
-    position_or_len_push (same_pair k) ks k ∙ ap (λ b. cond b (length ks + cond (same_pair k k) 0 1) (position_or_len (same_pair k) ks)) (eq-eqb _ _ e)
-    ∙ ap (λ b. length ks + cond b 0 1) ((pair_decides k k).1 refl) ∙ z ∙ sym e
+place_new k ks h = grind (arith, position_or_len_push)
 
 -- ---- counts
 
@@ -123,14 +85,7 @@ append_nil (x ∷ xs) = ap (λ ys. x ∷ ys) (append_nil xs)
 
 filter_push : (xs : List Pair) (k : Pair) → filter is_unequal (xs ++ k ∷ []) ≡ filter is_unequal xs ++ cond (is_unequal k) (k ∷ []) []
 filter_push [] k = refl
-filter_push (x ∷ xs) k = by (is_unequal x) (filter_push xs k)
-  where
-    by : (b : Bool) → filter is_unequal (xs ++ k ∷ []) ≡ filter is_unequal xs ++ cond (is_unequal k) (k ∷ []) [] →
-        cond b (x ∷ filter is_unequal (xs ++ k ∷ [])) (filter is_unequal (xs ++ k ∷ [])) ≡ cond b (x ∷ filter is_unequal xs)
-        (filter is_unequal xs)
-        ++ cond (is_unequal k) (k ∷ []) []
-    by true r = ap (λ ys. x ∷ ys) r
-    by false r = r
+filter_push (x ∷ xs) k = grind (arith, filter_push xs k)
 
 count_turned : (k : Pair) (xs : List Pair) → distinct_count same_pair (xs ++ k ∷ []) ≡ distinct_count same_pair (k ∷ xs)
 count_turned k xs =
@@ -148,23 +103,12 @@ count_new k xs h =
 
 unequal_old : (k : Pair) (done : List Pair) → Among k done → unequal_count (done ++ k ∷ []) ≡ unequal_count done
 unfolding unequal_count
-unequal_old k done h = ap (distinct_count same_pair) (filter_push done k) ∙ by (is_unequal k) refl
-  where
-    by : (b : Bool) → is_unequal k ≡ b →
-        distinct_count same_pair (filter is_unequal done ++ cond b (k ∷ []) []) ≡ distinct_count same_pair (filter is_unequal done)
-    by true e = count_turned k (filter is_unequal done) ∙ count_old k (filter is_unequal done) (among_filter is_unequal k done h e)
-    by false e = ap (distinct_count same_pair) (append_nil (filter is_unequal done))
+unequal_old k done h = grind (arith, filter_push, count_turned, count_old, among_filter, append_nil)
 
 unequal_new : (k : Pair) (done : List Pair) → (Among k done → ⊥) →
     unequal_count (done ++ k ∷ []) ≡ cond (is_unequal k) (unequal_count done + 1) (unequal_count done)
 unfolding unequal_count
-unequal_new k done h = ap (distinct_count same_pair) (filter_push done k) ∙ by (is_unequal k)
-  where
-    by : (b : Bool) →
-        distinct_count same_pair (filter is_unequal done ++ cond b (k ∷ []) []) ≡ cond b
-        (distinct_count same_pair (filter is_unequal done) + 1) (distinct_count same_pair (filter is_unequal done))
-    by true = count_turned k (filter is_unequal done) ∙ count_new k (filter is_unequal done) (λ a. h (among_from_filter is_unequal k done a).0) ∙ omega arith
-    by false = ap (distinct_count same_pair) (append_nil (filter is_unequal done))
+unequal_new k done h = grind (arith, filter_push, count_turned, count_new, among_from_filter, append_nil)
 
 -- ---- the state
 
@@ -185,13 +129,11 @@ module _ (keys done : List (ℕ × ℕ)) (out : List ℕ) (unequal : ℕ) (m : M
   merging_old : Among k keys → Merging keys (done ++ k ∷ []) (out ++ position_or_len (same_pair k) keys ∷ []) unequal
   merging_old a =
       let l = length-append done (k ∷ []) in
-      let f = m.few in
-      let g = m.few_unequal in
       record {
         known = λ u h. elim (among_cases u done (k ∷ []) h)
             [ inl b ↦ m.known u b | inr b ↦ elim b [ inl s ↦ subst (λ (v : ℕ × ℕ). Among v keys) (sym s) a | inr n ↦ absurd n ] ];
         listed = λ u h. among_left u done (k ∷ []) (m.listed u h);
-        numbers = ap (λ us. us ++ position_or_len (same_pair k) keys ∷ []) m.numbers ∙ sym (map-append (λ u. position_or_len (same_pair u) keys) done (k ∷ []));
+        numbers = grind (arith, map-append);
         count = m.count ∙ sym (unequal_old k done (m.listed k a));
         few = omega arith;
         few_unequal = omega arith;
@@ -201,21 +143,12 @@ module _ (keys done : List (ℕ × ℕ)) (out : List ℕ) (unequal : ℕ) (m : M
       Merging (keys ++ k ∷ []) (done ++ k ∷ []) (out ++ position_or_len (same_pair k) keys ∷ []) (cond (is_unequal k) (unequal + 1) unequal)
   unfolding place
   merging_new a =
-      let l = length-append done (k ∷ []) in
-      let lk = length-append keys (k ∷ []) in
-      let f = m.few in
-      let g = m.few_unequal in
       record {
         known = λ u h. elim (among_cases u done (k ∷ []) h) [ inl b ↦ among_left u keys (k ∷ []) (m.known u b) | inr b ↦ among_right u keys (k ∷ []) b ];
         listed = λ u h. elim (among_cases u keys (k ∷ []) h) [ inl b ↦ among_left u done (k ∷ []) (m.listed u b) | inr b ↦ among_right u done (k ∷ []) b ];
-        numbers =
-            (λ i. (m.numbers
-            ∙ map_same (λ u. position_or_len (same_pair u) keys) (λ u. position_or_len (same_pair u) (keys ++ k ∷ [])) done
-            (λ u h. sym (place_kept u k keys (m.known u h)))) i
-            ++ sym (place_new k keys a) i ∷ [])
-            ∙ sym (map-append (λ u. position_or_len (same_pair u) (keys ++ k ∷ [])) done (k ∷ []));
+        numbers = grind (arith, map_same, place_kept, place_new, map-append);
         count = counted (is_unequal k) ∙ sym (unequal_new k done (λ b. a (m.known k b)));
-        few = omega arith;
+        few = omega (arith, length-append done (k ∷ []), length-append keys (k ∷ []));
         few_unequal = bounded (is_unequal k);
       }
     where
@@ -223,19 +156,13 @@ module _ (keys done : List (ℕ × ℕ)) (out : List ℕ) (unequal : ℕ) (m : M
       counted b = ap (λ z. cond b (z + 1) z) m.count
 
       bounded : (b : Bool) → cond b (unequal + 1) unequal ≤ length (done ++ k ∷ [])
-      bounded true = let l = length-append done (k ∷ []) in let g = m.few_unequal in omega arith
-      bounded false = let l = length-append done (k ∷ []) in let g = m.few_unequal in omega arith
+      bounded true = omega (arith, length-append done (k ∷ []))
+      bounded false = omega (arith, length-append done (k ∷ []))
 
   -- with one more pair
   pub merging_push : Merging (if list_any (same_pair k) keys then keys else keys ++ k ∷ []) (done ++ k ∷ []) (out ++ position_or_len (same_pair k) keys ∷ [])
       (cond (not (list_any (same_pair k) keys) && is_unequal k) (unequal + 1) unequal)
-  merging_push = by (list_any (same_pair k) keys) refl
-    where
-      by : (b : Bool) → list_any (same_pair k) keys ≡ b →
-          Merging (cond b keys (keys ++ k ∷ [])) (done ++ k ∷ []) (out ++ position_or_len (same_pair k) keys ∷ [])
-          (cond (not b && is_unequal k) (unequal + 1) unequal)
-      by true e = merging_old (any_among k keys e)
-      by false e = merging_new (λ a. true≢false (sym (among_any k keys a) ∙ e))
+  merging_push = grind (arith, merging_old, any_among, merging_new, among_any)
 
 get_or_map : {X : Type 0} (f : X → ℕ) (xs : List X) (j : ℕ) (d : X) → j < length xs → get_or (map f xs) j 0 ≡ f (get_or xs j d)
 get_or_map f [] j d h = absurd (omega arith)
@@ -251,8 +178,7 @@ merging_numbers keys done out unequal m = record {
     λ e.
         let u : ℕ × ℕ = get_or done j (0, 0) in
         let v : ℕ × ℕ = get_or done k (0, 0) in
-        let places : position_or_len (same_pair u) keys ≡ position_or_len (same_pair v) keys = sym (at j a) ∙ e ∙ at k b in
-        sym (place_holds u keys (m.known u (among_at done j (0, 0) a))) ∙ ap (λ z. get_or keys z (0, 0)) places
+        sym (place_holds u keys (m.known u (among_at done j (0, 0) a))) ∙ ap (λ z. get_or keys z (0, 0)) (sym (at j a) ∙ e ∙ at k b)
         ∙ place_holds v keys (m.known v (among_at done k (0, 0) b)),
     λ e. at j a ∙ ap (λ u. position_or_len (same_pair u) keys) e ∙ sym (at k b),
   );
@@ -283,7 +209,5 @@ merging_step cs j keys keys' out out' unequal unequal' h m k o u =
 pub merging_end : (cs : List ℕ) (j : ℕ) (keys : List (ℕ × ℕ)) (out : List ℕ) (unequal : ℕ) → length cs / 2 ≤ j →
     Merging keys (take j (pairs_of cs)) out unequal → IsNumbering (pairs_of cs) out × (unequal ≡ unequal_count (pairs_of cs))
 merging_end cs j keys out unequal h m =
-    let l = length-pairs_of cs in
-    let all = take_all j (pairs_of cs) (omega arith) in
-    let w = subst (λ (z : List (ℕ × ℕ)). Merging keys z out unequal) all m in
+    let w = subst (λ (z : List (ℕ × ℕ)). Merging keys z out unequal) (take_all j (pairs_of cs) (omega (arith, length-pairs_of cs))) m in
     (merging_numbers keys (pairs_of cs) out unequal w, w.count)

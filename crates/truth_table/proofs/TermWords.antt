@@ -5,17 +5,17 @@
 --     covered_more, term_added, term_left_out, place_added      what a term adds
 --     blank_at      the words before the first term
 --     packed_groups, groups_long      the packed truth tables of terms
-use Rattle.std.proofs.Common.{◌≡◌, ◌≢◌, ℕ, zero, suc, ◌+◌, ◌-◌, ◌*◌, ◌/◌, ◌%◌, ◌^◌, ◌<◌, ◌≤◌, Bool, true, false, not, ◌&&◌, ◌||◌, inl, inr, List, [], ◌∷◌, length, map, take, get_or, slice_index, refl, sym, ap, ◌∙◌, arith, subst, eqb, min, max, bit_and, bit_or, ltb, zero-add, pow_pos, cond, eq-eqb, ne_eqb}
+use Rattle.std.proofs.Common.{◌≡◌, ◌≢◌, ℕ, zero, suc, ◌+◌, ◌-◌, ◌*◌, ◌/◌, ◌%◌, ◌^◌, ◌<◌, ◌≤◌, Bool, true, false, not, ◌&&◌, ◌||◌, inl, inr, List, [], ◌∷◌, length, map, take, get_or, slice_index, refl, sym, ap, ◌∙◌, arith, subst, eqb, min, max, bit_and, bit_or, ltb, zero-add, pow_pos, cond}
 use Rattle.std.specs.Int.{bit_at, bit_not, w64}
-use Rattle.std.specs.List.{All, AllZip, range_with_len, list_all, list_any}
-use Rattle.std.proofs.lemmas.Bool.{cases_eq, cases_lt, false≢true, lt-ltb, le-ltb}
+use Rattle.std.specs.List.{All, AllZip, range_with_len, list_any}
+use Rattle.std.proofs.lemmas.Bool.{cases_lt, false≢true}
 use Rattle.std.proofs.lemmas.List.{length-map, get_or-map}
 use Rattle.std.proofs.lemmas.List.Folds.{list_any_more}
 use Rattle.std.proofs.lemmas.List.FromFn.{get_or-map-range_with_len, get_or-range_with_len, length-map-range_with_len, length-range_with_len}
 use Rattle.std.proofs.lemmas.Slice.Zip.{AllZip-long}
 use Rattle.std.proofs.lemmas.Nat.{and_le_r, one_shl}
 use Rattle.std.proofs.lemmas.Nat.Bits.{bit_at-lt, bit_at_and, bit_at_or, bit_at_not, bit_at_ones, bit_at_ones_above, bit_at_above}
-use Rattle.std.proofs.Math.Nat.{add-mul-div_right, div-eq_of_lt, div-lt_iff_lt-mul, mod-lt, mod-eq_of_lt, add-mul-mod_self_right}
+use Rattle.std.proofs.Math.Nat.{add-mul-div_right, div-lt_iff_lt-mul}
 use Rattle.order_model.specs.declared.terms.Term.{Term}
 use Rattle.order_model.specs.Functions.{Point, Function, number, points, from_table, table, SameFunction}
 use Rattle.order_model.specs.Problems.{IsClean, IsPacked, tables_of, words_per_table}
@@ -29,26 +29,15 @@ use Rattle.order_model.proofs.Functions.Tables.{same_from_table}
 use Rattle.pla_reader.specs.Masks.{Fits}
 use Rattle.truth_table.specs.Terms.{AddsTerm, AreGroupWords, literal_at, literals_at, covers, covered}
 use Rattle.truth_table.proofs.Literals.{all_parts, and_turned, literals_apart, product_is}
-use Rattle.std.proofs.Math.Bool.{and-false, and-true}
 use Rattle.order_model.proofs.Functions.Same.{table_long}
 
 -- ---- bits
 
 min_bits : (a b : ℕ) → a < 2 → b < 2 → eqb (min a b) 1 ≡ (eqb a 1 && eqb b 1)
-min_bits zero zero h k = refl
-min_bits zero (suc zero) h k = refl
-min_bits (suc zero) zero h k = refl
-min_bits (suc zero) (suc zero) h k = refl
-min_bits (suc (suc a)) b h k = absurd (omega arith)
-min_bits a (suc (suc b)) h k = absurd (omega arith)
+min_bits a b h k = grind arith
 
 max_bits : (a b : ℕ) → a < 2 → b < 2 → eqb (max a b) 1 ≡ (eqb a 1 || eqb b 1)
-max_bits zero zero h k = refl
-max_bits zero (suc zero) h k = refl
-max_bits (suc zero) zero h k = refl
-max_bits (suc zero) (suc zero) h k = refl
-max_bits (suc (suc a)) b h k = absurd (omega arith)
-max_bits a (suc (suc b)) h k = absurd (omega arith)
+max_bits a b h k = grind arith
 
 pub masked_bits : (u v b : ℕ) → eqb (bit_at (bit_and u v) b) 1 ≡ (eqb (bit_at u b) 1 && eqb (bit_at v b) 1)
 masked_bits u v b = ap (λ z. eqb z 1) (bit_at_and u v b) ∙ min_bits (bit_at u b) (bit_at v b) (bit_at-lt u b) (bit_at-lt v b)
@@ -63,27 +52,17 @@ all_ones b h = ap (λ z. eqb z 1) (bit_at_ones 64 b h)
 pub mask_step : (n : ℕ) → n < 6 → 1 ≤ 1 * 2 ^ (1 * 2 ^ n % 4294967296) % 18446744073709551616
 mask_step n h =
     let s = step_is n h in
-    let e = one_shl (1 * 2 ^ n % 4294967296) 64 (omega arith) in
     let p = pow_pos (1 * 2 ^ n % 4294967296) in
-    omega arith
+    omega (arith, one_shl (1 * 2 ^ n % 4294967296) 64 (omega arith))
 
 pub free_bits_few : (n : ℕ) → n < 6 → (b : ℕ) → b < 64 → eqb (bit_at (1 * 2 ^ (1 * 2 ^ n % 4294967296) % 18446744073709551616 - 1) b) 1 ≡ ltb b (2 ^ n)
 free_bits_few n h b k =
     let s = step_is n h in
     let e = one_shl (1 * 2 ^ n % 4294967296) 64 (omega arith) in
-    ap (λ z. eqb (bit_at (z - 1) b) 1) (e ∙ ap (λ z. 2 ^ z) s.0) ∙ elim (cases_lt b (2 ^ n)) [
-      | inl lt ↦ ap (λ z. eqb z 1) (bit_at_ones (2 ^ n) b lt) ∙ sym (lt-ltb b (2 ^ n) lt)
-      | inr ge ↦ ap (λ z. eqb z 1) (bit_at_ones_above (2 ^ n) b ge) ∙ sym (le-ltb b (2 ^ n) ge)
-    ]
+    grind (arith, bit_at_ones, bit_at_ones_above)
 
 pub free_bits_all : (n : ℕ) → 6 ≤ n → (b : ℕ) → b < 64 → eqb (bit_at 18446744073709551615 b) 1 ≡ ltb b (2 ^ n)
-free_bits_all n h b k = elim (whole_words n) [
-  | inl w ↦
-      let e = w.1 in
-      let p = pow_pos (n - 6) in
-      all_ones b k ∙ sym (lt-ltb b (2 ^ n) (omega arith))
-  | inr w ↦ absurd (omega (arith, w.0))
-]
+free_bits_all n h b k = grind (arith, whole_words, all_ones, pow_pos)
 
 -- ---- literals
 
@@ -102,23 +81,14 @@ literal_points_one term x b lower care value fits h low =
     ap (λ z. eqb z 1) (bit_at_not w64 lower b fits h) ∙ complement (bit_at b x) (bit_at lower b) (bit_at-lt b x) low
     ∙ sym ((λ i. not (eqb (care i) 1) || eqb (bit_at b x) (value i)))
 
-zero_there : (a c : ℕ) → a < 2 → c ≡ 1 - a → eqb c 1 ≡ eqb a 0
-zero_there zero c h e = ap (λ z. eqb z 1) e
-zero_there (suc zero) c h e = ap (λ z. eqb z 1) e
-zero_there (suc (suc a)) c h e = absurd (omega arith)
-
 pub literal_points_zero : (term : Term) (x b lower : ℕ) → bit_at term.care x ≡ 1 → bit_at term.value x ≡ 0 → b < 64 →
     bit_at lower b ≡ 1 - bit_at b x → eqb (bit_at lower b) 1 ≡ literal_at term b x
-literal_points_zero term x b lower care value h low =
-    zero_there (bit_at b x) (bit_at lower b) (bit_at-lt b x) low ∙ sym ((λ i. not (eqb (care i) 1) || eqb (bit_at b x) (value i)))
+literal_points_zero term x b lower care value h low = grind arith
 
 -- one more variable
 pub literals_more : (term : Term) (k x : ℕ) → literals_at term k 0 (x + 1) ≡ (literals_at term k 0 x && literal_at term k x)
 unfolding literals_at
-literals_more term k x =
-    let z : 0 + x ≡ x = omega arith in
-    all_parts (literal_at term k) x 1 0 ∙ ap (λ y. list_all (literal_at term k) (range_with_len 0 x) && list_all (literal_at term k) (range_with_len y 1)) z
-    ∙ ap (λ b. list_all (literal_at term k) (range_with_len 0 x) && b) (and-true (literal_at term k x))
+literals_more term k x = grind (arith, all_parts)
 
 -- ---- terms
 
@@ -144,20 +114,11 @@ covered_more terms i h term read output k =
 word_with : (word pattern b : ℕ) (old above low : Bool) (out : Bool) → eqb (bit_at word b) 1 ≡ old → eqb (bit_at pattern b) 1 ≡ low →
     out ≡ true → above ≡ true →
     eqb (bit_at (bit_or word pattern) b) 1 ≡ (old || (out && (low && above)))
-word_with word pattern b old above low out w p o a =
-    joined_bits word pattern b ∙ (λ i. w i || p i) ∙ sym ((λ i. old || (o i && (low && a i))) ∙ ap (λ z. old || z) (sym (turned low)))
-  where
-    turned : (c : Bool) → c ≡ (c && true)
-    turned true = refl
-    turned false = refl
+word_with word pattern b old above low out w p o a = grind (arith, joined_bits)
 
 word_without_above : (word b : ℕ) (old above low out : Bool) → eqb (bit_at word b) 1 ≡ old → above ≡ false →
     eqb (bit_at word b) 1 ≡ (old || (out && (low && above)))
-word_without_above word b old above low out w a = w ∙ or_false old
-    ∙ sym (ap (λ z. old || (out && (low && z))) a ∙ ap (λ z. old || (out && z)) (and-false low) ∙ ap (λ z. old || z) (and-false out))
-
-word_without_output : (word b : ℕ) (old rest out : Bool) → eqb (bit_at word b) 1 ≡ old → out ≡ false → eqb (bit_at word b) 1 ≡ (old || (out && rest))
-word_without_output word b old rest out w o = w ∙ or_false old ∙ sym (ap (λ z. old || (z && rest)) o)
+word_without_above word b old above low out w a = grind arith
 
 -- a term whose literals above hold, and one whose don't
 pub term_added : (term : Term) (place points : ℕ) (before after : List ℕ) →
@@ -165,29 +126,10 @@ pub term_added : (term : Term) (place points : ℕ) (before after : List ℕ) �
     → ((o : ℕ) → o < 16 →
     slice_index after o ≡ cond (eqb (bit_at term.outs o) 1) (bit_or (slice_index before o) points) (slice_index before o)) →
     AddsTerm term place before after
-term_added term place points before after p a added = λ o b s h.
-    let word : ℕ = slice_index before o in
-    let old : Bool = eqb (bit_at word b) 1 in
-    let low : Bool = literals_at term b 0 6 in
-    let above : Bool = literals_at term (64 * place) 6 10 in
-    let out : Bool = eqb (bit_at term.outs o) 1 in
-    ap (λ z. eqb (bit_at z b) 1) (added o s)
-    ∙ elim (cases_eq (bit_at term.outs o) 1) [
-      | inl one ↦ ap (λ q. eqb (bit_at (cond q (bit_or word points) word) b) 1) (eq-eqb (bit_at term.outs o) 1 one)
-          ∙ word_with word points b old above low out refl (p b h) (eq-eqb (bit_at term.outs o) 1 one) a
-      | inr none ↦ ap (λ q. eqb (bit_at (cond q (bit_or word points) word) b) 1) (ne_eqb (bit_at term.outs o) 1 none)
-          ∙ word_without_output word b old (low && above) out refl (ne_eqb (bit_at term.outs o) 1 none)
-    ]
-    ∙ ap (λ z. old || z) (sym (covers_apart term o place b h))
+term_added term place points before after p a added = grind (arith, word_with, covers_apart)
 
 pub term_left_out : (term : Term) (place : ℕ) (words : List ℕ) → literals_at term (64 * place) 6 10 ≡ false → AddsTerm term place words words
-term_left_out term place words a = λ o b s h.
-    let word : ℕ = slice_index words o in
-    let old : Bool = eqb (bit_at word b) 1 in
-    let low : Bool = literals_at term b 0 6 in
-    let above : Bool = literals_at term (64 * place) 6 10 in
-    let out : Bool = eqb (bit_at term.outs o) 1 in
-    word_without_above word b old above low out refl a ∙ ap (λ z. old || z) (sym (covers_apart term o place b h))
+term_left_out term place words a = search (word_without_above, covers_apart)
 
 -- one more place of a group, where the other places stay
 pub place_added : (term : Term) (group place : ℕ) (initial words new : List (List ℕ)) →
@@ -195,11 +137,7 @@ pub place_added : (term : Term) (group place : ℕ) (initial words new : List (L
     → ((p : ℕ) → place ≤ p → get_or words p [] ≡ get_or initial p []) → ((p : ℕ) → p ≢ place → get_or new p [] ≡ get_or words p []) →
     AddsTerm term (32 * group + place) (get_or words place []) (get_or new place [])
     → (p : ℕ) → p < place + 1 → AddsTerm term (32 * group + p) (get_or initial p []) (get_or new p [])
-place_added term group place initial words new done left stays here p low = elim (cases_eq p place) [
-  | inl same ↦ subst (λ (k : ℕ). AddsTerm term (32 * group + k) (get_or initial k []) (get_or new k [])) (sym same)
-      (subst (λ (ws : List ℕ). AddsTerm term (32 * group + place) ws (get_or new place [])) (left place (omega arith)) here)
-  | inr other ↦ subst (λ (ws : List ℕ). AddsTerm term (32 * group + p) (get_or initial p []) ws) (sym (stays p other)) (done p (omega arith))
-]
+place_added term group place initial words new done left stays here p low = grind arith
 
 -- ---- truth tables
 
@@ -230,8 +168,10 @@ module _ (n m : ℕ) (terms : List Term) (words : List ℕ) (some : 1 ≤ n) (fe
   table_is : (j : ℕ) → j < m → get_or tables j [] ≡ table n (product_function products j)
   unfolding tables product_functions
   table_is j h =
-      let l = length-map-range_with_len (product_function products) 0 m in
-      get_or-map (table n) (map (product_function products) (range_with_len 0 m)) j (λ (p : Point). false) [] (omega arith)
+      get_or-map (table n) (map (product_function products) (range_with_len 0 m)) j (λ (p : Point). false) [] (omega (
+        arith,
+        length-map-range_with_len (product_function products) 0 m,
+      ))
       ∙ ap (table n) (get_or-map-range_with_len (product_function products) 0 m j j (λ p. false) h (zero-add j))
 
   word_place : (j k : ℕ) → j < m → k < 2 ^ n →
@@ -241,25 +181,16 @@ module _ (n m : ℕ) (terms : List Term) (words : List ℕ) (some : 1 ≤ n) (fe
       let p : k / 64 < W = point_inside n k l in
       let q : 0 < W = omega arith in
       let e : j * W + k / 64 ≡ k / 64 + j * W = omega arith in
-      let d = div-eq_of_lt p in
-      let r = mod-eq_of_lt p in
-      (ap (λ z. z / W) e ∙ add-mul-div_right (k / 64) j q ∙ omega arith, ap (λ z. z % W) e ∙ add-mul-mod_self_right (k / 64) j W ∙ r)
+      grind (arith, add-mul-div_right)
 
   value_is : (j k : ℕ) → j < m → k < 2 ^ n → eqb (bit_at (get_or words (j * words_per_table n + k / 64) 0) (k % 64)) 1 ≡ get_or (get_or tables j []) k false
   unfolding products
   value_is j k h l =
       let W : ℕ = words_per_table n in
-      let inside = point_inside n k l in
       let block = block_inside W m j h in
       let place = word_place j k h l in
-      let whole : 64 * (k / 64) + k % 64 ≡ k = omega arith in
       let at = some_point n k l in
-      w.bits (j * W + k / 64) (k % 64) (omega arith) (omega arith)
-      ∙ (λ i. lt-ltb (k % 64) (2 ^ n) (omega arith) i && covered terms (place.0 i) (64 * (place.1 i) + k % 64))
-      ∙ ap (covered terms j) whole
-      ∙ sym (
-      ap (λ t. get_or t k false) (table_is j h) ∙ ap (λ z. get_or (table n (product_function products j)) z false) (sym at.2)
-      ∙ entry_at n (product_function products j) at.0 at.1 ∙ product_is n m terms j at.0 few h at.1 fit ∙ ap (covered terms j) at.2)
+      grind (arith, table_is, entry_at, product_is)
 
   -- the words hold the truth tables of the products' functions
   pub terms_tables : tables_of n m words ≡ map (table n) (product_functions m (map (product_of n m) terms))
@@ -269,9 +200,7 @@ module _ (n m : ℕ) (terms : List Term) (words : List ℕ) (some : 1 ≤ n) (fe
   clean : IsClean n words
   clean i b h big = elim (cases_lt b 64) [
     | inr ge ↦ bit_at_above (get_or words i 0) 64 b (w.fits i h) ge
-    | inl lt ↦ not_one (bit_at (get_or words i 0) b) (bit_at-lt (get_or words i 0) b)
-        (w.bits i b (subst (λ (z : ℕ). i < z) w.long h) lt
-        ∙ ap (λ c. c && covered terms (i / words_per_table n) (64 * (i % words_per_table n) + b)) (le-ltb b (2 ^ n) big))
+    | inl lt ↦ grind arith
   ]
     where
       not_one : (c : ℕ) → c < 2 → eqb c 1 ≡ false → c ≡ 0
@@ -325,11 +254,8 @@ packed_groups n m terms size count mask numbers groups items a b c d fit some s 
   where
     words_of : (i : ℕ) → i < m * size → AreGroupWords terms (i % size / 32) (get_or groups (i % size / 32) [])
     words_of i h =
-        let r : i % size < size = mod-lt i some in
-        let q : i % size / 32 < count = omega arith in
         let l : length numbers ≡ count = ap length p ∙ length-range_with_len 0 count in
-        let at : get_or numbers (i % size / 32) 0 ≡ i % size / 32 = ap (λ ps. get_or ps (i % size / 32) 0) p
-        ∙ get_or-range_with_len 0 count (i % size / 32) 0 q ∙ zero-add (i % size / 32) in
+        let at : get_or numbers (i % size / 32) 0 ≡ i % size / 32 = grind (arith, get_or-range_with_len) in
         subst (λ (j : ℕ). AreGroupWords terms j (get_or groups (i % size / 32) [])) at
         (groups_at (AreGroupWords terms) numbers groups z (i % size / 32) (omega arith))
 
@@ -340,20 +266,17 @@ packed_groups n m terms size count mask numbers groups items a b c d fit some s 
     bits_of i b h l =
         let place : ℕ = i % size in
         let word : ℕ = slice_index (get_or (get_or groups (place / 32) []) (place % 32) []) (i / size) in
-        let whole : 32 * (place / 32) + place % 32 ≡ place = omega arith in
         ap (λ v. eqb (bit_at v b) 1) (laid i h) ∙ masked_bits word mask b
         ∙ (λ k. words_of i h (place % 32) (i / size) b (omega arith) (few i h) l k && masks b l k)
         ∙ and_turned (covered terms (i / size) (64 * (32 * (place / 32) + place % 32) + b)) (ltb b (2 ^ n))
-        ∙ ap (λ v. ltb b (2 ^ n) && covered terms (i / size) (64 * v + b)) whole
+        ∙ ap (λ v. ltb b (2 ^ n) && covered terms (i / size) (64 * v + b)) (omega arith)
 
     w : AreTermWords n m terms items
     w = record {
       long = long ∙ ap (λ k. m * k) s;
       fits = λ i l.
-          let h : i < m * size = omega arith in
-          let e = laid i h in
-          let f = and_le_r (slice_index (get_or (get_or groups (i % size / 32) []) (i % size % 32) []) (i / size)) mask in
-          omega arith;
+          let e = laid i (omega arith) in
+          omega (arith, and_le_r (slice_index (get_or (get_or groups (i % size / 32) []) (i % size % 32) []) (i / size)) mask);
       bits = λ i b h l. bits_of i b (subst (λ (k : ℕ). i < m * k) (sym s) h) l ∙ (λ k. ltb b (2 ^ n) && covered terms (i / s k) (64 * (i % s k) + b));
     }
 

@@ -12,12 +12,8 @@ loop-place-preserved c =
     let g = c.args.group in
     let place = c.loop-place.place in
     let old : List ℕ = get_or c.loop-place.words place [] in
-    let inside : place < length c.loop-place.words = (let long = i.long in let low = c.loop-place-test.true in omega arith) in
-    let stays : (p : ℕ) → p ≢ place → get_or c.if-holds_above.words p [] ≡ get_or c.loop-place.words p [] = (λ p other. elim c.if-holds_above.branch [
-      | then-holds_above w ↦ ap (λ (ws : List (List ℕ)). get_or ws p []) w.words-is
-          ∙ get_or-set_other c.loop-place.words place p w.add_points.new.words [] other
-      | else-holds_above w ↦ ap (λ (ws : List (List ℕ)). get_or ws p []) w.words-is
-    ]) in
+    let inside : place < length c.loop-place.words = omega arith in
+    let stays : (p : ℕ) → p ≢ place → get_or c.if-holds_above.words p [] ≡ get_or c.loop-place.words p [] = grind (arith, get_or-set_other) in
     let here : AddsTerm t (32 * g + place) old (get_or c.if-holds_above.words place []) = elim c.if-holds_above.branch [
       | then-holds_above w ↦
           subst (λ (ws : List ℕ). AddsTerm t (32 * g + place) old ws)
@@ -26,14 +22,10 @@ loop-place-preserved c =
           (term_added t (32 * g + place) c.pattern-points.result old w.add_points.new.words c.pattern-points.ensures
           (sym c.holds_above.ensures ∙ w.if-holds_above.true) w.add_points.ensures)
       | else-holds_above w ↦
-          subst (λ (ws : List ℕ). AddsTerm t (32 * g + place) old ws) (sym (ap (λ (ws : List (List ℕ)). get_or ws place []) w.words-is))
-          (term_left_out t (32 * g + place) old (sym c.holds_above.ensures ∙ w.if-holds_above.false))
+          grind (arith, term_left_out)
     ] in
     record {
-      long = elim c.if-holds_above.branch [
-        | then-holds_above w ↦ ap length w.words-is ∙ length-set c.loop-place.words place w.add_points.new.words ∙ i.long
-        | else-holds_above w ↦ ap length w.words-is ∙ i.long
-      ];
-      done = place_added t g place c.args.words.now c.loop-place.words c.if-holds_above.words i.done i.left stays here;
+      long = grind (arith, length-set);
+      done = search place_added;
       left = λ p high. stays p (omega arith) ∙ i.left p (omega arith);
     }

@@ -4,7 +4,7 @@ use Rattle.truth_table.proofs.TermWords.{mask_step, free_bits_few, free_bits_all
 use Rattle.truth_table.proofs.covering.points_mask.Goals as goal
 
 pub overflow_shl-result-then-n-lt6 : goal.overflow_shl-result-then-n-lt6
-overflow_shl-result-then-n-lt6 c = let s = step_is c.args.n c.if-n-lt6.true in omega arith
+overflow_shl-result-then-n-lt6 c = omega (arith, step_is c.args.n c.if-n-lt6.true)
 
 pub overflow_sub-result : goal.overflow_sub-result
 overflow_sub-result c = mask_step c.args.n c.if-n-lt6.true

@@ -4,5 +4,4 @@ use Rattle.truth_table.proofs.merging.push_upper.Goals as goal
 
 pub index-requires : goal.index-requires
 index-requires c =
-    let h = upper_inside c.args.points.now.items c.loop-i.points.items c.args.x c.loop-i.i (omega arith) c.loop-i.invariant in
-    omega arith
+    omega (arith, upper_inside c.args.points.now.items c.loop-i.points.items c.args.x c.loop-i.i (omega arith) c.loop-i.invariant)

@@ -11,11 +11,10 @@ use Rattle.truth_table.proofs.tables.Tables.cofactor.Goals.{then-contains, else-
 
 pub loop-x-init : goal.loop-x-init
 loop-x-init c =
-    let same : c.in_ok-words.words.items ≡ c.words.result.now = c.in_ok-words.ensures.items_if_clones_equal (λ x y e. e) in
     let start =
     cofactor_start c.self.inside.problem c.args.self.now c.inputs-n.result c.args.output c.args.care c.args.value c.words.result.now
     c.in_ok-words.words.items c.self.view_is c.inputs-n.ensures.value
-    c.words.ensures.long c.words.ensures.table c.words.ensures.clean same in
+    c.words.ensures.long c.words.ensures.table c.words.ensures.clean (c.in_ok-words.ensures.items_if_clones_equal (λ x y e. e)) in
     record { table = start.0; long = start.1; clean = start.2 }
 
 pub loop-x-preserved : goal.loop-x-preserved

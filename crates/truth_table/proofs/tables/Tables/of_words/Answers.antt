@@ -5,7 +5,7 @@ use Rattle.truth_table.proofs.tables.Tables.of_words.Goals as goal
 pub from_words-requires : goal.from_words-requires
 from_words-requires c =
     kept_packed c.args.n c.args.m c.args.words.now c.in_ok-kept.kept.items c.points_mask.result c.points_mask.ensures
-    (let t = c.points_mask.type_inv in omega arith) c.requires.long
+    (omega arith) c.requires.long
     c.in_ok-kept.ensures.long c.in_ok-kept.ensures.words c.requires.some_inputs c.requires.few_inputs c.requires.some_outputs c.requires.few_outputs
 
 pub returns : goal.returns
@@ -13,5 +13,5 @@ returns c =
     c.from_words.ensures
     ∙ ap (λ ts. record { inputs = c.args.n; tables = ts })
     (kept_tables c.args.n c.args.m c.args.words.now c.in_ok-kept.kept.items c.points_mask.result c.points_mask.ensures
-    (let t = c.points_mask.type_inv in omega arith) c.requires.long
+    (omega arith) c.requires.long
     c.in_ok-kept.ensures.long c.in_ok-kept.ensures.words)

@@ -1,4 +1,4 @@
-use Rattle.std.proofs.Common.{◌≡◌, ◌++◌, ◌<◌, length, sym, ◌∙◌, subst, arith}
+use Rattle.std.proofs.Common.{◌≡◌, ◌++◌, sym, ◌∙◌, subst, arith}
 use Rattle.order_model.specs.Problems.{TruthTables, table_at, table_in}
 use Rattle.truth_table.specs.Assignments.{values_at}
 use Rattle.truth_table.proofs.LeafClasses.{values_packed, values_more}
@@ -14,7 +14,6 @@ loop-output-preserved c =
     let words = c.words.result.now in
     let j = c.loop-output.output in
     let table = subst (λ (t : TruthTables). table_in t.inputs words ≡ table_at t j) c.self.view_is c.words.ensures.table in
-    let inside : j < length now.tables = omega arith in
     c.in_ok-push_values.ensures
     ∙ (λ i. c.loop-output.invariant i ++ values_packed now.inputs words (table_at now j) c.args.points.now table c.requires.points i)
-    ∙ sym (values_more c.args.points.now now.tables j inside)
+    ∙ sym (values_more c.args.points.now now.tables j (omega arith))

@@ -1,6 +1,5 @@
-use Rattle.std.proofs.Common.{◌≡◌, ◌<◌, ◌^◌, ℕ, List, length, sym, ap, ◌∙◌, subst, arith}
-use Rattle.std.specs.List.{All}
-use Rattle.std.proofs.lemmas.List.{length-map, length-replicate}
+use Rattle.std.proofs.Common.{ℕ, ap, ◌∙◌, subst, arith}
+use Rattle.std.proofs.lemmas.List.{length-map}
 use Rattle.order_model.specs.Functions.{from_table}
 use Rattle.order_model.specs.Orders.{IsOrder}
 use Rattle.order_model.specs.Problems.{functions, outputs_of}
@@ -10,24 +9,18 @@ use Rattle.truth_table.proofs.LevelSteps.{level_step, counts_whole, few_classes}
 use Rattle.truth_table.proofs.tables.Tables.widths_of.Goals as goal
 
 pub values-requires-clause-points : goal.values-requires-clause-points
-values-requires-clause-points c =
-    let n = c.args.self.now.inputs in
-    let order = c.args.order.now in
-    let points : c.deref.result.now ≡ assignments order = c.deref.ensures.value ∙ c.in_ok-points.ensures ∙ ap assignments c.variables.ensures.value in
-    let o : IsOrder n order = subst (λ (m : ℕ). IsOrder m order) c.requires c.variables.ensures.order in
-    subst (λ (ks : List ℕ). All (λ k. k < 2 ^ n) ks) (sym points) (assignments_below n order o)
+values-requires-clause-points c = grind (arith, assignments_below)
 
 pub loop-level-init : goal.loop-level-init
 loop-level-init c =
     let n = c.args.self.now.inputs in
     let order = c.args.order.now in
-    let points : c.deref.result.now ≡ assignments order = c.deref.ensures.value ∙ c.in_ok-points.ensures ∙ ap assignments c.variables.ensures.value in
     let o : IsOrder n order = subst (λ (m : ℕ). IsOrder m order) c.requires c.variables.ensures.order in
     let long = c.len-n.ensures.value in
     record {
       tells = start_tells n order c.args.self.now.tables c.len-n.result c.deref.result.now c.in_ok-classes.classes.items o (omega arith)
-          points c.in_ok-classes.ensures;
-      long = ap length (c.in_ok-counts.ensures.items_if_clones_equal (λ y e. e)) ∙ length-replicate c.len-n.result 0 ∙ long;
+          (c.deref.ensures.value ∙ c.in_ok-points.ensures ∙ ap assignments c.variables.ensures.value) c.in_ok-classes.ensures;
+      long = grind arith;
       counted = λ i a b. absurd (omega arith);
     }
 
@@ -36,20 +29,13 @@ merge-requires c =
     let F = functions c.args.self.now in
     let outputs = length-map c.args.self.now.tables from_table in
     let view = ap outputs_of c.self.view_is in
-    let value = c.outputs.ensures.value in
-    let most = c.outputs.ensures.few in
-    let long = c.len-n.ensures.value in
-    let short = c.len-n.ensures.few in
-    let level = c.loop-level.auto.level in
     let few = few_classes c.args.self.now.inputs F c.args.order.now c.loop-level.level c.loop-level.classes.items (omega arith)
     (omega arith) (omega arith) c.loop-level.invariant.tells in
-    let same = ap length c.deref-in-loop-level.ensures.value in
     record { few = omega arith }
 
 pub loop-level-preserved : goal.loop-level-preserved
 loop-level-preserved c =
     let long = c.len-n.ensures.value in
-    let level = c.loop-level.auto.level in
     let step = level_step c.args.self.now.inputs (functions c.args.self.now) c.args.order.now c.loop-level.level c.loop-level.classes.items
     c.deref-in-loop-level.result.now c.in_ok-above.above.numbers.items
     c.loop-level.counts.items c.in_ok-above.above.unequal c.loop-level-test.true (omega arith) c.loop-level.invariant.tells
@@ -58,7 +44,4 @@ loop-level-preserved c =
     record { tells = step.0; long = step.1; counted = step.2 }
 
 pub returns : goal.returns
-returns c =
-    let done = c.loop-level-test.false in
-    counts_whole c.args.self.now.inputs (functions c.args.self.now) c.args.order.now c.loop-level.counts.items c.loop-level.invariant.long
-    (λ k h. c.loop-level.invariant.counted k (omega arith) h)
+returns c = grind (arith, counts_whole)
