@@ -41,22 +41,19 @@ ref_found base x u keys keys' nodes nodes' place is_new ne a k v at same once ns
 module _ (x : ℕ) (old : List Node) (pairs keys : List (ℕ × ℕ)) (nodes : List Node) (numbers : List ℕ) (m : IsNumbered x old pairs keys nodes numbers)
     (u : ℕ × ℕ) (keys' : List (ℕ × ℕ)) (nodes' : List Node) (c : ℕ) (s : Seeks (length old) x u keys keys' nodes nodes' c) where
   grows : (i : ℕ) (v : ℕ × ℕ) → slice_get keys i ≡ Some v → slice_get keys' i ≡ Some v
-  grows i v e = elim s.more [
-    | inl a ↦ ap (λ ks. slice_get ks i) a.0 ∙ e
-    | inr b ↦ ap (λ ks. slice_get ks i) b.1 ∙ get_left keys (u ∷ []) i (slice_get_within keys i v e) ∙ e
-  ]
+  grows i v e = grind (arith, slice_get, get_left, slice_get_within)
 
   lifted : (v : ℕ × ℕ) (d : ℕ) → IsNumberOf (length old) keys v d → IsNumberOf (length old) keys' v d
   lifted v d h = elim h [ inl e ↦ inl e | inr e ↦ inr (e.0, (e.1.0, grows e.1.0 v e.1.1, e.1.2)) ]
 
   long_pairs : length (pairs ++ u ∷ []) ≡ length pairs + 1
-  long_pairs = let l = length-append pairs (u ∷ []) in omega arith
+  long_pairs = omega (arith, length-append pairs (u ∷ []))
 
   pair_old : (k : ℕ) → k < length pairs → get_or (pairs ++ u ∷ []) k (0, 0) ≡ get_or pairs k (0, 0)
   pair_old k h = get_or_append_left pairs (u ∷ []) (0, 0) k h
 
   number_old : (k : ℕ) → k < length pairs → get_or (numbers ++ c ∷ []) k 0 ≡ get_or numbers k 0
-  number_old k h = get_or_append_left numbers (c ∷ []) 0 k (let l = m.long in omega arith)
+  number_old k h = get_or_append_left numbers (c ∷ []) 0 k (omega arith)
 
   pair_new : get_or (pairs ++ u ∷ []) (length pairs) (0, 0) ≡ u
   pair_new = get_or_at pairs u [] (0, 0) (length pairs) refl
@@ -71,8 +68,7 @@ module _ (x : ℕ) (old : List Node) (pairs keys : List (ℕ × ℕ)) (nodes : L
         (subst (λ v. IsNumberOf (length old) keys' v (get_or (numbers ++ c ∷ []) (length pairs) 0)) (sym pair_new)
         (subst (IsNumberOf (length old) keys' u) (sym number_new) s.number))
     | inr ne ↦
-        let l = long_pairs in
-        let lt : k < length pairs = omega arith in
+        let lt : k < length pairs = omega (arith, long_pairs) in
         subst (λ v. IsNumberOf (length old) keys' v (get_or (numbers ++ c ∷ []) k 0)) (sym (pair_old k lt))
         (subst (IsNumberOf (length old) keys' (get_or pairs k (0, 0))) (sym (number_old k lt))
         (lifted (get_or pairs k (0, 0)) (get_or numbers k 0) (m.named k lt)))
@@ -85,10 +81,7 @@ module _ (x : ℕ) (old : List Node) (pairs keys : List (ℕ × ℕ)) (nodes : L
   used_old : (i : ℕ) (v : ℕ × ℕ) → slice_get keys i ≡ Some v → Used i v
   used_old i v e =
       let w = m.used i v e in
-      let k = w.1.0 in
-      let l = long_pairs in
-      let lt = w.1.1 in
-      (w.0, (k, omega arith, pair_old k w.1.1 ∙ w.1.2, number_old k w.1.1 ∙ w.1.3))
+      (w.0, (w.1.0, omega (arith, long_pairs), pair_old w.1.0 w.1.1 ∙ w.1.2, number_old w.1.0 w.1.1 ∙ w.1.3))
 
   used_all : (i : ℕ) (v : ℕ × ℕ) → slice_get keys' i ≡ Some v → Used i v
   used_all i v e = elim s.more [
@@ -115,10 +108,10 @@ module _ (x : ℕ) (old : List Node) (pairs keys : List (ℕ × ℕ)) (nodes : L
     ];
     once = s.once m.once;
     few = elim s.more [
-      | inl a ↦ (let e = ap length a.0 in let f = m.few in let l = long_pairs in omega arith)
-      | inr b ↦ (let e = ap length b.1 in let g = length-append keys (u ∷ []) in let f = m.few in let l = long_pairs in omega arith)
+      | inl a ↦ omega (arith, ap length a.0, long_pairs)
+      | inr b ↦ omega (arith, ap length b.1, length-append keys (u ∷ []), long_pairs)
     ];
-    long = let a = length-append numbers (c ∷ []) in let b = long_pairs in let d = m.long in omega arith;
+    long = omega (arith, length-append numbers (c ∷ []), long_pairs);
     named = named_all;
     used = used_all;
   }

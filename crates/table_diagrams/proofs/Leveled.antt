@@ -33,15 +33,7 @@ use Rattle.table_diagrams.proofs.Lists.{map_get, get_map, zip_at, zip_from, same
 
 same_named : (a b : ℕ) → ref_named a ≡ ref_named b → a ≡ b
 unfolding ref_named
-same_named zero zero e = refl
-same_named zero (suc zero) e = cc
-same_named zero (suc (suc b)) e = cc
-same_named (suc zero) zero e = cc
-same_named (suc zero) (suc zero) e = refl
-same_named (suc zero) (suc (suc b)) e = cc
-same_named (suc (suc a)) zero e = cc
-same_named (suc (suc a)) (suc zero) e = cc
-same_named (suc (suc a)) (suc (suc b)) e = cc
+same_named a b h = grind arith
 
 pub named_place : (k c : ℕ) → c ≡ k + 2 → ref_named c ≡ Place k
 unfolding ref_named
@@ -69,7 +61,7 @@ leaf_value : (n c : ℕ) (f : Function) → IsLeaf n f c → SameFunction n (val
 unfolding ref_named SameFunction
 leaf_value n zero f h p l = value_terminal [] p false ∙ sym (h.0 p l)
 leaf_value n (suc zero) f h p l = value_terminal [] p true ∙ sym (h.0 p l)
-leaf_value n (suc (suc c)) f h p l = let small = h.1 in absurd (omega arith)
+leaf_value n (suc (suc c)) f h p l = absurd (omega arith)
 
 leaf_values : (n : ℕ) (fs : List Function) (cs : List ℕ) → AllZip (IsLeaf n) fs cs → AllZip (λ r f. SameFunction n (value [] r) f) (map ref_named cs) fs
 leaf_values n [] [] z = tt
@@ -86,19 +78,7 @@ leaf_roots n (f ∷ fs) (c ∷ cs) z (suc k) d h = leaf_roots n fs cs z.1 k d (o
 
 leveled_at_leaves : (n : ℕ) (fs : List Function) (order : List ℕ) (level : ℕ) (cs : List ℕ) → AllZip (IsLeaf n) fs cs → Leveled n fs order level [] cs
 unfolding IsOrdered IsOf
-leveled_at_leaves n fs order level cs z = record {
-  represents = record {
-    diagram = record { nodes = λ k node e. cc; roots = leaf_roots n fs cs z };
-    ordered = λ j k child parent e f c. cc;
-    functions = leaf_values n fs cs z;
-  };
-  reduced = record {
-    not_redundant = λ k node e. cc;
-    no_two_equal = λ j k node e f. cc;
-    all_reached = λ k h. absurd (omega arith);
-  };
-  deep = λ k node e. cc;
-}
+leveled_at_leaves n fs order level cs z = grind (arith, leaf_roots, leaf_values)
 
 -- ---- one level up
 
@@ -111,11 +91,7 @@ module _ (n : ℕ) (fs : List Function) (order : List ℕ) (level x : ℕ) (o : 
       ∙ zip_length (λ r f. SameFunction n (value old r) f) (map ref_named below) (restricted x fs) rest.represents.functions
 
   length_pairs : length (pairs_of below) ≡ length fs
-  length_pairs =
-      let a = length-pairs_of below in
-      let b = length_below in
-      let c = length-restricted x fs in
-      omega arith
+  length_pairs = omega (arith, length-pairs_of below, length_below, length-restricted x fs)
 
   small_x : x < n
   small_x = (o.all x).0 (ap (has order) at_level ∙ has_at order level inside)
@@ -126,16 +102,14 @@ module _ (n : ℕ) (fs : List Function) (order : List ℕ) (level x : ℕ) (o : 
   -- the refs below
   below_before : (k : ℕ) → k < length below → IsBefore (length old) (ref_named (get_or below k 0))
   below_before k h =
-      let l = length-map below ref_named in
-      subst (IsBefore (length old)) (get_or-map ref_named below k 0 (Terminal false) h) (rest.represents.diagram.roots k (Terminal false) (omega arith))
+      subst (IsBefore (length old)) (get_or-map ref_named below k 0 (Terminal false) h) (rest.represents.diagram.roots k (Terminal false) (omega (arith, length-map below ref_named)))
 
   below_value : (k : ℕ) → k < length below → SameFunction n (value old (ref_named (get_or below k 0))) (function_at (restricted x fs) k)
   unfolding IsOf
   below_value k h =
-      let l = length_below in
       subst (λ r. SameFunction n (value old r) (function_at (restricted x fs) k)) (get_or-map ref_named below k 0 (Terminal false) h)
       (zip_at (λ r f. SameFunction n (value old r) f) (map ref_named below) (restricted x fs) rest.represents.functions k (Terminal false) none
-      (omega arith))
+      (omega (arith, length_below)))
 
   -- the parts of a pair: the refs of the two restrictions of a function
   record Parts (k : ℕ) (u : ℕ × ℕ) : Type 0 where
@@ -148,7 +122,6 @@ module _ (n : ℕ) (fs : List Function) (order : List ℕ) (level x : ℕ) (o : 
   parts k h =
       let a = length_below in
       let b = length-restricted x fs in
-      let c = length-pairs_of below in
       subst (Parts k) (sym (get_or-pairs_of below k (omega arith)))
       (record {
         low_before = below_before (2 * k) (omega arith);
@@ -166,7 +139,7 @@ module _ (n : ℕ) (fs : List Function) (order : List ℕ) (level x : ℕ) (o : 
 
   length_both : length both ≡ length old + length keys
   unfolding both more
-  length_both = let a = length-append old (map (node_over x) keys) in let b = length-map keys (node_over x) in omega arith
+  length_both = omega (arith, length-append old (map (node_over x) keys), length-map keys (node_over x))
 
   -- a node of the level is that of a pair
   record Stands (i : ℕ) (node : Node) : Type 0 where
@@ -179,20 +152,7 @@ module _ (n : ℕ) (fs : List Function) (order : List ℕ) (level x : ℕ) (o : 
 
   stands : (i : ℕ) (node : Node) → slice_get more i ≡ Some node → Stands i node
   unfolding more
-  stands i node e =
-      let g = get_map (node_over x) keys i node e in
-      let used = m.used i g.0 g.1 in
-      let k = used.1.0 in
-      let l = length_pairs in
-      let p = subst (Parts k) used.1.2 (parts k (let h = used.1.1 in omega arith)) in
-      record {
-        pair = g.0;
-        key = g.1;
-        node_is = g.2;
-        unequal = used.0;
-        low_before = subst (λ (z : Node). IsBefore (length old) z.low) (sym g.2) p.low_before;
-        high_before = subst (λ (z : Node). IsBefore (length old) z.high) (sym g.2) p.high_before;
-      }
+  stands i node e = grind (arith, get_map, parts, length_pairs)
 
   variable_of : Node → ℕ
   variable_of node = node.variable
@@ -204,26 +164,14 @@ module _ (n : ℕ) (fs : List Function) (order : List ℕ) (level x : ℕ) (o : 
 
   both_fit : AllFit n both
   unfolding variable_of
-  both_fit k node e =
-      elim (cases k node e) [
-        | inl a ↦ rest.represents.diagram.nodes k node a
-        | inr b ↦
-            let le : length old ≤ k = let f = b.1 in omega arith in
-            let v : node.variable < n = let f = ap variable_of b.2.node_is in let g = small_x in omega arith in
-            record {
-              variable =
-                  v;
-              low = before_more (length old) k node.low le b.2.low_before;
-              high = before_more (length old) k node.high le b.2.high_before;
-            }
-      ]
+  both_fit k node e = grind (arith, cases, variable_of, small_x, before_more)
 
   kept : (r : Ref) → IsBefore (length old) r → (p : Point) → value both r p ≡ value old r p
   unfolding both
   kept r b p = value_append n old more rest.represents.diagram.nodes both_fit p (length old) r (omega arith) b
 
   old_before : (r : Ref) → IsBefore (length old) r → IsBefore (length both) r
-  old_before r b = before_more (length old) (length both) r (let l = length_both in omega arith) b
+  old_before r b = before_more (length old) (length both) r (omega (arith, length_both)) b
 
   new_node : (i : ℕ) (u : ℕ × ℕ) → slice_get keys i ≡ Some u → slice_get both (length old + i) ≡ Some (node_over x u)
   unfolding both more
@@ -249,7 +197,7 @@ module _ (n : ℕ) (fs : List Function) (order : List ℕ) (level x : ℕ) (o : 
       same = λ p l. kept (ref_named u.0) part.low_before p ∙ equal e.0 p (bit p x) ∙ by_parts k u part p l (bit p x) refl;
     })
     | inr e ↦ subst (Denotes k) (sym (named_place (length old + e.1.0) c e.1.2)) (record {
-      before = let a = slice_get_within keys e.1.0 u e.1.1 in let b = length_both in omega arith;
+      before = omega (arith, slice_get_within keys e.1.0 u e.1.1, length_both);
       same = λ p l.
           value_place n (graph_of both) (diagram_of n both both_fit) p (length old + e.1.0) (node_over x u) (new_node e.1.0 u e.1.1)
           ∙ kept (cond (bit p x) (ref_named u.1) (ref_named u.0))
@@ -264,7 +212,7 @@ module _ (n : ℕ) (fs : List Function) (order : List ℕ) (level x : ℕ) (o : 
 
   above_denotes : (k : ℕ) → k < length fs → Denotes k (ref_named (get_or above k 0))
   above_denotes k h =
-      denotes k (get_or (pairs_of below) k (0, 0)) (parts k h) (get_or above k 0) (m.named k (let l = length_pairs in omega arith))
+      denotes k (get_or (pairs_of below) k (0, 0)) (parts k h) (get_or above k 0) (m.named k (omega (arith, length_pairs)))
 
   length_above : length above ≡ length fs
   length_above = m.long ∙ length_pairs
@@ -274,22 +222,7 @@ module _ (n : ℕ) (fs : List Function) (order : List ℕ) (level x : ℕ) (o : 
 
   both_ordered : IsOrdered order (graph_with both above)
   unfolding IsOrdered variable_of both
-  both_ordered j k child parent cj pk is =
-      elim (cases k parent pk) [
-        | inl a ↦
-            let fit = rest.represents.diagram.nodes k parent a in
-            let lt : j < k = child_is_before k (Place j) parent is fit.low fit.high in
-            let kt = slice_get_within old k parent a in
-            rest.represents.ordered j k child parent (old_child j child cj (omega arith)) a is
-        | inr b ↦
-            let lt : j < length old = child_is_before (length old) (Place j) parent is b.2.low_before b.2.high_before in
-            let c = rest.deep j child (old_child j child cj lt) in
-            let p = ap (λ z. place_in order (variable_of z)) b.2.node_is ∙ place_x in
-            omega arith
-      ]
-    where
-      old_child : (j : ℕ) (child : Node) → slice_get both j ≡ Some child → j < length old → slice_get old j ≡ Some child
-      old_child j child e lt = sym (get_left old more j lt) ∙ e
+  both_ordered j k child parent cj pk is = grind (arith, cases, child_is_before, slice_get_within, variable_of, place_x, slice_get, both, get_left)
 
   both_represents : Represents n fs order (graph_with both above)
   unfolding IsOf
@@ -333,12 +266,10 @@ module _ (n : ℕ) (fs : List Function) (order : List ℕ) (level x : ℕ) (o : 
   below_reached k r h e =
       let a = length_below in
       let b = length-restricted x fs in
-      let c = length-pairs_of below in
       let j : ℕ = k / 2 in
-      let within : j < length fs = omega arith in
       let pair = get_or-pairs_of below j (omega arith) in
       let named = subst (λ u. IsNumberOf (length old) keys u (get_or above j 0)) pair (m.named j (let l = length_pairs in omega arith)) in
-      part_reached j within (pair_at below j) named r (side k e)
+      part_reached j (omega arith) (pair_at below j) named r (side k e)
     where
       side : (k : ℕ) → ref_named (get_or below k 0) ≡ r →
           (ref_named (get_or below (2 * (k / 2)) 0) ≡ r) ⊎ (ref_named (get_or below (2 * (k / 2) + 1) 0) ≡ r)
@@ -358,8 +289,7 @@ module _ (n : ℕ) (fs : List Function) (order : List ℕ) (level x : ℕ) (o : 
   old_reached : {r : Ref} → Reached (graph_with old below) r → Reached (graph_with both above) r
   unfolding both
   old_reached (from_root {r = r} c) =
-      let l = length-map below ref_named in
-      let h : c.0 < length below = let a = c.1 in omega arith in
+      let h : c.0 < length below = omega (arith, length-map below ref_named) in
       below_reached c.0 r h (sym (get_or-map ref_named below c.0 0 r h) ∙ c.2)
   old_reached (from_parent {r = r} k node h e c) =
       from_parent k node (old_reached h) (get_left old more k (slice_get_within old k node e) ∙ e) c
@@ -380,8 +310,7 @@ module _ (n : ℕ) (fs : List Function) (order : List ℕ) (level x : ℕ) (o : 
         | inl b ↦ absurd (apart k node b a.0 a.2)
         | inr b ↦
             let s : a.2.pair ≡ b.2.pair = pair_path a.2.pair b.2.pair (sym a.2.node_is ∙ b.2.node_is) in
-            let t = same_key keys m.once a.0 b.0 b.2.pair (a.2.key ∙ ap Some s) b.2.key in
-            a.1 ∙ ap (λ z. length old + z) t ∙ sym b.1
+            a.1 ∙ ap (λ z. length old + z) (same_key keys m.once a.0 b.0 b.2.pair (a.2.key ∙ ap Some s) b.2.key) ∙ sym b.1
       ]
     ];
     all_reached = λ k h. elim (split k) [ inl lt ↦ old_reached (rest.reduced.all_reached k lt) | inr b ↦ new_reached k b.0 b.1 h ];
@@ -398,9 +327,7 @@ module _ (n : ℕ) (fs : List Function) (order : List ℕ) (level x : ℕ) (o : 
 
       apart : (k : ℕ) (node : Node) → slice_get old k ≡ Some node → (i : ℕ) → Stands i node → ⊥
       apart k node e i s =
-          let d = rest.deep k node e in
-          let p = ap (λ z. place_in order (variable_of z)) s.node_is ∙ place_x in
-          omega arith
+          omega (arith, rest.deep k node e, ap (λ z. place_in order (variable_of z)) s.node_is ∙ place_x)
 
       split : (k : ℕ) → (k < length old) ⊎ ((i : ℕ) × (k ≡ length old + i))
       split k = by (cases_below k (length old))
@@ -420,33 +347,20 @@ module _ (n : ℕ) (fs : List Function) (order : List ℕ) (level x : ℕ) (o : 
         | inl found ↦
             let used = m.used i found.0 found.2 in
             let l = length_pairs in
-            let small : used.1.0 < length fs = let a = used.1.1 in omega arith in
-            at_root used.1.0 (Place k) small (named_place k (get_or above used.1.0 0) (let c = used.1.3 in omega arith))
-        | inr past ↦ let l = length_both in absurd (omega (arith, past.0))
+            let small : used.1.0 < length fs = omega arith in
+            at_root used.1.0 (Place k) small (named_place k (get_or above used.1.0 0) (omega arith))
+        | inr past ↦ absurd (omega (arith, past.0, length_both))
       ]
 
   pub leveled_up : Leveled n fs order level new above
   unfolding both more variable_of
-  leveled_up = subst (λ z. Leveled n fs order level z above) (sym m.nodes_are) (record {
-    represents = both_represents;
-    reduced = both_reduced;
-    deep = λ k node e. elim (cases k node e) [
-      | inl a ↦ (let d = rest.deep k node a in omega arith)
-      | inr b ↦ (let p = ap (λ z. place_in order (variable_of z)) b.2.node_is ∙ place_x in omega arith)
-    ];
-  })
+  leveled_up = grind (arith, both_represents, both_reduced, cases, variable_of, place_x)
 
   -- nodes and refs together become no more
   pub few_up : length new + length above ≤ length old + length below
   unfolding both more
   few_up =
-      let a = ap length m.nodes_are in
-      let b = length-append old (map (node_over x) keys) in
-      let c = length-map keys (node_over x) in
-      let d = m.few in
-      let e = m.long in
-      let f = length-pairs_of below in
-      omega arith
+      omega (arith, ap length m.nodes_are, length-append old (map (node_over x) keys), length-map keys (node_over x), length-pairs_of below)
 
 -- ---- with no variable fixed
 
@@ -472,9 +386,8 @@ few_leaves n order tables cs o few short v =
     let r = length-reach (map from_table tables) order in
     let t = length-map tables from_table in
     let b = few_blocks (length order) short in
-    let c = mul-le-mul_right {m = length (map from_table tables)} {n = 16} (2 ^ length order) (omega arith) in
     let e = ap length v in
-    omega arith
+    omega (arith, mul-le-mul_right {m = length (map from_table tables)} {n = 16} (2 ^ length order) (omega arith))
 
 pub leveled_step : (n : ℕ) (F : List Function) (order : List ℕ) (level x : ℕ) (old new : List Node) (below above : List ℕ) → 0 < level →
     level ≤ length order → IsOrder n order → x ≡ get_or order (level - 1) 0 → Leveled n (reach F (take level order)) order level old below →
@@ -482,12 +395,11 @@ pub leveled_step : (n : ℕ) (F : List Function) (order : List ℕ) (level x : �
     Leveled n (reach F (take (level - 1) order)) order (level - 1) new above × (length new + length above ≤ length old + length below)
 leveled_step n F order level x old new below above some within o at rest m =
     let k : ℕ = level - 1 in
-    let next : level ≡ k + 1 = omega arith in
     let here : k < length order = omega arith in
     let split = ap (reach F) (take_more order k 0 here) ∙ reach_last F (take k order) (get_or order k 0)
     ∙ ap (λ y. restricted y (reach F (take k order))) (sym at) in
     let lower = subst (λ fs. Leveled n fs order (k + 1) old below) split
-    (subst (λ z. Leveled n (reach F (take z order)) order z old below) next rest) in (
+    (subst (λ z. Leveled n (reach F (take z order)) order z old below) (omega arith) rest) in (
       leveled_up n (reach F (take k order)) order k x o here at old below lower new m.keys above m.numbered,
       few_up n (reach F (take k order)) order k x o here at old below lower new m.keys above m.numbered,
     )
@@ -495,10 +407,4 @@ leveled_step n F order level x old new below above some within o at rest m =
 pub leveled_top : (n : ℕ) (F : List Function) (order : List ℕ) (level : ℕ) (nodes : List Node) (numbers : List ℕ) → IsOrder n order → level ≤ 0 →
     Leveled n (reach F (take level order)) order level nodes numbers → (d : OrderedGraph) → d.order ≡ order → d.graph.nodes ≡ nodes →
     d.graph.roots ≡ map ref_named numbers → IsDiagramOf n F order d
-leveled_top n F order level nodes numbers o done l d same ns rs =
-    let none_fixed : take level order ≡ [] = ap (λ z. take z order) (let e : level ≡ 0 = omega arith in e) in
-    let top = subst (λ fs. Leveled n fs order level nodes numbers) (ap (reach F) none_fixed ∙ reach_none F) l in
-    let graph : graph_with nodes numbers ≡ d.graph = λ i. record { nodes = sym ns i; roots = sym rs i } in
-    let rep = subst (Represents n F order) graph top.represents in
-    let red = subst IsReduced graph top.reduced in
-    record { order = same; diagram = rep; reduced = red; levels = λ i h. reduced_levels n F order d.graph o rep red i h }
+leveled_top n F order level nodes numbers o done l d same ns rs = grind (arith, reach_none, graph_with, reduced_levels)

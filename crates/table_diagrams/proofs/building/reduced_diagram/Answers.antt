@@ -1,4 +1,4 @@
-use Rattle.std.proofs.Common.{◌-◌, ℕ, List, length, take, get_or, map, sym, ap, ◌∙◌, subst, arith}
+use Rattle.std.proofs.Common.{◌-◌, ℕ, List, take, get_or, map, sym, ap, ◌∙◌, subst, arith}
 use Rattle.order_model.specs.declared.diagrams.Node.{Node}
 use Rattle.order_model.specs.Levels.{reach}
 use Rattle.order_model.specs.Orders.{IsOrder}
@@ -12,13 +12,9 @@ loop-level-init c =
     let t = c.args.tables.now in
     let order = c.args.order.now in
     let o : IsOrder t.inputs order = subst (λ (m : ℕ). IsOrder m order) c.requires c.variables-levels.ensures.order in
-    let n = c.len-n.ensures.value in
-    let most = c.len-n.ensures.few in
     let same = ap outputs_of c.problem.ensures in
-    let outputs = c.outputs.ensures.value in
     let few = c.outputs.ensures.few in
     let bound = few_leaves t.inputs order t.tables c.in_ok-numbers.numbers.items o (omega arith) (omega arith) c.in_ok-numbers.ensures in
-    let none = ap length c.new-nodes.ensures.items in
     record {
       leveled = subst (λ (ns : List Node). Leveled t.inputs (reach (functions t) (take c.len-n.result order)) order c.len-n.result ns
           c.in_ok-numbers.numbers.items) (sym c.new-nodes.ensures.items)
@@ -31,8 +27,6 @@ loop-level-preserved c =
     let t = c.args.tables.now in
     let order = c.args.order.now in
     let o : IsOrder t.inputs order = subst (λ (m : ℕ). IsOrder m order) c.requires c.variables-levels.ensures.order in
-    let n = c.len-n.ensures.value in
-    let level = c.loop-level.auto.level in
     let here = ap (λ xs. get_or xs (c.loop-level.level - 1) 0) c.variables-levels.ensures.value in
     let above = subst (λ (bs : List ℕ). IsLevelAbove (get_or c.variables-levels.result.now (c.loop-level.level - 1) 0) c.loop-level.nodes.items bs
     c.level_above.new.nodes.items c.in_ok-numbers-2.numbers.items) c.deref.ensures.value c.in_ok-numbers-2.ensures in
@@ -40,7 +34,6 @@ loop-level-preserved c =
     c.loop-level.nodes.items c.level_above.new.nodes.items c.loop-level.numbers.items c.in_ok-numbers-2.numbers.items c.loop-level-test.true (omega arith) o
     here c.loop-level.invariant.leveled above in
     let few = c.loop-level.invariant.few in
-    let down = step.1 in
     record { leveled = step.0; few = omega arith }
 
 pub returns : goal.returns
@@ -48,7 +41,6 @@ returns c =
     let t = c.args.tables.now in
     let order = c.args.order.now in
     let o : IsOrder t.inputs order = subst (λ (m : ℕ). IsOrder m order) c.requires c.variables-levels.ensures.order in
-    let done = c.loop-level-test.false in
     leveled_top t.inputs (functions t) order c.loop-level.level c.loop-level.nodes.items c.loop-level.numbers.items o (omega arith)
     c.loop-level.invariant.leveled c.new.result (c.new.ensures.order ∙ c.in_ok-try_clone.ensures) c.new.ensures.nodes
     (c.new.ensures.roots ∙ c.in_ok-roots.ensures ∙ ap (map ref_named) c.deref-2.ensures.value)

@@ -26,12 +26,4 @@ loop-j-preserved c =
     }
 
 pub returns : goal.returns
-returns c =
-    let below = c.args.below.now in
-    let done = c.loop-j-test.false in
-    let l = length-pairs_of below in
-    record {
-      keys = c.loop-j.pairs.keys;
-      numbered = subst (λ (ps : List (ℕ × ℕ)). IsNumbered c.args.x c.args.nodes.now.items ps c.loop-j.pairs.keys c.loop-j.nodes.items c.loop-j.above.items)
-          (take_all c.loop-j.j (pairs_of below) (omega arith)) c.loop-j.invariant.numbered;
-    }
+returns c = grind (arith, length-pairs_of, take_all)

@@ -5,11 +5,11 @@ use Rattle.table_diagrams.proofs.levels.ref_of.Goals as goal
 
 pub returns-in-0 : goal.returns-in-0
 unfolding ref_named
-returns-in-0 c = let e = c.in-0.is in let f : 0 ≡ c.args.number = omega arith in ap ref_named f
+returns-in-0 c = let f : 0 ≡ c.args.number = omega arith in ap ref_named f
 
 pub returns-in-1 : goal.returns-in-1
 unfolding ref_named
-returns-in-1 c = let e = c.in-1.is in let f : 1 ≡ c.args.number = omega arith in ap ref_named f
+returns-in-1 c = let f : 1 ≡ c.args.number = omega arith in ap ref_named f
 
 pub returns-in_default : goal.returns-in_default
-returns-in_default c = let d = c.in_default in sym (named_place (c.args.number - 2) c.args.number (omega arith))
+returns-in_default c = sym (named_place (c.args.number - 2) c.args.number (omega arith))
