@@ -3,8 +3,8 @@
 --     fewer_tables, fewer_fails      fewer edges are tables of edges too; one that fails among them is one that fails
 --     first_early      if an edge fails, the first one that fails is the first among those from sets up to that one's
 --     first_again      so it is if that edge was the first of fewer ones
-use Rattle.std.specs.Prelude.{◌≡◌, ℕ, ◌+◌, ◌^◌, ◌<◌, ◌≤◌, List, length, set, slice_index, Option, Some, None}
-use Rattle.std.proofs.Common.{inl, inr, refl, sym, ap, ◌∙◌, subst, arith}
+use Rattle.std.specs.Prelude.{◌≡◌, ℕ, ◌+◌, ◌^◌, ◌<◌, ◌≤◌, List, length, set, slice_index, Option, Some}
+use Rattle.std.proofs.Common.{inl, inr, refl, ap, ◌∙◌, arith}
 use Rattle.std.specs.Int.{bit_at}
 use Rattle.std.proofs.lemmas.Bool.{cases_eq, cases_lt}
 use Rattle.std.proofs.lemmas.List.{get_or-set_same, get_or-set_other, length-set}
@@ -16,32 +16,16 @@ use Rattle.cert_check.specs.FewerEdges.{AreFewer, IsPast}
 -- one more set is left out
 pub fewer_step : (why : ℕ → Type 0) (judged fewer : List ℕ) (T : ℕ) → T < length judged → AreFewer why judged fewer → why T →
     AreFewer why judged (set fewer T 0)
-fewer_step why judged fewer T less are reason = record {
-  long = length-set fewer T 0 ∙ are.long;
-  each = λ U. elim (cases_eq U T) [
-    | inl e ↦ inr (ap (slice_index (set fewer T 0)) e ∙ get_or-set_same fewer T 0 0 (let l = are.long in omega arith), subst why (sym e) reason)
-    | inr ne ↦
-        let other : slice_index (set fewer T 0) U ≡ slice_index fewer U = get_or-set_other fewer T U 0 0 ne in
-        elim (are.each U) [ inl same ↦ inl (other ∙ same) | inr out ↦ inr (other ∙ out.0, out.1) ]
-  ];
-}
+fewer_step why judged fewer T less are reason = grind (arith, length-set, cases_eq, get_or-set_same, get_or-set_other)
 
 module _ {why : ℕ → Type 0} {judged fewer : List ℕ} (are : AreFewer why judged fewer) where
   -- an edge that is judged among fewer ones is judged
   judged_too : (T x : ℕ) → bit_at (slice_index fewer T) x ≡ 1 → bit_at (slice_index judged T) x ≡ 1
-  judged_too T x o = elim (are.each T) [
-    | inl same ↦ ap (λ m. bit_at m x) (sym same) ∙ o
-    | inr out ↦ absurd (let z = ap (λ m. bit_at m x) out.0 ∙ bit_at-zero x in omega arith)
-  ]
+  judged_too T x o = grind (arith, bit_at-zero)
 
   -- fewer edges are tables of edges too
   pub fewer_tables : (n : ℕ) (values : List ℕ) → AreEdgeTables n values judged → AreEdgeTables n values fewer
-  fewer_tables n values tables = record {
-    few = tables.few;
-    values_all = tables.values_all;
-    judged_all = are.long ∙ tables.judged_all;
-    members = λ T x o. tables.members T x (judged_too T x o);
-  }
+  fewer_tables n values tables = grind (arith, judged_too)
 
   -- an edge that fails among fewer ones fails
   pub fewer_fails : (n : ℕ) (F : List Function) (values : List ℕ) (S x : ℕ) → EdgeFails n F values fewer S x → EdgeFails n F values judged S x
@@ -52,20 +36,13 @@ module _ (n : ℕ) (F : List Function) (values : List ℕ) {last : ℕ} {judged 
   early_fails : (S x : ℕ) → S ≤ last → EdgeFails n F values judged S x → EdgeFails n F values early S x
   early_fails S x le f = elim (are.each (S + 2 ^ x)) [
     | inl same ↦ record { small = f.small; new = f.new; is_judged = ap (λ m. bit_at m x) same ∙ f.is_judged; fails = f.fails }
-    | inr out ↦ absurd (let l = out.1 S x refl in omega arith)
+    | inr out ↦ absurd (omega (arith, out.1 S x refl))
   ]
 
   -- if an edge fails, the first one that fails is the first among those from sets up to that one's
   pub first_early : (x : ℕ) (edge : Option (ℕ × ℕ)) → EdgeFails n F values judged last x → IsFirstEdge (EdgeFails n F values early) edge →
       IsFirstEdge (EdgeFails n F values judged) edge
-  first_early x None f first = absurd (first last x (early_fails last x (omega arith) f))
-  first_early x (Some b) f first = (
-    fewer_fails are n F values b.0 b.1 first.0,
-    λ S y g before. elim (cases_lt last S) [
-      | inl past ↦ first.1 last x (early_fails last x (omega arith) f) (inl (elim before [ inl l ↦ omega arith | inr l ↦ (let e = l.0 in omega arith) ]))
-      | inr le ↦ first.1 S y (early_fails S y le g) before
-    ],
-  )
+  first_early x edge h k = grind (arith, early_fails, fewer_fails, cases_lt)
 
 -- the first edge that fails is found by a second walk, from what a walk over fewer edges found
 pub first_again : (n : ℕ) (F : List Function) (values : List ℕ) {why : ℕ → Type 0} {judged fewer early : List ℕ} (found : ℕ × ℕ) (edge : Option (ℕ × ℕ)) →

@@ -63,34 +63,22 @@ module _ (t : TableOf) (count : ℕ) (h : IsFull t count) (x : ℕ) (inside : x 
   half = length-pairs cs step ∙ ap (λ k. k / 2) (length-range_with_len 0 count)
 
   apart : (i j : ℕ) → i < j → j < length cs → get_or cs i 0 ≢ get_or cs j 0
-  apart i j a b e =
-      let l = length-range_with_len 0 count in
-      let p = range_at count i (omega arith) in
-      let q = range_at count j (omega arith) in
-      omega arith
+  apart i j a b e = grind (arith, length-range_with_len, range_at)
 
   within : (j : ℕ) → j < count / 2 → low_place step j + step < count
   within j l =
       let n = length-range_with_len 0 count in
-      let w = pair_within step whole.0 (length cs) j (pow_pos x) whole.1 (omega arith) in
-      omega arith
+      omega (arith, pair_within step whole.0 (length cs) j (pow_pos x) whole.1 (omega arith))
 
   pair_is : (j : ℕ) → j < count / 2 → get_or ps j (0, 0) ≡ (low_place step j, low_place step j + step)
-  pair_is j l =
-      let n = length-range_with_len 0 count in
-      let w = within j l in
-      let a = range_at count (low_place step j) (omega arith) in
-      let b = range_at count (low_place step j + step) w in
-      pair_listed cs step j (omega arith) ∙ (λ i. (a i, b i))
+  pair_is j l = grind (arith, length-range_with_len, within, range_at, step, pair_listed, cs)
 
   join_is : (j : ℕ) → j < count / 2 → union ≡ join (get_or ps j (0, 0))
   join_is j l =
-      let w = within j l in
       let some = pow_pos x in
-      let a = get_or-replicate count (low_place step j) t.set 0 (omega arith) in
-      let b = get_or-replicate count (low_place step j + step) t.set 0 w in
+      let b = get_or-replicate count (low_place step j + step) t.set 0 (within j l) in
       sym (ap join (pair_is j l)
-      ∙ (λ i. bit_or (bit_or (a i) (b i))
+      ∙ (λ i. bit_or (bit_or ((get_or-replicate count (low_place step j) t.set 0 (omega arith)) i) (b i))
       (cond (ne_eqb (low_place step j) (low_place step j + step) (λ e. let f : ⊥ = omega arith in f) i) 0 (2 ^ x)))
       ∙ ap (λ z. bit_or z (2 ^ x)) (or_self t.set))
 
@@ -106,10 +94,9 @@ module _ (t : TableOf) (count : ℕ) (h : IsFull t count) (x : ℕ) (inside : x 
   made (suc j) l =
       let n = half in
       let d = length-range_with_len 0 count in
-      let e : j + 1 ≡ suc j = omega arith in
       let m = made_first 0 ps join out (replicate j union) j union (omega arith)
       (distinct_first cs x whole apart j (omega arith)) (join_is j (omega arith)) (made j (omega arith)) in
-      subst (λ k. Made 0 ps join out (replicate k union) k) e
+      subst (λ k. Made 0 ps join out (replicate k union) k) (omega arith)
       (subst (λ us. Made 0 ps join us (replicate (j + 1) union) (j + 1)) (same_out j (omega arith))
       (subst (λ us. Made 0 ps join (set out j (length (replicate j union))) us (j + 1)) (replicate-append-replicate j 1 union) m))
 

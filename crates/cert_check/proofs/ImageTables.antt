@@ -47,19 +47,18 @@ image_with n partners e S T x l inside image = record {
 pub images_more : (n : ℕ) (partners : List ℕ) (x : ℕ) (images : List ℕ) → IsExchange n partners → x < n → AreImagesTo n partners x images →
     AreImagesTo n partners (x + 1) (images ++ map (λ image. bit_or image (2 ^ slice_index partners x)) images)
 images_more n partners x images e inside are = record {
-  long = length-append images others ∙ (let l = length-map images with in let a = are.long in let p = pow_more 2 x in omega arith);
+  long = length-append images others ∙ omega (arith, length-map images with, pow_more 2 x);
   each = λ S l. elim (cases_lt S (2 ^ x)) [
     | inl low ↦
-        subst (IsImage n partners S) (sym (get_or_append_left images others 0 S (let a = are.long in omega arith))) (are.each S low)
+        subst (IsImage n partners S) (sym (get_or_append_left images others 0 S (omega arith))) (are.each S low)
     | inr high ↦
         let p = pow_more 2 x in
         let low : S - 2 ^ x < 2 ^ x = omega arith in
-        let whole : S - 2 ^ x + 2 ^ x ≡ S = omega arith in
         let is : slice_index (images ++ others) S ≡ bit_or (slice_index images (S - 2 ^ x)) (2 ^ slice_index partners x) =
         get_or-append_right images others (2 ^ x) S 0 are.long high
-        ∙ get_or-map with images (S - 2 ^ x) 0 0 (let a = are.long in omega arith) in
+        ∙ get_or-map with images (S - 2 ^ x) 0 0 (omega arith) in
         subst (IsImage n partners S) (sym is)
-        (subst (λ k. IsImage n partners k (bit_or (slice_index images (S - 2 ^ x)) (2 ^ slice_index partners x))) whole
+        (subst (λ k. IsImage n partners k (bit_or (slice_index images (S - 2 ^ x)) (2 ^ slice_index partners x))) (omega arith)
         (image_with n partners e (S - 2 ^ x) (slice_index images (S - 2 ^ x)) x low inside (are.each (S - 2 ^ x) low)))
   ];
 }

@@ -1,6 +1,6 @@
 -- Edges into one set, whose widths are told to be at least what each needs.
 --     none_into      none of them fails, and no other edge is judged among these sets
-use Rattle.std.proofs.Common.{◌≡◌, ℕ, ◌+◌, ◌-◌, ◌^◌, ◌<◌, ◌≤◌, true, inl, inr, List, slice_index, None, sym, ap, ◌∙◌, arith}
+use Rattle.std.proofs.Common.{◌≡◌, ℕ, ◌+◌, ◌-◌, ◌^◌, ◌<◌, ◌≤◌, true, List, slice_index, None, arith}
 use Rattle.std.specs.Int.{bit_at}
 use Rattle.std.proofs.lemmas.Bool.{cases_eq}
 use Rattle.std.proofs.lemmas.Nat.Bits.{bit_at-zero}
@@ -15,16 +15,4 @@ pub none_into : (n : ℕ) (F : List Function) (values judged : List ℕ) (T x : 
     ((y : ℕ) → bit_at (slice_index judged T) y ≡ 1 → slice_index values T ≤ slice_index values (T - 2 ^ y) + slice_index needed y) →
     ((y : ℕ) → has (members n T) y ≡ true → slice_index needed y ≤ width n F (without y (members n T)) y) →
     IsFirstEdge (FailsWithin n F values judged T x) None
-none_into n F values judged T x needed members later enough wide S y f = elim (cases_eq (S + 2 ^ y) T) [
-  | inl here ↦
-      let bit = sym (ap (λ k. bit_at (slice_index judged k) y) here) ∙ f.0.is_judged in
-      let there = members T y bit in
-      let e = enough y bit in
-      let w = wide y there in
-      edge_kept n F values judged T y there (omega arith) S f.0 here
-  | inr other ↦
-      let above = f.1 in
-      let z = ap (λ k. bit_at k y) (later (S + 2 ^ y) (omega arith) f.2) ∙ bit_at-zero y in
-      let o = f.0.is_judged in
-      omega arith
-]
+none_into n F values judged T x needed members later enough wide S y f = grind (arith, cases_eq, slice_index, edge_kept, bit_at-zero)

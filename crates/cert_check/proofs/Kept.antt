@@ -85,7 +85,4 @@ rows_are w rows len some e = ap (λ k. k / w) (let s : len ≡ rows * w + 0 = om
 
 pub slice_is : (step w number : ℕ) (numbers : List ℕ) → step ≡ w →
     take ((number + 1) * step - number * step) (drop (number * step) numbers) ≡ take w (drop (number * w) numbers)
-slice_is step w number numbers e =
-    let m : (number + 1) * step ≡ number * step + step = grind arith in
-    ap (λ k. take k (drop (number * step) numbers)) (let s : (number + 1) * step - number * step ≡ step = omega arith in s)
-    ∙ ap (λ k. take k (drop (number * k) numbers)) e
+slice_is step w number numbers e = grind arith

@@ -1,7 +1,7 @@
 -- Sets that need not be judged, since an exchange of variables leads to greater ones.
 --     leads_on      a set whose image is greater leads on
 --     none_lost      if no edge fails among those that are left, none fails at all
-use Rattle.std.proofs.Common.{◌≡◌, ℕ, zero, suc, ◌+◌, ◌-◌, ◌^◌, ◌<◌, ◌≤◌, true, not, ◌&&◌, inl, inr, List, slice_index, eqb, eqb-true, eq-eqb, refl, sym, ap, ap₂, ◌∙◌, arith}
+use Rattle.std.proofs.Common.{◌≡◌, ℕ, zero, suc, ◌+◌, ◌-◌, ◌^◌, ◌<◌, ◌≤◌, true, ◌&&◌, inl, inr, List, slice_index, eqb, eqb-true, eq-eqb, refl, sym, ap, ◌∙◌, arith}
 use Rattle.std.specs.Int.{bit_at}
 use Rattle.std.proofs.lemmas.Bool.{cases_eq}
 use Rattle.std.proofs.lemmas.Nat.Bits.{bit_at-lt, same_from_bits_below}
@@ -25,34 +25,17 @@ member_bit n S y l = has_members n S y ∙ ap (λ b. b && eqb (bit_at S y) 1) ((
 
 -- variables that are both members, or both not, have equal bits
 same_bit : (n S T y z : ℕ) → y < n → z < n → has (members n S) y ≡ has (members n T) z → bit_at S y ≡ bit_at T z
-same_bit n S T y z l m e = one (bit_at S y) (bit_at T z) (bit_at-lt S y) (bit_at-lt T z) (sym (member_bit n S y l) ∙ e ∙ member_bit n T z m)
-  where
-    one : (a b : ℕ) → a < 2 → b < 2 → eqb a 1 ≡ eqb b 1 → a ≡ b
-    one a b s t h = elim (cases_eq b 1) [
-      | inl f ↦ eqb-true a 1 (h ∙ eq-eqb b 1 f) ∙ sym f
-      | inr ne ↦ elim (cases_eq a 1) [
-        | inl f ↦ absurd (ne (eqb-true b 1 (sym h ∙ eq-eqb a 1 f)))
-        | inr other ↦ (let z : a ≡ b = omega arith in z)
-      ]
-    ]
+same_bit n S T y z l m e = grind (arith, bit_at-lt, member_bit, cases_eq, eqb-true, eq-eqb)
 
 module _ (n : ℕ) (partners : List ℕ) (exchange : IsExchange n partners) where
   -- the members of the image of a set are the partners of its members
   partner_member : (S T y : ℕ) → IsImage n partners S T → y < n → has (members n T) (slice_index partners y) ≡ has (members n S) y
-  partner_member S T y image l =
-      member_bit n T (slice_index partners y) (exchange.inside y l)
-      ∙ ap (λ b. eqb b 1) (image.bits (slice_index partners y) (exchange.inside y l) ∙ ap (bit_at S) (exchange.back y l))
-      ∙ sym (member_bit n S y l)
+  partner_member S T y image l = grind (arith, member_bit, slice_index)
 
   -- so it is for the two sets without a variable and its partner
   partner_without : (S T x y : ℕ) → IsImage n partners S T → x < n → has (members n S) x ≡ true → y < n →
       has (members n (T - 2 ^ slice_index partners x)) (slice_index partners y) ≡ has (members n (S - 2 ^ x)) y
-  partner_without S T x y image small there l =
-      let own = partner_member S T x image small ∙ there in
-      members_without n T (slice_index partners x) own (slice_index partners y)
-      ∙ has_without (slice_index partners x) (members n T) (slice_index partners y)
-      ∙ ap₂ (λ a b. a && not b) (partner_member S T y image l) (same_partner n partners exchange x y small l)
-      ∙ sym (members_without n S x there y ∙ has_without x (members n S) y)
+  partner_without S T x y image small there l = grind (arith, partner_member, members_without, slice_index, has_without, same_partner)
 
   -- a set with the partners of another's members is its image
   image_unique : (S T U : ℕ) → IsImage n partners S T → U < 2 ^ n →
@@ -72,23 +55,20 @@ leads_on n F values judged partners images exchange are tables kept wide T less 
     let x' = slice_index partners x in
     let T' = slice_index images T in
     let image = are.each T less in
-    let own = image.small in
     let small = exchange.inside x f.small in
     let o : bit_at (slice_index judged T) x ≡ 1 = ap (λ k. bit_at (slice_index judged k) x) (sym e) ∙ f.is_judged in
     let there : has (members n T) x ≡ true = tables.members T x o in
-    let back : T - 2 ^ x ≡ S = omega arith in
     let there' : has (members n T') x' ≡ true = partner_member n partners exchange T T' x image f.small ∙ there in
     let enough : 2 ^ x' ≤ T' = bit_needs n T' x' there' in
     let again : (T' - 2 ^ x') + 2 ^ x' ≡ T' = omega arith in
     let same : (y : ℕ) → y < n → has (members n (T' - 2 ^ x')) (slice_index partners y) ≡ has (members n S) y =
-    λ y l. partner_without n partners exchange T T' x y image f.small there l ∙ ap (λ k. has (members n k) y) back in
+    λ y l. partner_without n partners exchange T T' x y image f.small there l ∙ ap (λ k. has (members n k) y) (omega arith) in
     let moved : slice_index images S ≡ T' - 2 ^ x' =
     image_unique n partners exchange S (slice_index images S) (T' - 2 ^ x') (are.each S (omega arith)) (omega arith) same in
     let low : slice_index values (T' - 2 ^ x') ≡ slice_index values S = ap (slice_index values) (sym moved) ∙ kept.alike S (omega arith) in
     let high : slice_index values (T' - 2 ^ x' + 2 ^ x') ≡ slice_index values (S + 2 ^ x) =
     ap (slice_index values) again ∙ kept.alike T less ∙ ap (slice_index values) (sym e) in
     let narrow = wide (members n S) (members n (T' - 2 ^ x')) x f.small same in
-    let rises = f.fails in
     let bits = (are.each (slice_index judged T) (kept.inside T less)).bits x' small in
     let edge : EdgeFails n F values judged (T' - 2 ^ x') x' = record {
       small = small;
@@ -108,8 +88,8 @@ module _ (n : ℕ) (F : List Function) (values judged fewer : List ℕ) where
     where
       -- an edge that fails and is left out leads to one into a greater set
       below : (k S x : ℕ) → 2 ^ n ≤ S + 2 ^ x + k → EdgeFails n F values judged S x → ⊥
-      below zero S x le f = let w = judged_within n F values judged tables.judged_all S x f in omega arith
+      below zero S x le f = omega (arith, judged_within n F values judged tables.judged_all S x f)
       below (suc k) S x le f = elim (are.each (S + 2 ^ x)) [
         | inl same ↦ none S x (record { small = f.small; new = f.new; is_judged = ap (λ m. bit_at m x) same ∙ f.is_judged; fails = f.fails })
-        | inr led ↦ let next = led.1 S x f refl in below k next.0.0 next.0.1 (let l = next.2 in omega arith) next.1
+        | inr led ↦ let next = led.1 S x f refl in below k next.0.0 next.0.1 (omega arith) next.1
       ]

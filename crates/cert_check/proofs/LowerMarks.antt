@@ -5,7 +5,7 @@ use Rattle.std.proofs.Common.{◌≡◌, ℕ, ◌<◌, ◌≤◌, eqb, eqb-true,
 use Rattle.std.specs.Int.{bit_at}
 use Rattle.std.specs.List.{filter, range_with_len}
 use Rattle.std.proofs.lemmas.Bool.{cases_eq, and_parts}
-use Rattle.std.proofs.lemmas.Nat.Bits.{bit_at_or, bit_at-lt}
+use Rattle.std.proofs.lemmas.Nat.Bits.{bit_at_or}
 use Rattle.std.proofs.lemmas.List.{get_or-set_same, get_or-set_other}
 use Rattle.std.proofs.lemmas.List.FromFn.{fill_by_all}
 use Rattle.order_model.specs.Orders.{has, variables}
@@ -23,11 +23,14 @@ module _ (masks : List ℕ) (x : ℕ) (ps : List (ℕ × ℕ)) where
     | inl here ↦
         let e = ap (λ k. get_or (set told lower (bit_or before (joined_mask masks x pair))) k 0) here
         ∙ get_or-set_same told lower (bit_or before (joined_mask masks x pair)) 0 within in
-        let o = ap (λ k. bit_at k y) e ∙ bit_at_or before (joined_mask masks x pair) y in
-        let m = bit_at-lt before y in
         elim (cases_eq (bit_at before y) 1) [
           | inl old ↦ h c y (ap (λ k. bit_at (get_or told k 0) y) here ∙ sym (ap (λ k. bit_at k y) b) ∙ old)
-          | inr new ↦ (j, l, ap (λ (p : ℕ × ℕ). p.0) is ∙ low ∙ sym here, ap (λ p. bit_at (joined_mask masks x p) y) is ∙ omega arith)
+          | inr new ↦ (
+            j,
+            l,
+            ap (λ (p : ℕ × ℕ). p.0) is ∙ low ∙ sym here,
+            ap (λ p. bit_at (joined_mask masks x p) y) is ∙ omega (arith, ap (λ k. bit_at k y) e ∙ bit_at_or before (joined_mask masks x pair) y),
+          )
         ]
     | inr other ↦ h c y (sym (ap (λ k. bit_at k y) (get_or-set_other told lower c (bit_or before (joined_mask masks x pair)) 0 other)) ∙ bit)
   ]

@@ -31,10 +31,12 @@ pub lowers_le : (ps : List (ℕ × ℕ)) (P : ℕ × ℕ → Bool) (lowers : Lis
     ((c : ℕ) → has lowers c ≡ true → (j : ℕ) × (j < length ps) × ((get_or ps j (0, 0)).0 ≡ c) × (P (get_or ps j (0, 0)) ≡ true)) →
     length lowers ≤ distinct_count same_pair (filter P ps)
 lowers_le ps P lowers apart met =
-    let d = distinct_count-from_IsDistinct nat_eq_equiv lowers apart in
-    let e = length-map kept lower in
-    let f = count_le nat_eq nat_decides lowers (map lower kept) within in
-    omega arith
+    omega (
+      arith,
+      distinct_count-from_IsDistinct nat_eq_equiv lowers apart,
+      length-map kept lower,
+      count_le nat_eq nat_decides lowers (map lower kept) within,
+    )
   where
     lower : ℕ × ℕ → ℕ
     lower p = p.0
@@ -56,9 +58,13 @@ keys_of : (keys done rest : List (ℕ × ℕ)) → Numbers same_pair pair_decide
     (all : List (ℕ × ℕ)) × Numbers same_pair pair_decides all (done ++ rest)
 keys_of keys done [] n = (keys, subst (Numbers same_pair pair_decides keys) (sym (append-nil done)) n)
 keys_of keys done (p ∷ rest) n =
-    let r = keys_of (if list_any (same_pair p) keys then keys else keys ++ p ∷ []) (done ++ p ∷ []) rest
-    (numbers_push same_pair pair_decides keys done p n) in
-    (r.0, subst (Numbers same_pair pair_decides r.0) (append_assoc done (p ∷ []) rest) r.1)
+    grind (
+      arith,
+      numbers_push,
+      pair_decides,
+      append_assoc,
+      keys_of (if list_any (same_pair p) keys then keys else keys ++ p ∷ []) (done ++ p ∷ []) rest (numbers_push same_pair pair_decides keys done p n),
+    )
 
 -- distinct pairs that pass a test of their masks are as many as the masks that pass
 masks_kept : (ps : List (ℕ × ℕ)) (join : ℕ × ℕ → ℕ) (test : ℕ → Bool) (joined : List ℕ) → length joined ≡ distinct_count same_pair ps →

@@ -1,7 +1,7 @@
 -- The table of the variables of a mask from a bound on, with one variable after the other.
 --     part_free      all variables below the bound are free
 --     part_skip, part_with      the next variable down is not in the mask; it is, and the table has one more
-use Rattle.std.proofs.Common.{◌≡◌, ℕ, ◌+◌, ◌*◌, ◌/◌, ◌%◌, ◌^◌, bit_or, sym, ap, ◌∙◌, arith}
+use Rattle.std.proofs.Common.{◌≡◌, ℕ, ◌+◌, ◌%◌, ◌^◌, bit_or, sym, ap, ◌∙◌, arith}
 use Rattle.std.specs.Int.{bit_at}
 use Rattle.cert_check.specs.Blocks.{IsPartTable}
 use Rattle.cert_check.specs.Tables.{TableOf, rows_with}
@@ -15,18 +15,8 @@ module _ (root : TableOf) (part x y : ℕ) (next : y ≡ x + 1) where
 
   -- the next variable down is not in the mask
   pub part_skip : (t : TableOf) → bit_at part x ≡ 0 → IsPartTable root part y t → IsPartTable root part x t
-  part_skip t zero is = record {
-    problem = is.problem;
-    set = is.set ∙ ap (λ k. part / 2 ^ k * 2 ^ k) next ∙ part_same part x zero;
-    level = (let l = is.level in omega arith);
-  }
+  part_skip t h is = grind (arith, part_same)
 
   -- it is, and the table has one more
   pub part_with : (t u : TableOf) → bit_at part x ≡ 1 → u ≡ rows_with t x → IsPartTable root part y t → IsPartTable root part x u
-  part_with t u one made is =
-      let level = ap (λ (v : TableOf). v.level) made in
-      record {
-        problem = ap (λ (v : TableOf). v.problem) made ∙ is.problem;
-        set = ap (λ (v : TableOf). v.set) made ∙ ap (λ m. bit_or m (2 ^ x)) (is.set ∙ ap (λ m. part / 2 ^ m * 2 ^ m) next) ∙ part_more part x one;
-        level = omega arith;
-      }
+  part_with t u one made is = grind (arith, bit_or, part_more)

@@ -4,7 +4,7 @@
 --     tell_more      with one function more
 --     symmetric_by_values      where points and their images have equal numbers, the functions are symmetric
 --     guided      an exchange that keeps the functions' values and the edges shows which sets lead on
-use Rattle.std.proofs.Common.{◌≡◌, ℕ, ◌+◌, ◌*◌, ◌^◌, ◌<◌, ◌≤◌, Bool, true, false, inl, inr, List, [], length, get_or, slice_index, refl, sym, ap, ◌∙◌, subst, arith, pow_mono, pow_pos}
+use Rattle.std.proofs.Common.{◌≡◌, ℕ, ◌+◌, ◌*◌, ◌^◌, ◌<◌, ◌≤◌, Bool, true, false, inl, inr, List, [], length, get_or, slice_index, sym, ap, ◌∙◌, subst, arith, pow_mono, pow_pos}
 use mir.Val.{bool_byte}
 use Rattle.std.proofs.lemmas.Bool.{cases_eq, cases_lt}
 use Rattle.std.proofs.lemmas.Grind.{pow_more}
@@ -30,10 +30,7 @@ pub record TellTo (t : TruthTables) (j : ℕ) (values : List ℕ) : Type 0 where
 
 -- the last bits and what stands before them are told by the sum
 parts_same : (a b : ℕ) (v w : Bool) → 2 * a + weight v ≡ 2 * b + weight w → (a ≡ b) × (v ≡ w)
-parts_same a b true true e = (omega arith, refl)
-parts_same a b true false e = absurd (omega arith)
-parts_same a b false true e = absurd (omega arith)
-parts_same a b false false e = (omega arith, refl)
+parts_same a b v w h = grind arith
 
 weight_small : (v : Bool) → weight v ≤ 1
 weight_small true = omega arith
@@ -41,14 +38,7 @@ weight_small false = omega arith
 
 -- one bit more fits 16 bits
 pub room : (value before : ℕ) (bit : Bool) → before < 16 → value < 2 ^ before → 2 * value + bool_byte bit < 65536
-room value before bit few below =
-    let p : 2 ^ before ≤ 2 ^ 15 = pow_mono {i = before} {j = 15} (omega arith) in
-    let s = byte_small bit in
-    omega arith
-  where
-    byte_small : (b : Bool) → bool_byte b ≤ 1
-    byte_small true = omega arith
-    byte_small false = omega arith
+room value before bit few below = grind (arith, pow_mono, bool_byte)
 
 -- with one function more
 pub tell_more : (t : TruthTables) (j : ℕ) (old new words : List ℕ) → TellTo t j old → length new ≡ length old → table_in t.inputs words ≡ table_at t j →
@@ -56,12 +46,12 @@ pub tell_more : (t : TruthTables) (j : ℕ) (old new words : List ℕ) → TellT
 tell_more t j old new words tell long table each = record {
   long = long ∙ tell.long;
   below = λ p. elim (cases_lt p (length old)) [
-    | inl l ↦ (let e = each p l in let b = tell.below p in let w = weight_small (packed_bit words p) in let s = pow_more 2 j in omega arith)
-    | inr ge ↦ (let z = past_end new p (omega arith) in let s = pow_pos (j + 1) in omega arith)
+    | inl l ↦ omega (arith, weight_small (packed_bit words p), pow_more 2 j)
+    | inr ge ↦ (let s = pow_pos (j + 1) in omega (arith, past_end new p (omega arith)))
   ];
   told = λ p q l m e i less.
       let parts = parts_same (slice_index old p) (slice_index old q) (packed_bit words p) (packed_bit words q)
-      (sym (each p (let s = tell.long in omega arith)) ∙ e ∙ each q (let s = tell.long in omega arith)) in
+      (sym (each p (omega arith)) ∙ e ∙ each q (omega arith)) in
       elim (cases_eq i j) [
         | inl s ↦ ap (λ k. value_at t k p) s ∙ sym (value p l) ∙ parts.1 ∙ value q m ∙ ap (λ k. value_at t k q) (sym s)
         | inr ne ↦ tell.told p q l m parts.0 i (omega arith)
@@ -75,12 +65,10 @@ tell_more t j old new words tell long table each = record {
 number_exchanged : (n : ℕ) (partners images : List ℕ) → IsExchange n partners → AreImages n partners images → (p : Point) → length p ≡ n →
     number (exchanged n partners p) ≡ slice_index images (number p)
 number_exchanged n partners images e are p l =
-    let small : number p < 2 ^ n = subst (λ k. number p < 2 ^ k) l (number-small p) in
-    let image = are.each (number p) small in
+    let image = are.each (number p) (subst (λ k. number p < 2 ^ k) l (number-small p)) in
     let long = length_exchanged n partners p in
     let other : number (exchanged n partners p) < 2 ^ n = subst (λ k. number (exchanged n partners p) < 2 ^ k) long (number-small (exchanged n partners p)) in
     same_from_bits_below n (number (exchanged n partners p)) (slice_index images (number p)) other image.small (λ y less.
-    let inside = e.inside y less in
     bit-number (exchanged n partners p) y (omega arith) ∙ ap weight (bit_exchanged n partners p y less)
     ∙ sym (image.bits y less ∙ bit-number p (slice_index partners y) (omega arith)))
 
@@ -90,7 +78,7 @@ pub symmetric_by_values : (t : TruthTables) (partners images values : List ℕ) 
     ((p : ℕ) → p < length values → slice_index values (slice_index images p) ≡ slice_index values p) → AreSymmetric t.inputs (functions t) partners
 unfolding SameFunction from_table
 symmetric_by_values t partners images values e are tell long alike k d less =
-    let fewer : k < length t.tables = (let l = length-map t.tables from_table in omega arith) in
+    let fewer : k < length t.tables = omega (arith, length-map t.tables from_table) in
     subst (λ f. SameFunction t.inputs f (λ p. f (exchanged t.inputs partners p))) (sym (get_or-map from_table t.tables k [] d fewer)) (at fewer)
   where
     at : k < length t.tables → SameFunction t.inputs (from_table (table_at t k)) (λ p. from_table (table_at t k) (exchanged t.inputs partners p))

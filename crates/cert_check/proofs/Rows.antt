@@ -4,7 +4,7 @@
 --     short_pairs, short_map      the pairs of entries, and what is made of each entry
 --     short_rank, short_count, short_among, among_short      numbers by first occurrence, the number of distinct entries, and the entries stay
 --     short_finer, short_then      shorter rows; one after the other
-use Rattle.std.proofs.Common.{◌≡◌, ℕ, zero, suc, ◌+◌, ◌-◌, ◌*◌, ◌/◌, ◌%◌, ◌^◌, ◌<◌, ◌≤◌, Bool, true, not, cond, zero-mul, inl, inr, List, [], ◌∷◌, ◌++◌, map, length, get_or, refl, sym, ap, ap₂, ◌∙◌, subst, arith}
+use Rattle.std.proofs.Common.{◌≡◌, ℕ, zero, suc, ◌+◌, ◌-◌, ◌*◌, ◌/◌, ◌%◌, ◌^◌, ◌<◌, ◌≤◌, Bool, true, not, cond, inl, inr, List, [], ◌∷◌, ◌++◌, map, length, get_or, refl, sym, ap, ap₂, ◌∙◌, subst, arith}
 use Rattle.std.specs.List.{range_with_len, take_while}
 use Rattle.std.proofs.lemmas.Bool.{false_from_ne_true}
 use Rattle.std.proofs.lemmas.List.Sums.{take_while-cons}
@@ -26,48 +26,34 @@ use Rattle.cert_check.specs.Rows.{AreWholeRows, IsShortened, IsWithout}
 pub rows_append : {K : Type 0} (w : ℕ) (xs ys : List K) → AreWholeRows w xs → AreWholeRows w ys → AreWholeRows w (xs ++ ys)
 rows_append w xs ys a b =
     let l = length-append xs ys in
-    let p = a.1 in
-    let q = b.1 in
-    let d : (a.0 + b.0) * w ≡ a.0 * w + b.0 * w = grind arith in
     (a.0 + b.0, omega arith)
 
 rows_finer : {K : Type 0} (m w : ℕ) (xs : List K) → AreWholeRows (m * w) xs → AreWholeRows w xs
-rows_finer m w xs a = let p = a.1 in let d : a.0 * (m * w) ≡ a.0 * m * w = grind arith in (a.0 * m, omega arith)
+rows_finer m w xs a = (a.0 * m, omega arith)
 
 -- what is left of whole rows without some of them
 pub rows_minus : (a b c w : ℕ) → a * w ≡ b * w + c → (rows : ℕ) × (c ≡ rows * w)
 rows_minus a zero c w e = (a, omega arith)
-rows_minus zero (suc b) c w e =
-    let d : suc b * w ≡ b * w + w = grind arith in
-    (0, (let z = zero-mul w in omega arith))
-rows_minus (suc a) (suc b) c w e =
-    let d : suc a * w ≡ a * w + w = grind arith in
-    let f : suc b * w ≡ b * w + w = grind arith in
-    rows_minus a b c w (omega arith)
+rows_minus zero (suc b) c w e = (0, omega arith)
+rows_minus (suc a) (suc b) c w e = grind (arith, rows_minus a b c w (omega arith))
 
 rows_without : {K : Type 0} (w : ℕ) (long short : List K) → AreWholeRows w long → IsWithout w long short → AreWholeRows w short
 rows_without w long short a h =
     let head = h.front ++ (h.part ++ h.between) in
-    let l = ap length h.long_is ∙ length-append head (h.part ++ h.rest) in
-    let m = length-append h.part h.rest in
-    let s = ap length h.short_is ∙ length-append head h.rest in
-    let p = a.1 in
-    let q = h.part_rows.1 in
-    rows_minus a.0 h.part_rows.0 (length short) w (omega arith)
+    rows_minus a.0 h.part_rows.0 (length short) w (omega (
+      arith,
+      ap length h.long_is ∙ length-append head (h.part ++ h.rest),
+      length-append h.part h.rest,
+      ap length h.short_is ∙ length-append head h.rest,
+    ))
 
 pub rows_left : {K : Type 0} (w steps : ℕ) (long short : List K) → AreWholeRows w long → IsShortened w steps long short → AreWholeRows w short
 rows_left w zero long short a h = subst (AreWholeRows w) h a
 rows_left w (suc steps) long short a h = rows_without w h.0 short (rows_left w steps long h.0 a h.1) h.2
 
 pub short_fewer : {K : Type 0} (w steps : ℕ) (long short : List K) → IsShortened w steps long short → length short ≤ length long
-short_fewer w zero long short h = let e = ap length h in omega arith
-short_fewer w (suc steps) long short h =
-    let r = short_fewer w steps long h.0 h.1 in
-    let head = h.2.front ++ (h.2.part ++ h.2.between) in
-    let l = ap length h.2.long_is ∙ length-append head (h.2.part ++ h.2.rest) in
-    let m = length-append h.2.part h.2.rest in
-    let s = ap length h.2.short_is ∙ length-append head h.2.rest in
-    omega arith
+short_fewer w zero long short h = omega (arith, ap length h)
+short_fewer w (suc steps) long short h = grind (arith, length-append, short_fewer w steps long h.0 h.1)
 
 -- one after the other
 pub short_then : {K : Type 0} (w s steps : ℕ) (long mid short : List K) → IsShortened w s long mid → IsShortened w steps mid short →
@@ -78,17 +64,7 @@ short_then w s (suc steps) long mid short h k = let r = short_then w s steps lon
 -- ---- shorter rows, and one more part
 
 finer : {K : Type 0} (m w : ℕ) (long short : List K) → IsWithout (m * w) long short → IsWithout w long short
-finer m w long short h = record {
-  front = h.front;
-  part = h.part;
-  between = h.between;
-  rest = h.rest;
-  long_is = h.long_is;
-  short_is = h.short_is;
-  front_rows = rows_finer m w h.front h.front_rows;
-  part_rows = rows_finer m w h.part h.part_rows;
-  between_rows = rows_finer m w h.between h.between_rows;
-}
+finer m w long short h = search rows_finer
 
 short_parts : {K : Type 0} (m w steps : ℕ) (long short : List K) → IsShortened (m * w) steps long short → IsShortened w steps long short
 short_parts m w zero long short h = h
@@ -109,19 +85,7 @@ module _ {K L : Type 0} (f : K → L) where
   head_map a b c = map-append f a (b ++ c) ∙ ap (λ us. map f a ++ us) (map-append f b c)
 
   without_map : (w : ℕ) (long short : List K) → IsWithout w long short → IsWithout w (map f long) (map f short)
-  without_map w long short h = record {
-    front = map f h.front;
-    part = map f h.part;
-    between = map f h.between;
-    rest = map f h.rest;
-    long_is = ap (map f) h.long_is ∙ map-append f (h.front ++ (h.part ++ h.between)) (h.part ++ h.rest)
-        ∙ ap₂ (λ us vs. us ++ vs) (head_map h.front h.part h.between) (map-append f h.part h.rest);
-    short_is = ap (map f) h.short_is ∙ map-append f (h.front ++ (h.part ++ h.between)) h.rest
-        ∙ ap (λ us. us ++ map f h.rest) (head_map h.front h.part h.between);
-    front_rows = rows_map w h.front h.front_rows;
-    part_rows = rows_map w h.part h.part_rows;
-    between_rows = rows_map w h.between h.between_rows;
-  }
+  without_map w long short h = grind (arith, map-append, head_map, rows_map)
 
   pub short_map : (w steps : ℕ) (long short : List K) → IsShortened w steps long short → IsShortened w steps (map f long) (map f short)
   short_map w zero long short h = ap (map f) h
@@ -135,10 +99,7 @@ module _ (step : ℕ) (some : 0 < step) where
   pairs_append xs ys a =
       let l = length-append xs ys in
       let p = a.1 in
-      let d : a.0 * (2 * step) ≡ 2 * (a.0 * step) = grind arith in
-      let half : length xs / 2 ≡ a.0 * step = omega arith in
-      let all : length (xs ++ ys) / 2 ≡ length xs / 2 + length ys / 2 = omega arith in
-      ap (λ k. map (pair_at (xs ++ ys) step) (range_with_len 0 k)) all
+      ap (λ k. map (pair_at (xs ++ ys) step) (range_with_len 0 k)) (omega arith)
       ∙ ap (map (pair_at (xs ++ ys) step)) (range_append 0 (length xs / 2) (length ys / 2))
       ∙ map-append (pair_at (xs ++ ys) step) (range_with_len 0 (length xs / 2)) (range_with_len (0 + length xs / 2) (length ys / 2))
       ∙ ap₂ (λ us vs. us ++ vs)
@@ -147,35 +108,26 @@ module _ (step : ℕ) (some : 0 < step) where
     where
       left : (i : ℕ) → i < length xs / 2 → pair_at (xs ++ ys) step (0 + i) ≡ pair_at xs step (0 + i)
       left i h =
-          let w = pair_within step a.0 (length xs) (0 + i) some a.1 (omega arith) in
           ap₂ (λ (u v : ℕ). (u, v)) (get_or_append_left xs ys 0 (low_place step (0 + i)) (omega arith))
-          (get_or_append_left xs ys 0 (low_place step (0 + i) + step) w)
+          (get_or_append_left xs ys 0 (low_place step (0 + i) + step) (pair_within step a.0 (length xs) (0 + i) some a.1 (omega arith)))
 
       right : (i : ℕ) → i < length ys / 2 → pair_at (xs ++ ys) step (0 + length xs / 2 + i) ≡ pair_at ys step (0 + i)
       right i h =
           let p = a.1 in
-          let d : a.0 * (2 * step) ≡ 2 * (a.0 * step) = grind arith in
           let k = 0 + i in
           let v = div-add-mod' k step in
           let m = mod-lt k some in
-          let f : (a.0 + k / step) * step + k % step ≡ a.0 * step + (k / step * step + k % step) = grind arith in
           let e : 0 + length xs / 2 + i ≡ (a.0 + k / step) * step + k % step = omega arith in
           let q = ap (λ z. z / step) e ∙ div-mul-add (a.0 + k / step) step (k % step) m in
           let r = ap (λ z. z % step) e ∙ mod-mul-add (a.0 + k / step) step (k % step) m in
-          let g : (a.0 + k / step) * (2 * step) + k % step ≡ a.0 * (2 * step) + (k / step * (2 * step) + k % step) = grind arith in
           let low : low_place step (0 + length xs / 2 + i) ≡ length xs + low_place step (0 + i) =
-          ap₂ (λ (u v : ℕ). u * (2 * step) + v) q r ∙ g ∙ ap (λ z. z + low_place step k) (sym p) in
-          let high : low_place step (0 + length xs / 2 + i) + step ≡ length xs + (low_place step (0 + i) + step) = omega arith in
+          ap₂ (λ (u v : ℕ). u * (2 * step) + v) q r ∙ grind arith ∙ ap (λ z. z + low_place step k) (sym p) in
           ap₂ (λ (u v : ℕ). (u, v))
           (ap (λ k. get_or (xs ++ ys) k 0) low ∙ get_or-append-add xs ys (low_place step (0 + i)) 0)
-          (ap (λ k. get_or (xs ++ ys) k 0) high ∙ get_or-append-add xs ys (low_place step (0 + i) + step) 0)
+          (ap (λ k. get_or (xs ++ ys) k 0) (omega arith) ∙ get_or-append-add xs ys (low_place step (0 + i) + step) 0)
 
   pub rows_pairs : (xs : List ℕ) → AreWholeRows (2 * step) xs → AreWholeRows step (pairs xs step)
-  rows_pairs xs a =
-      let p = a.1 in
-      let l = length-pairs xs step in
-      let d : a.0 * (2 * step) ≡ 2 * (a.0 * step) = grind arith in
-      (a.0, omega arith)
+  rows_pairs xs a = grind (arith, length-pairs)
 
   head_pairs : (a b c : List ℕ) → AreWholeRows (2 * step) a → AreWholeRows (2 * step) b →
       pairs (a ++ (b ++ c)) step ≡ pairs a step ++ (pairs b step ++ pairs c step)
@@ -237,16 +189,7 @@ module _ {K : Type 0} (eq : K → K → Bool) (decides : (x y : K) → (eq x y �
 
   rank_part : (head part rest : List K) → Within part head → (t : K) → rank eq (head ++ (part ++ rest)) t ≡ rank eq (head ++ rest) t
   unfolding rank ahead
-  rank_part head part rest w t =
-      elim (among_or_not eq decides t head) [
-        | inl a ↦ rank_found eq decides head (part ++ rest) t a ∙ sym (rank_found eq decides head rest t a)
-        | inr n ↦
-            ap (distinct_count eq)
-            (ahead_absent head (part ++ rest) t n
-            ∙ ap (λ us. head ++ us) (ahead_absent part rest t (λ a. n (w t a))))
-            ∙ count_part head part (ahead t rest) w
-            ∙ ap (distinct_count eq) (sym (ahead_absent head rest t n))
-      ]
+  rank_part head part rest w t = grind (arith, among_or_not, rank_found, ahead_absent, count_part, ahead)
 
   module _ (w : ℕ) (long short : List K) (h : IsWithout w long short) where
     head : List K

@@ -56,7 +56,7 @@ module _ (t : TableOf) (x : ℕ) (inside : x < t.problem.inputs) (below : x < t.
         let p = place_of 0 h.whole (get_or numbers i 0) a in
         subst (λ c. c < length masks) p.1.1 (whole_ready.classes p.0 p.1.0);
     few = whole_ready.few;
-    few_entries = (let f = short_fewer (2 * 2 ^ x) h.steps h.whole numbers short in let g = whole_ready.few_entries in omega arith);
+    few_entries = omega (arith, short_fewer (2 * 2 ^ x) h.steps h.whole numbers short);
   }
     where
       same_number : ℕ → ℕ → Bool

@@ -19,63 +19,24 @@ use Rattle.cert_check.proofs.HighSets.{double, high_more, high_or, multiple, ste
 
 -- the first set of a block has variables below n
 pub block_small : (n set y : ℕ) → IsBlock n set y → set < 2 ^ n
-block_small n set y block =
-    let some = pow_pos y in
-    let room = block.room in
-    omega arith
+block_small n set y block = grind (arith, pow_pos)
 
 -- it has none from n on
 pub whole_part : (n part end y : ℕ) → y ≡ n → IsBlock n part end → part / 2 ^ y * 2 ^ y ≡ 0
-whole_part n part end y all block =
-    let small = block_small n part end block in
-    let power = ap (λ k. 2 ^ k) all in
-    let none : part / 2 ^ y ≡ 0 = div-eq_of_lt (omega arith) in
-    ap (λ q. q * 2 ^ y) none ∙ zero-mul (2 ^ y)
+whole_part n part end y all block = grind (arith, block_small, div-eq_of_lt, zero-mul)
 
 module _ (P : TruthTables) where
   -- the table of the empty set
   pub stands_start : (y : ℕ) (t : TableOf) → y ≡ P.inputs → t ≡ table_at P 0 P.inputs → StandsAt P y t
-  stands_start y t all made =
-      let set : t.set ≡ 0 = ap (λ (u : TableOf). u.set) made in
-      let level : t.level ≡ P.inputs = ap (λ (u : TableOf). u.level) made in
-      let power = ap (λ k. 2 ^ k) all in
-      record {
-        problem = ap (λ (u : TableOf). u.problem) made;
-        inside = omega arith;
-        level = omega arith;
-        block = record {
-          aligned = ap (λ k. k % 2 ^ y) (set ∙ sym (zero-mul (2 ^ y))) ∙ multiple 0 (2 ^ y) (pow_pos y);
-          room = omega arith;
-        };
-      }
+  stands_start y t all made = grind (arith, zero-mul, multiple, pow_pos)
 
   -- a table with shorter rows
   pub stands_shorter : (y : ℕ) (t u : TableOf) → StandsAt P y t → u ≡ rows_at t y → StandsAt P y u
-  stands_shorter y t u stands made =
-      let level : u.level ≡ y = ap (λ (v : TableOf). v.level) made in
-      record {
-        problem = ap (λ (v : TableOf). v.problem) made ∙ stands.problem;
-        inside = stands.inside;
-        level = omega arith;
-        block = subst (λ k. IsBlock P.inputs k y) (sym (ap (λ (v : TableOf). v.set) made)) stands.block;
-      }
+  stands_shorter y t u stands made = grind arith
 
   -- the lower half
   pub stands_lower : (x y : ℕ) (t : TableOf) → y ≡ x + 1 → StandsAt P y t → StandsAt P x t
-  stands_lower x y t next stands =
-      let inside = stands.inside in
-      let level = stands.level in
-      let room = stands.block.room in
-      let two = double x y next in
-      record {
-        problem = stands.problem;
-        inside = omega arith;
-        level = omega arith;
-        block = record {
-          aligned = (step_down t.set x (ap (λ k. t.set % 2 ^ k) (sym next) ∙ stands.block.aligned)).0;
-          room = omega arith;
-        };
-      }
+  stands_lower x y t next stands = grind (arith, double, step_down)
 
   -- all that are lower
   pub stands_below : (x y : ℕ) (t : TableOf) → x ≤ y → StandsAt P y t → StandsAt P x t
@@ -110,31 +71,15 @@ module _ (P : TruthTables) where
 
   -- the set of a part's table
   pub part_set : (part end : ℕ) (root t : TableOf) → IsBlock P.inputs part end → IsPartTable root part end t → t.set ≡ part
-  part_set part end root t block is =
-      let whole = block.aligned in
-      let rest = div-add-mod' part (2 ^ end) in
-      is.set ∙ (let e : part / 2 ^ end * 2 ^ end ≡ part = omega arith in e)
+  part_set part end root t block is = grind (arith, div-add-mod')
 
   -- the table of a part
   pub stands_part : (part end : ℕ) (root t : TableOf) → IsBlock P.inputs part end → end ≤ P.inputs → root.problem ≡ P → IsPartTable root part end t →
       StandsAt P end t
-  stands_part part end root t block inside same is = record {
-    problem = is.problem ∙ same;
-    inside = inside;
-    level = is.level;
-    block = subst (λ k. IsBlock P.inputs k end) (sym (part_set part end root t block is)) block;
-  }
+  stands_part part end root t block inside same is = grind (arith, part_set)
 
   -- what the table tells of the widths into the upper half's first set
   pub wide_upper : (x y : ℕ) (t : TableOf) (needed : List ℕ) → y ≡ x + 1 → StandsAt P y t → IsWide (rows_with t x) needed →
       (z : ℕ) → has (members P.inputs (t.set + 2 ^ x)) z ≡ true →
       slice_index needed z ≤ width P.inputs (functions P) (without z (members P.inputs (t.set + 2 ^ x))) z
-  wide_upper x y t needed next stands wide z there =
-      let set : bit_or t.set (2 ^ x) ≡ t.set + 2 ^ x = high_or t.set x (ap (λ k. t.set % 2 ^ k) (sym next) ∙ stands.block.aligned) in
-      let whole : members t.problem.inputs (bit_or t.set (2 ^ x)) ≡ members P.inputs (t.set + 2 ^ x) =
-      λ i. members (stands.problem i).inputs (set i) in
-      let enough = wide z (ap (λ S. has S z) whole ∙ there) in
-      let same : width t.problem.inputs (functions t.problem) (without z (members t.problem.inputs (bit_or t.set (2 ^ x)))) z
-      ≡ width P.inputs (functions P) (without z (members P.inputs (t.set + 2 ^ x))) z =
-      λ i. width (stands.problem i).inputs (functions (stands.problem i)) (without z (whole i)) z in
-      omega arith
+  wide_upper x y t needed next stands wide z there = grind (arith, bit_or, high_or)

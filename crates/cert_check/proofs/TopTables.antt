@@ -1,7 +1,7 @@
 -- The tables of sets of the highest variables.
 --     AreTopsTo P x y made tops      tables from which a walk can go on from x on, the first ones from y on
 --     tops_start, tops_more      before the first one is added, and with one more
-use Rattle.std.proofs.Common.{◌≡◌, ℕ, ◌+◌, ◌<◌, ◌≤◌, inl, inr, List, [], ◌∷◌, ◌++◌, length, slice_index_or, sym, subst, arith}
+use Rattle.std.proofs.Common.{◌≡◌, ℕ, ◌+◌, ◌<◌, ◌≤◌, List, [], ◌∷◌, ◌++◌, length, slice_index_or, arith}
 use Rattle.std.specs.List.{All}
 use Rattle.std.proofs.lemmas.Bool.{cases_lt}
 use Rattle.std.proofs.lemmas.List.{get_or_append_left, get_or_at, length_push}
@@ -27,14 +27,4 @@ module _ (P : TruthTables) (x y made : ℕ) where
 
   -- with one more
   pub tops_more : (t : TableOf) (tops : List TableOf) → AreTopsTo P x y made tops → StandsAt P x t → AreTopsTo P x y made (tops ++ t ∷ [])
-  tops_more t tops are stands = record {
-    before = λ k d l. subst (StandsAt P y) (sym (get_or_append_left tops (t ∷ []) d k (let m = are.long in omega arith))) (are.before k d l);
-    all = λ k d l. elim (cases_lt k (length tops)) [
-      | inl less ↦ subst (StandsAt P x) (sym (get_or_append_left tops (t ∷ []) d k less)) (are.all k d less)
-      | inr ge ↦
-          let long = length_push tops t in
-          let last : k ≡ length tops = omega arith in
-          subst (StandsAt P x) (sym (get_or_at tops t [] d k (sym last))) stands
-    ];
-    long = (let long = length_push tops t in let m = are.long in omega arith);
-  }
+  tops_more t tops are stands = grind (arith, get_or_append_left, cases_lt, length_push, get_or_at)

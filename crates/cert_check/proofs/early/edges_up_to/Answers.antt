@@ -6,16 +6,12 @@ use Rattle.cert_check.proofs.early.edges_up_to.Goals.{then-smallest_source-last,
 
 pub loop-set-preserved : goal.loop-set-preserved
 loop-set-preserved c =
-    let long = c.loop-set.invariant.long in
-    let most = c.requires in
-    let t = c.loop-set-test.true in
-    let all = c.len-set-end.ensures in
     let start = c.in_ok-early.ensures.len in
     elim c.if-smallest_source-last.branch [
       | then-smallest_source-last w ↦
           let less : c.loop-set.set < length c.args.judged.now = omega arith in
           let past : IsPast c.args.last c.loop-set.set =
-          λ S x e. (let s = c.smallest_source.ensures S x e in let g = w.if-smallest_source-last.true in omega arith) in
+          λ S x e. (omega (arith, c.smallest_source.ensures S x e)) in
           rw (w.early-is) (fewer_step (IsPast c.args.last) c.args.judged.now c.loop-set.early.items c.loop-set.set less c.loop-set.invariant past)
       | else-smallest_source-last w ↦ rw (w.early-is) c.loop-set.invariant
     ]

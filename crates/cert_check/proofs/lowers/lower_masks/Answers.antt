@@ -2,7 +2,6 @@ use Rattle.std.proofs.Common.{ℕ, ◌<◌, ◌^◌, bit_or, length, set, refl, 
 use Rattle.std.proofs.lemmas.List.{length-set, get_or_default}
 use Rattle.class_laws.specs.Places as places
 use Rattle.class_laws.proofs.Index.{length-pairs, pair_listed}
-use Rattle.class_laws.proofs.Joined.{pair_classes}
 use Rattle.cert_check.specs.LowerClasses.{AreTold}
 use Rattle.cert_check.proofs.LowerMarks.{one_told}
 use Rattle.cert_check.proofs.lowers.lower_masks.Goals as goal
@@ -16,7 +15,6 @@ loop-j-preserved c =
     let lower = c.pair_at-pair.result.0 in
     let l = length-pairs c.args.numbers.now (2 ^ c.args.x) in
     let is = pair_listed c.args.numbers.now (2 ^ c.args.x) j small ∙ sym c.pair_at-pair.ensures in
-    let classes = (pair_classes c.args.numbers.now c.args.x (length c.args.masks.now) j c.requires.paired.whole c.requires.below small).0 in
     let same = ap (λ (p : ℕ × ℕ). p.0) c.pair_at-pair.ensures in
     let long = c.loop-j.invariant.long in
     let within : lower < length told = omega arith in

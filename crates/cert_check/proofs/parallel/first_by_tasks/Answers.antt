@@ -1,4 +1,4 @@
-use Rattle.std.proofs.Common.{◌≡◌, ℕ, ◌-◌, ◌*◌, ◌<◌, ◌%◌, ◌^◌, IfOk, List, Option, Result, ◌∙◌, subst, arith}
+use Rattle.std.proofs.Common.{ℕ, ◌-◌, ◌*◌, ◌<◌, ◌%◌, ◌^◌, IfOk, List, Option, Result, ◌∙◌, subst, arith}
 use Rattle.std.specs.declared.alloc.AllocError.{AllocError}
 use Rattle.std.specs.List.{AllZip}
 use Rattle.std.proofs.lemmas.Nat.{one_shl}
@@ -15,8 +15,6 @@ pub collect-requires-clause-ready : goal.collect-requires-clause-ready
 collect-requires-clause-ready g c =
     let ends = c.into_par_iter.ensures in
     let end = c.args.end in
-    let most = c.requires.most in
-    let shift = one_shl end 64 (omega arith) in
     let inside =
     nat_range-All (λ i. (i < 2 ^ end) × CanStart c.args.root c.args.tops.now c.args.y end) 0 (1 * 2 ^ end % 18446744073709551616)
     (λ i low high. (omega arith, c.requires)) in
@@ -24,23 +22,16 @@ collect-requires-clause-ready g c =
 
 pub returns : goal.returns
 returns g c =
-    let ends = c.into_par_iter.ensures in
     let P = c.args.root.edges.problem.now in
     let end = c.args.end in
-    let most = c.requires.most in
-    let within = c.requires.within in
-    let whole = c.requires.whole in
     let shift = one_shl end 64 (omega arith) in
     let found = c.in_ok-parts.ensures in
-    let size : 1 * 2 ^ end % 18446744073709551616 - 0 ≡ 2 ^ end = omega arith in
     let from = rw (c.map.ensures.base, c.with_min_len.ensures.base) at found.1.1 in
-    let places = from ∙ (λ i. nat_range (ends.0 i) (ends.1 i)) in
-    let results = rw c.map.ensures.f at found.1.2 in
+    let places = from ∙ (λ i. nat_range (c.into_par_iter.ensures.0 i) (c.into_par_iter.ensures.1 i)) in
     let parts = subst
     (λ m. AllZip (λ k (r : Result (Option (ℕ × ℕ)) AllocError). IfOk r (IsFirstEdge (FailsInBlock c.args.root.edges (part_at end k * 2 ^ (m - end)) (m - end))))
-    found.1.0 found.0) whole results in
-    let same = c.deref.ensures.value ∙ found.2 in
+    found.1.0 found.0) c.requires.whole (rw c.map.ensures.f at found.1.2) in
     IfOk-then c.first_of_parts.result _ _ c.first_of_parts.ensures (λ edge first.
     parts_first P.inputs (functions P) c.args.root.edges.values.now c.args.root.edges.judged.now end (1 * 2 ^ end % 18446744073709551616 - 0) found.1.0 found.0
-    places size (omega arith) (omega arith) c.args.root.edges.tables.judged_all parts edge
-    (subst (λ (ps : List (Result (Option (ℕ × ℕ)) AllocError)). IsFirstOfParts ps edge) same first))
+    places (omega arith) (omega arith) (omega arith) c.args.root.edges.tables.judged_all parts edge
+    (subst (λ (ps : List (Result (Option (ℕ × ℕ)) AllocError)). IsFirstOfParts ps edge) (c.deref.ensures.value ∙ found.2) first))

@@ -1,44 +1,24 @@
-use Rattle.std.proofs.Common.{ℕ, IfSome, None, Some, sym, subst, arith}
+use Rattle.std.proofs.Common.{ℕ, IfSome, Some, subst, arith}
 use Rattle.std.proofs.Math.Pow.{pow_mono}
 use Rattle.rayon.proofs.ListFacts.{IfOk-then}
 use Rattle.order_model.specs.Problems.{functions}
-use Rattle.cert_check.specs.Edges.{AreEdgeTables, EdgeFails, IsFirstEdge}
+use Rattle.cert_check.specs.Edges.{EdgeFails, IsFirstEdge}
 use Rattle.cert_check.specs.Walks.{AreEnough}
 use Rattle.cert_check.proofs.FewerEdges.{fewer_tables, first_again}
 use Rattle.cert_check.proofs.LedOn.{none_lost}
 use Rattle.cert_check.proofs.parallel.first_failure.Goals as goal
 
 pub invariant_of-fewer : goal.invariant_of-fewer
-invariant_of-fewer g c =
-    let are = subst (λ o. IfSome o (λ w. AreEnough c.args.edges w.items)) c.in-Some.is c.in_ok-judged.ensures in
-    record {
-      tables = subst (AreEdgeTables c.args.edges.problem.now.inputs c.args.edges.values.now) (sym c.deref.ensures.value)
-          (fewer_tables are c.args.edges.problem.now.inputs c.args.edges.values.now c.args.edges.tables);
-    }
+invariant_of-fewer g c = grind (arith, fewer_tables)
 
 pub edges_up_to-requires : goal.edges_up_to-requires
-edges_up_to-requires g c =
-    let few = c.args.edges.tables.few in
-    let most = pow_mono {i = c.args.edges.problem.now.inputs} {j = 16} few in
-    let all = c.args.edges.tables.judged_all in
-    omega arith
+edges_up_to-requires g c = grind (arith, pow_mono)
 
 pub invariant_of-early : goal.invariant_of-early
-invariant_of-early g c =
-    record {
-      tables = subst (AreEdgeTables c.args.edges.problem.now.inputs c.args.edges.values.now) (sym c.deref-2.ensures.value)
-          (fewer_tables c.in_ok-judged-2.ensures c.args.edges.problem.now.inputs c.args.edges.values.now c.args.edges.tables);
-    }
+invariant_of-early g c = grind (arith, fewer_tables)
 
 pub returns-in_default-2 : goal.returns-in_default-2
-returns-in_default-2 g c =
-    let n = c.args.edges.problem.now.inputs in
-    let F = functions c.args.edges.problem.now in
-    let v = c.args.edges.values.now in
-    let are = subst (λ o. IfSome o (λ w. AreEnough c.args.edges w.items)) c.in-Some.is c.in_ok-judged.ensures in
-    none_lost n F v c.args.edges.judged.now c.in-Some.judged.items c.args.edges.tables are
-    (subst (λ us. IsFirstEdge (EdgeFails n F v us) None) c.deref.ensures.value
-    (subst (IsFirstEdge (EdgeFails n F v c.deref.result.now)) c.in_default-2.is c.in_ok-last.ensures))
+returns-in_default-2 g c = grind (arith, none_lost)
 
 pub returns : goal.returns
 returns g c =

@@ -6,33 +6,16 @@ use Rattle.cert_check.proofs.points.append_bits.Goals as goal
 -- what is read at a place that was not written
 read_below : (new old : List ℕ) (p v before : ℕ) → p < length new → v ≡ get_or new p v → slice_index new p ≡ slice_index old p →
     slice_index old p < 2 ^ before → v < 2 ^ before
-read_below new old p v before less read same below =
-    let e : v ≡ slice_index old p = read ∙ get_or_default new p v 0 less ∙ same in
-    omega arith
+read_below new old p v before less read same below = omega (arith, read ∙ get_or_default new p v 0 less ∙ same)
 
 pub overflow_mul-index : goal.overflow_mul-index
 overflow_mul-index c =
     let old = c.args.values.now.items in
     let new = c.loop-point.values.items in
     let p = c.loop-point.point in
-    let l = c.loop-point.invariant.long in
-    let t = c.loop-point-test.true in
-    let n = c.len-point-end.ensures in
     let below =
     read_below new old p c.index.result.now c.args.before (omega arith) c.index.ensures (c.loop-point.invariant.rest p (omega arith)) (c.requires.below p) in
-    let r = room c.index.result.now c.args.before false c.requires.few below in
-    omega arith
+    omega (arith, room c.index.result.now c.args.before false c.requires.few below)
 
 pub overflow_add-index : goal.overflow_add-index
-overflow_add-index c =
-    let old = c.args.values.now.items in
-    let new = c.loop-point.values.items in
-    let p = c.loop-point.point in
-    let l = c.loop-point.invariant.long in
-    let t = c.loop-point-test.true in
-    let n = c.len-point-end.ensures in
-    let below =
-    read_below new old p c.index.result.now c.args.before (omega arith) c.index.ensures (c.loop-point.invariant.rest p (omega arith)) (c.requires.below p) in
-    let r = room c.index.result.now c.args.before c.bit_of.result c.requires.few below in
-    let f = c.from.ensures in
-    omega arith
+overflow_add-index c = grind (arith, read_below, room)

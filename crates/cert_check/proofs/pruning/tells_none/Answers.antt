@@ -12,37 +12,20 @@ use Rattle.cert_check.proofs.Stands.{wide_upper}
 use Rattle.cert_check.proofs.pruning.tells_none.Goals as goal
 
 pub overflow_add-set : goal.overflow_add-set
-overflow_add-set c =
-    let x = c.args.at.free - 1 in
-    let n = c.args.at.edges.problem.now.inputs in
-    let free = c.requires in
-    let few = c.args.at.edges.tables.few in
-    let inside = c.args.at.stands.inside in
-    let room = c.args.at.stands.block.room in
-    let set = c.set.ensures in
-    let shift = one_shl x 16 (omega arith) in
-    let two = double x c.args.at.free (omega arith) in
-    let some = pow_pos x in
-    let most = pow_mono {i = n} {j = 16} few in
-    omega arith
+overflow_add-set c = grind (arith, one_shl, double, pow_pos, pow_mono)
 
 pub returns : goal.returns
 returns c = IfOk-then c.tells_wide.result _ _ c.tells_wide.ensures (λ wide told yes.
     let P = c.args.at.edges.problem.now in
-    let t = c.args.at.table.now in
-    let y = c.args.at.free in
-    let x = y - 1 in
-    let free = c.requires in
+    let x = c.args.at.free - 1 in
     let values = c.args.at.edges.values.now in
     let judged = c.args.at.edges.judged.now in
-    let few = c.args.at.edges.tables.few in
-    let inside = c.args.at.stands.inside in
     let shift = one_shl x 16 (omega arith) in
-    let here : c.set.result + 1 * 2 ^ x % 2 ^ 16 ≡ t.set + 2 ^ x = λ k. c.set.ensures k + shift k in
+    let here : c.set.result + 1 * 2 ^ x % 2 ^ 16 ≡ c.args.at.table.now.set + 2 ^ x = λ k. c.set.ensures k + shift k in
     let needed = c.in_ok-needed.needed.items in
-    none_into P.inputs (functions P) values judged (t.set + 2 ^ x) x needed c.args.at.edges.tables.members
-    (λ U above below. c.if-has_later.ensures refl U (let s = here in omega arith) (let s = here in omega arith))
+    none_into P.inputs (functions P) values judged (c.args.at.table.now.set + 2 ^ x) x needed c.args.at.edges.tables.members
+    (λ U above below. c.if-has_later.ensures refl U (omega arith) (omega arith))
     (λ z b. subst (λ T. slice_index values T ≤ slice_index values (T - 2 ^ z) + slice_index needed z) here
     (c.in_ok-needed.ensures.enough z (ap (λ T. bit_at (slice_index judged T) z) here ∙ b)))
-    (wide_upper P x y t needed (omega arith) c.args.at.stands
-    (subst (IsWide (rows_with t x)) c.deref.ensures.value (told yes))))
+    (wide_upper P x c.args.at.free c.args.at.table.now needed (omega arith) c.args.at.stands
+    (subst (IsWide (rows_with c.args.at.table.now x)) c.deref.ensures.value (told yes))))

@@ -13,14 +13,12 @@ loop-number-preserved c =
     let number = c.loop-number.number in
     let kept = c.loop-number.kept.items in
     let rows = c.requires.rows in
-    let s = one_shl c.args.y 64 (let v = c.requires.variable in omega arith) in
+    let s = one_shl c.args.y 64 (omega arith) in
     let step = 1 * 2 ^ c.args.y % 18446744073709551616 in
     let row = take ((number + 1) * step - number * step) (drop (number * step) numbers) in
     let many = ap (λ k. length numbers / k) s ∙ rows_are w rows.0 (length numbers) (pow_pos c.args.y) rows.1 in
-    let t = c.loop-number-test.true in
     let below : number + 1 ≤ rows.0 = omega arith in
     let inside = mul-le-mul_right w below in
-    let l = rows.1 in
     let is = slice_is step w number numbers s in
     let some = c.loop-number.invariant.buckets in
     elim c.if-not-is_kept.branch [
@@ -49,10 +47,7 @@ returns c =
     let w = 2 ^ c.args.y in
     let numbers = c.args.numbers.now in
     let rows = c.requires.rows in
-    let s = one_shl c.args.y 64 (let v = c.requires.variable in omega arith) in
+    let s = one_shl c.args.y 64 (omega arith) in
     let many = ap (λ k. length numbers / k) s ∙ rows_are w rows.0 (length numbers) (pow_pos c.args.y) rows.1 in
-    let t = c.loop-number-test.false in
     let below : rows.0 ≤ c.loop-number.number = omega arith in
-    let all = mul-le-mul_right w below in
-    let l = rows.1 in
-    kept_all w numbers c.loop-number.kept.items c.loop-number.number (omega arith) c.loop-number.invariant.kept
+    kept_all w numbers c.loop-number.kept.items c.loop-number.number (omega (arith, mul-le-mul_right w below)) c.loop-number.invariant.kept

@@ -8,10 +8,9 @@ pub loop-i-init : goal.loop-i-init
 loop-i-init c =
     let P = c.args.root.edges.problem.now in
     let y = c.args.root.free in
-    let free = c.requires.free in
     let next : y ≡ y - 1 + 1 = omega arith in
     let start =
-    tops_start P (y - 1) y c.len-made.result c.args.tops.now.items next (let l = c.len-made.ensures in omega arith) c.requires.tops in
+    tops_start P (y - 1) y c.len-made.result c.args.tops.now.items next (omega arith) c.requires.tops in
     elim c.match-branch-2.branch [
       | in-Some+in_ok-push w ↦
           let stands = subst (λ o. IfSome o (StandsAt P (y - 1))) w.in-Some.is c.in_ok-larger.ensures in
@@ -29,11 +28,10 @@ pub loop-i-preserved : goal.loop-i-preserved
 loop-i-preserved c =
     let P = c.args.root.edges.problem.now in
     let y = c.args.root.free in
-    let are = c.loop-i.invariant in
     elim c.match-branch-5.branch [
       | in-Some-2+in_ok-push-2 w ↦
           let stands = subst (λ o. IfSome o (StandsAt P (y - 1))) w.in-Some-2.is c.in_ok-larger-2.ensures in
           subst (AreTopsTo P (y - 1) y c.len-made.result) (sym (ap (λ v. v.items) w.tops-is ∙ w.in_ok-push-2.ensures.items))
-          (tops_more P (y - 1) y c.len-made.result w.in-Some-2.larger c.loop-i.tops.items are stands)
-      | in_default-2 w ↦ subst (AreTopsTo P (y - 1) y c.len-made.result) (sym (ap (λ v. v.items) w.tops-is)) are
+          (tops_more P (y - 1) y c.len-made.result w.in-Some-2.larger c.loop-i.tops.items c.loop-i.invariant stands)
+      | in_default-2 w ↦ subst (AreTopsTo P (y - 1) y c.len-made.result) (sym (ap (λ v. v.items) w.tops-is)) c.loop-i.invariant
     ]

@@ -1,5 +1,4 @@
-use Rattle.std.proofs.Common.{◌≡◌, ◌-◌, Option, arith, subst, sym}
-use Rattle.std.specs.Int.{bit_at}
+use Rattle.std.proofs.Common.{◌-◌, Option, arith, subst, sym}
 use Rattle.std.proofs.lemmas.Bool.{iff_false}
 use Rattle.std.proofs.lemmas.Nat.Bits.{bit_at-lt}
 use Rattle.cert_check.specs.Blocks.{IsPartTable, table_or}
@@ -9,22 +8,13 @@ use Rattle.cert_check.proofs.walk.part_table.Goals as goal
 use Rattle.cert_check.proofs.walk.part_table.Goals.{in-Some+in_ok-larger-in-Some, in-None+in_ok-larger-in-None}
 
 pub with_variable-requires-clause-free : goal.with_variable-requires-clause-free
-with_variable-requires-clause-free c =
-    let more = c.loop-x-test.true in
-    let root = c.args.at.table.now in
-    let is = subst (λ (o : Option TableOf). IsPartTable root c.args.part c.loop-x.x (table_or o root)) c.in-Some.is c.loop-x.invariant.is in
-    part_free root c.args.part (c.loop-x.x - 1) c.loop-x.x (omega arith) c.in-Some.smaller is
+with_variable-requires-clause-free c = grind (arith, part_free)
 
 pub with_variable-requires-in-None-clause-free : goal.with_variable-requires-in-None-clause-free
-with_variable-requires-in-None-clause-free c =
-    let more = c.loop-x-test.true in
-    let root = c.args.at.table.now in
-    let is = subst (λ (o : Option TableOf). IsPartTable root c.args.part c.loop-x.x (table_or o root)) c.in-None.is c.loop-x.invariant.is in
-    part_free root c.args.part (c.loop-x.x - 1) c.loop-x.x (omega arith) root is
+with_variable-requires-in-None-clause-free c = grind (arith, part_free)
 
 pub loop-x-preserved-then-contains : goal.loop-x-preserved-then-contains
 loop-x-preserved-then-contains c =
-    let more = c.loop-x-test.true in
     let root = c.args.at.table.now in
     let part = c.args.part in
     let x = c.loop-x.x - 1 in
@@ -46,14 +36,11 @@ loop-x-preserved-then-contains c =
 
 pub loop-x-preserved : goal.loop-x-preserved
 loop-x-preserved c =
-    let more = c.loop-x-test.true in
     let root = c.args.at.table.now in
-    let part = c.args.part in
     let x = c.loop-x.x - 1 in
     let absent = iff_false c.contains.ensures c.if-contains.false in
-    let b = bit_at-lt part x in
-    let zero : bit_at part x ≡ 0 = omega arith in
+    let b = bit_at-lt c.args.part x in
     record {
       low = omega arith;
-      is = part_skip root part x c.loop-x.x (omega arith) (table_or c.loop-x.own root) zero c.loop-x.invariant.is;
+      is = part_skip root c.args.part x c.loop-x.x (omega arith) (table_or c.loop-x.own root) (omega arith) c.loop-x.invariant.is;
     }

@@ -5,16 +5,9 @@ use Rattle.cert_check.proofs.walk.upper_table.Goals as goal
 
 pub returns-clause-set : goal.returns-clause-set
 returns-clause-set c =
-    let y = c.args.at.free in
-    let free = c.requires in
-    let next : y ≡ y - 1 + 1 = omega arith in
+    let next : c.args.at.free ≡ c.args.at.free - 1 + 1 = omega arith in
     IfOk-then c.with_variable.result _ _ c.with_variable.ensures
-    (λ t made. upper_set c.args.at.edges.problem.now (y - 1) y c.args.at.table.now t next c.args.at.stands made)
+    (λ t made. upper_set c.args.at.edges.problem.now (c.args.at.free - 1) c.args.at.free c.args.at.table.now t next c.args.at.stands made)
 
 pub returns-clause-stands : goal.returns-clause-stands
-returns-clause-stands c =
-    let y = c.args.at.free in
-    let free = c.requires in
-    let next : y ≡ y - 1 + 1 = omega arith in
-    IfOk-then c.with_variable.result _ _ c.with_variable.ensures
-    (λ t made. stands_upper c.args.at.edges.problem.now (y - 1) y c.args.at.table.now t next c.args.at.stands made)
+returns-clause-stands c = grind (arith, stands_upper)

@@ -1,6 +1,5 @@
-use Rattle.std.proofs.Common.{◌≡◌, ◌^◌, length, sym, ap, subst, arith}
+use Rattle.std.proofs.Common.{◌≡◌, ◌^◌, subst, arith}
 use Rattle.rayon.proofs.ListFacts.{IfOk-then}
-use Rattle.class_laws.specs.PairTables.{IsPairTable}
 use Rattle.class_laws.specs.Places as places
 use Rattle.cert_check.specs.LowerClasses.{pairs_with}
 use Rattle.cert_check.specs.Tables.{HoldsTable, TableOf}
@@ -9,21 +8,7 @@ use Rattle.cert_check.proofs.Shortened.{pair_table, ready}
 use Rattle.cert_check.proofs.class_table.ClassTable.tells_wide.Goals as goal
 
 pub are_wide-requires : goal.are_wide-requires
-are_wide-requires c =
-    let t = c.args.self.now in
-    let ns = c.self.inside.numbers.items in
-    let ms = c.self.inside.masks.items in
-    let table = subst (λ (z : TableOf). HoldsTable z c.self.inside.full ns ms) c.self.view_is c.self.invariant in
-    let rows = subst (λ f. HoldsTable t f ns ms) c.in-None.is table in
-    let paired = pair_table t c.args.x c.requires.inside c.requires.below c.requires.free ns ms rows in
-    let classes = (ready t c.args.x c.requires.inside c.requires.below c.requires.free ns ms rows).few in
-    let e = ap length c.deref-in-None.ensures.value in
-    record {
-      table = subst (λ us. IsPairTable us c.args.x (length c.deref-in-None.result.now)) (sym c.deref.ensures.value)
-          (subst (λ us. IsPairTable ns c.args.x (length us)) (sym c.deref-in-None.ensures.value) paired);
-      few = omega arith;
-      variables = c.requires.variables;
-    }
+are_wide-requires c = grind (arith, pair_table, ready)
 
 pub returns-in-None : goal.returns-in-None
 unfolding pairs_with
@@ -35,8 +20,7 @@ returns-in-None c = IfOk-then c.are_wide.result _ _ c.are_wide.ensures (λ wide 
     let rows = subst (λ f. HoldsTable t f c.self.inside.numbers.items c.self.inside.masks.items) c.in-None.is table in
     let w = pairs_with_width t c.args.x y c.requires.inside c.requires.below c.requires.free c.self.inside.numbers.items c.self.inside.masks.items rows
     member in
-    let n = h told y in
     let e : pairs_with c.deref-in-None.result.now c.args.x y (places.pairs c.deref.result.now (2 ^ c.args.x))
     ≡ pairs_with c.self.inside.masks.items c.args.x y (places.pairs c.self.inside.numbers.items (2 ^ c.args.x)) =
     (λ i. pairs_with (c.deref-in-None.ensures.value i) c.args.x y (places.pairs (c.deref.ensures.value i) (2 ^ c.args.x))) in
-    omega arith)
+    omega (arith, h told y))

@@ -1,9 +1,7 @@
-use Rattle.std.proofs.Common.{◌≡◌, ◌-◌, ◌*◌, ◌%◌, ◌<◌, ◌≤◌, ◌^◌, IfOk, sym, ap, ◌∙◌, subst, arith, ℕ}
+use Rattle.std.proofs.Common.{◌≡◌, ◌-◌, ◌*◌, ◌%◌, ◌<◌, ◌≤◌, ◌^◌, sym, ap, ◌∙◌, subst, arith, ℕ}
 use Rattle.std.proofs.Math.Nat.{mod-eq_of_lt}
 use Rattle.std.proofs.Math.Pow.{pow_mono}
 use Rattle.std.proofs.lemmas.Nat.{pow_pos}
-use Rattle.cert_check.specs.Edges.{IsFirstEdge}
-use Rattle.cert_check.specs.Walks.{FailsInBlock}
 use Rattle.cert_check.proofs.HighSets.{high_room, multiple}
 use Rattle.cert_check.proofs.IntoSet.{place_below}
 use Rattle.cert_check.proofs.parallel.fn.first_by_tasks.map.Goals as goal
@@ -11,24 +9,14 @@ use Rattle.cert_check.proofs.parallel.fn.first_by_tasks.map.Goals as goal
 -- a part, as a mask
 part_small : (n end p : ℕ) → end ≤ n → p < 2 ^ end → p * 2 ^ (n - end) < 2 ^ n
 part_small n end p le small =
-    let s : n - (n - end) ≡ end = omega arith in
-    let b = place_below n (n - end) p 0 (omega arith) (subst (λ k. p < 2 ^ k) (sym s) small) (pow_pos (n - end)) in
+    let b = place_below n (n - end) p 0 (omega arith) (subst (λ k. p < 2 ^ k) (sym (omega arith)) small) (pow_pos (n - end)) in
     omega arith
 
 part_mask : (n end p : ℕ) → n ≤ 16 → end ≤ n → p < 2 ^ end → p * 2 ^ (n - end) % 65536 ≡ p * 2 ^ (n - end)
-part_mask n end p few le small =
-    let l = part_small n end p le small in
-    let m = pow_mono {i = n} {j = 16} few in
-    mod-eq_of_lt (omega arith)
+part_mask n end p few le small = grind (arith, part_small, pow_mono, mod-eq_of_lt)
 
 pub overflow_shl-part : goal.overflow_shl-part
-overflow_shl-part c =
-    let start = c.requires.1 in
-    let above = start.above in
-    let variable = start.variable in
-    let inside = c.captures.root.stands.inside in
-    let few = c.captures.root.edges.tables.few in
-    omega arith
+overflow_shl-part c = grind arith
 
 pub first_from_tops-requires : goal.first_from_tops-requires
 first_from_tops-requires c =
@@ -36,13 +24,10 @@ first_from_tops-requires c =
     let end = c.captures.end in
     let p = c.part_of.result in
     let start = c.requires.1 in
-    let inside = c.captures.root.stands.inside in
-    let few = c.captures.root.edges.tables.few in
     let mask = part_mask n end p (omega arith) start.within c.part_of.ensures.within in
     let small = part_small n end p start.within c.part_of.ensures.within in
     let aligned = ap (λ k. k % 2 ^ (n - end)) mask ∙ multiple p (2 ^ (n - end)) (pow_pos (n - end)) in
     let room = high_room n (p * 2 ^ (n - end) % 65536) (n - end) (omega arith) aligned (omega arith) in
-    let power = ap (λ k. 2 ^ k) start.whole in
     record {
       root = (start.empty, start.whole);
       tops = start.each;
@@ -51,13 +36,4 @@ first_from_tops-requires c =
     }
 
 pub returns : goal.returns
-returns c =
-    let n = c.captures.root.free in
-    let end = c.captures.end in
-    let start = c.requires.1 in
-    let inside = c.captures.root.stands.inside in
-    let few = c.captures.root.edges.tables.few in
-    let mask = part_mask n end c.part_of.result (omega arith) start.within c.part_of.ensures.within in
-    subst (λ k. IfOk c.first_from_tops.result (IsFirstEdge (FailsInBlock c.captures.root.edges k (n - end))))
-    (mask ∙ ap (λ k. k * 2 ^ (n - end)) c.part_of.ensures.part)
-    c.first_from_tops.ensures
+returns c = grind (arith, part_mask)
