@@ -1,5 +1,5 @@
 -- The kinds of steps.
-use Rattle.std.proofs.Common.{◌≡◌, ◌≢◌, ℕ, ◌+◌, ◌-◌, ◌<◌, Bool, if◌then◌else◌, List, [], ◌∷◌, set, get_or, length, sym, refl, ap, ◌∙◌, subst, arith, eqb, eq-eqb, ne_eqb, get_or-set_same}
+use Rattle.std.proofs.Common.{◌≡◌, ◌≢◌, ℕ, ◌+◌, ◌<◌, Bool, if◌then◌else◌, List, [], ◌∷◌, set, get_or, length, sym, refl, ap, ◌∙◌, subst, arith, eqb, eq-eqb, ne_eqb, get_or-set_same}
 use Rattle.std.proofs.lemmas.List.{set-get_or, take-set-le}
 use lib.Seq.{drop-set-lt}
 use mathlib.Core.Option.{Option}
@@ -40,29 +40,7 @@ module _ (b : Plan) (s : StoreState) (id : ℕ) (v : View) (is : IsStoreSeat b s
   -- it doesn't read the slots
   becomes : (words : List ℕ) (homes : List (Option (Unit {0}))) (m' : M) (made : List ℕ) (wrote : ℕ) → Keeps words homes m'.0 →
       After (having made v) m'.0 wrote → Becomes b s id v words m'.0
-  becomes words homes m' made wrote k a =
-      record {
-        kept =
-            record {
-              order = k.order;
-              size = k.size;
-              stored = k.stored;
-              put = k.put;
-              entries = k.entries;
-              pieces = k.pieces;
-              seen = k.seen;
-              stakes = k.stakes;
-            };
-        gains =
-            (let g = gains_after (having made v) m'.0 wrote a in record {
-              good = g.good;
-              current = g.current;
-              plan = g.plan;
-              stake = g.stake;
-              nodes = g.nodes;
-              pieces = g.pieces;
-            });
-      }
+  becomes words homes m' made wrote k a = search (gains_after, good, plan)
 
   same_words : (p : ℕ) (homes : List (Option (Unit {0}))) (v' : View) → Keeps (set s.words p (get_or s.words p 0)) homes v' → Keeps s.words homes v'
   same_words p homes v' k = subst (λ (z : List ℕ). Keeps z homes v') (set-get_or s.words p 0) k
@@ -81,12 +59,11 @@ module _ (b : Plan) (s : StoreState) (id : ℕ) (v : View) (is : IsStoreSeat b s
   kind_collect q =
       let p : ℕ = b.places + b.entries + q in
       let at : p ≡ v.plan.places + v.plan.entries + q = ap (λ (z : Plan). z.places + z.entries + q) (sym plan) in
-      let back : p - (v.plan.places + v.plan.entries) ≡ q = omega arith in
       let a = may_collect b (length s.homes) id me is.live q p at s is.kept refl is.seat (is.fits p) in let g = a.4 in
       let m' : M = (a.0, carried_after [] a.1) in (
         a.0,
         becomes s.words (homes_after s.homes [] a.1) m' v.made 0 (same_words p (homes_after s.homes [] a.1) a.0 a.3) (after_goes me m' 0 g.0 g.1 g.2 g.3),
-        ap (λ (m : M). get_or m.0.pieces q 0) g.2 ∙ (ap (λ (z : ℕ). get_or g.1 z 0) (sym back) ∙ g.4),
+        ap (λ (m : M). get_or m.0.pieces q 0) g.2 ∙ (ap (λ (z : ℕ). get_or g.1 z 0) (sym (omega arith)) ∙ g.4),
       )
 
   pub kind_recall : (c : ℕ) → c < b.entries →
@@ -118,11 +95,7 @@ module _ (b : Plan) (s : StoreState) (id : ℕ) (v : View) (is : IsStoreSeat b s
       )
 
   put_is : (p w : ℕ) → set s.words p (either (eqb (get_or s.words p 0) 0) w (get_or s.words p 0)) ≡ put_words s.words p w
-  put_is p w = dite (ℕ_discrete (get_or s.words p 0) 0)
-      (λ empty. ap (λ (t : Bool). set s.words p (either t w (get_or s.words p 0))) (eq-eqb (get_or s.words p 0) 0 empty)
-      ∙ ap (λ (t : Bool). if t then set s.words p w else s.words) (sym (eq-eqb (get_or s.words p 0) 0 empty)))
-      (λ full. ap (λ (t : Bool). set s.words p (either t w (get_or s.words p 0))) (ne_eqb (get_or s.words p 0) 0 full)
-      ∙ (set-get_or s.words p 0 ∙ ap (λ (t : Bool). if t then set s.words p w else s.words) (sym (ne_eqb (get_or s.words p 0) 0 full))))
+  put_is p w = grind (arith, dite, set, either, eq-eqb, ne_eqb, set-get_or)
 
   pub kind_put : (p w : ℕ) → p < b.places → w ≢ 0 → IsNextProbe v.seen b.places w p → IsNode (levels_of b) v.seen w
       → (v' : View) × Becomes b s id v (put_words s.words p w) v' × (get_or v'.seen p 0 ≡ get_or (put_words s.words p w) p 0)
@@ -139,7 +112,7 @@ module _ (b : Plan) (s : StoreState) (id : ℕ) (v : View) (is : IsStoreSeat b s
         a.0,
         becomes (put_words s.words p w) homes m' (w ∷ v.made) 1 kept (after_goes (putting w v, []) m' 1 h.0 h.1 h.2 h.3),
         ap (λ (m : M). get_or m.0.seen p 0) h.2 ∙ (h.4
-            ∙ (sym (get_or-set_same s.words p w 0 (let e = is.kept.size in omega arith))
+            ∙ (sym (get_or-set_same s.words p w 0 (omega arith))
             ∙ ap (λ (t : Bool). get_or (if t then set s.words p w else s.words) p 0) (sym (eq-eqb (get_or s.words p 0) 0 empty)))),
       ))
       (λ taken. let h = g.1 taken in (
@@ -154,13 +127,12 @@ module _ (b : Plan) (s : StoreState) (id : ℕ) (v : View) (is : IsStoreSeat b s
       × Grows (pieces_of b s.words) (pieces_of b (set s.words (b.places + b.entries + q) (ref + 1)))
   kind_publish q ref inside d =
       let p : ℕ = b.places + b.entries + q in let at : p ≡ v.plan.places + v.plan.entries + q = ap (λ (z : Plan). z.places + z.entries + q) (sym plan) in
-      let back : p - (v.plan.places + v.plan.entries) ≡ q = omega arith in
       let a = may_publish b (length s.homes) id me is.live q ref p at (subst (λ (z : Plan). q < z.pieces) (sym plan) inside)
       (subst (λ (z : Plan). Denotes (order_of z) v.seen ref (piece_function z q)) (sym plan) d) s is.kept refl is.seat (is.fits p) in
       let g = a.4 in let m' : M = (a.0, carried_after [] a.1) in (
         a.0,
         becomes (set s.words p (ref + 1)) (homes_after s.homes [] a.1) m' v.made 1 a.3 (after_goes me m' 1 g.0 g.1 g.2 g.3),
-        ap (λ (m : M). get_or m.0.pieces q 0) g.2 ∙ (ap (λ (z : ℕ). get_or g.1 z 0) (sym back) ∙ g.4),
+        ap (λ (m : M). get_or m.0.pieces q 0) g.2 ∙ (ap (λ (z : ℕ). get_or g.1 z 0) (sym (omega arith)) ∙ g.4),
         pieces_grow b s is.kept q ref inside
             (denotes_grows (order_of b) v.seen good (nodes_of b s.words) (is.kept.seen id v is.seat is.live).grows ref
             (piece_function b q) d),

@@ -1,7 +1,7 @@
 -- A store and a session, opened.
-use Rattle.std.proofs.Common.{◌≡◌, ◌≢◌, ℕ, ◌+◌, ◌-◌, ◌*◌, ◌/◌, ◌^◌, ◌<◌, ◌≤◌, List, sym, ap, ◌∙◌, subst, ⊎_elim, arith}
-use Rattle.node_words.specs.Nodes.{AreNodeWords, Grows, IsNode, IsIdOf, node_word}
-use Rattle.node_words.specs.Meaning.{function_of, Denotes, branch}
+use Rattle.std.proofs.Common.{◌≡◌, ◌≢◌, ℕ, ◌+◌, ◌*◌, ◌/◌, ◌^◌, ◌<◌, ◌≤◌, List, sym, ap, ◌∙◌, subst, ⊎_elim, arith}
+use Rattle.node_words.specs.Nodes.{AreNodeWords, Grows, IsIdOf, node_word}
+use Rattle.node_words.specs.Meaning.{branch}
 use Rattle.node_words.proofs.Making.{word_node}
 use Rattle.node_words.proofs.Meaning.{depth_node, depth_terminal}
 use Rattle.std.proofs.lemmas.Bool.{cases_lt}
@@ -40,17 +40,12 @@ module _ (t : store.Inside) (s : session.Inside) (T : StoreId) (K : Knowledge) (
   plan_is = ap (λ (z : Knowledge). z.store.plan) is_s ∙ (ap (λ (z : StoreId). z.plan) fits ∙ ap (λ (z : StoreId). z.plan) (sym is_t))
 
   pub seat_of : IsSeatOf t.table.shared s.seat
-  seat_of = record {
-    table = ap (λ (z : Knowledge). z.store.table) is_s ∙ (ap (λ (z : StoreId). z.table) fits ∙ ap (λ (z : StoreId). z.table) (sym is_t));
-    plan = plan_is;
-    empty = ks.empty;
-    good = ks.good;
-  }
+  seat_of = grind (arith, plan_is)
 
   -- a known id fits 20 bits
   pub small_id : (id : ℕ) → Knows K id → id < 2 ^ 20
-  small_id id known = let size = ks.good.size in let places = ap (λ (b : Plan). b.places) plan_is in let a = kt.plan.places in
-      let inside = known_small s.seat.me.0.seen s.seat.me.0.plan.places id size (subst (λ (z : Knowledge). Knows z id) (sym is_s) known) in omega arith
+  small_id id known =
+      let size = ks.good.size in let places = ap (λ (b : Plan). b.places) plan_is in let inside = known_small s.seat.me.0.seen s.seat.me.0.plan.places id size (subst (λ (z : Knowledge). Knows z id) (sym is_s) known) in omega arith
 
   pub few_levels : levels_of T.plan ≤ 16
   few_levels = subst (λ (z : StoreId). levels_of z.plan ≤ 16) is_t kt.plan.order.few
@@ -58,16 +53,7 @@ module _ (t : store.Inside) (s : session.Inside) (T : StoreId) (K : Knowledge) (
   pub word_ready : (level low high word : ℕ) → level < levels_of T.plan → IsKnownBelow K level low → IsKnownBelow K level high →
       low ≢ high → word ≡ node_word level low high
       → IsNodeWord t.table.shared s.seat word
-  word_ready level low high word small kl ku ne is =
-      let few = few_levels in let a = small_id low kl.0 in let b = small_id high ku.0 in
-      let node : IsNode (levels_of K.store.plan) K.seen word = subst (IsNode (levels_of K.store.plan) K.seen) (sym is)
-      (word_node (levels_of K.store.plan) level low high K.seen (subst (λ (z : StoreId). levels_of z.plan ≤ 16) (sym fits) few)
-      (subst (λ (z : StoreId). level < levels_of z.plan) (sym fits) small) a b ne
-      (below_depth (levels_of K.store.plan) K.seen level low kl.0 kl.1) (below_depth (levels_of K.store.plan) K.seen level high ku.0 ku.1)) in record {
-        some = λ e. omega arith;
-        node = subst (λ (z : Plan). IsNode (levels_of z) s.seat.me.0.seen word) plan_is
-            (subst (λ (z : Knowledge). IsNode (levels_of z.store.plan) z.seen word) (sym is_s) node);
-      }
+  word_ready level low high word small kl ku ne is = grind (arith, few_levels, small_id, word_node, below_depth, plan_is)
 
   pub nodes_are : AreNodeWords (levels_of K.store.plan) K.seen
   nodes_are = subst (λ (z : Knowledge). AreNodeWords (levels_of z.store.plan) z.seen) is_s ks.good.nodes
@@ -123,11 +109,7 @@ unique_ids t kt seat sits id other f a b =
 
 -- ids lie at levels, or are terminals
 pub has_levels : (seat : Sitting) → AreNodeWords (levels_of seat.me.0.plan) seat.me.0.seen → HasLevels (seated seat)
-has_levels seat are id known = ⊎_elim
-    (λ (small : id < 2). let e = depth_terminal (levels_of seat.me.0.plan) seat.me.0.seen id small in omega (arith, e))
-    (λ (node : 2 ≤ id).
-    let e = depth_node (levels_of seat.me.0.plan) seat.me.0.seen id node in let n = (are (id - 2) (known node)).level in omega (arith, e, n))
-    (cases_lt id 2)
+has_levels seat are id known = grind (arith, ⊎_elim, depth_terminal, depth_node, cases_lt)
 
 -- the result of an operation that a cache word has
 module _ (t : store.Inside) (kt : IsStore t) (seat : Sitting) (sits : IsSeatOf t.table.shared seat) (o : Operation) (a b w key : ℕ)
@@ -135,14 +117,10 @@ module _ (t : store.Inside) (kt : IsStore t) (seat : Sitting) (sits : IsSeatOf t
     (known : w ≢ 0 → IsEntry (order_of t.table.shared.key) seat.me.0.seen w) (key_is : key ≡ code_of o * 2 ^ 40 + a * 2 ^ 20 + b)
     (same : w / 2 ^ 20 ≡ key) where
   there : IsEntry (order_of t.table.shared.key) seat.me.0.seen w
-  there = known (λ none. let c = code_some o in omega arith)
+  there = known (λ none. omega (arith, code_some o))
 
   pub entry_means : Means (seated seat) (result_of w) (combine o (function_in (seated seat) a) (function_in (seated seat) b))
-  entry_means = let order : Plan → List ℕ = λ z. order_of z in
-      subst (λ (z : Plan). Denotes (order z) seat.me.0.seen (result_of w)
-      (combine o (function_of (order z) seat.me.0.seen a) (function_of (order z) seat.me.0.seen b)))
-      (sym sits.plan)
-      (entry_found (order_of t.table.shared.key) seat.me.0.seen o a b w small_a small_b there (same ∙ key_is))
+  entry_means = grind (arith, entry_found, there)
 
   pub entry_depth : (k : ℕ) → Knows (seated seat) a → Knows (seated seat) b → k ≤ depth_in (seated seat) a → k ≤ depth_in (seated seat) b →
       k ≤ depth_in (seated seat) (result_of w)

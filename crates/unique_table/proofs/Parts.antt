@@ -12,8 +12,7 @@ pub has_parts : (s : Knowledge) → AreNodeWords (levels_of s.store.plan) s.seen
     → parts.level ≡ level_of w → parts.low ≡ low_of w → parts.high ≡ high_of w → HasParts s id parts
 has_parts s are id two known w is parts level low high =
     let x : ℕ = get_or s.seen (id - 2) 0 in let n = are (id - 2) (known two) in
-    let whole : NodeParts = record { level = level_of x; low = low_of x; high = high_of x } in
-    let same : whole ≡ parts =
+    let same : (record { level = level_of x; low = low_of x; high = high_of x }) ≡ parts =
     (λ i. record { level = (ap level_of is ∙ sym level) i; low = (ap low_of is ∙ sym low) i; high = (ap high_of is ∙ sym high) i }) in
     subst (HasParts s id) same record {
       word = n.word;

@@ -1,11 +1,10 @@
 -- The roots of a closed store.
-use Rattle.std.proofs.Common.{◌≡◌, ◌≢◌, ℕ, zero, suc, ◌+◌, ◌-◌, ◌^◌, ◌<◌, ◌≤◌, ◌++◌, Bool, List, [], ◌∷◌, map, get_or, length, sym, refl, ap, ◌∙◌, subst, ⊎_elim, arith, nat_lt, if◌then◌else◌, le-ltb, zero-add, add-zero, Result, Ok, Err, IfErr}
+use Rattle.std.proofs.Common.{◌≡◌, ◌≢◌, ℕ, zero, suc, ◌+◌, ◌-◌, ◌^◌, ◌<◌, ◌≤◌, ◌++◌, Bool, List, [], ◌∷◌, map, get_or, length, sym, refl, ap, ◌∙◌, subst, ⊎_elim, arith, nat_lt, le-ltb, zero-add, add-zero, Result, Ok, Err, IfErr}
 use Rattle.std.specs.List.{range_with_len, AllZip, All}
 use Rattle.std.proofs.lemmas.List.FromFn.{map-range_with_len_more, get_or-map-range_with_len, length-map-range_with_len}
-use Rattle.std.proofs.lemmas.List.Elements.{All-from_get_or}
 use lib.Seq.{get_or-drop}
 use Rattle.order_model.specs.Functions.{Function, SameFunction, from_table}
-use Rattle.order_model.specs.Problems.{functions, table_at}
+use Rattle.order_model.specs.Problems.{functions}
 use Rattle.order_model.specs.Diagrams.{Graph, Represents, IsOf, value}
 use Rattle.order_model.specs.declared.diagrams.Ref.{Ref}
 use Rattle.node_words.specs.Nodes.{IsKnown}
@@ -13,7 +12,7 @@ use Rattle.node_words.specs.Meaning.{function_of, Denotes}
 use Rattle.node_words.proofs.Functions.{known_small}
 use Rattle.unique_table.specs.declared.close.CloseFault.TheVariants.{MissingRoot, OutOfMemory}
 use Rattle.unique_table.specs.declared.plan.Plan.{Plan}
-use Rattle.unique_table.specs.Plans.{order_of, levels_of, output_at, piece_function, part_function}
+use Rattle.unique_table.specs.Plans.{order_of, levels_of, output_at, piece_function}
 use Rattle.unique_table.specs.Picture.{nodes_of, pieces_of}
 use Rattle.unique_table.specs.Closing.{ClosedStoreOf, AreFinal, AreFilled, HasAllRoots, SessionsLackWhatIsEmpty, root_word, root_id, root_functions, roots_count}
 use Rattle.std.proofs.lemmas.Bool.{cases_lt}
@@ -22,40 +21,22 @@ use Rattle.std.proofs.lemmas.Bool.{cases_lt}
 pub more_ids : (c : ClosedStoreOf) (ids ids' : List ℕ) (j x word : ℕ) → ids ≡ map (root_id c) (range_with_len 0 j) →
     word ≡ root_word c j → x ≡ word - 1 → ids' ≡ ids ++ x ∷ [] → ids' ≡ map (root_id c) (range_with_len 0 (j + 1))
 more_ids c ids ids' j x word old word_is x_is new =
-    let last : x ≡ root_id c j = x_is ∙ ap (λ (z : ℕ). z - 1) word_is in
-    new ∙ ((λ i. old i ++ last i ∷ []) ∙ sym (map-range_with_len_more (root_id c) 0 j j (zero-add j)))
+    new ∙ ((λ i. old i ++ (x_is ∙ ap (λ (z : ℕ). z - 1) word_is) i ∷ []) ∙ sym (map-range_with_len_more (root_id c) 0 j j (zero-add j)))
 
 pub more_filled : (c : ClosedStoreOf) (j word : ℕ) → AreFilled c j → word ≡ root_word c j → word ≢ 0 → AreFilled c (j + 1)
-more_filled c j word all is full i low = ⊎_elim
-    (λ (old : i < j). all i old)
-    (λ (last : j ≤ i). let e : j ≡ i = omega arith in λ empty. full (is ∙ (ap (root_word c) e ∙ empty)))
-    (cases_lt i j)
+more_filled c j word all is full i low = grind (arith, ⊎_elim, cases_lt)
 
 -- the function of a root's piece
 pub root_function : (b : Plan) (j : ℕ) → piece_function b (b.roots + j) ≡ output_at b.problem.value j
 unfolding piece_function
-root_function b j = past b.roots ∙ ap (output_at b.problem.value) (minus b.roots)
-  where
-    minus : (r : ℕ) → r + j - r ≡ j
-    minus r = omega arith
-
-    past : (r : ℕ) →
-        (if nat_lt (r + j) r then part_function b.kind (order_of b) b.problem.value (r + j) else output_at b.problem.value (r + j - r)) ≡
-        output_at b.problem.value (r + j - r)
-    past r = ap
-        (λ (c : Bool). if c then part_function b.kind (order_of b) b.problem.value (r + j) else output_at b.problem.value (r + j - r))
-        (le-ltb (r + j) r (omega arith))
+root_function b j = grind (arith, nat_lt, le-ltb)
 
 -- ---- the roots
 
 module _ (c : ClosedStoreOf) (f : AreFinal c) where
   -- the word of a root, as a piece
   root_piece : (j : ℕ) → root_word c j ≡ get_or (pieces_of c.plan c.words) (c.plan.roots + j) 0
-  root_piece j = ap (λ (z : ℕ). get_or c.words z 0) (add c.plan.places c.plan.entries c.plan.roots j)
-      ∙ sym (get_or-drop (c.plan.places + c.plan.entries) c.words (c.plan.roots + j) 0)
-    where
-      add : (p e r j : ℕ) → p + e + r + j ≡ p + e + (r + j)
-      add p e r j = omega arith
+  root_piece j = grind (arith, get_or-drop)
 
   -- a filled root word is 1 more than an id of the output
   pub root_denotes : (j : ℕ) → root_word c j ≢ 0 →
@@ -125,11 +106,7 @@ represents_same n F G order d s r = record { diagram = r.diagram; ordered = r.or
 pub same_functions : (c : ClosedStoreOf) → AreFinal c → HasAllRoots c →
     AllZip (SameFunction (levels_of c.plan)) (root_functions c) (functions c.plan.problem.value)
 unfolding output_at
-same_functions c f full = zip_functions (levels_of c.plan) (λ j. function_of (order_of c.plan) (nodes_of c.plan c.words) (root_id c j)) 0
-    c.plan.problem.value.tables
-    (λ j low. subst (λ (z : ℕ). SameFunction (levels_of c.plan) (function_of (order_of c.plan) (nodes_of c.plan c.words) (root_id c z))
-    (from_table (table_at c.plan.problem.value j)))
-    (sym (zero-add j)) (root_denotes c f j (full j low)).function)
+same_functions c f full = grind (arith, zip_functions, zero-add, root_denotes)
 
 -- ---- what the code finds
 
@@ -139,12 +116,7 @@ map_twice f g (x ∷ xs) = λ i. f (g x) ∷ map_twice f g xs i
 
 module _ (c : ClosedStoreOf) (f : AreFinal c) (full : HasAllRoots c) (ids : List ℕ) (is : ids ≡ map (root_id c) (range_with_len 0 (roots_count c.plan))) where
   pub ids_known : All (IsKnown (nodes_of c.plan c.words)) ids
-  ids_known = let m : ℕ = roots_count c.plan in
-      subst (λ (z : List ℕ). All (IsKnown (nodes_of c.plan c.words)) z) (sym is)
-      (All-from_get_or (IsKnown (nodes_of c.plan c.words)) (map (root_id c) (range_with_len 0 m)) 0
-      (λ j low. let l = length-map-range_with_len (root_id c) 0 m in let less : j < m = omega arith in
-      subst (IsKnown (nodes_of c.plan c.words)) (sym (get_or-map-range_with_len (root_id c) 0 m j j 0 less (zero-add j)))
-      (root_denotes c f j (full j less)).known))
+  ids_known = grind (arith, length-map-range_with_len, get_or-map-range_with_len, zero-add, root_denotes)
 
   -- a diagram of the functions that the ids denote is one of the problem's
   pub ids_represent : (d : Graph) → Represents (levels_of c.plan) (map (function_of (order_of c.plan) (nodes_of c.plan c.words)) ids) (order_of c.plan) d

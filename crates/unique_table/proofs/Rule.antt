@@ -76,7 +76,7 @@ placed b s k words size g gp st ens pcs id v made wrote more new at live = let w
       })
       (λ alive. record {
         plan = (k.seen id v at live).plan;
-        size = (let e = st.size in omega arith);
+        size = omega arith;
         nodes = st.nodes;
         unequal = st.unequal;
         are_pieces = pcs;
@@ -116,24 +116,14 @@ none_put b s made ws same p full = inl (ap (λ (z : List ℕ). get_or z p 0) (sy
 -- a piece's word is the same where there was one, since ids that denote one function are one id
 pieces_same : (b : Plan) (s : StoreState) (k : IsKept b s) (q ref : ℕ) → q < length (pieces_of b s.words) →
     Denotes (order_of b) (nodes_of b s.words) ref (piece_function b q) → Grows (pieces_of b s.words) (set (pieces_of b s.words) q (ref + 1))
-pieces_same b s k q ref wide mine r full =
-    let nodes : List ℕ = nodes_of b s.words in let pieces : List ℕ = pieces_of b s.words in
-    let there : get_or (set pieces q (ref + 1)) q 0 ≡ ref + 1 = get_or-set_same pieces q (ref + 1) 0 wide in
-    dite (ℕ_discrete r q)
-    (λ same. let was : Denotes (order_of b) nodes (get_or pieces q 0 - 1) (piece_function b q) =
-    subst (λ (z : ℕ). Denotes (order_of b) nodes (get_or pieces z 0 - 1) (piece_function b z)) same (k.pieces r full) in
-    let one : get_or pieces q 0 - 1 ≡ ref =
-    one_id (order_of b) nodes k.stored.nodes k.stored.unequal (get_or pieces q 0 - 1) ref (piece_function b q) k.order was mine in
-    let some_there : get_or pieces q 0 ≢ 0 = subst (λ (z : ℕ). get_or pieces z 0 ≢ 0) same full in let up : ref + 1 ≡ get_or pieces q 0 = omega arith in
-    subst (λ (z : ℕ). get_or (set pieces q (ref + 1)) z 0 ≡ get_or pieces z 0) (sym same) (there ∙ up))
-    (λ other. get_or-set_other pieces q r (ref + 1) 0 other)
+pieces_same b s k q ref wide mine r full = grind (arith, set, get_or-set_same, dite, one_id, get_or-set_other)
 
 pub pieces_grow : (b : Plan) (s : StoreState) (k : IsKept b s) (q ref : ℕ) → q < b.pieces →
     Denotes (order_of b) (nodes_of b s.words) ref (piece_function b q) →
     Grows (pieces_of b s.words) (pieces_of b (set s.words (b.places + b.entries + q) (ref + 1)))
 pieces_grow b s k q ref inside mine =
     subst (Grows (pieces_of b s.words)) (sym (drop-set-add (b.places + b.entries) s.words q (ref + 1)))
-    (pieces_same b s k q ref (let e = length-drop (b.places + b.entries) s.words in let f = k.size in omega arith) mine)
+    (pieces_same b s k q ref (omega (arith, length-drop (b.places + b.entries) s.words)) mine)
 
 module _ (b : Plan) (slots id : ℕ) (me : M) (live : me.0.live ≡ true) where
   abbrev v : View
@@ -214,7 +204,7 @@ module _ (b : Plan) (slots id : ℕ) (me : M) (live : me.0.live ≡ true) where
       entry_grows (order_of b) v.seen nodes w i.nodes i.grows (subst (λ (z : Plan). IsEntry (order_of z) v.seen w) plan entry) in
       let ens' : AreEntries b nodes words = (λ d low full. dite (ℕ_discrete d c)
       (λ same. let there : get_or words (b.places + d) 0 ≡ w = ap (λ (z : ℕ). get_or words z 0) (omega arith)
-      ∙ get_or-set_same s.words p w 0 (let e = k.size in omega arith) in
+      ∙ get_or-set_same s.words p w 0 (omega arith) in
       subst (IsEntry (order_of b) nodes) (sym there) mine)
       (λ ne. let other : get_or words (b.places + d) 0 ≡ get_or s.words (b.places + d) 0 =
       get_or-set_other s.words p (b.places + d) w 0 (λ e. ne (omega arith)) in
@@ -269,7 +259,7 @@ module _ (b : Plan) (slots id : ℕ) (me : M) (live : me.0.live ≡ true) where
       let pcs : ArePieces b (nodes_of b words) (pieces_of b words) = subst (λ (z : List ℕ). ArePieces b (nodes_of b words) z) (sym same_pieces)
       (λ q full. denotes_grows (order_of b) nodes k.stored.nodes (nodes_of b words) g (get_or pieces q 0 - 1) (piece_function b q) (k.pieces q full)) in
       let there : get_or (nodes_of b words) p 0 ≡ w = ap (λ (l : List ℕ). get_or l p 0) same_nodes
-      ∙ get_or-set_same nodes p w 0 (let e = k.stored.size in omega arith) in
+      ∙ get_or-set_same nodes p w 0 (omega arith) in
       let made : List ℕ = w ∷ v.made in
       let new : NewArePut b s made (nodes_of b words) = (λ q full. dite (ℕ_discrete q p)
       (λ same. inr (subst (λ (z : ℕ). Contains made z) (sym there ∙ ap (λ (z : ℕ). get_or (nodes_of b words) z 0) (sym same)) (has_first v.made w)))
@@ -314,8 +304,7 @@ module _ (b : Plan) (slots id : ℕ) (me : M) (live : me.0.live ≡ true) where
       denotes_grows (order_of b) v.seen i.nodes nodes i.grows ref (piece_function b q)
       (subst (λ (z : Plan). Denotes (order_of z) v.seen ref (piece_function z q)) plan of_piece) in
       let wide : q < length pieces =
-      (let e = length-drop (b.places + b.entries) s.words in let f = k.size in let h = subst (λ (z : Plan). q < z.pieces) plan inside in
-      omega arith) in
+      (let e = length-drop (b.places + b.entries) s.words in omega (arith, subst (λ (z : Plan). q < z.pieces) plan inside)) in
       let there : get_or (set pieces q (ref + 1)) q 0 ≡ ref + 1 = get_or-set_same pieces q (ref + 1) 0 wide in
       let gp' : Grows pieces (set pieces q (ref + 1)) = pieces_same b s k q ref wide mine in
       let pcs' : ArePieces b nodes (set pieces q (ref + 1)) = (λ r full. dite (ℕ_discrete r q)

@@ -28,23 +28,14 @@ no_less_trans a b c f g = le_of_mul-le-mul_right along (pow_pos b.halvings)
 
     along : a.units * C * B ≤ c.units * A * B
     along =
-        let one : a.units * B * C ≤ b.units * A * C = mul-le-mul_right C f in
-        let two : b.units * C * A ≤ c.units * B * A = mul-le-mul_right A g in
         let x = mul_right_comm a.units B C in let y = mul_right_comm b.units A C in let z = mul_right_comm c.units B A in
-        omega (arith, one, two, x, y, z)
+        omega (arith, mul-le-mul_right C f, mul-le-mul_right A g, x, y, z)
 
 pub no_less_first : (s t : Stake) → IsNoLess s (joined s t)
-no_less_first s t =
-    let e : s.units * 2 ^ (s.halvings + t.halvings) ≡ s.units * 2 ^ t.halvings * 2 ^ s.halvings =
-    ap (λ (z : ℕ). s.units * z) (pow-add 2 s.halvings t.halvings)
-    ∙ (sym (mul_assoc s.units (2 ^ s.halvings) (2 ^ t.halvings)) ∙ mul_right_comm s.units (2 ^ s.halvings) (2 ^ t.halvings)) in
-    let d = add-mul (s.units * 2 ^ t.halvings) (t.units * 2 ^ s.halvings) (2 ^ s.halvings) in omega (arith, e, d)
+no_less_first s t = grind (arith, pow-add, mul_assoc, mul_right_comm, add-mul)
 
 pub no_less_second : (s t : Stake) → IsNoLess t (joined s t)
-no_less_second s t =
-    let e : t.units * 2 ^ (s.halvings + t.halvings) ≡ t.units * 2 ^ s.halvings * 2 ^ t.halvings =
-    ap (λ (z : ℕ). t.units * z) (pow-add 2 s.halvings t.halvings) ∙ sym (mul_assoc t.units (2 ^ s.halvings) (2 ^ t.halvings)) in
-    let d = add-mul (s.units * 2 ^ t.halvings) (t.units * 2 ^ s.halvings) (2 ^ t.halvings) in omega (arith, e, d)
+no_less_second s t = grind (arith, pow-add, mul_assoc, add-mul)
 
 pub joined_some : (s t : Stake) → 0 < s.units → 0 < (joined s t).units
 joined_some s t some_part = let x = mul-pos some_part (pow_pos t.halvings) in omega (arith, x)
@@ -54,10 +45,7 @@ pub half_whole : (s : Stake) → IsWhole (half s) → IsWhole s
 half_whole s w = let e = pow-add 2 s.halvings 1 in omega (arith, e, w)
 
 pub stays_whole : (s t : Stake) → IsNoLess s t → IsWhole s → IsWhole t
-stays_whole s t more w =
-    let a : 2 ^ s.halvings * 2 ^ t.halvings ≤ s.units * 2 ^ t.halvings = mul-le-mul_right (2 ^ t.halvings) w in
-    let c = mul_comm (2 ^ t.halvings) (2 ^ s.halvings) in
-    le_of_mul-le-mul_right (omega (arith, a, c, more)) (pow_pos s.halvings)
+stays_whole s t more w = grind (arith, mul-le-mul_right, mul_comm, le_of_mul-le-mul_right, pow_pos)
 
 -- twice the units, beside two other factors
 twice : (q h x : ℕ) → q * 2 ^ (h + 1) * x ≡ q * x * 2 ^ h * 2
@@ -67,22 +55,19 @@ twice q h x = ap (λ (z : ℕ). q * z * x) (pow-add 2 h 1)
 
 pub halves_join : HalvesJoin
 halves_join s a b f g =
-    let x : s.units * 2 ^ a.halvings * 2 ^ b.halvings ≤ a.units * 2 ^ (s.halvings + 1) * 2 ^ b.halvings = mul-le-mul_right (2 ^ b.halvings) f in
-    let y : s.units * 2 ^ b.halvings * 2 ^ a.halvings ≤ b.units * 2 ^ (s.halvings + 1) * 2 ^ a.halvings = mul-le-mul_right (2 ^ a.halvings) g in
     let x' = twice a.units s.halvings (2 ^ b.halvings) in let y' = twice b.units s.halvings (2 ^ a.halvings) in
     let turn = mul_right_comm s.units (2 ^ b.halvings) (2 ^ a.halvings) in
     let e : s.units * 2 ^ (a.halvings + b.halvings) ≡ s.units * 2 ^ a.halvings * 2 ^ b.halvings =
     ap (λ (z : ℕ). s.units * z) (pow-add 2 a.halvings b.halvings) ∙ sym (mul_assoc s.units (2 ^ a.halvings) (2 ^ b.halvings)) in
     let d = add-mul (a.units * 2 ^ b.halvings) (b.units * 2 ^ a.halvings) (2 ^ s.halvings) in
-    omega (arith, x, y, x', y', turn, e, d)
+    omega (arith, mul-le-mul_right (2 ^ b.halvings) f, mul-le-mul_right (2 ^ a.halvings) g, x', y', turn, e, d)
 
 -- ---- amounts
 
 two_halves : (k : ℕ) (s : Stake) → s.halvings + 1 ≤ k → amount k (half s) + amount k (half s) ≡ amount k s
 two_halves k s low =
     let n : ℕ = k - (s.halvings + 1) in
-    let up : k - s.halvings ≡ n + 1 = omega (arith, low) in
-    let twice : 2 ^ (k - s.halvings) ≡ 2 ^ n + 2 ^ n = ap (λ (z : ℕ). 2 ^ z) up ∙ (pow-add 2 n 1 ∙ omega arith) in
+    let twice : 2 ^ (k - s.halvings) ≡ 2 ^ n + 2 ^ n = ap (λ (z : ℕ). 2 ^ z) (omega (arith, low)) ∙ (pow-add 2 n 1 ∙ omega arith) in
     sym (mul-add s.units (2 ^ n) (2 ^ n)) ∙ ap (λ (z : ℕ). s.units * z) (sym twice)
 
 both : (k : ℕ) (s t : Stake) → s.halvings + t.halvings ≤ k → amount k (joined s t) ≡ amount k s + amount k t
@@ -133,19 +118,10 @@ part k v = amount k v.stake
 
 module _ (views : List View) (id : ℕ) (v : View) (at : get_elem? views id ≡ some v) (within : AreWithinWhole views) where
   pub within_same : (w : View) → w.stake ≡ v.stake → AreWithinWhole (set views id w)
-  within_same w same k large =
-      let h = sum_at halvings views id v w at in let a = sum_at (part k) views id v w at in
-      let e = ap (λ (z : Stake). z.halvings) same in let d = ap (amount k) same in
-      let old = within k (omega (arith, h, e, large)) in omega (arith, a, d, old)
+  within_same w same k large = grind (arith, sum_at, halvings, part)
 
   pub within_split : (l r : View) → l.stake ≡ half v.stake → r.stake ≡ half v.stake → AreWithinWhole (set views id l ++ r ∷ [])
-  within_split l r first second k large =
-      let h = sum_at halvings views id v l at in let a = sum_at (part k) views id v l at in
-      let h' = sum_by_push halvings (set views id l) r in let a' = sum_by_push (part k) (set views id l) r in
-      let e = ap (λ (z : Stake). z.halvings) first in let e' = ap (λ (z : Stake). z.halvings) second in
-      let d = ap (amount k) first in let d' = ap (amount k) second in
-      let old = within k (omega (arith, h, h', e, e', large)) in
-      let two = two_halves k v.stake (omega (arith, h', e', large)) in omega (arith, a, a', d, d', two, old)
+  within_split l r first second k large = grind (arith, sum_at, halvings, part, sum_by_push, set, two_halves)
 
   pub within_join : (other : ℕ) (w both_views left : View) → other ≢ id → get_elem? views other ≡ some w → both_views.stake ≡ joined v.stake w.stake →
       left.stake ≡ record { units = 0; halvings = 0 } → AreWithinWhole (set (set views id both_views) other left)
@@ -155,18 +131,14 @@ module _ (views : List View) (id : ℕ) (v : View) (at : get_elem? views id ≡ 
       let h' = sum_at halvings (set views id j) other w left again in let a' = sum_at (part k) (set views id j) other w left again in
       let e = ap (λ (z : Stake). z.halvings) sum_is in let e' = ap (λ (z : Stake). z.halvings) none in
       let two = sum_two halvings views id other v w left e' ne at at' in
-      let d' : part k left ≡ 0 = ap (amount k) none ∙ zero-mul (2 ^ (k - 0)) in
       let d = ap (amount k) sum_is ∙ both k v.stake w.stake (omega (arith, h, h', e, e', two, large)) in
-      let old = within k (omega (arith, h, h', e, e', large)) in omega (arith, a, a', d, d', old)
+      let old = within k (omega (arith, h, h', e, e', large)) in omega (arith, a, a', d, ap (amount k) none ∙ zero-mul (2 ^ (k - 0)), old)
 
   -- beside the whole no other view has a part
   pub no_other : (other : ℕ) (w left : View) → left.stake ≡ record { units = 0; halvings = 0 } → other ≢ id → get_elem? views other ≡ some w →
       0 < v.stake.units → IsWhole w.stake → ⊥
   no_other other w left none ne at' some_part w_whole =
       let k : ℕ = sum_by halvings views in
-      let most = within k (omega arith) in
-      let d : part k left ≡ 0 = ap (amount k) none ∙ zero-mul (2 ^ (k - 0)) in
-      let two = sum_two (part k) views id other v w left d ne at at' in
-      let all = whole_amount k w.stake (sum_one halvings views other w at') w_whole in
+      let two = sum_two (part k) views id other v w left (ap (amount k) none ∙ zero-mul (2 ^ (k - 0))) ne at at' in
       let some_amount = mul-pos some_part (pow_pos (k - v.stake.halvings)) in
-      omega (arith, most, two, all, some_amount)
+      omega (arith, within k (omega arith), two, whole_amount k w.stake (sum_one halvings views other w at') w_whole, some_amount)

@@ -37,37 +37,11 @@ module _ (b : Plan) (n : ℕ) (order : IsOrder (levels_of b) (order_of b)) (size
   no_piece q = get_or-drop (b.places + b.entries) words q 0 ∙ blank n (b.places + b.entries + q)
 
   first_sees : IsSeen b (nodes_of b words) (pieces_of b words) (newcomer b)
-  first_sees = record {
-    plan = refl;
-    size = omega arith;
-    nodes = λ p full. absurd (full refl);
-    unequal = λ p q full same. absurd (full refl);
-    are_pieces = λ q full. absurd (full refl);
-    grows = λ p full. absurd (full refl);
-    told = λ p full. absurd (full refl);
-    pieces = λ p full. absurd (full refl);
-    pieces_told = λ p full. absurd (full refl);
-    stake = omega arith;
-    all = λ current w p full. absurd (full (no_piece p));
-  }
+  first_sees = grind (arith, no_piece)
 
   seats : (i : ℕ) (v : View) → get_elem? (newcomer b ∷ []) i ≡ some v → v.live ≡ true → IsSeen b (nodes_of b words) (pieces_of b words) v
   seats zero v e live = subst (IsSeen b (nodes_of b words) (pieces_of b words)) (some-injective (newcomer b) v e) first_sees
   seats (suc i) v e live = absurd (some-ne-none v (sym e))
 
   pub starts : IsKept b (opening words [] (newcomer b))
-  starts = let long = length-replicate n 0 in record {
-    order = order;
-    size = long ∙ size;
-    stored = record {
-      size = length-take-le b.places words (omega (arith, long, size));
-      nodes = λ p full. absurd (full (no_node p));
-      unequal = λ p q full same. absurd (full (no_node p));
-      reached = λ p full. absurd (full (no_node p));
-    };
-    put = λ p full. absurd (full (no_node p));
-    entries = λ c low full. absurd (full (blank n (b.places + c)));
-    pieces = λ q full. absurd (full (no_piece q));
-    seen = seats;
-    stakes = first_within (newcomer b) refl;
-  }
+  starts = grind (arith, length-replicate, length-take-le, words, no_node, blank, no_piece, seats, first_within)

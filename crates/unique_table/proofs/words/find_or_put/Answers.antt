@@ -1,4 +1,4 @@
-use Rattle.std.proofs.Common.{ℕ, ◌<◌, ◌∙◌, refl, subst, arith}
+use Rattle.std.proofs.Common.{ℕ, ◌<◌, ◌∙◌, subst, arith}
 use Rattle.node_words.specs.Nodes.{home}
 use Rattle.node_words.proofs.Growing.{grows_refl, node_grows}
 use Rattle.node_words.proofs.Making.{one_more, full_for}
@@ -8,22 +8,7 @@ use Rattle.unique_table.proofs.Steps.{gains_both}
 use Rattle.unique_table.proofs.words.find_or_put.Goals as goal
 
 pub loop-passed-init : goal.loop-passed-init
-loop-passed-init c = record {
-  seat = c.requires.seat;
-  gains = record {
-    good = c.requires.seat.good;
-    current = λ e. e;
-    plan = refl;
-    stake = refl;
-    nodes = grows_refl c.args.seat.now.me.0.seen;
-    pieces = grows_refl c.args.seat.now.me.0.pieces;
-  };
-  made = gains_none c.args.seat.now.me.0.made c.args.seat.now.me.0.made c.args.word refl;
-  word = c.requires.word;
-  before = λ j none. absurd (omega arith);
-  steps = omega arith;
-  writes = refl;
-}
+loop-passed-init c = grind (arith, grows_refl, gains_none)
 
 pub loop-passed-preserved : goal.loop-passed-preserved
 loop-passed-preserved c = let i = c.loop-passed.invariant in record {
@@ -38,7 +23,7 @@ loop-passed-preserved c = let i = c.loop-passed.invariant in record {
   before = one_more c.loop-passed.seat.me.0.seen c.take.new.seat.me.0.seen c.args.places c.args.word c.loop-passed.passed
       c.probe-place.result c.take.ensures.gains.nodes i.before
       (c.probe-place.ensures.is c.args.word c.start-start.ensures.is) c.if-take.ensures.found;
-  steps = let a = c.take.ensures.steps in let b = i.steps in omega arith;
+  steps = omega arith;
   writes = c.if-take.ensures.writes ∙ i.writes;
 }
 
@@ -46,7 +31,7 @@ pub returns-clause-full : goal.returns-clause-full
 returns-clause-full c =
     let within : home c.args.places c.args.word < c.args.places = subst (λ (z : ℕ). z < c.args.places) c.start-start.ensures.is c.start-start.ensures.within in
     full_for c.loop-passed.seat.me.0.seen c.args.places c.args.word c.loop-passed.passed within
-    (let past = c.loop-passed-test.false in omega arith) c.loop-passed.invariant.before
+    (omega arith) c.loop-passed.invariant.before
 
 pub returns-then-take-clause-made : goal.returns-then-take-clause-made
 returns-then-take-clause-made c =

@@ -23,8 +23,7 @@ store-requires c =
 pub returns : goal.returns
 returns c = let g = c.store.ensures.2 in
     let back : c.args.place - (c.args.seat.now.me.0.plan.places + c.args.seat.now.me.0.plan.entries) ≡ c.args.piece =
-    (let e = subst (λ (b : Plan). c.args.place ≡ b.places + b.entries + c.args.piece) (sym c.requires.seat.plan) c.requires.place.at in
-    omega arith) in
+    omega (arith, subst (λ (b : Plan). c.args.place ≡ b.places + b.entries + c.args.piece) (sym c.requires.seat.plan) c.requires.place.at) in
     record {
       step = seat_after c.args.shared.now c.args.seat.now c.store.new.seat 1 g.0 g.1 c.requires.seat c.store.ensures.0 g.2 g.3;
       stored = ap (λ (m : M). get_or m.0.pieces c.args.piece 0) g.2

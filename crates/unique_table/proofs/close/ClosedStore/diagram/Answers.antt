@@ -20,9 +20,8 @@ nodes_found c C k is = ap (λ (z : ClosedStoreOf). nodes_of z.plan z.words) (sym
 
 pub reached_nodes-made-requires-clause-known : goal.reached_nodes-made-requires-clause-known
 reached_nodes-made-requires-clause-known c =
-    let k = c.self.invariant in
-    subst (λ (ws : List ℕ). All (IsKnown ws) c.as_slice.result.now) (nodes_found c.self.inside c.args.self k c.self.view_is)
-    (ids_known c.args.self (subst AreFinal c.self.view_is k.final) c.in_ok-ids.ensures.roots c.as_slice.result.now
+    subst (λ (ws : List ℕ). All (IsKnown ws) c.as_slice.result.now) (nodes_found c.self.inside c.args.self c.self.invariant c.self.view_is)
+    (ids_known c.args.self (subst AreFinal c.self.view_is c.self.invariant.final) c.in_ok-ids.ensures.roots c.as_slice.result.now
     (c.as_slice.ensures.value ∙ c.in_ok-ids.ensures.ids))
 
 pub returns-clause-diagram : goal.returns-clause-diagram

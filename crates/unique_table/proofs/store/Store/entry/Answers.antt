@@ -23,14 +23,7 @@ returns-clause-step c =
     c.session.invariant c.requires.session c.recall-word.new.seat 0 c.recall-word.ensures.step
 
 pub returns-clause-function : goal.returns-clause-function
-returns-clause-function c =
-    entry_means c.self.inside c.self.invariant c.recall-word.new.seat c.recall-word.ensures.step.seat c.args.operation c.args.first
-    c.args.second c.recall-word.result c.entry_key-key.result
-    (small_id c.self.inside c.session.inside c.args.self.now c.args.session.now c.self.view_is c.session.view_is c.self.invariant
-    c.session.invariant c.requires.session c.args.first c.requires.known.0)
-    (small_id c.self.inside c.session.inside c.args.self.now c.args.session.now c.self.view_is c.session.view_is c.self.invariant
-    c.session.invariant c.requires.session c.args.second c.requires.known.1)
-    c.recall-word.ensures.found c.entry_key-key.ensures c.if-word-key.false
+returns-clause-function c = search (entry_means, small_id)
 
 pub returns-clause-level : goal.returns-clause-level
 returns-clause-level c =

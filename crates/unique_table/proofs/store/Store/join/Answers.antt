@@ -7,13 +7,7 @@ use Rattle.unique_table.proofs.Opened.{seat_of, goes_grown, unique_ids}
 use Rattle.unique_table.proofs.store.Store.join.Goals as goal
 
 pub join_seat-requires : goal.join_seat-requires
-join_seat-requires c = (
-  (seat_of c.self.inside c.one.inside c.args.self.now c.args.one c.self.view_is c.one.view_is c.self.invariant c.one.invariant c.requires.one).table,
-  (seat_of c.self.inside c.two.inside c.args.self.now c.args.two c.self.view_is c.two.view_is c.self.invariant c.two.invariant c.requires.two).table,
-  c.two.invariant.empty,
-  (let a = c.self.invariant.words in let b = c.self.invariant.places in let d = c.self.invariant.plan.places in omega arith),
-  may_join _ _ _ _ _ c.one.invariant.good.live c.two.invariant.good.live,
-)
+join_seat-requires c = grind (arith, seat_of, may_join)
 
 pub returns-clause-one : goal.returns-clause-one
 returns-clause-one c =

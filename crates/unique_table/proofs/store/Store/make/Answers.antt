@@ -7,10 +7,7 @@ use Rattle.unique_table.proofs.Opened.{seated, made_only, word_ready, small_id, 
 use Rattle.unique_table.proofs.store.Store.make.Goals as goal
 
 pub find_or_put-requires-clause-word : goal.find_or_put-requires-clause-word
-find_or_put-requires-clause-word c =
-    word_ready c.self.inside c.session.inside c.args.self.now c.args.session.now c.self.view_is c.session.view_is c.self.invariant
-    c.session.invariant c.requires.session
-    c.args.level c.args.low c.args.high c.node_word-word.result c.requires.level c.requires.low c.requires.high c.if-low-high.false c.node_word-word.ensures
+find_or_put-requires-clause-word c = search word_ready
 
 pub returns-in_default-clause-follows : goal.returns-in_default-clause-follows
 returns-in_default-clause-follows c =
@@ -62,10 +59,7 @@ returns-then-low-high-clause-function c =
     (sym (eq-eqb c.args.low c.args.high c.if-low-high.true)) refl)
 
 pub returns-then-low-high-clause-unique : goal.returns-then-low-high-clause-unique
-returns-then-low-high-clause-unique c =
-    unique_ids c.self.inside c.self.invariant c.session.inside.seat
-    (seat_of c.self.inside c.session.inside c.args.self.now c.args.session.now c.self.view_is c.session.view_is c.self.invariant
-    c.session.invariant c.requires.session)
+returns-then-low-high-clause-unique c = search (unique_ids, seat_of)
 
 pub returns-in_default-clause-unique : goal.returns-in_default-clause-unique
 returns-in_default-clause-unique c = unique_ids c.self.inside c.self.invariant c.find_or_put.new.seat c.find_or_put.ensures.seat

@@ -25,10 +25,7 @@ returns-clause-parts c =
     c.node_parts.ensures.level c.node_parts.ensures.low c.node_parts.ensures.high
 
 pub returns-then-id-lt2-clause-unique : goal.returns-then-id-lt2-clause-unique
-returns-then-id-lt2-clause-unique c =
-    unique_ids c.self.inside c.self.invariant c.session.inside.seat
-    (seat_of c.self.inside c.session.inside c.args.self.now c.args.session.now c.self.view_is c.session.view_is c.self.invariant
-    c.session.invariant c.requires.session)
+returns-then-id-lt2-clause-unique c = search (unique_ids, seat_of)
 
 pub returns-clause-unique : goal.returns-clause-unique
 returns-clause-unique c = unique_ids c.self.inside c.self.invariant c.look-word.new.seat c.look-word.ensures.step.seat

@@ -7,6 +7,6 @@ pub split_seat-other-requires : goal.split_seat-other-requires
 split_seat-other-requires c = (
   (seat_of c.self.inside c.session.inside c.args.self.now c.args.session c.self.view_is c.session.view_is c.self.invariant
       c.session.invariant c.requires).table,
-  (let a = c.self.invariant.words in let b = c.self.invariant.places in let d = c.self.invariant.plan.places in omega arith),
+  omega arith,
   may_split _ _ _ c.session.invariant.good.live,
 )
