@@ -6,6 +6,7 @@ ghost use Rattle.std.specs.Thread.{IsSync};
 
 use crate::manager::Manager;
 use crate::sift::{Sifted, raise};
+use crate::sift_by_threads::{CallingThread, Sifter, WorkerThreads};
 use order_model::Workers;
 use std::alloc::{AllocError, Global};
 use std::thread;
@@ -48,34 +49,13 @@ impl Sifted {
     ghost use Rattle.sifting.specs.Managed.{IsNoLarger};
 
     /// Sifted again, until a pass gains nothing.
-    fn repeat(self, alloc: Global) -> Result<Sifted, AllocError>
+    fn repeat<S: Sifter>(self, sifter: &S, alloc: Global) -> Result<Sifted, AllocError>
         ensures { IfOk result (IsNoLarger self) }
     {
         let mut sifted = self;
         for _ in 0..MOST_PASSES {
             let size = sifted.size();
-            sifted = sifted.into_manager().sift(alloc)?;
-            if sifted.size() == size {
-                break;
-            }
-        }
-        Ok(sifted)
-    }
-
-    /// The same by two threads, if there are so many workers.
-    fn repeat_by_threads<R: Threads + Sync>(
-        self,
-        rt: &R,
-        alloc: Global,
-        workers: Workers,
-    ) -> Result<Sifted, AllocError>
-        ensures { IfOk result (IsNoLarger self) }
-    {
-        let mut sifted = self;
-        for _ in 0..MOST_PASSES {
-            let size = sifted.size();
-            let manager = sifted.into_manager();
-            sifted = manager.sift_by_threads(rt, alloc, workers)?;
+            sifted = sifted.into_manager().sift_by(sifter, alloc)?;
             if sifted.size() == size {
                 break;
             }
@@ -118,39 +98,9 @@ impl Sifted {
         let Some(other) = self.other_start(alloc)? else {
             return Ok(self);
         };
-        let here = self.repeat(alloc)?;
-        let there = other.sift(alloc)?.repeat(alloc)?;
+        let here = self.repeat(&CallingThread, alloc)?;
+        let there = other.sift(alloc)?.repeat(&CallingThread, alloc)?;
         Ok(here.or_smaller(there))
-    }
-
-    /// The same, each of the two by so many workers, at the same time.
-    fn sifted_to_convergence_by_threads<R: Threads + Sync>(
-        self,
-        rt: &R,
-        alloc: Global,
-        workers: Workers,
-    ) -> Result<Sifted, AllocError>
-        ensures { IfOk result (IsNoLarger self) }
-    {
-        let Some(other) = self.other_start(alloc)? else {
-            return Ok(self);
-        };
-        let (there, here) = thread::join(
-            rt,
-            move || -> Result<Sifted, AllocError>
-                requires { IsSync R.row }
-                ensures { IfOk result (λ s. (s.problem ≡ other.problem)
-                    × (s.pairs ≡ other.pairs)) }
-            {
-                let there = other.sift_by_threads(rt, alloc, workers)?;
-                there.repeat_by_threads(rt, alloc, workers)
-            },
-            move || -> Result<Sifted, AllocError>
-                requires { IsSync R.row }
-                ensures { IfOk result (IsNoLarger self) }
-            { self.repeat_by_threads(rt, alloc, workers) },
-        );
-        Ok(here?.or_smaller(there?))
     }
 
     /// The order whose size bounds the search: that of sifting to convergence, where a
@@ -164,7 +114,8 @@ impl Sifted {
         self.sifted_to_convergence(alloc)
     }
 
-    /// The same by as many threads as there are workers, four at most.
+    /// The same by as many threads as there are workers, four at most: half of them for each of the
+    /// two starts.
     pub fn search_bound_by_threads<R: Threads + Sync>(
         self,
         rt: &R,
@@ -173,12 +124,30 @@ impl Sifted {
     ) -> Result<Sifted, AllocError>
         ensures { IfOk result (IsNoLarger self) }
     {
-        let Some(half) = Workers::new(workers.count() / 2) else {
+        let Some(workers) = Workers::new(workers.count() / 2) else {
             return self.search_bound(alloc);
         };
         if self.order().len() < LEAST_INPUTS {
             return Ok(self);
         }
-        self.sifted_to_convergence_by_threads(rt, alloc, half)
+        let Some(other) = self.other_start(alloc)? else {
+            return Ok(self);
+        };
+        let (there, here) = thread::join(
+            rt,
+            move || -> Result<Sifted, AllocError>
+                requires { IsSync R.row }
+                ensures { IfOk result (λ s. (s.problem ≡ other.problem)
+                    × (s.pairs ≡ other.pairs)) }
+            {
+                let threads = WorkerThreads { rt, workers };
+                other.sift_by(&threads, alloc)?.repeat(&threads, alloc)
+            },
+            move || -> Result<Sifted, AllocError>
+                requires { IsSync R.row }
+                ensures { IfOk result (IsNoLarger self) }
+            { self.repeat(&WorkerThreads { rt, workers }, alloc) },
+        );
+        Ok(here?.or_smaller(there?))
     }
 }

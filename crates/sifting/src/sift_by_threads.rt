@@ -1,4 +1,5 @@
-//! Sifting by two threads: one moves a variable up, the other one moves it down.
+//! Who sifts: the calling thread, or two threads, of which one moves a variable up and the other one
+//! moves it down.
 
 ghost use Rattle.std.specs.Prelude.{◌≡◌, ◌<◌, ◌≤◌, length, IfOk};
 ghost use Rattle.order_model.specs.Problems.{functions};
@@ -56,30 +57,88 @@ fn walk_both<R: Threads>(
     Ok((up?, down?))
 }
 
-impl Manager {
-    /// What `put_best` does, by two threads.
-    fn put_best_by_threads<R: Threads>(
-        self,
-        rt: &R,
+/// Who sifts.
+pub(crate) trait Sifter {
+    /// What `Manager::put_best` does, in a pass that began with a diagram of that size.
+    fn put_best(
+        &self,
         alloc: Global,
+        manager: Manager,
         x: VarIx,
+        size: u32,
     ) -> Result<Manager, AllocError>
-        requires { x < length self.order }
+        requires { x < length manager.order }
         ensures order { IfOk result
-            (λ m. m.order ≡ best_order self.problem.inputs (functions self.problem) self.pairs
-            self.order x) }
-        ensures functions { IfOk result (λ m. m.problem ≡ self.problem) }
-        ensures pairs { IfOk result (λ m. m.pairs ≡ self.pairs) }
-        ensures length { IfOk result (λ m. length m.order ≡ length self.order) }
-    {
-        let place = self.order().place_of(x);
-        let (up, down) = walk_both(rt, alloc, self, place)?;
+            (λ m. m.order ≡ best_order manager.problem.inputs (functions manager.problem)
+            manager.pairs manager.order x) }
+        ensures functions { IfOk result (λ m. m.problem ≡ manager.problem) }
+        ensures pairs { IfOk result (λ m. m.pairs ≡ manager.pairs) }
+        ensures length { IfOk result (λ m. length m.order ≡ length manager.order) };
+}
+
+/// The calling thread.
+#[derive(Drop)]
+pub(crate) struct CallingThread;
+
+/// The threads of so many workers.
+#[derive(Drop)]
+pub(crate) struct WorkerThreads<'r, R> {
+    pub(crate) rt: &'r R,
+    pub(crate) workers: Workers,
+}
+
+impl Sifter for CallingThread {
+    fn put_best(
+        &self,
+        alloc: Global,
+        manager: Manager,
+        x: VarIx,
+        _size: u32,
+    ) -> Result<Manager, AllocError> {
+        manager.put_best(alloc, x)
+    }
+}
+
+impl<'r, R: Threads> Sifter for WorkerThreads<'r, R> {
+    /// By two threads if there are so many workers and the diagram is large.
+    fn put_best(
+        &self,
+        alloc: Global,
+        manager: Manager,
+        x: VarIx,
+        size: u32,
+    ) -> Result<Manager, AllocError> {
+        if self.workers.count() == 1 || size < LEAST_NODES {
+            return manager.put_best(alloc, x);
+        }
+        let place = manager.order().place_of(x);
+        let (up, down) = walk_both(self.rt, alloc, manager, place)?;
         if up.least <= down.least {
             let manager = lower(alloc, up.manager, up.place, up.best)?;
             return Ok(manager);
         }
         let manager = lift(alloc, down.manager, down.place, down.best)?;
         Ok(manager)
+    }
+}
+
+impl Manager {
+    /// What `sift` does, whoever sifts.
+    pub(crate) fn sift_by<S: Sifter>(self, sifter: &S, alloc: Global) -> Result<Sifted, AllocError>
+        ensures order { IfOk result
+            (λ s. s.order ≡ sifted self.problem.inputs (functions self.problem) self.pairs
+            self.order) }
+        ensures functions { IfOk result (λ s. s.problem ≡ self.problem) }
+        ensures pairs { IfOk result (λ s. s.pairs ≡ self.pairs) }
+        ensures size { IfOk result (λ s. s.size ≤ size_of self) }
+    {
+        let variables = self.by_count(alloc)?;
+        let size = self.size();
+        let mut manager = self;
+        for x in &variables {
+            manager = sifter.put_best(alloc, manager, *x, size)?;
+        }
+        Ok(Sifted::of(manager))
     }
 
     /// What `sift` does, by two threads if there are so many workers and the diagram is large.
@@ -96,14 +155,6 @@ impl Manager {
         ensures pairs { IfOk result (λ s. s.pairs ≡ self.pairs) }
         ensures size { IfOk result (λ s. s.size ≤ size_of self) }
     {
-        if workers.count() == 1 || self.size() < LEAST_NODES {
-            return self.sift(alloc);
-        }
-        let variables = self.by_count(alloc)?;
-        let mut manager = self;
-        for x in &variables {
-            manager = manager.put_best_by_threads(rt, alloc, *x)?;
-        }
-        Ok(Sifted::of(manager))
+        self.sift_by(&WorkerThreads { rt, workers }, alloc)
     }
 }
