@@ -40,7 +40,7 @@ module _ (b : BriefOf) (s : St) (k : Kept b s) (id : ℕ) (v : SeatView) (at : g
       step (shows b s) (Claim id)
   claim_event slots m untold told =
       let n : ℕ = get_or s.words 0 0 in let is : n ≡ counter_of s.words = counter_read s.words in
-      let small = small_counter b s k in let wide : 0 < length s.words = (let l = k.size in omega arith) in
+      let small = small_counter b s k in let wide : 0 < length s.words = omega arith in
       let up : (n + 1) % 2 ^ 64 ≡ counter_of s.words + 1 = mod-eq_of_lt (omega arith) ∙ ap (λ (z : ℕ). z + 1) is in
       let now : counter_of (set s.words 0 ((n + 1) % 2 ^ 64)) ≡ counter_of s.words + 1 = counter_set s.words ((n + 1) % 2 ^ 64) wide ∙ up in
       let same : map cell_in (cell_words (set s.words 0 ((n + 1) % 2 ^ 64))) ≡ map cell_in (cell_words s.words) =
@@ -68,13 +68,7 @@ module _ (b : BriefOf) (s : St) (k : Kept b s) (id : ℕ) (v : SeatView) (at : g
 
   -- a step that changes no worker
   nothing_moved : moved (shows b s) (counter_of s.words) (map cell_in (cell_words s.words)) id v.worker ≡ shows b s
-  nothing_moved =
-      λ i. record {
-        layout = layout_of b.layer;
-        counter = counter_of s.words;
-        cells = map cell_in (cell_words s.words);
-        workers = set_again (map worker_of s.views) id v.worker there i;
-      }
+  nothing_moved = search (set_again, there)
 
   module _ (p mask : ℕ) (place : place_of (layout_of b.layer) mask ≡ Some p) where
     word : ℕ

@@ -1,5 +1,5 @@
 -- What a board ends with.
-use Rattle.std.proofs.Common.{◌≡◌, ◌≢◌, ℕ, zero, suc, ◌<◌, ◌≤◌, true, false, List, [], ◌∷◌, map, get_or, length, Option, Some, None, Result, Ok, Err, IfErr, IfSome, sym, refl, ap, ◌∙◌, subst, arith}
+use Rattle.std.proofs.Common.{◌≡◌, ◌≢◌, ℕ, zero, suc, ◌<◌, ◌≤◌, false, List, [], ◌∷◌, map, get_or, length, Option, Some, None, Result, Ok, Err, IfErr, IfSome, sym, refl, ap, ◌∙◌, subst, arith}
 use Rattle.std.proofs.lemmas.List.{length-map}
 use Rattle.std.proofs.lemmas.Option.{slice_get_within, get_or_from_slice_get}
 use mathlib.Core.Option.{some, some-injective, some-ne-none}
@@ -7,8 +7,7 @@ use lib.ListN.{get_elem?}
 use Rattle.atomic_table.specs.Table.{Final, Seen}
 use Rattle.atomic_table.proofs.Lists.{at_map}
 use Rattle.subset_layers.specs.declared.costs.Cell.{Cell}
-use Rattle.subset_layers.specs.Layers.{masks_of}
-use Rattle.layer_core.specs.Machine.{World, Worker, cell_at, knows, place_of}
+use Rattle.layer_core.specs.Machine.{Worker, knows, place_of}
 use Rattle.layer_core.specs.Rights.{total}
 use Rattle.layer_core.proofs.Runs.{cells_are}
 use Rattle.layer_board.specs.declared.closed.CloseError.TheVariants.{Missing, OutOfMemory}
@@ -33,12 +32,9 @@ rest (x ∷ xs) = xs
 strip : {A B X : Type 0} (f : A → X) (g : B → X) (xs : List A) (ys : List B) → map (λ x. Some (f x)) xs ≡ map (λ y. Some (g y)) ys → map f xs ≡ map g ys
 unfolding unwrapped rest
 strip f g [] [] e = refl
-strip f g [] (y ∷ ys) e = absurd (let h = ap length e in omega arith)
-strip f g (x ∷ xs) [] e = absurd (let h = ap length e in omega arith)
-strip f g (x ∷ xs) (y ∷ ys) e =
-    let first : f x ≡ g y = ap (λ l. unwrapped (f x) (get_or l 0 None)) e in
-    let others : map f xs ≡ map g ys = strip f g xs ys (ap rest e) in
-    λ i. first i ∷ others i
+strip f g [] (y ∷ ys) e = absurd (omega (arith, ap length e))
+strip f g (x ∷ xs) [] e = absurd (omega (arith, ap length e))
+strip f g (x ∷ xs) (y ∷ ys) e = grind (arith, unwrapped, rest, strip f g xs ys (ap rest e))
 
 some_there : {A X : Type 0} (f : A → X) (xs : List A) (p : ℕ) → p < length xs → get_or (map (λ x. Some (f x)) xs) p None ≢ None
 some_there f [] p h = absurd (omega arith)
@@ -58,11 +54,7 @@ no_more f (x ∷ xs) each = let here = each 0 x refl in let rest = no_more f xs 
 pub all_cells : (cells : List Cell) (f : ℕ → ℕ × ℕ) (masks : List ℕ) (cs : List (Option (ℕ × ℕ))) → length cs ≡ length masks →
     ((p : ℕ) → IfSome (get_or cs p None) (λ c. c ≡ f (get_or masks p 0))) → map (λ c. Some (pair_of c)) cells ≡ cs →
     map pair_of cells ≡ map f masks
-all_cells cells f masks cs size right all =
-    let many = ap length all in let as_many = length-map_lem (λ (c : Cell). Some (pair_of c)) cells in
-    strip pair_of f cells masks
-    (all ∙ cells_are f masks cs size right
-    (λ p low. subst (λ (l : List (Option (ℕ × ℕ))). get_or l p None ≢ None) all (some_there pair_of cells p (omega (arith, many, as_many, size, low)))))
+all_cells cells f masks cs size right all = grind (arith, length-map_lem, strip, cells_are, some_there)
 
 -- what a board ends with, and what its last seat knows of it
 module _ (b : BriefOf) (V : SeatView) (id : ℕ) (ws : List ℕ) (slots : List (Unit {0})) (end : Final (Seen (Kept b) id V) ws slots) where
@@ -71,10 +63,7 @@ module _ (b : BriefOf) (V : SeatView) (id : ℕ) (ws : List ℕ) (slots : List (
 
   -- each worker has a seat
   few_workers : length (map worker_of end.0.views) ≤ b.workers
-  few_workers =
-      let l = length-map end.0.views worker_of in
-      let m = no_more (λ (v : SeatView). v.seats) end.0.views (λ i v there. (kept.briefs i v there).1) in
-      let n = kept.seats in omega (arith, l, m, n)
+  few_workers = grind (arith, length-map, no_more)
 
   pub is_last : (S : SeatOf) (c : ClosedBoardOf) → S.board.brief ≡ b → S.worker ≡ V.worker → c.brief ≡ b → map cell_in (cell_words ws) ≡ c.cells →
       IsFinalBoard S c
@@ -114,35 +103,4 @@ only (x ∷ y ∷ xs) (suc i) v few there = absurd (omega (arith, few))
 
 -- on a board of one worker the least missing mask is the least that the seat does not know to be filled
 pub one_misses : OneMissesTheLeast
-one_misses seat mask one m = record {
-  place = place;
-  within = subst (λ (z : BriefOf). place < length (masks_of z.layer)) m.is_last.brief
-      (slice_get_within (masks_of m.last.brief.layer) place mask m.least.is);
-  is = subst (λ (z : BriefOf). get_or (masks_of z.layer) place 0 ≡ mask) m.is_last.brief
-      (get_or_from_slice_get (masks_of m.last.brief.layer) place mask 0 m.least.is);
-  unknown = false_from_ne_true (knows seat.worker place) (λ known. state.right.known state.seat seat.worker state.has place known
-      (same place ∙ m.least.empty));
-  least = λ q low. filled q (λ e. m.least.least q low (sym (same q) ∙ e));
-}
-  where
-    place : ℕ
-    place = m.least.place
-
-    last : World
-    last = m.is_last.last
-
-    state : IsLastState m.last.brief seat.worker last
-    state = m.is_last.is_last
-
-    same : (q : ℕ) → cell_at last q ≡ get_or m.last.cells q None
-    same q = ap (λ (z : List (Option (ℕ × ℕ))). get_or z q None) m.is_last.cells
-
-    few : length last.workers ≤ 1
-    few = let f = state.few in let w = ap (λ (z : BriefOf). z.workers) m.is_last.brief in omega (arith, f, w, one)
-
-    filled : (q : ℕ) → cell_at last q ≢ None → knows seat.worker q ≡ true
-    filled q full =
-        let other = state.right.filled q full in
-        let same : other.1 ≡ seat.worker = some-injective other.1 seat.worker
-        (sym (only last.workers other.0 other.1 few other.2) ∙ only last.workers state.seat seat.worker few state.has) in
-        subst (λ (w : Worker). knows w q ≡ true) same other.3.1
+one_misses seat mask one m = grind (arith, slice_get_within, get_or_from_slice_get, false_from_ne_true, some-injective, only)

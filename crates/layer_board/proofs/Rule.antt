@@ -71,15 +71,14 @@ placed b s k i n id counter cells v w at same_brief same_seats new_counter new_c
   right = subst (Right (IsCellAt b.setting)) (sym (picture_moved b.layer s.words s.views i n id counter cells w new_counter new_cells)) r;
   briefs = each_set (λ j (u : SeatView). (u.brief ≡ b) × (0 < u.seats)) s.views id w k.briefs
       (let old = k.briefs id v at in (same_brief ∙ old.0, subst (λ (z : ℕ). 0 < z) (sym same_seats) old.1));
-  seats = let t = sum_at (λ (u : SeatView). u.seats) s.views id v w at in let was = k.seats in let same = same_seats in omega arith;
+  seats = omega (arith, sum_at (λ (u : SeatView). u.seats) s.views id v w at);
   few = k.few;
 }
 
 told_within : (l : List SeatView) → ((i : ℕ) (v : SeatView) → get_elem? l i ≡ some v → 0 < v.seats) →
     told_number (map worker_of l) ≤ total (λ (v : SeatView). v.seats) l
 told_within [] all = omega arith
-told_within (x ∷ xs) all = let r = told_within xs (λ i v e. all (suc i) v e) in let some_seat = all 0 x refl in
-    let one : weight x.worker.told ≤ 1 = most x.worker.told in omega arith
+told_within (x ∷ xs) all = omega (arith, told_within xs (λ i v e. all (suc i) v e), all 0 x refl, most x.worker.told)
   where
     most : (t : Bool) → weight t ≤ 1
     most true = omega arith
@@ -87,8 +86,7 @@ told_within (x ∷ xs) all = let r = told_within xs (λ i v e. all (suc i) v e) 
 
 -- the counter does not wrap
 pub small_counter : (b : BriefOf) (s : St) → Kept b s → counter_of s.words ≤ 320
-small_counter b s k = let t = told_within s.views (λ i v e. (k.briefs i v e).1) in let c = k.right.counted in let m = few_blocks b.layer in
-    let u = k.seats in let f = k.few in omega arith
+small_counter b s k = omega (arith, told_within s.views (λ i v e. (k.briefs i v e).1), few_blocks b.layer)
 
 module _ (b : BriefOf) (slots id : ℕ) (me : Sat) where
   abbrev v : SeatView
@@ -97,7 +95,7 @@ module _ (b : BriefOf) (slots id : ℕ) (me : Sat) where
   pub may_claim : v.worker.told ≡ false → Allows (Kept b) slots id me 0 (λ n. (n + 1) % 2 ^ 64) (claims (step slots 0 1 0 none) me)
   may_claim untold s k _ at _ =
       let n : ℕ = get_or s.words 0 0 in let old : World = picture b.layer s.words s.views in let there = at_map worker_of s.views id v at in
-      let wide : 0 < length s.words = (let l = k.size in omega arith) in let small = small_counter b s k in
+      let wide : 0 < length s.words = omega arith in let small = small_counter b s k in
       let is : n ≡ counter_of s.words = counter_read s.words in
       let up : (n + 1) % 2 ^ 64 ≡ counter_of s.words + 1 = mod-eq_of_lt (omega arith) ∙ ap (λ (z : ℕ). z + 1) is in
       let now : counter_of (set s.words 0 ((n + 1) % 2 ^ 64)) ≡ counter_of s.words + 1 = counter_set s.words ((n + 1) % 2 ^ 64) wide ∙ up in
@@ -135,14 +133,13 @@ module _ (b : BriefOf) (slots id : ℕ) (me : Sat) where
   still_kept : (s : St) → Kept b s → get_elem? s.views id ≡ some v → (p : ℕ) →
       Kept b record { words = set s.words (suc p) (get_or s.words (suc p) 0); homes = s.homes; views = set s.views id (after v v.worker 0) }
   still_kept s k at p =
-      let there = at_map worker_of s.views id v at in
       let same : set s.words (suc p) (get_or s.words (suc p) 0) ≡ s.words = set-get_or s.words (suc p) 0 in
       placed b s k (suc p) (get_or s.words (suc p) 0) id (counter_of s.words) (map cell_in (cell_words s.words)) v (after v v.worker 0) at
       refl refl (ap counter_of same) (ap (λ ws. map cell_in (cell_words ws)) same)
       (subst (λ ws. AreWords (cell_words ws)) (sym same) k.cells)
       (subst (λ (z : List Worker). Right (IsCellAt b.setting) record
       { layout = layout_of b.layer; counter = counter_of s.words; cells = map cell_in (cell_words s.words); workers = z })
-      (sym (set_again (map worker_of s.views) id v.worker there)) k.right)
+      (sym (set_again (map worker_of s.views) id v.worker (at_map worker_of s.views id v at))) k.right)
 
   pub may_read : (p : ℕ) → Allows (Kept b) slots id me (suc p) (λ n. n) (reads (step slots (suc p) 0 0 none) me)
   may_read p s k _ at _ =
@@ -264,8 +261,7 @@ may_split b id v more s k at =
       briefs = each_snoc (λ (u : SeatView). (u.brief ≡ b) × (0 < u.seats)) (set s.views id (one_left v)) (fresh v.brief 1)
           (each_set (λ j (u : SeatView). (u.brief ≡ b) × (0 < u.seats)) s.views id (one_left v) k.briefs (old.0, omega arith)) (old.0, omega arith);
       seats = let t = sum_at (λ (u : SeatView). u.seats) s.views id v (one_left v) at in
-          let u = total_snoc (λ (u : SeatView). u.seats) (set s.views id (one_left v)) (fresh v.brief 1) in let was = k.seats in
-          omega arith;
+          let u = total_snoc (λ (u : SeatView). u.seats) (set s.views id (one_left v)) (fresh v.brief 1) in omega arith;
       few = k.few;
     }
 

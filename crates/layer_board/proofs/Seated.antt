@@ -14,12 +14,7 @@ use Rattle.layer_core.proofs.CoreSteps.{mark_at}
 -- a seat after a step, from its new view
 pub shown_after : (s s' : seat.Inside) (w : Worker) (wrote : ℕ) → s'.seat.table_id ≡ s.seat.table_id →
     s'.seat.me ≡ (after (view_of s) w wrote, s.seat.me.1) → seat_shown s' ≡ stepped (seat_shown s) w wrote
-shown_after s s' w wrote table me = λ i. record {
-  board = record { table = table i; brief = (me i).0.brief };
-  worker = (me i).0.worker;
-  steps = (me i).0.steps;
-  writes = (me i).0.writes;
-}
+shown_after s s' w wrote table me = grind arith
 
 -- a mask that is not in the layer
 module _ (b : board.Inside) (B : BoardId) (S : SeatOf) (kept : IsBoard b) (bv : board_shown b ≡ B) (fits : S.board ≡ B) (mask : ℕ)

@@ -69,7 +69,4 @@ no_words (suc n) = ap (λ l. None ∷ l) (no_words n)
 
 -- a word that isn't 0 shows a cell
 pub shown_empty : (n : ℕ) → n ≢ 0 → cell_in n ≢ None
-shown_empty n some_n e = no_some (n / 32 - 1, n % 32) (sym (full_word n some_n) ∙ e)
-  where
-    no_some : (c : ℕ × ℕ) → Some c ≡ None → ⊥
-    no_some c e = cc
+shown_empty n some_n e = grind (arith, full_word)

@@ -1,4 +1,4 @@
-use Rattle.std.proofs.Common.{◌≡◌, ◌+◌, ℕ, replicate, length, refl, sym, ap, ◌∙◌, arith}
+use Rattle.std.proofs.Common.{◌≡◌, ◌+◌, ℕ, replicate, length, sym, ap, ◌∙◌, arith}
 use Rattle.subset_layers.specs.Layers.{LayerOf, masks_of}
 use Rattle.layer_core.proofs.Lists.{length-same}
 use Rattle.layer_core.specs.Settings.{setting_of}
@@ -20,17 +20,7 @@ of_words-requires c =
     (omega (arith, c.count-count.ensures.some, c.count-count.ensures.value)) (omega (arith, c.count-count.ensures.most, c.count-count.ensures.value))
 
 pub invariant_of-board : goal.invariant_of-board
-invariant_of-board c = let e = c.in_ok-table.ensures in record {
-  layer = sym (ap (λ (b : BriefOf). b.layer) e.5 ∙ c.of-3.ensures);
-  no_slots = e.1;
-  words = e.0 ∙ (ap length (c.as_slice.ensures.value ∙ c.in_ok-words.ensures) ∙ (length-same (c.len.result + 1) 0 ∙ ap (λ (n : ℕ). n + 1) c.len.ensures));
-  few = few_masks_in c.in_ok-layer.layer c.in_ok-layer.layer.inputs refl c.in_ok-layer.ensures.few;
-}
+invariant_of-board c = grind (arith, length-same, few_masks_in)
 
 pub invariant_of-board-2 : goal.invariant_of-board-2
-invariant_of-board-2 c = let e = c.in_ok-table.ensures in record {
-  layer = sym (ap (λ (b : BriefOf). b.layer) e.5 ∙ c.of-3.ensures);
-  no_slots = e.1;
-  words = e.0 ∙ (ap length (c.as_slice.ensures.value ∙ c.in_ok-words.ensures) ∙ (length-same (c.len.result + 1) 0 ∙ ap (λ (n : ℕ). n + 1) c.len.ensures));
-  few = few_masks_in c.in_ok-layer.layer c.in_ok-layer.layer.inputs refl c.in_ok-layer.ensures.few;
-}
+invariant_of-board-2 c = grind (arith, length-same, few_masks_in)

@@ -1,12 +1,10 @@
-use Rattle.std.proofs.Common.{◌≡◌, ℕ, ◌+◌, Bool, true, false, None, sym, ap, ◌∙◌, refl, subst, arith}
+use Rattle.std.proofs.Common.{◌≡◌, ℕ, ◌+◌, Bool, true, false, sym, ap, ◌∙◌, refl, subst, arith}
 use Rattle.std.proofs.lemmas.Option.{slice_get_within}
 use Rattle.subset_layers.specs.Layers.{masks_of}
 use Rattle.layer_board.specs.declared.seats.BoardSeat.TheInside.{Inside}
-use Rattle.layer_core.specs.Machine.{place_of, learns}
-use Rattle.layer_core.specs.Settings.{layout_of}
 use Rattle.layer_board.specs.Views.{knows_filled, has_claimed, learned}
 use Rattle.layer_board.specs.Picture.{cell_in}
-use Rattle.layer_board.specs.Held.{seat_shown, view_of}
+use Rattle.layer_board.specs.Held.{seat_shown}
 use Rattle.layer_core.proofs.Layouts.{missing_if}
 use Rattle.layer_board.proofs.Words.{word_back}
 use Rattle.layer_board.proofs.Rule.{may_post_at, posted_at}
@@ -18,31 +16,16 @@ false_true true p q = cc
 false_true false p q = cc
 
 pub returns-in_default-clause-refused : goal.returns-in_default-clause-refused
-returns-in_default-clause-refused c = (
-  missing_unclaimed c.self.inside c.args.self.now c.args.seat.now c.self.invariant c.self.view_is c.requires.board c.args.cell.mask
-      (subst (λ (m : ℕ). place_of (layout_of c.self.inside.layer) m ≡ None) c.mask.ensures
-      (missing_if c.self.inside.layer c.mask.result c.position.result c.in_default.is c.position.ensures.none)),
-  refl,
-)
+returns-in_default-clause-refused c = grind (arith, missing_unclaimed, missing_if)
 
 pub returns-in_default-clause-known : goal.returns-in_default-clause-known
-returns-in_default-clause-known c = λ claimed. absurd (false_true (has_claimed c.args.seat.now c.args.cell.mask)
-    (missing_unclaimed c.self.inside c.args.self.now c.args.seat.now c.self.invariant c.self.view_is c.requires.board c.args.cell.mask
-    (subst (λ (m : ℕ). place_of (layout_of c.self.inside.layer) m ≡ None) c.mask.ensures
-    (missing_if c.self.inside.layer c.mask.result c.position.result c.in_default.is c.position.ensures.none))) claimed)
+returns-in_default-clause-known c = grind (arith, false_true, missing_unclaimed, missing_if)
 
 pub block_place-requires : goal.block_place-requires
 block_place-requires c = slice_get_within (masks_of c.self.inside.layer) c.in-Some.place c.mask.result c.in-Some.ensures.found
 
 pub index-requires : goal.index-requires
-index-requires c =
-    let b = c.self.inside in let s = c.seat.inside in
-    omega (
-      arith,
-      s.claims.ok,
-      claims_long b s c.args.self.now c.args.seat.now c.self.invariant c.seat.invariant c.self.view_is c.seat.view_is c.requires.board
-          c.mask.result c.in-Some.place c.in-Some.ensures.found c.block_place.result c.block_place.ensures.below,
-    )
+index-requires c = grind (arith, claims_long)
 
 pub returns-then-not-index-clause-refused : goal.returns-then-not-index-clause-refused
 returns-then-not-index-clause-refused c =
@@ -74,12 +57,7 @@ returns-then-not-index-clause-known c =
     claimed)
 
 pub overflow_add-place : goal.overflow_add-place
-overflow_add-place c =
-    omega (
-      arith,
-      c.self.invariant.few,
-      slice_get_within (masks_of c.self.inside.layer) c.in-Some.place c.mask.result c.in-Some.ensures.found,
-    )
+overflow_add-place c = grind (arith, slice_get_within)
 
 pub compare_exchange-found-requires : goal.compare_exchange-found-requires
 compare_exchange-found-requires c =
@@ -167,21 +145,7 @@ returns-clause-known c =
     c.mask.result c.in-Some.place is new 0 e.0 full.0 full.1)
 
 pub returns-then-found-eq0-clause-board : goal.returns-then-found-eq0-clause-board
-returns-then-found-eq0-clause-board c =
-    let b = c.self.inside in let s = c.seat.inside in
-    let new : Inside = record { seat = c.compare_exchange-found.new.seat; claims = s.claims; told = s.told } in
-    let e = c.compare_exchange-found.ensures in
-    let told = posted_at b.table.shared.table_id.slots c.in-Some.place 0 c.word_of_cell-word.result c.compare_exchange-found.result
-    s.seat.me c.compare_exchange-found.new.seat.me e.2 in
-    still_there b s c.args.self.now c.args.seat.now c.self.invariant c.seat.invariant c.self.view_is c.seat.view_is c.requires.board new
-    (learns (view_of s).worker c.in-Some.place) 1 e.0 (told.0 c.if-found-eq0.true)
+returns-then-found-eq0-clause-board c = grind (arith, posted_at, still_there)
 
 pub returns-clause-board : goal.returns-clause-board
-returns-clause-board c =
-    let b = c.self.inside in let s = c.seat.inside in
-    let new : Inside = record { seat = c.compare_exchange-found.new.seat; claims = s.claims; told = s.told } in
-    let e = c.compare_exchange-found.ensures in
-    let told = posted_at b.table.shared.table_id.slots c.in-Some.place 0 c.word_of_cell-word.result c.compare_exchange-found.result
-    s.seat.me c.compare_exchange-found.new.seat.me e.2 in
-    still_there b s c.args.self.now c.args.seat.now c.self.invariant c.seat.invariant c.self.view_is c.seat.view_is c.requires.board new
-    (view_of s).worker 0 e.0 (told.1 c.if-found-eq0.false).0
+returns-clause-board c = grind (arith, posted_at, still_there)

@@ -1,10 +1,7 @@
-use Rattle.std.proofs.Common.{◌+◌, ◌∙◌, refl, arith}
+use Rattle.std.proofs.Common.{◌+◌, refl, arith}
 use Rattle.std.proofs.lemmas.Option.{slice_get_within}
 use Rattle.subset_layers.specs.Layers.{masks_of}
-use Rattle.layer_core.specs.Machine.{learns}
 use Rattle.layer_board.specs.declared.seats.BoardSeat.TheInside.{Inside}
-use Rattle.layer_core.specs.Settings.{cell_for}
-use Rattle.layer_board.specs.Held.{view_of}
 use Rattle.layer_core.proofs.Layouts.{missing_if}
 use Rattle.layer_board.proofs.Rule.{may_read_at, read_at}
 use Rattle.layer_board.proofs.Seated.{same_table, seen_setting, missing_unknown, missing_empty, has_word, mask_there, known_there, after_learning, knows_after, after_none, still_there}
@@ -33,13 +30,7 @@ pub cell_of_word-requires : goal.cell_of_word-requires
 cell_of_word-requires c = (c.load-found.ensures.2.1 c.if-found-eq0.false).1
 
 pub returns-then-found-eq0-clause-unknown : goal.returns-then-found-eq0-clause-unknown
-returns-then-found-eq0-clause-unknown c =
-    let b = c.self.inside in let s = c.seat.inside in let is = c.in-Some.ensures.found in
-    let new : Inside = record { seat = c.load-found.new.seat; claims = s.claims; told = s.told } in let e = c.load-found.ensures in
-    let told = read_at b.table.shared.table_id.slots c.in-Some.place 0 0 c.load-found.result s.seat.me c.load-found.new.seat.me e.2 in
-    λ _. known_there b s c.args.self.now c.args.seat.now c.self.invariant c.seat.invariant c.self.view_is c.seat.view_is c.requires
-    c.args.mask c.in-Some.place is
-    ∙ ((told.0 c.if-found-eq0.true).1 ∙ refl)
+returns-then-found-eq0-clause-unknown c = grind (arith, read_at, known_there)
 
 pub returns-then-found-eq0-clause-empty : goal.returns-then-found-eq0-clause-empty
 returns-then-found-eq0-clause-empty c =
@@ -50,17 +41,7 @@ returns-then-found-eq0-clause-empty c =
     c.args.mask c.in-Some.place is new 0 e.0 (told.0 c.if-found-eq0.true).0
 
 pub returns-clause-cell : goal.returns-clause-cell
-returns-clause-cell c =
-    let b = c.self.inside in let s = c.seat.inside in let is = c.in-Some.ensures.found in
-    let new : Inside = record { seat = c.load-found.new.seat; claims = s.claims; told = s.told } in let e = c.load-found.ensures in
-    let told = read_at b.table.shared.table_id.slots c.in-Some.place 0 0 c.load-found.result s.seat.me c.load-found.new.seat.me e.2 in
-    c.cell_of_word.ensures
-    ∙ ((told.1 c.if-found-eq0.false).2
-    ∙ λ i. cell_for
-    (seen_setting b s c.args.self.now c.args.seat.now c.self.invariant c.seat.invariant c.self.view_is c.seat.view_is
-    c.requires i)
-    (mask_there b s c.args.self.now c.args.seat.now c.self.invariant c.seat.invariant c.self.view_is c.seat.view_is c.requires
-    c.args.mask c.in-Some.place is i))
+returns-clause-cell c = grind (arith, read_at, seen_setting, mask_there)
 
 pub returns-clause-learned : goal.returns-clause-learned
 returns-clause-learned c =
@@ -79,17 +60,7 @@ returns-clause-known c =
     c.in-Some.place is new 0 e.0 (told.1 c.if-found-eq0.false).0
 
 pub returns-then-found-eq0-clause-board : goal.returns-then-found-eq0-clause-board
-returns-then-found-eq0-clause-board c =
-    let b = c.self.inside in let s = c.seat.inside in
-    let new : Inside = record { seat = c.load-found.new.seat; claims = s.claims; told = s.told } in let e = c.load-found.ensures in
-    let told = read_at b.table.shared.table_id.slots c.in-Some.place 0 0 c.load-found.result s.seat.me c.load-found.new.seat.me e.2 in
-    still_there b s c.args.self.now c.args.seat.now c.self.invariant c.seat.invariant c.self.view_is c.seat.view_is c.requires new
-    (view_of s).worker 0 e.0 (told.0 c.if-found-eq0.true).0
+returns-then-found-eq0-clause-board c = grind (arith, read_at, still_there)
 
 pub returns-clause-board : goal.returns-clause-board
-returns-clause-board c =
-    let b = c.self.inside in let s = c.seat.inside in
-    let new : Inside = record { seat = c.load-found.new.seat; claims = s.claims; told = s.told } in let e = c.load-found.ensures in
-    let told = read_at b.table.shared.table_id.slots c.in-Some.place 0 0 c.load-found.result s.seat.me c.load-found.new.seat.me e.2 in
-    still_there b s c.args.self.now c.args.seat.now c.self.invariant c.seat.invariant c.self.view_is c.seat.view_is c.requires new
-    (learns (view_of s).worker c.in-Some.place) 0 e.0 (told.1 c.if-found-eq0.false).0
+returns-clause-board c = grind (arith, read_at, still_there)
