@@ -107,15 +107,7 @@ no_terms_yet s sound (inr none) = sound.no_terms (rw none (and-false (is_some s.
 pub after_nothing : (before : List Line) (s : State) (line : Line) → input_count line ≡ None → output_count line ≡ None →
     input_naming line ≡ None → output_naming line ≡ None →
     type_words line ≡ None → row_bytes line ≡ None → Agrees before s → Agrees (before ++ line ∷ []) s
-after_nothing before s line i o xs ys t r agrees = record {
-  inputs = none_behind input_count before line i ∙ agrees.inputs;
-  outputs = none_behind output_count before line o ∙ agrees.outputs;
-  input_names = none_behind input_naming before line xs ∙ agrees.input_names;
-  output_names = none_behind output_naming before line ys ∙ agrees.output_names;
-  types = none_behind type_words before line t ∙ agrees.types;
-  rows = ap (map (term_of (unwrap_or s.inputs 0))) (none_behind row_bytes before line r) ∙ agrees.rows;
-  sound = agrees.sound;
-}
+after_nothing before s line i o xs ys t r agrees = search (none_behind, unwrap_or)
 
 -- a list without terms agrees with no rows, whatever the counts
 rows_of_none : (before : List Line) (s : State) (line : Line) (n m : ℕ) → Agrees before s → row_bytes line ≡ None → s.terms ≡ [] →
@@ -173,42 +165,12 @@ after_outputs before s given d agrees none number some few = let terms = no_term
 -- after the names of the inputs
 pub after_input_names : (before : List Line) (s : State) (given : List (List ℕ)) → Agrees before s → s.input_names ≡ None → s.inputs ≡ Some (length given) →
     Agrees (before ++ InputNames given ∷ []) (record s { input_names = Some given })
-after_input_names before s given agrees none counted = record {
-  inputs = none_behind input_count before (InputNames given) refl ∙ agrees.inputs;
-  outputs = none_behind output_count before (InputNames given) refl ∙ agrees.outputs;
-  input_names = first_given input_naming before (InputNames given) s.input_names given agrees.input_names none refl;
-  output_names = none_behind output_naming before (InputNames given) refl ∙ agrees.output_names;
-  types = none_behind type_words before (InputNames given) refl ∙ agrees.types;
-  rows = ap (map (term_of (unwrap_or s.inputs 0))) (none_behind row_bytes before (InputNames given) refl) ∙ agrees.rows;
-  sound = record {
-    inputs = agrees.sound.inputs;
-    outputs = agrees.sound.outputs;
-    input_names = counted;
-    output_names = agrees.sound.output_names;
-    terms = agrees.sound.terms;
-    no_terms = agrees.sound.no_terms;
-  };
-}
+after_input_names before s given agrees none counted = search (none_behind, first_given, unwrap_or)
 
 -- after the names of the outputs
 pub after_output_names : (before : List Line) (s : State) (given : List (List ℕ)) → Agrees before s → s.output_names ≡ None → s.outputs ≡ Some (length given) →
     Agrees (before ++ OutputNames given ∷ []) (record s { output_names = Some given })
-after_output_names before s given agrees none counted = record {
-  inputs = none_behind input_count before (OutputNames given) refl ∙ agrees.inputs;
-  outputs = none_behind output_count before (OutputNames given) refl ∙ agrees.outputs;
-  input_names = none_behind input_naming before (OutputNames given) refl ∙ agrees.input_names;
-  output_names = first_given output_naming before (OutputNames given) s.output_names given agrees.output_names none refl;
-  types = none_behind type_words before (OutputNames given) refl ∙ agrees.types;
-  rows = ap (map (term_of (unwrap_or s.inputs 0))) (none_behind row_bytes before (OutputNames given) refl) ∙ agrees.rows;
-  sound = record {
-    inputs = agrees.sound.inputs;
-    outputs = agrees.sound.outputs;
-    input_names = agrees.sound.input_names;
-    output_names = counted;
-    terms = agrees.sound.terms;
-    no_terms = agrees.sound.no_terms;
-  };
-}
+after_output_names before s given agrees none counted = search (none_behind, first_given, unwrap_or)
 
 -- after a logical type
 pub after_type : (before : List Line) (s : State) (given : List (List ℕ)) (kind : LogicalType) → Agrees before s → s.logical_type ≡ None →
@@ -253,7 +215,7 @@ after_row before s n m bytes term agrees first second same fits = record {
     input_names = agrees.sound.input_names;
     output_names = agrees.sound.output_names;
     terms = terms;
-    no_terms = λ e. absurd (let wrong = rw second at (rw first at e) in cc);
+    no_terms = λ e. absurd cc;
   };
 } where
   inputs_are : unwrap_or s.inputs 0 ≡ n

@@ -1,7 +1,6 @@
 -- Names.
-use Rattle.std.proofs.Common.{◌≡◌, ℕ, ◌+◌, true, refl, ◌∙◌, ap, List, [], ◌∷◌, ◌++◌, map, decimal, length, Option, Some, None, IfSome, unwrap_or, sym, arith}
+use Rattle.std.proofs.Common.{◌≡◌, ℕ, ◌+◌, true, ◌∙◌, ap, List, [], ◌∷◌, ◌++◌, decimal, length, Option, Some, None, IfSome, unwrap_or, sym, arith}
 use Rattle.std.proofs.lemmas.List.FromFn.{length-map-range_with_len}
-use Rattle.std.specs.List.{range_with_len}
 use Rattle.std.specs.Char.{is_ascii_graphic}
 use Rattle.std.specs.Str.{IsAscii}
 use Rattle.std.proofs.lemmas.Str.Ascii.{IsAscii-nil, IsAscii-cons}
@@ -20,10 +19,7 @@ ascii_name (b ∷ bs) e = let parts = and_parts (is_ascii_graphic b) (is_name bs
 -- one name more with a number after it
 pub numbered_next : (front : List ℕ) (n : ℕ) → numbered_names front (n + 1) ≡ numbered_names front n ++ (front ++ decimal n) ∷ []
 unfolding numbered_names
-numbered_next front n =
-    let zero-plus : 0 + n ≡ n = omega arith in
-    ap (map (λ i. front ++ decimal i)) (range_append 0 n 1)
-    ∙ map-append (λ i. front ++ decimal i) (range_with_len 0 n) (range_with_len (0 + n) 1) ∙ rw zero-plus refl
+numbered_next front n = grind (arith, decimal, range_append, map-append)
 
 -- names that were given, or else numbered ones, are as many as their count says
 pub names_number : (given : Option (List (List ℕ))) (count : Option ℕ) (n : ℕ) (front : List ℕ) (names : List (List ℕ)) → count ≡ Some n →
@@ -32,4 +28,4 @@ pub names_number : (given : Option (List (List ℕ))) (count : Option ℕ) (n : 
 unfolding numbered_names
 names_number None count n front names e counted same = ap length same ∙ length-map-range_with_len (λ i. front ++ decimal i) 0 n
 names_number (Some ns) count n front names e counted same = let lengths = ap length same in
-    let both : Some n ≡ Some (length ns) = sym e ∙ counted in let here : n ≡ length ns = cc in lengths ∙ sym here
+    let here : n ≡ length ns = cc in lengths ∙ sym here

@@ -1,5 +1,5 @@
 -- The lines of an input, one after the other.
-use Rattle.std.proofs.Common.{◌≡◌, ℕ, ◌+◌, ◌≤◌, ◌<◌, zero, suc, min, refl, sym, ◌∙◌, ap, Bool, true, false, cond, not, ◌&&◌, List, [], ◌∷◌, ◌++◌, length, map, codes, Option, Some, None, is_some, unwrap_or, filter_map, Result, Ok, Err, IfOk, IfErr, inl, inr, arith}
+use Rattle.std.proofs.Common.{◌≡◌, ℕ, ◌+◌, ◌≤◌, ◌<◌, zero, suc, min, refl, sym, ◌∙◌, ap, Bool, true, false, cond, not, ◌&&◌, List, [], ◌∷◌, ◌++◌, length, codes, Option, Some, None, is_some, unwrap_or, filter_map, Result, Ok, Err, IfOk, IfErr, inl, inr, arith}
 use Rattle.std.specs.Option.{option_map, option_to_list}
 use Rattle.std.specs.List.{range_with_len, list_all, prefix_len}
 use Rattle.std.proofs.lemmas.Bool.{cases_lt}
@@ -15,8 +15,8 @@ use Rattle.pla_reader.specs.declared.errors.PlaError.{PlaError}
 use Rattle.pla_reader.specs.declared.errors.PlaError.TheVariants as pla_errors
 use Rattle.pla_reader.specs.Text.{lines_of}
 use Rattle.pla_reader.specs.Lines.{Line, is_end, description, said, line_said}
-use Rattle.pla_reader.specs.Lines.Line.{Empty, Inputs, Outputs, InputNames, OutputNames, Products, LogicalType, End, UnknownWord, Row}
-use Rattle.pla_reader.specs.Covers.{NamedCover, input_count, output_count, input_naming, output_naming, row_bytes, cover_of, term_of, inputs_of, outputs_of, first_or, numbered_names}
+use Rattle.pla_reader.specs.Lines.Line.{Empty, End}
+use Rattle.pla_reader.specs.Covers.{NamedCover, cover_of, first_or}
 use Rattle.pla_reader.specs.Faults.{fault_of}
 use Rattle.pla_reader.specs.Reading.{judged, end_faults, faults, Gives, HasFirst}
 use Rattle.pla_reader.specs.Progress.{State, Agrees, IsCoverOf, IsEndError}
@@ -49,11 +49,7 @@ judged_next before more line = rw (take-append_seam before (line ∷ more)) (rw 
 
 all_more : (before : List Line) (line : Line) → list_all goes_on before ≡ true → goes_on line ≡ true → list_all goes_on (before ++ line ∷ []) ≡ true
 all_more [] line all here = rw here refl
-all_more (b ∷ before) line all here = by (goes_on b) refl (all_more before line) where
-  by : (t : Bool) → goes_on b ≡ t → (list_all goes_on before ≡ true → goes_on line ≡ true → list_all goes_on (before ++ line ∷ []) ≡ true) →
-      list_all goes_on (b ∷ before ++ line ∷ []) ≡ true
-  by true e more = rw e (more (rw e at all) here)
-  by false e more = absurd (let wrong = rw e at all in cc)
+all_more (b ∷ before) line all here = grind (arith, goes_on, all_more before line)
 
 pub reached_next : (lines rest : List Line) (line : Line) (number : ℕ) (s s' : State) → (here : Reached lines (line ∷ rest) number s) →
     is_end line ≡ false → (fault_of here.before line ≡ None) × Agrees (here.before ++ line ∷ []) s' → Reached lines rest (number + 1) s'
@@ -80,7 +76,7 @@ description_open (b ∷ before) rest all = by (goes_on b) refl (description_open
   by : (t : Bool) → goes_on b ≡ t → (list_all goes_on before ≡ true → description (before ++ rest) ≡ before ++ description rest) →
       description (b ∷ before ++ rest) ≡ b ∷ before ++ description rest
   by true e more = rw e (rw (one_more (prefix_len goes_on (before ++ rest))) (ap (λ ls. b ∷ ls) (more (rw e at all))))
-  by false e more = absurd (let wrong = rw e at all in cc)
+  by false e more = absurd cc
 
 description_cons : (line : Line) (rest : List Line) → is_end line ≡ false → description (line ∷ rest) ≡ line ∷ description rest
 unfolding description
@@ -99,13 +95,12 @@ faults_behind : (before more : List Line) → ((k : ℕ) → k < length before �
     filter_map (judged (before ++ more)) (range_with_len 0 (length (before ++ more))) ≡ filter_map (judged (before ++ more))
     (range_with_len (length before) (length more))
 faults_behind before more none =
-    let zero-plus : 0 + length before ≡ length before = omega arith in
     ap (λ n. filter_map (judged (before ++ more)) (range_with_len 0 n)) (length-append before more)
     ∙ ap (filter_map (judged (before ++ more))) (range_append 0 (length before) (length more))
     ∙ filter_map-append (judged (before ++ more)) (range_with_len 0 (length before)) (range_with_len (0 + length before) (length more))
     ∙ ap (λ found. found ++ filter_map (judged (before ++ more)) (range_with_len (0 + length before) (length more)))
     (none_in_range (judged (before ++ more)) 0 (length before) (λ k low high. judged_front before more k (omega arith) ∙ none k (omega arith)))
-    ∙ ap (λ a. filter_map (judged (before ++ more)) (range_with_len a (length more))) zero-plus
+    ∙ ap (λ a. filter_map (judged (before ++ more)) (range_with_len a (length more))) (omega arith)
 
 -- a faulty line is the first one
 pub first_is_found : (lines rest : List Line) (line : Line) (number : ℕ) (s : State) (fault : LineFault) → (here : Reached lines (line ∷ rest) number s) →
@@ -135,11 +130,7 @@ ending : (lines before : List Line) (number : ℕ) (s : State) → description l
     ((k : ℕ) → k < length before → judged before k ≡ None) → Agrees before s →
     faults lines ≡ cond (is_some s.inputs && is_some s.outputs) [] ((number, MissingHead) ∷ [])
 unfolding end_faults
-ending lines before number s told counted none agrees =
-    end_is_found lines before told none
-    ∙ rw told (rw counted
-    (rw (comes_known input_count before s.inputs agrees.inputs)
-    (rw (comes_known output_count before s.outputs agrees.outputs) refl)))
+ending lines before number s told counted none agrees = grind (arith, end_is_found, comes_known)
 
 -- what came, or else another value
 first_known : {A : Type 0} (other : A) (known : Option A) (xs : List A) → xs ≡ option_to_list known → first_or other xs ≡ unwrap_or known other
@@ -149,25 +140,7 @@ first_known other (Some x) xs e = rw e refl
 -- the cover of the lines before
 cover_known : (before : List Line) (s : State) (cover : NamedCover) → Agrees before s → IsCoverOf s cover → cover_of before ≡ cover
 unfolding cover_of
-cover_known before s cover agrees is =
-    rw inputs (rw outputs (rw input_names (rw output_names (rw products refl))))
-  where
-    inputs : inputs_of before ≡ cover.inputs
-    inputs = inputs_known before s.inputs agrees.inputs ∙ ap (λ k. unwrap_or k 0) is.inputs
-
-    outputs : outputs_of before ≡ cover.outputs
-    outputs = outputs_known before s.outputs agrees.outputs ∙ ap (λ k. unwrap_or k 0) is.outputs
-
-    input_names : first_or (numbered_names (codes "x") cover.inputs) (filter_map input_naming before) ≡ cover.input_names
-    input_names = first_known (numbered_names (codes "x") cover.inputs) s.input_names (filter_map input_naming before) agrees.input_names ∙ sym is.input_names
-
-    output_names : first_or (numbered_names (codes "y") cover.outputs) (filter_map output_naming before) ≡ cover.output_names
-    output_names =
-        first_known (numbered_names (codes "y") cover.outputs) s.output_names (filter_map output_naming before) agrees.output_names
-        ∙ sym is.output_names
-
-    products : map (term_of cover.inputs) (filter_map row_bytes before) ≡ cover.products
-    products = (let held = agrees.rows in rw is.outputs at (rw is.inputs at held)) ∙ sym is.products
+cover_known before s cover agrees is = grind (arith, inputs_known, unwrap_or, outputs_known, codes, filter_map, first_known)
 
 -- where a description ends, with its last line's number
 pub record Ends (lines : List Line) (number : ℕ) (s : State) : Type 0 where
@@ -179,36 +152,14 @@ pub record Ends (lines : List Line) (number : ℕ) (s : State) : Type 0 where
 
 pub ends_at_end : (lines rest : List Line) (number : ℕ) (s : State) (line : Line) → (here : Reached lines (line ∷ rest) number s) →
     line ≡ End → Ends lines (number + 1) s
-ends_at_end lines rest number s line here is =
-    let before = here.before in
-    let numbered = here.numbered in
-    let length_is : length lines ≡ length before + suc (length rest) = ap length here.whole ∙ length-append before (line ∷ rest) in
-    record {
-      before = before;
-      told = ap description here.whole ∙ description_open before (line ∷ rest) here.open_so_far ∙ ap (λ (l : Line). before ++ description (l ∷ rest)) is
-          ∙ ap (λ ls. before ++ ls) (description_end rest) ∙ append-nil before;
-      counted = omega arith;
-      faultless = here.faultless;
-      agrees = here.agrees;
-    }
+ends_at_end lines rest number s line here is = grind (arith, length-append, description_open, description_end, append-nil)
 
 description_none : description [] ≡ []
 unfolding description
 description_none = refl
 
 pub ends_with_input : (lines : List Line) (number : ℕ) (s : State) → Reached lines [] number s → Ends lines number s
-ends_with_input lines number s here =
-    let before = here.before in
-    let numbered = here.numbered in
-    let whole : lines ≡ before = here.whole ∙ append-nil before in
-    let length_is : length lines ≡ length before = ap length whole in
-    record {
-      before = before;
-      told = ap description here.whole ∙ description_open before [] here.open_so_far ∙ ap (λ ls. before ++ ls) description_none ∙ append-nil before;
-      counted = omega arith;
-      faultless = here.faultless;
-      agrees = here.agrees;
-    }
+ends_with_input lines number s here = grind (arith, append-nil, description_open, description_none)
 
 pub gives_cover : (lines : List Line) (number : ℕ) (s : State) (cover : NamedCover) → Ends lines number s → IsCoverOf s cover → Gives lines cover
 gives_cover lines number s cover ends is = record {
@@ -235,16 +186,7 @@ said_none (b ∷ bs) e = absurd (omega (arith, e))
 
 -- the line that ends the description
 pub end_line : (line : Line) → is_end line ≡ true → line ≡ End
-end_line Empty e = absurd cc
-end_line (Inputs given) e = absurd cc
-end_line (Outputs given) e = absurd cc
-end_line (InputNames given) e = absurd cc
-end_line (OutputNames given) e = absurd cc
-end_line (Products given) e = absurd cc
-end_line (LogicalType given) e = absurd cc
-end_line End e = refl
-end_line UnknownWord e = absurd cc
-end_line (Row bytes) e = absurd cc
+end_line line h = grind arith
 
 -- the answer at the end of a description
 pub answers_end : (bytes : List ℕ) (number : ℕ) (s : State) (r : Result Cover PlaError) → Ends (said bytes) number s →

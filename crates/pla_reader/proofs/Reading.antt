@@ -13,12 +13,12 @@ gives_or_has_first lines = by (faults lines) refl where
   by ((line, fault) ∷ others) first = inr (line, fault, record { others = others; first = first })
 
 pub not_both : (lines : List Line) (cover : NamedCover) (line : ℕ) (fault : LineFault) → Gives lines cover → HasFirst lines line fault → ⊥
-not_both lines cover line fault gives has = let none = gives.faultless in let first = has.first in cc
+not_both lines cover line fault gives has = cc
 
 pub one_cover : (lines : List Line) (a b : NamedCover) → Gives lines a → Gives lines b → a ≡ b
 one_cover lines a b left right = sym left.given ∙ right.given
 
 pub one_fault : (lines : List Line) (i j : ℕ) (e f : LineFault) → HasFirst lines i e → HasFirst lines j f → (i ≡ j) × (e ≡ f)
 one_fault lines i j e f left right =
-    let first = left.first in let second = right.first in let both : (i, e) ≡ (j, f) = cc in
+    let both : (i, e) ≡ (j, f) = cc in
     (ap (λ (p : ℕ × LineFault). p.0) both, ap (λ (p : ℕ × LineFault). p.1) both)

@@ -60,13 +60,7 @@ pub record IsAt (taken : Bool) (n m : ℕ) (line : List ℕ) (i k : ℕ) (term :
 pub skip_one : (taken : Bool) (n m : ℕ) (line : List ℕ) (i k : ℕ) (term : Masks) → IsAt taken n m line i k term → i < length line →
     skips (slice_index_or line i 0) ≡ true →
     IsAt taken n m line (suc i) k term
-skip_one taken n m line i k term here inside e = record {
-  at_most = here.at_most;
-  upto = here.upto;
-  ahead = here.ahead ∙ positions_skip line i inside e;
-  fault = ap (rest_fault taken n m k) (sym (positions_skip line i inside e)) ∙ here.fault;
-  held = here.held;
-}
+skip_one taken n m line i k term here inside e = grind (arith, positions_skip, rest_fault)
 
 -- the fault of what is left, with a position in front
 front_fault : (taken : Bool) (n m : ℕ) (line : List ℕ) (i k : ℕ) (term : Masks) → IsAt taken n m line i k term → i < length line →
@@ -173,20 +167,16 @@ unfolding product_of term_of
 is_the_term taken n m line i k masks term care value outs here over full =
     let bytes = positions line in
     let most : length bytes ≤ k = length_of_none bytes k (here.ahead ∙ positions_end line i over) in
-    let at_most = here.at_most in
-    let upto = here.upto in
-    let whole : length bytes ≡ n + m = omega arith in
-    let held = here.held in
     let front : length (map literal_of (take n bytes)) ≡ n = length-map (take n bytes) literal_of ∙ length-take-le n bytes (omega arith) in
     let back : length (map is_one (drop n bytes)) ≡ m = length-map (drop n bytes) is_one ∙ length-drop n bytes ∙ omega arith in
     let literals : map literal_of (take n bytes) ≡ map (literal_in term) (range_with_len 0 n) =
     fill_by_all (literal_in term) (map literal_of (take n bytes)) n None front
     (λ j inside. get_or-map literal_of (take n bytes) j 0 None (omega (arith, length-take-le n bytes (omega arith)))
-    ∙ ap literal_of (get_or-take n bytes j 0 inside) ∙ sym (held.literals j (omega arith) inside)
+    ∙ ap literal_of (get_or-take n bytes j 0 inside) ∙ sym (here.held.literals j (omega arith) inside)
     ∙ sym (same_literal term masks j care value)) in
     let outputs : map is_one (drop n bytes) ≡ map (output_in term) (range_with_len 0 m) = fill_by_all (output_in term) (map is_one (drop n bytes)) m false back
     (λ j inside. get_or-map is_one (drop n bytes) j 0 false (omega (arith, length-drop n bytes)) ∙ ap is_one (get_or-drop n bytes j 0)
-    ∙ sym (held.outputs j (omega arith)) ∙ sym (same_output term masks j outs)) in
+    ∙ sym (here.held.outputs j (omega arith)) ∙ sym (same_output term masks j outs)) in
     rw (← literals, ← outputs) refl
 
 -- what stands in front of the others is tried first
@@ -195,11 +185,7 @@ first_some_cons None xs = refl
 first_some_cons (Some fault) xs = refl
 
 short_length : (count wanted : ℕ) → count ≤ wanted → first_some (length_fault count wanted ∷ []) ≡ cond (nat_lt count wanted) (Some ShortTerm) None
-short_length count wanted below = let over : nat_lt wanted count ≡ false = grind (arith, nat_tests) in rw over (by (nat_lt count wanted) refl) where
-  by : (t : Bool) → nat_lt count wanted ≡ t →
-      first_some (cond (nat_lt count wanted) (Some ShortTerm) None ∷ []) ≡ cond (nat_lt count wanted) (Some ShortTerm) None
-  by true e = rw e refl
-  by false e = rw e refl
+short_length count wanted below = grind (arith, nat_lt, nat_tests)
 
 long_length : (count wanted : ℕ) → wanted < count → first_some (length_fault count wanted ∷ []) ≡ Some LongTerm
 long_length count wanted above =
@@ -213,11 +199,10 @@ outputs_left taken n m zero k [] behind e = let same : k + 0 ≡ k = omega arith
 outputs_left taken n m (suc left) k [] behind e = let same : k + 0 ≡ k = omega arith in rw same (sym (short_length k (n + m) (omega arith)))
 outputs_left taken n m zero k (c ∷ cs) behind e = long_front taken n m k c cs (omega arith) ∙ sym (long_length (k + suc (length cs)) (n + m) (omega arith))
 outputs_left taken n m (suc left) k (c ∷ cs) behind e =
-    let same : (k + 1) + length cs ≡ k + suc (length cs) = omega arith in
     output_front taken n m k c cs behind (omega arith)
     ∙ ap (or_else (output_fault taken c))
     (outputs_left taken n m left (k + 1) cs (omega arith) (omega arith)
-    ∙ ap (λ count. first_some (map (output_fault taken) (take left cs) ++ length_fault count (n + m) ∷ [])) same)
+    ∙ ap (λ count. first_some (map (output_fault taken) (take left cs) ++ length_fault count (n + m) ∷ [])) (omega arith))
     ∙ sym (first_some_cons (output_fault taken c) (map (output_fault taken) (take left cs) ++ length_fault (k + suc (length cs)) (n + m) ∷ []))
 
 -- the fault of n inputs, m outputs and a length, where some inputs are left

@@ -1,5 +1,5 @@
 -- Terms, character by character.
-use Rattle.std.proofs.Common.{◌≡◌, ℕ, ◌+◌, ◌-◌, ◌*◌, ◌%◌, ◌^◌, ◌≤◌, ◌<◌, refl, ◌∙◌, ap, Bool, cond, ◌==◌, nat_lt, List, [], ◌∷◌, Option, Some, None, bit_or, bit_and, sym, min, max, pow_pos, arith, inl, inr}
+use Rattle.std.proofs.Common.{◌≡◌, ℕ, ◌+◌, ◌-◌, ◌*◌, ◌%◌, ◌^◌, ◌≤◌, ◌<◌, refl, ◌∙◌, ap, Bool, cond, ◌==◌, nat_lt, List, [], ◌∷◌, Option, Some, None, bit_or, bit_and, sym, min, max, pow_pos, arith}
 use Rattle.std.specs.Int.{bit_at, w16}
 use Rattle.std.proofs.lemmas.Bool.{cases_eq}
 use Rattle.std.specs.List.{slice_index_or}
@@ -34,14 +34,16 @@ within_bits : (value care : ℕ) → bit_and value care ≡ value → (k : ℕ) 
 within_bits value care e k = sym (bit_at_and value care k) ∙ ap (λ n. bit_at n k) e
 
 pub within_care : (value care i : ℕ) → bit_and value care ≡ value → bit_and value (with_bit care i) ≡ value
-within_care value care i e = same_from_bits _ _ (λ k. let both = bits_of_both care i k in let lies = within_bits value care e k in
-    bit_at_and value (with_bit care i) k ∙ rw both (omega arith))
+within_care value care i e =
+    same_from_bits _ _ (λ k. let both = bits_of_both care i k in bit_at_and value (with_bit care i) k ∙ rw both (omega (
+      arith,
+      within_bits value care e k,
+    )))
 
 pub within_both : (value care i : ℕ) → bit_and value care ≡ value → bit_and (with_bit value i) (with_bit care i) ≡ with_bit value i
 within_both value care i e =
     same_from_bits _ _
-    (λ k. let first = bits_of_both care i k in let second = bits_of_both value i k in let lies = within_bits value care e k in
-    bit_at_and (with_bit value i) (with_bit care i) k ∙ rw first (rw second (omega arith)))
+    (λ k. let first = bits_of_both care i k in let second = bits_of_both value i k in bit_at_and (with_bit value i) (with_bit care i) k ∙ rw first (rw second (omega (arith, within_bits value care e k))))
 
 pub reads_zero : (old : Masks) (i c : ℕ) → i < 16 → bit_at old.value i ≡ 0 → c ≡ 48 →
     ReadsInput old i c (record { care = with_bit old.care i; value = old.value; outs = old.outs })
@@ -98,16 +100,7 @@ pub record HoldsFirst (n m k : ℕ) (bytes : List ℕ) (term : Masks) : Type 0 w
   pub small_outs : term.outs < 2 ^ m
 
 pub holds_none : (n m : ℕ) (bytes : List ℕ) → HoldsFirst n m 0 bytes (record { care = 0; value = 0; outs = 0 })
-holds_none n m bytes = record {
-  literals = λ i below. absurd (omega (arith, below));
-  fresh_care = λ i above. bit_at-zero i;
-  fresh_value = λ i above. bit_at-zero i;
-  outputs = λ j below. absurd (omega (arith, below));
-  fresh_outs = λ j above. bit_at-zero j;
-  within = refl;
-  small_care = pow_pos n;
-  small_outs = pow_pos m;
-}
+holds_none n m bytes = grind (arith, bit_at-zero, pow_pos)
 
 -- the literal in masks is that of two bits
 literal_same : (a b : Masks) (i : ℕ) → bit_at a.care i ≡ bit_at b.care i → bit_at a.value i ≡ bit_at b.value i → literal_at a i ≡ literal_at b i
@@ -116,33 +109,9 @@ literal_same a b i care value = rw care (rw value refl)
 pub holds_input : (n m k : ℕ) (bytes : List ℕ) (old new : Masks) (c : ℕ) → HoldsFirst n m k bytes old → k < n →
     slice_index_or bytes k 0 ≡ c → ReadsInput old k c new →
     HoldsFirst n m (k + 1) bytes new
-holds_input n m k bytes old new c held inside at reads = record {
-  literals = λ i below within. elim (cases_eq i k) [
-    | inl e ↦ rw e (rw at reads.here)
-    | inr apart ↦ literal_same new old i (reads.care i apart) (reads.value i apart)
-        ∙ held.literals i (omega arith) within
-  ];
-  fresh_care = λ i above. reads.care i (omega arith) ∙ held.fresh_care i (omega arith);
-  fresh_value = λ i above. reads.value i (omega arith) ∙ held.fresh_value i (omega arith);
-  outputs = λ j below. absurd (omega arith);
-  fresh_outs = λ j above. rw reads.outs (held.fresh_outs j (omega arith));
-  within = reads.within held.within;
-  small_care = reads.small n inside held.small_care;
-  small_outs = rw reads.outs held.small_outs;
-}
+holds_input n m k bytes old new c held inside at reads = grind (arith, cases_eq, literal_same)
 
 pub holds_output : (n m k : ℕ) (bytes : List ℕ) (old new : Masks) (c : ℕ) → HoldsFirst n m k bytes old → n ≤ k → k < n + m →
     slice_index_or bytes k 0 ≡ c → ReadsOutput old (k - n) c new →
     HoldsFirst n m (k + 1) bytes new
-holds_output n m k bytes old new c held behind inside at reads = record {
-  literals = λ i below within. literal_same new old i (rw reads.care refl) (rw reads.value refl) ∙ held.literals i (omega arith) within;
-  fresh_care = λ i above. rw reads.care (held.fresh_care i (omega arith));
-  fresh_value = λ i above. rw reads.value (held.fresh_value i (omega arith));
-  outputs = λ j below. elim (cases_eq j (k - n)) [ inl e ↦ here j e | inr apart ↦ ap (λ b. b == 1) (reads.others j apart) ∙ held.outputs j (omega arith) ];
-  fresh_outs = λ j above. reads.others j (omega arith) ∙ held.fresh_outs j (omega arith);
-  within = rw reads.value (rw reads.care held.within);
-  small_care = rw reads.care held.small_care;
-  small_outs = reads.small m (omega arith) held.small_outs;
-} where
-  here : (j : ℕ) → j ≡ k - n → output_at new j ≡ (slice_index_or bytes (n + j) 0 == 49)
-  here j e = let place : n + j ≡ k = omega arith in rw place (rw at (rw e reads.here))
+holds_output n m k bytes old new c held behind inside at reads = grind (arith, literal_same, cases_eq)

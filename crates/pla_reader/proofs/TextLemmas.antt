@@ -18,12 +18,7 @@ pub first_line_cons : (b : ℕ) (bs : List ℕ) →
     lines_of (b ∷ bs) ≡ take (position_or_len is_feed (b ∷ bs)) (b ∷ bs) ∷ lines_of
     (drop 1 (drop (position_or_len is_feed (b ∷ bs)) (b ∷ bs)))
 unfolding lines_of
-first_line_cons b [] = by (b == 10) refl where
-  by : (t : Bool) → (b == 10) ≡ t →
-      lines_of (b ∷ []) ≡ take (position_or_len is_feed (b ∷ [])) (b ∷ []) ∷ lines_of
-      (drop 1 (drop (position_or_len is_feed (b ∷ [])) (b ∷ [])))
-  by true e = rw e refl
-  by false e = rw e refl
+first_line_cons b [] = grind (arith, is_feed)
 first_line_cons b (c ∷ cs) = by (b == 10) refl (first_line_cons c cs) where
   by : (t : Bool) → (b == 10) ≡ t →
       lines_of (c ∷ cs) ≡ take (position_or_len is_feed (c ∷ cs)) (c ∷ cs) ∷ lines_of
@@ -104,8 +99,4 @@ pub len_before_first : (p q : ℕ → Bool) → ((b : ℕ) → q b ≡ p b) → 
 len_before_first p q same xs None h =
     sym (position_or_len_is p xs (length xs) 0 (omega arith)
     (λ k lt. false_from_ne_true (p (get_or xs k 0)) (λ t. h k (omega arith) lt (same (get_or xs k 0) ∙ t))) (λ lt. absurd (omega arith)))
-len_before_first p q same xs (Some i) h =
-    let lt = h.0.high in
-    sym (position_or_len_is p xs i 0 (omega arith)
-    (λ k below. false_from_ne_true (p (get_or xs k 0)) (λ t. h.0.before k (omega arith) below (same (get_or xs k 0) ∙ t)))
-    (λ inside. sym (same (get_or xs i 0)) ∙ h.1))
+len_before_first p q same xs (Some i) h = grind (arith, position_or_len_is, false_from_ne_true)

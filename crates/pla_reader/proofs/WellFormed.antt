@@ -1,20 +1,20 @@
 -- A cover that is read is well formed.
-use Rattle.std.proofs.Common.{◌≡◌, ℕ, ◌+◌, ◌≤◌, zero, suc, refl, sym, ◌∙◌, ap, Bool, true, false, cond, ◌&&◌, nat_lt, nat_le, List, [], ◌∷◌, ◌++◌, length, map, take, drop, codes, decimal, Option, Some, None, unwrap_or, is_some, filter_map, IfSome, ◌==◌, ◌≢◌, ◌<◌, ◌⊎◌, inl, inr, take_all, get_or, arith, rules}
+use Rattle.std.proofs.Common.{◌≡◌, ℕ, ◌+◌, ◌≤◌, zero, suc, refl, sym, ◌∙◌, ap, Bool, true, false, cond, ◌&&◌, nat_lt, List, [], ◌∷◌, ◌++◌, length, map, take, drop, codes, decimal, Option, Some, None, unwrap_or, is_some, filter_map, IfSome, ◌≢◌, ◌<◌, ◌⊎◌, inl, inr, take_all, get_or, arith, rules}
 use Rattle.std.specs.Option.{option_to_list, option_map}
 use Rattle.std.specs.List.{All, range_with_len, slice_index_or}
 use Rattle.std.proofs.lemmas.Bool.Decides.{nat_tests}
 use Rattle.std.proofs.lemmas.List.{length-map, length-take-le, length-drop, get_or-map}
-use Rattle.std.proofs.lemmas.List.Elements.{All-nil, All-append}
+use Rattle.std.proofs.lemmas.List.Elements.{All-append}
 use Rattle.std.proofs.lemmas.List.FromFn.{length-map-range_with_len}
 use Rattle.pla_reader.specs.declared.errors.LineFault.{LineFault}
 use Rattle.pla_reader.specs.declared.errors.LineFault.TheVariants.{InputCount, OutputCount, MissingHead}
-use Rattle.std.proofs.lemmas.Bool.{and_parts, cases_eq}
+use Rattle.std.proofs.lemmas.Bool.{cases_eq}
 use Rattle.std.proofs.Math.Seq.{take-suc}
 use Rattle.order_model.specs.Texts.{number_of, is_number}
 use Rattle.pla_reader.specs.Lines.{Line, description}
 use Rattle.pla_reader.specs.Lines.Line.{Empty, Inputs, Outputs, InputNames, OutputNames, Products, LogicalType, End, UnknownWord, Row}
 use Rattle.pla_reader.specs.Covers.{NamedCover, input_count, output_count, input_naming, output_naming, row_bytes, IsProductOf, IsCover, first_number, first_or, inputs_of, outputs_of, numbered_names, term_of, literal_of, in_on_set, cover_of}
-use Rattle.pla_reader.specs.Faults.{comes, first_some, length_fault, term_fault, head_fault, naming_fault, fault_of, input_fault, output_fault, is_small, takes_dont_cares}
+use Rattle.pla_reader.specs.Faults.{comes, first_some, term_fault, head_fault, naming_fault, fault_of, is_small, takes_dont_cares}
 use Rattle.pla_reader.specs.Reading.{judged, end_faults, end_number, faults, Gives}
 use Rattle.pla_reader.proofs.LineLemmas.{names_wait, none_behind, one_behind, first_given, comes_known, inputs_known, outputs_known}
 use Rattle.std.proofs.Math.Bool.{and-false}
@@ -48,23 +48,7 @@ record Sound (before : List Line) : Type 0 where
   known : Known before i o xs ys
 
 start_sound : Sound []
-start_sound = record {
-  i = None;
-  o = None;
-  xs = None;
-  ys = None;
-  known = record {
-    inputs = refl;
-    outputs = refl;
-    input_names = refl;
-    output_names = refl;
-    small_inputs = tt;
-    small_outputs = tt;
-    input_names_number = tt;
-    output_names_number = tt;
-    rows = All-nil (FitsCounts None None);
-  };
-}
+start_sound = grind (arith, FitsCounts)
 
 -- a count without a fault
 small_count : (repeated : Bool) (given : List (List ℕ)) (outside : LineFault) → head_fault repeated given outside ≡ None →
@@ -74,22 +58,16 @@ small_count false [] outside e = absurd cc
 small_count false (w ∷ v ∷ vs) outside e = absurd cc
 small_count false (w ∷ []) outside e = by (is_number w) refl where
   by : (t : Bool) → is_number w ≡ t → (false ≡ false) × (d : ℕ) × (first_number (w ∷ []) ≡ Some d) × IsSmall d
-  by false n = absurd (let wrong = rw n at e in cc)
+  by false n = absurd cc
   by true n = by_size (is_small w) refl where
     by_size : (t : Bool) → is_small w ≡ t → (false ≡ false) × (d : ℕ) × (first_number (w ∷ []) ≡ Some d) × IsSmall d
-    by_size false m = absurd (let wrong = rw m at (rw n at e) in cc)
-    by_size true m = let parts = and_parts (nat_le 1 (number_of w)) (nat_le (number_of w) 16) m in
-        (refl, number_of w, refl, (grind (arith, nat_tests), grind (arith, nat_tests)))
+    by_size false m = absurd cc
+    by_size true m = (refl, number_of w, refl, (grind (arith, nat_tests), grind (arith, nat_tests)))
 
 -- names without a fault
 counted_names : (counted repeated : Bool) (n : ℕ) (given : List (List ℕ)) → naming_fault counted repeated n given ≡ None →
     (counted ≡ true) × (repeated ≡ false) × (length given ≡ n)
-counted_names false repeated n given e = absurd cc
-counted_names true true n given e = absurd cc
-counted_names true false n given e = by (length given == n) refl where
-  by : (t : Bool) → (length given == n) ≡ t → (true ≡ true) × (false ≡ false) × (length given ≡ n)
-  by false m = absurd (let wrong = rw m at e in cc)
-  by true m = (refl, refl, grind (arith, nat_tests))
+counted_names counted repeated n given h = grind (arith, nat_tests)
 
 -- the first of what may be there, after others
 first_some_behind : (xs ys : List (Option LineFault)) → first_some (xs ++ ys) ≡ None → first_some ys ≡ None
@@ -100,15 +78,7 @@ first_some_behind (Some x ∷ xs) ys e = absurd cc
 -- a term without a fault
 whole_term : (taken : Bool) (n m : ℕ) (bytes : List ℕ) → term_fault taken n m bytes ≡ None → length bytes ≡ n + m
 unfolding term_fault
-whole_term taken n m bytes e =
-    by (nat_lt (length bytes) (n + m)) refl (nat_lt (n + m) (length bytes)) refl
-    (first_some_behind (map input_fault (take n bytes) ++ map (output_fault taken) (take m (drop n bytes))) (length_fault (length bytes) (n + m) ∷ []) e)
-  where
-    by : (s : Bool) → nat_lt (length bytes) (n + m) ≡ s → (t : Bool) → nat_lt (n + m) (length bytes) ≡ t →
-        first_some (length_fault (length bytes) (n + m) ∷ []) ≡ None → length bytes ≡ n + m
-    by true short t long none = absurd (let wrong = rw short at none in cc)
-    by false short true long none = absurd (let wrong = rw long at (rw short at none) in cc)
-    by false short false long none = grind (arith, nat_tests)
+whole_term taken n m bytes e = grind (arith, nat_lt, first_some_behind, nat_tests)
 
 -- a value that is there
 some_is : (i : Option ℕ) (n : ℕ) → is_some i ≡ true → n ≡ unwrap_or i 0 → i ≡ Some n
@@ -164,7 +134,6 @@ sound_next before UnknownWord sound e = keeps_sound before UnknownWord refl refl
 sound_next before (Inputs given) sound e = let known = sound.known in
     let count = small_count (is_some sound.i) given InputCount (rw (comes_known input_count before sound.i known.inputs) at e) in
     let none : sound.i ≡ None = none_is sound.i count.0 in
-    let missing : (is_some sound.i && is_some sound.o) ≡ false = rw none refl in
     record {
       i = Some count.1;
       o = sound.o;
@@ -180,7 +149,7 @@ sound_next before (Inputs given) sound e = let known = sound.known in
         input_names_number = names_wait sound.xs sound.i (Some count.1) none known.input_names_number;
         output_names_number = known.output_names_number;
         rows = rw (none_behind row_bytes before (Inputs given) refl)
-            (no_rows sound.i sound.o (Some count.1) sound.o (filter_map row_bytes before) missing known.rows);
+            (no_rows sound.i sound.o (Some count.1) sound.o (filter_map row_bytes before) (rw none refl) known.rows);
       };
     }
 sound_next before (Outputs given) sound e = let known = sound.known in
@@ -298,7 +267,7 @@ none_listed {A = A} h a (suc n) k e low high = by (h a) refl (cases_eq k a) (λ 
   by : (x : Option A) → h a ≡ x → (k ≡ a) ⊎ (k ≢ a) → (filter_map h (range_with_len (a + 1) n) ≡ [] → a + 1 ≤ k → h k ≡ None) → h k ≡ None
   by None first (inl same) more = rw same first
   by None first (inr apart) more = more (rw first at e) (omega arith)
-  by (Some x) first other more = absurd (let wrong = rw first at e in cc)
+  by (Some x) first other more = absurd cc
 
 append_none : {A : Type 0} (xs ys : List A) → xs ++ ys ≡ [] → (xs ≡ []) × (ys ≡ [])
 append_none [] ys e = (refl, e)
@@ -330,9 +299,7 @@ unfolding cover_of
 formed lines None o xs ys known e = absurd cc
 formed lines (Some n) None xs ys known e = absurd cc
 formed lines (Some n) (Some m) xs ys known e =
-    let inputs : inputs_of lines ≡ n = inputs_known lines (Some n) known.inputs in
-    let outputs : outputs_of lines ≡ m = outputs_known lines (Some m) known.outputs in
-    rw inputs (rw outputs (record {
+    rw (inputs_known lines (Some n) known.inputs) (rw (outputs_known lines (Some m) known.outputs) (record {
       some_inputs = known.small_inputs.0;
       few_inputs = known.small_inputs.1;
       some_outputs = known.small_outputs.0;
@@ -352,14 +319,13 @@ formed_behind lines sound both =
 pub well_formed : (lines : List Line) (cover : NamedCover) → Gives lines cover → IsCover cover
 unfolding faults end_faults
 well_formed lines cover gives =
-    let given = gives.given in
     let parts = append_none (filter_map (judged (description lines)) (range_with_len 0 (length (description lines)))) (end_faults lines) gives.faultless in
     let sound : Sound (description lines) =
     rw (take_all (length (description lines)) (description lines) (omega arith)) at
     (sound_front (description lines) (length (description lines)) (omega arith)
     (λ j inside. none_listed (judged (description lines)) 0 (length (description lines)) j parts.0 (omega arith) (omega arith))) in
     let both = no_end_fault (comes input_count (description lines) && comes output_count (description lines)) (end_number lines, MissingHead) parts.1 in
-    rw (← given) (formed_behind (description lines) sound both)
+    rw (← gives.given) (formed_behind (description lines) sound both)
   where
     no_end_fault : (b : Bool) (fault : ℕ × LineFault) → cond b [] (fault ∷ []) ≡ [] → b ≡ true
     no_end_fault true fault e = refl

@@ -11,8 +11,4 @@ loop-i-init c = search rules
 
 pub loop-i-preserved : goal.loop-i-preserved
 loop-i-preserved c =
-    let next = numbered_next c.args.front.now c.loop-i.i-counter in
-    let joined = map-append string_bytes c.loop-i.names.items (c.in_ok-format.field-0 ∷ []) in
-    let pushed = c.in_ok-push.ensures.items in
-    let text = c.in_ok-format.ensures.ok in
-    rw pushed (joined ∙ cc)
+    rw c.in_ok-push.ensures.items ((map-append string_bytes c.loop-i.names.items (c.in_ok-format.field-0 ∷ [])) ∙ cc (numbered_next c.args.front.now c.loop-i.i-counter, c.in_ok-format.ensures.ok))

@@ -1,4 +1,4 @@
-use Rattle.std.proofs.Common.{rules, arith, add-one, refl}
+use Rattle.std.proofs.Common.{rules, arith, add-one}
 use Rattle.pla_reader.proofs.RowLemmas.{is_at_start, skip_one, input_step, output_step, input_fails, output_fails, long_fails, short_fails, has_no_fault, is_the_term, fits_term}
 use Rattle.pla_reader.proofs.terms.row.Goals as goal
 use Rattle.pla_reader.proofs.terms.row.Goals.{then-at-n+in_ok-masks, else-at-n+then-at-n-2+in_ok-masks-2}
@@ -12,11 +12,7 @@ loop-b-preserved-then-is_separator c =
     (skip_one _ _ _ c.args.line.now c.loop-b.b-index c.loop-b.at c.loop-b.masks c.loop-b.invariant (omega arith) (search rules))
 
 pub returns-in_err-masks : goal.returns-in_err-masks
-returns-in_err-masks c =
-    let fails =
-    input_fails _ _ _ c.args.line.now c.loop-b.b-index c.loop-b.at c.loop-b.masks _ c.loop-b.invariant (omega arith) (search rules)
-    (omega arith) c.in_err-masks.ensures.err in
-    search (rules, fails)
+returns-in_err-masks c = grind (arith, input_fails)
 
 pub returns-in_err-masks-2 : goal.returns-in_err-masks-2
 returns-in_err-masks-2 c =
@@ -47,8 +43,4 @@ pub invariant_of-result : goal.invariant_of-result
 invariant_of-result c = record { within = c.loop-b.invariant.held.within }
 
 pub returns : goal.returns
-returns c = (
-  has_no_fault _ _ _ c.args.line.now c.loop-b.b-index c.loop-b.at c.loop-b.masks c.loop-b.invariant (omega arith) (omega arith),
-  is_the_term _ _ _ c.args.line.now c.loop-b.b-index c.loop-b.at c.loop-b.masks _ refl refl refl c.loop-b.invariant (omega arith) (omega arith),
-  fits_term _ _ _ c.args.line.now c.loop-b.b-index c.loop-b.at c.loop-b.masks _ refl refl c.loop-b.invariant,
-)
+returns c = search (has_no_fault, is_the_term, fits_term)

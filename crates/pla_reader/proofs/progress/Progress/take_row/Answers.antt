@@ -1,4 +1,4 @@
-use Rattle.std.proofs.Common.{◌≡◌, ◌∙◌, ◌&&◌, refl, false, is_some}
+use Rattle.std.proofs.Common.{◌∙◌, refl, is_some}
 use Rattle.pla_reader.specs.Progress.{state_of}
 use Rattle.pla_reader.proofs.LineLemmas.{refused, row_fault, headless_row, takes_row}
 use Rattle.std.proofs.Math.Bool.{and-false}
@@ -6,14 +6,11 @@ use Rattle.pla_reader.proofs.progress.Progress.take_row.Goals as goal
 
 pub returns-in_default : goal.returns-in_default
 returns-in_default c before agrees =
-    let none : (is_some c.args.self.now.inputs && is_some c.args.self.now.outputs) ≡ false =
-    rw c.in_default.is-1 (and-false (is_some c.args.self.now.inputs)) in
-    headless_row before (state_of c.args.self.now) _ agrees none
+    headless_row before (state_of c.args.self.now) _ agrees (rw c.in_default.is-1 (and-false (is_some c.args.self.now.inputs)))
 
 pub returns-in_default-2 : goal.returns-in_default-2
 returns-in_default-2 c before agrees =
-    let none : (is_some c.args.self.now.inputs && is_some c.args.self.now.outputs) ≡ false = rw c.in_default.is-0 refl in
-    headless_row before (state_of c.args.self.now) _ agrees none
+    headless_row before (state_of c.args.self.now) _ agrees (rw c.in_default.is-0 refl)
 
 pub returns-in_err-term : goal.returns-in_err-term
 returns-in_err-term c before agrees =
