@@ -19,12 +19,7 @@ use Rattle.order_model.proofs.Lists.Accepted.{index_of}
 -- a layer has the masks below 2 ^ n with the layer's number of members
 pub has_masks : (n k mask : ℕ) → has (masks_of (layer_with n k)) mask ≡ true → (mask < 2 ^ n) × (length (members n mask) ≡ k)
 unfolding masks_of
-has_masks n k mask h =
-    let parts =
-    and_parts (has (range_with_len 0 (2 ^ n)) mask) (nat_eq (length (members n mask)) k)
-    (sym (has_filter (λ m. nat_eq (length (members n m)) k) (range_with_len 0 (2 ^ n)) mask) ∙ h) in
-    let r = (has_range (2 ^ n) 0 mask).0 parts.0 in
-    (omega (arith, r.1), eqb-true _ _ parts.1)
+has_masks n k mask h = grind (arith, and_parts, has_filter, has_range, eqb-true)
 
 pub masks_has : (n k mask : ℕ) → mask < 2 ^ n → length (members n mask) ≡ k → has (masks_of (layer_with n k)) mask ≡ true
 unfolding masks_of
@@ -110,22 +105,7 @@ low_multiples low (suc high) h =
 -- two filters commute
 filter_swap : (p q : ℕ → Bool) (xs : List ℕ) → filter p (filter q xs) ≡ filter q (filter p xs)
 filter_swap p q [] = refl
-filter_swap p q (x ∷ xs) = by (p x) (q x) refl refl (filter_swap p q xs)
-  where
-    by : (b c : Bool) → p x ≡ b → q x ≡ c → filter p (filter q xs) ≡ filter q (filter p xs) →
-        filter p (cond (q x) (x ∷ filter q xs) (filter q xs)) ≡ filter q (cond (p x) (x ∷ filter p xs) (filter p xs))
-    by true true e f r =
-        ap (λ b. filter p (cond b (x ∷ filter q xs) (filter q xs))) f ∙ ap (λ b. cond b (x ∷ filter p (filter q xs)) (filter p (filter q xs))) e
-        ∙ ap (λ zs. x ∷ zs) (r)
-        ∙ sym (ap (λ b. filter q (cond b (x ∷ filter p xs) (filter p xs))) e ∙ ap (λ b. cond b (x ∷ filter q (filter p xs)) (filter q (filter p xs))) f)
-    by true false e f r =
-        ap (λ b. filter p (cond b (x ∷ filter q xs) (filter q xs))) f ∙ r
-        ∙ sym (ap (λ b. filter q (cond b (x ∷ filter p xs) (filter p xs))) e ∙ ap (λ b. cond b (x ∷ filter q (filter p xs)) (filter q (filter p xs))) f)
-    by false true e f r =
-        ap (λ b. filter p (cond b (x ∷ filter q xs) (filter q xs))) f ∙ ap (λ b. cond b (x ∷ filter p (filter q xs)) (filter p (filter q xs))) e
-        ∙ r ∙ sym (ap (λ b. filter q (cond b (x ∷ filter p xs) (filter p xs))) e)
-    by false false e f r = ap (λ b. filter p (cond b (x ∷ filter q xs) (filter q xs))) f ∙ r
-        ∙ sym (ap (λ b. filter q (cond b (x ∷ filter p xs) (filter p xs))) e)
+filter_swap p q (x ∷ xs) = grind (arith, filter_swap p q xs)
 
 -- the numbers below 2 ^ n are all low bytes, or they are whole ranges of 256
 whole_or_low : (n : ℕ) → (2 ^ n ≤ 256) ⊎ (2 ^ n ≡ (2 ^ n + 255) / 256 * 256)
@@ -165,7 +145,6 @@ pub table_place : (numbers places : List ℕ) (v : ℕ) → ArePlaced numbers pl
 table_place numbers places v t h =
     let below = place_small numbers v h in
     let at = place_at numbers v below in
-    let w = t.within (place_in numbers v) below in
     (omega arith, ap (λ k. get_or places k 0) (sym at) ∙ t.placed (place_in numbers v) below, below)
 
 -- a read number does not rest on the default
@@ -186,7 +165,7 @@ pub low_fits : (n k i : ℕ) → i < length (low_bytes (layer_with n k)) →
 low_fits n k i h =
     let low = has_low_bytes n k (get_or (low_bytes (layer_with n k)) i 0) (has_at (low_bytes (layer_with n k)) i h) in
     let m = has_masks n k low.1.0 low.1.1 in
-    (low.0, (let s = low.1.2 in let t = m.0 in omega arith))
+    (low.0, omega arith)
 
 -- ---- the loop over what stands above the low byte
 
@@ -199,8 +178,8 @@ pub high_mask : (n k low high count : ℕ) (masks : List ℕ) → length masks �
     × (take (count + 1) (set masks count (high * 256 + low)) ≡ filter (λ mask. nat_eq (length (members n mask)) k)
     (map (λ h. h * 256 + low) (range_with_len 0 (high + 1))))
 high_mask n k low high count masks l lt e h = (
-  (let s = h.0 in omega arith),
-  take_more_set masks count (high * 256 + low) (let s = h.0 in omega arith)
+  (omega arith),
+  take_more_set masks count (high * 256 + low) (omega arith)
       ∙ ap₂ (λ xs b. xs ++ cond b ((high * 256 + low) ∷ []) []) h.1 (sym (eq-eqb (length (members n (high * 256 + low))) k e))
       ∙ sym (filter_of_map_range_with_len_more (λ mask. nat_eq (length (members n mask)) k) (λ h. h * 256 + low) 0 high high (zero-add high)),
 )
@@ -209,7 +188,7 @@ pub high_no_mask : (n k low high count : ℕ) (masks : List ℕ) → length (mem
     (count ≤ high) × (take count masks ≡ filter (λ mask. nat_eq (length (members n mask)) k) (map (λ h. h * 256 + low) (range_with_len 0 high))) →
     (count ≤ high + 1) × (take count masks ≡ filter (λ mask. nat_eq (length (members n mask)) k) (map (λ h. h * 256 + low) (range_with_len 0 (high + 1))))
 high_no_mask n k low high count masks ne h = (
-  (let s = h.0 in omega arith),
+  (omega arith),
   h.1 ∙ sym (append-nil _)
       ∙ ap (λ b. filter (λ mask. nat_eq (length (members n mask)) k) (map (λ h. h * 256 + low) (range_with_len 0 high))
       ++ cond b ((high * 256 + low) ∷ []) [])
@@ -239,11 +218,7 @@ blocks_length l = mapped (low_bytes l)
 
 -- a place of a block is one of the low bytes
 pub block_inside : (l m : LayerOf) (lows : List ℕ) (i : ℕ) → l ≡ m → lows ≡ low_bytes l → i < length (blocks_of m) → i < length lows
-block_inside l m lows i e f h =
-    let s = blocks_length m in
-    let t : length (low_bytes l) ≡ length (low_bytes m) = ap (λ k. length (low_bytes k)) e in
-    let u : length lows ≡ length (low_bytes l) = ap length f in
-    omega arith
+block_inside l m lows i e f h = omega (arith, blocks_length m, ap (λ k. length (low_bytes k)) e, ap length f)
 
 pub slice_get_at : (xs : List ℕ) (i : ℕ) → i < length xs → slice_get xs i ≡ Some (get_or xs i 0)
 slice_get_at [] i h = absurd (omega arith)
@@ -278,8 +253,4 @@ lows_chosen n k flags masks numbers m e f =
 -- a mask of a block is one of all variables, and has the low byte
 pub in_block : (b : BlockOf) (mask : ℕ) → has (block_masks b) mask ≡ true → (mask < 2 ^ b.inputs) × (mask % 256 ≡ b.low)
 unfolding block_masks
-in_block b mask h =
-    let parts =
-    and_parts (has (masks_of (layer_with b.inputs b.size)) mask) (nat_eq (mask % 256) b.low)
-    (sym (has_filter (λ m. nat_eq (m % 256) b.low) (masks_of (layer_with b.inputs b.size)) mask) ∙ h) in
-    ((has_masks b.inputs b.size mask parts.0).0, eqb-true (mask % 256) b.low parts.1)
+in_block b mask h = grind (arith, and_parts, has_filter, has_masks, eqb-true)

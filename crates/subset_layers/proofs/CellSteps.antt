@@ -3,7 +3,7 @@
 --     some_member      a set of some layer but the first has a member
 --     members_widths      the widths of all members, if widths are counted on
 --     cell_found, cell_clipped      the cell where the best sum leaves room, and where none does
-use Rattle.std.proofs.Common.{◌≡◌, ℕ, ◌+◌, ◌-◌, ◌^◌, ◌<◌, ◌≤◌, true, ◌||◌, inl, inr, IsTrue, List, [], ◌∷◌, length, slice_index, unwrap_or, refl, sym, ap, ◌∙◌, arith, eq-eqb, w16}
+use Rattle.std.proofs.Common.{◌≡◌, ℕ, ◌+◌, ◌^◌, ◌<◌, ◌≤◌, true, ◌||◌, inl, inr, IsTrue, List, [], ◌∷◌, length, slice_index, unwrap_or, refl, ap, ◌∙◌, arith, eq-eqb, w16}
 use Rattle.std.specs.Int.{bit_at, trailing_zeros}
 use Rattle.std.proofs.lemmas.Bool.{cases_lt}
 use Rattle.std.proofs.lemmas.Nat.Bits.{bit_at-trailing_zeros, bit_at_above}
@@ -32,12 +32,12 @@ pub first_member : (n mask : ℕ) → 0 < mask → mask < 65536 → mask < 2 ^ n
 first_member n mask pos small lt =
     let z = bit_at-trailing_zeros w16 mask pos small in
     let t = trailing_zeros w16 mask in
-    let below : t < n = elim (cases_lt t n) [ inl l ↦ l | inr g ↦ let a = bit_at_above mask n t lt g in let b = z.1 in absurd (omega arith) ] in
+    let below : t < n = elim (cases_lt t n) [ inl l ↦ l | inr g ↦ absurd (omega (arith, bit_at_above mask n t lt g)) ] in
     let member : has (members n mask) t ≡ true = bit_has n mask t below ∙ eq-eqb (bit_at mask t) 1 z.1 in
     let le = first_le (members n mask) t (rising_members n mask) member in
     let one = (member_bit n mask (first_of (members n mask)) (first_has (members n mask) t member)).1 in
     elim (cases_lt (first_of (members n mask)) t) [
-      | inl l ↦ let a = z.2 (first_of (members n mask)) l in absurd (omega arith)
+      | inl l ↦ absurd (omega (arith, z.2 (first_of (members n mask)) l))
       | inr g ↦ omega arith
     ]
 
@@ -51,10 +51,7 @@ module _ (c : CostsOf) (r : Reserve) (mask bound : ℕ) (widths : List ℕ) (F :
   n = c.inputs
 
   for_cell : AreForCell c.inputs F P r bound mask (cost_without c mask) (slice_index widths)
-  for_cell = record {
-    are_costs = λ x m. ap (λ o. unwrap_or o 0) (true_costs (mask - 2 ^ x) (less_one c.inputs c.size mask x next m));
-    are_widths = true_widths;
-  }
+  for_cell = grind (arith, unwrap_or, less_one)
 
   -- if widths are counted on and some member is a candidate, the widths of all members are taken
   pub members_widths : (y : ℕ) → is_lawful P (members c.inputs mask) ≡ true → has (members c.inputs mask) y ≡ true → cost_without c mask y ≤ bound →
@@ -65,18 +62,13 @@ module _ (c : CostsOf) (r : Reserve) (mask bound : ℕ) (widths : List ℕ) (F :
   pub cell_found : (left sum x : ℕ) → is_lawful P (members c.inputs mask) ≡ true → left ≡ reserved c.inputs F r (members c.inputs mask) →
       IsBest (λ y. IsTrue (has (members c.inputs mask) y)) bound (cost_without c mask) (slice_index widths) sum x → sum + left ≤ bound →
       pair_of sum x ≡ cell_of c.inputs F P r bound mask
-  cell_found left sum x l e b room =
-      let s = b.sum_is in
-      ap (λ v. pair_of v x) s
-      ∙ sym (found c.inputs F P order o k r bound mask (cost_without c mask) (slice_index widths) for_cell x l b.member b.within
-      (λ y m w. let t = b.least y m w in omega arith) (λ y lt m w z. b.smallest y lt m w (z ∙ sym s)) (omega arith))
+  cell_found left sum x l e b room = grind (arith, pair_of, found, slice_index, for_cell)
 
   pub cell_clipped : (left z : ℕ) → has (members c.inputs mask) z ≡ true → left ≡ reserved c.inputs F r (members c.inputs mask) →
       (is_lawful P (members c.inputs mask) ≡ true → (y : ℕ) → has (members c.inputs mask) y ≡ true → cost_without c mask y ≤ bound →
       bound < cost_without c mask y + slice_index widths y + left) →
       pair_of (bound + 1) (first_of (members c.inputs mask)) ≡ cell_of c.inputs F P r bound mask
-  cell_clipped left z m e none =
-      sym (clipped c.inputs F P order o k r bound mask (cost_without c mask) (slice_index widths) for_cell z m (λ l y h w. let t = none l y h w in omega arith))
+  cell_clipped left z m e none = grind (arith, clipped, slice_index, for_cell)
 
 -- a set of a layer after the empty one has a member
 pub some_member : (n k mask : ℕ) → has (masks_of (layer_with n (k + 1))) mask ≡ true → (0 < mask) × (has (members n mask) (first_of (members n mask)) ≡ true)
@@ -94,6 +86,5 @@ some_member n k mask h = (pos (members n mask) refl is.1, by (members n mask) is
       | inl lt ↦ lt
       | inr le ↦
           let z : mask ≡ 0 = omega arith in
-          let none : length (members n mask) ≡ 0 = ap length (ap (members n) z ∙ members_zero n) in
-          absurd (omega arith)
+          absurd (omega (arith, ap length (ap (members n) z ∙ members_zero n)))
     ]

@@ -3,7 +3,7 @@
 --     cell_there, cell_absent, cell_of_start      where there is a cell
 --     costs_from_cells      the costs of the definition's cells are the definition's
 --     less_one      a set of the next layer without one member is in the layer
-use Rattle.std.proofs.Common.{◌≡◌, ◌≢◌, ℕ, suc, ◌+◌, ◌-◌, ◌/◌, ◌%◌, ◌*◌, ◌^◌, ◌<◌, ◌≤◌, Bool, true, false, not, cond, ◌||◌, inl, inr, Option, Some, None, List, [], ◌∷◌, length, get_or, slice_get, IsSome, IsTrue, is_some, ◌↔◌, refl, sym, ap, ◌∙◌, subst, arith, nat_eq, eqb-true, eq-eqb, ne_eqb, one-add, eqb, bit_and}
+use Rattle.std.proofs.Common.{◌≡◌, ◌≢◌, ℕ, ◌+◌, ◌-◌, ◌/◌, ◌%◌, ◌*◌, ◌^◌, ◌<◌, ◌≤◌, true, false, cond, inl, inr, Option, Some, None, List, [], ◌∷◌, length, get_or, slice_get, IsSome, IsTrue, is_some, ◌↔◌, refl, sym, ap, ◌∙◌, subst, arith, nat_eq, eqb-true, eq-eqb, ne_eqb, one-add, eqb, bit_and}
 use Rattle.std.specs.Option.{option_map_or}
 use Rattle.std.specs.List.{IsDistinct, range_with_len}
 use Rattle.std.proofs.lemmas.Bool.{false≢true, true≢false, cases_Bool, cases_eq, and_parts, and_from, cases_lt}
@@ -45,19 +45,11 @@ place_of_found l mask i h =
 pub no_place : (xs : List ℕ) (v : ℕ) → has xs v ≡ false → place_in xs v ≡ length xs
 unfolding place_in
 no_place [] v h = refl
-no_place (x ∷ xs) v h = by (nat_eq v x) refl (no_place xs v)
-  where
-    by : (c : Bool) → nat_eq v x ≡ c → (has xs v ≡ false → place_in xs v ≡ length xs) → cond (not c) (1 + place_in xs v) 0 ≡ length (x ∷ xs)
-    by true e r = absurd (true≢false (sym (ap (λ b. b || has xs v) e) ∙ h))
-    by false e r = one-add (place_in xs v) ∙ ap suc (r (sym (ap (λ b. b || has xs v) e) ∙ h))
+no_place (x ∷ xs) v h = grind (arith, true≢false, one-add, no_place xs v)
 
 module _ (c : CostsOf) (h : HaveCells c) where
   few_cells : length c.cells ≤ length (masks_of (layer_of_costs c))
-  few_cells = by (nat_eq c.size 0) h.count
-    where
-      by : (b : Bool) → length c.cells ≡ cond b 0 (length (masks_of (layer_of_costs c))) → length c.cells ≤ length (masks_of (layer_of_costs c))
-      by true e = omega arith
-      by false e = omega arith
+  few_cells = grind arith
 
   all_cells : 0 < c.size → length c.cells ≡ length (masks_of (layer_of_costs c))
   all_cells lt = h.count ∙ ap (λ b. cond b 0 (length (masks_of (layer_of_costs c)))) (ne_eqb c.size 0 (λ e. absurd (omega arith)))
@@ -67,18 +59,18 @@ module _ (c : CostsOf) (h : HaveCells c) where
   unfolding cell_at
   cell_absent mask e =
       slice_get_past c.cells (place_in (masks_of (layer_of_costs c)) mask)
-      (let p = no_place (masks_of (layer_of_costs c)) mask e in let f = few_cells in omega arith)
+      (omega (arith, no_place (masks_of (layer_of_costs c)) mask e, few_cells))
 
   -- the empty set has none
   pub cell_of_start : (mask : ℕ) → c.size ≡ 0 → cell_at c mask ≡ None
   unfolding cell_at
   cell_of_start mask e =
       slice_get_past c.cells (place_in (masks_of (layer_of_costs c)) mask)
-      (let s = h.count ∙ ap (λ b. cond b 0 (length (masks_of (layer_of_costs c)))) (eq-eqb c.size 0 e) in omega arith)
+      (omega (arith, h.count ∙ ap (λ b. cond b 0 (length (masks_of (layer_of_costs c)))) (eq-eqb c.size 0 e)))
 
   -- any other set of the layer has one
   pub cell_there : (mask : ℕ) → 0 < c.size → has (masks_of (layer_of_costs c)) mask ≡ true → place_in (masks_of (layer_of_costs c)) mask < length c.cells
-  cell_there mask lt m = let p = place_small (masks_of (layer_of_costs c)) mask m in let a = all_cells lt in omega arith
+  cell_there mask lt m = omega (arith, place_small (masks_of (layer_of_costs c)) mask m, all_cells lt)
 
 -- the cell at a place
 pub cell_at_place : (c : CostsOf) (mask i : ℕ) → slice_get (masks_of (layer_of_costs c)) i ≡ Some mask → cell_at c mask ≡ slice_get c.cells i
@@ -107,12 +99,7 @@ true_cell n F P r bound c t mask i cell m e = t i (slice_get_within c.cells i ce
 -- the empty set's layer has its cost
 pub start_true : (n : ℕ) (F : List Function) (P : List Pair) (r : Reserve) (bound : ℕ) → AreTrueCosts n F P r bound (start_costs n)
 unfolding cost_at cell_at cell_cost
-start_true n F P r bound mask h =
-    let m = has_masks n 0 mask h in
-    let none : mask ≡ 0 = zero_from_ones mask (ones-members n mask m.0 ∙ m.1) in
-    ap (λ b. cond b (Some (option_map_or (λ (cell : Cell). cell.cost) (cell_at (start_costs n) mask) 0)) None) h
-    ∙ ap (λ o. Some (option_map_or (λ (cell : Cell). cell.cost) o 0)) (slice_get_past [] (place_in (masks_of (layer_with n 0)) mask) (omega arith))
-    ∙ ap (λ b. Some (cond b 0 (cell_of n F P r bound mask).0)) (sym (eq-eqb mask 0 none))
+start_true n F P r bound mask h = grind (arith, has_masks, slice_get_past, eq-eqb, zero_from_ones, ones-members)
 
 -- the costs of the definition's cells
 pub costs_from_cells : (n : ℕ) (F : List Function) (P : List Pair) (r : Reserve) (bound : ℕ) (c : CostsOf) → HaveCells c → 0 < c.size →
@@ -120,11 +107,10 @@ pub costs_from_cells : (n : ℕ) (F : List Function) (P : List Pair) (r : Reserv
 unfolding cell_cost
 costs_from_cells n F P r bound c h lt t mask m =
     let i = place_in (masks_of (layer_of_costs c)) mask in
-    let there = cell_there c h mask lt m in
     let found : slice_get (masks_of (layer_of_costs c)) i ≡ Some mask =
     slice_get-get_or (masks_of (layer_of_costs c)) i 0 (place_small (masks_of (layer_of_costs c)) mask m)
     ∙ ap Some (place_at (masks_of (layer_of_costs c)) mask (place_small (masks_of (layer_of_costs c)) mask m)) in
-    let read : slice_get c.cells i ≡ Some (get_or c.cells i no_cell) = slice_get-get_or c.cells i no_cell there in
+    let read : slice_get c.cells i ≡ Some (get_or c.cells i no_cell) = slice_get-get_or c.cells i no_cell (cell_there c h mask lt m) in
     let is : as_pair (get_or c.cells i no_cell) ≡ cell_of n F P r bound mask = true_cell n F P r bound c t mask i (get_or c.cells i no_cell) found read in
     cost_at_place c mask i found ∙ ap (λ o. Some (option_map_or (λ (cell : Cell). cell.cost) o 0)) read ∙ ap Some (ap (λ (p : ℕ × ℕ). p.0) is)
     ∙ ap (λ b. Some (cond b 0 (cell_of n F P r bound mask).0)) (sym (ne_eqb mask 0 not_empty))
@@ -135,8 +121,7 @@ costs_from_cells n F P r bound c h lt t mask m =
     not_empty : mask ≢ 0
     not_empty e =
         let l : length (members c.inputs mask) ≡ c.size = (has_masks c.inputs c.size mask m).1 in
-        let z : length (members c.inputs mask) ≡ 0 = ap length (ap (members c.inputs) e ∙ members_zero c.inputs) in
-        absurd (omega arith)
+        absurd (omega (arith, ap length (ap (members c.inputs) e ∙ members_zero c.inputs)))
 
 -- a set of the next layer without one member is in the layer
 pub less_one : (n k mask x : ℕ) → has (masks_of (layer_with n (k + 1))) mask ≡ true → has (members n mask) x ≡ true →
@@ -147,7 +132,7 @@ less_one n k mask x m h =
     let same : length (members n (mask - 2 ^ x)) ≡ length (without x (members n mask)) =
     length-from_same_keys nat_eq_equiv (members n (mask - 2 ^ x)) (without x (members n mask)) (distinct_members n (mask - 2 ^ x))
     (distinct_without x (members n mask) (distinct_members n mask)) (members_without n mask x h) in
-    masks_has n k (mask - 2 ^ x) (let s = is.0 in omega arith) (let s = is.1 in omega arith)
+    masks_has n k (mask - 2 ^ x) (omega arith) (omega arith)
 
 pub have_cells : (l : LayerOf) (cells : List Cell) → l.inputs ≤ 16 → 0 < l.size → length cells ≡ length (masks_of l) → HaveCells (costs_with l cells)
 have_cells l cells few lt e =
@@ -188,15 +173,8 @@ bit_from_member n mask x h = shr_and_one mask x
     ∙ eqb-true (bit_at mask x) 1 (and_parts (has (variables n) x) (eqb (bit_at mask x) 1) (sym (has_members n mask x) ∙ h)).1
 
 pub power_le_mask : (mask x : ℕ) → bit_and (mask / 2 ^ x) 1 ≡ 1 → 2 ^ x ≤ mask
-power_le_mask mask x e = elim (cases_lt mask (2 ^ x)) [
-  | inl lt ↦
-      let q : mask / 2 ^ x ≡ 0 = div-eq_of_lt lt in
-      let r = sym (shr_and_one mask x) ∙ e in
-      let s = ap (λ k. k % 2) q in
-      absurd (omega arith)
-  | inr le ↦ le
-]
+power_le_mask mask x e = grind (arith, cases_lt, div-eq_of_lt, shr_and_one)
 
 -- the shifted bit of the code
 pub shifted_bit : (mask x : ℕ) → mask < 65536 → bit_and (mask / 2 ^ x) 1 ≡ 1 → 1 * 2 ^ x % 65536 ≡ 2 ^ x
-shifted_bit mask x lt e = let p = power_le_mask mask x e in omega arith
+shifted_bit mask x lt e = omega (arith, power_le_mask mask x e)

@@ -33,10 +33,7 @@ marked flags masks i h l all low lt =
     ]
 
 pub loop-mask-preserved : goal.loop-mask-preserved
-loop-mask-preserved c = (
-  length-set c.loop-mask.flags.items (get_or c.args.masks.now c.loop-mask.mask-index 0 % 256) true ∙ c.loop-mask.invariant.0,
-  marked c.loop-mask.flags.items c.args.masks.now c.loop-mask.mask-index (omega arith) c.loop-mask.invariant.0 c.loop-mask.invariant.1,
-)
+loop-mask-preserved c = search (length-set, marked)
 
 pub returns : goal.returns
 returns c =

@@ -1,11 +1,10 @@
-use Rattle.std.proofs.Common.{◌≡◌, ℕ, ◌+◌, ◌-◌, ◌<◌, ◌≤◌, Option, Some, None, IfSome, IsNone, IsTrue, unwrap_or, slice_index, refl, sym, ap, ◌∙◌, subst, arith}
+use Rattle.std.proofs.Common.{◌≡◌, ℕ, ◌+◌, ◌-◌, ◌<◌, Option, Some, None, IfSome, IsNone, IsTrue, unwrap_or, slice_index, refl, sym, ap, ◌∙◌, subst, arith}
 use Rattle.std.proofs.lemmas.Bool.{iff_false, true≢false}
 use Rattle.std.proofs.lemmas.Nat.Bits.{shr_and_one}
 use Rattle.order_model.proofs.Bits.Masks.{members_small}
 use Rattle.subset_layers.specs.declared.recurrence.Sum.{Sum}
 use Rattle.order_model.specs.Orders.{has, members}
 use Rattle.subset_layers.specs.Costs.{cost_at, cost_without}
-use Rattle.subset_layers.specs.Layers.{masks_of, layer_with}
 use Rattle.subset_layers.specs.Sums.{IsBest}
 use Rattle.subset_layers.proofs.CostLists.{member_from_bit, bit_from_member, power_le_mask, shifted_bit, less_one}
 use Rattle.subset_layers.proofs.BestSums.{IsBestBelow, best_skipped, best_taken, best_all}
@@ -14,18 +13,10 @@ use Rattle.subset_layers.proofs.recurrence.best_sum.Goals.{then-contains+then-co
 
 pub overflow_sub-mask : goal.overflow_sub-mask
 overflow_sub-mask c =
-    let e = shifted_bit c.args.mask c.loop-x.x (omega arith) (shr_and_one c.args.mask c.loop-x.x ∙ c.contains.ensures.0 c.if-contains.true) in
-    let p = power_le_mask c.args.mask c.loop-x.x (shr_and_one c.args.mask c.loop-x.x ∙ c.contains.ensures.0 c.if-contains.true) in
-    omega arith
+    omega (arith, power_le_mask c.args.mask c.loop-x.x (shr_and_one c.args.mask c.loop-x.x ∙ c.contains.ensures.0 c.if-contains.true))
 
 pub unwrap-cost-requires : goal.unwrap-cost-requires
-unwrap-cost-requires c =
-    let e = shifted_bit c.args.mask c.loop-x.x (omega arith) (shr_and_one c.args.mask c.loop-x.x ∙ c.contains.ensures.0 c.if-contains.true) in
-    let n = c.args.costs.now.inputs in
-    let member = member_from_bit n c.args.mask c.loop-x.x (omega arith) (shr_and_one c.args.mask c.loop-x.x ∙ c.contains.ensures.0 c.if-contains.true) in
-    c.cost_of.ensures.some.1
-    (ap (λ k. has (masks_of (layer_with n c.args.costs.now.size)) (c.args.mask - k)) e
-    ∙ less_one n c.args.costs.now.size c.args.mask c.loop-x.x c.requires member)
+unwrap-cost-requires c = grind (arith, shifted_bit, shr_and_one, member_from_bit, less_one)
 
 pub loop-x-preserved : goal.loop-x-preserved
 loop-x-preserved c =
@@ -38,17 +29,16 @@ loop-x-preserved c =
           let e = shifted_bit c.args.mask c.loop-x.x (omega arith) (shr_and_one c.args.mask c.loop-x.x ∙ c.contains.ensures.0 w.if-contains.true) in
           let is : costs c.loop-x.x ≡ w.unwrap-cost.result = ap (λ k. unwrap_or (cost_at c.args.costs.now (c.args.mask - k)) 0) (sym e)
           ∙ ap (λ o. unwrap_or o 0) (sym w.cost_of.ensures.value ∙ w.unwrap-cost.ensures) in
-          let within : costs c.loop-x.x ≤ c.args.bound = (let t = w.if-cost-bound.true in omega arith) in
           subst (λ o. IsBestBelow S c.args.bound costs widths (c.loop-x.x + 1) o) (sym w.best-is)
           (best_taken S c.args.bound costs widths c.loop-x.x (w.unwrap-cost.result + slice_index c.args.widths.now c.loop-x.x) c.loop-x.best
           _ w.smaller.result c.loop-x.invariant
           (member_from_bit n c.args.mask c.loop-x.x (omega arith) (shr_and_one c.args.mask c.loop-x.x ∙ c.contains.ensures.0 w.if-contains.true))
-          within (omega arith) refl w.smaller.ensures.none w.smaller.ensures.some)
+          (omega arith) (omega arith) refl w.smaller.ensures.none w.smaller.ensures.some)
       | then-contains+else-cost-bound w ↦
           let e = shifted_bit c.args.mask c.loop-x.x (omega arith) (shr_and_one c.args.mask c.loop-x.x ∙ c.contains.ensures.0 w.if-contains.true) in
           let is : costs c.loop-x.x ≡ w.unwrap-cost.result = ap (λ k. unwrap_or (cost_at c.args.costs.now (c.args.mask - k)) 0) (sym e)
           ∙ ap (λ o. unwrap_or o 0) (sym w.cost_of.ensures.value ∙ w.unwrap-cost.ensures) in
-          let over : c.args.bound < costs c.loop-x.x = (let t = w.if-cost-bound.false in omega arith) in
+          let over : c.args.bound < costs c.loop-x.x = omega arith in
           subst (λ o. IsBestBelow S c.args.bound costs widths (c.loop-x.x + 1) o) (sym w.best-is)
           (best_skipped S c.args.bound costs widths c.loop-x.x c.loop-x.best c.loop-x.invariant (λ m. over))
       | else-contains w ↦
@@ -65,13 +55,7 @@ whole S bound costs widths k None low h = (tt, λ z y m. h y (low y m) m)
 whole S bound costs widths k (Some s) low h = (best_all S bound costs widths k s low h, λ z. absurd (true≢false z))
 
 pub returns-clause-best : goal.returns-clause-best
-returns-clause-best c =
-    (whole (λ x. IsTrue (has (members c.args.costs.now.inputs c.args.mask) x)) c.args.bound (cost_without c.args.costs.now c.args.mask)
-    (slice_index c.args.widths.now) c.loop-x.x c.loop-x.best
-    (λ y m. let s = members_small c.args.costs.now.inputs c.args.mask y m in omega arith) c.loop-x.invariant).0
+returns-clause-best c = grind (arith, whole, slice_index, members_small)
 
 pub returns-clause-none : goal.returns-clause-none
-returns-clause-none c =
-    (whole (λ x. IsTrue (has (members c.args.costs.now.inputs c.args.mask) x)) c.args.bound (cost_without c.args.costs.now c.args.mask)
-    (slice_index c.args.widths.now) c.loop-x.x c.loop-x.best
-    (λ y m. let s = members_small c.args.costs.now.inputs c.args.mask y m in omega arith) c.loop-x.invariant).1
+returns-clause-none c = grind (arith, whole, slice_index, members_small)

@@ -1,4 +1,4 @@
-use Rattle.std.proofs.Common.{◌≡◌, ℕ, true, ◌+◌, ◌^◌, ◌<◌, List, slice_index, refl, sym, ap, ◌∙◌, subst, arith}
+use Rattle.std.proofs.Common.{◌≡◌, ℕ, true, ◌+◌, ◌^◌, ◌<◌, List, slice_index, refl, sym, ◌∙◌, subst, arith}
 use Rattle.order_model.specs.Orders.{has, members, without}
 use Rattle.order_model.specs.Problems.{functions}
 use Rattle.order_model.specs.Widths.{width}
@@ -26,10 +26,7 @@ counted : (v : ReservesOf) (n mask above : ℕ) (widths : List ℕ) → v.proble
     above ≡ reserved v.problem.inputs (functions v.problem) v.reserve (members v.problem.inputs mask)) →
     (v.reserve ≡ Widths → (x : ℕ) → has (members n mask) x ≡ true → slice_index widths x ≡ width n (functions v.problem) (without x (members n mask)) x) →
     above ≡ reserved n (functions v.problem) v.reserve (members n mask)
-counted v n mask above widths e nodes are =
-    nodes (λ is. subst
-    (λ (k : ℕ). (x : ℕ) → has (members k mask) x ≡ true → slice_index widths x ≡ width k (functions v.problem) (without x (members k mask)) x) (sym e) (are is))
-    ∙ ap (λ k. reserved k (functions v.problem) v.reserve (members k mask)) e
+counted v n mask above widths e nodes are = grind (arith, slice_index)
 
 pub returns-in-None : goal.returns-in-None
 returns-in-None c = λ P order o k l t w.
@@ -38,31 +35,25 @@ returns-in-None c = λ P order o k l t w.
     c.clipped_cell.ensures n (has_masks n (c.args.costs.now.size + 1) c.args.mask c.requires.next).0
     ∙ cell_clipped c.args.costs.now v.reserve c.args.mask c.args.bound c.args.widths.now (functions v.problem) P order o k c.requires.next t w _
     (first_of (members n c.args.mask)) (some_member n c.args.costs.now.size c.args.mask c.requires.next).1 refl
-    (λ low y m le. let far = c.in-None.ensures.none refl y m in absurd (omega arith))
+    (λ low y m le. absurd (omega (arith, c.in-None.ensures.none refl y m)))
 
 pub returns-then-best-above : goal.returns-then-best-above
 returns-then-best-above c = λ P order o k l t w.
     let v = c.args.reserves.now in
-    let b = c.in-Some.ensures.best in
     let is = counted v c.args.costs.now.inputs c.args.mask c.above.result c.args.widths.now c.requires.inputs c.above.ensures.nodes
     (members_widths c.args.costs.now v.reserve c.args.mask c.args.bound c.args.widths.now (functions v.problem) P order o k c.requires.next t w
-    c.in-Some.best.variable l b.member b.within) in
-    let le = c.if-best-above.true in
-    let f = c.from.ensures in
+    c.in-Some.best.variable l c.in-Some.ensures.best.member c.in-Some.ensures.best.within) in
     cell_found c.args.costs.now v.reserve c.args.mask c.args.bound c.args.widths.now (functions v.problem) P order o k c.requires.next t w c.above.result
-    c.in-Some.best.sum c.in-Some.best.variable l is b (omega (arith, le, f))
+    c.in-Some.best.sum c.in-Some.best.variable l is c.in-Some.ensures.best (omega (arith, c.if-best-above.true, c.from.ensures))
 
 pub returns-else-best-above : goal.returns-else-best-above
 returns-else-best-above c = λ P order o k l t w.
     let n = c.args.costs.now.inputs in
     let v = c.args.reserves.now in
-    let b = c.in-Some.ensures.best in
     let is = counted v n c.args.mask c.above.result c.args.widths.now c.requires.inputs c.above.ensures.nodes
     (members_widths c.args.costs.now v.reserve c.args.mask c.args.bound c.args.widths.now (functions v.problem) P order o k c.requires.next t w
-    c.in-Some.best.variable l b.member b.within) in
-    let no = c.if-best-above.false in
-    let f = c.from.ensures in
+    c.in-Some.best.variable l c.in-Some.ensures.best.member c.in-Some.ensures.best.within) in
     c.clipped_cell-else-best-above.ensures n (has_masks n (c.args.costs.now.size + 1) c.args.mask c.requires.next).0
     ∙ cell_clipped c.args.costs.now v.reserve c.args.mask c.args.bound c.args.widths.now (functions v.problem) P order o k c.requires.next t w c.above.result
     (first_of (members n c.args.mask)) (some_member n c.args.costs.now.size c.args.mask c.requires.next).1 is
-    (λ low y m le. let best = b.least y m le in omega (arith, best, no, f))
+    (λ low y m le. let best = c.in-Some.ensures.best.least y m le in omega (arith, best, c.if-best-above.false, c.from.ensures))

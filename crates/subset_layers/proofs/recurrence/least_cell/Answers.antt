@@ -21,12 +21,11 @@ clipped_cell-requires-clause-some c = (some_member c.args.costs.now.inputs c.arg
 
 pub returns-then-lawful : goal.returns-then-lawful
 returns-then-lawful c = λ t w.
-    let P = c.args.pairs.now.pairs in
-    let o = some_order c.args.pairs.now.inputs c.args.costs.now.inputs P c.requires.inputs c.inputs.ensures.kept in
-    let low : is_lawful P (members c.args.costs.now.inputs c.args.mask) ≡ true =
-    ap (λ i. is_lawful P (members i c.args.mask)) (sym c.requires.inputs)
+    let o = some_order c.args.pairs.now.inputs c.args.costs.now.inputs c.args.pairs.now.pairs c.requires.inputs c.inputs.ensures.kept in
+    let low : is_lawful c.args.pairs.now.pairs (members c.args.costs.now.inputs c.args.mask) ≡ true =
+    ap (λ i. is_lawful c.args.pairs.now.pairs (members i c.args.mask)) (sym c.requires.inputs)
     ∙ sym c.if-lawful.ensures in
-    c.lawful_cell.ensures P o.0 o.1 o.2 low t w
+    c.lawful_cell.ensures c.args.pairs.now.pairs o.0 o.1 o.2 low t w
 
 pub returns-else-lawful : goal.returns-else-lawful
 returns-else-lawful c = λ t w.

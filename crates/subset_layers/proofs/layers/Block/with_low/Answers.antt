@@ -1,7 +1,5 @@
-use Rattle.std.proofs.Common.{◌≡◌, ◌≤◌, ◌<◌, ℕ, ◌+◌, ◌*◌, ◌-◌, ◌/◌, ◌%◌, ◌^◌, map, length, nat_eq, arith, sym, ap, ◌∙◌}
-use Rattle.std.specs.List.{filter, range_with_len}
+use Rattle.std.proofs.Common.{◌≡◌, ◌≤◌, ℕ, ◌+◌, ◌*◌, ◌-◌, ◌/◌, ◌%◌, ◌^◌, arith, sym, ap, ◌∙◌}
 use Rattle.std.proofs.lemmas.List.{length-set}
-use Rattle.order_model.specs.Orders.{members}
 use Rattle.order_model.proofs.Bits.Ones.{ones-members}
 use Rattle.subset_layers.proofs.BlockLists.{block_masks_are, mask_small, high_mask, high_no_mask}
 use Rattle.subset_layers.proofs.layers.Block.with_low.Goals as goal
@@ -10,14 +8,13 @@ use Rattle.order_model.proofs.Bits.Masks.{power_small}
 
 -- the end of the loop
 highs_are : (n : ℕ) → n ≤ 16 → (1 * 2 ^ n % 18446744073709551616 + 256 - 1) / 256 ≡ (2 ^ n + 255) / 256
-highs_are n h = let s = power_small n h in ap (λ k. k / 256) (let t : 1 * 2 ^ n % 18446744073709551616 + 256 - 1 ≡ 2 ^ n + 255 = omega arith in t)
+highs_are n h = ap (λ k. k / 256) (let t : 1 * 2 ^ n % 18446744073709551616 + 256 - 1 ≡ 2 ^ n + 255 = omega (arith, power_small n h) in t)
 
 pub loop-high-preserved : goal.loop-high-preserved
 loop-high-preserved c =
     let e = highs_are c.args.inputs c.requires.inputs in
     let p = power_small c.args.inputs c.requires.inputs in
-    let test : c.loop-high.high < (2 ^ c.args.inputs + 255) / 256 = omega arith in
-    let small = mask_small c.args.inputs c.args.low c.loop-high.high c.requires.low c.requires.below test in
+    let small = mask_small c.args.inputs c.args.low c.loop-high.high c.requires.low c.requires.below (omega arith) in
     let ones = ones-members c.args.inputs (c.loop-high.high * 256 + c.args.low) small in
     elim c.if-mask-size.branch [
       | then-mask-size w ↦
@@ -35,15 +32,4 @@ loop-high-preserved c =
     ]
 
 pub invariant_of-result : goal.invariant_of-result
-invariant_of-result c =
-    let e = highs_are c.args.inputs c.requires.inputs in
-    let p = power_small c.args.inputs c.requires.inputs in
-    let s = c.loop-high.invariant.0.0 in
-    let last : c.loop-high.high ≡ (2 ^ c.args.inputs + 255) / 256 = omega arith in (
-      omega arith,
-      c.loop-high.invariant.0.1
-          ∙ ap (λ h. filter (λ mask. nat_eq (length (members c.args.inputs mask)) c.args.size)
-          (map (λ high. high * 256 + c.args.low) (range_with_len 0 h))) last
-          ∙ sym (block_masks_are c.args.inputs c.args.size c.args.low c.requires.low c.requires.below),
-      c.requires.below,
-    )
+invariant_of-result c = grind (arith, power_small, block_masks_are)

@@ -13,15 +13,13 @@ low_place : (n k i v : ℕ) (m : LayerOf) (masks lows places : List ℕ) → lay
 unfolding block_place
 low_place n k i v m masks lows places l e f t h w =
     let few : length (masks_of m) ≡ length masks = ap (λ x. length (masks_of x)) (sym l) ∙ ap length (sym e) in
-    let inside : i < length (masks_of (layer_with n k)) = (let s = ap length e in omega arith) in
     let read : v ≡ get_or (masks_of (layer_with n k)) i 0 = default_free masks i v (omega arith) w ∙ ap (λ xs. get_or xs i 0) e in
     let member : has lows (v % 256) ≡ true = ap (λ xs. has xs (v % 256)) f ∙ ap (λ u. has (low_bytes (layer_with n k)) (u % 256)) read
-    ∙ low_of_mask n k i inside in
+    ∙ low_of_mask n k i (omega (arith, ap length e)) in
     let p = table_place lows places (v % 256) t member in
     let same : place_in lows (v % 256) ≡ block_place m i = ap (λ xs. place_in xs (v % 256)) f
     ∙ ap (λ u. place_in (low_bytes (layer_with n k)) (u % 256)) read ∙ ap (λ x. block_place x i) l in
-    let count : length lows ≡ length (blocks_of m) = ap length f ∙ ap (λ x. length (low_bytes x)) l ∙ sym (blocks_length m) in
-    (p.0, p.1 ∙ same, (let a = p.1 in let b = p.2 in omega arith))
+    (p.0, p.1 ∙ same, omega (arith, ap length f ∙ ap (λ x. length (low_bytes x)) l ∙ sym (blocks_length m)))
 
 pub index-requires-2 : goal.index-requires-2
 index-requires-2 c =
@@ -31,16 +29,11 @@ index-requires-2 c =
     omega (arith, p.0)
 
 pub returns-clause-place : goal.returns-clause-place
-returns-clause-place c =
-    let p = low_place c.self.inside.inputs c.self.inside.size c.args.i c.index.result.now c.args.self.now c.self.inside.masks.numbers.items
-    c.self.inside.lows.numbers.items c.self.inside.lows.places.items
-    c.self.view_is c.self.invariant.masks_are c.self.invariant.lows_are c.self.inside.lows.placed c.requires c.index.ensures in
-    default_free c.self.inside.lows.places.items (c.index.result.now % 256) c.index-2.result.now p.0 c.index-2.ensures ∙ p.1
+returns-clause-place c = grind (arith, low_place, default_free)
 
 pub returns-clause-below : goal.returns-clause-below
 returns-clause-below c =
     let p = low_place c.self.inside.inputs c.self.inside.size c.args.i c.index.result.now c.args.self.now c.self.inside.masks.numbers.items
     c.self.inside.lows.numbers.items c.self.inside.lows.places.items
     c.self.view_is c.self.invariant.masks_are c.self.invariant.lows_are c.self.inside.lows.placed c.requires c.index.ensures in
-    let e = default_free c.self.inside.lows.places.items (c.index.result.now % 256) c.index-2.result.now p.0 c.index-2.ensures in
-    omega (arith, p.2)
+    omega (arith, p.2, default_free c.self.inside.lows.places.items (c.index.result.now % 256) c.index-2.result.now p.0 c.index-2.ensures)

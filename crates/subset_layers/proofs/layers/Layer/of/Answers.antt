@@ -1,18 +1,13 @@
-use Rattle.std.proofs.Common.{◌^◌, ◌%◌, map, length, nat_eq, arith, ap, ◌∙◌}
+use Rattle.std.proofs.Common.{◌%◌, map, nat_eq, arith, ap, ◌∙◌}
 use Rattle.std.specs.List.{range_with_len, list_any}
 use Rattle.std.proofs.lemmas.List.FromFn.{length-map-range_with_len}
-use Rattle.order_model.specs.Orders.{members}
 use Rattle.subset_layers.specs.Selections.{chosen}
 use Rattle.subset_layers.proofs.BlockLists.{masks_chosen, lows_chosen}
 use Rattle.order_model.proofs.Bits.Masks.{power_small}
 use Rattle.subset_layers.proofs.layers.Layer.of.Goals as goal
 
 pub of-requires : goal.of-requires
-of-requires c =
-    let e = ap length (c.deref.ensures.value ∙ c.in_ok-flags.ensures) in
-    let l = length-map-range_with_len (λ mask. nat_eq (length (members c.args.inputs mask)) c.args.size) 0 (2 ^ c.args.inputs) in
-    let p = power_small c.args.inputs c.requires in
-    omega arith
+of-requires c = grind (arith, length-map-range_with_len, power_small)
 
 pub invariant_of-result : goal.invariant_of-result
 invariant_of-result c =

@@ -1,5 +1,5 @@
-use Rattle.std.proofs.Common.{◌≡◌, length, vec_len, subst, arith}
-use Rattle.subset_layers.proofs.Choosing.{IsChoosing, choosing_no, choosing_yes, choosing_all}
+use Rattle.std.proofs.Common.{◌≡◌, length, vec_len, arith}
+use Rattle.subset_layers.proofs.Choosing.{choosing_no, choosing_yes, choosing_all}
 use Rattle.subset_layers.proofs.selection.Selection.of.Goals as goal
 use Rattle.subset_layers.proofs.selection.Selection.of.Goals.{then-is_chosen+in_ok-push, else-is_chosen}
 
@@ -27,7 +27,4 @@ loop-number-preserved c =
     ]
 
 pub returns : goal.returns
-returns c =
-    let e : c.loop-number.number ≡ length c.args.flags.now = omega arith in
-    choosing_all c.args.flags.now c.loop-number.numbers.items c.loop-number.places.items
-    (subst (λ i. IsChoosing c.args.flags.now i c.loop-number.numbers.items c.loop-number.places.items) e c.loop-number.invariant)
+returns c = grind (arith, choosing_all)
