@@ -1,7 +1,6 @@
 pub mod RowSteps
 pub mod Filled
 pub mod Joined
-pub mod FoundAhead
 pub mod JoinedTables
 pub mod OwnMembers
 pub mod Decided

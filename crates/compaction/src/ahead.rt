@@ -4,17 +4,16 @@
 ghost use Rattle.std.specs.Prelude.{◌≡◌, ℕ, ◌+◌, ◌^◌, ◌<◌, ◌≤◌, ◌++◌, ◌∷◌, ◌==◌, if◌then◌else◌, length, slice_index, [], IfOk, IfSome, IsTrue, OnOk, OnErr};
 ghost use Rattle.std.specs.Int.{bit_at};
 ghost use Rattle.order_model.specs.Orders.{has, members};
-ghost use Rattle.order_model.specs.Problems.{TruthTables};
 ghost use Rattle.subset_layers.specs.Layers.{block_masks};
-ghost use Rattle.compaction.specs.Ahead.{AreAhead, widths_ahead};
-ghost use Rattle.compaction.specs.Rows.{AreWidthRows, IsWidthRow, AreOfByte, AreMembers, most_compactions};
+ghost use Rattle.compaction.specs.Ahead.{AreAhead, with_others, widths_ahead};
+ghost use Rattle.compaction.specs.Rows.{AreWidthRows, IsWidthRow, AreOfByte, AreMembers, wanted_count, most_compactions};
 ghost use Rattle.compaction.specs.Walks.{AreAsked, AreRowsOf, Counts, HasRoom};
 
 use crate::blocks::{BlockWidths, requested_rows};
 use crate::request::WidthRequest;
 use crate::shared_tables::SharedTables;
 use crate::tally::{Tallies, Tally, count_wanted};
-use order_model::{Mask, Pairs, contains};
+use order_model::{Mask, Pairs, Problem, contains};
 use std::alloc::{AllocError, Global};
 use std::marker::Model;
 use subset_layers::Block;
@@ -38,21 +37,26 @@ impl Model for ByteRows {
     } };
 }
 
-/// Rows that were found ahead of their layers, and the size of the largest sets of which rows are
-/// to be found.
+/// Rows of a problem that were found ahead of their layers, and the size of the largest sets of
+/// which rows are to be found.
 #[derive(Drop)]
-pub struct WidthsAhead {
+pub struct WidthsAhead<'a> {
+    problem: &'a Problem,
     end: u8,
     bytes: Vec<ByteRows>,
 }
 
-impl Model for WidthsAhead {
-    ghost use Rattle.std.specs.Prelude.{List};
-    ghost use Rattle.compaction.specs.Ahead.{RowsOf};
+impl<'a> Model for WidthsAhead<'a> {
+    ghost use Rattle.compaction.specs.Ahead.{AheadOf, AreAhead};
 
-    ghost Value = { List RowsOf };
+    ghost Value = { AheadOf };
 
-    ghost view = { λ a. a.bytes.items };
+    ghost view = { λ a. record {
+      problem = a.problem.now;
+      rows = a.bytes.items;
+    } };
+
+    ghost invariant = { λ a. AreAhead a.problem.now a.bytes.items };
 }
 
 /// From the first of some sizes to the last one.
@@ -89,15 +93,24 @@ fn place_of(masks: &[Mask], mask: Mask, from: usize) -> Option<usize>
     None
 }
 
-impl WidthsAhead {
+impl<'a> WidthsAhead<'a> {
     /// Nothing is found, and rows are to be found of sets up to a size.
-    pub fn up_to(alloc: Global, end: u8) -> WidthsAhead
-        ensures { result ≡ [] }
+    pub fn up_to(alloc: Global, problem: &'a Problem, end: u8) -> WidthsAhead<'a>
+        ensures { result ≡ record { problem = problem.now; rows = [] } }
     {
         WidthsAhead {
+            problem,
             end,
             bytes: Vec::new(alloc),
         }
+    }
+
+    /// The problem, of which the rows are right.
+    pub fn problem(&self) -> &'a Problem
+        ensures problem { result.now ≡ self.now.problem }
+        ensures right { AreAhead self.now.problem self.now.rows }
+    {
+        self.problem
     }
 
     /// The size of the largest sets of which rows are to be found.
@@ -106,8 +119,9 @@ impl WidthsAhead {
     }
 
     /// With what others found. If memory is refused it stays.
-    pub fn append(&mut self, others: WidthsAhead) -> Result<(), AllocError>
-        ensures ok { OnOk result (self.new ≡ self.old ++ others) }
+    pub fn append(&mut self, others: WidthsAhead<'_>) -> Result<(), AllocError>
+        requires { others.problem ≡ self.old.problem }
+        ensures ok { OnOk result (self.new ≡ with_others self.old others.entry) }
         ensures err { OnErr result (self.new ≡ self.old) }
     {
         let mut others = others;
@@ -117,9 +131,9 @@ impl WidthsAhead {
     /// With the rows of some more sets. The tally rises by their widths.
     pub(crate) fn keep(&mut self, byte: ByteRows, tally: &mut Tally) -> Result<(), AllocError>
         requires few { length byte.masks ≤ 2 ^ 8 }
+        requires right { AreWidthRows self.old.problem byte.masks byte.masks byte.rows }
         requires room { tally.old ≤ 2 ^ 32 }
-        ensures right { OnOk result ((p : TruthTables) → AreAhead p self.old →
-            AreWidthRows p byte.masks byte.masks byte.rows → AreAhead p self.new) }
+        ensures problem { self.new.problem ≡ self.old.problem }
         ensures counted { OnOk result
             (tally.new + widths_ahead self.old ≡ tally.old + widths_ahead self.new) }
         ensures few { OnOk result (tally.new ≤ tally.old + 2 ^ 16) }
@@ -294,29 +308,29 @@ impl<'a> SharedTables<'a> {
 #[derive(Drop)]
 pub struct WidthSource<'a> {
     shared: &'a SharedTables<'a>,
-    ahead: &'a WidthsAhead,
+    ahead: &'a WidthsAhead<'a>,
     pairs: &'a Pairs,
 }
 
 impl<'a> Model for WidthSource<'a> {
+    ghost use Rattle.std.specs.Prelude.{◌≡◌};
     ghost use Rattle.order_model.specs.Problems.{TruthTables};
-    ghost use Rattle.compaction.specs.Ahead.{AreAhead};
 
     ghost Value = { TruthTables };
 
     ghost view = { λ w. w.shared.now };
 
-    ghost invariant = { λ w. AreAhead w.shared.now w.ahead.now };
+    ghost invariant = { λ w. w.ahead.now.problem ≡ w.shared.now };
 }
 
 impl<'a> WidthSource<'a> {
     /// Widths that were found ahead, and else walks from the shared tables.
     pub fn new(
         shared: &'a SharedTables<'a>,
-        ahead: &'a WidthsAhead,
+        ahead: &'a WidthsAhead<'a>,
         pairs: &'a Pairs,
     ) -> WidthSource<'a>
-        requires { AreAhead shared.now ahead.now }
+        requires { ahead.now.problem ≡ shared.now }
         ensures { result ≡ shared.now }
     {
         WidthSource {
@@ -355,16 +369,16 @@ impl<'a> WidthSource<'a> {
         alloc: Global,
         block: &Block,
         needed: &[Mask],
-        found: &mut WidthsAhead,
+        found: &mut WidthsAhead<'_>,
         tallies: &mut Tallies,
     ) -> Result<BlockWidths, AllocError>
         requires asked { AreAsked self.now block.now needed.now }
-        requires found { AreAhead self.now found.old }
-        requires room { HasRoom tallies.old needed.now }
+        requires found { found.old.problem ≡ self.now }
+        requires room { HasRoom tallies.old (wanted_count needed.now) }
         ensures rows { IfOk result (λ widths. AreRowsOf self.now block.now needed.now widths.rows) }
         ensures compactions { IfOk result (λ widths. widths.compactions ≤ most_compactions) }
-        ensures found { OnOk result (AreAhead self.now found.new) }
-        ensures ok { OnOk result (Counts needed.now found.old tallies.old found.new tallies.new) }
+        ensures ok { OnOk result
+            (Counts (wanted_count needed.now) found.old tallies.old found.new tallies.new) }
         ensures tallies { OnErr result (tallies.new ≡ tallies.old) }
         ensures err { OnErr result (found.new ≡ found.old) }
     {

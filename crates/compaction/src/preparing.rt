@@ -2,8 +2,7 @@
 //! for none.
 
 ghost use Rattle.std.specs.Prelude.{◌≡◌, ◌+◌, ◌^◌, ◌<◌, ◌≤◌, All, length, vec_len, IfOk, OnOk};
-ghost use Rattle.order_model.specs.Problems.{TruthTables};
-ghost use Rattle.compaction.specs.Ahead.{AreAhead, widths_ahead};
+ghost use Rattle.compaction.specs.Ahead.{widths_ahead};
 ghost use Rattle.compaction.specs.Rows.{AreWidthRows};
 
 use crate::ahead::{ByteRows, Sizes, WidthsAhead, sets_of_byte};
@@ -20,8 +19,8 @@ use std::thread::Threads;
 
 /// Rows that a thread found, and how many widths they hold.
 #[derive(Drop)]
-struct Part {
-    found: WidthsAhead,
+struct Part<'a> {
+    found: WidthsAhead<'a>,
     tally: Tally,
     ghost counted: { tally ≡ widths_ahead found },
     ghost few: { tally ≤ 2 ^ 24 },
@@ -101,10 +100,10 @@ impl<'a> SharedTables<'a> {
         pairs: &Pairs,
         end: u8,
         turns: &Turns,
-    ) -> Result<Part, AllocError>
-        ensures { IfOk result (λ p. AreAhead self.now p.found) }
+    ) -> Result<Part<'a>, AllocError>
+        ensures { IfOk result (λ p. p.found.problem ≡ self.now) }
     {
-        let mut found = WidthsAhead::up_to(alloc, end);
+        let mut found = WidthsAhead::up_to(alloc, self.problem(), end);
         let mut tally = Tally::new();
         let limit = 1u32 << self.problem().inputs();
         for _turn in 0..256u32 {
@@ -121,10 +120,14 @@ impl<'a> SharedTables<'a> {
 }
 
 /// Adds what a thread found.
-fn add_part(found: &mut WidthsAhead, tally: &mut Tally, part: Part) -> Result<(), AllocError>
+fn add_part(
+    found: &mut WidthsAhead<'_>,
+    tally: &mut Tally,
+    part: Part<'_>,
+) -> Result<(), AllocError>
+    requires found { part.found.problem ≡ found.old.problem }
     requires room { tally.old ≤ 2 ^ 30 }
-    ensures found { OnOk result ((p : TruthTables) → AreAhead p found.old → AreAhead p part.found →
-        AreAhead p found.new) }
+    ensures found { OnOk result (found.new.problem ≡ found.old.problem) }
     ensures counted { OnOk result
         (tally.new + widths_ahead found.old ≡ tally.old + widths_ahead found.new) }
     ensures few { OnOk result (tally.new ≤ tally.old + 2 ^ 24) }
@@ -139,19 +142,19 @@ fn add_part(found: &mut WidthsAhead, tally: &mut Tally, part: Part) -> Result<()
 }
 
 /// What all threads found.
-fn collect(
+fn collect<'a>(
     alloc: Global,
-    problem: &Problem,
+    problem: &'a Problem,
     end: u8,
-    parts: Vec<Result<Part, AllocError>>,
-) -> Result<(WidthsAhead, Tally), AllocError>
+    parts: Vec<Result<Part<'_>, AllocError>>,
+) -> Result<(WidthsAhead<'a>, Tally), AllocError>
     requires few { vec_len parts ≤ 64 }
-    requires parts { All (λ r. IfOk r (λ p. AreAhead problem.now p.found)) parts.items }
-    ensures found { IfOk result (λ r. AreAhead problem.now r.0) }
+    requires parts { All (λ r. IfOk r (λ p. p.found.problem ≡ problem.now)) parts.items }
+    ensures found { IfOk result (λ r. r.0.problem ≡ problem.now) }
     ensures counted { IfOk result (λ r. r.1 ≡ widths_ahead r.0) }
 {
     let mut parts = parts;
-    let mut found = WidthsAhead::up_to(alloc, end);
+    let mut found = WidthsAhead::up_to(alloc, problem, end);
     let mut tally = Tally::new();
     while let Some(part) = parts.pop() {
         add_part(&mut found, &mut tally, part?)?;
@@ -168,8 +171,8 @@ impl<'a> SharedTables<'a> {
         pairs: &Pairs,
         end: u8,
         workers: Workers,
-    ) -> Result<(WidthsAhead, Tally), AllocError>
-        ensures found { IfOk result (λ r. AreAhead self.now r.0) }
+    ) -> Result<(WidthsAhead<'a>, Tally), AllocError>
+        ensures found { IfOk result (λ r. r.0.problem ≡ self.now) }
         ensures counted { IfOk result (λ r. r.1 ≡ widths_ahead r.0) }
     {
         let count = usize::from(workers.count()) * usize::from(end.min(1));
@@ -178,8 +181,8 @@ impl<'a> SharedTables<'a> {
             rt,
             alloc,
             count,
-            &|_worker: usize| -> Result<Part, AllocError>
-                ensures { IfOk result (λ p. AreAhead self.entry.now p.found) }
+            &|_worker: usize| -> Result<Part<'_>, AllocError>
+                ensures { IfOk result (λ p. p.found.problem ≡ self.entry.now) }
             { self.part_of(alloc, pairs, end, &turns) },
         )?;
         collect(alloc, self.problem(), end, parts)
@@ -191,22 +194,19 @@ impl<'a> SharedTables<'a> {
 #[derive(Drop)]
 pub struct Preparation<'a> {
     shared: SharedTables<'a>,
-    found: WidthsAhead,
+    found: WidthsAhead<'a>,
     tally: Tally,
 }
 
 impl<'a> Model for Preparation<'a> {
     ghost use Rattle.std.specs.Prelude.{◌≡◌};
-    ghost use Rattle.compaction.specs.Ahead.{PreparationOf, AreAhead, widths_ahead};
+    ghost use Rattle.compaction.specs.Ahead.{AheadOf, widths_ahead};
 
-    ghost Value = { PreparationOf };
+    ghost Value = { AheadOf };
 
-    ghost view = { λ p. record {
-      problem = p.shared;
-      found = p.found;
-    } };
+    ghost view = { λ p. p.found };
 
-    ghost invariant = { λ p. AreAhead p.shared p.found × (p.tally ≡ widths_ahead p.found) };
+    ghost invariant = { λ p. (p.shared ≡ p.found.problem) × (p.tally ≡ widths_ahead p.found) };
 }
 
 impl<'a> Preparation<'a> {
@@ -216,7 +216,7 @@ impl<'a> Preparation<'a> {
     {
         Ok(Preparation {
             shared: SharedTables::of(alloc, problem)?,
-            found: WidthsAhead::up_to(alloc, 0),
+            found: WidthsAhead::up_to(alloc, problem, 0),
             tally: Tally::new(),
         })
     }
@@ -251,16 +251,15 @@ impl<'a> Preparation<'a> {
 
     /// How many widths the rows hold.
     pub fn widths(&self) -> u64
-        ensures { result ≡ widths_ahead self.now.found }
+        ensures { result ≡ widths_ahead self.now }
     {
         self.tally.count()
     }
 
     /// What serves several blocks, and the rows.
-    pub fn into_parts(self) -> (SharedTables<'a>, WidthsAhead)
+    pub fn into_parts(self) -> (SharedTables<'a>, WidthsAhead<'a>)
         ensures shared { result.0 ≡ self.entry.problem }
-        ensures found { result.1 ≡ self.entry.found }
-        ensures right { AreAhead self.entry.problem self.entry.found }
+        ensures found { result.1 ≡ self.entry }
     {
         (self.shared, self.found)
     }

@@ -1,8 +1,8 @@
 //! The row of one set, by itself and by walks that look ahead.
 
-ghost use Rattle.std.specs.Prelude.{◌≡◌, ◌≤◌, ◌^◌, length};
-ghost use Rattle.subset_layers.specs.Layers.{block_masks};
-ghost use Rattle.compaction.specs.Rows.{AreMembers, wanted_count};
+ghost use Rattle.std.specs.Prelude.{◌≡◌, ◌≤◌, ◌^◌};
+ghost use Rattle.compaction.specs.Rows.{wanted_count};
+ghost use Rattle.compaction.specs.Walks.{AreAsked};
 
 use crate::problems::{MULTIPLEXER, five_bit_numbers, problem_of};
 use compaction::{SharedTables, Tallies, Tally, WidthSource, WidthsAhead, block_widths};
@@ -16,17 +16,17 @@ use subset_layers::{Block, Layer};
 fn rows_by_walks(
     rt: &impl Abort,
     alloc: Global,
+    problem: &Problem,
     shared: &SharedTables<'_>,
     block: &Block,
     needed: &[Mask],
 ) -> (Vec<[u32; 16]>, Tallies)
-    requires inputs { block.now.inputs ≡ shared.now.inputs }
-    requires needed { length needed.now ≡ length (block_masks block.now) }
-    requires members { AreMembers shared.now (block_masks block.now) needed.now }
+    requires shared { shared.now ≡ problem.now }
+    requires asked { AreAsked problem.now block.now needed.now }
     requires room { wanted_count needed.now ≤ 2 ^ 32 }
 {
-    let ahead = WidthsAhead::up_to(alloc, 3);
-    let mut found = WidthsAhead::up_to(alloc, 0);
+    let ahead = WidthsAhead::up_to(alloc, problem, 3);
+    let mut found = WidthsAhead::up_to(alloc, problem, 0);
     let mut tallies = Tallies::new();
     let pairs = Pairs::none(10);
     let walks = WidthSource::new(shared, &ahead, &pairs);
@@ -59,7 +59,7 @@ fn ahead_by_walks(
     let needed = block.mask(0);
     assert!(rt; needed == 0x0003);
     let shared = SharedTables::of(alloc, problem).expect(rt, "memory");
-    let (rows, tallies) = rows_by_walks(rt, alloc, &shared, block, &[needed]);
+    let (rows, tallies) = rows_by_walks(rt, alloc, problem, &shared, block, &[needed]);
     assert!(rt; rows.as_slice() == [row].as_slice() && tallies.cells.count() == 2);
     tallies.ahead.count()
 }

@@ -1,7 +1,6 @@
 //! The layers by one thread.
 
 ghost use Rattle.std.specs.Prelude.{◌≡◌, length, IfOk, OnOk};
-ghost use Rattle.compaction.specs.Ahead.{AreAhead};
 ghost use Rattle.subset_layers.specs.Layers.{layer_of, masks_of, block_masks};
 ghost use Rattle.order_solve.specs.LayerContexts.{AreCells, IsLayerFor};
 ghost use Rattle.order_solve.specs.Bounded.{AreAllLayers, AreDone};
@@ -36,11 +35,11 @@ fn place_cells(context: &LayerContext<'_>, block: &Block, found: &[Cell], cells:
 pub(crate) fn cells_alone(
     alloc: Global,
     context: &LayerContext<'_>,
-    found: &mut WidthsAhead,
+    found: &mut WidthsAhead<'_>,
 ) -> Result<Vec<Cell>, AllocError>
-    requires { AreAhead context.now.setting.problem found.old }
+    requires { found.old.problem ≡ context.now.setting.problem }
     ensures cells { IfOk result (λ v. AreCells context.now.setting (masks_of context.now.layer) v.items) }
-    ensures found { OnOk result (AreAhead context.now.setting.problem found.new) }
+    ensures found { OnOk result (found.new.problem ≡ found.old.problem) }
 {
     prove!(context.setting.inputs() <= 16);
     let layer = context.layer;
@@ -59,24 +58,24 @@ pub(crate) fn cells_alone(
 }
 
 /// The layer after those that are done.
-fn next_layer_alone(
+fn next_layer_alone<'a>(
     alloc: Global,
-    setting: &Setting<'_>,
+    setting: &Setting<'a>,
     shared: &SharedTables<'_>,
-    ahead: &WidthsAhead,
+    ahead: &WidthsAhead<'_>,
     done: &[Costs],
-) -> Result<NextLayer, AllocError>
+) -> Result<NextLayer<'a>, AllocError>
     requires shared { shared.now ≡ setting.now.problem }
-    requires ahead { AreAhead setting.now.problem ahead.now }
+    requires ahead { ahead.now.problem ≡ setting.now.problem }
     requires done { AreDone setting.now done.now }
     ensures layer { IfOk result (λ n. IsLayerFor setting.now (length done.now) n.costs) }
-    ensures found { IfOk result (λ n. AreAhead setting.now.problem n.found) }
+    ensures found { IfOk result (λ n. n.found.problem ≡ setting.now.problem) }
 {
     let layer = Layer::of(alloc, setting.inputs(), done.len() as u8)?;
     let before = &done[done.len() - 1];
     let source = WidthSource::new(shared, ahead, setting.pairs);
     let context = LayerContext::new(setting, &layer, before).with_source(source);
-    let mut found = WidthsAhead::up_to(alloc, 0);
+    let mut found = WidthsAhead::up_to(alloc, setting.problem, 0);
     let cells = cells_alone(alloc, &context, &mut found)?;
     let costs = Costs::of(layer, cells);
     Ok(NextLayer { costs, found })
@@ -87,7 +86,7 @@ pub(crate) fn layers_alone(alloc: Global, setting: &Setting<'_>) -> Result<Vec<C
     ensures { IfOk result (λ v. AreAllLayers setting.now v.items) }
 {
     let shared = SharedTables::of(alloc, setting.problem)?;
-    let mut ahead = WidthsAhead::up_to(alloc, 0);
+    let mut ahead = WidthsAhead::up_to(alloc, setting.problem, 0);
     let mut layers = first_layer(alloc, setting)?;
     for _size in 0..setting.inputs() {
         ahead = look_ahead(alloc, setting, ahead, &layers);

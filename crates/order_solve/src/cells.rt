@@ -1,8 +1,8 @@
 //! The cells of a block's sets.
 
-ghost use Rattle.std.specs.Prelude.{◌≡◌, ◌+◌, ◌^◌, ◌<◌, ◌≤◌, length, map, IfOk, OnOk};
-ghost use Rattle.compaction.specs.Ahead.{AreAhead, widths_ahead};
-ghost use Rattle.compaction.specs.Rows.{AreMembers, AreWidthRows, wanted_count};
+ghost use Rattle.std.specs.Prelude.{◌≡◌, map, IfOk, OnOk};
+ghost use Rattle.compaction.specs.Rows.{AreWidthRows, wanted_count};
+ghost use Rattle.compaction.specs.Walks.{AreAsked, AreRowsOf, Counts, HasRoom};
 ghost use Rattle.subset_layers.specs.Layers.{layer_of, block_masks};
 ghost use Rattle.order_solve.specs.LayerContexts.{AreCells};
 ghost use Rattle.order_solve.specs.Gains.{widths_for};
@@ -21,23 +21,16 @@ fn widths_of(
     block: &Block,
     context: &LayerContext<'_>,
     needed: &[Mask],
-    found: &mut WidthsAhead,
+    found: &mut WidthsAhead<'_>,
     tallies: &mut Tallies,
 ) -> Result<Vec<[u32; 16]>, AllocError>
-    requires inputs { block.now.inputs ≡ context.now.setting.problem.inputs }
-    requires needed { length needed.now ≡ length (block_masks block.now) }
-    requires members { AreMembers context.now.setting.problem (block_masks block.now) needed.now }
-    requires found { AreAhead context.now.setting.problem found.old }
-    requires cells { tallies.old.cells + wanted_count needed.now ≤ 2 ^ 32 }
-    requires ahead { tallies.old.ahead ≤ 2 ^ 32 }
+    requires asked { AreAsked context.now.setting.problem block.now needed.now }
+    requires found { found.old.problem ≡ context.now.setting.problem }
+    requires room { HasRoom tallies.old (wanted_count needed.now) }
     ensures rows { IfOk result
-        (λ rows. AreWidthRows context.now.setting.problem (block_masks block.now) needed.now
-        rows.items) }
-    ensures found { OnOk result (AreAhead context.now.setting.problem found.new) }
-    ensures cells { OnOk result (tallies.new.cells ≡ tallies.old.cells + wanted_count needed.now) }
-    ensures ahead { OnOk result
-        (tallies.new.ahead + widths_ahead found.old ≡ tallies.old.ahead + widths_ahead found.new) }
-    ensures few { OnOk result (tallies.new.ahead ≤ tallies.old.ahead + 2 ^ 16) }
+        (λ rows. AreRowsOf context.now.setting.problem block.now needed.now rows.items) }
+    ensures counts { OnOk result
+        (Counts (wanted_count needed.now) found.old tallies.old found.new tallies.new) }
 {
     let setting = context.setting;
     let Some(source) = &context.source else {
@@ -83,22 +76,15 @@ pub(crate) fn cells_of_block(
     alloc: Global,
     block: &Block,
     context: &LayerContext<'_>,
-    found: &mut WidthsAhead,
+    found: &mut WidthsAhead<'_>,
     tallies: &mut Tallies,
 ) -> Result<Vec<Cell>, AllocError>
     requires layer { layer_of block.now ≡ context.now.layer }
-    requires found { AreAhead context.now.setting.problem found.old }
-    requires cells { tallies.old.cells + widths_for context.now.setting (block_masks block.now)
-        ≤ 2 ^ 32 }
-    requires ahead { tallies.old.ahead ≤ 2 ^ 32 }
+    requires found { found.old.problem ≡ context.now.setting.problem }
+    requires room { HasRoom tallies.old (widths_for context.now.setting (block_masks block.now)) }
     ensures cells { IfOk result (λ v. AreCells context.now.setting (block_masks block.now) v.items) }
-    ensures found { OnOk result (AreAhead context.now.setting.problem found.new) }
-    ensures tally { OnOk result
-        (tallies.new.cells
-        ≡ tallies.old.cells + widths_for context.now.setting (block_masks block.now)) }
-    ensures ahead { OnOk result
-        (tallies.new.ahead + widths_ahead found.old ≡ tallies.old.ahead + widths_ahead found.new) }
-    ensures few { OnOk result (tallies.new.ahead ≤ tallies.old.ahead + 2 ^ 16) }
+    ensures counts { OnOk result (Counts (widths_for context.now.setting (block_masks block.now))
+        found.old tallies.old found.new tallies.new) }
 {
     prove!(context.setting.inputs() <= 16);
     let needs = needs_of_block(alloc, block, context)?;

@@ -3,7 +3,7 @@
 ghost use Rattle.std.specs.Prelude.{◌≡◌, ◌≤◌, ◌++◌, ◌∷◌, [], All, IfOk, OnOk, length, vec_len};
 ghost use Rattle.std.specs.Thread.{IsSync};
 ghost use Rattle.subset_layers.specs.Layers.{masks_of};
-ghost use Rattle.compaction.specs.Ahead.{AreAhead};
+ghost use Rattle.compaction.specs.Ahead.{with_others};
 ghost use Rattle.order_solve.specs.LayerContexts.{AreCells, IsLayerFor};
 ghost use Rattle.order_solve.specs.Bounded.{AreDone, AreLayersFor};
 
@@ -13,7 +13,7 @@ use crate::setting::Setting;
 use crate::working::{WorkerResult, work_layer};
 use compaction::{SharedTables, WidthSource, WidthsAhead};
 use layer_board::{Board, BoardSeat, CloseError};
-use order_model::{Crew, Gate, Pairs, Problem, Workers};
+use order_model::{Crew, Gate, Pairs, Workers};
 use std::alloc::{AllocError, Global};
 use std::thread;
 use std::thread::Threads;
@@ -43,31 +43,28 @@ fn number_seats(alloc: Global, board: &Board, seats: Vec<BoardSeat>) -> Result<V
 }
 
 /// Does the jobs by threads of their own.
-fn do_jobs<R: Threads + Sync, G: Gate>(
+fn do_jobs<'a, R: Threads + Sync, G: Gate>(
     crew: &Crew<'_, R, G>,
     alloc: Global,
     board: &Board,
     jobs: Vec<Job>,
-    context: &LayerContext<'_>,
-) -> Result<Vec<Result<WorkerResult, AllocError>>, AllocError>
+    context: &LayerContext<'a>,
+) -> Result<Vec<Result<WorkerResult<'a>, AllocError>>, AllocError>
     requires seats { All (λ j. j.seat.board ≡ board.now) jobs.items }
     requires setting { board.now.brief.setting ≡ context.now.setting }
     requires layer { board.now.brief.layer ≡ context.now.layer }
     ensures count { IfOk result (λ v. vec_len v ≡ vec_len jobs) }
     ensures seats { IfOk result (λ v. All (λ r. IfOk r (λ e. e.seat.board ≡ board.now)) v.items) }
-    ensures found { IfOk result
-        (λ v. All (λ r. IfOk r (λ e. AreAhead context.now.setting.problem e.found)) v.items) }
 {
     let gate = crew.gate;
     thread::map_vec(
         crew.rt,
         jobs,
-        &|job: Job| -> Result<WorkerResult, AllocError>
+        &|job: Job| -> Result<WorkerResult<'_>, AllocError>
             requires { IsSync G.row × (job.seat.board ≡ board.now)
                 × (board.now.brief.setting ≡ context.now.setting)
                 × (board.now.brief.layer ≡ context.now.layer) }
-            ensures { IfOk result (λ e. (e.seat.board ≡ board.entry.now)
-                × AreAhead context.entry.now.setting.problem e.found) }
+            ensures { IfOk result (λ e. e.seat.board ≡ board.entry.now) }
         {
             let Job { worker, seat } = job;
             work_layer(alloc, board, seat, worker, context, gate)
@@ -78,16 +75,14 @@ fn do_jobs<R: Threads + Sync, G: Gate>(
 /// A seat of the workers, if none of them ran out of memory. What they found ahead goes to `found`.
 fn gather(
     board: &Board,
-    problem: &Problem,
-    ended: Vec<Result<WorkerResult, AllocError>>,
-    found: &mut WidthsAhead,
+    ended: Vec<Result<WorkerResult<'_>, AllocError>>,
+    found: &mut WidthsAhead<'_>,
 ) -> Result<BoardSeat, AllocError>
     requires some { 1 ≤ vec_len ended }
     requires seats { All (λ r. IfOk r (λ e. e.seat.board ≡ board.now)) ended.items }
-    requires ended { All (λ r. IfOk r (λ e. AreAhead problem.now e.found)) ended.items }
-    requires found { AreAhead problem.now found.old }
+    requires found { found.old.problem ≡ board.now.brief.setting.problem }
     ensures seat { IfOk result (λ s. s.board ≡ board.now) }
-    ensures found { OnOk result (AreAhead problem.now found.new) }
+    ensures found { OnOk result (found.new.problem ≡ found.old.problem) }
 {
     let mut ended = ended;
     let WorkerResult {
@@ -141,21 +136,20 @@ fn post_by_workers<R: Threads + Sync, G: Gate>(
     board: &Board,
     seats: Vec<BoardSeat>,
     context: &LayerContext<'_>,
-    found: &mut WidthsAhead,
+    found: &mut WidthsAhead<'_>,
 ) -> Result<BoardSeat, AllocError>
     requires some { 1 ≤ vec_len seats }
     requires few { vec_len seats ≤ 64 }
     requires seats { All (λ s. s.board ≡ board.now) seats.items }
     requires setting { board.now.brief.setting ≡ context.now.setting }
     requires layer { board.now.brief.layer ≡ context.now.layer }
-    requires found { AreAhead context.now.setting.problem found.old }
+    requires found { found.old.problem ≡ context.now.setting.problem }
     ensures seat { IfOk result (λ s. s.board ≡ board.now) }
-    ensures found { OnOk result (AreAhead context.now.setting.problem found.new) }
+    ensures found { OnOk result (found.new.problem ≡ found.old.problem) }
 {
-    let setting = context.setting;
     let jobs = number_seats(alloc, board, seats)?;
     let ended = do_jobs(crew, alloc, board, jobs, context)?;
-    gather(board, setting.problem, ended, found)
+    gather(board, ended, found)
 }
 
 /// The cells of a layer in its order, by workers. What they find ahead goes to `found`. If some
@@ -165,11 +159,11 @@ fn cells_of_layer<R: Threads + Sync, G: Gate>(
     crew: &Crew<'_, R, G>,
     alloc: Global,
     context: &LayerContext<'_>,
-    found: &mut WidthsAhead,
+    found: &mut WidthsAhead<'_>,
 ) -> Result<Vec<Cell>, AllocError>
-    requires { AreAhead context.now.setting.problem found.old }
+    requires { found.old.problem ≡ context.now.setting.problem }
     ensures cells { IfOk result (λ v. AreCells context.now.setting (masks_of context.now.layer) v.items) }
-    ensures found { OnOk result (AreAhead context.now.setting.problem found.new) }
+    ensures found { OnOk result (found.new.problem ≡ found.old.problem) }
 {
     let setting = context.setting;
     let (board, seats) = Board::new(
@@ -190,9 +184,9 @@ fn cells_of_layer<R: Threads + Sync, G: Gate>(
 
 /// A layer, and what its walks found ahead.
 #[derive(Drop)]
-pub(crate) struct NextLayer {
+pub(crate) struct NextLayer<'a> {
     pub costs: Costs,
-    pub found: WidthsAhead,
+    pub found: WidthsAhead<'a>,
 }
 
 /// The layer of the empty set.
@@ -205,15 +199,17 @@ pub(crate) fn first_layer(alloc: Global, setting: &Setting<'_>) -> Result<Vec<Co
     Ok(layers)
 }
 
-impl NextLayer {
+impl<'a> NextLayer<'a> {
     /// Adds the layer to those that are done, and what was found ahead to what was before.
     pub(crate) fn add_to(
         self,
         layers: &mut Vec<Costs>,
-        ahead: &mut WidthsAhead,
+        ahead: &mut WidthsAhead<'_>,
     ) -> Result<(), AllocError>
-        ensures layers { OnOk result (layers.new.items ≡ layers.old.items ++ self.costs ∷ []) }
-        ensures ahead { OnOk result (ahead.new ≡ ahead.old ++ self.found) }
+        requires { self.found.problem ≡ ahead.old.problem }
+        ensures layers { OnOk result
+            (layers.new.items ≡ layers.old.items ++ self.entry.costs ∷ []) }
+        ensures ahead { OnOk result (ahead.new ≡ with_others ahead.old self.entry.found) }
     {
         ahead.append(self.found)?;
         layers.push(self.costs)?;
@@ -222,25 +218,25 @@ impl NextLayer {
 }
 
 /// The layer after those that are done.
-pub(crate) fn next_layer<R: Threads + Sync, G: Gate>(
+pub(crate) fn next_layer<'a, R: Threads + Sync, G: Gate>(
     crew: &Crew<'_, R, G>,
     alloc: Global,
-    setting: &Setting<'_>,
+    setting: &Setting<'a>,
     shared: &SharedTables<'_>,
-    ahead: &WidthsAhead,
+    ahead: &WidthsAhead<'_>,
     done: &[Costs],
-) -> Result<NextLayer, AllocError>
+) -> Result<NextLayer<'a>, AllocError>
     requires shared { shared.now ≡ setting.now.problem }
-    requires ahead { AreAhead setting.now.problem ahead.now }
+    requires ahead { ahead.now.problem ≡ setting.now.problem }
     requires done { AreDone setting.now done.now }
     ensures layer { IfOk result (λ n. IsLayerFor setting.now (length done.now) n.costs) }
-    ensures found { IfOk result (λ n. AreAhead setting.now.problem n.found) }
+    ensures found { IfOk result (λ n. n.found.problem ≡ setting.now.problem) }
 {
     let layer = Layer::of(alloc, setting.inputs(), done.len() as u8)?;
     let before = &done[done.len() - 1];
     let source = WidthSource::new(shared, ahead, setting.pairs);
     let context = LayerContext::new(setting, &layer, before).with_source(source);
-    let mut found = WidthsAhead::up_to(alloc, 0);
+    let mut found = WidthsAhead::up_to(alloc, setting.problem, 0);
     let cells = cells_of_layer(crew, alloc, &context, &mut found)?;
     let costs = Costs::of(layer, cells);
     Ok(NextLayer { costs, found })

@@ -1,7 +1,6 @@
 //! How far the walks of a layer look ahead.
 
-ghost use Rattle.std.specs.Prelude.{◌≤◌, length};
-ghost use Rattle.compaction.specs.Ahead.{AreAhead};
+ghost use Rattle.std.specs.Prelude.{◌≡◌, ◌≤◌, length};
 ghost use Rattle.order_solve.specs.Bounded.{AreDone};
 
 use crate::setting::Setting;
@@ -85,15 +84,14 @@ fn likely_end(setting: &Setting<'_>, done: &[Costs]) -> usize
 
 /// What was found ahead, as long as that reaches to the next layer. Else nothing, and rows are to
 /// be found of all layers that are likely to be wanted nearly whole.
-pub(crate) fn look_ahead(
+pub(crate) fn look_ahead<'a>(
     alloc: Global,
     setting: &Setting<'_>,
-    ahead: WidthsAhead,
+    ahead: WidthsAhead<'a>,
     done: &[Costs],
-) -> WidthsAhead
-    requires ahead { AreAhead setting.now.problem ahead }
-    requires done { AreDone setting.now done.now }
-    ensures { AreAhead setting.now.problem result }
+) -> WidthsAhead<'a>
+    requires { AreDone setting.now done.now }
+    ensures { result.problem ≡ ahead.entry.problem }
 {
     let next = done.len();
     if next <= usize::from(ahead.end()) {
@@ -104,5 +102,5 @@ pub(crate) fn look_ahead(
     } else {
         likely_end(setting, done).min(16) as u8
     };
-    WidthsAhead::up_to(alloc, end)
+    WidthsAhead::up_to(alloc, ahead.problem(), end)
 }

@@ -3,7 +3,7 @@
 ghost use Rattle.std.specs.Prelude.{◌≡◌, ℕ, Some, IfOk, IsTrue};
 ghost use Rattle.order_model.specs.Orders.{has};
 ghost use Rattle.subset_layers.specs.Layers.{block_masks};
-ghost use Rattle.compaction.specs.Ahead.{AreAhead, widths_ahead};
+ghost use Rattle.compaction.specs.Ahead.{widths_ahead};
 ghost use Rattle.layer_core.specs.Settings.{cell_for};
 ghost use Rattle.layer_board.specs.Views.{has_claimed, knows_filled};
 ghost use Rattle.layer_core.specs.Pairing.{pair_of};
@@ -21,11 +21,12 @@ use subset_layers::{Block, Cell};
 /// What a worker hands back: its seat, how many widths its cells took and how many it found ahead,
 /// and the rows that it found.
 #[derive(Drop)]
-pub struct WorkerResult {
+pub struct WorkerResult<'a> {
     pub seat: BoardSeat,
     pub tally: Tally,
     pub ahead: Tally,
-    pub found: WidthsAhead,
+    pub found: WidthsAhead<'a>,
+    pub ghost same_problem: { found.problem ≡ seat.board.brief.setting.problem },
 }
 
 /// A worker at a board: what it is lent, its number, and what it calls between a claim and its
@@ -90,14 +91,14 @@ fn post_block<G: Gate>(worker: &Worker<'_, G>, seat: &mut BoardSeat, block: &Blo
 /// called for each set between the claim of its block and its post. Workers are numbered from 1.
 ///
 /// If memory is refused the seat is lost, and what was posted stays.
-pub fn work_layer<G: Gate>(
+pub fn work_layer<'a, G: Gate>(
     alloc: Global,
     board: &Board,
     mut seat: BoardSeat,
     worker: u8,
-    context: &LayerContext<'_>,
+    context: &LayerContext<'a>,
     gate: &G,
-) -> Result<WorkerResult, AllocError>
+) -> Result<WorkerResult<'a>, AllocError>
     requires seat { seat.board ≡ board.now }
     requires setting { board.now.brief.setting ≡ context.now.setting }
     requires layer { board.now.brief.layer ≡ context.now.layer }
@@ -110,13 +111,13 @@ pub fn work_layer<G: Gate>(
     ensures posted { IfOk result
         (λ e. (mask : ℕ) → IsTrue (gains seat e.seat mask) → IsTrue (knows_filled e.seat mask)) }
     ensures tally { IfOk result (λ e. e.tally ≡ widths_for context.now.setting (gained seat e.seat)) }
-    ensures found { IfOk result (λ e. AreAhead context.now.setting.problem e.found) }
     ensures ahead { IfOk result (λ e. e.ahead ≡ widths_ahead e.found) }
 {
     prove!(context.setting.inputs() <= 16);
     let worker = Worker::new(board, context, worker, gate);
     let mut tallies = Tallies::new();
-    let mut found = WidthsAhead::up_to(alloc, 0);
+    let setting = context.setting;
+    let mut found = WidthsAhead::up_to(alloc, setting.problem, 0);
     while let Some(claim) = board.claim(&mut seat) {
         let cells = cells_of_block(alloc, claim.block(), context, &mut found, &mut tallies)?;
         post_block(&worker, &mut seat, claim.block(), &cells);

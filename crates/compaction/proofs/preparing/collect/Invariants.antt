@@ -1,11 +1,11 @@
 use Rattle.std.proofs.Common.{◌≡◌, ◌+◌, ◌*◌, ◌^◌, ◌≤◌, All, IfOk, vec_len}
-use Rattle.compaction.specs.Ahead.{AreAhead, widths_ahead}
+use Rattle.compaction.specs.Ahead.{widths_ahead}
 use Rattle.compaction.proofs.preparing.collect.Given as goal
 
 abbrev pub invariant-loop-part : goal.invariant-loop-part
 invariant-loop-part l = record {
-  parts : All (λ r. IfOk r (λ p. AreAhead l.problem p.found)) l.parts.items;
-  found : AreAhead l.problem l.found;
+  parts : All (λ r. IfOk r (λ p. p.found.problem ≡ l.problem)) l.parts.items;
+  found : l.found.problem ≡ l.problem;
   counted : l.tally ≡ widths_ahead l.found;
   few : l.tally + 2 ^ 24 * vec_len l.parts ≤ 2 ^ 30;
 }

@@ -1,13 +1,13 @@
 use Rattle.std.proofs.Common.{ℕ, List, [], ◌∷◌, length, length-append, slice_get, sym, ap, ◌∙◌, subst, arith}
 use Rattle.subset_layers.specs.Costs.{CostsOf}
+use Rattle.compaction.specs.Ahead.{AheadOf}
 use Rattle.order_solve.specs.LayerContexts.{IsLayerFor}
 use Rattle.order_solve.specs.Bounded.{AreLayersFor}
 use Rattle.order_solve.proofs.Layers.{layers_push}
-use Rattle.compaction.proofs.FoundAhead.{ahead_joined}
 use Rattle.order_solve.proofs.all_cells.layers_of.Goals as goal
 
-pub look_ahead-ahead-requires-clause-done : goal.look_ahead-ahead-requires-clause-done
-look_ahead-ahead-requires-clause-done g c =
+pub look_ahead-ahead-requires : goal.look_ahead-ahead-requires
+look_ahead-ahead-requires g c =
     let is = c.deref.ensures.value in
     let n = ap length is in
     let m = c.loop-size.invariant.many in record {
@@ -38,6 +38,5 @@ loop-size-preserved g c =
           λ k d at. layers_push t items costs c.loop-size.invariant.layers_are
           (subst (λ (n : ℕ). IsLayerFor t n costs) (ap length c.deref-in-loop-size.ensures.value) c.in_ok-next.ensures.layer) k d
           (ap (λ (xs : List CostsOf). slice_get xs k) (sym is) ∙ at);
-      ahead = ahead_joined t.problem c.look_ahead-ahead.result c.in_ok-next.next.found c.add_to.new.ahead c.in_ok-add_to.ensures.ahead
-          c.look_ahead-ahead.ensures c.in_ok-next.ensures.found;
+      ahead = ap (λ (z : AheadOf). z.problem) c.in_ok-add_to.ensures.ahead ∙ c.look_ahead-ahead.ensures ∙ c.loop-size.invariant.ahead;
     }

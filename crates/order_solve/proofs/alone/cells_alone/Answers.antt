@@ -12,8 +12,8 @@ pub cells_of_block-requires-clause-layer : goal.cells_of_block-requires-clause-l
 cells_of_block-requires-clause-layer c = block_layer c.context.inside.layer.now c.loop-place.place c.block-block.result c.block-block.ensures
     ∙ ap (λ (z : ContextOf). z.layer) c.context.view_is
 
-pub cells_of_block-requires-clause-cells : goal.cells_of_block-requires-clause-cells
-cells_of_block-requires-clause-cells c =
+pub cells_of_block-requires-clause-room : goal.cells_of_block-requires-clause-room
+cells_of_block-requires-clause-room c =
     let t = c.args.context.now.setting in
     let v = ap (λ (z : ContextOf). z.setting.problem.inputs) c.context.view_is in
     let e = c.inputs.ensures.value in
@@ -24,7 +24,8 @@ cells_of_block-requires-clause-cells c =
     ∙ c.context.invariant.0.layer) ∙ v in
     let k = few_block t c.block-block.result t.problem.inputs (omega (arith, few, v, e)) inputs (omega (arith, few, v, e)) in
     let n = c.new-tallies.ensures.cells in
-    omega (arith, k, n)
+    let a = c.new-tallies.ensures.ahead in
+    record { cells = omega (arith, k, n); ahead = omega (arith, a) }
 
 pub place_cells-requires-clause-layer : goal.place_cells-requires-clause-layer
 place_cells-requires-clause-layer c = block_layer c.context.inside.layer.now c.loop-place.place c.block-block.result c.block-block.ensures
@@ -47,7 +48,7 @@ loop-place-preserved c =
           (blocks_more b c.loop-place.place c.block-block.result old new
           (subst (λ (l : LayerOf). slice_get (blocks_of l) c.loop-place.place ≡ Some c.block-block.result) same c.block-block.ensures)
           c.loop-place.invariant.placed (λ q h. e.kept q (subst (λ (cells : List Cell). IsPlaced b cells q) (sym v) h)) e.placed p lt low);
-      found = c.in_ok-own.ensures.found;
+      found = c.in_ok-own.ensures.counts.problem ∙ c.loop-place.invariant.found;
     }
 
 pub returns-clause-cells : goal.returns-clause-cells

@@ -1,5 +1,4 @@
 use Rattle.std.proofs.Common.{◌≡◌, ◌+◌, length}
-use Rattle.compaction.specs.Ahead.{AreAhead}
 use Rattle.order_solve.specs.Bounded.{AreLayersFor}
 use Rattle.order_solve.proofs.alone.layers_alone.Given as goal
 
@@ -7,5 +6,5 @@ abbrev pub invariant-loop-size : goal.invariant-loop-size
 invariant-loop-size l = record {
   many : length l.layers.items ≡ l._size + 1;
   layers_are : AreLayersFor l.setting l.layers.items;
-  ahead : AreAhead l.setting.problem l.ahead;
+  ahead : l.ahead.problem ≡ l.setting.problem;
 }

@@ -2,12 +2,12 @@ use Rattle.std.proofs.Common.{rules, ◌≡◌, ℕ, ◌+◌, ◌≤◌, refl, s
 use Rattle.subset_layers.specs.Layers.{LayerOf, BlockOf, layer_of, block_masks}
 use Rattle.order_model.specs.Orders.{has}
 use Rattle.layer_board.specs.Views.{BoardId, SeatOf}
-use Rattle.compaction.specs.Ahead.{widths_ahead}
+use Rattle.layer_core.specs.Settings.{Setting}
+use Rattle.compaction.specs.Ahead.{AheadOf, widths_ahead}
 use Rattle.order_solve.specs.LayerContexts.{ContextOf}
 use Rattle.order_solve.specs.Gains.{widths_for, StaysClaimed, IsPosted}
 use Rattle.order_solve.proofs.Posts.{no_more_stays}
 use Rattle.order_solve.proofs.Claimed.{block_layer, few_gained}
-use Rattle.compaction.proofs.FoundAhead.{ahead_none}
 use Rattle.order_solve.proofs.Rounds.{Working, working_none, working_stays, working_round, round_gains, claims_at, round_closes, few_room, few_round}
 use Rattle.order_solve.proofs.working.work_layer.Goals as goal
 
@@ -16,7 +16,9 @@ loop-claim-init g c = record {
   working =
       subst (λ (n : ℕ). Working c.args.context.now.setting c.args.seat c.args.seat n) (sym c.new-tallies.ensures.cells)
       (working_none c.args.context.now.setting c.args.seat);
-  found = ahead_none c.args.context.now.setting.problem c.up_to-found.result c.up_to-found.ensures;
+  found =
+      ap (λ (z : AheadOf). z.problem) c.up_to-found.ensures ∙ ap (λ (t : Setting). t.problem) c.setting.view_is
+      ∙ ap (λ (z : ContextOf). z.setting.problem) c.context.view_is;
   ahead = c.new-tallies.ensures.ahead ∙ ap widths_ahead (sym c.up_to-found.ensures);
   few = λ q all. let e = c.new-tallies.ensures.ahead in omega (arith, e);
 }
@@ -26,8 +28,8 @@ cells_of_block-requires-clause-layer g c =
     ap layer_of c.block.ensures
     ∙ block_layer c.args.board.now.brief.layer c.in-Some.claim.place c.in-Some.claim.block c.in-Some.ensures.block ∙ c.requires.layer
 
-pub cells_of_block-requires-clause-cells : goal.cells_of_block-requires-clause-cells
-cells_of_block-requires-clause-cells g c =
+pub cells_of_block-requires-clause-room : goal.cells_of_block-requires-clause-room
+cells_of_block-requires-clause-room g c =
     let t = c.args.context.now.setting in
     let s = c.loop-claim.seat in
     let s1 = c.claim.new.seat in
@@ -47,17 +49,8 @@ cells_of_block-requires-clause-cells g c =
     ∙ ap (λ (z : ContextOf). z.layer.inputs) (sym c.context.view_is) ∙ ap (λ (l : LayerOf). l.inputs) c.context.invariant.0.layer
     ∙ ap (λ (z : ContextOf). z.setting.problem.inputs) c.context.view_is)
     small in
-    omega (arith, gains, few)
-
-pub cells_of_block-requires-clause-ahead : goal.cells_of_block-requires-clause-ahead
-cells_of_block-requires-clause-ahead g c =
-    let s = c.loop-claim.seat in
-    let s1 = c.claim.new.seat in
-    let e = c.in-Some.ensures in
-    let h = claims_at c.args.board.now s s1 c.in-Some.claim.place c.in-Some.claim.block (c.loop-claim.invariant.working.board ∙ c.requires.seat) e.block
-    e.gained e.claimed e.later in
-    let few = few_room s s1 s1 c.loop-claim.tallies.ahead c.in-Some.claim.place c.in-Some.claim.block h c.loop-claim.invariant.few in
-    omega (arith, few)
+    let room = few_room s s1 s1 c.loop-claim.tallies.ahead p b h c.loop-claim.invariant.few in
+    record { cells = omega (arith, gains, few); ahead = omega (arith, room) }
 
 pub loop-claim-smaller : goal.loop-claim-smaller
 loop-claim-smaller g c =
@@ -86,11 +79,11 @@ loop-claim-preserved g c =
     record {
       working =
           subst (λ (n : ℕ). Working t c.args.seat s2 n)
-          (sym (c.in_ok-cells.ensures.tally ∙ ap (λ (z : BlockOf). c.loop-claim.tallies.cells + widths_for t (block_masks z)) c.block.ensures))
+          (sym (c.in_ok-cells.ensures.counts.cells ∙ ap (λ (z : BlockOf). c.loop-claim.tallies.cells + widths_for t (block_masks z)) c.block.ensures))
           (working_round t c.args.seat s s1 s2 c.loop-claim.tallies.cells p b w h c.post_block.ensures.stays all);
-      found = c.in_ok-cells.ensures.found;
-      ahead = (let r = c.in_ok-cells.ensures.ahead in let i = c.loop-claim.invariant.ahead in omega (arith, r, i));
-      few = few_round s s1 s2 c.loop-claim.tallies.ahead p b h c.loop-claim.invariant.few _ c.post_block.ensures.stays c.in_ok-cells.ensures.few;
+      found = c.in_ok-cells.ensures.counts.problem ∙ c.loop-claim.invariant.found;
+      ahead = (let r = c.in_ok-cells.ensures.counts.ahead in let i = c.loop-claim.invariant.ahead in omega (arith, r, i));
+      few = few_round s s1 s2 c.loop-claim.tallies.ahead p b h c.loop-claim.invariant.few _ c.post_block.ensures.stays c.in_ok-cells.ensures.counts.few;
     }
 
 pub returns-clause-told : goal.returns-clause-told

@@ -1,5 +1,5 @@
 use Rattle.std.proofs.Common.{◌≡◌}
-use Rattle.compaction.specs.Ahead.{AreAhead, widths_ahead}
+use Rattle.compaction.specs.Ahead.{widths_ahead}
 use Rattle.order_solve.proofs.Rounds.{Working, IsFewAhead}
 use Rattle.order_solve.proofs.Claimed.{open_marks}
 use Rattle.order_solve.proofs.working.work_layer.Given as goal
@@ -7,7 +7,7 @@ use Rattle.order_solve.proofs.working.work_layer.Given as goal
 abbrev pub invariant-loop-claim : goal.invariant-loop-claim
 invariant-loop-claim g l = record {
   working : Working l.context.setting l.fn.seat l.seat l.tallies.cells;
-  found : AreAhead l.context.setting.problem l.found;
+  found : l.found.problem ≡ l.context.setting.problem;
   ahead : l.tallies.ahead ≡ widths_ahead l.found;
   few : IsFewAhead l.seat l.tallies.ahead;
 }
