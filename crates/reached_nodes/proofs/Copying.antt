@@ -30,65 +30,26 @@ ref_place numbers id h = refuse (nat_lt id 2) (Terminal (id == 1)) (Place (get_o
 
 -- a ref stays as more is numbered
 pub ref_grows : (xs ys : List ℕ) (id : ℕ) → Grows xs ys → IsKnown xs id → ref_of ys id ≡ ref_of xs id
-ref_grows xs ys id g known = ⊎_elim
-    (λ (node : 2 ≤ id). ref_place ys id node ∙ (ap (λ (z : ℕ). Place (z - 1)) (g (id - 2) (known node)) ∙ sym (ref_place xs id node)))
-    (λ (few : id < 2). ref_terminal ys id few ∙ sym (ref_terminal xs id few))
-    (le_or_lt 2 id)
+ref_grows xs ys id g known = grind (arith, ⊎_elim, ref_place, ref_terminal, le_or_lt)
 
 -- a ref of an earlier copy is before
 pub ref_before : (numbers : List ℕ) (p id : ℕ) → IsEarlier numbers p id → IsBefore (get_or numbers p 0 - 1) (ref_of numbers id)
-ref_before numbers p id e = ⊎_elim
-    (λ (node : 2 ≤ id). let f = e node in let some = f.0 in let less = f.1 in
-    subst (IsBefore (get_or numbers p 0 - 1)) (sym (ref_place numbers id node))
-    (minus (get_or numbers (id - 2) 0) (get_or numbers p 0) some less))
-    (λ (few : id < 2). subst (IsBefore (get_or numbers p 0 - 1)) (sym (ref_terminal numbers id few)) tt)
-    (le_or_lt 2 id)
-  where
-    minus : (a b : ℕ) → a ≢ 0 → a < b → a - 1 < b - 1
-    minus a b some less = omega arith
+ref_before numbers p id e = grind (arith, ⊎_elim, ref_place, ref_terminal, le_or_lt)
 
 one_or_zero : (a b : ℕ) → a < 2 → b < 2 → (a == 1) ≡ (b == 1) → a ≡ b
-one_or_zero zero zero x y e = refl
-one_or_zero zero (suc zero) x y e = cc
-one_or_zero (suc zero) zero x y e = cc
-one_or_zero (suc zero) (suc zero) x y e = refl
-one_or_zero (suc (suc a)) b x y e = absurd (omega arith)
-one_or_zero zero (suc (suc b)) x y e = absurd (omega arith)
-one_or_zero (suc zero) (suc (suc b)) x y e = absurd (omega arith)
+one_or_zero a b h k l = grind arith
 
 -- ids of one ref are one id
 pub ref_one : (numbers : List ℕ) → ((p q : ℕ) → get_or numbers p 0 ≢ 0 → get_or numbers p 0 ≡ get_or numbers q 0 → p ≡ q) → (a b : ℕ) →
     IsKnown numbers a → IsKnown numbers b → ref_of numbers a ≡ ref_of numbers b → a ≡ b
-ref_one numbers unequal a b ka kb e = ⊎_elim
-    (λ (na : 2 ≤ a). ⊎_elim
-    (λ (nb : 2 ≤ b). let f : get_or numbers (a - 2) 0 - 1 ≡ get_or numbers (b - 2) 0 - 1 =
-    one_place (get_or numbers (a - 2) 0 - 1) (get_or numbers (b - 2) 0 - 1)
-    (sym (ref_place numbers a na) ∙ (e ∙ ref_place numbers b nb)) in
-    let x = ka na in let y = kb nb in let g : get_or numbers (a - 2) 0 ≡ get_or numbers (b - 2) 0 = omega arith in
-    let h = unequal (a - 2) (b - 2) x g in omega arith)
-    (λ (tb : b < 2). absurd (apart (get_or numbers (a - 2) 0 - 1) (b == 1) (sym (ref_place numbers a na) ∙ (e ∙ ref_terminal numbers b tb))))
-    (le_or_lt 2 b))
-    (λ (ta : a < 2). ⊎_elim
-    (λ (nb : 2 ≤ b). absurd (apart (get_or numbers (b - 2) 0 - 1) (a == 1) (sym (ref_place numbers b nb) ∙ (sym e ∙ ref_terminal numbers a ta))))
-    (λ (tb : b < 2). one_or_zero a b ta tb (one_bit (a == 1) (b == 1) (sym (ref_terminal numbers a ta) ∙ (e ∙ ref_terminal numbers b tb))))
-    (le_or_lt 2 b))
-    (le_or_lt 2 a)
-  where
-    one_place : (x y : ℕ) → Place x ≡ Place y → x ≡ y
-    one_place x y e = cc
-
-    one_bit : (x y : Bool) → Terminal x ≡ Terminal y → x ≡ y
-    one_bit x y e = cc
-
-    apart : (x : ℕ) (y : Bool) → Place x ≡ Terminal y → ⊥
-    apart x y e = cc
+ref_one numbers unequal a b ka kb e = grind (arith, ⊎_elim, ref_place, ref_terminal, le_or_lt, one_or_zero)
 
 pub blanks_set : (xs : List ℕ) (p v : ℕ) → p < length xs → get_or xs p 0 ≡ 0 → v ≢ 0 → blanks (set xs p v) + 1 ≡ blanks xs
 unfolding blanks
 blanks_set [] p v few e some = absurd (omega arith)
 blanks_set (x ∷ xs) zero zero few e some = absurd (some refl)
-blanks_set (x ∷ xs) zero (suc v) few e some = let f : blank x ≡ 1 = ap blank e in omega arith
-blanks_set (x ∷ xs) (suc p) v few e some = let f = blanks_set xs p v (omega arith) e some in omega arith
+blanks_set (x ∷ xs) zero (suc v) few e some = omega (arith, ap blank e)
+blanks_set (x ∷ xs) (suc p) v few e some = omega (arith, blanks_set xs p v (omega arith) e some)
 
 -- ---- paths
 
@@ -102,7 +63,7 @@ leads_extend nodes nodes' a b x (below k node m at child) =
     below k node (leads_extend nodes nodes' a (Place k) x m) (x.same k (slice_get_within nodes k node at) ∙ at) child
 
 pub extends_trans : (xs ys zs : List Node) → Extends xs ys → Extends ys zs → Extends xs zs
-extends_trans xs ys zs a b = let l = a.longer in let m = b.longer in record { longer = omega arith; same = λ k few. b.same k (omega arith) ∙ a.same k few }
+extends_trans xs ys zs a b = record { longer = omega arith; same = λ k few. b.same k (omega arith) ∙ a.same k few }
 
 pub extends_push : (nodes : List Node) (node : Node) → Extends nodes (nodes ++ node ∷ [])
 extends_push nodes node = record { longer = simp length-append (omega arith); same = λ k few. get_left nodes (node ∷ []) k few }
@@ -151,32 +112,22 @@ module _ (order ws numbers : List ℕ) (nodes : List Node) (c : AreCopied order 
 
   -- an id with a number is earlier than the new copy
   earlier_p : (id : ℕ) → IsKnown numbers id → IsEarlier numbers' p id
-  earlier_p id known two = let some = known two in let same = numbers_grow (id - 2) some in let s = c.small (id - 2) in let e = at_p in
-      ((λ z. some (sym same ∙ z)), omega arith)
+  earlier_p id known two = let some = known two in let same = numbers_grow (id - 2) some in ((λ z. some (sym same ∙ z)), omega (arith, at_p))
 
   earlier_q : (q id : ℕ) → get_or numbers q 0 ≢ 0 → IsEarlier numbers q id → IsEarlier numbers' q id
-  earlier_q q id some e two = let f = e two in let less = f.1 in let same = numbers_grow (id - 2) f.0 in let same' = numbers_grow q some in
-      ((λ z. f.0 (sym same ∙ z)), omega arith)
+  earlier_q q id some e two = let f = e two in let same = numbers_grow (id - 2) f.0 in ((λ z. f.0 (sym same ∙ z)), omega (arith, numbers_grow q some))
 
   copied_p : IsCopied order ws numbers' nodes' p
   copied_p = record {
     full = full;
     low = earlier_p (low_of (get_or ws p 0)) known_low;
     high = earlier_p (high_of (get_or ws p 0)) known_high;
-    node = let e : get_or numbers' p 0 - 1 ≡ length nodes = (let f = at_p in omega arith) in
+    node = let e : get_or numbers' p 0 - 1 ≡ length nodes = omega (arith, at_p) in
         ap (slice_get nodes') e ∙ (last_node nodes node ∙ ap Some (sym (node_same (get_or ws p 0) known_low known_high)));
   }
 
   copied_q : (q : ℕ) → get_or numbers q 0 ≢ 0 → IsCopied order ws numbers' nodes' q
-  copied_q q some = let o = c.copied q some in let same = numbers_grow q some in record {
-    full = o.full;
-    low = earlier_q q (low_of (get_or ws q 0)) some o.low;
-    high = earlier_q q (high_of (get_or ws q 0)) some o.high;
-    node = ap (λ (z : ℕ). slice_get nodes' (z - 1)) same
-        ∙ (get_left nodes (node ∷ []) (get_or numbers q 0 - 1)
-        (slice_get_within nodes (get_or numbers q 0 - 1) (node_of order numbers (get_or ws q 0)) o.node)
-        ∙ (o.node ∙ ap Some (sym (node_same (get_or ws q 0) (λ two. (o.low two).0) (λ two. (o.high two).0)))));
-  }
+  copied_q q some = grind (arith, numbers_grow, earlier_q, node, slice_get, nodes', get_left, slice_get_within, node_same)
 
   pub copied_more : AreCopied order ws numbers' nodes'
   copied_more = record {
@@ -186,21 +137,18 @@ module _ (order ws numbers : List ℕ) (nodes : List Node) (c : AreCopied order 
     placed = λ k few. ⊎_elim
         (λ (less : k < length nodes). let old = c.placed k less in
         (old.0, at_other old.0 (λ e. no_number k (sym old.1 ∙ (ap (λ (z : ℕ). get_or numbers z 0) e ∙ blank_p))) ∙ old.1))
-        (λ (last : length nodes ≤ k). (p, at_p ∙ (let l = long in omega arith)))
+        (λ (last : length nodes ≤ k). (p, at_p ∙ omega (arith, long)))
         (less_or_last k (length nodes));
     small = λ q. dite (ℕ_discrete q p)
-        (λ same. let l = long in let e : get_or numbers' q 0 ≡ m = ap (λ (z : ℕ). get_or numbers' z 0) same ∙ at_p in omega arith)
-        (λ ne. let s = c.small q in let l = long in let e = at_other q ne in omega arith);
+        (λ same. omega (arith, long, ap (λ (z : ℕ). get_or numbers' z 0) same ∙ at_p))
+        (λ ne. omega (arith, long, at_other q ne));
     unequal = λ q r some same. dite (ℕ_discrete q p)
         (λ eq. dite (ℕ_discrete r p) (λ er. eq ∙ sym er)
-        (λ nr. let s = c.small r in let e : get_or numbers' q 0 ≡ m = ap (λ (z : ℕ). get_or numbers' z 0) eq ∙ at_p in
-        let f = at_other r nr in absurd (omega arith)))
+        (λ nr. absurd (omega (arith, ap (λ (z : ℕ). get_or numbers' z 0) eq ∙ at_p, at_other r nr))))
         (λ nq. dite (ℕ_discrete r p)
-        (λ er. let s = c.small q in let e : get_or numbers' r 0 ≡ m = ap (λ (z : ℕ). get_or numbers' z 0) er ∙ at_p in
-        let f = at_other q nq in absurd (omega arith))
+        (λ er. absurd (omega (arith, ap (λ (z : ℕ). get_or numbers' z 0) er ∙ at_p, at_other q nq)))
         (λ nr. c.unequal q r (λ e. some (at_other q nq ∙ e)) (sym (at_other q nq) ∙ (same ∙ at_other r nr))));
-    count = let e = c.count in let l = long in let b = blanks_set numbers p m inside blank_p (λ z. omega arith) in
-        let s = length-set numbers p m in omega arith;
+    count = let l = long in let s = length-set numbers p m in omega (arith, blanks_set numbers p m inside blank_p (λ z. omega arith));
   }
     where
       no_number : (k : ℕ) → k + 1 ≡ 0 → ⊥
@@ -243,7 +191,7 @@ module _ (order ws n0 n1 n2 : List ℕ) (d0 d1 d2 : List Node) (p : ℕ) (r1 r2 
   d3 = d2 ++ made ∷ []
 
   size2 : p < length n2
-  size2 = let e = c2.copied.size in omega arith
+  size2 = omega arith
 
   copied3 : AreCopied order ws n3 d3
   copied3 = subst (λ (z : Node). AreCopied order ws n3 (d2 ++ z ∷ [])) same_made
@@ -308,9 +256,8 @@ copies_step order ws n0 n1 n2 n3 d0 d1 d2 d3 id word level low high number r1 r2
     let c2' : Copies order ws n1 d1 n2 d2 (high_of w) r2 = subst (λ (z : ℕ). Copies order ws n1 d1 n2 d2 z r2) (high_is ∙ ap high_of word_is) c2 in
     let whole = copies_node order ws n0 n1 n2 d0 d1 d2 p r1 r2 are blank_p inside (known two) c1' c2' in
     let back : p + 2 ≡ id = omega arith in
-    let level_is' : level_of w ≡ level = ap level_of (sym word_is) ∙ sym level_is in
     let d3_is' : d2 ++ (record { variable = get_or order (level_of w) 0; low = r1; high = r2 }) ∷ [] ≡ d3 =
-    (λ i. d2 ++ (record { variable = get_or order (level_is' i) 0; low = r1; high = r2 }) ∷ [])
+    (λ i. d2 ++ (record { variable = get_or order ((ap level_of (sym word_is) ∙ sym level_is) i) 0; low = r1; high = r2 }) ∷ [])
     ∙ sym d3_is in
     subst (λ (z : List ℕ × List Node × ℕ × Ref). Copies order ws n0 d0 z.0 z.1 z.2 z.3) (λ i. (sym n3_is i, d3_is' i, back i, sym r_is i)) whole
 
@@ -322,15 +269,8 @@ no_number (suc n) (suc p) z = no_number n p z
 all_blank : (n : ℕ) → blanks (replicate n 0) ≡ n
 unfolding blanks
 all_blank zero = refl
-all_blank (suc n) = let e = all_blank n in omega arith
+all_blank (suc n) = omega (arith, all_blank n)
 
 -- no copy yet
 pub copied_none : (order ws : List ℕ) (places : ℕ) → length ws ≡ places → AreCopied order ws (replicate places 0) []
-copied_none order ws places size = record {
-  size = length-replicate places 0 ∙ sym size;
-  copied = λ p some. absurd (some (no_number places p 0));
-  placed = λ k few. absurd (omega arith);
-  small = λ p. let e = no_number places p 0 in omega arith;
-  unequal = λ p q some same. absurd (some (no_number places p 0));
-  count = let e = all_blank places in let f = length-replicate {A = ℕ} places 0 in omega arith;
-}
+copied_none order ws places size = grind (arith, length-replicate, no_number, all_blank)

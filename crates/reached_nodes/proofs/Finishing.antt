@@ -49,21 +49,7 @@ get_last (x ∷ xs) r = get_last xs r
 pub more_refs : (numbers numbers' : List ℕ) (refs : List Ref) (ids : List ℕ) (i : ℕ) (r : Ref) → Grows numbers numbers' →
     AreRefs numbers refs ids i → IsKnown numbers' (get_or ids i 0) → r ≡ ref_of numbers' (get_or ids i 0)
     → AreRefs numbers' (refs ++ r ∷ []) ids (i + 1)
-more_refs numbers numbers' refs ids i r g a known is = record {
-  count = let l = length-append refs (r ∷ []) in let c = a.count in omega arith;
-  each = λ j short. ⊎_elim
-      (λ (last : i ≤ j). let e : length refs ≡ j = (let c = a.count in omega arith) in let f : i ≡ j = omega arith in (
-        ap (slice_get (refs ++ r ∷ [])) (sym e)
-            ∙ (get_last refs r ∙ ap Some (is ∙ ap (λ (z : ℕ). ref_of numbers' (get_or ids z 0)) f)),
-        subst (λ (z : ℕ). IsKnown numbers' (get_or ids z 0)) f known,
-      ))
-      (λ (old : j < i). let o = a.each j old in let c = a.count in (
-        get_left refs (r ∷ []) j (omega arith)
-            ∙ (o.0 ∙ ap Some (sym (ref_grows numbers numbers' (get_or ids j 0) g o.1))),
-        (λ two e. o.1 two (sym (g (get_or ids j 0 - 2) (o.1 two)) ∙ e)),
-      ))
-      (le_or_lt i j);
-}
+more_refs numbers numbers' refs ids i r g a known is = grind (arith, length-append, ⊎_elim, slice_get, get_last, get_left, ref_grows, le_or_lt)
 
 -- ---- the diagram
 
@@ -103,7 +89,7 @@ module _ (order ws numbers : List ℕ) (nodes : List Node) (is : IsOrder (length
 
   pub placed_nodes : AreNodes (length order) nodes
   placed_nodes k node at = let f = from k node at in let o = f.copied in let w : ℕ = get_or ws f.place 0 in
-      let m : get_or numbers f.place 0 - 1 ≡ k = (let e = f.number in omega arith) in
+      let m : get_or numbers f.place 0 - 1 ≡ k = omega arith in
       subst (λ (z : ℕ × Node). IsNodeAt (length order) z.0 z.1) (λ i. (m i, f.is_copy i)) record {
         variable = (is.all (get_or order (level_of w) 0)).0 (has_at order (level_of w) (small_level f.place o.full));
         low = ref_before numbers f.place (low_of w) o.low;
@@ -119,20 +105,7 @@ module _ (order ws numbers : List ℕ) (nodes : List Node) (is : IsOrder (length
 
   -- a child's place, by its ref
   child_place : (id q j : ℕ) → IsKnown numbers id → ref_of numbers id ≡ Place j → get_or numbers q 0 ≡ j + 1 → (2 ≤ id) × (q ≡ id - 2)
-  child_place id q j known e number = ⊎_elim
-      (λ (node : 2 ≤ id). let f : get_or numbers (id - 2) 0 - 1 ≡ j = one_place (get_or numbers (id - 2) 0 - 1) j (sym (ref_place numbers id node) ∙ e) in
-      let some = known node in (node, c.unequal q (id - 2) (λ z. omega arith) (number_is (get_or numbers q 0) (get_or numbers (id - 2) 0) j number f some)))
-      (λ (short : id < 2). absurd (apart j (id == 1) (sym e ∙ ref_terminal numbers id short)))
-      (le_or_lt 2 id)
-    where
-      one_place : (x y : ℕ) → Place x ≡ Place y → x ≡ y
-      one_place x y e = cc
-
-      apart : (x : ℕ) (y : Bool) → Place x ≡ Terminal y → ⊥
-      apart x y e = cc
-
-      number_is : (a b j : ℕ) → a ≡ j + 1 → b - 1 ≡ j → b ≢ 0 → a ≡ b
-      number_is a b j x y z = omega arith
+  child_place id q j known e number = grind (arith, ⊎_elim, ref_place, ref_terminal, le_or_lt)
 
   below_child : (roots : List Ref) (j k : ℕ) (child parent : Node) (f : From j child) (g : From k parent) (id : ℕ) → IsKnown numbers id →
       IsBelow ws (level_of (get_or ws g.place 0)) id → ref_of numbers id ≡ Place j
@@ -144,13 +117,12 @@ module _ (order ws numbers : List ℕ) (nodes : List Node) (is : IsOrder (length
   unfolding IsOrdered
   ordered roots j k child parent at_j at_k is_child = let f = from j child at_j in let g = from k parent at_k in let o = g.copied in
       let w : ℕ = get_or ws g.place 0 in let n = are g.place o.full in
-      let a = place_of_node j child f in let b = place_of_node k parent g in
       let less : level_of w < level_of (get_or ws f.place 0) = ⊎_elim
       (λ (low : parent.low ≡ Place j). below_child roots j k child parent f g (low_of w) (known_at (low_of w) g.place o.low) n.low
       (ap (λ (z : Node). z.low) g.is_copy ∙ low))
       (λ (high : parent.high ≡ Place j). below_child roots j k child parent f g (high_of w) (known_at (high_of w) g.place o.high) n.high
       (ap (λ (z : Node). z.high) g.is_copy ∙ high))
-      is_child in omega arith
+      is_child in omega (arith, place_of_node j child f, place_of_node k parent g)
 
   -- ---- functions
 
@@ -173,10 +145,7 @@ module _ (order ws numbers : List ℕ) (nodes : List Node) (is : IsOrder (length
 
   pub value_is : (f id : ℕ) (p : Point) → IsKnown numbers id → length order ≤ depth (length order) ws id + f →
       value nodes (ref_of numbers id) p ≡ function_of order ws id p
-  value_is zero id p known h = ⊎_elim
-      (λ (node : 2 ≤ id). let s = shallow (length order) ws are id node (known_word id known) in absurd (omega arith))
-      (λ (short : id < 2). value_terminal_is id p short)
-      (le_or_lt 2 id)
+  value_is zero id p known h = grind (arith, ⊎_elim, shallow, known_word, value_terminal_is, le_or_lt)
   value_is (suc f) id p known h = ⊎_elim
       (λ (two : 2 ≤ id). let q : ℕ = id - 2 in let w : ℕ = get_or ws q 0 in let o = c.copied q (known two) in let kw = known_word id known in
       let up = below_high (length order) ws are id two kw in let down = below_low (length order) ws are id two kw in
@@ -209,7 +178,7 @@ module _ (order ws numbers : List ℕ) (nodes : List Node) (is : IsOrder (length
       one_ref x y e = cc
 
   roots_before : (refs : List Ref) (ids : List ℕ) (i : ℕ) → AreRefs numbers refs ids i → All (IsBefore (length nodes)) refs
-  roots_before refs ids i a = All-from_get_or (IsBefore (length nodes)) refs (Terminal false) (λ j short. let c' = a.count in let o = a.each j (omega arith) in
+  roots_before refs ids i a = All-from_get_or (IsBefore (length nodes)) refs (Terminal false) (λ j short. let o = a.each j (omega arith) in
       subst (IsBefore (length nodes)) (sym (get_or_from_slice_get refs j (ref_of numbers (get_or ids j 0)) (Terminal false) o.0))
       (before_end (get_or ids j 0) o.1))
     where
@@ -243,8 +212,7 @@ module _ (order ws numbers : List ℕ) (nodes : List Node) (is : IsOrder (length
       (ap (λ (z : Node). z.high) same) in
       let word : v ≡ w = (are f.place o.full).word ∙ ((λ i. node_word (level i) (low i) (high i)) ∙ sym (are g.place q.full).word) in
       let place : f.place ≡ g.place = unequal f.place g.place o.full word in
-      let number : get_or numbers f.place 0 ≡ get_or numbers g.place 0 = ap (λ (z : ℕ). get_or numbers z 0) place in
-      let a = f.number in let b = g.number in omega arith
+      omega (arith, ap (λ (z : ℕ). get_or numbers z 0) place)
 
   pub reduced_of : (refs : List Ref) (ids : List ℕ) → length numbers < 2 ^ 32 → AreRefs numbers refs ids (length ids) →
       AreReached nodes refs → IsReducedOf (length order) (map (function_of order ws) ids) order nodes refs
@@ -256,5 +224,5 @@ module _ (order ws numbers : List ℕ) (nodes : List Node) (is : IsOrder (length
       functions = zip_of refs ids a.count a.each;
     };
     reduced = record { not_redundant = not_redundant; no_two_equal = no_two_equal; all_reached = reached };
-    few = let e = c.count in omega arith;
+    few = omega arith;
   }

@@ -19,27 +19,21 @@ unfolding numbers_of
 number_is places pages numbers p h = get_or-map-range_with_len (number_at pages numbers) 0 places p p 0 h (omega arith)
 
 pub in_places : (places : ℕ) (pages numbers all : List ℕ) (p : ℕ) → numbers_of places pages numbers ≡ all → p < length all → p < places
-in_places places pages numbers all p e h =
-    let long = numbers_long places pages numbers in
-    let same = ap (λ (l : List ℕ). length l) e in
-    omega arith
+in_places places pages numbers all p e h = grind (arith, numbers_long)
 
 pub part_in : (places parts p : ℕ) → p < places → places ≤ parts * 64 → p / 64 < parts
 part_in places parts p h few = omega arith
 
 pub number_in : (pages numbers : List ℕ) (p : ℕ) → ArePages pages numbers → p / 64 < length pages →
     get_or pages (p / 64) 0 * 64 + p % 64 < length numbers
-number_in pages numbers p are h = let i = are.inside (p / 64) h in omega arith
+number_in pages numbers p are h = omega arith
 
 module _ (places : ℕ) (pages numbers pages' numbers' : List ℕ) (place page number : ℕ) (are : ArePages pages' numbers')
     (few : places ≤ length pages' * 64) (inside : place < places) (own : page ≡ get_or pages' (place / 64) 0) (used : page ≢ 0)
     (same : (p : ℕ) → p < places → number_at pages' numbers' p ≡ number_at pages numbers p) where
   -- another place has its number elsewhere
   elsewhere : (p : ℕ) → p < places → p ≢ place → get_or pages' (p / 64) 0 * 64 + p % 64 ≢ page * 64 + place % 64
-  elsewhere p h ne e =
-      let one = are.apart (place / 64) (p / 64) (part_in places (length pages') place inside few) (part_in places (length pages') p h few)
-      (omega arith) (omega arith) in
-      ne (omega arith)
+  elsewhere p h ne e = grind (arith, part_in)
 
   pub numbers_set : numbers_of places pages' (set numbers' (page * 64 + place % 64) number) ≡ set (numbers_of places pages numbers) place number
   numbers_set =
@@ -52,11 +46,9 @@ module _ (places : ℕ) (pages numbers pages' numbers' : List ℕ) (place page n
       (λ p h. number_is places pages' new p (omega arith)
       ∙ elim (cases_eq p place) [
         | inl e ↦
-            let room = number_in pages' numbers' place are (part_in places (length pages') place inside few) in
             let it : get_or pages' (p / 64) 0 * 64 + p % 64 ≡ at = ap (λ q. get_or pages' (q / 64) 0 * 64 + q % 64) e
             ∙ ap (λ k. k * 64 + place % 64) (sym own) in
-            let there : at < length numbers' = omega arith in
-            ap (λ i. get_or new i 0) it ∙ get_or-set_same numbers' at number 0 there
+            ap (λ i. get_or new i 0) it ∙ get_or-set_same numbers' at number 0 (omega arith)
             ∙ sym (ap (λ q. get_or (set (numbers_of places pages numbers) place number) q 0) e
             ∙ get_or-set_same (numbers_of places pages numbers) place number 0 (omega arith))
         | inr ne ↦
@@ -86,7 +78,4 @@ numbers_none places pages =
 
 -- what is read is the element or the default
 pub read_as : (xs : List ℕ) (i x : ℕ) → x ≡ get_or xs i 0 → x ≡ get_or xs i x
-read_as xs i x e = elim (cases_lt i (length xs)) [
-  | inl lt ↦ e ∙ get_or_default xs i 0 x lt
-  | inr ge ↦ sym (get_or_past xs i x ge)
-]
+read_as xs i x e = grind (arith, cases_lt, get_or_default, get_or_past)

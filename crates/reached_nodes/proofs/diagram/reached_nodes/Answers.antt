@@ -11,16 +11,14 @@ use Rattle.reached_nodes.proofs.diagram.reached_nodes.Goals as goal
 pub loop-id-init : goal.loop-id-init
 loop-id-init c =
     let size : length (words_in c.args.closed.now c.args.places) ≡ c.args.places =
-    (let e = length-take c.args.places (slots_items c.args.closed.now.words) in let f = c.args.closed.now.words.ok in
-    let g = c.requires.places in omega arith) in
+    (let e = length-take c.args.places (slots_items c.args.closed.now.words) in omega arith) in
     let numbers : c.in_ok-numbers.numbers ≡ replicate c.args.places 0 = c.in_ok-numbers.ensures in
-    let nodes = c.new-nodes.ensures.items in let roots = c.in_ok-roots.ensures.items in
-    record {
+    let nodes = c.new-nodes.ensures.items in record {
       size = ap (λ (z : List ℕ). length z) numbers ∙ length-replicate c.args.places 0;
       copied = subst (λ (z : List ℕ × List Node). AreCopied c.args.order.now (words_in c.args.closed.now c.args.places) z.0 z.1)
           (λ i. (sym numbers i, sym nodes i)) (copied_none c.args.order.now (words_in c.args.closed.now c.args.places) c.args.places size);
-      refs = record { count = ap (λ (z : List Ref). length z) roots; each = λ j low. absurd (omega arith) };
-      reached = λ k low. absurd (let e : length c.new-nodes.result.items ≡ 0 = ap (λ (z : List Node). length z) nodes in omega arith);
+      refs = record { count = ap (λ (z : List Ref). length z) c.in_ok-roots.ensures.items; each = λ j low. absurd (omega arith) };
+      reached = λ k low. absurd (omega arith);
     }
 
 pub loop-id-preserved : goal.loop-id-preserved
@@ -39,10 +37,9 @@ pub returns : goal.returns
 returns c =
     let i = c.loop-id.invariant in let ws : List ℕ = words_in c.args.closed.now c.args.places in
     let at : c.loop-id.id-index ≡ length c.args.ids.now =
-    (let a = c.loop-id.auto.id-index-end in let b = c.loop-id-test.false in omega arith) in
+    omega arith in
     let few : length c.loop-id.numbers < 2 ^ 32 =
-    (let a = i.copied.size in let b = length-take c.args.places (slots_items c.args.closed.now.words) in let g = c.requires.places in
-    omega arith) in
+    omega arith in
     reduced_of c.args.order.now ws c.loop-id.numbers c.loop-id.nodes.items c.requires.order.1 c.requires.nodes c.requires.unequal
     i.copied c.loop-id.roots.items c.args.ids.now few
     (subst (λ (z : ℕ). AreRefs c.loop-id.numbers c.loop-id.roots.items c.args.ids.now z) at i.refs) i.reached
