@@ -1,5 +1,5 @@
-//! Who sifts: the calling thread, or two threads, of which one moves a variable up and the other one
-//! moves it down.
+//! Who sifts: the calling thread, or two threads, of which one moves a variable up and the other
+//! one moves it down.
 
 ghost use Rattle.std.specs.Prelude.{◌≡◌, ◌<◌, ◌≤◌, length, IfOk};
 ghost use Rattle.order_model.specs.Problems.{functions};
