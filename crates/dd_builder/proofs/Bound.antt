@@ -1,5 +1,5 @@
 -- The bound of all nodes is half of a store.
-use Rattle.std.proofs.Common.{◌≡◌, ℕ, zero, suc, ◌<◌, ◌≤◌, true, false, Bool, nat_lt, ◌&&◌, refl, sym, ◌∙◌, subst, arith, ⊎_elim, le-ltb}
+use Rattle.std.proofs.Common.{◌≡◌, ℕ, zero, suc, ◌<◌, ◌≤◌, true, false, Bool, nat_lt, ◌&&◌, refl, subst, arith, ⊎_elim, le-ltb}
 use Rattle.std.proofs.lemmas.Bool.{cases_lt}
 use Rattle.dd_builder.specs.Subfunctions.{most_nodes, MostNodesFit}
 use Rattle.dd_builder.proofs.Ranks.{more_above}
@@ -22,26 +22,14 @@ second false true e = refl
 second false false e = e
 
 each_fits : (most n : ℕ) → n ≤ most → all_fit most ≡ true → fits n ≡ true
-each_fits zero n low e = subst (λ z. fits z ≡ true) none e
-  where
-    none : 0 ≡ n
-    none = omega (arith, low)
+each_fits zero n low e = grind (arith, fits)
 each_fits (suc most) n low e = ⊎_elim
     (λ (less : n < suc most). each_fits most n (omega (arith, less)) (second (fits (suc most)) (all_fit most) e))
     (λ (more : suc most ≤ n). subst (λ z. fits z ≡ true) (let s : suc most ≡ n = omega (arith, low, more) in s) (first (fits (suc most)) (all_fit most) e))
     (cases_lt n (suc most))
 
 below : (a b : ℕ) → nat_lt a b ≡ true → a < b
-below a b e = ⊎_elim
-    (λ (less : a < b). less)
-    (λ (more : b ≤ a). absurd (no (sym e ∙ le-ltb a b more)))
-    (cases_lt a b)
-  where
-    no : true ≡ false → ⊥
-    no e = cc
+below a b e = grind (arith, ⊎_elim, le-ltb, cases_lt)
 
 pub most_fit : MostNodesFit
-most_fit n m few few' =
-    let a = more_above n m n few' in
-    let b = below (most_nodes n 16) 131311 (each_fits 16 n few refl) in
-    omega (arith, a, b)
+most_fit n m few few' = omega (arith, more_above n m n few', below (most_nodes n 16) 131311 (each_fits 16 n few refl))

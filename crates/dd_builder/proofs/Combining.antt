@@ -18,7 +18,7 @@ settled_known s operation a b id ka kb h = ⊎_elim (λ (small : id < 2). termin
 
 settled_level : (s : Knowledge) (from : ℕ) (operation : Operation) (a b id : ℕ) → IsFrom s from a → IsFrom s from b →
     from ≤ levels_of s.store.plan → Settles operation a b id → from ≤ depth_in s id
-settled_level s from operation a b id fa fb most h = ⊎_elim (λ (small : id < 2). let e = terminal_depth s id small in omega arith)
+settled_level s from operation a b id fa fb most h = ⊎_elim (λ (small : id < 2). omega (arith, terminal_depth s id small))
     (⊎_elim (λ (e : id ≡ a). subst (λ k. from ≤ depth_in s k) (sym e) fa.level) (λ (e : id ≡ b). subst (λ k. from ≤ depth_in s k) (sym e) fb.level)) h.origin
 
 pub settled_combined : (s : Knowledge) (from : ℕ) (operation : Operation) (a b id : ℕ) → IsFrom s from a → IsFrom s from b →
@@ -35,22 +35,14 @@ settled_combined s from operation a b id fa fb most h = record {
 -- ---- what stays as a session goes on
 
 pub from_follows : (s s' : Knowledge) (from id : ℕ) → Follows s s' → IsFrom s from id → IsFrom s' from id
-from_follows s s' from id f h = record { known = f.knows id h.known; level = let e = f.depths id h.known in let l = h.level in omega arith }
+from_follows s s' from id f h = record { known = f.knows id h.known; level = omega arith }
 
 pub branch_same : (x : ℕ) (f g f' g' : Function) (p : Point) → f p ≡ f' p → g p ≡ g' p → branch x f g p ≡ branch x f' g' p
 unfolding branch
 branch_same x f g f' g' p e e' = λ i. cond (bit p x) (e' i) (e i)
 
 pub cut_follows : (s s' : Knowledge) (level id low high : ℕ) → Follows s s' → IsCut s level id low high → IsCut s' level id low high
-cut_follows s s' level id low high f c = record {
-  known = f.knows id c.known;
-  low_below = known_below_follows s s' level low f c.low_below;
-  high_below = known_below_follows s s' level high f c.high_below;
-  function = λ p. f.functions id p c.known ∙ (c.function p
-      ∙ (branch_same (variable_at s.store.plan level) (function_in s low) (function_in s high) (function_in s' low) (function_in s' high) p
-      (sym (f.functions low p c.low_below.0)) (sym (f.functions high p c.high_below.0))
-      ∙ ap (λ (z : StoreId). branch (variable_at z.plan level) (function_in s' low) (function_in s' high) p) (sym f.store)));
-}
+cut_follows s s' level id low high f c = grind (arith, known_below_follows, branch_same)
 
 combine_same : (operation : Operation) (f g f' g' : Function) (p : Point) → f p ≡ f' p → g p ≡ g' p → combine operation f g p ≡ combine operation f' g' p
 unfolding combine
@@ -58,34 +50,16 @@ combine_same operation f g f' g' p e e' = λ i. combine_values operation (e i) (
 
 pub combined_follows : (s s' : Knowledge) (from : ℕ) (operation : Operation) (a b id : ℕ) → Knows s a → Knows s b → Follows s s' →
     IsCombined s from operation a b id → IsCombined s' from operation a b id
-combined_follows s s' from operation a b id ka kb f c = record {
-  means = means_same s' id (combine operation (function_in s a) (function_in s b)) (combine operation (function_in s' a) (function_in s' b))
-      (f.means id _ c.means)
-      (λ p l. combine_same operation (function_in s a) (function_in s b) (function_in s' a) (function_in s' b) p (sym (f.functions a p ka))
-      (sym (f.functions b p kb)));
-  level = let e = f.depths id c.means.known in let l = c.level in omega arith;
-}
+combined_follows s s' from operation a b id ka kb f c = grind (arith, means_same, combine_same)
 
 -- ---- an id as a node of a level
 
 both_same : (x : ℕ) (f : Function) (p : Point) → f p ≡ branch x f f p
 unfolding branch
-both_same x f p = either (bit p x) (f p)
-  where
-    either : (b v : Bool) → v ≡ cond b v v
-    either true v = refl
-    either false v = refl
+both_same x f p = grind arith
 
 pub same_cut : (s : Knowledge) (level id : ℕ) → Knows s id → level < depth_in s id → IsCut s level id id id
-same_cut s level id known less =
-    record {
-      known =
-          known;
-      low_below =
-          (known, less);
-      high_below = (known, less);
-      function = λ p. both_same (variable_at s.store.plan level) (function_in s id) p;
-    }
+same_cut s level id known less = search both_same
 
 -- ---- the node of an operation
 
@@ -119,10 +93,10 @@ combined_cut s from level operation a b al au bl bu low high id ca cb cl cu m mo
 
 -- ids below a level lie at the next one or below it
 pub below_from : (s : Knowledge) (level id : ℕ) → IsKnownBelow s level id → IsFrom s (level + 1) id
-below_from s level id h = record { known = h.0; level = (let l = h.1 in omega arith) }
+below_from s level id h = record { known = h.0; level = omega arith }
 
 pub combined_below : (s : Knowledge) (level : ℕ) (operation : Operation) (a b id : ℕ) → IsCombined s (level + 1) operation a b id → IsKnownBelow s level id
-combined_below s level operation a b id h = (h.means.known, (let l = h.level in omega arith))
+combined_below s level operation a b id h = (h.means.known, omega arith)
 
 -- an operation on the children of two ids
 module _ (store : StoreId) (s2 s3 : Knowledge) (level : ℕ) (operation : Operation) (a b al au bl bu : ℕ) (same : s2.store ≡ store)
@@ -139,10 +113,7 @@ module _ (store : StoreId) (s2 s3 : Knowledge) (level : ℕ) (operation : Operat
 -- the result lies no higher than the higher operand
 pub combined_no_higher : (s s' : Knowledge) (operation : Operation) (a b id : ℕ) → Knows s a → Knows s b → Follows s s' → HasLevels s' →
     AreCombined s s' operation a b id → LiesNoHigher s' a b id
-combined_no_higher s s' operation a b id ka kb f levels all k x y =
-    let e = ap (λ (z : StoreId). levels_of z.plan) f.store in
-    let da = f.depths a ka in let db = f.depths b kb in let most = levels a (f.knows a ka) in
-    (all k (omega (arith, e, x, most)) record { known = ka; level = omega (arith, x, da) } record { known = kb; level = omega (arith, y, db) }).level
+combined_no_higher s s' operation a b id ka kb f levels all k x y = grind arith
 
 -- the node made of an operation on both children
 pub made_combined : (store : StoreId) (s2 s3 s4 s5 : Knowledge) (from level : ℕ) (operation : Operation) (a b al au bl bu low high id : ℕ) →

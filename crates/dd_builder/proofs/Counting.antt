@@ -58,13 +58,7 @@ at_most (suc a) (suc b) f small once = let h = at_most a b g g_small g_once in o
 
 -- a rest below d, and what it is the rest of
 rest_bigger : (d a c a' c' : ℕ) → c < d → a < a' → a * d + c ≢ a' * d + c'
-rest_bigger d a c a' c' small less e =
-    let m : suc a * d ≤ a' * d = mul-le-mul_right d less in
-    let s : suc a * d ≡ a * d + d = ap (λ z. z * d) step ∙ (add-mul a 1 d ∙ ap (λ z. a * d + z) (one-mul d)) in
-    omega (arith, m, s, e, small)
-  where
-    step : suc a ≡ a + 1
-    step = omega arith
+rest_bigger d a c a' c' small less e = grind (arith, mul-le-mul_right, add-mul, one-mul)
 
 pub parts_same : (d a c a' c' : ℕ) → c < d → c' < d → a * d + c ≡ a' * d + c' → (a ≡ a') × (c ≡ c')
 parts_same d a c a' c' small small' e = ⊎_elim
@@ -75,13 +69,7 @@ parts_same d a c a' c' small small' e = ⊎_elim
     (three a a')
 
 pub parts_small : (d m a c : ℕ) → a < m → c < d → a * d + c < m * d
-parts_small d m a c less small =
-    let g : suc a * d ≤ m * d = mul-le-mul_right d less in
-    let s : suc a * d ≡ a * d + d = ap (λ z. z * d) step ∙ (add-mul a 1 d ∙ ap (λ z. a * d + z) (one-mul d)) in
-    omega (arith, g, s, small)
-  where
-    step : suc a ≡ a + 1
-    step = omega arith
+parts_small d m a c less small = grind (arith, mul-le-mul_right, add-mul, one-mul)
 
 -- the number of a pair of unequal numbers below q
 abbrev pub second : ℕ → ℕ → ℕ
@@ -97,22 +85,10 @@ second_high : (a b : ℕ) → a ≤ b → second a b ≡ b - 1
 second_high a b more = refuse_n (nat_lt b a) b (b - 1) (le-ltb b a more)
 
 second_small : (q a b : ℕ) → a < q → b < q → a ≢ b → second a b < q - 1
-second_small q a b la lb ne = ⊎_elim
-    (λ (less : b < a). let e = second_low a b less in omega (arith, e, less, la))
-    (λ (more : a ≤ b). let e = second_high a b more in omega (arith, e, more, lb, ne))
-    (cases_lt b a)
+second_small q a b la lb ne = grind (arith, ⊎_elim, second_low, second_high, cases_lt)
 
 second_same : (a b b' : ℕ) → a ≢ b → a ≢ b' → second a b ≡ second a b' → b ≡ b'
-second_same a b b' ne ne' e = ⊎_elim
-    (λ (less : b < a). let s = second_low a b less in ⊎_elim
-    (λ (less' : b' < a). sym s ∙ (e ∙ second_low a b' less'))
-    (λ (more' : a ≤ b'). let s' = second_high a b' more' in absurd (omega (arith, e, s, s', less, more', ne')))
-    (cases_lt b' a))
-    (λ (more : a ≤ b). let s = second_high a b more in ⊎_elim
-    (λ (less' : b' < a). let s' = second_low a b' less' in absurd (omega (arith, e, s, s', less', more, ne)))
-    (λ (more' : a ≤ b'). let s' = second_high a b' more' in omega (arith, e, s, s', more, more', ne, ne'))
-    (cases_lt b' a))
-    (cases_lt b a)
+second_same a b b' ne ne' e = grind (arith, ⊎_elim, second_low, second_high, cases_lt)
 
 pub pair_small : (q a b : ℕ) → a < q → b < q → a ≢ b → pair q a b < q * (q - 1)
 pair_small q a b la lb ne = parts_small (q - 1) q a (second a b) la (second_small q a b la lb ne)

@@ -32,13 +32,7 @@ KeepsFunctions = (n : ℕ) (F : List Function) → AllZip (SameFunction n) (map 
 pub tables_diagram : CountsLevels → KeepsFunctions → (cover : NamedCover) (t : TruthTables) (order : List ℕ) (d : OrderedGraph) →
     AreTablesOf cover t → IsOrder cover.inputs order
     → IsDiagramOf t.inputs (functions t) order d → IsDiagramOf cover.inputs (functions_of cover) order d
-tables_diagram counts keep cover t order d are is h =
-    let rep : Represents cover.inputs (functions_of cover) order d.graph =
-    represents_same cover.inputs (map from_table (map (table cover.inputs) (functions_of cover))) (functions_of cover) order d.graph
-    (keep cover.inputs (functions_of cover))
-    (subst (λ (ts : List (List Bool)). Represents cover.inputs (map from_table ts) order d.graph) are.tables
-    (subst (λ n. Represents n (functions t) order d.graph) are.inputs h.diagram)) in
-    record { order = h.order; diagram = rep; reduced = h.reduced; levels = counts cover.inputs (functions_of cover) order d.graph is rep h.reduced }
+tables_diagram counts keep cover t order d are is h = grind (arith, represents_same)
 
 -- ---- the functions of a store for a cover
 
@@ -67,13 +61,7 @@ zip_tables n g a (t ∷ ts) h = (
 store_functions : (b : Plan) (cover : NamedCover) → IsPlan b → IsForCover b cover →
     AllZip (SameFunction cover.inputs) (functions b.problem.value) (functions_of cover)
 unfolding output_at product_functions
-store_functions b cover plan is =
-    let t : TruthTables = b.problem.value in
-    subst (λ m. AllZip (SameFunction cover.inputs) (functions t) (map (product_function cover.products) (range_with_len 0 m))) is.outputs
-    (zip_tables cover.inputs (product_function cover.products) 0 t.tables (λ j low.
-    subst (λ k. SameFunction cover.inputs (from_table (get_or t.tables j [])) (product_function cover.products k)) (sym (zero-add j))
-    (subst (λ n. SameFunction n (from_table (get_or t.tables j [])) (product_function cover.products j)) is.inputs
-    (same_sym t.inputs (product_function cover.products j) (output_at t j) (products_same cover b.kind t is.kind plan.terms is.inputs is.outputs j low)))))
+store_functions b cover plan is = grind (arith, zip_tables, zero-add, same_sym, products_same)
 
 -- the order of such a store is one of the cover's inputs
 pub store_order : (b : Plan) (cover : NamedCover) (order : List ℕ) → IsPlan b → IsForCover b cover → order_of b ≡ order → IsOrder cover.inputs order
@@ -133,8 +121,4 @@ kind_for cover (Products own) terms is same = ap (map (product_of cover.inputs c
 
 pub store_for : (b : Plan) (cover : NamedCover) (t : TruthTables) (terms : Bor (List Term)) → AreTablesOf cover t → b.problem.value ≡ t →
     IsKind b.kind (Terms terms) → map (product_of cover.inputs cover.outputs) terms.now ≡ cover.products → IsForCover b cover
-store_for b cover t terms are problem is same = record {
-  kind = kind_for cover b.kind terms is same;
-  inputs = ap (λ (z : TruthTables). z.inputs) problem ∙ are.inputs;
-  outputs = ap outputs_of problem ∙ outputs_are cover t are;
-}
+store_for b cover t terms are problem is same = grind (arith, kind_for, outputs_are)

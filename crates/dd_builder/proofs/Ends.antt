@@ -1,5 +1,5 @@
 -- Workers' ends, joined.
-use Rattle.std.proofs.Common.{◌≡◌, ◌≢◌, ℕ, zero, suc, ◌+◌, ◌-◌, ◌%◌, ◌<◌, ◌≤◌, ◌⊎◌, inl, inr, Some, Result, List, [], ◌∷◌, ◌++◌, length, slice_get, slice_index, refl, sym, ap, ◌∙◌, arith, subst}
+use Rattle.std.proofs.Common.{◌≡◌, ◌≢◌, ℕ, zero, suc, ◌+◌, ◌-◌, ◌%◌, ◌<◌, ◌≤◌, Some, Result, List, [], ◌∷◌, ◌++◌, length, slice_get, slice_index, refl, sym, ap, ◌∙◌, arith, subst}
 use Rattle.std.proofs.lemmas.Option.{slice_get_within}
 use Rattle.unique_table.specs.Sessions.{StoreId, Knowledge, Follows, HasPiece, depth_in}
 use Rattle.dd_builder.specs.Parts.{HasPart, HasShare, KnowsParts, part_level}
@@ -8,17 +8,7 @@ use Rattle.std.proofs.lemmas.Bool.{cases_lt}
 -- ---- parts
 
 pub part_follows : (s s' : Knowledge) (q : ℕ) → Follows s s' → HasPart s q → HasPart s' q
-part_follows s s' q f h =
-    let e = f.depths h.id h.known in let l = h.level in
-    let there : slice_index s'.pieces q ≡ slice_index s.pieces q = f.pieces q (λ z. let p = h.piece in omega arith) in
-    let level : part_level s.store.plan ≤ depth_in s' h.id = omega arith in
-    record {
-      id = h.id;
-      piece = there
-          ∙ h.piece;
-      known = f.knows h.id h.known;
-      level = subst (λ (z : StoreId). part_level z.plan ≤ depth_in s' h.id) (sym f.store) level;
-    }
+part_follows s s' q f h = grind (arith, slice_index)
 
 pub part_made : (s : Knowledge) (store : StoreId) (q id : ℕ) → s.store ≡ store → HasPiece s q id →
     (known : (2 ≤ id → slice_index s.seen (id - 2) ≡ 0 → ⊥)) → part_level store.plan ≤ depth_in s id → HasPart s q
@@ -26,18 +16,12 @@ part_made s store q id same piece known level =
     record { id = id; piece = piece; known = known; level = subst (λ (z : StoreId). part_level z.plan ≤ depth_in s id) (sym same) level }
 
 pub parts_follow : (s s' : Knowledge) (store : StoreId) → Follows s s' → KnowsParts store s → KnowsParts store s'
-parts_follow s s' store f h =
-    record {
-      same = f.store
-          ∙ h.same;
-      parts = λ q low. part_follows s s' q f (h.parts q (subst (λ (z : StoreId). q < z.plan.roots) f.store low));
-    }
+parts_follow s s' store f h = grind (arith, part_follows)
 
 -- a part stays published
 pub part_there : (s s' : Knowledge) (store : StoreId) (q : ℕ) → Follows s s' → KnowsParts store s → q < store.plan.roots → slice_index s'.pieces q ≡ 0 → ⊥
 part_there s s' store q f h low empty =
     let p = (h.parts q (subst (λ (z : StoreId). q < z.plan.roots) (sym h.same) low)).piece in
-    let stays : slice_index s'.pieces q ≡ slice_index s.pieces q = f.pieces q (λ z. omega arith) in
     omega arith
 
 -- the id that is collected stands where the part does
@@ -45,10 +29,7 @@ pub part_found : (s s' : Knowledge) (store : StoreId) (q id : ℕ) → Follows s
     HasPiece s' q id → part_level store.plan ≤ depth_in s' id
 part_found s s' store q id f h low there =
     let part = h.parts q (subst (λ (z : StoreId). q < z.plan.roots) (sym h.same) low) in
-    let old = part.piece in
-    let stays : slice_index s'.pieces q ≡ slice_index s.pieces q = f.pieces q (λ z. omega arith) in
     let is : part.id ≡ id = omega arith in
-    let d = f.depths part.id part.known in let l = part.level in
     let level : part_level s.store.plan ≤ depth_in s' part.id = omega arith in
     subst (λ k. part_level store.plan ≤ depth_in s' k) is (subst (λ (z : StoreId). part_level z.plan ≤ depth_in s' part.id) h.same level)
 
@@ -56,25 +37,16 @@ part_found s s' store q id f h low there =
 pub root_more : (s s' : Knowledge) (roots output place id : ℕ) → Follows s s' →
     ((j : ℕ) → j < output → slice_index s.pieces (roots + j) ≢ 0) → place ≡ roots + output → HasPiece s' place id → (j : ℕ) →
     j < output + 1 → slice_index s'.pieces (roots + j) ≢ 0
-root_more s s' roots output place id f known at here j low empty = elim (cases_lt j output) [
-  | inl less ↦ (let full = known j less in full (sym (f.pieces (roots + j) full) ∙ empty))
-  | inr past ↦ (let same : roots + j ≡ place = omega arith in let none = ap (slice_index s'.pieces) (sym same) ∙ empty in omega arith)
-]
+root_more s s' roots output place id f known at here j low empty = grind (arith, cases_lt, slice_index)
 
 -- one more part of a worker's share
 pub share_more : (s s' : Knowledge) (piece workers k : ℕ) → Follows s s' → ((q : ℕ) → q < piece → q % workers ≡ k → HasPart s q) →
     HasPart s' piece → (q : ℕ) → q < piece + 1 → q % workers ≡ k → HasPart s' q
-share_more s s' piece workers k f built here q low e = elim (cases_lt q piece) [
-  | inl less ↦ part_follows s s' q f (built q less e)
-  | inr past ↦ (let same : piece ≡ q = omega arith in subst (HasPart s') same here)
-]
+share_more s s' piece workers k f built here q low e = grind (arith, cases_lt, part_follows)
 
 pub share_other : (s : Knowledge) (piece workers k : ℕ) → ((q : ℕ) → q < piece → q % workers ≡ k → HasPart s q) →
     (piece % workers ≡ k → ⊥) → (q : ℕ) → q < piece + 1 → q % workers ≡ k → HasPart s q
-share_other s piece workers k built ne q low e = elim (cases_lt q piece) [
-  | inl less ↦ built q less e
-  | inr past ↦ (let same : q ≡ piece = omega arith in absurd (ne (ap (λ z. z % workers) (sym same) ∙ e)))
-]
+share_other s piece workers k built ne q low e = grind (arith, cases_lt)
 
 -- ---- ends in a list
 
@@ -104,22 +76,10 @@ module _ (P : ℕ → End → Type 0) (items front : List End) (end : End) (e : 
 -- with the last worker's share
 pub joined_first : (s : Knowledge) (workers left : ℕ) → 0 < workers → left + 1 ≡ workers → HasShare s workers left → (q : ℕ) →
     q < s.store.plan.roots → left ≤ q % workers → HasPart s q
-joined_first s workers left some all h q low past = let l = mod_less q workers some in h q low (omega arith)
-  where
-    mod_less : (a b : ℕ) → 0 < b → a % b < b
-    mod_less a b p = omega arith
+joined_first s workers left some all h q low past = grind arith
 
 -- with one more worker's share
 pub joined_more : (s t joint : Knowledge) (workers left k : ℕ) → Follows s joint → Follows t joint → s.store ≡ t.store → left + 1 ≡ k →
     ((q : ℕ) → q < s.store.plan.roots → k ≤ q % workers → HasPart s q) → HasShare t workers left
     → (q : ℕ) → q < joint.store.plan.roots → left ≤ q % workers → HasPart joint q
-joined_more s t joint workers left k fs ft same next known h q low past =
-    let low_s : q < s.store.plan.roots = subst (λ (z : StoreId). q < z.plan.roots) fs.store low in
-    let low_t : q < t.store.plan.roots = subst (λ (z : StoreId). q < z.plan.roots) ft.store low in
-    elim (at_or_past (q % workers) left past) [
-      | inl here ↦ part_follows t joint q ft (h q low_t here)
-      | inr more ↦ part_follows s joint q fs (known q low_s (omega arith))
-    ]
-  where
-    at_or_past : (a b : ℕ) → b ≤ a → (a ≡ b) ⊎ (b + 1 ≤ a)
-    at_or_past a b l = grind arith
+joined_more s t joint workers left k fs ft same next known h q low past = grind (arith, part_follows)

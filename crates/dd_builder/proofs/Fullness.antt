@@ -73,10 +73,7 @@ stays_alone from s more alone = stays_whole from.stake s.stake (subst (λ (z : S
 pub full_never : (source : Source) (from s : Knowledge) (store : StoreId) → s.store ≡ store → IsShareOf source from 0 s → IsPlan store.plan →
     AreNodeWords (levels_of store.plan) s.seen → AreUnequal s.seen → length s.seen ≤ store.plan.places → MadeAll s → KnowsFull s
     → MayBeFull source from (StoreFull s)
-full_never (Tables tables) from s store same share plan nodes unequal size made full = λ alone subs.
-    never_full s (subst (λ (z : StoreId). IsPlan z.plan) (sym same) plan) (subst (λ (z : StoreId). AreNodeWords (levels_of z.plan) s.seen) (sym same) nodes)
-    unequal (subst (λ (z : StoreId). length s.seen ≤ z.plan.places) (sym same) size) made
-    (stays_alone from s share.stake alone) (share.kept subs) full
+full_never (Tables tables) from s store same share plan nodes unequal size made full = grind (arith, never_full, stays_alone)
 full_never (Terms terms) from s store same share plan nodes unequal size made full = tt
 
 -- what a session may meet that goes on from another

@@ -3,7 +3,7 @@
 --     means_same      an id denotes each function of the same values
 --     makes_same, makes_node      a call makes the id of each function of the same values; a node that is made
 --     function_zero, function_one      the functions of the terminals
-use Rattle.std.proofs.Common.{◌≡◌, ℕ, ◌<◌, true, false, Result, Ok, Err, IfOk, IfErr, OnErr, length, refl, ◌∙◌, subst, arith}
+use Rattle.std.proofs.Common.{◌≡◌, ℕ, ◌<◌, true, false, Result, Ok, Err, IfOk, IfErr, OnErr, length, refl, ◌∙◌, arith}
 use Rattle.order_model.specs.Functions.{Point, Function, SameFunction}
 use Rattle.node_words.specs.Nodes.{IsFullFor}
 use Rattle.node_words.specs.Meaning.{function_of}
@@ -15,16 +15,7 @@ use Rattle.unique_table.proofs.Following.{follows_trans}
 use Rattle.dd_builder.specs.Making.{Makes}
 
 pub stays : (s : Knowledge) → Follows s s
-stays s = record {
-  store = refl;
-  stake = omega arith;
-  nodes = λ p full. refl;
-  pieces = λ p full. refl;
-  knows = λ id known. known;
-  functions = λ id p known. refl;
-  means = λ id f m. m;
-  depths = λ id known. refl;
-}
+stays s = grind arith
 
 -- an id denotes each function that has the same values
 pub means_same : (s : Knowledge) (id : ℕ) (f g : Function) → Means s id f → ((p : Point) → length p ≡ levels_of s.store.plan → f p ≡ g p) → Means s id g
@@ -68,19 +59,10 @@ err_same P Q (Err e) p h = h e p
 -- a session went on, and then made an id that denotes g if it denotes f
 pub makes_same : (s1 s2 s3 : Knowledge) (r : Result ℕ StoreFull) (f g : Function) → Follows s1 s2 → Makes s2 s3 r f →
     ((id : ℕ) → Means s3 id f → Means s3 id g) → Makes s1 s3 r g
-makes_same s1 s2 s3 r f g on made same = record {
-  follows = follows_trans s1 s2 s3 on made.follows;
-  function = ok_same (λ id. Means s3 id f) (λ id. Means s3 id g) r made.function same;
-  full = made.full;
-}
+makes_same s1 s2 s3 r f g on made same = search (follows_trans, ok_same)
 
 -- the same of a node that the store made
 pub makes_node : (s1 s2 s3 : Knowledge) (store : StoreId) (r : Result ℕ StoreFull) (f g : Function) (word : ℕ) → Follows s1 s2 →
     Follows s2 s3 → s2.store ≡ store → IfOk r (λ id. Means s3 id f)
     → OnErr r (IsFullFor s3.seen store.plan.places word) → ((id : ℕ) → Means s3 id f → Means s3 id g) → Makes s1 s3 r g
-makes_node s1 s2 s3 store (Ok id) f g word on go is m full same = record { follows = follows_trans s1 s2 s3 on go; function = same id m; full = tt }
-makes_node s1 s2 s3 store (Err e) f g word on go is m full same = record {
-  follows = follows_trans s1 s2 s3 on go;
-  function = tt;
-  full = λ p low. (full p (subst (λ (z : StoreId). p < z.plan.places) (go.store ∙ is) low)).0;
-}
+makes_node s1 s2 s3 store r f g word h k l m e p = grind (arith, follows_trans)

@@ -19,16 +19,10 @@ use Rattle.dd_builder.proofs.Ends.{End, ends_last, ends_front, joined_first, joi
 use Rattle.dd_builder.proofs.Keeping.{of_grown, keeps_joined, kept_on}
 
 pub halved_none : (s : Stake) → halved 0 s ≡ s
-halved_none s = λ i. record { units = s.units; halvings = same i }
-  where
-    same : s.halvings + 0 ≡ s.halvings
-    same = omega arith
+halved_none s = grind arith
 
 half_more : (k : ℕ) (s : Stake) → half (halved k s) ≡ halved (k + 1) s
-half_more k s = λ i. record { units = s.units; halvings = more i }
-  where
-    more : s.halvings + k + 1 ≡ s.halvings + (k + 1)
-    more = omega arith
+half_more k s = grind arith
 
 pub halvings_first : (workers k : ℕ) → k + 1 < workers → halvings_for workers k ≡ k + 1
 halvings_first workers k less = choose_n (nat_lt (k + 1) workers) (k + 1) k (lt-ltb (k + 1) workers less)
@@ -46,10 +40,7 @@ kept_half (Terms terms) from s store seen made = tt
 
 -- a worker's end has the share of its job
 pub share_ends : (source : Source) (from s s' : Knowledge) (k : ℕ) → HasHalf from k s → Continues source s s' → IsShareOf source from k s'
-share_ends source from s s' k h c = record {
-  stake = no_less_trans (halved k from.stake) s.stake s'.stake (no_less_same (halved k from.stake) s.stake h.stake) c.follows.stake;
-  kept = kept_on source from s s' (kept_half source from s h.store h.seen h.made) c.kept;
-}
+share_ends source from s s' k h c = search (no_less_trans, no_less_same, kept_on, kept_half)
 
 -- and a session that goes on has all
 pub share_all : (source : Source) (s s' : Knowledge) → Continues source s s' → IsShareOf source s 0 s'
@@ -58,12 +49,7 @@ share_all source s s' c = record { stake = subst (λ (z : Stake). IsNoLess z s'.
 -- a session that is split
 pub half_first : (from s s' : Knowledge) (k : ℕ) → HasHalf from k s → s'.store ≡ s.store → s'.stake ≡ half s.stake → s'.seen ≡ s.seen →
     s'.made ≡ s.made → HasHalf from (k + 1) s'
-half_first from s s' k h store stake seen made = record {
-  store = store ∙ h.store;
-  stake = stake ∙ (ap half h.stake ∙ half_more k from.stake);
-  seen = seen ∙ h.seen;
-  made = made ∙ h.made;
-}
+half_first from s s' k h store stake seen made = grind (arith, half_more)
 
 -- two that are joined
 pub share_joined : (source : Source) (from one two joint : Knowledge) (k : ℕ) → IsShareOf source from (k + 1) one → IsShareOf source from (k + 1) two →
@@ -140,10 +126,7 @@ pushed : {X : Type 0} (front : List X) (x y : X) (k : ℕ) → slice_get (front 
 pushed [] x y zero e = inr (refl, get_or_from_slice_get (x ∷ []) 0 y y e)
 pushed [] x y (suc k) e = let low = slice_get_within (x ∷ []) (suc k) y e in absurd (omega (arith, low))
 pushed (z ∷ zs) x y zero e = inl (omega arith, e)
-pushed (z ∷ zs) x y (suc k) e = ⊎_elim
-    (λ (t : (k < length zs) × (slice_get zs k ≡ Some y)). inl ((let low = t.0 in omega (arith, low)), t.1))
-    (λ (t : (k ≡ length zs) × (x ≡ y)). inr (ap suc t.0, t.1))
-    (pushed zs x y k e)
+pushed (z ∷ zs) x y (suc k) e = grind (arith, ⊎_elim, slice_get, pushed zs x y k e)
 
 module _ (jobs more : List Job) (job : Job) (is : more ≡ jobs ++ job ∷ []) where
   either : (k : ℕ) (j : Job) → slice_get more k ≡ Some j → ((k < length jobs) × (slice_get jobs k ≡ Some j)) ⊎ ((k ≡ length jobs) × (job ≡ j))
@@ -158,25 +141,11 @@ module _ (jobs more : List Job) (job : Job) (is : more ≡ jobs ++ job ∷ []) w
 
   pub jobs_more : (store : StoreId) (count : ℕ) → AreJobsOf store count jobs → job.session.store ≡ store → job.worker ≡ count + 1 →
       AreJobsOf store (count + 1) more
-  jobs_more store count are same number = record {
-    count = let a = are.count in omega (arith, long, a);
-    sessions = λ k j at. ⊎_elim
-        (λ (t : (k < length jobs) × (slice_get jobs k ≡ Some j)). are.sessions k j t.1)
-        (λ (t : (k ≡ length jobs) × (job ≡ j)). ap (λ (z : Job). z.session.store) (sym t.1) ∙ same)
-        (either k j at);
-    numbers = λ k j at. ⊎_elim
-        (λ (t : (k < length jobs) × (slice_get jobs k ≡ Some j)). are.numbers k j t.1)
-        (λ (t : (k ≡ length jobs) × (job ≡ j)). ap (λ (z : Job). z.worker) (sym t.1) ∙ (let a = are.count in let b = t.0 in omega (arith, number, a, b)))
-        (either k j at);
-  }
+  jobs_more store count are same number = grind (arith, long, ⊎_elim, slice_get, either)
 
   pub halves_more : (from : Knowledge) (workers k : ℕ) → AreHalves from workers jobs → length jobs ≡ k →
       HasHalf from (halvings_for workers k) job.session → AreHalves from workers more
-  halves_more from workers k are long_is mine i j at = ⊎_elim
-      (λ (t : (i < length jobs) × (slice_get jobs i ≡ Some j)). are i j t.1)
-      (λ (t : (i ≡ length jobs) × (job ≡ j)). subst (λ (z : Job). HasHalf from (halvings_for workers i) z.session) t.1
-      (subst (λ z. HasHalf from (halvings_for workers z) job.session) (sym long_is ∙ sym t.0) mine))
-      (either i j at)
+  halves_more from workers k are long_is mine i j at = grind (arith, ⊎_elim, slice_get, either)
 
 -- ends that go on from jobs
 pub shares_of : (source : Source) (from : Knowledge) (workers : ℕ) (jobs : List Job) (ends : List End) → AreHalves from workers jobs →

@@ -21,26 +21,7 @@ use Rattle.dd_builder.proofs.Restricted.{restricted_same}
 pub of_grown : (s s' : Knowledge) (w : ℕ) → s'.store ≡ s.store → ((id : ℕ) → Knows s id → Knows s' id) →
     ((id : ℕ) (p : Point) → Knows s id → function_in s' id p ≡ function_in s id p) → IsOfSubfunction s w → IsOfSubfunction s' w
 unfolding SameFunction
-of_grown s s' w same knows functions h = record {
-  level = h.level;
-  low = h.low;
-  high = h.high;
-  word = h.word;
-  inside = subst (λ (z : StoreId). h.level < levels_of z.plan) (sym same) h.inside;
-  knows_low = knows h.low h.knows_low;
-  knows_high = knows h.high h.knows_high;
-  function = subst (λ (z : StoreId). IsSubfunction (order_of z.plan) z.plan.problem.value h.level
-      (branch (variable_at z.plan h.level) (function_in s' h.low) (function_in s' h.high))) (sym same)
-      record {
-        output = h.function.output;
-        path = h.function.path;
-        is_output = h.function.is_output;
-        is_path = h.function.is_path;
-        same = λ p l. branch_same (variable_at s.store.plan h.level) (function_in s' h.low) (function_in s' h.high)
-            (function_in s h.low) (function_in s h.high) p (functions h.low p h.knows_low) (functions h.high p h.knows_high)
-            ∙ h.function.same p l;
-      };
-}
+of_grown s s' w same knows functions h = grind (arith, branch_same)
 
 pub of_follows : (s s' : Knowledge) (w : ℕ) → Follows s s' → IsOfSubfunction s w → IsOfSubfunction s' w
 of_follows s s' w f h = of_grown s s' w f.store f.knows f.functions h

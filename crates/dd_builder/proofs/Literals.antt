@@ -11,7 +11,7 @@ use Rattle.order_model.specs.declared.terms.Term.{Term}
 use Rattle.order_model.specs.Functions.{Point, Function, SameFunction, bit}
 use Rattle.order_model.specs.Orders.{has, IsOrder}
 use Rattle.order_model.specs.Problems.{outputs_of}
-use Rattle.order_model.specs.Products.{product_of, literal_holds, literal_in, output_in, matches, has_output}
+use Rattle.order_model.specs.Products.{product_of, literal_holds, literal_in, matches, has_output}
 use Rattle.order_model.proofs.Lists.Orders.{same_bool}
 use Rattle.truth_table.proofs.Literals.{all_from, all_at}
 use Rattle.node_words.specs.declared.operation.Operation.TheVariants.{Or}
@@ -32,7 +32,7 @@ some_literal : (term : Term) (x : ℕ) (p : Point) → bit_at term.care x ≡ 1 
 some_literal term x p e = ap (λ b. literal_holds p (x, cond (eqb b 1) (Some (eqb (bit_at term.value x) 1)) None)) e
 
 one_bit : (n x : ℕ) → bit_and (n / 2 ^ x) 1 ≢ 0 → bit_at n x ≡ 1
-one_bit n x ne = let e = shr_and_one n x in let l = bit_at-lt n x in let ne' : bit_at n x ≢ 0 = (λ z. ne (e ∙ z)) in omega arith
+one_bit n x ne = let e = shr_and_one n x in omega arith
 
 zero_bit : (n x : ℕ) → bit_at n x ≢ 1 → bit_at n x ≡ 0
 zero_bit n x ne = let l = bit_at-lt n x in omega (arith, l, ne)
@@ -55,19 +55,13 @@ pub literal_upper : (s : Knowledge) (term : Term) (x y id made : ℕ) → x ≡ 
     Means s made (branch x (function_in s 0) (function_in s id)) →
     Means s made (with_literal term x (function_in s id))
 unfolding with_literal branch
-literal_upper s term x y id made at care value m = means_same s made (branch x (function_in s 0) (function_in s id)) (with_literal term x (function_in s id)) m
-    (λ p l. upper_only (bit p x) (function_in s id p) (function_in s 0 p) (function_zero s p)
-    ∙ ap (λ b. b && function_in s id p) (sym (some_literal term x p (ap (bit_at term.care) at ∙ care)
-    ∙ ap (λ k. beq (bit p x) (eqb k 1)) (ap (bit_at term.value) at ∙ value))))
+literal_upper s term x y id made at care value m = grind (arith, means_same, upper_only, function_zero, some_literal)
 
 pub literal_lower : (s : Knowledge) (term : Term) (x y id made : ℕ) → x ≡ y → bit_at term.care y ≡ 1 → bit_at term.value y ≢ 1 →
     Means s made (branch x (function_in s id) (function_in s 0)) →
     Means s made (with_literal term x (function_in s id))
 unfolding with_literal branch
-literal_lower s term x y id made at care value m = means_same s made (branch x (function_in s id) (function_in s 0)) (with_literal term x (function_in s id)) m
-    (λ p l. lower_only (bit p x) (function_in s id p) (function_in s 0 p) (function_zero s p)
-    ∙ ap (λ b. b && function_in s id p) (sym (some_literal term x p (ap (bit_at term.care) at ∙ care)
-    ∙ ap (λ k. beq (bit p x) (eqb k 1)) (ap (bit_at term.value) at ∙ zero_bit term.value y value))))
+literal_lower s term x y id made at care value m = grind (arith, means_same, lower_only, function_zero, some_literal, zero_bit)
 
 -- ---- all literals
 
@@ -77,22 +71,13 @@ literals_from order term level p = list_all (λ x. literal_holds p (x, literal_i
 
 pub literals_none : (s : Knowledge) (order : List ℕ) (term : Term) (level : ℕ) → length order ≤ level → Means s 1 (literals_from order term level)
 unfolding literals_from SameFunction
-literals_none s order term level past =
-    record {
-      known = terminal_known s 1 (omega arith);
-      function = λ p l. function_one s p
-          ∙ sym (ap (list_all (λ x. literal_holds p (x, literal_in term x))) (drop_all level order past));
-    }
+literals_none s order term level past = grind (arith, terminal_known, function_one, drop_all)
 
 pub literals_more : (s s' : Knowledge) (order : List ℕ) (term : Term) (level x id made : ℕ) → level < length order →
     x ≡ get_or order level 0 → Knows s id → Means s id (literals_from order term (level + 1)) → Follows s s'
     → Means s' made (with_literal term x (function_in s' id)) → Means s' made (literals_from order term level)
 unfolding literals_from with_literal
-literals_more s s' order term level x id made inside at known below f m =
-    means_same s' made (with_literal term x (function_in s' id)) (literals_from order term level) m
-    (λ p l. ap (λ b. literal_holds p (x, literal_in term x) && b) (means_at s' id _ p (f.means id _ below) l)
-    ∙ (ap (λ y. literal_holds p (y, literal_in term y) && list_all (λ z. literal_holds p (z, literal_in term z)) (drop (level + 1) order)) at
-    ∙ sym (ap (list_all (λ z. literal_holds p (z, literal_in term z))) (drop_more order level 0 inside))))
+literals_more s s' order term level x id made inside at known below f m = grind (arith, means_same, literals_from, means_at, drop_more)
 
 -- a test of all members of an order is one of all variables
 list_all_each : (test : ℕ → Bool) (xs : List ℕ) → list_all test xs ≡ true → (y : ℕ) → has xs y ≡ true → test y ≡ true
@@ -136,10 +121,7 @@ term_means s order term n m level id is top h =
 
 has_output_bit : (n m : ℕ) (term : Term) (output : ℕ) → output < m → has_output (product_of n m term) output ≡ eqb (bit_at term.outs output) 1
 unfolding product_of
-has_output_bit n m term output low = get_or-map-range_with_len (λ j. output_in term j) 0 m output output false low refl'
-  where
-    refl' : 0 + output ≡ output
-    refl' = omega arith
+has_output_bit n m term output low = grind (arith, get_or-map-range_with_len)
 
 or_nothing : (v w : Bool) → v ≡ (v || (w && false))
 or_nothing true w = refl
@@ -153,20 +135,10 @@ and_all false = refl
 pub other_output : (s : Knowledge) (b : Plan) (term : Term) (output id : ℕ) → Knows s id → output < outputs_of b.problem.value →
     bit_and (term.outs / 2 ^ output) 1 ≡ 0 → Means s id (with_product (product_in b term) output (function_in s id))
 unfolding with_product
-other_output s b term output id known low e =
-    means_same s id (function_in s id) (with_product (product_in b term) output (function_in s id)) (means_own s id known)
-    (λ p l. or_nothing (function_in s id p) (matches (product_in b term) p)
-    ∙ ap (λ c. function_in s id p || (matches (product_in b term) p && c))
-    (sym (has_output_bit b.problem.value.inputs (outputs_of b.problem.value) term output low
-    ∙ ap (λ k. eqb k 1) (sym (shr_and_one term.outs output) ∙ e))))
+other_output s b term output id known low e = grind (arith, means_same, means_own, or_nothing, has_output_bit, shr_and_one)
 
 pub own_output : (s s' : Knowledge) (b : Plan) (term : Term) (output id cube made : ℕ) → Knows s id → output < outputs_of b.problem.value →
     bit_and (term.outs / 2 ^ output) 1 ≢ 0 → Means s cube (matches (product_in b term)) → Follows s s'
     → Means s' made (combine Or (function_in s' id) (function_in s' cube)) → Means s' made (with_product (product_in b term) output (function_in s' id))
 unfolding with_product combine
-own_output s s' b term output id cube made known low e mc f m =
-    means_same s' made (combine Or (function_in s' id) (function_in s' cube)) (with_product (product_in b term) output (function_in s' id)) m
-    (λ p l. ap (λ c. function_in s' id p || c) (means_at s' cube _ p (f.means cube _ mc) l ∙ (and_all (matches (product_in b term) p)
-    ∙ ap (λ c. matches (product_in b term) p && c)
-    (sym (has_output_bit b.problem.value.inputs (outputs_of b.problem.value) term output low
-    ∙ ap (λ k. eqb k 1) (one_bit term.outs output e))))))
+own_output s s' b term output id cube made known low e mc f m = grind (arith, means_same, means_at, and_all, has_output_bit, one_bit)

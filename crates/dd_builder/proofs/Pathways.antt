@@ -36,8 +36,8 @@ bit_elsewhere (suc zero) x y h ne = ap (λ k. bit_at k y) (one_times (2 ^ x)) �
 bit_elsewhere (suc (suc b)) x y h ne = absurd (omega arith)
 
 bit_small : (b x n : ℕ) → b < 2 → x < n → b * 2 ^ x < 2 ^ n
-bit_small zero x n h l = (let e = zero_times (2 ^ x) in let p = pow_pos n in omega arith)
-bit_small (suc zero) x n h l = (let p = pow_below x n l in omega arith)
+bit_small zero x n h l = omega (arith, pow_pos n)
+bit_small (suc zero) x n h l = omega (arith, pow_below x n l)
 bit_small (suc (suc b)) x n h l = absurd (omega arith)
 
 module _ (order : List ℕ) (is : IsOrder (length order) order) where
@@ -60,7 +60,7 @@ module _ (order : List ℕ) (is : IsOrder (length order) order) where
         bits = λ i l in_order. by_cases i l in_order (same i level) added b2;
         clear = λ i l in_order. ap (λ k. bit_at k (get_or order i 0)) added ∙ (bit_at_or point (b * 2 ^ x) (get_or order i 0)
             ∙ (let z = bit_elsewhere b x (get_or order i 0) b2 (λ s. other_place i level in_order inside (λ q. omega arith) (s ∙ at)) in
-            let c = h.clear i (omega arith) in_order in omega arith));
+            omega (arith, h.clear i (omega arith) in_order)));
       }
     where
       same : (i j : ℕ) → (i ≡ j) ⊎ (i ≢ j)
@@ -71,12 +71,10 @@ module _ (order : List ℕ) (is : IsOrder (length order) order) where
       by_cases i l in_order t added b2 = elim t [
         | inl s ↦
             let z = bit_there (bit_at path level) x b2 in let c = h.clear level (omega arith) inside in
-            let there : get_or order i 0 ≡ x = ap (λ k. get_or order k 0) s ∙ sym at in
-            let c' : bit_at point x ≡ 0 = ap (bit_at point) at ∙ c in
-            ap (bit_at now) there
+            ap (bit_at now) (ap (λ k. get_or order k 0) s ∙ sym at)
             ∙ (ap (λ k. bit_at k x) added
             ∙ (bit_at_or point (bit_at path level * 2 ^ x) x
-            ∙ (ap₂ max c' z ∙ (max_zero (bit_at path level) ∙ ap (bit_at path) (sym s)))))
+            ∙ (ap₂ max (ap (bit_at point) at ∙ c) z ∙ (max_zero (bit_at path level) ∙ ap (bit_at path) (sym s)))))
         | inr ne ↦
             let z = bit_elsewhere (bit_at path level) x (get_or order i 0) b2 (λ q. other_place i level in_order inside ne (q ∙ at)) in
             let c = h.bits i (omega arith) in_order in
@@ -86,20 +84,7 @@ module _ (order : List ℕ) (is : IsOrder (length order) order) where
 
   -- on to the low child the point stays
   pub point_low : (level path point : ℕ) → path < 2 ^ level → IsPointAbove order level path point → IsPointAbove order (level + 1) path point
-  point_low level path point small h = record {
-    small = h.small;
-    bits = λ i l in_order. by_level i l in_order (same i level);
-    clear = λ i l in_order. h.clear i (omega arith) in_order;
-  }
-    where
-      same : (i j : ℕ) → (i ≡ j) ⊎ (i ≢ j)
-      same i j = grind arith
-
-      by_level : (i : ℕ) → i < level + 1 → i < length order → (i ≡ level) ⊎ (i ≢ level) → bit_at point (get_or order i 0) ≡ bit_at path i
-      by_level i l in_order t = elim t [
-        | inl s ↦ h.clear i (omega arith) in_order ∙ sym (bit_at_above path level i small (omega arith))
-        | inr ne ↦ h.bits i (omega arith) in_order
-      ]
+  point_low level path point small h = grind (arith, bit_at_above)
 
   -- on to the high child it gets the variable of the level
   pub point_high : (level path point x now : ℕ) → length order ≤ 16 → level < length order → path < 2 ^ level → x ≡ get_or order level 0 →
@@ -126,8 +111,4 @@ pub point_whole : (order : List ℕ) (level path point : ℕ) → length order �
 point_whole order level path point past h = record { small = h.small; bits = λ i l. h.bits i (omega arith) l }
 
 pub point_above : (order : List ℕ) (level path point : ℕ) → path < 2 ^ level → IsPointOf order path point → IsPointAbove order level path point
-point_above order level path point small h = record {
-  small = h.small;
-  bits = λ i l in_order. h.bits i in_order;
-  clear = λ i l in_order. h.bits i in_order ∙ bit_at_above path level i small l;
-}
+point_above order level path point small h = grind (arith, bit_at_above)

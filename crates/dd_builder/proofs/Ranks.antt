@@ -26,25 +26,13 @@ tail_square k = ap (λ z. 2 ^ z) twice ∙ pow-add 2 (2 ^ k) (2 ^ k)
 -- a number, itself times itself, and that times one less
 square : (q : ℕ) → 0 < q → q + q * (q - 1) ≡ q * q
 square zero some = absurd (omega arith)
-square (suc q) some = ap (λ z. suc q + suc q * z) back ∙ sym (times_suc (suc q) q)
-  where
-    back : suc q - 1 ≡ q
-    back = omega arith
-
-    times_suc : (a b : ℕ) → a * suc b ≡ a + a * b
-    times_suc a b = omega arith
+square (suc q) some = grind arith
 
 tail_next : (k : ℕ) → tail (suc k) ≡ tail k + tail k * (tail k - 1)
 tail_next k = tail_square k ∙ sym (square (tail k) (pow_pos (2 ^ k)))
 
 dependent_is : (k : ℕ) → dependent (suc k) ≡ tail k * (tail k - 1)
-dependent_is k = ap (λ z. tail (suc k) - tail z) back ∙ rest
-  where
-    back : suc k - 1 ≡ k
-    back = omega arith
-
-    rest : tail (suc k) - tail k ≡ tail k * (tail k - 1)
-    rest = let e = tail_next k in omega (arith, e)
+dependent_is k = grind (arith, tail, tail_next)
 
 module _ (n : ℕ) (ws : List ℕ) (nodes : AreNodeWords n ws) (unequal : AreUnequal ws) where
   abbrev word : ℕ → ℕ
@@ -69,17 +57,10 @@ module _ (n : ℕ) (ws : List ℕ) (nodes : AreNodeWords n ws) (unequal : AreUne
     deep : n ≤ depth n ws id + k
 
   node_of : (id : ℕ) → IsKnown ws id → depth n ws id < n → 2 ≤ id
-  node_of id known less = ⊎_elim
-      (λ (small : id < 2). let e = depth_terminal n ws id small in absurd (omega (arith, e, less)))
-      (λ (node : 2 ≤ id). node)
-      (cases_lt id 2)
+  node_of id known less = grind (arith, ⊎_elim, depth_terminal, cases_lt)
 
   terminal_of : (id : ℕ) → IsDeep 0 id → id < 2
-  terminal_of id d = ⊎_elim
-      (λ (small : id < 2). small)
-      (λ (node : 2 ≤ id). let e = depth_node n ws id node in let l = (nodes (id - 2) (d.known node)).level in
-      let far = d.deep in absurd (omega (arith, e, l, far)))
-      (cases_lt id 2)
+  terminal_of id d = grind (arith, ⊎_elim, depth_node, cases_lt)
 
   module _ (k id : ℕ) (known : IsKnown ws id) (two : 2 ≤ id) (far : n ≤ depth n ws id + suc k) where
     is_node : IsNode n ws (word id)
@@ -149,10 +130,8 @@ module _ (n : ℕ) (ws : List ℕ) (nodes : AreNodeWords n ws) (unequal : AreUne
     once = λ a b da db e. ⊎_elim
         (λ (here : depth n ws a + k < n). ⊎_elim
         (λ (here' : depth n ws b + k < n). let far = da.deep in let far' = db.deep in
-        let same : pair (tail k) (rank k (low_of (word a))) (rank k (high_of (word a))) ≡ pair (tail k) (rank k (low_of (word b))) (rank k (high_of (word b))) =
-        (let x = rank_high k a here in let y = rank_high k b here' in omega (arith, x, y, e)) in
         children_once k r a b da.known db.known (node_of a da.known (omega (arith, here))) (node_of b db.known (omega (arith, here'))) far far'
-        (omega (arith, here, here', far, far')) same)
+        (omega (arith, here, here', far, far')) (let x = rank_high k a here in let y = rank_high k b here' in omega (arith, x, y, e)))
         (λ (deep' : n ≤ depth n ws b + k). let x = rank_high k a here in let y = rank_deep k b deep' in
         let s = r.small b record { known = db.known; deep = deep' } in absurd (omega (arith, x, y, s, e)))
         (cases_lt (depth n ws b + k) n))
@@ -182,9 +161,8 @@ module _ (n : ℕ) (ws : List ℕ) (nodes : AreNodeWords n ws) (unequal : AreUne
 
   most_late : (m level : ℕ) → n - level < 4 → level < n → most_on n m level ≡ tail (n - level - 1) * (tail (n - level - 1) - 1)
   most_late m level late inside =
-      let up : n - level ≡ suc (n - level - 1) = omega (arith, inside) in
       choose_n (nat_lt (n - level) 4) (dependent (n - level)) (m * 2 ^ level) (lt-ltb (n - level) 4 late)
-      ∙ (ap dependent up ∙ dependent_is (n - level - 1))
+      ∙ (ap dependent (omega (arith, inside)) ∙ dependent_is (n - level - 1))
 
   most_early : (m level : ℕ) → 4 ≤ n - level → most_on n m level ≡ m * 2 ^ level
   most_early m level early = refuse_n (nat_lt (n - level) 4) (dependent (n - level)) (m * 2 ^ level) (le-ltb (n - level) 4 early)
@@ -242,10 +220,7 @@ module _ (n : ℕ) (ws : List ℕ) (nodes : AreNodeWords n ws) (unequal : AreUne
 -- ---- levels, one after the other
 
 above_rises : (n m a b : ℕ) → a ≤ b → most_above n m a ≤ most_above n m b
-above_rises n m a zero low = subst (λ z. most_above n m z ≤ 0) none (omega arith)
-  where
-    none : 0 ≡ a
-    none = omega (arith, low)
+above_rises n m a zero low = grind arith
 above_rises n m a (suc b) low = ⊎_elim
     (λ (less : a < suc b). let r = above_rises n m a b (omega (arith, less)) in omega (arith, r))
     (λ (more : suc b ≤ a). let same : suc b ≡ a = omega (arith, low, more) in subst (λ z. most_above n m z ≤ most_above n m (suc b)) same (omega arith))
@@ -297,8 +272,7 @@ module _ (order : List ℕ) (t : TruthTables) (ws : List ℕ) (count : ℕ) (is 
   numbered_once p q low low' e =
       let level : level_at p ≡ level_at q =
       levels_same n m (level_at p) (level_at q) (local p low) (local q low') (local_small p low) (local_small q low') e in
-      let a = ap (most_above n m) level in
-      let here : local p low ≡ local q low' = omega (arith, a, e) in
+      let here : local p low ≡ local q low' = omega (arith, ap (most_above n m) level, e) in
       let there : local p low ≡ on_level n ws nodes unequal (level_at p) (get_or ws q 0) (sub_at q low').output (sub_at q low').path = here
       ∙ ap (λ z. on_level n ws nodes unequal z (get_or ws q 0) (sub_at q low').output (sub_at q low').path) (sym level) in
       ⊎_elim

@@ -4,9 +4,9 @@ use mir.Val.{bool_byte}
 use Rattle.std.proofs.lemmas.List.{take_all}
 use Rattle.std.proofs.Math.Nat.{mul-le-mul_right}
 use Rattle.std.proofs.lemmas.Nat.{one_shl}
-use Rattle.order_model.specs.Functions.{Point, Function, SameFunction, from_table}
+use Rattle.order_model.specs.Functions.{Point, Function, SameFunction}
 use Rattle.order_model.specs.Orders.{IsOrder}
-use Rattle.order_model.specs.Problems.{TruthTables, outputs_of, table_at, value_at}
+use Rattle.order_model.specs.Problems.{TruthTables, outputs_of, value_at}
 use Rattle.node_words.specs.Meaning.{branch}
 use Rattle.unique_table.specs.declared.plan.Plan.{Plan}
 use Rattle.unique_table.specs.declared.plan.PieceKind.{PieceKind}
@@ -41,11 +41,7 @@ pub output_leaf : (s : Knowledge) (order : List ℕ) (level path point id output
     order_of s.store.plan ≡ order → IsOrder (length order) order → length order ≤ level
     → IsPointOf order path point → b ≡ value_at t output point → id ≡ bool_byte b → Means s id (fixed (take level order) path (output_at t output))
 unfolding output_at
-output_leaf s order level path point id output t b same is past at value terminal =
-    subst (λ k. Means s k (fixed (take level order) path (output_at t output))) (sym (terminal ∙ byte b))
-    (constant_means s b (fixed (take level order) path (output_at t output)) (λ p l.
-    ap (λ xs. fixed xs path (from_table (table_at t output)) p) (take_all level order past)
-    ∙ (fixed_point order is path point (table_at t output) p at (l ∙ ap length same) ∙ sym value)))
+output_leaf s order level path point id output t b same is past at value terminal = grind (arith, byte, constant_means, take_all, fixed_point)
 
 -- the branch of two functions in which one more variable is fixed
 pub restricted_same : (store : StoreId) (s3 : Knowledge) (level path low high : ℕ) (f : Function) → s3.store ≡ store →
@@ -67,12 +63,7 @@ pub restricted_node : (store : StoreId) (s1 s2 s3 : Knowledge) (level path low h
     Means s2 high (fixed (take (level + 1) (order_of store.plan)) (path + 2 ^ level) f)
     → Means s3 id (branch (variable_at store.plan level) (function_in s3 low) (function_in s3 high)) →
     Means s3 id (fixed (take level (order_of store.plan)) path f)
-restricted_node store s1 s2 s3 level path low high id f same f12 f23 is inside small ml mu m =
-    let l3 : Means s3 low (fixed (take (level + 1) (order_of store.plan)) path f) = f23.means low _ (f12.means low _ ml) in
-    let u3 : Means s3 high (fixed (take (level + 1) (order_of store.plan)) (path + 2 ^ level) f) = f23.means high _ mu in
-    let here : s3.store ≡ store = f23.store ∙ (f12.store ∙ same) in
-    means_same s3 id (branch (variable_at store.plan level) (function_in s3 low) (function_in s3 high)) (fixed (take level (order_of store.plan)) path f) m
-    (restricted_same store s3 level path low high f here is inside small l3 u3)
+restricted_node store s1 s2 s3 level path low high id f same f12 f23 is inside small ml mu m = grind (arith, means_same, restricted_same)
 
 -- the program's path of the high one
 pub path_up : (width level path k : ℕ) → level < width → k ≡ path + 1 * 2 ^ level % 2 ^ width → k ≡ path + 2 ^ level
@@ -105,11 +96,7 @@ part_piece b q short =
 pub restriction_piece : (b : Plan) (q count ways' output path : ℕ) → AreRestrictions b.kind → q < b.roots →
     count ≡ length (tops (order_of b)) → ways' ≡ 2 ^ count → output ≡ q / ways' → path ≡ q % ways'
     → fixed (take count (order_of b)) path (output_at b.problem.value output) ≡ piece_function b q
-restriction_piece b q count ways' output path is short top w o r =
-    let pow : ways' ≡ ways (order_of b) = w ∙ ap (λ k. 2 ^ k) top in
-    let taken : take count (order_of b) ≡ tops (order_of b) = ap (λ k. take k (order_of b)) top ∙ take_taken 2 (order_of b) in
-    (λ i. fixed (taken i) ((r ∙ ap (λ k. q % k) pow) i) (output_at b.problem.value ((o ∙ ap (λ k. q / k) pow) i)))
-    ∙ (sym (part_restriction b.kind (order_of b) b.problem.value q is) ∙ sym (part_piece b q short))
+restriction_piece b q count ways' output path is short top w o r = grind (arith, take_taken, part_restriction, part_piece)
 
 restrictions_count : (kind : PieceKind) (order : List ℕ) (t : TruthTables) → AreRestrictions kind → parts_count kind order t ≡ outputs_of t * ways order
 restrictions_count Restrictions order t is = refl
@@ -117,26 +104,13 @@ restrictions_count (Products terms) order t is = absurd is
 
 restriction_inside : (b : Plan) (count path output : ℕ) → IsPlan b → AreRestrictions b.kind → count ≡ length (tops (order_of b)) →
     output < outputs_of b.problem.value → path < 2 ^ count → output * 2 ^ count + path < b.roots
-restriction_inside b count path output plan is top short inside =
-    let n = plan.roots ∙ (restrictions_count b.kind (order_of b) b.problem.value is ∙ ap (λ k. outputs_of b.problem.value * 2 ^ k) (sym top)) in
-    let up : output + 1 ≤ outputs_of b.problem.value = omega arith in
-    let m : (output + 1) * 2 ^ count ≤ outputs_of b.problem.value * 2 ^ count = mul-le-mul_right (2 ^ count) up in
-    omega (arith, n, m)
+restriction_inside b count path output plan is top short inside = grind (arith, restrictions_count, mul-le-mul_right)
 
 -- a part's number, as the program has it
 pub restriction_at : (b : Plan) (count q output path : ℕ) → IsPlan b → AreRestrictions b.kind → output < outputs_of b.problem.value →
     count ≡ length (tops (order_of b)) → count ≤ 2 → output < 256 → path < 2 ^ count
     → q ≡ output * 2 ^ count % 18446744073709551616 + path → fixed (take count (order_of b)) path (output_at b.problem.value output) ≡ piece_function b q
-restriction_at b zero q output path plan is short top few small inside e =
-    let here = restriction_inside b 0 path output plan is top short inside in
-    restriction_piece b q 0 1 output path is (omega arith) top refl (omega arith) (omega arith)
-restriction_at b (suc zero) q output path plan is short top few small inside e =
-    let here = restriction_inside b 1 path output plan is top short inside in
-    restriction_piece b q 1 2 output path is (omega arith) top refl (omega arith) (omega arith)
-restriction_at b (suc (suc zero)) q output path plan is short top few small inside e =
-    let here = restriction_inside b 2 path output plan is top short inside in
-    restriction_piece b q 2 4 output path is (omega arith) top refl (omega arith) (omega arith)
-restriction_at b (suc (suc (suc count))) q output path plan is short top few small inside e = absurd (omega arith)
+restriction_at b count q output path h k l m e p s t = grind (arith, restriction_inside, restriction_piece)
 
 -- with no variable fixed
 pub none_fixed : (order : List ℕ) (f : Function) → fixed (take 0 order) 0 f ≡ f

@@ -23,11 +23,7 @@ IsApart x (y ∷ ys) = (x ≢ y) × IsApart x ys
 -- a function is made of its restrictions by a variable
 expanded : (x : ℕ) (f : Function) (p : Point) → branch x (restrict x false f) (restrict x true f) p ≡ f p
 unfolding branch restrict
-expanded x f p = by (bit p x) refl
-  where
-    by : (b : Bool) → bit p x ≡ b → cond (bit p x) (f (set p x true)) (f (set p x false)) ≡ f p
-    by true e = ap (λ c. cond c (f (set p x true)) (f (set p x false))) e ∙ (ap (λ c. f (set p x c)) (sym e) ∙ ap f (set-get_or p x false))
-    by false e = ap (λ c. cond c (f (set p x true)) (f (set p x false))) e ∙ (ap (λ c. f (set p x c)) (sym e) ∙ ap f (set-get_or p x false))
+expanded x f p = grind (arith, set, set-get_or)
 
 -- the lowest bit, and the others, of a path with one more bit on top
 low_bit : (v k : ℕ) → bit_at (v + 2 ^ suc k) 0 ≡ bit_at v 0
@@ -67,8 +63,7 @@ pub above_apart : (order : List ℕ) (level : ℕ) → IsDistinct nat_eq order �
 above_apart order level once inside = apart_places (take level order) (get_or order level 0) (λ i l e.
     let n = length-take level order in
     let same : get_or order level 0 ≡ get_or order i 0 = e ∙ get_or_take order level i (omega arith) in
-    let places : level ≡ i = sym (place_get order level once inside) ∙ (ap (place_in order) same ∙ place_get order i once (omega arith)) in
-    omega arith)
+    omega (arith, sym (place_get order level once inside) ∙ (ap (place_in order) same ∙ place_get order i once (omega arith))))
 
 -- a function with the variables above a level fixed is made of the two in which the level's variable is fixed, too
 pub fixed_step : (order : List ℕ) (level v : ℕ) (f : Function) (p : Point) → IsDistinct nat_eq order → level < length order → v < 2 ^ level
@@ -116,7 +111,7 @@ bit-laid (x ∷ xs) v zero p once l inside =
     ∙ get_or-set_same p x (eqb (bit_at v 0) 1) false (inside 0 (omega arith))
 bit-laid (x ∷ xs) v (suc i) p once l inside =
     bit-laid xs (v / 2) i (set p x (eqb (bit_at v 0) 1)) (rest_distinct x xs once) (omega arith)
-    (λ j k. let e = length-set p x (eqb (bit_at v 0) 1) in let h = inside (suc j) (omega arith) in omega arith)
+    (λ j k. let e = length-set p x (eqb (bit_at v 0) 1) in omega (arith, inside (suc j) (omega arith)))
     ∙ ap (λ b. eqb b 1) (sym (bit_at-suc v i))
 
 module _ (order : List ℕ) (is : IsOrder (length order) order) where
@@ -134,7 +129,7 @@ module _ (order : List ℕ) (is : IsOrder (length order) order) where
       let there = place_inside y few in
       let at : get_or order i 0 ≡ y = place_at order y there in
       bit-number (laid order path p) y (omega arith) ∙ (ap (λ z. weight (bit (laid order path p) z)) (sym at)
-      ∙ (ap weight (bit-laid order path i p is.once there (λ j k. let v = variable_inside j k in omega arith))
+      ∙ (ap weight (bit-laid order path i p is.once there (λ j k. omega (arith, variable_inside j k)))
       ∙ (weight_bit (bit_at path i) (bit_at-lt path i) ∙ (sym (h.bits i there) ∙ ap (bit_at point) at)))))
     where
       place_inside : (y : ℕ) → y < length order → place_in order y < length order

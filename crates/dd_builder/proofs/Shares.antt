@@ -1,6 +1,6 @@
 -- Products by the remainders of their numbers.
-use Rattle.std.proofs.Common.{◌≡◌, ◌≢◌, ℕ, zero, suc, ◌+◌, ◌/◌, ◌%◌, ◌<◌, ◌≤◌, Bool, true, false, ◌&&◌, ◌||◌, cond, List, [], ◌∷◌, ◌++◌, length, map, take, get_or, refl, sym, ap, ◌∙◌, arith, inl, inr, eqb, eq-eqb, ne_eqb, zero-add}
-use Rattle.std.specs.List.{list_any, filter, enumerate_from}
+use Rattle.std.proofs.Common.{◌≡◌, ◌≢◌, ℕ, zero, suc, ◌+◌, ◌/◌, ◌%◌, ◌<◌, ◌≤◌, false, ◌&&◌, cond, List, [], ◌∷◌, ◌++◌, length, take, get_or, sym, ap, ◌∙◌, arith, inl, inr, eqb, eq-eqb, ne_eqb, zero-add}
+use Rattle.std.specs.List.{list_any, enumerate_from}
 use Rattle.std.proofs.lemmas.List.{take_more, take_all, length-take, map-append, append-nil}
 use Rattle.std.proofs.lemmas.List.Elements.{filter-append}
 use Rattle.std.proofs.lemmas.List.Folds.{list_any-append}
@@ -23,24 +23,12 @@ enumerate_append n [] ys = ap (λ k. enumerate_from k ys) here
   where
     here : n ≡ n + 0
     here = omega arith
-enumerate_append n (x ∷ xs) ys = ap (λ zs. (n, x) ∷ zs) (enumerate_append (n + 1) xs ys ∙ ap (λ k. enumerate_from (n + 1) xs ++ enumerate_from k ys) next)
-  where
-    next : n + 1 + length xs ≡ n + suc (length xs)
-    next = omega arith
+enumerate_append n (x ∷ xs) ys = grind (arith, enumerate_append (n + 1) xs ys)
 
 -- one more product
 pub share_last : (b : ℕ) (xs : List Product) (x : Product) → share b (xs ++ x ∷ []) ≡ share b xs ++ cond (eqb (length xs % 64) b) (x ∷ []) []
 unfolding share
-share_last b xs x =
-    ap (λ zs. map (λ e. e.1) (filter (λ e. eqb (e.0 % 64) b) zs))
-    (enumerate_append 0 xs (x ∷ []) ∙ ap (λ k. enumerate_from 0 xs ++ (k, x) ∷ []) (zero-add (length xs)))
-    ∙ (ap (map (λ e. e.1)) (filter-append (λ e. eqb (e.0 % 64) b) (enumerate_from 0 xs) ((length xs, x) ∷ []))
-    ∙ (map-append (λ e. e.1) (filter (λ e. eqb (e.0 % 64) b) (enumerate_from 0 xs)) (filter (λ e. eqb (e.0 % 64) b) ((length xs, x) ∷ []))
-    ∙ ap (λ zs. map (λ e. e.1) (filter (λ e. eqb (e.0 % 64) b) (enumerate_from 0 xs)) ++ zs) (single (eqb (length xs % 64) b) (length xs) x)))
-  where
-    single : (c : Bool) (k : ℕ) (y : Product) → map (λ (e : ℕ × Product). e.1) (cond c ((k, y) ∷ []) []) ≡ cond c (y ∷ []) []
-    single true k y = refl
-    single false k y = refl
+share_last b xs x = grind (arith, enumerate_append, zero-add, filter-append, map-append)
 
 pub none : Product
 none = record { literals = []; outputs = [] }
@@ -58,10 +46,7 @@ share_other b i xs ne = elim (cases_lt i (length xs)) [
 
 -- so are some in a row
 share_others : (b i d : ℕ) (xs : List Product) → ((k : ℕ) → i ≤ k → k < i + d → k % 64 ≢ b) → share b (take (i + d) xs) ≡ share b (take i xs)
-share_others b i zero xs h = ap (λ k. share b (take k xs)) here
-  where
-    here : i + 0 ≡ i
-    here = omega arith
+share_others b i zero xs h = grind arith
 share_others b i (suc d) xs h =
     ap (λ k. share b (take k xs)) next
     ∙ (share_other b (i + d) xs (h (i + d) (omega arith) (omega arith)) ∙ share_others b i d xs (λ k l u. h k l (omega arith)))
@@ -92,10 +77,7 @@ pub share_next : (b output i : ℕ) (xs : List Product) (x : Product) (f : Funct
     x ≡ get_or xs i none → f p ≡ product_function (share b (take i xs)) output p
     → with_product x output f p ≡ product_function (share b (take (i + 64) xs)) output p
 unfolding product_function with_product
-share_next b output i xs x f p e low at h =
-    let test : Product → Bool = λ product. matches product p && has_output product output in
-    (λ j. h j || test (at j)) ∙ (sym (ap (list_any test) (share_own b i xs e low) ∙ (list_any-append test (share b (take i xs)) (get_or xs i none ∷ [])
-    ∙ ap (λ c. list_any test (share b (take i xs)) || c) (or-false (test (get_or xs i none))))))
+share_next b output i xs x f p e low at h = grind (arith, share_own, list_any-append, none, or-false)
 
 -- the terms of a remainder are a piece
 pub terms_part : (kind : PieceKind) (order : List ℕ) (t : TruthTables) (terms : List Term) (q : ℕ) → AreTermsOfKind t terms kind →

@@ -1,5 +1,5 @@
 -- An output as the union of its parts by terms.
-use Rattle.std.proofs.Common.{◌≡◌, ◌≢◌, ℕ, zero, suc, ◌+◌, ◌-◌, ◌*◌, ◌/◌, ◌%◌, ◌<◌, ◌≤◌, inl, inr, Bool, true, false, ◌&&◌, ◌||◌, cond, List, [], ◌∷◌, ◌++◌, length, take, get_or, refl, sym, ap, ◌∙◌, arith, le-ltb, if◌then◌else◌, eqb, eq-eqb, ne_eqb}
+use Rattle.std.proofs.Common.{◌≡◌, ◌≢◌, ℕ, zero, suc, ◌+◌, ◌*◌, ◌/◌, ◌%◌, ◌<◌, ◌≤◌, inl, inr, Bool, true, false, ◌&&◌, ◌||◌, cond, List, [], ◌∷◌, ◌++◌, length, take, get_or, refl, sym, ap, ◌∙◌, arith, le-ltb, eqb, eq-eqb, ne_eqb}
 use Rattle.std.specs.List.{list_any, range_with_len}
 use Rattle.std.proofs.lemmas.List.{take_more, take_all, length-take}
 use Rattle.std.proofs.lemmas.List.Folds.{list_any-append}
@@ -12,7 +12,7 @@ use Rattle.node_words.specs.Entries.{combine}
 use Rattle.unique_table.specs.declared.plan.Plan.{Plan}
 use Rattle.unique_table.specs.declared.plan.PieceKind.{PieceKind}
 use Rattle.unique_table.specs.declared.plan.PieceKind.TheVariants.{Restrictions, Products}
-use Rattle.unique_table.specs.Plans.{order_of, levels_of, output_at, share, products_of, part_function, piece_function, AreTermsOf, IsPlan, parts_count}
+use Rattle.unique_table.specs.Plans.{levels_of, output_at, share, products_of, part_function, piece_function, AreTermsOf, IsPlan, parts_count}
 use Rattle.unique_table.specs.Sessions.{Knowledge, Follows, Means, function_in}
 use Rattle.dd_builder.specs.Parts.{AreOfTerms, shares_union}
 use Rattle.dd_builder.proofs.Going.{means_same, means_at}
@@ -25,10 +25,7 @@ use Rattle.order_model.proofs.Lists.Ranges.{range_append}
 pub part_union : (s : Knowledge) (b : Plan) (output first count id : ℕ) → count ≡ 1 → Means s id (piece_function b (output * 64 + first)) →
     Means s id (shares_union b output first count)
 unfolding shares_union
-part_union s b output first count id one m =
-    means_same s id (piece_function b (output * 64 + first)) (shares_union b output first count) m
-    (λ p l. sym (or-false (piece_function b (output * 64 + first) p))
-    ∙ ap (λ n. list_any (λ share. piece_function b (output * 64 + share) p) (range_with_len first n)) (sym one))
+part_union s b output first count id one m = grind (arith, means_same, or-false)
 
 -- the parts of two halves
 pub halves_union : (s1 s2 s3 : Knowledge) (b : Plan) (output first half rest count lower upper made : ℕ) → count ≡ half + rest →
@@ -37,11 +34,7 @@ pub halves_union : (s1 s2 s3 : Knowledge) (b : Plan) (output first half rest cou
     Means s3 made (combine Or (function_in s3 lower) (function_in s3 upper)) → Means s3 made (shares_union b output first count)
 unfolding shares_union combine
 halves_union s1 s2 s3 b output first half rest count lower upper made all ml f12 mu f23 m =
-    let test : (p : Point) → ℕ → Bool = λ p share. piece_function b (output * 64 + share) p in
-    means_same s3 made (combine Or (function_in s3 lower) (function_in s3 upper)) (shares_union b output first count) m
-    (λ p l. (λ i. means_at s3 lower _ p (f23.means lower _ (f12.means lower _ ml)) l i || means_at s3 upper _ p (f23.means upper _ mu) l i)
-    ∙ (sym (list_any-append (test p) (range_with_len first half) (range_with_len (first + half) rest))
-    ∙ ap (list_any (test p)) (sym (range_append first half rest)) ∙ ap (λ n. list_any (test p) (range_with_len first n)) (sym all)))
+    grind (arith, means_same, means_at, list_any-append, range_append)
 
 -- ---- all products
 
@@ -49,16 +42,11 @@ any_none : (A : ℕ → Bool) (c : ℕ) (t : Bool) (len a : ℕ) → ((x : ℕ) 
     list_any (λ b. A b || cond (eqb c b) t false) (range_with_len a len) ≡ list_any A (range_with_len a len)
 any_none A c t zero a h = refl
 any_none A c t (suc len) a h =
-    let here : (A a || cond (eqb c a) t false) ≡ A a = ap (λ e. A a || cond e t false) (ne_eqb c a (h a (omega arith) (omega arith))) ∙ or-false (A a) in
     let rest = any_none A c t len (a + 1) (λ x l u. h x (omega arith) (omega arith)) in
-    λ i. here i || rest i
+    λ i. (ap (λ e. A a || cond e t false) (ne_eqb c a (h a (omega arith) (omega arith))) ∙ or-false (A a)) i || rest i
 
 or_swap : (x y t : Bool) → ((x || t) || y) ≡ ((x || y) || t)
-or_swap true y t = refl
-or_swap false true true = refl
-or_swap false true false = refl
-or_swap false false true = refl
-or_swap false false false = refl
+or_swap x y t = grind arith
 
 or_assoc : (x y t : Bool) → (x || (y || t)) ≡ ((x || y) || t)
 or_assoc true y t = refl
@@ -70,9 +58,8 @@ any_one : (A : ℕ → Bool) (c : ℕ) (t : Bool) (len a : ℕ) → a ≤ c → 
 any_one A c t zero a l u = absurd (omega arith)
 any_one A c t (suc len) a l u = elim (cases_eq c a) [
   | inl e ↦
-      let here : (A a || cond (eqb c a) t false) ≡ (A a || t) = ap (λ k. A a || cond k t false) (eq-eqb c a e) in
       let rest = any_none A c t len (a + 1) (λ x low up q. omega arith) in
-      (λ i. here i || rest i) ∙ or_swap (A a) (list_any A (range_with_len (a + 1) len)) t
+      (λ i. (ap (λ k. A a || cond k t false) (eq-eqb c a e)) i || rest i) ∙ or_swap (A a) (list_any A (range_with_len (a + 1) len)) t
   | inr ne ↦
       let here : (A a || cond (eqb c a) t false) ≡ A a = ap (λ k. A a || cond k t false) (ne_eqb c a ne) ∙ or-false (A a) in
       let rest = any_one A c t len (a + 1) (omega arith) (omega arith) in
@@ -82,9 +69,7 @@ any_one A c t (suc len) a l u = elim (cases_eq c a) [
 any_same : (A B : ℕ → Bool) (len a : ℕ) → ((x : ℕ) → a ≤ x → x < a + len → A x ≡ B x) → list_any A (range_with_len a len) ≡ list_any B (range_with_len a len)
 any_same A B zero a h = refl
 any_same A B (suc len) a h =
-    let here = h a (omega arith) (omega arith) in
-    let rest = any_same A B len (a + 1) (λ x l u. h x (omega arith) (omega arith)) in
-    λ i. here i || rest i
+    λ i. (h a (omega arith) (omega arith)) i || (any_same A B len (a + 1) (λ x l u. h x (omega arith) (omega arith))) i
 
 module _ (output : ℕ) (p : Point) where
   test : Product → Bool
@@ -102,14 +87,13 @@ module _ (output : ℕ) (p : Point) where
   all_shares xs (suc i) l =
       let x : Product = get_or xs i none in
       let more : take (suc i) xs ≡ take i xs ++ x ∷ [] = ap (λ k. take k xs) next ∙ take_more xs i none (omega arith) in
-      let size : length (take i xs) ≡ i = length-take i xs ∙ omega arith in
       any_same (λ b. product_function (share b (take (suc i) xs)) output p)
       (λ b. product_function (share b (take i xs)) output p || cond (eqb (i % 64) b) (test x) false) 64 0
       (λ b low up. ap (λ ys. list_any test (share b ys)) more
       ∙ (ap (list_any test) (share_last b (take i xs) x)
       ∙ (list_any-append test (share b (take i xs)) (cond (eqb (length (take i xs) % 64) b) (x ∷ []) [])
       ∙ (ap (λ c. list_any test (share b (take i xs)) || c) (single (eqb (length (take i xs) % 64) b) x)
-      ∙ ap (λ k. list_any test (share b (take i xs)) || cond (eqb (k % 64) b) (test x) false) size))))
+      ∙ ap (λ k. list_any test (share b (take i xs)) || cond (eqb (k % 64) b) (test x) false) (length-take i xs ∙ omega arith)))))
       ∙ (any_one (λ b. product_function (share b (take i xs)) output p) (i % 64) (test x) 64 0 (omega arith) (omega arith)
       ∙ (ap (λ c. c || test x) (all_shares xs i (omega arith))
       ∙ (ap (λ c. list_any test (take i xs) || c) (sym (or-false (test x)))
@@ -145,21 +129,9 @@ terms_count (Products own) order t some = refl
 pub parts_all : (s : Knowledge) (b : Plan) (output id : ℕ) → IsPlan b → AreOfTerms b.kind → output < outputs_of b.problem.value →
     levels_of s.store.plan ≡ levels_of b → Means s id (shares_union b output 0 64) → Means s id (output_at b.problem.value output)
 unfolding shares_union
-parts_all s b output id plan some low same m =
-    means_same s id (shares_union b output 0 64) (output_at b.problem.value output) m (λ p l.
-    any_same (λ share. piece_function b (output * 64 + share) p) (λ share. part_function b.kind (order_of b) b.problem.value (output * 64 + share) p) 64 0
-    (λ j a u. ap (λ f. f p)
-    (part_piece b (output * 64 + j)
-    (let e = plan.roots in let c = terms_count b.kind (order_of b) b.problem.value some in omega arith)))
-    ∙ parts_output output p b.kind (order_of b) b.problem.value some plan.terms low (l ∙ (same ∙ sym plan.inputs)))
+parts_all s b output id plan some low same m = grind (arith, means_same, any_same, part_piece, terms_count, parts_output)
 
 -- an output is the piece after the parts
 pub root_piece : (b : Plan) (j q : ℕ) → q ≡ b.roots + j → piece_function b q ≡ output_at b.problem.value j
 unfolding piece_function
-root_piece b j q e =
-    ap (λ (c : Bool). if c then part_function b.kind (order_of b) b.problem.value q else output_at b.problem.value (q - b.roots))
-    (le-ltb q b.roots (omega arith))
-    ∙ ap (output_at b.problem.value) there
-  where
-    there : q - b.roots ≡ j
-    there = omega arith
+root_piece b j q e = grind (arith, le-ltb)

@@ -3,12 +3,7 @@ use Rattle.dd_builder.proofs.Covers.{tables_diagram, store_order, store_diagram}
 use Rattle.dd_builder.proofs.builders.build_from.Goals as goal
 
 pub returns-in-Err-StoreFull : goal.returns-in-Err-StoreFull
-returns-in-Err-StoreFull g c = record {
-  diagram = ok_same _ _ c.build_tables.result c.build_tables.ensures.diagram (λ d h.
-      tables_diagram c.some_diagram_has_the_level_counts.ensures.reduced c.truth_tables_keep_functions.ensures.same c.args.cover.now
-      c.args.tables.now c.args.order.now d c.requires.tables
-      (store_order c.args.begun.0.plan c.args.cover.now c.args.order.now c.stores_have_plans.ensures c.requires.cover c.requires.order) h);
-}
+returns-in-Err-StoreFull g c = search (ok_same, tables_diagram, store_order)
 
 pub returns : goal.returns
 returns g c = record {

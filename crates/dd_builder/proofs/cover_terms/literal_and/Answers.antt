@@ -7,14 +7,11 @@ use Rattle.dd_builder.proofs.cover_terms.literal_and.Goals as goal
 
 pub returns-then-not-contains-clause-made : goal.returns-then-not-contains-clause-made
 returns-then-not-contains-clause-made c =
-    let same = c.variables.ensures.value ∙ c.order.ensures.value in
     let at : variable_at c.args.store.now.plan c.args.level ≡ get_or c.variables.result.now c.from.result 0 =
-    (λ i. get_or (sym same i) (sym c.from.ensures i) 0) in
+    (λ i. get_or (sym (c.variables.ensures.value ∙ c.order.ensures.value) i) (sym c.from.ensures i) 0) in
     record {
-      follows =
-          stays c.args.session.now;
-      full =
-          tt;
+      follows = stays c.args.session.now;
+      full = tt;
       function =
           literal_absent c.args.session.now c.args.term (variable_at c.args.store.now.plan c.args.level) _ c.args.id at c.requires.id.0
           (iff_false c.contains.ensures c.if-not-contains.true);
@@ -22,9 +19,8 @@ returns-then-not-contains-clause-made c =
 
 pub returns-then-contains-clause-made : goal.returns-then-contains-clause-made
 returns-then-contains-clause-made c =
-    let same = c.variables.ensures.value ∙ c.order.ensures.value in
     let at : variable_at c.args.store.now.plan c.args.level ≡ get_or c.variables.result.now c.from.result 0 =
-    (λ i. get_or (sym same i) (sym c.from.ensures i) 0) in
+    (λ i. get_or (sym (c.variables.ensures.value ∙ c.order.ensures.value) i) (sym c.from.ensures i) 0) in
     makes_node _ _ _ c.args.store.now c.make.result _ _ _ (stays _) c.make.ensures.follows c.requires.session c.make.ensures.function
     c.make.ensures.full (λ made m.
     literal_upper c.make.new.session c.args.term (variable_at c.args.store.now.plan c.args.level) _ c.args.id made at
@@ -32,9 +28,8 @@ returns-then-contains-clause-made c =
 
 pub returns-else-contains-clause-made : goal.returns-else-contains-clause-made
 returns-else-contains-clause-made c =
-    let same = c.variables.ensures.value ∙ c.order.ensures.value in
     let at : variable_at c.args.store.now.plan c.args.level ≡ get_or c.variables.result.now c.from.result 0 =
-    (λ i. get_or (sym same i) (sym c.from.ensures i) 0) in
+    (λ i. get_or (sym (c.variables.ensures.value ∙ c.order.ensures.value) i) (sym c.from.ensures i) 0) in
     makes_node _ _ _ c.args.store.now c.make-else-contains.result _ _ _ (stays _) c.make-else-contains.ensures.follows
     c.requires.session c.make-else-contains.ensures.function c.make-else-contains.ensures.full (λ made m.
     literal_lower c.make-else-contains.new.session c.args.term (variable_at c.args.store.now.plan c.args.level) _ c.args.id made at

@@ -3,16 +3,7 @@ use Rattle.dd_builder.proofs.Literals.{other_output, own_output}
 use Rattle.dd_builder.proofs.cover_terms.or_term.Goals as goal
 
 pub returns-then-term-output-eq0 : goal.returns-then-term-output-eq0
-returns-then-term-output-eq0 c =
-    record {
-      follows =
-          stays c.args.session.now;
-      full =
-          tt;
-      function =
-          other_output c.args.session.now c.args.store.now.plan c.args.term c.args.output c.args.id c.requires.known c.requires.output
-          c.if-term-output-eq0.true;
-    }
+returns-then-term-output-eq0 c = search (stays, other_output)
 
 pub returns : goal.returns
 returns c = makes_same _ _ _ c.apply.result _ _ c.term_id.ensures.follows c.apply.ensures.made (λ made m.

@@ -8,19 +8,13 @@ returns-in-Some-clause-combined t c = λ from few first second.
     settled_combined c.args.session.now from c.args.operation c.args.first c.args.second c.in-Some.id first second few c.in-Some.ensures
 
 pub returns-in-Some-recall-clause-combined : goal.returns-in-Some-recall-clause-combined
-returns-in-Some-recall-clause-combined t c = λ from few first second.
-    let r = c.recall.ensures.step.follows in
-    let a = r.depths c.args.first first.known in let b = r.depths c.args.second second.known in
-    let x = first.level in let y = second.level in
-    record { means = c.in-Some-recall.ensures.function; level = c.in-Some-recall.ensures.level from (omega arith) (omega arith) }
+returns-in-Some-recall-clause-combined t c = grind arith
 
 pub apply_from-requires : goal.apply_from-requires
 apply_from-requires t c =
     let r = c.recall.ensures.step.follows in
     let a = r.depths c.args.first c.requires.first.known in let b = r.depths c.args.second c.requires.second.known in
-    let first = c.requires.first.level in let second = c.requires.second.level in
     let deep : c.args.from ≤ c.take_apart-cut.result.level = c.take_apart-cut.ensures.level c.args.from (omega arith) (omega arith) in
-    let few = c.take_apart-cut.ensures.few in let inside = c.take_apart-cut.ensures.inside in
     let less : 17 - (c.take_apart-cut.result.level + 1) < t = omega arith in (
       less,
       (
@@ -43,9 +37,7 @@ pub apply_from-requires-2 : goal.apply_from-requires-2
 apply_from-requires-2 t c =
     let r = c.recall.ensures.step.follows in
     let a = r.depths c.args.first c.requires.first.known in let b = r.depths c.args.second c.requires.second.known in
-    let first = c.requires.first.level in let second = c.requires.second.level in
     let deep : c.args.from ≤ c.take_apart-cut.result.level = c.take_apart-cut.ensures.level c.args.from (omega arith) (omega arith) in
-    let few = c.take_apart-cut.ensures.few in let inside = c.take_apart-cut.ensures.inside in
     let less : 17 - (c.take_apart-cut.result.level + 1) < t = omega arith in (
       less,
       (
@@ -61,10 +53,7 @@ apply_from-requires-2 t c =
     )
 
 pub returns-in_err-high-clause-follows : goal.returns-in_err-high-clause-follows
-returns-in_err-high-clause-follows t c =
-    follows_trans _ _ _ c.recall.ensures.step.follows
-    (follows_trans _ _ _ c.take_apart-cut.ensures.follows
-    (follows_trans _ _ _ c.apply_from.ensures.follows c.apply_from-2.ensures.follows))
+returns-in_err-high-clause-follows t c = search follows_trans
 
 pub make-requires-clause-low : goal.make-requires-clause-low
 make-requires-clause-low t c = known_below_follows _ _ _ _ c.apply_from-2.ensures.follows (combined_below _ _ _ _ _ _
@@ -110,10 +99,7 @@ remember-requires-clause-function t c =
     c.make.ensures.follows c.in_ok-id.ensures.function (omega arith) c.in_ok-id.ensures.level).means
 
 pub returns-clause-follows : goal.returns-clause-follows
-returns-clause-follows t c =
-    follows_trans _ _ _ c.recall.ensures.step.follows (follows_trans _ _ _ c.take_apart-cut.ensures.follows
-    (follows_trans _ _ _ c.apply_from.ensures.follows
-    (follows_trans _ _ _ c.apply_from-2.ensures.follows (follows_trans _ _ _ c.make.ensures.follows c.remember.ensures.step.follows))))
+returns-clause-follows t c = search follows_trans
 
 pub returns-clause-combined : goal.returns-clause-combined
 returns-clause-combined t c = λ from few one two.
@@ -121,7 +107,6 @@ returns-clause-combined t c = λ from few one two.
     (follows_trans _ _ _ c.apply_from.ensures.follows (follows_trans _ _ _ c.apply_from-2.ensures.follows c.make.ensures.follows))) in
     let r = c.recall.ensures.step.follows in
     let a = r.depths c.args.first one.known in let b = r.depths c.args.second two.known in
-    let first = one.level in let second = two.level in
     let deep : from ≤ c.take_apart-cut.result.level = c.take_apart-cut.ensures.level from (omega arith) (omega arith) in
     combined_follows c.make.new.session c.remember.new.session from c.args.operation c.args.first c.args.second c.in_ok-id.id
     (f.knows c.args.first c.requires.first.known) (f.knows c.args.second c.requires.second.known) c.remember.ensures.step.follows

@@ -9,10 +9,7 @@ returns-clause-follows c =
     (follows_trans _ _ _ c.children-first.ensures.follows c.children-second.ensures.follows)
 
 pub returns-clause-level : goal.returns-clause-level
-returns-clause-level c = λ k a b.
-    let f = c.top_level-level.ensures.follows in
-    let d = f.depths c.args.first c.requires.operands.first in let e = f.depths c.args.second c.requires.operands.second in
-    let l = c.top_level-level.ensures.level in omega arith
+returns-clause-level c = grind arith
 
 pub returns-clause-first : goal.returns-clause-first
 returns-clause-first c = cut_follows _ _ _ _ _ _ c.children-second.ensures.follows c.children-first.ensures.cut

@@ -1,6 +1,6 @@
-use Rattle.std.proofs.Common.{◌+◌, ◌-◌, ◌*◌, ◌%◌, ◌^◌, ◌<◌, length, take, ap, sym, ◌∙◌, refl, subst, arith, rules}
+use Rattle.std.proofs.Common.{◌+◌, ◌-◌, ◌^◌, ◌<◌, length, take, ap, sym, ◌∙◌, refl, subst, arith}
 use Rattle.std.proofs.lemmas.List.{length-take}
-use Rattle.unique_table.specs.Plans.{order_of, levels_of, output_at, fixed, tops}
+use Rattle.unique_table.specs.Plans.{order_of, output_at, fixed, tops}
 use Rattle.unique_table.specs.Sessions.{Means}
 use Rattle.unique_table.proofs.Following.{follows_trans}
 use Rattle.dd_builder.proofs.Going.{makes_node}
@@ -10,24 +10,11 @@ use Rattle.dd_builder.proofs.Restricted.{restriction_at, restricted_node, path_u
 use Rattle.dd_builder.proofs.roots.+of_restrictions.Goals as goal
 
 pub returns-then-level-tops-clause-made : goal.returns-then-level-tops-clause-made
-returns-then-level-tops-clause-made t c =
-    let order = c.variables.ensures.value ∙ c.order.ensures.value in
-    let top = c.if-level-tops.true ∙ (c.tops-tops.ensures.value ∙ ap (λ xs. length (tops xs)) order) in
-    let few = c.tops-tops.ensures.few in
-    record {
-      follows = c.part_id.ensures.follows;
-      function = subst (Means c.part_id.new.session c.part_id.result)
-          (sym (restriction_at c.args.store.now.plan c.args.level _ c.args.output c.args.path c.order.ensures.plan c.requires.kind
-          c.requires.output top (omega arith) c.ranges.output.fits c.requires.path
-          (λ i. c.from.ensures i * 2 ^ sym c.if-level-tops.true i % 18446744073709551616 + c.args.path))) c.part_id.ensures.function;
-      full = tt;
-    }
+returns-then-level-tops-clause-made t c = grind (arith, restriction_at)
 
 pub of_restrictions-requires-2 : goal.of_restrictions-requires-2
 of_restrictions-requires-2 t c =
-    let order = c.variables.ensures.value ∙ c.order.ensures.value in
-    let top = c.tops-tops.ensures.value ∙ ap (λ xs. length (tops xs)) order in
-    let few = c.tops-tops.ensures.few in
+    let top = c.tops-tops.ensures.value ∙ ap (λ xs. length (tops xs)) (c.variables.ensures.value ∙ c.order.ensures.value) in
     let less : 3 - (c.args.level + 1) < t = omega arith in (
       less,
       (
@@ -48,27 +35,21 @@ of_restrictions-requires-2 t c =
 
 pub returns-clause-made : goal.returns-clause-made
 returns-clause-made t c =
-    let order = c.variables.ensures.value ∙ c.order.ensures.value in
-    let top = c.tops-tops.ensures.value ∙ ap (λ xs. length (tops xs)) order in
-    let few = c.tops-tops.ensures.few in let size = length-take 2 (order_of c.args.store.now.plan) in
-    let inside : c.args.level < levels_of c.args.store.now.plan = omega arith in
+    let top = c.tops-tops.ensures.value ∙ ap (λ xs. length (tops xs)) (c.variables.ensures.value ∙ c.order.ensures.value) in
+    let size = length-take 2 (order_of c.args.store.now.plan) in
     let on = follows_trans _ _ _ c.of_restrictions.ensures.made.follows c.of_restrictions-2.ensures.made.follows in
     makes_node _ _ _ c.args.store.now c.make.result _ _ _ on c.make.ensures.follows (on.store ∙ c.requires.session.same)
     c.make.ensures.function c.make.ensures.full (λ id m.
     restricted_node c.args.store.now c.of_restrictions.new.session c.of_restrictions-2.new.session c.make.new.session c.args.level
     c.args.path c.in_ok-low.low c.in_ok-high.high id (output_at c.args.store.now.plan.problem.value c.args.output)
     (c.of_restrictions.ensures.made.follows.store ∙ c.requires.session.same) c.of_restrictions-2.ensures.made.follows c.make.ensures.follows
-    c.order.ensures.plan.order.order inside c.requires.path c.in_ok-low.ensures.made.function
+    c.order.ensures.plan.order.order (omega arith) c.requires.path c.in_ok-low.ensures.made.function
     (subst (λ k. Means c.of_restrictions-2.new.session c.in_ok-high.high
     (fixed (take (c.args.level + 1) (order_of c.args.store.now.plan)) k (output_at c.args.store.now.plan.problem.value c.args.output)))
     (path_up 64 c.args.level c.args.path _ (omega arith) refl) c.in_ok-high.ensures.made.function) m)
 
 pub returns-in_err-high-clause-made : goal.returns-in_err-high-clause-made
-returns-in_err-high-clause-made t c = record {
-  follows = follows_trans _ _ _ c.of_restrictions.ensures.made.follows c.of_restrictions-2.ensures.made.follows;
-  function = search rules;
-  full = search rules;
-}
+returns-in_err-high-clause-made t c = grind (arith, follows_trans)
 
 pub returns-then-level-tops-clause-kept : goal.returns-then-level-tops-clause-kept
 returns-then-level-tops-clause-kept t c = keeps_step c.args.session.now c.part_id.new.session c.part_id.ensures.follows c.part_id.ensures.made
@@ -78,14 +59,12 @@ returns-in_err-high-clause-kept t c = λ all. c.of_restrictions-2.ensures.kept (
 
 pub returns-clause-kept : goal.returns-clause-kept
 returns-clause-kept t c =
-    let order = c.variables.ensures.value ∙ c.order.ensures.value in
-    let top = c.tops-tops.ensures.value ∙ ap (λ xs. length (tops xs)) order in
-    let few = c.tops-tops.ensures.few in let size = length-take 2 (order_of c.args.store.now.plan) in
-    let inside : c.args.level < levels_of c.args.store.now.plan = omega arith in
+    let top = c.tops-tops.ensures.value ∙ ap (λ xs. length (tops xs)) (c.variables.ensures.value ∙ c.order.ensures.value) in
+    let size = length-take 2 (order_of c.args.store.now.plan) in
     keeps_node c.args.store.now c.args.session.now c.of_restrictions.new.session c.of_restrictions-2.new.session c.make.new.session c.args.level
     c.args.path c.in_ok-low.low c.in_ok-high.high c.args.output c.of_restrictions.ensures.kept c.of_restrictions-2.ensures.kept
     (c.of_restrictions.ensures.made.follows.store ∙ c.requires.session.same) c.of_restrictions-2.ensures.made.follows c.make.ensures.follows
-    c.make.ensures.made c.order.ensures.plan.order.order inside c.requires.path c.requires.output c.in_ok-low.ensures.made.function
+    c.make.ensures.made c.order.ensures.plan.order.order (omega arith) c.requires.path c.requires.output c.in_ok-low.ensures.made.function
     (subst (λ k. Means c.of_restrictions-2.new.session c.in_ok-high.high
     (fixed (take (c.args.level + 1) (order_of c.args.store.now.plan)) k (output_at c.args.store.now.plan.problem.value c.args.output)))
     (path_up 64 c.args.level c.args.path _ (omega arith) refl) c.in_ok-high.ensures.made.function)

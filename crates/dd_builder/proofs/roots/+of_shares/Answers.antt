@@ -1,6 +1,4 @@
-use Rattle.std.proofs.Common.{◌≡◌, ◌+◌, ◌-◌, ◌*◌, ◌/◌, subst, arith, rules}
-use Rattle.unique_table.specs.Plans.{piece_function}
-use Rattle.unique_table.specs.Sessions.{Means}
+use Rattle.std.proofs.Common.{◌≡◌, ◌+◌, ◌-◌, ◌/◌, arith}
 use Rattle.unique_table.proofs.Following.{follows_trans}
 use Rattle.dd_builder.proofs.Going.{makes_same}
 use Rattle.dd_builder.proofs.Ends.{parts_follow}
@@ -8,24 +6,10 @@ use Rattle.dd_builder.proofs.Unions.{part_union, halves_union}
 use Rattle.dd_builder.proofs.roots.+of_shares.Goals as goal
 
 pub returns-then-count-eq1 : goal.returns-then-count-eq1
-returns-then-count-eq1 t c =
-    record {
-      follows = c.part_id.ensures.follows;
-      full = tt;
-      function = part_union c.part_id.new.session c.args.store.now.plan c.args.output c.args.first c.args.count c.part_id.result c.if-count-eq1.true
-          (subst (λ k. Means c.part_id.new.session c.part_id.result (piece_function c.args.store.now.plan (k * 64 + c.args.first)))
-          c.from.ensures c.part_id.ensures.function);
-    }
+returns-then-count-eq1 t c = grind (arith, part_union)
 
 pub of_shares-requires-2 : goal.of_shares-requires-2
-of_shares-requires-2 t c =
-    let some = c.requires.some in let inside = c.requires.inside in let more = c.if-count-eq1.false in (
-      omega arith,
-      (
-        parts_follow _ _ _ c.of_shares.ensures.follows c.requires.session,
-        (c.requires.kind, (c.requires.output, (omega arith, omega arith))),
-      ),
-    )
+of_shares-requires-2 t c = grind (arith, parts_follow)
 
 pub returns : goal.returns
 returns t c =
@@ -36,8 +20,4 @@ returns t c =
     all c.in_ok-lower.ensures.function c.of_shares-2.ensures.follows c.in_ok-upper.ensures.function c.apply.ensures.made.follows m)
 
 pub returns-in_err-upper : goal.returns-in_err-upper
-returns-in_err-upper t c = record {
-  follows = follows_trans _ _ _ c.of_shares.ensures.follows c.of_shares-2.ensures.follows;
-  function = search rules;
-  full = search rules;
-}
+returns-in_err-upper t c = grind (arith, follows_trans)

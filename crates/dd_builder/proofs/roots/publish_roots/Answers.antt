@@ -1,5 +1,4 @@
-use Rattle.std.proofs.Common.{◌≡◌, ◌+◌, sym, subst, arith}
-use Rattle.unique_table.specs.Sessions.{Means}
+use Rattle.std.proofs.Common.{arith}
 use Rattle.unique_table.proofs.Following.{follows_trans}
 use Rattle.dd_builder.proofs.Ends.{parts_follow, root_more}
 use Rattle.dd_builder.proofs.Keeping.{kept_on, kept_step}
@@ -7,17 +6,11 @@ use Rattle.dd_builder.proofs.Unions.{root_piece}
 use Rattle.dd_builder.proofs.roots.publish_roots.Goals as goal
 
 pub publish-requires-clause-function : goal.publish-requires-clause-function
-publish-requires-clause-function c =
-    let r = c.roots-roots.ensures.value in let f = c.from.ensures in
-    let at : c.roots-roots.result + c.from.result ≡ c.args.store.now.plan.roots + c.loop-output.output = omega arith in
-    subst (Means c.root.new.session c.in_ok-id.id)
-    (sym (root_piece c.args.store.now.plan c.loop-output.output (c.roots-roots.result + c.from.result) at)) c.in_ok-id.ensures.made.function
+publish-requires-clause-function c = grind (arith, root_piece)
 
 pub loop-output-preserved : goal.loop-output-preserved
 loop-output-preserved c =
     let f = follows_trans _ _ _ c.root.ensures.made.follows c.publish.ensures.step.follows in
-    let r = c.roots-roots.ensures.value in let e = c.from.ensures in
-    let at : c.roots-roots.result + c.from.result ≡ c.args.store.now.plan.roots + c.loop-output.output = omega arith in
     record {
       follows = follows_trans _ _ _ c.loop-output.invariant.follows f;
       kept = kept_on c.args.source c.args.session.now c.loop-output.session c.publish.new.session c.loop-output.invariant.kept
@@ -26,7 +19,7 @@ loop-output-preserved c =
       parts = parts_follow _ _ _ f c.loop-output.invariant.parts;
       published =
           root_more c.loop-output.session c.publish.new.session c.args.store.now.plan.roots c.loop-output.output _ c.in_ok-id.id f
-          c.loop-output.invariant.published at c.publish.ensures.stored;
+          c.loop-output.invariant.published (omega arith) c.publish.ensures.stored;
     }
 
 pub returns-in_err-id-clause-follows : goal.returns-in_err-id-clause-follows

@@ -1,4 +1,4 @@
-use Rattle.std.proofs.Common.{◌+◌, ◌*◌, ◌%◌, ◌^◌, ◌≤◌, ◌<◌, get_or, length, take, refl, sym, ap, ap₂, ◌∙◌, subst, arith, rules, bit_or}
+use Rattle.std.proofs.Common.{◌+◌, ◌*◌, ◌%◌, ◌^◌, ◌≤◌, ◌<◌, get_or, length, take, refl, sym, ap, ap₂, ◌∙◌, subst, arith, bit_or}
 use Rattle.order_model.specs.Orders.{IsOrder}
 use Rattle.order_model.specs.Problems.{TruthTables, outputs_of}
 use Rattle.unique_table.specs.Plans.{order_of, levels_of, output_at, fixed}
@@ -16,8 +16,7 @@ returns-then-from-order-clause-made t c =
     let order = c.order.ensures.value in let same = c.variables-order.ensures.value ∙ order in
     let is : IsOrder (length (order_of c.args.store.now.plan)) (order_of c.args.store.now.plan) =
     subst (λ xs. IsOrder (length xs) xs) order c.variables-order.ensures.order in
-    let size = ap length same in
-    let past : length (order_of c.args.store.now.plan) ≤ c.args.path.level = omega arith in
+    let past : length (order_of c.args.store.now.plan) ≤ c.args.path.level = omega (arith, ap length same) in
     let at = point_whole (order_of c.args.store.now.plan) c.args.path.level c.args.path.bits c.args.path.point past c.requires.point in
     record {
       follows = stays c.args.session.now;
@@ -37,8 +36,7 @@ returns-clause-made t c =
     let order = c.order.ensures.value in
     let is : IsOrder (levels_of c.args.store.now.plan) (order_of c.args.store.now.plan) =
     subst (λ xs. IsOrder (length xs) xs) order c.variables-order.ensures.order in
-    let few = c.order.ensures.plan.order.few in let size = ap length (c.variables-order.ensures.value ∙ order) in
-    let inside : c.args.path.level < levels_of c.args.store.now.plan = omega arith in
+    let inside : c.args.path.level < levels_of c.args.store.now.plan = omega (arith, ap length (c.variables-order.ensures.value ∙ order)) in
     let on = follows_trans _ _ _ c.output_below.ensures.made.follows c.output_below-2.ensures.made.follows in
     makes_node _ _ _ c.args.store.now c.make.result _ _ _ on c.make.ensures.follows (on.store ∙ c.requires.session) c.make.ensures.function
     c.make.ensures.full (λ id m.
@@ -51,21 +49,12 @@ returns-clause-made t c =
     (path_up 32 c.args.path.level c.args.path.bits _ (omega arith) refl) c.in_ok-high.ensures.made.function) m)
 
 pub returns-in_err-high-clause-made : goal.returns-in_err-high-clause-made
-returns-in_err-high-clause-made t c = record {
-  follows = follows_trans _ _ _ c.output_below.ensures.made.follows c.output_below-2.ensures.made.follows;
-  function = search rules;
-  full = search rules;
-}
+returns-in_err-high-clause-made t c = grind (arith, follows_trans)
 
 pub output_below-requires : goal.output_below-requires
 output_below-requires t c =
-    let d = c.decreases in
     let b = c.args.store.now.plan in
-    let same = c.variables-order.ensures.value ∙ c.order.ensures.value in
-    let size = ap length same in
-    let l = c.requires.level in
-    let o = c.from.ensures in
-    let inside : c.args.path.level < length (order_of b) = omega arith in
+    let size = ap length (c.variables-order.ensures.value ∙ c.order.ensures.value) in
     let is : IsOrder (length (order_of b)) (order_of b) =
     subst (λ xs. IsOrder (length xs) xs) c.order.ensures.value c.variables-order.ensures.order in
     let small = path_small c.args.path.level c.args.path.bits c.requires.bits in (
@@ -87,15 +76,9 @@ output_below-requires t c =
 
 pub output_below-requires-2 : goal.output_below-requires-2
 output_below-requires-2 t c =
-    let d = c.decreases in
-    let b = c.args.store.now.plan in
     let same = c.variables-order.ensures.value ∙ c.order.ensures.value in
     let size = ap length same in
-    let l = c.requires.level in
-    let o = c.from.ensures in
-    let few = c.order.ensures.plan.order.few in
-    let inside : c.args.path.level < length (order_of b) = omega arith in
-    let is : IsOrder (length (order_of b)) (order_of b) =
+    let is : IsOrder (length (order_of c.args.store.now.plan)) (order_of c.args.store.now.plan) =
     subst (λ xs. IsOrder (length xs) xs) c.order.ensures.value c.variables-order.ensures.order in
     let x = get_or c.variables-order.result.now c.from-2.result 0 in
     let now = bit_or c.args.path.point (1 * 2 ^ x % 4294967296) in
@@ -112,9 +95,9 @@ output_below-requires-2 t c =
               omega arith,
               (
                 subst (λ k. k < 2 ^ (c.args.path.level + 1)) (sym up) small,
-                subst (λ k. IsPointAbove (order_of b) (c.args.path.level + 1) k now) (sym up)
-                    (point_high (order_of b) is c.args.path.level c.args.path.bits c.args.path.point x now
-                    (omega arith) inside c.requires.bits
+                subst (λ k. IsPointAbove (order_of c.args.store.now.plan) (c.args.path.level + 1) k now) (sym up)
+                    (point_high (order_of c.args.store.now.plan) is c.args.path.level c.args.path.bits c.args.path.point x now
+                    (omega arith) (omega arith) c.requires.bits
                     (ap₂ (λ xs k. get_or xs k 0) same c.from-2.ensures) c.requires.point refl),
               ),
             ),
@@ -128,8 +111,7 @@ returns-clause-kept t c =
     let order = c.order.ensures.value in
     let is : IsOrder (levels_of c.args.store.now.plan) (order_of c.args.store.now.plan) =
     subst (λ xs. IsOrder (length xs) xs) order c.variables-order.ensures.order in
-    let few = c.order.ensures.plan.order.few in let size = ap length (c.variables-order.ensures.value ∙ order) in
-    let inside : c.args.path.level < levels_of c.args.store.now.plan = omega arith in
+    let inside : c.args.path.level < levels_of c.args.store.now.plan = omega (arith, ap length (c.variables-order.ensures.value ∙ order)) in
     keeps_node c.args.store.now c.args.session.now c.output_below.new.session c.output_below-2.new.session c.make.new.session c.args.path.level
     c.args.path.bits c.in_ok-low.low c.in_ok-high.high c.args.output c.output_below.ensures.kept c.output_below-2.ensures.kept
     (c.output_below.ensures.made.follows.store ∙ c.requires.session) c.output_below-2.ensures.made.follows c.make.ensures.follows c.make.ensures.made is inside

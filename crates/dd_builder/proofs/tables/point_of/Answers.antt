@@ -3,8 +3,7 @@ use Rattle.dd_builder.proofs.Pathways.{point_more, variable_below}
 use Rattle.dd_builder.proofs.tables.point_of.Goals as goal
 
 pub overflow_shl-point : goal.overflow_shl-point
-overflow_shl-point c = let low = variable_below c.args.order.now c.requires.order c.loop-level.level c.loop-level-test.true in
-    let few = c.requires.few in omega arith
+overflow_shl-point c = omega (arith, variable_below c.args.order.now c.requires.order c.loop-level.level c.loop-level-test.true)
 
 pub loop-level-preserved : goal.loop-level-preserved
 loop-level-preserved c =

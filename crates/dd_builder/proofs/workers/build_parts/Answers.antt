@@ -1,7 +1,7 @@
-use Rattle.std.proofs.Common.{◌%◌, ◌≤◌, ap, ◌∙◌, sym, subst, arith}
-use Rattle.unique_table.specs.Sessions.{Knowledge, depth_in}
+use Rattle.std.proofs.Common.{◌%◌, ap, ◌∙◌, sym, subst, arith}
+use Rattle.unique_table.specs.Sessions.{Knowledge}
 use Rattle.unique_table.proofs.Following.{follows_trans}
-use Rattle.dd_builder.specs.Parts.{HasPart, Continues, part_level}
+use Rattle.dd_builder.specs.Parts.{HasPart, Continues}
 use Rattle.dd_builder.proofs.Ends.{part_made, share_more, share_other}
 use Rattle.dd_builder.proofs.Keeping.{kept_on, kept_step, continues_on}
 use Rattle.dd_builder.proofs.workers.build_parts.Goals as goal
@@ -13,8 +13,6 @@ loop-piece-preserved g c = elim c.if-piece-from.branch [
       let known = w.in-Ok.ensures.made.function.known in
       let published = w.publish.ensures.step.follows in
       let same = published.store ∙ (w.part.ensures.made.follows.store ∙ c.loop-piece.invariant.store) in
-      let d = published.depths w.in-Ok.id known in let l = w.in-Ok.ensures.level in
-      let level : part_level c.args.store.now.plan ≤ depth_in w.publish.new.session w.in-Ok.id = omega arith in
       record {
         store = ap (λ (s : Knowledge). s.store) w.session-is ∙ same;
         continues = subst (Continues c.args.source c.args.session) (sym w.session-is)
@@ -28,7 +26,7 @@ loop-piece-preserved g c = elim c.if-piece-from.branch [
             (share_more c.loop-piece.session w.publish.new.session c.loop-piece.piece c.args.workers _
             (follows_trans _ _ _ w.part.ensures.made.follows published) c.loop-piece.invariant.built
             (part_made w.publish.new.session c.args.store.now c.loop-piece.piece w.in-Ok.id same w.publish.ensures.stored
-            (published.knows w.in-Ok.id known) level)
+            (published.knows w.in-Ok.id known) (omega (arith, w.in-Ok.ensures.level)))
             q low e);
       }
   | else-piece-from w ↦ record {

@@ -9,13 +9,12 @@ loop-worker-preserved c =
     let worker = c.loop-worker.worker in let i = c.loop-worker.invariant in let some = c.loop-worker.auto.worker in
     let first = c.split-mine.ensures.first in let second = c.split-mine.ensures.second in
     let up : worker - 1 + 1 ≡ worker + 1 - 1 = omega (arith, some) in
-    let number : worker ≡ worker - 1 + 1 = omega (arith, some) in
     let less : worker - 1 + 1 < c.args.workers = (let t = c.loop-worker-test.true in omega (arith, some, t)) in
     record {
       store = ap (λ (z : Knowledge). z.store) first ∙ i.store;
       made = subst (λ z. AreJobsOf c.args.store.now z c.push.new.self.items) up
           (jobs_more c.loop-worker.jobs.items c.push.new.self.items _ c.in_ok-push.ensures.items c.args.store.now (worker - 1) i.made
-          (ap (λ (z : Knowledge). z.store) second ∙ i.store) number);
+          (ap (λ (z : Knowledge). z.store) second ∙ i.store) (omega (arith, some)));
       rest = subst (λ z. HasHalf c.args.session z c.split-mine.result.0) up
           (half_first c.args.session c.loop-worker.rest c.split-mine.result.0 (worker - 1) i.rest (ap (λ (z : Knowledge). z.store) first)
           (ap (λ (z : Knowledge). z.stake) first) (ap (λ (z : Knowledge). z.seen) first) (ap (λ (z : Knowledge). z.made) first));
