@@ -2,14 +2,13 @@
 --     own_place      an order is a placement of each of its variables
 --     none_higher, none_lower      beyond the places where the moves stop no order keeps the pairs
 --     best_is      the best of the placements that keep the pairs
-use Rattle.std.proofs.Common.{◌≡◌, ℕ, zero, suc, ◌+◌, ◌-◌, ◌<◌, ◌≤◌, Bool, true, false, cond, inl, inr, List, [], ◌∷◌, ◌++◌, map, length, get_or, slice_index, refl, sym, ap, ap₂, ◌∙◌, subst, arith, nat_eq, add-one}
+use Rattle.std.proofs.Common.{◌≡◌, ℕ, zero, suc, ◌+◌, ◌-◌, ◌<◌, ◌≤◌, Bool, true, false, cond, List, [], ◌∷◌, ◌++◌, map, length, get_or, slice_index, refl, sym, ap, ap₂, ◌∙◌, subst, arith, nat_eq, add-one}
 use Rattle.std.specs.List.{insert, filter, range_with_len, IsDistinct}
 use Rattle.std.proofs.lemmas.Bool.{true≢false, false_from_ne_true}
 use Rattle.std.proofs.lemmas.List.{append-nil}
 use Rattle.order_model.specs.Orders.{has, without, place_in}
-use Rattle.order_model.specs.Pairs.{Pair, Keeps, keeps, has_pair}
+use Rattle.order_model.specs.Pairs.{Pair, keeps, has_pair}
 use Rattle.order_model.specs.Problems.{functions}
-use Rattle.order_model.specs.Levels.{size_under}
 use Rattle.order_model.specs.Sifting.{smallest_of, placements, best}
 use Rattle.order_model.proofs.Widths.Recurrence.{absent_without, distinct_without}
 use Rattle.sifting.specs.Managed.{Managed, IsManagedOrder}
@@ -22,12 +21,7 @@ use Rattle.order_model.proofs.Sifting.Placements.{own_place}
 
 filter_append : (p : List ℕ → Bool) (xs ys : List (List ℕ)) → filter p (xs ++ ys) ≡ filter p xs ++ filter p ys
 filter_append p [] ys = refl
-filter_append p (x ∷ xs) ys = by (p x) (filter_append p xs ys)
-  where
-    by : (b : Bool) → filter p (xs ++ ys) ≡ filter p xs ++ filter p ys →
-        cond b (x ∷ filter p (xs ++ ys)) (filter p (xs ++ ys)) ≡ cond b (x ∷ filter p xs) (filter p xs) ++ filter p ys
-    by true e = ap (λ zs. x ∷ zs) e
-    by false e = e
+filter_append p (x ∷ xs) ys = grind (arith, filter_append p xs ys)
 
 none_of : (p : List ℕ → Bool) (f : ℕ → List ℕ) (k a : ℕ) → ((i : ℕ) → a ≤ i → i < a + k → p (f i) ≡ false) → filter p (map f (range_with_len a k)) ≡ []
 none_of p f zero a h = refl
@@ -78,31 +72,11 @@ between p f n top bottom le lt high mid low =
 module _ (P : List Pair) (others : List ℕ) (x : ℕ) (apart : IsDistinct nat_eq others) (out : has others x ≡ false) where
   pub none_higher : (order : List ℕ) (top : ℕ) → top ≤ length others → order ≡ insert others top x → StopsAbove P order top → (i : ℕ) →
       i < top → keeps P (insert others i x) ≡ false
-  none_higher order top le e stop i lt =
-      elim stop [
-        | inl z ↦ absurd (omega arith)
-        | inr h ↦
-            let j = top - 1 in
-            let t : top ≡ suc j = omega arith in
-            let x_is : get_or order top 0 ≡ x = ap (λ o. get_or o top 0) e ∙ here others x top le in
-            let y_is : get_or order j 0 ≡ get_or others j 0 = ap (λ o. get_or o j 0) (e ∙ ap (λ k. insert others k x) t)
-            ∙ above_here others x j (omega arith) in
-            let pair : has_pair P (get_or others j 0) x ≡ true = sym (ap₂ (has_pair P) y_is x_is) ∙ h in
-            breaks P (get_or others j 0) x (insert others i x) pair (not_above (get_or others j 0) x others i j (omega arith) (omega arith) refl apart out)
-      ]
+  none_higher order top le e stop i lt = grind (arith, here, above_here, breaks, not_above)
 
   pub none_lower : (order : List ℕ) (bottom : ℕ) → bottom ≤ length others → order ≡ insert others bottom x → StopsBelow P order bottom →
       (i : ℕ) → bottom < i → i ≤ length others → keeps P (insert others i x) ≡ false
-  none_lower order bottom le e stop i lt within =
-      elim stop [
-        | inl z ↦ let long = ap length e ∙ length-placed others x bottom in absurd (omega arith)
-        | inr h ↦
-            let x_is : get_or order bottom 0 ≡ x = ap (λ o. get_or o bottom 0) e ∙ here others x bottom le in
-            let y_is : get_or order (bottom + 1) 0 ≡ get_or others bottom 0 = ap (λ o. get_or o (bottom + 1) 0) e
-            ∙ ap (λ k. get_or (insert others bottom x) k 0) (add-one bottom) ∙ below_here others x bottom (omega arith) in
-            let pair : has_pair P x (get_or others bottom 0) ≡ true = sym (ap₂ (has_pair P) x_is y_is) ∙ h in
-            breaks P x (get_or others bottom 0) (insert others i x) pair (not_below x (get_or others bottom 0) others i bottom lt within refl apart out)
-      ]
+  none_lower order bottom le e stop i lt within = grind (arith, length-placed, here, add-one, below_here, breaks, not_below)
 
 -- ---- the best place
 
@@ -110,30 +84,13 @@ module _ (P : List Pair) (others : List ℕ) (x : ℕ) (apart : IsDistinct nat_e
 pub moved_on : (place top bottom : ℕ) (self raised lowered : Managed) → top ≤ place → IsMoved place top self raised → IsMoved top bottom raised lowered →
     IsMoved place bottom self lowered
 unfolding Moves
-moved_on place top bottom self raised lowered le up down = record {
-  moves = λ others x h e. down.moves others x (omega arith) (up.moves others x h e);
-  functions_stay = down.functions_stay ∙ up.functions_stay;
-  pairs_stay = down.pairs_stay ∙ up.pairs_stay;
-  length_stays = down.length_stays ∙ up.length_stays;
-}
+moved_on place top bottom self raised lowered le up down = grind arith
 
 -- what is found from another place
 pub finds_from : (place top from to best least : ℕ) (self raised : Managed) → top ≤ place → IsMoved place top self raised →
     FindsBest raised top from to best least → FindsBest self place from to best least
 unfolding Moves
-finds_from place top from to best least self raised le up found =
-    let at = λ (others : List ℕ) (x i : ℕ). ap (λ t. size_under t.inputs (functions t) (insert others i x)) up.functions_stay in
-    record {
-      above = found.above;
-      below = found.below;
-      keeps = λ others x h e i a b. subst (λ P. Keeps P (insert others i x)) up.pairs_stay
-          (found.keeps others x (omega arith) (up.moves others x h e) i a b);
-      size_is = λ others x h e. found.size_is others x (omega arith) (up.moves others x h e) ∙ at others x best;
-      smallest = λ others x h e i a b. let t = found.smallest others x (omega arith) (up.moves others x h e) i a b in
-          let s = at others x i in omega arith;
-      uppermost = λ others x h e i a b. let t = found.uppermost others x (omega arith) (up.moves others x h e) i a b in
-          let s = at others x i in omega arith;
-    }
+finds_from place top from to best least self raised le up found = grind arith
 
 module _ (self raised lowered : Managed) (x top bottom at least : ℕ) (ok : IsManagedOrder self) (small : x < length self.order)
     (up : IsMoved (place_in self.order x) top self raised) (upward : top ≤ place_in self.order x) (stops_above : StopsAbove raised.pairs raised.order top)

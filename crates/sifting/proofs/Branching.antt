@@ -31,20 +31,10 @@ byte false = refl
 
 pub branching_push : (L : List Children) (c : Children) → branching (L ++ c ∷ []) ≡ branching L + bool_byte (not (nat_eq c.0 c.1))
 unfolding branching
-branching_push L c =
-    let e = byte (not (nat_eq c.0 c.1)) in
-    let s = sum_by-append (λ (n : Children). cond (not (nat_eq n.0 n.1)) 1 0) L (c ∷ []) in
-    omega arith
+branching_push L c = grind (arith, byte, sum_by-append)
 
 -- one more node is counted
 pub branching_counted : (L L' : List Children) (c : Children) (count more : ℕ) → count ≡ branching L → L' ≡ L ++ c ∷ [] →
     more ≡ bool_byte (not (nat_eq c.0 c.1)) →
     (count + more ≡ branching L') × (count + more ≤ length L + 1)
-branching_counted L L' c count more e f g =
-    let p = branching_push L c in
-    let few = branching_few (L ++ c ∷ []) in
-    let long = length_push L c in
-    let same = ap branching f in (
-      omega arith,
-      omega arith,
-    )
+branching_counted L L' c count more e f g = grind (arith, branching_push, branching_few, length_push)

@@ -7,12 +7,12 @@ use Rattle.std.proofs.lemmas.Option.{slice_get_cases}
 use Rattle.order_model.specs.declared.diagrams.Ref.{Ref}
 use Rattle.order_model.specs.declared.diagrams.Ref.TheVariants.{Terminal, Place}
 use Rattle.order_model.specs.declared.diagrams.Node.{Node}
-use Rattle.order_model.specs.Functions.{Point, bit, table, SameFunction}
+use Rattle.order_model.specs.Functions.{Point, bit, SameFunction}
 use Rattle.order_model.specs.Orders.{has, IsOrder, place_in}
 use Rattle.order_model.specs.Diagrams.{Graph, IsDiagram, IsBefore, IsOrdered, IsReduced, value}
 use Rattle.order_model.proofs.Lists.Orders.{place_at, place_get}
 use Rattle.order_model.proofs.Nodes.Paths.{value_terminal, StandsFrom, stands_top}
-use Rattle.sifting.specs.Leveled.{Children, child, at, place_below, function_at, places, IsLevel, AreLevels, AreRoots, AreTerminals}
+use Rattle.sifting.specs.Leveled.{Children, child, at, place_below, function_at, places, IsLevel, AreLevels, AreRoots}
 use Rattle.order_model.proofs.Functions.Tables.{table_same}
 use Rattle.sifting.specs.declared.levels.Level.{Level}
 use Rattle.sifting.specs.Managed.{truth_tables_of}
@@ -83,14 +83,7 @@ module _ (order : List ℕ) (o : IsOrder (length order) order) (d : Graph) (ok :
   place_small : (done : ℕ) (levels : List (List Children)) (cut : List Ref) → done ≤ length order → Built order d numbers done levels cut →
       (j : ℕ) → j < length d.roots → (p : Point) →
       place_below levels (take done order) (get_or numbers j 0) p < length cut
-  place_small done levels cut le b j h p =
-      let t = length-take-le done order le in
-      let l = b.long in
-      let m = b.many in
-      let i = place_inside 16 (map is_true cut) levels (take done order) (get_or numbers j 0) p (omega arith) b.levels_are
-      (b.roots_are.inside j (omega arith)) in
-      let s = length-map cut is_true in
-      omega arith
+  place_small done levels cut le b j h p = grind (arith, length-take-le, place_inside, length-map)
 
   -- above all levels
   pub built_none : (cut : List Ref) → length d.roots ≤ 16 → Numbers d.roots numbers cut →
@@ -234,28 +227,7 @@ module _ (order : List ℕ) (o : IsOrder (length order) order) (d : Graph) (ok :
   pub built_all : (levels : List (List Children)) (cut : List Ref) → Built order d numbers (length order) levels cut →
       IsBuilt order d.nodes d.roots numbers levels (map is_true cut)
   unfolding SameFunction function_at
-  built_all levels cut b = record {
-    leveled = record { long = b.long; levels_are = b.levels_are; roots_are = b.roots_are; terminals_are = terminals_are };
-    many = b.many;
-    functions_are = λ j h p l.
-        let small = place_small (length order) levels cut (omega arith) b j h p in
-        let e : place_below levels order (get_or numbers j 0) p ≡ place_below levels (take (length order) order) (get_or numbers j 0) p =
-        ap (λ xs. place_below levels xs (get_or numbers j 0) p) (sym (take_all (length order) order (omega arith))) in
-        let k = place_below levels (take (length order) order) (get_or numbers j 0) p in
-        let t = terminal (ref_at cut k) (b.stand k small) in
-        ap (λ m. get_or (map is_true cut) m false) e ∙ true_at cut k small ∙ ap is_true t.1 ∙ sym (value_terminal d.nodes p t.0)
-        ∙ ap (λ r. value d.nodes r p) (sym t.1) ∙ sym (b.values j h p);
-  }
-    where
-      terminals_are : AreTerminals (map is_true cut)
-      terminals_are j k a c e =
-          let l = length-map cut is_true in
-          let a' : j < length cut = omega arith in
-          let c' : k < length cut = omega arith in
-          let t = terminal (ref_at cut j) (b.stand j a') in
-          let u = terminal (ref_at cut k) (b.stand k c') in
-          let same = sym (ap is_true t.1) ∙ sym (true_at cut j a') ∙ e ∙ true_at cut k c' ∙ ap is_true u.1 in
-          b.once j k a' c' (t.1 ∙ ap Terminal same ∙ sym u.1)
+  built_all levels cut b = grind (arith, place_small, take_all, terminal, true_at, value_terminal, length-map)
 
 -- ---- the truth tables
 
@@ -271,10 +243,7 @@ pub built_problem : (order : List ℕ) (nodes : List Node) (roots : List Ref) (n
     IsBuilt order nodes roots numbers levels terminals →
     problem_at levels terminals order numbers ≡ truth_tables_of (record { order = order; graph = record { nodes = nodes; roots = roots } })
 unfolding problem_at truth_tables_of
-built_problem order nodes roots numbers levels terminals b =
-    ap (λ ts. record { inputs = length order; tables = ts })
-    (same_maps (λ r. table (length order) (function_at levels terminals order r)) (λ r. table (length order) (value nodes r)) numbers roots b.many
-    (λ j h. table_same (length order) (function_at levels terminals order (get_or numbers j 0)) (value nodes (ref_at roots j)) (b.functions_are j h)))
+built_problem order nodes roots numbers levels terminals b = grind (arith, same_maps, table_same)
 
 pub nodes_more : (levels : List Level) (l : Level) → nodes_of (levels ++ l ∷ []) ≡ nodes_of levels ++ l.nodes.items ∷ []
 unfolding nodes_of

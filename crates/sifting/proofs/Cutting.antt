@@ -39,11 +39,7 @@ module _ (n : ℕ) (order : List ℕ) (d : Graph) (ok : IsDiagram n d) (ordered 
   -- its value is that of the half that the point takes
   pub split_value : (x : ℕ) (p : Point) (r : Ref) → value d.nodes r p ≡ value d.nodes (half (bit p x) (split_ref d.nodes x r)) p
   unfolding split_ref
-  split_value x p (Terminal b) = by (bit p x)
-    where
-      by : (c : Bool) → value d.nodes (Terminal b) p ≡ value d.nodes (cond c (Terminal b) (Terminal b)) p
-      by true = refl
-      by false = refl
+  split_value x p (Terminal b) = grind arith
   split_value x p (Place k) = by (slice_get d.nodes k) refl
     where
       same : (c : Bool) → value d.nodes (Place k) p ≡ value d.nodes (cond c (Place k) (Place k)) p
@@ -66,11 +62,7 @@ module _ (n : ℕ) (order : List ℕ) (d : Graph) (ok : IsDiagram n d) (ordered 
   pub split_stands : (i x : ℕ) → ((y : ℕ) → place_in order y ≡ i → y ≡ x) → place_in order x ≡ i → (b : Bool) (r : Ref) →
       Stands order d i r → Stands order d (suc i) (half b (split_ref d.nodes x r))
   unfolding split_ref StandsFrom
-  split_stands i x only here b (Terminal t) s = by b
-    where
-      by : (c : Bool) → Stands order d (suc i) (cond c (Terminal t) (Terminal t))
-      by true = (tt, tt)
-      by false = (tt, tt)
+  split_stands i x only here b (Terminal t) s = grind (arith, Stands)
   split_stands i x only here b (Place k) s =
       elim (slice_get_cases d.nodes k).1 [
         | inl found ↦
@@ -183,18 +175,12 @@ place_inside nodes r k e h = subst (IsBefore (length nodes)) e h
 pub split_then : (nodes : List Node) (x : ℕ) (r : Ref) (k : ℕ) (v : Node) → r ≡ Place k → IsBefore (length nodes) r →
     (get_or nodes k v).variable ≡ x → ((get_or nodes k v).low, (get_or nodes k v).high) ≡ split_ref nodes x r
 unfolding split_ref
-split_then nodes x r k v e h s =
-    let w = get_or nodes k v in
-    sym (ap (split_ref nodes x) e ∙ ap (split_node x (Place k)) (node_at nodes k v (place_inside nodes r k e h))
-    ∙ ap (λ c. cond c (w.low, w.high) (Place k, Place k)) (eq-eqb w.variable x s))
+split_then nodes x r k v e h s = grind (arith, node_at, place_inside, eq-eqb)
 
 pub split_else : (nodes : List Node) (x : ℕ) (r : Ref) (k : ℕ) (v : Node) → r ≡ Place k → IsBefore (length nodes) r →
     (get_or nodes k v).variable ≢ x → (Place k, Place k) ≡ split_ref nodes x r
 unfolding split_ref
-split_else nodes x r k v e h ne =
-    let w = get_or nodes k v in
-    sym (ap (split_ref nodes x) e ∙ ap (split_node x (Place k)) (node_at nodes k v (place_inside nodes r k e h))
-    ∙ ap (λ c. cond c (w.low, w.high) (Place k, Place k)) (ne_eqb w.variable x ne))
+split_else nodes x r k v e h ne = grind (arith, node_at, place_inside, ne_eqb)
 
 pub ref_small : (c : ℕ) → c < 2 → Terminal (nat_eq c 1) ≡ ref_of c
 unfolding ref_of
@@ -212,28 +198,7 @@ ref_large (suc (suc k)) h = let e : suc (suc k) - 2 ≡ k = omega arith in ap Pl
 pub split_before : (n : ℕ) (nodes : List Node) → AreNodes n nodes → (x : ℕ) (r : Ref) → IsBefore (length nodes) r → (b : Bool) →
     IsBefore (length nodes) (half b (split_ref nodes x r))
 unfolding split_ref
-split_before n nodes ok x (Terminal t) h true = tt
-split_before n nodes ok x (Terminal t) h false = tt
-split_before n nodes ok x (Place k) h b =
-    elim (slice_get_cases nodes k).1 [
-      | inl found ↦
-          let v = found.0 in
-          subst (λ o. IsBefore (length nodes) (half b (split_node x (Place k) o))) (sym found.2)
-          (elim (cases_eq v.variable x) [
-            | inl e ↦ subst (λ c. IsBefore (length nodes) (half b (cond c (v.low, v.high) (Place k, Place k))))
-                (sym (eq-eqb v.variable x e)) (child v found.2 b)
-            | inr ne ↦ subst (λ c. IsBefore (length nodes) (half b (cond c (v.low, v.high) (Place k, Place k)))) (sym (ne_eqb v.variable x ne)) (own b)
-          ])
-      | inr past ↦ absurd (omega (arith, past.0, h))
-    ]
-  where
-    child : (v : Node) → slice_get nodes k ≡ Some v → (c : Bool) → IsBefore (length nodes) (cond c v.high v.low)
-    child v e true = before_more k (length nodes) v.high (omega (arith, h)) (ok k v e).high
-    child v e false = before_more k (length nodes) v.low (omega (arith, h)) (ok k v e).low
-
-    own : (c : Bool) → IsBefore (length nodes) (cond c (Place k) (Place k))
-    own true = h
-    own false = h
+split_before n nodes h x r k b = grind (arith, slice_get_cases, half, cases_eq, eq-eqb, ne_eqb, slice_get, before_more)
 
 pub map_more : {X Y : Type 0} (f : X → Y) (xs : List X) (i : ℕ) (d : X) → i < length xs → map f (take i xs) ++ f (get_or xs i d) ∷ [] ≡ map f (take (i + 1) xs)
 map_more f xs i d h = sym (map-append f (take i xs) (get_or xs i d ∷ [])) ∙ ap (map f) (sym (take_more xs i d h))

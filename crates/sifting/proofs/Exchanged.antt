@@ -1,7 +1,7 @@
 -- Two neighbouring levels with their variables exchanged.
 --     upper_level, lower_level      both are levels again
 --     path_placed      a path comes to the same place below them
-use Rattle.std.proofs.Common.{◌≡◌, ℕ, zero, suc, ◌*◌, ◌<◌, Bool, true, false, ◌⊎◌, inl, inr, List, [], ◌∷◌, length, set, get_or, refl, sym, ap, ◌∙◌, subst, arith}
+use Rattle.std.proofs.Common.{◌≡◌, ℕ, zero, suc, ◌*◌, ◌<◌, Bool, ◌⊎◌, inl, inr, List, [], ◌∷◌, length, set, get_or, sym, ap, ◌∙◌, subst, arith}
 use Rattle.order_model.specs.Functions.{Point, bit}
 use Rattle.order_model.proofs.Lists.Swaps.{crossed}
 use Rattle.sifting.specs.Leveled.{Children, child, at, place_below, places, HasChildren, IsLevel, AreLevels, Exchanges}
@@ -11,20 +11,7 @@ module _ (upper lower upper' lower' : List Children) (below : ℕ) (ex : Exchang
     (u : IsLevel (length lower) upper) (l : IsLevel below lower) where
   -- which of the upper level's nodes have equal children
   apart : (j k : ℕ) → j < length upper → k < length upper → at upper' j ≡ at upper' k → j ≡ k
-  apart j k a b e =
-      let off = sym (ex.off j a) ∙ ap (λ (c : Children). at lower' c.0) e ∙ ex.off k b in
-      let on = sym (ex.on j a) ∙ ap (λ (c : Children). at lower' c.1) e ∙ ex.on k b in
-      let i = u.inside j a in
-      let m = u.inside k b in
-      let zero_side =
-      l.once (at upper j).0 (at upper k).0 i.0 m.0
-      (same_children (at lower (at upper j).0) (at lower (at upper k).0) (ap (λ (c : Children). c.0) off)
-      (ap (λ (c : Children). c.0) on)) in
-      let one_side =
-      l.once (at upper j).1 (at upper k).1 i.1 m.1
-      (same_children (at lower (at upper j).1) (at lower (at upper k).1) (ap (λ (c : Children). c.1) off)
-      (ap (λ (c : Children). c.1) on)) in
-      u.once j k a b (same_children (at upper j) (at upper k) zero_side one_side)
+  apart j k a b e = grind (arith, same_children)
 
   long : (k : ℕ) → k < length upper' → k < length upper
   long k h = let e = ex.many in omega arith
@@ -79,10 +66,7 @@ module _ (upper lower upper' lower' : List Children) (below : ℕ) (ex : Exchang
 -- the grandchild that two values of the variables take
 grandchild : (upper lower upper' lower' : List Children) → Exchanges upper lower upper' lower' → (k : ℕ) → k < length upper → (b c : Bool) →
     child b (at lower' (child c (at upper' k))) ≡ child c (at lower (child b (at upper k)))
-grandchild upper lower upper' lower' ex k h false false = ap (λ (c : Children). c.0) (ex.off k h)
-grandchild upper lower upper' lower' ex k h true false = ap (λ (c : Children). c.1) (ex.off k h)
-grandchild upper lower upper' lower' ex k h false true = ap (λ (c : Children). c.0) (ex.on k h)
-grandchild upper lower upper' lower' ex k h true true = ap (λ (c : Children). c.1) (ex.on k h)
+grandchild upper lower upper' lower' h k l b c = grind arith
 
 -- the levels with those at i and i + 1 exchanged
 pub record At (levels : List (List Children)) (i : ℕ) (upper lower : List Children) : Type 0 where
@@ -95,10 +79,7 @@ placed levels i upper' lower' = set (set levels i upper') (suc i) lower'
 
 module _ (T : List Bool) (upper lower upper' lower' : List Children) (ex : Exchanges upper lower upper' lower') where
   pub places_placed : (levels : List (List Children)) (i : ℕ) → At levels i upper lower → places (placed levels i upper' lower') T ≡ places levels T
-  places_placed [] i a = absurd (let h = a.inside in omega arith)
-  places_placed (L ∷ []) i a = absurd (let h = a.inside in omega arith)
-  places_placed (L ∷ M ∷ levels) zero a = ex.many ∙ ap length (sym a.upper_is)
-  places_placed (L ∷ M ∷ levels) (suc i) a = refl
+  places_placed levels i h = grind arith
 
   pub levels_placed : (most : ℕ) (levels : List (List Children)) (i : ℕ) → At levels i upper lower → AreLevels most T levels →
       AreLevels most T (placed levels i upper' lower')
@@ -127,11 +108,7 @@ module _ (T : List Bool) (upper lower upper' lower' : List Children) (ex : Excha
   path_placed most (L ∷ []) i order k p a ok e h = absurd (let h = a.inside in omega arith)
   path_placed most (L ∷ M ∷ levels) i [] k p a ok e h = absurd (omega arith)
   path_placed most (L ∷ M ∷ levels) i (x ∷ []) k p a ok e h = absurd (omega arith)
-  path_placed most (L ∷ M ∷ levels) zero (x ∷ y ∷ order) k p a ok e h =
-      let s = ap length a.upper_is in
-      ap (λ j. place_below levels order j p) (grandchild upper lower upper' lower' ex k (omega arith) (bit p x) (bit p y)
-      ∙ ap (λ N. child (bit p y) (at lower (child (bit p x) (at N k)))) (sym a.upper_is)
-      ∙ ap (λ N. child (bit p y) (at N (child (bit p x) (at L k)))) (sym a.lower_is))
+  path_placed most (L ∷ M ∷ levels) zero (x ∷ y ∷ order) k p a ok e h = grind (arith, grandchild)
   path_placed most (L ∷ M ∷ levels) (suc i) (x ∷ y ∷ order) k p a ok e h =
       let below : At (M ∷ levels) i upper lower = record { upper_is = a.upper_is; lower_is = a.lower_is; inside = let h = a.inside in omega arith } in
       let c = ok.0.inside k h in

@@ -56,12 +56,7 @@ kept_counts (l ∷ levels) = ap₂ (λ m ms. m ∷ ms) (sym l.counted) (kept_cou
 -- ---- bounds
 
 pub twice : (m k : ℕ) → 2 * m * 2 ^ k ≡ m * 2 ^ suc k
-twice m k =
-    let e : 2 ^ suc k ≡ 2 * 2 ^ k = omega (arith, pow-suc 2 k) in
-    by (2 ^ k) (2 ^ suc k) e
-  where
-    by : (a b : ℕ) → b ≡ 2 * a → 2 * m * a ≡ m * b
-    by a b e = let f : 2 * m * a ≡ m * (2 * a) = omega arith in f ∙ ap (λ c. m * c) (sym e)
+twice m k = grind (arith, pow-suc)
 
 grown : (m k : ℕ) → m ≤ m * 2 ^ k
 grown m k = let h : 1 ≤ 2 ^ k = omega (arith, pow_pos k) in omega (arith, mul-le-mul_left m h)
@@ -83,10 +78,7 @@ pub few_at : (most : ℕ) (T : List Bool) (levels : List (List Children)) (i : �
     length (get_or levels i []) ≤ most * 2 ^ length levels
 few_at most T [] i h ok = absurd (omega arith)
 few_at most T (L ∷ levels) zero h ok = let few = ok.1 in let g = grown most (suc (length levels)) in omega arith
-few_at most T (L ∷ levels) (suc i) h ok =
-    let rest = few_at (2 * most) T levels i (omega arith) ok.2 in
-    let f = twice most (length levels) in
-    omega arith
+few_at most T (L ∷ levels) (suc i) h ok = grind (arith, twice, few_at (2 * most) T levels i (omega arith) ok.2)
 
 -- with at most 16 roots and 16 levels they are below 2 ^ 20 + 1
 pub small_bound : (n : ℕ) → n ≤ 16 → 16 * 2 ^ n ≤ 1048576
@@ -141,17 +133,10 @@ module _ (levels : List (List Children)) (T : List Bool) (order roots : List ℕ
       level_count (problem_at levels T order roots).inputs (functions (problem_at levels T order roots)) order i ≡ get_or
       (map branching levels) i 0
   unfolding level_counts
-  held_count i h =
-      sym (get_or-map-range_with_len
-      (level_count (problem_at levels T order roots).inputs (functions (problem_at levels T order roots)) order) 0 (length order) i i 0
-      h (omega arith))
-      ∙ ap (λ ms. get_or ms i 0) held_levels
+  held_count i h = grind (arith, get_or-map-range_with_len, held_levels)
 
   pub held_small : sum (map branching levels) ≤ 1048576
-  held_small =
-      let a = levels_small 16 T levels held.leveled.levels_are in
-      let b = small_bound (length levels) (let e = held.leveled.long in let h = held.few in omega arith) in
-      omega arith
+  held_small = grind (arith, levels_small, small_bound)
 
   -- the two levels with their variables exchanged
   module _ (i : ℕ) (inside : i + 1 < length order) (lawful : has_pair kept.pairs (get_or order i 0) (get_or order (i + 1) 0) ≡ false)
@@ -225,21 +210,11 @@ module _ (levels : List Level) (T : List Bool) (order roots : List ℕ) (kept : 
 
   pub count_is : (m : Managed) → record { order = order; problem = problem_at (nodes_of levels) T order roots; pairs = kept.pairs } ≡ m →
       (i : ℕ) → i < length m.order → get_or (map (λ (l : Level). l.count) items) i 0 ≡ count_of m i
-  count_is m e i h =
-      let long : i < length order = subst (λ (v : Managed). i < length v.order) (sym e) h in
-      ap (λ ls. get_or (map (λ (l : Level). l.count) ls) i 0) same ∙ ap (λ ms. get_or ms i 0) (sym (kept_counts levels))
-      ∙ sym (held_count (nodes_of levels) T order roots kept held i long)
-      ∙ ap (λ (v : Managed). count_of v i) e
+  count_is m e i h = grind (arith, kept_counts, held_count)
 
   pub items_long : (m : Managed) → record { order = order; problem = problem_at (nodes_of levels) T order roots; pairs = kept.pairs } ≡ m →
       (length items ≡ length m.order) × (length items ≤ 16)
-  items_long m e =
-      let a = ap length same in
-      let b = length-nodes levels in
-      let c = held.leveled.long in
-      let d = ap (λ (v : Managed). length v.order) e in
-      let f = held.few in
-      (omega arith, omega arith)
+  items_long m e = grind (arith, length-nodes, f)
 
 pub counts_get : (items : List Level) (i : ℕ) (d : Level) → i < length items → get_or (map (λ (l : Level). l.count) items) i 0 ≡ (get_or items i d).count
 counts_get [] i d h = absurd (omega arith)
@@ -272,12 +247,7 @@ module _ (levels : List Level) (T : List Bool) (order roots : List ℕ) (kept : 
 
   pub upper_inside : (upper lower : List Children) → get_or (nodes_of levels) i [] ≡ upper → get_or (nodes_of levels) (suc i) [] ≡ lower →
       HasChildren (length lower) upper
-  upper_inside upper lower e f =
-      let a = length-nodes levels in
-      let b = held.leveled.long in
-      subst (λ m. HasChildren (length m) upper) f
-      (subst (λ m. HasChildren (length (get_or (nodes_of levels) (suc i) [])) m) e
-      (level_at 16 T (nodes_of levels) i (omega arith) held.leveled.levels_are))
+  upper_inside upper lower e f = grind (arith, f, length-nodes, level_at)
 
   module _ (upper lower : List Children) (e : get_or (nodes_of levels) i [] ≡ upper) (f : get_or (nodes_of levels) (suc i) [] ≡ lower)
       (lawful : has_pair kept.pairs (get_or order i 0) (get_or order (i + 1) 0) ≡ false) (upper' lower' : Level)

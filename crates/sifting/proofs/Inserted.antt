@@ -1,5 +1,5 @@
 -- One element inserted into a list without repeats, which is there or is added at its end.
-use Rattle.std.proofs.Common.{◌≡◌, ◌≢◌, ℕ, suc, ◌<◌, ◌≤◌, Bool, true, false, ◌||◌, inl, inr, List, [], ◌∷◌, ◌++◌, length, get_or, refl, sym, ap, subst, ◌∙◌, arith, if◌then◌else◌}
+use Rattle.std.proofs.Common.{◌≡◌, ◌≢◌, ℕ, suc, ◌<◌, Bool, true, false, ◌||◌, List, [], ◌∷◌, ◌++◌, length, get_or, refl, sym, subst, ◌∙◌, arith, if◌then◌else◌}
 use Rattle.std.specs.List.{list_any, position_or_len}
 use Rattle.sifting.specs.NodeTables.{Inserted}
 use Rattle.std.proofs.lemmas.Bool.{false≢true, true≢false, cases_eq, cases_order, false_from_ne_true}
@@ -10,46 +10,11 @@ use Rattle.std.proofs.lemmas.List.Sums.{position_or_len_is, passes_at_first, fai
 module _ {K : Type 0} (d : K) (p : K) (keys : List K) where
   -- it was there
   pub inserted_again : (i : ℕ) → i < length keys → get_or keys i d ≡ p → Inserted d keys keys p i
-  inserted_again i there here = record {
-    there = there;
-    here = here;
-    kept = λ j h. refl;
-    grows = omega arith;
-    few = omega arith;
-    fresh = λ j h. inl h;
-    once = λ once. once;
-  }
+  inserted_again i there here = grind arith
 
   -- it is new
   pub inserted_new : ((k : ℕ) → k < length keys → get_or keys k d ≢ p) → Inserted d keys (keys ++ p ∷ []) p (length keys)
-  inserted_new absent =
-      let long = length_push keys p in
-      let new : get_or (keys ++ p ∷ []) (length keys) d ≡ p = get_or_at keys p [] d (length keys) refl in
-      let old : (j : ℕ) → j < length keys → get_or (keys ++ p ∷ []) j d ≡ get_or keys j d = λ j h. get_or_append_left keys (p ∷ []) d j h in
-      record {
-        there = omega arith;
-        here = new;
-        kept = old;
-        grows = omega arith;
-        few = omega arith;
-        fresh = λ j h. elim (cases_eq j (length keys)) [ inl s ↦ inr s | inr ne ↦ inl (omega arith) ];
-        once = λ once j k a b s.
-            elim (cases_eq j (length keys)) [
-              | inl x ↦
-                  let jp : get_or (keys ++ p ∷ []) j d ≡ p = ap (λ m. get_or (keys ++ p ∷ []) m d) x ∙ new in
-                  elim (cases_eq k (length keys)) [
-                    | inl y ↦ x ∙ sym y
-                    | inr y ↦ let h : k < length keys = omega arith in absurd (absent k h (sym (old k h) ∙ sym s ∙ jp))
-                  ]
-              | inr x ↦
-                  let g : j < length keys = omega arith in
-                  elim (cases_eq k (length keys)) [
-                    | inl y ↦ let kp : get_or (keys ++ p ∷ []) k d ≡ p = ap (λ m. get_or (keys ++ p ∷ []) m d) y ∙ new in
-                        absurd (absent j g (sym (old j g) ∙ s ∙ kp))
-                    | inr y ↦ let h : k < length keys = omega arith in once j k g h (sym (old j g) ∙ s ∙ old k h)
-                  ]
-            ];
-      }
+  inserted_new absent = grind (arith, length_push, get_or_at, get_or_append_left, cases_eq)
 
 module _ {K : Type 0} (eq : K → K → Bool) (decides : (x y : K) → (eq x y ≡ true → x ≡ y) × (x ≡ y → eq x y ≡ true)) (d : K) where
   some_place : (test : K → Bool) (keys : List K) → list_any test keys ≡ true → (k : ℕ) × (k < length keys) × (test (get_or keys k d) ≡ true)
@@ -63,14 +28,7 @@ module _ {K : Type 0} (eq : K → K → Bool) (decides : (x y : K) → (eq x y �
       by false t h r = let f = r h in (suc f.0, omega (arith, f.1), f.2)
 
   found_place : (p : K) (keys : List K) → list_any (eq p) keys ≡ true → position_or_len (eq p) keys < length keys
-  found_place p keys e =
-      elim (cases_order (length keys) (position_or_len (eq p) keys)) [
-        | inl s ↦ absurd (late (omega arith))
-        | inr r ↦ elim r [ inl lt ↦ absurd (late (omega arith)) | inr gt ↦ gt ]
-      ]
-    where
-      late : length keys ≤ position_or_len (eq p) keys → ⊥
-      late le = let f = some_place (eq p) keys e in true≢false (sym f.2 ∙ fails_before_first (eq p) keys f.0 d (omega (arith, f.1)))
+  found_place p keys e = grind (arith, cases_order, some_place, true≢false, fails_before_first)
 
   pub inserted : (p : K) (keys : List K) → Inserted d keys (if list_any (eq p) keys then keys else keys ++ p ∷ []) p (position_or_len (eq p) keys)
   inserted p keys = by (list_any (eq p) keys) refl

@@ -21,18 +21,7 @@ below_next done old new k h = elim (cases_eq k done) [ inl e ↦ new k e | inr n
 module _ {K : Type 0} (d : K) (off_key on_key : ℕ → K) where
   -- no node yet
   pub numbers_none : (kept : List Children) (keys : List K) → kept ≡ [] → keys ≡ [] → NumbersFirst d off_key on_key 0 kept keys
-  numbers_none kept keys e f =
-      let long = ap length e in
-      let few = ap length f in
-      record {
-        many = omega arith;
-        few = omega arith;
-        inside = λ k h. absurd (omega arith);
-        off = λ k h. absurd (omega arith);
-        on = λ k h. absurd (omega arith);
-        once = λ j k h. absurd (omega arith);
-        reached = λ j h. absurd (omega arith);
-      }
+  numbers_none kept keys e f = grind arith
 
   -- two insertions and one more node
   pub numbers_more : (done : ℕ) (kept : List Children) (keys keys1 keys2 : List K) (p q : K) (i j : ℕ) → NumbersFirst d off_key on_key done kept keys →

@@ -23,35 +23,13 @@ swap_long order i h = ap length (crossed_is order i h) ∙ length_crossed order 
 pub moved_up : (place other : ℕ) (from m to : Managed) → 0 < other → other < length from.order → place < length from.order → IsMoved place other from m →
     to.order ≡ swap m.order (other - 1) (other - 1 + 1) → to.problem ≡ m.problem → to.pairs ≡ m.pairs → IsMoved place (other - 1) from to
 unfolding Moves
-moved_up place other from m to some inside within moved e f g = record {
-  moves = λ others x h s.
-      let long = length-placed others x place in
-      let whole = ap length s in
-      let i = other - 1 in
-      let t : other ≡ suc i = omega arith in
-      let at = moved.moves others x h s ∙ ap (λ k. insert others k x) t in
-      let l = moved.length_stays in
-      e ∙ crossed_is m.order i (omega arith) ∙ ap (λ o. crossed o i) at ∙ crossed_up others x i (omega arith);
-  functions_stay = f ∙ moved.functions_stay;
-  pairs_stay = g ∙ moved.pairs_stay;
-  length_stays = let l = moved.length_stays in ap length e ∙ swap_long m.order (other - 1) (omega arith) ∙ moved.length_stays;
-}
+moved_up place other from m to some inside within moved e f g = grind (arith, length-placed, crossed_is, crossed, crossed_up, swap_long)
 
 -- one place down
 pub moved_down : (place other : ℕ) (from m to : Managed) → other + 1 < length from.order → place < length from.order → IsMoved place other from m →
     to.order ≡ swap m.order other (other + 1) → to.problem ≡ m.problem → to.pairs ≡ m.pairs → IsMoved place (other + 1) from to
 unfolding Moves
-moved_down place other from m to inside within moved e f g = record {
-  moves = λ others x h s.
-      let long = length-placed others x place in
-      let whole = ap length s in
-      let l = moved.length_stays in
-      e ∙ crossed_is m.order other (omega arith) ∙ ap (λ o. crossed o other) (moved.moves others x h s)
-      ∙ crossed_down others x other (omega arith) ∙ ap (λ k. insert others k x) (sym (add-one other));
-  functions_stay = f ∙ moved.functions_stay;
-  pairs_stay = g ∙ moved.pairs_stay;
-  length_stays = let l = moved.length_stays in ap length e ∙ swap_long m.order other (omega arith) ∙ moved.length_stays;
-}
+moved_down place other from m to inside within moved e f g = grind (arith, length-placed, crossed_is, crossed, crossed_down, add-one, swap_long)
 
 -- ---- the least size on the way
 
@@ -67,101 +45,37 @@ module _ (m cur : Managed) (place q size : ℕ) (moved : IsMoved place q m cur) 
 
 -- at the start
 pub finds_first : (m : Managed) (place size : ℕ) → IsManagedOrder m → size ≡ size_of m → FindsBest m place place place place size
-finds_first m place size ok e =
-    let size_is = size_here m m place place size (moved_none place m) ok e in
-    record {
-      above = omega arith;
-      below = omega arith;
-      keeps = λ others x h o i a b. let s : i ≡ place = omega arith in
-          subst (λ k. Keeps m.pairs (insert others k x)) (sym s) (keeps_here m m place place size (moved_none place m) ok e others x h o);
-      size_is = size_is;
-      smallest = λ others x h o i a b. let s : i ≡ place = omega arith in
-          let t = size_is others x h o ∙ ap (size_at m others x) (sym s) in omega arith;
-      uppermost = λ others x h o i a b. absurd (omega arith);
-    }
+finds_first m place size ok e = grind (arith, size_here, moved_none, keeps_here)
 
 -- one place lower
 module _ (m cur : Managed) (place from to best least size : ℕ) (found : FindsBest m place from to best least)
     (moved : IsMoved place (to + 1) m cur) (ok : IsManagedOrder cur) (size_is : size ≡ size_of cur) where
   keeps_lower : (others : List ℕ) (x : ℕ) → place ≤ length others → m.order ≡ insert others place x → (i : ℕ) → from ≤ i → i ≤ to + 1 →
       Keeps m.pairs (insert others i x)
-  keeps_lower others x h e i a b =
-      elim (cases_eq i (to + 1)) [
-        | inl s ↦ subst (λ k. Keeps m.pairs (insert others k x)) (sym s)
-            (keeps_here m cur place (to + 1) size moved ok size_is others x h e)
-        | inr ne ↦ found.keeps others x h e i a (omega arith)
-      ]
+  keeps_lower others x h e i a b = grind (arith, cases_eq, keeps_here)
 
   -- a smaller size
   pub finds_smaller : size < least → FindsBest m place from (to + 1) (to + 1) size
-  finds_smaller lt = record {
-    above = let a = found.above in let b = found.below in omega arith;
-    below = omega arith;
-    keeps = keeps_lower;
-    size_is = size_here m cur place (to + 1) size moved ok size_is;
-    smallest = λ others x h e i a b. elim (cases_eq i (to + 1)) [
-      | inl s ↦ let t = size_here m cur place (to + 1) size moved ok size_is others x h e ∙ ap (size_at m others x) (sym s) in omega arith
-      | inr ne ↦ let t = found.smallest others x h e i a (omega arith) in omega arith
-    ];
-    uppermost = λ others x h e i a b. let t = found.smallest others x h e i a (omega arith) in omega arith;
-  }
+  finds_smaller lt = grind (arith, keeps_lower, size_here, cases_eq)
 
   -- no smaller size
   pub finds_same : least ≤ size → FindsBest m place from (to + 1) best least
-  finds_same le = record {
-    above = found.above;
-    below = let b = found.below in omega arith;
-    keeps = keeps_lower;
-    size_is = found.size_is;
-    smallest = λ others x h e i a b. elim (cases_eq i (to + 1)) [
-      | inl s ↦ let t = size_here m cur place (to + 1) size moved ok size_is others x h e ∙ ap (size_at m others x) (sym s) in omega arith
-      | inr ne ↦ found.smallest others x h e i a (omega arith)
-    ];
-    uppermost = found.uppermost;
-  }
+  finds_same le = grind (arith, keeps_lower, cases_eq, size_here)
 
 -- one place higher
 module _ (m cur : Managed) (place from to best least size : ℕ) (some : 0 < from) (found : FindsBest m place from to best least)
     (moved : IsMoved place (from - 1) m cur) (ok : IsManagedOrder cur) (size_is : size ≡ size_of cur) where
   keeps_higher : (others : List ℕ) (x : ℕ) → place ≤ length others → m.order ≡ insert others place x → (i : ℕ) → from - 1 ≤ i → i ≤ to →
       Keeps m.pairs (insert others i x)
-  keeps_higher others x h e i a b =
-      elim (cases_eq i (from - 1)) [
-        | inl s ↦ subst (λ k. Keeps m.pairs (insert others k x)) (sym s)
-            (keeps_here m cur place (from - 1) size moved ok size_is others x h e)
-        | inr ne ↦ found.keeps others x h e i (omega arith) b
-      ]
+  keeps_higher others x h e i a b = grind (arith, cases_eq, keeps_here)
 
   -- a size that is no larger
   pub finds_above : size ≤ least → FindsBest m place (from - 1) to (from - 1) size
-  finds_above le = record {
-    above = omega arith;
-    below = let a = found.above in let b = found.below in omega arith;
-    keeps = keeps_higher;
-    size_is = size_here m cur place (from - 1) size moved ok size_is;
-    smallest = λ others x h e i a b. elim (cases_eq i (from - 1)) [
-      | inl s ↦ let t = size_here m cur place (from - 1) size moved ok size_is others x h e ∙ ap (size_at m others x) (sym s) in omega arith
-      | inr ne ↦ let t = found.smallest others x h e i (omega arith) b in omega arith
-    ];
-    uppermost = λ others x h e i a b. absurd (omega arith);
-  }
+  finds_above le = grind (arith, keeps_higher, size_here, cases_eq)
 
   -- a larger size
   pub finds_below : least < size → FindsBest m place (from - 1) to best least
-  finds_below lt = record {
-    above = let a = found.above in omega arith;
-    below = found.below;
-    keeps = keeps_higher;
-    size_is = found.size_is;
-    smallest = λ others x h e i a b. elim (cases_eq i (from - 1)) [
-      | inl s ↦ let t = size_here m cur place (from - 1) size moved ok size_is others x h e ∙ ap (size_at m others x) (sym s) in omega arith
-      | inr ne ↦ found.smallest others x h e i (omega arith) b
-    ];
-    uppermost = λ others x h e i a b. elim (cases_eq i (from - 1)) [
-      | inl s ↦ let t = size_here m cur place (from - 1) size moved ok size_is others x h e ∙ ap (size_at m others x) (sym s) in omega arith
-      | inr ne ↦ found.uppermost others x h e i (omega arith) b
-    ];
-  }
+  finds_below lt = grind (arith, keeps_higher, cases_eq, size_here)
 
 -- ---- the places above and those below
 
@@ -169,39 +83,13 @@ module _ (m : Managed) (place top bottom upper less lower least : ℕ) (up : Fin
     (down : FindsBest m place place bottom lower least) where
   keeps_both : (others : List ℕ) (x : ℕ) → place ≤ length others → m.order ≡ insert others place x → (i : ℕ) → top ≤ i → i ≤ bottom →
       Keeps m.pairs (insert others i x)
-  keeps_both others x h e i a b = elim (cases_lt place i) [
-    | inl gt ↦ down.keeps others x h e i (omega arith) b
-    | inr le ↦ up.keeps others x h e i a le
-  ]
+  keeps_both others x h e i a b = grind (arith, cases_lt)
 
   pub finds_upper : less ≤ least → FindsBest m place top bottom upper less
-  finds_upper le = record {
-    above = up.above;
-    below = let a = up.below in let b = down.above in let c = down.below in omega arith;
-    keeps = keeps_both;
-    size_is = up.size_is;
-    smallest = λ others x h e i a b. elim (cases_lt place i) [
-      | inl gt ↦ let t = down.smallest others x h e i (omega arith) b in omega arith
-      | inr in_up ↦ up.smallest others x h e i a in_up
-    ];
-    uppermost = up.uppermost;
-  }
+  finds_upper le = grind (arith, keeps_both, cases_lt)
 
   pub finds_lower : least < less → FindsBest m place top bottom lower least
-  finds_lower lt = record {
-    above = let a = up.above in let b = up.below in let c = down.above in omega arith;
-    below = down.below;
-    keeps = keeps_both;
-    size_is = down.size_is;
-    smallest = λ others x h e i a b. elim (cases_lt place i) [
-      | inl gt ↦ down.smallest others x h e i (omega arith) b
-      | inr in_up ↦ let t = up.smallest others x h e i a in_up in omega arith
-    ];
-    uppermost = λ others x h e i a b. elim (cases_lt place i) [
-      | inl gt ↦ down.uppermost others x h e i (omega arith) b
-      | inr in_up ↦ let t = up.smallest others x h e i a in_up in omega arith
-    ];
-  }
+  finds_lower lt = grind (arith, keeps_both, cases_lt)
 
 -- ---- the first of the smallest orders
 

@@ -1,6 +1,6 @@
 -- Pairs that an order keeps, two of whose neighbours are exchanged.
 --     keeps_crossed      the pairs are kept still, where the two are no pair
-use Rattle.std.proofs.Common.{◌≡◌, ℕ, zero, suc, ◌<◌, Bool, true, false, cond, ◌||◌, ◌&&◌, List, [], ◌∷◌, length, get_or, refl, sym, ap, ◌∙◌, arith, nat_eq, eqb-true, eq-eqb}
+use Rattle.std.proofs.Common.{◌≡◌, ℕ, zero, suc, ◌<◌, Bool, true, false, cond, ◌&&◌, List, [], ◌∷◌, length, get_or, refl, sym, ◌∙◌, arith, nat_eq, eqb-true, eq-eqb}
 use Rattle.std.specs.List.{list_all}
 use Rattle.std.proofs.lemmas.Bool.{true≢false, or_right, or_parts, and_parts, and_from, false_from_ne_true}
 use Rattle.order_model.proofs.Lists.Swaps.{crossed, has_crossed}
@@ -13,20 +13,7 @@ above_crossed : (a b : ℕ) (order : List ℕ) (i : ℕ) → suc i < length orde
 unfolding is_above
 above_crossed a b [] i h ne k = absurd (omega arith)
 above_crossed a b (x ∷ []) i h ne k = absurd (omega arith)
-above_crossed a b (x ∷ y ∷ order) zero h ne k = by (nat_eq a x) refl (nat_eq a y) refl k
-  where
-    by : (c : Bool) → nat_eq a x ≡ c → (d : Bool) → nat_eq a y ≡ d → cond c (nat_eq b y || has order b) (cond d (has order b) (is_above a b order)) ≡ true →
-        cond d (nat_eq b x || has order b) (cond c (has order b) (is_above a b order)) ≡ true
-    by true e d f k' =
-        let not_y : nat_eq b y ≡ false = false_from_ne_true (nat_eq b y) (λ t. ne (eqb-true a x e) (eqb-true b y t)) in
-        let there : has order b ≡ true = sym (ap (λ v. v || has order b) not_y) ∙ k' in
-        last d there
-      where
-        last : (d : Bool) → has order b ≡ true → cond d (nat_eq b x || has order b) (has order b) ≡ true
-        last true t = or_right (nat_eq b x) _ t
-        last false t = t
-    by false e true f k' = or_right (nat_eq b x) _ k'
-    by false e false f k' = k'
+above_crossed a b (x ∷ y ∷ order) zero h ne k = grind (arith, false_from_ne_true, eqb-true, or_right)
 above_crossed a b (x ∷ y ∷ order) (suc i) h ne k = by (nat_eq a x) k (above_crossed a b (y ∷ order) i (omega arith) ne)
   where
     by : (c : Bool) → cond c (has (y ∷ order) b) (is_above a b (y ∷ order)) ≡ true →

@@ -3,7 +3,7 @@
 --     free      variables above don't count
 --     restricted      the restriction of a node's function by its level's variable is its child's function
 --     canonical      equal functions have equal places
-use Rattle.std.proofs.Common.{◌≡◌, ◌≢◌, ℕ, ◌*◌, ◌<◌, Bool, true, false, List, [], ◌∷◌, length, set, get_or, replicate, refl, sym, ap, ◌∙◌, arith, nat_eq, eq-eqb}
+use Rattle.std.proofs.Common.{◌≡◌, ◌≢◌, ℕ, ◌*◌, ◌<◌, Bool, true, false, List, [], ◌∷◌, length, set, replicate, refl, sym, ap, ◌∙◌, arith, nat_eq, eq-eqb}
 use Rattle.std.specs.List.{IsDistinct}
 use Rattle.std.proofs.lemmas.Bool.{or_parts, true≢false}
 use Rattle.std.proofs.lemmas.List.{length-replicate, get_or-set_same, get_or-set_other}
@@ -46,10 +46,7 @@ pub restricted : (n : ℕ) (L : List Children) (levels : List (List Children)) (
     x < n → has order x ≡ false →
     SameFunction n (restrict x b (function_at (L ∷ levels) T (x ∷ order) k)) (function_at levels T order (child b (at L k)))
 unfolding SameFunction restrict function_at place_below
-restricted n L levels T x order k b lt h p l =
-    let inside : x < length p = omega arith in
-    ap (λ v. get_or T (place_below levels order (child v (at L k)) (set p x b)) false) (get_or-set_same p x b false inside)
-    ∙ ap (λ j. get_or T j false) (free levels order (child b (at L k)) x b p h)
+restricted n L levels T x order k b lt h p l = grind (arith, set, get_or-set_same, free)
 
 -- the children of a node that has as many as another one
 pub same_children : (c d : Children) → c.0 ≡ d.0 → c.1 ≡ d.1 → c ≡ d

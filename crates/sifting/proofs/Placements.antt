@@ -62,24 +62,14 @@ has_placed (z ∷ others) x (suc i) y = ap (λ b. nat_eq y z || b) (has_placed o
 none_above : (a b : ℕ) (zs : List ℕ) → has zs b ≡ false → is_above a b zs ≡ false
 unfolding is_above
 none_above a b [] h = refl
-none_above a b (z ∷ zs) h = by (nat_eq a z) (or_parts (nat_eq b z) (has zs b) h).1 (none_above a b zs (or_parts (nat_eq b z) (has zs b) h).1)
-  where
-    by : (c : Bool) → has zs b ≡ false → is_above a b zs ≡ false → cond c (has zs b) (is_above a b zs) ≡ false
-    by true k r = k
-    by false k r = r
+none_above a b (z ∷ zs) h = grind (arith, or_parts, none_above a b zs (or_parts (nat_eq b z) (has zs b) h).1)
 
 -- y stands at place j among the others, at or after the place of x: then y isn't above x
 pub not_above : (y x : ℕ) (others : List ℕ) (i j : ℕ) → i ≤ j → j < length others → get_or others j 0 ≡ y → IsDistinct nat_eq others →
     has others x ≡ false → is_above y x (insert others i x) ≡ false
 unfolding is_above IsDistinct
 not_above y x [] i j le lt e d h = absurd (omega arith)
-not_above y x (z ∷ others) zero j le lt e d h =
-    -- x stands first, and after it there is no x
-    by (nat_eq y x) (none_above y x (z ∷ others) h)
-  where
-    by : (c : Bool) → is_above y x (z ∷ others) ≡ false → cond c (has (z ∷ others) x) (is_above y x (z ∷ others)) ≡ false
-    by true k = h
-    by false k = k
+not_above y x (z ∷ others) zero j le lt e d h = grind (arith, none_above)
 not_above y x (z ∷ others) (suc i) zero le lt e d h = absurd (omega arith)
 not_above y x (z ∷ others) (suc i) (suc j) le lt e d h =
     let there = ap (has others) (sym e) ∙ has_at others j (omega arith) in

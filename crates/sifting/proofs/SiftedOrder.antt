@@ -26,11 +26,7 @@ module _ (self : Managed) (ok : IsManagedOrder self) (n : ℕ) (e : n ≡ length
       b (place_in self.order x) (own_place x self.order ok.is_order.once ((ok.is_order.all x).1 small)).1)
 
   pub variable_below : (items : List ℕ) (k : ℕ) → items ≡ by_falling_count counts n → k < length items → get_or items k 0 < length self.order
-  variable_below items k s h =
-      let l = ap length s in
-      let f = falling_below counts n k (omega arith) in
-      let g = ap (λ xs. get_or xs k 0) s in
-      omega arith
+  variable_below items k s h = grind (arith, falling_below)
 
 -- all variables are put at their best places
 module _ (self last : Managed) (ok : IsManagedOrder self) (items : List ℕ) (k : ℕ) (past : length items ≤ k)

@@ -1,6 +1,5 @@
-use Rattle.std.proofs.Common.{◌≡◌, ◌+◌, ◌<◌, ◌++◌, ◌∷◌, [], length, map, sym, ap, subst, ◌∙◌, arith, get_or, false}
+use Rattle.std.proofs.Common.{◌≡◌, ◌+◌, ◌++◌, ◌∷◌, [], length, map, sym, ap, subst, ◌∙◌, arith, get_or, false}
 use Rattle.order_model.specs.declared.diagrams.Ref.TheVariants.{Terminal}
-use Rattle.order_model.specs.Diagrams.{IsBefore}
 use Rattle.sifting.specs.LevelLists.{nodes_of}
 use Rattle.sifting.specs.Cuts.{is_true, Splits, IsBuilt}
 use Rattle.sifting.proofs.Cutting.{ref_default}
@@ -18,12 +17,7 @@ loop-x-init c =
     c.requires.few_roots c.in_ok-numbers.ensures (λ j h. c.requires.diagram.roots j (Terminal false) h))
 
 pub split-requires-clause-inside : goal.split-requires-clause-inside
-split-requires-clause-inside c k d h =
-    let e = c.deref.ensures.value in
-    let l = ap length e in
-    let h' : k < length c.loop-x.cut.items = omega arith in
-    subst (IsBefore (length c.args.nodes.now)) (sym (ap (λ xs. get_or xs k d) e ∙ ref_default c.loop-x.cut.items k d (Terminal false) h'))
-    (c.loop-x.invariant.stand k h').0
+split-requires-clause-inside c k d h = grind (arith, ref_default)
 
 pub loop-x-preserved : goal.loop-x-preserved
 loop-x-preserved c =

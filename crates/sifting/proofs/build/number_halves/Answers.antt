@@ -1,9 +1,9 @@
-use Rattle.std.proofs.Common.{◌≡◌, ℕ, Bool, false, true, length, sym, ap, subst, ◌∙◌, arith, nat_eq}
+use Rattle.std.proofs.Common.{ℕ, Bool, false, true, length, sym, ap, subst, ◌∙◌, arith, nat_eq}
 use Rattle.order_model.specs.declared.diagrams.Ref.{Ref}
 use Rattle.order_model.specs.declared.diagrams.Ref.TheVariants.{Terminal}
 use Rattle.order_model.specs.Diagrams.{IsBefore}
 use Rattle.order_model.proofs.Nodes.Paths.{before_more}
-use Rattle.sifting.specs.Cuts.{code_of, split_ref, ref_at, SplitsFirst}
+use Rattle.sifting.specs.Cuts.{code_of, split_ref, ref_at}
 use Rattle.sifting.proofs.Making.{numbers_step}
 use Rattle.sifting.proofs.Cutting.{half, split_before}
 use Rattle.order_model.proofs.Lists.Sets.{nat_decides}
@@ -42,8 +42,4 @@ loop-r-preserved c =
     c.in_ok-off.ensures.keys c.in_ok-off.ensures.index c.in_ok-on.ensures.keys c.in_ok-on.ensures.index c.in_ok-push.ensures.items
 
 pub returns : goal.returns
-returns c =
-    let done = c.loop-r.auto.r-index-end in
-    let past = c.loop-r-test.false in
-    let e : c.loop-r.r-index ≡ length c.args.cut.now = omega arith in
-    subst (λ m. SplitsFirst m c.args.nodes.now c.args.variable c.args.cut.now c.loop-r.level.items c.loop-r.codes.keys) e c.loop-r.invariant
+returns c = grind arith

@@ -1,4 +1,4 @@
-use Rattle.std.proofs.Common.{arith, take, ◌∙◌, ap, ◌+◌, sym}
+use Rattle.std.proofs.Common.{arith, ◌∙◌, ap, ◌+◌, sym}
 use Rattle.std.proofs.lemmas.List.{length-take}
 use Rattle.sifting.proofs.Branching.{branching_none, branching_more_yes, branching_more_no, branching_few, branching_all}
 use Rattle.sifting.proofs.levels.count_of.Goals as goal
@@ -8,13 +8,7 @@ pub loop-low-init : goal.loop-low-init
 loop-low-init c = branching_none
 
 pub overflow_add-count : goal.overflow_add-count
-overflow_add-count c =
-    let few = branching_few (take c.loop-low.low-index c.args.nodes.now) in
-    let long = length-take c.loop-low.low-index c.args.nodes.now in
-    let e = c.loop-low.invariant in
-    let r = c.requires in
-    let t = c.loop-low-test.true in
-    omega arith
+overflow_add-count c = grind (arith, branching_few, length-take)
 
 pub loop-low-preserved : goal.loop-low-preserved
 loop-low-preserved c =

@@ -1,17 +1,11 @@
-use Rattle.std.proofs.Common.{◌≡◌, ◌+◌, arith, subst, refl, ap, sym, ◌∙◌, length, false, true}
-use Rattle.sifting.specs.Leveled.{ExchangesFirst, grandchildren, branching}
+use Rattle.std.proofs.Common.{◌≡◌, ◌+◌, arith, subst, refl, sym, length, false, true}
+use Rattle.sifting.specs.Leveled.{ExchangesFirst, grandchildren}
 use Rattle.sifting.proofs.Branching.{branching_none, branching_counted}
 use Rattle.sifting.proofs.Making.{numbers_none, numbers_more}
 use Rattle.sifting.proofs.levels.swap_levels.Goals as goal
 
 pub loop-off-init : goal.loop-off-init
-loop-off-init c = record {
-  exchanges = numbers_none (0, 0) (grandchildren c.args.upper.now c.args.lower.now false) (grandchildren c.args.upper.now c.args.lower.now true)
-      c.in_ok-kept.kept.items c.begin.new.self.nodes.items c.in_ok-kept.ensures c.in_ok-begin.ensures.empty;
-  table = c.in_ok-begin.ensures.table;
-  room = c.in_ok-begin.ensures.room;
-  counted = branching_none ∙ ap branching (sym c.in_ok-kept.ensures);
-}
+loop-off-init c = grind (arith, numbers_none, branching_none)
 
 pub overflow_add-count : goal.overflow_add-count
 overflow_add-count c =

@@ -50,10 +50,4 @@ returns-clause-counts c i h =
     c.args.self.now c.self.view_is i h
 
 pub returns-clause-others : goal.returns-clause-others
-returns-clause-others c i h =
-    let s = c.self.inside in
-    let items = c.deref-level-items.result.now in
-    let long = (items_long s.levels.items s.terminals.items s.order s.roots.items s.pairs c.self.invariant items
-    c.deref-level-items.ensures.value c.args.self.now c.self.view_is).0 in
-    let e = c.loop-place.auto.place-end in
-    c.loop-place.invariant.others i (omega arith)
+returns-clause-others c i h = grind (arith, items_long)

@@ -19,12 +19,7 @@ overflow_add-size c =
     omega arith
 
 pub loop-level-preserved : goal.loop-level-preserved
-loop-level-preserved c =
-    let items = c.deref-level-items.result.now in
-    let more = sum_by_more (λ (v : Level). v.count) items c.loop-level.level-index c.level-item.result c.loop-level-test.true in
-    let e = ap (λ (v : Level). v.count) c.level-item.is in
-    let inv = c.loop-level.invariant in
-    omega arith
+loop-level-preserved c = grind (arith, sum_by_more)
 
 pub returns-clause-value : goal.returns-clause-value
 returns-clause-value c =

@@ -7,24 +7,10 @@ use Rattle.sifting.proofs.Held.{length-nodes, upper_is, lower_is, upper_few, upp
 use Rattle.sifting.proofs.manager.Manager.swap.Goals as goal
 
 pub index-requires : goal.index-requires
-index-requires c =
-    let s = c.self.inside in
-    let a = s.levels.ok.0 in
-    let b = length-nodes s.levels.items in
-    let d = c.self.invariant.leveled.long in
-    let e = ap (λ (m : Managed). length m.order) c.self.view_is in
-    let r = c.requires.below in
-    omega arith
+index-requires c = grind (arith, length-nodes)
 
 pub index-requires-2 : goal.index-requires-2
-index-requires-2 c =
-    let s = c.self.inside in
-    let a = s.levels.ok.0 in
-    let b = length-nodes s.levels.items in
-    let d = c.self.invariant.leveled.long in
-    let e = ap (λ (m : Managed). length m.order) c.self.view_is in
-    let r = c.requires.below in
-    omega arith
+index-requires-2 c = grind (arith, length-nodes)
 
 pub swap_levels-requires-clause-few : goal.swap_levels-requires-clause-few
 swap_levels-requires-clause-few c =
@@ -49,24 +35,10 @@ swap_levels-requires-clause-inside c =
     c.deref-2.result.now upper lower
 
 pub index_mut-requires : goal.index_mut-requires
-index_mut-requires c =
-    let s = c.self.inside in
-    let a = s.levels.ok.0 in
-    let b = length-nodes s.levels.items in
-    let d = c.self.invariant.leveled.long in
-    let e = ap (λ (m : Managed). length m.order) c.self.view_is in
-    let r = c.requires.below in
-    omega arith
+index_mut-requires c = grind (arith, length-nodes)
 
 pub index_mut-requires-2 : goal.index_mut-requires-2
-index_mut-requires-2 c =
-    let s = c.self.inside in
-    let a = s.levels.ok.0 in
-    let b = length-nodes s.levels.items in
-    let d = c.self.invariant.leveled.long in
-    let e = ap (λ (m : Managed). length m.order) c.self.view_is in
-    let r = c.requires.below in
-    omega arith
+index_mut-requires-2 c = grind (arith, length-nodes)
 
 pub swap-requires : goal.swap-requires
 swap-requires c = subst (λ (m : Managed). c.args.level + 1 < length m.order) (sym c.self.view_is) c.requires.below
@@ -92,22 +64,4 @@ invariant_of-result c =
     c.replace-upper.new.dest c.replace-lower.new.dest exchanges c.swap.new.self c.swap.ensures
 
 pub returns-clause-functions : goal.returns-clause-functions
-returns-clause-functions c =
-    let s = c.self.inside in
-    let inside = subst (λ (m : Managed). c.args.level + 1 < length m.order) (sym c.self.view_is) c.requires.below in
-    let lawful =
-    subst (λ (m : Managed). has_pair m.pairs (get_or m.order c.args.level 0) (get_or m.order (c.args.level + 1) 0) ≡ false)
-    (sym c.self.view_is) c.requires.lawful in
-    let d = c.index.result.now in
-    let d2 = c.index-2.result.now in
-    let upper = upper_is s.levels.items s.terminals.items s.order s.roots.items s.pairs c.self.invariant c.args.level inside d
-    ∙ ap (λ (l : Level). l.nodes.items) (sym c.index.ensures) ∙ sym c.deref.ensures.value in
-    let lower = lower_is s.levels.items s.terminals.items s.order s.roots.items s.pairs c.self.invariant c.args.level inside d2
-    ∙ ap (λ (l : Level). l.nodes.items) (sym c.index-2.ensures) ∙ sym c.deref-2.ensures.value in
-    let exchanges = subst (λ z. z)
-    (λ i. Exchanges c.deref.result.now c.deref-2.result.now (sym c.replace-upper.ensures.after i).nodes.items
-    (sym c.replace-lower.ensures.after i).nodes.items) c.in_ok-upper.ensures in
-    exchanged_problem s.levels.items s.terminals.items s.order s.roots.items s.pairs c.self.invariant c.args.level inside c.deref.result.now
-    c.deref-2.result.now upper lower lawful
-    c.replace-upper.new.dest c.replace-lower.new.dest exchanges c.swap.new.self c.swap.ensures
-    ∙ ap (λ (m : Managed). m.problem) c.self.view_is
+returns-clause-functions c = grind (arith, upper_is, lower_is, exchanged_problem)
