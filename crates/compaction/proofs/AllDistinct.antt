@@ -2,7 +2,7 @@
 --     distinct_more      with one more variable there are half as many
 --     distinct_row      each width into the set is their count
 --     distinct_strips      how strips show it
-use Rattle.std.proofs.Common.{◌≡◌, ℕ, suc, ◌+◌, ◌*◌, ◌/◌, ◌%◌, ◌^◌, ◌<◌, ◌≤◌, Bool, true, false, cond, eqb, eq-eqb, ne_eqb, inl, inr, List, [], ◌∷◌, Option, Some, None, map, length, get_or, bit_or, refl, sym, ap, ap₂, ◌∙◌, subst, arith}
+use Rattle.std.proofs.Common.{◌≡◌, ℕ, suc, ◌+◌, ◌*◌, ◌/◌, ◌%◌, ◌^◌, ◌<◌, ◌≤◌, Bool, true, false, cond, eqb, eq-eqb, ne_eqb, inl, inr, List, [], ◌∷◌, Option, Some, None, map, length, get_or, bit_or, refl, sym, ap, ◌∙◌, subst, arith}
 use Rattle.std.specs.Int.{bit_at}
 use Rattle.std.specs.Int.Bits.{or_self}
 use Rattle.std.specs.List.{filter, range_with_len}
@@ -72,18 +72,7 @@ module _ (t : ClassesOf) (count : ℕ) (d : AreDistinct t count) (x : ℕ) (insi
 
   name_is : (j : ℕ) → j < count / 2 → name (get_or (pairs (range_with_len 0 count) (2 ^ free_below t.set x)) j (0, 0)) ≡ j
   unfolding name
-  name_is j h =
-      let s = 2 ^ free_below t.set x in
-      let some : 0 < s = pow_pos (free_below t.set x) in
-      let q = j / s in
-      let r = j % s in
-      let m : r < s = mod-lt j some in
-      let e : low_place s j ≡ r + q * (2 * s) = omega arith in
-      let div : low_place s j / (2 * s) ≡ q = ap (λ k. k / (2 * s)) e ∙ add-mul-div_right r q (let z : 0 < 2 * s = omega arith in z)
-      ∙ (let z = div-eq_of_lt (let l : r < 2 * s = omega arith in l) in omega arith) in
-      let rem : low_place s j % (2 * s) ≡ r = ap (λ k. k % (2 * s)) e ∙ add-mul-mod_self_right r q (2 * s)
-      ∙ mod-eq_of_lt (let z : r < 2 * s = omega arith in z) in
-      ap (λ (p : ℕ × ℕ). p.0 / (2 * s) * s + p.0 % (2 * s)) (pair_is j h) ∙ ap₂ (λ a b. a * s + b) div rem ∙ sym (parts_of j s some)
+  name_is j h = grind (arith, pow_pos, mod-lt, add-mul-div_right, div-eq_of_lt, add-mul-mod_self_right, mod-eq_of_lt, pair_is, parts_of)
 
   few_pairs : count / 2 ≤ 2 ^ 20
   few_pairs = (let f = d.keys.few in let l = length-range_with_len 0 count in omega arith)
@@ -176,13 +165,7 @@ distinct_row t count d wanted x w inside e = e ∙ elim (cases_eq (bit_at wanted
 -- strips that are named in order are as many as the runs
 pub own_count : (outer numbers : List ℕ) (len : ℕ) (strips : AreStrips outer numbers len) →
     ((i : ℕ) → i < length outer → get_or outer i 0 ≡ i) → strips.count ≡ length outer
-own_count outer numbers len strips own = elim (cases_lt strips.count (length outer)) [
-  | inl less ↦ absurd (let w = strips.within strips.count less in let e = own strips.count less in let f : ⊥ = omega arith in f)
-  | inr more ↦ elim (cases_lt (length outer) strips.count) [
-    | inl less ↦ absurd (let u = strips.used (length outer) less in let s = u.1.0 in let e = own u.0 s in let q = u.1.1 in let f : ⊥ = omega arith in f)
-    | inr same ↦ omega arith
-  ]
-]
+own_count outer numbers len strips own = grind (arith, cases_lt)
 
 -- strips that show it
 pub distinct_strips : (t : ClassesOf) (low : ℕ) (outer numbers masks : List ℕ) → HoldsStrips t low outer numbers masks →

@@ -5,10 +5,9 @@
 --     low_none, low_more      the numbers of a word's lowest bits: none, a byte more
 --     row_number, row_strip      the numbers of all bytes' values in one table, and those of one byte
 --     packed_none, packed_more, packed_at, length_packed      the numbers of words: none, a word more, one of them, how many
-use Rattle.std.proofs.Common.{◌≡◌, ◌==◌, ◌++◌, ◌∷◌, [], ℕ, zero, suc, refl, ◌+◌, ◌*◌, ◌-◌, ◌/◌, ◌%◌, ◌^◌, ◌<◌, ◌≤◌, Bool, true, false, cond, List, length, map, get_or, sym, ap, ◌∙◌, arith, pow_mono, pow-add, mul_assoc}
+use Rattle.std.proofs.Common.{◌≡◌, ◌==◌, ◌++◌, ◌∷◌, [], ℕ, zero, suc, refl, ◌+◌, ◌*◌, ◌-◌, ◌/◌, ◌%◌, ◌^◌, ◌<◌, ◌≤◌, Bool, List, length, map, get_or, sym, ap, ◌∙◌, arith, pow_mono, pow-add, mul_assoc}
 use Rattle.std.proofs.Math.Nat.{mul-le-mul_left, mul-le-mul_right, mul_comm, div-add-mod, mod-lt, div-lt_iff_lt-mul, div-div-eq-div-mul}
 use Rattle.std.proofs.lemmas.Nat.Bits.{bit_at_cat_low}
-use Rattle.std.specs.Bool.{beq}
 use Rattle.std.specs.Int.{bit_at}
 use Rattle.std.specs.List.{range_with_len}
 use Rattle.std.proofs.lemmas.List.{length-map}
@@ -59,19 +58,10 @@ whole_values outer numbers len some l h = same_by_places (unrolled outer numbers
 -- as many strips as runs
 pub length_numbers : (p : TruthTables) (num : Bool → ℕ) (low runs : ℕ) → low ≤ p.inputs → runs ≡ length p.tables * 2 ^ (p.inputs - low) →
     length (map num (values_of p)) ≡ runs * 2 ^ low
-length_numbers p num low runs h e =
-    length-map (values_of p) num ∙ length_values p
-    ∙ (let w : 2 ^ p.inputs ≡ 2 ^ (p.inputs - low) * 2 ^ low = ap (λ k. 2 ^ k) (let s : p.inputs ≡ p.inputs - low + low = omega arith in s)
-    ∙ pow-add 2 (p.inputs - low) low in
-    ap (λ k. length p.tables * k) w ∙ sym (mul_assoc (length p.tables) (2 ^ (p.inputs - low)) (2 ^ low)) ∙ ap (λ k. k * 2 ^ low) (sym e))
+length_numbers p num low runs h e = grind (arith, length-map, length_values, pow-add, mul_assoc)
 
 pub few_numbers : (p : TruthTables) (num : Bool → ℕ) → p.inputs ≤ 16 → length p.tables ≤ 16 → length (map num (values_of p)) ≤ 2 ^ 20
-few_numbers p num inputs outputs =
-    let a = length-map (values_of p) num ∙ length_values p in
-    let b : 2 ^ p.inputs ≤ 65536 = pow_mono {j = 16} inputs in
-    let c = mul-le-mul_left (length p.tables) b in
-    let d = mul-le-mul_right 65536 outputs in
-    omega arith
+few_numbers p num inputs outputs = grind (arith, length-map, length_values, pow_mono, mul-le-mul_left, mul-le-mul_right)
 
 -- ---- the numbers in a word
 
@@ -161,11 +151,4 @@ row_strip first byte h =
 -- numbers of values are below two
 pub rows_below : (first : Bool) (count i : ℕ) → i < count → get_or (map (row_number first) (range_with_len 0 count)) i 0 < 2
 unfolding row_number
-rows_below first count i h =
-    let e = get_or-map-range_with_len (row_number first) 0 count i i 0 h (omega arith) in
-    let b = small (beq (bit_at (i / 8) (i % 8) == 1) first) in
-    omega arith
-  where
-    small : (b : Bool) → cond b 0 1 < 2
-    small true = omega arith
-    small false = omega arith
+rows_below first count i h = grind (arith, get_or-map-range_with_len, row_number)

@@ -1,5 +1,5 @@
 -- Rows of a block, filled one after another.
-use Rattle.std.proofs.Common.{◌≡◌, ◌≢◌, ℕ, zero, suc, ◌+◌, ◌-◌, ◌%◌, ◌^◌, ◌<◌, ◌≤◌, cond, inl, inr, List, [], ◌∷◌, length, slice_index, get_or, set, refl, sym, ap, ◌∙◌, subst, arith, eqb, bit_and, bit_or, count_ones}
+use Rattle.std.proofs.Common.{◌≡◌, ◌≢◌, ℕ, zero, suc, ◌+◌, ◌-◌, ◌%◌, ◌^◌, ◌<◌, ◌≤◌, cond, inl, inr, List, [], ◌∷◌, length, slice_index, get_or, set, refl, sym, ap, ◌∙◌, arith, eqb, bit_and, bit_or, count_ones}
 use Rattle.std.specs.Int.{bit_at}
 use lib.Count.{ones-le}
 use Rattle.std.proofs.lemmas.Bool.{cases_lt, cases_eq}
@@ -47,35 +47,18 @@ module _ (p : TruthTables) (masks needed : List ℕ) where
   pub filled_own : (set decided : ℕ) (old new : List (List ℕ)) →
       ((i : ℕ) → i < length masks → bit_and (slice_index masks i) decided ≡ slice_index masks i) →
       IsRowFilled p masks needed set old new → AreRowsFilled p masks needed set decided old new
-  filled_own set decided old new all own = λ i lt.
-      let whole = all i lt in (
-        λ e. let s : slice_index masks i ≡ set = sym whole ∙ e in
-            subst (λ m. IsWidthRow p m (slice_index needed i) (get_or new i [])) (sym s) ((own i lt).0 s),
-        λ ne. (own i lt).1 (λ s. ne (whole ∙ s)),
-      )
+  filled_own set decided old new all own = grind (arith, set, slice_index)
 
   -- what is blank stays so
   pub blank_kept : (set decided : ℕ) (old new : List (List ℕ)) → AreBlank p masks needed old → AreRowsFilled p masks needed set decided old new →
       AreBlank p masks needed new
-  blank_kept set decided old new blank filled = λ i lt z. elim (cases_eq (bit_and (slice_index masks i) decided) set) [
-    | inl e ↦ (filled i lt).0 e
-    | inr ne ↦ subst (IsWidthRow p (slice_index masks i) (slice_index needed i)) (sym ((filled i lt).1 ne)) (blank i lt z)
-  ]
+  blank_kept set decided old new blank filled = grind (arith, set, cases_eq, bit_and, slice_index)
 
   -- the sets without a variable, and those with it
   pub filled_both : (set decided y : ℕ) (old mid new : List (List ℕ)) → bit_at decided y ≡ 0 → bit_and set decided ≡ set →
       AreRowsFilled p masks needed set (bit_or decided (2 ^ y)) old mid →
       AreRowsFilled p masks needed (bit_or set (2 ^ y)) (bit_or decided (2 ^ y)) mid new → AreRowsFilled p masks needed set decided old new
-  filled_both set decided y old mid new undecided within a b = λ i lt. (
-    λ e. elim (split_decided (slice_index masks i) set decided y e) [
-      | inl low ↦
-          let kept = (b i lt).1 (λ s. not_both set decided y undecided within (sym low ∙ s)) in
-          subst (IsWidthRow p (slice_index masks i) (slice_index needed i)) (sym kept) ((a i lt).0 low)
-      | inr high ↦ (b i lt).0 high
-    ],
-    λ ne. (b i lt).1 (λ s. ne (join_with (slice_index masks i) set decided y undecided within s))
-        ∙ (a i lt).1 (λ s. ne (join_without (slice_index masks i) set decided y within s)),
-  )
+  filled_both set decided y old mid new undecided within a b = grind (arith, set, split_decided, slice_index, not_both, join_with, join_without)
 
   -- nothing is wanted of those with it
   pub filled_lower : (set decided y : ℕ) (old mid : List (List ℕ)) → bit_at decided y ≡ 0 → bit_and set decided ≡ set →
@@ -115,7 +98,4 @@ blank_row p mask wanted x row e z =
 pub blank_pushed : (rows : List (List ℕ)) (row : List ℕ) (n : ℕ) → length rows ≡ n → ((x : ℕ) → slice_index row x ≡ 0) →
     ((i x : ℕ) → i < n → slice_index (get_or rows i []) x ≡ 0) →
     (i x : ℕ) → i < n + 1 → slice_index (get_or (rows ++ row ∷ []) i []) x ≡ 0
-blank_pushed rows row n e z h i x lt = elim (cases_lt i n) [
-  | inl low ↦ ap (λ r. slice_index r x) (get_or_append_left rows (row ∷ []) [] i (omega arith)) ∙ h i x low
-  | inr high ↦ ap (λ r. slice_index r x) (get_or_push rows row [] i (omega arith)) ∙ z x
-]
+blank_pushed rows row n e z h i x lt = grind (arith, cases_lt, slice_index, get_or_append_left, get_or_push)

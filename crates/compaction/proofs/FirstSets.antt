@@ -5,7 +5,7 @@
 --     one_set_more      one more of them
 --     can_take, with_larger      a larger member can come into all of them; with those that have it they are the first sets
 --     larger_set, lacks_larger      the mask of a set with a larger member, which it lacked
-use Rattle.std.proofs.Common.{◌≡◌, ℕ, zero, suc, subst, ◌+◌, ◌*◌, ◌%◌, ◌^◌, ◌<◌, ltb, List, Option, None, Some, IfSome, is_some, [], ◌∷◌, ◌++◌, map, length, get_or, false, sym, ap, ◌∙◌, arith, bit_or, zero-mul}
+use Rattle.std.proofs.Common.{◌≡◌, ℕ, zero, suc, ◌+◌, ◌*◌, ◌%◌, ◌^◌, ◌<◌, ltb, List, Option, None, Some, IfSome, is_some, [], ◌∷◌, ◌++◌, map, length, get_or, false, sym, ap, ◌∙◌, arith, bit_or, zero-mul}
 use Rattle.std.specs.List.{All, range_with_len}
 use Rattle.std.specs.Borrow.{Bor}
 use Rattle.std.proofs.Math.Nat.{mod-eq_of_lt}
@@ -13,11 +13,10 @@ use Rattle.std.proofs.lemmas.Bool.{ltb-true}
 use Rattle.std.proofs.lemmas.Nat.{one_shl, or_disjoint}
 use Rattle.std.proofs.lemmas.Nat.Bits.{and_pow, bit_at_above}
 use Rattle.std.proofs.lemmas.List.{length-append, length-map, append-nil, append_assoc, ext_get_or, get_or-map}
-use Rattle.std.proofs.lemmas.List.Elements.{All-from_get_or}
 use Rattle.std.proofs.lemmas.List.FromFn.{map-range_with_len_more, get_or-map-range_with_len, length-map-range_with_len}
 use Rattle.order_model.specs.Orders.{has, members}
 use Rattle.order_model.specs.Problems.{TruthTables}
-use Rattle.class_laws.specs.Table.{ClassesOf, classes_of, set_of, with_variable}
+use Rattle.class_laws.specs.Table.{ClassesOf, classes_of, with_variable}
 use Rattle.class_laws.proofs.LowSets.{low_new}
 use Rattle.compaction.specs.Strips.{AreOfFirstSets, CanTakeLow, low_variables}
 
@@ -85,11 +84,7 @@ ranges p a n (suc m) =
 module _ (p : TruthTables) (tables : List ClassesOf) (x : ℕ) (first : AreOfFirstSets p tables) (long : length tables ≡ 2 ^ x) where
   -- a larger member can come into all of them
   pub can_take : x < low_variables p → All (CanTakeLow x) tables
-  can_take low = All-from_get_or (CanTakeLow x) tables (classes_of p 0) (λ i lt.
-      let e = first_set p tables i (classes_of p 0) first lt in (
-        subst (λ (t : ClassesOf). x < low_variables t.problem) (sym e) low,
-        ap (λ (t : ClassesOf). has (set_of t) x) e ∙ lacks_larger p.inputs i x (omega arith),
-      ))
+  can_take low = grind (arith, first_set, lacks_larger)
 
   -- with those that have it they are the first sets
   pub with_larger : AreOfFirstSets p (tables ++ map (λ t. with_variable t x) tables)

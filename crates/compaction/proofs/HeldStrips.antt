@@ -2,7 +2,7 @@
 --     free_split, free_other, free_less      how many variables outside the set stand below
 --     table_high, table_low      the strips are paired by a variable above them, or by one inside them
 --     holds_high, holds_low      a variable above the strips, and one inside them
-use Rattle.std.proofs.Common.{◌≡◌, ◌≢◌, ℕ, zero, suc, ◌+◌, ◌-◌, ◌*◌, ◌/◌, ◌%◌, ◌^◌, ◌<◌, ◌≤◌, true, false, not, cond, ◌&&◌, inl, inr, List, [], ◌∷◌, length, get_or, bit_or, eqb, eq-eqb, ne_eqb, refl, sym, ap, ap₂, ◌∙◌, subst, arith}
+use Rattle.std.proofs.Common.{◌≡◌, ◌≢◌, ℕ, zero, suc, ◌+◌, ◌-◌, ◌*◌, ◌/◌, ◌%◌, ◌^◌, ◌<◌, ◌≤◌, false, not, cond, inl, inr, List, [], ◌∷◌, length, get_or, bit_or, eqb, eq-eqb, ne_eqb, refl, sym, ap, ◌∙◌, subst, arith}
 use Rattle.std.specs.Int.{bit_at}
 use Rattle.std.proofs.Math.Nat.{eq_of_mul-eq-mul_right, div-lt_iff_lt-mul, mod-lt}
 use Rattle.std.proofs.lemmas.Bool.{cases_eq}
@@ -39,12 +39,7 @@ free_split set low (suc x) h = elim (cases_eq low (suc x)) [
 -- a bit above changes nothing
 pub free_other : (set x y : ℕ) → y ≤ x → free_below (bit_or set (2 ^ x)) y ≡ free_below set y
 free_other set x zero h = free_none (bit_or set (2 ^ x)) ∙ sym (free_none set)
-free_other set x (suc y) h =
-    let r = free_other set x y (omega arith) in
-    let o = bit_at_or set (2 ^ x) y in
-    let p = bit_at-pow_other x y (λ e. let f : ⊥ = omega arith in f) in
-    let b : bit_at (bit_or set (2 ^ x)) y ≡ bit_at set y = omega arith in
-    step_of_bit (bit_or set (2 ^ x)) y ∙ ap₂ (λ k m. k + cond (not (eqb m 1)) 1 0) r b ∙ sym (step_of_bit set y)
+free_other set x (suc y) h = grind (arith, bit_at_or, bit_at-pow_other, bit_or, step_of_bit, free_other set x y (omega arith))
 
 -- a new bit below takes one away
 pub free_less : (set x low : ℕ) → x < low → bit_at set x ≢ 1 → free_below set low ≡ suc (free_below (bit_or set (2 ^ x)) low)
@@ -74,13 +69,7 @@ free_less set x (suc low) h n = elim (cases_eq x low) [
 module _ (t : ClassesOf) (x : ℕ) (inside : x < t.problem.inputs) (new : has (set_of t) x ≡ false) where
   -- a variable that is not a member has no bit
   pub no_bit : bit_at t.set x ≢ 1
-  no_bit e = absurd
-      (let m = sym new ∙ has_members t.problem.inputs t.set x
-      ∙ ap₂ (λ a b. a && b) ((has_variables t.problem.inputs x).1 inside) (eq-eqb (bit_at t.set x) 1 e) in
-      differ m)
-    where
-      differ : false ≡ true → ⊥
-      differ q = absurd (cc)
+  no_bit e = grind (arith, has_members, has_variables, eq-eqb)
 
   -- how the variables below `low` part at x
   module _ (low : ℕ) (inner : x < low) where

@@ -1,7 +1,7 @@
 -- Parts of tables that several threads made.
 --     pull_part, no_parts      one part more; none
 --     if_joined      the parts of all chunks
-use Rattle.std.proofs.Common.{◌≡◌, ℕ, zero, suc, ◌+◌, ◌*◌, ◌/◌, ◌%◌, ◌<◌, ◌≤◌, min, List, [], ◌∷◌, ◌++◌, map, length, get_or, take, drop, Result, Ok, Err, IfOk, Vec, inl, inr, refl, sym, ap, ◌∙◌, subst, arith}
+use Rattle.std.proofs.Common.{◌≡◌, ℕ, zero, suc, ◌+◌, ◌*◌, ◌/◌, ◌%◌, ◌<◌, ◌≤◌, min, List, [], ◌∷◌, ◌++◌, map, length, get_or, take, drop, Result, Ok, Err, IfOk, Vec, refl, sym, ap, ◌∙◌, subst, arith}
 use Rattle.std.specs.Global.{Global}
 use Rattle.std.specs.List.{remove}
 use Rattle.std.specs.declared.alloc.AllocError.{AllocError}
@@ -37,15 +37,7 @@ drop_more (suc a) b (x ∷ xs) = ap (λ z. drop z (x ∷ xs)) (let e : suc a + b
 
 -- a number of chunks takes all
 all_taken : (len size : ℕ) → 0 < size → len ≤ (len / size + min 1 (len % size)) * size
-all_taken len size some =
-    let d = div-add-mod' len size in
-    let m = mod-lt len some in
-    elim (cases_lt 0 (len % size)) [
-      | inl r ↦ let e : len / size + min 1 (len % size) ≡ len / size + 1 = omega arith in
-          let b : (len / size + 1) * size ≡ len / size * size + size = grind arith in
-          subst (λ k. len ≤ k * size) (sym e) (omega arith)
-      | inr z ↦ let e : len / size + min 1 (len % size) ≡ len / size = omega arith in subst (λ k. len ≤ k * size) (sym e) (omega arith)
-    ]
+all_taken len size some = grind (arith, div-add-mod', mod-lt, cases_lt)
 
 module _ (f : ClassesOf → ClassesOf) (tables : List ClassesOf) (size : ℕ) (some : 0 < size) where
   -- the parts of the chunks from one on

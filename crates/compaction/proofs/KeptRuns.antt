@@ -27,12 +27,7 @@ word_of words w b = bit_in_word words w (b % 64) (mod-lt b (omega arith))
 -- runs of the same words have the same bits
 pub same_bits : (xs ys : List ℕ) (i j : ℕ) → ((a : ℕ) → a < 4 → get_or xs (i * 4 + a) 0 ≡ get_or ys (j * 4 + a) 0) → (b : ℕ) → b < 256 →
     packed_bit xs (i * 256 + b) ≡ packed_bit ys (j * 256 + b)
-same_bits xs ys i j h b small =
-    ap (packed_bit xs) (place i) ∙ word_of xs (i * 4 + b / 64) b ∙ ap (λ w. bit_at w (b % 64) == 1) (h (b / 64) (let d = div-add-mod b 64 in omega arith))
-    ∙ sym (word_of ys (j * 4 + b / 64) b) ∙ ap (packed_bit ys) (sym (place j))
-  where
-    place : (k : ℕ) → k * 256 + b ≡ (k * 4 + b / 64) * 64 + b % 64
-    place k = let d = div-add-mod b 64 in omega arith
+same_bits xs ys i j h b small = grind (arith, word_of, div-add-mod)
 
 -- one more run is named
 run_added : (values : List Bool) (outer kept run : List ℕ) (count k : ℕ) → k < count → ((a : ℕ) → a < 4 → get_or kept (k * 4 + a) 0 ≡ get_or run a 0) →
@@ -103,19 +98,10 @@ renamed values outer outer' kept kept' count count' p q r s =
 
 -- a run of a function's words
 pub run_bits : (words : List ℕ) (r m b : ℕ) → m ≡ 4 → b < 256 → packed_bit (take m (drop (r * 4) words)) b ≡ packed_bit words (r * 256 + b)
-run_bits words r m b e h =
-    ap (packed_bit (take m (drop (r * 4) words))) (let z : b ≡ 0 * 256 + b = omega arith in z)
-    ∙ same_bits (take m (drop (r * 4) words)) words 0 r
-    (λ a lt. get_or-take m (drop (r * 4) words) (0 * 4 + a) 0 (omega arith) ∙ get_or-drop (r * 4) words (0 * 4 + a) 0
-    ∙ ap (λ j. get_or words j 0) (let z : r * 4 + (0 * 4 + a) ≡ r * 4 + a = omega arith in z)) b h
+run_bits words r m b e h = grind (arith, same_bits, get_or-take, get_or-drop)
 
 pub keeps_none : (values : List Bool) → KeepsRuns values [] [] 0
-keeps_none values = record {
-  within = λ i h. absurd (omega arith);
-  used = λ k h. absurd (omega arith);
-  few = omega arith;
-  told = λ i b h small. absurd (omega arith);
-}
+keeps_none values = grind arith
 
 -- ---- a function's values among all
 
@@ -150,10 +136,7 @@ table_bit n words k h = sym (get_or-map-range_with_len (packed_bit words) 0 (2 ^
 
 -- from 8 variables on a function has four words for each run
 pub words_parted : (n : ℕ) → 8 ≤ n → (words_per_table n ≡ 2 ^ (n - 8) * 4) × (2 ^ n ≡ 2 ^ (n - 8) * 256)
-words_parted n h =
-    let e : n ≡ n - 8 + 8 = omega arith in
-    let p : 2 ^ n ≡ 2 ^ (n - 8) * 256 = ap (λ k. 2 ^ k) e ∙ pow-add 2 (n - 8) 8 in
-    (omega arith, p)
+words_parted n h = grind (arith, pow-add)
 
 -- ---- strips of the kept runs
 

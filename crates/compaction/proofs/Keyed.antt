@@ -5,7 +5,7 @@
 --     keys_ready      what the numbering of the pairs asks for
 --     value_keys      the keys of the values
 --     keys_by_names      the keys with one more variable, from names of the pairs
-use Rattle.std.proofs.Common.{◌≡◌, ℕ, zero, suc, ◌+◌, ◌*◌, ◌/◌, ◌^◌, ◌<◌, ◌≤◌, Bool, true, false, not, cond, inl, inr, List, [], ◌∷◌, map, length, reverse, get_or, bit_or, nat_eq, eq-eqb, ne_eqb, refl, sym, ap, ap₂, ◌∙◌, subst, arith}
+use Rattle.std.proofs.Common.{◌≡◌, ℕ, zero, suc, ◌+◌, ◌*◌, ◌/◌, ◌^◌, ◌<◌, ◌≤◌, Bool, true, false, not, cond, inl, inr, List, [], ◌∷◌, map, length, reverse, get_or, bit_or, nat_eq, eq-eqb, ne_eqb, refl, sym, ap, ap₂, ◌∙◌, arith}
 use Rattle.std.specs.List.{filter, range_with_len, list_any}
 use Rattle.std.proofs.lemmas.Bool.{cases_eq}
 use Rattle.std.proofs.lemmas.Nat.{pow_pos}
@@ -19,7 +19,7 @@ use Rattle.order_model.proofs.Functions.Tables.{same_table_decides, depends_same
 use Rattle.order_model.proofs.Widths.ClassPairs.{pair_decides, rank_apart, depends_by_classes}
 use Rattle.class_laws.specs.Dependence.{dependence, joined_mask}
 use Rattle.class_laws.specs.Numbering.{rank, ranks}
-use Rattle.class_laws.specs.Places.{low_place, pair_at, pairs}
+use Rattle.class_laws.specs.Places.{low_place, pairs}
 use Rattle.std.proofs.lemmas.Nat.Bits.{shr_and_one, bit_at-zero}
 use Rattle.order_model.specs.Problems.{TruthTables, value_at}
 use Rattle.class_laws.specs.Values.{values_of, number_of}
@@ -73,27 +73,11 @@ module _ (cs : List ℕ) (r : ℕ) (whole : (blocks : ℕ) × (length cs ≡ blo
 
   pub pairs_mapped : (f : ℕ → ℕ) → pairs (map f cs) (2 ^ r) ≡ map (both f) (pairs cs (2 ^ r))
   unfolding pairs both
-  pairs_mapped f =
-      ap (λ l. map (pair_at (map f cs) (2 ^ r)) (range_with_len 0 (l / 2))) (length-map cs f)
-      ∙ map_range_same (pair_at (map f cs) (2 ^ r)) (λ j. (f (pair_at cs (2 ^ r) j).0, f (pair_at cs (2 ^ r) j).1)) 0 (length cs / 2) each
-      ∙ sym (map-map (λ (p : ℕ × ℕ). (f p.0, f p.1)) (pair_at cs (2 ^ r)) (range_with_len 0 (length cs / 2)))
-    where
-      each : (j : ℕ) → 0 ≤ j → j < 0 + length cs / 2 → pair_at (map f cs) (2 ^ r) j ≡ (f (pair_at cs (2 ^ r) j).0, f (pair_at cs (2 ^ r) j).1)
-      each j l u =
-          let w = place_within j (omega arith) in
-          let a = get_or-map f cs (low_place (2 ^ r) j) 0 0 (omega arith) in
-          let b = get_or-map f cs (low_place (2 ^ r) j + 2 ^ r) 0 0 w in
-          λ i. (a i, b i)
+  pairs_mapped f = grind (arith, length-map, map_range_same, map-map, place_within, get_or-map)
 
   pub pair_among : (p : ℕ × ℕ) → Among p (pairs cs (2 ^ r)) → Among p.0 cs × Among p.1 cs
   unfolding pairs
-  pair_among p h =
-      let s = among_from_map (pair_at cs (2 ^ r)) p (range_with_len 0 (length cs / 2)) h in
-      let b = (range_below 0 (length cs / 2) s.0 s.1).1 in
-      let w = place_within s.0 (omega arith) in (
-        subst (λ (q : ℕ × ℕ). Among q.0 cs) (sym s.2) (among_at cs (low_place (2 ^ r) s.0) 0 (omega arith)),
-        subst (λ (q : ℕ × ℕ). Among q.1 cs) (sym s.2) (among_at cs (low_place (2 ^ r) s.0 + 2 ^ r) 0 w),
-      )
+  pair_among p h = grind (arith, among_from_map, range_below, place_within, among_at)
 
   pub own : ℕ → ℕ
   own k = rank nat_eq cs k
@@ -104,12 +88,7 @@ module _ (cs : List ℕ) (r : ℕ) (whole : (blocks : ℕ) × (length cs ≡ blo
 
   both_apart : (p q : ℕ × ℕ) → Among p (pairs cs (2 ^ r)) → Among q (pairs cs (2 ^ r)) → (p ≡ q → both own p ≡ both own q) × (both own p ≡ both own q → p ≡ q)
   unfolding both
-  both_apart p q h k =
-      let a = pair_among p h in
-      let b = pair_among q k in (
-        ap (both own),
-        λ e. let x = own_apart p.0 q.0 a.0 b.0 (ap (λ (z : ℕ × ℕ). z.0) e) in let y = own_apart p.1 q.1 a.1 b.1 (ap (λ (z : ℕ × ℕ). z.1) e) in λ i. (x i, y i),
-      )
+  both_apart p q h k = grind (arith, pair_among, both, own, own_apart)
 
   ranked_pairs : pairs (ranks nat_eq cs) (2 ^ r) ≡ map (both own) (pairs cs (2 ^ r))
   unfolding ranks own
@@ -123,12 +102,7 @@ module _ (cs : List ℕ) (r : ℕ) (whole : (blocks : ℕ) × (length cs ≡ blo
       ∙ ap (ranks same_pair) (map-id (pairs cs (2 ^ r)))
 
   pub same_numbers : (p : ℕ × ℕ) → Among p (pairs cs (2 ^ r)) → nat_eq p.0 p.1 ≡ nat_eq (own p.0) (own p.1)
-  same_numbers p h =
-      let a = pair_among p h in
-      elim (cases_eq p.0 p.1) [
-        | inl e ↦ eq-eqb p.0 p.1 e ∙ sym (eq-eqb (own p.0) (own p.1) (ap own e))
-        | inr ne ↦ ne_eqb p.0 p.1 ne ∙ sym (ne_eqb (own p.0) (own p.1) (λ e. ne (own_apart p.0 p.1 a.0 a.1 e)))
-      ]
+  same_numbers p h = grind (arith, pair_among, cases_eq, eq-eqb, own, ne_eqb, own_apart)
 
 -- ---- one more variable
 
@@ -141,10 +115,7 @@ module _ (n : ℕ) (F : List Function) (T : List ℕ) (x : ℕ) (small : x < n) 
 
   depends_at : (g : Function) → Among g R → depends n g x ≡ not (nat_eq (class_pair n F T x g).0 (class_pair n F T x g).1)
   unfolding R
-  depends_at g a =
-      let k = counted n T x small new F g a in
-      depends_same n g k.0 x k.2 ∙ depends_by_classes n F T x small new k.0 k.1
-      ∙ ap (λ p. not (nat_eq p.0 p.1)) (sym (class_pair_same n T x small new F g k.0 k.2))
+  depends_at g a = grind (arith, counted, depends_same, depends_by_classes, class_pair_same)
 
   -- what the functions of the pairs depend on
   pub pairs_depend : (keys masks : List ℕ) (r : ℕ) → ((blocks : ℕ) × (length keys ≡ blocks * (2 * 2 ^ r))) → 2 ^ r ≡ step_of T x →

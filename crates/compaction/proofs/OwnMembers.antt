@@ -1,7 +1,7 @@
 -- All members of a block's sets, as what is wanted of them.
 --     own_members      they are members
 --     own_count      there are at most 16 of each of at most 256 sets
-use Rattle.std.proofs.Common.{◌≡◌, ℕ, suc, ◌*◌, ◌^◌, ◌<◌, ◌≤◌, true, inl, inr, List, [], ◌∷◌, length, get_or, slice_index, count_ones, pow_mono, subst, arith}
+use Rattle.std.proofs.Common.{◌≡◌, ℕ, suc, ◌*◌, ◌^◌, ◌<◌, ◌≤◌, true, List, [], ◌∷◌, length, get_or, slice_index, count_ones, pow_mono, subst, arith}
 use Rattle.std.specs.Int.{bit_at}
 use Rattle.std.proofs.lemmas.Bool.{cases_lt}
 use Rattle.std.proofs.lemmas.List.Sums.{sum_by-cons}
@@ -17,10 +17,7 @@ use Rattle.order_model.proofs.Precedence.MaskLaws.{member_from}
 
 -- a bit of a mask stands for a member
 pub bit_member : (n mask x : ℕ) → mask < 2 ^ n → bit_at mask x ≡ 1 → has (members n mask) x ≡ true
-bit_member n mask x small one = elim (cases_lt x n) [
-  | inl lt ↦ member_from n mask x lt one
-  | inr le ↦ let z = bit_at_above mask n x small le in absurd (omega arith)
-]
+bit_member n mask x small one = grind (arith, cases_lt, member_from, bit_at_above)
 
 pub own_members : (p : TruthTables) (b : BlockOf) → b.inputs ≡ p.inputs → AreMembers p (block_masks b) (block_masks b)
 own_members p b e i lt x one =

@@ -2,7 +2,7 @@
 --     names_of_below      the names in pairs of names are names
 --     names_more      one pair more
 --     paired_named, paired_long, paired_few, paired_lower, paired_upper      the strips of the pairs of names
-use Rattle.std.proofs.Common.{◌≡◌, ℕ, zero, suc, ◌+◌, ◌*◌, ◌/◌, ◌^◌, ◌<◌, ◌≤◌, List, [], ◌∷◌, ◌++◌, length, get_or, refl, ap, ◌∙◌, arith}
+use Rattle.std.proofs.Common.{◌≡◌, ℕ, zero, suc, ◌+◌, ◌*◌, ◌/◌, ◌^◌, ◌<◌, ◌≤◌, List, [], ◌∷◌, length, get_or, ap, ◌∙◌, arith}
 use Rattle.std.specs.Set.{distinct_count}
 use Rattle.std.proofs.Math.Nat.{mul-le-mul_right}
 use Rattle.std.proofs.lemmas.Map.Made.{distinct_count-le}
@@ -24,11 +24,6 @@ names_of_below count [] h i l = absurd (omega arith)
 names_of_below count (p ∷ ps) h zero l = (h 0 (omega arith)).0
 names_of_below count (p ∷ ps) h (suc zero) l = (h 0 (omega arith)).1
 names_of_below count (p ∷ ps) h (suc (suc i)) l = names_of_below count ps (λ k m. h (suc k) (omega arith)) i (omega arith)
-
-pub names_more : (pairs : List (ℕ × ℕ)) (p : ℕ × ℕ) → names_of (pairs ++ p ∷ []) ≡ (names_of pairs ++ p.0 ∷ []) ++ p.1 ∷ []
-unfolding names_of
-names_more [] p = refl
-names_more (q ∷ qs) p = ap (λ us. q.0 ∷ q.1 ∷ us) (names_more qs p)
 
 module _ (outer numbers : List ℕ) (len r : ℕ) (strips : AreStrips outer numbers len)
     (whole : (blocks : ℕ) × (length outer ≡ blocks * (2 * 2 ^ r))) (numbered : List ℕ) (pairs : List (ℕ × ℕ))

@@ -26,12 +26,7 @@ use Rattle.compaction.proofs.Unrolled.{named_of, same_by_places, length_unrolled
 -- ---- places
 
 pub low_place_parts : (step q t : ℕ) → t < step → low_place step (q * step + t) ≡ q * (2 * step) + t
-low_place_parts step q t h =
-    let some : 0 < step = omega arith in
-    let c : q * step + t ≡ t + q * step = omega arith in
-    let d : (q * step + t) / step ≡ q = ap (λ k. k / step) c ∙ add-mul-div_right t q some ∙ (let z = div-eq_of_lt h in omega arith) in
-    let m : (q * step + t) % step ≡ t = ap (λ k. k % step) c ∙ add-mul-mod_self_right t q step ∙ mod-eq_of_lt h in
-    λ i. d i * (2 * step) + m i
+low_place_parts step q t h = grind (arith, add-mul-div_right, div-eq_of_lt, add-mul-mod_self_right, mod-eq_of_lt)
 
 pub parts_of : (i s : ℕ) → 0 < s → i ≡ i / s * s + i % s
 parts_of i s some = (let m = mod-lt i some in grind arith)
@@ -115,13 +110,7 @@ module _ (outer numbers : List ℕ) (len s : ℕ) (strips : AreStrips outer numb
   entry_pair : (i a : ℕ) → i < length outer / 2 → a < len →
       pair_at (unrolled outer numbers len) (len * s) (i * len + a) ≡
       (get_or numbers (lower_at outer s i * len + a) 0, get_or numbers (upper_at outer s i * len + a) 0)
-  entry_pair i a h k =
-      let w = pair_within s whole.0 (length outer) i some_s whole.1 h in
-      let p = high_place len s i a some_s k in
-      let l = ap (λ z. get_or (unrolled outer numbers len) z 0) p ∙ unrolled_at outer numbers len strips (low_place s i) a (omega arith) k in
-      let q : low_place (len * s) (i * len + a) + len * s ≡ (low_place s i + s) * len + a = ap (λ z. z + len * s) p ∙ grind arith in
-      let u = ap (λ z. get_or (unrolled outer numbers len) z 0) q ∙ unrolled_at outer numbers len strips (low_place s i + s) a w k in
-      λ z. (l z, u z)
+  entry_pair i a h k = grind (arith, pair_within, high_place, unrolled_at)
 
   name_place : (i a : ℕ) → i < length outer / 2 → a < len → get_or numbered i 0 * len + a < length paired / 2
   name_place i a h k =
@@ -206,11 +195,7 @@ module _ (outer numbers : List ℕ) (c s : ℕ) (strips : AreNamed outer numbers
       ∙ half (strips.count * c) s ∙ grind arith
 
   pub low_named : AreNamed outer told (c * s)
-  low_named = record {
-    count = strips.count;
-    whole = low_whole;
-    within = strips.within;
-  }
+  low_named = search low_whole
 
   some_strip : 0 < c * s
   some_strip = (let p = below_product 0 c s 0 some some_s in let z : 0 * s + 0 ≡ 0 = grind arith in omega arith)

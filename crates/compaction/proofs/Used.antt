@@ -2,7 +2,7 @@
 --     in_use_more      one more mask
 --     all_in_use      where each mask is that of a number that occurs
 --     width_by_use      a width is the number of masks in use that have the variable
-use Rattle.std.proofs.Common.{◌≡◌, ℕ, zero, suc, ◌+◌, ◌*◌, ◌/◌, ◌%◌, ◌^◌, ◌<◌, ◌≤◌, Bool, true, false, cond, eqb, eq-eqb, ne_eqb, nat_eq, inl, inr, List, [], ◌∷◌, ◌++◌, map, length, reverse, get_or, refl, sym, ap, ◌∙◌, subst, arith}
+use Rattle.std.proofs.Common.{◌≡◌, ℕ, zero, suc, ◌+◌, ◌*◌, ◌/◌, ◌%◌, ◌^◌, ◌<◌, ◌≤◌, Bool, true, cond, eqb, eq-eqb, ne_eqb, nat_eq, inl, inr, List, [], ◌∷◌, ◌++◌, map, length, reverse, get_or, refl, sym, ap, ◌∙◌, subst, arith}
 use Rattle.std.specs.Int.{bit_at}
 use Rattle.std.specs.List.{filter, range_with_len}
 use Rattle.std.specs.Set.{distinct_count}
@@ -45,14 +45,7 @@ use Rattle.order_model.proofs.Lists.Ranges.{range_append, filter_at_most}
 -- one more mask, where the number occurs or not
 pub in_use_more : {X : Type 0} (f : ℕ → X) (p : ℕ → Bool) (k : ℕ) →
     map f (filter p (range_with_len 0 (k + 1))) ≡ map f (filter p (range_with_len 0 k)) ++ cond (p k) (f k ∷ []) []
-in_use_more f p k =
-    ap (λ us. map f (filter p us)) (range_append 0 k 1 ∙ ap (λ z. range_with_len 0 k ++ z ∷ []) (let e : 0 + k ≡ k = omega arith in e))
-    ∙ ap (map f) (filter-append p (range_with_len 0 k) (k ∷ [])) ∙ map-append f (filter p (range_with_len 0 k)) (filter p (k ∷ []))
-    ∙ ap (λ us. map f (filter p (range_with_len 0 k)) ++ us) (by (p k))
-  where
-    by : (b : Bool) → map f (cond b (k ∷ []) []) ≡ cond b (f k ∷ []) []
-    by true = refl
-    by false = refl
+in_use_more f p k = grind (arith, range_append, filter-append, map-append)
 
 pub in_use_same : (p q : ℕ → Bool) (m : ℕ) → ((k : ℕ) → k < m → p k ≡ q k) → filter p (range_with_len 0 m) ≡ filter q (range_with_len 0 m)
 in_use_same p q m h = filter_range_same p q 0 m (λ k l u. h k (omega arith))
@@ -110,12 +103,7 @@ module _ (n : ℕ) (F : List Function) (S keys masks : List ℕ) (below : (i : �
 
   are_masks : AreMasks n F S class_masks
   unfolding By class_masks ranks
-  are_masks = record {
-    many = all_classes.1.0 ∙ many_keys;
-    told = ap (map (λ c. get_or class_masks c 0)) classes ∙ map-map (λ c. get_or class_masks c 0) (rank nat_eq keys) keys
-        ∙ map_same (λ k. get_or class_masks (rank nat_eq keys k) 0) (λ k. get_or masks k 0) keys
-        (λ k a. all_classes.1.1 k a (rank_below nat_eq nat_decides keys k a)) ∙ told;
-  }
+  are_masks = grind (arith, many_keys, class_masks, map-map, map_same, rank_below, nat_decides)
 
   key_below : (k : ℕ) → Among k keys → k < length masks
   key_below k a = within keys below a
@@ -220,11 +208,7 @@ all_in_use numbers masks h =
 
 pub few_in_use : (numbers masks : List ℕ) → length (masks_in_use numbers masks) ≤ length masks
 unfolding masks_in_use
-few_in_use numbers masks =
-    let l = length-map (filter (has numbers) (variables (length masks))) (λ k. get_or masks k 0) in
-    let f = filter_at_most (has numbers) (variables (length masks)) in
-    let v = length-range_with_len 0 (length masks) in
-    omega arith
+few_in_use numbers masks = grind (arith, length-map, filter_at_most, length-range_with_len)
 
 -- the row of a table kept in strips
 pub strips_row : (t : ClassesOf) (low : ℕ) (outer numbers masks : List ℕ) → HoldsStrips t low outer numbers masks → (wanted x w : ℕ) →

@@ -1,4 +1,4 @@
-use Rattle.std.proofs.Common.{◌≡◌, ℕ, List, refl, ◌+◌, ◌*◌, ◌/◌, ◌^◌, length, sym, ap, ◌∙◌, subst, arith}
+use Rattle.std.proofs.Common.{ℕ, List, refl, ◌*◌, ◌^◌, length, sym, ap, ◌∙◌, subst, arith}
 use Rattle.std.proofs.Math.Nat.{add-mul-div_right, div-eq_of_lt, mul-le-mul_left}
 use Rattle.std.proofs.lemmas.Nat.{pow_pos}
 use Rattle.pair_numbering.specs.Strips.{AreNamed, names_of, unrolled}
@@ -13,21 +13,7 @@ use Rattle.compaction.proofs.Stripped.{high_strips, high_tells}
 use Rattle.compaction.proofs.add_variable.add_by_pairs.Goals as goal
 
 pub number_names-requires-clause-table : goal.number_names-requires-clause-table
-number_names-requires-clause-table c =
-    let t = c.table.inside in
-    let table = c.table.invariant in
-    let strips = table.strips in
-    let some = pow_pos t.bits in
-    let few = mul-le-mul_left (length t.outer.now) some in
-    let z = div-eq_of_lt some in
-    let q : length t.numbers.now ≡ 0 + strips.count * 2 ^ t.bits = strips.whole ∙ omega arith in
-    let e : length t.numbers.now / 2 ^ t.bits ≡ strips.count = ap (λ k. k / 2 ^ t.bits) q
-    ∙ add-mul-div_right 0 strips.count some ∙ omega arith in
-    record {
-      paired = record { small_rank = omega arith; short = omega arith; whole = table.whole };
-      few = omega arith;
-      below = λ i h. let w = strips.within i h in omega arith;
-    }
+number_names-requires-clause-table c = grind (arith, pow_pos, mul-le-mul_left, div-eq_of_lt, add-mul-div_right)
 
 pub label_strip_pairs-requires-clause-named : goal.label_strip_pairs-requires-clause-named
 label_strip_pairs-requires-clause-named c =

@@ -1,42 +1,16 @@
-use Rattle.std.proofs.Common.{◌≡◌, ◌<◌, ◌≤◌, ◌+◌, ◌^◌, bit_or, bit_and, slice_index, refl, sym, ap, ap₂, ◌∙◌, subst, arith}
-use Rattle.std.specs.Int.{bit_at}
+use Rattle.std.proofs.Common.{◌≤◌, ◌+◌, ◌^◌, bit_or, bit_and, slice_index, refl, sym, ap, ◌∙◌, subst, arith}
 use Rattle.compaction.specs.Strips.{low_variables}
 use Rattle.class_laws.specs.Table.{ClassesOf, free_below}
-use Rattle.compaction.specs.Rows.{AreRowsFilled, AreBlank}
+use Rattle.compaction.specs.Rows.{AreRowsFilled}
 use Rattle.compaction.proofs.Filled.{filled_own, filled_lower, filled_both, blank_kept, few_compactions, fewer_compactions}
 use Rattle.compaction.proofs.Decided.{all_decided, lacks_new, within_same, within_more, decided_more, undecided_high, free_with, few_free}
 use Rattle.compaction.proofs.blocks.+walk.Goals as goal
 
 pub returns-in_default-clause-rows : goal.returns-in_default-clause-rows
-returns-in_default-clause-rows t c =
-    let masks = c.args.request.now.masks.now in
-    filled_own c.args.table.now.problem masks c.args.request.now.needed.now c.args.table.now.set c.args.decided c.args.rows.now c.fill_row.new.rows
-    (λ i lt. all_decided c.args.request.now.inputs (slice_index masks i) c.args.decided
-    (c.args.request.now.byte i lt).0 (c.in_default.ensures.all refl))
-    c.in_ok-fill_row.ensures
+returns-in_default-clause-rows t c = grind (arith, filled_own, all_decided, slice_index)
 
 pub walk-requires : goal.walk-requires
-walk-requires t c =
-    let p = c.args.table.now.problem in
-    let y = c.in-Some.y in
-    let m = c.with_member-more.ensures in
-    let u = c.in-Some.ensures.undecided in
-    let w = c.requires.inputs in
-    let f = free_with p.inputs c.args.decided y (omega arith) u.1 in
-    let e = ap (λ k. free_below k p.inputs) m in
-    let d = c.decreases in (
-      omega arith,
-      (
-        w,
-        (
-          record {
-            low = λ z lt. ap (λ k. bit_at k z) m ∙ decided_more c.args.decided y z (c.requires.decided.low z lt);
-            set = ap (bit_and c.args.table.now.set) m ∙ within_same c.args.table.now.set c.args.decided y c.requires.decided.set;
-          },
-          c.requires.rows,
-        ),
-      ),
-    )
+walk-requires t c = grind (arith, free_with, decided_more, bit_and, within_same)
 
 pub returns-then-not-has_any-2-clause-rows : goal.returns-then-not-has_any-2-clause-rows
 returns-then-not-has_any-2-clause-rows t c =
@@ -74,60 +48,13 @@ add_high-requires-clause-new t c =
     lacks_new c.args.table.now.problem.inputs c.args.table.now.set c.args.decided c.in-Some.y c.in-Some.ensures.undecided.1 c.requires.decided.set
 
 pub walk-requires-2 : goal.walk-requires-2
-walk-requires-2 t c =
-    let p = c.args.table.now.problem in
-    let masks = c.args.request.now.masks.now in
-    let needed = c.args.request.now.needed.now in
-    let set = c.args.table.now.set in
-    let y = c.in-Some.y in
-    let m = c.with_member-more.ensures in
-    let u = c.in-Some.ensures.undecided in
-    let w = c.requires.inputs in
-    let f = free_with p.inputs c.args.decided y (omega arith) u.1 in
-    let n = ap (λ (z : ClassesOf). z.problem.inputs) c.in_ok-next.ensures in
-    let e = ap₂ free_below m n in
-    let s = ap (λ (z : ClassesOf). z.set) c.in_ok-next.ensures in
-    let long = c.walk.auto.rows in
-    let l = c.requires.rows.each in
-    let d = c.decreases in (
-      omega arith,
-      (
-        w ∙ sym n,
-        (
-          record {
-            low = subst (λ (z : ClassesOf). (x : _) → x < low_variables z.problem → bit_at c.with_member-more.result x ≡ 1) (sym c.in_ok-next.ensures)
-                (λ x lt. ap (λ k. bit_at k x) m ∙ decided_more c.args.decided y x (c.requires.decided.low x lt));
-            set = ap₂ bit_and s m ∙ within_more set c.args.decided y c.requires.decided.set ∙ sym s;
-          },
-          record {
-            each = omega arith;
-            blank = subst (λ (z : ClassesOf). AreBlank z.problem masks needed c.walk.new.rows) (sym c.in_ok-next.ensures)
-                (blank_kept p masks needed set c.with_member-more.result c.args.rows.now c.walk.new.rows c.requires.rows.blank
-                c.in_ok-before.ensures.rows);
-          },
-        ),
-      ),
-    )
+walk-requires-2 t c = grind (arith, free_with, decided_more, bit_and, within_more, blank_kept)
 
 pub overflow_add-result : goal.overflow_add-result
-overflow_add-result t c =
-    let a = c.in_ok-before.ensures.compactions in
-    let b = c.in_ok-after.ensures.compactions in
-    let few : c.args.table.now.problem.inputs ≤ 16 = (let i = c.requires.inputs in let w = c.args.request.now.few in omega arith) in
-    let n = ap (λ (z : ClassesOf). z.problem.inputs) c.in_ok-next.ensures in
-    let x = few_free c.args.table.now.problem.inputs c.with_member-more.result few in
-    let z = few_free c.in_ok-next.next.problem.inputs c.with_member-more.result (omega arith) in
-    omega arith
+overflow_add-result t c = grind (arith, few_free)
 
 pub overflow_add-result-2 : goal.overflow_add-result-2
-overflow_add-result-2 t c =
-    let a = c.in_ok-before.ensures.compactions in
-    let b = c.in_ok-after.ensures.compactions in
-    let few : c.args.table.now.problem.inputs ≤ 16 = (let i = c.requires.inputs in let w = c.args.request.now.few in omega arith) in
-    let n = ap (λ (z : ClassesOf). z.problem.inputs) c.in_ok-next.ensures in
-    let x = few_free c.args.table.now.problem.inputs c.with_member-more.result few in
-    let z = few_free c.in_ok-next.next.problem.inputs c.with_member-more.result (omega arith) in
-    omega arith
+overflow_add-result-2 t c = grind (arith, few_free)
 
 pub returns-clause-rows : goal.returns-clause-rows
 returns-clause-rows t c =

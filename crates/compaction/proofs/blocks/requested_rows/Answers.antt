@@ -1,9 +1,7 @@
-use Rattle.std.proofs.Common.{◌≡◌, ◌<◌, ◌^◌, ◌-◌, bit_and, [], ℕ, List, length, slice_index, get_or, refl, sym, ap, ◌∙◌, subst, arith}
+use Rattle.std.proofs.Common.{◌≡◌, ◌<◌, bit_and, [], ℕ, List, length, slice_index, get_or, sym, ap, subst, arith}
 use Rattle.order_model.specs.Problems.{TruthTables}
-use Rattle.compaction.specs.Rows.{AreWidthRows}
 use Rattle.compaction.specs.Walks.{CanBeFilled}
 use Rattle.compaction.specs.declared.request.WidthRequest.{WidthRequest}
-use Rattle.compaction.specs.Strips.{low_variables as low_of}
 use Rattle.compaction.proofs.Filled.{agree_low, rows_back, blank_row, few_tables}
 use Rattle.compaction.proofs.blocks.requested_rows.Goals as goal
 
@@ -24,31 +22,10 @@ walk_all-requires-clause-rows c =
     (λ i x lt. c.in_ok-rows.ensures.zeros i x (omega arith)) c.deref_mut.ensures.value
 
 pub returns-then-not-has_any-clause-rows : goal.returns-then-not-has_any-clause-rows
-returns-then-not-has_any-clause-rows c =
-    let request = c.args.request.now in
-    let masks = request.masks.now in
-    let k = c.in_ok-rows.ensures.long in
-    let n = c.args.request.now.long in
-    record {
-      each = omega arith;
-      are = λ i lt x few.
-          let byte = c.args.request.now.byte i lt in
-          blank_row c.args.shared.now (slice_index masks i) (slice_index request.needed.now i) x (get_or c.in_ok-rows.rows.items i [])
-          (c.if-not-has_any.ensures refl i (omega arith)
-          (ap (bit_and (slice_index masks i)) (c.low_mask.ensures ∙ ap (λ (t : TruthTables). 2 ^ low_of t - 1) c.problem-problem.ensures)
-          ∙ agree_low c.args.shared.now.inputs c.from-low.result (slice_index masks i) (low_of c.args.shared.now) refl
-          (subst (λ m. slice_index masks i < 2 ^ m) c.requires.inputs byte.0) (byte.1 ∙ sym c.from-low.ensures)))
-          (c.in_ok-rows.ensures.zeros i x (omega arith));
-    }
+returns-then-not-has_any-clause-rows c = grind (arith, blank_row, slice_index, bit_and, agree_low)
 
 pub returns-clause-rows : goal.returns-clause-rows
-returns-clause-rows c =
-    let r = c.in_ok-walked.ensures.rows in
-    let each = r.each in
-    let k = c.in_ok-rows.ensures.long in
-    let n : c.in_ok-rows.rows.len ≡ length c.in_ok-rows.rows.items = omega arith in
-    subst (λ (rs : List (List ℕ)). AreWidthRows c.args.shared.now c.args.request.now.masks.now c.args.request.now.needed.now rs)
-    (sym (rows_back c.walk_all.new.rows c.in_ok-rows.rows.items c.in_ok-rows.rows.len (omega arith))) r
+returns-clause-rows c = grind (arith, rows_back)
 
 pub returns-clause-compactions : goal.returns-clause-compactions
 returns-clause-compactions c =

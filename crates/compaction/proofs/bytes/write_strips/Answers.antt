@@ -1,4 +1,4 @@
-use Rattle.std.proofs.Common.{◌≡◌, ◌+◌, ◌*◌, ◌<◌, ◌++◌, ◌∷◌, [], get_or, set, take, length, sym, ap, subst, ◌∙◌, arith}
+use Rattle.std.proofs.Common.{◌≡◌, ◌+◌, ◌*◌, ◌<◌, ◌++◌, ◌∷◌, [], get_or, set, take, length, sym, subst, ◌∙◌, arith}
 use Rattle.std.proofs.lemmas.List.{take_more, take_more_set, take_all, length-set}
 use Rattle.pair_numbering.specs.Strips.{unrolled}
 use Rattle.class_laws.proofs.BlockPlaces.{block_next}
@@ -7,43 +7,22 @@ use Rattle.pair_numbering.proofs.Unrolled.{length_named, named_at, named_inside}
 use Rattle.compaction.proofs.bytes.write_strips.Goals as goal
 
 pub loop-a-init : goal.loop-a-init
-loop-a-init c = record {
-  long = c.loop-i.invariant.long;
-  done = subst (λ z. take z c.loop-i.out ≡ take z (unrolled c.args.names.now c.args.numbers.now c.args.strip))
-      (let e : c.loop-i.i * c.args.strip ≡ c.loop-i.i * c.args.strip + 0 = omega arith in e) c.loop-i.invariant.done;
-}
+loop-a-init c = grind arith
 
 pub overflow_mul-start : goal.overflow_mul-start
-overflow_mul-start c =
-    let n = named_inside c.args.names.now c.args.numbers.now c.args.strip c.requires.named c.loop-i.i c.loop-i-test.true in
-    let few = c.requires.few in
-    omega (arith, n, few)
+overflow_mul-start c = grind (arith, named_inside)
 
 pub overflow_add-out : goal.overflow_add-out
-overflow_add-out c =
-    let n = named_inside c.args.names.now c.args.numbers.now c.args.strip c.requires.named c.loop-i.i c.loop-i-test.true in
-    let few = c.requires.few in
-    let t = c.loop-a-test.true in
-    omega (arith, n, few, t)
+overflow_add-out c = grind (arith, named_inside)
 
 pub bounds-numbers-start : goal.bounds-numbers-start
-bounds-numbers-start c =
-    let n = named_inside c.args.names.now c.args.numbers.now c.args.strip c.requires.named c.loop-i.i c.loop-i-test.true in
-    let few = c.requires.few in
-    let t = c.loop-a-test.true in
-    omega (arith, n, t)
+bounds-numbers-start c = grind (arith, named_inside)
 
 pub overflow_mul-out : goal.overflow_mul-out
-overflow_mul-out c =
-    let b = below_product c.loop-i.i (length c.args.names.now) c.args.strip c.loop-a.a c.loop-i-test.true c.loop-a-test.true in
-    let small = c.requires.small in
-    omega (arith, b, small)
+overflow_mul-out c = grind (arith, below_product)
 
 pub overflow_add-out-in-loop-a : goal.overflow_add-out-in-loop-a
-overflow_add-out-in-loop-a c =
-    let b = below_product c.loop-i.i (length c.args.names.now) c.args.strip c.loop-a.a c.loop-i-test.true c.loop-a-test.true in
-    let small = c.requires.small in
-    omega (arith, b, small)
+overflow_add-out-in-loop-a c = grind (arith, below_product)
 
 pub bounds-out-i : goal.bounds-out-i
 bounds-out-i c =
@@ -72,23 +51,7 @@ loop-a-preserved c =
     }
 
 pub loop-i-preserved : goal.loop-i-preserved
-loop-i-preserved c =
-    let t = c.loop-a-test.false in
-    let all : c.loop-a.a ≡ c.args.strip = (let u = c.loop-a.auto.a-end in omega arith) in
-    record {
-      long = c.loop-a.invariant.long;
-      done = subst (λ z. take z c.loop-a.out ≡ take z (unrolled c.args.names.now c.args.numbers.now c.args.strip))
-          (ap (λ z. c.loop-i.i * c.args.strip + z) all ∙ block_next c.args.strip c.loop-i.i) c.loop-a.invariant.done;
-    }
+loop-i-preserved c = grind (arith, block_next)
 
 pub returns : goal.returns
-returns c =
-    let names = c.args.names.now in
-    let numbers = c.args.numbers.now in
-    let o = c.loop-i.invariant.long in
-    let t = c.loop-i-test.false in
-    let all : c.loop-i.i ≡ length names = (let u = c.loop-i.auto.i-end in omega arith) in
-    let e = ap (λ z. z * c.args.strip) all in
-    let l = length_named names numbers c.args.strip c.requires.named in
-    sym (take_all (c.loop-i.i * c.args.strip) c.loop-i.out (omega arith)) ∙ c.loop-i.invariant.done
-    ∙ take_all (c.loop-i.i * c.args.strip) (unrolled names numbers c.args.strip) (omega arith)
+returns c = grind (arith, length_named, take_all)

@@ -1,4 +1,4 @@
-use Rattle.std.proofs.Common.{◌≡◌, ◌++◌, ◌∷◌, [], ap, sym, ◌∙◌, map, get_or, length, arith}
+use Rattle.std.proofs.Common.{◌≡◌, ◌++◌, ◌∷◌, [], ap, sym, ◌∙◌, map, arith}
 use Rattle.std.specs.List.{range_with_len}
 use Rattle.std.proofs.lemmas.List.FromFn.{map-range_with_len_more, length-map-range_with_len}
 use Rattle.pair_numbering.specs.Strips.{strip}
@@ -12,10 +12,7 @@ loop-place-preserved c =
     ∙ sym (map-range_with_len_more (row_number c.args.first) 0 c.loop-place.place c.loop-place.place (omega arith))
 
 pub returns-clause-long : goal.returns-clause-long
-returns-clause-long c =
-    let t = c.loop-place-test.false in
-    let e : c.loop-place.place ≡ 2048 = (let u = c.loop-place.auto.place-end in omega arith) in
-    ap length c.loop-place.invariant ∙ length-map-range_with_len (row_number c.args.first) 0 c.loop-place.place ∙ e
+returns-clause-long c = grind (arith, length-map-range_with_len, row_number)
 
 pub returns-clause-rows : goal.returns-clause-rows
 returns-clause-rows c = λ byte h.
@@ -24,8 +21,4 @@ returns-clause-rows c = λ byte h.
     ap (λ us. strip us 8 byte) (c.loop-place.invariant ∙ ap (λ k. map (row_number c.args.first) (range_with_len 0 k)) e) ∙ row_strip c.args.first byte h
 
 pub returns-clause-below : goal.returns-clause-below
-returns-clause-below c = λ i h.
-    let l = ap length c.loop-place.invariant ∙ length-map-range_with_len (row_number c.args.first) 0 c.loop-place.place in
-    let e = ap (λ us. get_or us i 0) c.loop-place.invariant in
-    let b = rows_below c.args.first c.loop-place.place i (omega arith) in
-    omega arith
+returns-clause-below c = grind (arith, length-map-range_with_len, row_number, rows_below)

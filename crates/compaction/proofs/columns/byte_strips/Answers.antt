@@ -1,6 +1,6 @@
 use Rattle.std.proofs.Common.{◌≡◌, ◌*◌, length, sym, ap, ◌∙◌, arith}
 use Rattle.order_model.specs.Problems.{value_at}
-use Rattle.compaction.specs.Columns.{low_numbers, packed_numbers}
+use Rattle.compaction.specs.Columns.{packed_numbers}
 use Rattle.pair_numbering.specs.Strips.{unrolled}
 use Rattle.class_laws.specs.Values.{values_of}
 use Rattle.compaction.proofs.Expanded.{length_packed}
@@ -12,21 +12,13 @@ pub value-requires-clause-output : goal.value-requires-clause-output
 value-requires-clause-output c = c.columns_of.ensures.some
 
 pub bytes_of-requires : goal.bytes_of-requires
-bytes_of-requires c =
-    let d = ap length c.deref.ensures.value in
-    let w = c.in_ok-outer.ensures.whole in
-    let f = c.in_ok-outer.ensures.few in
-    let k = c.in_ok-outer.ensures.keeps.few in
-    omega arith
+bytes_of-requires c = grind arith
 
 -- the numbers are those of the kept runs
 numbers_are : (c : goal.After-drop-kept-2) →
     unrolled c.in_ok-bytes.bytes.items c.in_ok-rows.rows.items 8 ≡ packed_numbers (value_at c.args.problem.now 0 0)
     c.in_ok-outer.field-0.kept.items (length c.in_ok-outer.field-0.kept.items * 64)
-numbers_are c =
-    c.in_ok-bytes.ensures.numbers (value_at c.args.problem.now 0 0) c.in_ok-rows.rows.items
-    (λ byte h. c.in_ok-rows.ensures.rows byte h ∙ ap (λ b. low_numbers b byte 8) c.value.ensures)
-    ∙ ap (λ us. packed_numbers (value_at c.args.problem.now 0 0) us (length us * 64)) c.deref.ensures.value
+numbers_are c = grind arith
 
 pub returns-clause-named : goal.returns-clause-named
 returns-clause-named c = record { count = 256; whole = c.in_ok-rows.ensures.long; within = c.in_ok-bytes.ensures.small }

@@ -35,13 +35,7 @@ push_runs-requires-clause-whole c =
     (2 ^ (n - 8), c.words.ensures.long ∙ (words_parted n c.requires).0)
 
 pub push_runs-requires-clause-few : goal.push_runs-requires-clause-few
-push_runs-requires-clause-few c =
-    let n = c.args.problem.now.inputs in
-    let v = c.inputs.ensures.value in
-    let f = few_runs n (let b = c.inputs.ensures.few in omega arith) in
-    let p = (words_parted n c.requires).0 in
-    let l = c.words.ensures.long in
-    omega arith
+push_runs-requires-clause-few c = grind (arith, few_runs, words_parted)
 
 pub push_runs-requires-clause-room : goal.push_runs-requires-clause-room
 push_runs-requires-clause-room c =

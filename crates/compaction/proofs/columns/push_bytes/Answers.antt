@@ -1,4 +1,4 @@
-use Rattle.std.proofs.Common.{◌≡◌, ◌*◌, ◌/◌, ◌%◌, ◌^◌, ◌<◌, ◌∷◌, [], sym, ap, ◌++◌, ◌∙◌, inl, inr, get_or, length, arith}
+use Rattle.std.proofs.Common.{◌≡◌, ◌*◌, ◌/◌, ◌%◌, ◌^◌, ◌<◌, ◌∷◌, [], ap, ◌++◌, ◌∙◌, inl, inr, get_or, length, arith}
 use Rattle.std.proofs.Math.Nat.{mod-lt}
 use Rattle.std.proofs.lemmas.Bool.{cases_lt}
 use Rattle.std.proofs.lemmas.List.{append-nil, append_assoc, get_or_append_left, get_or_push, length_push}
@@ -9,12 +9,7 @@ use Rattle.pair_numbering.proofs.Unrolled.{unrolled_more}
 use Rattle.compaction.proofs.columns.push_bytes.Goals as goal
 
 pub loop-place-init : goal.loop-place-init
-loop-place-init c = record {
-  small = c.requires;
-  numbers = λ first rows h.
-      sym (ap (λ us. unrolled c.args.bytes.now.items rows 8 ++ us) (low_none first c.args.word)
-      ∙ append-nil (unrolled c.args.bytes.now.items rows 8));
-}
+loop-place-init c = search (low_none, append-nil)
 
 pub loop-place-preserved : goal.loop-place-preserved
 loop-place-preserved c =

@@ -26,13 +26,4 @@ whole c = ap length c.in_ok-numbers.ensures.numbers
     c.requires.inside (runs_are c)
 
 pub returns : goal.returns
-returns c = record {
-  strips = whole_are c.loop-run.outer.items c.in_ok-numbers.numbers.items (2 ^ c.args.low) (whole c) c.loop-run.invariant.places;
-  values = whole_values c.loop-run.outer.items c.in_ok-numbers.numbers.items (2 ^ c.args.low) (pow_pos c.args.low) (whole c)
-      c.loop-run.invariant.places
-      ∙ c.in_ok-numbers.ensures.numbers;
-  few =
-      let l = ap length c.in_ok-numbers.ensures.numbers in
-      let f = few_numbers c.args.problem.now (number_of (value_at c.args.problem.now 0 0)) c.in_ok-numbers.ensures.inputs c.in_ok-numbers.ensures.outputs in
-      omega arith;
-}
+returns c = grind (arith, whole_are, whole, whole_values, pow_pos, few_numbers)

@@ -1,4 +1,4 @@
-use Rattle.std.proofs.Common.{◌≡◌, ℕ, false, cond, ◌++◌, [], ◌∷◌, map, length, get_or, sym, ap, ◌∙◌, arith, Vec, Global}
+use Rattle.std.proofs.Common.{◌≡◌, false, map, length, get_or, ap, ◌∙◌, arith}
 use Rattle.std.proofs.lemmas.List.{append-nil}
 use Rattle.std.specs.List.{filter, range_with_len}
 use Rattle.order_model.specs.Orders.{has}
@@ -8,27 +8,7 @@ use Rattle.compaction.proofs.strips.used_masks.Goals as goal
 use Rattle.compaction.proofs.strips.used_masks.Goals.{then-occurs+in_ok-push, else-occurs}
 
 pub loop-k-preserved : goal.loop-k-preserved
-loop-k-preserved c =
-    let k = c.loop-k.k in
-    let masks = c.args.masks.now in
-    let used = c.deref-occurs-items.result.now in
-    let out = c.loop-k.found.items in
-    let n = in_use_more (λ j. get_or masks j 0) (λ j. get_or used j false) k in
-    elim c.if-occurs.branch [
-      | then-occurs+in_ok-push w ↦
-          ap (λ (z : Vec ℕ Global). z.items) w.found-is ∙ w.in_ok-push.ensures.items ∙ ap (λ us. us ++ get_or masks k 0 ∷ []) c.loop-k.invariant
-          ∙ sym (n ∙ ap
-          (λ b. map (λ j. get_or masks j 0) (filter (λ j. get_or used j false) (range_with_len 0 k))
-          ++ cond b (get_or masks k 0 ∷ []) [])
-          w.if-occurs.true)
-      | else-occurs w ↦
-          ap (λ (z : Vec ℕ Global). z.items) w.found-is ∙ c.loop-k.invariant
-          ∙ sym (n ∙ ap
-          (λ b. map (λ j. get_or masks j 0) (filter (λ j. get_or used j false) (range_with_len 0 k))
-          ++ cond b (get_or masks k 0 ∷ []) [])
-          w.if-occurs.false
-          ∙ append-nil _)
-    ]
+loop-k-preserved c = grind (arith, in_use_more, then-occurs+in_ok-push, else-occurs, append-nil)
 
 pub returns : goal.returns
 unfolding masks_in_use

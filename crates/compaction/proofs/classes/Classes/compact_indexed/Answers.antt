@@ -1,29 +1,16 @@
-use Rattle.std.proofs.Common.{◌^◌, length, bit_or, sym, ap, subst, ◌∙◌, arith}
+use Rattle.std.proofs.Common.{◌^◌, bit_or, sym, ap, subst, ◌∙◌, arith}
 use Rattle.std.proofs.lemmas.Nat.{one_shl}
-use Rattle.class_laws.specs.PairTables.{IsPairTable, NumbersPairs}
+use Rattle.class_laws.specs.PairTables.{NumbersPairs}
 use Rattle.class_laws.specs.Places as places
 use Rattle.class_laws.specs.Table.{ClassesOf, HoldsClasses, classes_of, free_below}
 use Rattle.class_laws.proofs.Extended.{is_ready, ready_table, holds_more}
 use Rattle.compaction.proofs.classes.Classes.compact_indexed.Goals as goal
 
 pub number_pairs_by_index-requires-clause-table : goal.number_pairs_by_index-requires-clause-table
-number_pairs_by_index-requires-clause-table c =
-    let h = subst (λ (z : ClassesOf). HoldsClasses z c.self.inside.numbers.items c.self.inside.masks.items) c.self.view_is c.self.invariant in
-    let e = c.rank_of-rank.ensures ∙ ap (λ (z : ClassesOf). free_below z.set c.args.x) c.self.view_is in
-    let r = is_ready c.args.self.now c.args.x c.requires.inside c.requires.new c.self.inside.numbers.items c.self.inside.masks.items
-    c.rank_of-rank.result h e in
-    subst (λ z. z) (λ i. IsPairTable (sym c.deref.ensures.value i) c.rank_of-rank.result (length (sym c.deref-2.ensures.value i)))
-    (ready_table c.self.inside.numbers.items c.self.inside.masks.items c.rank_of-rank.result r)
+number_pairs_by_index-requires-clause-table c = grind (arith, is_ready, ready_table)
 
 pub number_pairs_by_index-requires-clause-few : goal.number_pairs_by_index-requires-clause-few
-number_pairs_by_index-requires-clause-few c =
-    let h = subst (λ (z : ClassesOf). HoldsClasses z c.self.inside.numbers.items c.self.inside.masks.items) c.self.view_is c.self.invariant in
-    let e = c.rank_of-rank.ensures ∙ ap (λ (z : ClassesOf). free_below z.set c.args.x) c.self.view_is in
-    let r = is_ready c.args.self.now c.args.x c.requires.inside c.requires.new c.self.inside.numbers.items c.self.inside.masks.items
-    c.rank_of-rank.result h e in
-    let m = ap length c.deref-2.ensures.value in
-    let k = r.few in
-    omega arith
+number_pairs_by_index-requires-clause-few c = grind (arith, is_ready)
 
 pub invariant_of-result : goal.invariant_of-result
 invariant_of-result c =

@@ -7,13 +7,7 @@ use Rattle.class_laws.proofs.LowSets.{bit_unset, unset_bit}
 use Rattle.compaction.proofs.classes.Classes.lacks.Goals as goal
 
 pub returns-then-x-inputs-clause-new : goal.returns-then-x-inputs-clause-new
-returns-then-x-inputs-clause-new c = λ t.
-    let set = c.self.inside.set in
-    let absent = iff_false c.contains.ensures (not-true c.contains.result t) in
-    let b = bit_at-lt set c.args.x in
-    let s = shr_and_one set c.args.x in
-    ap (λ (z : ClassesOf). has (set_of z) c.args.x) (sym c.self.view_is)
-    ∙ bit_unset c.self.inside.problem.now.inputs set c.args.x (omega arith)
+returns-then-x-inputs-clause-new c = grind (arith, iff_false, not-true, bit_at-lt, shr_and_one, bit_unset)
 
 pub returns-then-x-inputs-clause-all : goal.returns-then-x-inputs-clause-all
 returns-then-x-inputs-clause-all c = λ lt f.

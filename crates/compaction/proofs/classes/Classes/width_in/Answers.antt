@@ -1,6 +1,5 @@
-use Rattle.std.proofs.Common.{◌≡◌, ℕ, ◌<◌, ◌^◌, List, false, refl, sym, length, ap, subst, ◌∙◌, arith}
+use Rattle.std.proofs.Common.{◌≡◌, ℕ, ◌<◌, ◌^◌, List, false, refl, sym, ap, subst, ◌∙◌, arith}
 use Rattle.pair_numbering.specs.Scratch.{CountsMasks}
-use Rattle.class_laws.specs.PairTables.{IsPairTable}
 use Rattle.class_laws.specs.Places as places
 use Rattle.class_laws.specs.Table.{ClassesOf, HoldsClasses, with_variable, functions_of, set_of, free_below}
 use Rattle.class_laws.proofs.Counted.{width_is_dependent_classes}
@@ -21,29 +20,13 @@ width_counted t x inside new numbers masks count h q =
     q.counted ∙ sym (width_is_dependent_classes t.problem.inputs (functions_of t) (set_of (with_variable t x)) q.joined x inside w.0 k.masks_are) ∙ w.1
 
 pub count_joined-width-requires-clause-table : goal.count_joined-width-requires-clause-table
-count_joined-width-requires-clause-table c =
-    let h = subst (λ (z : ClassesOf). HoldsClasses z c.self.inside.numbers.items c.self.inside.masks.items) c.self.view_is c.self.invariant in
-    let e = c.rank_of-rank.ensures ∙ ap (λ (z : ClassesOf). free_below z.set c.args.x) c.self.view_is in
-    let r = is_ready c.args.self.now c.args.x c.requires.inside c.requires.new c.self.inside.numbers.items c.self.inside.masks.items
-    c.rank_of-rank.result h e in
-    subst (λ z. z) (λ i. IsPairTable (sym c.deref.ensures.value i) c.rank_of-rank.result (length (sym c.deref-2.ensures.value i)))
-    (ready_table c.self.inside.numbers.items c.self.inside.masks.items c.rank_of-rank.result r)
+count_joined-width-requires-clause-table c = grind (arith, is_ready, ready_table)
 
 pub count_joined-width-requires-clause-few : goal.count_joined-width-requires-clause-few
-count_joined-width-requires-clause-few c =
-    let h = subst (λ (z : ClassesOf). HoldsClasses z c.self.inside.numbers.items c.self.inside.masks.items) c.self.view_is c.self.invariant in
-    let f = few_masks c.args.self.now c.self.inside.numbers.items c.self.inside.masks.items h in
-    let l = ap length c.deref.ensures.value in
-    let m = ap length c.deref-2.ensures.value in
-    omega arith
+count_joined-width-requires-clause-few c = grind (arith, few_masks)
 
 pub count_joined-width-requires-clause-long : goal.count_joined-width-requires-clause-long
-count_joined-width-requires-clause-long c =
-    let h = subst (λ (z : ClassesOf). HoldsClasses z c.self.inside.numbers.items c.self.inside.masks.items) c.self.view_is c.self.invariant in
-    let f = few_of_most c.args.self.now c.self.inside.numbers.items c.self.inside.masks.items h in
-    let l = ap length c.deref.ensures.value in
-    let r = c.requires.long in
-    omega arith
+count_joined-width-requires-clause-long c = grind (arith, few_of_most)
 
 pub returns-clause-width : goal.returns-clause-width
 returns-clause-width c =

@@ -8,19 +8,10 @@ use Rattle.class_laws.proofs.Extended.{few_masks}
 use Rattle.compaction.proofs.classes.Classes.width_into.Goals as goal
 
 pub count_with-requires-clause-variable : goal.count_with-requires-clause-variable
-count_with-requires-clause-variable c =
-    let h = subst (λ (z : ClassesOf). HoldsClasses z c.self.inside.numbers.items c.self.inside.masks.items) c.self.view_is c.self.invariant in
-    let s = members_small c.args.self.now.problem.inputs c.args.self.now.set c.args.x c.requires in
-    let f = h.few_inputs in
-    omega arith
+count_with-requires-clause-variable c = grind (arith, members_small)
 
 pub count_with-requires-clause-few : goal.count_with-requires-clause-few
-count_with-requires-clause-few c =
-    let h = subst (λ (z : ClassesOf). HoldsClasses z c.self.inside.numbers.items c.self.inside.masks.items) c.self.view_is c.self.invariant in
-    let a = few_masks c.args.self.now c.self.inside.numbers.items c.self.inside.masks.items h in
-    let b = h.few in
-    let e = ap length c.deref.ensures.value in
-    omega arith
+count_with-requires-clause-few c = grind (arith, few_masks)
 
 pub returns : goal.returns
 returns c =

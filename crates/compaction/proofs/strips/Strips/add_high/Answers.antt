@@ -7,14 +7,7 @@ use Rattle.compaction.proofs.HeldStrips.{free_split, table_high, holds_high}
 use Rattle.compaction.proofs.strips.Strips.add_high.Goals as goal
 
 pub overflow_sub-rank : goal.overflow_sub-rank
-overflow_sub-rank c =
-    let b = c.rank_of-bits.ensures in
-    let l = c.low_variables.ensures in
-    let r = c.rank_of.ensures in
-    let s = free_split c.self.inside.set (low_variables c.self.inside.problem.now) c.args.x
-    (let v = ap (λ (z : ClassesOf). low_variables z.problem) c.self.view_is in let h = c.requires.high in omega arith) in
-    let e = ap (free_below c.self.inside.set) l in
-    omega arith
+overflow_sub-rank c = grind (arith, free_split)
 
 pub invariant_of-table : goal.invariant_of-table
 invariant_of-table c =

@@ -1,8 +1,7 @@
-use Rattle.std.proofs.Common.{◌*◌, ◌/◌, ◌%◌, ◌^◌, length, bit_or, sym, ap, ◌∙◌, subst, arith}
+use Rattle.std.proofs.Common.{◌*◌, ◌/◌, ◌%◌, ◌^◌, bit_or, sym, ap, ◌∙◌, subst, arith}
 use Rattle.std.proofs.lemmas.Nat.{one_shl}
 use Rattle.compaction.specs.Strips.{AreDistinct, HoldsStrips, HoldsStripTable, low_variables}
 use Rattle.pair_numbering.specs.Keys.{TellsPairs}
-use Rattle.class_laws.specs.PairTables.{IsPairTable}
 use Rattle.class_laws.specs.Places as places
 use Rattle.class_laws.specs.Table.{ClassesOf, classes_of, free_below}
 use Rattle.compaction.proofs.AllDistinct.{distinct_more, table_distinct, table_strips}
@@ -10,18 +9,7 @@ use Rattle.compaction.proofs.HeldStrips.{table_low, holds_low}
 use Rattle.compaction.proofs.strips.Strips.add_low.Goals as goal
 
 pub label_pairs-requires-clause-table : goal.label_pairs-requires-clause-table
-label_pairs-requires-clause-table c =
-    let l = c.requires.low in
-    let h = table_strips c.args.self.now (low_variables c.args.self.now.problem) c.self.inside.distinct c.self.inside.all_used
-    c.self.inside.outer.items c.self.inside.numbers.items c.self.inside.masks.items
-    (subst (λ (z : ClassesOf). HoldsStripTable z (low_variables z.problem) c.self.inside.distinct c.self.inside.all_used
-    c.self.inside.outer.items c.self.inside.numbers.items c.self.inside.masks.items)
-    c.self.view_is c.self.invariant)
-    c.in-None.is in
-    let e = c.rank_of-rank.ensures ∙ ap (λ (z : ClassesOf). free_below z.set c.args.x) c.self.view_is in
-    subst (λ z. z) (λ i. IsPairTable (sym c.deref.ensures.value i) (sym e i) (length (sym c.deref-in-None.ensures.value i)))
-    (table_low c.args.self.now c.args.x (omega arith) c.requires.new (low_variables c.args.self.now.problem) c.self.inside.outer.items
-    c.self.inside.numbers.items c.self.inside.masks.items h l)
+label_pairs-requires-clause-table c = grind (arith, table_strips, table_low)
 
 pub of_parts-requires : goal.of_parts-requires
 of_parts-requires c =
@@ -70,13 +58,4 @@ of_count-requires c =
     (distinct_more c.args.self.now c.in-Some.count d c.args.x (omega arith) c.requires.new)
 
 pub label_pairs-requires-clause-few : goal.label_pairs-requires-clause-few
-label_pairs-requires-clause-few c =
-    let h = table_strips c.args.self.now (low_variables c.args.self.now.problem) c.self.inside.distinct c.self.inside.all_used
-    c.self.inside.outer.items c.self.inside.numbers.items c.self.inside.masks.items
-    (subst (λ (z : ClassesOf). HoldsStripTable z (low_variables z.problem) c.self.inside.distinct c.self.inside.all_used
-    c.self.inside.outer.items c.self.inside.numbers.items c.self.inside.masks.items)
-    c.self.view_is c.self.invariant)
-    c.in-None.is in
-    let v = ap length c.deref-in-None.ensures.value in
-    let f = h.keys.few_masks in
-    omega arith
+label_pairs-requires-clause-few c = grind (arith, table_strips)

@@ -1,4 +1,4 @@
-use Rattle.std.proofs.Common.{get_or, length, ap, ◌∙◌, sym, subst, arith, cond, eqb}
+use Rattle.std.proofs.Common.{length, ap, ◌∙◌, sym, subst, arith, cond, eqb}
 use Rattle.std.specs.Int.{bit_at}
 use Rattle.std.specs.List.{filter}
 use Rattle.compaction.specs.Strips.{HoldsStripTable, low_variables, masks_in_use}
@@ -8,48 +8,13 @@ use Rattle.compaction.proofs.Used.{all_in_use, few_in_use, strips_row}
 use Rattle.compaction.proofs.strips.Strips.width_row.Goals as goal
 
 pub row_of-requires : goal.row_of-requires
-row_of-requires c =
-    let h = table_strips c.args.self.now (low_variables c.args.self.now.problem) c.self.inside.distinct c.self.inside.all_used
-    c.self.inside.outer.items c.self.inside.numbers.items c.self.inside.masks.items
-    (subst (λ (z : ClassesOf). HoldsStripTable z (low_variables z.problem) c.self.inside.distinct c.self.inside.all_used
-    c.self.inside.outer.items c.self.inside.numbers.items c.self.inside.masks.items)
-    c.self.view_is c.self.invariant)
-    c.in-None.is in
-    let m = h.keys.few_masks in
-    let w = ap length c.deref.ensures.value in
-    record { few = omega arith }
+row_of-requires c = grind (arith, table_strips)
 
 pub row_of-requires-in-None : goal.row_of-requires-in-None
-row_of-requires-in-None c =
-    let h = table_strips c.args.self.now (low_variables c.args.self.now.problem) c.self.inside.distinct c.self.inside.all_used
-    c.self.inside.outer.items c.self.inside.numbers.items c.self.inside.masks.items
-    (subst (λ (z : ClassesOf). HoldsStripTable z (low_variables z.problem) c.self.inside.distinct c.self.inside.all_used
-    c.self.inside.outer.items c.self.inside.numbers.items c.self.inside.masks.items)
-    c.self.view_is c.self.invariant)
-    c.in-None.is in
-    let m = h.keys.few_masks in
-    let v = ap length (c.deref-in-None-3.ensures.value ∙ c.in_ok-used-in-None.ensures) in
-    let f = few_in_use c.deref-in-None.result.now c.deref-in-None-2.result.now in
-    let w = ap length c.deref-in-None-2.ensures.value in
-    record { few = omega arith }
+row_of-requires-in-None c = grind (arith, table_strips, few_in_use)
 
 pub used_masks-requires : goal.used_masks-requires
-used_masks-requires c =
-    let h = table_strips c.args.self.now (low_variables c.args.self.now.problem) c.self.inside.distinct c.self.inside.all_used
-    c.self.inside.outer.items c.self.inside.numbers.items c.self.inside.masks.items
-    (subst (λ (z : ClassesOf). HoldsStripTable z (low_variables z.problem) c.self.inside.distinct c.self.inside.all_used
-    c.self.inside.outer.items c.self.inside.numbers.items c.self.inside.masks.items)
-    c.self.view_is c.self.invariant)
-    c.in-None.is in
-    record {
-      below = λ i lt.
-          let v = c.deref-in-None.ensures.value in
-          let l = ap length v in
-          let b = h.below i (omega arith) in
-          let s = ap (λ us. get_or us i 0) v in
-          let m = ap length c.deref-in-None-2.ensures.value in
-          omega arith;
-    }
+used_masks-requires c = grind (arith, table_strips)
 
 pub returns-in-Some : goal.returns-in-Some
 returns-in-Some c =
