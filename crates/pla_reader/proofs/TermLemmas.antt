@@ -43,7 +43,8 @@ within_care value care i e =
 pub within_both : (value care i : ℕ) → bit_and value care ≡ value → bit_and (with_bit value i) (with_bit care i) ≡ with_bit value i
 within_both value care i e =
     same_from_bits _ _
-    (λ k. let first = bits_of_both care i k in let second = bits_of_both value i k in bit_at_and (with_bit value i) (with_bit care i) k ∙ rw first (rw second (omega (arith, within_bits value care e k))))
+    (λ k. let first = bits_of_both care i k in let second = bits_of_both value i k in
+    bit_at_and (with_bit value i) (with_bit care i) k ∙ rw first (rw second (omega (arith, within_bits value care e k))))
 
 pub reads_zero : (old : Masks) (i c : ℕ) → i < 16 → bit_at old.value i ≡ 0 → c ≡ 48 →
     ReadsInput old i c (record { care = with_bit old.care i; value = old.value; outs = old.outs })

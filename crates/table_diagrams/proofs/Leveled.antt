@@ -102,7 +102,8 @@ module _ (n : ℕ) (fs : List Function) (order : List ℕ) (level x : ℕ) (o : 
   -- the refs below
   below_before : (k : ℕ) → k < length below → IsBefore (length old) (ref_named (get_or below k 0))
   below_before k h =
-      subst (IsBefore (length old)) (get_or-map ref_named below k 0 (Terminal false) h) (rest.represents.diagram.roots k (Terminal false) (omega (arith, length-map below ref_named)))
+      subst (IsBefore (length old)) (get_or-map ref_named below k 0 (Terminal false) h)
+      (rest.represents.diagram.roots k (Terminal false) (omega (arith, length-map below ref_named)))
 
   below_value : (k : ℕ) → k < length below → SameFunction n (value old (ref_named (get_or below k 0))) (function_at (restricted x fs) k)
   unfolding IsOf

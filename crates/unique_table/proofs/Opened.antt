@@ -45,7 +45,8 @@ module _ (t : store.Inside) (s : session.Inside) (T : StoreId) (K : Knowledge) (
   -- a known id fits 20 bits
   pub small_id : (id : ℕ) → Knows K id → id < 2 ^ 20
   small_id id known =
-      let size = ks.good.size in let places = ap (λ (b : Plan). b.places) plan_is in let inside = known_small s.seat.me.0.seen s.seat.me.0.plan.places id size (subst (λ (z : Knowledge). Knows z id) (sym is_s) known) in omega arith
+      let places = ap (λ (b : Plan). b.places) plan_is in
+      omega (arith, known_small s.seat.me.0.seen s.seat.me.0.plan.places id ks.good.size (subst (λ (z : Knowledge). Knows z id) (sym is_s) known))
 
   pub few_levels : levels_of T.plan ≤ 16
   few_levels = subst (λ (z : StoreId). levels_of z.plan ≤ 16) is_t kt.plan.order.few

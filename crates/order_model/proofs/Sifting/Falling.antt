@@ -67,7 +67,11 @@ module _ (count : ℕ → ℕ) where
   all_has : (xs ys : List ℕ) (z : ℕ) → (has xs z ≡ true) ⊎ (has ys z ≡ true) → has (fold (λ zs x. insert_by_count count x zs) ys xs) z ≡ true
   all_has [] ys z h = elim h [ inl m ↦ absurd (false≢true m) | inr m ↦ m ]
   all_has (x ∷ xs) ys z h =
-      grind (arith, all_has xs (insert_by_count count x ys) z (elim h [ inl m ↦ elim (or_cases (nat_eq z x) (has xs z) m) [ inl e ↦ inr (insert_has x ys z (inl (eqb-true z x e))) | inr k ↦ inl k ] | inr m ↦ inr (insert_has x ys z (inr m)) ]))
+      all_has xs (insert_by_count count x ys) z
+      (elim h [
+        | inl m ↦ elim (or_cases (nat_eq z x) (has xs z) m) [ inl e ↦ inr (insert_has x ys z (inl (eqb-true z x e))) | inr k ↦ inl k ]
+        | inr m ↦ inr (insert_has x ys z (inr m))
+      ])
 
   sorted_distinct : (xs : List ℕ) → IsSorted xs → IsDistinct nat_eq xs
   unfolding IsSorted IsDistinct

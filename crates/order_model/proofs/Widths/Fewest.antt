@@ -96,7 +96,13 @@ has_fewest_lem n F P order = (
         is_order = h.is_order;
         kept = h.kept;
         least_cost =
-            omega (arith, fewest_unique n F P (length d.nodes) (least n F P (variables n)) h.fewest.2 (fewest_is_least n F P order h.is_order h.kept), size_bound n F order d h.is_order h.fewest.1, size_is_cost n F order h.is_order, least_all n F P order h.is_order h.kept order h.is_order h.kept);
+            omega (
+              arith,
+              fewest_unique n F P (length d.nodes) (least n F P (variables n)) h.fewest.2 (fewest_is_least n F P order h.is_order h.kept),
+              size_bound n F order d h.is_order h.fewest.1,
+              size_is_cost n F order h.is_order,
+              least_all n F P order h.is_order h.kept order h.is_order h.kept,
+            );
       },
   λ h.
       let exact = exact_diagram n F order h.is_order in

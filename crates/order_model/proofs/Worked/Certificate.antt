@@ -51,7 +51,7 @@ edges_of : (c : Cell) →
     (IsFalse (has (members 3 c.mask) 2) → AreBothLawful 3 [] c.mask 2 →
     set_value 3 F certificate (c.mask + 2 ^ 2) ≤ set_value 3 F certificate c.mask + width 3 F (members 3 c.mask) 2)
     → Edges c
-edges_of a0 a1 a2 a3 a4 a5 a6 = grind arith
+edges_of c e f g x lt out = grind arith
 
 good : IsGood 3 F certificate
 unfolding points restrict table depends subfunctions reach dependents level_count level_counts outside width members set_value reserve keeps

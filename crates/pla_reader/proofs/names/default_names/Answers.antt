@@ -11,4 +11,6 @@ loop-i-init c = search rules
 
 pub loop-i-preserved : goal.loop-i-preserved
 loop-i-preserved c =
-    rw c.in_ok-push.ensures.items ((map-append string_bytes c.loop-i.names.items (c.in_ok-format.field-0 ∷ [])) ∙ cc (numbered_next c.args.front.now c.loop-i.i-counter, c.in_ok-format.ensures.ok))
+    rw c.in_ok-push.ensures.items
+    (map-append string_bytes c.loop-i.names.items (c.in_ok-format.field-0 ∷ [])
+    ∙ cc (numbered_next c.args.front.now c.loop-i.i-counter, c.in_ok-format.ensures.ok))
