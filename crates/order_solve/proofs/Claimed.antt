@@ -3,15 +3,13 @@
 --     ClaimsBlock s s' p b      the seat claimed the block at a place
 --     claim_gains      the widths of the sets that it gained
 --     open_marks, fewer_open      how many blocks are not claimed
-use Rattle.std.proofs.Common.{◌≡◌, ◌≢◌, ℕ, zero, suc, ◌+◌, ◌*◌, ◌^◌, ◌<◌, ◌≤◌, inl, inr, Bool, true, false, not, cond, ◌&&◌, List, [], ◌∷◌, set, get_or, length, slice_get, Some, refl, sym, ap, ap₂, ◌∙◌, subst, arith, nat_eq, eqb-true, eq-eqb, eqb, get_or-set_other}
+use Rattle.std.proofs.Common.{◌≡◌, ◌≢◌, ℕ, zero, suc, ◌+◌, ◌*◌, ◌^◌, ◌<◌, ◌≤◌, Bool, true, false, not, cond, ◌&&◌, List, [], ◌∷◌, set, get_or, length, slice_get, Some, refl, sym, ap, ap₂, ◌∙◌, subst, arith, nat_eq, eqb-true, eq-eqb, get_or-set_other}
 use Rattle.std.specs.List.{filter, list_any, sum_by, IsDistinct, range_with_len}
 use Rattle.std.proofs.lemmas.Bool.{false≢true, true≢false, cases_Bool, and_from, and_left, or_right, false_from_ne_true}
 use Rattle.std.proofs.lemmas.List.Sums.{sum_by-cons, sum-map}
 use Rattle.std.proofs.lemmas.Option.{slice_get_within, slice_get-get_or, same_Some}
-use Rattle.order_model.specs.Orders.{has, members, variables, place_in}
-use Rattle.std.specs.Int.{bit_at}
+use Rattle.order_model.specs.Orders.{has, members, place_in}
 use Rattle.std.proofs.lemmas.List.FromFn.{length-range_with_len}
-use Rattle.order_model.specs.Problems.{functions}
 use Rattle.order_model.proofs.Lists.Orders.{place_get, place_at, has_at, place_small}
 use Rattle.order_model.proofs.Widths.Recurrence.{distinct_filter, distinct_variables}
 use Rattle.subset_layers.specs.Layers.{LayerOf, BlockOf, layer_of, block_of, masks_of, block_masks, blocks_of, low_bytes, low_byte, block_place}
@@ -39,10 +37,7 @@ claims_mask s mask m =
 
 -- only masks of the layer are claimed
 pub claimed_has : (s : SeatOf) (mask : ℕ) → has_claimed s mask ≡ true → has (masks_of s.board.brief.layer) mask ≡ true
-claimed_has s mask e = elim (cases_Bool (has (masks_of s.board.brief.layer) mask)) [
-  | inl m ↦ m
-  | inr n ↦ absurd (false≢true (sym (ap (claims_place s.board.brief.layer s.worker) (place_missing s.board.brief.layer mask n)) ∙ e))
-]
+claimed_has s mask e = grind (arith, cases_Bool, false≢true, place_missing)
 
 -- the block at a place has the low byte there
 block_is : (l : LayerOf) (p : ℕ) (b : BlockOf) → slice_get (blocks_of l) p ≡ Some b →
@@ -65,13 +60,7 @@ distinct_lows l = distinct_filter (λ low. list_any (λ mask. nat_eq (low_byte m
 pub in_place : (l : LayerOf) (p : ℕ) (b : BlockOf) (mask : ℕ) → slice_get (blocks_of l) p ≡ Some b → has (masks_of l) mask ≡ true →
     (low_byte mask ≡ b.low → place_in (low_bytes l) (low_byte mask) ≡ p)
     × (place_in (low_bytes l) (low_byte mask) ≡ p → low_byte mask ≡ b.low)
-in_place l p b mask is m =
-    let k = block_is l p b is in
-    let low : b.low ≡ get_or (low_bytes l) p 0 = ap (λ (z : BlockOf). z.low) k.1 in
-    let there = place_small (low_bytes l) (low_byte mask) (low_bytes_has l.inputs l.size mask m) in (
-      λ e. ap (place_in (low_bytes l)) (e ∙ low) ∙ place_get (low_bytes l) p (distinct_lows l) k.0,
-      λ e. sym (place_at (low_bytes l) (low_byte mask) there) ∙ ap (λ q. get_or (low_bytes l) q 0) e ∙ sym low,
-    )
+in_place l p b mask is m = grind (arith, block_is, place_small, low_bytes_has, place_get, distinct_lows, place_at)
 
 -- ---- sums over filters
 
@@ -122,33 +111,18 @@ module _ (s s' : SeatOf) (p : ℕ) (b : BlockOf) (h : ClaimsBlock s s' p b) wher
   others q ne = ap (λ (z : SeatOf). claimed z.worker q) h.is ∙ get_or-set_other s.worker.claims p q true false ne
 
   same_masks : (mask : ℕ) → has (masks_of L) mask ≡ true → has_claimed s' mask ≡ claimed s'.worker (place_in (low_bytes L) (low_byte mask))
-  same_masks mask m = claims_mask s' mask (subst (λ (l : LayerOf). has (masks_of l) mask ≡ true) (sym same_layer) m)
-      ∙ ap (λ (l : LayerOf). claimed s'.worker (place_in (low_bytes l) (low_byte mask))) same_layer
-    where
-      same_layer : s'.board.brief.layer ≡ L
-      same_layer = ap (λ (z : SeatOf). z.board.brief.layer) h.is
+  same_masks mask m = grind (arith, claims_mask, L)
 
   -- the masks of the block
   pub gained_now : (mask : ℕ) → has (masks_of L) mask ≡ true → nat_eq (low_byte mask) b.low ≡ true → (has_claimed s' mask ≡ true) × (has_claimed s mask ≡ false)
-  gained_now mask m e =
-      let at = (in_place L p b mask h.block m).0 (eqb-true (low_byte mask) b.low e) in (
-        same_masks mask m ∙ ap (claimed s'.worker) at ∙ h.there,
-        claims_mask s mask m ∙ ap (claimed s.worker) at ∙ was_open,
-      )
+  gained_now mask m e = grind (arith, in_place, L, eqb-true, same_masks, claims_mask, was_open)
 
   -- the others
   pub as_before : (mask : ℕ) → has (masks_of L) mask ≡ true → nat_eq (low_byte mask) b.low ≡ false → has_claimed s' mask ≡ has_claimed s mask
-  as_before mask m e =
-      same_masks mask m
-      ∙ others (place_in (low_bytes L) (low_byte mask))
-      (λ at. true≢false (sym (eq-eqb (low_byte mask) b.low ((in_place L p b mask h.block m).1 at)) ∙ e))
-      ∙ sym (claims_mask s mask m)
+  as_before mask m e = grind (arith, same_masks, others, L, true≢false, eq-eqb, in_place, claims_mask)
 
   pub kept : (mask : ℕ) → has (masks_of L) mask ≡ true → has_claimed s mask ≡ true → has_claimed s' mask ≡ true
-  kept mask m e = elim (cases_Bool (nat_eq (low_byte mask) b.low)) [
-    | inl y ↦ (gained_now mask m y).0
-    | inr n ↦ as_before mask m n ∙ e
-  ]
+  kept mask m e = grind (arith, cases_Bool, gained_now, as_before)
 
   -- the widths of the sets that are gained
   pub claim_gains : (t : Setting) (s0 : SeatOf) → s.board ≡ s0.board →
@@ -186,30 +160,16 @@ module _ (s s' : SeatOf) (p : ℕ) (b : BlockOf) (h : ClaimsBlock s s' p b) wher
 
 pub few_each : (t : Setting) (mask : ℕ) → t.problem.inputs ≤ 16 → width_count t mask ≤ 16
 unfolding members
-few_each t mask few =
-    let n = t.problem.inputs in
-    let a = wanted_few n (functions t.problem) t.pairs.pairs t.reserve t.bound mask in
-    let c = filter_at_most (λ x. eqb (bit_at mask x) 1) (variables n) in
-    let d = length-range_with_len 0 n in
-    omega (arith, a, c, d, few)
+few_each t mask few = grind (arith, wanted_few, filter_at_most, length-range_with_len)
 
 pub sum_few : (f : ℕ → ℕ) (p : ℕ → Bool) (xs : List ℕ) → ((x : ℕ) → f x ≤ 16) → sum_by f (filter p xs) ≤ 16 * length xs
 sum_few f p [] h = omega arith
-sum_few f p (x ∷ xs) h = by (p x) (sum_few f p xs h)
-  where
-    by : (b : Bool) → sum_by f (filter p xs) ≤ 16 * length xs → sum_by f (cond b (x ∷ filter p xs) (filter p xs)) ≤ 16 * length (x ∷ xs)
-    by true k = let e = sum_by-cons f x (filter p xs) in let l = h x in omega arith
-    by false k = omega arith
+sum_few f p (x ∷ xs) h = grind (arith, sum_by-cons, sum_few f p xs h)
 
 pub few_gained : (t : Setting) (s s' : SeatOf) (n : ℕ) → t.problem.inputs ≤ 16 → s.board.brief.layer.inputs ≡ n → n ≤ 16 →
     widths_for t (gained s s') ≤ 16 * 2 ^ 16
 unfolding gained widths_for
-few_gained t s s' n few is less =
-    let M = masks_of s.board.brief.layer in
-    let e = sum-map (width_count t) (filter (gains s s') M) in
-    let k = sum_few (width_count t) (gains s s') M (λ x. few_each t x few) in
-    let m = few_masks_in s.board.brief.layer n is less in
-    omega (arith, e, k, m)
+few_gained t s s' n few is less = grind (arith, sum-map, sum_few, few_each, few_masks_in)
 
 -- ---- blocks that are not claimed
 

@@ -16,12 +16,7 @@ use Rattle.order_solve.specs.declared.solution.Optimum.{Optimum}
 
 -- what is best among orders that keep more pairs is so among those that keep what is asked for
 pub optimum_harmless : (t : TruthTables) (P Q : List Pair) (o : Optimum) → IsHarmless t.inputs (functions t) P Q → IsOptimumFor t Q o → IsOptimumFor t P o
-optimum_harmless t P Q o h best = record {
-  first = first_harmless t.inputs (functions t) P Q o.order h best.first;
-  fewest = fewest_harmless t.inputs (functions t) P Q o.total h best.fewest;
-  size = best.size;
-  levels_are = best.levels_are;
-}
+optimum_harmless t P Q o h best = search (first_harmless, fewest_harmless)
 
 -- the size of a sifted order is one that an order of more pairs has, if these are harmless
 pub sifted_bounds : (t : Setting) (s : SiftedOrder) → IsSiftedOrder s → s.problem ≡ t.problem →

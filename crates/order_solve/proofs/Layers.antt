@@ -6,7 +6,7 @@ use Rattle.std.proofs.lemmas.Bool.{cases_eq, cases_lt}
 use Rattle.std.proofs.lemmas.List.FromFn.{length-range_with_len}
 use Rattle.std.proofs.lemmas.List.{get_or_append_left, get_or_push}
 use Rattle.std.proofs.lemmas.Option.{slice_get_within, slice_get-get_or, get_or_from_slice_get}
-use Rattle.order_model.specs.Functions.{Function, from_table}
+use Rattle.order_model.specs.Functions.{Function}
 use Rattle.std.specs.Int.{bit_at}
 use Rattle.std.proofs.lemmas.Nat.{zero_from_ones}
 use Rattle.order_model.specs.Orders.{has, members, variables}
@@ -65,10 +65,7 @@ ones_le n mask lt =
     omega (arith, e, l, k)
 
 pub ones_some : (mask : ℕ) → 0 < mask → 0 < count_ones mask
-ones_some mask lt = elim (cases_eq (count_ones mask) 0) [
-  | inl e ↦ absurd (let z = zero_from_ones mask e in omega (arith, z, lt))
-  | inr ne ↦ omega (arith, ne)
-]
+ones_some mask lt = grind (arith, cases_eq, count_ones, zero_from_ones)
 
 -- what a found cell is
 from_some : {X : Type 0} (P : X → Type 0) (o : Option X) (x : X) → IfSome o P → o ≡ Some x → P x
@@ -87,16 +84,7 @@ cell_found t k mask c o cell h exact e =
 -- the layer before that of a set
 pub next_there : (t : Setting) (mask : ℕ) (c : CostsOf) → mask < 2 ^ t.problem.inputs → 0 < mask → IsLayerFor t (count_ones mask - 1) c →
     has (masks_of (layer_with c.inputs (c.size + 1))) mask ≡ true
-next_there t mask c small some h =
-    let e = ones-members t.problem.inputs mask small in
-    let s = ones_some mask some in
-    let z = h.size_is in
-    ap (λ k. has (masks_of (layer_with k (c.size + 1))) mask) h.inputs ∙ masks_has t.problem.inputs (c.size + 1) mask small (omega (arith, e, s, z))
+next_there t mask c small some h = grind (arith, ones-members, ones_some, masks_has)
 
 pub bound_small : (t : Setting) (outputs : ℕ) → IsBounded t → t.problem.inputs ≤ 16 → outputs ≡ length t.problem.tables → outputs ≤ 16 → t.bound + 1 < 2 ^ 32
-bound_small t outputs b few are some =
-    let F = functions t.problem in
-    let l : length F ≡ length t.problem.tables = length-map_lem from_table t.problem.tables in
-    let k = size_bound t.problem.inputs F b.order few (omega (arith, l, are, some)) b.is_order in
-    let e = b.size in
-    omega (arith, e, k)
+bound_small t outputs b few are some = grind (arith, length-map_lem, size_bound)

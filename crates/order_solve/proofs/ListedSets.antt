@@ -1,7 +1,7 @@
 -- The listed sets, and the number of widths.
 --     ListedTo, listed_start, listed_yes, listed_no, listed_whole      the sets in turn
 --     WidthsTo, widths_start, widths_next, widths_whole      the widths that they take
-use Rattle.std.proofs.Common.{◌≡◌, ℕ, ◌+◌, ◌-◌, ◌*◌, ◌^◌, ◌<◌, ◌≤◌, Bool, true, false, cond, List, [], ◌∷◌, ◌++◌, map, length, count_ones, ltb, refl, sym, ap, ap₂, ◌∙◌, arith}
+use Rattle.std.proofs.Common.{◌≡◌, ℕ, ◌+◌, ◌-◌, ◌*◌, ◌^◌, ◌<◌, ◌≤◌, Bool, true, false, cond, List, [], ◌∷◌, ◌++◌, map, count_ones, ltb, refl, sym, ap, ap₂, ◌∙◌, arith}
 use Rattle.std.specs.List.{filter, sum, range_with_len}
 use Rattle.std.proofs.lemmas.Bool.{lt-ltb, le-ltb}
 use Rattle.std.proofs.lemmas.List.{map-append, append-nil}
@@ -88,20 +88,10 @@ module _ (t : Setting) where
     pub few : count ≤ 16 * number
 
   pub widths_start : WidthsTo 1 0
-  widths_start = record {
-    are = (let e = sum_by-map-range_with_len_more (λ x. x) (width_count t) 0 0 0 (omega arith) in
-        let z : width_count t 0 ≡ 0 = ap length (wanted_none n F P t.reserve t.bound) in omega (arith, e, z));
-    few = omega arith;
-  }
+  widths_start = grind (arith, sum_by-map-range_with_len_more, wanted_none, n, F, P)
 
   pub widths_next : (number count ones : ℕ) → WidthsTo number count → n ≤ 16 → ones ≡ count_ones (needed t number) → WidthsTo (number + 1) (count + ones)
-  widths_next number count ones h few e =
-      let is = e ∙ needed_ones t number in
-      let k = few_each t number few in
-      record {
-        are = ap₂ (λ a b. a + b) h.are is ∙ sym (sum_by-map-range_with_len_more (λ x. x) (width_count t) 0 number number (omega arith));
-        few = (let f = h.few in omega (arith, f, is, k));
-      }
+  widths_next number count ones h few e = grind (arith, needed_ones, few_each, sum_by-map-range_with_len_more)
 
   pub widths_whole : (number count : ℕ) → WidthsTo number count → number ≡ 2 ^ n → count ≡ widths_taken n F P t.reserve t.bound
   unfolding widths_taken

@@ -4,8 +4,7 @@
 --     block_done      the masks of the block at a place
 --     PlacesFirst, places_more, places_skip, places_all, blocks_more      the masks of a block in turn, and the blocks
 --     all_placed, layer_is      the list once all are there, and the costs of the layer
-use Rattle.std.proofs.Common.{◌≡◌, ℕ, zero, suc, ◌+◌, ◌*◌, ◌^◌, ◌<◌, ◌≤◌, inl, inr, true, List, [], ◌∷◌, map, set, get_or, length, slice_get, slice_index, Some, nat_eq, eq-eqb, false, take, drop, ◌++◌, length-set, refl, sym, ap, ap₂, ◌∙◌, subst, arith, get_or-set_same, get_or-set_other}
-use Rattle.std.specs.List.{filter}
+use Rattle.std.proofs.Common.{◌≡◌, ℕ, zero, suc, ◌+◌, ◌*◌, ◌^◌, ◌<◌, ◌≤◌, inl, inr, true, List, [], ◌∷◌, map, set, get_or, length, slice_get, slice_index, Some, eq-eqb, false, take, drop, ◌++◌, length-set, refl, sym, ap, ap₂, ◌∙◌, subst, arith, get_or-set_same, get_or-set_other}
 use Rattle.std.proofs.lemmas.Bool.{false≢true, cases_eq, and_from}
 use Rattle.std.proofs.lemmas.List.{get_or-map}
 use Rattle.std.proofs.lemmas.List.Sums.{sum-map}
@@ -18,13 +17,13 @@ use Rattle.order_model.specs.Functions.{Function}
 use Rattle.order_model.specs.Pairs.{Pair}
 use Rattle.order_model.specs.Problems.{functions}
 use Rattle.subset_layers.specs.Costs.{CostsOf, costs_with, AreTrueCells, AreTrueCosts}
-use Rattle.subset_layers.specs.Layers.{LayerOf, layer_with, BlockOf, masks_of, block_masks, blocks_of, block_place, low_byte, layer_of}
+use Rattle.subset_layers.specs.Layers.{LayerOf, layer_with, BlockOf, masks_of, block_masks, blocks_of, block_place}
 use Rattle.layer_core.specs.Settings.{Setting, cell_for}
 use Rattle.layer_core.specs.Pairing.{pair_of}
 use Rattle.layer_core.proofs.Layouts.{length-map_lem, few_masks_in}
 use Rattle.subset_layers.proofs.CostLists.{distinct_masks}
 use Rattle.order_solve.specs.LayerContexts.{ContextOf, IsLayerFor}
-use Rattle.order_solve.specs.Gains.{width_count, widths_for}
+use Rattle.order_solve.specs.Gains.{widths_for}
 use Rattle.order_solve.specs.Placed.{IsPlaced, no_cell}
 use Rattle.order_solve.proofs.Claimed.{block_layer, in_place, sum_few, few_each}
 use Rattle.order_model.proofs.Lists.Accepted.{index_of}
@@ -45,10 +44,7 @@ module _ (b : ContextOf) (cells : List Cell) (q : ℕ) (v : Cell) (within : q < 
   placed_here = ap pair_of (get_or-set_same cells q v no_cell within) ∙ is
 
   pub placed_set : (p : ℕ) → IsPlaced b cells p → IsPlaced b (set cells q v) p
-  placed_set p h = elim (cases_eq p q) [
-    | inl e ↦ subst (λ (k : ℕ). IsPlaced b (set cells q v) k) (sym e) placed_here
-    | inr ne ↦ ap pair_of (get_or-set_other cells q p v no_cell ne) ∙ h
-  ]
+  placed_set p h = grind (arith, cases_eq, set, placed_here, get_or-set_other)
 
 -- a mask has one place
 pub only_place : (l : LayerOf) (p q mask : ℕ) → p < length (masks_of l) → get_or (masks_of l) p 0 ≡ mask → slice_get (masks_of l) q ≡ Some mask → p ≡ q
@@ -61,21 +57,11 @@ only_place l p q mask lt e at =
 pub block_done : (l : LayerOf) (k : ℕ) (b : BlockOf) (p : ℕ) → slice_get (blocks_of l) k ≡ Some b → p < length (masks_of l) →
     block_place l p ≡ k → has (block_masks b) (get_or (masks_of l) p 0) ≡ true
 unfolding block_place block_masks
-block_done l k b p is lt e =
-    let mask = get_or (masks_of l) p 0 in
-    let m = has_at (masks_of l) p lt in
-    has_filter (λ x. nat_eq (low_byte x) b.low) (masks_of (layer_of b)) mask
-    ∙ and_from _ _ (subst (λ (z : LayerOf). has (masks_of z) mask ≡ true) (sym (block_layer l k b is)) m)
-    (eq-eqb (low_byte mask) b.low ((in_place l k b mask is m).1 e))
+block_done l k b p is lt e = grind (arith, has_at, has_filter, and_from, block_layer, eq-eqb, in_place)
 
 pub few_block : (t : Setting) (b : BlockOf) (n : ℕ) → t.problem.inputs ≤ 16 → b.inputs ≡ n → n ≤ 16 → widths_for t (block_masks b) ≤ 16 * 2 ^ 16
 unfolding widths_for block_masks
-few_block t b n few is less =
-    let M = masks_of (layer_of b) in
-    let e = sum-map (width_count t) (filter (λ mask. nat_eq (low_byte mask) b.low) M) in
-    let k = sum_few (width_count t) (λ mask. nat_eq (low_byte mask) b.low) M (λ x. few_each t x few) in
-    let m = few_masks_in (layer_of b) n is less in
-    omega (arith, e, k, m)
+few_block t b n few is less = grind (arith, sum-map, sum_few, few_each, few_masks_in)
 
 lists_same : (t : Setting) (cells : List Cell) (masks : List ℕ) → length cells ≡ length masks →
     ((p : ℕ) → p < length masks → pair_of (get_or cells p no_cell) ≡ cell_for t (get_or masks p 0)) →
@@ -159,10 +145,7 @@ pub blocks_more : (b : ContextOf) (k : ℕ) (blk : BlockOf) (old new : List Cell
     ((p : ℕ) → p < length (masks_of b.layer) → block_place b.layer p < k → IsPlaced b old p) → ((p : ℕ) → IsPlaced b old p → IsPlaced b new p) →
     ((p : ℕ) → p < length (masks_of b.layer) → has (block_masks blk) (slice_index (masks_of b.layer) p) ≡ true → IsPlaced b new p) →
     (p : ℕ) → p < length (masks_of b.layer) → block_place b.layer p < k + 1 → IsPlaced b new p
-blocks_more b k blk old new is before stays now p lt low = elim (cases_eq (block_place b.layer p) k) [
-  | inl e ↦ now p lt (block_done b.layer k blk p is lt e)
-  | inr ne ↦ stays p (before p lt (omega (arith, low, ne)))
-]
+blocks_more b k blk old new is before stays now p lt low = grind (arith, cases_eq, block_done)
 
 -- the costs of a layer from its cells
 pub layer_is : (t : Setting) (size : ℕ) (l : LayerOf) (cells : List Cell) (r : CostsOf) → l ≡ layer_with t.problem.inputs size →

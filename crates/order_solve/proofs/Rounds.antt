@@ -2,17 +2,17 @@
 --     Working t s0 s count      what a worker keeps from s0 to s
 --     working_none, working_stays, working_round      at the start, where claims stay, after a round
 --     IsFewAhead s count, few_room, few_round      how many widths are found ahead at most
-use Rattle.std.proofs.Common.{◌≡◌, ℕ, ◌<◌, ◌≤◌, ◌*◌, ◌^◌, slice_get, get_or, arith, ◌+◌, Bool, true, false, not, ◌&&◌, List, Option, Some, None, inl, inr, refl, sym, ap, ◌∙◌, subst, nat_eq}
+use Rattle.std.proofs.Common.{◌≡◌, ℕ, ◌<◌, ◌≤◌, ◌*◌, ◌^◌, slice_get, arith, ◌+◌, Bool, true, false, not, ◌&&◌, List, Some, inl, inr, refl, sym, ap, ◌∙◌, subst, nat_eq}
 use Rattle.std.specs.List.{filter}
 use Rattle.std.proofs.lemmas.Bool.{false≢true, cases_Bool, and_parts, and_from}
 use Rattle.std.proofs.lemmas.Option.{slice_get_within}
 use Rattle.order_model.specs.Orders.{has}
 use Rattle.order_model.proofs.Lists.Orders.{has_filter}
 use Rattle.subset_layers.specs.Layers.{LayerOf, BlockOf, masks_of, blocks_of, block_masks, layer_of, low_byte}
-use Rattle.layer_core.specs.Machine.{place_of, claimed, claims_block}
-use Rattle.layer_core.specs.Settings.{Setting, layout_of}
+use Rattle.layer_core.specs.Machine.{claimed, claims_block}
+use Rattle.layer_core.specs.Settings.{Setting}
 use Rattle.layer_core.proofs.Layouts.{few_blocks}
-use Rattle.layer_board.specs.Views.{BoardId, SeatOf, stepped, knows_place, has_claimed, knows_filled}
+use Rattle.layer_board.specs.Views.{BoardId, SeatOf, stepped, has_claimed, knows_filled}
 use Rattle.order_solve.specs.Gains.{gains, gained, widths_for, StaysClaimed, IsPosted}
 use Rattle.order_solve.proofs.Filters.{filter_none}
 use Rattle.order_solve.proofs.Posts.{claimed_same}
@@ -31,13 +31,7 @@ not_gained false = refl
 
 pub working_none : (t : Setting) (s : SeatOf) → Working t s s 0
 unfolding gained widths_for
-working_none t s = record {
-  board = refl;
-  kept = λ mask e. e;
-  known = λ mask e. e;
-  posted = λ mask e. absurd (false≢true (sym (not_gained (has_claimed s mask)) ∙ e));
-  tally = sym (ap (widths_for t) (filter_none (gains s s) (masks_of s.board.brief.layer) (λ mask. not_gained (has_claimed s mask))));
-}
+working_none t s = grind (arith, kept, false≢true, not_gained, filter_none)
 
 -- what is gained is what is claimed
 gained_same : (s0 s s' : SeatOf) → ((mask : ℕ) → has_claimed s' mask ≡ has_claimed s mask) → gained s0 s' ≡ gained s0 s
@@ -45,23 +39,11 @@ unfolding gained
 gained_same s0 s s' e = λ i. filter (λ mask. e mask i && not (has_claimed s0 mask)) (masks_of s0.board.brief.layer)
 
 pub working_stays : (t : Setting) (s0 s s' : SeatOf) (count : ℕ) → StaysClaimed s s' → Working t s0 s count → Working t s0 s' count
-working_stays t s0 s s' count h w =
-    let same = claimed_same s s' h in
-    record {
-      board = h.board ∙ w.board;
-      kept = λ mask e. same mask ∙ w.kept mask e;
-      known = λ mask e. h.known mask (w.known mask e);
-      posted = λ mask e. h.known mask (w.posted mask (ap (λ k. k && not (has_claimed s0 mask)) (sym (same mask)) ∙ e));
-      tally = w.tally ∙ sym (ap (widths_for t) (gained_same s0 s s' same));
-    }
+working_stays t s0 s s' count h w = grind (arith, claimed_same, kept, gained_same)
 
 -- a claim gives no knowledge of cells
 claim_knows : (s s1 : SeatOf) (p mask : ℕ) → s1 ≡ stepped s (claims_block s.worker p) 1 → knows_filled s mask ≡ true → knows_filled s1 mask ≡ true
-claim_knows s s1 p mask is e = ap (λ (z : SeatOf). knows_filled z mask) is ∙ by (place_of (layout_of s.board.brief.layer) mask) e
-  where
-    by : (o : Option ℕ) → knows_place s.worker o ≡ true → knows_place (claims_block s.worker p) o ≡ true
-    by None k = k
-    by (Some q) k = k
+claim_knows s s1 p mask is e = grind arith
 
 module _ (t : Setting) (s0 s s1 s2 : SeatOf) (count p : ℕ) (b : BlockOf) (w : Working t s0 s count) (h : ClaimsBlock s s1 p b) where
   pub round_gains : widths_for t (gained s0 s1) ≡ count + widths_for t (block_masks b)
@@ -102,14 +84,7 @@ module _ (t : Setting) (s0 s s1 s2 : SeatOf) (count p : ℕ) (b : BlockOf) (w : 
 pub claims_at : (B : BoardId) (s s1 : SeatOf) (p : ℕ) (b : BlockOf) → s.board ≡ B → slice_get (blocks_of B.brief.layer) p ≡ Some b →
     s1 ≡ stepped s (claims_block s.worker p) 1 → claimed s1.worker p ≡ true →
     ((q : ℕ) → claimed s.worker q ≡ true → q < p) → ClaimsBlock s s1 p b
-claims_at B s s1 p b board block is there later =
-    record {
-      block =
-          subst (λ (z : BoardId). slice_get (blocks_of z.brief.layer) p ≡ Some b) (sym board) block;
-      is = is;
-      there = there;
-      later = later;
-    }
+claims_at B s s1 p b board block is there later = search slice_get
 
 -- a round leaves fewer blocks that are not claimed
 pub round_closes : (s s1 s2 : SeatOf) (p : ℕ) (b : BlockOf) → ClaimsBlock s s1 p b → StaysClaimed s1 s2 →
@@ -124,14 +99,7 @@ IsFewAhead s count = (q : ℕ) → ((r : ℕ) → claimed s.worker r ≡ true �
 
 module _ (s s1 s2 : SeatOf) (count p : ℕ) (b : BlockOf) (h : ClaimsBlock s s1 p b) (few : IsFewAhead s count) where
   pub few_room : count ≤ 2 ^ 24
-  few_room =
-      let at = few p h.later in
-      let within = slice_get_within (blocks_of s.board.brief.layer) p b h.block in
-      let blocks = few_blocks s.board.brief.layer in
-      omega arith
+  few_room = grind (arith, slice_get_within, few_blocks)
 
   pub few_round : (more : ℕ) → StaysClaimed s1 s2 → more ≤ count + 2 ^ 16 → IsFewAhead s2 more
-  few_round more stays le q all =
-      let at = few p h.later in
-      let lt = all p (ap (λ (xs : List Bool). get_or xs p false) stays.claims ∙ h.there) in
-      omega arith
+  few_round more stays le q all = grind arith

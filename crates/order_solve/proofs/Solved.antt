@@ -1,5 +1,5 @@
 -- The total, the levels and the listed sets of the order that the cells give.
-use Rattle.std.proofs.Common.{◌≡◌, ℕ, ◌-◌, ◌^◌, ◌≤◌, List, [], ◌∷◌, map, sym, ap, ◌∙◌, subst, arith}
+use Rattle.std.proofs.Common.{◌≡◌, ℕ, ◌-◌, ◌^◌, ◌≤◌, List, [], ◌∷◌, map, sym, ◌∙◌, subst, arith}
 use Rattle.order_model.specs.Functions.{Function}
 use Rattle.order_model.specs.Pairs.{Pair}
 use Rattle.order_model.specs.Problems.{functions}
@@ -51,7 +51,4 @@ pub cells_listed : (t : Setting) (order : List ℕ) (total : ℕ) → total ≡ 
     map (least_listed t.problem.inputs (functions t.problem) t.pairs.pairs) (listed_masks t.problem.inputs (functions t.problem) t.pairs.pairs total)
     ≡ (certificate_of t.problem.inputs (functions t.problem) t.pairs.pairs order).cells
 unfolding certificate_of
-cells_listed t order total size =
-    ap
-    (λ k. map (least_listed t.problem.inputs (functions t.problem) t.pairs.pairs)
-    (listed_masks t.problem.inputs (functions t.problem) t.pairs.pairs k)) size
+cells_listed t order total size = grind arith

@@ -2,7 +2,7 @@
 --     same_where      two words are equal at each place of a mask outside which they may differ
 --     places_with      the mask of the places that have one variable and lack another one
 --     inside_value, across_value, between_value      values at two points that differ in which of two variables is 1
-use Rattle.std.proofs.Common.{◌≡◌, ℕ, ◌+◌, ◌-◌, ◌*◌, ◌/◌, ◌%◌, ◌^◌, ◌<◌, ◌≤◌, List, length, slice_index, inl, inr, sym, ap, ◌∙◌, arith, false, not, min, bit_and, bit_xor, pow_pos, pow_mono, eqb, eqb-true}
+use Rattle.std.proofs.Common.{◌≡◌, ℕ, ◌+◌, ◌-◌, ◌*◌, ◌/◌, ◌%◌, ◌^◌, ◌<◌, ◌≤◌, List, length, slice_index, sym, ap, ◌∙◌, arith, false, not, min, bit_and, bit_xor, pow_pos, pow_mono, eqb, eqb-true}
 use Rattle.std.specs.Int.{bit_at}
 use Rattle.std.proofs.Math.Nat.{div-eq-sub-div}
 use Rattle.std.proofs.lemmas.Bool.{not-false}
@@ -30,10 +30,7 @@ places_with a b lower_a lower_b k first second one zero =
 
 -- a place with a, without it
 pub place_without : (k a : ℕ) → bit_at k a ≡ 1 → (2 ^ a ≤ k) × (bit_at (k - 2 ^ a) a ≡ 0)
-place_without k a one =
-    let le = pow_le_bit k a one in
-    let s = div-eq-sub-div (pow_pos a) le in
-    (le, omega arith)
+place_without k a one = grind (arith, pow_le_bit, div-eq-sub-div, pow_pos)
 
 -- a masked difference that is 0 shows equal bits, and a shifted word has those further up
 pub same_shifted : (word v mask s t k : ℕ) → s ≡ t → not (eqb (bit_and (bit_xor (word / 2 ^ s) v) mask) 0) ≡ false → bit_at mask k ≡ 1 →
@@ -65,13 +62,7 @@ whole_step x high =
 
 -- the word of a point is there
 pub word_there : (n : ℕ) (words : List ℕ) (p : ℕ) → length words ≡ words_per_table n → p < 2 ^ n → p / 64 < length words
-word_there n words p long small = elim (whole_words n) [
-  | inl w ↦ let e = w.1 in let l = long ∙ w.2 in omega arith
-  | inr w ↦
-      let m : 2 ^ n ≤ 2 ^ 6 = pow_mono {j = 6} (let h = w.0 in omega arith) in
-      let l = long ∙ w.1 in
-      omega arith
-]
+word_there n words p long small = grind (arith, whole_words, pow_mono)
 
 -- values at a point with a and without b, and at the one with b in place of a
 module _ (n : ℕ) (words : List ℕ) (a b p : ℕ) (long : length words ≡ words_per_table n) (first : a < b) (small : p < 2 ^ n)
@@ -99,30 +90,9 @@ module _ (n : ℕ) (words : List ℕ) (a b p : ℕ) (long : length words ≡ wor
       ((i k : ℕ) → i < length words → bit_at i (b - 6) ≡ 0 → k < 64 → bit_at k a ≡ 1 →
       bit_at (slice_index words i) k ≡ bit_at (slice_index words (i + 2 ^ (b - 6))) (k - 2 ^ a)) →
       packed_bit words p ≡ packed_bit words ((p - 2 ^ a) + 2 ^ b)
-  across_value low high h =
-      let i = p / 64 in
-      let k = p % 64 in
-      let c = cut p in
-      let fits : k < 64 = omega arith in
-      let on = sym (low_bit p a low) ∙ one in
-      let off = sym (high_bit p b high) ∙ zero in
-      let le = (place_without k a on).0 in
-      let step = whole_step b high in
-      at i k fits p c ∙ ap (λ z. eqb z 1) (h i k (word_there n words p long small) off fits on)
-      ∙ sym (at (i + 2 ^ (b - 6)) (k - 2 ^ a) (omega arith) ((p - 2 ^ a) + 2 ^ b) (omega arith))
+  across_value low high h = grind (arith, cut, low_bit, high_bit, place_without, whole_step, at, word_there)
 
   pub between_value : 6 ≤ a →
       ((i : ℕ) → i < length words → bit_at i (a - 6) ≡ 1 → bit_at i (b - 6) ≡ 0 → slice_index words i ≡ slice_index words ((i - 2 ^ (a - 6)) + 2 ^ (b - 6))) →
       packed_bit words p ≡ packed_bit words ((p - 2 ^ a) + 2 ^ b)
-  between_value high h =
-      let i = p / 64 in
-      let k = p % 64 in
-      let c = cut p in
-      let fits : k < 64 = omega arith in
-      let on = sym (high_bit p a high) ∙ one in
-      let off = sym (high_bit p b (omega arith)) ∙ zero in
-      let le = (place_without i (a - 6) on).0 in
-      let s = whole_step a high in
-      let t = whole_step b (omega arith) in
-      at i k fits p c ∙ ap (λ w. eqb (bit_at w k) 1) (h i (word_there n words p long small) on off)
-      ∙ sym (at ((i - 2 ^ (a - 6)) + 2 ^ (b - 6)) k fits ((p - 2 ^ a) + 2 ^ b) (omega arith))
+  between_value high h = grind (arith, cut, high_bit, place_without, whole_step, at, word_there)

@@ -4,7 +4,7 @@
 --     asked_some, asked_none, asked_variables      their mask, as the code finds it
 --     needed_lawful, needed_unlawful      the mask of what is needed
 --     wanted_bit, needed_ones      the bits of their mask, and how many it has
-use Rattle.std.proofs.Common.{◌≡◌, ◌≢◌, ℕ, ◌+◌, ◌-◌, ◌^◌, ◌<◌, ◌≤◌, Bool, true, false, cond, ◌&&◌, ◌||◌, List, [], ◌∷◌, map, length, unwrap_or, refl, sym, ap, ◌∙◌, subst, arith, eqb, eq-eqb, ne_eqb, leb, count_ones}
+use Rattle.std.proofs.Common.{◌≡◌, ◌≢◌, ℕ, ◌+◌, ◌-◌, ◌^◌, ◌<◌, ◌≤◌, Bool, true, false, cond, ◌&&◌, ◌||◌, List, [], ◌∷◌, map, length, unwrap_or, refl, sym, ap, ◌∙◌, arith, eqb, eq-eqb, ne_eqb, leb, count_ones}
 use Rattle.std.specs.Int.{bit_at}
 use Rattle.std.specs.List.{filter, sum_by, IsDistinct}
 use Rattle.std.proofs.lemmas.Nat.Bits.{bit_at-zero}
@@ -54,18 +54,7 @@ affordable_yes c bound mask x cost b e le = and_from _ _ (eq-eqb (bit_at mask x)
 
 pub affordable_dear : (c : CostsOf) (bound mask x cost : ℕ) → cost_without c mask x ≡ cost → bound < cost → is_affordable c bound mask x ≡ false
 unfolding is_affordable
-affordable_dear c bound mask x cost e lt = dear (eqb (bit_at mask x) 1)
-  where
-    over : leb (cost_without c mask x) bound ≡ false
-    over = le_no (leb (cost_without c mask x) bound) (λ t. let l = leb-true (cost_without c mask x) bound t in absurd (omega arith))
-      where
-        le_no : (b : Bool) → (b ≡ true → ⊥) → b ≡ false
-        le_no true h = absurd (h refl)
-        le_no false h = refl
-
-    dear : (b : Bool) → (b && leb (cost_without c mask x) bound) ≡ false
-    dear true = over
-    dear false = refl
+affordable_dear c bound mask x cost e lt = grind (arith, leb-true)
 
 pub affordable_absent : (c : CostsOf) (bound mask x : ℕ) → bit_at mask x ≢ 1 → is_affordable c bound mask x ≡ false
 unfolding is_affordable
@@ -88,10 +77,7 @@ module _ (c : CostsOf) (F : List Function) (P : List Pair) (r : Reserve) (bound 
 
   both : (x : ℕ) → has S x ≡ true → is_lawful P S ≡ true →
       (is_lawful P (without x S) && (is_lawful P S && leb (cell_cost n F P r bound (mask - 2 ^ x)) bound)) ≡ leb (cost_without c mask x) bound
-  both x m low = same_bool _ _ (λ e. ap (λ k. leb k bound) (cost_is x m) ∙ (and_parts _ _ (and_parts _ _ e).1).1)
-      (λ e.
-      let le = ap (λ k. leb k bound) (sym (cost_is x m)) ∙ e in
-      and_from _ _ (top_is x m (leb-true (cell_cost n F P r bound (mask - 2 ^ x)) bound le)) (and_from _ _ low le))
+  both x m low = grind (arith, same_bool, cost_is, and_parts, and_from, top_is, leb-true, n)
 
   open_lawful : is_lawful P S ≡ true → open_tops n F P r bound mask ≡ affordable c bound mask
   unfolding open_tops candidates
@@ -138,9 +124,7 @@ module _ (c : CostsOf) (bound mask found : ℕ) (is : found ≡ mask_of (afforda
   taken_some : (xs : List ℕ) → affordable c bound mask ≡ xs → found ≢ 0 → mask_of (taken (affordable c bound mask)) ≡ mask
   unfolding mask_of taken
   taken_some [] e some = absurd (some (is ∙ ap mask_of e))
-  taken_some (x ∷ xs) e some =
-      ap (λ ys. mask_of (taken ys)) e ∙ ap (λ b. mask_of (cond b [] (members c.inputs mask))) (ne_eqb (length (x ∷ xs)) 0 (λ z. omega (arith, z)))
-      ∙ mask_of_members c.inputs mask small
+  taken_some (x ∷ xs) e some = grind (arith, taken, ne_eqb, mask_of_members)
 
   distinct_affordable : IsDistinct nat_eq (affordable c bound mask)
   unfolding candidates
@@ -169,14 +153,7 @@ pub needed_lawful : (t : Setting) (c : CostsOf) (mask : ℕ) → c.inputs ≡ t.
     has (masks_of (layer_with c.inputs (c.size + 1))) mask ≡ true → is_lawful t.pairs.pairs (members t.problem.inputs mask) ≡ true →
     mask_of (asked c.inputs t.reserve t.bound mask (cost_without c mask)) ≡ needed t mask
 unfolding needed
-needed_lawful t c mask inputs costs next low =
-    let F = functions t.problem in
-    let P = t.pairs.pairs in
-    ap mask_of
-    (sym
-    (wanted_lawful c F P t.reserve t.bound mask next (subst (λ (n : ℕ). AreTrueCosts n F P t.reserve t.bound c) (sym inputs) costs)
-    (ap (λ n. is_lawful P (members n mask)) inputs ∙ low))
-    ∙ ap (λ n. wanted n F P t.reserve t.bound mask) inputs)
+needed_lawful t c mask inputs costs next low = grind (arith, wanted_lawful, n)
 
 pub needed_unlawful : (t : Setting) (mask : ℕ) → is_lawful t.pairs.pairs (members t.problem.inputs mask) ≡ false → 0 ≡ needed t mask
 unfolding needed mask_of
@@ -196,29 +173,16 @@ module _ (n : ℕ) (F : List Function) (P : List Pair) (r : Reserve) (bound mask
 
   open_member : (x : ℕ) → has (open_tops n F P r bound mask) x ≡ true → has (members n mask) x ≡ true
   unfolding open_tops
-  open_member x h =
-      (and_parts _ _
-      (sym (has_filter (λ y. is_lawful P (without y (members n mask))) (members n mask) x)
-      ∙ (and_parts _ _ (sym (has_filter _ (tops P (members n mask)) x) ∙ h)).0)).0
+  open_member x h = grind (arith, and_parts, has_filter, n)
 
 pub distinct_wanted : (n : ℕ) (F : List Function) (P : List Pair) (r : Reserve) (bound mask : ℕ) → IsDistinct nat_eq (wanted n F P r bound mask)
 unfolding wanted IsDistinct
-distinct_wanted n F P Variables bound mask = distinct_open n F P Variables bound mask
-distinct_wanted n F P Widths bound mask = by (nat_eq (length (open_tops n F P Widths bound mask)) 0)
-  where
-    by : (b : Bool) → IsDistinct nat_eq (cond b [] (members n mask))
-    by true = tt
-    by false = distinct_members n mask
+distinct_wanted n F P r bound mask = grind (arith, n, distinct_open, distinct_members)
 
 pub wanted_member : (n : ℕ) (F : List Function) (P : List Pair) (r : Reserve) (bound mask x : ℕ) → has (wanted n F P r bound mask) x ≡ true →
     has (members n mask) x ≡ true
 unfolding wanted
-wanted_member n F P Variables bound mask x h = open_member n F P Variables bound mask x h
-wanted_member n F P Widths bound mask x h = by (nat_eq (length (open_tops n F P Widths bound mask)) 0) h
-  where
-    by : (b : Bool) → has (cond b [] (members n mask)) x ≡ true → has (members n mask) x ≡ true
-    by true k = absurd (false≢true k)
-    by false k = k
+wanted_member n F P r bound mask x h = grind (arith, n, open_member, false≢true)
 
 module _ (n : ℕ) (F : List Function) (P : List Pair) (r : Reserve) (bound mask : ℕ) where
   pub wanted_ones : count_ones (mask_of (wanted n F P r bound mask)) ≡ length (wanted n F P r bound mask)
@@ -229,11 +193,7 @@ module _ (n : ℕ) (F : List Function) (P : List Pair) (r : Reserve) (bound mask
   wanted_bit x = bit-mask_of (wanted n F P r bound mask) (distinct_wanted n F P r bound mask) x
 
   pub bit_wanted : (x : ℕ) → bit_at (mask_of (wanted n F P r bound mask)) x ≡ 1 → has (wanted n F P r bound mask) x ≡ true
-  bit_wanted x e = by (has (wanted n F P r bound mask) x) 1 (sym (wanted_bit x) ∙ e) (omega arith)
-    where
-      by : (b : Bool) → (k : ℕ) → cond b k 0 ≡ k → 0 < k → b ≡ true
-      by true k h lt = refl
-      by false k h lt = absurd (omega arith)
+  bit_wanted x e = grind (arith, n, wanted_bit)
 
 pub needed_ones : (t : Setting) (mask : ℕ) → count_ones (needed t mask) ≡ width_count t mask
 unfolding needed

@@ -13,19 +13,7 @@ cells_of_block-requires-clause-layer c = block_layer c.context.inside.layer.now 
     ∙ ap (λ (z : ContextOf). z.layer) c.context.view_is
 
 pub cells_of_block-requires-clause-room : goal.cells_of_block-requires-clause-room
-cells_of_block-requires-clause-room c =
-    let t = c.args.context.now.setting in
-    let v = ap (λ (z : ContextOf). z.setting.problem.inputs) c.context.view_is in
-    let e = c.inputs.ensures.value in
-    let few = c.inputs.ensures.few in
-    let inputs =
-    ap (λ (l : LayerOf). l.inputs)
-    (block_layer c.context.inside.layer.now c.loop-place.place c.block-block.result c.block-block.ensures
-    ∙ c.context.invariant.0.layer) ∙ v in
-    let k = few_block t c.block-block.result t.problem.inputs (omega (arith, few, v, e)) inputs (omega (arith, few, v, e)) in
-    let n = c.new-tallies.ensures.cells in
-    let a = c.new-tallies.ensures.ahead in
-    record { cells = omega (arith, k, n); ahead = omega (arith, a) }
+cells_of_block-requires-clause-room c = grind (arith, block_layer, few_block)
 
 pub place_cells-requires-clause-layer : goal.place_cells-requires-clause-layer
 place_cells-requires-clause-layer c = block_layer c.context.inside.layer.now c.loop-place.place c.block-block.result c.block-block.ensures
@@ -52,10 +40,4 @@ loop-place-preserved c =
     }
 
 pub returns-clause-cells : goal.returns-clause-cells
-returns-clause-cells c =
-    let b = c.args.context.now in
-    let same = ap (λ (z : ContextOf). z.layer) c.context.view_is in
-    let many : c.blocks-place-end.result ≡ length (blocks_of b.layer) = c.blocks-place-end.ensures ∙ ap (λ (l : LayerOf). length (blocks_of l)) same in
-    let f = c.loop-place-test.false in
-    all_placed b c.loop-place.cells.items c.loop-place.invariant.length_is
-    (λ p lt. c.loop-place.invariant.placed p lt (let k = block_below b.layer p lt in omega (arith, k, many, f)))
+returns-clause-cells c = grind (arith, all_placed, block_below)

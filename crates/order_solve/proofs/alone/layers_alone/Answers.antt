@@ -2,29 +2,14 @@ use Rattle.std.proofs.Common.{ℕ, List, [], ◌∷◌, length, length-append, s
 use Rattle.subset_layers.specs.Costs.{CostsOf}
 use Rattle.compaction.specs.Ahead.{AheadOf}
 use Rattle.order_solve.specs.LayerContexts.{IsLayerFor}
-use Rattle.order_solve.specs.Bounded.{AreLayersFor}
 use Rattle.order_solve.proofs.Layers.{layers_push}
 use Rattle.order_solve.proofs.alone.layers_alone.Goals as goal
 
 pub look_ahead-ahead-requires : goal.look_ahead-ahead-requires
-look_ahead-ahead-requires c =
-    let is = c.deref.ensures.value in
-    let n = ap length is in
-    let m = c.loop-size.invariant.many in record {
-      some = omega (arith, n, m);
-      few = (let lt = c.loop-size-test.true in let v = c.inputs-size-end.ensures.value in omega (arith, n, m, lt, v));
-      layers_are = subst (λ (xs : List CostsOf). AreLayersFor c.args.setting.now xs) (sym is) c.loop-size.invariant.layers_are;
-    }
+look_ahead-ahead-requires c = grind arith
 
 pub next_layer_alone-requires-clause-done : goal.next_layer_alone-requires-clause-done
-next_layer_alone-requires-clause-done c =
-    let is = c.deref-in-loop-size.ensures.value in
-    let n = ap length is in
-    let m = c.loop-size.invariant.many in record {
-      some = omega (arith, n, m);
-      few = (let lt = c.loop-size-test.true in let v = c.inputs-size-end.ensures.value in omega (arith, n, m, lt, v));
-      layers_are = subst (λ (xs : List CostsOf). AreLayersFor c.args.setting.now xs) (sym is) c.loop-size.invariant.layers_are;
-    }
+next_layer_alone-requires-clause-done c = grind arith
 
 pub loop-size-preserved : goal.loop-size-preserved
 loop-size-preserved c =

@@ -1,6 +1,5 @@
-use Rattle.std.proofs.Common.{ℕ, ◌+◌, ◌^◌, List, sym, ap, ◌∙◌, subst, arith}
+use Rattle.std.proofs.Common.{ℕ, ◌^◌, List, sym, ap, subst, arith}
 use Rattle.std.proofs.lemmas.Nat.{one_shl}
-use Rattle.order_model.specs.Problems.{functions}
 use Rattle.order_model.specs.declared.listed_cells.ListedCell.{ListedCell}
 use Rattle.order_solve.proofs.ListedSets.{ListedTo, listed_start, listed_yes, listed_no, listed_whole}
 use Rattle.order_solve.proofs.listing.listed_cells.Goals as goal
@@ -12,23 +11,7 @@ loop-number-init c =
     (listed_start c.args.cells.now c.args.total)
 
 pub loop-number-preserved : goal.loop-number-preserved
-loop-number-preserved c =
-    let t = c.args.cells.now in
-    let out = c.count_outside.ensures.exact t.problem.inputs (functions t.problem) c.essential-essential.ensures in
-    let a = c.from.ensures in
-    let b = c.from-in-loop-number.ensures in
-    let d = c.from-in-loop-number-2.ensures in
-    elim c.if-from.branch [
-      | then-from+in_ok-push w ↦
-          subst (λ (xs : List ListedCell). ListedTo t c.args.total (c.loop-number.number + 1) xs)
-          (sym (ap (λ v. v.items) w.found-is ∙ w.in_ok-push.ensures.items))
-          (listed_yes t c.args.total c.loop-number.number c.loop-number.found.items c.loop-number.invariant c.cost-cost.result
-          c.count_outside.result c.cost-cost.ensures out c.requires.within (let lt = w.if-from.true in omega (arith, a, b, d, lt)))
-      | else-from w ↦
-          subst (λ (xs : List ListedCell). ListedTo t c.args.total (c.loop-number.number + 1) xs) (sym (ap (λ v. v.items) w.found-is))
-          (listed_no t c.args.total c.loop-number.number c.loop-number.found.items c.loop-number.invariant c.cost-cost.result
-          c.count_outside.result c.cost-cost.ensures out (let lt = w.if-from.false in omega (arith, a, b, d, lt)))
-    ]
+loop-number-preserved c = grind (arith, then-from+in_ok-push, listed_yes, else-from, listed_no)
 
 pub returns : goal.returns
 returns c =

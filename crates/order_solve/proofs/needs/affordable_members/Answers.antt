@@ -13,10 +13,7 @@ use Rattle.order_solve.proofs.needs.affordable_members.Goals as goal
 use Rattle.order_solve.proofs.needs.affordable_members.Goals.{then-contains+then-cost-bound, then-contains+else-cost-bound, else-contains}
 
 pub overflow_sub-mask : goal.overflow_sub-mask
-overflow_sub-mask c =
-    let e = one_shl c.loop-x.x 16 (omega arith) in
-    let p = pow_le_bit c.args.mask c.loop-x.x (c.contains.ensures.0 c.if-contains.true) in
-    omega arith
+overflow_sub-mask c = grind (arith, one_shl, pow_le_bit)
 
 pub unwrap-cost-requires : goal.unwrap-cost-requires
 unwrap-cost-requires c =

@@ -9,11 +9,7 @@ use Rattle.order_solve.proofs.ReadOrders.{CountedTo, counted_start, counted_smal
 use Rattle.order_solve.proofs.reading.level_counts.Goals as goal
 
 pub loop-x-init : goal.loop-x-init
-loop-x-init c =
-    let t = c.args.cells.now in
-    subst (λ (xs : List ℕ). CountedTo t c.args.order.now c.all_variables-mask.result c.cost-cost.result xs 0) (sym c.in_ok-counts.ensures.items)
-    (counted_start t c.args.order.now c.all_variables-mask.result c.cost-cost.result
-    (c.all_variables-mask.ensures ∙ ap (λ (k : ℕ). 2 ^ k - 1) c.inputs.ensures.value) c.cost-cost.ensures)
+loop-x-init c = grind (arith, counted_start)
 
 -- a step of the code
 module _ (t : Setting) (inputs : ℕ) (b : IsBounded t) (few : inputs ≤ 16) (v : inputs ≡ t.problem.inputs) (order xs : List ℕ) (same : xs ≡ order)
@@ -52,18 +48,10 @@ module _ (t : Setting) (inputs : ℕ) (b : IsBounded t) (few : inputs ≤ 16) (v
         (counted_next t b order read mask top counts i c x within is below e')
 
 pub overflow_sub-mask : goal.overflow_sub-mask
-overflow_sub-mask c =
-    let e = c.inputs.ensures in
-    fits c.args.cells.now c.inputs.result e.bounded e.few e.value c.args.order.now c.variables-x-items.result.now
-    c.variables-x-items.ensures.value c.requires c.loop-x.mask c.loop-x.cost c.loop-x.counts.items c.loop-x.x-index c.loop-x.invariant
-    c.loop-x-test.true
+overflow_sub-mask c = search fits
 
 pub cost-below-requires : goal.cost-below-requires
-cost-below-requires c =
-    let e = c.inputs.ensures in
-    smaller c.args.cells.now c.inputs.result e.bounded e.few e.value c.args.order.now c.variables-x-items.result.now
-    c.variables-x-items.ensures.value c.requires c.loop-x.mask c.loop-x.cost c.loop-x.counts.items c.loop-x.x-index c.loop-x.invariant
-    c.loop-x-test.true
+cost-below-requires c = search smaller
 
 pub overflow_sub-cost : goal.overflow_sub-cost
 overflow_sub-cost c =

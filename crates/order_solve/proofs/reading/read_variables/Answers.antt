@@ -9,10 +9,7 @@ use Rattle.order_solve.proofs.ReadOrders.{ReadTo, read_start, read_some, read_me
 use Rattle.order_solve.proofs.reading.read_variables.Goals as goal
 
 pub loop-level-init : goal.loop-level-init
-loop-level-init c =
-    let t = c.args.cells.now in
-    subst (λ (xs : List ℕ). ReadTo t c.all_variables-mask.result xs 0) (sym c.in_ok-variables.ensures.items)
-    (subst (λ (m : ℕ). ReadTo t m [] 0) (sym (c.all_variables-mask.ensures ∙ ap (λ (k : ℕ). 2 ^ k - 1) c.inputs-inputs.ensures.value)) (read_start t))
+loop-level-init c = grind (arith, read_start)
 
 pub cell-variable-requires-clause-some : goal.cell-variable-requires-clause-some
 cell-variable-requires-clause-some c =
@@ -48,16 +45,10 @@ module _ (t : Setting) (mask : ℕ) (xs : List ℕ) (steps inputs : ℕ) (r : Re
       (read_next t mask xs steps r cell.variable variable_is member)
 
 pub overflow_shl-mask : goal.overflow_shl-mask
-overflow_shl-mask c =
-    let e = c.inputs-inputs.ensures in
-    small c.args.cells.now c.loop-level.mask c.loop-level.variables.items c.loop-level._level c.inputs-inputs.result c.loop-level.invariant
-    e.bounded e.few e.value c.loop-level-test.true c.cell-variable.result c.cell-variable.ensures
+overflow_shl-mask c = search small
 
 pub overflow_sub-mask : goal.overflow_sub-mask
-overflow_sub-mask c =
-    let e = c.inputs-inputs.ensures in
-    fits c.args.cells.now c.loop-level.mask c.loop-level.variables.items c.loop-level._level c.inputs-inputs.result c.loop-level.invariant
-    e.bounded e.few e.value c.loop-level-test.true c.cell-variable.result c.cell-variable.ensures
+overflow_sub-mask c = search fits
 
 pub loop-level-preserved : goal.loop-level-preserved
 loop-level-preserved c =
@@ -69,7 +60,4 @@ loop-level-preserved c =
     e.value c.loop-level-test.true c.cell-variable.result c.cell-variable.ensures)
 
 pub returns : goal.returns
-returns c =
-    let v = c.inputs-inputs.ensures.value in
-    let f = c.loop-level-test.false in
-    read_whole c.args.cells.now c.loop-level.mask c.loop-level.variables.items c.loop-level._level c.loop-level.invariant (omega (arith, v, f))
+returns c = grind (arith, read_whole)

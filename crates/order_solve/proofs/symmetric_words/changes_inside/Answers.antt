@@ -14,11 +14,7 @@ overflow_sub-apart c =
     omega arith
 
 pub overflow_shr-result : goal.overflow_shr-result
-overflow_shr-result c =
-    let f = step_is c.args.b c.requires.low in
-    let e = f.0 in
-    let l = f.1 in
-    omega arith
+overflow_shr-result c = grind (arith, step_is)
 
 pub returns : goal.returns
 returns c none k small one zero =

@@ -8,12 +8,7 @@ use Rattle.order_solve.proofs.symmetric_words.is_symmetric_between.Goals as goal
 use Rattle.order_solve.proofs.symmetric_words.is_symmetric_between.Goals.{then-i-r-eq1+then-i-s-eq0+else-words-i, else-i-r-eq1, else-i-r-eq1-via-then-i-r-eq1+else-i-s-eq0, else-i-r-eq1-via-else-i-r-eq1}
 
 pub overflow_sub-other : goal.overflow_sub-other
-overflow_sub-other c =
-    let r = c.requires.first in
-    let h = c.requires.high in
-    let le = pow_le_bit c.loop-i.i c.args.r (sym (shr_and_one c.loop-i.i c.args.r) ∙ c.if-i-r-eq1.true) in
-    let s = one_shl c.args.r 64 (omega arith) in
-    omega arith
+overflow_sub-other c = grind (arith, pow_le_bit, shr_and_one, one_shl)
 
 pub loop-i-preserved : goal.loop-i-preserved
 loop-i-preserved c i less one zero =

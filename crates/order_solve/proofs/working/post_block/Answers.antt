@@ -39,9 +39,4 @@ loop-i-preserved g c =
     }
 
 pub returns-clause-posted : goal.returns-clause-posted
-returns-clause-posted g c = λ mask m.
-    let masks = block_masks c.args.block.now in
-    let k = index_of masks mask m in
-    let f = c.loop-i-test.false in
-    let l = ap length c.masks-mask-items.ensures in
-    subst (λ (n : ℕ). IsPosted c.loop-i.seat n) k.2 (c.loop-i.invariant.posted k.0 (omega (arith, k.1, f, l)))
+returns-clause-posted g c = grind (arith, index_of)

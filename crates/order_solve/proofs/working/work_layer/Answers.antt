@@ -1,27 +1,16 @@
-use Rattle.std.proofs.Common.{rules, ◌≡◌, ℕ, ◌+◌, ◌≤◌, refl, sym, ap, ◌∙◌, subst, arith}
+use Rattle.std.proofs.Common.{rules, ◌≡◌, ℕ, ◌+◌, ◌≤◌, sym, ap, ◌∙◌, subst, arith}
 use Rattle.subset_layers.specs.Layers.{LayerOf, BlockOf, layer_of, block_masks}
 use Rattle.order_model.specs.Orders.{has}
-use Rattle.layer_board.specs.Views.{BoardId, SeatOf}
-use Rattle.layer_core.specs.Settings.{Setting}
-use Rattle.compaction.specs.Ahead.{AheadOf, widths_ahead}
+use Rattle.layer_board.specs.Views.{BoardId}
 use Rattle.order_solve.specs.LayerContexts.{ContextOf}
-use Rattle.order_solve.specs.Gains.{widths_for, StaysClaimed, IsPosted}
+use Rattle.order_solve.specs.Gains.{widths_for, IsPosted}
 use Rattle.order_solve.proofs.Posts.{no_more_stays}
 use Rattle.order_solve.proofs.Claimed.{block_layer, few_gained}
 use Rattle.order_solve.proofs.Rounds.{Working, working_none, working_stays, working_round, round_gains, claims_at, round_closes, few_room, few_round}
 use Rattle.order_solve.proofs.working.work_layer.Goals as goal
 
 pub loop-claim-init : goal.loop-claim-init
-loop-claim-init g c = record {
-  working =
-      subst (λ (n : ℕ). Working c.args.context.now.setting c.args.seat c.args.seat n) (sym c.new-tallies.ensures.cells)
-      (working_none c.args.context.now.setting c.args.seat);
-  found =
-      ap (λ (z : AheadOf). z.problem) c.up_to-found.ensures ∙ ap (λ (t : Setting). t.problem) c.setting.view_is
-      ∙ ap (λ (z : ContextOf). z.setting.problem) c.context.view_is;
-  ahead = c.new-tallies.ensures.ahead ∙ ap widths_ahead (sym c.up_to-found.ensures);
-  few = λ q all. let e = c.new-tallies.ensures.ahead in omega (arith, e);
-}
+loop-claim-init g c = grind (arith, working_none)
 
 pub cells_of_block-requires-clause-layer : goal.cells_of_block-requires-clause-layer
 cells_of_block-requires-clause-layer g c =
@@ -90,10 +79,4 @@ pub returns-clause-told : goal.returns-clause-told
 returns-clause-told g c = search rules
 
 pub returns-clause-tally : goal.returns-clause-tally
-returns-clause-tally g c =
-    let t = c.args.context.now.setting in
-    let s = c.loop-claim.seat in
-    let s1 = c.claim.new.seat in
-    let is = c.in_default.ensures.none refl in
-    (working_stays t c.args.seat s s1 c.loop-claim.tallies.cells
-    (subst (λ (z : SeatOf). StaysClaimed s z) (sym is) (no_more_stays s)) c.loop-claim.invariant.working).tally
+returns-clause-tally g c = grind (arith, working_stays, no_more_stays)

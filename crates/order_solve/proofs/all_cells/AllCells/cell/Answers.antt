@@ -6,10 +6,7 @@ pub layer-requires : goal.layer-requires
 layer-requires c = ones_le c.args.self.now.problem.inputs c.args.mask c.requires.within
 
 pub unwrap-requires : goal.unwrap-requires
-unwrap-requires c = c.cell_of.ensures.some.1 (
-  set_there c.args.self.now c.args.mask c.layer.result.now c.requires.within c.layer.ensures,
-  (let s = ones_some c.args.mask c.requires.some in let z = c.layer.ensures.size_is in omega (arith, s, z)),
-)
+unwrap-requires c = grind (arith, set_there, ones_some)
 
 pub returns : goal.returns
 returns c =
