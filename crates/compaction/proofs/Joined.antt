@@ -1,7 +1,7 @@
 -- Sets of a block and other sets behind them, with their rows.
---     of_byte_joined, of_byte_pushed, members_joined      conditions on sets, of both parts
+--     of_byte_joined, members_joined      conditions on sets, of both parts
 --     members_own      all members of a set are its members
---     rows_before, rows_behind      the rows of the first part and of the second
+--     rows_before      the rows of the first part
 --     row_narrowed      a row of fewer members
 --     RowsTo, rows_pushed, rows_all      rows found one after another
 use Rattle.std.proofs.Common.{◌≡◌, ℕ, ◌+◌, ◌-◌, ◌^◌, ◌<◌, ◌≤◌, cond, eqb, List, [], ◌∷◌, ◌++◌, length, length-append, slice_index, get_or, take, length-take, arith, eq-eqb, ne_eqb}

@@ -1,6 +1,5 @@
 -- Pairs of strips: the two strips of each distinct pair, one behind the other.
 --     names_of_below      the names in pairs of names are names
---     names_more      one pair more
 --     paired_named, paired_long, paired_few, paired_lower, paired_upper      the strips of the pairs of names
 use Rattle.std.proofs.Common.{◌≡◌, ℕ, zero, suc, ◌+◌, ◌*◌, ◌/◌, ◌^◌, ◌<◌, ◌≤◌, List, [], ◌∷◌, length, get_or, ap, ◌∙◌, arith}
 use Rattle.std.specs.Set.{distinct_count}
