@@ -1,0 +1,80 @@
+-- The layers of all sets.
+--     layers_push      a layer more
+--     set_there, cell_found      the layer in which a set is, and its cell there
+--     ones_le, ones_some      how many members a set has
+use Rattle.std.proofs.Common.{◌≡◌, ℕ, ◌+◌, ◌-◌, ◌^◌, ◌<◌, ◌≤◌, inl, inr, true, List, [], ◌∷◌, ◌++◌, length, length-append, Some, IfSome, Option, sym, ap, ◌∙◌, subst, arith, count_ones, eqb}
+use Rattle.std.proofs.lemmas.Bool.{cases_eq, cases_lt}
+use Rattle.std.proofs.lemmas.List.FromFn.{length-range_with_len}
+use Rattle.std.proofs.lemmas.List.{get_or_append_left, get_or_push}
+use Rattle.std.proofs.lemmas.Option.{slice_get_within, slice_get-get_or, get_or_from_slice_get}
+use Rattle.order_model.specs.Functions.{Function}
+use Rattle.std.specs.Int.{bit_at}
+use Rattle.std.proofs.lemmas.Nat.{zero_from_ones}
+use Rattle.order_model.specs.Orders.{has, members, variables}
+use Rattle.order_model.specs.Cells.{cell_of}
+use Rattle.order_model.specs.declared.reserve.Reserve.{Reserve}
+use Rattle.subset_layers.specs.declared.costs.Cell.{Cell}
+use Rattle.layer_core.specs.Pairing.{pair_of}
+use Rattle.order_model.specs.Pairs.{Pair}
+use Rattle.order_model.specs.Problems.{functions}
+use Rattle.subset_layers.specs.Layers.{layer_with, masks_of}
+use Rattle.subset_layers.specs.Costs.{CostsOf, layer_of_costs, as_pair, AreTrueCells}
+use Rattle.subset_layers.proofs.BlockLists.{masks_has}
+use Rattle.order_model.proofs.Bits.Ones.{ones-members}
+use Rattle.layer_core.specs.Settings.{Setting, cell_for}
+use Rattle.solutions.specs.LayerCosts.{IsLayerFor, AreLayersFor}
+use Rattle.order_model.proofs.Lists.Ranges.{filter_at_most}
+
+-- ---- layers
+
+pub layers_push : (t : Setting) (layers : List CostsOf) (c : CostsOf) → AreLayersFor t layers → IsLayerFor t (length layers) c →
+    AreLayersFor t (layers ++ c ∷ [])
+layers_push t layers c h new k d e = elim (cases_lt k (length layers)) [
+  | inl lt ↦ h k d
+      (slice_get-get_or layers k d lt
+      ∙ ap Some (sym (get_or_append_left layers (c ∷ []) d k lt) ∙ get_or_from_slice_get (layers ++ c ∷ []) k d d e))
+  | inr ge ↦
+      let w = slice_get_within (layers ++ c ∷ []) k d e in
+      let l = length-append layers (c ∷ []) in
+      let at : length layers ≡ k = omega (arith, w, l, ge) in
+      let is : d ≡ c = sym (get_or_from_slice_get (layers ++ c ∷ []) k d d e) ∙ get_or_push layers c d k at in
+      subst (λ (z : CostsOf). IsLayerFor t k z) (sym is) (subst (λ (i : ℕ). IsLayerFor t i c) at new)
+]
+
+-- ---- the layer of a set
+
+module _ (t : Setting) (mask : ℕ) (c : CostsOf) (small : mask < 2 ^ t.problem.inputs) (h : IsLayerFor t (count_ones mask) c) where
+  abbrev n : ℕ
+  n = t.problem.inputs
+
+  ones : count_ones mask ≡ length (members n mask)
+  ones = ones-members n mask small
+
+  pub set_there : has (masks_of (layer_of_costs c)) mask ≡ true
+  set_there =
+      ap (λ k. has (masks_of (layer_with k c.size)) mask) h.inputs ∙ masks_has n c.size mask small (sym ones ∙ sym h.size_is)
+
+pub ones_le : (n mask : ℕ) → mask < 2 ^ n → count_ones mask ≤ n
+unfolding members
+ones_le n mask lt =
+    let e = ones-members n mask lt in
+    let l = filter_at_most (λ x. eqb (bit_at mask x) 1) (variables n) in
+    let k = length-range_with_len 0 n in
+    omega (arith, e, l, k)
+
+pub ones_some : (mask : ℕ) → 0 < mask → 0 < count_ones mask
+ones_some mask lt = grind (arith, cases_eq, count_ones, zero_from_ones)
+
+-- what a found cell is
+from_some : {X : Type 0} (P : X → Type 0) (o : Option X) (x : X) → IfSome o P → o ≡ Some x → P x
+from_some P o x h e = subst (λ z. IfSome z P) e h
+
+pub cell_found : (t : Setting) (k mask : ℕ) (c : CostsOf) (o : Option Cell) (cell : Cell) → IsLayerFor t k c →
+    ((F : List Function) (P : List Pair) (r : Reserve) (bound : ℕ) → AreTrueCells c.inputs F P r bound c →
+    IfSome o (λ x. as_pair x ≡ cell_of c.inputs F P r bound mask)) →
+    o ≡ Some cell → pair_of cell ≡ cell_for t mask
+cell_found t k mask c o cell h exact e =
+    from_some (λ x. as_pair x ≡ cell_of c.inputs (functions t.problem) t.pairs.pairs t.reserve t.bound mask) o cell
+    (exact (functions t.problem) t.pairs.pairs t.reserve t.bound
+    (subst (λ (n : ℕ). AreTrueCells n (functions t.problem) t.pairs.pairs t.reserve t.bound c) (sym h.inputs) h.cells_are)) e
+    ∙ ap (λ n. cell_of n (functions t.problem) t.pairs.pairs t.reserve t.bound mask) h.inputs

@@ -1,0 +1,9 @@
+pub mod SymmetricWords
+pub mod Filters
+pub mod Wanted
+pub mod Clipped
+pub mod Layers
+pub mod ReadOrders
+pub mod ListedSets
+pub mod Solved
+pub mod Harmless

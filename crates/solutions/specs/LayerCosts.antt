@@ -1,0 +1,27 @@
+-- The costs and the cells of layers.
+--     AreCostsFor t costs, IsLayerFor t size costs      the costs are the definition's; the costs and the cells of the layer of a size are
+--     AreLayersFor t layers, AreAllLayers t layers      the layers from that of the empty set on; those of all sets
+use Rattle.std.specs.Prelude.{◌≡◌, ℕ, ◌+◌, List, length, slice_get, Some}
+use Rattle.order_model.specs.Problems.{functions}
+use Rattle.subset_layers.specs.Costs.{CostsOf, AreTrueCosts, AreTrueCells}
+use Rattle.layer_core.specs.Settings.{Setting}
+
+-- the costs are the definition's for the setting
+abbrev pub AreCostsFor : Setting → CostsOf → Type 0
+AreCostsFor t costs = AreTrueCosts t.problem.inputs (functions t.problem) t.pairs.pairs t.reserve t.bound costs
+
+-- the costs of the layer of a size, and its cells, are the definition's
+pub record IsLayerFor (t : Setting) (size : ℕ) (costs : CostsOf) : Type 0 where
+  pub inputs : costs.inputs ≡ t.problem.inputs
+  pub size_is : costs.size ≡ size
+  pub costs_are : AreCostsFor t costs
+  pub cells_are : AreTrueCells t.problem.inputs (functions t.problem) t.pairs.pairs t.reserve t.bound costs
+
+-- the layers from that of the empty set on
+abbrev pub AreLayersFor : Setting → List CostsOf → Type 0
+AreLayersFor t layers = (k : ℕ) (c : CostsOf) → slice_get layers k ≡ Some c → IsLayerFor t k c
+
+-- the layers of all sets
+pub record AreAllLayers (t : Setting) (layers : List CostsOf) : Type 0 where
+  pub many : length layers ≡ t.problem.inputs + 1
+  pub layers_are : AreLayersFor t layers

@@ -1,0 +1,7 @@
+pub mod Settings
+pub mod LayerCosts
+pub mod FlatCells
+pub mod Storages
+pub mod Bounded
+pub mod Needs
+pub mod Solutions

@@ -1,0 +1,158 @@
+//! The cells of all sets.
+
+ghost use Rattle.std.specs.Prelude.{◌≡◌, ◌^◌, ◌<◌, ◌≤◌, count_ones};
+ghost use Rattle.order_model.specs.Cells.{candidates};
+ghost use Rattle.order_model.specs.Orders.{mask_of};
+ghost use Rattle.order_model.specs.Problems.{functions};
+ghost use Rattle.order_model.specs.Widths.{essential_mask};
+ghost use Rattle.layer_core.specs.Settings.{cell_for};
+ghost use Rattle.layer_core.specs.Pairing.{pair_of};
+ghost use Rattle.solutions.specs.Needs.{needed};
+ghost use Rattle.solutions.specs.Solutions.{cost_for, cost_for_without};
+ghost use Rattle.solutions.specs.LayerCosts.{AreAllLayers, IsLayerFor};
+ghost use Rattle.solutions.specs.FlatCells.{AreFlatCells};
+
+use crate::needs::asked_members;
+use crate::setting::Setting;
+use order_model::{Mask, contains};
+use std::marker::Model;
+use subset_layers::{Cell, Costs};
+
+/// How the cells are kept: by layers, or each at its set's mask.
+#[derive(Drop)]
+enum Storage {
+    Layers(Vec<Costs>),
+    Flat(Vec<Cell>),
+}
+
+/// The cells of all sets of a problem's variables. Some order that keeps the pairs has at most the
+/// bound as its size.
+#[derive(Drop)]
+pub struct AllCells<'a> {
+    setting: &'a Setting<'a>,
+    storage: Storage,
+}
+
+impl<'a> Model for AllCells<'a> {
+    ghost use Rattle.layer_core.specs.Settings.{Setting};
+    ghost use Rattle.solutions.specs.Bounded.{HoldsCells};
+
+    ghost Value = { Setting };
+
+    ghost view = { λ a. a.setting.now };
+
+    ghost invariant = { λ a. HoldsCells a.setting.now a.storage };
+}
+
+/// The layer of a size.
+fn layer_of<'c>(setting: &Setting<'_>, layers: &'c [Costs], size: u32) -> &'c Costs
+    requires layers { AreAllLayers setting.now layers.now }
+    requires few { size ≤ setting.now.problem.inputs }
+    ensures { IsLayerFor setting.now size result.now }
+{
+    let _inputs = setting.inputs();
+    &layers[size as usize]
+}
+
+impl<'a> AllCells<'a> {
+    ghost use Rattle.solutions.specs.Bounded.{IsBounded};
+
+    /// The cells of the layers of all sets.
+    pub fn of_layers(setting: &'a Setting<'a>, layers: Vec<Costs>) -> AllCells<'a>
+        requires bounded { IsBounded setting.now }
+        requires layers { AreAllLayers setting.now layers.items }
+        ensures { result ≡ setting.now }
+    {
+        AllCells {
+            setting,
+            storage: Storage::Layers(layers),
+        }
+    }
+
+    /// The cells of all sets, each at its set's mask.
+    pub fn of_cells(setting: &'a Setting<'a>, cells: Vec<Cell>) -> AllCells<'a>
+        requires bounded { IsBounded setting.now }
+        requires cells { AreFlatCells setting.now cells.items }
+        ensures { result ≡ setting.now }
+    {
+        AllCells {
+            setting,
+            storage: Storage::Flat(cells),
+        }
+    }
+
+    /// The number of variables.
+    pub fn inputs(&self) -> u8
+        ensures value { result ≡ self.now.problem.inputs }
+        ensures some { 1 ≤ result }
+        ensures few { result ≤ 16 }
+        ensures bounded { IsBounded self.now }
+    {
+        self.setting.inputs()
+    }
+
+    /// The set of the variables on which some function depends.
+    pub fn essential(&self) -> Mask
+        ensures { result ≡ essential_mask self.now.problem.inputs (functions self.now.problem) }
+    {
+        self.setting.essential()
+    }
+
+    /// The cost of a set.
+    pub fn cost(&self, mask: Mask) -> u32
+        requires { mask < 2 ^ self.now.problem.inputs }
+        ensures { result ≡ cost_for self.now mask }
+    {
+        match &self.storage {
+            Storage::Layers(layers) => {
+                let layer = layer_of(self.setting, layers, mask.count_ones());
+                layer.cost_of(mask).unwrap()
+            }
+            Storage::Flat(cells) => cells[usize::from(mask)].cost,
+        }
+    }
+
+    /// The cell of a set that is not empty.
+    pub fn cell(&self, mask: Mask) -> Cell
+        requires some { 0 < mask }
+        requires within { mask < 2 ^ self.now.problem.inputs }
+        ensures { pair_of result ≡ cell_for self.now mask }
+    {
+        match &self.storage {
+            Storage::Layers(layers) => {
+                let layer = layer_of(self.setting, layers, mask.count_ones());
+                layer.cell_of(mask).unwrap()
+            }
+            Storage::Flat(cells) => cells[usize::from(mask)],
+        }
+    }
+
+    /// The members of a set without which the cost is within the bound.
+    fn affordable_members(&self, mask: Mask) -> Mask
+        requires { mask < 2 ^ self.now.problem.inputs }
+        ensures { result ≡ mask_of
+            (candidates self.now.problem.inputs self.now.bound mask (cost_for_without self.now mask)) }
+    {
+        let bound = self.setting.limit().bound;
+        let mut found: Mask = 0;
+        for x in 0..self.inputs() {
+            if contains(mask, x) && self.cost(mask - (1 << x)) <= bound {
+                found |= 1 << x;
+            }
+        }
+        found
+    }
+
+    /// The members of a set whose widths its cell takes.
+    pub fn needed_members(&self, mask: Mask) -> Mask
+        requires { mask < 2 ^ self.now.problem.inputs }
+        ensures { result ≡ needed self.now mask }
+    {
+        if self.setting.pairs().lawful(mask) {
+            let known = self.affordable_members(mask);
+            asked_members(self.setting.limit().reserve, mask, known)
+        } else {
+            0
+        }
+    }
+}

@@ -1,0 +1,44 @@
+//! The first order of the fewest nodes, and what its certificate lists.
+
+ghost use Rattle.std.specs.Prelude.{◌≡◌, ◌≤◌, IfOk};
+ghost use Rattle.order_model.specs.declared.reserve.Reserve.TheVariants.{Variables};
+ghost use Rattle.solutions.specs.Solutions.{IsOptimumFor, IsSolution, widths_for_all};
+
+use crate::all_cells::AllCells;
+use crate::listing::{count_widths, listed_cells};
+use crate::reading::{all_variables, level_counts, read_order};
+use crate::solution::{Optimum, Solution};
+use std::alloc::{AllocError, Global};
+
+/// The order that the cells of all sets give: the first one of the fewest nodes among those that
+/// keep the pairs.
+pub fn optimum_of(alloc: Global, cells: &AllCells<'_>) -> Result<Optimum, AllocError>
+    ensures optimum { IfOk result (IsOptimumFor cells.now.problem cells.now.pairs.pairs) }
+    ensures bounded { IfOk result (λ o. o.total ≤ cells.now.bound) }
+{
+    let total = cells.cost(all_variables(cells.inputs()));
+    let order = read_order(alloc, cells)?;
+    let levels = level_counts(alloc, cells, &order)?;
+    Ok(Optimum {
+        order,
+        total,
+        levels,
+    })
+}
+
+/// The same, with what its certificate lists. For that the cells count on one node above a set for
+/// each essential variable outside, and no more.
+pub fn solution_of(alloc: Global, cells: &AllCells<'_>) -> Result<Solution, AllocError>
+    requires { cells.now.reserve ≡ Variables }
+    ensures solution { IfOk result (IsSolution cells.now.problem cells.now.pairs.pairs) }
+    ensures widths { IfOk result (λ s. s.widths ≡ widths_for_all cells.now) }
+{
+    let optimum = optimum_of(alloc, cells)?;
+    let listed = listed_cells(alloc, cells, optimum.total)?;
+    let widths = count_widths(cells);
+    Ok(Solution {
+        optimum,
+        cells: listed,
+        widths,
+    })
+}
