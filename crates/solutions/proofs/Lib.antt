@@ -3,6 +3,7 @@ pub mod Filters
 pub mod Wanted
 pub mod Clipped
 pub mod Layers
+pub mod FlatLists
 pub mod ReadOrders
 pub mod ListedSets
 pub mod Solved

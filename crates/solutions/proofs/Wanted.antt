@@ -5,7 +5,7 @@
 --     asked_some, asked_none, asked_variables      their mask, as the code finds it
 --     needed_lawful, needed_unlawful      the mask of what is needed
 --     wanted_bit, needed_ones, few_each      the bits of their mask, and how many it has
-use Rattle.std.proofs.Common.{◌≡◌, ◌≢◌, ℕ, ◌+◌, ◌-◌, ◌^◌, ◌<◌, ◌≤◌, Bool, true, false, cond, ◌&&◌, ◌||◌, List, [], ◌∷◌, map, length, unwrap_or, refl, sym, ap, ◌∙◌, arith, eqb, eq-eqb, ne_eqb, leb, count_ones}
+use Rattle.std.proofs.Common.{◌≡◌, ◌≢◌, ℕ, ◌-◌, ◌^◌, ◌<◌, ◌≤◌, Bool, true, false, cond, ◌&&◌, ◌||◌, List, [], ◌∷◌, map, length, refl, sym, ap, ◌∙◌, arith, eqb, eq-eqb, ne_eqb, leb, count_ones}
 use Rattle.std.specs.Int.{bit_at}
 use Rattle.std.specs.List.{filter, sum_by, IsDistinct}
 use Rattle.std.proofs.lemmas.Nat.Bits.{bit_at-zero}
@@ -59,7 +59,7 @@ unfolding is_affordable
 affordable_absent costs bound mask x b = and_left _ _ (ne_eqb (bit_at mask x) 1 b)
 
 -- the costs of a set without each of its members
-pub AreCostsWithout : ℕ → List Function → List Pair → Reserve → ℕ → ℕ → (ℕ → ℕ) → Type 0
+abbrev pub AreCostsWithout : ℕ → List Function → List Pair → Reserve → ℕ → ℕ → (ℕ → ℕ) → Type 0
 AreCostsWithout n F P r bound mask costs = (x : ℕ) → has (members n mask) x ≡ true → costs x ≡ cell_cost n F P r bound (mask - 2 ^ x)
 
 module _ (n : ℕ) (costs : ℕ → ℕ) (F : List Function) (P : List Pair) (r : Reserve) (bound mask : ℕ) (are : AreCostsWithout n F P r bound mask costs) where
@@ -72,7 +72,7 @@ module _ (n : ℕ) (costs : ℕ → ℕ) (F : List Function) (P : List Pair) (r 
 
   both : (x : ℕ) → has S x ≡ true → is_lawful P S ≡ true →
       (is_lawful P (without x S) && (is_lawful P S && leb (cell_cost n F P r bound (mask - 2 ^ x)) bound)) ≡ leb (costs x) bound
-  both x m low = grind (arith, same_bool, are, and_parts, and_from, top_is, leb-true)
+  both x m low = grind (arith, same_bool, are x m, and_parts, and_from, top_is, leb-true)
 
   open_lawful : is_lawful P S ≡ true → open_tops n F P r bound mask ≡ candidates n bound mask costs
   unfolding open_tops candidates

@@ -68,7 +68,8 @@ impl<'a> Setting<'a> {
 
     /// The pairs that an order must keep.
     pub fn pairs(&self) -> &Pairs
-        ensures { result.now ≡ self.now.pairs }
+        ensures value { result.now ≡ self.now.pairs }
+        ensures inputs { result.now.inputs ≡ self.now.problem.inputs }
     {
         self.pairs
     }

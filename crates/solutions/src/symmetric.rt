@@ -59,11 +59,7 @@ fn symmetric_pairs(alloc: Global, problem: &Problem) -> Result<Pairs, AllocError
 
 /// The pairs that a search keeps: those that are asked for, or, if none is, those of symmetric
 /// variables.
-pub fn pairs_to_keep(
-    alloc: Global,
-    problem: &Problem,
-    asked: &Pairs,
-) -> Result<Pairs, AllocError>
+pub fn pairs_to_keep(alloc: Global, problem: &Problem, asked: &Pairs) -> Result<Pairs, AllocError>
     requires { asked.now.inputs ≡ problem.now.inputs }
     ensures inputs { IfOk result (λ p. p.inputs ≡ problem.now.inputs) }
     ensures harmless { IfOk result
