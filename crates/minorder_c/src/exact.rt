@@ -5,7 +5,7 @@ ghost use Rattle.order_model.specs.Problems.{functions};
 ghost use Rattle.order_model.specs.KeptPairs.{CanBeKept};
 ghost use Rattle.order_model.specs.Pairs.{sorted_pairs};
 ghost use Rattle.minorder_c.specs.Answers.{AllStay, HasCallShape, functions_in, pairs_given};
-ghost use Rattle.order_solve.specs.Solutions.{IsFirstFewest, IsOptimumFor};
+ghost use Rattle.solutions.specs.Solutions.{IsFirstFewest, IsOptimumFor};
 ghost use Rattle.minorder_c.specs.Statuses.{IsPlainStatus, RefusesShape, RefusesPairs, TellsShape};
 
 use crate::above::{AbovePair, kept_pairs};

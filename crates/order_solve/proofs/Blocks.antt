@@ -21,10 +21,11 @@ use Rattle.subset_layers.specs.Costs.{CostsOf, cost_without, AreTrueCosts, AreWi
 use Rattle.subset_layers.proofs.BlockLists.{has_slice_get}
 use Rattle.layer_core.specs.Settings.{Setting, cell_for}
 use Rattle.compaction.specs.Rows.{width_wanted, IsWidthRow, AreMembers, AreWidthRows}
+use Rattle.solutions.specs.Settings.{HoldsSetting}
+use Rattle.solutions.specs.Needs.{needed}
+use Rattle.solutions.proofs.Wanted.{wanted_member, wanted_bit, bit_wanted}
 use Rattle.order_solve.specs.LayerContexts.{ContextOf, IsContext}
-use Rattle.order_solve.specs.Settings.{HoldsSetting}
-use Rattle.order_solve.specs.Needs.{needed}
-use Rattle.order_solve.proofs.Wanted.{wanted_lawful, wanted_member, wanted_bit, bit_wanted}
+use Rattle.order_solve.proofs.NeedsByCosts.{wanted_by_costs}
 
 pub block_has : (blk : BlockOf) (i mask : ℕ) → slice_get (block_masks blk) i ≡ Some mask → has (masks_of (layer_of blk)) mask ≡ true
 unfolding block_masks
@@ -78,7 +79,7 @@ module _ (b : ContextOf) (h : IsContext b) where
         has (wanted t.problem.inputs F t.pairs.pairs t.reserve t.bound mask) x ≡ true
     wanted_has x low m =
         ap (λ k. has (wanted k F t.pairs.pairs t.reserve t.bound mask) x) (sym h.inputs)
-        ∙ ap (λ xs. has xs x) (wanted_lawful c F t.pairs.pairs t.reserve t.bound mask next own_costs low) ∙ m
+        ∙ ap (λ xs. has xs x) (wanted_by_costs c F t.pairs.pairs t.reserve t.bound mask next own_costs low) ∙ m
 
     bit_there : (x : ℕ) → has (wanted t.problem.inputs F t.pairs.pairs t.reserve t.bound mask) x ≡ true → bit_at (needed t mask) x ≡ 1
     unfolding needed

@@ -8,8 +8,7 @@ use Rattle.std.specs.List.{filter, list_any, sum_by, IsDistinct, range_with_len}
 use Rattle.std.proofs.lemmas.Bool.{false≢true, true≢false, cases_Bool, and_from, and_left, or_right, false_from_ne_true}
 use Rattle.std.proofs.lemmas.List.Sums.{sum_by-cons, sum-map}
 use Rattle.std.proofs.lemmas.Option.{slice_get_within, slice_get-get_or, same_Some}
-use Rattle.order_model.specs.Orders.{has, members, place_in}
-use Rattle.std.proofs.lemmas.List.FromFn.{length-range_with_len}
+use Rattle.order_model.specs.Orders.{has, place_in}
 use Rattle.order_model.proofs.Lists.Orders.{place_get, place_at, has_at, place_small}
 use Rattle.order_model.proofs.Widths.Recurrence.{distinct_filter, distinct_variables}
 use Rattle.subset_layers.specs.Layers.{LayerOf, BlockOf, layer_of, block_of, masks_of, block_masks, blocks_of, low_bytes, low_byte, block_place}
@@ -18,9 +17,10 @@ use Rattle.layer_core.specs.Machine.{claimed, claims_block}
 use Rattle.layer_core.specs.Settings.{Setting}
 use Rattle.layer_board.specs.Views.{BoardId, SeatOf, stepped, claims_place, has_claimed}
 use Rattle.layer_core.proofs.Layouts.{place_found, place_missing, block_at, few_masks_in}
-use Rattle.order_solve.specs.Gains.{gains, gained, width_count, widths_for}
-use Rattle.order_model.proofs.Lists.Ranges.{filter_at_most}
-use Rattle.order_model.proofs.Widths.Count.{wanted_few}
+use Rattle.solutions.specs.Needs.{width_count, widths_for}
+use Rattle.solutions.proofs.Filters.{sum_few}
+use Rattle.solutions.proofs.Wanted.{few_each}
+use Rattle.order_solve.specs.Gains.{gains, gained}
 
 -- ---- a mask and its block
 
@@ -157,14 +157,6 @@ module _ (s s' : SeatOf) (p : ℕ) (b : BlockOf) (h : ClaimsBlock s s' p b) wher
           )
 
 -- ---- few sets take few widths
-
-pub few_each : (t : Setting) (mask : ℕ) → t.problem.inputs ≤ 16 → width_count t mask ≤ 16
-unfolding members
-few_each t mask few = grind (arith, wanted_few, filter_at_most, length-range_with_len)
-
-pub sum_few : (f : ℕ → ℕ) (p : ℕ → Bool) (xs : List ℕ) → ((x : ℕ) → f x ≤ 16) → sum_by f (filter p xs) ≤ 16 * length xs
-sum_few f p [] h = omega arith
-sum_few f p (x ∷ xs) h = grind (arith, sum_by-cons, sum_few f p xs h)
 
 pub few_gained : (t : Setting) (s s' : SeatOf) (n : ℕ) → t.problem.inputs ≤ 16 → s.board.brief.layer.inputs ≡ n → n ≤ 16 →
     widths_for t (gained s s') ≤ 16 * 2 ^ 16

@@ -1,13 +1,7 @@
-pub mod SymmetricWords
-pub mod Filters
-pub mod Wanted
+pub mod NeedsByCosts
 pub mod Blocks
 pub mod Posts
 pub mod Claimed
 pub mod Rounds
 pub mod Placing
-pub mod Layers
-pub mod ReadOrders
-pub mod ListedSets
-pub mod Solved
-pub mod Harmless
+pub mod SiftedBounds

@@ -22,10 +22,14 @@ use Rattle.layer_core.specs.Settings.{Setting, cell_for}
 use Rattle.layer_core.specs.Pairing.{pair_of}
 use Rattle.layer_core.proofs.Layouts.{length-map_lem, few_masks_in}
 use Rattle.subset_layers.proofs.CostLists.{distinct_masks}
-use Rattle.order_solve.specs.LayerContexts.{ContextOf, IsLayerFor}
-use Rattle.order_solve.specs.Gains.{widths_for}
-use Rattle.order_solve.specs.Placed.{IsPlaced, no_cell}
-use Rattle.order_solve.proofs.Claimed.{block_layer, in_place, sum_few, few_each}
+use Rattle.solutions.specs.LayerCosts.{IsLayerFor}
+use Rattle.solutions.specs.Needs.{widths_for}
+use Rattle.solutions.specs.FlatCells.{no_cell}
+use Rattle.solutions.proofs.Filters.{sum_few}
+use Rattle.solutions.proofs.Wanted.{few_each}
+use Rattle.order_solve.specs.LayerContexts.{ContextOf}
+use Rattle.order_solve.specs.Placed.{IsPlaced}
+use Rattle.order_solve.proofs.Claimed.{block_layer, in_place}
 use Rattle.order_model.proofs.Lists.Accepted.{index_of}
 
 pub found_cell : (t : Setting) (masks : List ℕ) (cells : List Cell) (i mask : ℕ) → map pair_of cells ≡ map (cell_for t) masks →

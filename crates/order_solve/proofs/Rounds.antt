@@ -13,8 +13,9 @@ use Rattle.layer_core.specs.Machine.{claimed, claims_block}
 use Rattle.layer_core.specs.Settings.{Setting}
 use Rattle.layer_core.proofs.Layouts.{few_blocks}
 use Rattle.layer_board.specs.Views.{BoardId, SeatOf, stepped, has_claimed, knows_filled}
-use Rattle.order_solve.specs.Gains.{gains, gained, widths_for, StaysClaimed, IsPosted}
-use Rattle.order_solve.proofs.Filters.{filter_none}
+use Rattle.solutions.specs.Needs.{widths_for}
+use Rattle.solutions.proofs.Filters.{filter_none}
+use Rattle.order_solve.specs.Gains.{gains, gained, StaysClaimed, IsPosted}
 use Rattle.order_solve.proofs.Posts.{claimed_same}
 use Rattle.order_solve.proofs.Claimed.{ClaimsBlock, claimed_has, block_layer, same_board, as_before, kept, claim_gains, was_open, open_marks, fewer_open}
 

@@ -1,14 +1,11 @@
--- The variables whose widths the cell of a set takes.
+-- The members of a set of the next layer without which the cost is within the bound.
 --     IsInNextLayer costs mask      a set of the layer after the one of some costs
 --     affordable costs bound mask      the members of a set without which the cost is within the bound
---     needed t mask      the mask of the members whose widths the cell of a set takes
 use Rattle.std.specs.Prelude.{ℕ, ◌+◌, List, IsTrue}
-use Rattle.order_model.specs.Orders.{has, mask_of}
-use Rattle.order_model.specs.Problems.{functions}
-use Rattle.order_model.specs.Cells.{candidates, wanted}
+use Rattle.order_model.specs.Orders.{has}
+use Rattle.order_model.specs.Cells.{candidates}
 use Rattle.subset_layers.specs.Layers.{layer_with, masks_of}
 use Rattle.subset_layers.specs.Costs.{CostsOf, cost_without}
-use Rattle.layer_core.specs.Settings.{Setting}
 
 -- a set of the layer after the one of some costs
 abbrev pub IsInNextLayer : CostsOf → ℕ → Type 0
@@ -17,7 +14,3 @@ IsInNextLayer costs mask = IsTrue (has (masks_of (layer_with costs.inputs (costs
 -- the members of a set without which the cost is within the bound
 abbrev pub affordable : CostsOf → ℕ → ℕ → List ℕ
 affordable costs bound mask = candidates costs.inputs bound mask (cost_without costs mask)
-
--- the mask of the members whose widths the cell of a set takes
-unfoldable pub needed : Setting → ℕ → ℕ
-needed t mask = mask_of (wanted t.problem.inputs (functions t.problem) t.pairs.pairs t.reserve t.bound mask)

@@ -8,11 +8,8 @@ use Rattle.subset_layers.specs.declared.costs.Cell.{Cell}
 use Rattle.subset_layers.specs.Layers.{BlockOf, masks_of, block_masks}
 use Rattle.layer_core.specs.Settings.{cell_for}
 use Rattle.layer_core.specs.Pairing.{pair_of}
+use Rattle.solutions.specs.FlatCells.{no_cell}
 use Rattle.order_solve.specs.LayerContexts.{ContextOf}
-
--- the cell of no set
-abbrev pub no_cell : Cell
-no_cell = record { cost = 0; variable = 0 }
 
 -- the cell at a place is that of the set there
 abbrev pub IsPlaced : ContextOf → List Cell → ℕ → Type 0

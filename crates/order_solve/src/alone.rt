@@ -2,16 +2,16 @@
 
 ghost use Rattle.std.specs.Prelude.{◌≡◌, length, IfOk, OnOk};
 ghost use Rattle.subset_layers.specs.Layers.{layer_of, masks_of, block_masks};
-ghost use Rattle.order_solve.specs.LayerContexts.{AreCells, IsLayerFor};
-ghost use Rattle.order_solve.specs.Bounded.{AreAllLayers, AreDone};
+ghost use Rattle.solutions.specs.LayerCosts.{AreAllLayers, IsLayerFor};
+ghost use Rattle.order_solve.specs.LayerContexts.{AreCells, AreDone};
 ghost use Rattle.order_solve.specs.Placed.{AreCellsPlaced, StayPlaced};
 
 use crate::cells::cells_of_block;
 use crate::context::LayerContext;
 use crate::layering::{NextLayer, first_layer};
 use crate::looking::look_ahead;
-use crate::setting::Setting;
 use compaction::{SharedTables, Tallies, WidthSource, WidthsAhead};
+use solutions::Setting;
 use std::alloc::{AllocError, Global};
 use subset_layers::{Block, Cell, Costs, Layer};
 

@@ -4,9 +4,8 @@ ghost use Rattle.std.specs.Prelude.{◌≡◌, map, IfOk, OnOk};
 ghost use Rattle.compaction.specs.Rows.{AreWidthRows, wanted_count};
 ghost use Rattle.compaction.specs.Walks.{AreAsked, AreRowsOf, Counts, HasRoom};
 ghost use Rattle.subset_layers.specs.Layers.{layer_of, block_masks};
+ghost use Rattle.solutions.specs.Needs.{needed, widths_for};
 ghost use Rattle.order_solve.specs.LayerContexts.{AreCells};
-ghost use Rattle.order_solve.specs.Gains.{widths_for};
-ghost use Rattle.order_solve.specs.Needs.{needed};
 
 use crate::context::LayerContext;
 use crate::needs::needs_of_block;

@@ -2,8 +2,8 @@
 
 ghost use Rattle.std.specs.Prelude.{◌≡◌};
 
-use crate::setting::Setting;
 use compaction::WidthSource;
+use solutions::Setting;
 use std::marker::Model;
 use subset_layers::{Costs, Layer};
 

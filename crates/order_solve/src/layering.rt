@@ -4,16 +4,17 @@ ghost use Rattle.std.specs.Prelude.{◌≡◌, ◌≤◌, ◌++◌, ◌∷◌, [
 ghost use Rattle.std.specs.Thread.{IsSync};
 ghost use Rattle.subset_layers.specs.Layers.{masks_of};
 ghost use Rattle.compaction.specs.Ahead.{with_others};
-ghost use Rattle.order_solve.specs.LayerContexts.{AreCells, IsLayerFor};
-ghost use Rattle.order_solve.specs.Bounded.{AreDone, AreLayersFor};
+ghost use Rattle.solutions.specs.LayerCosts.{AreAllLayers, AreLayersFor, IsLayerFor};
+ghost use Rattle.order_solve.specs.LayerContexts.{AreCells, AreDone};
 
 use crate::alone::cells_alone;
 use crate::context::LayerContext;
-use crate::setting::Setting;
+use crate::looking::look_ahead;
 use crate::working::{WorkerResult, work_layer};
-use compaction::{SharedTables, WidthSource, WidthsAhead};
+use compaction::{Preparation, SharedTables, WidthSource, WidthsAhead};
 use layer_board::{Board, BoardSeat, CloseError};
 use order_model::{Crew, Gate, Pairs, Workers};
+use solutions::Setting;
 use std::alloc::{AllocError, Global};
 use std::thread;
 use std::thread::Threads;
@@ -240,4 +241,24 @@ pub(crate) fn next_layer<'a, R: Threads + Sync, G: Gate>(
     let cells = cells_of_layer(crew, alloc, &context, &mut found)?;
     let costs = Costs::of(layer, cells);
     Ok(NextLayer { costs, found })
+}
+
+/// The layers of all sets.
+pub(crate) fn layers_of<R: Threads + Sync, G: Gate>(
+    crew: &Crew<'_, R, G>,
+    alloc: Global,
+    setting: &Setting<'_>,
+    prepared: Preparation<'_>,
+) -> Result<Vec<Costs>, AllocError>
+    requires { prepared.problem ≡ setting.now.problem }
+    ensures { IfOk result (λ v. AreAllLayers setting.now v.items) }
+{
+    let (shared, mut ahead) = prepared.into_parts();
+    let mut layers = first_layer(alloc, setting)?;
+    for _size in 0..setting.inputs() {
+        ahead = look_ahead(alloc, setting, ahead, &layers);
+        let next = next_layer(crew, alloc, setting, &shared, &ahead, &layers)?;
+        next.add_to(&mut layers, &mut ahead)?;
+    }
+    Ok(layers)
 }

@@ -2,17 +2,12 @@
 //! several workers.
 #![tactic(auto)]
 
-// What a search is for, and who does it.
-mod setting;
-
 // The solver: the layers one after another, by workers or by the calling thread.
 mod alone;
 mod layering;
 mod looking;
 mod preparing;
 mod solving;
-mod symmetric;
-mod symmetric_words;
 
 // A worker's part of a layer: what it is lent, the widths that it needs, the cells of its blocks.
 mod cells;
@@ -20,16 +15,9 @@ mod context;
 mod needs;
 mod working;
 
-// What is read off the cells of all layers.
-mod all_cells;
-mod listing;
-mod reading;
-mod solution;
-
 pub use compaction::Preparation;
 pub use context::LayerContext;
 pub use preparing::prepare;
-pub use setting::Setting;
-pub use solution::{Optimum, Solution};
+pub use solutions::{Optimum, Setting, Solution};
 pub use solving::{find_optimum, find_optimum_alone, solve, solve_alone};
 pub use working::{WorkerResult, work_layer};

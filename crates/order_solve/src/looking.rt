@@ -1,11 +1,11 @@
 //! How far the walks of a layer look ahead.
 
 ghost use Rattle.std.specs.Prelude.{◌≡◌, ◌≤◌, length};
-ghost use Rattle.order_solve.specs.Bounded.{AreDone};
+ghost use Rattle.order_solve.specs.LayerContexts.{AreDone};
 
-use crate::setting::Setting;
 use compaction::WidthsAhead;
 use order_model::{Limit, Problem, Reserve};
+use solutions::Setting;
 use std::alloc::Global;
 use subset_layers::Costs;
 

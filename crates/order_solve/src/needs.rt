@@ -1,16 +1,15 @@
 //! The variables whose widths the cell of a set takes.
 
-ghost use Rattle.std.specs.Prelude.{◌≡◌, ◌^◌, ◌<◌, ℕ, map, IfOk};
+ghost use Rattle.std.specs.Prelude.{◌≡◌, map, IfOk};
 ghost use Rattle.order_model.specs.Orders.{mask_of};
-ghost use Rattle.order_model.specs.Cells.{asked};
-ghost use Rattle.subset_layers.specs.Costs.{CostsOf, cost_without};
 ghost use Rattle.subset_layers.specs.Layers.{layer_of, block_masks};
-ghost use Rattle.order_solve.specs.LayerContexts.{AreCostsFor};
-ghost use Rattle.order_solve.specs.Needs.{IsInNextLayer, affordable, needed};
+ghost use Rattle.solutions.specs.LayerCosts.{AreCostsFor};
+ghost use Rattle.solutions.specs.Needs.{needed};
+ghost use Rattle.order_solve.specs.Needs.{IsInNextLayer, affordable};
 
 use crate::context::LayerContext;
-use crate::setting::Setting;
-use order_model::{Mask, Reserve, contains};
+use order_model::{Mask, contains};
+use solutions::{Setting, asked_members};
 use std::alloc::{AllocError, Global};
 use subset_layers::{Block, Costs};
 
@@ -31,21 +30,8 @@ fn affordable_members(mask: Mask, costs: &Costs, bound: u32) -> Mask
     found
 }
 
-/// The members of a set whose widths its cell takes, by those without which the cost is within the
-/// bound: these, or all of them if widths are counted on and there is any such.
-fn asked_members(reserve: Reserve, mask: Mask, known: Mask) -> Mask
-    ensures { (c : CostsOf) (bound : ℕ) → known ≡ mask_of (affordable c bound mask) →
-        mask < 2 ^ c.inputs →
-        result ≡ mask_of (asked c.inputs reserve bound mask (cost_without c mask)) }
-{
-    match reserve {
-        Reserve::Variables => known,
-        Reserve::Widths => { if known == 0 { 0 } else { mask } }
-    }
-}
-
 /// The members of a set whose widths its cell takes.
-pub(crate) fn needed_members(setting: &Setting<'_>, before: &Costs, mask: Mask) -> Mask
+fn needed_members(setting: &Setting<'_>, before: &Costs, mask: Mask) -> Mask
     requires next { IsInNextLayer before.now mask }
     requires inputs { before.now.inputs ≡ setting.now.problem.inputs }
     requires costs { AreCostsFor setting.now before.now }

@@ -3,9 +3,9 @@
 ghost use Rattle.std.specs.Prelude.{◌≡◌, IfOk};
 
 use crate::looking::first_layers;
-use crate::symmetric::has_symmetric_variables;
 use compaction::Preparation;
 use order_model::{Limit, Pairs, Problem, Reserve, Workers};
+use solutions::pairs_to_keep;
 use std::alloc::{AllocError, Global};
 use std::thread::Threads;
 
@@ -30,7 +30,7 @@ pub fn prepare<'a, R: Threads + Sync>(
         return Ok(prepared);
     }
     let asks_no_pairs = limit.reserve == Reserve::Widths && pairs.count() == 0;
-    let end = if asks_no_pairs && has_symmetric_variables(problem) {
+    let end = if asks_no_pairs && pairs_to_keep(alloc, problem, pairs)?.count() > 0 {
         0
     } else {
         first_layers(problem, limit)

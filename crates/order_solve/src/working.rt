@@ -7,8 +7,9 @@ ghost use Rattle.compaction.specs.Ahead.{widths_ahead};
 ghost use Rattle.layer_core.specs.Settings.{cell_for};
 ghost use Rattle.layer_board.specs.Views.{has_claimed, knows_filled};
 ghost use Rattle.layer_core.specs.Pairing.{pair_of};
+ghost use Rattle.solutions.specs.Needs.{widths_for};
 ghost use Rattle.order_solve.specs.LayerContexts.{AreCells};
-ghost use Rattle.order_solve.specs.Gains.{gains, gained, widths_for, IsPosted, StaysClaimed};
+ghost use Rattle.order_solve.specs.Gains.{gains, gained, IsPosted, StaysClaimed};
 
 use crate::cells::cells_of_block;
 use crate::context::LayerContext;

@@ -5,7 +5,7 @@ use Rattle.order_model.specs.Pairs.{Pair}
 use Rattle.order_model.specs.Problems.{TruthTables, functions}
 use Rattle.order_model.specs.Certificates.{certificate_of}
 use Rattle.order_model.specs.Listed.{listed}
-use Rattle.order_solve.specs.Solutions.{IsOptimumFor}
+use Rattle.solutions.specs.Solutions.{IsOptimumFor}
 use Rattle.report.specs.declared.best.Best.{Best}
 
 -- the first order of the fewest nodes among those that keep the pairs, and the cells of its certificate if that is asked for

@@ -2,7 +2,7 @@
 
 ghost use Rattle.std.specs.Prelude.{◌≡◌, ◌+◌, ◌<◌};
 
-use crate::solutions::tables_of;
+use crate::searches::tables_of;
 use order_model::{Mask, Pairs, Reserve, Reserves};
 use std::alloc::Global;
 use std::process::Abort;

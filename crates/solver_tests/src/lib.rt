@@ -6,8 +6,8 @@ mod boards;
 #[cfg(test)]
 mod layers;
 #[cfg(test)]
-mod sifts;
+mod searches;
 #[cfg(test)]
-mod solutions;
+mod sifts;
 #[cfg(test)]
 mod workers;

@@ -2,7 +2,7 @@
 
 ghost use Rattle.std.specs.Prelude.{◌<◌, length};
 
-use crate::solutions::{manager_of, tables_of};
+use crate::searches::{manager_of, tables_of};
 use order_model::VarIx;
 use sifting::Manager;
 use std::alloc::Global;

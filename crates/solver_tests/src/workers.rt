@@ -4,10 +4,11 @@ ghost use Rattle.std.specs.Prelude.{◌≡◌, ◌+◌, All, map};
 ghost use Rattle.subset_layers.specs.Layers.{masks_of, layer_with};
 ghost use Rattle.layer_core.specs.Pairing.{pair_of};
 ghost use Rattle.layer_core.specs.Settings.{cell_for};
-ghost use Rattle.order_solve.specs.LayerContexts.{IsContext, IsLayerFor, context_with};
+ghost use Rattle.solutions.specs.LayerCosts.{IsLayerFor};
+ghost use Rattle.order_solve.specs.LayerContexts.{IsContext, context_with};
 
 use crate::boards::{error_of_closing, is_stranger, lone_board};
-use crate::solutions::tables_of;
+use crate::searches::tables_of;
 use layer_board::{Board, BoardSeat, CloseError, PostRefused};
 use order_model::{Limit, Mask, NoGate, Pairs, Reserve, Workers};
 use order_solve::{LayerContext, Setting, work_layer};

@@ -5,8 +5,8 @@ use Rattle.subset_layers.specs.Layers.{block_masks}
 use Rattle.compaction.specs.Rows.{IsWidthRow}
 use Rattle.layer_core.specs.Settings.{Setting, cell_for}
 use Rattle.layer_core.specs.Pairing.{pair_of}
+use Rattle.solutions.specs.Needs.{needed}
 use Rattle.order_solve.specs.LayerContexts.{ContextOf, context_with, IsContext}
-use Rattle.order_solve.specs.Needs.{needed}
 use Rattle.order_solve.proofs.Blocks.{in_layer, row_there, cell_is}
 use Rattle.order_solve.proofs.cells.cells_by_rows.Goals as goal
 

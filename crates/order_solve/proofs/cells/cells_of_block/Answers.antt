@@ -1,6 +1,6 @@
 use Rattle.std.proofs.Common.{arith}
 use Rattle.layer_core.proofs.Layouts.{length-map_lem}
-use Rattle.order_solve.proofs.Wanted.{needed_sum}
+use Rattle.solutions.proofs.Wanted.{needed_sum}
 use Rattle.order_solve.proofs.Blocks.{are_members}
 use Rattle.order_solve.proofs.cells.cells_of_block.Goals as goal
 

@@ -1,9 +1,8 @@
 use Rattle.std.proofs.Common.{ℕ, List, [], ◌∷◌, length, length-append, slice_get, sym, ap, ◌∙◌, subst, arith}
 use Rattle.subset_layers.specs.Costs.{CostsOf}
 use Rattle.compaction.specs.Ahead.{AheadOf}
-use Rattle.order_solve.specs.LayerContexts.{IsLayerFor}
-use Rattle.order_solve.specs.Bounded.{AreLayersFor}
-use Rattle.order_solve.proofs.Layers.{layers_push}
+use Rattle.solutions.specs.LayerCosts.{IsLayerFor, AreLayersFor}
+use Rattle.solutions.proofs.Layers.{layers_push}
 use Rattle.order_solve.proofs.layering.layers_of.Goals as goal
 
 pub look_ahead-ahead-requires : goal.look_ahead-ahead-requires

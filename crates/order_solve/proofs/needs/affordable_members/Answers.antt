@@ -8,9 +8,9 @@ use Rattle.order_model.proofs.Precedence.MaskLaws.{member_from}
 use Rattle.subset_layers.specs.Layers.{masks_of, layer_with}
 use Rattle.subset_layers.specs.Costs.{cost_at, cost_without}
 use Rattle.subset_layers.proofs.CostLists.{less_one}
-use Rattle.order_solve.proofs.Wanted.{is_affordable, affordable_is, affordable_yes, affordable_dear, affordable_absent}
-use Rattle.order_solve.proofs.needs.affordable_members.Goals as goal
+use Rattle.solutions.proofs.Wanted.{is_affordable, affordable_is, affordable_yes, affordable_dear, affordable_absent}
 use Rattle.order_solve.proofs.needs.affordable_members.Goals.{then-contains+then-cost-bound, then-contains+else-cost-bound, else-contains}
+use Rattle.order_solve.proofs.needs.affordable_members.Goals as goal
 
 pub overflow_sub-mask : goal.overflow_sub-mask
 overflow_sub-mask c = grind (arith, one_shl, pow_le_bit)
@@ -25,12 +25,12 @@ unwrap-cost-requires c =
     ∙ less_one n c.args.costs.now.size c.args.mask c.loop-x.x c.requires member)
 
 pub loop-x-init : goal.loop-x-init
-loop-x-init c = mask_none (is_affordable c.args.costs.now c.args.bound c.args.mask)
+loop-x-init c = mask_none (is_affordable (cost_without c.args.costs.now c.args.mask) c.args.bound c.args.mask)
 
 pub loop-x-preserved : goal.loop-x-preserved
 loop-x-preserved c =
     let costs = c.args.costs.now in
-    let test = is_affordable costs c.args.bound c.args.mask in
+    let test = is_affordable (cost_without costs c.args.mask) c.args.bound c.args.mask in
     let small : c.loop-x.x < 16 = omega arith in
     elim c.if-contains.branch [
       | then-contains+then-cost-bound w ↦
@@ -40,7 +40,7 @@ loop-x-preserved c =
           ∙ ap (λ o. unwrap_or o 0) (sym w.cost_of.ensures.value ∙ w.unwrap-cost.ensures) in
           subst (λ (m : ℕ). MaskOfFirst test (c.loop-x.x + 1) m) (sym w.found-is)
           (mask_with_next test c.loop-x.x c.loop-x.found small c.loop-x.invariant
-          (affordable_yes costs c.args.bound c.args.mask c.loop-x.x w.unwrap-cost.result
+          (affordable_yes (cost_without costs c.args.mask) c.args.bound c.args.mask c.loop-x.x w.unwrap-cost.result
           (c.contains.ensures.0 w.if-contains.true) is (let t = w.if-cost-bound.true in omega arith)))
       | then-contains+else-cost-bound w ↦
           let e = one_shl c.loop-x.x 16 (omega arith) in
@@ -49,16 +49,16 @@ loop-x-preserved c =
           ∙ ap (λ o. unwrap_or o 0) (sym w.cost_of.ensures.value ∙ w.unwrap-cost.ensures) in
           subst (λ (m : ℕ). MaskOfFirst test (c.loop-x.x + 1) m) (sym w.found-is)
           (mask_without_next test c.loop-x.x c.loop-x.found small c.loop-x.invariant
-          (affordable_dear costs c.args.bound c.args.mask c.loop-x.x w.unwrap-cost.result is (let t = w.if-cost-bound.false in omega arith)))
+          (affordable_dear (cost_without costs c.args.mask) c.args.bound c.args.mask c.loop-x.x w.unwrap-cost.result is (let t = w.if-cost-bound.false in omega arith)))
       | else-contains w ↦
           subst (λ (m : ℕ). MaskOfFirst test (c.loop-x.x + 1) m) (sym w.found-is)
           (mask_without_next test c.loop-x.x c.loop-x.found small c.loop-x.invariant
-          (affordable_absent costs c.args.bound c.args.mask c.loop-x.x (iff_false c.contains.ensures w.if-contains.false)))
+          (affordable_absent (cost_without costs c.args.mask) c.args.bound c.args.mask c.loop-x.x (iff_false c.contains.ensures w.if-contains.false)))
     ]
 
 pub returns : goal.returns
 returns c =
     let costs = c.args.costs.now in
     let e : c.loop-x.x ≡ costs.inputs = omega arith in
-    affordable_is costs c.args.bound c.args.mask c.loop-x.found
-    (subst (λ (k : ℕ). MaskOfFirst (is_affordable costs c.args.bound c.args.mask) k c.loop-x.found) e c.loop-x.invariant)
+    affordable_is costs.inputs (cost_without costs c.args.mask) c.args.bound c.args.mask c.loop-x.found
+    (subst (λ (k : ℕ). MaskOfFirst (is_affordable (cost_without costs c.args.mask) c.args.bound c.args.mask) k c.loop-x.found) e c.loop-x.invariant)

@@ -1,11 +1,13 @@
 use Rattle.std.proofs.Common.{◌+◌, sym, ap, ◌∙◌, subst}
 use Rattle.order_model.specs.Orders.{members}
 use Rattle.order_model.specs.Pairs.{is_lawful}
+use Rattle.subset_layers.specs.Costs.{cost_without}
 use Rattle.subset_layers.proofs.BlockLists.{has_masks}
 use Rattle.layer_core.specs.Settings.{Setting}
-use Rattle.order_solve.specs.LayerContexts.{AreCostsFor}
-use Rattle.order_solve.specs.Needs.{needed}
-use Rattle.order_solve.proofs.Wanted.{needed_lawful, needed_unlawful}
+use Rattle.solutions.specs.LayerCosts.{AreCostsFor}
+use Rattle.solutions.specs.Needs.{needed}
+use Rattle.solutions.proofs.Wanted.{needed_unlawful}
+use Rattle.order_solve.proofs.NeedsByCosts.{needed_by_costs}
 use Rattle.order_solve.proofs.needs.needed_members.Goals as goal
 
 pub returns-then-lawful : goal.returns-then-lawful
@@ -13,8 +15,8 @@ returns-then-lawful c =
     let s = c.setting.inside in
     let b = c.args.before.now in
     let low = ap (λ n. is_lawful s.pairs.now.pairs (members n c.args.mask)) (sym c.setting.invariant.pairs) ∙ sym c.lawful.ensures ∙ c.if-lawful.true in
-    c.asked_members.ensures b s.limit.bound c.affordable_members-known.ensures (has_masks b.inputs (b.size + 1) c.args.mask c.requires.next).0
-    ∙ needed_lawful _ b c.args.mask (c.requires.inputs ∙ ap (λ (t : Setting). t.problem.inputs) (sym c.setting.view_is))
+    c.asked_members.ensures b.inputs s.limit.bound (cost_without b c.args.mask) c.affordable_members-known.ensures (has_masks b.inputs (b.size + 1) c.args.mask c.requires.next).0
+    ∙ needed_by_costs _ b c.args.mask (c.requires.inputs ∙ ap (λ (t : Setting). t.problem.inputs) (sym c.setting.view_is))
     (subst (λ (t : Setting). AreCostsFor t b) (sym c.setting.view_is) c.requires.costs) c.requires.next low
     ∙ ap (λ (t : Setting). needed t c.args.mask) c.setting.view_is
 

@@ -1,6 +1,6 @@
 use Rattle.std.proofs.Common.{◌≡◌, map, take}
 use Rattle.subset_layers.specs.Layers.{block_masks}
-use Rattle.order_solve.specs.Needs.{needed}
+use Rattle.solutions.specs.Needs.{needed}
 use Rattle.order_solve.proofs.needs.needs_of_block.Given as goal
 
 abbrev pub invariant-loop-mask : goal.invariant-loop-mask

@@ -2,8 +2,9 @@ use Rattle.std.proofs.Common.{rules, ◌≡◌, ℕ, ◌+◌, ◌≤◌, sym, ap
 use Rattle.subset_layers.specs.Layers.{LayerOf, BlockOf, layer_of, block_masks}
 use Rattle.order_model.specs.Orders.{has}
 use Rattle.layer_board.specs.Views.{BoardId}
+use Rattle.solutions.specs.Needs.{widths_for}
 use Rattle.order_solve.specs.LayerContexts.{ContextOf}
-use Rattle.order_solve.specs.Gains.{widths_for, IsPosted}
+use Rattle.order_solve.specs.Gains.{IsPosted}
 use Rattle.order_solve.proofs.Posts.{no_more_stays}
 use Rattle.order_solve.proofs.Claimed.{block_layer, few_gained}
 use Rattle.order_solve.proofs.Rounds.{Working, working_none, working_stays, working_round, round_gains, claims_at, round_closes, few_room, few_round}
