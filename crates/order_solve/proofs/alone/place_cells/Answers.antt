@@ -5,8 +5,8 @@ use Rattle.subset_layers.specs.Layers.{LayerOf, masks_of, block_masks}
 use Rattle.subset_layers.specs.declared.costs.Cell.{Cell}
 use Rattle.order_solve.specs.LayerContexts.{ContextOf}
 use Rattle.order_solve.proofs.Placing.{PlacesFirst, found_cell, places_more, places_skip, places_all}
-use Rattle.order_solve.proofs.alone.place_cells.Goals as goal
 use Rattle.order_solve.proofs.alone.place_cells.Goals.{in-Some, in_default}
+use Rattle.order_solve.proofs.alone.place_cells.Goals as goal
 
 pub loop-i-preserved : goal.loop-i-preserved
 loop-i-preserved c =
